@@ -1,0 +1,10 @@
+pub mod StepLemmas
+pub mod NameLaws
+pub mod TextLaws
+pub mod SampleLaws
+pub mod TableLaws
+pub mod FileLaws
+pub mod RoundTrip
+pub mod ReadBytes
+pub mod ReadSamples
+pub mod ReadValid

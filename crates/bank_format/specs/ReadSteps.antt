@@ -1,0 +1,160 @@
+-- The steps of reading, in their order. The first that a file breaks gives its fault.
+use Rattle.std.specs.Prelude.{◌≡◌, ◌+◌, ◌-◌, ◌%◌, ◌/◌, ℕ, List, [], ◌∷◌, ◌++◌, length, take, drop, map, flat_map, sum_by, Option, None, is_some, Bool, true, nat_le, ◌==◌, ◌&&◌, bytes_eq}
+use Rattle.std.specs.List.{list_all}
+use Rattle.sf_base.specs.Fields.{field_at}
+use Rattle.riff_chunks.specs.Walk.{Chunk, walk}
+use Rattle.riff_chunks.specs.Finding.{is_whole, chunks_in, first_body, first_list}
+use Rattle.bank_core.specs.declared.parts.Parts.{Parts}
+use Rattle.hydra_records.specs.declared.head.PresetHead.{PresetHead}
+use Rattle.hydra_records.specs.declared.head.InstrumentHead.{InstrumentHead}
+use Rattle.hydra_records.specs.declared.head.SampleHead.{SampleHead}
+use Rattle.hydra_records.specs.declared.zone.Bag.{Bag}
+use Rattle.bank_format.specs.declared.fault.Counts.{Counts}
+use Rattle.bank_format.specs.declared.fault.ReadFault.{ReadFault}
+use Rattle.bank_format.specs.declared.fault.ReadFault.TheVariants as fault
+use Rattle.bank_format.specs.Ids as id
+use Rattle.bank_format.specs.Steps.{Step, step, first_broken}
+use Rattle.bank_format.specs.Tables.{Tables, rows}
+use Rattle.bank_format.specs.Chunks.{riff_size, window, list_window, chunks_of, body_in, tables_in, points_in}
+use Rattle.bank_format.specs.Reading.{content_in}
+
+-- ---- the frame of the file
+
+unfoldable pub frame_steps : List ℕ → List Step
+frame_steps file =
+    step (bytes_eq (take 4 file) id.RIFF) fault.NotRiff
+    ∷ step (nat_le 12 (length file)) fault.Truncated
+    ∷ step (nat_le 4 (riff_size file)) fault.Truncated
+    ∷ step (nat_le (8 + riff_size file) (length file + 1)) fault.Truncated
+    ∷ step (bytes_eq (take 4 (drop 8 file)) id.SFBK) fault.NotSfbk
+    ∷ []
+
+-- ---- the three lists: the window is walked, each list is there, and each is walked
+
+abbrev pub list_step : List ℕ → List ℕ → Step
+list_step form w = step (is_some (first_list form (chunks_in (walk w)))) fault.MissingList
+
+abbrev pub walk_step : List ℕ → Step
+walk_step w = step (is_whole (walk w)) fault.Truncated
+
+unfoldable pub list_steps : List ℕ → List Step
+list_steps w =
+    walk_step w
+    ∷ list_step id.INFO w ∷ list_step id.SDTA w ∷ list_step id.PDTA w
+    ∷ walk_step (list_window id.INFO w) ∷ walk_step (list_window id.SDTA w) ∷ walk_step (list_window id.PDTA w)
+    ∷ []
+
+-- ---- the chunks that have to be there, and the version
+
+abbrev pub chunk_step : List Chunk → List ℕ → Step
+chunk_step chunks name = step (is_some (first_body name chunks)) fault.MissingChunk
+
+abbrev pub nine : List (List ℕ)
+nine = id.PHDR ∷ id.PBAG ∷ id.PMOD ∷ id.PGEN ∷ id.INST ∷ id.IBAG ∷ id.IMOD ∷ id.IGEN ∷ id.SHDR ∷ []
+
+unfoldable pub chunk_steps : List Chunk → List Chunk → List Step
+chunk_steps info pdta =
+    chunk_step info id.IFIL
+    ∷ (map (chunk_step pdta) nine
+    ++ step (length (body_in id.IFIL info) == 4 && field_at 0 2 (body_in id.IFIL info) == 2) fault.Version ∷ [])
+
+-- ---- each of the nine lists is whole records long
+
+abbrev pub size_step : List Chunk → List ℕ → ℕ → Step
+size_step pdta name size = step (length (body_in name pdta) % size == 0) fault.RecordSize
+
+unfoldable pub size_steps : List Chunk → List Step
+size_steps pdta =
+    size_step pdta id.PHDR 38 ∷ size_step pdta id.PBAG 4 ∷ size_step pdta id.PMOD 10 ∷ size_step pdta id.PGEN 4
+    ∷ size_step pdta id.INST 22 ∷ size_step pdta id.IBAG 4 ∷ size_step pdta id.IMOD 10 ∷ size_step pdta id.IGEN 4
+    ∷ size_step pdta id.SHDR 46
+    ∷ []
+
+-- ---- how many records each has
+
+abbrev pub record_counts : Tables → List ℕ
+record_counts t = length t.phdr ∷ length t.pbag ∷ length t.pmod ∷ length t.pgen ∷ length t.inst ∷ length t.ibag ∷ length t.imod ∷ length t.igen ∷ length t.shdr ∷ []
+
+unfoldable pub count_steps : Tables → List Step
+count_steps t =
+    map (λ n. step (nat_le 1 n) fault.NoTerminal) (record_counts t)
+    ++ map (λ n. step (nat_le n 65536) fault.TooMany) (record_counts t)
+
+-- ---- points of whole words
+
+unfoldable pub point_steps : List Chunk → List Step
+point_steps sdta = step (length (body_in id.SMPL sdta) % 2 == 0) fault.OddSamples ∷ []
+
+-- ---- for now: no list but that of the samples has more than its terminal
+
+abbrev pub is_bare : Tables → Bool
+is_bare t =
+    list_all (λ n. nat_le n 1)
+    (length t.phdr ∷ length t.pbag ∷ length t.pmod ∷ length t.pgen ∷ length t.inst ∷ length t.ibag ∷ length t.imod ∷ length t.igen ∷ [])
+
+unfoldable pub later_steps : Tables → List Step
+later_steps t = step (is_bare t) fault.LaterPart ∷ []
+
+-- ---- the indexes of a list that point into one of n records: none falls, none passes the last record
+
+abbrev pub is_rising_from : ℕ → List ℕ → Bool
+is_rising_from at [] = true
+is_rising_from at (i ∷ is) = nat_le at i && is_rising_from i is
+
+abbrev pub is_rising : List ℕ → Bool
+is_rising is = is_rising_from 0 is
+
+unfoldable pub index_steps : List ℕ → ℕ → List Step
+index_steps is n = step (is_rising is) fault.BagOrder ∷ step (list_all (λ i. nat_le i (n - 1)) is) fault.IndexOutside ∷ []
+
+abbrev pub bag_steps : List Bag → ℕ → ℕ → List Step
+bag_steps bags gens mods = index_steps (map (λ (r : Bag). r.gens) bags) gens ++ index_steps (map (λ (r : Bag). r.mods) bags) mods
+
+unfoldable pub all_index_steps : Tables → List Step
+all_index_steps t =
+    index_steps (map (λ (h : PresetHead). h.bag) t.phdr) (length t.pbag)
+    ++ (bag_steps t.pbag (length t.pgen) (length t.pmod)
+    ++ (index_steps (map (λ (h : InstrumentHead). h.bag) t.inst) (length t.ibag)
+    ++ bag_steps t.ibag (length t.igen) (length t.imod)))
+
+-- ---- each sample in order: the bit 0x0010 of its type, the bit 0x8000, and the range of its points
+
+unfoldable pub sample_step : ℕ → SampleHead → List Step
+sample_step points h =
+    step (h.kind / 16 % 2 == 0) fault.SampleType
+    ∷ step (h.kind / 32768 % 2 == 0) fault.RomSample
+    ∷ step (nat_le h.start h.end && nat_le h.end points) fault.SampleRange
+    ∷ []
+
+-- ---- the points of all samples, with 46 each
+
+unfoldable pub total_steps : List SampleHead → List Step
+total_steps heads = step (nat_le (sum_by (λ (h : SampleHead). h.end - h.start + 46) heads) 500000000) fault.TooMany ∷ []
+
+-- ---- together
+
+-- the chunks of the three lists
+unfoldable pub content_steps : List Chunk → List Chunk → List Chunk → Tables → List Step
+content_steps info sdta pdta t =
+    chunk_steps info pdta
+    ++ (size_steps pdta
+    ++ (count_steps t
+    ++ (point_steps sdta
+    ++ (later_steps t
+    ++ (all_index_steps t
+    ++ (flat_map (sample_step (length (points_in sdta))) (rows t.shdr)
+    ++ total_steps (rows t.shdr)))))))
+
+unfoldable pub window_steps : List ℕ → List Step
+window_steps w = list_steps w ++ content_steps (chunks_of id.INFO w) (chunks_of id.SDTA w) (chunks_of id.PDTA w) (tables_in (chunks_of id.PDTA w))
+
+unfoldable pub steps : List ℕ → List Step
+steps file = frame_steps file ++ window_steps (window file)
+
+-- The first broken step of a file gives its fault.
+abbrev pub fault_of : List ℕ → Option ReadFault
+fault_of file = first_broken (steps file)
+
+-- Where no step is broken the file reads as one bank, with one record of counts.
+abbrev pub ReadsAs : List ℕ → Parts → Counts → Type 0
+ReadsAs file b counts = (fault_of file ≡ None) × (content_in (window file) ≡ record { bank = b; counts = counts })

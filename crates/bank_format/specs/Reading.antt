@@ -1,0 +1,58 @@
+-- What a file says: a bank, and the counts of what was dropped or mended.
+use Rattle.std.specs.Prelude.{ℕ, List, length, map, count_by, is_some, if◌then◌else◌}
+use Rattle.sf_base.specs.Fields.{field_at}
+use Rattle.riff_chunks.specs.Walk.{Chunk}
+use Rattle.riff_chunks.specs.Finding.{first_body}
+use Rattle.bank_core.specs.declared.parts.Sample.{Sample}
+use Rattle.bank_core.specs.declared.parts.Parts.{Parts}
+use Rattle.hydra_records.specs.declared.head.SampleHead.{SampleHead}
+use Rattle.bank_format.specs.declared.fault.Counts.{Counts}
+use Rattle.bank_format.specs.Ids as id
+use Rattle.bank_format.specs.Tables.{Tables, rows}
+use Rattle.bank_format.specs.Texts.{texts_read, texts_cut}
+use Rattle.bank_format.specs.Samples.{sample_read, is_loop_lost, is_link_lost}
+use Rattle.bank_format.specs.Chunks.{tables_in, points_in, chunks_of, body_in}
+
+-- the samples of these heads, whose points are among these
+abbrev pub samples_read : List ℕ → List SampleHead → List Sample
+samples_read points heads = map (sample_read (length heads) points) heads
+
+-- ---- of the chunks of the lists INFO and sdta, and the tables of pdta
+
+unfoldable pub bank_of : List Chunk → List Chunk → Tables → Parts
+bank_of info sdta t = record {
+  minor = field_at 2 2 (body_in id.IFIL info);
+  texts = texts_read info;
+  samples = samples_read (points_in sdta) (rows t.shdr);
+}
+
+-- one where there is a chunk of the eight further bits of each point
+abbrev pub sm24_dropped : List Chunk → ℕ
+sm24_dropped sdta = if is_some (first_body id.SM24 sdta) then 1 else 0
+
+-- Zones, generators and ranges are counted with the presets and instruments, which come later.
+unfoldable pub counts_of : List Chunk → List Chunk → Tables → Counts
+counts_of info sdta t = record {
+  texts = texts_cut info;
+  sm24 = sm24_dropped sdta;
+  zones = 0;
+  gens = 0;
+  ranges = 0;
+  loops = count_by is_loop_lost (rows t.shdr);
+  links = count_by (is_link_lost (length (rows t.shdr))) (rows t.shdr);
+}
+
+abbrev pub no_counts : Counts
+no_counts = record { texts = 0; sm24 = 0; zones = 0; gens = 0; ranges = 0; loops = 0; links = 0 }
+
+-- all that a file says
+pub record Content : Type 0 where
+  pub bank : Parts
+  pub counts : Counts
+
+abbrev pub content_of : List Chunk → List Chunk → Tables → Content
+content_of info sdta t = record { bank = bank_of info sdta t; counts = counts_of info sdta t }
+
+-- what a window says: the body of the file's RIFF chunk after its form
+unfoldable pub content_in : List ℕ → Content
+content_in w = content_of (chunks_of id.INFO w) (chunks_of id.SDTA w) (tables_in (chunks_of id.PDTA w))

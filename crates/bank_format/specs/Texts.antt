@@ -1,0 +1,49 @@
+-- How texts are written, and what is read of them.
+use Rattle.std.specs.Prelude.{◌+◌, ◌%◌, ◌==◌, ℕ, List, [], ◌∷◌, ◌++◌, length, take, replicate, unwrap_or, nat_lt, if◌then◌else◌}
+use Rattle.sf_base.specs.Names.{before_zero}
+use Rattle.riff_chunks.specs.Walk.{Chunk}
+use Rattle.riff_chunks.specs.Finding.{first_body}
+use Rattle.bank_core.specs.declared.texts.Texts.{Texts}
+use Rattle.bank_format.specs.Ids as id
+
+-- a text is followed by one zero byte if its length is odd, else by two
+abbrev pub text_body : List ℕ → List ℕ
+text_body text = text ++ replicate (if length text % 2 == 1 then 1 else 2) 0
+
+-- the first text of an id, before it is cut; a missing one is empty
+abbrev pub text_in : List ℕ → List Chunk → List ℕ
+text_in name info = before_zero (unwrap_or (first_body name info) [])
+
+-- an empty engine reads as EMU8000
+abbrev pub engine_read : List ℕ → List ℕ
+engine_read [] = id.EMU8000
+engine_read (c ∷ text) = c ∷ text
+
+-- the eight texts, each cut to 255 bytes, the comment to 65,535
+unfoldable pub texts_read : List Chunk → Texts
+texts_read info = record {
+  engine = engine_read (take 255 (text_in id.ISNG info));
+  name = take 255 (text_in id.INAM info);
+  date = take 255 (text_in id.ICRD info);
+  engineers = take 255 (text_in id.IENG info);
+  product = take 255 (text_in id.IPRD info);
+  copyright = take 255 (text_in id.ICOP info);
+  comment = take 65535 (text_in id.ICMT info);
+  software = take 255 (text_in id.ISFT info);
+}
+
+-- one where the text is longer
+abbrev pub over : ℕ → List ℕ → ℕ
+over most text = if nat_lt most (length text) then 1 else 0
+
+-- how many are cut
+unfoldable pub texts_cut : List Chunk → ℕ
+texts_cut info =
+    over 255 (text_in id.ISNG info)
+    + over 255 (text_in id.INAM info)
+    + over 255 (text_in id.ICRD info)
+    + over 255 (text_in id.IENG info)
+    + over 255 (text_in id.IPRD info)
+    + over 255 (text_in id.ICOP info)
+    + over 65535 (text_in id.ICMT info)
+    + over 255 (text_in id.ISFT info)

@@ -1,0 +1,123 @@
+//! The answers of a reader.
+ghost use Rattle.std.specs.Prelude.{◌≡◌};
+ghost use Rattle.bank_format.specs.FaultNames.{number_of, name_of};
+
+use thiserror::Error;
+
+/// The first step of reading that a file breaks.
+#[derive(Clone, Copy, Debug, PartialEq, Eq, Error)]
+pub enum ReadFault {
+    #[error("the file does not begin with RIFF")]
+    NotRiff,
+    #[error("the RIFF form is not sfbk")]
+    NotSfbk,
+    #[error("a chunk passes the end of what holds it")]
+    Truncated,
+    #[error("a list of INFO, sdta and pdta is missing")]
+    MissingList,
+    #[error("ifil or a list of pdta is missing")]
+    MissingChunk,
+    #[error("the version is not 2")]
+    Version,
+    #[error("a list of pdta is not whole records long")]
+    RecordSize,
+    #[error("a list of pdta has no terminal record")]
+    NoTerminal,
+    #[error("an index falls below the one before it")]
+    BagOrder,
+    #[error("an index passes the list that it points into")]
+    IndexOutside,
+    #[error("a zone of a preset names no instrument")]
+    BadInstrument,
+    #[error("a zone of an instrument names no sample")]
+    BadSample,
+    #[error("a sample's range is not in the points")]
+    SampleRange,
+    #[error("a sample is packed")]
+    SampleType,
+    #[error("a sample is in ROM")]
+    RomSample,
+    #[error("the points are an odd number of bytes")]
+    OddSamples,
+    #[error("there are more records or points than a bank can have")]
+    TooMany,
+    #[error("out of memory")]
+    OutOfMemory,
+    #[error("presets and instruments are not read yet")]
+    LaterPart,
+}
+
+impl ReadFault {
+    /// The number by which a fault line tells it.
+    pub fn number(self) -> u8
+        ensures { result ≡ number_of self }
+    {
+        match self {
+            ReadFault::NotRiff => 1,
+            ReadFault::NotSfbk => 2,
+            ReadFault::Truncated => 3,
+            ReadFault::MissingList => 4,
+            ReadFault::MissingChunk => 5,
+            ReadFault::Version => 6,
+            ReadFault::RecordSize => 7,
+            ReadFault::NoTerminal => 8,
+            ReadFault::BagOrder => 9,
+            ReadFault::IndexOutside => 10,
+            ReadFault::BadInstrument => 11,
+            ReadFault::BadSample => 12,
+            ReadFault::SampleRange => 14,
+            ReadFault::SampleType => 15,
+            ReadFault::RomSample => 16,
+            ReadFault::OddSamples => 17,
+            ReadFault::TooMany => 18,
+            ReadFault::OutOfMemory => 19,
+            ReadFault::LaterPart => 49,
+        }
+    }
+
+    /// The name by which a fault line tells it.
+    pub fn name(self) -> &'static [u8]
+        ensures { result.now ≡ name_of self }
+    {
+        match self {
+            ReadFault::NotRiff => b"NotRiff",
+            ReadFault::NotSfbk => b"NotSfbk",
+            ReadFault::Truncated => b"Truncated",
+            ReadFault::MissingList => b"MissingList",
+            ReadFault::MissingChunk => b"MissingChunk",
+            ReadFault::Version => b"Version",
+            ReadFault::RecordSize => b"RecordSize",
+            ReadFault::NoTerminal => b"NoTerminal",
+            ReadFault::BagOrder => b"BagOrder",
+            ReadFault::IndexOutside => b"IndexOutside",
+            ReadFault::BadInstrument => b"BadInstrument",
+            ReadFault::BadSample => b"BadSample",
+            ReadFault::SampleRange => b"SampleRange",
+            ReadFault::SampleType => b"SampleType",
+            ReadFault::RomSample => b"RomSample",
+            ReadFault::OddSamples => b"OddSamples",
+            ReadFault::TooMany => b"TooMany",
+            ReadFault::OutOfMemory => b"OutOfMemory",
+            ReadFault::LaterPart => b"LaterPart",
+        }
+    }
+}
+
+/// What a reader dropped or mended, each counted.
+#[derive(Clone, Copy, Debug, PartialEq, Eq)]
+pub struct Counts {
+    /// Texts that were cut.
+    pub texts: u64,
+    /// 1 where the eight further bits of 24-bit points were dropped.
+    pub sm24: u64,
+    /// Zones without a target that were ignored.
+    pub zones: u64,
+    /// Generator records that were dropped.
+    pub gens: u64,
+    /// Ranges that were cut or turned.
+    pub ranges: u64,
+    /// Loops that do not lie in their sample.
+    pub loops: u64,
+    /// Samples whose type or link says nothing.
+    pub links: u64,
+}

@@ -1,0 +1,29 @@
+-- The two levels, and which operators each allows.
+use Rattle.std.specs.Prelude.{ℕ, Bool, ◌==◌, ◌||◌, ◌&&◌, nat_le, List, [], ◌∷◌}
+use Rattle.std.specs.List.{list_any}
+use Rattle.generators.specs.declared.level.Level.{Level}
+use Rattle.generators.specs.declared.level.Level.TheVariants.{Preset, Instrument}
+
+-- the operator whose word is a zone's target
+abbrev pub target_operator : Level → ℕ
+target_operator Preset = 41
+target_operator Instrument = 53
+
+abbrev pub is_one_of : List ℕ → ℕ → Bool
+is_one_of ops op = list_any (λ o. op == o) ops
+
+abbrev pub is_within : ℕ → ℕ → ℕ → Bool
+is_within low high op = nat_le low op && nat_le op high
+
+-- allowed in presets and in instruments
+abbrev pub is_common : ℕ → Bool
+is_common op = is_within 5 11 op || op == 13 || is_within 15 17 op || is_within 21 40 op || is_one_of (43 ∷ 44 ∷ 48 ∷ 51 ∷ 52 ∷ 56 ∷ []) op
+
+-- allowed in instruments alone
+abbrev pub is_special : ℕ → Bool
+is_special op = is_within 0 4 op || is_one_of (12 ∷ 45 ∷ 46 ∷ 47 ∷ 50 ∷ 54 ∷ 57 ∷ 58 ∷ []) op
+
+-- the operators that a level's maps may hold
+unfoldable pub is_allowed : Level → ℕ → Bool
+is_allowed Preset op = is_common op
+is_allowed Instrument op = is_common op || is_special op

@@ -1,0 +1,48 @@
+//! Ranges of keys and of velocities.
+ghost use Rattle.std.specs.Prelude.{◌≡◌, ◌+◌, ◌*◌, ◌/◌, ◌%◌, ◌≤◌, ◌↔◌, IsTrue};
+ghost use Rattle.generators.specs.Ranges.{AreEnds};
+
+/// A range of keys or of velocities, both ends in it (SoundFont 2.04, section 8.1.2, `keyRange` and
+/// `velRange`). The ends may be in the wrong order or over 127, as any word of a file has ends:
+/// `is_valid` tells.
+#[derive(Debug, Clone, Copy, PartialEq, Eq)]
+pub struct Range {
+    pub low: u8,
+    pub high: u8,
+}
+
+impl Range {
+    /// The ends that a word holds: the low one in its low byte.
+    pub fn of_word(word: u16) -> Range
+        ensures low { result.low ≡ word % 256 }
+        ensures high { result.high ≡ word / 256 }
+    {
+        Range {
+            low: (word % 256) as u8,
+            high: (word / 256) as u8,
+        }
+    }
+
+    /// The word that holds these ends.
+    pub fn to_word(self) -> u16
+        ensures word { result ≡ self.low + 256 * self.high }
+        ensures low { result % 256 ≡ self.low }
+        ensures high { result / 256 ≡ self.high }
+    {
+        self.low as u16 + 256 * self.high as u16
+    }
+
+    /// Whether the ends are in order, and none is over 127.
+    pub fn is_valid(self) -> bool
+        ensures { IsTrue result ↔ AreEnds self.low self.high }
+    {
+        self.low <= self.high && self.high <= 127
+    }
+
+    /// Whether a key or a velocity lies in it.
+    pub fn contains(self, value: u8) -> bool
+        ensures { IsTrue result ↔ ((self.low ≤ value) × (value ≤ self.high)) }
+    {
+        self.low <= value && value <= self.high
+    }
+}

@@ -1,0 +1,225 @@
+//! The heads of presets, instruments and samples.
+ghost use Rattle.std.specs.Prelude.{◌≡◌, ◌+◌, ◌≤◌, length, take};
+ghost use Rattle.sf_base.specs.Fields.{field_at};
+
+use crate::spelling::Spelling;
+use crate::table::{Record, Spelled};
+use sf_base::{u16_at, u32_at};
+
+/// A preset: a record of `phdr` (SoundFont 2.04, section 7.2, `sfPresetHeader`).
+#[derive(Clone, Copy, Debug, PartialEq, Eq)]
+pub struct PresetHead {
+    /// Its name and then zeros, `achPresetName`.
+    pub name: [u8; 20],
+
+    /// Its MIDI program number, `wPreset`.
+    pub number: u16,
+
+    /// Its MIDI bank number, `wBank`.
+    pub bank: u16,
+
+    /// Its first bag in `pbag`, `wPresetBagNdx`.
+    pub bag: u16,
+
+    /// `dwLibrary`.
+    pub library: u32,
+
+    /// `dwGenre`.
+    pub genre: u32,
+
+    /// `dwMorphology`.
+    pub morphology: u32,
+}
+
+/// An instrument: a record of `inst` (SoundFont 2.04, section 7.6, `sfInst`).
+#[derive(Clone, Copy, Debug, PartialEq, Eq)]
+pub struct InstrumentHead {
+    /// Its name and then zeros, `achInstName`.
+    pub name: [u8; 20],
+
+    /// Its first bag in `ibag`, `wInstBagNdx`.
+    pub bag: u16,
+}
+
+/// A sample: a record of `shdr` (SoundFont 2.04, section 7.10, `sfSample`).
+#[derive(Clone, Copy, Debug, PartialEq, Eq)]
+pub struct SampleHead {
+    /// Its name and then zeros, `achSampleName`.
+    pub name: [u8; 20],
+
+    /// Its first point in `smpl`, `dwStart`.
+    pub start: u32,
+
+    /// The first point after it, `dwEnd`.
+    pub end: u32,
+
+    /// The first point of its loop, `dwStartloop`.
+    pub loop_start: u32,
+
+    /// The first point after its loop, `dwEndloop`.
+    pub loop_end: u32,
+
+    /// Points a second, `dwSampleRate`.
+    pub rate: u32,
+
+    /// The MIDI key that it was recorded at, `byOriginalPitch`.
+    pub key: u8,
+
+    /// Cents to be added to its pitch, `chPitchCorrection`.
+    pub correction: i8,
+
+    /// The sample that it goes with, `wSampleLink`.
+    pub link: u16,
+
+    /// `sfSampleType`: 1 for mono, 2 for right, 4 for left and 8 for linked.
+    pub kind: u16,
+}
+
+impl Record for PresetHead {
+    ghost use Rattle.hydra_records.specs.Spelling.{preset_head_of};
+    ghost use Rattle.std.proofs.Common.{lit<};
+
+    ghost SIZE = { 38 };
+
+    ghost of_bytes = { preset_head_of };
+
+    ghost some_bytes = { lit< tt };
+
+    const SIZE: usize = 38;
+
+    #[tactic(auto, unfolding(crate::specs::Spelling::preset_head_of))]
+    fn read(bytes: &[u8]) -> PresetHead {
+        PresetHead {
+            name: name_of(bytes),
+            number: u16_at(bytes, 20),
+            bank: u16_at(bytes, 22),
+            bag: u16_at(bytes, 24),
+            library: u32_at(bytes, 26),
+            genre: u32_at(bytes, 30),
+            morphology: u32_at(bytes, 34),
+        }
+    }
+}
+
+impl Spelled<38> for PresetHead {
+    ghost use Rattle.hydra_records.specs.Spelling.{preset_head_bytes};
+
+    ghost bytes_of = { preset_head_bytes };
+
+    #[tactic(auto, unfolding(crate::specs::Spelling::preset_head_bytes))]
+    fn put(&self) -> [u8; 38] {
+        Spelling::new()
+            .with_bytes(&self.name)
+            .with_u16(self.number)
+            .with_u16(self.bank)
+            .with_u16(self.bag)
+            .with_u32(self.library)
+            .with_u32(self.genre)
+            .with_u32(self.morphology)
+            .whole()
+    }
+}
+
+impl Record for InstrumentHead {
+    ghost use Rattle.hydra_records.specs.Spelling.{instrument_head_of};
+    ghost use Rattle.std.proofs.Common.{lit<};
+
+    ghost SIZE = { 22 };
+
+    ghost of_bytes = { instrument_head_of };
+
+    ghost some_bytes = { lit< tt };
+
+    const SIZE: usize = 22;
+
+    #[tactic(auto, unfolding(crate::specs::Spelling::instrument_head_of))]
+    fn read(bytes: &[u8]) -> InstrumentHead {
+        InstrumentHead {
+            name: name_of(bytes),
+            bag: u16_at(bytes, 20),
+        }
+    }
+}
+
+impl Spelled<22> for InstrumentHead {
+    ghost use Rattle.hydra_records.specs.Spelling.{instrument_head_bytes};
+
+    ghost bytes_of = { instrument_head_bytes };
+
+    #[tactic(auto, unfolding(crate::specs::Spelling::instrument_head_bytes))]
+    fn put(&self) -> [u8; 22] {
+        Spelling::new()
+            .with_bytes(&self.name)
+            .with_u16(self.bag)
+            .whole()
+    }
+}
+
+impl Record for SampleHead {
+    ghost use Rattle.hydra_records.specs.Spelling.{sample_head_of};
+    ghost use Rattle.std.proofs.Common.{lit<};
+
+    ghost SIZE = { 46 };
+
+    ghost of_bytes = { sample_head_of };
+
+    ghost some_bytes = { lit< tt };
+
+    const SIZE: usize = 46;
+
+    #[tactic(auto, unfolding(crate::specs::Spelling::sample_head_of))]
+    fn read(bytes: &[u8]) -> SampleHead {
+        SampleHead {
+            name: name_of(bytes),
+            start: u32_at(bytes, 20),
+            end: u32_at(bytes, 24),
+            loop_start: u32_at(bytes, 28),
+            loop_end: u32_at(bytes, 32),
+            rate: u32_at(bytes, 36),
+            key: u8_at(bytes, 40),
+            correction: u8_at(bytes, 41).cast_signed(),
+            link: u16_at(bytes, 42),
+            kind: u16_at(bytes, 44),
+        }
+    }
+}
+
+impl Spelled<46> for SampleHead {
+    ghost use Rattle.hydra_records.specs.Spelling.{sample_head_bytes};
+
+    ghost bytes_of = { sample_head_bytes };
+
+    #[tactic(auto, unfolding(crate::specs::Spelling::sample_head_bytes))]
+    fn put(&self) -> [u8; 46] {
+        Spelling::new()
+            .with_bytes(&self.name)
+            .with_u32(self.start)
+            .with_u32(self.end)
+            .with_u32(self.loop_start)
+            .with_u32(self.loop_end)
+            .with_u32(self.rate)
+            .with_u8(self.key)
+            .with_i8(self.correction)
+            .with_u16(self.link)
+            .with_u16(self.kind)
+            .whole()
+    }
+}
+
+// The name field that each head begins with.
+fn name_of(bytes: &[u8]) -> [u8; 20]
+    requires { 20 ≤ length bytes.now }
+    ensures { result ≡ take 20 bytes.now }
+{
+    let mut name = [0; 20];
+    name.copy_from_slice(&bytes[..20]);
+    name
+}
+
+// The number of 8 bits at place `at`.
+fn u8_at(bytes: &[u8], at: usize) -> u8
+    requires { at + 1 ≤ length bytes.now }
+    ensures { result ≡ field_at at 1 bytes.now }
+{
+    bytes[at]
+}

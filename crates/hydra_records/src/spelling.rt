@@ -1,0 +1,96 @@
+//! The bytes of a record, field by field.
+ghost use Rattle.std.specs.Prelude.{◌≡◌, ◌+◌, ◌≤◌, ◌++◌, ℕ, List, [], length};
+ghost use Rattle.std.specs.Int.{w8, w16, cast_unsigned};
+ghost use Rattle.byteorder.specs.Endian.{little_bytes};
+
+use std::marker::Model;
+
+// The fields of a record that are spelled so far, seen as their bytes.
+#[derive(Drop)]
+pub(crate) struct Spelling<const N: usize> {
+    bytes: [u8; N],
+    len: usize,
+}
+
+impl<const N: usize> Model for Spelling<N> {
+    ghost use Rattle.std.specs.Prelude.{◌≡◌, ◌≤◌, ℕ, List, length, take};
+
+    ghost Value = { List ℕ };
+
+    ghost view = { λ s. take s.len s.bytes };
+
+    ghost invariant = { λ s. (s.len ≤ N) × (length s.bytes ≡ N) };
+}
+
+impl<const N: usize> Spelling<N> {
+    // No field.
+    pub fn new() -> Spelling<N>
+        ensures { result ≡ [] }
+    {
+        Spelling {
+            bytes: [0; N],
+            len: 0,
+        }
+    }
+
+    // The fields, and then these bytes.
+    pub fn with_bytes(mut self, bytes: &[u8]) -> Spelling<N>
+        requires { length self + length bytes.now ≤ N }
+        ensures value { result ≡ self.entry ++ bytes.now }
+        ensures len { length result ≡ length self.entry + length bytes.now }
+    {
+        let end = self.len + bytes.len();
+        self.bytes[self.len..end].copy_from_slice(bytes);
+        self.len = end;
+        self
+    }
+
+    // The fields, and then a number, its low byte first.
+    pub fn with_u8(self, byte: u8) -> Spelling<N>
+        requires { length self + 1 ≤ N }
+        ensures value { result ≡ self.entry ++ little_bytes 1 byte }
+        ensures len { length result ≡ length self.entry + 1 }
+    {
+        self.with_bytes(&[byte])
+    }
+
+    pub fn with_i8(self, number: i8) -> Spelling<N>
+        requires { length self + 1 ≤ N }
+        ensures value { result ≡ self.entry ++ little_bytes 1 (cast_unsigned w8 number) }
+        ensures len { length result ≡ length self.entry + 1 }
+    {
+        self.with_u8(number.cast_unsigned())
+    }
+
+    pub fn with_u16(self, word: u16) -> Spelling<N>
+        requires { length self + 2 ≤ N }
+        ensures value { result ≡ self.entry ++ little_bytes 2 word }
+        ensures len { length result ≡ length self.entry + 2 }
+    {
+        self.with_bytes(&word.to_le_bytes())
+    }
+
+    pub fn with_i16(self, number: i16) -> Spelling<N>
+        requires { length self + 2 ≤ N }
+        ensures value { result ≡ self.entry ++ little_bytes 2 (cast_unsigned w16 number) }
+        ensures len { length result ≡ length self.entry + 2 }
+    {
+        self.with_u16(number.cast_unsigned())
+    }
+
+    pub fn with_u32(self, dword: u32) -> Spelling<N>
+        requires { length self + 4 ≤ N }
+        ensures value { result ≡ self.entry ++ little_bytes 4 dword }
+        ensures len { length result ≡ length self.entry + 4 }
+    {
+        self.with_bytes(&dword.to_le_bytes())
+    }
+
+    // All bytes of the record.
+    pub fn whole(self) -> [u8; N]
+        requires { length self ≡ N }
+        ensures { result ≡ self.entry }
+    {
+        self.bytes
+    }
+}

@@ -1,0 +1,4 @@
+pub mod UndoneBy
+pub mod SampleLaws
+pub mod Law
+pub mod RunLaw

@@ -1,0 +1,4 @@
+pub mod Lists
+pub mod Numbers
+mod Rotated
+pub mod Following

@@ -1,0 +1,11 @@
+-- Lists that differ in one member, or in its place.
+use Rattle.std.specs.Prelude.{ℕ, List, insert, remove, slice_get, slice_set}
+use Rattle.std.specs.Option.{option_map_or}
+
+-- the member at i stands at j, and the others keep their order
+abbrev pub moved : {X : Type 0} → List X → ℕ → ℕ → List X
+moved xs i j = option_map_or (λ x. insert (remove xs i) j x) (slice_get xs i) xs
+
+-- the member at i is sent through f, and the others stay
+abbrev pub changed : {X : Type 0} → List X → ℕ → (X → X) → List X
+changed xs i f = option_map_or (λ x. slice_set xs i (f x)) (slice_get xs i) xs

@@ -1,0 +1,19 @@
+//! Lists of numbered members, what becomes of numbers when a list changes, and the laws by which a
+//! change is taken back.
+#![tactic(auto)]
+
+mod laws;
+mod list;
+mod renumbering;
+mod room;
+
+pub use laws::{
+    exchange_undone, insertion_undone, lengths_follow, move_undone, numbers_follow, numbers_return,
+    numbers_stay_below, removal_undone, renumbering_undone,
+};
+pub use list::NumberedList;
+pub use renumbering::{Renumber, Renumbering};
+pub use room::WithRoom;
+
+#[cfg(test)]
+mod tests;

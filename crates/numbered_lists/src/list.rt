@@ -1,0 +1,197 @@
+//! A list of numbered members.
+ghost use Rattle.std.specs.Prelude.{◌≡◌, ◌<◌, ◌≤◌, ◌↔◌, ◌++◌, ◌∷◌, [], IsTrue, length, map, All, insert, remove, slice_get, slice_set, IfErr, OnOk, OnErr};
+ghost use Rattle.std.specs.Option.{option_copied};
+ghost use Rattle.std.specs.Borrow.{Lends, sem};
+ghost use Rattle.numbered_lists.specs.contracts.list.NumberedList.{the_row};
+ghost use Rattle.numbered_lists.specs.Moved.{moved};
+
+use crate::renumbering::{Renumber, Renumbering, renumber_all};
+use crate::room::insert_within;
+use std::alloc::{AllocFailed, Global};
+use std::marker::Model;
+
+/// A list whose members go by their numbers, the first by 0.
+#[derive(Debug, Drop)]
+pub struct NumberedList<T> {
+    vec: Vec<T>,
+}
+
+impl<T> Model for NumberedList<T> {
+    ghost use Rattle.std.specs.Prelude.{List};
+
+    ghost Value = { List T };
+
+    ghost view = { λ list. list.vec.items };
+}
+
+impl<T> NumberedList<T> {
+    /// The empty list. Takes no memory.
+    pub fn new(alloc: Global) -> NumberedList<T>
+        ensures { result ≡ [] }
+    {
+        NumberedList {
+            vec: Vec::new(alloc),
+        }
+    }
+
+    /// The elements of a `Vec` as members. Takes no memory.
+    pub fn from_vec(vec: Vec<T>) -> NumberedList<T>
+        ensures { result ≡ vec.items }
+    {
+        NumberedList { vec }
+    }
+
+    /// The members as elements of a `Vec`. Takes no memory.
+    pub fn into_vec(self) -> Vec<T>
+        ensures { result.items ≡ self }
+    {
+        let NumberedList { vec } = self;
+        vec
+    }
+
+    /// The whole list, in whose place an empty one is left. Takes no memory.
+    pub fn take(&mut self) -> NumberedList<T>
+        ensures value { result ≡ self.old }
+        ensures left { self.new ≡ [] }
+    {
+        let alloc = *self.vec.allocator();
+        std::mem::replace(self, NumberedList::new(alloc))
+    }
+
+    /// How many members there are.
+    pub fn len(&self) -> usize
+        ensures { result ≡ length self.now }
+    {
+        self.vec.len()
+    }
+
+    /// Whether there is no member.
+    pub fn is_empty(&self) -> bool
+        ensures { IsTrue result ↔ (self.now ≡ []) }
+    {
+        self.vec.is_empty()
+    }
+
+    /// The members in their order.
+    pub fn as_slice(&self) -> &[T]
+        ensures { result.now ≡ self.now }
+    {
+        self.vec.as_slice()
+    }
+
+    /// Member `i`, which is there.
+    pub fn member(&self, i: usize) -> &T
+        requires { i < length self.now }
+        ensures { slice_get self.now i ≡ Some result.now }
+    {
+        &self.vec[i]
+    }
+
+    /// Member `i`, or `None` where none has that number.
+    pub fn get(&self, i: usize) -> Option<&T>
+        ensures { option_copied result ≡ slice_get self.now i }
+    {
+        self.vec.get(i)
+    }
+
+    /// Member `i`, which is there, to be changed in its place.
+    pub fn member_mut(&mut self, i: usize) -> &mut T
+        requires { i < length self.old }
+        ensures* writes_back { sem 𝓛 (Lends (the_row T.row) T.row self.entry result (λ w. slice_set self.old i w)) }
+        ensures value { slice_get self.old i ≡ Some result.now }
+    {
+        &mut self.vec[i]
+    }
+
+    /// Puts `x` behind the last member. For want of memory the list stays as it is, and `x` comes
+    /// back.
+    pub fn push(&mut self, x: T) -> Result<(), T>
+        ensures ok { OnOk result (self.new ≡ self.old ++ x ∷ []) }
+        ensures err { OnErr result (self.new ≡ self.old) }
+        ensures value_returned { IfErr result (λ y. y ≡ x) }
+    {
+        self.vec.push(x).map_err(|AllocFailed { value }| value)
+    }
+
+    /// Makes `x` member `i`; the members from there on get the next number each. For want of memory
+    /// the list stays as it is, and `x` comes back.
+    pub fn insert(&mut self, i: usize, x: T) -> Result<(), T>
+        requires { i ≤ length self.old }
+        ensures ok { OnOk result (self.new ≡ insert self.old i x) }
+        ensures err { OnErr result (self.new ≡ self.old) }
+        ensures value_returned { IfErr result (λ y. y ≡ x) }
+    {
+        self.vec.insert(i, x).map_err(|AllocFailed { value }| value)
+    }
+
+    /// Takes member `i` out; the members behind it get the number before each. Takes no memory.
+    pub fn remove(&mut self, i: usize) -> T
+        requires { i < length self.old }
+        ensures value { slice_get self.old i ≡ Some result }
+        ensures list { self.new ≡ remove self.old i }
+    {
+        self.vec.remove(i)
+    }
+
+    /// Makes `x` member `i`, and gives back the member that it replaces. Takes no memory.
+    pub fn replace(&mut self, i: usize, x: T) -> T
+        requires { i < length self.old }
+        ensures value { slice_get self.old i ≡ Some result }
+        ensures list { self.new ≡ slice_set self.old i x }
+    {
+        std::mem::replace(self.member_mut(i), x)
+    }
+
+    /// Makes member `from` member `to`; the others keep their order. Takes no memory.
+    pub fn move_member(&mut self, from: usize, to: usize)
+        requires from { from < length self.old }
+        requires to { to < length self.old }
+        ensures { self.new ≡ moved self.old from to }
+    {
+        move_within(self.vec.as_mut_slice(), from, to);
+    }
+}
+
+impl<T: Renumber> NumberedList<T> {
+    /// Renumbers the members that are there, and makes `x`, which has its new numbers already, member
+    /// `i`. For want of memory neither is done, and `x` comes back.
+    pub fn insert_renumbered(&mut self, by: Renumbering, i: usize, x: T) -> Result<(), T>
+        requires place { i ≤ length self.old }
+        requires numbers { All (T.can_renumber by) self.old }
+        ensures ok { OnOk result (self.new ≡ insert (map (T.with_new_numbers by) self.old) i x) }
+        ensures err { OnErr result (self.new ≡ self.old) }
+        ensures value_returned { IfErr result (λ y. y ≡ x) }
+    {
+        if self.vec.try_reserve(1).is_err() {
+            return Err(x);
+        }
+        renumber_all(self.vec.as_mut_slice(), by);
+        insert_within(&mut self.vec, i, x);
+        Ok(())
+    }
+}
+
+/// A list holds the numbers that its members hold.
+impl<T: Renumber> Renumber for NumberedList<T> {
+    ghost can_renumber = { λ by list. All (T.can_renumber by) list };
+
+    ghost with_new_numbers = { λ by list. map (T.with_new_numbers by) list };
+
+    fn renumber(&mut self, by: Renumbering) {
+        let members = self.vec.as_mut_slice();
+        renumber_all(members, by);
+    }
+}
+
+// Only what lies between the two places moves.
+fn move_within<T>(members: &mut [T], from: usize, to: usize)
+    requires from { from < length members.old }
+    requires to { to < length members.old }
+    ensures { members.new ≡ moved members.old from to }
+{
+    if from <= to {
+        members[from..=to].rotate_left(1);
+    } else {
+        members[to..=from].rotate_right(1);
+    }
+}

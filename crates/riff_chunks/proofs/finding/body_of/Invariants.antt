@@ -1,0 +1,11 @@
+use Rattle.std.proofs.Common.{◌≡◌}
+use Rattle.riff_chunks.specs.Walk.{walk}
+use Rattle.riff_chunks.specs.Finding.{chunks_in, first_body}
+use Rattle.riff_chunks.proofs.finding.body_of.Given as goal
+
+-- the first chunk is among those that are left
+abbrev pub invariant-loop-item : goal.invariant-loop-item
+invariant-loop-item l =
+    (goal.iterator-loop-item).can_next l.item-iterator ×
+    (goal.iterator-loop-item).is_finite l.item-iterator ×
+    (first_body l.id (chunks_in l.item-iterator) ≡ first_body l.id (chunks_in (walk l.window)))

@@ -1,0 +1,5 @@
+use Rattle.riff_chunks.proofs.SpellingLemmas.{unpadded}
+use Rattle.riff_chunks.proofs.laws.unpadded_chunks_are_found.Goals as goal
+
+pub returns : goal.returns
+returns c = unpadded

@@ -1,0 +1,4 @@
+pub mod Walk
+pub mod Finding
+pub mod Spelling
+pub mod Laws

@@ -1,0 +1,97 @@
+//! The walk of a window.
+ghost use Rattle.std.specs.Prelude.{◌≡◌, ◌≤◌, length, take};
+ghost use Rattle.std.specs.Iterator.{YieldsFirstBy, item_count};
+ghost use Rattle.riff_chunks.specs.Walk.{Walks, walk, lent, body_fits};
+
+use sf_base::{part_of, rest_from, u32_at};
+use std::iter::FusedIterator;
+use std::marker::Model;
+use thiserror::Error;
+
+/// The id of a list: a chunk whose body begins with a form of four bytes, and then holds chunks.
+pub const LIST_ID: [u8; 4] = *b"LIST";
+
+/// The bytes of an id and a size.
+const HEAD_LENGTH: usize = 8;
+
+/// A body passes the end of its window.
+#[derive(Debug, Drop, Clone, Copy, PartialEq, Eq, Error)]
+#[error("a chunk passes the end of its window")]
+pub struct Truncated;
+
+/// The chunks of a window of a file, each lent as its id and its body.
+///
+/// A pad byte follows a body of odd size, unless the window ends there. A rest of 1 to 7 bytes is
+/// ignored. A body that passes the window's end is `Truncated`, and the walk ends with it; but that
+/// of a chunk `LIST` may end one byte past it, and is then cut by that byte.
+#[derive(Debug, Drop)]
+pub struct Chunks<'a> {
+    left: &'a [u8],
+}
+
+impl<'a> Model for Chunks<'a> {
+    ghost use Rattle.std.specs.Prelude.{List};
+    ghost use Rattle.riff_chunks.specs.Walk.{Item, walk};
+
+    ghost Value = { List Item };
+
+    ghost view = { λ chunks. walk chunks.left.now };
+}
+
+impl<'a> Chunks<'a> {
+    /// The chunks of a window, from its first.
+    pub fn over(window: &'a [u8]) -> Chunks<'a>
+        ensures walks { Walks window.now result }
+        ensures value { result ≡ walk window.now }
+    {
+        Chunks { left: window }
+    }
+}
+
+impl<'a> Iterator for Chunks<'a> {
+    type Item = Result<([u8; 4], &'a [u8]), Truncated>;
+
+    ghost next_gives = { YieldsFirstBy lent (λ rest. rest) };
+
+    ghost remaining = { item_count (λ rest. rest) };
+
+    fn next(&mut self) -> Option<Result<([u8; 4], &'a [u8]), Truncated>> {
+        let window = self.left;
+        if window.len() < HEAD_LENGTH {
+            return None;
+        }
+        if !body_fits(window) {
+            self.left = &[];
+            return Some(Err(Truncated));
+        }
+        let size = u32_at(window, 4) as usize;
+        let body = part_of(window, HEAD_LENGTH, size);
+        self.left = rest_from(window, HEAD_LENGTH + size + size % 2);
+        Some(Ok((front_id(window), body)))
+    }
+}
+
+impl<'a> FusedIterator for Chunks<'a> {}
+
+// The id at the front.
+fn front_id(window: &[u8]) -> [u8; 4]
+    requires { 8 ≤ length window.now }
+    ensures { result ≡ take 4 window.now }
+{
+    [window[0], window[1], window[2], window[3]]
+}
+
+// Whether the body at the front ends where it may.
+#[tactic(auto, unfolding(crate::specs::Walk::LIST))]
+fn body_fits(window: &[u8]) -> bool
+    requires { 8 ≤ length window.now }
+    ensures { result ≡ body_fits window.now }
+{
+    let size = u32_at(window, 4) as usize;
+    let end = if front_id(window) == LIST_ID {
+        window.len() + 1
+    } else {
+        window.len()
+    };
+    HEAD_LENGTH + size <= end
+}

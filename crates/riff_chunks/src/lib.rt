@@ -1,0 +1,18 @@
+//! The chunks of RIFF files: walking a window of a file, finding chunks in it, and writing them.
+//!
+//! A chunk is an id of four bytes, the size of its body in 32 bits with the low byte first, and its
+//! body, which one pad byte follows where its size is odd (SoundFont 2.04, section 3).
+#![tactic(auto)]
+
+mod chunks;
+mod finding;
+mod laws;
+mod writer;
+
+pub use chunks::{Chunks, LIST_ID, Truncated};
+pub use finding::{body_of, is_whole, list_of};
+pub use laws::{spelled_chunks_are_found, unpadded_chunks_are_found, walk_is_the_one_list};
+pub use writer::ChunkWriter;
+
+#[cfg(test)]
+mod tests;

@@ -1,0 +1,5 @@
+pub mod WordLemmas
+pub mod RunLemmas
+pub mod PieceLemmas
+mod PlaceLemmas
+mod CutLemmas

@@ -1,0 +1,157 @@
+-- The numbers that bytes spell.
+use Rattle.std.proofs.Common.{◌≡◌, ℕ, zero, suc, ◌+◌, ◌-◌, ◌^◌, ◌*◌, ◌/◌, ◌%◌, ◌<◌, List, [], ◌∷◌, ◌++◌, length, get_or, take, drop, replicate, refl, ap, sym, ◌∙◌, arith, get_or-drop}
+use Rattle.std.specs.Prelude.{All, slice_range}
+use Rattle.std.specs.Int.{bytes_low_first}
+use Rattle.std.specs.List.{AllByRecursion, flat_map}
+use native.Mathlib.Numerals.{unary_clauses}
+use Rattle.sf_base.specs.Fields.{field_at}
+use Rattle.sample_view.specs.Words.{words, word_bytes, AreWords}
+
+-- two bytes spell a number
+pub length-words : (xs : List ℕ) → length (words xs) ≡ length xs / 2
+unfolding words
+length-words [] = refl
+length-words (low ∷ []) = refl
+length-words (low ∷ high ∷ rest) = let e = length-words rest in omega arith
+
+-- whole numbers off the front
+pub words-take : (k n : ℕ) (xs : List ℕ) → k ≡ 2 * n → words (take k xs) ≡ take n (words xs)
+unfolding words
+words-take zero zero xs e = refl
+words-take zero (suc n) xs e = absurd (omega arith)
+words-take (suc zero) n xs e = absurd (omega arith)
+words-take (suc (suc k)) zero xs e = absurd (omega arith)
+words-take (suc (suc k)) (suc n) [] e = refl
+words-take (suc (suc k)) (suc n) (low ∷ []) e = refl
+words-take (suc (suc k)) (suc n) (low ∷ high ∷ rest) e =
+    let h : k ≡ 2 * n = omega arith in ap (λ ws. (low + 256 * high) ∷ ws) (words-take k n rest h)
+
+-- the numbers after some whole ones
+pub words-drop : (k n : ℕ) (xs : List ℕ) → k ≡ 2 * n → words (drop k xs) ≡ drop n (words xs)
+unfolding words
+words-drop zero zero xs e = refl
+words-drop zero (suc n) xs e = absurd (omega arith)
+words-drop (suc zero) n xs e = absurd (omega arith)
+words-drop (suc (suc k)) zero xs e = absurd (omega arith)
+words-drop (suc (suc k)) (suc n) [] e = refl
+words-drop (suc (suc k)) (suc n) (low ∷ []) e = refl
+words-drop (suc (suc k)) (suc n) (low ∷ high ∷ rest) e =
+    let h : k ≡ 2 * n = omega arith in words-drop k n rest h
+
+-- the numbers of a window that begins and ends between two of them
+pub words-slice_range : (i j : ℕ) (xs : List ℕ) → words (slice_range xs (2 * i) (2 * j)) ≡ slice_range (words xs) i j
+words-slice_range i j xs =
+    let e : 2 * j - 2 * i ≡ 2 * (j - i) = omega arith in
+    words-take (2 * j - 2 * i) (j - i) (drop (2 * i) xs) e ∙ ap (λ ws. take (j - i) ws) (words-drop (2 * i) i xs refl)
+
+-- a number by its two bytes
+pub get_or-words : (k i : ℕ) (xs : List ℕ) → k ≡ 2 * i → k + 1 < length xs
+    → get_or (words xs) i 0 ≡ get_or xs k 0 + 256 * get_or xs (k + 1) 0
+unfolding words
+get_or-words k i [] e h = absurd (omega arith)
+get_or-words k i (low ∷ []) e h = absurd (omega arith)
+get_or-words zero zero (low ∷ high ∷ rest) e h = refl
+get_or-words zero (suc i) (low ∷ high ∷ rest) e h = absurd (omega arith)
+get_or-words (suc zero) i (low ∷ high ∷ rest) e h = absurd (omega arith)
+get_or-words (suc (suc k)) zero (low ∷ high ∷ rest) e h = absurd (omega arith)
+get_or-words (suc (suc k)) (suc i) (low ∷ high ∷ rest) e h =
+    let e' : k ≡ 2 * i = omega arith in
+    let h' : k + 1 < length rest = omega arith in
+    simp unary_clauses (simp unary_clauses at (get_or-words k i rest e' h'))
+
+-- bytes that are spelled again from the numbers that they spell
+pub bytes_of_words : (xs : List ℕ) → All (λ b. b < 256) xs → length xs % 2 ≡ 0 → flat_map word_bytes (words xs) ≡ xs
+unfolding words word_bytes
+bytes_of_words [] a e = refl
+bytes_of_words (low ∷ []) a e = absurd (omega arith)
+bytes_of_words (low ∷ high ∷ rest) a e =
+    let e' : length rest % 2 ≡ 0 = omega arith in
+    let small : All (λ b. b < 256) rest = λ j d h. a (suc (suc j)) d (omega arith) in
+    let low_fits : low < 256 = a 0 0 (omega arith) in
+    let ih = bytes_of_words rest small e' in
+    let l : (low + 256 * high) % 256 ≡ low = omega arith in
+    let h : (low + 256 * high) / 256 ≡ high = omega arith in
+    rw (l, h) (ap (λ t. low ∷ high ∷ t) ih)
+
+-- no byte spells a number
+pub words-empty : (xs : List ℕ) → length xs ≡ 0 → words xs ≡ []
+unfolding words
+words-empty [] e = refl
+words-empty (x ∷ xs) e = absurd (omega arith)
+
+-- a number by the field at its two bytes
+pub get_or-words_field : (i : ℕ) (xs : List ℕ) → 2 * i + 1 < length xs → get_or (words xs) i 0 ≡ field_at (2 * i) 2 xs
+get_or-words_field i xs h =
+    let low : get_or (drop (2 * i) xs) 0 0 ≡ get_or xs (2 * i) 0 = get_or-drop (2 * i) xs 0 0 ∙ ap (λ k. get_or xs k 0) (omega arith) in
+    let high : get_or (drop (2 * i) xs) 1 0 ≡ get_or xs (2 * i + 1) 0 = get_or-drop (2 * i) xs 1 0 in
+    get_or-words (2 * i) i xs refl h ∙ omega (arith, low, high)
+
+-- whole numbers and then others
+pub words-append : (xs ys : List ℕ) → length xs % 2 ≡ 0 → words (xs ++ ys) ≡ words xs ++ words ys
+unfolding words
+words-append [] ys e = refl
+words-append (low ∷ []) ys e = absurd (omega arith)
+words-append (low ∷ high ∷ rest) ys e =
+    let e' : length rest % 2 ≡ 0 = omega arith in ap (λ ws. (low + 256 * high) ∷ ws) (words-append rest ys e')
+
+-- numbers are read back from the bytes that spell them
+pub words_of_bytes : (ws : List ℕ) → words (flat_map word_bytes ws) ≡ ws
+unfolding words word_bytes
+words_of_bytes [] = refl
+words_of_bytes (w ∷ ws) =
+    let e : w % 256 + 256 * (w / 256) ≡ w = omega arith in
+    rw e (ap (λ t. w ∷ t) (words_of_bytes ws))
+
+-- the two bytes of a number of 16 bits are its lowest two
+pub word_bytes-low_first : (w : ℕ) → w < 2 ^ 16 → word_bytes w ≡ bytes_low_first 0 2 w
+unfolding word_bytes
+word_bytes-low_first w h =
+    let high : w / 256 ^ 1 % 256 ≡ w / 256 = omega arith in
+    ap (λ (b : ℕ). w % 256 ∷ b ∷ []) (sym high)
+
+-- zeros are spelled by zeros
+pub word_bytes-zeros : (n : ℕ) → flat_map word_bytes (replicate n 0) ≡ replicate (2 * n) 0
+unfolding word_bytes
+word_bytes-zeros zero = refl
+word_bytes-zeros (suc n) =
+    let e : 2 * suc n ≡ suc (suc (2 * n)) = omega arith in
+    rw e (ap (λ t. 0 ∷ 0 ∷ t) (word_bytes-zeros n))
+
+-- each number takes two bytes
+pub length-word_bytes : (ws : List ℕ) → length (flat_map word_bytes ws) ≡ 2 * length ws
+unfolding word_bytes
+length-word_bytes [] = refl
+length-word_bytes (w ∷ ws) = let e = length-word_bytes ws in omega arith
+
+-- bytes spell numbers of 16 bits
+pub AreWords-words : (xs : List ℕ) → All (λ b. b < 256) xs → AreWords (words xs)
+unfolding words
+AreWords-words [] a = tt
+AreWords-words (low ∷ []) a = tt
+AreWords-words (low ∷ high ∷ rest) a =
+    let low_fits : low < 256 = a 0 0 (omega arith) in
+    let high_fits : high < 256 = a 1 0 (omega arith) in
+    (omega arith, AreWords-words rest (λ j d h. a (suc (suc j)) d (omega arith)))
+
+-- numbers of 16 bits are spelled by bytes
+pub word_bytes-fit : (ws : List ℕ) → AreWords ws → AllByRecursion (λ b. b < 256) (flat_map word_bytes ws)
+unfolding word_bytes
+word_bytes-fit [] a = tt
+word_bytes-fit (w ∷ ws) a = let fits = a.0 in (omega arith, (omega arith, word_bytes-fit ws a.1))
+
+-- the numbers of a list and of another
+pub AreWords-append : (ws vs : List ℕ) → AreWords ws → AreWords vs → AreWords (ws ++ vs)
+AreWords-append [] vs a b = b
+AreWords-append (w ∷ ws) vs a b = (a.0, AreWords-append ws vs a.1 b)
+
+-- the first n numbers
+pub AreWords-take : (n : ℕ) (ws : List ℕ) → AreWords ws → AreWords (take n ws)
+AreWords-take zero ws a = tt
+AreWords-take (suc n) [] a = tt
+AreWords-take (suc n) (w ∷ ws) a = (a.0, AreWords-take n ws a.1)
+
+-- the numbers after the first n
+pub AreWords-drop : (n : ℕ) (ws : List ℕ) → AreWords ws → AreWords (drop n ws)
+AreWords-drop zero ws a = a
+AreWords-drop (suc n) [] a = tt
+AreWords-drop (suc n) (w ∷ ws) a = AreWords-drop n ws a.1

@@ -1,0 +1,54 @@
+//! The one loop that writes.
+ghost use Rattle.std.specs.Prelude.{◌≡◌, ◌+◌, ◌<◌, ◌≤◌, ◌^◌, ℕ, List, [], length};
+ghost use Rattle.sf_base.specs.Writing.{Sends, Writes, Finishes};
+
+use std::io::Write;
+use thiserror::Error;
+
+/// A writer answered an error, or took no byte. Exactly the first `written` bytes of the text went
+/// out before.
+#[derive(Debug, Drop, Clone, Copy, PartialEq, Eq, Error)]
+#[error("write fault after {written} bytes")]
+pub struct WriteFault {
+    pub written: u64,
+}
+
+/// Writes `bytes` after `sent` others of a longer text, and gives the number of all that went out.
+/// An error or a `write` that takes no byte is the fault, which counts those others too. There is no
+/// retry.
+pub fn put_after<W: Write>(out: &mut W, sent: u64, bytes: &[u8]) -> Result<u64, WriteFault>
+    requires { sent + length bytes.now < 2 ^ 64 }
+    ensures { Sends (W.contents out.old) (W.contents out.new) sent bytes.now result }
+{
+    let mut at = 0;
+    while at < bytes.len() {
+        match out.write(&bytes[at..]) {
+            Ok(0) | Err(_) => {
+                return Err(WriteFault {
+                    written: sent + at as u64,
+                });
+            }
+            Ok(count) => at += count,
+        }
+    }
+    Ok(sent + bytes.len() as u64)
+}
+
+/// Writes the whole text. An error or a `write` that takes no byte is the fault; there is no retry.
+pub fn put_all<W: Write>(out: &mut W, text: &[u8]) -> Result<(), WriteFault>
+    ensures { Writes (W.contents out.old) (W.contents out.new) text.now result }
+{
+    put_after(out, 0, text)?;
+    Ok(())
+}
+
+/// Flushes a writer to which the whole text of `sent` bytes went. A flush that fails is a fault
+/// after all of it.
+pub fn finish<W: Write>(out: &mut W, sent: u64) -> Result<(), WriteFault>
+    ensures { Finishes (W.contents out.old) (W.contents out.new) sent result }
+{
+    match out.flush() {
+        Ok(()) => Ok(()),
+        Err(_) => Err(WriteFault { written: sent }),
+    }
+}
