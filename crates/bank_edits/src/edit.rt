@@ -34,12 +34,12 @@ impl Refusal {
     }
 
     /// The name by which a fault line tells it.
-    pub fn name(self) -> &'static [u8]
+    pub fn name(self) -> &'static str
         ensures { result.now ≡ name_of self }
     {
         match self {
-            Refusal::NoSuchSample => b"NoSuchSample",
-            Refusal::OutOfMemory => b"OutOfMemory",
+            Refusal::NoSuchSample => "NoSuchSample",
+            Refusal::OutOfMemory => "OutOfMemory",
         }
     }
 }

@@ -76,29 +76,29 @@ impl ReadFault {
     }
 
     /// The name by which a fault line tells it.
-    pub fn name(self) -> &'static [u8]
+    pub fn name(self) -> &'static str
         ensures { result.now ≡ name_of self }
     {
         match self {
-            ReadFault::NotRiff => b"NotRiff",
-            ReadFault::NotSfbk => b"NotSfbk",
-            ReadFault::Truncated => b"Truncated",
-            ReadFault::MissingList => b"MissingList",
-            ReadFault::MissingChunk => b"MissingChunk",
-            ReadFault::Version => b"Version",
-            ReadFault::RecordSize => b"RecordSize",
-            ReadFault::NoTerminal => b"NoTerminal",
-            ReadFault::BagOrder => b"BagOrder",
-            ReadFault::IndexOutside => b"IndexOutside",
-            ReadFault::BadInstrument => b"BadInstrument",
-            ReadFault::BadSample => b"BadSample",
-            ReadFault::SampleRange => b"SampleRange",
-            ReadFault::SampleType => b"SampleType",
-            ReadFault::RomSample => b"RomSample",
-            ReadFault::OddSamples => b"OddSamples",
-            ReadFault::TooMany => b"TooMany",
-            ReadFault::OutOfMemory => b"OutOfMemory",
-            ReadFault::LaterPart => b"LaterPart",
+            ReadFault::NotRiff => "NotRiff",
+            ReadFault::NotSfbk => "NotSfbk",
+            ReadFault::Truncated => "Truncated",
+            ReadFault::MissingList => "MissingList",
+            ReadFault::MissingChunk => "MissingChunk",
+            ReadFault::Version => "Version",
+            ReadFault::RecordSize => "RecordSize",
+            ReadFault::NoTerminal => "NoTerminal",
+            ReadFault::BagOrder => "BagOrder",
+            ReadFault::IndexOutside => "IndexOutside",
+            ReadFault::BadInstrument => "BadInstrument",
+            ReadFault::BadSample => "BadSample",
+            ReadFault::SampleRange => "SampleRange",
+            ReadFault::SampleType => "SampleType",
+            ReadFault::RomSample => "RomSample",
+            ReadFault::OddSamples => "OddSamples",
+            ReadFault::TooMany => "TooMany",
+            ReadFault::OutOfMemory => "OutOfMemory",
+            ReadFault::LaterPart => "LaterPart",
         }
     }
 }

@@ -1,0 +1,12 @@
+pub mod TestLaws
+pub mod LexLaws
+pub mod PoolLaws
+pub mod NameLaws
+pub mod ScriptLaws
+pub mod PenLaws
+pub mod PrintLaws
+pub mod SpellLaws
+pub mod ReadLaws
+pub mod LineLaws
+pub mod FitLaws
+pub mod FewLaws

@@ -1,0 +1,14 @@
+use Rattle.std.proofs.Common.{◌≡◌, ◌≤◌, ◌+◌, length}
+use Rattle.edit_script.specs.Lines.{lines_of}
+use Rattle.edit_script.specs.Said.{lines_said_over}
+use Rattle.edit_script.specs.Script.{gather, edit_of, edits_in}
+use Rattle.edit_script.proofs.parsing.parse_lines.Given as goal
+
+-- what is left makes of the edits so far what the whole text says
+abbrev pub invariant-loop-line : goal.invariant-loop-line
+invariant-loop-line l = record {
+  can_next : (goal.iterator-loop-line).can_next l.line-iterator;
+  is_finite : (goal.iterator-loop-line).is_finite l.line-iterator;
+  left : gather edit_of (l.number + 1) (lines_said_over l.rest l.line-iterator) l.edits.items ≡ edits_in (lines_said_over l.pool (lines_of l.text));
+  counted : l.number + length l.line-iterator ≤ length l.text;
+}

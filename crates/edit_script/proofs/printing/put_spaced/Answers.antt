@@ -1,0 +1,5 @@
+use Rattle.edit_script.proofs.PenLaws.{puts_then}
+use Rattle.edit_script.proofs.printing.put_spaced.Goals as goal
+
+pub returns : goal.returns
+returns g c = puts_then _ _ c.args.token.now _ c.in_ok-put.ensures c.put-2.ensures

@@ -1,0 +1,10 @@
+pub mod Faults
+pub mod Lines
+pub mod Tokens
+pub mod Said
+pub mod Grammar
+pub mod Script
+pub mod Printing
+pub mod Pen
+pub mod Spelling
+pub mod Laws

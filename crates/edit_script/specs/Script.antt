@@ -1,0 +1,80 @@
+-- What a script says, or its first fault.
+use Rattle.std.specs.Prelude.{◌≡◌, ◌⊎◌, ℕ, suc, List, [], ◌∷◌, ◌++◌, Result, Ok, Err}
+use Rattle.std.specs.Result.{result_and}
+use Rattle.bank_edits.specs.declared.edit.Edit.{Edit}
+use Rattle.edit_script.specs.declared.cursor.Said.{Said}
+use Rattle.edit_script.specs.declared.cursor.Said.TheVariants.{Word, Literal, Bad}
+use Rattle.edit_script.specs.declared.cursor.Stop.{Stop}
+use Rattle.edit_script.specs.declared.cursor.Stop.TheVariants as stop
+use Rattle.edit_script.specs.declared.fault.ScriptFault.{ScriptFault}
+use Rattle.edit_script.specs.declared.fault.ScriptFault.TheVariants as faults
+use Rattle.edit_script.specs.declared.parsing.Line.{Line}
+use Rattle.edit_script.specs.Said.{said_lines}
+use Rattle.edit_script.specs.Grammar.{Took, edit}
+
+-- ---- lists that grow from left to right, up to the first fault
+
+-- a list, or the fault that came before it was whole
+abbrev pub Grown : Type 0 → Type 0
+Grown X = Result (List X) ScriptFault
+
+abbrev pub and_then : {X : Type 0} → Grown X → (List X → Grown X) → Grown X
+and_then (Ok xs) f = f xs
+and_then (Err e) f = Err e
+
+-- the list behind all lines, of which the first has the number n
+unfoldable pub gather : {X : Type 0} → (ℕ → List Said → List X → Grown X) → ℕ → List (List Said) → List X → Grown X
+gather f n [] xs = Ok xs
+gather f n (l ∷ ls) xs = and_then (f n l xs) (λ ys. gather f (suc n) ls ys)
+
+-- ---- the pool: the bytes of all literals, or the first that is badly spelled
+
+unfoldable pub literal_of : ℕ → Said → List ℕ → Grown ℕ
+literal_of n (Word w) pool = Ok pool
+literal_of n (Literal bytes) pool = Ok (pool ++ bytes)
+literal_of n Bad pool = Err (faults.Literal n)
+
+unfoldable pub literals_of : ℕ → List Said → List ℕ → Grown ℕ
+literals_of n [] pool = Ok pool
+literals_of n (s ∷ line) pool = and_then (literal_of n s pool) (λ more. literals_of n line more)
+
+unfoldable pub pool_bytes : List ℕ → Grown ℕ
+pool_bytes text = gather literals_of 1 (said_lines text) []
+
+-- ---- the edits, or the first fault from left to right
+
+-- a fault, with its line
+abbrev pub on_line : ℕ → Stop → ScriptFault
+on_line n stop.Syntax = faults.Syntax n
+on_line n stop.Number = faults.Number n
+on_line n stop.Literal = faults.Literal n
+
+abbrev pub with_edit : ℕ → List Line → Result (Took Edit) Stop → Grown Line
+with_edit n lines (Ok t) = Ok (lines ++ record { number = n; edit = t.value } ∷ [])
+with_edit n lines (Err e) = Err (on_line n e)
+
+-- a line without tokens says nothing, and every other one is an edit, of which a script has at most one
+unfoldable pub edit_of : ℕ → List Said → List Line → Grown Line
+edit_of n [] lines = Ok lines
+edit_of n (s ∷ line) [] = with_edit n [] (edit (s ∷ line))
+edit_of n (s ∷ line) (l ∷ lines) = Err (faults.Syntax n)
+
+unfoldable pub edits_in : List (List Said) → Grown Line
+edits_in lines = gather edit_of 1 lines []
+
+-- The edits of a text with their lines, or its fault: the first badly spelled literal of the whole
+-- text, and else the first fault from left to right.
+unfoldable pub script_of : List ℕ → Grown Line
+script_of text = result_and (pool_bytes text) (edits_in (said_lines text))
+
+-- ---- what calls answer
+
+-- the answer, or want of memory
+abbrev pub Answers : {X Y : Type 0} → (X → Y) → Result X ScriptFault → Result Y ScriptFault → Type 0
+Answers view (Ok x) r = r ≡ Ok (view x)
+Answers view (Err e) r = (e ≡ faults.OutOfMemory) ⊎ (r ≡ Err e)
+
+-- the list became this one, or this is its fault, or want of memory
+abbrev pub Becomes : {X U : Type 0} → List X → Result U ScriptFault → Grown X → Type 0
+Becomes new (Ok u) r = r ≡ Ok new
+Becomes new (Err e) r = (e ≡ faults.OutOfMemory) ⊎ (r ≡ Err e)

@@ -1,0 +1,79 @@
+//! What is wrong with a script.
+ghost use Rattle.std.specs.Prelude.{◌≡◌};
+ghost use Rattle.edit_script.specs.declared.fault.ScriptFault.TheVariants.{OutOfMemory};
+ghost use Rattle.edit_script.specs.Faults.{number_of, name_of, line_of};
+
+use std::alloc::{AllocError, AllocFailed};
+use thiserror::Error;
+
+/// The first fault of a script, with the number of its line, counted from 1; or want of memory,
+/// which may come in place of any answer.
+#[derive(Debug, Drop, Clone, Copy, PartialEq, Eq, Error)]
+pub enum ScriptFault {
+    /// 41: a token is missing or left over, a word is wrong, or no literal stands where one is needed.
+    #[error("line {0}: a token is wrong, missing or left over")]
+    Syntax(u64),
+    /// 42: a number is none, or out of its range.
+    #[error("line {0}: a number is wrong or out of range")]
+    Number(u64),
+    /// 43: a literal is badly spelled, or its bytes are not what is needed.
+    #[error("line {0}: a literal is badly spelled, or its bytes do not serve")]
+    Literal(u64),
+    /// 44: a growth was refused.
+    #[error("out of memory")]
+    OutOfMemory,
+}
+
+impl ScriptFault {
+    /// The fault's number, from 41 to 44.
+    pub fn number(self) -> u8
+        ensures { result ≡ number_of self }
+    {
+        match self {
+            ScriptFault::Syntax(_) => 41,
+            ScriptFault::Number(_) => 42,
+            ScriptFault::Literal(_) => 43,
+            ScriptFault::OutOfMemory => 44,
+        }
+    }
+
+    /// The fault's name, as it is printed behind its number.
+    pub fn name(self) -> &'static str
+        ensures { result.now ≡ name_of self }
+    {
+        match self {
+            ScriptFault::Syntax(_) => "Syntax",
+            ScriptFault::Number(_) => "Number",
+            ScriptFault::Literal(_) => "Literal",
+            ScriptFault::OutOfMemory => "OutOfMemory",
+        }
+    }
+
+    /// The number of the line at fault, counted from 1. Want of memory has none.
+    pub fn line(self) -> Option<u64>
+        ensures { result ≡ line_of self }
+    {
+        match self {
+            ScriptFault::Syntax(line) | ScriptFault::Number(line) | ScriptFault::Literal(line) => {
+                Some(line)
+            }
+            ScriptFault::OutOfMemory => None,
+        }
+    }
+}
+
+impl From<AllocError> for ScriptFault {
+    ghost from_gives = { λ _ fault. fault ≡ OutOfMemory };
+
+    fn from(_error: AllocError) -> ScriptFault {
+        ScriptFault::OutOfMemory
+    }
+}
+
+impl<T: Drop> From<AllocFailed<T>> for ScriptFault {
+    ghost from_gives = { λ _ fault. fault ≡ OutOfMemory };
+
+    fn from(_error: AllocFailed<T>) -> ScriptFault {
+        ScriptFault::OutOfMemory
+    }
+}

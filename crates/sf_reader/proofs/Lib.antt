@@ -1,0 +1,10 @@
+pub mod StepLaws
+pub mod TextLemmas
+pub mod HydraLaws
+pub mod NameLemmas
+pub mod RowLemmas
+pub mod SampleLemmas
+pub mod TableLaws
+pub mod ReadLaws
+pub mod ContentLaws
+pub mod ByteLemmas

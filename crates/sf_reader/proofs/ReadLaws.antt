@@ -1,0 +1,168 @@
+-- The steps of a file, part after part.
+use Rattle.std.proofs.Common.{◌≡◌, ◌++◌, ◌∙◌, ℕ, List, [], ◌∷◌, map, None, refl, sym, ap, subst}
+use Rattle.sf_base.specs.Fields.{field_at}
+use Rattle.bank_format.specs.declared.fault.ReadFault.{ReadFault}
+use Rattle.bank_format.specs.Ids.{IFIL, SMPL}
+use Rattle.bank_format.specs.Steps.{Step, first_broken, Fails}
+use Rattle.bank_format.specs.Tables.{Tables}
+use Rattle.bank_format.specs.Chunks.{window, body_in, tables_in, points_in}
+use Rattle.bank_format.specs.Reading.{bank_of, content_in}
+use Rattle.bank_format.specs.ReadSteps.{frame_steps, list_steps, chunk_step, nine, chunk_steps, size_steps, point_steps, content_steps, window_steps, steps, fault_of}
+use Rattle.sf_reader.specs.Lists.{Windows, windows_in, chunks}
+use Rattle.sf_reader.specs.Hydra.{Bodies, bodies_in, whole_steps, tables_from}
+use Rattle.sf_reader.specs.Content.{list_content_steps, list_content, version_steps, table_steps, table_content}
+use Rattle.sf_reader.proofs.StepLaws.{fails_front, fails_after, none_after}
+
+-- ---- of the three lists, where the parts were found
+
+abbrev pub ifil_in : Windows → List ℕ
+ifil_in w = body_in IFIL (chunks w.info)
+
+abbrev pub smpl_in : Windows → List ℕ
+smpl_in w = body_in SMPL (chunks w.sdta)
+
+abbrev pub nine_in : Windows → Bodies
+nine_in w = bodies_in (chunks w.pdta)
+
+abbrev pub version_there : Windows → List Step
+version_there w = chunk_step (chunks w.info) IFIL ∷ []
+
+abbrev pub nine_there : Windows → List Step
+nine_there w = map (chunk_step (chunks w.pdta)) nine
+
+-- the steps from a part on
+abbrev pub from_whole : Windows → List Step
+from_whole w = whole_steps (nine_in w) ++ table_steps (tables_from (nine_in w)) (smpl_in w)
+
+abbrev pub from_version : Windows → List Step
+from_version w = version_steps (ifil_in w) ++ from_whole w
+
+abbrev pub from_nine : Windows → List Step
+from_nine w = nine_there w ++ from_version w
+
+pub lists_in_parts : (w : Windows) → list_content_steps w ≡ version_there w ++ from_nine w
+unfolding content_steps chunk_steps size_steps point_steps points_in tables_in bodies_in whole_steps tables_from table_steps
+lists_in_parts w = refl
+
+pub content_in_parts : (w : Windows) → list_content w ≡ table_content (field_at 2 2 (ifil_in w)) w (tables_from (nine_in w)) (smpl_in w)
+unfolding bank_of points_in tables_in bodies_in tables_from table_content
+content_in_parts w = refl
+
+-- ---- what the reader has found of the lists before it looks at the records
+
+pub record Opened (w : Windows) (version : List ℕ) (bodies : Bodies) : Type 0 where
+  pub there : first_broken (version_there w) ≡ None
+  pub version_is : version ≡ ifil_in w
+  pub nine : first_broken (nine_there w) ≡ None
+  pub bodies_are : bodies ≡ nine_in w
+
+pub record Cut (w : Windows) (version : List ℕ) (bodies : Bodies) (minor : ℕ) (t : Tables) (smpl : List ℕ) : Type 0 where
+  pub opened : Opened w version bodies
+  pub version_holds : first_broken (version_steps version) ≡ None
+  pub minor_is : minor ≡ field_at 2 2 version
+  pub whole : first_broken (whole_steps bodies) ≡ None
+  pub tables_are : t ≡ tables_from bodies
+  pub smpl_is : smpl ≡ smpl_in w
+
+-- ---- a fault of a part is that of the lists
+
+module _ (w : Windows) (e : ReadFault) where
+  pub in_there : Fails e (first_broken (version_there w)) → Fails e (first_broken (list_content_steps w))
+  in_there h = rw lists_in_parts (fails_front e (version_there w) (from_nine w) h)
+
+  past_there : first_broken (version_there w) ≡ None → Fails e (first_broken (from_nine w)) → Fails e (first_broken (list_content_steps w))
+  past_there none h = rw lists_in_parts (fails_after e (version_there w) (from_nine w) none h)
+
+  pub in_nine : first_broken (version_there w) ≡ None → Fails e (first_broken (nine_there w)) → Fails e (first_broken (list_content_steps w))
+  in_nine there h = past_there there (fails_front e (nine_there w) (from_version w) h)
+
+  past_opened : (version : List ℕ) (bodies : Bodies) → Opened w version bodies → Fails e (first_broken (version_steps version ++ from_whole w)) → Fails e (first_broken (list_content_steps w))
+  past_opened version bodies o h =
+      past_there o.there (fails_after e (nine_there w) (from_version w) o.nine
+      (subst (λ (v : List ℕ). Fails e (first_broken (version_steps v ++ from_whole w))) o.version_is h))
+
+  pub in_version : (version : List ℕ) (bodies : Bodies) → Opened w version bodies → Fails e (first_broken (version_steps version)) → Fails e (first_broken (list_content_steps w))
+  in_version version bodies o h = past_opened version bodies o (fails_front e (version_steps version) (from_whole w) h)
+
+  past_version : (version : List ℕ) (bodies : Bodies) → Opened w version bodies → first_broken (version_steps version) ≡ None
+      → Fails e (first_broken (whole_steps bodies ++ table_steps (tables_from bodies) (smpl_in w))) → Fails e (first_broken (list_content_steps w))
+  past_version version bodies o none h =
+      past_opened version bodies o (fails_after e (version_steps version) (from_whole w) none
+      (subst (λ (b : Bodies). Fails e (first_broken (whole_steps b ++ table_steps (tables_from b) (smpl_in w)))) o.bodies_are h))
+
+  pub in_whole : (version : List ℕ) (bodies : Bodies) → Opened w version bodies → first_broken (version_steps version) ≡ None
+      → Fails e (first_broken (whole_steps bodies)) → Fails e (first_broken (list_content_steps w))
+  in_whole version bodies o none h =
+      past_version version bodies o none (fails_front e (whole_steps bodies) (table_steps (tables_from bodies) (smpl_in w)) h)
+
+  pub in_tables : (version : List ℕ) (bodies : Bodies) (minor : ℕ) (t : Tables) (smpl : List ℕ) → Cut w version bodies minor t smpl
+      → Fails e (first_broken (table_steps t smpl)) → Fails e (first_broken (list_content_steps w))
+  in_tables version bodies minor t smpl k h =
+      past_version version bodies k.opened k.version_holds (fails_after e (whole_steps bodies) (table_steps (tables_from bodies) (smpl_in w)) k.whole
+      (rw (← k.tables_are, ← k.smpl_is) h))
+
+-- the lists hold, and say what their parts do
+pub lists_hold : (w : Windows) (version : List ℕ) (bodies : Bodies) (minor : ℕ) (t : Tables) (smpl : List ℕ) → Cut w version bodies minor t smpl
+    → first_broken (table_steps t smpl) ≡ None → (first_broken (list_content_steps w) ≡ None) × (table_content minor w t smpl ≡ list_content w)
+lists_hold w version bodies minor t smpl k none =
+    let o = k.opened in
+    let tables : first_broken (table_steps (tables_from (nine_in w)) (smpl_in w)) ≡ None =
+    rw (← o.bodies_are, ← k.tables_are, ← k.smpl_is) none in
+    let whole : first_broken (whole_steps (nine_in w)) ≡ None = rw (← o.bodies_are) k.whole in
+    let holds : first_broken (version_steps (ifil_in w)) ≡ None = rw (← o.version_is) k.version_holds in
+    let all =
+    none_after (version_there w) (from_nine w) o.there (none_after (nine_there w) (from_version w) o.nine
+    (none_after (version_steps (ifil_in w)) (from_whole w) holds (none_after (whole_steps (nine_in w)) (table_steps (tables_from (nine_in w)) (smpl_in w)) whole tables))) in (
+      rw lists_in_parts all,
+      ap (λ (n : ℕ). table_content n w t smpl) (k.minor_is ∙ ap (field_at 2 2) o.version_is)
+          ∙ ap (λ (u : Tables). table_content (field_at 2 2 (ifil_in w)) w u smpl) (k.tables_are ∙ ap tables_from o.bodies_are)
+          ∙ ap (table_content (field_at 2 2 (ifil_in w)) w (tables_from (nine_in w))) k.smpl_is
+          ∙ sym (content_in_parts w),
+    )
+
+-- ---- of a file
+
+pub file_in_parts : (file : List ℕ) → steps file ≡ frame_steps file ++ (list_steps (window file) ++ list_content_steps (windows_in (window file)))
+unfolding steps window_steps windows_in
+file_in_parts file = refl
+
+pub content_is : (file : List ℕ) → content_in (window file) ≡ list_content (windows_in (window file))
+unfolding content_in windows_in
+content_is file = refl
+
+-- the file holds, and says what its lists do
+pub file_holds : (file w : List ℕ) (v : Windows) → w ≡ window file → v ≡ windows_in w
+    → first_broken (frame_steps file) ≡ None → first_broken (list_steps w) ≡ None → first_broken (list_content_steps v) ≡ None
+    → (fault_of file ≡ None) × (list_content v ≡ content_in (window file))
+file_holds file w v ew ev frame lists inside =
+    let vw : v ≡ windows_in (window file) = ev ∙ ap windows_in ew in
+    let there : first_broken (list_steps (window file)) ≡ None = ap (λ (l : List ℕ). first_broken (list_steps l)) (sym ew) ∙ lists in
+    let held : first_broken (list_content_steps (windows_in (window file))) ≡ None = ap (λ (u : Windows). first_broken (list_content_steps u)) (sym vw) ∙ inside in (
+      rw file_in_parts (none_after (frame_steps file) (list_steps (window file) ++ list_content_steps (windows_in (window file))) frame
+          (none_after (list_steps (window file)) (list_content_steps (windows_in (window file))) there held)),
+      ap list_content vw ∙ sym (content_is file),
+    )
+
+-- ---- a fault of a part is that of the file
+
+module _ (file : List ℕ) (e : ReadFault) where
+  abbrev rest : List Step
+  rest = list_steps (window file) ++ list_content_steps (windows_in (window file))
+
+  pub in_frame : Fails e (first_broken (frame_steps file)) → Fails e (fault_of file)
+  in_frame h = rw file_in_parts (fails_front e (frame_steps file) rest h)
+
+  past_frame : first_broken (frame_steps file) ≡ None → Fails e (first_broken rest) → Fails e (fault_of file)
+  past_frame none h = rw file_in_parts (fails_after e (frame_steps file) rest none h)
+
+  pub in_lists : (w : List ℕ) → w ≡ window file → first_broken (frame_steps file) ≡ None → Fails e (first_broken (list_steps w)) → Fails e (fault_of file)
+  in_lists w ew frame h =
+      past_frame frame (fails_front e (list_steps (window file)) (list_content_steps (windows_in (window file)))
+      (subst (λ (l : List ℕ). Fails e (first_broken (list_steps l))) ew h))
+
+  pub in_content : (w : List ℕ) (v : Windows) → w ≡ window file → v ≡ windows_in w → first_broken (frame_steps file) ≡ None → first_broken (list_steps w) ≡ None
+      → Fails e (first_broken (list_content_steps v)) → Fails e (fault_of file)
+  in_content w v ew ev frame lists h =
+      let held : first_broken (list_steps (window file)) ≡ None = ap (λ (l : List ℕ). first_broken (list_steps l)) (sym ew) ∙ lists in
+      past_frame frame (fails_after e (list_steps (window file)) (list_content_steps (windows_in (window file))) held
+      (subst (λ (u : Windows). Fails e (first_broken (list_content_steps u))) (ev ∙ ap windows_in ew) h))

@@ -1,0 +1,62 @@
+-- The rows of a table, one after the other.
+use Rattle.std.proofs.Common.{◌≡◌, ◌<◌, ◌+◌, ◌-◌, ℕ, suc, List, [], ◌∷◌, ◌++◌, take, map, Option, Some, None, Result, refl, sym, ap, subst, ◌∙◌, append_assoc, arith}
+use Rattle.std.specs.Prelude.{flat_map, sum_by}
+use Rattle.std.specs.Result.{IsErrAnd}
+use Rattle.std.proofs.lemmas.List.Sums.{sum_by-cons}
+use Rattle.std.specs.Iterator.{YieldsFirst}
+use Rattle.std.specs.Iterator.Adapters.{take_source, take_count, take_steps}
+use Rattle.std.specs.declared.iter.Take.{Take}
+use Rattle.std.proofs.lemmas.Bool.{lt-leb}
+use Rattle.std.proofs.lemmas.Iterator.{YieldsList, YieldsList-from_take}
+use Rattle.std.proofs.lemmas.Iterator.Consumers.{YieldsList-from_first}
+use Rattle.hydra_records.specs.declared.head.SampleHead.{SampleHead}
+use Rattle.bank_format.specs.declared.fault.ReadFault.{ReadFault}
+use Rattle.bank_format.specs.declared.fault.ReadFault.TheVariants.{TooMany}
+use Rattle.bank_format.specs.Steps.{Step, first_broken, Fails, Passes}
+use Rattle.bank_format.specs.ReadSteps.{total_steps}
+use Rattle.sf_reader.proofs.StepLaws.{first_broken-append, fails_front, passes_by}
+
+-- the next of at most n is x, and at most m of the others come after it
+module _ {X : Type 0} (n m : ℕ) (xs ys : List X) (x : X) (next : xs ≡ x ∷ ys) (fewer : m + 1 ≡ n) where
+  pub take-next : take n xs ≡ x ∷ take m ys
+  take-next = let e : n ≡ suc m = omega (arith, fewer) in rw (e, next) refl
+
+  -- its steps hold, so that those of the others decide
+  pub steps_hold : (f : X → List Step) (whole : Option ReadFault) → first_broken (f x) ≡ None
+      → first_broken (flat_map f (take n xs)) ≡ whole → first_broken (flat_map f (take m ys)) ≡ whole
+  steps_hold f whole holds so_far =
+      sym (first_broken-append (f x) (flat_map f (take m ys)) holds) ∙ sym (ap (λ (l : List X). first_broken (flat_map f l)) take-next) ∙ so_far
+
+  -- one of its steps is broken
+  pub steps_fail : {Y : Type 0} (view : Y → Unit {0}) (f : X → List Step) (r : Result Y ReadFault) (e : ReadFault) (whole : List Step)
+      → IsErrAnd r (λ d. d ≡ e) → Fails e (first_broken (f x)) → first_broken (flat_map f (take n xs)) ≡ first_broken whole → Passes view r whole tt
+  steps_fail view f r e whole is h so_far =
+      let all = ap (λ (l : List X). first_broken (flat_map f l)) take-next in
+      passes_by view tt r e whole is (subst (λ (b : Option ReadFault). Fails e b) (sym all ∙ so_far) (fails_front e (f x) (flat_map f (take m ys)) h))
+
+  -- a sum over them
+  pub sum_more : (f : X → ℕ) (total here whole : ℕ) → here ≡ f x → total + sum_by f (take n xs) ≡ whole → total + here + sum_by f (take m ys) ≡ whole
+  sum_more f total here whole is so_far =
+      let e : sum_by f (take n xs) ≡ f x + sum_by f (take m ys) = ap (sum_by f) take-next ∙ sum_by-cons f x (take m ys) in
+      omega (arith, e, is, so_far)
+
+  -- what is made of them
+  pub map_more : {Y : Type 0} (f : X → Y) (old new : List Y) (made : Y) (whole : List Y)
+      → made ≡ f x → new ≡ old ++ made ∷ [] → old ++ map f (take n xs) ≡ whole → new ++ map f (take m ys) ≡ whole
+  map_more f old new made whole is pushed so_far =
+      let all = ap (λ (l : List X). old ++ map f l) take-next in
+      ap (λ (l : List _). l ++ map f (take m ys)) pushed
+      ∙ append_assoc old (made ∷ []) (map f (take m ys))
+      ∙ ap (λ (y : _). old ++ y ∷ map f (take m ys)) is
+      ∙ sym all ∙ so_far
+
+-- ---- the total
+
+pub total_breaks : (heads : List SampleHead) → 500000000 < sum_by (λ (h : SampleHead). h.end - h.start + 46) heads → first_broken (total_steps heads) ≡ Some TooMany
+unfolding total_steps
+total_breaks heads h = rw (lt-leb _ _ h) refl
+
+-- ---- chains over them
+
+pub rows_yield : {X : Type 0} (s : Take (List X)) (xs : List X) → take (take_count s) (take_source s) ≡ xs → YieldsList (take_steps (YieldsFirst (λ l. l))) (λ x. x) s xs
+rows_yield s xs e = subst (λ (l : List _). YieldsList (take_steps (YieldsFirst (λ r. r))) (λ x. x) s l) e (YieldsList-from_take (take_count s) (YieldsList-from_first (λ x. x) (λ l. l) (take_source s) refl) refl)

@@ -1,0 +1,71 @@
+-- Steps one after the other.
+use Rattle.std.proofs.Common.{◌≡◌, ◌&&◌, Bool, true, false, cond, List, [], ◌∷◌, ◌++◌, map, Option, Some, None, Result, Ok, Err, refl, sym, subst, ◌∙◌}
+use Rattle.std.specs.Result.{IsErrAnd, IfErr}
+use Rattle.std.specs.List.{list_all}
+use Rattle.bank_format.specs.declared.fault.ReadFault.{ReadFault}
+use Rattle.bank_format.specs.declared.fault.ReadFault.TheVariants.{OutOfMemory}
+use Rattle.bank_format.specs.Steps.{Step, step, first_broken, Fails, Passes}
+use Rattle.bank_format.proofs.StepLemmas.{split_none}
+
+-- the steps after those that hold
+pub first_broken-append : (xs ys : List Step) → first_broken xs ≡ None → first_broken (xs ++ ys) ≡ first_broken ys
+first_broken-append [] ys h = refl
+first_broken-append (x ∷ xs) ys h =
+    let both = split_none x.holds (first_broken xs) x.fault h in
+    rw both.0 (first_broken-append xs ys both.1)
+
+fault_either : {A : Type 0} (b : Bool) (x y : Option A) (w f : A) → (x ≡ Some f → y ≡ Some f) → cond b x (Some w) ≡ Some f → cond b y (Some w) ≡ Some f
+fault_either true x y w f g h = g h
+fault_either false x y w f g h = h
+
+-- the fault of a step is that of all
+pub first_broken-front : (xs ys : List Step) (f : ReadFault) → first_broken xs ≡ Some f → first_broken (xs ++ ys) ≡ Some f
+first_broken-front [] ys f h = absurd cc
+first_broken-front (x ∷ xs) ys f h =
+    fault_either x.holds (first_broken xs) (first_broken (xs ++ ys)) x.fault f (λ e. first_broken-front xs ys f e) h
+
+pub fails_front : (e : ReadFault) (xs ys : List Step) → Fails e (first_broken xs) → Fails e (first_broken (xs ++ ys))
+fails_front OutOfMemory xs ys h = tt
+fails_front e xs ys h = first_broken-front xs ys e h
+
+pub fails_after : (e : ReadFault) (xs ys : List Step) → first_broken xs ≡ None → Fails e (first_broken ys) → Fails e (first_broken (xs ++ ys))
+fails_after OutOfMemory xs ys h k = tt
+fails_after e xs ys h k = first_broken-append xs ys h ∙ k
+
+pub none_after : (xs ys : List Step) → first_broken xs ≡ None → first_broken ys ≡ None → first_broken (xs ++ ys) ≡ None
+none_after xs ys h k = first_broken-append xs ys h ∙ k
+
+-- ---- parts of a reader, one after the other
+
+-- a fault that is passed on
+pub passes_by : {X Y : Type 0} (view : X → Y) (value : Y) (r : Result X ReadFault) (e : ReadFault) (xs : List Step)
+    → IsErrAnd r (λ f. f ≡ e) → Fails e (first_broken xs) → Passes view r xs value
+passes_by view value (Ok x) e xs is h = absurd is
+passes_by view value (Err f) e xs is h = subst (λ (d : ReadFault). Fails d (first_broken xs)) (sym is) h
+
+-- a part that fails, first of all
+pub passes_front : {X Y : Type 0} (view : X → Y) (value : Y) (r : Result X ReadFault) (e : ReadFault) (xs ys : List Step)
+    → IsErrAnd r (λ f. f ≡ e) → Fails e (first_broken xs) → Passes view r (xs ++ ys) value
+passes_front view value r e xs ys is h = passes_by view value r e (xs ++ ys) is (fails_front e xs ys h)
+
+-- a part after one that went through
+pub passes_after : {X Y : Type 0} (view : X → Y) (value : Y) (r : Result X ReadFault) (xs ys : List Step)
+    → first_broken xs ≡ None → Passes view r ys value → Passes view r (xs ++ ys) value
+passes_after view value (Ok x) xs ys h k = (none_after xs ys h k.0, k.1)
+passes_after view value (Err e) xs ys h k = fails_after e xs ys h k
+
+-- a fault that is passed on, where the caller says no more of it
+pub fails_by : {X : Type 0} (r : Result X ReadFault) (e : ReadFault) (broken : Option ReadFault) → IsErrAnd r (λ f. f ≡ e) → Fails e broken → IfErr r (λ f. Fails f broken)
+fails_by (Ok x) e broken is h = tt
+fails_by (Err f) e broken is h = subst (λ (d : ReadFault). Fails d broken) (sym is) h
+
+-- ---- steps of one fault
+
+hold_on : {A : Type 0} (b c : Bool) (x : Option A) (w : A) → x ≡ cond c None (Some w) → cond b x (Some w) ≡ cond (b && c) None (Some w)
+hold_on true c x w h = h
+hold_on false c x w h = refl
+
+-- the fault comes where some step is broken
+pub same_fault : {X : Type 0} (p : X → Bool) (fault : ReadFault) (xs : List X) → first_broken (map (λ x. step (p x) fault) xs) ≡ cond (list_all p xs) None (Some fault)
+same_fault p fault [] = refl
+same_fault p fault (x ∷ xs) = hold_on (p x) (list_all p xs) (first_broken (map (λ y. step (p y) fault) xs)) fault (same_fault p fault xs)

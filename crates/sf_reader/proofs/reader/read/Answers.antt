@@ -1,0 +1,49 @@
+use Rattle.std.proofs.Common.{◌∙◌, ap, subst, sym}
+use Rattle.bank_core.specs.Valid.{IsValid}
+use Rattle.bank_core.specs.Fits.{Fits}
+use Rattle.bank_format.specs.Reading.{Content}
+use Rattle.bank_format.specs.ReadSteps.{fault_of}
+use Rattle.bank_format.proofs.ReadValid.{read_valid, read_fits}
+use Rattle.sf_reader.proofs.ByteLemmas.{are_bytes}
+use Rattle.sf_reader.proofs.StepLaws.{fails_by}
+use Rattle.sf_reader.proofs.ReadLaws.{in_frame, in_lists, in_content, file_holds}
+use Rattle.sf_reader.proofs.reader.read.Goals as goal
+
+pub returns-in_err-window-clause-err : goal.returns-in_err-window-clause-err
+returns-in_err-window-clause-err c =
+    let file = c.args.file.now in
+    let e = c.in_err-window.field-0.0 in
+    fails_by c.from_residual.result e (fault_of file) c.from_residual.ensures.1 (in_frame file e c.in_err-window.ensures)
+
+pub returns-in_err-lists-clause-err : goal.returns-in_err-lists-clause-err
+returns-in_err-lists-clause-err c =
+    let file = c.args.file.now in
+    let e = c.in_err-lists.field-0.0 in
+    fails_by c.from_residual-in_err-lists.result e (fault_of file) c.from_residual-in_err-lists.ensures.1
+    (in_lists file e c.in_ok-window.window.now c.in_ok-window.ensures.1 c.in_ok-window.ensures.0 c.in_err-lists.ensures)
+
+pub returns-in_err-parts-clause-err : goal.returns-in_err-parts-clause-err
+returns-in_err-parts-clause-err c =
+    let file = c.args.file.now in
+    let e = c.in_err-parts.field-0.0 in
+    fails_by c.from_residual-in_err-parts.result e (fault_of file) c.from_residual-in_err-parts.ensures.1
+    (in_content file e c.in_ok-window.window.now c.in_ok-lists.lists c.in_ok-window.ensures.1 c.in_ok-lists.ensures.1 c.in_ok-window.ensures.0 c.in_ok-lists.ensures.0 c.in_err-parts.ensures)
+
+pub from_valid_parts-requires : goal.from_valid_parts-requires
+from_valid_parts-requires c =
+    let file = c.args.file.now in
+    let bytes = are_bytes file c.type_inv.file in
+    let holds = file_holds file c.in_ok-window.window.now c.in_ok-lists.lists c.in_ok-window.ensures.1 c.in_ok-lists.ensures.1 c.in_ok-window.ensures.0 c.in_ok-lists.ensures.0 c.in_ok-parts.ensures.0 in
+    let content = c.in_ok-parts.ensures.1 ∙ holds.1 in
+    subst IsValid (sym (ap (λ (k : Content). k.bank) content)) (read_valid file bytes holds.0)
+
+pub returns-clause-ok : goal.returns-clause-ok
+returns-clause-ok c =
+    let holds = file_holds c.args.file.now c.in_ok-window.window.now c.in_ok-lists.lists c.in_ok-window.ensures.1 c.in_ok-lists.ensures.1 c.in_ok-window.ensures.0 c.in_ok-lists.ensures.0 c.in_ok-parts.ensures.0 in
+    rw c.from_valid_parts.ensures (holds.0, sym (c.in_ok-parts.ensures.1 ∙ holds.1))
+
+pub returns-clause-fits : goal.returns-clause-fits
+returns-clause-fits c =
+    let file = c.args.file.now in
+    let bytes = are_bytes file c.type_inv.file in
+    subst Fits (ap (λ (k : Content). k.bank) (returns-clause-ok c).1) (read_fits file bytes)

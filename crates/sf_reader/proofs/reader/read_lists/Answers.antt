@@ -1,0 +1,121 @@
+use Rattle.std.proofs.Common.{◌≡◌, ◌∙◌, ℕ, List, Result, ap, sym, subst}
+use Rattle.std.specs.Result.{IsErrAnd}
+use Rattle.bank_core.specs.declared.parts.Parts.{Parts}
+use Rattle.bank_format.specs.declared.fault.Counts.{Counts}
+use Rattle.bank_format.specs.declared.fault.ReadFault.{ReadFault}
+use Rattle.bank_format.specs.Ids.{IFIL}
+use Rattle.bank_format.specs.Steps.{first_broken, Fails, Passes}
+use Rattle.bank_format.specs.Reading.{Content}
+use Rattle.sf_reader.specs.Lists.{Windows}
+use Rattle.sf_reader.specs.Content.{list_content_steps, list_content, table_content}
+use Rattle.sf_reader.proofs.StepLaws.{passes_by}
+use Rattle.sf_reader.proofs.ReadLaws.{Opened, Cut, in_there, in_nine, in_version, in_whole, in_tables, lists_hold}
+use Rattle.sf_reader.proofs.reader.read_lists.Goals as goal
+
+-- the pair that the reader gives, as the definition has it
+abbrev seen : Parts × Counts → Content
+seen r = record { bank = r.0; counts = r.1 }
+
+abbrev windows : List ℕ → List ℕ → List ℕ → Windows
+windows info sdta pdta = record { info = info; sdta = sdta; pdta = pdta }
+
+-- a fault of the windows v, which are those of the lists
+stops : (r : Result (Parts × Counts) ReadFault) (e : ReadFault) (v w : Windows) → v ≡ w → IsErrAnd r (λ d. d ≡ e) → Fails e (first_broken (list_content_steps v))
+    → Passes seen r (list_content_steps w) (list_content w)
+stops r e v w same is h =
+    passes_by seen (list_content w) r e (list_content_steps w) is (subst (λ (u : Windows). Fails e (first_broken (list_content_steps u))) same h)
+
+pub returns-in_err-version : goal.returns-in_err-version
+unfolding IFIL
+returns-in_err-version c =
+    let v = c.lists.inside in
+    let w = windows v.info.now v.sdta.now v.pdta.now in
+    let e = c.in_err-version.field-0.0 in
+    stops c.from_residual.result e w c.args.lists.now c.lists.view_is c.from_residual.ensures.1 (in_there w e c.in_err-version.ensures)
+
+pub returns-in_err-bodies : goal.returns-in_err-bodies
+unfolding IFIL
+returns-in_err-bodies c =
+    let v = c.lists.inside in
+    let w = windows v.info.now v.sdta.now v.pdta.now in
+    let e = c.in_err-bodies.field-0.0 in
+    stops c.from_residual-in_err-bodies.result e w c.args.lists.now c.lists.view_is c.from_residual-in_err-bodies.ensures.1
+    (in_nine w e c.in_ok-version.ensures.0 c.in_err-bodies.ensures)
+
+pub returns-in_err-minor : goal.returns-in_err-minor
+unfolding IFIL
+returns-in_err-minor c =
+    let v = c.lists.inside in
+    let w = windows v.info.now v.sdta.now v.pdta.now in
+    let e = c.in_err-minor.field-0.0 in
+    let opened : Opened w c.in_ok-version.version.now c.in_ok-bodies.bodies = record {
+      there = c.in_ok-version.ensures.0;
+      version_is = c.in_ok-version.ensures.1;
+      nine = c.in_ok-bodies.ensures.0;
+      bodies_are = c.in_ok-bodies.ensures.1;
+    } in
+    stops c.from_residual-in_err-minor.result e w c.args.lists.now c.lists.view_is c.from_residual-in_err-minor.ensures.1
+    (in_version w e c.in_ok-version.version.now c.in_ok-bodies.bodies opened c.in_err-minor.ensures)
+
+pub returns-in_err-tables : goal.returns-in_err-tables
+unfolding IFIL
+returns-in_err-tables c =
+    let v = c.lists.inside in
+    let w = windows v.info.now v.sdta.now v.pdta.now in
+    let e = c.in_err-tables.field-0.0 in
+    let opened : Opened w c.in_ok-version.version.now c.in_ok-bodies.bodies = record {
+      there = c.in_ok-version.ensures.0;
+      version_is = c.in_ok-version.ensures.1;
+      nine = c.in_ok-bodies.ensures.0;
+      bodies_are = c.in_ok-bodies.ensures.1;
+    } in
+    stops c.from_residual-in_err-tables.result e w c.args.lists.now c.lists.view_is c.from_residual-in_err-tables.ensures.1
+    (in_whole w e c.in_ok-version.version.now c.in_ok-bodies.bodies opened c.in_ok-minor.ensures.0 c.in_err-tables.ensures)
+
+pub returns-in_err-check_tables : goal.returns-in_err-check_tables
+unfolding IFIL
+returns-in_err-check_tables c =
+    let v = c.lists.inside in
+    let w = windows v.info.now v.sdta.now v.pdta.now in
+    let e = c.in_err-check_tables.field-0.0 in
+    let opened : Opened w c.in_ok-version.version.now c.in_ok-bodies.bodies = record {
+      there = c.in_ok-version.ensures.0;
+      version_is = c.in_ok-version.ensures.1;
+      nine = c.in_ok-bodies.ensures.0;
+      bodies_are = c.in_ok-bodies.ensures.1;
+    } in
+    let found : Cut w c.in_ok-version.version.now c.in_ok-bodies.bodies c.in_ok-minor.minor c.in_ok-tables.tables c.smpl_of-smpl.result.now = record {
+      opened = opened;
+      version_holds = c.in_ok-minor.ensures.0;
+      minor_is = c.in_ok-minor.ensures.1;
+      whole = c.in_ok-tables.ensures.0;
+      tables_are = c.in_ok-tables.ensures.1;
+      smpl_is = c.smpl_of-smpl.ensures;
+    } in
+    stops c.from_residual-in_err-check_tables.result e w c.args.lists.now c.lists.view_is c.from_residual-in_err-check_tables.ensures.1
+    (in_tables w e c.in_ok-version.version.now c.in_ok-bodies.bodies c.in_ok-minor.minor c.in_ok-tables.tables c.smpl_of-smpl.result.now found c.in_err-check_tables.ensures.passes)
+
+pub returns-in-Ok : goal.returns-in-Ok
+unfolding IFIL
+returns-in-Ok c =
+    let v = c.lists.inside in
+    let w = windows v.info.now v.sdta.now v.pdta.now in
+    let opened : Opened w c.in_ok-version.version.now c.in_ok-bodies.bodies = record {
+      there = c.in_ok-version.ensures.0;
+      version_is = c.in_ok-version.ensures.1;
+      nine = c.in_ok-bodies.ensures.0;
+      bodies_are = c.in_ok-bodies.ensures.1;
+    } in
+    let found : Cut w c.in_ok-version.version.now c.in_ok-bodies.bodies c.in_ok-minor.minor c.in_ok-tables.tables c.smpl_of-smpl.result.now = record {
+      opened = opened;
+      version_holds = c.in_ok-minor.ensures.0;
+      minor_is = c.in_ok-minor.ensures.1;
+      whole = c.in_ok-tables.ensures.0;
+      tables_are = c.in_ok-tables.ensures.1;
+      smpl_is = c.smpl_of-smpl.ensures;
+    } in
+    let same = c.lists.view_is in
+    let hold = lists_hold w c.in_ok-version.version.now c.in_ok-bodies.bodies c.in_ok-minor.minor c.in_ok-tables.tables c.smpl_of-smpl.result.now found c.in_ok-check_tables.ensures.passes.0 in (
+      ap (λ (u : Windows). first_broken (list_content_steps u)) (sym same) ∙ hold.0,
+      c.in-Ok.ensures ∙ ap (λ (u : Windows). table_content c.in_ok-minor.minor u c.in_ok-tables.tables c.smpl_of-smpl.result.now) (sym same) ∙ hold.1 ∙ ap list_content same,
+    )

@@ -1,0 +1,12 @@
+use Rattle.std.proofs.Common.{◌≡◌, ◌≤◌, ◌+◌, ◌-◌, take}
+use Rattle.std.specs.Prelude.{sum_by}
+use Rattle.bank_format.specs.Tables.{rows}
+use Rattle.sf_reader.proofs.samples.check_total.Given as goal
+
+-- the points so far and those of the heads that are left are all
+abbrev pub invariant-loop-head : goal.invariant-loop-head
+invariant-loop-head l =
+    (goal.iterator-loop-head).can_next l.head-iterator
+    × (goal.iterator-loop-head).is_finite l.head-iterator
+    × (l.total + sum_by (λ h. h.end - h.start + 46) (take l.head-iterator.n l.head-iterator.iter) ≡ sum_by (λ h. h.end - h.start + 46) (rows l.heads))
+    × (l.total ≤ 500000000)

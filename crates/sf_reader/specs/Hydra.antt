@@ -1,0 +1,88 @@
+-- The nine lists of records, before and after their bytes are cut into records.
+use Rattle.std.specs.Prelude.{◌==◌, ◌%◌, ◌++◌, ℕ, List, [], ◌∷◌, length}
+use Rattle.riff_chunks.specs.Walk.{Chunk}
+use Rattle.hydra_records.specs.Records.{records}
+use Rattle.hydra_records.specs.Spelling.{preset_head_of, bag_of, modulator_of, generator_of, instrument_head_of, sample_head_of}
+use Rattle.bank_format.specs.declared.fault.ReadFault.TheVariants.{RecordSize}
+use Rattle.bank_format.specs.Ids as id
+use Rattle.bank_format.specs.Steps.{Step, step}
+use Rattle.bank_format.specs.Tables.{Tables}
+use Rattle.bank_format.specs.Chunks.{body_in, or_zero}
+use Rattle.bank_format.specs.ReadSteps.{index_steps, bag_steps}
+use Rattle.sf_reader.specs.declared.hydra.LevelChunks.{LevelChunks}
+use Rattle.sf_reader.specs.declared.hydra.Level.{Level}
+
+-- ---- bytes
+
+-- the bodies of the nine chunks
+pub record Bodies : Type 0 where
+  pub phdr : List ℕ
+  pub pbag : List ℕ
+  pub pmod : List ℕ
+  pub pgen : List ℕ
+  pub inst : List ℕ
+  pub ibag : List ℕ
+  pub imod : List ℕ
+  pub igen : List ℕ
+  pub shdr : List ℕ
+
+-- the first body of each id
+unfoldable pub bodies_in : List Chunk → Bodies
+bodies_in pdta = record {
+  phdr = body_in id.PHDR pdta;
+  pbag = body_in id.PBAG pdta;
+  pmod = body_in id.PMOD pdta;
+  pgen = body_in id.PGEN pdta;
+  inst = body_in id.INST pdta;
+  ibag = body_in id.IBAG pdta;
+  imod = body_in id.IMOD pdta;
+  igen = body_in id.IGEN pdta;
+  shdr = body_in id.SHDR pdta;
+}
+
+-- ---- records
+
+-- a body is whole records of a size long
+abbrev pub whole_step : ℕ → List ℕ → Step
+whole_step size body = step (length body % size == 0) RecordSize
+
+-- each of the nine is
+unfoldable pub whole_steps : Bodies → List Step
+whole_steps b =
+    whole_step 38 b.phdr ∷ whole_step 4 b.pbag ∷ whole_step 10 b.pmod ∷ whole_step 4 b.pgen
+    ∷ whole_step 22 b.inst ∷ whole_step 4 b.ibag ∷ whole_step 10 b.imod ∷ whole_step 4 b.igen
+    ∷ whole_step 46 b.shdr
+    ∷ []
+
+-- the nine lists in those bytes
+unfoldable pub tables_from : Bodies → Tables
+tables_from b = record {
+  phdr = records 38 preset_head_of b.phdr;
+  pbag = records 4 bag_of b.pbag;
+  pmod = or_zero (records 10 modulator_of b.pmod);
+  pgen = records 4 generator_of b.pgen;
+  inst = records 22 instrument_head_of b.inst;
+  ibag = records 4 bag_of b.ibag;
+  imod = or_zero (records 10 modulator_of b.imod);
+  igen = records 4 generator_of b.igen;
+  shdr = records 46 sample_head_of b.shdr;
+}
+
+-- ---- presets, or instruments
+
+-- each of the four bodies is whole records long, where a head has a size
+abbrev pub level_whole_steps : ℕ → LevelChunks → List Step
+level_whole_steps size c = whole_step size c.heads.now ∷ whole_step 4 c.bags.now ∷ whole_step 10 c.modulators.now ∷ whole_step 4 c.generators.now ∷ []
+
+-- the four lists in those bytes
+abbrev pub level_of : {H : Type 0} → ℕ → (List ℕ → H) → LevelChunks → Level H
+level_of size of_bytes c = record {
+  heads = records size of_bytes c.heads.now;
+  bags = records 4 bag_of c.bags.now;
+  modulators = records 10 modulator_of c.modulators.now;
+  generators = records 4 generator_of c.generators.now;
+}
+
+-- where the first bags of the heads, and the generators and modulators of the bags, may lie
+abbrev pub level_index_steps : {H : Type 0} → List ℕ → Level H → List Step
+level_index_steps first_bags l = index_steps first_bags (length l.bags) ++ bag_steps l.bags (length l.generators) (length (or_zero l.modulators))

@@ -1,0 +1,10 @@
+pub use Rattle.bank_core.specs.Valid
+pub use Rattle.bank_core.specs.Fits
+pub use Rattle.bank_format.specs.Steps
+pub use Rattle.bank_format.specs.Chunks
+pub use Rattle.bank_format.specs.Reading
+pub use Rattle.bank_format.specs.ReadSteps
+pub mod Lists
+pub mod Hydra
+pub mod Texts
+pub mod Content

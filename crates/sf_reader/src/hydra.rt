@@ -1,0 +1,245 @@
+//! The nine lists of records that `pdta` holds (SoundFont 2.04, section 7).
+ghost use Rattle.std.specs.Prelude.{◌≡◌, [], ◌∷◌, length, map, nat_le};
+ghost use Rattle.std.specs.List.{list_all};
+ghost use Rattle.bank_format.specs.Steps.{Passes};
+ghost use Rattle.bank_format.specs.Chunks.{body_in, or_zero};
+ghost use Rattle.bank_format.specs.ReadSteps.{chunk_step, nine, record_counts, count_steps, later_steps, all_index_steps};
+ghost use Rattle.sf_reader.specs.Lists.{chunks};
+ghost use Rattle.sf_reader.specs.Hydra.{bodies_in, whole_steps, tables_from, level_whole_steps, level_of, level_index_steps};
+
+use crate::indexes::{FirstBag, FirstGenerator, FirstModulator, Index, check_indexes};
+use bank_format::ReadFault;
+use hydra_records::{Bag, Generator, InstrumentHead, PresetHead, Record, SampleHead, Table};
+use modulators::Modulator;
+use riff_chunks::body_of;
+use sf_base::limits::RECORDS;
+use std::marker::Model;
+
+/// The body of the first chunk of an id, which has to be there.
+pub(crate) fn needed_body(window: &[u8], id: [u8; 4]) -> Result<&[u8], ReadFault>
+    ensures { Passes (λ body. body.now) result (chunk_step (chunks window.now) id ∷ [])
+        (body_in id (chunks window.now)) }
+{
+    body_of(window, id).ok_or(ReadFault::MissingChunk)
+}
+
+/// The bodies of the four chunks of presets, or of instruments.
+#[derive(Clone, Copy)]
+pub(crate) struct LevelChunks<'a> {
+    heads: &'a [u8],
+    bags: &'a [u8],
+    modulators: &'a [u8],
+    generators: &'a [u8],
+}
+
+/// The bodies of the nine chunks of `pdta`.
+#[derive(Drop)]
+pub(crate) struct HydraChunks<'a> {
+    presets: LevelChunks<'a>,
+    instruments: LevelChunks<'a>,
+    samples: &'a [u8],
+}
+
+impl<'a> Model for HydraChunks<'a> {
+    ghost use Rattle.sf_reader.specs.Hydra.{Bodies};
+
+    ghost Value = { Bodies };
+
+    ghost view = { λ c. record {
+      phdr = c.presets.heads.now;
+      pbag = c.presets.bags.now;
+      pmod = c.presets.modulators.now;
+      pgen = c.presets.generators.now;
+      inst = c.instruments.heads.now;
+      ibag = c.instruments.bags.now;
+      imod = c.instruments.modulators.now;
+      igen = c.instruments.generators.now;
+      shdr = c.samples.now;
+    } };
+}
+
+impl<'a> HydraChunks<'a> {
+    /// The first chunk of each of the nine ids, all of which have to be there.
+    #[tactic(auto, unfolding(crate::specs::Hydra::bodies_in, bank_format::specs::Ids::PHDR, bank_format::specs::Ids::PBAG, bank_format::specs::Ids::PMOD, bank_format::specs::Ids::PGEN, bank_format::specs::Ids::INST, bank_format::specs::Ids::IBAG, bank_format::specs::Ids::IMOD, bank_format::specs::Ids::IGEN, bank_format::specs::Ids::SHDR))]
+    pub fn of(pdta: &'a [u8]) -> Result<HydraChunks<'a>, ReadFault>
+        ensures { Passes (λ bodies. bodies) result (map (chunk_step (chunks pdta.now)) nine)
+            (bodies_in (chunks pdta.now)) }
+    {
+        Ok(HydraChunks {
+            presets: LevelChunks {
+                heads: needed_body(pdta, *b"phdr")?,
+                bags: needed_body(pdta, *b"pbag")?,
+                modulators: needed_body(pdta, *b"pmod")?,
+                generators: needed_body(pdta, *b"pgen")?,
+            },
+            instruments: LevelChunks {
+                heads: needed_body(pdta, *b"inst")?,
+                bags: needed_body(pdta, *b"ibag")?,
+                modulators: needed_body(pdta, *b"imod")?,
+                generators: needed_body(pdta, *b"igen")?,
+            },
+            samples: needed_body(pdta, *b"shdr")?,
+        })
+    }
+
+    /// The nine lists, each of which has to be whole records long.
+    #[tactic(auto, unfolding(crate::specs::Hydra::whole_steps, crate::specs::Hydra::tables_from))]
+    pub fn tables(&self) -> Result<Tables<'a>, ReadFault>
+        ensures { Passes (λ tables. tables) result (whole_steps self.now) (tables_from self.now) }
+    {
+        Ok(Tables {
+            presets: self.presets.tables()?,
+            instruments: self.instruments.tables()?,
+            samples: Table::over(self.samples).ok_or(ReadFault::RecordSize)?,
+        })
+    }
+}
+
+/// The four lists of presets, or of instruments.
+#[derive(Drop)]
+pub(crate) struct Level<'a, H: Record> {
+    heads: Table<'a, H>,
+    bags: Table<'a, Bag>,
+    modulators: Table<'a, Modulator>,
+    generators: Table<'a, Generator>,
+}
+
+impl<'a> LevelChunks<'a> {
+    // The four lists, each of which has to be whole records long.
+    fn tables<H: Record>(&self) -> Result<Level<'a, H>, ReadFault>
+        ensures { Passes (λ level. level) result (level_whole_steps H.SIZE self.now)
+            (level_of H.SIZE H.of_bytes self.now) }
+    {
+        Ok(Level {
+            heads: Table::over(self.heads).ok_or(ReadFault::RecordSize)?,
+            bags: Table::over(self.bags).ok_or(ReadFault::RecordSize)?,
+            modulators: Table::over(self.modulators).ok_or(ReadFault::RecordSize)?,
+            generators: Table::over(self.generators).ok_or(ReadFault::RecordSize)?,
+        })
+    }
+}
+
+impl<'a, H: Record + Copy> Level<'a, H> {
+    // How many modulators there are; a list of none reads as one zero record.
+    fn modulator_count(&self) -> usize
+        ensures { result ≡ length (or_zero self.now.modulators) }
+    {
+        self.modulators.len().max(1)
+    }
+
+    // Each head says where its bags begin, and each bag where its generators and modulators do.
+    #[tactic(auto, unfolding(bank_format::specs::ReadSteps::index_steps))]
+    fn check_indexes(&self) -> Result<(), ReadFault>
+    where
+        FirstBag: Index<H>,
+        ensures { Passes (λ u. u) result
+            (level_index_steps (map ⟦<FirstBag as Index<H>>⟧.index self.now.heads) self.now) tt }
+    {
+        check_indexes::<H, FirstBag>(&self.heads, self.bags.len())?;
+        check_indexes::<Bag, FirstGenerator>(&self.bags, self.generators.len())?;
+        check_indexes::<Bag, FirstModulator>(&self.bags, self.modulator_count())
+    }
+}
+
+/// The nine lists. A list of modulators that holds none is seen as one zero record.
+#[derive(Drop)]
+pub(crate) struct Tables<'a> {
+    presets: Level<'a, PresetHead>,
+    instruments: Level<'a, InstrumentHead>,
+    samples: Table<'a, SampleHead>,
+}
+
+impl<'a> Model for Tables<'a> {
+    ghost use Rattle.bank_format.specs.Tables as nine_lists;
+    ghost use Rattle.bank_format.specs.Chunks.{or_zero};
+
+    ghost Value = { nine_lists.Tables };
+
+    ghost view = { λ t. record {
+      phdr = t.presets.heads;
+      pbag = t.presets.bags;
+      pmod = or_zero t.presets.modulators;
+      pgen = t.presets.generators;
+      inst = t.instruments.heads;
+      ibag = t.instruments.bags;
+      imod = or_zero t.instruments.modulators;
+      igen = t.instruments.generators;
+      shdr = t.samples;
+    } };
+}
+
+impl<'a> Tables<'a> {
+    /// The heads of the samples, and their terminal.
+    pub fn samples(&self) -> &Table<'a, SampleHead>
+        ensures { result.now ≡ self.now.shdr }
+    {
+        &self.samples
+    }
+
+    // How many records each of the nine has.
+    fn counts(&self) -> [usize; 9]
+        ensures { result ≡ record_counts self.now }
+    {
+        [
+            self.presets.heads.len(),
+            self.presets.bags.len(),
+            self.presets.modulator_count(),
+            self.presets.generators.len(),
+            self.instruments.heads.len(),
+            self.instruments.bags.len(),
+            self.instruments.modulator_count(),
+            self.instruments.generators.len(),
+            self.samples.len(),
+        ]
+    }
+
+    /// Each of the nine has a terminal, and none has too many records.
+    #[tactic(auto, using(crate::proofs::StepLaws::same_fault), unfolding(bank_format::specs::ReadSteps::count_steps))]
+    pub fn check_counts(&self) -> Result<(), ReadFault>
+        ensures { Passes (λ u. u) result (count_steps self.now) tt }
+    {
+        let counts = self.counts();
+        if !all_at_least(1, &counts) {
+            return Err(ReadFault::NoTerminal);
+        }
+        if !all_at_most(RECORDS, &counts) {
+            return Err(ReadFault::TooMany);
+        }
+        Ok(())
+    }
+
+    /// For now no list but that of the samples has more than its terminal.
+    #[tactic(auto, unfolding(bank_format::specs::ReadSteps::later_steps))]
+    pub fn check_later(&self) -> Result<(), ReadFault>
+        ensures { Passes (λ u. u) result (later_steps self.now) tt }
+    {
+        let counts = self.counts();
+        let other_than_samples = &counts[..8];
+        if !all_at_most(1, other_than_samples) {
+            return Err(ReadFault::LaterPart);
+        }
+        Ok(())
+    }
+
+    /// The indexes of each list rise, and lie in the list that they point into.
+    pub fn check_indexes(&self) -> Result<(), ReadFault>
+        ensures { Passes (λ u. u) result (all_index_steps self.now) tt }
+    {
+        self.presets.check_indexes()?;
+        self.instruments.check_indexes()
+    }
+}
+
+// Whether no count is below the least.
+fn all_at_least(least: usize, counts: &[usize]) -> bool
+    ensures { result ≡ list_all (λ count. nat_le least count) counts.now }
+{
+    counts.iter().all(|count| *count >= least)
+}
+
+// Whether no count is above the most.
+fn all_at_most(most: usize, counts: &[usize]) -> bool
+    ensures { result ≡ list_all (λ count. nat_le count most) counts.now }
+{
+    counts.iter().all(|count| *count <= most)
+}

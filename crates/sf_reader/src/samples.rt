@@ -1,0 +1,235 @@
+//! The samples of a file (SoundFont 2.04, section 7.10).
+ghost use Rattle.std.specs.Prelude.{◌≡◌, ◌+◌, ◌-◌, ◌%◌, ◌/◌, ◌==◌, not, flat_map, length, map, take, count_by, slice_range, IfOk};
+ghost use Rattle.std.specs.Iterator.Adapters.{take_source, take_count};
+ghost use Rattle.sf_base.specs.Names.{before_zero};
+ghost use Rattle.sample_view.specs.Words.{words};
+ghost use Rattle.bank_format.specs.Steps.{Passes};
+ghost use Rattle.bank_format.specs.Tables.{rows};
+ghost use Rattle.bank_format.specs.Samples.{has_loop, loop_read, kind_read, sample_read, is_loop_lost, is_link_lost};
+ghost use Rattle.bank_format.specs.Reading.{samples_read};
+ghost use Rattle.bank_format.specs.ReadSteps.{sample_step, total_steps};
+
+use crate::texts::before_zero;
+use bank_core::{Kind, Sample};
+use bank_format::ReadFault;
+use hydra_records::{Records, SampleHead, Table};
+use numbered_lists::NumberedList;
+use sample_view::Points;
+use sf_base::limits::{POINTS, ZERO_POINTS};
+use sf_base::{Name20, OutOfMemory, part_of};
+use std::alloc::Global;
+use std::iter::Take;
+
+/// The type of a sample that stands alone.
+const MONO: u16 = 1;
+
+/// The type of the right one of two samples.
+const RIGHT: u16 = 2;
+
+/// The type of the left one of two samples.
+const LEFT: u16 = 4;
+
+/// The type of a sample that is linked with others.
+const LINKED: u16 = 8;
+
+/// The bit of a type by which the points are packed.
+const PACKED: u16 = 0x0010;
+
+/// The bit of a type by which the points are in ROM.
+const ROM: u16 = 0x8000;
+
+// How many samples there are: all heads but the last, which is the terminal.
+fn row_count(heads: &Table<SampleHead>) -> usize
+    ensures { result ≡ length (rows heads.now) }
+{
+    heads.len().saturating_sub(1)
+}
+
+// The heads of the samples.
+fn rows<'a>(heads: &Table<'a, SampleHead>) -> Take<Records<'a, SampleHead>>
+    ensures { take (take_count result) (take_source result) ≡ rows heads.now }
+{
+    heads.iter().take(row_count(heads))
+}
+
+/// Each sample can be read, and its points are among so many.
+pub(crate) fn check_samples(heads: &Table<SampleHead>, points: usize) -> Result<(), ReadFault>
+    ensures { Passes (λ u. u) result (flat_map (sample_step points) (rows heads.now)) tt }
+{
+    for head in rows(heads) {
+        check_sample(&head, points)?;
+    }
+    Ok(())
+}
+
+// The sample is neither packed nor in ROM, and its points are among as many as there are.
+#[tactic(auto, unfolding(bank_format::specs::ReadSteps::sample_step))]
+fn check_sample(head: &SampleHead, points: usize) -> Result<(), ReadFault>
+    ensures { Passes (λ u. u) result (sample_step points head.now) tt }
+{
+    if is_packed(head.kind) {
+        return Err(ReadFault::SampleType);
+    }
+    if is_in_rom(head.kind) {
+        return Err(ReadFault::RomSample);
+    }
+    if head.end < head.start || points < head.end as usize {
+        return Err(ReadFault::SampleRange);
+    }
+    Ok(())
+}
+
+/// All samples together, with the zero points that follow each, are few enough.
+#[tactic(auto, unfolding(bank_format::specs::ReadSteps::total_steps))]
+pub(crate) fn check_total(heads: &Table<SampleHead>) -> Result<(), ReadFault>
+    ensures { Passes (λ u. u) result (total_steps (rows heads.now)) tt }
+{
+    let mut total = 0;
+    for head in rows(heads) {
+        total += u64::from(point_count(&head)) + ZERO_POINTS as u64;
+        if total > POINTS {
+            return Err(ReadFault::TooMany);
+        }
+    }
+    Ok(())
+}
+
+// How many points a sample has.
+fn point_count(head: &SampleHead) -> u32
+    ensures { result ≡ head.now.end - head.now.start }
+{
+    head.end.saturating_sub(head.start)
+}
+
+/// The samples, whose points lie among those of `smpl`.
+pub(crate) fn read_samples<'a>(
+    alloc: Global,
+    heads: &Table<SampleHead>,
+    smpl: &'a [u8],
+) -> Result<NumberedList<Sample<'a>>, OutOfMemory>
+    requires { length smpl.now % 2 ≡ 0 }
+    ensures { IfOk result (λ samples. samples ≡ samples_read (words smpl.now) (rows heads.now)) }
+{
+    let count = row_count(heads);
+    let mut samples = Vec::with_capacity(alloc, count)?;
+    for head in rows(heads) {
+        samples.push(read_sample(alloc, &head, count, smpl))?;
+    }
+    Ok(NumberedList::from_vec(samples))
+}
+
+// One sample of `count`.
+#[tactic(auto, unfolding(bank_format::specs::Samples::sample_read))]
+fn read_sample<'a>(alloc: Global, head: &SampleHead, count: usize, smpl: &'a [u8]) -> Sample<'a>
+    requires { length smpl.now % 2 ≡ 0 }
+    ensures { result ≡ sample_read count (words smpl.now) head.now }
+{
+    Sample {
+        name: name_of(&head.name),
+        points: points_of(alloc, head, smpl),
+        looped: loop_of(head),
+        rate: head.rate,
+        key: head.key,
+        correction: head.correction,
+        kind: kind_of(head, count),
+    }
+}
+
+// The name in a field of a head.
+fn name_of(field: &[u8; 20]) -> Name20
+    ensures { result ≡ before_zero field.now }
+{
+    Name20::from_bytes(before_zero(field)).unwrap()
+}
+
+// Its points, of those in `smpl`.
+fn points_of<'a>(alloc: Global, head: &SampleHead, smpl: &'a [u8]) -> Points<'a>
+    requires { length smpl.now % 2 ≡ 0 }
+    ensures { result ≡ slice_range (words smpl.now) head.now.start head.now.end }
+{
+    let start = head.start as usize;
+    let count = point_count(head) as usize;
+    Points::of_slice(alloc, part_of(smpl, 2 * start, 2 * count)).unwrap()
+}
+
+// Whether its loop has a point and lies in the sample.
+fn has_loop(head: &SampleHead) -> bool
+    ensures { result ≡ has_loop head.now }
+{
+    head.start <= head.loop_start && head.loop_start < head.loop_end && head.loop_end <= head.end
+}
+
+// Its loop, counted from its start.
+#[tactic(auto, unfolding(bank_format::specs::Samples::loop_read))]
+fn loop_of(head: &SampleHead) -> Option<(u32, u32)>
+    ensures { result ≡ loop_read head.now }
+{
+    if !has_loop(head) {
+        return None;
+    }
+    Some((head.loop_start - head.start, head.loop_end - head.start))
+}
+
+// Its kind, among `count` samples.
+#[tactic(auto, unfolding(bank_format::specs::Samples::kind_read))]
+fn kind_of(head: &SampleHead, count: usize) -> Kind
+    ensures { result ≡ kind_read count head.now }
+{
+    if head.link as usize >= count {
+        return Kind::Mono;
+    }
+    match head.kind {
+        RIGHT => Kind::Right(head.link),
+        LEFT => Kind::Left(head.link),
+        LINKED => Kind::Linked(head.link),
+        _ => Kind::Mono,
+    }
+}
+
+/// How many loops do not lie in their sample, though their ends differ.
+pub(crate) fn count_lost_loops(heads: &Table<SampleHead>) -> u64
+    ensures { result ≡ count_by is_loop_lost (rows heads.now) }
+{
+    rows(heads).filter(|head| is_loop_lost(head)).count() as u64
+}
+
+// Whether it has no loop, though its ends differ.
+#[tactic(auto, unfolding(bank_format::specs::Samples::is_loop_lost))]
+fn is_loop_lost(head: &SampleHead) -> bool
+    ensures { result ≡ is_loop_lost head.now }
+{
+    !has_loop(head) && head.loop_start != head.loop_end
+}
+
+/// How many samples have a type that is none but not 0, or a link that names no sample.
+pub(crate) fn count_lost_links(heads: &Table<SampleHead>) -> u64
+    ensures { result ≡ count_by (is_link_lost (length (rows heads.now))) (rows heads.now) }
+{
+    let count = row_count(heads);
+    rows(heads).filter(|head| is_link_lost(head, count)).count() as u64
+}
+
+// Whether its type is none but not 0, or its link names none of `count` samples.
+#[tactic(auto, unfolding(bank_format::specs::Samples::is_link_lost))]
+fn is_link_lost(head: &SampleHead, count: usize) -> bool
+    ensures { result ≡ is_link_lost count head.now }
+{
+    match head.kind {
+        RIGHT | LEFT | LINKED => head.link as usize >= count,
+        kind => kind != MONO && kind != 0,
+    }
+}
+
+// Whether the points are packed.
+fn is_packed(kind: u16) -> bool
+    ensures { result ≡ not (kind / 16 % 2 == 0) }
+{
+    kind & PACKED != 0
+}
+
+// Whether the points are in ROM.
+fn is_in_rom(kind: u16) -> bool
+    ensures { result ≡ not (kind / 32768 % 2 == 0) }
+{
+    kind & ROM != 0
+}

@@ -1,0 +1,105 @@
+//! The eight texts of a file (SoundFont 2.04, section 5).
+ghost use Rattle.std.specs.Prelude.{◌≡◌, ◌≤◌, ◌==◌, take};
+ghost use Rattle.sf_base.specs.Names.{before_zero};
+ghost use Rattle.bank_format.specs.Texts.{text_in, engine_read, over};
+ghost use Rattle.sf_reader.specs.Lists.{chunks};
+ghost use Rattle.sf_reader.specs.Texts.{texts_in, cut_of, cut_count};
+
+use bank_core::{Text, Texts};
+use riff_chunks::body_of;
+use sf_base::front_of;
+use sf_base::limits::{COMMENT_LENGTH, TEXT_LENGTH};
+
+/// The bytes before the first zero.
+pub(crate) fn before_zero(bytes: &[u8]) -> &[u8]
+    ensures { result.now ≡ before_zero bytes.now }
+{
+    let end = bytes
+        .iter()
+        .position(|byte| *byte == 0)
+        .unwrap_or(bytes.len());
+    front_of(bytes, end)
+}
+
+/// The eight texts of the list `INFO`, before any is cut. A missing one is empty.
+#[tactic(auto, unfolding(crate::specs::Texts::texts_in, bank_format::specs::Ids::ISNG, bank_format::specs::Ids::INAM, bank_format::specs::Ids::ICRD, bank_format::specs::Ids::IENG, bank_format::specs::Ids::IPRD, bank_format::specs::Ids::ICOP, bank_format::specs::Ids::ICMT, bank_format::specs::Ids::ISFT))]
+pub(crate) fn texts_of(info: &[u8]) -> Texts
+    ensures { result ≡ texts_in (chunks info.now) }
+{
+    Texts {
+        engine: text_of(info, *b"isng"),
+        name: text_of(info, *b"INAM"),
+        date: text_of(info, *b"ICRD"),
+        engineers: text_of(info, *b"IENG"),
+        product: text_of(info, *b"IPRD"),
+        copyright: text_of(info, *b"ICOP"),
+        comment: text_of(info, *b"ICMT"),
+        software: text_of(info, *b"ISFT"),
+    }
+}
+
+// The first text of an id.
+fn text_of(info: &[u8], id: [u8; 4]) -> Text
+    ensures { result ≡ text_in id (chunks info.now) }
+{
+    let body = body_of(info, id).unwrap_or(&[]);
+    Text::from_bytes(before_zero(body))
+}
+
+/// The texts as a bank has them: cut to the lengths that a bank allows, and with an engine.
+#[tactic(auto, unfolding(crate::specs::Texts::cut_of))]
+pub(crate) fn cut_texts<'a>(texts: &Texts<'a>) -> Texts<'a>
+    ensures { result ≡ cut_of texts.now }
+{
+    Texts {
+        engine: engine_or_default(front_of(texts.engine.bytes(), TEXT_LENGTH)),
+        name: cut(&texts.name, TEXT_LENGTH),
+        date: cut(&texts.date, TEXT_LENGTH),
+        engineers: cut(&texts.engineers, TEXT_LENGTH),
+        product: cut(&texts.product, TEXT_LENGTH),
+        copyright: cut(&texts.copyright, TEXT_LENGTH),
+        comment: cut(&texts.comment, COMMENT_LENGTH),
+        software: cut(&texts.software, TEXT_LENGTH),
+    }
+}
+
+// The first `most` bytes of a text.
+fn cut<'a>(text: &Text<'a>, most: usize) -> Text<'a>
+    ensures { result ≡ take most text.now }
+{
+    Text::from_bytes(front_of(text.bytes(), most))
+}
+
+// The engine that a file names, or else the one for which every bank can be taken.
+#[tactic(auto, unfolding(bank_format::specs::Ids::EMU8000))]
+fn engine_or_default(engine: &[u8]) -> Text
+    ensures { result ≡ engine_read engine.now }
+{
+    if engine.is_empty() {
+        return Text::from_bytes(b"EMU8000");
+    }
+    Text::from_bytes(engine)
+}
+
+/// How many of the texts are longer than a bank allows.
+#[tactic(auto, unfolding(crate::specs::Texts::cut_count))]
+pub(crate) fn count_cut(texts: &Texts) -> u64
+    ensures { result ≡ cut_count texts.now }
+{
+    over(&texts.engine, TEXT_LENGTH)
+        + over(&texts.name, TEXT_LENGTH)
+        + over(&texts.date, TEXT_LENGTH)
+        + over(&texts.engineers, TEXT_LENGTH)
+        + over(&texts.product, TEXT_LENGTH)
+        + over(&texts.copyright, TEXT_LENGTH)
+        + over(&texts.comment, COMMENT_LENGTH)
+        + over(&texts.software, TEXT_LENGTH)
+}
+
+// One where a text is longer.
+fn over(text: &Text, most: usize) -> u64
+    ensures value { result ≡ over most text.now }
+    ensures small { result ≤ 1 }
+{
+    u64::from(text.bytes().len() > most)
+}

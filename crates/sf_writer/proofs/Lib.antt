@@ -1,0 +1,5 @@
+pub mod SentLemmas
+pub mod TextLemmas
+pub mod PointLemmas
+pub mod RecordLemmas
+pub mod FileLemmas

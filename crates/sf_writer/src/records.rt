@@ -1,0 +1,66 @@
+//! The list `pdta`: nine lists of records (SoundFont 2.04, section 7).
+ghost use Rattle.std.specs.Prelude.{◌≡◌, ◌+◌, ◌<◌, ◌≤◌, ◌^◌, ◌++◌, length};
+ghost use Rattle.sf_base.specs.Writing.{Sends};
+ghost use Rattle.riff_chunks.specs.Spelling.{spell};
+ghost use Rattle.bank_format.specs.Canon.{pdta};
+ghost use Rattle.bank_format.specs.Ids.{PDTA};
+ghost use Rattle.bank_format.specs.Tables.{tables_of};
+ghost use Rattle.sf_writer.specs.Lists.{list_bytes};
+
+use crate::chunks::{FORM_HEAD_SIZE, write_form_head};
+use crate::instrument_lists::{instrument_lists_size, write_instrument_lists};
+use crate::preset_lists::{preset_lists_size, write_preset_lists};
+use crate::sample_heads::{shdr_size, write_shdr};
+use bank_core::Bank;
+use riff_chunks::{ChunkWriter, LIST_ID};
+use sf_base::WriteFault;
+use std::io::Write;
+
+// How many bytes the list has, its head counted.
+#[tactic(auto, using(crate::proofs::RecordLemmas::pdta_list))]
+pub(crate) fn pdta_size(bank: &Bank<'_>) -> u32
+    ensures value { result ≡ length (list_bytes PDTA (pdta (tables_of bank.now))) }
+    ensures small { result < 2 ^ 25 }
+{
+    FORM_HEAD_SIZE + lists_size(bank)
+}
+
+// How many bytes the nine lists have.
+#[tactic(auto, using(crate::proofs::RecordLemmas::pdta_parts))]
+fn lists_size(bank: &Bank<'_>) -> u32
+    ensures value { result ≡ length (spell (pdta (tables_of bank.now))) }
+    ensures small { result < 2 ^ 24 }
+{
+    preset_lists_size() + instrument_lists_size() + shdr_size(bank)
+}
+
+// Writes the list.
+#[tactic(auto, using(crate::proofs::RecordLemmas::pdta_list), unfolding(bank_format::specs::Ids::PDTA, riff_chunks::specs::Walk::LIST))]
+pub(crate) fn write_pdta<W: Write>(
+    writer: ChunkWriter,
+    out: &mut W,
+    bank: &Bank<'_>,
+) -> Result<ChunkWriter, WriteFault>
+    requires { writer + length (list_bytes PDTA (pdta (tables_of bank.now))) < 2 ^ 64 }
+    ensures { Sends (W.contents out.old) (W.contents out.new) writer
+        (list_bytes PDTA (pdta (tables_of bank.now))) result }
+{
+    let writer = write_form_head(writer, out, LIST_ID, *b"pdta", lists_size(bank))?;
+    write_lists(writer, out, bank)
+}
+
+// Writes the nine lists in it.
+#[tactic(auto, using(crate::proofs::RecordLemmas::pdta_parts))]
+fn write_lists<W: Write>(
+    writer: ChunkWriter,
+    out: &mut W,
+    bank: &Bank<'_>,
+) -> Result<ChunkWriter, WriteFault>
+    requires { writer + length (spell (pdta (tables_of bank.now))) < 2 ^ 64 }
+    ensures { Sends (W.contents out.old) (W.contents out.new) writer
+        (spell (pdta (tables_of bank.now))) result }
+{
+    let writer = write_preset_lists(writer, out)?;
+    let writer = write_instrument_lists(writer, out)?;
+    write_shdr(writer, out, bank)
+}

@@ -1,0 +1,93 @@
+-- Why a run is not done: the faults of its parts.
+use Rattle.std.proofs.Common.{◌≡◌, ◌⊎◌, inl, inr, ℕ, List, Option, None, Ok, Err, refl, sym, ap, ◌∙◌}
+use Rattle.bank_core.specs.declared.parts.Parts.{Parts}
+use Rattle.bank_format.specs.declared.fault.Counts.{Counts}
+use Rattle.bank_format.specs.declared.fault.ReadFault.{ReadFault}
+use Rattle.bank_format.specs.declared.fault.ReadFault.TheVariants as reading
+use Rattle.bank_format.specs.Canon.{canon}
+use Rattle.bank_format.specs.Chunks.{window}
+use Rattle.bank_format.specs.Reading.{Content, content_in}
+use Rattle.bank_format.specs.ReadSteps.{fault_of}
+use Rattle.bank_format.specs.Steps.{Fails}
+use Rattle.bank_edits.specs.declared.edit.Edit.{Edit}
+use Rattle.edit_script.specs.declared.parsing.Line.{Line}
+use Rattle.edit_script.specs.declared.fault.ScriptFault.{ScriptFault}
+use Rattle.edit_script.specs.declared.fault.ScriptFault.TheVariants as scripts
+use Rattle.edit_script.specs.Script.{script_of, pool_bytes}
+use Rattle.edit_script.specs.Printing.{texts_of}
+use Rattle.sfbank.specs.declared.fault.RunFault.{RunFault}
+use Rattle.sfbank.specs.declared.fault.RunFault.TheVariants as run
+use Rattle.sfbank.specs.Outcome.{Done, edits_of, RefusedLine, first_refused, both_texts, unless_refused, after_script, after_reading, bank_in, outcome}
+use Rattle.sfbank.specs.Written.{FailsBefore}
+use Rattle.sfbank.specs.Planned.{AllApplied, StopsAtScript, StopsAtLine, of_reading, of_script}
+
+-- ---- the script's fault
+
+-- the script has this fault, or memory ran out
+abbrev pub HasFault : List ℕ → ScriptFault → Type 0
+HasFault script fault = (fault ≡ scripts.OutOfMemory) ⊎ (script_of script ≡ Err fault)
+
+pub pool_fault : (script : List ℕ) (fault : ScriptFault) → (fault ≡ scripts.OutOfMemory) ⊎ (pool_bytes script ≡ Err fault) → HasFault script fault
+unfolding script_of
+pool_fault script fault (inl e) = inl e
+pool_fault script fault (inr e) = inr (rw e refl)
+
+pub stops_at_script : (script : List ℕ) (fault : ScriptFault) → HasFault script fault → StopsAtScript (of_script fault) (script_of script)
+stops_at_script script scripts.OutOfMemory h = tt
+stops_at_script script (scripts.Syntax n) (inl e) = absurd cc
+stops_at_script script (scripts.Syntax n) (inr e) = e
+stops_at_script script (scripts.Number n) (inl e) = absurd cc
+stops_at_script script (scripts.Number n) (inr e) = e
+stops_at_script script (scripts.Literal n) (inl e) = absurd cc
+stops_at_script script (scripts.Literal n) (inr e) = e
+
+-- ---- the file's fault
+
+pub at_read : (fault : ReadFault) (file script : List ℕ) → Fails fault (fault_of file) → FailsBefore (of_reading fault) (outcome file script)
+unfolding outcome
+at_read reading.OutOfMemory file script h = tt
+at_read fault file script h = ap (λ (o : Option ReadFault). after_reading o (bank_in file) script) h
+
+-- ---- a file that reads as a bank
+
+abbrev content : Parts → Counts → Content
+content b counts = record { bank = b; counts = counts }
+
+pub record ReadsBank (file : List ℕ) (b : Parts) : Type 0 where
+  pub unbroken : fault_of file ≡ None
+  pub bank : b ≡ bank_in file
+
+pub reads_bank : (file : List ℕ) (b : Parts) (counts : Counts) → fault_of file ≡ None → content_in (window file) ≡ content b counts → ReadsBank file b
+reads_bank file b counts h e = record { unbroken = h; bank = ap (λ (c : Content). c.bank) (sym e) }
+
+at_bank : (file script : List ℕ) (b : Parts) → ReadsBank file b → outcome file script ≡ after_script b (script_of script)
+unfolding outcome
+at_bank file script b r =
+    ap (λ (o : Option ReadFault). after_reading o (bank_in file) script) r.unbroken
+    ∙ ap (λ (x : Parts). after_script x (script_of script)) (sym r.bank)
+
+pub at_script : (file script : List ℕ) (b : Parts) (fault : RunFault) → ReadsBank file b → StopsAtScript fault (script_of script) → FailsBefore fault (outcome file script)
+at_script file script b (run.Script fault) r h = at_bank file script b r ∙ ap (after_script b) h
+at_script file script b run.Memory r h = tt
+at_script file script b (run.Read fault) r h = absurd h
+at_script file script b (run.Refused number refusal) r h = absurd h
+at_script file script b (run.Write which n) r h = h
+
+pub at_line : (file script : List ℕ) (b : Parts) (lines : List Line) (fault : RunFault) → ReadsBank file b → script_of script ≡ Ok lines
+    → StopsAtLine fault (first_refused b lines) → FailsBefore fault (outcome file script)
+at_line file script b lines (run.Refused number refusal) r e h =
+    at_bank file script b r ∙ ap (after_script b) e ∙ ap (λ (o : Option RefusedLine). unless_refused o (both_texts b (edits_of lines))) h
+at_line file script b lines run.Memory r e h = tt
+at_line file script b lines (run.Read fault) r e h = absurd h
+at_line file script b lines (run.Script fault) r e h = absurd h
+at_line file script b lines (run.Write which n) r e h = h
+
+abbrev texts : Parts → List Edit → Done
+texts b undo = record { out = canon b; undo = texts_of undo }
+
+pub at_done : (file script : List ℕ) (b new : Parts) (lines : List Line) (undo : List Edit) → ReadsBank file b → script_of script ≡ Ok lines
+    → AllApplied b new lines undo → outcome file script ≡ Ok (texts new undo)
+at_done file script b new lines undo r e a =
+    at_bank file script b r ∙ ap (after_script b) e
+    ∙ ap (λ (o : Option RefusedLine). unless_refused o (both_texts b (edits_of lines))) a.accepted
+    ∙ sym (λ i. Ok (texts (a.changed i) (a.taken_back i)))

@@ -1,0 +1,5 @@
+pub mod Applying
+pub mod Faults
+pub mod Lines
+pub mod Pieces
+pub mod Restores

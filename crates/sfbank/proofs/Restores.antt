@@ -1,0 +1,123 @@
+-- A run and the run of its undo text.
+use Rattle.std.proofs.Common.{◌≡◌, ◌≤◌, ℕ, suc, List, [], ◌∷◌, length, Option, Some, None, Ok, refl, sym, ap, ◌∙◌, arith}
+use Rattle.std.specs.List.{AllByRecursion}
+use Rattle.std.proofs.lemmas.List.{length-append, length-map}
+use Rattle.bank_core.specs.declared.parts.Parts.{Parts}
+use Rattle.bank_core.specs.Valid.{IsValid}
+use Rattle.bank_core.specs.Fits.{Fits}
+use Rattle.hydra_records.specs.Records.{AreBytes}
+use Rattle.bank_format.specs.declared.fault.ReadFault.{ReadFault}
+use Rattle.bank_format.specs.Canon.{canon}
+use Rattle.bank_format.specs.Reading.{Content}
+use Rattle.bank_format.specs.ReadSteps.{fault_of}
+use Rattle.bank_format.proofs.RoundTrip.{reads-again}
+use Rattle.bank_format.proofs.ReadValid.{read_valid, read_fits}
+use Rattle.bank_edits.specs.declared.edit.Edit.{Edit}
+use Rattle.bank_edits.specs.declared.edit.Refusal.{Refusal}
+use Rattle.bank_edits.specs.Edits.{FitsEdit, raw, refusal, inverse}
+use Rattle.inverse_edits.specs.Runs.{AllAccepted, after_all, undo_list}
+use Rattle.inverse_edits.proofs.RunLaw.{all_undone, fits_after_all}
+use Rattle.edit_script.specs.declared.parsing.Line.{Line}
+use Rattle.edit_script.specs.Script.{script_of}
+use Rattle.edit_script.specs.Printing.{texts_of, numbered}
+use Rattle.edit_script.proofs.LineLaws.{printed_spell}
+use Rattle.edit_script.proofs.FitLaws.{script_fits}
+use Rattle.edit_script.proofs.FewLaws.{script_few}
+use Rattle.sfbank.specs.Planned.{AllApplied, FewEdits}
+use Rattle.sfbank.specs.Outcome.{Done, edits_of, RefusedLine, or_else, first_refused, both_texts, unless_refused, after_script, after_reading, bank_in, outcome, IsUndone}
+
+-- ---- what a run that is done says
+
+-- no line is refused where the first refused is none
+or_none : (n : ℕ) (r : Option Refusal) (later : Option RefusedLine) → or_else n r later ≡ None → (r ≡ None) × (later ≡ None)
+or_none n None later e = (refl, e)
+or_none n (Some r) later e = absurd cc
+
+pub all_accepted : (b : Parts) (lines : List Line) → first_refused b lines ≡ None → AllAccepted b (edits_of lines)
+all_accepted b [] e = tt
+all_accepted b (l ∷ lines) e = let both = or_none l.number (refusal b l.edit) (first_refused (raw b l.edit) lines) e in (both.0, all_accepted (raw b l.edit) lines both.1)
+
+none_refused : (b : Parts) (n : ℕ) (es : List Edit) → AllAccepted b es → first_refused b (numbered n es) ≡ None
+none_refused b n [] h = refl
+none_refused b n (e ∷ es) h = rw h.0 (none_refused (raw b e) (suc n) es h.1)
+
+edits_numbered : (n : ℕ) (es : List Edit) → edits_of (numbered n es) ≡ es
+edits_numbered n [] = refl
+edits_numbered n (e ∷ es) = ap (λ (xs : List Edit). e ∷ xs) (edits_numbered (suc n) es)
+
+pub record ScriptDone (b : Parts) (lines : List Line) (done : Done) : Type 0 where
+  pub accepted : first_refused b lines ≡ None
+  pub texts : done ≡ both_texts b (edits_of lines)
+
+script_done : (b : Parts) (lines : List Line) (done : Done) → after_script b (Ok lines) ≡ Ok done → ScriptDone b lines done
+script_done b lines done h = by_what (first_refused b lines) refl h
+  where
+    by_what : (o : Option RefusedLine) → first_refused b lines ≡ o → unless_refused o (both_texts b (edits_of lines)) ≡ Ok done → ScriptDone b lines done
+    by_what None e h = record { accepted = e; texts = cc }
+    by_what (Some r) e h = absurd cc
+
+reading_done : (o : Option ReadFault) (b : Parts) (script : List ℕ) (done : Done) → after_reading o b script ≡ Ok done → (o ≡ None) × (after_script b (script_of script) ≡ Ok done)
+reading_done None b script done h = (refl, h)
+reading_done (Some f) b script done h = absurd cc
+
+-- ---- a run on a canonical file
+
+outcome_canon : (b : Parts) (script : List ℕ) → IsValid b → Fits b → outcome (canon b) script ≡ after_script b (script_of script)
+unfolding outcome
+outcome_canon b script v f =
+    let again = reads-again b v f in
+    ap (λ (o : Option ReadFault). after_reading o (bank_in (canon b)) script) again.0
+    ∙ ap (λ (c : Content). after_script c.bank (script_of script)) again.1
+
+-- accepted edits on lines of their own
+after_numbered : (b : Parts) (es : List Edit) → AllAccepted b es → after_script b (Ok (numbered 1 es)) ≡ Ok (both_texts b es)
+after_numbered b es h =
+    ap (λ (o : Option RefusedLine). unless_refused o (both_texts b (edits_of (numbered 1 es)))) (none_refused b 1 es h)
+    ∙ ap (λ (xs : List Edit). Ok (both_texts b xs)) (edits_numbered 1 es)
+
+length-undo_list : (b : Parts) (es : List Edit) → length (undo_list b es) ≡ length es
+length-undo_list b [] = refl
+length-undo_list b (e ∷ es) = let r = length-undo_list (raw b e) es in omega (arith, r, length-append (undo_list (raw b e) es) (inverse b e ∷ []))
+
+-- ---- the law
+
+-- the undo texts of edits, run on the written file
+run_back : (b : Parts) (es : List Edit) → length es ≤ 1 → IsValid b → Fits b → AllByRecursion FitsEdit es → AllAccepted b es
+    → outcome (canon (after_all b es)) (texts_of (undo_list b es)) ≡ Ok (record { out = canon b; undo = texts_of es })
+run_back b es few v f fits h =
+    let undone = all_undone b es v fits h in
+    let end : Parts = after_all b es in
+    let us : List Edit = undo_list b es in
+    let length_us = length-undo_list b es in
+    let spelled = printed_spell us (omega (arith, length_us, few)) undone.fits in
+    outcome_canon end (texts_of us) undone.valid (fits_after_all b es f fits)
+    ∙ ap (after_script end) spelled
+    ∙ after_numbered end us undone.accepted
+    ∙ (λ i. Ok (record { out = canon (undone.restored i); undo = texts_of (undone.redone i) }))
+
+lines_fit : (lines : List Line) → AllByRecursion (λ (l : Line). FitsEdit l.edit) lines → AllByRecursion FitsEdit (edits_of lines)
+lines_fit [] h = tt
+lines_fit (l ∷ lines) h = (h.0, lines_fit lines h.1)
+
+few_lines : (script : List ℕ) (lines : List Line) → script_of script ≡ Ok lines → length (edits_of lines) ≤ 1
+few_lines script lines e = let n = length-map lines (λ (l : Line). l.edit) in let m = script_few script lines e in omega (arith, n, m)
+
+-- the edits that take a script's edits back
+pub few_edits : (script : List ℕ) (b new : Parts) (lines : List Line) (undo : List Edit) → IsValid b → script_of script ≡ Ok lines → AllApplied b new lines undo → FewEdits undo
+few_edits script b new lines undo v e a =
+    let es = edits_of lines in
+    let undone = all_undone b es v (lines_fit lines (script_fits script lines e)) (all_accepted b lines a.accepted) in
+    let n = ap length a.taken_back in
+    let m = length-undo_list b es in
+    let few = few_lines script lines e in
+    (omega (arith, n, m, few), rw a.taken_back undone.fits)
+
+pub restores : (file script : List ℕ) → AreBytes file → IsUndone file script
+unfolding outcome
+restores file script bytes done lines h spelled =
+    let b = bank_in file in
+    let read = reading_done (fault_of file) b script done h in
+    let run = script_done b lines done (ap (after_script b) (sym spelled) ∙ read.1) in
+    let es = edits_of lines in
+    let back = run_back b es (few_lines script lines spelled) (read_valid file bytes read.0) (read_fits file bytes) (lines_fit lines (script_fits script lines spelled)) (all_accepted b lines run.accepted) in
+    ap (λ (d : Done). outcome d.out d.undo) run.texts ∙ back

@@ -1,0 +1,10 @@
+pub use Rattle.bank_format.specs.Canon
+pub use Rattle.bank_format.specs.ReadSteps
+pub use Rattle.inverse_edits.specs.Runs
+pub use Rattle.edit_script.specs.Script
+pub use Rattle.edit_script.specs.Printing
+pub mod Outcome
+pub mod Written
+pub mod Planned
+pub mod Plans
+pub mod FaultLines

@@ -1,0 +1,73 @@
+-- What a run writes, or why it does not, from the bytes that it is given.
+use Rattle.std.specs.Prelude.{◌≡◌, ℕ, List, [], ◌∷◌, map, Option, Some, None, Result, Ok, Err}
+use Rattle.bank_core.specs.declared.parts.Parts.{Parts}
+use Rattle.bank_format.specs.declared.fault.ReadFault.{ReadFault}
+use Rattle.bank_format.specs.Canon.{canon}
+use Rattle.bank_format.specs.Chunks.{window}
+use Rattle.bank_format.specs.Reading.{content_in}
+use Rattle.bank_format.specs.ReadSteps.{fault_of}
+use Rattle.bank_edits.specs.declared.edit.Edit.{Edit}
+use Rattle.bank_edits.specs.declared.edit.Refusal.{Refusal}
+use Rattle.bank_edits.specs.Edits.{raw, refusal}
+use Rattle.inverse_edits.specs.Runs.{after_all, undo_list}
+use Rattle.edit_script.specs.declared.parsing.Line.{Line}
+use Rattle.edit_script.specs.declared.fault.ScriptFault.{ScriptFault}
+use Rattle.edit_script.specs.Script.{script_of}
+use Rattle.edit_script.specs.Printing.{texts_of}
+use Rattle.sfbank.specs.declared.fault.RunFault.{RunFault}
+use Rattle.sfbank.specs.declared.fault.RunFault.TheVariants as run
+
+-- both texts of a run that is done
+pub record Done : Type 0 where
+  pub out : List ℕ
+  pub undo : List ℕ
+
+-- the edits of lines
+abbrev pub edits_of : List Line → List Edit
+edits_of lines = map (λ (l : Line). l.edit) lines
+
+-- a refused line, by its number
+pub record RefusedLine : Type 0 where
+  pub number : ℕ
+  pub refusal : Refusal
+
+abbrev pub or_else : ℕ → Option Refusal → Option RefusedLine → Option RefusedLine
+or_else number (Some r) later = Some (record { number = number; refusal = r })
+or_else number None later = later
+
+-- the first line that is refused, each edit in its turn
+abbrev pub first_refused : Parts → List Line → Option RefusedLine
+first_refused b [] = None
+first_refused b (l ∷ lines) = or_else l.number (refusal b l.edit) (first_refused (raw b l.edit) lines)
+
+-- the canonical file of the edited bank, and the lines that take the edits back, the last one's first
+abbrev pub both_texts : Parts → List Edit → Done
+both_texts b edits = record { out = canon (after_all b edits); undo = texts_of (undo_list b edits) }
+
+abbrev pub unless_refused : Option RefusedLine → Done → Result Done RunFault
+unless_refused (Some r) done = Err (run.Refused r.number r.refusal)
+unless_refused None done = Ok done
+
+abbrev pub after_script : Parts → Result (List Line) ScriptFault → Result Done RunFault
+after_script b (Ok lines) = unless_refused (first_refused b lines) (both_texts b (edits_of lines))
+after_script b (Err f) = Err (run.Script f)
+
+abbrev pub after_reading : Option ReadFault → Parts → List ℕ → Result Done RunFault
+after_reading (Some f) b script = Err (run.Read f)
+after_reading None b script = after_script b (script_of script)
+
+-- the bank that a file reads as
+abbrev pub bank_in : List ℕ → Parts
+bank_in file = (content_in (window file)).bank
+
+-- The first broken step of the file, else the first fault of the script, else the first refused line,
+-- else both texts.
+unfoldable pub outcome : List ℕ → List ℕ → Result Done RunFault
+outcome file script = after_reading (fault_of file) (bank_in file) script
+
+-- Where these bytes come to a run that is done, the undo text, run on the written file alone, is done
+-- too: it writes the canonical file of the first bank, and the script's edits as they are printed.
+abbrev pub IsUndone : List ℕ → List ℕ → Type 0
+IsUndone file script =
+    (done : Done) (lines : List Line) → outcome file script ≡ Ok done → script_of script ≡ Ok lines
+    → outcome done.out done.undo ≡ Ok (record { out = canon (bank_in file); undo = texts_of (edits_of lines) })

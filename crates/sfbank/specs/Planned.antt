@@ -1,0 +1,53 @@
+-- The parts of a run, before a byte goes out.
+use Rattle.std.specs.Prelude.{◌≡◌, ◌≤◌, ℕ, List, length, Option, Some, None, Result, Err}
+use Rattle.std.specs.List.{AllByRecursion}
+use Rattle.bank_core.specs.declared.parts.Parts.{Parts}
+use Rattle.bank_format.specs.declared.fault.ReadFault.{ReadFault}
+use Rattle.bank_format.specs.declared.fault.ReadFault.TheVariants as reading
+use Rattle.bank_edits.specs.declared.edit.Edit.{Edit}
+use Rattle.bank_edits.specs.declared.edit.Refusal.{Refusal}
+use Rattle.bank_edits.specs.declared.edit.Refusal.TheVariants as refusals
+use Rattle.bank_edits.specs.Edits.{FitsEdit}
+use Rattle.inverse_edits.specs.Runs.{after_all, undo_list}
+use Rattle.edit_script.specs.declared.parsing.Line.{Line}
+use Rattle.edit_script.specs.declared.fault.ScriptFault.{ScriptFault}
+use Rattle.edit_script.specs.declared.fault.ScriptFault.TheVariants as scripts
+use Rattle.sfbank.specs.declared.fault.RunFault.{RunFault}
+use Rattle.sfbank.specs.declared.fault.RunFault.TheVariants as run
+use Rattle.sfbank.specs.Outcome.{edits_of, RefusedLine, first_refused}
+
+-- what a fault of each part is in a run
+abbrev pub of_reading : ReadFault → RunFault
+of_reading reading.OutOfMemory = run.Memory
+of_reading fault = run.Read fault
+
+abbrev pub of_script : ScriptFault → RunFault
+of_script scripts.OutOfMemory = run.Memory
+of_script fault = run.Script fault
+
+abbrev pub of_refusal : ℕ → Refusal → RunFault
+of_refusal line refusals.OutOfMemory = run.Memory
+of_refusal line refusal = run.Refused line refusal
+
+-- a fault of the script, or want of memory
+abbrev pub StopsAtScript : RunFault → Result (List Line) ScriptFault → Type 0
+StopsAtScript (run.Script fault) script = script ≡ Err fault
+StopsAtScript run.Memory script = Unit {0}
+StopsAtScript fault script = ⊥
+
+-- the first refused line, or want of memory
+abbrev pub StopsAtLine : RunFault → Option RefusedLine → Type 0
+StopsAtLine (run.Refused number refusal) first = first ≡ Some (record { number = number; refusal = refusal })
+StopsAtLine run.Memory first = Unit {0}
+StopsAtLine fault first = ⊥
+
+-- all lines were applied to the first bank: what they made of it, and the edits that take them back,
+-- the last one's first
+pub record AllApplied (first now : Parts) (lines : List Line) (undo : List Edit) : Type 0 where
+  pub accepted : first_refused first lines ≡ None
+  pub changed : now ≡ after_all first (edits_of lines)
+  pub taken_back : undo ≡ undo_list first (edits_of lines)
+
+-- at most one edit, whose name is a name
+abbrev pub FewEdits : List Edit → Type 0
+FewEdits edits = (length edits ≤ 1) × AllByRecursion FitsEdit edits

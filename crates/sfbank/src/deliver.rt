@@ -1,0 +1,74 @@
+//! Both texts go out, each whole and flushed.
+ghost use Rattle.std.specs.Prelude.{◌≡◌};
+ghost use Rattle.sf_base.specs.Writing.{Sends};
+ghost use Rattle.bank_format.specs.Canon.{canon};
+ghost use Rattle.edit_script.specs.Printing.{texts_of};
+ghost use Rattle.sfbank.specs.declared.fault.Which.TheVariants.{Out, Undo};
+ghost use Rattle.sfbank.specs.Written.{Delivers, GoesOut};
+ghost use Rattle.sfbank.specs.Planned.{FewEdits};
+ghost use Rattle.sfbank.specs.Plans.{planned};
+
+use crate::fault::{RunFault, Which};
+use crate::plan::Plan;
+use bank_core::Bank;
+use bank_edits::Edit;
+use edit_script::print_after;
+use sf_base::{WriteFault, finish};
+use sf_writer::write_counted;
+use std::io::Write;
+
+/// The bank's file goes out, and then the undo text. It takes no memory.
+pub fn deliver<W: Write, V: Write>(
+    plan: &Plan<'_>,
+    out: &mut W,
+    undo: &mut V,
+) -> Result<(), RunFault>
+    requires { FewEdits plan.now.undo.items }
+    ensures { Delivers (record { out = W.contents out.old; out_new = W.contents out.new; undo = V.contents undo.old; undo_new = V.contents undo.new })
+        (planned plan.now) result }
+{
+    deliver_bank(&plan.bank, out)?;
+    deliver_undo(plan.undo.as_slice(), undo)
+}
+
+fn deliver_bank<W: Write>(bank: &Bank<'_>, out: &mut W) -> Result<(), RunFault>
+    ensures { GoesOut Out (W.contents out.old) (W.contents out.new) (canon bank.now) result }
+{
+    let sent = match write_counted(bank, out) {
+        Ok(sent) => sent,
+        Err(fault) => return Err(RunFault::Write(Which::Out, fault.written)),
+    };
+    match finish(out, sent) {
+        Ok(()) => Ok(()),
+        Err(fault) => Err(RunFault::Write(Which::Out, fault.written)),
+    }
+}
+
+fn deliver_undo<W: Write>(edits: &[Edit], out: &mut W) -> Result<(), RunFault>
+    requires { FewEdits edits.now }
+    ensures { GoesOut Undo (W.contents out.old) (W.contents out.new) (texts_of edits.now) result }
+{
+    let sent = match put_lines(edits, out) {
+        Ok(sent) => sent,
+        Err(fault) => return Err(RunFault::Write(Which::Undo, fault.written)),
+    };
+    match finish(out, sent) {
+        Ok(()) => Ok(()),
+        Err(fault) => Err(RunFault::Write(Which::Undo, fault.written)),
+    }
+}
+
+// The lines of the edits.
+fn put_lines<W: Write>(edits: &[Edit], out: &mut W) -> Result<u64, WriteFault>
+    requires { FewEdits edits.now }
+    ensures { Sends (W.contents out.old) (W.contents out.new) 0 (texts_of edits.now) result }
+{
+    let mut sent = 0;
+    for edit in edits {
+        match print_after(edit, out, sent) {
+            Ok(total) => sent = total,
+            Err(fault) => return Err(fault),
+        }
+    }
+    Ok(sent)
+}

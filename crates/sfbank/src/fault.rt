@@ -1,0 +1,32 @@
+//! How a run ends that is not done.
+use bank_edits::Refusal;
+use bank_format::ReadFault;
+use edit_script::ScriptFault;
+use thiserror::Error;
+
+/// Which of the two texts.
+#[derive(Clone, Copy, Debug, PartialEq, Eq)]
+pub enum Which {
+    Out,
+    Undo,
+}
+
+/// Why a run is not done.
+#[derive(Drop, Clone, Copy, Debug, PartialEq, Eq, Error)]
+pub enum RunFault {
+    /// The first step of reading that the file breaks.
+    #[error("{0}")]
+    Read(ReadFault),
+    /// The first fault of the script.
+    #[error("{0}")]
+    Script(ScriptFault),
+    /// The first refused line, and why it is refused.
+    #[error("line {0}: {1}")]
+    Refused(u64, Refusal),
+    /// A writer took exactly so many bytes of its text, or all of them where its flush failed.
+    #[error("write fault after {1} bytes")]
+    Write(Which, u64),
+    /// A growth was refused.
+    #[error("out of memory")]
+    Memory,
+}

@@ -1,0 +1,94 @@
+//! What a run will write, before a byte goes out.
+ghost use Rattle.std.specs.Prelude.{◌≡◌, OnOk, IfOk, MatchResult};
+ghost use Rattle.edit_script.specs.Script.{script_of};
+ghost use Rattle.sfbank.specs.Outcome.{first_refused, outcome, IsUndone};
+ghost use Rattle.sfbank.specs.Written.{Plans};
+ghost use Rattle.sfbank.specs.Planned.{AllApplied, StopsAtScript, StopsAtLine, FewEdits, of_reading, of_script, of_refusal};
+ghost use Rattle.sfbank.specs.Plans.{planned};
+
+use crate::fault::RunFault;
+use bank_core::Bank;
+use bank_edits::{Edit, Refusal, apply};
+use edit_script::{Line, ScriptFault, parse, pool_of};
+use sf_reader::{ReadFault, read};
+use std::alloc::Global;
+
+/// The edited bank, and the edits that take its edits back, the last one's first.
+#[derive(Drop)]
+pub struct Plan<'a> {
+    pub bank: Bank<'a>,
+    pub undo: Vec<Edit>,
+}
+
+/// Reads the file, and runs the script on its bank. Nothing goes out.
+pub fn make_plan<'a>(alloc: Global, file: &'a [u8], script: &[u8]) -> Result<Plan<'a>, RunFault>
+    ensures plans { Plans planned (outcome file.now script.now) result }
+    ensures restores { OnOk result (IsUndone file.now script.now) }
+    ensures few { IfOk result (λ plan. FewEdits plan.undo.items) }
+{
+    let mut bank = match read(alloc, file) {
+        Ok((bank, _counts)) => bank,
+        Err(fault) => return Err(fault_of_reading(fault)),
+    };
+    let lines = lines_of(alloc, script)?;
+    let undo = apply_all(alloc, &mut bank, lines.as_slice())?;
+    Ok(Plan { bank, undo })
+}
+
+fn fault_of_reading(fault: ReadFault) -> RunFault
+    ensures { result ≡ of_reading fault }
+{
+    match fault {
+        ReadFault::OutOfMemory => RunFault::Memory,
+        _ => RunFault::Read(fault),
+    }
+}
+
+fn fault_of_script(fault: ScriptFault) -> RunFault
+    ensures { result ≡ of_script fault }
+{
+    match fault {
+        ScriptFault::OutOfMemory => RunFault::Memory,
+        _ => RunFault::Script(fault),
+    }
+}
+
+fn fault_of_refusal(line: u64, refusal: Refusal) -> RunFault
+    ensures { result ≡ of_refusal line refusal }
+{
+    match refusal {
+        Refusal::OutOfMemory => RunFault::Memory,
+        _ => RunFault::Refused(line, refusal),
+    }
+}
+
+// The edits of the script, with their lines.
+fn lines_of(alloc: Global, script: &[u8]) -> Result<Vec<Line>, RunFault>
+    ensures { MatchResult result (λ lines. script_of script.now ≡ Ok lines.items)
+        (λ fault. StopsAtScript fault (script_of script.now)) }
+{
+    match pool_of(alloc, script) {
+        Ok(pool) => parse(alloc, script, pool.as_slice()).map_err(fault_of_script),
+        Err(fault) => Err(fault_of_script(fault)),
+    }
+}
+
+// Applies the edits in order, and gives those that take them back, the last one's first.
+fn apply_all(alloc: Global, bank: &mut Bank<'_>, lines: &[Line]) -> Result<Vec<Edit>, RunFault>
+    ensures { MatchResult result (λ undo. AllApplied bank.old bank.new lines.now undo.items)
+        (λ fault. StopsAtLine fault (first_refused bank.old lines.now)) }
+{
+    let mut inverses = Vec::new(alloc);
+    for line in lines {
+        match apply(alloc, bank, line.edit) {
+            Ok(inverse) => {
+                if inverses.push(inverse).is_err() {
+                    return Err(RunFault::Memory);
+                }
+            }
+            Err((refusal, _edit)) => return Err(fault_of_refusal(line.number, refusal)),
+        }
+    }
+    inverses.as_mut_slice().reverse();
+    Ok(inverses)
+}

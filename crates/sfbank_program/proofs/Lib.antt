@@ -1,0 +1,2 @@
+mod ReadInPlace
+mod ToldLines

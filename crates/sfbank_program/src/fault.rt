@@ -1,0 +1,15 @@
+//! How a command ends that is not done.
+use sfbank::RunFault;
+
+/// Why the program is not done.
+#[derive(Drop)]
+pub(crate) enum Fault<'a> {
+    /// The words are refused, by clap's text.
+    Words(clap::Error),
+    /// A word is not text.
+    NotText,
+    /// An input at this path can't be read, or is too long.
+    File(&'a str),
+    /// The run is not done. Where a write failed, it is at this path.
+    Run(RunFault, &'a str),
+}

@@ -1,0 +1,124 @@
+//! Inputs, which are read whole before anything else is done.
+ghost use Rattle.std.specs.Prelude.{◌≡◌, ◌≢◌, ◌+◌, ◌<◌, ◌≤◌, IfOk, IfErr, OnOk, vec_len, length, take, drop};
+ghost use Rattle.std.specs.Io.KnownBytes.{Consumes, IsAtEnd};
+ghost use Rattle.sfbank_program.specs.Inputs.{most_bytes, TakesPiece, TakesAll, TakesMost};
+ghost use Rattle.sfbank_program.specs.declared.input.InputFault.TheVariants.{TooLong, Unreadable, OutOfMemory};
+
+use crate::fault::Fault;
+use sf_base::limits::FILE_LENGTH;
+use sfbank::RunFault;
+use std::alloc::{AllocError, Global};
+use std::fs::{File, OpenFile};
+use std::io::Read;
+use std::rt::Files;
+
+/// The bytes that are asked of an input at once.
+const PIECE: usize = 262_144;
+
+/// The bytes that are read of an input at most: one past the limit shows that it is too long.
+const MOST: usize = FILE_LENGTH as usize + 1;
+
+/// Why an input is not there as a whole.
+#[derive(Clone, Copy, Debug, PartialEq, Eq)]
+pub enum InputFault {
+    /// A read answered an error.
+    Unreadable,
+    /// There are more bytes than a file has at most.
+    TooLong,
+    /// A growth was refused.
+    OutOfMemory,
+}
+
+impl From<AllocError> for InputFault {
+    ghost from_gives = { λ _ fault. fault ≡ OutOfMemory };
+
+    fn from(_error: AllocError) -> InputFault {
+        InputFault::OutOfMemory
+    }
+}
+
+/// Reads an input to its end, its first read error, or one byte past the limit. Room for `expected`
+/// bytes is taken at once, so an input of that length is held with nothing to spare.
+pub fn read_whole<R: Read>(
+    alloc: Global,
+    input: &mut R,
+    expected: u64,
+) -> Result<Vec<u8>, InputFault>
+    ensures whole { IfOk result (λ bytes. TakesAll (R.remaining input.old) (R.remaining input.new) bytes.items) }
+    ensures too_long { IfErr result (λ fault. fault ≡ TooLong → TakesMost (R.remaining input.old) (R.remaining input.new)) }
+{
+    let first = expected.min(FILE_LENGTH) as usize + 1;
+    let mut bytes = Vec::with_capacity(alloc, first)?;
+    while bytes.len() < MOST {
+        if read_piece(input, &mut bytes)? == 0 {
+            return Ok(bytes);
+        }
+    }
+    Err(InputFault::TooLong)
+}
+
+/// Reads the next bytes of an input after those that it gave before, and answers how many.
+fn read_piece<R: Read>(input: &mut R, bytes: &mut Vec<u8>) -> Result<usize, InputFault>
+    requires { vec_len bytes.old < most_bytes }
+    ensures within { OnOk result (vec_len bytes.new ≤ most_bytes) }
+    ensures taken { IfOk result (TakesPiece (R.remaining input.old) (R.remaining input.new) bytes.old.items bytes.new.items) }
+    ensures kinds { IfErr result (λ fault. fault ≢ TooLong) }
+{
+    let at = bytes.len();
+    add_room(bytes, PIECE.min(MOST - at))?;
+    let count = read_at(input, bytes.as_mut_slice(), at)?;
+    bytes.truncate(at + count);
+    Ok(count)
+}
+
+/// Puts room for a read of up to `most` bytes after the bytes: what the vector has, or what it takes
+/// where it has none.
+fn add_room(bytes: &mut Vec<u8>, most: usize) -> Result<(), AllocError>
+    requires positive { 0 < most }
+    requires bounded { vec_len bytes.old + most ≤ most_bytes }
+    ensures front { OnOk result (take (vec_len bytes.old) bytes.new.items ≡ bytes.old.items) }
+    ensures room { OnOk result (vec_len bytes.old < vec_len bytes.new) }
+    ensures within { OnOk result (vec_len bytes.new ≤ vec_len bytes.old + most) }
+{
+    let at = bytes.len();
+    if bytes.capacity() == at {
+        bytes.reserve(most)?;
+    }
+    let room = most.min(bytes.capacity() - at);
+    bytes.resize(at + room, 0)
+}
+
+/// One read, to place `at` of a buffer.
+fn read_at<R: Read>(input: &mut R, buffer: &mut [u8], at: usize) -> Result<usize, InputFault>
+    requires { at < length buffer.old }
+    ensures front { take at buffer.new ≡ take at buffer.old }
+    ensures len { length buffer.new ≡ length buffer.old }
+    ensures within { IfOk result (λ n. at + n ≤ length buffer.new) }
+    ensures taken { IfOk result (λ n. Consumes (R.remaining input.old) (R.remaining input.new) (take n (drop at buffer.new))) }
+    ensures end { IfOk result (λ n. n ≡ 0 → IsAtEnd (R.remaining input.new)) }
+    ensures kinds { IfErr result (λ fault. fault ≡ Unreadable) }
+{
+    match input.read(&mut buffer[at..]) {
+        Ok(count) => Ok(count),
+        Err(_) => Err(InputFault::Unreadable),
+    }
+}
+
+/// Reads the file at a path whole.
+pub(crate) fn read_file<'a, R: Files + AllocGlobal>(
+    rt: &R,
+    path: &'a str,
+) -> Result<Vec<u8>, Fault<'a>> {
+    let Ok(mut file) = File::open(rt, path) else {
+        return Err(Fault::File(path));
+    };
+    let expected = match file.metadata() {
+        Ok(metadata) => metadata.len(),
+        Err(_) => 0,
+    };
+    match read_whole(rt.alloc(), &mut file, expected) {
+        Ok(bytes) => Ok(bytes),
+        Err(InputFault::OutOfMemory) => Err(Fault::Run(RunFault::Memory, path)),
+        Err(InputFault::Unreadable | InputFault::TooLong) => Err(Fault::File(path)),
+    }
+}

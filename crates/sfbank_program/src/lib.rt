@@ -1,0 +1,18 @@
+//! The program: words in, an exit status out. It reads the files that the words name, calls the
+//! library, and tells how it ended.
+#![tactic(auto)]
+
+mod apply;
+mod fault;
+mod input;
+mod output;
+mod program;
+mod telling;
+mod words;
+
+pub use input::{InputFault, read_whole};
+pub use output::OutputFile;
+pub use program::{run, run_with_arguments};
+
+#[cfg(test)]
+mod tests;

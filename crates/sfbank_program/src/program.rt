@@ -1,0 +1,116 @@
+//! From words to an exit status.
+ghost use Rattle.sfbank_program.specs.Telling.{Ends};
+
+use crate::apply::apply;
+use crate::fault::Fault;
+use crate::telling::tell;
+use crate::words::{Request, request_of};
+use clap::error::ErrorKind;
+use sf_base::{finish, put_all};
+use sfbank::{RunFault, Which};
+use std::alloc::{AllocError, Global};
+use std::convert::AsStr;
+use std::env::Env;
+use std::io::Write;
+use std::rt::Files;
+use std::{env, io};
+
+/// The path by which the standard output is named in a fault.
+const STANDARD_OUTPUT: &str = "-";
+
+/// Runs the program on the words that it was started with, and answers its exit status.
+pub fn run_with_arguments<R: Env + Files + AllocGlobal, O: Write, E: Write>(
+    rt: &R,
+    output: &mut O,
+    errors: &mut E,
+) -> u8
+    ensures { Ends (E.contents errors.old) (E.contents errors.new) result }
+{
+    match arguments(rt) {
+        Ok(words) => run(rt, words.as_slice(), output, errors),
+        Err(fault) => tell(&fault, errors),
+    }
+}
+
+/// The words that the program was started with.
+fn arguments<R: Env + AllocGlobal>(rt: &R) -> Result<Vec<String>, Fault<'static>> {
+    let words = match env::args(rt) {
+        Ok(words) => words.collect(rt.alloc()),
+        Err(error) if error.kind() == io::ErrorKind::OutOfMemory => Err(AllocError),
+        Err(_) => return Err(Fault::NotText),
+    };
+    match words {
+        Ok(words) => Ok(words),
+        Err(AllocError) => Err(Fault::Run(RunFault::Memory, STANDARD_OUTPUT)),
+    }
+}
+
+/// Runs the program on its words, of which the first is its own name. Answers the exit status:
+///
+/// | status | when |
+/// |---|---|
+/// | 0 | done, or help or the version was asked for, which goes to `output` |
+/// | 1 | the words are refused |
+/// | 2 | the file is no bank |
+/// | 3 | the script has a fault |
+/// | 4 | an edit is refused |
+/// | 5 | an input can't be read or is too long, or an output can't be written |
+/// | 6 | want of memory |
+///
+/// Where it is not 0, one line (of clap's text, more) goes to `errors`. If that can't be written, the
+/// status is the same.
+pub fn run<R: Files + AllocGlobal, S: AsStr, O: Write, E: Write>(
+    rt: &R,
+    words: &[S],
+    output: &mut O,
+    errors: &mut E,
+) -> u8
+    ensures { Ends (E.contents errors.old) (E.contents errors.new) result }
+{
+    match serve(rt, words, output) {
+        Ok(()) => 0,
+        Err(fault) => tell(&fault, errors),
+    }
+}
+
+/// Does what the words ask for.
+fn serve<'a, R: Files + AllocGlobal, S: AsStr, O: Write>(
+    rt: &'a R,
+    words: &'a [S],
+    output: &mut O,
+) -> Result<(), Fault<'a>> {
+    match request_of(rt.alloc(), words) {
+        Ok(Request::Apply(paths)) => apply(rt, paths),
+        Err(error) => answer(rt.alloc(), error, output),
+    }
+}
+
+/// Writes help or the version to the standard output. Else clap refused the words.
+fn answer<'a, O: Write>(
+    alloc: Global,
+    error: clap::Error,
+    output: &mut O,
+) -> Result<(), Fault<'a>> {
+    if error.kind() == ErrorKind::OutOfMemory {
+        return Err(Fault::Run(RunFault::Memory, STANDARD_OUTPUT));
+    }
+    if error.use_stderr() {
+        return Err(Fault::Words(error));
+    }
+    let Ok(text) = format!(in alloc; "{error}") else {
+        return Err(Fault::Run(RunFault::Memory, STANDARD_OUTPUT));
+    };
+    show(text.as_str(), output)
+}
+
+/// Writes a text to the standard output.
+fn show<'a, O: Write>(text: &str, output: &mut O) -> Result<(), Fault<'a>> {
+    let sent = match put_all(output, text.as_bytes()) {
+        Ok(()) => finish(output, text.len() as u64),
+        Err(fault) => Err(fault),
+    };
+    match sent {
+        Ok(()) => Ok(()),
+        Err(fault) => Err(Fault::Run(RunFault::Write(Which::Out, fault.written), STANDARD_OUTPUT)),
+    }
+}

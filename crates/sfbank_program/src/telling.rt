@@ -1,0 +1,84 @@
+//! How a fault is told.
+ghost use Rattle.std.specs.Prelude.{◌≡◌, ◌<◌, ◌^◌, length, IfOk};
+ghost use Rattle.sf_base.specs.Writing.{Sends};
+ghost use Rattle.sfbank.specs.FaultLines.{status_of};
+ghost use Rattle.sfbank_program.specs.Telling.{file_line, path_line, Tells, status_of as status_of_fault};
+
+use crate::fault::Fault;
+use sf_base::{WriteFault, put_after, put_all};
+use sfbank::{RunFault, fault_text};
+use std::io::Write;
+
+const FILE_FAULT: &[u8] = b"sfbank: file fault ";
+
+const NOT_TEXT: &[u8] = b"error: a word is not text\n";
+
+/// Tells a fault, and answers the exit status, which is the same where it could not be told.
+pub(crate) fn tell<E: Write>(fault: &Fault<'_>, errors: &mut E) -> u8
+    ensures status { result ≡ status_of_fault fault.now }
+    ensures told { Tells (E.contents errors.old) (E.contents errors.new) fault.now }
+{
+    match fault {
+        Fault::Words(error) => {
+            let _ = write!(errors, "{error}");
+            1
+        }
+        Fault::NotText => {
+            let _ = put_all(errors, NOT_TEXT);
+            1
+        }
+        Fault::File(path) => {
+            let _ = put_file_fault(nameable(path), errors);
+            5
+        }
+        Fault::Run(fault, path) => {
+            let _ = fault_text(fault, nameable(path), errors);
+            status_of(fault)
+        }
+    }
+}
+
+/// The line of an input that can't be read, or is too long.
+#[tactic(auto, using(crate::proofs::ToldLines::lines))]
+fn put_file_fault<E: Write>(path: &str, errors: &mut E) -> Result<u64, WriteFault>
+    requires { length path.now < 2 ^ 32 }
+    ensures { Sends (E.contents errors.old) (E.contents errors.new) 0 (file_line path.now) result }
+{
+    let sent = put_after(errors, 0, FILE_FAULT)?;
+    put_path(sent, path, errors)
+}
+
+/// The path and the end of a line.
+#[tactic(auto, using(crate::proofs::ToldLines::lines))]
+fn put_path<E: Write>(sent: u64, path: &str, errors: &mut E) -> Result<u64, WriteFault>
+    requires short { length path.now < 2 ^ 32 }
+    requires fits { sent < 2 ^ 32 }
+    ensures { Sends (E.contents errors.old) (E.contents errors.new) sent (path_line path.now) result }
+{
+    let sent = put_after(errors, sent, path.as_bytes())?;
+    put_after(errors, sent, b"\n")
+}
+
+/// A path that a line can name, or none where it is longer than any path of a system.
+fn nameable(path: &str) -> &str
+    ensures short { length path.now < 2 ^ 32 → result.now ≡ path.now }
+    ensures bounded { length result.now < 2 ^ 32 }
+{
+    if path.len() > u32::MAX as usize {
+        return "";
+    }
+    path
+}
+
+/// The exit status of a run that is not done.
+fn status_of(fault: &RunFault) -> u8
+    ensures { result ≡ status_of fault.now }
+{
+    match fault {
+        RunFault::Read(_) => 2,
+        RunFault::Script(_) => 3,
+        RunFault::Refused(_, _) => 4,
+        RunFault::Write(_, _) => 5,
+        RunFault::Memory => 6,
+    }
+}

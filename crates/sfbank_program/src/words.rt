@@ -1,0 +1,83 @@
+//! The words of the program.
+ghost use Rattle.std.specs.Prelude.{IfSome, IsSome};
+ghost use Rattle.clap.specs.Words.{found_of};
+ghost use Rattle.sfbank_program.specs.Words.{NamesPaths, HasPaths};
+
+use clap::error::ErrorKind;
+use clap::{Arg, ArgAction, ArgMatches, Command, Error};
+use std::alloc::{AllocError, Global};
+use std::convert::AsStr;
+
+/// The program's name, by whatever path it was started.
+const NAME: &str = "sfbank";
+
+/// What the words ask for.
+pub(crate) enum Request<'a> {
+    /// Run a script on a bank.
+    Apply(ApplyPaths<'a>),
+}
+
+/// The paths of `apply`.
+#[derive(Clone, Copy)]
+pub(crate) struct ApplyPaths<'a> {
+    pub(crate) input: &'a str,
+    pub(crate) script: &'a str,
+    pub(crate) out: &'a str,
+    pub(crate) undo: &'a str,
+}
+
+/// What the words ask for. The first word is the program's name. Asking for help or the version is
+/// an error of clap's, which has their text.
+pub(crate) fn request_of<'a, S: AsStr>(
+    alloc: Global,
+    words: &'a [S],
+) -> Result<Request<'a>, Error> {
+    let mut command = sfbank_command(alloc)?;
+    let matches = command.try_get_matches_from_mut(words)?;
+    match chosen(&matches) {
+        Some(request) => Ok(request),
+        None => Err(command.error(ErrorKind::MissingSubcommand, "no command was given")?),
+    }
+}
+
+fn chosen<'a>(matches: &ArgMatches<'a>) -> Option<Request<'a>> {
+    let apply = matches.subcommand_matches("apply")?;
+    Some(Request::Apply(apply_paths(apply)?))
+}
+
+fn apply_paths<'a>(matches: &ArgMatches<'a>) -> Option<ApplyPaths<'a>>
+    ensures named { IfSome result (NamesPaths (found_of matches.now)) }
+    ensures given { HasPaths (found_of matches.now) → IsSome result }
+{
+    Some(ApplyPaths {
+        input: matches.get_str("IN")?,
+        script: matches.get_str("SCRIPT")?,
+        out: matches.get_str("OUT")?,
+        undo: matches.get_str("UNDO")?,
+    })
+}
+
+fn sfbank_command<'a>(alloc: Global) -> Result<Command<'a>, AllocError> {
+    Command::new(alloc, NAME)
+        .bin_name(NAME)?
+        .version("0.1.0")
+        .about(
+            "Edits SoundFont 2 banks by scripts, and writes the scripts that take the edits back",
+        )
+        .subcommand_required(true)
+        .arg_required_else_help(true)
+        .subcommand(apply_command(alloc)?)
+}
+
+fn apply_command<'a>(alloc: Global) -> Result<Command<'a>, AllocError> {
+    Command::new(alloc, "apply")
+        .about("Runs a script of edits on a bank, and writes the script that takes them back")
+        .arg(path(alloc, "IN").help("The bank to edit"))?
+        .arg(path(alloc, "SCRIPT").help("The edits, one a line"))?
+        .arg(path(alloc, "OUT").help("Where the edited bank is written; may be IN"))?
+        .arg(path(alloc, "UNDO").help("Where the script that takes the edits back is written"))
+}
+
+fn path<'a>(alloc: Global, name: &'a str) -> Arg<'a> {
+    Arg::new(alloc, name).required(true).action(ArgAction::Set)
+}
