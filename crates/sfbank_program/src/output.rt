@@ -1,5 +1,5 @@
 //! An output file, which is not there before its first write or flush.
-ghost use Rattle.std.specs.Prelude.{◌≡◌, ◌+◌, ◌-◌, ◌^◌, IfOk, OnErr, Option, None, List, ℕ, min};
+ghost use Rattle.std.specs.Prelude.{◌≡◌, ◌+◌, ◌-◌, ◌^◌, IfOk, OnErr, OnOk, IsSome, Option, None, List, ℕ, min};
 ghost use Rattle.std.specs.Io.{WritesAtMost};
 ghost use Rattle.std.specs.Io.KnownBytes.{WriteAppends, Keeps};
 
@@ -41,16 +41,11 @@ impl<'a, R: Files> OutputFile<'a, R> {
 }
 
 /// The file at a path, which is created or emptied where it is not open yet.
-fn opened<'f, R: Files>(
-    file: &'f mut Option<R::File>,
-    rt: &R,
-    path: &str,
-) -> io::Result<&'f mut R::File> {
-    let open = match file.take() {
-        Some(open) => open,
-        None => File::create(rt, path)?,
-    };
-    Ok(file.insert(open))
+fn opened<R: Files>(file: Option<R::File>, rt: &R, path: &str) -> io::Result<R::File> {
+    match file {
+        Some(file) => Ok(file),
+        None => File::create(rt, path),
+    }
 }
 
 impl<R: Files> Write for OutputFile<'_, R> {
@@ -59,8 +54,12 @@ impl<R: Files> Write for OutputFile<'_, R> {
         ensures bytes { WriteAppends None None result bytes.now }
         ensures counted { IfOk result (λ count. self.new.taken ≡ min (self.old.taken + count) (2 ^ 64 - 1)) }
         ensures kept { OnErr result (self.new.taken ≡ self.old.taken) }
+        ensures open { OnOk result (IsSome self.new.file) }
     {
-        let count = opened(&mut self.file, self.rt, self.path)?.write(bytes)?;
+        let mut file = opened(self.file.take(), self.rt, self.path)?;
+        let written = file.write(bytes);
+        self.file = Some(file);
+        let count = written?;
         let taken = &mut self.taken;
         *taken = taken.saturating_add(count as u64);
         Ok(count)
@@ -69,7 +68,11 @@ impl<R: Files> Write for OutputFile<'_, R> {
     fn flush(&mut self) -> io::Result<()>
         ensures bytes { Keeps None None }
         ensures kept { self.new.taken ≡ self.old.taken }
+        ensures open { OnOk result (IsSome self.new.file) }
     {
-        opened(&mut self.file, self.rt, self.path)?.flush()
+        let mut file = opened(self.file.take(), self.rt, self.path)?;
+        let flushed = file.flush();
+        self.file = Some(file);
+        flushed
     }
 }
