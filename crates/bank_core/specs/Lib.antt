@@ -1,6 +1,13 @@
 pub use Rattle.sf_base.specs.Names
 pub use Rattle.numbered_lists.specs.Moved
+pub use Rattle.generators.specs.Levels
+pub use Rattle.generators.specs.Ranges
+pub use Rattle.generators.specs.Gens
+pub use Rattle.modulators.specs.Modulators
 pub mod Texts
 pub mod Valid
 pub mod Fits
+pub mod Members
 pub mod Raw
+pub mod Faults
+pub mod Counts

@@ -1,13 +1,20 @@
 //! A bank that is always valid, and its raw changes.
-ghost use Rattle.std.specs.Prelude.{◌≡◌, ◌<◌, length, slice_get, IfSome};
+ghost use Rattle.std.specs.Prelude.{◌≡◌, ◌<◌, length, slice_get, IfSome, IfOk, IfErr, OnOk};
 ghost use Rattle.std.specs.Option.{option_copied};
 ghost use Rattle.bank_core.specs.Texts.{text_of};
+ghost use Rattle.bank_core.specs.Members.{member_count, head_of, instrument_name_of};
 ghost use Rattle.bank_core.specs.Valid.{IsValid};
+ghost use Rattle.bank_core.specs.Faults.{IsPartsFault};
 ghost use Rattle.bank_core.specs.Raw.{sample_renamed};
 
-use crate::parts::{Parts, Sample};
+use crate::copying::copy_parts;
+use crate::head::Head;
+use crate::members::Members;
+use crate::parts::{Instrument, Parts, Preset, Sample};
 use crate::texts::InfoId;
-use sf_base::Name20;
+use crate::validity::{PartsFault, is_valid};
+use sf_base::{Name20, OutOfMemory};
+use std::alloc::Global;
 use std::marker::Model;
 
 /// A valid bank. It borrows the bytes of the file, and of the script's pool.
@@ -19,8 +26,12 @@ pub struct Bank<'a> {
 impl<'a> Model for Bank<'a> {
     ghost use Rattle.bank_core.specs.declared.parts.Parts.{Parts};
     ghost use Rattle.bank_core.specs.Valid.{IsValid};
+    ghost use Rattle.generators.specs.contracts.gen_map.GenMap as gens;
+    ghost use Rattle.std.specs.Coded.{codes};
 
     ghost Value = { Parts };
+
+    ghost coded = { Prim.hlevel (codes, gens.the_row.coded) };
 
     ghost view = { λ bank. bank.parts };
 
@@ -34,6 +45,28 @@ impl<'a> Bank<'a> {
         ensures { result ≡ parts.entry }
     {
         Bank { parts }
+    }
+
+    /// The bank of these parts, if they are valid. It takes no memory and never answers want of it,
+    /// but another representation may.
+    pub fn from_parts(alloc: Global, parts: Parts<'a>) -> Result<Bank<'a>, PartsFault>
+        ensures value { IfOk result (λ bank. bank ≡ parts.entry) }
+        ensures valid { OnOk result (IsValid parts.entry) }
+        ensures fault { IfErr result (λ fault. IsPartsFault parts.entry fault) }
+    {
+        let _ = alloc;
+        if !is_valid(&parts) {
+            return Err(PartsFault::Invalid);
+        }
+        Ok(Bank::from_valid_parts(parts))
+    }
+
+    /// An equal bank in memory of its own. It copies no points: they stay in the file.
+    pub fn copy(&self, alloc: Global) -> Result<Bank<'a>, OutOfMemory>
+        ensures { IfOk result (λ copy. copy ≡ self.now) }
+    {
+        let parts = copy_parts(alloc, &self.parts)?;
+        Ok(Bank { parts })
     }
 
     /// The minor version of the format.
@@ -51,6 +84,22 @@ impl<'a> Bank<'a> {
         self.parts.texts.get(id)
     }
 
+    /// The presets, in order.
+    pub fn presets(&self) -> &[Preset]
+        ensures value { result.now ≡ self.now.presets }
+        ensures valid { IsValid self.now }
+    {
+        self.parts.presets.as_slice()
+    }
+
+    /// The instruments, in order.
+    pub fn instruments(&self) -> &[Instrument]
+        ensures value { result.now ≡ self.now.instruments }
+        ensures valid { IsValid self.now }
+    {
+        self.parts.instruments.as_slice()
+    }
+
     /// The samples, in order.
     pub fn samples(&self) -> &[Sample<'a>]
         ensures value { result.now ≡ self.now.samples }
@@ -64,6 +113,39 @@ impl<'a> Bank<'a> {
         ensures { option_copied result ≡ slice_get self.now.samples number }
     {
         self.parts.samples.get(number as usize)
+    }
+
+    /// How many members a list has.
+    pub fn count(&self, members: Members) -> usize
+        ensures { result ≡ member_count self.now members }
+    {
+        match members {
+            Members::Presets => self.parts.presets.len(),
+            Members::Instruments => self.parts.instruments.len(),
+            Members::Samples => self.parts.samples.len(),
+        }
+    }
+
+    /// The preset of this number without its zones, if there is one.
+    pub fn head(&self, preset: u32) -> Option<Head>
+        ensures { result ≡ head_of self.now preset }
+    {
+        let preset = self.parts.presets.get(preset as usize)?;
+        Some(Head {
+            name: preset.name,
+            number: preset.number,
+            bank: preset.bank,
+            library: preset.library,
+            genre: preset.genre,
+            morphology: preset.morphology,
+        })
+    }
+
+    /// The name of the instrument of this number, if there is one.
+    pub fn instrument_name(&self, instrument: u32) -> Option<Name20>
+        ensures { result ≡ instrument_name_of self.now instrument }
+    {
+        Some(self.parts.instruments.get(instrument as usize)?.name)
     }
 
     /// Gives a sample a name, and gives back the one that it had. Takes no memory.

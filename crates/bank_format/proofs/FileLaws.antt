@@ -1,97 +1,33 @@
--- The chunks of a bank read as the bank, with no counts, break no step, and are small enough for
--- their sizes.
-use Rattle.std.proofs.Common.{◌≡◌, ◌≤◌, ◌<◌, ◌+◌, ◌%◌, ◌^◌, ℕ, Bool, true, false, cond, eqb, List, [], ◌∷◌, ◌++◌, length, map, replicate, Option, None, refl, ap, ◌∙◌, arith, is_some}
-use Rattle.std.specs.Prelude.{flat_map, count_by}
+-- The chunks of a bank break no step, and are small enough for their sizes.
+use Rattle.std.proofs.Common.{◌≡◌, ◌≤◌, ◌<◌, ◌+◌, ◌%◌, ◌^◌, ℕ, Bool, true, false, cond, eqb, List, [], ◌∷◌, ◌++◌, length, replicate, None, refl, ap, ◌∙◌, arith}
+use Rattle.std.specs.Prelude.{flat_map}
 use Rattle.std.specs.List.{AllByRecursion}
 use Rattle.std.proofs.lemmas.Bool.{eq-eqb}
 use Rattle.std.proofs.lemmas.List.{length-append, length-replicate}
-use Rattle.std.proofs.lemmas.List.Sums.{sum_by-cons}
 use Rattle.sample_view.specs.Words.{word_bytes}
-use Rattle.sample_view.proofs.WordLemmas.{words_of_bytes, length-word_bytes}
+use Rattle.sample_view.proofs.WordLemmas.{length-word_bytes}
 use Rattle.riff_chunks.specs.Walk.{Chunk}
-use Rattle.riff_chunks.specs.Finding.{first_body}
 use Rattle.riff_chunks.specs.Spelling.{chunk, spell, FitsChunk}
 use Rattle.riff_chunks.proofs.SpellingLemmas.{length-chunk}
 use Rattle.bank_core.specs.Valid.{IsValid, point_total}
 use Rattle.bank_core.specs.Fits.{Fits}
-use Rattle.bank_core.specs.declared.parts.Sample.{Sample}
 use Rattle.bank_core.specs.declared.parts.Parts.{Parts}
 use Rattle.hydra_records.specs.declared.head.SampleHead.{SampleHead}
-use Rattle.bank_format.specs.Ids.{IFIL, ISNG, INAM, ICRD, IENG, IPRD, ICOP, ICMT, ISFT, SMPL, SM24, PHDR, PBAG, PMOD, PGEN, INST, IBAG, IMOD, IGEN, SHDR}
+use Rattle.hydra_records.specs.Spelling.{preset_head_bytes, bag_bytes, modulator_bytes, generator_bytes, instrument_head_bytes, sample_head_bytes}
+use Rattle.bank_format.specs.Ids.{IFIL, ISNG, INAM, ICRD, IENG, IPRD, ICOP, ICMT, ISFT, SMPL, PHDR, PBAG, PMOD, PGEN, INST, IBAG, IMOD, IGEN, SHDR}
 use Rattle.bank_format.specs.Steps.{first_broken}
-use Rattle.bank_format.specs.Tables.{Tables, rows, tables_of, all_points, points_written, sample_heads_from, sample_end}
+use Rattle.bank_format.specs.Windows.{rows}
+use Rattle.bank_format.specs.Tables.{Tables, tables_of, all_points}
 use Rattle.bank_format.specs.Texts.{text_body}
-use Rattle.bank_format.specs.Samples.{sample_read, is_loop_lost, is_link_lost}
 use Rattle.bank_format.specs.Canon.{made, text_chunk_if, version, info, sdta, pdta}
 use Rattle.bank_format.specs.Chunks.{points_in}
-use Rattle.bank_format.specs.Reading.{samples_read, bank_of, counts_of, no_counts, Content, content_of}
-use Rattle.bank_format.specs.ReadSteps.{chunk_steps, size_steps, count_steps, point_steps, later_steps, all_index_steps, sample_step, total_steps, content_steps}
+use Rattle.bank_format.specs.Reading.{bank_of}
+use Rattle.bank_format.specs.ReadSteps.{chunk_steps, size_steps, count_steps, point_steps, all_index_steps, sample_step, target_steps, total_steps, content_steps}
 use Rattle.bank_format.proofs.StepLemmas.{then_none}
-use Rattle.bank_format.proofs.TextLaws.{texts-again, texts_counted, minor-again}
-use Rattle.bank_format.proofs.SampleLaws.{rows-push, length-sample_heads, length-points_written, samples-again, loops_counted, links_counted, sample_steps_hold, total_steps_hold}
-use Rattle.bank_format.proofs.TableLaws.{Measured, measured, TablesCount, tables_fit, tables_count, count_steps_hold, size_steps_hold, later_steps_hold, index_steps_hold}
-
--- ---- points
-
-points-again : (b : Parts) → points_in (sdta b) ≡ all_points b
-unfolding points_in sdta SMPL
-points-again b = words_of_bytes (all_points b)
-
-length-flat_points : (ss : List Sample) → length (flat_map points_written ss) ≡ point_total ss
-length-flat_points [] = refl
-length-flat_points (s ∷ ss) =
-    let a = length-append (points_written s) (flat_map points_written ss) in
-    let one = length-points_written s in
-    let rest = length-flat_points ss in
-    let w = sum_by-cons (λ (s : Sample). length s.points + 46) s ss in
-    omega (arith, a, one, rest, w)
-
-pub length-all_points : (b : Parts) → length (all_points b) ≡ point_total b.samples
-unfolding all_points
-length-all_points b = length-flat_points b.samples
-
-rows-shdr : (b : Parts) → rows (tables_of b).shdr ≡ sample_heads_from 0 b.samples
-unfolding tables_of
-rows-shdr b = rows-push (sample_heads_from 0 b.samples) sample_end
-
--- ---- the bank and the counts
-
-samples_are : (b : Parts) → IsValid b → samples_read (points_in (sdta b)) (rows (tables_of b).shdr) ≡ b.samples
-unfolding all_points
-samples_are b v =
-    let n : length (sample_heads_from 0 b.samples) ≡ length b.samples = length-sample_heads 0 b.samples in
-    (λ i. samples_read (points-again b i) (rows-shdr b i))
-    ∙ ap (λ (k : ℕ). map (sample_read k (all_points b)) (sample_heads_from 0 b.samples)) n
-    ∙ samples-again (length b.samples) [] b.samples v.samples
-
-bank-again : (b : Parts) → IsValid b → Fits b → bank_of (info b) (sdta b) (tables_of b) ≡ b
-unfolding bank_of
-bank-again b v f =
-    let minor = minor-again b v.texts f.minor in
-    let texts = texts-again b v.texts in
-    let samples = samples_are b v in
-    λ i. record { minor = minor i; texts = texts i; samples = samples i }
-
-no_sm24 : (b : Parts) → first_body SM24 (sdta b) ≡ None
-unfolding sdta SMPL SM24
-no_sm24 b = refl
-
-counts-again : (b : Parts) → IsValid b → counts_of (info b) (sdta b) (tables_of b) ≡ no_counts
-unfolding counts_of
-counts-again b v =
-    let n : length (rows (tables_of b).shdr) ≡ length b.samples = ap length (rows-shdr b) ∙ length-sample_heads 0 b.samples in
-    let texts = texts_counted b v.texts in
-    let sm24 = ap (λ (o : Option (List ℕ)). cond (is_some o) 1 0) (no_sm24 b) in
-    let loops = ap (λ (hs : List SampleHead). count_by is_loop_lost hs) (rows-shdr b) ∙ loops_counted (length b.samples) 0 b.samples v.samples in
-    let links : count_by (is_link_lost (length (rows (tables_of b).shdr))) (rows (tables_of b).shdr) ≡ 0 =
-    (λ i. count_by (is_link_lost (n i)) (rows-shdr b i)) ∙ links_counted (length b.samples) 0 b.samples v.samples in
-    λ i. record { texts = texts i; sm24 = sm24 i; zones = 0; gens = 0; ranges = 0; loops = loops i; links = links i }
-
-abbrev pub content : Parts → Content
-content b = record { bank = b; counts = no_counts }
-
-pub content-again : (b : Parts) → IsValid b → Fits b → content_of (info b) (sdta b) (tables_of b) ≡ content b
-content-again b v f = let x = bank-again b v f in let y = counts-again b v in λ i. record { bank = x i; counts = y i }
+use Rattle.bank_format.proofs.SampleLaws.{sample_steps_hold, total_steps_hold}
+use Rattle.bank_format.proofs.IndexSteps.{index_steps_hold, target_steps_hold}
+use Rattle.bank_format.proofs.BankLaws.{points-again, length-all_points, rows-shdr, bank-again}
+use Rattle.bank_format.proofs.PdtaLaws.{Measured, measured, TablesCount, tables_fit, tables_count, count_steps_hold, size_steps_hold}
 
 -- ---- the steps of the chunks
 
@@ -113,15 +49,17 @@ content_steps_hold b v f =
     let ln : n ≡ point_total b.samples = ap length (points-again b) ∙ length-all_points b in
     let samples : first_broken (flat_map (sample_step n) (rows (tables_of b).shdr)) ≡ None =
     ap (λ (hs : List SampleHead). first_broken (flat_map (sample_step n) hs)) (rows-shdr b) ∙ sample_steps_hold n 0 b.samples (omega (arith, ln)) in
+    let targets : first_broken (target_steps (bank_of (info b) (sdta b) (tables_of b))) ≡ None =
+    ap (λ (x : Parts). first_broken (target_steps x)) (bank-again b v f) ∙ target_steps_hold b v in
     let totals : first_broken (total_steps (rows (tables_of b).shdr)) ≡ None =
     ap (λ (hs : List SampleHead). first_broken (total_steps hs)) (rows-shdr b) ∙ total_steps_hold 0 b.samples v.limits.points in
     then_none (chunk_steps (info b) (pdta (tables_of b))) _ (chunk_steps_hold b (tables_of b))
     (then_none (size_steps (pdta (tables_of b))) _ (size_steps_hold (tables_of b) (measured (tables_of b) (tables_fit b v f)))
     (then_none (count_steps (tables_of b)) _ (count_steps_hold (tables_of b) (tables_count b v))
     (then_none (point_steps (sdta b)) _ (point_steps_hold b)
-    (then_none (later_steps (tables_of b)) _ (later_steps_hold b)
     (then_none (all_index_steps (tables_of b)) _ (index_steps_hold b)
-    (then_none (flat_map (sample_step n) (rows (tables_of b).shdr)) _ samples totals))))))
+    (then_none (flat_map (sample_step n) (rows (tables_of b).shdr)) _ samples
+    (then_none (target_steps (bank_of (info b) (sdta b) (tables_of b))) _ targets totals))))))
 
 -- ---- sizes
 
@@ -197,14 +135,14 @@ pdta_small t m c =
     let a1 = m.phdr in let c1 = c.phdr.1 in let a2 = m.pbag in let c2 = c.pbag.1 in let a3 = m.pmod in let c3 = c.pmod.1 in
     let a4 = m.pgen in let c4 = c.pgen.1 in let a5 = m.inst in let c5 = c.inst.1 in let a6 = m.ibag in let c6 = c.ibag.1 in
     let a7 = m.imod in let c7 = c.imod.1 in let a8 = m.igen in let c8 = c.igen.1 in let a9 = m.shdr in let c9 = c.shdr.1 in
-    let s9 = small_cons SHDR _ [] 0 3014656 refl (omega (arith, a9, c9)) (omega arith) small_none in
-    let s8 = small_cons IGEN _ _ _ 262144 refl (omega (arith, a8, c8)) (omega arith) s9 in
-    let s7 = small_cons IMOD _ _ _ 655360 refl (omega (arith, a7, c7)) (omega arith) s8 in
-    let s6 = small_cons IBAG _ _ _ 262144 refl (omega (arith, a6, c6)) (omega arith) s7 in
-    let s5 = small_cons INST _ _ _ 1441792 refl (omega (arith, a5, c5)) (omega arith) s6 in
-    let s4 = small_cons PGEN _ _ _ 262144 refl (omega (arith, a4, c4)) (omega arith) s5 in
-    let s3 = small_cons PMOD _ _ _ 655360 refl (omega (arith, a3, c3)) (omega arith) s4 in
-    let s2 = small_cons PBAG _ _ _ 262144 refl (omega (arith, a2, c2)) (omega arith) s3 in
-    let s1 = small_cons PHDR _ _ _ 2490368 refl (omega (arith, a1, c1)) (omega arith) s2 in
+    let s9 = small_cons SHDR (flat_map sample_head_bytes t.shdr) [] 0 3014656 refl (omega (arith, a9, c9)) (omega arith) small_none in
+    let s8 = small_cons IGEN (flat_map generator_bytes t.igen) _ _ 262144 refl (omega (arith, a8, c8)) (omega arith) s9 in
+    let s7 = small_cons IMOD (flat_map modulator_bytes t.imod) _ _ 655360 refl (omega (arith, a7, c7)) (omega arith) s8 in
+    let s6 = small_cons IBAG (flat_map bag_bytes t.ibag) _ _ 262144 refl (omega (arith, a6, c6)) (omega arith) s7 in
+    let s5 = small_cons INST (flat_map instrument_head_bytes t.inst) _ _ 1441792 refl (omega (arith, a5, c5)) (omega arith) s6 in
+    let s4 = small_cons PGEN (flat_map generator_bytes t.pgen) _ _ 262144 refl (omega (arith, a4, c4)) (omega arith) s5 in
+    let s3 = small_cons PMOD (flat_map modulator_bytes t.pmod) _ _ 655360 refl (omega (arith, a3, c3)) (omega arith) s4 in
+    let s2 = small_cons PBAG (flat_map bag_bytes t.pbag) _ _ 262144 refl (omega (arith, a2, c2)) (omega arith) s3 in
+    let s1 = small_cons PHDR (flat_map preset_head_bytes t.phdr) _ _ 2490368 refl (omega (arith, a1, c1)) (omega arith) s2 in
     let r = s1.small_enough in
     record { fits = s1.fits; small_enough = omega (arith, r) }

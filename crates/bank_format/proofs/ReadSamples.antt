@@ -2,7 +2,7 @@
 use Rattle.std.proofs.Common.{◌≡◌, ◌≤◌, ◌<◌, ◌+◌, ◌-◌, ◌/◌, ◌%◌, ℕ, Bool, true, false, cond, eqb, leb, ltb, ◌&&◌, List, [], ◌∷◌, length, drop, map, Some, None, refl, arith}
 use Rattle.std.specs.Prelude.{sum_by}
 use Rattle.std.specs.List.{AllByRecursion, slice_range}
-use Rattle.std.proofs.lemmas.Bool.{ltb-true, leb-true}
+use Rattle.std.proofs.lemmas.Bool.{ltb-true, leb-true, and_parts}
 use Rattle.std.proofs.lemmas.List.{length-take, length-drop}
 use Rattle.std.proofs.lemmas.List.Sums.{sum_by-cons}
 use Rattle.sample_view.specs.Words.{AreWords}
@@ -42,17 +42,13 @@ pub record GoodHead (points : ℕ) (h : SampleHead) : Type 0 where
   pub order : h.start ≤ h.end
   pub inside : h.end ≤ points
 
-and_true : (a b : Bool) → (a && b) ≡ true → (a ≡ true) × (b ≡ true)
-and_true true b e = (refl, e)
-and_true false b e = absurd cc
-
 pub good_head : (points : ℕ) (h : SampleHead) → first_broken (sample_step points h) ≡ None → GoodHead points h
 unfolding sample_step
 good_head points h e =
     let kind = split_none (eqb (h.kind / 16 % 2) 0) _ _ e in
     let rom = split_none (eqb (h.kind / 32768 % 2) 0) _ _ kind.1 in
     let range = split_none (leb h.start h.end && leb h.end points) _ _ rom.1 in
-    let both = and_true (leb h.start h.end) (leb h.end points) range.0 in
+    let both = and_parts (leb h.start h.end) (leb h.end points) range.0 in
     record { order = leb-true _ _ both.0; inside = leb-true _ _ both.1 }
 
 length-range : (points : List ℕ) (a b : ℕ) → a ≤ b → b ≤ length points → length (slice_range points a b) ≡ b - a
@@ -67,8 +63,8 @@ loop_valid n h e = by_test (has_loop h) refl
     by_test : (b : Bool) → has_loop h ≡ b → IsLoop n (cond b (Some (h.loop_start - h.start, h.loop_end - h.start)) None)
     by_test false t = tt
     by_test true t =
-        let last = and_true (leb h.start h.loop_start && ltb h.loop_start h.loop_end) (leb h.loop_end h.end) t in
-        let first = and_true (leb h.start h.loop_start) (ltb h.loop_start h.loop_end) last.0 in
+        let last = and_parts (leb h.start h.loop_start && ltb h.loop_start h.loop_end) (leb h.loop_end h.end) t in
+        let first = and_parts (leb h.start h.loop_start) (ltb h.loop_start h.loop_end) last.0 in
         let p = leb-true _ _ first.0 in
         let q = ltb-true _ _ first.1 in
         let r = leb-true _ _ last.1 in

@@ -19,8 +19,9 @@ use Rattle.bank_format.specs.Chunks.{riff_size, window, list_window, chunks_of, 
 use Rattle.bank_format.specs.Reading.{content_of, content_in, no_counts}
 use Rattle.bank_format.specs.ReadSteps.{frame_steps, list_steps, content_steps, window_steps, steps, fault_of, ReadsAs}
 use Rattle.bank_format.proofs.StepLemmas.{then_none}
-use Rattle.bank_format.proofs.TableLaws.{measured, tables_fit, tables_count, tables-again}
-use Rattle.bank_format.proofs.FileLaws.{Small, small_cons, small_none, info_small, sdta_small, pdta_small, content, content-again, content_steps_hold}
+use Rattle.bank_format.proofs.BankLaws.{content, content-again}
+use Rattle.bank_format.proofs.PdtaLaws.{measured, tables_fit, tables_count, tables-again}
+use Rattle.bank_format.proofs.FileLaws.{Small, small_cons, small_none, info_small, sdta_small, pdta_small, content_steps_hold}
 
 ids : (length RIFF ≡ 4) × (length SFBK ≡ 4) × (length INFO ≡ 4) × (length SDTA ≡ 4) × (length PDTA ≡ 4) × (length LIST ≡ 4)
 unfolding RIFF SFBK INFO SDTA PDTA LIST

@@ -1,10 +1,10 @@
 -- The heads of samples and their points give them back, break no step, and nothing is counted.
-use Rattle.std.proofs.Common.{◌≡◌, ◌≤◌, ◌<◌, ◌+◌, ◌-◌, ◌/◌, ◌%◌, ℕ, suc, Bool, true, false, cond, eqb, leb, ltb, List, [], ◌∷◌, ◌++◌, length, take, map, replicate, Option, Some, None, refl, sym, ap, ◌∙◌, append_assoc, arith}
+use Rattle.std.proofs.Common.{◌≡◌, ◌≤◌, ◌<◌, ◌+◌, ◌-◌, ◌/◌, ◌%◌, ℕ, suc, true, false, eqb, leb, ltb, List, [], ◌∷◌, ◌++◌, length, map, replicate, Option, Some, None, refl, sym, ap, ◌∙◌, append_assoc, arith}
 use Rattle.std.specs.Prelude.{count_by, sum_by, flat_map}
-use Rattle.std.specs.List.{AllByRecursion, slice_range}
+use Rattle.std.specs.List.{AllByRecursion}
 use Rattle.std.proofs.lemmas.Bool.Decides.{nat_tests}
 use Rattle.std.proofs.lemmas.Bool.{le-leb, lt-ltb, eq-eqb}
-use Rattle.std.proofs.lemmas.List.{length-append, take_at, drop_at, length-replicate}
+use Rattle.std.proofs.lemmas.List.{length-append, length-replicate}
 use Rattle.std.proofs.lemmas.List.Sums.{sum_by-cons}
 use Rattle.bank_core.specs.Valid.{IsSample, IsLoop, IsLink, point_total}
 use Rattle.bank_core.specs.declared.parts.Kind.{Kind}
@@ -12,14 +12,13 @@ use Rattle.bank_core.specs.declared.parts.Kind.TheVariants.{Mono, Right, Left, L
 use Rattle.bank_core.specs.declared.parts.Sample.{Sample}
 use Rattle.hydra_records.specs.declared.head.SampleHead.{SampleHead}
 use Rattle.bank_format.specs.Steps.{first_broken}
-use Rattle.bank_format.specs.Tables.{rows, sample_head, sample_heads_from, points_written, loop_start_at, loop_end_at, kind_word, link_word}
+use Rattle.bank_format.specs.Tables.{sample_head, sample_heads_from, points_written, loop_start_at, loop_end_at, kind_word, link_word}
 use Rattle.bank_format.specs.Samples.{loop_read, is_loop_lost, kind_read, is_link_lost, sample_read}
 use Rattle.bank_format.specs.ReadSteps.{sample_step, total_steps}
+use Rattle.bank_format.proofs.CountLemmas.{count-none}
 use Rattle.bank_format.proofs.StepLemmas.{then_none}
 use Rattle.bank_format.proofs.NameLaws.{before_zero-filled}
-
-abbrev one_if : Bool → ℕ
-one_if b = cond b 1 0
+use Rattle.bank_format.proofs.WindowLaws.{window-again}
 
 abbrev with_gap : Sample → ℕ
 with_gap s = length s.points + 46
@@ -28,16 +27,8 @@ pub length-sample_heads : (start : ℕ) (ss : List Sample) → length (sample_he
 length-sample_heads start [] = refl
 length-sample_heads start (s ∷ ss) = ap suc (length-sample_heads (start + length s.points + 46) ss)
 
-pub rows-push : {X : Type 0} (xs : List X) (x : X) → rows (xs ++ x ∷ []) ≡ xs
-rows-push xs x = take_at xs (x ∷ []) (length (xs ++ x ∷ []) - 1) (let a = length-append xs (x ∷ []) in omega (arith, a))
-
 pub length-points_written : (s : Sample) → length (points_written s) ≡ length s.points + 46
 length-points_written s = length-append s.points (replicate 46 0) ∙ ap (λ (n : ℕ). length s.points + n) (length-replicate {A = ℕ} 46 0)
-
--- one list behind others and before a rest
-range-between : {X : Type 0} (before xs rest : List X) (a b : ℕ) → a ≡ length before → b ≡ length before + length xs → slice_range (before ++ (xs ++ rest)) a b ≡ xs
-range-between before xs rest a b ea eb =
-    ap (take (b - a)) (drop_at before (xs ++ rest) a (sym ea)) ∙ take_at xs rest (b - a) (omega (arith, ea, eb))
 
 -- ---- the loop
 
@@ -45,7 +36,7 @@ loop_tests : (a x y e : ℕ) → x < y → y ≤ e → (leb a (a + x) ≡ true) 
 loop_tests a x y e p q = (le-leb _ _ (omega arith), lt-ltb _ _ (omega arith), le-leb _ _ (omega arith))
 
 no_loop_tests : (a : ℕ) → (leb a a ≡ true) × (ltb a a ≡ false) × (eqb a a ≡ true)
-no_loop_tests a = (le-leb _ _ (omega arith), Prim.grind (arith, nat_tests), eq-eqb _ _ refl)
+no_loop_tests a = (le-leb _ _ (omega arith), grind (arith, nat_tests), eq-eqb _ _ refl)
 
 abbrev some_pair : ℕ → ℕ → Option (ℕ × ℕ)
 some_pair x y = Some (x, y)
@@ -82,7 +73,7 @@ sample-again : (n : ℕ) (before rest : List ℕ) (s : Sample) → IsSample n s 
 unfolding sample_read
 sample-again n before rest s v =
     let name = before_zero-filled s.name v.name in
-    let points = range-between before s.points rest (length before) (length before + length s.points) refl refl in
+    let points = window-again before s.points rest (length before) (length before + length s.points) refl refl in
     let looped = (loop-again (length before) s s.looped v.looped).0 in
     let kind = (kind-again n (sample_head (length before) s) s.kind v.kind).0 in
     λ i. record { name = name i; points = points i; looped = looped i; rate = s.rate; key = s.key; correction = s.correction; kind = kind i }
@@ -102,12 +93,6 @@ samples-again n before (s ∷ ss) v =
     λ i. first i ∷ others i
 
 -- ---- nothing is counted
-
-count-none : {X : Type 0} (p : X → Bool) (x : X) (xs : List X) → p x ≡ false → count_by p xs ≡ 0 → count_by p (x ∷ xs) ≡ 0
-count-none p x xs one rest =
-    let here : one_if (p x) ≡ 0 = ap one_if one in
-    let whole = sum_by-cons (λ y. one_if (p y)) x xs in
-    omega (arith, here, rest, whole)
 
 pub loops_counted : (n start : ℕ) (ss : List Sample) → AllByRecursion (IsSample n) ss → count_by is_loop_lost (sample_heads_from start ss) ≡ 0
 loops_counted n start [] v = refl

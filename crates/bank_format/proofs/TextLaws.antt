@@ -49,9 +49,6 @@ module _ (b : Parts) (v : AreTexts b.texts) where
   abbrev r2 : List Chunk
   r2 = text_chunk_if IENG b.texts.engineers ++ r3
 
-  abbrev r1 : List Chunk
-  r1 = text_chunk_if ICRD b.texts.date ++ r2
-
   pub engine_in : text_in ISNG (info b) ≡ b.texts.engine
   unfolding info IFIL ISNG
   engine_in = before_zero-body b.texts.engine v.engine.1

@@ -1,7 +1,7 @@
 -- The number and the name by which each fault of reading is told.
 use Rattle.std.specs.Prelude.{ℕ, List, codes}
 use Rattle.bank_format.specs.declared.fault.ReadFault.{ReadFault}
-use Rattle.bank_format.specs.declared.fault.ReadFault.TheVariants.{NotRiff, NotSfbk, Truncated, MissingList, MissingChunk, Version, RecordSize, NoTerminal, BagOrder, IndexOutside, BadInstrument, BadSample, SampleRange, SampleType, RomSample, OddSamples, TooMany, OutOfMemory, LaterPart}
+use Rattle.bank_format.specs.declared.fault.ReadFault.TheVariants.{NotRiff, NotSfbk, Truncated, MissingList, MissingChunk, Version, RecordSize, NoTerminal, BagOrder, IndexOutside, BadInstrument, BadSample, SampleRange, SampleType, RomSample, OddSamples, TooMany, OutOfMemory}
 
 abbrev pub number_of : ReadFault → ℕ
 number_of NotRiff = 1
@@ -22,7 +22,6 @@ number_of RomSample = 16
 number_of OddSamples = 17
 number_of TooMany = 18
 number_of OutOfMemory = 19
-number_of LaterPart = 49
 
 abbrev pub name_of : ReadFault → List ℕ
 name_of NotRiff = codes "NotRiff"
@@ -43,4 +42,3 @@ name_of RomSample = codes "RomSample"
 name_of OddSamples = codes "OddSamples"
 name_of TooMany = codes "TooMany"
 name_of OutOfMemory = codes "OutOfMemory"
-name_of LaterPart = codes "LaterPart"

@@ -4,10 +4,15 @@ pub use Rattle.sample_view.specs.Words
 pub use Rattle.riff_chunks.specs.Walk
 pub use Rattle.riff_chunks.specs.Finding
 pub use Rattle.riff_chunks.specs.Spelling
+pub use Rattle.generators.specs.Gens
+pub use Rattle.generators.specs.Levels
+pub use Rattle.generators.specs.Ranges
 pub use Rattle.bank_core.specs.Valid
 pub use Rattle.bank_core.specs.Fits
 pub mod FaultNames
 pub mod Ids
+pub mod Windows
+pub mod Zones
 pub mod Tables
 pub mod Canon
 pub mod Steps

@@ -1,9 +1,12 @@
 -- The steps of reading, in their order. The first that a file breaks gives its fault.
-use Rattle.std.specs.Prelude.{◌≡◌, ◌+◌, ◌-◌, ◌%◌, ◌/◌, ℕ, List, [], ◌∷◌, ◌++◌, length, take, drop, map, flat_map, sum_by, Option, None, is_some, Bool, true, nat_le, ◌==◌, ◌&&◌, bytes_eq}
+use Rattle.std.specs.Prelude.{◌≡◌, ◌+◌, ◌-◌, ◌%◌, ◌/◌, ℕ, List, [], ◌∷◌, ◌++◌, length, take, drop, map, flat_map, sum_by, Option, None, is_some, Bool, true, nat_le, nat_lt, ◌==◌, ◌&&◌, bytes_eq}
 use Rattle.std.specs.List.{list_all}
 use Rattle.sf_base.specs.Fields.{field_at}
 use Rattle.riff_chunks.specs.Walk.{Chunk, walk}
 use Rattle.riff_chunks.specs.Finding.{is_whole, chunks_in, first_body, first_list}
+use Rattle.bank_core.specs.declared.parts.Zone.{Zone}
+use Rattle.bank_core.specs.declared.parts.Preset.{Preset}
+use Rattle.bank_core.specs.declared.parts.Instrument.{Instrument}
 use Rattle.bank_core.specs.declared.parts.Parts.{Parts}
 use Rattle.hydra_records.specs.declared.head.PresetHead.{PresetHead}
 use Rattle.hydra_records.specs.declared.head.InstrumentHead.{InstrumentHead}
@@ -14,9 +17,10 @@ use Rattle.bank_format.specs.declared.fault.ReadFault.{ReadFault}
 use Rattle.bank_format.specs.declared.fault.ReadFault.TheVariants as fault
 use Rattle.bank_format.specs.Ids as id
 use Rattle.bank_format.specs.Steps.{Step, step, first_broken}
-use Rattle.bank_format.specs.Tables.{Tables, rows}
+use Rattle.bank_format.specs.Windows.{rows}
+use Rattle.bank_format.specs.Tables.{Tables}
 use Rattle.bank_format.specs.Chunks.{riff_size, window, list_window, chunks_of, body_in, tables_in, points_in}
-use Rattle.bank_format.specs.Reading.{content_in}
+use Rattle.bank_format.specs.Reading.{bank_of, content_in}
 
 -- ---- the frame of the file
 
@@ -85,16 +89,6 @@ count_steps t =
 unfoldable pub point_steps : List Chunk → List Step
 point_steps sdta = step (length (body_in id.SMPL sdta) % 2 == 0) fault.OddSamples ∷ []
 
--- ---- for now: no list but that of the samples has more than its terminal
-
-abbrev pub is_bare : Tables → Bool
-is_bare t =
-    list_all (λ n. nat_le n 1)
-    (length t.phdr ∷ length t.pbag ∷ length t.pmod ∷ length t.pgen ∷ length t.inst ∷ length t.ibag ∷ length t.imod ∷ length t.igen ∷ [])
-
-unfoldable pub later_steps : Tables → List Step
-later_steps t = step (is_bare t) fault.LaterPart ∷ []
-
 -- ---- the indexes of a list that point into one of n records: none falls, none passes the last record
 
 abbrev pub is_rising_from : ℕ → List ℕ → Bool
@@ -126,6 +120,16 @@ sample_step points h =
     ∷ step (nat_le h.start h.end && nat_le h.end points) fault.SampleRange
     ∷ []
 
+-- ---- the target of each zone that is kept: an instrument in a preset, a sample in an instrument
+
+abbrev pub target_step : ℕ → ReadFault → Zone → Step
+target_step targets missing z = step (nat_lt z.target targets) missing
+
+unfoldable pub target_steps : Parts → List Step
+target_steps b =
+    map (target_step (length b.instruments) fault.BadInstrument) (flat_map (λ (p : Preset). p.zones) b.presets)
+    ++ map (target_step (length b.samples) fault.BadSample) (flat_map (λ (i : Instrument). i.zones) b.instruments)
+
 -- ---- the points of all samples, with 46 each
 
 unfoldable pub total_steps : List SampleHead → List Step
@@ -140,9 +144,9 @@ content_steps info sdta pdta t =
     ++ (size_steps pdta
     ++ (count_steps t
     ++ (point_steps sdta
-    ++ (later_steps t
     ++ (all_index_steps t
     ++ (flat_map (sample_step (length (points_in sdta))) (rows t.shdr)
+    ++ (target_steps (bank_of info sdta t)
     ++ total_steps (rows t.shdr)))))))
 
 unfoldable pub window_steps : List ℕ → List Step

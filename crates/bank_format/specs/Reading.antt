@@ -1,17 +1,61 @@
 -- What a file says: a bank, and the counts of what was dropped or mended.
-use Rattle.std.specs.Prelude.{ℕ, List, length, map, count_by, is_some, if◌then◌else◌}
+use Rattle.std.specs.Prelude.{◌+◌, ℕ, List, length, map, count_by, sum_by, is_some, if◌then◌else◌}
+use Rattle.sf_base.specs.Names.{before_zero}
 use Rattle.sf_base.specs.Fields.{field_at}
 use Rattle.riff_chunks.specs.Walk.{Chunk}
 use Rattle.riff_chunks.specs.Finding.{first_body}
+use Rattle.generators.specs.declared.level.Level.TheVariants as level
+use Rattle.modulators.specs.declared.modulator.Modulator.{Modulator}
+use Rattle.bank_core.specs.declared.parts.Preset.{Preset}
+use Rattle.bank_core.specs.declared.parts.Instrument.{Instrument}
 use Rattle.bank_core.specs.declared.parts.Sample.{Sample}
 use Rattle.bank_core.specs.declared.parts.Parts.{Parts}
+use Rattle.hydra_records.specs.declared.head.PresetHead.{PresetHead}
+use Rattle.hydra_records.specs.declared.head.InstrumentHead.{InstrumentHead}
 use Rattle.hydra_records.specs.declared.head.SampleHead.{SampleHead}
+use Rattle.hydra_records.specs.declared.zone.Bag.{Bag}
+use Rattle.hydra_records.specs.declared.zone.Generator.{Generator}
 use Rattle.bank_format.specs.declared.fault.Counts.{Counts}
 use Rattle.bank_format.specs.Ids as id
-use Rattle.bank_format.specs.Tables.{Tables, rows}
+use Rattle.bank_format.specs.Windows.{windows, together, rows}
+use Rattle.bank_format.specs.Zones.{Bagged, zones_read, global_read, ignored, gens_dropped, ranges_mended}
+use Rattle.bank_format.specs.Tables.{Tables}
 use Rattle.bank_format.specs.Texts.{texts_read, texts_cut}
 use Rattle.bank_format.specs.Samples.{sample_read, is_loop_lost, is_link_lost}
 use Rattle.bank_format.specs.Chunks.{tables_in, points_in, chunks_of, body_in}
+
+-- ---- zones
+
+abbrev pub bagged : List Generator → List Modulator → Bagged
+bagged gens mods = record { gens = gens; mods = mods }
+
+-- Each bag is a window over the generators and one over the modulators.
+unfoldable pub bags_in : List Bag → List Generator → List Modulator → List Bagged
+bags_in bags gens mods = together bagged (windows gens (map (λ (r : Bag). r.gens) bags)) (windows mods (map (λ (r : Bag). r.mods) bags))
+
+-- The bags of each header are a window over the bags.
+unfoldable pub preset_windows : Tables → List (List Bagged)
+preset_windows t = windows (bags_in t.pbag t.pgen t.pmod) (map (λ (h : PresetHead). h.bag) t.phdr)
+
+unfoldable pub instrument_windows : Tables → List (List Bagged)
+instrument_windows t = windows (bags_in t.ibag t.igen t.imod) (map (λ (h : InstrumentHead). h.bag) t.inst)
+
+abbrev pub preset_read : PresetHead → List Bagged → Preset
+preset_read h bags = record {
+  name = before_zero h.name;
+  number = h.number;
+  bank = h.bank;
+  library = h.library;
+  genre = h.genre;
+  morphology = h.morphology;
+  global = global_read level.Preset bags;
+  zones = zones_read level.Preset bags;
+}
+
+abbrev pub instrument_read : InstrumentHead → List Bagged → Instrument
+instrument_read h bags = record { name = before_zero h.name; global = global_read level.Instrument bags; zones = zones_read level.Instrument bags }
+
+-- ---- samples
 
 -- the samples of these heads, whose points are among these
 abbrev pub samples_read : List ℕ → List SampleHead → List Sample
@@ -23,6 +67,8 @@ unfoldable pub bank_of : List Chunk → List Chunk → Tables → Parts
 bank_of info sdta t = record {
   minor = field_at 2 2 (body_in id.IFIL info);
   texts = texts_read info;
+  presets = together preset_read (rows t.phdr) (preset_windows t);
+  instruments = together instrument_read (rows t.inst) (instrument_windows t);
   samples = samples_read (points_in sdta) (rows t.shdr);
 }
 
@@ -30,14 +76,13 @@ bank_of info sdta t = record {
 abbrev pub sm24_dropped : List Chunk → ℕ
 sm24_dropped sdta = if is_some (first_body id.SM24 sdta) then 1 else 0
 
--- Zones, generators and ranges are counted with the presets and instruments, which come later.
 unfoldable pub counts_of : List Chunk → List Chunk → Tables → Counts
 counts_of info sdta t = record {
   texts = texts_cut info;
   sm24 = sm24_dropped sdta;
-  zones = 0;
-  gens = 0;
-  ranges = 0;
+  zones = sum_by (ignored level.Preset) (preset_windows t) + sum_by (ignored level.Instrument) (instrument_windows t);
+  gens = sum_by (gens_dropped level.Preset) (preset_windows t) + sum_by (gens_dropped level.Instrument) (instrument_windows t);
+  ranges = sum_by (ranges_mended level.Preset) (preset_windows t) + sum_by (ranges_mended level.Instrument) (instrument_windows t);
   loops = count_by is_loop_lost (rows t.shdr);
   links = count_by (is_link_lost (length (rows t.shdr))) (rows t.shdr);
 }

@@ -1,10 +1,12 @@
--- A bank as the nine lists of records that a file holds. The records of presets and instruments are
--- the terminals alone, while a bank has neither.
-use Rattle.std.specs.Prelude.{◌+◌, ◌-◌, ℕ, List, [], ◌∷◌, ◌++◌, length, take, flat_map, pos, Option, Some, None, replicate}
+-- A bank as the nine lists of records that a file holds.
+use Rattle.std.specs.Prelude.{◌+◌, ℕ, List, [], ◌∷◌, ◌++◌, length, map, flat_map, pos, Option, Some, None, replicate}
 use Rattle.sf_base.specs.Names.{filled}
+use Rattle.generators.specs.declared.level.Level.TheVariants as level
 use Rattle.modulators.specs.declared.modulator.Modulator.{Modulator}
 use Rattle.bank_core.specs.declared.parts.Kind.{Kind}
 use Rattle.bank_core.specs.declared.parts.Kind.TheVariants.{Mono, Right, Left, Linked}
+use Rattle.bank_core.specs.declared.parts.Preset.{Preset}
+use Rattle.bank_core.specs.declared.parts.Instrument.{Instrument}
 use Rattle.bank_core.specs.declared.parts.Sample.{Sample}
 use Rattle.bank_core.specs.declared.parts.Parts.{Parts}
 use Rattle.hydra_records.specs.declared.head.PresetHead.{PresetHead}
@@ -13,6 +15,8 @@ use Rattle.hydra_records.specs.declared.head.SampleHead.{SampleHead}
 use Rattle.hydra_records.specs.declared.zone.Bag.{Bag}
 use Rattle.hydra_records.specs.declared.zone.Generator.{Generator}
 use Rattle.bank_format.specs.Ids.{EOP, EOI, EOS}
+use Rattle.bank_format.specs.Windows.{starts, together}
+use Rattle.bank_format.specs.Zones.{Bagged, bags_written}
 
 -- the nine lists
 pub record Tables : Type 0 where
@@ -26,20 +30,13 @@ pub record Tables : Type 0 where
   pub igen : List Generator
   pub shdr : List SampleHead
 
--- the records of a list without the last, which is its terminal
-abbrev pub rows : {X : Type 0} → List X → List X
-rows records = take (length records - 1) records
+-- ---- the records that end the lists: of headers with the number of all bags before
 
--- ---- terminals
+abbrev pub preset_end : ℕ → PresetHead
+preset_end at = record { name = filled EOP; number = 0; bank = 0; bag = at; library = 0; genre = 0; morphology = 0 }
 
-abbrev pub preset_end : PresetHead
-preset_end = record { name = filled EOP; number = 0; bank = 0; bag = 0; library = 0; genre = 0; morphology = 0 }
-
-abbrev pub instrument_end : InstrumentHead
-instrument_end = record { name = filled EOI; bag = 0 }
-
-abbrev pub bag_end : Bag
-bag_end = record { gens = 0; mods = 0 }
+abbrev pub instrument_end : ℕ → InstrumentHead
+instrument_end at = record { name = filled EOI; bag = at }
 
 abbrev pub modulator_end : Modulator
 modulator_end = record { source = 0; dest = 0; amount = pos 0; amount_source = 0; transform = 0 }
@@ -49,6 +46,43 @@ generator_end = record { operator = 0; word = 0 }
 
 abbrev pub sample_end : SampleHead
 sample_end = record { name = filled EOS; start = 0; end = 0; loop_start = 0; loop_end = 0; rate = 0; key = 0; correction = pos 0; link = 0; kind = 0 }
+
+-- ---- the bags of one level, in three lists
+
+abbrev pub bag : ℕ → ℕ → Bag
+bag gens mods = record { gens = gens; mods = mods }
+
+-- each bag's indexes are the numbers of generators and modulators before it; the last has the totals
+unfoldable pub bag_list : List Bagged → List Bag
+bag_list bags = together bag (starts (map (λ (r : Bagged). length r.gens) bags)) (starts (map (λ (r : Bagged). length r.mods) bags))
+
+unfoldable pub mod_list : List Bagged → List Modulator
+mod_list bags = flat_map (λ (r : Bagged). r.mods) bags ++ modulator_end ∷ []
+
+unfoldable pub gen_list : List Bagged → List Generator
+gen_list bags = flat_map (λ (r : Bagged). r.gens) bags ++ generator_end ∷ []
+
+-- ---- headers: the bag index of each is the number of bags of those before it
+
+abbrev pub preset_bags : Preset → List Bagged
+preset_bags p = bags_written level.Preset p.global p.zones
+
+abbrev pub instrument_bags : Instrument → List Bagged
+instrument_bags i = bags_written level.Instrument i.global i.zones
+
+abbrev pub preset_head : ℕ → Preset → PresetHead
+preset_head at p = record { name = filled p.name; number = p.number; bank = p.bank; bag = at; library = p.library; genre = p.genre; morphology = p.morphology }
+
+abbrev pub preset_heads_from : ℕ → List Preset → List PresetHead
+preset_heads_from at [] = preset_end at ∷ []
+preset_heads_from at (p ∷ presets) = preset_head at p ∷ preset_heads_from (at + length (preset_bags p)) presets
+
+abbrev pub instrument_head : ℕ → Instrument → InstrumentHead
+instrument_head at i = record { name = filled i.name; bag = at }
+
+abbrev pub instrument_heads_from : ℕ → List Instrument → List InstrumentHead
+instrument_heads_from at [] = instrument_end at ∷ []
+instrument_heads_from at (i ∷ instruments) = instrument_head at i ∷ instrument_heads_from (at + length (instrument_bags i)) instruments
 
 -- ---- samples
 
@@ -103,15 +137,21 @@ sample_heads_from start (s ∷ samples) = sample_head start s ∷ sample_heads_f
 unfoldable pub all_points : Parts → List ℕ
 all_points b = flat_map points_written b.samples
 
+abbrev pub all_preset_bags : Parts → List Bagged
+all_preset_bags b = flat_map preset_bags b.presets
+
+abbrev pub all_instrument_bags : Parts → List Bagged
+all_instrument_bags b = flat_map instrument_bags b.instruments
+
 unfoldable pub tables_of : Parts → Tables
 tables_of b = record {
-  phdr = preset_end ∷ [];
-  pbag = bag_end ∷ [];
-  pmod = modulator_end ∷ [];
-  pgen = generator_end ∷ [];
-  inst = instrument_end ∷ [];
-  ibag = bag_end ∷ [];
-  imod = modulator_end ∷ [];
-  igen = generator_end ∷ [];
+  phdr = preset_heads_from 0 b.presets;
+  pbag = bag_list (all_preset_bags b);
+  pmod = mod_list (all_preset_bags b);
+  pgen = gen_list (all_preset_bags b);
+  inst = instrument_heads_from 0 b.instruments;
+  ibag = bag_list (all_instrument_bags b);
+  imod = mod_list (all_instrument_bags b);
+  igen = gen_list (all_instrument_bags b);
   shdr = sample_heads_from 0 b.samples ++ sample_end ∷ [];
 }

@@ -43,8 +43,6 @@ pub enum ReadFault {
     TooMany,
     #[error("out of memory")]
     OutOfMemory,
-    #[error("presets and instruments are not read yet")]
-    LaterPart,
 }
 
 impl ReadFault {
@@ -71,7 +69,6 @@ impl ReadFault {
             ReadFault::OddSamples => 17,
             ReadFault::TooMany => 18,
             ReadFault::OutOfMemory => 19,
-            ReadFault::LaterPart => 49,
         }
     }
 
@@ -98,7 +95,6 @@ impl ReadFault {
             ReadFault::OddSamples => "OddSamples",
             ReadFault::TooMany => "TooMany",
             ReadFault::OutOfMemory => "OutOfMemory",
-            ReadFault::LaterPart => "LaterPart",
         }
     }
 }

@@ -3,7 +3,6 @@ pub mod LexLaws
 pub mod PoolLaws
 pub mod NameLaws
 pub mod ScriptLaws
-pub mod PenLaws
 pub mod PrintLaws
 pub mod SpellLaws
 pub mod ReadLaws

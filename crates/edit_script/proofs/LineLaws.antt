@@ -17,7 +17,7 @@ use Rattle.bank_edits.specs.Edits.{FitsEdit}
 use Rattle.edit_script.specs.declared.cursor.Said.{Said}
 use Rattle.edit_script.specs.declared.cursor.Said.TheVariants as says
 use Rattle.edit_script.specs.declared.printing.Piece.{Piece}
-use Rattle.edit_script.specs.declared.printing.Piece.TheVariants.{Number, Name}
+use Rattle.edit_script.specs.declared.printing.Piece.TheVariants.{Number, Word, Name}
 use Rattle.edit_script.specs.Lines.{lines_of, onto, is_feed}
 use Rattle.edit_script.specs.Tokens.{ends_well}
 use Rattle.edit_script.specs.Grammar.{is_digit}
@@ -96,6 +96,7 @@ quotes_feed bytes h = list_all-append not_feed bytes (34 ∷ []) ∙ and_from _ 
 abbrev meant : Piece → Said
 meant (Number n) = says.Word (decimal n)
 meant (Name bytes) = says.Literal bytes
+meant (Word bytes) = says.Word bytes
 
 -- a piece shows what it says, and keeps to its line
 record Spoken (p : Piece) : Type 0 where

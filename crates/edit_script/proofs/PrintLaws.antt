@@ -9,7 +9,7 @@ use Rattle.bank_edits.specs.declared.edit.Edit.{Edit}
 use Rattle.edit_script.specs.declared.printing.Piece.{Piece}
 use Rattle.bank_edits.specs.declared.edit.Edit.TheVariants.{RenameSample}
 use Rattle.bank_edits.specs.Edits.{FitsEdit}
-use Rattle.edit_script.specs.Printing.{is_open, hex_literal, name_text, form_word, pieces, spelled, spaced, line_of, text_of}
+use Rattle.edit_script.specs.Printing.{is_open, hex_literal, name_text, form_word, pieces, spelled, spaced, line_text, line_of, text_of}
 
 encode_first : (b : ℕ) (bytes : List ℕ) → encode_lower (b ∷ bytes) ≡ encode_lower (b ∷ []) ++ encode_lower bytes
 unfolding encode_with
@@ -32,6 +32,13 @@ spaced_over ps i h = ap (flat_map spaced) (drop_all i ps h)
 joined_spaced : (w : List ℕ) (ps : List Piece) → join_with_byte 32 (w ∷ map spelled ps) ≡ w ++ flat_map spaced ps
 joined_spaced w [] = sym (append-nil w)
 joined_spaced w (p ∷ ps) = ap (λ (x : List ℕ). w ++ (32 ∷ x)) (joined_spaced (spelled p) ps)
+
+pub line_spaced : (w : List ℕ) (ps : List Piece) → line_text w ps ≡ w ++ flat_map spaced ps ++ 10 ∷ []
+line_spaced w ps = ap (λ (x : List ℕ). x ++ 10 ∷ []) (joined_spaced w ps)
+
+pub text_is_line : (e : Edit) → text_of e ≡ line_text (form_word e) (pieces e)
+unfolding text_of line_of
+text_is_line e = refl
 
 pub text_spaced : (e : Edit) → text_of e ≡ form_word e ++ flat_map spaced (pieces e) ++ 10 ∷ []
 unfolding text_of line_of

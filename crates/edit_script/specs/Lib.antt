@@ -5,6 +5,5 @@ pub mod Said
 pub mod Grammar
 pub mod Script
 pub mod Printing
-pub mod Pen
 pub mod Spelling
 pub mod Laws

@@ -7,7 +7,7 @@ use Rattle.bank_edits.specs.declared.edit.Edit.TheVariants.{RenameSample}
 use Rattle.bank_edits.specs.Edits.{FitsEdit}
 use Rattle.edit_script.specs.declared.parsing.Line.{Line}
 use Rattle.edit_script.specs.declared.printing.Piece.{Piece}
-use Rattle.edit_script.specs.declared.printing.Piece.TheVariants.{Number, Name}
+use Rattle.edit_script.specs.declared.printing.Piece.TheVariants.{Number, Word, Name}
 use Rattle.edit_script.specs.Tokens.{is_quote}
 use Rattle.edit_script.specs.Said.{is_plain}
 
@@ -23,10 +23,15 @@ hex_literal bytes = 120 ∷ encode_lower bytes
 unfoldable pub name_text : List ℕ → List ℕ
 name_text bytes = if list_all is_open bytes then 34 ∷ bytes ++ 34 ∷ [] else hex_literal bytes
 
--- a number has no leading zeros
+-- a number has no leading zeros, and a word stands as it is
 unfoldable pub spelled : Piece → List ℕ
 spelled (Number n) = decimal n
+spelled (Word bytes) = bytes
 spelled (Name bytes) = name_text bytes
+
+-- the tokens of a line, with one space between each two, and a line feed
+abbrev pub line_text : List ℕ → List Piece → List ℕ
+line_text word pieces = join_with_byte 32 (word ∷ map spelled pieces) ++ 10 ∷ []
 
 -- ---- the forms: the word of each, and what stands behind it
 
@@ -38,7 +43,6 @@ pieces (RenameSample s n) = Number s ∷ Name n ∷ []
 
 -- ---- a line
 
--- the tokens, with one space between each two
 unfoldable pub line_of : Edit → List ℕ
 line_of e = join_with_byte 32 (form_word e ∷ map spelled (pieces e))
 

@@ -3,7 +3,7 @@ ghost use Rattle.std.specs.Prelude.{◌≡◌};
 
 use std::marker::Model;
 
-/// Bytes of a text or of a pool, seen as the list of them.
+/// Bytes that are lent, as from a text or a pool, seen as the list of them.
 #[derive(Debug, Drop)]
 pub struct Lent<'a> {
     bytes: &'a [u8],
@@ -18,12 +18,14 @@ impl<'a> Model for Lent<'a> {
 }
 
 impl<'a> Lent<'a> {
+    /// These bytes.
     pub fn new(bytes: &'a [u8]) -> Lent<'a>
         ensures { result ≡ bytes.now }
     {
         Lent { bytes }
     }
 
+    /// Its bytes.
     pub fn bytes(&self) -> &'a [u8]
         ensures { result.now ≡ self.now }
     {

@@ -19,7 +19,6 @@ mod laws;
 mod lent;
 mod lines;
 mod parsing;
-mod pen;
 mod pool;
 mod printing;
 mod scanning;
@@ -27,9 +26,10 @@ mod tokens;
 
 pub use fault::ScriptFault;
 pub use laws::{one_reading, printed_lines_spell, spelled_edits_fit, spelled_is_read};
+pub use lent::Lent;
 pub use parsing::{Line, parse};
 pub use pool::pool_of;
-pub use printing::{print, print_after};
+pub use printing::{Piece, print, print_after, put_line};
 
 #[cfg(test)]
 mod tests;

@@ -4,20 +4,24 @@ ghost use Rattle.std.specs.List.{list_all, flat_map};
 ghost use Rattle.hex.specs.Hex.{encode_lower};
 ghost use Rattle.sf_base.specs.Writing.{Sends, Writes};
 ghost use Rattle.bank_edits.specs.declared.edit.Edit.TheVariants.{RenameSample};
-ghost use Rattle.edit_script.specs.Pen.{HasRoom, Puts};
-ghost use Rattle.edit_script.specs.Printing.{is_open, hex_literal, name_text, spaced, text_of};
+ghost use Rattle.sf_base.specs.Pen.{HasRoom, Puts};
+ghost use Rattle.edit_script.specs.Printing.{is_open, hex_literal, name_text, spaced, line_text, text_of};
 
 use crate::lent::Lent;
-use crate::pen::Pen;
 use bank_edits::Edit;
 use itoa::Buffer;
-use sf_base::{Name20, WriteFault};
+use sf_base::{Name20, Pen, WriteFault};
 use std::io::Write;
 
 /// A token of a printed line, behind the first.
 #[derive(Drop)]
 pub enum Piece<'a> {
-    Number(u32),
+    /// A number, in decimal digits.
+    Number(u64),
+    /// A word that stands as it is.
+    Word(Lent<'a>),
+    /// Bytes as a literal: between quotes where they all are from 0x20 to 0x7e and no quote, and else
+    /// in hex digits behind `x`.
     Name(Lent<'a>),
 }
 
@@ -65,19 +69,19 @@ fn put_rename_sample<W: Write>(
         pen,
         out,
         b"rename-sample",
-        &[Piece::Number(sample), Piece::Name(name)],
+        &[Piece::Number(u64::from(sample)), Piece::Name(name)],
     )
 }
 
-// A word, what stands behind it, and a line feed.
-fn put_line<W: Write>(
+/// Puts a line: a word, a space and a piece for each piece behind it, and a line feed.
+pub fn put_line<W: Write>(
     pen: &mut Pen,
     out: &mut W,
     word: &[u8],
     pieces: &[Piece<'_>],
 ) -> Result<(), WriteFault>
-    requires { HasRoom pen.old (word.now ++ flat_map spaced pieces.now ++ 10 ∷ []) }
-    ensures { Puts (W.contents out.old) (W.contents out.new) pen.old pen.new (word.now ++ flat_map spaced pieces.now ++ 10 ∷ []) result }
+    requires { HasRoom pen.old (line_text word.now pieces.now) }
+    ensures { Puts (W.contents out.old) (W.contents out.new) pen.old pen.new (line_text word.now pieces.now) result }
 {
     put_tokens(pen, out, word, pieces)?;
     pen.put(out, b"\n")
@@ -117,6 +121,7 @@ fn put_piece<W: Write>(pen: &mut Pen, out: &mut W, piece: &Piece<'_>) -> Result<
             let mut digits = Buffer::new();
             put_spaced(pen, out, digits.format(*number).as_bytes())
         }
+        Piece::Word(word) => put_spaced(pen, out, word.bytes()),
         Piece::Name(name) => put_name(pen, out, name.bytes()),
     }
 }

@@ -1,6 +1,5 @@
 ghost use Rattle.std.specs.Prelude.{Some};
 
-use crate::pen::Pen;
 use crate::{Line, ScriptFault, parse, pool_of, print, print_after};
 use bank_edits::Edit;
 use sf_base::{Name20, WriteFault};
@@ -241,17 +240,5 @@ fn stops_where_the_writer_stops(rt: HostRuntime) -> Result<(), Fail> {
     let (out, answer) = printed_until(rt.alloc(), 5, 3, Name20::from_bytes(b"saw")?);
     assert!(rt; answer == Err(WriteFault { written: 115 }));
     assert_eq!(rt; out.held.as_slice(), b"rename-sample 7".as_slice());
-    Ok(())
-}
-
-#[test]
-fn a_pen_writes_what_it_can_not_hold(rt: HostRuntime) -> Result<(), Fail> {
-    let mut out = Vec::new(rt.alloc());
-    let mut pen = Pen::after(5);
-    pen.put(&mut out, &[1; 600])?;
-    pen.put(&mut out, &[2; 2000])?;
-    pen.put(&mut out, &[3; 3])?;
-    assert_eq!(rt; pen.finish(&mut out)?, 2608);
-    assert!(rt; out.len() == 2603 && out[599] == 1 && out[600] == 2 && out[2600] == 3);
     Ok(())
 }

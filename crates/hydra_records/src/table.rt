@@ -1,5 +1,6 @@
 //! Records one after the other.
 ghost use Rattle.std.specs.Prelude.{◌≡◌, ◌≢◌, ◌↔◌, ◌<◌, ◌%◌, ℕ, List, [], length, slice_get, IsTrue, MatchOption};
+ghost use Rattle.std.specs.List.{slice_range};
 ghost use Rattle.std.specs.Iterator.{YieldsFirst, item_count};
 ghost use Rattle.hydra_records.specs.Records.{records};
 
@@ -91,6 +92,18 @@ impl<'a, R: Record> Table<'a, R> {
             Some(R::read(part_of(self.bytes, i * R::SIZE, R::SIZE)))
         } else {
             None
+        }
+    }
+
+    /// The records from `from` up to `to`, of those that there are.
+    pub fn part(&self, from: usize, to: usize) -> Table<'a, R>
+        ensures { result ≡ slice_range self.now from to }
+    {
+        let end = to.min(self.len());
+        let start = from.min(end);
+        Table {
+            bytes: part_of(self.bytes, start * R::SIZE, (end - start) * R::SIZE),
+            kind: PhantomData,
         }
     }
 

@@ -114,6 +114,12 @@ fn tables(rt: HostRuntime) {
     assert_eq!(rt; table.get(2), None);
     assert_eq!(rt; table.get(usize::MAX), None);
 
+    let second = table.part(1, 2);
+    assert_eq!(rt; second.len(), 1);
+    assert_eq!(rt; second.get(0), Some(target));
+    assert_eq!(rt; table.part(0, usize::MAX).len(), 2);
+    assert!(rt; table.part(2, 1).is_empty() && table.part(5, 9).is_empty());
+
     let mut records = table.iter();
     assert_eq!(rt; records.next(), Some(range));
     assert_eq!(rt; records.next(), Some(target));

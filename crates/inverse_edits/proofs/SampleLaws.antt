@@ -45,4 +45,4 @@ renamed_fits samples i name f = elim (change_cases samples i (named name)) [
 ]
 
 pub fits_rename : (b : Parts) (i : ℕ) (name : List ℕ) → Fits b → Fits (sample_renamed b i name)
-fits_rename b i name f = record { minor = f.minor; samples = renamed_fits b.samples i name f.samples }
+fits_rename b i name f = record { minor = f.minor; presets = f.presets; instruments = f.instruments; samples = renamed_fits b.samples i name f.samples }

@@ -1,7 +1,7 @@
 ghost use Rattle.std.specs.Prelude.{Some};
 
 use crate::{
-    Name20, NameFault, WriteFault, finish, front_of, i16_at, part_of, put_after, put_all,
+    Name20, NameFault, Pen, WriteFault, finish, front_of, i16_at, part_of, put_after, put_all,
     rest_from, u16_at, u32_at,
 };
 use std::alloc::Global;
@@ -157,4 +157,16 @@ fn parts_of_a_slice(rt: HostRuntime) {
     assert_eq!(rt; part_of(TEXT, 5, 2), b"Fo".as_slice());
     assert_eq!(rt; part_of(TEXT, 7, 9), b"nt".as_slice());
     assert_eq!(rt; rest_from(TEXT, 10), b"".as_slice());
+}
+
+#[test]
+fn a_pen_writes_what_it_can_not_hold(rt: HostRuntime) -> Result<(), Fail> {
+    let mut out = Vec::new(rt.alloc());
+    let mut pen = Pen::after(5);
+    pen.put(&mut out, &[1; 600])?;
+    pen.put(&mut out, &[2; 5000])?;
+    pen.put(&mut out, &[3; 3])?;
+    assert_eq!(rt; pen.finish(&mut out)?, 5608);
+    assert!(rt; out.len() == 5603 && out[599] == 1 && out[600] == 2 && out[5600] == 3);
+    Ok(())
 }

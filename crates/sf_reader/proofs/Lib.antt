@@ -1,4 +1,8 @@
 pub mod StepLaws
+pub mod WindowLaws
+pub mod CountLaws
+pub mod OwnerLaws
+pub mod MemberLaws
 pub mod TextLemmas
 pub mod HydraLaws
 pub mod NameLemmas

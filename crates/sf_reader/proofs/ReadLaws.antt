@@ -1,17 +1,18 @@
 -- The steps of a file, part after part.
-use Rattle.std.proofs.Common.{◌≡◌, ◌++◌, ◌∙◌, ℕ, List, [], ◌∷◌, map, None, refl, sym, ap, subst}
+use Rattle.std.proofs.Common.{◌≡◌, ◌++◌, ◌∙◌, ℕ, List, [], ◌∷◌, map, None, Result, Ok, Err, refl, sym, ap, subst}
 use Rattle.sf_base.specs.Fields.{field_at}
 use Rattle.bank_format.specs.declared.fault.ReadFault.{ReadFault}
 use Rattle.bank_format.specs.Ids.{IFIL, SMPL}
-use Rattle.bank_format.specs.Steps.{Step, first_broken, Fails}
+use Rattle.bank_format.specs.Steps.{Step, first_broken, Fails, Passes}
 use Rattle.bank_format.specs.Tables.{Tables}
 use Rattle.bank_format.specs.Chunks.{window, body_in, tables_in, points_in}
-use Rattle.bank_format.specs.Reading.{bank_of, content_in}
+use Rattle.bank_format.specs.Reading.{Content, bank_of, counts_of, content_in}
 use Rattle.bank_format.specs.ReadSteps.{frame_steps, list_steps, chunk_step, nine, chunk_steps, size_steps, point_steps, content_steps, window_steps, steps, fault_of}
 use Rattle.sf_reader.specs.Lists.{Windows, windows_in, chunks}
 use Rattle.sf_reader.specs.Hydra.{Bodies, bodies_in, whole_steps, tables_from}
-use Rattle.sf_reader.specs.Content.{list_content_steps, list_content, version_steps, table_steps, table_content}
+use Rattle.sf_reader.specs.Content.{list_content_steps, list_content, version_steps, table_steps, table_content, content_with}
 use Rattle.sf_reader.proofs.StepLaws.{fails_front, fails_after, none_after}
+use Rattle.sf_reader.proofs.TableLaws.{from_counts_are}
 
 -- ---- of the three lists, where the parts were found
 
@@ -41,11 +42,13 @@ abbrev pub from_nine : Windows → List Step
 from_nine w = nine_there w ++ from_version w
 
 pub lists_in_parts : (w : Windows) → list_content_steps w ≡ version_there w ++ from_nine w
-unfolding content_steps chunk_steps size_steps point_steps points_in tables_in bodies_in whole_steps tables_from table_steps
-lists_in_parts w = refl
+unfolding content_steps chunk_steps size_steps point_steps points_in tables_in bodies_in whole_steps tables_from
+lists_in_parts w =
+    ap (λ (l : List Step). version_there w ++ (nine_there w ++ (version_steps (ifil_in w) ++ (whole_steps (nine_in w) ++ l))))
+    (from_counts_are (chunks w.info) (chunks w.sdta) (tables_from (nine_in w)) (smpl_in w))
 
 pub content_in_parts : (w : Windows) → list_content w ≡ table_content (field_at 2 2 (ifil_in w)) w (tables_from (nine_in w)) (smpl_in w)
-unfolding bank_of points_in tables_in bodies_in tables_from table_content
+unfolding bank_of counts_of points_in tables_in bodies_in tables_from content_with
 content_in_parts w = refl
 
 -- ---- what the reader has found of the lists before it looks at the records
@@ -119,6 +122,14 @@ lists_hold w version bodies minor t smpl k none =
           ∙ ap (table_content (field_at 2 2 (ifil_in w)) w (tables_from (nine_in w))) k.smpl_is
           ∙ sym (content_in_parts w),
     )
+
+-- the tables pass, and so do the lists
+pub tables_pass : {X : Type 0} (seen : X → Content) (r : Result X ReadFault) (w : Windows) (version : List ℕ) (bodies : Bodies) (minor : ℕ) (t : Tables) (smpl : List ℕ)
+    → Cut w version bodies minor t smpl → Passes seen r (table_steps t smpl) (table_content minor w t smpl) → Passes seen r (list_content_steps w) (list_content w)
+tables_pass seen (Ok x) w version bodies minor t smpl k h =
+    let hold = lists_hold w version bodies minor t smpl k h.0 in
+    (hold.0, h.1 ∙ hold.1)
+tables_pass seen (Err e) w version bodies minor t smpl k h = in_tables w e version bodies minor t smpl k h
 
 -- ---- of a file
 

@@ -5,7 +5,19 @@ use Rattle.std.specs.List.{list_all}
 use Rattle.bank_format.specs.declared.fault.ReadFault.{ReadFault}
 use Rattle.bank_format.specs.declared.fault.ReadFault.TheVariants.{OutOfMemory}
 use Rattle.bank_format.specs.Steps.{Step, step, first_broken, Fails, Passes}
-use Rattle.bank_format.proofs.StepLemmas.{split_none}
+
+-- where nothing is broken, a step holds and the rest isn't broken
+pub split_none : {A : Type 0} (b : Bool) (rest : Option A) (fault : A) → cond b rest (Some fault) ≡ None → (b ≡ true) × (rest ≡ None)
+split_none true rest fault h = (refl, h)
+split_none false rest fault h = absurd cc
+
+-- both parts hold where the whole does
+pub both_none : (xs ys : List Step) → first_broken (xs ++ ys) ≡ None → (first_broken xs ≡ None) × (first_broken ys ≡ None)
+both_none [] ys h = (refl, h)
+both_none (x ∷ xs) ys h =
+    let both = split_none x.holds (first_broken (xs ++ ys)) x.fault h in
+    let rest = both_none xs ys both.1 in
+    (rw both.0 rest.0, rest.1)
 
 -- the steps after those that hold
 pub first_broken-append : (xs ys : List Step) → first_broken xs ≡ None → first_broken (xs ++ ys) ≡ first_broken ys
@@ -69,3 +81,8 @@ hold_on false c x w h = refl
 pub same_fault : {X : Type 0} (p : X → Bool) (fault : ReadFault) (xs : List X) → first_broken (map (λ x. step (p x) fault) xs) ≡ cond (list_all p xs) None (Some fault)
 same_fault p fault [] = refl
 same_fault p fault (x ∷ xs) = hold_on (p x) (list_all p xs) (first_broken (map (λ y. step (p y) fault) xs)) fault (same_fault p fault xs)
+
+-- a fault of its own
+pub fails_itself : (e : ReadFault) → Fails e (Some e)
+fails_itself OutOfMemory = tt
+fails_itself e = refl

@@ -1,34 +1,44 @@
 -- What is asked of the nine lists and the points, part after part.
-use Rattle.std.proofs.Common.{◌≡◌, ◌≢◌, ◌/◌, ◌%◌, ◌++◌, ◌∙◌, ℕ, List, length, Some, None, Result, refl, sym, ap}
+use Rattle.std.proofs.Common.{◌≡◌, ◌≢◌, ◌/◌, ◌%◌, ◌++◌, ◌∙◌, ℕ, List, [], ◌∷◌, length, map, Some, None, Result, refl, sym, ap, append_assoc, arith}
 use Rattle.std.specs.Prelude.{flat_map}
 use Rattle.std.proofs.lemmas.Bool.{ne_eqb}
+use Rattle.std.proofs.lemmas.List.{length-map}
+use Rattle.riff_chunks.specs.Walk.{Chunk}
+use Rattle.generators.specs.declared.level.Level.TheVariants as level
+use Rattle.bank_core.specs.declared.parts.Zone.{Zone}
+use Rattle.bank_core.specs.declared.parts.Preset.{Preset}
+use Rattle.bank_core.specs.declared.parts.Instrument.{Instrument}
 use Rattle.sample_view.specs.Words.{words}
 use Rattle.sample_view.proofs.WordLemmas.{length-words}
+use Rattle.hydra_records.specs.declared.head.PresetHead.{PresetHead}
+use Rattle.hydra_records.specs.declared.head.InstrumentHead.{InstrumentHead}
 use Rattle.hydra_records.specs.declared.head.SampleHead.{SampleHead}
 use Rattle.bank_format.specs.declared.fault.ReadFault.{ReadFault}
-use Rattle.bank_format.specs.declared.fault.ReadFault.TheVariants.{OddSamples}
+use Rattle.bank_format.specs.declared.fault.ReadFault.TheVariants.{OddSamples, BadInstrument, BadSample}
 use Rattle.bank_format.specs.Steps.{Step, first_broken, Passes}
-use Rattle.bank_format.specs.Tables.{Tables, rows}
-use Rattle.bank_format.specs.ReadSteps.{count_steps, later_steps, all_index_steps, sample_step, total_steps}
-use Rattle.sf_reader.specs.Content.{even_steps, table_steps}
-use Rattle.sf_reader.proofs.StepLaws.{passes_after}
+use Rattle.bank_format.specs.Windows.{windows, together, rows}
+use Rattle.bank_format.specs.Zones.{Bagged, zones_read}
+use Rattle.bank_format.specs.Tables.{Tables}
+use Rattle.bank_format.specs.Chunks.{points_in}
+use Rattle.bank_format.specs.Samples.{sample_read}
+use Rattle.bank_format.specs.Reading.{bags_in, preset_windows, instrument_windows, preset_read, instrument_read, samples_read, bank_of}
+use Rattle.bank_format.specs.ReadSteps.{count_steps, all_index_steps, sample_step, target_step, target_steps, total_steps}
+use Rattle.sf_reader.specs.Owners.{member_steps}
+use Rattle.sf_reader.specs.Content.{even_steps, checked_steps, table_steps}
+use Rattle.sf_reader.proofs.StepLaws.{both_none, passes_after}
+use Rattle.sf_reader.proofs.WindowLaws.{length-windows, length-rows, length-together}
+use Rattle.sf_reader.proofs.MemberLaws.{preset_part, instrument_part}
 
 -- ---- the steps from a part on
 
 abbrev pub each_sample : Tables → List ℕ → List Step
 each_sample t smpl = flat_map (sample_step (length (words smpl))) (rows t.shdr)
 
-abbrev pub from_samples : Tables → List ℕ → List Step
-from_samples t smpl = each_sample t smpl ++ total_steps (rows t.shdr)
-
 abbrev pub from_indexes : Tables → List ℕ → List Step
-from_indexes t smpl = all_index_steps t ++ from_samples t smpl
-
-abbrev pub from_later : Tables → List ℕ → List Step
-from_later t smpl = later_steps t ++ from_indexes t smpl
+from_indexes t smpl = all_index_steps t ++ each_sample t smpl
 
 abbrev pub from_even : Tables → List ℕ → List Step
-from_even t smpl = even_steps smpl ++ from_later t smpl
+from_even t smpl = even_steps smpl ++ from_indexes t smpl
 
 -- ---- past the parts that hold
 
@@ -36,21 +46,15 @@ abbrev Checks : Result (Unit {0}) ReadFault → List Step → Type 0
 Checks r steps = Passes (λ (u : Unit {0}). u) r steps tt
 
 module _ (t : Tables) (smpl : List ℕ) (r : Result (Unit {0}) ReadFault) where
-  pub past_counts : first_broken (count_steps t) ≡ None → Checks r (from_even t smpl) → Checks r (table_steps t smpl)
-  unfolding table_steps
+  pub past_counts : first_broken (count_steps t) ≡ None → Checks r (from_even t smpl) → Checks r (checked_steps t smpl)
+  unfolding checked_steps
   past_counts = passes_after (λ (u : Unit {0}). u) tt r (count_steps t) (from_even t smpl)
 
-  pub past_even : length smpl % 2 ≡ 0 → Checks r (from_later t smpl) → Checks r (from_even t smpl)
-  past_even even = passes_after (λ (u : Unit {0}). u) tt r (even_steps smpl) (from_later t smpl) (rw even refl)
+  pub past_even : length smpl % 2 ≡ 0 → Checks r (from_indexes t smpl) → Checks r (from_even t smpl)
+  past_even even = passes_after (λ (u : Unit {0}). u) tt r (even_steps smpl) (from_indexes t smpl) (rw even refl)
 
-  pub past_later : first_broken (later_steps t) ≡ None → Checks r (from_indexes t smpl) → Checks r (from_later t smpl)
-  past_later = passes_after (λ (u : Unit {0}). u) tt r (later_steps t) (from_indexes t smpl)
-
-  pub past_indexes : first_broken (all_index_steps t) ≡ None → Checks r (from_samples t smpl) → Checks r (from_indexes t smpl)
-  past_indexes = passes_after (λ (u : Unit {0}). u) tt r (all_index_steps t) (from_samples t smpl)
-
-  pub past_samples : first_broken (each_sample t smpl) ≡ None → Checks r (total_steps (rows t.shdr)) → Checks r (from_samples t smpl)
-  past_samples = passes_after (λ (u : Unit {0}). u) tt r (each_sample t smpl) (total_steps (rows t.shdr))
+  pub past_indexes : first_broken (all_index_steps t) ≡ None → Checks r (each_sample t smpl) → Checks r (from_indexes t smpl)
+  past_indexes = passes_after (λ (u : Unit {0}). u) tt r (all_index_steps t) (each_sample t smpl)
 
 -- ---- a part that fails
 
@@ -63,3 +67,72 @@ pub samples_are : (t : Tables) (smpl : List ℕ) (heads : List SampleHead) → h
 samples_are t smpl heads e =
     ap (λ (l : List SampleHead). flat_map (sample_step (length smpl / 2)) (rows l)) e
     ∙ ap (λ (n : ℕ). flat_map (sample_step n) (rows t.shdr)) (sym (length-words smpl))
+
+-- ---- the parts that hold
+
+pub record AreChecked (t : Tables) : Type 0 where
+  pub counts : first_broken (count_steps t) ≡ None
+  pub indexes : first_broken (all_index_steps t) ≡ None
+
+pub checked : (t : Tables) (smpl : List ℕ) → first_broken (checked_steps t smpl) ≡ None → AreChecked t
+unfolding checked_steps
+checked t smpl e =
+    let first = both_none (count_steps t) (from_even t smpl) e in
+    let second = both_none (even_steps smpl) (from_indexes t smpl) first.1 in
+    let third = both_none (all_index_steps t) (each_sample t smpl) second.1 in
+    record { counts = first.0; indexes = third.0 }
+
+-- ---- with what is asked of presets and instruments
+
+-- the zones of members that heads and windows make
+zones_together : {H M : Type 0} (f : H → List Bagged → M) (zones : M → List Zone) (read : List Bagged → List Zone) → ((h : H) (w : List Bagged) → zones (f h w) ≡ read w)
+    → (hs : List H) (ws : List (List Bagged)) → length hs ≡ length ws → flat_map zones (together f hs ws) ≡ flat_map read ws
+zones_together f zones read same [] [] e = refl
+zones_together f zones read same [] (w ∷ ws) e = absurd (omega (arith, e))
+zones_together f zones read same (h ∷ hs) [] e = refl
+zones_together f zones read same (h ∷ hs) (w ∷ ws) e =
+    ap (λ (l : List Zone). l ++ flat_map zones (together f hs ws)) (same h w)
+    ∙ ap (λ (l : List Zone). read w ++ l) (zones_together f zones read same hs ws (omega (arith, e)))
+
+rows_windows : {H X : Type 0} (table : List X) (index : H → ℕ) (heads : List H) → length (rows heads) ≡ length (windows table (map index heads))
+rows_windows table index heads = omega (arith, length-rows heads, length-windows table (map index heads), length-map heads index)
+
+pub targets_are : (info sdta : List Chunk) (t : Tables) → target_steps (bank_of info sdta t) ≡ member_steps t
+unfolding target_steps bank_of preset_windows instrument_windows
+targets_are info sdta t =
+    let presets = together preset_read (rows t.phdr) (preset_windows t) in
+    let instruments = together instrument_read (rows t.inst) (instrument_windows t) in
+    let samples = samples_read (points_in sdta) (rows t.shdr) in
+    let preset_rows = rows_windows (bags_in t.pbag t.pgen t.pmod) (λ (h : PresetHead). h.bag) t.phdr in
+    let instrument_rows = rows_windows (bags_in t.ibag t.igen t.imod) (λ (h : InstrumentHead). h.bag) t.inst in
+    let instrument_count = length-together instrument_read (rows t.inst) (instrument_windows t) instrument_rows in
+    let sample_count = length-map (rows t.shdr) (sample_read (length (rows t.shdr)) (points_in sdta)) in
+    let preset_zones = zones_together preset_read (λ (p : Preset). p.zones) (zones_read level.Preset) (λ h w. refl) (rows t.phdr) (preset_windows t) preset_rows in
+    let instrument_zones = zones_together instrument_read (λ (i : Instrument). i.zones) (zones_read level.Instrument) (λ h w. refl) (rows t.inst) (instrument_windows t) instrument_rows in
+    let first : map (target_step (length instruments) BadInstrument) (flat_map (λ (p : Preset). p.zones) presets) ≡ preset_part t =
+    ap (λ (n : ℕ). map (target_step n BadInstrument) (flat_map (λ (p : Preset). p.zones) presets)) instrument_count
+    ∙ ap (map (target_step (length (rows t.inst)) BadInstrument)) preset_zones in
+    let second : map (target_step (length samples) BadSample) (flat_map (λ (i : Instrument). i.zones) instruments) ≡ instrument_part t =
+    ap (λ (n : ℕ). map (target_step n BadSample) (flat_map (λ (i : Instrument). i.zones) instruments)) sample_count
+    ∙ ap (map (target_step (length (rows t.shdr)) BadSample)) instrument_zones in
+    ap (λ (l : List Step). l ++ map (target_step (length samples) BadSample) (flat_map (λ (i : Instrument). i.zones) instruments)) first
+    ∙ ap (λ (l : List Step). preset_part t ++ l) second
+
+-- the steps from the counts on, as a file's steps have them
+abbrev pub from_counts : List Chunk → List Chunk → Tables → List ℕ → List Step
+from_counts info sdta t smpl =
+    count_steps t
+    ++ (even_steps smpl
+    ++ (all_index_steps t
+    ++ (each_sample t smpl
+    ++ (target_steps (bank_of info sdta t)
+    ++ total_steps (rows t.shdr)))))
+
+pub from_counts_are : (info sdta : List Chunk) (t : Tables) (smpl : List ℕ) → from_counts info sdta t smpl ≡ table_steps t smpl
+unfolding checked_steps
+from_counts_are info sdta t smpl =
+    let last = member_steps t ++ total_steps (rows t.shdr) in
+    ap (λ (l : List Step). count_steps t ++ (even_steps smpl ++ (all_index_steps t ++ (each_sample t smpl ++ (l ++ total_steps (rows t.shdr)))))) (targets_are info sdta t)
+    ∙ ap (λ (l : List Step). count_steps t ++ (even_steps smpl ++ l)) (sym (append_assoc (all_index_steps t) (each_sample t smpl) last))
+    ∙ ap (λ (l : List Step). count_steps t ++ l) (sym (append_assoc (even_steps smpl) (from_indexes t smpl) last))
+    ∙ sym (append_assoc (count_steps t) (from_even t smpl) last)

@@ -1,15 +1,20 @@
 -- The steps of the three lists, and what they hold, by the parts in which the reader goes through them.
-use Rattle.std.specs.Prelude.{◌==◌, ◌&&◌, ◌%◌, ◌++◌, ℕ, List, [], ◌∷◌, length, flat_map}
+use Rattle.std.specs.Prelude.{◌==◌, ◌&&◌, ◌+◌, ◌%◌, ◌++◌, ℕ, List, [], ◌∷◌, length, count_by, flat_map}
+use Rattle.bank_core.specs.declared.parts.Sample.{Sample}
 use Rattle.sf_base.specs.Fields.{field_at}
 use Rattle.sample_view.specs.Words.{words}
 use Rattle.bank_format.specs.declared.fault.ReadFault.TheVariants.{Version, OddSamples}
 use Rattle.bank_format.specs.Steps.{Step, step}
-use Rattle.bank_format.specs.Tables.{Tables, rows}
-use Rattle.bank_format.specs.Texts.{texts_read}
+use Rattle.bank_format.specs.Windows.{rows}
+use Rattle.bank_format.specs.Tables.{Tables}
+use Rattle.bank_format.specs.Texts.{texts_read, texts_cut}
+use Rattle.bank_format.specs.Samples.{is_loop_lost, is_link_lost}
 use Rattle.bank_format.specs.Chunks.{tables_in}
-use Rattle.bank_format.specs.Reading.{Content, samples_read, counts_of, content_of}
-use Rattle.bank_format.specs.ReadSteps.{count_steps, later_steps, all_index_steps, sample_step, total_steps, content_steps}
+use Rattle.bank_format.specs.Reading.{Content, samples_read, sm24_dropped, content_of}
+use Rattle.bank_format.specs.ReadSteps.{count_steps, all_index_steps, sample_step, total_steps, content_steps}
 use Rattle.sf_reader.specs.Lists.{Windows, chunks}
+use Rattle.sf_reader.specs.declared.owners.Members.{Members}
+use Rattle.sf_reader.specs.Owners.{members_of, member_steps}
 
 -- ---- of the three lists
 
@@ -29,19 +34,39 @@ version_steps ifil = step (length ifil == 4 && field_at 0 2 ifil == 2) Version �
 abbrev pub even_steps : List ℕ → List Step
 even_steps smpl = step (length smpl % 2 == 0) OddSamples ∷ []
 
--- what is asked of the nine lists and the points
-unfoldable pub table_steps : Tables → List ℕ → List Step
-table_steps t smpl =
+-- what is asked of the nine lists and the points before presets and instruments are read
+unfoldable pub checked_steps : Tables → List ℕ → List Step
+checked_steps t smpl =
     count_steps t
     ++ (even_steps smpl
-    ++ (later_steps t
     ++ (all_index_steps t
-    ++ (flat_map (sample_step (length (words smpl))) (rows t.shdr)
-    ++ total_steps (rows t.shdr)))))
+    ++ flat_map (sample_step (length (words smpl))) (rows t.shdr)))
 
--- the bank and the counts, of a minor version, tables and points
-unfoldable pub table_content : ℕ → Windows → Tables → List ℕ → Content
-table_content minor w t smpl = record {
-  bank = record { minor = minor; texts = texts_read (chunks w.info); samples = samples_read (words smpl) (rows t.shdr) };
-  counts = counts_of (chunks w.info) (chunks w.sdta) t;
+-- and with what is asked then
+abbrev pub table_steps : Tables → List ℕ → List Step
+table_steps t smpl = checked_steps t smpl ++ (member_steps t ++ total_steps (rows t.shdr))
+
+-- the bank and the counts, of presets, instruments and samples
+unfoldable pub content_with : ℕ → Windows → Tables → Members → List Sample → Content
+content_with minor w t members samples = record {
+  bank = record {
+    minor = minor;
+    texts = texts_read (chunks w.info);
+    presets = members.presets.owners;
+    instruments = members.instruments.owners;
+    samples = samples;
+  };
+  counts = record {
+    texts = texts_cut (chunks w.info);
+    sm24 = sm24_dropped (chunks w.sdta);
+    zones = members.presets.counts.zones + members.instruments.counts.zones;
+    gens = members.presets.counts.gens + members.instruments.counts.gens;
+    ranges = members.presets.counts.ranges + members.instruments.counts.ranges;
+    loops = count_by is_loop_lost (rows t.shdr);
+    links = count_by (is_link_lost (length (rows t.shdr))) (rows t.shdr);
+  };
 }
+
+-- of a minor version, tables and points
+abbrev pub table_content : ℕ → Windows → Tables → List ℕ → Content
+table_content minor w t smpl = content_with minor w t (members_of t) (samples_read (words smpl) (rows t.shdr))

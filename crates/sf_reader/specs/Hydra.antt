@@ -1,6 +1,9 @@
 -- The nine lists of records, before and after their bytes are cut into records.
-use Rattle.std.specs.Prelude.{◌==◌, ◌%◌, ◌++◌, ℕ, List, [], ◌∷◌, length}
+use Rattle.std.specs.Prelude.{◌≡◌, ◌==◌, ◌%◌, ◌++◌, ℕ, List, [], ◌∷◌, length}
 use Rattle.riff_chunks.specs.Walk.{Chunk}
+use Rattle.modulators.specs.declared.modulator.Modulator.{Modulator}
+use Rattle.hydra_records.specs.declared.zone.Bag.{Bag}
+use Rattle.hydra_records.specs.declared.zone.Generator.{Generator}
 use Rattle.hydra_records.specs.Records.{records}
 use Rattle.hydra_records.specs.Spelling.{preset_head_of, bag_of, modulator_of, generator_of, instrument_head_of, sample_head_of}
 use Rattle.bank_format.specs.declared.fault.ReadFault.TheVariants.{RecordSize}
@@ -10,7 +13,7 @@ use Rattle.bank_format.specs.Tables.{Tables}
 use Rattle.bank_format.specs.Chunks.{body_in, or_zero}
 use Rattle.bank_format.specs.ReadSteps.{index_steps, bag_steps}
 use Rattle.sf_reader.specs.declared.hydra.LevelChunks.{LevelChunks}
-use Rattle.sf_reader.specs.declared.hydra.Level.{Level}
+use Rattle.sf_reader.specs.declared.hydra.LevelTables.{LevelTables}
 
 -- ---- bytes
 
@@ -75,7 +78,7 @@ abbrev pub level_whole_steps : ℕ → LevelChunks → List Step
 level_whole_steps size c = whole_step size c.heads.now ∷ whole_step 4 c.bags.now ∷ whole_step 10 c.modulators.now ∷ whole_step 4 c.generators.now ∷ []
 
 -- the four lists in those bytes
-abbrev pub level_of : {H : Type 0} → ℕ → (List ℕ → H) → LevelChunks → Level H
+abbrev pub level_of : {H : Type 0} → ℕ → (List ℕ → H) → LevelChunks → LevelTables H
 level_of size of_bytes c = record {
   heads = records size of_bytes c.heads.now;
   bags = records 4 bag_of c.bags.now;
@@ -84,5 +87,12 @@ level_of size of_bytes c = record {
 }
 
 -- where the first bags of the heads, and the generators and modulators of the bags, may lie
-abbrev pub level_index_steps : {H : Type 0} → List ℕ → Level H → List Step
+abbrev pub level_index_steps : {H : Type 0} → List ℕ → LevelTables H → List Step
 level_index_steps first_bags l = index_steps first_bags (length l.bags) ++ bag_steps l.bags (length l.generators) (length (or_zero l.modulators))
+
+-- the four lists are these, where a list of no modulators is seen as one zero record
+pub record AreLists {H : Type 0} (l : LevelTables H) (heads : List H) (bags : List Bag) (generators : List Generator) (modulators : List Modulator) : Type 0 where
+  pub heads_are : l.heads ≡ heads
+  pub bags_are : l.bags ≡ bags
+  pub generators_are : l.generators ≡ generators
+  pub modulators_are : or_zero l.modulators ≡ modulators

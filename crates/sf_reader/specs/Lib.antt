@@ -6,5 +6,6 @@ pub use Rattle.bank_format.specs.Reading
 pub use Rattle.bank_format.specs.ReadSteps
 pub mod Lists
 pub mod Hydra
+pub mod Owners
 pub mod Texts
 pub mod Content

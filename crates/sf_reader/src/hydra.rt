@@ -3,11 +3,12 @@ ghost use Rattle.std.specs.Prelude.{◌≡◌, [], ◌∷◌, length, map, nat_l
 ghost use Rattle.std.specs.List.{list_all};
 ghost use Rattle.bank_format.specs.Steps.{Passes};
 ghost use Rattle.bank_format.specs.Chunks.{body_in, or_zero};
-ghost use Rattle.bank_format.specs.ReadSteps.{chunk_step, nine, record_counts, count_steps, later_steps, all_index_steps};
+ghost use Rattle.bank_format.specs.ReadSteps.{chunk_step, nine, record_counts, count_steps, all_index_steps};
 ghost use Rattle.sf_reader.specs.Lists.{chunks};
-ghost use Rattle.sf_reader.specs.Hydra.{bodies_in, whole_steps, tables_from, level_whole_steps, level_of, level_index_steps};
+ghost use Rattle.sf_reader.specs.Hydra.{bodies_in, whole_steps, tables_from, level_whole_steps, level_of, level_index_steps, AreLists};
 
-use crate::indexes::{FirstBag, FirstGenerator, FirstModulator, Index, check_indexes};
+use crate::heads::OwnerHead;
+use crate::indexes::{FirstBag, FirstGenerator, FirstModulator, check_indexes};
 use bank_format::ReadFault;
 use hydra_records::{Bag, Generator, InstrumentHead, PresetHead, Record, SampleHead, Table};
 use modulators::Modulator;
@@ -97,20 +98,27 @@ impl<'a> HydraChunks<'a> {
 
 /// The four lists of presets, or of instruments.
 #[derive(Drop)]
-pub(crate) struct Level<'a, H: Record> {
-    heads: Table<'a, H>,
-    bags: Table<'a, Bag>,
-    modulators: Table<'a, Modulator>,
-    generators: Table<'a, Generator>,
+pub(crate) struct LevelTables<'a, H: Record> {
+    /// The heads of the presets or of the instruments, and their terminal.
+    pub heads: Table<'a, H>,
+
+    /// Their bags, each of which is a zone, and a terminal.
+    pub bags: Table<'a, Bag>,
+
+    /// The modulators of the bags, and a terminal, which may be missing.
+    pub modulators: Table<'a, Modulator>,
+
+    /// The generators of the bags, and a terminal.
+    pub generators: Table<'a, Generator>,
 }
 
 impl<'a> LevelChunks<'a> {
     // The four lists, each of which has to be whole records long.
-    fn tables<H: Record>(&self) -> Result<Level<'a, H>, ReadFault>
+    fn tables<H: Record>(&self) -> Result<LevelTables<'a, H>, ReadFault>
         ensures { Passes (λ level. level) result (level_whole_steps H.SIZE self.now)
             (level_of H.SIZE H.of_bytes self.now) }
     {
-        Ok(Level {
+        Ok(LevelTables {
             heads: Table::over(self.heads).ok_or(ReadFault::RecordSize)?,
             bags: Table::over(self.bags).ok_or(ReadFault::RecordSize)?,
             modulators: Table::over(self.modulators).ok_or(ReadFault::RecordSize)?,
@@ -119,7 +127,7 @@ impl<'a> LevelChunks<'a> {
     }
 }
 
-impl<'a, H: Record + Copy> Level<'a, H> {
+impl<'a, H: OwnerHead> LevelTables<'a, H> {
     // How many modulators there are; a list of none reads as one zero record.
     fn modulator_count(&self) -> usize
         ensures { result ≡ length (or_zero self.now.modulators) }
@@ -130,10 +138,7 @@ impl<'a, H: Record + Copy> Level<'a, H> {
     // Each head says where its bags begin, and each bag where its generators and modulators do.
     #[tactic(auto, unfolding(bank_format::specs::ReadSteps::index_steps))]
     fn check_indexes(&self) -> Result<(), ReadFault>
-    where
-        FirstBag: Index<H>,
-        ensures { Passes (λ u. u) result
-            (level_index_steps (map ⟦<FirstBag as Index<H>>⟧.index self.now.heads) self.now) tt }
+        ensures { Passes (λ u. u) result (level_index_steps (map H.first_bag self.now.heads) self.now) tt }
     {
         check_indexes::<H, FirstBag>(&self.heads, self.bags.len())?;
         check_indexes::<Bag, FirstGenerator>(&self.bags, self.generators.len())?;
@@ -144,8 +149,8 @@ impl<'a, H: Record + Copy> Level<'a, H> {
 /// The nine lists. A list of modulators that holds none is seen as one zero record.
 #[derive(Drop)]
 pub(crate) struct Tables<'a> {
-    presets: Level<'a, PresetHead>,
-    instruments: Level<'a, InstrumentHead>,
+    presets: LevelTables<'a, PresetHead>,
+    instruments: LevelTables<'a, InstrumentHead>,
     samples: Table<'a, SampleHead>,
 }
 
@@ -169,6 +174,20 @@ impl<'a> Model for Tables<'a> {
 }
 
 impl<'a> Tables<'a> {
+    /// The four lists of the presets.
+    pub fn presets(&self) -> &LevelTables<'a, PresetHead>
+        ensures { AreLists result.now self.now.phdr self.now.pbag self.now.pgen self.now.pmod }
+    {
+        &self.presets
+    }
+
+    /// The four lists of the instruments.
+    pub fn instruments(&self) -> &LevelTables<'a, InstrumentHead>
+        ensures { AreLists result.now self.now.inst self.now.ibag self.now.igen self.now.imod }
+    {
+        &self.instruments
+    }
+
     /// The heads of the samples, and their terminal.
     pub fn samples(&self) -> &Table<'a, SampleHead>
         ensures { result.now ≡ self.now.shdr }
@@ -204,19 +223,6 @@ impl<'a> Tables<'a> {
         }
         if !all_at_most(RECORDS, &counts) {
             return Err(ReadFault::TooMany);
-        }
-        Ok(())
-    }
-
-    /// For now no list but that of the samples has more than its terminal.
-    #[tactic(auto, unfolding(bank_format::specs::ReadSteps::later_steps))]
-    pub fn check_later(&self) -> Result<(), ReadFault>
-        ensures { Passes (λ u. u) result (later_steps self.now) tt }
-    {
-        let counts = self.counts();
-        let other_than_samples = &counts[..8];
-        if !all_at_most(1, other_than_samples) {
-            return Err(ReadFault::LaterPart);
         }
         Ok(())
     }

@@ -3,8 +3,9 @@ ghost use Rattle.std.specs.Prelude.{◌≡◌, ℕ, map};
 ghost use Rattle.bank_format.specs.Steps.{Passes};
 ghost use Rattle.bank_format.specs.ReadSteps.{index_steps};
 
+use crate::heads::OwnerHead;
 use bank_format::ReadFault;
-use hydra_records::{Bag, InstrumentHead, PresetHead, Record, Table};
+use hydra_records::{Bag, Record, Table};
 
 /// A number of a record that says where in another list something of it begins.
 pub(crate) trait Index<R> {
@@ -25,19 +26,11 @@ pub(crate) enum FirstGenerator {}
 /// Where the modulators of a bag begin.
 pub(crate) enum FirstModulator {}
 
-impl Index<PresetHead> for FirstBag {
-    ghost index = { λ head. head.bag };
+impl<H: OwnerHead> Index<H> for FirstBag {
+    ghost index = { H.first_bag };
 
-    fn of(head: &PresetHead) -> u16 {
-        head.bag
-    }
-}
-
-impl Index<InstrumentHead> for FirstBag {
-    ghost index = { λ head. head.bag };
-
-    fn of(head: &InstrumentHead) -> u16 {
-        head.bag
+    fn of(head: &H) -> u16 {
+        head.first_bag()
     }
 }
 

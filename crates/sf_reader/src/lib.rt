@@ -1,13 +1,13 @@
 //! Reading SoundFont 2 files (SoundFont 2.04): a file is gone through by steps in a fixed order, and
 //! the first that it breaks gives its fault. What a file says, and what the steps are, stands in
 //! bank_format.
-//!
-//! For now presets and instruments are not read: a file that has any is `ReadFault::LaterPart`.
 #![tactic(auto)]
 
 mod frame;
+mod heads;
 mod hydra;
 mod indexes;
+mod owners;
 mod reader;
 mod samples;
 mod texts;
@@ -17,3 +17,5 @@ pub use reader::read;
 
 #[cfg(test)]
 mod tests;
+#[cfg(test)]
+mod zone_tests;

@@ -9,23 +9,26 @@ ghost use Rattle.bank_format.specs.Chunks.{body_in};
 ghost use Rattle.bank_format.specs.Reading.{sm24_dropped};
 ghost use Rattle.bank_format.specs.ReadSteps.{ReadsAs, fault_of};
 ghost use Rattle.sf_reader.specs.Lists.{chunks};
-ghost use Rattle.sf_reader.specs.Content.{list_content_steps, list_content, version_steps, table_steps, table_content};
+ghost use Rattle.sf_reader.specs.Content.{list_content_steps, list_content, version_steps, checked_steps, table_steps, table_content, content_with};
+ghost use Rattle.sf_reader.specs.Owners.{added, AreSmall};
 
 use crate::frame::{Lists, lists_of, window_of};
 use crate::hydra::{HydraChunks, Tables, needed_body};
+use crate::owners::{Members, add, read_members};
 use crate::samples::{
     check_samples, check_total, count_lost_links, count_lost_loops, read_samples,
 };
 use crate::texts::{count_cut, cut_texts, texts_of};
-use bank_core::{Bank, Parts};
-use bank_format::{Counts, ReadFault};
+use bank_core::{Bank, Parts, Sample};
+use bank_format::{Counts, ReadFault, read_banks_are_valid};
+use numbered_lists::NumberedList;
 use riff_chunks::body_of;
 use sf_base::{OutOfMemory, u16_at};
 use std::alloc::Global;
 
 /// The bank of a file, and the counts of what was dropped or mended; or the fault of the first step
 /// of reading that the file breaks. `OutOfMemory` may come in place of either, where memory for the
-/// samples was refused.
+/// presets, instruments or samples was refused.
 ///
 /// The bank borrows the file: its texts and the points of its samples are slices of it. No bank
 /// is read that is not valid.
@@ -38,6 +41,7 @@ pub fn read<'a>(alloc: Global, file: &'a [u8]) -> Result<(Bank<'a>, Counts), Rea
     let window = window_of(file)?;
     let lists = lists_of(window)?;
     let (parts, counts) = read_lists(alloc, &lists)?;
+    read_banks_are_valid();
     Ok((Bank::from_valid_parts(parts), counts))
 }
 
@@ -51,11 +55,7 @@ fn read_lists<'a>(alloc: Global, lists: &Lists<'a>) -> Result<(Parts<'a>, Counts
     let minor = minor_of(version)?;
     let tables = bodies.tables()?;
     let smpl = smpl_of(lists.sdta);
-    check_tables(&tables, smpl)?;
-    match read_tables(alloc, minor, lists, &tables, smpl) {
-        Ok(content) => Ok(content),
-        Err(OutOfMemory) => Err(ReadFault::OutOfMemory),
-    }
+    read_tables(alloc, minor, lists, &tables, smpl)
 }
 
 // The minor version, where the major one is 2 (SoundFont 2.04, section 5.1).
@@ -76,52 +76,71 @@ fn smpl_of(sdta: &[u8]) -> &[u8]
     body_of(sdta, *b"smpl").unwrap_or(&[])
 }
 
-// Everything that is asked of the nine lists and the points.
-#[tactic(auto, unfolding(crate::specs::Content::table_steps))]
-fn check_tables(tables: &Tables, smpl: &[u8]) -> Result<(), ReadFault>
-    ensures passes { Passes (λ u. u) result (table_steps tables.now smpl.now) tt }
-    ensures even { OnOk result (length smpl.now % 2 ≡ 0) }
-{
-    tables.check_counts()?;
-    if smpl.len() % 2 != 0 {
-        return Err(ReadFault::OddSamples);
-    }
-    tables.check_later()?;
-    tables.check_indexes()?;
-    check_samples(tables.samples(), smpl.len() / 2)?;
-    check_total(tables.samples())
-}
-
-// The bank and the counts of lists that were checked.
+// What the nine lists and the points hold.
 fn read_tables<'a>(
     alloc: Global,
     minor: u16,
     lists: &Lists<'a>,
     tables: &Tables,
     smpl: &'a [u8],
-) -> Result<(Parts<'a>, Counts), OutOfMemory>
-    requires { length smpl.now % 2 ≡ 0 }
-    ensures { IfOk result (λ r. record { bank = r.0; counts = r.1 }
-        ≡ table_content minor lists.now tables.now smpl.now) }
+) -> Result<(Parts<'a>, Counts), ReadFault>
+    ensures { Passes (λ r. record { bank = r.0; counts = r.1 }) result (table_steps tables.now smpl.now)
+        (table_content minor lists.now tables.now smpl.now) }
 {
-    let samples = read_samples(alloc, tables.samples(), smpl)?;
+    check_tables(tables, smpl)?;
+    let members = read_members(alloc, tables)?;
+    check_total(tables.samples())?;
+    match read_samples(alloc, tables.samples(), smpl) {
+        Ok(samples) => Ok(content_of(minor, lists, tables, members, samples)),
+        Err(OutOfMemory) => Err(ReadFault::OutOfMemory),
+    }
+}
+
+// What is asked of the nine lists and the points before presets and instruments are read.
+#[tactic(auto, unfolding(crate::specs::Content::checked_steps))]
+fn check_tables(tables: &Tables, smpl: &[u8]) -> Result<(), ReadFault>
+    ensures passes { Passes (λ u. u) result (checked_steps tables.now smpl.now) tt }
+    ensures even { OnOk result (length smpl.now % 2 ≡ 0) }
+{
+    tables.check_counts()?;
+    if smpl.len() % 2 != 0 {
+        return Err(ReadFault::OddSamples);
+    }
+    tables.check_indexes()?;
+    check_samples(tables.samples(), smpl.len() / 2)
+}
+
+// The bank of these members, and the counts.
+fn content_of<'a>(
+    minor: u16,
+    lists: &Lists<'a>,
+    tables: &Tables,
+    members: Members,
+    samples: NumberedList<Sample<'a>>,
+) -> (Parts<'a>, Counts)
+    requires { AreSmall (added members.presets.counts members.instruments.counts) }
+    ensures { record { bank = result.0; counts = result.1 }
+        ≡ content_with minor lists.now tables.now members samples.entry }
+{
     let texts = texts_of(lists.info);
+    let zone_counts = add(members.presets.counts, members.instruments.counts);
     let counts = Counts {
         texts: count_cut(&texts),
         sm24: count_sm24(lists.sdta),
-        // What is dropped of zones comes with presets and instruments.
-        zones: 0,
-        gens: 0,
-        ranges: 0,
+        zones: zone_counts.zones,
+        gens: zone_counts.gens,
+        ranges: zone_counts.ranges,
         loops: count_lost_loops(tables.samples()),
         links: count_lost_links(tables.samples()),
     };
     let parts = Parts {
         minor,
         texts: cut_texts(&texts),
+        presets: members.presets.owners,
+        instruments: members.instruments.owners,
         samples,
     };
-    Ok((parts, counts))
+    (parts, counts)
 }
 
 // One where there is a chunk of the eight further bits of each point.

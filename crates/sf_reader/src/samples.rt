@@ -1,22 +1,22 @@
 //! The samples of a file (SoundFont 2.04, section 7.10).
 ghost use Rattle.std.specs.Prelude.{◌≡◌, ◌+◌, ◌-◌, ◌%◌, ◌/◌, ◌==◌, not, flat_map, length, map, take, count_by, slice_range, IfOk};
 ghost use Rattle.std.specs.Iterator.Adapters.{take_source, take_count};
-ghost use Rattle.sf_base.specs.Names.{before_zero};
 ghost use Rattle.sample_view.specs.Words.{words};
 ghost use Rattle.bank_format.specs.Steps.{Passes};
-ghost use Rattle.bank_format.specs.Tables.{rows};
+ghost use Rattle.bank_format.specs.Windows.{rows};
 ghost use Rattle.bank_format.specs.Samples.{has_loop, loop_read, kind_read, sample_read, is_loop_lost, is_link_lost};
 ghost use Rattle.bank_format.specs.Reading.{samples_read};
 ghost use Rattle.bank_format.specs.ReadSteps.{sample_step, total_steps};
 
-use crate::texts::before_zero;
+use crate::heads::row_count;
+use crate::texts::name_of;
 use bank_core::{Kind, Sample};
 use bank_format::ReadFault;
 use hydra_records::{Records, SampleHead, Table};
 use numbered_lists::NumberedList;
 use sample_view::Points;
 use sf_base::limits::{POINTS, ZERO_POINTS};
-use sf_base::{Name20, OutOfMemory, part_of};
+use sf_base::{OutOfMemory, part_of};
 use std::alloc::Global;
 use std::iter::Take;
 
@@ -37,13 +37,6 @@ const PACKED: u16 = 0x0010;
 
 /// The bit of a type by which the points are in ROM.
 const ROM: u16 = 0x8000;
-
-// How many samples there are: all heads but the last, which is the terminal.
-fn row_count(heads: &Table<SampleHead>) -> usize
-    ensures { result ≡ length (rows heads.now) }
-{
-    heads.len().saturating_sub(1)
-}
 
 // The heads of the samples.
 fn rows<'a>(heads: &Table<'a, SampleHead>) -> Take<Records<'a, SampleHead>>
@@ -133,13 +126,6 @@ fn read_sample<'a>(alloc: Global, head: &SampleHead, count: usize, smpl: &'a [u8
         correction: head.correction,
         kind: kind_of(head, count),
     }
-}
-
-// The name in a field of a head.
-fn name_of(field: &[u8; 20]) -> Name20
-    ensures { result ≡ before_zero field.now }
-{
-    Name20::from_bytes(before_zero(field)).unwrap()
 }
 
 // Its points, of those in `smpl`.

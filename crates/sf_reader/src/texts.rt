@@ -7,8 +7,8 @@ ghost use Rattle.sf_reader.specs.Texts.{texts_in, cut_of, cut_count};
 
 use bank_core::{Text, Texts};
 use riff_chunks::body_of;
-use sf_base::front_of;
 use sf_base::limits::{COMMENT_LENGTH, TEXT_LENGTH};
+use sf_base::{Name20, front_of};
 
 /// The bytes before the first zero.
 pub(crate) fn before_zero(bytes: &[u8]) -> &[u8]
@@ -19,6 +19,13 @@ pub(crate) fn before_zero(bytes: &[u8]) -> &[u8]
         .position(|byte| *byte == 0)
         .unwrap_or(bytes.len());
     front_of(bytes, end)
+}
+
+/// The name in a field of a head: the bytes before the first zero.
+pub(crate) fn name_of(field: &[u8; 20]) -> Name20
+    ensures { result ≡ before_zero field.now }
+{
+    Name20::from_bytes(before_zero(field)).unwrap()
 }
 
 /// The eight texts of the list `INFO`, before any is cut. A missing one is empty.

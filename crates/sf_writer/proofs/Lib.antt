@@ -1,5 +1,11 @@
 pub mod SentLemmas
+pub mod PenLemmas
+pub mod NameLemmas
 pub mod TextLemmas
 pub mod PointLemmas
+pub mod BagLemmas
+pub mod ZoneListLemmas
+pub mod PresetLemmas
+pub mod InstrumentLemmas
 pub mod RecordLemmas
 pub mod FileLemmas

@@ -30,11 +30,6 @@ zero_bytes = refl
 pub sample-parts : (s : Sample) → flat_map word_bytes (points_written s) ≡ flat_map word_bytes s.points ++ replicate 92 0
 sample-parts s = flat_map-append word_bytes s.points (replicate 46 0) ∙ ap (λ (zs : List ℕ). flat_map word_bytes s.points ++ zs) zero_bytes
 
-pub length-sample : (s : Sample) → length (flat_map word_bytes (points_written s)) ≡ length (flat_map word_bytes s.points) + 92
-length-sample s = omega (arith, ap length (sample-parts s), length-append (flat_map word_bytes s.points) (replicate 92 0))
-
-pub ruleset sample_parts = (one_after_another, sample-parts, length-sample)
-
 -- ---- all samples
 
 -- the points from place i on

@@ -1,124 +1,28 @@
--- The lists of records, and how long they are.
-use Rattle.std.proofs.Common.{◌≡◌, ◌<◌, ◌+◌, ◌-◌, ◌*◌, ◌%◌, ℕ, List, [], ◌∷◌, ◌++◌, length, get_or, drop, replicate, refl, ap, sym, ◌∙◌, arith}
+-- The heads of samples, and the nine lists, and how long they are.
+use Rattle.std.proofs.Common.{◌≡◌, ◌<◌, ◌≤◌, ◌+◌, ◌*◌, ◌%◌, ℕ, List, [], ◌∷◌, ◌++◌, length, get_or, drop, refl, ap, sym, ◌∙◌, append_assoc, arith}
 use Rattle.std.specs.List.{flat_map, concat, AllByRecursion}
 use Rattle.std.specs.Int.{w8, cast_unsigned}
-use Rattle.std.proofs.lemmas.List.{length-append, length-replicate, append-nil, at_drop_more}
+use Rattle.std.proofs.lemmas.List.{length-append, append-nil, at_drop_more, drop_all}
 use Rattle.std.proofs.lemmas.List.Concat.{flat_map-append}
 use Rattle.byteorder.specs.Endian.{little_bytes}
+use Rattle.generators.specs.declared.level.Level.TheVariants as level
 use Rattle.riff_chunks.specs.Walk.{Chunk, LIST}
 use Rattle.riff_chunks.specs.Spelling.{chunk, chunk_head, spell}
 use Rattle.riff_chunks.proofs.SpellingLemmas.{length-chunk}
-use Rattle.sf_base.specs.Names.{filled, IsName}
 use Rattle.hydra_records.specs.declared.head.SampleHead.{SampleHead}
-use Rattle.hydra_records.specs.Spelling.{preset_head_bytes, bag_bytes, modulator_bytes, generator_bytes, instrument_head_bytes, sample_head_bytes}
+use Rattle.hydra_records.specs.Spelling.{preset_head_bytes, instrument_head_bytes, sample_head_bytes}
 use Rattle.bank_core.specs.declared.parts.Sample.{Sample}
 use Rattle.bank_core.specs.declared.parts.Parts.{Parts}
 use Rattle.bank_core.specs.Valid.{IsSample, IsValid}
-use Rattle.bank_format.specs.Ids.{PDTA, PHDR, PBAG, PMOD, PGEN, INST, IBAG, IMOD, IGEN, SHDR, EOP, EOI, EOS}
-use Rattle.bank_format.specs.Tables.{tables_of, preset_end, instrument_end, sample_end, bag_end, modulator_end, generator_end, sample_head, sample_heads_from}
+use Rattle.bank_format.specs.Ids.{PDTA, PHDR, INST, SHDR, EOS}
+use Rattle.bank_format.specs.Tables.{tables_of, sample_end, sample_head, sample_heads_from, all_preset_bags, all_instrument_bags}
 use Rattle.bank_format.specs.Canon.{pdta}
-use Rattle.sf_writer.specs.Lists.{preset_lists, instrument_lists}
-use Rattle.sf_writer.proofs.SentLemmas.{one_after_another, chunk-even, length-chunk-even, form-even, length-form-even, length-LIST}
-
--- ---- the lists of presets
-
-abbrev phdr : List ℕ
-phdr = chunk PHDR (flat_map preset_head_bytes (preset_end ∷ []))
-
-abbrev pbag : List ℕ
-pbag = chunk PBAG (flat_map bag_bytes (bag_end ∷ []))
-
-abbrev pmod : List ℕ
-pmod = chunk PMOD (flat_map modulator_bytes (modulator_end ∷ []))
-
-abbrev pgen : List ℕ
-pgen = chunk PGEN (flat_map generator_bytes (generator_end ∷ []))
-
-pub preset_lists-is : spell preset_lists ≡ phdr ++ (pbag ++ (pmod ++ pgen))
-unfolding preset_lists
-preset_lists-is = ap (λ (t : List ℕ). phdr ++ (pbag ++ (pmod ++ t))) (append-nil pgen)
-
-pub length-phdr : length phdr ≡ 46
-unfolding PHDR preset_head_bytes EOP
-length-phdr = length-chunk-even PHDR (flat_map preset_head_bytes (preset_end ∷ [])) refl refl
-
-pub length-pbag : length pbag ≡ 12
-unfolding PBAG bag_bytes
-length-pbag = length-chunk-even PBAG (flat_map bag_bytes (bag_end ∷ [])) refl refl
-
-pub length-pmod : length pmod ≡ 18
-unfolding PMOD modulator_bytes
-length-pmod = length-chunk-even PMOD (flat_map modulator_bytes (modulator_end ∷ [])) refl refl
-
-pub length-pgen : length pgen ≡ 12
-unfolding PGEN generator_bytes
-length-pgen = length-chunk-even PGEN (flat_map generator_bytes (generator_end ∷ [])) refl refl
-
-pub length_preset_lists : length (spell preset_lists) ≡ 88
-length_preset_lists =
-    omega (
-      arith,
-      ap length preset_lists-is,
-      length-append phdr (pbag ++ (pmod ++ pgen)),
-      length-append pbag (pmod ++ pgen),
-      length-append pmod pgen,
-      length-phdr,
-      length-pbag,
-      length-pmod,
-      length-pgen,
-    )
-
-pub ruleset preset_parts = (one_after_another, preset_lists-is, length_preset_lists, length-phdr, length-pbag, length-pmod, length-pgen)
-
--- ---- the lists of instruments
-
-abbrev inst : List ℕ
-inst = chunk INST (flat_map instrument_head_bytes (instrument_end ∷ []))
-
-abbrev ibag : List ℕ
-ibag = chunk IBAG (flat_map bag_bytes (bag_end ∷ []))
-
-abbrev imod : List ℕ
-imod = chunk IMOD (flat_map modulator_bytes (modulator_end ∷ []))
-
-abbrev igen : List ℕ
-igen = chunk IGEN (flat_map generator_bytes (generator_end ∷ []))
-
-pub instrument_lists-is : spell instrument_lists ≡ inst ++ (ibag ++ (imod ++ igen))
-unfolding instrument_lists
-instrument_lists-is = ap (λ (t : List ℕ). inst ++ (ibag ++ (imod ++ t))) (append-nil igen)
-
-pub length-inst : length inst ≡ 30
-unfolding INST instrument_head_bytes EOI
-length-inst = length-chunk-even INST (flat_map instrument_head_bytes (instrument_end ∷ [])) refl refl
-
-pub length-ibag : length ibag ≡ 12
-unfolding IBAG bag_bytes
-length-ibag = length-chunk-even IBAG (flat_map bag_bytes (bag_end ∷ [])) refl refl
-
-pub length-imod : length imod ≡ 18
-unfolding IMOD modulator_bytes
-length-imod = length-chunk-even IMOD (flat_map modulator_bytes (modulator_end ∷ [])) refl refl
-
-pub length-igen : length igen ≡ 12
-unfolding IGEN generator_bytes
-length-igen = length-chunk-even IGEN (flat_map generator_bytes (generator_end ∷ [])) refl refl
-
-pub length_instrument_lists : length (spell instrument_lists) ≡ 72
-length_instrument_lists =
-    omega (
-      arith,
-      ap length instrument_lists-is,
-      length-append inst (ibag ++ (imod ++ igen)),
-      length-append ibag (imod ++ igen),
-      length-append imod igen,
-      length-inst,
-      length-ibag,
-      length-imod,
-      length-igen,
-    )
-
-pub ruleset instrument_parts = (one_after_another, instrument_lists-is, length_instrument_lists, length-inst, length-ibag, length-imod, length-igen)
+use Rattle.sf_writer.specs.Lists.{zone_lists}
+use Rattle.sf_writer.proofs.SentLemmas.{one_after_another, chunk-even, form-even, length-form-even, length-LIST}
+use Rattle.sf_writer.proofs.NameLemmas.{length-filled}
+use Rattle.sf_writer.proofs.PresetLemmas.{length-phdr_list}
+use Rattle.sf_writer.proofs.InstrumentLemmas.{length-inst_list}
+use Rattle.sf_writer.proofs.ZoneListLemmas.{length_zone_lists}
 
 -- ---- the heads of samples
 
@@ -136,9 +40,6 @@ length-head : (h : SampleHead) → length h.name ≡ 20 → length (sample_head_
 unfolding sample_head_bytes
 length-head h e = omega (arith, e, length-append h.name (concat (little_bytes 4 h.start ∷ little_bytes 4 h.end ∷ little_bytes 4 h.loop_start ∷ little_bytes 4 h.loop_end ∷ little_bytes 4 h.rate ∷ little_bytes 1 h.key ∷ little_bytes 1 (cast_unsigned w8 h.correction) ∷ little_bytes 2 h.link ∷ little_bytes 2 h.kind ∷ [])))
 
-length-filled : (name : List ℕ) → IsName name → length (filled name) ≡ 20
-length-filled name v = let short = v.0 in omega (arith, short, length-append name (replicate (20 - length name) 0), length-replicate {A = ℕ} (20 - length name) 0)
-
 length-heads : (n start : ℕ) (samples : List Sample) → AllByRecursion (IsSample n) samples → length (flat_map sample_head_bytes (sample_heads_from start samples)) ≡ 46 * length samples
 length-heads n start [] v = refl
 length-heads n start (s ∷ samples) v =
@@ -149,19 +50,18 @@ length-heads n start (s ∷ samples) v =
       length-heads n (start + length s.points + 46) samples v.1,
     )
 
-pub length-sample_end : length (sample_head_bytes sample_end) ≡ 46
+length-sample_end : length (sample_head_bytes sample_end) ≡ 46
 unfolding EOS
 length-sample_end = length-head sample_end refl
 
-pub shdr_list-is : (b : Parts) → length (heads b) % 2 ≡ 0
-    → chunk SHDR (heads b) ≡ chunk_head SHDR (length (heads b)) ++ (flat_map sample_head_bytes (sample_heads_from 0 b.samples) ++ sample_head_bytes sample_end)
-shdr_list-is b even = chunk-even SHDR (heads b) even ∙ ap (λ (t : List ℕ). chunk_head SHDR (length (heads b)) ++ t) (shdr-is b)
+pub shdr_list-is : (b : Parts) → length (heads b) % 2 ≡ 0 → chunk SHDR (heads b) ≡ chunk_head SHDR (length (heads b)) ++ heads b
+shdr_list-is b even = chunk-even SHDR (heads b) even
 
 pub length-shdr_list : (b : Parts) → length (chunk SHDR (heads b)) ≡ 8 + length (heads b) + length (heads b) % 2
 unfolding SHDR
 length-shdr_list b = length-chunk SHDR (heads b) refl
 
-pub length-shdr_parts : (b : Parts) → length (heads b) ≡ length (flat_map sample_head_bytes (sample_heads_from 0 b.samples)) + 46
+length-shdr_parts : (b : Parts) → length (heads b) ≡ length (flat_map sample_head_bytes (sample_heads_from 0 b.samples)) + 46
 length-shdr_parts b =
     omega (
       arith,
@@ -175,40 +75,72 @@ length_shdr b v = omega (arith, length-shdr_parts b, length-heads (length b.samp
 
 pub ruleset shdr_list = (length-shdr_list)
 
-pub ruleset shdr_parts = (one_after_another, shdr_list-is, length-shdr_list, length-shdr_parts, length-sample_end)
+pub ruleset shdr_parts = (one_after_another, shdr_list-is, length-shdr_list)
 
--- the heads from place i on are that of sample i, and those after it
+-- the heads of the samples from place i on, and the last record
+unfoldable pub heads_left : ℕ → ℕ → List Sample → List ℕ
+heads_left start i samples = flat_map sample_head_bytes (sample_heads_from start (drop i samples)) ++ sample_head_bytes sample_end
+
+pub heads-start : (b : Parts) (samples : List Sample) → samples ≡ b.samples → heads b ≡ heads_left 0 0 samples
+unfolding heads_left
+heads-start b samples e = shdr-is b ∙ ap (λ (xs : List Sample). flat_map sample_head_bytes (sample_heads_from 0 xs) ++ sample_head_bytes sample_end) (sym e)
+
+-- those from place i on are that of sample i, and those after it
 pub heads-next : (samples : List Sample) (i start : ℕ) (s : Sample) (h : SampleHead) (bytes : List ℕ) → i < length samples → s ≡ get_or samples i s
     → h ≡ sample_head start s → bytes ≡ sample_head_bytes h
-    → flat_map sample_head_bytes (sample_heads_from start (drop i samples)) ≡ bytes ++ flat_map sample_head_bytes (sample_heads_from (h.end + 46) (drop (i + 1) samples))
+    → heads_left start i samples ≡ bytes ++ heads_left (h.end + 46) (i + 1) samples
+unfolding heads_left
 heads-next samples i start s h bytes lt is made spelled =
-    at_drop_more (λ (xs : List Sample). flat_map sample_head_bytes (sample_heads_from start xs)) samples i s lt
-    ∙ ap (λ (x : Sample). flat_map sample_head_bytes (sample_heads_from start (x ∷ drop (i + 1) samples))) (sym is)
-    ∙ ap (λ (x : SampleHead). sample_head_bytes x ++ flat_map sample_head_bytes (sample_heads_from (x.end + 46) (drop (i + 1) samples))) (sym made)
-    ∙ ap (λ (t : List ℕ). t ++ flat_map sample_head_bytes (sample_heads_from (h.end + 46) (drop (i + 1) samples))) (sym spelled)
+    at_drop_more (λ (xs : List Sample). flat_map sample_head_bytes (sample_heads_from start xs) ++ sample_head_bytes sample_end) samples i s lt
+    ∙ ap (λ (x : Sample). flat_map sample_head_bytes (sample_heads_from start (x ∷ drop (i + 1) samples)) ++ sample_head_bytes sample_end) (sym is)
+    ∙ append_assoc (sample_head_bytes (sample_head start s)) (flat_map sample_head_bytes (sample_heads_from (start + length s.points + 46) (drop (i + 1) samples))) (sample_head_bytes sample_end)
+    ∙ ap (λ (x : SampleHead). sample_head_bytes x ++ heads_left (x.end + 46) (i + 1) samples) (sym made)
+    ∙ ap (λ (t : List ℕ). t ++ heads_left (h.end + 46) (i + 1) samples) (sym spelled)
+
+-- after the last of them the last record is left
+pub heads-last : (samples : List Sample) (i start : ℕ) (h : SampleHead) (bytes : List ℕ) → length samples ≤ i → h ≡ sample_end → bytes ≡ sample_head_bytes h
+    → heads_left start i samples ≡ bytes
+unfolding heads_left
+heads-last samples i start h bytes le made spelled =
+    ap (λ (xs : List Sample). flat_map sample_head_bytes (sample_heads_from start xs) ++ sample_head_bytes sample_end) (drop_all i samples le) ∙ ap sample_head_bytes (sym made) ∙ sym spelled
 
 -- ---- all nine
 
-pub pdta-is : (b : Parts) → spell (pdta (tables_of b)) ≡ spell preset_lists ++ (spell instrument_lists ++ chunk SHDR (heads b))
-unfolding pdta tables_of preset_lists instrument_lists
-pdta-is b =
-    flat_map-append (λ (c : Chunk). chunk c.id c.body) preset_lists (instrument_lists ++ record { id = SHDR; body = heads b } ∷ [])
-    ∙ ap (λ (t : List ℕ). spell preset_lists ++ t) (flat_map-append (λ (c : Chunk). chunk c.id c.body) instrument_lists (record { id = SHDR; body = heads b } ∷ []))
-    ∙ ap (λ (t : List ℕ). spell preset_lists ++ (spell instrument_lists ++ t)) (append-nil (chunk SHDR (heads b)))
+abbrev phdr : Parts → List ℕ
+phdr b = chunk PHDR (flat_map preset_head_bytes (tables_of b).phdr)
 
-pub length-pdta : (b : Parts) → length (spell (pdta (tables_of b))) ≡ 160 + length (chunk SHDR (heads b))
+abbrev inst : Parts → List ℕ
+inst b = chunk INST (flat_map instrument_head_bytes (tables_of b).inst)
+
+abbrev preset_lists : Parts → List ℕ
+preset_lists b = spell (zone_lists level.Preset (all_preset_bags b))
+
+abbrev instrument_lists : Parts → List ℕ
+instrument_lists b = spell (zone_lists level.Instrument (all_instrument_bags b))
+
+pub pdta-is : (b : Parts) → spell (pdta (tables_of b)) ≡ phdr b ++ (preset_lists b ++ (inst b ++ (instrument_lists b ++ chunk SHDR (heads b))))
+unfolding pdta tables_of zone_lists
+pdta-is b =
+    let shdr : List Chunk = record { id = SHDR; body = heads b } ∷ [] in
+    let last : spell (zone_lists level.Instrument (all_instrument_bags b) ++ shdr) ≡ instrument_lists b ++ chunk SHDR (heads b) =
+    flat_map-append (λ (c : Chunk). chunk c.id c.body) (zone_lists level.Instrument (all_instrument_bags b)) shdr
+    ∙ ap (λ (t : List ℕ). instrument_lists b ++ t) (append-nil (chunk SHDR (heads b))) in
+    ap (λ (t : List ℕ). phdr b ++ t) (flat_map-append (λ (c : Chunk). chunk c.id c.body) (zone_lists level.Preset (all_preset_bags b)) (record { id = INST; body = flat_map instrument_head_bytes (tables_of b).inst } ∷ (zone_lists level.Instrument (all_instrument_bags b) ++ shdr)))
+    ∙ ap (λ (t : List ℕ). phdr b ++ (preset_lists b ++ (inst b ++ t))) last
+
+pub length-pdta : (b : Parts) → length (spell (pdta (tables_of b))) ≡ length (phdr b) + length (preset_lists b) + length (inst b) + length (instrument_lists b) + length (chunk SHDR (heads b))
 length-pdta b =
     omega (
       arith,
       ap length (pdta-is b),
-      length-append (spell preset_lists) (spell instrument_lists ++ chunk SHDR (heads b)),
-      length-append (spell instrument_lists) (chunk SHDR (heads b)),
-      length_preset_lists,
-      length_instrument_lists,
+      length-append (phdr b) (preset_lists b ++ (inst b ++ (instrument_lists b ++ chunk SHDR (heads b)))),
+      length-append (preset_lists b) (inst b ++ (instrument_lists b ++ chunk SHDR (heads b))),
+      length-append (inst b) (instrument_lists b ++ chunk SHDR (heads b)),
+      length-append (instrument_lists b) (chunk SHDR (heads b)),
     )
 
 pdta-even : (b : Parts) → length (spell (pdta (tables_of b))) % 2 ≡ 0
-pdta-even b = omega (arith, length-pdta b, length-shdr_list b)
+pdta-even b = omega (arith, length-pdta b, length-shdr_list b, length-phdr_list b, length-inst_list b, length_zone_lists level.Preset (all_preset_bags b), length_zone_lists level.Instrument (all_instrument_bags b))
 
 length-PDTA : length PDTA ≡ 4
 unfolding PDTA
@@ -220,6 +152,6 @@ pdta_list-is b = form-even LIST PDTA (spell (pdta (tables_of b))) length-PDTA (p
 pub length-pdta_list : (b : Parts) → length (chunk LIST (PDTA ++ spell (pdta (tables_of b)))) ≡ 12 + length (spell (pdta (tables_of b)))
 length-pdta_list b = length-form-even LIST PDTA (spell (pdta (tables_of b))) length-LIST length-PDTA (pdta-even b)
 
-pub ruleset pdta_parts = (one_after_another, pdta-is, length-pdta, length_preset_lists, length_instrument_lists)
+pub ruleset pdta_parts = (one_after_another, pdta-is, length-pdta)
 
 pub ruleset pdta_list = (one_after_another, pdta_list-is, length-pdta_list)

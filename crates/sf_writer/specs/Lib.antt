@@ -1,2 +1,3 @@
 pub mod Info
+pub mod Bags
 pub mod Lists

@@ -1,10 +1,11 @@
 //! Chunks of even size, as all of a canonical file are: none has a pad byte.
-ghost use Rattle.std.specs.Prelude.{◌≡◌, ◌+◌, ◌<◌, ◌%◌, ◌^◌, ◌++◌, length, IfOk};
+ghost use Rattle.std.specs.Prelude.{◌≡◌, ◌+◌, ◌<◌, ◌%◌, ◌^◌, ◌++◌, [], length, IfOk};
 ghost use Rattle.sf_base.specs.Writing.{Sends};
+ghost use Rattle.sf_base.specs.Pen.{HasRoom};
 ghost use Rattle.riff_chunks.specs.Spelling.{chunk, chunk_head};
 
 use riff_chunks::ChunkWriter;
-use sf_base::WriteFault;
+use sf_base::{Pen, WriteFault};
 use std::io::Write;
 
 /// The bytes of a chunk's id and size.
@@ -46,4 +47,13 @@ pub(crate) fn write_chunk<W: Write>(
 {
     let writer = writer.head(out, id, body.len() as u32)?;
     writer.body(out, body)
+}
+
+// Writes what a pen holds back, and goes on after it.
+pub(crate) fn finish<W: Write>(pen: Pen, out: &mut W) -> Result<ChunkWriter, WriteFault>
+    requires { HasRoom pen [] }
+    ensures { Sends (W.contents out.old) (W.contents out.new) pen.sent pen.held result }
+{
+    let sent = pen.finish(out)?;
+    Ok(ChunkWriter::after(sent))
 }

@@ -1,19 +1,23 @@
 //! A bank as its canonical file (SoundFont 2.04, section 4).
 //!
 //! Sizes stand before bodies in such a file, so each list has a function that computes its size from
-//! the bank, and one that writes it. Neither takes memory: the points go out as the slices of the
-//! file that they were read from. Each piece goes to the writer as it is, with no buffer between.
+//! the bank, and one that writes it. Neither takes memory: a long run of points goes out as the slice
+//! of the file that it was read from, and records and short runs of points are held back in a pen,
+//! so that many of them go out together.
 #![tactic(auto)]
 
+mod bags;
 mod chunks;
 mod file;
 mod info;
-mod instrument_lists;
+mod instrument_heads;
+mod owners;
 mod points;
-mod preset_lists;
+mod preset_heads;
 mod records;
 mod sample_heads;
 mod terminals;
+mod zone_lists;
 
 pub use file::{encoded_len, write, write_counted};
 

@@ -1,6 +1,7 @@
 //! The list `sdta`: the points of all samples (SoundFont 2.04, section 6).
 ghost use Rattle.std.specs.Prelude.{◌≡◌, ◌+◌, ◌<◌, ◌≤◌, ◌^◌, ◌++◌, length, flat_map};
 ghost use Rattle.sf_base.specs.Writing.{Sends};
+ghost use Rattle.sf_base.specs.Pen.{HasRoom, Puts};
 ghost use Rattle.riff_chunks.specs.Spelling.{spell};
 ghost use Rattle.sample_view.specs.Words.{word_bytes};
 ghost use Rattle.bank_core.specs.Valid.{point_total};
@@ -9,12 +10,12 @@ ghost use Rattle.bank_format.specs.Ids.{SDTA};
 ghost use Rattle.bank_format.specs.Tables.{all_points, points_written};
 ghost use Rattle.sf_writer.specs.Lists.{list_bytes};
 
-use crate::chunks::{FORM_HEAD_SIZE, HEAD_SIZE, write_form_head};
+use crate::chunks::{FORM_HEAD_SIZE, HEAD_SIZE, finish, write_form_head};
 use bank_core::{Bank, Sample};
 use riff_chunks::{ChunkWriter, LIST_ID};
 use sample_view::Points;
-use sf_base::WriteFault;
 use sf_base::limits::ZERO_POINTS;
+use sf_base::{Pen, WriteFault};
 use std::io::Write;
 
 /// The zero points after those of a sample, as their bytes.
@@ -80,7 +81,6 @@ fn write_smpl<W: Write>(
     write_samples(writer, out, bank.samples())
 }
 
-// Writes the points of each sample, and its zero points.
 fn write_samples<W: Write>(
     writer: ChunkWriter,
     out: &mut W,
@@ -90,42 +90,46 @@ fn write_samples<W: Write>(
     ensures { Sends (W.contents out.old) (W.contents out.new) writer
         (flat_map word_bytes (flat_map points_written samples.now)) result }
 {
-    let mut writer = writer;
-    for sample in samples {
-        writer = write_sample(writer, out, sample)?;
-    }
-    Ok(writer)
+    let mut pen = Pen::after(writer.sent());
+    put_samples(&mut pen, out, samples)?;
+    finish(pen, out)
 }
 
-// Writes the points of a sample, and the zero points after them.
-#[tactic(auto, using(crate::proofs::PointLemmas::sample_parts))]
-fn write_sample<W: Write>(
-    writer: ChunkWriter,
+// Puts the points of each sample, and its zero points.
+fn put_samples<W: Write>(
+    pen: &mut Pen,
     out: &mut W,
-    sample: &Sample<'_>,
-) -> Result<ChunkWriter, WriteFault>
-    requires { writer + length (flat_map word_bytes (points_written sample.now)) < 2 ^ 64 }
-    ensures { Sends (W.contents out.old) (W.contents out.new) writer
+    samples: &[Sample<'_>],
+) -> Result<(), WriteFault>
+    requires { HasRoom pen.old (flat_map word_bytes (flat_map points_written samples.now)) }
+    ensures { Puts (W.contents out.old) (W.contents out.new) pen.old pen.new
+        (flat_map word_bytes (flat_map points_written samples.now)) result }
+{
+    for sample in samples {
+        put_sample(pen, out, sample)?;
+    }
+    Ok(())
+}
+
+// Puts the points of a sample, and the zero points after them.
+fn put_sample<W: Write>(pen: &mut Pen, out: &mut W, sample: &Sample<'_>) -> Result<(), WriteFault>
+    requires { HasRoom pen.old (flat_map word_bytes (points_written sample.now)) }
+    ensures { Puts (W.contents out.old) (W.contents out.new) pen.old pen.new
         (flat_map word_bytes (points_written sample.now)) result }
 {
-    let writer = write_points(writer, out, &sample.points)?;
-    writer.body(out, &ZERO_BYTES)
+    put_points(pen, out, &sample.points)?;
+    pen.put(out, &ZERO_BYTES)
 }
 
-// Writes the points as the slices that hold them.
-fn write_points<W: Write>(
-    writer: ChunkWriter,
-    out: &mut W,
-    points: &Points<'_>,
-) -> Result<ChunkWriter, WriteFault>
-    requires { writer + length (flat_map word_bytes points.now) < 2 ^ 64 }
-    ensures { Sends (W.contents out.old) (W.contents out.new) writer
+// Puts points. A pen writes a slice that is longer than what it can hold as it stands in the file.
+fn put_points<W: Write>(pen: &mut Pen, out: &mut W, points: &Points<'_>) -> Result<(), WriteFault>
+    requires { HasRoom pen.old (flat_map word_bytes points.now) }
+    ensures { Puts (W.contents out.old) (W.contents out.new) pen.old pen.new
         (flat_map word_bytes points.now) result }
 {
     let pieces = points.pieces();
-    let mut writer = writer;
     for piece in pieces {
-        writer = writer.body(out, piece)?;
+        pen.put(out, piece)?;
     }
-    Ok(writer)
+    Ok(())
 }

@@ -4,13 +4,17 @@ ghost use Rattle.sf_base.specs.Writing.{Sends};
 ghost use Rattle.riff_chunks.specs.Spelling.{spell};
 ghost use Rattle.bank_format.specs.Canon.{pdta};
 ghost use Rattle.bank_format.specs.Ids.{PDTA};
-ghost use Rattle.bank_format.specs.Tables.{tables_of};
+ghost use Rattle.bank_format.specs.Tables.{tables_of, all_preset_bags, all_instrument_bags};
+ghost use Rattle.generators.specs.declared.level.Level.TheVariants as level;
+ghost use Rattle.sf_writer.specs.Bags.{AreFew, level_of, bags_of};
 ghost use Rattle.sf_writer.specs.Lists.{list_bytes};
 
 use crate::chunks::{FORM_HEAD_SIZE, write_form_head};
-use crate::instrument_lists::{instrument_lists_size, write_instrument_lists};
-use crate::preset_lists::{preset_lists_size, write_preset_lists};
+use crate::instrument_heads::{inst_size, write_inst};
+use crate::owners::Owners;
+use crate::preset_heads::{phdr_size, write_phdr};
 use crate::sample_heads::{shdr_size, write_shdr};
+use crate::zone_lists::{write_zone_lists, zone_lists_size};
 use bank_core::Bank;
 use riff_chunks::{ChunkWriter, LIST_ID};
 use sf_base::WriteFault;
@@ -31,7 +35,27 @@ fn lists_size(bank: &Bank<'_>) -> u32
     ensures value { result ≡ length (spell (pdta (tables_of bank.now))) }
     ensures small { result < 2 ^ 24 }
 {
-    preset_lists_size() + instrument_lists_size() + shdr_size(bank)
+    let presets = phdr_size(bank) + zone_lists_size(presets_of(bank));
+    let instruments = inst_size(bank) + zone_lists_size(instruments_of(bank));
+    presets + instruments + shdr_size(bank)
+}
+
+// The presets, as what has zones.
+fn presets_of<'a>(bank: &'a Bank<'_>) -> Owners<'a>
+    ensures level { level_of result ≡ level.Preset }
+    ensures bags { bags_of result ≡ all_preset_bags bank.now }
+    ensures few { AreFew (bags_of result) }
+{
+    Owners::Presets(bank.presets())
+}
+
+// The instruments, as what has zones.
+fn instruments_of<'a>(bank: &'a Bank<'_>) -> Owners<'a>
+    ensures level { level_of result ≡ level.Instrument }
+    ensures bags { bags_of result ≡ all_instrument_bags bank.now }
+    ensures few { AreFew (bags_of result) }
+{
+    Owners::Instruments(bank.instruments())
 }
 
 // Writes the list.
@@ -60,7 +84,9 @@ fn write_lists<W: Write>(
     ensures { Sends (W.contents out.old) (W.contents out.new) writer
         (spell (pdta (tables_of bank.now))) result }
 {
-    let writer = write_preset_lists(writer, out)?;
-    let writer = write_instrument_lists(writer, out)?;
+    let writer = write_phdr(writer, out, bank)?;
+    let writer = write_zone_lists(writer, out, presets_of(bank))?;
+    let writer = write_inst(writer, out, bank)?;
+    let writer = write_zone_lists(writer, out, instruments_of(bank))?;
     write_shdr(writer, out, bank)
 }

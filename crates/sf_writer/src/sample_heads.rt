@@ -1,26 +1,27 @@
 //! The list `shdr`: the heads of the samples (SoundFont 2.04, section 7.10).
-ghost use Rattle.std.specs.Prelude.{◌≡◌, ◌+◌, ◌<◌, ◌%◌, ◌^◌, length, flat_map};
+ghost use Rattle.std.specs.Prelude.{◌≡◌, ◌+◌, ◌*◌, ◌<◌, ◌≤◌, ◌%◌, ◌^◌, length, flat_map};
 ghost use Rattle.sf_base.specs.Writing.{Sends};
+ghost use Rattle.sf_base.specs.Pen.{HasRoom, Puts};
 ghost use Rattle.hydra_records.specs.Spelling.{sample_head_bytes};
 ghost use Rattle.bank_core.specs.Valid.{IsLoop};
 ghost use Rattle.bank_format.specs.Ids.{SHDR};
-ghost use Rattle.bank_format.specs.Tables.{tables_of, sample_head, sample_heads_from, kind_word, link_word};
+ghost use Rattle.bank_format.specs.Tables.{tables_of, sample_head, kind_word, link_word};
 ghost use Rattle.sf_writer.specs.Lists.{table_bytes};
 
-use crate::chunks::HEAD_SIZE;
+use crate::chunks::{HEAD_SIZE, finish};
 use crate::terminals::sample_end;
 use bank_core::{Bank, Kind, Sample};
 use hydra_records::{Record, SampleHead, Spelled};
 use riff_chunks::ChunkWriter;
-use sf_base::WriteFault;
 use sf_base::limits::ZERO_POINTS;
+use sf_base::{Pen, WriteFault};
 use std::io::Write;
 
 // How many bytes the list has, its head counted.
 #[tactic(auto, using(crate::proofs::RecordLemmas::shdr_list))]
 pub(crate) fn shdr_size(bank: &Bank<'_>) -> u32
     ensures value { result ≡ length (table_bytes SHDR sample_head_bytes (tables_of bank.now).shdr) }
-    ensures small { result < 2 ^ 23 }
+    ensures small { result < 2 ^ 22 }
 {
     HEAD_SIZE + records_size(bank)
 }
@@ -29,7 +30,7 @@ pub(crate) fn shdr_size(bank: &Bank<'_>) -> u32
 #[tactic(auto, using(crate::proofs::RecordLemmas::length_shdr))]
 fn records_size(bank: &Bank<'_>) -> u32
     ensures value { result ≡ length (flat_map sample_head_bytes (tables_of bank.now).shdr) }
-    ensures small { result < 2 ^ 22 }
+    ensures small { result ≤ 46 * 65536 }
     ensures even { result % 2 ≡ 0 }
 {
     ((bank.samples().len() + 1) * SampleHead::SIZE) as u32
@@ -47,30 +48,37 @@ pub(crate) fn write_shdr<W: Write>(
         (table_bytes SHDR sample_head_bytes (tables_of bank.now).shdr) result }
 {
     let writer = writer.head(out, *b"shdr", records_size(bank))?;
-    let writer = write_heads(writer, out, bank)?;
-    writer.body(out, &sample_end().put())
+    write_heads(writer, out, bank)
 }
 
-// Writes the heads. The points of each sample follow those of the samples before it.
 fn write_heads<W: Write>(
     writer: ChunkWriter,
     out: &mut W,
     bank: &Bank<'_>,
 ) -> Result<ChunkWriter, WriteFault>
-    requires { writer + length (flat_map sample_head_bytes
-        (sample_heads_from 0 bank.now.samples)) < 2 ^ 64 }
+    requires { writer + length (flat_map sample_head_bytes (tables_of bank.now).shdr) < 2 ^ 64 }
     ensures { Sends (W.contents out.old) (W.contents out.new) writer
-        (flat_map sample_head_bytes (sample_heads_from 0 bank.now.samples)) result }
+        (flat_map sample_head_bytes (tables_of bank.now).shdr) result }
+{
+    let mut pen = Pen::after(writer.sent());
+    put_heads(&mut pen, out, bank)?;
+    finish(pen, out)
+}
+
+// The points of each sample follow those of the samples before it.
+fn put_heads<W: Write>(pen: &mut Pen, out: &mut W, bank: &Bank<'_>) -> Result<(), WriteFault>
+    requires { HasRoom pen.old (flat_map sample_head_bytes (tables_of bank.now).shdr) }
+    ensures { Puts (W.contents out.old) (W.contents out.new) pen.old pen.new
+        (flat_map sample_head_bytes (tables_of bank.now).shdr) result }
 {
     let samples = bank.samples();
-    let mut writer = writer;
     let mut start = 0;
     for sample in samples {
         let head = sample_head(start, sample);
-        writer = writer.body(out, &head.put())?;
+        pen.put(out, &head.put())?;
         start = head.end + ZERO_POINTS as u32;
     }
-    Ok(writer)
+    pen.put(out, &sample_end().put())
 }
 
 // The head of a sample whose first point is `start`.

@@ -1,34 +1,34 @@
 //! The records that end the lists of `pdta` (SoundFont 2.04, section 7).
 ghost use Rattle.std.specs.Prelude.{◌≡◌};
-ghost use Rattle.bank_format.specs.Tables.{preset_end, instrument_end, sample_end, bag_end, modulator_end, generator_end};
+ghost use Rattle.bank_format.specs.Tables.{preset_end, instrument_end, sample_end, modulator_end, generator_end};
 
-use hydra_records::{Bag, Generator, InstrumentHead, PresetHead, SampleHead};
+use hydra_records::{Generator, InstrumentHead, PresetHead, SampleHead};
 use modulators::Modulator;
 
-// The last record of `phdr`.
+// The last record of `phdr`, where there are `bags` bags.
 #[tactic(auto, unfolding(bank_format::specs::Ids::EOP))]
-pub(crate) fn preset_end() -> PresetHead
-    ensures { result ≡ preset_end }
+pub(crate) fn preset_end(bags: u16) -> PresetHead
+    ensures { result ≡ preset_end bags }
 {
     PresetHead {
         name: *b"EOP\0\0\0\0\0\0\0\0\0\0\0\0\0\0\0\0\0",
         number: 0,
         bank: 0,
-        bag: 0,
+        bag: bags,
         library: 0,
         genre: 0,
         morphology: 0,
     }
 }
 
-// The last record of `inst`.
+// The last record of `inst`, where there are `bags` bags.
 #[tactic(auto, unfolding(bank_format::specs::Ids::EOI))]
-pub(crate) fn instrument_end() -> InstrumentHead
-    ensures { result ≡ instrument_end }
+pub(crate) fn instrument_end(bags: u16) -> InstrumentHead
+    ensures { result ≡ instrument_end bags }
 {
     InstrumentHead {
         name: *b"EOI\0\0\0\0\0\0\0\0\0\0\0\0\0\0\0\0\0",
-        bag: 0,
+        bag: bags,
     }
 }
 
@@ -49,13 +49,6 @@ pub(crate) fn sample_end() -> SampleHead
         link: 0,
         kind: 0,
     }
-}
-
-// The last record of `pbag` and of `ibag`.
-pub(crate) fn bag_end() -> Bag
-    ensures { result ≡ bag_end }
-{
-    Bag { gens: 0, mods: 0 }
 }
 
 // The last record of `pmod` and of `imod`.

@@ -1,5 +1,5 @@
 -- Why a run is not done: the faults of its parts.
-use Rattle.std.proofs.Common.{◌≡◌, ◌⊎◌, inl, inr, ℕ, List, Option, None, Ok, Err, refl, sym, ap, ◌∙◌}
+use Rattle.std.proofs.Common.{◌≡◌, ◌⊎◌, inl, inr, ℕ, List, Option, None, Result, Ok, Err, refl, sym, ap, ◌∙◌}
 use Rattle.bank_core.specs.declared.parts.Parts.{Parts}
 use Rattle.bank_format.specs.declared.fault.Counts.{Counts}
 use Rattle.bank_format.specs.declared.fault.ReadFault.{ReadFault}
@@ -19,7 +19,7 @@ use Rattle.sfbank.specs.declared.fault.RunFault.{RunFault}
 use Rattle.sfbank.specs.declared.fault.RunFault.TheVariants as run
 use Rattle.sfbank.specs.Outcome.{Done, edits_of, RefusedLine, first_refused, both_texts, unless_refused, after_script, after_reading, bank_in, outcome}
 use Rattle.sfbank.specs.Written.{FailsBefore}
-use Rattle.sfbank.specs.Planned.{AllApplied, StopsAtScript, StopsAtLine, of_reading, of_script}
+use Rattle.sfbank.specs.Planned.{AllApplied, StopsAtFile, StopsAtScript, StopsAtLine, of_reading, of_script}
 
 -- ---- the script's fault
 
@@ -43,10 +43,21 @@ stops_at_script script (scripts.Literal n) (inr e) = e
 
 -- ---- the file's fault
 
-pub at_read : (fault : ReadFault) (file script : List ℕ) → Fails fault (fault_of file) → FailsBefore (of_reading fault) (outcome file script)
+pub stops_at_file : (fault : ReadFault) (broken : Option ReadFault) → Fails fault broken → StopsAtFile (of_reading fault) broken
+stops_at_file reading.OutOfMemory broken h = tt
+stops_at_file fault broken h = h
+
+-- whatever comes of the bank
+pub at_file : {X : Type 0} (fault : RunFault) (broken : Option ReadFault) (r : Result X RunFault) → StopsAtFile fault broken → FailsBefore fault (after_reading broken r)
+at_file (run.Read fault) broken r h = ap (λ o. after_reading o r) h
+at_file run.Memory broken r h = tt
+at_file (run.Script fault) broken r h = absurd h
+at_file (run.Refused number refusal) broken r h = absurd h
+at_file (run.Write which n) broken r h = h
+
+pub at_read : (fault : RunFault) (file script : List ℕ) → StopsAtFile fault (fault_of file) → FailsBefore fault (outcome file script)
 unfolding outcome
-at_read reading.OutOfMemory file script h = tt
-at_read fault file script h = ap (λ (o : Option ReadFault). after_reading o (bank_in file) script) h
+at_read fault file script h = at_file fault (fault_of file) (after_script (bank_in file) (script_of script)) h
 
 -- ---- a file that reads as a bank
 
@@ -63,7 +74,7 @@ reads_bank file b counts h e = record { unbroken = h; bank = ap (λ (c : Content
 at_bank : (file script : List ℕ) (b : Parts) → ReadsBank file b → outcome file script ≡ after_script b (script_of script)
 unfolding outcome
 at_bank file script b r =
-    ap (λ (o : Option ReadFault). after_reading o (bank_in file) script) r.unbroken
+    ap (λ (o : Option ReadFault). after_reading o (after_script (bank_in file) (script_of script))) r.unbroken
     ∙ ap (λ (x : Parts). after_script x (script_of script)) (sym r.bank)
 
 pub at_script : (file script : List ℕ) (b : Parts) (fault : RunFault) → ReadsBank file b → StopsAtScript fault (script_of script) → FailsBefore fault (outcome file script)

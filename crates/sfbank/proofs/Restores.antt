@@ -1,7 +1,8 @@
 -- A run and the run of its undo text.
-use Rattle.std.proofs.Common.{◌≡◌, ◌≤◌, ℕ, suc, List, [], ◌∷◌, length, Option, Some, None, Ok, refl, sym, ap, ◌∙◌, arith}
+use Rattle.std.proofs.Common.{◌≡◌, ◌<◌, ◌≤◌, ℕ, suc, List, [], ◌∷◌, length, get_or, w8, Fits as InType, Option, Some, None, Result, Ok, refl, sym, ap, ◌∙◌, arith}
 use Rattle.std.specs.List.{AllByRecursion}
 use Rattle.std.proofs.lemmas.List.{length-append, length-map}
+use Rattle.std.proofs.lemmas.List.Elements.{All-from_get_or}
 use Rattle.bank_core.specs.declared.parts.Parts.{Parts}
 use Rattle.bank_core.specs.Valid.{IsValid}
 use Rattle.bank_core.specs.Fits.{Fits}
@@ -23,8 +24,13 @@ use Rattle.edit_script.specs.Printing.{texts_of, numbered}
 use Rattle.edit_script.proofs.LineLaws.{printed_spell}
 use Rattle.edit_script.proofs.FitLaws.{script_fits}
 use Rattle.edit_script.proofs.FewLaws.{script_few}
+use Rattle.sfbank.specs.declared.fault.RunFault.{RunFault}
 use Rattle.sfbank.specs.Planned.{AllApplied, FewEdits}
 use Rattle.sfbank.specs.Outcome.{Done, edits_of, RefusedLine, or_else, first_refused, both_texts, unless_refused, after_script, after_reading, bank_in, outcome, IsUndone}
+
+-- the bytes that a slice holds
+pub are_bytes : (file : List ℕ) → ((i : ℕ) → InType w8 (get_or file i 0)) → AreBytes file
+are_bytes file fits = All-from_get_or (λ b. b < 256) file 0 (λ i l. let byte = fits i in omega (arith, byte))
 
 -- ---- what a run that is done says
 
@@ -56,9 +62,9 @@ script_done b lines done h = by_what (first_refused b lines) refl h
     by_what None e h = record { accepted = e; texts = cc }
     by_what (Some r) e h = absurd cc
 
-reading_done : (o : Option ReadFault) (b : Parts) (script : List ℕ) (done : Done) → after_reading o b script ≡ Ok done → (o ≡ None) × (after_script b (script_of script) ≡ Ok done)
-reading_done None b script done h = (refl, h)
-reading_done (Some f) b script done h = absurd cc
+pub reading_done : {X : Type 0} (o : Option ReadFault) (r : Result X RunFault) (x : X) → after_reading o r ≡ Ok x → (o ≡ None) × (r ≡ Ok x)
+reading_done None r x h = (refl, h)
+reading_done (Some f) r x h = absurd cc
 
 -- ---- a run on a canonical file
 
@@ -66,7 +72,7 @@ outcome_canon : (b : Parts) (script : List ℕ) → IsValid b → Fits b → out
 unfolding outcome
 outcome_canon b script v f =
     let again = reads-again b v f in
-    ap (λ (o : Option ReadFault). after_reading o (bank_in (canon b)) script) again.0
+    ap (λ (o : Option ReadFault). after_reading o (after_script (bank_in (canon b)) (script_of script))) again.0
     ∙ ap (λ (c : Content). after_script c.bank (script_of script)) again.1
 
 -- accepted edits on lines of their own
@@ -116,7 +122,7 @@ pub restores : (file script : List ℕ) → AreBytes file → IsUndone file scri
 unfolding outcome
 restores file script bytes done lines h spelled =
     let b = bank_in file in
-    let read = reading_done (fault_of file) b script done h in
+    let read = reading_done (fault_of file) (after_script b (script_of script)) done h in
     let run = script_done b lines done (ap (after_script b) (sym spelled) ∙ read.1) in
     let es = edits_of lines in
     let back = run_back b es (few_lines script lines spelled) (read_valid file bytes read.0) (read_fits file bytes) (lines_fit lines (script_fits script lines spelled)) (all_accepted b lines run.accepted) in

@@ -3,6 +3,7 @@ pub use Rattle.bank_format.specs.ReadSteps
 pub use Rattle.inverse_edits.specs.Runs
 pub use Rattle.edit_script.specs.Script
 pub use Rattle.edit_script.specs.Printing
+pub use Rattle.bank_listing.specs.Listing
 pub mod Outcome
 pub mod Written
 pub mod Planned

@@ -2,6 +2,7 @@
 use Rattle.std.specs.Prelude.{◌≡◌, ℕ, List, [], ◌∷◌, map, Option, Some, None, Result, Ok, Err}
 use Rattle.bank_core.specs.declared.parts.Parts.{Parts}
 use Rattle.bank_format.specs.declared.fault.ReadFault.{ReadFault}
+use Rattle.bank_format.specs.declared.fault.Counts.{Counts}
 use Rattle.bank_format.specs.Canon.{canon}
 use Rattle.bank_format.specs.Chunks.{window}
 use Rattle.bank_format.specs.Reading.{content_in}
@@ -14,6 +15,7 @@ use Rattle.edit_script.specs.declared.parsing.Line.{Line}
 use Rattle.edit_script.specs.declared.fault.ScriptFault.{ScriptFault}
 use Rattle.edit_script.specs.Script.{script_of}
 use Rattle.edit_script.specs.Printing.{texts_of}
+use Rattle.bank_listing.specs.Listing.{listing}
 use Rattle.sfbank.specs.declared.fault.RunFault.{RunFault}
 use Rattle.sfbank.specs.declared.fault.RunFault.TheVariants as run
 
@@ -52,18 +54,31 @@ abbrev pub after_script : Parts → Result (List Line) ScriptFault → Result Do
 after_script b (Ok lines) = unless_refused (first_refused b lines) (both_texts b (edits_of lines))
 after_script b (Err f) = Err (run.Script f)
 
-abbrev pub after_reading : Option ReadFault → Parts → List ℕ → Result Done RunFault
-after_reading (Some f) b script = Err (run.Read f)
-after_reading None b script = after_script b (script_of script)
+-- the fault of the file, if it has one, else what comes of its bank
+abbrev pub after_reading : {X : Type 0} → Option ReadFault → Result X RunFault → Result X RunFault
+after_reading (Some f) r = Err (run.Read f)
+after_reading None r = r
 
 -- the bank that a file reads as
 abbrev pub bank_in : List ℕ → Parts
 bank_in file = (content_in (window file)).bank
 
+-- the counts of what was dropped or mended as it was read
+abbrev pub counts_in : List ℕ → Counts
+counts_in file = (content_in (window file)).counts
+
 -- The first broken step of the file, else the first fault of the script, else the first refused line,
 -- else both texts.
 unfoldable pub outcome : List ℕ → List ℕ → Result Done RunFault
-outcome file script = after_reading (fault_of file) (bank_in file) script
+outcome file script = after_reading (fault_of file) (after_script (bank_in file) (script_of script))
+
+-- The first broken step of the file, else the canonical file of its bank.
+unfoldable pub canon_outcome : List ℕ → Result (List ℕ) RunFault
+canon_outcome file = after_reading (fault_of file) (Ok (canon (bank_in file)))
+
+-- The first broken step of the file, else the listing of its bank and of the counts of reading it.
+unfoldable pub show_outcome : List ℕ → Result (List ℕ) RunFault
+show_outcome file = after_reading (fault_of file) (Ok (listing (bank_in file) (counts_in file)))
 
 -- Where these bytes come to a run that is done, the undo text, run on the written file alone, is done
 -- too: it writes the canonical file of the first bank, and the script's edits as they are printed.
@@ -71,3 +86,16 @@ abbrev pub IsUndone : List ℕ → List ℕ → Type 0
 IsUndone file script =
     (done : Done) (lines : List Line) → outcome file script ≡ Ok done → script_of script ≡ Ok lines
     → outcome done.out done.undo ≡ Ok (record { out = canon (bank_in file); undo = texts_of (edits_of lines) })
+
+-- a text, and no undo text
+abbrev pub without_undo : Result (List ℕ) RunFault → Result Done RunFault
+without_undo (Ok text) = Ok (record { out = text; undo = [] })
+without_undo (Err fault) = Err fault
+
+-- The empty script comes to the canonical file and an empty undo text, or to the fault of the file.
+abbrev pub IsEmptyEdit : List ℕ → Type 0
+IsEmptyEdit file = outcome file [] ≡ without_undo (canon_outcome file)
+
+-- The canonical file that these bytes come to is its own.
+abbrev pub IsFixed : List ℕ → Type 0
+IsFixed file = (text : List ℕ) → canon_outcome file ≡ Ok text → canon_outcome text ≡ Ok text

@@ -29,6 +29,12 @@ abbrev pub of_refusal : ℕ → Refusal → RunFault
 of_refusal line refusals.OutOfMemory = run.Memory
 of_refusal line refusal = run.Refused line refusal
 
+-- a fault of the file, or want of memory
+abbrev pub StopsAtFile : RunFault → Option ReadFault → Type 0
+StopsAtFile (run.Read fault) broken = broken ≡ Some fault
+StopsAtFile run.Memory broken = Unit {0}
+StopsAtFile fault broken = ⊥
+
 -- a fault of the script, or want of memory
 abbrev pub StopsAtScript : RunFault → Result (List Line) ScriptFault → Type 0
 StopsAtScript (run.Script fault) script = script ≡ Err fault

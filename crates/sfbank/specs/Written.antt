@@ -1,11 +1,20 @@
 -- What a run leaves in its two writers.
 use Rattle.std.specs.Prelude.{◌≡◌, ◌≤◌, ℕ, List, length, take, Option, Result, Ok, Err}
 use Rattle.std.specs.Io.KnownBytes.{Appends, Keeps}
+use Rattle.sf_base.specs.declared.writing.WriteFault.{WriteFault}
 use Rattle.sfbank.specs.declared.fault.RunFault.{RunFault}
 use Rattle.sfbank.specs.declared.fault.RunFault.TheVariants as run
 use Rattle.sfbank.specs.declared.fault.Which.{Which}
 use Rattle.sfbank.specs.declared.fault.Which.TheVariants.{Out, Undo}
 use Rattle.sfbank.specs.Outcome.{Done}
+
+-- After a text was sent, its writer is flushed: nothing more goes out. Where it was not sent whole, or
+-- the flush fails, the fault names the text and counts what went out.
+abbrev pub EndsText : {U : Type 0} → Which → Result ℕ WriteFault → Option (List ℕ) → Option (List ℕ) → Result U RunFault → Type 0
+EndsText which (Ok total) old new (Ok u) = Keeps old new
+EndsText which (Ok total) old new (Err fault) = (fault ≡ run.Write which total) × Keeps old new
+EndsText which (Err stop) old new (Ok u) = ⊥
+EndsText which (Err stop) old new (Err fault) = (fault ≡ run.Write which stop.written) × Keeps old new
 
 -- what two writers held before, and hold after
 pub record Writers : Type 0 where
@@ -49,8 +58,21 @@ Runs w outcome (Err (run.Write which n)) = DeliversDone {U = Unit {0}} w outcome
 Runs w outcome (Err run.Memory) = Untouched w
 Runs w outcome (Err fault) = (outcome ≡ Err fault) × Untouched w
 
+-- the outcome is a text, and it goes out
+pub record SendsText {U : Type 0} (old new : Option (List ℕ)) (outcome : Result (List ℕ) RunFault) (r : Result U RunFault) : Type 0 where
+  pub text : List ℕ
+  pub is_text : outcome ≡ Ok text
+  pub sends : GoesOut Out old new text r
+
+-- So answers a run with one text and one writer, which got not a byte with any fault but its own.
+abbrev pub RunsAlone : {U : Type 0} → Option (List ℕ) → Option (List ℕ) → Result (List ℕ) RunFault → Result U RunFault → Type 0
+RunsAlone old new outcome (Ok u) = SendsText old new outcome (Ok u)
+RunsAlone old new outcome (Err (run.Write which n)) = SendsText {U = Unit {0}} old new outcome (Err (run.Write which n))
+RunsAlone old new outcome (Err run.Memory) = Keeps old new
+RunsAlone old new outcome (Err fault) = (outcome ≡ Err fault) × Keeps old new
+
 -- The fault of these bytes, or want of memory. No writer was asked.
-abbrev pub FailsBefore : RunFault → Result Done RunFault → Type 0
+abbrev pub FailsBefore : {X : Type 0} → RunFault → Result X RunFault → Type 0
 FailsBefore run.Memory outcome = Unit {0}
 FailsBefore (run.Write which n) outcome = ⊥
 FailsBefore fault outcome = outcome ≡ Err fault

@@ -1,10 +1,11 @@
-//! Both texts go out, each whole and flushed.
+//! Texts go out, each whole and flushed.
 ghost use Rattle.std.specs.Prelude.{◌≡◌};
 ghost use Rattle.sf_base.specs.Writing.{Sends};
 ghost use Rattle.bank_format.specs.Canon.{canon};
+ghost use Rattle.bank_listing.specs.Listing.{listing};
 ghost use Rattle.edit_script.specs.Printing.{texts_of};
 ghost use Rattle.sfbank.specs.declared.fault.Which.TheVariants.{Out, Undo};
-ghost use Rattle.sfbank.specs.Written.{Delivers, GoesOut};
+ghost use Rattle.sfbank.specs.Written.{Delivers, GoesOut, EndsText};
 ghost use Rattle.sfbank.specs.Planned.{FewEdits};
 ghost use Rattle.sfbank.specs.Plans.{planned};
 
@@ -12,6 +13,8 @@ use crate::fault::{RunFault, Which};
 use crate::plan::Plan;
 use bank_core::Bank;
 use bank_edits::Edit;
+use bank_format::Counts;
+use bank_listing::write_listing;
 use edit_script::print_after;
 use sf_base::{WriteFault, finish};
 use sf_writer::write_counted;
@@ -31,30 +34,52 @@ pub fn deliver<W: Write, V: Write>(
     deliver_undo(plan.undo.as_slice(), undo)
 }
 
-fn deliver_bank<W: Write>(bank: &Bank<'_>, out: &mut W) -> Result<(), RunFault>
+/// The canonical file of a bank goes out. It takes no memory.
+#[tactic(auto, using(crate::proofs::Texts::text_ends))]
+pub fn deliver_bank<W: Write>(bank: &Bank<'_>, out: &mut W) -> Result<(), RunFault>
     ensures { GoesOut Out (W.contents out.old) (W.contents out.new) (canon bank.now) result }
 {
-    let sent = match write_counted(bank, out) {
-        Ok(sent) => sent,
-        Err(fault) => return Err(RunFault::Write(Which::Out, fault.written)),
-    };
-    match finish(out, sent) {
-        Ok(()) => Ok(()),
-        Err(fault) => Err(RunFault::Write(Which::Out, fault.written)),
-    }
+    let sent = write_counted(bank, out);
+    end_text(Which::Out, sent, out)
 }
 
+/// The listing of a bank and of the counts of reading it goes out. It takes no memory.
+#[tactic(auto, using(crate::proofs::Texts::text_ends))]
+pub fn deliver_listing<W: Write>(
+    bank: &Bank<'_>,
+    counts: &Counts,
+    out: &mut W,
+) -> Result<(), RunFault>
+    ensures { GoesOut Out (W.contents out.old) (W.contents out.new) (listing bank.now counts.now) result }
+{
+    let sent = write_listing(bank, counts, out);
+    end_text(Which::Out, sent, out)
+}
+
+#[tactic(auto, using(crate::proofs::Texts::text_ends))]
 fn deliver_undo<W: Write>(edits: &[Edit], out: &mut W) -> Result<(), RunFault>
     requires { FewEdits edits.now }
     ensures { GoesOut Undo (W.contents out.old) (W.contents out.new) (texts_of edits.now) result }
 {
-    let sent = match put_lines(edits, out) {
-        Ok(sent) => sent,
-        Err(fault) => return Err(RunFault::Write(Which::Undo, fault.written)),
+    let sent = put_lines(edits, out);
+    end_text(Which::Undo, sent, out)
+}
+
+// Flushes the writer to which a text was sent, and tells whose fault it is that it isn't there whole.
+fn end_text<W: Write>(
+    which: Which,
+    sent: Result<u64, WriteFault>,
+    out: &mut W,
+) -> Result<(), RunFault>
+    ensures { EndsText which sent (W.contents out.old) (W.contents out.new) result }
+{
+    let ended = match sent {
+        Ok(sent) => finish(out, sent),
+        Err(fault) => Err(fault),
     };
-    match finish(out, sent) {
+    match ended {
         Ok(()) => Ok(()),
-        Err(fault) => Err(RunFault::Write(Which::Undo, fault.written)),
+        Err(fault) => Err(RunFault::Write(which, fault.written)),
     }
 }
 

@@ -3,14 +3,14 @@ ghost use Rattle.std.specs.Prelude.{◌≡◌, OnOk, IfOk, MatchResult};
 ghost use Rattle.edit_script.specs.Script.{script_of};
 ghost use Rattle.sfbank.specs.Outcome.{first_refused, outcome, IsUndone};
 ghost use Rattle.sfbank.specs.Written.{Plans};
-ghost use Rattle.sfbank.specs.Planned.{AllApplied, StopsAtScript, StopsAtLine, FewEdits, of_reading, of_script, of_refusal};
+ghost use Rattle.sfbank.specs.Planned.{AllApplied, StopsAtScript, StopsAtLine, FewEdits, of_script, of_refusal};
 ghost use Rattle.sfbank.specs.Plans.{planned};
 
 use crate::fault::RunFault;
+use crate::reading::read_bank;
 use bank_core::Bank;
 use bank_edits::{Edit, Refusal, apply};
 use edit_script::{Line, ScriptFault, parse, pool_of};
-use sf_reader::{ReadFault, read};
 use std::alloc::Global;
 
 /// The edited bank, and the edits that take its edits back, the last one's first.
@@ -26,22 +26,10 @@ pub fn make_plan<'a>(alloc: Global, file: &'a [u8], script: &[u8]) -> Result<Pla
     ensures restores { OnOk result (IsUndone file.now script.now) }
     ensures few { IfOk result (λ plan. FewEdits plan.undo.items) }
 {
-    let mut bank = match read(alloc, file) {
-        Ok((bank, _counts)) => bank,
-        Err(fault) => return Err(fault_of_reading(fault)),
-    };
+    let (mut bank, _counts) = read_bank(alloc, file)?;
     let lines = lines_of(alloc, script)?;
     let undo = apply_all(alloc, &mut bank, lines.as_slice())?;
     Ok(Plan { bank, undo })
-}
-
-fn fault_of_reading(fault: ReadFault) -> RunFault
-    ensures { result ≡ of_reading fault }
-{
-    match fault {
-        ReadFault::OutOfMemory => RunFault::Memory,
-        _ => RunFault::Read(fault),
-    }
 }
 
 fn fault_of_script(fault: ScriptFault) -> RunFault

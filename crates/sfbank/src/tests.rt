@@ -1,7 +1,7 @@
 ghost use Rattle.std.specs.Prelude.{Some};
 
-use crate::files::{EMPTY, SAW};
-use crate::{RunFault, Which, edit_run, fault_text};
+use crate::files::{EMPTY, LAYERED, LOOPED, SAW};
+use crate::{RunFault, Which, canon_run, edit_run, fault_text, show_run};
 use bank_edits::Refusal;
 use bank_format::ReadFault;
 use edit_script::ScriptFault;
@@ -12,6 +12,19 @@ use std::io::{ErrorKind, Write};
 use std::test::Fail;
 
 const RENAME: &[u8; 40] = b"rename-sample 0 \"ABCDEFGHIJKLMNOPQRST\"  ";
+
+/// The listing of `LOOPED`.
+const LISTING: &[u8] = b"bank 4 presets 1 instruments 1 samples 1 points 3
+counts texts 0 sm24 0 zones 0 gens 0 ranges 0 loops 0 links 0
+preset 0 \"p\" 0 0 1
+inst 0 \"i\" 1
+sample 0 \"t\" 44100 60 0 mono loop 1 3 3
+";
+
+/// The listing of the bank `EMPTY`, of whose reading nothing is counted.
+const EMPTY_LISTING: &[u8] = b"bank 4 presets 0 instruments 0 samples 0 points 0
+counts texts 0 sm24 0 zones 0 gens 0 ranges 0 loops 0 links 0
+";
 
 /// Takes so many bytes and fails then; its flush fails where `flushes` is false.
 #[derive(Drop)]
@@ -67,6 +80,27 @@ fn refuses(alloc: Global, file: &[u8], script: &[u8], fault: RunFault) -> bool {
     edit_run(alloc, file, script, &mut out, &mut undo) == Err(fault)
         && out.is_empty()
         && undo.is_empty()
+}
+
+/// Whether the file comes to this canonical file.
+fn canons(alloc: Global, file: &[u8], text: &[u8]) -> bool {
+    let mut out = Vec::new(alloc);
+    canon_run(alloc, file, &mut out).is_ok() && out.as_slice() == text
+}
+
+/// Whether the file comes to this listing.
+fn shows(alloc: Global, file: &[u8], text: &[u8]) -> bool {
+    let mut out = Vec::new(alloc);
+    show_run(alloc, file, &mut out).is_ok() && out.as_slice() == text
+}
+
+/// Whether each run of the file ends with this fault of it, and no writer got a byte.
+fn is_refused(alloc: Global, file: &[u8], fault: ReadFault) -> bool {
+    let mut out = Vec::new(alloc);
+    canon_run(alloc, file, &mut out) == Err(RunFault::Read(fault))
+        && show_run(alloc, file, &mut out) == Err(RunFault::Read(fault))
+        && out.is_empty()
+        && refuses(alloc, file, b"", RunFault::Read(fault))
 }
 
 /// Whether the fault is told by this line and status.
@@ -192,6 +226,106 @@ fn a_flush_that_fails(rt: HostRuntime) {
         edit_run(rt.alloc(), &SAW, RENAME, &mut out, &mut undo)
             == Err(RunFault::Write(Which::Undo, 22))
     );
+}
+
+#[test]
+fn canonical_files_stay(rt: HostRuntime) {
+    assert!(rt; canons(rt.alloc(), &EMPTY, &EMPTY));
+    assert!(rt; canons(rt.alloc(), &SAW, &SAW));
+    assert!(rt; canons(rt.alloc(), &LOOPED, &LOOPED));
+    assert!(rt; canons(rt.alloc(), &LAYERED, &LAYERED));
+}
+
+#[test]
+fn an_engine_and_a_name_are_always_written(rt: HostRuntime) {
+    let mut file = [0; 282];
+    file[..36].copy_from_slice(&EMPTY[..36]);
+    file[36..].copy_from_slice(&EMPTY[62..]);
+    file[4] = 18;
+    file[16] = 16;
+    assert!(rt; canons(rt.alloc(), &file, &EMPTY));
+    assert!(rt; shows(rt.alloc(), &file, EMPTY_LISTING));
+}
+
+#[test]
+fn a_bank_of_each_kind_of_member_is_shown(rt: HostRuntime) {
+    assert!(rt; shows(rt.alloc(), &LOOPED, LISTING));
+}
+
+// Of two generators 17 the last counts, and the range goes before it.
+#[test]
+fn generators_are_dropped_and_put_in_order(rt: HostRuntime) {
+    let mut file = [0; 540];
+    file[..420].copy_from_slice(&LOOPED[..420]);
+    file[420..436].copy_from_slice(b"\x11\0\x9c\xff\x2b\0\x24\x48\x11\0\xc8\0\x35\0\0\0");
+    file[436..].copy_from_slice(&LOOPED[428..]);
+    file[4] = 20;
+    file[184] = 96;
+    file[390] = 4;
+    file[416] = 20;
+    let mut written = [0; 536];
+    written[..420].copy_from_slice(&LOOPED[..420]);
+    written[420..432].copy_from_slice(b"\x2b\0\x24\x48\x11\0\xc8\0\x35\0\0\0");
+    written[432..].copy_from_slice(&LOOPED[428..]);
+    written[4] = 16;
+    written[184] = 92;
+    written[390] = 3;
+    written[416] = 16;
+    assert!(rt; canons(rt.alloc(), &file, &written));
+    let text = b"bank 4 presets 1 instruments 1 samples 1 points 3
+counts texts 0 sm24 0 zones 0 gens 1 ranges 0 loops 0 links 0
+preset 0 \"p\" 0 0 1
+inst 0 \"i\" 1
+sample 0 \"t\" 44100 60 0 mono loop 1 3 3
+";
+    assert!(rt; shows(rt.alloc(), &file, text));
+    assert!(rt; shows(rt.alloc(), &written, LISTING));
+}
+
+#[test]
+fn a_renaming_in_a_whole_bank_and_its_return(rt: HostRuntime) {
+    let mut renamed = LOOPED;
+    renamed[440] = b'u';
+    let script = b"rename-sample 0 \"u\"\n";
+    let undo = b"rename-sample 0 \"t\"\n";
+    assert!(rt; writes(rt.alloc(), &LOOPED, script, &renamed, undo));
+    assert!(rt; writes(rt.alloc(), &renamed, undo, &LOOPED, script));
+}
+
+#[test]
+fn files_with_a_fault_are_not_written(rt: HostRuntime) {
+    let mut falling = LAYERED;
+    falling[218] = 3;
+    assert!(rt; is_refused(rt.alloc(), &falling, ReadFault::BagOrder));
+    assert!(rt; is_refused(rt.alloc(), front_of(&LOOPED, 500), ReadFault::Truncated));
+    assert!(rt; is_refused(rt.alloc(), b"", ReadFault::NotRiff));
+}
+
+#[test]
+fn a_writer_that_stops_at_each_byte(rt: HostRuntime) {
+    for room in 0..LOOPED.len() {
+        let mut out = limited_writer(rt.alloc(), room, true);
+        let stopped = Err(RunFault::Write(Which::Out, room as u64));
+        assert!(rt; canon_run(rt.alloc(), &LOOPED, &mut out) == stopped);
+        assert!(rt; out.held.as_slice() == front_of(&LOOPED, room));
+    }
+    for room in 0..LISTING.len() {
+        let mut out = limited_writer(rt.alloc(), room, true);
+        let stopped = Err(RunFault::Write(Which::Out, room as u64));
+        assert!(rt; show_run(rt.alloc(), &LOOPED, &mut out) == stopped);
+        assert!(rt; out.held.as_slice() == front_of(LISTING, room));
+    }
+}
+
+#[test]
+fn one_text_whose_flush_fails(rt: HostRuntime) {
+    let mut out = limited_writer(rt.alloc(), 600, false);
+    assert!(rt; canon_run(rt.alloc(), &LOOPED, &mut out) == Err(RunFault::Write(Which::Out, 532)));
+    assert!(rt; out.held.as_slice() == LOOPED.as_slice());
+    let mut out = limited_writer(rt.alloc(), 600, false);
+    let all = LISTING.len() as u64;
+    assert!(rt; show_run(rt.alloc(), &LOOPED, &mut out) == Err(RunFault::Write(Which::Out, all)));
+    assert!(rt; out.held.as_slice() == LISTING);
 }
 
 #[test]

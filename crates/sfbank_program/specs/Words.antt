@@ -1,21 +1,43 @@
--- The paths that words give.
-use Rattle.std.specs.Prelude.{◌≡◌, Some, is_some, true, codes}
+-- The command and the paths that words give.
+use Rattle.std.specs.Prelude.{◌≡◌, ℕ, List, Option, Some, is_some, true, codes}
 use Rattle.clap.specs.Words.{first_value}
 use Rattle.clap.specs.declared.parser.matches.Found.{Found}
+use Rattle.sfbank_program.specs.declared.words.Request.{Request}
+use Rattle.sfbank_program.specs.declared.words.Request.TheVariants.{Apply, Canon, Show}
 use Rattle.sfbank_program.specs.declared.words.ApplyPaths.{ApplyPaths}
+use Rattle.sfbank_program.specs.declared.words.CanonPaths.{CanonPaths}
+
+-- a request is that of the command that was used
+abbrev pub IsOfCommand : Option (List ℕ) → Request → Type 0
+IsOfCommand used (Apply paths) = used ≡ Some (codes "apply")
+IsOfCommand used (Canon paths) = used ≡ Some (codes "canon")
+IsOfCommand used (Show input) = used ≡ Some (codes "show")
+
+-- a path that has a name
+abbrev IsGiven : Found → List ℕ → Type 0
+IsGiven found name = is_some (first_value found name) ≡ true
+
+-- the input's path is the one that has its name
+abbrev pub NamesInput : Found → List ℕ → Type 0
+NamesInput found path = first_value found (codes "IN") ≡ Some path
+
+abbrev pub HasInput : Found → Type 0
+HasInput found = IsGiven found (codes "IN")
 
 -- each path is the one that has its name
-abbrev pub NamesPaths : Found → ApplyPaths → Type 0
-NamesPaths found paths =
-    (first_value found (codes "IN") ≡ Some paths.input.now)
+abbrev pub NamesApplyPaths : Found → ApplyPaths → Type 0
+NamesApplyPaths found paths =
+    NamesInput found paths.input.now
     × (first_value found (codes "SCRIPT") ≡ Some paths.script.now)
     × (first_value found (codes "OUT") ≡ Some paths.out.now)
     × (first_value found (codes "UNDO") ≡ Some paths.undo.now)
 
 -- all of them are there
-abbrev pub HasPaths : Found → Type 0
-HasPaths found =
-    (is_some (first_value found (codes "IN")) ≡ true)
-    × (is_some (first_value found (codes "SCRIPT")) ≡ true)
-    × (is_some (first_value found (codes "OUT")) ≡ true)
-    × (is_some (first_value found (codes "UNDO")) ≡ true)
+abbrev pub HasApplyPaths : Found → Type 0
+HasApplyPaths found = HasInput found × IsGiven found (codes "SCRIPT") × IsGiven found (codes "OUT") × IsGiven found (codes "UNDO")
+
+abbrev pub NamesCanonPaths : Found → CanonPaths → Type 0
+NamesCanonPaths found paths = NamesInput found paths.input.now × (first_value found (codes "OUT") ≡ Some paths.out.now)
+
+abbrev pub HasCanonPaths : Found → Type 0
+HasCanonPaths found = HasInput found × IsGiven found (codes "OUT")

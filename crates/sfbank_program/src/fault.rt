@@ -1,6 +1,9 @@
 //! How a command ends that is not done.
 use sfbank::RunFault;
 
+/// The path by which the standard output is named in a fault.
+pub(crate) const STANDARD_OUTPUT: &str = "-";
+
 /// Why the program is not done.
 #[derive(Drop)]
 pub(crate) enum Fault<'a> {

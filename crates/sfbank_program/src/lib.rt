@@ -3,10 +3,13 @@
 #![tactic(auto)]
 
 mod apply;
+mod canon;
+mod counted;
 mod fault;
 mod input;
 mod output;
 mod program;
+mod show;
 mod telling;
 mod words;
 

@@ -3,10 +3,15 @@ ghost use Rattle.std.specs.Prelude.{◌≡◌, ◌+◌, ◌-◌, ◌^◌, IfOk, 
 ghost use Rattle.std.specs.Io.{WritesAtMost};
 ghost use Rattle.std.specs.Io.KnownBytes.{WriteAppends, Keeps};
 
+use crate::fault::Fault;
+use sfbank::{RunFault, Which};
 use std::fs::File;
 use std::io;
-use std::io::Write;
+use std::io::{BufWriter, Write};
 use std::rt::Files;
+
+/// The bytes that small writes to an output gather before they go out.
+pub(crate) const BUFFER: usize = 65_536;
 
 /// A file that its first write or flush creates, or empties. It counts the bytes that the file took.
 #[derive(Drop)]
@@ -75,4 +80,26 @@ impl<R: Files> Write for OutputFile<'_, R> {
         self.file = Some(file);
         flushed
     }
+}
+
+/// An output whose small writes are gathered.
+pub(crate) fn gathered<'a, R: Files + AllocGlobal>(
+    rt: &'a R,
+    path: &'a str,
+) -> Result<BufWriter<OutputFile<'a, R>>, Fault<'a>> {
+    match BufWriter::with_capacity(rt.alloc(), BUFFER, OutputFile::new(rt, path)) {
+        Ok(output) => Ok(output),
+        Err(_) => Err(Fault::Run(RunFault::Memory, path)),
+    }
+}
+
+/// The fault of an output, which counts what its file took. What was gathered is let go, for no
+/// write follows one that failed.
+pub(crate) fn write_fault<'a, R: Files>(
+    which: Which,
+    output: BufWriter<OutputFile<'a, R>>,
+    path: &'a str,
+) -> Fault<'a> {
+    let (file, _gathered) = output.into_parts();
+    Fault::Run(RunFault::Write(which, file.taken()), path)
 }

@@ -2,7 +2,9 @@
 ghost use Rattle.sfbank_program.specs.Telling.{Ends};
 
 use crate::apply::apply;
-use crate::fault::Fault;
+use crate::canon::canon;
+use crate::fault::{Fault, STANDARD_OUTPUT};
+use crate::show::show;
 use crate::telling::tell;
 use crate::words::{Request, request_of};
 use clap::error::ErrorKind;
@@ -14,9 +16,6 @@ use std::env::Env;
 use std::io::Write;
 use std::rt::Files;
 use std::{env, io};
-
-/// The path by which the standard output is named in a fault.
-const STANDARD_OUTPUT: &str = "-";
 
 /// Runs the program on the words that it was started with, and answers its exit status.
 pub fn run_with_arguments<R: Env + Files + AllocGlobal, O: Write, E: Write>(
@@ -49,7 +48,7 @@ fn arguments<R: Env + AllocGlobal>(rt: &R) -> Result<Vec<String>, Fault<'static>
 ///
 /// | status | when |
 /// |---|---|
-/// | 0 | done, or help or the version was asked for, which goes to `output` |
+/// | 0 | done, or help or the version was asked for |
 /// | 1 | the words are refused |
 /// | 2 | the file is no bank |
 /// | 3 | the script has a fault |
@@ -57,6 +56,7 @@ fn arguments<R: Env + AllocGlobal>(rt: &R) -> Result<Vec<String>, Fault<'static>
 /// | 5 | an input can't be read or is too long, or an output can't be written |
 /// | 6 | want of memory |
 ///
+/// What `show` tells, help and the version go to `output`.
 /// Where it is not 0, one line (of clap's text, more) goes to `errors`. If that can't be written, the
 /// status is the same.
 pub fn run<R: Files + AllocGlobal, S: AsStr, O: Write, E: Write>(
@@ -81,6 +81,8 @@ fn serve<'a, R: Files + AllocGlobal, S: AsStr, O: Write>(
 ) -> Result<(), Fault<'a>> {
     match request_of(rt.alloc(), words) {
         Ok(Request::Apply(paths)) => apply(rt, paths),
+        Ok(Request::Canon(paths)) => canon(rt, paths),
+        Ok(Request::Show(input)) => show(rt, input, output),
         Err(error) => answer(rt.alloc(), error, output),
     }
 }
@@ -100,11 +102,11 @@ fn answer<'a, O: Write>(
     let Ok(text) = format!(in alloc; "{error}") else {
         return Err(Fault::Run(RunFault::Memory, STANDARD_OUTPUT));
     };
-    show(text.as_str(), output)
+    put_text(text.as_str(), output)
 }
 
 /// Writes a text to the standard output.
-fn show<'a, O: Write>(text: &str, output: &mut O) -> Result<(), Fault<'a>> {
+fn put_text<'a, O: Write>(text: &str, output: &mut O) -> Result<(), Fault<'a>> {
     let sent = match put_all(output, text.as_bytes()) {
         Ok(()) => finish(output, text.len() as u64),
         Err(fault) => Err(fault),

@@ -44,6 +44,12 @@ const RENAME: &[u8] = b"rename-sample 0 \"ABCDEFGHIJKLMNOPQRST\"\n";
 
 const RENAME_BACK: &[u8] = b"rename-sample 0 \"saw\"\n";
 
+/// The listing of the bank.
+const LISTING: &[u8] = b"bank 4 presets 0 instruments 0 samples 1 points 2
+counts texts 0 sm24 0 zones 0 gens 0 ranges 0 loops 0 links 0
+sample 0 \"saw\" 44100 60 0 mono noloop 2
+";
+
 fn put_parts(bytes: &mut Vec<u8>, parts: &[(&[u8], usize)]) -> Result<(), AllocError> {
     for (text, zeros) in parts {
         bytes.extend_from_slice(text)?;
@@ -124,6 +130,98 @@ fn a_rename_and_the_way_back(rt: HostRuntime) -> Result<(), Fail> {
     let again = fs::read(&rt, "renamed/again.txt")?;
     assert!(rt; again.as_slice() == RENAME);
     fs::remove_dir_all(&rt, "renamed")?;
+    Ok(())
+}
+
+#[test]
+fn a_bank_in_its_one_spelling(rt: HostRuntime) -> Result<(), Fail> {
+    empty_folder(&rt, "spelled")?;
+    let spelled = bank(rt.alloc(), OLD_NAME)?;
+    let mut longer = bank(rt.alloc(), OLD_NAME)?;
+    longer.extend_from_slice(b"after")?;
+    fs::write(&rt, "spelled/in.sf2", longer.as_slice())?;
+
+    let words = ["sfbank", "canon", "spelled/in.sf2", "spelled/out.sf2"];
+    let (status, output, errors) = ran(&rt, words.as_slice());
+    assert_eq!(rt; status, 0);
+    assert!(rt; output.is_empty() && errors.is_empty());
+    assert!(rt; fs::read(&rt, "spelled/out.sf2")?.as_slice() == spelled.as_slice());
+    assert!(rt; fs::read(&rt, "spelled/in.sf2")?.as_slice() == longer.as_slice());
+
+    // Over the file itself.
+    let words = ["sfbank", "canon", "spelled/in.sf2", "spelled/in.sf2"];
+    let (status, _output, _errors) = ran(&rt, words.as_slice());
+    assert_eq!(rt; status, 0);
+    assert!(rt; fs::read(&rt, "spelled/in.sf2")?.as_slice() == spelled.as_slice());
+    fs::remove_dir_all(&rt, "spelled")?;
+    Ok(())
+}
+
+#[test]
+fn a_bank_is_shown_on_the_standard_output(rt: HostRuntime) -> Result<(), Fail> {
+    empty_folder(&rt, "shown")?;
+    fs::write(&rt, "shown/in.sf2", bank(rt.alloc(), OLD_NAME)?.as_slice())?;
+    let words = ["sfbank", "show", "shown/in.sf2"];
+    let (status, output, errors) = ran(&rt, words.as_slice());
+    assert_eq!(rt; status, 0);
+    assert!(rt; output.as_slice() == LISTING && errors.is_empty());
+
+    // What the output took is counted, and not what was gathered for it.
+    let mut taken = [0; 7];
+    let mut errors = Vec::new(rt.alloc());
+    let status = run(
+        &rt,
+        words.as_slice(),
+        &mut taken.as_mut_slice(),
+        &mut errors,
+    );
+    assert_eq!(rt; status, 5);
+    assert!(rt; taken == *b"bank 4 ");
+    assert!(rt; errors.as_slice() == b"sfbank: write fault - after 7 bytes\n".as_slice());
+    fs::remove_dir_all(&rt, "shown")?;
+    Ok(())
+}
+
+#[test]
+fn a_bank_that_cannot_be_read_or_written(rt: HostRuntime) -> Result<(), Fail> {
+    empty_folder(&rt, "unread")?;
+    let first = bank(rt.alloc(), OLD_NAME)?;
+    fs::write(&rt, "unread/in.sf2", first.as_slice())?;
+    fs::write(&rt, "unread/cut.sf2", front_of(first.as_slice(), 400))?;
+    let out = "unread/out";
+    for (input, out, status, line) in [
+        ("unread/cut.sf2", out, 2, "sfbank: read fault 3 Truncated\n"),
+        ("unread/none", out, 5, "sfbank: file fault unread/none\n"),
+        (
+            "unread/in.sf2",
+            "unread/no/out",
+            5,
+            "sfbank: write fault unread/no/out after 0 bytes\n",
+        ),
+        // It opens, and takes no byte of those that are gathered for it.
+        (
+            "unread/in.sf2",
+            "/dev/full",
+            5,
+            "sfbank: write fault /dev/full after 0 bytes\n",
+        ),
+    ] {
+        let (given, output, errors) = ran(&rt, &["sfbank", "canon", input, out]);
+        assert_eq!(rt; given, status, "{line}");
+        assert!(rt; output.is_empty());
+        assert!(rt; errors.as_slice() == line.as_bytes(), "{line}");
+        assert!(rt; !fs::exists(&rt, "unread/out")?);
+    }
+    for (input, status, line) in [
+        ("unread/cut.sf2", 2, "sfbank: read fault 3 Truncated\n"),
+        ("unread/none", 5, "sfbank: file fault unread/none\n"),
+    ] {
+        let (given, output, errors) = ran(&rt, &["sfbank", "show", input]);
+        assert_eq!(rt; given, status, "{line}");
+        assert!(rt; output.is_empty());
+        assert!(rt; errors.as_slice() == line.as_bytes(), "{line}");
+    }
+    fs::remove_dir_all(&rt, "unread")?;
     Ok(())
 }
 
@@ -252,23 +350,29 @@ fn words_that_are_no_run(rt: HostRuntime) -> Result<(), Fail> {
     let (status, output, errors) = ran(&rt, version);
     assert_eq!(rt; status, 0);
     assert!(rt; output.as_slice() == b"sfbank 0.1.0\n".as_slice() && errors.is_empty());
-    let shown: [&[&str]; 3] = [
+    let shown: [&[&str]; 5] = [
         &["sfbank", "--help"],
         &["sfbank", "help"],
         &["sfbank", "help", "apply"],
+        &["sfbank", "help", "canon"],
+        &["sfbank", "show", "--help"],
     ];
     for words in shown {
         let (status, output, errors) = ran(&rt, words);
         assert_eq!(rt; status, 0);
         assert!(rt; !output.is_empty() && errors.is_empty());
     }
-    let refused: [&[&str]; 6] = [
+    let refused: [&[&str]; 10] = [
         &[],
         &["sfbank"],
         &["sfbank", "frob"],
         &["sfbank", "apply", "a", "b", "c"],
         &["sfbank", "apply", "a", "b", "c", "d", "e"],
         &["sfbank", "apply", "--frob", "a", "b", "c"],
+        &["sfbank", "canon", "a"],
+        &["sfbank", "canon", "a", "b", "c"],
+        &["sfbank", "show"],
+        &["sfbank", "show", "a", "b"],
     ];
     for words in refused {
         let (status, output, errors) = ran(&rt, words);

@@ -1,7 +1,7 @@
 //! The words of the program.
 ghost use Rattle.std.specs.Prelude.{IfSome, IsSome};
-ghost use Rattle.clap.specs.Words.{found_of};
-ghost use Rattle.sfbank_program.specs.Words.{NamesPaths, HasPaths};
+ghost use Rattle.clap.specs.Words.{found_of, subcommand_name_of};
+ghost use Rattle.sfbank_program.specs.Words.{IsOfCommand, NamesApplyPaths, HasApplyPaths, NamesCanonPaths, HasCanonPaths, NamesInput, HasInput};
 
 use clap::error::ErrorKind;
 use clap::{Arg, ArgAction, ArgMatches, Command, Error};
@@ -15,6 +15,10 @@ const NAME: &str = "sfbank";
 pub(crate) enum Request<'a> {
     /// Run a script on a bank.
     Apply(ApplyPaths<'a>),
+    /// Write a bank in its one spelling.
+    Canon(CanonPaths<'a>),
+    /// Tell what the bank at this path has.
+    Show(&'a str),
 }
 
 /// The paths of `apply`.
@@ -24,6 +28,13 @@ pub(crate) struct ApplyPaths<'a> {
     pub(crate) script: &'a str,
     pub(crate) out: &'a str,
     pub(crate) undo: &'a str,
+}
+
+/// The paths of `canon`.
+#[derive(Clone, Copy)]
+pub(crate) struct CanonPaths<'a> {
+    pub(crate) input: &'a str,
+    pub(crate) out: &'a str,
 }
 
 /// What the words ask for. The first word is the program's name. Asking for help or the version is
@@ -40,21 +51,46 @@ pub(crate) fn request_of<'a, S: AsStr>(
     }
 }
 
-fn chosen<'a>(matches: &ArgMatches<'a>) -> Option<Request<'a>> {
-    let apply = matches.subcommand_matches("apply")?;
-    Some(Request::Apply(apply_paths(apply)?))
+fn chosen<'a>(matches: &ArgMatches<'a>) -> Option<Request<'a>>
+    ensures { IfSome result (IsOfCommand (subcommand_name_of matches.now)) }
+{
+    if let Some(apply) = matches.subcommand_matches("apply") {
+        return Some(Request::Apply(apply_paths(apply)?));
+    }
+    if let Some(canon) = matches.subcommand_matches("canon") {
+        return Some(Request::Canon(canon_paths(canon)?));
+    }
+    let show = matches.subcommand_matches("show")?;
+    Some(Request::Show(input_path(show)?))
 }
 
 fn apply_paths<'a>(matches: &ArgMatches<'a>) -> Option<ApplyPaths<'a>>
-    ensures named { IfSome result (NamesPaths (found_of matches.now)) }
-    ensures given { HasPaths (found_of matches.now) → IsSome result }
+    ensures named { IfSome result (NamesApplyPaths (found_of matches.now)) }
+    ensures given { HasApplyPaths (found_of matches.now) → IsSome result }
 {
     Some(ApplyPaths {
-        input: matches.get_str("IN")?,
+        input: input_path(matches)?,
         script: matches.get_str("SCRIPT")?,
         out: matches.get_str("OUT")?,
         undo: matches.get_str("UNDO")?,
     })
+}
+
+fn canon_paths<'a>(matches: &ArgMatches<'a>) -> Option<CanonPaths<'a>>
+    ensures named { IfSome result (NamesCanonPaths (found_of matches.now)) }
+    ensures given { HasCanonPaths (found_of matches.now) → IsSome result }
+{
+    Some(CanonPaths {
+        input: input_path(matches)?,
+        out: matches.get_str("OUT")?,
+    })
+}
+
+fn input_path<'a>(matches: &ArgMatches<'a>) -> Option<&'a str>
+    ensures named { IfSome result (λ path. NamesInput (found_of matches.now) path.now) }
+    ensures given { HasInput (found_of matches.now) → IsSome result }
+{
+    matches.get_str("IN")
 }
 
 fn sfbank_command<'a>(alloc: Global) -> Result<Command<'a>, AllocError> {
@@ -66,7 +102,9 @@ fn sfbank_command<'a>(alloc: Global) -> Result<Command<'a>, AllocError> {
         )
         .subcommand_required(true)
         .arg_required_else_help(true)
-        .subcommand(apply_command(alloc)?)
+        .subcommand(apply_command(alloc)?)?
+        .subcommand(canon_command(alloc)?)?
+        .subcommand(show_command(alloc)?)
 }
 
 fn apply_command<'a>(alloc: Global) -> Result<Command<'a>, AllocError> {
@@ -76,6 +114,19 @@ fn apply_command<'a>(alloc: Global) -> Result<Command<'a>, AllocError> {
         .arg(path(alloc, "SCRIPT").help("The edits, one a line"))?
         .arg(path(alloc, "OUT").help("Where the edited bank is written; may be IN"))?
         .arg(path(alloc, "UNDO").help("Where the script that takes the edits back is written"))
+}
+
+fn canon_command<'a>(alloc: Global) -> Result<Command<'a>, AllocError> {
+    Command::new(alloc, "canon")
+        .about("Writes a bank in its one spelling")
+        .arg(path(alloc, "IN").help("The bank to spell"))?
+        .arg(path(alloc, "OUT").help("Where its canonical file is written; may be IN"))
+}
+
+fn show_command<'a>(alloc: Global) -> Result<Command<'a>, AllocError> {
+    Command::new(alloc, "show")
+        .about("Tells what a bank has, and what was dropped or mended as it was read")
+        .arg(path(alloc, "IN").help("The bank to show"))
 }
 
 fn path<'a>(alloc: Global, name: &'a str) -> Arg<'a> {

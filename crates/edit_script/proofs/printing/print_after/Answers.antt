@@ -1,5 +1,5 @@
 use Rattle.edit_script.specs.Printing.{text_of}
-use Rattle.edit_script.proofs.PenLaws.{finished}
+use Rattle.sf_base.proofs.PenLaws.{finished}
 use Rattle.edit_script.proofs.printing.print_after.Goals as goal
 
 pub returns : goal.returns

@@ -1,5 +1,5 @@
 use Rattle.std.proofs.Common.{[], ◌∷◌}
-use Rattle.edit_script.proofs.PenLaws.{room_after, puts_then}
+use Rattle.sf_base.proofs.PenLaws.{room_after, puts_then}
 use Rattle.edit_script.proofs.printing.put_closed.Goals as goal
 
 pub put-requires-2 : goal.put-requires-2

@@ -1,7 +1,7 @@
 use Rattle.std.proofs.Common.{◌+◌, drop}
 use Rattle.std.proofs.lemmas.Result.{err_from_is_err_and}
 use Rattle.hex.specs.Hex.{encode_lower}
-use Rattle.edit_script.proofs.PenLaws.{Putting-step, Putting-stop, Putting-end, Putting-room}
+use Rattle.sf_base.proofs.PenLaws.{Putting-step, Putting-stop, Putting-end, Putting-room}
 use Rattle.edit_script.proofs.PrintLaws.{digits_at, digits_over}
 use Rattle.edit_script.proofs.printing.put_digits.Goals as goal
 

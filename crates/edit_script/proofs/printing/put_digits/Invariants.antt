@@ -1,6 +1,6 @@
 use Rattle.std.proofs.Common.{drop}
 use Rattle.hex.specs.Hex.{encode_lower}
-use Rattle.edit_script.proofs.PenLaws.{Putting}
+use Rattle.sf_base.proofs.PenLaws.{Putting}
 use Rattle.edit_script.proofs.printing.put_digits.Given as goal
 
 -- the digits of the bytes that are left are still to be put

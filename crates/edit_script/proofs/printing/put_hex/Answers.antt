@@ -1,7 +1,7 @@
 use Rattle.std.proofs.Common.{[], ◌∷◌}
 use Rattle.std.proofs.lemmas.Result.{err_from_is_err_and}
 use Rattle.hex.specs.Hex.{encode_lower}
-use Rattle.edit_script.proofs.PenLaws.{room_after, puts_stop, puts_then}
+use Rattle.sf_base.proofs.PenLaws.{room_after, puts_stop, puts_then}
 use Rattle.edit_script.proofs.printing.put_hex.Goals as goal
 
 pub returns-in_err-put : goal.returns-in_err-put

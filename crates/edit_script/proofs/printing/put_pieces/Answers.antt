@@ -2,7 +2,7 @@ use Rattle.std.proofs.Common.{◌+◌, drop}
 use Rattle.std.specs.List.{flat_map}
 use Rattle.std.proofs.lemmas.Result.{err_from_is_err_and}
 use Rattle.edit_script.specs.Printing.{spaced}
-use Rattle.edit_script.proofs.PenLaws.{Putting-step, Putting-stop, Putting-end, Putting-room}
+use Rattle.sf_base.proofs.PenLaws.{Putting-step, Putting-stop, Putting-end, Putting-room}
 use Rattle.edit_script.proofs.PrintLaws.{spaced_at, spaced_over}
 use Rattle.edit_script.proofs.printing.put_pieces.Goals as goal
 

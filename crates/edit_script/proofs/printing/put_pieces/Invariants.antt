@@ -1,7 +1,7 @@
 use Rattle.std.proofs.Common.{drop}
 use Rattle.std.specs.List.{flat_map}
 use Rattle.edit_script.specs.Printing.{spaced}
-use Rattle.edit_script.proofs.PenLaws.{Putting}
+use Rattle.sf_base.proofs.PenLaws.{Putting}
 use Rattle.edit_script.proofs.printing.put_pieces.Given as goal
 
 -- the pieces that are left are still to be put

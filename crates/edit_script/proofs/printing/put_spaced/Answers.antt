@@ -1,4 +1,4 @@
-use Rattle.edit_script.proofs.PenLaws.{puts_then}
+use Rattle.sf_base.proofs.PenLaws.{puts_then}
 use Rattle.edit_script.proofs.printing.put_spaced.Goals as goal
 
 pub returns : goal.returns

@@ -1,6 +1,6 @@
 use Rattle.std.specs.List.{flat_map}
 use Rattle.edit_script.specs.Printing.{spaced}
-use Rattle.edit_script.proofs.PenLaws.{room_after, puts_then}
+use Rattle.sf_base.proofs.PenLaws.{room_after, puts_then}
 use Rattle.edit_script.proofs.printing.put_tokens.Goals as goal
 
 pub put_pieces-requires : goal.put_pieces-requires

@@ -3,7 +3,6 @@ use Rattle.bank_core.specs.Valid.{IsValid}
 use Rattle.bank_core.specs.Fits.{Fits}
 use Rattle.bank_format.specs.Reading.{Content}
 use Rattle.bank_format.specs.ReadSteps.{fault_of}
-use Rattle.bank_format.proofs.ReadValid.{read_valid, read_fits}
 use Rattle.sf_reader.proofs.ByteLemmas.{are_bytes}
 use Rattle.sf_reader.proofs.StepLaws.{fails_by}
 use Rattle.sf_reader.proofs.ReadLaws.{in_frame, in_lists, in_content, file_holds}
@@ -35,7 +34,7 @@ from_valid_parts-requires c =
     let bytes = are_bytes file c.type_inv.file in
     let holds = file_holds file c.in_ok-window.window.now c.in_ok-lists.lists c.in_ok-window.ensures.1 c.in_ok-lists.ensures.1 c.in_ok-window.ensures.0 c.in_ok-lists.ensures.0 c.in_ok-parts.ensures.0 in
     let content = c.in_ok-parts.ensures.1 ∙ holds.1 in
-    subst IsValid (sym (ap (λ (k : Content). k.bank) content)) (read_valid file bytes holds.0)
+    subst IsValid (sym (ap (λ (k : Content). k.bank) content)) (c.read_banks_are_valid.ensures.valid file bytes holds.0)
 
 pub returns-clause-ok : goal.returns-clause-ok
 returns-clause-ok c =
@@ -46,4 +45,4 @@ pub returns-clause-fits : goal.returns-clause-fits
 returns-clause-fits c =
     let file = c.args.file.now in
     let bytes = are_bytes file c.type_inv.file in
-    subst Fits (ap (λ (k : Content). k.bank) (returns-clause-ok c).1) (read_fits file bytes)
+    subst Fits (ap (λ (k : Content). k.bank) (returns-clause-ok c).1) (c.read_banks_are_valid.ensures.fits file bytes)

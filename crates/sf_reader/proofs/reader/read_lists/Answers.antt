@@ -1,4 +1,4 @@
-use Rattle.std.proofs.Common.{◌≡◌, ◌∙◌, ℕ, List, Result, ap, sym, subst}
+use Rattle.std.proofs.Common.{◌≡◌, ℕ, List, Result, sym, subst}
 use Rattle.std.specs.Result.{IsErrAnd}
 use Rattle.bank_core.specs.declared.parts.Parts.{Parts}
 use Rattle.bank_format.specs.declared.fault.Counts.{Counts}
@@ -7,9 +7,9 @@ use Rattle.bank_format.specs.Ids.{IFIL}
 use Rattle.bank_format.specs.Steps.{first_broken, Fails, Passes}
 use Rattle.bank_format.specs.Reading.{Content}
 use Rattle.sf_reader.specs.Lists.{Windows}
-use Rattle.sf_reader.specs.Content.{list_content_steps, list_content, table_content}
+use Rattle.sf_reader.specs.Content.{list_content_steps, list_content, table_steps, table_content}
 use Rattle.sf_reader.proofs.StepLaws.{passes_by}
-use Rattle.sf_reader.proofs.ReadLaws.{Opened, Cut, in_there, in_nine, in_version, in_whole, in_tables, lists_hold}
+use Rattle.sf_reader.proofs.ReadLaws.{Opened, Cut, in_there, in_nine, in_version, in_whole, tables_pass}
 use Rattle.sf_reader.proofs.reader.read_lists.Goals as goal
 
 -- the pair that the reader gives, as the definition has it
@@ -72,41 +72,22 @@ returns-in_err-tables c =
     stops c.from_residual-in_err-tables.result e w c.args.lists.now c.lists.view_is c.from_residual-in_err-tables.ensures.1
     (in_whole w e c.in_ok-version.version.now c.in_ok-bodies.bodies opened c.in_ok-minor.ensures.0 c.in_err-tables.ensures)
 
-pub returns-in_err-check_tables : goal.returns-in_err-check_tables
+pub returns : goal.returns
 unfolding IFIL
-returns-in_err-check_tables c =
+returns c =
     let v = c.lists.inside in
     let w = windows v.info.now v.sdta.now v.pdta.now in
-    let e = c.in_err-check_tables.field-0.0 in
+    let r = c.read_tables.result in
+    let minor = c.in_ok-minor.minor in
+    let t = c.in_ok-tables.tables in
+    let smpl = c.smpl_of-smpl.result.now in
     let opened : Opened w c.in_ok-version.version.now c.in_ok-bodies.bodies = record {
       there = c.in_ok-version.ensures.0;
       version_is = c.in_ok-version.ensures.1;
       nine = c.in_ok-bodies.ensures.0;
       bodies_are = c.in_ok-bodies.ensures.1;
     } in
-    let found : Cut w c.in_ok-version.version.now c.in_ok-bodies.bodies c.in_ok-minor.minor c.in_ok-tables.tables c.smpl_of-smpl.result.now = record {
-      opened = opened;
-      version_holds = c.in_ok-minor.ensures.0;
-      minor_is = c.in_ok-minor.ensures.1;
-      whole = c.in_ok-tables.ensures.0;
-      tables_are = c.in_ok-tables.ensures.1;
-      smpl_is = c.smpl_of-smpl.ensures;
-    } in
-    stops c.from_residual-in_err-check_tables.result e w c.args.lists.now c.lists.view_is c.from_residual-in_err-check_tables.ensures.1
-    (in_tables w e c.in_ok-version.version.now c.in_ok-bodies.bodies c.in_ok-minor.minor c.in_ok-tables.tables c.smpl_of-smpl.result.now found c.in_err-check_tables.ensures.passes)
-
-pub returns-in-Ok : goal.returns-in-Ok
-unfolding IFIL
-returns-in-Ok c =
-    let v = c.lists.inside in
-    let w = windows v.info.now v.sdta.now v.pdta.now in
-    let opened : Opened w c.in_ok-version.version.now c.in_ok-bodies.bodies = record {
-      there = c.in_ok-version.ensures.0;
-      version_is = c.in_ok-version.ensures.1;
-      nine = c.in_ok-bodies.ensures.0;
-      bodies_are = c.in_ok-bodies.ensures.1;
-    } in
-    let found : Cut w c.in_ok-version.version.now c.in_ok-bodies.bodies c.in_ok-minor.minor c.in_ok-tables.tables c.smpl_of-smpl.result.now = record {
+    let found : Cut w c.in_ok-version.version.now c.in_ok-bodies.bodies minor t smpl = record {
       opened = opened;
       version_holds = c.in_ok-minor.ensures.0;
       minor_is = c.in_ok-minor.ensures.1;
@@ -115,7 +96,6 @@ returns-in-Ok c =
       smpl_is = c.smpl_of-smpl.ensures;
     } in
     let same = c.lists.view_is in
-    let hold = lists_hold w c.in_ok-version.version.now c.in_ok-bodies.bodies c.in_ok-minor.minor c.in_ok-tables.tables c.smpl_of-smpl.result.now found c.in_ok-check_tables.ensures.passes.0 in (
-      ap (λ (u : Windows). first_broken (list_content_steps u)) (sym same) ∙ hold.0,
-      c.in-Ok.ensures ∙ ap (λ (u : Windows). table_content c.in_ok-minor.minor u c.in_ok-tables.tables c.smpl_of-smpl.result.now) (sym same) ∙ hold.1 ∙ ap list_content same,
-    )
+    subst (λ (u : Windows). Passes seen r (list_content_steps u) (list_content u)) same
+    (tables_pass seen r w c.in_ok-version.version.now c.in_ok-bodies.bodies minor t smpl found
+    (subst (λ (u : Windows). Passes seen r (table_steps t smpl) (table_content minor u t smpl)) (sym same) c.read_tables.ensures))

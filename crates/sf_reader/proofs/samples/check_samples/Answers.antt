@@ -1,5 +1,5 @@
 use Rattle.std.specs.Prelude.{flat_map}
-use Rattle.bank_format.specs.Tables.{rows}
+use Rattle.bank_format.specs.Windows.{rows}
 use Rattle.bank_format.specs.ReadSteps.{sample_step}
 use Rattle.sf_reader.proofs.RowLemmas.{steps_hold, steps_fail}
 use Rattle.sf_reader.proofs.samples.check_samples.Goals as goal

@@ -1,7 +1,7 @@
 use Rattle.std.proofs.Common.{◌≡◌, take}
 use Rattle.std.specs.Prelude.{flat_map}
 use Rattle.bank_format.specs.Steps.{first_broken}
-use Rattle.bank_format.specs.Tables.{rows}
+use Rattle.bank_format.specs.Windows.{rows}
 use Rattle.bank_format.specs.ReadSteps.{sample_step}
 use Rattle.sf_reader.proofs.samples.check_samples.Given as goal
 

@@ -1,6 +1,6 @@
 use Rattle.std.proofs.Common.{◌≡◌, ◌≤◌, ◌+◌, ◌-◌, take}
 use Rattle.std.specs.Prelude.{sum_by}
-use Rattle.bank_format.specs.Tables.{rows}
+use Rattle.bank_format.specs.Windows.{rows}
 use Rattle.sf_reader.proofs.samples.check_total.Given as goal
 
 -- the points so far and those of the heads that are left are all

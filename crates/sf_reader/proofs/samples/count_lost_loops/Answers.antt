@@ -1,7 +1,7 @@
 use Rattle.std.proofs.Common.{◌∙◌, rules, tests}
 use Rattle.std.proofs.lemmas.Iterator.Consumers.{YieldsList-at, YieldsList-from_filter, count_from_yields_List}
 use Rattle.std.proofs.lemmas.List.Sums.{length-filter}
-use Rattle.bank_format.specs.Tables.{rows}
+use Rattle.bank_format.specs.Windows.{rows}
 use Rattle.bank_format.specs.Samples.{is_loop_lost}
 use Rattle.sf_reader.proofs.RowLemmas.{rows_yield}
 use Rattle.sf_reader.proofs.samples.count_lost_loops.Goals as goal

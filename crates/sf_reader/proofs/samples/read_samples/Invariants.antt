@@ -1,6 +1,6 @@
 use Rattle.std.proofs.Common.{◌≡◌, ◌++◌, map, take}
 use Rattle.sample_view.specs.Words.{words}
-use Rattle.bank_format.specs.Tables.{rows}
+use Rattle.bank_format.specs.Windows.{rows}
 use Rattle.bank_format.specs.Samples.{sample_read}
 use Rattle.sf_reader.proofs.samples.read_samples.Given as goal
 

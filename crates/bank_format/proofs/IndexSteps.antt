@@ -1,0 +1,93 @@
+-- The running indexes of a bank's tables break no step, and no target of its zones does.
+use Rattle.std.proofs.Common.{◌≡◌, ◌≤◌, ◌+◌, ◌-◌, ℕ, suc, true, leb, ltb, List, [], ◌∷◌, length, map, None, refl, sym, ap, ◌∙◌, arith}
+use Rattle.std.specs.Prelude.{flat_map, nat_le}
+use Rattle.std.specs.List.{AllByRecursion, list_all}
+use Rattle.std.proofs.lemmas.Bool.{le-leb, lt-ltb}
+use Rattle.std.proofs.lemmas.List.{length-append}
+use Rattle.generators.specs.declared.level.Level.{Level}
+use Rattle.generators.specs.declared.level.Level.TheVariants as level
+use Rattle.bank_core.specs.Valid.{IsPreset, IsInstrument, IsValid, IsZone}
+use Rattle.bank_core.specs.declared.parts.Zone.{Zone}
+use Rattle.bank_core.specs.declared.parts.Preset.{Preset}
+use Rattle.bank_core.specs.declared.parts.Instrument.{Instrument}
+use Rattle.bank_core.specs.declared.parts.Parts.{Parts}
+use Rattle.hydra_records.specs.declared.head.PresetHead.{PresetHead}
+use Rattle.hydra_records.specs.declared.head.InstrumentHead.{InstrumentHead}
+use Rattle.hydra_records.specs.declared.zone.Bag.{Bag}
+use Rattle.bank_format.specs.declared.fault.ReadFault.{ReadFault}
+use Rattle.bank_format.specs.declared.fault.ReadFault.TheVariants as fault
+use Rattle.bank_format.specs.Steps.{first_broken}
+use Rattle.bank_format.specs.Windows.{ends, starts}
+use Rattle.bank_format.specs.Zones.{Bagged}
+use Rattle.bank_format.specs.Tables.{bag, bag_list, gen_list, mod_list, generator_end, modulator_end, preset_bags, instrument_bags, all_preset_bags, all_instrument_bags, preset_heads_from, instrument_heads_from, tables_of}
+use Rattle.bank_format.specs.ReadSteps.{is_rising_from, index_steps, bag_steps, all_index_steps, target_step, target_steps}
+use Rattle.bank_format.proofs.AllLemmas.{all-flat_map}
+use Rattle.bank_format.proofs.StepLemmas.{then_none}
+use Rattle.bank_format.proofs.WindowLaws.{sizes, total, length-flat, length-starts, length-together}
+use Rattle.bank_format.proofs.TableLaws.{gens_in_bag, mods_in_bag, gen_indexes, mod_indexes, preset_indexes, instrument_indexes}
+
+rising : (at : ℕ) (ns : List ℕ) → is_rising_from at (ends at ns) ≡ true
+rising at [] = refl
+rising at (n ∷ ns) = let e : leb at (at + n) ≡ true = le-leb _ _ (omega arith) in rw e (rising (at + n) ns)
+
+below : (at most : ℕ) (ns : List ℕ) → at + total ns ≤ most → list_all (λ i. nat_le i most) (ends at ns) ≡ true
+below at most [] h = refl
+below at most (n ∷ ns) h = let e : leb (at + n) most ≡ true = le-leb _ _ (omega arith) in rw e (below (at + n) most ns (omega arith))
+
+starts_hold : (ns : List ℕ) (n : ℕ) → n ≡ total ns + 1 → first_broken (index_steps (starts ns) n) ≡ None
+unfolding index_steps
+starts_hold ns n e =
+    let r = rising 0 ns in
+    let zero_first : leb 0 0 ≡ true = refl in
+    let b = below 0 (n - 1) ns (omega (arith, e)) in
+    let z : leb 0 (n - 1) ≡ true = le-leb _ _ (omega arith) in
+    rw (r, z, b) refl
+
+bag_steps_hold : (bags : List Bagged) → first_broken (bag_steps (bag_list bags) (length (gen_list bags)) (length (mod_list bags))) ≡ None
+unfolding gen_list mod_list
+bag_steps_hold bags =
+    let g = length-flat gens_in_bag bags in
+    let m = length-flat mods_in_bag bags in
+    let gens : first_broken (index_steps (map (λ (r : Bag). r.gens) (bag_list bags)) (length (gen_list bags))) ≡ None =
+    ap (λ (is : List ℕ). first_broken (index_steps is (length (gen_list bags)))) (gen_indexes bags)
+    ∙ starts_hold (sizes gens_in_bag bags) (length (gen_list bags)) (let a = length-append (flat_map gens_in_bag bags) (generator_end ∷ []) in omega (arith, a, g)) in
+    let mods : first_broken (index_steps (map (λ (r : Bag). r.mods) (bag_list bags)) (length (mod_list bags))) ≡ None =
+    ap (λ (is : List ℕ). first_broken (index_steps is (length (mod_list bags)))) (mod_indexes bags)
+    ∙ starts_hold (sizes mods_in_bag bags) (length (mod_list bags)) (let a = length-append (flat_map mods_in_bag bags) (modulator_end ∷ []) in omega (arith, a, m)) in
+    then_none (index_steps (map (λ (r : Bag). r.gens) (bag_list bags)) (length (gen_list bags))) _ gens mods
+
+pub length-bag_list : (bags : List Bagged) → length (bag_list bags) ≡ suc (length bags)
+unfolding bag_list
+length-bag_list bags =
+    let a = length-starts gens_in_bag bags in
+    let b = length-starts mods_in_bag bags in
+    length-together bag (starts (sizes gens_in_bag bags)) (starts (sizes mods_in_bag bags)) (a ∙ sym b) ∙ a
+
+head_steps_hold : {Y : Type 0} (f : Y → List Bagged) (ys : List Y) (is : List ℕ) → is ≡ starts (sizes f ys) → first_broken (index_steps is (length (bag_list (flat_map f ys)))) ≡ None
+head_steps_hold f ys is e =
+    let n = length (bag_list (flat_map f ys)) in
+    ap (λ (js : List ℕ). first_broken (index_steps js n)) e
+    ∙ starts_hold (sizes f ys) n (let a = length-bag_list (flat_map f ys) in let t = length-flat f ys in omega (arith, a, t))
+
+pub index_steps_hold : (b : Parts) → first_broken (all_index_steps (tables_of b)) ≡ None
+unfolding all_index_steps tables_of
+index_steps_hold b =
+    then_none (index_steps (map (λ (h : PresetHead). h.bag) (preset_heads_from 0 b.presets)) (length (bag_list (all_preset_bags b)))) _ (head_steps_hold preset_bags b.presets _ (preset_indexes 0 b.presets))
+    (then_none (bag_steps (bag_list (all_preset_bags b)) (length (gen_list (all_preset_bags b))) (length (mod_list (all_preset_bags b)))) _ (bag_steps_hold (all_preset_bags b))
+    (then_none (index_steps (map (λ (h : InstrumentHead). h.bag) (instrument_heads_from 0 b.instruments)) (length (bag_list (all_instrument_bags b)))) _ (head_steps_hold instrument_bags b.instruments _ (instrument_indexes 0 b.instruments))
+    (bag_steps_hold (all_instrument_bags b))))
+
+-- ---- targets
+
+targets_hold : (at : Level) (n : ℕ) (f : ReadFault) (zs : List Zone) → AllByRecursion (IsZone at n) zs → first_broken (map (target_step n f) zs) ≡ None
+targets_hold at n f [] v = refl
+targets_hold at n f (z ∷ zs) v = let e : ltb z.target n ≡ true = lt-ltb _ _ v.0.target in rw e (targets_hold at n f zs v.1)
+
+pub target_steps_hold : (b : Parts) → IsValid b → first_broken (target_steps b) ≡ None
+unfolding target_steps
+target_steps_hold b v =
+    let n = length b.instruments in
+    let k = length b.samples in
+    then_none (map (target_step n fault.BadInstrument) (flat_map (λ (p : Preset). p.zones) b.presets)) _
+    (targets_hold level.Preset n fault.BadInstrument _ (all-flat_map (IsZone level.Preset n) (IsPreset n) (λ (p : Preset). p.zones) (λ p q. q.zones.zones) b.presets v.presets))
+    (targets_hold level.Instrument k fault.BadSample _ (all-flat_map (IsZone level.Instrument k) (IsInstrument k) (λ (p : Instrument). p.zones) (λ p q. q.zones.zones) b.instruments v.instruments))

@@ -1,0 +1,4 @@
+pub use Rattle.edit_script.specs.Printing
+pub mod Listing
+pub mod Parts
+pub mod Short

@@ -1,0 +1,78 @@
+-- What is told of a bank: a line of its own, one of the counts of reading it, and one of each member.
+use Rattle.std.specs.Prelude.{ℕ, suc, List, [], ◌∷◌, ◌++◌, length, sum_by, codes, Option, Some, None}
+use Rattle.std.specs.Fmt.{signed_decimal}
+use Rattle.bank_core.specs.declared.parts.Kind.{Kind}
+use Rattle.bank_core.specs.declared.parts.Kind.TheVariants.{Mono, Right, Left, Linked}
+use Rattle.bank_core.specs.declared.parts.Preset.{Preset}
+use Rattle.bank_core.specs.declared.parts.Instrument.{Instrument}
+use Rattle.bank_core.specs.declared.parts.Sample.{Sample}
+use Rattle.bank_core.specs.declared.parts.Parts.{Parts}
+use Rattle.bank_format.specs.declared.fault.Counts.{Counts}
+use Rattle.edit_script.specs.declared.printing.Piece.{Piece}
+use Rattle.edit_script.specs.declared.printing.Piece.TheVariants.{Number, Word, Name}
+use Rattle.edit_script.specs.Printing.{line_text}
+
+-- ---- the bank
+
+-- the points of all samples, without the zero points that a file has behind them
+abbrev pub point_count : List Sample → ℕ
+point_count samples = sum_by (λ (s : Sample). length s.points) samples
+
+unfoldable pub bank_line : Parts → List ℕ
+bank_line b = line_text (codes "bank") (
+    Number b.minor
+    ∷ Word (codes "presets") ∷ Number (length b.presets)
+    ∷ Word (codes "instruments") ∷ Number (length b.instruments)
+    ∷ Word (codes "samples") ∷ Number (length b.samples)
+    ∷ Word (codes "points") ∷ Number (point_count b.samples)
+    ∷ [])
+
+unfoldable pub counts_line : Counts → List ℕ
+counts_line counts = line_text (codes "counts") (
+    Word (codes "texts") ∷ Number counts.texts
+    ∷ Word (codes "sm24") ∷ Number counts.sm24
+    ∷ Word (codes "zones") ∷ Number counts.zones
+    ∷ Word (codes "gens") ∷ Number counts.gens
+    ∷ Word (codes "ranges") ∷ Number counts.ranges
+    ∷ Word (codes "loops") ∷ Number counts.loops
+    ∷ Word (codes "links") ∷ Number counts.links
+    ∷ [])
+
+-- ---- its members, by their numbers
+
+-- the zones without the global one
+unfoldable pub preset_line : ℕ → Preset → List ℕ
+preset_line n p = line_text (codes "preset") (Number n ∷ Name p.name ∷ Number p.number ∷ Number p.bank ∷ Number (length p.zones) ∷ [])
+
+unfoldable pub instrument_line : ℕ → Instrument → List ℕ
+instrument_line n i = line_text (codes "inst") (Number n ∷ Name i.name ∷ Number (length i.zones) ∷ [])
+
+abbrev pub kind_pieces : Kind → List Piece
+kind_pieces Mono = Word (codes "mono") ∷ []
+kind_pieces (Right link) = Word (codes "right") ∷ Number link ∷ []
+kind_pieces (Left link) = Word (codes "left") ∷ Number link ∷ []
+kind_pieces (Linked link) = Word (codes "linked") ∷ Number link ∷ []
+
+abbrev pub loop_pieces : Option (ℕ × ℕ) → List Piece
+loop_pieces None = Word (codes "noloop") ∷ []
+loop_pieces (Some looped) = Word (codes "loop") ∷ Number looped.0 ∷ Number looped.1 ∷ []
+
+unfoldable pub sample_line : ℕ → Sample → List ℕ
+sample_line n s = line_text (codes "sample") (
+    Number n ∷ Name s.name ∷ Number s.rate ∷ Number s.key ∷ Word (signed_decimal s.correction)
+    ∷ (kind_pieces s.kind ++ (loop_pieces s.looped ++ Number (length s.points) ∷ [])))
+
+-- a line for each, whose numbers begin at n
+abbrev pub lines_from : {X : Type 0} → (ℕ → X → List ℕ) → ℕ → List X → List ℕ
+lines_from line n [] = []
+lines_from line n (x ∷ xs) = line n x ++ lines_from line (suc n) xs
+
+-- ---- all lines
+
+unfoldable pub listing : Parts → Counts → List ℕ
+listing b counts =
+    bank_line b
+    ++ (counts_line counts
+    ++ (lines_from preset_line 0 b.presets
+    ++ (lines_from instrument_line 0 b.instruments
+    ++ lines_from sample_line 0 b.samples)))

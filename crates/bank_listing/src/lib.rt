@@ -1,0 +1,12 @@
+//! A bank as lines of text: what `show` tells of it.
+#![tactic(auto)]
+
+mod listing;
+mod members;
+mod pieces;
+mod points;
+
+pub use listing::write_listing;
+
+#[cfg(test)]
+mod tests;

@@ -1,0 +1,173 @@
+-- The presets or the instruments, one head after the other.
+use Rattle.std.proofs.Common.{◌≡◌, ◌≤◌, ◌+◌, ◌-◌, ◌∙◌, ℕ, suc, true, false, List, [], ◌∷◌, ◌++◌, length, map, None, Some, Option, Result, refl, sym, ap, subst, append_assoc, arith}
+use Rattle.std.specs.Prelude.{flat_map, sum_by, nat_lt}
+use Rattle.std.specs.List.{slice_range, list_all}
+use Rattle.std.specs.Result.{IsErrAnd}
+use Rattle.std.proofs.lemmas.List.{append-nil}
+use Rattle.std.proofs.lemmas.List.Sums.{sum_by-cons}
+use Rattle.generators.specs.declared.level.Level.{Level}
+use Rattle.modulators.specs.declared.modulator.Modulator.{Modulator}
+use Rattle.hydra_records.specs.declared.zone.Bag.{Bag}
+use Rattle.hydra_records.specs.declared.zone.Generator.{Generator}
+use Rattle.bank_core.specs.declared.parts.GlobalZone.{GlobalZone}
+use Rattle.bank_core.specs.declared.parts.Zone.{Zone}
+use Rattle.bank_format.specs.declared.fault.ReadFault.{ReadFault}
+use Rattle.bank_format.specs.Steps.{Step, step, first_broken, Fails, Passes}
+use Rattle.bank_format.specs.Windows.{windows, together, rows}
+use Rattle.bank_format.specs.Zones.{Bagged, zones_read, ignored, gens_dropped, ranges_mended}
+use Rattle.bank_format.specs.Reading.{bags_in}
+use Rattle.bank_format.specs.ReadSteps.{target_step}
+use Rattle.zone_reader.specs.declared.zones.ZoneCounts.{ZoneCounts}
+use Rattle.zone_reader.specs.Bags.{counts_read}
+use Rattle.sf_reader.specs.declared.owners.OwnerRead.{OwnerRead}
+use Rattle.sf_reader.specs.declared.owners.OwnersRead.{OwnersRead}
+use Rattle.sf_reader.specs.Owners.{AreSmall, added, counts_over, made_of, owner_read, owners_read, zone_steps}
+use Rattle.sf_reader.proofs.StepLaws.{first_broken-append, fails_front, fails_itself, passes_by, same_fault}
+use Rattle.sf_reader.proofs.CountLaws.{AreFew, part-small}
+use Rattle.sf_reader.proofs.WindowLaws.{slice-bags_in}
+
+-- ---- the targets of zones
+
+pub targets_there : (targets : ℕ) (missing : ReadFault) (zones : List Zone) → list_all (λ (z : Zone). nat_lt z.target targets) zones ≡ true
+    → first_broken (map (target_step targets missing) zones) ≡ None
+targets_there targets missing zones all = rw (same_fault (λ (z : Zone). nat_lt z.target targets) missing zones, all) refl
+
+pub target_missing : (targets : ℕ) (missing : ReadFault) (zones : List Zone) → list_all (λ (z : Zone). nat_lt z.target targets) zones ≡ false
+    → Fails missing (first_broken (map (target_step targets missing) zones))
+target_missing targets missing zones none = rw (same_fault (λ (z : Zone). nat_lt z.target targets) missing zones, none) (fails_itself missing)
+
+-- ---- counts
+
+nothing : ZoneCounts
+nothing = record { zones = 0; gens = 0; ranges = 0 }
+
+added-nothing : (c : ZoneCounts) → added nothing c ≡ c
+unfolding nothing
+added-nothing c =
+    let zones : 0 + c.zones ≡ c.zones = omega arith in
+    let gens : 0 + c.gens ≡ c.gens = omega arith in
+    let ranges : 0 + c.ranges ≡ c.ranges = omega arith in
+    λ i. record { zones = zones i; gens = gens i; ranges = ranges i }
+
+counts_over-next : (at : Level) (w : List Bagged) (ws : List (List Bagged)) → counts_over at (w ∷ ws) ≡ added (counts_read at w) (counts_over at ws)
+counts_over-next at w ws =
+    let zones = sum_by-cons (ignored at) w ws in
+    let gens = sum_by-cons (gens_dropped at) w ws in
+    let ranges = sum_by-cons (ranges_mended at) w ws in
+    λ i. record { zones = zones i; gens = gens i; ranges = ranges i }
+
+added-assoc : (a b c : ZoneCounts) → added (added a b) c ≡ added a (added b c)
+added-assoc a b c =
+    let zones : a.zones + b.zones + c.zones ≡ a.zones + (b.zones + c.zones) = omega arith in
+    let gens : a.gens + b.gens + c.gens ≡ a.gens + (b.gens + c.gens) = omega arith in
+    let ranges : a.ranges + b.ranges + c.ranges ≡ a.ranges + (b.ranges + c.ranges) = omega arith in
+    λ i. record { zones = zones i; gens = gens i; ranges = ranges i }
+
+-- ---- lists
+
+rows-next : {H : Type 0} (h n : H) (ns : List H) → rows (h ∷ n ∷ ns) ≡ h ∷ rows (n ∷ ns)
+rows-next h n ns =
+    let count : length (h ∷ n ∷ ns) - 1 ≡ suc (length (n ∷ ns) - 1) = omega arith in
+    rw count refl
+
+map-append : {X Y : Type 0} (f : X → Y) (xs ys : List X) → map f (xs ++ ys) ≡ map f xs ++ map f ys
+map-append f [] ys = refl
+map-append f (x ∷ xs) ys = ap (λ l. f x ∷ l) (map-append f xs ys)
+
+-- the zones of the next head, then those of the others
+zone_steps-next : (at : Level) (targets : ℕ) (missing : ReadFault) (w : List Bagged) (ws : List (List Bagged))
+    → zone_steps at targets missing (w ∷ ws) ≡ map (target_step targets missing) (zones_read at w) ++ zone_steps at targets missing ws
+zone_steps-next at targets missing w ws = map-append (target_step targets missing) (zones_read at w) (flat_map (zones_read at) ws)
+
+-- ---- head after head
+
+module _ {H O : Type 0} (at : Level) (targets : ℕ) (missing : ReadFault) (first_bag : H → ℕ) (owner : H → GlobalZone → List Zone → O) (table : List Bagged) (heads : List H) where
+  abbrev all : List (List Bagged)
+  all = windows table (map first_bag heads)
+
+  -- those so far and those of head h and the heads after it are all, and the zones that are left decide
+  pub record Left (owners : List O) (counts : ZoneCounts) (h : H) (hs : List H) : Type 0 where
+    pub owners_are : owners ++ together (made_of at owner) (rows (h ∷ hs)) (windows table (map first_bag (h ∷ hs))) ≡ together (made_of at owner) (rows heads) all
+    pub counts_are : added counts (counts_over at (windows table (map first_bag (h ∷ hs)))) ≡ counts_over at all
+    pub steps_are : first_broken (zone_steps at targets missing (windows table (map first_bag (h ∷ hs)))) ≡ first_broken (zone_steps at targets missing all)
+
+  pub left_first : (h : H) (hs : List H) → heads ≡ h ∷ hs → Left [] (record { zones = 0; gens = 0; ranges = 0 }) h hs
+  unfolding nothing
+  left_first h hs e = record {
+    owners_are = ap (λ (l : List H). together (made_of at owner) (rows l) (windows table (map first_bag l))) (sym e);
+    counts_are = added-nothing (counts_over at (windows table (map first_bag (h ∷ hs)))) ∙ ap (λ (l : List H). counts_over at (windows table (map first_bag l))) (sym e);
+    steps_are = ap (λ (l : List H). first_broken (zone_steps at targets missing (windows table (map first_bag l)))) (sym e);
+  }
+
+  -- the bags of head h end where those of the next one begin
+  abbrev between : H → H → List Bagged
+  between h n = slice_range table (first_bag h) (first_bag n)
+
+  module _ (owners : List O) (counts : ZoneCounts) (h n : H) (ns : List H) (left : Left owners counts h (n ∷ ns)) where
+    -- one more
+    pub left_next : (read : OwnerRead O) (more : ZoneCounts) (pushed : List O)
+        → first_broken (map (target_step targets missing) (zones_read at (between h n))) ≡ None
+        → read ≡ owner_read at owner h (between h n) → more ≡ added counts read.counts → pushed ≡ owners ++ read.owner ∷ [] → Left pushed more n ns
+    left_next read more pushed holds is counted put =
+        let rest = windows table (map first_bag (n ∷ ns)) in record {
+          owners_are =
+              ap (λ (l : List O). l ++ together (made_of at owner) (rows (n ∷ ns)) rest) (put ∙ ap (λ (r : OwnerRead O). owners ++ r.owner ∷ []) is)
+              ∙ append_assoc owners (made_of at owner h (between h n) ∷ []) (together (made_of at owner) (rows (n ∷ ns)) rest)
+              ∙ ap (λ (l : List H). owners ++ together (made_of at owner) l (between h n ∷ rest)) (sym (rows-next h n ns))
+              ∙ left.owners_are;
+          counts_are =
+              ap (λ (c : ZoneCounts). added c (counts_over at rest)) (counted ∙ ap (λ (r : OwnerRead O). added counts r.counts) is)
+              ∙ added-assoc counts (counts_read at (between h n)) (counts_over at rest)
+              ∙ ap (added counts) (sym (counts_over-next at (between h n) rest))
+              ∙ left.counts_are;
+          steps_are =
+              sym (first_broken-append (map (target_step targets missing) (zones_read at (between h n))) (zone_steps at targets missing rest) holds)
+              ∙ ap first_broken (sym (zone_steps-next at targets missing (between h n) rest))
+              ∙ left.steps_are;
+        }
+
+    -- one of its zones names no target
+    pub left_fails : {Y Z : Type 0} (view : Y → Z) (value : Z) (r : Result Y ReadFault) (e : ReadFault) → IsErrAnd r (λ d. d ≡ e)
+        → Fails e (first_broken (map (target_step targets missing) (zones_read at (between h n)))) → Passes view r (zone_steps at targets missing all) value
+    left_fails view value r e is h_fails =
+        let rest = windows table (map first_bag (n ∷ ns)) in
+        let here = fails_front e (map (target_step targets missing) (zones_read at (between h n))) (zone_steps at targets missing rest) h_fails in
+        passes_by view value r e (zone_steps at targets missing all) is
+        (subst (λ (b : Option ReadFault). Fails e b) (ap first_broken (sym (zone_steps-next at targets missing (between h n) rest)) ∙ left.steps_are) here)
+
+    -- its counts can be added
+    pub left_small : (read : OwnerRead O) → read ≡ owner_read at owner h (between h n) → AreFew (counts_over at all) → AreSmall (added counts read.counts)
+    left_small read is few =
+        let rest = windows table (map first_bag (n ∷ ns)) in
+        part-small counts read.counts (counts_over at rest) (counts_over at all)
+        (ap (λ (r : OwnerRead O). added counts (added r.counts (counts_over at rest))) is ∙ ap (added counts) (sym (counts_over-next at (between h n) rest)) ∙ left.counts_are) few
+
+  -- the terminal is left
+  pub left_last : (owners : List O) (counts : ZoneCounts) (h : H) (read : OwnersRead O) → Left owners counts h [] → read.owners ≡ owners → read.counts ≡ counts
+      → (first_broken (zone_steps at targets missing all) ≡ None) × (read ≡ owners_read at owner heads all)
+  left_last owners counts h read left owners_are counts_are =
+      let made = owners_are ∙ sym (append-nil owners) ∙ left.owners_are in
+      let zones : read.counts.zones ≡ (counts_over at all).zones = let e = ap (λ (c : ZoneCounts). c.zones) left.counts_are in let f = ap (λ (c : ZoneCounts). c.zones) counts_are in omega (arith, e, f) in
+      let gens : read.counts.gens ≡ (counts_over at all).gens = let e = ap (λ (c : ZoneCounts). c.gens) left.counts_are in let f = ap (λ (c : ZoneCounts). c.gens) counts_are in omega (arith, e, f) in
+      let ranges : read.counts.ranges ≡ (counts_over at all).ranges = let e = ap (λ (c : ZoneCounts). c.ranges) left.counts_are in let f = ap (λ (c : ZoneCounts). c.ranges) counts_are in omega (arith, e, f) in
+      (sym left.steps_are, λ i. record { owners = made i; counts = record { zones = zones i; gens = gens i; ranges = ranges i } })
+
+-- ---- one head
+
+-- the bags of a head, in the records from its first bag's to the next head's first
+pub bags_between : (bags part : List Bag) (gens : List Generator) (mods : List Modulator) (i j from to : ℕ) → part ≡ slice_range bags i (j + 1) → i ≡ from → j ≡ to
+    → bags_in part gens mods ≡ slice_range (bags_in bags gens mods) from to
+bags_between bags part gens mods i j from to is first next =
+    ap (λ (l : List Bag). bags_in l gens mods) (is ∙ ap (λ (n : ℕ). slice_range bags n (j + 1)) first ∙ ap (λ (n : ℕ). slice_range bags from (n + 1)) next)
+    ∙ sym (slice-bags_in bags gens mods from to)
+
+pub targets_fail : {Y Z : Type 0} (view : Y → Z) (value : Z) (r : Result Y ReadFault) (e : ReadFault) (targets : ℕ) (fault missing : ReadFault) (found zones : List Zone)
+    → fault ≡ missing → found ≡ zones → IsErrAnd r (λ d. d ≡ e) → Fails e (first_broken (map (target_step targets fault) found)) → Passes view r (map (target_step targets missing) zones) value
+targets_fail view value r e targets fault missing found zones same is err h =
+    passes_by view value r e (map (target_step targets missing) zones) err
+    (subst (λ (l : List Step). Fails e (first_broken l)) (ap (λ (f : ReadFault). map (target_step targets f) found) same ∙ ap (map (target_step targets missing)) is) h)
+
+pub targets_hold : (targets : ℕ) (fault missing : ReadFault) (found zones : List Zone)
+    → fault ≡ missing → found ≡ zones → first_broken (map (target_step targets fault) found) ≡ None → first_broken (map (target_step targets missing) zones) ≡ None
+targets_hold targets fault missing found zones same is h =
+    sym (ap (λ (f : ReadFault). first_broken (map (target_step targets f) found)) same ∙ ap (λ (l : List Zone). first_broken (map (target_step targets missing) l)) is) ∙ h

@@ -1,0 +1,163 @@
+//! The presets and the instruments of a file, with their zones (SoundFont 2.04, sections 7.2 to 7.9).
+ghost use Rattle.std.specs.Prelude.{◌≡◌, ◌≤◌, None, length, map, nat_lt};
+ghost use Rattle.std.specs.List.{list_all};
+ghost use Rattle.bank_format.specs.Steps.{Passes, first_broken};
+ghost use Rattle.bank_format.specs.Zones.{zones_read};
+ghost use Rattle.bank_format.specs.ReadSteps.{count_steps, all_index_steps, target_step};
+ghost use Rattle.sf_reader.specs.Owners.{added, AreSmall, window_of, windows_of, owner_read, owners_read, zone_steps, members_of, member_steps};
+
+use crate::heads::{OwnerHead, row_count};
+use crate::hydra::{LevelTables, Tables};
+use bank_core::{Instrument, Preset, Zone};
+use bank_format::ReadFault;
+use numbered_lists::NumberedList;
+use std::alloc::Global;
+use zone_reader::{BagsRead, ZoneCounts, read_bags};
+
+/// A preset or an instrument, and what was dropped or mended in its zones.
+#[derive(Drop)]
+pub(crate) struct OwnerRead<O> {
+    owner: O,
+    counts: ZoneCounts,
+}
+
+/// The presets or the instruments of a file, and what was dropped or mended in their zones.
+#[derive(Drop)]
+pub(crate) struct OwnersRead<O> {
+    /// Each in its order.
+    pub owners: NumberedList<O>,
+
+    /// What was dropped or mended in all of them.
+    pub counts: ZoneCounts,
+}
+
+/// The presets and the instruments of a file.
+#[derive(Drop)]
+pub(crate) struct Members {
+    pub presets: OwnersRead<Preset>,
+    pub instruments: OwnersRead<Instrument>,
+}
+
+/// The presets and the instruments, each zone of which names a target that is there.
+pub(crate) fn read_members(alloc: Global, tables: &Tables) -> Result<Members, ReadFault>
+    requires counts { first_broken (count_steps tables.now) ≡ None }
+    requires indexes { first_broken (all_index_steps tables.now) ≡ None }
+    ensures { Passes (λ members. members) result (member_steps tables.now) (members_of tables.now) }
+{
+    let presets = read_owners(
+        alloc,
+        tables.presets(),
+        row_count(&tables.instruments().heads),
+    )?;
+    let instruments = read_owners(alloc, tables.instruments(), row_count(tables.samples()))?;
+    Ok(Members {
+        presets,
+        instruments,
+    })
+}
+
+// The presets or the instruments, in whose zones the targets are among so many.
+fn read_owners<H: OwnerHead>(
+    alloc: Global,
+    level: &LevelTables<H>,
+    targets: usize,
+) -> Result<OwnersRead<H::Owner>, ReadFault>
+    requires heads { length level.now.heads ≤ 65536 }
+    requires bags { length level.now.bags ≤ 65536 }
+    requires generators { length level.now.generators ≤ 65536 }
+    ensures { Passes (λ read. read) result (zone_steps H.LEVEL targets H.MISSING (windows_of H.first_bag level.now))
+        (owners_read H.LEVEL H.owner level.now.heads (windows_of H.first_bag level.now)) }
+{
+    let mut counts = ZoneCounts {
+        zones: 0,
+        gens: 0,
+        ranges: 0,
+    };
+    let Ok(mut owners) = Vec::with_capacity(alloc, row_count(&level.heads)) else {
+        return Err(ReadFault::OutOfMemory);
+    };
+    let mut heads = level.heads.iter();
+    let Some(mut head) = heads.next() else {
+        return Ok(OwnersRead {
+            owners: NumberedList::from_vec(owners),
+            counts,
+        });
+    };
+    for next in heads {
+        let read = read_owner(alloc, level, &head, &next, targets)?;
+        counts = add(counts, read.counts);
+        let Ok(()) = owners.push(read.owner) else {
+            return Err(ReadFault::OutOfMemory);
+        };
+        head = next;
+    }
+    Ok(OwnersRead {
+        owners: NumberedList::from_vec(owners),
+        counts,
+    })
+}
+
+// One of them. Its bags end where those of the next one begin.
+fn read_owner<H: OwnerHead>(
+    alloc: Global,
+    level: &LevelTables<H>,
+    head: &H,
+    next: &H,
+    targets: usize,
+) -> Result<OwnerRead<H::Owner>, ReadFault>
+    requires bags { length level.now.bags ≤ 65536 }
+    requires generators { length level.now.generators ≤ 65536 }
+    ensures { Passes (λ read. read) result
+        (map (target_step targets H.MISSING) (zones_read H.LEVEL (window_of H.first_bag level.now head.now next.now)))
+        (owner_read H.LEVEL H.owner head.now (window_of H.first_bag level.now head.now next.now)) }
+{
+    let bags = level
+        .bags
+        .part(head.first_bag() as usize, next.first_bag() as usize + 1);
+    let read = read_bags(alloc, H::LEVEL, &bags, &level.generators, &level.modulators);
+    let Ok(
+        BagsRead {
+            global,
+            zones,
+            counts,
+        },
+    ) = read
+    else {
+        return Err(ReadFault::OutOfMemory);
+    };
+    check_targets(zones.as_slice(), targets, H::MISSING)?;
+    Ok(OwnerRead {
+        owner: head.owner(global, zones),
+        counts,
+    })
+}
+
+// The target of each zone is one of so many.
+#[tactic(auto, using(crate::proofs::OwnerLaws::targets_there, crate::proofs::OwnerLaws::target_missing))]
+fn check_targets(zones: &[Zone], targets: usize, missing: ReadFault) -> Result<(), ReadFault>
+    ensures { Passes (λ u. u) result (map (target_step targets missing) zones.now) tt }
+{
+    if !all_below(targets, zones) {
+        return Err(missing);
+    }
+    Ok(())
+}
+
+// Whether the target of each zone is one of so many.
+fn all_below(targets: usize, zones: &[Zone]) -> bool
+    ensures { result ≡ list_all (λ zone. nat_lt zone.target targets) zones.now }
+{
+    zones.iter().all(|zone| (zone.target as usize) < targets)
+}
+
+/// Both counts together.
+pub(crate) fn add(a: ZoneCounts, b: ZoneCounts) -> ZoneCounts
+    requires { AreSmall (added a b) }
+    ensures { result ≡ added a b }
+{
+    ZoneCounts {
+        zones: a.zones + b.zones,
+        gens: a.gens + b.gens,
+        ranges: a.ranges + b.ranges,
+    }
+}

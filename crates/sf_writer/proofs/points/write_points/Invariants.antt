@@ -1,9 +1,0 @@
-use Rattle.std.proofs.Common.{drop}
-use Rattle.sample_view.specs.Pieces.{joined_bytes}
-use Rattle.sf_base.proofs.SendLemmas.{Sending}
-use Rattle.sf_writer.proofs.points.write_points.Given as goal
-
--- the slices that are ahead are still to go
-abbrev pub invariant-loop-piece : goal.invariant-loop-piece
-invariant-loop-piece g l =
-    Sending (g.W.Write.contents l.initial.out) (g.W.Write.contents l.out) l.initial.writer l.writer (joined_bytes l.pieces) (joined_bytes (drop l.piece-index l.pieces))

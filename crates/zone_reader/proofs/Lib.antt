@@ -1,0 +1,4 @@
+pub mod Kept
+pub mod Mending
+pub mod Reading
+pub mod Later

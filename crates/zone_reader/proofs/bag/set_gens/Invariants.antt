@@ -1,0 +1,13 @@
+use Rattle.std.proofs.Common.{◌≡◌}
+use Rattle.bank_format.specs.Zones.{target_of}
+use Rattle.generators.specs.Gens.{set_in_order}
+use Rattle.zone_reader.specs.Gens.{entries_in}
+use Rattle.zone_reader.proofs.bag.set_gens.Given as goal
+
+-- the records that are left decide the target, and set what is still to be set
+abbrev pub invariant-loop-record : goal.invariant-loop-record
+invariant-loop-record l =
+    (goal.iterator-loop-record).can_next l.record-iterator
+    × (goal.iterator-loop-record).is_finite l.record-iterator
+    × (target_of l.level l.record-iterator ≡ target_of l.level l.records)
+    × (set_in_order l.gens (entries_in l.level l.record-iterator) ≡ set_in_order l.fn.gens (entries_in l.level l.records))

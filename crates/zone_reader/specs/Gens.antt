@@ -1,0 +1,31 @@
+-- What the generator records of one bag say.
+use Rattle.std.specs.Prelude.{ℕ, Bool, false, List, map, not, ◌==◌, count_by, Some, None, if◌then◌else◌}
+use Rattle.std.specs.FinMap.{get, insert}
+use Rattle.generators.specs.Gens.{Gens}
+use Rattle.generators.specs.declared.level.Level.{Level}
+use Rattle.hydra_records.specs.declared.zone.Generator.{Generator}
+use Rattle.bank_format.specs.Zones.{before_target, allowed_in, kept, range_mended, is_mended, gens_read, target_of, dropped}
+use Rattle.zone_reader.specs.declared.bag.GensRead.{GensRead}
+
+abbrev pub gens_read_of : Level → List Generator → GensRead
+gens_read_of at rs = record { gens = gens_read at rs; target = target_of at rs; dropped = dropped at rs; ranges = count_by is_mended (kept at rs) }
+
+-- ---- the way there
+
+abbrev pub entry_of : Generator → ℕ × ℕ
+entry_of r = (r.operator, r.word)
+
+-- the settings up to the target that the level allows, in their order
+abbrev pub entries_in : Level → List Generator → List (ℕ × ℕ)
+entries_in at rs = map entry_of (allowed_in at (before_target at rs))
+
+abbrev pub one_if : Bool → ℕ
+one_if b = if b then 1 else 0
+
+-- an operator is set to a range that is not in order
+abbrev pub is_out_of_order : ℕ → Gens → Bool
+is_out_of_order op gs = elim (get gs op) [ None ↦ false | Some w ↦ not (range_mended w == w) ]
+
+-- the map with this operator's range in order
+abbrev pub mended_at : ℕ → Gens → Gens
+mended_at op gs = elim (get gs op) [ None ↦ gs | Some w ↦ insert gs op (range_mended w) ]
