@@ -376,6 +376,13 @@ fn a_list_has_no_more_than_65536_records(rt: HostRuntime) -> Result<(), Fail> {
         &[(4, 262_444), (86, 262_362), (174, 262_148)],
     )?;
     assert_eq!(rt; counts_of(alloc, &file), Err(ReadFault::TooMany));
+    let file = empty_and(
+        alloc,
+        182,
+        front_of(&zeros, 4 * 65_535),
+        &[(4, 262_440), (86, 262_358), (174, 262_144)],
+    )?;
+    assert!(rt; reads_as_empty(alloc, &file, 4));
     Ok(())
 }
 

@@ -605,6 +605,69 @@ fn one_preset(rt: HostRuntime) -> Result<(), Fail> {
 }
 
 #[test]
+fn a_copy_is_written_as_the_bank(rt: HostRuntime) -> Result<(), Fail> {
+    let copy = t_bank(rt.alloc())?.copy(rt.alloc())?;
+    let mut out = Vec::new(rt.alloc());
+    write(&copy, &mut out)?;
+    assert!(rt; out.as_slice() == T_FILE.as_slice());
+    Ok(())
+}
+
+const S_PRESET: OwnerPlan<'static> = OwnerPlan {
+    name: b"p",
+    global: PLAIN,
+    zones: &[PLAIN, ZonePlan { target: 2, ..PLAIN }],
+};
+
+const S_INSTRUMENTS: [OwnerPlan<'static>; 3] = [
+    OwnerPlan {
+        name: b"i0",
+        global: PLAIN,
+        zones: &[PLAIN],
+    },
+    OwnerPlan {
+        name: b"i1",
+        global: PLAIN,
+        zones: &[ZonePlan {
+            gens: &[(17, 0xff9c)],
+            ..PLAIN
+        }],
+    },
+    OwnerPlan {
+        name: b"i2",
+        global: PLAIN,
+        zones: &[PLAIN],
+    },
+];
+
+/// A bank whose one sample has no points.
+fn silent_bank<'a>(alloc: Global) -> Result<Bank<'a>, Fail> {
+    let sample = mono(Name20::from_bytes(b"s")?, Points::empty(alloc));
+    let mut samples = NumberedList::new(alloc);
+    if samples.push(sample).is_err() {
+        return Err(Fail::from(OutOfMemory));
+    }
+    let parts = Parts {
+        minor: 4,
+        texts: plain_texts(),
+        presets: presets_of(alloc, &[S_PRESET])?,
+        instruments: instruments_of(alloc, &S_INSTRUMENTS)?,
+        samples,
+    };
+    Ok(Bank::from_parts(alloc, parts)?)
+}
+
+#[test]
+fn three_instruments_over_a_sample_without_points(rt: HostRuntime) -> Result<(), Fail> {
+    let bank = silent_bank(rt.alloc())?;
+    let mut out = Vec::new(rt.alloc());
+    write(&bank, &mut out)?;
+    assert_eq!(rt; out.len(), 594);
+    assert_eq!(rt; encoded_len(&bank), 594);
+    Ok(())
+}
+
+#[test]
 fn a_slice_that_is_too_short_for_zones(rt: HostRuntime) -> Result<(), Fail> {
     let bank = t_bank(rt.alloc())?;
     for room in 0..532 {
