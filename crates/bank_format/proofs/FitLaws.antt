@@ -157,9 +157,10 @@ pub preset_heads_fit : (n at : ℕ) (ps : List Preset) → AllByRecursion (IsPre
 preset_heads_fit n at [] v f le = ((ends_fit at (omega (arith, le))).0, tt)
 preset_heads_fit n at (p ∷ ps) v f le =
     let w = sum_by-cons (λ (p : Preset). zone_count p.global p.zones) p ps in
-    let z = (holds level.Preset p.global p.zones).zones_are in
-    (record { name = length-filled p.name v.0.name.0; number = f.0.number; bank = f.0.bank; bag = omega (arith, le); library = f.0.library; genre = f.0.genre; morphology = f.0.morphology },
-    preset_heads_fit n (at + length (preset_bags p)) ps v.1 f.1 (omega (arith, w, z, le)))
+    let z = (holds level.Preset p.global p.zones).zones_are in (
+      record { name = length-filled p.name v.0.name.0; number = f.0.number; bank = f.0.bank; bag = omega (arith, le); library = f.0.library; genre = f.0.genre; morphology = f.0.morphology },
+      preset_heads_fit n (at + length (preset_bags p)) ps v.1 f.1 (omega (arith, w, z, le)),
+    )
 
 pub instrument_heads_fit : (n at : ℕ) (xs : List Instrument) → AllByRecursion (IsInstrument n) xs → at + instrument_total zone_count xs ≤ 65535 → AllByRecursion FitsInstrumentHead (instrument_heads_from at xs)
 instrument_heads_fit n at [] v le = ((ends_fit at (omega (arith, le))).1, tt)
@@ -188,6 +189,7 @@ pub sample_heads_fit : (n at : ℕ) (ss : List Sample) → n ≤ 65535 → AllBy
 sample_heads_fit n at [] few v f le = ((ends_fit 0 (omega arith)).2, tt)
 sample_heads_fit n at (s ∷ ss) few v f le =
     let w = sum_by-cons (λ (s : Sample). length s.points + 46) s ss in
-    let looped = small_loop at (length s.points) s.looped (omega (arith, w, le)) v.0.looped in
-    (record { name = length-filled s.name v.0.name.0; start = omega (arith, le); end = omega (arith, w, le); loop_start = looped.0; loop_end = looped.1; rate = f.0.rate; key = f.0.key; correction = f.0.correction; link = small_link n s.kind few v.0.kind; kind = small_kind s.kind },
-    sample_heads_fit n (at + length s.points + 46) ss few v.1 f.1 (omega (arith, w, le)))
+    let looped = small_loop at (length s.points) s.looped (omega (arith, w, le)) v.0.looped in (
+      record { name = length-filled s.name v.0.name.0; start = omega (arith, le); end = omega (arith, w, le); loop_start = looped.0; loop_end = looped.1; rate = f.0.rate; key = f.0.key; correction = f.0.correction; link = small_link n s.kind few v.0.kind; kind = small_kind s.kind },
+      sample_heads_fit n (at + length s.points + 46) ss few v.1 f.1 (omega (arith, w, le)),
+    )

@@ -103,6 +103,6 @@ module _ (at : Level) (n : ℕ) where
   header-again g zs v =
       elim (cases_eq (len g.gens + length g.mods) 0) [
         | inl none ↦ (let test : eqb (len g.gens + length g.mods) 0 ≡ true = eq-eqb _ _ none in
-          rw test (subst (λ (x : GlobalZone). Again (written zs) x zs) (empty_global g none) (without zs v.zones)))
+            rw test (subst (λ (x : GlobalZone). Again (written zs) x zs) (empty_global g none) (without zs v.zones)))
         | inr some ↦ (let test : eqb (len g.gens + length g.mods) 0 ≡ false = ne_eqb _ _ some in rw test (with_bag g.gens g.mods zs v.global v.zones))
       ]

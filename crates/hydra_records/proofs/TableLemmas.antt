@@ -97,7 +97,7 @@ pub records-part : {R : Type 0} (size : ℕ) (of_bytes : List ℕ → R) (bytes 
     → records size of_bytes (take ((end - start) * size) (drop (start * size) bytes)) ≡ take (end - start) (drop start (records size of_bytes bytes))
 records-part size of_bytes bytes start end some rising within =
     let count : length (take ((end - start) * size) (drop (start * size) bytes)) / size ≡ end - start =
-          ap (λ (n : ℕ). n / size) (length-part bytes size start end rising within) ∙ mul-div_cancel (end - start) some in
+    ap (λ (n : ℕ). n / size) (length-part bytes size start end rising within) ∙ mul-div_cancel (end - start) some in
     ap (λ (n : ℕ). first_records size of_bytes n (take ((end - start) * size) (drop (start * size) bytes))) count
     ∙ first_records-front size of_bytes (end - start) (drop (start * size) bytes)
     ∙ sym (take-first_records size of_bytes (end - start) (length bytes / size - start) (drop (start * size) bytes) (omega arith))
@@ -107,30 +107,31 @@ records-part size of_bytes bytes start end some rising within =
 pub range_within : {X : Type 0} (xs : List X) (from to start end : ℕ) → end ≡ min to (length xs) → start ≡ min from end
     → slice_range xs from to ≡ take (end - start) (drop start xs)
 range_within xs from to start end e s = elim (cases_lt (length xs) to) [
-    | inr short ↦ (let here : end ≡ to = e ∙ min-eq_left short in inside here)
-    | inl long ↦ (let here : end ≡ length xs = e ∙ min-eq_right (omega arith) in past here (omega arith))
-  ]
+  | inr short ↦ (let here : end ≡ to = e ∙ min-eq_left short in inside here)
+  | inl long ↦ (let here : end ≡ length xs = e ∙ min-eq_right (omega arith) in past here (omega arith))
+]
   where
     inside : end ≡ to → slice_range xs from to ≡ take (end - start) (drop start xs)
     inside here = elim (cases_lt to from) [
       | inr le ↦ (let first : start ≡ from = s ∙ ap (min from) here ∙ min-eq_left le in rw (first, here) refl)
       | inl lt ↦ (
-        let first : start ≡ to = s ∙ ap (min from) here ∙ min-eq_right (omega arith) in
-        let none : to - from ≡ 0 = omega arith in
-        let nothing : to - to ≡ 0 = omega arith in
-        rw (first, here, none, nothing) refl)
+          let first : start ≡ to = s ∙ ap (min from) here ∙ min-eq_right (omega arith) in
+          let none : to - from ≡ 0 = omega arith in
+          let nothing : to - to ≡ 0 = omega arith in
+          rw (first, here, none, nothing) refl)
     ]
+
     past : end ≡ length xs → length xs ≤ to → slice_range xs from to ≡ take (end - start) (drop start xs)
     past here le = elim (cases_lt (length xs) from) [
       | inr within ↦ (
-        let first : start ≡ from = s ∙ ap (min from) here ∙ min-eq_left within in
-        rw (first, here) (take_all (to - from) (drop from xs) (omega (arith, length-drop from xs))
+          let first : start ≡ from = s ∙ ap (min from) here ∙ min-eq_left within in
+          rw (first, here) (take_all (to - from) (drop from xs) (omega (arith, length-drop from xs))
           ∙ sym (take_all (length xs - from) (drop from xs) (omega (arith, length-drop from xs)))))
       | inl beyond ↦ (
-        let first : start ≡ length xs = s ∙ ap (min from) here ∙ min-eq_right (omega arith) in
-        let none : drop from xs ≡ [] = nil_from_length (drop from xs) (omega (arith, length-drop from xs)) in
-        let nothing : length xs - length xs ≡ 0 = omega arith in
-        rw (none, first, here, nothing) (take-nil (to - from)))
+          let first : start ≡ length xs = s ∙ ap (min from) here ∙ min-eq_right (omega arith) in
+          let none : drop from xs ≡ [] = nil_from_length (drop from xs) (omega (arith, length-drop from xs)) in
+          let nothing : length xs - length xs ≡ 0 = omega arith in
+          rw (none, first, here, nothing) (take-nil (to - from)))
     ]
 
 -- a range that is cut so lies in the records, and its bytes can be counted

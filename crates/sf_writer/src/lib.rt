@@ -23,3 +23,5 @@ pub use file::{encoded_len, write, write_counted};
 
 #[cfg(test)]
 mod tests;
+#[cfg(test)]
+mod zone_tests;
