@@ -1,6 +1,5 @@
 //! How long the lists of a bank are, as a file would hold them.
 ghost use Rattle.std.specs.Prelude.{◌≡◌, ◌↔◌, ◌≤◌, ◌+◌, IsTrue, length, sum_by};
-ghost use Rattle.std.specs.FinMap.{len};
 ghost use Rattle.bank_core.specs.Valid.{IsWithin, point_total};
 ghost use Rattle.bank_core.specs.Counts.{IsLeft, records_of_global, records_of_zone, records_of, AreFewMembers, AreFew};
 
@@ -108,18 +107,11 @@ fn global_records(shared: &GlobalZone, kind: Records) -> usize
     ensures { result ≡ records_of_global kind shared.now }
 {
     match kind {
-        Records::Zones if is_none(shared) => 0,
+        Records::Zones if shared.is_empty() => 0,
         Records::Zones => 1,
         Records::Generators => shared.gens.len(),
         Records::Modulators => shared.mods.len(),
     }
-}
-
-// An empty global zone is none.
-fn is_none(shared: &GlobalZone) -> bool
-    ensures { IsTrue result ↔ (len shared.now.gens + length shared.now.mods ≡ 0) }
-{
-    shared.gens.is_empty() && shared.mods.is_empty()
 }
 
 fn points_are_few(samples: &[Sample<'_>]) -> bool

@@ -127,7 +127,7 @@ fn mods_of(alloc: Global, count: usize) -> Result<NumberedList<Modulator>, OutOf
     Ok(NumberedList::from_vec(mods))
 }
 
-fn global_of(alloc: Global, plan: &Owners<'_>) -> Result<GlobalZone, OutOfMemory> {
+pub(crate) fn global_of(alloc: Global, plan: &Owners<'_>) -> Result<GlobalZone, OutOfMemory> {
     Ok(GlobalZone {
         gens: gens_of(alloc, plan.global_gens)?,
         mods: mods_of(alloc, plan.global_mods as usize)?,

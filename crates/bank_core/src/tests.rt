@@ -1,6 +1,6 @@
 use crate::plans::{
-    ONES, Owners, PLAIN, Plan, T, THREE, ZEROS, judges, parts_of, plain_texts, preset_of, refuses,
-    takes,
+    ONES, Owners, PLAIN, Plan, T, THREE, ZEROS, global_of, judges, parts_of, plain_texts,
+    preset_of, refuses, takes,
 };
 use crate::{
     Bank, Head, InfoId, Kind, Members, Owner, Parts, PartsFault, Place, Preset, Sample,
@@ -449,6 +449,24 @@ fn an_empty_bank(rt: HostRuntime) {
     assert!(rt; bank.sample(0).is_none());
     assert!(rt; bank.head(0).is_none());
     assert!(rt; bank.instrument_name(0).is_none());
+}
+
+#[test]
+fn empty_global_zones(rt: HostRuntime) -> Result<(), Fail> {
+    let alloc = rt.alloc();
+    for (gens, mods, empty) in [
+        ([].as_slice(), 0, true),
+        ([(52, 1)].as_slice(), 0, false),
+        ([].as_slice(), 1, false),
+    ] {
+        let plan = Owners {
+            global_gens: gens,
+            global_mods: mods,
+            ..PLAIN
+        };
+        assert_eq!(rt; global_of(alloc, &plan)?.is_empty(), empty);
+    }
+    Ok(())
 }
 
 #[test]

@@ -1,5 +1,5 @@
 -- How much is dropped or mended at most, so that it can be counted in 64 bits.
-use Rattle.std.proofs.Common.{◌≡◌, ◌≤◌, ◌<◌, ◌+◌, ◌-◌, ◌*◌, ◌^◌, ◌==◌, ℕ, zero, suc, Bool, true, false, cond, List, [], ◌∷◌, length, take, drop, map, subst, sym, ap, arith}
+use Rattle.std.proofs.Common.{◌≡◌, ◌≤◌, ◌+◌, ◌-◌, ◌*◌, ◌==◌, ℕ, zero, suc, Bool, true, false, cond, List, [], ◌∷◌, length, take, drop, map, subst, sym, ap, arith}
 use Rattle.std.specs.Prelude.{sum_by, count_by, filter, not}
 use Rattle.std.specs.List.{AllByRecursion, slice_range, list_any}
 use Rattle.std.proofs.lemmas.List.{length-take, length-drop, length-map}

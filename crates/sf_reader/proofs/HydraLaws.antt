@@ -1,5 +1,5 @@
 -- The nine lists, as those of the presets, those of the instruments, and that of the samples.
-use Rattle.std.proofs.Common.{◌≡◌, ◌≤◌, ◌-◌, ◌++◌, ◌∙◌, ℕ, Bool, true, leb, List, [], ◌∷◌, length, map, None, Result, refl, sym, ap}
+use Rattle.std.proofs.Common.{◌≡◌, ◌≤◌, ◌-◌, ◌++◌, ℕ, Bool, true, leb, List, [], ◌∷◌, length, map, None, Result, refl, sym, ap}
 use Rattle.std.specs.List.{AllByRecursion, list_all}
 use Rattle.std.proofs.lemmas.Bool.{leb-true}
 use Rattle.modulators.specs.declared.modulator.Modulator.{Modulator}
@@ -21,7 +21,8 @@ use Rattle.bank_format.specs.ReadSteps.{record_counts, count_steps, is_rising, i
 use Rattle.sf_reader.specs.declared.hydra.LevelTables.{LevelTables}
 use Rattle.sf_reader.specs.Hydra.{level_index_steps, AreLists}
 use Rattle.sf_reader.specs.Owners.{windows_of}
-use Rattle.sf_reader.proofs.StepLaws.{split_none, both_none, passes_front, passes_after}
+use Rattle.bank_format.proofs.StepLemmas.{split_none, both_none}
+use Rattle.sf_reader.proofs.StepLaws.{passes_front, passes_after}
 use Rattle.sf_reader.proofs.WindowLaws.{or_zero-bags}
 
 -- the nine lists of these

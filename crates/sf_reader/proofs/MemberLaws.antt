@@ -1,5 +1,5 @@
 -- The presets and the instruments of the nine lists, each by its own four.
-use Rattle.std.proofs.Common.{◌≡◌, ◌++◌, ◌∙◌, ℕ, List, length, None, Result, sym, ap, subst}
+use Rattle.std.proofs.Common.{◌≡◌, ◌∙◌, ℕ, List, length, None, Result, sym, ap, subst}
 use Rattle.std.specs.Result.{IsErrAnd}
 use Rattle.generators.specs.declared.level.Level.TheVariants as level
 use Rattle.hydra_records.specs.declared.head.PresetHead.{PresetHead}

@@ -5,11 +5,7 @@ use Rattle.std.specs.Result.{IsOk}
 use Rattle.sf_base.specs.declared.name.NameFault.{NameFault}
 use Rattle.sf_base.specs.declared.name.NameFault.TheVariants.{TooLong, ZeroByte}
 use Rattle.sf_base.specs.Names.{before_zero}
-
-length-before_zero : (bytes : List ℕ) → length (before_zero bytes) ≤ length bytes
-length-before_zero [] = omega arith
-length-before_zero (zero ∷ bytes) = omega arith
-length-before_zero (suc b ∷ bytes) = let h = length-before_zero bytes in omega (arith, h)
+use Rattle.bank_format.proofs.NameLaws.{length-before_zero}
 
 no_zero_at : (field : List ℕ) (k : ℕ) → k < length (before_zero field) → get_or (before_zero field) k 0 ≡ 0 → ⊥
 no_zero_at [] k lt e = omega (arith, lt)

@@ -1,6 +1,6 @@
 -- The presets or the instruments, one head after the other.
-use Rattle.std.proofs.Common.{◌≡◌, ◌≤◌, ◌+◌, ◌-◌, ◌∙◌, ℕ, suc, true, false, List, [], ◌∷◌, ◌++◌, length, map, None, Some, Option, Result, refl, sym, ap, subst, append_assoc, arith}
-use Rattle.std.specs.Prelude.{flat_map, sum_by, nat_lt}
+use Rattle.std.proofs.Common.{◌≡◌, ◌+◌, ◌-◌, ◌∙◌, ℕ, suc, true, false, List, [], ◌∷◌, ◌++◌, length, map, None, Option, Result, refl, sym, ap, subst, append_assoc, arith}
+use Rattle.std.specs.Prelude.{flat_map, nat_lt}
 use Rattle.std.specs.List.{slice_range, list_all}
 use Rattle.std.specs.Result.{IsErrAnd}
 use Rattle.std.proofs.lemmas.List.{append-nil}
@@ -12,7 +12,7 @@ use Rattle.hydra_records.specs.declared.zone.Generator.{Generator}
 use Rattle.bank_core.specs.declared.parts.GlobalZone.{GlobalZone}
 use Rattle.bank_core.specs.declared.parts.Zone.{Zone}
 use Rattle.bank_format.specs.declared.fault.ReadFault.{ReadFault}
-use Rattle.bank_format.specs.Steps.{Step, step, first_broken, Fails, Passes}
+use Rattle.bank_format.specs.Steps.{Step, first_broken, Fails, Passes}
 use Rattle.bank_format.specs.Windows.{windows, together, rows}
 use Rattle.bank_format.specs.Zones.{Bagged, zones_read, ignored, gens_dropped, ranges_mended}
 use Rattle.bank_format.specs.Reading.{bags_in}

@@ -5,19 +5,7 @@ use Rattle.std.specs.List.{list_all}
 use Rattle.bank_format.specs.declared.fault.ReadFault.{ReadFault}
 use Rattle.bank_format.specs.declared.fault.ReadFault.TheVariants.{OutOfMemory}
 use Rattle.bank_format.specs.Steps.{Step, step, first_broken, Fails, Passes}
-
--- where nothing is broken, a step holds and the rest isn't broken
-pub split_none : {A : Type 0} (b : Bool) (rest : Option A) (fault : A) → cond b rest (Some fault) ≡ None → (b ≡ true) × (rest ≡ None)
-split_none true rest fault h = (refl, h)
-split_none false rest fault h = absurd cc
-
--- both parts hold where the whole does
-pub both_none : (xs ys : List Step) → first_broken (xs ++ ys) ≡ None → (first_broken xs ≡ None) × (first_broken ys ≡ None)
-both_none [] ys h = (refl, h)
-both_none (x ∷ xs) ys h =
-    let both = split_none x.holds (first_broken (xs ++ ys)) x.fault h in
-    let rest = both_none xs ys both.1 in
-    (rw both.0 rest.0, rest.1)
+use Rattle.bank_format.proofs.StepLemmas.{split_none}
 
 -- the steps after those that hold
 pub first_broken-append : (xs ys : List Step) → first_broken xs ≡ None → first_broken (xs ++ ys) ≡ first_broken ys

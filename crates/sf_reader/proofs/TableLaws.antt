@@ -25,7 +25,8 @@ use Rattle.bank_format.specs.Reading.{bags_in, preset_windows, instrument_window
 use Rattle.bank_format.specs.ReadSteps.{count_steps, all_index_steps, sample_step, target_step, target_steps, total_steps}
 use Rattle.sf_reader.specs.Owners.{member_steps}
 use Rattle.sf_reader.specs.Content.{even_steps, checked_steps, table_steps}
-use Rattle.sf_reader.proofs.StepLaws.{both_none, passes_after}
+use Rattle.bank_format.proofs.StepLemmas.{both_none}
+use Rattle.sf_reader.proofs.StepLaws.{passes_after}
 use Rattle.sf_reader.proofs.WindowLaws.{length-windows, length-rows, length-together}
 use Rattle.sf_reader.proofs.MemberLaws.{preset_part, instrument_part}
 

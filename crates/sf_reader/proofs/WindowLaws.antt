@@ -2,13 +2,12 @@
 use Rattle.std.proofs.Common.{◌≡◌, ◌≤◌, ◌+◌, ◌-◌, ◌&&◌, ◌∙◌, ℕ, zero, suc, Bool, true, false, leb, List, [], ◌∷◌, length, take, drop, map, refl, sym, ap, inl, inr, arith}
 use Rattle.std.specs.List.{slice_range, list_all}
 use Rattle.std.proofs.lemmas.Bool.{cases_lt, leb-true}
-use Rattle.std.proofs.lemmas.List.{length-take, length-take-le, length-map}
+use Rattle.std.proofs.lemmas.List.{length-take, length-take-le}
 use Rattle.std.proofs.Math.Seq.{take-nil}
 use Rattle.modulators.specs.declared.modulator.Modulator.{Modulator}
 use Rattle.hydra_records.specs.declared.zone.Bag.{Bag}
 use Rattle.hydra_records.specs.declared.zone.Generator.{Generator}
 use Rattle.bank_format.specs.Windows.{windows, windows_from, together, rows}
-use Rattle.bank_format.specs.Zones.{Bagged}
 use Rattle.bank_format.specs.Tables.{modulator_end}
 use Rattle.bank_format.specs.Chunks.{or_zero}
 use Rattle.bank_format.specs.Reading.{bagged, bags_in}

@@ -16,6 +16,8 @@ pub use bank_format::{Counts, ReadFault};
 pub use reader::read;
 
 #[cfg(test)]
+mod step_tests;
+#[cfg(test)]
 mod tests;
 #[cfg(test)]
 mod zone_tests;

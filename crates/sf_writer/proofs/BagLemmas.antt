@@ -1,9 +1,8 @@
 -- The bags of a level, their three lists, and how long these are.
-use Rattle.std.proofs.Common.{◌≡◌, ◌<◌, ◌+◌, ◌*◌, ◌&&◌, ℕ, Bool, true, false, cond, eqb, List, [], ◌∷◌, ◌++◌, length, map, get_or, drop, Option, Some, refl, ap, sym, ◌∙◌, append_assoc, arith, inl, inr, eqb-true}
+use Rattle.std.proofs.Common.{◌≡◌, ◌<◌, ◌+◌, ◌*◌, ℕ, Bool, true, false, cond, eqb, List, [], ◌∷◌, ◌++◌, length, map, get_or, drop, Option, Some, refl, ap, sym, ◌∙◌, append_assoc, arith, eqb-true}
 use Rattle.std.specs.Prelude.{sum_by}
 use Rattle.std.specs.List.{flat_map}
 use Rattle.std.specs.FinMap.{entries, len, len-entries}
-use Rattle.std.proofs.lemmas.Bool.{cases_eq, eq-eqb, ne_eqb}
 use Rattle.std.proofs.lemmas.List.{length-append, length-map, append-nil, at_drop_more}
 use Rattle.std.proofs.lemmas.List.Concat.{flat_map-append}
 use Rattle.std.proofs.lemmas.List.Sums.{sum_by-cons}
@@ -144,16 +143,6 @@ unfolding gen_list
 length-gen_list bags = omega (arith, length-gens (all_gens bags ++ generator_end ∷ []), length-append (all_gens bags) (generator_end ∷ []))
 
 -- ---- the bags of one owner
-
--- both are empty where nothing is in the two together
-both_zero : (m n : ℕ) → (eqb m 0 && eqb n 0) ≡ eqb (m + n) 0
-both_zero m n = elim (cases_eq m 0) [
-  | inl none ↦ (let e : eqb m 0 ≡ true = eq-eqb _ _ none in let k : m + n ≡ n = omega (arith, none) in rw (e, k) refl)
-  | inr some ↦ (let e : eqb m 0 ≡ false = ne_eqb _ _ some in let k : eqb (m + n) 0 ≡ false = ne_eqb _ _ (omega arith) in rw (e, k) refl)
-]
-
-pub both_empty : (gs : Gens) (ms : List Modulator) (a b : Bool) → a ≡ eqb (length (entries gs)) 0 → b ≡ eqb (length ms) 0 → (a && b) ≡ eqb (len gs + length ms) 0
-both_empty gs ms a b ea eb = (λ i. ea i && eb i) ∙ both_zero (length (entries gs)) (length ms) ∙ ap (λ n. eqb (n + length ms) 0) (sym (len-entries gs))
 
 -- what is written of one owner, by whether its global zone is empty
 written : (at : Level) (g : GlobalZone) (zs : List Zone) (t : Bool) → t ≡ eqb (len g.gens + length g.mods) 0 → bags_written at g zs ≡ cond t [] (record { gens = gens_written g.gens; mods = g.mods } ∷ []) ++ map (zone_written at) zs

@@ -1,7 +1,6 @@
 //! The bags of presets or of instruments, one after the other.
-ghost use Rattle.std.specs.Prelude.{◌≡◌, ◌≤◌, ◌+◌, ◌==◌, ◌++◌, ◌∷◌, [], length, MatchOption, Some, None};
+ghost use Rattle.std.specs.Prelude.{◌≡◌, ◌≤◌, ◌+◌, ◌++◌, ◌∷◌, [], length, MatchOption, Some, None};
 ghost use Rattle.std.specs.Iterator.{YieldsFirstBy, item_count};
-ghost use Rattle.std.specs.FinMap.{len};
 ghost use Rattle.bank_core.specs.Valid.{zone_count};
 ghost use Rattle.bank_format.specs.Zones.{bags_written, gens_written, zone_written};
 ghost use Rattle.sf_writer.specs.Bags.{level_of, bags_of, owner_count};
@@ -148,7 +147,7 @@ fn first_bag_of<'a>(owner: Owner<'a>, others: Owners<'a>) -> Option<(BagView<'a>
         (bags_written (level_of others.entry) owner.entry.global.now owner.entry.zones.now ≡ [])
         (λ r. bags_written (level_of others.entry) owner.entry.global.now owner.entry.zones.now ++ bags_of others.entry ≡ r.0 ∷ r.1) }
 {
-    if !is_empty(owner.global) {
+    if !owner.global.is_empty() {
         let rest = Bags {
             zones: owner.zones,
             others,
@@ -162,19 +161,12 @@ fn first_bag_of<'a>(owner: Owner<'a>, others: Owners<'a>) -> Option<(BagView<'a>
     ))
 }
 
-// Whether a global zone stands for none.
-fn is_empty(global: &GlobalZone) -> bool
-    ensures { result ≡ (len global.now.gens + length global.now.mods == 0) }
-{
-    global.gens.entries().is_empty() && global.mods.as_slice().is_empty()
-}
-
 /// How many bags a global zone and zones have.
 pub(crate) fn bag_count(global: &GlobalZone, zones: &[Zone]) -> usize
     requires { length zones.now ≤ 65535 }
     ensures { result ≡ zone_count global.now zones.now }
 {
-    if is_empty(global) {
+    if global.is_empty() {
         zones.len()
     } else {
         zones.len() + 1

@@ -12,27 +12,30 @@ use itoa::Buffer;
 use sf_base::{WriteFault, put_after};
 use std::io::Write;
 
-/// Writes the line of a fault, with its line feed, and gives the exit status that goes with it: 2 for
-/// a fault of the file, 3 of the script, 4 for a refused edit, 5 for a write fault, which names
-/// `path`, and 6 for want of memory.
+/// Writes the line of a fault, with its line feed, and gives the exit status that goes with it. The
+/// line of a write fault names `path`.
 pub fn fault_text<W: Write>(fault: &RunFault, path: &str, out: &mut W) -> Result<u8, WriteFault>
     requires { length path.now < 2 ^ 32 }
     ensures line { Writes (W.contents out.old) (W.contents out.new) (fault_line path.now fault.now) result }
     ensures status { IfOk result (λ status. status ≡ status_of fault.now) }
 {
     put_fault(fault, path, out)?;
-    Ok(status_of(fault))
+    Ok(fault.exit_status())
 }
 
-fn status_of(fault: &RunFault) -> u8
-    ensures { result ≡ status_of fault.now }
-{
-    match fault {
-        RunFault::Read(_) => 2,
-        RunFault::Script(_) => 3,
-        RunFault::Refused(_, _) => 4,
-        RunFault::Write(_, _) => 5,
-        RunFault::Memory => 6,
+impl RunFault {
+    /// The exit status of a program whose run ends so: 2 for a fault of the file, 3 of the script, 4
+    /// for a refused edit, 5 for a write fault, and 6 for want of memory.
+    pub fn exit_status(&self) -> u8
+        ensures { result ≡ status_of self.now }
+    {
+        match self {
+            RunFault::Read(_) => 2,
+            RunFault::Script(_) => 3,
+            RunFault::Refused(_, _) => 4,
+            RunFault::Write(_, _) => 5,
+            RunFault::Memory => 6,
+        }
     }
 }
 

@@ -106,7 +106,9 @@ fn is_refused(alloc: Global, file: &[u8], fault: ReadFault) -> bool {
 /// Whether the fault is told by this line and status.
 fn tells(alloc: Global, fault: RunFault, line: &[u8], status: u8) -> bool {
     let mut text = Vec::new(alloc);
-    fault_text(&fault, "u.txt", &mut text) == Ok(status) && text.as_slice() == line
+    fault.exit_status() == status
+        && fault_text(&fault, "u.txt", &mut text) == Ok(status)
+        && text.as_slice() == line
 }
 
 #[test]
@@ -128,54 +130,29 @@ fn a_renaming_and_its_return(rt: HostRuntime) {
 #[test]
 fn refused_runs_write_nothing(rt: HostRuntime) {
     let alloc = rt.alloc();
-    assert!(rt;
-        refuses(
-            alloc,
-            &SAW,
-            b"rename-sample 1 \"a\"",
-            RunFault::Refused(1, Refusal::NoSuchSample)
-        )
-    );
-    assert!(rt;
-        refuses(
-            alloc,
-            &SAW,
+    for (script, fault) in [
+        (
+            b"rename-sample 1 \"a\"".as_slice(),
+            RunFault::Refused(1, Refusal::NoSuchSample),
+        ),
+        (
             b"rename-sample 0 xabc",
-            RunFault::Script(ScriptFault::Literal(1))
-        )
-    );
-    assert!(rt;
-        refuses(
-            alloc,
-            &SAW,
+            RunFault::Script(ScriptFault::Literal(1)),
+        ),
+        (
             b"rename-sample zero \"a\"",
-            RunFault::Script(ScriptFault::Number(1))
-        )
-    );
-    assert!(rt;
-        refuses(
-            alloc,
-            &SAW,
-            b"frob 1",
-            RunFault::Script(ScriptFault::Syntax(1))
-        )
-    );
-    assert!(rt;
-        refuses(
-            alloc,
-            &SAW,
+            RunFault::Script(ScriptFault::Number(1)),
+        ),
+        (b"frob 1", RunFault::Script(ScriptFault::Syntax(1))),
+        (
             b"rename-sample 0 \"ABCDEFGHIJKLMNOPQRSTU\"",
-            RunFault::Script(ScriptFault::Literal(1))
-        )
-    );
-    assert!(rt;
-        refuses(
-            alloc,
-            front_of(&SAW, 400),
-            b"",
-            RunFault::Read(ReadFault::Truncated)
-        )
-    );
+            RunFault::Script(ScriptFault::Literal(1)),
+        ),
+    ] {
+        assert!(rt; refuses(alloc, &SAW, script, fault));
+    }
+    let cut = RunFault::Read(ReadFault::Truncated);
+    assert!(rt; refuses(alloc, front_of(&SAW, 400), b"", cut));
 }
 
 #[test]
@@ -309,6 +286,10 @@ fn a_writer_that_stops_at_each_byte(rt: HostRuntime) {
         assert!(rt; canon_run(rt.alloc(), &LOOPED, &mut out) == stopped);
         assert!(rt; out.held.as_slice() == front_of(&LOOPED, room));
     }
+}
+
+#[test]
+fn a_writer_of_lines_that_stops_at_each_byte(rt: HostRuntime) {
     for room in 0..LISTING.len() {
         let mut out = limited_writer(rt.alloc(), room, true);
         let stopped = Err(RunFault::Write(Which::Out, room as u64));

@@ -1,7 +1,8 @@
 //! The command `apply`.
+use crate::counted::{gathered, write_fault};
 use crate::fault::Fault;
 use crate::input::read_file;
-use crate::output::{gathered, write_fault};
+use crate::output::OutputFile;
 use crate::words::ApplyPaths;
 use sfbank::{RunFault, Which, edit_run};
 use std::rt::Files;
@@ -13,8 +14,8 @@ pub(crate) fn apply<'a, R: Files + AllocGlobal>(
 ) -> Result<(), Fault<'a>> {
     let file = read_file(rt, paths.input)?;
     let script = read_file(rt, paths.script)?;
-    let mut out = gathered(rt, paths.out)?;
-    let mut undo = gathered(rt, paths.undo)?;
+    let mut out = gathered(rt.alloc(), OutputFile::new(rt, paths.out), paths.out)?;
+    let mut undo = gathered(rt.alloc(), OutputFile::new(rt, paths.undo), paths.undo)?;
     match edit_run(
         rt.alloc(),
         file.as_slice(),

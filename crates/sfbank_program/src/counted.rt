@@ -1,40 +1,47 @@
-//! A writer whose bytes are counted.
+//! Outputs whose bytes are counted, and whose small writes are gathered.
 ghost use Rattle.std.specs.Prelude.{◌≡◌, ◌+◌, ◌-◌, ◌^◌, OnErr, IfOk, min};
 ghost use Rattle.std.specs.Io.{WritesAtMost};
 ghost use Rattle.std.specs.Io.KnownBytes.{WriteAppends, Keeps};
 
+use crate::fault::Fault;
+use sfbank::{RunFault, Which};
+use std::alloc::Global;
 use std::io;
-use std::io::Write;
+use std::io::{BufWriter, Write};
+
+/// The bytes that small writes to an output gather before they go out.
+const BUFFER: usize = 65_536;
 
 /// Counts the bytes that a writer took.
 #[derive(Drop)]
-pub struct Counted<'a, O: Write> {
-    output: &'a mut O,
+pub(crate) struct Counted<W: Write> {
+    output: W,
     taken: u64,
 }
 
-impl<'a, O: Write> Counted<'a, O> {
+impl<W: Write> Counted<W> {
     /// A writer that has taken nothing yet.
-    pub fn new(output: &'a mut O) -> Counted<'a, O>
-        ensures { result.taken ≡ 0 }
+    pub(crate) fn new(output: W) -> Counted<W>
+        ensures none { result.taken ≡ 0 }
+        ensures output { result.output ≡ output }
     {
         Counted { output, taken: 0 }
     }
 
     /// The bytes that the writer took.
-    pub fn taken(&self) -> u64
+    pub(crate) fn taken(&self) -> u64
         ensures { result ≡ self.now.taken }
     {
         self.taken
     }
 }
 
-impl<O: Write> Write for Counted<'_, O> {
-    ghost contents = { λ counted. O.contents counted.output.now };
+impl<W: Write> Write for Counted<W> {
+    ghost contents = { λ counted. W.contents counted.output };
 
     fn write(&mut self, bytes: &[u8]) -> io::Result<usize>
         ensures bound { WritesAtMost result bytes.now }
-        ensures bytes { WriteAppends (O.contents self.old.output.now) (O.contents self.new.output.now) result bytes.now }
+        ensures bytes { WriteAppends (W.contents self.old.output) (W.contents self.new.output) result bytes.now }
         ensures counted { IfOk result (λ count. self.new.taken ≡ min (self.old.taken + count) (2 ^ 64 - 1)) }
         ensures kept { OnErr result (self.new.taken ≡ self.old.taken) }
     {
@@ -45,9 +52,32 @@ impl<O: Write> Write for Counted<'_, O> {
     }
 
     fn flush(&mut self) -> io::Result<()>
-        ensures bytes { Keeps (O.contents self.old.output.now) (O.contents self.new.output.now) }
+        ensures bytes { Keeps (W.contents self.old.output) (W.contents self.new.output) }
         ensures kept { self.new.taken ≡ self.old.taken }
     {
         self.output.flush()
     }
+}
+
+/// The output at a path, counted, with its small writes gathered.
+pub(crate) fn gathered<W: Write + Drop>(
+    alloc: Global,
+    output: W,
+    path: &str,
+) -> Result<BufWriter<Counted<W>>, Fault<'_>> {
+    match BufWriter::with_capacity(alloc, BUFFER, Counted::new(output)) {
+        Ok(output) => Ok(output),
+        Err(_) => Err(Fault::Run(RunFault::Memory, path)),
+    }
+}
+
+/// The fault of the output at a path, which counts what it took. What was gathered is let go, for no
+/// write follows one that failed.
+pub(crate) fn write_fault<W: Write + Drop>(
+    which: Which,
+    output: BufWriter<Counted<W>>,
+    path: &str,
+) -> Fault<'_> {
+    let (counted, _gathered) = output.into_parts();
+    Fault::Run(RunFault::Write(which, counted.taken()), path)
 }

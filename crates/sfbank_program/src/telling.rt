@@ -1,12 +1,11 @@
 //! How a fault is told.
 ghost use Rattle.std.specs.Prelude.{◌≡◌, ◌<◌, ◌^◌, length, IfOk};
 ghost use Rattle.sf_base.specs.Writing.{Sends};
-ghost use Rattle.sfbank.specs.FaultLines.{status_of};
-ghost use Rattle.sfbank_program.specs.Telling.{file_line, path_line, Tells, status_of as status_of_fault};
+ghost use Rattle.sfbank_program.specs.Telling.{file_line, path_line, Tells, status_of};
 
 use crate::fault::Fault;
 use sf_base::{WriteFault, put_after, put_all};
-use sfbank::{RunFault, fault_text};
+use sfbank::fault_text;
 use std::io::Write;
 
 const FILE_FAULT: &[u8] = b"sfbank: file fault ";
@@ -15,7 +14,7 @@ const NOT_TEXT: &[u8] = b"error: a word is not text\n";
 
 /// Tells a fault, and answers the exit status, which is the same where it could not be told.
 pub(crate) fn tell<E: Write>(fault: &Fault<'_>, errors: &mut E) -> u8
-    ensures status { result ≡ status_of_fault fault.now }
+    ensures status { result ≡ status_of fault.now }
     ensures told { Tells (E.contents errors.old) (E.contents errors.new) fault.now }
 {
     match fault {
@@ -33,7 +32,7 @@ pub(crate) fn tell<E: Write>(fault: &Fault<'_>, errors: &mut E) -> u8
         }
         Fault::Run(fault, path) => {
             let _ = fault_text(fault, nameable(path), errors);
-            status_of(fault)
+            fault.exit_status()
         }
     }
 }
@@ -68,17 +67,4 @@ fn nameable(path: &str) -> &str
         return "";
     }
     path
-}
-
-/// The exit status of a run that is not done.
-fn status_of(fault: &RunFault) -> u8
-    ensures { result ≡ status_of fault.now }
-{
-    match fault {
-        RunFault::Read(_) => 2,
-        RunFault::Script(_) => 3,
-        RunFault::Refused(_, _) => 4,
-        RunFault::Write(_, _) => 5,
-        RunFault::Memory => 6,
-    }
 }

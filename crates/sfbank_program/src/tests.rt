@@ -78,6 +78,12 @@ fn ran(rt: &HostRuntime, words: &[&str]) -> (u8, Vec<u8>, Vec<u8>) {
     (status, output, errors)
 }
 
+/// Whether the program ends with this status and this line of errors, and with no output.
+fn is_told(rt: &HostRuntime, words: &[&str], status: u8, line: &str) -> bool {
+    let (given, output, errors) = ran(rt, words);
+    given == status && output.is_empty() && errors.as_slice() == line.as_bytes()
+}
+
 /// Makes an empty folder of this name.
 fn empty_folder(rt: &HostRuntime, folder: &str) -> io::Result<()> {
     let _ = fs::remove_dir_all(rt, folder);
@@ -91,44 +97,21 @@ fn a_rename_and_the_way_back(rt: HostRuntime) -> Result<(), Fail> {
     let second = bank(rt.alloc(), NEW_NAME)?;
     assert_eq!(rt; first.len(), 450);
     assert!(rt; &first[358..378] == OLD_NAME.as_slice());
-    fs::write(&rt, "renamed/in.sf2", first.as_slice())?;
-    fs::write(&rt, "renamed/edits.txt", RENAME)?;
+    let (input, edits) = ("renamed/in.sf2", "renamed/edits.txt");
+    let (out, undo, again) = ("renamed/out.sf2", "renamed/undo.txt", "renamed/again.txt");
+    fs::write(&rt, input, first.as_slice())?;
+    fs::write(&rt, edits, RENAME)?;
 
-    let (status, output, errors) = ran(
-        &rt,
-        &[
-            "sfbank",
-            "apply",
-            "renamed/in.sf2",
-            "renamed/edits.txt",
-            "renamed/out.sf2",
-            "renamed/undo.txt",
-        ],
-    );
-    assert_eq!(rt; status, 0);
-    assert!(rt; output.is_empty() && errors.is_empty());
-    let written = fs::read(&rt, "renamed/out.sf2")?;
-    assert!(rt; written.as_slice() == second.as_slice());
-    let undo = fs::read(&rt, "renamed/undo.txt")?;
-    assert!(rt; undo.as_slice() == RENAME_BACK);
+    let words = ["sfbank", "apply", input, edits, out, undo];
+    assert!(rt; is_told(&rt, words.as_slice(), 0, ""));
+    assert!(rt; fs::read(&rt, out)?.as_slice() == second.as_slice());
+    assert!(rt; fs::read(&rt, undo)?.as_slice() == RENAME_BACK);
 
     // Back, over the written file itself.
-    let (status, _output, _errors) = ran(
-        &rt,
-        &[
-            "sfbank",
-            "apply",
-            "renamed/out.sf2",
-            "renamed/undo.txt",
-            "renamed/out.sf2",
-            "renamed/again.txt",
-        ],
-    );
-    assert_eq!(rt; status, 0);
-    let restored = fs::read(&rt, "renamed/out.sf2")?;
-    assert!(rt; restored.as_slice() == first.as_slice());
-    let again = fs::read(&rt, "renamed/again.txt")?;
-    assert!(rt; again.as_slice() == RENAME);
+    let words = ["sfbank", "apply", out, undo, out, again];
+    assert!(rt; is_told(&rt, words.as_slice(), 0, ""));
+    assert!(rt; fs::read(&rt, out)?.as_slice() == first.as_slice());
+    assert!(rt; fs::read(&rt, again)?.as_slice() == RENAME);
     fs::remove_dir_all(&rt, "renamed")?;
     Ok(())
 }
@@ -142,16 +125,13 @@ fn a_bank_in_its_one_spelling(rt: HostRuntime) -> Result<(), Fail> {
     fs::write(&rt, "spelled/in.sf2", longer.as_slice())?;
 
     let words = ["sfbank", "canon", "spelled/in.sf2", "spelled/out.sf2"];
-    let (status, output, errors) = ran(&rt, words.as_slice());
-    assert_eq!(rt; status, 0);
-    assert!(rt; output.is_empty() && errors.is_empty());
+    assert!(rt; is_told(&rt, words.as_slice(), 0, ""));
     assert!(rt; fs::read(&rt, "spelled/out.sf2")?.as_slice() == spelled.as_slice());
     assert!(rt; fs::read(&rt, "spelled/in.sf2")?.as_slice() == longer.as_slice());
 
     // Over the file itself.
     let words = ["sfbank", "canon", "spelled/in.sf2", "spelled/in.sf2"];
-    let (status, _output, _errors) = ran(&rt, words.as_slice());
-    assert_eq!(rt; status, 0);
+    assert!(rt; is_told(&rt, words.as_slice(), 0, ""));
     assert!(rt; fs::read(&rt, "spelled/in.sf2")?.as_slice() == spelled.as_slice());
     fs::remove_dir_all(&rt, "spelled")?;
     Ok(())
@@ -183,110 +163,114 @@ fn a_bank_is_shown_on_the_standard_output(rt: HostRuntime) -> Result<(), Fail> {
 }
 
 #[test]
-fn a_bank_that_cannot_be_read_or_written(rt: HostRuntime) -> Result<(), Fail> {
-    empty_folder(&rt, "unread")?;
-    let first = bank(rt.alloc(), OLD_NAME)?;
-    fs::write(&rt, "unread/in.sf2", first.as_slice())?;
-    fs::write(&rt, "unread/cut.sf2", front_of(first.as_slice(), 400))?;
-    let out = "unread/out";
-    for (input, out, status, line) in [
-        ("unread/cut.sf2", out, 2, "sfbank: read fault 3 Truncated\n"),
-        ("unread/none", out, 5, "sfbank: file fault unread/none\n"),
+fn a_bank_that_cannot_be_written(rt: HostRuntime) -> Result<(), Fail> {
+    empty_folder(&rt, "unwritten")?;
+    let input = "unwritten/in.sf2";
+    fs::write(&rt, input, bank(rt.alloc(), OLD_NAME)?.as_slice())?;
+    for (out, line) in [
         (
-            "unread/in.sf2",
-            "unread/no/out",
-            5,
-            "sfbank: write fault unread/no/out after 0 bytes\n",
+            "unwritten/no/out",
+            "sfbank: write fault unwritten/no/out after 0 bytes\n",
         ),
         // It opens, and takes no byte of those that are gathered for it.
-        (
-            "unread/in.sf2",
-            "/dev/full",
-            5,
-            "sfbank: write fault /dev/full after 0 bytes\n",
-        ),
+        ("/dev/full", "sfbank: write fault /dev/full after 0 bytes\n"),
     ] {
-        let (given, output, errors) = ran(&rt, &["sfbank", "canon", input, out]);
-        assert_eq!(rt; given, status, "{line}");
-        assert!(rt; output.is_empty());
-        assert!(rt; errors.as_slice() == line.as_bytes(), "{line}");
-        assert!(rt; !fs::exists(&rt, "unread/out")?);
+        assert!(rt;
+            is_told(&rt, &["sfbank", "canon", input, out], 5, line),
+            "{out}"
+        );
     }
+    fs::remove_dir_all(&rt, "unwritten")?;
+    Ok(())
+}
+
+#[test]
+fn a_bank_that_cannot_be_read(rt: HostRuntime) -> Result<(), Fail> {
+    empty_folder(&rt, "unread")?;
+    let first = bank(rt.alloc(), OLD_NAME)?;
+    fs::write(&rt, "unread/cut.sf2", front_of(first.as_slice(), 400))?;
+    let out = "unread/out";
     for (input, status, line) in [
         ("unread/cut.sf2", 2, "sfbank: read fault 3 Truncated\n"),
         ("unread/none", 5, "sfbank: file fault unread/none\n"),
     ] {
-        let (given, output, errors) = ran(&rt, &["sfbank", "show", input]);
-        assert_eq!(rt; given, status, "{line}");
-        assert!(rt; output.is_empty());
-        assert!(rt; errors.as_slice() == line.as_bytes(), "{line}");
+        assert!(rt;
+            is_told(&rt, &["sfbank", "canon", input, out], status, line),
+            "{line}"
+        );
+        assert!(rt;
+            is_told(&rt, &["sfbank", "show", input], status, line),
+            "{line}"
+        );
+        assert!(rt; !fs::exists(&rt, out)?);
     }
     fs::remove_dir_all(&rt, "unread")?;
     Ok(())
 }
 
 #[test]
-fn faults_have_a_line_and_a_status(rt: HostRuntime) -> Result<(), Fail> {
-    empty_folder(&rt, "faults")?;
+fn a_script_that_is_refused_makes_no_file(rt: HostRuntime) -> Result<(), Fail> {
+    empty_folder(&rt, "refused")?;
+    let (input, script) = ("refused/in.sf2", "refused/edits.txt");
+    let (out, undo) = ("refused/out", "refused/undo");
     let first = bank(rt.alloc(), OLD_NAME)?;
-    fs::write(&rt, "faults/in.sf2", first.as_slice())?;
-    fs::write(&rt, "faults/cut.sf2", front_of(first.as_slice(), 400))?;
-    fs::write(&rt, "faults/edits.txt", RENAME)?;
-    fs::write(
-        &rt,
-        "faults/refused.txt",
-        b"rename-sample 1 \"a\"\n".as_slice(),
-    )?;
-    fs::write(&rt, "faults/bad.txt", b"\nfrob\n".as_slice())?;
-    let (bank, edits) = ("faults/in.sf2", "faults/edits.txt");
-    let (none, out) = ("faults/none", "faults/out");
-    for (input, script, out, status, line) in [
+    for (length, text, status, line) in [
         (
-            bank,
-            "faults/refused.txt",
-            out,
+            450,
+            b"rename-sample 1 \"a\"\n".as_slice(),
             4,
             "sfbank: line 1: refused 22 NoSuchSample\n",
         ),
+        (400, b"\nfrob\n", 2, "sfbank: read fault 3 Truncated\n"),
+        (450, b"\nfrob\n", 3, "sfbank: line 2: fault 41 Syntax\n"),
+    ] {
+        fs::write(&rt, input, front_of(first.as_slice(), length))?;
+        fs::write(&rt, script, text)?;
+        let words = ["sfbank", "apply", input, script, out, undo];
+        assert!(rt; is_told(&rt, words.as_slice(), status, line), "{line}");
+        assert!(rt; !fs::exists(&rt, out)? && !fs::exists(&rt, undo)?);
+    }
+    fs::remove_dir_all(&rt, "refused")?;
+    Ok(())
+}
+
+#[test]
+fn files_that_fail_make_no_file(rt: HostRuntime) -> Result<(), Fail> {
+    empty_folder(&rt, "faults")?;
+    let (bank_path, edits, out) = ("faults/in.sf2", "faults/edits.txt", "faults/out");
+    fs::write(&rt, bank_path, bank(rt.alloc(), OLD_NAME)?.as_slice())?;
+    fs::write(&rt, edits, RENAME)?;
+    for (input, script, output, line) in [
         (
-            "faults/cut.sf2",
-            "faults/bad.txt",
+            "faults/none",
+            "faults",
             out,
-            2,
-            "sfbank: read fault 3 Truncated\n",
+            "sfbank: file fault faults/none\n",
         ),
         (
-            bank,
-            "faults/bad.txt",
+            bank_path,
+            "faults/none",
             out,
-            3,
-            "sfbank: line 2: fault 41 Syntax\n",
+            "sfbank: file fault faults/none\n",
         ),
-        (none, "faults", out, 5, "sfbank: file fault faults/none\n"),
-        (bank, none, out, 5, "sfbank: file fault faults/none\n"),
-        (bank, "faults", out, 5, "sfbank: file fault faults\n"),
+        (bank_path, "faults", out, "sfbank: file fault faults\n"),
         (
-            bank,
+            bank_path,
             edits,
             "faults/no/out",
-            5,
             "sfbank: write fault faults/no/out after 0 bytes\n",
         ),
         // It opens, and takes no byte of those that are gathered for it.
         (
-            bank,
+            bank_path,
             edits,
             "/dev/full",
-            5,
             "sfbank: write fault /dev/full after 0 bytes\n",
         ),
     ] {
-        let words = ["sfbank", "apply", input, script, out, "faults/undo"];
-        let (given, output, errors) = ran(&rt, words.as_slice());
-        assert_eq!(rt; given, status, "{line}");
-        assert!(rt; output.is_empty());
-        assert!(rt; errors.as_slice() == line.as_bytes(), "{line}");
-        assert!(rt; !fs::exists(&rt, "faults/out")? && !fs::exists(&rt, "faults/undo")?);
+        let words = ["sfbank", "apply", input, script, output, "faults/undo"];
+        assert!(rt; is_told(&rt, words.as_slice(), 5, line), "{line}");
+        assert!(rt; !fs::exists(&rt, out)? && !fs::exists(&rt, "faults/undo")?);
     }
     fs::remove_dir_all(&rt, "faults")?;
     Ok(())
@@ -345,7 +329,7 @@ fn an_empty_undo_text_makes_its_file(rt: HostRuntime) -> Result<(), Fail> {
 }
 
 #[test]
-fn words_that_are_no_run(rt: HostRuntime) -> Result<(), Fail> {
+fn words_that_ask_for_help(rt: HostRuntime) {
     let version: &[&str] = &["sfbank", "--version"];
     let (status, output, errors) = ran(&rt, version);
     assert_eq!(rt; status, 0);
@@ -362,6 +346,10 @@ fn words_that_are_no_run(rt: HostRuntime) -> Result<(), Fail> {
         assert_eq!(rt; status, 0);
         assert!(rt; !output.is_empty() && errors.is_empty());
     }
+}
+
+#[test]
+fn words_that_are_no_run(rt: HostRuntime) {
     let refused: [&[&str]; 10] = [
         &[],
         &["sfbank"],
@@ -379,7 +367,6 @@ fn words_that_are_no_run(rt: HostRuntime) -> Result<(), Fail> {
         assert_eq!(rt; status, 1);
         assert!(rt; output.is_empty() && !errors.is_empty());
     }
-    Ok(())
 }
 
 #[test]
