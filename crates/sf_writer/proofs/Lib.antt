@@ -5,7 +5,6 @@ pub mod TextLemmas
 pub mod PointLemmas
 pub mod BagLemmas
 pub mod ZoneListLemmas
-pub mod PresetLemmas
-pub mod InstrumentLemmas
+pub mod OwnerHeadLemmas
 pub mod RecordLemmas
 pub mod FileLemmas

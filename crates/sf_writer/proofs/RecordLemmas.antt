@@ -20,8 +20,6 @@ use Rattle.bank_format.specs.Canon.{pdta}
 use Rattle.sf_writer.specs.Lists.{zone_lists}
 use Rattle.sf_writer.proofs.SentLemmas.{one_after_another, chunk-even, form-even, length-form-even, length-LIST}
 use Rattle.sf_writer.proofs.NameLemmas.{length-filled}
-use Rattle.sf_writer.proofs.PresetLemmas.{length-phdr_list}
-use Rattle.sf_writer.proofs.InstrumentLemmas.{length-inst_list}
 use Rattle.sf_writer.proofs.ZoneListLemmas.{length_zone_lists}
 
 -- ---- the heads of samples
@@ -140,7 +138,17 @@ length-pdta b =
     )
 
 pdta-even : (b : Parts) → length (spell (pdta (tables_of b))) % 2 ≡ 0
-pdta-even b = omega (arith, length-pdta b, length-shdr_list b, length-phdr_list b, length-inst_list b, length_zone_lists level.Preset (all_preset_bags b), length_zone_lists level.Instrument (all_instrument_bags b))
+unfolding PHDR INST
+pdta-even b =
+    omega (
+      arith,
+      length-pdta b,
+      length-chunk PHDR (flat_map preset_head_bytes (tables_of b).phdr) refl,
+      length_zone_lists level.Preset (all_preset_bags b),
+      length-chunk INST (flat_map instrument_head_bytes (tables_of b).inst) refl,
+      length_zone_lists level.Instrument (all_instrument_bags b),
+      length-shdr_list b,
+    )
 
 length-PDTA : length PDTA ≡ 4
 unfolding PDTA

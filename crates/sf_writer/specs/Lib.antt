@@ -1,3 +1,4 @@
 pub mod Info
 pub mod Bags
+pub mod Heads
 pub mod Lists

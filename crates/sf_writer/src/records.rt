@@ -10,9 +10,8 @@ ghost use Rattle.sf_writer.specs.Bags.{AreFew, level_of, bags_of};
 ghost use Rattle.sf_writer.specs.Lists.{list_bytes};
 
 use crate::chunks::{FORM_HEAD_SIZE, write_form_head};
-use crate::instrument_heads::{inst_size, write_inst};
+use crate::owner_heads::{inst_size, phdr_size, write_inst, write_phdr};
 use crate::owners::Owners;
-use crate::preset_heads::{phdr_size, write_phdr};
 use crate::sample_heads::{shdr_size, write_shdr};
 use crate::zone_lists::{write_zone_lists, zone_lists_size};
 use bank_core::Bank;

@@ -292,6 +292,36 @@ const S_INSTRUMENTS: [OwnerPlan<'static>; 3] = [
     },
 ];
 
+/// The canonical file of a bank of a preset of two zones, three instruments with a zone each, and a
+/// sample without points.
+const S_FILE: &[u8] = b"RIFF\x4a\x02\0\0sfbk\
+    LIST\x2a\0\0\0INFO\
+    ifil\x04\0\0\0\x02\0\x04\0\
+    isng\x08\0\0\0EMU8000\0\
+    INAM\x02\0\0\0\0\0\
+    LIST\x68\0\0\0sdta\
+    smpl\x5c\0\0\0\
+    \0\0\0\0\0\0\0\0\0\0\0\0\0\0\0\0\0\0\0\0\0\0\0\0\0\0\0\0\0\0\0\0\0\0\0\0\0\0\0\0\0\0\0\0\0\0\
+    \0\0\0\0\0\0\0\0\0\0\0\0\0\0\0\0\0\0\0\0\0\0\0\0\0\0\0\0\0\0\0\0\0\0\0\0\0\0\0\0\0\0\0\0\0\0\
+    LIST\x9c\x01\0\0pdta\
+    phdr\x4c\0\0\0\
+    p\0\0\0\0\0\0\0\0\0\0\0\0\0\0\0\0\0\0\0\0\0\0\0\0\0\0\0\0\0\0\0\0\0\0\0\0\0\
+    EOP\0\0\0\0\0\0\0\0\0\0\0\0\0\0\0\0\0\0\0\0\0\x02\0\0\0\0\0\0\0\0\0\0\0\0\0\
+    pbag\x0c\0\0\0\0\0\0\0\x01\0\0\0\x02\0\0\0\
+    pmod\x0a\0\0\0\0\0\0\0\0\0\0\0\0\0\
+    pgen\x0c\0\0\0\x29\0\0\0\x29\0\x02\0\0\0\0\0\
+    inst\x58\0\0\0\
+    i0\0\0\0\0\0\0\0\0\0\0\0\0\0\0\0\0\0\0\0\0\
+    i1\0\0\0\0\0\0\0\0\0\0\0\0\0\0\0\0\0\0\x01\0\
+    i2\0\0\0\0\0\0\0\0\0\0\0\0\0\0\0\0\0\0\x02\0\
+    EOI\0\0\0\0\0\0\0\0\0\0\0\0\0\0\0\0\0\x03\0\
+    ibag\x10\0\0\0\0\0\0\0\x01\0\0\0\x03\0\0\0\x04\0\0\0\
+    imod\x0a\0\0\0\0\0\0\0\0\0\0\0\0\0\
+    igen\x14\0\0\0\x35\0\0\0\x11\0\x9c\xff\x35\0\0\0\x35\0\0\0\0\0\0\0\
+    shdr\x5c\0\0\0\
+    s\0\0\0\0\0\0\0\0\0\0\0\0\0\0\0\0\0\0\0\0\0\0\0\0\0\0\0\0\0\0\0\0\0\0\0\x44\xac\0\0\x3c\0\0\0\x01\0\
+    EOS\0\0\0\0\0\0\0\0\0\0\0\0\0\0\0\0\0\0\0\0\0\0\0\0\0\0\0\0\0\0\0\0\0\0\0\0\0\0\0\0\0\0\0";
+
 /// A bank whose one sample has no points.
 fn silent_bank<'a>(alloc: Global) -> Result<Bank<'a>, Fail> {
     let sample = mono(Name20::from_bytes(b"s")?, Points::empty(alloc));
@@ -314,7 +344,7 @@ fn three_instruments_over_a_sample_without_points(rt: HostRuntime) -> Result<(),
     let bank = silent_bank(rt.alloc())?;
     let mut out = Vec::new(rt.alloc());
     write(&bank, &mut out)?;
-    assert_eq!(rt; out.len(), 594);
+    assert!(rt; out.as_slice() == S_FILE);
     assert_eq!(rt; encoded_len(&bank), 594);
     Ok(())
 }
