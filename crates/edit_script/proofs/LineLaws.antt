@@ -3,7 +3,6 @@ use Rattle.std.proofs.Common.{◌≡◌, ◌≤◌, ◌<◌, ◌^◌, ◌+◌, �
 use Rattle.std.specs.Prelude.{nat_le, fold, ◌&&◌, ◌||◌, ◌==◌}
 use Rattle.std.specs.List.{list_all, flat_map, AllByRecursion}
 use Rattle.std.proofs.lemmas.Bool.{and_parts, and_from}
-use Rattle.std.proofs.lemmas.List.{append-nil}
 use Rattle.std.proofs.lemmas.List.Sums.{list_all-from_AllPass}
 use Rattle.std.proofs.lemmas.List.Folds.{list_all-append}
 use Rattle.std.proofs.lemmas.Str.Parse.{IsNumeralModel, numerals_by_fold}
@@ -198,7 +197,3 @@ printed es few h = record { few = (let k = length-numbered 1 es in omega (arith,
 
 pub printed_spell : (es : List Edit) → length es ≤ 1 → AllFit es → script_of (texts_of es) ≡ Ok (numbered 1 es)
 printed_spell es few h = spelled_read (texts_of es) (numbered 1 es) (printed es few h)
-
--- the printed line of one edit says it
-pub text_read : (e : Edit) → FitsEdit e → script_of (text_of e) ≡ Ok (record { number = 1; edit = e } ∷ [])
-text_read e h = ap script_of (sym (append-nil (text_of e))) ∙ printed_spell (e ∷ []) (omega arith) (h, tt)

@@ -10,9 +10,6 @@ pub not_true : (b : Bool) → not b ≡ true → b ≡ false
 not_true true e = cc
 not_true false e = refl
 
-pub not_false : (b : Bool) → b ≡ false → not b ≡ true
-not_false b e = ap not e
-
 pub list_all_weaker : (p q : ℕ → Bool) → ((b : ℕ) → p b ≡ true → q b ≡ true) → (xs : List ℕ) → list_all p xs ≡ true → list_all q xs ≡ true
 list_all_weaker p q f [] e = refl
 list_all_weaker p q f (x ∷ xs) e = let h = and_parts (p x) (list_all p xs) e in and_from (q x) (list_all q xs) (f x h.0) (list_all_weaker p q f xs h.1)

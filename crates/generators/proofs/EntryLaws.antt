@@ -5,7 +5,7 @@ use Rattle.std.specs.List.{AllByRecursion}
 use Rattle.std.specs.declared.cmp.Ordering.TheVariants.{Less, Equal, Greater}
 use Rattle.std.specs.Ordering.{is_eq, is_lt, eq_by_cmp, nat_cmp}
 use Rattle.std.specs.Cmp.{tied_itself}
-use Rattle.std.specs.FinMap.{get, insert, remove, entries, from_entries, is_sorted, find, put, entries-insert, get-entries, get-from_entries, len-entries}
+use Rattle.std.specs.FinMap.{insert, remove, entries, from_entries, is_sorted, find, put, entries-insert, get-entries, get-from_entries, len-entries}
 use Rattle.std.specs.FinMap.Entries.{by_order, where_key, below_all}
 use Rattle.std.proofs.lemmas.Option.{slice_get_within, get_or_from_slice_get, none-some, same_Some}
 use Rattle.std.proofs.lemmas.List.{get_or-map, length-map}
@@ -97,10 +97,6 @@ module _ (P : ℕ × ℕ → Type 0) where
   All-slice_get [] j op w ps e = absurd (none-some (op, w) e)
   All-slice_get (x ∷ es) zero op w ps e = subst P (same_Some x (op, w) e) ps.0
   All-slice_get (x ∷ es) (suc j) op w ps e = All-slice_get es j op w ps.1 e
-
-  -- and so of what is set
-  pub All-get : (m : Gens) (op w : ℕ) → AllByRecursion P (entries m) → get m op ≡ Some w → P (op, w)
-  All-get m op w ps e = let entry = set_is_entry m op w e in All-slice_get (entries m) entry.0 op w ps entry.1
 
 -- ---- entries in any order
 

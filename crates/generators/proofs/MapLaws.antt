@@ -4,27 +4,15 @@ use Rattle.std.specs.Prelude.{is_some}
 use Rattle.std.specs.FinMap.{get, insert, remove, len, get-insert, get-remove, same_map, get-empty, empty_of_len, len-insert, len-remove}
 use Rattle.std.proofs.lemmas.Bool.{cases_order}
 use Rattle.generators.specs.Gens.{operator_cmp, Gens}
-use Rattle.generators.proofs.Order.{operator_cmp-IsTotalOrder, operator_cmp-IsAntisymmetric, tied, tied_same, tied_is_same, untied}
+use Rattle.generators.proofs.Order.{operator_cmp-IsTotalOrder, operator_cmp-IsAntisymmetric, tied, tied_is_same, untied}
 
 -- ---- look-ups
 
 pub get-insert_any : (m : Gens) (op w q : ℕ) → get (insert m op w) q ≡ cond (tied q op) (Some w) (get m q)
 get-insert_any m op w q = get-insert operator_cmp-IsTotalOrder m op w q
 
-pub get-insert_same : (m : Gens) (op w : ℕ) → get (insert m op w) op ≡ Some w
-get-insert_same m op w = get-insert_any m op w op ∙ ap (λ b. cond b (Some w) (get m op)) (tied_same op)
-
-pub get-insert_other : (m : Gens) (op w q : ℕ) → q ≢ op → get (insert m op w) q ≡ get m q
-get-insert_other m op w q n = get-insert_any m op w q ∙ ap (λ b. cond b (Some w) (get m q)) (untied q op n)
-
 pub get-remove_any : (m : Gens) (op q : ℕ) → get (remove m op) q ≡ cond (tied q op) None (get m q)
 get-remove_any m op q = get-remove operator_cmp-IsTotalOrder m op q
-
-pub get-remove_same : (m : Gens) (op : ℕ) → get (remove m op) op ≡ None
-get-remove_same m op = get-remove_any m op op ∙ ap (λ (b : Bool). cond b None (get m op)) (tied_same op)
-
-pub get-remove_other : (m : Gens) (op q : ℕ) → q ≢ op → get (remove m op) q ≡ get m q
-get-remove_other m op q n = get-remove_any m op q ∙ ap (λ (b : Bool). cond b None (get m q)) (untied q op n)
 
 -- ---- two maps that answer alike are one
 pub same_gens : (m n : Gens) → ((q : ℕ) → get m q ≡ get n q) → m ≡ n
@@ -81,18 +69,6 @@ insert-insert m op v w =
     get-insert_any (insert m op v) op w q ∙ ap (cond (tied q op) (Some w)) (get-insert_any m op v q)
     ∙ asked_twice (tied q op) (Some w) (Some v) (get m q) ∙ sym (get-insert_any m op w q))
 
-pub insert-after_remove : (m : Gens) (op w : ℕ) → insert (remove m op) op w ≡ insert m op w
-insert-after_remove m op w =
-    same_gens (insert (remove m op) op w) (insert m op w) (λ q.
-    get-insert_any (remove m op) op w q ∙ ap (cond (tied q op) (Some w)) (get-remove_any m op q)
-    ∙ asked_twice (tied q op) (Some w) None (get m q) ∙ sym (get-insert_any m op w q))
-
-pub remove-after_insert : (m : Gens) (op w : ℕ) → remove (insert m op w) op ≡ remove m op
-remove-after_insert m op w =
-    same_gens (remove (insert m op w) op) (remove m op) (λ q.
-    get-remove_any (insert m op w) op q ∙ ap (cond (tied q op) None) (get-insert_any m op w q)
-    ∙ asked_twice (tied q op) None (Some w) (get m q) ∙ sym (get-remove_any m op q))
-
 -- two tests that are not both true
 exchanged : {X : Type 0} (a b : Bool) (x y z : X) → (a ≡ true → b ≡ false) → cond a x (cond b y z) ≡ cond b y (cond a x z)
 exchanged true true x y z apart = absurd (true≢false (apart refl))
@@ -136,9 +112,6 @@ len-insert_absent m op w e = len-insert operator_cmp-IsTotalOrder m op w ∙ ap 
 
 pub len-insert_present : (m : Gens) (op w : ℕ) → IsSome (get m op) → len (insert m op w) ≡ len m
 len-insert_present m op w e = len-insert operator_cmp-IsTotalOrder m op w ∙ ap (λ b. cond b (len m) (len m + 1)) e
-
-pub len-remove_absent : (m : Gens) (op : ℕ) → get m op ≡ None → len (remove m op) ≡ len m
-len-remove_absent m op e = ap len (remove-absent m op e)
 
 -- where something is set, there is an entry
 some_entry : (m : Gens) (op : ℕ) → IsSome (get m op) → len m ≡ 0 → ⊥

@@ -2,7 +2,7 @@
 use Rattle.std.proofs.Common.{◌≡◌, ℕ, ◌<◌, ◌≤◌, suc, zero, List, [], ◌∷◌, length, map, insert, remove, slice_get, slice_set, All, Some, None, refl, sym, ◌∙◌, ap, subst, take, drop, arith}
 use Rattle.std.proofs.lemmas.List.{length-map}
 use Rattle.std.proofs.lemmas.List.Edits.{length-insert, length-remove}
-use Rattle.std.proofs.lemmas.List.Elements.{All-append, All-take, All-drop, All-head, All-tail, All-cons, All-set}
+use Rattle.std.proofs.lemmas.List.Elements.{All-append, All-take, All-drop, All-head, All-tail, All-cons}
 use Rattle.std.specs.Option.{option_map_or}
 use Rattle.numbered_lists.specs.Moved.{moved, changed}
 
@@ -90,9 +90,6 @@ slice_get-moved xs i j h k =
     let (x, e) = slice_get-found xs i h in
     let rest = length-remove xs i h in
     rw e (slice_get-insert (remove xs i) j x (omega arith))
-
-pub moved-same : {X : Type 0} (xs : List X) (i : ℕ) → i < length xs → moved xs i i ≡ xs
-moved-same xs i h = let (x, e) = slice_get-found xs i h in rw e (insert-remove xs i x e)
 
 pub moved-back : {X : Type 0} (xs : List X) (i j : ℕ) → i < length xs → j < length xs → moved (moved xs i j) j i ≡ xs
 moved-back xs i j h k =
@@ -194,20 +191,3 @@ All-insert P xs i x h a = All-append P (take i xs) (x ∷ drop i xs) (All-take P
 
 pub All-remove : {X : Type 0} (P : X → Type 0) (xs : List X) (i : ℕ) → All P xs → All P (remove xs i)
 All-remove P xs i a = All-append P (take i xs) (drop (suc i) xs) (All-take P i xs a) (All-drop P (suc i) xs a)
-
-pub All-moved : {X : Type 0} (P : X → Type 0) (xs : List X) (i j : ℕ) → All P xs → All P (moved xs i j)
-All-moved P xs i j a =
-    elim (slice_get xs i) as (λ o. slice_get xs i ≡ o → All P (option_map_or (λ x. insert (remove xs i) j x) o xs)) [
-      | None ↦ λ e. a
-      | Some x ↦ λ e. All-insert P (remove xs i) j x (All-found P xs i x e a) (All-remove P xs i a)
-    ] refl
-
-pub All-slice_set : {X : Type 0} (P : X → Type 0) (xs : List X) (i : ℕ) (x : X) → P x → All P xs → All P (slice_set xs i x)
-All-slice_set P xs i x h a = All-set P xs i x h a
-
-pub All-changed : {X : Type 0} (P : X → Type 0) (xs : List X) (i : ℕ) (f : X → X) → ((x : X) → P x → P (f x)) → All P xs → All P (changed xs i f)
-All-changed P xs i f h a =
-    elim (slice_get xs i) as (λ o. slice_get xs i ≡ o → All P (option_map_or (λ x. slice_set xs i (f x)) o xs)) [
-      | None ↦ λ e. a
-      | Some x ↦ λ e. All-set P xs i (f x) (h x (All-found P xs i x e a)) a
-    ] refl

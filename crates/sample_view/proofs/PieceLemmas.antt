@@ -27,20 +27,6 @@ joined-split ps i d h =
     ∙ ap (λ t. t ++ joined (drop (i + 1) ps)) (joined-more ps i d h)
     ∙ append_assoc (joined (take i ps)) (words (get_or ps i d).now) (joined (drop (i + 1) ps))
 
--- the bytes of the slices up to the next one
-pub joined_bytes-more : (ps : List (Bor (List ℕ))) (i : ℕ) (d : Bor (List ℕ)) → i < length ps
-    → joined_bytes (take (i + 1) ps) ≡ joined_bytes (take i ps) ++ (get_or ps i d).now
-joined_bytes-more ps i d h =
-    ap joined_bytes (take_more ps i d h) ∙ flat_map-append (λ q. q.now) (take i ps) (get_or ps i d ∷ [])
-    ∙ ap (λ t. joined_bytes (take i ps) ++ t) (append-nil (get_or ps i d).now)
-
--- the bytes of the slices before one, of that one, and of those after it
-pub joined_bytes-split : (ps : List (Bor (List ℕ))) (i : ℕ) (d : Bor (List ℕ)) → i < length ps
-    → joined_bytes ps ≡ (joined_bytes (take i ps) ++ (get_or ps i d).now) ++ joined_bytes (drop (i + 1) ps)
-joined_bytes-split ps i d h =
-    ap joined_bytes (sym (take-append-drop (i + 1) ps)) ∙ flat_map-append (λ q. q.now) (take (i + 1) ps) (drop (i + 1) ps)
-    ∙ ap (λ t. t ++ joined_bytes (drop (i + 1) ps)) (joined_bytes-more ps i d h)
-
 -- the bytes of the slices from one on are its own, and then those of the slices after it
 pub joined_bytes-rest : (ps : List (Bor (List ℕ))) (i : ℕ) (d : Bor (List ℕ)) → i < length ps
     → joined_bytes (drop i ps) ≡ (get_or ps i d).now ++ joined_bytes (drop (i + 1) ps)

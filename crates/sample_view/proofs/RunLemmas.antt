@@ -1,9 +1,8 @@
 -- What a slice tells of the points around one.
-use Rattle.std.proofs.Common.{◌≡◌, ℕ, ◌+◌, ◌-◌, ◌*◌, ◌<◌, List, length, get_or, take, drop, ap, sym, refl, ◌∙◌, arith, get_or-take, get_or-drop}
-use Rattle.sf_base.specs.Fields.{field_at}
+use Rattle.std.proofs.Common.{◌≡◌, ℕ, ◌+◌, ◌-◌, ◌*◌, ◌<◌, List, length, get_or, drop, ap, sym, refl, ◌∙◌, arith, get_or-take, get_or-drop}
 use Rattle.sample_view.specs.Words.{words}
 use Rattle.sample_view.specs.Runs.{IsRunAround}
-use Rattle.sample_view.proofs.WordLemmas.{length-words, get_or-words, get_or-words_field}
+use Rattle.sample_view.proofs.WordLemmas.{length-words, get_or-words}
 
 -- the point at another place of the slice is as far from the first in the list
 pub get_or-run : (points bytes : List ℕ) (index place k : ℕ) → IsRunAround points index bytes place → 2 * k + 1 < length bytes
@@ -22,24 +21,3 @@ get_or-run_here points bytes index place run =
     let here : index - place + place ≡ index = omega (arith, begins) in
     sym (get_or-run points bytes index place place run run.inside ∙ ap (λ k. get_or points k 0) here)
     ∙ get_or-words (2 * place) place bytes refl run.inside
-
--- a slice around one point is one around each point in it
-pub IsRunAround-moved : (points bytes : List ℕ) (index place other k : ℕ) → IsRunAround points index bytes place
-    → other + place ≡ index + k → 2 * k + 1 < length bytes → IsRunAround points other bytes k
-IsRunAround-moved points bytes index place other k run e h =
-    let begins = run.begins in
-    let same : index - place ≡ other - k = omega (arith, e, begins) in
-    record {
-      begins = omega (arith, e, begins);
-      inside = h;
-      even = run.even;
-      run = run.run ∙ ap (λ first. take (length (words bytes)) (drop first points)) same;
-    }
-
--- a point of the list is the field at its place of a slice around another
-pub get_or-run_field : (points bytes : List ℕ) (index place other k : ℕ) → IsRunAround points index bytes place
-    → other + place ≡ index + k → 2 * k + 1 < length bytes → get_or points other 0 ≡ field_at (2 * k) 2 bytes
-get_or-run_field points bytes index place other k run e h =
-    let begins = run.begins in
-    let there : index - place + k ≡ other = omega (arith, e, begins) in
-    sym (get_or-run points bytes index place k run h ∙ ap (λ i. get_or points i 0) there) ∙ get_or-words_field k bytes h

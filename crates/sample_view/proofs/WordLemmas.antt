@@ -1,10 +1,8 @@
 -- The numbers that bytes spell.
-use Rattle.std.proofs.Common.{◌≡◌, ℕ, zero, suc, ◌+◌, ◌-◌, ◌^◌, ◌*◌, ◌/◌, ◌%◌, ◌<◌, List, [], ◌∷◌, ◌++◌, length, get_or, take, drop, replicate, refl, ap, sym, ◌∙◌, arith, get_or-drop}
-use Rattle.std.specs.Prelude.{All, slice_range}
-use Rattle.std.specs.Int.{bytes_low_first}
+use Rattle.std.proofs.Common.{◌≡◌, ℕ, zero, suc, ◌+◌, ◌*◌, ◌/◌, ◌%◌, ◌<◌, List, [], ◌∷◌, ◌++◌, length, get_or, take, drop, replicate, refl, ap, arith}
+use Rattle.std.specs.Prelude.{All}
 use Rattle.std.specs.List.{AllByRecursion, flat_map}
 use native.Mathlib.Numerals.{unary_clauses}
-use Rattle.sf_base.specs.Fields.{field_at}
 use Rattle.sample_view.specs.Words.{words, word_bytes, AreWords}
 
 -- two bytes spell a number
@@ -37,12 +35,6 @@ words-drop (suc (suc k)) (suc n) [] e = refl
 words-drop (suc (suc k)) (suc n) (low ∷ []) e = refl
 words-drop (suc (suc k)) (suc n) (low ∷ high ∷ rest) e =
     let h : k ≡ 2 * n = omega arith in words-drop k n rest h
-
--- the numbers of a window that begins and ends between two of them
-pub words-slice_range : (i j : ℕ) (xs : List ℕ) → words (slice_range xs (2 * i) (2 * j)) ≡ slice_range (words xs) i j
-words-slice_range i j xs =
-    let e : 2 * j - 2 * i ≡ 2 * (j - i) = omega arith in
-    words-take (2 * j - 2 * i) (j - i) (drop (2 * i) xs) e ∙ ap (λ ws. take (j - i) ws) (words-drop (2 * i) i xs refl)
 
 -- a number by its two bytes
 pub get_or-words : (k i : ℕ) (xs : List ℕ) → k ≡ 2 * i → k + 1 < length xs
@@ -79,13 +71,6 @@ unfolding words
 words-empty [] e = refl
 words-empty (x ∷ xs) e = absurd (omega arith)
 
--- a number by the field at its two bytes
-pub get_or-words_field : (i : ℕ) (xs : List ℕ) → 2 * i + 1 < length xs → get_or (words xs) i 0 ≡ field_at (2 * i) 2 xs
-get_or-words_field i xs h =
-    let low : get_or (drop (2 * i) xs) 0 0 ≡ get_or xs (2 * i) 0 = get_or-drop (2 * i) xs 0 0 ∙ ap (λ k. get_or xs k 0) (omega arith) in
-    let high : get_or (drop (2 * i) xs) 1 0 ≡ get_or xs (2 * i + 1) 0 = get_or-drop (2 * i) xs 1 0 in
-    get_or-words (2 * i) i xs refl h ∙ omega (arith, low, high)
-
 -- whole numbers and then others
 pub words-append : (xs ys : List ℕ) → length xs % 2 ≡ 0 → words (xs ++ ys) ≡ words xs ++ words ys
 unfolding words
@@ -101,13 +86,6 @@ words_of_bytes [] = refl
 words_of_bytes (w ∷ ws) =
     let e : w % 256 + 256 * (w / 256) ≡ w = omega arith in
     rw e (ap (λ t. w ∷ t) (words_of_bytes ws))
-
--- the two bytes of a number of 16 bits are its lowest two
-pub word_bytes-low_first : (w : ℕ) → w < 2 ^ 16 → word_bytes w ≡ bytes_low_first 0 2 w
-unfolding word_bytes
-word_bytes-low_first w h =
-    let high : w / 256 ^ 1 % 256 ≡ w / 256 = omega arith in
-    ap (λ (b : ℕ). w % 256 ∷ b ∷ []) (sym high)
 
 -- zeros are spelled by zeros
 pub word_bytes-zeros : (n : ℕ) → flat_map word_bytes (replicate n 0) ≡ replicate (2 * n) 0

@@ -1,5 +1,5 @@
 -- Texts that go out one after the other.
-use Rattle.std.proofs.Common.{◌≡◌, ◌≤◌, ◌<◌, ◌+◌, ℕ, List, [], ◌++◌, length, take, drop, Option, Result, Ok, Err, refl, sym, ap, subst, ◌∙◌, append_assoc, arith}
+use Rattle.std.proofs.Common.{◌≡◌, ◌≤◌, ◌+◌, ℕ, List, [], ◌++◌, length, take, drop, Option, Result, Ok, Err, refl, sym, ap, subst, ◌∙◌, append_assoc, arith}
 use Rattle.std.specs.Io.KnownBytes.{Appends}
 use Rattle.std.proofs.KnownBytes.{Appends-trans, Appends-nil}
 use Rattle.std.proofs.Math.Seq.{take-append-add, take-add}
@@ -66,16 +66,3 @@ pub Sending-end : {a b : Option (List ℕ)} {n m : ℕ} {whole rest : List ℕ} 
 Sending-end {a} {b} {n} {m} {whole} {rest} s e =
     let same : whole ≡ s.gone = s.parts ∙ ap (λ (r : List ℕ). s.gone ++ r) e ∙ append-nil s.gone in
     rw same (s.counted, s.held)
-
--- the last part's answer is that of the whole
-pub Sending-last : {a b : Option (List ℕ)} {n m : ℕ} {whole rest : List ℕ} (c : Option (List ℕ)) (r : Result ℕ WriteFault) → Sending a b n m whole rest → Sends b c m rest r → Sends a c n whole r
-Sending-last {rest = rest} c (Ok k) s h = Sending-end (Sending-step c k rest [] s (sym (append-nil rest)) h) refl
-Sending-last {rest = rest} c (Err f) s h = Sending-stop c f.written rest [] s (sym (append-nil rest)) h
-
--- where the whole has room in a count, so has a part
-pub Sending-room : {a b : Option (List ℕ)} {n m : ℕ} {whole rest : List ℕ} (x others : List ℕ) (limit : ℕ) → Sending a b n m whole rest → rest ≡ x ++ others → n + length whole < limit → m + length x < limit
-Sending-room {n = n} {m = m} {whole} {rest} x others limit s e h =
-    let p = s.counted in
-    let l = ap length s.parts in
-    let k = ap length e in
-    omega (arith, p, l, k, length-append s.gone rest, length-append x others)

@@ -10,7 +10,7 @@ mod pen;
 mod slices;
 mod writing;
 
-pub use memory::OutOfMemory;
+pub use memory::{Failure, OutOfMemory};
 pub use name::{Name20, NameFault};
 pub use numbers::{i16_at, u16_at, u32_at};
 pub use pen::Pen;

@@ -37,12 +37,6 @@ pub const ZERO_POINTS: usize = 46;
 /// The points of all samples at most, the zero points after each sample counted.
 pub const POINTS: u64 = 500_000_000;
 
-/// The notes of a note list at most.
-pub const NOTES: usize = 65_535;
-
-/// The frame in which a note ends, at most: its start and its length together.
-pub const FRAMES: u64 = 100_000_000;
-
-/// The bytes of a file that the program reads, at most: the largest RIFF body, its head of eight
-/// bytes, and the four that no pad byte can make.
+/// The bytes of a file that the program reads, at most: the largest size that a RIFF head can say, and
+/// the head's own 8 bytes.
 pub const FILE_LENGTH: u64 = 4_294_967_303;

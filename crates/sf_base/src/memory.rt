@@ -1,4 +1,7 @@
-//! Want of memory.
+//! Want of memory, alone or beside other faults.
+ghost use Rattle.std.specs.Prelude.{◌≡◌};
+ghost use Rattle.sf_base.specs.declared.memory.Failure.TheVariants as failures;
+
 use std::alloc::{AllocError, AllocFailed};
 use thiserror::Error;
 
@@ -16,5 +19,36 @@ impl From<AllocError> for OutOfMemory {
 impl<T: Drop> From<AllocFailed<T>> for OutOfMemory {
     fn from(_error: AllocFailed<T>) -> OutOfMemory {
         OutOfMemory
+    }
+}
+
+/// Why a call that takes memory has no answer: what it was given has a fault, or a growth was refused.
+#[derive(Debug, Drop, Clone, Copy, PartialEq, Eq)]
+pub enum Failure<F> {
+    Fault(F),
+    OutOfMemory,
+}
+
+impl<F> From<OutOfMemory> for Failure<F> {
+    ghost from_gives = { λ _ failure. failure ≡ failures.OutOfMemory };
+
+    fn from(_error: OutOfMemory) -> Failure<F> {
+        Failure::OutOfMemory
+    }
+}
+
+impl<F> From<AllocError> for Failure<F> {
+    ghost from_gives = { λ _ failure. failure ≡ failures.OutOfMemory };
+
+    fn from(_error: AllocError) -> Failure<F> {
+        Failure::OutOfMemory
+    }
+}
+
+impl<F, T: Drop> From<AllocFailed<T>> for Failure<F> {
+    ghost from_gives = { λ _ failure. failure ≡ failures.OutOfMemory };
+
+    fn from(_error: AllocFailed<T>) -> Failure<F> {
+        Failure::OutOfMemory
     }
 }

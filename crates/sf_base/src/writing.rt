@@ -15,11 +15,13 @@ pub struct WriteFault {
 
 /// Writes `bytes` after `sent` others of a longer text, and gives the number of all that went out.
 /// An error or a `write` that takes no byte is the fault, which counts those others too. There is no
-/// retry.
+/// retry. Where the number would pass 2^64, which no writer lives to see, none of `bytes` goes out.
 pub fn put_after<W: Write>(out: &mut W, sent: u64, bytes: &[u8]) -> Result<u64, WriteFault>
-    requires { sent + length bytes.now < 2 ^ 64 }
     ensures { Sends (W.contents out.old) (W.contents out.new) sent bytes.now result }
 {
+    let Some(total) = sent.checked_add(bytes.len() as u64) else {
+        return Err(WriteFault { written: sent });
+    };
     let mut at = 0;
     while at < bytes.len() {
         match out.write(&bytes[at..]) {
@@ -31,7 +33,7 @@ pub fn put_after<W: Write>(out: &mut W, sent: u64, bytes: &[u8]) -> Result<u64, 
             Ok(count) => at += count,
         }
     }
-    Ok(sent + bytes.len() as u64)
+    Ok(total)
 }
 
 /// Writes the whole text. An error or a `write` that takes no byte is the fault; there is no retry.

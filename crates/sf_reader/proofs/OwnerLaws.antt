@@ -3,7 +3,6 @@ use Rattle.std.proofs.Common.{◌≡◌, ◌+◌, ◌-◌, ◌∙◌, ℕ, suc, 
 use Rattle.std.specs.Prelude.{flat_map, nat_lt}
 use Rattle.std.specs.List.{slice_range, list_all}
 use Rattle.std.specs.Result.{IsErrAnd}
-use Rattle.std.proofs.lemmas.List.{append-nil}
 use Rattle.std.proofs.lemmas.List.Sums.{sum_by-cons}
 use Rattle.generators.specs.declared.level.Level.{Level}
 use Rattle.modulators.specs.declared.modulator.Modulator.{Modulator}
@@ -20,8 +19,7 @@ use Rattle.bank_format.specs.ReadSteps.{target_step}
 use Rattle.zone_reader.specs.declared.zones.ZoneCounts.{ZoneCounts}
 use Rattle.zone_reader.specs.Bags.{counts_read}
 use Rattle.sf_reader.specs.declared.owners.OwnerRead.{OwnerRead}
-use Rattle.sf_reader.specs.declared.owners.OwnersRead.{OwnersRead}
-use Rattle.sf_reader.specs.Owners.{AreSmall, added, counts_over, made_of, owner_read, owners_read, zone_steps}
+use Rattle.sf_reader.specs.Owners.{AreSmall, added, counts_over, made_of, owner_read, zone_steps}
 use Rattle.sf_reader.proofs.StepLaws.{first_broken-append, fails_front, fails_itself, passes_by, same_fault}
 use Rattle.sf_reader.proofs.CountLaws.{AreFew, part-small}
 use Rattle.sf_reader.proofs.WindowLaws.{slice-bags_in}
@@ -91,14 +89,6 @@ module _ {H O : Type 0} (at : Level) (targets : ℕ) (missing : ReadFault) (firs
     pub counts_are : added counts (counts_over at (windows table (map first_bag (h ∷ hs)))) ≡ counts_over at all
     pub steps_are : first_broken (zone_steps at targets missing (windows table (map first_bag (h ∷ hs)))) ≡ first_broken (zone_steps at targets missing all)
 
-  pub left_first : (h : H) (hs : List H) → heads ≡ h ∷ hs → Left [] (record { zones = 0; gens = 0; ranges = 0 }) h hs
-  unfolding nothing
-  left_first h hs e = record {
-    owners_are = ap (λ (l : List H). together (made_of at owner) (rows l) (windows table (map first_bag l))) (sym e);
-    counts_are = added-nothing (counts_over at (windows table (map first_bag (h ∷ hs)))) ∙ ap (λ (l : List H). counts_over at (windows table (map first_bag l))) (sym e);
-    steps_are = ap (λ (l : List H). first_broken (zone_steps at targets missing (windows table (map first_bag l)))) (sym e);
-  }
-
   -- the bags of head h end where those of the next one begin
   abbrev between : H → H → List Bagged
   between h n = slice_range table (first_bag h) (first_bag n)
@@ -141,16 +131,6 @@ module _ {H O : Type 0} (at : Level) (targets : ℕ) (missing : ReadFault) (firs
         let rest = windows table (map first_bag (n ∷ ns)) in
         part-small counts read.counts (counts_over at rest) (counts_over at all)
         (ap (λ (r : OwnerRead O). added counts (added r.counts (counts_over at rest))) is ∙ ap (added counts) (sym (counts_over-next at (between h n) rest)) ∙ left.counts_are) few
-
-  -- the terminal is left
-  pub left_last : (owners : List O) (counts : ZoneCounts) (h : H) (read : OwnersRead O) → Left owners counts h [] → read.owners ≡ owners → read.counts ≡ counts
-      → (first_broken (zone_steps at targets missing all) ≡ None) × (read ≡ owners_read at owner heads all)
-  left_last owners counts h read left owners_are counts_are =
-      let made = owners_are ∙ sym (append-nil owners) ∙ left.owners_are in
-      let zones : read.counts.zones ≡ (counts_over at all).zones = let e = ap (λ (c : ZoneCounts). c.zones) left.counts_are in let f = ap (λ (c : ZoneCounts). c.zones) counts_are in omega (arith, e, f) in
-      let gens : read.counts.gens ≡ (counts_over at all).gens = let e = ap (λ (c : ZoneCounts). c.gens) left.counts_are in let f = ap (λ (c : ZoneCounts). c.gens) counts_are in omega (arith, e, f) in
-      let ranges : read.counts.ranges ≡ (counts_over at all).ranges = let e = ap (λ (c : ZoneCounts). c.ranges) left.counts_are in let f = ap (λ (c : ZoneCounts). c.ranges) counts_are in omega (arith, e, f) in
-      (sym left.steps_are, λ i. record { owners = made i; counts = record { zones = zones i; gens = gens i; ranges = ranges i } })
 
 -- ---- one head
 

@@ -3,12 +3,10 @@ use Rattle.std.proofs.Common.{◌≡◌, ◌⊎◌, inl, inr, ℕ, List, Option,
 use Rattle.bank_core.specs.declared.parts.Parts.{Parts}
 use Rattle.bank_format.specs.declared.fault.Counts.{Counts}
 use Rattle.bank_format.specs.declared.fault.ReadFault.{ReadFault}
-use Rattle.bank_format.specs.declared.fault.ReadFault.TheVariants as reading
 use Rattle.bank_format.specs.Canon.{canon}
 use Rattle.bank_format.specs.Chunks.{window}
 use Rattle.bank_format.specs.Reading.{Content, content_in}
 use Rattle.bank_format.specs.ReadSteps.{fault_of}
-use Rattle.bank_format.specs.Steps.{Fails}
 use Rattle.bank_edits.specs.declared.edit.Edit.{Edit}
 use Rattle.edit_script.specs.declared.parsing.Line.{Line}
 use Rattle.edit_script.specs.declared.fault.ScriptFault.{ScriptFault}
@@ -19,7 +17,7 @@ use Rattle.sfbank.specs.declared.fault.RunFault.{RunFault}
 use Rattle.sfbank.specs.declared.fault.RunFault.TheVariants as run
 use Rattle.sfbank.specs.Outcome.{Done, edits_of, RefusedLine, first_refused, both_texts, unless_refused, after_script, after_reading, bank_in, outcome}
 use Rattle.sfbank.specs.Written.{FailsBefore}
-use Rattle.sfbank.specs.Planned.{AllApplied, StopsAtFile, StopsAtScript, StopsAtLine, of_reading, of_script}
+use Rattle.sfbank.specs.Planned.{AllApplied, StopsAtFile, StopsAtScript, StopsAtLine, of_script}
 
 -- ---- the script's fault
 
@@ -42,10 +40,6 @@ stops_at_script script (scripts.Literal n) (inl e) = absurd cc
 stops_at_script script (scripts.Literal n) (inr e) = e
 
 -- ---- the file's fault
-
-pub stops_at_file : (fault : ReadFault) (broken : Option ReadFault) → Fails fault broken → StopsAtFile (of_reading fault) broken
-stops_at_file reading.OutOfMemory broken h = tt
-stops_at_file fault broken h = h
 
 -- whatever comes of the bank
 pub at_file : {X : Type 0} (fault : RunFault) (broken : Option ReadFault) (r : Result X RunFault) → StopsAtFile fault broken → FailsBefore fault (after_reading broken r)
