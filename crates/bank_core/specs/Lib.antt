@@ -7,6 +7,7 @@ pub use Rattle.modulators.specs.Modulators
 pub mod Texts
 pub mod Valid
 pub mod Fits
+pub mod Sound
 pub mod Members
 pub mod Raw
 pub mod Faults

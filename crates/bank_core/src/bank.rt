@@ -4,6 +4,7 @@ ghost use Rattle.std.specs.Option.{option_copied};
 ghost use Rattle.bank_core.specs.Texts.{text_of};
 ghost use Rattle.bank_core.specs.Members.{member_count, head_of, instrument_name_of};
 ghost use Rattle.bank_core.specs.Valid.{IsValid};
+ghost use Rattle.bank_core.specs.Sound.{IsSound};
 ghost use Rattle.bank_core.specs.Faults.{IsPartsFault};
 ghost use Rattle.bank_core.specs.Raw.{sample_renamed};
 
@@ -39,9 +40,9 @@ impl<'a> Model for Bank<'a> {
 }
 
 impl<'a> Bank<'a> {
-    /// The bank of these parts, which are valid. Takes no memory.
-    pub fn from_valid_parts(parts: Parts<'a>) -> Bank<'a>
-        requires { IsValid parts }
+    /// The bank of these parts, which are valid, with each number in the range of its field. Takes no memory.
+    pub fn from_sound_parts(parts: Parts<'a>) -> Bank<'a>
+        requires { IsSound parts }
         ensures { result ≡ parts.entry }
     {
         Bank { parts }
@@ -58,7 +59,7 @@ impl<'a> Bank<'a> {
         if !is_valid(&parts) {
             return Err(PartsFault::Invalid);
         }
-        Ok(Bank::from_valid_parts(parts))
+        Ok(Bank { parts })
     }
 
     /// An equal bank in memory of its own. It copies no points: they stay in the file.

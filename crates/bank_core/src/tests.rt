@@ -434,7 +434,7 @@ fn tells_faults(rt: HostRuntime) -> Result<(), Fail> {
 #[test]
 fn an_empty_bank(rt: HostRuntime) {
     let alloc = rt.alloc();
-    let bank = Bank::from_valid_parts(Parts {
+    let bank = Bank::from_sound_parts(Parts {
         minor: 1,
         texts: plain_texts(),
         presets: NumberedList::new(alloc),

@@ -42,7 +42,7 @@ pub fn read<'a>(alloc: Global, file: &'a [u8]) -> Result<(Bank<'a>, Counts), Rea
     let lists = lists_of(window)?;
     let (parts, counts) = read_lists(alloc, &lists)?;
     read_banks_are_valid();
-    Ok((Bank::from_valid_parts(parts), counts))
+    Ok((Bank::from_sound_parts(parts), counts))
 }
 
 // What the three lists hold.

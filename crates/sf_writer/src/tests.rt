@@ -48,7 +48,7 @@ pub(crate) fn plain_texts<'a>() -> Texts<'a>
 }
 
 fn empty_bank<'a>(alloc: Global) -> Bank<'a> {
-    Bank::from_valid_parts(Parts {
+    Bank::from_sound_parts(Parts {
         minor: 4,
         texts: plain_texts(),
         presets: NumberedList::new(alloc),
@@ -93,7 +93,7 @@ fn bank_of<'a>(alloc: Global, sample: Sample<'a>) -> Result<Bank<'a>, OutOfMemor
 {
     let mut samples = Vec::new(alloc);
     samples.push(sample)?;
-    Ok(Bank::from_valid_parts(Parts {
+    Ok(Bank::from_sound_parts(Parts {
         minor: 4,
         texts: plain_texts(),
         presets: NumberedList::new(alloc),
@@ -164,7 +164,7 @@ fn a_sample_without_points(rt: HostRuntime) -> Result<(), Fail> {
 
 /// A bank with four texts beside its engine.
 fn texts_bank<'a>(alloc: Global) -> Bank<'a> {
-    Bank::from_valid_parts(Parts {
+    Bank::from_sound_parts(Parts {
         minor: 1,
         texts: Texts {
             engine: Text::from_bytes(b"E-mu"),
@@ -249,7 +249,7 @@ fn pair_of<'a>(
         correction: 5,
         kind: Kind::Right(0),
     })?;
-    Ok(Bank::from_valid_parts(Parts {
+    Ok(Bank::from_sound_parts(Parts {
         minor: 4,
         texts: plain_texts(),
         presets: NumberedList::new(alloc),

@@ -28,8 +28,8 @@ returns-in_err-parts-clause-err c =
     fails_by c.from_residual-in_err-parts.result e (fault_of file) c.from_residual-in_err-parts.ensures.1
     (in_content file e c.in_ok-window.window.now c.in_ok-lists.lists c.in_ok-window.ensures.1 c.in_ok-lists.ensures.1 c.in_ok-window.ensures.0 c.in_ok-lists.ensures.0 c.in_err-parts.ensures)
 
-pub from_valid_parts-requires : goal.from_valid_parts-requires
-from_valid_parts-requires c =
+pub from_sound_parts-requires : goal.from_sound_parts-requires
+from_sound_parts-requires c =
     let file = c.args.file.now in
     let bytes = are_bytes file c.type_inv.file in
     let holds = file_holds file c.in_ok-window.window.now c.in_ok-lists.lists c.in_ok-window.ensures.1 c.in_ok-lists.ensures.1 c.in_ok-window.ensures.0 c.in_ok-lists.ensures.0 c.in_ok-parts.ensures.0 in
@@ -39,7 +39,7 @@ from_valid_parts-requires c =
 pub returns-clause-ok : goal.returns-clause-ok
 returns-clause-ok c =
     let holds = file_holds c.args.file.now c.in_ok-window.window.now c.in_ok-lists.lists c.in_ok-window.ensures.1 c.in_ok-lists.ensures.1 c.in_ok-window.ensures.0 c.in_ok-lists.ensures.0 c.in_ok-parts.ensures.0 in
-    rw c.from_valid_parts.ensures (holds.0, sym (c.in_ok-parts.ensures.1 ∙ holds.1))
+    rw c.from_sound_parts.ensures (holds.0, sym (c.in_ok-parts.ensures.1 ∙ holds.1))
 
 pub returns-clause-fits : goal.returns-clause-fits
 returns-clause-fits c =
