@@ -1,0 +1,49 @@
+//! Makes each call that may answer want of memory, and compares what it leaves.
+//!
+//! A check refuses one growth after the other. After a refusal a case compares every value that the
+//! call could have changed, makes the same call again, which has to succeed now, and compares what
+//! that gave. The exit status is 0 where no growth was refused, 6 where one was and all went well, and
+//! 1 where a value is wrong; and a line on the standard output says which.
+#![tactic(auto)]
+
+mod banks;
+mod generators;
+mod outcome;
+mod points;
+
+use crate::banks::{bank_copy, canonical_run, listing_run, rename_run};
+use crate::generators::{generators_copy, generators_set};
+use crate::outcome::Outcome;
+use crate::points::{points_copy, points_join, points_narrow};
+use std::process::ExitCode;
+
+fn main(rt: HostRuntime) -> ExitCode {
+    let alloc = rt.alloc();
+    let cases = [
+        points_join(alloc),
+        points_copy(alloc),
+        points_narrow(alloc),
+        generators_set(alloc),
+        generators_copy(alloc),
+        rename_run(alloc),
+        canonical_run(alloc),
+        listing_run(alloc),
+        bank_copy(alloc),
+    ];
+    let mut outcome = Outcome::Done;
+    for case in cases {
+        outcome = outcome.and(case);
+    }
+    let (line, status) = match outcome {
+        Outcome::Done => ("no growth was refused, and each value is right", 0),
+        Outcome::Refused => (
+            "a growth was refused: nothing was changed, and all went on rightly",
+            6,
+        ),
+        Outcome::Wrong => ("a value is wrong", 1),
+    };
+    match println!(rt; "{line}") {
+        Ok(()) => ExitCode::from(status),
+        Err(_) => ExitCode::from(1),
+    }
+}
