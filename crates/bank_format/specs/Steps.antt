@@ -27,7 +27,7 @@ abbrev pub Fails : Failure ReadFault → Option ReadFault → Type 0
 Fails (Fault fault) broken = broken ≡ Some fault
 Fails OutOfMemory broken = Unit {0}
 
--- A part that takes memory goes through these steps.
-abbrev pub PassesInMemory : {X Y : Type 0} → (X → Y) → Result X (Failure ReadFault) → List Step → Y → Type 0
-PassesInMemory view (Ok x) steps value = (first_broken steps ≡ None) × (view x ≡ value)
-PassesInMemory view (Err failure) steps value = Fails failure (first_broken steps)
+-- The same of a part that takes memory.
+abbrev pub PassesGivenMemory : {X Y : Type 0} → (X → Y) → Result X (Failure ReadFault) → List Step → Y → Type 0
+PassesGivenMemory view (Ok x) steps value = (first_broken steps ≡ None) × (view x ≡ value)
+PassesGivenMemory view (Err failure) steps value = Fails failure (first_broken steps)
