@@ -1,3 +1,4 @@
 pub mod Changes
 pub mod Renaming
 pub mod Counts
+pub mod Fitting

@@ -1,9 +1,10 @@
-//! A bank that is always valid, and its raw changes.
+//! A bank that is always sound, and its raw changes.
 ghost use Rattle.std.specs.Prelude.{◌≡◌, ◌<◌, length, slice_get, IfSome, IfOk, IfErr, OnOk};
 ghost use Rattle.std.specs.Option.{option_copied};
 ghost use Rattle.bank_core.specs.Texts.{text_of};
 ghost use Rattle.bank_core.specs.Members.{member_count, head_of, instrument_name_of};
 ghost use Rattle.bank_core.specs.Valid.{IsValid};
+ghost use Rattle.bank_core.specs.Fits.{Fits};
 ghost use Rattle.bank_core.specs.Sound.{IsSound};
 ghost use Rattle.bank_core.specs.Faults.{IsPartsFault};
 ghost use Rattle.bank_core.specs.Raw.{sample_renamed};
@@ -18,7 +19,8 @@ use sf_base::{Name20, OutOfMemory};
 use std::alloc::Global;
 use std::marker::Model;
 
-/// A valid bank. It borrows the bytes of the file, and of the script's pool.
+/// A bank that is sound: valid, with each number, name and text in the range of its field. It borrows
+/// the bytes of the file, and of the script's pool.
 #[derive(Drop)]
 pub struct Bank<'a> {
     parts: Parts<'a>,
@@ -26,7 +28,7 @@ pub struct Bank<'a> {
 
 impl<'a> Model for Bank<'a> {
     ghost use Rattle.bank_core.specs.declared.parts.Parts.{Parts};
-    ghost use Rattle.bank_core.specs.Valid.{IsValid};
+    ghost use Rattle.bank_core.specs.Sound.{IsSound};
     ghost use Rattle.generators.specs.contracts.gen_map.GenMap as gens;
     ghost use Rattle.std.specs.Coded.{codes};
 
@@ -36,11 +38,11 @@ impl<'a> Model for Bank<'a> {
 
     ghost view = { λ bank. bank.parts };
 
-    ghost invariant = { λ bank. IsValid bank.parts };
+    ghost invariant = { λ bank. IsSound bank.parts };
 }
 
 impl<'a> Bank<'a> {
-    /// The bank of these parts, which are valid, with each number in the range of its field. Takes no memory.
+    /// The bank of these parts, which are sound. Takes no memory.
     pub fn from_sound_parts(parts: Parts<'a>) -> Bank<'a>
         requires { IsSound parts }
         ensures { result ≡ parts.entry }
@@ -52,7 +54,7 @@ impl<'a> Bank<'a> {
     /// but another representation may.
     pub fn from_parts(alloc: Global, parts: Parts<'a>) -> Result<Bank<'a>, PartsFault>
         ensures value { IfOk result (λ bank. bank ≡ parts.entry) }
-        ensures valid { OnOk result (IsValid parts.entry) }
+        ensures sound { OnOk result (IsSound parts.entry) }
         ensures fault { IfErr result (λ fault. IsPartsFault parts.entry fault) }
     {
         let _ = alloc;
@@ -81,6 +83,7 @@ impl<'a> Bank<'a> {
     pub fn info(&self, id: InfoId) -> &'a [u8]
         ensures value { result.now ≡ text_of self.now.texts id }
         ensures valid { IsValid self.now }
+        ensures fits { Fits self.now }
     {
         self.parts.texts.get(id)
     }
@@ -89,6 +92,7 @@ impl<'a> Bank<'a> {
     pub fn presets(&self) -> &[Preset]
         ensures value { result.now ≡ self.now.presets }
         ensures valid { IsValid self.now }
+        ensures fits { Fits self.now }
     {
         self.parts.presets.as_slice()
     }
@@ -97,6 +101,7 @@ impl<'a> Bank<'a> {
     pub fn instruments(&self) -> &[Instrument]
         ensures value { result.now ≡ self.now.instruments }
         ensures valid { IsValid self.now }
+        ensures fits { Fits self.now }
     {
         self.parts.instruments.as_slice()
     }
@@ -105,6 +110,7 @@ impl<'a> Bank<'a> {
     pub fn samples(&self) -> &[Sample<'a>]
         ensures value { result.now ≡ self.now.samples }
         ensures valid { IsValid self.now }
+        ensures fits { Fits self.now }
     {
         self.parts.samples.as_slice()
     }
@@ -152,7 +158,7 @@ impl<'a> Bank<'a> {
     /// Gives a sample a name, and gives back the one that it had. Takes no memory.
     pub fn rename_sample(&mut self, number: u32, name: Name20) -> Name20
         requires there { number < length self.old.samples }
-        requires valid { IsValid (sample_renamed self.old number name) }
+        requires sound { IsSound (sample_renamed self.old number name) }
         ensures value { IfSome (slice_get self.old.samples number) (λ sample. result ≡ sample.name) }
         ensures change { self.new ≡ sample_renamed self.old number name }
     {

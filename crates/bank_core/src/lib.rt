@@ -1,5 +1,5 @@
 //! A bank as its members: texts, presets and instruments with their zones, and samples with their
-//! points. A `Bank` is always valid.
+//! points. A `Bank` is always sound.
 #![tactic(auto)]
 
 mod bank;
@@ -15,7 +15,7 @@ mod zones;
 
 pub use bank::Bank;
 pub use head::Head;
-pub use laws::renaming_keeps_valid;
+pub use laws::renaming_keeps_sound;
 pub use members::{Members, Owner, Place};
 pub use parts::{GlobalZone, Instrument, Kind, Parts, Preset, Sample, Zone};
 pub use texts::{InfoId, Text, Texts};

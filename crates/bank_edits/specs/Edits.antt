@@ -1,5 +1,5 @@
 -- What an edit does to a bank, when it is refused, and what takes it back: one line for each form.
-use Rattle.std.specs.Prelude.{◌≡◌, ◌<◌, ◌^◌, Bool, nat_le, Option, Some, None, List, [], ◌∷◌, length, slice_get, unwrap_or, Result, Ok, Err, if◌then◌else◌}
+use Rattle.std.specs.Prelude.{◌≡◌, ◌<◌, ◌^◌, Bool, nat_le, Option, Some, None, List, [], ◌∷◌, length, slice_get, Result, Ok, Err, if◌then◌else◌}
 use Rattle.std.specs.Option.{option_map_or}
 use Rattle.sf_base.specs.Names.{IsName}
 use Rattle.bank_core.specs.declared.parts.Sample.{Sample}
@@ -7,10 +7,12 @@ use Rattle.bank_core.specs.declared.parts.Parts.{Parts}
 use Rattle.bank_core.specs.Raw.{sample_renamed}
 use Rattle.bank_edits.specs.declared.edit.Edit.{Edit}
 use Rattle.bank_edits.specs.declared.edit.Edit.TheVariants.{RenameSample}
+use Rattle.bank_edits.specs.declared.edit.Cause.{Cause}
+use Rattle.bank_edits.specs.declared.edit.Cause.TheVariants.{NoSuchSample}
 use Rattle.bank_edits.specs.declared.edit.Refusal.{Refusal}
-use Rattle.bank_edits.specs.declared.edit.Refusal.TheVariants.{NoSuchSample, OutOfMemory}
+use Rattle.bank_edits.specs.declared.edit.Refusal.TheVariants.{Of, OutOfMemory}
 
--- each number in the range of its field, and each name a name
+-- each number, name and text in the range of its field
 abbrev pub FitsEdit : Edit → Type 0
 FitsEdit (RenameSample sample name) = (sample < 2 ^ 32) × IsName name
 
@@ -19,24 +21,24 @@ abbrev pub raw : Parts → Edit → Parts
 raw b (RenameSample sample name) = sample_renamed b sample name
 
 -- a cause of refusal, and whether it stands
-pub record Cause : Type 0 where
+pub record Test : Type 0 where
   pub stands : Bool
-  pub refusal : Refusal
+  pub cause : Cause
 
-abbrev pub cause : Bool → Refusal → Cause
-cause stands refusal = record { stands = stands; refusal = refusal }
+abbrev pub test : Bool → Cause → Test
+test stands cause = record { stands = stands; cause = cause }
 
 -- the causes that an edit can have, in the order of their numbers
-abbrev pub causes : Parts → Edit → List Cause
-causes b (RenameSample sample name) = cause (nat_le (length b.samples) sample) NoSuchSample ∷ []
+abbrev pub causes : Parts → Edit → List Test
+causes b (RenameSample sample name) = test (nat_le (length b.samples) sample) NoSuchSample ∷ []
 
 -- the first that stands
-abbrev pub first_cause : List Cause → Option Refusal
+abbrev pub first_cause : List Test → Option Cause
 first_cause [] = None
-first_cause (c ∷ others) = if c.stands then Some c.refusal else first_cause others
+first_cause (t ∷ others) = if t.stands then Some t.cause else first_cause others
 
 -- why the edit is refused, if it is
-abbrev pub refusal : Parts → Edit → Option Refusal
+abbrev pub refusal : Parts → Edit → Option Cause
 refusal b e = first_cause (causes b e)
 
 -- the edit that takes it back, read on the bank before
@@ -52,7 +54,7 @@ pub record IsDone (old new : Parts) (e back : Edit) : Type 0 where
 
 -- the edit was refused, or no memory was there where no other cause stands; it is given back
 pub record IsRefused (old new : Parts) (e : Edit) (why : Refusal) (given : Edit) : Type 0 where
-  pub named : why ≡ unwrap_or (refusal old e) OutOfMemory
+  pub named : why ≡ option_map_or Of (refusal old e) OutOfMemory
   pub unchanged : new ≡ old
   pub handed_back : given ≡ e
 

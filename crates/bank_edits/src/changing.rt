@@ -1,6 +1,6 @@
 //! The change that an edit makes where it is not refused.
 ghost use Rattle.std.specs.Prelude.{◌≡◌, None, IsOk};
-ghost use Rattle.bank_core.specs.Valid.{IsValid};
+ghost use Rattle.bank_core.specs.Sound.{IsSound};
 ghost use Rattle.bank_edits.specs.declared.edit.Edit.TheVariants as edits;
 ghost use Rattle.bank_edits.specs.Edits.{refusal, IsChange, NeedsNoMemory};
 
@@ -10,7 +10,7 @@ use sf_base::Name20;
 
 /// Does the edit and answers the one that takes it back, or hands it back for want of memory.
 pub fn change(bank: &mut Bank<'_>, edit: Edit) -> Result<Edit, Edit>
-    requires valid { IsValid bank.old }
+    requires sound { IsSound bank.old }
     requires accepted { refusal bank.old edit ≡ None }
     ensures outcome { IsChange bank.old bank.new edit result }
     ensures no_memory { NeedsNoMemory edit → IsOk result }
@@ -21,7 +21,7 @@ pub fn change(bank: &mut Bank<'_>, edit: Edit) -> Result<Edit, Edit>
 }
 
 fn rename_sample(bank: &mut Bank<'_>, sample: u32, name: Name20) -> Edit
-    requires valid { IsValid bank.old }
+    requires sound { IsSound bank.old }
     requires accepted { refusal bank.old (edits.RenameSample sample name) ≡ None }
     ensures { IsChange bank.old bank.new (edits.RenameSample sample name) (Ok result) }
 {

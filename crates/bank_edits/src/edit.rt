@@ -1,6 +1,7 @@
 //! What an edit says, and why it may be refused.
 ghost use Rattle.std.specs.Prelude.{◌≡◌};
-ghost use Rattle.bank_edits.specs.RefusalNames.{number_of, name_of};
+ghost use Rattle.bank_edits.specs.Edits.{FitsEdit};
+ghost use Rattle.bank_edits.specs.CauseNames.{number_of, name_of};
 
 use sf_base::Name20;
 use thiserror::Error;
@@ -12,24 +13,34 @@ pub enum Edit {
     RenameSample { sample: u32, name: Name20 },
 }
 
-/// Why an edit is refused: the first cause that stands, in the order of their numbers.
-#[derive(Clone, Copy, Debug, PartialEq, Eq, Error)]
-pub enum Refusal {
-    #[error("there is no such sample")]
-    NoSuchSample,
-    /// Only where no other cause stands.
-    #[error("out of memory")]
-    OutOfMemory,
+impl Edit {
+    /// The law that each number, name and text is in the range of its field. It does nothing.
+    pub fn fits(&self)
+        ensures { FitsEdit self.now }
+    {
+        match self {
+            Edit::RenameSample { sample, name } => {
+                let _sample = *sample;
+                let _name = name.bytes();
+            }
+        }
+    }
 }
 
-impl Refusal {
+/// What stands against an edit.
+#[derive(Clone, Copy, Debug, PartialEq, Eq, Error)]
+pub enum Cause {
+    #[error("there is no such sample")]
+    NoSuchSample,
+}
+
+impl Cause {
     /// The number by which a fault line tells it.
     pub fn number(self) -> u8
         ensures { result ≡ number_of self }
     {
         match self {
-            Refusal::NoSuchSample => 22,
-            Refusal::OutOfMemory => 38,
+            Cause::NoSuchSample => 22,
         }
     }
 
@@ -38,8 +49,18 @@ impl Refusal {
         ensures { result.now ≡ name_of self }
     {
         match self {
-            Refusal::NoSuchSample => "NoSuchSample",
-            Refusal::OutOfMemory => "OutOfMemory",
+            Cause::NoSuchSample => "NoSuchSample",
         }
     }
+}
+
+/// Why an edit is refused.
+#[derive(Clone, Copy, Debug, PartialEq, Eq, Error)]
+pub enum Refusal {
+    /// The first cause that stands, in the order of their numbers.
+    #[error("{0}")]
+    Of(Cause),
+    /// Only where no cause stands.
+    #[error("out of memory")]
+    OutOfMemory,
 }

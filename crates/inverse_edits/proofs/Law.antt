@@ -1,10 +1,7 @@
 -- Undo restores, for every form of edit.
 use Rattle.bank_edits.specs.declared.edit.Edit.TheVariants.{RenameSample}
-use Rattle.inverse_edits.specs.Undone.{UndoRestores, EditsKeepFits}
-use Rattle.inverse_edits.proofs.SampleLaws.{undone_rename, fits_rename}
+use Rattle.inverse_edits.specs.Undone.{UndoRestores}
+use Rattle.inverse_edits.proofs.SampleLaws.{undone_rename}
 
 pub undone : UndoRestores
 undone b (RenameSample i name) = undone_rename b i name
-
-pub fits_after : EditsKeepFits
-fits_after b (RenameSample i name) f g = fits_rename b i name f

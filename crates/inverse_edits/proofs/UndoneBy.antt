@@ -1,18 +1,25 @@
 -- How a form's law follows from its facts.
-use Rattle.std.proofs.Common.{◌≡◌, None}
+use Rattle.std.proofs.Common.{◌≡◌}
 use Rattle.bank_core.specs.declared.parts.Parts.{Parts}
-use Rattle.bank_core.specs.Valid.{IsValid}
+use Rattle.bank_core.specs.Sound.{IsSound}
 use Rattle.bank_edits.specs.declared.edit.Edit.{Edit}
-use Rattle.bank_edits.specs.Edits.{FitsEdit, raw, refusal, inverse}
-use Rattle.inverse_edits.specs.Undone.{IsUndone}
+use Rattle.bank_edits.specs.Edits.{raw, inverse}
+use Rattle.inverse_edits.specs.Undone.{IsTaken, IsUndone}
 
--- from the facts about the inverse as it computes
-pub undone_by : (b : Parts) (e back : Edit) → inverse b e ≡ back → IsValid (raw b e) → FitsEdit back → refusal (raw b e) back ≡ None
-    → raw (raw b e) back ≡ b → inverse (raw b e) back ≡ e → IsUndone b e
-undone_by b e back is valid fits accepted restored redone = record {
-  valid = valid;
-  fits = rw is fits;
-  accepted = rw is accepted;
-  restored = rw is restored;
-  redone = rw is redone;
-}
+-- the facts about the inverse as it computes
+pub record Facts (b : Parts) (e back : Edit) : Type 0 where
+  pub is : inverse b e ≡ back
+  pub sound : IsSound (raw b e)
+  pub taken : IsTaken (raw b e) back
+  pub restored : raw (raw b e) back ≡ b
+  pub redone : inverse (raw b e) back ≡ e
+
+pub undone_by : (b : Parts) (e back : Edit) → Facts b e back → IsUndone b e
+undone_by b e back f =
+    let is = f.is in
+    record {
+      sound = f.sound;
+      taken = rw is f.taken;
+      restored = rw is f.restored;
+      redone = rw is f.redone;
+    }

@@ -1,9 +1,9 @@
-use Rattle.bank_core.proofs.Renaming.{renamed_valid}
+use Rattle.bank_core.proofs.Renaming.{renamed_sound}
 use Rattle.bank_edits.proofs.Inverses.{inverse_of_rename, there_of_rename}
 use Rattle.bank_edits.proofs.changing.rename_sample.Goals as goal
 
-pub rename_sample-old-requires-clause-valid : goal.rename_sample-old-requires-clause-valid
-rename_sample-old-requires-clause-valid c = renamed_valid _ _ _ c.requires.valid c.bytes-bytes.ensures.named
+pub rename_sample-old-requires-clause-sound : goal.rename_sample-old-requires-clause-sound
+rename_sample-old-requires-clause-sound c = renamed_sound _ _ _ c.requires.sound c.bytes-bytes.ensures.named
 
 pub returns : goal.returns
 returns c =
