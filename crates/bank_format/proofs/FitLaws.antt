@@ -34,7 +34,7 @@ use Rattle.bank_format.proofs.TableLaws.{gens_in_bag, mods_in_bag}
 -- ---- totals
 
 module _ {X : Type 0} (f : Bagged → List X) where
-  sizes-append : (xs ys : List Bagged) → total (sizes f (xs ++ ys)) ≡ total (sizes f xs) + total (sizes f ys)
+  pub sizes-append : (xs ys : List Bagged) → total (sizes f (xs ++ ys)) ≡ total (sizes f xs) + total (sizes f ys)
   sizes-append [] ys = omega arith
   sizes-append (x ∷ xs) ys = let r = sizes-append xs ys in omega (arith, r)
 
@@ -56,6 +56,12 @@ length-by h c same (y ∷ ys) =
     let w = sum_by-cons c y ys in
     omega (arith, a, r, s, w)
 
+-- what bags hold
+pub record Holds (bags : List Bagged) (zones gens mods : ℕ) : Type 0 where
+  pub zones_are : length bags ≡ zones
+  pub gens_are : total (sizes gens_in_bag bags) ≡ gens
+  pub mods_are : total (sizes mods_in_bag bags) ≡ mods
+
 module _ (at : Level) where
   zone_gens : (zs : List Zone) → total (sizes gens_in_bag (map (zone_written at) zs)) ≡ sum_by (λ (z : Zone). len z.gens + 1) zs
   zone_gens [] = refl
@@ -70,12 +76,6 @@ module _ (at : Level) where
   zone_mods : (zs : List Zone) → total (sizes mods_in_bag (map (zone_written at) zs)) ≡ sum_by (λ (z : Zone). length z.mods) zs
   zone_mods [] = refl
   zone_mods (z ∷ zs) = let r = zone_mods zs in let w = sum_by-cons (λ (z : Zone). length z.mods) z zs in omega (arith, r, w)
-
-  -- what the bags of a header hold
-  pub record Holds (bags : List Bagged) (zones gens mods : ℕ) : Type 0 where
-    pub zones_are : length bags ≡ zones
-    pub gens_are : total (sizes gens_in_bag bags) ≡ gens
-    pub mods_are : total (sizes mods_in_bag bags) ≡ mods
 
   pub holds : (g : GlobalZone) (zs : List Zone) → Holds (bags_written at g zs) (zone_count g zs) (gen_count g zs) (mod_count g zs)
   unfolding bags_written

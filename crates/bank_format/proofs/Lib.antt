@@ -10,6 +10,7 @@ pub mod TableLaws
 pub mod SampleLaws
 pub mod IndexSteps
 pub mod FitLaws
+pub mod IndexLaws
 pub mod BankLaws
 pub mod PdtaLaws
 pub mod FileLaws

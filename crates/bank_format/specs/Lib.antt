@@ -14,6 +14,7 @@ pub mod Ids
 pub mod Windows
 pub mod Zones
 pub mod Tables
+pub mod Indexes
 pub mod Canon
 pub mod Steps
 pub mod Texts

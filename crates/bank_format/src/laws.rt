@@ -5,6 +5,7 @@ ghost use Rattle.bank_core.specs.declared.parts.Parts.{Parts};
 ghost use Rattle.bank_core.specs.Valid.{IsValid};
 ghost use Rattle.bank_core.specs.Fits.{Fits};
 ghost use Rattle.bank_format.specs.Canon.{canon};
+ghost use Rattle.bank_format.specs.Indexes.{IndexesAreSums};
 ghost use Rattle.bank_format.specs.Chunks.{window};
 ghost use Rattle.bank_format.specs.Reading.{content_in, no_counts};
 ghost use Rattle.bank_format.specs.ReadSteps.{fault_of, ReadsAs};
@@ -18,4 +19,10 @@ pub fn canonical_files_read_back()
 pub fn read_banks_are_valid()
     ensures valid { (file : List ℕ) → AreBytes file → fault_of file ≡ None → IsValid (content_in (window file)).bank }
     ensures fits { (file : List ℕ) → AreBytes file → Fits (content_in (window file)).bank }
+{}
+
+/// The indexes in the tables of a bank count what stands before in the bank's own lists: a header's, the
+/// zones of the headers before it; a bag's, the generators and the modulators of the zones before it.
+pub fn indexes_are_sums()
+    ensures { (b : Parts) → IndexesAreSums b }
 {}

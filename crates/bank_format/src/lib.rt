@@ -6,4 +6,4 @@ mod fault;
 mod laws;
 
 pub use fault::{Counts, ReadFault};
-pub use laws::{canonical_files_read_back, read_banks_are_valid};
+pub use laws::{canonical_files_read_back, indexes_are_sums, read_banks_are_valid};

@@ -1,0 +1,131 @@
+-- The indexes in the tables of a bank are sums over the bank's own lists.
+use Rattle.std.proofs.Common.{◌≡◌, ◌≤◌, ◌+◌, ◌∙◌, ℕ, zero, suc, List, [], ◌∷◌, ◌++◌, length, map, take, drop, slice_get, Some, sym, ap, append_assoc, arith}
+use Rattle.std.specs.Prelude.{flat_map, sum_by}
+use Rattle.std.proofs.lemmas.Grind.{flat_map-append}
+use Rattle.std.proofs.lemmas.List.{length-append, map-append, take-append-drop}
+use Rattle.std.proofs.lemmas.List.Sums.{sum_by-cons}
+use Rattle.generators.specs.declared.level.Level.{Level}
+use Rattle.generators.specs.declared.level.Level.TheVariants as level
+use Rattle.bank_core.specs.Valid.{zone_count, gen_count, mod_count}
+use Rattle.bank_core.specs.declared.parts.GlobalZone.{GlobalZone}
+use Rattle.bank_core.specs.declared.parts.Zone.{Zone}
+use Rattle.bank_core.specs.declared.parts.Preset.{Preset}
+use Rattle.bank_core.specs.declared.parts.Instrument.{Instrument}
+use Rattle.bank_core.specs.declared.parts.Parts.{Parts}
+use Rattle.bank_format.specs.Windows.{ends, starts, together}
+use Rattle.bank_format.specs.Zones.{Bagged, bags_written, global_written, zone_written}
+use Rattle.bank_format.specs.Tables.{bag, bag_list, tables_of}
+use Rattle.bank_format.specs.Indexes.{Count, AreSums, IndexesAreSums}
+use Rattle.bank_format.proofs.WindowLaws.{sizes, total, length-starts}
+use Rattle.bank_format.proofs.TableLaws.{gens_in_bag, mods_in_bag, preset_indexes, instrument_indexes}
+use Rattle.bank_format.proofs.IndexSteps.{length-bag_list}
+use Rattle.bank_format.proofs.FitLaws.{sizes-append, total-by, length-by, Holds, holds}
+
+-- ---- bags
+
+-- the bag after these, where the indexes begin at g and m
+bag_behind : (xs ys : List Bagged) (g m : ℕ)
+    → slice_get (together bag (g ∷ ends g (sizes gens_in_bag (xs ++ ys))) (m ∷ ends m (sizes mods_in_bag (xs ++ ys)))) (length xs)
+    ≡ Some (bag (g + total (sizes gens_in_bag xs)) (m + total (sizes mods_in_bag xs)))
+bag_behind [] ys g m =
+    let gens : g ≡ g + 0 = omega arith in
+    let mods : m ≡ m + 0 = omega arith in
+    λ i. Some (bag (gens i) (mods i))
+bag_behind (x ∷ xs) ys g m =
+    let gens : g + length x.gens + total (sizes gens_in_bag xs) ≡ g + total (sizes gens_in_bag (x ∷ xs)) = omega arith in
+    let mods : m + length x.mods + total (sizes mods_in_bag xs) ≡ m + total (sizes mods_in_bag (x ∷ xs)) = omega arith in
+    bag_behind xs ys (g + length x.gens) (m + length x.mods) ∙ λ i. Some (bag (gens i) (mods i))
+
+-- the same by what these hold
+says : (bags xs ys : List Bagged) (zones gens mods : ℕ) → xs ++ ys ≡ bags → Holds xs zones gens mods → slice_get (bag_list bags) zones ≡ Some (bag gens mods)
+unfolding bag_list
+says bags xs ys zones gens mods all h =
+    let hg = h.gens_are in
+    let hm = h.mods_are in
+    let gens_are : 0 + total (sizes gens_in_bag xs) ≡ gens = omega (arith, hg) in
+    let mods_are : 0 + total (sizes mods_in_bag xs) ≡ mods = omega (arith, hm) in
+    ap (λ (l : List Bagged). slice_get (bag_list l) zones) (sym all)
+    ∙ ap (slice_get (bag_list (xs ++ ys))) (sym h.zones_are)
+    ∙ bag_behind xs ys 0 0
+    ∙ λ i. Some (bag (gens_are i) (mods_are i))
+
+both_hold : (xs ys : List Bagged) (z g m z2 g2 m2 : ℕ) → Holds xs z g m → Holds ys z2 g2 m2 → Holds (xs ++ ys) (z + z2) (g + g2) (m + m2)
+both_hold xs ys z g m z2 g2 m2 h k =
+    let hz = h.zones_are in let hg = h.gens_are in let hm = h.mods_are in
+    let kz = k.zones_are in let kg = k.gens_are in let km = k.mods_are in
+    record {
+      zones_are = omega (arith, length-append xs ys, hz, kz);
+      gens_are = omega (arith, sizes-append gens_in_bag xs ys, hg, kg);
+      mods_are = omega (arith, sizes-append mods_in_bag xs ys, hm, km);
+    }
+
+-- the bags of some zones, then those of the others
+bags-split : (at : Level) (g : GlobalZone) (zs : List Zone) (j : ℕ) → bags_written at g (take j zs) ++ map (zone_written at) (drop j zs) ≡ bags_written at g zs
+unfolding bags_written
+bags-split at g zs j =
+    append_assoc (global_written g) (map (zone_written at) (take j zs)) (map (zone_written at) (drop j zs))
+    ∙ ap (λ (l : List Bagged). global_written g ++ l) (sym (map-append (zone_written at) (take j zs) (drop j zs)) ∙ ap (map (zone_written at)) (take-append-drop j zs))
+
+drop-found : {X : Type 0} (xs : List X) (i : ℕ) (x : X) → slice_get xs i ≡ Some x → drop i xs ≡ x ∷ drop (suc i) xs
+drop-found [] i x e = absurd cc
+drop-found (y ∷ ys) zero x e = let same : y ≡ x = cc in ap (λ z. z ∷ ys) same
+drop-found (y ∷ ys) (suc i) x e = drop-found ys i x e
+
+-- ---- the presets, or the instruments
+
+module _ {O : Type 0} (at : Level) (global : O → GlobalZone) (zones : O → List Zone) where
+  abbrev bags_of : O → List Bagged
+  bags_of o = bags_written at (global o) (zones o)
+
+  abbrev counted : Count → List O → ℕ
+  counted count os = sum_by (λ o. count (global o) (zones o)) os
+
+  all_hold : (os : List O) → Holds (flat_map bags_of os) (counted zone_count os) (counted gen_count os) (counted mod_count os)
+  all_hold os = record {
+    zones_are = length-by bags_of (λ o. zone_count (global o) (zones o)) (λ o. (holds at (global o) (zones o)).zones_are) os;
+    gens_are = total-by gens_in_bag bags_of (λ o. gen_count (global o) (zones o)) (λ o. (holds at (global o) (zones o)).gens_are) os;
+    mods_are = total-by mods_in_bag bags_of (λ o. mod_count (global o) (zones o)) (λ o. (holds at (global o) (zones o)).mods_are) os;
+  }
+
+  index_at : (i from : ℕ) (os : List O) → i ≤ length os → slice_get (from ∷ ends from (sizes bags_of os)) i ≡ Some (from + counted zone_count (take i os))
+  index_at zero from os le = let e : from ≡ from + 0 = omega arith in ap Some e
+  index_at (suc i) from [] le = absurd (omega (arith, le))
+  index_at (suc i) from (o ∷ os) le =
+      let one = (holds at (global o) (zones o)).zones_are in
+      let sum = sum_by-cons (λ o. zone_count (global o) (zones o)) o (take i os) in
+      let e : from + length (bags_of o) + counted zone_count (take i os) ≡ from + counted zone_count (o ∷ take i os) = omega (arith, one, sum) in
+      index_at i (from + length (bags_of o)) os (omega (arith, le)) ∙ ap Some e
+
+  split : (i : ℕ) (os : List O) → flat_map bags_of (take i os) ++ flat_map bags_of (drop i os) ≡ flat_map bags_of os
+  split i os = sym (flat_map-append bags_of (take i os) (drop i os)) ∙ ap (flat_map bags_of) (take-append-drop i os)
+
+  -- the bags of the first i, and of the first j zones of the next one
+  split-zones : (i j : ℕ) (os : List O) (o : O) → slice_get os i ≡ Some o
+      → (flat_map bags_of (take i os) ++ bags_written at (global o) (take j (zones o))) ++ (map (zone_written at) (drop j (zones o)) ++ flat_map bags_of (drop (suc i) os)) ≡ flat_map bags_of os
+  split-zones i j os o e =
+      let before = flat_map bags_of (take i os) in
+      let own = bags_written at (global o) (take j (zones o)) in
+      let rest = map (zone_written at) (drop j (zones o)) in
+      let later = flat_map bags_of (drop (suc i) os) in
+      append_assoc before own (rest ++ later)
+      ∙ ap (λ (l : List Bagged). before ++ l) (sym (append_assoc own rest later) ∙ ap (λ (l : List Bagged). l ++ later) (bags-split at (global o) (zones o) j))
+      ∙ ap (λ (l : List O). before ++ flat_map bags_of l) (sym (drop-found os i o e))
+      ∙ split i os
+
+  pub sums : (os : List O) (first_bags : List ℕ) → first_bags ≡ starts (sizes bags_of os) → AreSums global zones counted os first_bags (bag_list (flat_map bags_of os))
+  sums os first_bags e = record {
+    header_count = let l = length-starts bags_of os in ap length e ∙ omega (arith, l);
+    bag_count = let l = length-bag_list (flat_map bags_of os) in let z = (all_hold os).zones_are in omega (arith, l, z);
+    headers = λ i le. let sum : 0 + counted zone_count (take i os) ≡ counted zone_count (take i os) = omega arith in ap (λ is. slice_get is i) e ∙ index_at i 0 os le ∙ ap Some sum;
+    at_start = λ i le. says (flat_map bags_of os) (flat_map bags_of (take i os)) (flat_map bags_of (drop i os)) _ _ _ (split i os) (all_hold (take i os));
+    at_zone = λ i j o found lt.
+        says (flat_map bags_of os) (flat_map bags_of (take i os) ++ bags_written at (global o) (take j (zones o))) (map (zone_written at) (drop j (zones o)) ++ flat_map bags_of (drop (suc i) os)) _ _ _
+        (split-zones i j os o found) (both_hold _ _ _ _ _ _ _ _ (all_hold (take i os)) (holds at (global o) (take j (zones o))));
+  }
+
+pub indexes-sum : (b : Parts) → IndexesAreSums b
+unfolding tables_of
+indexes-sum b = record {
+  presets = sums level.Preset (λ (p : Preset). p.global) (λ (p : Preset). p.zones) b.presets _ (preset_indexes 0 b.presets);
+  instruments = sums level.Instrument (λ (i : Instrument). i.global) (λ (i : Instrument). i.zones) b.instruments _ (instrument_indexes 0 b.instruments);
+}
