@@ -11,8 +11,8 @@ use Rattle.generators.specs.Levels.{target_operator}
 use Rattle.generators.specs.declared.level.Level.{Level}
 use Rattle.generators.specs.declared.level.Level.TheVariants as level
 use Rattle.modulators.specs.Modulators.{FitsModulator}
-use Rattle.bank_core.specs.Valid.{IsPreset, IsInstrument, IsSample, IsLink, IsLoop, zone_count, gen_count, mod_count, preset_total, instrument_total, point_total}
-use Rattle.bank_core.specs.Fits.{FitsZone, FitsGlobal, FitsPreset, FitsSample}
+use Rattle.bank_core.specs.Valid.{IsSample, IsLink, IsLoop, zone_count, gen_count, mod_count, preset_total, instrument_total, point_total}
+use Rattle.bank_core.specs.Fits.{FitsZone, FitsGlobal, FitsPreset, FitsInstrument, FitsSample}
 use Rattle.bank_core.specs.declared.parts.Kind.{Kind}
 use Rattle.bank_core.specs.declared.parts.Kind.TheVariants.{Mono, Right, Left, Linked}
 use Rattle.bank_core.specs.declared.parts.GlobalZone.{GlobalZone}
@@ -153,21 +153,21 @@ ends_fit at lt = (
   record { name = refl; start = omega arith; end = omega arith; loop_start = omega arith; loop_end = omega arith; rate = omega arith; key = omega arith; correction = record { sfits = omega arith }; link = omega arith; kind = omega arith },
 )
 
-pub preset_heads_fit : (n at : ℕ) (ps : List Preset) → AllByRecursion (IsPreset n) ps → AllByRecursion FitsPreset ps → at + preset_total zone_count ps ≤ 65535 → AllByRecursion FitsPresetHead (preset_heads_from at ps)
-preset_heads_fit n at [] v f le = ((ends_fit at (omega (arith, le))).0, tt)
-preset_heads_fit n at (p ∷ ps) v f le =
+pub preset_heads_fit : (at : ℕ) (ps : List Preset) → AllByRecursion FitsPreset ps → at + preset_total zone_count ps ≤ 65535 → AllByRecursion FitsPresetHead (preset_heads_from at ps)
+preset_heads_fit at [] f le = ((ends_fit at (omega (arith, le))).0, tt)
+preset_heads_fit at (p ∷ ps) f le =
     let w = sum_by-cons (λ (p : Preset). zone_count p.global p.zones) p ps in
     let z = (holds level.Preset p.global p.zones).zones_are in (
-      record { name = length-filled p.name v.0.name.0; number = f.0.number; bank = f.0.bank; bag = omega (arith, le); library = f.0.library; genre = f.0.genre; morphology = f.0.morphology },
-      preset_heads_fit n (at + length (preset_bags p)) ps v.1 f.1 (omega (arith, w, z, le)),
+      record { name = length-filled p.name f.0.name.0; number = f.0.number; bank = f.0.bank; bag = omega (arith, le); library = f.0.library; genre = f.0.genre; morphology = f.0.morphology },
+      preset_heads_fit (at + length (preset_bags p)) ps f.1 (omega (arith, w, z, le)),
     )
 
-pub instrument_heads_fit : (n at : ℕ) (xs : List Instrument) → AllByRecursion (IsInstrument n) xs → at + instrument_total zone_count xs ≤ 65535 → AllByRecursion FitsInstrumentHead (instrument_heads_from at xs)
-instrument_heads_fit n at [] v le = ((ends_fit at (omega (arith, le))).1, tt)
-instrument_heads_fit n at (x ∷ xs) v le =
+pub instrument_heads_fit : (at : ℕ) (xs : List Instrument) → AllByRecursion FitsInstrument xs → at + instrument_total zone_count xs ≤ 65535 → AllByRecursion FitsInstrumentHead (instrument_heads_from at xs)
+instrument_heads_fit at [] f le = ((ends_fit at (omega (arith, le))).1, tt)
+instrument_heads_fit at (x ∷ xs) f le =
     let w = sum_by-cons (λ (x : Instrument). zone_count x.global x.zones) x xs in
     let z = (holds level.Instrument x.global x.zones).zones_are in
-    (record { name = length-filled x.name v.0.name.0; bag = omega (arith, le) }, instrument_heads_fit n (at + length (instrument_bags x)) xs v.1 (omega (arith, w, z, le)))
+    (record { name = length-filled x.name f.0.name.0; bag = omega (arith, le) }, instrument_heads_fit (at + length (instrument_bags x)) xs f.1 (omega (arith, w, z, le)))
 
 small_kind : (k : Kind) → kind_word k < 2 ^ 16
 small_kind Mono = omega arith

@@ -103,11 +103,11 @@ module _ (b : Parts) (v : IsValid b) where
       let pbags : AllByRecursion FitsBagged (all_preset_bags b) = all-flat_map FitsBagged FitsPreset preset_bags (λ p q. written_fit level.Preset p.global p.zones q.global q.zones) b.presets f.presets in
       let ibags : AllByRecursion FitsBagged (all_instrument_bags b) = all-flat_map FitsBagged FitsInstrument instrument_bags (λ p q. written_fit level.Instrument p.global p.zones q.global q.zones) b.instruments f.instruments in
       record {
-        phdr = preset_heads_fit (length b.instruments) 0 b.presets v.presets f.presets (omega (arith, pz));
+        phdr = preset_heads_fit 0 b.presets f.presets (omega (arith, pz));
         pbag = bags_fit (all_preset_bags b) (omega (arith, eg, pg)) (omega (arith, em, pm));
         pmod = mod_list_fit (all_preset_bags b) pbags;
         pgen = gen_list_fit (all_preset_bags b) pbags;
-        inst = instrument_heads_fit (length b.samples) 0 b.instruments v.instruments (omega (arith, iz));
+        inst = instrument_heads_fit 0 b.instruments f.instruments (omega (arith, iz));
         ibag = bags_fit (all_instrument_bags b) (omega (arith, fg, ig)) (omega (arith, fm, im));
         imod = mod_list_fit (all_instrument_bags b) ibags;
         igen = gen_list_fit (all_instrument_bags b) ibags;

@@ -3,7 +3,7 @@ use Rattle.std.proofs.Common.{◌≡◌, ◌≤◌, ◌<◌, ℕ, ltb, List, [],
 use Rattle.std.specs.Prelude.{sum_by, flat_map}
 use Rattle.std.specs.List.{AllByRecursion}
 use Rattle.std.proofs.lemmas.Bool.{ltb-true}
-use Rattle.sf_base.specs.Names.{IsName, before_zero}
+use Rattle.sf_base.specs.Names.{IsName}
 use Rattle.generators.specs.declared.level.Level.{Level}
 use Rattle.generators.specs.declared.level.Level.TheVariants as level
 use Rattle.bank_core.specs.declared.parts.Zone.{Zone}
@@ -25,8 +25,8 @@ use Rattle.bank_format.specs.Zones.{Bagged}
 use Rattle.bank_format.specs.Reading.{preset_read, instrument_read}
 use Rattle.bank_format.specs.ReadSteps.{target_step}
 use Rattle.bank_format.proofs.StepLemmas.{split_none}
-use Rattle.bank_format.proofs.NameLaws.{before_zero-bytes, length-before_zero}
-use Rattle.bank_format.proofs.ReadBytes.{take_bytes, in_turn}
+use Rattle.bank_format.proofs.ReadBytes.{take_bytes}
+use Rattle.bank_format.proofs.ReadTexts.{name_valid}
 use Rattle.bank_format.proofs.ReadWindows.{all_together, sum-right}
 use Rattle.bank_format.proofs.ReadHeaders.{HasGenerators, zones_hold, global_holds, zones_fit, global_fits, counted, gens_in, mods_in}
 use Rattle.bank_format.proofs.ReadTables.{AllFit, AreWithin}
@@ -54,9 +54,6 @@ preset_heads_read = records-fit 38 preset_head_of ReadPresetHead preset_head_rea
 
 pub instrument_heads_read : (bytes : List ℕ) → AreBytes bytes → AllByRecursion ReadInstrumentHead (records 22 instrument_head_of bytes)
 instrument_heads_read = records-fit 22 instrument_head_of ReadInstrumentHead instrument_head_read
-
-name_valid : (name : List ℕ) → AreBytes name → length name ≡ 20 → IsName (before_zero name)
-name_valid name b e = (omega (arith, e, length-before_zero name), before_zero-bytes name (in_turn name b))
 
 -- ---- facts of lists
 
@@ -118,6 +115,7 @@ module _ (hs : List PresetHead) (ws : List (List Bagged)) where
   presets_fit v k =
       all_together preset_read ReadPresetHead AllFit FitsPreset
       (λ h w r f. record {
+        name = name_valid h.name r.name r.fits.name;
         number = r.fits.number;
         bank = r.fits.bank;
         library = r.fits.library;
@@ -169,11 +167,11 @@ module _ (hs : List InstrumentHead) (ws : List (List Bagged)) where
       (λ x q t. record { name = q.name; zones = record { global = q.global; zones = zones_valid level.Instrument n x.zones q.zones t } })
       instruments (near_instruments v) targets
 
-  pub instruments_fit : AllByRecursion AllFit ws → AllByRecursion FitsInstrument instruments
-  instruments_fit k =
-      all_together instrument_read (λ h. Unit {0}) AllFit FitsInstrument
-      (λ h w u f. record { global = global_fits level.Instrument w f; zones = zones_fit level.Instrument w f })
-      hs ws (nothing_holds hs) k
+  pub instruments_fit : AllByRecursion ReadInstrumentHead hs → AllByRecursion AllFit ws → AllByRecursion FitsInstrument instruments
+  instruments_fit v k =
+      all_together instrument_read ReadInstrumentHead AllFit FitsInstrument
+      (λ h w r f. record { name = name_valid h.name r.name r.fits.name; global = global_fits level.Instrument w f; zones = zones_fit level.Instrument w f })
+      hs ws v k
 
   pub record AreInstrumentsWithin : Type 0 where
     pub zones : instrument_total zone_count instruments ≤ 65535

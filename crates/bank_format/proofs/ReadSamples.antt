@@ -1,5 +1,5 @@
 -- What is read of a sample's head is valid, and fits.
-use Rattle.std.proofs.Common.{◌≡◌, ◌≤◌, ◌<◌, ◌+◌, ◌-◌, ◌/◌, ◌%◌, ℕ, Bool, true, false, cond, eqb, leb, ltb, ◌&&◌, List, [], ◌∷◌, length, drop, map, Some, None, refl, arith}
+use Rattle.std.proofs.Common.{◌≡◌, ◌≤◌, ◌<◌, ◌+◌, ◌-◌, ◌/◌, ◌%◌, ℕ, Bool, true, false, cond, eqb, leb, ltb, ◌&&◌, List, [], ◌∷◌, length, drop, map, Option, Some, None, refl, arith}
 use Rattle.std.specs.Prelude.{sum_by}
 use Rattle.std.specs.List.{AllByRecursion, slice_range}
 use Rattle.std.proofs.lemmas.Bool.{ltb-true, leb-true, and_parts}
@@ -8,7 +8,7 @@ use Rattle.std.proofs.lemmas.List.Sums.{sum_by-cons}
 use Rattle.sample_view.specs.Words.{AreWords}
 use Rattle.sample_view.proofs.WordLemmas.{AreWords-take, AreWords-drop}
 use Rattle.bank_core.specs.Valid.{IsSample, IsLoop, IsLink, point_total}
-use Rattle.bank_core.specs.Fits.{FitsSample}
+use Rattle.bank_core.specs.Fits.{FitsLoop, FitsKind, FitsSample}
 use Rattle.bank_core.specs.declared.parts.Kind.{Kind}
 use Rattle.bank_core.specs.declared.parts.Kind.TheVariants.{Mono, Right, Left, Linked}
 use Rattle.bank_core.specs.declared.parts.Sample.{Sample}
@@ -22,8 +22,8 @@ use Rattle.bank_format.specs.Steps.{first_broken}
 use Rattle.bank_format.specs.Samples.{has_loop, loop_read, link_read, kind_read, sample_read}
 use Rattle.bank_format.specs.ReadSteps.{sample_step, total_steps}
 use Rattle.bank_format.proofs.StepLemmas.{split_none}
-use Rattle.bank_format.proofs.NameLaws.{before_zero-bytes, length-before_zero}
-use Rattle.bank_format.proofs.ReadBytes.{take_bytes, in_turn}
+use Rattle.bank_format.proofs.ReadBytes.{take_bytes}
+use Rattle.bank_format.proofs.ReadTexts.{name_valid}
 
 -- a head that was read of bytes
 pub record ReadHead (h : SampleHead) : Type 0 where
@@ -56,60 +56,68 @@ length-range points a b le inside = omega (arith, length-take (b - a) (drop a po
 
 -- ---- the loop and the kind
 
+module _ (P : Option (ℕ × ℕ) → Type 0) (h : SampleHead) where
+  loop_has : P None → (has_loop h ≡ true → P (Some (h.loop_start - h.start, h.loop_end - h.start))) → P (loop_read h)
+  unfolding loop_read
+  loop_has none some = by_test (has_loop h) refl
+    where
+      by_test : (b : Bool) → has_loop h ≡ b → P (cond b (Some (h.loop_start - h.start, h.loop_end - h.start)) None)
+      by_test false t = none
+      by_test true t = some t
+
 loop_valid : (n : ℕ) (h : SampleHead) → n ≡ h.end - h.start → IsLoop n (loop_read h)
-unfolding loop_read
-loop_valid n h e = by_test (has_loop h) refl
-  where
-    by_test : (b : Bool) → has_loop h ≡ b → IsLoop n (cond b (Some (h.loop_start - h.start, h.loop_end - h.start)) None)
-    by_test false t = tt
-    by_test true t =
-        let last = and_parts (leb h.start h.loop_start && ltb h.loop_start h.loop_end) (leb h.loop_end h.end) t in
-        let first = and_parts (leb h.start h.loop_start) (ltb h.loop_start h.loop_end) last.0 in
-        let p = leb-true _ _ first.0 in
-        let q = ltb-true _ _ first.1 in
-        let r = leb-true _ _ last.1 in
-        (omega (arith, p, q), omega (arith, p, q, r, e))
+loop_valid n h e = loop_has (IsLoop n) h tt (λ t.
+    let last = and_parts (leb h.start h.loop_start && ltb h.loop_start h.loop_end) (leb h.loop_end h.end) t in
+    let first = and_parts (leb h.start h.loop_start) (ltb h.loop_start h.loop_end) last.0 in
+    let p = leb-true _ _ first.0 in
+    let q = ltb-true _ _ first.1 in
+    let r = leb-true _ _ last.1 in
+    (omega (arith, p, q), omega (arith, p, q, r, e)))
 
-link_valid : (n : ℕ) (kind : ℕ → Kind) (link : ℕ) → ((x : ℕ) → x < n → IsLink n (kind x)) → IsLink n (link_read n kind link)
-link_valid n kind link h = by_test (ltb link n) refl
-  where
-    by_test : (b : Bool) → ltb link n ≡ b → IsLink n (cond b (kind link) Mono)
-    by_test true t = h link (ltb-true _ _ t)
-    by_test false t = tt
+loop_fits : (h : SampleHead) → FitsSampleHead h → FitsLoop (loop_read h)
+loop_fits h f = let s = f.loop_start in let e = f.loop_end in loop_has FitsLoop h tt (λ t. (omega (arith, s), omega (arith, e)))
 
-choose : (n : ℕ) (b : Bool) (x y : Kind) → IsLink n x → IsLink n y → IsLink n (cond b x y)
-choose n true x y p q = p
-choose n false x y p q = q
+module _ (P : Kind → Type 0) (mono : P Mono) (n : ℕ) where
+  link_has : (kind : ℕ → Kind) (link : ℕ) → (link < n → P (kind link)) → P (link_read n kind link)
+  link_has kind link h = by_test (ltb link n) refl
+    where
+      by_test : (b : Bool) → ltb link n ≡ b → P (cond b (kind link) Mono)
+      by_test true t = h (ltb-true _ _ t)
+      by_test false t = mono
 
-kind_valid : (n : ℕ) (h : SampleHead) → IsLink n (kind_read n h)
-unfolding kind_read
-kind_valid n h =
-    choose n (eqb h.kind 2) _ _ (link_valid n Right h.link (λ x p. p))
-    (choose n (eqb h.kind 4) _ _ (link_valid n Left h.link (λ x p. p))
-    (choose n (eqb h.kind 8) (link_read n Linked h.link) Mono (link_valid n Linked h.link (λ x p. p)) tt))
+  choose : (b : Bool) (x y : Kind) → P x → P y → P (cond b x y)
+  choose true x y p q = p
+  choose false x y p q = q
+
+  kind_has : (h : SampleHead) → (h.link < n → P (Right h.link)) → (h.link < n → P (Left h.link)) → (h.link < n → P (Linked h.link)) → P (kind_read n h)
+  unfolding kind_read
+  kind_has h right left linked =
+      choose (eqb h.kind 2) _ _ (link_has Right h.link right)
+      (choose (eqb h.kind 4) _ _ (link_has Left h.link left)
+      (choose (eqb h.kind 8) (link_read n Linked h.link) Mono (link_has Linked h.link linked) mono))
 
 -- ---- the sample
-
-name_short : (h : SampleHead) → FitsSampleHead h → length h.name ≤ 20
-name_short h f = let e = f.name in omega (arith, e)
 
 pub sample_valid : (n : ℕ) (points : List ℕ) (h : SampleHead) → ReadHead h → GoodHead (length points) h → IsSample n (sample_read n points h)
 unfolding sample_read
 sample_valid n points h r g =
     let len = length-range points h.start h.end g.order g.inside in
     record {
-      name = ((let a = length-before_zero h.name in let c = name_short h r.fits in omega (arith, a, c)), before_zero-bytes h.name (in_turn h.name r.name));
+      name = name_valid h.name r.name r.fits.name;
       looped = loop_valid (length (slice_range points h.start h.end)) h len;
-      kind = kind_valid n h;
+      kind = kind_has (IsLink n) tt n h (λ p. p) (λ p. p) (λ p. p);
     }
 
 pub sample_fits : (n : ℕ) (points : List ℕ) (h : SampleHead) → AreWords points → ReadHead h → FitsSample (sample_read n points h)
 unfolding sample_read
 sample_fits n points h w r = record {
+  name = name_valid h.name r.name r.fits.name;
   points = AreWords-take (h.end - h.start) (drop h.start points) (AreWords-drop h.start points w);
+  looped = loop_fits h r.fits;
   rate = r.fits.rate;
   key = r.fits.key;
   correction = r.fits.correction;
+  kind = kind_has FitsKind tt n h (λ p. r.fits.link) (λ p. r.fits.link) (λ p. r.fits.link);
 }
 
 -- ---- all samples

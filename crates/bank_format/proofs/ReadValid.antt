@@ -21,6 +21,7 @@ use Rattle.bank_format.specs.Ids.{INFO, SDTA, PDTA, IFIL, SMPL, PHDR, PMOD, PGEN
 use Rattle.bank_format.specs.declared.fault.ReadFault.TheVariants as fault
 use Rattle.bank_format.specs.Windows.{rows}
 use Rattle.bank_format.specs.Tables.{Tables}
+use Rattle.bank_format.specs.Texts.{texts_read}
 use Rattle.bank_format.specs.Samples.{sample_read}
 use Rattle.bank_format.specs.Chunks.{window, chunks_of, body_in, or_zero, tables_in, points_in}
 use Rattle.bank_format.specs.Reading.{preset_windows, instrument_windows, preset_read, instrument_read, bank_of, content_in}
@@ -28,7 +29,7 @@ use Rattle.bank_format.specs.ReadSteps.{sample_step, target_step, target_steps, 
 use Rattle.bank_format.proofs.StepLemmas.{both_none, all_none}
 use Rattle.bank_format.proofs.ReadBytes.{OfBytes, body_bytes, chunk_bytes, window_bytes}
 use Rattle.bank_format.proofs.ReadSamples.{ReadHead, heads_read, GoodHead, samples_valid, samples_fit, point_total-read, total_small}
-use Rattle.bank_format.proofs.ReadTexts.{texts_valid}
+use Rattle.bank_format.proofs.ReadTexts.{texts_valid, texts_fit}
 use Rattle.bank_format.proofs.ReadWindows.{all_taken, length-together-le}
 use Rattle.bank_format.proofs.ReadTables.{windows_fit}
 use Rattle.bank_format.proofs.ReadMembers.{ReadPresetHead, ReadInstrumentHead, preset_heads_read, instrument_heads_read, presets_valid, presets_fit, presets_within, instruments_valid, instruments_fit, instruments_within}
@@ -120,8 +121,9 @@ module _ (info sdta : List Chunk) (t : Tables) (hi : AllByRecursion OfBytes info
   unfolding bank_of preset_windows instrument_windows
   bank_fits = record {
     minor = field_at-lt 2 2 (body_in IFIL info) (body_bytes IFIL info hi);
+    texts = texts_fit (texts_read info) (texts_valid info hi);
     presets = presets_fit (rows t.phdr) (preset_windows t) r.phdr (windows_fit t.pbag t.pgen t.pmod (map (λ (h : PresetHead). h.bag) t.phdr) r.pgen r.pmod);
-    instruments = instruments_fit (rows t.inst) (instrument_windows t) (windows_fit t.ibag t.igen t.imod (map (λ (h : InstrumentHead). h.bag) t.inst) r.igen r.imod);
+    instruments = instruments_fit (rows t.inst) (instrument_windows t) r.inst (windows_fit t.ibag t.igen t.imod (map (λ (h : InstrumentHead). h.bag) t.inst) r.igen r.imod);
     samples = samples_fit (length heads) (points_in sdta) heads points_words r.shdr;
   }
 

@@ -14,7 +14,7 @@ pub fn canonical_files_read_back()
     ensures { (b : Parts) → IsValid b → Fits b → ReadsAs (canon b) b no_counts }
 {}
 
-/// The bank that a file reads as is valid, and its numbers lie in the ranges of their fields.
+/// The bank that a file reads as is valid, and its numbers, names and texts lie in the ranges of their fields.
 pub fn read_banks_are_valid()
     ensures valid { (file : List ℕ) → AreBytes file → fault_of file ≡ None → IsValid (content_in (window file)).bank }
     ensures fits { (file : List ℕ) → AreBytes file → Fits (content_in (window file)).bank }

@@ -1,5 +1,5 @@
 use Rattle.std.proofs.Common.{◌∙◌, ap, subst, sym}
-use Rattle.bank_core.specs.Valid.{IsValid}
+use Rattle.bank_core.specs.Sound.{IsSound}
 use Rattle.bank_core.specs.Fits.{Fits}
 use Rattle.bank_format.specs.Reading.{Content}
 use Rattle.bank_format.specs.ReadSteps.{fault_of}
@@ -34,7 +34,7 @@ from_sound_parts-requires c =
     let bytes = are_bytes file c.type_inv.file in
     let holds = file_holds file c.in_ok-window.window.now c.in_ok-lists.lists c.in_ok-window.ensures.1 c.in_ok-lists.ensures.1 c.in_ok-window.ensures.0 c.in_ok-lists.ensures.0 c.in_ok-parts.ensures.0 in
     let content = c.in_ok-parts.ensures.1 ∙ holds.1 in
-    subst IsValid (sym (ap (λ (k : Content). k.bank) content)) (c.read_banks_are_valid.ensures.valid file bytes holds.0)
+    subst IsSound (sym (ap (λ (k : Content). k.bank) content)) (record { valid = c.read_banks_are_valid.ensures.valid file bytes holds.0; fits = c.read_banks_are_valid.ensures.fits file bytes })
 
 pub returns-clause-ok : goal.returns-clause-ok
 returns-clause-ok c =
