@@ -1,6 +1,6 @@
 use Rattle.std.proofs.lemmas.Result.{err_from_is_err_and}
 use Rattle.sfbank.proofs.Faults.{at_read, reads_bank, at_script, at_line, at_done}
-use Rattle.sfbank.proofs.Restores.{are_bytes, few_edits, restores}
+use Rattle.sfbank.proofs.Restores.{few_edits}
 use Rattle.sfbank.proofs.plan.make_plan.Goals as goal
 
 pub returns-in_err-bank-clause-plans : goal.returns-in_err-bank-clause-plans
@@ -26,9 +26,6 @@ returns-clause-plans c =
     let reads = reads_bank c.args.file.now c.in_ok-bank.bank c.in_ok-bank._counts c.in_ok-bank.ensures.reads.0 c.in_ok-bank.ensures.reads.1 in
     let applied = rw c.as_slice.ensures.value at c.in_ok-undo.ensures in
     at_done c.args.file.now c.args.script.now c.in_ok-bank.bank c.apply_all.new.bank c.in_ok-lines.lines.items c.in_ok-undo.undo.items reads c.in_ok-lines.ensures applied
-
-pub returns-clause-restores : goal.returns-clause-restores
-returns-clause-restores c = restores c.args.file.now c.args.script.now (are_bytes c.args.file.now c.type_inv.file)
 
 pub returns-clause-few : goal.returns-clause-few
 returns-clause-few c =
