@@ -1,7 +1,7 @@
 -- The number and the name by which each fault of reading is told.
 use Rattle.std.specs.Prelude.{ℕ, List, codes}
 use Rattle.bank_format.specs.declared.fault.ReadFault.{ReadFault}
-use Rattle.bank_format.specs.declared.fault.ReadFault.TheVariants.{NotRiff, NotSfbk, Truncated, MissingList, MissingChunk, Version, RecordSize, NoTerminal, BagOrder, IndexOutside, BadInstrument, BadSample, SampleRange, SampleType, RomSample, OddSamples, TooMany, OutOfMemory}
+use Rattle.bank_format.specs.declared.fault.ReadFault.TheVariants.{NotRiff, NotSfbk, Truncated, MissingList, MissingChunk, Version, RecordSize, NoTerminal, BagOrder, IndexOutside, BadInstrument, BadSample, SampleRange, SampleType, RomSample, OddSamples, TooMany}
 
 abbrev pub number_of : ReadFault → ℕ
 number_of NotRiff = 1
@@ -21,7 +21,6 @@ number_of SampleType = 15
 number_of RomSample = 16
 number_of OddSamples = 17
 number_of TooMany = 18
-number_of OutOfMemory = 19
 
 abbrev pub name_of : ReadFault → List ℕ
 name_of NotRiff = codes "NotRiff"
@@ -41,4 +40,3 @@ name_of SampleType = codes "SampleType"
 name_of RomSample = codes "RomSample"
 name_of OddSamples = codes "OddSamples"
 name_of TooMany = codes "TooMany"
-name_of OutOfMemory = codes "OutOfMemory"

@@ -1,7 +1,9 @@
 //! The answers of a reader.
 ghost use Rattle.std.specs.Prelude.{◌≡◌};
+ghost use Rattle.sf_base.specs.declared.memory.Failure.TheVariants as failures;
 ghost use Rattle.bank_format.specs.FaultNames.{number_of, name_of};
 
+use sf_base::Failure;
 use thiserror::Error;
 
 /// The first step of reading that a file breaks.
@@ -41,8 +43,6 @@ pub enum ReadFault {
     OddSamples,
     #[error("there are more records or points than a bank can have")]
     TooMany,
-    #[error("out of memory")]
-    OutOfMemory,
 }
 
 impl ReadFault {
@@ -68,7 +68,6 @@ impl ReadFault {
             ReadFault::RomSample => 16,
             ReadFault::OddSamples => 17,
             ReadFault::TooMany => 18,
-            ReadFault::OutOfMemory => 19,
         }
     }
 
@@ -94,8 +93,15 @@ impl ReadFault {
             ReadFault::RomSample => "RomSample",
             ReadFault::OddSamples => "OddSamples",
             ReadFault::TooMany => "TooMany",
-            ReadFault::OutOfMemory => "OutOfMemory",
         }
+    }
+}
+
+impl From<ReadFault> for Failure<ReadFault> {
+    ghost from_gives = { λ fault failure. failure ≡ failures.Fault fault };
+
+    fn from(fault: ReadFault) -> Failure<ReadFault> {
+        Failure::Fault(fault)
     }
 }
 

@@ -1,5 +1,5 @@
 -- The nine lists, as those of the presets, those of the instruments, and that of the samples.
-use Rattle.std.proofs.Common.{◌≡◌, ◌≤◌, ◌-◌, ◌++◌, ℕ, Bool, true, leb, List, [], ◌∷◌, length, map, None, Result, refl, sym, ap}
+use Rattle.std.proofs.Common.{◌≡◌, ◌≤◌, ◌-◌, ◌++◌, ℕ, Bool, true, leb, List, [], ◌∷◌, length, map, Some, None, Result, refl, sym, ap}
 use Rattle.std.specs.List.{AllByRecursion, list_all}
 use Rattle.std.proofs.lemmas.Bool.{leb-true}
 use Rattle.modulators.specs.declared.modulator.Modulator.{Modulator}
@@ -11,7 +11,7 @@ use Rattle.hydra_records.specs.declared.head.InstrumentHead.{InstrumentHead}
 use Rattle.hydra_records.specs.declared.head.SampleHead.{SampleHead}
 use Rattle.bank_format.specs.declared.fault.ReadFault.{ReadFault}
 use Rattle.bank_format.specs.declared.fault.ReadFault.TheVariants as fault
-use Rattle.bank_format.specs.Steps.{Step, step, first_broken, Fails, Passes}
+use Rattle.bank_format.specs.Steps.{Step, step, first_broken, Passes}
 use Rattle.bank_format.specs.Windows.{windows}
 use Rattle.bank_format.specs.Zones.{Bagged}
 use Rattle.bank_format.specs.Tables.{Tables}
@@ -51,7 +51,7 @@ unfolding all_index_steps index_steps
 index_parts p i s = refl
 
 pub preset_indexes_fail : (p : LevelTables PresetHead) (i : LevelTables InstrumentHead) (s : List SampleHead) (t : Tables) (r : Result (Unit {0}) ReadFault) (e : ReadFault)
-    → seen p i s ≡ t → IsErrAnd r (λ f. f ≡ e) → Fails e (first_broken (preset_indexes p)) → Passes (λ (u : Unit {0}). u) r (all_index_steps t) tt
+    → seen p i s ≡ t → IsErrAnd r (λ f. f ≡ e) → first_broken (preset_indexes p) ≡ Some e → Passes (λ (u : Unit {0}). u) r (all_index_steps t) tt
 preset_indexes_fail p i s t r e is err h =
     rw (← is, index_parts p i s) (passes_front (λ (u : Unit {0}). u) tt r e (preset_indexes p) (instrument_indexes i) err h)
 

@@ -6,9 +6,10 @@ use Rattle.hydra_records.specs.declared.head.PresetHead.{PresetHead}
 use Rattle.hydra_records.specs.declared.head.InstrumentHead.{InstrumentHead}
 use Rattle.bank_core.specs.declared.parts.Preset.{Preset}
 use Rattle.bank_core.specs.declared.parts.Instrument.{Instrument}
+use Rattle.sf_base.specs.declared.memory.Failure.{Failure}
 use Rattle.bank_format.specs.declared.fault.ReadFault.{ReadFault}
 use Rattle.bank_format.specs.declared.fault.ReadFault.TheVariants.{BadInstrument, BadSample}
-use Rattle.bank_format.specs.Steps.{Step, first_broken, Fails, Passes}
+use Rattle.bank_format.specs.Steps.{Step, first_broken, Fails, PassesGivenMemory}
 use Rattle.bank_format.specs.Windows.{rows}
 use Rattle.bank_format.specs.Zones.{Bagged}
 use Rattle.bank_format.specs.Tables.{Tables}
@@ -19,7 +20,7 @@ use Rattle.sf_reader.specs.declared.owners.OwnersRead.{OwnersRead}
 use Rattle.sf_reader.specs.declared.owners.Members.{Members}
 use Rattle.sf_reader.specs.Hydra.{AreLists}
 use Rattle.sf_reader.specs.Owners.{AreSmall, added, windows_of, owners_read, zone_steps, preset_owner, instrument_owner, members_of, member_steps}
-use Rattle.sf_reader.proofs.StepLaws.{passes_by, passes_front, passes_after, none_after}
+use Rattle.sf_reader.proofs.StepLaws.{given_by, given_front, given_after, none_after}
 use Rattle.sf_reader.proofs.HydraLaws.{ModsInside, few_records, windows_are}
 use Rattle.sf_reader.proofs.CountLaws.{counts-few, both-small}
 
@@ -88,15 +89,15 @@ module _ (t : Tables) (p : LevelTables PresetHead) (i : LevelTables InstrumentHe
       ap (λ (ws : List (List Bagged)). owners_read level.Instrument instrument_owner i.heads ws) instrument_bags_are
       ∙ ap (λ (hs : List InstrumentHead). owners_read level.Instrument instrument_owner hs (instrument_windows t)) l.instruments_are.heads_are
 
-  module _ (r : Result Members ReadFault) (e : ReadFault) (is : IsErrAnd r (λ d. d ≡ e)) where
-    pub presets_fail : Fails e (first_broken (preset_steps p instruments)) → Passes (λ (m : Members). m) r (member_steps t) (members_of t)
+  module _ (r : Result Members (Failure ReadFault)) (e : Failure ReadFault) (is : IsErrAnd r (λ d. d ≡ e)) where
+    pub presets_fail : Fails e (first_broken (preset_steps p instruments)) → PassesGivenMemory (λ (m : Members). m) r (member_steps t) (members_of t)
     presets_fail h =
-        passes_front (λ (m : Members). m) (members_of t) r e (preset_part t) (instrument_part t) is (subst (λ (s : List Step). Fails e (first_broken s)) preset_steps_are h)
+        given_front (λ (m : Members). m) (members_of t) r e (preset_part t) (instrument_part t) is (subst (λ (s : List Step). Fails e (first_broken s)) preset_steps_are h)
 
-    pub instruments_fail : first_broken (preset_steps p instruments) ≡ None → Fails e (first_broken (instrument_steps i samples)) → Passes (λ (m : Members). m) r (member_steps t) (members_of t)
+    pub instruments_fail : first_broken (preset_steps p instruments) ≡ None → Fails e (first_broken (instrument_steps i samples)) → PassesGivenMemory (λ (m : Members). m) r (member_steps t) (members_of t)
     instruments_fail none h =
-        passes_after (λ (m : Members). m) (members_of t) r (preset_part t) (instrument_part t) (sym (ap first_broken preset_steps_are) ∙ none)
-        (passes_by (λ (m : Members). m) (members_of t) r e (instrument_part t) is (subst (λ (s : List Step). Fails e (first_broken s)) instrument_steps_are h))
+        given_after (λ (m : Members). m) (members_of t) r (preset_part t) (instrument_part t) (sym (ap first_broken preset_steps_are) ∙ none)
+        (given_by (λ (m : Members). m) (members_of t) r e (instrument_part t) is (subst (λ (s : List Step). Fails e (first_broken s)) instrument_steps_are h))
 
   pub members_hold : (presets : OwnersRead Preset) (of_instruments : OwnersRead Instrument) → first_broken (preset_steps p instruments) ≡ None → presets ≡ presets_of p
       → first_broken (instrument_steps i samples) ≡ None → of_instruments ≡ instruments_of i

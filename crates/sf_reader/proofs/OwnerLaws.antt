@@ -1,5 +1,5 @@
 -- The presets or the instruments, one head after the other.
-use Rattle.std.proofs.Common.{◌≡◌, ◌+◌, ◌-◌, ◌∙◌, ℕ, suc, true, false, List, [], ◌∷◌, ◌++◌, length, map, None, Option, Result, refl, sym, ap, subst, append_assoc, arith}
+use Rattle.std.proofs.Common.{◌≡◌, ◌+◌, ◌-◌, ◌∙◌, ℕ, suc, true, false, List, [], ◌∷◌, ◌++◌, length, map, Some, None, Option, Result, refl, sym, ap, subst, append_assoc, arith}
 use Rattle.std.specs.Prelude.{flat_map, nat_lt}
 use Rattle.std.specs.List.{slice_range, list_all}
 use Rattle.std.specs.Result.{IsErrAnd}
@@ -10,8 +10,9 @@ use Rattle.hydra_records.specs.declared.zone.Bag.{Bag}
 use Rattle.hydra_records.specs.declared.zone.Generator.{Generator}
 use Rattle.bank_core.specs.declared.parts.GlobalZone.{GlobalZone}
 use Rattle.bank_core.specs.declared.parts.Zone.{Zone}
+use Rattle.sf_base.specs.declared.memory.Failure.{Failure}
 use Rattle.bank_format.specs.declared.fault.ReadFault.{ReadFault}
-use Rattle.bank_format.specs.Steps.{Step, first_broken, Fails, Passes}
+use Rattle.bank_format.specs.Steps.{Step, first_broken, Fails, PassesGivenMemory}
 use Rattle.bank_format.specs.Windows.{windows, together, rows}
 use Rattle.bank_format.specs.Zones.{Bagged, zones_read, ignored, gens_dropped, ranges_mended}
 use Rattle.bank_format.specs.Reading.{bags_in}
@@ -20,7 +21,7 @@ use Rattle.zone_reader.specs.declared.zones.ZoneCounts.{ZoneCounts}
 use Rattle.zone_reader.specs.Bags.{counts_read}
 use Rattle.sf_reader.specs.declared.owners.OwnerRead.{OwnerRead}
 use Rattle.sf_reader.specs.Owners.{AreSmall, added, counts_over, made_of, owner_read, zone_steps}
-use Rattle.sf_reader.proofs.StepLaws.{first_broken-append, fails_front, fails_itself, passes_by, same_fault}
+use Rattle.sf_reader.proofs.StepLaws.{first_broken-append, fails_front, given_by, same_fault}
 use Rattle.sf_reader.proofs.CountLaws.{AreFew, part-small}
 use Rattle.sf_reader.proofs.WindowLaws.{slice-bags_in}
 
@@ -31,8 +32,8 @@ pub targets_there : (targets : ℕ) (missing : ReadFault) (zones : List Zone) �
 targets_there targets missing zones all = rw (same_fault (λ (z : Zone). nat_lt z.target targets) missing zones, all) refl
 
 pub target_missing : (targets : ℕ) (missing : ReadFault) (zones : List Zone) → list_all (λ (z : Zone). nat_lt z.target targets) zones ≡ false
-    → Fails missing (first_broken (map (target_step targets missing) zones))
-target_missing targets missing zones none = rw (same_fault (λ (z : Zone). nat_lt z.target targets) missing zones, none) (fails_itself missing)
+    → first_broken (map (target_step targets missing) zones) ≡ Some missing
+target_missing targets missing zones none = rw (same_fault (λ (z : Zone). nat_lt z.target targets) missing zones, none) refl
 
 -- ---- counts
 
@@ -117,12 +118,12 @@ module _ {H O : Type 0} (at : Level) (targets : ℕ) (missing : ReadFault) (firs
         }
 
     -- one of its zones names no target
-    pub left_fails : {Y Z : Type 0} (view : Y → Z) (value : Z) (r : Result Y ReadFault) (e : ReadFault) → IsErrAnd r (λ d. d ≡ e)
-        → Fails e (first_broken (map (target_step targets missing) (zones_read at (between h n)))) → Passes view r (zone_steps at targets missing all) value
+    pub left_fails : {Y Z : Type 0} (view : Y → Z) (value : Z) (r : Result Y (Failure ReadFault)) (e : Failure ReadFault) → IsErrAnd r (λ d. d ≡ e)
+        → Fails e (first_broken (map (target_step targets missing) (zones_read at (between h n)))) → PassesGivenMemory view r (zone_steps at targets missing all) value
     left_fails view value r e is h_fails =
         let rest = windows table (map first_bag (n ∷ ns)) in
         let here = fails_front e (map (target_step targets missing) (zones_read at (between h n))) (zone_steps at targets missing rest) h_fails in
-        passes_by view value r e (zone_steps at targets missing all) is
+        given_by view value r e (zone_steps at targets missing all) is
         (subst (λ (b : Option ReadFault). Fails e b) (ap first_broken (sym (zone_steps-next at targets missing (between h n) rest)) ∙ left.steps_are) here)
 
     -- its counts can be added
@@ -141,10 +142,10 @@ bags_between bags part gens mods i j from to is first next =
     ap (λ (l : List Bag). bags_in l gens mods) (is ∙ ap (λ (n : ℕ). slice_range bags n (j + 1)) first ∙ ap (λ (n : ℕ). slice_range bags from (n + 1)) next)
     ∙ sym (slice-bags_in bags gens mods from to)
 
-pub targets_fail : {Y Z : Type 0} (view : Y → Z) (value : Z) (r : Result Y ReadFault) (e : ReadFault) (targets : ℕ) (fault missing : ReadFault) (found zones : List Zone)
-    → fault ≡ missing → found ≡ zones → IsErrAnd r (λ d. d ≡ e) → Fails e (first_broken (map (target_step targets fault) found)) → Passes view r (map (target_step targets missing) zones) value
+pub targets_fail : {Y Z : Type 0} (view : Y → Z) (value : Z) (r : Result Y (Failure ReadFault)) (e : Failure ReadFault) (targets : ℕ) (fault missing : ReadFault) (found zones : List Zone)
+    → fault ≡ missing → found ≡ zones → IsErrAnd r (λ d. d ≡ e) → Fails e (first_broken (map (target_step targets fault) found)) → PassesGivenMemory view r (map (target_step targets missing) zones) value
 targets_fail view value r e targets fault missing found zones same is err h =
-    passes_by view value r e (map (target_step targets missing) zones) err
+    given_by view value r e (map (target_step targets missing) zones) err
     (subst (λ (l : List Step). Fails e (first_broken l)) (ap (λ (f : ReadFault). map (target_step targets f) found) same ∙ ap (map (target_step targets missing)) is) h)
 
 pub targets_hold : (targets : ℕ) (fault missing : ReadFault) (found zones : List Zone)

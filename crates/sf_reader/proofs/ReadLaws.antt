@@ -1,9 +1,10 @@
 -- The steps of a file, part after part.
 use Rattle.std.proofs.Common.{◌≡◌, ◌++◌, ◌∙◌, ℕ, List, [], ◌∷◌, map, None, Result, Ok, Err, refl, sym, ap, subst}
 use Rattle.sf_base.specs.Fields.{field_at}
+use Rattle.sf_base.specs.declared.memory.Failure.{Failure}
 use Rattle.bank_format.specs.declared.fault.ReadFault.{ReadFault}
 use Rattle.bank_format.specs.Ids.{IFIL, SMPL}
-use Rattle.bank_format.specs.Steps.{Step, first_broken, Fails, Passes}
+use Rattle.bank_format.specs.Steps.{Step, first_broken, Fails, PassesGivenMemory}
 use Rattle.bank_format.specs.Tables.{Tables}
 use Rattle.bank_format.specs.Chunks.{window, body_in, tables_in, points_in}
 use Rattle.bank_format.specs.Reading.{Content, bank_of, counts_of, content_in}
@@ -69,7 +70,7 @@ pub record Cut (w : Windows) (version : List ℕ) (bodies : Bodies) (minor : ℕ
 
 -- ---- a fault of a part is that of the lists
 
-module _ (w : Windows) (e : ReadFault) where
+module _ (w : Windows) (e : Failure ReadFault) where
   pub in_there : Fails e (first_broken (version_there w)) → Fails e (first_broken (list_content_steps w))
   in_there h = rw lists_in_parts (fails_front e (version_there w) (from_nine w) h)
 
@@ -124,8 +125,8 @@ lists_hold w version bodies minor t smpl k none =
     )
 
 -- the tables pass, and so do the lists
-pub tables_pass : {X : Type 0} (seen : X → Content) (r : Result X ReadFault) (w : Windows) (version : List ℕ) (bodies : Bodies) (minor : ℕ) (t : Tables) (smpl : List ℕ)
-    → Cut w version bodies minor t smpl → Passes seen r (table_steps t smpl) (table_content minor w t smpl) → Passes seen r (list_content_steps w) (list_content w)
+pub tables_pass : {X : Type 0} (seen : X → Content) (r : Result X (Failure ReadFault)) (w : Windows) (version : List ℕ) (bodies : Bodies) (minor : ℕ) (t : Tables) (smpl : List ℕ)
+    → Cut w version bodies minor t smpl → PassesGivenMemory seen r (table_steps t smpl) (table_content minor w t smpl) → PassesGivenMemory seen r (list_content_steps w) (list_content w)
 tables_pass seen (Ok x) w version bodies minor t smpl k h =
     let hold = lists_hold w version bodies minor t smpl k h.0 in
     (hold.0, h.1 ∙ hold.1)
@@ -156,7 +157,7 @@ file_holds file w v ew ev frame lists inside =
 
 -- ---- a fault of a part is that of the file
 
-module _ (file : List ℕ) (e : ReadFault) where
+module _ (file : List ℕ) (e : Failure ReadFault) where
   abbrev rest : List Step
   rest = list_steps (window file) ++ list_content_steps (windows_in (window file))
 

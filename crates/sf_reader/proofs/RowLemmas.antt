@@ -12,9 +12,9 @@ use Rattle.std.proofs.lemmas.Iterator.Consumers.{YieldsList-from_first}
 use Rattle.hydra_records.specs.declared.head.SampleHead.{SampleHead}
 use Rattle.bank_format.specs.declared.fault.ReadFault.{ReadFault}
 use Rattle.bank_format.specs.declared.fault.ReadFault.TheVariants.{TooMany}
-use Rattle.bank_format.specs.Steps.{Step, first_broken, Fails, Passes}
+use Rattle.bank_format.specs.Steps.{Step, first_broken, Passes}
 use Rattle.bank_format.specs.ReadSteps.{total_steps}
-use Rattle.sf_reader.proofs.StepLaws.{first_broken-append, fails_front, passes_by}
+use Rattle.sf_reader.proofs.StepLaws.{first_broken-append, first_broken-front, passes_by}
 
 -- the next of at most n is x, and at most m of the others come after it
 module _ {X : Type 0} (n m : ℕ) (xs ys : List X) (x : X) (next : xs ≡ x ∷ ys) (fewer : m + 1 ≡ n) where
@@ -29,10 +29,10 @@ module _ {X : Type 0} (n m : ℕ) (xs ys : List X) (x : X) (next : xs ≡ x ∷ 
 
   -- one of its steps is broken
   pub steps_fail : {Y : Type 0} (view : Y → Unit {0}) (f : X → List Step) (r : Result Y ReadFault) (e : ReadFault) (whole : List Step)
-      → IsErrAnd r (λ d. d ≡ e) → Fails e (first_broken (f x)) → first_broken (flat_map f (take n xs)) ≡ first_broken whole → Passes view r whole tt
+      → IsErrAnd r (λ d. d ≡ e) → first_broken (f x) ≡ Some e → first_broken (flat_map f (take n xs)) ≡ first_broken whole → Passes view r whole tt
   steps_fail view f r e whole is h so_far =
       let all = ap (λ (l : List X). first_broken (flat_map f l)) take-next in
-      passes_by view tt r e whole is (subst (λ (b : Option ReadFault). Fails e b) (sym all ∙ so_far) (fails_front e (f x) (flat_map f (take m ys)) h))
+      passes_by view tt r e whole is (sym so_far ∙ all ∙ first_broken-front (f x) (flat_map f (take m ys)) e h)
 
   -- a sum over them
   pub sum_more : (f : X → ℕ) (total here whole : ℕ) → here ≡ f x → total + sum_by f (take n xs) ≡ whole → total + here + sum_by f (take m ys) ≡ whole

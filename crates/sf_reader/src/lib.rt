@@ -14,6 +14,7 @@ mod texts;
 
 pub use bank_format::{Counts, ReadFault};
 pub use reader::read;
+pub use sf_base::Failure;
 
 #[cfg(test)]
 mod step_tests;

@@ -1,7 +1,7 @@
 //! The presets and the instruments of a file, with their zones (SoundFont 2.04, sections 7.2 to 7.9).
 ghost use Rattle.std.specs.Prelude.{◌≡◌, ◌≤◌, None, length, map, nat_lt};
 ghost use Rattle.std.specs.List.{list_all};
-ghost use Rattle.bank_format.specs.Steps.{Passes, first_broken};
+ghost use Rattle.bank_format.specs.Steps.{Passes, PassesGivenMemory, first_broken};
 ghost use Rattle.bank_format.specs.Zones.{zones_read};
 ghost use Rattle.bank_format.specs.ReadSteps.{count_steps, all_index_steps, target_step};
 ghost use Rattle.sf_reader.specs.Owners.{added, AreSmall, window_of, windows_of, owner_read, owners_read, zone_steps, members_of, member_steps};
@@ -11,6 +11,7 @@ use crate::hydra::{LevelTables, Tables};
 use bank_core::{Instrument, Preset, Zone};
 use bank_format::ReadFault;
 use numbered_lists::NumberedList;
+use sf_base::Failure;
 use std::alloc::Global;
 use zone_reader::{BagsRead, ZoneCounts, read_bags};
 
@@ -39,10 +40,10 @@ pub(crate) struct Members {
 }
 
 /// The presets and the instruments, each zone of which names a target that is there.
-pub(crate) fn read_members(alloc: Global, tables: &Tables) -> Result<Members, ReadFault>
+pub(crate) fn read_members(alloc: Global, tables: &Tables) -> Result<Members, Failure<ReadFault>>
     requires counts { first_broken (count_steps tables.now) ≡ None }
     requires indexes { first_broken (all_index_steps tables.now) ≡ None }
-    ensures { Passes (λ members. members) result (member_steps tables.now) (members_of tables.now) }
+    ensures { PassesGivenMemory (λ members. members) result (member_steps tables.now) (members_of tables.now) }
 {
     let presets = read_owners(
         alloc,
@@ -61,11 +62,11 @@ fn read_owners<H: OwnerHead>(
     alloc: Global,
     level: &LevelTables<H>,
     targets: usize,
-) -> Result<OwnersRead<H::Owner>, ReadFault>
+) -> Result<OwnersRead<H::Owner>, Failure<ReadFault>>
     requires heads { length level.now.heads ≤ 65536 }
     requires bags { length level.now.bags ≤ 65536 }
     requires generators { length level.now.generators ≤ 65536 }
-    ensures { Passes (λ read. read) result (zone_steps H.LEVEL targets H.MISSING (windows_of H.first_bag level.now))
+    ensures { PassesGivenMemory (λ read. read) result (zone_steps H.LEVEL targets H.MISSING (windows_of H.first_bag level.now))
         (owners_read H.LEVEL H.owner level.now.heads (windows_of H.first_bag level.now)) }
 {
     let mut counts = ZoneCounts {
@@ -73,9 +74,7 @@ fn read_owners<H: OwnerHead>(
         gens: 0,
         ranges: 0,
     };
-    let Ok(mut owners) = Vec::with_capacity(alloc, row_count(&level.heads)) else {
-        return Err(ReadFault::OutOfMemory);
-    };
+    let mut owners = Vec::with_capacity(alloc, row_count(&level.heads))?;
     let mut heads = level.heads.iter();
     let Some(mut head) = heads.next() else {
         return Ok(OwnersRead {
@@ -86,9 +85,7 @@ fn read_owners<H: OwnerHead>(
     for next in heads {
         let read = read_owner(alloc, level, &head, &next, targets)?;
         counts = add(counts, read.counts);
-        let Ok(()) = owners.push(read.owner) else {
-            return Err(ReadFault::OutOfMemory);
-        };
+        owners.push(read.owner)?;
         head = next;
     }
     Ok(OwnersRead {
@@ -104,27 +101,21 @@ fn read_owner<H: OwnerHead>(
     head: &H,
     next: &H,
     targets: usize,
-) -> Result<OwnerRead<H::Owner>, ReadFault>
+) -> Result<OwnerRead<H::Owner>, Failure<ReadFault>>
     requires bags { length level.now.bags ≤ 65536 }
     requires generators { length level.now.generators ≤ 65536 }
-    ensures { Passes (λ read. read) result
+    ensures { PassesGivenMemory (λ read. read) result
         (map (target_step targets H.MISSING) (zones_read H.LEVEL (window_of H.first_bag level.now head.now next.now)))
         (owner_read H.LEVEL H.owner head.now (window_of H.first_bag level.now head.now next.now)) }
 {
     let bags = level
         .bags
         .part(head.first_bag() as usize, next.first_bag() as usize + 1);
-    let read = read_bags(alloc, H::LEVEL, &bags, &level.generators, &level.modulators);
-    let Ok(
-        BagsRead {
-            global,
-            zones,
-            counts,
-        },
-    ) = read
-    else {
-        return Err(ReadFault::OutOfMemory);
-    };
+    let BagsRead {
+        global,
+        zones,
+        counts,
+    } = read_bags(alloc, H::LEVEL, &bags, &level.generators, &level.modulators)?;
     check_targets(zones.as_slice(), targets, H::MISSING)?;
     Ok(OwnerRead {
         owner: head.owner(global, zones),

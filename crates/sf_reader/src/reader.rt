@@ -4,7 +4,7 @@ ghost use Rattle.sf_base.specs.Fields.{field_at};
 ghost use Rattle.bank_core.specs.Valid.{IsValid};
 ghost use Rattle.bank_core.specs.Fits.{Fits};
 ghost use Rattle.bank_format.specs.Ids.{SMPL};
-ghost use Rattle.bank_format.specs.Steps.{Passes, Fails};
+ghost use Rattle.bank_format.specs.Steps.{Passes, PassesGivenMemory, Fails};
 ghost use Rattle.bank_format.specs.Chunks.{body_in};
 ghost use Rattle.bank_format.specs.Reading.{sm24_dropped};
 ghost use Rattle.bank_format.specs.ReadSteps.{ReadsAs, fault_of};
@@ -23,18 +23,18 @@ use bank_core::{Bank, Parts, Sample};
 use bank_format::{Counts, ReadFault, read_banks_are_valid};
 use numbered_lists::NumberedList;
 use riff_chunks::body_of;
-use sf_base::{OutOfMemory, u16_at};
+use sf_base::{Failure, u16_at};
 use std::alloc::Global;
 
 /// The bank of a file, and the counts of what was dropped or mended; or the fault of the first step
-/// of reading that the file breaks. `OutOfMemory` may come in place of either, where memory for the
+/// of reading that the file breaks. Want of memory may come in place of either, where memory for the
 /// presets, instruments or samples was refused.
 ///
 /// The bank borrows the file: its texts and the points of its samples are slices of it. No bank
 /// is read that is not valid.
-pub fn read<'a>(alloc: Global, file: &'a [u8]) -> Result<(Bank<'a>, Counts), ReadFault>
+pub fn read<'a>(alloc: Global, file: &'a [u8]) -> Result<(Bank<'a>, Counts), Failure<ReadFault>>
     ensures ok { IfOk result (λ r. ReadsAs file.now r.0 r.1) }
-    ensures err { IfErr result (λ fault. Fails fault (fault_of file.now)) }
+    ensures err { IfErr result (λ failure. Fails failure (fault_of file.now)) }
     ensures valid { IfOk result (λ r. IsValid r.0) }
     ensures fits { IfOk result (λ r. Fits r.0) }
 {
@@ -46,8 +46,11 @@ pub fn read<'a>(alloc: Global, file: &'a [u8]) -> Result<(Bank<'a>, Counts), Rea
 }
 
 // What the three lists hold.
-fn read_lists<'a>(alloc: Global, lists: &Lists<'a>) -> Result<(Parts<'a>, Counts), ReadFault>
-    ensures { Passes (λ r. record { bank = r.0; counts = r.1 }) result (list_content_steps lists.now)
+fn read_lists<'a>(
+    alloc: Global,
+    lists: &Lists<'a>,
+) -> Result<(Parts<'a>, Counts), Failure<ReadFault>>
+    ensures { PassesGivenMemory (λ r. record { bank = r.0; counts = r.1 }) result (list_content_steps lists.now)
         (list_content lists.now) }
 {
     let version = needed_body(lists.info, *b"ifil")?;
@@ -83,17 +86,15 @@ fn read_tables<'a>(
     lists: &Lists<'a>,
     tables: &Tables,
     smpl: &'a [u8],
-) -> Result<(Parts<'a>, Counts), ReadFault>
-    ensures { Passes (λ r. record { bank = r.0; counts = r.1 }) result (table_steps tables.now smpl.now)
+) -> Result<(Parts<'a>, Counts), Failure<ReadFault>>
+    ensures { PassesGivenMemory (λ r. record { bank = r.0; counts = r.1 }) result (table_steps tables.now smpl.now)
         (table_content minor lists.now tables.now smpl.now) }
 {
     check_tables(tables, smpl)?;
     let members = read_members(alloc, tables)?;
     check_total(tables.samples())?;
-    match read_samples(alloc, tables.samples(), smpl) {
-        Ok(samples) => Ok(content_of(minor, lists, tables, members, samples)),
-        Err(OutOfMemory) => Err(ReadFault::OutOfMemory),
-    }
+    let samples = read_samples(alloc, tables.samples(), smpl)?;
+    Ok(content_of(minor, lists, tables, members, samples))
 }
 
 // What is asked of the nine lists and the points before presets and instruments are read.

@@ -1,4 +1,5 @@
 use Rattle.std.proofs.Common.{◌∙◌, ap}
+use Rattle.sf_base.specs.declared.memory.Failure.TheVariants.{Fault}
 use Rattle.bank_format.specs.Zones.{zones_read}
 use Rattle.zone_reader.specs.declared.zones.BagsRead.{BagsRead}
 use Rattle.zone_reader.specs.Bags.{bags_read}
@@ -12,10 +13,10 @@ returns-in_err-check_targets g c =
     let w = window_of g.H.OwnerHead.first_bag l c.args.head.now c.args.next.now in
     let bags = bags_between l.bags c.part-bags.result l.generators l.modulators c.first_bag.result c.first_bag-2.result (g.H.OwnerHead.first_bag c.args.head.now) (g.H.OwnerHead.first_bag c.args.next.now)
     c.part-bags.ensures c.first_bag.ensures c.first_bag-2.ensures in
-    let read = c.in-Ok.ensures ∙ ap (bags_read c.LEVEL.result) bags ∙ ap (λ at. bags_read at w) c.LEVEL.ensures in
+    let read = c.in_ok-global.ensures ∙ ap (bags_read c.LEVEL.result) bags ∙ ap (λ at. bags_read at w) c.LEVEL.ensures in
     let zones = c.as_slice.ensures ∙ ap (λ (r : BagsRead). r.zones) read in
-    targets_fail (λ r. r) _ c.from_residual.result c.in_err-check_targets.field-0.0 c.args.targets c.MISSING.result g.H.OwnerHead.MISSING c.as_slice.result.now (zones_read g.H.OwnerHead.LEVEL w)
-    c.MISSING.ensures zones c.from_residual.ensures.1 c.in_err-check_targets.ensures
+    targets_fail (λ r. r) _ c.from_residual-in_err-check_targets.result (Fault c.in_err-check_targets.field-0.0) c.args.targets c.MISSING.result g.H.OwnerHead.MISSING c.as_slice.result.now (zones_read g.H.OwnerHead.LEVEL w)
+    c.MISSING.ensures zones c.from_residual-in_err-check_targets.ensures.1 c.in_err-check_targets.ensures
 
 pub returns : goal.returns
 returns g c =
@@ -23,7 +24,7 @@ returns g c =
     let w = window_of g.H.OwnerHead.first_bag l c.args.head.now c.args.next.now in
     let bags = bags_between l.bags c.part-bags.result l.generators l.modulators c.first_bag.result c.first_bag-2.result (g.H.OwnerHead.first_bag c.args.head.now) (g.H.OwnerHead.first_bag c.args.next.now)
     c.part-bags.ensures c.first_bag.ensures c.first_bag-2.ensures in
-    let read = c.in-Ok.ensures ∙ ap (bags_read c.LEVEL.result) bags ∙ ap (λ at. bags_read at w) c.LEVEL.ensures in
+    let read = c.in_ok-global.ensures ∙ ap (bags_read c.LEVEL.result) bags ∙ ap (λ at. bags_read at w) c.LEVEL.ensures in
     let zones = c.as_slice.ensures ∙ ap (λ (r : BagsRead). r.zones) read in
     let made = c.owner.ensures ∙ ap (λ (r : BagsRead). g.H.OwnerHead.owner c.args.head.now r.global r.zones) read in (
       targets_hold c.args.targets c.MISSING.result g.H.OwnerHead.MISSING c.as_slice.result.now (zones_read g.H.OwnerHead.LEVEL w) c.MISSING.ensures zones c.in_ok-check_targets.ensures.0,

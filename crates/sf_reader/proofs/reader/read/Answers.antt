@@ -1,4 +1,5 @@
 use Rattle.std.proofs.Common.{◌∙◌, ap, subst, sym}
+use Rattle.sf_base.specs.declared.memory.Failure.TheVariants.{Fault}
 use Rattle.bank_core.specs.Sound.{IsSound}
 use Rattle.bank_core.specs.Fits.{Fits}
 use Rattle.bank_format.specs.Reading.{Content}
@@ -11,13 +12,13 @@ use Rattle.sf_reader.proofs.reader.read.Goals as goal
 pub returns-in_err-window-clause-err : goal.returns-in_err-window-clause-err
 returns-in_err-window-clause-err c =
     let file = c.args.file.now in
-    let e = c.in_err-window.field-0.0 in
+    let e = Fault c.in_err-window.field-0.0 in
     fails_by c.from_residual.result e (fault_of file) c.from_residual.ensures.1 (in_frame file e c.in_err-window.ensures)
 
 pub returns-in_err-lists-clause-err : goal.returns-in_err-lists-clause-err
 returns-in_err-lists-clause-err c =
     let file = c.args.file.now in
-    let e = c.in_err-lists.field-0.0 in
+    let e = Fault c.in_err-lists.field-0.0 in
     fails_by c.from_residual-in_err-lists.result e (fault_of file) c.from_residual-in_err-lists.ensures.1
     (in_lists file e c.in_ok-window.window.now c.in_ok-window.ensures.1 c.in_ok-window.ensures.0 c.in_err-lists.ensures)
 

@@ -1,14 +1,16 @@
 use Rattle.std.proofs.Common.{◌≡◌, ℕ, List, Result, sym, subst}
 use Rattle.std.specs.Result.{IsErrAnd}
+use Rattle.sf_base.specs.declared.memory.Failure.{Failure}
+use Rattle.sf_base.specs.declared.memory.Failure.TheVariants.{Fault}
 use Rattle.bank_core.specs.declared.parts.Parts.{Parts}
 use Rattle.bank_format.specs.declared.fault.Counts.{Counts}
 use Rattle.bank_format.specs.declared.fault.ReadFault.{ReadFault}
 use Rattle.bank_format.specs.Ids.{IFIL}
-use Rattle.bank_format.specs.Steps.{first_broken, Fails, Passes}
+use Rattle.bank_format.specs.Steps.{first_broken, Fails, PassesGivenMemory}
 use Rattle.bank_format.specs.Reading.{Content}
 use Rattle.sf_reader.specs.Lists.{Windows}
 use Rattle.sf_reader.specs.Content.{list_content_steps, list_content, table_steps, table_content}
-use Rattle.sf_reader.proofs.StepLaws.{passes_by}
+use Rattle.sf_reader.proofs.StepLaws.{given_by}
 use Rattle.sf_reader.proofs.ReadLaws.{Opened, Cut, in_there, in_nine, in_version, in_whole, tables_pass}
 use Rattle.sf_reader.proofs.reader.read_lists.Goals as goal
 
@@ -20,17 +22,17 @@ abbrev windows : List ℕ → List ℕ → List ℕ → Windows
 windows info sdta pdta = record { info = info; sdta = sdta; pdta = pdta }
 
 -- a fault of the windows v, which are those of the lists
-stops : (r : Result (Parts × Counts) ReadFault) (e : ReadFault) (v w : Windows) → v ≡ w → IsErrAnd r (λ d. d ≡ e) → Fails e (first_broken (list_content_steps v))
-    → Passes seen r (list_content_steps w) (list_content w)
+stops : (r : Result (Parts × Counts) (Failure ReadFault)) (e : Failure ReadFault) (v w : Windows) → v ≡ w → IsErrAnd r (λ d. d ≡ e) → Fails e (first_broken (list_content_steps v))
+    → PassesGivenMemory seen r (list_content_steps w) (list_content w)
 stops r e v w same is h =
-    passes_by seen (list_content w) r e (list_content_steps w) is (subst (λ (u : Windows). Fails e (first_broken (list_content_steps u))) same h)
+    given_by seen (list_content w) r e (list_content_steps w) is (subst (λ (u : Windows). Fails e (first_broken (list_content_steps u))) same h)
 
 pub returns-in_err-version : goal.returns-in_err-version
 unfolding IFIL
 returns-in_err-version c =
     let v = c.lists.inside in
     let w = windows v.info.now v.sdta.now v.pdta.now in
-    let e = c.in_err-version.field-0.0 in
+    let e = Fault c.in_err-version.field-0.0 in
     stops c.from_residual.result e w c.args.lists.now c.lists.view_is c.from_residual.ensures.1 (in_there w e c.in_err-version.ensures)
 
 pub returns-in_err-bodies : goal.returns-in_err-bodies
@@ -38,7 +40,7 @@ unfolding IFIL
 returns-in_err-bodies c =
     let v = c.lists.inside in
     let w = windows v.info.now v.sdta.now v.pdta.now in
-    let e = c.in_err-bodies.field-0.0 in
+    let e = Fault c.in_err-bodies.field-0.0 in
     stops c.from_residual-in_err-bodies.result e w c.args.lists.now c.lists.view_is c.from_residual-in_err-bodies.ensures.1
     (in_nine w e c.in_ok-version.ensures.0 c.in_err-bodies.ensures)
 
@@ -47,7 +49,7 @@ unfolding IFIL
 returns-in_err-minor c =
     let v = c.lists.inside in
     let w = windows v.info.now v.sdta.now v.pdta.now in
-    let e = c.in_err-minor.field-0.0 in
+    let e = Fault c.in_err-minor.field-0.0 in
     let opened : Opened w c.in_ok-version.version.now c.in_ok-bodies.bodies = record {
       there = c.in_ok-version.ensures.0;
       version_is = c.in_ok-version.ensures.1;
@@ -62,7 +64,7 @@ unfolding IFIL
 returns-in_err-tables c =
     let v = c.lists.inside in
     let w = windows v.info.now v.sdta.now v.pdta.now in
-    let e = c.in_err-tables.field-0.0 in
+    let e = Fault c.in_err-tables.field-0.0 in
     let opened : Opened w c.in_ok-version.version.now c.in_ok-bodies.bodies = record {
       there = c.in_ok-version.ensures.0;
       version_is = c.in_ok-version.ensures.1;
@@ -96,6 +98,6 @@ returns c =
       smpl_is = c.smpl_of-smpl.ensures;
     } in
     let same = c.lists.view_is in
-    subst (λ (u : Windows). Passes seen r (list_content_steps u) (list_content u)) same
+    subst (λ (u : Windows). PassesGivenMemory seen r (list_content_steps u) (list_content u)) same
     (tables_pass seen r w c.in_ok-version.version.now c.in_ok-bodies.bodies minor t smpl found
-    (subst (λ (u : Windows). Passes seen r (table_steps t smpl) (table_content minor u t smpl)) (sym same) c.read_tables.ensures))
+    (subst (λ (u : Windows). PassesGivenMemory seen r (table_steps t smpl) (table_content minor u t smpl)) (sym same) c.read_tables.ensures))
