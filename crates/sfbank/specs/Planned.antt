@@ -4,8 +4,6 @@ use Rattle.std.specs.List.{AllByRecursion}
 use Rattle.sf_base.specs.declared.memory.Failure.{Failure}
 use Rattle.sf_base.specs.declared.memory.Failure.TheVariants as failures
 use Rattle.bank_core.specs.declared.parts.Parts.{Parts}
-use Rattle.bank_format.specs.declared.fault.ReadFault.{ReadFault}
-use Rattle.bank_format.specs.declared.fault.ReadFault.TheVariants as reading
 use Rattle.bank_edits.specs.declared.edit.Edit.{Edit}
 use Rattle.bank_edits.specs.declared.edit.Refusal.{Refusal}
 use Rattle.bank_edits.specs.declared.edit.Refusal.TheVariants as refusals
@@ -21,19 +19,9 @@ abbrev pub in_run : {F : Type 0} → (F → RunFault) → Failure F → RunFault
 in_run told (failures.Fault fault) = told fault
 in_run told failures.OutOfMemory = run.Memory
 
-abbrev pub of_reading : ReadFault → RunFault
-of_reading reading.OutOfMemory = run.Memory
-of_reading fault = run.Read fault
-
 abbrev pub of_refusal : ℕ → Refusal → RunFault
 of_refusal line refusals.OutOfMemory = run.Memory
 of_refusal line refusal = run.Refused line refusal
-
--- a fault of the file, or want of memory
-abbrev pub StopsAtFile : RunFault → Option ReadFault → Type 0
-StopsAtFile (run.Read fault) broken = broken ≡ Some fault
-StopsAtFile run.Memory broken = Unit {0}
-StopsAtFile fault broken = ⊥
 
 -- the first refused line, or want of memory
 abbrev pub StopsAtLine : RunFault → Option RefusedLine → Type 0

@@ -1,6 +1,6 @@
 //! How a run ends that is not done.
 ghost use Rattle.std.specs.Prelude.{◌≡◌};
-ghost use Rattle.sfbank.specs.declared.fault.RunFault.TheVariants.{Script, Memory};
+ghost use Rattle.sfbank.specs.declared.fault.RunFault.TheVariants.{Read, Script, Memory};
 ghost use Rattle.sfbank.specs.Planned.{in_run};
 
 use bank_edits::Refusal;
@@ -35,6 +35,17 @@ pub enum RunFault {
     /// A growth was refused.
     #[error("out of memory")]
     Memory,
+}
+
+impl From<Failure<ReadFault>> for RunFault {
+    ghost from_gives = { λ failure fault. fault ≡ in_run Read failure };
+
+    fn from(failure: Failure<ReadFault>) -> RunFault {
+        match failure {
+            Failure::Fault(fault) => RunFault::Read(fault),
+            Failure::OutOfMemory => RunFault::Memory,
+        }
+    }
 }
 
 impl From<Failure<ScriptFault>> for RunFault {

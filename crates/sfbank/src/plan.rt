@@ -7,11 +7,11 @@ ghost use Rattle.sfbank.specs.Planned.{AllApplied, StopsAtLine, FewEdits, of_ref
 ghost use Rattle.sfbank.specs.Plans.{planned};
 
 use crate::fault::RunFault;
-use crate::reading::read_bank;
 use bank_core::Bank;
 use bank_edits::{Edit, Refusal, apply};
 use edit_script::{Line, ScriptFault, parse, pool_of};
 use sf_base::Failure;
+use sf_reader::read;
 use std::alloc::Global;
 
 /// The edited bank, and the edits that take its edits back, the last one's first.
@@ -26,7 +26,7 @@ pub fn make_plan<'a>(alloc: Global, file: &'a [u8], script: &[u8]) -> Result<Pla
     ensures plans { Plans planned (outcome file.now script.now) result }
     ensures few { IfOk result (λ plan. FewEdits plan.undo.items) }
 {
-    let (mut bank, _counts) = read_bank(alloc, file)?;
+    let (mut bank, _counts) = read(alloc, file)?;
     let lines = lines_of(alloc, script)?;
     let undo = apply_all(alloc, &mut bank, lines.as_slice())?;
     Ok(Plan { bank, undo })
