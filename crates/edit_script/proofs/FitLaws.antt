@@ -1,6 +1,7 @@
 -- What a script says fits.
 use Rattle.std.proofs.Common.{◌≡◌, ℕ, suc, List, [], ◌∷◌, Result, Ok, Err, sym, subst, arith, inl, inr}
 use Rattle.std.specs.Result.{IfOk}
+use Rattle.sf_base.specs.declared.memory.Failure.{Failure}
 use Rattle.bank_edits.specs.declared.edit.Edit.{Edit}
 use Rattle.bank_edits.specs.declared.edit.Edit.TheVariants.{RenameSample}
 use Rattle.bank_edits.specs.Edits.{FitsEdit}
@@ -28,6 +29,6 @@ pub script_fits : (text : List ℕ) (lines : List Line) → script_of text ≡ O
 script_fits text lines e = spelled_fit text lines (read_spelled text lines e)
 
 -- so does what a call answers
-pub answers_fit : {X : Type 0} (text : List ℕ) (view : X → List Line) (r : Result X ScriptFault) → Answers view r (script_of text) → IfOk r (λ x. LinesFit (view x))
+pub answers_fit : {X : Type 0} (text : List ℕ) (view : X → List Line) (r : Result X (Failure ScriptFault)) → Answers view r (script_of text) → IfOk r (λ x. LinesFit (view x))
 answers_fit text view (Ok x) h = script_fits text (view x) h
-answers_fit text view (Err f) h = tt
+answers_fit text view (Err failure) h = tt

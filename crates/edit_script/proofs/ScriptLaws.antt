@@ -1,12 +1,14 @@
 -- Lists that grow line by line, and their first fault.
-use Rattle.std.proofs.Common.{◌≡◌, ◌≤◌, ℕ, suc, Bool, true, false, cond, List, [], ◌∷◌, length, Ok, Err, refl, sym, ap, ◌∙◌, arith, inl, inr, ◌⊎◌, eqb, eqb-true}
+use Rattle.std.proofs.Common.{◌≡◌, ◌≤◌, ℕ, suc, Bool, true, false, cond, List, [], ◌∷◌, length, Result, Ok, Err, refl, sym, ap, ◌∙◌, arith, eqb, eqb-true}
+use Rattle.sf_base.specs.declared.memory.Failure.{Failure}
+use Rattle.sf_base.specs.declared.memory.Failure.TheVariants as failures
 use Rattle.edit_script.specs.declared.cursor.Said.{Said}
 use Rattle.edit_script.specs.declared.cursor.Stop.TheVariants as stop
 use Rattle.edit_script.specs.declared.fault.ScriptFault.{ScriptFault}
 use Rattle.edit_script.specs.declared.parsing.Line.{Line}
 use Rattle.edit_script.specs.Lines.{lines_of, onto, is_feed}
 use Rattle.edit_script.specs.Grammar.{edit}
-use Rattle.edit_script.specs.Script.{Grown, and_then, gather, literal_of, literals_of, edit_of, with_edit, on_line}
+use Rattle.edit_script.specs.Script.{Grown, Fails, and_then, gather, literal_of, literals_of, edit_of, with_edit, on_line}
 
 pub gather_none : {X : Type 0} (f : ℕ → List Said → List X → Grown X) (n : ℕ) (xs : List X) → gather f n [] xs ≡ Ok xs
 unfolding gather
@@ -94,11 +96,12 @@ length-lines_of (b ∷ text) = from (is_feed b) (length-lines_of text)
     from true h = omega (arith, h)
     from false h = omega (arith, h, length-onto b (lines_of text))
 
--- ---- want of memory, or what follows
+-- ---- where a step fails, so does the whole
 
-pub or_memory : {A B C : Type 0} → A ⊎ B → (B → C) → A ⊎ C
-or_memory (inl a) f = inl a
-or_memory (inr b) f = inr (f b)
+pub step_fails : {X Y : Type 0} (failure : Failure ScriptFault) (step : Result X ScriptFault) (whole : Result Y ScriptFault)
+    → Fails failure step → ((fault : ScriptFault) → step ≡ Err fault → whole ≡ Err fault) → Fails failure whole
+step_fails (failures.Fault fault) step whole h f = f fault h
+step_fails failures.OutOfMemory step whole h f = tt
 
 -- ---- whether a list is empty
 

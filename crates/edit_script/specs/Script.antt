@@ -1,6 +1,8 @@
 -- What a script says, or its first fault.
-use Rattle.std.specs.Prelude.{◌≡◌, ◌⊎◌, ℕ, suc, List, [], ◌∷◌, ◌++◌, Result, Ok, Err}
+use Rattle.std.specs.Prelude.{◌≡◌, ℕ, suc, List, [], ◌∷◌, ◌++◌, Result, Ok, Err}
 use Rattle.std.specs.Result.{result_and}
+use Rattle.sf_base.specs.declared.memory.Failure.{Failure}
+use Rattle.sf_base.specs.declared.memory.Failure.TheVariants as failures
 use Rattle.bank_edits.specs.declared.edit.Edit.{Edit}
 use Rattle.edit_script.specs.declared.cursor.Said.{Said}
 use Rattle.edit_script.specs.declared.cursor.Said.TheVariants.{Word, Literal, Bad}
@@ -69,12 +71,12 @@ script_of text = result_and (pool_bytes text) (edits_in (said_lines text))
 
 -- ---- what calls answer
 
--- the answer, or want of memory
-abbrev pub Answers : {X Y : Type 0} → (X → Y) → Result X ScriptFault → Result Y ScriptFault → Type 0
-Answers view (Ok x) r = r ≡ Ok (view x)
-Answers view (Err e) r = (e ≡ faults.OutOfMemory) ⊎ (r ≡ Err e)
+-- the fault, or want of memory, which can come in place of any answer
+abbrev pub Fails : {Y : Type 0} → Failure ScriptFault → Result Y ScriptFault → Type 0
+Fails (failures.Fault fault) r = r ≡ Err fault
+Fails failures.OutOfMemory r = Unit {0}
 
--- the list became this one, or this is its fault, or want of memory
-abbrev pub Becomes : {X U : Type 0} → List X → Result U ScriptFault → Grown X → Type 0
-Becomes new (Ok u) r = r ≡ Ok new
-Becomes new (Err e) r = (e ≡ faults.OutOfMemory) ⊎ (r ≡ Err e)
+-- the answer, or why there is none
+abbrev pub Answers : {X Y : Type 0} → (X → Y) → Result X (Failure ScriptFault) → Result Y ScriptFault → Type 0
+Answers view (Ok x) r = r ≡ Ok (view x)
+Answers view (Err failure) r = Fails failure r

@@ -1,13 +1,12 @@
 //! What is wrong with a script.
 ghost use Rattle.std.specs.Prelude.{◌≡◌};
-ghost use Rattle.edit_script.specs.declared.fault.ScriptFault.TheVariants.{OutOfMemory};
+ghost use Rattle.sf_base.specs.declared.memory.Failure.TheVariants.{Fault};
 ghost use Rattle.edit_script.specs.Faults.{number_of, name_of, line_of};
 
-use std::alloc::{AllocError, AllocFailed};
+use sf_base::Failure;
 use thiserror::Error;
 
-/// The first fault of a script, with the number of its line, counted from 1; or want of memory,
-/// which may come in place of any answer.
+/// The first fault of a script, with the number of its line, counted from 1.
 #[derive(Debug, Drop, Clone, Copy, PartialEq, Eq, Error)]
 pub enum ScriptFault {
     /// 41: a token is missing or left over, a word is wrong, or no literal stands where one is needed.
@@ -19,13 +18,10 @@ pub enum ScriptFault {
     /// 43: a literal is badly spelled, or its bytes are not what is needed.
     #[error("line {0}: a literal is badly spelled, or its bytes do not serve")]
     Literal(u64),
-    /// 44: a growth was refused.
-    #[error("out of memory")]
-    OutOfMemory,
 }
 
 impl ScriptFault {
-    /// The fault's number, from 41 to 44.
+    /// The fault's number, from 41 to 43.
     pub fn number(self) -> u8
         ensures { result ≡ number_of self }
     {
@@ -33,7 +29,6 @@ impl ScriptFault {
             ScriptFault::Syntax(_) => 41,
             ScriptFault::Number(_) => 42,
             ScriptFault::Literal(_) => 43,
-            ScriptFault::OutOfMemory => 44,
         }
     }
 
@@ -45,35 +40,25 @@ impl ScriptFault {
             ScriptFault::Syntax(_) => "Syntax",
             ScriptFault::Number(_) => "Number",
             ScriptFault::Literal(_) => "Literal",
-            ScriptFault::OutOfMemory => "OutOfMemory",
         }
     }
 
-    /// The number of the line at fault, counted from 1. Want of memory has none.
-    pub fn line(self) -> Option<u64>
+    /// The number of the line at fault, counted from 1.
+    pub fn line(self) -> u64
         ensures { result ≡ line_of self }
     {
         match self {
             ScriptFault::Syntax(line) | ScriptFault::Number(line) | ScriptFault::Literal(line) => {
-                Some(line)
+                line
             }
-            ScriptFault::OutOfMemory => None,
         }
     }
 }
 
-impl From<AllocError> for ScriptFault {
-    ghost from_gives = { λ _ fault. fault ≡ OutOfMemory };
+impl From<ScriptFault> for Failure<ScriptFault> {
+    ghost from_gives = { λ fault failure. failure ≡ Fault fault };
 
-    fn from(_error: AllocError) -> ScriptFault {
-        ScriptFault::OutOfMemory
-    }
-}
-
-impl<T: Drop> From<AllocFailed<T>> for ScriptFault {
-    ghost from_gives = { λ _ fault. fault ≡ OutOfMemory };
-
-    fn from(_error: AllocFailed<T>) -> ScriptFault {
-        ScriptFault::OutOfMemory
+    fn from(fault: ScriptFault) -> Failure<ScriptFault> {
+        Failure::Fault(fault)
     }
 }

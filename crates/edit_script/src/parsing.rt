@@ -4,13 +4,14 @@ ghost use Rattle.edit_script.specs.Tokens.{tokens_of};
 ghost use Rattle.edit_script.specs.Lines.{lines_of};
 ghost use Rattle.edit_script.specs.Said.{all_said_over, pool_after, lines_said_over};
 ghost use Rattle.edit_script.specs.Printing.{LinesFit};
-ghost use Rattle.edit_script.specs.Script.{Answers, Becomes, edit_of, edits_in, pool_bytes, script_of};
+ghost use Rattle.edit_script.specs.Script.{Answers, edit_of, edits_in, pool_bytes, script_of};
 
 use crate::cursor::Cursor;
 use crate::fault::ScriptFault;
 use crate::forms::edit;
 use crate::lines::Lines;
 use bank_edits::Edit;
+use sf_base::Failure;
 use std::alloc::Global;
 
 /// An edit of a script, and the number of its line, counted from 1.
@@ -21,8 +22,8 @@ pub struct Line {
 }
 
 /// The edits of a text with their lines, over the bytes of its literals; or the first fault from left
-/// to right. `OutOfMemory` may come in place of either.
-pub fn parse(alloc: Global, text: &[u8], pool: &[u8]) -> Result<Vec<Line>, ScriptFault>
+/// to right. Want of memory may come in place of either.
+pub fn parse(alloc: Global, text: &[u8], pool: &[u8]) -> Result<Vec<Line>, Failure<ScriptFault>>
     requires { pool_bytes text.now ≡ Ok pool.now }
     ensures answers { Answers (λ lines. lines.items) result (script_of text.now) }
     ensures fit { IfOk result (λ lines. LinesFit lines.items) }
@@ -30,7 +31,7 @@ pub fn parse(alloc: Global, text: &[u8], pool: &[u8]) -> Result<Vec<Line>, Scrip
     parse_lines(alloc, text, pool)
 }
 
-fn parse_lines(alloc: Global, text: &[u8], pool: &[u8]) -> Result<Vec<Line>, ScriptFault>
+fn parse_lines(alloc: Global, text: &[u8], pool: &[u8]) -> Result<Vec<Line>, Failure<ScriptFault>>
     ensures { Answers (λ lines. lines.items) result (edits_in (lines_said_over pool.now (lines_of text.now))) }
 {
     let mut edits = Vec::new(alloc);
@@ -49,8 +50,8 @@ fn add_edit<'a>(
     number: u64,
     line: &[u8],
     pool: &'a [u8],
-) -> Result<&'a [u8], ScriptFault>
-    ensures added { Becomes edits.new.items result (edit_of number (all_said_over pool.now (tokens_of line.now)) edits.old.items) }
+) -> Result<&'a [u8], Failure<ScriptFault>>
+    ensures added { Answers (λ _. edits.new.items) result (edit_of number (all_said_over pool.now (tokens_of line.now)) edits.old.items) }
     ensures behind { IfOk result (λ rest. rest.now ≡ pool_after pool.now (tokens_of line.now)) }
 {
     let mut cursor = Cursor::of(line, pool);
@@ -58,11 +59,11 @@ fn add_edit<'a>(
         return Ok(pool);
     }
     if !edits.as_slice().is_empty() {
-        return Err(ScriptFault::Syntax(number));
+        return Err(ScriptFault::Syntax(number).into());
     }
     match edit(&mut cursor) {
         Ok(edit) => edits.push(Line { number, edit })?,
-        Err(stop) => return Err(stop.on_line(number)),
+        Err(stop) => return Err(stop.on_line(number).into()),
     }
     Ok(cursor.pool())
 }

@@ -3,21 +3,21 @@ ghost use Rattle.std.specs.Prelude.{◌≡◌, map};
 ghost use Rattle.std.specs.List.{list_all};
 ghost use Rattle.edit_script.specs.Tokens.{tokens_of};
 ghost use Rattle.edit_script.specs.Said.{said, is_plain};
-ghost use Rattle.edit_script.specs.Script.{Answers, Becomes, literal_of, literals_of, pool_bytes};
+ghost use Rattle.edit_script.specs.Script.{Answers, literal_of, literals_of, pool_bytes};
 
 use crate::cursor::is_hex;
 use crate::fault::ScriptFault;
 use crate::lines::Lines;
 use crate::tokens::{Token, Tokens};
 use hex::FromHexError;
-use sf_base::rest_from;
+use sf_base::{Failure, rest_from};
 use std::alloc::Global;
 
 /// The bytes of all literals of a text, in their order; or the first that is badly spelled, anywhere
-/// in the text, as `Literal` with its line. `OutOfMemory` may come in place of either.
+/// in the text, as `Literal` with its line. Want of memory may come in place of either.
 ///
 /// Only the spelling counts here: a literal may stand where none is due, or have too many bytes.
-pub fn pool_of(alloc: Global, text: &[u8]) -> Result<Vec<u8>, ScriptFault>
+pub fn pool_of(alloc: Global, text: &[u8]) -> Result<Vec<u8>, Failure<ScriptFault>>
     ensures { Answers (λ pool. pool.items) result (pool_bytes text.now) }
 {
     let mut pool = Vec::new(alloc);
@@ -35,8 +35,8 @@ fn add_literals(
     pool: &mut Vec<u8>,
     number: u64,
     line: &[u8],
-) -> Result<(), ScriptFault>
-    ensures { Becomes pool.new.items result (literals_of number (map said (tokens_of line.now)) pool.old.items) }
+) -> Result<(), Failure<ScriptFault>>
+    ensures { Answers (λ _. pool.new.items) result (literals_of number (map said (tokens_of line.now)) pool.old.items) }
 {
     for token in Tokens::of(line) {
         add_literal(alloc, pool, number, &token)?;
@@ -51,8 +51,8 @@ fn add_literal(
     pool: &mut Vec<u8>,
     number: u64,
     token: &Token<'_>,
-) -> Result<(), ScriptFault>
-    ensures { Becomes pool.new.items result (literal_of number (said token.now) pool.old.items) }
+) -> Result<(), Failure<ScriptFault>>
+    ensures { Answers (λ _. pool.new.items) result (literal_of number (said token.now) pool.old.items) }
 {
     match token {
         Token::Plain(word) => {
@@ -60,18 +60,18 @@ fn add_literal(
             if is_hex(word) {
                 match hex::decode(alloc, rest_from(word, 1)) {
                     Ok(bytes) => pool.extend_from_slice(&bytes)?,
-                    Err(FromHexError::OutOfMemory) => return Err(ScriptFault::OutOfMemory),
-                    Err(_) => return Err(ScriptFault::Literal(number)),
+                    Err(FromHexError::OutOfMemory) => return Err(Failure::OutOfMemory),
+                    Err(_) => return Err(ScriptFault::Literal(number).into()),
                 }
             }
         }
         Token::Quoted(inside) => {
             if !all_plain(inside.bytes()) {
-                return Err(ScriptFault::Literal(number));
+                return Err(ScriptFault::Literal(number).into());
             }
             pool.extend_from_slice(inside.bytes())?;
         }
-        Token::Broken => return Err(ScriptFault::Literal(number)),
+        Token::Broken => return Err(ScriptFault::Literal(number).into()),
     }
     Ok(())
 }

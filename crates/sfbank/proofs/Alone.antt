@@ -1,12 +1,15 @@
 -- Runs with one text: the canonical file, and the listing.
 use Rattle.std.proofs.Common.{◌≡◌, ℕ, List, [], Option, Some, None, Result, Ok, Err, refl, sym, ap, ◌∙◌, arith}
 use Rattle.std.proofs.KnownBytes.{Keeps-refl}
+use Rattle.sf_base.specs.declared.memory.Failure.{Failure}
+use Rattle.sf_base.specs.declared.memory.Failure.TheVariants as failures
 use Rattle.bank_core.specs.declared.parts.Parts.{Parts}
 use Rattle.hydra_records.specs.Records.{AreBytes}
 use Rattle.bank_format.specs.declared.fault.Counts.{Counts}
 use Rattle.bank_format.specs.declared.fault.ReadFault.{ReadFault}
 use Rattle.bank_format.specs.Canon.{canon}
 use Rattle.bank_format.specs.Reading.{Content}
+use Rattle.bank_format.specs.Steps.{Fails}
 use Rattle.bank_format.specs.ReadSteps.{fault_of, ReadsAs}
 use Rattle.bank_format.proofs.RoundTrip.{reads-again}
 use Rattle.bank_format.proofs.ReadValid.{read_valid, read_fits}
@@ -20,28 +23,25 @@ use Rattle.sfbank.specs.declared.fault.RunFault.TheVariants as run
 use Rattle.sfbank.specs.declared.fault.Which.TheVariants.{Out}
 use Rattle.sfbank.specs.Outcome.{after_script, after_reading, bank_in, counts_in, outcome, canon_outcome, show_outcome, without_undo, IsEmptyEdit, IsFixed}
 use Rattle.sfbank.specs.Written.{GoesOut, RunsAlone}
-use Rattle.sfbank.specs.Planned.{StopsAtFile}
+use Rattle.sfbank.specs.Planned.{in_run}
 use Rattle.sfbank.proofs.Restores.{reading_done}
 
 -- ---- a file that can't be read
 
-not_read : (U : Type 0) (fault : RunFault) (known : Option (List ℕ)) (broken : Option ReadFault) (r : Result (List ℕ) RunFault) → StopsAtFile fault broken
-    → RunsAlone {U = U} known known (after_reading broken r) (Err fault)
-not_read U (run.Read fault) known broken r h = (ap (λ o. after_reading o r) h, Keeps-refl known)
-not_read U run.Memory known broken r h = Keeps-refl known
-not_read U (run.Script fault) known broken r h = absurd h
-not_read U (run.Refused number refusal) known broken r h = absurd h
-not_read U (run.Write which n) known broken r h = absurd h
+not_read : (U : Type 0) (failure : Failure ReadFault) (known : Option (List ℕ)) (broken : Option ReadFault) (r : Result (List ℕ) RunFault) → Fails failure broken
+    → RunsAlone {U = U} known known (after_reading broken r) (Err (in_run run.Read failure))
+not_read U (failures.Fault fault) known broken r h = (ap (λ o. after_reading o r) h, Keeps-refl known)
+not_read U failures.OutOfMemory known broken r h = Keeps-refl known
 
-pub canon_not_read : (U : Type 0) (fault : RunFault) (known : Option (List ℕ)) (file : List ℕ) → StopsAtFile fault (fault_of file)
-    → RunsAlone {U = U} known known (canon_outcome file) (Err fault)
+pub canon_not_read : (U : Type 0) (failure : Failure ReadFault) (known : Option (List ℕ)) (file : List ℕ) → Fails failure (fault_of file)
+    → RunsAlone {U = U} known known (canon_outcome file) (Err (in_run run.Read failure))
 unfolding canon_outcome
-canon_not_read U fault known file h = not_read U fault known (fault_of file) (Ok (canon (bank_in file))) h
+canon_not_read U failure known file h = not_read U failure known (fault_of file) (Ok (canon (bank_in file))) h
 
-pub show_not_read : (U : Type 0) (fault : RunFault) (known : Option (List ℕ)) (file : List ℕ) → StopsAtFile fault (fault_of file)
-    → RunsAlone {U = U} known known (show_outcome file) (Err fault)
+pub show_not_read : (U : Type 0) (failure : Failure ReadFault) (known : Option (List ℕ)) (file : List ℕ) → Fails failure (fault_of file)
+    → RunsAlone {U = U} known known (show_outcome file) (Err (in_run run.Read failure))
 unfolding show_outcome
-show_not_read U fault known file h = not_read U fault known (fault_of file) (Ok (listing (bank_in file) (counts_in file))) h
+show_not_read U failure known file h = not_read U failure known (fault_of file) (Ok (listing (bank_in file) (counts_in file))) h
 
 -- ---- a text that goes out
 

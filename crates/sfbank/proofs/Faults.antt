@@ -1,57 +1,44 @@
 -- Why a run is not done: the faults of its parts.
-use Rattle.std.proofs.Common.{◌≡◌, ◌⊎◌, inl, inr, ℕ, List, Option, None, Result, Ok, Err, refl, sym, ap, ◌∙◌}
+use Rattle.std.proofs.Common.{◌≡◌, ℕ, List, Option, None, Result, Ok, refl, sym, ap, ◌∙◌}
+use Rattle.sf_base.specs.declared.memory.Failure.{Failure}
+use Rattle.sf_base.specs.declared.memory.Failure.TheVariants as failures
 use Rattle.bank_core.specs.declared.parts.Parts.{Parts}
 use Rattle.bank_format.specs.declared.fault.Counts.{Counts}
 use Rattle.bank_format.specs.declared.fault.ReadFault.{ReadFault}
 use Rattle.bank_format.specs.Canon.{canon}
 use Rattle.bank_format.specs.Chunks.{window}
 use Rattle.bank_format.specs.Reading.{Content, content_in}
+use Rattle.bank_format.specs.Steps as reading
 use Rattle.bank_format.specs.ReadSteps.{fault_of}
 use Rattle.bank_edits.specs.declared.edit.Edit.{Edit}
 use Rattle.edit_script.specs.declared.parsing.Line.{Line}
 use Rattle.edit_script.specs.declared.fault.ScriptFault.{ScriptFault}
-use Rattle.edit_script.specs.declared.fault.ScriptFault.TheVariants as scripts
 use Rattle.edit_script.specs.Script.{script_of, pool_bytes}
+use Rattle.edit_script.specs.Script as scripts
 use Rattle.edit_script.specs.Printing.{texts_of}
 use Rattle.sfbank.specs.declared.fault.RunFault.{RunFault}
 use Rattle.sfbank.specs.declared.fault.RunFault.TheVariants as run
 use Rattle.sfbank.specs.Outcome.{Done, edits_of, RefusedLine, first_refused, both_texts, unless_refused, after_script, after_reading, bank_in, outcome}
 use Rattle.sfbank.specs.Written.{FailsBefore}
-use Rattle.sfbank.specs.Planned.{AllApplied, StopsAtFile, StopsAtScript, StopsAtLine, of_script}
+use Rattle.sfbank.specs.Planned.{AllApplied, StopsAtLine, in_run}
 
 -- ---- the script's fault
 
--- the script has this fault, or memory ran out
-abbrev pub HasFault : List ℕ → ScriptFault → Type 0
-HasFault script fault = (fault ≡ scripts.OutOfMemory) ⊎ (script_of script ≡ Err fault)
-
-pub pool_fault : (script : List ℕ) (fault : ScriptFault) → (fault ≡ scripts.OutOfMemory) ⊎ (pool_bytes script ≡ Err fault) → HasFault script fault
+pub pool_fails : (script : List ℕ) (failure : Failure ScriptFault) → scripts.Fails failure (pool_bytes script) → scripts.Fails failure (script_of script)
 unfolding script_of
-pool_fault script fault (inl e) = inl e
-pool_fault script fault (inr e) = inr (rw e refl)
-
-pub stops_at_script : (script : List ℕ) (fault : ScriptFault) → HasFault script fault → StopsAtScript (of_script fault) (script_of script)
-stops_at_script script scripts.OutOfMemory h = tt
-stops_at_script script (scripts.Syntax n) (inl e) = absurd cc
-stops_at_script script (scripts.Syntax n) (inr e) = e
-stops_at_script script (scripts.Number n) (inl e) = absurd cc
-stops_at_script script (scripts.Number n) (inr e) = e
-stops_at_script script (scripts.Literal n) (inl e) = absurd cc
-stops_at_script script (scripts.Literal n) (inr e) = e
+pool_fails script (failures.Fault fault) h = rw h refl
+pool_fails script failures.OutOfMemory h = tt
 
 -- ---- the file's fault
 
 -- whatever comes of the bank
-pub at_file : {X : Type 0} (fault : RunFault) (broken : Option ReadFault) (r : Result X RunFault) → StopsAtFile fault broken → FailsBefore fault (after_reading broken r)
-at_file (run.Read fault) broken r h = ap (λ o. after_reading o r) h
-at_file run.Memory broken r h = tt
-at_file (run.Script fault) broken r h = absurd h
-at_file (run.Refused number refusal) broken r h = absurd h
-at_file (run.Write which n) broken r h = h
+at_file : {X : Type 0} (failure : Failure ReadFault) (broken : Option ReadFault) (r : Result X RunFault) → reading.Fails failure broken → FailsBefore (in_run run.Read failure) (after_reading broken r)
+at_file (failures.Fault fault) broken r h = ap (λ o. after_reading o r) h
+at_file failures.OutOfMemory broken r h = tt
 
-pub at_read : (fault : RunFault) (file script : List ℕ) → StopsAtFile fault (fault_of file) → FailsBefore fault (outcome file script)
+pub at_read : (file script : List ℕ) (failure : Failure ReadFault) → reading.Fails failure (fault_of file) → FailsBefore (in_run run.Read failure) (outcome file script)
 unfolding outcome
-at_read fault file script h = at_file fault (fault_of file) (after_script (bank_in file) (script_of script)) h
+at_read file script failure h = at_file failure (fault_of file) (after_script (bank_in file) (script_of script)) h
 
 -- ---- a file that reads as a bank
 
@@ -71,12 +58,10 @@ at_bank file script b r =
     ap (λ (o : Option ReadFault). after_reading o (after_script (bank_in file) (script_of script))) r.unbroken
     ∙ ap (λ (x : Parts). after_script x (script_of script)) (sym r.bank)
 
-pub at_script : (file script : List ℕ) (b : Parts) (fault : RunFault) → ReadsBank file b → StopsAtScript fault (script_of script) → FailsBefore fault (outcome file script)
-at_script file script b (run.Script fault) r h = at_bank file script b r ∙ ap (after_script b) h
-at_script file script b run.Memory r h = tt
-at_script file script b (run.Read fault) r h = absurd h
-at_script file script b (run.Refused number refusal) r h = absurd h
-at_script file script b (run.Write which n) r h = h
+pub at_script : (file script : List ℕ) (b : Parts) (failure : Failure ScriptFault) → ReadsBank file b → scripts.Fails failure (script_of script)
+    → FailsBefore (in_run run.Script failure) (outcome file script)
+at_script file script b (failures.Fault fault) r h = at_bank file script b r ∙ ap (after_script b) h
+at_script file script b failures.OutOfMemory r h = tt
 
 pub at_line : (file script : List ℕ) (b : Parts) (lines : List Line) (fault : RunFault) → ReadsBank file b → script_of script ≡ Ok lines
     → StopsAtLine fault (first_refused b lines) → FailsBefore fault (outcome file script)

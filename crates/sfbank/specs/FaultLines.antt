@@ -1,5 +1,5 @@
 -- The line by which a fault is told, and the exit status that goes with it.
-use Rattle.std.specs.Prelude.{ℕ, List, [], ◌∷◌, codes, decimal, unwrap_or}
+use Rattle.std.specs.Prelude.{ℕ, List, [], ◌∷◌, codes, decimal}
 use Rattle.std.specs.List.{concat}
 use Rattle.bank_format.specs.declared.fault.ReadFault.{ReadFault}
 use Rattle.bank_format.specs.FaultNames as reading
@@ -13,9 +13,8 @@ use Rattle.sfbank.specs.declared.fault.RunFault.TheVariants.{Read, Script, Refus
 abbrev pub read_line : ReadFault → List ℕ
 read_line fault = concat (codes "sfbank: read fault " ∷ decimal (reading.number_of fault) ∷ codes " " ∷ reading.name_of fault ∷ codes "\n" ∷ [])
 
--- want of memory has no line, and is never told so
 abbrev pub script_line : ScriptFault → List ℕ
-script_line fault = concat (codes "sfbank: line " ∷ decimal (unwrap_or (scripts.line_of fault) 0) ∷ codes ": fault " ∷ decimal (scripts.number_of fault) ∷ codes " " ∷ scripts.name_of fault ∷ codes "\n" ∷ [])
+script_line fault = concat (codes "sfbank: line " ∷ decimal (scripts.line_of fault) ∷ codes ": fault " ∷ decimal (scripts.number_of fault) ∷ codes " " ∷ scripts.name_of fault ∷ codes "\n" ∷ [])
 
 abbrev pub refused_line : ℕ → Refusal → List ℕ
 refused_line line refusal = concat (codes "sfbank: line " ∷ decimal line ∷ codes ": refused " ∷ decimal (refusals.number_of refusal) ∷ codes " " ∷ refusals.name_of refusal ∷ codes "\n" ∷ [])

@@ -1,45 +1,27 @@
 -- The parts of a run, before a byte goes out.
-use Rattle.std.specs.Prelude.{◌≡◌, ◌≤◌, ℕ, List, length, Option, Some, None, Result, Err}
+use Rattle.std.specs.Prelude.{◌≡◌, ◌≤◌, ℕ, List, length, Option, Some, None}
 use Rattle.std.specs.List.{AllByRecursion}
+use Rattle.sf_base.specs.declared.memory.Failure.{Failure}
+use Rattle.sf_base.specs.declared.memory.Failure.TheVariants as failures
 use Rattle.bank_core.specs.declared.parts.Parts.{Parts}
-use Rattle.bank_format.specs.declared.fault.ReadFault.{ReadFault}
-use Rattle.bank_format.specs.declared.fault.ReadFault.TheVariants as reading
 use Rattle.bank_edits.specs.declared.edit.Edit.{Edit}
 use Rattle.bank_edits.specs.declared.edit.Refusal.{Refusal}
 use Rattle.bank_edits.specs.declared.edit.Refusal.TheVariants as refusals
 use Rattle.bank_edits.specs.Edits.{FitsEdit}
 use Rattle.inverse_edits.specs.Runs.{after_all, undo_list}
 use Rattle.edit_script.specs.declared.parsing.Line.{Line}
-use Rattle.edit_script.specs.declared.fault.ScriptFault.{ScriptFault}
-use Rattle.edit_script.specs.declared.fault.ScriptFault.TheVariants as scripts
 use Rattle.sfbank.specs.declared.fault.RunFault.{RunFault}
 use Rattle.sfbank.specs.declared.fault.RunFault.TheVariants as run
 use Rattle.sfbank.specs.Outcome.{edits_of, RefusedLine, first_refused}
 
--- what a fault of each part is in a run
-abbrev pub of_reading : ReadFault → RunFault
-of_reading reading.OutOfMemory = run.Memory
-of_reading fault = run.Read fault
-
-abbrev pub of_script : ScriptFault → RunFault
-of_script scripts.OutOfMemory = run.Memory
-of_script fault = run.Script fault
+-- what a failure of a part is in a run
+abbrev pub in_run : {F : Type 0} → (F → RunFault) → Failure F → RunFault
+in_run told (failures.Fault fault) = told fault
+in_run told failures.OutOfMemory = run.Memory
 
 abbrev pub of_refusal : ℕ → Refusal → RunFault
 of_refusal line refusals.OutOfMemory = run.Memory
 of_refusal line refusal = run.Refused line refusal
-
--- a fault of the file, or want of memory
-abbrev pub StopsAtFile : RunFault → Option ReadFault → Type 0
-StopsAtFile (run.Read fault) broken = broken ≡ Some fault
-StopsAtFile run.Memory broken = Unit {0}
-StopsAtFile fault broken = ⊥
-
--- a fault of the script, or want of memory
-abbrev pub StopsAtScript : RunFault → Result (List Line) ScriptFault → Type 0
-StopsAtScript (run.Script fault) script = script ≡ Err fault
-StopsAtScript run.Memory script = Unit {0}
-StopsAtScript fault script = ⊥
 
 -- the first refused line, or want of memory
 abbrev pub StopsAtLine : RunFault → Option RefusedLine → Type 0

@@ -4,7 +4,7 @@ ghost use Rattle.sfbank.specs.Written.{RunsAlone};
 
 use crate::deliver::deliver_bank;
 use crate::fault::RunFault;
-use crate::reading::read_bank;
+use sf_reader::read;
 use std::alloc::Global;
 use std::io::Write;
 
@@ -20,6 +20,6 @@ pub fn canon_run<W: Write>(alloc: Global, file: &[u8], out: &mut W) -> Result<()
     // What it writes is its own canonical file.
     ensures fixed { IsFixed file.now }
 {
-    let (bank, _counts) = read_bank(alloc, file)?;
+    let (bank, _counts) = read(alloc, file)?;
     deliver_bank(&bank, out)
 }

@@ -1,7 +1,13 @@
 //! How a run ends that is not done.
+ghost use Rattle.std.specs.Prelude.{◌≡◌};
+ghost use Rattle.sfbank.specs.declared.fault.RunFault.TheVariants.{Read, Script, Memory};
+ghost use Rattle.sfbank.specs.Planned.{in_run};
+
 use bank_edits::Refusal;
 use bank_format::ReadFault;
 use edit_script::ScriptFault;
+use sf_base::Failure;
+use std::alloc::AllocFailed;
 use thiserror::Error;
 
 /// Which of the two texts.
@@ -29,4 +35,34 @@ pub enum RunFault {
     /// A growth was refused.
     #[error("out of memory")]
     Memory,
+}
+
+impl From<Failure<ReadFault>> for RunFault {
+    ghost from_gives = { λ failure fault. fault ≡ in_run Read failure };
+
+    fn from(failure: Failure<ReadFault>) -> RunFault {
+        match failure {
+            Failure::Fault(fault) => RunFault::Read(fault),
+            Failure::OutOfMemory => RunFault::Memory,
+        }
+    }
+}
+
+impl From<Failure<ScriptFault>> for RunFault {
+    ghost from_gives = { λ failure fault. fault ≡ in_run Script failure };
+
+    fn from(failure: Failure<ScriptFault>) -> RunFault {
+        match failure {
+            Failure::Fault(fault) => RunFault::Script(fault),
+            Failure::OutOfMemory => RunFault::Memory,
+        }
+    }
+}
+
+impl<T: Drop> From<AllocFailed<T>> for RunFault {
+    ghost from_gives = { λ _ fault. fault ≡ Memory };
+
+    fn from(_error: AllocFailed<T>) -> RunFault {
+        RunFault::Memory
+    }
 }

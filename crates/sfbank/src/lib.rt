@@ -6,7 +6,6 @@ mod canon;
 mod deliver;
 mod fault;
 mod plan;
-mod reading;
 mod run;
 mod show;
 mod telling;

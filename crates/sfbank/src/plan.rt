@@ -1,16 +1,17 @@
 //! What a run will write, before a byte goes out.
-ghost use Rattle.std.specs.Prelude.{◌≡◌, OnOk, IfOk, MatchResult};
-ghost use Rattle.edit_script.specs.Script.{script_of};
-ghost use Rattle.sfbank.specs.Outcome.{first_refused, outcome, IsUndone};
+ghost use Rattle.std.specs.Prelude.{◌≡◌, IfOk, MatchResult};
+ghost use Rattle.edit_script.specs.Script.{Answers, script_of};
+ghost use Rattle.sfbank.specs.Outcome.{first_refused, outcome};
 ghost use Rattle.sfbank.specs.Written.{Plans};
-ghost use Rattle.sfbank.specs.Planned.{AllApplied, StopsAtScript, StopsAtLine, FewEdits, of_script, of_refusal};
+ghost use Rattle.sfbank.specs.Planned.{AllApplied, StopsAtLine, FewEdits, of_refusal};
 ghost use Rattle.sfbank.specs.Plans.{planned};
 
 use crate::fault::RunFault;
-use crate::reading::read_bank;
 use bank_core::Bank;
 use bank_edits::{Edit, Refusal, apply};
 use edit_script::{Line, ScriptFault, parse, pool_of};
+use sf_base::Failure;
+use sf_reader::read;
 use std::alloc::Global;
 
 /// The edited bank, and the edits that take its edits back, the last one's first.
@@ -23,22 +24,12 @@ pub struct Plan<'a> {
 /// Reads the file, and runs the script on its bank. Nothing goes out.
 pub fn make_plan<'a>(alloc: Global, file: &'a [u8], script: &[u8]) -> Result<Plan<'a>, RunFault>
     ensures plans { Plans planned (outcome file.now script.now) result }
-    ensures restores { OnOk result (IsUndone file.now script.now) }
     ensures few { IfOk result (λ plan. FewEdits plan.undo.items) }
 {
-    let (mut bank, _counts) = read_bank(alloc, file)?;
+    let (mut bank, _counts) = read(alloc, file)?;
     let lines = lines_of(alloc, script)?;
     let undo = apply_all(alloc, &mut bank, lines.as_slice())?;
     Ok(Plan { bank, undo })
-}
-
-fn fault_of_script(fault: ScriptFault) -> RunFault
-    ensures { result ≡ of_script fault }
-{
-    match fault {
-        ScriptFault::OutOfMemory => RunFault::Memory,
-        _ => RunFault::Script(fault),
-    }
 }
 
 fn fault_of_refusal(line: u64, refusal: Refusal) -> RunFault
@@ -51,14 +42,11 @@ fn fault_of_refusal(line: u64, refusal: Refusal) -> RunFault
 }
 
 // The edits of the script, with their lines.
-fn lines_of(alloc: Global, script: &[u8]) -> Result<Vec<Line>, RunFault>
-    ensures { MatchResult result (λ lines. script_of script.now ≡ Ok lines.items)
-        (λ fault. StopsAtScript fault (script_of script.now)) }
+fn lines_of(alloc: Global, script: &[u8]) -> Result<Vec<Line>, Failure<ScriptFault>>
+    ensures { Answers (λ lines. lines.items) result (script_of script.now) }
 {
-    match pool_of(alloc, script) {
-        Ok(pool) => parse(alloc, script, pool.as_slice()).map_err(fault_of_script),
-        Err(fault) => Err(fault_of_script(fault)),
-    }
+    let pool = pool_of(alloc, script)?;
+    parse(alloc, script, pool.as_slice())
 }
 
 // Applies the edits in order, and gives those that take them back, the last one's first.
@@ -69,11 +57,7 @@ fn apply_all(alloc: Global, bank: &mut Bank<'_>, lines: &[Line]) -> Result<Vec<E
     let mut inverses = Vec::new(alloc);
     for line in lines {
         match apply(alloc, bank, line.edit) {
-            Ok(inverse) => {
-                if inverses.push(inverse).is_err() {
-                    return Err(RunFault::Memory);
-                }
-            }
+            Ok(inverse) => inverses.push(inverse)?,
             Err((refusal, _edit)) => return Err(fault_of_refusal(line.number, refusal)),
         }
     }

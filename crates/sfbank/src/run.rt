@@ -1,5 +1,5 @@
 //! A run, from bytes to bytes.
-ghost use Rattle.std.specs.Prelude.{◌≡◌, OnOk};
+ghost use Rattle.std.specs.Prelude.{◌≡◌};
 ghost use Rattle.sfbank.specs.Outcome.{outcome, IsUndone};
 ghost use Rattle.sfbank.specs.Written.{Runs};
 
@@ -26,7 +26,7 @@ pub fn edit_run<W: Write, V: Write>(
     ensures runs { Runs (record { out = W.contents out.old; out_new = W.contents out.new; undo = V.contents undo.old; undo_new = V.contents undo.new })
         (outcome file.now script.now) result }
     // Run on the written file alone, the undo text writes the canonical file of the first bank.
-    ensures restores { OnOk result (IsUndone file.now script.now) }
+    ensures restores { IsUndone file.now script.now }
 {
     let plan = make_plan(alloc, file, script)?;
     deliver(&plan, out, undo)

@@ -4,7 +4,7 @@ ghost use Rattle.sfbank.specs.Written.{RunsAlone};
 
 use crate::deliver::deliver_listing;
 use crate::fault::RunFault;
-use crate::reading::read_bank;
+use sf_reader::read;
 use std::alloc::Global;
 use std::io::Write;
 
@@ -17,6 +17,6 @@ pub fn show_run<W: Write>(alloc: Global, file: &[u8], out: &mut W) -> Result<(),
     // The outcome of these bytes goes out: the fault of the file, else the listing.
     ensures runs { RunsAlone (W.contents out.old) (W.contents out.new) (show_outcome file.now) result }
 {
-    let (bank, counts) = read_bank(alloc, file)?;
+    let (bank, counts) = read(alloc, file)?;
     deliver_listing(&bank, &counts, out)
 }

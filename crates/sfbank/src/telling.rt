@@ -1,5 +1,5 @@
 //! The line by which a fault is told.
-ghost use Rattle.std.specs.Prelude.{◌≡◌, ◌<◌, ◌^◌, length, IfOk};
+ghost use Rattle.std.specs.Prelude.{◌≡◌, IfOk};
 ghost use Rattle.sf_base.specs.Writing.{Writes};
 ghost use Rattle.sample_view.specs.Pieces.{joined_bytes};
 ghost use Rattle.sfbank.specs.FaultLines.{fault_line, status_of, read_line, script_line, refused_line, write_line};
@@ -15,7 +15,6 @@ use std::io::Write;
 /// Writes the line of a fault, with its line feed, and gives the exit status that goes with it. The
 /// line of a write fault names `path`.
 pub fn fault_text<W: Write>(fault: &RunFault, path: &str, out: &mut W) -> Result<u8, WriteFault>
-    requires { length path.now < 2 ^ 32 }
     ensures line { Writes (W.contents out.old) (W.contents out.new) (fault_line path.now fault.now) result }
     ensures status { IfOk result (λ status. status ≡ status_of fault.now) }
 {
@@ -41,7 +40,6 @@ impl RunFault {
 
 #[tactic(auto, unfolding(crate::specs::FaultLines::fault_line))]
 fn put_fault<W: Write>(fault: &RunFault, path: &str, out: &mut W) -> Result<(), WriteFault>
-    requires { length path.now < 2 ^ 32 }
     ensures { Writes (W.contents out.old) (W.contents out.new) (fault_line path.now fault.now) result }
 {
     match fault {
@@ -77,7 +75,7 @@ fn put_script_fault<W: Write>(fault: ScriptFault, out: &mut W) -> Result<(), Wri
     put_pieces(
         &[
             b"sfbank: line ",
-            line.format(fault.line().unwrap_or(0)).as_bytes(),
+            line.format(fault.line()).as_bytes(),
             b": fault ",
             number.format(fault.number()).as_bytes(),
             b" ",
@@ -108,7 +106,6 @@ fn put_refusal<W: Write>(line: u64, refusal: Refusal, out: &mut W) -> Result<(),
 }
 
 fn put_write_fault<W: Write>(path: &str, written: u64, out: &mut W) -> Result<(), WriteFault>
-    requires { length path.now < 2 ^ 32 }
     ensures { Writes (W.contents out.old) (W.contents out.new) (write_line path.now written) result }
 {
     let mut number = Buffer::new();
@@ -126,7 +123,6 @@ fn put_write_fault<W: Write>(path: &str, written: u64, out: &mut W) -> Result<()
 
 // Writes the pieces one after the other.
 fn put_pieces<W: Write>(pieces: &[&[u8]], out: &mut W) -> Result<(), WriteFault>
-    requires { length (joined_bytes pieces.now) < 2 ^ 64 }
     ensures { Writes (W.contents out.old) (W.contents out.new) (joined_bytes pieces.now) result }
 {
     let mut sent = 0;

@@ -1,5 +1,5 @@
 -- How a fault is told: a line on the standard error, and an exit status.
-use Rattle.std.specs.Prelude.{◌≡◌, ◌<◌, ◌^◌, ◌++◌, ℕ, List, codes, length, take, ⊤, Option, ◌⊎◌}
+use Rattle.std.specs.Prelude.{◌≡◌, ◌++◌, ℕ, List, codes, take, ⊤, Option, ◌⊎◌}
 use Rattle.std.specs.Io.KnownBytes.{Appends, Keeps}
 use Rattle.sfbank.specs.FaultLines as runs
 use Rattle.sfbank_program.specs.declared.fault.Fault.{Fault}
@@ -24,13 +24,12 @@ file_line path = codes "sfbank: file fault " ++ path_line path
 abbrev pub GoesOut : Option (List ℕ) → Option (List ℕ) → List ℕ → Type 0
 GoesOut old new line = (written : ℕ) × Appends old new (take written line)
 
--- A fault is told by its line, which names a path of any length that a system has. What clap says of
--- refused words is its own.
+-- A fault is told by its line. What clap says of refused words is its own.
 abbrev pub Tells : Option (List ℕ) → Option (List ℕ) → Fault → Type 0
 Tells old new (Words error) = ⊤
 Tells old new NotText = GoesOut old new (codes "error: a word is not text\n")
-Tells old new (File path) = length path.now < 2 ^ 32 → GoesOut old new (file_line path.now)
-Tells old new (Run fault path) = length path.now < 2 ^ 32 → GoesOut old new (runs.fault_line path.now fault)
+Tells old new (File path) = GoesOut old new (file_line path.now)
+Tells old new (Run fault path) = GoesOut old new (runs.fault_line path.now fault)
 
 -- A run that is done tells nothing, with status 0. Any other tells its fault, with the status of it.
 abbrev pub Ends : Option (List ℕ) → Option (List ℕ) → ℕ → Type 0

@@ -1,5 +1,5 @@
 //! How a fault is told.
-ghost use Rattle.std.specs.Prelude.{◌≡◌, ◌<◌, ◌^◌, length, IfOk};
+ghost use Rattle.std.specs.Prelude.{◌≡◌};
 ghost use Rattle.sf_base.specs.Writing.{Sends};
 ghost use Rattle.sfbank_program.specs.Telling.{file_line, path_line, Tells, status_of};
 
@@ -27,11 +27,11 @@ pub(crate) fn tell<E: Write>(fault: &Fault<'_>, errors: &mut E) -> u8
             1
         }
         Fault::File(path) => {
-            let _ = put_file_fault(nameable(path), errors);
+            let _ = put_file_fault(path, errors);
             5
         }
         Fault::Run(fault, path) => {
-            let _ = fault_text(fault, nameable(path), errors);
+            let _ = fault_text(fault, path, errors);
             fault.exit_status()
         }
     }
@@ -40,7 +40,6 @@ pub(crate) fn tell<E: Write>(fault: &Fault<'_>, errors: &mut E) -> u8
 /// The line of an input that can't be read, or is too long.
 #[tactic(auto, using(crate::proofs::ToldLines::lines))]
 fn put_file_fault<E: Write>(path: &str, errors: &mut E) -> Result<u64, WriteFault>
-    requires { length path.now < 2 ^ 32 }
     ensures { Sends (E.contents errors.old) (E.contents errors.new) 0 (file_line path.now) result }
 {
     let sent = put_after(errors, 0, FILE_FAULT)?;
@@ -50,21 +49,8 @@ fn put_file_fault<E: Write>(path: &str, errors: &mut E) -> Result<u64, WriteFaul
 /// The path and the end of a line.
 #[tactic(auto, using(crate::proofs::ToldLines::lines))]
 fn put_path<E: Write>(sent: u64, path: &str, errors: &mut E) -> Result<u64, WriteFault>
-    requires short { length path.now < 2 ^ 32 }
-    requires fits { sent < 2 ^ 32 }
     ensures { Sends (E.contents errors.old) (E.contents errors.new) sent (path_line path.now) result }
 {
     let sent = put_after(errors, sent, path.as_bytes())?;
     put_after(errors, sent, b"\n")
-}
-
-/// A path that a line can name, or none where it is longer than any path of a system.
-fn nameable(path: &str) -> &str
-    ensures short { length path.now < 2 ^ 32 → result.now ≡ path.now }
-    ensures bounded { length result.now < 2 ^ 32 }
-{
-    if path.len() > u32::MAX as usize {
-        return "";
-    }
-    path
 }

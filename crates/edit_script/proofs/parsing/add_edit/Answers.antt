@@ -1,4 +1,4 @@
-use Rattle.std.proofs.Common.{◌∙◌, sym, ap, inr}
+use Rattle.std.proofs.Common.{◌∙◌, sym, ap}
 use Rattle.edit_script.specs.Said.{Left, all_said_over}
 use Rattle.edit_script.specs.Tokens.{tokens_of}
 use Rattle.edit_script.specs.Grammar.{edit}
@@ -18,7 +18,7 @@ returns-then-is_empty-clause-behind c =
 pub returns-then-not-is_empty-clause-added : goal.returns-then-not-is_empty-clause-added
 returns-then-not-is_empty-clause-added c =
     let e = sym (ap (λ (l : Left). l.said) c.of-cursor.ensures) in
-    inr (one_too_many c.args.number _ c.args.edits.now.items
+    rw c.into.ensures (one_too_many c.args.number _ c.args.edits.now.items
     (λ h. not_both (c.is_empty.ensures.1 (sym e ∙ h)) c.if-is_empty.false)
     (some_before _ _ (sym c.as_slice.ensures.value) (sym c.is_empty-2.ensures ∙ c.if-not-is_empty.true)))
 
@@ -28,7 +28,7 @@ returns-in-Err-clause-added c =
     let on = first_edit c.args.number (all_said_over c.args.pool.now (tokens_of c.args.line.now)) c.args.edits.now.items
     (λ h. not_both (c.is_empty.ensures.1 (sym e ∙ h)) c.if-is_empty.false)
     (none_before _ _ (sym c.as_slice.ensures.value) (sym c.is_empty-2.ensures ∙ c.if-not-is_empty.false)) in
-    rw c.on_line.ensures (inr (on ∙ ap (with_edit c.args.number c.args.edits.now.items) (ap edit e ∙ c.in-Err.ensures.reads)))
+    rw (c.into-in-Err.ensures, c.on_line.ensures) (on ∙ ap (with_edit c.args.number c.args.edits.now.items) (ap edit e ∙ c.in-Err.ensures.reads))
 
 pub returns-clause-added : goal.returns-clause-added
 returns-clause-added c =

@@ -4,7 +4,7 @@ use Rattle.edit_script.specs.Said.{all_said_over, lines_said_over}
 use Rattle.edit_script.specs.Tokens.{tokens_of}
 use Rattle.edit_script.specs.Script.{edit_of, edits_in}
 use Rattle.edit_script.proofs.PoolLaws.{lines_said_on, lines_said_end}
-use Rattle.edit_script.proofs.ScriptLaws.{or_memory, lines_on, lines_stop, lines_over, length-lines_of}
+use Rattle.edit_script.proofs.ScriptLaws.{step_fails, lines_on, lines_stop, lines_over, length-lines_of}
 use Rattle.edit_script.proofs.parsing.parse_lines.Goals as goal
 
 pub loop-line-init : goal.loop-line-init
@@ -26,7 +26,7 @@ loop-line-preserved c = record {
 pub returns-in_err-rest : goal.returns-in_err-rest
 returns-in_err-rest c =
     let p = err_from_is_err_and c.from_residual.result c.from_residual.ensures.1 in
-    rw (p.1, p.2) (or_memory c.in_err-rest.ensures.added (λ e. lines_stop edit_of (c.loop-line.number + 1) c.loop-line.edits.items
+    rw (p.1, p.2) (step_fails _ _ _ c.in_err-rest.ensures.added (λ _ e. lines_stop edit_of (c.loop-line.number + 1) c.loop-line.edits.items
     (all_said_over c.loop-line.rest.now (tokens_of c.in-Some.line.now)) _ (lines_said_over c.loop-line.rest.now c.loop-line.line-iterator) _ _
     (lines_said_on _ _ _ c.next.new.self _ refl c.in-Some.ensures.steps) c.loop-line.invariant.left e))
 

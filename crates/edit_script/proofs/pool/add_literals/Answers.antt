@@ -1,7 +1,7 @@
 use Rattle.std.proofs.Common.{map, ap}
 use Rattle.std.proofs.lemmas.Result.{err_from_is_err_and}
 use Rattle.edit_script.specs.Said.{said}
-use Rattle.edit_script.proofs.ScriptLaws.{or_memory, literals_taken, literals_stop, literals_over}
+use Rattle.edit_script.proofs.ScriptLaws.{step_fails, literals_taken, literals_stop, literals_over}
 use Rattle.edit_script.proofs.pool.add_literals.Goals as goal
 
 pub loop-token-preserved : goal.loop-token-preserved
@@ -15,7 +15,7 @@ loop-token-preserved c = record {
 pub returns-in_err-add_literal : goal.returns-in_err-add_literal
 returns-in_err-add_literal c =
     let p = err_from_is_err_and c.from_residual.result c.from_residual.ensures.1 in
-    rw (p.1, p.2) (or_memory c.in_err-add_literal.ensures (λ e. literals_stop c.args.number c.loop-token.pool.items (said c.in-Some.token) (map said c.next.new.self) (map said c.loop-token.token-iterator) _ _
+    rw (p.1, p.2) (step_fails _ _ _ c.in_err-add_literal.ensures (λ _ e. literals_stop c.args.number c.loop-token.pool.items (said c.in-Some.token) (map said c.next.new.self) (map said c.loop-token.token-iterator) _ _
     (ap (map said) c.in-Some.ensures.steps) c.loop-token.invariant.left e))
 
 pub returns : goal.returns

@@ -2,7 +2,7 @@ use Rattle.std.proofs.Common.{◌∙◌, ◌+◌, length, map, ap, refl, arith}
 use Rattle.std.proofs.lemmas.Result.{err_from_is_err_and}
 use Rattle.edit_script.specs.Said.{said_in}
 use Rattle.edit_script.specs.Script.{literals_of, pool_bytes}
-use Rattle.edit_script.proofs.ScriptLaws.{or_memory, lines_on, lines_stop, lines_over, length-lines_of}
+use Rattle.edit_script.proofs.ScriptLaws.{step_fails, lines_on, lines_stop, lines_over, length-lines_of}
 use Rattle.edit_script.proofs.pool.pool_of.Goals as goal
 
 pub loop-line-init : goal.loop-line-init
@@ -24,7 +24,7 @@ loop-line-preserved c = record {
 pub returns-in_err-add_literals : goal.returns-in_err-add_literals
 returns-in_err-add_literals c =
     let p = err_from_is_err_and c.from_residual.result c.from_residual.ensures.1 in
-    rw (p.1, p.2) (or_memory c.in_err-add_literals.ensures (λ e. lines_stop literals_of (c.loop-line.number + 1) c.loop-line.pool.items
+    rw (p.1, p.2) (step_fails _ _ _ c.in_err-add_literals.ensures (λ _ e. lines_stop literals_of (c.loop-line.number + 1) c.loop-line.pool.items
     (said_in c.in-Some.line.now) (map said_in c.next.new.self) (map said_in c.loop-line.line-iterator) _ _
     (ap (map said_in) c.in-Some.ensures.steps) c.loop-line.invariant.left e))
 

@@ -1,4 +1,3 @@
-use Rattle.std.proofs.Common.{sym}
 use Rattle.sfbank_program.proofs.ToldLines.{sent_goes_out, written_goes_out}
 use Rattle.sfbank_program.proofs.telling.tell.Goals as goal
 
@@ -7,8 +6,8 @@ returns-in-NotText-clause-told g c = rw c.in-NotText.is (written_goes_out _ _ _ 
 
 pub returns-in-File-clause-told : goal.returns-in-File-clause-told
 returns-in-File-clause-told g c =
-    rw c.in-File.is (λ short. rw (sym (c.nameable.ensures.short short)) (sent_goes_out _ _ _ _ c.put_file_fault.ensures))
+    rw c.in-File.is (sent_goes_out _ _ _ _ c.put_file_fault.ensures)
 
 pub returns-in-Run-clause-told : goal.returns-in-Run-clause-told
 returns-in-Run-clause-told g c =
-    rw c.in-Run.is (λ short. rw (sym (c.nameable-in-Run.ensures.short short)) (written_goes_out _ _ _ _ c.fault_text.ensures.line))
+    rw c.in-Run.is (written_goes_out _ _ _ _ c.fault_text.ensures.line)
