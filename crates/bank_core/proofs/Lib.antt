@@ -1,4 +1,2 @@
 pub mod Changes
 pub mod Renaming
-pub mod Counts
-pub mod Fitting

@@ -1,8 +1,8 @@
 -- The raw change of each edit.
 use Rattle.std.specs.Prelude.{ℕ, List}
 use Rattle.numbered_lists.specs.Moved.{changed}
-use Rattle.bank_core.specs.declared.parts.Sample.{Sample}
-use Rattle.bank_core.specs.declared.parts.Parts.{Parts}
+use Rattle.bank_parts.specs.declared.parts.Sample.{Sample}
+use Rattle.bank_parts.specs.declared.parts.Parts.{Parts}
 
 -- the sample with a name
 abbrev pub named : List ℕ → Sample → Sample

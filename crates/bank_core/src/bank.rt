@@ -1,20 +1,18 @@
 //! A bank that is always sound, and its raw changes.
 ghost use Rattle.std.specs.Prelude.{◌≡◌, ◌<◌, length, slice_get, IfSome, IfOk, IfErr, OnOk};
 ghost use Rattle.std.specs.Option.{option_copied};
-ghost use Rattle.bank_core.specs.Texts.{text_of};
+ghost use Rattle.bank_parts.specs.Texts.{text_of};
 ghost use Rattle.bank_core.specs.Members.{member_count, head_of, instrument_name_of};
-ghost use Rattle.bank_core.specs.Valid.{IsValid};
-ghost use Rattle.bank_core.specs.Fits.{Fits};
-ghost use Rattle.bank_core.specs.Sound.{IsSound};
+ghost use Rattle.bank_parts.specs.Valid.{IsValid};
+ghost use Rattle.bank_parts.specs.Fits.{Fits};
+ghost use Rattle.bank_parts.specs.Sound.{IsSound};
 ghost use Rattle.bank_core.specs.Faults.{IsPartsFault};
 ghost use Rattle.bank_core.specs.Raw.{sample_renamed};
 
-use crate::copying::copy_parts;
+use crate::fault::PartsFault;
 use crate::head::Head;
 use crate::members::Members;
-use crate::parts::{Instrument, Parts, Preset, Sample};
-use crate::texts::InfoId;
-use crate::validity::{PartsFault, is_valid};
+use bank_parts::{InfoId, Instrument, Parts, Preset, Sample, copy_parts, is_valid};
 use sf_base::{Name20, OutOfMemory};
 use std::alloc::Global;
 use std::marker::Model;
@@ -27,8 +25,8 @@ pub struct Bank<'a> {
 }
 
 impl<'a> Model for Bank<'a> {
-    ghost use Rattle.bank_core.specs.declared.parts.Parts.{Parts};
-    ghost use Rattle.bank_core.specs.Sound.{IsSound};
+    ghost use Rattle.bank_parts.specs.declared.parts.Parts.{Parts};
+    ghost use Rattle.bank_parts.specs.Sound.{IsSound};
     ghost use Rattle.generators.specs.contracts.gen_map.GenMap as gens;
     ghost use Rattle.std.specs.Coded.{codes};
 

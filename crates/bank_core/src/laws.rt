@@ -1,8 +1,8 @@
 //! Laws of banks as data.
 ghost use Rattle.std.specs.Prelude.{ℕ, List};
 ghost use Rattle.sf_base.specs.Names.{IsName};
-ghost use Rattle.bank_core.specs.declared.parts.Parts.{Parts};
-ghost use Rattle.bank_core.specs.Sound.{IsSound};
+ghost use Rattle.bank_parts.specs.declared.parts.Parts.{Parts};
+ghost use Rattle.bank_parts.specs.Sound.{IsSound};
 ghost use Rattle.bank_core.specs.Raw.{sample_renamed};
 
 /// A sound bank is sound with a sample renamed.

@@ -1,27 +1,18 @@
-//! A bank as its members: texts, presets and instruments with their zones, and samples with their
-//! points. A `Bank` is always sound.
+//! A bank as its members: a `Bank` is always sound, and a raw change of it is exactly its definition.
 #![tactic(auto)]
 
 mod bank;
-mod copying;
-mod counting;
+mod fault;
 mod head;
 mod laws;
 mod members;
-mod parts;
-mod texts;
-mod validity;
 mod zones;
 
 pub use bank::Bank;
+pub use bank_parts::{
+    GlobalZone, InfoId, Instrument, Kind, Parts, Preset, Sample, Text, Texts, Zone, is_valid,
+};
+pub use fault::PartsFault;
 pub use head::Head;
 pub use laws::renaming_keeps_sound;
 pub use members::{Members, Owner, Place};
-pub use parts::{GlobalZone, Instrument, Kind, Parts, Preset, Sample, Zone};
-pub use texts::{InfoId, Text, Texts};
-pub use validity::{PartsFault, is_valid};
-
-#[cfg(test)]
-mod plans;
-#[cfg(test)]
-mod tests;

@@ -3,8 +3,8 @@ use Rattle.std.proofs.Common.{◌≡◌, ◌<◌, ℕ, Bool, true, false, cond, 
 use Rattle.std.proofs.lemmas.Bool.{leb-false}
 use Rattle.std.specs.Prelude.{slice_get, IfSome}
 use Rattle.numbered_lists.proofs.Lists.{slice_get-found}
-use Rattle.bank_core.specs.declared.parts.Sample.{Sample}
-use Rattle.bank_core.specs.declared.parts.Parts.{Parts}
+use Rattle.bank_parts.specs.declared.parts.Sample.{Sample}
+use Rattle.bank_parts.specs.declared.parts.Parts.{Parts}
 use Rattle.bank_edits.specs.declared.edit.Edit.TheVariants.{RenameSample}
 use Rattle.bank_edits.specs.Edits.{refusal, inverse}
 

@@ -1,6 +1,6 @@
 //! One edit, done or refused.
 ghost use Rattle.std.specs.Prelude.{◌≡◌, None, MatchResult, IsOk, IfOk};
-ghost use Rattle.bank_core.specs.Sound.{IsSound};
+ghost use Rattle.bank_parts.specs.Sound.{IsSound};
 ghost use Rattle.bank_edits.specs.Edits.{FitsEdit, IsDone, IsRefused, NeedsNoMemory, refusal};
 
 use crate::changing::change;

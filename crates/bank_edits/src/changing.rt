@@ -1,6 +1,6 @@
 //! The change that an edit makes where it is not refused.
 ghost use Rattle.std.specs.Prelude.{◌≡◌, None, IsOk};
-ghost use Rattle.bank_core.specs.Sound.{IsSound};
+ghost use Rattle.bank_parts.specs.Sound.{IsSound};
 ghost use Rattle.bank_edits.specs.declared.edit.Edit.TheVariants as edits;
 ghost use Rattle.bank_edits.specs.Edits.{refusal, IsChange, NeedsNoMemory};
 

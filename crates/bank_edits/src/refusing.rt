@@ -1,6 +1,6 @@
 //! Why an edit is refused.
 ghost use Rattle.std.specs.Prelude.{◌≡◌};
-ghost use Rattle.bank_core.specs.Sound.{IsSound};
+ghost use Rattle.bank_parts.specs.Sound.{IsSound};
 ghost use Rattle.bank_edits.specs.declared.edit.Edit.TheVariants as edits;
 ghost use Rattle.bank_edits.specs.Edits.{refusal};
 

@@ -5,10 +5,10 @@ use Rattle.std.proofs.lemmas.List.{length-append}
 use Rattle.std.proofs.lemmas.List.Sums.{sum_by-cons}
 use Rattle.sample_view.proofs.WordLemmas.{words_of_bytes}
 use Rattle.riff_chunks.specs.Finding.{first_body}
-use Rattle.bank_core.specs.Valid.{IsValid, point_total}
-use Rattle.bank_core.specs.Fits.{Fits}
-use Rattle.bank_core.specs.declared.parts.Sample.{Sample}
-use Rattle.bank_core.specs.declared.parts.Parts.{Parts}
+use Rattle.bank_parts.specs.Valid.{IsValid, point_total}
+use Rattle.bank_parts.specs.Fits.{Fits}
+use Rattle.bank_parts.specs.declared.parts.Sample.{Sample}
+use Rattle.bank_parts.specs.declared.parts.Parts.{Parts}
 use Rattle.hydra_records.specs.declared.head.SampleHead.{SampleHead}
 use Rattle.bank_format.specs.Ids.{SMPL, SM24}
 use Rattle.bank_format.specs.Windows.{rows}

@@ -9,9 +9,9 @@ use Rattle.sample_view.proofs.WordLemmas.{length-word_bytes}
 use Rattle.riff_chunks.specs.Walk.{Chunk}
 use Rattle.riff_chunks.specs.Spelling.{chunk, spell, FitsChunk}
 use Rattle.riff_chunks.proofs.SpellingLemmas.{length-chunk}
-use Rattle.bank_core.specs.Valid.{IsValid, point_total}
-use Rattle.bank_core.specs.Fits.{Fits}
-use Rattle.bank_core.specs.declared.parts.Parts.{Parts}
+use Rattle.bank_parts.specs.Valid.{IsValid, point_total}
+use Rattle.bank_parts.specs.Fits.{Fits}
+use Rattle.bank_parts.specs.declared.parts.Parts.{Parts}
 use Rattle.hydra_records.specs.declared.head.SampleHead.{SampleHead}
 use Rattle.hydra_records.specs.Spelling.{preset_head_bytes, bag_bytes, modulator_bytes, generator_bytes, instrument_head_bytes, sample_head_bytes}
 use Rattle.bank_format.specs.Ids.{IFIL, ISNG, INAM, ICRD, IENG, IPRD, ICOP, ICMT, ISFT, SMPL, PHDR, PBAG, PMOD, PGEN, INST, IBAG, IMOD, IGEN, SHDR}

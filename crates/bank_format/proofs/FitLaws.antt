@@ -11,15 +11,15 @@ use Rattle.generators.specs.Levels.{target_operator}
 use Rattle.generators.specs.declared.level.Level.{Level}
 use Rattle.generators.specs.declared.level.Level.TheVariants as level
 use Rattle.modulators.specs.Modulators.{FitsModulator}
-use Rattle.bank_core.specs.Valid.{IsSample, IsLink, IsLoop, zone_count, gen_count, mod_count, preset_total, instrument_total, point_total}
-use Rattle.bank_core.specs.Fits.{FitsZone, FitsGlobal, FitsPreset, FitsInstrument, FitsSample}
-use Rattle.bank_core.specs.declared.parts.Kind.{Kind}
-use Rattle.bank_core.specs.declared.parts.Kind.TheVariants.{Mono, Right, Left, Linked}
-use Rattle.bank_core.specs.declared.parts.GlobalZone.{GlobalZone}
-use Rattle.bank_core.specs.declared.parts.Zone.{Zone}
-use Rattle.bank_core.specs.declared.parts.Preset.{Preset}
-use Rattle.bank_core.specs.declared.parts.Instrument.{Instrument}
-use Rattle.bank_core.specs.declared.parts.Sample.{Sample}
+use Rattle.bank_parts.specs.Valid.{IsSample, IsLink, IsLoop, zone_count, gen_count, mod_count, preset_total, instrument_total, point_total}
+use Rattle.bank_parts.specs.Fits.{FitsZone, FitsGlobal, FitsPreset, FitsInstrument, FitsSample}
+use Rattle.bank_parts.specs.declared.parts.Kind.{Kind}
+use Rattle.bank_parts.specs.declared.parts.Kind.TheVariants.{Mono, Right, Left, Linked}
+use Rattle.bank_parts.specs.declared.parts.GlobalZone.{GlobalZone}
+use Rattle.bank_parts.specs.declared.parts.Zone.{Zone}
+use Rattle.bank_parts.specs.declared.parts.Preset.{Preset}
+use Rattle.bank_parts.specs.declared.parts.Instrument.{Instrument}
+use Rattle.bank_parts.specs.declared.parts.Sample.{Sample}
 use Rattle.hydra_records.specs.Fits.{FitsBag, FitsGenerator, FitsPresetHead, FitsInstrumentHead, FitsSampleHead}
 use Rattle.bank_format.specs.Ids.{EOP, EOI, EOS}
 use Rattle.bank_format.specs.Windows.{ends, starts, together}

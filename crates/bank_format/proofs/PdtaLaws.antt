@@ -7,11 +7,11 @@ use Rattle.std.proofs.lemmas.List.{length-append}
 use Rattle.generators.specs.declared.level.Level.TheVariants as level
 use Rattle.modulators.specs.declared.modulator.Modulator.{Modulator}
 use Rattle.modulators.specs.Modulators.{FitsModulator}
-use Rattle.bank_core.specs.Valid.{IsValid, zone_count, gen_count, mod_count, preset_total, instrument_total}
-use Rattle.bank_core.specs.Fits.{Fits, FitsPreset, FitsInstrument}
-use Rattle.bank_core.specs.declared.parts.Preset.{Preset}
-use Rattle.bank_core.specs.declared.parts.Instrument.{Instrument}
-use Rattle.bank_core.specs.declared.parts.Parts.{Parts}
+use Rattle.bank_parts.specs.Valid.{IsValid, zone_count, gen_count, mod_count, preset_total, instrument_total}
+use Rattle.bank_parts.specs.Fits.{Fits, FitsPreset, FitsInstrument}
+use Rattle.bank_parts.specs.declared.parts.Preset.{Preset}
+use Rattle.bank_parts.specs.declared.parts.Instrument.{Instrument}
+use Rattle.bank_parts.specs.declared.parts.Parts.{Parts}
 use Rattle.hydra_records.specs.Fits.{FitsBag, FitsGenerator, FitsPresetHead, FitsInstrumentHead, FitsSampleHead}
 use Rattle.hydra_records.specs.Spelling.{preset_head_bytes, bag_bytes, modulator_bytes, generator_bytes, instrument_head_bytes, sample_head_bytes}
 use Rattle.hydra_records.proofs.KindLaws.{preset_head_lawful, bag_lawful, modulator_lawful, generator_lawful, instrument_head_lawful, sample_head_lawful}

@@ -8,10 +8,10 @@ use Rattle.std.specs.FinMap.{len}
 use Rattle.std.proofs.lemmas.List.Sums.{sum_by-cons}
 use Rattle.generators.specs.declared.level.Level.{Level}
 use Rattle.modulators.specs.Modulators.{FitsModulator}
-use Rattle.bank_core.specs.declared.parts.GlobalZone.{GlobalZone}
-use Rattle.bank_core.specs.declared.parts.Zone.{Zone}
-use Rattle.bank_core.specs.Valid.{AreGenerators, global_count, zone_count, gen_count, mod_count}
-use Rattle.bank_core.specs.Fits.{FitsGlobal, FitsZone}
+use Rattle.bank_parts.specs.declared.parts.GlobalZone.{GlobalZone}
+use Rattle.bank_parts.specs.declared.parts.Zone.{Zone}
+use Rattle.bank_parts.specs.Valid.{AreGenerators, global_count, zone_count, gen_count, mod_count}
+use Rattle.bank_parts.specs.Fits.{FitsGlobal, FitsZone}
 use Rattle.hydra_records.specs.declared.zone.Generator.{Generator}
 use Rattle.hydra_records.specs.Fits.{FitsGenerator}
 use Rattle.bank_format.specs.Zones.{Bagged, is_target, target_of, gens_read, zone_of, zone_read, zones_read, no_global, has_target, global_read}

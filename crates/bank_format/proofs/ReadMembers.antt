@@ -6,11 +6,11 @@ use Rattle.std.proofs.lemmas.Bool.{ltb-true}
 use Rattle.sf_base.specs.Names.{IsName}
 use Rattle.generators.specs.declared.level.Level.{Level}
 use Rattle.generators.specs.declared.level.Level.TheVariants as level
-use Rattle.bank_core.specs.declared.parts.Zone.{Zone}
-use Rattle.bank_core.specs.declared.parts.Preset.{Preset}
-use Rattle.bank_core.specs.declared.parts.Instrument.{Instrument}
-use Rattle.bank_core.specs.Valid.{AreGenerators, IsZone, IsPreset, IsInstrument, zone_count, gen_count, mod_count, preset_total, instrument_total}
-use Rattle.bank_core.specs.Fits.{FitsPreset, FitsInstrument}
+use Rattle.bank_parts.specs.declared.parts.Zone.{Zone}
+use Rattle.bank_parts.specs.declared.parts.Preset.{Preset}
+use Rattle.bank_parts.specs.declared.parts.Instrument.{Instrument}
+use Rattle.bank_parts.specs.Valid.{AreGenerators, IsZone, IsPreset, IsInstrument, zone_count, gen_count, mod_count, preset_total, instrument_total}
+use Rattle.bank_parts.specs.Fits.{FitsPreset, FitsInstrument}
 use Rattle.hydra_records.specs.declared.head.PresetHead.{PresetHead}
 use Rattle.hydra_records.specs.declared.head.InstrumentHead.{InstrumentHead}
 use Rattle.hydra_records.specs.Fits.{FitsPresetHead, FitsInstrumentHead}

@@ -7,11 +7,11 @@ use Rattle.std.proofs.lemmas.List.{length-take, length-drop}
 use Rattle.std.proofs.lemmas.List.Sums.{sum_by-cons}
 use Rattle.sample_view.specs.Words.{AreWords}
 use Rattle.sample_view.proofs.WordLemmas.{AreWords-take, AreWords-drop}
-use Rattle.bank_core.specs.Valid.{IsSample, IsLoop, IsLink, point_total}
-use Rattle.bank_core.specs.Fits.{FitsLoop, FitsKind, FitsSample}
-use Rattle.bank_core.specs.declared.parts.Kind.{Kind}
-use Rattle.bank_core.specs.declared.parts.Kind.TheVariants.{Mono, Right, Left, Linked}
-use Rattle.bank_core.specs.declared.parts.Sample.{Sample}
+use Rattle.bank_parts.specs.Valid.{IsSample, IsLoop, IsLink, point_total}
+use Rattle.bank_parts.specs.Fits.{FitsLoop, FitsKind, FitsSample}
+use Rattle.bank_parts.specs.declared.parts.Kind.{Kind}
+use Rattle.bank_parts.specs.declared.parts.Kind.TheVariants.{Mono, Right, Left, Linked}
+use Rattle.bank_parts.specs.declared.parts.Sample.{Sample}
 use Rattle.hydra_records.specs.declared.head.SampleHead.{SampleHead}
 use Rattle.hydra_records.specs.Fits.{FitsSampleHead}
 use Rattle.hydra_records.specs.Records.{AreBytes, ReadFits, records}

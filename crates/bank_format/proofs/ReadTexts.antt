@@ -4,9 +4,9 @@ use Rattle.std.specs.List.{AllByRecursion}
 use Rattle.std.proofs.lemmas.List.{length-take}
 use Rattle.sf_base.specs.Names.{IsTextByte, IsText, IsName, before_zero}
 use Rattle.riff_chunks.specs.Walk.{Chunk}
-use Rattle.bank_core.specs.declared.texts.Texts.{Texts}
-use Rattle.bank_core.specs.Valid.{AreTexts}
-use Rattle.bank_core.specs.Fits.{FitsText, FitTexts}
+use Rattle.bank_parts.specs.declared.texts.Texts.{Texts}
+use Rattle.bank_parts.specs.Valid.{AreTexts}
+use Rattle.bank_parts.specs.Fits.{FitsText, FitTexts}
 use Rattle.hydra_records.specs.Records.{AreBytes}
 use Rattle.bank_format.specs.Ids.{ISNG, INAM, ICRD, IENG, IPRD, ICOP, ICMT, ISFT, EMU8000}
 use Rattle.bank_format.specs.Texts.{text_in, engine_read, texts_read}

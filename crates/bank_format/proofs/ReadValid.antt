@@ -8,9 +8,9 @@ use Rattle.sample_view.proofs.WordLemmas.{AreWords-words}
 use Rattle.riff_chunks.specs.Walk.{Chunk}
 use Rattle.modulators.specs.declared.modulator.Modulator.{Modulator}
 use Rattle.modulators.specs.Modulators.{FitsModulator}
-use Rattle.bank_core.specs.declared.parts.Preset.{Preset}
-use Rattle.bank_core.specs.Valid.{IsValid, IsWithin}
-use Rattle.bank_core.specs.Fits.{Fits}
+use Rattle.bank_parts.specs.declared.parts.Preset.{Preset}
+use Rattle.bank_parts.specs.Valid.{IsValid, IsWithin}
+use Rattle.bank_parts.specs.Fits.{Fits}
 use Rattle.hydra_records.specs.declared.head.PresetHead.{PresetHead}
 use Rattle.hydra_records.specs.declared.head.InstrumentHead.{InstrumentHead}
 use Rattle.hydra_records.specs.declared.head.SampleHead.{SampleHead}

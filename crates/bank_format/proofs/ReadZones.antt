@@ -14,7 +14,7 @@ use Rattle.generators.specs.Ranges.{IsRange}
 use Rattle.generators.specs.declared.level.Level.{Level}
 use Rattle.generators.proofs.Order.{operator_cmp-IsTotalOrder}
 use Rattle.generators.proofs.EntryLaws.{All-insert, All-no_gens}
-use Rattle.bank_core.specs.Valid.{IsGenerator, AreGenerators}
+use Rattle.bank_parts.specs.Valid.{IsGenerator, AreGenerators}
 use Rattle.hydra_records.specs.declared.zone.Generator.{Generator}
 use Rattle.hydra_records.specs.Fits.{FitsGenerator}
 use Rattle.bank_format.specs.Zones.{is_target, target_of, before_target, allowed_in, last_of_each, kept, is_range, range_mended, mended, gens_of, gens_read}

@@ -8,9 +8,9 @@ use Rattle.riff_chunks.specs.Walk.{Chunk, LIST, walk}
 use Rattle.riff_chunks.specs.Finding.{chunks_in, is_whole, first_list}
 use Rattle.riff_chunks.specs.Spelling.{chunk_head, pad, spell}
 use Rattle.riff_chunks.proofs.SpellingLemmas.{length-pad, length-chunk_head, Headed, chunk_head-Headed, chunks_in-spell, is_whole-spell}
-use Rattle.bank_core.specs.Valid.{IsValid}
-use Rattle.bank_core.specs.Fits.{Fits}
-use Rattle.bank_core.specs.declared.parts.Parts.{Parts}
+use Rattle.bank_parts.specs.Valid.{IsValid}
+use Rattle.bank_parts.specs.Fits.{Fits}
+use Rattle.bank_parts.specs.declared.parts.Parts.{Parts}
 use Rattle.bank_format.specs.Ids.{RIFF, SFBK, INFO, SDTA, PDTA}
 use Rattle.bank_format.specs.Steps.{first_broken}
 use Rattle.bank_format.specs.Tables.{Tables, tables_of}

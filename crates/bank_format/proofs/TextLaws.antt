@@ -11,8 +11,8 @@ use Rattle.riff_chunks.specs.Walk.{Chunk}
 use Rattle.riff_chunks.specs.Finding.{first_body}
 use Rattle.sf_base.specs.Fields.{field_at}
 use Rattle.sf_base.specs.Names.{IsTextByte, before_zero}
-use Rattle.bank_core.specs.Valid.{AreTexts}
-use Rattle.bank_core.specs.declared.parts.Parts.{Parts}
+use Rattle.bank_parts.specs.Valid.{AreTexts}
+use Rattle.bank_parts.specs.declared.parts.Parts.{Parts}
 use Rattle.bank_format.specs.Ids.{IFIL, ISNG, INAM, ICRD, IENG, IPRD, ICOP, ICMT, ISFT}
 use Rattle.bank_format.specs.Canon.{text_chunk_if, version, info}
 use Rattle.bank_format.specs.Chunks.{body_in}

@@ -7,8 +7,8 @@ pub use Rattle.riff_chunks.specs.Spelling
 pub use Rattle.generators.specs.Gens
 pub use Rattle.generators.specs.Levels
 pub use Rattle.generators.specs.Ranges
-pub use Rattle.bank_core.specs.Valid
-pub use Rattle.bank_core.specs.Fits
+pub use Rattle.bank_parts.specs.Valid
+pub use Rattle.bank_parts.specs.Fits
 pub mod FaultNames
 pub mod Ids
 pub mod Windows

@@ -4,10 +4,10 @@ use Rattle.std.specs.List.{list_all}
 use Rattle.sf_base.specs.Fields.{field_at}
 use Rattle.riff_chunks.specs.Walk.{Chunk, walk}
 use Rattle.riff_chunks.specs.Finding.{is_whole, chunks_in, first_body, first_list}
-use Rattle.bank_core.specs.declared.parts.Zone.{Zone}
-use Rattle.bank_core.specs.declared.parts.Preset.{Preset}
-use Rattle.bank_core.specs.declared.parts.Instrument.{Instrument}
-use Rattle.bank_core.specs.declared.parts.Parts.{Parts}
+use Rattle.bank_parts.specs.declared.parts.Zone.{Zone}
+use Rattle.bank_parts.specs.declared.parts.Preset.{Preset}
+use Rattle.bank_parts.specs.declared.parts.Instrument.{Instrument}
+use Rattle.bank_parts.specs.declared.parts.Parts.{Parts}
 use Rattle.hydra_records.specs.declared.head.PresetHead.{PresetHead}
 use Rattle.hydra_records.specs.declared.head.InstrumentHead.{InstrumentHead}
 use Rattle.hydra_records.specs.declared.head.SampleHead.{SampleHead}

@@ -2,9 +2,9 @@
 use Rattle.std.specs.Prelude.{◌-◌, ◌==◌, ℕ, List, Option, Some, None, Bool, nat_le, nat_lt, ◌&&◌, ◌||◌, not, if◌then◌else◌}
 use Rattle.std.specs.List.{slice_range}
 use Rattle.sf_base.specs.Names.{before_zero}
-use Rattle.bank_core.specs.declared.parts.Kind.{Kind}
-use Rattle.bank_core.specs.declared.parts.Kind.TheVariants.{Mono, Right, Left, Linked}
-use Rattle.bank_core.specs.declared.parts.Sample.{Sample}
+use Rattle.bank_parts.specs.declared.parts.Kind.{Kind}
+use Rattle.bank_parts.specs.declared.parts.Kind.TheVariants.{Mono, Right, Left, Linked}
+use Rattle.bank_parts.specs.declared.parts.Sample.{Sample}
 use Rattle.hydra_records.specs.declared.head.SampleHead.{SampleHead}
 
 -- ---- the loop

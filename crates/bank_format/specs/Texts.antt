@@ -3,7 +3,7 @@ use Rattle.std.specs.Prelude.{◌+◌, ◌%◌, ◌==◌, ℕ, List, [], ◌∷�
 use Rattle.sf_base.specs.Names.{before_zero}
 use Rattle.riff_chunks.specs.Walk.{Chunk}
 use Rattle.riff_chunks.specs.Finding.{first_body}
-use Rattle.bank_core.specs.declared.texts.Texts.{Texts}
+use Rattle.bank_parts.specs.declared.texts.Texts.{Texts}
 use Rattle.bank_format.specs.Ids as id
 
 -- a text is followed by one zero byte if its length is odd, else by two

@@ -9,8 +9,8 @@ use Rattle.generators.specs.Levels.{target_operator, is_allowed}
 use Rattle.generators.specs.Ranges.{is_range_operator}
 use Rattle.generators.specs.declared.level.Level.{Level}
 use Rattle.modulators.specs.declared.modulator.Modulator.{Modulator}
-use Rattle.bank_core.specs.declared.parts.GlobalZone.{GlobalZone}
-use Rattle.bank_core.specs.declared.parts.Zone.{Zone}
+use Rattle.bank_parts.specs.declared.parts.GlobalZone.{GlobalZone}
+use Rattle.bank_parts.specs.declared.parts.Zone.{Zone}
 use Rattle.hydra_records.specs.declared.zone.Generator.{Generator}
 
 -- what a bag holds

@@ -1,9 +1,9 @@
 //! Laws of the format.
 ghost use Rattle.std.specs.Prelude.{◌≡◌, ℕ, List, None};
 ghost use Rattle.hydra_records.specs.Records.{AreBytes};
-ghost use Rattle.bank_core.specs.declared.parts.Parts.{Parts};
-ghost use Rattle.bank_core.specs.Valid.{IsValid};
-ghost use Rattle.bank_core.specs.Fits.{Fits};
+ghost use Rattle.bank_parts.specs.declared.parts.Parts.{Parts};
+ghost use Rattle.bank_parts.specs.Valid.{IsValid};
+ghost use Rattle.bank_parts.specs.Fits.{Fits};
 ghost use Rattle.bank_format.specs.Canon.{canon};
 ghost use Rattle.bank_format.specs.Indexes.{IndexesAreSums};
 ghost use Rattle.bank_format.specs.Chunks.{window};

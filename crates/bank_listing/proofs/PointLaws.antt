@@ -1,8 +1,8 @@
 -- The number of all points.
 use Rattle.std.proofs.Common.{◌≤◌, ◌+◌, List, [], ◌∷◌, length, arith}
 use Rattle.std.proofs.lemmas.List.Sums.{sum_by-cons}
-use Rattle.bank_core.specs.declared.parts.Sample.{Sample}
-use Rattle.bank_core.specs.Valid.{point_total}
+use Rattle.bank_parts.specs.declared.parts.Sample.{Sample}
+use Rattle.bank_parts.specs.Valid.{point_total}
 use Rattle.bank_listing.specs.Listing.{point_count}
 
 -- the zero points of a file are no fewer than none

@@ -1,12 +1,12 @@
 -- What is told of a bank: a line of its own, one of the counts of reading it, and one of each member.
 use Rattle.std.specs.Prelude.{ℕ, suc, List, [], ◌∷◌, ◌++◌, length, sum_by, codes, Option, Some, None}
 use Rattle.std.specs.Fmt.{signed_decimal}
-use Rattle.bank_core.specs.declared.parts.Kind.{Kind}
-use Rattle.bank_core.specs.declared.parts.Kind.TheVariants.{Mono, Right, Left, Linked}
-use Rattle.bank_core.specs.declared.parts.Preset.{Preset}
-use Rattle.bank_core.specs.declared.parts.Instrument.{Instrument}
-use Rattle.bank_core.specs.declared.parts.Sample.{Sample}
-use Rattle.bank_core.specs.declared.parts.Parts.{Parts}
+use Rattle.bank_parts.specs.declared.parts.Kind.{Kind}
+use Rattle.bank_parts.specs.declared.parts.Kind.TheVariants.{Mono, Right, Left, Linked}
+use Rattle.bank_parts.specs.declared.parts.Preset.{Preset}
+use Rattle.bank_parts.specs.declared.parts.Instrument.{Instrument}
+use Rattle.bank_parts.specs.declared.parts.Sample.{Sample}
+use Rattle.bank_parts.specs.declared.parts.Parts.{Parts}
 use Rattle.bank_format.specs.declared.fault.Counts.{Counts}
 use Rattle.edit_script.specs.declared.printing.Piece.{Piece}
 use Rattle.edit_script.specs.declared.printing.Piece.TheVariants.{Number, Word, Name}

@@ -1,6 +1,6 @@
 -- The last part of a listing.
 use Rattle.std.specs.Prelude.{ℕ, List, ◌++◌}
-use Rattle.bank_core.specs.declared.parts.Parts.{Parts}
+use Rattle.bank_parts.specs.declared.parts.Parts.{Parts}
 use Rattle.bank_listing.specs.Listing.{preset_line, instrument_line, sample_line, lines_from}
 
 -- the lines of all presets, instruments and samples

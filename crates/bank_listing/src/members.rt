@@ -3,7 +3,7 @@ ghost use Rattle.std.specs.Prelude.{◌≡◌, ◌≤◌, ◌<◌, ◌+◌, ◌�
 ghost use Rattle.std.specs.Fmt.{signed_decimal};
 ghost use Rattle.sf_base.specs.Pen.{Puts};
 ghost use Rattle.edit_script.specs.declared.printing.Piece.TheVariants.{Word, Number};
-ghost use Rattle.bank_core.specs.declared.parts.Kind.TheVariants.{Mono};
+ghost use Rattle.bank_parts.specs.declared.parts.Kind.TheVariants.{Mono};
 ghost use Rattle.bank_listing.specs.Listing.{preset_line, instrument_line, sample_line, kind_pieces};
 
 use crate::pieces::{name_piece, number_piece, put_short, word_piece};

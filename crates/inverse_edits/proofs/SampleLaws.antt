@@ -3,10 +3,10 @@ use Rattle.std.proofs.Common.{◌≡◌, ◌<◌, ℕ, false, leb, List, length,
 use Rattle.std.proofs.lemmas.Bool.{lt-leb}
 use Rattle.std.specs.Prelude.{slice_get}
 use Rattle.numbered_lists.proofs.Lists.{slice_get-found, slice_get-changed, length-changed, changed-back}
-use Rattle.bank_core.specs.declared.parts.Sample.{Sample}
-use Rattle.bank_core.specs.declared.parts.Parts.{Parts}
-use Rattle.bank_core.specs.Sound.{IsSound}
-use Rattle.bank_core.specs.Fits.{FitsSample}
+use Rattle.bank_parts.specs.declared.parts.Sample.{Sample}
+use Rattle.bank_parts.specs.declared.parts.Parts.{Parts}
+use Rattle.bank_parts.specs.Sound.{IsSound}
+use Rattle.bank_parts.specs.Fits.{FitsSample}
 use Rattle.bank_core.specs.Raw.{named, sample_renamed}
 use Rattle.bank_core.proofs.Changes.{all_found}
 use Rattle.bank_core.proofs.Renaming.{renamed_sound}

@@ -1,7 +1,7 @@
 -- How a form's law follows from its facts.
 use Rattle.std.proofs.Common.{◌≡◌}
-use Rattle.bank_core.specs.declared.parts.Parts.{Parts}
-use Rattle.bank_core.specs.Sound.{IsSound}
+use Rattle.bank_parts.specs.declared.parts.Parts.{Parts}
+use Rattle.bank_parts.specs.Sound.{IsSound}
 use Rattle.bank_edits.specs.declared.edit.Edit.{Edit}
 use Rattle.bank_edits.specs.Edits.{raw, inverse}
 use Rattle.inverse_edits.specs.Undone.{IsTaken, IsUndone}

@@ -1,6 +1,6 @@
-pub use Rattle.bank_core.specs.Valid
-pub use Rattle.bank_core.specs.Fits
-pub use Rattle.bank_core.specs.Sound
+pub use Rattle.bank_parts.specs.Valid
+pub use Rattle.bank_parts.specs.Fits
+pub use Rattle.bank_parts.specs.Sound
 pub use Rattle.bank_edits.specs.Edits
 pub mod Undone
 pub mod Runs

@@ -1,7 +1,7 @@
 -- Undo restores.
 use Rattle.std.specs.Prelude.{◌≡◌, None}
-use Rattle.bank_core.specs.declared.parts.Parts.{Parts}
-use Rattle.bank_core.specs.Sound.{IsSound}
+use Rattle.bank_parts.specs.declared.parts.Parts.{Parts}
+use Rattle.bank_parts.specs.Sound.{IsSound}
 use Rattle.bank_edits.specs.declared.edit.Edit.{Edit}
 use Rattle.bank_edits.specs.Edits.{FitsEdit, raw, refusal, inverse}
 

@@ -2,8 +2,8 @@
 use Rattle.std.proofs.Common.{◌≡◌, ◌∙◌, ℕ, List, length, refl, ap}
 use Rattle.std.specs.Prelude.{count_by}
 use Rattle.riff_chunks.specs.Walk.{Chunk}
-use Rattle.bank_core.specs.declared.parts.Sample.{Sample}
-use Rattle.bank_core.specs.declared.texts.Texts.{Texts}
+use Rattle.bank_parts.specs.declared.parts.Sample.{Sample}
+use Rattle.bank_parts.specs.declared.texts.Texts.{Texts}
 use Rattle.hydra_records.specs.declared.head.SampleHead.{SampleHead}
 use Rattle.bank_format.specs.Windows.{rows}
 use Rattle.bank_format.specs.Tables.{Tables}

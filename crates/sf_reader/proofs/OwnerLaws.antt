@@ -8,8 +8,8 @@ use Rattle.generators.specs.declared.level.Level.{Level}
 use Rattle.modulators.specs.declared.modulator.Modulator.{Modulator}
 use Rattle.hydra_records.specs.declared.zone.Bag.{Bag}
 use Rattle.hydra_records.specs.declared.zone.Generator.{Generator}
-use Rattle.bank_core.specs.declared.parts.GlobalZone.{GlobalZone}
-use Rattle.bank_core.specs.declared.parts.Zone.{Zone}
+use Rattle.bank_parts.specs.declared.parts.GlobalZone.{GlobalZone}
+use Rattle.bank_parts.specs.declared.parts.Zone.{Zone}
 use Rattle.sf_base.specs.declared.memory.Failure.{Failure}
 use Rattle.bank_format.specs.declared.fault.ReadFault.{ReadFault}
 use Rattle.bank_format.specs.Steps.{Step, first_broken, Fails, PassesGivenMemory}

@@ -5,9 +5,9 @@ use Rattle.std.proofs.lemmas.Bool.{ne_eqb}
 use Rattle.std.proofs.lemmas.List.{length-map}
 use Rattle.riff_chunks.specs.Walk.{Chunk}
 use Rattle.generators.specs.declared.level.Level.TheVariants as level
-use Rattle.bank_core.specs.declared.parts.Zone.{Zone}
-use Rattle.bank_core.specs.declared.parts.Preset.{Preset}
-use Rattle.bank_core.specs.declared.parts.Instrument.{Instrument}
+use Rattle.bank_parts.specs.declared.parts.Zone.{Zone}
+use Rattle.bank_parts.specs.declared.parts.Preset.{Preset}
+use Rattle.bank_parts.specs.declared.parts.Instrument.{Instrument}
 use Rattle.sample_view.specs.Words.{words}
 use Rattle.sample_view.proofs.WordLemmas.{length-words}
 use Rattle.hydra_records.specs.declared.head.PresetHead.{PresetHead}

@@ -1,6 +1,6 @@
 -- The steps of the three lists, and what they hold, by the parts in which the reader goes through them.
 use Rattle.std.specs.Prelude.{◌==◌, ◌&&◌, ◌+◌, ◌%◌, ◌++◌, ℕ, List, [], ◌∷◌, length, count_by, flat_map}
-use Rattle.bank_core.specs.declared.parts.Sample.{Sample}
+use Rattle.bank_parts.specs.declared.parts.Sample.{Sample}
 use Rattle.sf_base.specs.Fields.{field_at}
 use Rattle.sample_view.specs.Words.{words}
 use Rattle.bank_format.specs.declared.fault.ReadFault.TheVariants.{Version, OddSamples}

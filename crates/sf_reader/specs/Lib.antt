@@ -1,5 +1,5 @@
-pub use Rattle.bank_core.specs.Valid
-pub use Rattle.bank_core.specs.Fits
+pub use Rattle.bank_parts.specs.Valid
+pub use Rattle.bank_parts.specs.Fits
 pub use Rattle.bank_format.specs.Steps
 pub use Rattle.bank_format.specs.Chunks
 pub use Rattle.bank_format.specs.Reading

@@ -7,10 +7,10 @@ use Rattle.generators.specs.declared.level.Level.{Level}
 use Rattle.generators.specs.declared.level.Level.TheVariants as level
 use Rattle.hydra_records.specs.declared.head.PresetHead.{PresetHead}
 use Rattle.hydra_records.specs.declared.head.InstrumentHead.{InstrumentHead}
-use Rattle.bank_core.specs.declared.parts.GlobalZone.{GlobalZone}
-use Rattle.bank_core.specs.declared.parts.Zone.{Zone}
-use Rattle.bank_core.specs.declared.parts.Preset.{Preset}
-use Rattle.bank_core.specs.declared.parts.Instrument.{Instrument}
+use Rattle.bank_parts.specs.declared.parts.GlobalZone.{GlobalZone}
+use Rattle.bank_parts.specs.declared.parts.Zone.{Zone}
+use Rattle.bank_parts.specs.declared.parts.Preset.{Preset}
+use Rattle.bank_parts.specs.declared.parts.Instrument.{Instrument}
 use Rattle.bank_format.specs.declared.fault.ReadFault.{ReadFault}
 use Rattle.bank_format.specs.declared.fault.ReadFault.TheVariants.{BadInstrument, BadSample}
 use Rattle.bank_format.specs.Steps.{Step}

@@ -1,7 +1,7 @@
 -- The eight texts of a file.
 use Rattle.std.specs.Prelude.{◌+◌, ℕ, List, take}
 use Rattle.riff_chunks.specs.Walk.{Chunk}
-use Rattle.bank_core.specs.declared.texts.Texts.{Texts}
+use Rattle.bank_parts.specs.declared.texts.Texts.{Texts}
 use Rattle.bank_format.specs.Ids as id
 use Rattle.bank_format.specs.Texts.{text_in, engine_read, over}
 

@@ -1,8 +1,8 @@
 //! The heads of presets and instruments, to which zones belong (SoundFont 2.04, sections 7.2 and 7.6).
 ghost use Rattle.std.specs.Prelude.{◌≡◌, ℕ, List, length};
 ghost use Rattle.generators.specs.declared.level.Level.{Level};
-ghost use Rattle.bank_core.specs.declared.parts.GlobalZone.{GlobalZone};
-ghost use Rattle.bank_core.specs.declared.parts.Zone.{Zone};
+ghost use Rattle.bank_parts.specs.declared.parts.GlobalZone.{GlobalZone};
+ghost use Rattle.bank_parts.specs.declared.parts.Zone.{Zone};
 ghost use Rattle.bank_format.specs.declared.fault.ReadFault.{ReadFault};
 ghost use Rattle.bank_format.specs.Windows.{rows};
 

@@ -1,8 +1,8 @@
 //! Reading a file.
 ghost use Rattle.std.specs.Prelude.{◌≡◌, ◌%◌, length, IfOk, IfErr, OnOk};
 ghost use Rattle.sf_base.specs.Fields.{field_at};
-ghost use Rattle.bank_core.specs.Valid.{IsValid};
-ghost use Rattle.bank_core.specs.Fits.{Fits};
+ghost use Rattle.bank_parts.specs.Valid.{IsValid};
+ghost use Rattle.bank_parts.specs.Fits.{Fits};
 ghost use Rattle.bank_format.specs.Ids.{SMPL};
 ghost use Rattle.bank_format.specs.Steps.{Passes, PassesGivenMemory, Fails};
 ghost use Rattle.bank_format.specs.Chunks.{body_in};

@@ -14,12 +14,12 @@ use Rattle.modulators.specs.declared.modulator.Modulator.{Modulator}
 use Rattle.hydra_records.specs.declared.zone.Bag.{Bag}
 use Rattle.hydra_records.specs.declared.zone.Generator.{Generator}
 use Rattle.hydra_records.specs.Spelling.{bag_bytes, modulator_bytes, generator_bytes}
-use Rattle.bank_core.specs.declared.parts.GlobalZone.{GlobalZone}
-use Rattle.bank_core.specs.declared.parts.Zone.{Zone}
-use Rattle.bank_core.specs.declared.parts.Preset.{Preset}
-use Rattle.bank_core.specs.declared.parts.Instrument.{Instrument}
-use Rattle.bank_core.specs.declared.parts.Parts.{Parts}
-use Rattle.bank_core.specs.Valid.{zone_count, gen_count, mod_count, IsValid}
+use Rattle.bank_parts.specs.declared.parts.GlobalZone.{GlobalZone}
+use Rattle.bank_parts.specs.declared.parts.Zone.{Zone}
+use Rattle.bank_parts.specs.declared.parts.Preset.{Preset}
+use Rattle.bank_parts.specs.declared.parts.Instrument.{Instrument}
+use Rattle.bank_parts.specs.declared.parts.Parts.{Parts}
+use Rattle.bank_parts.specs.Valid.{zone_count, gen_count, mod_count, IsValid}
 use Rattle.bank_format.specs.Zones.{Bagged, generator, gens_written, zone_written, bags_written}
 use Rattle.bank_format.specs.Tables.{bag, bag_list, mod_list, gen_list, modulator_end, generator_end, preset_bags, instrument_bags, all_preset_bags, all_instrument_bags}
 use Rattle.sf_writer.specs.Bags.{target_list, all_gens, all_mods, AreFew, bags_from}

@@ -4,7 +4,7 @@ use Rattle.std.proofs.lemmas.List.{length-append, append-nil}
 use Rattle.riff_chunks.specs.Walk.{LIST}
 use Rattle.riff_chunks.specs.Spelling.{chunk_head, spell}
 use Rattle.riff_chunks.proofs.SpellingLemmas.{length-chunk}
-use Rattle.bank_core.specs.declared.parts.Parts.{Parts}
+use Rattle.bank_parts.specs.declared.parts.Parts.{Parts}
 use Rattle.bank_format.specs.Ids.{RIFF, SFBK, INFO, SDTA, PDTA}
 use Rattle.bank_format.specs.Tables.{tables_of}
 use Rattle.bank_format.specs.Canon.{info, sdta, pdta, lists, canon}

@@ -8,10 +8,10 @@ use Rattle.byteorder.specs.Endian.{little_bytes}
 use Rattle.hydra_records.specs.declared.head.PresetHead.{PresetHead}
 use Rattle.hydra_records.specs.declared.head.InstrumentHead.{InstrumentHead}
 use Rattle.hydra_records.specs.Spelling.{preset_head_bytes, instrument_head_bytes}
-use Rattle.bank_core.specs.declared.parts.Preset.{Preset}
-use Rattle.bank_core.specs.declared.parts.Instrument.{Instrument}
-use Rattle.bank_core.specs.declared.parts.Parts.{Parts}
-use Rattle.bank_core.specs.Valid.{zone_count, IsPreset, IsInstrument, IsValid}
+use Rattle.bank_parts.specs.declared.parts.Preset.{Preset}
+use Rattle.bank_parts.specs.declared.parts.Instrument.{Instrument}
+use Rattle.bank_parts.specs.declared.parts.Parts.{Parts}
+use Rattle.bank_parts.specs.Valid.{zone_count, IsPreset, IsInstrument, IsValid}
 use Rattle.generators.specs.declared.level.Level.TheVariants as level
 use Rattle.bank_format.specs.Ids.{EOP, EOI}
 use Rattle.bank_format.specs.Tables.{tables_of, preset_end, preset_head, preset_heads_from, instrument_end, instrument_head, instrument_heads_from}

@@ -7,9 +7,9 @@ use Rattle.std.proofs.lemmas.List.Sums.{sum_by-cons}
 use Rattle.riff_chunks.specs.Walk.{LIST}
 use Rattle.riff_chunks.specs.Spelling.{chunk, chunk_head, spell}
 use Rattle.sample_view.specs.Words.{word_bytes}
-use Rattle.bank_core.specs.declared.parts.Sample.{Sample}
-use Rattle.bank_core.specs.declared.parts.Parts.{Parts}
-use Rattle.bank_core.specs.Valid.{point_total}
+use Rattle.bank_parts.specs.declared.parts.Sample.{Sample}
+use Rattle.bank_parts.specs.declared.parts.Parts.{Parts}
+use Rattle.bank_parts.specs.Valid.{point_total}
 use Rattle.bank_format.specs.Ids.{SDTA, SMPL}
 use Rattle.bank_format.specs.Tables.{all_points, points_written}
 use Rattle.bank_format.specs.Canon.{sdta}

@@ -11,9 +11,9 @@ use Rattle.riff_chunks.specs.Spelling.{chunk, chunk_head, spell}
 use Rattle.riff_chunks.proofs.SpellingLemmas.{length-chunk}
 use Rattle.hydra_records.specs.declared.head.SampleHead.{SampleHead}
 use Rattle.hydra_records.specs.Spelling.{preset_head_bytes, instrument_head_bytes, sample_head_bytes}
-use Rattle.bank_core.specs.declared.parts.Sample.{Sample}
-use Rattle.bank_core.specs.declared.parts.Parts.{Parts}
-use Rattle.bank_core.specs.Valid.{IsSample, IsValid}
+use Rattle.bank_parts.specs.declared.parts.Sample.{Sample}
+use Rattle.bank_parts.specs.declared.parts.Parts.{Parts}
+use Rattle.bank_parts.specs.Valid.{IsSample, IsValid}
 use Rattle.bank_format.specs.Ids.{PDTA, PHDR, INST, SHDR, EOS}
 use Rattle.bank_format.specs.Tables.{tables_of, sample_end, sample_head, sample_heads_from, all_preset_bags, all_instrument_bags}
 use Rattle.bank_format.specs.Canon.{pdta}

@@ -7,11 +7,11 @@ use Rattle.std.proofs.lemmas.List.Concat.{flat_map-append}
 use Rattle.riff_chunks.specs.Walk.{Chunk, LIST}
 use Rattle.riff_chunks.specs.Spelling.{chunk, chunk_head, spell}
 use Rattle.riff_chunks.proofs.SpellingLemmas.{length-chunk}
-use Rattle.bank_core.specs.declared.parts.Parts.{Parts}
-use Rattle.bank_core.specs.declared.texts.InfoId.{InfoId}
-use Rattle.bank_core.specs.declared.texts.InfoId.TheVariants.{Engine, Name, Date, Engineers, Product, Copyright, Comment, Software}
-use Rattle.bank_core.specs.Texts.{text_of}
-use Rattle.bank_core.specs.Valid.{IsValid}
+use Rattle.bank_parts.specs.declared.parts.Parts.{Parts}
+use Rattle.bank_parts.specs.declared.texts.InfoId.{InfoId}
+use Rattle.bank_parts.specs.declared.texts.InfoId.TheVariants.{Engine, Name, Date, Engineers, Product, Copyright, Comment, Software}
+use Rattle.bank_parts.specs.Texts.{text_of}
+use Rattle.bank_parts.specs.Valid.{IsValid}
 use Rattle.bank_format.specs.Ids.{INFO, IFIL, ISNG, INAM, ICRD, IENG, IPRD, ICOP, ICMT, ISFT}
 use Rattle.bank_format.specs.Texts.{text_body}
 use Rattle.bank_format.specs.Canon.{version, text_chunk_if, info}

@@ -1,7 +1,7 @@
 //! The bags of presets or of instruments, one after the other.
 ghost use Rattle.std.specs.Prelude.{◌≡◌, ◌≤◌, ◌+◌, ◌++◌, ◌∷◌, [], length, MatchOption, Some, None};
 ghost use Rattle.std.specs.Iterator.{YieldsFirstBy, item_count};
-ghost use Rattle.bank_core.specs.Valid.{zone_count};
+ghost use Rattle.bank_parts.specs.Valid.{zone_count};
 ghost use Rattle.bank_format.specs.Zones.{bags_written, gens_written, zone_written};
 ghost use Rattle.sf_writer.specs.Bags.{level_of, bags_of, owner_count};
 

@@ -53,7 +53,7 @@ impl Headed<38> for Preset {
     type Head = PresetHead;
 
     ghost use Rattle.std.proofs.Common.{lit<};
-    ghost use Rattle.bank_core.specs.Valid.{zone_count};
+    ghost use Rattle.bank_parts.specs.Valid.{zone_count};
     ghost use Rattle.bank_format.specs.Tables.{preset_head, preset_end};
 
     ghost head = { preset_head };
@@ -89,7 +89,7 @@ impl Headed<22> for Instrument {
     type Head = InstrumentHead;
 
     ghost use Rattle.std.proofs.Common.{lit<};
-    ghost use Rattle.bank_core.specs.Valid.{zone_count};
+    ghost use Rattle.bank_parts.specs.Valid.{zone_count};
     ghost use Rattle.bank_format.specs.Tables.{instrument_head, instrument_end};
 
     ghost head = { instrument_head };

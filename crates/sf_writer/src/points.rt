@@ -4,7 +4,7 @@ ghost use Rattle.sf_base.specs.Writing.{Sends};
 ghost use Rattle.sf_base.specs.Pen.{HasRoom, Puts};
 ghost use Rattle.riff_chunks.specs.Spelling.{spell};
 ghost use Rattle.sample_view.specs.Words.{word_bytes};
-ghost use Rattle.bank_core.specs.Valid.{point_total};
+ghost use Rattle.bank_parts.specs.Valid.{point_total};
 ghost use Rattle.bank_format.specs.Canon.{sdta};
 ghost use Rattle.bank_format.specs.Ids.{SDTA};
 ghost use Rattle.bank_format.specs.Tables.{all_points, points_written};

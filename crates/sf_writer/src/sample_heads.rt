@@ -3,7 +3,7 @@ ghost use Rattle.std.specs.Prelude.{◌≡◌, ◌+◌, ◌*◌, ◌<◌, ◌≤
 ghost use Rattle.sf_base.specs.Writing.{Sends};
 ghost use Rattle.sf_base.specs.Pen.{HasRoom, Puts};
 ghost use Rattle.hydra_records.specs.Spelling.{sample_head_bytes};
-ghost use Rattle.bank_core.specs.Valid.{IsLoop};
+ghost use Rattle.bank_parts.specs.Valid.{IsLoop};
 ghost use Rattle.bank_format.specs.Ids.{SHDR};
 ghost use Rattle.bank_format.specs.Tables.{tables_of, sample_head, kind_word, link_word};
 ghost use Rattle.sf_writer.specs.Lists.{table_bytes};

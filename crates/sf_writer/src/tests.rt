@@ -1,6 +1,6 @@
 ghost use Rattle.std.specs.Prelude.{◌≡◌, ◌≤◌, ◌+◌, length, Some};
 ghost use Rattle.sf_base.specs.Names.{IsName};
-ghost use Rattle.bank_core.specs.Valid.{AreTexts, IsSample};
+ghost use Rattle.bank_parts.specs.Valid.{AreTexts, IsSample};
 
 use crate::{encoded_len, write, write_counted};
 use bank_core::{Bank, Kind, Parts, Sample, Text, Texts};

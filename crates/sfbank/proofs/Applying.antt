@@ -1,6 +1,6 @@
 -- Lines that are applied one after the other.
 use Rattle.std.proofs.Common.{◌≡◌, ℕ, List, ◌++◌, drop, reverse}
-use Rattle.bank_core.specs.declared.parts.Parts.{Parts}
+use Rattle.bank_parts.specs.declared.parts.Parts.{Parts}
 use Rattle.bank_edits.specs.declared.edit.Edit.{Edit}
 use Rattle.inverse_edits.specs.Runs.{after_all, undo_list}
 use Rattle.edit_script.specs.declared.parsing.Line.{Line}

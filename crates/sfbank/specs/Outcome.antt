@@ -1,6 +1,6 @@
 -- What a run writes, or why it does not, from the bytes that it is given.
 use Rattle.std.specs.Prelude.{◌≡◌, ℕ, List, [], ◌∷◌, map, Option, Some, None, Result, Ok, Err}
-use Rattle.bank_core.specs.declared.parts.Parts.{Parts}
+use Rattle.bank_parts.specs.declared.parts.Parts.{Parts}
 use Rattle.bank_format.specs.declared.fault.ReadFault.{ReadFault}
 use Rattle.bank_format.specs.declared.fault.Counts.{Counts}
 use Rattle.bank_format.specs.Canon.{canon}

@@ -10,8 +10,8 @@ use Rattle.generators.specs.declared.level.Level.{Level}
 use Rattle.modulators.specs.declared.modulator.Modulator.{Modulator}
 use Rattle.hydra_records.specs.declared.zone.Bag.{Bag}
 use Rattle.hydra_records.specs.declared.zone.Generator.{Generator}
-use Rattle.bank_core.specs.declared.parts.GlobalZone.{GlobalZone}
-use Rattle.bank_core.specs.declared.parts.Zone.{Zone}
+use Rattle.bank_parts.specs.declared.parts.GlobalZone.{GlobalZone}
+use Rattle.bank_parts.specs.declared.parts.Zone.{Zone}
 use Rattle.bank_format.specs.Windows.{windows_from, together}
 use Rattle.bank_format.specs.Reading.{bagged, bags_in}
 use Rattle.bank_format.specs.Zones.{Bagged, target_of, has_target, zone_read, zone_of, zones_read, global_read, gens_read, no_global, looked_at, ignored, dropped, kept, is_mended, gens_dropped, ranges_mended}

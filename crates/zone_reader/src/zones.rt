@@ -7,7 +7,7 @@ ghost use Rattle.zone_reader.specs.Bags.{bags_read};
 ghost use Rattle.zone_reader.specs.Later.{AreFew, with_later};
 
 use crate::bag::{GensRead, read_gens, read_mods};
-use bank_core::{GlobalZone, Zone};
+use bank_parts::{GlobalZone, Zone};
 use generators::{GenMap, Level};
 use hydra_records::{Bag, Generator, Table};
 use modulators::Modulator;

@@ -1,6 +1,6 @@
 use Rattle.std.proofs.Common.{ap, arith, length}
 use Rattle.std.proofs.lemmas.List.Sums.{sum_by-drop_more}
-use Rattle.bank_core.specs.declared.parts.Sample.{Sample}
+use Rattle.bank_parts.specs.declared.parts.Sample.{Sample}
 use Rattle.bank_listing.specs.Listing.{point_count}
 use Rattle.bank_listing.proofs.PointLaws.{point_count_le_total}
 use Rattle.bank_listing.proofs.points.point_count.Goals as goal

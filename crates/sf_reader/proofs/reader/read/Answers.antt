@@ -1,7 +1,7 @@
 use Rattle.std.proofs.Common.{◌∙◌, ap, subst, sym}
 use Rattle.sf_base.specs.declared.memory.Failure.TheVariants.{Fault}
-use Rattle.bank_core.specs.Sound.{IsSound}
-use Rattle.bank_core.specs.Fits.{Fits}
+use Rattle.bank_parts.specs.Sound.{IsSound}
+use Rattle.bank_parts.specs.Fits.{Fits}
 use Rattle.bank_format.specs.Reading.{Content}
 use Rattle.bank_format.specs.ReadSteps.{fault_of}
 use Rattle.sf_reader.proofs.ByteLemmas.{are_bytes}

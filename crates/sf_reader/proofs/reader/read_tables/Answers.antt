@@ -1,6 +1,6 @@
 use Rattle.std.proofs.Common.{◌≡◌, ◌++◌, ◌∙◌, ap, sym, subst, None}
 use Rattle.sf_base.specs.declared.memory.Failure.TheVariants.{Fault}
-use Rattle.bank_core.specs.declared.parts.Parts.{Parts}
+use Rattle.bank_parts.specs.declared.parts.Parts.{Parts}
 use Rattle.sample_view.specs.Words.{words}
 use Rattle.bank_format.specs.declared.fault.Counts.{Counts}
 use Rattle.bank_format.specs.Steps.{first_broken}

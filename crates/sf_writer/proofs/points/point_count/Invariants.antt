@@ -1,5 +1,5 @@
 use Rattle.std.proofs.Common.{◌≡◌, ◌+◌, drop}
-use Rattle.bank_core.specs.Valid.{point_total}
+use Rattle.bank_parts.specs.Valid.{point_total}
 use Rattle.sf_writer.proofs.points.point_count.Given as goal
 
 -- the samples that are ahead fill up the count

@@ -1,6 +1,6 @@
 use Rattle.std.proofs.Common.{◌≡◌, ◌+◌, length, ap, arith}
 use Rattle.std.proofs.lemmas.Result.{err_from_is_err_and}
-use Rattle.bank_core.specs.Valid.{point_total}
+use Rattle.bank_parts.specs.Valid.{point_total}
 use Rattle.sf_base.proofs.PenLaws.{Putting-step, Putting-stop, Putting-room}
 use Rattle.sf_writer.proofs.PenLemmas.{Putting-from, Putting-last, Putting-last_room}
 use Rattle.sf_writer.proofs.PointLemmas.{point_total-next}

@@ -1,7 +1,7 @@
 use Rattle.std.proofs.Common.{◌≤◌, ◌+◌, drop}
 use Rattle.std.specs.List.{flat_map}
 use Rattle.hydra_records.specs.Spelling.{sample_head_bytes}
-use Rattle.bank_core.specs.Valid.{point_total}
+use Rattle.bank_parts.specs.Valid.{point_total}
 use Rattle.bank_format.specs.Tables.{tables_of}
 use Rattle.sf_base.proofs.PenLaws.{Putting}
 use Rattle.sf_writer.proofs.RecordLemmas.{heads_left}

@@ -1,5 +1,5 @@
 use Rattle.std.proofs.Common.{◌∙◌, ◌++◌, ◌∷◌, [], List, ap}
-use Rattle.bank_core.specs.declared.parts.Zone.{Zone}
+use Rattle.bank_parts.specs.declared.parts.Zone.{Zone}
 use Rattle.bank_format.specs.Reading.{bagged}
 use Rattle.zone_reader.proofs.Later.{first_global_as, first_zone_as}
 use Rattle.zone_reader.proofs.zones.read_first.Goals as goal

@@ -1,9 +1,0 @@
--- What every bank of the code is.
-use Rattle.bank_core.specs.declared.parts.Parts.{Parts}
-use Rattle.bank_core.specs.Valid.{IsValid}
-use Rattle.bank_core.specs.Fits.{Fits}
-
--- valid, with each number, name and text in the range of its field
-pub record IsSound (b : Parts) : Type 0 where
-  pub valid : IsValid b
-  pub fits : Fits b

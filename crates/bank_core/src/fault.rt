@@ -1,0 +1,13 @@
+//! Why parts are made no bank.
+use thiserror::Error;
+
+/// Why no bank was made of parts.
+#[derive(Debug, Drop, Clone, Copy, PartialEq, Eq, Error)]
+pub enum PartsFault {
+    /// They break a rule of valid banks.
+    #[error("the parts are no valid bank")]
+    Invalid,
+    /// They are valid, and a growth was refused.
+    #[error("out of memory")]
+    OutOfMemory,
+}

@@ -1,0 +1,11 @@
+use Rattle.std.proofs.Common.{rules, tests}
+use Rattle.std.proofs.lemmas.Iterator.{cases_from_all, YieldsList-from_slice}
+use Rattle.std.specs.Bool.{⊤}
+use Rattle.bank_parts.specs.Fits.{FitsInstrument}
+use Rattle.bank_parts.proofs.Fitting.{all_where_true}
+use Rattle.bank_parts.proofs.validity.are_instruments.Goals as goal
+
+pub returns-clause-fits : goal.returns-clause-fits
+returns-clause-fits c =
+    all_where_true FitsInstrument _ c.all.result c.args.instruments.now
+    (cases_from_all _ _ _ FitsInstrument (λ x. ⊤) c.all.ensures.ran (YieldsList-from_slice c.args.instruments.now cc) (λ x q k. search (rules, tests)) (λ x q k. tt))

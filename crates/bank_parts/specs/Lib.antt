@@ -1,0 +1,11 @@
+pub use Rattle.sf_base.specs.Names
+pub use Rattle.numbered_lists.specs.Moved
+pub use Rattle.generators.specs.Levels
+pub use Rattle.generators.specs.Ranges
+pub use Rattle.generators.specs.Gens
+pub use Rattle.modulators.specs.Modulators
+pub mod Texts
+pub mod Valid
+pub mod Fits
+pub mod Sound
+pub mod Counts

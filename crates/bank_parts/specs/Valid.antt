@@ -1,0 +1,126 @@
+-- Which banks are valid.
+use Rattle.std.specs.Prelude.{◌≡◌, ◌≤◌, ◌<◌, ◌+◌, ◌==◌, if◌then◌else◌, ℕ, List, length, sum_by, Option, Some, None, true}
+use Rattle.std.specs.List.{AllByRecursion}
+use Rattle.std.specs.FinMap.{entries, len}
+use Rattle.sf_base.specs.Names.{IsName, IsText}
+use Rattle.generators.specs.Gens.{Gens}
+use Rattle.generators.specs.Levels.{is_allowed}
+use Rattle.generators.specs.Ranges.{is_range_operator, IsRange}
+use Rattle.generators.specs.declared.level.Level.{Level}
+use Rattle.generators.specs.declared.level.Level.TheVariants as level
+use Rattle.bank_parts.specs.declared.parts.Kind.{Kind}
+use Rattle.bank_parts.specs.declared.parts.Kind.TheVariants.{Mono, Right, Left, Linked}
+use Rattle.bank_parts.specs.declared.texts.Texts.{Texts}
+use Rattle.bank_parts.specs.declared.parts.GlobalZone.{GlobalZone}
+use Rattle.bank_parts.specs.declared.parts.Zone.{Zone}
+use Rattle.bank_parts.specs.declared.parts.Preset.{Preset}
+use Rattle.bank_parts.specs.declared.parts.Instrument.{Instrument}
+use Rattle.bank_parts.specs.declared.parts.Sample.{Sample}
+use Rattle.bank_parts.specs.declared.parts.Parts.{Parts}
+
+-- ---- zones
+
+-- an operator that the level allows, and a word, which is a range where the operator asks for one
+pub record IsGenerator (at : Level) (e : ℕ × ℕ) : Type 0 where
+  pub allowed : is_allowed at e.0 ≡ true
+  pub range : is_range_operator e.0 ≡ true → IsRange e.1
+
+abbrev pub AreGenerators : Level → Gens → Type 0
+AreGenerators at gens = AllByRecursion (IsGenerator at) (entries gens)
+
+-- the target is the number of one of so many instruments, or samples
+pub record IsZone (at : Level) (targets : ℕ) (z : Zone) : Type 0 where
+  pub target : z.target < targets
+  pub gens : AreGenerators at z.gens
+
+-- the zones of a preset or an instrument
+pub record AreZones (at : Level) (targets : ℕ) (shared : GlobalZone) (own : List Zone) : Type 0 where
+  pub global : AreGenerators at shared.gens
+  pub zones : AllByRecursion (IsZone at targets) own
+
+-- ---- presets, instruments, samples, texts
+
+pub record IsPreset (instruments : ℕ) (p : Preset) : Type 0 where
+  pub name : IsName p.name
+  pub zones : AreZones level.Preset instruments p.global p.zones
+
+pub record IsInstrument (samples : ℕ) (i : Instrument) : Type 0 where
+  pub name : IsName i.name
+  pub zones : AreZones level.Instrument samples i.global i.zones
+
+-- a loop of at least one point lies in n points
+abbrev pub IsLoop : ℕ → Option (ℕ × ℕ) → Type 0
+IsLoop n None = Unit {0}
+IsLoop n (Some looped) = (looped.0 < looped.1) × (looped.1 ≤ n)
+
+-- a link names one of n samples
+abbrev pub IsLink : ℕ → Kind → Type 0
+IsLink n Mono = Unit {0}
+IsLink n (Right link) = link < n
+IsLink n (Left link) = link < n
+IsLink n (Linked link) = link < n
+
+pub record IsSample (samples : ℕ) (s : Sample) : Type 0 where
+  pub name : IsName s.name
+  pub looped : IsLoop (length s.points) s.looped
+  pub kind : IsLink samples s.kind
+
+-- no text has a zero byte; the engine is never empty
+pub record AreTexts (texts : Texts) : Type 0 where
+  pub engine : IsText 255 texts.engine
+  pub engine_there : 0 < length texts.engine
+  pub name : IsText 255 texts.name
+  pub date : IsText 255 texts.date
+  pub engineers : IsText 255 texts.engineers
+  pub product : IsText 255 texts.product
+  pub copyright : IsText 255 texts.copyright
+  pub comment : IsText 65535 texts.comment
+  pub software : IsText 255 texts.software
+
+-- ---- limits
+
+-- an empty global zone is none
+abbrev pub global_count : GlobalZone → ℕ
+global_count global = if len global.gens + length global.mods == 0 then 0 else 1
+
+abbrev pub zone_count : GlobalZone → List Zone → ℕ
+zone_count global zones = global_count global + length zones
+
+-- each zone's target is counted
+abbrev pub gen_count : GlobalZone → List Zone → ℕ
+gen_count global zones = len global.gens + sum_by (λ (z : Zone). len z.gens + 1) zones
+
+abbrev pub mod_count : GlobalZone → List Zone → ℕ
+mod_count global zones = length global.mods + sum_by (λ (z : Zone). length z.mods) zones
+
+-- the zones, generators and modulators of all presets, and of all instruments
+abbrev pub preset_total : (GlobalZone → List Zone → ℕ) → List Preset → ℕ
+preset_total count presets = sum_by (λ (p : Preset). count p.global p.zones) presets
+
+abbrev pub instrument_total : (GlobalZone → List Zone → ℕ) → List Instrument → ℕ
+instrument_total count instruments = sum_by (λ (i : Instrument). count i.global i.zones) instruments
+
+-- the points of all samples, each sample's followed by 46 zero points
+abbrev pub point_total : List Sample → ℕ
+point_total samples = sum_by (λ (s : Sample). length s.points + 46) samples
+
+pub record IsWithin (b : Parts) : Type 0 where
+  pub presets : length b.presets ≤ 65535
+  pub instruments : length b.instruments ≤ 65535
+  pub samples : length b.samples ≤ 65535
+  pub preset_zones : preset_total zone_count b.presets ≤ 65535
+  pub preset_gens : preset_total gen_count b.presets ≤ 65535
+  pub preset_mods : preset_total mod_count b.presets ≤ 65535
+  pub instrument_zones : instrument_total zone_count b.instruments ≤ 65535
+  pub instrument_gens : instrument_total gen_count b.instruments ≤ 65535
+  pub instrument_mods : instrument_total mod_count b.instruments ≤ 65535
+  pub points : point_total b.samples ≤ 500000000
+
+-- ---- the bank
+
+pub record IsValid (b : Parts) : Type 0 where
+  pub texts : AreTexts b.texts
+  pub presets : AllByRecursion (IsPreset (length b.instruments)) b.presets
+  pub instruments : AllByRecursion (IsInstrument (length b.samples)) b.instruments
+  pub samples : AllByRecursion (IsSample (length b.samples)) b.samples
+  pub limits : IsWithin b

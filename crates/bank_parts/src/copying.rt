@@ -1,0 +1,125 @@
+//! Equal parts in memory of their own. Points stay where they are: their slices are copied.
+ghost use Rattle.std.specs.Prelude.{◌≡◌, IfOk};
+
+use crate::parts::{GlobalZone, Instrument, Parts, Preset, Sample, Zone};
+use crate::texts::{Text, Texts};
+use modulators::Modulator;
+use numbered_lists::NumberedList;
+use sf_base::OutOfMemory;
+use std::alloc::Global;
+
+/// What a bank's lists hold.
+pub(crate) trait CopyOut: Sized {
+    /// An equal one.
+    fn copy_out(&self, alloc: Global) -> Result<Self, OutOfMemory>
+        ensures { IfOk result (λ copy. copy ≡ self.now) };
+}
+
+impl CopyOut for Zone {
+    fn copy_out(&self, alloc: Global) -> Result<Zone, OutOfMemory> {
+        Ok(Zone {
+            target: self.target,
+            gens: self.gens.copy(alloc)?,
+            mods: copy_mods(alloc, &self.mods)?,
+        })
+    }
+}
+
+impl CopyOut for Preset {
+    fn copy_out(&self, alloc: Global) -> Result<Preset, OutOfMemory> {
+        Ok(Preset {
+            name: self.name,
+            number: self.number,
+            bank: self.bank,
+            library: self.library,
+            genre: self.genre,
+            morphology: self.morphology,
+            global: copy_global(alloc, &self.global)?,
+            zones: copy_list(alloc, &self.zones)?,
+        })
+    }
+}
+
+impl CopyOut for Instrument {
+    fn copy_out(&self, alloc: Global) -> Result<Instrument, OutOfMemory> {
+        Ok(Instrument {
+            name: self.name,
+            global: copy_global(alloc, &self.global)?,
+            zones: copy_list(alloc, &self.zones)?,
+        })
+    }
+}
+
+impl<'a> CopyOut for Sample<'a> {
+    fn copy_out(&self, alloc: Global) -> Result<Sample<'a>, OutOfMemory> {
+        Ok(Sample {
+            name: self.name,
+            points: self.points.copy(alloc)?,
+            looped: self.looped,
+            rate: self.rate,
+            key: self.key,
+            correction: self.correction,
+            kind: self.kind,
+        })
+    }
+}
+
+/// Equal parts.
+pub fn copy_parts<'a>(alloc: Global, parts: &Parts<'a>) -> Result<Parts<'a>, OutOfMemory>
+    ensures { IfOk result (λ copy. copy ≡ parts.now) }
+{
+    Ok(Parts {
+        minor: parts.minor,
+        texts: copy_texts(&parts.texts),
+        presets: copy_list(alloc, &parts.presets)?,
+        instruments: copy_list(alloc, &parts.instruments)?,
+        samples: copy_list(alloc, &parts.samples)?,
+    })
+}
+
+fn copy_texts<'a>(texts: &Texts<'a>) -> Texts<'a>
+    ensures { result ≡ texts.now }
+{
+    Texts {
+        engine: Text::from_bytes(texts.engine.bytes()),
+        name: Text::from_bytes(texts.name.bytes()),
+        date: Text::from_bytes(texts.date.bytes()),
+        engineers: Text::from_bytes(texts.engineers.bytes()),
+        product: Text::from_bytes(texts.product.bytes()),
+        copyright: Text::from_bytes(texts.copyright.bytes()),
+        comment: Text::from_bytes(texts.comment.bytes()),
+        software: Text::from_bytes(texts.software.bytes()),
+    }
+}
+
+fn copy_list<T: CopyOut + Drop>(
+    alloc: Global,
+    list: &NumberedList<T>,
+) -> Result<NumberedList<T>, OutOfMemory>
+    ensures { IfOk result (λ copy. copy ≡ list.now) }
+{
+    let mut copies = Vec::with_capacity(alloc, list.len())?;
+    for member in list.as_slice() {
+        copies.push(member.copy_out(alloc)?)?;
+    }
+    Ok(NumberedList::from_vec(copies))
+}
+
+fn copy_global(alloc: Global, global: &GlobalZone) -> Result<GlobalZone, OutOfMemory>
+    ensures { IfOk result (λ copy. copy ≡ global.now) }
+{
+    Ok(GlobalZone {
+        gens: global.gens.copy(alloc)?,
+        mods: copy_mods(alloc, &global.mods)?,
+    })
+}
+
+fn copy_mods(
+    alloc: Global,
+    mods: &NumberedList<Modulator>,
+) -> Result<NumberedList<Modulator>, OutOfMemory>
+    ensures { IfOk result (λ copy. copy ≡ mods.now) }
+{
+    let copies = Vec::from_slice(alloc, mods.as_slice())?;
+    Ok(NumberedList::from_vec(copies))
+}

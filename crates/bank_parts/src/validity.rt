@@ -1,0 +1,197 @@
+//! Which parts are a valid bank.
+ghost use Rattle.std.specs.Prelude.{◌↔◌, IsTrue};
+ghost use Rattle.std.specs.Bool.{OnTrue};
+ghost use Rattle.std.specs.List.{AllByRecursion};
+ghost use Rattle.sf_base.specs.Names.{IsText};
+ghost use Rattle.generators.specs.Gens.{FitGens};
+ghost use Rattle.modulators.specs.Modulators.{FitsModulator};
+ghost use Rattle.bank_parts.specs.Valid.{IsGenerator, AreGenerators, IsZone, AreZones, IsPreset, IsInstrument, IsLoop, IsLink, IsSample, AreTexts, IsValid};
+ghost use Rattle.bank_parts.specs.Fits.{FitTexts, FitsPreset, FitsInstrument, FitsSample, FitsLoop, FitsKind, FitsGlobal, FitsZone, Fits};
+
+use crate::counting::is_within;
+use crate::parts::{GlobalZone, Instrument, Kind, Parts, Preset, Sample, Zone};
+use crate::texts::Texts;
+use generators::{GenMap, Level, Range, allowed, is_range_operator};
+use modulators::Modulator;
+use sf_base::limits::{COMMENT_LENGTH, TEXT_LENGTH};
+
+/// Whether the parts are a valid bank: its texts are, its names, its generators are allowed where
+/// they stand and its ranges in order, each target and link is the number of a member, each loop
+/// lies in its sample, and no list is longer than a file may hold it. Takes no memory.
+pub fn is_valid(parts: &Parts<'_>) -> bool
+    ensures valid { IsTrue result ↔ IsValid parts.now }
+    ensures fits { OnTrue result (Fits parts.now) }
+{
+    let _minor = parts.minor;
+    are_texts(&parts.texts)
+        && are_presets(parts.presets.as_slice(), parts.instruments.len())
+        && are_instruments(parts.instruments.as_slice(), parts.samples.len())
+        && are_samples(parts.samples.as_slice(), parts.samples.len())
+        && is_within(parts)
+}
+
+// ---- texts and names
+
+fn are_texts(texts: &Texts<'_>) -> bool
+    ensures valid { IsTrue result ↔ AreTexts texts.now }
+    ensures fits { OnTrue result (FitTexts texts.now) }
+{
+    !texts.engine.bytes().is_empty()
+        && is_text(texts.engine.bytes(), TEXT_LENGTH)
+        && is_text(texts.name.bytes(), TEXT_LENGTH)
+        && is_text(texts.date.bytes(), TEXT_LENGTH)
+        && is_text(texts.engineers.bytes(), TEXT_LENGTH)
+        && is_text(texts.product.bytes(), TEXT_LENGTH)
+        && is_text(texts.copyright.bytes(), TEXT_LENGTH)
+        && is_text(texts.comment.bytes(), COMMENT_LENGTH)
+        && is_text(texts.software.bytes(), TEXT_LENGTH)
+}
+
+fn is_text(bytes: &[u8], most: usize) -> bool
+    ensures { IsTrue result ↔ IsText most bytes.now }
+{
+    bytes.len() <= most && !bytes.contains(&0)
+}
+
+// ---- presets, instruments and samples; their names need no check, since a `Name20` is one; that a
+// number lies in the range of its field is known where it is read
+
+fn are_presets(presets: &[Preset], instruments: usize) -> bool
+    ensures valid { IsTrue result ↔ AllByRecursion (IsPreset instruments) presets.now }
+    ensures fits { OnTrue result (AllByRecursion FitsPreset presets.now) }
+{
+    presets.iter().all(|preset| is_preset(preset, instruments))
+}
+
+fn are_instruments(instruments: &[Instrument], samples: usize) -> bool
+    ensures valid { IsTrue result ↔ AllByRecursion (IsInstrument samples) instruments.now }
+    ensures fits { OnTrue result (AllByRecursion FitsInstrument instruments.now) }
+{
+    instruments
+        .iter()
+        .all(|instrument| is_instrument(instrument, samples))
+}
+
+fn are_samples(samples: &[Sample<'_>], count: usize) -> bool
+    ensures valid { IsTrue result ↔ AllByRecursion (IsSample count) samples.now }
+    ensures fits { OnTrue result (AllByRecursion FitsSample samples.now) }
+{
+    samples.iter().all(|sample| is_sample(sample, count))
+}
+
+fn is_preset(preset: &Preset, instruments: usize) -> bool
+    ensures valid { IsTrue result ↔ IsPreset instruments preset.now }
+    ensures fits { OnTrue result (FitsPreset preset.now) }
+{
+    let _name = preset.name.bytes();
+    let _number = preset.number;
+    let _bank = preset.bank;
+    let _library = preset.library;
+    let _genre = preset.genre;
+    let _morphology = preset.morphology;
+    are_zones(
+        Level::Preset,
+        instruments,
+        &preset.global,
+        preset.zones.as_slice(),
+    )
+}
+
+fn is_instrument(instrument: &Instrument, samples: usize) -> bool
+    ensures valid { IsTrue result ↔ IsInstrument samples instrument.now }
+    ensures fits { OnTrue result (FitsInstrument instrument.now) }
+{
+    let _name = instrument.name.bytes();
+    are_zones(
+        Level::Instrument,
+        samples,
+        &instrument.global,
+        instrument.zones.as_slice(),
+    )
+}
+
+fn is_sample(sample: &Sample<'_>, samples: usize) -> bool
+    ensures valid { IsTrue result ↔ IsSample samples sample.now }
+    ensures fits { OnTrue result (FitsSample sample.now) }
+{
+    let _name = sample.name.bytes();
+    let _rate = sample.rate;
+    let _key = sample.key;
+    let _correction = sample.correction;
+    is_loop(sample.looped, sample.points.len()) && is_link(sample.kind, samples)
+}
+
+fn is_loop(looped: Option<(u32, u32)>, points: usize) -> bool
+    ensures valid { IsTrue result ↔ IsLoop points looped }
+    ensures fits { FitsLoop looped }
+{
+    match looped {
+        Some((start, end)) => start < end && end as usize <= points,
+        None => true,
+    }
+}
+
+fn is_link(kind: Kind, samples: usize) -> bool
+    ensures valid { IsTrue result ↔ IsLink samples kind }
+    ensures fits { FitsKind kind }
+{
+    match kind {
+        Kind::Mono => true,
+        Kind::Right(link) | Kind::Left(link) | Kind::Linked(link) => (link as usize) < samples,
+    }
+}
+
+// ---- zones
+
+fn are_zones(level: Level, targets: usize, shared: &GlobalZone, own: &[Zone]) -> bool
+    ensures valid { IsTrue result ↔ AreZones level targets shared.now own.now }
+    ensures global_fits { OnTrue result (FitsGlobal shared.now) }
+    ensures zones_fit { OnTrue result (AllByRecursion FitsZone own.now) }
+{
+    read_modulators(shared.mods.as_slice());
+    are_generators(level, &shared.gens) && all_are_zones(level, targets, own)
+}
+
+fn all_are_zones(level: Level, targets: usize, zones: &[Zone]) -> bool
+    ensures valid { IsTrue result ↔ AllByRecursion (IsZone level targets) zones.now }
+    ensures fits { OnTrue result (AllByRecursion FitsZone zones.now) }
+{
+    zones.iter().all(|zone| is_zone(level, targets, zone))
+}
+
+fn is_zone(level: Level, targets: usize, zone: &Zone) -> bool
+    ensures valid { IsTrue result ↔ IsZone level targets zone.now }
+    ensures fits { OnTrue result (FitsZone zone.now) }
+{
+    read_modulators(zone.mods.as_slice());
+    (zone.target as usize) < targets && are_generators(level, &zone.gens)
+}
+
+fn are_generators(level: Level, gens: &GenMap) -> bool
+    ensures valid { IsTrue result ↔ AreGenerators level gens.now }
+    ensures fits { FitGens gens.now }
+{
+    gens.entries()
+        .iter()
+        .all(|&entry| is_generator(level, entry))
+}
+
+fn is_generator(level: Level, entry: (u16, u16)) -> bool
+    ensures { IsTrue result ↔ IsGenerator level entry }
+{
+    let (operator, word) = entry;
+    allowed(operator, level) && (!is_range_operator(operator) || Range::of_word(word).is_valid())
+}
+
+// Modulators need no check, since any number of a field may stand there.
+fn read_modulators(mods: &[Modulator])
+    ensures { AllByRecursion FitsModulator mods.now }
+{
+    for modulator in mods {
+        read_modulator(*modulator);
+    }
+}
+
+fn read_modulator(_modulator: Modulator)
+    ensures { FitsModulator _modulator }
+{}
