@@ -4,52 +4,74 @@
  *
  *   read_write IN OUT
  *   read_write IN          its reading half
+ *   read_write -z IN       its reading half, in pieces that are filled with zeros before they are
+ *                          read into, as sfbank has to
  */
 #include <fcntl.h>
 #include <stdio.h>
 #include <stdlib.h>
+#include <string.h>
 #include <sys/stat.h>
 #include <unistd.h>
 
-static int fail(const char *what)
+/* The bytes that sfbank reads at once. */
+#define PIECE 262144
+
+static void fail(const char *what)
 {
     perror(what);
-    return 1;
+    exit(1);
+}
+
+/* Reads a file whole, and gives its length. */
+static size_t read_file(const char *path, int zeros, char **bytes)
+{
+    struct stat about;
+    int in = open(path, O_RDONLY);
+    if (in < 0 || fstat(in, &about) < 0)
+        fail(path);
+
+    /* One byte more is asked for than the file has, so that its end is seen. */
+    size_t room = (size_t)about.st_size + 1, at = 0;
+    *bytes = malloc(room);
+    if (*bytes == NULL)
+        fail("malloc");
+    for (;;) {
+        size_t most = zeros && room - at > PIECE ? PIECE : room - at;
+        if (zeros)
+            memset(*bytes + at, 0, most);
+        ssize_t count = read(in, *bytes + at, most);
+        if (count < 0)
+            fail(path);
+        if (count == 0)
+            return at;
+        at += (size_t)count;
+    }
+}
+
+static void write_file(const char *path, const char *bytes, size_t size)
+{
+    int out = open(path, O_WRONLY | O_CREAT | O_TRUNC, 0666);
+    if (out < 0)
+        fail(path);
+    for (size_t at = 0; at < size;) {
+        ssize_t count = write(out, bytes + at, size - at);
+        if (count <= 0)
+            fail(path);
+        at += (size_t)count;
+    }
 }
 
 int main(int argc, char **argv)
 {
+    int zeros = argc == 3 && strcmp(argv[1], "-z") == 0;
     if (argc != 2 && argc != 3) {
-        fprintf(stderr, "usage: read_write IN [OUT]\n");
+        fprintf(stderr, "usage: read_write IN [OUT] | -z IN\n");
         return 1;
     }
-
-    struct stat about;
-    int in = open(argv[1], O_RDONLY);
-    if (in < 0 || fstat(in, &about) < 0)
-        return fail(argv[1]);
-    size_t size = (size_t)about.st_size;
-    char *bytes = malloc(size + 1);
-    if (bytes == NULL)
-        return fail("malloc");
-
-    /* One byte more is asked for than the file has, so that its end is seen. */
-    size_t at = 0;
-    ssize_t count;
-    while ((count = read(in, bytes + at, size + 1 - at)) > 0)
-        at += (size_t)count;
-    if (count < 0 || at != size)
-        return fail(argv[1]);
-    if (argc == 2)
-        return 0;
-
-    int out = open(argv[2], O_WRONLY | O_CREAT | O_TRUNC, 0666);
-    if (out < 0)
-        return fail(argv[2]);
-    for (at = 0; at < size; at += (size_t)count) {
-        count = write(out, bytes + at, size - at);
-        if (count <= 0)
-            return fail(argv[2]);
-    }
+    char *bytes;
+    size_t size = read_file(argv[1 + zeros], zeros, &bytes);
+    if (argc == 3 && !zeros)
+        write_file(argv[2], bytes, size);
     return 0;
 }
