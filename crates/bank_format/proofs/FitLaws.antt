@@ -11,8 +11,8 @@ use Rattle.generators.specs.Levels.{target_operator}
 use Rattle.generators.specs.declared.level.Level.{Level}
 use Rattle.generators.specs.declared.level.Level.TheVariants as level
 use Rattle.modulators.specs.Modulators.{FitsModulator}
-use Rattle.bank_parts.specs.Valid.{IsSample, IsLink, IsLoop, zone_count, gen_count, mod_count, preset_total, instrument_total, point_total}
-use Rattle.bank_parts.specs.Fits.{FitsZone, FitsGlobal, FitsPreset, FitsInstrument, FitsSample}
+use Rattle.bank_parts.specs.Valid.{IsSample, IsLoop, zone_count, gen_count, mod_count, preset_total, instrument_total, point_total}
+use Rattle.bank_parts.specs.Fits.{FitsZone, FitsGlobal, FitsPreset, FitsInstrument, FitsKind, FitsSample}
 use Rattle.bank_parts.specs.declared.parts.Kind.{Kind}
 use Rattle.bank_parts.specs.declared.parts.Kind.TheVariants.{Mono, Right, Left, Linked}
 use Rattle.bank_parts.specs.declared.parts.GlobalZone.{GlobalZone}
@@ -175,21 +175,21 @@ small_kind (Right n) = omega arith
 small_kind (Left n) = omega arith
 small_kind (Linked n) = omega arith
 
-small_link : (n : ℕ) (k : Kind) → n ≤ 65535 → IsLink n k → link_word k < 2 ^ 16
-small_link n Mono le v = omega arith
-small_link n (Right x) le v = omega (arith, v)
-small_link n (Left x) le v = omega (arith, v)
-small_link n (Linked x) le v = omega (arith, v)
+small_link : (k : Kind) → FitsKind k → link_word k < 2 ^ 16
+small_link Mono f = omega arith
+small_link (Right x) f = f
+small_link (Left x) f = f
+small_link (Linked x) f = f
 
 small_loop : (at n : ℕ) (l : Option (ℕ × ℕ)) → at + n ≤ 500000000 → IsLoop n l → (loop_start_at at l < 2 ^ 32) × (loop_end_at at l < 2 ^ 32)
 small_loop at n None le v = (omega arith, omega arith)
 small_loop at n (Some l) le v = let a = v.0 in let c = v.1 in (omega (arith, a, c), omega (arith, a, c))
 
-pub sample_heads_fit : (n at : ℕ) (ss : List Sample) → n ≤ 65535 → AllByRecursion (IsSample n) ss → AllByRecursion FitsSample ss → at + point_total ss ≤ 500000000 → AllByRecursion FitsSampleHead (sample_heads_from at ss ++ sample_end ∷ [])
-sample_heads_fit n at [] few v f le = ((ends_fit 0 (omega arith)).2, tt)
-sample_heads_fit n at (s ∷ ss) few v f le =
+pub sample_heads_fit : (n at : ℕ) (ss : List Sample) → AllByRecursion (IsSample n) ss → AllByRecursion FitsSample ss → at + point_total ss ≤ 500000000 → AllByRecursion FitsSampleHead (sample_heads_from at ss ++ sample_end ∷ [])
+sample_heads_fit n at [] v f le = ((ends_fit 0 (omega arith)).2, tt)
+sample_heads_fit n at (s ∷ ss) v f le =
     let w = sum_by-cons (λ (s : Sample). length s.points + 46) s ss in
     let looped = small_loop at (length s.points) s.looped (omega (arith, w, le)) v.0.looped in (
-      record { name = length-filled s.name v.0.name.0; start = omega (arith, le); end = omega (arith, w, le); loop_start = looped.0; loop_end = looped.1; rate = f.0.rate; key = f.0.key; correction = f.0.correction; link = small_link n s.kind few v.0.kind; kind = small_kind s.kind },
-      sample_heads_fit n (at + length s.points + 46) ss few v.1 f.1 (omega (arith, w, le)),
+      record { name = length-filled s.name f.0.name.0; start = omega (arith, le); end = omega (arith, w, le); loop_start = looped.0; loop_end = looped.1; rate = f.0.rate; key = f.0.key; correction = f.0.correction; link = small_link s.kind f.0.kind; kind = small_kind s.kind },
+      sample_heads_fit n (at + length s.points + 46) ss v.1 f.1 (omega (arith, w, le)),
     )

@@ -111,7 +111,7 @@ module _ (b : Parts) (v : IsValid b) where
         ibag = bags_fit (all_instrument_bags b) (omega (arith, fg, ig)) (omega (arith, fm, im));
         imod = mod_list_fit (all_instrument_bags b) ibags;
         igen = gen_list_fit (all_instrument_bags b) ibags;
-        shdr = sample_heads_fit (length b.samples) 0 b.samples w.samples v.samples f.samples (omega (arith, pts));
+        shdr = sample_heads_fit (length b.samples) 0 b.samples v.samples f.samples (omega (arith, pts));
       }
 
   bags_counted : (bags : List Bagged) → length bags ≤ 65535 → IsCount (length (bag_list bags))

@@ -3,6 +3,7 @@ use Rattle.std.proofs.Common.{◌≡◌, ◌+◌, ◌-◌, ◌∙◌, ℕ, suc, 
 use Rattle.std.specs.Prelude.{flat_map, nat_lt}
 use Rattle.std.specs.List.{slice_range, list_all}
 use Rattle.std.specs.Result.{IsErrAnd}
+use Rattle.std.proofs.lemmas.List.{map-append}
 use Rattle.std.proofs.lemmas.List.Sums.{sum_by-cons}
 use Rattle.generators.specs.declared.level.Level.{Level}
 use Rattle.modulators.specs.declared.modulator.Modulator.{Modulator}
@@ -37,17 +38,6 @@ target_missing targets missing zones none = rw (same_fault (λ (z : Zone). nat_l
 
 -- ---- counts
 
-nothing : ZoneCounts
-nothing = record { zones = 0; gens = 0; ranges = 0 }
-
-added-nothing : (c : ZoneCounts) → added nothing c ≡ c
-unfolding nothing
-added-nothing c =
-    let zones : 0 + c.zones ≡ c.zones = omega arith in
-    let gens : 0 + c.gens ≡ c.gens = omega arith in
-    let ranges : 0 + c.ranges ≡ c.ranges = omega arith in
-    λ i. record { zones = zones i; gens = gens i; ranges = ranges i }
-
 counts_over-next : (at : Level) (w : List Bagged) (ws : List (List Bagged)) → counts_over at (w ∷ ws) ≡ added (counts_read at w) (counts_over at ws)
 counts_over-next at w ws =
     let zones = sum_by-cons (ignored at) w ws in
@@ -68,10 +58,6 @@ rows-next : {H : Type 0} (h n : H) (ns : List H) → rows (h ∷ n ∷ ns) ≡ h
 rows-next h n ns =
     let count : length (h ∷ n ∷ ns) - 1 ≡ suc (length (n ∷ ns) - 1) = omega arith in
     rw count refl
-
-map-append : {X Y : Type 0} (f : X → Y) (xs ys : List X) → map f (xs ++ ys) ≡ map f xs ++ map f ys
-map-append f [] ys = refl
-map-append f (x ∷ xs) ys = ap (λ l. f x ∷ l) (map-append f xs ys)
 
 -- the zones of the next head, then those of the others
 zone_steps-next : (at : Level) (targets : ℕ) (missing : ReadFault) (w : List Bagged) (ws : List (List Bagged))
