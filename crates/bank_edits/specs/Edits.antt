@@ -52,7 +52,7 @@ pub record IsDone (old new : Parts) (e back : Edit) : Type 0 where
   pub changed : new ≡ raw old e
   pub taken_back : back ≡ inverse old e
 
--- the edit was refused, or no memory was there where no other cause stands; it is given back
+-- the edit was refused, or no memory was there where no cause stands; it is given back
 pub record IsRefused (old new : Parts) (e : Edit) (why : Refusal) (given : Edit) : Type 0 where
   pub named : why ≡ option_map_or Of (refusal old e) OutOfMemory
   pub unchanged : new ≡ old
