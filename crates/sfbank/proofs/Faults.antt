@@ -65,7 +65,7 @@ at_script file script b failures.OutOfMemory r h = tt
 
 pub at_line : (file script : List ℕ) (b : Parts) (lines : List Line) (fault : RunFault) → ReadsBank file b → script_of script ≡ Ok lines
     → StopsAtLine fault (first_refused b lines) → FailsBefore fault (outcome file script)
-at_line file script b lines (run.Refused number refusal) r e h =
+at_line file script b lines (run.Refused number cause) r e h =
     at_bank file script b r ∙ ap (after_script b) e ∙ ap (λ (o : Option RefusedLine). unless_refused o (both_texts b (edits_of lines))) h
 at_line file script b lines run.Memory r e h = tt
 at_line file script b lines (run.Read fault) r e h = absurd h

@@ -1,11 +1,9 @@
 -- A run and the run of its undo text.
 use Rattle.std.proofs.Common.{◌≡◌, ◌<◌, ◌≤◌, ℕ, suc, List, [], ◌∷◌, length, get_or, w8, Fits as InType, Option, Some, None, Result, Ok, refl, sym, ap, ◌∙◌, arith}
-use Rattle.std.specs.List.{AllByRecursion}
 use Rattle.std.proofs.lemmas.List.{length-append, length-map}
 use Rattle.std.proofs.lemmas.List.Elements.{All-from_get_or}
 use Rattle.bank_parts.specs.declared.parts.Parts.{Parts}
-use Rattle.bank_parts.specs.Valid.{IsValid}
-use Rattle.bank_parts.specs.Fits.{Fits}
+use Rattle.bank_parts.specs.Sound.{IsSound}
 use Rattle.hydra_records.specs.Records.{AreBytes}
 use Rattle.bank_format.specs.declared.fault.ReadFault.{ReadFault}
 use Rattle.bank_format.specs.Canon.{canon}
@@ -14,18 +12,18 @@ use Rattle.bank_format.specs.ReadSteps.{fault_of}
 use Rattle.bank_format.proofs.RoundTrip.{reads-again}
 use Rattle.bank_format.proofs.ReadValid.{read_valid, read_fits}
 use Rattle.bank_edits.specs.declared.edit.Edit.{Edit}
-use Rattle.bank_edits.specs.declared.edit.Refusal.{Refusal}
-use Rattle.bank_edits.specs.Edits.{FitsEdit, raw, refusal, inverse}
-use Rattle.inverse_edits.specs.Runs.{AllAccepted, after_all, undo_list}
-use Rattle.inverse_edits.proofs.RunLaw.{all_undone, fits_after_all}
+use Rattle.bank_edits.specs.declared.edit.Cause.{Cause}
+use Rattle.bank_edits.specs.Edits.{raw, refusal, inverse}
+use Rattle.inverse_edits.specs.Runs.{AllTaken, after_all, undo_list}
+use Rattle.inverse_edits.proofs.RunLaw.{all_undone}
 use Rattle.edit_script.specs.declared.parsing.Line.{Line}
 use Rattle.edit_script.specs.Script.{script_of}
-use Rattle.edit_script.specs.Printing.{texts_of, numbered}
+use Rattle.edit_script.specs.Printing.{texts_of, numbered, AllFit, LinesFit}
 use Rattle.edit_script.proofs.LineLaws.{printed_spell}
 use Rattle.edit_script.proofs.FitLaws.{script_fits}
 use Rattle.edit_script.proofs.FewLaws.{script_few}
 use Rattle.sfbank.specs.declared.fault.RunFault.{RunFault}
-use Rattle.sfbank.specs.Planned.{AllApplied, FewEdits}
+use Rattle.sfbank.specs.Planned.{AllApplied}
 use Rattle.sfbank.specs.Outcome.{Done, edits_of, RefusedLine, or_else, first_refused, both_texts, unless_refused, after_script, after_reading, bank_in, outcome, IsUndone}
 
 -- the bytes that a slice holds
@@ -35,17 +33,23 @@ are_bytes file fits = All-from_get_or (λ b. b < 256) file 0 (λ i l. let byte =
 -- ---- what a run that is done says
 
 -- no line is refused where the first refused is none
-or_none : (n : ℕ) (r : Option Refusal) (later : Option RefusedLine) → or_else n r later ≡ None → (r ≡ None) × (later ≡ None)
+or_none : (n : ℕ) (r : Option Cause) (later : Option RefusedLine) → or_else n r later ≡ None → (r ≡ None) × (later ≡ None)
 or_none n None later e = (refl, e)
 or_none n (Some r) later e = absurd cc
 
-pub all_accepted : (b : Parts) (lines : List Line) → first_refused b lines ≡ None → AllAccepted b (edits_of lines)
-all_accepted b [] e = tt
-all_accepted b (l ∷ lines) e = let both = or_none l.number (refusal b l.edit) (first_refused (raw b l.edit) lines) e in (both.0, all_accepted (raw b l.edit) lines both.1)
+all_taken : (b : Parts) (lines : List Line) → LinesFit lines → first_refused b lines ≡ None → AllTaken b (edits_of lines)
+all_taken b [] f e = tt
+all_taken b (l ∷ lines) f e =
+    let both = or_none l.number (refusal b l.edit) (first_refused (raw b l.edit) lines) e in
+    (record { fits = f.0; accepted = both.0 }, all_taken (raw b l.edit) lines f.1 both.1)
 
-none_refused : (b : Parts) (n : ℕ) (es : List Edit) → AllAccepted b es → first_refused b (numbered n es) ≡ None
+none_refused : (b : Parts) (n : ℕ) (es : List Edit) → AllTaken b es → first_refused b (numbered n es) ≡ None
 none_refused b n [] h = refl
-none_refused b n (e ∷ es) h = rw h.0 (none_refused (raw b e) (suc n) es h.1)
+none_refused b n (e ∷ es) h = rw h.0.accepted (none_refused (raw b e) (suc n) es h.1)
+
+all_fit : (b : Parts) (es : List Edit) → AllTaken b es → AllFit es
+all_fit b [] h = tt
+all_fit b (e ∷ es) h = (h.0.fits, all_fit (raw b e) es h.1)
 
 edits_numbered : (n : ℕ) (es : List Edit) → edits_of (numbered n es) ≡ es
 edits_numbered n [] = refl
@@ -68,15 +72,15 @@ reading_done (Some f) r x h = absurd cc
 
 -- ---- a run on a canonical file
 
-outcome_canon : (b : Parts) (script : List ℕ) → IsValid b → Fits b → outcome (canon b) script ≡ after_script b (script_of script)
+outcome_canon : (b : Parts) (script : List ℕ) → IsSound b → outcome (canon b) script ≡ after_script b (script_of script)
 unfolding outcome
-outcome_canon b script v f =
-    let again = reads-again b v f in
+outcome_canon b script s =
+    let again = reads-again b s.valid s.fits in
     ap (λ (o : Option ReadFault). after_reading o (after_script (bank_in (canon b)) (script_of script))) again.0
     ∙ ap (λ (c : Content). after_script c.bank (script_of script)) again.1
 
--- accepted edits on lines of their own
-after_numbered : (b : Parts) (es : List Edit) → AllAccepted b es → after_script b (Ok (numbered 1 es)) ≡ Ok (both_texts b es)
+-- edits that are taken, on lines of their own
+after_numbered : (b : Parts) (es : List Edit) → AllTaken b es → after_script b (Ok (numbered 1 es)) ≡ Ok (both_texts b es)
 after_numbered b es h =
     ap (λ (o : Option RefusedLine). unless_refused o (both_texts b (edits_of (numbered 1 es)))) (none_refused b 1 es h)
     ∙ ap (λ (xs : List Edit). Ok (both_texts b xs)) (edits_numbered 1 es)
@@ -88,35 +92,29 @@ length-undo_list b (e ∷ es) = let r = length-undo_list (raw b e) es in omega (
 -- ---- the law
 
 -- the undo texts of edits, run on the written file
-run_back : (b : Parts) (es : List Edit) → length es ≤ 1 → IsValid b → Fits b → AllByRecursion FitsEdit es → AllAccepted b es
+run_back : (b : Parts) (es : List Edit) → length es ≤ 1 → IsSound b → AllTaken b es
     → outcome (canon (after_all b es)) (texts_of (undo_list b es)) ≡ Ok (record { out = canon b; undo = texts_of es })
-run_back b es few v f fits h =
-    let undone = all_undone b es v fits h in
+run_back b es few s h =
+    let undone = all_undone b es s h in
     let end : Parts = after_all b es in
     let us : List Edit = undo_list b es in
     let length_us = length-undo_list b es in
-    let spelled = printed_spell us (omega (arith, length_us, few)) undone.fits in
-    outcome_canon end (texts_of us) undone.valid (fits_after_all b es f fits)
+    let spelled = printed_spell us (omega (arith, length_us, few)) (all_fit end us undone.taken) in
+    outcome_canon end (texts_of us) undone.sound
     ∙ ap (after_script end) spelled
-    ∙ after_numbered end us undone.accepted
+    ∙ after_numbered end us undone.taken
     ∙ (λ i. Ok (record { out = canon (undone.restored i); undo = texts_of (undone.redone i) }))
-
-lines_fit : (lines : List Line) → AllByRecursion (λ (l : Line). FitsEdit l.edit) lines → AllByRecursion FitsEdit (edits_of lines)
-lines_fit [] h = tt
-lines_fit (l ∷ lines) h = (h.0, lines_fit lines h.1)
 
 few_lines : (script : List ℕ) (lines : List Line) → script_of script ≡ Ok lines → length (edits_of lines) ≤ 1
 few_lines script lines e = let n = length-map lines (λ (l : Line). l.edit) in let m = script_few script lines e in omega (arith, n, m)
 
 -- the edits that take a script's edits back
-pub few_edits : (script : List ℕ) (b new : Parts) (lines : List Line) (undo : List Edit) → IsValid b → script_of script ≡ Ok lines → AllApplied b new lines undo → FewEdits undo
-few_edits script b new lines undo v e a =
-    let es = edits_of lines in
-    let undone = all_undone b es v (lines_fit lines (script_fits script lines e)) (all_accepted b lines a.accepted) in
+pub few_undo : (script : List ℕ) (b new : Parts) (lines : List Line) (undo : List Edit) → script_of script ≡ Ok lines → AllApplied b new lines undo → length undo ≤ 1
+few_undo script b new lines undo e a =
     let n = ap length a.taken_back in
-    let m = length-undo_list b es in
+    let m = length-undo_list b (edits_of lines) in
     let few = few_lines script lines e in
-    (omega (arith, n, m, few), rw a.taken_back undone.fits)
+    omega (arith, n, m, few)
 
 pub restores : (file script : List ℕ) → AreBytes file → IsUndone file script
 unfolding outcome
@@ -124,6 +122,6 @@ restores file script bytes done lines h spelled =
     let b = bank_in file in
     let read = reading_done (fault_of file) (after_script b (script_of script)) done h in
     let run = script_done b lines done (ap (after_script b) (sym spelled) ∙ read.1) in
-    let es = edits_of lines in
-    let back = run_back b es (few_lines script lines spelled) (read_valid file bytes read.0) (read_fits file bytes) (lines_fit lines (script_fits script lines spelled)) (all_accepted b lines run.accepted) in
+    let sound : IsSound b = record { valid = read_valid file bytes read.0; fits = read_fits file bytes } in
+    let back = run_back b (edits_of lines) (few_lines script lines spelled) sound (all_taken b lines (script_fits script lines spelled) run.accepted) in
     ap (λ (d : Done). outcome d.out d.undo) run.texts ∙ back

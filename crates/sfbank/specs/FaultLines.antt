@@ -5,8 +5,8 @@ use Rattle.bank_format.specs.declared.fault.ReadFault.{ReadFault}
 use Rattle.bank_format.specs.FaultNames as reading
 use Rattle.edit_script.specs.declared.fault.ScriptFault.{ScriptFault}
 use Rattle.edit_script.specs.Faults as scripts
-use Rattle.bank_edits.specs.declared.edit.Refusal.{Refusal}
-use Rattle.bank_edits.specs.RefusalNames as refusals
+use Rattle.bank_edits.specs.declared.edit.Cause.{Cause}
+use Rattle.bank_edits.specs.CauseNames as causes
 use Rattle.sfbank.specs.declared.fault.RunFault.{RunFault}
 use Rattle.sfbank.specs.declared.fault.RunFault.TheVariants.{Read, Script, Refused, Write, Memory}
 
@@ -16,8 +16,8 @@ read_line fault = concat (codes "sfbank: read fault " ∷ decimal (reading.numbe
 abbrev pub script_line : ScriptFault → List ℕ
 script_line fault = concat (codes "sfbank: line " ∷ decimal (scripts.line_of fault) ∷ codes ": fault " ∷ decimal (scripts.number_of fault) ∷ codes " " ∷ scripts.name_of fault ∷ codes "\n" ∷ [])
 
-abbrev pub refused_line : ℕ → Refusal → List ℕ
-refused_line line refusal = concat (codes "sfbank: line " ∷ decimal line ∷ codes ": refused " ∷ decimal (refusals.number_of refusal) ∷ codes " " ∷ refusals.name_of refusal ∷ codes "\n" ∷ [])
+abbrev pub refused_line : ℕ → Cause → List ℕ
+refused_line line cause = concat (codes "sfbank: line " ∷ decimal line ∷ codes ": refused " ∷ decimal (causes.number_of cause) ∷ codes " " ∷ causes.name_of cause ∷ codes "\n" ∷ [])
 
 abbrev pub write_line : List ℕ → ℕ → List ℕ
 write_line path written = concat (codes "sfbank: write fault " ∷ path ∷ codes " after " ∷ decimal written ∷ codes " bytes\n" ∷ [])
@@ -26,7 +26,7 @@ write_line path written = concat (codes "sfbank: write fault " ∷ path ∷ code
 unfoldable pub fault_line : List ℕ → RunFault → List ℕ
 fault_line path (Read fault) = read_line fault
 fault_line path (Script fault) = script_line fault
-fault_line path (Refused line refusal) = refused_line line refusal
+fault_line path (Refused line cause) = refused_line line cause
 fault_line path (Write which written) = write_line path written
 fault_line path Memory = codes "sfbank: out of memory\n"
 
@@ -34,6 +34,6 @@ fault_line path Memory = codes "sfbank: out of memory\n"
 abbrev pub status_of : RunFault → ℕ
 status_of (Read fault) = 2
 status_of (Script fault) = 3
-status_of (Refused line refusal) = 4
+status_of (Refused line cause) = 4
 status_of (Write which written) = 5
 status_of Memory = 6

@@ -8,7 +8,7 @@ use Rattle.bank_format.specs.Chunks.{window}
 use Rattle.bank_format.specs.Reading.{content_in}
 use Rattle.bank_format.specs.ReadSteps.{fault_of}
 use Rattle.bank_edits.specs.declared.edit.Edit.{Edit}
-use Rattle.bank_edits.specs.declared.edit.Refusal.{Refusal}
+use Rattle.bank_edits.specs.declared.edit.Cause.{Cause}
 use Rattle.bank_edits.specs.Edits.{raw, refusal}
 use Rattle.inverse_edits.specs.Runs.{after_all, undo_list}
 use Rattle.edit_script.specs.declared.parsing.Line.{Line}
@@ -31,10 +31,10 @@ edits_of lines = map (λ (l : Line). l.edit) lines
 -- a refused line, by its number
 pub record RefusedLine : Type 0 where
   pub number : ℕ
-  pub refusal : Refusal
+  pub cause : Cause
 
-abbrev pub or_else : ℕ → Option Refusal → Option RefusedLine → Option RefusedLine
-or_else number (Some r) later = Some (record { number = number; refusal = r })
+abbrev pub or_else : ℕ → Option Cause → Option RefusedLine → Option RefusedLine
+or_else number (Some cause) later = Some (record { number = number; cause = cause })
 or_else number None later = later
 
 -- the first line that is refused, each edit in its turn
@@ -47,7 +47,7 @@ abbrev pub both_texts : Parts → List Edit → Done
 both_texts b edits = record { out = canon (after_all b edits); undo = texts_of (undo_list b edits) }
 
 abbrev pub unless_refused : Option RefusedLine → Done → Result Done RunFault
-unless_refused (Some r) done = Err (run.Refused r.number r.refusal)
+unless_refused (Some r) done = Err (run.Refused r.number r.cause)
 unless_refused None done = Ok done
 
 abbrev pub after_script : Parts → Result (List Line) ScriptFault → Result Done RunFault

@@ -1,13 +1,9 @@
 -- The parts of a run, before a byte goes out.
-use Rattle.std.specs.Prelude.{◌≡◌, ◌≤◌, ℕ, List, length, Option, Some, None}
-use Rattle.std.specs.List.{AllByRecursion}
+use Rattle.std.specs.Prelude.{◌≡◌, List, Option, Some, None}
 use Rattle.sf_base.specs.declared.memory.Failure.{Failure}
 use Rattle.sf_base.specs.declared.memory.Failure.TheVariants as failures
 use Rattle.bank_parts.specs.declared.parts.Parts.{Parts}
 use Rattle.bank_edits.specs.declared.edit.Edit.{Edit}
-use Rattle.bank_edits.specs.declared.edit.Refusal.{Refusal}
-use Rattle.bank_edits.specs.declared.edit.Refusal.TheVariants as refusals
-use Rattle.bank_edits.specs.Edits.{FitsEdit}
 use Rattle.inverse_edits.specs.Runs.{after_all, undo_list}
 use Rattle.edit_script.specs.declared.parsing.Line.{Line}
 use Rattle.sfbank.specs.declared.fault.RunFault.{RunFault}
@@ -19,13 +15,9 @@ abbrev pub in_run : {F : Type 0} → (F → RunFault) → Failure F → RunFault
 in_run told (failures.Fault fault) = told fault
 in_run told failures.OutOfMemory = run.Memory
 
-abbrev pub of_refusal : ℕ → Refusal → RunFault
-of_refusal line refusals.OutOfMemory = run.Memory
-of_refusal line refusal = run.Refused line refusal
-
 -- the first refused line, or want of memory
 abbrev pub StopsAtLine : RunFault → Option RefusedLine → Type 0
-StopsAtLine (run.Refused number refusal) first = first ≡ Some (record { number = number; refusal = refusal })
+StopsAtLine (run.Refused number cause) first = first ≡ Some (record { number = number; cause = cause })
 StopsAtLine run.Memory first = Unit {0}
 StopsAtLine fault first = ⊥
 
@@ -35,7 +27,3 @@ pub record AllApplied (first now : Parts) (lines : List Line) (undo : List Edit)
   pub accepted : first_refused first lines ≡ None
   pub changed : now ≡ after_all first (edits_of lines)
   pub taken_back : undo ≡ undo_list first (edits_of lines)
-
--- at most one edit, whose name is a name
-abbrev pub FewEdits : List Edit → Type 0
-FewEdits edits = (length edits ≤ 1) × AllByRecursion FitsEdit edits

@@ -1,12 +1,11 @@
 //! Texts go out, each whole and flushed.
-ghost use Rattle.std.specs.Prelude.{◌≡◌};
+ghost use Rattle.std.specs.Prelude.{◌≡◌, ◌≤◌, length};
 ghost use Rattle.sf_base.specs.Writing.{Sends};
 ghost use Rattle.bank_format.specs.Canon.{canon};
 ghost use Rattle.bank_listing.specs.Listing.{listing};
 ghost use Rattle.edit_script.specs.Printing.{texts_of};
 ghost use Rattle.sfbank.specs.declared.fault.Which.TheVariants.{Out, Undo};
 ghost use Rattle.sfbank.specs.Written.{Delivers, GoesOut, EndsText};
-ghost use Rattle.sfbank.specs.Planned.{FewEdits};
 ghost use Rattle.sfbank.specs.Plans.{planned};
 
 use crate::fault::{RunFault, Which};
@@ -26,7 +25,7 @@ pub fn deliver<W: Write, V: Write>(
     out: &mut W,
     undo: &mut V,
 ) -> Result<(), RunFault>
-    requires { FewEdits plan.now.undo.items }
+    requires { length plan.now.undo.items ≤ 1 }
     ensures { Delivers (record { out = W.contents out.old; out_new = W.contents out.new; undo = V.contents undo.old; undo_new = V.contents undo.new })
         (planned plan.now) result }
 {
@@ -58,7 +57,7 @@ pub fn deliver_listing<W: Write>(
 
 #[tactic(auto, using(crate::proofs::Texts::text_ends))]
 fn deliver_undo<W: Write>(edits: &[Edit], out: &mut W) -> Result<(), RunFault>
-    requires { FewEdits edits.now }
+    requires { length edits.now ≤ 1 }
     ensures { GoesOut Undo (W.contents out.old) (W.contents out.new) (texts_of edits.now) result }
 {
     let sent = put_lines(edits, out);
@@ -85,7 +84,7 @@ fn end_text<W: Write>(
 
 // The lines of the edits.
 fn put_lines<W: Write>(edits: &[Edit], out: &mut W) -> Result<u64, WriteFault>
-    requires { FewEdits edits.now }
+    requires { length edits.now ≤ 1 }
     ensures { Sends (W.contents out.old) (W.contents out.new) 0 (texts_of edits.now) result }
 {
     let mut sent = 0;

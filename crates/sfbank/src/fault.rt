@@ -3,7 +3,7 @@ ghost use Rattle.std.specs.Prelude.{◌≡◌};
 ghost use Rattle.sfbank.specs.declared.fault.RunFault.TheVariants.{Read, Script, Memory};
 ghost use Rattle.sfbank.specs.Planned.{in_run};
 
-use bank_edits::Refusal;
+use bank_edits::Cause;
 use bank_format::ReadFault;
 use edit_script::ScriptFault;
 use sf_base::Failure;
@@ -26,9 +26,9 @@ pub enum RunFault {
     /// The first fault of the script.
     #[error("{0}")]
     Script(ScriptFault),
-    /// The first refused line, and why it is refused.
+    /// The first refused line, and the cause that stands against it.
     #[error("line {0}: {1}")]
-    Refused(u64, Refusal),
+    Refused(u64, Cause),
     /// A writer took exactly so many bytes of its text, or all of them where its flush failed.
     #[error("write fault after {1} bytes")]
     Write(Which, u64),

@@ -1,9 +1,9 @@
 //! What a run will write, before a byte goes out.
-ghost use Rattle.std.specs.Prelude.{◌≡◌, IfOk, MatchResult};
+ghost use Rattle.std.specs.Prelude.{◌≡◌, ◌≤◌, length, IfOk, MatchResult};
 ghost use Rattle.edit_script.specs.Script.{Answers, script_of};
 ghost use Rattle.sfbank.specs.Outcome.{first_refused, outcome};
 ghost use Rattle.sfbank.specs.Written.{Plans};
-ghost use Rattle.sfbank.specs.Planned.{AllApplied, StopsAtLine, FewEdits, of_refusal};
+ghost use Rattle.sfbank.specs.Planned.{AllApplied, StopsAtLine};
 ghost use Rattle.sfbank.specs.Plans.{planned};
 
 use crate::fault::RunFault;
@@ -24,21 +24,12 @@ pub struct Plan<'a> {
 /// Reads the file, and runs the script on its bank. Nothing goes out.
 pub fn make_plan<'a>(alloc: Global, file: &'a [u8], script: &[u8]) -> Result<Plan<'a>, RunFault>
     ensures plans { Plans planned (outcome file.now script.now) result }
-    ensures few { IfOk result (λ plan. FewEdits plan.undo.items) }
+    ensures few { IfOk result (λ plan. length plan.undo.items ≤ 1) }
 {
     let (mut bank, _counts) = read(alloc, file)?;
     let lines = lines_of(alloc, script)?;
     let undo = apply_all(alloc, &mut bank, lines.as_slice())?;
     Ok(Plan { bank, undo })
-}
-
-fn fault_of_refusal(line: u64, refusal: Refusal) -> RunFault
-    ensures { result ≡ of_refusal line refusal }
-{
-    match refusal {
-        Refusal::OutOfMemory => RunFault::Memory,
-        _ => RunFault::Refused(line, refusal),
-    }
 }
 
 // The edits of the script, with their lines.
@@ -58,7 +49,8 @@ fn apply_all(alloc: Global, bank: &mut Bank<'_>, lines: &[Line]) -> Result<Vec<E
     for line in lines {
         match apply(alloc, bank, line.edit) {
             Ok(inverse) => inverses.push(inverse)?,
-            Err((refusal, _edit)) => return Err(fault_of_refusal(line.number, refusal)),
+            Err((Refusal::Of(cause), _edit)) => return Err(RunFault::Refused(line.number, cause)),
+            Err((Refusal::OutOfMemory, _edit)) => return Err(RunFault::Memory),
         }
     }
     inverses.as_mut_slice().reverse();

@@ -5,7 +5,7 @@ ghost use Rattle.sample_view.specs.Pieces.{joined_bytes};
 ghost use Rattle.sfbank.specs.FaultLines.{fault_line, status_of, read_line, script_line, refused_line, write_line};
 
 use crate::fault::RunFault;
-use bank_edits::Refusal;
+use bank_edits::Cause;
 use bank_format::ReadFault;
 use edit_script::ScriptFault;
 use itoa::Buffer;
@@ -45,7 +45,7 @@ fn put_fault<W: Write>(fault: &RunFault, path: &str, out: &mut W) -> Result<(), 
     match fault {
         RunFault::Read(fault) => put_read_fault(*fault, out),
         RunFault::Script(fault) => put_script_fault(*fault, out),
-        RunFault::Refused(line, refusal) => put_refusal(*line, *refusal, out),
+        RunFault::Refused(line, cause) => put_refusal(*line, *cause, out),
         RunFault::Write(_, written) => put_write_fault(path, *written, out),
         RunFault::Memory => put_pieces(&[b"sfbank: out of memory\n"], out),
     }
@@ -86,8 +86,8 @@ fn put_script_fault<W: Write>(fault: ScriptFault, out: &mut W) -> Result<(), Wri
     )
 }
 
-fn put_refusal<W: Write>(line: u64, refusal: Refusal, out: &mut W) -> Result<(), WriteFault>
-    ensures { Writes (W.contents out.old) (W.contents out.new) (refused_line line refusal) result }
+fn put_refusal<W: Write>(line: u64, cause: Cause, out: &mut W) -> Result<(), WriteFault>
+    ensures { Writes (W.contents out.old) (W.contents out.new) (refused_line line cause) result }
 {
     let mut place = Buffer::new();
     let mut number = Buffer::new();
@@ -96,9 +96,9 @@ fn put_refusal<W: Write>(line: u64, refusal: Refusal, out: &mut W) -> Result<(),
             b"sfbank: line ",
             place.format(line).as_bytes(),
             b": refused ",
-            number.format(refusal.number()).as_bytes(),
+            number.format(cause.number()).as_bytes(),
             b" ",
-            refusal.name().as_bytes(),
+            cause.name().as_bytes(),
             b"\n",
         ],
         out,

@@ -8,7 +8,7 @@ pub loop-edit-init : goal.loop-edit-init
 loop-edit-init g c = Sending-start _ 0 (texts_of c.args.edits.now)
 
 pub print_after-requires : goal.print_after-requires
-print_after-requires g c = let none = none_sent _ _ _ c.loop-edit.invariant c.loop-edit-test.true c.requires.0 in omega (arith, none)
+print_after-requires g c = let none = none_sent _ _ _ c.loop-edit.invariant c.loop-edit-test.true c.requires in omega (arith, none)
 
 pub returns-in-Err : goal.returns-in-Err
 returns-in-Err g c =

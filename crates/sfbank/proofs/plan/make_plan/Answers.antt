@@ -1,6 +1,6 @@
 use Rattle.std.proofs.lemmas.Result.{err_from_is_err_and}
 use Rattle.sfbank.proofs.Faults.{at_read, reads_bank, at_script, at_line, at_done}
-use Rattle.sfbank.proofs.Restores.{few_edits}
+use Rattle.sfbank.proofs.Restores.{few_undo}
 use Rattle.sfbank.proofs.plan.make_plan.Goals as goal
 
 pub returns-in_err-bank-clause-plans : goal.returns-in_err-bank-clause-plans
@@ -30,4 +30,4 @@ returns-clause-plans c =
 pub returns-clause-few : goal.returns-clause-few
 returns-clause-few c =
     let applied = rw c.as_slice.ensures.value at c.in_ok-undo.ensures in
-    few_edits c.args.script.now c.in_ok-bank.bank c.apply_all.new.bank c.in_ok-lines.lines.items c.in_ok-undo.undo.items c.in_ok-bank.ensures.valid c.in_ok-lines.ensures applied
+    few_undo c.args.script.now c.in_ok-bank.bank c.apply_all.new.bank c.in_ok-lines.lines.items c.in_ok-undo.undo.items c.in_ok-lines.ensures applied
