@@ -7,6 +7,3 @@ mod pieces;
 mod points;
 
 pub use listing::write_listing;
-
-#[cfg(test)]
-mod tests;

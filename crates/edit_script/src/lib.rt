@@ -30,6 +30,3 @@ pub use lent::Lent;
 pub use parsing::{Line, parse};
 pub use pool::pool_of;
 pub use printing::{Piece, print, print_after, put_line};
-
-#[cfg(test)]
-mod tests;

@@ -13,6 +13,3 @@ pub use gen_map::GenMap;
 pub use level::Level;
 pub use range::Range;
 pub use rules::{allowed, default_of, is_range_operator};
-
-#[cfg(test)]
-mod tests;

@@ -12,6 +12,3 @@ pub use head::{InstrumentHead, PresetHead, SampleHead};
 pub use laws::records_law;
 pub use table::{Record, Records, Spelled, Table};
 pub use zone::{Bag, Generator};
-
-#[cfg(test)]
-mod tests;

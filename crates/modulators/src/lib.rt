@@ -4,6 +4,3 @@
 mod modulator;
 
 pub use modulator::{DEFAULT_VELOCITY, Modulator, default_velocity_law};
-
-#[cfg(test)]
-mod tests;

@@ -14,6 +14,3 @@ pub use laws::{
 pub use list::NumberedList;
 pub use renumbering::{Renumber, Renumbering};
 pub use room::WithRoom;
-
-#[cfg(test)]
-mod tests;

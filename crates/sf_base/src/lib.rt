@@ -16,6 +16,3 @@ pub use numbers::{i16_at, u16_at, u32_at};
 pub use pen::Pen;
 pub use slices::{front_of, part_of, rest_from};
 pub use writing::{WriteFault, finish, put_after, put_all};
-
-#[cfg(test)]
-mod tests;

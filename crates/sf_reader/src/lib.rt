@@ -15,10 +15,3 @@ mod texts;
 pub use bank_format::{Counts, ReadFault};
 pub use reader::read;
 pub use sf_base::Failure;
-
-#[cfg(test)]
-mod step_tests;
-#[cfg(test)]
-mod tests;
-#[cfg(test)]
-mod zone_tests;

@@ -19,8 +19,3 @@ mod terminals;
 mod zone_lists;
 
 pub use file::{encoded_len, write, write_counted};
-
-#[cfg(test)]
-mod tests;
-#[cfg(test)]
-mod zone_tests;

@@ -15,8 +15,3 @@ pub use fault::{RunFault, Which};
 pub use run::edit_run;
 pub use show::show_run;
 pub use telling::fault_text;
-
-#[cfg(test)]
-mod files;
-#[cfg(test)]
-mod tests;

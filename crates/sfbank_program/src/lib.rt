@@ -16,6 +16,3 @@ mod words;
 pub use input::{InputFault, read_whole};
 pub use output::OutputFile;
 pub use program::{run, run_with_arguments};
-
-#[cfg(test)]
-mod tests;

@@ -6,6 +6,3 @@ mod bag;
 mod zones;
 
 pub use zones::{BagsRead, ZoneCounts, read_bags};
-
-#[cfg(test)]
-mod tests;

@@ -1,0 +1,226 @@
+//! The calls of banks: what is told of one that is read, and one that is made of parts.
+
+use crate::files::{File, tone, wide};
+use bank_core::{
+    Bank, GlobalZone, InfoId, Instrument, Kind, Members, Owner, Parts, PartsFault, Place, Preset,
+    Sample, Text, Texts, Zone, is_valid,
+};
+use generators::GenMap;
+use numbered_lists::NumberedList;
+use sample_view::Points;
+use sf_base::{Name20, OutOfMemory};
+use sf_reader::read;
+use sf_writer::{encoded_len, write, write_counted};
+use std::alloc::Global;
+use std::test::Fail;
+
+/// What is told of the members of the wide bank.
+fn tells_members(bank: &Bank<'_>) -> bool {
+    let counts = [Members::Presets, Members::Instruments, Members::Samples].map(
+        |members| bank.count(members),
+    );
+    bank.minor() == 4
+        && bank.info(InfoId::Engine) == b"EMU8000".as_slice()
+        && bank.info(InfoId::Software).is_empty()
+        && counts == [2, 3, 1]
+        && bank.presets().len() == 2
+        && bank.instruments().len() == 3
+        && bank.samples().len() == 1
+        && bank
+            .sample(0)
+            .is_some_and(|sample| sample.points.len() == 3)
+        && bank.sample(1).is_none()
+        && bank
+            .instrument_name(1)
+            .is_some_and(|name| name.bytes() == b"c".as_slice())
+        && bank
+            .head(1)
+            .is_some_and(|head| head.bank == 128 && head.morphology == 3)
+        && bank.head(2).is_none()
+}
+
+/// What is told of its zones.
+fn tells_zones(bank: &Bank<'_>) -> bool {
+    let (preset, instrument) = (Owner::Preset(0), Owner::Instrument(2));
+    bank.zone_count(preset) == Some(1)
+        && bank.zone_count(instrument) == Some(2)
+        && bank.zone_count(Owner::Instrument(3)).is_none()
+        && bank.target(preset, 0) == Some(2)
+        && bank.target(preset, 1).is_none()
+        && bank.gen_of(preset, Place::Zone(0), 51) == Some(0xfff4)
+        && bank.gen_of(preset, Place::Global, 51).is_none()
+        && bank.gen_of(Owner::Instrument(0), Place::Global, 54) == Some(1)
+        && bank.gen_at(instrument, Place::Zone(0), 1) == Some((44, 0x4001))
+        && bank.gen_at(instrument, Place::Zone(0), 3).is_none()
+        && bank
+            .mod_at(preset, Place::Global, 0)
+            .is_some_and(|modulator| modulator.amount == 1)
+        && bank
+            .mod_at(Owner::Instrument(0), Place::Zone(0), 1)
+            .is_some_and(|modulator| modulator.amount == -2)
+        && bank.mod_at(instrument, Place::Zone(1), 0).is_none()
+}
+
+/// Whether each way of writing a bank writes this file.
+fn is_written(alloc: Global, bank: &Bank<'_>, file: &File) -> bool {
+    let mut out = Vec::new(alloc);
+    let mut counted = Vec::new(alloc);
+    let length = file.bytes().len() as u64;
+    encoded_len(bank) == length
+        && write(bank, &mut out).is_ok()
+        && out.as_slice() == file.bytes()
+        && write_counted(bank, &mut counted) == Ok(length)
+        && counted.as_slice() == file.bytes()
+}
+
+/// Whether a bank and its copy are written so.
+fn is_copied(alloc: Global, bank: &Bank<'_>, file: &File) -> bool {
+    match bank.copy(alloc) {
+        Ok(copy) => is_written(alloc, bank, file) && is_written(alloc, &copy, file),
+        Err(OutOfMemory) => false,
+    }
+}
+
+#[test]
+fn a_bank_that_is_read(rt: HostRuntime) {
+    let file = wide();
+    let told = match read(rt.alloc(), file.bytes()) {
+        Ok((bank, _)) => tells_members(&bank)
+            && tells_zones(&bank)
+            && is_copied(rt.alloc(), &bank, &file),
+        Err(_) => false,
+    };
+    assert!(rt; told);
+}
+
+fn global(alloc: Global) -> GlobalZone {
+    GlobalZone {
+        gens: GenMap::new(alloc),
+        mods: NumberedList::new(alloc),
+    }
+}
+
+/// A list of one zone, which sets an operator or none.
+fn one_zone(
+    alloc: Global,
+    target: u16,
+    operator: Option<u16>,
+) -> Result<NumberedList<Zone>, OutOfMemory> {
+    let mut gens = GenMap::new(alloc);
+    if let Some(operator) = operator {
+        gens.set(operator, 1)?;
+    }
+    one(
+        alloc,
+        Zone {
+            target,
+            gens,
+            mods: NumberedList::new(alloc),
+        },
+    )
+}
+
+fn one<T: Drop>(alloc: Global, member: T) -> Result<NumberedList<T>, OutOfMemory> {
+    let mut members = Vec::new(alloc);
+    members.push(member)?;
+    Ok(NumberedList::from_vec(members))
+}
+
+fn preset(alloc: Global, name: Name20) -> Result<NumberedList<Preset>, OutOfMemory> {
+    one(
+        alloc,
+        Preset {
+            name,
+            number: 0,
+            bank: 0,
+            library: 0,
+            genre: 0,
+            morphology: 0,
+            global: global(alloc),
+            zones: one_zone(alloc, 0, None)?,
+        },
+    )
+}
+
+fn instrument(
+    alloc: Global,
+    name: Name20,
+    target: u16,
+) -> Result<NumberedList<Instrument>, OutOfMemory> {
+    one(
+        alloc,
+        Instrument {
+            name,
+            global: global(alloc),
+            zones: one_zone(alloc, target, Some(54))?,
+        },
+    )
+}
+
+fn sample<'a>(
+    alloc: Global,
+    name: Name20,
+    points: Points<'a>,
+) -> Result<NumberedList<Sample<'a>>, OutOfMemory> {
+    one(
+        alloc,
+        Sample {
+            name,
+            points,
+            looped: Some((1, 3)),
+            rate: 44_100,
+            key: 60,
+            correction: 0,
+            kind: Kind::Mono,
+        },
+    )
+}
+
+/// The texts with the engine EMU8000, the others empty.
+fn texts<'a>() -> Texts<'a> {
+    Texts {
+        engine: Text::from_bytes(b"EMU8000"),
+        name: Text::from_bytes(b""),
+        date: Text::from_bytes(b""),
+        engineers: Text::from_bytes(b""),
+        product: Text::from_bytes(b""),
+        copyright: Text::from_bytes(b""),
+        comment: Text::from_bytes(b""),
+        software: Text::from_bytes(b""),
+    }
+}
+
+/// The parts of T, with a target of the instrument's zone.
+fn tone_parts<'a>(alloc: Global, target: u16) -> Result<Parts<'a>, Fail> {
+    let points = Points::of_slice(alloc, b"\xe8\x03\xd0\x07\x30\xf8")?;
+    let samples = sample(alloc, Name20::from_bytes(b"t")?, points)?;
+    let instruments = instrument(alloc, Name20::from_bytes(b"i")?, target)?;
+    Ok(Parts {
+        minor: 4,
+        texts: texts(),
+        presets: preset(alloc, Name20::from_bytes(b"p")?)?,
+        instruments,
+        samples,
+    })
+}
+
+#[test]
+fn a_bank_of_parts(rt: HostRuntime) -> Result<(), Fail> {
+    let parts = tone_parts(rt.alloc(), 0)?;
+    assert!(rt; is_valid(&parts));
+    let bank = Bank::from_parts(rt.alloc(), parts)?;
+    assert!(rt; is_copied(rt.alloc(), &bank, &tone()));
+    Ok(())
+}
+
+#[test]
+fn parts_of_no_bank(rt: HostRuntime) -> Result<(), Fail> {
+    let parts = tone_parts(rt.alloc(), 1)?;
+    assert!(rt; !is_valid(&parts));
+    let invalid = matches!(
+        Bank::from_parts(rt.alloc(), parts),
+        Err(PartsFault::Invalid)
+    );
+    assert!(rt; invalid);
+    Ok(())
+}
