@@ -86,7 +86,7 @@ fn fixed_writer() -> Fixed {
 }
 
 /// Renames the sample. Want of memory leaves no byte at either writer, and the run is made again.
-pub fn rename_run(alloc: Global) -> Outcome {
+pub(crate) fn rename_run(alloc: Global) -> Outcome {
     let mut out = fixed_writer();
     let mut undo = fixed_writer();
     let script = b"rename-sample 0 \"sine\"\n";
@@ -108,7 +108,7 @@ fn is_renamed(out: &Fixed, undo: &Fixed) -> bool {
 
 /// Writes the canonical file, which is the file. Want of memory leaves no byte, and the run is made
 /// again.
-pub fn canonical_run(alloc: Global) -> Outcome {
+pub(crate) fn canonical_run(alloc: Global) -> Outcome {
     let mut out = fixed_writer();
     match canon_run(alloc, BANK, &mut out) {
         Ok(()) => Outcome::done(out.has(BANK)),
@@ -121,7 +121,7 @@ pub fn canonical_run(alloc: Global) -> Outcome {
 }
 
 /// Lists the bank. Want of memory leaves no byte, and the run is made again.
-pub fn listing_run(alloc: Global) -> Outcome {
+pub(crate) fn listing_run(alloc: Global) -> Outcome {
     let mut out = fixed_writer();
     match show_run(alloc, BANK, &mut out) {
         Ok(()) => Outcome::done(is_listing(&out)),
@@ -138,7 +138,7 @@ fn is_listing(out: &Fixed) -> bool {
 }
 
 /// Reads the bank and copies it. A refused read, or copy, is made again.
-pub fn bank_copy(alloc: Global) -> Outcome {
+pub(crate) fn bank_copy(alloc: Global) -> Outcome {
     let (bank, outcome) = match read(alloc, BANK) {
         Ok((bank, _counts)) => (bank, Outcome::Done),
         Err(_) => match read(alloc, BANK) {

@@ -7,12 +7,12 @@
 #![tactic(auto)]
 
 mod banks;
-mod generators;
+mod generator_maps;
 mod outcome;
 mod points;
 
 use crate::banks::{bank_copy, canonical_run, listing_run, rename_run};
-use crate::generators::{generators_copy, generators_set};
+use crate::generator_maps::{generators_copy, generators_set};
 use crate::outcome::Outcome;
 use crate::points::{points_copy, points_join, points_narrow};
 use std::process::ExitCode;

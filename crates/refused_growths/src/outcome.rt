@@ -2,7 +2,7 @@
 
 /// How a case ended.
 #[derive(Clone, Copy)]
-pub enum Outcome {
+pub(crate) enum Outcome {
     /// No growth was refused, and each value is right.
     Done,
     /// A growth was refused and nothing was changed; made again, the call did its work.
@@ -13,12 +13,12 @@ pub enum Outcome {
 
 impl Outcome {
     /// Without a refusal.
-    pub fn done(right: bool) -> Outcome {
+    pub(crate) fn done(right: bool) -> Outcome {
         if right { Outcome::Done } else { Outcome::Wrong }
     }
 
     /// After a refusal.
-    pub fn refused(right: bool) -> Outcome {
+    pub(crate) fn refused(right: bool) -> Outcome {
         if right {
             Outcome::Refused
         } else {
@@ -27,7 +27,7 @@ impl Outcome {
     }
 
     /// Of two cases one after the other.
-    pub fn and(self, other: Outcome) -> Outcome {
+    pub(crate) fn and(self, other: Outcome) -> Outcome {
         match (self, other) {
             (Outcome::Wrong, _) | (_, Outcome::Wrong) => Outcome::Wrong,
             (Outcome::Refused, _) | (_, Outcome::Refused) => Outcome::Refused,

@@ -10,17 +10,17 @@ static FILE: [u8; 30] = [
 // The points that the file spells.
 static POINTS: [i16; 15] = [1, 2, 3, 4, 5, 6, 7, 8, 9, 10, 11, 12, 13, 14, 15];
 
-pub fn points_join(alloc: Global) -> Outcome {
+pub(crate) fn points_join(alloc: Global) -> Outcome {
     let (points, outcome) = in_five_slices(alloc);
     outcome.and(Outcome::done(has(&points, &POINTS) && points.pieces().len() == 5))
 }
 
-pub fn points_copy(alloc: Global) -> Outcome {
+pub(crate) fn points_copy(alloc: Global) -> Outcome {
     let (points, outcome) = in_five_slices(alloc);
     outcome.and(copied(alloc, &points))
 }
 
-pub fn points_narrow(alloc: Global) -> Outcome {
+pub(crate) fn points_narrow(alloc: Global) -> Outcome {
     let (mut points, outcome) = in_five_slices(alloc);
     outcome.and(narrowed(alloc, &mut points))
 }

@@ -8,12 +8,12 @@ static SETTINGS: [(u16, u16); 6] = [(17, 1), (58, 2), (43, 3), (5, 4), (44, 5), 
 
 static ENTRIES: [(u16, u16); 6] = [(43, 3), (44, 5), (5, 4), (17, 1), (48, 6), (58, 2)];
 
-pub fn generators_set(alloc: Global) -> Outcome {
+pub(crate) fn generators_set(alloc: Global) -> Outcome {
     let (gens, outcome) = all_set(alloc);
     outcome.and(Outcome::done(gens.entries() == ENTRIES.as_slice()))
 }
 
-pub fn generators_copy(alloc: Global) -> Outcome {
+pub(crate) fn generators_copy(alloc: Global) -> Outcome {
     let (gens, outcome) = all_set(alloc);
     let again = match gens.copy(alloc) {
         Ok(copy) => return outcome.and(Outcome::done(copy.entries() == gens.entries())),
