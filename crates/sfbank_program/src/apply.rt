@@ -1,5 +1,4 @@
 //! The command `apply`.
-use crate::counted::{gathered, write_fault};
 use crate::fault::Fault;
 use crate::input::read_file;
 use crate::output::OutputFile;
@@ -14,18 +13,18 @@ pub(crate) fn apply<'a, R: Files + AllocGlobal>(
 ) -> Result<(), Fault<'a>> {
     let file = read_file(rt, paths.input)?;
     let script = read_file(rt, paths.script)?;
-    let mut out = gathered(rt.alloc(), OutputFile::new(rt, paths.out), paths.out)?;
-    let mut undo = gathered(rt.alloc(), OutputFile::new(rt, paths.undo), paths.undo)?;
     match edit_run(
         rt.alloc(),
         file.as_slice(),
         script.as_slice(),
-        &mut out,
-        &mut undo,
+        &mut OutputFile::new(rt, paths.out),
+        &mut OutputFile::new(rt, paths.undo),
     ) {
         Ok(()) => Ok(()),
-        Err(RunFault::Write(Which::Out, _)) => Err(write_fault(Which::Out, out, paths.out)),
-        Err(RunFault::Write(Which::Undo, _)) => Err(write_fault(Which::Undo, undo, paths.undo)),
+        Err(RunFault::Write(Which::Undo, written)) => Err(Fault::Run(
+            RunFault::Write(Which::Undo, written),
+            paths.undo,
+        )),
         Err(fault) => Err(Fault::Run(fault, paths.out)),
     }
 }

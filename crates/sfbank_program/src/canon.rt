@@ -1,10 +1,9 @@
 //! The command `canon`.
-use crate::counted::{gathered, write_fault};
 use crate::fault::Fault;
 use crate::input::read_file;
 use crate::output::OutputFile;
 use crate::words::CanonPaths;
-use sfbank::{RunFault, canon_run};
+use sfbank::canon_run;
 use std::rt::Files;
 
 /// Writes a bank in its one spelling. It is read whole first, so the output may be the input.
@@ -13,10 +12,9 @@ pub(crate) fn canon<'a, R: Files + AllocGlobal>(
     paths: CanonPaths<'a>,
 ) -> Result<(), Fault<'a>> {
     let file = read_file(rt, paths.input)?;
-    let mut out = gathered(rt.alloc(), OutputFile::new(rt, paths.out), paths.out)?;
+    let mut out = OutputFile::new(rt, paths.out);
     match canon_run(rt.alloc(), file.as_slice(), &mut out) {
         Ok(()) => Ok(()),
-        Err(RunFault::Write(which, _)) => Err(write_fault(which, out, paths.out)),
         Err(fault) => Err(Fault::Run(fault, paths.out)),
     }
 }

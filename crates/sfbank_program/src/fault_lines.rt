@@ -1,5 +1,6 @@
 //! The lines by which faults are told.
 ghost use Rattle.std.specs.Prelude.{◌≡◌, IfOk};
+ghost use Rattle.sf_base.specs.Output.{Puts};
 ghost use Rattle.sf_base.specs.Writing.{Writes};
 ghost use Rattle.sample_view.specs.Pieces.{joined_bytes};
 ghost use Rattle.sfbank_program.specs.FaultLines.{fault_line, status_of, read_line, script_line, refused_line, write_line, file_line};
@@ -8,7 +9,7 @@ use bank_edits::Cause;
 use bank_format::ReadFault;
 use edit_script::ScriptFault;
 use itoa::Buffer;
-use sf_base::{WriteFault, put_after};
+use sf_base::{Output, WriteFault};
 use sfbank::RunFault;
 use std::io::Write;
 
@@ -18,7 +19,9 @@ pub fn fault_text<W: Write>(fault: &RunFault, path: &str, out: &mut W) -> Result
     ensures line { Writes (W.contents out.old) (W.contents out.new) (fault_line path.now fault.now) result }
     ensures status { IfOk result (λ status. status ≡ status_of fault.now) }
 {
-    put_fault(fault, path, out)?;
+    let mut output = Output::to(out);
+    put_fault(fault, path, &mut output);
+    output.end()?;
     Ok(exit_status(fault))
 }
 
@@ -37,20 +40,20 @@ pub fn exit_status(fault: &RunFault) -> u8
 }
 
 #[tactic(auto, unfolding(crate::specs::FaultLines::fault_line))]
-fn put_fault<W: Write>(fault: &RunFault, path: &str, out: &mut W) -> Result<(), WriteFault>
-    ensures { Writes (W.contents out.old) (W.contents out.new) (fault_line path.now fault.now) result }
+fn put_fault<W: Write>(fault: &RunFault, path: &str, output: &mut Output<'_, W>)
+    ensures { Puts W.contents output.old output.new (fault_line path.now fault.now) }
 {
     match fault {
-        RunFault::Read(fault) => put_read_fault(*fault, out),
-        RunFault::Script(fault) => put_script_fault(*fault, out),
-        RunFault::Refused(line, cause) => put_refusal(*line, *cause, out),
-        RunFault::Write(_, written) => put_write_fault(path, *written, out),
-        RunFault::Memory => put_pieces(&[b"sfbank: out of memory\n"], out),
+        RunFault::Read(fault) => put_read_fault(*fault, output),
+        RunFault::Script(fault) => put_script_fault(*fault, output),
+        RunFault::Refused(line, cause) => put_refusal(*line, *cause, output),
+        RunFault::Write(_, written) => put_write_fault(path, *written, output),
+        RunFault::Memory => put_pieces(&[b"sfbank: out of memory\n"], output),
     }
 }
 
-fn put_read_fault<W: Write>(fault: ReadFault, out: &mut W) -> Result<(), WriteFault>
-    ensures { Writes (W.contents out.old) (W.contents out.new) (read_line fault) result }
+fn put_read_fault<W: Write>(fault: ReadFault, output: &mut Output<'_, W>)
+    ensures { Puts W.contents output.old output.new (read_line fault) }
 {
     let mut number = Buffer::new();
     put_pieces(
@@ -61,12 +64,12 @@ fn put_read_fault<W: Write>(fault: ReadFault, out: &mut W) -> Result<(), WriteFa
             fault.name().as_bytes(),
             b"\n",
         ],
-        out,
-    )
+        output,
+    );
 }
 
-fn put_script_fault<W: Write>(fault: ScriptFault, out: &mut W) -> Result<(), WriteFault>
-    ensures { Writes (W.contents out.old) (W.contents out.new) (script_line fault) result }
+fn put_script_fault<W: Write>(fault: ScriptFault, output: &mut Output<'_, W>)
+    ensures { Puts W.contents output.old output.new (script_line fault) }
 {
     let mut line = Buffer::new();
     let mut number = Buffer::new();
@@ -80,12 +83,12 @@ fn put_script_fault<W: Write>(fault: ScriptFault, out: &mut W) -> Result<(), Wri
             fault.name().as_bytes(),
             b"\n",
         ],
-        out,
-    )
+        output,
+    );
 }
 
-fn put_refusal<W: Write>(line: u64, cause: Cause, out: &mut W) -> Result<(), WriteFault>
-    ensures { Writes (W.contents out.old) (W.contents out.new) (refused_line line cause) result }
+fn put_refusal<W: Write>(line: u64, cause: Cause, output: &mut Output<'_, W>)
+    ensures { Puts W.contents output.old output.new (refused_line line cause) }
 {
     let mut place = Buffer::new();
     let mut number = Buffer::new();
@@ -99,12 +102,12 @@ fn put_refusal<W: Write>(line: u64, cause: Cause, out: &mut W) -> Result<(), Wri
             cause.name().as_bytes(),
             b"\n",
         ],
-        out,
-    )
+        output,
+    );
 }
 
-fn put_write_fault<W: Write>(path: &str, written: u64, out: &mut W) -> Result<(), WriteFault>
-    ensures { Writes (W.contents out.old) (W.contents out.new) (write_line path.now written) result }
+fn put_write_fault<W: Write>(path: &str, written: u64, output: &mut Output<'_, W>)
+    ensures { Puts W.contents output.old output.new (write_line path.now written) }
 {
     let mut number = Buffer::new();
     put_pieces(
@@ -115,27 +118,30 @@ fn put_write_fault<W: Write>(path: &str, written: u64, out: &mut W) -> Result<()
             number.format(written).as_bytes(),
             b" bytes\n",
         ],
-        out,
-    )
+        output,
+    );
 }
 
 /// Writes the line of an input at a path that can't be read, or is too long.
-pub(crate) fn put_file_fault<W: Write>(path: &str, out: &mut W) -> Result<(), WriteFault>
+pub(crate) fn file_fault_text<W: Write>(path: &str, out: &mut W) -> Result<u64, WriteFault>
     ensures { Writes (W.contents out.old) (W.contents out.new) (file_line path.now) result }
 {
-    put_pieces(&[b"sfbank: file fault ", path.as_bytes(), b"\n"], out)
+    let mut output = Output::to(out);
+    put_file_fault(path, &mut output);
+    output.end()
 }
 
-// Writes the pieces one after the other.
-fn put_pieces<W: Write>(pieces: &[&[u8]], out: &mut W) -> Result<(), WriteFault>
-    ensures { Writes (W.contents out.old) (W.contents out.new) (joined_bytes pieces.now) result }
+fn put_file_fault<W: Write>(path: &str, output: &mut Output<'_, W>)
+    ensures { Puts W.contents output.old output.new (file_line path.now) }
 {
-    let mut sent = 0;
+    put_pieces(&[b"sfbank: file fault ", path.as_bytes(), b"\n"], output);
+}
+
+// Puts the pieces one after the other.
+fn put_pieces<W: Write>(pieces: &[&[u8]], output: &mut Output<'_, W>)
+    ensures { Puts W.contents output.old output.new (joined_bytes pieces.now) }
+{
     for piece in pieces {
-        match put_after(out, sent, piece) {
-            Ok(total) => sent = total,
-            Err(fault) => return Err(fault),
-        }
+        output.put(piece);
     }
-    Ok(())
 }

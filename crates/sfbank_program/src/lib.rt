@@ -4,7 +4,6 @@
 
 mod apply;
 mod canon;
-mod counted;
 mod fault;
 mod fault_lines;
 mod input;

@@ -8,7 +8,7 @@ use crate::show::show;
 use crate::telling::tell;
 use crate::words::{Request, request_of};
 use clap::error::ErrorKind;
-use sf_base::{finish, put_all};
+use sf_base::Output;
 use sfbank::{RunFault, Which};
 use std::alloc::{AllocError, Global};
 use std::convert::AsStr;
@@ -101,13 +101,11 @@ fn answer<'a, O: Write>(
 }
 
 /// Writes a text to the standard output.
-fn put_text<'a, O: Write>(text: &str, output: &mut O) -> Result<(), Fault<'a>> {
-    let sent = match put_all(output, text.as_bytes()) {
-        Ok(()) => finish(output, text.len() as u64),
-        Err(fault) => Err(fault),
-    };
-    match sent {
-        Ok(()) => Ok(()),
+fn put_text<'a, O: Write>(text: &str, out: &mut O) -> Result<(), Fault<'a>> {
+    let mut output = Output::to(out);
+    output.put(text.as_bytes());
+    match output.deliver() {
+        Ok(_) => Ok(()),
         Err(fault) => Err(Fault::Run(RunFault::Write(Which::Out, fault.written), STANDARD_OUTPUT)),
     }
 }

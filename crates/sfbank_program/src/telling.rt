@@ -3,7 +3,7 @@ ghost use Rattle.std.specs.Prelude.{◌≡◌};
 ghost use Rattle.sfbank_program.specs.Telling.{Tells, status_of};
 
 use crate::fault::Fault;
-use crate::fault_lines::{exit_status, fault_text, put_file_fault};
+use crate::fault_lines::{exit_status, fault_text, file_fault_text};
 use sf_base::put_all;
 use std::io::Write;
 
@@ -24,7 +24,7 @@ pub(crate) fn tell<E: Write>(fault: &Fault<'_>, errors: &mut E) -> u8
             1
         }
         Fault::File(path) => {
-            let _ = put_file_fault(path, errors);
+            let _ = file_fault_text(path, errors);
             5
         }
         Fault::Run(fault, path) => {
