@@ -9,3 +9,4 @@ pub mod Valid
 pub mod Fits
 pub mod Sound
 pub mod Counts
+pub mod Limits
