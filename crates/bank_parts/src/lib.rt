@@ -5,6 +5,7 @@
 mod copying;
 mod counting;
 mod parts;
+mod renumbering;
 mod texts;
 mod validity;
 
