@@ -5,6 +5,8 @@ pub use Rattle.generators.specs.Ranges
 pub use Rattle.generators.specs.Gens
 pub use Rattle.modulators.specs.Modulators
 pub mod Texts
+pub mod Links
+pub mod Renumbered
 pub mod Valid
 pub mod Fits
 pub mod Sound

@@ -10,7 +10,7 @@ use Rattle.generators.specs.Ranges.{is_range_operator, IsRange}
 use Rattle.generators.specs.declared.level.Level.{Level}
 use Rattle.generators.specs.declared.level.Level.TheVariants as level
 use Rattle.bank_parts.specs.declared.parts.Kind.{Kind}
-use Rattle.bank_parts.specs.declared.parts.Kind.TheVariants.{Mono, Right, Left, Linked}
+use Rattle.bank_parts.specs.Links.{OfLink}
 use Rattle.bank_parts.specs.declared.texts.Texts.{Texts}
 use Rattle.bank_parts.specs.declared.parts.GlobalZone.{GlobalZone}
 use Rattle.bank_parts.specs.declared.parts.Zone.{Zone}
@@ -56,10 +56,7 @@ IsLoop n (Some looped) = (looped.0 < looped.1) × (looped.1 ≤ n)
 
 -- a link names one of n samples
 abbrev pub IsLink : ℕ → Kind → Type 0
-IsLink n Mono = Unit {0}
-IsLink n (Right link) = link < n
-IsLink n (Left link) = link < n
-IsLink n (Linked link) = link < n
+IsLink n kind = OfLink (λ link. link < n) kind
 
 pub record IsSample (samples : ℕ) (s : Sample) : Type 0 where
   pub name : IsName s.name

@@ -7,6 +7,7 @@ mod counting;
 mod laws;
 mod limits;
 mod parts;
+mod renumbering;
 mod texts;
 mod totals;
 mod validity;
