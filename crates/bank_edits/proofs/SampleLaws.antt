@@ -1,7 +1,6 @@
 -- The forms that edit samples: what acceptance says of each, and what the code answers.
-use Rattle.std.proofs.Common.{◌≡◌, ◌<◌, ◌≤◌, ◌+◌, ◌||◌, ℕ, nat_le, nat_lt, false, List, length, Option, Some, None, refl, sym, ◌∙◌, ap}
+use Rattle.std.proofs.Common.{◌≡◌, ◌<◌, ◌≤◌, ◌+◌, ℕ, nat_le, nat_lt, false, List, length, Option, Some, None, refl, ◌∙◌, ap}
 use Rattle.std.specs.Prelude.{slice_get, IfSome}
-use Rattle.sf_base.specs.Names.{IsName}
 use Rattle.numbered_lists.proofs.Lists.{slice_get-found}
 use Rattle.bank_parts.specs.declared.parts.Kind.{Kind}
 use Rattle.bank_parts.specs.declared.parts.Kind.TheVariants.{Mono, Right, Left, Linked}
@@ -14,12 +13,11 @@ use Rattle.bank_parts.specs.Limits.{totals_of, broken, broken_limit, with_sample
 use Rattle.bank_parts.proofs.LimitLaws.{no_limit_of}
 use Rattle.bank_core.specs.Samples.{sample_in_use, sample_renamed, sample_added, sample_removed}
 use Rattle.bank_core.proofs.Everywhere.{or_left, or_right, or_none}
-use Rattle.bank_core.proofs.Renaming.{renamed_sound}
 use Rattle.bank_core.proofs.SampleLaws.{added_sound, removed_sound}
 use Rattle.bank_core.proofs.TotalsLaws.{totals-renamed, totals-added}
 use Rattle.bank_edits.specs.declared.edit.Step.TheVariants.{RenameSample, AddSample, RemoveSample}
 use Rattle.bank_edits.specs.Tests.{link_misses, loop_misses}
-use Rattle.bank_edits.specs.Steps.{FitsStep, refusal, inverse, causes}
+use Rattle.bank_edits.specs.Steps.{refusal, inverse, causes}
 use Rattle.bank_edits.proofs.Accepted.{NoneStands, accepted, below, not_below, up_to, not_above}
 
 -- ---- the tests of contents

@@ -1,5 +1,5 @@
 -- The form that edits a text: what acceptance says of it, and what the code answers.
-use Rattle.std.proofs.Common.{◌≡◌, ◌<◌, ◌≤◌, ◌==◌, ◌&&◌, ◌||◌, ℕ, Bool, true, false, nat_lt, List, length, None, refl, ◌∙◌, ap, arith}
+use Rattle.std.proofs.Common.{◌≡◌, ◌<◌, ◌==◌, ◌&&◌, ◌||◌, ℕ, Bool, true, false, nat_lt, List, length, None, refl, ◌∙◌, ap, arith}
 use Rattle.std.proofs.lemmas.Bool.Decides.{nat_tests}
 use Rattle.std.specs.List.{list_any}
 use Rattle.sf_base.specs.Names.{IsTextByte}
@@ -51,8 +51,10 @@ module _ (id : InfoId) (text : List ℕ) where
   good_text f h =
       let rest = or_right too_long (has_zero || is_empty) h in
       record {
-        fits = (up_to (most_bytes id) (length text) (or_left too_long (has_zero || is_empty) h),
-          all_both (λ byte. byte < 256) (λ byte. (byte == 0) ≡ false) IsTextByte (λ byte lt ne. (not_zero byte ne, lt)) text f (none_passes (λ byte. byte == 0) text (or_left has_zero is_empty rest)));
+        fits = (
+          up_to (most_bytes id) (length text) (or_left too_long (has_zero || is_empty) h),
+          all_both (λ byte. byte < 256) (λ byte. (byte == 0) ≡ false) IsTextByte (λ byte lt ne. (not_zero byte ne, lt)) text f (none_passes (λ byte. byte == 0) text (or_left has_zero is_empty rest)),
+        );
         there = zero_there (is_engine id) (or_right has_zero is_empty rest);
       }
 
@@ -62,8 +64,8 @@ module _ (id : InfoId) (text : List ℕ) where
       or_none too_long (has_zero || is_empty)
       (not_above (most_bytes id) (length text) h.fits.0)
       (or_none has_zero is_empty
-        (passes_none (λ byte. byte == 0) text (all_weaker IsTextByte (λ byte. (byte == 0) ≡ false) (λ byte k. over_zero byte k.0) text h.fits.1))
-        (there_zero (is_engine id) h.there))
+      (passes_none (λ byte. byte == 0) text (all_weaker IsTextByte (λ byte. (byte == 0) ≡ false) (λ byte k. over_zero byte k.0) text h.fits.1))
+      (there_zero (is_engine id) h.there))
 
 -- ---- set-info
 
