@@ -8,7 +8,8 @@ ghost use Rattle.bank_edits.specs.Tests as tests;
 
 use crate::cause::Cause;
 use bank_core::Bank;
-use bank_parts::{InfoId, Kind, Limit, Sample, Text};
+use bank_parts::{InfoId, Kind, Limit, Sample};
+use sf_base::Lent;
 use sf_base::limits::{COMMENT_LENGTH, TEXT_LENGTH};
 
 /// A limit that the changed bank would break, the last of the tests of every form.
@@ -64,7 +65,7 @@ pub fn bad_place(count: usize, at: u32) -> Result<(), Cause>
 
 // ---- texts
 
-pub fn bad_text(id: InfoId, text: &Text<'_>) -> Result<(), Cause>
+pub fn bad_text(id: InfoId, text: &Lent<'_>) -> Result<(), Cause>
     ensures { Passes (tests.bad_text id text.now) result }
 {
     let bytes = text.bytes();
