@@ -66,7 +66,7 @@ impl<'a> Edit<'a> {
 }
 
 /// The law that what a sample holds is in the ranges of its fields. It does nothing.
-pub fn sample_fits(sample: &Sample<'_>)
+pub(crate) fn sample_fits(sample: &Sample<'_>)
     ensures { FitsSample sample.now }
 {
     let _name = sample.name.bytes();
