@@ -1,7 +1,11 @@
 -- The parts of a printed line.
 use Rattle.std.proofs.Common.{◌≡◌, ◌≤◌, ◌<◌, ◌+◌, ℕ, suc, List, [], ◌∷◌, ◌++◌, length, map, get_or, drop, refl, sym, ap, ◌∙◌, arith, drop-cons}
+use Rattle.std.specs.Prelude.{Option}
 use Rattle.std.specs.List.{flat_map, join_with_byte}
 use Rattle.std.proofs.lemmas.List.{drop_all, append-nil}
+use Rattle.sf_base.specs.declared.output.Output.{Output}
+use Rattle.sf_base.specs.Output.{Puts}
+use Rattle.sf_base.proofs.OutputLaws.{puts_then, puts_as, Putting, putting_step, putting_end}
 use Rattle.hex.specs.Hex.{encode_with, encode_lower}
 use Rattle.line_tokens.specs.declared.printing.Piece.{Piece}
 use Rattle.line_tokens.specs.Printing.{spelled, spaced, line_text}
@@ -17,12 +21,6 @@ pub digits_over : (bytes : List ℕ) (i : ℕ) → length bytes ≤ i → encode
 unfolding encode_with
 digits_over bytes i h = ap encode_lower (drop_all i bytes h)
 
-pub spaced_at : (ps : List Piece) (i : ℕ) (p : Piece) → i < length ps → p ≡ get_or ps i p → flat_map spaced (drop i ps) ≡ spaced p ++ flat_map spaced (drop (i + 1) ps)
-spaced_at ps i p h e = ap (flat_map spaced) (drop-cons ps i p h ∙ ap (λ (q : Piece). q ∷ drop (suc i) ps) (sym e)) ∙ (let a : i + 1 ≡ suc i = omega arith in rw a refl)
-
-pub spaced_over : (ps : List Piece) (i : ℕ) → length ps ≤ i → flat_map spaced (drop i ps) ≡ []
-spaced_over ps i h = ap (flat_map spaced) (drop_all i ps h)
-
 -- one space between each two is one space before each but the first
 joined_spaced : (w : List ℕ) (ps : List Piece) → join_with_byte 32 (w ∷ map spelled ps) ≡ w ++ flat_map spaced ps
 joined_spaced w [] = sym (append-nil w)
@@ -30,3 +28,16 @@ joined_spaced w (p ∷ ps) = ap (λ (x : List ℕ). w ++ (32 ∷ x)) (joined_spa
 
 pub line_spaced : (w : List ℕ) (ps : List Piece) → line_text w ps ≡ w ++ flat_map spaced ps ++ 10 ∷ []
 line_spaced w ps = ap (λ (x : List ℕ). x ++ 10 ∷ []) (joined_spaced w ps)
+
+module _ {W : Type 0} {c : W → Option (List ℕ)} where
+  pub puts_line : {o p q r : Output W} (w : List ℕ) (ps : List Piece) → Puts c o p w → Puts c p q (flat_map spaced ps) → Puts c q r (10 ∷ []) → Puts c o r (line_text w ps)
+  puts_line w ps h k l =
+      puts_as ((w ++ flat_map spaced ps) ++ 10 ∷ []) (line_text w ps) (sym (line_spaced w ps)) (puts_then (w ++ flat_map spaced ps) (10 ∷ []) (puts_then w (flat_map spaced ps) h k) l)
+
+  -- the digits of a byte
+  pub digits_on : {o p q : Output W} {whole : List ℕ} (bytes digits : List ℕ) (i : ℕ) → Putting c o p whole (encode_lower (drop i bytes)) → i < length bytes → digits ≡ encode_lower (get_or bytes i 0 ∷ []) → Puts c p q digits
+      → Putting c o q whole (encode_lower (drop (i + 1) bytes))
+  digits_on bytes digits i s h d k = putting_step digits (encode_lower (drop (i + 1) bytes)) s (digits_at bytes digits i h d) k
+
+  pub digits_end : {o p : Output W} {whole : List ℕ} (bytes : List ℕ) (i : ℕ) → Putting c o p whole (encode_lower (drop i bytes)) → length bytes ≤ i → Puts c o p whole
+  digits_end {o} {p} {whole} bytes i s h = let e = digits_over bytes i h in putting_end (rw e at s)

@@ -4,5 +4,6 @@ pub mod Tokens
 pub mod Said
 pub mod Parts
 pub mod Pool
+pub mod Slices
 pub mod Printing
 pub mod Spelling

@@ -1,9 +1,10 @@
 -- The pieces of a printed line.
 use Rattle.std.specs.Prelude.{ℕ, List, [], ◌∷◌, ◌++◌, map, decimal, Bool, not, ◌&&◌, if◌then◌else◌}
+use Rattle.std.specs.Fmt.{signed_decimal}
 use Rattle.std.specs.List.{list_all, join_with_byte}
 use Rattle.hex.specs.Hex.{encode_lower}
 use Rattle.line_tokens.specs.declared.printing.Piece.{Piece}
-use Rattle.line_tokens.specs.declared.printing.Piece.TheVariants.{Number, Word, Name}
+use Rattle.line_tokens.specs.declared.printing.Piece.TheVariants.{Number, Signed, Word, Name, Hex}
 use Rattle.line_tokens.specs.Tokens.{is_quote}
 use Rattle.line_tokens.specs.Said.{is_plain}
 
@@ -22,17 +23,15 @@ name_text bytes = if list_all is_open bytes then 34 ∷ bytes ++ 34 ∷ [] else 
 -- a number has no leading zeros, and a word stands as it is
 unfoldable pub spelled : Piece → List ℕ
 spelled (Number n) = decimal n
+spelled (Signed z) = signed_decimal z
 spelled (Word bytes) = bytes
 spelled (Name bytes) = name_text bytes
-
--- the tokens of a line, with one space between each two
-abbrev pub joined : List ℕ → List Piece → List ℕ
-joined word pieces = join_with_byte 32 (word ∷ map spelled pieces)
-
--- the tokens of a line, and a line feed
-abbrev pub line_text : List ℕ → List Piece → List ℕ
-line_text word pieces = joined word pieces ++ 10 ∷ []
+spelled (Hex bytes) = hex_literal bytes
 
 -- a piece behind a space
 abbrev pub spaced : Piece → List ℕ
 spaced p = 32 ∷ spelled p
+
+-- the tokens of a line, with one space between each two, and a line feed
+abbrev pub line_text : List ℕ → List Piece → List ℕ
+line_text word pieces = join_with_byte 32 (word ∷ map spelled pieces) ++ 10 ∷ []

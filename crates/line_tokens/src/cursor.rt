@@ -5,10 +5,9 @@ ghost use Rattle.line_tokens.specs.Tokens.{tokens_of};
 ghost use Rattle.line_tokens.specs.Parts.{Reads, word, literal, number, signed, name, name_of, ended};
 
 use crate::fault::LineFault;
-use crate::lent::Lent;
 use crate::numbers::{number_of, signed_of};
 use crate::tokens::{Token, Tokens};
-use sf_base::{Name20, front_of, rest_from};
+use sf_base::{Lent, Name20, front_of, rest_from};
 use std::marker::Model;
 
 /// What a token says.

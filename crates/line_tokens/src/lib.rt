@@ -12,7 +12,7 @@
 
 mod cursor;
 mod fault;
-mod lent;
+mod joined;
 mod lines;
 mod numbers;
 mod pool;
@@ -22,7 +22,7 @@ mod tokens;
 
 pub use cursor::Cursor;
 pub use fault::{LineFault, ScriptFault};
-pub use lent::Lent;
+pub use joined::Joined;
 pub use lines::Lines;
 pub use pool::pool_of;
-pub use printing::{Piece, put_line};
+pub use printing::{Piece, put_line, put_pieces};

@@ -3,9 +3,8 @@ ghost use Rattle.std.specs.Prelude.{◌≡◌, ◌<◌, length, slice_index, dro
 ghost use Rattle.std.specs.Iterator.{YieldsFirstBy, item_count};
 ghost use Rattle.line_tokens.specs.Tokens.{tokens_of, token_at, quoted_at, plain_at, ends_well};
 
-use crate::lent::Lent;
 use crate::scanning::{behind, blank_at, blanks_before, is_blank, quote_at};
-use sf_base::{front_of, rest_from};
+use sf_base::{Lent, front_of, rest_from};
 use std::marker::Model;
 
 /// A token of a line.
