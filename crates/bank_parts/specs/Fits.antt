@@ -8,7 +8,7 @@ use Rattle.generators.specs.Gens.{FitGens}
 use Rattle.modulators.specs.Modulators.{FitsModulator}
 use Rattle.bank_parts.specs.declared.texts.Texts.{Texts}
 use Rattle.bank_parts.specs.declared.parts.Kind.{Kind}
-use Rattle.bank_parts.specs.declared.parts.Kind.TheVariants.{Mono, Right, Left, Linked}
+use Rattle.bank_parts.specs.Links.{OfLink}
 use Rattle.bank_parts.specs.declared.parts.GlobalZone.{GlobalZone}
 use Rattle.bank_parts.specs.declared.parts.Zone.{Zone}
 use Rattle.bank_parts.specs.declared.parts.Preset.{Preset}
@@ -61,10 +61,7 @@ FitsLoop (Some looped) = (looped.0 < 2 ^ 32) × (looped.1 < 2 ^ 32)
 
 -- the link, where there is one
 abbrev pub FitsKind : Kind → Type 0
-FitsKind Mono = Unit {0}
-FitsKind (Right link) = link < 2 ^ 16
-FitsKind (Left link) = link < 2 ^ 16
-FitsKind (Linked link) = link < 2 ^ 16
+FitsKind kind = OfLink (λ link. link < 2 ^ 16) kind
 
 pub record FitsSample (s : Sample) : Type 0 where
   pub name : IsName s.name

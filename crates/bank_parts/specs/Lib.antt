@@ -5,7 +5,10 @@ pub use Rattle.generators.specs.Ranges
 pub use Rattle.generators.specs.Gens
 pub use Rattle.modulators.specs.Modulators
 pub mod Texts
+pub mod Links
+pub mod Renumbered
 pub mod Valid
 pub mod Fits
 pub mod Sound
 pub mod Counts
+pub mod Limits

@@ -3,13 +3,14 @@ use Rattle.std.specs.Prelude.{◌≡◌, ◌≤◌, ◌<◌, ◌+◌, ◌==◌, 
 use Rattle.std.specs.List.{AllByRecursion}
 use Rattle.std.specs.FinMap.{entries, len}
 use Rattle.sf_base.specs.Names.{IsName, IsText}
+use Rattle.sf_base.specs.declared.limits.TheConstants.{PRESETS, INSTRUMENTS, SAMPLES, ZONES, GENERATORS, MODULATORS, POINTS, ZERO_POINTS, TEXT_LENGTH, COMMENT_LENGTH}
 use Rattle.generators.specs.Gens.{Gens}
 use Rattle.generators.specs.Levels.{is_allowed}
 use Rattle.generators.specs.Ranges.{is_range_operator, IsRange}
 use Rattle.generators.specs.declared.level.Level.{Level}
 use Rattle.generators.specs.declared.level.Level.TheVariants as level
 use Rattle.bank_parts.specs.declared.parts.Kind.{Kind}
-use Rattle.bank_parts.specs.declared.parts.Kind.TheVariants.{Mono, Right, Left, Linked}
+use Rattle.bank_parts.specs.Links.{OfLink}
 use Rattle.bank_parts.specs.declared.texts.Texts.{Texts}
 use Rattle.bank_parts.specs.declared.parts.GlobalZone.{GlobalZone}
 use Rattle.bank_parts.specs.declared.parts.Zone.{Zone}
@@ -55,10 +56,7 @@ IsLoop n (Some looped) = (looped.0 < looped.1) × (looped.1 ≤ n)
 
 -- a link names one of n samples
 abbrev pub IsLink : ℕ → Kind → Type 0
-IsLink n Mono = Unit {0}
-IsLink n (Right link) = link < n
-IsLink n (Left link) = link < n
-IsLink n (Linked link) = link < n
+IsLink n kind = OfLink (λ link. link < n) kind
 
 pub record IsSample (samples : ℕ) (s : Sample) : Type 0 where
   pub name : IsName s.name
@@ -67,15 +65,15 @@ pub record IsSample (samples : ℕ) (s : Sample) : Type 0 where
 
 -- no text has a zero byte; the engine is never empty
 pub record AreTexts (texts : Texts) : Type 0 where
-  pub engine : IsText 255 texts.engine
+  pub engine : IsText TEXT_LENGTH texts.engine
   pub engine_there : 0 < length texts.engine
-  pub name : IsText 255 texts.name
-  pub date : IsText 255 texts.date
-  pub engineers : IsText 255 texts.engineers
-  pub product : IsText 255 texts.product
-  pub copyright : IsText 255 texts.copyright
-  pub comment : IsText 65535 texts.comment
-  pub software : IsText 255 texts.software
+  pub name : IsText TEXT_LENGTH texts.name
+  pub date : IsText TEXT_LENGTH texts.date
+  pub engineers : IsText TEXT_LENGTH texts.engineers
+  pub product : IsText TEXT_LENGTH texts.product
+  pub copyright : IsText TEXT_LENGTH texts.copyright
+  pub comment : IsText COMMENT_LENGTH texts.comment
+  pub software : IsText TEXT_LENGTH texts.software
 
 -- ---- limits
 
@@ -100,21 +98,21 @@ preset_total count presets = sum_by (λ (p : Preset). count p.global p.zones) pr
 abbrev pub instrument_total : (GlobalZone → List Zone → ℕ) → List Instrument → ℕ
 instrument_total count instruments = sum_by (λ (i : Instrument). count i.global i.zones) instruments
 
--- the points of all samples, each sample's followed by 46 zero points
+-- the points of all samples, each sample's with the zero points that follow them
 abbrev pub point_total : List Sample → ℕ
-point_total samples = sum_by (λ (s : Sample). length s.points + 46) samples
+point_total samples = sum_by (λ (s : Sample). length s.points + ZERO_POINTS) samples
 
 pub record IsWithin (b : Parts) : Type 0 where
-  pub presets : length b.presets ≤ 65535
-  pub instruments : length b.instruments ≤ 65535
-  pub samples : length b.samples ≤ 65535
-  pub preset_zones : preset_total zone_count b.presets ≤ 65535
-  pub preset_gens : preset_total gen_count b.presets ≤ 65535
-  pub preset_mods : preset_total mod_count b.presets ≤ 65535
-  pub instrument_zones : instrument_total zone_count b.instruments ≤ 65535
-  pub instrument_gens : instrument_total gen_count b.instruments ≤ 65535
-  pub instrument_mods : instrument_total mod_count b.instruments ≤ 65535
-  pub points : point_total b.samples ≤ 500000000
+  pub presets : length b.presets ≤ PRESETS
+  pub instruments : length b.instruments ≤ INSTRUMENTS
+  pub samples : length b.samples ≤ SAMPLES
+  pub preset_zones : preset_total zone_count b.presets ≤ ZONES
+  pub preset_gens : preset_total gen_count b.presets ≤ GENERATORS
+  pub preset_mods : preset_total mod_count b.presets ≤ MODULATORS
+  pub instrument_zones : instrument_total zone_count b.instruments ≤ ZONES
+  pub instrument_gens : instrument_total gen_count b.instruments ≤ GENERATORS
+  pub instrument_mods : instrument_total mod_count b.instruments ≤ MODULATORS
+  pub points : point_total b.samples ≤ POINTS
 
 -- ---- the bank
 

@@ -1,136 +1,100 @@
-//! How long the lists of a bank are, as a file would hold them.
-ghost use Rattle.std.specs.Prelude.{◌≡◌, ◌↔◌, ◌≤◌, ◌+◌, IsTrue, length, sum_by};
-ghost use Rattle.bank_parts.specs.Valid.{IsWithin, point_total};
-ghost use Rattle.bank_parts.specs.Counts.{IsLeft, records_of_global, records_of_zone, records_of, AreFewMembers, AreFew};
+//! How many records zones have, as a file would hold them.
+ghost use Rattle.std.specs.Prelude.{◌≡◌};
+ghost use Rattle.bank_parts.specs.Counts.{records_of_global, records_of_zone, records_of, records_sum, records_total, all_counted};
 
-use crate::parts::{GlobalZone, Instrument, Parts, Preset, Sample, Zone};
-use sf_base::limits::{
-    GENERATORS, INSTRUMENTS, MODULATORS, POINTS, PRESETS, SAMPLES, ZERO_POINTS, ZONES,
-};
+use crate::parts::{GlobalZone, Instrument, Preset, Zone};
 
-/// Which records are counted: a zone's target is a generator, and an empty global zone has none.
+/// So many zones, generators and modulators: a zone's target is a generator, and an empty global zone
+/// is none.
 #[derive(Clone, Copy)]
-pub(crate) enum Records {
-    Zones,
-    Generators,
-    Modulators,
+pub(crate) struct Records {
+    pub zones: usize,
+    pub gens: usize,
+    pub mods: usize,
+}
+
+impl Records {
+    // Both together. A sum that would pass 2^64 stays below it.
+    fn plus(self, more: Records) -> Records
+        ensures { result ≡ all_counted (records_sum self more) }
+    {
+        Records {
+            zones: self.zones.saturating_add(more.zones),
+            gens: self.gens.saturating_add(more.gens),
+            mods: self.mods.saturating_add(more.mods),
+        }
+    }
 }
 
 /// What has records: a zone, a preset or an instrument.
 pub(crate) trait Recorded {
-    ghost use Rattle.std.specs.Prelude.{ℕ};
     ghost use Rattle.bank_parts.specs.declared.counting.Records.{Records};
 
-    /// How many of a kind.
-    ghost records: { Records → Self → ℕ };
+    /// How many.
+    ghost record_count: { Self → Records };
 
-    /// The room that is left when its records have taken theirs, if there is so much.
-    fn take_room(&self, kind: Records, room: usize) -> Option<usize>
-        ensures { IsLeft room (records kind self.now) result };
+    /// How many records it has.
+    fn records(&self) -> Records
+        ensures { result ≡ all_counted (record_count self.now) };
 }
 
 impl Recorded for Zone {
-    ghost records = { records_of_zone };
+    ghost record_count = { records_of_zone };
 
-    fn take_room(&self, kind: Records, room: usize) -> Option<usize> {
-        match kind {
-            Records::Zones => room.checked_sub(1),
-            Records::Generators => room.checked_sub(1)?.checked_sub(self.gens.len()),
-            Records::Modulators => room.checked_sub(self.mods.len()),
+    fn records(&self) -> Records {
+        Records {
+            zones: 1,
+            gens: self.gens.len() + 1,
+            mods: self.mods.len(),
+        }
+    }
+}
+
+impl Recorded for GlobalZone {
+    ghost record_count = { records_of_global };
+
+    fn records(&self) -> Records {
+        Records {
+            zones: if self.is_empty() { 0 } else { 1 },
+            gens: self.gens.len(),
+            mods: self.mods.len(),
         }
     }
 }
 
 impl Recorded for Preset {
-    ghost records = { λ kind preset. records_of kind preset.global preset.zones };
+    ghost record_count = { λ preset. records_of preset.global preset.zones };
 
-    fn take_room(&self, kind: Records, room: usize) -> Option<usize> {
-        zones_take_room(&self.global, self.zones.as_slice(), kind, room)
+    fn records(&self) -> Records {
+        zone_records(&self.global, self.zones.as_slice())
     }
 }
 
 impl Recorded for Instrument {
-    ghost records = { λ kind instrument. records_of kind instrument.global instrument.zones };
+    ghost record_count = { λ instrument. records_of instrument.global instrument.zones };
 
-    fn take_room(&self, kind: Records, room: usize) -> Option<usize> {
-        zones_take_room(&self.global, self.zones.as_slice(), kind, room)
+    fn records(&self) -> Records {
+        zone_records(&self.global, self.zones.as_slice())
     }
 }
 
-/// Whether no list of the parts is too long.
-#[tactic(auto, using(crate::proofs::Counts::within, crate::proofs::Counts::few_members, crate::proofs::Counts::few_in_presets, crate::proofs::Counts::few_in_instruments, crate::proofs::Counts::few_points))]
-pub(crate) fn is_within(parts: &Parts<'_>) -> bool
-    ensures { IsTrue result ↔ IsWithin parts.now }
+/// How many records these have in all.
+pub(crate) fn records_in<T: Recorded>(members: &[T]) -> Records
+    ensures { result ≡ all_counted (records_total T.record_count members.now) }
 {
-    members_are_few(parts)
-        && have_few(parts.presets.as_slice())
-        && have_few(parts.instruments.as_slice())
-        && points_are_few(parts.samples.as_slice())
-}
-
-fn members_are_few(parts: &Parts<'_>) -> bool
-    ensures { IsTrue result ↔ AreFewMembers parts.now }
-{
-    parts.presets.len() <= PRESETS
-        && parts.instruments.len() <= INSTRUMENTS
-        && parts.samples.len() <= SAMPLES
-}
-
-// Whether the records of these members fit their three lists.
-fn have_few<T: Recorded>(members: &[T]) -> bool
-    ensures { IsTrue result ↔ AreFew (λ kind. sum_by (T.records kind) members.now) }
-{
-    all_take_room(members, Records::Zones, ZONES).is_some()
-        && all_take_room(members, Records::Generators, GENERATORS).is_some()
-        && all_take_room(members, Records::Modulators, MODULATORS).is_some()
-}
-
-// The room that is left when the records of all these have taken theirs.
-fn all_take_room<T: Recorded>(members: &[T], kind: Records, room: usize) -> Option<usize>
-    ensures { IsLeft room (sum_by (T.records kind) members.now) result }
-{
-    let mut left = room;
+    let mut total = Records {
+        zones: 0,
+        gens: 0,
+        mods: 0,
+    };
     for member in members {
-        left = member.take_room(kind, left)?;
+        total = total.plus(member.records());
     }
-    Some(left)
+    total
 }
 
-fn zones_take_room(shared: &GlobalZone, own: &[Zone], kind: Records, room: usize) -> Option<usize>
-    ensures { IsLeft room (records_of kind shared.now own.now) result }
+fn zone_records(shared: &GlobalZone, own: &[Zone]) -> Records
+    ensures { result ≡ all_counted (records_of shared.now own.now) }
 {
-    let rest = room.checked_sub(global_records(shared, kind))?;
-    all_take_room(own, kind, rest)
-}
-
-fn global_records(shared: &GlobalZone, kind: Records) -> usize
-    ensures { result ≡ records_of_global kind shared.now }
-{
-    match kind {
-        Records::Zones if shared.is_empty() => 0,
-        Records::Zones => 1,
-        Records::Generators => shared.gens.len(),
-        Records::Modulators => shared.mods.len(),
-    }
-}
-
-fn points_are_few(samples: &[Sample<'_>]) -> bool
-    ensures { IsTrue result ↔ (point_total samples.now ≤ 500000000) }
-{
-    let mut left = POINTS as usize;
-    for sample in samples {
-        let Some(rest) = without_points(sample, left) else {
-            return false;
-        };
-        left = rest;
-    }
-    true
-}
-
-// The room that is left when a sample's points and the zero points after them have taken theirs.
-fn without_points(sample: &Sample<'_>, room: usize) -> Option<usize>
-    ensures { IsLeft room (length sample.now.points + 46) result }
-{
-    room.checked_sub(ZERO_POINTS)?
-        .checked_sub(sample.points.len())
+    shared.records().plus(records_in(own))
 }

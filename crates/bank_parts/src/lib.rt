@@ -4,11 +4,18 @@
 
 mod copying;
 mod counting;
+mod laws;
+mod limits;
 mod parts;
+mod renumbering;
 mod texts;
+mod totals;
 mod validity;
 
 pub use copying::copy_parts;
+pub use laws::limits_agree;
+pub use limits::Limit;
 pub use parts::{GlobalZone, Instrument, Kind, Parts, Preset, Sample, Zone};
 pub use texts::{InfoId, Text, Texts};
+pub use totals::{Totals, totals_of};
 pub use validity::is_valid;

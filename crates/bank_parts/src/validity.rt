@@ -5,12 +5,12 @@ ghost use Rattle.std.specs.List.{AllByRecursion};
 ghost use Rattle.sf_base.specs.Names.{IsText};
 ghost use Rattle.generators.specs.Gens.{FitGens};
 ghost use Rattle.modulators.specs.Modulators.{FitsModulator};
-ghost use Rattle.bank_parts.specs.Valid.{IsGenerator, AreGenerators, IsZone, AreZones, IsPreset, IsInstrument, IsLoop, IsLink, IsSample, AreTexts, IsValid};
+ghost use Rattle.bank_parts.specs.Valid.{IsGenerator, AreGenerators, IsZone, AreZones, IsPreset, IsInstrument, IsLoop, IsLink, IsSample, AreTexts, IsWithin, IsValid};
 ghost use Rattle.bank_parts.specs.Fits.{FitTexts, FitsPreset, FitsInstrument, FitsSample, FitsLoop, FitsKind, FitsGlobal, FitsZone, Fits};
 
-use crate::counting::is_within;
 use crate::parts::{GlobalZone, Instrument, Kind, Parts, Preset, Sample, Zone};
 use crate::texts::Texts;
+use crate::totals::totals_of;
 use generators::{GenMap, Level, Range, allowed, is_range_operator};
 use modulators::Modulator;
 use sf_base::limits::{COMMENT_LENGTH, TEXT_LENGTH};
@@ -28,6 +28,13 @@ pub fn is_valid(parts: &Parts<'_>) -> bool
         && are_instruments(parts.instruments.as_slice(), parts.samples.len())
         && are_samples(parts.samples.as_slice(), parts.samples.len())
         && is_within(parts)
+}
+
+#[tactic(auto, using(crate::proofs::LimitLaws::limits_of, crate::proofs::LimitLaws::no_limit_of))]
+fn is_within(parts: &Parts<'_>) -> bool
+    ensures { IsTrue result ↔ IsWithin parts.now }
+{
+    totals_of(parts).broken().is_none()
 }
 
 // ---- texts and names

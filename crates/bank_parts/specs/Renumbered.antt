@@ -1,0 +1,29 @@
+-- What names the members of a list by their numbers, with the numbers that hold after the list changed.
+use Rattle.std.specs.Prelude.{map}
+use Rattle.numbered_lists.specs.declared.renumbering.Renumbering.{Renumbering}
+use Rattle.numbered_lists.specs.Renumbered.{renumbered}
+use Rattle.bank_parts.specs.declared.parts.Kind.{Kind}
+use Rattle.bank_parts.specs.declared.parts.Kind.TheVariants.{Mono, Right, Left, Linked}
+use Rattle.bank_parts.specs.declared.parts.Zone.{Zone}
+use Rattle.bank_parts.specs.declared.parts.Instrument.{Instrument}
+use Rattle.bank_parts.specs.declared.parts.Sample.{Sample}
+use Rattle.bank_parts.specs.declared.parts.Parts.{Parts}
+
+abbrev pub kind_renumbered : Renumbering → Kind → Kind
+kind_renumbered by Mono = Mono
+kind_renumbered by (Right link) = Right (renumbered by link)
+kind_renumbered by (Left link) = Left (renumbered by link)
+kind_renumbered by (Linked link) = Linked (renumbered by link)
+
+abbrev pub sample_renumbered : Renumbering → Sample → Sample
+sample_renumbered by s = record s { kind = kind_renumbered by s.kind }
+
+abbrev pub zone_renumbered : Renumbering → Zone → Zone
+zone_renumbered by z = record z { target = renumbered by z.target }
+
+abbrev pub instrument_renumbered : Renumbering → Instrument → Instrument
+instrument_renumbered by i = record i { zones = map (zone_renumbered by) i.zones }
+
+-- the bank with every target and link into its samples renumbered
+abbrev pub samples_renumbered : Renumbering → Parts → Parts
+samples_renumbered by b = record b { samples = map (sample_renumbered by) b.samples; instruments = map (instrument_renumbered by) b.instruments }

@@ -1,0 +1,57 @@
+//! How what names samples by their numbers follows a change of their list.
+ghost use Rattle.std.specs.Prelude.{◌≡◌};
+
+use crate::parts::{Instrument, Kind, Sample, Zone};
+use numbered_lists::{Renumber, Renumbering};
+
+/// A sample holds the number that its link names.
+impl<'a> Renumber for Sample<'a> {
+    ghost use Rattle.std.specs.Prelude.{ℕ, ◌<◌, ◌^◌};
+    ghost use Rattle.numbered_lists.specs.Renumbered.{renumbered};
+    ghost use Rattle.bank_parts.specs.Links.{OfLink};
+    ghost use Rattle.bank_parts.specs.Renumbered.{sample_renumbered};
+
+    ghost can_renumber = { λ by s. OfLink (λ link. renumbered by link < 2 ^ 16) s.kind };
+
+    ghost with_new_numbers = { sample_renumbered };
+
+    fn renumber(&mut self, by: Renumbering) {
+        self.kind = match self.kind {
+            Kind::Mono => Kind::Mono,
+            Kind::Right(link) => Kind::Right(by.number_after(link)),
+            Kind::Left(link) => Kind::Left(by.number_after(link)),
+            Kind::Linked(link) => Kind::Linked(by.number_after(link)),
+        };
+    }
+}
+
+/// A zone holds the number of its target.
+impl Renumber for Zone {
+    ghost use Rattle.std.specs.Prelude.{ℕ, ◌<◌, ◌^◌};
+    ghost use Rattle.numbered_lists.specs.Renumbered.{renumbered};
+    ghost use Rattle.bank_parts.specs.Renumbered.{zone_renumbered};
+
+    ghost can_renumber = { λ by z. renumbered by z.target < 2 ^ 16 };
+
+    ghost with_new_numbers = { zone_renumbered };
+
+    fn renumber(&mut self, by: Renumbering) {
+        self.target = by.number_after(self.target);
+    }
+}
+
+/// An instrument holds the numbers of its zones' targets.
+impl Renumber for Instrument {
+    ghost use Rattle.std.specs.Prelude.{ℕ, ◌<◌, ◌^◌, All};
+    ghost use Rattle.numbered_lists.specs.Renumbered.{renumbered};
+    ghost use Rattle.bank_parts.specs.declared.parts.Zone.{Zone};
+    ghost use Rattle.bank_parts.specs.Renumbered.{instrument_renumbered};
+
+    ghost can_renumber = { λ by i. All (λ (z : Zone). renumbered by z.target < 2 ^ 16) i.zones };
+
+    ghost with_new_numbers = { instrument_renumbered };
+
+    fn renumber(&mut self, by: Renumbering) {
+        self.zones.renumber(by);
+    }
+}
