@@ -1,6 +1,7 @@
 -- The pieces of printed lines say what they were made of.
-use Rattle.std.proofs.Common.{◌≡◌, ◌<◌, ◌^◌, ◌+◌, ◌*◌, ◌-◌, ℕ, zero, suc, Bool, true, false, List, [], ◌∷◌, ◌++◌, length, map, decimal, refl, ap, subst, ◌∙◌, append_assoc, rules, arith, inl, inr}
+use Rattle.std.proofs.Common.{◌≤◌, ◌≡◌, ◌<◌, ◌^◌, ◌+◌, ◌*◌, ◌-◌, ℕ, ℤ, pos, negsuc, zero, suc, Bool, true, false, List, [], ◌∷◌, ◌++◌, length, map, decimal, refl, ap, subst, ◌∙◌, append_assoc, rules, arith, inl, inr}
 use Rattle.std.specs.Prelude.{nat_le, fold, ◌&&◌, ◌||◌, ◌==◌}
+use Rattle.std.specs.Fmt.{signed_decimal}
 use Rattle.std.specs.List.{list_all, flat_map, AllByRecursion}
 use Rattle.std.proofs.lemmas.Bool.{and_parts, and_from}
 use Rattle.std.proofs.lemmas.List.Sums.{list_all-from_AllPass}
@@ -13,12 +14,12 @@ use Rattle.sf_base.specs.Names.{IsTextByte, IsName}
 use Rattle.line_tokens.specs.declared.cursor.Said.{Said}
 use Rattle.line_tokens.specs.declared.cursor.Said.TheVariants as says
 use Rattle.line_tokens.specs.declared.printing.Piece.{Piece}
-use Rattle.line_tokens.specs.declared.printing.Piece.TheVariants.{Number, Word, Name}
+use Rattle.line_tokens.specs.declared.printing.Piece.TheVariants.{Number, Signed, Word, Name, Hex}
 use Rattle.line_tokens.specs.Lines.{lines_of, onto, is_feed}
 use Rattle.line_tokens.specs.Tokens.{ends_well}
 use Rattle.line_tokens.specs.Parts.{is_digit}
 use Rattle.line_tokens.specs.Printing.{is_open, hex_literal, name_text, spelled, spaced, line_text}
-use Rattle.line_tokens.specs.Spelling.{is_word, not_blank, IsQuoted, Shows, LineSays, Writes}
+use Rattle.line_tokens.specs.Spelling.{is_word, not_blank, IsQuoted, Shows, LineSays, Writes, WritesSigned, IsWithin}
 use Rattle.line_tokens.proofs.TestLaws.{not_true, list_all_weaker, differs, not_feed, no_blank_of, not_blank_of, not_feed_of}
 use Rattle.line_tokens.proofs.LexLaws.{lines_yes, lines_no}
 use Rattle.line_tokens.proofs.PrintLaws.{line_spaced}
@@ -57,16 +58,21 @@ all_digits n h = let small : n < 2 ^ 64 = omega arith in digits_decimal own n sm
 pub some_digits : (n : ℕ) → n < 2 ^ 32 → 0 < length (decimal n)
 some_digits n h = let small : n < 2 ^ 64 = omega arith in decimal_nonempty n small
 
-pub writes : (n : ℕ) → n < 2 ^ 32 → Writes 4294967295 (decimal n) n
-writes n h =
+pub writes : (limit n : ℕ) → n ≤ limit → limit < 2 ^ 32 → Writes limit (decimal n) n
+writes limit n h l =
     let small : n < 2 ^ 64 = omega arith in
+    let under : n < 2 ^ 32 = omega (arith, h, l) in
     record {
-      some = some_digits n h;
+      some = some_digits n under;
       few = length-decimal-le 10 n (omega arith) (omega arith) small;
-      digits = all_digits n h;
+      digits = all_digits n under;
       value = digits_value-decimal own n small;
-      within = omega arith;
+      within = h;
     }
+
+pub writes_signed : (limit : ℕ) (z : ℤ) → IsWithin limit z → limit < 2 ^ 16 → WritesSigned limit (signed_decimal z) z
+writes_signed limit (pos n) h l = inr (record { number = n; writes = writes limit n h (omega (arith, l)); value = refl })
+writes_signed limit (negsuc n) h l = inl (record { digits = decimal (suc n); number = suc n; parts = refl; writes = writes (limit + 1) (suc n) (omega (arith, h)) (omega (arith, l)); value = refl })
 
 -- ---- names
 
@@ -91,6 +97,8 @@ abbrev pub meant : Piece → Said
 meant (Number n) = says.Word (decimal n)
 meant (Name bytes) = says.Literal bytes
 meant (Word bytes) = says.Word bytes
+meant (Signed z) = says.Word (signed_decimal z)
+meant (Hex bytes) = says.Literal bytes
 
 -- a piece shows what it says, and keeps to its line
 pub record Spoken (p : Piece) : Type 0 where
@@ -104,17 +112,40 @@ spoken_number n h = record {
   no_feed = list_all_weaker is_digit not_feed (not_feed_of is_digit refl) (decimal n) (all_digits n h);
 }
 
+spoken_minus : (n : ℕ) → suc n < 2 ^ 32 → Spoken (Signed (negsuc n))
+unfolding spelled
+spoken_minus n h =
+    let digits = all_digits (suc n) h in
+    let blanks = list_all_weaker is_digit not_blank (not_blank_of is_digit refl refl refl) (decimal (suc n)) digits in
+    let feeds = list_all_weaker is_digit not_feed (not_feed_of is_digit refl) (decimal (suc n)) digits in
+    record { shows = (refl, rw blanks refl); no_feed = rw feeds refl }
+
+spoken_plus : (n : ℕ) → n < 2 ^ 32 → Spoken (Signed (pos n))
+unfolding spelled
+spoken_plus n h = let s = spoken_number n h in record { shows = s.shows; no_feed = s.no_feed }
+
+pub spoken_signed : (limit : ℕ) (z : ℤ) → IsWithin limit z → limit < 2 ^ 16 → Spoken (Signed z)
+spoken_signed limit (pos n) h l = spoken_plus n (omega (arith, h, l))
+spoken_signed limit (negsuc n) h l = spoken_minus n (omega (arith, h, l))
+
+pub spoken_hex : (bytes : List ℕ) → IsBytes bytes → Spoken (Hex bytes)
+unfolding spelled
+spoken_hex bytes h = record { shows = inr (record { digits = encode_lower bytes; parts = refl; value = decode_of-encode_lower bytes h }); no_feed = hex_feed bytes h }
+
 name_quoted : (bytes : List ℕ) → list_all is_open bytes ≡ true → 34 ∷ bytes ++ 34 ∷ [] ≡ name_text bytes
 unfolding name_text
 name_quoted bytes e = rw e refl
 
-pub spoken_bytes : (bytes : List ℕ) (t : Bool) → list_all is_open bytes ≡ t → IsBytes bytes → Spoken (Name bytes)
+bytes_spoken : (bytes : List ℕ) (t : Bool) → list_all is_open bytes ≡ t → IsBytes bytes → Spoken (Name bytes)
 unfolding spelled name_text
-spoken_bytes bytes true e h = record { shows = let q : IsQuoted (34 ∷ bytes ++ 34 ∷ []) bytes = (refl, e) in subst (λ (t : List ℕ). Shows t (says.Literal bytes)) (name_quoted bytes e) (inl q); no_feed = rw e (quotes_feed bytes e) }
-spoken_bytes bytes false e h = record { shows = rw e (inr (record { digits = encode_lower bytes; parts = refl; value = decode_of-encode_lower bytes h })); no_feed = rw e (hex_feed bytes h) }
+bytes_spoken bytes true e h = record { shows = let q : IsQuoted (34 ∷ bytes ++ 34 ∷ []) bytes = (refl, e) in subst (λ (t : List ℕ). Shows t (says.Literal bytes)) (name_quoted bytes e) (inl q); no_feed = rw e (quotes_feed bytes e) }
+bytes_spoken bytes false e h = record { shows = rw e (inr (record { digits = encode_lower bytes; parts = refl; value = decode_of-encode_lower bytes h })); no_feed = rw e (hex_feed bytes h) }
+
+pub spoken_bytes : (bytes : List ℕ) → IsBytes bytes → Spoken (Name bytes)
+spoken_bytes bytes h = bytes_spoken bytes (list_all is_open bytes) refl h
 
 pub spoken_name : (bytes : List ℕ) → IsName bytes → Spoken (Name bytes)
-spoken_name bytes h = spoken_bytes bytes (list_all is_open bytes) refl (name_bytes bytes h.1)
+spoken_name bytes h = spoken_bytes bytes (name_bytes bytes h.1)
 
 abbrev pub AllSpoken : List Piece → Type 0
 AllSpoken ps = AllByRecursion Spoken ps

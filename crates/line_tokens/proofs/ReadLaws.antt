@@ -1,6 +1,6 @@
 -- What is read from a text, the text spells.
-use Rattle.std.proofs.Common.{◌≡◌, ◌≤◌, ◌<◌, ◌+◌, ℕ, zero, suc, Bool, true, false, cond, eqb, eqb-true, not, List, [], ◌∷◌, ◌++◌, length, get_or, take, drop, map, Option, Some, None, Result, Ok, Err, refl, sym, ap, subst, ◌∙◌, take-append-drop, append_assoc, arith, inl, inr}
-use Rattle.std.specs.Prelude.{nat_lt, nat_le, ◌&&◌}
+use Rattle.std.proofs.Common.{◌≡◌, ◌≤◌, ◌<◌, ◌+◌, ℕ, zero, suc, Bool, true, false, cond, eqb, eqb-true, not, List, [], ◌∷◌, ◌++◌, length, get_or, take, drop, map, Option, Some, None, Result, Ok, Err, refl, sym, ap, subst, ◌∙◌, take-append-drop, append_assoc, arith, inl, inr, ℤ, pos}
+use Rattle.std.specs.Prelude.{nat_lt, nat_le, ◌&&◌, neg_ℤ, option_map}
 use Rattle.std.specs.List.{list_all, AllByRecursion, position_or_len, prefix_len, before_first, after_first}
 use Rattle.std.proofs.lemmas.Bool.{ltb-true, leb-true, and_parts, and_from}
 use Rattle.std.proofs.lemmas.List.Sums.{split_at_first, passes_at_first}
@@ -16,9 +16,9 @@ use Rattle.line_tokens.specs.declared.fault.LineFault.{LineFault}
 use Rattle.line_tokens.specs.declared.fault.LineFault.TheVariants as faults
 use Rattle.line_tokens.specs.Tokens.{is_blank, is_quote, after_blanks, ends_well, Front, quoted_at, plain_at, token_at, and_behind, tokens_of}
 use Rattle.line_tokens.specs.Said.{is_plain, is_hex, decoded, said, said_in}
-use Rattle.line_tokens.specs.Parts.{Took, Part, and_then, or_fault, word, literal, number, number_of, digits_value, is_digit, is_name, name_of, name, ended}
+use Rattle.line_tokens.specs.Parts.{Took, Part, and_then, or_fault, word, literal, number, number_of, signed, signed_of, digits_value, is_digit, is_name, name_of, name, ended}
 use Rattle.line_tokens.specs.Pool.{gather, literal_of, literals_of}
-use Rattle.line_tokens.specs.Spelling.{not_blank, Shows, is_silent, SaysNothing, Begins, LineSays, Writes}
+use Rattle.line_tokens.specs.Spelling.{not_blank, Shows, is_silent, SaysNothing, Begins, LineSays, Writes, WritesMinus, WritesPlus, WritesSigned}
 use Rattle.line_tokens.proofs.TestLaws.{front_passes}
 use Rattle.line_tokens.proofs.LexLaws.{tokens_once}
 use Rattle.line_tokens.proofs.PoolLaws.{literals_through, lines_through}
@@ -310,6 +310,39 @@ number_is limit (Word w ∷ line) t e =
     record { digits = w; parts = ap (λ (l : List Said). Word w ∷ l) k.1; writes = writes limit w t.value k.0 }
 number_is limit (Literal bytes ∷ line) t e = cc
 number_is limit (Bad ∷ line) t e = cc
+
+-- the word of a signed number
+writes_minus : (limit : ℕ) (w : List ℕ) (z : ℤ) (o : Option ℕ) → number_of (limit + 1) w ≡ o → option_map (λ n. neg_ℤ (pos n)) o ≡ Some z → WritesMinus limit (45 ∷ w) z
+writes_minus limit w z (Some n) k e = let same : neg_ℤ (pos n) ≡ z = cc in record { digits = w; number = n; parts = refl; writes = writes (limit + 1) w n k; value = sym same }
+writes_minus limit w z None k e = cc
+
+writes_plus : (limit : ℕ) (w : List ℕ) (z : ℤ) (o : Option ℕ) → number_of limit w ≡ o → option_map pos o ≡ Some z → WritesPlus limit w z
+writes_plus limit w z (Some n) k e = let same : pos n ≡ z = cc in record { number = n; writes = writes limit w n k; value = sym same }
+writes_plus limit w z None k e = cc
+
+signed_writes : (limit : ℕ) (w : List ℕ) (z : ℤ) → signed_of limit w ≡ Some z → WritesSigned limit w z
+unfolding signed_of
+signed_writes limit [] z e = cc
+signed_writes limit (b ∷ w) z e = from (eqb b 45) refl e
+  where
+    from : (t : Bool) → eqb b 45 ≡ t → cond t (option_map (λ n. neg_ℤ (pos n)) (number_of (limit + 1) w)) (option_map pos (number_of limit (b ∷ w))) ≡ Some z → WritesSigned limit (b ∷ w) z
+    from true k h = inl (subst (λ (c : ℕ). WritesMinus limit (c ∷ w) z) (sym (eqb-true b 45 k)) (writes_minus limit w z (number_of (limit + 1) w) refl h))
+    from false k h = inr (writes_plus limit (b ∷ w) z (number_of limit (b ∷ w)) refl h)
+
+-- a line that begins with a signed number
+pub record SignedFirst (limit : ℕ) (line : List Said) (t : Took ℤ) : Type 0 where
+  pub digits : List ℕ
+  pub parts : line ≡ Word digits ∷ t.rest
+  pub writes : WritesSigned limit digits t.value
+
+pub signed_is : (limit : ℕ) (line : List Said) (t : Took ℤ) → signed limit line ≡ Ok t → SignedFirst limit line t
+unfolding signed
+signed_is limit [] t e = cc
+signed_is limit (Word w ∷ line) t e =
+    let k = or_fault_is faults.Number (signed_of limit w) line t e in
+    record { digits = w; parts = ap (λ (l : List Said). Word w ∷ l) k.1; writes = signed_writes limit w t.value k.0 }
+signed_is limit (Literal bytes ∷ line) t e = cc
+signed_is limit (Bad ∷ line) t e = cc
 
 text_bytes : (bytes : List ℕ) → list_all (λ b. nat_lt 0 b) bytes ≡ true → IsBytes bytes → AllByRecursion IsTextByte bytes
 text_bytes [] e h = tt

@@ -1,5 +1,5 @@
 -- What a text spells is read from it.
-use Rattle.std.proofs.Common.{◌≡◌, ◌<◌, ◌+◌, ℕ, suc, true, false, eqb, eqb-true, ltb, not, List, [], ◌∷◌, ◌++◌, length, drop, map, Some, None, Ok, refl, sym, ap, ◌∙◌, append_assoc, arith, inl, inr}
+use Rattle.std.proofs.Common.{◌≡◌, ◌<◌, ◌+◌, ℕ, suc, true, false, eqb, eqb-true, ltb, not, List, [], ◌∷◌, ◌++◌, length, drop, map, Some, None, Ok, refl, sym, ap, ◌∙◌, append_assoc, arith, inl, inr, ℤ}
 use Rattle.std.specs.Prelude.{nat_lt, nat_le, ◌&&◌}
 use Rattle.std.specs.List.{list_all, prefix_len, AllByRecursion}
 use Rattle.std.proofs.lemmas.Bool.{lt-ltb, le-leb, and_parts}
@@ -13,11 +13,11 @@ use Rattle.line_tokens.specs.declared.cursor.Said.{Said}
 use Rattle.line_tokens.specs.declared.cursor.Said.TheVariants.{Word, Literal, Bad}
 use Rattle.line_tokens.specs.Tokens.{is_blank, is_quote, after_blanks, ends_well, Front, quoted_at, plain_at, token_at, and_behind, tokens_of}
 use Rattle.line_tokens.specs.Said.{is_plain, is_hex, decoded, said, said_in}
-use Rattle.line_tokens.specs.Parts.{literal, number, number_of, name_of, name}
+use Rattle.line_tokens.specs.Parts.{is_digit, word, literal, number, number_of, signed, signed_of, name_of, name}
 use Rattle.line_tokens.specs.Pool.{Grown, and_then, gather, literal_of, literals_of}
 use Rattle.line_tokens.specs.Printing.{is_open}
-use Rattle.line_tokens.specs.Spelling.{not_blank, is_word, Shows, is_silent, SaysNothing, LineSays, Writes}
-use Rattle.line_tokens.proofs.TestLaws.{not_true, list_all_weaker, not_quote, not_blank_of, first_behind, blank_behind}
+use Rattle.line_tokens.specs.Spelling.{not_blank, is_word, Shows, is_silent, SaysNothing, LineSays, Writes, WritesSigned}
+use Rattle.line_tokens.proofs.TestLaws.{not_true, differs, list_all_weaker, not_quote, not_blank_of, first_behind, blank_behind}
 use Rattle.line_tokens.proofs.LexLaws.{tokens_once, tokens_end, tokens_front, tokens_nothing}
 use Rattle.line_tokens.proofs.NameLaws.{name_passes}
 use Rattle.line_tokens.proofs.GatherLaws.{gather_on, gather_none, literals_none, literals_on}
@@ -159,6 +159,28 @@ number_again limit n w h =
 pub number_read : (limit n : ℕ) (w : List ℕ) (line : List Said) → Writes limit w n → number limit (Word w ∷ line) ≡ Ok (record { value = n; rest = line })
 unfolding number
 number_read limit n w line h = let k = number_again limit n w h in rw k refl
+
+signed_again : (limit : ℕ) (z : ℤ) (w : List ℕ) → WritesSigned limit w z → signed_of limit w ≡ Some z
+unfolding signed_of
+signed_again limit z w (inl h) = let k = number_again (limit + 1) h.number h.digits h.writes in rw (h.parts, k, h.value) refl
+signed_again limit z [] (inr h) = absurd (let some = h.writes.some in omega (arith, some))
+signed_again limit z (b ∷ w) (inr h) =
+    let k = number_again limit h.number (b ∷ w) h.writes in
+    let digit : is_digit b ≡ true = (and_parts (is_digit b) (list_all is_digit w) h.writes.digits).0 in
+    let minus : eqb b 45 ≡ false = differs is_digit 45 b refl digit in
+    rw (minus, k, h.value) refl
+
+pub signed_read : (limit : ℕ) (z : ℤ) (w : List ℕ) (line : List Said) → WritesSigned limit w z → signed limit (Word w ∷ line) ≡ Ok (record { value = z; rest = line })
+unfolding signed
+signed_read limit z w line h = let k = signed_again limit z w h in rw k refl
+
+pub literal_read : (bytes : List ℕ) (line : List Said) → literal (Literal bytes ∷ line) ≡ Ok (record { value = bytes; rest = line })
+unfolding literal
+literal_read bytes line = refl
+
+pub word_read : (w : List ℕ) (line : List Said) → word (Word w ∷ line) ≡ Ok (record { value = w; rest = line })
+unfolding word
+word_read w line = refl
 
 pub name_read : (n : List ℕ) (line : List Said) → IsName n → name (Literal n ∷ line) ≡ Ok (record { value = n; rest = line })
 unfolding name literal name_of

@@ -1,5 +1,5 @@
 -- Which bytes say what: a relation of lines, tokens, blanks and comments, without a reader.
-use Rattle.std.specs.Prelude.{◌≡◌, ◌≤◌, ◌<◌, ◌⊎◌, ℕ, ℤ, pos, neg_ℤ, ◌+◌, List, [], ◌∷◌, ◌++◌, length, Ok, Bool, true, false, not, IsTrue, ◌==◌, ◌&&◌}
+use Rattle.std.specs.Prelude.{◌≡◌, ◌≤◌, ◌<◌, ◌⊎◌, ℕ, ℤ, pos, negsuc, neg_ℤ, ◌+◌, List, [], ◌∷◌, ◌++◌, length, Ok, Bool, true, false, not, IsTrue, ◌==◌, ◌&&◌}
 use Rattle.std.specs.List.{list_all}
 use Rattle.hex.specs.Hex.{decode_of}
 use Rattle.line_tokens.specs.declared.cursor.Said.{Said}
@@ -90,3 +90,8 @@ pub record WritesPlus (limit : ℕ) (word : List ℕ) (z : ℤ) : Type 0 where
 -- a signed number, with digits alone or with `-` before them
 abbrev pub WritesSigned : ℕ → List ℕ → ℤ → Type 0
 WritesSigned limit word z = WritesMinus limit word z ⊎ WritesPlus limit word z
+
+-- from one below minus the limit up to the limit
+abbrev pub IsWithin : ℕ → ℤ → Type 0
+IsWithin limit (pos n) = n ≤ limit
+IsWithin limit (negsuc n) = n ≤ limit

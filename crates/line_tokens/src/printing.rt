@@ -28,7 +28,6 @@ pub enum Piece<'a> {
 }
 
 /// Puts a line: a word, a space and a piece for each piece behind it, and a line feed.
-#[tactic(auto, using(crate::proofs::PrintLaws::puts_line))]
 pub fn put_line<W: Write>(word: &[u8], pieces: &[Piece<'_>], output: &mut Output<'_, W>)
     ensures { Puts W.contents output.old output.new (line_text word.now pieces.now) }
 {
@@ -42,9 +41,17 @@ pub fn put_pieces<W: Write>(pieces: &[Piece<'_>], output: &mut Output<'_, W>)
     ensures { Puts W.contents output.old output.new (flat_map spaced pieces.now) }
 {
     for piece in pieces {
-        output.put(b" ");
-        put_piece(piece, output);
+        put_spaced(piece, output);
     }
+}
+
+// A space, and a piece.
+#[tactic(auto, using(sf_base::proofs::OutputLaws::puts_then))]
+fn put_spaced<W: Write>(piece: &Piece<'_>, output: &mut Output<'_, W>)
+    ensures { Puts W.contents output.old output.new (spaced piece.now) }
+{
+    output.put(b" ");
+    put_piece(piece, output);
 }
 
 #[tactic(auto, unfolding(crate::specs::Printing::spelled))]
@@ -82,10 +89,17 @@ fn put_name<W: Write>(name: &[u8], output: &mut Output<'_, W>)
 }
 
 // `x`, and the bytes of slices in hex digits.
+#[tactic(auto, using(sf_base::proofs::OutputLaws::puts_then))]
 fn put_hex<W: Write>(slices: &[&[u8]], output: &mut Output<'_, W>)
     ensures { Puts W.contents output.old output.new (hex_literal (all_bytes slices.now)) }
 {
     output.put(b"x");
+    put_all_digits(slices, output);
+}
+
+fn put_all_digits<W: Write>(slices: &[&[u8]], output: &mut Output<'_, W>)
+    ensures { Puts W.contents output.old output.new (encode_lower (all_bytes slices.now)) }
+{
     for bytes in slices {
         put_digits(bytes, output);
     }
