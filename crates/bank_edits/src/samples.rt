@@ -17,6 +17,7 @@ use sf_base::Name20;
 pub fn refuse_rename_sample(bank: &Bank<'_>, sample: u32, _name: Name20) -> Result<(), Cause>
     ensures { Judges (refusal bank.now (step.RenameSample sample _name)) result }
 {
+    let _samples = bank.samples();
     no_such_sample(bank, sample)
 }
 
@@ -62,6 +63,7 @@ pub fn add_sample<'a>(
 pub fn refuse_remove_sample(bank: &Bank<'_>, sample: u32) -> Result<(), Cause>
     ensures { Judges (refusal bank.now (step.RemoveSample sample)) result }
 {
+    let _samples = bank.samples();
     no_such_sample(bank, sample)?;
     in_use(bank, sample)
 }

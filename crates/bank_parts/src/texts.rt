@@ -1,5 +1,6 @@
 //! The eight texts of a bank.
-ghost use Rattle.std.specs.Prelude.{◌≡◌};
+ghost use Rattle.std.specs.Prelude.{◌≡◌, ◌<◌};
+ghost use Rattle.std.specs.List.{AllByRecursion};
 ghost use Rattle.bank_parts.specs.Texts.{text_of};
 
 use std::marker::Model;
@@ -11,11 +12,14 @@ pub struct Text<'a> {
 }
 
 impl<'a> Model for Text<'a> {
-    ghost use Rattle.std.specs.Prelude.{ℕ, List};
+    ghost use Rattle.std.specs.Prelude.{ℕ, List, ◌<◌};
+    ghost use Rattle.std.specs.List.{AllByRecursion};
 
     ghost Value = { List ℕ };
 
     ghost view = { λ text. text.bytes.now };
+
+    ghost invariant = { λ text. AllByRecursion (λ byte. byte < 256) text.bytes.now };
 }
 
 impl<'a> Text<'a> {
@@ -28,7 +32,8 @@ impl<'a> Text<'a> {
 
     /// Its bytes.
     pub fn bytes(&self) -> &'a [u8]
-        ensures { result.now ≡ self.now }
+        ensures value { result.now ≡ self.now }
+        ensures fits { AllByRecursion (λ byte. byte < 256) self.now }
     {
         self.bytes
     }
