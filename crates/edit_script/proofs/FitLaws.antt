@@ -5,11 +5,12 @@ use Rattle.sf_base.specs.declared.memory.Failure.{Failure}
 use Rattle.bank_edits.specs.declared.edit.Edit.{Edit}
 use Rattle.bank_edits.specs.declared.edit.Edit.TheVariants.{RenameSample}
 use Rattle.bank_edits.specs.Edits.{FitsEdit}
-use Rattle.edit_script.specs.declared.cursor.Said.{Said}
-use Rattle.edit_script.specs.declared.fault.ScriptFault.{ScriptFault}
+use Rattle.line_tokens.specs.declared.cursor.Said.{Said}
+use Rattle.line_tokens.specs.declared.fault.ScriptFault.{ScriptFault}
 use Rattle.edit_script.specs.declared.parsing.Line.{Line}
-use Rattle.edit_script.specs.Lines.{lines_of}
-use Rattle.edit_script.specs.Script.{Answers, script_of}
+use Rattle.line_tokens.specs.Lines.{lines_of}
+use Rattle.line_tokens.specs.Pool.{Answers}
+use Rattle.edit_script.specs.Script.{script_of}
 use Rattle.edit_script.specs.Printing.{LinesFit}
 use Rattle.edit_script.specs.Spelling.{SaysEdit, LinesSay, Spells}
 use Rattle.edit_script.proofs.ReadLaws.{read_spelled}

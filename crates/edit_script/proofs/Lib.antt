@@ -1,7 +1,3 @@
-pub mod TestLaws
-pub mod LexLaws
-pub mod PoolLaws
-pub mod NameLaws
 pub mod ScriptLaws
 pub mod PrintLaws
 pub mod SpellLaws

@@ -1,356 +1,32 @@
 -- What is read from a text, the text spells.
-use Rattle.std.proofs.Common.{◌≡◌, ◌≤◌, ◌<◌, ◌+◌, ℕ, zero, suc, Bool, true, false, cond, eqb, eqb-true, not, List, [], ◌∷◌, ◌++◌, length, get_or, take, drop, map, codes, Option, Some, None, Result, Ok, Err, refl, sym, ap, subst, ◌∙◌, take-append-drop, append_assoc, arith, inl, inr, ◌⊎◌}
-use Rattle.std.specs.Prelude.{nat_lt, nat_le, ◌&&◌}
-use Rattle.std.specs.List.{list_all, AllByRecursion, position_or_len, prefix_len, before_first, after_first}
+use Rattle.std.proofs.Common.{◌≡◌, ◌≤◌, ℕ, suc, Bool, true, false, cond, List, [], ◌∷◌, ◌++◌, length, map, codes, Some, None, Result, Ok, Err, refl, sym, ap, subst, ◌∙◌, append_assoc, arith, inl, inr, ◌⊎◌}
+use Rattle.std.specs.List.{AllByRecursion}
 use Rattle.std.specs.Result.{result_and}
 use Rattle.std.specs.Str.{bytes_eq}
-use Rattle.std.proofs.lemmas.Bool.{ltb-true, leb-true, and_parts, and_from}
-use Rattle.std.proofs.lemmas.List.{append-nil}
-use Rattle.std.proofs.lemmas.List.Sums.{split_at_first, passes_at_first}
+use Rattle.std.proofs.lemmas.Bool.{lt-ltb}
+use Rattle.std.proofs.lemmas.List.{append-nil, length-append}
 use Rattle.std.proofs.lemmas.Slice.Eq.{bytes_eq-Decides}
-use Rattle.hex.specs.Hex.{IsBytes, decode_of}
-use Rattle.hex.specs.declared.error.FromHexError.{FromHexError}
-use Rattle.hex.proofs.HexLemmas.{decode_of-ok}
-use Rattle.sf_base.specs.Names.{IsTextByte, IsName}
 use Rattle.bank_edits.specs.declared.edit.Edit.{Edit}
 use Rattle.bank_edits.specs.declared.edit.Edit.TheVariants.{RenameSample}
-use Rattle.edit_script.specs.declared.tokens.Token.{Token}
-use Rattle.edit_script.specs.declared.tokens.Token.TheVariants.{Plain, Quoted, Broken}
-use Rattle.edit_script.specs.declared.cursor.Said.{Said}
-use Rattle.edit_script.specs.declared.cursor.Said.TheVariants.{Word, Literal, Bad}
-use Rattle.edit_script.specs.declared.cursor.Stop.{Stop}
-use Rattle.edit_script.specs.declared.cursor.Stop.TheVariants as stop
+use Rattle.line_tokens.specs.declared.cursor.Said.{Said}
+use Rattle.line_tokens.specs.declared.cursor.Said.TheVariants.{Word, Literal}
+use Rattle.line_tokens.specs.declared.fault.LineFault.{LineFault}
+use Rattle.line_tokens.specs.declared.fault.LineFault.TheVariants as faults
+use Rattle.line_tokens.specs.Lines.{lines_of}
+use Rattle.line_tokens.specs.Tokens.{tokens_of}
+use Rattle.line_tokens.specs.Said.{said_in, said_lines}
+use Rattle.line_tokens.specs.Parts.{Took, ◌>>=◌, pure, or_fault, word, number, name, ended}
+use Rattle.line_tokens.specs.Pool.{Grown, gather, pool_bytes}
+use Rattle.line_tokens.specs.Spelling.{LineSays}
+use Rattle.line_tokens.proofs.PoolLaws.{through}
+use Rattle.line_tokens.proofs.GatherLaws.{gather_none, gather_on}
+use Rattle.line_tokens.proofs.ReadLaws.{AllGood, AllHoldBytes, lines_good, line_shown, tokens_bytes, both, or_fault_is, word_is, number_is, name_is, ended_is}
 use Rattle.edit_script.specs.declared.forms.Form.{Form}
 use Rattle.edit_script.specs.declared.forms.Form.TheVariants as form
 use Rattle.edit_script.specs.declared.parsing.Line.{Line}
-use Rattle.edit_script.specs.Lines.{lines_of}
-use Rattle.edit_script.specs.Tokens.{is_blank, is_quote, after_blanks, ends_well, Front, quoted_at, plain_at, token_at, and_behind, tokens_of}
-use Rattle.edit_script.specs.Said.{is_plain, is_hex, decoded, said, said_in, said_lines}
-use Rattle.edit_script.specs.Grammar.{Took, Part, and_then, ◌>>=◌, pure, or_fault, edit, word, literal, number, number_of, digits_value, is_digit, is_name, name_of, name, ended, form_of, rename_sample, operands}
-use Rattle.edit_script.specs.Script.{Grown, gather, literal_of, literals_of, edit_of, with_edit, edits_in, pool_bytes, script_of}
-use Rattle.edit_script.specs.Spelling.{not_blank, Shows, is_silent, SaysNothing, Begins, LineSays, Writes, SaysEdit, LinesSay, Spells}
-use Rattle.edit_script.proofs.TestLaws.{front_passes}
-use Rattle.edit_script.proofs.LexLaws.{tokens_once}
-use Rattle.edit_script.proofs.PoolLaws.{through, literals_through, lines_through}
-use Rattle.edit_script.proofs.ScriptLaws.{gather_none, gather_on}
-
--- ---- the first byte behind blanks is no blank
-
-first_stays : (line : List ℕ) (b : ℕ) (rest : List ℕ) → after_blanks line ≡ b ∷ rest → is_blank b ≡ false
-unfolding after_blanks
-first_stays [] b rest e = cc
-first_stays (a ∷ line) b rest e = from (first_stays line b rest) (is_blank a) refl e
-  where
-    from : (drop (prefix_len is_blank line) line ≡ b ∷ rest → is_blank b ≡ false) → (t : Bool) → is_blank a ≡ t → drop (cond t (1 + prefix_len is_blank line) 0) (a ∷ line) ≡ b ∷ rest → is_blank b ≡ false
-    from h true x k = let n : 1 + prefix_len is_blank line ≡ suc (prefix_len is_blank line) = omega arith in h (rw n at k)
-    from h false x k = let same : a ≡ b = cc in ap is_blank (sym same) ∙ x
-
--- the blanks, and what is behind them
-pub record Split (line : List ℕ) : Type 0 where
-  pub blanks : List ℕ
-  pub parts : line ≡ blanks ++ after_blanks line
-  pub blank : list_all is_blank blanks ≡ true
-
-split : (line : List ℕ) → Split line
-unfolding after_blanks
-split line = record {
-  blanks = take (prefix_len is_blank line) line;
-  parts = sym (take-append-drop (prefix_len is_blank line) line);
-  blank = front_passes is_blank line;
-}
-
--- ---- what is no token says nothing
-
-silent : (rest : List ℕ) → token_at rest ≡ None → is_silent rest ≡ true
-unfolding token_at
-silent [] e = refl
-silent (b ∷ rest) e = from (eqb b 35) (is_quote b) e
-  where
-    from : (s t : Bool) → cond s None (cond t (Some (quoted_at rest)) (Some (plain_at b rest))) ≡ None → s ≡ true
-    from true t k = refl
-    from false true k = cc
-    from false false k = cc
-
-no_token : (line : List ℕ) → token_at (after_blanks line) ≡ None → SaysNothing line
-no_token line e =
-    let s = split line in
-    record { blanks = s.blanks; rest = after_blanks line; parts = s.parts; blank = s.blank; silent = silent (after_blanks line) e }
-
--- ---- a token that is well spelled shows what it says
-
-abbrev Good : Said → Type 0
-Good (Word w) = Unit {0}
-Good (Literal bytes) = Unit {0}
-Good Bad = ⊥
-
--- a token, and what shows it
-pub record Shown (rest : List ℕ) (s : Said) (after : List ℕ) : Type 0 where
-  pub token : List ℕ
-  pub parts : rest ≡ token ++ after
-  pub shows : Shows token s
-  pub apart : ends_well after ≡ true
-
-said_quoted : (i : List ℕ) (t : Bool) → list_all is_plain i ≡ t → said (Quoted i) ≡ cond t (Literal i) Bad
-unfolding said
-said_quoted i t e = rw e refl
-
-said_broken : said Broken ≡ Bad
-unfolding said
-said_broken = refl
-
-said_plain : (w : List ℕ) (t : Bool) → is_hex w ≡ t → said (Plain w) ≡ cond t (decoded (decode_of (drop 1 w))) (Word w)
-unfolding said
-said_plain w t e = rw e refl
-
-both_pass : (p q : ℕ → Bool) (xs : List ℕ) → list_all p xs ≡ true → list_all q xs ≡ true → list_all (λ x. p x && q x) xs ≡ true
-both_pass p q [] h k = refl
-both_pass p q (x ∷ xs) h k =
-    let a = and_parts (p x) (list_all p xs) h in
-    let b = and_parts (q x) (list_all q xs) k in
-    and_from (p x && q x) (list_all (λ y. p y && q y) xs) (and_from (p x) (q x) a.0 b.0) (both_pass p q xs a.1 b.1)
-
-quoted_parts : (r : List ℕ) → position_or_len is_quote r < length r → 34 ∷ r ≡ (34 ∷ before_first is_quote r ++ 34 ∷ []) ++ after_first is_quote r
-quoted_parts r lt =
-    let q = eqb-true (get_or r (position_or_len is_quote r) 0) 34 (passes_at_first is_quote r 0 lt) in
-    ap (λ (x : List ℕ). 34 ∷ x)
-    (split_at_first is_quote r 0 lt
-    ∙ ap (λ (b : ℕ). before_first is_quote r ++ (b ∷ after_first is_quote r)) q
-    ∙ sym (append_assoc (before_first is_quote r) (34 ∷ []) (after_first is_quote r)))
-
-quoted_good : (r : List ℕ) (t : Bool) → list_all is_plain (before_first is_quote r) ≡ t → position_or_len is_quote r < length r → ends_well (after_first is_quote r) ≡ true → Good (said (Quoted (before_first is_quote r)))
-    → Shown (34 ∷ r) (said (Quoted (before_first is_quote r))) (after_first is_quote r)
-quoted_good r true e lt w g = record {
-  token = 34 ∷ before_first is_quote r ++ 34 ∷ [];
-  parts = quoted_parts r lt;
-  shows = rw (said_quoted (before_first is_quote r) true e) (inl (refl, both_pass is_plain (λ b. not (is_quote b)) (before_first is_quote r) e (front_passes (λ b. not (is_quote b)) r)));
-  apart = w;
-}
-quoted_good r false e lt w g = absurd (rw (said_quoted (before_first is_quote r) false e) at g)
-
-quoted_shown : (r : List ℕ) (f : Front) → quoted_at r ≡ f → Good (said f.token) → Shown (34 ∷ r) (said f.token) f.after
-unfolding quoted_at
-quoted_shown r f e g = from (nat_lt (position_or_len is_quote r) (length r)) (ends_well (after_first is_quote r)) refl refl e
-  where
-    from : (s t : Bool) → nat_lt (position_or_len is_quote r) (length r) ≡ s → ends_well (after_first is_quote r) ≡ t
-        → cond {A = Front} (s && t) (record { token = Quoted (before_first is_quote r); after = after_first is_quote r }) (record { token = Broken; after = [] }) ≡ f → Shown (34 ∷ r) (said f.token) f.after
-    from true true x y k =
-        subst (λ (h : Front). Shown (34 ∷ r) (said h.token) h.after) k
-        (quoted_good r (list_all is_plain (before_first is_quote r)) refl (ltb-true _ _ x) y (subst (λ (h : Front). Good (said h.token)) (sym k) g))
-    from true false x y k = absurd (rw said_broken at (subst (λ (h : Front). Good (said h.token)) (sym k) g))
-    from false t x y k = absurd (rw said_broken at (subst (λ (h : Front). Good (said h.token)) (sym k) g))
-
-ends_after : (r : List ℕ) → ends_well (drop (position_or_len is_blank r) r) ≡ true
-ends_after [] = refl
-ends_after (b ∷ r) = from (ends_after r) (is_blank b) refl
-  where
-    from : ends_well (drop (position_or_len is_blank r) r) ≡ true → (t : Bool) → is_blank b ≡ t → ends_well (drop (cond (not t) (1 + position_or_len is_blank r) 0) (b ∷ r)) ≡ true
-    from h true e = e
-    from h false e = let n : 1 + position_or_len is_blank r ≡ suc (position_or_len is_blank r) = omega arith in rw n h
-
-digits_shown : (b : ℕ) (w : List ℕ) (d : Result (List ℕ) FromHexError) → b ≡ 120 → decode_of w ≡ d → Good (decoded d) → Shows (b ∷ w) (decoded d)
-digits_shown b w (Ok bytes) x e g = inr (record { digits = w; parts = ap (λ (c : ℕ). c ∷ w) x; value = e })
-digits_shown b w (Err f) x e g = absurd g
-
-plain_shows : (b : ℕ) (w : List ℕ) (t : Bool) → eqb b 120 ≡ t → is_blank b ≡ false → eqb b 35 ≡ false → is_quote b ≡ false → list_all not_blank w ≡ true → Good (said (Plain (b ∷ w))) → Shows (b ∷ w) (said (Plain (b ∷ w)))
-plain_shows b w true e x y z h g =
-    rw (said_plain (b ∷ w) true e) (digits_shown b w (decode_of w) (eqb-true b 120 e) refl (rw (said_plain (b ∷ w) true e) at g))
-plain_shows b w false e x y z h g =
-    rw (said_plain (b ∷ w) false e) (refl, rw (e, x, y, z, h) refl)
-
-plain_shown : (b : ℕ) (r : List ℕ) (f : Front) → is_blank b ≡ false → eqb b 35 ≡ false → is_quote b ≡ false → plain_at b r ≡ f → Good (said f.token) → Shown (b ∷ r) (said f.token) f.after
-unfolding plain_at
-plain_shown b r f x y z e g =
-    subst (λ (h : Front). Shown (b ∷ r) (said h.token) h.after) e (record {
-      token = b ∷ before_first is_blank r;
-      parts = ap (λ (l : List ℕ). b ∷ l) (sym (take-append-drop (position_or_len is_blank r) r));
-      shows = plain_shows b (before_first is_blank r) (eqb b 120) refl x y z (front_passes not_blank r) (subst (λ (h : Front). Good (said h.token)) (sym e) g);
-      apart = ends_after r;
-    })
-
-front_shown : (rest : List ℕ) (f : Front) → ((b : ℕ) (r : List ℕ) → rest ≡ b ∷ r → is_blank b ≡ false) → token_at rest ≡ Some f → Good (said f.token) → Shown rest (said f.token) f.after
-unfolding token_at
-front_shown [] f stays e g = cc
-front_shown (b ∷ r) f stays e g = from (eqb b 35) (is_quote b) refl refl e
-  where
-    from : (s t : Bool) → eqb b 35 ≡ s → is_quote b ≡ t → cond s None (cond t (Some (quoted_at r)) (Some (plain_at b r))) ≡ Some f → Shown (b ∷ r) (said f.token) f.after
-    from true t x y k = cc
-    from false true x y k = let same : quoted_at r ≡ f = cc in rw (eqb-true b 34 y) (quoted_shown r f same g)
-    from false false x y k = let same : plain_at b r ≡ f = cc in plain_shown b r f (stays b r refl) x y same g
-
-begun : (line : List ℕ) (f : Front) → token_at (after_blanks line) ≡ Some f → Good (said f.token) → Begins line (said f.token) f.after
-begun line f e g =
-    let s = split line in
-    let t = front_shown (after_blanks line) f (λ b r k. first_stays line b r k) e g in
-    record { blanks = s.blanks; token = t.token; parts = s.parts ∙ ap (λ (l : List ℕ). s.blanks ++ l) t.parts; blank = s.blank; shows = t.shows; apart = t.apart }
-
--- ---- a line
-
-abbrev AllGood : List Said → Type 0
-AllGood said = AllByRecursion Good said
-
-line_says : (ts : List Token) (line : List ℕ) → tokens_of line ≡ ts → AllGood (map said ts) → LineSays line (map said ts)
-line_says [] line e g = from (token_at (after_blanks line)) refl (sym (tokens_once line) ∙ e)
-  where
-    from : (o : Option Front) → token_at (after_blanks line) ≡ o → and_behind o tokens_of ≡ [] → SaysNothing line
-    from None x k = no_token line x
-    from (Some f) x k = cc
-line_says (t ∷ ts) line e g = from (λ after k. line_says ts after k g.1) (token_at (after_blanks line)) refl (sym (tokens_once line) ∙ e)
-  where
-    from : ((after : List ℕ) → tokens_of after ≡ ts → LineSays after (map said ts)) → (o : Option Front) → token_at (after_blanks line) ≡ o → and_behind o tokens_of ≡ t ∷ ts → LineSays line (map said (t ∷ ts))
-    from more None x k = cc
-    from more (Some f) x k =
-        let token : f.token ≡ t = cc in
-        let after : tokens_of f.after ≡ ts = cc in
-        let good : Good (said f.token) = rw token g.0 in
-        (f.after, subst (λ (u : Token). Begins line (said u) f.after) token (begun line f x good), more f.after after)
-
-pub line_shown : (line : List ℕ) → AllGood (said_in line) → LineSays line (said_in line)
-line_shown line g = line_says (tokens_of line) line refl g
-
--- ---- the literals of a text that has a pool are well spelled
-
-literal_good : (n : ℕ) (s : Said) (pool more : List ℕ) → literal_of n s pool ≡ Ok more → Good s
-unfolding literal_of
-literal_good n (Word w) pool more e = tt
-literal_good n (Literal bytes) pool more e = tt
-literal_good n Bad pool more e = cc
-
-literals_good : (n : ℕ) (said : List Said) (pool more : List ℕ) → literals_of n said pool ≡ Ok more → AllGood said
-literals_good n [] pool more e = tt
-literals_good n (s ∷ said) pool more e =
-    let t = literals_through n s said pool more e in
-    (literal_good n s pool t.between t.first, literals_good n said t.between more t.second)
-
-lines_good : (n : ℕ) (ls : List (List Said)) (pool more : List ℕ) → gather literals_of n ls pool ≡ Ok more → AllByRecursion AllGood ls
-lines_good n [] pool more e = tt
-lines_good n (l ∷ ls) pool more e =
-    let t = lines_through n l ls pool more e in
-    (literals_good n l pool t.between t.first, lines_good (suc n) ls t.between more t.second)
-
--- ---- the literals of a text hold bytes
-
-abbrev HoldsBytes : Said → Type 0
-HoldsBytes (Word w) = Unit {0}
-HoldsBytes (Literal bytes) = IsBytes bytes
-HoldsBytes Bad = Unit {0}
-
-abbrev AllHoldBytes : List Said → Type 0
-AllHoldBytes line = AllByRecursion HoldsBytes line
-
-plain_bytes : (i : List ℕ) → list_all is_plain i ≡ true → IsBytes i
-plain_bytes [] h k = omega arith
-plain_bytes (b ∷ i) h zero = let p = and_parts (is_plain b) (list_all is_plain i) h in let q = and_parts (nat_le 32 b) (nat_le b 126) p.0 in let l = leb-true b 126 q.1 in omega (arith, l)
-plain_bytes (b ∷ i) h (suc k) = plain_bytes i (and_parts (is_plain b) (list_all is_plain i) h).1 k
-
-decoded_bytes : (w : List ℕ) (r : Result (List ℕ) FromHexError) → decode_of w ≡ r → HoldsBytes (decoded r)
-decoded_bytes w (Ok bytes) e = (decode_of-ok w bytes e).3
-decoded_bytes w (Err f) e = tt
-
-said_bytes : (t : Token) → HoldsBytes (said t)
-unfolding said
-said_bytes (Plain w) = from (is_hex w)
-  where
-    from : (b : Bool) → HoldsBytes (cond b (decoded (decode_of (drop 1 w))) (Word w))
-    from true = decoded_bytes (drop 1 w) (decode_of (drop 1 w)) refl
-    from false = tt
-said_bytes (Quoted i) = from (list_all is_plain i) refl
-  where
-    from : (b : Bool) → list_all is_plain i ≡ b → HoldsBytes (cond b (Literal i) Bad)
-    from true e = plain_bytes i e
-    from false e = tt
-said_bytes Broken = tt
-
-tokens_bytes : (ts : List Token) → AllHoldBytes (map said ts)
-tokens_bytes [] = tt
-tokens_bytes (t ∷ ts) = (said_bytes t, tokens_bytes ts)
-
--- ---- parts
-
--- a part went well, and then the next
-record Both {X Y : Type 0} (r : Result (Took X) Stop) (f : X → Part Y) (t : Took Y) : Type 0 where
-  pub first : Took X
-  pub is : r ≡ Ok first
-  pub second : f first.value first.rest ≡ Ok t
-
-both : {X Y : Type 0} (r : Result (Took X) Stop) (f : X → Part Y) (t : Took Y) → and_then r f ≡ Ok t → Both r f t
-both (Ok u) f t e = record { first = u; is = refl; second = e }
-both (Err d) f t e = cc
-
-or_fault_is : {X : Type 0} (d : Stop) (o : Option X) (line : List Said) (t : Took X) → or_fault d o line ≡ Ok t → (o ≡ Some t.value) × (line ≡ t.rest)
-or_fault_is d None line t e = cc
-or_fault_is d (Some x) line t e = let h : record { value = x; rest = line } ≡ t = cc in (ap (λ (u : Took _). Some u.value) h, ap (λ (u : Took _). u.rest) h)
-
-word_is : (line : List Said) (t : Took (List ℕ)) → word line ≡ Ok t → line ≡ Word t.value ∷ t.rest
-unfolding word
-word_is [] t e = cc
-word_is (Word w ∷ line) t e = let k : record { value = w; rest = line } ≡ t = cc in ap (λ (u : Took (List ℕ)). Word u.value ∷ u.rest) k
-word_is (Literal bytes ∷ line) t e = cc
-word_is (Bad ∷ line) t e = cc
-
-literal_is : (line : List Said) (t : Took (List ℕ)) → literal line ≡ Ok t → line ≡ Literal t.value ∷ t.rest
-unfolding literal
-literal_is [] t e = cc
-literal_is (Word w ∷ line) t e = cc
-literal_is (Literal bytes ∷ line) t e = let k : record { value = bytes; rest = line } ≡ t = cc in ap (λ (u : Took (List ℕ)). Literal u.value ∷ u.rest) k
-literal_is (Bad ∷ line) t e = cc
-
-writes : (limit : ℕ) (w : List ℕ) (n : ℕ) → number_of limit w ≡ Some n → Writes limit w n
-unfolding number_of
-writes limit w n e = from (nat_lt 0 (length w)) (nat_le (length w) 10) (list_all is_digit w) (nat_le (digits_value w) limit) refl refl refl refl e
-  where
-    from : (a b c d : Bool) → nat_lt 0 (length w) ≡ a → nat_le (length w) 10 ≡ b → list_all is_digit w ≡ c → nat_le (digits_value w) limit ≡ d → cond (a && b && c && d) (Some (digits_value w)) None ≡ Some n → Writes limit w n
-    from true true true true p q r s h =
-        let k : digits_value w ≡ n = cc in
-        record { some = ltb-true 0 (length w) p; few = leb-true (length w) 10 q; digits = r; value = k; within = subst (λ (m : ℕ). m ≤ limit) k (leb-true (digits_value w) limit s) }
-    from true true true false p q r s h = cc
-    from true true false d p q r s h = cc
-    from true false c d p q r s h = cc
-    from false b c d p q r s h = cc
-
--- a line that begins with a number
-record Numbered (limit : ℕ) (line : List Said) (t : Took ℕ) : Type 0 where
-  pub digits : List ℕ
-  pub parts : line ≡ Word digits ∷ t.rest
-  pub writes : Writes limit digits t.value
-
-number_is : (limit : ℕ) (line : List Said) (t : Took ℕ) → number limit line ≡ Ok t → Numbered limit line t
-unfolding number
-number_is limit [] t e = cc
-number_is limit (Word w ∷ line) t e =
-    let k = or_fault_is stop.Number (number_of limit w) line t e in
-    record { digits = w; parts = ap (λ (l : List Said). Word w ∷ l) k.1; writes = writes limit w t.value k.0 }
-number_is limit (Literal bytes ∷ line) t e = cc
-number_is limit (Bad ∷ line) t e = cc
-
-text_bytes : (bytes : List ℕ) → list_all (λ b. nat_lt 0 b) bytes ≡ true → IsBytes bytes → AllByRecursion IsTextByte bytes
-text_bytes [] e h = tt
-text_bytes (b ∷ bytes) e h = let p = and_parts (nat_lt 0 b) (list_all (λ c. nat_lt 0 c) bytes) e in ((ltb-true 0 b p.0, h 0), text_bytes bytes p.1 (λ i. h (suc i)))
-
-name_is_name : (bytes n : List ℕ) → IsBytes bytes → name_of bytes ≡ Some n → (bytes ≡ n) × IsName n
-unfolding name_of
-name_is_name bytes n h e = from (is_name bytes) refl e
-  where
-    from : (b : Bool) → is_name bytes ≡ b → cond b (Some bytes) None ≡ Some n → (bytes ≡ n) × IsName n
-    from true i k =
-        let same : bytes ≡ n = cc in
-        let p = and_parts (nat_le (length bytes) 20) (list_all (λ b. nat_lt 0 b) bytes) i in
-        (same, subst IsName same (leb-true (length bytes) 20 p.0, text_bytes bytes p.1 h))
-    from false i k = cc
-
-name_is : (line : List Said) (t : Took (List ℕ)) → AllHoldBytes line → name line ≡ Ok t → (line ≡ Literal t.value ∷ t.rest) × IsName t.value
-unfolding name
-name_is line t h e =
-    let b = both (literal line) (λ bytes. or_fault stop.Literal (name_of bytes)) t e in
-    let l = literal_is line b.first b.is in
-    let o = or_fault_is stop.Literal (name_of b.first.value) b.first.rest t b.second in
-    let bytes : IsBytes b.first.value = (let k = subst AllHoldBytes l h in k.0) in
-    let n = name_is_name b.first.value t.value bytes o.0 in
-    (l ∙ ap (λ (x : List ℕ). Literal x ∷ b.first.rest) n.0 ∙ ap (λ (x : List Said). Literal t.value ∷ x) o.1, n.1)
-
-ended_is : {X : Type 0} (x : X) (line : List Said) (t : Took X) → ended x line ≡ Ok t → (line ≡ []) × (x ≡ t.value)
-unfolding ended
-ended_is x [] t e = let k : record { value = x; rest = [] } ≡ t = cc in (refl, ap (λ (u : Took _). u.value) k)
-ended_is x (s ∷ line) t e = cc
+use Rattle.edit_script.specs.Grammar.{edit, form_of, rename_sample, operands}
+use Rattle.edit_script.specs.Script.{is_full, edit_of, with_edit, edits_in, script_of}
+use Rattle.edit_script.specs.Spelling.{SaysEdit, LinesSay, Spells}
 
 -- ---- the forms
 
@@ -384,11 +60,11 @@ operands_say form.RenameSample line t h e r =
 edit_says : (line : List Said) (t : Took Edit) → AllHoldBytes line → edit line ≡ Ok t → SaysEdit line t.value
 unfolding edit
 edit_says line t h e =
-    let w = both (word line) (λ w. or_fault stop.Syntax (form_of w) >>= λ f. operands f >>= λ e. ended e) t e in
-    let f = both (or_fault stop.Syntax (form_of w.first.value) w.first.rest) (λ f. operands f >>= λ e. ended e) t w.second in
+    let w = both (word line) (λ w. or_fault faults.Syntax (form_of w) >>= λ f. operands f >>= λ e. ended e) t e in
+    let f = both (or_fault faults.Syntax (form_of w.first.value) w.first.rest) (λ f. operands f >>= λ e. ended e) t w.second in
     let o = both (operands f.first.value f.first.rest) (λ e. ended e) t f.second in
     let a = word_is line w.first w.is in
-    let b = or_fault_is stop.Syntax (form_of w.first.value) w.first.rest f.first f.is in
+    let b = or_fault_is faults.Syntax (form_of w.first.value) w.first.rest f.first f.is in
     let c = ended_is o.first.value o.first.rest t o.second in
     let all : line ≡ Word (word_of f.first.value) ∷ f.first.rest =
     a ∙ ap (λ (x : List ℕ). Word x ∷ w.first.rest) (form_is w.first.value f.first.value b.0) ∙ ap (λ (l : List Said). Word (word_of f.first.value) ∷ l) b.1 in
@@ -398,18 +74,24 @@ edit_says line t h e =
 -- ---- the lines
 
 -- what a line makes of the edits before it
-abbrev LineMakes : ℕ → List ℕ → List Said → List Line → List Line → Type 0
-LineMakes n line said before after = ((said ≡ []) × (after ≡ before)) ⊎ ((before ≡ []) × (e : Edit) × (after ≡ record { number = n; edit = e } ∷ []) × SaysEdit said e)
+pub record Adds (n : ℕ) (said : List Said) (before after : List Line) : Type 0 where
+  pub edit : Edit
+  pub room : length before ≤ 0
+  pub parts : after ≡ before ++ record { number = n; edit = edit } ∷ []
+  pub form : SaysEdit said edit
 
-with_edit_makes : (n : ℕ) (line : List ℕ) (said : List Said) (r : Result (Took Edit) Stop) (after : List Line) → ((t : Took Edit) → r ≡ Ok t → SaysEdit said t.value) → with_edit n [] r ≡ Ok after → LineMakes n line said [] after
-with_edit_makes n line said (Ok t) after f e = let k : record { number = n; edit = t.value } ∷ [] ≡ after = cc in inr (refl, t.value, sym k, f t refl)
-with_edit_makes n line said (Err d) after f e = cc
+abbrev LineMakes : ℕ → List Said → List Line → List Line → Type 0
+LineMakes n said before after = ((said ≡ []) × (after ≡ before)) ⊎ Adds n said before after
 
-line_makes : (n : ℕ) (line : List ℕ) (said : List Said) (before after : List Line) → AllHoldBytes said → edit_of n said before ≡ Ok after → LineMakes n line said before after
+with_edit_makes : (n : ℕ) (said : List Said) (r : Result (Took Edit) LineFault) (before after : List Line) → length before ≤ 0 → ((t : Took Edit) → r ≡ Ok t → SaysEdit said t.value) → with_edit n before r ≡ Ok after → LineMakes n said before after
+with_edit_makes n said (Ok t) before after room f e = let k : before ++ record { number = n; edit = t.value } ∷ [] ≡ after = cc in inr (record { edit = t.value; room = room; parts = sym k; form = f t refl })
+with_edit_makes n said (Err d) before after room f e = cc
+
+line_makes : (n : ℕ) (said : List Said) (before after : List Line) → AllHoldBytes said → edit_of n said before ≡ Ok after → LineMakes n said before after
 unfolding edit_of
-line_makes n line [] before after h e = let k : before ≡ after = cc in inl (refl, sym k)
-line_makes n line (s ∷ said) [] after h e = with_edit_makes n line (s ∷ said) (edit (s ∷ said)) after (λ t k. edit_says (s ∷ said) t h k) e
-line_makes n line (s ∷ said) (x ∷ before) after h e = cc
+line_makes n [] before after h e = let k : before ≡ after = cc in inl (refl, sym k)
+line_makes n (s ∷ said) [] after h e = with_edit_makes n (s ∷ said) (edit (s ∷ said)) [] after (omega arith) (λ t k. edit_says (s ∷ said) t h k) e
+line_makes n (s ∷ said) (x ∷ before) after h e = let full : is_full (x ∷ before) ≡ true = lt-ltb 0 _ (omega arith) in let k = rw full at e in absurd (cc k)
 
 -- what lines make of the edits before them
 record LinesMake (n : ℕ) (ls : List (List ℕ)) (before after : List Line) : Type 0 where
@@ -418,7 +100,7 @@ record LinesMake (n : ℕ) (ls : List (List ℕ)) (before after : List Line) : T
   pub few : length after ≤ 1
   pub say : LinesSay n ls more
 
-step_makes : (n : ℕ) (l : List ℕ) (ls : List (List ℕ)) (before between after : List Line) → LineSays l (said_in l) → LineMakes n l (said_in l) before between → LinesMake (suc n) ls between after → LinesMake n (l ∷ ls) before after
+step_makes : (n : ℕ) (l : List ℕ) (ls : List (List ℕ)) (before between after : List Line) → LineSays l (said_in l) → LineMakes n (said_in l) before between → LinesMake (suc n) ls between after → LinesMake n (l ∷ ls) before after
 step_makes n l ls before between after says (inl h) r = record {
   more = r.more;
   parts = r.parts ∙ ap (λ (x : List Line). x ++ r.more) h.1;
@@ -426,12 +108,11 @@ step_makes n l ls before between after says (inl h) r = record {
   say = inl (subst (LineSays l) h.0 says, r.say);
 }
 step_makes n l ls before between after says (inr h) r =
-    let all : after ≡ record { number = n; edit = h.1 } ∷ r.more = r.parts ∙ ap (λ (x : List Line). x ++ r.more) h.2 in
-    record {
-      more = after;
-      parts = ap (λ (x : List Line). x ++ after) (sym h.0);
+    let one : Line = record { number = n; edit = h.edit } in record {
+      more = one ∷ r.more;
+      parts = r.parts ∙ ap (λ (x : List Line). x ++ r.more) h.parts ∙ append_assoc before (one ∷ []) r.more;
       few = r.few;
-      say = inr (record { said = said_in l; edit = h.1; more = r.more; parts = all; tokens = says; form = h.3; follow = r.say });
+      say = inr (record { said = said_in l; edit = h.edit; more = r.more; parts = refl; tokens = says; form = h.form; follow = r.say });
     }
 
 lines_make : (n : ℕ) (ls : List (List ℕ)) (before after : List Line) → length before ≤ 1 → AllByRecursion AllGood (map said_in ls) → gather edit_of n (map said_in ls) before ≡ Ok after → LinesMake n ls before after
@@ -440,12 +121,12 @@ lines_make n [] before after few g e =
     record { more = []; parts = sym k ∙ sym (append-nil before); few = subst (λ (x : List Line). length x ≤ 1) k few; say = refl }
 lines_make n (l ∷ ls) before after few g e =
     let t = through (edit_of n (said_in l) before) (λ ys. gather edit_of (suc n) (map said_in ls) ys) after (sym (gather_on edit_of n (said_in l) (map said_in ls) before) ∙ e) in
-    let m = line_makes n l (said_in l) before t.between (tokens_bytes (tokens_of l)) t.first in
+    let m = line_makes n (said_in l) before t.between (tokens_bytes (tokens_of l)) t.first in
     step_makes n l ls before t.between after (line_shown l g.0) m (lines_make (suc n) ls t.between after (still_few m few) g.1 t.second)
   where
-    still_few : {between : List Line} → LineMakes n l (said_in l) before between → length before ≤ 1 → length between ≤ 1
+    still_few : {between : List Line} → LineMakes n (said_in l) before between → length before ≤ 1 → length between ≤ 1
     still_few (inl h) f = let k = ap length h.1 in omega (arith, k, f)
-    still_few (inr h) f = let k = ap length h.2 in omega (arith, k)
+    still_few (inr h) f = let k = ap length h.parts in let r = h.room in omega (arith, k, r, length-append before (record { number = n; edit = h.edit } ∷ []))
 
 -- ---- the text
 

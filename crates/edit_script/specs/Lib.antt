@@ -1,7 +1,3 @@
-pub mod Faults
-pub mod Lines
-pub mod Tokens
-pub mod Said
 pub mod Grammar
 pub mod Script
 pub mod Printing

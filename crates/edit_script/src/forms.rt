@@ -1,10 +1,11 @@
 //! The forms of edits: each has a word, and a function that reads what stands behind the word.
 ghost use Rattle.std.specs.Prelude.{◌≡◌, [], OnOk};
 ghost use Rattle.std.specs.Str.{bytes_eq};
-ghost use Rattle.edit_script.specs.Grammar.{Reads, form_of, operands, rename_sample, edit};
+ghost use Rattle.line_tokens.specs.Parts.{Reads};
+ghost use Rattle.edit_script.specs.Grammar.{form_of, operands, rename_sample, edit};
 
-use crate::cursor::{Cursor, Stop};
 use bank_edits::Edit;
+use line_tokens::{Cursor, LineFault};
 
 #[derive(Debug, Clone, Copy)]
 pub enum Form {
@@ -12,14 +13,14 @@ pub enum Form {
 }
 
 /// The edit that a line says, to the line's end.
-#[tactic(auto, unfolding(crate::specs::Grammar::edit, crate::specs::Grammar::ended))]
-pub fn edit(line: &mut Cursor<'_, '_>) -> Result<Edit, Stop>
+#[tactic(auto, unfolding(crate::specs::Grammar::edit, line_tokens::specs::Parts::ended))]
+pub fn edit(line: &mut Cursor<'_, '_>) -> Result<Edit, LineFault>
     ensures reads { Reads (λ e. e) edit line.old line.new result }
     ensures done { OnOk result (line.new.said ≡ []) }
 {
     let word = line.word()?;
     let Some(form) = form_of(word) else {
-        return Err(Stop::Syntax);
+        return Err(LineFault::Syntax);
     };
     let edit = operands(form, line)?;
     line.end()?;
@@ -42,7 +43,7 @@ fn says(word: &[u8], text: &[u8]) -> bool
     word == text
 }
 
-fn operands(form: Form, line: &mut Cursor<'_, '_>) -> Result<Edit, Stop>
+fn operands(form: Form, line: &mut Cursor<'_, '_>) -> Result<Edit, LineFault>
     ensures { Reads (λ e. e) (operands form) line.old line.new result }
 {
     match form {
@@ -51,7 +52,7 @@ fn operands(form: Form, line: &mut Cursor<'_, '_>) -> Result<Edit, Stop>
 }
 
 #[tactic(auto, unfolding(crate::specs::Grammar::rename_sample))]
-fn rename_sample(line: &mut Cursor<'_, '_>) -> Result<Edit, Stop>
+fn rename_sample(line: &mut Cursor<'_, '_>) -> Result<Edit, LineFault>
     ensures { Reads (λ e. e) rename_sample line.old line.new result }
 {
     let sample = line.number(u32::MAX)?;

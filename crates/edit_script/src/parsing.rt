@@ -1,16 +1,15 @@
 //! The edits of a script.
 ghost use Rattle.std.specs.Prelude.{◌≡◌, Ok, IfOk};
-ghost use Rattle.edit_script.specs.Tokens.{tokens_of};
-ghost use Rattle.edit_script.specs.Lines.{lines_of};
-ghost use Rattle.edit_script.specs.Said.{all_said_over, pool_after, lines_said_over};
+ghost use Rattle.line_tokens.specs.Tokens.{tokens_of};
+ghost use Rattle.line_tokens.specs.Lines.{lines_of};
+ghost use Rattle.line_tokens.specs.Said.{all_said_over, pool_after, lines_said_over};
 ghost use Rattle.edit_script.specs.Printing.{LinesFit};
-ghost use Rattle.edit_script.specs.Script.{Answers, edit_of, edits_in, pool_bytes, script_of};
+ghost use Rattle.line_tokens.specs.Pool.{Answers, pool_bytes};
+ghost use Rattle.edit_script.specs.Script.{is_full, edit_of, edits_in, script_of};
 
-use crate::cursor::Cursor;
-use crate::fault::ScriptFault;
 use crate::forms::edit;
-use crate::lines::Lines;
 use bank_edits::Edit;
+use line_tokens::{Cursor, Lines, ScriptFault};
 use sf_base::Failure;
 use std::alloc::Global;
 
@@ -58,12 +57,19 @@ fn add_edit<'a>(
     if cursor.is_empty() {
         return Ok(pool);
     }
-    if !edits.as_slice().is_empty() {
+    if is_full(edits) {
         return Err(ScriptFault::Syntax(number).into());
     }
     match edit(&mut cursor) {
         Ok(edit) => edits.push(Line { number, edit })?,
-        Err(stop) => return Err(stop.on_line(number).into()),
+        Err(fault) => return Err(fault.on_line(number).into()),
     }
     Ok(cursor.pool())
+}
+
+// Whether there is no room for a further edit: a script has at most one.
+fn is_full(edits: &Vec<Line>) -> bool
+    ensures { result ≡ is_full edits.now.items }
+{
+    edits.len() > 0
 }
