@@ -1,6 +1,5 @@
 //! The calls of banks: what is told of one that is read, and one that is made of parts.
 
-use crate::files::{File, tone, wide};
 use bank_core::{
     Bank, GlobalZone, InfoId, Instrument, Kind, Members, Owner, Parts, PartsFault, Place, Preset,
     Sample, Texts, Zone, is_valid,
@@ -13,6 +12,7 @@ use sf_reader::read;
 use sf_writer::{encoded_len, write, write_counted};
 use std::alloc::Global;
 use std::test::Fail;
+use worked_files::{File, tone, wide};
 
 /// What is told of the members of the wide bank.
 fn tells_members(bank: &Bank<'_>) -> bool {

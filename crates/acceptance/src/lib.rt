@@ -1,13 +1,9 @@
-//! What only a run can show: that each call succeeds, that files and scripts of the format come out
-//! byte for byte, what is left where a writer fails, and what the program does.
+//! What only a run can show of files: that each call succeeds, that files of the format come out byte
+//! for byte, what is left where a writer fails, and what the program does.
 #![tactic(auto)]
 
 #[cfg(test)]
-mod answers;
-#[cfg(test)]
 mod banks;
-#[cfg(test)]
-mod files;
 #[cfg(test)]
 mod limits;
 #[cfg(test)]
@@ -16,8 +12,6 @@ mod lists;
 mod program;
 #[cfg(test)]
 mod samples;
-#[cfg(test)]
-mod scripts;
 #[cfg(test)]
 mod steps;
 #[cfg(test)]

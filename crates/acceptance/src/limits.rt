@@ -1,38 +1,11 @@
 //! The most that a file may hold, and what is over it.
 
-use crate::answers::{refuses, shows};
-use crate::files::{LISTS, empty, tone, without_record};
-use sf_base::{front_of, part_of, rest_from};
+use sf_base::front_of;
 use sfbank::canon_run;
 use std::alloc::{AllocError, Global};
-
-/// A file with a piece put in at a place, so many times, and these size fields then.
-pub(crate) fn grown(
-    alloc: Global,
-    file: &[u8],
-    at: usize,
-    piece: &[u8],
-    times: usize,
-    sizes: &[(usize, usize)],
-) -> Result<Vec<u8>, AllocError> {
-    let mut longer = Vec::new(alloc);
-    longer.extend_from_slice(front_of(file, at))?;
-    for _ in 0..times {
-        longer.extend_from_slice(piece)?;
-    }
-    longer.extend_from_slice(rest_from(file, at))?;
-    for (place, size) in sizes {
-        put_size(&mut longer, *place, *size);
-    }
-    Ok(longer)
-}
-
-fn put_size(file: &mut Vec<u8>, at: usize, size: usize) {
-    let size = u32::try_from(size).unwrap_or(0);
-    for (byte, value) in file.iter_mut().skip(at).zip(size.to_le_bytes()) {
-        *byte = value;
-    }
-}
+use worked_files::{
+    LISTS, empty, grown, many_points, refuses, shows, with_more, without_record,
+};
 
 /// Whether a file is read, and nothing of it is counted.
 fn is_read(alloc: Global, file: Result<Vec<u8>, AllocError>) -> bool {
@@ -52,30 +25,6 @@ fn is_refused(alloc: Global, file: Result<Vec<u8>, AllocError>, fault: u8) -> bo
         Ok(file) => refuses(alloc, &file, fault),
         Err(AllocError) => false,
     }
-}
-
-/// The empty bank's file with so many zero records before the one of a list.
-pub(crate) fn with_more(
-    alloc: Global,
-    size: usize,
-    record: usize,
-    count: usize,
-) -> Result<Vec<u8>, AllocError> {
-    let bytes = record.saturating_mul(count);
-    let sizes = [
-        (4, bytes.saturating_add(300)),
-        (86, bytes.saturating_add(218)),
-        (size, bytes.saturating_add(record)),
-    ];
-    let zeros = front_of(&[0; 46], record);
-    grown(
-        alloc,
-        empty().bytes(),
-        size.saturating_add(4),
-        zeros,
-        count,
-        &sizes,
-    )
 }
 
 #[test]
@@ -126,27 +75,6 @@ fn too_many_generators_beside_another_fault(rt: HostRuntime) {
     let odd = empty().edited("82 0 *2");
     let file = grown(alloc, odd.bytes(), 180, &[0; 4], 65_536, &sizes);
     assert!(rt; is_refused(alloc, file, 18));
-}
-
-/// T whose sample stands so many times over the same 49,954 points, and whose preset has a target.
-pub(crate) fn many_points(
-    alloc: Global,
-    samples: usize,
-    target: u8,
-) -> Result<Vec<u8>, AllocError> {
-    let more = samples.saturating_mul(46);
-    let long = tone().patched(&[(320, target), (464, 0x22), (465, 0xc3)]);
-    let sample = part_of(long.bytes(), 440, 46);
-    let without = long.edited("440 46");
-    let heads = grown(alloc, without.bytes(), 440, sample, samples, &[])?;
-    let sizes = [
-        (4, more.saturating_add(100_288)),
-        (66, 99_920),
-        (78, 99_908),
-        (99_994, more.saturating_add(298)),
-        (100_246, more.saturating_add(46)),
-    ];
-    grown(alloc, &heads, 82, &[0; 30], 3_327, &sizes)
 }
 
 #[test]

@@ -1,7 +1,5 @@
 //! The program: its words, its files, the lines of its faults, and its statuses.
 
-use crate::files::{renamed_saw, saw};
-use crate::scripts::{RENAME, RENAME_BACK};
 use sf_base::{Failure, front_of};
 use sfbank::RunFault;
 use sfbank_program::{InputFault, fault_text, read_whole, run};
@@ -9,6 +7,7 @@ use std::alloc::AllocError;
 use std::io::{ErrorKind, Read, Write};
 use std::test::Fail;
 use std::{fs, io};
+use worked_files::{RENAME, RENAME_BACK, renamed_saw, saw};
 
 const LISTING: &[u8] = b"bank 4 presets 0 instruments 0 samples 1 points 2
 counts texts 0 sm24 0 zones 0 gens 0 ranges 0 loops 0 links 0

@@ -1,7 +1,6 @@
 //! What is read of samples, on the file of one sample of two points.
 
-use crate::answers::{refuses, shows};
-use crate::files::{File, Patch, saw, saw_head};
+use worked_files::{File, Patch, refuses, saw, saw_head, shows};
 
 const ORDINARY: &[u8] = b" ranges 0 loops 0 links 0\nsample 0 \"saw\" 44100 60 0 mono noloop 2\n";
 

@@ -1,9 +1,8 @@
 //! The steps of reading chunks, each at both sides of its edge, on the empty bank's file. Faults go by
 //! their numbers.
 
-use crate::answers::{canons, refuses, shows};
-use crate::files::{Patch, empty, saw};
 use sf_base::front_of;
+use worked_files::{Patch, canons, empty, refuses, saw, shows};
 
 /// The listing of the empty bank, of whose reading nothing is counted.
 const LISTING: &[u8] = b"bank 4 presets 0 instruments 0 samples 0 points 0

@@ -1,14 +1,13 @@
 //! Writers that fail: each holds exactly the front of the text that the fault counts.
 ghost use Rattle.std.specs.Prelude.{Some};
 
-use crate::files::tone;
-use crate::limits::{many_points, with_more};
 use sf_base::{WriteFault, front_of, put_all};
 use sfbank::{RunFault, Which, canon_run, edit_run, show_run};
 use std::alloc::Global;
 use std::io;
 use std::io::{ErrorKind, Write};
 use std::test::Fail;
+use worked_files::{many_points, tone, with_more};
 
 /// Takes at most `bite` bytes a call, and fails at the call numbered `fails_at`, counted from 0, by an
 /// error, or where `takes_none` by taking nothing; its flush fails where `flushes` is false.

@@ -1,11 +1,11 @@
 //! What is read of records and zones, on the file of a preset over an instrument over a sample.
 
-use crate::answers::{canons, refuses, shows};
-use crate::files::{
-    File, LISTS, Patch, empty, layered, pair, renamed_saw, saw, tone, wide, without_record,
-};
 use generators::Level;
 use std::alloc::Global;
+use worked_files::{
+    File, LISTS, Patch, canons, empty, layered, pair, refuses, renamed_saw, saw, shows, tone, wide,
+    without_record,
+};
 
 /// Of each list of indexes, the places of the first and the last, and one past what the last may be.
 const INDEXES: [(usize, usize, u8); 6] = [

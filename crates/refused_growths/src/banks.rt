@@ -1,6 +1,7 @@
 //! Whole runs over a bank, a read and a copy of it.
 use crate::outcome::Outcome;
 use bank_core::Bank;
+use sf_base::front_of;
 use sf_reader::read;
 use sf_writer::write;
 use sfbank::{RunFault, canon_run, edit_run, show_run};
@@ -9,7 +10,7 @@ use std::io;
 use std::io::{ErrorKind, Write};
 
 // The canonical file of a bank with a preset and an instrument, whose zones and global zones hold
-// generators and modulators, and with one sample, `saw`, whose head begins at byte 514.
+// generators and modulators, and with one sample, `saw`.
 static BANK: &[u8] = b"\
     RIFF\x56\x02\0\0sfbk\
     LIST\x2a\0\0\0INFO\
@@ -52,13 +53,13 @@ static BANK: &[u8] = b"\
 // Holds what it is given without asking for memory.
 #[derive(Drop)]
 struct Fixed {
-    held: [u8; 700],
+    held: [u8; 1000],
     len: usize,
 }
 
 impl Write for Fixed {
     fn write(&mut self, buf: &[u8]) -> io::Result<usize> {
-        if self.len > 700 || buf.len() > 700 - self.len {
+        if self.len > 1000 || buf.len() > 1000 - self.len {
             return Err(io::Error::from(ErrorKind::WriteZero));
         }
         self.held[self.len..self.len + buf.len()].copy_from_slice(buf);
@@ -72,38 +73,67 @@ impl Write for Fixed {
 }
 
 impl Fixed {
+    // What it was given.
+    fn text(&self) -> &[u8] {
+        front_of(&self.held, self.len)
+    }
+
     // Whether it was given exactly this text.
     fn has(&self, text: &[u8]) -> bool {
-        self.len == text.len() && self.held[..].starts_with(text)
+        self.text() == text
     }
 }
 
 fn fixed_writer() -> Fixed {
     Fixed {
-        held: [0; 700],
+        held: [0; 1000],
         len: 0,
     }
 }
 
-/// Renames the sample. Want of memory leaves no byte at either writer, and the run is made again.
-pub(crate) fn rename_run(alloc: Global) -> Outcome {
+/// Scripts of one edit, each with the undo text that takes it back.
+pub(crate) static EDITS: [(&[u8], &[u8]); 3] = [
+    (
+        b"rename-sample 0 \"sine\"\n",
+        b"rename-sample 0 \"saw\"\n",
+    ),
+    (
+        b"add-sample 0 \"low\" 44100 48 0 right 1 loop 0 2 x0100feff\n",
+        b"remove-sample 0\n",
+    ),
+    (
+        b"set-info ICMT \"a bank of one sample\"\n",
+        b"set-info ICMT \"\"\n",
+    ),
+];
+
+/// Runs a script, and its undo text on the written file, which gives the bank back and answers the
+/// script. Want of memory leaves no byte at either writer, and the run is made again.
+pub(crate) fn edit_and_return(alloc: Global, script: &[u8], back: &[u8]) -> Outcome {
     let mut out = fixed_writer();
     let mut undo = fixed_writer();
-    let script = b"rename-sample 0 \"sine\"\n";
-    match edit_run(alloc, BANK, script, &mut out, &mut undo) {
-        Ok(()) => Outcome::done(is_renamed(&out, &undo)),
+    let there = edited(alloc, BANK, script, &mut out, &mut undo);
+    let mut restored = fixed_writer();
+    let mut again = fixed_writer();
+    let returned = edited(alloc, out.text(), undo.text(), &mut restored, &mut again);
+    let right = undo.has(back) && restored.has(BANK) && again.has(script);
+    there.and(returned).and(Outcome::done(right))
+}
+
+fn edited(
+    alloc: Global,
+    file: &[u8],
+    script: &[u8],
+    out: &mut Fixed,
+    undo: &mut Fixed,
+) -> Outcome {
+    match edit_run(alloc, file, script, out, undo) {
+        Ok(()) => Outcome::Done,
         Err(RunFault::Memory) if out.len == 0 && undo.len == 0 => {
-            let again = edit_run(alloc, BANK, script, &mut out, &mut undo);
-            Outcome::refused(again.is_ok() && is_renamed(&out, &undo))
+            Outcome::refused(edit_run(alloc, file, script, out, undo).is_ok())
         }
         Err(_) => Outcome::Wrong,
     }
-}
-
-fn is_renamed(out: &Fixed, undo: &Fixed) -> bool {
-    out.len == BANK.len()
-        && out.held[..].get(514..519) == Some(b"sine\0".as_slice())
-        && undo.has(b"rename-sample 0 \"saw\"\n")
 }
 
 /// Writes the canonical file, which is the file. Want of memory leaves no byte, and the run is made

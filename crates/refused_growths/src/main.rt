@@ -11,7 +11,7 @@ mod generator_maps;
 mod outcome;
 mod points;
 
-use crate::banks::{bank_copy, canonical_run, listing_run, rename_run};
+use crate::banks::{EDITS, bank_copy, canonical_run, edit_and_return, listing_run};
 use crate::generator_maps::{generators_copy, generators_set};
 use crate::outcome::Outcome;
 use crate::points::{points_copy, points_join, points_narrow};
@@ -25,7 +25,6 @@ fn main(rt: HostRuntime) -> ExitCode {
         points_narrow(alloc),
         generators_set(alloc),
         generators_copy(alloc),
-        rename_run(alloc),
         canonical_run(alloc),
         listing_run(alloc),
         bank_copy(alloc),
@@ -33,6 +32,9 @@ fn main(rt: HostRuntime) -> ExitCode {
     let mut outcome = Outcome::Done;
     for case in cases {
         outcome = outcome.and(case);
+    }
+    for (script, back) in EDITS {
+        outcome = outcome.and(edit_and_return(alloc, script, back));
     }
     let (line, status) = match outcome {
         Outcome::Done => ("no growth was refused, and each value is right", 0),

@@ -1,5 +1,5 @@
 -- Lines that are applied one after the other.
-use Rattle.std.proofs.Common.{◌≡◌, ℕ, List, ◌++◌, drop, reverse}
+use Rattle.std.proofs.Common.{◌≡◌, List, ◌++◌, reverse}
 use Rattle.bank_parts.specs.declared.parts.Parts.{Parts}
 use Rattle.bank_edits.specs.declared.edit.Edit.{Edit}
 use Rattle.inverse_edits.specs.Runs.{after_all, undo_list}
@@ -8,10 +8,7 @@ use Rattle.sfbank.specs.Outcome.{edits_of, first_refused}
 
 -- What the lines make of the first bank is what those that are left make of the bank now, and the
 -- inverses so far end the undo list.
-pub record SoFar (first now : Parts) (lines : List Line) (i : ℕ) (inverses : List Edit) : Type 0 where
-  pub refused : first_refused first lines ≡ first_refused now (drop i lines)
-  pub changed : after_all first (edits_of lines) ≡ after_all now (edits_of (drop i lines))
-  pub undone : undo_list first (edits_of lines) ≡ undo_list now (edits_of (drop i lines)) ++ reverse inverses
-
-abbrev line_of : ℕ → Edit → Line
-line_of number e = record { number = number; edit = e }
+pub record SoFar (first now : Parts) (lines rest : List Line) (inverses : List Edit) : Type 0 where
+  pub refused : first_refused first lines ≡ first_refused now rest
+  pub changed : after_all first (edits_of lines) ≡ after_all now (edits_of rest)
+  pub undone : undo_list first (edits_of lines) ≡ undo_list now (edits_of rest) ++ reverse inverses

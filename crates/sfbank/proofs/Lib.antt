@@ -1,6 +1,6 @@
 pub mod Alone
 pub mod Applying
+pub mod Endings
 pub mod Faults
-pub mod Lines
 pub mod Restores
 pub mod Texts

@@ -12,7 +12,7 @@ use Rattle.bank_format.specs.ReadSteps.{fault_of}
 use Rattle.bank_format.proofs.RoundTrip.{reads-again}
 use Rattle.bank_format.proofs.ReadValid.{read_valid, read_fits}
 use Rattle.bank_edits.specs.declared.edit.Edit.{Edit}
-use Rattle.bank_edits.specs.declared.edit.Cause.{Cause}
+use Rattle.bank_edits.specs.declared.cause.Cause.{Cause}
 use Rattle.bank_edits.specs.Edits.{raw, refusal, inverse}
 use Rattle.inverse_edits.specs.Runs.{AllTaken, after_all, undo_list}
 use Rattle.inverse_edits.proofs.RunLaw.{all_undone}
@@ -23,7 +23,6 @@ use Rattle.edit_script.proofs.LineLaws.{printed_spell}
 use Rattle.edit_script.proofs.FitLaws.{script_fits}
 use Rattle.edit_script.proofs.FewLaws.{script_few}
 use Rattle.sfbank.specs.declared.fault.RunFault.{RunFault}
-use Rattle.sfbank.specs.Planned.{AllApplied}
 use Rattle.sfbank.specs.Outcome.{Done, edits_of, RefusedLine, or_else, first_refused, both_texts, unless_refused, after_script, after_reading, bank_in, outcome, IsUndone}
 
 -- the bytes that a slice holds
@@ -107,14 +106,6 @@ run_back b es few s h =
 
 few_lines : (script : List ℕ) (lines : List Line) → script_of script ≡ Ok lines → length (edits_of lines) ≤ 1
 few_lines script lines e = let n = length-map lines (λ (l : Line). l.edit) in let m = script_few script lines e in omega (arith, n, m)
-
--- the edits that take a script's edits back
-pub few_undo : (script : List ℕ) (b new : Parts) (lines : List Line) (undo : List Edit) → script_of script ≡ Ok lines → AllApplied b new lines undo → length undo ≤ 1
-few_undo script b new lines undo e a =
-    let n = ap length a.taken_back in
-    let m = length-undo_list b (edits_of lines) in
-    let few = few_lines script lines e in
-    omega (arith, n, m, few)
 
 pub restores : (file script : List ℕ) → AreBytes file → IsUndone file script
 unfolding outcome

@@ -8,13 +8,11 @@ use Rattle.sfbank.specs.declared.fault.Which.{Which}
 use Rattle.sfbank.specs.declared.fault.Which.TheVariants.{Out, Undo}
 use Rattle.sfbank.specs.Outcome.{Done}
 
--- After a text was sent, its writer is flushed: nothing more goes out. Where it was not sent whole, or
--- the flush fails, the fault names the text and counts what went out.
-abbrev pub EndsText : {U : Type 0} → Which → Result ℕ WriteFault → Option (List ℕ) → Option (List ℕ) → Result U RunFault → Type 0
-EndsText which (Ok total) old new (Ok u) = Keeps old new
-EndsText which (Ok total) old new (Err fault) = (fault ≡ run.Write which total) × Keeps old new
-EndsText which (Err stop) old new (Ok u) = ⊥
-EndsText which (Err stop) old new (Err fault) = (fault ≡ run.Write which stop.written) × Keeps old new
+-- a writer's fault is told with its text and its count
+abbrev pub IsTold : {U : Type 0} → Which → Result ℕ WriteFault → Result U RunFault → Type 0
+IsTold which (Ok total) (Ok u) = Unit {0}
+IsTold which (Err stop) (Err fault) = fault ≡ run.Write which stop.written
+IsTold which delivered r = ⊥
 
 -- what two writers held before, and hold after
 pub record Writers : Type 0 where

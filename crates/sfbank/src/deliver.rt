@@ -1,11 +1,11 @@
 //! Texts go out, each whole and flushed.
-ghost use Rattle.std.specs.Prelude.{◌≡◌, ◌≤◌, length};
-ghost use Rattle.sf_base.specs.Writing.{Sends};
+ghost use Rattle.std.specs.Prelude.{◌≡◌};
+ghost use Rattle.sf_base.specs.Output.{Puts};
 ghost use Rattle.bank_format.specs.Canon.{canon};
 ghost use Rattle.bank_listing.specs.Listing.{listing};
 ghost use Rattle.edit_script.specs.Printing.{texts_of};
 ghost use Rattle.sfbank.specs.declared.fault.Which.TheVariants.{Out, Undo};
-ghost use Rattle.sfbank.specs.Written.{Delivers, GoesOut, EndsText};
+ghost use Rattle.sfbank.specs.Written.{Delivers, GoesOut, IsTold};
 ghost use Rattle.sfbank.specs.Plans.{planned};
 
 use crate::fault::{RunFault, Which};
@@ -13,10 +13,10 @@ use crate::plan::Plan;
 use bank_core::Bank;
 use bank_edits::Edit;
 use bank_format::Counts;
-use bank_listing::write_listing;
-use edit_script::print_after;
-use sf_base::{WriteFault, finish};
-use sf_writer::write_counted;
+use bank_listing::put_listing;
+use edit_script::put_edit;
+use sf_base::{Output, WriteFault};
+use sf_writer::put_bank;
 use std::io::Write;
 
 /// The bank's file goes out, and then the undo text. It takes no memory.
@@ -25,7 +25,6 @@ pub fn deliver<W: Write, V: Write>(
     out: &mut W,
     undo: &mut V,
 ) -> Result<(), RunFault>
-    requires { length plan.now.undo.items ≤ 1 }
     ensures { Delivers (record { out = W.contents out.old; out_new = W.contents out.new; undo = V.contents undo.old; undo_new = V.contents undo.new })
         (planned plan.now) result }
 {
@@ -34,16 +33,17 @@ pub fn deliver<W: Write, V: Write>(
 }
 
 /// The canonical file of a bank goes out. It takes no memory.
-#[tactic(auto, using(crate::proofs::Texts::text_ends))]
+#[tactic(auto, using(crate::proofs::Texts::text_goes_out))]
 pub fn deliver_bank<W: Write>(bank: &Bank<'_>, out: &mut W) -> Result<(), RunFault>
     ensures { GoesOut Out (W.contents out.old) (W.contents out.new) (canon bank.now) result }
 {
-    let sent = write_counted(bank, out);
-    end_text(Which::Out, sent, out)
+    let mut output = Output::to(out);
+    put_bank(bank, &mut output);
+    told(Which::Out, output.deliver())
 }
 
 /// The listing of a bank and of the counts of reading it goes out. It takes no memory.
-#[tactic(auto, using(crate::proofs::Texts::text_ends))]
+#[tactic(auto, using(crate::proofs::Texts::text_goes_out))]
 pub fn deliver_listing<W: Write>(
     bank: &Bank<'_>,
     counts: &Counts,
@@ -51,48 +51,35 @@ pub fn deliver_listing<W: Write>(
 ) -> Result<(), RunFault>
     ensures { GoesOut Out (W.contents out.old) (W.contents out.new) (listing bank.now counts.now) result }
 {
-    let sent = write_listing(bank, counts, out);
-    end_text(Which::Out, sent, out)
+    let mut output = Output::to(out);
+    put_listing(bank, counts, &mut output);
+    told(Which::Out, output.deliver())
 }
 
-#[tactic(auto, using(crate::proofs::Texts::text_ends))]
-fn deliver_undo<W: Write>(edits: &[Edit], out: &mut W) -> Result<(), RunFault>
-    requires { length edits.now ≤ 1 }
-    ensures { GoesOut Undo (W.contents out.old) (W.contents out.new) (texts_of edits.now) result }
+#[tactic(auto, using(crate::proofs::Texts::text_goes_out))]
+fn deliver_undo<W: Write>(edits: &[Edit<'_>], undo: &mut W) -> Result<(), RunFault>
+    ensures { GoesOut Undo (W.contents undo.old) (W.contents undo.new) (texts_of edits.now) result }
 {
-    let sent = put_lines(edits, out);
-    end_text(Which::Undo, sent, out)
-}
-
-// Flushes the writer to which a text was sent, and tells whose fault it is that it isn't there whole.
-fn end_text<W: Write>(
-    which: Which,
-    sent: Result<u64, WriteFault>,
-    out: &mut W,
-) -> Result<(), RunFault>
-    ensures { EndsText which sent (W.contents out.old) (W.contents out.new) result }
-{
-    let ended = match sent {
-        Ok(sent) => finish(out, sent),
-        Err(fault) => Err(fault),
-    };
-    match ended {
-        Ok(()) => Ok(()),
-        Err(fault) => Err(RunFault::Write(which, fault.written)),
-    }
+    let mut output = Output::to(undo);
+    put_edits(edits, &mut output);
+    told(Which::Undo, output.deliver())
 }
 
 // The lines of the edits.
-fn put_lines<W: Write>(edits: &[Edit], out: &mut W) -> Result<u64, WriteFault>
-    requires { length edits.now ≤ 1 }
-    ensures { Sends (W.contents out.old) (W.contents out.new) 0 (texts_of edits.now) result }
+fn put_edits<W: Write>(edits: &[Edit<'_>], output: &mut Output<'_, W>)
+    ensures { Puts W.contents output.old output.new (texts_of edits.now) }
 {
-    let mut sent = 0;
     for edit in edits {
-        match print_after(edit, out, sent) {
-            Ok(total) => sent = total,
-            Err(fault) => return Err(fault),
-        }
+        put_edit(edit, output);
     }
-    Ok(sent)
+}
+
+// Of which text a writer's fault is.
+fn told(which: Which, delivered: Result<u64, WriteFault>) -> Result<(), RunFault>
+    ensures { IsTold which delivered result }
+{
+    match delivered {
+        Ok(_) => Ok(()),
+        Err(fault) => Err(RunFault::Write(which, fault.written)),
+    }
 }

@@ -1,7 +1,8 @@
 //! What a run will write, before a byte goes out.
-ghost use Rattle.std.specs.Prelude.{◌≡◌, ◌≤◌, length, IfOk, MatchResult};
-ghost use Rattle.edit_script.specs.Script.{Answers, script_of};
-ghost use Rattle.sfbank.specs.Outcome.{first_refused, outcome};
+ghost use Rattle.std.specs.Prelude.{◌≡◌, Ok, MatchResult};
+ghost use Rattle.line_tokens.specs.Pool.{pool_bytes};
+ghost use Rattle.edit_script.specs.Script.{script_of};
+ghost use Rattle.sfbank.specs.Outcome.{after_script, first_refused};
 ghost use Rattle.sfbank.specs.Written.{Plans};
 ghost use Rattle.sfbank.specs.Planned.{AllApplied, StopsAtLine};
 ghost use Rattle.sfbank.specs.Plans.{planned};
@@ -9,41 +10,40 @@ ghost use Rattle.sfbank.specs.Plans.{planned};
 use crate::fault::RunFault;
 use bank_core::Bank;
 use bank_edits::{Edit, Refusal, apply};
-use edit_script::{Line, ScriptFault, parse, pool_of};
-use sf_base::Failure;
-use sf_reader::read;
+use edit_script::{Line, parse};
 use std::alloc::Global;
 
-/// The edited bank, and the edits that take its edits back, the last one's first.
+/// The edited bank, and the edits that take its edits back, the last one's first. They borrow from the
+/// bank's file and from the script's pool.
 #[derive(Drop)]
 pub struct Plan<'a> {
     pub bank: Bank<'a>,
-    pub undo: Vec<Edit>,
+    pub undo: Vec<Edit<'a>>,
 }
 
-/// Reads the file, and runs the script on its bank. Nothing goes out.
-pub fn make_plan<'a>(alloc: Global, file: &'a [u8], script: &[u8]) -> Result<Plan<'a>, RunFault>
-    ensures plans { Plans planned (outcome file.now script.now) result }
-    ensures few { IfOk result (λ plan. length plan.undo.items ≤ 1) }
+/// Runs a script on a bank, over the pool of its literals. Nothing goes out.
+pub fn make_plan<'a>(
+    alloc: Global,
+    mut bank: Bank<'a>,
+    script: &[u8],
+    pool: &'a [u8],
+) -> Result<Plan<'a>, RunFault>
+    requires pool { pool_bytes script.now ≡ Ok pool.now }
+    ensures plans { Plans planned (after_script bank.entry (script_of script.now)) result }
 {
-    let (mut bank, _counts) = read(alloc, file)?;
-    let lines = lines_of(alloc, script)?;
-    let undo = apply_all(alloc, &mut bank, lines.as_slice())?;
+    let lines = parse(alloc, script, pool)?;
+    let undo = apply_all(alloc, &mut bank, lines)?;
     Ok(Plan { bank, undo })
 }
 
-// The edits of the script, with their lines.
-fn lines_of(alloc: Global, script: &[u8]) -> Result<Vec<Line>, Failure<ScriptFault>>
-    ensures { Answers (λ lines. lines.items) result (script_of script.now) }
-{
-    let pool = pool_of(alloc, script)?;
-    parse(alloc, script, pool.as_slice())
-}
-
 // Applies the edits in order, and gives those that take them back, the last one's first.
-fn apply_all(alloc: Global, bank: &mut Bank<'_>, lines: &[Line]) -> Result<Vec<Edit>, RunFault>
-    ensures { MatchResult result (λ undo. AllApplied bank.old bank.new lines.now undo.items)
-        (λ fault. StopsAtLine fault (first_refused bank.old lines.now)) }
+fn apply_all<'a>(
+    alloc: Global,
+    bank: &mut Bank<'a>,
+    lines: Vec<Line<'a>>,
+) -> Result<Vec<Edit<'a>>, RunFault>
+    ensures applied { MatchResult result (λ undo. AllApplied bank.old bank.new lines.entry.items undo.items)
+        (λ fault. StopsAtLine fault (first_refused bank.old lines.entry.items)) }
 {
     let mut inverses = Vec::new(alloc);
     for line in lines {

@@ -1,11 +1,13 @@
 -- The lines by which faults are told, and the exit status of a run's fault.
-use Rattle.std.specs.Prelude.{ℕ, List, [], ◌∷◌, codes, decimal}
+use Rattle.std.specs.Prelude.{ℕ, List, [], ◌∷◌, ◌++◌, codes, decimal, Option, Some, None}
 use Rattle.std.specs.List.{concat}
 use Rattle.bank_format.specs.declared.fault.ReadFault.{ReadFault}
 use Rattle.bank_format.specs.FaultNames as reading
-use Rattle.edit_script.specs.declared.fault.ScriptFault.{ScriptFault}
-use Rattle.edit_script.specs.Faults as scripts
-use Rattle.bank_edits.specs.declared.edit.Cause.{Cause}
+use Rattle.line_tokens.specs.declared.fault.ScriptFault.{ScriptFault}
+use Rattle.line_tokens.specs.Faults as scripts
+use Rattle.bank_parts.specs.declared.limits.Limit.{Limit}
+use Rattle.bank_parts.specs.Limits.{word_of}
+use Rattle.bank_edits.specs.declared.cause.Cause.{Cause}
 use Rattle.bank_edits.specs.CauseNames as causes
 use Rattle.sfbank.specs.declared.fault.RunFault.{RunFault}
 use Rattle.sfbank.specs.declared.fault.RunFault.TheVariants.{Read, Script, Refused, Write, Memory}
@@ -16,8 +18,13 @@ read_line fault = concat (codes "sfbank: read fault " ∷ decimal (reading.numbe
 abbrev pub script_line : ScriptFault → List ℕ
 script_line fault = concat (codes "sfbank: line " ∷ decimal (scripts.line_of fault) ∷ codes ": fault " ∷ decimal (scripts.number_of fault) ∷ codes " " ∷ scripts.name_of fault ∷ codes "\n" ∷ [])
 
+-- the limit that a bank would break
+abbrev pub limit_text : Option Limit → List ℕ
+limit_text (Some limit) = codes " " ++ word_of limit
+limit_text None = []
+
 abbrev pub refused_line : ℕ → Cause → List ℕ
-refused_line line cause = concat (codes "sfbank: line " ∷ decimal line ∷ codes ": refused " ∷ decimal (causes.number_of cause) ∷ codes " " ∷ causes.name_of cause ∷ codes "\n" ∷ [])
+refused_line line cause = concat (codes "sfbank: line " ∷ decimal line ∷ codes ": refused " ∷ decimal (causes.number_of cause) ∷ codes " " ∷ causes.name_of cause ∷ limit_text (causes.limit_of cause) ∷ codes "\n" ∷ [])
 
 abbrev pub write_line : List ℕ → ℕ → List ℕ
 write_line path written = concat (codes "sfbank: write fault " ∷ path ∷ codes " after " ∷ decimal written ∷ codes " bytes\n" ∷ [])

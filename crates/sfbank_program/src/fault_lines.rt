@@ -3,10 +3,11 @@ ghost use Rattle.std.specs.Prelude.{◌≡◌, IfOk};
 ghost use Rattle.sf_base.specs.Output.{Puts};
 ghost use Rattle.sf_base.specs.Writing.{Writes};
 ghost use Rattle.sample_view.specs.Pieces.{joined_bytes};
-ghost use Rattle.sfbank_program.specs.FaultLines.{fault_line, status_of, read_line, script_line, refused_line, write_line, file_line};
+ghost use Rattle.sfbank_program.specs.FaultLines.{fault_line, status_of, read_line, script_line, refused_line, limit_text, write_line, file_line};
 
 use bank_edits::Cause;
 use bank_format::ReadFault;
+use bank_parts::Limit;
 use edit_script::ScriptFault;
 use itoa::Buffer;
 use sf_base::{Output, WriteFault};
@@ -100,10 +101,20 @@ fn put_refusal<W: Write>(line: u64, cause: Cause, output: &mut Output<'_, W>)
             number.format(cause.number()).as_bytes(),
             b" ",
             cause.name().as_bytes(),
-            b"\n",
         ],
         output,
     );
+    put_limit(cause.limit(), output);
+    output.put(b"\n");
+}
+
+// The limit that a bank would break.
+fn put_limit<W: Write>(limit: Option<Limit>, output: &mut Output<'_, W>)
+    ensures { Puts W.contents output.old output.new (limit_text limit) }
+{
+    if let Some(limit) = limit {
+        put_pieces(&[b" ", limit.word().as_bytes()], output);
+    }
 }
 
 fn put_write_fault<W: Write>(path: &str, written: u64, output: &mut Output<'_, W>)

@@ -3,11 +3,11 @@
 use sf_base::{front_of, rest_from};
 
 /// A place in a file, and the byte that stands there now.
-pub(crate) type Patch = (usize, u8);
+pub type Patch = (usize, u8);
 
 /// A file of at most 1,024 bytes.
 #[derive(Clone, Copy)]
-pub(crate) struct File {
+pub struct File {
     held: [u8; 1024],
     length: usize,
 }
@@ -22,7 +22,7 @@ impl File {
 
     /// The file of these words: `'abc` stands for the text `abc`, `*3` for three zeros, and every
     /// other word is bytes in hex digits.
-    pub(crate) fn of(words: &str) -> File {
+    pub fn of(words: &str) -> File {
         let mut file = File::new();
         for word in words.split_ascii_whitespace() {
             file.add_word(word);
@@ -49,7 +49,7 @@ impl File {
         }
     }
 
-    pub(crate) fn bytes(&self) -> &[u8] {
+    pub fn bytes(&self) -> &[u8] {
         front_of(&self.held, self.length)
     }
 
@@ -63,7 +63,7 @@ impl File {
     }
 
     /// The file with other bytes at some places.
-    pub(crate) fn patched(&self, patches: &[Patch]) -> File {
+    pub fn patched(&self, patches: &[Patch]) -> File {
         let mut file = *self;
         for (at, byte) in patches {
             if let Some(place) = file.held.get_mut(*at) {
@@ -75,7 +75,7 @@ impl File {
 
     /// The file with changes, made one after the other and parted by `;`: each is a place, the number
     /// of bytes that are taken out there, and the words that are put in.
-    pub(crate) fn edited(&self, changes: &str) -> File {
+    pub fn edited(&self, changes: &str) -> File {
         let mut file = *self;
         for change in changes.split(';') {
             let mut words = change.split_ascii_whitespace();
@@ -90,7 +90,7 @@ impl File {
     }
 
     /// The file with so many bytes taken out at a place, and others put in.
-    pub(crate) fn with(&self, at: usize, out: usize, bytes: &[u8]) -> File {
+    pub fn with(&self, at: usize, out: usize, bytes: &[u8]) -> File {
         let mut file = File::new();
         file.add(front_of(self.bytes(), at));
         file.add(bytes);
@@ -107,7 +107,7 @@ fn number_of(word: Option<&str>) -> usize {
 }
 
 /// E, the empty bank of minor version 4: 308 bytes.
-pub(crate) fn empty() -> File {
+pub fn empty() -> File {
     File::of(
         "'RIFF 2c010000 'sfbk
         'LIST 2a000000 'INFO 'ifil 04000000 02000400 'isng 08000000 'EMU8000 *1 'INAM 02000000 *2
@@ -126,7 +126,7 @@ pub(crate) fn empty() -> File {
 }
 
 /// The size field of each list of records of the empty bank's file, and the size of a record.
-pub(crate) const LISTS: [(usize, usize); 9] = [
+pub const LISTS: [(usize, usize); 9] = [
     (98, 38),
     (144, 4),
     (156, 10),
@@ -139,7 +139,7 @@ pub(crate) const LISTS: [(usize, usize); 9] = [
 ];
 
 /// The empty bank's file without the one record of a list.
-pub(crate) fn without_record(size: usize, record: usize) -> File {
+pub fn without_record(size: usize, record: usize) -> File {
     let less = (record % 256) as u32;
     empty()
         .with(size.saturating_add(4), record, b"")
@@ -149,12 +149,12 @@ pub(crate) fn without_record(size: usize, record: usize) -> File {
 }
 
 /// The record of the sample `saw`: rate 44,100, key 60, mono.
-pub(crate) fn saw_head() -> File {
+pub fn saw_head() -> File {
     File::of("'saw *17 00000000 02000000 00000000 00000000 44ac0000 3c 00 0000 0100")
 }
 
 /// S1, the bank of the sample `saw` of the points 1 and -2: 450 bytes.
-pub(crate) fn saw() -> File {
+pub fn saw() -> File {
     let points = File::of("0100feff *92");
     let sizes = [
         (4, 0xba),
@@ -170,8 +170,14 @@ pub(crate) fn saw() -> File {
         .patched(&sizes)
 }
 
+/// Gives the sample a name of 20 bytes.
+pub const RENAME: &[u8] = b"rename-sample 0 \"ABCDEFGHIJKLMNOPQRST\"\n";
+
+/// Takes it back.
+pub const RENAME_BACK: &[u8] = b"rename-sample 0 \"saw\"\n";
+
 /// S1 with a name of 20 bytes.
-pub(crate) fn renamed_saw() -> File {
+pub fn renamed_saw() -> File {
     saw().with(358, 20, b"ABCDEFGHIJKLMNOPQRST")
 }
 
@@ -183,7 +189,7 @@ fn file_of(size: &str, words: &str) -> File {
 }
 
 /// T, the preset `p` over the instrument `i` over the looped sample `t`: 532 bytes.
-pub(crate) fn tone() -> File {
+pub fn tone() -> File {
     file_of(
         "0c020000",
         "'LIST 6e000000 'sdta 'smpl 62000000 e803d00730f8 *92
@@ -200,8 +206,27 @@ pub(crate) fn tone() -> File {
     )
 }
 
+/// T with an empty sample `n` before its own: 670 bytes.
+pub fn second_tone() -> File {
+    file_of(
+        "96020000",
+        "'LIST ca000000 'sdta 'smpl be000000 *92 e803d00730f8 *92
+        'LIST 86010000 'pdta
+        'phdr 4c000000 'p *37 'EOP *21 01 *13
+        'pbag 08000000 *4 01000000
+        'pmod 0a000000 *10
+        'pgen 08000000 29000000 *4
+        'inst 2c000000 'i *21 'EOI *17 0100
+        'ibag 08000000 *4 02000000
+        'imod 0a000000 *10
+        'igen 0c000000 36000100 35000100 *4
+        'shdr 8a000000 'n *43 0100
+        't *19 2e000000 31000000 2f000000 31000000 44ac0000 3c 00 0000 0100 'EOS *43",
+    )
+}
+
 /// The bank of a preset over two of three instruments, which play a sample without points: 594 bytes.
-pub(crate) fn layered() -> File {
+pub fn layered() -> File {
     file_of(
         "4a020000",
         "'LIST 68000000 'sdta 'smpl 5c000000 *92
@@ -220,7 +245,7 @@ pub(crate) fn layered() -> File {
 
 /// The bank of two presets and three instruments, with global zones, modulators, and an instrument
 /// without zones, over the sample `t`: 720 bytes.
-pub(crate) fn wide() -> File {
+pub fn wide() -> File {
     file_of(
         "c8020000",
         "'LIST 6e000000 'sdta 'smpl 62000000 e803d00730f8 *92
@@ -238,7 +263,7 @@ pub(crate) fn wide() -> File {
 }
 
 /// The empty bank with a left and a right sample, the left one with a loop: 592 bytes.
-pub(crate) fn pair() -> File {
+pub fn pair() -> File {
     let points = File::of("c0000000 010002000300 *92 0400 *92");
     let heads = File::of(
         "8a000000

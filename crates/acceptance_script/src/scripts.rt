@@ -1,29 +1,24 @@
-//! Scripts and their undo texts, on the file of one sample.
+//! How scripts are read, on the file of one sample.
 
-use crate::answers::{edits, stops};
-use crate::files::{File, renamed_saw, saw, tone};
-use bank_edits::Edit;
+use bank_edits::{Edit, Step};
 use edit_script::print;
 use sf_base::Name20;
 use sfbank::{edit_run, show_run};
 use std::alloc::Global;
 use std::test::Fail;
-
-pub(crate) const RENAME: &[u8] = b"rename-sample 0 \"ABCDEFGHIJKLMNOPQRST\"\n";
-
-pub(crate) const RENAME_BACK: &[u8] = b"rename-sample 0 \"saw\"\n";
+use worked_files::{File, RENAME, RENAME_BACK, edits, renamed_saw, saw, stops, tone};
 
 #[test]
 fn a_renaming_and_its_return(rt: HostRuntime) {
     let renamed = renamed_saw();
-    assert!(rt; edits(rt.alloc(), &saw(), RENAME, &renamed, RENAME_BACK));
-    assert!(rt; edits(rt.alloc(), &renamed, RENAME_BACK, &saw(), RENAME));
+    assert!(rt; edits(rt.alloc(), saw().bytes(), RENAME, renamed.bytes(), RENAME_BACK));
+    assert!(rt; edits(rt.alloc(), renamed.bytes(), RENAME_BACK, saw().bytes(), RENAME));
     let (there, back) = (b"rename-sample 0 \"u\"\n", b"rename-sample 0 \"t\"\n");
     let renamed = tone().patched(&[(440, b'u')]);
-    assert!(rt; edits(rt.alloc(), &tone(), there, &renamed, back));
-    assert!(rt; edits(rt.alloc(), &renamed, back, &tone(), there));
+    assert!(rt; edits(rt.alloc(), tone().bytes(), there, renamed.bytes(), back));
+    assert!(rt; edits(rt.alloc(), renamed.bytes(), back, tone().bytes(), there));
     for script in [b"".as_slice(), b"# nothing\n\n", b"\n # x1 \"\n\n"] {
-        assert!(rt; edits(rt.alloc(), &saw(), script, &saw(), b""));
+        assert!(rt; edits(rt.alloc(), saw().bytes(), script, saw().bytes(), b""));
     }
 }
 
@@ -83,7 +78,22 @@ fn scripts_that_are_read(rt: HostRuntime) {
     }
 }
 
-const SYNTAX: [&[u8]; 14] = [
+const SYNTAX: [&[u8]; 29] = [
+    b"remove-sample",
+    b"remove-samples 0",
+    b"set-info",
+    b"set-info INAM",
+    b"set-info XXXX \"a\"",
+    b"set-info inam \"a\"",
+    b"set-info \"INAM\" \"a\"",
+    b"set-info INAM a",
+    b"set-info INAM \"a\" b",
+    b"add-sample 0 \"a\" 0 0 0 stereo noloop x",
+    b"add-sample 0 \"a\" 0 0 0 mono x",
+    b"add-sample 0 \"a\" 0 0 0 mono noloop",
+    b"add-sample 0 \"a\" 0 0 0 right",
+    b"add-sample 0 \"a\" 0 0",
+    b"add-sample 0 a 0 0 0 mono noloop x",
     b"frob 1",
     b"remove-sample 0 0",
     b"x",
@@ -100,7 +110,17 @@ const SYNTAX: [&[u8]; 14] = [
     b"rename-sample 0 a\"",
 ];
 
-const NUMBER: [&[u8]; 8] = [
+const NUMBER: [&[u8]; 18] = [
+    b"remove-sample x",
+    b"remove-sample -1",
+    b"remove-sample 4294967296",
+    b"add-sample 0 \"a\" 4294967296 0 0 mono noloop x",
+    b"add-sample 0 \"a\" 0 256 0 mono noloop x",
+    b"add-sample 0 \"a\" 0 0 128 mono noloop x",
+    b"add-sample 0 \"a\" 0 0 -129 mono noloop x",
+    b"add-sample 0 \"a\" 0 0 0 left 65536 noloop x",
+    b"add-sample 0 \"a\" 0 0 0 left noloop x",
+    b"add-sample 0 \"a\" 0 0 0 mono loop 0 x",
     b"rename-sample zero \"a\"",
     b"rename-sample 4294967296 \"a\"",
     b"rename-sample 00000000000 \"a\"",
@@ -111,7 +131,11 @@ const NUMBER: [&[u8]; 8] = [
     b"rename-sample 0\"a\" \"b\"",
 ];
 
-const LITERAL: [&[u8]; 10] = [
+const LITERAL: [&[u8]; 14] = [
+    b"set-info INAM \"a",
+    b"add-sample 0 \"a\" 0 0 0 mono noloop x01",
+    b"add-sample 0 x00 0 0 0 mono noloop x",
+    b"add-sample 0 \"ABCDEFGHIJKLMNOPQRSTU\" zero 0 0 mono noloop x",
     b"rename-sample 0 xabc",
     b"rename-sample 0 \"ABCDEFGHIJKLMNOPQRSTU\"",
     b"rename-sample 0 x4142004344",
@@ -157,18 +181,18 @@ fn scripts_that_are_refused(rt: HostRuntime) {
     ];
     for (scripts, line) in faults {
         for (row, script) in scripts.iter().enumerate() {
-            assert!(rt; stops(rt.alloc(), &saw(), script, line), "row {row}");
+            assert!(rt; stops(rt.alloc(), saw().bytes(), script, line), "row {row}");
         }
     }
     for (row, (script, line)) in LATER.iter().enumerate() {
-        assert!(rt; stops(rt.alloc(), &saw(), script, line), "row {row}");
+        assert!(rt; stops(rt.alloc(), saw().bytes(), script, line), "row {row}");
     }
     // The faults of the file come first.
     let past = saw().patched(&[(382, 49)]);
     assert!(rt;
         stops(
             rt.alloc(),
-            &past,
+            past.bytes(),
             b"frob 1",
             b"sfbank: read fault 14 SampleRange\n"
         )
@@ -180,7 +204,7 @@ fn an_edit_is_printed(rt: HostRuntime) -> Result<(), Fail> {
     let name = Name20::from_bytes(b"say \"a\"")?;
     let sample = u32::MAX;
     let mut out = Vec::new(rt.alloc());
-    assert!(rt; print(&Edit::RenameSample { sample, name }, &mut out).is_ok());
+    assert!(rt; print(&Edit::One(Step::RenameSample { sample, name }), &mut out).is_ok());
     assert!(rt; out.as_slice() == b"rename-sample 4294967295 x73617920226122\n".as_slice());
     Ok(())
 }

@@ -1,0 +1,12 @@
+//! What only a run can show of scripts: that each form of edit is read, done, refused and taken back,
+//! byte for byte, from a script's text.
+#![tactic(auto)]
+
+#[cfg(test)]
+mod full;
+#[cfg(test)]
+mod samples;
+#[cfg(test)]
+mod scripts;
+#[cfg(test)]
+mod texts;
