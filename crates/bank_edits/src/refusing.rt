@@ -15,6 +15,7 @@ pub(crate) fn refuse(bank: &Bank<'_>, edit: &Edit<'_>) -> Result<(), Cause>
     ensures refusal { Judges (refusal bank.now edit.now) result }
     ensures sound { IsSound bank.now }
 {
+    // For what it says of the bank.
     let _samples = bank.samples();
     match edit {
         Edit::One(step) => refuse_step(bank, step),
@@ -22,6 +23,7 @@ pub(crate) fn refuse(bank: &Bank<'_>, edit: &Edit<'_>) -> Result<(), Cause>
 }
 
 fn refuse_step(bank: &Bank<'_>, step: &Step<'_>) -> Result<(), Cause>
+    requires { IsSound bank.now }
     ensures { Judges (steps.refusal bank.now step.now) result }
 {
     match step {
