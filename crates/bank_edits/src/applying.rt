@@ -5,8 +5,7 @@ ghost use Rattle.bank_edits.specs.Edits.{FitsEdit, IsDone, IsRefused, IsChange, 
 ghost use Rattle.bank_edits.specs.Answers.{Judges};
 
 use crate::cause::{Cause, Refusal};
-use crate::edit::Edit;
-use crate::steps::{change_step, refuse_step};
+use crate::edit::{Edit, change_step, refuse_step};
 use bank_core::Bank;
 use std::alloc::Global;
 
