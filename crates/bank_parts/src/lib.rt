@@ -16,6 +16,6 @@ pub use copying::copy_parts;
 pub use laws::limits_agree;
 pub use limits::Limit;
 pub use parts::{GlobalZone, Instrument, Kind, Parts, Preset, Sample, Zone};
-pub use texts::{InfoId, Text, Texts};
+pub use texts::{InfoId, Texts};
 pub use totals::{Totals, totals_of};
 pub use validity::is_valid;

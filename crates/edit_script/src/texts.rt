@@ -9,7 +9,7 @@ ghost use Rattle.edit_script.specs.Texts.{id_word, ids, info_id, set_info};
 
 use crate::forms::{Form, HasWord, named};
 use bank_edits::Step;
-use bank_parts::{InfoId, Text};
+use bank_parts::InfoId;
 use line_tokens::{Cursor, LineFault, Piece, put_line};
 use sf_base::{Lent, Output};
 use std::io::Write;
@@ -54,7 +54,7 @@ pub(crate) fn set_info<'p>(line: &mut Cursor<'_, 'p>) -> Result<Step<'p>, LineFa
     ensures { Reads (λ s. s) set_info line.old line.new result }
 {
     let id = info_id(line)?;
-    let text = Text::from_bytes(line.literal()?);
+    let text = Lent::new(line.literal()?);
     Ok(Step::SetInfo { id, text })
 }
 
@@ -67,7 +67,7 @@ fn info_id(line: &mut Cursor<'_, '_>) -> Result<InfoId, LineFault>
     named(word).ok_or(LineFault::Syntax)
 }
 
-pub(crate) fn put_set_info<W: Write>(id: InfoId, text: &Text<'_>, output: &mut Output<'_, W>)
+pub(crate) fn put_set_info<W: Write>(id: InfoId, text: &Lent<'_>, output: &mut Output<'_, W>)
     ensures { Puts W.contents output.old output.new (line_text (codes "set-info") (pieces_of (operand.Fixed (id_word id) ∷ operand.Text text.now ∷ []))) }
 {
     let id = Piece::Word(Lent::new(id.word()));
