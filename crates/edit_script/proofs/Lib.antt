@@ -1,5 +1,7 @@
 pub mod ScriptLaws
-pub mod PrintLaws
+pub mod NameLaws
+pub mod OperandLaws
+pub mod PutLaws
 pub mod SpellLaws
 pub mod ReadLaws
 pub mod LineLaws

@@ -1,34 +1,62 @@
--- The grammar of an edit: parts that are read from left to right, up to the first fault.
-use Rattle.std.specs.Prelude.{ℕ, List, codes, Option, Some, None, if◌then◌else◌}
-use Rattle.std.specs.Str.{bytes_eq}
+-- The grammar of an edit: the words of the forms, what each says behind its word, and how it is read,
+-- from left to right, up to the first fault.
+use Rattle.std.specs.Prelude.{ℕ, List, [], ◌∷◌, codes}
+use Rattle.bank_edits.specs.declared.edit.Step.{Step}
+use Rattle.bank_edits.specs.declared.edit.Step.TheVariants.{RenameSample, AddSample, RemoveSample, SetInfo}
 use Rattle.bank_edits.specs.declared.edit.Edit.{Edit}
-use Rattle.bank_edits.specs.declared.edit.Edit.TheVariants.{RenameSample}
+use Rattle.bank_edits.specs.declared.edit.Edit.TheVariants.{One}
 use Rattle.line_tokens.specs.declared.fault.LineFault.TheVariants as faults
-use Rattle.line_tokens.specs.Parts.{Part, ◌>>=◌, pure, or_fault, word, number, name, ended}
+use Rattle.line_tokens.specs.Parts.{Part, ◌>>=◌, or_fault, word, ended}
 use Rattle.edit_script.specs.declared.forms.Form.{Form}
 use Rattle.edit_script.specs.declared.forms.Form.TheVariants as form
+use Rattle.edit_script.specs.Operands.{Operand, Fixed, Number, Name, Text}
+use Rattle.edit_script.specs.Names.{named}
+use Rattle.edit_script.specs.Samples as samples
+use Rattle.edit_script.specs.Texts as texts
 
--- the form that a line's first word names
-abbrev pub form_of : List ℕ → Option Form
-form_of w =
-    if bytes_eq w (codes "rename-sample") then Some form.RenameSample
-    else None
+-- ---- the forms, one line each
 
--- `rename-sample S NAME`
-unfoldable pub rename_sample : Part Edit
-rename_sample = do
-  s ← number 4294967295
-  n ← name
-  pure (RenameSample s n)
+-- the word of a form
+abbrev pub form_word : Form → List ℕ
+form_word form.RenameSample = codes "rename-sample"
+form_word form.AddSample = codes "add-sample"
+form_word form.RemoveSample = codes "remove-sample"
+form_word form.SetInfo = codes "set-info"
 
--- what stands behind the first word, form by form
-abbrev pub operands : Form → Part Edit
-operands form.RenameSample = rename_sample
+abbrev pub forms : List Form
+forms = form.RenameSample ∷ form.AddSample ∷ form.RemoveSample ∷ form.SetInfo ∷ []
 
--- an edit, to the line's end
+-- the form of a step
+abbrev pub form_of : Step → Form
+form_of (RenameSample sample name) = form.RenameSample
+form_of (AddSample at sample) = form.AddSample
+form_of (RemoveSample sample) = form.RemoveSample
+form_of (SetInfo id text) = form.SetInfo
+
+-- what stands behind the word
+abbrev pub operands : Step → List Operand
+operands (RenameSample sample name) = Number 4294967295 sample ∷ Name name ∷ []
+operands (AddSample at sample) = Number 4294967295 at ∷ samples.body_operands sample
+operands (RemoveSample sample) = Number 4294967295 sample ∷ []
+operands (SetInfo id text) = Fixed (texts.id_word id) ∷ Text text ∷ []
+
+-- how it is read
+abbrev pub operands_read : Form → Part Step
+operands_read form.RenameSample = samples.rename_sample
+operands_read form.AddSample = samples.add_sample
+operands_read form.RemoveSample = samples.remove_sample
+operands_read form.SetInfo = texts.set_info
+
+-- ---- an edit
+
+unfoldable pub step : Part Step
+step = do
+  w ← word
+  f ← or_fault faults.Syntax (named form_word forms w)
+  operands_read f
+
+-- a step, to the line's end
 unfoldable pub edit : Part Edit
 edit = do
-  w ← word
-  f ← or_fault faults.Syntax (form_of w)
-  e ← operands f
-  ended e
+  s ← step
+  ended (One s)

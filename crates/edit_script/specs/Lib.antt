@@ -1,3 +1,7 @@
+pub mod Operands
+pub mod Names
+pub mod Samples
+pub mod Texts
 pub mod Grammar
 pub mod Script
 pub mod Printing

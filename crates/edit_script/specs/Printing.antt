@@ -1,30 +1,17 @@
 -- The line that an edit is printed as.
-use Rattle.std.specs.Prelude.{ℕ, suc, List, [], ◌∷◌, ◌++◌, codes}
+use Rattle.std.specs.Prelude.{ℕ, suc, List, [], ◌∷◌}
 use Rattle.std.specs.List.{flat_map, AllByRecursion}
 use Rattle.bank_edits.specs.declared.edit.Edit.{Edit}
-use Rattle.bank_edits.specs.declared.edit.Edit.TheVariants.{RenameSample}
+use Rattle.bank_edits.specs.declared.edit.Edit.TheVariants.{One}
 use Rattle.bank_edits.specs.Edits.{FitsEdit}
-use Rattle.line_tokens.specs.declared.printing.Piece.{Piece}
-use Rattle.line_tokens.specs.declared.printing.Piece.TheVariants.{Number, Name}
-use Rattle.line_tokens.specs.Printing.{joined}
+use Rattle.line_tokens.specs.Printing.{line_text}
 use Rattle.edit_script.specs.declared.parsing.Line.{Line}
+use Rattle.edit_script.specs.Operands.{pieces_of}
+use Rattle.edit_script.specs.Grammar.{form_word, form_of, operands}
 
--- ---- the forms: the word of each, and what stands behind it
-
-abbrev pub form_word : Edit → List ℕ
-form_word (RenameSample s n) = codes "rename-sample"
-
-abbrev pub pieces : Edit → List Piece
-pieces (RenameSample s n) = Number s ∷ Name n ∷ []
-
--- ---- a line
-
-unfoldable pub line_of : Edit → List ℕ
-line_of e = joined (form_word e) (pieces e)
-
--- the line, and a line feed
+-- the line of an edit, with its line feed
 unfoldable pub text_of : Edit → List ℕ
-text_of e = line_of e ++ 10 ∷ []
+text_of (One step) = line_text (form_word (form_of step)) (pieces_of (operands step))
 
 -- ---- several lines
 

@@ -1,17 +1,17 @@
 -- Which texts spell which edits: a relation of lines and what they say, without a reader.
-use Rattle.std.specs.Prelude.{◌≡◌, ◌≤◌, ◌⊎◌, ℕ, suc, List, [], ◌∷◌, length, codes}
-use Rattle.sf_base.specs.Names.{IsName}
+use Rattle.std.specs.Prelude.{◌≡◌, ◌≤◌, ◌⊎◌, ℕ, suc, List, [], ◌∷◌, length}
 use Rattle.bank_edits.specs.declared.edit.Edit.{Edit}
-use Rattle.bank_edits.specs.declared.edit.Edit.TheVariants.{RenameSample}
+use Rattle.bank_edits.specs.declared.edit.Edit.TheVariants.{One}
 use Rattle.line_tokens.specs.declared.cursor.Said.{Said}
-use Rattle.line_tokens.specs.declared.cursor.Said.TheVariants.{Word, Literal}
 use Rattle.line_tokens.specs.Lines.{lines_of}
-use Rattle.line_tokens.specs.Spelling.{Writes, SaysNothing, LineSays}
+use Rattle.line_tokens.specs.Spelling.{SaysNothing, LineSays}
 use Rattle.edit_script.specs.declared.parsing.Line.{Line}
+use Rattle.edit_script.specs.Operands.{Fixed, AllSay}
+use Rattle.edit_script.specs.Grammar.{form_word, form_of, operands}
 
--- what says an edit, form by form
+-- what says an edit: the word of its form, and what stands behind it
 abbrev pub SaysEdit : List Said → Edit → Type 0
-SaysEdit said (RenameSample s n) = (w : List ℕ) × (said ≡ Word (codes "rename-sample") ∷ Word w ∷ Literal n ∷ []) × Writes 4294967295 w s × IsName n
+SaysEdit said (One step) = AllSay said (Fixed (form_word (form_of step)) ∷ operands step)
 
 -- line n says the first of the edits, and the rest are said by what follows
 pub record SaysFirst (n : ℕ) (line : List ℕ) (edits : List Line) (Follow : List Line → Type 0) : Type 0 where

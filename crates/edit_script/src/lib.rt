@@ -1,17 +1,21 @@
 //! The edit script: the text in which edits are said, one on each line.
 //!
 //! [`pool_of`] takes the bytes of all literals of a text, and [`parse`] reads the text's edits over
-//! them. [`print`] writes the line of an edit.
+//! them. [`print`] writes the line of an edit, and [`put_edit`] puts it into an output.
 //!
-//! A script has one form so far, `rename-sample S NAME`, and at most one edit.
+//! The forms are `rename-sample S NAME`, `add-sample S NAME RATE KEY CORR KIND LOOP POINTS`,
+//! `remove-sample S` and `set-info ID TEXT`. A script has at most one edit.
 #![tactic(auto)]
 
+mod edits;
 mod forms;
 mod laws;
 mod parsing;
-mod printing;
+mod samples;
+mod texts;
 
+pub use edits::{print, put_edit};
 pub use laws::{one_reading, printed_lines_spell, spelled_edits_fit, spelled_is_read};
 pub use line_tokens::{ScriptFault, pool_of};
 pub use parsing::{Line, parse};
-pub use printing::{print, print_after};
+pub use samples::put_sample_head;

@@ -81,6 +81,15 @@ name_bytes [] h i = omega arith
 name_bytes (b ∷ n) h zero = h.0.1
 name_bytes (b ∷ n) h (suc i) = name_bytes n h.1 i
 
+pub are_bytes : (bytes : List ℕ) → AllByRecursion (λ b. b < 2 ^ 8) bytes → IsBytes bytes
+are_bytes [] h i = omega arith
+are_bytes (b ∷ bytes) h zero = let l = h.0 in omega (arith, l)
+are_bytes (b ∷ bytes) h (suc i) = are_bytes bytes h.1 i
+
+pub bytes_are : (bytes : List ℕ) → IsBytes bytes → AllByRecursion (λ b. b < 2 ^ 8) bytes
+bytes_are [] h = tt
+bytes_are (b ∷ bytes) h = (let l = h 0 in omega (arith, l), bytes_are bytes (λ i. h (suc i)))
+
 hex_digits : (bytes : List ℕ) → IsBytes bytes → list_all is_hex_digit (encode_lower bytes) ≡ true
 hex_digits bytes h = list_all-from_AllPass is_hex_digit (encode_lower bytes) (decode_of-ok (encode_lower bytes) bytes (decode_of-encode_lower bytes h)).1
 
