@@ -26,6 +26,10 @@ module _ {W : Type 0} {c : W → Option (List ℕ)} where
   pub puts_as : {o p : Output W} (t u : List ℕ) → t ≡ u → Puts c o p t → Puts c o p u
   puts_as {o} {p} t u e h = subst (λ (x : List ℕ). Puts c o p x) e h
 
+  -- two texts that are one
+  pub puts_row : {o p q : Output W} (whole t u : List ℕ) → whole ≡ t ++ u → Puts c o p t → Puts c p q u → Puts c o q whole
+  puts_row whole t u e h k = puts_as (t ++ u) whole (sym e) (puts_then t u h k)
+
 -- ---- in a loop
 
 -- A text on its way: of the whole the rest is still to be put.
@@ -38,6 +42,9 @@ module _ {W : Type 0} {c : W → Option (List ℕ)} {o : Output W} where
   -- at the start all of it is
   pub putting_start : (whole : List ℕ) → Putting c o o whole whole
   putting_start whole = record { gone = []; parts = refl; puts = puts_nothing o }
+
+  pub putting_from : (whole rest : List ℕ) → whole ≡ rest → Putting c o o whole rest
+  putting_from whole rest e = subst (λ (t : List ℕ). Putting c o o whole t) e (putting_start whole)
 
   -- a part was put
   pub putting_step : {p q : Output W} {whole rest : List ℕ} (x others : List ℕ) → Putting c o p whole rest → rest ≡ x ++ others → Puts c p q x → Putting c o q whole others

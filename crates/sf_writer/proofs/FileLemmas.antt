@@ -2,14 +2,14 @@
 use Rattle.std.proofs.Common.{◌≡◌, ◌+◌, ◌%◌, ℕ, List, ◌++◌, length, refl, ap, arith}
 use Rattle.std.proofs.lemmas.List.{length-append, append-nil}
 use Rattle.riff_chunks.specs.Walk.{LIST}
-use Rattle.riff_chunks.specs.Spelling.{chunk_head, spell}
+use Rattle.riff_chunks.specs.Spelling.{spell}
 use Rattle.riff_chunks.proofs.SpellingLemmas.{length-chunk}
 use Rattle.bank_parts.specs.declared.parts.Parts.{Parts}
 use Rattle.bank_format.specs.Ids.{RIFF, SFBK, INFO, SDTA, PDTA}
 use Rattle.bank_format.specs.Tables.{tables_of}
 use Rattle.bank_format.specs.Canon.{info, sdta, pdta, lists, canon}
 use Rattle.sf_writer.specs.Lists.{list_bytes}
-use Rattle.sf_writer.proofs.SentLemmas.{one_after_another, form-even, length-form-even, length-LIST}
+use Rattle.sf_writer.proofs.ChunkLemmas.{length-form-even, length-LIST}
 
 abbrev info_list : Parts → List ℕ
 info_list b = list_bytes INFO (info b)
@@ -28,14 +28,12 @@ lists-is b = ap (λ (t : List ℕ). info_list b ++ (sdta_list b ++ t)) (append-n
 pub length-lists : (b : Parts) → length (spell (lists b)) ≡ length (info_list b) + length (sdta_list b) + length (pdta_list b)
 length-lists b = omega (arith, ap length (lists-is b), length-append (info_list b) (sdta_list b ++ pdta_list b), length-append (sdta_list b) (pdta_list b))
 
-pub ruleset lists_parts = (one_after_another, lists-is, length-lists)
-
-length-SFBK : length SFBK ≡ 4
+pub length-SFBK : length SFBK ≡ 4
 unfolding SFBK
 length-SFBK = refl
 
 -- each list is of even size
-lists-even : (b : Parts) → length (spell (lists b)) % 2 ≡ 0
+pub lists-even : (b : Parts) → length (spell (lists b)) % 2 ≡ 0
 lists-even b =
     omega (
       arith,
@@ -45,13 +43,8 @@ lists-even b =
       length-chunk LIST (PDTA ++ spell (pdta (tables_of b))) length-LIST,
     )
 
--- the file is its head with the form, and the three lists
-pub canon-is : (b : Parts) → canon b ≡ (chunk_head RIFF (4 + length (spell (lists b))) ++ SFBK) ++ spell (lists b)
-unfolding canon
-canon-is b = form-even RIFF SFBK (spell (lists b)) length-SFBK (lists-even b)
-
-pub length-canon : (b : Parts) → length (canon b) ≡ 12 + length (spell (lists b))
+pub length-canon : (b : Parts) → length (canon b) ≡ 8 + length (SFBK ++ spell (lists b))
 unfolding canon RIFF
 length-canon b = length-form-even RIFF SFBK (spell (lists b)) refl length-SFBK (lists-even b)
 
-pub ruleset file_parts = (one_after_another, canon-is, length-canon)
+pub ruleset file_size = (length-canon)

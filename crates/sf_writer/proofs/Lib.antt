@@ -1,5 +1,4 @@
-pub mod SentLemmas
-pub mod PenLemmas
+pub mod ChunkLemmas
 pub mod NameLemmas
 pub mod TextLemmas
 pub mod PointLemmas
@@ -8,3 +7,4 @@ pub mod ZoneListLemmas
 pub mod OwnerHeadLemmas
 pub mod RecordLemmas
 pub mod FileLemmas
+pub mod SizeLemmas

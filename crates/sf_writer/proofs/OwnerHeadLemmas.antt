@@ -1,5 +1,5 @@
 -- The heads of presets and of instruments, and how long they are.
-use Rattle.std.proofs.Common.{◌≡◌, ◌<◌, ◌≤◌, ◌+◌, ◌*◌, ℕ, List, [], ◌∷◌, ◌++◌, length, get_or, drop, refl, ap, sym, ◌∙◌, arith}
+use Rattle.std.proofs.Common.{◌≡◌, ◌<◌, ◌≤◌, ◌+◌, ◌*◌, ◌%◌, ℕ, List, [], ◌∷◌, ◌++◌, length, get_or, drop, refl, ap, sym, ◌∙◌, arith}
 use Rattle.std.specs.Prelude.{sum_by}
 use Rattle.std.specs.List.{flat_map, concat, AllByRecursion}
 use Rattle.std.proofs.lemmas.List.{length-append, append-nil, at_drop_more, drop_all}
@@ -16,7 +16,6 @@ use Rattle.generators.specs.declared.level.Level.TheVariants as level
 use Rattle.bank_format.specs.Ids.{EOP, EOI}
 use Rattle.bank_format.specs.Tables.{tables_of, preset_end, preset_head, preset_heads_from, instrument_end, instrument_head, instrument_heads_from}
 use Rattle.sf_writer.specs.Heads.{heads_from}
-use Rattle.sf_writer.proofs.SentLemmas.{even_chunks}
 use Rattle.sf_writer.proofs.NameLemmas.{length-filled}
 use Rattle.sf_writer.proofs.BagLemmas.{length-bags_written}
 
@@ -89,7 +88,12 @@ length_phdr b v =
     ap (λ (hs : List PresetHead). length (flat_map preset_head_bytes hs)) (phdr-is b)
     ∙ length-heads preset_head_bytes preset_head preset_end preset_bag_count 38 (IsPreset (length b.instruments)) (λ at p v. length-preset_head (preset_head at p) (length-filled p.name v.name)) length-preset_end 0 b.presets v.presets
 
-pub ruleset phdr = (even_chunks, phdr-is, length_phdr)
+-- the heads of the presets that a bank lends are those of its list
+pub phdr-lent : (b : Parts) (presets : List Preset) → presets ≡ b.presets → flat_map preset_head_bytes (heads_from preset_head preset_end preset_bag_count 0 presets) ≡ flat_map preset_head_bytes (tables_of b).phdr
+phdr-lent b presets e = ap (λ (ps : List Preset). flat_map preset_head_bytes (heads_from preset_head preset_end preset_bag_count 0 ps)) e ∙ ap (flat_map preset_head_bytes) (sym (phdr-is b))
+
+pub phdr-even : (b : Parts) → IsValid b → length (flat_map preset_head_bytes (tables_of b).phdr) % 2 ≡ 0
+phdr-even b v = omega (arith, length_phdr b v)
 
 -- ---- instruments
 
@@ -119,4 +123,8 @@ length_inst b v =
     ap (λ (hs : List InstrumentHead). length (flat_map instrument_head_bytes hs)) (inst-is b)
     ∙ length-heads instrument_head_bytes instrument_head instrument_end instrument_bag_count 22 (IsInstrument (length b.samples)) (λ at i v. length-instrument_head (instrument_head at i) (length-filled i.name v.name)) length-instrument_end 0 b.instruments v.instruments
 
-pub ruleset inst = (even_chunks, inst-is, length_inst)
+pub inst-lent : (b : Parts) (instruments : List Instrument) → instruments ≡ b.instruments → flat_map instrument_head_bytes (heads_from instrument_head instrument_end instrument_bag_count 0 instruments) ≡ flat_map instrument_head_bytes (tables_of b).inst
+inst-lent b instruments e = ap (λ (is : List Instrument). flat_map instrument_head_bytes (heads_from instrument_head instrument_end instrument_bag_count 0 is)) e ∙ ap (flat_map instrument_head_bytes) (sym (inst-is b))
+
+pub inst-even : (b : Parts) → IsValid b → length (flat_map instrument_head_bytes (tables_of b).inst) % 2 ≡ 0
+inst-even b v = omega (arith, length_inst b v)

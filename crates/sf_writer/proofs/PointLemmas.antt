@@ -5,7 +5,7 @@ use Rattle.std.proofs.lemmas.List.{length-append, append-nil, at_drop_more}
 use Rattle.std.proofs.lemmas.List.Concat.{flat_map-append}
 use Rattle.std.proofs.lemmas.List.Sums.{sum_by-cons}
 use Rattle.riff_chunks.specs.Walk.{LIST}
-use Rattle.riff_chunks.specs.Spelling.{chunk, chunk_head, spell}
+use Rattle.riff_chunks.specs.Spelling.{chunk, spell}
 use Rattle.sample_view.specs.Words.{word_bytes}
 use Rattle.bank_parts.specs.declared.parts.Sample.{Sample}
 use Rattle.bank_parts.specs.declared.parts.Parts.{Parts}
@@ -13,7 +13,7 @@ use Rattle.bank_parts.specs.Valid.{point_total}
 use Rattle.bank_format.specs.Ids.{SDTA, SMPL}
 use Rattle.bank_format.specs.Tables.{all_points, points_written}
 use Rattle.bank_format.specs.Canon.{sdta}
-use Rattle.sf_writer.proofs.SentLemmas.{one_after_another, pad-even, chunk-even, length-chunk-even, form-even, length-form-even, length-LIST}
+use Rattle.sf_writer.proofs.ChunkLemmas.{length-chunk-even, length-form-even, length-LIST}
 
 -- ---- one sample
 
@@ -55,15 +55,15 @@ pub length_all_points : (b : Parts) → length (flat_map word_bytes (all_points 
 unfolding all_points
 length_all_points b = omega (arith, length-word_bytes (flat_map points_written b.samples), length-points_written b.samples)
 
-all_points-even : (b : Parts) → length (flat_map word_bytes (all_points b)) % 2 ≡ 0
+pub all_points-even : (b : Parts) → length (flat_map word_bytes (all_points b)) % 2 ≡ 0
 all_points-even b = omega (arith, length_all_points b)
 
 -- ---- the list
 
--- the one chunk is its head and the points
-pub sdta-parts : (b : Parts) → spell (sdta b) ≡ chunk_head SMPL (length (flat_map word_bytes (all_points b))) ++ flat_map word_bytes (all_points b)
+-- it has one chunk
+pub sdta-is : (b : Parts) → spell (sdta b) ≡ chunk SMPL (flat_map word_bytes (all_points b))
 unfolding sdta
-sdta-parts b = append-nil (chunk SMPL (flat_map word_bytes (all_points b))) ∙ chunk-even SMPL (flat_map word_bytes (all_points b)) (all_points-even b)
+sdta-is b = append-nil (chunk SMPL (flat_map word_bytes (all_points b)))
 
 pub length-sdta : (b : Parts) → length (spell (sdta b)) ≡ 8 + length (flat_map word_bytes (all_points b))
 unfolding sdta SMPL
@@ -71,19 +71,12 @@ length-sdta b =
     let points = flat_map word_bytes (all_points b) in
     omega (arith, length-append (chunk SMPL points) [], length-chunk-even SMPL points refl (all_points-even b))
 
-sdta-even : (b : Parts) → length (spell (sdta b)) % 2 ≡ 0
+pub sdta-even : (b : Parts) → length (spell (sdta b)) % 2 ≡ 0
 sdta-even b = omega (arith, length-sdta b, all_points-even b)
 
-length-SDTA : length SDTA ≡ 4
+pub length-SDTA : length SDTA ≡ 4
 unfolding SDTA
 length-SDTA = refl
 
-pub sdta_list-is : (b : Parts) → chunk LIST (SDTA ++ spell (sdta b)) ≡ (chunk_head LIST (4 + length (spell (sdta b))) ++ SDTA) ++ spell (sdta b)
-sdta_list-is b = form-even LIST SDTA (spell (sdta b)) length-SDTA (sdta-even b)
-
-pub length-sdta_list : (b : Parts) → length (chunk LIST (SDTA ++ spell (sdta b))) ≡ 12 + length (spell (sdta b))
+pub length-sdta_list : (b : Parts) → length (chunk LIST (SDTA ++ spell (sdta b))) ≡ 8 + length (SDTA ++ spell (sdta b))
 length-sdta_list b = length-form-even LIST SDTA (spell (sdta b)) length-LIST length-SDTA (sdta-even b)
-
-pub ruleset sdta_parts = (one_after_another, sdta-parts, length-sdta)
-
-pub ruleset sdta_list = (one_after_another, sdta_list-is, length-sdta_list, length-sdta)

@@ -7,7 +7,7 @@ use Rattle.std.proofs.lemmas.List.Concat.{flat_map-append}
 use Rattle.byteorder.specs.Endian.{little_bytes}
 use Rattle.generators.specs.declared.level.Level.TheVariants as level
 use Rattle.riff_chunks.specs.Walk.{Chunk, LIST}
-use Rattle.riff_chunks.specs.Spelling.{chunk, chunk_head, spell}
+use Rattle.riff_chunks.specs.Spelling.{chunk, spell}
 use Rattle.riff_chunks.proofs.SpellingLemmas.{length-chunk}
 use Rattle.hydra_records.specs.declared.head.SampleHead.{SampleHead}
 use Rattle.hydra_records.specs.Spelling.{preset_head_bytes, instrument_head_bytes, sample_head_bytes}
@@ -18,7 +18,7 @@ use Rattle.bank_format.specs.Ids.{PDTA, PHDR, INST, SHDR, EOS}
 use Rattle.bank_format.specs.Tables.{tables_of, sample_end, sample_head, sample_heads_from, all_preset_bags, all_instrument_bags}
 use Rattle.bank_format.specs.Canon.{pdta}
 use Rattle.sf_writer.specs.Lists.{zone_lists}
-use Rattle.sf_writer.proofs.SentLemmas.{one_after_another, chunk-even, form-even, length-form-even, length-LIST}
+use Rattle.sf_writer.proofs.ChunkLemmas.{length-form-even, length-LIST}
 use Rattle.sf_writer.proofs.NameLemmas.{length-filled}
 use Rattle.sf_writer.proofs.ZoneListLemmas.{length_zone_lists}
 
@@ -52,9 +52,6 @@ length-sample_end : length (sample_head_bytes sample_end) ≡ 46
 unfolding EOS
 length-sample_end = length-head sample_end refl
 
-pub shdr_list-is : (b : Parts) → length (heads b) % 2 ≡ 0 → chunk SHDR (heads b) ≡ chunk_head SHDR (length (heads b)) ++ heads b
-shdr_list-is b even = chunk-even SHDR (heads b) even
-
 pub length-shdr_list : (b : Parts) → length (chunk SHDR (heads b)) ≡ 8 + length (heads b) + length (heads b) % 2
 unfolding SHDR
 length-shdr_list b = length-chunk SHDR (heads b) refl
@@ -71,9 +68,8 @@ length-shdr_parts b =
 pub length_shdr : (b : Parts) → IsValid b → length (heads b) ≡ 46 * (length b.samples + 1)
 length_shdr b v = omega (arith, length-shdr_parts b, length-heads (length b.samples) 0 b.samples v.samples)
 
-pub ruleset shdr_list = (length-shdr_list)
-
-pub ruleset shdr_parts = (one_after_another, shdr_list-is, length-shdr_list)
+pub shdr-even : (b : Parts) → IsValid b → length (heads b) % 2 ≡ 0
+shdr-even b v = omega (arith, length_shdr b v)
 
 -- the heads of the samples from place i on, and the last record
 unfoldable pub heads_left : ℕ → ℕ → List Sample → List ℕ
@@ -137,7 +133,7 @@ length-pdta b =
       length-append (instrument_lists b) (chunk SHDR (heads b)),
     )
 
-pdta-even : (b : Parts) → length (spell (pdta (tables_of b))) % 2 ≡ 0
+pub pdta-even : (b : Parts) → length (spell (pdta (tables_of b))) % 2 ≡ 0
 unfolding PHDR INST
 pdta-even b =
     omega (
@@ -150,16 +146,9 @@ pdta-even b =
       length-shdr_list b,
     )
 
-length-PDTA : length PDTA ≡ 4
+pub length-PDTA : length PDTA ≡ 4
 unfolding PDTA
 length-PDTA = refl
 
-pub pdta_list-is : (b : Parts) → chunk LIST (PDTA ++ spell (pdta (tables_of b))) ≡ (chunk_head LIST (4 + length (spell (pdta (tables_of b)))) ++ PDTA) ++ spell (pdta (tables_of b))
-pdta_list-is b = form-even LIST PDTA (spell (pdta (tables_of b))) length-PDTA (pdta-even b)
-
-pub length-pdta_list : (b : Parts) → length (chunk LIST (PDTA ++ spell (pdta (tables_of b)))) ≡ 12 + length (spell (pdta (tables_of b)))
+pub length-pdta_list : (b : Parts) → length (chunk LIST (PDTA ++ spell (pdta (tables_of b)))) ≡ 8 + length (PDTA ++ spell (pdta (tables_of b)))
 length-pdta_list b = length-form-even LIST PDTA (spell (pdta (tables_of b))) length-LIST length-PDTA (pdta-even b)
-
-pub ruleset pdta_parts = (one_after_another, pdta-is, length-pdta)
-
-pub ruleset pdta_list = (one_after_another, pdta_list-is, length-pdta_list)

@@ -5,8 +5,7 @@ use Rattle.std.proofs.lemmas.Bool.{cases_eq, eq-eqb, ne_eqb}
 use Rattle.std.proofs.lemmas.List.{length-append, append-nil}
 use Rattle.std.proofs.lemmas.List.Concat.{flat_map-append}
 use Rattle.riff_chunks.specs.Walk.{Chunk, LIST}
-use Rattle.riff_chunks.specs.Spelling.{chunk, chunk_head, spell}
-use Rattle.riff_chunks.proofs.SpellingLemmas.{length-chunk}
+use Rattle.riff_chunks.specs.Spelling.{chunk, spell}
 use Rattle.bank_parts.specs.declared.parts.Parts.{Parts}
 use Rattle.bank_parts.specs.declared.texts.InfoId.{InfoId}
 use Rattle.bank_parts.specs.declared.texts.InfoId.TheVariants.{Engine, Name, Date, Engineers, Product, Copyright, Comment, Software}
@@ -16,7 +15,7 @@ use Rattle.bank_format.specs.Ids.{INFO, IFIL, ISNG, INAM, ICRD, IENG, IPRD, ICOP
 use Rattle.bank_format.specs.Texts.{text_body}
 use Rattle.bank_format.specs.Canon.{version, text_chunk_if, info}
 use Rattle.sf_writer.specs.Info.{text_id, optional_chunk}
-use Rattle.sf_writer.proofs.SentLemmas.{one_after_another, pad-even, length-chunk-even, form-even, length-form-even, length-LIST}
+use Rattle.sf_writer.proofs.ChunkLemmas.{length-chunk-even, length-form-even, length-LIST}
 
 -- ---- one text
 
@@ -52,8 +51,6 @@ length-text_of-le b Software v = let h = v.texts.software in omega (arith, h)
 
 pub length-text : (which : InfoId) (text : List ℕ) → length (chunk (text_id which) (text_body text)) ≡ 8 + length (text_body text)
 length-text which text = length-chunk-even (text_id which) (text_body text) (length-text_id which) (text_body-even text)
-
-pub ruleset text_chunk = (one_after_another, pad-even, text_body-even, length-chunk)
 
 -- ---- a text that is left out where it is empty
 
@@ -131,17 +128,12 @@ info-even b =
       optional-even b optional_texts,
     )
 
-pub ruleset info_parts = (one_after_another, info-parts, length-info, length-version)
+pub ruleset info_size = (length-info, length-version)
 
 pub length-INFO : length INFO ≡ 4
 unfolding INFO
 length-INFO = refl
 
--- the list is its head with the form, and its chunks
-pub info_list-is : (b : Parts) → chunk LIST (INFO ++ spell (info b)) ≡ (chunk_head LIST (4 + length (spell (info b))) ++ INFO) ++ spell (info b)
-info_list-is b = form-even LIST INFO (spell (info b)) length-INFO (info-even b)
-
-pub length-info_list : (b : Parts) → length (chunk LIST (INFO ++ spell (info b))) ≡ 12 + length (spell (info b))
+-- the list
+pub length-info_list : (b : Parts) → length (chunk LIST (INFO ++ spell (info b))) ≡ 8 + length (INFO ++ spell (info b))
 length-info_list b = length-form-even LIST INFO (spell (info b)) length-LIST length-INFO (info-even b)
-
-pub ruleset info_list = (one_after_another, info_list-is, length-info_list)

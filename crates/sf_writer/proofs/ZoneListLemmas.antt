@@ -4,14 +4,14 @@ use Rattle.std.specs.List.{flat_map}
 use Rattle.std.proofs.lemmas.List.{length-append, append-nil}
 use Rattle.generators.specs.declared.level.Level.{Level}
 use Rattle.generators.specs.declared.level.Level.TheVariants.{Preset, Instrument}
-use Rattle.riff_chunks.specs.Spelling.{chunk, chunk_head, spell}
+use Rattle.riff_chunks.specs.Spelling.{chunk, spell}
 use Rattle.hydra_records.specs.Spelling.{bag_bytes, modulator_bytes, generator_bytes}
 use Rattle.bank_format.specs.Ids.{PBAG, PMOD, PGEN, IBAG, IMOD, IGEN}
 use Rattle.bank_format.specs.Zones.{Bagged}
 use Rattle.bank_format.specs.Tables.{bag_list, mod_list, gen_list}
 use Rattle.sf_writer.specs.Bags.{all_gens, all_mods}
 use Rattle.sf_writer.specs.Lists.{bag_id, mod_id, gen_id, zone_lists}
-use Rattle.sf_writer.proofs.SentLemmas.{one_after_another, chunk-even, length-chunk-even}
+use Rattle.sf_writer.proofs.ChunkLemmas.{length-chunk-even}
 use Rattle.sf_writer.proofs.BagLemmas.{length-bag_list, length-mod_list, length-gen_list}
 
 -- ---- each list
@@ -40,25 +40,14 @@ unfolding PGEN IGEN
 length-gen_id Preset = refl
 length-gen_id Instrument = refl
 
-bags-even : (bags : List Bagged) → length (bag_records bags) % 2 ≡ 0
+pub bags-even : (bags : List Bagged) → length (bag_records bags) % 2 ≡ 0
 bags-even bags = omega (arith, length-bag_list bags)
 
-mods-even : (bags : List Bagged) → length (mod_records bags) % 2 ≡ 0
+pub mods-even : (bags : List Bagged) → length (mod_records bags) % 2 ≡ 0
 mods-even bags = omega (arith, length-mod_list bags)
 
-gens-even : (bags : List Bagged) → length (gen_records bags) % 2 ≡ 0
+pub gens-even : (bags : List Bagged) → length (gen_records bags) % 2 ≡ 0
 gens-even bags = omega (arith, length-gen_list bags)
-
-pub bag_chunk-is : (at : Level) (bags : List Bagged) → chunk (bag_id at) (bag_records bags) ≡ chunk_head (bag_id at) (length (bag_records bags)) ++ bag_records bags
-bag_chunk-is at bags = chunk-even (bag_id at) (bag_records bags) (bags-even bags)
-
-pub mod_chunk-is : (at : Level) (bags : List Bagged) → chunk (mod_id at) (mod_records bags) ≡ chunk_head (mod_id at) (length (mod_records bags)) ++ mod_records bags
-mod_chunk-is at bags = chunk-even (mod_id at) (mod_records bags) (mods-even bags)
-
-pub gen_chunk-is : (at : Level) (bags : List Bagged) → chunk (gen_id at) (gen_records bags) ≡ chunk_head (gen_id at) (length (gen_records bags)) ++ gen_records bags
-gen_chunk-is at bags = chunk-even (gen_id at) (gen_records bags) (gens-even bags)
-
-pub ruleset zone_chunks = (one_after_another, bag_chunk-is, mod_chunk-is, gen_chunk-is)
 
 pub length-bag_chunk : (at : Level) (bags : List Bagged) → length (chunk (bag_id at) (bag_records bags)) ≡ 8 + length (bag_records bags)
 length-bag_chunk at bags = length-chunk-even (bag_id at) (bag_records bags) (length-bag_id at) (bags-even bags)
@@ -97,4 +86,4 @@ length_zone_lists at bags =
       length-gen_list bags,
     )
 
-pub ruleset zone_list_parts = (one_after_another, zone_lists-is, length-zone_chunks, length-bag_chunk, length-mod_chunk, length-gen_chunk, length-bag_list, length-mod_list, length-gen_list)
+pub ruleset zone_sizes = (length-bag_list, length-mod_list, length-gen_list)

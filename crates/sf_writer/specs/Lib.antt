@@ -2,3 +2,4 @@ pub mod Info
 pub mod Bags
 pub mod Heads
 pub mod Lists
+pub mod Sizes

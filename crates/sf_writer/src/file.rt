@@ -1,79 +1,60 @@
 //! The whole file: the form `sfbk` with its three lists.
-ghost use Rattle.std.specs.Prelude.{◌≡◌, ◌+◌, ◌<◌, ◌^◌, length};
-ghost use Rattle.sf_base.specs.Writing.{Sends, Writes};
+ghost use Rattle.std.specs.Prelude.{◌≡◌, ◌++◌, length};
+ghost use Rattle.sf_base.specs.Output.{Puts};
+ghost use Rattle.sf_base.specs.Writing.{Writes};
 ghost use Rattle.riff_chunks.specs.Spelling.{spell};
 ghost use Rattle.bank_format.specs.Canon.{canon, lists};
+ghost use Rattle.sf_writer.specs.Sizes.{AreSizes};
 
-use crate::chunks::{FORM_HEAD_SIZE, write_form_head};
-use crate::info::{info_size, write_info};
-use crate::points::{sdta_size, write_sdta};
-use crate::records::{pdta_size, write_pdta};
+use crate::chunks::{HEAD_SIZE, put_form_head};
+use crate::info::put_info;
+use crate::points::put_sdta;
+use crate::records::put_pdta;
+use crate::sizes::Sizes;
 use bank_core::Bank;
-use riff_chunks::ChunkWriter;
-use sf_base::WriteFault;
+use sf_base::{Output, WriteFault};
 use std::io::Write;
 
-/// Writes the bank's canonical file. Takes no memory, and does not flush.
+/// Puts the bank's canonical file. Takes no memory.
 ///
 /// The file holds the lists `INFO`, `sdta` and `pdta`: the version, the engine and the name, and each
 /// other text that is not empty; the points of each sample, each followed by 46 zero points; the nine
 /// lists of records.
+pub fn put_bank<W: Write>(bank: &Bank<'_>, output: &mut Output<'_, W>)
+    ensures { Puts W.contents output.old output.new (canon bank.now) }
+{
+    let sizes = Sizes::of(bank);
+    put_form_head(output, *b"RIFF", *b"sfbk", sizes.file);
+    put_lists(output, bank, sizes);
+}
+
+/// Writes the bank's canonical file as `put_bank` puts it. It does not flush.
 ///
 /// A writer that answers an error, or takes no byte, is the fault. It tells how many bytes of the
 /// file went out before, which are never all of them. There is no retry.
 pub fn write<W: Write>(bank: &Bank<'_>, out: &mut W) -> Result<(), WriteFault>
     ensures { Writes (W.contents out.old) (W.contents out.new) (canon bank.now) result }
 {
-    write_counted(bank, out)?;
+    let mut output = Output::to(out);
+    put_bank(bank, &mut output);
+    output.end()?;
     Ok(())
 }
 
-/// Writes the bank's canonical file as `write` does, and gives its length in bytes.
-pub fn write_counted<W: Write>(bank: &Bank<'_>, out: &mut W) -> Result<u64, WriteFault>
-    ensures { Sends (W.contents out.old) (W.contents out.new) 0 (canon bank.now) result }
-{
-    let writer = write_file(out, bank)?;
-    Ok(writer.sent())
-}
-
 /// The length of the bank's canonical file in bytes. Takes no memory.
-#[tactic(auto, using(crate::proofs::FileLemmas::file_parts))]
+#[tactic(auto, using(crate::proofs::FileLemmas::file_size))]
 pub fn encoded_len(bank: &Bank<'_>) -> u64
     ensures { result ≡ length (canon bank.now) }
 {
-    u64::from(FORM_HEAD_SIZE + lists_size(bank))
+    u64::from(HEAD_SIZE) + u64::from(Sizes::of(bank).file)
 }
 
-// Writes the chunk `RIFF` of the form `sfbk`.
-#[tactic(auto, using(crate::proofs::FileLemmas::file_parts), unfolding(bank_format::specs::Ids::RIFF, bank_format::specs::Ids::SFBK))]
-fn write_file<W: Write>(out: &mut W, bank: &Bank<'_>) -> Result<ChunkWriter, WriteFault>
-    ensures { Sends (W.contents out.old) (W.contents out.new) 0 (canon bank.now) result }
+// Puts the three lists.
+fn put_lists<W: Write>(output: &mut Output<'_, W>, bank: &Bank<'_>, sizes: Sizes)
+    requires { AreSizes bank.now sizes }
+    ensures { Puts W.contents output.old output.new (spell (lists bank.now)) }
 {
-    let start = ChunkWriter::after(0);
-    let writer = write_form_head(start, out, *b"RIFF", *b"sfbk", lists_size(bank))?;
-    write_lists(writer, out, bank)
-}
-
-// How many bytes the three lists have.
-#[tactic(auto, using(crate::proofs::FileLemmas::lists_parts))]
-fn lists_size(bank: &Bank<'_>) -> u32
-    ensures value { result ≡ length (spell (lists bank.now)) }
-    ensures small { result < 2 ^ 31 }
-{
-    info_size(bank) + sdta_size(bank) + pdta_size(bank)
-}
-
-// Writes the three lists.
-#[tactic(auto, using(crate::proofs::FileLemmas::lists_parts))]
-fn write_lists<W: Write>(
-    writer: ChunkWriter,
-    out: &mut W,
-    bank: &Bank<'_>,
-) -> Result<ChunkWriter, WriteFault>
-    requires { writer + length (spell (lists bank.now)) < 2 ^ 64 }
-    ensures { Sends (W.contents out.old) (W.contents out.new) writer (spell (lists bank.now)) result }
-{
-    let writer = write_info(writer, out, bank)?;
-    let writer = write_sdta(writer, out, bank)?;
-    write_pdta(writer, out, bank)
+    put_info(output, bank, sizes.info);
+    put_sdta(output, bank, sizes.sdta, sizes.smpl);
+    put_pdta(output, bank, sizes);
 }

@@ -1,6 +1,6 @@
 //! The list `INFO`: the version and the texts (SoundFont 2.04, section 5).
 ghost use Rattle.std.specs.Prelude.{◌≡◌, ◌+◌, ◌<◌, ◌≤◌, ◌%◌, ◌^◌, ◌==◌, ◌++◌, ◌∷◌, [], flat_map, length, replicate, if◌then◌else◌};
-ghost use Rattle.sf_base.specs.Writing.{Sends};
+ghost use Rattle.sf_base.specs.Output.{Puts};
 ghost use Rattle.riff_chunks.specs.Spelling.{chunk, spell};
 ghost use Rattle.bank_format.specs.Canon.{info, version};
 ghost use Rattle.bank_format.specs.Ids.{IFIL, INFO};
@@ -8,10 +8,10 @@ ghost use Rattle.bank_format.specs.Texts.{text_body};
 ghost use Rattle.sf_writer.specs.Info.{text_id, text_bytes, optional_chunk};
 ghost use Rattle.sf_writer.specs.Lists.{list_bytes};
 
-use crate::chunks::{FORM_HEAD_SIZE, HEAD_SIZE, write_chunk, write_form_head};
+use crate::chunks::{HEAD_SIZE, put_chunk, put_form_head};
 use bank_core::{Bank, InfoId};
-use riff_chunks::{ChunkWriter, LIST_ID};
-use sf_base::WriteFault;
+use riff_chunks::{LIST_ID, put_head};
+use sf_base::Output;
 use std::io::Write;
 
 /// The bytes of the chunk `ifil`, its head counted.
@@ -27,18 +27,9 @@ const OPTIONAL_TEXTS: [InfoId; 6] = [
     InfoId::Software,
 ];
 
-// How many bytes the list has, its head counted.
-#[tactic(auto, using(crate::proofs::TextLemmas::info_list), unfolding(bank_format::specs::Ids::INFO, riff_chunks::specs::Walk::LIST))]
-pub(crate) fn info_size(bank: &Bank<'_>) -> u32
-    ensures value { result ≡ length (list_bytes INFO (info bank.now)) }
-    ensures small { result < 2 ^ 22 }
-{
-    FORM_HEAD_SIZE + chunks_size(bank)
-}
-
 // How many bytes the chunks in the list have.
-#[tactic(auto, using(crate::proofs::TextLemmas::info_parts))]
-fn chunks_size(bank: &Bank<'_>) -> u32
+#[tactic(auto, using(crate::proofs::TextLemmas::info_size))]
+pub(crate) fn chunks_size(bank: &Bank<'_>) -> u32
     ensures value { result ≡ length (spell (info bank.now)) }
     ensures small { result < 2 ^ 21 }
 {
@@ -114,101 +105,62 @@ fn id_of(which: InfoId) -> [u8; 4]
     }
 }
 
-// Writes the list.
-#[tactic(auto, using(crate::proofs::TextLemmas::info_list), unfolding(bank_format::specs::Ids::INFO, riff_chunks::specs::Walk::LIST))]
-pub(crate) fn write_info<W: Write>(
-    writer: ChunkWriter,
-    out: &mut W,
-    bank: &Bank<'_>,
-) -> Result<ChunkWriter, WriteFault>
-    requires { writer + length (list_bytes INFO (info bank.now)) < 2 ^ 64 }
-    ensures { Sends (W.contents out.old) (W.contents out.new) writer
-        (list_bytes INFO (info bank.now)) result }
+// Puts the list.
+pub(crate) fn put_info<W: Write>(output: &mut Output<'_, W>, bank: &Bank<'_>, size: u32)
+    requires { size ≡ length (INFO ++ spell (info bank.now)) }
+    ensures { Puts W.contents output.old output.new (list_bytes INFO (info bank.now)) }
 {
-    let writer = write_form_head(writer, out, LIST_ID, *b"INFO", chunks_size(bank))?;
-    write_chunks(writer, out, bank)
+    put_form_head(output, LIST_ID, *b"INFO", size);
+    put_chunks(output, bank);
 }
 
-// Writes the chunks in the list.
-#[tactic(auto, using(crate::proofs::TextLemmas::info_parts))]
-fn write_chunks<W: Write>(
-    writer: ChunkWriter,
-    out: &mut W,
-    bank: &Bank<'_>,
-) -> Result<ChunkWriter, WriteFault>
-    requires { writer + length (spell (info bank.now)) < 2 ^ 64 }
-    ensures { Sends (W.contents out.old) (W.contents out.new) writer (spell (info bank.now)) result }
+// Puts the chunks in the list.
+fn put_chunks<W: Write>(output: &mut Output<'_, W>, bank: &Bank<'_>)
+    ensures { Puts W.contents output.old output.new (spell (info bank.now)) }
 {
-    let writer = write_version(writer, out, bank)?;
-    let writer = write_text(writer, out, bank, InfoId::Engine)?;
-    let writer = write_text(writer, out, bank, InfoId::Name)?;
-    write_texts(writer, out, bank, &OPTIONAL_TEXTS)
+    put_version(output, bank);
+    put_text(output, bank, InfoId::Engine);
+    put_text(output, bank, InfoId::Name);
+    put_texts(output, bank, &OPTIONAL_TEXTS);
 }
 
-// Writes the version of the format: the major one is 2.
+// Puts the version of the format: the major one is 2.
 #[tactic(auto, unfolding(bank_format::specs::Ids::IFIL))]
-fn write_version<W: Write>(
-    writer: ChunkWriter,
-    out: &mut W,
-    bank: &Bank<'_>,
-) -> Result<ChunkWriter, WriteFault>
-    requires { writer + 12 < 2 ^ 64 }
-    ensures { Sends (W.contents out.old) (W.contents out.new) writer
-        (chunk IFIL (version bank.now)) result }
+fn put_version<W: Write>(output: &mut Output<'_, W>, bank: &Bank<'_>)
+    ensures { Puts W.contents output.old output.new (chunk IFIL (version bank.now)) }
 {
     let [low, high] = bank.minor().to_le_bytes();
-    write_chunk(writer, out, *b"ifil", &[2, 0, low, high])
+    put_chunk(output, *b"ifil", &[2, 0, low, high]);
 }
 
-// Writes a text as a chunk.
-#[tactic(auto, using(crate::proofs::TextLemmas::text_chunk))]
-fn write_text<W: Write>(
-    writer: ChunkWriter,
-    out: &mut W,
-    bank: &Bank<'_>,
-    which: InfoId,
-) -> Result<ChunkWriter, WriteFault>
-    requires { writer + length (text_bytes bank.now which) < 2 ^ 64 }
-    ensures { Sends (W.contents out.old) (W.contents out.new) writer (text_bytes bank.now which) result }
+// Puts a text as a chunk.
+fn put_text<W: Write>(output: &mut Output<'_, W>, bank: &Bank<'_>, which: InfoId)
+    ensures { Puts W.contents output.old output.new (text_bytes bank.now which) }
 {
     let text = bank.info(which);
-    let writer = writer.head(out, id_of(which), body_size(text))?;
-    let writer = writer.body(out, text)?;
-    writer.body(out, text_end(text))
+    put_head(output, id_of(which), body_size(text));
+    output.put(text);
+    output.put(text_end(text));
 }
 
-// Writes those of the texts that are not empty.
-fn write_texts<W: Write>(
-    writer: ChunkWriter,
-    out: &mut W,
-    bank: &Bank<'_>,
-    texts: &[InfoId],
-) -> Result<ChunkWriter, WriteFault>
-    requires { writer + length (spell (flat_map (optional_chunk bank.now) texts.now)) < 2 ^ 64 }
-    ensures { Sends (W.contents out.old) (W.contents out.new) writer
-        (spell (flat_map (optional_chunk bank.now) texts.now)) result }
+// Puts those of the texts that are not empty.
+#[tactic(auto, using(sf_base::proofs::OutputLaws::putting_start, sf_base::proofs::OutputLaws::putting_end))]
+fn put_texts<W: Write>(output: &mut Output<'_, W>, bank: &Bank<'_>, texts: &[InfoId])
+    ensures { Puts W.contents output.old output.new
+        (spell (flat_map (optional_chunk bank.now) texts.now)) }
 {
-    let mut writer = writer;
     for which in texts {
-        writer = write_optional_text(writer, out, bank, *which)?;
+        put_optional_text(output, bank, *which);
     }
-    Ok(writer)
 }
 
-// Writes a text as a chunk, and nothing if it is empty.
-#[tactic(auto, using(crate::proofs::TextLemmas::texts))]
-fn write_optional_text<W: Write>(
-    writer: ChunkWriter,
-    out: &mut W,
-    bank: &Bank<'_>,
-    which: InfoId,
-) -> Result<ChunkWriter, WriteFault>
-    requires { writer + length (spell (optional_chunk bank.now which)) < 2 ^ 64 }
-    ensures { Sends (W.contents out.old) (W.contents out.new) writer
-        (spell (optional_chunk bank.now which)) result }
+// Puts a text as a chunk, and nothing if it is empty.
+#[tactic(auto, using(crate::proofs::TextLemmas::texts, sf_base::proofs::OutputLaws::puts_nothing))]
+fn put_optional_text<W: Write>(output: &mut Output<'_, W>, bank: &Bank<'_>, which: InfoId)
+    ensures { Puts W.contents output.old output.new (spell (optional_chunk bank.now which)) }
 {
     if bank.info(which).is_empty() {
-        return Ok(writer);
+        return;
     }
-    write_text(writer, out, bank, which)
+    put_text(output, bank, which);
 }

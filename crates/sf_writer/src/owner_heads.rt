@@ -1,8 +1,7 @@
 //! The lists `phdr` and `inst`: the heads of presets and of instruments, which own zones (SoundFont
 //! 2.04, sections 7.2 and 7.6).
 ghost use Rattle.std.specs.Prelude.{◌≡◌, ◌+◌, ◌*◌, ◌<◌, ◌≤◌, ◌^◌, ℕ, length, flat_map, sum_by};
-ghost use Rattle.sf_base.specs.Writing.{Sends};
-ghost use Rattle.sf_base.specs.Pen.{HasRoom, Puts};
+ghost use Rattle.sf_base.specs.Output.{Puts};
 ghost use Rattle.hydra_records.specs.Spelling.{preset_head_bytes, instrument_head_bytes};
 ghost use Rattle.bank_format.specs.Ids.{PHDR, INST};
 ghost use Rattle.bank_format.specs.Tables.{tables_of};
@@ -10,16 +9,15 @@ ghost use Rattle.sf_writer.specs.Heads.{heads_from};
 ghost use Rattle.sf_writer.specs.Lists.{table_bytes};
 
 use crate::bags::bag_count;
-use crate::chunks::{HEAD_SIZE, finish};
 use crate::terminals::{instrument_end, preset_end};
 use bank_core::{Bank, Instrument, Preset};
 use hydra_records::{InstrumentHead, PresetHead, Spelled};
-use riff_chunks::ChunkWriter;
-use sf_base::{Pen, WriteFault};
+use riff_chunks::put_head;
+use sf_base::Output;
 use std::io::Write;
 
 /// What owns zones and has a head of `N` bytes: a preset or an instrument.
-trait Headed<const N: usize> {
+pub(crate) trait Headed<const N: usize> {
     /// The record that its head is.
     type Head: Spelled<N> + Copy;
 
@@ -116,94 +114,45 @@ impl Headed<22> for Instrument {
     }
 }
 
-// How many bytes the list `phdr` has, its head counted.
-#[tactic(auto, using(crate::proofs::OwnerHeadLemmas::phdr), unfolding(bank_format::specs::Ids::PHDR))]
-pub(crate) fn phdr_size(bank: &Bank<'_>) -> u32
-    ensures value { result ≡ length (table_bytes PHDR preset_head_bytes (tables_of bank.now).phdr) }
-    ensures small { result < 2 ^ 22 }
+// Puts the list `phdr`.
+pub(crate) fn put_phdr<W: Write>(output: &mut Output<'_, W>, bank: &Bank<'_>, size: u32)
+    requires { size ≡ length (flat_map preset_head_bytes (tables_of bank.now).phdr) }
+    ensures { Puts W.contents output.old output.new
+        (table_bytes PHDR preset_head_bytes (tables_of bank.now).phdr) }
 {
-    HEAD_SIZE + heads_size(bank.presets())
+    put_head(output, *b"phdr", size);
+    put_heads(output, bank.presets());
 }
 
-// Writes the list `phdr`.
-#[tactic(auto, using(crate::proofs::OwnerHeadLemmas::phdr), unfolding(bank_format::specs::Ids::PHDR))]
-pub(crate) fn write_phdr<W: Write>(
-    writer: ChunkWriter,
-    out: &mut W,
-    bank: &Bank<'_>,
-) -> Result<ChunkWriter, WriteFault>
-    requires { writer + length (table_bytes PHDR preset_head_bytes (tables_of bank.now).phdr) < 2 ^ 64 }
-    ensures { Sends (W.contents out.old) (W.contents out.new) writer
-        (table_bytes PHDR preset_head_bytes (tables_of bank.now).phdr) result }
+// Puts the list `inst`.
+pub(crate) fn put_inst<W: Write>(output: &mut Output<'_, W>, bank: &Bank<'_>, size: u32)
+    requires { size ≡ length (flat_map instrument_head_bytes (tables_of bank.now).inst) }
+    ensures { Puts W.contents output.old output.new
+        (table_bytes INST instrument_head_bytes (tables_of bank.now).inst) }
 {
-    let presets = bank.presets();
-    let writer = writer.head(out, *b"phdr", heads_size(presets))?;
-    write_heads(writer, out, presets)
-}
-
-// How many bytes the list `inst` has, its head counted.
-#[tactic(auto, using(crate::proofs::OwnerHeadLemmas::inst), unfolding(bank_format::specs::Ids::INST))]
-pub(crate) fn inst_size(bank: &Bank<'_>) -> u32
-    ensures value { result ≡ length (table_bytes INST instrument_head_bytes (tables_of bank.now).inst) }
-    ensures small { result < 2 ^ 21 }
-{
-    HEAD_SIZE + heads_size(bank.instruments())
-}
-
-// Writes the list `inst`.
-#[tactic(auto, using(crate::proofs::OwnerHeadLemmas::inst), unfolding(bank_format::specs::Ids::INST))]
-pub(crate) fn write_inst<W: Write>(
-    writer: ChunkWriter,
-    out: &mut W,
-    bank: &Bank<'_>,
-) -> Result<ChunkWriter, WriteFault>
-    requires { writer + length (table_bytes INST instrument_head_bytes (tables_of bank.now).inst) < 2 ^ 64 }
-    ensures { Sends (W.contents out.old) (W.contents out.new) writer
-        (table_bytes INST instrument_head_bytes (tables_of bank.now).inst) result }
-{
-    let instruments = bank.instruments();
-    let writer = writer.head(out, *b"inst", heads_size(instruments))?;
-    write_heads(writer, out, instruments)
+    put_head(output, *b"inst", size);
+    put_heads(output, bank.instruments());
 }
 
 // How many bytes the heads and the last record have.
-fn heads_size<const N: usize, T: Headed<N>>(owners: &[T]) -> u32
+pub(crate) fn heads_size<const N: usize, T: Headed<N>>(owners: &[T]) -> u32
     requires { length owners.now ≤ 65535 }
     ensures { result ≡ (length owners.now + 1) * N }
 {
     ((owners.len() + 1) * N) as u32
 }
 
-fn write_heads<const N: usize, T: Headed<N>, W: Write>(
-    writer: ChunkWriter,
-    out: &mut W,
-    owners: &[T],
-) -> Result<ChunkWriter, WriteFault>
-    requires bags { sum_by T.bag_count owners.now ≤ 65535 }
-    requires room { writer + length (flat_map T.Head.bytes_of (heads_from T.head T.last T.bag_count 0 owners.now)) < 2 ^ 64 }
-    ensures { Sends (W.contents out.old) (W.contents out.new) writer
-        (flat_map T.Head.bytes_of (heads_from T.head T.last T.bag_count 0 owners.now)) result }
-{
-    let mut pen = Pen::after(writer.sent());
-    put_heads(&mut pen, out, owners)?;
-    finish(pen, out)
-}
-
 // Each head says how many bags stand before those of its owner, and the last one how many there are.
-fn put_heads<const N: usize, T: Headed<N>, W: Write>(
-    pen: &mut Pen,
-    out: &mut W,
-    owners: &[T],
-) -> Result<(), WriteFault>
-    requires bags { sum_by T.bag_count owners.now ≤ 65535 }
-    requires room { HasRoom pen.old (flat_map T.Head.bytes_of (heads_from T.head T.last T.bag_count 0 owners.now)) }
-    ensures { Puts (W.contents out.old) (W.contents out.new) pen.old pen.new
-        (flat_map T.Head.bytes_of (heads_from T.head T.last T.bag_count 0 owners.now)) result }
+#[tactic(auto, using(sf_base::proofs::OutputLaws::putting_start))]
+fn put_heads<const N: usize, T: Headed<N>, W: Write>(output: &mut Output<'_, W>, owners: &[T])
+    requires { sum_by T.bag_count owners.now ≤ 65535 }
+    ensures { Puts W.contents output.old output.new
+        (flat_map T.Head.bytes_of (heads_from T.head T.last T.bag_count 0 owners.now)) }
 {
     let mut bag = 0;
     for owner in owners {
-        pen.put(out, &owner.head(bag).put())?;
+        output.put(&owner.head(bag).put());
         bag += owner.bag_count() as u16;
     }
-    pen.put(out, &T::last(bag).put())
+    output.put(&T::last(bag).put());
 }

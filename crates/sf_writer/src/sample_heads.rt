@@ -1,34 +1,23 @@
 //! The list `shdr`: the heads of the samples (SoundFont 2.04, section 7.10).
 ghost use Rattle.std.specs.Prelude.{◌≡◌, ◌+◌, ◌*◌, ◌<◌, ◌≤◌, ◌%◌, ◌^◌, length, flat_map};
-ghost use Rattle.sf_base.specs.Writing.{Sends};
-ghost use Rattle.sf_base.specs.Pen.{HasRoom, Puts};
+ghost use Rattle.sf_base.specs.Output.{Puts};
 ghost use Rattle.hydra_records.specs.Spelling.{sample_head_bytes};
-ghost use Rattle.bank_parts.specs.Valid.{IsLoop};
+ghost use Rattle.bank_parts.specs.Valid.{IsLoop, IsValid};
 ghost use Rattle.bank_format.specs.Ids.{SHDR};
 ghost use Rattle.bank_format.specs.Tables.{tables_of, sample_head, kind_word, link_word};
 ghost use Rattle.sf_writer.specs.Lists.{table_bytes};
 
-use crate::chunks::{HEAD_SIZE, finish};
 use crate::terminals::sample_end;
 use bank_core::{Bank, Kind, Sample};
 use hydra_records::{Record, SampleHead, Spelled};
-use riff_chunks::ChunkWriter;
+use riff_chunks::put_head;
+use sf_base::Output;
 use sf_base::limits::ZERO_POINTS;
-use sf_base::{Pen, WriteFault};
 use std::io::Write;
-
-// How many bytes the list has, its head counted.
-#[tactic(auto, using(crate::proofs::RecordLemmas::shdr_list))]
-pub(crate) fn shdr_size(bank: &Bank<'_>) -> u32
-    ensures value { result ≡ length (table_bytes SHDR sample_head_bytes (tables_of bank.now).shdr) }
-    ensures small { result < 2 ^ 22 }
-{
-    HEAD_SIZE + records_size(bank)
-}
 
 // How many bytes the heads and the last record have.
 #[tactic(auto, using(crate::proofs::RecordLemmas::length_shdr))]
-fn records_size(bank: &Bank<'_>) -> u32
+pub(crate) fn records_size(bank: &Bank<'_>) -> u32
     ensures value { result ≡ length (flat_map sample_head_bytes (tables_of bank.now).shdr) }
     ensures small { result ≤ 46 * 65536 }
     ensures even { result % 2 ≡ 0 }
@@ -36,49 +25,30 @@ fn records_size(bank: &Bank<'_>) -> u32
     ((bank.samples().len() + 1) * SampleHead::SIZE) as u32
 }
 
-// Writes the list.
-#[tactic(auto, using(crate::proofs::RecordLemmas::shdr_parts), unfolding(bank_format::specs::Ids::SHDR))]
-pub(crate) fn write_shdr<W: Write>(
-    writer: ChunkWriter,
-    out: &mut W,
-    bank: &Bank<'_>,
-) -> Result<ChunkWriter, WriteFault>
-    requires { writer + length (table_bytes SHDR sample_head_bytes (tables_of bank.now).shdr) < 2 ^ 64 }
-    ensures { Sends (W.contents out.old) (W.contents out.new) writer
-        (table_bytes SHDR sample_head_bytes (tables_of bank.now).shdr) result }
+// Puts the list.
+pub(crate) fn put_shdr<W: Write>(output: &mut Output<'_, W>, bank: &Bank<'_>, size: u32)
+    requires { size ≡ length (flat_map sample_head_bytes (tables_of bank.now).shdr) }
+    ensures { Puts W.contents output.old output.new
+        (table_bytes SHDR sample_head_bytes (tables_of bank.now).shdr) }
 {
-    let writer = writer.head(out, *b"shdr", records_size(bank))?;
-    write_heads(writer, out, bank)
-}
-
-fn write_heads<W: Write>(
-    writer: ChunkWriter,
-    out: &mut W,
-    bank: &Bank<'_>,
-) -> Result<ChunkWriter, WriteFault>
-    requires { writer + length (flat_map sample_head_bytes (tables_of bank.now).shdr) < 2 ^ 64 }
-    ensures { Sends (W.contents out.old) (W.contents out.new) writer
-        (flat_map sample_head_bytes (tables_of bank.now).shdr) result }
-{
-    let mut pen = Pen::after(writer.sent());
-    put_heads(&mut pen, out, bank)?;
-    finish(pen, out)
+    put_head(output, *b"shdr", size);
+    put_heads(output, bank);
 }
 
 // The points of each sample follow those of the samples before it.
-fn put_heads<W: Write>(pen: &mut Pen, out: &mut W, bank: &Bank<'_>) -> Result<(), WriteFault>
-    requires { HasRoom pen.old (flat_map sample_head_bytes (tables_of bank.now).shdr) }
-    ensures { Puts (W.contents out.old) (W.contents out.new) pen.old pen.new
-        (flat_map sample_head_bytes (tables_of bank.now).shdr) result }
+fn put_heads<W: Write>(output: &mut Output<'_, W>, bank: &Bank<'_>)
+    ensures puts { Puts W.contents output.old output.new
+        (flat_map sample_head_bytes (tables_of bank.now).shdr) }
+    ensures valid { IsValid bank.now }
 {
     let samples = bank.samples();
     let mut start = 0;
     for sample in samples {
         let head = sample_head(start, sample);
-        pen.put(out, &head.put())?;
+        output.put(&head.put());
         start = head.end + ZERO_POINTS as u32;
     }
-    pen.put(out, &sample_end().put())
+    output.put(&sample_end().put());
 }
 
 // The head of a sample whose first point is `start`.

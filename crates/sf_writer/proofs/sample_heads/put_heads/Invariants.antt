@@ -3,15 +3,12 @@ use Rattle.std.specs.List.{flat_map}
 use Rattle.hydra_records.specs.Spelling.{sample_head_bytes}
 use Rattle.bank_parts.specs.Valid.{point_total}
 use Rattle.bank_format.specs.Tables.{tables_of}
-use Rattle.sf_base.proofs.PenLaws.{Putting}
+use Rattle.sf_base.proofs.OutputLaws.{Putting}
 use Rattle.sf_writer.proofs.RecordLemmas.{heads_left}
 use Rattle.sf_writer.proofs.sample_heads.put_heads.Given as goal
 
--- the heads of the samples that are ahead are still to be put, and their points have room
 abbrev pub invariant-loop-sample : goal.invariant-loop-sample
 invariant-loop-sample g l = record {
-  putting :
-      Putting (g.W.Write.contents l.initial.out) (g.W.Write.contents l.out) l.initial.pen l.pen
-      (flat_map sample_head_bytes (tables_of l.bank).shdr) (heads_left l.start l.sample-index l.samples);
+  putting : Putting g.W.Write.contents l.initial.output l.output (flat_map sample_head_bytes (tables_of l.bank).shdr) (heads_left l.start l.sample-index l.samples);
   room : l.start + point_total (drop l.sample-index l.samples) ≤ 500000000;
 }

@@ -1,0 +1,58 @@
+-- What the heads of the file, of its lists and of their chunks say, by what stands in them.
+use Rattle.std.proofs.Common.{◌≡◌, ◌+◌, ℕ, List, ◌++◌, length, refl, arith}
+use Rattle.std.specs.List.{flat_map}
+use Rattle.std.proofs.lemmas.List.{length-append}
+use Rattle.generators.specs.declared.level.Level.{Level}
+use Rattle.generators.specs.declared.level.Level.TheVariants as level
+use Rattle.sample_view.specs.Words.{word_bytes}
+use Rattle.riff_chunks.specs.Spelling.{spell}
+use Rattle.riff_chunks.proofs.SpellingLemmas.{length-chunk}
+use Rattle.hydra_records.specs.Spelling.{preset_head_bytes, bag_bytes, modulator_bytes, generator_bytes, instrument_head_bytes, sample_head_bytes}
+use Rattle.bank_parts.specs.declared.parts.Parts.{Parts}
+use Rattle.bank_parts.specs.Valid.{IsValid}
+use Rattle.bank_format.specs.Ids.{SFBK, INFO, SDTA, PDTA, PHDR, INST}
+use Rattle.bank_format.specs.Zones.{Bagged}
+use Rattle.bank_format.specs.Tables.{tables_of, bag_list, mod_list, gen_list, all_points, all_preset_bags, all_instrument_bags}
+use Rattle.bank_format.specs.Canon.{info, sdta, pdta, lists}
+use Rattle.sf_writer.specs.Lists.{zone_lists}
+use Rattle.sf_writer.proofs.TextLemmas.{length-INFO, length-info_list}
+use Rattle.sf_writer.proofs.PointLemmas.{length-SDTA, length-sdta, length-sdta_list}
+use Rattle.sf_writer.proofs.ZoneListLemmas.{length-zone_chunks, length-bag_chunk, length-mod_chunk, length-gen_chunk}
+use Rattle.sf_writer.proofs.OwnerHeadLemmas.{phdr-even, inst-even}
+use Rattle.sf_writer.proofs.RecordLemmas.{length-PDTA, length-pdta, length-shdr_list, length-pdta_list, shdr-even}
+use Rattle.sf_writer.proofs.FileLemmas.{length-SFBK, length-lists}
+
+pub file_size : (b : Parts) → length (SFBK ++ spell (lists b)) ≡ 28 + length (INFO ++ spell (info b)) + length (SDTA ++ spell (sdta b)) + length (PDTA ++ spell (pdta (tables_of b)))
+file_size b = omega (arith, length-append SFBK (spell (lists b)), length-SFBK, length-lists b, length-info_list b, length-sdta_list b, length-pdta_list b)
+
+pub info_size : (b : Parts) → length (INFO ++ spell (info b)) ≡ 4 + length (spell (info b))
+info_size b = omega (arith, length-append INFO (spell (info b)), length-INFO)
+
+pub sdta_size : (b : Parts) → length (SDTA ++ spell (sdta b)) ≡ 12 + length (flat_map word_bytes (all_points b))
+sdta_size b = omega (arith, length-append SDTA (spell (sdta b)), length-SDTA, length-sdta b)
+
+-- the bytes of the records of the three lists of these bags
+abbrev pub zone_records : List Bagged → ℕ
+zone_records bags = length (flat_map bag_bytes (bag_list bags)) + length (flat_map modulator_bytes (mod_list bags)) + length (flat_map generator_bytes (gen_list bags))
+
+zone_lists_size : (at : Level) (bags : List Bagged) → length (spell (zone_lists at bags)) ≡ 24 + zone_records bags
+zone_lists_size at bags = omega (arith, length-zone_chunks at bags, length-bag_chunk at bags, length-mod_chunk at bags, length-gen_chunk at bags)
+
+pub pdta_size : (b : Parts) → IsValid b
+    → length (PDTA ++ spell (pdta (tables_of b))) ≡ 76 + length (flat_map preset_head_bytes (tables_of b).phdr) + zone_records (all_preset_bags b) + length (flat_map instrument_head_bytes (tables_of b).inst) + zone_records (all_instrument_bags b) + length (flat_map sample_head_bytes (tables_of b).shdr)
+unfolding PHDR INST
+pdta_size b v =
+    omega (
+      arith,
+      length-append PDTA (spell (pdta (tables_of b))),
+      length-PDTA,
+      length-pdta b,
+      length-chunk PHDR (flat_map preset_head_bytes (tables_of b).phdr) refl,
+      phdr-even b v,
+      zone_lists_size level.Preset (all_preset_bags b),
+      length-chunk INST (flat_map instrument_head_bytes (tables_of b).inst) refl,
+      inst-even b v,
+      zone_lists_size level.Instrument (all_instrument_bags b),
+      length-shdr_list b,
+      shdr-even b v,
+    )

@@ -1,0 +1,12 @@
+use Rattle.std.proofs.Common.{refl}
+use Rattle.bank_format.specs.Ids.{INST}
+use Rattle.sf_base.proofs.OutputLaws.{puts_as}
+use Rattle.sf_writer.proofs.ChunkLemmas.{put_even}
+use Rattle.sf_writer.proofs.OwnerHeadLemmas.{inst-lent, inst-even}
+use Rattle.sf_writer.proofs.owner_heads.put_inst.Goals as goal
+
+pub returns : goal.returns
+unfolding INST
+returns g c =
+    put_even _ _ _ _ refl (inst-even c.args.bank.now c.instruments.ensures.valid) c.requires c.put_head.ensures
+    (puts_as _ _ (inst-lent c.args.bank.now _ c.instruments.ensures.value) c.put_heads.ensures)

@@ -1,0 +1,12 @@
+use Rattle.std.proofs.Common.{refl}
+use Rattle.bank_format.specs.Ids.{PHDR}
+use Rattle.sf_base.proofs.OutputLaws.{puts_as}
+use Rattle.sf_writer.proofs.ChunkLemmas.{put_even}
+use Rattle.sf_writer.proofs.OwnerHeadLemmas.{phdr-lent, phdr-even}
+use Rattle.sf_writer.proofs.owner_heads.put_phdr.Goals as goal
+
+pub returns : goal.returns
+unfolding PHDR
+returns g c =
+    put_even _ _ _ _ refl (phdr-even c.args.bank.now c.presets.ensures.valid) c.requires c.put_head.ensures
+    (puts_as _ _ (phdr-lent c.args.bank.now _ c.presets.ensures.value) c.put_heads.ensures)

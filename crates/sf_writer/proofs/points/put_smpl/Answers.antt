@@ -1,0 +1,15 @@
+use Rattle.std.proofs.Common.{refl, sym, ap}
+use Rattle.std.specs.List.{flat_map}
+use Rattle.sample_view.specs.Words.{word_bytes}
+use Rattle.bank_format.specs.Ids.{SMPL}
+use Rattle.bank_format.specs.Tables.{all_points, points_written}
+use Rattle.sf_base.proofs.OutputLaws.{puts_as}
+use Rattle.sf_writer.proofs.ChunkLemmas.{put_even}
+use Rattle.sf_writer.proofs.PointLemmas.{all_points-even, sdta-is}
+use Rattle.sf_writer.proofs.points.put_smpl.Goals as goal
+
+pub returns : goal.returns
+unfolding SMPL all_points
+returns g c =
+    puts_as _ _ (sym (sdta-is c.args.bank.now))
+    (put_even _ _ _ _ refl (all_points-even c.args.bank.now) c.requires c.put_head.ensures (puts_as _ _ (ap (λ samples. flat_map word_bytes (flat_map points_written samples)) c.samples.ensures.value) c.put_samples.ensures))

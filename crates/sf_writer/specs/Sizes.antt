@@ -1,0 +1,31 @@
+-- What the heads of the chunks of a bank's file say: the length of each body.
+use Rattle.std.specs.Prelude.{◌≡◌, List, ◌++◌, length, flat_map}
+use Rattle.sample_view.specs.Words.{word_bytes}
+use Rattle.riff_chunks.specs.Spelling.{spell}
+use Rattle.hydra_records.specs.Spelling.{preset_head_bytes, bag_bytes, modulator_bytes, generator_bytes, instrument_head_bytes, sample_head_bytes}
+use Rattle.bank_parts.specs.declared.parts.Parts.{Parts}
+use Rattle.bank_format.specs.Ids.{SFBK, INFO, SDTA, PDTA}
+use Rattle.bank_format.specs.Zones.{Bagged}
+use Rattle.bank_format.specs.Tables.{tables_of, bag_list, mod_list, gen_list, all_points, all_preset_bags, all_instrument_bags}
+use Rattle.bank_format.specs.Canon.{info, sdta, pdta, lists}
+use Rattle.sf_writer.specs.declared.sizes.Sizes.{Sizes}
+use Rattle.sf_writer.specs.declared.sizes.ZoneSizes.{ZoneSizes}
+
+-- of the three lists of these bags
+pub record AreZoneSizes (all : List Bagged) (sizes : ZoneSizes) : Type 0 where
+  pub bags : sizes.bags ≡ length (flat_map bag_bytes (bag_list all))
+  pub mods : sizes.mods ≡ length (flat_map modulator_bytes (mod_list all))
+  pub gens : sizes.gens ≡ length (flat_map generator_bytes (gen_list all))
+
+-- of all chunks but those of texts
+pub record AreSizes (b : Parts) (sizes : Sizes) : Type 0 where
+  pub file : sizes.file ≡ length (SFBK ++ spell (lists b))
+  pub info : sizes.info ≡ length (INFO ++ spell (info b))
+  pub sdta : sizes.sdta ≡ length (SDTA ++ spell (sdta b))
+  pub smpl : sizes.smpl ≡ length (flat_map word_bytes (all_points b))
+  pub pdta : sizes.pdta ≡ length (PDTA ++ spell (pdta (tables_of b)))
+  pub phdr : sizes.phdr ≡ length (flat_map preset_head_bytes (tables_of b).phdr)
+  pub presets : AreZoneSizes (all_preset_bags b) sizes.presets
+  pub inst : sizes.inst ≡ length (flat_map instrument_head_bytes (tables_of b).inst)
+  pub instruments : AreZoneSizes (all_instrument_bags b) sizes.instruments
+  pub shdr : sizes.shdr ≡ length (flat_map sample_head_bytes (tables_of b).shdr)
