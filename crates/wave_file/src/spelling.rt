@@ -1,5 +1,5 @@
 //! The bytes of a WAVE file, in the order of the file.
-ghost use Rattle.std.specs.Prelude.{◌≡◌, ◌≤◌, length};
+ghost use Rattle.std.specs.Prelude.{◌≤◌};
 ghost use Rattle.std.specs.List.{flat_map};
 ghost use Rattle.sf_base.specs.Output.{Puts};
 ghost use Rattle.sf_base.specs.Writing.{Writes};
