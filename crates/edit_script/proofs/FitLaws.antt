@@ -121,7 +121,7 @@ lines_fit n (l ∷ ls) edits (inl h) = lines_fit (suc n) ls edits h.1
 lines_fit n (l ∷ ls) edits (inr h) = subst LinesFit (sym h.parts) (edit_fits h.said h.edit h.form, lines_fit (suc n) ls h.more h.follow)
 
 pub spelled_fit : (text : List ℕ) (edits : List Line) → Spells text edits → LinesFit edits
-spelled_fit text edits h = lines_fit 1 (lines_of text) edits h.lines
+spelled_fit text edits h = lines_fit 1 (lines_of text) edits h
 
 pub script_fits : (text : List ℕ) (lines : List Line) → script_of text ≡ Ok lines → LinesFit lines
 script_fits text lines e = spelled_fit text lines (read_spelled text lines e)

@@ -6,4 +6,3 @@ pub mod SpellLaws
 pub mod ReadLaws
 pub mod LineLaws
 pub mod FitLaws
-pub mod FewLaws

@@ -1,5 +1,5 @@
 -- The printed lines of edits spell those edits.
-use Rattle.std.proofs.Common.{◌≡◌, ◌≤◌, ◌<◌, ◌^◌, ◌++◌, ℕ, ℤ, pos, negsuc, suc, List, [], ◌∷◌, length, map, Option, Some, None, Ok, refl, sym, ap, subst, arith, lit<, inr, FitsSigned}
+use Rattle.std.proofs.Common.{◌≡◌, ◌≤◌, ◌<◌, ◌^◌, ◌++◌, ℕ, ℤ, pos, negsuc, suc, List, [], ◌∷◌, map, Option, Some, None, Ok, refl, sym, subst, arith, lit<, inr, FitsSigned}
 use Rattle.std.specs.Int.{w8}
 use Rattle.bank_parts.specs.declared.texts.InfoId.{InfoId}
 use Rattle.bank_parts.specs.declared.texts.InfoId.TheVariants as id
@@ -105,12 +105,8 @@ texts_say n (One s ∷ es) h =
       follow = texts_say (suc n) es h.1;
     }))
 
-length-numbered : (n : ℕ) (es : List Edit) → length (numbered n es) ≡ length es
-length-numbered n [] = refl
-length-numbered n (e ∷ es) = ap suc (length-numbered (suc n) es)
+pub printed : (es : List Edit) → AllFit es → Spells (texts_of es) (numbered 1 es)
+printed es h = texts_say 1 es h
 
-pub printed : (es : List Edit) → length es ≤ 1 → AllFit es → Spells (texts_of es) (numbered 1 es)
-printed es few h = record { few = (let k = length-numbered 1 es in omega (arith, few, k)); lines = texts_say 1 es h }
-
-pub printed_spell : (es : List Edit) → length es ≤ 1 → AllFit es → script_of (texts_of es) ≡ Ok (numbered 1 es)
-printed_spell es few h = spelled_read (texts_of es) (numbered 1 es) (printed es few h)
+pub printed_spell : (es : List Edit) → AllFit es → script_of (texts_of es) ≡ Ok (numbered 1 es)
+printed_spell es h = spelled_read (texts_of es) (numbered 1 es) (printed es h)

@@ -1,10 +1,9 @@
 -- What is read from a text, the text spells.
-use Rattle.std.proofs.Common.{◌≡◌, ◌≤◌, ◌%◌, ℕ, ℤ, suc, Bool, true, false, cond, eqb, eqb-true, List, [], ◌∷◌, ◌++◌, length, map, codes, Option, Some, None, Result, Ok, Err, refl, sym, ap, subst, ◌∙◌, append_assoc, arith, inl, inr, ◌⊎◌}
+use Rattle.std.proofs.Common.{◌≡◌, ◌%◌, ℕ, ℤ, suc, Bool, true, false, cond, eqb, eqb-true, List, [], ◌∷◌, ◌++◌, length, map, codes, Option, Some, None, Result, Ok, Err, refl, sym, ap, subst, ◌∙◌, append_assoc, inl, inr, ◌⊎◌}
 use Rattle.std.specs.List.{AllByRecursion}
 use Rattle.std.specs.Result.{result_and}
 use Rattle.std.specs.Str.{bytes_eq}
-use Rattle.std.proofs.lemmas.Bool.{lt-ltb}
-use Rattle.std.proofs.lemmas.List.{append-nil, length-append}
+use Rattle.std.proofs.lemmas.List.{append-nil}
 use Rattle.std.proofs.lemmas.Slice.Eq.{bytes_eq-Decides}
 use Rattle.sample_view.specs.Words.{words}
 use Rattle.bank_parts.specs.declared.texts.InfoId.{InfoId}
@@ -37,7 +36,7 @@ use Rattle.edit_script.specs.Names.{named}
 use Rattle.edit_script.specs.Samples.{kind_operands, loop_operands, body_operands, kind_behind, kind, loop_behind, looped, points_of, points, sample_of, body, rename_sample, add_sample, remove_sample}
 use Rattle.edit_script.specs.Texts.{id_word, ids, info_id, set_info}
 use Rattle.edit_script.specs.Grammar.{form_word, forms, form_of, operands, operands_read, step, edit}
-use Rattle.edit_script.specs.Script.{is_full, edit_of, with_edit, edits_in, script_of}
+use Rattle.edit_script.specs.Script.{edit_of, with_edit, edits_in, script_of}
 use Rattle.edit_script.specs.Spelling.{SaysEdit, LinesSay, Spells}
 use Rattle.edit_script.proofs.NameLaws.{named_is}
 
@@ -261,57 +260,48 @@ edit_says line t h e =
 -- what a line makes of the edits before it
 pub record Adds (n : ℕ) (said : List Said) (before after : List Line) : Type 0 where
   pub edit : Edit
-  pub room : length before ≤ 0
   pub parts : after ≡ before ++ record { number = n; edit = edit } ∷ []
   pub form : SaysEdit said edit
 
 abbrev LineMakes : ℕ → List Said → List Line → List Line → Type 0
 LineMakes n said before after = ((said ≡ []) × (after ≡ before)) ⊎ Adds n said before after
 
-with_edit_makes : (n : ℕ) (said : List Said) (r : Result (Took Edit) LineFault) (before after : List Line) → length before ≤ 0 → ((t : Took Edit) → r ≡ Ok t → SaysEdit said t.value) → with_edit n before r ≡ Ok after → LineMakes n said before after
-with_edit_makes n said (Ok t) before after room f e = let k : before ++ record { number = n; edit = t.value } ∷ [] ≡ after = cc in inr (record { edit = t.value; room = room; parts = sym k; form = f t refl })
-with_edit_makes n said (Err d) before after room f e = cc
+with_edit_makes : (n : ℕ) (said : List Said) (r : Result (Took Edit) LineFault) (before after : List Line) → ((t : Took Edit) → r ≡ Ok t → SaysEdit said t.value) → with_edit n before r ≡ Ok after → LineMakes n said before after
+with_edit_makes n said (Ok t) before after f e = let k : before ++ record { number = n; edit = t.value } ∷ [] ≡ after = cc in inr (record { edit = t.value; parts = sym k; form = f t refl })
+with_edit_makes n said (Err d) before after f e = cc
 
 line_makes : (n : ℕ) (said : List Said) (before after : List Line) → AllHoldBytes said → edit_of n said before ≡ Ok after → LineMakes n said before after
 unfolding edit_of
 line_makes n [] before after h e = let k : before ≡ after = cc in inl (refl, sym k)
-line_makes n (s ∷ said) [] after h e = with_edit_makes n (s ∷ said) (edit (s ∷ said)) [] after (omega arith) (λ t k. edit_says (s ∷ said) t h k) e
-line_makes n (s ∷ said) (x ∷ before) after h e = let full : is_full (x ∷ before) ≡ true = lt-ltb 0 _ (omega arith) in let k = rw full at e in absurd (cc k)
+line_makes n (s ∷ said) before after h e = with_edit_makes n (s ∷ said) (edit (s ∷ said)) before after (λ t k. edit_says (s ∷ said) t h k) e
 
 -- what lines make of the edits before them
 record LinesMake (n : ℕ) (ls : List (List ℕ)) (before after : List Line) : Type 0 where
   pub more : List Line
   pub parts : after ≡ before ++ more
-  pub few : length after ≤ 1
   pub say : LinesSay n ls more
 
 step_makes : (n : ℕ) (l : List ℕ) (ls : List (List ℕ)) (before between after : List Line) → LineSays l (said_in l) → LineMakes n (said_in l) before between → LinesMake (suc n) ls between after → LinesMake n (l ∷ ls) before after
 step_makes n l ls before between after says (inl h) r = record {
   more = r.more;
   parts = r.parts ∙ ap (λ (x : List Line). x ++ r.more) h.1;
-  few = r.few;
   say = inl (subst (LineSays l) h.0 says, r.say);
 }
 step_makes n l ls before between after says (inr h) r =
     let one : Line = record { number = n; edit = h.edit } in record {
       more = one ∷ r.more;
       parts = r.parts ∙ ap (λ (x : List Line). x ++ r.more) h.parts ∙ append_assoc before (one ∷ []) r.more;
-      few = r.few;
       say = inr (record { said = said_in l; edit = h.edit; more = r.more; parts = refl; tokens = says; form = h.form; follow = r.say });
     }
 
-lines_make : (n : ℕ) (ls : List (List ℕ)) (before after : List Line) → length before ≤ 1 → AllByRecursion AllGood (map said_in ls) → gather edit_of n (map said_in ls) before ≡ Ok after → LinesMake n ls before after
-lines_make n [] before after few g e =
+lines_make : (n : ℕ) (ls : List (List ℕ)) (before after : List Line) → AllByRecursion AllGood (map said_in ls) → gather edit_of n (map said_in ls) before ≡ Ok after → LinesMake n ls before after
+lines_make n [] before after g e =
     let k : before ≡ after = cc (gather_none edit_of n before, e) in
-    record { more = []; parts = sym k ∙ sym (append-nil before); few = subst (λ (x : List Line). length x ≤ 1) k few; say = refl }
-lines_make n (l ∷ ls) before after few g e =
+    record { more = []; parts = sym k ∙ sym (append-nil before); say = refl }
+lines_make n (l ∷ ls) before after g e =
     let t = through (edit_of n (said_in l) before) (λ ys. gather edit_of (suc n) (map said_in ls) ys) after (sym (gather_on edit_of n (said_in l) (map said_in ls) before) ∙ e) in
     let m = line_makes n (said_in l) before t.between (tokens_bytes (tokens_of l)) t.first in
-    step_makes n l ls before t.between after (line_shown l g.0) m (lines_make (suc n) ls t.between after (still_few m few) g.1 t.second)
-  where
-    still_few : {between : List Line} → LineMakes n (said_in l) before between → length before ≤ 1 → length between ≤ 1
-    still_few (inl h) f = let k = ap length h.1 in omega (arith, k, f)
-    still_few (inr h) f = let k = ap length h.parts in let r = h.room in omega (arith, k, r, length-append before (record { number = n; edit = h.edit } ∷ []))
+    step_makes n l ls before t.between after (line_shown l g.0) m (lines_make (suc n) ls t.between after g.1 t.second)
 
 -- ---- the text
 
@@ -324,5 +314,5 @@ pub read_spelled : (text : List ℕ) (edits : List Line) → script_of text ≡ 
 unfolding script_of edits_in
 read_spelled text edits e =
     let g = pool_good text (pool_bytes text) (gather edit_of 1 (said_lines text) []) edits refl e in
-    let m = lines_make 1 (lines_of text) [] edits (omega arith) g.0 g.1 in
-    record { few = m.few; lines = subst (LinesSay 1 (lines_of text)) (sym m.parts) m.say }
+    let m = lines_make 1 (lines_of text) [] edits g.0 g.1 in
+    subst (LinesSay 1 (lines_of text)) (sym m.parts) m.say

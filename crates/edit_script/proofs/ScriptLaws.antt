@@ -1,30 +1,24 @@
 -- The edits of a script, line by line.
-use Rattle.std.proofs.Common.{◌≡◌, ℕ, Bool, true, false, List, [], ◌∷◌, Ok, Err, refl, sym, ap, ◌∙◌}
+use Rattle.std.proofs.Common.{◌≡◌, ℕ, Bool, true, false, List, [], ◌∷◌, Ok, refl, sym, ap, ◌∙◌}
 use Rattle.std.specs.Result.{result_and}
 use Rattle.line_tokens.specs.declared.cursor.Said.{Said}
-use Rattle.line_tokens.specs.declared.fault.LineFault.TheVariants as faults
 use Rattle.line_tokens.specs.Lines.{lines_of}
 use Rattle.line_tokens.specs.Said.{said_lines, lines_said_over}
-use Rattle.line_tokens.specs.Pool.{Grown, on_line, pool_bytes}
+use Rattle.line_tokens.specs.Pool.{Grown, pool_bytes}
 use Rattle.line_tokens.proofs.PoolLaws.{over_pool}
 use Rattle.edit_script.specs.declared.parsing.Line.{Line}
 use Rattle.edit_script.specs.Grammar.{edit}
-use Rattle.edit_script.specs.Script.{is_full, edit_of, with_edit, edits_in, script_of}
+use Rattle.edit_script.specs.Script.{edit_of, with_edit, edits_in, script_of}
 
 pub says_nothing : (n : ℕ) (said : List Said) (lines : List Line) → said ≡ [] → edit_of n said lines ≡ Ok lines
 unfolding edit_of
 says_nothing n [] lines e = refl
 says_nothing n (s ∷ said) lines e = cc
 
-pub one_too_many : (n : ℕ) (said : List Said) (lines : List Line) → (said ≡ [] → ⊥) → is_full lines ≡ true → edit_of n said lines ≡ Err (on_line n faults.Syntax)
+pub one_more : (n : ℕ) (said : List Said) (lines : List Line) → (said ≡ [] → ⊥) → edit_of n said lines ≡ with_edit n lines (edit said)
 unfolding edit_of
-one_too_many n [] lines some full = absurd (some refl)
-one_too_many n (s ∷ said) lines some full = rw full refl
-
-pub one_more : (n : ℕ) (said : List Said) (lines : List Line) → (said ≡ [] → ⊥) → is_full lines ≡ false → edit_of n said lines ≡ with_edit n lines (edit said)
-unfolding edit_of
-one_more n [] lines some room = absurd (some refl)
-one_more n (s ∷ said) lines some room = rw room refl
+one_more n [] lines some = absurd (some refl)
+one_more n (s ∷ said) lines some = refl
 
 pub not_both : {b : Bool} → b ≡ true → b ≡ false → ⊥
 not_both p q = cc

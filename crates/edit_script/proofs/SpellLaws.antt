@@ -1,8 +1,8 @@
 -- What a text spells is read from it.
-use Rattle.std.proofs.Common.{◌≡◌, ◌≤◌, ◌+◌, ◌%◌, ℕ, ℤ, suc, false, List, [], ◌∷◌, ◌++◌, length, map, codes, Option, Some, None, Ok, refl, sym, ap, subst, append_assoc, ◌∙◌, arith, inl, inr}
+use Rattle.std.proofs.Common.{◌≡◌, ◌%◌, ℕ, ℤ, suc, List, [], ◌∷◌, ◌++◌, length, map, codes, Option, Some, None, Ok, refl, sym, ap, subst, append_assoc, ◌∙◌, inl, inr}
 use Rattle.std.specs.Result.{result_and}
 use Rattle.std.specs.List.{AllByRecursion}
-use Rattle.std.proofs.lemmas.List.{append-nil, length-append}
+use Rattle.std.proofs.lemmas.List.{append-nil}
 use Rattle.sample_view.specs.Words.{words}
 use Rattle.bank_parts.specs.declared.texts.InfoId.{InfoId}
 use Rattle.bank_parts.specs.declared.parts.Kind.{Kind}
@@ -30,7 +30,7 @@ use Rattle.edit_script.specs.Names.{named}
 use Rattle.edit_script.specs.Samples.{kind_operands, loop_operands, body_operands, kind_behind, kind, loop_behind, looped, points_of, points, body, rename_sample, add_sample, remove_sample}
 use Rattle.edit_script.specs.Texts.{id_word, ids, info_id, set_info}
 use Rattle.edit_script.specs.Grammar.{form_word, forms, form_of, operands, operands_read, step, edit}
-use Rattle.edit_script.specs.Script.{is_full, edit_of, with_edit, edits_in, script_of}
+use Rattle.edit_script.specs.Script.{edit_of, with_edit, edits_in, script_of}
 use Rattle.edit_script.specs.Spelling.{SaysEdit, LinesSay, Spells}
 use Rattle.edit_script.proofs.NameLaws.{form_named, id_named}
 use Rattle.edit_script.proofs.ScriptLaws.{one_more, says_nothing}
@@ -165,37 +165,31 @@ all_say n (l ∷ ls) edits (inr h) = ((h.said, h.tokens), all_say (suc n) ls h.m
 silent_kept : (n : ℕ) (l : List ℕ) (edits : List Line) → SaysNothing l → edit_of n (said_in l) edits ≡ Ok edits
 silent_kept n l edits h = says_nothing n (said_in l) edits (line_said [] l h)
 
-empty_room : (before : List Line) → length before ≤ 0 → is_full before ≡ false
-empty_room [] h = refl
-empty_room (l ∷ before) h = absurd (omega (arith, h))
-
-edit_added : (n : ℕ) (l : List ℕ) (said : List Said) (e : Edit) (before : List Line) → length before ≤ 0 → LineSays l said → SaysEdit said e → edit_of n (said_in l) before ≡ Ok (before ++ record { number = n; edit = e } ∷ [])
-edit_added n l said e before few t h =
+edit_added : (n : ℕ) (l : List ℕ) (said : List Said) (e : Edit) (before : List Line) → LineSays l said → SaysEdit said e → edit_of n (said_in l) before ≡ Ok (before ++ record { number = n; edit = e } ∷ [])
+edit_added n l said e before t h =
     ap (λ (s : List Said). edit_of n s before) (line_said said l t)
-    ∙ one_more n said before (λ k. some_said e (subst (λ (s : List Said). SaysEdit s e) k h)) (empty_room before few)
+    ∙ one_more n said before (λ k. some_said e (subst (λ (s : List Said). SaysEdit s e) k h))
     ∙ ap (with_edit n before) (edit_read said e h)
 
-gathered : (n : ℕ) (ls : List (List ℕ)) (before edits : List Line) → length before + length edits ≤ 1 → LinesSay n ls edits → gather edit_of n (map said_in ls) before ≡ Ok (before ++ edits)
-gathered n [] before edits few h = gather_none edit_of n before ∙ ap (λ (l : List Line). Ok l) (sym (ap (λ (l : List Line). before ++ l) h ∙ append-nil before))
-gathered n (l ∷ ls) before edits few (inl h) =
+gathered : (n : ℕ) (ls : List (List ℕ)) (before edits : List Line) → LinesSay n ls edits → gather edit_of n (map said_in ls) before ≡ Ok (before ++ edits)
+gathered n [] before edits h = gather_none edit_of n before ∙ ap (λ (l : List Line). Ok l) (sym (ap (λ (l : List Line). before ++ l) h ∙ append-nil before))
+gathered n (l ∷ ls) before edits (inl h) =
     gather_on edit_of n (said_in l) (map said_in ls) before
     ∙ ap (λ (r : Grown Line). pool.and_then r (λ more. gather edit_of (suc n) (map said_in ls) more)) (silent_kept n l before h.0)
-    ∙ gathered (suc n) ls before edits few h.1
-gathered n (l ∷ ls) before edits few (inr h) =
-    let len = ap length h.parts in
+    ∙ gathered (suc n) ls before edits h.1
+gathered n (l ∷ ls) before edits (inr h) =
     let one : Line = record { number = n; edit = h.edit } in
-    let more : length (before ++ one ∷ []) + length h.more ≤ 1 = omega (arith, few, len, length-append before (one ∷ [])) in
     gather_on edit_of n (said_in l) (map said_in ls) before
-    ∙ ap (λ (r : Grown Line). pool.and_then r (λ more. gather edit_of (suc n) (map said_in ls) more)) (edit_added n l h.said h.edit before (omega (arith, few, len)) h.tokens h.form)
-    ∙ gathered (suc n) ls (before ++ one ∷ []) h.more more h.follow
+    ∙ ap (λ (r : Grown Line). pool.and_then r (λ more. gather edit_of (suc n) (map said_in ls) more)) (edit_added n l h.said h.edit before h.tokens h.form)
+    ∙ gathered (suc n) ls (before ++ one ∷ []) h.more h.follow
     ∙ ap (λ (l : List Line). Ok l) (append_assoc before (one ∷ []) h.more ∙ ap (λ (l : List Line). before ++ l) (sym h.parts))
 
 pub spelled_read : (text : List ℕ) (edits : List Line) → Spells text edits → script_of text ≡ Ok edits
 unfolding script_of pool_bytes edits_in
 spelled_read text edits h =
-    let p = lines_grow 1 (lines_of text) [] (all_say 1 (lines_of text) edits h.lines) in
+    let p = lines_grow 1 (lines_of text) [] (all_say 1 (lines_of text) edits h) in
     ap (λ (r : Grown ℕ). result_and r (gather edit_of 1 (said_lines text) [])) p.1
-    ∙ gathered 1 (lines_of text) [] edits (let few = h.few in omega (arith, few)) h.lines
+    ∙ gathered 1 (lines_of text) [] edits h
 
 pub one_reading : (text : List ℕ) (a b : List Line) → Spells text a → Spells text b → a ≡ b
 one_reading text a b p q = let e = sym (spelled_read text a p) ∙ spelled_read text b q in cc

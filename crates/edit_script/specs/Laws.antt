@@ -1,5 +1,5 @@
 -- What holds of all scripts.
-use Rattle.std.specs.Prelude.{◌≡◌, ◌↔◌, ◌≤◌, ℕ, List, length, Ok}
+use Rattle.std.specs.Prelude.{◌≡◌, ◌↔◌, ℕ, List, Ok}
 use Rattle.bank_edits.specs.declared.edit.Edit.{Edit}
 use Rattle.edit_script.specs.declared.parsing.Line.{Line}
 use Rattle.edit_script.specs.Script.{script_of}
@@ -14,9 +14,9 @@ SpelledIsRead = (text : List ℕ) (lines : List Line) → Spells text lines ↔ 
 abbrev pub OneReading : Type 0
 OneReading = (text : List ℕ) (a b : List Line) → Spells text a → Spells text b → a ≡ b
 
--- The printed lines of edits spell those edits, one on each line. A script has at most one edit.
+-- The printed lines of edits spell those edits, one on each line.
 abbrev pub PrintedLinesSpell : Type 0
-PrintedLinesSpell = (edits : List Edit) → length edits ≤ 1 → AllFit edits → Spells (texts_of edits) (numbered 1 edits)
+PrintedLinesSpell = (edits : List Edit) → AllFit edits → Spells (texts_of edits) (numbered 1 edits)
 
 -- Every edit that a text spells fits.
 abbrev pub SpelledEditsFit : Type 0

@@ -1,10 +1,9 @@
 -- What a script says, or its first fault.
-use Rattle.std.specs.Prelude.{ℕ, List, [], ◌∷◌, ◌++◌, length, Result, Ok, Err, Bool, nat_lt, if◌then◌else◌}
+use Rattle.std.specs.Prelude.{ℕ, List, [], ◌∷◌, ◌++◌, Result, Ok, Err}
 use Rattle.std.specs.Result.{result_and}
 use Rattle.bank_edits.specs.declared.edit.Edit.{Edit}
 use Rattle.line_tokens.specs.declared.cursor.Said.{Said}
 use Rattle.line_tokens.specs.declared.fault.LineFault.{LineFault}
-use Rattle.line_tokens.specs.declared.fault.ScriptFault.TheVariants as faults
 use Rattle.line_tokens.specs.Said.{said_lines}
 use Rattle.line_tokens.specs.Parts.{Took}
 use Rattle.line_tokens.specs.Pool.{Grown, gather, on_line, pool_bytes}
@@ -15,14 +14,10 @@ abbrev pub with_edit : ℕ → List Line → Result (Took Edit) LineFault → Gr
 with_edit n lines (Ok t) = Ok (lines ++ record { number = n; edit = t.value } ∷ [])
 with_edit n lines (Err e) = Err (on_line n e)
 
--- a script has at most one edit
-abbrev pub is_full : List Line → Bool
-is_full lines = nat_lt 0 (length lines)
-
 -- a line without tokens says nothing, and every other one is an edit
 unfoldable pub edit_of : ℕ → List Said → List Line → Grown Line
 edit_of n [] lines = Ok lines
-edit_of n (s ∷ line) lines = if is_full lines then Err (faults.Syntax n) else with_edit n lines (edit (s ∷ line))
+edit_of n (s ∷ line) lines = with_edit n lines (edit (s ∷ line))
 
 unfoldable pub edits_in : List (List Said) → Grown Line
 edits_in lines = gather edit_of 1 lines []

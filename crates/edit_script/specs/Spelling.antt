@@ -1,5 +1,5 @@
 -- Which texts spell which edits: a relation of lines and what they say, without a reader.
-use Rattle.std.specs.Prelude.{◌≡◌, ◌≤◌, ◌⊎◌, ℕ, suc, List, [], ◌∷◌, length}
+use Rattle.std.specs.Prelude.{◌≡◌, ◌⊎◌, ℕ, suc, List, [], ◌∷◌}
 use Rattle.bank_edits.specs.declared.edit.Edit.{Edit}
 use Rattle.bank_edits.specs.declared.edit.Edit.TheVariants.{One}
 use Rattle.line_tokens.specs.declared.cursor.Said.{Said}
@@ -28,7 +28,6 @@ abbrev pub LinesSay : ℕ → List (List ℕ) → List Line → Type 0
 LinesSay n [] edits = edits ≡ []
 LinesSay n (l ∷ ls) edits = (SaysNothing l × LinesSay (suc n) ls edits) ⊎ SaysFirst n l edits (λ more. LinesSay (suc n) ls more)
 
--- The text says these edits on these lines, and nothing else. A script has at most one edit.
-pub record Spells (text : List ℕ) (edits : List Line) : Type 0 where
-  pub few : length edits ≤ 1
-  pub lines : LinesSay 1 (lines_of text) edits
+-- The text says these edits on these lines, and nothing else.
+abbrev pub Spells : List ℕ → List Line → Type 0
+Spells text edits = LinesSay 1 (lines_of text) edits

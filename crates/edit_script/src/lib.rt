@@ -4,7 +4,7 @@
 //! them. [`print`] writes the line of an edit, and [`put_edit`] puts it into an output.
 //!
 //! The forms are `rename-sample S NAME`, `add-sample S NAME RATE KEY CORR KIND LOOP POINTS`,
-//! `remove-sample S` and `set-info ID TEXT`. A script has at most one edit.
+//! `remove-sample S` and `set-info ID TEXT`.
 #![tactic(auto)]
 
 mod edits;

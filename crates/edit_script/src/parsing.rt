@@ -5,7 +5,7 @@ ghost use Rattle.line_tokens.specs.Lines.{lines_of};
 ghost use Rattle.line_tokens.specs.Said.{all_said_over, pool_after, lines_said_over};
 ghost use Rattle.edit_script.specs.Printing.{LinesFit};
 ghost use Rattle.line_tokens.specs.Pool.{Answers, pool_bytes};
-ghost use Rattle.edit_script.specs.Script.{is_full, edit_of, edits_in, script_of};
+ghost use Rattle.edit_script.specs.Script.{edit_of, edits_in, script_of};
 
 use crate::edits::edit;
 use bank_edits::Edit;
@@ -66,19 +66,9 @@ fn add_edit<'a>(
     if cursor.is_empty() {
         return Ok(pool);
     }
-    if is_full(edits) {
-        return Err(ScriptFault::Syntax(number).into());
-    }
     match edit(alloc, &mut cursor) {
         Ok(edit) => edits.push(Line { number, edit })?,
         Err(fault) => return Err(fault.on_line(number).into()),
     }
     Ok(cursor.pool())
-}
-
-// Whether there is no room for a further edit: a script has at most one.
-fn is_full(edits: &Vec<Line<'_>>) -> bool
-    ensures { result ≡ is_full edits.now.items }
-{
-    edits.len() > 0
 }

@@ -1,6 +1,5 @@
 -- A run and the run of its undo text.
 use Rattle.std.proofs.Common.{◌≡◌, ◌<◌, ◌≤◌, ℕ, suc, List, [], ◌∷◌, length, get_or, w8, Fits as InType, Option, Some, None, Result, Ok, refl, sym, ap, ◌∙◌, arith}
-use Rattle.std.proofs.lemmas.List.{length-append, length-map}
 use Rattle.std.proofs.lemmas.List.Elements.{All-from_get_or}
 use Rattle.bank_parts.specs.declared.parts.Parts.{Parts}
 use Rattle.bank_parts.specs.Sound.{IsSound}
@@ -21,7 +20,6 @@ use Rattle.edit_script.specs.Script.{script_of}
 use Rattle.edit_script.specs.Printing.{texts_of, numbered, AllFit, LinesFit}
 use Rattle.edit_script.proofs.LineLaws.{printed_spell}
 use Rattle.edit_script.proofs.FitLaws.{script_fits}
-use Rattle.edit_script.proofs.FewLaws.{script_few}
 use Rattle.sfbank.specs.declared.fault.RunFault.{RunFault}
 use Rattle.sfbank.specs.Outcome.{Done, edits_of, RefusedLine, or_else, first_refused, both_texts, unless_refused, after_script, after_reading, bank_in, outcome, IsUndone}
 
@@ -84,28 +82,20 @@ after_numbered b es h =
     ap (λ (o : Option RefusedLine). unless_refused o (both_texts b (edits_of (numbered 1 es)))) (none_refused b 1 es h)
     ∙ ap (λ (xs : List Edit). Ok (both_texts b xs)) (edits_numbered 1 es)
 
-length-undo_list : (b : Parts) (es : List Edit) → length (undo_list b es) ≡ length es
-length-undo_list b [] = refl
-length-undo_list b (e ∷ es) = let r = length-undo_list (raw b e) es in omega (arith, r, length-append (undo_list (raw b e) es) (inverse b e ∷ []))
-
 -- ---- the law
 
 -- the undo texts of edits, run on the written file
-run_back : (b : Parts) (es : List Edit) → length es ≤ 1 → IsSound b → AllTaken b es
+run_back : (b : Parts) (es : List Edit) → IsSound b → AllTaken b es
     → outcome (canon (after_all b es)) (texts_of (undo_list b es)) ≡ Ok (record { out = canon b; undo = texts_of es })
-run_back b es few s h =
+run_back b es s h =
     let undone = all_undone b es s h in
     let end : Parts = after_all b es in
     let us : List Edit = undo_list b es in
-    let length_us = length-undo_list b es in
-    let spelled = printed_spell us (omega (arith, length_us, few)) (all_fit end us undone.taken) in
+    let spelled = printed_spell us (all_fit end us undone.taken) in
     outcome_canon end (texts_of us) undone.sound
     ∙ ap (after_script end) spelled
     ∙ after_numbered end us undone.taken
     ∙ (λ i. Ok (record { out = canon (undone.restored i); undo = texts_of (undone.redone i) }))
-
-few_lines : (script : List ℕ) (lines : List Line) → script_of script ≡ Ok lines → length (edits_of lines) ≤ 1
-few_lines script lines e = let n = length-map lines (λ (l : Line). l.edit) in let m = script_few script lines e in omega (arith, n, m)
 
 pub restores : (file script : List ℕ) → AreBytes file → IsUndone file script
 unfolding outcome
@@ -114,5 +104,5 @@ restores file script bytes done lines h spelled =
     let read = reading_done (fault_of file) (after_script b (script_of script)) done h in
     let run = script_done b lines done (ap (after_script b) (sym spelled) ∙ read.1) in
     let sound : IsSound b = record { valid = read_valid file bytes read.0; fits = read_fits file bytes } in
-    let back = run_back b (edits_of lines) (few_lines script lines spelled) sound (all_taken b lines (script_fits script lines spelled) run.accepted) in
+    let back = run_back b (edits_of lines) sound (all_taken b lines (script_fits script lines spelled) run.accepted) in
     ap (λ (d : Done). outcome d.out d.undo) run.texts ∙ back
