@@ -1,18 +1,22 @@
 -- How a run ends: before its first byte, or with its texts.
-use Rattle.std.proofs.Common.{◌≡◌, Result, Ok, Err}
+use Rattle.std.proofs.Common.{◌≡◌, ℕ, List, Option, Result, Ok, Err}
+use Rattle.std.proofs.KnownBytes.{Keeps-refl}
 use Rattle.sfbank.specs.declared.fault.RunFault.{RunFault}
 use Rattle.sfbank.specs.declared.fault.RunFault.TheVariants as run
 use Rattle.sfbank.specs.declared.fault.Which.TheVariants.{Out, Undo}
 use Rattle.sfbank.specs.Outcome.{Done}
-use Rattle.sfbank.specs.Written.{Writers, Untouched, Delivers, Runs, FailsBefore}
+use Rattle.sfbank.specs.Written.{Writers, Delivers, Runs, FailsBefore}
 
-pub ends_before : (U : Type 0) (w : Writers) (outcome : Result Done RunFault) (fault : RunFault) → FailsBefore fault outcome → Untouched w → Runs {U = U} w outcome (Err fault)
-ends_before U w outcome (run.Read fault) h untouched = (h, untouched)
-ends_before U w outcome (run.Script fault) h untouched = (h, untouched)
-ends_before U w outcome (run.Refused number cause) h untouched = (h, untouched)
-ends_before U w outcome run.Memory h untouched = untouched
-ends_before U w outcome (run.Write which n) h untouched = absurd h
+-- no writer was asked
+pub ends_early : (U : Type 0) (out undo : Option (List ℕ)) (outcome : Result Done RunFault) (fault : RunFault) → FailsBefore fault outcome
+    → Runs {U = U} (record { out = out; out_new = out; undo = undo; undo_new = undo }) outcome (Err fault)
+ends_early U out undo outcome (run.Read fault) h = (h, (Keeps-refl out, Keeps-refl undo))
+ends_early U out undo outcome (run.Script fault) h = (h, (Keeps-refl out, Keeps-refl undo))
+ends_early U out undo outcome (run.Refused number cause) h = (h, (Keeps-refl out, Keeps-refl undo))
+ends_early U out undo outcome run.Memory h = (Keeps-refl out, Keeps-refl undo)
+ends_early U out undo outcome (run.Write which n) h = absurd h
 
+-- the texts were delivered
 pub ends_with : {U : Type 0} (w : Writers) (outcome : Result Done RunFault) (done : Done) (r : Result U RunFault) → outcome ≡ Ok done → Delivers w done r → Runs w outcome r
 ends_with w outcome done (Ok u) e d = record { done = done; is_done = e; delivers = d }
 ends_with w outcome done (Err (run.Write Out n)) e d = record { done = done; is_done = e; delivers = d }

@@ -1,0 +1,37 @@
+//! A run, from bytes to bytes.
+ghost use Rattle.std.specs.Prelude.{◌≡◌};
+ghost use Rattle.sfbank.specs.Outcome.{outcome, IsUndone};
+ghost use Rattle.sfbank.specs.Written.{Runs};
+
+use crate::deliver::deliver;
+use crate::fault::RunFault;
+use crate::plan::make_plan;
+use edit_script::pool_of;
+use sf_reader::read;
+use std::alloc::Global;
+use std::io::Write;
+
+/// Reads the file, runs the script on its bank, and writes the edited bank to `out` and the script
+/// that takes the edits back to `undo`, each whole and flushed.
+///
+/// Where the file has a fault, the script has one, or an edit is refused, not one byte goes to either
+/// writer; so it is for want of memory. A writer's fault tells how many bytes of its text it took.
+pub fn edit_run<W: Write, V: Write>(
+    alloc: Global,
+    file: &[u8],
+    script: &[u8],
+    out: &mut W,
+    undo: &mut V,
+) -> Result<(), RunFault>
+    // The outcome of these bytes goes out: of the file, else of the script, else of the first refused
+    // line, else both texts.
+    ensures runs { Runs (record { out = W.contents out.old; out_new = W.contents out.new; undo = V.contents undo.old; undo_new = V.contents undo.new })
+        (outcome file.now script.now) result }
+    // Run on the written file alone, the undo text writes the canonical file of the first bank.
+    ensures restores { IsUndone file.now script.now }
+{
+    let (bank, _counts) = read(alloc, file)?;
+    let pool = pool_of(alloc, script)?;
+    let plan = make_plan(alloc, bank, script, pool.as_slice())?;
+    deliver(&plan, out, undo)
+}

@@ -5,13 +5,13 @@ use Rattle.sfbank.proofs.plan.make_plan.Goals as goal
 pub returns-in_err-lines : goal.returns-in_err-lines
 returns-in_err-lines c =
     let p = err_from_is_err_and c.from_residual.result c.from_residual.ensures.1 in
-    rw (p.1, p.2) (at_script c.args.bank c.args.script.now c.in_err-lines.field-0.0 c.in_err-lines.ensures)
+    record { plans = rw (p.1, p.2) (at_script c.args.bank c.args.script.now c.in_err-lines.field-0.0 c.in_err-lines.ensures.answers) }
 
 pub returns-in_err-undo : goal.returns-in_err-undo
 returns-in_err-undo c =
     let p = err_from_is_err_and c.from_residual-in_err-undo.result c.from_residual-in_err-undo.ensures.1 in
-    rw (p.1, p.2) (at_line c.args.bank c.args.script.now c.in_ok-lines.lines.items c.in_err-undo.field-0.0 c.in_ok-lines.ensures.answers c.in_err-undo.ensures)
+    record { plans = rw (p.1, p.2) (at_line c.args.bank c.args.script.now c.in_ok-lines.lines.items c.in_err-undo.field-0.0 c.in_ok-lines.ensures.answers c.in_err-undo.ensures.applied) }
 
 pub returns : goal.returns
 returns c =
-    at_done c.args.bank c.apply_all.new.bank c.args.script.now c.in_ok-lines.lines.items c.in_ok-undo.undo.items c.in_ok-lines.ensures.answers c.in_ok-undo.ensures
+    record { plans = at_done c.args.bank c.apply_all.new.bank c.args.script.now c.in_ok-lines.lines.items c.in_ok-undo.undo.items c.in_ok-lines.ensures.answers c.in_ok-undo.ensures.applied }
