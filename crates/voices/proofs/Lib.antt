@@ -1,3 +1,5 @@
 pub mod LevelLemmas
 pub mod PlaceLemmas
 pub mod OverLemmas
+pub mod WriteLemmas
+pub mod RunLemmas

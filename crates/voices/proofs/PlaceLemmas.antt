@@ -147,3 +147,16 @@ pub place_more : (v : VoiceParameters) (t : ℕ) → (v.looped ≡ true → v.lo
     → place v (t + 1) ≡ cond (is_looping v t) (wrapped (65536 * v.loop_start) (65536 * v.loop_end) (place v t + v.step)) (place v t + v.step)
 unfolding place
 place_more v t h = by_until v.until_release v.looped v.length t v.step (looped_place v) (wrapped (65536 * v.loop_start) (65536 * v.loop_end)) (looped_place_more v t h)
+
+times_div : (k d n : ℕ) → k ≤ d / n → k * n ≤ d
+times_div k d n h =
+    let e : d / n * n + d % n ≡ d = div-add-mod' d n in
+    let f : k * n ≤ d / n * n = mul-le k n (d / n) n h (omega arith) in omega arith
+
+-- a run stays before an end that its last step doesn't reach
+pub run_stays : (x step to n k : ℕ) → x < to → n ≤ (to - 1 - x) / step + 1 → k < n → x + k * step < to
+run_stays x step to n k h g l =
+    let e : k * step ≤ to - 1 - x = times_div k (to - 1 - x) step (omega arith) in omega arith
+
+pub stands_still : (x step to k : ℕ) → x < to → step ≡ 0 → x + k * step < to
+stands_still x step to k h e = let f : k * step ≡ 0 = ap (λ s. k * s) e ∙ omega arith in omega arith

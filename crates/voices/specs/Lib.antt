@@ -4,3 +4,4 @@ pub mod Points
 pub mod Envelope
 pub mod Sound
 pub mod Within
+pub mod Runs

@@ -8,6 +8,7 @@ mod frames;
 mod levels;
 mod parameters;
 mod places;
+mod runs;
 mod sampled;
 mod voice;
 

@@ -1,5 +1,5 @@
 //! Where a voice reads its sample.
-ghost use Rattle.std.specs.Prelude.{◌≡◌, ◌+◌, ◌≤◌, ◌<◌, ◌^◌, IsTrue, true};
+ghost use Rattle.std.specs.Prelude.{◌≡◌, ◌+◌, ◌≤◌, ◌<◌, ◌^◌, ◌*◌, ℕ, IsTrue, true};
 ghost use Rattle.std.specs.Bool.{OnFalse};
 ghost use Rattle.voices.specs.Place.{looped_place, place, is_looping, is_over};
 
@@ -64,4 +64,20 @@ pub fn is_over_at(v: &VoiceParameters, t: u64) -> bool
         return true;
     }
     !is_looping_at(v, t) && 65536 * u64::from(v.end) <= place_at(v, t)
+}
+
+// How many frames, at most `most`, lie before `to`: the first is at `x`, each next one `step` further.
+#[tactic(auto, using(crate::proofs::PlaceLemmas::run_stays, crate::proofs::PlaceLemmas::stands_still))]
+pub fn frames_before(x: u64, step: u64, to: u64, most: u64) -> u64
+    requires before { x < to }
+    requires some { 0 < most }
+    ensures some { 0 < result }
+    ensures most { result ≤ most }
+    ensures before { (k : ℕ) → k < result → x + k * step < to }
+{
+    if step == 0 {
+        return most;
+    }
+    let whole = (to - 1 - x) / step;
+    if whole < most { whole + 1 } else { most }
 }

@@ -8,6 +8,7 @@ ghost use Rattle.voices.specs.Within.{AllWithin};
 use crate::frames::frame;
 use crate::parameters::VoiceParameters;
 use crate::places::is_over_at;
+use crate::runs::add_run;
 use sample_view::Points;
 use std::marker::Model;
 
@@ -64,5 +65,20 @@ impl<'a> Voice<'a> {
             self.age += 1;
         }
         sides
+    }
+
+    /// Adds the next frames to sums of both sides, left and right in turn. Each sum has room for one
+    /// more voice: none is further from zero than 65534 voices reach.
+    pub fn add_frames(&mut self, sums: &mut [i32])
+        requires even { length sums.old % 2 ≡ 0 }
+        requires young { self.old.age + length sums.old < 2 ^ 64 }
+        requires room { AllWithin 65534 sums.old }
+        ensures value { EachIndex sums.new (λ i. slice_index_or sums.new i (pos 0)
+            ≡ slice_index_or sums.old i (pos 0) +ℤ snd self.old.value (nat_eq (i % 2) 0) (self.old.age + i / 2)) }
+        ensures room { (j : ℕ) → AllWithin j sums.old → AllWithin (j + 1) sums.new }
+        ensures live { self.new ≡ record { value = self.old.value; age = self.old.age + length sums.old / 2 } }
+    {
+        add_run(&self.points, &self.parameters, self.age, sums);
+        self.age += sums.len() as u64 / 2;
     }
 }
