@@ -3,3 +3,4 @@ pub mod PlaceLemmas
 pub mod OverLemmas
 pub mod WriteLemmas
 pub mod RunLemmas
+pub mod SliceLemmas

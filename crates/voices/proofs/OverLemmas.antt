@@ -65,3 +65,6 @@ over_stays v s (suc t) h l e = ⊎_elim
     (λ q. subst (λ x. is_over v x ≡ true) q e)
     (λ apart. subst (λ x. is_over v x ≡ true) (omega arith) (over_next v t h (over_stays v s t h (omega arith) e)))
     (cases_eq s (suc t))
+
+pub is_looped_at : (v : VoiceParameters) (t : ℕ) → is_looping v t ≡ true → v.looped ≡ true
+is_looped_at v t e = is_looped v.looped (is_loop_left v t) e

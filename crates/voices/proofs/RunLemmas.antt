@@ -9,9 +9,9 @@ use Rattle.voices.specs.Levels.{side}
 use Rattle.voices.specs.Place.{wrapped, place, is_looping, is_loop_left, is_over}
 use Rattle.voices.specs.Sound.{VoiceValue, IsPlayable, snd, sound_at, part_of}
 use Rattle.voices.specs.Within.{IsWithin}
-use Rattle.voices.specs.Runs.{IsAdded, IsStretch}
-use Rattle.voices.proofs.PlaceLemmas.{place_more}
-use Rattle.voices.proofs.OverLemmas.{loop_left_stays, over_stays}
+use Rattle.voices.specs.Runs.{IsAdded, IsStretch, limit, gone_on}
+use Rattle.voices.proofs.PlaceLemmas.{place_more, place_inside, wrapped_below, wrapped_step}
+use Rattle.voices.proofs.OverLemmas.{loop_left_stays, over_stays, place_sounds}
 
 same_end : (l t k : ℕ) → (t < l → t + k < l) → nat_le l (t + k) ≡ nat_le l t
 same_end l t k h =
@@ -123,3 +123,35 @@ differ b e f = true≢false (sym e ∙ f)
 pub near_is : (x x' s s' e e' k : ℕ) → x ≡ x' → s ≡ s' → e ≡ e' → x + k * s < 65536 * e → x' + k * s' < 65536 * e'
 near_is x x' s s' e e' k p q r h =
     subst (λ y. y + k * s' < 65536 * e') p (subst (λ y. x + k * y < 65536 * e') q (subst (λ y. x + k * s < 65536 * y) r h))
+
+-- a voice that isn't over reads before the loop's end, or the sample's
+pub place_near : (n : ℕ) (v : VoiceParameters) (t : ℕ) (looping : Bool) → IsPlayable n v → is_over v t ≡ false → is_looping v t ≡ looping
+    → place v t < 65536 * limit v looping
+place_near n v t true p o e = place_inside v t e p.ordered
+place_near n v t false p o e = place_sounds n v t p o
+
+-- to go on, and to look at the loop only then
+pub place_on : (v : VoiceParameters) (t k : ℕ) (looping : Bool) → (v.looped ≡ true → v.loop_start < v.loop_end) → is_looping v t ≡ looping
+    → ((j : ℕ) → j < k → is_looping v (t + j) ≡ looping) → (looping ≡ true → v.loop_start < v.loop_end)
+    → place v (t + k) ≡ gone_on v looping (place v t + k * v.step)
+place_on v t k false h e same o = (straight_on v t k h e).1
+place_on v t zero true h e same o =
+    let q : place v t ≡ place v (t + 0) = ap (place v) (omega arith) in
+    let r : place v t ≡ place v t + 0 * v.step = omega arith in
+    sym q ∙ sym (wrapped_below (65536 * v.loop_start) (65536 * v.loop_end) (place v t) (place_inside v t e h))
+    ∙ ap (wrapped (65536 * v.loop_start) (65536 * v.loop_end)) r
+place_on v t (suc k) true h e same o =
+    let from = 65536 * v.loop_start in
+    let to = 65536 * v.loop_end in
+    let ih : place v (t + k) ≡ wrapped from to (place v t + k * v.step) = place_on v t k true h e (λ j l. same j (omega arith)) o in
+    let q : place v (t + suc k) ≡ place v (t + k + 1) = ap (place v) (omega arith) in
+    let lt : v.loop_start < v.loop_end = o refl in
+    let m : place v (t + k + 1) ≡ wrapped from to (place v (t + k) + v.step) =
+        place_more v (t + k) h ∙ ap (λ b. cond b (wrapped from to (place v (t + k) + v.step)) (place v (t + k) + v.step)) (same k (omega arith)) in
+    let r : place v t + k * v.step + v.step ≡ place v t + suc k * v.step = omega arith in
+    q ∙ m ∙ ap (λ x. wrapped from to (x + v.step)) ih ∙ wrapped_step from to (place v t + k * v.step) v.step (omega arith) ∙ ap (wrapped from to) r
+
+-- within its limit the place has nothing to look at
+pub gone_near : (v : VoiceParameters) (looping : Bool) (x : ℕ) → x < 65536 * limit v looping → gone_on v looping x ≡ x
+gone_near v true x h = wrapped_below (65536 * v.loop_start) (65536 * v.loop_end) x h
+gone_near v false x h = refl

@@ -47,3 +47,17 @@ module _ {A : Type 0} (d : A) where
   -- an element of a piece
   pub in_piece : (xs : List A) (at n k : ℕ) → at + n ≤ length xs → k < n → get_or (take (at + n - at) (drop at xs)) k d ≡ get_or xs (at + k) d
   in_piece xs at n k long h = grind (arith, common_steps)
+
+  -- what holds of each element before a piece, and of the first ones in the piece
+  pub below_front : (P : ℕ → A → Type 0) (xs new : List A) (at m n : ℕ) → at + m ≤ length xs → length new ≡ m → n ≤ m
+      → ((k : ℕ) → k < at → P k (get_or xs k d)) → ((k : ℕ) → k < n → P (at + k) (get_or new k d))
+      → (k : ℕ) → k < at + n → P k (get_or (take at xs ++ (new ++ drop m (drop at xs))) k d)
+  below_front P xs new at m n long len part before here k h =
+      elim (cases_lt k at) [
+        inl lt ↦
+          let o : get_or (take at xs ++ (new ++ drop m (drop at xs))) k d ≡ get_or xs k d = grind (arith, common_steps) in
+          subst (P k) (sym o) (before k lt)
+      | inr ge ↦
+          let o : get_or (take at xs ++ (new ++ drop m (drop at xs))) k d ≡ get_or new (k - at) d = grind (arith, common_steps) in
+          let e : at + (k - at) ≡ k = omega arith in
+          subst (P k) (sym o) (subst (λ m. P m (get_or new (k - at) d)) e (here (k - at) (omega arith))) ]

@@ -10,6 +10,7 @@ mod parameters;
 mod places;
 mod runs;
 mod sampled;
+mod slices;
 mod voice;
 
 pub use parameters::VoiceParameters;

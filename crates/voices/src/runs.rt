@@ -3,15 +3,15 @@
 ghost use Rattle.std.specs.Prelude.{◌≡◌, ℕ, ◌+◌, ◌*◌, ◌/◌, ◌%◌, ◌^◌, ◌≤◌, ◌<◌, ◌≤ℤ◌, ◌+ℤ◌, pos, negsuc, true, false, cond, EachIndex, length, nat_eq, slice_index, slice_index_or};
 ghost use Rattle.sound_tables.specs.Tables.{gain_of};
 ghost use Rattle.voices.specs.Levels.{scaled_by, side};
-ghost use Rattle.voices.specs.Place.{is_over, is_looping, place};
-ghost use Rattle.voices.specs.Points.{point_of};
+ghost use Rattle.voices.specs.Place.{is_over};
 ghost use Rattle.voices.specs.Envelope.{envelope};
 ghost use Rattle.voices.specs.Sound.{IsPlayable, sound_at, snd};
 ghost use Rattle.voices.specs.Within.{AllWithin};
 ghost use Rattle.voices.specs.Runs.{IsAdded, IsStretch};
 
 use crate::envelopes::envelope_at;
-use crate::frames::{left_part, point_at_frame, right_part};
+use crate::frames::{left_part, right_part};
+use crate::slices::fill_points;
 use crate::levels::{louder, parted};
 use crate::parameters::VoiceParameters;
 use crate::places::{frames_before, is_looping_at, is_over_at, place_at};
@@ -53,18 +53,6 @@ fn frames_ahead(v: &VoiceParameters, t: u64, most: u64) -> u64
         most.min(length - t)
     } else {
         most.min(length + u64::from(v.release) - t)
-    }
-}
-
-// What the sample says at each frame of a stretch.
-fn fill_points(points: &Points, v: &VoiceParameters, t: u64, run: &mut [i16])
-    requires playable { IsPlayable (length points.now) v.now }
-    requires one_way { IsStretch v.now t (length run.old) }
-    ensures { EachIndex run.new (λ k. slice_index_or run.new k (pos 0)
-        ≡ point_of points.now v.now (is_looping v.now (t + k)) (place v.now (t + k))) }
-{
-    for k in 0..run.len() {
-        run[k] = point_at_frame(points, v, t + k as u64) as i16;
     }
 }
 
