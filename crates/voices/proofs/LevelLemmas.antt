@@ -1,12 +1,11 @@
 -- Bounds of what is scaled, parted and interpolated.
-use Rattle.std.proofs.Common.{◌≡◌, ℕ, ◌+◌, ◌-◌, ◌*◌, ◌/◌, ◌%◌, ◌^◌, ◌<◌, ◌≤◌, suc, zero, ℤ, pos, negsuc, ◌+ℤ◌, ◌-ℤ◌, ◌*ℤ◌, ◌≤ℤ◌, neg_ℤ, FitsSigned, refl, sym, ◌∙◌, ap, arith, mul-le-mul_left}
-use Rattle.std.proofs.lemmas.Nat.{div_below, mul-le, and_mask}
+use Rattle.std.proofs.Common.{◌≡◌, ℕ, ◌*◌, ◌/◌, ◌<◌, ◌≤◌, suc, ℤ, pos, negsuc, ◌+ℤ◌, ◌-ℤ◌, ◌*ℤ◌, ◌≤ℤ◌, neg_ℤ, FitsSigned, sym, ap, arith, mul-le-mul_left}
+use Rattle.std.proofs.lemmas.Nat.{div_below, mul-le}
 use Rattle.std.proofs.lemmas.Int.{ints}
-use Rattle.std.specs.Int.{w16, w32, w64}
-use Rattle.std.proofs.Common.{bit_and, SFits, to_z, of_z, unsigned_abs, lit<, List, length, get_or, set, ◌≢◌, subst, inl, inr, get_or-set_other, get_or-set_same}
+use Rattle.std.specs.Int.{w16, w64}
+use Rattle.std.proofs.Common.{SFits, to_z, of_z, unsigned_abs, lit<}
 use Rattle.std.proofs.lemmas.Int.{to_z-of_z, fits_signed_mul}
 use Rattle.std.specs.Int.Signed.{shr_z, mag_shr}
-use Rattle.std.proofs.lemmas.Bool.{cases_lt}
 use Rattle.sound_tables.specs.Floor.{floor_div}
 use Rattle.sound_tables.proofs.FloorLemmas.{floor_div_is}
 use Rattle.voices.specs.Levels.{scaled_by, side}

@@ -4,3 +4,4 @@ pub mod OverLemmas
 pub mod WriteLemmas
 pub mod RunLemmas
 pub mod SliceLemmas
+pub mod PhaseLemmas

@@ -1,12 +1,12 @@
 -- Stretches of frames, and what they add.
-use Rattle.std.proofs.Common.{◌≡◌, ℕ, zero, suc, ◌+◌, ◌-◌, ◌*◌, ◌/◌, ◌%◌, ◌<◌, ◌≤◌, ℤ, pos, negsuc, ◌+ℤ◌, ◌≤ℤ◌, Bool, true, false, cond, not, ◌&&◌, List, get_or, nat_eq, nat_le, refl, sym, ◌∙◌, ap, subst, arith, inl, inr, to_z, of_z, true≢false}
+use Rattle.std.proofs.Common.{◌≡◌, ℕ, zero, suc, ◌+◌, ◌*◌, ◌/◌, ◌%◌, ◌<◌, ◌≤◌, ℤ, pos, negsuc, ◌+ℤ◌, ◌≤ℤ◌, Bool, true, false, cond, not, ◌&&◌, List, get_or, nat_eq, nat_le, refl, sym, ◌∙◌, ap, subst, arith, inl, inr, to_z, of_z, true≢false}
 use Rattle.std.specs.Int.{w32}
 use Rattle.std.proofs.lemmas.Int.{ints}
 use Rattle.std.proofs.lemmas.Bool.{cases_lt}
 use Rattle.std.proofs.lemmas.Bool.Decides.{nat_tests}
 use Rattle.voices.specs.declared.parameters.VoiceParameters.{VoiceParameters}
 use Rattle.voices.specs.Levels.{side}
-use Rattle.voices.specs.Place.{wrapped, place, is_looping, is_loop_left, is_over}
+use Rattle.voices.specs.Place.{wrapped, place, is_looping, is_over}
 use Rattle.voices.specs.Sound.{VoiceValue, IsPlayable, snd, sound_at, part_of}
 use Rattle.voices.specs.Within.{IsWithin}
 use Rattle.voices.specs.Runs.{IsAdded, IsStretch, limit, gone_on}
@@ -54,6 +54,7 @@ pub stretch_is : (v : VoiceParameters) (t n : ℕ) → (v.looped ≡ true → v.
 stretch_is v t n h young unreleased before near = record {
   young = young;
   unreleased = unreleased;
+  held = before;
   same = λ k l. same_loop v t k (λ g. let b : t + n ≤ v.length = before g in omega arith);
   sounds = λ k l.
       let s : is_looping v (t + k) ≡ is_looping v t = same_loop v t k (λ g. let b : t + n ≤ v.length = before g in omega arith) in
@@ -147,7 +148,7 @@ place_on v t (suc k) true h e same o =
     let q : place v (t + suc k) ≡ place v (t + k + 1) = ap (place v) (omega arith) in
     let lt : v.loop_start < v.loop_end = o refl in
     let m : place v (t + k + 1) ≡ wrapped from to (place v (t + k) + v.step) =
-        place_more v (t + k) h ∙ ap (λ b. cond b (wrapped from to (place v (t + k) + v.step)) (place v (t + k) + v.step)) (same k (omega arith)) in
+    place_more v (t + k) h ∙ ap (λ b. cond b (wrapped from to (place v (t + k) + v.step)) (place v (t + k) + v.step)) (same k (omega arith)) in
     let r : place v t + k * v.step + v.step ≡ place v t + suc k * v.step = omega arith in
     q ∙ m ∙ ap (λ x. wrapped from to (x + v.step)) ih ∙ wrapped_step from to (place v t + k * v.step) v.step (omega arith) ∙ ap (wrapped from to) r
 

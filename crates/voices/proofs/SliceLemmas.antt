@@ -1,8 +1,8 @@
 -- What one slice tells of the points around a place.
-use Rattle.std.proofs.Common.{◌≡◌, ℕ, zero, suc, ◌+◌, ◌-◌, ◌*◌, ◌/◌, ◌%◌, ◌<◌, ◌≤◌, ℤ, pos, negsuc, Bool, true, false, cond, not, ◌&&◌, ◌==◌, List, length, get_or, nat_lt, nat_le, refl, sym, ◌∙◌, ap, subst, arith, to_z, of_z, SFits, bit_and}
+use Rattle.std.proofs.Common.{◌≡◌, ℕ, ◌+◌, ◌-◌, ◌*◌, ◌/◌, ◌%◌, ◌<◌, ◌≤◌, ℤ, pos, Bool, true, false, cond, ◌&&◌, ◌==◌, List, length, get_or, nat_lt, refl, ◌∙◌, ap, arith, to_z, of_z, SFits, bit_and}
 use Rattle.std.proofs.lemmas.Bool.Decides.{nat_tests}
 use Rattle.std.proofs.lemmas.Int.{to_z-of_z}
-use Rattle.std.proofs.lemmas.Nat.{and_mask, div-add-mod'}
+use Rattle.std.proofs.lemmas.Nat.{and_mask}
 use Rattle.std.specs.Int.{w16, cast_signed}
 use Rattle.sample_view.specs.Words.{words}
 use Rattle.sample_view.specs.Runs.{IsRunAround}
@@ -45,9 +45,9 @@ straight_is points bytes v looping i first x run l from last slice =
     let f = from_first x p from in
     let le : p ≤ x / 65536 = omega arith in
     let here : point_at (words bytes) ((x - 65536 * p) / 65536) ≡ point_at points (x / 65536) =
-        ap (point_at (words bytes)) f.0 ∙ point_run points bytes i first (x / 65536 - p) (x / 65536) run (omega arith) (omega arith) in
+    ap (point_at (words bytes)) f.0 ∙ point_run points bytes i first (x / 65536 - p) (x / 65536) run (omega arith) (omega arith) in
     let next : point_at (words bytes) ((x - 65536 * p) / 65536 + 1) ≡ point_at points (x / 65536 + 1) =
-        ap (λ k. point_at (words bytes) (k + 1)) f.0 ∙ point_run points bytes i first (x / 65536 - p + 1) (x / 65536 + 1) run (omega arith) (omega arith) in
+    ap (λ k. point_at (words bytes) (k + 1)) f.0 ∙ point_run points bytes i first (x / 65536 - p + 1) (x / 65536 + 1) run (omega arith) (omega arith) in
     ap (λ y. between y (point_at (words bytes) ((x - 65536 * p) / 65536 + 1)) ((x - 65536 * p) % 65536)) here
     ∙ ap (λ y. between (point_at points (x / 65536)) y ((x - 65536 * p) % 65536)) (next ∙ next_point points looping v.loop_end v.loop_start v.end (x / 65536) last l)
     ∙ ap (between (point_at points (x / 65536)) (follower points v looping (x / 65536))) f.1

@@ -54,10 +54,11 @@ module _ {A : Type 0} (d : A) where
       → (k : ℕ) → k < at + n → P k (get_or (take at xs ++ (new ++ drop m (drop at xs))) k d)
   below_front P xs new at m n long len part before here k h =
       elim (cases_lt k at) [
-        inl lt ↦
-          let o : get_or (take at xs ++ (new ++ drop m (drop at xs))) k d ≡ get_or xs k d = grind (arith, common_steps) in
-          subst (P k) (sym o) (before k lt)
-      | inr ge ↦
-          let o : get_or (take at xs ++ (new ++ drop m (drop at xs))) k d ≡ get_or new (k - at) d = grind (arith, common_steps) in
-          let e : at + (k - at) ≡ k = omega arith in
-          subst (P k) (sym o) (subst (λ m. P m (get_or new (k - at) d)) e (here (k - at) (omega arith))) ]
+        | inl lt ↦
+            let o : get_or (take at xs ++ (new ++ drop m (drop at xs))) k d ≡ get_or xs k d = grind (arith, common_steps) in
+            subst (P k) (sym o) (before k lt)
+        | inr ge ↦
+            let o : get_or (take at xs ++ (new ++ drop m (drop at xs))) k d ≡ get_or new (k - at) d = grind (arith, common_steps) in
+            let e : at + (k - at) ≡ k = omega arith in
+            subst (P k) (sym o) (subst (λ m. P m (get_or new (k - at) d)) e (here (k - at) (omega arith)))
+      ]

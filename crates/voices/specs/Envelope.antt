@@ -1,5 +1,5 @@
 -- How loud a voice is at frame t, in 65536ths.
-use Rattle.std.specs.Prelude.{ℕ, ◌+◌, ◌-◌, ◌*◌, ◌/◌, cond, nat_lt, min}
+use Rattle.std.specs.Prelude.{ℕ, ◌-◌, ◌*◌, ◌/◌, cond, nat_lt, min}
 use Rattle.sound_tables.specs.Tables.{gain_at}
 use Rattle.voices.specs.declared.parameters.VoiceParameters.{VoiceParameters}
 

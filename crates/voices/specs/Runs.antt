@@ -10,10 +10,12 @@ pub record IsAdded (was sound sum : ℤ) : Type 0 where
   pub low : negsuc 32767 ≤ℤ sound
   pub high : sound ≤ℤ pos 32767
 
--- n frames from t on in which the voice isn't over, and the loop is in force throughout or not at all
+-- n frames from t on in which the voice isn't over, none or all before the note's end, and the loop in force throughout or not
+-- at all
 pub record IsStretch (v : VoiceParameters) (t n : ℕ) : Type 0 where
   pub young : t + n < 2 ^ 33
   pub unreleased : t + n ≤ v.length + v.release
+  pub held : t < v.length → t + n ≤ v.length
   pub sounds : (k : ℕ) → k < n → is_over v (t + k) ≡ false
   pub same : (k : ℕ) → k < n → is_looping v (t + k) ≡ is_looping v t
 

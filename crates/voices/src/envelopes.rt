@@ -20,7 +20,7 @@ fn decayed_at(v: &VoiceParameters, fallen: u64) -> u32
 
 // The level at frame `t` of the note, before its end.
 #[tactic(auto, unfolding(crate::specs::Envelope::held))]
-fn held_at(v: &VoiceParameters, t: u64) -> u32
+pub fn held_at(v: &VoiceParameters, t: u64) -> u32
     requires { t < 2 ^ 34 }
     ensures value { result ≡ held v.now t }
     ensures most { result ≤ 65536 }

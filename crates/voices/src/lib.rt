@@ -7,6 +7,7 @@ mod envelopes;
 mod frames;
 mod levels;
 mod parameters;
+mod phases;
 mod places;
 mod runs;
 mod sampled;

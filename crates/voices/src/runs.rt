@@ -9,12 +9,12 @@ ghost use Rattle.voices.specs.Sound.{IsPlayable, sound_at, snd};
 ghost use Rattle.voices.specs.Within.{AllWithin};
 ghost use Rattle.voices.specs.Runs.{IsAdded, IsStretch};
 
-use crate::envelopes::envelope_at;
 use crate::frames::{left_part, right_part};
-use crate::slices::fill_points;
 use crate::levels::{louder, parted};
 use crate::parameters::VoiceParameters;
+use crate::phases::fill_levels;
 use crate::places::{frames_before, is_looping_at, is_over_at, place_at};
+use crate::slices::fill_points;
 use sample_view::Points;
 use sound_tables::gain;
 
@@ -56,18 +56,6 @@ fn frames_ahead(v: &VoiceParameters, t: u64, most: u64) -> u64
     }
 }
 
-// How loud the voice is at each frame of a stretch.
-fn fill_levels(v: &VoiceParameters, t: u64, levels: &mut [u32])
-    requires young { t + length levels.old < 2 ^ 33 }
-    requires unreleased { t + length levels.old ≤ v.now.length + v.now.release }
-    ensures value { EachIndex levels.new (λ k. slice_index levels.new k ≡ envelope v.now (t + k)) }
-    ensures most { EachIndex levels.new (λ k. slice_index levels.new k ≤ 65536) }
-{
-    for k in 0..levels.len() {
-        levels[k] = envelope_at(v, t + k as u64);
-    }
-}
-
 // Makes each point as loud as its level and one gain.
 fn quieten(levels: &[u32], loudness: u32, run: &mut [i16])
     requires long { length levels.now ≡ length run.old }
@@ -96,8 +84,7 @@ fn silent_points() -> [i16; STRETCH]
 // Makes the points of a stretch as loud as the voice is.
 fn soften(v: &VoiceParameters, t: u64, levels: &mut [u32], run: &mut [i16])
     requires long { length levels.old ≡ length run.old }
-    requires young { t + length run.old < 2 ^ 33 }
-    requires unreleased { t + length run.old ≤ v.now.length + v.now.release }
+    requires one_way { IsStretch v.now t (length run.old) }
     ensures { EachIndex run.new (λ k. slice_index_or run.new k (pos 0)
         ≡ scaled_by (scaled_by (slice_index_or run.old k (pos 0)) (envelope v.now (t + k))) (gain_of v.now.attenuation)) }
 {

@@ -68,11 +68,7 @@ fn fill_front(points: &Points, v: &VoiceParameters, looping: bool, x: u64, run: 
 fn limit_of(v: &VoiceParameters, looping: bool) -> u32
     ensures { result ≡ limit v.now looping }
 {
-    if looping {
-        v.loop_end
-    } else {
-        v.end
-    }
+    if looping { v.loop_end } else { v.end }
 }
 
 // Where a place has come after some frames.

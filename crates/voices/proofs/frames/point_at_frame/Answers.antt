@@ -1,4 +1,4 @@
-use Rattle.std.proofs.Common.{◌≡◌, ◌*◌, ◌<◌, length, arith}
+use Rattle.std.proofs.Common.{◌≡◌, length, arith}
 use Rattle.voices.specs.Place.{place}
 use Rattle.voices.proofs.OverLemmas.{place_sounds}
 use Rattle.voices.proofs.frames.point_at_frame.Goals as goal

@@ -1,4 +1,4 @@
-use Rattle.std.proofs.Common.{rules, ◌≡◌, ◌≢◌, ℕ, ◌+◌, ◌*◌, ◌/◌, ◌%◌, ◌<◌, ◌≤◌, ◌+ℤ◌, ℤ, pos, arith, get_or, set, cond, nat_eq, length, ap, sym, ◌∙◌, refl, to_z, of_z, SFits, get_or-set_other}
+use Rattle.std.proofs.Common.{rules, ◌≡◌, ◌≢◌, ℕ, ◌+◌, ◌*◌, ◌/◌, ◌%◌, ◌<◌, ◌+ℤ◌, ℤ, pos, arith, get_or, set, cond, nat_eq, length, ap, sym, ◌∙◌, refl, to_z, of_z, SFits, get_or-set_other}
 use Rattle.std.proofs.lemmas.Int.{ints, to_z-of_z}
 use Rattle.std.specs.Int.{w16, w32}
 use Rattle.std.proofs.lemmas.Grind.{common_steps}

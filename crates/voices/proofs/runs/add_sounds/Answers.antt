@@ -1,6 +1,5 @@
-use Rattle.std.proofs.Common.{◌≡◌, ◌+◌, ◌*◌, ◌/◌, ◌%◌, ◌<◌, ℕ, ℤ, pos, arith, get_or, length, cond, nat_eq, ap, subst, ◌∙◌}
+use Rattle.std.proofs.Common.{◌+◌, ◌/◌, ◌%◌, ◌<◌, ℤ, pos, arith, get_or, length, cond, nat_eq, ap, subst, ◌∙◌}
 use Rattle.voices.specs.Levels.{side}
-use Rattle.voices.specs.Sound.{snd, sound_at}
 use Rattle.voices.specs.Runs.{IsAdded}
 use Rattle.voices.proofs.RunLemmas.{part_is}
 use Rattle.voices.proofs.runs.add_sounds.Goals as goal

@@ -1,8 +1,6 @@
-use Rattle.std.proofs.Common.{◌≡◌, ◌+◌, ℤ, pos, arith, get_or, length, ap, ◌∙◌}
+use Rattle.std.proofs.Common.{◌+◌, ℤ, arith, ap, ◌∙◌}
 use Rattle.sound_tables.specs.Tables.{gain_of}
 use Rattle.voices.specs.Levels.{scaled_by}
-use Rattle.voices.specs.Place.{place, is_looping}
-use Rattle.voices.specs.Points.{point_of}
 use Rattle.voices.specs.Envelope.{envelope}
 use Rattle.voices.specs.Sound.{sound_at}
 use Rattle.voices.proofs.runs.fill_sounds.Goals as goal

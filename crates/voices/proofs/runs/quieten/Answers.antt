@@ -1,4 +1,4 @@
-use Rattle.std.proofs.Common.{rules, ◌≡◌, ℤ, pos, arith, get_or, ap, ◌∙◌, to_z, of_z, SFits}
+use Rattle.std.proofs.Common.{rules, ◌≡◌, pos, arith, get_or, ap, ◌∙◌, to_z, of_z, SFits}
 use Rattle.std.proofs.lemmas.Int.{ints, to_z-of_z}
 use Rattle.std.specs.Int.{w16, w32}
 use Rattle.voices.specs.Levels.{scaled_by}

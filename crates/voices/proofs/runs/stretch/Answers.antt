@@ -1,5 +1,4 @@
-use Rattle.std.proofs.Common.{◌≡◌, ◌+◌, ◌*◌, ◌<◌, ℕ, Bool, true, false, arith, sym, ◌∙◌, subst}
-use Rattle.voices.specs.Place.{place, is_looping}
+use Rattle.std.proofs.Common.{arith, sym, ◌∙◌}
 use Rattle.voices.proofs.RunLemmas.{stretch_is, differ, near_is}
 use Rattle.voices.proofs.runs.stretch.Goals as goal
 

@@ -1,8 +1,7 @@
-use Rattle.std.proofs.Common.{◌≡◌, ◌+◌, ◌-◌, ◌*◌, ◌/◌, ◌<◌, ◌≤◌, ℕ, ℤ, pos, ◌++◌, take, drop, length, get_or, arith, ap, subst, sym, ◌∙◌}
+use Rattle.std.proofs.Common.{◌≡◌, ◌+◌, ◌-◌, ◌*◌, ◌/◌, ◌<◌, ◌≤◌, ℕ, pos, ◌++◌, take, drop, length, get_or, arith, ap, ◌∙◌}
 use Rattle.std.proofs.lemmas.Grind.{common_steps}
 use Rattle.sample_view.specs.Words.{words}
-use Rattle.voices.specs.Points.{point_of}
-use Rattle.voices.specs.Runs.{limit, straight}
+use Rattle.voices.specs.Runs.{straight}
 use Rattle.voices.proofs.SliceLemmas.{straight_is}
 use Rattle.voices.proofs.slices.fill_front.Goals as goal
 

@@ -1,5 +1,5 @@
-use Rattle.std.proofs.Common.{◌≡◌, ◌+◌, ◌*◌, pos, arith, sym, ◌∙◌, ap, to_z, of_z, SFits}
-use Rattle.std.proofs.lemmas.Int.{ints, to_z-of_z}
+use Rattle.std.proofs.Common.{◌≡◌, ◌+◌, ◌*◌, pos, arith, ◌∙◌, ap, to_z, of_z, SFits}
+use Rattle.std.proofs.lemmas.Int.{ints}
 use Rattle.std.specs.Int.{w16, w32}
 use Rattle.sample_view.specs.Words.{words}
 use Rattle.voices.specs.Runs.{straight}
@@ -12,8 +12,8 @@ loop-k-preserved c =
     let ws = words c.args.bytes.now in
     let fits : SFits w32 c.interpolated.result = omega (arith, ints) in
     let here : c.interpolated.result ≡ straight ws c.loop-k.place =
-        point_here ws c.loop-k.place c.point_in.result c.point_in-in-loop-k.result c.interpolated.result
-        (record { sfits = c.point_in.type_inv }) (record { sfits = c.point_in-in-loop-k.type_inv }) c.point_in.ensures c.point_in-in-loop-k.ensures c.interpolated.ensures.value in
+    point_here ws c.loop-k.place c.point_in.result c.point_in-in-loop-k.result c.interpolated.result
+    (record { sfits = c.point_in.type_inv }) (record { sfits = c.point_in-in-loop-k.type_inv }) c.point_in.ensures c.point_in-in-loop-k.ensures c.interpolated.ensures.value in
     let there : c.interpolated.result ≡ straight ws (c.args.x + c.loop-k.k * c.args.step) = here ∙ ap (straight ws) c.loop-k.invariant.here in
     let same : to_z w16 (of_z w16 (to_z w32 (of_z w32 c.interpolated.result))) ≡ c.interpolated.result = omega (arith, ints) in
     let h = c.loop-k.invariant.here in
