@@ -1,5 +1,5 @@
 //! Modulators that a note's key or velocity moves along a straight line.
-ghost use Rattle.std.specs.Prelude.{◌≡◌, ◌↔◌, ◌≤◌, ◌<◌, ◌≤ℤ◌, IsTrue, pos, negsuc, Some, None, IfSome, MatchOption, ◌==◌};
+ghost use Rattle.std.specs.Prelude.{◌≡◌, ◌≤◌, ◌<◌, ◌≤ℤ◌, pos, negsuc, IfSome, MatchOption, ◌==◌};
 ghost use Rattle.std.specs.List.{list_any};
 ghost use Rattle.modulators.specs.Modulators.{bit_of};
 ghost use Rattle.modulators.specs.Linear.{IsLinear, is_linear, linear_value, controller_value, directed, polarized, moved_generators};
