@@ -3,8 +3,8 @@ use Rattle.std.proofs.Common.{◌≡◌, ℕ, zero, suc, ◌+◌, ◌-◌, ◌*�
 use Rattle.std.proofs.lemmas.Bool.{cases_lt}
 use Rattle.std.proofs.lemmas.Bool.Decides.{nat_tests}
 use Rattle.std.proofs.lemmas.Nat.{div-add-mod', div-mul-add, mul-le, div_below, mod_below}
-use Rattle.sound_tables.specs.Tables.{gain_at}
-use Rattle.sound_tables.proofs.GainLemmas.{gain_most}
+use Rattle.sound_tables.specs.Tables.{ratio, gain_at}
+use Rattle.sound_tables.proofs.GainLemmas.{gain_falls}
 use Rattle.voices.specs.declared.parameters.VoiceParameters.{VoiceParameters}
 use Rattle.voices.specs.Envelope.{decayed, held, released, envelope}
 use Rattle.voices.proofs.LevelLemmas.{faded}
@@ -63,6 +63,10 @@ decaying s (suc d) w h =
 
 pub decay_fits : (s d n : ℕ) → s < 4294967296 → n < s * d → n < d * 4294967296
 decay_fits s d n h l = let e : s * d ≤ 4294967296 * d = mul-le s d 4294967296 d (omega arith) (omega arith) in omega arith
+
+gain_most : (a : ℕ) → a ≤ 960 → gain_at a ≤ 65536
+unfolding ratio gain_at
+gain_most a h = gain_falls 0 a (omega arith) h
 
 pub gain_within : (a : ℕ) → gain_at a ≤ 65536
 unfolding gain_at
