@@ -5,6 +5,8 @@
 #[cfg(test)]
 mod linear;
 #[cfg(test)]
+mod single_voices;
+#[cfg(test)]
 mod tables;
 #[cfg(test)]
 mod waves;

@@ -1,0 +1,246 @@
+//! Worked frames of single voices.
+ghost use Rattle.std.specs.Prelude.{◌≡◌, ◌≤◌, ◌%◌, length};
+ghost use Rattle.voices.specs.Within.{AllWithin};
+
+use sample_view::Points;
+use std::test::Fail;
+use voices::{Voice, VoiceParameters};
+
+/// 1000, 2000 and -2000.
+const THREE: [u8; 6] = [0xe8, 0x03, 0xd0, 0x07, 0x30, 0xf8];
+
+// A voice of so many points at their own pitch, with no loop and no envelope.
+fn plain(end: u32, length: u32) -> VoiceParameters {
+    VoiceParameters {
+        start: 0,
+        end,
+        loop_start: 0,
+        loop_end: 0,
+        looped: false,
+        until_release: false,
+        step: 65536,
+        delay: 0,
+        attack: 0,
+        hold: 0,
+        decay: 0,
+        release: 0,
+        sustain: 0,
+        attenuation: 0,
+        pan: 0,
+        length,
+    }
+}
+
+// A voice that plays the three points from the second on in a loop, a fifth above their pitch.
+fn looped() -> VoiceParameters {
+    let mut parameters = plain(3, 8);
+    parameters.loop_start = 1;
+    parameters.loop_end = 3;
+    parameters.looped = true;
+    parameters.step = 98193;
+    parameters
+}
+
+// The voice, where its parameters are within their ranges.
+fn voice_of<'a>(points: Points<'a>, parameters: VoiceParameters) -> Option<Voice<'a>> {
+    let p = parameters;
+    if p.end as usize > points.len() || p.step > 73_043_661 || p.pan < -500 || p.pan > 500 {
+        return None;
+    }
+    if p.looped && (p.loop_start >= p.loop_end || p.loop_end > p.end) {
+        return None;
+    }
+    Some(Voice::of(points, parameters))
+}
+
+// Whether these are the next frames.
+fn plays(voice: &mut Voice, frames: &[(i32, i32)]) -> bool {
+    for frame in frames {
+        let (left, right) = voice.next_frame();
+        if left != frame.0 || right != frame.1 {
+            return false;
+        }
+    }
+    true
+}
+
+// Whether the voice is over after these frames and no earlier, and silent from then on.
+fn ends_after(voice: &mut Voice, frames: &[(i32, i32)]) -> bool {
+    for frame in frames {
+        if voice.done() {
+            return false;
+        }
+        let (left, right) = voice.next_frame();
+        if left != frame.0 || right != frame.1 {
+            return false;
+        }
+    }
+    voice.done() && plays(voice, &[(0, 0), (0, 0)]) && voice.done()
+}
+
+// Sums with nothing in them.
+fn silence<const N: usize>() -> [i32; N]
+    ensures room { AllWithin 65534 result }
+    ensures length { length result ≡ N }
+{
+    [0; N]
+}
+
+// Adds the next frames, where there are some.
+fn add(voice: &mut Voice, sums: &mut [i32])
+    requires even { length sums.old % 2 ≡ 0 }
+    requires short { length sums.old ≤ 65536 }
+    requires room { AllWithin 65534 sums.old }
+{
+    if !voice.done() {
+        voice.add_frames(sums);
+    }
+}
+
+#[test]
+fn a_loop_goes_round(rt: HostRuntime) -> Result<(), Fail> {
+    let points = Points::of_slice(rt.alloc(), &THREE)?;
+    let started = voice_of(points, looped());
+    assert!(rt; started.is_some());
+    if let Some(mut voice) = started {
+        let frames = [500, 3, 993, -11, -987, 16, 979, -24].map(|side| (side, side));
+        assert!(rt; ends_after(&mut voice, &frames));
+    }
+    Ok(())
+}
+
+#[test]
+fn a_run_is_cut_anywhere(rt: HostRuntime) -> Result<(), Fail> {
+    let points = Points::of_slice(rt.alloc(), &THREE)?;
+    let started = voice_of(points, looped());
+    assert!(rt; started.is_some());
+    if let Some(mut voice) = started {
+        let mut front: [i32; 6] = silence();
+        add(&mut voice, &mut front);
+        assert_eq!(rt; front, [500, 500, 3, 3, 993, 993]);
+        let mut back: [i32; 12] = silence();
+        add(&mut voice, &mut back);
+        assert_eq!(rt;
+            back,
+            [-11, -11, -987, -987, 16, 16, 979, 979, -24, -24, 0, 0]
+        );
+        assert!(rt; voice.done());
+    }
+    Ok(())
+}
+
+#[test]
+fn an_attack_and_a_release_on_the_right(rt: HostRuntime) -> Result<(), Fail> {
+    let points = Points::of_slice(rt.alloc(), &THREE[..2])?;
+    let mut parameters = plain(1, 50);
+    parameters.loop_end = 1;
+    parameters.looped = true;
+    parameters.attack = 43;
+    parameters.release = 43;
+    parameters.pan = 500;
+    let started = voice_of(points, parameters);
+    assert!(rt; started.is_some());
+    if let Some(mut voice) = started {
+        let mut sums: [i32; 186] = silence();
+        add(&mut voice, &mut sums);
+        assert!(rt; voice.done());
+        let right = [0, 1, 42, 43, 50, 71, 92].map(|frame: usize| sums[2 * frame + 1]);
+        assert_eq!(rt; right, [0, 23, 976, 1000, 1000, 4, 0]);
+        let left = [0, 1, 42, 43, 50, 71, 92].map(|frame: usize| sums[2 * frame]);
+        assert_eq!(rt; left, [0; 7]);
+    }
+    Ok(())
+}
+
+#[test]
+fn a_loop_that_the_notes_end_leaves(rt: HostRuntime) -> Result<(), Fail> {
+    let bytes = [0xe8, 0x03, 0xd0, 0x07, 0x30, 0xf8, 0xb8, 0x0b, 0x00, 0x80];
+    let points = Points::of_slice(rt.alloc(), &bytes)?;
+    let mut parameters = plain(5, 6);
+    parameters.loop_start = 1;
+    parameters.loop_end = 3;
+    parameters.looped = true;
+    parameters.until_release = true;
+    parameters.step = 49152;
+    parameters.release = 1000;
+    parameters.attenuation = 60;
+    parameters.pan = -250;
+    let started = voice_of(points, parameters);
+    assert!(rt; started.is_some());
+    if let Some(mut voice) = started {
+        let held = [
+            (375, 125),
+            (656, 218),
+            (0, 0),
+            (-375, -125),
+            (750, 250),
+            (-375, -125),
+        ];
+        assert!(rt; plays(&mut voice, &held));
+        let rest = [(187, 62), (-2229, -743), (-12150, -4050), (-3003, -1001)];
+        assert!(rt; ends_after(&mut voice, &rest));
+    }
+    Ok(())
+}
+
+#[test]
+fn a_voice_over_three_slices(rt: HostRuntime) -> Result<(), Fail> {
+    let mut points = Points::of_slice(rt.alloc(), &[0xb8, 0x0b, 0x60, 0xf0, 0x88, 0x13])?;
+    let front = Points::of_slice(rt.alloc(), &[0xe8, 0x03, 0xd0, 0x07])?;
+    let back = Points::of_slice(rt.alloc(), &[0x70, 0x17, 0xa8, 0xe4])?;
+    assert!(rt; points.len() == 3 && front.len() == 2 && back.len() == 2);
+    assert!(rt; points.join(front, back).is_ok());
+    let mut parameters = plain(7, 20);
+    parameters.step = 40000;
+    let frames = [
+        500, 805, 1110, 1415, -45, -1768, 979, 2636, 2941, -206, -3138, -1002,
+    ];
+    let started = voice_of(points.copy(rt.alloc())?, parameters);
+    assert!(rt; started.is_some());
+    if let Some(mut voice) = started {
+        assert!(rt; ends_after(&mut voice, &frames.map(|side| (side, side))));
+    }
+    let started = voice_of(points, parameters);
+    assert!(rt; started.is_some());
+    if let Some(mut voice) = started {
+        let mut sums: [i32; 26] = silence();
+        add(&mut voice, &mut sums);
+        assert!(rt; voice.done());
+        let left = [0, 1, 2, 3, 4, 5, 6, 7, 8, 9, 10, 11].map(|frame: usize| sums[2 * frame]);
+        assert_eq!(rt; left, frames);
+        let end = (sums[24], sums[25]);
+        assert_eq!(rt; end, (0, 0));
+    }
+    Ok(())
+}
+
+#[test]
+fn each_phase_of_an_envelope(rt: HostRuntime) -> Result<(), Fail> {
+    let points = Points::of_slice(rt.alloc(), &[0x30, 0x75])?;
+    let mut parameters = plain(1, 16);
+    parameters.loop_end = 1;
+    parameters.looped = true;
+    parameters.delay = 2;
+    parameters.attack = 4;
+    parameters.hold = 2;
+    parameters.decay = 8;
+    parameters.release = 8;
+    parameters.sustain = 300;
+    parameters.attenuation = 30;
+    let frames = [
+        0, 0, 0, 2651, 5303, 7954, 10606, 10606, 10606, 2651, 662, 331, 331, 331, 331, 331, 331,
+        82, 20, 4, 1, 0, 0, 0,
+    ];
+    let started = voice_of(points, parameters);
+    assert!(rt; started.is_some());
+    if let Some(mut voice) = started {
+        let mut sums: [i32; 48] = silence();
+        add(&mut voice, &mut sums);
+        assert!(rt; voice.done());
+        for frame in 0..24 {
+            assert_eq!(rt; sums[2 * frame], frames[frame], "left at {frame}");
+            assert_eq!(rt; sums[2 * frame + 1], frames[frame], "right at {frame}");
+        }
+    }
+    Ok(())
+}

@@ -1,0 +1,100 @@
+-- Bounds of what is scaled, parted and interpolated.
+use Rattle.std.proofs.Common.{◌≡◌, ℕ, ◌*◌, ◌/◌, ◌<◌, ◌≤◌, suc, ℤ, pos, negsuc, ◌+ℤ◌, ◌-ℤ◌, ◌*ℤ◌, ◌≤ℤ◌, neg_ℤ, FitsSigned, sym, ap, arith, mul-le-mul_left}
+use Rattle.std.proofs.lemmas.Nat.{div_below, mul-le}
+use Rattle.std.proofs.lemmas.Int.{ints}
+use Rattle.std.specs.Int.{w16, w64}
+use Rattle.std.proofs.Common.{SFits, to_z, of_z, unsigned_abs, lit<}
+use Rattle.std.proofs.lemmas.Int.{to_z-of_z, fits_signed_mul}
+use Rattle.std.specs.Int.Signed.{shr_z, mag_shr}
+use Rattle.sound_tables.specs.Floor.{floor_div}
+use Rattle.sound_tables.proofs.FloorLemmas.{floor_div_is}
+use Rattle.voices.specs.Levels.{scaled_by, side}
+use Rattle.voices.specs.Points.{between}
+
+pub part_below : (a f n : ℕ) → 0 < n → f ≤ n → a * f / n ≤ a
+part_below a f n p h =
+    let e : a * f ≤ a * n = mul-le-mul_left a h in
+    let lt : a * f / n < suc a = div_below (a * f) n (suc a) p (omega arith) in
+    omega arith
+
+-- a part of a number lies between zero and it
+pub part_up : (z : ℤ) (f n : ℕ) → 0 < n → f ≤ n → pos 0 ≤ℤ z → (pos 0 ≤ℤ floor_div (z *ℤ pos f) n) × (floor_div (z *ℤ pos f) n ≤ℤ z)
+part_up (pos a) f n p h s = let b : a * f / n ≤ a = part_below a f n p h in (omega (arith, ints), omega (arith, ints))
+part_up (negsuc a) f n p h s = absurd (omega (arith, ints, s))
+
+-- minus b, in parts
+negative_part : (b n : ℕ) (z : ℤ) (a : ℕ) → 0 < n → z +ℤ pos b ≡ pos 0 → b ≤ suc a * n → (negsuc a ≤ℤ floor_div z n) × (floor_div z n ≤ℤ pos 0)
+negative_part b n (pos c) a p e h =
+    let c0 : c ≡ 0 = omega (arith, ints, e) in
+    let q : c / n < suc 0 = div_below c n (suc 0) p (omega arith) in
+    (omega (arith, ints), omega (arith, ints))
+negative_part b n (negsuc c) a p e h =
+    let q : c / n < suc a = div_below c n (suc a) p (omega (arith, ints, e)) in
+    (omega (arith, ints), omega (arith, ints))
+
+pub part_down : (z : ℤ) (f n : ℕ) → 0 < n → f ≤ n → z ≤ℤ pos 0 → (z ≤ℤ floor_div (z *ℤ pos f) n) × (floor_div (z *ℤ pos f) n ≤ℤ pos 0)
+part_down (pos a) f n p h s =
+    let a0 : a ≡ 0 = omega (arith, ints, s) in
+    let b : a * f / n ≤ a = part_below a f n p h in (omega (arith, ints), omega (arith, ints))
+part_down (negsuc a) f n p h s =
+    let e : suc a * f ≤ suc a * n = mul-le-mul_left (suc a) h in
+    negative_part (suc a * f) n (negsuc a *ℤ pos f) a p (omega (arith, ints)) e
+
+cases_sign : {P : Type 0} (z : ℤ) → (pos 0 ≤ℤ z → P) → (z ≤ℤ pos 0 → P) → P
+cases_sign (pos a) f g = f (omega (arith, ints))
+cases_sign (negsuc a) f g = g (omega (arith, ints))
+
+pub record Within (z : ℤ) : Type 0 where
+  pub low : negsuc 32767 ≤ℤ z
+  pub high : z ≤ℤ pos 32767
+
+pub scaled_within : (p : ℤ) (gain : ℕ) → gain ≤ 65536 → negsuc 32767 ≤ℤ p → p ≤ℤ pos 32767 → (negsuc 32767 ≤ℤ scaled_by p gain) × (scaled_by p gain ≤ℤ pos 32767)
+unfolding scaled_by
+scaled_within p gain h lo hi =
+    cases_sign p
+    (λ s. let b = part_up p gain 65536 (omega arith) h s in (omega (arith, ints, b.0), omega (arith, ints, b.1)))
+    (λ s. let b = part_down p gain 65536 (omega arith) h s in (omega (arith, ints, b.0), omega (arith, ints, b.1)))
+
+pub side_within : (p : ℤ) (gain : ℕ) → gain ≤ 1000 → negsuc 32767 ≤ℤ p → p ≤ℤ pos 32767 → (negsuc 32767 ≤ℤ side p gain) × (side p gain ≤ℤ pos 32767)
+unfolding side
+side_within p gain h lo hi =
+    cases_sign p
+    (λ s. let b = part_up p gain 1000 (omega arith) h s in (omega (arith, ints, b.0), omega (arith, ints, b.1)))
+    (λ s. let b = part_down p gain 1000 (omega arith) h s in (omega (arith, ints, b.0), omega (arith, ints, b.1)))
+
+pub between_within : (p q : ℤ) (f : ℕ) → f < 65536 → FitsSigned w16 p → FitsSigned w16 q → (negsuc 32767 ≤ℤ between p q f) × (between p q f ≤ℤ pos 32767)
+unfolding between
+between_within p q f h fp fq =
+    cases_sign (q -ℤ p)
+    (λ s. let b = part_up (q -ℤ p) f 65536 (omega arith) (omega arith) s in (omega (arith, ints, b.0, b.1), omega (arith, ints, b.0, b.1)))
+    (λ s. let b = part_down (q -ℤ p) f 65536 (omega arith) (omega arith) s in (omega (arith, ints, b.0, b.1), omega (arith, ints, b.0, b.1)))
+
+pub between_is : (p q r : ℤ) (f : ℕ) → r ≡ floor_div ((q -ℤ p) *ℤ pos f) 65536 → between p q f ≡ p +ℤ r
+unfolding between
+between_is p q r f e = ap (λ x. p +ℤ x) (sym e)
+
+abs_below : (z : ℤ) (b : ℕ) → neg_ℤ (pos b) ≤ℤ z → z ≤ℤ pos b → unsigned_abs z ≤ b
+abs_below (pos a) b lo hi = omega (arith, ints, lo, hi)
+abs_below (negsuc a) b lo hi = omega (arith, ints, lo, hi)
+
+pub slope_is : (a b : ℤ) (f : ℕ) → SFits w16 a → SFits w16 b → f < 65536
+    → to_z w64 (of_z w64 (shr_z (to_z w64 (of_z w64 (to_z w64 (of_z w64 (to_z w64 (of_z w64 a) -ℤ to_z w64 (of_z w64 b))) *ℤ to_z w64 (of_z w64 (pos f))))) 65536))
+    ≡ shr_z ((a -ℤ b) *ℤ pos f) 65536
+slope_is a b f fa fb h =
+    let f0 : SFits w64 a = omega (arith, ints) in
+    let f1 : SFits w64 b = omega (arith, ints) in
+    let f2 : SFits w64 (pos f) = omega (arith, ints) in
+    let f3 : SFits w64 (a -ℤ b) = omega (arith, ints) in
+    let m : unsigned_abs (a -ℤ b) ≤ 65536 = abs_below (a -ℤ b) 65536 (omega (arith, ints)) (omega (arith, ints)) in
+    let f4 : SFits w64 ((a -ℤ b) *ℤ pos f) = fits_signed_mul w64 (a -ℤ b) (pos f) 65536 65536 m (omega arith) (lit< tt) in
+    let f5 : SFits w64 (shr_z ((a -ℤ b) *ℤ pos f) 65536) = record { sfits = omega (arith, mag_shr ((a -ℤ b) *ℤ pos f) 65536, f4.sfits) } in
+    simp to_z-of_z
+
+pub faded : (a b : ℕ) → a ≤ 65536 → b ≤ 65536 → a * b / 65536 ≤ 65536
+faded a b h g =
+    let e : a * b ≤ 65536 * 65536 = mul-le a b 65536 65536 h g in
+    let q : a * b / 65536 < 65537 = div_below (a * b) 65536 65537 (omega arith) (omega arith) in omega arith
+
+-- a part of 1000, read 32768 parts higher
+pub part_down_is : (z : ℤ) (k n m : ℕ) → 0 < n → z +ℤ pos (k * n) ≡ pos m → floor_div z n +ℤ pos k ≡ pos (m / n)
+part_down_is = floor_div_is

@@ -1,0 +1,7 @@
+pub mod LevelLemmas
+pub mod PlaceLemmas
+pub mod OverLemmas
+pub mod WriteLemmas
+pub mod RunLemmas
+pub mod SliceLemmas
+pub mod PhaseLemmas

@@ -1,0 +1,165 @@
+-- Places that wrap and go on.
+use Rattle.std.proofs.Common.{◌≡◌, ℕ, ◌+◌, ◌-◌, ◌*◌, ◌/◌, ◌%◌, ◌<◌, ◌≤◌, Bool, true, false, cond, not, ◌&&◌, refl, sym, ◌∙◌, ap, arith, inl, inr, nat_le}
+use Rattle.voices.specs.declared.parameters.VoiceParameters.{VoiceParameters}
+use Rattle.std.proofs.lemmas.Nat.{mod_below}
+use Rattle.std.proofs.lemmas.Bool.{cases_lt}
+use Rattle.std.proofs.lemmas.Bool.Decides.{nat_tests}
+use Rattle.std.proofs.Math.Nat.{mul-add-mod_self_right, mod-eq_of_lt}
+use Rattle.std.proofs.lemmas.Nat.{div-add-mod', mul-le}
+use Rattle.voices.specs.Place.{wrapped, looped_place, place, is_looping, is_loop_left}
+
+pub wrapped_below : (from to x : ℕ) → x < to → wrapped from to x ≡ x
+wrapped_below from to x h =
+    let t : nat_le to x ≡ false = grind (arith, nat_tests) in ap (λ b. cond b (from + (x - from) % (to - from)) x) t
+
+pub wrapped_above : (from to x : ℕ) → to ≤ x → wrapped from to x ≡ from + (x - from) % (to - from)
+wrapped_above from to x h =
+    let t : nat_le to x ≡ true = grind (arith, nat_tests) in ap (λ b. cond b (from + (x - from) % (to - from)) x) t
+
+pub wrapped_within : (from to x : ℕ) → from < to → wrapped from to x < to
+wrapped_within from to x h =
+    elim (cases_lt x to) [
+      | inl lt ↦ let e : wrapped from to x ≡ x = wrapped_below from to x lt in omega arith
+      | inr ge ↦ let e : wrapped from to x ≡ from + (x - from) % (to - from) = wrapped_above from to x ge in
+          let b : (x - from) % (to - from) < to - from = mod_below (x - from) (to - from) (omega arith) in omega arith
+    ]
+
+-- a remainder, stepped further
+mod_step : (y w step : ℕ) → (y % w + step) % w ≡ (y + step) % w
+mod_step y w step =
+    let e : y / w * w + y % w ≡ y = div-add-mod' y w in
+    let f : y + step ≡ y / w * w + (y % w + step) = omega arith in
+    sym (ap (λ x. x % w) f ∙ mul-add-mod_self_right (y / w) w (y % w + step))
+
+wrapped_later : (from to x step : ℕ) → from < to → to ≤ x
+    → wrapped from to (from + (x - from) % (to - from) + step) ≡ wrapped from to (x + step)
+wrapped_later from to x step h ge =
+    let m : ℕ = (x - from) % (to - from) in
+    let g : (m + step) % (to - from) ≡ (x - from + step) % (to - from) = mod_step (x - from) (to - from) step in
+    let d : x - from + step ≡ x + step - from = omega arith in
+    let r : wrapped from to (x + step) ≡ from + (m + step) % (to - from) =
+    wrapped_above from to (x + step) (omega arith) ∙ ap (λ y. from + y % (to - from)) (sym d) ∙ ap (λ y. from + y) (sym g) in
+    elim (cases_lt (from + m + step) to) [
+      | inl lt ↦ let k : (m + step) % (to - from) ≡ m + step = mod-eq_of_lt (omega arith) in
+          wrapped_below from to (from + m + step) lt ∙ omega arith
+      | inr over ↦ let k : from + m + step - from ≡ m + step = omega arith in
+          wrapped_above from to (from + m + step) over ∙ ap (λ y. from + y % (to - from)) k ∙ sym r
+    ]
+
+-- to wrap first and step afterwards is to step and wrap
+pub wrapped_step : (from to x step : ℕ) → from < to → wrapped from to (wrapped from to x + step) ≡ wrapped from to (x + step)
+wrapped_step from to x step h =
+    elim (cases_lt x to) [
+      | inl lt ↦ ap (λ y. wrapped from to (y + step)) (wrapped_below from to x lt)
+      | inr ge ↦
+          ap (λ y. wrapped from to (y + step)) (wrapped_above from to x ge) ∙ wrapped_later from to x step h ge
+    ]
+
+pub wrapped_next : (place from to first t step : ℕ) → from < to → place ≡ wrapped from to (first + t * step)
+    → wrapped from to (place + step) ≡ wrapped from to (first + (t + 1) * step)
+wrapped_next place from to first t step h e =
+    let f : first + t * step + step ≡ first + (t + 1) * step = omega arith in
+    ap (λ y. wrapped from to (y + step)) e ∙ wrapped_step from to (first + t * step) step h ∙ ap (wrapped from to) f
+
+pub wrapped_from : (from to first step : ℕ) → wrapped from to (first + 0 * step) ≡ wrapped from to first
+wrapped_from from to first step = let e : first + 0 * step ≡ first = omega arith in ap (wrapped from to) e
+
+-- a place fits 60 bits
+pub far_place : (first t step : ℕ) → first < 4294967296 → t < 8589934592 → step ≤ 73043661 → 65536 * first + t * step < 1152921504606846976
+far_place first t step h g k =
+    let e : t * step ≤ 8589934592 * 73043661 = mul-le t step 8589934592 73043661 (omega arith) k in omega arith
+
+pub far_rest : (t l step : ℕ) → t < 8589934592 → step ≤ 73043661 → (t - l) * step < 1152921504606846976
+far_rest t l step g k =
+    let e : (t - l) * step ≤ 8589934592 * 73043661 = mul-le (t - l) step 8589934592 73043661 (omega arith) k in omega arith
+
+cond_inside : (looped left : Bool) (x y from to : ℕ) → (looped && not left) ≡ true → (looped ≡ true → from < to) → cond left y (cond looped (wrapped from to x) x) < to
+cond_inside true false x y from to e h = wrapped_within from to x (h refl)
+cond_inside true true x y from to e h = cc
+cond_inside false left x y from to e h = cc
+
+-- a loop that is in force keeps the place before its end
+pub place_inside : (v : VoiceParameters) (t : ℕ) → is_looping v t ≡ true → (v.looped ≡ true → v.loop_start < v.loop_end) → place v t < 65536 * v.loop_end
+unfolding place looped_place
+place_inside v t e h =
+    cond_inside v.looped (is_loop_left v t) (65536 * v.start + t * v.step) _ (65536 * v.loop_start) (65536 * v.loop_end) e (λ l. let g : v.loop_start < v.loop_end = h l in omega arith)
+
+by_looped : (looped : Bool) (from to first t step : ℕ) → (looped ≡ true → from < to)
+    → cond looped (wrapped from to (first + (t + 1) * step)) (first + (t + 1) * step)
+    ≡ cond looped (wrapped from to (cond looped (wrapped from to (first + t * step)) (first + t * step) + step)) (cond looped (wrapped from to (first + t * step)) (first + t * step) + step)
+by_looped true from to first t step h = sym (wrapped_next (wrapped from to (first + t * step)) from to first t step (h refl) refl)
+by_looped false from to first t step h = omega arith
+
+looped_place_more : (v : VoiceParameters) (t : ℕ) → (v.looped ≡ true → v.loop_start < v.loop_end)
+    → looped_place v (t + 1) ≡ cond v.looped (wrapped (65536 * v.loop_start) (65536 * v.loop_end) (looped_place v t + v.step)) (looped_place v t + v.step)
+unfolding looped_place
+looped_place_more v t h = by_looped v.looped (65536 * v.loop_start) (65536 * v.loop_end) (65536 * v.start) t v.step (λ l. let g : v.loop_start < v.loop_end = h l in omega arith)
+
+minus_self : (l t : ℕ) → l ≡ t + 1 → t + 1 - l ≡ 0
+minus_self l t e = omega arith
+
+late_case : (looped : Bool) (x y z : ℕ) → y ≡ z → y ≡ cond (looped && not true) x z
+late_case true x y z e = e
+late_case false x y z e = e
+
+early_case : (looped : Bool) (x z : ℕ) → cond looped x z ≡ cond (looped && not false) x z
+early_case true x z = refl
+early_case false x z = refl
+
+at_end : (b : Bool) (l t step : ℕ) (r : ℕ → ℕ) → (b ≡ true → l ≡ t + 1) → cond b (r l + (t + 1 - l) * step) (r (t + 1)) ≡ r (t + 1)
+at_end false l t step r f = refl
+at_end true l t step r f =
+    let e : l ≡ t + 1 = f refl in
+    let g : (t + 1 - l) * step ≡ 0 = ap (λ x. x * step) (minus_self l t e) ∙ omega arith in
+    ap (λ x. x + (t + 1 - l) * step) (ap r e) ∙ omega arith
+
+late : (looped : Bool) (l t step : ℕ) (r w : ℕ → ℕ) → l ≤ t
+    → cond (nat_le l (t + 1)) (r l + (t + 1 - l) * step) (r (t + 1))
+    ≡ cond (looped && not (nat_le l t)) (w (cond (nat_le l t) (r l + (t - l) * step) (r t) + step)) (cond (nat_le l t) (r l + (t - l) * step) (r t) + step)
+late looped l t step r w h =
+    let a : nat_le l t ≡ true = grind (arith, nat_tests) in
+    let b : nat_le l (t + 1) ≡ true = grind (arith, nat_tests) in
+    let m : t + 1 - l ≡ t - l + 1 = omega arith in
+    let f : r l + (t + 1 - l) * step ≡ r l + (t - l) * step + step = ap (λ x. r l + x * step) m ∙ omega arith in
+    rw (a, b) (late_case looped (w (r l + (t - l) * step + step)) _ _ f)
+
+early : (looped : Bool) (l t step : ℕ) (r w : ℕ → ℕ) → r (t + 1) ≡ cond looped (w (r t + step)) (r t + step) → t < l
+    → cond (nat_le l (t + 1)) (r l + (t + 1 - l) * step) (r (t + 1))
+    ≡ cond (looped && not (nat_le l t)) (w (cond (nat_le l t) (r l + (t - l) * step) (r t) + step)) (cond (nat_le l t) (r l + (t - l) * step) (r t) + step)
+early looped l t step r w e h =
+    let a : nat_le l t ≡ false = grind (arith, nat_tests) in
+    let f : cond (nat_le l (t + 1)) (r l + (t + 1 - l) * step) (r (t + 1)) ≡ r (t + 1) = at_end (nat_le l (t + 1)) l t step r (λ q. grind (arith, nat_tests)) in
+    f ∙ e ∙ rw a (early_case looped _ _)
+
+by_until : (until looped : Bool) (l t step : ℕ) (r w : ℕ → ℕ) → r (t + 1) ≡ cond looped (w (r t + step)) (r t + step)
+    → cond (until && nat_le l (t + 1)) (r l + (t + 1 - l) * step) (r (t + 1))
+    ≡ cond (looped && not (until && nat_le l t)) (w (cond (until && nat_le l t) (r l + (t - l) * step) (r t) + step)) (cond (until && nat_le l t) (r l + (t - l) * step) (r t) + step)
+by_until false true l t step r w e = e
+by_until false false l t step r w e = e
+by_until true looped l t step r w e =
+    elim (cases_lt t l) [
+      | inl lt ↦ early looped l t step r w e lt
+      | inr ge ↦ late looped l t step r w ge
+    ]
+
+-- where the loop is in force the place wraps, and elsewhere it goes straight on
+pub place_more : (v : VoiceParameters) (t : ℕ) → (v.looped ≡ true → v.loop_start < v.loop_end)
+    → place v (t + 1) ≡ cond (is_looping v t) (wrapped (65536 * v.loop_start) (65536 * v.loop_end) (place v t + v.step)) (place v t + v.step)
+unfolding place
+place_more v t h = by_until v.until_release v.looped v.length t v.step (looped_place v) (wrapped (65536 * v.loop_start) (65536 * v.loop_end)) (looped_place_more v t h)
+
+times_div : (k d n : ℕ) → k ≤ d / n → k * n ≤ d
+times_div k d n h =
+    let e : d / n * n + d % n ≡ d = div-add-mod' d n in
+    let f : k * n ≤ d / n * n = mul-le k n (d / n) n h (omega arith) in omega arith
+
+-- a run stays before an end that its last step doesn't reach
+pub run_stays : (x step to n k : ℕ) → x < to → n ≤ (to - 1 - x) / step + 1 → k < n → x + k * step < to
+run_stays x step to n k h g l =
+    let e : k * step ≤ to - 1 - x = times_div k (to - 1 - x) step (omega arith) in omega arith
+
+pub stands_still : (x step to k : ℕ) → x < to → step ≡ 0 → x + k * step < to
+stands_still x step to k h e = let f : k * step ≡ 0 = ap (λ s. k * s) e ∙ omega arith in omega arith
+
+pub short_way : (n step : ℕ) → n ≤ 256 → step ≤ 73043661 → n * step ≤ 18699177216
+short_way n step h g = mul-le n step 256 73043661 h g

@@ -1,0 +1,158 @@
+-- Stretches of frames, and what they add.
+use Rattle.std.proofs.Common.{◌≡◌, ℕ, zero, suc, ◌+◌, ◌*◌, ◌/◌, ◌%◌, ◌<◌, ◌≤◌, ℤ, pos, negsuc, ◌+ℤ◌, ◌≤ℤ◌, Bool, true, false, cond, not, ◌&&◌, List, get_or, nat_eq, nat_le, refl, sym, ◌∙◌, ap, subst, arith, inl, inr, to_z, of_z, true≢false}
+use Rattle.std.specs.Int.{w32}
+use Rattle.std.proofs.lemmas.Int.{ints}
+use Rattle.std.proofs.lemmas.Bool.{cases_lt}
+use Rattle.std.proofs.lemmas.Bool.Decides.{nat_tests}
+use Rattle.voices.specs.declared.parameters.VoiceParameters.{VoiceParameters}
+use Rattle.voices.specs.Levels.{side}
+use Rattle.voices.specs.Place.{wrapped, place, is_looping, is_over}
+use Rattle.voices.specs.Sound.{VoiceValue, IsPlayable, snd, sound_at, part_of}
+use Rattle.voices.specs.Within.{IsWithin}
+use Rattle.voices.specs.Runs.{IsAdded, IsStretch, limit, gone_on}
+use Rattle.voices.proofs.PlaceLemmas.{place_more, place_inside, wrapped_below, wrapped_step}
+use Rattle.voices.proofs.OverLemmas.{loop_left_stays, over_stays, place_sounds}
+
+same_end : (l t k : ℕ) → (t < l → t + k < l) → nat_le l (t + k) ≡ nat_le l t
+same_end l t k h =
+    elim (cases_lt t l) [
+      | inl lt ↦ let g : t + k < l = h lt in
+          let a : nat_le l (t + k) ≡ false = grind (arith, nat_tests) in
+          let b : nat_le l t ≡ false = grind (arith, nat_tests) in a ∙ sym b
+      | inr ge ↦
+          let a : nat_le l (t + k) ≡ true = grind (arith, nat_tests) in
+          let b : nat_le l t ≡ true = grind (arith, nat_tests) in a ∙ sym b
+    ]
+
+-- up to the note's end, and from it on, a loop is in force throughout or not at all
+pub same_loop : (v : VoiceParameters) (t k : ℕ) → (t < v.length → t + k < v.length) → is_looping v (t + k) ≡ is_looping v t
+same_loop v t k h = ap (λ b. v.looped && not (v.until_release && b)) (same_end v.length t k h)
+
+-- where no loop is in force the place goes straight on
+pub straight_on : (v : VoiceParameters) (t k : ℕ) → (v.looped ≡ true → v.loop_start < v.loop_end) → is_looping v t ≡ false
+    → (is_looping v (t + k) ≡ false) × (place v (t + k) ≡ place v t + k * v.step)
+straight_on v t zero h e =
+    let q : t ≡ t + 0 = omega arith in
+    (subst (λ x. is_looping v x ≡ false) q e, subst (λ x. place v x ≡ place v t + 0 * v.step) q (omega arith))
+straight_on v t (suc k) h e =
+    let ih = straight_on v t k h e in
+    let q : t + k + 1 ≡ t + suc k = omega arith in
+    let m : place v (t + k + 1) ≡ place v (t + k) + v.step =
+    place_more v (t + k) h ∙ ap (λ b. cond b (wrapped (65536 * v.loop_start) (65536 * v.loop_end) (place v (t + k) + v.step)) (place v (t + k) + v.step)) ih.0 in
+    let f : place v (t + k + 1) ≡ place v t + suc k * v.step = m ∙ ap (λ x. x + v.step) ih.1 ∙ omega arith in
+    (subst (λ x. is_looping v x ≡ false) q (loop_left_stays v (t + k) ih.0), subst (λ x. place v x ≡ place v t + suc k * v.step) q f)
+
+not_over : (ended looping : Bool) (at end : ℕ) → ended ≡ false → (looping ≡ false → at < end) → cond ended true (not looping && nat_le end at) ≡ false
+not_over false true at end e h = refl
+not_over false false at end e h = let g : at < end = h refl in grind (arith, nat_tests)
+not_over true looping at end e h = absurd cc
+
+pub stretch_is : (v : VoiceParameters) (t n : ℕ) → (v.looped ≡ true → v.loop_start < v.loop_end)
+    → t + n < 8589934592 → t + n ≤ v.length + v.release → (t < v.length → t + n ≤ v.length)
+    → (is_looping v t ≡ false → (k : ℕ) → k < n → place v t + k * v.step < 65536 * v.end)
+    → IsStretch v t n
+stretch_is v t n h young unreleased before near = record {
+  young = young;
+  unreleased = unreleased;
+  held = before;
+  same = λ k l. same_loop v t k (λ g. let b : t + n ≤ v.length = before g in omega arith);
+  sounds = λ k l.
+      let s : is_looping v (t + k) ≡ is_looping v t = same_loop v t k (λ g. let b : t + n ≤ v.length = before g in omega arith) in
+      not_over (nat_le (v.length + v.release) (t + k)) (is_looping v (t + k)) (place v (t + k)) (65536 * v.end)
+      (let u : t + k < v.length + v.release = omega arith in grind (arith, nat_tests))
+      (λ e. let f : is_looping v t ≡ false = sym s ∙ e in
+      let p : place v (t + k) ≡ place v t + k * v.step = (straight_on v t k h f).1 in
+      let b : place v t + k * v.step < 65536 * v.end = near f k l in omega arith);
+}
+
+-- a sum with room for one more
+pub added : (was sum r : ℤ) → sum ≡ was → IsWithin 65534 was → negsuc 32767 ≤ℤ r → r ≤ℤ pos 32767
+    → to_z w32 (of_z w32 (to_z w32 (of_z w32 sum) +ℤ to_z w32 (of_z w32 r))) ≡ was +ℤ r
+added was sum r e room lo hi = omega (arith, ints, e, room.0, room.1, lo, hi)
+
+pub left_side : (run : List ℤ) (k left right : ℕ) → side (get_or run (2 * k / 2) (pos 0)) (cond (nat_eq (2 * k % 2) 0) left right) ≡ side (get_or run k (pos 0)) left
+left_side run k left right = λ j. side (get_or run ((let e : 2 * k / 2 ≡ k = omega arith in e) j) (pos 0)) (cond (nat_eq ((let e : 2 * k % 2 ≡ 0 = omega arith in e) j) 0) left right)
+
+pub right_side : (run : List ℤ) (k left right : ℕ) → side (get_or run ((2 * k + 1) / 2) (pos 0)) (cond (nat_eq ((2 * k + 1) % 2) 0) left right) ≡ side (get_or run k (pos 0)) right
+right_side run k left right = λ j. side (get_or run ((let e : (2 * k + 1) / 2 ≡ k = omega arith in e) j) (pos 0)) (cond (nat_eq ((let e : (2 * k + 1) % 2 ≡ 1 = omega arith in e) j) 0) left right)
+
+pub is_added : (was s sum r : ℤ) → r ≡ s → sum ≡ was +ℤ r → negsuc 32767 ≤ℤ r → r ≤ℤ pos 32767 → IsAdded was s sum
+is_added was s sum r e f lo hi = record { added = f ∙ ap (λ (x : ℤ). was +ℤ x) e; low = subst (λ (x : ℤ). negsuc 32767 ≤ℤ x) e lo; high = subst (λ (x : ℤ). x ≤ℤ pos 32767) e hi }
+
+add_nothing : (was : ℤ) → was ≡ was +ℤ pos 0
+add_nothing was = omega (arith, ints)
+
+pub silent_added : (was s sum : ℤ) → s ≡ pos 0 → sum ≡ was → IsAdded was s sum
+silent_added was s sum e f = is_added was s sum (pos 0) (sym e) (f ∙ add_nothing was) (omega (arith, ints)) (omega (arith, ints))
+
+-- a voice that is over is silent
+pub over_is_silent : (v : VoiceValue) (left : Bool) (t : ℕ) → is_over v.parameters t ≡ true → snd v left t ≡ pos 0
+unfolding snd
+over_is_silent v left t e = ap (λ b. cond b (pos 0) (side (sound_at v t) (part_of v.parameters left))) e
+
+pub silent_from : (v : VoiceValue) (left : Bool) (s t : ℕ) → (v.parameters.looped ≡ true → v.parameters.loop_start < v.parameters.loop_end)
+    → is_over v.parameters s ≡ true → s ≤ t → snd v left t ≡ pos 0
+silent_from v left s t h e l = over_is_silent v left t (over_stays v.parameters s t h l e)
+
+-- what a stretch adds, counted from the run's start
+pub later_added : (v : VoiceValue) (age at k : ℕ) (was was' sum : ℤ) → at % 2 ≡ 0 → was' ≡ was
+    → IsAdded was' (snd v (nat_eq (k % 2) 0) (age + at / 2 + k / 2)) sum
+    → IsAdded was (snd v (nat_eq ((at + k) % 2) 0) (age + (at + k) / 2)) sum
+later_added v age at k was was' sum even e a =
+    let p : k % 2 ≡ (at + k) % 2 = omega arith in
+    let q : age + at / 2 + k / 2 ≡ age + (at + k) / 2 = omega arith in
+    subst (λ w. IsAdded w (snd v (nat_eq ((at + k) % 2) 0) (age + (at + k) / 2)) sum) e
+    (subst (λ x. IsAdded was' (snd v (nat_eq x 0) (age + (at + k) / 2)) sum) p
+    (subst (λ x. IsAdded was' (snd v (nat_eq (k % 2) 0) x) sum) q a))
+
+-- a frame that is heard, from its parts
+pub part_is : (v : VoiceValue) (t : ℕ) (i left right : ℕ) → is_over v.parameters t ≡ false → left ≡ part_of v.parameters true → right ≡ part_of v.parameters false
+    → side (sound_at v t) (cond (nat_eq i 0) left right) ≡ snd v (nat_eq i 0) t
+unfolding snd
+part_is v t i left right e f g =
+    by_side (nat_eq i 0) v t left right f g ∙ sym (ap (λ b. cond b (pos 0) (side (sound_at v t) (part_of v.parameters (nat_eq i 0)))) e)
+  where
+    by_side : (b : Bool) (v : VoiceValue) (t left right : ℕ) → left ≡ part_of v.parameters true → right ≡ part_of v.parameters false
+        → side (sound_at v t) (cond b left right) ≡ side (sound_at v t) (part_of v.parameters b)
+    by_side true v t left right f g = ap (side (sound_at v t)) f
+    by_side false v t left right f g = ap (side (sound_at v t)) g
+
+pub differ : (b : Bool) → b ≡ true → b ≡ false → ⊥
+differ b e f = true≢false (sym e ∙ f)
+
+-- a place that was computed from equal numbers
+pub near_is : (x x' s s' e e' k : ℕ) → x ≡ x' → s ≡ s' → e ≡ e' → x + k * s < 65536 * e → x' + k * s' < 65536 * e'
+near_is x x' s s' e e' k p q r h =
+    subst (λ y. y + k * s' < 65536 * e') p (subst (λ y. x + k * y < 65536 * e') q (subst (λ y. x + k * s < 65536 * y) r h))
+
+-- a voice that isn't over reads before the loop's end, or the sample's
+pub place_near : (n : ℕ) (v : VoiceParameters) (t : ℕ) (looping : Bool) → IsPlayable n v → is_over v t ≡ false → is_looping v t ≡ looping
+    → place v t < 65536 * limit v looping
+place_near n v t true p o e = place_inside v t e p.ordered
+place_near n v t false p o e = place_sounds n v t p o
+
+-- to go on, and to look at the loop only then
+pub place_on : (v : VoiceParameters) (t k : ℕ) (looping : Bool) → (v.looped ≡ true → v.loop_start < v.loop_end) → is_looping v t ≡ looping
+    → ((j : ℕ) → j < k → is_looping v (t + j) ≡ looping) → (looping ≡ true → v.loop_start < v.loop_end)
+    → place v (t + k) ≡ gone_on v looping (place v t + k * v.step)
+place_on v t k false h e same o = (straight_on v t k h e).1
+place_on v t zero true h e same o =
+    let q : place v t ≡ place v (t + 0) = ap (place v) (omega arith) in
+    let r : place v t ≡ place v t + 0 * v.step = omega arith in
+    sym q ∙ sym (wrapped_below (65536 * v.loop_start) (65536 * v.loop_end) (place v t) (place_inside v t e h))
+    ∙ ap (wrapped (65536 * v.loop_start) (65536 * v.loop_end)) r
+place_on v t (suc k) true h e same o =
+    let from = 65536 * v.loop_start in
+    let to = 65536 * v.loop_end in
+    let ih : place v (t + k) ≡ wrapped from to (place v t + k * v.step) = place_on v t k true h e (λ j l. same j (omega arith)) o in
+    let q : place v (t + suc k) ≡ place v (t + k + 1) = ap (place v) (omega arith) in
+    let lt : v.loop_start < v.loop_end = o refl in
+    let m : place v (t + k + 1) ≡ wrapped from to (place v (t + k) + v.step) =
+    place_more v (t + k) h ∙ ap (λ b. cond b (wrapped from to (place v (t + k) + v.step)) (place v (t + k) + v.step)) (same k (omega arith)) in
+    let r : place v t + k * v.step + v.step ≡ place v t + suc k * v.step = omega arith in
+    q ∙ m ∙ ap (λ x. wrapped from to (x + v.step)) ih ∙ wrapped_step from to (place v t + k * v.step) v.step (omega arith) ∙ ap (wrapped from to) r
+
+-- within its limit the place has nothing to look at
+pub gone_near : (v : VoiceParameters) (looping : Bool) (x : ℕ) → x < 65536 * limit v looping → gone_on v looping x ≡ x
+gone_near v true x h = wrapped_below (65536 * v.loop_start) (65536 * v.loop_end) x h
+gone_near v false x h = refl

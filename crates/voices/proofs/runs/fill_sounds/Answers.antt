@@ -1,0 +1,13 @@
+use Rattle.std.proofs.Common.{◌+◌, ℤ, arith, ap, ◌∙◌}
+use Rattle.sound_tables.specs.Tables.{gain_of}
+use Rattle.voices.specs.Levels.{scaled_by}
+use Rattle.voices.specs.Envelope.{envelope}
+use Rattle.voices.specs.Sound.{sound_at}
+use Rattle.voices.proofs.runs.fill_sounds.Goals as goal
+
+pub returns : goal.returns
+unfolding sound_at
+returns c i h =
+    c.soften.ensures i h
+    ∙ ap (λ (y : ℤ). scaled_by (scaled_by y (envelope c.args.v.now (c.args.t + i))) (gain_of c.args.v.now.attenuation))
+    (c.fill_points.ensures i (omega (arith, h, c.soften.auto.run)))

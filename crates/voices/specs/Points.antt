@@ -1,0 +1,23 @@
+-- Points, and what lies between them.
+use Rattle.std.specs.Prelude.{ℕ, ◌+◌, ◌/◌, ◌%◌, ℤ, pos, ◌+ℤ◌, ◌-ℤ◌, ◌*ℤ◌, Bool, cond, ◌&&◌, ◌==◌, nat_lt, List, slice_index}
+use Rattle.std.specs.Int.{cast_signed, w16}
+use Rattle.sound_tables.specs.Floor.{floor_div}
+use Rattle.voices.specs.declared.parameters.VoiceParameters.{VoiceParameters}
+
+-- point i of a sample, signed
+unfoldable pub point_at : List ℕ → ℕ → ℤ
+point_at points i = cast_signed w16 (slice_index points i)
+
+-- between two points, at `part` of 65536
+unfoldable pub between : ℤ → ℤ → ℕ → ℤ
+between p0 p1 part = p0 +ℤ floor_div ((p1 -ℤ p0) *ℤ pos part) 65536
+
+-- the point after point i: the loop's first after its last, and silence after the end
+unfoldable pub follower : List ℕ → VoiceParameters → Bool → ℕ → ℤ
+follower points v looping i =
+    cond (looping && (i + 1 == v.loop_end)) (point_at points v.loop_start)
+    (cond (nat_lt (i + 1) v.end) (point_at points (i + 1)) (pos 0))
+
+-- what the sample says at a place
+unfoldable pub point_of : List ℕ → VoiceParameters → Bool → ℕ → ℤ
+point_of points v looping x = between (point_at points (x / 65536)) (follower points v looping (x / 65536)) (x % 65536)

@@ -1,0 +1,77 @@
+//! The frames of a voice.
+ghost use Rattle.std.specs.Prelude.{◌≡◌, ℕ, ◌+◌, ◌*◌, ◌/◌, ◌%◌, ◌^◌, ◌≤◌, ◌<◌, ◌≤ℤ◌, ◌+ℤ◌, pos, negsuc, true, false, length, nat_eq, slice_index_or};
+ghost use Rattle.voices.specs.Place.{is_over, is_looping, place};
+ghost use Rattle.voices.specs.Points.{point_of};
+ghost use Rattle.voices.specs.Sound.{IsPlayable, sound_at, part_of, snd};
+
+use crate::envelopes::envelope_at;
+use crate::levels::{louder, parted};
+use crate::parameters::VoiceParameters;
+use crate::places::{is_looping_at, is_over_at, place_at};
+use crate::sampled::point_of_place;
+use sample_view::Points;
+use sound_tables::gain;
+
+// What the left side gets, of 1000.
+pub fn left_part(v: &VoiceParameters) -> u32
+    requires { (negsuc 499 ≤ℤ v.now.pan) × (v.now.pan ≤ℤ pos 500) }
+    ensures value { result ≡ part_of v.now true }
+    ensures most { result ≤ 1000 }
+{
+    (500 - v.pan) as u32
+}
+
+// What the right side gets, of 1000.
+pub fn right_part(v: &VoiceParameters) -> u32
+    requires { (negsuc 499 ≤ℤ v.now.pan) × (v.now.pan ≤ℤ pos 500) }
+    ensures value { result ≡ part_of v.now false }
+    ensures most { result ≤ 1000 }
+{
+    (500 + v.pan) as u32
+}
+
+// What the sample says at frame `t`, at which the voice isn't over.
+#[tactic(auto, using(crate::proofs::OverLemmas::loop_start_inside))]
+pub fn point_at_frame(points: &Points, v: &VoiceParameters, t: u64) -> i32
+    requires playable { IsPlayable (length points.now) v.now }
+    requires sounds { is_over v.now t ≡ false }
+    requires young { t < 2 ^ 33 }
+    ensures value { result ≡ point_of points.now v.now (is_looping v.now t) (place v.now t) }
+    ensures low { negsuc 32767 ≤ℤ result }
+    ensures high { result ≤ℤ pos 32767 }
+{
+    point_of_place(points, v, is_looping_at(v, t), place_at(v, t))
+}
+
+// Frame `t` before it is parted, of a voice that isn't over then.
+#[tactic(auto, unfolding(crate::specs::Sound::sound_at))]
+fn sound_of(points: &Points, v: &VoiceParameters, t: u64) -> i32
+    requires playable { IsPlayable (length points.now) v.now }
+    requires sounds { is_over v.now t ≡ false }
+    requires unreleased { t < v.now.length + v.now.release }
+    requires young { t < 2 ^ 33 }
+    ensures value { result ≡ sound_at (record { points = points.now; parameters = v.now }) t }
+    ensures low { negsuc 32767 ≤ℤ result }
+    ensures high { result ≤ℤ pos 32767 }
+{
+    let p = point_at_frame(points, v, t);
+    louder(louder(p, envelope_at(v, t)), gain(i64::from(v.attenuation)))
+}
+
+// Both sides of frame `t`.
+#[tactic(auto, unfolding(crate::specs::Sound::snd))]
+pub fn frame(points: &Points, v: &VoiceParameters, t: u64) -> (i32, i32)
+    requires playable { IsPlayable (length points.now) v.now }
+    ensures left { result.0 ≡ snd (record { points = points.now; parameters = v.now }) true t }
+    ensures right { result.1 ≡ snd (record { points = points.now; parameters = v.now }) false t }
+    ensures left_low { negsuc 32767 ≤ℤ result.0 }
+    ensures left_high { result.0 ≤ℤ pos 32767 }
+    ensures right_low { negsuc 32767 ≤ℤ result.1 }
+    ensures right_high { result.1 ≤ℤ pos 32767 }
+{
+    if is_over_at(v, t) {
+        return (0, 0);
+    }
+    let z = sound_of(points, v, t);
+    (parted(z, left_part(v)), parted(z, right_part(v)))
+}

@@ -1,0 +1,24 @@
+//! One voice: a sample that is played by the numbers of a pair of zones, frame by frame.
+#![tactic(auto)]
+
+ghost use Rattle.voices.specs.Sound.{OverStaysOver};
+
+mod envelopes;
+mod frames;
+mod levels;
+mod parameters;
+mod phases;
+mod places;
+mod runs;
+mod sampled;
+mod slices;
+mod voice;
+
+pub use parameters::VoiceParameters;
+pub use voice::Voice;
+
+/// The law that a voice that is over at a frame is over at each later one. It does nothing.
+#[tactic(auto, using(crate::proofs::OverLemmas::over_stays))]
+pub fn over_law()
+    ensures { OverStaysOver }
+{}

@@ -1,0 +1,165 @@
+//! How loud a voice is at the frames of a stretch: phase by phase, each with its count of frames.
+ghost use Rattle.std.specs.Prelude.{◌≡◌, ℕ, ◌+◌, ◌*◌, ◌/◌, ◌^◌, ◌≤◌, ◌<◌, EachIndex, length, slice_index};
+ghost use Rattle.sound_tables.specs.Tables.{gain_at};
+ghost use Rattle.voices.specs.Envelope.{decayed, held, released, envelope};
+
+use crate::envelopes::held_at;
+use crate::parameters::VoiceParameters;
+use crate::places::frames_before;
+use sound_tables::gain;
+
+// The whole parts of `amount * j / over` for each j from `first` on: no frame divides.
+#[tactic(auto, using(crate::proofs::PhaseLemmas::line_fits, crate::proofs::PhaseLemmas::part_small))]
+fn fill_line(amount: u64, over: u64, first: u64, levels: &mut [u32])
+    requires divisor { (0 < over) × (over < 2 ^ 32) }
+    requires amounts { amount ≤ 65536 }
+    requires near { first + length levels.old < 2 ^ 34 }
+    requires fits { (k : ℕ) → k < length levels.old → amount * (first + k) < over * 4294967296 }
+    ensures { EachIndex levels.new (λ k. slice_index levels.new k ≡ amount * (first + k) / over) }
+{
+    let whole_step = amount / over;
+    let rest_step = amount % over;
+    let mut whole = amount * first / over;
+    let mut rest = amount * first % over;
+    for k in 0..levels.len() {
+        levels[k] = whole as u32;
+        whole += whole_step;
+        rest += rest_step;
+        if rest >= over {
+            rest -= over;
+            whole += 1;
+        }
+    }
+}
+
+// One level throughout.
+fn fill_even(level: u32, levels: &mut [u32])
+    ensures { EachIndex levels.new (λ k. slice_index levels.new k ≡ level) }
+{
+    for k in 0..levels.len() {
+        levels[k] = level;
+    }
+}
+
+// Each attenuation's gain.
+fn fill_gains(levels: &mut [u32])
+    ensures { EachIndex levels.new (λ k. slice_index levels.new k ≡ gain_at (slice_index levels.old k)) }
+{
+    for k in 0..levels.len() {
+        levels[k] = gain(i64::from(levels[k]));
+    }
+}
+
+// Falling by 960 centibels in so many frames, from `fallen` frames on.
+fn fill_falling(over: u64, fallen: u64, levels: &mut [u32])
+    requires divisor { (0 < over) × (over < 2 ^ 32) }
+    requires near { fallen + length levels.old < 2 ^ 34 }
+    requires fits { (k : ℕ) → k < length levels.old → 960 * (fallen + k) < over * 4294967296 }
+    ensures { EachIndex levels.new (λ k. slice_index levels.new k ≡ gain_at (960 * (fallen + k) / over)) }
+{
+    fill_line(960, over, fallen, levels);
+    fill_gains(levels);
+}
+
+// The front of a stretch that is so many frames into the decay; answers how many frames that are.
+#[tactic(auto, using(crate::proofs::PhaseLemmas::sustained, crate::proofs::PhaseLemmas::decaying), unfolding(crate::specs::Envelope::decayed))]
+fn fill_decayed(v: &VoiceParameters, fallen: u64, levels: &mut [u32]) -> usize
+    requires some { 0 < length levels.old }
+    requires near { fallen + length levels.old < 2 ^ 34 }
+    ensures some { (0 < result) × (result ≤ length levels.new) }
+    ensures value { (k : ℕ) → k < result → slice_index levels.new k ≡ decayed v.now (fallen + k) }
+{
+    let decay = u64::from(v.decay);
+    let sustained = u64::from(v.sustain) * decay;
+    if sustained <= 960 * fallen {
+        fill_even(gain(i64::from(v.sustain)), levels);
+        return levels.len();
+    }
+    let n = frames_before(960 * fallen, 960, sustained, levels.len() as u64) as usize;
+    fill_falling(decay, fallen, &mut levels[..n]);
+    n
+}
+
+// The front of a stretch from `t` on, as far as one phase goes of those before the note's end;
+// answers how many frames that are.
+#[tactic(auto, unfolding(crate::specs::Envelope::held))]
+fn fill_held(v: &VoiceParameters, t: u64, levels: &mut [u32]) -> usize
+    requires some { 0 < length levels.old }
+    requires near { t + length levels.old < 2 ^ 33 }
+    ensures some { (0 < result) × (result ≤ length levels.new) }
+    ensures value { (k : ℕ) → k < result → slice_index levels.new k ≡ held v.now (t + k) }
+{
+    let delay = u64::from(v.delay);
+    let attack = u64::from(v.attack);
+    let hold = u64::from(v.hold);
+    let most = levels.len() as u64;
+    if t < delay {
+        let n = most.min(delay - t) as usize;
+        fill_even(0, &mut levels[..n]);
+        return n;
+    }
+    let risen = t - delay;
+    if risen < attack {
+        let n = most.min(attack - risen) as usize;
+        fill_line(65536, attack, risen, &mut levels[..n]);
+        return n;
+    }
+    let kept = risen - attack;
+    if kept < hold {
+        let n = most.min(hold - kept) as usize;
+        fill_even(65536, &mut levels[..n]);
+        return n;
+    }
+    fill_decayed(v, kept - hold, levels)
+}
+
+// The levels before the note's end.
+fn fill_note(v: &VoiceParameters, t: u64, levels: &mut [u32])
+    requires near { t + length levels.old < 2 ^ 33 }
+    ensures { EachIndex levels.new (λ k. slice_index levels.new k ≡ held v.now (t + k)) }
+{
+    let mut at = 0;
+    while at < levels.len() {
+        at += fill_held(v, t + at as u64, &mut levels[at..]);
+    }
+}
+
+// Each level, as a part of one level.
+#[tactic(auto, using(crate::proofs::LevelLemmas::faded))]
+fn fade(level: u32, levels: &mut [u32])
+    requires most { level ≤ 65536 }
+    requires levels { EachIndex levels.old (λ k. slice_index levels.old k ≤ 65536) }
+    ensures { EachIndex levels.new (λ k. slice_index levels.new k ≡ level * slice_index levels.old k / 65536) }
+{
+    for k in 0..levels.len() {
+        levels[k] = (u64::from(level) * u64::from(levels[k]) / 65536) as u32;
+    }
+}
+
+// The levels so many frames into the release.
+fn fill_released(v: &VoiceParameters, fallen: u64, levels: &mut [u32])
+    requires { fallen + length levels.old ≤ v.now.release }
+    ensures { EachIndex levels.new (λ k. slice_index levels.new k ≡ released v.now (fallen + k)) }
+{
+    if levels.is_empty() {
+        return;
+    }
+    fill_falling(u64::from(v.release), fallen, levels);
+    fade(held_at(v, u64::from(v.length)), levels);
+}
+
+// How loud the voice is at each frame of a stretch, which the note's end ends.
+pub fn fill_levels(v: &VoiceParameters, t: u64, levels: &mut [u32])
+    requires young { t + length levels.old < 2 ^ 33 }
+    requires unreleased { t + length levels.old ≤ v.now.length + v.now.release }
+    requires held { t < v.now.length → t + length levels.old ≤ v.now.length }
+    ensures value { EachIndex levels.new (λ k. slice_index levels.new k ≡ envelope v.now (t + k)) }
+    ensures most { EachIndex levels.new (λ k. slice_index levels.new k ≤ 65536) }
+{
+    let length = u64::from(v.length);
+    if t < length {
+        fill_note(v, t, levels);
+    } else {
+        fill_released(v, t - length, levels);
+    }
+}

@@ -1,0 +1,63 @@
+//! What a sample says between its points.
+ghost use Rattle.std.specs.Prelude.{◌≡◌, ◌+◌, ◌-ℤ◌, ◌*ℤ◌, ◌*◌, ◌/◌, ◌≤◌, ◌<◌, ◌≤ℤ◌, pos, negsuc, length, true};
+ghost use Rattle.sound_tables.specs.Floor.{floor_div};
+ghost use Rattle.voices.specs.Points.{between, point_at, follower, point_of};
+
+use crate::parameters::VoiceParameters;
+use sample_view::Points;
+
+// The part of 65536 of the way from one point to the next.
+#[inline(always)]
+fn slope(p0: i16, p1: i16, part: u32) -> i64
+    requires { part < 65536 }
+    ensures { result ≡ floor_div ((p1 -ℤ p0) *ℤ pos part) 65536 }
+{
+    ((i64::from(p1) - i64::from(p0)) * i64::from(part)) >> 16
+}
+
+// Between two points, at `part` of 65536.
+#[inline(always)]
+#[tactic(auto, using(crate::proofs::LevelLemmas::between_within, crate::proofs::LevelLemmas::between_is))]
+pub fn interpolated(p0: i16, p1: i16, part: u32) -> i32
+    requires { part < 65536 }
+    ensures value { result ≡ between p0 p1 part }
+    ensures low { negsuc 32767 ≤ℤ result }
+    ensures high { result ≤ℤ pos 32767 }
+{
+    (i64::from(p0) + slope(p0, p1, part)) as i32
+}
+
+// The point after point `i`.
+#[tactic(auto, unfolding(crate::specs::Points::follower, crate::specs::Points::point_at))]
+fn follower_at(points: &Points, v: &VoiceParameters, looping: bool, i: usize) -> i16
+    requires inside { v.now.end ≤ length points.now }
+    requires loop_inside { looping ≡ true → v.now.loop_start < length points.now }
+    requires near { i < v.now.end }
+    ensures { result ≡ follower points.now v.now looping i }
+{
+    if looping && i + 1 == v.loop_end as usize {
+        points.point(v.loop_start as usize)
+    } else if i + 1 < v.end as usize {
+        points.point(i + 1)
+    } else {
+        0
+    }
+}
+
+// What the sample says at a place before the end.
+#[tactic(auto, unfolding(crate::specs::Points::point_of, crate::specs::Points::point_at))]
+pub fn point_of_place(points: &Points, v: &VoiceParameters, looping: bool, x: u64) -> i32
+    requires inside { v.now.end ≤ length points.now }
+    requires loop_inside { looping ≡ true → v.now.loop_start < length points.now }
+    requires near { x < 65536 * v.now.end }
+    ensures value { result ≡ point_of points.now v.now looping x }
+    ensures low { negsuc 32767 ≤ℤ result }
+    ensures high { result ≤ℤ pos 32767 }
+{
+    let i = (x / 65536) as usize;
+    interpolated(
+        points.point(i),
+        follower_at(points, v, looping, i),
+        (x % 65536) as u32,
+    )
+}

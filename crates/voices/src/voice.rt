@@ -1,0 +1,84 @@
+//! A voice.
+ghost use Rattle.std.specs.Prelude.{◌≡◌, ℕ, ◌+◌, ◌*◌, ◌/◌, ◌%◌, ◌^◌, ◌≤◌, ◌<◌, ◌+ℤ◌, pos, true, false, EachIndex, length, nat_eq, slice_index_or};
+ghost use Rattle.std.specs.Bool.{OnFalse};
+ghost use Rattle.voices.specs.Place.{is_over};
+ghost use Rattle.voices.specs.Sound.{IsPlayable, snd, after_frame};
+ghost use Rattle.voices.specs.Within.{AllWithin};
+
+use crate::frames::frame;
+use crate::parameters::VoiceParameters;
+use crate::places::is_over_at;
+use crate::runs::add_run;
+use sample_view::Points;
+use std::marker::Model;
+
+/// A sample that is played by the numbers of a pair of zones. It holds slices of the file and not the
+/// bank. Contracts see its points, its parameters, and the number of the frame that comes next.
+#[derive(Drop)]
+pub struct Voice<'a> {
+    points: Points<'a>,
+    parameters: VoiceParameters,
+    age: u64,
+}
+
+impl<'a> Model for Voice<'a> {
+    ghost use Rattle.std.specs.Prelude.{length};
+    ghost use Rattle.voices.specs.Sound.{IsPlayable, Live};
+
+    ghost Value = { Live };
+
+    ghost view = { λ v. record { value = record { points = v.points; parameters = v.parameters }; age = v.age } };
+
+    ghost invariant = { λ v. IsPlayable (length v.points) v.parameters };
+}
+
+impl<'a> Voice<'a> {
+    /// A voice that is at its first frame.
+    pub fn of(points: Points<'a>, parameters: VoiceParameters) -> Voice<'a>
+        requires { IsPlayable (length points) parameters }
+        ensures { result ≡ record { value = record { points = points.entry; parameters = parameters }; age = 0 } }
+    {
+        Voice {
+            points,
+            parameters,
+            age: 0,
+        }
+    }
+
+    /// Whether the voice is over: it is silent from the next frame on.
+    pub fn done(&self) -> bool
+        ensures value { result ≡ is_over self.now.value.parameters self.now.age }
+        ensures young { OnFalse result (self.now.age < 2 ^ 33) }
+    {
+        is_over_at(&self.parameters, self.age)
+    }
+
+    /// The next frame, left and right, each from -32768 to 32767. A voice that is over gives silence
+    /// and counts no more.
+    pub fn next_frame(&mut self) -> (i32, i32)
+        ensures left { result.0 ≡ snd self.old.value true self.old.age }
+        ensures right { result.1 ≡ snd self.old.value false self.old.age }
+        ensures live { self.new ≡ after_frame self.old }
+    {
+        let sides = frame(&self.points, &self.parameters, self.age);
+        if !self.done() {
+            self.age += 1;
+        }
+        sides
+    }
+
+    /// Adds the next frames to sums of both sides, left and right in turn. Each sum has room for one
+    /// more voice: none is further from zero than 65534 voices reach.
+    pub fn add_frames(&mut self, sums: &mut [i32])
+        requires even { length sums.old % 2 ≡ 0 }
+        requires young { self.old.age + length sums.old < 2 ^ 64 }
+        requires room { AllWithin 65534 sums.old }
+        ensures value { EachIndex sums.new (λ i. slice_index_or sums.new i (pos 0)
+            ≡ slice_index_or sums.old i (pos 0) +ℤ snd self.old.value (nat_eq (i % 2) 0) (self.old.age + i / 2)) }
+        ensures room { (j : ℕ) → AllWithin j sums.old → AllWithin (j + 1) sums.new }
+        ensures live { self.new ≡ record { value = self.old.value; age = self.old.age + length sums.old / 2 } }
+    {
+        add_run(&self.points, &self.parameters, self.age, sums);
+        self.age += sums.len() as u64 / 2;
+    }
+}
