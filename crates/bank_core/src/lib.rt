@@ -10,7 +10,7 @@ mod zones;
 
 pub use bank::Bank;
 pub use bank_parts::{
-    GlobalZone, InfoId, Instrument, Kind, Parts, Preset, Sample, Text, Texts, Zone, is_valid,
+    GlobalZone, InfoId, Instrument, Kind, Parts, Preset, Sample, Texts, Zone, is_valid,
 };
 pub use fault::PartsFault;
 pub use head::Head;

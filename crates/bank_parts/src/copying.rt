@@ -2,10 +2,10 @@
 ghost use Rattle.std.specs.Prelude.{◌≡◌, IfOk};
 
 use crate::parts::{GlobalZone, Parts, Sample, WithZones, Zone};
-use crate::texts::{Text, Texts};
+use crate::texts::Texts;
 use modulators::Modulator;
 use numbered_lists::NumberedList;
-use sf_base::OutOfMemory;
+use sf_base::{Lent, OutOfMemory};
 use std::alloc::Global;
 
 /// What a bank's lists hold.
@@ -66,14 +66,14 @@ fn copy_texts<'a>(texts: &Texts<'a>) -> Texts<'a>
     ensures { result ≡ texts.now }
 {
     Texts {
-        engine: Text::from_bytes(texts.engine.bytes()),
-        name: Text::from_bytes(texts.name.bytes()),
-        date: Text::from_bytes(texts.date.bytes()),
-        engineers: Text::from_bytes(texts.engineers.bytes()),
-        product: Text::from_bytes(texts.product.bytes()),
-        copyright: Text::from_bytes(texts.copyright.bytes()),
-        comment: Text::from_bytes(texts.comment.bytes()),
-        software: Text::from_bytes(texts.software.bytes()),
+        engine: Lent::new(texts.engine.bytes()),
+        name: Lent::new(texts.name.bytes()),
+        date: Lent::new(texts.date.bytes()),
+        engineers: Lent::new(texts.engineers.bytes()),
+        product: Lent::new(texts.product.bytes()),
+        copyright: Lent::new(texts.copyright.bytes()),
+        comment: Lent::new(texts.comment.bytes()),
+        software: Lent::new(texts.software.bytes()),
     }
 }
 

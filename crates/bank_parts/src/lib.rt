@@ -20,6 +20,6 @@ pub use laws::limits_agree;
 pub use limits::Limit;
 pub use owners::{Owners, ZonePlace};
 pub use parts::{GlobalZone, Head, Instrument, Kind, Parts, Preset, Sample, WithZones, Zone};
-pub use texts::{InfoId, Text, Texts};
+pub use texts::{InfoId, Texts};
 pub use totals::{Totals, totals_of};
 pub use validity::is_valid;

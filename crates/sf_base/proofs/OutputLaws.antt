@@ -1,0 +1,61 @@
+-- Texts that are put into an output one after the other: in a row, and in a loop.
+use Rattle.std.proofs.Common.{◌≡◌, ◌<◌, ◌+◌, ℕ, List, [], ◌++◌, length, drop, get_or, Option, refl, sym, ap, subst, ◌∙◌, append_assoc}
+use Rattle.std.specs.List.{flat_map}
+use Rattle.std.proofs.lemmas.List.{append-nil, at_drop_more}
+use Rattle.sf_base.specs.declared.output.Output.{Output}
+use Rattle.sf_base.specs.Output.{HasPut, Puts}
+
+-- ---- in a row
+
+module _ {W : Type 0} {c : W → Option (List ℕ)} where
+  -- nothing is put
+  pub puts_nothing : (o : Output W) → Puts c o o []
+  puts_nothing o = record {
+    same_writer = refl;
+    grows = λ start before h. subst (λ (t : List ℕ). HasPut c start o t) (sym (append-nil before)) h;
+  }
+
+  -- one text, and then another
+  pub puts_then : {o p q : Output W} (t u : List ℕ) → Puts c o p t → Puts c p q u → Puts c o q (t ++ u)
+  puts_then {o} {p} {q} t u h k = record {
+    same_writer = k.same_writer ∙ h.same_writer;
+    grows = λ start before d. subst (λ (x : List ℕ). HasPut c start q x) (append_assoc before t u) (k.grows start (before ++ t) (h.grows start before d));
+  }
+
+  -- a text, by another name
+  pub puts_as : {o p : Output W} (t u : List ℕ) → t ≡ u → Puts c o p t → Puts c o p u
+  puts_as {o} {p} t u e h = subst (λ (x : List ℕ). Puts c o p x) e h
+
+-- ---- in a loop
+
+-- A text on its way: of the whole the rest is still to be put.
+pub record Putting {W : Type 0} (c : W → Option (List ℕ)) (old now : Output W) (whole rest : List ℕ) : Type 0 where
+  pub gone : List ℕ
+  pub parts : whole ≡ gone ++ rest
+  pub puts : Puts c old now gone
+
+module _ {W : Type 0} {c : W → Option (List ℕ)} {o : Output W} where
+  -- at the start all of it is
+  pub putting_start : (whole : List ℕ) → Putting c o o whole whole
+  putting_start whole = record { gone = []; parts = refl; puts = puts_nothing o }
+
+  -- a part was put
+  pub putting_step : {p q : Output W} {whole rest : List ℕ} (x others : List ℕ) → Putting c o p whole rest → rest ≡ x ++ others → Puts c p q x → Putting c o q whole others
+  putting_step {whole = whole} x others s e h = record {
+    gone = s.gone ++ x;
+    parts = s.parts ∙ ap (λ (y : List ℕ). s.gone ++ y) e ∙ sym (append_assoc s.gone x others);
+    puts = puts_then s.gone x s.puts h;
+  }
+
+  -- the part of a member was put, in a loop over all of them
+  pub putting_member : {X : Type 0} {p q : Output W} {whole : List ℕ} (f : X → List ℕ) (xs : List X) (i : ℕ) (d : X) → Putting c o p whole (flat_map f (drop i xs)) → i < length xs → Puts c p q (f (get_or xs i d))
+      → Putting c o q whole (flat_map f (drop (i + 1) xs))
+  putting_member f xs i d s lt h = putting_step (f (get_or xs i d)) (flat_map f (drop (i + 1) xs)) s (at_drop_more (flat_map f) xs i d lt) h
+
+  -- at the end nothing is
+  pub putting_end : {p : Output W} {whole : List ℕ} → Putting c o p whole [] → Puts c o p whole
+  putting_end {whole = whole} s = puts_as s.gone whole (sym (s.parts ∙ append-nil s.gone)) s.puts
+
+  -- what is put last is all of the rest
+  pub putting_last : {p q : Output W} {whole rest : List ℕ} → Putting c o p whole rest → Puts c p q rest → Puts c o q whole
+  putting_last {whole = whole} {rest} s h = puts_as (s.gone ++ rest) whole (sym s.parts) (puts_then s.gone rest s.puts h)
