@@ -39,7 +39,7 @@ pub record FitsZone (z : Zone) : Type 0 where
   pub gens : FitGens z.gens
   pub mods : AllByRecursion FitsModulator z.mods
 
-pub record FitsPresetHead (h : Head) : Type 0 where
+pub record FitsHead (h : Head) : Type 0 where
   pub name : IsName h.name
   pub number : h.number < 2 ^ 16
   pub bank : h.bank < 2 ^ 16
@@ -48,8 +48,8 @@ pub record FitsPresetHead (h : Head) : Type 0 where
   pub morphology : h.morphology < 2 ^ 32
 
 -- a preset or an instrument
-pub record FitsOwner {H : Type 0} (FitsHead : H → Type 0) (x : WithZones H) : Type 0 where
-  pub head : FitsHead x.head
+pub record FitsOwner {H : Type 0} (IsFit : H → Type 0) (x : WithZones H) : Type 0 where
+  pub head : IsFit x.head
   pub global : FitsGlobal x.global
   pub zones : AllByRecursion FitsZone x.zones
 
@@ -74,6 +74,6 @@ pub record FitsSample (s : Sample) : Type 0 where
 pub record Fits (b : Parts) : Type 0 where
   pub minor : b.minor < 2 ^ 16
   pub texts : FitTexts b.texts
-  pub presets : AllByRecursion (FitsOwner FitsPresetHead) b.presets
+  pub presets : AllByRecursion (FitsOwner FitsHead) b.presets
   pub instruments : AllByRecursion (FitsOwner IsName) b.instruments
   pub samples : AllByRecursion FitsSample b.samples

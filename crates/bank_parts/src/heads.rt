@@ -17,7 +17,7 @@ pub trait OwnerHead: Copy {
     ghost name: { Self → List ℕ };
 
     /// Each number and name is in the range of its field.
-    ghost FitsHead: { Self → Type 0 };
+    ghost IsFit: { Self → Type 0 };
 
     /// Whose zones they are.
     const LEVEL: Level;
@@ -25,18 +25,18 @@ pub trait OwnerHead: Copy {
     /// The law that the name is one, and that each field is in its range. It does nothing.
     fn fits(&self)
         ensures named { IsName (name self.now) }
-        ensures fits { FitsHead self.now };
+        ensures fits { IsFit self.now };
 }
 
 impl OwnerHead for Head {
     ghost use Rattle.generators.specs.declared.level.Level.TheVariants as level;
-    ghost use Rattle.bank_parts.specs.Fits.{FitsPresetHead};
+    ghost use Rattle.bank_parts.specs.Fits.{FitsHead};
 
     ghost LEVEL = { level.Preset };
 
     ghost name = { λ head. head.name };
 
-    ghost FitsHead = { FitsPresetHead };
+    ghost IsFit = { FitsHead };
 
     const LEVEL: Level = Level::Preset;
 
@@ -60,7 +60,7 @@ impl OwnerHead for Name20 {
 
     ghost name = { λ name. name };
 
-    ghost FitsHead = { IsName };
+    ghost IsFit = { IsName };
 
     const LEVEL: Level = Level::Instrument;
 

@@ -6,7 +6,7 @@ ghost use Rattle.sf_base.specs.Names.{IsName, IsText};
 ghost use Rattle.generators.specs.Gens.{FitGens};
 ghost use Rattle.modulators.specs.Modulators.{FitsModulator};
 ghost use Rattle.bank_parts.specs.Valid.{IsGenerator, AreGenerators, IsZone, AreZones, IsOwner, IsPreset, IsInstrument, IsLoop, IsLink, IsSample, AreTexts, IsWithin, IsValid};
-ghost use Rattle.bank_parts.specs.Fits.{FitTexts, FitsPresetHead, FitsOwner, FitsSample, FitsLoop, FitsKind, FitsGlobal, FitsZone, Fits};
+ghost use Rattle.bank_parts.specs.Fits.{FitTexts, FitsHead, FitsOwner, FitsSample, FitsLoop, FitsKind, FitsGlobal, FitsZone, Fits};
 
 use crate::heads::OwnerHead;
 use crate::owners::Owners;
@@ -68,7 +68,7 @@ fn is_text(bytes: &[u8], most: usize) -> bool
 
 fn are_presets(presets: &Owners<Head>, instruments: usize) -> bool
     ensures valid { IsTrue result ↔ AllByRecursion (IsPreset instruments) presets.now }
-    ensures fits { OnTrue result (AllByRecursion (FitsOwner FitsPresetHead) presets.now) }
+    ensures fits { OnTrue result (AllByRecursion (FitsOwner FitsHead) presets.now) }
 {
     are_owners(presets.as_slice(), instruments)
 }
@@ -82,7 +82,7 @@ fn are_instruments(instruments: &Owners<Name20>, samples: usize) -> bool
 
 fn are_owners<H: OwnerHead>(owners: &[WithZones<H>], targets: usize) -> bool
     ensures valid { IsTrue result ↔ AllByRecursion (IsOwner H.name H.LEVEL targets) owners.now }
-    ensures fits { OnTrue result (AllByRecursion (FitsOwner H.FitsHead) owners.now) }
+    ensures fits { OnTrue result (AllByRecursion (FitsOwner H.IsFit) owners.now) }
 {
     owners.iter().all(|owner| is_owner(owner, targets))
 }
@@ -96,7 +96,7 @@ fn are_samples(samples: &[Sample<'_>], count: usize) -> bool
 
 fn is_owner<H: OwnerHead>(owner: &WithZones<H>, targets: usize) -> bool
     ensures valid { IsTrue result ↔ IsOwner H.name H.LEVEL targets owner.now }
-    ensures fits { OnTrue result (FitsOwner H.FitsHead owner.now) }
+    ensures fits { OnTrue result (FitsOwner H.IsFit owner.now) }
 {
     owner.head.fits();
     are_zones(H::LEVEL, targets, &owner.global, owner.zones.as_slice())

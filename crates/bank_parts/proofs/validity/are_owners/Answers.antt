@@ -14,6 +14,6 @@ returns-clause-valid g c =
 
 pub returns-clause-fits : goal.returns-clause-fits
 returns-clause-fits g c =
-    let Is = FitsOwner g.H.OwnerHead.FitsHead in
+    let Is = FitsOwner g.H.OwnerHead.IsFit in
     all_where_true Is _ c.all.result c.args.owners.now
     (cases_from_all _ _ _ Is (λ x. ⊤) c.all.ensures.ran (YieldsList-from_slice c.args.owners.now cc) (λ x q k. search (rules, tests)) (λ x q k. tt))
