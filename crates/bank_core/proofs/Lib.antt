@@ -1,2 +1,7 @@
 pub mod Changes
+pub mod Everywhere
 pub mod Renaming
+pub mod References
+pub mod TotalsLaws
+pub mod SampleLaws
+pub mod TextLaws

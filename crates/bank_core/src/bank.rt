@@ -1,19 +1,21 @@
 //! A bank that is always sound, and its raw changes.
-ghost use Rattle.std.specs.Prelude.{◌≡◌, ◌<◌, length, slice_get, IfSome, IfOk, IfErr, OnOk};
+ghost use Rattle.std.specs.Prelude.{◌≡◌, slice_get, IfOk, IfErr, OnOk};
 ghost use Rattle.std.specs.Option.{option_copied};
 ghost use Rattle.bank_parts.specs.Texts.{text_of};
 ghost use Rattle.bank_core.specs.Members.{member_count, head_of, instrument_name_of};
 ghost use Rattle.bank_parts.specs.Valid.{IsValid};
 ghost use Rattle.bank_parts.specs.Fits.{Fits};
 ghost use Rattle.bank_parts.specs.Sound.{IsSound};
+ghost use Rattle.bank_parts.specs.Limits.{totals_of};
 ghost use Rattle.bank_core.specs.Faults.{IsPartsFault};
-ghost use Rattle.bank_core.specs.Raw.{sample_renamed};
 
 use crate::fault::PartsFault;
 use crate::head::Head;
 use crate::members::Members;
-use bank_parts::{InfoId, Instrument, Parts, Preset, Sample, copy_parts, is_valid};
-use sf_base::{Name20, OutOfMemory};
+use bank_parts::{
+    InfoId, Instrument, Parts, Preset, Sample, Totals, copy_parts, is_valid, totals_of,
+};
+use sf_base::{Failure, Name20, OutOfMemory};
 use std::alloc::Global;
 use std::marker::Model;
 
@@ -21,12 +23,16 @@ use std::marker::Model;
 /// the bytes of the file, and of the script's pool.
 #[derive(Drop)]
 pub struct Bank<'a> {
-    parts: Parts<'a>,
+    pub(crate) parts: Parts<'a>,
+    // Kept beside the parts, so that no edit counts the whole bank.
+    pub(crate) totals: Totals,
 }
 
 impl<'a> Model for Bank<'a> {
+    ghost use Rattle.std.specs.Prelude.{◌≡◌};
     ghost use Rattle.bank_parts.specs.declared.parts.Parts.{Parts};
     ghost use Rattle.bank_parts.specs.Sound.{IsSound};
+    ghost use Rattle.bank_parts.specs.Limits.{totals_of};
     ghost use Rattle.generators.specs.contracts.gen_map.GenMap as gens;
     ghost use Rattle.std.specs.Coded.{codes};
 
@@ -36,30 +42,31 @@ impl<'a> Model for Bank<'a> {
 
     ghost view = { λ bank. bank.parts };
 
-    ghost invariant = { λ bank. IsSound bank.parts };
+    ghost invariant = { λ bank. IsSound bank.parts × (bank.totals ≡ totals_of bank.parts) };
 }
 
 impl<'a> Bank<'a> {
-    /// The bank of these parts, which are sound. Takes no memory.
+    /// The bank of these parts, which are sound. It counts them, and takes no memory.
     pub fn from_sound_parts(parts: Parts<'a>) -> Bank<'a>
         requires { IsSound parts }
         ensures { result ≡ parts.entry }
     {
-        Bank { parts }
+        let totals = totals_of(&parts);
+        Bank { parts, totals }
     }
 
     /// The bank of these parts, if they are valid. It takes no memory and never answers want of it,
     /// but another representation may.
-    pub fn from_parts(alloc: Global, parts: Parts<'a>) -> Result<Bank<'a>, PartsFault>
+    pub fn from_parts(alloc: Global, parts: Parts<'a>) -> Result<Bank<'a>, Failure<PartsFault>>
         ensures value { IfOk result (λ bank. bank ≡ parts.entry) }
         ensures sound { OnOk result (IsSound parts.entry) }
-        ensures fault { IfErr result (λ fault. IsPartsFault parts.entry fault) }
+        ensures fault { IfErr result (λ failure. IsPartsFault parts.entry failure) }
     {
         let _ = alloc;
         if !is_valid(&parts) {
-            return Err(PartsFault::Invalid);
+            return Err(Failure::Fault(PartsFault::Invalid));
         }
-        Ok(Bank { parts })
+        Ok(Bank::from_sound_parts(parts))
     }
 
     /// An equal bank in memory of its own. It copies no points: they stay in the file.
@@ -67,7 +74,10 @@ impl<'a> Bank<'a> {
         ensures { IfOk result (λ copy. copy ≡ self.now) }
     {
         let parts = copy_parts(alloc, &self.parts)?;
-        Ok(Bank { parts })
+        Ok(Bank {
+            parts,
+            totals: self.totals,
+        })
     }
 
     /// The minor version of the format.
@@ -131,6 +141,14 @@ impl<'a> Bank<'a> {
         }
     }
 
+    /// How long its lists are. Counts nothing.
+    pub fn totals(&self) -> Totals
+        ensures value { result ≡ totals_of self.now }
+        ensures sound { IsSound self.now }
+    {
+        self.totals
+    }
+
     /// The preset of this number without its zones, if there is one.
     pub fn head(&self, preset: u32) -> Option<Head>
         ensures { result ≡ head_of self.now preset }
@@ -151,16 +169,5 @@ impl<'a> Bank<'a> {
         ensures { result ≡ instrument_name_of self.now instrument }
     {
         Some(self.parts.instruments.get(instrument as usize)?.name)
-    }
-
-    /// Gives a sample a name, and gives back the one that it had. Takes no memory.
-    pub fn rename_sample(&mut self, number: u32, name: Name20) -> Name20
-        requires there { number < length self.old.samples }
-        requires sound { IsSound (sample_renamed self.old number name) }
-        ensures value { IfSome (slice_get self.old.samples number) (λ sample. result ≡ sample.name) }
-        ensures change { self.new ≡ sample_renamed self.old number name }
-    {
-        let sample = self.parts.samples.member_mut(number as usize);
-        std::mem::replace(&mut sample.name, name)
     }
 }

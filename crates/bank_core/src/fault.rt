@@ -7,7 +7,4 @@ pub enum PartsFault {
     /// They break a rule of valid banks.
     #[error("the parts are no valid bank")]
     Invalid,
-    /// They are valid, and a growth was refused.
-    #[error("out of memory")]
-    OutOfMemory,
 }

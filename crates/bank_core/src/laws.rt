@@ -3,7 +3,7 @@ ghost use Rattle.std.specs.Prelude.{ℕ, List};
 ghost use Rattle.sf_base.specs.Names.{IsName};
 ghost use Rattle.bank_parts.specs.declared.parts.Parts.{Parts};
 ghost use Rattle.bank_parts.specs.Sound.{IsSound};
-ghost use Rattle.bank_core.specs.Raw.{sample_renamed};
+ghost use Rattle.bank_core.specs.Samples.{sample_renamed};
 
 /// A sound bank is sound with a sample renamed.
 pub fn renaming_keeps_sound()

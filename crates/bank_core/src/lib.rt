@@ -6,6 +6,8 @@ mod fault;
 mod head;
 mod laws;
 mod members;
+mod samples;
+mod texts;
 mod zones;
 
 pub use bank::Bank;

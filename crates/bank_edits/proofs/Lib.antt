@@ -1,1 +1,3 @@
-pub mod Inverses
+pub mod Accepted
+pub mod SampleLaws
+pub mod TextLaws

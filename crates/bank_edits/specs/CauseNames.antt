@@ -1,10 +1,26 @@
--- The number and the name by which each cause is told.
-use Rattle.std.specs.Prelude.{ℕ, List, codes}
-use Rattle.bank_edits.specs.declared.edit.Cause.{Cause}
-use Rattle.bank_edits.specs.declared.edit.Cause.TheVariants.{NoSuchSample}
+-- The number, the name and the limit by which each cause is told.
+use Rattle.std.specs.Prelude.{ℕ, List, Option, Some, None, codes}
+use Rattle.bank_parts.specs.declared.limits.Limit.{Limit}
+use Rattle.bank_edits.specs.declared.cause.Cause.{Cause}
+use Rattle.bank_edits.specs.declared.cause.Cause.TheVariants.{NoSuchSample, BadPlace, InUse, BadLoop, BadText, Full}
 
 abbrev pub number_of : Cause → ℕ
 number_of NoSuchSample = 22
+number_of BadPlace = 25
+number_of InUse = 26
+number_of BadLoop = 35
+number_of BadText = 36
+number_of (Full limit) = 37
 
 abbrev pub name_of : Cause → List ℕ
 name_of NoSuchSample = codes "NoSuchSample"
+name_of BadPlace = codes "BadPlace"
+name_of InUse = codes "InUse"
+name_of BadLoop = codes "BadLoop"
+name_of BadText = codes "BadText"
+name_of (Full limit) = codes "Full"
+
+-- the limit that the bank would break
+abbrev pub limit_of : Cause → Option Limit
+limit_of (Full limit) = Some limit
+limit_of _ = None

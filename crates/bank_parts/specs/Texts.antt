@@ -1,5 +1,6 @@
 -- The eight texts by their ids.
-use Rattle.std.specs.Prelude.{ℕ, List}
+use Rattle.std.specs.Prelude.{ℕ, Bool, true, false, List}
+use Rattle.sf_base.specs.declared.limits.TheConstants.{TEXT_LENGTH, COMMENT_LENGTH}
 use Rattle.bank_parts.specs.declared.texts.Texts.{Texts}
 use Rattle.bank_parts.specs.declared.texts.InfoId.{InfoId}
 use Rattle.bank_parts.specs.declared.texts.InfoId.TheVariants.{Engine, Name, Date, Engineers, Product, Copyright, Comment, Software}
@@ -14,3 +15,13 @@ text_of texts Product = texts.product
 text_of texts Copyright = texts.copyright
 text_of texts Comment = texts.comment
 text_of texts Software = texts.software
+
+-- the bytes that a text has at most
+abbrev pub most_bytes : InfoId → ℕ
+most_bytes Comment = COMMENT_LENGTH
+most_bytes _ = TEXT_LENGTH
+
+-- the engine, which is never empty
+abbrev pub is_engine : InfoId → Bool
+is_engine Engine = true
+is_engine _ = false

@@ -1,4 +1,5 @@
 pub mod UndoneBy
 pub mod SampleLaws
+pub mod TextLaws
 pub mod Law
 pub mod RunLaw

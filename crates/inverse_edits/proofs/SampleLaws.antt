@@ -1,37 +1,80 @@
--- The forms that change a sample.
-use Rattle.std.proofs.Common.{◌≡◌, ◌<◌, ℕ, false, leb, List, length, Some, None, refl, ap}
-use Rattle.std.proofs.lemmas.Bool.{lt-leb}
+-- Undo restores, for the forms that edit samples.
+use Rattle.std.proofs.Common.{◌≡◌, ◌≤◌, ◌+◌, ℕ, List, length, map, remove, Some, refl, ap, arith}
+use Rattle.std.proofs.lemmas.List.{length-map}
+use Rattle.std.proofs.lemmas.List.Edits.{length-insert, length-remove}
 use Rattle.std.specs.Prelude.{slice_get}
-use Rattle.numbered_lists.proofs.Lists.{slice_get-found, slice_get-changed, length-changed, changed-back}
+use Rattle.numbered_lists.specs.declared.renumbering.Renumbering.TheVariants.{Insertion, Removal}
+use Rattle.numbered_lists.proofs.Lists.{slice_get-found, slice_get-insert, slice_get-changed, length-changed, changed-back}
 use Rattle.bank_parts.specs.declared.parts.Sample.{Sample}
 use Rattle.bank_parts.specs.declared.parts.Parts.{Parts}
-use Rattle.bank_parts.specs.Sound.{IsSound}
+use Rattle.bank_parts.specs.Renumbered.{sample_renumbered}
+use Rattle.bank_parts.specs.Valid.{IsSample}
 use Rattle.bank_parts.specs.Fits.{FitsSample}
-use Rattle.bank_core.specs.Raw.{named, sample_renamed}
+use Rattle.bank_parts.specs.Sound.{IsSound}
+use Rattle.bank_core.specs.Samples.{named, sample_renamed, sample_added, sample_removed}
 use Rattle.bank_core.proofs.Changes.{all_found}
 use Rattle.bank_core.proofs.Renaming.{renamed_sound}
-use Rattle.bank_edits.specs.declared.edit.Edit.TheVariants.{RenameSample}
-use Rattle.bank_edits.specs.Edits.{refusal}
-use Rattle.bank_edits.proofs.Inverses.{there_of_rename}
+use Rattle.bank_core.proofs.SampleLaws.{restored_added, restored_removed, added_unused}
+use Rattle.bank_edits.specs.declared.edit.Edit.TheVariants.{One}
+use Rattle.bank_edits.specs.declared.edit.Step.TheVariants.{RenameSample, AddSample, RemoveSample}
+use Rattle.bank_edits.proofs.Accepted.{accepted, not_below}
+use Rattle.bank_edits.proofs.SampleLaws.{there_of_rename, goes_in, tests_add, sound_add, comes_out, sound_remove}
 use Rattle.inverse_edits.specs.Undone.{IsTaken, IsUndone}
 use Rattle.inverse_edits.proofs.UndoneBy.{undone_by}
 
-accepted_where_there : (b : Parts) (i : ℕ) (name : List ℕ) → i < length b.samples → refusal b (RenameSample i name) ≡ None
-accepted_where_there b i name lt = let e : leb (length b.samples) i ≡ false = lt-leb _ _ lt in rw e refl
+-- ---- rename-sample
 
--- the old name's renaming takes the new one's back
-pub undone_rename : (b : Parts) (i : ℕ) (name : List ℕ) → IsSound b → IsTaken b (RenameSample i name) → IsUndone b (RenameSample i name)
+pub undone_rename : (b : Parts) (i : ℕ) (name : List ℕ) → IsSound b → IsTaken b (One (RenameSample i name)) → IsUndone b (One (RenameSample i name))
 undone_rename b i name s t =
     let lt = there_of_rename b i name t.accepted in
     let (x, e) = slice_get-found b.samples i lt in
-    let renamed = sample_renamed b i name in
-    let same_length = length-changed b.samples i (named name) in
-    let still : i < length renamed.samples = rw same_length lt in
-    let now : slice_get renamed.samples i ≡ Some (named name x) = slice_get-changed b.samples i (named name) x e in
-    undone_by b (RenameSample i name) (RenameSample i x.name) (record {
+    let same = length-changed b.samples i (named name) in
+    undone_by b (RenameSample i name) (RenameSample i x.name) s (record {
       is = rw e refl;
       sound = renamed_sound b i name s t.fits.1;
-      taken = record { fits = (t.fits.0, (all_found FitsSample b.samples i x e s.fits.samples).name); accepted = accepted_where_there renamed i x.name still };
+      fits = (t.fits.0, (all_found FitsSample b.samples i x e s.fits.samples).name);
+      tests = (not_below (length (sample_renamed b i name).samples) i (omega (arith, same, lt)), tt);
       restored = ap (λ (samples : List Sample). record b { samples = samples }) (changed-back b.samples i (named name) (named x.name) x e refl);
-      redone = rw now refl;
+      redone = let now = slice_get-changed b.samples i (named name) x e in rw now refl;
+    })
+
+-- ---- add-sample
+
+pub undone_add : (b : Parts) (i : ℕ) (x : Sample) → IsSound b → IsTaken b (One (AddSample i x)) → IsUndone b (One (AddSample i x))
+undone_add b i x s t =
+    let g = goes_in b i x (accepted b (AddSample i x) t.accepted).tests in
+    let le = g.place in
+    let others = map (sample_renumbered (Insertion i)) b.samples in
+    let same = length-map b.samples (sample_renumbered (Insertion i)) in
+    let inside : i ≤ length others = omega (arith, same, le) in
+    let size = length-insert others i x inside in
+    let there : slice_get (sample_added b i x).samples i ≡ Some x = slice_get-insert others i x inside in
+    undone_by b (AddSample i x) (RemoveSample i) s (record {
+      is = refl;
+      sound = sound_add b i x s t.fits.1 t.accepted;
+      fits = t.fits.0;
+      tests = (not_below (length (sample_added b i x).samples) i (omega (arith, size, inside)), (added_unused b i x le, tt));
+      restored = restored_added b i x le;
+      redone = rw there refl;
+    })
+
+-- ---- remove-sample
+
+pub undone_remove : (b : Parts) (i : ℕ) → IsSound b → IsTaken b (One (RemoveSample i)) → IsUndone b (One (RemoveSample i))
+undone_remove b i s t =
+    let c = comes_out b i (accepted b (RemoveSample i) t.accepted).tests in
+    let lt = c.there in
+    let (x, e) = slice_get-found b.samples i lt in
+    let less = length-remove b.samples i lt in
+    let same = length-map (remove b.samples i) (sample_renumbered (Removal i)) in
+    let one_less : length b.samples ≡ length (sample_removed b i).samples + 1 = omega (arith, less, same) in
+    let is = all_found (IsSample (length b.samples)) b.samples i x e s.valid.samples in
+    let is_then : IsSample (length (sample_removed b i).samples + 1) x = rw one_less at is in
+    undone_by b (RemoveSample i) (AddSample i x) s (record {
+      is = rw e refl;
+      sound = sound_remove b i s t.accepted;
+      fits = (t.fits, all_found FitsSample b.samples i x e s.fits.samples);
+      tests = tests_add (sample_removed b i) i x (record { link = is_then.kind; place = omega (arith, one_less, lt); looped = is.looped });
+      restored = restored_removed b i x e c.free;
+      redone = refl;
     })

@@ -1,25 +1,29 @@
 -- How a form's law follows from its facts.
-use Rattle.std.proofs.Common.{◌≡◌}
+use Rattle.std.proofs.Common.{◌≡◌, sym, subst, ap}
 use Rattle.bank_parts.specs.declared.parts.Parts.{Parts}
 use Rattle.bank_parts.specs.Sound.{IsSound}
-use Rattle.bank_edits.specs.declared.edit.Edit.{Edit}
-use Rattle.bank_edits.specs.Edits.{raw, inverse}
-use Rattle.inverse_edits.specs.Undone.{IsTaken, IsUndone}
+use Rattle.bank_edits.specs.declared.edit.Step.{Step}
+use Rattle.bank_edits.specs.declared.edit.Edit.TheVariants.{One}
+use Rattle.bank_edits.specs.Steps.{FitsStep, raw, inverse, causes}
+use Rattle.bank_edits.proofs.Accepted.{NoneStands, accepted_by}
+use Rattle.inverse_edits.specs.Undone.{IsUndone}
 
--- the facts about the inverse as it computes
-pub record Facts (b : Parts) (e back : Edit) : Type 0 where
-  pub is : inverse b e ≡ back
-  pub sound : IsSound (raw b e)
-  pub taken : IsTaken (raw b e) back
-  pub restored : raw (raw b e) back ≡ b
-  pub redone : inverse (raw b e) back ≡ e
+-- The facts about the inverse as it computes. That it breaks no limit follows from what it restores.
+pub record Facts (b : Parts) (s back : Step) : Type 0 where
+  pub is : inverse b s ≡ back
+  pub sound : IsSound (raw b s)
+  pub fits : FitsStep back
+  pub tests : NoneStands (causes (raw b s) back)
+  pub restored : raw (raw b s) back ≡ b
+  pub redone : inverse (raw b s) back ≡ s
 
-pub undone_by : (b : Parts) (e back : Edit) → Facts b e back → IsUndone b e
-undone_by b e back f =
-    let is = f.is in
+pub undone_by : (b : Parts) (s back : Step) → IsSound b → Facts b s back → IsUndone b (One s)
+undone_by b s back sound f =
+    let same = f.is in
+    let still : IsSound (raw (raw b s) back) = subst IsSound (sym f.restored) sound in
     record {
       sound = f.sound;
-      taken = rw is f.taken;
-      restored = rw is f.restored;
-      redone = rw is f.redone;
+      taken = rw same (record { fits = f.fits; accepted = accepted_by (raw b s) back f.tests still });
+      restored = rw same f.restored;
+      redone = rw same (ap One f.redone);
     }

@@ -1,5 +1,5 @@
 -- Numbers after a renumbering, and after the one that takes it back.
-use Rattle.std.proofs.Common.{◌≡◌, ◌≢◌, ℕ, List, map, All, get_or, arith}
+use Rattle.std.proofs.Common.{◌≡◌, ◌≢◌, ◌==◌, false, ℕ, ◌<◌, ◌≤◌, ◌+◌, List, map, All, get_or, arith}
 use Rattle.std.proofs.lemmas.Bool.Decides.{nat_tests}
 use Rattle.numbered_lists.specs.declared.renumbering.Renumbering.TheVariants.{Insertion, Removal, Move}
 use Rattle.numbered_lists.specs.Renumbered.{renumbered}
@@ -18,7 +18,11 @@ move_returned i j x = grind (arith, nat_tests)
 
 -- The number of a member stays below how many there are
 
--- No new number is that of what was put in
+pub insertion_below : (i x n : ℕ) → x < n → renumbered (Insertion i) x < n + 1
+insertion_below i x n h = grind (arith, nat_tests)
+
+pub removal_no_more : (i x : ℕ) → renumbered (Removal i) x ≤ x
+removal_no_more i x = grind (arith, nat_tests)
 
 -- A move is a removal and then an insertion, but for what it moves
 
@@ -29,6 +33,9 @@ pub move_takes : (i j x : ℕ) → x ≡ i → renumbered (Move i j) x ≡ j
 move_takes i j x h = grind (arith, nat_tests)
 
 -- A change at the end of a list renumbers nothing
+
+pub insertion_keeps : (i x : ℕ) → x < i → renumbered (Insertion i) x ≡ x
+insertion_keeps i x h = grind (arith, nat_tests)
 
 -- Lists of numbers
 
@@ -42,3 +49,12 @@ pub move_returned_all : (i j : ℕ) (xs : List ℕ) → map (renumbered (Move j 
 move_returned_all i j xs = map-undone (renumbered (Move i j)) (renumbered (Move j i)) xs (λ k d h. move_returned i j (get_or xs k d))
 
 -- The same by the test for the number
+
+pub removal_returned_by_test : (i x : ℕ) → (x == i) ≡ false → renumbered (Insertion i) (renumbered (Removal i) x) ≡ x
+removal_returned_by_test i x h = grind (arith, nat_tests)
+
+pub removal_below_by_test : (i x n : ℕ) → (x == i) ≡ false → i < n + 1 → x < n + 1 → renumbered (Removal i) x < n
+removal_below_by_test i x n ne k h = grind (arith, nat_tests)
+
+pub insertion_misses_by_test : (i x : ℕ) → (renumbered (Insertion i) x == i) ≡ false
+insertion_misses_by_test i x = grind (arith, nat_tests)

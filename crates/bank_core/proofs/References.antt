@@ -1,0 +1,188 @@
+-- A bank's references after a renumbering, and after its return.
+use Rattle.std.proofs.Common.{◌≡◌, ◌<◌, ◌==◌, ℕ, Bool, false, List, length, map, remove, refl, ap}
+use Rattle.std.specs.List.{AllByRecursion, list_any}
+use Rattle.numbered_lists.specs.declared.renumbering.Renumbering.{Renumbering}
+use Rattle.numbered_lists.specs.Renumbered.{renumbered}
+use Rattle.generators.specs.declared.level.Level.{Level}
+use Rattle.generators.specs.declared.level.Level.TheVariants as level
+use Rattle.bank_parts.specs.declared.parts.Kind.{Kind}
+use Rattle.bank_parts.specs.declared.parts.Kind.TheVariants.{Mono, Right, Left, Linked}
+use Rattle.bank_parts.specs.declared.parts.Zone.{Zone}
+use Rattle.bank_parts.specs.declared.parts.Instrument.{Instrument}
+use Rattle.bank_parts.specs.declared.parts.Sample.{Sample}
+use Rattle.bank_parts.specs.declared.parts.Parts.{Parts}
+use Rattle.bank_parts.specs.Links.{OfLink}
+use Rattle.bank_parts.specs.Renumbered.{kind_renumbered, sample_renumbered, zone_renumbered, instrument_renumbered, samples_renumbered}
+use Rattle.bank_core.specs.Samples.{links_to, targets, sample_in_use}
+use Rattle.bank_parts.specs.Valid.{IsZone, IsInstrument, IsSample, IsValid}
+use Rattle.bank_core.proofs.Everywhere.{all_weaker, all_always, all_map, all_sent, all_both, map_kept, map_back, or_left, or_right, or_none, none_passes, passes_none}
+
+-- P holds of each target of the zones
+abbrev pub OfTargets : (ℕ → Type 0) → List Zone → Type 0
+OfTargets P zones = AllByRecursion (λ (z : Zone). P z.target) zones
+
+-- P holds of every target and link into the bank's samples
+pub record OfSampleRefs (P : ℕ → Type 0) (b : Parts) : Type 0 where
+  pub links : AllByRecursion (λ (s : Sample). OfLink P s.kind) b.samples
+  pub targets : AllByRecursion (λ (i : Instrument). OfTargets P i.zones) b.instruments
+
+-- ---- weaker facts
+
+pub link_weaker : (P Q : ℕ → Type 0) → ((x : ℕ) → P x → Q x) → (k : Kind) → OfLink P k → OfLink Q k
+link_weaker P Q to Mono h = tt
+link_weaker P Q to (Right x) h = to x h
+link_weaker P Q to (Left x) h = to x h
+link_weaker P Q to (Linked x) h = to x h
+
+link_always : (P : ℕ → Type 0) → ((x : ℕ) → P x) → (k : Kind) → OfLink P k
+link_always P h Mono = tt
+link_always P h (Right x) = h x
+link_always P h (Left x) = h x
+link_always P h (Linked x) = h x
+
+pub refs_weaker : (P Q : ℕ → Type 0) → ((x : ℕ) → P x → Q x) → (b : Parts) → OfSampleRefs P b → OfSampleRefs Q b
+refs_weaker P Q to b h = record {
+  links = all_weaker (λ (s : Sample). OfLink P s.kind) (λ (s : Sample). OfLink Q s.kind) (λ s. link_weaker P Q to s.kind) b.samples h.links;
+  targets = all_weaker (λ (i : Instrument). OfTargets P i.zones) (λ (i : Instrument). OfTargets Q i.zones) (λ i. all_weaker (λ (z : Zone). P z.target) (λ (z : Zone). Q z.target) (λ z. to z.target) i.zones) b.instruments h.targets;
+}
+
+pub refs_always : (P : ℕ → Type 0) → ((x : ℕ) → P x) → (b : Parts) → OfSampleRefs P b
+refs_always P h b = record {
+  links = all_always (λ (s : Sample). OfLink P s.kind) (λ s. link_always P h s.kind) b.samples;
+  targets = all_always (λ (i : Instrument). OfTargets P i.zones) (λ i. all_always (λ (z : Zone). P z.target) (λ z. h z.target) i.zones) b.instruments;
+}
+
+link_both : (P Q : ℕ → Type 0) (k : Kind) → OfLink P k → OfLink Q k → OfLink (λ x. P x × Q x) k
+link_both P Q Mono h g = tt
+link_both P Q (Right x) h g = (h, g)
+link_both P Q (Left x) h g = (h, g)
+link_both P Q (Linked x) h g = (h, g)
+
+pub refs_both : (P Q : ℕ → Type 0) (b : Parts) → OfSampleRefs P b → OfSampleRefs Q b → OfSampleRefs (λ x. P x × Q x) b
+refs_both P Q b h g = record {
+  links = all_both (λ (s : Sample). OfLink P s.kind) (λ (s : Sample). OfLink Q s.kind) (λ (s : Sample). OfLink (λ x. P x × Q x) s.kind) (λ s. link_both P Q s.kind) b.samples h.links g.links;
+  targets = all_both (λ (i : Instrument). OfTargets P i.zones) (λ (i : Instrument). OfTargets Q i.zones) (λ (i : Instrument). OfTargets (λ x. P x × Q x) i.zones)
+      (λ i. all_both (λ (z : Zone). P z.target) (λ (z : Zone). Q z.target) (λ (z : Zone). P z.target × Q z.target) (λ z p q. (p, q)) i.zones) b.instruments h.targets g.targets;
+}
+
+module _ (P Q : ℕ → Type 0) (by : Renumbering) (to : (x : ℕ) → P x → Q (renumbered by x)) where
+  link_sent : (k : Kind) → OfLink P k → OfLink Q (kind_renumbered by k)
+  link_sent Mono h = tt
+  link_sent (Right x) h = to x h
+  link_sent (Left x) h = to x h
+  link_sent (Linked x) h = to x h
+
+  -- what holds of the references with their new numbers
+  pub refs_renumbered : (b : Parts) → OfSampleRefs P b → OfSampleRefs Q (samples_renumbered by b)
+  refs_renumbered b h = record {
+    links = all_sent (λ (s : Sample). OfLink P s.kind) (λ (s : Sample). OfLink Q s.kind) (sample_renumbered by) (λ s. link_sent s.kind) b.samples h.links;
+    targets = all_sent (λ (i : Instrument). OfTargets P i.zones) (λ (i : Instrument). OfTargets Q i.zones) (instrument_renumbered by)
+        (λ i. all_sent (λ (z : Zone). P z.target) (λ (z : Zone). Q z.target) (zone_renumbered by) (λ z. to z.target) i.zones) b.instruments h.targets;
+  }
+
+-- ---- a valid bank's references
+
+pub refs_within : (b : Parts) → IsValid b → OfSampleRefs (λ x. x < length b.samples) b
+refs_within b v =
+    let n : ℕ = length b.samples in
+    record {
+      links = all_weaker (IsSample n) (λ (s : Sample). OfLink (λ x. x < n) s.kind) (λ s h. h.kind) b.samples v.samples;
+      targets = all_weaker (IsInstrument n) (λ (i : Instrument). OfTargets (λ x. x < n) i.zones)
+          (λ i h. all_weaker (IsZone level.Instrument n) (λ (z : Zone). z.target < n) (λ z k. k.target) i.zones h.zones.zones) b.instruments v.instruments;
+    }
+
+-- ---- validity with new numbers
+
+module _ (P : ℕ → Type 0) (by : Renumbering) (n m : ℕ) (to : (x : ℕ) → P x → renumbered by x < m) where
+  link_renumbered : (k : Kind) → OfLink P k → OfLink (λ x. x < m) (kind_renumbered by k)
+  link_renumbered Mono h = tt
+  link_renumbered (Right x) h = to x h
+  link_renumbered (Left x) h = to x h
+  link_renumbered (Linked x) h = to x h
+
+  pub samples_valid : (ss : List Sample) → AllByRecursion (IsSample n) ss → AllByRecursion (λ (s : Sample). OfLink P s.kind) ss → AllByRecursion (IsSample m) (map (sample_renumbered by) ss)
+  samples_valid = all_map (IsSample n) (λ (s : Sample). OfLink P s.kind) (IsSample m) (sample_renumbered by)
+      (λ s v h. record { name = v.name; looped = v.looped; kind = link_renumbered s.kind h })
+
+  zones_valid : (at : Level) (zs : List Zone) → AllByRecursion (IsZone at n) zs → OfTargets P zs → AllByRecursion (IsZone at m) (map (zone_renumbered by) zs)
+  zones_valid at = all_map (IsZone at n) (λ (z : Zone). P z.target) (IsZone at m) (zone_renumbered by) (λ z v h. record { target = to z.target h; gens = v.gens })
+
+  pub instruments_valid : (is : List Instrument) → AllByRecursion (IsInstrument n) is → AllByRecursion (λ (i : Instrument). OfTargets P i.zones) is → AllByRecursion (IsInstrument m) (map (instrument_renumbered by) is)
+  instruments_valid = all_map (IsInstrument n) (λ (i : Instrument). OfTargets P i.zones) (IsInstrument m) (instrument_renumbered by)
+      (λ i v h. record { name = v.name; zones = record { global = v.zones.global; zones = zones_valid level.Instrument i.zones v.zones.zones h } })
+
+-- ---- references that a renumbering keeps, or gives back
+
+module _ (by : Renumbering) where
+  kind_kept : (k : Kind) → OfLink (λ x. renumbered by x ≡ x) k → kind_renumbered by k ≡ k
+  kind_kept Mono h = refl
+  kind_kept (Right x) h = ap Right h
+  kind_kept (Left x) h = ap Left h
+  kind_kept (Linked x) h = ap Linked h
+
+  pub refs_kept : (b : Parts) → OfSampleRefs (λ x. renumbered by x ≡ x) b → samples_renumbered by b ≡ b
+  refs_kept b h =
+      let links : map (sample_renumbered by) b.samples ≡ b.samples =
+      map_kept (sample_renumbered by) b.samples (all_weaker (λ (s : Sample). OfLink (λ x. renumbered by x ≡ x) s.kind) (λ (s : Sample). sample_renumbered by s ≡ s)
+      (λ s k. ap (λ (kind : Kind). let t : Sample = record s { kind = kind } in t) (kind_kept s.kind k)) b.samples h.links) in
+      let targets : map (instrument_renumbered by) b.instruments ≡ b.instruments =
+      map_kept (instrument_renumbered by) b.instruments (all_weaker (λ (i : Instrument). OfTargets (λ x. renumbered by x ≡ x) i.zones) (λ (i : Instrument). instrument_renumbered by i ≡ i)
+      (λ i k. ap (λ (zones : List Zone). let t : Instrument = record i { zones = zones } in t)
+      (map_kept (zone_renumbered by) i.zones (all_weaker (λ (z : Zone). renumbered by z.target ≡ z.target) (λ (z : Zone). zone_renumbered by z ≡ z)
+      (λ z e. ap (λ (target : ℕ). let t : Zone = record z { target = target } in t) e) i.zones k))) b.instruments h.targets) in
+      λ i. record b { samples = links i; instruments = targets i }
+
+module _ (by back : Renumbering) where
+  kind_back : (k : Kind) → OfLink (λ x. renumbered back (renumbered by x) ≡ x) k → kind_renumbered back (kind_renumbered by k) ≡ k
+  kind_back Mono h = refl
+  kind_back (Right x) h = ap Right h
+  kind_back (Left x) h = ap Left h
+  kind_back (Linked x) h = ap Linked h
+
+  pub refs_back : (b : Parts) → OfSampleRefs (λ x. renumbered back (renumbered by x) ≡ x) b → samples_renumbered back (samples_renumbered by b) ≡ b
+  refs_back b h =
+      let links : map (sample_renumbered back) (map (sample_renumbered by) b.samples) ≡ b.samples =
+      map_back (sample_renumbered by) (sample_renumbered back) b.samples
+      (all_weaker (λ (s : Sample). OfLink (λ x. renumbered back (renumbered by x) ≡ x) s.kind) (λ (s : Sample). sample_renumbered back (sample_renumbered by s) ≡ s)
+      (λ s k. ap (λ (kind : Kind). let t : Sample = record s { kind = kind } in t) (kind_back s.kind k)) b.samples h.links) in
+      let targets : map (instrument_renumbered back) (map (instrument_renumbered by) b.instruments) ≡ b.instruments =
+      map_back (instrument_renumbered by) (instrument_renumbered back) b.instruments
+      (all_weaker (λ (i : Instrument). OfTargets (λ x. renumbered back (renumbered by x) ≡ x) i.zones) (λ (i : Instrument). instrument_renumbered back (instrument_renumbered by i) ≡ i)
+      (λ i k. ap (λ (zones : List Zone). let t : Instrument = record i { zones = zones } in t)
+      (map_back (zone_renumbered by) (zone_renumbered back) i.zones (all_weaker (λ (z : Zone). renumbered back (renumbered by z.target) ≡ z.target) (λ (z : Zone). zone_renumbered back (zone_renumbered by z) ≡ z)
+      (λ z e. ap (λ (target : ℕ). let t : Zone = record z { target = target } in t) e) i.zones k))) b.instruments h.targets) in
+      λ i. record b { samples = links i; instruments = targets i }
+
+-- ---- what no reference names
+
+not_linked : (i : ℕ) (k : Kind) → links_to i k ≡ false → OfLink (λ x. (x == i) ≡ false) k
+not_linked i Mono h = tt
+not_linked i (Right x) h = h
+not_linked i (Left x) h = h
+not_linked i (Linked x) h = h
+
+linked_not : (i : ℕ) (k : Kind) → OfLink (λ x. (x == i) ≡ false) k → links_to i k ≡ false
+linked_not i Mono h = refl
+linked_not i (Right x) h = h
+linked_not i (Left x) h = h
+linked_not i (Linked x) h = h
+
+-- once the sample is gone, no reference is its number
+pub unused : (b : Parts) (i : ℕ) → sample_in_use b i ≡ false → OfSampleRefs (λ x. (x == i) ≡ false) (record b { samples = remove b.samples i })
+unfolding sample_in_use
+unused b i h =
+    let used : Bool = list_any (targets i) b.instruments in
+    let linked : Bool = list_any (λ (s : Sample). links_to i s.kind) (remove b.samples i) in
+    record {
+      links = all_weaker (λ (s : Sample). links_to i s.kind ≡ false) (λ (s : Sample). OfLink (λ x. (x == i) ≡ false) s.kind) (λ s. not_linked i s.kind) (remove b.samples i)
+          (none_passes (λ (s : Sample). links_to i s.kind) (remove b.samples i) (or_right used linked h));
+      targets = all_weaker (λ (x : Instrument). targets i x ≡ false) (λ (x : Instrument). OfTargets (λ t. (t == i) ≡ false) x.zones) (λ x. none_passes (λ (z : Zone). z.target == i) x.zones) b.instruments
+          (none_passes (targets i) b.instruments (or_left used linked h));
+    }
+
+pub not_in_use : (b : Parts) (i : ℕ) → OfSampleRefs (λ x. (x == i) ≡ false) (record b { samples = remove b.samples i }) → sample_in_use b i ≡ false
+unfolding sample_in_use
+not_in_use b i h =
+    or_none (list_any (targets i) b.instruments) (list_any (λ (s : Sample). links_to i s.kind) (remove b.samples i))
+    (passes_none (targets i) b.instruments (all_weaker (λ (x : Instrument). OfTargets (λ t. (t == i) ≡ false) x.zones) (λ (x : Instrument). targets i x ≡ false) (λ x. passes_none (λ (z : Zone). z.target == i) x.zones) b.instruments h.targets))
+    (passes_none (λ (s : Sample). links_to i s.kind) (remove b.samples i) (all_weaker (λ (s : Sample). OfLink (λ x. (x == i) ≡ false) s.kind) (λ (s : Sample). links_to i s.kind ≡ false) (λ s. linked_not i s.kind) (remove b.samples i) h.links))

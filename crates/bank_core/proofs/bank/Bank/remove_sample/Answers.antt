@@ -1,0 +1,15 @@
+use Rattle.bank_core.proofs.SampleLaws.{had_sample, totals_shrunk}
+use Rattle.bank_core.proofs.bank.Bank.remove_sample.Goals as goal
+
+pub without_sample-self-inside-requires-clause-samples : goal.without_sample-self-inside-requires-clause-samples
+without_sample-self-inside-requires-clause-samples c =
+    (had_sample c.args.self.now c.self.inside.totals c.args.number c.take_sample-sample.result c.len.result (rw c.self.view_is at c.self.invariant.1) c.len.ensures.value (rw c.self.view_is at c.take_sample-sample.ensures.value)).0
+
+pub without_sample-self-inside-requires-clause-points : goal.without_sample-self-inside-requires-clause-points
+without_sample-self-inside-requires-clause-points c =
+    (had_sample c.args.self.now c.self.inside.totals c.args.number c.take_sample-sample.result c.len.result (rw c.self.view_is at c.self.invariant.1) c.len.ensures.value (rw c.self.view_is at c.take_sample-sample.ensures.value)).1
+
+pub invariant_of-self : goal.invariant_of-self
+invariant_of-self c =
+    rw (c.take_sample-sample.ensures.change, c.self.view_is)
+    (c.requires.sound, totals_shrunk c.args.self.now c.self.inside.totals c.args.number c.take_sample-sample.result c.len.result (rw c.self.view_is at c.self.invariant.1) c.len.ensures.value c.without_sample-self-inside.result (rw c.self.view_is at c.take_sample-sample.ensures.value) c.without_sample-self-inside.ensures)

@@ -1,0 +1,43 @@
+-- The raw changes of samples, and who names a sample.
+use Rattle.std.specs.Prelude.{ℕ, Bool, false, ◌==◌, ◌||◌, List, insert, remove}
+use Rattle.std.specs.List.{list_any}
+use Rattle.numbered_lists.specs.declared.renumbering.Renumbering.TheVariants.{Insertion, Removal}
+use Rattle.numbered_lists.specs.Moved.{changed}
+use Rattle.bank_parts.specs.declared.parts.Kind.{Kind}
+use Rattle.bank_parts.specs.declared.parts.Kind.TheVariants.{Mono, Right, Left, Linked}
+use Rattle.bank_parts.specs.declared.parts.Zone.{Zone}
+use Rattle.bank_parts.specs.declared.parts.Instrument.{Instrument}
+use Rattle.bank_parts.specs.declared.parts.Sample.{Sample}
+use Rattle.bank_parts.specs.declared.parts.Parts.{Parts}
+use Rattle.bank_parts.specs.Renumbered.{samples_renumbered}
+
+-- the sample with a name
+abbrev pub named : List ℕ → Sample → Sample
+named name s = record s { name = name }
+
+-- the sample of a number has the name, and all else stays
+abbrev pub sample_renamed : Parts → ℕ → List ℕ → Parts
+sample_renamed b number name = record b { samples = changed b.samples number (named name) }
+
+-- the sample goes in as number i; its own link has the numbers that hold afterwards
+abbrev pub sample_added : Parts → ℕ → Sample → Parts
+sample_added b i s = let r = samples_renumbered (Insertion i) b in record r { samples = insert r.samples i s }
+
+-- the sample of a number is gone
+abbrev pub sample_removed : Parts → ℕ → Parts
+sample_removed b i = samples_renumbered (Removal i) (record b { samples = remove b.samples i })
+
+abbrev pub links_to : ℕ → Kind → Bool
+links_to number Mono = false
+links_to number (Right link) = link == number
+links_to number (Left link) = link == number
+links_to number (Linked link) = link == number
+
+-- a zone of the instrument targets the sample
+abbrev pub targets : ℕ → Instrument → Bool
+targets number i = list_any (λ (z : Zone). z.target == number) i.zones
+
+-- a zone targets the sample, or another sample links to it
+unfoldable pub sample_in_use : Parts → ℕ → Bool
+sample_in_use b number =
+    list_any (targets number) b.instruments || list_any (λ (s : Sample). links_to number s.kind) (remove b.samples number)

@@ -1,0 +1,16 @@
+use Rattle.std.proofs.Common.{[], ◌∷◌}
+use Rattle.bank_parts.specs.Limits.{broken_limit}
+use Rattle.bank_edits.specs.declared.edit.Step.TheVariants.{RemoveSample}
+use Rattle.bank_edits.specs.Tests.{no_such_sample, in_use}
+use Rattle.bank_edits.specs.Steps.{raw}
+use Rattle.bank_edits.proofs.Accepted.{by_last, below}
+use Rattle.bank_edits.proofs.SampleLaws.{within_remove}
+use Rattle.bank_edits.proofs.samples.refuse_remove_sample.Goals as goal
+
+pub returns : goal.returns
+returns c =
+    let b = c.args.bank.now in
+    let i = c.args.sample in
+    let there = c.in_ok-no_such_sample.ensures in
+    by_last (no_such_sample b i ∷ []) (in_use b i) (broken_limit (raw b (RemoveSample i))) c.in_use.result (there, tt) c.in_use.ensures
+    (λ free. within_remove b i (record { valid = c.samples-samples.ensures.valid; fits = c.samples-samples.ensures.fits }) (below _ i there) free)

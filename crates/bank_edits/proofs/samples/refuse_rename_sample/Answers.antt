@@ -1,0 +1,14 @@
+use Rattle.std.proofs.Common.{[]}
+use Rattle.bank_parts.specs.Limits.{broken_limit}
+use Rattle.bank_edits.specs.declared.edit.Step.TheVariants.{RenameSample}
+use Rattle.bank_edits.specs.Tests.{no_such_sample}
+use Rattle.bank_edits.specs.Steps.{raw}
+use Rattle.bank_edits.proofs.Accepted.{by_last}
+use Rattle.bank_edits.proofs.SampleLaws.{within_rename}
+use Rattle.bank_edits.proofs.samples.refuse_rename_sample.Goals as goal
+
+pub returns : goal.returns
+returns c =
+    let b = c.args.bank.now in
+    by_last [] (no_such_sample b c.args.sample) (broken_limit (raw b (RenameSample c.args.sample c.args._name))) c.no_such_sample.result tt c.no_such_sample.ensures
+    (λ h. within_rename b c.args.sample c.args._name c.samples-samples.ensures.valid)

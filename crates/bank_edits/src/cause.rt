@@ -1,0 +1,77 @@
+//! Why an edit may be refused.
+ghost use Rattle.std.specs.Prelude.{◌≡◌};
+ghost use Rattle.bank_edits.specs.CauseNames.{number_of, name_of, limit_of};
+
+use bank_parts::Limit;
+use thiserror::Error;
+
+/// What stands against an edit, in the order of the numbers by which fault lines tell it.
+#[derive(Clone, Copy, Debug, PartialEq, Eq, Error)]
+pub enum Cause {
+    #[error("there is no such sample")]
+    NoSuchSample,
+    /// A place past the end of the list.
+    #[error("there is no such place")]
+    BadPlace,
+    /// A zone targets the member, or another sample links to it.
+    #[error("the member is in use")]
+    InUse,
+    #[error("the loop is empty or not in the sample")]
+    BadLoop,
+    #[error("the text is too long, has a zero byte, or is empty and must not be")]
+    BadText,
+    /// The first limit that the bank would break.
+    #[error("the bank would be too large")]
+    Full(Limit),
+}
+
+impl Cause {
+    /// The number by which a fault line tells it.
+    pub fn number(self) -> u8
+        ensures { result ≡ number_of self }
+    {
+        match self {
+            Cause::NoSuchSample => 22,
+            Cause::BadPlace => 25,
+            Cause::InUse => 26,
+            Cause::BadLoop => 35,
+            Cause::BadText => 36,
+            Cause::Full(_) => 37,
+        }
+    }
+
+    /// The name by which a fault line tells it.
+    pub fn name(self) -> &'static str
+        ensures { result.now ≡ name_of self }
+    {
+        match self {
+            Cause::NoSuchSample => "NoSuchSample",
+            Cause::BadPlace => "BadPlace",
+            Cause::InUse => "InUse",
+            Cause::BadLoop => "BadLoop",
+            Cause::BadText => "BadText",
+            Cause::Full(_) => "Full",
+        }
+    }
+
+    /// The limit that the bank would break, whose name a fault line tells after the cause's own.
+    pub fn limit(self) -> Option<Limit>
+        ensures { result ≡ limit_of self }
+    {
+        match self {
+            Cause::Full(limit) => Some(limit),
+            _ => None,
+        }
+    }
+}
+
+/// Why an edit is refused.
+#[derive(Clone, Copy, Debug, PartialEq, Eq, Error)]
+pub enum Refusal {
+    /// The first cause that stands, in the order of their numbers.
+    #[error("{0}")]
+    Of(Cause),
+    /// Only where no cause stands.
+    #[error("out of memory")]
+    OutOfMemory,
+}

@@ -1,0 +1,120 @@
+//! The tests that refuse an edit: each answers its cause where it stands.
+ghost use Rattle.std.specs.Prelude.{◌≡◌, ◌<◌, ◌+◌, length};
+ghost use Rattle.std.specs.Option.{option_map};
+ghost use Rattle.bank_parts.specs.Texts as texts;
+ghost use Rattle.bank_edits.specs.declared.cause.Cause.TheVariants as cause;
+ghost use Rattle.bank_edits.specs.Answers.{Passes, Judges};
+ghost use Rattle.bank_edits.specs.Tests as tests;
+
+use crate::cause::Cause;
+use bank_core::Bank;
+use bank_parts::{InfoId, Kind, Limit, Sample};
+use sf_base::Lent;
+use sf_base::limits::{COMMENT_LENGTH, TEXT_LENGTH};
+
+/// A limit that the changed bank would break, the last of the tests of every form.
+pub(crate) fn full(limit: Option<Limit>) -> Result<(), Cause>
+    ensures { Judges (option_map cause.Full limit) result }
+{
+    match limit {
+        Some(limit) => Err(Cause::Full(limit)),
+        None => Ok(()),
+    }
+}
+
+// ---- samples
+
+pub(crate) fn no_such_sample(bank: &Bank<'_>, sample: u32) -> Result<(), Cause>
+    ensures { Passes (tests.no_such_sample bank.now sample) result }
+{
+    judge(bank.samples().len() <= sample as usize, Cause::NoSuchSample)
+}
+
+pub(crate) fn no_such_link(bank: &Bank<'_>, kind: Kind) -> Result<(), Cause>
+    ensures { Passes (tests.no_such_link bank.now kind) result }
+{
+    judge(
+        link_misses(bank.samples().len() + 1, kind),
+        Cause::NoSuchSample,
+    )
+}
+
+pub(crate) fn bad_loop(sample: &Sample<'_>) -> Result<(), Cause>
+    ensures { Passes (tests.bad_loop sample.now) result }
+{
+    judge(
+        loop_misses(sample.points.len(), sample.looped),
+        Cause::BadLoop,
+    )
+}
+
+pub(crate) fn in_use(bank: &Bank<'_>, sample: u32) -> Result<(), Cause>
+    requires { sample < length bank.now.samples }
+    ensures { Passes (tests.in_use bank.now sample) result }
+{
+    judge(bank.is_sample_in_use(sample), Cause::InUse)
+}
+
+// ---- places
+
+pub(crate) fn bad_place(count: usize, at: u32) -> Result<(), Cause>
+    ensures { Passes (tests.bad_place count at) result }
+{
+    judge(count < at as usize, Cause::BadPlace)
+}
+
+// ---- texts
+
+pub(crate) fn bad_text(id: InfoId, text: &Lent<'_>) -> Result<(), Cause>
+    ensures { Passes (tests.bad_text id text.now) result }
+{
+    let bytes = text.bytes();
+    judge(
+        bytes.len() > most_bytes(id) || bytes.contains(&0) || is_engine(id) && bytes.is_empty(),
+        Cause::BadText,
+    )
+}
+
+// ---- parts of tests
+
+fn judge(stands: bool, cause: Cause) -> Result<(), Cause>
+    ensures { Passes (tests.test stands cause) result }
+{
+    if stands {
+        return Err(cause);
+    }
+    Ok(())
+}
+
+fn link_misses(count: usize, kind: Kind) -> bool
+    ensures { result ≡ tests.link_misses count kind }
+{
+    match kind {
+        Kind::Mono => false,
+        Kind::Right(link) | Kind::Left(link) | Kind::Linked(link) => count <= link as usize,
+    }
+}
+
+fn loop_misses(count: usize, looped: Option<(u32, u32)>) -> bool
+    ensures { result ≡ tests.loop_misses count looped }
+{
+    match looped {
+        Some((start, end)) => end <= start || count < end as usize,
+        None => false,
+    }
+}
+
+fn most_bytes(id: InfoId) -> usize
+    ensures { result ≡ texts.most_bytes id }
+{
+    match id {
+        InfoId::Comment => COMMENT_LENGTH,
+        _ => TEXT_LENGTH,
+    }
+}
+
+fn is_engine(id: InfoId) -> bool
+    ensures { result ≡ texts.is_engine id }
+{
+    matches!(id, InfoId::Engine)
+}

@@ -1,0 +1,27 @@
+-- Undo restores, for the form that edits a text.
+use Rattle.std.proofs.Common.{ℕ, List, refl, ap}
+use Rattle.bank_parts.specs.declared.texts.Texts.{Texts}
+use Rattle.bank_parts.specs.declared.texts.InfoId.{InfoId}
+use Rattle.bank_parts.specs.declared.parts.Parts.{Parts}
+use Rattle.bank_parts.specs.Texts.{text_of}
+use Rattle.bank_parts.specs.Sound.{IsSound}
+use Rattle.bank_core.proofs.TextLaws.{info_of, text_fits, text_of-set, text_set-back}
+use Rattle.bank_edits.specs.declared.edit.Edit.TheVariants.{One}
+use Rattle.bank_edits.specs.declared.edit.Step.TheVariants.{SetInfo}
+use Rattle.bank_edits.proofs.TextLaws.{sound_set_info, not_bad}
+use Rattle.inverse_edits.specs.Undone.{IsTaken, IsUndone}
+use Rattle.inverse_edits.proofs.UndoneBy.{undone_by}
+
+-- ---- set-info
+
+pub undone_set_info : (b : Parts) (id : InfoId) (text : List ℕ) → IsSound b → IsTaken b (One (SetInfo id text)) → IsUndone b (One (SetInfo id text))
+undone_set_info b id text s t =
+    let was = info_of b.texts id s.valid.texts in
+    undone_by b (SetInfo id text) (SetInfo id (text_of b.texts id)) s (record {
+      is = refl;
+      sound = sound_set_info b id text s t.fits t.accepted;
+      fits = text_fits (text_of b.texts id) was.fits;
+      tests = (not_bad id (text_of b.texts id) was, tt);
+      restored = ap (λ (texts : Texts). record b { texts = texts }) (text_set-back b.texts id text);
+      redone = ap (λ (old : List ℕ). SetInfo id old) (text_of-set b.texts id text);
+    })
