@@ -1,6 +1,7 @@
 -- What presets or instruments lend of themselves, by their numbers; none where there is no such member.
-use Rattle.std.specs.Prelude.{◌<◌, ℕ, List, length, Option, IsSomeAnd, slice_get}
+use Rattle.std.specs.Prelude.{◌<◌, ◌==◌, ℕ, Bool, List, length, Option, IsSomeAnd, slice_get}
 use Rattle.std.specs.Option.{option_map, option_and_then}
+use Rattle.std.specs.List.{list_any}
 use Rattle.std.specs.FinMap.{entries}
 use Rattle.generators.specs.Gens.{Gens}
 use Rattle.modulators.specs.declared.modulator.Modulator.{Modulator}
@@ -43,3 +44,7 @@ entries_at owners i at = option_map entries (gens_at owners i at)
 abbrev pub mods_at : {H : Type 0} → List (WithZones H) → ℕ → ZonePlace → Option (List Modulator)
 mods_at owners i place.Global = option_map (λ x. x.global.mods) (slice_get owners i)
 mods_at owners i (place.Zone k) = option_map (λ (z : Zone). z.mods) (zone_at owners i k)
+
+-- a zone has this number as its target
+abbrev pub targets : {H : Type 0} → ℕ → WithZones H → Bool
+targets number x = list_any (λ (z : Zone). z.target == number) x.zones

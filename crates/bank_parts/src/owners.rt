@@ -1,9 +1,10 @@
 //! The presets or the instruments of a bank, and what they lend of their zones.
-ghost use Rattle.std.specs.Prelude.{◌≡◌, ◌<◌, ◌++◌, ◌∷◌, [], Some, length, IfSome, IfOk, OnOk, OnErr};
+ghost use Rattle.std.specs.Prelude.{◌≡◌, ◌<◌, ◌↔◌, IsTrue, ◌++◌, ◌∷◌, [], Some, length, IfSome, IfOk, OnOk, OnErr};
 ghost use Rattle.std.specs.FinMap.{get};
+ghost use Rattle.std.specs.List.{list_any};
 ghost use Rattle.generators.specs.Gens.{FitGens};
 ghost use Rattle.bank_parts.specs.declared.owners.ZonePlace.TheVariants as place;
-ghost use Rattle.bank_parts.specs.Owners.{HasPlace, head_at, zone_count_at, zone_at, target_at, gens_at, entries_at, mods_at};
+ghost use Rattle.bank_parts.specs.Owners.{HasPlace, targets, head_at, zone_count_at, zone_at, target_at, gens_at, entries_at, mods_at};
 
 use crate::copying::copy_list;
 use crate::parts::{WithZones, Zone};
@@ -56,6 +57,23 @@ impl<H> Owners<H> {
         ensures { result ≡ length self.now }
     {
         self.list.len()
+    }
+
+    /// Whether number `i` is there and has this place.
+    pub fn has_place(&self, i: usize, place: ZonePlace) -> bool
+        ensures { IsTrue result ↔ HasPlace self.now i place }
+    {
+        match place {
+            ZonePlace::Global => i < self.len(),
+            ZonePlace::Zone(k) => i < self.len() && k < self.zone_count(i),
+        }
+    }
+
+    /// Whether a zone of any of them has this number as its target.
+    pub fn any_targets(&self, number: u32) -> bool
+        ensures { result ≡ list_any (targets number) self.now }
+    {
+        self.list.as_slice().iter().any(|x| targets(number, x))
     }
 
     /// What number `i`, which is there, has besides its zones.
@@ -132,6 +150,16 @@ impl<H> Owners<H> {
     {
         self.list.member(i).zones.member(k)
     }
+}
+
+fn targets<H>(number: u32, owner: &WithZones<H>) -> bool
+    ensures { result ≡ targets number owner.now }
+{
+    owner
+        .zones
+        .as_slice()
+        .iter()
+        .any(|zone| u32::from(zone.target) == number)
 }
 
 impl<H: Drop> Owners<H> {
