@@ -2,11 +2,10 @@
 ghost use Rattle.std.specs.Prelude.{◌≡◌, ◌≤◌, ◌==◌, take};
 ghost use Rattle.sf_base.specs.Names.{before_zero};
 ghost use Rattle.bank_format.specs.Texts.{text_in, engine_read, over};
-ghost use Rattle.sf_reader.specs.Lists.{chunks};
 ghost use Rattle.sf_reader.specs.Texts.{texts_in, cut_of, cut_count};
 
 use bank_core::Texts;
-use riff_chunks::body_of;
+use riff_chunks::FirstChunks;
 use sf_base::limits::{COMMENT_LENGTH, TEXT_LENGTH};
 use sf_base::{Lent, Name20, front_of};
 
@@ -30,8 +29,8 @@ pub(crate) fn name_of(field: &[u8; 20]) -> Name20
 
 /// The eight texts of the list `INFO`, before any is cut. A missing one is empty.
 #[tactic(auto, unfolding(crate::specs::Texts::texts_in, bank_format::specs::Ids::ISNG, bank_format::specs::Ids::INAM, bank_format::specs::Ids::ICRD, bank_format::specs::Ids::IENG, bank_format::specs::Ids::IPRD, bank_format::specs::Ids::ICOP, bank_format::specs::Ids::ICMT, bank_format::specs::Ids::ISFT))]
-pub(crate) fn texts_of(info: &[u8]) -> Texts
-    ensures { result ≡ texts_in (chunks info.now) }
+pub(crate) fn texts_of<'a>(info: &FirstChunks<'a>) -> Texts<'a>
+    ensures { result ≡ texts_in info.now }
 {
     Texts {
         engine: text_of(info, *b"isng"),
@@ -46,10 +45,10 @@ pub(crate) fn texts_of(info: &[u8]) -> Texts
 }
 
 // The first text of an id.
-fn text_of(info: &[u8], id: [u8; 4]) -> Lent
-    ensures { result ≡ text_in id (chunks info.now) }
+fn text_of<'a>(info: &FirstChunks<'a>, id: [u8; 4]) -> Lent<'a>
+    ensures { result ≡ text_in id info.now }
 {
-    let body = body_of(info, id).unwrap_or(&[]);
+    let body = info.body_of(id).unwrap_or(&[]);
     Lent::new(before_zero(body))
 }
 

@@ -1,40 +1,38 @@
-//! The line by which a fault is told.
+//! The lines by which faults are told.
 ghost use Rattle.std.specs.Prelude.{◌≡◌, IfOk};
 ghost use Rattle.sf_base.specs.Writing.{Writes};
 ghost use Rattle.sample_view.specs.Pieces.{joined_bytes};
-ghost use Rattle.sfbank.specs.FaultLines.{fault_line, status_of, read_line, script_line, refused_line, write_line};
+ghost use Rattle.sfbank_program.specs.FaultLines.{fault_line, status_of, read_line, script_line, refused_line, write_line, file_line};
 
-use crate::fault::RunFault;
 use bank_edits::Cause;
 use bank_format::ReadFault;
 use edit_script::ScriptFault;
 use itoa::Buffer;
 use sf_base::{WriteFault, put_after};
+use sfbank::RunFault;
 use std::io::Write;
 
-/// Writes the line of a fault, with its line feed, and gives the exit status that goes with it. The
-/// line of a write fault names `path`.
+/// Writes the line of a run's fault, with its line feed, and gives the exit status that goes with it.
+/// The line of a write fault names `path`.
 pub fn fault_text<W: Write>(fault: &RunFault, path: &str, out: &mut W) -> Result<u8, WriteFault>
     ensures line { Writes (W.contents out.old) (W.contents out.new) (fault_line path.now fault.now) result }
     ensures status { IfOk result (λ status. status ≡ status_of fault.now) }
 {
     put_fault(fault, path, out)?;
-    Ok(fault.exit_status())
+    Ok(exit_status(fault))
 }
 
-impl RunFault {
-    /// The exit status of a program whose run ends so: 2 for a fault of the file, 3 of the script, 4
-    /// for a refused edit, 5 for a write fault, and 6 for want of memory.
-    pub fn exit_status(&self) -> u8
-        ensures { result ≡ status_of self.now }
-    {
-        match self {
-            RunFault::Read(_) => 2,
-            RunFault::Script(_) => 3,
-            RunFault::Refused(_, _) => 4,
-            RunFault::Write(_, _) => 5,
-            RunFault::Memory => 6,
-        }
+/// The exit status of a program whose run ends so: 2 for a fault of the file, 3 of the script, 4
+/// for a refused edit, 5 for a write fault, and 6 for want of memory.
+pub fn exit_status(fault: &RunFault) -> u8
+    ensures { result ≡ status_of fault.now }
+{
+    match fault {
+        RunFault::Read(_) => 2,
+        RunFault::Script(_) => 3,
+        RunFault::Refused(_, _) => 4,
+        RunFault::Write(_, _) => 5,
+        RunFault::Memory => 6,
     }
 }
 
@@ -119,6 +117,13 @@ fn put_write_fault<W: Write>(path: &str, written: u64, out: &mut W) -> Result<()
         ],
         out,
     )
+}
+
+/// Writes the line of an input at a path that can't be read, or is too long.
+pub(crate) fn put_file_fault<W: Write>(path: &str, out: &mut W) -> Result<(), WriteFault>
+    ensures { Writes (W.contents out.old) (W.contents out.new) (file_line path.now) result }
+{
+    put_pieces(&[b"sfbank: file fault ", path.as_bytes(), b"\n"], out)
 }
 
 // Writes the pieces one after the other.

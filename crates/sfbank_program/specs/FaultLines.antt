@@ -1,4 +1,4 @@
--- The line by which a fault is told, and the exit status that goes with it.
+-- The lines by which faults are told, and the exit status of a run's fault.
 use Rattle.std.specs.Prelude.{ℕ, List, [], ◌∷◌, codes, decimal}
 use Rattle.std.specs.List.{concat}
 use Rattle.bank_format.specs.declared.fault.ReadFault.{ReadFault}
@@ -22,7 +22,11 @@ refused_line line cause = concat (codes "sfbank: line " ∷ decimal line ∷ cod
 abbrev pub write_line : List ℕ → ℕ → List ℕ
 write_line path written = concat (codes "sfbank: write fault " ∷ path ∷ codes " after " ∷ decimal written ∷ codes " bytes\n" ∷ [])
 
--- the line, with its line feed; a write fault has the path
+-- an input at a path that can't be read, or is too long
+abbrev pub file_line : List ℕ → List ℕ
+file_line path = concat (codes "sfbank: file fault " ∷ path ∷ codes "\n" ∷ [])
+
+-- the line of a run's fault, with its line feed; a write fault has the path
 unfoldable pub fault_line : List ℕ → RunFault → List ℕ
 fault_line path (Read fault) = read_line fault
 fault_line path (Script fault) = script_line fault
@@ -30,7 +34,7 @@ fault_line path (Refused line cause) = refused_line line cause
 fault_line path (Write which written) = write_line path written
 fault_line path Memory = codes "sfbank: out of memory\n"
 
--- the exit status
+-- the exit status of a run's fault
 abbrev pub status_of : RunFault → ℕ
 status_of (Read fault) = 2
 status_of (Script fault) = 3

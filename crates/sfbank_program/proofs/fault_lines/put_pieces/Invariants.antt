@@ -1,7 +1,7 @@
 use Rattle.std.proofs.Common.{drop}
 use Rattle.sf_base.proofs.SendLemmas.{Sending}
 use Rattle.sample_view.specs.Pieces.{joined_bytes}
-use Rattle.sfbank.proofs.telling.put_pieces.Given as goal
+use Rattle.sfbank_program.proofs.fault_lines.put_pieces.Given as goal
 
 -- the pieces that are behind went out
 abbrev pub invariant-loop-piece : goal.invariant-loop-piece

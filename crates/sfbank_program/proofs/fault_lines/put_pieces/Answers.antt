@@ -2,8 +2,8 @@ use Rattle.std.proofs.Common.{List, [], ℕ}
 use Rattle.std.specs.Borrow.{Bor}
 use Rattle.sf_base.proofs.SendLemmas.{Sending-step, Sending-stop}
 use Rattle.sample_view.proofs.PieceLemmas.{joined_bytes-rest}
-use Rattle.sfbank.proofs.Pieces.{stops_writes}
-use Rattle.sfbank.proofs.telling.put_pieces.Goals as goal
+use Rattle.sfbank_program.proofs.Pieces.{stops_writes}
+use Rattle.sfbank_program.proofs.fault_lines.put_pieces.Goals as goal
 
 abbrev no_piece : Bor (List ℕ)
 no_piece = record { ref_ptr = (0, 0); now = [] }
