@@ -10,7 +10,7 @@ use Rattle.bank_parts.proofs.LimitLaws.{no_limit_of}
 use Rattle.bank_edits.specs.declared.edit.Step.{Step}
 use Rattle.bank_edits.specs.declared.cause.Cause.{Cause}
 use Rattle.bank_edits.specs.declared.cause.Cause.TheVariants.{Full}
-use Rattle.bank_edits.specs.Tests.{Test, first_cause}
+use Rattle.bank_edits.specs.Causes.{Test, first_cause}
 use Rattle.bank_edits.specs.Steps.{raw, refusal, causes}
 use Rattle.bank_edits.specs.Answers.{Passes, Judges}
 

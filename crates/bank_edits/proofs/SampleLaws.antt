@@ -15,7 +15,7 @@ use Rattle.bank_core.specs.Samples.{sample_in_use, sample_renamed, sample_added,
 use Rattle.bank_core.proofs.Everywhere.{or_left, or_right, or_none}
 use Rattle.bank_core.proofs.SampleLaws.{totals-renamed, totals-added, added_sound, removed_sound}
 use Rattle.bank_edits.specs.declared.edit.Step.TheVariants.{RenameSample, AddSample, RemoveSample}
-use Rattle.bank_edits.specs.Tests.{link_misses, loop_misses}
+use Rattle.bank_edits.specs.Causes.{link_misses, loop_misses}
 use Rattle.bank_edits.specs.Steps.{refusal, inverse, causes}
 use Rattle.bank_edits.proofs.Accepted.{NoneStands, accepted, below, not_below, up_to, not_above}
 

@@ -1,5 +1,5 @@
 -- What an edit does to a bank, when it is refused, and what takes it back.
-use Rattle.std.specs.Prelude.{◌≡◌, Option, None, Result, Ok, Err}
+use Rattle.std.specs.Prelude.{◌≡◌, Option, None}
 use Rattle.std.specs.Option.{option_map_or}
 use Rattle.bank_parts.specs.declared.parts.Parts.{Parts}
 use Rattle.bank_edits.specs.declared.edit.Edit.{Edit}
@@ -40,8 +40,3 @@ pub record IsRefused (old new : Parts) (e : Edit) (why : Refusal) (given : Edit)
   pub named : why ≡ option_map_or Of (refusal old e) OutOfMemory
   pub unchanged : new ≡ old
   pub handed_back : given ≡ e
-
--- an accepted edit was done, or no memory was there and nothing changed
-abbrev pub IsChange : Parts → Parts → Edit → Result Edit Edit → Type 0
-IsChange old new e (Ok back) = (new ≡ raw old e) × (back ≡ inverse old e)
-IsChange old new e (Err given) = (new ≡ old) × (given ≡ e)

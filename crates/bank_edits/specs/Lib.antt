@@ -5,7 +5,7 @@ pub use Rattle.bank_parts.specs.Limits
 pub use Rattle.bank_core.specs.Samples
 pub use Rattle.sf_base.specs.Names
 pub mod CauseNames
-pub mod Tests
+pub mod Causes
 pub mod Steps
 pub mod Edits
 pub mod Answers

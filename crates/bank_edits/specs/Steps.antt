@@ -13,7 +13,7 @@ use Rattle.bank_edits.specs.declared.edit.Step.{Step}
 use Rattle.bank_edits.specs.declared.edit.Step.TheVariants.{RenameSample, AddSample, RemoveSample, SetInfo}
 use Rattle.bank_edits.specs.declared.cause.Cause.{Cause}
 use Rattle.bank_edits.specs.declared.cause.Cause.TheVariants.{Full}
-use Rattle.bank_edits.specs.Tests.{Test, first_cause, no_such_sample, no_such_link, bad_place, bad_loop, in_use, bad_text}
+use Rattle.bank_edits.specs.Causes.{Test, first_cause, no_such_sample, no_such_link, bad_place, bad_loop, in_use, bad_text}
 
 -- each number, name and text in the range of its field
 abbrev pub FitsStep : Step → Type 0

@@ -1,8 +1,8 @@
 //! One edit, done or refused.
 ghost use Rattle.std.specs.Prelude.{◌≡◌, None, MatchResult, IsOk, IfOk};
 ghost use Rattle.bank_parts.specs.Sound.{IsSound};
-ghost use Rattle.bank_edits.specs.Edits.{FitsEdit, IsDone, IsRefused, IsChange, NeedsNoMemory, refusal};
-ghost use Rattle.bank_edits.specs.Answers.{Judges};
+ghost use Rattle.bank_edits.specs.Edits.{FitsEdit, IsDone, IsRefused, NeedsNoMemory, refusal};
+ghost use Rattle.bank_edits.specs.Answers.{Judges, IsChange};
 
 use crate::cause::{Cause, Refusal};
 use crate::edit::{Edit, change_step, refuse_step};

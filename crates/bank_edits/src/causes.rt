@@ -4,7 +4,7 @@ ghost use Rattle.std.specs.Option.{option_map};
 ghost use Rattle.bank_parts.specs.Texts as texts;
 ghost use Rattle.bank_edits.specs.declared.cause.Cause.TheVariants as cause;
 ghost use Rattle.bank_edits.specs.Answers.{Passes, Judges};
-ghost use Rattle.bank_edits.specs.Tests as tests;
+ghost use Rattle.bank_edits.specs.Causes as causes;
 
 use crate::cause::Cause;
 use bank_core::Bank;
@@ -25,13 +25,13 @@ pub(crate) fn full(limit: Option<Limit>) -> Result<(), Cause>
 // ---- samples
 
 pub(crate) fn no_such_sample(bank: &Bank<'_>, sample: u32) -> Result<(), Cause>
-    ensures { Passes (tests.no_such_sample bank.now sample) result }
+    ensures { Passes (causes.no_such_sample bank.now sample) result }
 {
     judge(bank.samples().len() <= sample as usize, Cause::NoSuchSample)
 }
 
 pub(crate) fn no_such_link(bank: &Bank<'_>, kind: Kind) -> Result<(), Cause>
-    ensures { Passes (tests.no_such_link bank.now kind) result }
+    ensures { Passes (causes.no_such_link bank.now kind) result }
 {
     judge(
         link_misses(bank.samples().len() + 1, kind),
@@ -40,7 +40,7 @@ pub(crate) fn no_such_link(bank: &Bank<'_>, kind: Kind) -> Result<(), Cause>
 }
 
 pub(crate) fn bad_loop(sample: &Sample<'_>) -> Result<(), Cause>
-    ensures { Passes (tests.bad_loop sample.now) result }
+    ensures { Passes (causes.bad_loop sample.now) result }
 {
     judge(
         loop_misses(sample.points.len(), sample.looped),
@@ -50,7 +50,7 @@ pub(crate) fn bad_loop(sample: &Sample<'_>) -> Result<(), Cause>
 
 pub(crate) fn in_use(bank: &Bank<'_>, sample: u32) -> Result<(), Cause>
     requires { sample < length bank.now.samples }
-    ensures { Passes (tests.in_use bank.now sample) result }
+    ensures { Passes (causes.in_use bank.now sample) result }
 {
     judge(bank.is_sample_in_use(sample), Cause::InUse)
 }
@@ -58,7 +58,7 @@ pub(crate) fn in_use(bank: &Bank<'_>, sample: u32) -> Result<(), Cause>
 // ---- places
 
 pub(crate) fn bad_place(count: usize, at: u32) -> Result<(), Cause>
-    ensures { Passes (tests.bad_place count at) result }
+    ensures { Passes (causes.bad_place count at) result }
 {
     judge(count < at as usize, Cause::BadPlace)
 }
@@ -66,7 +66,7 @@ pub(crate) fn bad_place(count: usize, at: u32) -> Result<(), Cause>
 // ---- texts
 
 pub(crate) fn bad_text(id: InfoId, text: &Lent<'_>) -> Result<(), Cause>
-    ensures { Passes (tests.bad_text id text.now) result }
+    ensures { Passes (causes.bad_text id text.now) result }
 {
     let bytes = text.bytes();
     judge(
@@ -78,7 +78,7 @@ pub(crate) fn bad_text(id: InfoId, text: &Lent<'_>) -> Result<(), Cause>
 // ---- parts of tests
 
 fn judge(stands: bool, cause: Cause) -> Result<(), Cause>
-    ensures { Passes (tests.test stands cause) result }
+    ensures { Passes (causes.test stands cause) result }
 {
     if stands {
         return Err(cause);
@@ -87,7 +87,7 @@ fn judge(stands: bool, cause: Cause) -> Result<(), Cause>
 }
 
 fn link_misses(count: usize, kind: Kind) -> bool
-    ensures { result ≡ tests.link_misses count kind }
+    ensures { result ≡ causes.link_misses count kind }
 {
     match kind {
         Kind::Mono => false,
@@ -96,7 +96,7 @@ fn link_misses(count: usize, kind: Kind) -> bool
 }
 
 fn loop_misses(count: usize, looped: Option<(u32, u32)>) -> bool
-    ensures { result ≡ tests.loop_misses count looped }
+    ensures { result ≡ causes.loop_misses count looped }
 {
     match looped {
         Some((start, end)) => end <= start || count < end as usize,

@@ -1,7 +1,7 @@
 use Rattle.std.proofs.Common.{[], ◌∷◌}
 use Rattle.bank_parts.specs.Limits.{broken_limit}
 use Rattle.bank_edits.specs.declared.edit.Step.TheVariants.{RemoveSample}
-use Rattle.bank_edits.specs.Tests.{no_such_sample, in_use}
+use Rattle.bank_edits.specs.Causes.{no_such_sample, in_use}
 use Rattle.bank_edits.specs.Steps.{raw}
 use Rattle.bank_edits.proofs.Accepted.{by_last, below}
 use Rattle.bank_edits.proofs.SampleLaws.{within_remove}

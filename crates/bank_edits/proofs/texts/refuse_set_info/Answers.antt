@@ -1,7 +1,7 @@
 use Rattle.std.proofs.Common.{[]}
 use Rattle.bank_parts.specs.Limits.{broken_limit}
 use Rattle.bank_edits.specs.declared.edit.Step.TheVariants.{SetInfo}
-use Rattle.bank_edits.specs.Tests.{bad_text}
+use Rattle.bank_edits.specs.Causes.{bad_text}
 use Rattle.bank_edits.specs.Steps.{raw}
 use Rattle.bank_edits.proofs.Accepted.{by_last}
 use Rattle.bank_edits.proofs.TextLaws.{within_set_info}
