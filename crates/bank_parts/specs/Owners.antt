@@ -14,6 +14,10 @@ use Rattle.bank_parts.specs.declared.owners.ZonePlace.TheVariants as place
 abbrev pub head_at : {H : Type 0} → List (WithZones H) → ℕ → Option H
 head_at owners i = option_map (λ x. x.head) (slice_get owners i)
 
+-- a member with another head
+abbrev pub with_head : {H : Type 0} → H → WithZones H → WithZones H
+with_head head x = record x { head = head }
+
 -- how many zones a member has, the global one not counted
 abbrev pub zone_count_at : {H : Type 0} → List (WithZones H) → ℕ → Option ℕ
 zone_count_at owners i = option_map (λ x. length x.zones) (slice_get owners i)

@@ -28,6 +28,10 @@ owner_renumbered by x = record x { zones = map (zone_renumbered by) x.zones }
 abbrev pub CanRenumberOwner : {H : Type 0} → Renumbering → WithZones H → Type 0
 CanRenumberOwner by x = All (λ (z : Zone). renumbered by z.target < 2 ^ 16) x.zones
 
+-- the bank with every target among its instruments renumbered
+abbrev pub instruments_renumbered : Renumbering → Parts → Parts
+instruments_renumbered by b = record b { presets = map (owner_renumbered by) b.presets }
+
 -- the bank with every target and link into its samples renumbered
 abbrev pub samples_renumbered : Renumbering → Parts → Parts
 samples_renumbered by b = record b { samples = map (sample_renumbered by) b.samples; instruments = map (owner_renumbered by) b.instruments }

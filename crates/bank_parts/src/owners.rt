@@ -3,8 +3,9 @@ ghost use Rattle.std.specs.Prelude.{◌≡◌, ◌<◌, ◌↔◌, IsTrue, ◌++
 ghost use Rattle.std.specs.FinMap.{get};
 ghost use Rattle.std.specs.List.{list_any};
 ghost use Rattle.generators.specs.Gens.{FitGens};
+ghost use Rattle.numbered_lists.specs.Moved.{moved, changed};
 ghost use Rattle.bank_parts.specs.declared.owners.ZonePlace.TheVariants as place;
-ghost use Rattle.bank_parts.specs.Owners.{HasPlace, targets, head_at, zone_count_at, zone_at, target_at, gens_at, entries_at, mods_at};
+ghost use Rattle.bank_parts.specs.Owners.{HasPlace, targets, head_at, with_head, zone_count_at, zone_at, target_at, gens_at, entries_at, mods_at};
 
 use crate::copying::copy_list;
 use crate::parts::{WithZones, Zone};
@@ -135,6 +136,26 @@ impl<H> Owners<H> {
             ZonePlace::Global => self.list.member(i).global.gens.get(operator),
             ZonePlace::Zone(k) => self.zone(i, k).gens.get(operator),
         }
+    }
+
+    /// Makes number `from` number `to`; the others keep their order. Takes no memory.
+    pub fn move_member(&mut self, from: usize, to: usize)
+        requires from { from < length self.old }
+        requires to { to < length self.old }
+        ensures { self.new ≡ moved self.old from to }
+    {
+        self.list.move_member(from, to);
+    }
+
+    /// Gives number `i`, which is there, another head, and gives back the one that it had. Takes no
+    /// memory.
+    pub fn replace_head(&mut self, i: usize, head: H) -> H
+        requires { i < length self.old }
+        ensures value { head_at self.old i ≡ Some result }
+        ensures change { self.new ≡ changed self.old i (with_head head) }
+    {
+        let member = self.list.member_mut(i);
+        std::mem::replace(&mut member.head, head)
     }
 
     // For what is said of all of them.
