@@ -24,6 +24,9 @@ insertion_below i x n h = grind (arith, nat_tests)
 pub removal_no_more : (i x : ℕ) → renumbered (Removal i) x ≤ x
 removal_no_more i x = grind (arith, nat_tests)
 
+pub move_below : (i j x n : ℕ) → i < n → j < n → x < n → renumbered (Move i j) x < n
+move_below i j x n k l h = grind (arith, nat_tests)
+
 -- A move is a removal and then an insertion, but for what it moves
 
 pub move_in_two : (i j x : ℕ) → x ≢ i → renumbered (Move i j) x ≡ renumbered (Insertion j) (renumbered (Removal i) x)
