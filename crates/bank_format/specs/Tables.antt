@@ -85,8 +85,11 @@ presets = record { level = level.Preset; written = preset_written; last = preset
 abbrev pub instrument_written : ℕ → List ℕ → InstrumentHead
 instrument_written at name = record { name = filled name; bag = at }
 
+abbrev pub instrument_head : InstrumentHead → List ℕ
+instrument_head r = before_zero r.name
+
 abbrev pub instruments : Headers (List ℕ) InstrumentHead
-instruments = record { level = level.Instrument; written = instrument_written; last = instrument_end; first_bag = λ (r : InstrumentHead). r.bag; read = λ (r : InstrumentHead). before_zero r.name }
+instruments = record { level = level.Instrument; written = instrument_written; last = instrument_end; first_bag = λ (r : InstrumentHead). r.bag; read = instrument_head }
 
 -- the bags of a preset or an instrument
 abbrev pub bags_of : {H : Type 0} → Level → WithZones H → List Bagged

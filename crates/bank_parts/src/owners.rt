@@ -52,6 +52,15 @@ impl<H> Owners<H> {
         }
     }
 
+    /// None, with room for so many.
+    pub fn with_capacity(alloc: Global, count: usize) -> Result<Owners<H>, OutOfMemory>
+        ensures { IfOk result (λ owners. owners ≡ []) }
+    {
+        Ok(Owners {
+            list: NumberedList::from_vec(Vec::with_capacity(alloc, count)?),
+        })
+    }
+
     /// How many there are.
     pub fn len(&self) -> usize
         ensures { result ≡ length self.now }

@@ -8,25 +8,24 @@ ghost use Rattle.sf_reader.specs.Owners.{added, AreSmall, window_of, windows_of,
 
 use crate::heads::{OwnerHead, row_count};
 use crate::hydra::{LevelTables, Tables};
-use bank_core::{Instrument, Preset, Zone};
 use bank_format::ReadFault;
-use numbered_lists::NumberedList;
-use sf_base::Failure;
+use bank_parts::{Head, Owners, WithZones, Zone};
+use sf_base::{Failure, Name20};
 use std::alloc::Global;
 use zone_reader::{BagsRead, ZoneCounts, read_bags};
 
 /// A preset or an instrument, and what was dropped or mended in its zones.
 #[derive(Drop)]
-pub(crate) struct OwnerRead<O> {
-    owner: O,
+pub(crate) struct OwnerRead<H> {
+    owner: WithZones<H>,
     counts: ZoneCounts,
 }
 
 /// The presets or the instruments of a file, and what was dropped or mended in their zones.
 #[derive(Drop)]
-pub(crate) struct OwnersRead<O> {
+pub(crate) struct OwnersRead<H> {
     /// Each in its order.
-    pub owners: NumberedList<O>,
+    pub owners: Owners<H>,
 
     /// What was dropped or mended in all of them.
     pub counts: ZoneCounts,
@@ -35,8 +34,8 @@ pub(crate) struct OwnersRead<O> {
 /// The presets and the instruments of a file.
 #[derive(Drop)]
 pub(crate) struct Members {
-    pub presets: OwnersRead<Preset>,
-    pub instruments: OwnersRead<Instrument>,
+    pub presets: OwnersRead<Head>,
+    pub instruments: OwnersRead<Name20>,
 }
 
 /// The presets and the instruments, each zone of which names a target that is there.
@@ -62,23 +61,23 @@ fn read_owners<H: OwnerHead>(
     alloc: Global,
     level: &LevelTables<H>,
     targets: usize,
-) -> Result<OwnersRead<H::Owner>, Failure<ReadFault>>
+) -> Result<OwnersRead<H::Head>, Failure<ReadFault>>
     requires heads { length level.now.heads ≤ 65536 }
     requires bags { length level.now.bags ≤ 65536 }
     requires generators { length level.now.generators ≤ 65536 }
     ensures { PassesGivenMemory (λ read. read) result (zone_steps H.LEVEL targets H.MISSING (windows_of H.first_bag level.now))
-        (owners_read H.LEVEL H.owner level.now.heads (windows_of H.first_bag level.now)) }
+        (owners_read H.LEVEL H.head level.now.heads (windows_of H.first_bag level.now)) }
 {
     let mut counts = ZoneCounts {
         zones: 0,
         gens: 0,
         ranges: 0,
     };
-    let mut owners = Vec::with_capacity(alloc, row_count(&level.heads))?;
+    let mut owners = Owners::with_capacity(alloc, row_count(&level.heads))?;
     let mut heads = level.heads.iter();
     let Some(mut head) = heads.next() else {
         return Ok(OwnersRead {
-            owners: NumberedList::from_vec(owners),
+            owners,
             counts,
         });
     };
@@ -89,7 +88,7 @@ fn read_owners<H: OwnerHead>(
         head = next;
     }
     Ok(OwnersRead {
-        owners: NumberedList::from_vec(owners),
+        owners,
         counts,
     })
 }
@@ -101,12 +100,12 @@ fn read_owner<H: OwnerHead>(
     head: &H,
     next: &H,
     targets: usize,
-) -> Result<OwnerRead<H::Owner>, Failure<ReadFault>>
+) -> Result<OwnerRead<H::Head>, Failure<ReadFault>>
     requires bags { length level.now.bags ≤ 65536 }
     requires generators { length level.now.generators ≤ 65536 }
     ensures { PassesGivenMemory (λ read. read) result
         (map (target_step targets H.MISSING) (zones_read H.LEVEL (window_of H.first_bag level.now head.now next.now)))
-        (owner_read H.LEVEL H.owner head.now (window_of H.first_bag level.now head.now next.now)) }
+        (owner_read H.LEVEL H.head head.now (window_of H.first_bag level.now head.now next.now)) }
 {
     let bags = level
         .bags
@@ -118,7 +117,11 @@ fn read_owner<H: OwnerHead>(
     } = read_bags(alloc, H::LEVEL, &bags, &level.generators, &level.modulators)?;
     check_targets(zones.as_slice(), targets, H::MISSING)?;
     Ok(OwnerRead {
-        owner: head.owner(global, zones),
+        owner: WithZones {
+            head: head.head(),
+            global,
+            zones,
+        },
         counts,
     })
 }

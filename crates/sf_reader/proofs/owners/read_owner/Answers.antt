@@ -26,7 +26,7 @@ returns g c =
     c.part-bags.ensures c.first_bag.ensures c.first_bag-2.ensures in
     let read = c.in_ok-global.ensures ∙ ap (bags_read c.LEVEL.result) bags ∙ ap (λ at. bags_read at w) c.LEVEL.ensures in
     let zones = c.as_slice.ensures ∙ ap (λ (r : BagsRead). r.zones) read in
-    let made = c.owner.ensures ∙ ap (λ (r : BagsRead). g.H.OwnerHead.owner c.args.head.now r.global r.zones) read in (
+    let heads = c.head.ensures in (
       targets_hold c.args.targets c.MISSING.result g.H.OwnerHead.MISSING c.as_slice.result.now (zones_read g.H.OwnerHead.LEVEL w) c.MISSING.ensures zones c.in_ok-check_targets.ensures.0,
-      λ i. record { owner = made i; counts = (read i).counts },
+      λ i. record { owner = record { head = heads i; global = (read i).global; zones = (read i).zones }; counts = (read i).counts },
     )
