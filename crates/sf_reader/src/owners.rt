@@ -76,10 +76,7 @@ fn read_owners<H: OwnerHead>(
     let mut owners = Owners::with_capacity(alloc, row_count(&level.heads))?;
     let mut heads = level.heads.iter();
     let Some(mut head) = heads.next() else {
-        return Ok(OwnersRead {
-            owners,
-            counts,
-        });
+        return Ok(OwnersRead { owners, counts });
     };
     for next in heads {
         let read = read_owner(alloc, level, &head, &next, targets)?;
@@ -87,10 +84,7 @@ fn read_owners<H: OwnerHead>(
         owners.push(read.owner)?;
         head = next;
     }
-    Ok(OwnersRead {
-        owners,
-        counts,
-    })
+    Ok(OwnersRead { owners, counts })
 }
 
 // One of them. Its bags end where those of the next one begin.

@@ -7,4 +7,4 @@ pub returns : goal.returns
 returns g c =
     rw (c.plus.ensures, c.records.ensures, c.records_in-own.ensures, c.as_slice.ensures)
     (all_counted_sum (records_of_global c.args.self.now.global) (records_total records_of_zone c.args.self.now.zones)
-      ∙ ap all_counted (records_split c.args.self.now.global c.args.self.now.zones))
+    ∙ ap all_counted (records_split c.args.self.now.global c.args.self.now.zones))
