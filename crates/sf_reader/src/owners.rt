@@ -1,6 +1,7 @@
 //! The presets and the instruments of a file, with their zones (SoundFont 2.04, sections 7.2 to 7.9).
 ghost use Rattle.std.specs.Prelude.{◌≡◌, ◌≤◌, None, length, map, nat_lt};
 ghost use Rattle.std.specs.List.{list_all};
+ghost use Rattle.sf_base.specs.declared.limits.TheConstants.{RECORDS};
 ghost use Rattle.bank_format.specs.Steps.{Passes, PassesGivenMemory, first_broken};
 ghost use Rattle.bank_format.specs.Zones.{zones_read};
 ghost use Rattle.bank_format.specs.ReadSteps.{count_steps, all_index_steps, target_step};
@@ -62,9 +63,9 @@ fn read_owners<H: OwnerHead>(
     level: &LevelTables<H>,
     targets: usize,
 ) -> Result<OwnersRead<H::Head>, Failure<ReadFault>>
-    requires heads { length level.now.heads ≤ 65536 }
-    requires bags { length level.now.bags ≤ 65536 }
-    requires generators { length level.now.generators ≤ 65536 }
+    requires heads { length level.now.heads ≤ RECORDS }
+    requires bags { length level.now.bags ≤ RECORDS }
+    requires generators { length level.now.generators ≤ RECORDS }
     ensures { PassesGivenMemory (λ read. read) result (zone_steps H.LEVEL targets H.MISSING (windows_of H.first_bag level.now))
         (owners_read H.LEVEL H.head level.now.heads (windows_of H.first_bag level.now)) }
 {
@@ -95,8 +96,8 @@ fn read_owner<H: OwnerHead>(
     next: &H,
     targets: usize,
 ) -> Result<OwnerRead<H::Head>, Failure<ReadFault>>
-    requires bags { length level.now.bags ≤ 65536 }
-    requires generators { length level.now.generators ≤ 65536 }
+    requires bags { length level.now.bags ≤ RECORDS }
+    requires generators { length level.now.generators ≤ RECORDS }
     ensures { PassesGivenMemory (λ read. read) result
         (map (target_step targets H.MISSING) (zones_read H.LEVEL (window_of H.first_bag level.now head.now next.now)))
         (owner_read H.LEVEL H.head head.now (window_of H.first_bag level.now head.now next.now)) }
