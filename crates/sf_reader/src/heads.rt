@@ -11,8 +11,8 @@ use generators::Level;
 use hydra_records::{InstrumentHead, PresetHead, Record, Table};
 use sf_base::Name20;
 
-/// The head of a preset or of an instrument, which owns zones.
-pub(crate) trait OwnerHead: Record + Copy {
+/// A record that is the head of a preset or of an instrument, which owns zones.
+pub(crate) trait HeadRecord: Record + Copy {
     /// What a bank keeps of it.
     type Head: Copy + Drop;
 
@@ -43,7 +43,7 @@ pub(crate) trait OwnerHead: Record + Copy {
         ensures { result ≡ head self.now };
 }
 
-impl OwnerHead for PresetHead {
+impl HeadRecord for PresetHead {
     type Head = Head;
 
     ghost use Rattle.bank_format.specs.Tables.{preset_head};
@@ -78,7 +78,7 @@ impl OwnerHead for PresetHead {
     }
 }
 
-impl OwnerHead for InstrumentHead {
+impl HeadRecord for InstrumentHead {
     type Head = Name20;
 
     ghost use Rattle.bank_format.specs.Tables.{instrument_head};

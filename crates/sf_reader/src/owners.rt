@@ -7,7 +7,7 @@ ghost use Rattle.bank_format.specs.Zones.{zones_read};
 ghost use Rattle.bank_format.specs.ReadSteps.{count_steps, all_index_steps, target_step};
 ghost use Rattle.sf_reader.specs.Owners.{added, AreSmall, window_of, windows_of, owner_read, owners_read, zone_steps, members_of, member_steps};
 
-use crate::heads::{OwnerHead, row_count};
+use crate::heads::{HeadRecord, row_count};
 use crate::hydra::{LevelTables, Tables};
 use bank_format::ReadFault;
 use bank_parts::{Head, Owners, WithZones, Zone};
@@ -58,7 +58,7 @@ pub(crate) fn read_members(alloc: Global, tables: &Tables) -> Result<Members, Fa
 }
 
 // The presets or the instruments, in whose zones the targets are among so many.
-fn read_owners<H: OwnerHead>(
+fn read_owners<H: HeadRecord>(
     alloc: Global,
     level: &LevelTables<H>,
     targets: usize,
@@ -89,7 +89,7 @@ fn read_owners<H: OwnerHead>(
 }
 
 // One of them. Its bags end where those of the next one begin.
-fn read_owner<H: OwnerHead>(
+fn read_owner<H: HeadRecord>(
     alloc: Global,
     level: &LevelTables<H>,
     head: &H,

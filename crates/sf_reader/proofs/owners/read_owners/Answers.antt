@@ -7,7 +7,7 @@ use Rattle.sf_reader.proofs.owners.read_owners.Goals as goal
 pub returns-in_err-read : goal.returns-in_err-read
 returns-in_err-read g c =
     let l = c.args.level.now in
-    let h = g.H.OwnerHead in
+    let h = g.H.HeadRecord in
     let turn = c.in-Some-next.ensures.steps in
     left_fails h.LEVEL c.args.targets h.MISSING h.first_bag h.head (bags_in l.bags l.generators l.modulators) l.heads
     c.loop-next.owners c.loop-next.counts c.loop-next.head c.in-Some-next.next _ (rw turn at c.loop-next.invariant.2)
@@ -16,7 +16,7 @@ returns-in_err-read g c =
 pub add-counts-requires : goal.add-counts-requires
 add-counts-requires g c =
     let l = c.args.level.now in
-    let h = g.H.OwnerHead in
+    let h = g.H.HeadRecord in
     let turn = c.in-Some-next.ensures.steps in
     left_small h.LEVEL c.args.targets h.MISSING h.first_bag h.head (bags_in l.bags l.generators l.modulators) l.heads
     c.loop-next.owners c.loop-next.counts c.loop-next.head c.in-Some-next.next _ (rw turn at c.loop-next.invariant.2)
@@ -26,7 +26,7 @@ add-counts-requires g c =
 pub loop-next-preserved : goal.loop-next-preserved
 loop-next-preserved g c =
     let l = c.args.level.now in
-    let h = g.H.OwnerHead in
+    let h = g.H.HeadRecord in
     let turn = c.in-Some-next.ensures.steps in (
       tt,
       tt,
