@@ -1,6 +1,5 @@
 pub mod Changes
 pub mod Everywhere
-pub mod Renaming
 pub mod References
 pub mod TotalsLaws
 pub mod SampleLaws

@@ -1,10 +1,11 @@
 -- A bank's references after a renumbering, and after its return.
-use Rattle.std.proofs.Common.{◌≡◌, ◌<◌, ◌==◌, ℕ, Bool, false, List, length, map, remove, refl, ap}
+use Rattle.std.proofs.Common.{◌≡◌, ◌<◌, ◌^◌, ◌==◌, ℕ, Bool, false, List, length, map, remove, refl, ap}
 use Rattle.std.specs.List.{AllByRecursion, list_any}
 use Rattle.numbered_lists.specs.declared.renumbering.Renumbering.{Renumbering}
 use Rattle.numbered_lists.specs.Renumbered.{renumbered}
 use Rattle.generators.specs.declared.level.Level.{Level}
 use Rattle.generators.specs.declared.level.Level.TheVariants as level
+use Rattle.sf_base.specs.Names.{IsName}
 use Rattle.bank_parts.specs.declared.parts.Kind.{Kind}
 use Rattle.bank_parts.specs.declared.parts.Kind.TheVariants.{Mono, Right, Left, Linked}
 use Rattle.bank_parts.specs.declared.parts.Zone.{Zone}
@@ -16,6 +17,7 @@ use Rattle.bank_parts.specs.Renumbered.{kind_renumbered, sample_renumbered, zone
 use Rattle.bank_parts.specs.Owners.{targets}
 use Rattle.bank_core.specs.Samples.{links_to, sample_in_use}
 use Rattle.bank_parts.specs.Valid.{IsZone, IsInstrument, IsSample, IsValid}
+use Rattle.bank_parts.specs.Fits.{Fits, FitsSample, FitsOwner, FitsZone}
 use Rattle.bank_core.proofs.Everywhere.{all_weaker, all_always, all_map, all_sent, all_both, map_kept, map_back, or_left, or_right, or_none, none_passes, passes_none}
 
 -- P holds of each target of the zones
@@ -67,7 +69,7 @@ refs_both P Q b h g = record {
 }
 
 module _ (P Q : ℕ → Type 0) (by : Renumbering) (to : (x : ℕ) → P x → Q (renumbered by x)) where
-  link_sent : (k : Kind) → OfLink P k → OfLink Q (kind_renumbered by k)
+  pub link_sent : (k : Kind) → OfLink P k → OfLink Q (kind_renumbered by k)
   link_sent Mono h = tt
   link_sent (Right x) h = to x h
   link_sent (Left x) h = to x h
@@ -95,15 +97,9 @@ refs_within b v =
 -- ---- validity with new numbers
 
 module _ (P : ℕ → Type 0) (by : Renumbering) (n m : ℕ) (to : (x : ℕ) → P x → renumbered by x < m) where
-  link_renumbered : (k : Kind) → OfLink P k → OfLink (λ x. x < m) (kind_renumbered by k)
-  link_renumbered Mono h = tt
-  link_renumbered (Right x) h = to x h
-  link_renumbered (Left x) h = to x h
-  link_renumbered (Linked x) h = to x h
-
   pub samples_valid : (ss : List Sample) → AllByRecursion (IsSample n) ss → AllByRecursion (λ (s : Sample). OfLink P s.kind) ss → AllByRecursion (IsSample m) (map (sample_renumbered by) ss)
   samples_valid = all_map (IsSample n) (λ (s : Sample). OfLink P s.kind) (IsSample m) (sample_renumbered by)
-      (λ s v h. record { name = v.name; looped = v.looped; kind = link_renumbered s.kind h })
+      (λ s v h. record { name = v.name; looped = v.looped; kind = link_sent P (λ x. x < m) by to s.kind h })
 
   zones_valid : (at : Level) (zs : List Zone) → AllByRecursion (IsZone at n) zs → OfTargets P zs → AllByRecursion (IsZone at m) (map (zone_renumbered by) zs)
   zones_valid at = all_map (IsZone at n) (λ (z : Zone). P z.target) (IsZone at m) (zone_renumbered by) (λ z v h. record { target = to z.target h; gens = v.gens })
@@ -111,6 +107,21 @@ module _ (P : ℕ → Type 0) (by : Renumbering) (n m : ℕ) (to : (x : ℕ) →
   pub instruments_valid : (is : List (WithZones (List ℕ))) → AllByRecursion (IsInstrument n) is → AllByRecursion (λ (i : WithZones (List ℕ)). OfTargets P i.zones) is → AllByRecursion (IsInstrument m) (map (owner_renumbered by) is)
   instruments_valid = all_map (IsInstrument n) (λ (i : WithZones (List ℕ)). OfTargets P i.zones) (IsInstrument m) (owner_renumbered by)
       (λ i v h. record { name = v.name; zones = record { global = v.zones.global; zones = zones_valid level.Instrument i.zones v.zones.zones h } })
+
+-- ---- ranges of fields
+
+module _ (by : Renumbering) (n : ℕ) (to : (x : ℕ) → x < n → renumbered by x < 2 ^ 16) where
+  pub fits_refs : (b : Parts) → Fits b → OfSampleRefs (λ x. x < n) b → Fits (samples_renumbered by b)
+  fits_refs b f h = record {
+    minor = f.minor;
+    texts = f.texts;
+    presets = f.presets;
+    instruments = all_map (FitsOwner IsName) (λ (i : WithZones (List ℕ)). OfTargets (λ x. x < n) i.zones) (FitsOwner IsName) (owner_renumbered by)
+        (λ i g k. record { head = g.head; global = g.global; zones = all_map FitsZone (λ (z : Zone). z.target < n) FitsZone (zone_renumbered by) (λ z g h. record { target = to z.target h; gens = g.gens; mods = g.mods }) i.zones g.zones k })
+        b.instruments f.instruments h.targets;
+    samples = all_map FitsSample (λ (s : Sample). OfLink (λ x. x < n) s.kind) FitsSample (sample_renumbered by)
+        (λ s g h. record { name = g.name; points = g.points; looped = g.looped; rate = g.rate; key = g.key; correction = g.correction; kind = link_sent (λ x. x < n) (λ x. x < 2 ^ 16) by to s.kind h }) b.samples f.samples h.links;
+  }
 
 -- ---- references that a renumbering keeps, or gives back
 

@@ -1,34 +1,111 @@
--- The raw changes of the sample list keep a bank valid, and take each other back.
-use Rattle.std.proofs.Common.{◌≡◌, ◌++◌, ◌∷◌, [], Result, Ok, Err, OnOk, ◌<◌, ◌≤◌, ◌+◌, ◌^◌, ◌==◌, false, ℕ, List, length, map, insert, remove, slice_get, Some, None, refl, sym, ◌∙◌, ap, subst, arith}
+-- The raw changes of samples: each keeps a bank sound, and is taken back.
+use Rattle.std.proofs.Common.{inl, inr, get_or, ◌≡◌, ◌++◌, ◌∷◌, [], Result, Ok, Err, OnOk, ◌<◌, ◌≤◌, ◌+◌, ◌==◌, false, ℕ, List, length, map, insert, remove, slice_get, Some, None, refl, sym, ◌∙◌, ap, subst, arith}
 use Rattle.std.proofs.lemmas.List.{length-map}
 use Rattle.std.proofs.lemmas.List.Edits.{length-insert, length-remove}
-use Rattle.numbered_lists.specs.declared.renumbering.Renumbering.{Renumbering}
+use Rattle.std.proofs.lemmas.List.Sums.{sum_by-insert, sum_by-remove}
+use Rattle.std.proofs.lemmas.Option.{get_or_from_slice_get}
+use Rattle.std.specs.List.{AllByRecursion}
+use Rattle.sf_base.specs.Names.{IsName}
 use Rattle.numbered_lists.specs.declared.renumbering.Renumbering.TheVariants.{Insertion, Removal}
 use Rattle.numbered_lists.specs.Renumbered.{renumbered}
-use Rattle.numbered_lists.proofs.Lists.{slice_get-found, insert-remove, remove-insert}
+use Rattle.numbered_lists.specs.Moved.{changed}
+use Rattle.numbered_lists.proofs.Lists.{slice_get-found, slice_get-within, length-changed, insert-remove, remove-insert}
 use Rattle.numbered_lists.proofs.Numbers.{insertion_returned, removal_returned_by_test, insertion_below, removal_below_by_test, insertion_keeps, insertion_misses_by_test, removal_no_more}
-use Rattle.sf_base.specs.Names.{IsName}
-use Rattle.bank_parts.specs.declared.parts.Zone.{Zone}
-use Rattle.bank_parts.specs.declared.parts.WithZones.{WithZones}
 use Rattle.bank_parts.specs.declared.parts.Sample.{Sample}
-use Rattle.bank_parts.specs.declared.parts.Kind.{Kind}
-use Rattle.bank_parts.specs.declared.parts.Kind.TheVariants.{Mono, Right, Left, Linked}
-use Rattle.bank_parts.specs.Fits.{Fits, FitsSample, FitsOwner, FitsZone}
+use Rattle.bank_parts.specs.Fits.{Fits, FitsSample}
 use Rattle.bank_parts.specs.declared.parts.Parts.{Parts}
 use Rattle.bank_parts.specs.declared.totals.Totals.{Totals}
 use Rattle.bank_parts.specs.Links.{OfLink}
-use Rattle.bank_parts.specs.Renumbered.{kind_renumbered, zone_renumbered, sample_renumbered, owner_renumbered, samples_renumbered}
+use Rattle.bank_parts.specs.Renumbered.{sample_renumbered, owner_renumbered, samples_renumbered}
 use Rattle.bank_parts.specs.Sound.{IsSound}
-use Rattle.bank_core.specs.Samples.{sample_in_use, sample_added, sample_removed}
-use Rattle.bank_parts.specs.Valid.{IsSample, IsValid}
+use Rattle.bank_core.specs.Samples.{named, sample_in_use, sample_renamed, sample_added, sample_removed}
+use Rattle.bank_parts.specs.Valid.{IsSample, IsValid, point_total}
 use Rattle.bank_parts.specs.Limits.{totals_of, broken, broken_limit, with_sample}
-use Rattle.bank_core.proofs.Everywhere.{all_map, all_insert, all_remove}
-use Rattle.bank_core.proofs.References.{OfTargets, OfSampleRefs, refs_weaker, refs_always, refs_within, refs_both, refs_renumbered, samples_valid, instruments_valid, refs_kept, refs_back, unused, not_in_use}
+use Rattle.bank_core.proofs.Everywhere.{all_insert, all_remove}
+use Rattle.bank_core.proofs.References.{fits_refs, OfSampleRefs, refs_weaker, refs_always, refs_within, refs_both, refs_renumbered, samples_valid, instruments_valid, refs_kept, refs_back, unused, not_in_use}
 use Rattle.sf_base.specs.declared.limits.TheConstants.{ZERO_POINTS}
 use Rattle.bank_parts.proofs.LimitLaws.{limits_of, no_limit_of}
-use Rattle.bank_core.proofs.TotalsLaws.{totals-added, totals-removed, without_sample_within, with_sample_same}
+use Rattle.bank_core.proofs.Changes.{change_cases, all_set, all_found, sum-set}
+use Rattle.bank_core.proofs.TotalsLaws.{without_sample_within, with_sample_same, zones_kept, gens_kept, mods_kept, points_kept}
+
+-- ---- renaming
+
+module _ (samples : List Sample) (number : ℕ) (name : List ℕ) where
+  -- what holds of all samples, and still of one that is renamed
+  renamed_all : (P : Sample → Type 0) → ((s : Sample) → P s → P (named name s)) → AllByRecursion P samples → AllByRecursion P (changed samples number (named name))
+  renamed_all P keep all = elim (change_cases samples number (named name)) [
+    | inl same ↦ rw same all
+    | inr c ↦ rw c.is (all_set P samples number (named name c.member) (keep c.member (all_found P samples number c.member c.there all)) all)
+  ]
+
+  point_total-renamed : point_total (changed samples number (named name)) ≡ point_total samples
+  point_total-renamed = elim (change_cases samples number (named name)) [
+    | inl same ↦ rw same refl
+    | inr c ↦ rw c.is (sum-set (λ (s : Sample). length s.points + ZERO_POINTS) samples number c.member (named name c.member) c.there refl)
+  ]
+
+renamed_valid : (b : Parts) (number : ℕ) (name : List ℕ) → IsValid b → IsName name → IsValid (sample_renamed b number name)
+renamed_valid b number name v h =
+    let n = length-changed b.samples number (named name) in
+    let few = v.limits.samples in
+    let points = point_total-renamed b.samples number name in
+    let within = v.limits.points in
+    record {
+      texts = v.texts;
+      presets = v.presets;
+      instruments = rw n v.instruments;
+      samples = rw n (renamed_all b.samples number name (IsSample (length b.samples)) (λ s is. record { name = h; looped = is.looped; kind = is.kind }) v.samples);
+      limits = record {
+        presets = v.limits.presets;
+        instruments = v.limits.instruments;
+        samples = omega (arith, n, few);
+        preset_zones = v.limits.preset_zones;
+        preset_gens = v.limits.preset_gens;
+        preset_mods = v.limits.preset_mods;
+        instrument_zones = v.limits.instrument_zones;
+        instrument_gens = v.limits.instrument_gens;
+        instrument_mods = v.limits.instrument_mods;
+        points = omega (arith, points, within);
+      };
+    }
+
+renamed_fits : (b : Parts) (number : ℕ) (name : List ℕ) → Fits b → IsName name → Fits (sample_renamed b number name)
+renamed_fits b number name f h = record {
+  minor = f.minor;
+  texts = f.texts;
+  presets = f.presets;
+  instruments = f.instruments;
+  samples = renamed_all b.samples number name FitsSample
+      (λ s fits. record { name = h; points = fits.points; looped = fits.looped; rate = fits.rate; key = fits.key; correction = fits.correction; kind = fits.kind }) f.samples;
+}
+
+pub renamed_sound : (b : Parts) (number : ℕ) (name : List ℕ) → IsSound b → IsName name → IsSound (sample_renamed b number name)
+renamed_sound b number name s h = record { valid = renamed_valid b number name s.valid h; fits = renamed_fits b number name s.fits h }
+
+pub totals-renamed : (b : Parts) (i : ℕ) (name : List ℕ) → totals_of (sample_renamed b i name) ≡ totals_of b
+unfolding totals_of
+totals-renamed b i name = λ k. record (totals_of b) { samples = length-changed b.samples i (named name) k; points = point_total-renamed b.samples i name k }
 
 -- ---- adding
+
+pub totals-added : (b : Parts) (i : ℕ) (s : Sample) → i ≤ length b.samples → totals_of (sample_added b i s) ≡ with_sample (totals_of b) (length s.points)
+unfolding totals_of
+totals-added b i s le =
+    let by = Insertion i in
+    let same = length-map b.samples (sample_renumbered by) in
+    let samples : length (insert (map (sample_renumbered by) b.samples) i s) ≡ length b.samples + 1 =
+    let more = length-insert (map (sample_renumbered by) b.samples) i s (omega (arith, same)) in omega (arith, same, more) in
+    let points : point_total (insert (map (sample_renumbered by) b.samples) i s) ≡ point_total b.samples + (length s.points + ZERO_POINTS) =
+    let more = sum_by-insert (λ (t : Sample). length t.points + ZERO_POINTS) (map (sample_renumbered by) b.samples) i s in
+    let kept = points_kept by b.samples in omega (arith, more, kept) in
+    λ k. record (totals_of b) {
+      instruments = length-map b.instruments (owner_renumbered by) k;
+      samples = samples k;
+      instrument_zones = zones_kept by b.instruments k;
+      instrument_gens = gens_kept by b.instruments k;
+      instrument_mods = mods_kept by b.instruments k;
+      points = points k;
+    }
 
 added_valid : (b : Parts) (i : ℕ) (s : Sample) → IsValid b → i ≤ length b.samples → IsSample (length b.samples + 1) s → broken_limit (sample_added b i s) ≡ None → IsValid (sample_added b i s)
 added_valid b i s v le h e =
@@ -46,6 +123,16 @@ added_valid b i s v le h e =
       samples = rw size (all_insert (IsSample (n + 1)) (map (sample_renumbered by) b.samples) i s h (samples_valid (λ x. x < n) by n (n + 1) to b.samples v.samples refs.links));
       limits = limits_of (sample_added b i s) e;
     }
+
+added_fits : (b : Parts) (i : ℕ) (s : Sample) → IsValid b → Fits b → FitsSample s → Fits (sample_added b i s)
+added_fits b i s v f g =
+    let n : ℕ = length b.samples in
+    let few = v.limits.samples in
+    let r = fits_refs (Insertion i) n (λ x lt. let h = insertion_below i x n lt in omega (arith, h, few)) b f (refs_within b v) in
+    record { minor = r.minor; texts = r.texts; presets = r.presets; instruments = r.instruments; samples = all_insert FitsSample (map (sample_renumbered (Insertion i)) b.samples) i s g r.samples }
+
+pub added_sound : (b : Parts) (i : ℕ) (s : Sample) → IsSound b → i ≤ length b.samples → IsSample (length b.samples + 1) s → FitsSample s → broken_limit (sample_added b i s) ≡ None → IsSound (sample_added b i s)
+added_sound b i s sound le is fits e = record { valid = added_valid b i s sound.valid le is e; fits = added_fits b i s sound.valid sound.fits fits }
 
 -- at the end nothing is renumbered
 pub added_last : (b : Parts) (s : Sample) → IsValid b → samples_renumbered (Insertion (length b.samples)) b ≡ b
@@ -65,6 +152,27 @@ pushed b i s new (Ok u) v e h =
 pushed b i s new (Err x) v e h = h
 
 -- ---- removing
+
+pub totals-removed : (b : Parts) (i : ℕ) (s : Sample) → slice_get b.samples i ≡ Some s → with_sample (totals_of (sample_removed b i)) (length s.points) ≡ totals_of b
+unfolding totals_of
+totals-removed b i s e =
+    let by = Removal i in
+    let lt = slice_get-within b.samples i s e in
+    let left : List Sample = remove b.samples i in
+    let samples : length (map (sample_renumbered by) left) + 1 ≡ length b.samples =
+    let same = length-map left (sample_renumbered by) in let less = length-remove b.samples i lt in omega (arith, same, less) in
+    let points : point_total (map (sample_renumbered by) left) + (length s.points + ZERO_POINTS) ≡ point_total b.samples =
+    let less = sum_by-remove {X = Sample} (λ (t : Sample). length t.points + ZERO_POINTS) b.samples i s lt in
+    let here : length (get_or b.samples i s).points + ZERO_POINTS ≡ length s.points + ZERO_POINTS = ap (λ (t : Sample). length t.points + ZERO_POINTS) (get_or_from_slice_get b.samples i s s e) in
+    let kept = points_kept by left in omega (arith, less, here, kept) in
+    λ k. record (totals_of b) {
+      instruments = length-map b.instruments (owner_renumbered by) k;
+      samples = samples k;
+      instrument_zones = zones_kept by b.instruments k;
+      instrument_gens = gens_kept by b.instruments k;
+      instrument_mods = mods_kept by b.instruments k;
+      points = points k;
+    }
 
 removed_valid : (b : Parts) (i : ℕ) → IsValid b → i < length b.samples → sample_in_use b i ≡ false → IsValid (sample_removed b i)
 removed_valid b i v lt free =
@@ -88,6 +196,19 @@ removed_valid b i v lt free =
       limits = limits_of (sample_removed b i) (without_sample_within (totals_of (sample_removed b i)) (length s.points)
           (ap broken (totals-removed b i s e) ∙ no_limit_of b v.limits));
     }
+
+removed_fits : (b : Parts) (i : ℕ) → IsValid b → Fits b → Fits (sample_removed b i)
+removed_fits b i v f =
+    let n : ℕ = length b.samples in
+    let few = v.limits.samples in
+    let left : Parts = record b { samples = remove b.samples i } in
+    let within = refs_within b v in
+    fits_refs (Removal i) n (λ x lt. let h = removal_no_more i x in omega (arith, h, lt, few)) left
+    (record { minor = f.minor; texts = f.texts; presets = f.presets; instruments = f.instruments; samples = all_remove FitsSample b.samples i f.samples })
+    (record { links = all_remove (λ (t : Sample). OfLink (λ x. x < n) t.kind) b.samples i within.links; targets = within.targets })
+
+pub removed_sound : (b : Parts) (i : ℕ) → IsSound b → i < length b.samples → sample_in_use b i ≡ false → IsSound (sample_removed b i)
+removed_sound b i sound lt free = record { valid = removed_valid b i sound.valid lt free; fits = removed_fits b i sound.valid sound.fits }
 
 -- ---- there and back
 
@@ -133,49 +254,3 @@ module _ (b : Parts) (t : Totals) (i : ℕ) (s : Sample) (n : ℕ) (counted : t 
 
   pub totals_shrunk : (less : Totals) → slice_get b.samples i ≡ Some s → with_sample less n ≡ t → less ≡ totals_of (sample_removed b i)
   totals_shrunk less e whole = with_sample_same less (totals_of (sample_removed b i)) n (whole ∙ (counted ∙ (sym (totals-removed b i s e) ∙ ap (with_sample (totals_of (sample_removed b i))) (sym many))))
-
--- ---- ranges of fields
-
-module _ (by : Renumbering) (n : ℕ) (to : (x : ℕ) → x < n → renumbered by x < 2 ^ 16) where
-  link_fits : (k : Kind) → OfLink (λ x. x < n) k → OfLink (λ x. x < 2 ^ 16) (kind_renumbered by k)
-  link_fits Mono h = tt
-  link_fits (Right x) h = to x h
-  link_fits (Left x) h = to x h
-  link_fits (Linked x) h = to x h
-
-  fits_refs : (b : Parts) → Fits b → OfSampleRefs (λ x. x < n) b → Fits (samples_renumbered by b)
-  fits_refs b f h = record {
-    minor = f.minor;
-    texts = f.texts;
-    presets = f.presets;
-    instruments = all_map (FitsOwner IsName) (λ (i : WithZones (List ℕ)). OfTargets (λ x. x < n) i.zones) (FitsOwner IsName) (owner_renumbered by)
-        (λ i g k. record { head = g.head; global = g.global; zones = all_map FitsZone (λ (z : Zone). z.target < n) FitsZone (zone_renumbered by) (λ z g h. record { target = to z.target h; gens = g.gens; mods = g.mods }) i.zones g.zones k })
-        b.instruments f.instruments h.targets;
-    samples = all_map FitsSample (λ (s : Sample). OfLink (λ x. x < n) s.kind) FitsSample (sample_renumbered by)
-        (λ s g h. record { name = g.name; points = g.points; looped = g.looped; rate = g.rate; key = g.key; correction = g.correction; kind = link_fits s.kind h }) b.samples f.samples h.links;
-  }
-
-added_fits : (b : Parts) (i : ℕ) (s : Sample) → IsValid b → Fits b → FitsSample s → Fits (sample_added b i s)
-added_fits b i s v f g =
-    let n : ℕ = length b.samples in
-    let few = v.limits.samples in
-    let r = fits_refs (Insertion i) n (λ x lt. let h = insertion_below i x n lt in omega (arith, h, few)) b f (refs_within b v) in
-    record { minor = r.minor; texts = r.texts; presets = r.presets; instruments = r.instruments; samples = all_insert FitsSample (map (sample_renumbered (Insertion i)) b.samples) i s g r.samples }
-
-removed_fits : (b : Parts) (i : ℕ) → IsValid b → Fits b → Fits (sample_removed b i)
-removed_fits b i v f =
-    let n : ℕ = length b.samples in
-    let few = v.limits.samples in
-    let left : Parts = record b { samples = remove b.samples i } in
-    let within = refs_within b v in
-    fits_refs (Removal i) n (λ x lt. let h = removal_no_more i x in omega (arith, h, lt, few)) left
-    (record { minor = f.minor; texts = f.texts; presets = f.presets; instruments = f.instruments; samples = all_remove FitsSample b.samples i f.samples })
-    (record { links = all_remove (λ (t : Sample). OfLink (λ x. x < n) t.kind) b.samples i within.links; targets = within.targets })
-
--- ---- both
-
-pub added_sound : (b : Parts) (i : ℕ) (s : Sample) → IsSound b → i ≤ length b.samples → IsSample (length b.samples + 1) s → FitsSample s → broken_limit (sample_added b i s) ≡ None → IsSound (sample_added b i s)
-added_sound b i s sound le is fits e = record { valid = added_valid b i s sound.valid le is e; fits = added_fits b i s sound.valid sound.fits fits }
-
-pub removed_sound : (b : Parts) (i : ℕ) → IsSound b → i < length b.samples → sample_in_use b i ≡ false → IsSound (sample_removed b i)
-removed_sound b i sound lt free = record { valid = removed_valid b i sound.valid lt free; fits = removed_fits b i sound.valid sound.fits }

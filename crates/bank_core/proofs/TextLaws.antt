@@ -10,6 +10,7 @@ use Rattle.bank_core.specs.Texts.{text_set, info_set}
 use Rattle.bank_parts.specs.Valid.{AreTexts, IsValid}
 use Rattle.bank_parts.specs.Fits.{FitsText, FitTexts}
 use Rattle.bank_parts.specs.Sound.{IsSound}
+use Rattle.bank_parts.specs.Limits.{totals_of}
 use Rattle.bank_core.proofs.Everywhere.{all_weaker}
 
 -- what a text of an id is
@@ -83,6 +84,10 @@ info_sound b id text s h =
       valid = v;
       fits = record { minor = f.minor; texts = texts_fit (text_set b.texts id text) v.texts; presets = f.presets; instruments = f.instruments; samples = f.samples };
     }
+
+pub totals-info : (b : Parts) (id : InfoId) (text : List ℕ) → totals_of (info_set b id text) ≡ totals_of b
+unfolding totals_of
+totals-info b id text = refl
 
 -- ---- there and back
 

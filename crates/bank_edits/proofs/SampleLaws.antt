@@ -13,8 +13,7 @@ use Rattle.bank_parts.specs.Limits.{totals_of, broken, broken_limit, with_sample
 use Rattle.bank_parts.proofs.LimitLaws.{no_limit_of}
 use Rattle.bank_core.specs.Samples.{sample_in_use, sample_renamed, sample_added, sample_removed}
 use Rattle.bank_core.proofs.Everywhere.{or_left, or_right, or_none}
-use Rattle.bank_core.proofs.SampleLaws.{added_sound, removed_sound}
-use Rattle.bank_core.proofs.TotalsLaws.{totals-renamed, totals-added}
+use Rattle.bank_core.proofs.SampleLaws.{totals-renamed, totals-added, added_sound, removed_sound}
 use Rattle.bank_edits.specs.declared.edit.Step.TheVariants.{RenameSample, AddSample, RemoveSample}
 use Rattle.bank_edits.specs.Tests.{link_misses, loop_misses}
 use Rattle.bank_edits.specs.Steps.{refusal, inverse, causes}

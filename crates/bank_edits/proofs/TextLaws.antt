@@ -13,8 +13,7 @@ use Rattle.bank_parts.specs.Limits.{broken, broken_limit}
 use Rattle.bank_parts.proofs.LimitLaws.{no_limit_of}
 use Rattle.bank_core.specs.Texts.{info_set}
 use Rattle.bank_core.proofs.Everywhere.{all_weaker, all_both, none_passes, passes_none, or_left, or_right, or_none}
-use Rattle.bank_core.proofs.TextLaws.{IsInfo, info_sound}
-use Rattle.bank_core.proofs.TotalsLaws.{totals-info}
+use Rattle.bank_core.proofs.TextLaws.{IsInfo, info_sound, totals-info}
 use Rattle.bank_edits.specs.declared.edit.Step.TheVariants.{SetInfo}
 use Rattle.bank_edits.specs.Tests.{bad_text}
 use Rattle.bank_edits.specs.Steps.{refusal}

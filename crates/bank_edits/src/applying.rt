@@ -1,12 +1,11 @@
 //! One edit, done or refused.
 ghost use Rattle.std.specs.Prelude.{◌≡◌, None, MatchResult, IsOk, IfOk};
 ghost use Rattle.bank_parts.specs.Sound.{IsSound};
-ghost use Rattle.bank_edits.specs.Edits.{FitsEdit, IsDone, IsRefused, NeedsNoMemory, refusal};
+ghost use Rattle.bank_edits.specs.Edits.{FitsEdit, IsDone, IsRefused, IsChange, NeedsNoMemory, refusal};
+ghost use Rattle.bank_edits.specs.Answers.{Judges};
 
-use crate::cause::Refusal;
-use crate::changing::change;
-use crate::edit::Edit;
-use crate::refusing::refuse;
+use crate::cause::{Cause, Refusal};
+use crate::edit::{Edit, change_step, refuse_step};
 use bank_core::Bank;
 use std::alloc::Global;
 
@@ -38,5 +37,32 @@ pub fn apply<'a>(
             Ok(back)
         }
         Err(given) => Err((Refusal::OutOfMemory, given)),
+    }
+}
+
+// The first cause that stands against the edit, if there is one.
+fn refuse(bank: &Bank<'_>, edit: &Edit<'_>) -> Result<(), Cause>
+    ensures refusal { Judges (refusal bank.now edit.now) result }
+    ensures sound { IsSound bank.now }
+{
+    // For what it says of the bank.
+    let _samples = bank.samples();
+    match edit {
+        Edit::One(step) => refuse_step(bank, step),
+    }
+}
+
+// Does the edit and answers the one that takes it back, or hands it back for want of memory.
+fn change<'a>(alloc: Global, bank: &mut Bank<'a>, edit: Edit<'a>) -> Result<Edit<'a>, Edit<'a>>
+    requires sound { IsSound bank.old }
+    requires accepted { refusal bank.old edit ≡ None }
+    ensures outcome { IsChange bank.old bank.new edit.entry result }
+    ensures no_memory { NeedsNoMemory edit.entry → IsOk result }
+{
+    match edit {
+        Edit::One(step) => match change_step(alloc, bank, step) {
+            Ok(back) => Ok(Edit::One(back)),
+            Err(given) => Err(Edit::One(given)),
+        },
     }
 }

@@ -1,10 +1,21 @@
-//! What an edit says.
+//! What an edit says: its forms, and for each form the functions that refuse it and do it.
+ghost use Rattle.std.specs.Prelude.{◌≡◌, None, IsOk};
 ghost use Rattle.bank_parts.specs.Fits.{FitsSample, FitsLoop, FitsKind};
-ghost use Rattle.bank_edits.specs.Steps.{FitsStep};
+ghost use Rattle.bank_parts.specs.Sound.{IsSound};
+ghost use Rattle.bank_edits.specs.Answers.{Judges, IsStepChange};
+ghost use Rattle.bank_edits.specs.Steps.{FitsStep, GrowsNothing, refusal};
 ghost use Rattle.bank_edits.specs.Edits.{FitsEdit};
 
+use crate::cause::Cause;
+use crate::samples::{
+    add_sample, refuse_add_sample, refuse_remove_sample, refuse_rename_sample, remove_sample,
+    rename_sample,
+};
+use crate::texts::{refuse_set_info, set_info};
+use bank_core::Bank;
 use bank_parts::{InfoId, Kind, Sample};
 use sf_base::{Lent, Name20};
+use std::alloc::Global;
 
 /// A step that changes a bank: one variant for each form of the edit script. Numbers are counted from
 /// 0. It borrows the points and texts that it carries.
@@ -54,6 +65,39 @@ impl<'a> Step<'a> {
     }
 }
 
+/// The first cause that stands against the step, if there is one.
+pub(crate) fn refuse_step(bank: &Bank<'_>, step: &Step<'_>) -> Result<(), Cause>
+    requires { IsSound bank.now }
+    ensures { Judges (refusal bank.now step.now) result }
+{
+    match step {
+        Step::RenameSample { sample, name } => refuse_rename_sample(bank, *sample, *name),
+        Step::AddSample { at, sample } => refuse_add_sample(bank, *at, sample),
+        Step::RemoveSample { sample } => refuse_remove_sample(bank, *sample),
+        Step::SetInfo { id, text } => refuse_set_info(bank, *id, text),
+    }
+}
+
+/// Does the step and answers the one that takes it back, or hands it back for want of memory.
+pub(crate) fn change_step<'a>(
+    alloc: Global,
+    bank: &mut Bank<'a>,
+    step: Step<'a>,
+) -> Result<Step<'a>, Step<'a>>
+    requires sound { IsSound bank.old }
+    requires accepted { refusal bank.old step ≡ None }
+    ensures outcome { IsStepChange bank.old bank.new step.entry result }
+    ensures no_memory { GrowsNothing step.entry → IsOk result }
+{
+    let _ = alloc;
+    match step {
+        Step::RenameSample { sample, name } => Ok(rename_sample(bank, sample, name)),
+        Step::AddSample { at, sample } => add_sample(bank, at, sample),
+        Step::RemoveSample { sample } => Ok(remove_sample(bank, sample)),
+        Step::SetInfo { id, text } => Ok(set_info(bank, id, text)),
+    }
+}
+
 impl<'a> Edit<'a> {
     /// The law that each number, name and text is in the range of its field. It does nothing.
     pub fn fits(&self)
@@ -64,6 +108,8 @@ impl<'a> Edit<'a> {
         }
     }
 }
+
+// ---- what they carry
 
 /// The law that what a sample holds is in the ranges of its fields. It does nothing.
 pub(crate) fn sample_fits(sample: &Sample<'_>)
@@ -81,7 +127,10 @@ pub(crate) fn sample_fits(sample: &Sample<'_>)
 fn loop_fits(looped: Option<(u32, u32)>)
     ensures { FitsLoop looped }
 {
-    if let Some((_start, _end)) = looped {}
+    match looped {
+        Some((_start, _end)) => {}
+        None => {}
+    }
 }
 
 fn kind_fits(kind: Kind)

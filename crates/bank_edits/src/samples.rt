@@ -15,9 +15,9 @@ use sf_base::Name20;
 // ---- rename-sample
 
 pub(crate) fn refuse_rename_sample(bank: &Bank<'_>, sample: u32, _name: Name20) -> Result<(), Cause>
+    requires { IsSound bank.now }
     ensures { Judges (refusal bank.now (step.RenameSample sample _name)) result }
 {
-    let _samples = bank.samples();
     no_such_sample(bank, sample)
 }
 
@@ -34,6 +34,7 @@ pub(crate) fn rename_sample<'a>(bank: &mut Bank<'a>, sample: u32, name: Name20) 
 // ---- add-sample
 
 pub(crate) fn refuse_add_sample(bank: &Bank<'_>, at: u32, sample: &Sample<'_>) -> Result<(), Cause>
+    requires { IsSound bank.now }
     ensures { Judges (refusal bank.now (step.AddSample at sample.now)) result }
 {
     no_such_link(bank, sample.kind)?;
@@ -61,9 +62,9 @@ pub(crate) fn add_sample<'a>(
 // ---- remove-sample
 
 pub(crate) fn refuse_remove_sample(bank: &Bank<'_>, sample: u32) -> Result<(), Cause>
+    requires { IsSound bank.now }
     ensures { Judges (refusal bank.now (step.RemoveSample sample)) result }
 {
-    let _samples = bank.samples();
     no_such_sample(bank, sample)?;
     in_use(bank, sample)
 }

@@ -15,9 +15,9 @@ use sf_base::Lent;
 // ---- set-info
 
 pub(crate) fn refuse_set_info(bank: &Bank<'_>, id: InfoId, text: &Lent<'_>) -> Result<(), Cause>
+    requires { IsSound bank.now }
     ensures { Judges (refusal bank.now (step.SetInfo id text.now)) result }
 {
-    let _samples = bank.samples();
     bad_text(id, text)
 }
 

@@ -13,8 +13,7 @@ use Rattle.bank_parts.specs.Fits.{FitsSample}
 use Rattle.bank_parts.specs.Sound.{IsSound}
 use Rattle.bank_core.specs.Samples.{named, sample_renamed, sample_added, sample_removed}
 use Rattle.bank_core.proofs.Changes.{all_found}
-use Rattle.bank_core.proofs.Renaming.{renamed_sound}
-use Rattle.bank_core.proofs.SampleLaws.{restored_added, restored_removed, added_unused}
+use Rattle.bank_core.proofs.SampleLaws.{renamed_sound, restored_added, restored_removed, added_unused}
 use Rattle.bank_edits.specs.declared.edit.Edit.TheVariants.{One}
 use Rattle.bank_edits.specs.declared.edit.Step.TheVariants.{RenameSample, AddSample, RemoveSample}
 use Rattle.bank_edits.proofs.Accepted.{accepted, not_below}

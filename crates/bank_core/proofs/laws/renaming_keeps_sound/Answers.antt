@@ -1,4 +1,4 @@
-use Rattle.bank_core.proofs.Renaming.{renamed_sound}
+use Rattle.bank_core.proofs.SampleLaws.{renamed_sound}
 use Rattle.bank_core.proofs.laws.renaming_keeps_sound.Goals as goal
 
 pub returns : goal.returns

@@ -8,7 +8,7 @@ use Rattle.bank_edits.proofs.SampleLaws.{limit_add}
 use Rattle.bank_edits.proofs.samples.refuse_add_sample.Goals as goal
 
 pub broken_with_sample-requires : goal.broken_with_sample-requires
-broken_with_sample-requires c = ap broken c.totals.ensures.value ∙ no_limit_of c.args.bank.now c.totals.ensures.sound.valid.limits
+broken_with_sample-requires c = ap broken c.totals.ensures.value ∙ no_limit_of c.args.bank.now c.requires.valid.limits
 
 pub returns : goal.returns
 returns c =

@@ -13,4 +13,4 @@ returns c =
     let i = c.args.sample in
     let there = c.in_ok-no_such_sample.ensures in
     by_last (no_such_sample b i ∷ []) (in_use b i) (broken_limit (raw b (RemoveSample i))) c.in_use.result (there, tt) c.in_use.ensures
-    (λ free. within_remove b i (record { valid = c.samples-samples.ensures.valid; fits = c.samples-samples.ensures.fits }) (below _ i there) free)
+    (λ free. within_remove b i c.requires (below _ i there) free)

@@ -11,4 +11,4 @@ pub returns : goal.returns
 returns c =
     let b = c.args.bank.now in
     by_last [] (no_such_sample b c.args.sample) (broken_limit (raw b (RenameSample c.args.sample c.args._name))) c.no_such_sample.result tt c.no_such_sample.ensures
-    (λ h. within_rename b c.args.sample c.args._name c.samples-samples.ensures.valid)
+    (λ h. within_rename b c.args.sample c.args._name c.requires.valid)

@@ -11,4 +11,4 @@ pub returns : goal.returns
 returns c =
     let b = c.args.bank.now in
     by_last [] (bad_text c.args.id c.args.text.now) (broken_limit (raw b (SetInfo c.args.id c.args.text.now))) c.bad_text.result tt c.bad_text.ensures
-    (λ h. within_set_info b c.args.id c.args.text.now c.samples-samples.ensures.valid)
+    (λ h. within_set_info b c.args.id c.args.text.now c.requires.valid)
