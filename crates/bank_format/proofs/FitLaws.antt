@@ -155,7 +155,7 @@ ends_fit at lt = (
 )
 
 module _ {H R : Type 0} (h : Headers H R) (IsFit : H → Type 0) (FitsRecord : R → Type 0)
-  (written : (at : ℕ) (x : H) → at < 2 ^ 16 → IsFit x → FitsRecord (h.written at x)) (last : (at : ℕ) → at < 2 ^ 16 → FitsRecord (h.last at)) where
+    (written : (at : ℕ) (x : H) → at < 2 ^ 16 → IsFit x → FitsRecord (h.written at x)) (last : (at : ℕ) → at < 2 ^ 16 → FitsRecord (h.last at)) where
   pub heads_fit : (at : ℕ) (xs : List (WithZones H)) → AllByRecursion (FitsOwner IsFit) xs → at + owner_total zone_count xs ≤ 65535 → AllByRecursion FitsRecord (heads_from h at xs)
   heads_fit at [] f le = (last at (omega (arith, le)), tt)
   heads_fit at (x ∷ xs) f le =

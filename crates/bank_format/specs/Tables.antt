@@ -1,6 +1,7 @@
 -- A bank as the nine lists of records that a file holds.
 use Rattle.std.specs.Prelude.{◌+◌, ℕ, List, [], ◌∷◌, ◌++◌, length, map, flat_map, pos, Option, Some, None, replicate}
 use Rattle.sf_base.specs.Names.{before_zero, filled}
+use Rattle.sf_base.specs.declared.limits.TheConstants.{ZERO_POINTS}
 use Rattle.generators.specs.declared.level.Level.{Level}
 use Rattle.generators.specs.declared.level.Level.TheVariants as level
 use Rattle.modulators.specs.declared.modulator.Modulator.{Modulator}
@@ -85,8 +86,11 @@ presets = record { level = level.Preset; written = preset_written; last = preset
 abbrev pub instrument_written : ℕ → List ℕ → InstrumentHead
 instrument_written at name = record { name = filled name; bag = at }
 
+abbrev pub instrument_head : InstrumentHead → List ℕ
+instrument_head r = before_zero r.name
+
 abbrev pub instruments : Headers (List ℕ) InstrumentHead
-instruments = record { level = level.Instrument; written = instrument_written; last = instrument_end; first_bag = λ (r : InstrumentHead). r.bag; read = λ (r : InstrumentHead). before_zero r.name }
+instruments = record { level = level.Instrument; written = instrument_written; last = instrument_end; first_bag = λ (r : InstrumentHead). r.bag; read = instrument_head }
 
 -- the bags of a preset or an instrument
 abbrev pub bags_of : {H : Type 0} → Level → WithZones H → List Bagged
@@ -134,14 +138,14 @@ sample_head start s = record {
   kind = kind_word s.kind;
 }
 
--- a sample's points, and 46 zero points
+-- a sample's points, and the zero points that follow them
 abbrev pub points_written : Sample → List ℕ
-points_written s = s.points ++ replicate 46 0
+points_written s = s.points ++ replicate ZERO_POINTS 0
 
 -- the heads of samples: each begins where those before it end, with their zero points
 abbrev pub sample_heads_from : ℕ → List Sample → List SampleHead
 sample_heads_from start [] = []
-sample_heads_from start (s ∷ samples) = sample_head start s ∷ sample_heads_from (start + length s.points + 46) samples
+sample_heads_from start (s ∷ samples) = sample_head start s ∷ sample_heads_from (start + length s.points + ZERO_POINTS) samples
 
 -- ---- a bank
 

@@ -1,6 +1,7 @@
 //! The presets or the instruments of a bank, and what they lend of their zones.
 ghost use Rattle.std.specs.Prelude.{◌≡◌, ◌<◌, ◌↔◌, IsTrue, ◌++◌, ◌∷◌, [], Some, length, IfSome, IfOk, OnOk, OnErr};
-ghost use Rattle.std.specs.FinMap.{get};
+ghost use Rattle.std.specs.FinMap.{get, len};
+ghost use Rattle.std.specs.Option.{option_map};
 ghost use Rattle.std.specs.List.{list_any};
 ghost use Rattle.generators.specs.Gens.{FitGens};
 ghost use Rattle.numbered_lists.specs.Moved.{moved, changed};
@@ -51,6 +52,15 @@ impl<H> Owners<H> {
         Owners {
             list: NumberedList::new(alloc),
         }
+    }
+
+    /// None, with room for so many.
+    pub fn with_capacity(alloc: Global, count: usize) -> Result<Owners<H>, OutOfMemory>
+        ensures { IfOk result (λ owners. owners ≡ []) }
+    {
+        Ok(Owners {
+            list: NumberedList::from_vec(Vec::with_capacity(alloc, count)?),
+        })
     }
 
     /// How many there are.
@@ -112,6 +122,28 @@ impl<H> Owners<H> {
         match place {
             ZonePlace::Global => self.list.member(i).global.gens.entries(),
             ZonePlace::Zone(k) => self.zone(i, k).gens.entries(),
+        }
+    }
+
+    /// How many generators a place of number `i` has, both of which are there; the target is none.
+    pub fn gen_count(&self, i: usize, place: ZonePlace) -> usize
+        requires { HasPlace self.now i place }
+        ensures { option_map len (gens_at self.now i place) ≡ Some result }
+    {
+        match place {
+            ZonePlace::Global => self.list.member(i).global.gens.len(),
+            ZonePlace::Zone(k) => self.zone(i, k).gens.len(),
+        }
+    }
+
+    /// How many modulators a place of number `i` has, both of which are there.
+    pub fn mod_count(&self, i: usize, place: ZonePlace) -> usize
+        requires { HasPlace self.now i place }
+        ensures { option_map length (mods_at self.now i place) ≡ Some result }
+    {
+        match place {
+            ZonePlace::Global => self.list.member(i).global.mods.len(),
+            ZonePlace::Zone(k) => self.zone(i, k).mods.len(),
         }
     }
 
