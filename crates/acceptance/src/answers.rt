@@ -1,7 +1,8 @@
 //! What the runs answer, as text.
 
 use crate::files::File;
-use sfbank::{RunFault, canon_run, edit_run, fault_text, show_run};
+use sfbank::{RunFault, canon_run, edit_run, show_run};
+use sfbank_program::fault_text;
 use std::alloc::Global;
 
 /// Whether a part stands in a text.

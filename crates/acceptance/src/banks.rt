@@ -3,12 +3,12 @@
 use crate::files::{File, tone, wide};
 use bank_core::{
     Bank, GlobalZone, InfoId, Instrument, Kind, Members, Owner, Parts, PartsFault, Place, Preset,
-    Sample, Text, Texts, Zone, is_valid,
+    Sample, Texts, Zone, is_valid,
 };
 use generators::GenMap;
 use numbered_lists::NumberedList;
 use sample_view::Points;
-use sf_base::{Name20, OutOfMemory};
+use sf_base::{Lent, Name20, OutOfMemory};
 use sf_reader::read;
 use sf_writer::{encoded_len, write, write_counted};
 use std::alloc::Global;
@@ -179,14 +179,14 @@ fn sample<'a>(
 /// The texts with the engine EMU8000, the others empty.
 fn texts<'a>() -> Texts<'a> {
     Texts {
-        engine: Text::from_bytes(b"EMU8000"),
-        name: Text::from_bytes(b""),
-        date: Text::from_bytes(b""),
-        engineers: Text::from_bytes(b""),
-        product: Text::from_bytes(b""),
-        copyright: Text::from_bytes(b""),
-        comment: Text::from_bytes(b""),
-        software: Text::from_bytes(b""),
+        engine: Lent::new(b"EMU8000"),
+        name: Lent::new(b""),
+        date: Lent::new(b""),
+        engineers: Lent::new(b""),
+        product: Lent::new(b""),
+        copyright: Lent::new(b""),
+        comment: Lent::new(b""),
+        software: Lent::new(b""),
     }
 }
 

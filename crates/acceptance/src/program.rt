@@ -2,9 +2,9 @@
 
 use crate::files::{renamed_saw, saw};
 use crate::scripts::{RENAME, RENAME_BACK};
-use sf_base::front_of;
-use sfbank::{RunFault, fault_text};
-use sfbank_program::{InputFault, read_whole, run};
+use sf_base::{Failure, front_of};
+use sfbank::RunFault;
+use sfbank_program::{InputFault, fault_text, read_whole, run};
 use std::alloc::AllocError;
 use std::io::{ErrorKind, Read, Write};
 use std::test::Fail;
@@ -245,6 +245,6 @@ fn inputs_are_read_to_their_end_or_first_error(rt: HostRuntime) {
         let read = read_whole(rt.alloc(), &mut io::Cursor::new(text), expected);
         assert!(rt; matches!(&read, Ok(bytes) if bytes.as_slice() == text));
         let broken = read_whole(rt.alloc(), &mut Broken { rest: text }, expected);
-        assert!(rt; matches!(broken, Err(InputFault::Unreadable)));
+        assert!(rt; matches!(broken, Err(Failure::Fault(InputFault::Unreadable))));
     }
 }

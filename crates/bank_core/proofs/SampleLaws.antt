@@ -7,16 +7,17 @@ use Rattle.numbered_lists.specs.declared.renumbering.Renumbering.TheVariants.{In
 use Rattle.numbered_lists.specs.Renumbered.{renumbered}
 use Rattle.numbered_lists.proofs.Lists.{slice_get-found, insert-remove, remove-insert}
 use Rattle.numbered_lists.proofs.Numbers.{insertion_returned, removal_returned_by_test, insertion_below, removal_below_by_test, insertion_keeps, insertion_misses_by_test, removal_no_more}
+use Rattle.sf_base.specs.Names.{IsName}
 use Rattle.bank_parts.specs.declared.parts.Zone.{Zone}
-use Rattle.bank_parts.specs.declared.parts.Instrument.{Instrument}
+use Rattle.bank_parts.specs.declared.parts.WithZones.{WithZones}
 use Rattle.bank_parts.specs.declared.parts.Sample.{Sample}
 use Rattle.bank_parts.specs.declared.parts.Kind.{Kind}
 use Rattle.bank_parts.specs.declared.parts.Kind.TheVariants.{Mono, Right, Left, Linked}
-use Rattle.bank_parts.specs.Fits.{Fits, FitsSample, FitsInstrument, FitsZone}
+use Rattle.bank_parts.specs.Fits.{Fits, FitsSample, FitsOwner, FitsZone}
 use Rattle.bank_parts.specs.declared.parts.Parts.{Parts}
 use Rattle.bank_parts.specs.declared.totals.Totals.{Totals}
 use Rattle.bank_parts.specs.Links.{OfLink}
-use Rattle.bank_parts.specs.Renumbered.{kind_renumbered, zone_renumbered, sample_renumbered, instrument_renumbered, samples_renumbered}
+use Rattle.bank_parts.specs.Renumbered.{kind_renumbered, zone_renumbered, sample_renumbered, owner_renumbered, samples_renumbered}
 use Rattle.bank_parts.specs.Sound.{IsSound}
 use Rattle.bank_core.specs.Samples.{sample_in_use, sample_added, sample_removed}
 use Rattle.bank_parts.specs.Valid.{IsSample, IsValid}
@@ -40,7 +41,7 @@ added_valid b i s v le h e =
     let to : (x : ℕ) → x < n → renumbered by x < n + 1 = λ x lt. insertion_below i x n lt in
     record {
       texts = v.texts;
-      presets = rw (length-map b.instruments (instrument_renumbered by)) v.presets;
+      presets = rw (length-map b.instruments (owner_renumbered by)) v.presets;
       instruments = rw size (instruments_valid (λ x. x < n) by n (n + 1) to b.instruments v.instruments refs.targets);
       samples = rw size (all_insert (IsSample (n + 1)) (map (sample_renumbered by) b.samples) i s h (samples_valid (λ x. x < n) by n (n + 1) to b.samples v.samples refs.links));
       limits = limits_of (sample_added b i s) e;
@@ -81,7 +82,7 @@ removed_valid b i v lt free =
     let to : (x : ℕ) → P x → renumbered by x < m = λ x h. let below = h.1 in removal_below_by_test i x m h.0 (omega (arith, less)) (omega (arith, less, below)) in
     record {
       texts = v.texts;
-      presets = rw (length-map b.instruments (instrument_renumbered by)) v.presets;
+      presets = rw (length-map b.instruments (owner_renumbered by)) v.presets;
       instruments = rw size (instruments_valid P by n m to b.instruments v.instruments refs.targets);
       samples = rw size (samples_valid P by n m to left.samples (all_remove (IsSample n) b.samples i v.samples) refs.links);
       limits = limits_of (sample_removed b i) (without_sample_within (totals_of (sample_removed b i)) (length s.points)
@@ -147,8 +148,8 @@ module _ (by : Renumbering) (n : ℕ) (to : (x : ℕ) → x < n → renumbered b
     minor = f.minor;
     texts = f.texts;
     presets = f.presets;
-    instruments = all_map FitsInstrument (λ (i : Instrument). OfTargets (λ x. x < n) i.zones) FitsInstrument (instrument_renumbered by)
-        (λ i g k. record { name = g.name; global = g.global; zones = all_map FitsZone (λ (z : Zone). z.target < n) FitsZone (zone_renumbered by) (λ z g h. record { target = to z.target h; gens = g.gens; mods = g.mods }) i.zones g.zones k })
+    instruments = all_map (FitsOwner IsName) (λ (i : WithZones (List ℕ)). OfTargets (λ x. x < n) i.zones) (FitsOwner IsName) (owner_renumbered by)
+        (λ i g k. record { head = g.head; global = g.global; zones = all_map FitsZone (λ (z : Zone). z.target < n) FitsZone (zone_renumbered by) (λ z g h. record { target = to z.target h; gens = g.gens; mods = g.mods }) i.zones g.zones k })
         b.instruments f.instruments h.targets;
     samples = all_map FitsSample (λ (s : Sample). OfLink (λ x. x < n) s.kind) FitsSample (sample_renumbered by)
         (λ s g h. record { name = g.name; points = g.points; looped = g.looped; rate = g.rate; key = g.key; correction = g.correction; kind = link_fits s.kind h }) b.samples f.samples h.links;

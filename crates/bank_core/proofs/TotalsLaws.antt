@@ -12,11 +12,11 @@ use Rattle.sf_base.specs.declared.limits.TheConstants.{ZERO_POINTS}
 use Rattle.bank_parts.specs.declared.totals.Totals.{Totals}
 use Rattle.bank_parts.specs.declared.texts.InfoId.{InfoId}
 use Rattle.bank_parts.specs.declared.parts.Zone.{Zone}
-use Rattle.bank_parts.specs.declared.parts.Instrument.{Instrument}
+use Rattle.bank_parts.specs.declared.parts.WithZones.{WithZones}
 use Rattle.bank_parts.specs.declared.parts.Sample.{Sample}
 use Rattle.bank_parts.specs.declared.parts.Parts.{Parts}
-use Rattle.bank_parts.specs.Renumbered.{sample_renumbered, zone_renumbered, instrument_renumbered}
-use Rattle.bank_parts.specs.Valid.{instrument_total, zone_count, gen_count, mod_count, point_total}
+use Rattle.bank_parts.specs.Renumbered.{sample_renumbered, zone_renumbered, owner_renumbered}
+use Rattle.bank_parts.specs.Valid.{owner_total, zone_count, gen_count, mod_count, point_total}
 use Rattle.bank_parts.specs.Limits.{totals_of, broken, with_sample}
 use Rattle.bank_parts.proofs.LimitLaws.{within_totals, none_broken}
 use Rattle.bank_core.specs.Samples.{named, sample_renamed, sample_added, sample_removed}
@@ -63,16 +63,16 @@ with_sample_same t u n e =
 
 -- ---- the totals after each change
 
-zones_kept : (by : Renumbering) (is : List Instrument) → instrument_total zone_count (map (instrument_renumbered by) is) ≡ instrument_total zone_count is
-zones_kept by = sum_kept (λ (i : Instrument). zone_count i.global i.zones) (instrument_renumbered by)
+zones_kept : (by : Renumbering) (is : List (WithZones (List ℕ))) → owner_total zone_count (map (owner_renumbered by) is) ≡ owner_total zone_count is
+zones_kept by = sum_kept (λ (i : WithZones (List ℕ)). zone_count i.global i.zones) (owner_renumbered by)
     (λ i. let e = length-map i.zones (zone_renumbered by) in omega (arith, e))
 
-gens_kept : (by : Renumbering) (is : List Instrument) → instrument_total gen_count (map (instrument_renumbered by) is) ≡ instrument_total gen_count is
-gens_kept by = sum_kept (λ (i : Instrument). gen_count i.global i.zones) (instrument_renumbered by)
+gens_kept : (by : Renumbering) (is : List (WithZones (List ℕ))) → owner_total gen_count (map (owner_renumbered by) is) ≡ owner_total gen_count is
+gens_kept by = sum_kept (λ (i : WithZones (List ℕ)). gen_count i.global i.zones) (owner_renumbered by)
     (λ i. ap (λ (n : ℕ). len i.global.gens + n) (sum_kept (λ (z : Zone). len z.gens + 1) (zone_renumbered by) (λ z. refl) i.zones))
 
-mods_kept : (by : Renumbering) (is : List Instrument) → instrument_total mod_count (map (instrument_renumbered by) is) ≡ instrument_total mod_count is
-mods_kept by = sum_kept (λ (i : Instrument). mod_count i.global i.zones) (instrument_renumbered by)
+mods_kept : (by : Renumbering) (is : List (WithZones (List ℕ))) → owner_total mod_count (map (owner_renumbered by) is) ≡ owner_total mod_count is
+mods_kept by = sum_kept (λ (i : WithZones (List ℕ)). mod_count i.global i.zones) (owner_renumbered by)
     (λ i. ap (λ (n : ℕ). length i.global.mods + n) (sum_kept (λ (z : Zone). length z.mods) (zone_renumbered by) (λ z. refl) i.zones))
 
 points_kept : (by : Renumbering) (ss : List Sample) → point_total (map (sample_renumbered by) ss) ≡ point_total ss
@@ -97,7 +97,7 @@ totals-added b i s le =
     let more = sum_by-insert (λ (t : Sample). length t.points + ZERO_POINTS) (map (sample_renumbered by) b.samples) i s in
     let kept = points_kept by b.samples in omega (arith, more, kept) in
     λ k. record (totals_of b) {
-      instruments = length-map b.instruments (instrument_renumbered by) k;
+      instruments = length-map b.instruments (owner_renumbered by) k;
       samples = samples k;
       instrument_zones = zones_kept by b.instruments k;
       instrument_gens = gens_kept by b.instruments k;
@@ -118,7 +118,7 @@ totals-removed b i s e =
     let here : length (get_or b.samples i s).points + ZERO_POINTS ≡ length s.points + ZERO_POINTS = ap (λ (t : Sample). length t.points + ZERO_POINTS) (get_or_from_slice_get b.samples i s s e) in
     let kept = points_kept by left in omega (arith, less, here, kept) in
     λ k. record (totals_of b) {
-      instruments = length-map b.instruments (instrument_renumbered by) k;
+      instruments = length-map b.instruments (owner_renumbered by) k;
       samples = samples k;
       instrument_zones = zones_kept by b.instruments k;
       instrument_gens = gens_kept by b.instruments k;

@@ -8,11 +8,12 @@ ghost use Rattle.bank_edits.specs.Tests as tests;
 
 use crate::cause::Cause;
 use bank_core::Bank;
-use bank_parts::{InfoId, Kind, Limit, Sample, Text};
+use bank_parts::{InfoId, Kind, Limit, Sample};
+use sf_base::Lent;
 use sf_base::limits::{COMMENT_LENGTH, TEXT_LENGTH};
 
 /// A limit that the changed bank would break, the last of the tests of every form.
-pub fn full(limit: Option<Limit>) -> Result<(), Cause>
+pub(crate) fn full(limit: Option<Limit>) -> Result<(), Cause>
     ensures { Judges (option_map cause.Full limit) result }
 {
     match limit {
@@ -23,52 +24,52 @@ pub fn full(limit: Option<Limit>) -> Result<(), Cause>
 
 // ---- samples
 
-pub fn no_such_sample(bank: &Bank<'_>, sample: u32) -> Result<(), Cause>
+pub(crate) fn no_such_sample(bank: &Bank<'_>, sample: u32) -> Result<(), Cause>
     ensures { Passes (tests.no_such_sample bank.now sample) result }
 {
-    refuse(bank.samples().len() <= sample as usize, Cause::NoSuchSample)
+    judge(bank.samples().len() <= sample as usize, Cause::NoSuchSample)
 }
 
-pub fn no_such_link(bank: &Bank<'_>, kind: Kind) -> Result<(), Cause>
+pub(crate) fn no_such_link(bank: &Bank<'_>, kind: Kind) -> Result<(), Cause>
     ensures { Passes (tests.no_such_link bank.now kind) result }
 {
-    refuse(
+    judge(
         link_misses(bank.samples().len() + 1, kind),
         Cause::NoSuchSample,
     )
 }
 
-pub fn bad_loop(sample: &Sample<'_>) -> Result<(), Cause>
+pub(crate) fn bad_loop(sample: &Sample<'_>) -> Result<(), Cause>
     ensures { Passes (tests.bad_loop sample.now) result }
 {
-    refuse(
+    judge(
         loop_misses(sample.points.len(), sample.looped),
         Cause::BadLoop,
     )
 }
 
-pub fn in_use(bank: &Bank<'_>, sample: u32) -> Result<(), Cause>
+pub(crate) fn in_use(bank: &Bank<'_>, sample: u32) -> Result<(), Cause>
     requires { sample < length bank.now.samples }
     ensures { Passes (tests.in_use bank.now sample) result }
 {
-    refuse(bank.is_sample_in_use(sample), Cause::InUse)
+    judge(bank.is_sample_in_use(sample), Cause::InUse)
 }
 
 // ---- places
 
-pub fn bad_place(count: usize, at: u32) -> Result<(), Cause>
+pub(crate) fn bad_place(count: usize, at: u32) -> Result<(), Cause>
     ensures { Passes (tests.bad_place count at) result }
 {
-    refuse(count < at as usize, Cause::BadPlace)
+    judge(count < at as usize, Cause::BadPlace)
 }
 
 // ---- texts
 
-pub fn bad_text(id: InfoId, text: &Text<'_>) -> Result<(), Cause>
+pub(crate) fn bad_text(id: InfoId, text: &Lent<'_>) -> Result<(), Cause>
     ensures { Passes (tests.bad_text id text.now) result }
 {
     let bytes = text.bytes();
-    refuse(
+    judge(
         bytes.len() > most_bytes(id) || bytes.contains(&0) || is_engine(id) && bytes.is_empty(),
         Cause::BadText,
     )
@@ -76,7 +77,7 @@ pub fn bad_text(id: InfoId, text: &Text<'_>) -> Result<(), Cause>
 
 // ---- parts of tests
 
-fn refuse(stands: bool, cause: Cause) -> Result<(), Cause>
+fn judge(stands: bool, cause: Cause) -> Result<(), Cause>
     ensures { Passes (tests.test stands cause) result }
 {
     if stands {

@@ -12,7 +12,7 @@ use bank_core::Bank;
 use std::alloc::Global;
 
 /// Does the edit and answers the one that takes it back, or hands it back for want of memory.
-pub fn change<'a>(alloc: Global, bank: &mut Bank<'a>, edit: Edit<'a>) -> Result<Edit<'a>, Edit<'a>>
+pub(crate) fn change<'a>(alloc: Global, bank: &mut Bank<'a>, edit: Edit<'a>) -> Result<Edit<'a>, Edit<'a>>
     requires sound { IsSound bank.old }
     requires accepted { refusal bank.old edit ≡ None }
     ensures outcome { IsChange bank.old bank.new edit.entry result }

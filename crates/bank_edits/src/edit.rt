@@ -3,8 +3,8 @@ ghost use Rattle.bank_parts.specs.Fits.{FitsSample, FitsLoop, FitsKind};
 ghost use Rattle.bank_edits.specs.Steps.{FitsStep};
 ghost use Rattle.bank_edits.specs.Edits.{FitsEdit};
 
-use bank_parts::{InfoId, Kind, Sample, Text};
-use sf_base::Name20;
+use bank_parts::{InfoId, Kind, Sample};
+use sf_base::{Lent, Name20};
 
 /// A step that changes a bank: one variant for each form of the edit script. Numbers are counted from
 /// 0. It borrows the points and texts that it carries.
@@ -21,7 +21,7 @@ pub enum Step<'a> {
 
     // ---- texts
     /// `set-info ID TEXT`: the text of the kind is this one.
-    SetInfo { id: InfoId, text: Text<'a> },
+    SetInfo { id: InfoId, text: Lent<'a> },
 }
 
 /// An edit of a bank.
@@ -66,7 +66,7 @@ impl<'a> Edit<'a> {
 }
 
 /// The law that what a sample holds is in the ranges of its fields. It does nothing.
-pub fn sample_fits(sample: &Sample<'_>)
+pub(crate) fn sample_fits(sample: &Sample<'_>)
     ensures { FitsSample sample.now }
 {
     let _name = sample.name.bytes();

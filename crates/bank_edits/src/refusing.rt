@@ -11,7 +11,7 @@ use crate::texts::refuse_set_info;
 use bank_core::Bank;
 
 /// The first cause that stands against the edit, if there is one.
-pub fn refuse(bank: &Bank<'_>, edit: &Edit<'_>) -> Result<(), Cause>
+pub(crate) fn refuse(bank: &Bank<'_>, edit: &Edit<'_>) -> Result<(), Cause>
     ensures refusal { Judges (refusal bank.now edit.now) result }
     ensures sound { IsSound bank.now }
 {

@@ -14,14 +14,14 @@ use sf_base::Name20;
 
 // ---- rename-sample
 
-pub fn refuse_rename_sample(bank: &Bank<'_>, sample: u32, _name: Name20) -> Result<(), Cause>
+pub(crate) fn refuse_rename_sample(bank: &Bank<'_>, sample: u32, _name: Name20) -> Result<(), Cause>
     ensures { Judges (refusal bank.now (step.RenameSample sample _name)) result }
 {
     let _samples = bank.samples();
     no_such_sample(bank, sample)
 }
 
-pub fn rename_sample<'a>(bank: &mut Bank<'a>, sample: u32, name: Name20) -> Step<'a>
+pub(crate) fn rename_sample<'a>(bank: &mut Bank<'a>, sample: u32, name: Name20) -> Step<'a>
     requires sound { IsSound bank.old }
     requires accepted { refusal bank.old (step.RenameSample sample name) ≡ None }
     ensures { IsStepChange bank.old bank.new (step.RenameSample sample name) (Ok result) }
@@ -33,7 +33,7 @@ pub fn rename_sample<'a>(bank: &mut Bank<'a>, sample: u32, name: Name20) -> Step
 
 // ---- add-sample
 
-pub fn refuse_add_sample(bank: &Bank<'_>, at: u32, sample: &Sample<'_>) -> Result<(), Cause>
+pub(crate) fn refuse_add_sample(bank: &Bank<'_>, at: u32, sample: &Sample<'_>) -> Result<(), Cause>
     ensures { Judges (refusal bank.now (step.AddSample at sample.now)) result }
 {
     no_such_link(bank, sample.kind)?;
@@ -42,7 +42,7 @@ pub fn refuse_add_sample(bank: &Bank<'_>, at: u32, sample: &Sample<'_>) -> Resul
     full(bank.totals().broken_with_sample(sample.points.len()))
 }
 
-pub fn add_sample<'a>(
+pub(crate) fn add_sample<'a>(
     bank: &mut Bank<'a>,
     at: u32,
     sample: Sample<'a>,
@@ -60,7 +60,7 @@ pub fn add_sample<'a>(
 
 // ---- remove-sample
 
-pub fn refuse_remove_sample(bank: &Bank<'_>, sample: u32) -> Result<(), Cause>
+pub(crate) fn refuse_remove_sample(bank: &Bank<'_>, sample: u32) -> Result<(), Cause>
     ensures { Judges (refusal bank.now (step.RemoveSample sample)) result }
 {
     let _samples = bank.samples();
@@ -68,7 +68,7 @@ pub fn refuse_remove_sample(bank: &Bank<'_>, sample: u32) -> Result<(), Cause>
     in_use(bank, sample)
 }
 
-pub fn remove_sample<'a>(bank: &mut Bank<'a>, sample: u32) -> Step<'a>
+pub(crate) fn remove_sample<'a>(bank: &mut Bank<'a>, sample: u32) -> Step<'a>
     requires sound { IsSound bank.old }
     requires accepted { refusal bank.old (step.RemoveSample sample) ≡ None }
     ensures { IsStepChange bank.old bank.new (step.RemoveSample sample) (Ok result) }

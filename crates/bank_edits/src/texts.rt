@@ -9,18 +9,19 @@ use crate::cause::Cause;
 use crate::causes::bad_text;
 use crate::edit::Step;
 use bank_core::Bank;
-use bank_parts::{InfoId, Text};
+use bank_parts::InfoId;
+use sf_base::Lent;
 
 // ---- set-info
 
-pub fn refuse_set_info(bank: &Bank<'_>, id: InfoId, text: &Text<'_>) -> Result<(), Cause>
+pub(crate) fn refuse_set_info(bank: &Bank<'_>, id: InfoId, text: &Lent<'_>) -> Result<(), Cause>
     ensures { Judges (refusal bank.now (step.SetInfo id text.now)) result }
 {
     let _samples = bank.samples();
     bad_text(id, text)
 }
 
-pub fn set_info<'a>(bank: &mut Bank<'a>, id: InfoId, text: Text<'a>) -> Step<'a>
+pub(crate) fn set_info<'a>(bank: &mut Bank<'a>, id: InfoId, text: Lent<'a>) -> Step<'a>
     requires sound { IsSound bank.old }
     requires accepted { refusal bank.old (step.SetInfo id text) ≡ None }
     ensures { IsStepChange bank.old bank.new (step.SetInfo id text.entry) (Ok result) }

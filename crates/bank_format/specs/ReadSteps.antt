@@ -5,8 +5,7 @@ use Rattle.sf_base.specs.Fields.{field_at}
 use Rattle.riff_chunks.specs.Walk.{Chunk, walk}
 use Rattle.riff_chunks.specs.Finding.{is_whole, chunks_in, first_body, first_list}
 use Rattle.bank_parts.specs.declared.parts.Zone.{Zone}
-use Rattle.bank_parts.specs.declared.parts.Preset.{Preset}
-use Rattle.bank_parts.specs.declared.parts.Instrument.{Instrument}
+use Rattle.bank_parts.specs.declared.parts.WithZones.{WithZones}
 use Rattle.bank_parts.specs.declared.parts.Parts.{Parts}
 use Rattle.hydra_records.specs.declared.head.PresetHead.{PresetHead}
 use Rattle.hydra_records.specs.declared.head.InstrumentHead.{InstrumentHead}
@@ -125,10 +124,11 @@ sample_step points h =
 abbrev pub target_step : ℕ → ReadFault → Zone → Step
 target_step targets missing z = step (nat_lt z.target targets) missing
 
+abbrev pub targets_of : {H : Type 0} → ℕ → ReadFault → List (WithZones H) → List Step
+targets_of targets missing owners = map (target_step targets missing) (flat_map (λ x. x.zones) owners)
+
 unfoldable pub target_steps : Parts → List Step
-target_steps b =
-    map (target_step (length b.instruments) fault.BadInstrument) (flat_map (λ (p : Preset). p.zones) b.presets)
-    ++ map (target_step (length b.samples) fault.BadSample) (flat_map (λ (i : Instrument). i.zones) b.instruments)
+target_steps b = targets_of (length b.instruments) fault.BadInstrument b.presets ++ targets_of (length b.samples) fault.BadSample b.instruments
 
 -- ---- the points of all samples, with 46 each
 

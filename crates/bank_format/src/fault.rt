@@ -1,8 +1,10 @@
 //! The answers of a reader.
 ghost use Rattle.std.specs.Prelude.{◌≡◌};
 ghost use Rattle.sf_base.specs.declared.memory.Failure.TheVariants as failures;
+ghost use Rattle.bank_format.specs.declared.fault.ReadFault.TheVariants as faults;
 ghost use Rattle.bank_format.specs.FaultNames.{number_of, name_of};
 
+use riff_chunks::Truncated;
 use sf_base::Failure;
 use thiserror::Error;
 
@@ -94,6 +96,14 @@ impl ReadFault {
             ReadFault::OddSamples => "OddSamples",
             ReadFault::TooMany => "TooMany",
         }
+    }
+}
+
+impl From<Truncated> for ReadFault {
+    ghost from_gives = { λ _ fault. fault ≡ faults.Truncated };
+
+    fn from(_error: Truncated) -> ReadFault {
+        ReadFault::Truncated
     }
 }
 

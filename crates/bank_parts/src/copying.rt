@@ -1,11 +1,11 @@
 //! Equal parts in memory of their own. Points stay where they are: their slices are copied.
 ghost use Rattle.std.specs.Prelude.{◌≡◌, IfOk};
 
-use crate::parts::{GlobalZone, Instrument, Parts, Preset, Sample, Zone};
-use crate::texts::{Text, Texts};
+use crate::parts::{GlobalZone, Parts, Sample, WithZones, Zone};
+use crate::texts::Texts;
 use modulators::Modulator;
 use numbered_lists::NumberedList;
-use sf_base::OutOfMemory;
+use sf_base::{Lent, OutOfMemory};
 use std::alloc::Global;
 
 /// What a bank's lists hold.
@@ -25,25 +25,10 @@ impl CopyOut for Zone {
     }
 }
 
-impl CopyOut for Preset {
-    fn copy_out(&self, alloc: Global) -> Result<Preset, OutOfMemory> {
-        Ok(Preset {
-            name: self.name,
-            number: self.number,
-            bank: self.bank,
-            library: self.library,
-            genre: self.genre,
-            morphology: self.morphology,
-            global: copy_global(alloc, &self.global)?,
-            zones: copy_list(alloc, &self.zones)?,
-        })
-    }
-}
-
-impl CopyOut for Instrument {
-    fn copy_out(&self, alloc: Global) -> Result<Instrument, OutOfMemory> {
-        Ok(Instrument {
-            name: self.name,
+impl<H: Copy> CopyOut for WithZones<H> {
+    fn copy_out(&self, alloc: Global) -> Result<WithZones<H>, OutOfMemory> {
+        Ok(WithZones {
+            head: self.head,
             global: copy_global(alloc, &self.global)?,
             zones: copy_list(alloc, &self.zones)?,
         })
@@ -71,8 +56,8 @@ pub fn copy_parts<'a>(alloc: Global, parts: &Parts<'a>) -> Result<Parts<'a>, Out
     Ok(Parts {
         minor: parts.minor,
         texts: copy_texts(&parts.texts),
-        presets: copy_list(alloc, &parts.presets)?,
-        instruments: copy_list(alloc, &parts.instruments)?,
+        presets: parts.presets.copy(alloc)?,
+        instruments: parts.instruments.copy(alloc)?,
         samples: copy_list(alloc, &parts.samples)?,
     })
 }
@@ -81,18 +66,19 @@ fn copy_texts<'a>(texts: &Texts<'a>) -> Texts<'a>
     ensures { result ≡ texts.now }
 {
     Texts {
-        engine: Text::from_bytes(texts.engine.bytes()),
-        name: Text::from_bytes(texts.name.bytes()),
-        date: Text::from_bytes(texts.date.bytes()),
-        engineers: Text::from_bytes(texts.engineers.bytes()),
-        product: Text::from_bytes(texts.product.bytes()),
-        copyright: Text::from_bytes(texts.copyright.bytes()),
-        comment: Text::from_bytes(texts.comment.bytes()),
-        software: Text::from_bytes(texts.software.bytes()),
+        engine: Lent::new(texts.engine.bytes()),
+        name: Lent::new(texts.name.bytes()),
+        date: Lent::new(texts.date.bytes()),
+        engineers: Lent::new(texts.engineers.bytes()),
+        product: Lent::new(texts.product.bytes()),
+        copyright: Lent::new(texts.copyright.bytes()),
+        comment: Lent::new(texts.comment.bytes()),
+        software: Lent::new(texts.software.bytes()),
     }
 }
 
-fn copy_list<T: CopyOut + Drop>(
+/// Equal members.
+pub(crate) fn copy_list<T: CopyOut + Drop>(
     alloc: Global,
     list: &NumberedList<T>,
 ) -> Result<NumberedList<T>, OutOfMemory>

@@ -2,7 +2,7 @@
 ghost use Rattle.std.specs.Prelude.{◌≡◌};
 ghost use Rattle.bank_parts.specs.Counts.{records_of_global, records_of_zone, records_of, records_sum, records_total, all_counted};
 
-use crate::parts::{GlobalZone, Instrument, Preset, Zone};
+use crate::parts::{GlobalZone, WithZones, Zone};
 
 /// So many zones, generators and modulators: a zone's target is a generator, and an empty global zone
 /// is none.
@@ -62,19 +62,12 @@ impl Recorded for GlobalZone {
     }
 }
 
-impl Recorded for Preset {
-    ghost record_count = { λ preset. records_of preset.global preset.zones };
+impl<H> Recorded for WithZones<H> {
+    ghost record_count = { λ owner. records_of owner.global owner.zones };
 
     fn records(&self) -> Records {
-        zone_records(&self.global, self.zones.as_slice())
-    }
-}
-
-impl Recorded for Instrument {
-    ghost record_count = { λ instrument. records_of instrument.global instrument.zones };
-
-    fn records(&self) -> Records {
-        zone_records(&self.global, self.zones.as_slice())
+        let own = records_in(self.zones.as_slice());
+        self.global.records().plus(own)
     }
 }
 
@@ -91,10 +84,4 @@ pub(crate) fn records_in<T: Recorded>(members: &[T]) -> Records
         total = total.plus(member.records());
     }
     total
-}
-
-fn zone_records(shared: &GlobalZone, own: &[Zone]) -> Records
-    ensures { result ≡ all_counted (records_of shared.now own.now) }
-{
-    shared.records().plus(records_in(own))
 }

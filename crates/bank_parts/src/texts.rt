@@ -1,43 +1,8 @@
 //! The eight texts of a bank.
-ghost use Rattle.std.specs.Prelude.{◌≡◌, ◌<◌};
-ghost use Rattle.std.specs.List.{AllByRecursion};
+ghost use Rattle.std.specs.Prelude.{◌≡◌};
 ghost use Rattle.bank_parts.specs.Texts.{text_of};
 
-use std::marker::Model;
-
-/// A text, lent from the file or from a script's pool.
-#[derive(Debug, Drop)]
-pub struct Text<'a> {
-    bytes: &'a [u8],
-}
-
-impl<'a> Model for Text<'a> {
-    ghost use Rattle.std.specs.Prelude.{ℕ, List, ◌<◌};
-    ghost use Rattle.std.specs.List.{AllByRecursion};
-
-    ghost Value = { List ℕ };
-
-    ghost view = { λ text. text.bytes.now };
-
-    ghost invariant = { λ text. AllByRecursion (λ byte. byte < 256) text.bytes.now };
-}
-
-impl<'a> Text<'a> {
-    /// The text of these bytes, whatever they are.
-    pub fn from_bytes(bytes: &'a [u8]) -> Text<'a>
-        ensures { result ≡ bytes.now }
-    {
-        Text { bytes }
-    }
-
-    /// Its bytes.
-    pub fn bytes(&self) -> &'a [u8]
-        ensures value { result.now ≡ self.now }
-        ensures fits { AllByRecursion (λ byte. byte < 256) self.now }
-    {
-        self.bytes
-    }
-}
+use sf_base::Lent;
 
 /// Which of the eight texts (SoundFont 2.04, section 5).
 #[derive(Clone, Copy, Debug, PartialEq, Eq)]
@@ -60,18 +25,18 @@ pub enum InfoId {
     Software,
 }
 
-/// The eight texts. In a valid bank each has at most 255 bytes, the comment 65,535, none of them
+/// The eight texts, lent from the file or from a script's pool. In a valid bank each has at most 255 bytes, the comment 65,535, none of them
 /// zero, and the engine is not empty.
 #[derive(Debug, Drop)]
 pub struct Texts<'a> {
-    pub engine: Text<'a>,
-    pub name: Text<'a>,
-    pub date: Text<'a>,
-    pub engineers: Text<'a>,
-    pub product: Text<'a>,
-    pub copyright: Text<'a>,
-    pub comment: Text<'a>,
-    pub software: Text<'a>,
+    pub engine: Lent<'a>,
+    pub name: Lent<'a>,
+    pub date: Lent<'a>,
+    pub engineers: Lent<'a>,
+    pub product: Lent<'a>,
+    pub copyright: Lent<'a>,
+    pub comment: Lent<'a>,
+    pub software: Lent<'a>,
 }
 
 impl<'a> Texts<'a> {

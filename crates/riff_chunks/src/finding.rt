@@ -15,7 +15,7 @@ pub fn is_whole(window: &[u8]) -> bool
 }
 
 /// The body of the first chunk of an id in a window, up to a fault of its walk.
-pub fn body_of<'a>(window: &'a [u8], id: [u8; 4]) -> Option<&'a [u8]>
+pub(crate) fn body_of<'a>(window: &'a [u8], id: [u8; 4]) -> Option<&'a [u8]>
     ensures { option_copied result ≡ first_body id (chunks_in (walk window.now)) }
 {
     for item in Chunks::over(window) {

@@ -6,10 +6,13 @@
 
 mod chunks;
 mod finding;
+mod first;
+mod head;
 mod laws;
-mod writer;
 
 pub use chunks::{Chunks, LIST_ID, Truncated};
-pub use finding::{body_of, is_whole, list_of};
+pub use finding::{is_whole, list_of};
+pub use first::FirstChunks;
+pub use head::put_head;
 pub use laws::{spelled_chunks_are_found, unpadded_chunks_are_found, walk_is_the_one_list};
-pub use writer::ChunkWriter;
+

@@ -9,7 +9,7 @@ use Rattle.bank_format.specs.Tables.{Tables}
 use Rattle.bank_format.specs.Chunks.{window, body_in, tables_in, points_in}
 use Rattle.bank_format.specs.Reading.{Content, bank_of, counts_of, content_in}
 use Rattle.bank_format.specs.ReadSteps.{frame_steps, list_steps, chunk_step, nine, chunk_steps, size_steps, point_steps, content_steps, window_steps, steps, fault_of}
-use Rattle.sf_reader.specs.Lists.{Windows, windows_in, chunks}
+use Rattle.sf_reader.specs.Lists.{ListChunks, chunks_in_lists}
 use Rattle.sf_reader.specs.Hydra.{Bodies, bodies_in, whole_steps, tables_from}
 use Rattle.sf_reader.specs.Content.{list_content_steps, list_content, version_steps, table_steps, table_content, content_with}
 use Rattle.sf_reader.proofs.StepLaws.{fails_front, fails_after, none_after}
@@ -17,50 +17,50 @@ use Rattle.sf_reader.proofs.TableLaws.{from_counts_are}
 
 -- ---- of the three lists, where the parts were found
 
-abbrev pub ifil_in : Windows → List ℕ
-ifil_in w = body_in IFIL (chunks w.info)
+abbrev pub ifil_in : ListChunks → List ℕ
+ifil_in w = body_in IFIL w.info
 
-abbrev pub smpl_in : Windows → List ℕ
-smpl_in w = body_in SMPL (chunks w.sdta)
+abbrev pub smpl_in : ListChunks → List ℕ
+smpl_in w = body_in SMPL w.sdta
 
-abbrev pub nine_in : Windows → Bodies
-nine_in w = bodies_in (chunks w.pdta)
+abbrev pub nine_in : ListChunks → Bodies
+nine_in w = bodies_in w.pdta
 
-abbrev pub version_there : Windows → List Step
-version_there w = chunk_step (chunks w.info) IFIL ∷ []
+abbrev pub version_there : ListChunks → List Step
+version_there w = chunk_step w.info IFIL ∷ []
 
-abbrev pub nine_there : Windows → List Step
-nine_there w = map (chunk_step (chunks w.pdta)) nine
+abbrev pub nine_there : ListChunks → List Step
+nine_there w = map (chunk_step w.pdta) nine
 
 -- the steps from a part on
-abbrev pub from_whole : Windows → List Step
+abbrev pub from_whole : ListChunks → List Step
 from_whole w = whole_steps (nine_in w) ++ table_steps (tables_from (nine_in w)) (smpl_in w)
 
-abbrev pub from_version : Windows → List Step
+abbrev pub from_version : ListChunks → List Step
 from_version w = version_steps (ifil_in w) ++ from_whole w
 
-abbrev pub from_nine : Windows → List Step
+abbrev pub from_nine : ListChunks → List Step
 from_nine w = nine_there w ++ from_version w
 
-pub lists_in_parts : (w : Windows) → list_content_steps w ≡ version_there w ++ from_nine w
+pub lists_in_parts : (w : ListChunks) → list_content_steps w ≡ version_there w ++ from_nine w
 unfolding content_steps chunk_steps size_steps point_steps points_in tables_in bodies_in whole_steps tables_from
 lists_in_parts w =
     ap (λ (l : List Step). version_there w ++ (nine_there w ++ (version_steps (ifil_in w) ++ (whole_steps (nine_in w) ++ l))))
-    (from_counts_are (chunks w.info) (chunks w.sdta) (tables_from (nine_in w)) (smpl_in w))
+    (from_counts_are w.info w.sdta (tables_from (nine_in w)) (smpl_in w))
 
-pub content_in_parts : (w : Windows) → list_content w ≡ table_content (field_at 2 2 (ifil_in w)) w (tables_from (nine_in w)) (smpl_in w)
+pub content_in_parts : (w : ListChunks) → list_content w ≡ table_content (field_at 2 2 (ifil_in w)) w (tables_from (nine_in w)) (smpl_in w)
 unfolding bank_of counts_of points_in tables_in bodies_in tables_from content_with
 content_in_parts w = refl
 
 -- ---- what the reader has found of the lists before it looks at the records
 
-pub record Opened (w : Windows) (version : List ℕ) (bodies : Bodies) : Type 0 where
+pub record Opened (w : ListChunks) (version : List ℕ) (bodies : Bodies) : Type 0 where
   pub there : first_broken (version_there w) ≡ None
   pub version_is : version ≡ ifil_in w
   pub nine : first_broken (nine_there w) ≡ None
   pub bodies_are : bodies ≡ nine_in w
 
-pub record Cut (w : Windows) (version : List ℕ) (bodies : Bodies) (minor : ℕ) (t : Tables) (smpl : List ℕ) : Type 0 where
+pub record Cut (w : ListChunks) (version : List ℕ) (bodies : Bodies) (minor : ℕ) (t : Tables) (smpl : List ℕ) : Type 0 where
   pub opened : Opened w version bodies
   pub version_holds : first_broken (version_steps version) ≡ None
   pub minor_is : minor ≡ field_at 2 2 version
@@ -70,7 +70,7 @@ pub record Cut (w : Windows) (version : List ℕ) (bodies : Bodies) (minor : ℕ
 
 -- ---- a fault of a part is that of the lists
 
-module _ (w : Windows) (e : Failure ReadFault) where
+module _ (w : ListChunks) (e : Failure ReadFault) where
   pub in_there : Fails e (first_broken (version_there w)) → Fails e (first_broken (list_content_steps w))
   in_there h = rw lists_in_parts (fails_front e (version_there w) (from_nine w) h)
 
@@ -106,7 +106,7 @@ module _ (w : Windows) (e : Failure ReadFault) where
       (rw (← k.tables_are, ← k.smpl_is) h))
 
 -- the lists hold, and say what their parts do
-pub lists_hold : (w : Windows) (version : List ℕ) (bodies : Bodies) (minor : ℕ) (t : Tables) (smpl : List ℕ) → Cut w version bodies minor t smpl
+pub lists_hold : (w : ListChunks) (version : List ℕ) (bodies : Bodies) (minor : ℕ) (t : Tables) (smpl : List ℕ) → Cut w version bodies minor t smpl
     → first_broken (table_steps t smpl) ≡ None → (first_broken (list_content_steps w) ≡ None) × (table_content minor w t smpl ≡ list_content w)
 lists_hold w version bodies minor t smpl k none =
     let o = k.opened in
@@ -125,7 +125,7 @@ lists_hold w version bodies minor t smpl k none =
     )
 
 -- the tables pass, and so do the lists
-pub tables_pass : {X : Type 0} (seen : X → Content) (r : Result X (Failure ReadFault)) (w : Windows) (version : List ℕ) (bodies : Bodies) (minor : ℕ) (t : Tables) (smpl : List ℕ)
+pub tables_pass : {X : Type 0} (seen : X → Content) (r : Result X (Failure ReadFault)) (w : ListChunks) (version : List ℕ) (bodies : Bodies) (minor : ℕ) (t : Tables) (smpl : List ℕ)
     → Cut w version bodies minor t smpl → PassesGivenMemory seen r (table_steps t smpl) (table_content minor w t smpl) → PassesGivenMemory seen r (list_content_steps w) (list_content w)
 tables_pass seen (Ok x) w version bodies minor t smpl k h =
     let hold = lists_hold w version bodies minor t smpl k h.0 in
@@ -134,24 +134,24 @@ tables_pass seen (Err e) w version bodies minor t smpl k h = in_tables w e versi
 
 -- ---- of a file
 
-pub file_in_parts : (file : List ℕ) → steps file ≡ frame_steps file ++ (list_steps (window file) ++ list_content_steps (windows_in (window file)))
-unfolding steps window_steps windows_in
+pub file_in_parts : (file : List ℕ) → steps file ≡ frame_steps file ++ (list_steps (window file) ++ list_content_steps (chunks_in_lists (window file)))
+unfolding steps window_steps chunks_in_lists
 file_in_parts file = refl
 
-pub content_is : (file : List ℕ) → content_in (window file) ≡ list_content (windows_in (window file))
-unfolding content_in windows_in
+pub content_is : (file : List ℕ) → content_in (window file) ≡ list_content (chunks_in_lists (window file))
+unfolding content_in chunks_in_lists
 content_is file = refl
 
 -- the file holds, and says what its lists do
-pub file_holds : (file w : List ℕ) (v : Windows) → w ≡ window file → v ≡ windows_in w
+pub file_holds : (file w : List ℕ) (v : ListChunks) → w ≡ window file → v ≡ chunks_in_lists w
     → first_broken (frame_steps file) ≡ None → first_broken (list_steps w) ≡ None → first_broken (list_content_steps v) ≡ None
     → (fault_of file ≡ None) × (list_content v ≡ content_in (window file))
 file_holds file w v ew ev frame lists inside =
-    let vw : v ≡ windows_in (window file) = ev ∙ ap windows_in ew in
+    let vw : v ≡ chunks_in_lists (window file) = ev ∙ ap chunks_in_lists ew in
     let there : first_broken (list_steps (window file)) ≡ None = ap (λ (l : List ℕ). first_broken (list_steps l)) (sym ew) ∙ lists in
-    let held : first_broken (list_content_steps (windows_in (window file))) ≡ None = ap (λ (u : Windows). first_broken (list_content_steps u)) (sym vw) ∙ inside in (
-      rw file_in_parts (none_after (frame_steps file) (list_steps (window file) ++ list_content_steps (windows_in (window file))) frame
-          (none_after (list_steps (window file)) (list_content_steps (windows_in (window file))) there held)),
+    let held : first_broken (list_content_steps (chunks_in_lists (window file))) ≡ None = ap (λ (u : ListChunks). first_broken (list_content_steps u)) (sym vw) ∙ inside in (
+      rw file_in_parts (none_after (frame_steps file) (list_steps (window file) ++ list_content_steps (chunks_in_lists (window file))) frame
+          (none_after (list_steps (window file)) (list_content_steps (chunks_in_lists (window file))) there held)),
       ap list_content vw ∙ sym (content_is file),
     )
 
@@ -159,7 +159,7 @@ file_holds file w v ew ev frame lists inside =
 
 module _ (file : List ℕ) (e : Failure ReadFault) where
   abbrev rest : List Step
-  rest = list_steps (window file) ++ list_content_steps (windows_in (window file))
+  rest = list_steps (window file) ++ list_content_steps (chunks_in_lists (window file))
 
   pub in_frame : Fails e (first_broken (frame_steps file)) → Fails e (fault_of file)
   in_frame h = rw file_in_parts (fails_front e (frame_steps file) rest h)
@@ -169,12 +169,12 @@ module _ (file : List ℕ) (e : Failure ReadFault) where
 
   pub in_lists : (w : List ℕ) → w ≡ window file → first_broken (frame_steps file) ≡ None → Fails e (first_broken (list_steps w)) → Fails e (fault_of file)
   in_lists w ew frame h =
-      past_frame frame (fails_front e (list_steps (window file)) (list_content_steps (windows_in (window file)))
+      past_frame frame (fails_front e (list_steps (window file)) (list_content_steps (chunks_in_lists (window file)))
       (subst (λ (l : List ℕ). Fails e (first_broken (list_steps l))) ew h))
 
-  pub in_content : (w : List ℕ) (v : Windows) → w ≡ window file → v ≡ windows_in w → first_broken (frame_steps file) ≡ None → first_broken (list_steps w) ≡ None
+  pub in_content : (w : List ℕ) (v : ListChunks) → w ≡ window file → v ≡ chunks_in_lists w → first_broken (frame_steps file) ≡ None → first_broken (list_steps w) ≡ None
       → Fails e (first_broken (list_content_steps v)) → Fails e (fault_of file)
   in_content w v ew ev frame lists h =
       let held : first_broken (list_steps (window file)) ≡ None = ap (λ (l : List ℕ). first_broken (list_steps l)) (sym ew) ∙ lists in
-      past_frame frame (fails_after e (list_steps (window file)) (list_content_steps (windows_in (window file))) held
-      (subst (λ (u : Windows). Fails e (first_broken (list_content_steps u))) (ev ∙ ap windows_in ew) h))
+      past_frame frame (fails_after e (list_steps (window file)) (list_content_steps (chunks_in_lists (window file))) held
+      (subst (λ (u : ListChunks). Fails e (first_broken (list_content_steps u))) (ev ∙ ap chunks_in_lists ew) h))

@@ -12,17 +12,17 @@ use Rattle.bank_format.specs.Samples.{is_loop_lost, is_link_lost}
 use Rattle.bank_format.specs.Chunks.{tables_in}
 use Rattle.bank_format.specs.Reading.{Content, samples_read, sm24_dropped, content_of}
 use Rattle.bank_format.specs.ReadSteps.{count_steps, all_index_steps, sample_step, total_steps, content_steps}
-use Rattle.sf_reader.specs.Lists.{Windows, chunks}
+use Rattle.sf_reader.specs.Lists.{ListChunks}
 use Rattle.sf_reader.specs.declared.owners.Members.{Members}
 use Rattle.sf_reader.specs.Owners.{members_of, member_steps}
 
 -- ---- of the three lists
 
-abbrev pub list_content_steps : Windows → List Step
-list_content_steps w = content_steps (chunks w.info) (chunks w.sdta) (chunks w.pdta) (tables_in (chunks w.pdta))
+abbrev pub list_content_steps : ListChunks → List Step
+list_content_steps w = content_steps w.info w.sdta w.pdta (tables_in w.pdta)
 
-abbrev pub list_content : Windows → Content
-list_content w = content_of (chunks w.info) (chunks w.sdta) (tables_in (chunks w.pdta))
+abbrev pub list_content : ListChunks → Content
+list_content w = content_of w.info w.sdta (tables_in w.pdta)
 
 -- ---- of a version, tables and points
 
@@ -47,18 +47,18 @@ abbrev pub table_steps : Tables → List ℕ → List Step
 table_steps t smpl = checked_steps t smpl ++ (member_steps t ++ total_steps (rows t.shdr))
 
 -- the bank and the counts, of presets, instruments and samples
-unfoldable pub content_with : ℕ → Windows → Tables → Members → List Sample → Content
+unfoldable pub content_with : ℕ → ListChunks → Tables → Members → List Sample → Content
 content_with minor w t members samples = record {
   bank = record {
     minor = minor;
-    texts = texts_read (chunks w.info);
+    texts = texts_read w.info;
     presets = members.presets.owners;
     instruments = members.instruments.owners;
     samples = samples;
   };
   counts = record {
-    texts = texts_cut (chunks w.info);
-    sm24 = sm24_dropped (chunks w.sdta);
+    texts = texts_cut w.info;
+    sm24 = sm24_dropped w.sdta;
     zones = members.presets.counts.zones + members.instruments.counts.zones;
     gens = members.presets.counts.gens + members.instruments.counts.gens;
     ranges = members.presets.counts.ranges + members.instruments.counts.ranges;
@@ -68,5 +68,5 @@ content_with minor w t members samples = record {
 }
 
 -- of a minor version, tables and points
-abbrev pub table_content : ℕ → Windows → Tables → List ℕ → Content
+abbrev pub table_content : ℕ → ListChunks → Tables → List ℕ → Content
 table_content minor w t smpl = content_with minor w t (members_of t) (samples_read (words smpl) (rows t.shdr))

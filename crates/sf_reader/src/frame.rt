@@ -3,10 +3,10 @@ ghost use Rattle.std.specs.Prelude.{◌≡◌};
 ghost use Rattle.bank_format.specs.Steps.{Passes};
 ghost use Rattle.bank_format.specs.Chunks.{window};
 ghost use Rattle.bank_format.specs.ReadSteps.{frame_steps, list_steps};
-ghost use Rattle.sf_reader.specs.Lists.{windows_in};
+ghost use Rattle.sf_reader.specs.Lists.{chunks_in_lists};
 
 use bank_format::ReadFault;
-use riff_chunks::{is_whole, list_of};
+use riff_chunks::{FirstChunks, is_whole, list_of};
 use sf_base::{front_of, part_of, rest_from, u32_at};
 use std::marker::Model;
 
@@ -41,31 +41,39 @@ pub(crate) fn window_of(file: &[u8]) -> Result<&[u8], ReadFault>
     ))
 }
 
-/// The three lists of a file, each as the window after its form (SoundFont 2.04, section 4).
+/// The chunks of `INFO` that are read: the version, and the eight texts.
+const INFO_IDS: &[[u8; 4]] = &[
+    *b"ifil", *b"isng", *b"INAM", *b"ICRD", *b"IENG", *b"IPRD", *b"ICOP", *b"ICMT", *b"ISFT",
+];
+
+/// The chunks of `sdta`: the points, and the eight further bits of each.
+const SDTA_IDS: &[[u8; 4]] = &[*b"smpl", *b"sm24"];
+
+/// The chunks of `pdta`: the nine lists of records.
+const PDTA_IDS: &[[u8; 4]] = &[
+    *b"phdr", *b"pbag", *b"pmod", *b"pgen", *b"inst", *b"ibag", *b"imod", *b"igen", *b"shdr",
+];
+
+/// The three lists of a file, each as its chunks (SoundFont 2.04, section 4).
 #[derive(Drop)]
 pub(crate) struct Lists<'a> {
-    /// `INFO`: the version and the texts.
-    pub info: &'a [u8],
-
-    /// `sdta`: the points.
-    pub sdta: &'a [u8],
-
-    /// `pdta`: the nine lists of records.
-    pub pdta: &'a [u8],
+    pub info: FirstChunks<'a>,
+    pub sdta: FirstChunks<'a>,
+    pub pdta: FirstChunks<'a>,
 }
 
 impl<'a> Model for Lists<'a> {
-    ghost use Rattle.sf_reader.specs.Lists.{Windows};
+    ghost use Rattle.sf_reader.specs.Lists.{ListChunks};
 
-    ghost Value = { Windows };
+    ghost Value = { ListChunks };
 
-    ghost view = { λ lists. record { info = lists.info.now; sdta = lists.sdta.now; pdta = lists.pdta.now } };
+    ghost view = { λ lists. record { info = lists.info; sdta = lists.sdta; pdta = lists.pdta } };
 }
 
-/// The first list of each form in the body of the RIFF chunk. Each is walked to its end.
-#[tactic(auto, unfolding(crate::specs::Lists::windows_in, bank_format::specs::ReadSteps::list_steps, bank_format::specs::Chunks::list_window, bank_format::specs::Ids::INFO, bank_format::specs::Ids::SDTA, bank_format::specs::Ids::PDTA))]
+/// The first list of each form in the body of the RIFF chunk. Each is walked once, to its end.
+#[tactic(auto, unfolding(crate::specs::Lists::chunks_in_lists, bank_format::specs::ReadSteps::list_steps, bank_format::specs::Chunks::list_window, bank_format::specs::Ids::INFO, bank_format::specs::Ids::SDTA, bank_format::specs::Ids::PDTA))]
 pub(crate) fn lists_of(window: &[u8]) -> Result<Lists, ReadFault>
-    ensures { Passes (λ lists. lists) result (list_steps window.now) (windows_in window.now) }
+    ensures { Passes (λ lists. lists) result (list_steps window.now) (chunks_in_lists window.now) }
 {
     if !is_whole(window) {
         return Err(ReadFault::Truncated);
@@ -73,8 +81,9 @@ pub(crate) fn lists_of(window: &[u8]) -> Result<Lists, ReadFault>
     let info = list_of(window, *b"INFO").ok_or(ReadFault::MissingList)?;
     let sdta = list_of(window, *b"sdta").ok_or(ReadFault::MissingList)?;
     let pdta = list_of(window, *b"pdta").ok_or(ReadFault::MissingList)?;
-    if !is_whole(info) || !is_whole(sdta) || !is_whole(pdta) {
-        return Err(ReadFault::Truncated);
-    }
-    Ok(Lists { info, sdta, pdta })
+    Ok(Lists {
+        info: FirstChunks::over(info, INFO_IDS)?,
+        sdta: FirstChunks::over(sdta, SDTA_IDS)?,
+        pdta: FirstChunks::over(pdta, PDTA_IDS)?,
+    })
 }

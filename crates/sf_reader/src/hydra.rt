@@ -4,7 +4,6 @@ ghost use Rattle.std.specs.List.{list_all};
 ghost use Rattle.bank_format.specs.Steps.{Passes};
 ghost use Rattle.bank_format.specs.Chunks.{body_in, or_zero};
 ghost use Rattle.bank_format.specs.ReadSteps.{chunk_step, nine, record_counts, count_steps, all_index_steps};
-ghost use Rattle.sf_reader.specs.Lists.{chunks};
 ghost use Rattle.sf_reader.specs.Hydra.{bodies_in, whole_steps, tables_from, level_whole_steps, level_of, level_index_steps, AreLists};
 
 use crate::heads::OwnerHead;
@@ -12,16 +11,15 @@ use crate::indexes::{FirstBag, FirstGenerator, FirstModulator, check_indexes};
 use bank_format::ReadFault;
 use hydra_records::{Bag, Generator, InstrumentHead, PresetHead, Record, SampleHead, Table};
 use modulators::Modulator;
-use riff_chunks::body_of;
+use riff_chunks::FirstChunks;
 use sf_base::limits::RECORDS;
 use std::marker::Model;
 
 /// The body of the first chunk of an id, which has to be there.
-pub(crate) fn needed_body(window: &[u8], id: [u8; 4]) -> Result<&[u8], ReadFault>
-    ensures { Passes (λ body. body.now) result (chunk_step (chunks window.now) id ∷ [])
-        (body_in id (chunks window.now)) }
+pub(crate) fn needed_body<'a>(chunks: &FirstChunks<'a>, id: [u8; 4]) -> Result<&'a [u8], ReadFault>
+    ensures { Passes (λ body. body.now) result (chunk_step chunks.now id ∷ []) (body_in id chunks.now) }
 {
-    body_of(window, id).ok_or(ReadFault::MissingChunk)
+    chunks.body_of(id).ok_or(ReadFault::MissingChunk)
 }
 
 /// The bodies of the four chunks of presets, or of instruments.
@@ -62,9 +60,9 @@ impl<'a> Model for HydraChunks<'a> {
 impl<'a> HydraChunks<'a> {
     /// The first chunk of each of the nine ids, all of which have to be there.
     #[tactic(auto, unfolding(crate::specs::Hydra::bodies_in, bank_format::specs::Ids::PHDR, bank_format::specs::Ids::PBAG, bank_format::specs::Ids::PMOD, bank_format::specs::Ids::PGEN, bank_format::specs::Ids::INST, bank_format::specs::Ids::IBAG, bank_format::specs::Ids::IMOD, bank_format::specs::Ids::IGEN, bank_format::specs::Ids::SHDR))]
-    pub fn of(pdta: &'a [u8]) -> Result<HydraChunks<'a>, ReadFault>
-        ensures { Passes (λ bodies. bodies) result (map (chunk_step (chunks pdta.now)) nine)
-            (bodies_in (chunks pdta.now)) }
+    pub fn of(pdta: &FirstChunks<'a>) -> Result<HydraChunks<'a>, ReadFault>
+        ensures { Passes (λ bodies. bodies) result (map (chunk_step pdta.now) nine)
+            (bodies_in pdta.now) }
     {
         Ok(HydraChunks {
             presets: LevelChunks {

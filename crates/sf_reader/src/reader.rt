@@ -8,7 +8,6 @@ ghost use Rattle.bank_format.specs.Steps.{Passes, PassesGivenMemory, Fails};
 ghost use Rattle.bank_format.specs.Chunks.{body_in};
 ghost use Rattle.bank_format.specs.Reading.{sm24_dropped};
 ghost use Rattle.bank_format.specs.ReadSteps.{ReadsAs, fault_of};
-ghost use Rattle.sf_reader.specs.Lists.{chunks};
 ghost use Rattle.sf_reader.specs.Content.{list_content_steps, list_content, version_steps, checked_steps, table_steps, table_content, content_with};
 ghost use Rattle.sf_reader.specs.Owners.{added, AreSmall};
 
@@ -22,7 +21,7 @@ use crate::texts::{count_cut, cut_texts, texts_of};
 use bank_core::{Bank, Parts, Sample};
 use bank_format::{Counts, ReadFault, read_banks_are_valid};
 use numbered_lists::NumberedList;
-use riff_chunks::body_of;
+use riff_chunks::FirstChunks;
 use sf_base::{Failure, u16_at};
 use std::alloc::Global;
 
@@ -53,11 +52,11 @@ fn read_lists<'a>(
     ensures { PassesGivenMemory (λ r. record { bank = r.0; counts = r.1 }) result (list_content_steps lists.now)
         (list_content lists.now) }
 {
-    let version = needed_body(lists.info, *b"ifil")?;
-    let bodies = HydraChunks::of(lists.pdta)?;
+    let version = needed_body(&lists.info, *b"ifil")?;
+    let bodies = HydraChunks::of(&lists.pdta)?;
     let minor = minor_of(version)?;
     let tables = bodies.tables()?;
-    let smpl = smpl_of(lists.sdta);
+    let smpl = smpl_of(&lists.sdta);
     read_tables(alloc, minor, lists, &tables, smpl)
 }
 
@@ -73,10 +72,10 @@ fn minor_of(ifil: &[u8]) -> Result<u16, ReadFault>
 
 // The bytes of the points. A missing chunk holds none.
 #[tactic(auto, unfolding(bank_format::specs::Ids::SMPL))]
-fn smpl_of(sdta: &[u8]) -> &[u8]
-    ensures { result.now ≡ body_in SMPL (chunks sdta.now) }
+fn smpl_of<'a>(sdta: &FirstChunks<'a>) -> &'a [u8]
+    ensures { result.now ≡ body_in SMPL sdta.now }
 {
-    body_of(sdta, *b"smpl").unwrap_or(&[])
+    sdta.body_of(*b"smpl").unwrap_or(&[])
 }
 
 // What the nine lists and the points hold.
@@ -123,11 +122,11 @@ fn content_of<'a>(
     ensures { record { bank = result.0; counts = result.1 }
         ≡ content_with minor lists.now tables.now members samples.entry }
 {
-    let texts = texts_of(lists.info);
+    let texts = texts_of(&lists.info);
     let zone_counts = add(members.presets.counts, members.instruments.counts);
     let counts = Counts {
         texts: count_cut(&texts),
-        sm24: count_sm24(lists.sdta),
+        sm24: count_sm24(&lists.sdta),
         zones: zone_counts.zones,
         gens: zone_counts.gens,
         ranges: zone_counts.ranges,
@@ -146,8 +145,8 @@ fn content_of<'a>(
 
 // One where there is a chunk of the eight further bits of each point.
 #[tactic(auto, unfolding(bank_format::specs::Ids::SM24))]
-fn count_sm24(sdta: &[u8]) -> u64
-    ensures { result ≡ sm24_dropped (chunks sdta.now) }
+fn count_sm24(sdta: &FirstChunks<'_>) -> u64
+    ensures { result ≡ sm24_dropped sdta.now }
 {
-    u64::from(body_of(sdta, *b"sm24").is_some())
+    u64::from(sdta.body_of(*b"sm24").is_some())
 }

@@ -2,13 +2,12 @@
 ghost use Rattle.std.specs.Prelude.{◌≡◌, ◌≤◌, ◌==◌, take};
 ghost use Rattle.sf_base.specs.Names.{before_zero};
 ghost use Rattle.bank_format.specs.Texts.{text_in, engine_read, over};
-ghost use Rattle.sf_reader.specs.Lists.{chunks};
 ghost use Rattle.sf_reader.specs.Texts.{texts_in, cut_of, cut_count};
 
-use bank_core::{Text, Texts};
-use riff_chunks::body_of;
+use bank_core::Texts;
+use riff_chunks::FirstChunks;
 use sf_base::limits::{COMMENT_LENGTH, TEXT_LENGTH};
-use sf_base::{Name20, front_of};
+use sf_base::{Lent, Name20, front_of};
 
 /// The bytes before the first zero.
 pub(crate) fn before_zero(bytes: &[u8]) -> &[u8]
@@ -30,8 +29,8 @@ pub(crate) fn name_of(field: &[u8; 20]) -> Name20
 
 /// The eight texts of the list `INFO`, before any is cut. A missing one is empty.
 #[tactic(auto, unfolding(crate::specs::Texts::texts_in, bank_format::specs::Ids::ISNG, bank_format::specs::Ids::INAM, bank_format::specs::Ids::ICRD, bank_format::specs::Ids::IENG, bank_format::specs::Ids::IPRD, bank_format::specs::Ids::ICOP, bank_format::specs::Ids::ICMT, bank_format::specs::Ids::ISFT))]
-pub(crate) fn texts_of(info: &[u8]) -> Texts
-    ensures { result ≡ texts_in (chunks info.now) }
+pub(crate) fn texts_of<'a>(info: &FirstChunks<'a>) -> Texts<'a>
+    ensures { result ≡ texts_in info.now }
 {
     Texts {
         engine: text_of(info, *b"isng"),
@@ -46,11 +45,11 @@ pub(crate) fn texts_of(info: &[u8]) -> Texts
 }
 
 // The first text of an id.
-fn text_of(info: &[u8], id: [u8; 4]) -> Text
-    ensures { result ≡ text_in id (chunks info.now) }
+fn text_of<'a>(info: &FirstChunks<'a>, id: [u8; 4]) -> Lent<'a>
+    ensures { result ≡ text_in id info.now }
 {
-    let body = body_of(info, id).unwrap_or(&[]);
-    Text::from_bytes(before_zero(body))
+    let body = info.body_of(id).unwrap_or(&[]);
+    Lent::new(before_zero(body))
 }
 
 /// The texts as a bank has them: cut to the lengths that a bank allows, and with an engine.
@@ -71,21 +70,21 @@ pub(crate) fn cut_texts<'a>(texts: &Texts<'a>) -> Texts<'a>
 }
 
 // The first `most` bytes of a text.
-fn cut<'a>(text: &Text<'a>, most: usize) -> Text<'a>
+fn cut<'a>(text: &Lent<'a>, most: usize) -> Lent<'a>
     ensures { result ≡ take most text.now }
 {
-    Text::from_bytes(front_of(text.bytes(), most))
+    Lent::new(front_of(text.bytes(), most))
 }
 
 // The engine that a file names, or else the one for which every bank can be taken.
 #[tactic(auto, unfolding(bank_format::specs::Ids::EMU8000))]
-fn engine_or_default(engine: &[u8]) -> Text
+fn engine_or_default(engine: &[u8]) -> Lent
     ensures { result ≡ engine_read engine.now }
 {
     if engine.is_empty() {
-        return Text::from_bytes(b"EMU8000");
+        return Lent::new(b"EMU8000");
     }
-    Text::from_bytes(engine)
+    Lent::new(engine)
 }
 
 /// How many of the texts are longer than a bank allows.
@@ -104,7 +103,7 @@ pub(crate) fn count_cut(texts: &Texts) -> u64
 }
 
 // One where a text is longer.
-fn over(text: &Text, most: usize) -> u64
+fn over(text: &Lent, most: usize) -> u64
     ensures value { result ≡ over most text.now }
     ensures small { result ≤ 1 }
 {

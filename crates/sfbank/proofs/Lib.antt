@@ -2,6 +2,5 @@ pub mod Alone
 pub mod Applying
 pub mod Faults
 pub mod Lines
-pub mod Pieces
 pub mod Restores
 pub mod Texts

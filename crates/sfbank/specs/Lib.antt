@@ -8,4 +8,3 @@ pub mod Outcome
 pub mod Written
 pub mod Planned
 pub mod Plans
-pub mod FaultLines

@@ -8,10 +8,8 @@ mod fault;
 mod plan;
 mod run;
 mod show;
-mod telling;
 
 pub use canon::canon_run;
 pub use fault::{RunFault, Which};
 pub use run::edit_run;
 pub use show::show_run;
-pub use telling::fault_text;

@@ -1,2 +1,3 @@
+mod Pieces
 mod ReadInPlace
 mod ToldLines

@@ -1,3 +1,4 @@
+pub mod FaultLines
 pub mod Inputs
 pub mod Telling
 pub mod Words

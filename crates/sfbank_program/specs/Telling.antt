@@ -1,7 +1,7 @@
 -- How a fault is told: a line on the standard error, and an exit status.
-use Rattle.std.specs.Prelude.{◌≡◌, ◌++◌, ℕ, List, codes, take, ⊤, Option, ◌⊎◌}
+use Rattle.std.specs.Prelude.{◌≡◌, ℕ, List, codes, take, ⊤, Option, ◌⊎◌}
 use Rattle.std.specs.Io.KnownBytes.{Appends, Keeps}
-use Rattle.sfbank.specs.FaultLines as runs
+use Rattle.sfbank_program.specs.FaultLines as lines
 use Rattle.sfbank_program.specs.declared.fault.Fault.{Fault}
 use Rattle.sfbank_program.specs.declared.fault.Fault.TheVariants.{Words, NotText, File, Run}
 
@@ -10,15 +10,7 @@ abbrev pub status_of : Fault → ℕ
 status_of (Words error) = 1
 status_of NotText = 1
 status_of (File path) = 5
-status_of (Run fault path) = runs.status_of fault
-
--- a path, and the end of its line
-unfoldable pub path_line : List ℕ → List ℕ
-path_line path = path ++ codes "\n"
-
--- the line of a file that can't be read, or is too long
-unfoldable pub file_line : List ℕ → List ℕ
-file_line path = codes "sfbank: file fault " ++ path_line path
+status_of (Run fault path) = lines.status_of fault
 
 -- the line goes out, or a front of it where a write fails, and nothing else
 abbrev pub GoesOut : Option (List ℕ) → Option (List ℕ) → List ℕ → Type 0
@@ -28,8 +20,8 @@ GoesOut old new line = (written : ℕ) × Appends old new (take written line)
 abbrev pub Tells : Option (List ℕ) → Option (List ℕ) → Fault → Type 0
 Tells old new (Words error) = ⊤
 Tells old new NotText = GoesOut old new (codes "error: a word is not text\n")
-Tells old new (File path) = GoesOut old new (file_line path.now)
-Tells old new (Run fault path) = GoesOut old new (runs.fault_line path.now fault)
+Tells old new (File path) = GoesOut old new (lines.file_line path.now)
+Tells old new (Run fault path) = GoesOut old new (lines.fault_line path.now fault)
 
 -- A run that is done tells nothing, with status 0. Any other tells its fault, with the status of it.
 abbrev pub Ends : Option (List ℕ) → Option (List ℕ) → ℕ → Type 0

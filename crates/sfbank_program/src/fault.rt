@@ -1,5 +1,6 @@
 //! How a command ends that is not done.
 use sfbank::RunFault;
+use std::alloc::AllocError;
 
 /// The path by which the standard output is named in a fault.
 pub(crate) const STANDARD_OUTPUT: &str = "-";
@@ -15,4 +16,10 @@ pub(crate) enum Fault<'a> {
     File(&'a str),
     /// The run is not done. Where a write failed, it is at this path.
     Run(RunFault, &'a str),
+}
+
+impl From<AllocError> for Fault<'_> {
+    fn from(_error: AllocError) -> Self {
+        Fault::Run(RunFault::Memory, STANDARD_OUTPUT)
+    }
 }

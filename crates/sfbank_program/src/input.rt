@@ -2,9 +2,11 @@
 ghost use Rattle.std.specs.Prelude.{◌≡◌, ◌≢◌, ◌+◌, ◌<◌, ◌≤◌, IfOk, IfErr, OnOk, vec_len, length, take, drop};
 ghost use Rattle.std.specs.Io.KnownBytes.{Consumes, IsAtEnd};
 ghost use Rattle.sfbank_program.specs.Inputs.{most_bytes, TakesPiece, TakesAll, TakesMost};
-ghost use Rattle.sfbank_program.specs.declared.input.InputFault.TheVariants.{TooLong, Unreadable, OutOfMemory};
+ghost use Rattle.sf_base.specs.declared.memory.Failure.TheVariants.{Fault as FaultOf};
+ghost use Rattle.sfbank_program.specs.declared.input.InputFault.TheVariants.{TooLong, Unreadable};
 
 use crate::fault::Fault;
+use sf_base::Failure;
 use sf_base::limits::FILE_LENGTH;
 use sfbank::RunFault;
 use std::alloc::{AllocError, Global};
@@ -25,15 +27,13 @@ pub enum InputFault {
     Unreadable,
     /// There are more bytes than a file has at most.
     TooLong,
-    /// A growth was refused.
-    OutOfMemory,
 }
 
-impl From<AllocError> for InputFault {
-    ghost from_gives = { λ _ fault. fault ≡ OutOfMemory };
+impl From<InputFault> for Failure<InputFault> {
+    ghost from_gives = { λ fault failure. failure ≡ FaultOf fault };
 
-    fn from(_error: AllocError) -> InputFault {
-        InputFault::OutOfMemory
+    fn from(fault: InputFault) -> Failure<InputFault> {
+        Failure::Fault(fault)
     }
 }
 
@@ -43,9 +43,9 @@ pub fn read_whole<R: Read>(
     alloc: Global,
     input: &mut R,
     expected: u64,
-) -> Result<Vec<u8>, InputFault>
+) -> Result<Vec<u8>, Failure<InputFault>>
     ensures whole { IfOk result (λ bytes. TakesAll (R.remaining input.old) (R.remaining input.new) bytes.items) }
-    ensures too_long { IfErr result (λ fault. fault ≡ TooLong → TakesMost (R.remaining input.old) (R.remaining input.new)) }
+    ensures too_long { IfErr result (λ failure. failure ≡ FaultOf TooLong → TakesMost (R.remaining input.old) (R.remaining input.new)) }
 {
     let first = expected.min(FILE_LENGTH) as usize + 1;
     let mut bytes = Vec::with_capacity(alloc, first)?;
@@ -54,15 +54,15 @@ pub fn read_whole<R: Read>(
             return Ok(bytes);
         }
     }
-    Err(InputFault::TooLong)
+    Err(Failure::Fault(InputFault::TooLong))
 }
 
 /// Reads the next bytes of an input after those that it gave before, and answers how many.
-fn read_piece<R: Read>(input: &mut R, bytes: &mut Vec<u8>) -> Result<usize, InputFault>
+fn read_piece<R: Read>(input: &mut R, bytes: &mut Vec<u8>) -> Result<usize, Failure<InputFault>>
     requires { vec_len bytes.old < most_bytes }
     ensures within { OnOk result (vec_len bytes.new ≤ most_bytes) }
     ensures taken { IfOk result (TakesPiece (R.remaining input.old) (R.remaining input.new) bytes.old.items bytes.new.items) }
-    ensures kinds { IfErr result (λ fault. fault ≢ TooLong) }
+    ensures kinds { IfErr result (λ failure. failure ≢ FaultOf TooLong) }
 {
     let at = bytes.len();
     add_room(bytes, PIECE.min(MOST - at))?;
@@ -118,7 +118,7 @@ pub(crate) fn read_file<'a, R: Files + AllocGlobal>(
     };
     match read_whole(rt.alloc(), &mut file, expected) {
         Ok(bytes) => Ok(bytes),
-        Err(InputFault::OutOfMemory) => Err(Fault::Run(RunFault::Memory, path)),
-        Err(InputFault::Unreadable | InputFault::TooLong) => Err(Fault::File(path)),
+        Err(Failure::OutOfMemory) => Err(Fault::Run(RunFault::Memory, path)),
+        Err(Failure::Fault(_)) => Err(Fault::File(path)),
     }
 }

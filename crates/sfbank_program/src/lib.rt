@@ -6,6 +6,7 @@ mod apply;
 mod canon;
 mod counted;
 mod fault;
+mod fault_lines;
 mod input;
 mod output;
 mod program;
@@ -13,6 +14,7 @@ mod show;
 mod telling;
 mod words;
 
+pub use fault_lines::{exit_status, fault_text};
 pub use input::{InputFault, read_whole};
 pub use output::OutputFile;
 pub use program::{run, run_with_arguments};

@@ -38,10 +38,7 @@ fn arguments<R: Env + AllocGlobal>(rt: &R) -> Result<Vec<String>, Fault<'static>
         Err(error) if error.kind() == io::ErrorKind::OutOfMemory => Err(AllocError),
         Err(_) => return Err(Fault::NotText),
     };
-    match words {
-        Ok(words) => Ok(words),
-        Err(AllocError) => Err(Fault::Run(RunFault::Memory, STANDARD_OUTPUT)),
-    }
+    Ok(words?)
 }
 
 /// Runs the program on its words, of which the first is its own name. Answers the exit status:
@@ -94,14 +91,12 @@ fn answer<'a, O: Write>(
     output: &mut O,
 ) -> Result<(), Fault<'a>> {
     if error.kind() == ErrorKind::OutOfMemory {
-        return Err(Fault::Run(RunFault::Memory, STANDARD_OUTPUT));
+        return Err(AllocError.into());
     }
     if error.use_stderr() {
         return Err(Fault::Words(error));
     }
-    let Ok(text) = format!(in alloc; "{error}") else {
-        return Err(Fault::Run(RunFault::Memory, STANDARD_OUTPUT));
-    };
+    let text = format!(in alloc; "{error}")?;
     put_text(text.as_str(), output)
 }
 

@@ -1,14 +1,11 @@
 //! How a fault is told.
 ghost use Rattle.std.specs.Prelude.{◌≡◌};
-ghost use Rattle.sf_base.specs.Writing.{Sends};
-ghost use Rattle.sfbank_program.specs.Telling.{file_line, path_line, Tells, status_of};
+ghost use Rattle.sfbank_program.specs.Telling.{Tells, status_of};
 
 use crate::fault::Fault;
-use sf_base::{WriteFault, put_after, put_all};
-use sfbank::fault_text;
+use crate::fault_lines::{exit_status, fault_text, put_file_fault};
+use sf_base::put_all;
 use std::io::Write;
-
-const FILE_FAULT: &[u8] = b"sfbank: file fault ";
 
 const NOT_TEXT: &[u8] = b"error: a word is not text\n";
 
@@ -32,25 +29,7 @@ pub(crate) fn tell<E: Write>(fault: &Fault<'_>, errors: &mut E) -> u8
         }
         Fault::Run(fault, path) => {
             let _ = fault_text(fault, path, errors);
-            fault.exit_status()
+            exit_status(fault)
         }
     }
-}
-
-/// The line of an input that can't be read, or is too long.
-#[tactic(auto, using(crate::proofs::ToldLines::lines))]
-fn put_file_fault<E: Write>(path: &str, errors: &mut E) -> Result<u64, WriteFault>
-    ensures { Sends (E.contents errors.old) (E.contents errors.new) 0 (file_line path.now) result }
-{
-    let sent = put_after(errors, 0, FILE_FAULT)?;
-    put_path(sent, path, errors)
-}
-
-/// The path and the end of a line.
-#[tactic(auto, using(crate::proofs::ToldLines::lines))]
-fn put_path<E: Write>(sent: u64, path: &str, errors: &mut E) -> Result<u64, WriteFault>
-    ensures { Sends (E.contents errors.old) (E.contents errors.new) sent (path_line path.now) result }
-{
-    let sent = put_after(errors, sent, path.as_bytes())?;
-    put_after(errors, sent, b"\n")
 }

@@ -1,21 +1,21 @@
-use Rattle.std.proofs.Common.{◌∙◌, List, ℕ, ap}
+use Rattle.std.proofs.Common.{◌∙◌, ap}
 use Rattle.bank_format.specs.Reading.{sm24_dropped}
-use Rattle.sf_reader.specs.Lists.{Windows, chunks}
+use Rattle.sf_reader.specs.Lists.{ListChunks}
 use Rattle.sf_reader.specs.Texts.{texts_in}
 use Rattle.sf_reader.proofs.ContentLaws.{found_content}
 use Rattle.sf_reader.proofs.reader.content_of.Goals as goal
 
 pub returns : goal.returns
 returns c =
-    let info = ap (λ (w : Windows). w.info) c.lists.view_is in
-    let sdta = ap (λ (w : Windows). w.sdta) c.lists.view_is in
+    let info = ap (λ (w : ListChunks). w.info) c.lists.view_is in
+    let sdta = ap (λ (w : ListChunks). w.sdta) c.lists.view_is in
     found_content c.args.minor c.args.lists.now c.args.tables.now c.args.members c.args.samples c.texts_of-texts.result c.cut_texts.result
     c.count_cut.result c.count_sm24.result c.add-zone_counts.result c.count_lost_loops.result c.count_lost_links.result
     (record {
-      texts_are = c.texts_of-texts.ensures ∙ ap (λ (l : List ℕ). texts_in (chunks l)) info;
+      texts_are = c.texts_of-texts.ensures ∙ ap texts_in info;
       cut_are = c.cut_texts.ensures;
       counted = c.count_cut.ensures;
-      sm24_is = c.count_sm24.ensures ∙ ap (λ (l : List ℕ). sm24_dropped (chunks l)) sdta;
+      sm24_is = c.count_sm24.ensures ∙ ap sm24_dropped sdta;
       zones_are = c.add-zone_counts.ensures;
       loops_are = rw c.samples.ensures at c.count_lost_loops.ensures;
       links_are = rw c.samples-2.ensures at c.count_lost_links.ensures;

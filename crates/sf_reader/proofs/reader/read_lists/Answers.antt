@@ -1,5 +1,6 @@
-use Rattle.std.proofs.Common.{◌≡◌, ℕ, List, Result, sym, subst}
+use Rattle.std.proofs.Common.{◌≡◌, List, Result, sym, subst}
 use Rattle.std.specs.Result.{IsErrAnd}
+use Rattle.riff_chunks.specs.Walk.{Chunk}
 use Rattle.sf_base.specs.declared.memory.Failure.{Failure}
 use Rattle.sf_base.specs.declared.memory.Failure.TheVariants.{Fault}
 use Rattle.bank_parts.specs.declared.parts.Parts.{Parts}
@@ -8,7 +9,7 @@ use Rattle.bank_format.specs.declared.fault.ReadFault.{ReadFault}
 use Rattle.bank_format.specs.Ids.{IFIL}
 use Rattle.bank_format.specs.Steps.{first_broken, Fails, PassesGivenMemory}
 use Rattle.bank_format.specs.Reading.{Content}
-use Rattle.sf_reader.specs.Lists.{Windows}
+use Rattle.sf_reader.specs.Lists.{ListChunks}
 use Rattle.sf_reader.specs.Content.{list_content_steps, list_content, table_steps, table_content}
 use Rattle.sf_reader.proofs.StepLaws.{given_by}
 use Rattle.sf_reader.proofs.ReadLaws.{Opened, Cut, in_there, in_nine, in_version, in_whole, tables_pass}
@@ -18,20 +19,20 @@ use Rattle.sf_reader.proofs.reader.read_lists.Goals as goal
 abbrev seen : Parts × Counts → Content
 seen r = record { bank = r.0; counts = r.1 }
 
-abbrev windows : List ℕ → List ℕ → List ℕ → Windows
-windows info sdta pdta = record { info = info; sdta = sdta; pdta = pdta }
+abbrev three : List Chunk → List Chunk → List Chunk → ListChunks
+three info sdta pdta = record { info = info; sdta = sdta; pdta = pdta }
 
--- a fault of the windows v, which are those of the lists
-stops : (r : Result (Parts × Counts) (Failure ReadFault)) (e : Failure ReadFault) (v w : Windows) → v ≡ w → IsErrAnd r (λ d. d ≡ e) → Fails e (first_broken (list_content_steps v))
+-- a fault of the chunks v, which are those of the lists
+stops : (r : Result (Parts × Counts) (Failure ReadFault)) (e : Failure ReadFault) (v w : ListChunks) → v ≡ w → IsErrAnd r (λ d. d ≡ e) → Fails e (first_broken (list_content_steps v))
     → PassesGivenMemory seen r (list_content_steps w) (list_content w)
 stops r e v w same is h =
-    given_by seen (list_content w) r e (list_content_steps w) is (subst (λ (u : Windows). Fails e (first_broken (list_content_steps u))) same h)
+    given_by seen (list_content w) r e (list_content_steps w) is (subst (λ (u : ListChunks). Fails e (first_broken (list_content_steps u))) same h)
 
 pub returns-in_err-version : goal.returns-in_err-version
 unfolding IFIL
 returns-in_err-version c =
     let v = c.lists.inside in
-    let w = windows v.info.now v.sdta.now v.pdta.now in
+    let w = three v.info v.sdta v.pdta in
     let e = Fault c.in_err-version.field-0.0 in
     stops c.from_residual.result e w c.args.lists.now c.lists.view_is c.from_residual.ensures.1 (in_there w e c.in_err-version.ensures)
 
@@ -39,7 +40,7 @@ pub returns-in_err-bodies : goal.returns-in_err-bodies
 unfolding IFIL
 returns-in_err-bodies c =
     let v = c.lists.inside in
-    let w = windows v.info.now v.sdta.now v.pdta.now in
+    let w = three v.info v.sdta v.pdta in
     let e = Fault c.in_err-bodies.field-0.0 in
     stops c.from_residual-in_err-bodies.result e w c.args.lists.now c.lists.view_is c.from_residual-in_err-bodies.ensures.1
     (in_nine w e c.in_ok-version.ensures.0 c.in_err-bodies.ensures)
@@ -48,7 +49,7 @@ pub returns-in_err-minor : goal.returns-in_err-minor
 unfolding IFIL
 returns-in_err-minor c =
     let v = c.lists.inside in
-    let w = windows v.info.now v.sdta.now v.pdta.now in
+    let w = three v.info v.sdta v.pdta in
     let e = Fault c.in_err-minor.field-0.0 in
     let opened : Opened w c.in_ok-version.version.now c.in_ok-bodies.bodies = record {
       there = c.in_ok-version.ensures.0;
@@ -63,7 +64,7 @@ pub returns-in_err-tables : goal.returns-in_err-tables
 unfolding IFIL
 returns-in_err-tables c =
     let v = c.lists.inside in
-    let w = windows v.info.now v.sdta.now v.pdta.now in
+    let w = three v.info v.sdta v.pdta in
     let e = Fault c.in_err-tables.field-0.0 in
     let opened : Opened w c.in_ok-version.version.now c.in_ok-bodies.bodies = record {
       there = c.in_ok-version.ensures.0;
@@ -78,7 +79,7 @@ pub returns : goal.returns
 unfolding IFIL
 returns c =
     let v = c.lists.inside in
-    let w = windows v.info.now v.sdta.now v.pdta.now in
+    let w = three v.info v.sdta v.pdta in
     let r = c.read_tables.result in
     let minor = c.in_ok-minor.minor in
     let t = c.in_ok-tables.tables in
@@ -98,6 +99,6 @@ returns c =
       smpl_is = c.smpl_of-smpl.ensures;
     } in
     let same = c.lists.view_is in
-    subst (λ (u : Windows). PassesGivenMemory seen r (list_content_steps u) (list_content u)) same
+    subst (λ (u : ListChunks). PassesGivenMemory seen r (list_content_steps u) (list_content u)) same
     (tables_pass seen r w c.in_ok-version.version.now c.in_ok-bodies.bodies minor t smpl found
-    (subst (λ (u : Windows). PassesGivenMemory seen r (table_steps t smpl) (table_content minor u t smpl)) (sym same) c.read_tables.ensures))
+    (subst (λ (u : ListChunks). PassesGivenMemory seen r (table_steps t smpl) (table_content minor u t smpl)) (sym same) c.read_tables.ensures))

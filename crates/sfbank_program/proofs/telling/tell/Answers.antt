@@ -1,4 +1,4 @@
-use Rattle.sfbank_program.proofs.ToldLines.{sent_goes_out, written_goes_out}
+use Rattle.sfbank_program.proofs.ToldLines.{written_goes_out}
 use Rattle.sfbank_program.proofs.telling.tell.Goals as goal
 
 pub returns-in-NotText-clause-told : goal.returns-in-NotText-clause-told
@@ -6,7 +6,7 @@ returns-in-NotText-clause-told g c = rw c.in-NotText.is (written_goes_out _ _ _ 
 
 pub returns-in-File-clause-told : goal.returns-in-File-clause-told
 returns-in-File-clause-told g c =
-    rw c.in-File.is (sent_goes_out _ _ _ _ c.put_file_fault.ensures)
+    rw c.in-File.is (written_goes_out _ _ _ _ c.put_file_fault.ensures)
 
 pub returns-in-Run-clause-told : goal.returns-in-Run-clause-told
 returns-in-Run-clause-told g c =

@@ -1,0 +1,84 @@
+//! The first chunks of some ids, found in one pass over their window.
+ghost use Rattle.std.specs.Prelude.{◌≡◌, is_ok, IfOk};
+ghost use Rattle.std.specs.Option.{option_copied};
+ghost use Rattle.riff_chunks.specs.Walk.{walk};
+ghost use Rattle.riff_chunks.specs.Finding.{chunks_in, is_whole, first_body};
+ghost use Rattle.riff_chunks.specs.First.{place_of, Takes};
+
+use crate::chunks::{Chunks, Truncated};
+use crate::finding::body_of;
+use std::marker::Model;
+
+/// The bodies that are kept at most. The lists of a bank's file hold chunks of nine ids.
+const MOST_KEPT: usize = 9;
+
+/// A window that was walked once, to its end, with the first bodies of some ids at hand. It is seen
+/// as the chunks of the window.
+#[derive(Drop)]
+pub struct FirstChunks<'a> {
+    window: &'a [u8],
+    ids: &'a [[u8; 4]],
+    bodies: [Option<&'a [u8]>; 9],
+}
+
+impl<'a> Model for FirstChunks<'a> {
+    ghost use Rattle.std.specs.Prelude.{List};
+    ghost use Rattle.riff_chunks.specs.Walk.{Chunk, walk};
+    ghost use Rattle.riff_chunks.specs.Finding.{chunks_in};
+    ghost use Rattle.riff_chunks.specs.First.{AreFirst};
+
+    ghost Value = { List Chunk };
+
+    ghost view = { λ first. chunks_in (walk first.window.now) };
+
+    ghost invariant = { λ first. AreFirst first.ids.now first.bodies (chunks_in (walk first.window.now)) };
+}
+
+impl<'a> FirstChunks<'a> {
+    /// The chunks of a window, with the first bodies of the first nine of these ids at hand. The fault
+    /// of a body that passes the window's end comes wherever it stands.
+    pub fn over(window: &'a [u8], ids: &'a [[u8; 4]]) -> Result<FirstChunks<'a>, Truncated>
+        ensures whole { is_ok result ≡ is_whole (walk window.now) }
+        ensures value { IfOk result (λ first. first ≡ chunks_in (walk window.now)) }
+    {
+        let mut bodies = [None; MOST_KEPT];
+        for item in Chunks::over(window) {
+            let chunk = item?;
+            take_first(ids, &mut bodies, chunk.0, chunk.1);
+        }
+        Ok(FirstChunks {
+            window,
+            ids,
+            bodies,
+        })
+    }
+
+    /// The body of the first chunk of an id. One that is not at hand is looked for in the window.
+    pub fn body_of(&self, id: [u8; 4]) -> Option<&'a [u8]>
+        ensures { option_copied result ≡ first_body id self.now }
+    {
+        match place_of(self.ids, id) {
+            Some(place) if place < MOST_KEPT => self.bodies[place],
+            _ => body_of(self.window, id),
+        }
+    }
+}
+
+// Takes the body of a chunk, where its id is one of these and has none yet.
+fn take_first<'a>(ids: &[[u8; 4]], bodies: &mut [Option<&'a [u8]>; 9], id: [u8; 4], body: &'a [u8])
+    ensures { Takes ids.now bodies.old bodies.new (record { id = id; body = body.now }) }
+{
+    let Some(place) = place_of(ids, id) else {
+        return;
+    };
+    if place < MOST_KEPT && bodies[place].is_none() {
+        bodies[place] = Some(body);
+    }
+}
+
+// Where an id stands.
+fn place_of(ids: &[[u8; 4]], id: [u8; 4]) -> Option<usize>
+    ensures { result ≡ place_of id ids.now }
+{
+    ids.iter().position(|other| *other == id)
+}

@@ -1,0 +1,43 @@
+-- The lines by which faults are told, and the exit status of a run's fault.
+use Rattle.std.specs.Prelude.{ℕ, List, [], ◌∷◌, codes, decimal}
+use Rattle.std.specs.List.{concat}
+use Rattle.bank_format.specs.declared.fault.ReadFault.{ReadFault}
+use Rattle.bank_format.specs.FaultNames as reading
+use Rattle.edit_script.specs.declared.fault.ScriptFault.{ScriptFault}
+use Rattle.edit_script.specs.Faults as scripts
+use Rattle.bank_edits.specs.declared.edit.Cause.{Cause}
+use Rattle.bank_edits.specs.CauseNames as causes
+use Rattle.sfbank.specs.declared.fault.RunFault.{RunFault}
+use Rattle.sfbank.specs.declared.fault.RunFault.TheVariants.{Read, Script, Refused, Write, Memory}
+
+abbrev pub read_line : ReadFault → List ℕ
+read_line fault = concat (codes "sfbank: read fault " ∷ decimal (reading.number_of fault) ∷ codes " " ∷ reading.name_of fault ∷ codes "\n" ∷ [])
+
+abbrev pub script_line : ScriptFault → List ℕ
+script_line fault = concat (codes "sfbank: line " ∷ decimal (scripts.line_of fault) ∷ codes ": fault " ∷ decimal (scripts.number_of fault) ∷ codes " " ∷ scripts.name_of fault ∷ codes "\n" ∷ [])
+
+abbrev pub refused_line : ℕ → Cause → List ℕ
+refused_line line cause = concat (codes "sfbank: line " ∷ decimal line ∷ codes ": refused " ∷ decimal (causes.number_of cause) ∷ codes " " ∷ causes.name_of cause ∷ codes "\n" ∷ [])
+
+abbrev pub write_line : List ℕ → ℕ → List ℕ
+write_line path written = concat (codes "sfbank: write fault " ∷ path ∷ codes " after " ∷ decimal written ∷ codes " bytes\n" ∷ [])
+
+-- an input at a path that can't be read, or is too long
+abbrev pub file_line : List ℕ → List ℕ
+file_line path = concat (codes "sfbank: file fault " ∷ path ∷ codes "\n" ∷ [])
+
+-- the line of a run's fault, with its line feed; a write fault has the path
+unfoldable pub fault_line : List ℕ → RunFault → List ℕ
+fault_line path (Read fault) = read_line fault
+fault_line path (Script fault) = script_line fault
+fault_line path (Refused line cause) = refused_line line cause
+fault_line path (Write which written) = write_line path written
+fault_line path Memory = codes "sfbank: out of memory\n"
+
+-- the exit status of a run's fault
+abbrev pub status_of : RunFault → ℕ
+status_of (Read fault) = 2
+status_of (Script fault) = 3
+status_of (Refused line cause) = 4
+status_of (Write which written) = 5
+status_of Memory = 6

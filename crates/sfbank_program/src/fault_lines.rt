@@ -1,0 +1,141 @@
+//! The lines by which faults are told.
+ghost use Rattle.std.specs.Prelude.{◌≡◌, IfOk};
+ghost use Rattle.sf_base.specs.Writing.{Writes};
+ghost use Rattle.sample_view.specs.Pieces.{joined_bytes};
+ghost use Rattle.sfbank_program.specs.FaultLines.{fault_line, status_of, read_line, script_line, refused_line, write_line, file_line};
+
+use bank_edits::Cause;
+use bank_format::ReadFault;
+use edit_script::ScriptFault;
+use itoa::Buffer;
+use sf_base::{WriteFault, put_after};
+use sfbank::RunFault;
+use std::io::Write;
+
+/// Writes the line of a run's fault, with its line feed, and gives the exit status that goes with it.
+/// The line of a write fault names `path`.
+pub fn fault_text<W: Write>(fault: &RunFault, path: &str, out: &mut W) -> Result<u8, WriteFault>
+    ensures line { Writes (W.contents out.old) (W.contents out.new) (fault_line path.now fault.now) result }
+    ensures status { IfOk result (λ status. status ≡ status_of fault.now) }
+{
+    put_fault(fault, path, out)?;
+    Ok(exit_status(fault))
+}
+
+/// The exit status of a program whose run ends so: 2 for a fault of the file, 3 of the script, 4
+/// for a refused edit, 5 for a write fault, and 6 for want of memory.
+pub fn exit_status(fault: &RunFault) -> u8
+    ensures { result ≡ status_of fault.now }
+{
+    match fault {
+        RunFault::Read(_) => 2,
+        RunFault::Script(_) => 3,
+        RunFault::Refused(_, _) => 4,
+        RunFault::Write(_, _) => 5,
+        RunFault::Memory => 6,
+    }
+}
+
+#[tactic(auto, unfolding(crate::specs::FaultLines::fault_line))]
+fn put_fault<W: Write>(fault: &RunFault, path: &str, out: &mut W) -> Result<(), WriteFault>
+    ensures { Writes (W.contents out.old) (W.contents out.new) (fault_line path.now fault.now) result }
+{
+    match fault {
+        RunFault::Read(fault) => put_read_fault(*fault, out),
+        RunFault::Script(fault) => put_script_fault(*fault, out),
+        RunFault::Refused(line, cause) => put_refusal(*line, *cause, out),
+        RunFault::Write(_, written) => put_write_fault(path, *written, out),
+        RunFault::Memory => put_pieces(&[b"sfbank: out of memory\n"], out),
+    }
+}
+
+fn put_read_fault<W: Write>(fault: ReadFault, out: &mut W) -> Result<(), WriteFault>
+    ensures { Writes (W.contents out.old) (W.contents out.new) (read_line fault) result }
+{
+    let mut number = Buffer::new();
+    put_pieces(
+        &[
+            b"sfbank: read fault ",
+            number.format(fault.number()).as_bytes(),
+            b" ",
+            fault.name().as_bytes(),
+            b"\n",
+        ],
+        out,
+    )
+}
+
+fn put_script_fault<W: Write>(fault: ScriptFault, out: &mut W) -> Result<(), WriteFault>
+    ensures { Writes (W.contents out.old) (W.contents out.new) (script_line fault) result }
+{
+    let mut line = Buffer::new();
+    let mut number = Buffer::new();
+    put_pieces(
+        &[
+            b"sfbank: line ",
+            line.format(fault.line()).as_bytes(),
+            b": fault ",
+            number.format(fault.number()).as_bytes(),
+            b" ",
+            fault.name().as_bytes(),
+            b"\n",
+        ],
+        out,
+    )
+}
+
+fn put_refusal<W: Write>(line: u64, cause: Cause, out: &mut W) -> Result<(), WriteFault>
+    ensures { Writes (W.contents out.old) (W.contents out.new) (refused_line line cause) result }
+{
+    let mut place = Buffer::new();
+    let mut number = Buffer::new();
+    put_pieces(
+        &[
+            b"sfbank: line ",
+            place.format(line).as_bytes(),
+            b": refused ",
+            number.format(cause.number()).as_bytes(),
+            b" ",
+            cause.name().as_bytes(),
+            b"\n",
+        ],
+        out,
+    )
+}
+
+fn put_write_fault<W: Write>(path: &str, written: u64, out: &mut W) -> Result<(), WriteFault>
+    ensures { Writes (W.contents out.old) (W.contents out.new) (write_line path.now written) result }
+{
+    let mut number = Buffer::new();
+    put_pieces(
+        &[
+            b"sfbank: write fault ",
+            path.as_bytes(),
+            b" after ",
+            number.format(written).as_bytes(),
+            b" bytes\n",
+        ],
+        out,
+    )
+}
+
+/// Writes the line of an input at a path that can't be read, or is too long.
+pub(crate) fn put_file_fault<W: Write>(path: &str, out: &mut W) -> Result<(), WriteFault>
+    ensures { Writes (W.contents out.old) (W.contents out.new) (file_line path.now) result }
+{
+    put_pieces(&[b"sfbank: file fault ", path.as_bytes(), b"\n"], out)
+}
+
+// Writes the pieces one after the other.
+fn put_pieces<W: Write>(pieces: &[&[u8]], out: &mut W) -> Result<(), WriteFault>
+    ensures { Writes (W.contents out.old) (W.contents out.new) (joined_bytes pieces.now) result }
+{
+    let mut sent = 0;
+    for piece in pieces {
+        match put_after(out, sent, piece) {
+            Ok(total) => sent = total,
+            Err(fault) => return Err(fault),
+        }
+    }
+    Ok(())
+}
