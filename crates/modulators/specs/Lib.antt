@@ -1,1 +1,2 @@
 pub mod Modulators
+pub mod Linear

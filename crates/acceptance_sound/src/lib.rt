@@ -1,0 +1,10 @@
+//! What only a run can show of the layers of sound: worked values of the tables and of linear
+//! modulators, worked files, and what is left where a writer fails.
+#![tactic(auto)]
+
+#[cfg(test)]
+mod linear;
+#[cfg(test)]
+mod tables;
+#[cfg(test)]
+mod waves;

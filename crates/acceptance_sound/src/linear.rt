@@ -1,0 +1,84 @@
+//! Worked values of linear modulators.
+
+use modulators::{DEFAULT_VELOCITY, Modulator, linear_value};
+
+/// From a source to a generator.
+fn from_to(source: u16, dest: u16) -> Modulator {
+    Modulator {
+        source,
+        dest,
+        amount: 500,
+        amount_source: 0,
+        transform: 0,
+    }
+}
+
+/// A source, a key, a velocity, and the value that a linear modulator has there.
+const VALUES: [(u16, u8, u8, i16); 14] = [
+    // Velocity and key, rising and of one polarity.
+    (0x0002, 60, 127, 127),
+    (0x0002, 60, 0, 0),
+    (0x0003, 60, 127, 60),
+    // Falling.
+    (0x0102, 60, 127, 0),
+    (0x0102, 60, 100, 27),
+    (0x0103, 60, 127, 67),
+    // Of two polarities.
+    (0x0202, 60, 0, -128),
+    (0x0202, 60, 127, 126),
+    (0x0203, 64, 127, 0),
+    // Both.
+    (0x0302, 60, 127, -128),
+    (0x0302, 60, 0, 126),
+    // Above what a note has.
+    (0x0002, 60, 255, 255),
+    (0x0103, 255, 0, -128),
+    (0x0303, 255, 0, -384),
+];
+
+#[test]
+fn values_of_linear_modulators(rt: HostRuntime) {
+    for (source, key, velocity, value) in VALUES {
+        for dest in [17, 34, 36, 37, 38, 48, 52] {
+            let modulator = from_to(source, dest);
+            assert_eq!(rt;
+                linear_value(&modulator, key, velocity),
+                Some(value),
+                "source {source}"
+            );
+        }
+    }
+    let other = Modulator {
+        amount: -1,
+        transform: 2,
+        ..from_to(0x0002, 17)
+    };
+    assert_eq!(rt; linear_value(&other, 60, 127), Some(127));
+}
+
+#[test]
+fn modulators_that_are_not_linear(rt: HostRuntime) {
+    assert_eq!(rt; linear_value(&DEFAULT_VELOCITY, 60, 127), None);
+    // Another general controller, one of MIDI's, a link, and a curve.
+    for source in [
+        0x0000, 0x0004, 0x000a, 0x0082, 0x0083, 0x007f, 0x0402, 0x8003, 0xfc02,
+    ] {
+        assert_eq!(rt;
+            linear_value(&from_to(source, 17), 60, 127),
+            None,
+            "source {source}"
+        );
+    }
+    for dest in [0, 8, 16, 18, 33, 35, 39, 43, 47, 49, 51, 53, 56, 0x8011] {
+        assert_eq!(rt;
+            linear_value(&from_to(2, dest), 60, 127),
+            None,
+            "dest {dest}"
+        );
+    }
+    let scaled = Modulator {
+        amount_source: 2,
+        ..from_to(2, 17)
+    };
+    assert_eq!(rt; linear_value(&scaled, 60, 127), None);
+}

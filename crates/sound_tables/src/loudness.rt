@@ -1,0 +1,44 @@
+//! What attenuations leave of the loudness, and the attenuations that velocities stand for.
+ghost use Rattle.std.specs.Prelude.{◌≡◌, ◌≤◌, min};
+ghost use Rattle.sound_tables.specs.Tables.{gain_of, velatt_of, IsVelatt};
+
+use crate::ratios::ratio_at;
+
+/// The attenuation in centibels from which on nothing is heard.
+const SILENCE: i64 = 960;
+
+/// What an attenuation in centibels leaves of the loudness, in 65536ths: all of it at 0 and below, half of
+/// it at each 60 more, nothing from 960 on.
+#[tactic(auto, unfolding(crate::specs::Tables::gain_at))]
+pub fn gain(attenuation: i64) -> u32
+    ensures value { result ≡ gain_of attenuation }
+    ensures most { result ≤ 65536 }
+{
+    if attenuation >= SILENCE {
+        return 0;
+    }
+    let attenuation = attenuation.max(0) as u32;
+    ratio_at(1200 - 20 * (attenuation % 60)) >> (attenuation / 60 + 1)
+}
+
+/// The attenuation of a velocity in centibels, up to 960: the least one at which the gain is at most
+/// the square of the velocity, taken as a part of 127. A velocity above 127 counts as 127.
+#[tactic(auto, using(crate::proofs::VelocityLemmas::all_between, crate::proofs::VelocityLemmas::quieter, crate::proofs::VelocityLemmas::louder, crate::proofs::VelocityLemmas::found, crate::proofs::VelocityLemmas::velatt_is))]
+pub fn velatt(velocity: u8) -> u32
+    ensures value { result ≡ velatt_of velocity }
+    ensures least { IsVelatt (min velocity 127) result }
+{
+    let part = u32::from(velocity.min(127));
+    let square = part * part * 65536;
+    let mut low = 0;
+    let mut high = 960;
+    while low < high {
+        let middle = (low + high) / 2;
+        if gain(i64::from(middle)) * (127 * 127) <= square {
+            high = middle;
+        } else {
+            low = middle + 1;
+        }
+    }
+    low
+}
