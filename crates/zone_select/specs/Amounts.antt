@@ -1,6 +1,6 @@
 -- The amounts of a pair of zones, of which v is taken of the instrument's zone and u of the preset's; and the
 -- numbers that a voice plays by.
-use Rattle.std.specs.Prelude.{ℕ, ◌==◌, ◌||◌, ◌&&◌, Bool, cond, nat_le, ℤ, pos, negsuc, ◌+ℤ◌, ◌-ℤ◌, ◌*ℤ◌, int_le, int_lt, List, [], ◌∷◌, length, map, fold, reverse, Option, Some, None, unwrap_or}
+use Rattle.std.specs.Prelude.{ℕ, ◌==◌, ◌||◌, ◌&&◌, Bool, cond, nat_le, ℤ, pos, negsuc, ◌+ℤ◌, ◌-ℤ◌, ◌*ℤ◌, int_le, int_lt, List, [], ◌∷◌, length, map, fold, reverse, Option, unwrap_or}
 use Rattle.std.specs.Int.{w16, cast_signed, int_max, int_min}
 use Rattle.std.specs.List.{find}
 use Rattle.std.specs.Option.{option_or, option_map_or, is_some}

@@ -3,3 +3,4 @@ pub mod Taken
 pub mod Amounts
 pub mod Select
 pub mod Pairs
+pub mod Left

@@ -1,5 +1,5 @@
 -- The same by pairs of zone numbers.
-use Rattle.std.specs.Prelude.{◌≡◌, ℕ, Bool, false, List, [], ◌∷◌, length, map, Option, None, slice_get, ◌-◌}
+use Rattle.std.specs.Prelude.{◌≡◌, ℕ, Bool, false, List, [], ◌∷◌, length, map, Option, Some, None, cond, slice_get, ◌-◌}
 use Rattle.std.specs.List.{flat_map, find, filter, range_with_len}
 use Rattle.std.specs.Option.{option_map_or, option_map, option_and_then}
 use Rattle.note_list.specs.Notes.{Numbers}
@@ -7,7 +7,6 @@ use Rattle.bank_parts.specs.declared.parts.Head.{Head}
 use Rattle.bank_parts.specs.declared.parts.GlobalZone.{GlobalZone}
 use Rattle.bank_parts.specs.declared.parts.Zone.{Zone}
 use Rattle.bank_parts.specs.declared.parts.WithZones.{WithZones}
-use Rattle.bank_parts.specs.declared.parts.Sample.{Sample}
 use Rattle.bank_parts.specs.declared.parts.Parts.{Parts}
 use Rattle.zone_select.specs.Ranges.{holds}
 use Rattle.zone_select.specs.Taken.{Taken, taken}
@@ -34,3 +33,42 @@ pairs_at b n zones k = option_map_or (λ (z : Zone). map (λ (l : ℕ). let q : 
 -- the pairs (a zone of the preset, a zone of its instrument) that hold the note, in rising order
 unfoldable pub pairs : Parts → Numbers → List (ℕ × ℕ)
 pairs b n = option_map_or (λ (p : WithZones Head). flat_map (pairs_at b n p.zones) (held n p.global p.zones 0)) (find (is_called n) b.presets) []
+
+-- ---- what is chosen by a pair
+
+-- what is taken of its two zones, and the number of its sample
+pub record Chosen : Type 0 where
+  pub inner : Taken
+  pub outer : Taken
+  pub sample : ℕ
+
+-- zone k, if it holds the note
+abbrev pub zone_held : Numbers → GlobalZone → List Zone → ℕ → Option Zone
+zone_held n global zones k = option_and_then (λ (z : Zone). cond (holds n global z) (Some z) None) (slice_get zones k)
+
+abbrev pub inner_chosen : Numbers → Taken → ℕ → WithZones (List ℕ) → Option Chosen
+inner_chosen n u l i = option_map (λ (y : Zone). record { inner = taken i.global y; outer = u; sample = y.target }) (zone_held n i.global i.zones l)
+
+abbrev pub zone_chosen : Parts → Numbers → GlobalZone → ℕ → Zone → Option Chosen
+zone_chosen b n global l z = option_and_then (inner_chosen n (taken global z) l) (slice_get b.instruments z.target)
+
+abbrev pub preset_chosen : Parts → Numbers → ℕ × ℕ → WithZones Head → Option Chosen
+preset_chosen b n q p = option_and_then (zone_chosen b n p.global q.1) (zone_held n p.global p.zones q.0)
+
+-- by a pair that holds the note
+unfoldable pub chosen_by : Parts → Numbers → ℕ × ℕ → Option Chosen
+chosen_by b n q = option_and_then (preset_chosen b n q) (find (is_called n) b.presets)
+
+-- the voice of a pair
+abbrev pub chosen_voice : Parts → Numbers → Chosen → Option Voice
+chosen_voice b n c = option_map (voice_of n c.inner c.outer) (slice_get b.samples c.sample)
+
+abbrev pub voice_by : Parts → Numbers → ℕ × ℕ → Option Voice
+voice_by b n q = option_and_then (chosen_voice b n) (chosen_by b n q)
+
+abbrev pub listed : Option Voice → List Voice
+listed o = option_map_or (λ v. v ∷ []) o []
+
+-- the voices that are selected are those of the pairs, in their order
+abbrev pub SelectedByPairs : Type 0
+SelectedByPairs = (b : Parts) (n : Numbers) → flat_map (λ q. listed (voice_by b n q)) (pairs b n) ≡ selected b n

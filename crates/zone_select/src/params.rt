@@ -39,12 +39,3 @@ pub struct Plays {
     /// The exclusive class; 0 for none.
     pub class: i16,
 }
-
-/// What the voice of a pair of zones is made of.
-#[derive(Debug, Clone, Copy, PartialEq, Eq)]
-pub struct Params {
-    /// The number of its sample.
-    pub sample: u16,
-    /// The numbers that it plays by.
-    pub plays: Plays,
-}
