@@ -1,0 +1,2 @@
+pub mod BareLaws
+pub mod NoteLaws

@@ -1,0 +1,103 @@
+-- Notes, and the notes of a text or its first fault.
+use Rattle.std.specs.Prelude.{◌≡◌, ◌≤◌, ℕ, suc, ◌+◌, List, [], ◌∷◌, ◌++◌, length, Option, Some, None, Result, Ok, Err, nat_le, ◌&&◌, if◌then◌else◌}
+use Rattle.sf_base.specs.declared.memory.Failure.{Failure}
+use Rattle.sf_base.specs.declared.memory.Failure.TheVariants as failures
+use Rattle.line_tokens.specs.declared.cursor.Said.{Said}
+use Rattle.line_tokens.specs.declared.fault.LineFault.{LineFault}
+use Rattle.line_tokens.specs.Said.{said_lines}
+use Rattle.line_tokens.specs.Parts.{Took, Part, ◌>>=◌, pure, number, ended}
+use Rattle.note_list.specs.declared.fault.NoteFault.{NoteFault}
+use Rattle.note_list.specs.declared.fault.NoteFault.TheVariants as faults
+
+-- ---- a note
+
+-- the numbers of a note: its start and its length in frames, the numbers of its preset, its key and velocity
+pub record Numbers : Type 0 where
+  pub start : ℕ
+  pub length : ℕ
+  pub bank : ℕ
+  pub number : ℕ
+  pub key : ℕ
+  pub velocity : ℕ
+
+-- they are within the limits
+pub record IsNote (n : Numbers) : Type 0 where
+  pub ends : n.start + n.length ≤ 100000000
+  pub key : n.key ≤ 127
+  pub velocity : n.velocity ≤ 127
+
+-- the note with these numbers, if they are within the limits
+unfoldable pub note_of : Numbers → Option Numbers
+note_of n = if nat_le (n.start + n.length) 100000000 && nat_le n.key 127 && nat_le n.velocity 127 then Some n else None
+
+-- ---- a value, or the first fault
+
+abbrev pub OrFault : Type 0 → Type 0
+OrFault X = Result X NoteFault
+
+abbrev pub and_then : {X Y : Type 0} → OrFault X → (X → OrFault Y) → OrFault Y
+and_then (Ok x) f = f x
+and_then (Err e) f = Err e
+
+-- ---- the note of a line
+
+-- six numbers and the line's end: a note, or none where it ends too late
+unfoldable pub note : Part (Option Numbers)
+note = do
+  s ← number 4294967295
+  l ← number 4294967295
+  b ← number 65535
+  n ← number 65535
+  k ← number 127
+  v ← number 127
+  u ← ended (tt {0})
+  pure (note_of (record { start = s; length = l; bank = b; number = n; key = k; velocity = v }))
+
+-- a note of line n, before which stand k notes; none is one that ends too late
+abbrev pub in_time : ℕ → ℕ → Option Numbers → OrFault Numbers
+in_time k n None = Err (faults.TooLong n)
+in_time k n (Some x) = if nat_le 65535 k then Err (faults.TooManyNotes n) else Ok x
+
+-- the note that was read of line n, before which stand k notes, or its fault
+abbrev pub judged : ℕ → ℕ → Result (Took (Option Numbers)) LineFault → OrFault Numbers
+judged k n (Err e) = Err (faults.BadNote n)
+judged k n (Ok t) = in_time k n t.value
+
+-- ---- the notes of a text
+
+-- a line that says something, and its number
+pub record Spoken : Type 0 where
+  pub line : ℕ
+  pub said : List Said
+
+-- those of some lines, of which the first has the number n
+unfoldable pub spoken : ℕ → List (List Said) → List Spoken
+spoken n [] = []
+spoken n ([] ∷ lines) = spoken (suc n) lines
+spoken n ((s ∷ said) ∷ lines) = record { line = n; said = s ∷ said } ∷ spoken (suc n) lines
+
+-- the notes of such lines, before which stand k notes; or the first fault
+unfoldable pub notes_after : ℕ → List Spoken → OrFault (List Numbers)
+notes_after k [] = Ok []
+notes_after k (s ∷ lines) = and_then (judged k s.line (note s.said)) (λ x. and_then (notes_after (suc k) lines) (λ xs. Ok (x ∷ xs)))
+
+-- the notes of a text, of which each line that says something is one; or the first fault
+unfoldable pub notes_of : List ℕ → OrFault (List Numbers)
+notes_of text = notes_after 0 (spoken 1 (said_lines text))
+
+-- ---- a note more, and what calls answer
+
+-- the notes, and that of line n, if it says something
+abbrev pub with_note : ℕ → List Said → List Numbers → OrFault (List Numbers)
+with_note n [] notes = Ok notes
+with_note n (s ∷ said) notes = and_then (judged (length notes) n (note (s ∷ said))) (λ x. Ok (notes ++ x ∷ []))
+
+-- the fault, or want of memory, which can come in place of any answer
+abbrev pub Fails : {Y : Type 0} → Failure NoteFault → Result Y NoteFault → Type 0
+Fails (failures.Fault fault) r = r ≡ Err fault
+Fails failures.OutOfMemory r = Unit {0}
+
+-- the answer, or why there is none
+abbrev pub Answers : {X Y : Type 0} → (X → Y) → Result X (Failure NoteFault) → Result Y NoteFault → Type 0
+Answers view (Ok x) r = r ≡ Ok (view x)
+Answers view (Err failure) r = Fails failure r

@@ -1,0 +1,13 @@
+//! Note lists: the text in which the notes to be played are said, one on each line.
+//!
+//! A line is `START LENGTH BANK NUMBER KEY VELOCITY`, with the lines, blanks and comments of
+//! [`line_tokens`]. [`parse_notes`] reads the notes of a text.
+#![tactic(auto)]
+
+mod fault;
+mod note;
+mod parsing;
+
+pub use fault::NoteFault;
+pub use note::{MOST_NOTES, Note};
+pub use parsing::parse_notes;

@@ -1,0 +1,109 @@
+//! One note.
+ghost use Rattle.std.specs.Prelude.{◌≡◌, ◌+◌, ◌≤◌};
+ghost use Rattle.note_list.specs.Notes.{note_of};
+
+use std::marker::Model;
+
+/// The frame behind which no note ends.
+const LAST_FRAME: u64 = 100_000_000;
+
+/// How many notes a list has at most.
+pub const MOST_NOTES: usize = 65_535;
+
+/// A note to be played: it starts and ends by frame 100,000,000, and its key and velocity are at most
+/// 127.
+#[derive(Debug, Clone, Copy, PartialEq, Eq)]
+pub struct Note {
+    start: u32,
+    length: u32,
+    bank: u16,
+    number: u16,
+    key: u8,
+    velocity: u8,
+}
+
+impl Model for Note {
+    ghost use Rattle.note_list.specs.Notes.{Numbers, IsNote};
+
+    ghost Value = { Numbers };
+
+    ghost view = { λ n. record { start = n.start; length = n.length; bank = n.bank; number = n.number; key = n.key; velocity = n.velocity } };
+
+    ghost invariant = { λ n. IsNote (record { start = n.start; length = n.length; bank = n.bank; number = n.number; key = n.key; velocity = n.velocity }) };
+
+    ghost inverse = { λ n. record { start = n.start; length = n.length; bank = n.bank; number = n.number; key = n.key; velocity = n.velocity } };
+}
+
+impl Note {
+    /// The note with these numbers. None where it would end behind frame 100,000,000, or its key or
+    /// velocity is above 127.
+    #[tactic(auto, unfolding(crate::specs::Notes::note_of))]
+    pub fn new(
+        start: u32,
+        length: u32,
+        bank: u16,
+        number: u16,
+        key: u8,
+        velocity: u8,
+    ) -> Option<Note>
+        ensures { result ≡ note_of (record { start = start; length = length; bank = bank; number = number; key = key; velocity = velocity }) }
+    {
+        if u64::from(start) + u64::from(length) > LAST_FRAME || key > 127 || velocity > 127 {
+            return None;
+        }
+        Some(Note {
+            start,
+            length,
+            bank,
+            number,
+            key,
+            velocity,
+        })
+    }
+
+    /// The frame at which it starts.
+    pub fn start(&self) -> u32
+        ensures value { result ≡ self.now.start }
+        ensures ends { self.now.start + self.now.length ≤ 100000000 }
+    {
+        self.start
+    }
+
+    /// How many frames it is held.
+    pub fn length(&self) -> u32
+        ensures value { result ≡ self.now.length }
+        ensures ends { self.now.start + self.now.length ≤ 100000000 }
+    {
+        self.length
+    }
+
+    /// The bank number of its preset.
+    pub fn bank(&self) -> u16
+        ensures { result ≡ self.now.bank }
+    {
+        self.bank
+    }
+
+    /// The number of its preset.
+    pub fn number(&self) -> u16
+        ensures { result ≡ self.now.number }
+    {
+        self.number
+    }
+
+    /// The key, up to 127. 60 is the middle C.
+    pub fn key(&self) -> u8
+        ensures value { result ≡ self.now.key }
+        ensures within { result ≤ 127 }
+    {
+        self.key
+    }
+
+    /// The velocity, up to 127.
+    pub fn velocity(&self) -> u8
+        ensures value { result ≡ self.now.velocity }
+        ensures within { result ≤ 127 }
+    {
+        self.velocity
+    }
+}

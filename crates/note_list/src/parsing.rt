@@ -1,0 +1,80 @@
+//! The notes of a text.
+ghost use Rattle.std.specs.Prelude.{◌≡◌, ◌≤◌, nat_le, length, IfOk};
+ghost use Rattle.line_tokens.specs.Parts.{Reads};
+ghost use Rattle.line_tokens.specs.Said.{said_in};
+ghost use Rattle.note_list.specs.Notes.{Answers, note, with_note, notes_of};
+
+use crate::fault::NoteFault;
+use crate::note::{MOST_NOTES, Note};
+use line_tokens::{Cursor, LineFault, Lines};
+use sf_base::Failure;
+use std::alloc::Global;
+
+/// The notes of a text, at most 65,535, in its order; or its first fault from left to right. On one
+/// line `BadNote` comes before `TooLong`, and that before `TooManyNotes`. Want of memory may come in
+/// place of either.
+pub fn parse_notes(alloc: Global, text: &[u8]) -> Result<Vec<Note>, Failure<NoteFault>>
+    ensures answers { Answers (λ notes. notes.items) result (notes_of text.now) }
+    ensures few { IfOk result (λ notes. length notes.items ≤ 65535) }
+{
+    let mut notes = Vec::new(alloc);
+    let mut number: u64 = 0;
+    for line in Lines::of(text) {
+        number += 1;
+        add_note(&mut notes, number, line)?;
+    }
+    Ok(notes)
+}
+
+// Adds the note of a line, if it has one.
+fn add_note(notes: &mut Vec<Note>, number: u64, line: &[u8]) -> Result<(), Failure<NoteFault>>
+    requires { length notes.old.items ≤ 65535 }
+    ensures added { Answers (λ _. notes.new.items) result (with_note number (said_in line.now) notes.old.items) }
+    ensures few { IfOk result (λ _. length notes.new.items ≤ 65535) }
+{
+    // A note has no literals, and so no line needs a pool.
+    let mut cursor = Cursor::of(line, &[]);
+    if cursor.is_empty() {
+        return Ok(());
+    }
+    match note(&mut cursor) {
+        Err(_) => Err(NoteFault::BadNote(number).into()),
+        Ok(None) => Err(NoteFault::TooLong(number).into()),
+        Ok(Some(note)) => {
+            if is_full(notes) {
+                return Err(NoteFault::TooManyNotes(number).into());
+            }
+            notes.push(note)?;
+            Ok(())
+        }
+    }
+}
+
+// The note of a line, to its end; none where it is too long.
+#[tactic(auto, unfolding(crate::specs::Notes::note))]
+fn note(cursor: &mut Cursor<'_, '_>) -> Result<Option<Note>, LineFault>
+    ensures { Reads (λ n. n) note cursor.old cursor.new result }
+{
+    let start = cursor.number(u32::MAX)?;
+    let length = cursor.number(u32::MAX)?;
+    let bank = cursor.number(65_535)?;
+    let number = cursor.number(65_535)?;
+    let key = cursor.number(127)?;
+    let velocity = cursor.number(127)?;
+    cursor.end()?;
+    Ok(Note::new(
+        start,
+        length,
+        bank as u16,
+        number as u16,
+        key as u8,
+        velocity as u8,
+    ))
+}
+
+// Whether there is no room for a further note.
+fn is_full(notes: &Vec<Note>) -> bool
+    ensures { result ≡ nat_le 65535 (length notes.now.items) }
+{
+    notes.len() >= MOST_NOTES
+}

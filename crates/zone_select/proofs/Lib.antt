@@ -1,0 +1,4 @@
+pub mod NumberLaws
+pub mod PairLaws
+pub mod ZoneLaws
+pub mod LeftLaws

@@ -1,0 +1,122 @@
+-- Zones by what a bank tells of them.
+use Rattle.std.proofs.Common.{◌≡◌, ◌≤◌, ◌<◌, ◌⊎◌, inl, inr, get_or, ◌&&◌, ◌%◌, ◌/◌, ◌↔◌, IsTrue, nat_le, Fits, w32, ℕ, ◌+◌, Bool, true, false, List, [], ◌∷◌, length, Option, Some, None, slice_get, unwrap_or, refl, sym, ap, ◌∙◌, arith}
+use Rattle.std.specs.Option.{option_map_or, option_map}
+use Rattle.std.proofs.lemmas.Bool.{leb-true, leb-false}
+use Rattle.std.proofs.lemmas.Option.{get_or_from_slice_get, slice_get_within, slice_get_cases}
+use Rattle.std.proofs.lemmas.List.Sums.{get_or-le-sum_by}
+use Rattle.note_list.specs.Notes.{Numbers}
+use Rattle.bank_parts.specs.declared.parts.Head.{Head}
+use Rattle.bank_parts.specs.declared.parts.Zone.{Zone}
+use Rattle.bank_parts.specs.declared.parts.WithZones.{WithZones}
+use Rattle.bank_parts.specs.declared.parts.Parts.{Parts}
+use Rattle.bank_parts.specs.Valid.{IsWithin, zone_count, owner_total}
+use Rattle.bank_parts.specs.Sound.{IsSound}
+use Rattle.bank_core.specs.declared.members.Owner.{Owner}
+use Rattle.bank_core.specs.declared.members.Owner.TheVariants as owner
+use Rattle.bank_core.specs.Members.{own_zone_count}
+use Rattle.zone_select.specs.Ranges.{holds, within}
+use Rattle.zone_select.specs.Pairs.{holds_at, held}
+use Rattle.zone_select.specs.Left.{zones_in, range_at, owner_holds, owner_held}
+use Rattle.zone_select.proofs.NumberLaws.{numbers, numbers_end, numbers_hit, numbers_miss}
+
+-- ---- an owner has no more zones than all of its level together
+
+few_in : {H : Type 0} (owners : List (WithZones H)) (i : ℕ) (o : Option (WithZones H)) → slice_get owners i ≡ o → option_map_or (λ (x : WithZones H). length x.zones) o 0 ≤ owner_total zone_count owners
+few_in owners i None e = omega arith
+few_in {H} owners i (Some x) e =
+    let h = get_or-le-sum_by (λ (y : WithZones H). zone_count y.global y.zones) owners i x (slice_get_within owners i x e) in
+    let same = ap (λ (y : WithZones H). zone_count y.global y.zones) (get_or_from_slice_get owners i x x e) in
+    omega (arith, h, same)
+
+zones_of_preset : (b : Parts) (p : ℕ) (o : Option (WithZones Head)) → slice_get b.presets p ≡ o → zones_in b (owner.Preset p) ≡ option_map_or (λ (x : WithZones Head). length x.zones) o 0
+zones_of_preset b p None e = rw e refl
+zones_of_preset b p (Some x) e = rw e refl
+
+zones_of_instrument : (b : Parts) (i : ℕ) (o : Option (WithZones (List ℕ))) → slice_get b.instruments i ≡ o → zones_in b (owner.Instrument i) ≡ option_map_or (λ (x : WithZones (List ℕ)). length x.zones) o 0
+zones_of_instrument b i None e = rw e refl
+zones_of_instrument b i (Some x) e = rw e refl
+
+pub zones_few : (b : Parts) (o : Owner) → IsWithin b → zones_in b o ≤ 65535
+zones_few b (owner.Preset p) w =
+    let h = few_in b.presets p _ refl in let s = zones_of_preset b p _ refl in let most = w.preset_zones in omega (arith, h, s, most)
+zones_few b (owner.Instrument i) w =
+    let h = few_in b.instruments i _ refl in let s = zones_of_instrument b i _ refl in let most = w.instrument_zones in omega (arith, h, s, most)
+
+pub zone_count_few : (b : Parts) (o : Owner) (n : ℕ) → IsSound b → own_zone_count b o ≡ Some n → n ≤ 65535
+zone_count_few b o n s e = let h = zones_few b o s.valid.limits in let same : zones_in b o ≡ n = rw e refl in omega (arith, h, same)
+
+pub fits_field : (n : ℕ) → n ≤ 65535 → Fits w32 n
+fits_field n h = omega (arith, h)
+
+-- ---- whether a zone holds the note
+
+-- the same by the two ranges that a bank tells
+abbrev pub told : Parts → Numbers → Owner → ℕ → Bool
+told b n o k = within (range_at b o k 43) n.key && within (range_at b o k 44) n.velocity
+
+there : (zones : List Zone) (k : ℕ) → k < length zones → (z : Zone) × (slice_get zones k ≡ Some z)
+there zones k h = from (slice_get_cases zones k).1
+  where
+    from : ((x : Zone) × (k < length zones) × (slice_get zones k ≡ Some x) × (get_or zones k x ≡ x)) ⊎ ((length zones ≤ k) × (slice_get zones k ≡ None)) → (z : Zone) × (slice_get zones k ≡ Some z)
+    from (inl r) = (r.0, r.2)
+    from (inr r) = absurd (let past = r.0 in omega (arith, h, past))
+
+preset_told : (b : Parts) (n : Numbers) (p k : ℕ) (o : Option (WithZones Head)) → slice_get b.presets p ≡ o → k < option_map_or (λ (x : WithZones Head). length x.zones) o 0 → owner_holds b n (owner.Preset p) k ≡ told b n (owner.Preset p) k
+unfolding holds
+preset_told b n p k None e h = absurd (omega (arith, h))
+preset_told b n p k (Some x) e h = let z = there x.zones k h in rw (e, z.1) refl
+
+instrument_told : (b : Parts) (n : Numbers) (i k : ℕ) (o : Option (WithZones (List ℕ))) → slice_get b.instruments i ≡ o → k < option_map_or (λ (x : WithZones (List ℕ)). length x.zones) o 0 → owner_holds b n (owner.Instrument i) k ≡ told b n (owner.Instrument i) k
+unfolding holds
+instrument_told b n i k None e h = absurd (omega (arith, h))
+instrument_told b n i k (Some x) e h = let z = there x.zones k h in rw (e, z.1) refl
+
+pub holds_told : (b : Parts) (n : Numbers) (o : Owner) (k : ℕ) → k < zones_in b o → owner_holds b n o k ≡ told b n o k
+holds_told b n (owner.Preset p) k h = let s = zones_of_preset b p _ refl in preset_told b n p k _ refl (omega (arith, h, s))
+holds_told b n (owner.Instrument i) k h = let s = zones_of_instrument b i _ refl in instrument_told b n i k _ refl (omega (arith, h, s))
+
+pub contains_is : (r : Bool) (low high word x : ℕ) → low ≡ word % 256 → high ≡ word / 256 → (IsTrue r ↔ ((low ≤ x) × (x ≤ high))) → r ≡ within word x
+contains_is r low high word x l h e = rw (← l, ← h) (from r (nat_le low x) (nat_le x high) refl refl e)
+  where
+    from : (r s t : Bool) → nat_le low x ≡ s → nat_le x high ≡ t → (IsTrue r ↔ ((low ≤ x) × (x ≤ high))) → r ≡ (s && t)
+    from true true true p q e = refl
+    from true true false p q e = absurd (let h = (e.0 refl).1 in let k = leb-false x high q in omega (arith, h, k))
+    from true false t p q e = absurd (let h = (e.0 refl).0 in let k = leb-false low x p in omega (arith, h, k))
+    from false true true p q e = e.1 (leb-true low x p, leb-true x high q)
+    from false true false p q e = refl
+    from false false t p q e = refl
+
+pub both_hold : (b : Parts) (n : Numbers) (o : Owner) (k : ℕ) (q r : Bool) → k < zones_in b o → q ≡ within (range_at b o k 43) n.key → q ≡ true → r ≡ within (range_at b o k 44) n.velocity → r ≡ owner_holds b n o k
+both_hold b n o k q r h e t f = f ∙ ap (λ (x : Bool). x && within (range_at b o k 44) n.velocity) (sym t ∙ e) ∙ sym (holds_told b n o k h)
+
+pub first_fails : (b : Parts) (n : Numbers) (o : Owner) (k : ℕ) (q : Bool) → k < zones_in b o → q ≡ within (range_at b o k 43) n.key → q ≡ false → q ≡ owner_holds b n o k
+first_fails b n o k q h e t = t ∙ ap (λ (x : Bool). x && within (range_at b o k 44) n.velocity) (sym t ∙ e) ∙ sym (holds_told b n o k h)
+
+-- ---- the numbers of the zones that hold it
+
+held_of_preset : (b : Parts) (n : Numbers) (p k : ℕ) → owner_held b n (owner.Preset p) k ≡ numbers (owner_holds b n (owner.Preset p)) k (zones_in b (owner.Preset p))
+held_of_preset b n p k =
+    elim (slice_get b.presets p) as (λ (o : Option (WithZones Head)). option_map_or (λ (x : WithZones Head). held n x.global x.zones k) o [] ≡ numbers (λ j. option_map_or (λ (x : WithZones Head). holds_at n x.global x.zones j) o false) k (unwrap_or (option_map (λ (x : WithZones Head). length x.zones) o) 0)) [
+      | None ↦ sym (numbers_end (λ _. false) k 0 (omega arith))
+      | Some x ↦ refl
+    ]
+
+held_of_instrument : (b : Parts) (n : Numbers) (i k : ℕ) → owner_held b n (owner.Instrument i) k ≡ numbers (owner_holds b n (owner.Instrument i)) k (zones_in b (owner.Instrument i))
+held_of_instrument b n i k =
+    elim (slice_get b.instruments i) as (λ (o : Option (WithZones (List ℕ))). option_map_or (λ (x : WithZones (List ℕ)). held n x.global x.zones k) o [] ≡ numbers (λ j. option_map_or (λ (x : WithZones (List ℕ)). holds_at n x.global x.zones j) o false) k (unwrap_or (option_map (λ (x : WithZones (List ℕ)). length x.zones) o) 0)) [
+      | None ↦ sym (numbers_end (λ _. false) k 0 (omega arith))
+      | Some x ↦ refl
+    ]
+
+held_is : (b : Parts) (n : Numbers) (o : Owner) (k : ℕ) → owner_held b n o k ≡ numbers (owner_holds b n o) k (zones_in b o)
+held_is b n (owner.Preset p) k = held_of_preset b n p k
+held_is b n (owner.Instrument i) k = held_of_instrument b n i k
+
+pub held_end : (b : Parts) (n : Numbers) (o : Owner) (k : ℕ) → zones_in b o ≤ k → owner_held b n o k ≡ []
+held_end b n o k h = held_is b n o k ∙ numbers_end (owner_holds b n o) k (zones_in b o) h
+
+pub held_hit : (b : Parts) (n : Numbers) (o : Owner) (k : ℕ) → k < zones_in b o → owner_holds b n o k ≡ true → owner_held b n o k ≡ k ∷ owner_held b n o (k + 1)
+held_hit b n o k h t = held_is b n o k ∙ numbers_hit (owner_holds b n o) k (zones_in b o) h t ∙ ap (λ (ks : List ℕ). k ∷ ks) (sym (held_is b n o (k + 1)))
+
+pub held_miss : (b : Parts) (n : Numbers) (o : Owner) (k : ℕ) → k < zones_in b o → owner_holds b n o k ≡ false → owner_held b n o k ≡ owner_held b n o (k + 1)
+held_miss b n o k h t = held_is b n o k ∙ numbers_miss (owner_holds b n o) k (zones_in b o) h t ∙ sym (held_is b n o (k + 1))

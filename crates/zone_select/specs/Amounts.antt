@@ -1,0 +1,148 @@
+-- The amounts of a pair of zones, of which v is taken of the instrument's zone and u of the preset's; and the
+-- numbers that a voice plays by.
+use Rattle.std.specs.Prelude.{ℕ, ◌==◌, ◌||◌, ◌&&◌, Bool, cond, nat_le, ℤ, pos, negsuc, ◌+ℤ◌, ◌-ℤ◌, ◌*ℤ◌, int_le, int_lt, List, [], ◌∷◌, length, map, fold, reverse, Option, unwrap_or}
+use Rattle.std.specs.Int.{w16, cast_signed, int_max, int_min}
+use Rattle.std.specs.List.{find}
+use Rattle.std.specs.Option.{option_or, option_map_or, is_some}
+use Rattle.generators.specs.Defaults.{default_of}
+use Rattle.generators.specs.Levels.{is_allowed}
+use Rattle.generators.specs.declared.level.Level.TheVariants as level
+use Rattle.modulators.specs.declared.modulator.Modulator.{Modulator}
+use Rattle.modulators.specs.Modulators.{same_identity, default_velocity}
+use Rattle.modulators.specs.Linear.{linear_value}
+use Rattle.sound_tables.specs.Floor.{floor_div, floor_mod, above_zero}
+use Rattle.sound_tables.specs.Tables.{frames_of, velatt_of, step_of}
+use Rattle.note_list.specs.Notes.{Numbers}
+use Rattle.bank_parts.specs.declared.parts.Sample.{Sample}
+use Rattle.zone_select.specs.declared.params.Plays.{Plays}
+use Rattle.zone_select.specs.Taken.{Taken}
+
+-- ---- generators
+
+-- the instrument's: the zone's, else its global zone's, else the default
+abbrev pub instrument_amount : Taken → ℕ → ℤ
+instrument_amount v op = option_map_or (cast_signed w16) (v.settings op) (unwrap_or (default_of op) (pos 0))
+
+-- the preset's, where presets may have the operator: the zone's, else its global zone's, else none
+abbrev pub preset_amount : Taken → ℕ → ℤ
+preset_amount u op = cond (is_allowed level.Preset op) (option_map_or (cast_signed w16) (u.settings op) (pos 0)) (pos 0)
+
+-- both together
+unfoldable pub amount : Taken → Taken → ℕ → ℤ
+amount v u op = instrument_amount v op +ℤ preset_amount u op
+
+-- ---- modulators
+
+-- the last with the identity of m
+abbrev pub last_like : Modulator → List Modulator → Option Modulator
+last_like m mods = find (λ x. same_identity x m) (reverse mods)
+
+-- its amount: of the zone's, else of the global zone's, else this one
+abbrev pub amount_like : Modulator → Taken → ℤ → ℤ
+amount_like m t default = option_map_or (λ (x : Modulator). x.amount) (option_or (last_like m t.mods) (last_like m t.inherited)) default
+
+-- the instrument's and the preset's together
+unfoldable pub modulator_amount : Modulator → Taken → Taken → ℤ → ℤ
+modulator_amount m v u default = amount_like m v default +ℤ amount_like m u (pos 0)
+
+-- the sources that linear modulators have: velocity or key, rising or falling, of one polarity or two
+abbrev pub linear_sources : List ℕ
+linear_sources = 2 ∷ 3 ∷ 258 ∷ 259 ∷ 514 ∷ 515 ∷ 770 ∷ 771 ∷ []
+
+-- the identity of the linear modulator from a source to a generator
+abbrev pub linear_from : ℕ → ℕ → Modulator
+linear_from source op = record { source = source; dest = op; amount = pos 0; amount_source = 0; transform = 0 }
+
+-- what it adds to the generator, rounded down once for the whole amount
+abbrev pub linear_part : ℕ → ℕ → Taken → Taken → ℕ → ℕ → ℤ
+linear_part key velocity v u op source =
+    option_map_or (λ x. floor_div (modulator_amount (linear_from source op) v u (pos 0) *ℤ x) 128) (linear_value (linear_from source op) key velocity) (pos 0)
+
+abbrev pub sum_of : List ℤ → ℤ
+sum_of zs = fold (λ s z. s +ℤ z) (pos 0) zs
+
+-- the amount of a generator that linear modulators move
+unfoldable pub moved_amount : ℕ → ℕ → Taken → Taken → ℕ → ℤ
+moved_amount key velocity v u op = amount v u op +ℤ sum_of (map (linear_part key velocity v u op) linear_sources)
+
+-- ---- the numbers that a voice plays by
+
+-- a number from 0 to 127, else the other one
+abbrev pub chosen : ℤ → ℕ → ℕ
+chosen (pos x) y = cond (nat_le x 127) x y
+chosen (negsuc x) y = y
+
+-- cut to low..high
+abbrev pub cut : ℕ → ℕ → ℤ → ℕ
+cut low high z = above_zero (int_min (int_max z (pos low)) (pos high))
+
+-- an offset in points: the fine one, and the coarse one in steps of 32,768
+abbrev pub offset : Taken → Taken → ℕ → ℕ → ℤ
+offset v u fine coarse = amount v u fine +ℤ pos 32768 *ℤ amount v u coarse
+
+abbrev pub key_of : Numbers → Taken → Taken → ℕ
+key_of n v u = chosen (amount v u 46) n.key
+
+abbrev pub velocity_of : Numbers → Taken → Taken → ℕ
+velocity_of n v u = chosen (amount v u 47) n.velocity
+
+-- the key at which the sample sounds as recorded: the zone's, else its own, else 60
+abbrev pub root_of : Taken → Taken → Sample → ℕ
+root_of v u s = chosen (amount v u 58) (cond (nat_le s.key 127) s.key 60)
+
+-- generators that may be moved, at the key and the velocity that the voice has
+abbrev pub moved : Numbers → Taken → Taken → ℕ → ℤ
+moved n v u op = moved_amount (key_of n v u) (velocity_of n v u) v u op
+
+-- the pitch above the sample's own, in cents
+abbrev pub cents_of : Numbers → Taken → Taken → Sample → ℤ
+cents_of n v u s =
+    amount v u 56 *ℤ (pos (key_of n v u) -ℤ pos (root_of v u s)) +ℤ pos 100 *ℤ amount v u 51 +ℤ moved n v u 52 +ℤ s.correction
+
+-- the generator's, and that of the velocity by its default modulator
+abbrev pub attenuation_of : Numbers → Taken → Taken → ℤ
+attenuation_of n v u = moved n v u 48 +ℤ floor_div (modulator_amount default_velocity v u (pos 960) *ℤ pos (velatt_of (velocity_of n v u))) 960
+
+abbrev pub start_of : Taken → Taken → Sample → ℕ
+start_of v u s = cut 0 (length s.points) (offset v u 0 4)
+
+abbrev pub end_of : Taken → Taken → Sample → ℕ
+end_of v u s = cut (start_of v u s) (length s.points) (pos (length s.points) +ℤ offset v u 1 12)
+
+abbrev pub loop_start_of : Taken → Taken → Sample → ℤ
+loop_start_of v u s = option_map_or (λ l. pos l.0) s.looped (pos 0) +ℤ offset v u 2 45
+
+abbrev pub loop_end_of : Taken → Taken → Sample → ℤ
+loop_end_of v u s = option_map_or (λ l. pos l.1) s.looped (pos 0) +ℤ offset v u 3 50
+
+-- the low two bits
+abbrev pub mode_of : Taken → Taken → ℕ
+mode_of v u = floor_mod (amount v u 54) 4
+
+-- the zone asks for a loop, the sample has one, and it lies in what is played
+unfoldable pub is_looped : Taken → Taken → Sample → Bool
+is_looped v u s =
+    (mode_of v u == 1 || mode_of v u == 3) && is_some s.looped
+    && int_le (pos (start_of v u s)) (loop_start_of v u s) && int_lt (loop_start_of v u s) (loop_end_of v u s) && int_le (loop_end_of v u s) (pos (end_of v u s))
+
+-- all of them, for a sample; the ends of a loop are 0 where there is none
+unfoldable pub plays_of : Numbers → Taken → Taken → Sample → Plays
+plays_of n v u s = record {
+  start = start_of v u s;
+  end = end_of v u s;
+  loop_start = cond (is_looped v u s) (above_zero (loop_start_of v u s)) 0;
+  loop_end = cond (is_looped v u s) (above_zero (loop_end_of v u s)) 0;
+  looped = is_looped v u s;
+  until_release = mode_of v u == 3;
+  step = step_of (cents_of n v u s) s.rate;
+  delay = frames_of (amount v u 33);
+  attack = frames_of (moved n v u 34);
+  hold = frames_of (amount v u 35);
+  decay = frames_of (moved n v u 36);
+  release = frames_of (moved n v u 38);
+  sustain = cut 0 960 (moved n v u 37);
+  attenuation = attenuation_of n v u;
+  pan = int_min (int_max (moved n v u 17) (negsuc 499)) (pos 500);
+  length = n.length;
+  class = amount v u 57;
+}

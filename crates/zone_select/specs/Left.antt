@@ -1,0 +1,48 @@
+-- The pairs that are left, and zones by what a bank tells of them.
+use Rattle.std.specs.Prelude.{ℕ, ◌+◌, Bool, false, List, [], ◌++◌, map, Option, None, Some, unwrap_or, slice_get}
+use Rattle.std.specs.List.{flat_map}
+use Rattle.std.specs.Option.{option_map_or}
+use Rattle.note_list.specs.Notes.{Numbers}
+use Rattle.bank_core.specs.declared.members.Owner.{Owner}
+use Rattle.bank_core.specs.declared.members.Owner.TheVariants as owner
+use Rattle.bank_core.specs.declared.members.Place.TheVariants as place
+use Rattle.bank_core.specs.Members.{word_of, own_zone_count, target_of}
+use Rattle.bank_parts.specs.declared.parts.Head.{Head}
+use Rattle.bank_parts.specs.declared.parts.WithZones.{WithZones}
+use Rattle.bank_parts.specs.declared.parts.Zone.{Zone}
+use Rattle.bank_parts.specs.declared.parts.Parts.{Parts}
+use Rattle.zone_select.specs.Ranges.{whole_range}
+use Rattle.zone_select.specs.Pairs.{holds_at, held, held_inside, pairs_at}
+
+-- how many zones an owner has; none where there is no such owner
+abbrev pub zones_in : Parts → Owner → ℕ
+zones_in b o = unwrap_or (own_zone_count b o) 0
+
+-- the word of a range that holds for zone k of an owner
+abbrev pub range_at : Parts → Owner → ℕ → ℕ → ℕ
+range_at b o k op = unwrap_or (word_of b o (place.Zone k) op) (unwrap_or (word_of b o place.Global op) whole_range)
+
+-- an owner has zone k, and it holds the note
+abbrev pub owner_holds : Parts → Numbers → Owner → ℕ → Bool
+owner_holds b n (owner.Preset p) k = option_map_or (λ (x : WithZones Head). holds_at n x.global x.zones k) (slice_get b.presets p) false
+owner_holds b n (owner.Instrument i) k = option_map_or (λ (x : WithZones (List ℕ)). holds_at n x.global x.zones k) (slice_get b.instruments i) false
+
+-- the numbers of an owner's zones that hold the note, from k on
+abbrev pub owner_held : Parts → Numbers → Owner → ℕ → List ℕ
+owner_held b n (owner.Preset p) k = option_map_or (λ (x : WithZones Head). held n x.global x.zones k) (slice_get b.presets p) []
+owner_held b n (owner.Instrument i) k = held_inside b n i k
+
+-- the pairs of zone k of a preset, whose second is at least l, and those of the later zones
+abbrev pub left_of : Parts → Numbers → ℕ → ℕ → WithZones Head → List (ℕ × ℕ)
+left_of b n k l p =
+    option_map_or (λ (z : Zone). map (λ (m : ℕ). let q : ℕ × ℕ = (k, m) in q) (held_inside b n z.target l)) (slice_get p.zones k) []
+    ++ flat_map (pairs_at b n p.zones) (held n p.global p.zones (k + 1))
+
+-- the same of a preset's number; none where no zone is left
+abbrev pub pairs_left : Parts → Numbers → ℕ → Option ℕ → ℕ → List (ℕ × ℕ)
+pairs_left b n p None l = []
+pairs_left b n p (Some k) l = option_map_or (left_of b n k l) (slice_get b.presets p) []
+
+-- the zones, from l on, of the instrument of zone k of a preset that hold the note
+abbrev pub inside_held : Parts → Numbers → ℕ → ℕ → ℕ → List ℕ
+inside_held b n p k l = option_map_or (λ (t : ℕ). held_inside b n t l) (target_of b (owner.Preset p) k) []

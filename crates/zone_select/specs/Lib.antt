@@ -1,0 +1,6 @@
+pub mod Ranges
+pub mod Taken
+pub mod Amounts
+pub mod Select
+pub mod Pairs
+pub mod Left

@@ -1,0 +1,50 @@
+-- The voices of a note.
+use Rattle.std.specs.Prelude.{ℕ, Bool, cond, ◌==◌, ◌&&◌, List, [], ◌∷◌, slice_get}
+use Rattle.std.specs.List.{flat_map, find}
+use Rattle.std.specs.Option.{option_map_or}
+use Rattle.note_list.specs.Notes.{Numbers}
+use Rattle.bank_parts.specs.declared.parts.Head.{Head}
+use Rattle.bank_parts.specs.declared.parts.GlobalZone.{GlobalZone}
+use Rattle.bank_parts.specs.declared.parts.Zone.{Zone}
+use Rattle.bank_parts.specs.declared.parts.WithZones.{WithZones}
+use Rattle.bank_parts.specs.declared.parts.Sample.{Sample}
+use Rattle.bank_parts.specs.declared.parts.Parts.{Parts}
+use Rattle.zone_select.specs.declared.params.Plays.{Plays}
+use Rattle.zone_select.specs.Ranges.{holds}
+use Rattle.zone_select.specs.Taken.{Taken, taken}
+use Rattle.zone_select.specs.Amounts.{plays_of}
+
+-- the points of a voice, and the numbers that it plays by
+pub record Voice : Type 0 where
+  pub points : List ℕ
+  pub plays : Plays
+
+-- the voice of a sample, for what is taken of an instrument's zone and of a preset's
+unfoldable pub voice_of : Numbers → Taken → Taken → Sample → Voice
+voice_of n v u s = record { points = s.points; plays = plays_of n v u s }
+
+-- of each zone that holds the note, the voices of its target
+unfoldable pub voices_of : (Taken → ℕ → List Voice) → Numbers → GlobalZone → List Zone → List Voice
+voices_of inner n global zones = flat_map (λ (z : Zone). cond (holds n global z) (inner (taken global z) z.target) []) zones
+
+-- the voice of a sample's number
+unfoldable pub sample_voices : Parts → Numbers → Taken → Taken → ℕ → List Voice
+sample_voices b n u v number = option_map_or (λ (s : Sample). voice_of n v u s ∷ []) (slice_get b.samples number) []
+
+-- the voices of an instrument, for what is taken of a preset's zone
+unfoldable pub instrument_voices : Parts → Numbers → Taken → WithZones (List ℕ) → List Voice
+instrument_voices b n u i = voices_of (sample_voices b n u) n i.global i.zones
+
+unfoldable pub number_voices : Parts → Numbers → Taken → ℕ → List Voice
+number_voices b n u number = option_map_or (instrument_voices b n u) (slice_get b.instruments number) []
+
+unfoldable pub preset_voices : Parts → Numbers → WithZones Head → List Voice
+preset_voices b n p = voices_of (number_voices b n) n p.global p.zones
+
+-- the note's two numbers are the preset's
+unfoldable pub is_called : Numbers → WithZones Head → Bool
+is_called n p = p.head.bank == n.bank && p.head.number == n.number
+
+-- the voices of the first preset with the note's numbers
+unfoldable pub selected : Parts → Numbers → List Voice
+selected b n = option_map_or (preset_voices b n) (find (is_called n) b.presets) []

@@ -1,0 +1,21 @@
+-- What a voice takes of a zone.
+use Rattle.std.specs.Prelude.{ℕ, List, Option, None, cond}
+use Rattle.std.specs.Option.{option_or}
+use Rattle.std.specs.FinMap.{get}
+use Rattle.generators.specs.Ranges.{is_range_operator}
+use Rattle.modulators.specs.declared.modulator.Modulator.{Modulator}
+use Rattle.bank_parts.specs.declared.parts.GlobalZone.{GlobalZone}
+use Rattle.bank_parts.specs.declared.parts.Zone.{Zone}
+
+-- the zone's word, else its global zone's; a range is no amount
+unfoldable pub setting : GlobalZone → Zone → ℕ → Option ℕ
+setting global z op = cond (is_range_operator op) None (option_or (get z.gens op) (get global.gens op))
+
+-- the words that hold for a zone, its own modulators, and those of its global zone
+pub record Taken : Type 0 where
+  pub settings : ℕ → Option ℕ
+  pub mods : List Modulator
+  pub inherited : List Modulator
+
+unfoldable pub taken : GlobalZone → Zone → Taken
+taken global z = record { settings = setting global z; mods = z.mods; inherited = global.mods }

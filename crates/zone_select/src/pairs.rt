@@ -1,0 +1,144 @@
+//! The pairs of zones that a note selects.
+ghost use Rattle.std.specs.Prelude.{◌≡◌, ◌<◌, ◌≤◌, false, length, ◌∷◌, ◌+◌, [], None, Some, MatchOption, IfSome, slice_get};
+ghost use Rattle.std.specs.Iterator.{YieldsFirstBy, item_count};
+ghost use Rattle.std.specs.List.{find};
+ghost use Rattle.std.specs.Option.{option_map_or};
+ghost use Rattle.zone_select.specs.Select.{is_called};
+ghost use Rattle.zone_select.specs.Pairs.{pairs};
+ghost use Rattle.zone_select.specs.Left.{inside_held, pairs_left};
+
+use crate::zones::next_held;
+use bank_core::{Bank, Members, Owner};
+use note_list::Note;
+use std::marker::Model;
+
+/// The pairs of zones that a note selects, the number of a preset's zone before that of its
+/// instrument's, in rising order; seen as the list of those that are left. It lends from the bank.
+#[derive(Drop)]
+pub struct ZonePairs<'b, 'a> {
+    bank: &'b Bank<'a>,
+    note: Note,
+    preset: u32,
+    // The preset's zone of the pairs that come next, and from where to look in its instrument.
+    zone: Option<u32>,
+    inner: u32,
+}
+
+impl<'b, 'a> Model for ZonePairs<'b, 'a> {
+    ghost use Rattle.std.specs.Prelude.{◌<◌, ℕ, List, IfSome};
+    ghost use Rattle.zone_select.specs.Left.{pairs_left};
+
+    ghost Value = { List (ℕ × ℕ) };
+
+    ghost view = { λ m. pairs_left m.bank.now m.note m.preset m.zone m.inner };
+
+    ghost invariant = { λ m. IfSome m.zone (λ k. k < 65535) };
+}
+
+impl<'b, 'a> Iterator for ZonePairs<'b, 'a> {
+    type Item = (u32, u32);
+
+    ghost next_gives = { YieldsFirstBy (λ pair. pair) (λ rest. rest) };
+
+    ghost remaining = { item_count (λ rest. rest) };
+
+    fn next(&mut self) -> Option<(u32, u32)> {
+        let (zone, inner) = next_pair(self.bank, &self.note, self.preset, self.zone, self.inner)?;
+        self.zone = Some(zone);
+        self.inner = inner + 1;
+        Some((zone, inner))
+    }
+}
+
+/// The pairs of zones that a note selects: of the first preset with its bank number and number, each
+/// zone whose key range and velocity range hold the note's own, with each zone of its instrument that
+/// does the same. A zone without a range has its global zone's, and else takes all.
+pub fn matches<'b, 'a>(bank: &'b Bank<'a>, note: &Note) -> ZonePairs<'b, 'a>
+    ensures { result ≡ pairs bank.now note.now }
+{
+    let Some(preset) = first_called(bank, note) else {
+        return ZonePairs {
+            bank,
+            note: *note,
+            preset: 0,
+            zone: None,
+            inner: 0,
+        };
+    };
+    ZonePairs {
+        bank,
+        note: *note,
+        preset,
+        zone: next_held(bank, note, Owner::Preset(preset), 0),
+        inner: 0,
+    }
+}
+
+// How many presets a bank has.
+fn preset_count(bank: &Bank<'_>) -> u32
+    ensures count { result ≡ length bank.now.presets }
+    ensures few { result ≤ 65535 }
+{
+    // What the bank tells of its totals is that it keeps within the limits.
+    let _ = bank.totals();
+    bank.count(Members::Presets) as u32
+}
+
+// Whether there is a preset of this number, with the note's two numbers.
+#[tactic(auto, using(crate::proofs::LeftLaws::called_then, crate::proofs::LeftLaws::called_else, crate::proofs::LeftLaws::not_there))]
+fn is_called(bank: &Bank<'_>, note: &Note, preset: u32) -> bool
+    ensures { result ≡ option_map_or (is_called note.now) (slice_get bank.now.presets preset) false }
+{
+    match bank.head(preset) {
+        Some(head) => head.bank == note.bank() && head.number == note.number(),
+        None => false,
+    }
+}
+
+// The first preset with the note's two numbers.
+pub(crate) fn first_called(bank: &Bank<'_>, note: &Note) -> Option<u32>
+    ensures { MatchOption result (find (is_called note.now) bank.now.presets ≡ None) (λ p. find (is_called note.now) bank.now.presets ≡ slice_get bank.now.presets p) }
+{
+    let count = preset_count(bank);
+    let mut preset = 0;
+    while preset < count {
+        if is_called(bank, note, preset) {
+            return Some(preset);
+        }
+        preset += 1;
+    }
+    None
+}
+
+// The first pair at or after a place, in the order of pairs.
+fn next_pair(
+    bank: &Bank<'_>,
+    note: &Note,
+    preset: u32,
+    first: Option<u32>,
+    from: u32,
+) -> Option<(u32, u32)>
+    requires { IfSome first (λ k. k < 65535) }
+    ensures left { MatchOption result (pairs_left bank.now note.now preset first from ≡ []) (λ q. pairs_left bank.now note.now preset first from ≡ q ∷ pairs_left bank.now note.now preset (Some q.0) (q.1 + 1)) }
+    ensures within { IfSome result (λ q. (q.0 < 65535) × (q.1 < 65535)) }
+{
+    let mut next = first;
+    let mut inner = from;
+    while let Some(zone) = next {
+        if let Some(found) = next_inside(bank, note, preset, zone, inner) {
+            return Some((zone, found));
+        }
+        next = next_held(bank, note, Owner::Preset(preset), zone + 1);
+        inner = 0;
+    }
+    None
+}
+
+// The first zone, from a number on, of the instrument of a preset's zone that holds the note.
+fn next_inside(bank: &Bank<'_>, note: &Note, preset: u32, zone: u32, from: u32) -> Option<u32>
+    ensures first { MatchOption result (inside_held bank.now note.now preset zone from ≡ []) (λ l. inside_held bank.now note.now preset zone from ≡ l ∷ inside_held bank.now note.now preset zone (l + 1)) }
+    ensures within { IfSome result (λ l. l < 65535) }
+{
+    let instrument = bank.target(Owner::Preset(preset), zone)?;
+    next_held(bank, note, Owner::Instrument(u32::from(instrument)), from)
+}

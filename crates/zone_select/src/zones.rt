@@ -1,0 +1,65 @@
+//! Which zones of an owner hold a note.
+ghost use Rattle.std.specs.Prelude.{◌≡◌, ◌<◌, ◌≤◌, ◌%◌, ◌/◌, ◌∷◌, ◌+◌, [], MatchOption, IfSome};
+ghost use Rattle.note_list.specs.Notes.{Numbers};
+ghost use Rattle.zone_select.specs.Left.{zones_in, range_at, owner_holds, owner_held};
+
+use bank_core::{Bank, Owner, Place};
+use generators::Range;
+use generators::operators::{KEY_RANGE, VEL_RANGE};
+use note_list::Note;
+
+/// The keys and the velocities that a zone takes where neither it nor its global zone says.
+const WHOLE_RANGE: Range = Range { low: 0, high: 127 };
+
+// How many zones an owner has; none where there is no such owner.
+fn zones_in(bank: &Bank<'_>, owner: Owner) -> u32
+    ensures count { result ≡ zones_in bank.now owner }
+    ensures few { result ≤ 65535 }
+{
+    // What the bank tells of its totals is that it keeps within the limits.
+    let _ = bank.totals();
+    match bank.zone_count(owner) {
+        Some(count) => count as u32,
+        None => 0,
+    }
+}
+
+// The range that holds for a zone.
+fn range_at(bank: &Bank<'_>, owner: Owner, zone: u32, operator: u16) -> Range
+    ensures low { result.low ≡ range_at bank.now owner zone operator % 256 }
+    ensures high { result.high ≡ range_at bank.now owner zone operator / 256 }
+{
+    if let Some(word) = bank.gen_of(owner, Place::Zone(zone), operator) {
+        return Range::of_word(word);
+    }
+    match bank.gen_of(owner, Place::Global, operator) {
+        Some(word) => Range::of_word(word),
+        None => WHOLE_RANGE,
+    }
+}
+
+// Whether a zone that is there holds the note.
+fn holds(bank: &Bank<'_>, note: &Note, owner: Owner, zone: u32) -> bool
+    requires { zone < zones_in bank.now owner }
+    ensures { result ≡ owner_holds bank.now note.now owner zone }
+{
+    range_at(bank, owner, zone, KEY_RANGE).contains(note.key())
+        && range_at(bank, owner, zone, VEL_RANGE).contains(note.velocity())
+}
+
+// The first zone of an owner, from this number on, that holds the note.
+#[tactic(auto, using(crate::proofs::ZoneLaws::held_end, crate::proofs::ZoneLaws::held_hit, crate::proofs::ZoneLaws::held_miss))]
+pub(crate) fn next_held(bank: &Bank<'_>, note: &Note, owner: Owner, from: u32) -> Option<u32>
+    ensures first { MatchOption result (owner_held bank.now note.now owner from ≡ []) (λ k. owner_held bank.now note.now owner from ≡ k ∷ owner_held bank.now note.now owner (k + 1)) }
+    ensures within { IfSome result (λ k. (from ≤ k) × (k < 65535)) }
+{
+    let count = zones_in(bank, owner);
+    let mut zone = from;
+    while zone < count {
+        if holds(bank, note, owner, zone) {
+            return Some(zone);
+        }
+        zone += 1;
+    }
+    None
+}
