@@ -1,7 +1,7 @@
 -- What is told of a bank: a line of its own, one of the counts of reading it, and one of each member.
 use Rattle.std.specs.Prelude.{ℕ, suc, List, [], ◌∷◌, ◌++◌, length, sum_by, codes}
-use Rattle.bank_parts.specs.declared.parts.Preset.{Preset}
-use Rattle.bank_parts.specs.declared.parts.Instrument.{Instrument}
+use Rattle.bank_parts.specs.declared.parts.Head.{Head}
+use Rattle.bank_parts.specs.declared.parts.WithZones.{WithZones}
 use Rattle.bank_parts.specs.declared.parts.Sample.{Sample}
 use Rattle.bank_parts.specs.declared.parts.Parts.{Parts}
 use Rattle.bank_format.specs.declared.fault.Counts.{Counts}
@@ -38,12 +38,13 @@ counts_line counts = line_text (codes "counts") (
 
 -- ---- its members, by their numbers
 
--- the zones without the global one
-unfoldable pub preset_line : ℕ → Preset → List ℕ
-preset_line n p = line_text (codes "preset") (Number n ∷ Name p.name ∷ Number p.number ∷ Number p.bank ∷ Number (length p.zones) ∷ [])
+-- what a preset has besides its zones, and how many they are
+unfoldable pub preset_line : ℕ → Head → ℕ → List ℕ
+preset_line n p zones = line_text (codes "preset") (Number n ∷ Name p.name ∷ Number p.number ∷ Number p.bank ∷ Number zones ∷ [])
 
-unfoldable pub instrument_line : ℕ → Instrument → List ℕ
-instrument_line n i = line_text (codes "inst") (Number n ∷ Name i.name ∷ Number (length i.zones) ∷ [])
+-- an instrument by its name, and how many zones it has
+unfoldable pub instrument_line : ℕ → List ℕ → ℕ → List ℕ
+instrument_line n name zones = line_text (codes "inst") (Number n ∷ Name name ∷ Number zones ∷ [])
 
 -- all that a sample has but its points is told as in the edit script
 unfoldable pub sample_line : ℕ → Sample → List ℕ
@@ -54,12 +55,16 @@ abbrev pub lines_from : {X : Type 0} → (ℕ → X → List ℕ) → ℕ → Li
 lines_from line n [] = []
 lines_from line n (x ∷ xs) = line n x ++ lines_from line (suc n) xs
 
+-- the global zone is not counted
+abbrev pub owner_line : {H : Type 0} → (ℕ → H → ℕ → List ℕ) → ℕ → WithZones H → List ℕ
+owner_line line n x = line n x.head (length x.zones)
+
 -- ---- all lines
 
 unfoldable pub listing : Parts → Counts → List ℕ
 listing b counts =
     bank_line b
     ++ (counts_line counts
-    ++ (lines_from preset_line 0 b.presets
-    ++ (lines_from instrument_line 0 b.instruments
+    ++ (lines_from (owner_line preset_line) 0 b.presets
+    ++ (lines_from (owner_line instrument_line) 0 b.instruments
     ++ lines_from sample_line 0 b.samples)))

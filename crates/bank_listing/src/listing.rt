@@ -1,12 +1,12 @@
 //! The lines of a bank.
 ghost use Rattle.std.specs.Prelude.{◌≡◌};
 ghost use Rattle.sf_base.specs.Output.{Puts};
-ghost use Rattle.bank_listing.specs.Listing.{listing, bank_line, counts_line, lines_from};
+ghost use Rattle.bank_listing.specs.Listing.{listing, bank_line, counts_line, owner_line, sample_line, lines_from};
 
-use crate::members::Listed;
+use crate::members::{ListedHead, put_sample};
 use crate::pieces::{number_piece, word_piece};
 use crate::points::point_count;
-use bank_core::Bank;
+use bank_core::{Bank, Owners, Sample};
 use bank_format::Counts;
 use line_tokens::put_line;
 use sf_base::Output;
@@ -20,9 +20,9 @@ pub fn put_listing<W: Write>(bank: &Bank<'_>, counts: &Counts, output: &mut Outp
 {
     put_bank(bank, output);
     put_counts(counts, output);
-    put_lines(bank.presets(), output);
-    put_lines(bank.instruments(), output);
-    put_lines(bank.samples(), output);
+    put_owners(bank.presets(), output);
+    put_owners(bank.instruments(), output);
+    put_samples(bank.samples(), output);
 }
 
 // The line of the bank.
@@ -68,12 +68,23 @@ fn put_counts<W: Write>(counts: &Counts, output: &mut Output<'_, W>)
     put_line(b"counts", &pieces, output);
 }
 
-// A line for each member.
+// A line for each preset, or for each instrument.
 #[tactic(auto, using(sf_base::proofs::OutputLaws::putting_start))]
-fn put_lines<M: Listed, W: Write>(members: &[M], output: &mut Output<'_, W>)
-    ensures { Puts W.contents output.old output.new (lines_from M.line 0 members.now) }
+fn put_owners<H: ListedHead, W: Write>(owners: &Owners<H>, output: &mut Output<'_, W>)
+    ensures { Puts W.contents output.old output.new (lines_from (owner_line H.line) 0 owners.now) }
 {
-    for (number, member) in members.iter().enumerate() {
-        member.put(number as u64, output);
+    for number in 0..owners.len() {
+        let zones = owners.zone_count(number) as u64;
+        owners.head(number).put(number as u64, zones, output);
+    }
+}
+
+// A line for each sample.
+#[tactic(auto, using(sf_base::proofs::OutputLaws::putting_start))]
+fn put_samples<W: Write>(samples: &[Sample<'_>], output: &mut Output<'_, W>)
+    ensures { Puts W.contents output.old output.new (lines_from sample_line 0 samples.now) }
+{
+    for (number, sample) in samples.iter().enumerate() {
+        put_sample(number as u64, sample, output);
     }
 }

@@ -4,59 +4,57 @@ ghost use Rattle.sf_base.specs.Output.{Puts};
 ghost use Rattle.bank_listing.specs.Listing.{preset_line, instrument_line, sample_line};
 
 use crate::pieces::{name_piece, number_piece};
-use bank_core::{Instrument, Preset, Sample};
+use bank_core::{Head, Sample};
 use edit_script::put_sample_head;
 use line_tokens::{put_line, put_pieces};
-use sf_base::Output;
+use sf_base::{Name20, Output};
 use std::io::Write;
 
-/// What has a line of its own.
-pub(crate) trait Listed {
+/// What a preset or an instrument has besides its zones.
+pub(crate) trait ListedHead {
     ghost use Rattle.std.specs.Prelude.{ℕ, List};
 
-    /// Its line, by its number in its list.
-    ghost line: { ℕ → Self → List ℕ };
+    /// Its line, by its number and the number of its zones.
+    ghost line: { ℕ → Self → ℕ → List ℕ };
 
     /// Puts its line.
-    fn put<W: Write>(&self, number: u64, output: &mut Output<'_, W>)
-        ensures { Puts W.contents output.old output.new (line number self.now) };
+    fn put<W: Write>(&self, number: u64, zones: u64, output: &mut Output<'_, W>)
+        ensures { Puts W.contents output.old output.new (line number self.now zones) };
 }
 
-impl Listed for Preset {
+impl ListedHead for Head {
     ghost line = { preset_line };
 
     #[tactic(auto, unfolding(crate::specs::Listing::preset_line))]
-    fn put<W: Write>(&self, number: u64, output: &mut Output<'_, W>) {
+    fn put<W: Write>(&self, number: u64, zones: u64, output: &mut Output<'_, W>) {
         let pieces = [
             number_piece(number),
             name_piece(&self.name),
             number_piece(u64::from(self.number)),
             number_piece(u64::from(self.bank)),
-            number_piece(self.zones.len() as u64),
+            number_piece(zones),
         ];
         put_line(b"preset", &pieces, output);
     }
 }
 
-impl Listed for Instrument {
+impl ListedHead for Name20 {
     ghost line = { instrument_line };
 
     #[tactic(auto, unfolding(crate::specs::Listing::instrument_line))]
-    fn put<W: Write>(&self, number: u64, output: &mut Output<'_, W>) {
-        let zones = number_piece(self.zones.len() as u64);
-        let pieces = [number_piece(number), name_piece(&self.name), zones];
+    fn put<W: Write>(&self, number: u64, zones: u64, output: &mut Output<'_, W>) {
+        let pieces = [number_piece(number), name_piece(self), number_piece(zones)];
         put_line(b"inst", &pieces, output);
     }
 }
 
-impl Listed for Sample<'_> {
-    ghost line = { sample_line };
-
-    fn put<W: Write>(&self, number: u64, output: &mut Output<'_, W>) {
-        output.put(b"sample");
-        put_pieces(&[number_piece(number)], output);
-        put_sample_head(self, output);
-        put_pieces(&[number_piece(self.points.len() as u64)], output);
-        output.put(b"\n");
-    }
+// The line of a sample.
+pub(crate) fn put_sample<W: Write>(number: u64, sample: &Sample<'_>, output: &mut Output<'_, W>)
+    ensures { Puts W.contents output.old output.new (sample_line number sample.now) }
+{
+    output.put(b"sample");
+    put_pieces(&[number_piece(number)], output);
+    put_sample_head(sample, output);
+    put_pieces(&[number_piece(sample.points.len() as u64)], output);
+    output.put(b"\n");
 }

@@ -8,12 +8,12 @@ use Rattle.edit_script.specs.Operands.{pieces_of}
 use Rattle.edit_script.specs.Samples.{head_operands}
 use Rattle.bank_listing.specs.Listing.{sample_line}
 use Rattle.bank_listing.proofs.LineLaws.{line_parts}
-use Rattle.bank_listing.proofs.members.SampleListed.put.Goals as goal
+use Rattle.bank_listing.proofs.members.put_sample.Goals as goal
 
 pub returns : goal.returns
 unfolding sample_line
 returns g c =
-    let s = c.args.self.now in
+    let s = c.args.sample.now in
     let number = puts_as _ _ (ap (λ p. flat_map spaced (p ∷ [])) c.number_piece.ensures) c.put_pieces.ensures in
     let points = puts_as _ _ (ap (λ p. flat_map spaced (p ∷ [])) (c.number_piece-2.ensures ∙ ap Number c.len.ensures.value)) c.put_pieces-2.ensures in
     puts_as _ _ (sym (line_parts (codes "sample") (Number c.args.number ∷ []) (pieces_of (head_operands s)) (Number (length s.points) ∷ [])))

@@ -1,0 +1,8 @@
+use Rattle.std.proofs.Common.{drop}
+use Rattle.sf_base.proofs.OutputLaws.{Putting}
+use Rattle.bank_listing.specs.Listing.{owner_line, lines_from}
+use Rattle.bank_listing.proofs.listing.put_owners.Given as goal
+
+-- the lines of those that are ahead are still to be put
+abbrev pub invariant-loop-number : goal.invariant-loop-number
+invariant-loop-number g l = Putting g.W.Write.contents l.initial.output l.output (lines_from (owner_line g.H.ListedHead.line) 0 l.owners) (lines_from (owner_line g.H.ListedHead.line) l.number (drop l.number l.owners))
