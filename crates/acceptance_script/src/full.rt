@@ -10,10 +10,24 @@ fn a_sample_more_than_the_most(rt: HostRuntime) -> Result<(), Fail> {
     let alloc = rt.alloc();
     let file = with_more(alloc, 258, 46, 65_535)?;
     let full = b": line 1: refused 37 Full samples\n";
-    assert!(rt; stops(alloc, &file, b"add-sample 65535 \"\" 0 0 0 mono noloop x", full));
+    assert!(rt;
+        stops(
+            alloc,
+            &file,
+            b"add-sample 65535 \"\" 0 0 0 mono noloop x",
+            full
+        )
+    );
     // What else is wrong comes first.
     let place = b": line 1: refused 25 BadPlace\n";
-    assert!(rt; stops(alloc, &file, b"add-sample 65536 \"\" 0 0 0 mono noloop x", place));
+    assert!(rt;
+        stops(
+            alloc,
+            &file,
+            b"add-sample 65536 \"\" 0 0 0 mono noloop x",
+            place
+        )
+    );
     Ok(())
 }
 
@@ -21,9 +35,11 @@ fn a_sample_more_than_the_most(rt: HostRuntime) -> Result<(), Fail> {
 fn is_taken_out_and_put_in(alloc: Global, remove: &[u8], add: &[u8]) -> Result<bool, AllocError> {
     let file = with_more(alloc, 258, 46, 65_535)?;
     let mut canonical = Vec::new(alloc);
-    Ok(canon_run(alloc, &file, &mut canonical).is_ok()
-        && canonical.len() == 9_044_138
-        && returns(alloc, &canonical, remove, add))
+    Ok(
+        canon_run(alloc, &file, &mut canonical).is_ok()
+            && canonical.len() == 9_044_138
+            && returns(alloc, &canonical, remove, add),
+    )
 }
 
 #[test]
