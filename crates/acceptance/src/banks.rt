@@ -7,9 +7,9 @@ use bank_core::{
 use generators::GenMap;
 use numbered_lists::NumberedList;
 use sample_view::Points;
-use sf_base::{Lent, Name20, OutOfMemory};
+use sf_base::{Failure, Lent, Name20, OutOfMemory};
 use sf_reader::read;
-use sf_writer::{encoded_len, write, write_counted};
+use sf_writer::{encoded_len, write};
 use std::alloc::Global;
 use std::test::Fail;
 use worked_files::{File, tone, wide};
@@ -61,16 +61,12 @@ fn tells_zones(bank: &Bank<'_>) -> bool {
         && bank.mod_at(instrument, Place::Zone(1), 0).is_none()
 }
 
-/// Whether each way of writing a bank writes this file.
+/// Whether a bank is written as this file.
 fn is_written(alloc: Global, bank: &Bank<'_>, file: &File) -> bool {
     let mut out = Vec::new(alloc);
-    let mut counted = Vec::new(alloc);
-    let length = file.bytes().len() as u64;
-    encoded_len(bank) == length
+    encoded_len(bank) == file.bytes().len() as u64
         && write(bank, &mut out).is_ok()
         && out.as_slice() == file.bytes()
-        && write_counted(bank, &mut counted) == Ok(length)
-        && counted.as_slice() == file.bytes()
 }
 
 /// Whether a bank and its copy are written so.
@@ -208,8 +204,11 @@ fn tone_parts<'a>(alloc: Global, target: u16) -> Result<Parts<'a>, Fail> {
 fn a_bank_of_parts(rt: HostRuntime) -> Result<(), Fail> {
     let parts = tone_parts(rt.alloc(), 0)?;
     assert!(rt; is_valid(&parts));
-    let bank = Bank::from_parts(rt.alloc(), parts)?;
-    assert!(rt; is_copied(rt.alloc(), &bank, &tone()));
+    let written = match Bank::from_parts(rt.alloc(), parts) {
+        Ok(bank) => is_copied(rt.alloc(), &bank, &tone()),
+        Err(_) => false,
+    };
+    assert!(rt; written);
     Ok(())
 }
 
@@ -219,7 +218,7 @@ fn parts_of_no_bank(rt: HostRuntime) -> Result<(), Fail> {
     assert!(rt; !is_valid(&parts));
     let invalid = matches!(
         Bank::from_parts(rt.alloc(), parts),
-        Err(PartsFault::Invalid)
+        Err(Failure::Fault(PartsFault::Invalid))
     );
     assert!(rt; invalid);
     Ok(())

@@ -3,9 +3,7 @@
 use sf_base::front_of;
 use sfbank::canon_run;
 use std::alloc::{AllocError, Global};
-use worked_files::{
-    LISTS, empty, grown, many_points, refuses, shows, with_more, without_record,
-};
+use worked_files::{LISTS, empty, grown, many_points, refuses, shows, with_more, without_record};
 
 /// Whether a file is read, and nothing of it is counted.
 fn is_read(alloc: Global, file: Result<Vec<u8>, AllocError>) -> bool {

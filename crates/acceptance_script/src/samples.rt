@@ -53,7 +53,10 @@ const ADDED: [(&[u8], &[u8]); 8] = [
 #[test]
 fn samples_that_are_put_in(rt: HostRuntime) {
     for (row, (add, remove)) in ADDED.iter().enumerate() {
-        assert!(rt; returns(rt.alloc(), tone().bytes(), add, remove), "row {row}");
+        assert!(rt;
+            returns(rt.alloc(), tone().bytes(), add, remove),
+            "row {row}"
+        );
     }
 }
 
@@ -66,7 +69,15 @@ fn a_sample_as_it_is_said_and_as_it_is_printed(rt: HostRuntime) {
     let mut undo = Vec::new(alloc);
     assert!(rt; edit_run(alloc, empty.bytes(), said, &mut out, &mut undo).is_ok());
     assert!(rt; undo.as_slice() == b"remove-sample 0\n".as_slice());
-    assert!(rt; edits(alloc, out.as_slice(), undo.as_slice(), empty.bytes(), printed));
+    assert!(rt;
+        edits(
+            alloc,
+            out.as_slice(),
+            undo.as_slice(),
+            empty.bytes(),
+            printed
+        )
+    );
 }
 
 #[test]
@@ -110,7 +121,10 @@ const REFUSED: [(&[u8], &[u8]); 16] = [
     (b"remove-sample 0", b"refused 26 InUse\n"),
     (b"remove-sample 1", b"refused 22 NoSuchSample\n"),
     (b"remove-sample 4294967295", b"refused 22 NoSuchSample\n"),
-    (b"add-sample 2 x 0 0 0 mono noloop x", b"refused 25 BadPlace\n"),
+    (
+        b"add-sample 2 x 0 0 0 mono noloop x",
+        b"refused 25 BadPlace\n",
+    ),
     (
         b"add-sample 4294967295 x 0 0 0 mono noloop x",
         b"refused 25 BadPlace\n",
@@ -166,6 +180,9 @@ const REFUSED: [(&[u8], &[u8]); 16] = [
 #[test]
 fn edits_of_samples_that_are_refused(rt: HostRuntime) {
     for (row, (script, line)) in REFUSED.iter().enumerate() {
-        assert!(rt; stops(rt.alloc(), tone().bytes(), script, line), "row {row}");
+        assert!(rt;
+            stops(rt.alloc(), tone().bytes(), script, line),
+            "row {row}"
+        );
     }
 }

@@ -11,8 +11,24 @@ use worked_files::{File, RENAME, RENAME_BACK, edits, renamed_saw, saw, stops, to
 #[test]
 fn a_renaming_and_its_return(rt: HostRuntime) {
     let renamed = renamed_saw();
-    assert!(rt; edits(rt.alloc(), saw().bytes(), RENAME, renamed.bytes(), RENAME_BACK));
-    assert!(rt; edits(rt.alloc(), renamed.bytes(), RENAME_BACK, saw().bytes(), RENAME));
+    assert!(rt;
+        edits(
+            rt.alloc(),
+            saw().bytes(),
+            RENAME,
+            renamed.bytes(),
+            RENAME_BACK
+        )
+    );
+    assert!(rt;
+        edits(
+            rt.alloc(),
+            renamed.bytes(),
+            RENAME_BACK,
+            saw().bytes(),
+            RENAME
+        )
+    );
     let (there, back) = (b"rename-sample 0 \"u\"\n", b"rename-sample 0 \"t\"\n");
     let renamed = tone().patched(&[(440, b'u')]);
     assert!(rt; edits(rt.alloc(), tone().bytes(), there, renamed.bytes(), back));

@@ -5,11 +5,7 @@ use worked_files::{edits, empty, returns, stops};
 
 /// Changes of the empty bank's file, the script that makes them, and the one that takes it back.
 const SET: [(&str, &[u8], &[u8]); 4] = [
-    (
-        "60 1 'x",
-        b"set-info INAM \"x\"\n",
-        b"set-info INAM \"\"\n",
-    ),
+    ("60 1 'x", b"set-info INAM \"x\"\n", b"set-info INAM \"\"\n"),
     (
         "60 2 'xy *2; 56 1 04; 16 1 2c; 4 2 2e01",
         b"set-info INAM \"xy\"\n",
@@ -32,8 +28,14 @@ fn texts_that_are_set(rt: HostRuntime) {
     let (alloc, empty) = (rt.alloc(), empty());
     for (row, (changes, set, back)) in SET.iter().enumerate() {
         let changed = empty.edited(changes);
-        assert!(rt; edits(alloc, empty.bytes(), set, changed.bytes(), back), "row {row}");
-        assert!(rt; edits(alloc, changed.bytes(), back, empty.bytes(), set), "row {row}");
+        assert!(rt;
+            edits(alloc, empty.bytes(), set, changed.bytes(), back),
+            "row {row}"
+        );
+        assert!(rt;
+            edits(alloc, changed.bytes(), back, empty.bytes(), set),
+            "row {row}"
+        );
     }
     let words: [(&[u8], &[u8]); 7] = [
         (b"set-info IENG \"a b\"\n", b"set-info IENG \"\"\n"),

@@ -93,10 +93,7 @@ fn fixed_writer() -> Fixed {
 
 /// Scripts of one edit, each with the undo text that takes it back.
 pub(crate) static EDITS: [(&[u8], &[u8]); 3] = [
-    (
-        b"rename-sample 0 \"sine\"\n",
-        b"rename-sample 0 \"saw\"\n",
-    ),
+    (b"rename-sample 0 \"sine\"\n", b"rename-sample 0 \"saw\"\n"),
     (
         b"add-sample 0 \"low\" 44100 48 0 right 1 loop 0 2 x0100feff\n",
         b"remove-sample 0\n",
@@ -120,13 +117,7 @@ pub(crate) fn edit_and_return(alloc: Global, script: &[u8], back: &[u8]) -> Outc
     there.and(returned).and(Outcome::done(right))
 }
 
-fn edited(
-    alloc: Global,
-    file: &[u8],
-    script: &[u8],
-    out: &mut Fixed,
-    undo: &mut Fixed,
-) -> Outcome {
+fn edited(alloc: Global, file: &[u8], script: &[u8], out: &mut Fixed, undo: &mut Fixed) -> Outcome {
     match edit_run(alloc, file, script, out, undo) {
         Ok(()) => Outcome::Done,
         Err(RunFault::Memory) if out.len == 0 && undo.len == 0 => {

@@ -1,13 +1,12 @@
 -- Why a run is not done: the faults of its parts.
-use Rattle.std.proofs.Common.{◌≡◌, ℕ, List, Option, None, Result, Ok, Err, refl, sym, ap, ◌∙◌}
+use Rattle.std.proofs.Common.{◌≡◌, ℕ, List, Option, Result, Ok, refl, sym, ap, ◌∙◌}
 use Rattle.sf_base.specs.declared.memory.Failure.{Failure}
 use Rattle.sf_base.specs.declared.memory.Failure.TheVariants as failures
 use Rattle.bank_parts.specs.declared.parts.Parts.{Parts}
 use Rattle.bank_format.specs.declared.fault.Counts.{Counts}
 use Rattle.bank_format.specs.declared.fault.ReadFault.{ReadFault}
 use Rattle.bank_format.specs.Canon.{canon}
-use Rattle.bank_format.specs.Chunks.{window}
-use Rattle.bank_format.specs.Reading.{Content, content_in}
+use Rattle.bank_format.specs.Reading.{Content}
 use Rattle.bank_format.specs.Steps as reading
 use Rattle.bank_format.specs.ReadSteps.{fault_of, ReadsAs}
 use Rattle.bank_edits.specs.declared.edit.Edit.{Edit}

@@ -23,8 +23,12 @@ abbrev pub limit_text : Option Limit → List ℕ
 limit_text (Some limit) = codes " " ++ word_of limit
 limit_text None = []
 
+-- the line and the cause
+abbrev pub cause_text : ℕ → Cause → List ℕ
+cause_text line cause = concat (codes "sfbank: line " ∷ decimal line ∷ codes ": refused " ∷ decimal (causes.number_of cause) ∷ codes " " ∷ causes.name_of cause ∷ [])
+
 abbrev pub refused_line : ℕ → Cause → List ℕ
-refused_line line cause = concat (codes "sfbank: line " ∷ decimal line ∷ codes ": refused " ∷ decimal (causes.number_of cause) ∷ codes " " ∷ causes.name_of cause ∷ limit_text (causes.limit_of cause) ∷ codes "\n" ∷ [])
+refused_line line cause = cause_text line cause ++ (limit_text (causes.limit_of cause) ++ codes "\n")
 
 abbrev pub write_line : List ℕ → ℕ → List ℕ
 write_line path written = concat (codes "sfbank: write fault " ∷ path ∷ codes " after " ∷ decimal written ∷ codes " bytes\n" ∷ [])

@@ -3,7 +3,7 @@ ghost use Rattle.std.specs.Prelude.{◌≡◌, IfOk};
 ghost use Rattle.sf_base.specs.Output.{Puts};
 ghost use Rattle.sf_base.specs.Writing.{Writes};
 ghost use Rattle.sample_view.specs.Pieces.{joined_bytes};
-ghost use Rattle.sfbank_program.specs.FaultLines.{fault_line, status_of, read_line, script_line, refused_line, limit_text, write_line, file_line};
+ghost use Rattle.sfbank_program.specs.FaultLines.{fault_line, status_of, read_line, script_line, refused_line, cause_text, limit_text, write_line, file_line};
 
 use bank_edits::Cause;
 use bank_format::ReadFault;
@@ -91,6 +91,15 @@ fn put_script_fault<W: Write>(fault: ScriptFault, output: &mut Output<'_, W>)
 fn put_refusal<W: Write>(line: u64, cause: Cause, output: &mut Output<'_, W>)
     ensures { Puts W.contents output.old output.new (refused_line line cause) }
 {
+    put_cause(line, cause, output);
+    put_limit(cause.limit(), output);
+    output.put(b"\n");
+}
+
+// The line and the cause.
+fn put_cause<W: Write>(line: u64, cause: Cause, output: &mut Output<'_, W>)
+    ensures { Puts W.contents output.old output.new (cause_text line cause) }
+{
     let mut place = Buffer::new();
     let mut number = Buffer::new();
     put_pieces(
@@ -104,8 +113,6 @@ fn put_refusal<W: Write>(line: u64, cause: Cause, output: &mut Output<'_, W>)
         ],
         output,
     );
-    put_limit(cause.limit(), output);
-    output.put(b"\n");
 }
 
 // The limit that a bank would break.

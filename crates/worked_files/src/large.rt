@@ -57,11 +57,7 @@ pub fn with_more(
 }
 
 /// T whose sample stands so many times over the same 49,954 points, and whose preset has a target.
-pub fn many_points(
-    alloc: Global,
-    samples: usize,
-    target: u8,
-) -> Result<Vec<u8>, AllocError> {
+pub fn many_points(alloc: Global, samples: usize, target: u8) -> Result<Vec<u8>, AllocError> {
     let more = samples.saturating_mul(46);
     let long = tone().patched(&[(320, target), (464, 0x22), (465, 0xc3)]);
     let sample = part_of(long.bytes(), 440, 46);
