@@ -97,6 +97,29 @@ fn add(voice: &mut Voice, sums: &mut [i32])
     }
 }
 
+// Both sides of a frame.
+fn frame_of(sums: &[i32], frame: usize) -> Option<(i32, i32)> {
+    if frame < sums.len() / 2 {
+        Some((sums[2 * frame], sums[2 * frame + 1]))
+    } else {
+        None
+    }
+}
+
+// Whether these are the frames, equal on both sides.
+fn holds(sums: &[i32], frames: &[i32]) -> bool {
+    if sums.len() / 2 != frames.len() {
+        return false;
+    }
+    for frame in 0..frames.len() {
+        let side = frames[frame];
+        if sums[2 * frame] != side || sums[2 * frame + 1] != side {
+            return false;
+        }
+    }
+    true
+}
+
 #[test]
 fn a_loop_goes_round(rt: HostRuntime) -> Result<(), Fail> {
     let points = Points::of_slice(rt.alloc(), &THREE)?;
@@ -144,10 +167,9 @@ fn an_attack_and_a_release_on_the_right(rt: HostRuntime) -> Result<(), Fail> {
         let mut sums: [i32; 186] = silence();
         add(&mut voice, &mut sums);
         assert!(rt; voice.done());
-        let right = [0, 1, 42, 43, 50, 71, 92].map(|frame: usize| sums[2 * frame + 1]);
-        assert_eq!(rt; right, [0, 23, 976, 1000, 1000, 4, 0]);
-        let left = [0, 1, 42, 43, 50, 71, 92].map(|frame: usize| sums[2 * frame]);
-        assert_eq!(rt; left, [0; 7]);
+        let heard = [0, 1, 42, 43, 50, 71, 92].map(|frame| frame_of(&sums, frame));
+        let right = [0, 23, 976, 1000, 1000, 4, 0];
+        assert_eq!(rt; heard, right.map(|side| Some((0, side))));
     }
     Ok(())
 }
@@ -203,13 +225,10 @@ fn a_voice_over_three_slices(rt: HostRuntime) -> Result<(), Fail> {
     let started = voice_of(points, parameters);
     assert!(rt; started.is_some());
     if let Some(mut voice) = started {
-        let mut sums: [i32; 26] = silence();
+        let mut sums: [i32; 24] = silence();
         add(&mut voice, &mut sums);
         assert!(rt; voice.done());
-        let left = [0, 1, 2, 3, 4, 5, 6, 7, 8, 9, 10, 11].map(|frame: usize| sums[2 * frame]);
-        assert_eq!(rt; left, frames);
-        let end = (sums[24], sums[25]);
-        assert_eq!(rt; end, (0, 0));
+        assert!(rt; holds(&sums, &frames));
     }
     Ok(())
 }
@@ -237,10 +256,7 @@ fn each_phase_of_an_envelope(rt: HostRuntime) -> Result<(), Fail> {
         let mut sums: [i32; 48] = silence();
         add(&mut voice, &mut sums);
         assert!(rt; voice.done());
-        for frame in 0..24 {
-            assert_eq!(rt; sums[2 * frame], frames[frame], "left at {frame}");
-            assert_eq!(rt; sums[2 * frame + 1], frames[frame], "right at {frame}");
-        }
+        assert!(rt; holds(&sums, &frames));
     }
     Ok(())
 }

@@ -61,9 +61,6 @@ decaying s (suc d) w h =
     let m : 960 * w / suc d ≡ min s (960 * w / suc d) = omega arith in
     ap gain_at m ∙ sym (ap (λ b. gain_at (cond b (min s (960 * w / suc d)) s)) t)
 
-pub decay_fits : (s d n : ℕ) → s < 4294967296 → n < s * d → n < d * 4294967296
-decay_fits s d n h l = let e : s * d ≤ 4294967296 * d = mul-le s d 4294967296 d (omega arith) (omega arith) in omega arith
-
 gain_most : (a : ℕ) → a ≤ 960 → gain_at a ≤ 65536
 unfolding ratio gain_at
 gain_most a h = gain_falls 0 a (omega arith) h

@@ -61,9 +61,6 @@ wrapped_next place from to first t step h e =
     let f : first + t * step + step ≡ first + (t + 1) * step = omega arith in
     ap (λ y. wrapped from to (y + step)) e ∙ wrapped_step from to (first + t * step) step h ∙ ap (wrapped from to) f
 
-pub wrapped_from : (from to first step : ℕ) → wrapped from to (first + 0 * step) ≡ wrapped from to first
-wrapped_from from to first step = let e : first + 0 * step ≡ first = omega arith in ap (wrapped from to) e
-
 -- a place fits 60 bits
 pub far_place : (first t step : ℕ) → first < 4294967296 → t < 8589934592 → step ≤ 73043661 → 65536 * first + t * step < 1152921504606846976
 far_place first t step h g k =

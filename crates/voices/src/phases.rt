@@ -41,12 +41,18 @@ fn fill_even(level: u32, levels: &mut [u32])
     }
 }
 
-// Each attenuation's gain.
+// Each attenuation's gain, computed once for equal ones in a row.
 fn fill_gains(levels: &mut [u32])
     ensures { EachIndex levels.new (λ k. slice_index levels.new k ≡ gain_at (slice_index levels.old k)) }
 {
+    let mut attenuation = 0;
+    let mut level = gain(0);
     for k in 0..levels.len() {
-        levels[k] = gain(i64::from(levels[k]));
+        if levels[k] != attenuation {
+            attenuation = levels[k];
+            level = gain(i64::from(attenuation));
+        }
+        levels[k] = level;
     }
 }
 

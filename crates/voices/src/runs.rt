@@ -19,7 +19,7 @@ use sample_view::Points;
 use sound_tables::gain;
 
 // The most frames of a stretch.
-const STRETCH: usize = 256;
+const LONGEST: usize = 256;
 
 // How many frames from `t` on, at most `most`, are heard in one way: the note's end ends a stretch.
 fn stretch(v: &VoiceParameters, t: u64, most: usize) -> usize
@@ -69,16 +69,16 @@ fn quieten(levels: &[u32], loudness: u32, run: &mut [i16])
     }
 }
 
-fn silent_levels() -> [u32; STRETCH]
+fn silent_levels() -> [u32; LONGEST]
     ensures { length result ≡ 256 }
 {
-    [0; STRETCH]
+    [0; LONGEST]
 }
 
-fn silent_points() -> [i16; STRETCH]
+fn silent_points() -> [i16; LONGEST]
     ensures { length result ≡ 256 }
 {
-    [0; STRETCH]
+    [0; LONGEST]
 }
 
 // Makes the points of a stretch as loud as the voice is.
@@ -169,7 +169,7 @@ pub fn add_run(points: &Points, v: &VoiceParameters, age: u64, sums: &mut [i32])
         if is_over_at(v, t) {
             return;
         }
-        let n = 2 * stretch(v, t, ((sums.len() - at) / 2).min(STRETCH));
+        let n = 2 * stretch(v, t, ((sums.len() - at) / 2).min(LONGEST));
         add_stretch(points, v, t, &mut sums[at..at + n]);
         at += n;
     }

@@ -1,5 +1,5 @@
 //! A voice.
-ghost use Rattle.std.specs.Prelude.{◌≡◌, ℕ, ◌+◌, ◌*◌, ◌/◌, ◌%◌, ◌^◌, ◌≤◌, ◌<◌, ◌+ℤ◌, pos, true, false, EachIndex, length, nat_eq, slice_index_or};
+ghost use Rattle.std.specs.Prelude.{◌≡◌, ℕ, ◌+◌, ◌*◌, ◌/◌, ◌%◌, ◌^◌, ◌≤◌, ◌<◌, ◌+ℤ◌, ◌≤ℤ◌, pos, negsuc, true, false, EachIndex, length, nat_eq, slice_index_or};
 ghost use Rattle.std.specs.Bool.{OnFalse};
 ghost use Rattle.voices.specs.Place.{is_over};
 ghost use Rattle.voices.specs.Sound.{IsPlayable, snd, after_frame};
@@ -58,6 +58,8 @@ impl<'a> Voice<'a> {
     pub fn next_frame(&mut self) -> (i32, i32)
         ensures left { result.0 ≡ snd self.old.value true self.old.age }
         ensures right { result.1 ≡ snd self.old.value false self.old.age }
+        ensures left_fits { (negsuc 32767 ≤ℤ result.0) × (result.0 ≤ℤ pos 32767) }
+        ensures right_fits { (negsuc 32767 ≤ℤ result.1) × (result.1 ≤ℤ pos 32767) }
         ensures live { self.new ≡ after_frame self.old }
     {
         let sides = frame(&self.points, &self.parameters, self.age);
