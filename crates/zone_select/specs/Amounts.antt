@@ -37,9 +37,13 @@ amount v u op = instrument_amount v op +ℤ preset_amount u op
 abbrev pub last_like : Modulator → List Modulator → Option Modulator
 last_like m mods = find (λ x. same_identity x m) (reverse mods)
 
--- its amount: of the zone's, else of the global zone's, else this one
+-- of the zone's, else of its global zone's
+abbrev pub modulator_like : Modulator → Taken → Option Modulator
+modulator_like m t = option_or (last_like m t.mods) (last_like m t.inherited)
+
+-- its amount, else this one
 abbrev pub amount_like : Modulator → Taken → ℤ → ℤ
-amount_like m t default = option_map_or (λ (x : Modulator). x.amount) (option_or (last_like m t.mods) (last_like m t.inherited)) default
+amount_like m t default = option_map_or (λ (x : Modulator). x.amount) (modulator_like m t) default
 
 -- the instrument's and the preset's together
 unfoldable pub modulator_amount : Modulator → Taken → Taken → ℤ → ℤ

@@ -4,3 +4,4 @@ pub mod Amounts
 pub mod Select
 pub mod Pairs
 pub mod Left
+pub mod At

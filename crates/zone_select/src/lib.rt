@@ -2,6 +2,7 @@
 //! numbers that their voices play by.
 #![tactic(auto)]
 
+mod amounts;
 mod laws;
 mod pairs;
 mod params;

@@ -1,0 +1,31 @@
+-- What is taken of the zones of a pair, by what a bank tells of them.
+use Rattle.std.specs.Prelude.{ℕ, List, [], None, cond, unwrap_or}
+use Rattle.std.specs.Option.{option_or}
+use Rattle.generators.specs.Ranges.{is_range_operator}
+use Rattle.bank_core.specs.declared.members.Owner.{Owner}
+use Rattle.bank_core.specs.declared.members.Owner.TheVariants as owner
+use Rattle.bank_core.specs.declared.members.Place.{Place}
+use Rattle.bank_core.specs.declared.members.Place.TheVariants as place
+use Rattle.modulators.specs.declared.modulator.Modulator.{Modulator}
+use Rattle.bank_core.specs.Members.{word_of, mods_of}
+use Rattle.bank_parts.specs.declared.parts.Parts.{Parts}
+use Rattle.zone_select.specs.declared.amounts.PairAt.{PairAt}
+use Rattle.zone_select.specs.Taken.{Taken}
+
+-- the modulators of a place; none where there is no such place
+abbrev pub mods_at : Parts → Owner → Place → List Modulator
+mods_at b o at = unwrap_or (mods_of b o at) []
+
+-- of zone k of an owner
+abbrev pub taken_at : Parts → Owner → ℕ → Taken
+taken_at b o k = record {
+  settings = λ op. cond (is_range_operator op) None (option_or (word_of b o (place.Zone k) op) (word_of b o place.Global op));
+  mods = mods_at b o (place.Zone k);
+  inherited = mods_at b o place.Global;
+}
+
+abbrev pub inner_at : Parts → PairAt → Taken
+inner_at b at = taken_at b (owner.Instrument at.instrument) at.inner
+
+abbrev pub outer_at : Parts → PairAt → Taken
+outer_at b at = taken_at b (owner.Preset at.preset) at.outer

@@ -1,0 +1,93 @@
+//! The amounts of a pair of zones.
+ghost use Rattle.std.specs.Prelude.{◌≡◌, ◌≤ℤ◌, pos, negsuc, false, unwrap_or, length};
+ghost use Rattle.std.specs.Option.{option_or, option_map};
+ghost use Rattle.generators.specs.Ranges.{is_range_operator};
+ghost use Rattle.bank_core.specs.declared.members.Place.TheVariants as place;
+ghost use Rattle.bank_core.specs.Members.{word_of};
+ghost use Rattle.zone_select.specs.Amounts.{amount, last_like, modulator_like, modulator_amount};
+ghost use Rattle.zone_select.specs.At.{mods_at, taken_at, inner_at, outer_at};
+
+use bank_core::{Bank, Owner, Place};
+use generators::{Level, allowed, default_of};
+use modulators::Modulator;
+
+// A zone of a preset, and a zone of its instrument, each by its own number and its owner's.
+#[derive(Debug, Clone, Copy, PartialEq, Eq)]
+pub(crate) struct PairAt {
+    pub(crate) preset: u32,
+    pub(crate) outer: u32,
+    pub(crate) instrument: u32,
+    pub(crate) inner: u32,
+}
+
+// The word of an operator that holds for a zone: its own, else its global zone's.
+fn word_at(bank: &Bank<'_>, owner: Owner, zone: u32, operator: u16) -> Option<u16>
+    ensures { result ≡ option_or (word_of bank.now owner (place.Zone zone) operator) (word_of bank.now owner place.Global operator) }
+{
+    match bank.gen_of(owner, Place::Zone(zone), operator) {
+        Some(word) => Some(word),
+        None => bank.gen_of(owner, Place::Global, operator),
+    }
+}
+
+// The amount of an operator whose word is no range: the instrument's, and the preset's where presets
+// may have it.
+#[tactic(auto, unfolding(crate::specs::Amounts::amount))]
+pub(crate) fn amount(bank: &Bank<'_>, at: &PairAt, operator: u16) -> i32
+    requires { is_range_operator operator ≡ false }
+    ensures value { result ≡ amount (inner_at bank.now at.now) (outer_at bank.now at.now) operator }
+    ensures within { (negsuc 65535 ≤ℤ result) × (result ≤ℤ pos 65534) }
+{
+    let inner = match word_at(bank, Owner::Instrument(at.instrument), at.inner, operator) {
+        Some(word) => word.cast_signed(),
+        None => default_of(operator).unwrap_or(0),
+    };
+    let outer = if allowed(operator, Level::Preset) {
+        word_at(bank, Owner::Preset(at.preset), at.outer, operator)
+            .unwrap_or(0)
+            .cast_signed()
+    } else {
+        0
+    };
+    i32::from(inner) + i32::from(outer)
+}
+
+// The last modulator of a place with this identity.
+fn last_like(bank: &Bank<'_>, owner: Owner, place: Place, like: &Modulator) -> Option<Modulator>
+    ensures { result ≡ last_like like.now (mods_at bank.now owner place) }
+{
+    // What the bank tells of its totals is that it keeps within the limits.
+    let _ = bank.totals();
+    let mut found = None;
+    let mut index = 0;
+    while let Some(modulator) = bank.mod_at(owner, place, index) {
+        if modulator.same_identity(like) {
+            found = Some(modulator);
+        }
+        index += 1;
+    }
+    found
+}
+
+// The amount of a zone's last modulator with this identity, else of its global zone's.
+fn amount_like(bank: &Bank<'_>, owner: Owner, zone: u32, like: &Modulator) -> Option<i16>
+    ensures { result ≡ option_map (λ m. m.amount) (modulator_like like.now (taken_at bank.now owner zone)) }
+{
+    match last_like(bank, owner, Place::Zone(zone), like) {
+        Some(modulator) => Some(modulator.amount),
+        None => Some(last_like(bank, owner, Place::Global, like)?.amount),
+    }
+}
+
+// The instrument's and the preset's together.
+#[tactic(auto, unfolding(crate::specs::Amounts::modulator_amount))]
+pub(crate) fn modulator_amount(bank: &Bank<'_>, at: &PairAt, like: &Modulator, default: i16) -> i32
+    ensures value { result ≡ modulator_amount like.now (inner_at bank.now at.now) (outer_at bank.now at.now) default }
+    ensures within { (negsuc 65535 ≤ℤ result) × (result ≤ℤ pos 65534) }
+{
+    let inner = amount_like(bank, Owner::Instrument(at.instrument), at.inner, like).unwrap_or(
+        default,
+    );
+    let outer = amount_like(bank, Owner::Preset(at.preset), at.outer, like).unwrap_or(0);
+    i32::from(inner) + i32::from(outer)
+}
