@@ -1,8 +1,8 @@
 //! The calls of banks: what is told of one that is read, and one that is made of parts.
 
 use bank_core::{
-    Bank, GlobalZone, InfoId, Instrument, Kind, Members, Owner, Parts, PartsFault, Place, Preset,
-    Sample, Texts, Zone, is_valid,
+    Bank, GlobalZone, Head, InfoId, Kind, Members, Owner, Owners, Parts, PartsFault, Place, Sample,
+    Texts, WithZones, Zone, is_valid,
 };
 use generators::GenMap;
 use numbered_lists::NumberedList;
@@ -122,35 +122,35 @@ fn one<T: Drop>(alloc: Global, member: T) -> Result<NumberedList<T>, OutOfMemory
     Ok(NumberedList::from_vec(members))
 }
 
-fn preset(alloc: Global, name: Name20) -> Result<NumberedList<Preset>, OutOfMemory> {
-    one(
-        alloc,
-        Preset {
-            name,
-            number: 0,
-            bank: 0,
-            library: 0,
-            genre: 0,
-            morphology: 0,
-            global: global(alloc),
-            zones: one_zone(alloc, 0, None)?,
-        },
-    )
+/// A preset or an instrument alone, with these zones.
+fn one_owner<H: Drop>(
+    alloc: Global,
+    head: H,
+    zones: NumberedList<Zone>,
+) -> Result<Owners<H>, OutOfMemory> {
+    let mut owners = Owners::new(alloc);
+    owners.push(WithZones {
+        head,
+        global: global(alloc),
+        zones,
+    })?;
+    Ok(owners)
 }
 
-fn instrument(
-    alloc: Global,
-    name: Name20,
-    target: u16,
-) -> Result<NumberedList<Instrument>, OutOfMemory> {
-    one(
-        alloc,
-        Instrument {
-            name,
-            global: global(alloc),
-            zones: one_zone(alloc, target, Some(54))?,
-        },
-    )
+fn preset(alloc: Global, name: Name20) -> Result<Owners<Head>, OutOfMemory> {
+    let head = Head {
+        name,
+        number: 0,
+        bank: 0,
+        library: 0,
+        genre: 0,
+        morphology: 0,
+    };
+    one_owner(alloc, head, one_zone(alloc, 0, None)?)
+}
+
+fn instrument(alloc: Global, name: Name20, target: u16) -> Result<Owners<Name20>, OutOfMemory> {
+    one_owner(alloc, name, one_zone(alloc, target, Some(54))?)
 }
 
 fn sample<'a>(
