@@ -5,17 +5,19 @@ use Rattle.numbered_lists.specs.declared.renumbering.Renumbering.{Renumbering}
 use Rattle.numbered_lists.specs.Renumbered.{renumbered}
 use Rattle.generators.specs.declared.level.Level.{Level}
 use Rattle.generators.specs.declared.level.Level.TheVariants as level
+use Rattle.sf_base.specs.Names.{IsName}
 use Rattle.bank_parts.specs.declared.parts.Kind.{Kind}
 use Rattle.bank_parts.specs.declared.parts.Kind.TheVariants.{Mono, Right, Left, Linked}
 use Rattle.bank_parts.specs.declared.parts.Zone.{Zone}
-use Rattle.bank_parts.specs.declared.parts.Instrument.{Instrument}
+use Rattle.bank_parts.specs.declared.parts.WithZones.{WithZones}
 use Rattle.bank_parts.specs.declared.parts.Sample.{Sample}
 use Rattle.bank_parts.specs.declared.parts.Parts.{Parts}
 use Rattle.bank_parts.specs.Links.{OfLink}
-use Rattle.bank_parts.specs.Renumbered.{kind_renumbered, sample_renumbered, zone_renumbered, instrument_renumbered, samples_renumbered}
-use Rattle.bank_core.specs.Samples.{links_to, targets, sample_in_use}
+use Rattle.bank_parts.specs.Renumbered.{kind_renumbered, sample_renumbered, zone_renumbered, owner_renumbered, samples_renumbered}
+use Rattle.bank_parts.specs.Owners.{targets}
+use Rattle.bank_core.specs.Samples.{links_to, sample_in_use}
 use Rattle.bank_parts.specs.Valid.{IsZone, IsInstrument, IsSample, IsValid}
-use Rattle.bank_parts.specs.Fits.{Fits, FitsSample, FitsInstrument, FitsZone}
+use Rattle.bank_parts.specs.Fits.{Fits, FitsSample, FitsOwner, FitsZone}
 use Rattle.bank_core.proofs.Everywhere.{all_weaker, all_always, all_map, all_sent, all_both, map_kept, map_back, or_left, or_right, or_none, none_passes, passes_none}
 
 -- P holds of each target of the zones
@@ -25,7 +27,7 @@ OfTargets P zones = AllByRecursion (λ (z : Zone). P z.target) zones
 -- P holds of every target and link into the bank's samples
 pub record OfSampleRefs (P : ℕ → Type 0) (b : Parts) : Type 0 where
   pub links : AllByRecursion (λ (s : Sample). OfLink P s.kind) b.samples
-  pub targets : AllByRecursion (λ (i : Instrument). OfTargets P i.zones) b.instruments
+  pub targets : AllByRecursion (λ (i : WithZones (List ℕ)). OfTargets P i.zones) b.instruments
 
 -- ---- weaker facts
 
@@ -44,13 +46,13 @@ link_always P h (Linked x) = h x
 pub refs_weaker : (P Q : ℕ → Type 0) → ((x : ℕ) → P x → Q x) → (b : Parts) → OfSampleRefs P b → OfSampleRefs Q b
 refs_weaker P Q to b h = record {
   links = all_weaker (λ (s : Sample). OfLink P s.kind) (λ (s : Sample). OfLink Q s.kind) (λ s. link_weaker P Q to s.kind) b.samples h.links;
-  targets = all_weaker (λ (i : Instrument). OfTargets P i.zones) (λ (i : Instrument). OfTargets Q i.zones) (λ i. all_weaker (λ (z : Zone). P z.target) (λ (z : Zone). Q z.target) (λ z. to z.target) i.zones) b.instruments h.targets;
+  targets = all_weaker (λ (i : WithZones (List ℕ)). OfTargets P i.zones) (λ (i : WithZones (List ℕ)). OfTargets Q i.zones) (λ i. all_weaker (λ (z : Zone). P z.target) (λ (z : Zone). Q z.target) (λ z. to z.target) i.zones) b.instruments h.targets;
 }
 
 pub refs_always : (P : ℕ → Type 0) → ((x : ℕ) → P x) → (b : Parts) → OfSampleRefs P b
 refs_always P h b = record {
   links = all_always (λ (s : Sample). OfLink P s.kind) (λ s. link_always P h s.kind) b.samples;
-  targets = all_always (λ (i : Instrument). OfTargets P i.zones) (λ i. all_always (λ (z : Zone). P z.target) (λ z. h z.target) i.zones) b.instruments;
+  targets = all_always (λ (i : WithZones (List ℕ)). OfTargets P i.zones) (λ i. all_always (λ (z : Zone). P z.target) (λ z. h z.target) i.zones) b.instruments;
 }
 
 link_both : (P Q : ℕ → Type 0) (k : Kind) → OfLink P k → OfLink Q k → OfLink (λ x. P x × Q x) k
@@ -62,7 +64,7 @@ link_both P Q (Linked x) h g = (h, g)
 pub refs_both : (P Q : ℕ → Type 0) (b : Parts) → OfSampleRefs P b → OfSampleRefs Q b → OfSampleRefs (λ x. P x × Q x) b
 refs_both P Q b h g = record {
   links = all_both (λ (s : Sample). OfLink P s.kind) (λ (s : Sample). OfLink Q s.kind) (λ (s : Sample). OfLink (λ x. P x × Q x) s.kind) (λ s. link_both P Q s.kind) b.samples h.links g.links;
-  targets = all_both (λ (i : Instrument). OfTargets P i.zones) (λ (i : Instrument). OfTargets Q i.zones) (λ (i : Instrument). OfTargets (λ x. P x × Q x) i.zones)
+  targets = all_both (λ (i : WithZones (List ℕ)). OfTargets P i.zones) (λ (i : WithZones (List ℕ)). OfTargets Q i.zones) (λ (i : WithZones (List ℕ)). OfTargets (λ x. P x × Q x) i.zones)
       (λ i. all_both (λ (z : Zone). P z.target) (λ (z : Zone). Q z.target) (λ (z : Zone). P z.target × Q z.target) (λ z p q. (p, q)) i.zones) b.instruments h.targets g.targets;
 }
 
@@ -77,7 +79,7 @@ module _ (P Q : ℕ → Type 0) (by : Renumbering) (to : (x : ℕ) → P x → Q
   pub refs_renumbered : (b : Parts) → OfSampleRefs P b → OfSampleRefs Q (samples_renumbered by b)
   refs_renumbered b h = record {
     links = all_sent (λ (s : Sample). OfLink P s.kind) (λ (s : Sample). OfLink Q s.kind) (sample_renumbered by) (λ s. link_sent s.kind) b.samples h.links;
-    targets = all_sent (λ (i : Instrument). OfTargets P i.zones) (λ (i : Instrument). OfTargets Q i.zones) (instrument_renumbered by)
+    targets = all_sent (λ (i : WithZones (List ℕ)). OfTargets P i.zones) (λ (i : WithZones (List ℕ)). OfTargets Q i.zones) (owner_renumbered by)
         (λ i. all_sent (λ (z : Zone). P z.target) (λ (z : Zone). Q z.target) (zone_renumbered by) (λ z. to z.target) i.zones) b.instruments h.targets;
   }
 
@@ -88,7 +90,7 @@ refs_within b v =
     let n : ℕ = length b.samples in
     record {
       links = all_weaker (IsSample n) (λ (s : Sample). OfLink (λ x. x < n) s.kind) (λ s h. h.kind) b.samples v.samples;
-      targets = all_weaker (IsInstrument n) (λ (i : Instrument). OfTargets (λ x. x < n) i.zones)
+      targets = all_weaker (IsInstrument n) (λ (i : WithZones (List ℕ)). OfTargets (λ x. x < n) i.zones)
           (λ i h. all_weaker (IsZone level.Instrument n) (λ (z : Zone). z.target < n) (λ z k. k.target) i.zones h.zones.zones) b.instruments v.instruments;
     }
 
@@ -102,8 +104,8 @@ module _ (P : ℕ → Type 0) (by : Renumbering) (n m : ℕ) (to : (x : ℕ) →
   zones_valid : (at : Level) (zs : List Zone) → AllByRecursion (IsZone at n) zs → OfTargets P zs → AllByRecursion (IsZone at m) (map (zone_renumbered by) zs)
   zones_valid at = all_map (IsZone at n) (λ (z : Zone). P z.target) (IsZone at m) (zone_renumbered by) (λ z v h. record { target = to z.target h; gens = v.gens })
 
-  pub instruments_valid : (is : List Instrument) → AllByRecursion (IsInstrument n) is → AllByRecursion (λ (i : Instrument). OfTargets P i.zones) is → AllByRecursion (IsInstrument m) (map (instrument_renumbered by) is)
-  instruments_valid = all_map (IsInstrument n) (λ (i : Instrument). OfTargets P i.zones) (IsInstrument m) (instrument_renumbered by)
+  pub instruments_valid : (is : List (WithZones (List ℕ))) → AllByRecursion (IsInstrument n) is → AllByRecursion (λ (i : WithZones (List ℕ)). OfTargets P i.zones) is → AllByRecursion (IsInstrument m) (map (owner_renumbered by) is)
+  instruments_valid = all_map (IsInstrument n) (λ (i : WithZones (List ℕ)). OfTargets P i.zones) (IsInstrument m) (owner_renumbered by)
       (λ i v h. record { name = v.name; zones = record { global = v.zones.global; zones = zones_valid level.Instrument i.zones v.zones.zones h } })
 
 -- ---- ranges of fields
@@ -114,8 +116,8 @@ module _ (by : Renumbering) (n : ℕ) (to : (x : ℕ) → x < n → renumbered b
     minor = f.minor;
     texts = f.texts;
     presets = f.presets;
-    instruments = all_map FitsInstrument (λ (i : Instrument). OfTargets (λ x. x < n) i.zones) FitsInstrument (instrument_renumbered by)
-        (λ i g k. record { name = g.name; global = g.global; zones = all_map FitsZone (λ (z : Zone). z.target < n) FitsZone (zone_renumbered by) (λ z g h. record { target = to z.target h; gens = g.gens; mods = g.mods }) i.zones g.zones k })
+    instruments = all_map (FitsOwner IsName) (λ (i : WithZones (List ℕ)). OfTargets (λ x. x < n) i.zones) (FitsOwner IsName) (owner_renumbered by)
+        (λ i g k. record { head = g.head; global = g.global; zones = all_map FitsZone (λ (z : Zone). z.target < n) FitsZone (zone_renumbered by) (λ z g h. record { target = to z.target h; gens = g.gens; mods = g.mods }) i.zones g.zones k })
         b.instruments f.instruments h.targets;
     samples = all_map FitsSample (λ (s : Sample). OfLink (λ x. x < n) s.kind) FitsSample (sample_renumbered by)
         (λ s g h. record { name = g.name; points = g.points; looped = g.looped; rate = g.rate; key = g.key; correction = g.correction; kind = link_sent (λ x. x < n) (λ x. x < 2 ^ 16) by to s.kind h }) b.samples f.samples h.links;
@@ -135,9 +137,9 @@ module _ (by : Renumbering) where
       let links : map (sample_renumbered by) b.samples ≡ b.samples =
       map_kept (sample_renumbered by) b.samples (all_weaker (λ (s : Sample). OfLink (λ x. renumbered by x ≡ x) s.kind) (λ (s : Sample). sample_renumbered by s ≡ s)
       (λ s k. ap (λ (kind : Kind). let t : Sample = record s { kind = kind } in t) (kind_kept s.kind k)) b.samples h.links) in
-      let targets : map (instrument_renumbered by) b.instruments ≡ b.instruments =
-      map_kept (instrument_renumbered by) b.instruments (all_weaker (λ (i : Instrument). OfTargets (λ x. renumbered by x ≡ x) i.zones) (λ (i : Instrument). instrument_renumbered by i ≡ i)
-      (λ i k. ap (λ (zones : List Zone). let t : Instrument = record i { zones = zones } in t)
+      let targets : map (owner_renumbered by) b.instruments ≡ b.instruments =
+      map_kept (owner_renumbered by) b.instruments (all_weaker (λ (i : WithZones (List ℕ)). OfTargets (λ x. renumbered by x ≡ x) i.zones) (λ (i : WithZones (List ℕ)). owner_renumbered by i ≡ i)
+      (λ i k. ap (λ (zones : List Zone). let t : WithZones (List ℕ) = record i { zones = zones } in t)
       (map_kept (zone_renumbered by) i.zones (all_weaker (λ (z : Zone). renumbered by z.target ≡ z.target) (λ (z : Zone). zone_renumbered by z ≡ z)
       (λ z e. ap (λ (target : ℕ). let t : Zone = record z { target = target } in t) e) i.zones k))) b.instruments h.targets) in
       λ i. record b { samples = links i; instruments = targets i }
@@ -155,10 +157,10 @@ module _ (by back : Renumbering) where
       map_back (sample_renumbered by) (sample_renumbered back) b.samples
       (all_weaker (λ (s : Sample). OfLink (λ x. renumbered back (renumbered by x) ≡ x) s.kind) (λ (s : Sample). sample_renumbered back (sample_renumbered by s) ≡ s)
       (λ s k. ap (λ (kind : Kind). let t : Sample = record s { kind = kind } in t) (kind_back s.kind k)) b.samples h.links) in
-      let targets : map (instrument_renumbered back) (map (instrument_renumbered by) b.instruments) ≡ b.instruments =
-      map_back (instrument_renumbered by) (instrument_renumbered back) b.instruments
-      (all_weaker (λ (i : Instrument). OfTargets (λ x. renumbered back (renumbered by x) ≡ x) i.zones) (λ (i : Instrument). instrument_renumbered back (instrument_renumbered by i) ≡ i)
-      (λ i k. ap (λ (zones : List Zone). let t : Instrument = record i { zones = zones } in t)
+      let targets : map (owner_renumbered back) (map (owner_renumbered by) b.instruments) ≡ b.instruments =
+      map_back (owner_renumbered by) (owner_renumbered back) b.instruments
+      (all_weaker (λ (i : WithZones (List ℕ)). OfTargets (λ x. renumbered back (renumbered by x) ≡ x) i.zones) (λ (i : WithZones (List ℕ)). owner_renumbered back (owner_renumbered by i) ≡ i)
+      (λ i k. ap (λ (zones : List Zone). let t : WithZones (List ℕ) = record i { zones = zones } in t)
       (map_back (zone_renumbered by) (zone_renumbered back) i.zones (all_weaker (λ (z : Zone). renumbered back (renumbered by z.target) ≡ z.target) (λ (z : Zone). zone_renumbered back (zone_renumbered by z) ≡ z)
       (λ z e. ap (λ (target : ℕ). let t : Zone = record z { target = target } in t) e) i.zones k))) b.instruments h.targets) in
       λ i. record b { samples = links i; instruments = targets i }
@@ -186,7 +188,7 @@ unused b i h =
     record {
       links = all_weaker (λ (s : Sample). links_to i s.kind ≡ false) (λ (s : Sample). OfLink (λ x. (x == i) ≡ false) s.kind) (λ s. not_linked i s.kind) (remove b.samples i)
           (none_passes (λ (s : Sample). links_to i s.kind) (remove b.samples i) (or_right used linked h));
-      targets = all_weaker (λ (x : Instrument). targets i x ≡ false) (λ (x : Instrument). OfTargets (λ t. (t == i) ≡ false) x.zones) (λ x. none_passes (λ (z : Zone). z.target == i) x.zones) b.instruments
+      targets = all_weaker (λ (x : WithZones (List ℕ)). targets i x ≡ false) (λ (x : WithZones (List ℕ)). OfTargets (λ t. (t == i) ≡ false) x.zones) (λ x. none_passes (λ (z : Zone). z.target == i) x.zones) b.instruments
           (none_passes (targets i) b.instruments (or_left used linked h));
     }
 
@@ -194,5 +196,5 @@ pub not_in_use : (b : Parts) (i : ℕ) → OfSampleRefs (λ x. (x == i) ≡ fals
 unfolding sample_in_use
 not_in_use b i h =
     or_none (list_any (targets i) b.instruments) (list_any (λ (s : Sample). links_to i s.kind) (remove b.samples i))
-    (passes_none (targets i) b.instruments (all_weaker (λ (x : Instrument). OfTargets (λ t. (t == i) ≡ false) x.zones) (λ (x : Instrument). targets i x ≡ false) (λ x. passes_none (λ (z : Zone). z.target == i) x.zones) b.instruments h.targets))
+    (passes_none (targets i) b.instruments (all_weaker (λ (x : WithZones (List ℕ)). OfTargets (λ t. (t == i) ≡ false) x.zones) (λ (x : WithZones (List ℕ)). targets i x ≡ false) (λ x. passes_none (λ (z : Zone). z.target == i) x.zones) b.instruments h.targets))
     (passes_none (λ (s : Sample). links_to i s.kind) (remove b.samples i) (all_weaker (λ (s : Sample). OfLink (λ x. (x == i) ≡ false) s.kind) (λ (s : Sample). links_to i s.kind ≡ false) (λ s. linked_not i s.kind) (remove b.samples i) h.links))

@@ -16,7 +16,7 @@ use Rattle.bank_parts.specs.Fits.{Fits, FitsSample}
 use Rattle.bank_parts.specs.declared.parts.Parts.{Parts}
 use Rattle.bank_parts.specs.declared.totals.Totals.{Totals}
 use Rattle.bank_parts.specs.Links.{OfLink}
-use Rattle.bank_parts.specs.Renumbered.{sample_renumbered, instrument_renumbered, samples_renumbered}
+use Rattle.bank_parts.specs.Renumbered.{sample_renumbered, owner_renumbered, samples_renumbered}
 use Rattle.bank_parts.specs.Sound.{IsSound}
 use Rattle.bank_core.specs.Samples.{named, sample_in_use, sample_renamed, sample_added, sample_removed}
 use Rattle.bank_parts.specs.Valid.{IsSample, IsValid, point_total}
@@ -99,7 +99,7 @@ totals-added b i s le =
     let more = sum_by-insert (λ (t : Sample). length t.points + ZERO_POINTS) (map (sample_renumbered by) b.samples) i s in
     let kept = points_kept by b.samples in omega (arith, more, kept) in
     λ k. record (totals_of b) {
-      instruments = length-map b.instruments (instrument_renumbered by) k;
+      instruments = length-map b.instruments (owner_renumbered by) k;
       samples = samples k;
       instrument_zones = zones_kept by b.instruments k;
       instrument_gens = gens_kept by b.instruments k;
@@ -118,7 +118,7 @@ added_valid b i s v le h e =
     let to : (x : ℕ) → x < n → renumbered by x < n + 1 = λ x lt. insertion_below i x n lt in
     record {
       texts = v.texts;
-      presets = rw (length-map b.instruments (instrument_renumbered by)) v.presets;
+      presets = rw (length-map b.instruments (owner_renumbered by)) v.presets;
       instruments = rw size (instruments_valid (λ x. x < n) by n (n + 1) to b.instruments v.instruments refs.targets);
       samples = rw size (all_insert (IsSample (n + 1)) (map (sample_renumbered by) b.samples) i s h (samples_valid (λ x. x < n) by n (n + 1) to b.samples v.samples refs.links));
       limits = limits_of (sample_added b i s) e;
@@ -166,7 +166,7 @@ totals-removed b i s e =
     let here : length (get_or b.samples i s).points + ZERO_POINTS ≡ length s.points + ZERO_POINTS = ap (λ (t : Sample). length t.points + ZERO_POINTS) (get_or_from_slice_get b.samples i s s e) in
     let kept = points_kept by left in omega (arith, less, here, kept) in
     λ k. record (totals_of b) {
-      instruments = length-map b.instruments (instrument_renumbered by) k;
+      instruments = length-map b.instruments (owner_renumbered by) k;
       samples = samples k;
       instrument_zones = zones_kept by b.instruments k;
       instrument_gens = gens_kept by b.instruments k;
@@ -190,7 +190,7 @@ removed_valid b i v lt free =
     let to : (x : ℕ) → P x → renumbered by x < m = λ x h. let below = h.1 in removal_below_by_test i x m h.0 (omega (arith, less)) (omega (arith, less, below)) in
     record {
       texts = v.texts;
-      presets = rw (length-map b.instruments (instrument_renumbered by)) v.presets;
+      presets = rw (length-map b.instruments (owner_renumbered by)) v.presets;
       instruments = rw size (instruments_valid P by n m to b.instruments v.instruments refs.targets);
       samples = rw size (samples_valid P by n m to left.samples (all_remove (IsSample n) b.samples i v.samples) refs.links);
       limits = limits_of (sample_removed b i) (without_sample_within (totals_of (sample_removed b i)) (length s.points)

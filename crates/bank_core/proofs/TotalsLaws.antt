@@ -6,10 +6,10 @@ use Rattle.numbered_lists.specs.declared.renumbering.Renumbering.{Renumbering}
 use Rattle.sf_base.specs.declared.limits.TheConstants.{ZERO_POINTS}
 use Rattle.bank_parts.specs.declared.totals.Totals.{Totals}
 use Rattle.bank_parts.specs.declared.parts.Zone.{Zone}
-use Rattle.bank_parts.specs.declared.parts.Instrument.{Instrument}
+use Rattle.bank_parts.specs.declared.parts.WithZones.{WithZones}
 use Rattle.bank_parts.specs.declared.parts.Sample.{Sample}
-use Rattle.bank_parts.specs.Renumbered.{sample_renumbered, zone_renumbered, instrument_renumbered}
-use Rattle.bank_parts.specs.Valid.{instrument_total, zone_count, gen_count, mod_count, point_total}
+use Rattle.bank_parts.specs.Renumbered.{sample_renumbered, zone_renumbered, owner_renumbered}
+use Rattle.bank_parts.specs.Valid.{owner_total, zone_count, gen_count, mod_count, point_total}
 use Rattle.bank_parts.specs.Limits.{broken, with_sample}
 use Rattle.bank_parts.proofs.LimitLaws.{within_totals, none_broken}
 use Rattle.bank_core.proofs.Everywhere.{sum_kept}
@@ -53,16 +53,16 @@ with_sample_same t u n e =
 
 -- ---- sums that new numbers don't change
 
-pub zones_kept : (by : Renumbering) (is : List Instrument) → instrument_total zone_count (map (instrument_renumbered by) is) ≡ instrument_total zone_count is
-zones_kept by = sum_kept (λ (i : Instrument). zone_count i.global i.zones) (instrument_renumbered by)
+pub zones_kept : (by : Renumbering) (is : List (WithZones (List ℕ))) → owner_total zone_count (map (owner_renumbered by) is) ≡ owner_total zone_count is
+zones_kept by = sum_kept (λ (i : WithZones (List ℕ)). zone_count i.global i.zones) (owner_renumbered by)
     (λ i. let e = length-map i.zones (zone_renumbered by) in omega (arith, e))
 
-pub gens_kept : (by : Renumbering) (is : List Instrument) → instrument_total gen_count (map (instrument_renumbered by) is) ≡ instrument_total gen_count is
-gens_kept by = sum_kept (λ (i : Instrument). gen_count i.global i.zones) (instrument_renumbered by)
+pub gens_kept : (by : Renumbering) (is : List (WithZones (List ℕ))) → owner_total gen_count (map (owner_renumbered by) is) ≡ owner_total gen_count is
+gens_kept by = sum_kept (λ (i : WithZones (List ℕ)). gen_count i.global i.zones) (owner_renumbered by)
     (λ i. ap (λ (n : ℕ). len i.global.gens + n) (sum_kept (λ (z : Zone). len z.gens + 1) (zone_renumbered by) (λ z. refl) i.zones))
 
-pub mods_kept : (by : Renumbering) (is : List Instrument) → instrument_total mod_count (map (instrument_renumbered by) is) ≡ instrument_total mod_count is
-mods_kept by = sum_kept (λ (i : Instrument). mod_count i.global i.zones) (instrument_renumbered by)
+pub mods_kept : (by : Renumbering) (is : List (WithZones (List ℕ))) → owner_total mod_count (map (owner_renumbered by) is) ≡ owner_total mod_count is
+mods_kept by = sum_kept (λ (i : WithZones (List ℕ)). mod_count i.global i.zones) (owner_renumbered by)
     (λ i. ap (λ (n : ℕ). length i.global.mods + n) (sum_kept (λ (z : Zone). length z.mods) (zone_renumbered by) (λ z. refl) i.zones))
 
 pub points_kept : (by : Renumbering) (ss : List Sample) → point_total (map (sample_renumbered by) ss) ≡ point_total ss

@@ -5,10 +5,9 @@ use Rattle.numbered_lists.specs.declared.renumbering.Renumbering.TheVariants.{In
 use Rattle.numbered_lists.specs.Moved.{changed}
 use Rattle.bank_parts.specs.declared.parts.Kind.{Kind}
 use Rattle.bank_parts.specs.declared.parts.Kind.TheVariants.{Mono, Right, Left, Linked}
-use Rattle.bank_parts.specs.declared.parts.Zone.{Zone}
-use Rattle.bank_parts.specs.declared.parts.Instrument.{Instrument}
 use Rattle.bank_parts.specs.declared.parts.Sample.{Sample}
 use Rattle.bank_parts.specs.declared.parts.Parts.{Parts}
+use Rattle.bank_parts.specs.Owners.{targets}
 use Rattle.bank_parts.specs.Renumbered.{samples_renumbered}
 
 -- the sample with a name
@@ -32,10 +31,6 @@ links_to number Mono = false
 links_to number (Right link) = link == number
 links_to number (Left link) = link == number
 links_to number (Linked link) = link == number
-
--- a zone of the instrument targets the sample
-abbrev pub targets : ℕ → Instrument → Bool
-targets number i = list_any (λ (z : Zone). z.target == number) i.zones
 
 -- a zone targets the sample, or another sample links to it
 unfoldable pub sample_in_use : Parts → ℕ → Bool

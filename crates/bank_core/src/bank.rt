@@ -2,6 +2,7 @@
 ghost use Rattle.std.specs.Prelude.{◌≡◌, slice_get, IfOk, IfErr, OnOk};
 ghost use Rattle.std.specs.Option.{option_copied};
 ghost use Rattle.bank_parts.specs.Texts.{text_of};
+ghost use Rattle.bank_parts.specs.Owners.{head_at};
 ghost use Rattle.bank_core.specs.Members.{member_count, head_of, instrument_name_of};
 ghost use Rattle.bank_parts.specs.Valid.{IsValid};
 ghost use Rattle.bank_parts.specs.Fits.{Fits};
@@ -10,11 +11,8 @@ ghost use Rattle.bank_parts.specs.Limits.{totals_of};
 ghost use Rattle.bank_core.specs.Faults.{IsPartsFault};
 
 use crate::fault::PartsFault;
-use crate::head::Head;
 use crate::members::Members;
-use bank_parts::{
-    InfoId, Instrument, Parts, Preset, Sample, Totals, copy_parts, is_valid, totals_of,
-};
+use bank_parts::{Head, InfoId, Owners, Parts, Sample, Totals, copy_parts, is_valid, totals_of};
 use sf_base::{Failure, Name20, OutOfMemory};
 use std::alloc::Global;
 use std::marker::Model;
@@ -97,21 +95,21 @@ impl<'a> Bank<'a> {
     }
 
     /// The presets, in order.
-    pub fn presets(&self) -> &[Preset]
+    pub fn presets(&self) -> &Owners<Head>
         ensures value { result.now ≡ self.now.presets }
         ensures valid { IsValid self.now }
         ensures fits { Fits self.now }
     {
-        self.parts.presets.as_slice()
+        &self.parts.presets
     }
 
     /// The instruments, in order.
-    pub fn instruments(&self) -> &[Instrument]
+    pub fn instruments(&self) -> &Owners<Name20>
         ensures value { result.now ≡ self.now.instruments }
         ensures valid { IsValid self.now }
         ensures fits { Fits self.now }
     {
-        self.parts.instruments.as_slice()
+        &self.parts.instruments
     }
 
     /// The samples, in order.
@@ -153,21 +151,23 @@ impl<'a> Bank<'a> {
     pub fn head(&self, preset: u32) -> Option<Head>
         ensures { result ≡ head_of self.now preset }
     {
-        let preset = self.parts.presets.get(preset as usize)?;
-        Some(Head {
-            name: preset.name,
-            number: preset.number,
-            bank: preset.bank,
-            library: preset.library,
-            genre: preset.genre,
-            morphology: preset.morphology,
-        })
+        head_in(&self.parts.presets, preset)
     }
 
     /// The name of the instrument of this number, if there is one.
     pub fn instrument_name(&self, instrument: u32) -> Option<Name20>
         ensures { result ≡ instrument_name_of self.now instrument }
     {
-        Some(self.parts.instruments.get(instrument as usize)?.name)
+        head_in(&self.parts.instruments, instrument)
     }
+}
+
+fn head_in<H: Copy>(owners: &Owners<H>, number: u32) -> Option<H>
+    ensures { result ≡ head_at owners.now number }
+{
+    let number = number as usize;
+    if number >= owners.len() {
+        return None;
+    }
+    Some(*owners.head(number))
 }

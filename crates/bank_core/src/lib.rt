@@ -3,7 +3,6 @@
 
 mod bank;
 mod fault;
-mod head;
 mod laws;
 mod members;
 mod samples;
@@ -12,9 +11,9 @@ mod zones;
 
 pub use bank::Bank;
 pub use bank_parts::{
-    GlobalZone, InfoId, Instrument, Kind, Parts, Preset, Sample, Texts, Zone, is_valid,
+    GlobalZone, Head, InfoId, Instrument, Kind, Owners, Parts, Preset, Sample, Texts, WithZones,
+    Zone, ZonePlace, is_valid,
 };
 pub use fault::PartsFault;
-pub use head::Head;
 pub use laws::renaming_keeps_sound;
 pub use members::{Members, Owner, Place};

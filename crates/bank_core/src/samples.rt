@@ -8,7 +8,7 @@ ghost use Rattle.bank_core.specs.Samples.{sample_renamed, sample_added, sample_r
 ghost use Rattle.bank_core.specs.Samples as uses;
 
 use crate::bank::Bank;
-use bank_parts::{Instrument, Kind, Parts, Sample};
+use bank_parts::{Kind, Parts, Sample};
 use numbered_lists::{Renumber, Renumbering};
 use sf_base::Name20;
 
@@ -59,7 +59,7 @@ impl<'a> Bank<'a> {
         requires { number < length self.now.samples }
         ensures { result ≡ sample_in_use self.now number }
     {
-        any_targets(number, self.parts.instruments.as_slice())
+        self.parts.instruments.any_targets(number)
             || others_link_to(number, self.parts.samples.as_slice())
     }
 }
@@ -126,22 +126,6 @@ fn any_links_to(number: u32, samples: &[Sample<'_>]) -> bool
     ensures { result ≡ list_any (λ (s : Sample). uses.links_to number s.kind) samples.now }
 {
     samples.iter().any(|s| links_to(number, s.kind))
-}
-
-fn targets(number: u32, instrument: &Instrument) -> bool
-    ensures { result ≡ uses.targets number instrument.now }
-{
-    instrument
-        .zones
-        .as_slice()
-        .iter()
-        .any(|zone| u32::from(zone.target) == number)
-}
-
-fn any_targets(number: u32, instruments: &[Instrument]) -> bool
-    ensures { result ≡ list_any (uses.targets number) instruments.now }
-{
-    instruments.iter().any(|i| targets(number, i))
 }
 
 // Whether a sample other than that of the number links to it.

@@ -6,25 +6,26 @@ use Rattle.std.specs.FinMap.{entries, len, len-entries}
 use Rattle.std.proofs.lemmas.Bool.{cases_eq, eq-eqb, ne_eqb}
 use Rattle.std.proofs.lemmas.List.{length-append, length-map}
 use Rattle.std.proofs.lemmas.List.Sums.{sum_by-cons}
+use Rattle.sf_base.specs.Names.{IsName}
 use Rattle.generators.specs.Gens.{FitEntries}
 use Rattle.generators.specs.Levels.{target_operator}
 use Rattle.generators.specs.declared.level.Level.{Level}
 use Rattle.generators.specs.declared.level.Level.TheVariants as level
 use Rattle.modulators.specs.Modulators.{FitsModulator}
-use Rattle.bank_parts.specs.Valid.{IsSample, IsLoop, zone_count, gen_count, mod_count, preset_total, instrument_total, point_total}
-use Rattle.bank_parts.specs.Fits.{FitsZone, FitsGlobal, FitsPreset, FitsInstrument, FitsKind, FitsSample}
+use Rattle.bank_parts.specs.Valid.{IsSample, IsLoop, zone_count, gen_count, mod_count, owner_total, point_total}
+use Rattle.bank_parts.specs.Fits.{FitsZone, FitsGlobal, FitsHead, FitsOwner, FitsKind, FitsSample}
 use Rattle.bank_parts.specs.declared.parts.Kind.{Kind}
 use Rattle.bank_parts.specs.declared.parts.Kind.TheVariants.{Mono, Right, Left, Linked}
 use Rattle.bank_parts.specs.declared.parts.GlobalZone.{GlobalZone}
 use Rattle.bank_parts.specs.declared.parts.Zone.{Zone}
-use Rattle.bank_parts.specs.declared.parts.Preset.{Preset}
-use Rattle.bank_parts.specs.declared.parts.Instrument.{Instrument}
+use Rattle.bank_parts.specs.declared.parts.Head.{Head}
+use Rattle.bank_parts.specs.declared.parts.WithZones.{WithZones}
 use Rattle.bank_parts.specs.declared.parts.Sample.{Sample}
 use Rattle.hydra_records.specs.Fits.{FitsBag, FitsGenerator, FitsPresetHead, FitsInstrumentHead, FitsSampleHead}
 use Rattle.bank_format.specs.Ids.{EOP, EOI, EOS}
 use Rattle.bank_format.specs.Windows.{ends, starts, together}
 use Rattle.bank_format.specs.Zones.{Bagged, bags_written, generator, gens_written, zone_written}
-use Rattle.bank_format.specs.Tables.{bag, bag_list, gen_list, mod_list, preset_bags, instrument_bags, preset_end, instrument_end, sample_end, preset_heads_from, instrument_heads_from, sample_heads_from, kind_word, link_word, loop_start_at, loop_end_at}
+use Rattle.bank_format.specs.Tables.{bag, bag_list, gen_list, mod_list, bags_of, Headers, presets, instruments, heads_from, preset_end, instrument_end, sample_end, sample_heads_from, kind_word, link_word, loop_start_at, loop_end_at}
 use Rattle.bank_format.proofs.AllLemmas.{all-append, all-flat_map}
 use Rattle.bank_format.proofs.NameLaws.{length-filled}
 use Rattle.bank_format.proofs.WindowLaws.{sizes, total}
@@ -153,21 +154,24 @@ ends_fit at lt = (
   record { name = refl; start = omega arith; end = omega arith; loop_start = omega arith; loop_end = omega arith; rate = omega arith; key = omega arith; correction = record { sfits = omega arith }; link = omega arith; kind = omega arith },
 )
 
-pub preset_heads_fit : (at : ℕ) (ps : List Preset) → AllByRecursion FitsPreset ps → at + preset_total zone_count ps ≤ 65535 → AllByRecursion FitsPresetHead (preset_heads_from at ps)
-preset_heads_fit at [] f le = ((ends_fit at (omega (arith, le))).0, tt)
-preset_heads_fit at (p ∷ ps) f le =
-    let w = sum_by-cons (λ (p : Preset). zone_count p.global p.zones) p ps in
-    let z = (holds level.Preset p.global p.zones).zones_are in (
-      record { name = length-filled p.name f.0.name.0; number = f.0.number; bank = f.0.bank; bag = omega (arith, le); library = f.0.library; genre = f.0.genre; morphology = f.0.morphology },
-      preset_heads_fit (at + length (preset_bags p)) ps f.1 (omega (arith, w, z, le)),
-    )
+module _ {H R : Type 0} (h : Headers H R) (IsFit : H → Type 0) (FitsRecord : R → Type 0)
+    (written : (at : ℕ) (x : H) → at < 2 ^ 16 → IsFit x → FitsRecord (h.written at x)) (last : (at : ℕ) → at < 2 ^ 16 → FitsRecord (h.last at)) where
+  pub heads_fit : (at : ℕ) (xs : List (WithZones H)) → AllByRecursion (FitsOwner IsFit) xs → at + owner_total zone_count xs ≤ 65535 → AllByRecursion FitsRecord (heads_from h at xs)
+  heads_fit at [] f le = (last at (omega (arith, le)), tt)
+  heads_fit at (x ∷ xs) f le =
+      let w = sum_by-cons (λ (x : WithZones H). zone_count x.global x.zones) x xs in
+      let z = (holds h.level x.global x.zones).zones_are in
+      (written at x.head (omega (arith, le)) f.0.head, heads_fit (at + length (bags_of h.level x)) xs f.1 (omega (arith, w, z, le)))
 
-pub instrument_heads_fit : (at : ℕ) (xs : List Instrument) → AllByRecursion FitsInstrument xs → at + instrument_total zone_count xs ≤ 65535 → AllByRecursion FitsInstrumentHead (instrument_heads_from at xs)
-instrument_heads_fit at [] f le = ((ends_fit at (omega (arith, le))).1, tt)
-instrument_heads_fit at (x ∷ xs) f le =
-    let w = sum_by-cons (λ (x : Instrument). zone_count x.global x.zones) x xs in
-    let z = (holds level.Instrument x.global x.zones).zones_are in
-    (record { name = length-filled x.name f.0.name.0; bag = omega (arith, le) }, instrument_heads_fit (at + length (instrument_bags x)) xs f.1 (omega (arith, w, z, le)))
+pub preset_heads_fit : (xs : List (WithZones Head)) → AllByRecursion (FitsOwner FitsHead) xs → owner_total zone_count xs ≤ 65535 → AllByRecursion FitsPresetHead (heads_from presets 0 xs)
+preset_heads_fit xs f le =
+    heads_fit presets FitsHead FitsPresetHead
+    (λ at x lt v. record { name = length-filled x.name v.name.0; number = v.number; bank = v.bank; bag = lt; library = v.library; genre = v.genre; morphology = v.morphology })
+    (λ at lt. (ends_fit at lt).0) 0 xs f (omega (arith, le))
+
+pub instrument_heads_fit : (xs : List (WithZones (List ℕ))) → AllByRecursion (FitsOwner IsName) xs → owner_total zone_count xs ≤ 65535 → AllByRecursion FitsInstrumentHead (heads_from instruments 0 xs)
+instrument_heads_fit xs f le =
+    heads_fit instruments IsName FitsInstrumentHead (λ at x lt v. record { name = length-filled x v.0; bag = lt }) (λ at lt. (ends_fit at lt).1) 0 xs f (omega (arith, le))
 
 small_kind : (k : Kind) → kind_word k < 2 ^ 16
 small_kind Mono = omega arith

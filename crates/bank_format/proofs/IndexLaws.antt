@@ -1,23 +1,22 @@
 -- The indexes in the tables of a bank are sums over the bank's own lists.
-use Rattle.std.proofs.Common.{◌≡◌, ◌≤◌, ◌+◌, ◌∙◌, ℕ, zero, suc, List, [], ◌∷◌, ◌++◌, length, map, take, drop, slice_get, Some, sym, ap, append_assoc, arith}
+use Rattle.std.proofs.Common.{◌≡◌, ◌≤◌, ◌+◌, ◌∙◌, ℕ, zero, suc, List, [], ◌∷◌, ◌++◌, length, map, take, drop, slice_get, Some, refl, sym, ap, append_assoc, arith}
 use Rattle.std.specs.Prelude.{flat_map, sum_by}
 use Rattle.std.proofs.lemmas.Grind.{flat_map-append}
 use Rattle.std.proofs.lemmas.List.{length-append, map-append, take-append-drop}
 use Rattle.std.proofs.lemmas.List.Sums.{sum_by-cons}
 use Rattle.generators.specs.declared.level.Level.{Level}
 use Rattle.generators.specs.declared.level.Level.TheVariants as level
-use Rattle.bank_parts.specs.Valid.{zone_count, gen_count, mod_count}
+use Rattle.bank_parts.specs.Valid.{owner_total, zone_count, gen_count, mod_count}
 use Rattle.bank_parts.specs.declared.parts.GlobalZone.{GlobalZone}
 use Rattle.bank_parts.specs.declared.parts.Zone.{Zone}
-use Rattle.bank_parts.specs.declared.parts.Preset.{Preset}
-use Rattle.bank_parts.specs.declared.parts.Instrument.{Instrument}
+use Rattle.bank_parts.specs.declared.parts.WithZones.{WithZones}
 use Rattle.bank_parts.specs.declared.parts.Parts.{Parts}
 use Rattle.bank_format.specs.Windows.{ends, starts, together}
 use Rattle.bank_format.specs.Zones.{Bagged, bags_written, global_written, zone_written}
-use Rattle.bank_format.specs.Tables.{bag, bag_list, tables_of}
-use Rattle.bank_format.specs.Indexes.{Count, AreSums, IndexesAreSums}
+use Rattle.bank_format.specs.Tables.{bag, bag_list, bags_of, presets, instruments, tables_of}
+use Rattle.bank_format.specs.Indexes.{AreSums, IndexesAreSums}
 use Rattle.bank_format.proofs.WindowLaws.{sizes, total, length-starts}
-use Rattle.bank_format.proofs.TableLaws.{gens_in_bag, mods_in_bag, preset_indexes, instrument_indexes}
+use Rattle.bank_format.proofs.TableLaws.{gens_in_bag, mods_in_bag, head_indexes}
 use Rattle.bank_format.proofs.IndexSteps.{length-bag_list}
 use Rattle.bank_format.proofs.FitLaws.{sizes-append, total-by, length-by, Holds, holds}
 
@@ -73,59 +72,56 @@ drop-found (y ∷ ys) (suc i) x e = drop-found ys i x e
 
 -- ---- the presets, or the instruments
 
-module _ {O : Type 0} (at : Level) (global : O → GlobalZone) (zones : O → List Zone) where
-  abbrev bags_of : O → List Bagged
-  bags_of o = bags_written at (global o) (zones o)
+module _ {H : Type 0} (at : Level) where
+  abbrev own_bags : WithZones H → List Bagged
+  own_bags o = bags_of at o
 
-  abbrev counted : Count → List O → ℕ
-  counted count os = sum_by (λ o. count (global o) (zones o)) os
-
-  all_hold : (os : List O) → Holds (flat_map bags_of os) (counted zone_count os) (counted gen_count os) (counted mod_count os)
+  all_hold : (os : List (WithZones H)) → Holds (flat_map own_bags os) (owner_total zone_count os) (owner_total gen_count os) (owner_total mod_count os)
   all_hold os = record {
-    zones_are = length-by bags_of (λ o. zone_count (global o) (zones o)) (λ o. (holds at (global o) (zones o)).zones_are) os;
-    gens_are = total-by gens_in_bag bags_of (λ o. gen_count (global o) (zones o)) (λ o. (holds at (global o) (zones o)).gens_are) os;
-    mods_are = total-by mods_in_bag bags_of (λ o. mod_count (global o) (zones o)) (λ o. (holds at (global o) (zones o)).mods_are) os;
+    zones_are = length-by own_bags (λ (o : WithZones H). zone_count o.global o.zones) (λ (o : WithZones H). (holds at o.global o.zones).zones_are) os;
+    gens_are = total-by gens_in_bag own_bags (λ (o : WithZones H). gen_count o.global o.zones) (λ (o : WithZones H). (holds at o.global o.zones).gens_are) os;
+    mods_are = total-by mods_in_bag own_bags (λ (o : WithZones H). mod_count o.global o.zones) (λ (o : WithZones H). (holds at o.global o.zones).mods_are) os;
   }
 
-  index_at : (i from : ℕ) (os : List O) → i ≤ length os → slice_get (from ∷ ends from (sizes bags_of os)) i ≡ Some (from + counted zone_count (take i os))
+  index_at : (i from : ℕ) (os : List (WithZones H)) → i ≤ length os → slice_get (from ∷ ends from (sizes own_bags os)) i ≡ Some (from + owner_total zone_count (take i os))
   index_at zero from os le = let e : from ≡ from + 0 = omega arith in ap Some e
   index_at (suc i) from [] le = absurd (omega (arith, le))
   index_at (suc i) from (o ∷ os) le =
-      let one = (holds at (global o) (zones o)).zones_are in
-      let sum = sum_by-cons (λ o. zone_count (global o) (zones o)) o (take i os) in
-      let e : from + length (bags_of o) + counted zone_count (take i os) ≡ from + counted zone_count (o ∷ take i os) = omega (arith, one, sum) in
-      index_at i (from + length (bags_of o)) os (omega (arith, le)) ∙ ap Some e
+      let one = (holds at o.global o.zones).zones_are in
+      let sum = sum_by-cons (λ (o : WithZones H). zone_count o.global o.zones) o (take i os) in
+      let e : from + length (own_bags o) + owner_total zone_count (take i os) ≡ from + owner_total zone_count (o ∷ take i os) = omega (arith, one, sum) in
+      index_at i (from + length (own_bags o)) os (omega (arith, le)) ∙ ap Some e
 
-  split : (i : ℕ) (os : List O) → flat_map bags_of (take i os) ++ flat_map bags_of (drop i os) ≡ flat_map bags_of os
-  split i os = sym (flat_map-append bags_of (take i os) (drop i os)) ∙ ap (flat_map bags_of) (take-append-drop i os)
+  split : (i : ℕ) (os : List (WithZones H)) → flat_map own_bags (take i os) ++ flat_map own_bags (drop i os) ≡ flat_map own_bags os
+  split i os = sym (flat_map-append own_bags (take i os) (drop i os)) ∙ ap (flat_map own_bags) (take-append-drop i os)
 
   -- the bags of the first i, and of the first j zones of the next one
-  split-zones : (i j : ℕ) (os : List O) (o : O) → slice_get os i ≡ Some o
-      → (flat_map bags_of (take i os) ++ bags_written at (global o) (take j (zones o))) ++ (map (zone_written at) (drop j (zones o)) ++ flat_map bags_of (drop (suc i) os)) ≡ flat_map bags_of os
+  split-zones : (i j : ℕ) (os : List (WithZones H)) (o : WithZones H) → slice_get os i ≡ Some o
+      → (flat_map own_bags (take i os) ++ bags_written at o.global (take j o.zones)) ++ (map (zone_written at) (drop j o.zones) ++ flat_map own_bags (drop (suc i) os)) ≡ flat_map own_bags os
   split-zones i j os o e =
-      let before = flat_map bags_of (take i os) in
-      let own = bags_written at (global o) (take j (zones o)) in
-      let rest = map (zone_written at) (drop j (zones o)) in
-      let later = flat_map bags_of (drop (suc i) os) in
+      let before = flat_map own_bags (take i os) in
+      let own = bags_written at o.global (take j o.zones) in
+      let rest = map (zone_written at) (drop j o.zones) in
+      let later = flat_map own_bags (drop (suc i) os) in
       append_assoc before own (rest ++ later)
-      ∙ ap (λ (l : List Bagged). before ++ l) (sym (append_assoc own rest later) ∙ ap (λ (l : List Bagged). l ++ later) (bags-split at (global o) (zones o) j))
-      ∙ ap (λ (l : List O). before ++ flat_map bags_of l) (sym (drop-found os i o e))
+      ∙ ap (λ (l : List Bagged). before ++ l) (sym (append_assoc own rest later) ∙ ap (λ (l : List Bagged). l ++ later) (bags-split at o.global o.zones j))
+      ∙ ap (λ (l : List (WithZones H)). before ++ flat_map own_bags l) (sym (drop-found os i o e))
       ∙ split i os
 
-  pub sums : (os : List O) (first_bags : List ℕ) → first_bags ≡ starts (sizes bags_of os) → AreSums global zones counted os first_bags (bag_list (flat_map bags_of os))
+  pub sums : (os : List (WithZones H)) (first_bags : List ℕ) → first_bags ≡ starts (sizes own_bags os) → AreSums os first_bags (bag_list (flat_map own_bags os))
   sums os first_bags e = record {
-    header_count = let l = length-starts bags_of os in ap length e ∙ omega (arith, l);
-    bag_count = let l = length-bag_list (flat_map bags_of os) in let z = (all_hold os).zones_are in omega (arith, l, z);
-    headers = λ i le. let sum : 0 + counted zone_count (take i os) ≡ counted zone_count (take i os) = omega arith in ap (λ is. slice_get is i) e ∙ index_at i 0 os le ∙ ap Some sum;
-    at_start = λ i le. says (flat_map bags_of os) (flat_map bags_of (take i os)) (flat_map bags_of (drop i os)) _ _ _ (split i os) (all_hold (take i os));
+    header_count = let l = length-starts own_bags os in ap length e ∙ omega (arith, l);
+    bag_count = let l = length-bag_list (flat_map own_bags os) in let z = (all_hold os).zones_are in omega (arith, l, z);
+    headers = λ i le. let sum : 0 + owner_total zone_count (take i os) ≡ owner_total zone_count (take i os) = omega arith in ap (λ is. slice_get is i) e ∙ index_at i 0 os le ∙ ap Some sum;
+    at_start = λ i le. says (flat_map own_bags os) (flat_map own_bags (take i os)) (flat_map own_bags (drop i os)) _ _ _ (split i os) (all_hold (take i os));
     at_zone = λ i j o found lt.
-        says (flat_map bags_of os) (flat_map bags_of (take i os) ++ bags_written at (global o) (take j (zones o))) (map (zone_written at) (drop j (zones o)) ++ flat_map bags_of (drop (suc i) os)) _ _ _
-        (split-zones i j os o found) (both_hold _ _ _ _ _ _ _ _ (all_hold (take i os)) (holds at (global o) (take j (zones o))));
+        says (flat_map own_bags os) (flat_map own_bags (take i os) ++ bags_written at o.global (take j o.zones)) (map (zone_written at) (drop j o.zones) ++ flat_map own_bags (drop (suc i) os)) _ _ _
+        (split-zones i j os o found) (both_hold _ _ _ _ _ _ _ _ (all_hold (take i os)) (holds at o.global (take j o.zones)));
   }
 
 pub indexes-sum : (b : Parts) → IndexesAreSums b
 unfolding tables_of
 indexes-sum b = record {
-  presets = sums level.Preset (λ (p : Preset). p.global) (λ (p : Preset). p.zones) b.presets _ (preset_indexes 0 b.presets);
-  instruments = sums level.Instrument (λ (i : Instrument). i.global) (λ (i : Instrument). i.zones) b.instruments _ (instrument_indexes 0 b.instruments);
+  presets = sums level.Preset b.presets _ (head_indexes presets (λ n h. refl) (λ n. refl) 0 b.presets);
+  instruments = sums level.Instrument b.instruments _ (head_indexes instruments (λ n h. refl) (λ n. refl) 0 b.instruments);
 }

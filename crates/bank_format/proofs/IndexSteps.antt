@@ -6,10 +6,10 @@ use Rattle.std.proofs.lemmas.Bool.{le-leb, lt-ltb}
 use Rattle.std.proofs.lemmas.List.{length-append}
 use Rattle.generators.specs.declared.level.Level.{Level}
 use Rattle.generators.specs.declared.level.Level.TheVariants as level
-use Rattle.bank_parts.specs.Valid.{IsPreset, IsInstrument, IsValid, IsZone}
+use Rattle.bank_parts.specs.Valid.{IsOwner, IsValid, IsZone}
 use Rattle.bank_parts.specs.declared.parts.Zone.{Zone}
-use Rattle.bank_parts.specs.declared.parts.Preset.{Preset}
-use Rattle.bank_parts.specs.declared.parts.Instrument.{Instrument}
+use Rattle.bank_parts.specs.declared.parts.Head.{Head}
+use Rattle.bank_parts.specs.declared.parts.WithZones.{WithZones}
 use Rattle.bank_parts.specs.declared.parts.Parts.{Parts}
 use Rattle.hydra_records.specs.declared.head.PresetHead.{PresetHead}
 use Rattle.hydra_records.specs.declared.head.InstrumentHead.{InstrumentHead}
@@ -19,12 +19,12 @@ use Rattle.bank_format.specs.declared.fault.ReadFault.TheVariants as fault
 use Rattle.bank_format.specs.Steps.{first_broken}
 use Rattle.bank_format.specs.Windows.{ends, starts}
 use Rattle.bank_format.specs.Zones.{Bagged}
-use Rattle.bank_format.specs.Tables.{bag, bag_list, gen_list, mod_list, generator_end, modulator_end, preset_bags, instrument_bags, all_preset_bags, all_instrument_bags, preset_heads_from, instrument_heads_from, tables_of}
-use Rattle.bank_format.specs.ReadSteps.{is_rising_from, index_steps, bag_steps, all_index_steps, target_step, target_steps}
+use Rattle.bank_format.specs.Tables.{bag, bag_list, gen_list, mod_list, generator_end, modulator_end, bags_of, all_bags, heads_from, presets, instruments, tables_of}
+use Rattle.bank_format.specs.ReadSteps.{is_rising_from, index_steps, bag_steps, all_index_steps, target_step, targets_of, target_steps}
 use Rattle.bank_format.proofs.AllLemmas.{all-flat_map}
 use Rattle.bank_format.proofs.StepLemmas.{then_none}
 use Rattle.bank_format.proofs.WindowLaws.{sizes, total, length-flat, length-starts, length-together}
-use Rattle.bank_format.proofs.TableLaws.{gens_in_bag, mods_in_bag, gen_indexes, mod_indexes, preset_indexes, instrument_indexes}
+use Rattle.bank_format.proofs.TableLaws.{gens_in_bag, mods_in_bag, gen_indexes, mod_indexes, head_indexes}
 
 rising : (at : ℕ) (ns : List ℕ) → is_rising_from at (ends at ns) ≡ true
 rising at [] = refl
@@ -72,10 +72,14 @@ head_steps_hold f ys is e =
 pub index_steps_hold : (b : Parts) → first_broken (all_index_steps (tables_of b)) ≡ None
 unfolding all_index_steps tables_of
 index_steps_hold b =
-    then_none (index_steps (map (λ (h : PresetHead). h.bag) (preset_heads_from 0 b.presets)) (length (bag_list (all_preset_bags b)))) _ (head_steps_hold preset_bags b.presets _ (preset_indexes 0 b.presets))
-    (then_none (bag_steps (bag_list (all_preset_bags b)) (length (gen_list (all_preset_bags b))) (length (mod_list (all_preset_bags b)))) _ (bag_steps_hold (all_preset_bags b))
-    (then_none (index_steps (map (λ (h : InstrumentHead). h.bag) (instrument_heads_from 0 b.instruments)) (length (bag_list (all_instrument_bags b)))) _ (head_steps_hold instrument_bags b.instruments _ (instrument_indexes 0 b.instruments))
-    (bag_steps_hold (all_instrument_bags b))))
+    let pbags = all_bags level.Preset b.presets in
+    let ibags = all_bags level.Instrument b.instruments in
+    then_none (index_steps (map (λ (h : PresetHead). h.bag) (heads_from presets 0 b.presets)) (length (bag_list pbags))) _
+    (head_steps_hold (bags_of level.Preset) b.presets _ (head_indexes presets (λ n x. refl) (λ n. refl) 0 b.presets))
+    (then_none (bag_steps (bag_list pbags) (length (gen_list pbags)) (length (mod_list pbags))) _ (bag_steps_hold pbags)
+    (then_none (index_steps (map (λ (h : InstrumentHead). h.bag) (heads_from instruments 0 b.instruments)) (length (bag_list ibags))) _
+    (head_steps_hold (bags_of level.Instrument) b.instruments _ (head_indexes instruments (λ n x. refl) (λ n. refl) 0 b.instruments))
+    (bag_steps_hold ibags)))
 
 -- ---- targets
 
@@ -83,11 +87,12 @@ targets_hold : (at : Level) (n : ℕ) (f : ReadFault) (zs : List Zone) → AllBy
 targets_hold at n f [] v = refl
 targets_hold at n f (z ∷ zs) v = let e : ltb z.target n ≡ true = lt-ltb _ _ v.0.target in rw e (targets_hold at n f zs v.1)
 
+owner_targets_hold : {H : Type 0} (name_of : H → List ℕ) (at : Level) (n : ℕ) (f : ReadFault) (xs : List (WithZones H)) → AllByRecursion (IsOwner name_of at n) xs → first_broken (targets_of n f xs) ≡ None
+owner_targets_hold name_of at n f xs v = targets_hold at n f _ (all-flat_map (IsZone at n) (IsOwner name_of at n) (λ x. x.zones) (λ x q. q.zones.zones) xs v)
+
 pub target_steps_hold : (b : Parts) → IsValid b → first_broken (target_steps b) ≡ None
 unfolding target_steps
 target_steps_hold b v =
-    let n = length b.instruments in
-    let k = length b.samples in
-    then_none (map (target_step n fault.BadInstrument) (flat_map (λ (p : Preset). p.zones) b.presets)) _
-    (targets_hold level.Preset n fault.BadInstrument _ (all-flat_map (IsZone level.Preset n) (IsPreset n) (λ (p : Preset). p.zones) (λ p q. q.zones.zones) b.presets v.presets))
-    (targets_hold level.Instrument k fault.BadSample _ (all-flat_map (IsZone level.Instrument k) (IsInstrument k) (λ (p : Instrument). p.zones) (λ p q. q.zones.zones) b.instruments v.instruments))
+    then_none (targets_of (length b.instruments) fault.BadInstrument b.presets) _
+    (owner_targets_hold (λ (x : Head). x.name) level.Preset (length b.instruments) fault.BadInstrument b.presets v.presets)
+    (owner_targets_hold (λ name. name) level.Instrument (length b.samples) fault.BadSample b.instruments v.instruments)

@@ -4,13 +4,14 @@ use Rattle.std.specs.Prelude.{flat_map}
 use Rattle.std.specs.List.{AllByRecursion}
 use Rattle.std.proofs.lemmas.Bool.{le-leb, eq-eqb}
 use Rattle.std.proofs.lemmas.List.{length-append}
+use Rattle.sf_base.specs.Names.{IsName}
+use Rattle.generators.specs.declared.level.Level.{Level}
 use Rattle.generators.specs.declared.level.Level.TheVariants as level
 use Rattle.modulators.specs.declared.modulator.Modulator.{Modulator}
 use Rattle.modulators.specs.Modulators.{FitsModulator}
-use Rattle.bank_parts.specs.Valid.{IsValid, zone_count, gen_count, mod_count, preset_total, instrument_total}
-use Rattle.bank_parts.specs.Fits.{Fits, FitsPreset, FitsInstrument}
-use Rattle.bank_parts.specs.declared.parts.Preset.{Preset}
-use Rattle.bank_parts.specs.declared.parts.Instrument.{Instrument}
+use Rattle.bank_parts.specs.Valid.{IsValid, zone_count, gen_count, mod_count, owner_total}
+use Rattle.bank_parts.specs.Fits.{Fits, FitsHead, FitsOwner}
+use Rattle.bank_parts.specs.declared.parts.WithZones.{WithZones}
 use Rattle.bank_parts.specs.declared.parts.Parts.{Parts}
 use Rattle.hydra_records.specs.Fits.{FitsBag, FitsGenerator, FitsPresetHead, FitsInstrumentHead, FitsSampleHead}
 use Rattle.hydra_records.specs.Spelling.{preset_head_bytes, bag_bytes, modulator_bytes, generator_bytes, instrument_head_bytes, sample_head_bytes}
@@ -18,13 +19,13 @@ use Rattle.hydra_records.proofs.KindLaws.{preset_head_lawful, bag_lawful, modula
 use Rattle.bank_format.specs.Ids.{PHDR, PBAG, PMOD, PGEN, INST, IBAG, IMOD, IGEN, SHDR}
 use Rattle.bank_format.specs.Steps.{first_broken}
 use Rattle.bank_format.specs.Zones.{Bagged}
-use Rattle.bank_format.specs.Tables.{Tables, tables_of, bag_list, gen_list, mod_list, generator_end, modulator_end, sample_end, preset_bags, instrument_bags, all_preset_bags, all_instrument_bags, sample_heads_from}
+use Rattle.bank_format.specs.Tables.{Tables, tables_of, bag_list, gen_list, mod_list, generator_end, modulator_end, sample_end, presets, instruments, bags_of, all_bags, sample_heads_from}
 use Rattle.bank_format.specs.Canon.{pdta}
 use Rattle.bank_format.specs.Chunks.{or_zero, tables_in}
 use Rattle.bank_format.specs.ReadSteps.{size_steps, count_steps}
 use Rattle.bank_format.proofs.AllLemmas.{all-flat_map}
 use Rattle.bank_format.proofs.WindowLaws.{sizes, total, length-flat}
-use Rattle.bank_format.proofs.TableLaws.{gens_in_bag, mods_in_bag, length-preset_heads, length-instrument_heads}
+use Rattle.bank_format.proofs.TableLaws.{gens_in_bag, mods_in_bag, length-heads}
 use Rattle.bank_format.proofs.SampleLaws.{length-sample_heads}
 use Rattle.bank_format.proofs.IndexSteps.{length-bag_list}
 use Rattle.bank_format.proofs.FitLaws.{total-by, length-by, holds, bags_fit, FitsBagged, written_fit, gen_list_fit, mod_list_fit, preset_heads_fit, instrument_heads_fit, sample_heads_fit}
@@ -75,42 +76,39 @@ tables-again t v c =
 -- ---- the tables of a bank
 
 module _ (b : Parts) (v : IsValid b) where
-  preset_gens : total (sizes gens_in_bag (all_preset_bags b)) ≡ preset_total gen_count b.presets
-  preset_gens = total-by gens_in_bag preset_bags (λ (p : Preset). gen_count p.global p.zones) (λ p. (holds level.Preset p.global p.zones).gens_are) b.presets
+  -- the bags of one level
+  module _ {H : Type 0} (at : Level) (xs : List (WithZones H)) where
+    gens_are : total (sizes gens_in_bag (all_bags at xs)) ≡ owner_total gen_count xs
+    gens_are = total-by gens_in_bag (bags_of at) (λ (x : WithZones H). gen_count x.global x.zones) (λ x. (holds at x.global x.zones).gens_are) xs
 
-  preset_mods : total (sizes mods_in_bag (all_preset_bags b)) ≡ preset_total mod_count b.presets
-  preset_mods = total-by mods_in_bag preset_bags (λ (p : Preset). mod_count p.global p.zones) (λ p. (holds level.Preset p.global p.zones).mods_are) b.presets
+    mods_are : total (sizes mods_in_bag (all_bags at xs)) ≡ owner_total mod_count xs
+    mods_are = total-by mods_in_bag (bags_of at) (λ (x : WithZones H). mod_count x.global x.zones) (λ x. (holds at x.global x.zones).mods_are) xs
 
-  preset_zones : length (all_preset_bags b) ≡ preset_total zone_count b.presets
-  preset_zones = length-by preset_bags (λ (p : Preset). zone_count p.global p.zones) (λ p. (holds level.Preset p.global p.zones).zones_are) b.presets
+    zones_are : length (all_bags at xs) ≡ owner_total zone_count xs
+    zones_are = length-by (bags_of at) (λ (x : WithZones H). zone_count x.global x.zones) (λ x. (holds at x.global x.zones).zones_are) xs
 
-  instrument_gens : total (sizes gens_in_bag (all_instrument_bags b)) ≡ instrument_total gen_count b.instruments
-  instrument_gens = total-by gens_in_bag instrument_bags (λ (p : Instrument). gen_count p.global p.zones) (λ p. (holds level.Instrument p.global p.zones).gens_are) b.instruments
-
-  instrument_mods : total (sizes mods_in_bag (all_instrument_bags b)) ≡ instrument_total mod_count b.instruments
-  instrument_mods = total-by mods_in_bag instrument_bags (λ (p : Instrument). mod_count p.global p.zones) (λ p. (holds level.Instrument p.global p.zones).mods_are) b.instruments
-
-  instrument_zones : length (all_instrument_bags b) ≡ instrument_total zone_count b.instruments
-  instrument_zones = length-by instrument_bags (λ (p : Instrument). zone_count p.global p.zones) (λ p. (holds level.Instrument p.global p.zones).zones_are) b.instruments
+    all_bags_fit : (IsFit : H → Type 0) → AllByRecursion (FitsOwner IsFit) xs → AllByRecursion FitsBagged (all_bags at xs)
+    all_bags_fit IsFit f = all-flat_map FitsBagged (FitsOwner IsFit) (bags_of at) (λ x q. written_fit at x.global x.zones q.global q.zones) xs f
 
   pub tables_fit : Fits b → TablesFit (tables_of b)
   unfolding tables_of
   tables_fit f =
       let w = v.limits in
-      let pg = w.preset_gens in let pm = w.preset_mods in let pz = w.preset_zones in
-      let ig = w.instrument_gens in let im = w.instrument_mods in let iz = w.instrument_zones in let pts = w.points in
-      let eg = preset_gens in let em = preset_mods in let fg = instrument_gens in let fm = instrument_mods in
-      let pbags : AllByRecursion FitsBagged (all_preset_bags b) = all-flat_map FitsBagged FitsPreset preset_bags (λ p q. written_fit level.Preset p.global p.zones q.global q.zones) b.presets f.presets in
-      let ibags : AllByRecursion FitsBagged (all_instrument_bags b) = all-flat_map FitsBagged FitsInstrument instrument_bags (λ p q. written_fit level.Instrument p.global p.zones q.global q.zones) b.instruments f.instruments in
+      let pg = w.preset_gens in let pm = w.preset_mods in
+      let ig = w.instrument_gens in let im = w.instrument_mods in let pts = w.points in
+      let eg = gens_are level.Preset b.presets in let em = mods_are level.Preset b.presets in
+      let fg = gens_are level.Instrument b.instruments in let fm = mods_are level.Instrument b.instruments in
+      let pbags = all_bags_fit level.Preset b.presets FitsHead f.presets in
+      let ibags = all_bags_fit level.Instrument b.instruments IsName f.instruments in
       record {
-        phdr = preset_heads_fit 0 b.presets f.presets (omega (arith, pz));
-        pbag = bags_fit (all_preset_bags b) (omega (arith, eg, pg)) (omega (arith, em, pm));
-        pmod = mod_list_fit (all_preset_bags b) pbags;
-        pgen = gen_list_fit (all_preset_bags b) pbags;
-        inst = instrument_heads_fit 0 b.instruments f.instruments (omega (arith, iz));
-        ibag = bags_fit (all_instrument_bags b) (omega (arith, fg, ig)) (omega (arith, fm, im));
-        imod = mod_list_fit (all_instrument_bags b) ibags;
-        igen = gen_list_fit (all_instrument_bags b) ibags;
+        phdr = preset_heads_fit b.presets f.presets w.preset_zones;
+        pbag = bags_fit (all_bags level.Preset b.presets) (omega (arith, eg, pg)) (omega (arith, em, pm));
+        pmod = mod_list_fit (all_bags level.Preset b.presets) pbags;
+        pgen = gen_list_fit (all_bags level.Preset b.presets) pbags;
+        inst = instrument_heads_fit b.instruments f.instruments w.instrument_zones;
+        ibag = bags_fit (all_bags level.Instrument b.instruments) (omega (arith, fg, ig)) (omega (arith, fm, im));
+        imod = mod_list_fit (all_bags level.Instrument b.instruments) ibags;
+        igen = gen_list_fit (all_bags level.Instrument b.instruments) ibags;
         shdr = sample_heads_fit (length b.samples) 0 b.samples v.samples f.samples (omega (arith, pts));
       }
 
@@ -132,20 +130,21 @@ module _ (b : Parts) (v : IsValid b) where
       let np = w.presets in let ni = w.instruments in let ns = w.samples in
       let pg = w.preset_gens in let pm = w.preset_mods in let pz = w.preset_zones in
       let ig = w.instrument_gens in let im = w.instrument_mods in let iz = w.instrument_zones in
-      let eg = preset_gens in let em = preset_mods in let ez = preset_zones in let fg = instrument_gens in let fm = instrument_mods in let fz = instrument_zones in
-      let lp = length-preset_heads 0 b.presets in
-      let li = length-instrument_heads 0 b.instruments in
+      let eg = gens_are level.Preset b.presets in let em = mods_are level.Preset b.presets in let ez = zones_are level.Preset b.presets in
+      let fg = gens_are level.Instrument b.instruments in let fm = mods_are level.Instrument b.instruments in let fz = zones_are level.Instrument b.instruments in
+      let lp = length-heads presets 0 b.presets in
+      let li = length-heads instruments 0 b.instruments in
       let ls = length-append (sample_heads_from 0 b.samples) (sample_end ∷ []) in
       let lh = length-sample_heads 0 b.samples in
       record {
         phdr = (omega (arith, lp), omega (arith, lp, np));
-        pbag = bags_counted (all_preset_bags b) (omega (arith, ez, pz));
-        pmod = mods_counted (all_preset_bags b) (omega (arith, em, pm));
-        pgen = gens_counted (all_preset_bags b) (omega (arith, eg, pg));
+        pbag = bags_counted (all_bags level.Preset b.presets) (omega (arith, ez, pz));
+        pmod = mods_counted (all_bags level.Preset b.presets) (omega (arith, em, pm));
+        pgen = gens_counted (all_bags level.Preset b.presets) (omega (arith, eg, pg));
         inst = (omega (arith, li), omega (arith, li, ni));
-        ibag = bags_counted (all_instrument_bags b) (omega (arith, fz, iz));
-        imod = mods_counted (all_instrument_bags b) (omega (arith, fm, im));
-        igen = gens_counted (all_instrument_bags b) (omega (arith, fg, ig));
+        ibag = bags_counted (all_bags level.Instrument b.instruments) (omega (arith, fz, iz));
+        imod = mods_counted (all_bags level.Instrument b.instruments) (omega (arith, fm, im));
+        igen = gens_counted (all_bags level.Instrument b.instruments) (omega (arith, fg, ig));
         shdr = (omega (arith, ls), omega (arith, ls, lh, ns));
       }
 

@@ -3,14 +3,12 @@ use Rattle.std.proofs.Common.{◌≡◌, ◌≤◌, ◌<◌, ℕ, ltb, List, [],
 use Rattle.std.specs.Prelude.{sum_by, flat_map}
 use Rattle.std.specs.List.{AllByRecursion}
 use Rattle.std.proofs.lemmas.Bool.{ltb-true}
-use Rattle.sf_base.specs.Names.{IsName}
+use Rattle.sf_base.specs.Names.{IsName, before_zero}
 use Rattle.generators.specs.declared.level.Level.{Level}
-use Rattle.generators.specs.declared.level.Level.TheVariants as level
 use Rattle.bank_parts.specs.declared.parts.Zone.{Zone}
-use Rattle.bank_parts.specs.declared.parts.Preset.{Preset}
-use Rattle.bank_parts.specs.declared.parts.Instrument.{Instrument}
-use Rattle.bank_parts.specs.Valid.{AreGenerators, IsZone, IsPreset, IsInstrument, zone_count, gen_count, mod_count, preset_total, instrument_total}
-use Rattle.bank_parts.specs.Fits.{FitsPreset, FitsInstrument}
+use Rattle.bank_parts.specs.declared.parts.WithZones.{WithZones}
+use Rattle.bank_parts.specs.Valid.{AreGenerators, IsZone, IsOwner, zone_count, gen_count, mod_count, owner_total}
+use Rattle.bank_parts.specs.Fits.{FitsHead, FitsOwner}
 use Rattle.hydra_records.specs.declared.head.PresetHead.{PresetHead}
 use Rattle.hydra_records.specs.declared.head.InstrumentHead.{InstrumentHead}
 use Rattle.hydra_records.specs.Fits.{FitsPresetHead, FitsInstrumentHead}
@@ -22,8 +20,9 @@ use Rattle.bank_format.specs.declared.fault.ReadFault.{ReadFault}
 use Rattle.bank_format.specs.Steps.{first_broken}
 use Rattle.bank_format.specs.Windows.{together}
 use Rattle.bank_format.specs.Zones.{Bagged}
-use Rattle.bank_format.specs.Reading.{preset_read, instrument_read}
-use Rattle.bank_format.specs.ReadSteps.{target_step}
+use Rattle.bank_format.specs.Tables.{Headers, presets}
+use Rattle.bank_format.specs.Reading.{owner_read}
+use Rattle.bank_format.specs.ReadSteps.{target_step, targets_of}
 use Rattle.bank_format.proofs.StepLemmas.{split_none}
 use Rattle.bank_format.proofs.ReadBytes.{take_bytes}
 use Rattle.bank_format.proofs.ReadTexts.{name_valid}
@@ -70,9 +69,9 @@ nothing_holds (x ∷ xs) = (tt, nothing_holds xs)
 abbrev HasTarget : ℕ → Zone → Type 0
 HasTarget n z = z.target < n
 
-targets_of : (n : ℕ) (f : ReadFault) (zs : List Zone) → first_broken (map (target_step n f) zs) ≡ None → AllByRecursion (HasTarget n) zs
-targets_of n f [] e = tt
-targets_of n f (z ∷ zs) e = let both = split_none (ltb z.target n) (first_broken (map (target_step n f) zs)) f e in (ltb-true _ _ both.0, targets_of n f zs both.1)
+zone_targets : (n : ℕ) (f : ReadFault) (zs : List Zone) → first_broken (map (target_step n f) zs) ≡ None → AllByRecursion (HasTarget n) zs
+zone_targets n f [] e = tt
+zone_targets n f (z ∷ zs) e = let both = split_none (ltb z.target n) (first_broken (map (target_step n f) zs)) f e in (ltb-true _ _ both.0, zone_targets n f zs both.1)
 
 split_all : {X : Type 0} (P : X → Type 0) (xs ys : List X) → AllByRecursion P (xs ++ ys) → AllByRecursion P xs × AllByRecursion P ys
 split_all P [] ys v = (tt, v)
@@ -85,106 +84,61 @@ split_flat P f (y ∷ ys) v = let both = split_all P (f y) (flat_map f ys) v in 
 zones_valid : (at : Level) (n : ℕ) (zs : List Zone) → AllByRecursion (HasGenerators at) zs → AllByRecursion (HasTarget n) zs → AllByRecursion (IsZone at n) zs
 zones_valid at n zs g t = both_hold (HasGenerators at) (HasTarget n) (IsZone at n) (λ z p q. record { target = q; gens = p }) zs g t
 
--- ---- presets
+-- ---- presets, or instruments
 
-module _ (hs : List PresetHead) (ws : List (List Bagged)) where
-  abbrev presets : List Preset
-  presets = together preset_read hs ws
+module _ {H R : Type 0} (h : Headers H R) (rs : List R) (ws : List (List Bagged)) where
+  abbrev owners : List (WithZones H)
+  owners = together (owner_read h) rs ws
 
   -- valid but for the targets
-  record IsNearPreset (p : Preset) : Type 0 where
-    name : IsName p.name
-    global : AreGenerators level.Preset p.global.gens
-    zones : AllByRecursion (HasGenerators level.Preset) p.zones
+  record IsNear (name_of : H → List ℕ) (x : WithZones H) : Type 0 where
+    name : IsName (name_of x.head)
+    global : AreGenerators h.level x.global.gens
+    zones : AllByRecursion (HasGenerators h.level) x.zones
 
-  near_presets : AllByRecursion ReadPresetHead hs → AllByRecursion IsNearPreset presets
-  near_presets v =
-      all_together preset_read ReadPresetHead (λ w. Unit {0}) IsNearPreset
-      (λ h w r u. record { name = name_valid h.name r.name r.fits.name; global = global_holds level.Preset w; zones = zones_hold level.Preset w })
-      hs ws v (nothing_holds ws)
+  module _ (IsRead : R → Type 0) (name_of : H → List ℕ) (named : (r : R) → IsRead r → IsName (name_of (h.read r))) where
+    near : AllByRecursion IsRead rs → AllByRecursion (IsNear name_of) owners
+    near v =
+        all_together (owner_read h) IsRead (λ w. Unit {0}) (IsNear name_of)
+        (λ r w is u. record { name = named r is; global = global_holds h.level w; zones = zones_hold h.level w })
+        rs ws v (nothing_holds ws)
 
-  pub presets_valid : (n : ℕ) (f : ReadFault) → AllByRecursion ReadPresetHead hs → first_broken (map (target_step n f) (flat_map (λ (p : Preset). p.zones) presets)) ≡ None
-      → AllByRecursion (IsPreset n) presets
-  presets_valid n f v e =
-      let targets = split_flat (HasTarget n) (λ (p : Preset). p.zones) presets (targets_of n f (flat_map (λ (p : Preset). p.zones) presets) e) in
-      both_hold IsNearPreset (λ p. AllByRecursion (HasTarget n) p.zones) (IsPreset n)
-      (λ p q t. record { name = q.name; zones = record { global = q.global; zones = zones_valid level.Preset n p.zones q.zones t } })
-      presets (near_presets v) targets
+    pub owners_valid : (n : ℕ) (f : ReadFault) → AllByRecursion IsRead rs → first_broken (targets_of n f owners) ≡ None → AllByRecursion (IsOwner name_of h.level n) owners
+    owners_valid n f v e =
+        let targets = split_flat (HasTarget n) (λ (x : WithZones H). x.zones) owners (zone_targets n f (flat_map (λ (x : WithZones H). x.zones) owners) e) in
+        both_hold (IsNear name_of) (λ x. AllByRecursion (HasTarget n) x.zones) (IsOwner name_of h.level n)
+        (λ x q t. record { name = q.name; zones = record { global = q.global; zones = zones_valid h.level n x.zones q.zones t } })
+        owners (near v) targets
 
-  pub presets_fit : AllByRecursion ReadPresetHead hs → AllByRecursion AllFit ws → AllByRecursion FitsPreset presets
-  presets_fit v k =
-      all_together preset_read ReadPresetHead AllFit FitsPreset
-      (λ h w r f. record {
-        name = name_valid h.name r.name r.fits.name;
-        number = r.fits.number;
-        bank = r.fits.bank;
-        library = r.fits.library;
-        genre = r.fits.genre;
-        morphology = r.fits.morphology;
-        global = global_fits level.Preset w f;
-        zones = zones_fit level.Preset w f;
-      })
-      hs ws v k
+  pub owners_fit : (IsRead : R → Type 0) (IsFit : H → Type 0) → ((r : R) → IsRead r → IsFit (h.read r)) → AllByRecursion IsRead rs → AllByRecursion AllFit ws → AllByRecursion (FitsOwner IsFit) owners
+  owners_fit IsRead IsFit fits v k =
+      all_together (owner_read h) IsRead AllFit (FitsOwner IsFit)
+      (λ r w is f. record { head = fits r is; global = global_fits h.level w f; zones = zones_fit h.level w f })
+      rs ws v k
 
-  pub record ArePresetsWithin : Type 0 where
-    pub zones : preset_total zone_count presets ≤ 65535
-    pub gens : preset_total gen_count presets ≤ 65535
-    pub mods : preset_total mod_count presets ≤ 65535
+  pub record AreOwnersWithin : Type 0 where
+    pub zones : owner_total zone_count owners ≤ 65535
+    pub gens : owner_total gen_count owners ≤ 65535
+    pub mods : owner_total mod_count owners ≤ 65535
 
-  pub presets_within : AreWithin ws → ArePresetsWithin
-  presets_within v =
+  pub owners_within : AreWithin ws → AreOwnersWithin
+  owners_within v =
       let vz = v.zones in
       let vg = v.gens in
       let vm = v.mods in
       record {
-        zones = omega (arith, vz, sum-right preset_read (λ (p : Preset). zone_count p.global p.zones) length (λ h w. (counted level.Preset w).zones) hs ws);
-        gens = omega (arith, vg, sum-right preset_read (λ (p : Preset). gen_count p.global p.zones) (λ bags. sum_by gens_in bags) (λ h w. (counted level.Preset w).gens) hs ws);
-        mods = omega (arith, vm, sum-right preset_read (λ (p : Preset). mod_count p.global p.zones) (λ bags. sum_by mods_in bags) (λ h w. (counted level.Preset w).mods) hs ws);
+        zones = omega (arith, vz, sum-right (owner_read h) (λ (x : WithZones H). zone_count x.global x.zones) length (λ r w. (counted h.level w).zones) rs ws);
+        gens = omega (arith, vg, sum-right (owner_read h) (λ (x : WithZones H). gen_count x.global x.zones) (λ bags. sum_by gens_in bags) (λ r w. (counted h.level w).gens) rs ws);
+        mods = omega (arith, vm, sum-right (owner_read h) (λ (x : WithZones H). mod_count x.global x.zones) (λ bags. sum_by mods_in bags) (λ r w. (counted h.level w).mods) rs ws);
       }
 
--- ---- instruments
+-- ---- those of presets, and those of instruments
 
-module _ (hs : List InstrumentHead) (ws : List (List Bagged)) where
-  abbrev instruments : List Instrument
-  instruments = together instrument_read hs ws
+pub preset_named : (r : PresetHead) → ReadPresetHead r → IsName (before_zero r.name)
+preset_named r v = name_valid r.name v.name v.fits.name
 
-  record IsNearInstrument (x : Instrument) : Type 0 where
-    name : IsName x.name
-    global : AreGenerators level.Instrument x.global.gens
-    zones : AllByRecursion (HasGenerators level.Instrument) x.zones
+pub preset_fits : (r : PresetHead) → ReadPresetHead r → FitsHead (presets.read r)
+preset_fits r v = record { name = preset_named r v; number = v.fits.number; bank = v.fits.bank; library = v.fits.library; genre = v.fits.genre; morphology = v.fits.morphology }
 
-  near_instruments : AllByRecursion ReadInstrumentHead hs → AllByRecursion IsNearInstrument instruments
-  near_instruments v =
-      all_together instrument_read ReadInstrumentHead (λ w. Unit {0}) IsNearInstrument
-      (λ h w r u. record { name = name_valid h.name r.name r.fits.name; global = global_holds level.Instrument w; zones = zones_hold level.Instrument w })
-      hs ws v (nothing_holds ws)
-
-  pub instruments_valid : (n : ℕ) (f : ReadFault) → AllByRecursion ReadInstrumentHead hs → first_broken (map (target_step n f) (flat_map (λ (x : Instrument). x.zones) instruments)) ≡ None
-      → AllByRecursion (IsInstrument n) instruments
-  instruments_valid n f v e =
-      let targets = split_flat (HasTarget n) (λ (x : Instrument). x.zones) instruments (targets_of n f (flat_map (λ (x : Instrument). x.zones) instruments) e) in
-      both_hold IsNearInstrument (λ x. AllByRecursion (HasTarget n) x.zones) (IsInstrument n)
-      (λ x q t. record { name = q.name; zones = record { global = q.global; zones = zones_valid level.Instrument n x.zones q.zones t } })
-      instruments (near_instruments v) targets
-
-  pub instruments_fit : AllByRecursion ReadInstrumentHead hs → AllByRecursion AllFit ws → AllByRecursion FitsInstrument instruments
-  instruments_fit v k =
-      all_together instrument_read ReadInstrumentHead AllFit FitsInstrument
-      (λ h w r f. record { name = name_valid h.name r.name r.fits.name; global = global_fits level.Instrument w f; zones = zones_fit level.Instrument w f })
-      hs ws v k
-
-  pub record AreInstrumentsWithin : Type 0 where
-    pub zones : instrument_total zone_count instruments ≤ 65535
-    pub gens : instrument_total gen_count instruments ≤ 65535
-    pub mods : instrument_total mod_count instruments ≤ 65535
-
-  pub instruments_within : AreWithin ws → AreInstrumentsWithin
-  instruments_within v =
-      let vz = v.zones in
-      let vg = v.gens in
-      let vm = v.mods in
-      record {
-        zones = omega (arith, vz, sum-right instrument_read (λ (x : Instrument). zone_count x.global x.zones) length (λ h w. (counted level.Instrument w).zones) hs ws);
-        gens = omega (arith, vg, sum-right instrument_read (λ (x : Instrument). gen_count x.global x.zones) (λ bags. sum_by gens_in bags) (λ h w. (counted level.Instrument w).gens) hs ws);
-        mods = omega (arith, vm, sum-right instrument_read (λ (x : Instrument). mod_count x.global x.zones) (λ bags. sum_by mods_in bags) (λ h w. (counted level.Instrument w).mods) hs ws);
-      }
+pub instrument_named : (r : InstrumentHead) → ReadInstrumentHead r → IsName (before_zero r.name)
+instrument_named r v = name_valid r.name v.name v.fits.name

@@ -1,16 +1,16 @@
 -- The bank that an unbroken file reads as is valid, and fits.
 use Rattle.std.proofs.Common.{◌≡◌, ◌-◌, ℕ, List, [], ◌∷◌, length, map, None, arith}
-use Rattle.std.specs.Prelude.{flat_map}
 use Rattle.std.specs.List.{AllByRecursion}
 use Rattle.std.proofs.lemmas.List.{length-map}
+use Rattle.sf_base.specs.Names.{IsName}
 use Rattle.sample_view.specs.Words.{AreWords}
 use Rattle.sample_view.proofs.WordLemmas.{AreWords-words}
 use Rattle.riff_chunks.specs.Walk.{Chunk}
 use Rattle.modulators.specs.declared.modulator.Modulator.{Modulator}
 use Rattle.modulators.specs.Modulators.{FitsModulator}
-use Rattle.bank_parts.specs.declared.parts.Preset.{Preset}
+use Rattle.bank_parts.specs.declared.parts.Head.{Head}
 use Rattle.bank_parts.specs.Valid.{IsValid, IsWithin}
-use Rattle.bank_parts.specs.Fits.{Fits}
+use Rattle.bank_parts.specs.Fits.{Fits, FitsHead}
 use Rattle.hydra_records.specs.declared.head.PresetHead.{PresetHead}
 use Rattle.hydra_records.specs.declared.head.InstrumentHead.{InstrumentHead}
 use Rattle.hydra_records.specs.declared.head.SampleHead.{SampleHead}
@@ -20,19 +20,19 @@ use Rattle.hydra_records.proofs.KindLaws.{field_at-lt, generator_lawful, modulat
 use Rattle.bank_format.specs.Ids.{INFO, SDTA, PDTA, IFIL, SMPL, PHDR, PMOD, PGEN, INST, IMOD, IGEN, SHDR}
 use Rattle.bank_format.specs.declared.fault.ReadFault.TheVariants as fault
 use Rattle.bank_format.specs.Windows.{rows}
-use Rattle.bank_format.specs.Tables.{Tables}
+use Rattle.bank_format.specs.Tables.{Tables, presets, instruments}
 use Rattle.bank_format.specs.Texts.{texts_read}
 use Rattle.bank_format.specs.Samples.{sample_read}
 use Rattle.bank_format.specs.Chunks.{window, chunks_of, body_in, or_zero, tables_in, points_in}
-use Rattle.bank_format.specs.Reading.{preset_windows, instrument_windows, preset_read, instrument_read, bank_of, content_in}
-use Rattle.bank_format.specs.ReadSteps.{sample_step, target_step, target_steps, fault_of}
+use Rattle.bank_format.specs.Reading.{preset_windows, instrument_windows, owner_read, bank_of, content_in}
+use Rattle.bank_format.specs.ReadSteps.{sample_step, targets_of, target_steps, fault_of}
 use Rattle.bank_format.proofs.StepLemmas.{both_none, all_none}
 use Rattle.bank_format.proofs.ReadBytes.{OfBytes, body_bytes, chunk_bytes, window_bytes}
 use Rattle.bank_format.proofs.ReadSamples.{ReadHead, heads_read, GoodHead, samples_valid, samples_fit, point_total-read, total_small}
 use Rattle.bank_format.proofs.ReadTexts.{texts_valid, texts_fit}
 use Rattle.bank_format.proofs.ReadWindows.{all_taken, length-together-le}
 use Rattle.bank_format.proofs.ReadTables.{windows_fit}
-use Rattle.bank_format.proofs.ReadMembers.{ReadPresetHead, ReadInstrumentHead, preset_heads_read, instrument_heads_read, presets_valid, presets_fit, presets_within, instruments_valid, instruments_fit, instruments_within}
+use Rattle.bank_format.proofs.ReadMembers.{ReadPresetHead, ReadInstrumentHead, preset_heads_read, instrument_heads_read, owners_valid, owners_fit, owners_within, preset_named, preset_fits, instrument_named}
 use Rattle.bank_format.proofs.ReadUnbroken.{Unbroken, file_unbroken, few_records, few_in_windows, length-rows, good_heads}
 
 -- ---- tables of bytes
@@ -80,16 +80,16 @@ module _ (info sdta : List Chunk) (t : Tables) (hi : AllByRecursion OfBytes info
   within u good =
       let few = few_records t u.counts in
       let windows = few_in_windows t few u.indexes in
-      let p = presets_within (rows t.phdr) (preset_windows t) windows.0 in
-      let i = instruments_within (rows t.inst) (instrument_windows t) windows.1 in
+      let p = owners_within presets (rows t.phdr) (preset_windows t) windows.0 in
+      let i = owners_within instruments (rows t.inst) (instrument_windows t) windows.1 in
       let fp = few.phdr in
       let fi = few.inst in
       let fs = few.shdr in
       let total = point_total-read (length heads) (points_in sdta) heads good in
       let small = total_small heads u.total in
       record {
-        presets = omega (arith, fp, length-rows t.phdr, length-together-le preset_read (rows t.phdr) (preset_windows t));
-        instruments = omega (arith, fi, length-rows t.inst, length-together-le instrument_read (rows t.inst) (instrument_windows t));
+        presets = omega (arith, fp, length-rows t.phdr, length-together-le (owner_read presets) (rows t.phdr) (preset_windows t));
+        instruments = omega (arith, fi, length-rows t.inst, length-together-le (owner_read instruments) (rows t.inst) (instrument_windows t));
         samples = omega (arith, fs, length-rows t.shdr, length-map heads (sample_read (length heads) (points_in sdta)));
         preset_zones = p.zones;
         preset_gens = p.gens;
@@ -108,11 +108,11 @@ module _ (info sdta : List Chunk) (t : Tables) (hi : AllByRecursion OfBytes info
       let good = good_heads (length points) heads (all_none (sample_step (length points)) heads u.samples) in
       let count = length-map heads (sample_read n points) in
       let bank = bank_of info sdta t in
-      let targets = both_none (map (target_step (length bank.instruments) fault.BadInstrument) (flat_map (λ (p : Preset). p.zones) bank.presets)) _ u.targets in
+      let targets = both_none (targets_of (length bank.instruments) fault.BadInstrument bank.presets) _ u.targets in
       record {
         texts = texts_valid info hi;
-        presets = presets_valid (rows t.phdr) (preset_windows t) (length bank.instruments) fault.BadInstrument r.phdr targets.0;
-        instruments = instruments_valid (rows t.inst) (instrument_windows t) (length bank.samples) fault.BadSample r.inst targets.1;
+        presets = owners_valid presets (rows t.phdr) (preset_windows t) ReadPresetHead (λ (x : Head). x.name) preset_named (length bank.instruments) fault.BadInstrument r.phdr targets.0;
+        instruments = owners_valid instruments (rows t.inst) (instrument_windows t) ReadInstrumentHead (λ name. name) instrument_named (length bank.samples) fault.BadSample r.inst targets.1;
         samples = rw count (samples_valid n points heads r.shdr good);
         limits = within u good;
       }
@@ -122,8 +122,8 @@ module _ (info sdta : List Chunk) (t : Tables) (hi : AllByRecursion OfBytes info
   bank_fits = record {
     minor = field_at-lt 2 2 (body_in IFIL info) (body_bytes IFIL info hi);
     texts = texts_fit (texts_read info) (texts_valid info hi);
-    presets = presets_fit (rows t.phdr) (preset_windows t) r.phdr (windows_fit t.pbag t.pgen t.pmod (map (λ (h : PresetHead). h.bag) t.phdr) r.pgen r.pmod);
-    instruments = instruments_fit (rows t.inst) (instrument_windows t) r.inst (windows_fit t.ibag t.igen t.imod (map (λ (h : InstrumentHead). h.bag) t.inst) r.igen r.imod);
+    presets = owners_fit presets (rows t.phdr) (preset_windows t) ReadPresetHead FitsHead preset_fits r.phdr (windows_fit t.pbag t.pgen t.pmod (map (λ (h : PresetHead). h.bag) t.phdr) r.pgen r.pmod);
+    instruments = owners_fit instruments (rows t.inst) (instrument_windows t) ReadInstrumentHead IsName instrument_named r.inst (windows_fit t.ibag t.igen t.imod (map (λ (h : InstrumentHead). h.bag) t.inst) r.igen r.imod);
     samples = samples_fit (length heads) (points_in sdta) heads points_words r.shdr;
   }
 

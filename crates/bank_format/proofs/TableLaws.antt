@@ -3,23 +3,22 @@ use Rattle.std.proofs.Common.{◌≡◌, ◌+◌, ◌-◌, ℕ, suc, List, [], �
 use Rattle.std.specs.Prelude.{sum_by}
 use Rattle.std.specs.List.{AllByRecursion}
 use Rattle.std.proofs.lemmas.List.{length-map, map-id}
+use Rattle.sf_base.specs.Names.{IsName}
 use Rattle.generators.specs.declared.level.Level.{Level}
 use Rattle.generators.specs.declared.level.Level.TheVariants as level
 use Rattle.modulators.specs.declared.modulator.Modulator.{Modulator}
-use Rattle.bank_parts.specs.Valid.{AreZones, IsPreset, IsInstrument, IsValid}
+use Rattle.bank_parts.specs.Valid.{AreZones, IsOwner, IsPreset, IsInstrument, IsValid}
 use Rattle.bank_parts.specs.declared.parts.GlobalZone.{GlobalZone}
 use Rattle.bank_parts.specs.declared.parts.Zone.{Zone}
-use Rattle.bank_parts.specs.declared.parts.Preset.{Preset}
-use Rattle.bank_parts.specs.declared.parts.Instrument.{Instrument}
+use Rattle.bank_parts.specs.declared.parts.Head.{Head}
+use Rattle.bank_parts.specs.declared.parts.WithZones.{WithZones}
 use Rattle.bank_parts.specs.declared.parts.Parts.{Parts}
-use Rattle.hydra_records.specs.declared.head.PresetHead.{PresetHead}
-use Rattle.hydra_records.specs.declared.head.InstrumentHead.{InstrumentHead}
 use Rattle.hydra_records.specs.declared.zone.Bag.{Bag}
 use Rattle.hydra_records.specs.declared.zone.Generator.{Generator}
 use Rattle.bank_format.specs.Windows.{ends, starts, windows, together, rows}
 use Rattle.bank_format.specs.Zones.{Bagged, bags_written, ignored, gens_dropped, ranges_mended}
-use Rattle.bank_format.specs.Tables.{bag, bag_list, gen_list, mod_list, generator_end, modulator_end, preset_bags, instrument_bags, preset_heads_from, instrument_heads_from, preset_head, instrument_head, tables_of, all_preset_bags, all_instrument_bags}
-use Rattle.bank_format.specs.Reading.{bagged, bags_in, preset_windows, instrument_windows, preset_read, instrument_read}
+use Rattle.bank_format.specs.Tables.{bag, bag_list, gen_list, mod_list, generator_end, modulator_end, bags_of, all_bags, Headers, presets, instruments, heads_from, tables_of}
+use Rattle.bank_format.specs.Reading.{bagged, bags_in, preset_windows, instrument_windows, owner_read}
 use Rattle.bank_format.proofs.CountLemmas.{sum-none_by}
 use Rattle.bank_format.proofs.NameLaws.{before_zero-filled}
 use Rattle.bank_format.proofs.WindowLaws.{sizes, windows-again, windows-all, length-starts, map-together_left, map-together_right, together-maps, together-take}
@@ -53,73 +52,62 @@ bags-again bags =
 
 -- ---- headers
 
-pub preset_indexes : (at : ℕ) (ps : List Preset) → map (λ (h : PresetHead). h.bag) (preset_heads_from at ps) ≡ at ∷ ends at (sizes preset_bags ps)
-preset_indexes at [] = refl
-preset_indexes at (p ∷ ps) = ap (λ (is : List ℕ). at ∷ is) (preset_indexes (at + length (preset_bags p)) ps)
+pub length-heads : {H R : Type 0} (h : Headers H R) (at : ℕ) (xs : List (WithZones H)) → length (heads_from h at xs) ≡ suc (length xs)
+length-heads h at [] = refl
+length-heads h at (x ∷ xs) = ap suc (length-heads h (at + length (bags_of h.level x)) xs)
 
-pub instrument_indexes : (at : ℕ) (is : List Instrument) → map (λ (h : InstrumentHead). h.bag) (instrument_heads_from at is) ≡ at ∷ ends at (sizes instrument_bags is)
-instrument_indexes at [] = refl
-instrument_indexes at (i ∷ is) = ap (λ (js : List ℕ). at ∷ js) (instrument_indexes (at + length (instrument_bags i)) is)
+module _ {H R : Type 0} (h : Headers H R) (written : (n : ℕ) (x : H) → h.first_bag (h.written n x) ≡ n) (last : (n : ℕ) → h.first_bag (h.last n) ≡ n) where
+  abbrev own_bags : WithZones H → List Bagged
+  own_bags x = bags_of h.level x
 
-preset_windows-again : (b : Parts) → preset_windows (tables_of b) ≡ map preset_bags b.presets
+  pub head_indexes : (at : ℕ) (xs : List (WithZones H)) → map h.first_bag (heads_from h at xs) ≡ at ∷ ends at (sizes own_bags xs)
+  head_indexes at [] = λ i. last at i ∷ []
+  head_indexes at (x ∷ xs) = λ i. written at x.head i ∷ head_indexes (at + length (own_bags x)) xs i
+
+  -- the windows of the headers
+  pub windows_are_bags : (xs : List (WithZones H)) → windows (bags_in (bag_list (all_bags h.level xs)) (gen_list (all_bags h.level xs)) (mod_list (all_bags h.level xs))) (map h.first_bag (heads_from h 0 xs)) ≡ map own_bags xs
+  windows_are_bags xs = (λ i. windows (bags-again (all_bags h.level xs) i) (head_indexes 0 xs i)) ∙ windows-all own_bags xs
+
+  module _ (name_of : H → List ℕ) (again : (n : ℕ) (x : H) → IsName (name_of x) → h.read (h.written n x) ≡ x) where
+    owner-again : (targets at : ℕ) (x : WithZones H) → IsOwner name_of h.level targets x → owner_read h (h.written at x.head) (own_bags x) ≡ x
+    owner-again targets at x v =
+        let zones = header-again h.level targets x.global x.zones v.zones in
+        λ i. record { head = again at x.head v.name i; global = zones.global i; zones = zones.zones i }
+
+    owners-again : (targets at : ℕ) (xs : List (WithZones H)) → AllByRecursion (IsOwner name_of h.level targets) xs → together (owner_read h) (heads_from h at xs) (map own_bags xs) ≡ xs
+    owners-again targets at [] v = refl
+    owners-again targets at (x ∷ xs) v = λ i. owner-again targets at x v.0 i ∷ owners-again targets (at + length (own_bags x)) xs v.1 i
+
+    pub all_owners-again : (targets : ℕ) (xs : List (WithZones H)) (ws : List (List Bagged)) → ws ≡ map own_bags xs → AllByRecursion (IsOwner name_of h.level targets) xs
+        → together (owner_read h) (rows (heads_from h 0 xs)) ws ≡ xs
+    all_owners-again targets xs ws e v =
+        let heads = heads_from h 0 xs in
+        let l = length-heads h 0 xs in
+        let m = length-map xs own_bags in
+        ap (together (owner_read h) (rows heads)) e
+        ∙ together-take (owner_read h) (length heads - 1) heads (map own_bags xs) (omega (arith, l, m))
+        ∙ owners-again targets 0 xs v
+
+-- ---- those of presets, and those of instruments
+
+preset_windows-again : (b : Parts) → preset_windows (tables_of b) ≡ map (bags_of level.Preset) b.presets
 unfolding preset_windows tables_of
-preset_windows-again b =
-    (λ i. windows (bags-again (all_preset_bags b) i) (preset_indexes 0 b.presets i)) ∙ windows-all preset_bags b.presets
+preset_windows-again b = windows_are_bags presets (λ n x. refl) (λ n. refl) b.presets
 
-instrument_windows-again : (b : Parts) → instrument_windows (tables_of b) ≡ map instrument_bags b.instruments
+instrument_windows-again : (b : Parts) → instrument_windows (tables_of b) ≡ map (bags_of level.Instrument) b.instruments
 unfolding instrument_windows tables_of
-instrument_windows-again b =
-    (λ i. windows (bags-again (all_instrument_bags b) i) (instrument_indexes 0 b.instruments i)) ∙ windows-all instrument_bags b.instruments
+instrument_windows-again b = windows_are_bags instruments (λ n x. refl) (λ n. refl) b.instruments
 
--- ---- what is read of them
+preset-again : (n : ℕ) (x : Head) → IsName x.name → presets.read (presets.written n x) ≡ x
+preset-again n x v = let name = before_zero-filled x.name v in λ i. record x { name = name i }
 
-preset_read-again : (n at : ℕ) (p : Preset) → IsPreset n p → preset_read (preset_head at p) (preset_bags p) ≡ p
-preset_read-again n at p v =
-    let again = header-again level.Preset n p.global p.zones v.zones in
-    let name = before_zero-filled p.name v.name in
-    λ i. record { name = name i; number = p.number; bank = p.bank; library = p.library; genre = p.genre; morphology = p.morphology; global = again.global i; zones = again.zones i }
-
-presets-again : (n at : ℕ) (ps : List Preset) → AllByRecursion (IsPreset n) ps → together preset_read (preset_heads_from at ps) (map preset_bags ps) ≡ ps
-presets-again n at [] v = refl
-presets-again n at (p ∷ ps) v = λ i. preset_read-again n at p v.0 i ∷ presets-again n (at + length (preset_bags p)) ps v.1 i
-
-instrument_read-again : (n at : ℕ) (x : Instrument) → IsInstrument n x → instrument_read (instrument_head at x) (instrument_bags x) ≡ x
-instrument_read-again n at x v =
-    let again = header-again level.Instrument n x.global x.zones v.zones in
-    let name = before_zero-filled x.name v.name in
-    λ i. record { name = name i; global = again.global i; zones = again.zones i }
-
-instruments-again : (n at : ℕ) (xs : List Instrument) → AllByRecursion (IsInstrument n) xs → together instrument_read (instrument_heads_from at xs) (map instrument_bags xs) ≡ xs
-instruments-again n at [] v = refl
-instruments-again n at (x ∷ xs) v = λ i. instrument_read-again n at x v.0 i ∷ instruments-again n (at + length (instrument_bags x)) xs v.1 i
-
-pub length-preset_heads : (at : ℕ) (ps : List Preset) → length (preset_heads_from at ps) ≡ suc (length ps)
-length-preset_heads at [] = refl
-length-preset_heads at (p ∷ ps) = ap suc (length-preset_heads (at + length (preset_bags p)) ps)
-
-pub length-instrument_heads : (at : ℕ) (xs : List Instrument) → length (instrument_heads_from at xs) ≡ suc (length xs)
-length-instrument_heads at [] = refl
-length-instrument_heads at (x ∷ xs) = ap suc (length-instrument_heads (at + length (instrument_bags x)) xs)
-
-pub all_presets-again : (b : Parts) → IsValid b → together preset_read (rows (tables_of b).phdr) (preset_windows (tables_of b)) ≡ b.presets
+pub all_presets-again : (b : Parts) → IsValid b → together (owner_read presets) (rows (tables_of b).phdr) (preset_windows (tables_of b)) ≡ b.presets
 unfolding tables_of
-all_presets-again b v =
-    let heads = preset_heads_from 0 b.presets in
-    let l = length-preset_heads 0 b.presets in
-    let m = length-map b.presets preset_bags in
-    ap (together preset_read (rows heads)) (preset_windows-again b)
-    ∙ together-take preset_read (length heads - 1) heads (map preset_bags b.presets) (omega (arith, l, m))
-    ∙ presets-again (length b.instruments) 0 b.presets v.presets
+all_presets-again b v = all_owners-again presets (λ n x. refl) (λ n. refl) (λ (x : Head). x.name) preset-again (length b.instruments) b.presets _ (preset_windows-again b) v.presets
 
-pub all_instruments-again : (b : Parts) → IsValid b → together instrument_read (rows (tables_of b).inst) (instrument_windows (tables_of b)) ≡ b.instruments
+pub all_instruments-again : (b : Parts) → IsValid b → together (owner_read instruments) (rows (tables_of b).inst) (instrument_windows (tables_of b)) ≡ b.instruments
 unfolding tables_of
-all_instruments-again b v =
-    let heads = instrument_heads_from 0 b.instruments in
-    let l = length-instrument_heads 0 b.instruments in
-    let m = length-map b.instruments instrument_bags in
-    ap (together instrument_read (rows heads)) (instrument_windows-again b)
-    ∙ together-take instrument_read (length heads - 1) heads (map instrument_bags b.instruments) (omega (arith, l, m))
-    ∙ instruments-again (length b.samples) 0 b.instruments v.instruments
+all_instruments-again b v = all_owners-again instruments (λ n x. refl) (λ n. refl) (λ name. name) (λ n. before_zero-filled) (length b.samples) b.instruments _ (instrument_windows-again b) v.instruments
 
 -- ---- nothing is counted
 
@@ -132,8 +120,8 @@ module _ (f : Level → List Bagged → ℕ) (h : (at : Level) (n : ℕ) (g : Gl
   counted_none b v =
       let n = length b.instruments in
       let k = length b.samples in
-      let p = ap (sum_by (f level.Preset)) (preset_windows-again b) ∙ sum-none_by (IsPreset n) (f level.Preset) preset_bags (λ p q. none_written level.Preset n p.global p.zones q.zones) b.presets v.presets in
-      let i = ap (sum_by (f level.Instrument)) (instrument_windows-again b) ∙ sum-none_by (IsInstrument k) (f level.Instrument) instrument_bags (λ i q. none_written level.Instrument k i.global i.zones q.zones) b.instruments v.instruments in
+      let p = ap (sum_by (f level.Preset)) (preset_windows-again b) ∙ sum-none_by (IsPreset n) (f level.Preset) (bags_of level.Preset) (λ p q. none_written level.Preset n p.global p.zones q.zones) b.presets v.presets in
+      let i = ap (sum_by (f level.Instrument)) (instrument_windows-again b) ∙ sum-none_by (IsInstrument k) (f level.Instrument) (bags_of level.Instrument) (λ i q. none_written level.Instrument k i.global i.zones q.zones) b.instruments v.instruments in
       omega (arith, p, i)
 
 pub zones_counted : (b : Parts) → IsValid b → sum_by (ignored level.Preset) (preset_windows (tables_of b)) + sum_by (ignored level.Instrument) (instrument_windows (tables_of b)) ≡ 0

@@ -1,10 +1,9 @@
 -- The indexes in the tables of a bank, as sums over the bank's own lists.
 use Rattle.std.specs.Prelude.{◌≡◌, ◌≤◌, ◌<◌, ◌+◌, ℕ, List, length, map, take, slice_get, Some}
-use Rattle.bank_parts.specs.Valid.{zone_count, gen_count, mod_count, preset_total, instrument_total}
+use Rattle.bank_parts.specs.Valid.{zone_count, gen_count, mod_count, owner_total}
 use Rattle.bank_parts.specs.declared.parts.GlobalZone.{GlobalZone}
 use Rattle.bank_parts.specs.declared.parts.Zone.{Zone}
-use Rattle.bank_parts.specs.declared.parts.Preset.{Preset}
-use Rattle.bank_parts.specs.declared.parts.Instrument.{Instrument}
+use Rattle.bank_parts.specs.declared.parts.WithZones.{WithZones}
 use Rattle.bank_parts.specs.declared.parts.Parts.{Parts}
 use Rattle.hydra_records.specs.declared.head.PresetHead.{PresetHead}
 use Rattle.hydra_records.specs.declared.head.InstrumentHead.{InstrumentHead}
@@ -20,19 +19,18 @@ Count = GlobalZone → List Zone → ℕ
 abbrev pub BagCounts : List Bag → (Count → ℕ) → Type 0
 BagCounts bags before = slice_get bags (before zone_count) ≡ Some (bag (before gen_count) (before mod_count))
 
--- Of the presets, or the instruments: their zones, what is counted of a list of them, the bag indexes of
--- their headers, and their bags.
-pub record AreSums {O : Type 0} (global : O → GlobalZone) (zones : O → List Zone) (total : Count → List O → ℕ) (owners : List O) (first_bags : List ℕ) (bags : List Bag) : Type 0 where
+-- Of the presets, or the instruments: the bag indexes of their headers, and their bags.
+pub record AreSums {H : Type 0} (owners : List (WithZones H)) (first_bags : List ℕ) (bags : List Bag) : Type 0 where
   -- a header for each, and the terminal; a bag for each zone that is written, and the terminal
   pub header_count : length first_bags ≡ length owners + 1
-  pub bag_count : length bags ≡ total zone_count owners + 1
+  pub bag_count : length bags ≡ owner_total zone_count owners + 1
   -- header i counts the zones before number i; the terminal, all
-  pub headers : (i : ℕ) → i ≤ length owners → slice_get first_bags i ≡ Some (total zone_count (take i owners))
+  pub headers : (i : ℕ) → i ≤ length owners → slice_get first_bags i ≡ Some (owner_total zone_count (take i owners))
   -- the first bag of number i counts what stands before number i; the terminal, all
-  pub at_start : (i : ℕ) → i ≤ length owners → BagCounts bags (λ count. total count (take i owners))
+  pub at_start : (i : ℕ) → i ≤ length owners → BagCounts bags (λ count. owner_total count (take i owners))
   -- the bag of zone j of number i counts that, and what stands before zone j in number i
-  pub at_zone : (i j : ℕ) (o : O) → slice_get owners i ≡ Some o → j < length (zones o) → BagCounts bags (λ count. total count (take i owners) + count (global o) (take j (zones o)))
+  pub at_zone : (i j : ℕ) (o : WithZones H) → slice_get owners i ≡ Some o → j < length o.zones → BagCounts bags (λ count. owner_total count (take i owners) + count o.global (take j o.zones))
 
 pub record IndexesAreSums (b : Parts) : Type 0 where
-  pub presets : AreSums (λ (p : Preset). p.global) (λ (p : Preset). p.zones) preset_total b.presets (map (λ (h : PresetHead). h.bag) (tables_of b).phdr) (tables_of b).pbag
-  pub instruments : AreSums (λ (i : Instrument). i.global) (λ (i : Instrument). i.zones) instrument_total b.instruments (map (λ (h : InstrumentHead). h.bag) (tables_of b).inst) (tables_of b).ibag
+  pub presets : AreSums b.presets (map (λ (h : PresetHead). h.bag) (tables_of b).phdr) (tables_of b).pbag
+  pub instruments : AreSums b.instruments (map (λ (h : InstrumentHead). h.bag) (tables_of b).inst) (tables_of b).ibag

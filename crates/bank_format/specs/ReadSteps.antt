@@ -2,11 +2,11 @@
 use Rattle.std.specs.Prelude.{◌≡◌, ◌+◌, ◌-◌, ◌%◌, ◌/◌, ℕ, List, [], ◌∷◌, ◌++◌, length, take, drop, map, flat_map, sum_by, Option, None, is_some, Bool, true, nat_le, nat_lt, ◌==◌, ◌&&◌, bytes_eq}
 use Rattle.std.specs.List.{list_all}
 use Rattle.sf_base.specs.Fields.{field_at}
+use Rattle.sf_base.specs.declared.limits.TheConstants.{RECORDS, POINTS, ZERO_POINTS}
 use Rattle.riff_chunks.specs.Walk.{Chunk, walk}
 use Rattle.riff_chunks.specs.Finding.{is_whole, chunks_in, first_body, first_list}
 use Rattle.bank_parts.specs.declared.parts.Zone.{Zone}
-use Rattle.bank_parts.specs.declared.parts.Preset.{Preset}
-use Rattle.bank_parts.specs.declared.parts.Instrument.{Instrument}
+use Rattle.bank_parts.specs.declared.parts.WithZones.{WithZones}
 use Rattle.bank_parts.specs.declared.parts.Parts.{Parts}
 use Rattle.hydra_records.specs.declared.head.PresetHead.{PresetHead}
 use Rattle.hydra_records.specs.declared.head.InstrumentHead.{InstrumentHead}
@@ -82,7 +82,7 @@ record_counts t = length t.phdr ∷ length t.pbag ∷ length t.pmod ∷ length t
 unfoldable pub count_steps : Tables → List Step
 count_steps t =
     map (λ n. step (nat_le 1 n) fault.NoTerminal) (record_counts t)
-    ++ map (λ n. step (nat_le n 65536) fault.TooMany) (record_counts t)
+    ++ map (λ n. step (nat_le n RECORDS) fault.TooMany) (record_counts t)
 
 -- ---- points of whole words
 
@@ -125,15 +125,16 @@ sample_step points h =
 abbrev pub target_step : ℕ → ReadFault → Zone → Step
 target_step targets missing z = step (nat_lt z.target targets) missing
 
-unfoldable pub target_steps : Parts → List Step
-target_steps b =
-    map (target_step (length b.instruments) fault.BadInstrument) (flat_map (λ (p : Preset). p.zones) b.presets)
-    ++ map (target_step (length b.samples) fault.BadSample) (flat_map (λ (i : Instrument). i.zones) b.instruments)
+abbrev pub targets_of : {H : Type 0} → ℕ → ReadFault → List (WithZones H) → List Step
+targets_of targets missing owners = map (target_step targets missing) (flat_map (λ x. x.zones) owners)
 
--- ---- the points of all samples, with 46 each
+unfoldable pub target_steps : Parts → List Step
+target_steps b = targets_of (length b.instruments) fault.BadInstrument b.presets ++ targets_of (length b.samples) fault.BadSample b.instruments
+
+-- ---- the points of all samples, each sample's with the zero points that follow them
 
 unfoldable pub total_steps : List SampleHead → List Step
-total_steps heads = step (nat_le (sum_by (λ (h : SampleHead). h.end - h.start + 46) heads) 500000000) fault.TooMany ∷ []
+total_steps heads = step (nat_le (sum_by (λ (h : SampleHead). h.end - h.start + ZERO_POINTS) heads) POINTS) fault.TooMany ∷ []
 
 -- ---- together
 

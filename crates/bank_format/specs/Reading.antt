@@ -1,13 +1,11 @@
 -- What a file says: a bank, and the counts of what was dropped or mended.
 use Rattle.std.specs.Prelude.{◌+◌, ℕ, List, length, map, count_by, sum_by, is_some, if◌then◌else◌}
-use Rattle.sf_base.specs.Names.{before_zero}
 use Rattle.sf_base.specs.Fields.{field_at}
 use Rattle.riff_chunks.specs.Walk.{Chunk}
 use Rattle.riff_chunks.specs.Finding.{first_body}
 use Rattle.generators.specs.declared.level.Level.TheVariants as level
 use Rattle.modulators.specs.declared.modulator.Modulator.{Modulator}
-use Rattle.bank_parts.specs.declared.parts.Preset.{Preset}
-use Rattle.bank_parts.specs.declared.parts.Instrument.{Instrument}
+use Rattle.bank_parts.specs.declared.parts.WithZones.{WithZones}
 use Rattle.bank_parts.specs.declared.parts.Sample.{Sample}
 use Rattle.bank_parts.specs.declared.parts.Parts.{Parts}
 use Rattle.hydra_records.specs.declared.head.PresetHead.{PresetHead}
@@ -19,7 +17,7 @@ use Rattle.bank_format.specs.declared.fault.Counts.{Counts}
 use Rattle.bank_format.specs.Ids as id
 use Rattle.bank_format.specs.Windows.{windows, together, rows}
 use Rattle.bank_format.specs.Zones.{Bagged, zones_read, global_read, ignored, gens_dropped, ranges_mended}
-use Rattle.bank_format.specs.Tables.{Tables}
+use Rattle.bank_format.specs.Tables.{Tables, Headers, presets, instruments}
 use Rattle.bank_format.specs.Texts.{texts_read, texts_cut}
 use Rattle.bank_format.specs.Samples.{sample_read, is_loop_lost, is_link_lost}
 use Rattle.bank_format.specs.Chunks.{tables_in, points_in, chunks_of, body_in}
@@ -40,20 +38,9 @@ preset_windows t = windows (bags_in t.pbag t.pgen t.pmod) (map (λ (h : PresetHe
 unfoldable pub instrument_windows : Tables → List (List Bagged)
 instrument_windows t = windows (bags_in t.ibag t.igen t.imod) (map (λ (h : InstrumentHead). h.bag) t.inst)
 
-abbrev pub preset_read : PresetHead → List Bagged → Preset
-preset_read h bags = record {
-  name = before_zero h.name;
-  number = h.number;
-  bank = h.bank;
-  library = h.library;
-  genre = h.genre;
-  morphology = h.morphology;
-  global = global_read level.Preset bags;
-  zones = zones_read level.Preset bags;
-}
-
-abbrev pub instrument_read : InstrumentHead → List Bagged → Instrument
-instrument_read h bags = record { name = before_zero h.name; global = global_read level.Instrument bags; zones = zones_read level.Instrument bags }
+-- a header, and the bags that are its own
+abbrev pub owner_read : {H R : Type 0} → Headers H R → R → List Bagged → WithZones H
+owner_read h r bags = record { head = h.read r; global = global_read h.level bags; zones = zones_read h.level bags }
 
 -- ---- samples
 
@@ -67,8 +54,8 @@ unfoldable pub bank_of : List Chunk → List Chunk → Tables → Parts
 bank_of info sdta t = record {
   minor = field_at 2 2 (body_in id.IFIL info);
   texts = texts_read info;
-  presets = together preset_read (rows t.phdr) (preset_windows t);
-  instruments = together instrument_read (rows t.inst) (instrument_windows t);
+  presets = together (owner_read presets) (rows t.phdr) (preset_windows t);
+  instruments = together (owner_read instruments) (rows t.inst) (instrument_windows t);
   samples = samples_read (points_in sdta) (rows t.shdr);
 }
 

@@ -1,12 +1,14 @@
 -- A bank as the nine lists of records that a file holds.
 use Rattle.std.specs.Prelude.{◌+◌, ℕ, List, [], ◌∷◌, ◌++◌, length, map, flat_map, pos, Option, Some, None, replicate}
-use Rattle.sf_base.specs.Names.{filled}
+use Rattle.sf_base.specs.Names.{before_zero, filled}
+use Rattle.sf_base.specs.declared.limits.TheConstants.{ZERO_POINTS}
+use Rattle.generators.specs.declared.level.Level.{Level}
 use Rattle.generators.specs.declared.level.Level.TheVariants as level
 use Rattle.modulators.specs.declared.modulator.Modulator.{Modulator}
 use Rattle.bank_parts.specs.declared.parts.Kind.{Kind}
 use Rattle.bank_parts.specs.declared.parts.Kind.TheVariants.{Mono, Right, Left, Linked}
-use Rattle.bank_parts.specs.declared.parts.Preset.{Preset}
-use Rattle.bank_parts.specs.declared.parts.Instrument.{Instrument}
+use Rattle.bank_parts.specs.declared.parts.Head.{Head}
+use Rattle.bank_parts.specs.declared.parts.WithZones.{WithZones}
 use Rattle.bank_parts.specs.declared.parts.Sample.{Sample}
 use Rattle.bank_parts.specs.declared.parts.Parts.{Parts}
 use Rattle.hydra_records.specs.declared.head.PresetHead.{PresetHead}
@@ -64,25 +66,39 @@ gen_list bags = flat_map (λ (r : Bagged). r.gens) bags ++ generator_end ∷ []
 
 -- ---- headers: the bag index of each is the number of bags of those before it
 
-abbrev pub preset_bags : Preset → List Bagged
-preset_bags p = bags_written level.Preset p.global p.zones
+-- the headers of presets, or of instruments: how one is written and read, and the last
+pub record Headers (H R : Type 0) : Type 0 where
+  pub level : Level
+  pub written : ℕ → H → R
+  pub last : ℕ → R
+  pub first_bag : R → ℕ
+  pub read : R → H
 
-abbrev pub instrument_bags : Instrument → List Bagged
-instrument_bags i = bags_written level.Instrument i.global i.zones
+abbrev pub preset_written : ℕ → Head → PresetHead
+preset_written at h = record { name = filled h.name; number = h.number; bank = h.bank; bag = at; library = h.library; genre = h.genre; morphology = h.morphology }
 
-abbrev pub preset_head : ℕ → Preset → PresetHead
-preset_head at p = record { name = filled p.name; number = p.number; bank = p.bank; bag = at; library = p.library; genre = p.genre; morphology = p.morphology }
+abbrev pub preset_head : PresetHead → Head
+preset_head r = record { name = before_zero r.name; number = r.number; bank = r.bank; library = r.library; genre = r.genre; morphology = r.morphology }
 
-abbrev pub preset_heads_from : ℕ → List Preset → List PresetHead
-preset_heads_from at [] = preset_end at ∷ []
-preset_heads_from at (p ∷ presets) = preset_head at p ∷ preset_heads_from (at + length (preset_bags p)) presets
+abbrev pub presets : Headers Head PresetHead
+presets = record { level = level.Preset; written = preset_written; last = preset_end; first_bag = λ (r : PresetHead). r.bag; read = preset_head }
 
-abbrev pub instrument_head : ℕ → Instrument → InstrumentHead
-instrument_head at i = record { name = filled i.name; bag = at }
+abbrev pub instrument_written : ℕ → List ℕ → InstrumentHead
+instrument_written at name = record { name = filled name; bag = at }
 
-abbrev pub instrument_heads_from : ℕ → List Instrument → List InstrumentHead
-instrument_heads_from at [] = instrument_end at ∷ []
-instrument_heads_from at (i ∷ instruments) = instrument_head at i ∷ instrument_heads_from (at + length (instrument_bags i)) instruments
+abbrev pub instrument_head : InstrumentHead → List ℕ
+instrument_head r = before_zero r.name
+
+abbrev pub instruments : Headers (List ℕ) InstrumentHead
+instruments = record { level = level.Instrument; written = instrument_written; last = instrument_end; first_bag = λ (r : InstrumentHead). r.bag; read = instrument_head }
+
+-- the bags of a preset or an instrument
+abbrev pub bags_of : {H : Type 0} → Level → WithZones H → List Bagged
+bags_of at x = bags_written at x.global x.zones
+
+abbrev pub heads_from : {H R : Type 0} → Headers H R → ℕ → List (WithZones H) → List R
+heads_from h at [] = h.last at ∷ []
+heads_from h at (x ∷ xs) = h.written at x.head ∷ heads_from h (at + length (bags_of h.level x)) xs
 
 -- ---- samples
 
@@ -122,14 +138,14 @@ sample_head start s = record {
   kind = kind_word s.kind;
 }
 
--- a sample's points, and 46 zero points
+-- a sample's points, and the zero points that follow them
 abbrev pub points_written : Sample → List ℕ
-points_written s = s.points ++ replicate 46 0
+points_written s = s.points ++ replicate ZERO_POINTS 0
 
 -- the heads of samples: each begins where those before it end, with their zero points
 abbrev pub sample_heads_from : ℕ → List Sample → List SampleHead
 sample_heads_from start [] = []
-sample_heads_from start (s ∷ samples) = sample_head start s ∷ sample_heads_from (start + length s.points + 46) samples
+sample_heads_from start (s ∷ samples) = sample_head start s ∷ sample_heads_from (start + length s.points + ZERO_POINTS) samples
 
 -- ---- a bank
 
@@ -137,21 +153,19 @@ sample_heads_from start (s ∷ samples) = sample_head start s ∷ sample_heads_f
 unfoldable pub all_points : Parts → List ℕ
 all_points b = flat_map points_written b.samples
 
-abbrev pub all_preset_bags : Parts → List Bagged
-all_preset_bags b = flat_map preset_bags b.presets
-
-abbrev pub all_instrument_bags : Parts → List Bagged
-all_instrument_bags b = flat_map instrument_bags b.instruments
+-- the bags of all presets, or of all instruments
+abbrev pub all_bags : {H : Type 0} → Level → List (WithZones H) → List Bagged
+all_bags at owners = flat_map (bags_of at) owners
 
 unfoldable pub tables_of : Parts → Tables
 tables_of b = record {
-  phdr = preset_heads_from 0 b.presets;
-  pbag = bag_list (all_preset_bags b);
-  pmod = mod_list (all_preset_bags b);
-  pgen = gen_list (all_preset_bags b);
-  inst = instrument_heads_from 0 b.instruments;
-  ibag = bag_list (all_instrument_bags b);
-  imod = mod_list (all_instrument_bags b);
-  igen = gen_list (all_instrument_bags b);
+  phdr = heads_from presets 0 b.presets;
+  pbag = bag_list (all_bags level.Preset b.presets);
+  pmod = mod_list (all_bags level.Preset b.presets);
+  pgen = gen_list (all_bags level.Preset b.presets);
+  inst = heads_from instruments 0 b.instruments;
+  ibag = bag_list (all_bags level.Instrument b.instruments);
+  imod = mod_list (all_bags level.Instrument b.instruments);
+  igen = gen_list (all_bags level.Instrument b.instruments);
   shdr = sample_heads_from 0 b.samples ++ sample_end ∷ [];
 }

@@ -1,6 +1,7 @@
 -- How texts are written, and what is read of them.
 use Rattle.std.specs.Prelude.{◌+◌, ◌%◌, ◌==◌, ℕ, List, [], ◌∷◌, ◌++◌, length, take, replicate, unwrap_or, nat_lt, if◌then◌else◌}
 use Rattle.sf_base.specs.Names.{before_zero}
+use Rattle.sf_base.specs.declared.limits.TheConstants.{TEXT_LENGTH, COMMENT_LENGTH}
 use Rattle.riff_chunks.specs.Walk.{Chunk}
 use Rattle.riff_chunks.specs.Finding.{first_body}
 use Rattle.bank_parts.specs.declared.texts.Texts.{Texts}
@@ -19,17 +20,17 @@ abbrev pub engine_read : List ℕ → List ℕ
 engine_read [] = id.EMU8000
 engine_read (c ∷ text) = c ∷ text
 
--- the eight texts, each cut to 255 bytes, the comment to 65,535
+-- the eight texts, each cut to the length that it may have
 unfoldable pub texts_read : List Chunk → Texts
 texts_read info = record {
-  engine = engine_read (take 255 (text_in id.ISNG info));
-  name = take 255 (text_in id.INAM info);
-  date = take 255 (text_in id.ICRD info);
-  engineers = take 255 (text_in id.IENG info);
-  product = take 255 (text_in id.IPRD info);
-  copyright = take 255 (text_in id.ICOP info);
-  comment = take 65535 (text_in id.ICMT info);
-  software = take 255 (text_in id.ISFT info);
+  engine = engine_read (take TEXT_LENGTH (text_in id.ISNG info));
+  name = take TEXT_LENGTH (text_in id.INAM info);
+  date = take TEXT_LENGTH (text_in id.ICRD info);
+  engineers = take TEXT_LENGTH (text_in id.IENG info);
+  product = take TEXT_LENGTH (text_in id.IPRD info);
+  copyright = take TEXT_LENGTH (text_in id.ICOP info);
+  comment = take COMMENT_LENGTH (text_in id.ICMT info);
+  software = take TEXT_LENGTH (text_in id.ISFT info);
 }
 
 -- one where the text is longer
@@ -39,11 +40,11 @@ over most text = if nat_lt most (length text) then 1 else 0
 -- how many are cut
 unfoldable pub texts_cut : List Chunk → ℕ
 texts_cut info =
-    over 255 (text_in id.ISNG info)
-    + over 255 (text_in id.INAM info)
-    + over 255 (text_in id.ICRD info)
-    + over 255 (text_in id.IENG info)
-    + over 255 (text_in id.IPRD info)
-    + over 255 (text_in id.ICOP info)
-    + over 65535 (text_in id.ICMT info)
-    + over 255 (text_in id.ISFT info)
+    over TEXT_LENGTH (text_in id.ISNG info)
+    + over TEXT_LENGTH (text_in id.INAM info)
+    + over TEXT_LENGTH (text_in id.ICRD info)
+    + over TEXT_LENGTH (text_in id.IENG info)
+    + over TEXT_LENGTH (text_in id.IPRD info)
+    + over TEXT_LENGTH (text_in id.ICOP info)
+    + over COMMENT_LENGTH (text_in id.ICMT info)
+    + over TEXT_LENGTH (text_in id.ISFT info)

@@ -1,6 +1,9 @@
 -- Counts of records.
-use Rattle.std.proofs.Common.{◌≡◌, ◌+◌, ◌==◌, ◌↔◌, ◌<◌, ◌≤◌, ◌^◌, ℕ, Bool, true, false, IsTrue, true≢false, List, [], ◌∷◌, length, refl, sym, arith}
-use Rattle.std.specs.Prelude.{sum_by}
+use Rattle.std.proofs.Common.{◌≡◌, ◌+◌, ◌==◌, ◌↔◌, ◌<◌, ◌≤◌, ◌^◌, ℕ, zero, suc, Bool, true, false, IsTrue, true≢false, List, [], ◌∷◌, length, take, slice_get, Option, Some, None, refl, sym, ap, ◌∙◌, arith}
+use Rattle.std.specs.Prelude.{sum_by, min, IfSome, IsSomeAnd, if◌then◌else◌}
+use Rattle.std.specs.Option.{option_map, option_and_then}
+use Rattle.std.proofs.lemmas.Bool.Decides.{nat_tests}
+use Rattle.numbered_lists.proofs.Lists.{slice_get-found}
 use Rattle.std.specs.FinMap.{empty, len, len-empty, empty_of_len}
 use Rattle.std.proofs.Math.Nat.{min-eq_left}
 use Rattle.std.proofs.lemmas.Bool.{eq-eqb, ne_eqb}
@@ -10,8 +13,9 @@ use Rattle.modulators.specs.declared.modulator.Modulator.{Modulator}
 use Rattle.bank_parts.specs.declared.counting.Records.{Records}
 use Rattle.bank_parts.specs.declared.parts.GlobalZone.{GlobalZone}
 use Rattle.bank_parts.specs.declared.parts.Zone.{Zone}
+use Rattle.bank_parts.specs.declared.parts.WithZones.{WithZones}
 use Rattle.bank_parts.specs.Valid.{global_count}
-use Rattle.bank_parts.specs.Counts.{records_of_zone, records_of_global, records_of, records_total, records_sum, counted, all_counted}
+use Rattle.bank_parts.specs.Counts.{records_of_zone, records_of_global, records_of, records_of_owner, records_total, records_sum, counted, all_counted}
 
 -- nothing is held where both are empty
 pub none_held : (gens : Gens) (mods : List Modulator) → gens ≡ empty → (mods ≡ []) ↔ (len gens + length mods ≡ 0)
@@ -31,16 +35,43 @@ pub says_zero : (t : Bool) (n : ℕ) → IsTrue t ↔ (n ≡ 0) → t ≡ (n == 
 says_zero true n h = sym (eq-eqb n 0 (h.0 refl))
 says_zero false n h = sym (ne_eqb n 0 (λ e. true≢false (sym (h.1 e))))
 
--- the zones of a list are its members
-pub zone_records : (zones : List Zone) → (records_total records_of_zone zones).zones ≡ length zones
-zone_records [] = refl
-zone_records (z ∷ zs) =
-    let rest = zone_records zs in
-    let first = sum_by-cons (λ (w : Zone). (records_of_zone w).zones) z zs in
-    omega (arith, rest, first)
+-- ---- one more
 
-pub records_split : (shared : GlobalZone) (own : List Zone) → records_sum (records_of_global shared) (records_total records_of_zone own) ≡ records_of shared own
-records_split shared own = λ i. record (records_of shared own) { zones = global_count shared + zone_records own i }
+taken_more : {X : Type 0} (f : X → ℕ) (xs : List X) (i : ℕ) (x : X) → slice_get xs i ≡ Some x → sum_by f (take i xs) + f x ≡ sum_by f (take (suc i) xs)
+taken_more f [] i x e = absurd cc
+taken_more f (y ∷ ys) zero x e =
+    let same : f y ≡ f x = ap f cc in
+    let sum = sum_by-cons f y [] in
+    omega (arith, same, sum)
+taken_more f (y ∷ ys) (suc i) x e =
+    let rest = taken_more f ys i x e in
+    let before = sum_by-cons f y (take i ys) in
+    let after = sum_by-cons f y (take (suc i) ys) in
+    omega (arith, rest, before, after)
+
+count_more : {X : Type 0} (xs : List X) (i : ℕ) (x : X) → slice_get xs i ≡ Some x → length (take i xs) + 1 ≡ length (take (suc i) xs)
+count_more [] i x e = absurd cc
+count_more (y ∷ ys) zero x e = refl
+count_more (y ∷ ys) (suc i) x e = let rest = count_more ys i x e in omega (arith, rest)
+
+pub total_more : {X : Type 0} (f : X → Records) (xs : List X) (i : ℕ) (x : X) → slice_get xs i ≡ Some x
+    → records_sum (records_total f (take i xs)) (f x) ≡ records_total f (take (suc i) xs)
+total_more f xs i x e = λ k. record {
+  zones = taken_more (λ y. (f y).zones) xs i x e k;
+  gens = taken_more (λ y. (f y).gens) xs i x e k;
+  mods = taken_more (λ y. (f y).mods) xs i x e k;
+}
+
+pub owner_more : (global : GlobalZone) (zones : List Zone) (k : ℕ) (z : Zone) → slice_get zones k ≡ Some z
+    → records_sum (records_of global (take k zones)) (records_of_zone z) ≡ records_of global (take (suc k) zones)
+owner_more global zones k z e =
+    let count = count_more zones k z e in
+    let gens = taken_more (λ (y : Zone). len y.gens + 1) zones k z e in
+    let mods = taken_more (λ (y : Zone). length y.mods) zones k z e in
+    let c : global_count global + length (take k zones) + 1 ≡ global_count global + length (take (suc k) zones) = omega (arith, count) in
+    let g : len global.gens + sum_by (λ (y : Zone). len y.gens + 1) (take k zones) + (len z.gens + 1) ≡ len global.gens + sum_by (λ (y : Zone). len y.gens + 1) (take (suc k) zones) = omega (arith, gens) in
+    let m : length global.mods + sum_by (λ (y : Zone). length y.mods) (take k zones) + length z.mods ≡ length global.mods + sum_by (λ (y : Zone). length y.mods) (take (suc k) zones) = omega (arith, mods) in
+    λ i. record { zones = c i; gens = g i; mods = m i }
 
 -- ---- sums that stop at the largest number
 
@@ -56,3 +87,59 @@ all_counted_sum r s = λ i. record {
 
 pub counted_same : (n : ℕ) → n < 2 ^ 64 → counted n ≡ n
 counted_same n h = min-eq_left (omega (arith, h))
+
+-- one more, as 64 bits count them
+pub counted_more : (before more after total counted_so_far : Records) → counted_so_far ≡ all_counted before → total ≡ all_counted (records_sum counted_so_far more) → (whole : Records) → more ≡ all_counted whole → records_sum before whole ≡ after → total ≡ all_counted after
+counted_more before more after total so_far s t whole m e = t ∙ (λ i. all_counted (records_sum (s i) (m i))) ∙ all_counted_sum before whole ∙ ap all_counted e
+
+-- ---- what is counted of a place
+
+pub zone_is : (o : Option Zone) (g m : ℕ) → option_map len (option_map (λ (z : Zone). z.gens) o) ≡ Some g → option_map length (option_map (λ (z : Zone). z.mods) o) ≡ Some m → m < 2 ^ 64
+    → IfSome o (λ z. record { zones = 1; gens = counted (g + 1); mods = m } ≡ all_counted (records_of_zone z))
+zone_is None g m eg em small = tt
+zone_is (Some z) g m eg em small =
+    let gens : g ≡ len z.gens = cc in
+    let mods : m ≡ length z.mods = cc in
+    let one : 1 ≡ counted 1 = sym (counted_same 1 (omega arith)) in
+    let few : m ≡ counted (length z.mods) = sym (counted_same m small) ∙ ap counted mods in
+    λ i. record { zones = one i; gens = counted (gens i + 1); mods = few i }
+
+one_if_any : (n : ℕ) → min (counted n) 1 ≡ counted (if n == 0 then 0 else 1)
+one_if_any zero = grind (arith, nat_tests)
+one_if_any (suc n) = grind (arith, nat_tests)
+
+pub global_is : {H : Type 0} (o : Option (WithZones H)) (g m : ℕ) → option_map len (option_map (λ (x : WithZones H). x.global.gens) o) ≡ Some g → option_map length (option_map (λ (x : WithZones H). x.global.mods) o) ≡ Some m
+    → g < 2 ^ 64 → m < 2 ^ 64 → IfSome o (λ x. record { zones = min (counted (g + m)) 1; gens = g; mods = m } ≡ all_counted (records_of_global x.global))
+global_is None g m eg em small few = tt
+global_is (Some x) g m eg em small few =
+    let gens : g ≡ len x.global.gens = cc in
+    let mods : m ≡ length x.global.mods = cc in
+    let gens_are : g ≡ counted (len x.global.gens) = sym (counted_same g small) ∙ ap counted gens in
+    let mods_are : m ≡ counted (length x.global.mods) = sym (counted_same m few) ∙ ap counted mods in
+    let zones : min (counted (g + m)) 1 ≡ counted (global_count x.global) = (λ i. min (counted (gens i + mods i)) 1) ∙ one_if_any (len x.global.gens + length x.global.mods) in
+    λ i. record { zones = zones i; gens = gens_are i; mods = mods_are i }
+
+-- ---- one more of what is there
+
+pub owner_step : {H : Type 0} (o : Option (WithZones H)) (k : ℕ) (so_far more total : Records) → IsSomeAnd (option_map (λ (x : WithZones H). length x.zones) o) (λ n. k < n)
+    → IfSome o (λ x. so_far ≡ all_counted (records_of x.global (take k x.zones))) → IfSome (option_and_then (λ (x : WithZones H). slice_get x.zones k) o) (λ z. more ≡ all_counted (records_of_zone z))
+    → total ≡ all_counted (records_sum so_far more) → IfSome o (λ x. total ≡ all_counted (records_of x.global (take (suc k) x.zones)))
+owner_step None k so_far more total lt h m t = tt
+owner_step (Some x) k so_far more total lt h m t =
+    let (z, e) = slice_get-found x.zones k lt in
+    counted_more (records_of x.global (take k x.zones)) more (records_of x.global (take (suc k) x.zones)) total so_far h t (records_of_zone z) (rw e at m) (owner_more x.global x.zones k z e)
+
+pub total_step : {H : Type 0} (xs : List (WithZones H)) (i : ℕ) (so_far more total : Records) → i < length xs → so_far ≡ all_counted (records_total records_of_owner (take i xs))
+    → IfSome (slice_get xs i) (λ x. more ≡ all_counted (records_of_owner x)) → total ≡ all_counted (records_sum so_far more) → total ≡ all_counted (records_total records_of_owner (take (suc i) xs))
+total_step xs i so_far more total lt h m t =
+    let (x, e) = slice_get-found xs i lt in
+    counted_more (records_total records_of_owner (take i xs)) more (records_total records_of_owner (take (suc i) xs)) total so_far h t (records_of_owner x) (rw e at m) (total_more records_of_owner xs i x e)
+
+pub owner_next : {H : Type 0} (o : Option (WithZones H)) (k j : ℕ) → j ≡ k + 1 → (so_far more total : Records) → IsSomeAnd (option_map (λ (x : WithZones H). length x.zones) o) (λ n. k < n)
+    → IfSome o (λ x. so_far ≡ all_counted (records_of x.global (take k x.zones))) → IfSome (option_and_then (λ (x : WithZones H). slice_get x.zones k) o) (λ z. more ≡ all_counted (records_of_zone z))
+    → total ≡ all_counted (records_sum so_far more) → IfSome o (λ x. total ≡ all_counted (records_of x.global (take j x.zones)))
+owner_next o k j e so_far more total lt h m t = let next : j ≡ suc k = omega (arith, e) in rw next (owner_step o k so_far more total lt h m t)
+
+pub total_next : {H : Type 0} (xs : List (WithZones H)) (i j : ℕ) → j ≡ i + 1 → (so_far more total : Records) → i < length xs → so_far ≡ all_counted (records_total records_of_owner (take i xs))
+    → IfSome (slice_get xs i) (λ x. more ≡ all_counted (records_of_owner x)) → total ≡ all_counted (records_sum so_far more) → total ≡ all_counted (records_total records_of_owner (take j xs))
+total_next xs i j e so_far more total lt h m t = let next : j ≡ suc i = omega (arith, e) in rw next (total_step xs i so_far more total lt h m t)

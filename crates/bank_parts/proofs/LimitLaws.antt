@@ -5,7 +5,7 @@ use Rattle.sf_base.specs.declared.limits.TheConstants.{PRESETS, INSTRUMENTS, SAM
 use Rattle.bank_parts.specs.declared.totals.Totals.{Totals}
 use Rattle.bank_parts.specs.declared.limits.Limit.TheVariants as limit
 use Rattle.bank_parts.specs.declared.parts.Parts.{Parts}
-use Rattle.bank_parts.specs.Valid.{IsWithin, preset_total, instrument_total, zone_count, gen_count, mod_count, point_total}
+use Rattle.bank_parts.specs.Valid.{IsWithin, owner_total, zone_count, gen_count, mod_count, point_total}
 use Rattle.bank_parts.specs.Counts.{counted}
 use Rattle.bank_parts.proofs.Counts.{counted_same}
 use Rattle.bank_parts.specs.Limits.{totals_of, broken, broken_limit, with_sample}
@@ -122,12 +122,12 @@ broken_counted t =
 pub counted_within : (b : Parts) → IsWithin b → totals_counted (totals_of b) ≡ totals_of b
 unfolding totals_of
 counted_within b w = λ i. record (totals_of b) {
-  preset_zones = few ZONES (preset_total zone_count b.presets) w.preset_zones (omega arith) i;
-  preset_gens = few GENERATORS (preset_total gen_count b.presets) w.preset_gens (omega arith) i;
-  preset_mods = few MODULATORS (preset_total mod_count b.presets) w.preset_mods (omega arith) i;
-  instrument_zones = few ZONES (instrument_total zone_count b.instruments) w.instrument_zones (omega arith) i;
-  instrument_gens = few GENERATORS (instrument_total gen_count b.instruments) w.instrument_gens (omega arith) i;
-  instrument_mods = few MODULATORS (instrument_total mod_count b.instruments) w.instrument_mods (omega arith) i;
+  preset_zones = few ZONES (owner_total zone_count b.presets) w.preset_zones (omega arith) i;
+  preset_gens = few GENERATORS (owner_total gen_count b.presets) w.preset_gens (omega arith) i;
+  preset_mods = few MODULATORS (owner_total mod_count b.presets) w.preset_mods (omega arith) i;
+  instrument_zones = few ZONES (owner_total zone_count b.instruments) w.instrument_zones (omega arith) i;
+  instrument_gens = few GENERATORS (owner_total gen_count b.instruments) w.instrument_gens (omega arith) i;
+  instrument_mods = few MODULATORS (owner_total mod_count b.instruments) w.instrument_mods (omega arith) i;
   points = few POINTS (point_total b.samples) w.points (omega arith) i;
 }
   where

@@ -4,6 +4,7 @@ use Rattle.std.specs.FinMap.{len}
 use Rattle.bank_parts.specs.declared.counting.Records.{Records}
 use Rattle.bank_parts.specs.declared.parts.GlobalZone.{GlobalZone}
 use Rattle.bank_parts.specs.declared.parts.Zone.{Zone}
+use Rattle.bank_parts.specs.declared.parts.WithZones.{WithZones}
 use Rattle.bank_parts.specs.Valid.{global_count, zone_count, gen_count, mod_count}
 
 -- the records of a zone, its target among the generators
@@ -17,6 +18,9 @@ records_of_global global = record { zones = global_count global; gens = len glob
 -- the records of a preset or an instrument
 abbrev pub records_of : GlobalZone → List Zone → Records
 records_of global zones = record { zones = zone_count global zones; gens = gen_count global zones; mods = mod_count global zones }
+
+abbrev pub records_of_owner : {H : Type 0} → WithZones H → Records
+records_of_owner x = records_of x.global x.zones
 
 -- the records of all
 abbrev pub records_total : {X : Type 0} → (X → Records) → List X → Records

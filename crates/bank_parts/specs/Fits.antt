@@ -11,8 +11,8 @@ use Rattle.bank_parts.specs.declared.parts.Kind.{Kind}
 use Rattle.bank_parts.specs.Links.{OfLink}
 use Rattle.bank_parts.specs.declared.parts.GlobalZone.{GlobalZone}
 use Rattle.bank_parts.specs.declared.parts.Zone.{Zone}
-use Rattle.bank_parts.specs.declared.parts.Preset.{Preset}
-use Rattle.bank_parts.specs.declared.parts.Instrument.{Instrument}
+use Rattle.bank_parts.specs.declared.parts.Head.{Head}
+use Rattle.bank_parts.specs.declared.parts.WithZones.{WithZones}
 use Rattle.bank_parts.specs.declared.parts.Sample.{Sample}
 use Rattle.bank_parts.specs.declared.parts.Parts.{Parts}
 
@@ -39,20 +39,19 @@ pub record FitsZone (z : Zone) : Type 0 where
   pub gens : FitGens z.gens
   pub mods : AllByRecursion FitsModulator z.mods
 
-pub record FitsPreset (p : Preset) : Type 0 where
-  pub name : IsName p.name
-  pub number : p.number < 2 ^ 16
-  pub bank : p.bank < 2 ^ 16
-  pub library : p.library < 2 ^ 32
-  pub genre : p.genre < 2 ^ 32
-  pub morphology : p.morphology < 2 ^ 32
-  pub global : FitsGlobal p.global
-  pub zones : AllByRecursion FitsZone p.zones
+pub record FitsHead (h : Head) : Type 0 where
+  pub name : IsName h.name
+  pub number : h.number < 2 ^ 16
+  pub bank : h.bank < 2 ^ 16
+  pub library : h.library < 2 ^ 32
+  pub genre : h.genre < 2 ^ 32
+  pub morphology : h.morphology < 2 ^ 32
 
-pub record FitsInstrument (i : Instrument) : Type 0 where
-  pub name : IsName i.name
-  pub global : FitsGlobal i.global
-  pub zones : AllByRecursion FitsZone i.zones
+-- a preset or an instrument
+pub record FitsOwner {H : Type 0} (IsFit : H → Type 0) (x : WithZones H) : Type 0 where
+  pub head : IsFit x.head
+  pub global : FitsGlobal x.global
+  pub zones : AllByRecursion FitsZone x.zones
 
 -- both ends of a loop, where there is one
 abbrev pub FitsLoop : Option (ℕ × ℕ) → Type 0
@@ -75,6 +74,6 @@ pub record FitsSample (s : Sample) : Type 0 where
 pub record Fits (b : Parts) : Type 0 where
   pub minor : b.minor < 2 ^ 16
   pub texts : FitTexts b.texts
-  pub presets : AllByRecursion FitsPreset b.presets
-  pub instruments : AllByRecursion FitsInstrument b.instruments
+  pub presets : AllByRecursion (FitsOwner FitsHead) b.presets
+  pub instruments : AllByRecursion (FitsOwner IsName) b.instruments
   pub samples : AllByRecursion FitsSample b.samples

@@ -12,3 +12,4 @@ pub mod Fits
 pub mod Sound
 pub mod Counts
 pub mod Limits
+pub mod Owners

@@ -5,19 +5,19 @@ use Rattle.bank_parts.specs.declared.totals.Totals.{Totals}
 use Rattle.bank_parts.specs.declared.limits.Limit.{Limit}
 use Rattle.bank_parts.specs.declared.limits.Limit.TheVariants.{Presets, Instruments, Samples, Zones, Generators, Modulators, Points}
 use Rattle.bank_parts.specs.declared.parts.Parts.{Parts}
-use Rattle.bank_parts.specs.Valid.{preset_total, instrument_total, zone_count, gen_count, mod_count, point_total}
+use Rattle.bank_parts.specs.Valid.{owner_total, zone_count, gen_count, mod_count, point_total}
 
 unfoldable pub totals_of : Parts → Totals
 totals_of b = record {
   presets = length b.presets;
   instruments = length b.instruments;
   samples = length b.samples;
-  preset_zones = preset_total zone_count b.presets;
-  preset_gens = preset_total gen_count b.presets;
-  preset_mods = preset_total mod_count b.presets;
-  instrument_zones = instrument_total zone_count b.instruments;
-  instrument_gens = instrument_total gen_count b.instruments;
-  instrument_mods = instrument_total mod_count b.instruments;
+  preset_zones = owner_total zone_count b.presets;
+  preset_gens = owner_total gen_count b.presets;
+  preset_mods = owner_total mod_count b.presets;
+  instrument_zones = owner_total zone_count b.instruments;
+  instrument_gens = owner_total gen_count b.instruments;
+  instrument_mods = owner_total mod_count b.instruments;
   points = point_total b.samples;
 }
 

@@ -1,11 +1,11 @@
 -- What names the members of a list by their numbers, with the numbers that hold after the list changed.
-use Rattle.std.specs.Prelude.{map}
+use Rattle.std.specs.Prelude.{◌<◌, ◌^◌, map, All}
 use Rattle.numbered_lists.specs.declared.renumbering.Renumbering.{Renumbering}
 use Rattle.numbered_lists.specs.Renumbered.{renumbered}
 use Rattle.bank_parts.specs.declared.parts.Kind.{Kind}
 use Rattle.bank_parts.specs.declared.parts.Kind.TheVariants.{Mono, Right, Left, Linked}
 use Rattle.bank_parts.specs.declared.parts.Zone.{Zone}
-use Rattle.bank_parts.specs.declared.parts.Instrument.{Instrument}
+use Rattle.bank_parts.specs.declared.parts.WithZones.{WithZones}
 use Rattle.bank_parts.specs.declared.parts.Sample.{Sample}
 use Rattle.bank_parts.specs.declared.parts.Parts.{Parts}
 
@@ -21,9 +21,13 @@ sample_renumbered by s = record s { kind = kind_renumbered by s.kind }
 abbrev pub zone_renumbered : Renumbering → Zone → Zone
 zone_renumbered by z = record z { target = renumbered by z.target }
 
-abbrev pub instrument_renumbered : Renumbering → Instrument → Instrument
-instrument_renumbered by i = record i { zones = map (zone_renumbered by) i.zones }
+abbrev pub owner_renumbered : {H : Type 0} → Renumbering → WithZones H → WithZones H
+owner_renumbered by x = record x { zones = map (zone_renumbered by) x.zones }
+
+-- each target has 16 bits afterwards
+abbrev pub CanRenumberOwner : {H : Type 0} → Renumbering → WithZones H → Type 0
+CanRenumberOwner by x = All (λ (z : Zone). renumbered by z.target < 2 ^ 16) x.zones
 
 -- the bank with every target and link into its samples renumbered
 abbrev pub samples_renumbered : Renumbering → Parts → Parts
-samples_renumbered by b = record b { samples = map (sample_renumbered by) b.samples; instruments = map (instrument_renumbered by) b.instruments }
+samples_renumbered by b = record b { samples = map (sample_renumbered by) b.samples; instruments = map (owner_renumbered by) b.instruments }

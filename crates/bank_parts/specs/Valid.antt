@@ -14,8 +14,8 @@ use Rattle.bank_parts.specs.Links.{OfLink}
 use Rattle.bank_parts.specs.declared.texts.Texts.{Texts}
 use Rattle.bank_parts.specs.declared.parts.GlobalZone.{GlobalZone}
 use Rattle.bank_parts.specs.declared.parts.Zone.{Zone}
-use Rattle.bank_parts.specs.declared.parts.Preset.{Preset}
-use Rattle.bank_parts.specs.declared.parts.Instrument.{Instrument}
+use Rattle.bank_parts.specs.declared.parts.Head.{Head}
+use Rattle.bank_parts.specs.declared.parts.WithZones.{WithZones}
 use Rattle.bank_parts.specs.declared.parts.Sample.{Sample}
 use Rattle.bank_parts.specs.declared.parts.Parts.{Parts}
 
@@ -41,13 +41,16 @@ pub record AreZones (at : Level) (targets : ℕ) (shared : GlobalZone) (own : Li
 
 -- ---- presets, instruments, samples, texts
 
-pub record IsPreset (instruments : ℕ) (p : Preset) : Type 0 where
-  pub name : IsName p.name
-  pub zones : AreZones level.Preset instruments p.global p.zones
+-- a preset or an instrument, whose zones stand at this level
+pub record IsOwner {H : Type 0} (name_of : H → List ℕ) (at : Level) (targets : ℕ) (x : WithZones H) : Type 0 where
+  pub name : IsName (name_of x.head)
+  pub zones : AreZones at targets x.global x.zones
 
-pub record IsInstrument (samples : ℕ) (i : Instrument) : Type 0 where
-  pub name : IsName i.name
-  pub zones : AreZones level.Instrument samples i.global i.zones
+abbrev pub IsPreset : ℕ → WithZones Head → Type 0
+IsPreset instruments = IsOwner (λ (h : Head). h.name) level.Preset instruments
+
+abbrev pub IsInstrument : ℕ → WithZones (List ℕ) → Type 0
+IsInstrument samples = IsOwner (λ name. name) level.Instrument samples
 
 -- a loop of at least one point lies in n points
 abbrev pub IsLoop : ℕ → Option (ℕ × ℕ) → Type 0
@@ -91,12 +94,9 @@ gen_count global zones = len global.gens + sum_by (λ (z : Zone). len z.gens + 1
 abbrev pub mod_count : GlobalZone → List Zone → ℕ
 mod_count global zones = length global.mods + sum_by (λ (z : Zone). length z.mods) zones
 
--- the zones, generators and modulators of all presets, and of all instruments
-abbrev pub preset_total : (GlobalZone → List Zone → ℕ) → List Preset → ℕ
-preset_total count presets = sum_by (λ (p : Preset). count p.global p.zones) presets
-
-abbrev pub instrument_total : (GlobalZone → List Zone → ℕ) → List Instrument → ℕ
-instrument_total count instruments = sum_by (λ (i : Instrument). count i.global i.zones) instruments
+-- the zones, the generators or the modulators of all presets, or of all instruments
+abbrev pub owner_total : {H : Type 0} → (GlobalZone → List Zone → ℕ) → List (WithZones H) → ℕ
+owner_total count owners = sum_by (λ x. count x.global x.zones) owners
 
 -- the points of all samples, each sample's with the zero points that follow them
 abbrev pub point_total : List Sample → ℕ
@@ -106,12 +106,12 @@ pub record IsWithin (b : Parts) : Type 0 where
   pub presets : length b.presets ≤ PRESETS
   pub instruments : length b.instruments ≤ INSTRUMENTS
   pub samples : length b.samples ≤ SAMPLES
-  pub preset_zones : preset_total zone_count b.presets ≤ ZONES
-  pub preset_gens : preset_total gen_count b.presets ≤ GENERATORS
-  pub preset_mods : preset_total mod_count b.presets ≤ MODULATORS
-  pub instrument_zones : instrument_total zone_count b.instruments ≤ ZONES
-  pub instrument_gens : instrument_total gen_count b.instruments ≤ GENERATORS
-  pub instrument_mods : instrument_total mod_count b.instruments ≤ MODULATORS
+  pub preset_zones : owner_total zone_count b.presets ≤ ZONES
+  pub preset_gens : owner_total gen_count b.presets ≤ GENERATORS
+  pub preset_mods : owner_total mod_count b.presets ≤ MODULATORS
+  pub instrument_zones : owner_total zone_count b.instruments ≤ ZONES
+  pub instrument_gens : owner_total gen_count b.instruments ≤ GENERATORS
+  pub instrument_mods : owner_total mod_count b.instruments ≤ MODULATORS
   pub points : point_total b.samples ≤ POINTS
 
 -- ---- the bank

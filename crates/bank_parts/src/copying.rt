@@ -1,7 +1,7 @@
 //! Equal parts in memory of their own. Points stay where they are: their slices are copied.
 ghost use Rattle.std.specs.Prelude.{◌≡◌, IfOk};
 
-use crate::parts::{GlobalZone, Instrument, Parts, Preset, Sample, Zone};
+use crate::parts::{GlobalZone, Parts, Sample, WithZones, Zone};
 use crate::texts::Texts;
 use modulators::Modulator;
 use numbered_lists::NumberedList;
@@ -25,25 +25,10 @@ impl CopyOut for Zone {
     }
 }
 
-impl CopyOut for Preset {
-    fn copy_out(&self, alloc: Global) -> Result<Preset, OutOfMemory> {
-        Ok(Preset {
-            name: self.name,
-            number: self.number,
-            bank: self.bank,
-            library: self.library,
-            genre: self.genre,
-            morphology: self.morphology,
-            global: copy_global(alloc, &self.global)?,
-            zones: copy_list(alloc, &self.zones)?,
-        })
-    }
-}
-
-impl CopyOut for Instrument {
-    fn copy_out(&self, alloc: Global) -> Result<Instrument, OutOfMemory> {
-        Ok(Instrument {
-            name: self.name,
+impl<H: Copy> CopyOut for WithZones<H> {
+    fn copy_out(&self, alloc: Global) -> Result<WithZones<H>, OutOfMemory> {
+        Ok(WithZones {
+            head: self.head,
             global: copy_global(alloc, &self.global)?,
             zones: copy_list(alloc, &self.zones)?,
         })
@@ -71,8 +56,8 @@ pub fn copy_parts<'a>(alloc: Global, parts: &Parts<'a>) -> Result<Parts<'a>, Out
     Ok(Parts {
         minor: parts.minor,
         texts: copy_texts(&parts.texts),
-        presets: copy_list(alloc, &parts.presets)?,
-        instruments: copy_list(alloc, &parts.instruments)?,
+        presets: parts.presets.copy(alloc)?,
+        instruments: parts.instruments.copy(alloc)?,
         samples: copy_list(alloc, &parts.samples)?,
     })
 }
@@ -92,7 +77,8 @@ fn copy_texts<'a>(texts: &Texts<'a>) -> Texts<'a>
     }
 }
 
-fn copy_list<T: CopyOut + Drop>(
+/// Equal members.
+pub(crate) fn copy_list<T: CopyOut + Drop>(
     alloc: Global,
     list: &NumberedList<T>,
 ) -> Result<NumberedList<T>, OutOfMemory>

@@ -1,8 +1,10 @@
-//! How many records zones have, as a file would hold them.
-ghost use Rattle.std.specs.Prelude.{◌≡◌};
-ghost use Rattle.bank_parts.specs.Counts.{records_of_global, records_of_zone, records_of, records_sum, records_total, all_counted};
+//! How many records presets and instruments have, as a file would hold them.
+ghost use Rattle.std.specs.Prelude.{◌≡◌, ◌<◌, length, slice_get, IfSome};
+ghost use Rattle.bank_parts.specs.declared.owners.ZonePlace.TheVariants as place;
+ghost use Rattle.bank_parts.specs.Owners.{HasPlace, zone_at};
+ghost use Rattle.bank_parts.specs.Counts.{records_of_global, records_of_zone, records_of_owner, records_sum, records_total, all_counted};
 
-use crate::parts::{GlobalZone, Instrument, Preset, Zone};
+use crate::owners::{Owners, ZonePlace};
 
 /// So many zones, generators and modulators: a zone's target is a generator, and an empty global zone
 /// is none.
@@ -26,75 +28,55 @@ impl Records {
     }
 }
 
-/// What has records: a zone, a preset or an instrument.
-pub(crate) trait Recorded {
-    ghost use Rattle.bank_parts.specs.declared.counting.Records.{Records};
-
-    /// How many.
-    ghost record_count: { Self → Records };
-
-    /// How many records it has.
-    fn records(&self) -> Records
-        ensures { result ≡ all_counted (record_count self.now) };
-}
-
-impl Recorded for Zone {
-    ghost record_count = { records_of_zone };
-
-    fn records(&self) -> Records {
-        Records {
-            zones: 1,
-            gens: self.gens.len() + 1,
-            mods: self.mods.len(),
-        }
-    }
-}
-
-impl Recorded for GlobalZone {
-    ghost record_count = { records_of_global };
-
-    fn records(&self) -> Records {
-        Records {
-            zones: if self.is_empty() { 0 } else { 1 },
-            gens: self.gens.len(),
-            mods: self.mods.len(),
-        }
-    }
-}
-
-impl Recorded for Preset {
-    ghost record_count = { λ preset. records_of preset.global preset.zones };
-
-    fn records(&self) -> Records {
-        zone_records(&self.global, self.zones.as_slice())
-    }
-}
-
-impl Recorded for Instrument {
-    ghost record_count = { λ instrument. records_of instrument.global instrument.zones };
-
-    fn records(&self) -> Records {
-        zone_records(&self.global, self.zones.as_slice())
-    }
-}
-
 /// How many records these have in all.
-pub(crate) fn records_in<T: Recorded>(members: &[T]) -> Records
-    ensures { result ≡ all_counted (records_total T.record_count members.now) }
+pub(crate) fn records_in<H>(owners: &Owners<H>) -> Records
+    ensures { result ≡ all_counted (records_total records_of_owner owners.now) }
 {
     let mut total = Records {
         zones: 0,
         gens: 0,
         mods: 0,
     };
-    for member in members {
-        total = total.plus(member.records());
+    for i in 0..owners.len() {
+        total = total.plus(owner_records(owners, i));
     }
     total
 }
 
-fn zone_records(shared: &GlobalZone, own: &[Zone]) -> Records
-    ensures { result ≡ all_counted (records_of shared.now own.now) }
+// Those of one of them.
+fn owner_records<H>(owners: &Owners<H>, i: usize) -> Records
+    requires { i < length owners.now }
+    ensures { IfSome (slice_get owners.now i) (λ x. result ≡ all_counted (records_of_owner x)) }
 {
-    shared.records().plus(records_in(own))
+    let mut total = global_records(owners, i);
+    for k in 0..owners.zone_count(i) {
+        total = total.plus(zone_records(owners, i, k));
+    }
+    total
+}
+
+fn global_records<H>(owners: &Owners<H>, i: usize) -> Records
+    requires { i < length owners.now }
+    ensures { IfSome (slice_get owners.now i) (λ x. result ≡ all_counted (records_of_global x.global)) }
+{
+    let gens = owners.gen_count(i, ZonePlace::Global);
+    let mods = owners.mod_count(i, ZonePlace::Global);
+    Records {
+        zones: gens.saturating_add(mods).min(1),
+        gens,
+        mods,
+    }
+}
+
+fn zone_records<H>(owners: &Owners<H>, i: usize, k: usize) -> Records
+    requires { HasPlace owners.now i (place.Zone k) }
+    ensures { IfSome (zone_at owners.now i k) (λ zone. result ≡ all_counted (records_of_zone zone)) }
+{
+    let gens = owners.gen_count(i, ZonePlace::Zone(k));
+    let mods = owners.mod_count(i, ZonePlace::Zone(k));
+    Records {
+        zones: 1,
+        gens: gens.saturating_add(1),
+        mods,
+    }
 }

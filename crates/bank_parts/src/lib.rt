@@ -4,8 +4,10 @@
 
 mod copying;
 mod counting;
+mod heads;
 mod laws;
 mod limits;
+mod owners;
 mod parts;
 mod renumbering;
 mod texts;
@@ -13,9 +15,11 @@ mod totals;
 mod validity;
 
 pub use copying::copy_parts;
+pub use heads::OwnerHead;
 pub use laws::limits_agree;
 pub use limits::Limit;
-pub use parts::{GlobalZone, Instrument, Kind, Parts, Preset, Sample, Zone};
+pub use owners::{Owners, ZonePlace};
+pub use parts::{GlobalZone, Head, Instrument, Kind, Parts, Preset, Sample, WithZones, Zone};
 pub use texts::{InfoId, Texts};
 pub use totals::{Totals, totals_of};
 pub use validity::is_valid;

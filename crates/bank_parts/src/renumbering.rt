@@ -1,7 +1,7 @@
 //! How what names samples by their numbers follows a change of their list.
 ghost use Rattle.std.specs.Prelude.{◌≡◌};
 
-use crate::parts::{Instrument, Kind, Sample, Zone};
+use crate::parts::{Kind, Sample, WithZones, Zone};
 use numbered_lists::{Renumber, Renumbering};
 
 /// A sample holds the number that its link names.
@@ -40,16 +40,13 @@ impl Renumber for Zone {
     }
 }
 
-/// An instrument holds the numbers of its zones' targets.
-impl Renumber for Instrument {
-    ghost use Rattle.std.specs.Prelude.{ℕ, ◌<◌, ◌^◌, All};
-    ghost use Rattle.numbered_lists.specs.Renumbered.{renumbered};
-    ghost use Rattle.bank_parts.specs.declared.parts.Zone.{Zone};
-    ghost use Rattle.bank_parts.specs.Renumbered.{instrument_renumbered};
+/// A preset or an instrument holds the numbers of its zones' targets.
+impl<H> Renumber for WithZones<H> {
+    ghost use Rattle.bank_parts.specs.Renumbered.{owner_renumbered, CanRenumberOwner};
 
-    ghost can_renumber = { λ by i. All (λ (z : Zone). renumbered by z.target < 2 ^ 16) i.zones };
+    ghost can_renumber = { CanRenumberOwner };
 
-    ghost with_new_numbers = { instrument_renumbered };
+    ghost with_new_numbers = { owner_renumbered };
 
     fn renumber(&mut self, by: Renumbering) {
         self.zones.renumber(by);

@@ -32,8 +32,8 @@ pub fn totals_of(parts: &Parts<'_>) -> Totals
     ensures value { IsWithin parts.now → result ≡ totals_of parts.now }
     ensures limits { broken result ≡ broken_limit parts.now }
 {
-    let presets = records_in(parts.presets.as_slice());
-    let instruments = records_in(parts.instruments.as_slice());
+    let presets = records_in(&parts.presets);
+    let instruments = records_in(&parts.instruments);
     Totals {
         presets: parts.presets.len(),
         instruments: parts.instruments.len(),

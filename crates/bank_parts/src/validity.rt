@@ -2,17 +2,20 @@
 ghost use Rattle.std.specs.Prelude.{◌↔◌, IsTrue};
 ghost use Rattle.std.specs.Bool.{OnTrue};
 ghost use Rattle.std.specs.List.{AllByRecursion};
-ghost use Rattle.sf_base.specs.Names.{IsText};
+ghost use Rattle.sf_base.specs.Names.{IsName, IsText};
 ghost use Rattle.generators.specs.Gens.{FitGens};
 ghost use Rattle.modulators.specs.Modulators.{FitsModulator};
-ghost use Rattle.bank_parts.specs.Valid.{IsGenerator, AreGenerators, IsZone, AreZones, IsPreset, IsInstrument, IsLoop, IsLink, IsSample, AreTexts, IsWithin, IsValid};
-ghost use Rattle.bank_parts.specs.Fits.{FitTexts, FitsPreset, FitsInstrument, FitsSample, FitsLoop, FitsKind, FitsGlobal, FitsZone, Fits};
+ghost use Rattle.bank_parts.specs.Valid.{IsGenerator, AreGenerators, IsZone, AreZones, IsOwner, IsPreset, IsInstrument, IsLoop, IsLink, IsSample, AreTexts, IsWithin, IsValid};
+ghost use Rattle.bank_parts.specs.Fits.{FitTexts, FitsHead, FitsOwner, FitsSample, FitsLoop, FitsKind, FitsGlobal, FitsZone, Fits};
 
-use crate::parts::{GlobalZone, Instrument, Kind, Parts, Preset, Sample, Zone};
+use crate::heads::OwnerHead;
+use crate::owners::Owners;
+use crate::parts::{GlobalZone, Head, Kind, Parts, Sample, WithZones, Zone};
 use crate::texts::Texts;
 use crate::totals::totals_of;
 use generators::{GenMap, Level, Range, allowed, is_range_operator};
 use modulators::Modulator;
+use sf_base::Name20;
 use sf_base::limits::{COMMENT_LENGTH, TEXT_LENGTH};
 
 /// Whether the parts are a valid bank: its texts are, its names, its generators are allowed where
@@ -24,8 +27,8 @@ pub fn is_valid(parts: &Parts<'_>) -> bool
 {
     let _minor = parts.minor;
     are_texts(&parts.texts)
-        && are_presets(parts.presets.as_slice(), parts.instruments.len())
-        && are_instruments(parts.instruments.as_slice(), parts.samples.len())
+        && are_presets(&parts.presets, parts.instruments.len())
+        && are_instruments(&parts.instruments, parts.samples.len())
         && are_samples(parts.samples.as_slice(), parts.samples.len())
         && is_within(parts)
 }
@@ -63,20 +66,25 @@ fn is_text(bytes: &[u8], most: usize) -> bool
 // ---- presets, instruments and samples; their names need no check, since a `Name20` is one; that a
 // number lies in the range of its field is known where it is read
 
-fn are_presets(presets: &[Preset], instruments: usize) -> bool
+fn are_presets(presets: &Owners<Head>, instruments: usize) -> bool
     ensures valid { IsTrue result ↔ AllByRecursion (IsPreset instruments) presets.now }
-    ensures fits { OnTrue result (AllByRecursion FitsPreset presets.now) }
+    ensures fits { OnTrue result (AllByRecursion (FitsOwner FitsHead) presets.now) }
 {
-    presets.iter().all(|preset| is_preset(preset, instruments))
+    are_owners(presets.as_slice(), instruments)
 }
 
-fn are_instruments(instruments: &[Instrument], samples: usize) -> bool
+fn are_instruments(instruments: &Owners<Name20>, samples: usize) -> bool
     ensures valid { IsTrue result ↔ AllByRecursion (IsInstrument samples) instruments.now }
-    ensures fits { OnTrue result (AllByRecursion FitsInstrument instruments.now) }
+    ensures fits { OnTrue result (AllByRecursion (FitsOwner IsName) instruments.now) }
 {
-    instruments
-        .iter()
-        .all(|instrument| is_instrument(instrument, samples))
+    are_owners(instruments.as_slice(), samples)
+}
+
+fn are_owners<H: OwnerHead>(owners: &[WithZones<H>], targets: usize) -> bool
+    ensures valid { IsTrue result ↔ AllByRecursion (IsOwner H.name H.LEVEL targets) owners.now }
+    ensures fits { OnTrue result (AllByRecursion (FitsOwner H.IsFit) owners.now) }
+{
+    owners.iter().all(|owner| is_owner(owner, targets))
 }
 
 fn are_samples(samples: &[Sample<'_>], count: usize) -> bool
@@ -86,35 +94,12 @@ fn are_samples(samples: &[Sample<'_>], count: usize) -> bool
     samples.iter().all(|sample| is_sample(sample, count))
 }
 
-fn is_preset(preset: &Preset, instruments: usize) -> bool
-    ensures valid { IsTrue result ↔ IsPreset instruments preset.now }
-    ensures fits { OnTrue result (FitsPreset preset.now) }
+fn is_owner<H: OwnerHead>(owner: &WithZones<H>, targets: usize) -> bool
+    ensures valid { IsTrue result ↔ IsOwner H.name H.LEVEL targets owner.now }
+    ensures fits { OnTrue result (FitsOwner H.IsFit owner.now) }
 {
-    let _name = preset.name.bytes();
-    let _number = preset.number;
-    let _bank = preset.bank;
-    let _library = preset.library;
-    let _genre = preset.genre;
-    let _morphology = preset.morphology;
-    are_zones(
-        Level::Preset,
-        instruments,
-        &preset.global,
-        preset.zones.as_slice(),
-    )
-}
-
-fn is_instrument(instrument: &Instrument, samples: usize) -> bool
-    ensures valid { IsTrue result ↔ IsInstrument samples instrument.now }
-    ensures fits { OnTrue result (FitsInstrument instrument.now) }
-{
-    let _name = instrument.name.bytes();
-    are_zones(
-        Level::Instrument,
-        samples,
-        &instrument.global,
-        instrument.zones.as_slice(),
-    )
+    owner.head.fits();
+    are_zones(H::LEVEL, targets, &owner.global, owner.zones.as_slice())
 }
 
 fn is_sample(sample: &Sample<'_>, samples: usize) -> bool

@@ -4,22 +4,21 @@ use Rattle.std.specs.Result.{IsErrAnd}
 use Rattle.generators.specs.declared.level.Level.TheVariants as level
 use Rattle.hydra_records.specs.declared.head.PresetHead.{PresetHead}
 use Rattle.hydra_records.specs.declared.head.InstrumentHead.{InstrumentHead}
-use Rattle.bank_parts.specs.declared.parts.Preset.{Preset}
-use Rattle.bank_parts.specs.declared.parts.Instrument.{Instrument}
+use Rattle.bank_parts.specs.declared.parts.Head.{Head}
 use Rattle.sf_base.specs.declared.memory.Failure.{Failure}
 use Rattle.bank_format.specs.declared.fault.ReadFault.{ReadFault}
 use Rattle.bank_format.specs.declared.fault.ReadFault.TheVariants.{BadInstrument, BadSample}
 use Rattle.bank_format.specs.Steps.{Step, first_broken, Fails, PassesGivenMemory}
 use Rattle.bank_format.specs.Windows.{rows}
 use Rattle.bank_format.specs.Zones.{Bagged}
-use Rattle.bank_format.specs.Tables.{Tables}
+use Rattle.bank_format.specs.Tables.{Tables, preset_head, instrument_head}
 use Rattle.bank_format.specs.Reading.{preset_windows, instrument_windows}
 use Rattle.bank_format.specs.ReadSteps.{count_steps}
 use Rattle.sf_reader.specs.declared.hydra.LevelTables.{LevelTables}
 use Rattle.sf_reader.specs.declared.owners.OwnersRead.{OwnersRead}
 use Rattle.sf_reader.specs.declared.owners.Members.{Members}
 use Rattle.sf_reader.specs.Hydra.{AreLists}
-use Rattle.sf_reader.specs.Owners.{AreSmall, added, windows_of, owners_read, zone_steps, preset_owner, instrument_owner, members_of, member_steps}
+use Rattle.sf_reader.specs.Owners.{AreSmall, added, windows_of, owners_read, zone_steps, members_of, member_steps}
 use Rattle.sf_reader.proofs.StepLaws.{given_by, given_front, given_after, none_after}
 use Rattle.sf_reader.proofs.HydraLaws.{ModsInside, few_records, windows_are}
 use Rattle.sf_reader.proofs.CountLaws.{counts-few, both-small}
@@ -46,11 +45,11 @@ preset_steps l targets = zone_steps level.Preset targets BadInstrument (windows_
 abbrev pub instrument_steps : LevelTables InstrumentHead → ℕ → List Step
 instrument_steps l targets = zone_steps level.Instrument targets BadSample (windows_of instrument_bag l)
 
-abbrev pub presets_of : LevelTables PresetHead → OwnersRead Preset
-presets_of l = owners_read level.Preset preset_owner l.heads (windows_of preset_bag l)
+abbrev pub presets_of : LevelTables PresetHead → OwnersRead Head
+presets_of l = owners_read level.Preset preset_head l.heads (windows_of preset_bag l)
 
-abbrev pub instruments_of : LevelTables InstrumentHead → OwnersRead Instrument
-instruments_of l = owners_read level.Instrument instrument_owner l.heads (windows_of instrument_bag l)
+abbrev pub instruments_of : LevelTables InstrumentHead → OwnersRead (List ℕ)
+instruments_of l = owners_read level.Instrument instrument_head l.heads (windows_of instrument_bag l)
 
 -- the four lists of the presets, those of the instruments, and the numbers of their targets
 pub record Levels (t : Tables) (p : LevelTables PresetHead) (i : LevelTables InstrumentHead) (instruments samples : ℕ) : Type 0 where
@@ -81,13 +80,13 @@ module _ (t : Tables) (p : LevelTables PresetHead) (i : LevelTables InstrumentHe
 
   presets_value : presets_of p ≡ (members_of t).presets
   presets_value =
-      ap (λ (ws : List (List Bagged)). owners_read level.Preset preset_owner p.heads ws) preset_bags_are
-      ∙ ap (λ (hs : List PresetHead). owners_read level.Preset preset_owner hs (preset_windows t)) l.presets_are.heads_are
+      ap (λ (ws : List (List Bagged)). owners_read level.Preset preset_head p.heads ws) preset_bags_are
+      ∙ ap (λ (hs : List PresetHead). owners_read level.Preset preset_head hs (preset_windows t)) l.presets_are.heads_are
 
   instruments_value : instruments_of i ≡ (members_of t).instruments
   instruments_value =
-      ap (λ (ws : List (List Bagged)). owners_read level.Instrument instrument_owner i.heads ws) instrument_bags_are
-      ∙ ap (λ (hs : List InstrumentHead). owners_read level.Instrument instrument_owner hs (instrument_windows t)) l.instruments_are.heads_are
+      ap (λ (ws : List (List Bagged)). owners_read level.Instrument instrument_head i.heads ws) instrument_bags_are
+      ∙ ap (λ (hs : List InstrumentHead). owners_read level.Instrument instrument_head hs (instrument_windows t)) l.instruments_are.heads_are
 
   module _ (r : Result Members (Failure ReadFault)) (e : Failure ReadFault) (is : IsErrAnd r (λ d. d ≡ e)) where
     pub presets_fail : Fails e (first_broken (preset_steps p instruments)) → PassesGivenMemory (λ (m : Members). m) r (member_steps t) (members_of t)
@@ -99,7 +98,7 @@ module _ (t : Tables) (p : LevelTables PresetHead) (i : LevelTables InstrumentHe
         given_after (λ (m : Members). m) (members_of t) r (preset_part t) (instrument_part t) (sym (ap first_broken preset_steps_are) ∙ none)
         (given_by (λ (m : Members). m) (members_of t) r e (instrument_part t) is (subst (λ (s : List Step). Fails e (first_broken s)) instrument_steps_are h))
 
-  pub members_hold : (presets : OwnersRead Preset) (of_instruments : OwnersRead Instrument) → first_broken (preset_steps p instruments) ≡ None → presets ≡ presets_of p
+  pub members_hold : (presets : OwnersRead Head) (of_instruments : OwnersRead (List ℕ)) → first_broken (preset_steps p instruments) ≡ None → presets ≡ presets_of p
       → first_broken (instrument_steps i samples) ≡ None → of_instruments ≡ instruments_of i
       → (first_broken (member_steps t) ≡ None) × (record { presets = presets; instruments = of_instruments } ≡ members_of t)
   members_hold presets of_instruments none presets_are none_too instruments_are =

@@ -9,7 +9,7 @@ use Rattle.generators.specs.declared.level.Level.{Level}
 use Rattle.modulators.specs.declared.modulator.Modulator.{Modulator}
 use Rattle.hydra_records.specs.declared.zone.Bag.{Bag}
 use Rattle.hydra_records.specs.declared.zone.Generator.{Generator}
-use Rattle.bank_parts.specs.declared.parts.GlobalZone.{GlobalZone}
+use Rattle.bank_parts.specs.declared.parts.WithZones.{WithZones}
 use Rattle.bank_parts.specs.declared.parts.Zone.{Zone}
 use Rattle.sf_base.specs.declared.memory.Failure.{Failure}
 use Rattle.bank_format.specs.declared.fault.ReadFault.{ReadFault}
@@ -66,13 +66,13 @@ zone_steps-next at targets missing w ws = map-append (target_step targets missin
 
 -- ---- head after head
 
-module _ {H O : Type 0} (at : Level) (targets : ℕ) (missing : ReadFault) (first_bag : H → ℕ) (owner : H → GlobalZone → List Zone → O) (table : List Bagged) (heads : List H) where
+module _ {H O : Type 0} (at : Level) (targets : ℕ) (missing : ReadFault) (first_bag : H → ℕ) (head : H → O) (table : List Bagged) (heads : List H) where
   abbrev all : List (List Bagged)
   all = windows table (map first_bag heads)
 
   -- those so far and those of head h and the heads after it are all, and the zones that are left decide
-  pub record Left (owners : List O) (counts : ZoneCounts) (h : H) (hs : List H) : Type 0 where
-    pub owners_are : owners ++ together (made_of at owner) (rows (h ∷ hs)) (windows table (map first_bag (h ∷ hs))) ≡ together (made_of at owner) (rows heads) all
+  pub record Left (owners : List (WithZones O)) (counts : ZoneCounts) (h : H) (hs : List H) : Type 0 where
+    pub owners_are : owners ++ together (made_of at head) (rows (h ∷ hs)) (windows table (map first_bag (h ∷ hs))) ≡ together (made_of at head) (rows heads) all
     pub counts_are : added counts (counts_over at (windows table (map first_bag (h ∷ hs)))) ≡ counts_over at all
     pub steps_are : first_broken (zone_steps at targets missing (windows table (map first_bag (h ∷ hs)))) ≡ first_broken (zone_steps at targets missing all)
 
@@ -80,17 +80,17 @@ module _ {H O : Type 0} (at : Level) (targets : ℕ) (missing : ReadFault) (firs
   abbrev between : H → H → List Bagged
   between h n = slice_range table (first_bag h) (first_bag n)
 
-  module _ (owners : List O) (counts : ZoneCounts) (h n : H) (ns : List H) (left : Left owners counts h (n ∷ ns)) where
+  module _ (owners : List (WithZones O)) (counts : ZoneCounts) (h n : H) (ns : List H) (left : Left owners counts h (n ∷ ns)) where
     -- one more
-    pub left_next : (read : OwnerRead O) (more : ZoneCounts) (pushed : List O)
+    pub left_next : (read : OwnerRead O) (more : ZoneCounts) (pushed : List (WithZones O))
         → first_broken (map (target_step targets missing) (zones_read at (between h n))) ≡ None
-        → read ≡ owner_read at owner h (between h n) → more ≡ added counts read.counts → pushed ≡ owners ++ read.owner ∷ [] → Left pushed more n ns
+        → read ≡ owner_read at head h (between h n) → more ≡ added counts read.counts → pushed ≡ owners ++ read.owner ∷ [] → Left pushed more n ns
     left_next read more pushed holds is counted put =
         let rest = windows table (map first_bag (n ∷ ns)) in record {
           owners_are =
-              ap (λ (l : List O). l ++ together (made_of at owner) (rows (n ∷ ns)) rest) (put ∙ ap (λ (r : OwnerRead O). owners ++ r.owner ∷ []) is)
-              ∙ append_assoc owners (made_of at owner h (between h n) ∷ []) (together (made_of at owner) (rows (n ∷ ns)) rest)
-              ∙ ap (λ (l : List H). owners ++ together (made_of at owner) l (between h n ∷ rest)) (sym (rows-next h n ns))
+              ap (λ (l : List (WithZones O)). l ++ together (made_of at head) (rows (n ∷ ns)) rest) (put ∙ ap (λ (r : OwnerRead O). owners ++ r.owner ∷ []) is)
+              ∙ append_assoc owners (made_of at head h (between h n) ∷ []) (together (made_of at head) (rows (n ∷ ns)) rest)
+              ∙ ap (λ (l : List H). owners ++ together (made_of at head) l (between h n ∷ rest)) (sym (rows-next h n ns))
               ∙ left.owners_are;
           counts_are =
               ap (λ (c : ZoneCounts). added c (counts_over at rest)) (counted ∙ ap (λ (r : OwnerRead O). added counts r.counts) is)
@@ -113,7 +113,7 @@ module _ {H O : Type 0} (at : Level) (targets : ℕ) (missing : ReadFault) (firs
         (subst (λ (b : Option ReadFault). Fails e b) (ap first_broken (sym (zone_steps-next at targets missing (between h n) rest)) ∙ left.steps_are) here)
 
     -- its counts can be added
-    pub left_small : (read : OwnerRead O) → read ≡ owner_read at owner h (between h n) → AreFew (counts_over at all) → AreSmall (added counts read.counts)
+    pub left_small : (read : OwnerRead O) → read ≡ owner_read at head h (between h n) → AreFew (counts_over at all) → AreSmall (added counts read.counts)
     left_small read is few =
         let rest = windows table (map first_bag (n ∷ ns)) in
         part-small counts read.counts (counts_over at rest) (counts_over at all)

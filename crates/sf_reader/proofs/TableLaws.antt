@@ -6,8 +6,8 @@ use Rattle.std.proofs.lemmas.List.{length-map}
 use Rattle.riff_chunks.specs.Walk.{Chunk}
 use Rattle.generators.specs.declared.level.Level.TheVariants as level
 use Rattle.bank_parts.specs.declared.parts.Zone.{Zone}
-use Rattle.bank_parts.specs.declared.parts.Preset.{Preset}
-use Rattle.bank_parts.specs.declared.parts.Instrument.{Instrument}
+use Rattle.bank_parts.specs.declared.parts.Head.{Head}
+use Rattle.bank_parts.specs.declared.parts.WithZones.{WithZones}
 use Rattle.sample_view.specs.Words.{words}
 use Rattle.sample_view.proofs.WordLemmas.{length-words}
 use Rattle.hydra_records.specs.declared.head.PresetHead.{PresetHead}
@@ -19,9 +19,10 @@ use Rattle.bank_format.specs.Steps.{Step, first_broken, Passes}
 use Rattle.bank_format.specs.Windows.{windows, together, rows}
 use Rattle.bank_format.specs.Zones.{Bagged, zones_read}
 use Rattle.bank_format.specs.Tables.{Tables}
+use Rattle.bank_format.specs.Tables as nine
 use Rattle.bank_format.specs.Chunks.{points_in}
 use Rattle.bank_format.specs.Samples.{sample_read}
-use Rattle.bank_format.specs.Reading.{bags_in, preset_windows, instrument_windows, preset_read, instrument_read, samples_read, bank_of}
+use Rattle.bank_format.specs.Reading.{bags_in, preset_windows, instrument_windows, owner_read, samples_read, bank_of}
 use Rattle.bank_format.specs.ReadSteps.{count_steps, all_index_steps, sample_step, target_step, target_steps, total_steps}
 use Rattle.sf_reader.specs.Owners.{member_steps}
 use Rattle.sf_reader.specs.Content.{even_steps, checked_steps, table_steps}
@@ -101,22 +102,22 @@ rows_windows table index heads = omega (arith, length-rows heads, length-windows
 pub targets_are : (info sdta : List Chunk) (t : Tables) → target_steps (bank_of info sdta t) ≡ member_steps t
 unfolding target_steps bank_of preset_windows instrument_windows
 targets_are info sdta t =
-    let presets = together preset_read (rows t.phdr) (preset_windows t) in
-    let instruments = together instrument_read (rows t.inst) (instrument_windows t) in
+    let presets = together (owner_read nine.presets) (rows t.phdr) (preset_windows t) in
+    let instruments = together (owner_read nine.instruments) (rows t.inst) (instrument_windows t) in
     let samples = samples_read (points_in sdta) (rows t.shdr) in
     let preset_rows = rows_windows (bags_in t.pbag t.pgen t.pmod) (λ (h : PresetHead). h.bag) t.phdr in
     let instrument_rows = rows_windows (bags_in t.ibag t.igen t.imod) (λ (h : InstrumentHead). h.bag) t.inst in
-    let instrument_count = length-together instrument_read (rows t.inst) (instrument_windows t) instrument_rows in
+    let instrument_count = length-together (owner_read nine.instruments) (rows t.inst) (instrument_windows t) instrument_rows in
     let sample_count = length-map (rows t.shdr) (sample_read (length (rows t.shdr)) (points_in sdta)) in
-    let preset_zones = zones_together preset_read (λ (p : Preset). p.zones) (zones_read level.Preset) (λ h w. refl) (rows t.phdr) (preset_windows t) preset_rows in
-    let instrument_zones = zones_together instrument_read (λ (i : Instrument). i.zones) (zones_read level.Instrument) (λ h w. refl) (rows t.inst) (instrument_windows t) instrument_rows in
-    let first : map (target_step (length instruments) BadInstrument) (flat_map (λ (p : Preset). p.zones) presets) ≡ preset_part t =
-    ap (λ (n : ℕ). map (target_step n BadInstrument) (flat_map (λ (p : Preset). p.zones) presets)) instrument_count
+    let preset_zones = zones_together (owner_read nine.presets) (λ (p : WithZones Head). p.zones) (zones_read level.Preset) (λ h w. refl) (rows t.phdr) (preset_windows t) preset_rows in
+    let instrument_zones = zones_together (owner_read nine.instruments) (λ (i : WithZones (List ℕ)). i.zones) (zones_read level.Instrument) (λ h w. refl) (rows t.inst) (instrument_windows t) instrument_rows in
+    let first : map (target_step (length instruments) BadInstrument) (flat_map (λ (p : WithZones Head). p.zones) presets) ≡ preset_part t =
+    ap (λ (n : ℕ). map (target_step n BadInstrument) (flat_map (λ (p : WithZones Head). p.zones) presets)) instrument_count
     ∙ ap (map (target_step (length (rows t.inst)) BadInstrument)) preset_zones in
-    let second : map (target_step (length samples) BadSample) (flat_map (λ (i : Instrument). i.zones) instruments) ≡ instrument_part t =
-    ap (λ (n : ℕ). map (target_step n BadSample) (flat_map (λ (i : Instrument). i.zones) instruments)) sample_count
+    let second : map (target_step (length samples) BadSample) (flat_map (λ (i : WithZones (List ℕ)). i.zones) instruments) ≡ instrument_part t =
+    ap (λ (n : ℕ). map (target_step n BadSample) (flat_map (λ (i : WithZones (List ℕ)). i.zones) instruments)) sample_count
     ∙ ap (map (target_step (length (rows t.shdr)) BadSample)) instrument_zones in
-    ap (λ (l : List Step). l ++ map (target_step (length samples) BadSample) (flat_map (λ (i : Instrument). i.zones) instruments)) first
+    ap (λ (l : List Step). l ++ map (target_step (length samples) BadSample) (flat_map (λ (i : WithZones (List ℕ)). i.zones) instruments)) first
     ∙ ap (λ (l : List Step). preset_part t ++ l) second
 
 -- the steps from the counts on, as a file's steps have them

@@ -1,22 +1,16 @@
 -- Presets and instruments with their zones, as the reader goes through them: what is said of either
--- is said of heads, a level and what a head with zones makes.
+-- is said of records that are heads, a level and what a bank keeps of such a record.
 use Rattle.std.specs.Prelude.{◌+◌, ◌++◌, ◌<◌, ◌^◌, ℕ, List, length, map, flat_map, sum_by}
 use Rattle.std.specs.List.{slice_range}
-use Rattle.sf_base.specs.Names.{before_zero}
 use Rattle.generators.specs.declared.level.Level.{Level}
 use Rattle.generators.specs.declared.level.Level.TheVariants as level
-use Rattle.hydra_records.specs.declared.head.PresetHead.{PresetHead}
-use Rattle.hydra_records.specs.declared.head.InstrumentHead.{InstrumentHead}
-use Rattle.bank_parts.specs.declared.parts.GlobalZone.{GlobalZone}
-use Rattle.bank_parts.specs.declared.parts.Zone.{Zone}
-use Rattle.bank_parts.specs.declared.parts.Preset.{Preset}
-use Rattle.bank_parts.specs.declared.parts.Instrument.{Instrument}
+use Rattle.bank_parts.specs.declared.parts.WithZones.{WithZones}
 use Rattle.bank_format.specs.declared.fault.ReadFault.{ReadFault}
 use Rattle.bank_format.specs.declared.fault.ReadFault.TheVariants.{BadInstrument, BadSample}
 use Rattle.bank_format.specs.Steps.{Step}
 use Rattle.bank_format.specs.Windows.{windows, together, rows}
 use Rattle.bank_format.specs.Zones.{Bagged, global_read, zones_read, ignored, gens_dropped, ranges_mended}
-use Rattle.bank_format.specs.Tables.{Tables}
+use Rattle.bank_format.specs.Tables.{Tables, preset_head, instrument_head}
 use Rattle.bank_format.specs.Reading.{bags_in, preset_windows, instrument_windows}
 use Rattle.bank_format.specs.ReadSteps.{target_step}
 use Rattle.zone_reader.specs.declared.zones.ZoneCounts.{ZoneCounts}
@@ -25,23 +19,6 @@ use Rattle.sf_reader.specs.declared.hydra.LevelTables.{LevelTables}
 use Rattle.sf_reader.specs.declared.owners.OwnerRead.{OwnerRead}
 use Rattle.sf_reader.specs.declared.owners.OwnersRead.{OwnersRead}
 use Rattle.sf_reader.specs.declared.owners.Members.{Members}
-
--- ---- a head with zones
-
-abbrev pub preset_owner : PresetHead → GlobalZone → List Zone → Preset
-preset_owner h global zones = record {
-  name = before_zero h.name;
-  number = h.number;
-  bank = h.bank;
-  library = h.library;
-  genre = h.genre;
-  morphology = h.morphology;
-  global = global;
-  zones = zones;
-}
-
-abbrev pub instrument_owner : InstrumentHead → GlobalZone → List Zone → Instrument
-instrument_owner h global zones = record { name = before_zero h.name; global = global; zones = zones }
 
 -- ---- counts
 
@@ -61,8 +38,8 @@ counts_over at ws = record { zones = sum_by (ignored at) ws; gens = sum_by (gens
 -- ---- the presets, or the instruments
 
 -- a head and its bags make this
-abbrev pub made_of : {H O : Type 0} → Level → (H → GlobalZone → List Zone → O) → H → List Bagged → O
-made_of at owner h bags = owner h (global_read at bags) (zones_read at bags)
+abbrev pub made_of : {R H : Type 0} → Level → (R → H) → R → List Bagged → WithZones H
+made_of at head r bags = record { head = head r; global = global_read at bags; zones = zones_read at bags }
 
 -- the bags from one head's first to the next one's
 abbrev pub window_of : {H : Type 0} → (H → ℕ) → LevelTables H → H → H → List Bagged
@@ -73,12 +50,12 @@ abbrev pub windows_of : {H : Type 0} → (H → ℕ) → LevelTables H → List 
 windows_of first_bag l = windows (bags_in l.bags l.generators l.modulators) (map first_bag l.heads)
 
 -- one of them, and what was dropped or mended in its bags
-abbrev pub owner_read : {H O : Type 0} → Level → (H → GlobalZone → List Zone → O) → H → List Bagged → OwnerRead O
-owner_read at owner h bags = record { owner = made_of at owner h bags; counts = counts_read at bags }
+abbrev pub owner_read : {R H : Type 0} → Level → (R → H) → R → List Bagged → OwnerRead H
+owner_read at head r bags = record { owner = made_of at head r bags; counts = counts_read at bags }
 
 -- all of them, and what was dropped or mended in all bags
-abbrev pub owners_read : {H O : Type 0} → Level → (H → GlobalZone → List Zone → O) → List H → List (List Bagged) → OwnersRead O
-owners_read at owner heads ws = record { owners = together (made_of at owner) (rows heads) ws; counts = counts_over at ws }
+abbrev pub owners_read : {R H : Type 0} → Level → (R → H) → List R → List (List Bagged) → OwnersRead H
+owners_read at head rs ws = record { owners = together (made_of at head) (rows rs) ws; counts = counts_over at ws }
 
 -- the target of each zone that their bags say
 abbrev pub zone_steps : Level → ℕ → ReadFault → List (List Bagged) → List Step
@@ -88,8 +65,8 @@ zone_steps at targets missing ws = map (target_step targets missing) (flat_map (
 
 abbrev pub members_of : Tables → Members
 members_of t = record {
-  presets = owners_read level.Preset preset_owner t.phdr (preset_windows t);
-  instruments = owners_read level.Instrument instrument_owner t.inst (instrument_windows t);
+  presets = owners_read level.Preset preset_head t.phdr (preset_windows t);
+  instruments = owners_read level.Instrument instrument_head t.inst (instrument_windows t);
 }
 
 -- the presets' zones first

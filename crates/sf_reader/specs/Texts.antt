@@ -1,5 +1,6 @@
 -- The eight texts of a file.
 use Rattle.std.specs.Prelude.{◌+◌, ℕ, List, take}
+use Rattle.sf_base.specs.declared.limits.TheConstants.{TEXT_LENGTH, COMMENT_LENGTH}
 use Rattle.riff_chunks.specs.Walk.{Chunk}
 use Rattle.bank_parts.specs.declared.texts.Texts.{Texts}
 use Rattle.bank_format.specs.Ids as id
@@ -18,21 +19,21 @@ texts_in info = record {
   software = text_in id.ISFT info;
 }
 
--- each cut to 255 bytes, the comment to 65,535
+-- each cut to the length that it may have
 unfoldable pub cut_of : Texts → Texts
 cut_of t = record {
-  engine = engine_read (take 255 t.engine);
-  name = take 255 t.name;
-  date = take 255 t.date;
-  engineers = take 255 t.engineers;
-  product = take 255 t.product;
-  copyright = take 255 t.copyright;
-  comment = take 65535 t.comment;
-  software = take 255 t.software;
+  engine = engine_read (take TEXT_LENGTH t.engine);
+  name = take TEXT_LENGTH t.name;
+  date = take TEXT_LENGTH t.date;
+  engineers = take TEXT_LENGTH t.engineers;
+  product = take TEXT_LENGTH t.product;
+  copyright = take TEXT_LENGTH t.copyright;
+  comment = take COMMENT_LENGTH t.comment;
+  software = take TEXT_LENGTH t.software;
 }
 
 -- how many are longer
 unfoldable pub cut_count : Texts → ℕ
 cut_count t =
-    over 255 t.engine + over 255 t.name + over 255 t.date + over 255 t.engineers
-    + over 255 t.product + over 255 t.copyright + over 65535 t.comment + over 255 t.software
+    over TEXT_LENGTH t.engine + over TEXT_LENGTH t.name + over TEXT_LENGTH t.date + over TEXT_LENGTH t.engineers
+    + over TEXT_LENGTH t.product + over TEXT_LENGTH t.copyright + over COMMENT_LENGTH t.comment + over TEXT_LENGTH t.software

@@ -1,22 +1,20 @@
 //! The heads of presets and instruments, to which zones belong (SoundFont 2.04, sections 7.2 and 7.6).
-ghost use Rattle.std.specs.Prelude.{◌≡◌, ℕ, List, length};
+ghost use Rattle.std.specs.Prelude.{◌≡◌, ℕ, length};
 ghost use Rattle.generators.specs.declared.level.Level.{Level};
-ghost use Rattle.bank_parts.specs.declared.parts.GlobalZone.{GlobalZone};
-ghost use Rattle.bank_parts.specs.declared.parts.Zone.{Zone};
 ghost use Rattle.bank_format.specs.declared.fault.ReadFault.{ReadFault};
 ghost use Rattle.bank_format.specs.Windows.{rows};
 
 use crate::texts::name_of;
-use bank_core::{GlobalZone, Instrument, Preset, Zone};
 use bank_format::ReadFault;
+use bank_parts::Head;
 use generators::Level;
 use hydra_records::{InstrumentHead, PresetHead, Record, Table};
-use numbered_lists::NumberedList;
+use sf_base::Name20;
 
-/// The head of a preset or of an instrument, which owns zones.
-pub(crate) trait OwnerHead: Record + Copy {
-    /// What it is the head of.
-    type Owner: Drop;
+/// A record that is the head of a preset or of an instrument, which owns zones.
+pub(crate) trait HeadRecord: Record + Copy {
+    /// What a bank keeps of it.
+    type Head: Copy + Drop;
 
     /// The level of its zones.
     ghost LEVEL: { Level };
@@ -27,8 +25,8 @@ pub(crate) trait OwnerHead: Record + Copy {
     /// Where its bags begin.
     ghost first_bag: { Self → ℕ };
 
-    /// The preset or instrument, with these zones.
-    ghost owner: { Self → GlobalZone → List Zone → Self.Owner };
+    /// What a bank keeps of it.
+    ghost head: { Self → Self.Head };
 
     /// The level of its zones.
     const LEVEL: Level;
@@ -40,15 +38,15 @@ pub(crate) trait OwnerHead: Record + Copy {
     fn first_bag(&self) -> u16
         ensures { result ≡ first_bag self.now };
 
-    /// The preset or instrument, with these zones.
-    fn owner(&self, global: GlobalZone, zones: NumberedList<Zone>) -> Self::Owner
-        ensures { result ≡ owner self.now global zones };
+    /// What a bank keeps of it.
+    fn head(&self) -> Self::Head
+        ensures { result ≡ head self.now };
 }
 
-impl OwnerHead for PresetHead {
-    type Owner = Preset;
+impl HeadRecord for PresetHead {
+    type Head = Head;
 
-    ghost use Rattle.sf_reader.specs.Owners.{preset_owner};
+    ghost use Rattle.bank_format.specs.Tables.{preset_head};
     ghost use Rattle.generators.specs.declared.level.Level.TheVariants as level;
     ghost use Rattle.bank_format.specs.declared.fault.ReadFault.TheVariants as fault;
 
@@ -58,7 +56,7 @@ impl OwnerHead for PresetHead {
 
     ghost first_bag = { λ head. head.bag };
 
-    ghost owner = { preset_owner };
+    ghost head = { preset_head };
 
     const LEVEL: Level = Level::Preset;
 
@@ -68,24 +66,22 @@ impl OwnerHead for PresetHead {
         self.bag
     }
 
-    fn owner(&self, global: GlobalZone, zones: NumberedList<Zone>) -> Preset {
-        Preset {
+    fn head(&self) -> Head {
+        Head {
             name: name_of(&self.name),
             number: self.number,
             bank: self.bank,
             library: self.library,
             genre: self.genre,
             morphology: self.morphology,
-            global,
-            zones,
         }
     }
 }
 
-impl OwnerHead for InstrumentHead {
-    type Owner = Instrument;
+impl HeadRecord for InstrumentHead {
+    type Head = Name20;
 
-    ghost use Rattle.sf_reader.specs.Owners.{instrument_owner};
+    ghost use Rattle.bank_format.specs.Tables.{instrument_head};
     ghost use Rattle.generators.specs.declared.level.Level.TheVariants as level;
     ghost use Rattle.bank_format.specs.declared.fault.ReadFault.TheVariants as fault;
 
@@ -95,7 +91,7 @@ impl OwnerHead for InstrumentHead {
 
     ghost first_bag = { λ head. head.bag };
 
-    ghost owner = { instrument_owner };
+    ghost head = { instrument_head };
 
     const LEVEL: Level = Level::Instrument;
 
@@ -105,12 +101,8 @@ impl OwnerHead for InstrumentHead {
         self.bag
     }
 
-    fn owner(&self, global: GlobalZone, zones: NumberedList<Zone>) -> Instrument {
-        Instrument {
-            name: name_of(&self.name),
-            global,
-            zones,
-        }
+    fn head(&self) -> Name20 {
+        name_of(&self.name)
     }
 }
 

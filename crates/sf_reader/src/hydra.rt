@@ -6,7 +6,7 @@ ghost use Rattle.bank_format.specs.Chunks.{body_in, or_zero};
 ghost use Rattle.bank_format.specs.ReadSteps.{chunk_step, nine, record_counts, count_steps, all_index_steps};
 ghost use Rattle.sf_reader.specs.Hydra.{bodies_in, whole_steps, tables_from, level_whole_steps, level_of, level_index_steps, AreLists};
 
-use crate::heads::OwnerHead;
+use crate::heads::HeadRecord;
 use crate::indexes::{FirstBag, FirstGenerator, FirstModulator, check_indexes};
 use bank_format::ReadFault;
 use hydra_records::{Bag, Generator, InstrumentHead, PresetHead, Record, SampleHead, Table};
@@ -125,7 +125,7 @@ impl<'a> LevelChunks<'a> {
     }
 }
 
-impl<'a, H: OwnerHead> LevelTables<'a, H> {
+impl<'a, H: HeadRecord> LevelTables<'a, H> {
     // How many modulators there are; a list of none reads as one zero record.
     fn modulator_count(&self) -> usize
         ensures { result ≡ length (or_zero self.now.modulators) }

@@ -3,7 +3,7 @@ ghost use Rattle.std.specs.Prelude.{◌≡◌, ℕ, map};
 ghost use Rattle.bank_format.specs.Steps.{Passes};
 ghost use Rattle.bank_format.specs.ReadSteps.{index_steps};
 
-use crate::heads::OwnerHead;
+use crate::heads::HeadRecord;
 use bank_format::ReadFault;
 use hydra_records::{Bag, Record, Table};
 
@@ -26,7 +26,7 @@ pub(crate) enum FirstGenerator {}
 /// Where the modulators of a bag begin.
 pub(crate) enum FirstModulator {}
 
-impl<H: OwnerHead> Index<H> for FirstBag {
+impl<H: HeadRecord> Index<H> for FirstBag {
     ghost index = { H.first_bag };
 
     fn of(head: &H) -> u16 {

@@ -1,32 +1,32 @@
 //! The presets and the instruments of a file, with their zones (SoundFont 2.04, sections 7.2 to 7.9).
 ghost use Rattle.std.specs.Prelude.{◌≡◌, ◌≤◌, None, length, map, nat_lt};
 ghost use Rattle.std.specs.List.{list_all};
+ghost use Rattle.sf_base.specs.declared.limits.TheConstants.{RECORDS};
 ghost use Rattle.bank_format.specs.Steps.{Passes, PassesGivenMemory, first_broken};
 ghost use Rattle.bank_format.specs.Zones.{zones_read};
 ghost use Rattle.bank_format.specs.ReadSteps.{count_steps, all_index_steps, target_step};
 ghost use Rattle.sf_reader.specs.Owners.{added, AreSmall, window_of, windows_of, owner_read, owners_read, zone_steps, members_of, member_steps};
 
-use crate::heads::{OwnerHead, row_count};
+use crate::heads::{HeadRecord, row_count};
 use crate::hydra::{LevelTables, Tables};
-use bank_core::{Instrument, Preset, Zone};
 use bank_format::ReadFault;
-use numbered_lists::NumberedList;
-use sf_base::Failure;
+use bank_parts::{Head, Owners, WithZones, Zone};
+use sf_base::{Failure, Name20};
 use std::alloc::Global;
 use zone_reader::{BagsRead, ZoneCounts, read_bags};
 
 /// A preset or an instrument, and what was dropped or mended in its zones.
 #[derive(Drop)]
-pub(crate) struct OwnerRead<O> {
-    owner: O,
+pub(crate) struct OwnerRead<H> {
+    owner: WithZones<H>,
     counts: ZoneCounts,
 }
 
 /// The presets or the instruments of a file, and what was dropped or mended in their zones.
 #[derive(Drop)]
-pub(crate) struct OwnersRead<O> {
+pub(crate) struct OwnersRead<H> {
     /// Each in its order.
-    pub owners: NumberedList<O>,
+    pub owners: Owners<H>,
 
     /// What was dropped or mended in all of them.
     pub counts: ZoneCounts,
@@ -35,8 +35,8 @@ pub(crate) struct OwnersRead<O> {
 /// The presets and the instruments of a file.
 #[derive(Drop)]
 pub(crate) struct Members {
-    pub presets: OwnersRead<Preset>,
-    pub instruments: OwnersRead<Instrument>,
+    pub presets: OwnersRead<Head>,
+    pub instruments: OwnersRead<Name20>,
 }
 
 /// The presets and the instruments, each zone of which names a target that is there.
@@ -58,29 +58,26 @@ pub(crate) fn read_members(alloc: Global, tables: &Tables) -> Result<Members, Fa
 }
 
 // The presets or the instruments, in whose zones the targets are among so many.
-fn read_owners<H: OwnerHead>(
+fn read_owners<H: HeadRecord>(
     alloc: Global,
     level: &LevelTables<H>,
     targets: usize,
-) -> Result<OwnersRead<H::Owner>, Failure<ReadFault>>
-    requires heads { length level.now.heads ≤ 65536 }
-    requires bags { length level.now.bags ≤ 65536 }
-    requires generators { length level.now.generators ≤ 65536 }
+) -> Result<OwnersRead<H::Head>, Failure<ReadFault>>
+    requires heads { length level.now.heads ≤ RECORDS }
+    requires bags { length level.now.bags ≤ RECORDS }
+    requires generators { length level.now.generators ≤ RECORDS }
     ensures { PassesGivenMemory (λ read. read) result (zone_steps H.LEVEL targets H.MISSING (windows_of H.first_bag level.now))
-        (owners_read H.LEVEL H.owner level.now.heads (windows_of H.first_bag level.now)) }
+        (owners_read H.LEVEL H.head level.now.heads (windows_of H.first_bag level.now)) }
 {
     let mut counts = ZoneCounts {
         zones: 0,
         gens: 0,
         ranges: 0,
     };
-    let mut owners = Vec::with_capacity(alloc, row_count(&level.heads))?;
+    let mut owners = Owners::with_capacity(alloc, row_count(&level.heads))?;
     let mut heads = level.heads.iter();
     let Some(mut head) = heads.next() else {
-        return Ok(OwnersRead {
-            owners: NumberedList::from_vec(owners),
-            counts,
-        });
+        return Ok(OwnersRead { owners, counts });
     };
     for next in heads {
         let read = read_owner(alloc, level, &head, &next, targets)?;
@@ -88,25 +85,22 @@ fn read_owners<H: OwnerHead>(
         owners.push(read.owner)?;
         head = next;
     }
-    Ok(OwnersRead {
-        owners: NumberedList::from_vec(owners),
-        counts,
-    })
+    Ok(OwnersRead { owners, counts })
 }
 
 // One of them. Its bags end where those of the next one begin.
-fn read_owner<H: OwnerHead>(
+fn read_owner<H: HeadRecord>(
     alloc: Global,
     level: &LevelTables<H>,
     head: &H,
     next: &H,
     targets: usize,
-) -> Result<OwnerRead<H::Owner>, Failure<ReadFault>>
-    requires bags { length level.now.bags ≤ 65536 }
-    requires generators { length level.now.generators ≤ 65536 }
+) -> Result<OwnerRead<H::Head>, Failure<ReadFault>>
+    requires bags { length level.now.bags ≤ RECORDS }
+    requires generators { length level.now.generators ≤ RECORDS }
     ensures { PassesGivenMemory (λ read. read) result
         (map (target_step targets H.MISSING) (zones_read H.LEVEL (window_of H.first_bag level.now head.now next.now)))
-        (owner_read H.LEVEL H.owner head.now (window_of H.first_bag level.now head.now next.now)) }
+        (owner_read H.LEVEL H.head head.now (window_of H.first_bag level.now head.now next.now)) }
 {
     let bags = level
         .bags
@@ -118,7 +112,11 @@ fn read_owner<H: OwnerHead>(
     } = read_bags(alloc, H::LEVEL, &bags, &level.generators, &level.modulators)?;
     check_targets(zones.as_slice(), targets, H::MISSING)?;
     Ok(OwnerRead {
-        owner: head.owner(global, zones),
+        owner: WithZones {
+            head: head.head(),
+            global,
+            zones,
+        },
         counts,
     })
 }

@@ -1,5 +1,6 @@
 //! The zones that bags say.
 ghost use Rattle.std.specs.Prelude.{◌≡◌, ◌≤◌, ◌++◌, ◌∷◌, [], length, slice_range, IfOk, OnOk};
+ghost use Rattle.sf_base.specs.declared.limits.TheConstants.{RECORDS};
 ghost use Rattle.bank_format.specs.Reading.{bagged, bags_in};
 ghost use Rattle.bank_format.specs.Zones.{no_global};
 ghost use Rattle.generators.specs.declared.level.Level.{Level};
@@ -48,8 +49,8 @@ pub fn read_bags(
     generators: &Table<'_, Generator>,
     modulators: &Table<'_, Modulator>,
 ) -> Result<BagsRead, OutOfMemory>
-    requires bags { length bags.now ≤ 65536 }
-    requires generators { length generators.now ≤ 65536 }
+    requires bags { length bags.now ≤ RECORDS }
+    requires generators { length generators.now ≤ RECORDS }
     ensures { IfOk result (λ read. read ≡ bags_read level (bags_in bags.now generators.now modulators.now)) }
 {
     let mut rest = bags.iter();
@@ -158,7 +159,7 @@ fn read_later(
     read: &mut BagsRead,
 ) -> Result<(), OutOfMemory>
     requires few { AreFew read.old.counts }
-    requires generators { length generators.now ≤ 65536 }
+    requires generators { length generators.now ≤ RECORDS }
     ensures { OnOk result (read.new ≡ with_later level read.old (bagged generators.now modulators.now ∷ [])) }
 {
     let GensRead {

@@ -1,0 +1,50 @@
+-- What presets or instruments lend of themselves, by their numbers; none where there is no such member.
+use Rattle.std.specs.Prelude.{◌<◌, ◌==◌, ℕ, Bool, List, length, Option, IsSomeAnd, slice_get}
+use Rattle.std.specs.Option.{option_map, option_and_then}
+use Rattle.std.specs.List.{list_any}
+use Rattle.std.specs.FinMap.{entries}
+use Rattle.generators.specs.Gens.{Gens}
+use Rattle.modulators.specs.declared.modulator.Modulator.{Modulator}
+use Rattle.bank_parts.specs.declared.parts.Zone.{Zone}
+use Rattle.bank_parts.specs.declared.parts.WithZones.{WithZones}
+use Rattle.bank_parts.specs.declared.owners.ZonePlace.{ZonePlace}
+use Rattle.bank_parts.specs.declared.owners.ZonePlace.TheVariants as place
+
+-- what a member has besides its zones
+abbrev pub head_at : {H : Type 0} → List (WithZones H) → ℕ → Option H
+head_at owners i = option_map (λ x. x.head) (slice_get owners i)
+
+-- how many zones a member has, the global one not counted
+abbrev pub zone_count_at : {H : Type 0} → List (WithZones H) → ℕ → Option ℕ
+zone_count_at owners i = option_map (λ x. length x.zones) (slice_get owners i)
+
+-- zone k of a member
+abbrev pub zone_at : {H : Type 0} → List (WithZones H) → ℕ → ℕ → Option Zone
+zone_at owners i k = option_and_then (λ x. slice_get x.zones k) (slice_get owners i)
+
+-- a member has this place: its global zone, or a zone of this number
+abbrev pub HasPlace : {H : Type 0} → List (WithZones H) → ℕ → ZonePlace → Type 0
+HasPlace owners i place.Global = i < length owners
+HasPlace owners i (place.Zone k) = IsSomeAnd (zone_count_at owners i) (λ n. k < n)
+
+-- the target of a zone
+abbrev pub target_at : {H : Type 0} → List (WithZones H) → ℕ → ℕ → Option ℕ
+target_at owners i k = option_map (λ (z : Zone). z.target) (zone_at owners i k)
+
+-- the generators of a place
+abbrev pub gens_at : {H : Type 0} → List (WithZones H) → ℕ → ZonePlace → Option Gens
+gens_at owners i place.Global = option_map (λ x. x.global.gens) (slice_get owners i)
+gens_at owners i (place.Zone k) = option_map (λ (z : Zone). z.gens) (zone_at owners i k)
+
+-- in their order
+abbrev pub entries_at : {H : Type 0} → List (WithZones H) → ℕ → ZonePlace → Option (List (ℕ × ℕ))
+entries_at owners i at = option_map entries (gens_at owners i at)
+
+-- the modulators of a place
+abbrev pub mods_at : {H : Type 0} → List (WithZones H) → ℕ → ZonePlace → Option (List Modulator)
+mods_at owners i place.Global = option_map (λ x. x.global.mods) (slice_get owners i)
+mods_at owners i (place.Zone k) = option_map (λ (z : Zone). z.mods) (zone_at owners i k)
+
+-- a zone has this number as its target
+abbrev pub targets : {H : Type 0} → ℕ → WithZones H → Bool
+targets number x = list_any (λ (z : Zone). z.target == number) x.zones

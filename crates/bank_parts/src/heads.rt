@@ -1,0 +1,70 @@
+//! What a preset or an instrument is besides its zones.
+ghost use Rattle.sf_base.specs.Names.{IsName};
+ghost use Rattle.generators.specs.declared.level.Level.{Level};
+
+use crate::parts::Head;
+use generators::Level;
+use sf_base::Name20;
+
+/// What a preset has besides its zones, or an instrument.
+pub trait OwnerHead: Copy {
+    ghost use Rattle.std.specs.Prelude.{ℕ, List};
+
+    /// Whose zones they are.
+    ghost LEVEL: { Level };
+
+    /// The name.
+    ghost name: { Self → List ℕ };
+
+    /// Each number and name is in the range of its field.
+    ghost IsFit: { Self → Type 0 };
+
+    /// Whose zones they are.
+    const LEVEL: Level;
+
+    /// The law that the name is one, and that each field is in its range. It does nothing.
+    fn fits(&self)
+        ensures named { IsName (name self.now) }
+        ensures fits { IsFit self.now };
+}
+
+impl OwnerHead for Head {
+    ghost use Rattle.generators.specs.declared.level.Level.TheVariants as level;
+    ghost use Rattle.bank_parts.specs.Fits.{FitsHead};
+
+    ghost LEVEL = { level.Preset };
+
+    ghost name = { λ head. head.name };
+
+    ghost IsFit = { FitsHead };
+
+    const LEVEL: Level = Level::Preset;
+
+    fn fits(&self) {
+        let Head {
+            name,
+            number: _number,
+            bank: _bank,
+            library: _library,
+            genre: _genre,
+            morphology: _morphology,
+        } = *self;
+        let _name = name.bytes();
+    }
+}
+
+impl OwnerHead for Name20 {
+    ghost use Rattle.generators.specs.declared.level.Level.TheVariants as level;
+
+    ghost LEVEL = { level.Instrument };
+
+    ghost name = { λ name. name };
+
+    ghost IsFit = { IsName };
+
+    const LEVEL: Level = Level::Instrument;
+
+    fn fits(&self) {
+        let _name = self.bytes();
+    }
+}

@@ -1,0 +1,230 @@
+//! The presets or the instruments of a bank, and what they lend of their zones.
+ghost use Rattle.std.specs.Prelude.{◌≡◌, ◌<◌, ◌↔◌, IsTrue, ◌++◌, ◌∷◌, [], Some, length, IfSome, IfOk, OnOk, OnErr};
+ghost use Rattle.std.specs.FinMap.{get, len};
+ghost use Rattle.std.specs.Option.{option_map};
+ghost use Rattle.std.specs.List.{list_any};
+ghost use Rattle.generators.specs.Gens.{FitGens};
+ghost use Rattle.bank_parts.specs.declared.owners.ZonePlace.TheVariants as place;
+ghost use Rattle.bank_parts.specs.Owners.{HasPlace, targets, head_at, zone_count_at, zone_at, target_at, gens_at, entries_at, mods_at};
+
+use crate::copying::copy_list;
+use crate::parts::{WithZones, Zone};
+use modulators::Modulator;
+use numbered_lists::{NumberedList, Renumber, Renumbering};
+use sf_base::OutOfMemory;
+use std::alloc::Global;
+use std::marker::Model;
+
+/// Where generators and modulators stand in a preset or an instrument: in its global zone, or in the
+/// zone of a number.
+#[derive(Clone, Copy, Debug, PartialEq, Eq)]
+pub enum ZonePlace {
+    Global,
+    Zone(usize),
+}
+
+/// The presets of a bank, or its instruments, in order. How their zones are kept is its own affair: it
+/// lends no zone, but what one holds.
+#[derive(Drop)]
+pub struct Owners<H> {
+    list: NumberedList<WithZones<H>>,
+}
+
+impl<H> Model for Owners<H> {
+    ghost use Rattle.std.specs.Prelude.{List};
+    ghost use Rattle.bank_parts.specs.declared.parts.WithZones.{WithZones};
+    ghost use Rattle.generators.specs.contracts.gen_map.GenMap as gens;
+    ghost use Rattle.std.specs.Coded.{codes};
+
+    ghost Value = { List (WithZones H) };
+
+    ghost coded = { Prim.hlevel (codes, gens.the_row.coded) };
+
+    ghost view = { λ owners. owners.list };
+}
+
+impl<H> Owners<H> {
+    /// None. Takes no memory.
+    pub fn new(alloc: Global) -> Owners<H>
+        ensures { result ≡ [] }
+    {
+        Owners {
+            list: NumberedList::new(alloc),
+        }
+    }
+
+    /// None, with room for so many.
+    pub fn with_capacity(alloc: Global, count: usize) -> Result<Owners<H>, OutOfMemory>
+        ensures { IfOk result (λ owners. owners ≡ []) }
+    {
+        Ok(Owners {
+            list: NumberedList::from_vec(Vec::with_capacity(alloc, count)?),
+        })
+    }
+
+    /// How many there are.
+    pub fn len(&self) -> usize
+        ensures { result ≡ length self.now }
+    {
+        self.list.len()
+    }
+
+    /// Whether number `i` is there and has this place.
+    pub fn has_place(&self, i: usize, place: ZonePlace) -> bool
+        ensures { IsTrue result ↔ HasPlace self.now i place }
+    {
+        match place {
+            ZonePlace::Global => i < self.len(),
+            ZonePlace::Zone(k) => i < self.len() && k < self.zone_count(i),
+        }
+    }
+
+    /// Whether a zone of any of them has this number as its target.
+    pub fn any_targets(&self, number: u32) -> bool
+        ensures { result ≡ list_any (targets number) self.now }
+    {
+        self.list.as_slice().iter().any(|x| targets(number, x))
+    }
+
+    /// What number `i`, which is there, has besides its zones.
+    pub fn head(&self, i: usize) -> &H
+        requires { i < length self.now }
+        ensures { head_at self.now i ≡ Some result.now }
+    {
+        &self.list.member(i).head
+    }
+
+    /// How many zones number `i`, which is there, has, the global zone not counted.
+    pub fn zone_count(&self, i: usize) -> usize
+        requires { i < length self.now }
+        ensures { zone_count_at self.now i ≡ Some result }
+    {
+        self.list.member(i).zones.len()
+    }
+
+    /// The target of zone `k` of number `i`, both of which are there: the number of an instrument, or of
+    /// a sample.
+    pub fn target(&self, i: usize, k: usize) -> u16
+        requires { HasPlace self.now i (place.Zone k) }
+        ensures { target_at self.now i k ≡ Some result }
+    {
+        self.zone(i, k).target
+    }
+
+    /// The generators of a place of number `i`, both of which are there: each operator with its word, in
+    /// the order in which a file has them.
+    pub fn entries(&self, i: usize, place: ZonePlace) -> &[(u16, u16)]
+        requires { HasPlace self.now i place }
+        ensures value { entries_at self.now i place ≡ Some result.now }
+        ensures fits { IfSome (gens_at self.now i place) FitGens }
+    {
+        match place {
+            ZonePlace::Global => self.list.member(i).global.gens.entries(),
+            ZonePlace::Zone(k) => self.zone(i, k).gens.entries(),
+        }
+    }
+
+    /// How many generators a place of number `i` has, both of which are there; the target is none.
+    pub fn gen_count(&self, i: usize, place: ZonePlace) -> usize
+        requires { HasPlace self.now i place }
+        ensures { option_map len (gens_at self.now i place) ≡ Some result }
+    {
+        match place {
+            ZonePlace::Global => self.list.member(i).global.gens.len(),
+            ZonePlace::Zone(k) => self.zone(i, k).gens.len(),
+        }
+    }
+
+    /// How many modulators a place of number `i` has, both of which are there.
+    pub fn mod_count(&self, i: usize, place: ZonePlace) -> usize
+        requires { HasPlace self.now i place }
+        ensures { option_map length (mods_at self.now i place) ≡ Some result }
+    {
+        match place {
+            ZonePlace::Global => self.list.member(i).global.mods.len(),
+            ZonePlace::Zone(k) => self.zone(i, k).mods.len(),
+        }
+    }
+
+    /// The modulators of a place of number `i`, both of which are there, in order.
+    pub fn mods(&self, i: usize, place: ZonePlace) -> &[Modulator]
+        requires { HasPlace self.now i place }
+        ensures { mods_at self.now i place ≡ Some result.now }
+    {
+        match place {
+            ZonePlace::Global => self.list.member(i).global.mods.as_slice(),
+            ZonePlace::Zone(k) => self.zone(i, k).mods.as_slice(),
+        }
+    }
+
+    /// The word of an operator in a place of number `i`, both of which are there; none where it is not
+    /// set.
+    pub fn word(&self, i: usize, place: ZonePlace, operator: u16) -> Option<u16>
+        requires { HasPlace self.now i place }
+        ensures { IfSome (gens_at self.now i place) (λ gens. result ≡ get gens operator) }
+    {
+        match place {
+            ZonePlace::Global => self.list.member(i).global.gens.get(operator),
+            ZonePlace::Zone(k) => self.zone(i, k).gens.get(operator),
+        }
+    }
+
+    // For what is said of all of them.
+    pub(crate) fn as_slice(&self) -> &[WithZones<H>]
+        ensures { result.now ≡ self.now }
+    {
+        self.list.as_slice()
+    }
+
+    fn zone(&self, i: usize, k: usize) -> &Zone
+        requires { HasPlace self.now i (place.Zone k) }
+        ensures { zone_at self.now i k ≡ Some result.now }
+    {
+        self.list.member(i).zones.member(k)
+    }
+}
+
+fn targets<H>(number: u32, owner: &WithZones<H>) -> bool
+    ensures { result ≡ targets number owner.now }
+{
+    owner
+        .zones
+        .as_slice()
+        .iter()
+        .any(|zone| u32::from(zone.target) == number)
+}
+
+impl<H: Drop> Owners<H> {
+    /// Puts one behind the others. For want of memory the list stays as it is.
+    pub fn push(&mut self, owner: WithZones<H>) -> Result<(), OutOfMemory>
+        ensures ok { OnOk result (self.new ≡ self.old ++ owner ∷ []) }
+        ensures err { OnErr result (self.new ≡ self.old) }
+    {
+        self.list.push(owner).map_err(|_| OutOfMemory)
+    }
+}
+
+impl<H: Copy> Owners<H> {
+    /// Equal ones in memory of their own.
+    pub fn copy(&self, alloc: Global) -> Result<Owners<H>, OutOfMemory>
+        ensures { IfOk result (λ copy. copy ≡ self.now) }
+    {
+        Ok(Owners {
+            list: copy_list(alloc, &self.list)?,
+        })
+    }
+}
+
+/// Presets hold the numbers of their zones' targets, and so do instruments.
+impl<H> Renumber for Owners<H> {
+    ghost use Rattle.std.specs.Prelude.{map, All};
+    ghost use Rattle.bank_parts.specs.Renumbered.{owner_renumbered, CanRenumberOwner};
+
+    ghost can_renumber = { λ by owners. All (CanRenumberOwner by) owners };
+
+    ghost with_new_numbers = { λ by owners. map (owner_renumbered by) owners };
+
+    fn renumber(&mut self, by: Renumbering) {
+        self.list.renumber(by);
+    }
+}
