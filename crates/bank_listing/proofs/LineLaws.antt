@@ -1,42 +1,22 @@
--- How long a line is.
-use Rattle.std.proofs.Common.{◌≡◌, ◌≤◌, ◌<◌, ◌*◌, ◌^◌, ℕ, Bool, true, false, cond, List, [], ◌∷◌, ◌++◌, length, ap, arith}
-use Rattle.std.specs.List.{list_all, flat_map, AllByRecursion}
-use Rattle.std.proofs.lemmas.List.{length-append}
-use Rattle.std.proofs.lemmas.Fmt.{length-decimal-le}
-use Rattle.hex.specs.Hex.{lower_digits}
-use Rattle.hex.proofs.HexLemmas.{length-encode_with}
-use Rattle.sf_base.specs.Names.{IsName}
-use Rattle.edit_script.specs.declared.printing.Piece.{Piece}
-use Rattle.edit_script.specs.declared.printing.Piece.TheVariants.{Number, Word, Name}
-use Rattle.edit_script.specs.Printing.{is_open, hex_literal, name_text, spelled, spaced, line_text}
-use Rattle.edit_script.proofs.PrintLaws.{line_spaced}
-use Rattle.bank_listing.specs.Short.{IsShort}
+-- A line that is put in parts.
+use Rattle.std.proofs.Common.{◌≡◌, ℕ, List, [], ◌∷◌, ◌++◌, ap, ◌∙◌, append_assoc}
+use Rattle.std.specs.List.{flat_map}
+use Rattle.std.proofs.lemmas.List.Concat.{flat_map-append}
+use Rattle.line_tokens.specs.declared.printing.Piece.{Piece}
+use Rattle.line_tokens.specs.Printing.{spaced, line_text}
+use Rattle.line_tokens.proofs.PrintLaws.{line_spaced}
 
-pub short_number : (n : ℕ) → n < 2 ^ 64 → IsShort (Number n)
-unfolding spelled
-short_number n h = let a = length-decimal-le 20 n (omega arith) (omega arith) (omega arith) in omega (arith, a)
+-- the pieces in three parts
+pub line_parts : (w : List ℕ) (a b c : List Piece) → line_text w (a ++ (b ++ c)) ≡ w ++ (flat_map spaced a ++ (flat_map spaced b ++ (flat_map spaced c ++ 10 ∷ [])))
+line_parts w a b c =
+    let x = flat_map spaced a in
+    let y = flat_map spaced b in
+    let z = flat_map spaced c in
+    line_spaced w (a ++ (b ++ c))
+    ∙ ap (λ (t : List ℕ). (w ++ t) ++ 10 ∷ []) (flat_map-append spaced a (b ++ c) ∙ ap (λ (t : List ℕ). x ++ t) (flat_map-append spaced b c))
+    ∙ append_assoc w (x ++ (y ++ z)) (10 ∷ [])
+    ∙ ap (λ (t : List ℕ). w ++ t) (append_assoc x (y ++ z) (10 ∷ []) ∙ ap (λ (t : List ℕ). x ++ t) (append_assoc y z (10 ∷ [])))
 
-pub short_word : (w : List ℕ) → length w ≤ 41 → IsShort (Word w)
-unfolding spelled
-short_word w h = h
-
-pub short_name : (n : List ℕ) → IsName n → IsShort (Name n)
-unfolding spelled name_text
-short_name n h = from (list_all is_open n)
-  where
-    from : (t : Bool) → length (cond t (34 ∷ n ++ 34 ∷ []) (hex_literal n)) ≤ 41
-    from true = let a = h.0 in omega (arith, a, length-append n (34 ∷ []))
-    from false = let a = h.0 in omega (arith, a, length-encode_with lower_digits n)
-
-short_pieces : (ps : List Piece) → AllByRecursion IsShort ps → length (flat_map spaced ps) ≤ 42 * length ps
-short_pieces [] h = omega arith
-short_pieces (p ∷ ps) h =
-    let a = h.0 in
-    let b = short_pieces ps h.1 in
-    omega (arith, a, b, length-append (spaced p) (flat_map spaced ps))
-
-pub short_line : (w : List ℕ) (ps : List Piece) → length w ≤ 40 → length ps ≤ 20 → AllByRecursion IsShort ps → length (line_text w ps) ≤ 1000
-short_line w ps k n h =
-    let a = short_pieces ps h in
-    let e : length (line_text w ps) ≡ length (w ++ flat_map spaced ps ++ 10 ∷ []) = ap length (line_spaced w ps) in
-    omega (arith, a, e, k, n, length-append (w ++ flat_map spaced ps) (10 ∷ []), length-append w (flat_map spaced ps))
+-- pieces in three parts, with no word before them and nothing behind
+pub pieces_parts : (a b c : List Piece) → flat_map spaced (a ++ (b ++ c)) ≡ flat_map spaced a ++ (flat_map spaced b ++ flat_map spaced c)
+pieces_parts a b c = flat_map-append spaced a (b ++ c) ∙ ap (λ (t : List ℕ). flat_map spaced a ++ t) (flat_map-append spaced b c)

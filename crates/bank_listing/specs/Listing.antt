@@ -1,16 +1,14 @@
 -- What is told of a bank: a line of its own, one of the counts of reading it, and one of each member.
-use Rattle.std.specs.Prelude.{ℕ, suc, List, [], ◌∷◌, ◌++◌, length, sum_by, codes, Option, Some, None}
-use Rattle.std.specs.Fmt.{signed_decimal}
-use Rattle.bank_parts.specs.declared.parts.Kind.{Kind}
-use Rattle.bank_parts.specs.declared.parts.Kind.TheVariants.{Mono, Right, Left, Linked}
+use Rattle.std.specs.Prelude.{ℕ, suc, List, [], ◌∷◌, ◌++◌, length, sum_by, codes}
 use Rattle.bank_parts.specs.declared.parts.Preset.{Preset}
 use Rattle.bank_parts.specs.declared.parts.Instrument.{Instrument}
 use Rattle.bank_parts.specs.declared.parts.Sample.{Sample}
 use Rattle.bank_parts.specs.declared.parts.Parts.{Parts}
 use Rattle.bank_format.specs.declared.fault.Counts.{Counts}
-use Rattle.edit_script.specs.declared.printing.Piece.{Piece}
-use Rattle.edit_script.specs.declared.printing.Piece.TheVariants.{Number, Word, Name}
-use Rattle.edit_script.specs.Printing.{line_text}
+use Rattle.line_tokens.specs.declared.printing.Piece.TheVariants.{Number, Word, Name}
+use Rattle.line_tokens.specs.Printing.{line_text}
+use Rattle.edit_script.specs.Operands.{pieces_of}
+use Rattle.edit_script.specs.Samples.{head_operands}
 
 -- ---- the bank
 
@@ -47,20 +45,9 @@ preset_line n p = line_text (codes "preset") (Number n ∷ Name p.name ∷ Numbe
 unfoldable pub instrument_line : ℕ → Instrument → List ℕ
 instrument_line n i = line_text (codes "inst") (Number n ∷ Name i.name ∷ Number (length i.zones) ∷ [])
 
-abbrev pub kind_pieces : Kind → List Piece
-kind_pieces Mono = Word (codes "mono") ∷ []
-kind_pieces (Right link) = Word (codes "right") ∷ Number link ∷ []
-kind_pieces (Left link) = Word (codes "left") ∷ Number link ∷ []
-kind_pieces (Linked link) = Word (codes "linked") ∷ Number link ∷ []
-
-abbrev pub loop_pieces : Option (ℕ × ℕ) → List Piece
-loop_pieces None = Word (codes "noloop") ∷ []
-loop_pieces (Some looped) = Word (codes "loop") ∷ Number looped.0 ∷ Number looped.1 ∷ []
-
+-- all that a sample has but its points is told as in the edit script
 unfoldable pub sample_line : ℕ → Sample → List ℕ
-sample_line n s = line_text (codes "sample") (
-    Number n ∷ Name s.name ∷ Number s.rate ∷ Number s.key ∷ Word (signed_decimal s.correction)
-    ∷ (kind_pieces s.kind ++ (loop_pieces s.looped ++ Number (length s.points) ∷ [])))
+sample_line n s = line_text (codes "sample") (Number n ∷ (pieces_of (head_operands s) ++ Number (length s.points) ∷ []))
 
 -- a line for each, whose numbers begin at n
 abbrev pub lines_from : {X : Type 0} → (ℕ → X → List ℕ) → ℕ → List X → List ℕ

@@ -6,4 +6,4 @@ mod members;
 mod pieces;
 mod points;
 
-pub use listing::write_listing;
+pub use listing::put_listing;

@@ -15,4 +15,3 @@ pub use finding::{is_whole, list_of};
 pub use first::FirstChunks;
 pub use head::put_head;
 pub use laws::{spelled_chunks_are_found, unpadded_chunks_are_found, walk_is_the_one_list};
-

@@ -8,7 +8,6 @@ mod memory;
 mod name;
 mod numbers;
 mod output;
-mod pen;
 mod slices;
 mod writing;
 
@@ -17,6 +16,5 @@ pub use memory::{Failure, OutOfMemory};
 pub use name::{Name20, NameFault};
 pub use numbers::{i16_at, u16_at, u32_at};
 pub use output::Output;
-pub use pen::Pen;
 pub use slices::{front_of, part_of, rest_from};
-pub use writing::{WriteFault, finish, put_after, put_all};
+pub use writing::{WriteFault, put_all};

@@ -16,7 +16,7 @@ pub struct WriteFault {
 /// Writes `bytes` after `sent` others of a longer text, and gives the number of all that went out.
 /// An error or a `write` that takes no byte is the fault, which counts those others too. There is no
 /// retry. Where the number would pass 2^64, which no writer lives to see, none of `bytes` goes out.
-pub fn put_after<W: Write>(out: &mut W, sent: u64, bytes: &[u8]) -> Result<u64, WriteFault>
+pub(crate) fn put_after<W: Write>(out: &mut W, sent: u64, bytes: &[u8]) -> Result<u64, WriteFault>
     ensures { Sends (W.contents out.old) (W.contents out.new) sent bytes.now result }
 {
     let Some(total) = sent.checked_add(bytes.len() as u64) else {
@@ -46,7 +46,7 @@ pub fn put_all<W: Write>(out: &mut W, text: &[u8]) -> Result<(), WriteFault>
 
 /// Flushes a writer to which the whole text of `sent` bytes went. A flush that fails is a fault
 /// after all of it.
-pub fn finish<W: Write>(out: &mut W, sent: u64) -> Result<(), WriteFault>
+pub(crate) fn finish<W: Write>(out: &mut W, sent: u64) -> Result<(), WriteFault>
     ensures { Finishes (W.contents out.old) (W.contents out.new) sent result }
 {
     match out.flush() {

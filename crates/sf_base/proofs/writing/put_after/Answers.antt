@@ -1,6 +1,6 @@
 use Rattle.std.proofs.Common.{arith}
 use Rattle.std.proofs.lemmas.List.{length-drop, take_rest}
-use Rattle.sf_base.proofs.SendLemmas.{Appends-taken}
+use Rattle.sf_base.proofs.WrittenParts.{Appends-taken}
 use Rattle.sf_base.proofs.writing.put_after.Goals as goal
 
 pub loop-at-preserved : goal.loop-at-preserved

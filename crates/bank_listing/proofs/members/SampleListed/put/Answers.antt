@@ -1,0 +1,20 @@
+use Rattle.std.proofs.Common.{[], ◌∷◌, ◌∙◌, length, ap, sym}
+use Rattle.std.specs.Prelude.{codes}
+use Rattle.std.specs.List.{flat_map}
+use Rattle.sf_base.proofs.OutputLaws.{puts_as, puts_then}
+use Rattle.line_tokens.specs.declared.printing.Piece.TheVariants.{Number}
+use Rattle.line_tokens.specs.Printing.{spaced}
+use Rattle.edit_script.specs.Operands.{pieces_of}
+use Rattle.edit_script.specs.Samples.{head_operands}
+use Rattle.bank_listing.specs.Listing.{sample_line}
+use Rattle.bank_listing.proofs.LineLaws.{line_parts}
+use Rattle.bank_listing.proofs.members.SampleListed.put.Goals as goal
+
+pub returns : goal.returns
+unfolding sample_line
+returns g c =
+    let s = c.args.self.now in
+    let number = puts_as _ _ (ap (λ p. flat_map spaced (p ∷ [])) c.number_piece.ensures) c.put_pieces.ensures in
+    let points = puts_as _ _ (ap (λ p. flat_map spaced (p ∷ [])) (c.number_piece-2.ensures ∙ ap Number c.len.ensures.value)) c.put_pieces-2.ensures in
+    puts_as _ _ (sym (line_parts (codes "sample") (Number c.args.number ∷ []) (pieces_of (head_operands s)) (Number (length s.points) ∷ [])))
+    (puts_then _ _ c.put.ensures (puts_then _ _ number (puts_then _ _ c.put_sample_head.ensures (puts_then _ _ points c.put-2.ensures))))
