@@ -1,7 +1,8 @@
 -- The bags of a level, their three lists, and how long these are.
-use Rattle.std.proofs.Common.{◌≡◌, ◌<◌, ◌+◌, ◌*◌, ℕ, Bool, true, false, cond, eqb, List, [], ◌∷◌, ◌++◌, length, map, get_or, drop, Option, Some, refl, ap, sym, ◌∙◌, append_assoc, arith, eqb-true}
+use Rattle.std.proofs.Common.{◌≡◌, ◌<◌, ◌≤◌, ◌+◌, ◌*◌, ℕ, Bool, true, false, cond, eqb, List, [], ◌∷◌, ◌++◌, length, map, get_or, drop, Option, Some, refl, ap, sym, ◌∙◌, append_assoc, arith, eqb-true}
 use Rattle.std.specs.Prelude.{sum_by}
 use Rattle.std.specs.List.{flat_map}
+use Rattle.std.specs.Option.{option_to_list}
 use Rattle.std.specs.FinMap.{entries, len, len-entries}
 use Rattle.std.proofs.lemmas.List.{length-append, length-map, append-nil, at_drop_more}
 use Rattle.std.proofs.lemmas.List.Concat.{flat_map-append}
@@ -16,13 +17,12 @@ use Rattle.hydra_records.specs.declared.zone.Generator.{Generator}
 use Rattle.hydra_records.specs.Spelling.{bag_bytes, modulator_bytes, generator_bytes}
 use Rattle.bank_parts.specs.declared.parts.GlobalZone.{GlobalZone}
 use Rattle.bank_parts.specs.declared.parts.Zone.{Zone}
-use Rattle.bank_parts.specs.declared.parts.Preset.{Preset}
-use Rattle.bank_parts.specs.declared.parts.Instrument.{Instrument}
+use Rattle.bank_parts.specs.declared.parts.WithZones.{WithZones}
 use Rattle.bank_parts.specs.declared.parts.Parts.{Parts}
-use Rattle.bank_parts.specs.Valid.{zone_count, gen_count, mod_count, IsValid}
+use Rattle.bank_parts.specs.Valid.{zone_count, gen_count, mod_count, owner_total, IsValid}
 use Rattle.bank_format.specs.Zones.{Bagged, generator, gens_written, zone_written, bags_written}
-use Rattle.bank_format.specs.Tables.{bag, bag_list, mod_list, gen_list, modulator_end, generator_end, preset_bags, instrument_bags, all_preset_bags, all_instrument_bags}
-use Rattle.sf_writer.specs.Bags.{target_list, all_gens, all_mods, AreFew, bags_from}
+use Rattle.bank_format.specs.Tables.{bag, bag_list, mod_list, gen_list, modulator_end, generator_end, bags_of, all_bags}
+use Rattle.sf_writer.specs.Bags.{all_gens, all_mods, AreFew, bags_from}
 
 -- ---- one more bag
 
@@ -95,10 +95,10 @@ entries_at es i bytes lt spelled =
     ∙ ap (λ (t : List ℕ). t ++ flat_map generator_bytes (as_generators (drop (i + 1) es))) (sym spelled)
 
 -- the target comes behind them
-pub with_target : (es : List (ℕ × ℕ)) (target : Generator) (bytes : List ℕ) (r : Bagged) (option : Option Generator) → r.gens ≡ as_generators es ++ target_list option → option ≡ Some target → bytes ≡ generator_bytes target
+pub with_target : (es : List (ℕ × ℕ)) (target : Generator) (bytes : List ℕ) (r : Bagged) (option : Option Generator) → r.gens ≡ as_generators es ++ option_to_list option → option ≡ Some target → bytes ≡ generator_bytes target
     → flat_map generator_bytes r.gens ≡ flat_map generator_bytes (as_generators es) ++ bytes
 with_target es target bytes r option e some spelled =
-    ap (flat_map generator_bytes) (e ∙ ap (λ (o : Option Generator). as_generators es ++ target_list o) some)
+    ap (flat_map generator_bytes) (e ∙ ap (λ (o : Option Generator). as_generators es ++ option_to_list o) some)
     ∙ flat_map-append generator_bytes (as_generators es) (target ∷ [])
     ∙ ap (λ (t : List ℕ). flat_map generator_bytes (as_generators es) ++ t) (append-nil (generator_bytes target) ∙ sym spelled)
 
@@ -142,27 +142,7 @@ pub length-gen_list : (bags : List Bagged) → length (flat_map generator_bytes 
 unfolding gen_list
 length-gen_list bags = omega (arith, length-gens (all_gens bags ++ generator_end ∷ []), length-append (all_gens bags) (generator_end ∷ []))
 
--- ---- the bags of one owner
-
--- what is written of one owner, by whether its global zone is empty
-written : (at : Level) (g : GlobalZone) (zs : List Zone) (t : Bool) → t ≡ eqb (len g.gens + length g.mods) 0 → bags_written at g zs ≡ cond t [] (record { gens = gens_written g.gens; mods = g.mods } ∷ []) ++ map (zone_written at) zs
-unfolding bags_written
-written at g zs t e = ap (λ (b : Bool). cond b [] (record { gens = gens_written g.gens; mods = g.mods } ∷ []) ++ map (zone_written at) zs) (sym e)
-
-pub with_global : (at : Level) (g : GlobalZone) (zs : List Zone) (first : Bagged) → false ≡ eqb (len g.gens + length g.mods) 0 → first ≡ record { gens = gens_written g.gens; mods = g.mods }
-    → bags_written at g zs ≡ first ∷ map (zone_written at) zs
-with_global at g zs first e made = written at g zs false e ∙ ap (λ (r : Bagged). r ∷ map (zone_written at) zs) (sym made)
-
-pub without_bags : (at : Level) (g : GlobalZone) (zs : List Zone) → true ≡ eqb (len g.gens + length g.mods) 0 → length zs ≡ 0 → bags_written at g zs ≡ []
-without_bags at g [] e none = written at g [] true e
-without_bags at g (z ∷ zs) e none = absurd (omega (arith, none))
-
-pub without_global : (at : Level) (g : GlobalZone) (all zs : List Zone) (z : Zone) (level : Level) (first : Bagged) → true ≡ eqb (len g.gens + length g.mods) 0 → all ≡ z ∷ zs → level ≡ at → first ≡ zone_written level z
-    → bags_written at g all ≡ first ∷ map (zone_written at) zs
-without_global at g all zs z level first e split same made =
-    written at g all true e
-    ∙ ap (map (zone_written at)) split
-    ∙ ap (λ (r : Bagged). r ∷ map (zone_written at) zs) (ap (λ (l : Level). zone_written l z) (sym same) ∙ sym made)
+-- ---- the bags of one preset or instrument
 
 global_bags : (at : Level) (g : GlobalZone) (zs : List Zone) (t : Bool) → length (cond t [] (record { gens = gens_written g.gens; mods = g.mods } ∷ []) ++ map (zone_written at) zs) ≡ cond t 0 1 + length zs
 global_bags at g zs true = omega (arith, length-map zs (zone_written at))
@@ -209,7 +189,7 @@ mods_written-count : (at : Level) (g : GlobalZone) (zs : List Zone) → length (
 unfolding bags_written
 mods_written-count at g zs = omega (arith, global_mods g (map (zone_written at) zs) (eqb (len g.gens + length g.mods) 0) refl, zone_mods at zs)
 
--- ---- the bags of all owners
+-- ---- the bags of all presets or instruments
 
 module _ (size : List Bagged → ℕ) (none : size [] ≡ 0) (more : (a b : List Bagged) → size (a ++ b) ≡ size a + size b) where
   total : {X : Type 0} (f : X → List Bagged) (n : X → ℕ) → ((x : X) → size (f x) ≡ n x) → (xs : List X) → size (flat_map f xs) ≡ sum_by n xs
@@ -222,24 +202,36 @@ gens-more a b = ap length (flat_map-append (λ (r : Bagged). r.gens) a b) ∙ le
 mods-more : (a b : List Bagged) → length (all_mods (a ++ b)) ≡ length (all_mods a) + length (all_mods b)
 mods-more a b = ap length (flat_map-append (λ (r : Bagged). r.mods) a b) ∙ length-append (all_mods a) (all_mods b)
 
-pub few_preset_bags : (b : Parts) → IsValid b → AreFew (all_preset_bags b)
-few_preset_bags b v =
-    let n = total length refl length-append preset_bags (λ (p : Preset). zone_count p.global p.zones) (λ p. length-bags_written level.Preset p.global p.zones) b.presets in
-    let g = total (λ rs. length (all_gens rs)) refl gens-more preset_bags (λ (p : Preset). gen_count p.global p.zones) (λ p. gens_written-count level.Preset p.global p.zones) b.presets in
-    let m = total (λ rs. length (all_mods rs)) refl mods-more preset_bags (λ (p : Preset). mod_count p.global p.zones) (λ p. mods_written-count level.Preset p.global p.zones) b.presets in
-    let w = v.limits in record {
-      bags = (let h = w.preset_zones in omega (arith, n, h));
-      gens = (let h = w.preset_gens in omega (arith, g, h));
-      mods = (let h = w.preset_mods in omega (arith, m, h));
-    }
+pub length-all_bags : {H : Type 0} (at : Level) (owners : List (WithZones H)) → length (all_bags at owners) ≡ owner_total zone_count owners
+length-all_bags {H} at = total length refl length-append (bags_of at) (λ (x : WithZones H). zone_count x.global x.zones) (λ x. length-bags_written at x.global x.zones)
 
-pub few_instrument_bags : (b : Parts) → IsValid b → AreFew (all_instrument_bags b)
-few_instrument_bags b v =
-    let n = total length refl length-append instrument_bags (λ (i : Instrument). zone_count i.global i.zones) (λ i. length-bags_written level.Instrument i.global i.zones) b.instruments in
-    let g = total (λ rs. length (all_gens rs)) refl gens-more instrument_bags (λ (i : Instrument). gen_count i.global i.zones) (λ i. gens_written-count level.Instrument i.global i.zones) b.instruments in
-    let m = total (λ rs. length (all_mods rs)) refl mods-more instrument_bags (λ (i : Instrument). mod_count i.global i.zones) (λ i. mods_written-count level.Instrument i.global i.zones) b.instruments in
-    let w = v.limits in record {
-      bags = (let h = w.instrument_zones in omega (arith, n, h));
-      gens = (let h = w.instrument_gens in omega (arith, g, h));
-      mods = (let h = w.instrument_mods in omega (arith, m, h));
-    }
+pub length-all_gens : {H : Type 0} (at : Level) (owners : List (WithZones H)) → length (all_gens (all_bags at owners)) ≡ owner_total gen_count owners
+length-all_gens {H} at = total (λ rs. length (all_gens rs)) refl gens-more (bags_of at) (λ (x : WithZones H). gen_count x.global x.zones) (λ x. gens_written-count at x.global x.zones)
+
+pub length-all_mods : {H : Type 0} (at : Level) (owners : List (WithZones H)) → length (all_mods (all_bags at owners)) ≡ owner_total mod_count owners
+length-all_mods {H} at = total (λ rs. length (all_mods rs)) refl mods-more (bags_of at) (λ (x : WithZones H). mod_count x.global x.zones) (λ x. mods_written-count at x.global x.zones)
+
+few_bags : {H : Type 0} (at : Level) (owners : List (WithZones H)) → owner_total zone_count owners ≤ 65535 → owner_total gen_count owners ≤ 65535 → owner_total mod_count owners ≤ 65535 → AreFew (all_bags at owners)
+few_bags at owners zones gens mods = record {
+  bags = omega (arith, length-all_bags at owners, zones);
+  gens = omega (arith, length-all_gens at owners, gens);
+  mods = omega (arith, length-all_mods at owners, mods);
+}
+
+pub few_preset_bags : (b : Parts) → IsValid b → AreFew (all_bags level.Preset b.presets)
+few_preset_bags b v = let w = v.limits in few_bags level.Preset b.presets w.preset_zones w.preset_gens w.preset_mods
+
+pub few_instrument_bags : (b : Parts) → IsValid b → AreFew (all_bags level.Instrument b.instruments)
+few_instrument_bags b v = let w = v.limits in few_bags level.Instrument b.instruments w.instrument_zones w.instrument_gens w.instrument_mods
+
+-- ---- how long the three lists of all are
+
+module _ {H : Type 0} (at : Level) (owners : List (WithZones H)) where
+  pub bag_records-length : length (flat_map bag_bytes (bag_list (all_bags at owners))) ≡ 4 * (owner_total zone_count owners + 1)
+  bag_records-length = omega (arith, length-bag_list (all_bags at owners), length-all_bags at owners)
+
+  pub mod_records-length : length (flat_map modulator_bytes (mod_list (all_bags at owners))) ≡ 10 * (owner_total mod_count owners + 1)
+  mod_records-length = omega (arith, length-mod_list (all_bags at owners), length-all_mods at owners)
+
+  pub gen_records-length : length (flat_map generator_bytes (gen_list (all_bags at owners))) ≡ 4 * (owner_total gen_count owners + 1)
+  gen_records-length = omega (arith, length-gen_list (all_bags at owners), length-all_gens at owners)

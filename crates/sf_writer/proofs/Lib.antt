@@ -3,6 +3,7 @@ pub mod NameLemmas
 pub mod TextLemmas
 pub mod PointLemmas
 pub mod BagLemmas
+pub mod PlaceLemmas
 pub mod ZoneListLemmas
 pub mod OwnerHeadLemmas
 pub mod RecordLemmas

@@ -15,7 +15,7 @@ use Rattle.bank_parts.specs.declared.parts.Sample.{Sample}
 use Rattle.bank_parts.specs.declared.parts.Parts.{Parts}
 use Rattle.bank_parts.specs.Valid.{IsSample, IsValid}
 use Rattle.bank_format.specs.Ids.{PDTA, PHDR, INST, SHDR, EOS}
-use Rattle.bank_format.specs.Tables.{tables_of, sample_end, sample_head, sample_heads_from, all_preset_bags, all_instrument_bags}
+use Rattle.bank_format.specs.Tables.{tables_of, sample_end, sample_head, sample_heads_from, all_bags}
 use Rattle.bank_format.specs.Canon.{pdta}
 use Rattle.sf_writer.specs.Lists.{zone_lists}
 use Rattle.sf_writer.proofs.ChunkLemmas.{length-form-even, length-LIST}
@@ -107,19 +107,19 @@ abbrev inst : Parts → List ℕ
 inst b = chunk INST (flat_map instrument_head_bytes (tables_of b).inst)
 
 abbrev preset_lists : Parts → List ℕ
-preset_lists b = spell (zone_lists level.Preset (all_preset_bags b))
+preset_lists b = spell (zone_lists level.Preset (all_bags level.Preset b.presets))
 
 abbrev instrument_lists : Parts → List ℕ
-instrument_lists b = spell (zone_lists level.Instrument (all_instrument_bags b))
+instrument_lists b = spell (zone_lists level.Instrument (all_bags level.Instrument b.instruments))
 
 pub pdta-is : (b : Parts) → spell (pdta (tables_of b)) ≡ phdr b ++ (preset_lists b ++ (inst b ++ (instrument_lists b ++ chunk SHDR (heads b))))
 unfolding pdta tables_of zone_lists
 pdta-is b =
     let shdr : List Chunk = record { id = SHDR; body = heads b } ∷ [] in
-    let last : spell (zone_lists level.Instrument (all_instrument_bags b) ++ shdr) ≡ instrument_lists b ++ chunk SHDR (heads b) =
-    flat_map-append (λ (c : Chunk). chunk c.id c.body) (zone_lists level.Instrument (all_instrument_bags b)) shdr
+    let last : spell (zone_lists level.Instrument (all_bags level.Instrument b.instruments) ++ shdr) ≡ instrument_lists b ++ chunk SHDR (heads b) =
+    flat_map-append (λ (c : Chunk). chunk c.id c.body) (zone_lists level.Instrument (all_bags level.Instrument b.instruments)) shdr
     ∙ ap (λ (t : List ℕ). instrument_lists b ++ t) (append-nil (chunk SHDR (heads b))) in
-    ap (λ (t : List ℕ). phdr b ++ t) (flat_map-append (λ (c : Chunk). chunk c.id c.body) (zone_lists level.Preset (all_preset_bags b)) (record { id = INST; body = flat_map instrument_head_bytes (tables_of b).inst } ∷ (zone_lists level.Instrument (all_instrument_bags b) ++ shdr)))
+    ap (λ (t : List ℕ). phdr b ++ t) (flat_map-append (λ (c : Chunk). chunk c.id c.body) (zone_lists level.Preset (all_bags level.Preset b.presets)) (record { id = INST; body = flat_map instrument_head_bytes (tables_of b).inst } ∷ (zone_lists level.Instrument (all_bags level.Instrument b.instruments) ++ shdr)))
     ∙ ap (λ (t : List ℕ). phdr b ++ (preset_lists b ++ (inst b ++ t))) last
 
 pub length-pdta : (b : Parts) → length (spell (pdta (tables_of b))) ≡ length (phdr b) + length (preset_lists b) + length (inst b) + length (instrument_lists b) + length (chunk SHDR (heads b))
@@ -140,9 +140,9 @@ pdta-even b =
       arith,
       length-pdta b,
       length-chunk PHDR (flat_map preset_head_bytes (tables_of b).phdr) refl,
-      length_zone_lists level.Preset (all_preset_bags b),
+      length_zone_lists level.Preset (all_bags level.Preset b.presets),
       length-chunk INST (flat_map instrument_head_bytes (tables_of b).inst) refl,
-      length_zone_lists level.Instrument (all_instrument_bags b),
+      length_zone_lists level.Instrument (all_bags level.Instrument b.instruments),
       length-shdr_list b,
     )
 

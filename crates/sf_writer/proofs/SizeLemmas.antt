@@ -1,5 +1,5 @@
 -- What the heads of the file, of its lists and of their chunks say, by what stands in them.
-use Rattle.std.proofs.Common.{◌≡◌, ◌+◌, ℕ, List, ◌++◌, length, refl, arith}
+use Rattle.std.proofs.Common.{◌*◌, ◌≤◌, ◌≡◌, ◌+◌, ℕ, List, ◌++◌, length, refl, arith}
 use Rattle.std.specs.List.{flat_map}
 use Rattle.std.proofs.lemmas.List.{length-append}
 use Rattle.generators.specs.declared.level.Level.{Level}
@@ -9,10 +9,16 @@ use Rattle.riff_chunks.specs.Spelling.{spell}
 use Rattle.riff_chunks.proofs.SpellingLemmas.{length-chunk}
 use Rattle.hydra_records.specs.Spelling.{preset_head_bytes, bag_bytes, modulator_bytes, generator_bytes, instrument_head_bytes, sample_head_bytes}
 use Rattle.bank_parts.specs.declared.parts.Parts.{Parts}
-use Rattle.bank_parts.specs.Valid.{IsValid}
+use Rattle.bank_parts.specs.declared.parts.WithZones.{WithZones}
+use Rattle.bank_parts.specs.declared.totals.Totals.{Totals}
+use Rattle.bank_parts.specs.Limits.{totals_of}
+use Rattle.bank_parts.specs.Valid.{owner_total, zone_count, gen_count, mod_count, IsValid, IsWithin}
+use Rattle.sf_writer.specs.declared.sizes.ZoneSizes.{ZoneSizes}
+use Rattle.sf_writer.specs.Sizes.{AreZoneSizes}
+use Rattle.sf_writer.proofs.BagLemmas.{bag_records-length, mod_records-length, gen_records-length}
 use Rattle.bank_format.specs.Ids.{SFBK, INFO, SDTA, PDTA, PHDR, INST}
 use Rattle.bank_format.specs.Zones.{Bagged}
-use Rattle.bank_format.specs.Tables.{tables_of, bag_list, mod_list, gen_list, all_points, all_preset_bags, all_instrument_bags}
+use Rattle.bank_format.specs.Tables.{tables_of, bag_list, mod_list, gen_list, all_points, all_bags}
 use Rattle.bank_format.specs.Canon.{info, sdta, pdta, lists}
 use Rattle.sf_writer.specs.Lists.{zone_lists}
 use Rattle.sf_writer.proofs.TextLemmas.{length-INFO, length-info_list}
@@ -39,7 +45,7 @@ zone_lists_size : (at : Level) (bags : List Bagged) → length (spell (zone_list
 zone_lists_size at bags = omega (arith, length-zone_chunks at bags, length-bag_chunk at bags, length-mod_chunk at bags, length-gen_chunk at bags)
 
 pub pdta_size : (b : Parts) → IsValid b
-    → length (PDTA ++ spell (pdta (tables_of b))) ≡ 76 + length (flat_map preset_head_bytes (tables_of b).phdr) + zone_records (all_preset_bags b) + length (flat_map instrument_head_bytes (tables_of b).inst) + zone_records (all_instrument_bags b) + length (flat_map sample_head_bytes (tables_of b).shdr)
+    → length (PDTA ++ spell (pdta (tables_of b))) ≡ 76 + length (flat_map preset_head_bytes (tables_of b).phdr) + zone_records (all_bags level.Preset b.presets) + length (flat_map instrument_head_bytes (tables_of b).inst) + zone_records (all_bags level.Instrument b.instruments) + length (flat_map sample_head_bytes (tables_of b).shdr)
 unfolding PHDR INST
 pdta_size b v =
     omega (
@@ -49,10 +55,39 @@ pdta_size b v =
       length-pdta b,
       length-chunk PHDR (flat_map preset_head_bytes (tables_of b).phdr) refl,
       phdr-even b v,
-      zone_lists_size level.Preset (all_preset_bags b),
+      zone_lists_size level.Preset (all_bags level.Preset b.presets),
       length-chunk INST (flat_map instrument_head_bytes (tables_of b).inst) refl,
       inst-even b v,
-      zone_lists_size level.Instrument (all_instrument_bags b),
+      zone_lists_size level.Instrument (all_bags level.Instrument b.instruments),
       length-shdr_list b,
       shdr-even b v,
     )
+
+-- ---- totals, and the records of which they are
+
+module _ (b : Parts) (t : Totals) (is : t ≡ totals_of b) (w : IsWithin b) where
+  pub few_members : (t.presets ≤ 65535) × (t.instruments ≤ 65535) × (t.samples ≤ 65535)
+  unfolding totals_of
+  few_members = rw is (let p = w.presets in omega (arith, p), let i = w.instruments in omega (arith, i), let s = w.samples in omega (arith, s))
+
+  pub few_preset_records : (t.preset_zones ≤ 65535) × (t.preset_mods ≤ 65535) × (t.preset_gens ≤ 65535)
+  unfolding totals_of
+  few_preset_records = rw is (let z = w.preset_zones in omega (arith, z), let m = w.preset_mods in omega (arith, m), let g = w.preset_gens in omega (arith, g))
+
+  pub few_instrument_records : (t.instrument_zones ≤ 65535) × (t.instrument_mods ≤ 65535) × (t.instrument_gens ≤ 65535)
+  unfolding totals_of
+  few_instrument_records = rw is (let z = w.instrument_zones in omega (arith, z), let m = w.instrument_mods in omega (arith, m), let g = w.instrument_gens in omega (arith, g))
+
+  pub few_points : t.points ≤ 500000000
+  unfolding totals_of
+  few_points = rw is (let p = w.points in omega (arith, p))
+
+-- the sizes of the three lists of all presets, or of all instruments
+pub zone_sizes : {H : Type 0} (at : Level) (owners : List (WithZones H)) (zones gens mods : ℕ) (sizes : ZoneSizes)
+    → zones ≡ owner_total zone_count owners → gens ≡ owner_total gen_count owners → mods ≡ owner_total mod_count owners
+    → sizes.bags ≡ 4 * (zones + 1) → sizes.mods ≡ 10 * (mods + 1) → sizes.gens ≡ 4 * (gens + 1) → AreZoneSizes (all_bags at owners) sizes
+zone_sizes at owners zones gens mods sizes z g m bags mods_are gens_are = record {
+  bags = omega (arith, bag_records-length at owners, z, bags);
+  mods = omega (arith, mod_records-length at owners, m, mods_are);
+  gens = omega (arith, gen_records-length at owners, g, gens_are);
+}

@@ -85,5 +85,3 @@ length_zone_lists at bags =
       length-mod_list bags,
       length-gen_list bags,
     )
-
-pub ruleset zone_sizes = (length-bag_list, length-mod_list, length-gen_list)

@@ -1,32 +1,31 @@
 -- The bags of all presets, or of all instruments, and their records.
-use Rattle.std.specs.Prelude.{◌≤◌, ℕ, List, [], ◌∷◌, length, map, flat_map, Option, Some, None}
+use Rattle.std.specs.Prelude.{◌≤◌, ◌+◌, ℕ, List, [], ◌∷◌, ◌++◌, length, map, flat_map, drop, sum_by}
 use Rattle.generators.specs.declared.level.Level.{Level}
-use Rattle.generators.specs.declared.level.Level.TheVariants as level
 use Rattle.modulators.specs.declared.modulator.Modulator.{Modulator}
 use Rattle.hydra_records.specs.declared.zone.Bag.{Bag}
 use Rattle.hydra_records.specs.declared.zone.Generator.{Generator}
+use Rattle.bank_parts.specs.declared.parts.WithZones.{WithZones}
+use Rattle.bank_parts.specs.declared.owners.ZonePlace.{ZonePlace}
+use Rattle.bank_parts.specs.declared.owners.ZonePlace.TheVariants.{Global, Zone}
 use Rattle.bank_format.specs.Windows.{ends, together}
-use Rattle.bank_format.specs.Zones.{Bagged}
-use Rattle.bank_format.specs.Tables.{bag, preset_bags, instrument_bags}
-use Rattle.sf_writer.specs.declared.owners.Owners.{Owners}
-use Rattle.sf_writer.specs.declared.owners.Owners.TheVariants.{Presets, Instruments}
+use Rattle.bank_format.specs.Zones.{Bagged, zone_written}
+use Rattle.bank_format.specs.Tables.{bag, all_bags}
 
-abbrev pub level_of : Owners → Level
-level_of (Presets presets) = level.Preset
-level_of (Instruments instruments) = level.Instrument
+-- the bags from a place of the first of these on
+abbrev pub bags_left : {H : Type 0} → Level → List (WithZones H) → ZonePlace → List Bagged
+bags_left at [] place = []
+bags_left at (x ∷ xs) Global = all_bags at (x ∷ xs)
+bags_left at (x ∷ xs) (Zone k) = map (zone_written at) (drop k x.zones) ++ all_bags at xs
 
-abbrev pub bags_of : Owners → List Bagged
-bags_of (Presets presets) = flat_map preset_bags presets.now
-bags_of (Instruments instruments) = flat_map instrument_bags instruments.now
+-- a preset or an instrument has a place for its global zone, one for each zone, and one behind them
+abbrev pub place_count : {H : Type 0} → List (WithZones H) → ℕ
+place_count owners = sum_by (λ x. length x.zones + 2) owners
 
-abbrev pub owner_count : Owners → ℕ
-owner_count (Presets presets) = length presets.now
-owner_count (Instruments instruments) = length instruments.now
-
--- a target is the last generator of a zone; a global zone has none
-abbrev pub target_list : Option Generator → List Generator
-target_list None = []
-target_list (Some target) = target ∷ []
+-- the places from a place of the first of these on
+abbrev pub places_left : {H : Type 0} → List (WithZones H) → ZonePlace → ℕ
+places_left [] place = 0
+places_left (x ∷ xs) Global = place_count (x ∷ xs)
+places_left (x ∷ xs) (Zone k) = length (drop k x.zones) + 1 + place_count xs
 
 abbrev pub all_gens : List Bagged → List Generator
 all_gens bags = flat_map (λ (r : Bagged). r.gens) bags

@@ -1,12 +1,13 @@
 -- What the heads of the chunks of a bank's file say: the length of each body.
 use Rattle.std.specs.Prelude.{◌≡◌, List, ◌++◌, length, flat_map}
+use Rattle.generators.specs.declared.level.Level.TheVariants as level
 use Rattle.sample_view.specs.Words.{word_bytes}
 use Rattle.riff_chunks.specs.Spelling.{spell}
 use Rattle.hydra_records.specs.Spelling.{preset_head_bytes, bag_bytes, modulator_bytes, generator_bytes, instrument_head_bytes, sample_head_bytes}
 use Rattle.bank_parts.specs.declared.parts.Parts.{Parts}
 use Rattle.bank_format.specs.Ids.{SFBK, INFO, SDTA, PDTA}
 use Rattle.bank_format.specs.Zones.{Bagged}
-use Rattle.bank_format.specs.Tables.{tables_of, bag_list, mod_list, gen_list, all_points, all_preset_bags, all_instrument_bags}
+use Rattle.bank_format.specs.Tables.{tables_of, bag_list, mod_list, gen_list, all_points, all_bags}
 use Rattle.bank_format.specs.Canon.{info, sdta, pdta, lists}
 use Rattle.sf_writer.specs.declared.sizes.Sizes.{Sizes}
 use Rattle.sf_writer.specs.declared.sizes.ZoneSizes.{ZoneSizes}
@@ -25,7 +26,7 @@ pub record AreSizes (b : Parts) (sizes : Sizes) : Type 0 where
   pub smpl : sizes.smpl ≡ length (flat_map word_bytes (all_points b))
   pub pdta : sizes.pdta ≡ length (PDTA ++ spell (pdta (tables_of b)))
   pub phdr : sizes.phdr ≡ length (flat_map preset_head_bytes (tables_of b).phdr)
-  pub presets : AreZoneSizes (all_preset_bags b) sizes.presets
+  pub presets : AreZoneSizes (all_bags level.Preset b.presets) sizes.presets
   pub inst : sizes.inst ≡ length (flat_map instrument_head_bytes (tables_of b).inst)
-  pub instruments : AreZoneSizes (all_instrument_bags b) sizes.instruments
+  pub instruments : AreZoneSizes (all_bags level.Instrument b.instruments) sizes.instruments
   pub shdr : sizes.shdr ≡ length (flat_map sample_head_bytes (tables_of b).shdr)

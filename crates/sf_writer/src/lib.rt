@@ -1,7 +1,7 @@
 //! A bank as its canonical file (SoundFont 2.04, section 4).
 //!
-//! Sizes stand before bodies in such a file, so all of them are counted first, in one pass over the
-//! bank, and then each list is put into an output. It takes no memory: a long run of points goes out as
+//! Sizes stand before bodies in such a file. They follow from the totals that a bank keeps and from the
+//! texts, and then each list is put into an output. It takes no memory: a long run of points goes out as
 //! the slice of the file that it was read from, and records and short runs of points go out together.
 #![tactic(auto)]
 
@@ -10,7 +10,6 @@ mod chunks;
 mod file;
 mod info;
 mod owner_heads;
-mod owners;
 mod points;
 mod records;
 mod sample_heads;

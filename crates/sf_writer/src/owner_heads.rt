@@ -1,68 +1,53 @@
 //! The lists `phdr` and `inst`: the heads of presets and of instruments, which own zones (SoundFont
 //! 2.04, sections 7.2 and 7.6).
-ghost use Rattle.std.specs.Prelude.{◌≡◌, ◌+◌, ◌*◌, ◌<◌, ◌≤◌, ◌^◌, ℕ, length, flat_map, sum_by};
+ghost use Rattle.std.specs.Prelude.{◌≡◌, ◌<◌, ◌≤◌, ◌^◌, length, flat_map};
 ghost use Rattle.sf_base.specs.Output.{Puts};
 ghost use Rattle.hydra_records.specs.Spelling.{preset_head_bytes, instrument_head_bytes};
+ghost use Rattle.bank_parts.specs.Valid.{owner_total, zone_count};
 ghost use Rattle.bank_format.specs.Ids.{PHDR, INST};
-ghost use Rattle.bank_format.specs.Tables.{tables_of};
-ghost use Rattle.sf_writer.specs.Heads.{heads_from};
+ghost use Rattle.bank_format.specs.Tables.{Headers, heads_from, tables_of};
 ghost use Rattle.sf_writer.specs.Lists.{table_bytes};
 
 use crate::bags::bag_count;
 use crate::terminals::{instrument_end, preset_end};
-use bank_core::{Bank, Instrument, Preset};
+use bank_core::Bank;
+use bank_parts::{Head, Owners};
 use hydra_records::{InstrumentHead, PresetHead, Spelled};
 use riff_chunks::put_head;
-use sf_base::Output;
+use sf_base::{Name20, Output};
 use std::io::Write;
 
-/// What owns zones and has a head of `N` bytes: a preset or an instrument.
+/// What a bank keeps of a preset or an instrument besides its zones, which has a record of `N` bytes.
 pub(crate) trait Headed<const N: usize> {
-    /// The record that its head is.
-    type Head: Spelled<N> + Copy;
+    /// The record.
+    type Record: Spelled<N> + Copy;
 
-    /// Its head, by its first bag.
-    ghost head: { ℕ → Self → Self.Head };
+    /// How it is written.
+    ghost headers: { Headers Self Self.Record };
 
-    /// The last record of the list, by the number of all bags.
-    ghost last: { ℕ → Self.Head };
-
-    /// How many bags it has.
-    ghost bag_count: { Self → ℕ };
-
-    /// Its head, whose first bag is `bag`.
-    fn head(&self, bag: u16) -> Self::Head
-        ensures { result ≡ head bag self.now };
+    /// Its record, where its first bag is `bag`.
+    fn record(&self, bag: u16) -> Self::Record
+        ensures { result ≡ headers.written bag self.now };
 
     /// The last record of the list, where there are `bags` bags.
-    fn last(bags: u16) -> Self::Head
-        ensures { result ≡ last bags };
+    fn last(bags: u16) -> Self::Record
+        ensures { result ≡ headers.last bags };
 
-    /// How many bags it has.
-    fn bag_count(&self) -> usize
-        requires { bag_count self.now ≤ 65535 }
-        ensures { result ≡ bag_count self.now };
-
-    /// So that 32 bits hold the size of a list.
+    /// So that an array holds it.
     ghost few_bytes: { N < 2 ^ 16 };
 }
 
-impl Headed<38> for Preset {
-    type Head = PresetHead;
+impl Headed<38> for Head {
+    type Record = PresetHead;
 
     ghost use Rattle.std.proofs.Common.{lit<};
-    ghost use Rattle.bank_parts.specs.Valid.{zone_count};
-    ghost use Rattle.bank_format.specs.Tables.{preset_head, preset_end};
+    ghost use Rattle.bank_format.specs.Tables.{presets};
 
-    ghost head = { preset_head };
-
-    ghost last = { preset_end };
-
-    ghost bag_count = { λ preset. zone_count preset.global preset.zones };
+    ghost headers = { presets };
 
     ghost few_bytes = { lit< tt };
 
-    fn head(&self, bag: u16) -> PresetHead {
+    fn record(&self, bag: u16) -> PresetHead {
         PresetHead {
             name: self.name.filled(),
             number: self.number,
@@ -77,40 +62,27 @@ impl Headed<38> for Preset {
     fn last(bags: u16) -> PresetHead {
         preset_end(bags)
     }
-
-    fn bag_count(&self) -> usize {
-        bag_count(&self.global, self.zones.as_slice())
-    }
 }
 
-impl Headed<22> for Instrument {
-    type Head = InstrumentHead;
+impl Headed<22> for Name20 {
+    type Record = InstrumentHead;
 
     ghost use Rattle.std.proofs.Common.{lit<};
-    ghost use Rattle.bank_parts.specs.Valid.{zone_count};
-    ghost use Rattle.bank_format.specs.Tables.{instrument_head, instrument_end};
+    ghost use Rattle.bank_format.specs.Tables.{instruments};
 
-    ghost head = { instrument_head };
-
-    ghost last = { instrument_end };
-
-    ghost bag_count = { λ instrument. zone_count instrument.global instrument.zones };
+    ghost headers = { instruments };
 
     ghost few_bytes = { lit< tt };
 
-    fn head(&self, bag: u16) -> InstrumentHead {
+    fn record(&self, bag: u16) -> InstrumentHead {
         InstrumentHead {
-            name: self.name.filled(),
+            name: self.filled(),
             bag,
         }
     }
 
     fn last(bags: u16) -> InstrumentHead {
         instrument_end(bags)
-    }
-
-    fn bag_count(&self) -> usize {
-        bag_count(&self.global, self.zones.as_slice())
     }
 }
 
@@ -134,25 +106,17 @@ pub(crate) fn put_inst<W: Write>(output: &mut Output<'_, W>, bank: &Bank<'_>, si
     put_heads(output, bank.instruments());
 }
 
-// How many bytes the heads and the last record have.
-pub(crate) fn heads_size<const N: usize, T: Headed<N>>(owners: &[T]) -> u32
-    requires { length owners.now ≤ 65535 }
-    ensures { result ≡ (length owners.now + 1) * N }
-{
-    ((owners.len() + 1) * N) as u32
-}
-
 // Each head says how many bags stand before those of its owner, and the last one how many there are.
 #[tactic(auto, using(sf_base::proofs::OutputLaws::putting_start))]
-fn put_heads<const N: usize, T: Headed<N>, W: Write>(output: &mut Output<'_, W>, owners: &[T])
-    requires { sum_by T.bag_count owners.now ≤ 65535 }
+fn put_heads<const N: usize, H: Headed<N>, W: Write>(output: &mut Output<'_, W>, owners: &Owners<H>)
+    requires { owner_total zone_count owners.now ≤ 65535 }
     ensures { Puts W.contents output.old output.new
-        (flat_map T.Head.bytes_of (heads_from T.head T.last T.bag_count 0 owners.now)) }
+        (flat_map H.Record.bytes_of (heads_from H.headers 0 owners.now)) }
 {
     let mut bag = 0;
-    for owner in owners {
-        output.put(&owner.head(bag).put());
-        bag += owner.bag_count() as u16;
+    for i in 0..owners.len() {
+        output.put(&owners.head(i).record(bag).put());
+        bag += bag_count(owners, i) as u16;
     }
-    output.put(&T::last(bag).put());
+    output.put(&H::last(bag).put());
 }

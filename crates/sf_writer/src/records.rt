@@ -4,15 +4,12 @@ ghost use Rattle.sf_base.specs.Output.{Puts};
 ghost use Rattle.riff_chunks.specs.Spelling.{spell};
 ghost use Rattle.bank_format.specs.Canon.{pdta};
 ghost use Rattle.bank_format.specs.Ids.{PDTA};
-ghost use Rattle.bank_format.specs.Tables.{tables_of, all_preset_bags, all_instrument_bags};
-ghost use Rattle.generators.specs.declared.level.Level.TheVariants as level;
-ghost use Rattle.sf_writer.specs.Bags.{AreFew, level_of, bags_of};
+ghost use Rattle.bank_format.specs.Tables.{tables_of};
 ghost use Rattle.sf_writer.specs.Lists.{list_bytes};
 ghost use Rattle.sf_writer.specs.Sizes.{AreSizes};
 
 use crate::chunks::put_form_head;
 use crate::owner_heads::{put_inst, put_phdr};
-use crate::owners::Owners;
 use crate::sample_heads::put_shdr;
 use crate::sizes::Sizes;
 use crate::zone_lists::put_zone_lists;
@@ -20,24 +17,6 @@ use bank_core::Bank;
 use riff_chunks::LIST_ID;
 use sf_base::Output;
 use std::io::Write;
-
-// The presets, as what has zones.
-pub(crate) fn presets_of<'a>(bank: &'a Bank<'_>) -> Owners<'a>
-    ensures level { level_of result ≡ level.Preset }
-    ensures bags { bags_of result ≡ all_preset_bags bank.now }
-    ensures few { AreFew (bags_of result) }
-{
-    Owners::Presets(bank.presets())
-}
-
-// The instruments, as what has zones.
-pub(crate) fn instruments_of<'a>(bank: &'a Bank<'_>) -> Owners<'a>
-    ensures level { level_of result ≡ level.Instrument }
-    ensures bags { bags_of result ≡ all_instrument_bags bank.now }
-    ensures few { AreFew (bags_of result) }
-{
-    Owners::Instruments(bank.instruments())
-}
 
 // Puts the list.
 pub(crate) fn put_pdta<W: Write>(output: &mut Output<'_, W>, bank: &Bank<'_>, sizes: Sizes)
@@ -54,8 +33,8 @@ fn put_lists<W: Write>(output: &mut Output<'_, W>, bank: &Bank<'_>, sizes: Sizes
     ensures { Puts W.contents output.old output.new (spell (pdta (tables_of bank.now))) }
 {
     put_phdr(output, bank, sizes.phdr);
-    put_zone_lists(output, presets_of(bank), sizes.presets);
+    put_zone_lists(output, bank.presets(), sizes.presets);
     put_inst(output, bank, sizes.inst);
-    put_zone_lists(output, instruments_of(bank), sizes.instruments);
+    put_zone_lists(output, bank.instruments(), sizes.instruments);
     put_shdr(output, bank, sizes.shdr);
 }

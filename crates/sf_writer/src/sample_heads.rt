@@ -9,21 +9,11 @@ ghost use Rattle.sf_writer.specs.Lists.{table_bytes};
 
 use crate::terminals::sample_end;
 use bank_core::{Bank, Kind, Sample};
-use hydra_records::{Record, SampleHead, Spelled};
+use hydra_records::{SampleHead, Spelled};
 use riff_chunks::put_head;
 use sf_base::Output;
 use sf_base::limits::ZERO_POINTS;
 use std::io::Write;
-
-// How many bytes the heads and the last record have.
-#[tactic(auto, using(crate::proofs::RecordLemmas::length_shdr))]
-pub(crate) fn records_size(bank: &Bank<'_>) -> u32
-    ensures value { result ≡ length (flat_map sample_head_bytes (tables_of bank.now).shdr) }
-    ensures small { result ≤ 46 * 65536 }
-    ensures even { result % 2 ≡ 0 }
-{
-    ((bank.samples().len() + 1) * SampleHead::SIZE) as u32
-}
 
 // Puts the list.
 pub(crate) fn put_shdr<W: Write>(output: &mut Output<'_, W>, bank: &Bank<'_>, size: u32)

@@ -1,21 +1,16 @@
-//! What the heads of chunks say. Sizes stand before bodies in a file, so they are all counted first, in
-//! one pass over the bank.
-ghost use Rattle.std.specs.Prelude.{◌≡◌, ◌+◌, ◌<◌, ◌≤◌, ◌^◌, length};
-ghost use Rattle.bank_parts.specs.Valid.{point_total};
-ghost use Rattle.sf_writer.specs.Bags.{AreFew, bags_of};
-ghost use Rattle.sf_writer.specs.Sizes.{AreSizes, AreZoneSizes};
+//! What the heads of chunks say. Sizes stand before bodies in a file; they follow from the totals that
+//! a bank keeps, and from its texts.
+ghost use Rattle.std.specs.Prelude.{◌≡◌, ◌+◌, ◌*◌, ◌<◌, ◌≤◌, ◌^◌};
+ghost use Rattle.bank_parts.specs.Limits.{totals_of};
+ghost use Rattle.bank_parts.specs.Valid.{IsValid};
+ghost use Rattle.sf_writer.specs.Sizes.{AreSizes};
 
-use crate::bags::Bags;
 use crate::chunks::{FORM_SIZE, HEAD_SIZE};
 use crate::info::chunks_size;
-use crate::owner_heads::heads_size;
-use crate::owners::Owners;
-use crate::records::{instruments_of, presets_of};
-use crate::sample_heads::records_size;
-use bank_core::{Bank, Sample};
-use hydra_records::{Bag, Generator, Record};
+use bank_core::Bank;
+use bank_parts::Totals;
+use hydra_records::{Bag, Generator, InstrumentHead, PresetHead, Record, SampleHead};
 use modulators::Modulator;
-use sf_base::limits::ZERO_POINTS;
 
 /// The sizes of the chunks of a bank's file, each that of the body, with the form of a list.
 #[derive(Clone, Copy)]
@@ -45,14 +40,19 @@ impl Sizes {
     pub(crate) fn of(bank: &Bank<'_>) -> Sizes
         ensures { AreSizes bank.now result }
     {
+        let totals = file_totals(bank);
         let info = FORM_SIZE + chunks_size(bank);
-        let smpl = 2 * point_count(bank);
+        let smpl = 2 * totals.points as u32;
         let sdta = FORM_SIZE + HEAD_SIZE + smpl;
-        let phdr = heads_size(bank.presets());
-        let presets = ZoneSizes::of(presets_of(bank));
-        let inst = heads_size(bank.instruments());
-        let instruments = ZoneSizes::of(instruments_of(bank));
-        let shdr = records_size(bank);
+        let phdr = list_size(totals.presets, PresetHead::SIZE);
+        let presets = ZoneSizes::of(totals.preset_zones, totals.preset_mods, totals.preset_gens);
+        let inst = list_size(totals.instruments, InstrumentHead::SIZE);
+        let instruments = ZoneSizes::of(
+            totals.instrument_zones,
+            totals.instrument_mods,
+            totals.instrument_gens,
+        );
+        let shdr = list_size(totals.samples, SampleHead::SIZE);
         let heads = phdr + inst + shdr;
         let pdta = FORM_SIZE + 9 * HEAD_SIZE + heads + presets.total() + instruments.total();
         Sizes {
@@ -71,26 +71,17 @@ impl Sizes {
 }
 
 impl ZoneSizes {
-    // The sizes of the lists of the bags of these.
-    #[tactic(auto, using(crate::proofs::ZoneListLemmas::zone_sizes))]
-    fn of(owners: Owners<'_>) -> ZoneSizes
-        requires { AreFew (bags_of owners) }
-        ensures sizes { AreZoneSizes (bags_of owners.entry) result }
-        ensures small { (result.bags < 2 ^ 20) × (result.mods < 2 ^ 20) × (result.gens < 2 ^ 20) }
+    // The sizes of the lists of so many bags, modulators and generators.
+    fn of(bags: usize, mods: usize, gens: usize) -> ZoneSizes
+        requires few { (bags ≤ 65535) × (mods ≤ 65535) × (gens ≤ 65535) }
+        ensures bags { result.bags ≡ 4 * (bags + 1) }
+        ensures mods { result.mods ≡ 10 * (mods + 1) }
+        ensures gens { result.gens ≡ 4 * (gens + 1) }
     {
-        let mut bags = 0;
-        let mut mods = 0;
-        let mut gens = 0;
-        for bag in Bags::of(owners) {
-            bags += 1;
-            mods += bag.mods().len() as u32;
-            gens += bag.gen_count() as u32;
-        }
-        // Each list has a last record that ends it.
         ZoneSizes {
-            bags: (bags + 1) * Bag::SIZE as u32,
-            mods: (mods + 1) * Modulator::SIZE as u32,
-            gens: (gens + 1) * Generator::SIZE as u32,
+            bags: list_size(bags, Bag::SIZE),
+            mods: list_size(mods, Modulator::SIZE),
+            gens: list_size(gens, Generator::SIZE),
         }
     }
 
@@ -103,15 +94,23 @@ impl ZoneSizes {
     }
 }
 
-// How many points all samples have, the zero points after each counted.
-fn point_count(bank: &Bank<'_>) -> u32
-    ensures value { result ≡ point_total bank.now.samples }
-    ensures small { result ≤ 500000000 }
+// How long the lists are: each index in them is of 16 bits.
+fn file_totals(bank: &Bank<'_>) -> Totals
+    ensures value { result ≡ totals_of bank.now }
+    ensures valid { IsValid bank.now }
+    ensures members { (result.presets ≤ 65535) × (result.instruments ≤ 65535) × (result.samples ≤ 65535) }
+    ensures presets { (result.preset_zones ≤ 65535) × (result.preset_mods ≤ 65535) × (result.preset_gens ≤ 65535) }
+    ensures instruments { (result.instrument_zones ≤ 65535) × (result.instrument_mods ≤ 65535) × (result.instrument_gens ≤ 65535) }
+    ensures points { result.points ≤ 500000000 }
 {
-    let samples = bank.samples();
-    let mut count = 0;
-    for sample in samples {
-        count += (sample.points.len() + ZERO_POINTS) as u32;
-    }
-    count
+    bank.totals()
+}
+
+// The size of a list of so many records, and of the last record, which ends it.
+fn list_size(count: usize, size: usize) -> u32
+    requires count { count ≤ 65535 }
+    requires size { size < 2 ^ 16 }
+    ensures { result ≡ (count + 1) * size }
+{
+    ((count + 1) * size) as u32
 }

@@ -5,15 +5,15 @@ ghost use Rattle.sf_base.specs.Output.{Puts};
 ghost use Rattle.riff_chunks.specs.Spelling.{spell};
 ghost use Rattle.hydra_records.specs.Spelling.{bag_bytes, modulator_bytes, generator_bytes};
 ghost use Rattle.bank_format.specs.Zones.{generator};
-ghost use Rattle.bank_format.specs.Tables.{bag_list, mod_list, gen_list};
-ghost use Rattle.sf_writer.specs.Bags.{AreFew, level_of, bags_of};
+ghost use Rattle.bank_format.specs.Tables.{bag_list, mod_list, gen_list, all_bags};
+ghost use Rattle.sf_writer.specs.Bags.{AreFew};
 ghost use Rattle.sf_writer.specs.Lists.{bag_id, mod_id, gen_id, table_bytes, zone_lists};
 ghost use Rattle.sf_writer.specs.Sizes.{AreZoneSizes};
 
 use crate::bags::{BagView, Bags};
-use crate::owners::Owners;
 use crate::sizes::ZoneSizes;
 use crate::terminals::{generator_end, modulator_end};
+use bank_parts::{OwnerHead, Owners};
 use generators::Level;
 use hydra_records::{Bag, Generator, Spelled};
 use modulators::Modulator;
@@ -22,15 +22,15 @@ use sf_base::Output;
 use std::io::Write;
 
 // Puts the three lists.
-pub(crate) fn put_zone_lists<W: Write>(
+pub(crate) fn put_zone_lists<H: OwnerHead, W: Write>(
     output: &mut Output<'_, W>,
-    owners: Owners<'_>,
+    owners: &Owners<H>,
     sizes: ZoneSizes,
 )
-    requires few { AreFew (bags_of owners) }
-    requires sizes { AreZoneSizes (bags_of owners) sizes }
+    requires few { AreFew (all_bags H.LEVEL owners.now) }
+    requires sizes { AreZoneSizes (all_bags H.LEVEL owners.now) sizes }
     ensures { Puts W.contents output.old output.new
-        (spell (zone_lists (level_of owners.entry) (bags_of owners.entry))) }
+        (spell (zone_lists H.LEVEL (all_bags H.LEVEL owners.now))) }
 {
     put_bags(output, owners, sizes.bags);
     put_mods(output, owners, sizes.mods);
@@ -40,20 +40,20 @@ pub(crate) fn put_zone_lists<W: Write>(
 // ---- bags
 
 // Puts the list of bags, whose records have `size` bytes.
-fn put_bags<W: Write>(output: &mut Output<'_, W>, owners: Owners<'_>, size: u32)
-    requires few { AreFew (bags_of owners) }
-    requires size { size ≡ length (flat_map bag_bytes (bag_list (bags_of owners))) }
+fn put_bags<H: OwnerHead, W: Write>(output: &mut Output<'_, W>, owners: &Owners<H>, size: u32)
+    requires few { AreFew (all_bags H.LEVEL owners.now) }
+    requires size { size ≡ length (flat_map bag_bytes (bag_list (all_bags H.LEVEL owners.now))) }
     ensures { Puts W.contents output.old output.new
-        (table_bytes (bag_id (level_of owners.entry)) bag_bytes (bag_list (bags_of owners.entry))) }
+        (table_bytes (bag_id H.LEVEL) bag_bytes (bag_list (all_bags H.LEVEL owners.now))) }
 {
-    put_head(output, bag_id(owners.level()), size);
+    put_head(output, bag_id(H::LEVEL), size);
     put_bag_records(output, owners);
 }
 
 // Each bag says how many generators and modulators stand before its own.
-fn put_bag_records<W: Write>(output: &mut Output<'_, W>, owners: Owners<'_>)
-    requires { AreFew (bags_of owners) }
-    ensures { Puts W.contents output.old output.new (flat_map bag_bytes (bag_list (bags_of owners.entry))) }
+fn put_bag_records<H: OwnerHead, W: Write>(output: &mut Output<'_, W>, owners: &Owners<H>)
+    requires { AreFew (all_bags H.LEVEL owners.now) }
+    ensures { Puts W.contents output.old output.new (flat_map bag_bytes (bag_list (all_bags H.LEVEL owners.now))) }
 {
     let mut gens = 0;
     let mut mods = 0;
@@ -68,18 +68,18 @@ fn put_bag_records<W: Write>(output: &mut Output<'_, W>, owners: Owners<'_>)
 // ---- modulators
 
 // Puts the list of modulators, whose records have `size` bytes.
-fn put_mods<W: Write>(output: &mut Output<'_, W>, owners: Owners<'_>, size: u32)
-    requires { size ≡ length (flat_map modulator_bytes (mod_list (bags_of owners))) }
+fn put_mods<H: OwnerHead, W: Write>(output: &mut Output<'_, W>, owners: &Owners<H>, size: u32)
+    requires { size ≡ length (flat_map modulator_bytes (mod_list (all_bags H.LEVEL owners.now))) }
     ensures { Puts W.contents output.old output.new
-        (table_bytes (mod_id (level_of owners.entry)) modulator_bytes (mod_list (bags_of owners.entry))) }
+        (table_bytes (mod_id H.LEVEL) modulator_bytes (mod_list (all_bags H.LEVEL owners.now))) }
 {
-    put_head(output, mod_id(owners.level()), size);
+    put_head(output, mod_id(H::LEVEL), size);
     put_mod_records(output, owners);
 }
 
-fn put_mod_records<W: Write>(output: &mut Output<'_, W>, owners: Owners<'_>)
+fn put_mod_records<H: OwnerHead, W: Write>(output: &mut Output<'_, W>, owners: &Owners<H>)
     ensures { Puts W.contents output.old output.new
-        (flat_map modulator_bytes (mod_list (bags_of owners.entry))) }
+        (flat_map modulator_bytes (mod_list (all_bags H.LEVEL owners.now))) }
 {
     for bag in Bags::of(owners) {
         put_mods_of(output, bag.mods());
@@ -100,18 +100,18 @@ fn put_mods_of<W: Write>(output: &mut Output<'_, W>, mods: &[Modulator])
 // ---- generators
 
 // Puts the list of generators, whose records have `size` bytes.
-fn put_gens<W: Write>(output: &mut Output<'_, W>, owners: Owners<'_>, size: u32)
-    requires { size ≡ length (flat_map generator_bytes (gen_list (bags_of owners))) }
+fn put_gens<H: OwnerHead, W: Write>(output: &mut Output<'_, W>, owners: &Owners<H>, size: u32)
+    requires { size ≡ length (flat_map generator_bytes (gen_list (all_bags H.LEVEL owners.now))) }
     ensures { Puts W.contents output.old output.new
-        (table_bytes (gen_id (level_of owners.entry)) generator_bytes (gen_list (bags_of owners.entry))) }
+        (table_bytes (gen_id H.LEVEL) generator_bytes (gen_list (all_bags H.LEVEL owners.now))) }
 {
-    put_head(output, gen_id(owners.level()), size);
+    put_head(output, gen_id(H::LEVEL), size);
     put_gen_records(output, owners);
 }
 
-fn put_gen_records<W: Write>(output: &mut Output<'_, W>, owners: Owners<'_>)
+fn put_gen_records<H: OwnerHead, W: Write>(output: &mut Output<'_, W>, owners: &Owners<H>)
     ensures { Puts W.contents output.old output.new
-        (flat_map generator_bytes (gen_list (bags_of owners.entry))) }
+        (flat_map generator_bytes (gen_list (all_bags H.LEVEL owners.now))) }
 {
     for bag in Bags::of(owners) {
         put_gens_of(output, &bag);

@@ -1,10 +1,10 @@
-use Rattle.std.proofs.Common.{◌≡◌}
-use Rattle.sf_writer.specs.Bags.{bags_of, owner_count}
+use Rattle.std.proofs.Common.{◌≡◌, drop}
+use Rattle.sf_writer.specs.Bags.{bags_left, places_left}
 use Rattle.sf_writer.proofs.bags.first_bag.Given as goal
 
--- the owners that were passed have no bag
-abbrev pub invariant-loop-owner : goal.invariant-loop-owner
-invariant-loop-owner l = bags_of l.left ≡ bags_of l.fn.owners
+-- the places that were passed have no bag
+abbrev pub invariant-loop-at : goal.invariant-loop-at
+invariant-loop-at g l = bags_left g.H.OwnerHead.LEVEL (drop l.at.owner l.owners) l.at.place ≡ bags_left g.H.OwnerHead.LEVEL (drop l.fn.from.owner l.owners) l.fn.from.place
 
-abbrev pub decreases-loop-owner : goal.decreases-loop-owner
-decreases-loop-owner l = owner_count l.left
+abbrev pub decreases-loop-at : goal.decreases-loop-at
+decreases-loop-at g l = places_left (drop l.at.owner l.owners) l.at.place

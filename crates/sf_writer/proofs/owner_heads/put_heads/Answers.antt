@@ -1,20 +1,27 @@
-use Rattle.std.proofs.Common.{◌+◌, sym, arith}
+use Rattle.std.proofs.Common.{◌+◌, refl, sym, arith}
 use Rattle.sf_base.proofs.OutputLaws.{puts_as, putting_step, putting_last}
-use Rattle.sf_writer.proofs.OwnerHeadLemmas.{heads-next, heads-last, bags-next}
+use Rattle.sf_writer.proofs.OwnerHeadLemmas.{heads-next, heads-last, few_own, few_after}
 use Rattle.sf_writer.proofs.owner_heads.put_heads.Goals as goal
 
-pub loop-owner-preserved : goal.loop-owner-preserved
-loop-owner-preserved g c =
-    let count = c.bag_count.ensures in
-    let room = c.loop-owner.invariant.room in record {
-      putting =
-          putting_step c.put.result _ c.loop-owner.invariant.putting
-          (heads-next _ _ _ _ _ c.loop-owner.owner-index _ (c.loop-owner.bag + c.bag_count.result) _ _ _ c.loop-owner-test.true c.owner-item.is c.head.ensures c.put.ensures (omega (arith, count)))
-          c.put-in-loop-owner.ensures;
-      room = omega (arith, room, count, bags-next g.T.Headed.bag_count _ c.loop-owner.owner-index _ c.loop-owner-test.true c.owner-item.is);
-    }
+pub bag_count-requires-clause-few : goal.bag_count-requires-clause-few
+bag_count-requires-clause-few g c = few_own c.args.owners.now c.loop-i.i c.loop-i.bag (omega arith) c.loop-i.invariant.room
+
+pub overflow_cast-bag : goal.overflow_cast-bag
+overflow_cast-bag g c = let few = few_after c.args.owners.now c.loop-i.i _ (omega arith) c.loop-i.invariant.room _ c.bag_count.ensures in omega (arith, few)
+
+pub overflow_add-bag : goal.overflow_add-bag
+overflow_add-bag g c = let few = few_after c.args.owners.now c.loop-i.i _ (omega arith) c.loop-i.invariant.room _ c.bag_count.ensures in omega (arith, few)
+
+pub loop-i-preserved : goal.loop-i-preserved
+loop-i-preserved g c = record {
+  putting =
+      putting_step c.put.result _ c.loop-i.invariant.putting
+      (heads-next g.H.Record.Spelled.bytes_of g.H.Headed.headers c.args.owners.now c.loop-i.i c.loop-i.bag c.bag_count.result (c.loop-i.bag + c.bag_count.result) c.head.result.now _ _ (omega arith) c.head.ensures c.record.ensures c.put.ensures c.bag_count.ensures refl)
+      c.put-in-loop-i.ensures;
+  room = few_after c.args.owners.now c.loop-i.i c.loop-i.bag (omega arith) c.loop-i.invariant.room _ c.bag_count.ensures;
+}
 
 pub returns : goal.returns
 returns g c =
-    putting_last c.loop-owner.invariant.putting
-    (puts_as _ _ (sym (heads-last _ _ _ _ _ c.loop-owner.owner-index _ _ _ c.loop-owner-test.false c.last.ensures c.put-2.ensures)) c.put-3.ensures)
+    putting_last c.loop-i.invariant.putting
+    (puts_as _ _ (sym (heads-last g.H.Record.Spelled.bytes_of g.H.Headed.headers c.args.owners.now c.loop-i.i c.loop-i.bag _ _ (omega arith) c.last.ensures c.put-2.ensures)) c.put-3.ensures)

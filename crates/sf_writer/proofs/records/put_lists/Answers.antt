@@ -1,11 +1,21 @@
+use Rattle.std.proofs.Common.{ap}
+use Rattle.generators.specs.declared.level.Level.TheVariants as level
 use Rattle.riff_chunks.specs.Spelling.{spell}
+use Rattle.bank_format.specs.Tables.{all_bags}
 use Rattle.sf_base.proofs.OutputLaws.{puts_as, puts_row, puts_then}
 use Rattle.sf_writer.specs.Lists.{zone_lists}
+use Rattle.sf_writer.proofs.BagLemmas.{few_preset_bags, few_instrument_bags}
 use Rattle.sf_writer.proofs.RecordLemmas.{pdta-is}
 use Rattle.sf_writer.proofs.records.put_lists.Goals as goal
 
+pub put_zone_lists-requires-clause-few : goal.put_zone_lists-requires-clause-few
+put_zone_lists-requires-clause-few g c = rw c.presets.ensures.value (few_preset_bags _ c.presets.ensures.valid)
+
+pub put_zone_lists-requires-2-clause-few : goal.put_zone_lists-requires-2-clause-few
+put_zone_lists-requires-2-clause-few g c = rw c.instruments.ensures.value (few_instrument_bags _ c.instruments.ensures.valid)
+
 pub returns : goal.returns
 returns g c =
-    let presets = puts_as _ _ (λ i. spell (zone_lists (c.presets_of.ensures.level i) (c.presets_of.ensures.bags i))) c.put_zone_lists.ensures in
-    let instruments = puts_as _ _ (λ i. spell (zone_lists (c.instruments_of.ensures.level i) (c.instruments_of.ensures.bags i))) c.put_zone_lists-2.ensures in
+    let presets = puts_as _ _ (ap (λ xs. spell (zone_lists level.Preset (all_bags level.Preset xs))) c.presets.ensures.value) c.put_zone_lists.ensures in
+    let instruments = puts_as _ _ (ap (λ xs. spell (zone_lists level.Instrument (all_bags level.Instrument xs))) c.instruments.ensures.value) c.put_zone_lists-2.ensures in
     puts_row _ _ _ (pdta-is c.args.bank.now) c.put_phdr.ensures (puts_then _ _ presets (puts_then _ _ c.put_inst.ensures (puts_then _ _ instruments c.put_shdr.ensures)))

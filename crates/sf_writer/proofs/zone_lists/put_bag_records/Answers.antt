@@ -1,13 +1,14 @@
 use Rattle.std.proofs.Common.{◌≡◌, ◌∙◌, List, length, sym, ap, arith}
 use Rattle.bank_format.specs.Zones.{Bagged}
+use Rattle.bank_format.specs.Tables.{all_bags}
 use Rattle.sf_base.proofs.OutputLaws.{puts_as, putting_from, putting_step, putting_last}
-use Rattle.sf_writer.specs.Bags.{all_gens, all_mods, bags_of}
+use Rattle.sf_writer.specs.Bags.{all_gens, all_mods}
 use Rattle.sf_writer.proofs.BagLemmas.{bags-start, bags-next, bags-last, all_gens-next, all_mods-next}
 use Rattle.sf_writer.proofs.zone_lists.put_bag_records.Goals as goal
 
 pub loop-bag-init : goal.loop-bag-init
 loop-bag-init g c =
-    let all : c.into_iter-bag-iterator.result ≡ bags_of c.args.owners = c.into_iter-bag-iterator.ensures.into_iter_gives ∙ c.of-bag-items.ensures in
+    let all : c.into_iter-bag-iterator.result ≡ all_bags g.H.OwnerHead.LEVEL c.args.owners.now = c.into_iter-bag-iterator.ensures.into_iter_gives ∙ c.of-bag-items.ensures in
     let gens = ap (λ (rs : List Bagged). length (all_gens rs)) all in
     let mods = ap (λ (rs : List Bagged). length (all_mods rs)) all in
     let few = c.requires in record {

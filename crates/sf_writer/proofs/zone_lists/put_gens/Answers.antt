@@ -5,4 +5,4 @@ use Rattle.sf_writer.proofs.ZoneListLemmas.{gens-even}
 use Rattle.sf_writer.proofs.zone_lists.put_gens.Goals as goal
 
 pub returns : goal.returns
-returns g c = put_even _ _ _ _ (c.gen_id.ensures.value ∙ ap gen_id c.level.ensures) (gens-even _) c.requires c.put_head.ensures c.put_gen_records.ensures
+returns g c = put_even _ _ _ _ (c.gen_id.ensures.value ∙ ap gen_id c.LEVEL.ensures) (gens-even _) c.requires c.put_head.ensures c.put_gen_records.ensures

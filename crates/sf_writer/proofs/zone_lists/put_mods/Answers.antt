@@ -5,4 +5,4 @@ use Rattle.sf_writer.proofs.ZoneListLemmas.{mods-even}
 use Rattle.sf_writer.proofs.zone_lists.put_mods.Goals as goal
 
 pub returns : goal.returns
-returns g c = put_even _ _ _ _ (c.mod_id.ensures.value ∙ ap mod_id c.level.ensures) (mods-even _) c.requires c.put_head.ensures c.put_mod_records.ensures
+returns g c = put_even _ _ _ _ (c.mod_id.ensures.value ∙ ap mod_id c.LEVEL.ensures) (mods-even _) c.requires c.put_head.ensures c.put_mod_records.ensures
