@@ -78,7 +78,7 @@ show_runs old new file b counts r reads h = sent_text old new (show_outcome file
 
 -- the empty text is the empty script
 no_lines : script_of [] ≡ Ok []
-no_lines = printed_spell [] (omega arith) tt
+no_lines = printed_spell [] tt
 
 empty_after : (b : Parts) (o : Option ReadFault) → after_reading o (after_script b (Ok [])) ≡ without_undo (after_reading o (Ok (canon b)))
 empty_after b None = refl
