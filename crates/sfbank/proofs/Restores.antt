@@ -1,5 +1,5 @@
 -- A run and the run of its undo text.
-use Rattle.std.proofs.Common.{◌≡◌, ◌<◌, ◌≤◌, ℕ, suc, List, [], ◌∷◌, length, get_or, w8, Fits as InType, Option, Some, None, Result, Ok, refl, sym, ap, ◌∙◌, arith}
+use Rattle.std.proofs.Common.{◌≡◌, ◌<◌, ℕ, suc, List, [], ◌∷◌, get_or, w8, Fits as InType, Option, Some, None, Result, Ok, refl, sym, ap, ◌∙◌, arith}
 use Rattle.std.proofs.lemmas.List.Elements.{All-from_get_or}
 use Rattle.bank_parts.specs.declared.parts.Parts.{Parts}
 use Rattle.bank_parts.specs.Sound.{IsSound}
@@ -12,7 +12,7 @@ use Rattle.bank_format.proofs.RoundTrip.{reads-again}
 use Rattle.bank_format.proofs.ReadValid.{read_valid, read_fits}
 use Rattle.bank_edits.specs.declared.edit.Edit.{Edit}
 use Rattle.bank_edits.specs.declared.cause.Cause.{Cause}
-use Rattle.bank_edits.specs.Edits.{raw, refusal, inverse}
+use Rattle.bank_edits.specs.Edits.{raw, refusal}
 use Rattle.inverse_edits.specs.Runs.{AllTaken, after_all, undo_list}
 use Rattle.inverse_edits.proofs.RunLaw.{all_undone}
 use Rattle.edit_script.specs.declared.parsing.Line.{Line}
