@@ -1,11 +1,9 @@
 -- The raw changes of instruments: each keeps a bank sound, and is taken back.
 use Rattle.std.proofs.Common.{◌≡◌, ◌<◌, ℕ, List, length, refl, ◌∙◌, ap, arith}
 use Rattle.std.proofs.lemmas.List.{length-map}
-use Rattle.std.specs.List.{AllByRecursion}
 use Rattle.sf_base.specs.Names.{IsName}
 use Rattle.numbered_lists.specs.declared.renumbering.Renumbering.TheVariants.{Move}
 use Rattle.numbered_lists.specs.Renumbered.{renumbered}
-use Rattle.numbered_lists.specs.Moved.{moved}
 use Rattle.numbered_lists.proofs.Lists.{length-changed, length-moved, moved-back}
 use Rattle.numbered_lists.proofs.Numbers.{move_below, move_returned}
 use Rattle.generators.specs.declared.level.Level.TheVariants as level
@@ -14,8 +12,8 @@ use Rattle.bank_parts.specs.declared.parts.WithZones.{WithZones}
 use Rattle.bank_parts.specs.declared.parts.Parts.{Parts}
 use Rattle.bank_parts.specs.Owners.{with_head}
 use Rattle.bank_parts.specs.Renumbered.{owner_renumbered}
-use Rattle.bank_parts.specs.Valid.{IsInstrument, IsValid, zone_count, gen_count, mod_count}
-use Rattle.bank_parts.specs.Fits.{Fits, FitsHead, FitsOwner}
+use Rattle.bank_parts.specs.Valid.{IsInstrument, zone_count, gen_count, mod_count}
+use Rattle.bank_parts.specs.Fits.{FitsHead, FitsOwner}
 use Rattle.bank_parts.specs.Sound.{IsSound}
 use Rattle.bank_parts.specs.Limits.{totals_of, broken}
 use Rattle.bank_parts.proofs.LimitLaws.{limits_of, no_limit_of}

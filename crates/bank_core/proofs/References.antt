@@ -4,7 +4,6 @@ use Rattle.std.specs.List.{AllByRecursion, list_any}
 use Rattle.numbered_lists.specs.declared.renumbering.Renumbering.{Renumbering}
 use Rattle.numbered_lists.specs.Renumbered.{renumbered}
 use Rattle.sf_base.specs.Names.{IsName}
-use Rattle.generators.specs.declared.level.Level.{Level}
 use Rattle.generators.specs.declared.level.Level.TheVariants as level
 use Rattle.bank_parts.specs.declared.parts.Kind.{Kind}
 use Rattle.bank_parts.specs.declared.parts.Kind.TheVariants.{Mono, Right, Left, Linked}
@@ -16,8 +15,8 @@ use Rattle.bank_parts.specs.Links.{OfLink}
 use Rattle.bank_parts.specs.Renumbered.{kind_renumbered, sample_renumbered, zone_renumbered, owner_renumbered, samples_renumbered}
 use Rattle.bank_parts.specs.Owners.{targets}
 use Rattle.bank_core.specs.Samples.{links_to, sample_in_use}
-use Rattle.bank_parts.specs.Valid.{IsZone, IsInstrument, IsSample, IsValid}
-use Rattle.bank_parts.specs.Fits.{Fits, FitsSample, FitsOwner, FitsZone}
+use Rattle.bank_parts.specs.Valid.{IsInstrument, IsSample, IsValid}
+use Rattle.bank_parts.specs.Fits.{Fits, FitsSample}
 use Rattle.bank_core.proofs.OwnerReferences.{OfTargets, OfOwners, owners_always, owners_within, owners_valid, owners_fit, owners_back}
 use Rattle.bank_core.proofs.Everywhere.{all_weaker, all_always, all_map, all_sent, all_both, map_kept, map_back, or_left, or_right, or_none, none_passes, passes_none}
 

@@ -1,10 +1,11 @@
 -- The raw changes of samples: each keeps a bank sound, and is taken back.
-use Rattle.std.proofs.Common.{inl, inr, get_or, ◌≡◌, ◌++◌, ◌∷◌, [], Result, Ok, Err, OnOk, ◌<◌, ◌≤◌, ◌+◌, ◌==◌, false, ℕ, List, length, map, insert, remove, slice_get, Some, None, refl, sym, ◌∙◌, ap, subst, arith}
+use Rattle.std.proofs.Common.{get_or, ◌≡◌, ◌++◌, ◌∷◌, [], Result, Ok, Err, OnOk, ◌<◌, ◌≤◌, ◌+◌, ◌^◌, ◌==◌, false, ℕ, List, length, map, insert, remove, slice_get, Some, None, refl, sym, ◌∙◌, ap, subst, arith}
 use Rattle.std.proofs.lemmas.List.{length-map}
 use Rattle.std.proofs.lemmas.List.Edits.{length-insert, length-remove}
 use Rattle.std.proofs.lemmas.List.Sums.{sum_by-insert, sum_by-remove}
 use Rattle.std.proofs.lemmas.Option.{get_or_from_slice_get}
-use Rattle.std.specs.List.{AllByRecursion}
+use Rattle.std.specs.Prelude.{All}
+use Rattle.std.proofs.lemmas.List.Elements.{All-from_recursion}
 use Rattle.sf_base.specs.Names.{IsName}
 use Rattle.numbered_lists.specs.declared.renumbering.Renumbering.TheVariants.{Insertion, Removal, Move}
 use Rattle.numbered_lists.specs.Renumbered.{renumbered}
@@ -21,9 +22,9 @@ use Rattle.bank_parts.specs.Sound.{IsSound}
 use Rattle.bank_core.specs.Samples.{named, sample_in_use, sample_renamed, sample_added, sample_removed, sample_moved}
 use Rattle.bank_parts.specs.Valid.{IsSample, IsValid, point_total}
 use Rattle.bank_parts.specs.Limits.{totals_of, broken, broken_limit, with_sample}
-use Rattle.bank_core.proofs.Everywhere.{all_insert, all_remove}
+use Rattle.bank_core.proofs.Everywhere.{all_weaker, all_insert, all_remove}
 use Rattle.bank_core.proofs.Moves.{all_moved, sum-moved, moved_back-sent}
-use Rattle.bank_core.proofs.References.{fits_refs, OfSampleRefs, refs_weaker, refs_always, refs_within, refs_both, refs_renumbered, samples_valid, instruments_valid, refs_kept, refs_back, unused, not_in_use}
+use Rattle.bank_core.proofs.References.{fits_refs, OfSampleRefs, link_weaker, refs_weaker, refs_always, refs_within, refs_both, refs_renumbered, samples_valid, instruments_valid, refs_kept, refs_back, unused, not_in_use}
 use Rattle.sf_base.specs.declared.limits.TheConstants.{ZERO_POINTS}
 use Rattle.bank_parts.proofs.LimitLaws.{limits_of, no_limit_of}
 use Rattle.bank_core.proofs.Changes.{all_changed, sum-changed}
@@ -269,6 +270,17 @@ module _ (b : Parts) (i j : ℕ) (lt : i < length b.samples) (lu : j < length b.
       fits_refs (Move i j) n (λ x h. let below = move_below i j x n lt lu h in omega (arith, below, few)) (record b { samples = moved b.samples i j })
       (record { minor = f.minor; texts = f.texts; presets = f.presets; instruments = f.instruments; samples = all_moved FitsSample b.samples i j lt f.samples })
       (record { links = all_moved (λ (s : Sample). OfLink (λ x. x < n) s.kind) b.samples i j lt within.links; targets = within.targets })
+
+  -- each link has 16 bits afterwards
+  pub links_fit-moved : IsValid b → All (λ (s : Sample). OfLink (λ x. renumbered (Move i j) x < 2 ^ 16) s.kind) (moved b.samples i j)
+  links_fit-moved v =
+      let n : ℕ = length b.samples in
+      let few = v.limits.samples in
+      let within = refs_within b v in
+      let P : Sample → Type 0 = λ s. OfLink (λ x. renumbered (Move i j) x < 2 ^ 16) s.kind in
+      let fit = all_weaker (λ (s : Sample). OfLink (λ x. x < n) s.kind) P
+      (λ s. link_weaker (λ x. x < n) (λ x. renumbered (Move i j) x < 2 ^ 16) (λ x h. let below = move_below i j x n lt lu h in omega (arith, below, few)) s.kind) b.samples within.links in
+      All-from_recursion P (moved b.samples i j) (all_moved P b.samples i j lt fit)
 
   pub moved_sound : IsSound b → IsSound (sample_moved b i j)
   moved_sound sound = record { valid = moved_valid sound.valid; fits = moved_fits sound.valid sound.fits }

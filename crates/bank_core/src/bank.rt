@@ -12,9 +12,7 @@ ghost use Rattle.bank_core.specs.Faults.{IsPartsFault};
 
 use crate::fault::PartsFault;
 use crate::members::Members;
-use bank_parts::{
-    Head, InfoId, Owners, Parts, Sample, Totals, copy_parts, is_valid, totals_of,
-};
+use bank_parts::{Head, InfoId, Owners, Parts, Sample, Totals, copy_parts, is_valid, totals_of};
 use sf_base::{Failure, Name20, OutOfMemory};
 use std::alloc::Global;
 use std::marker::Model;

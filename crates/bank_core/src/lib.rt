@@ -13,8 +13,8 @@ mod zones;
 
 pub use bank::Bank;
 pub use bank_parts::{
-    GlobalZone, Head, InfoId, Instrument, Kind, Owners, Parts, Preset, Sample, Texts, WithZones, Zone,
-    ZonePlace, is_valid,
+    GlobalZone, Head, InfoId, Instrument, Kind, Owners, Parts, Preset, Sample, Texts, WithZones,
+    Zone, ZonePlace, is_valid,
 };
 pub use fault::PartsFault;
 pub use laws::renaming_keeps_sound;
