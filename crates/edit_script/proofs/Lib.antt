@@ -1,9 +1,7 @@
-pub mod TestLaws
-pub mod LexLaws
-pub mod PoolLaws
-pub mod NameLaws
 pub mod ScriptLaws
-pub mod PrintLaws
+pub mod NameLaws
+pub mod OperandLaws
+pub mod PutLaws
 pub mod SpellLaws
 pub mod ReadLaws
 pub mod LineLaws

@@ -1,415 +1,303 @@
 -- What is read from a text, the text spells.
-use Rattle.std.proofs.Common.{◌≡◌, ◌≤◌, ◌<◌, ◌+◌, ℕ, zero, suc, Bool, true, false, cond, eqb, eqb-true, not, List, [], ◌∷◌, ◌++◌, length, get_or, take, drop, map, codes, Option, Some, None, Result, Ok, Err, refl, sym, ap, subst, ◌∙◌, take-append-drop, append_assoc, arith, inl, inr, ◌⊎◌}
-use Rattle.std.specs.Prelude.{nat_lt, nat_le, ◌&&◌}
-use Rattle.std.specs.List.{list_all, AllByRecursion, position_or_len, prefix_len, before_first, after_first}
+use Rattle.std.proofs.Common.{◌≡◌, ◌≤◌, ◌%◌, ℕ, ℤ, suc, Bool, true, false, cond, eqb, eqb-true, List, [], ◌∷◌, ◌++◌, length, map, codes, Option, Some, None, Result, Ok, Err, refl, sym, ap, subst, ◌∙◌, append_assoc, arith, inl, inr, ◌⊎◌}
+use Rattle.std.specs.List.{AllByRecursion}
 use Rattle.std.specs.Result.{result_and}
 use Rattle.std.specs.Str.{bytes_eq}
-use Rattle.std.proofs.lemmas.Bool.{ltb-true, leb-true, and_parts, and_from}
-use Rattle.std.proofs.lemmas.List.{append-nil}
-use Rattle.std.proofs.lemmas.List.Sums.{split_at_first, passes_at_first}
+use Rattle.std.proofs.lemmas.Bool.{lt-ltb}
+use Rattle.std.proofs.lemmas.List.{append-nil, length-append}
 use Rattle.std.proofs.lemmas.Slice.Eq.{bytes_eq-Decides}
-use Rattle.hex.specs.Hex.{IsBytes, decode_of}
-use Rattle.hex.specs.declared.error.FromHexError.{FromHexError}
-use Rattle.hex.proofs.HexLemmas.{decode_of-ok}
-use Rattle.sf_base.specs.Names.{IsTextByte, IsName}
+use Rattle.sample_view.specs.Words.{words}
+use Rattle.bank_parts.specs.declared.texts.InfoId.{InfoId}
+use Rattle.bank_parts.specs.declared.parts.Kind.{Kind}
+use Rattle.bank_parts.specs.declared.parts.Kind.TheVariants.{Mono, Right, Left, Linked}
+use Rattle.bank_parts.specs.declared.parts.Sample.{Sample}
+use Rattle.bank_edits.specs.declared.edit.Step.{Step}
+use Rattle.bank_edits.specs.declared.edit.Step.TheVariants.{MovePreset, RenameInstrument, MoveInstrument, RenameSample, AddSample, RemoveSample, MoveSample, SetInfo}
 use Rattle.bank_edits.specs.declared.edit.Edit.{Edit}
-use Rattle.bank_edits.specs.declared.edit.Edit.TheVariants.{RenameSample}
-use Rattle.edit_script.specs.declared.tokens.Token.{Token}
-use Rattle.edit_script.specs.declared.tokens.Token.TheVariants.{Plain, Quoted, Broken}
-use Rattle.edit_script.specs.declared.cursor.Said.{Said}
-use Rattle.edit_script.specs.declared.cursor.Said.TheVariants.{Word, Literal, Bad}
-use Rattle.edit_script.specs.declared.cursor.Stop.{Stop}
-use Rattle.edit_script.specs.declared.cursor.Stop.TheVariants as stop
+use Rattle.bank_edits.specs.declared.edit.Edit.TheVariants.{One}
+use Rattle.line_tokens.specs.declared.cursor.Said.{Said}
+use Rattle.line_tokens.specs.declared.cursor.Said.TheVariants.{Word, Literal}
+use Rattle.line_tokens.specs.declared.fault.LineFault.{LineFault}
+use Rattle.line_tokens.specs.declared.fault.LineFault.TheVariants as faults
+use Rattle.line_tokens.specs.Lines.{lines_of}
+use Rattle.line_tokens.specs.Tokens.{tokens_of}
+use Rattle.line_tokens.specs.Said.{said_in, said_lines}
+use Rattle.line_tokens.specs.Parts.{Took, ◌>>=◌, pure, or_fault, word, literal, number, signed, name, ended}
+use Rattle.line_tokens.specs.Pool.{Grown, gather, pool_bytes}
+use Rattle.line_tokens.specs.Spelling.{LineSays}
+use Rattle.line_tokens.proofs.PoolLaws.{through}
+use Rattle.line_tokens.proofs.PieceLaws.{bytes_are}
+use Rattle.line_tokens.proofs.GatherLaws.{gather_none, gather_on}
+use Rattle.line_tokens.proofs.ReadLaws.{AllGood, AllHoldBytes, lines_good, line_shown, tokens_bytes, both, or_fault_is, word_is, literal_is, number_is, signed_is, name_is, ended_is}
 use Rattle.edit_script.specs.declared.forms.Form.{Form}
 use Rattle.edit_script.specs.declared.forms.Form.TheVariants as form
 use Rattle.edit_script.specs.declared.parsing.Line.{Line}
-use Rattle.edit_script.specs.Lines.{lines_of}
-use Rattle.edit_script.specs.Tokens.{is_blank, is_quote, after_blanks, ends_well, Front, quoted_at, plain_at, token_at, and_behind, tokens_of}
-use Rattle.edit_script.specs.Said.{is_plain, is_hex, decoded, said, said_in, said_lines}
-use Rattle.edit_script.specs.Grammar.{Took, Part, and_then, ◌>>=◌, pure, or_fault, edit, word, literal, number, number_of, digits_value, is_digit, is_name, name_of, name, ended, form_of, rename_sample, operands}
-use Rattle.edit_script.specs.Script.{Grown, gather, literal_of, literals_of, edit_of, with_edit, edits_in, pool_bytes, script_of}
-use Rattle.edit_script.specs.Spelling.{not_blank, Shows, is_silent, SaysNothing, Begins, LineSays, Writes, SaysEdit, LinesSay, Spells}
-use Rattle.edit_script.proofs.TestLaws.{front_passes}
-use Rattle.edit_script.proofs.LexLaws.{tokens_once}
-use Rattle.edit_script.proofs.PoolLaws.{through, literals_through, lines_through}
-use Rattle.edit_script.proofs.ScriptLaws.{gather_none, gather_on}
-
--- ---- the first byte behind blanks is no blank
-
-first_stays : (line : List ℕ) (b : ℕ) (rest : List ℕ) → after_blanks line ≡ b ∷ rest → is_blank b ≡ false
-unfolding after_blanks
-first_stays [] b rest e = cc
-first_stays (a ∷ line) b rest e = from (first_stays line b rest) (is_blank a) refl e
-  where
-    from : (drop (prefix_len is_blank line) line ≡ b ∷ rest → is_blank b ≡ false) → (t : Bool) → is_blank a ≡ t → drop (cond t (1 + prefix_len is_blank line) 0) (a ∷ line) ≡ b ∷ rest → is_blank b ≡ false
-    from h true x k = let n : 1 + prefix_len is_blank line ≡ suc (prefix_len is_blank line) = omega arith in h (rw n at k)
-    from h false x k = let same : a ≡ b = cc in ap is_blank (sym same) ∙ x
-
--- the blanks, and what is behind them
-pub record Split (line : List ℕ) : Type 0 where
-  pub blanks : List ℕ
-  pub parts : line ≡ blanks ++ after_blanks line
-  pub blank : list_all is_blank blanks ≡ true
-
-split : (line : List ℕ) → Split line
-unfolding after_blanks
-split line = record {
-  blanks = take (prefix_len is_blank line) line;
-  parts = sym (take-append-drop (prefix_len is_blank line) line);
-  blank = front_passes is_blank line;
-}
-
--- ---- what is no token says nothing
-
-silent : (rest : List ℕ) → token_at rest ≡ None → is_silent rest ≡ true
-unfolding token_at
-silent [] e = refl
-silent (b ∷ rest) e = from (eqb b 35) (is_quote b) e
-  where
-    from : (s t : Bool) → cond s None (cond t (Some (quoted_at rest)) (Some (plain_at b rest))) ≡ None → s ≡ true
-    from true t k = refl
-    from false true k = cc
-    from false false k = cc
-
-no_token : (line : List ℕ) → token_at (after_blanks line) ≡ None → SaysNothing line
-no_token line e =
-    let s = split line in
-    record { blanks = s.blanks; rest = after_blanks line; parts = s.parts; blank = s.blank; silent = silent (after_blanks line) e }
-
--- ---- a token that is well spelled shows what it says
-
-abbrev Good : Said → Type 0
-Good (Word w) = Unit {0}
-Good (Literal bytes) = Unit {0}
-Good Bad = ⊥
-
--- a token, and what shows it
-pub record Shown (rest : List ℕ) (s : Said) (after : List ℕ) : Type 0 where
-  pub token : List ℕ
-  pub parts : rest ≡ token ++ after
-  pub shows : Shows token s
-  pub apart : ends_well after ≡ true
-
-said_quoted : (i : List ℕ) (t : Bool) → list_all is_plain i ≡ t → said (Quoted i) ≡ cond t (Literal i) Bad
-unfolding said
-said_quoted i t e = rw e refl
-
-said_broken : said Broken ≡ Bad
-unfolding said
-said_broken = refl
-
-said_plain : (w : List ℕ) (t : Bool) → is_hex w ≡ t → said (Plain w) ≡ cond t (decoded (decode_of (drop 1 w))) (Word w)
-unfolding said
-said_plain w t e = rw e refl
-
-both_pass : (p q : ℕ → Bool) (xs : List ℕ) → list_all p xs ≡ true → list_all q xs ≡ true → list_all (λ x. p x && q x) xs ≡ true
-both_pass p q [] h k = refl
-both_pass p q (x ∷ xs) h k =
-    let a = and_parts (p x) (list_all p xs) h in
-    let b = and_parts (q x) (list_all q xs) k in
-    and_from (p x && q x) (list_all (λ y. p y && q y) xs) (and_from (p x) (q x) a.0 b.0) (both_pass p q xs a.1 b.1)
-
-quoted_parts : (r : List ℕ) → position_or_len is_quote r < length r → 34 ∷ r ≡ (34 ∷ before_first is_quote r ++ 34 ∷ []) ++ after_first is_quote r
-quoted_parts r lt =
-    let q = eqb-true (get_or r (position_or_len is_quote r) 0) 34 (passes_at_first is_quote r 0 lt) in
-    ap (λ (x : List ℕ). 34 ∷ x)
-    (split_at_first is_quote r 0 lt
-    ∙ ap (λ (b : ℕ). before_first is_quote r ++ (b ∷ after_first is_quote r)) q
-    ∙ sym (append_assoc (before_first is_quote r) (34 ∷ []) (after_first is_quote r)))
-
-quoted_good : (r : List ℕ) (t : Bool) → list_all is_plain (before_first is_quote r) ≡ t → position_or_len is_quote r < length r → ends_well (after_first is_quote r) ≡ true → Good (said (Quoted (before_first is_quote r)))
-    → Shown (34 ∷ r) (said (Quoted (before_first is_quote r))) (after_first is_quote r)
-quoted_good r true e lt w g = record {
-  token = 34 ∷ before_first is_quote r ++ 34 ∷ [];
-  parts = quoted_parts r lt;
-  shows = rw (said_quoted (before_first is_quote r) true e) (inl (refl, both_pass is_plain (λ b. not (is_quote b)) (before_first is_quote r) e (front_passes (λ b. not (is_quote b)) r)));
-  apart = w;
-}
-quoted_good r false e lt w g = absurd (rw (said_quoted (before_first is_quote r) false e) at g)
-
-quoted_shown : (r : List ℕ) (f : Front) → quoted_at r ≡ f → Good (said f.token) → Shown (34 ∷ r) (said f.token) f.after
-unfolding quoted_at
-quoted_shown r f e g = from (nat_lt (position_or_len is_quote r) (length r)) (ends_well (after_first is_quote r)) refl refl e
-  where
-    from : (s t : Bool) → nat_lt (position_or_len is_quote r) (length r) ≡ s → ends_well (after_first is_quote r) ≡ t
-        → cond {A = Front} (s && t) (record { token = Quoted (before_first is_quote r); after = after_first is_quote r }) (record { token = Broken; after = [] }) ≡ f → Shown (34 ∷ r) (said f.token) f.after
-    from true true x y k =
-        subst (λ (h : Front). Shown (34 ∷ r) (said h.token) h.after) k
-        (quoted_good r (list_all is_plain (before_first is_quote r)) refl (ltb-true _ _ x) y (subst (λ (h : Front). Good (said h.token)) (sym k) g))
-    from true false x y k = absurd (rw said_broken at (subst (λ (h : Front). Good (said h.token)) (sym k) g))
-    from false t x y k = absurd (rw said_broken at (subst (λ (h : Front). Good (said h.token)) (sym k) g))
-
-ends_after : (r : List ℕ) → ends_well (drop (position_or_len is_blank r) r) ≡ true
-ends_after [] = refl
-ends_after (b ∷ r) = from (ends_after r) (is_blank b) refl
-  where
-    from : ends_well (drop (position_or_len is_blank r) r) ≡ true → (t : Bool) → is_blank b ≡ t → ends_well (drop (cond (not t) (1 + position_or_len is_blank r) 0) (b ∷ r)) ≡ true
-    from h true e = e
-    from h false e = let n : 1 + position_or_len is_blank r ≡ suc (position_or_len is_blank r) = omega arith in rw n h
-
-digits_shown : (b : ℕ) (w : List ℕ) (d : Result (List ℕ) FromHexError) → b ≡ 120 → decode_of w ≡ d → Good (decoded d) → Shows (b ∷ w) (decoded d)
-digits_shown b w (Ok bytes) x e g = inr (record { digits = w; parts = ap (λ (c : ℕ). c ∷ w) x; value = e })
-digits_shown b w (Err f) x e g = absurd g
-
-plain_shows : (b : ℕ) (w : List ℕ) (t : Bool) → eqb b 120 ≡ t → is_blank b ≡ false → eqb b 35 ≡ false → is_quote b ≡ false → list_all not_blank w ≡ true → Good (said (Plain (b ∷ w))) → Shows (b ∷ w) (said (Plain (b ∷ w)))
-plain_shows b w true e x y z h g =
-    rw (said_plain (b ∷ w) true e) (digits_shown b w (decode_of w) (eqb-true b 120 e) refl (rw (said_plain (b ∷ w) true e) at g))
-plain_shows b w false e x y z h g =
-    rw (said_plain (b ∷ w) false e) (refl, rw (e, x, y, z, h) refl)
-
-plain_shown : (b : ℕ) (r : List ℕ) (f : Front) → is_blank b ≡ false → eqb b 35 ≡ false → is_quote b ≡ false → plain_at b r ≡ f → Good (said f.token) → Shown (b ∷ r) (said f.token) f.after
-unfolding plain_at
-plain_shown b r f x y z e g =
-    subst (λ (h : Front). Shown (b ∷ r) (said h.token) h.after) e (record {
-      token = b ∷ before_first is_blank r;
-      parts = ap (λ (l : List ℕ). b ∷ l) (sym (take-append-drop (position_or_len is_blank r) r));
-      shows = plain_shows b (before_first is_blank r) (eqb b 120) refl x y z (front_passes not_blank r) (subst (λ (h : Front). Good (said h.token)) (sym e) g);
-      apart = ends_after r;
-    })
-
-front_shown : (rest : List ℕ) (f : Front) → ((b : ℕ) (r : List ℕ) → rest ≡ b ∷ r → is_blank b ≡ false) → token_at rest ≡ Some f → Good (said f.token) → Shown rest (said f.token) f.after
-unfolding token_at
-front_shown [] f stays e g = cc
-front_shown (b ∷ r) f stays e g = from (eqb b 35) (is_quote b) refl refl e
-  where
-    from : (s t : Bool) → eqb b 35 ≡ s → is_quote b ≡ t → cond s None (cond t (Some (quoted_at r)) (Some (plain_at b r))) ≡ Some f → Shown (b ∷ r) (said f.token) f.after
-    from true t x y k = cc
-    from false true x y k = let same : quoted_at r ≡ f = cc in rw (eqb-true b 34 y) (quoted_shown r f same g)
-    from false false x y k = let same : plain_at b r ≡ f = cc in plain_shown b r f (stays b r refl) x y same g
-
-begun : (line : List ℕ) (f : Front) → token_at (after_blanks line) ≡ Some f → Good (said f.token) → Begins line (said f.token) f.after
-begun line f e g =
-    let s = split line in
-    let t = front_shown (after_blanks line) f (λ b r k. first_stays line b r k) e g in
-    record { blanks = s.blanks; token = t.token; parts = s.parts ∙ ap (λ (l : List ℕ). s.blanks ++ l) t.parts; blank = s.blank; shows = t.shows; apart = t.apart }
-
--- ---- a line
-
-abbrev AllGood : List Said → Type 0
-AllGood said = AllByRecursion Good said
-
-line_says : (ts : List Token) (line : List ℕ) → tokens_of line ≡ ts → AllGood (map said ts) → LineSays line (map said ts)
-line_says [] line e g = from (token_at (after_blanks line)) refl (sym (tokens_once line) ∙ e)
-  where
-    from : (o : Option Front) → token_at (after_blanks line) ≡ o → and_behind o tokens_of ≡ [] → SaysNothing line
-    from None x k = no_token line x
-    from (Some f) x k = cc
-line_says (t ∷ ts) line e g = from (λ after k. line_says ts after k g.1) (token_at (after_blanks line)) refl (sym (tokens_once line) ∙ e)
-  where
-    from : ((after : List ℕ) → tokens_of after ≡ ts → LineSays after (map said ts)) → (o : Option Front) → token_at (after_blanks line) ≡ o → and_behind o tokens_of ≡ t ∷ ts → LineSays line (map said (t ∷ ts))
-    from more None x k = cc
-    from more (Some f) x k =
-        let token : f.token ≡ t = cc in
-        let after : tokens_of f.after ≡ ts = cc in
-        let good : Good (said f.token) = rw token g.0 in
-        (f.after, subst (λ (u : Token). Begins line (said u) f.after) token (begun line f x good), more f.after after)
-
-pub line_shown : (line : List ℕ) → AllGood (said_in line) → LineSays line (said_in line)
-line_shown line g = line_says (tokens_of line) line refl g
-
--- ---- the literals of a text that has a pool are well spelled
-
-literal_good : (n : ℕ) (s : Said) (pool more : List ℕ) → literal_of n s pool ≡ Ok more → Good s
-unfolding literal_of
-literal_good n (Word w) pool more e = tt
-literal_good n (Literal bytes) pool more e = tt
-literal_good n Bad pool more e = cc
-
-literals_good : (n : ℕ) (said : List Said) (pool more : List ℕ) → literals_of n said pool ≡ Ok more → AllGood said
-literals_good n [] pool more e = tt
-literals_good n (s ∷ said) pool more e =
-    let t = literals_through n s said pool more e in
-    (literal_good n s pool t.between t.first, literals_good n said t.between more t.second)
-
-lines_good : (n : ℕ) (ls : List (List Said)) (pool more : List ℕ) → gather literals_of n ls pool ≡ Ok more → AllByRecursion AllGood ls
-lines_good n [] pool more e = tt
-lines_good n (l ∷ ls) pool more e =
-    let t = lines_through n l ls pool more e in
-    (literals_good n l pool t.between t.first, lines_good (suc n) ls t.between more t.second)
-
--- ---- the literals of a text hold bytes
-
-abbrev HoldsBytes : Said → Type 0
-HoldsBytes (Word w) = Unit {0}
-HoldsBytes (Literal bytes) = IsBytes bytes
-HoldsBytes Bad = Unit {0}
-
-abbrev AllHoldBytes : List Said → Type 0
-AllHoldBytes line = AllByRecursion HoldsBytes line
-
-plain_bytes : (i : List ℕ) → list_all is_plain i ≡ true → IsBytes i
-plain_bytes [] h k = omega arith
-plain_bytes (b ∷ i) h zero = let p = and_parts (is_plain b) (list_all is_plain i) h in let q = and_parts (nat_le 32 b) (nat_le b 126) p.0 in let l = leb-true b 126 q.1 in omega (arith, l)
-plain_bytes (b ∷ i) h (suc k) = plain_bytes i (and_parts (is_plain b) (list_all is_plain i) h).1 k
-
-decoded_bytes : (w : List ℕ) (r : Result (List ℕ) FromHexError) → decode_of w ≡ r → HoldsBytes (decoded r)
-decoded_bytes w (Ok bytes) e = (decode_of-ok w bytes e).3
-decoded_bytes w (Err f) e = tt
-
-said_bytes : (t : Token) → HoldsBytes (said t)
-unfolding said
-said_bytes (Plain w) = from (is_hex w)
-  where
-    from : (b : Bool) → HoldsBytes (cond b (decoded (decode_of (drop 1 w))) (Word w))
-    from true = decoded_bytes (drop 1 w) (decode_of (drop 1 w)) refl
-    from false = tt
-said_bytes (Quoted i) = from (list_all is_plain i) refl
-  where
-    from : (b : Bool) → list_all is_plain i ≡ b → HoldsBytes (cond b (Literal i) Bad)
-    from true e = plain_bytes i e
-    from false e = tt
-said_bytes Broken = tt
-
-tokens_bytes : (ts : List Token) → AllHoldBytes (map said ts)
-tokens_bytes [] = tt
-tokens_bytes (t ∷ ts) = (said_bytes t, tokens_bytes ts)
+use Rattle.edit_script.specs.Operands.{Operand, Fixed, Number, Signed, Name, Text, Points, Says, AllSay}
+use Rattle.edit_script.specs.Names.{named}
+use Rattle.edit_script.specs.Members.{named_operands, moved_operands, renaming, moving}
+use Rattle.edit_script.specs.Samples.{kind_operands, loop_operands, body_operands, kind_behind, kind, loop_behind, looped, points_of, points, sample_of, body, add_sample, remove_sample}
+use Rattle.edit_script.specs.Texts.{id_word, ids, info_id, set_info}
+use Rattle.edit_script.specs.Grammar.{form_word, forms, form_of, operands, operands_read, step, edit}
+use Rattle.edit_script.specs.Script.{is_full, edit_of, with_edit, edits_in, script_of}
+use Rattle.edit_script.specs.Spelling.{SaysEdit, LinesSay, Spells}
+use Rattle.edit_script.proofs.NameLaws.{named_is}
 
 -- ---- parts
 
--- a part went well, and then the next
-record Both {X Y : Type 0} (r : Result (Took X) Stop) (f : X → Part Y) (t : Took Y) : Type 0 where
-  pub first : Took X
-  pub is : r ≡ Ok first
-  pub second : f first.value first.rest ≡ Ok t
+-- a front of the line says this, whatever is said behind it
+record Fronts (line rest : List Said) (os : List Operand) : Type 0 where
+  pub says : (more : List Operand) → AllSay rest more → AllSay line (os ++ more)
+  pub holds : AllHoldBytes rest
 
-both : {X Y : Type 0} (r : Result (Took X) Stop) (f : X → Part Y) (t : Took Y) → and_then r f ≡ Ok t → Both r f t
-both (Ok u) f t e = record { first = u; is = refl; second = e }
-both (Err d) f t e = cc
+front : (line rest : List Said) (s : Said) (o : Operand) → AllHoldBytes line → line ≡ s ∷ rest → Says s o → Fronts line rest (o ∷ [])
+front line rest s o h e says = record {
+  says = λ more k. subst (λ (l : List Said). AllSay l (o ∷ more)) (sym e) (says, k);
+  holds = (let k = subst AllHoldBytes e h in k.1);
+}
 
-or_fault_is : {X : Type 0} (d : Stop) (o : Option X) (line : List Said) (t : Took X) → or_fault d o line ≡ Ok t → (o ≡ Some t.value) × (line ≡ t.rest)
-or_fault_is d None line t e = cc
-or_fault_is d (Some x) line t e = let h : record { value = x; rest = line } ≡ t = cc in (ap (λ (u : Took _). Some u.value) h, ap (λ (u : Took _). u.rest) h)
+then : {line between rest : List Said} (os more : List Operand) → Fronts line between os → Fronts between rest more → Fronts line rest (os ++ more)
+then {line} os more f g = record {
+  says = λ others k. subst (AllSay line) (sym (append_assoc os more others)) (f.says (more ++ others) (g.says others k));
+  holds = g.holds;
+}
 
-word_is : (line : List Said) (t : Took (List ℕ)) → word line ≡ Ok t → line ≡ Word t.value ∷ t.rest
-unfolding word
-word_is [] t e = cc
-word_is (Word w ∷ line) t e = let k : record { value = w; rest = line } ≡ t = cc in ap (λ (u : Took (List ℕ)). Word u.value ∷ u.rest) k
-word_is (Literal bytes ∷ line) t e = cc
-word_is (Bad ∷ line) t e = cc
+word_front : (line : List Said) (t : Took (List ℕ)) → AllHoldBytes line → word line ≡ Ok t → Fronts line t.rest (Fixed t.value ∷ [])
+word_front line t h e = front line t.rest (Word t.value) (Fixed t.value) h (word_is line t e) refl
 
-literal_is : (line : List Said) (t : Took (List ℕ)) → literal line ≡ Ok t → line ≡ Literal t.value ∷ t.rest
-unfolding literal
-literal_is [] t e = cc
-literal_is (Word w ∷ line) t e = cc
-literal_is (Literal bytes ∷ line) t e = let k : record { value = bytes; rest = line } ≡ t = cc in ap (λ (u : Took (List ℕ)). Literal u.value ∷ u.rest) k
-literal_is (Bad ∷ line) t e = cc
+number_front : (limit : ℕ) (line : List Said) (t : Took ℕ) → AllHoldBytes line → number limit line ≡ Ok t → Fronts line t.rest (Number limit t.value ∷ [])
+number_front limit line t h e = let k = number_is limit line t e in front line t.rest (Word k.digits) (Number limit t.value) h k.parts (k.digits, refl, k.writes)
 
-writes : (limit : ℕ) (w : List ℕ) (n : ℕ) → number_of limit w ≡ Some n → Writes limit w n
-unfolding number_of
-writes limit w n e = from (nat_lt 0 (length w)) (nat_le (length w) 10) (list_all is_digit w) (nat_le (digits_value w) limit) refl refl refl refl e
+signed_front : (limit : ℕ) (line : List Said) (t : Took ℤ) → AllHoldBytes line → signed limit line ≡ Ok t → Fronts line t.rest (Signed limit t.value ∷ [])
+signed_front limit line t h e = let k = signed_is limit line t e in front line t.rest (Word k.digits) (Signed limit t.value) h k.parts (k.digits, refl, k.writes)
+
+name_front : (line : List Said) (t : Took (List ℕ)) → AllHoldBytes line → name line ≡ Ok t → Fronts line t.rest (Name t.value ∷ [])
+name_front line t h e = let k = name_is line t h e in front line t.rest (Literal t.value) (Name t.value) h k.0 (refl, k.1)
+
+text_front : (line : List Said) (t : Took (List ℕ)) → AllHoldBytes line → literal line ≡ Ok t → Fronts line t.rest (Text t.value ∷ [])
+text_front line t h e =
+    let k = literal_is line t e in
+    front line t.rest (Literal t.value) (Text t.value) h k (refl, bytes_are t.value (let b = subst AllHoldBytes k h in b.0))
+
+whole_points : (bytes ps : List ℕ) → points_of bytes ≡ Some ps → (length bytes % 2 ≡ 0) × (ps ≡ words bytes)
+unfolding points_of
+whole_points bytes ps e = from (eqb (length bytes % 2) 0) refl e
   where
-    from : (a b c d : Bool) → nat_lt 0 (length w) ≡ a → nat_le (length w) 10 ≡ b → list_all is_digit w ≡ c → nat_le (digits_value w) limit ≡ d → cond (a && b && c && d) (Some (digits_value w)) None ≡ Some n → Writes limit w n
-    from true true true true p q r s h =
-        let k : digits_value w ≡ n = cc in
-        record { some = ltb-true 0 (length w) p; few = leb-true (length w) 10 q; digits = r; value = k; within = subst (λ (m : ℕ). m ≤ limit) k (leb-true (digits_value w) limit s) }
-    from true true true false p q r s h = cc
-    from true true false d p q r s h = cc
-    from true false c d p q r s h = cc
-    from false b c d p q r s h = cc
+    from : (b : Bool) → eqb (length bytes % 2) 0 ≡ b → cond b (Some (words bytes)) None ≡ Some ps → (length bytes % 2 ≡ 0) × (ps ≡ words bytes)
+    from true k h = let same : words bytes ≡ ps = cc in (eqb-true (length bytes % 2) 0 k, sym same)
+    from false k h = cc
 
--- a line that begins with a number
-record Numbered (limit : ℕ) (line : List Said) (t : Took ℕ) : Type 0 where
-  pub digits : List ℕ
-  pub parts : line ≡ Word digits ∷ t.rest
-  pub writes : Writes limit digits t.value
-
-number_is : (limit : ℕ) (line : List Said) (t : Took ℕ) → number limit line ≡ Ok t → Numbered limit line t
-unfolding number
-number_is limit [] t e = cc
-number_is limit (Word w ∷ line) t e =
-    let k = or_fault_is stop.Number (number_of limit w) line t e in
-    record { digits = w; parts = ap (λ (l : List Said). Word w ∷ l) k.1; writes = writes limit w t.value k.0 }
-number_is limit (Literal bytes ∷ line) t e = cc
-number_is limit (Bad ∷ line) t e = cc
-
-text_bytes : (bytes : List ℕ) → list_all (λ b. nat_lt 0 b) bytes ≡ true → IsBytes bytes → AllByRecursion IsTextByte bytes
-text_bytes [] e h = tt
-text_bytes (b ∷ bytes) e h = let p = and_parts (nat_lt 0 b) (list_all (λ c. nat_lt 0 c) bytes) e in ((ltb-true 0 b p.0, h 0), text_bytes bytes p.1 (λ i. h (suc i)))
-
-name_is_name : (bytes n : List ℕ) → IsBytes bytes → name_of bytes ≡ Some n → (bytes ≡ n) × IsName n
-unfolding name_of
-name_is_name bytes n h e = from (is_name bytes) refl e
-  where
-    from : (b : Bool) → is_name bytes ≡ b → cond b (Some bytes) None ≡ Some n → (bytes ≡ n) × IsName n
-    from true i k =
-        let same : bytes ≡ n = cc in
-        let p = and_parts (nat_le (length bytes) 20) (list_all (λ b. nat_lt 0 b) bytes) i in
-        (same, subst IsName same (leb-true (length bytes) 20 p.0, text_bytes bytes p.1 h))
-    from false i k = cc
-
-name_is : (line : List Said) (t : Took (List ℕ)) → AllHoldBytes line → name line ≡ Ok t → (line ≡ Literal t.value ∷ t.rest) × IsName t.value
-unfolding name
-name_is line t h e =
-    let b = both (literal line) (λ bytes. or_fault stop.Literal (name_of bytes)) t e in
+points_front : (line : List Said) (t : Took (List ℕ)) → AllHoldBytes line → points line ≡ Ok t → Fronts line t.rest (Points t.value ∷ [])
+unfolding points
+points_front line t h e =
+    let b = both (literal line) (λ bytes. or_fault faults.Literal (points_of bytes)) t e in
     let l = literal_is line b.first b.is in
-    let o = or_fault_is stop.Literal (name_of b.first.value) b.first.rest t b.second in
-    let bytes : IsBytes b.first.value = (let k = subst AllHoldBytes l h in k.0) in
-    let n = name_is_name b.first.value t.value bytes o.0 in
-    (l ∙ ap (λ (x : List ℕ). Literal x ∷ b.first.rest) n.0 ∙ ap (λ (x : List Said). Literal t.value ∷ x) o.1, n.1)
+    let o = or_fault_is faults.Literal (points_of b.first.value) b.first.rest t b.second in
+    let w = whole_points b.first.value t.value o.0 in
+    let bytes = bytes_are b.first.value (let k = subst AllHoldBytes l h in k.0) in
+    front line t.rest (Literal b.first.value) (Points t.value) h (l ∙ ap (λ (r : List Said). Literal b.first.value ∷ r) o.1) (b.first.value, refl, bytes, w.0, w.1)
 
-ended_is : {X : Type 0} (x : X) (line : List Said) (t : Took X) → ended x line ≡ Ok t → (line ≡ []) × (x ≡ t.value)
-unfolding ended
-ended_is x [] t e = let k : record { value = x; rest = [] } ≡ t = cc in (refl, ap (λ (u : Took _). u.value) k)
-ended_is x (s ∷ line) t e = cc
+-- what takes no token
+made : {X : Type 0} (x : X) (line : List Said) (t : Took X) → pure x line ≡ Ok t → record { value = x; rest = line } ≡ t
+made x line t e = cc
+
+-- ---- samples
+
+link_front : (w : List ℕ) (f : ℕ → Kind) (line : List Said) (t : Took Kind) → ((n : ℕ) → kind_operands (f n) ≡ Fixed w ∷ Number 65535 n ∷ []) → AllHoldBytes line → (number 65535 >>= λ n. pure (f n)) line ≡ Ok t
+    → (before : List Said) → Fronts before line (Fixed w ∷ []) → Fronts before t.rest (kind_operands t.value)
+link_front w f line t is h e before g =
+    let n = both (number 65535 line) (λ n. pure (f n)) t e in
+    let k : record { value = f n.first.value; rest = n.first.rest } ≡ t = made _ n.first.rest t n.second in
+    subst (λ (u : Took Kind). Fronts before u.rest (kind_operands u.value)) k
+    (subst (Fronts before n.first.rest) (sym (is n.first.value)) (then (Fixed w ∷ []) (Number 65535 n.first.value ∷ []) g (number_front 65535 line n.first h n.is)))
+
+kind_front : (line : List Said) (t : Took Kind) → AllHoldBytes line → kind line ≡ Ok t → Fronts line t.rest (kind_operands t.value)
+unfolding kind kind_behind
+kind_front line t h e =
+    let w = both (word line) kind_behind t e in
+    let g = word_front line w.first h w.is in
+    from w.first.value w.first.rest g (bytes_eq w.first.value (codes "mono")) (bytes_eq w.first.value (codes "right")) (bytes_eq w.first.value (codes "left")) (bytes_eq w.first.value (codes "linked")) refl refl refl refl w.second
+  where
+    at : (v c : List ℕ) (rest : List Said) → Fronts line rest (Fixed v ∷ []) → bytes_eq v c ≡ true → Fronts line rest (Fixed c ∷ [])
+    at v c rest g k = subst (λ (x : List ℕ). Fronts line rest (Fixed x ∷ [])) ((bytes_eq-Decides v c).0 k) g
+
+    from : (v : List ℕ) (rest : List Said) → Fronts line rest (Fixed v ∷ []) → (a b c d : Bool) → bytes_eq v (codes "mono") ≡ a → bytes_eq v (codes "right") ≡ b → bytes_eq v (codes "left") ≡ c → bytes_eq v (codes "linked") ≡ d
+        → cond a (pure Mono) (cond b (number 65535 >>= λ n. pure (Right n)) (cond c (number 65535 >>= λ n. pure (Left n)) (cond d (number 65535 >>= λ n. pure (Linked n)) (or_fault faults.Syntax None)))) rest ≡ Ok t → Fronts line t.rest (kind_operands t.value)
+    from v rest g true b c d p q r s k = let same : record { value = Mono; rest = rest } ≡ t = cc in subst (λ (u : Took Kind). Fronts line u.rest (kind_operands u.value)) same (at v (codes "mono") rest g p)
+    from v rest g false true c d p q r s k = link_front (codes "right") (λ n. Right n) rest t (λ n. refl) g.holds k line (at v (codes "right") rest g q)
+    from v rest g false false true d p q r s k = link_front (codes "left") (λ n. Left n) rest t (λ n. refl) g.holds k line (at v (codes "left") rest g r)
+    from v rest g false false false true p q r s k = link_front (codes "linked") (λ n. Linked n) rest t (λ n. refl) g.holds k line (at v (codes "linked") rest g s)
+    from v rest g false false false false p q r s k = cc
+
+loop_front : (line : List Said) (t : Took (Option (ℕ × ℕ))) → AllHoldBytes line → looped line ≡ Ok t → Fronts line t.rest (loop_operands t.value)
+unfolding looped loop_behind
+loop_front line t h e =
+    let w = both (word line) loop_behind t e in
+    let g = word_front line w.first h w.is in
+    from w.first.value w.first.rest g (bytes_eq w.first.value (codes "noloop")) (bytes_eq w.first.value (codes "loop")) refl refl w.second
+  where
+    at : (v c : List ℕ) (rest : List Said) → Fronts line rest (Fixed v ∷ []) → bytes_eq v c ≡ true → Fronts line rest (Fixed c ∷ [])
+    at v c rest g k = subst (λ (x : List ℕ). Fronts line rest (Fixed x ∷ [])) ((bytes_eq-Decides v c).0 k) g
+
+    ends : (rest : List Said) → Fronts line rest (Fixed (codes "loop") ∷ []) → (number 4294967295 >>= λ a. number 4294967295 >>= λ b. pure (Some (a, b))) rest ≡ Ok t → Fronts line t.rest (loop_operands t.value)
+    ends rest g k =
+        let a = both (number 4294967295 rest) (λ a. number 4294967295 >>= λ b. pure (Some (a, b))) t k in
+        let f = number_front 4294967295 rest a.first g.holds a.is in
+        let b = both (number 4294967295 a.first.rest) (λ b. pure (Some (a.first.value, b))) t a.second in
+        let k = number_front 4294967295 a.first.rest b.first f.holds b.is in
+        let same : record { value = Some (a.first.value, b.first.value); rest = b.first.rest } ≡ t = made _ b.first.rest t b.second in
+        subst (λ (u : Took (Option (ℕ × ℕ))). Fronts line u.rest (loop_operands u.value)) same
+        (then (Fixed (codes "loop") ∷ []) (Number 4294967295 a.first.value ∷ Number 4294967295 b.first.value ∷ []) g (then (Number 4294967295 a.first.value ∷ []) (Number 4294967295 b.first.value ∷ []) f k))
+
+    from : (v : List ℕ) (rest : List Said) → Fronts line rest (Fixed v ∷ []) → (a b : Bool) → bytes_eq v (codes "noloop") ≡ a → bytes_eq v (codes "loop") ≡ b
+        → cond a (pure None) (cond b (number 4294967295 >>= λ a. number 4294967295 >>= λ b. pure (Some (a, b))) (or_fault faults.Syntax None)) rest ≡ Ok t → Fronts line t.rest (loop_operands t.value)
+    from v rest g true b p q k = let same : record { value = None; rest = rest } ≡ t = cc in subst (λ (u : Took (Option (ℕ × ℕ))). Fronts line u.rest (loop_operands u.value)) same (at v (codes "noloop") rest g p)
+    from v rest g false true p q k = ends rest (at v (codes "loop") rest g q) k
+    from v rest g false false p q k = cc
+
+body_front : (line : List Said) (t : Took Sample) → AllHoldBytes line → body line ≡ Ok t → Fronts line t.rest (body_operands t.value)
+unfolding body
+body_front line t h e =
+    let n = both (name line) (λ n. number 4294967295 >>= λ r. number 255 >>= λ y. signed 127 >>= λ c. kind >>= λ k. looped >>= λ l. points >>= λ p. pure (sample_of n r y c k l p)) t e in
+    let nf = name_front line n.first h n.is in
+    let r = both (number 4294967295 n.first.rest) (λ r. number 255 >>= λ y. signed 127 >>= λ c. kind >>= λ k. looped >>= λ l. points >>= λ p. pure (sample_of n.first.value r y c k l p)) t n.second in
+    let rf = number_front 4294967295 n.first.rest r.first nf.holds r.is in
+    let y = both (number 255 r.first.rest) (λ y. signed 127 >>= λ c. kind >>= λ k. looped >>= λ l. points >>= λ p. pure (sample_of n.first.value r.first.value y c k l p)) t r.second in
+    let yf = number_front 255 r.first.rest y.first rf.holds y.is in
+    let c = both (signed 127 y.first.rest) (λ c. kind >>= λ k. looped >>= λ l. points >>= λ p. pure (sample_of n.first.value r.first.value y.first.value c k l p)) t y.second in
+    let cf = signed_front 127 y.first.rest c.first yf.holds c.is in
+    let k = both (kind c.first.rest) (λ k. looped >>= λ l. points >>= λ p. pure (sample_of n.first.value r.first.value y.first.value c.first.value k l p)) t c.second in
+    let kf = kind_front c.first.rest k.first cf.holds k.is in
+    let l = both (looped k.first.rest) (λ l. points >>= λ p. pure (sample_of n.first.value r.first.value y.first.value c.first.value k.first.value l p)) t k.second in
+    let lf = loop_front k.first.rest l.first kf.holds l.is in
+    let p = both (points l.first.rest) (λ p. pure (sample_of n.first.value r.first.value y.first.value c.first.value k.first.value l.first.value p)) t l.second in
+    let pf = points_front l.first.rest p.first lf.holds p.is in
+    let ks = kind_operands k.first.value in
+    let ls = loop_operands l.first.value in
+    let ps : List Operand = Points p.first.value ∷ [] in
+    let cs : List Operand = Signed 127 c.first.value ∷ [] in
+    let ys : List Operand = Number 255 y.first.value ∷ [] in
+    let rs : List Operand = Number 4294967295 r.first.value ∷ [] in
+    let ns : List Operand = Name n.first.value ∷ [] in
+    let same : record { value = sample_of n.first.value r.first.value y.first.value c.first.value k.first.value l.first.value p.first.value; rest = p.first.rest } ≡ t = made _ p.first.rest t p.second in
+    subst (λ (u : Took Sample). Fronts line u.rest (body_operands u.value)) same
+    (then ns (rs ++ (ys ++ (cs ++ ((ks ++ ls) ++ ps)))) nf (then rs (ys ++ (cs ++ ((ks ++ ls) ++ ps))) rf (then ys (cs ++ ((ks ++ ls) ++ ps)) yf (then cs ((ks ++ ls) ++ ps) cf (then (ks ++ ls) ps (then ks ls kf lf) pf)))))
 
 -- ---- the forms
 
--- the word of a form
-abbrev word_of : Form → List ℕ
-word_of form.RenameSample = codes "rename-sample"
+module _ (f : Form) (step : ℕ → List ℕ → Step) (says : (i : ℕ) (n : List ℕ) → (operands (step i n) ≡ named_operands i n) × (form_of (step i n) ≡ f)) where
+  renaming_front : (line : List Said) (t : Took Step) → AllHoldBytes line → renaming step line ≡ Ok t → Fronts line t.rest (operands t.value) × (form_of t.value ≡ f)
+  unfolding renaming
+  renaming_front line t h e =
+      let i = both (number 4294967295 line) (λ i. name >>= λ n. pure (step i n)) t e in
+      let a = number_front 4294967295 line i.first h i.is in
+      let n = both (name i.first.rest) (λ n. pure (step i.first.value n)) t i.second in
+      let b = name_front i.first.rest n.first a.holds n.is in
+      let same : record { value = step i.first.value n.first.value; rest = n.first.rest } ≡ t = made _ n.first.rest t n.second in
+      let said = says i.first.value n.first.value in
+      subst (λ (u : Took Step). Fronts line u.rest (operands u.value) × (form_of u.value ≡ f)) same
+      (subst (Fronts line n.first.rest) (sym said.0) (then (Number 4294967295 i.first.value ∷ []) (Name n.first.value ∷ []) a b), said.1)
 
-form_is : (w : List ℕ) (f : Form) → form_of w ≡ Some f → w ≡ word_of f
-form_is w form.RenameSample e = from (bytes_eq w (codes "rename-sample")) refl e
-  where
-    from : (b : Bool) → bytes_eq w (codes "rename-sample") ≡ b → cond b (Some form.RenameSample) None ≡ Some form.RenameSample → w ≡ codes "rename-sample"
-    from true x k = (bytes_eq-Decides w (codes "rename-sample")).0 x
-    from false x k = cc
+module _ (f : Form) (step : ℕ → ℕ → Step) (says : (i j : ℕ) → (operands (step i j) ≡ moved_operands i j) × (form_of (step i j) ≡ f)) where
+  moving_front : (line : List Said) (t : Took Step) → AllHoldBytes line → moving step line ≡ Ok t → Fronts line t.rest (operands t.value) × (form_of t.value ≡ f)
+  unfolding moving
+  moving_front line t h e =
+      let i = both (number 4294967295 line) (λ i. number 4294967295 >>= λ j. pure (step i j)) t e in
+      let a = number_front 4294967295 line i.first h i.is in
+      let j = both (number 4294967295 i.first.rest) (λ j. pure (step i.first.value j)) t i.second in
+      let b = number_front 4294967295 i.first.rest j.first a.holds j.is in
+      let same : record { value = step i.first.value j.first.value; rest = j.first.rest } ≡ t = made _ j.first.rest t j.second in
+      let said = says i.first.value j.first.value in
+      subst (λ (u : Took Step). Fronts line u.rest (operands u.value) × (form_of u.value ≡ f)) same
+      (subst (Fronts line j.first.rest) (sym said.0) (then (Number 4294967295 i.first.value ∷ []) (Number 4294967295 j.first.value ∷ []) a b), said.1)
 
--- what stands behind the word says an edit of the form
-operands_say : (f : Form) (line : List Said) (t : Took Edit) → AllHoldBytes line → operands f line ≡ Ok t → t.rest ≡ [] → SaysEdit (Word (word_of f) ∷ line) t.value
-unfolding rename_sample
-operands_say form.RenameSample line t h e r =
-    let s = both (number 4294967295 line) (λ s. name >>= λ n. pure (RenameSample s n)) t e in
-    let a = number_is 4294967295 line s.first s.is in
-    let n = both (name s.first.rest) (λ n. pure (RenameSample s.first.value n)) t s.second in
-    let bytes : AllHoldBytes s.first.rest = (let k = subst AllHoldBytes a.parts h in k.1) in
-    let b = name_is s.first.rest n.first bytes n.is in
-    let k : record { value = RenameSample s.first.value n.first.value; rest = n.first.rest } ≡ t = cc (n.second) in
-    let end : n.first.rest ≡ [] = ap (λ (u : Took Edit). u.rest) k ∙ r in
-    let all : line ≡ Word a.digits ∷ Literal n.first.value ∷ [] =
-    a.parts ∙ ap (λ (l : List Said). Word a.digits ∷ l) b.0 ∙ ap (λ (l : List Said). Word a.digits ∷ Literal n.first.value ∷ l) end in
-    subst (SaysEdit (Word (codes "rename-sample") ∷ line)) (ap (λ (u : Took Edit). u.value) k)
-    (a.digits, ap (λ (l : List Said). Word (codes "rename-sample") ∷ l) all, a.writes, b.1)
+add_front : (line : List Said) (t : Took Step) → AllHoldBytes line → add_sample line ≡ Ok t → Fronts line t.rest (operands t.value) × (form_of t.value ≡ form.AddSample)
+unfolding add_sample
+add_front line t h e =
+    let n = both (number 4294967295 line) (λ n. body >>= λ s. pure (AddSample n s)) t e in
+    let a = number_front 4294967295 line n.first h n.is in
+    let s = both (body n.first.rest) (λ s. pure (AddSample n.first.value s)) t n.second in
+    let b = body_front n.first.rest s.first a.holds s.is in
+    let same : record { value = AddSample n.first.value s.first.value; rest = s.first.rest } ≡ t = made _ s.first.rest t s.second in
+    subst (λ (u : Took Step). Fronts line u.rest (operands u.value) × (form_of u.value ≡ form.AddSample)) same (then (Number 4294967295 n.first.value ∷ []) (body_operands s.first.value) a b, refl)
+
+remove_front : (line : List Said) (t : Took Step) → AllHoldBytes line → remove_sample line ≡ Ok t → Fronts line t.rest (operands t.value) × (form_of t.value ≡ form.RemoveSample)
+unfolding remove_sample
+remove_front line t h e =
+    let s = both (number 4294967295 line) (λ s. pure (RemoveSample s)) t e in
+    let same : record { value = RemoveSample s.first.value; rest = s.first.rest } ≡ t = made _ s.first.rest t s.second in
+    subst (λ (u : Took Step). Fronts line u.rest (operands u.value) × (form_of u.value ≡ form.RemoveSample)) same (number_front 4294967295 line s.first h s.is, refl)
+
+id_front : (line : List Said) (t : Took InfoId) → AllHoldBytes line → info_id line ≡ Ok t → Fronts line t.rest (Fixed (id_word t.value) ∷ [])
+unfolding info_id
+id_front line t h e =
+    let w = both (word line) (λ w. or_fault faults.Syntax (named id_word ids w)) t e in
+    let g = word_front line w.first h w.is in
+    let o = or_fault_is faults.Syntax (named id_word ids w.first.value) w.first.rest t w.second in
+    subst (λ (r : List Said). Fronts line r (Fixed (id_word t.value) ∷ [])) o.1 (subst (λ (v : List ℕ). Fronts line w.first.rest (Fixed v ∷ [])) (named_is id_word ids w.first.value t.value o.0) g)
+
+info_front : (line : List Said) (t : Took Step) → AllHoldBytes line → set_info line ≡ Ok t → Fronts line t.rest (operands t.value) × (form_of t.value ≡ form.SetInfo)
+unfolding set_info
+info_front line t h e =
+    let i = both (info_id line) (λ i. literal >>= λ x. pure (SetInfo i x)) t e in
+    let a = id_front line i.first h i.is in
+    let x = both (literal i.first.rest) (λ x. pure (SetInfo i.first.value x)) t i.second in
+    let b = text_front i.first.rest x.first a.holds x.is in
+    let same : record { value = SetInfo i.first.value x.first.value; rest = x.first.rest } ≡ t = made _ x.first.rest t x.second in
+    subst (λ (u : Took Step). Fronts line u.rest (operands u.value) × (form_of u.value ≡ form.SetInfo)) same (then (Fixed (id_word i.first.value) ∷ []) (Text x.first.value ∷ []) a b, refl)
+
+-- what stands behind the word of a form says a step of that form
+operands_front : (f : Form) (line : List Said) (t : Took Step) → AllHoldBytes line → operands_read f line ≡ Ok t → Fronts line t.rest (operands t.value) × (form_of t.value ≡ f)
+operands_front form.MovePreset line t h e = moving_front form.MovePreset (λ i j. MovePreset i j) (λ i j. (refl, refl)) line t h e
+operands_front form.RenameInstrument line t h e = renaming_front form.RenameInstrument (λ i n. RenameInstrument i n) (λ i n. (refl, refl)) line t h e
+operands_front form.MoveInstrument line t h e = moving_front form.MoveInstrument (λ i j. MoveInstrument i j) (λ i j. (refl, refl)) line t h e
+operands_front form.RenameSample line t h e = renaming_front form.RenameSample (λ i n. RenameSample i n) (λ i n. (refl, refl)) line t h e
+operands_front form.AddSample line t h e = add_front line t h e
+operands_front form.RemoveSample line t h e = remove_front line t h e
+operands_front form.MoveSample line t h e = moving_front form.MoveSample (λ i j. MoveSample i j) (λ i j. (refl, refl)) line t h e
+operands_front form.SetInfo line t h e = info_front line t h e
+
+step_front : (line : List Said) (t : Took Step) → AllHoldBytes line → step line ≡ Ok t → Fronts line t.rest (Fixed (form_word (form_of t.value)) ∷ operands t.value)
+unfolding step
+step_front line t h e =
+    let w = both (word line) (λ w. or_fault faults.Syntax (named form_word forms w) >>= λ f. operands_read f) t e in
+    let g = word_front line w.first h w.is in
+    let f = both (or_fault faults.Syntax (named form_word forms w.first.value) w.first.rest) (λ f. operands_read f) t w.second in
+    let o = or_fault_is faults.Syntax (named form_word forms w.first.value) w.first.rest f.first f.is in
+    let k = operands_front f.first.value f.first.rest t (subst AllHoldBytes o.1 g.holds) f.second in
+    let first : Fronts line f.first.rest (Fixed (form_word f.first.value) ∷ []) =
+    subst (λ (r : List Said). Fronts line r (Fixed (form_word f.first.value) ∷ [])) o.1 (subst (λ (v : List ℕ). Fronts line w.first.rest (Fixed v ∷ [])) (named_is form_word forms w.first.value f.first.value o.0) g) in
+    subst (λ (f : Form). Fronts line t.rest (Fixed (form_word f) ∷ operands t.value)) (sym k.1) (then (Fixed (form_word f.first.value) ∷ []) (operands t.value) first k.0)
 
 edit_says : (line : List Said) (t : Took Edit) → AllHoldBytes line → edit line ≡ Ok t → SaysEdit line t.value
 unfolding edit
 edit_says line t h e =
-    let w = both (word line) (λ w. or_fault stop.Syntax (form_of w) >>= λ f. operands f >>= λ e. ended e) t e in
-    let f = both (or_fault stop.Syntax (form_of w.first.value) w.first.rest) (λ f. operands f >>= λ e. ended e) t w.second in
-    let o = both (operands f.first.value f.first.rest) (λ e. ended e) t f.second in
-    let a = word_is line w.first w.is in
-    let b = or_fault_is stop.Syntax (form_of w.first.value) w.first.rest f.first f.is in
-    let c = ended_is o.first.value o.first.rest t o.second in
-    let all : line ≡ Word (word_of f.first.value) ∷ f.first.rest =
-    a ∙ ap (λ (x : List ℕ). Word x ∷ w.first.rest) (form_is w.first.value f.first.value b.0) ∙ ap (λ (l : List Said). Word (word_of f.first.value) ∷ l) b.1 in
-    let bytes : AllHoldBytes f.first.rest = (let k = subst AllHoldBytes all h in k.1) in
-    subst (SaysEdit line) {x = o.first.value} c.1 (subst (λ (l : List Said). SaysEdit l o.first.value) (sym all) (operands_say f.first.value f.first.rest o.first bytes o.is c.0))
+    let s = both (step line) (λ s. ended (One s)) t e in
+    let g = step_front line s.first h s.is in
+    let c = ended_is (One s.first.value) s.first.rest t s.second in
+    let os = Fixed (form_word (form_of s.first.value)) ∷ operands s.first.value in
+    subst (SaysEdit line) {x = One s.first.value} c.1 (subst (AllSay line) (append-nil os) (g.says [] (subst (λ (r : List Said). AllSay r []) (sym c.0) tt)))
 
 -- ---- the lines
 
 -- what a line makes of the edits before it
-abbrev LineMakes : ℕ → List ℕ → List Said → List Line → List Line → Type 0
-LineMakes n line said before after = ((said ≡ []) × (after ≡ before)) ⊎ ((before ≡ []) × (e : Edit) × (after ≡ record { number = n; edit = e } ∷ []) × SaysEdit said e)
+pub record Adds (n : ℕ) (said : List Said) (before after : List Line) : Type 0 where
+  pub edit : Edit
+  pub room : length before ≤ 0
+  pub parts : after ≡ before ++ record { number = n; edit = edit } ∷ []
+  pub form : SaysEdit said edit
 
-with_edit_makes : (n : ℕ) (line : List ℕ) (said : List Said) (r : Result (Took Edit) Stop) (after : List Line) → ((t : Took Edit) → r ≡ Ok t → SaysEdit said t.value) → with_edit n [] r ≡ Ok after → LineMakes n line said [] after
-with_edit_makes n line said (Ok t) after f e = let k : record { number = n; edit = t.value } ∷ [] ≡ after = cc in inr (refl, t.value, sym k, f t refl)
-with_edit_makes n line said (Err d) after f e = cc
+abbrev LineMakes : ℕ → List Said → List Line → List Line → Type 0
+LineMakes n said before after = ((said ≡ []) × (after ≡ before)) ⊎ Adds n said before after
 
-line_makes : (n : ℕ) (line : List ℕ) (said : List Said) (before after : List Line) → AllHoldBytes said → edit_of n said before ≡ Ok after → LineMakes n line said before after
+with_edit_makes : (n : ℕ) (said : List Said) (r : Result (Took Edit) LineFault) (before after : List Line) → length before ≤ 0 → ((t : Took Edit) → r ≡ Ok t → SaysEdit said t.value) → with_edit n before r ≡ Ok after → LineMakes n said before after
+with_edit_makes n said (Ok t) before after room f e = let k : before ++ record { number = n; edit = t.value } ∷ [] ≡ after = cc in inr (record { edit = t.value; room = room; parts = sym k; form = f t refl })
+with_edit_makes n said (Err d) before after room f e = cc
+
+line_makes : (n : ℕ) (said : List Said) (before after : List Line) → AllHoldBytes said → edit_of n said before ≡ Ok after → LineMakes n said before after
 unfolding edit_of
-line_makes n line [] before after h e = let k : before ≡ after = cc in inl (refl, sym k)
-line_makes n line (s ∷ said) [] after h e = with_edit_makes n line (s ∷ said) (edit (s ∷ said)) after (λ t k. edit_says (s ∷ said) t h k) e
-line_makes n line (s ∷ said) (x ∷ before) after h e = cc
+line_makes n [] before after h e = let k : before ≡ after = cc in inl (refl, sym k)
+line_makes n (s ∷ said) [] after h e = with_edit_makes n (s ∷ said) (edit (s ∷ said)) [] after (omega arith) (λ t k. edit_says (s ∷ said) t h k) e
+line_makes n (s ∷ said) (x ∷ before) after h e = let full : is_full (x ∷ before) ≡ true = lt-ltb 0 _ (omega arith) in let k = rw full at e in absurd (cc k)
 
 -- what lines make of the edits before them
 record LinesMake (n : ℕ) (ls : List (List ℕ)) (before after : List Line) : Type 0 where
@@ -418,7 +306,7 @@ record LinesMake (n : ℕ) (ls : List (List ℕ)) (before after : List Line) : T
   pub few : length after ≤ 1
   pub say : LinesSay n ls more
 
-step_makes : (n : ℕ) (l : List ℕ) (ls : List (List ℕ)) (before between after : List Line) → LineSays l (said_in l) → LineMakes n l (said_in l) before between → LinesMake (suc n) ls between after → LinesMake n (l ∷ ls) before after
+step_makes : (n : ℕ) (l : List ℕ) (ls : List (List ℕ)) (before between after : List Line) → LineSays l (said_in l) → LineMakes n (said_in l) before between → LinesMake (suc n) ls between after → LinesMake n (l ∷ ls) before after
 step_makes n l ls before between after says (inl h) r = record {
   more = r.more;
   parts = r.parts ∙ ap (λ (x : List Line). x ++ r.more) h.1;
@@ -426,12 +314,11 @@ step_makes n l ls before between after says (inl h) r = record {
   say = inl (subst (LineSays l) h.0 says, r.say);
 }
 step_makes n l ls before between after says (inr h) r =
-    let all : after ≡ record { number = n; edit = h.1 } ∷ r.more = r.parts ∙ ap (λ (x : List Line). x ++ r.more) h.2 in
-    record {
-      more = after;
-      parts = ap (λ (x : List Line). x ++ after) (sym h.0);
+    let one : Line = record { number = n; edit = h.edit } in record {
+      more = one ∷ r.more;
+      parts = r.parts ∙ ap (λ (x : List Line). x ++ r.more) h.parts ∙ append_assoc before (one ∷ []) r.more;
       few = r.few;
-      say = inr (record { said = said_in l; edit = h.1; more = r.more; parts = all; tokens = says; form = h.3; follow = r.say });
+      say = inr (record { said = said_in l; edit = h.edit; more = r.more; parts = refl; tokens = says; form = h.form; follow = r.say });
     }
 
 lines_make : (n : ℕ) (ls : List (List ℕ)) (before after : List Line) → length before ≤ 1 → AllByRecursion AllGood (map said_in ls) → gather edit_of n (map said_in ls) before ≡ Ok after → LinesMake n ls before after
@@ -440,12 +327,12 @@ lines_make n [] before after few g e =
     record { more = []; parts = sym k ∙ sym (append-nil before); few = subst (λ (x : List Line). length x ≤ 1) k few; say = refl }
 lines_make n (l ∷ ls) before after few g e =
     let t = through (edit_of n (said_in l) before) (λ ys. gather edit_of (suc n) (map said_in ls) ys) after (sym (gather_on edit_of n (said_in l) (map said_in ls) before) ∙ e) in
-    let m = line_makes n l (said_in l) before t.between (tokens_bytes (tokens_of l)) t.first in
+    let m = line_makes n (said_in l) before t.between (tokens_bytes (tokens_of l)) t.first in
     step_makes n l ls before t.between after (line_shown l g.0) m (lines_make (suc n) ls t.between after (still_few m few) g.1 t.second)
   where
-    still_few : {between : List Line} → LineMakes n l (said_in l) before between → length before ≤ 1 → length between ≤ 1
+    still_few : {between : List Line} → LineMakes n (said_in l) before between → length before ≤ 1 → length between ≤ 1
     still_few (inl h) f = let k = ap length h.1 in omega (arith, k, f)
-    still_few (inr h) f = let k = ap length h.2 in omega (arith, k)
+    still_few (inr h) f = let k = ap length h.parts in let r = h.room in omega (arith, k, r, length-append before (record { number = n; edit = h.edit } ∷ []))
 
 -- ---- the text
 

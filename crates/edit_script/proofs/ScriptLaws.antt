@@ -1,116 +1,34 @@
--- Lists that grow line by line, and their first fault.
-use Rattle.std.proofs.Common.{◌≡◌, ◌≤◌, ℕ, suc, Bool, true, false, cond, List, [], ◌∷◌, length, Result, Ok, Err, refl, sym, ap, ◌∙◌, arith, eqb, eqb-true}
-use Rattle.sf_base.specs.declared.memory.Failure.{Failure}
-use Rattle.sf_base.specs.declared.memory.Failure.TheVariants as failures
-use Rattle.edit_script.specs.declared.cursor.Said.{Said}
-use Rattle.edit_script.specs.declared.cursor.Stop.TheVariants as stop
-use Rattle.edit_script.specs.declared.fault.ScriptFault.{ScriptFault}
+-- The edits of a script, line by line.
+use Rattle.std.proofs.Common.{◌≡◌, ℕ, Bool, true, false, List, [], ◌∷◌, Ok, Err, refl, sym, ap, ◌∙◌}
+use Rattle.std.specs.Result.{result_and}
+use Rattle.line_tokens.specs.declared.cursor.Said.{Said}
+use Rattle.line_tokens.specs.declared.fault.LineFault.TheVariants as faults
+use Rattle.line_tokens.specs.Lines.{lines_of}
+use Rattle.line_tokens.specs.Said.{said_lines, lines_said_over}
+use Rattle.line_tokens.specs.Pool.{Grown, on_line, pool_bytes}
+use Rattle.line_tokens.proofs.PoolLaws.{over_pool}
 use Rattle.edit_script.specs.declared.parsing.Line.{Line}
-use Rattle.edit_script.specs.Lines.{lines_of, onto, is_feed}
 use Rattle.edit_script.specs.Grammar.{edit}
-use Rattle.edit_script.specs.Script.{Grown, Fails, and_then, gather, literal_of, literals_of, edit_of, with_edit, on_line}
-
-pub gather_none : {X : Type 0} (f : ℕ → List Said → List X → Grown X) (n : ℕ) (xs : List X) → gather f n [] xs ≡ Ok xs
-unfolding gather
-gather_none f n xs = refl
-
-pub gather_on : {X : Type 0} (f : ℕ → List Said → List X → Grown X) (n : ℕ) (l : List Said) (ls : List (List Said)) (xs : List X) → gather f n (l ∷ ls) xs ≡ and_then (f n l xs) (λ ys. gather f (suc n) ls ys)
-unfolding gather
-gather_on f n l ls xs = refl
-
-pub literals_none : (n : ℕ) (pool : List ℕ) → literals_of n [] pool ≡ Ok pool
-unfolding literals_of
-literals_none n pool = refl
-
-pub literals_on : (n : ℕ) (s : Said) (line : List Said) (pool : List ℕ) → literals_of n (s ∷ line) pool ≡ and_then (literal_of n s pool) (λ more. literals_of n line more)
-unfolding literals_of
-literals_on n s line pool = refl
-
--- ---- steps of a loop over lines: what is left makes of the list so far what the whole makes
-
-pub lines_on : {X : Type 0} (f : ℕ → List Said → List X → Grown X) (n m : ℕ) (xs ys : List X) (l : List Said) (ls all : List (List Said)) (whole : Grown X) → m ≡ suc n → all ≡ l ∷ ls
-    → gather f n all xs ≡ whole → f n l xs ≡ Ok ys → gather f m ls ys ≡ whole
-lines_on f n m xs ys l ls all whole em e h a =
-    let on = gather_on f n l ls xs in
-    rw em (rw (e, on, a) at h)
-
-pub lines_stop : {X : Type 0} (f : ℕ → List Said → List X → Grown X) (n : ℕ) (xs : List X) (l : List Said) (ls all : List (List Said)) (whole : Grown X) (d : ScriptFault) → all ≡ l ∷ ls
-    → gather f n all xs ≡ whole → f n l xs ≡ Err d → whole ≡ Err d
-lines_stop f n xs l ls all whole d e h a =
-    let on = gather_on f n l ls xs in
-    sym (rw (e, on, a) at h)
-
-pub lines_over : {X : Type 0} (f : ℕ → List Said → List X → Grown X) (n : ℕ) (xs : List X) (all : List (List Said)) (whole : Grown X) → all ≡ []
-    → gather f n all xs ≡ whole → whole ≡ Ok xs
-lines_over f n xs all whole e h = sym (rw e at h) ∙ gather_none f n xs
-
--- ---- the literals of a line
-
-pub literals_taken : (n : ℕ) (pool more : List ℕ) (s : Said) (line all : List Said) (whole : Grown ℕ) → all ≡ s ∷ line
-    → literals_of n all pool ≡ whole → literal_of n s pool ≡ Ok more → literals_of n line more ≡ whole
-literals_taken n pool more s line all whole e h a =
-    let on = literals_on n s line pool in
-    rw (e, on, a) at h
-
-pub literals_stop : (n : ℕ) (pool : List ℕ) (s : Said) (line all : List Said) (whole : Grown ℕ) (d : ScriptFault) → all ≡ s ∷ line
-    → literals_of n all pool ≡ whole → literal_of n s pool ≡ Err d → whole ≡ Err d
-literals_stop n pool s line all whole d e h a =
-    let on = literals_on n s line pool in
-    sym (rw (e, on, a) at h)
-
-pub literals_over : (n : ℕ) (pool : List ℕ) (all : List Said) (whole : Grown ℕ) → all ≡ []
-    → literals_of n all pool ≡ whole → whole ≡ Ok pool
-literals_over n pool all whole e h = sym (rw e at h) ∙ literals_none n pool
-
--- ---- the edit of a line
+use Rattle.edit_script.specs.Script.{is_full, edit_of, with_edit, edits_in, script_of}
 
 pub says_nothing : (n : ℕ) (said : List Said) (lines : List Line) → said ≡ [] → edit_of n said lines ≡ Ok lines
 unfolding edit_of
 says_nothing n [] lines e = refl
 says_nothing n (s ∷ said) lines e = cc
 
-pub one_too_many : (n : ℕ) (said : List Said) (lines : List Line) → (said ≡ [] → ⊥) → (lines ≡ [] → ⊥) → edit_of n said lines ≡ Err (on_line n stop.Syntax)
+pub one_too_many : (n : ℕ) (said : List Said) (lines : List Line) → (said ≡ [] → ⊥) → is_full lines ≡ true → edit_of n said lines ≡ Err (on_line n faults.Syntax)
 unfolding edit_of
-one_too_many n [] lines some before = absurd (some refl)
-one_too_many n (s ∷ said) [] some before = absurd (before refl)
-one_too_many n (s ∷ said) (l ∷ lines) some before = refl
+one_too_many n [] lines some full = absurd (some refl)
+one_too_many n (s ∷ said) lines some full = rw full refl
 
-pub first_edit : (n : ℕ) (said : List Said) (lines : List Line) → (said ≡ [] → ⊥) → lines ≡ [] → edit_of n said lines ≡ with_edit n lines (edit said)
+pub one_more : (n : ℕ) (said : List Said) (lines : List Line) → (said ≡ [] → ⊥) → is_full lines ≡ false → edit_of n said lines ≡ with_edit n lines (edit said)
 unfolding edit_of
-first_edit n [] lines some none = absurd (some refl)
-first_edit n (s ∷ said) [] some none = refl
-first_edit n (s ∷ said) (l ∷ lines) some none = cc
-
--- ---- no more lines than bytes
-
-length-onto : (b : ℕ) (ls : List (List ℕ)) → length (onto b ls) ≤ suc (length ls)
-length-onto b [] = omega arith
-length-onto b (l ∷ ls) = omega arith
-
-pub length-lines_of : (text : List ℕ) → length (lines_of text) ≤ length text
-unfolding lines_of
-length-lines_of [] = omega arith
-length-lines_of (b ∷ text) = from (is_feed b) (length-lines_of text)
-  where
-    from : (t : Bool) → length (lines_of text) ≤ length text → length (cond t ([] ∷ lines_of text) (onto b (lines_of text))) ≤ suc (length text)
-    from true h = omega (arith, h)
-    from false h = omega (arith, h, length-onto b (lines_of text))
-
--- ---- where a step fails, so does the whole
-
-pub step_fails : {X Y : Type 0} (failure : Failure ScriptFault) (step : Result X ScriptFault) (whole : Result Y ScriptFault)
-    → Fails failure step → ((fault : ScriptFault) → step ≡ Err fault → whole ≡ Err fault) → Fails failure whole
-step_fails (failures.Fault fault) step whole h f = f fault h
-step_fails failures.OutOfMemory step whole h f = tt
-
--- ---- whether a list is empty
+one_more n [] lines some room = absurd (some refl)
+one_more n (s ∷ said) lines some room = rw room refl
 
 pub not_both : {b : Bool} → b ≡ true → b ≡ false → ⊥
 not_both p q = cc
 
-pub some_before : {X : Type 0} (xs ys : List X) → xs ≡ ys → eqb (length ys) 0 ≡ false → xs ≡ [] → ⊥
-some_before xs ys e t n = let m = ap length (sym e ∙ n) in let same = rw m at t in cc
-
-pub none_before : {X : Type 0} (xs ys : List X) → xs ≡ ys → eqb (length ys) 0 ≡ true → xs ≡ []
-none_before xs [] e t = e
-none_before xs (y ∷ ys) e t = let n = eqb-true _ _ t in absurd (omega (arith, n))
+pub script_over_pool : (text pool : List ℕ) → pool_bytes text ≡ Ok pool → edits_in (lines_said_over pool (lines_of text)) ≡ script_of text
+unfolding script_of
+script_over_pool text pool e = ap edits_in (over_pool text pool e) ∙ ap (λ (r : Grown ℕ). result_and r (edits_in (said_lines text))) (sym e)

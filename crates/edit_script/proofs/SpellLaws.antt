@@ -1,249 +1,211 @@
 -- What a text spells is read from it.
-use Rattle.std.proofs.Common.{◌≡◌, ◌≤◌, ◌<◌, ◌+◌, ℕ, suc, true, false, eqb, eqb-true, ltb, not, List, [], ◌∷◌, ◌++◌, length, drop, map, Some, None, Ok, refl, sym, ap, ◌∙◌, append_assoc, arith, inl, inr}
-use Rattle.std.specs.Prelude.{nat_lt, nat_le, ◌&&◌}
-use Rattle.std.specs.List.{list_all, prefix_len}
+use Rattle.std.proofs.Common.{◌≡◌, ◌≤◌, ◌+◌, ◌%◌, ℕ, ℤ, suc, false, List, [], ◌∷◌, ◌++◌, length, map, codes, Option, Some, None, Ok, refl, sym, ap, subst, append_assoc, ◌∙◌, arith, inl, inr}
 use Rattle.std.specs.Result.{result_and}
-use Rattle.std.proofs.lemmas.Bool.{lt-ltb, le-leb, and_parts}
-use Rattle.std.proofs.lemmas.List.{append-nil, take_at, drop_at, length-append}
-use Rattle.std.proofs.lemmas.List.Sums.{list_all-from_AllPass}
-use Rattle.hex.specs.Hex.{decode_of, is_hex_digit}
-use Rattle.hex.proofs.HexLemmas.{decode_of-ok}
-use Rattle.sf_base.specs.Names.{IsName}
+use Rattle.std.specs.List.{AllByRecursion}
+use Rattle.std.proofs.lemmas.List.{append-nil, length-append}
+use Rattle.sample_view.specs.Words.{words}
+use Rattle.bank_parts.specs.declared.texts.InfoId.{InfoId}
+use Rattle.bank_parts.specs.declared.parts.Kind.{Kind}
+use Rattle.bank_parts.specs.declared.parts.Kind.TheVariants.{Mono, Right, Left, Linked}
+use Rattle.bank_parts.specs.declared.parts.Sample.{Sample}
+use Rattle.bank_edits.specs.declared.edit.Step.{Step}
+use Rattle.bank_edits.specs.declared.edit.Step.TheVariants.{MovePreset, RenameInstrument, MoveInstrument, RenameSample, AddSample, RemoveSample, MoveSample, SetInfo}
 use Rattle.bank_edits.specs.declared.edit.Edit.{Edit}
-use Rattle.bank_edits.specs.declared.edit.Edit.TheVariants.{RenameSample}
-use Rattle.edit_script.specs.declared.tokens.Token.TheVariants.{Plain, Quoted}
-use Rattle.edit_script.specs.declared.cursor.Said.{Said}
-use Rattle.edit_script.specs.declared.cursor.Said.TheVariants.{Word, Literal, Bad}
+use Rattle.bank_edits.specs.declared.edit.Edit.TheVariants.{One}
+use Rattle.line_tokens.specs.declared.cursor.Said.{Said}
+use Rattle.line_tokens.specs.declared.cursor.Said.TheVariants.{Literal}
+use Rattle.line_tokens.specs.declared.fault.LineFault.TheVariants as faults
+use Rattle.line_tokens.specs.Lines.{lines_of}
+use Rattle.line_tokens.specs.Said.{said_in, said_lines}
+use Rattle.line_tokens.specs.Parts.{Part, and_then, ◌>>=◌, pure, or_fault, word, literal, number, signed, name, ended}
+use Rattle.line_tokens.specs.Pool as pool
+use Rattle.line_tokens.specs.Pool.{Grown, gather, pool_bytes}
+use Rattle.line_tokens.specs.Spelling.{SaysNothing, LineSays}
+use Rattle.line_tokens.proofs.SpellLaws as tokens
+use Rattle.line_tokens.proofs.SpellLaws.{Says, line_said, lines_grow}
+use Rattle.line_tokens.proofs.GatherLaws.{gather_on, gather_none}
 use Rattle.edit_script.specs.declared.parsing.Line.{Line}
-use Rattle.edit_script.specs.Lines.{lines_of}
-use Rattle.edit_script.specs.Tokens.{is_blank, is_quote, after_blanks, ends_well, Front, quoted_at, plain_at, token_at, and_behind, tokens_of}
-use Rattle.edit_script.specs.Said.{is_plain, is_hex, decoded, said, said_in, said_lines}
-use Rattle.edit_script.specs.Grammar.{edit, word, literal, number, number_of, name_of, name, ended, rename_sample}
-use Rattle.edit_script.specs.Script.{Grown, and_then, gather, literal_of, literals_of, pool_bytes, edit_of, with_edit, edits_in, script_of}
-use Rattle.edit_script.specs.Printing.{is_open}
-use Rattle.edit_script.specs.Spelling.{not_blank, is_word, Shows, is_silent, SaysNothing, LineSays, Writes, SaysEdit, LinesSay, Spells}
-use Rattle.edit_script.proofs.TestLaws.{not_true, list_all_weaker, not_quote, not_blank_of, first_behind, blank_behind}
-use Rattle.edit_script.proofs.LexLaws.{tokens_once, tokens_end, tokens_front, tokens_nothing}
-use Rattle.edit_script.proofs.NameLaws.{name_passes}
-use Rattle.edit_script.proofs.ScriptLaws.{gather_on, gather_none, literals_none, literals_on}
+use Rattle.edit_script.specs.Operands.{Operand, Fixed, Number, Signed, Name, Text, Points, AllSay}
+use Rattle.edit_script.specs.Names.{named}
+use Rattle.edit_script.specs.Members.{named_operands, moved_operands, renaming, moving}
+use Rattle.edit_script.specs.Samples.{kind_operands, loop_operands, body_operands, kind_behind, kind, loop_behind, looped, points_of, points, body, add_sample, remove_sample}
+use Rattle.edit_script.specs.Texts.{id_word, ids, info_id, set_info}
+use Rattle.edit_script.specs.Grammar.{form_word, forms, form_of, operands, operands_read, step, edit}
+use Rattle.edit_script.specs.Script.{is_full, edit_of, with_edit, edits_in, script_of}
+use Rattle.edit_script.specs.Spelling.{SaysEdit, LinesSay, Spells}
+use Rattle.edit_script.proofs.NameLaws.{form_named, id_named}
+use Rattle.edit_script.proofs.ScriptLaws.{one_more, says_nothing}
 
--- ---- blanks
+-- ---- parts
 
-stays : (b : ℕ) (line : List ℕ) → is_blank b ≡ false → after_blanks (b ∷ line) ≡ b ∷ line
-unfolding after_blanks
-stays b line e = rw e refl
+-- the part reads this, and what is left says the rest
+record Gives {X : Type 0} (p : Part X) (x : X) (line : List Said) (more : List Operand) : Type 0 where
+  pub rest : List Said
+  pub is : p line ≡ Ok (record { value = x; rest = rest })
+  pub says : AllSay rest more
 
-blank_gone : (b : ℕ) (line : List ℕ) → is_blank b ≡ true → after_blanks (b ∷ line) ≡ after_blanks line
-unfolding after_blanks
-blank_gone b line e = let n : 1 + prefix_len is_blank line ≡ suc (prefix_len is_blank line) = omega arith in rw (e, n) refl
+then : {X Y : Type 0} {p : Part X} (f : X → Part Y) {x : X} {y : Y} {line : List Said} {between more : List Operand} → Gives p x line between
+    → ((rest : List Said) → AllSay rest between → Gives (f x) y rest more) → Gives (p >>= f) y line more
+then f g h = let k = h g.rest g.says in record { rest = k.rest; is = ap (λ r. and_then r f) g.is ∙ k.is; says = k.says }
 
-blanks_gone : (blanks line : List ℕ) → list_all is_blank blanks ≡ true → after_blanks (blanks ++ line) ≡ after_blanks line
-blanks_gone [] line h = refl
-blanks_gone (b ∷ blanks) line h = let g = and_parts (is_blank b) (list_all is_blank blanks) h in blank_gone b (blanks ++ line) g.0 ∙ blanks_gone blanks line g.1
+gives_pure : {X : Type 0} (x : X) (line : List Said) (more : List Operand) → AllSay line more → Gives (pure x) x line more
+gives_pure x line more h = record { rest = line; is = refl; says = h }
 
-said_behind : (blanks line : List ℕ) → list_all is_blank blanks ≡ true → said_in (blanks ++ line) ≡ said_in line
-said_behind blanks line h = ap (map said) (tokens_once (blanks ++ line) ∙ ap (λ (l : List ℕ). and_behind (token_at l) tokens_of) (blanks_gone blanks line h) ∙ sym (tokens_once line))
+gives_some : {X : Type 0} (x : X) (o : Option X) (line : List Said) (more : List Operand) → o ≡ Some x → AllSay line more → Gives (or_fault faults.Syntax o) x line more
+gives_some x o line more e h = record { rest = line; is = ap (λ (p : Option _). or_fault faults.Syntax p line) e; says = h }
 
-said_front : (b : ℕ) (line : List ℕ) (f : Front) → is_blank b ≡ false → token_at (b ∷ line) ≡ Some f → said_in (b ∷ line) ≡ said f.token ∷ said_in f.after
-said_front b line f e t = ap (map said) (tokens_front (b ∷ line) f (ap token_at (stays b line e) ∙ t))
+gives_word : (w : List ℕ) (line : List Said) (more : List Operand) → AllSay line (Fixed w ∷ more) → Gives word w line more
+gives_word w [] more h = absurd h
+gives_word w (s ∷ line) more h = record { rest = line; is = ap (λ (t : Said). word (t ∷ line)) h.0 ∙ tokens.word_read w line; says = h.1 }
 
--- ---- words and hex digits
+gives_number : (limit n : ℕ) (line : List Said) (more : List Operand) → AllSay line (Number limit n ∷ more) → Gives (number limit) n line more
+gives_number limit n [] more h = absurd h
+gives_number limit n (s ∷ line) more h = record { rest = line; is = ap (λ (t : Said). number limit (t ∷ line)) h.0.1 ∙ tokens.number_read limit n h.0.0 line h.0.2; says = h.1 }
 
-plain_again : (b : ℕ) (w rest : List ℕ) → list_all not_blank w ≡ true → ends_well rest ≡ true → plain_at b (w ++ rest) ≡ record { token = Plain (b ∷ w); after = rest }
-unfolding plain_at
-plain_again b w rest h e =
-    let k = blank_behind w rest h e in
-    rw (k, take_at w rest (length w) refl, drop_at w rest (length w) refl) refl
+gives_signed : (limit : ℕ) (z : ℤ) (line : List Said) (more : List Operand) → AllSay line (Signed limit z ∷ more) → Gives (signed limit) z line more
+gives_signed limit z [] more h = absurd h
+gives_signed limit z (s ∷ line) more h = record { rest = line; is = ap (λ (t : Said). signed limit (t ∷ line)) h.0.1 ∙ tokens.signed_read limit z h.0.0 line h.0.2; says = h.1 }
 
-plain_front : (b : ℕ) (line : List ℕ) → eqb b 35 ≡ false → is_quote b ≡ false → token_at (b ∷ line) ≡ Some (plain_at b line)
-unfolding token_at
-plain_front b line e f = rw (e, f) refl
+gives_name : (n : List ℕ) (line : List Said) (more : List Operand) → AllSay line (Name n ∷ more) → Gives name n line more
+gives_name n [] more h = absurd h
+gives_name n (s ∷ line) more h = record { rest = line; is = ap (λ (t : Said). name (t ∷ line)) h.0.0 ∙ tokens.name_read n line h.0.1; says = h.1 }
 
-plain_said : (b : ℕ) (w rest : List ℕ) → is_blank b ≡ false → eqb b 35 ≡ false → is_quote b ≡ false → list_all not_blank w ≡ true → ends_well rest ≡ true
-    → said_in (b ∷ (w ++ rest)) ≡ said (Plain (b ∷ w)) ∷ said_in rest
-plain_said b w rest x y z h e = said_front b (w ++ rest) (record { token = Plain (b ∷ w); after = rest }) x (plain_front b (w ++ rest) y z ∙ ap (λ (f : Front). Some f) (plain_again b w rest h e))
+gives_text : (bytes : List ℕ) (line : List Said) (more : List Operand) → AllSay line (Text bytes ∷ more) → Gives literal bytes line more
+gives_text bytes [] more h = absurd h
+gives_text bytes (s ∷ line) more h = record { rest = line; is = ap (λ (t : Said). literal (t ∷ line)) h.0.0 ∙ tokens.literal_read bytes line; says = h.1 }
 
-said_word : (w : List ℕ) → is_hex w ≡ false → said (Plain w) ≡ Word w
-unfolding said
-said_word w e = rw e refl
+points_read : (bytes ps : List ℕ) (line : List Said) → length bytes % 2 ≡ 0 → ps ≡ words bytes → points (Literal bytes ∷ line) ≡ Ok (record { value = ps; rest = line })
+unfolding points literal points_of
+points_read bytes ps line even e = rw (even, e) refl
 
-said_digits : (digits bytes : List ℕ) → decode_of digits ≡ Ok bytes → said (Plain (120 ∷ digits)) ≡ Literal bytes
-unfolding said
-said_digits digits bytes e = ap decoded e
+gives_points : (ps : List ℕ) (line : List Said) (more : List Operand) → AllSay line (Points ps ∷ more) → Gives points ps line more
+gives_points ps [] more h = absurd h
+gives_points ps (s ∷ line) more h = record { rest = line; is = ap (λ (t : Said). points (t ∷ line)) h.0.1 ∙ points_read h.0.0 ps line h.0.3 h.0.4; says = h.1 }
 
-word_again : (w rest : List ℕ) → is_word w ≡ true → ends_well rest ≡ true → said_in (w ++ rest) ≡ Word w ∷ said_in rest
-word_again [] rest h e = cc
-word_again (b ∷ w) rest h e =
-    let k = and_parts (not (eqb b 35) && not (is_quote b) && not (eqb b 120) && not_blank b) (list_all not_blank w) h in
-    let l = and_parts (not (eqb b 35) && not (is_quote b) && not (eqb b 120)) (not_blank b) k.0 in
-    let m = and_parts (not (eqb b 35) && not (is_quote b)) (not (eqb b 120)) l.0 in
-    let n = and_parts (not (eqb b 35)) (not (is_quote b)) m.0 in
-    plain_said b w rest (not_true (is_blank b) l.1) (not_true (eqb b 35) n.0) (not_true (is_quote b) n.1) k.1 e
-    ∙ ap (λ (s : Said). s ∷ said_in rest) (said_word (b ∷ w) (not_true (eqb b 120) m.1))
+-- ---- samples
 
-digits_again : (digits bytes rest : List ℕ) → decode_of digits ≡ Ok bytes → ends_well rest ≡ true → said_in (120 ∷ (digits ++ rest)) ≡ Literal bytes ∷ said_in rest
-digits_again digits bytes rest d e =
-    let all : list_all is_hex_digit digits ≡ true = list_all-from_AllPass is_hex_digit digits (decode_of-ok digits bytes d).1 in
-    plain_said 120 digits rest refl refl refl (list_all_weaker is_hex_digit not_blank (not_blank_of is_hex_digit refl refl refl) digits all) e
-    ∙ ap (λ (s : Said). s ∷ said_in rest) (said_digits digits bytes d)
+gives_kind : (k : Kind) (line : List Said) (more : List Operand) → AllSay line (kind_operands k ++ more) → Gives kind k line more
+unfolding kind kind_behind
+gives_kind Mono line more h = then _ (gives_word (codes "mono") line more h) (λ rest k. gives_pure Mono rest more k)
+gives_kind (Right n) line more h = then _ (gives_word (codes "right") line (Number 65535 n ∷ more) h) (λ rest k. then _ (gives_number 65535 n rest more k) (λ rest k. gives_pure (Right n) rest more k))
+gives_kind (Left n) line more h = then _ (gives_word (codes "left") line (Number 65535 n ∷ more) h) (λ rest k. then _ (gives_number 65535 n rest more k) (λ rest k. gives_pure (Left n) rest more k))
+gives_kind (Linked n) line more h = then _ (gives_word (codes "linked") line (Number 65535 n ∷ more) h) (λ rest k. then _ (gives_number 65535 n rest more k) (λ rest k. gives_pure (Linked n) rest more k))
 
--- ---- quotes
+gives_loop : (l : Option (ℕ × ℕ)) (line : List Said) (more : List Operand) → AllSay line (loop_operands l ++ more) → Gives looped l line more
+unfolding looped loop_behind
+gives_loop None line more h = then _ (gives_word (codes "noloop") line more h) (λ rest k. gives_pure None rest more k)
+gives_loop (Some l) line more h =
+    then _ (gives_word (codes "loop") line (Number 4294967295 l.0 ∷ Number 4294967295 l.1 ∷ more) h) (λ rest k.
+    then _ (gives_number 4294967295 l.0 rest (Number 4294967295 l.1 ∷ more) k) (λ rest k.
+    then _ (gives_number 4294967295 l.1 rest more k) (λ rest k. gives_pure (Some l) rest more k)))
 
-quoted_again : (i rest : List ℕ) → list_all not_quote i ≡ true → ends_well rest ≡ true → quoted_at (i ++ 34 ∷ rest) ≡ record { token = Quoted i; after = rest }
-unfolding quoted_at
-quoted_again i rest h e =
-    let k = first_behind is_quote i 34 rest h refl in
-    let len : length i < length (i ++ 34 ∷ rest) = omega (arith, length-append i (34 ∷ rest)) in
-    let t : ltb (length i) (length (i ++ 34 ∷ rest)) ≡ true = lt-ltb _ _ len in
-    let grouped : i ++ 34 ∷ rest ≡ (i ++ 34 ∷ []) ++ rest = sym (append_assoc i (34 ∷ []) rest) in
-    let d : drop (length i + 1) (i ++ 34 ∷ rest) ≡ rest = ap (drop (length i + 1)) grouped ∙ drop_at (i ++ 34 ∷ []) rest (length i + 1) (length-append i (34 ∷ [])) in
-    rw (k, t, d, e, take_at i (34 ∷ rest) (length i) refl) refl
+-- the last three parts of a sample
+abbrev tail_operands : Sample → List Operand
+tail_operands s = kind_operands s.kind ++ (loop_operands s.looped ++ Points s.points ∷ [])
 
-quoted_front : (line : List ℕ) → token_at (34 ∷ line) ≡ Some (quoted_at line)
-unfolding token_at
-quoted_front line = refl
+body_regrouped : (s : Sample) → body_operands s ≡ Name s.name ∷ Number 4294967295 s.rate ∷ Number 255 s.key ∷ Signed 127 s.correction ∷ tail_operands s
+body_regrouped s = ap (λ (os : List Operand). Name s.name ∷ Number 4294967295 s.rate ∷ Number 255 s.key ∷ Signed 127 s.correction ∷ os) (append_assoc (kind_operands s.kind) (loop_operands s.looped) (Points s.points ∷ []))
 
-open_plain : (b : ℕ) → is_open b ≡ true → is_plain b ≡ true
-open_plain b e = (and_parts (is_plain b) (not (is_quote b)) e).0
+gives_body : (s : Sample) (line : List Said) → AllSay line (body_operands s) → Gives body s line []
+unfolding body
+gives_body s line h =
+    then _ (gives_name s.name line (Number 4294967295 s.rate ∷ Number 255 s.key ∷ Signed 127 s.correction ∷ tail_operands s) (subst (AllSay line) (body_regrouped s) h)) (λ rest k.
+    then _ (gives_number 4294967295 s.rate rest (Number 255 s.key ∷ Signed 127 s.correction ∷ tail_operands s) k) (λ rest k.
+    then _ (gives_number 255 s.key rest (Signed 127 s.correction ∷ tail_operands s) k) (λ rest k.
+    then _ (gives_signed 127 s.correction rest (tail_operands s) k) (λ rest k.
+    then _ (gives_kind s.kind rest (loop_operands s.looped ++ Points s.points ∷ []) k) (λ rest k.
+    then _ (gives_loop s.looped rest (Points s.points ∷ []) k) (λ rest k.
+    then _ (gives_points s.points rest [] k) (λ rest k. gives_pure s rest [] k)))))))
 
-open_quote : (b : ℕ) → is_open b ≡ true → not_quote b ≡ true
-open_quote b e = (and_parts (is_plain b) (not (is_quote b)) e).1
+-- ---- texts
 
-said_quoted : (i : List ℕ) → list_all is_plain i ≡ true → said (Quoted i) ≡ Literal i
-unfolding said
-said_quoted i e = rw e refl
+gives_id : (id : InfoId) (line : List Said) (more : List Operand) → AllSay line (Fixed (id_word id) ∷ more) → Gives info_id id line more
+unfolding info_id
+gives_id id line more h = then _ (gives_word (id_word id) line more h) (λ rest k. gives_some id (named id_word ids (id_word id)) rest more (id_named id) k)
 
-quotes_again : (bytes rest : List ℕ) → list_all is_open bytes ≡ true → ends_well rest ≡ true → said_in ((34 ∷ bytes ++ 34 ∷ []) ++ rest) ≡ Literal bytes ∷ said_in rest
-quotes_again bytes rest h e =
-    ap said_in (ap (λ (l : List ℕ). 34 ∷ l) (append_assoc bytes (34 ∷ []) rest))
-    ∙ said_front 34 (bytes ++ 34 ∷ rest) (record { token = Quoted bytes; after = rest }) refl
-    (quoted_front (bytes ++ 34 ∷ rest) ∙ ap (λ (f : Front). Some f) (quoted_again bytes rest (list_all_weaker is_open not_quote open_quote bytes h) e))
-    ∙ ap (λ (s : Said). s ∷ said_in rest) (said_quoted bytes (list_all_weaker is_open is_plain open_plain bytes h))
+-- ---- the forms
 
--- ---- a line
+gives_renaming : (step : ℕ → List ℕ → Step) (i : ℕ) (n : List ℕ) (line : List Said) → AllSay line (named_operands i n) → Gives (renaming step) (step i n) line []
+unfolding renaming
+gives_renaming step i n line h = then _ (gives_number 4294967295 i line (Name n ∷ []) h) (λ rest k. then _ (gives_name n rest [] k) (λ rest k. gives_pure (step i n) rest [] k))
 
-shown : (token after : List ℕ) (s : Said) → Shows token s → ends_well after ≡ true → said_in (token ++ after) ≡ s ∷ said_in after
-shown token after (Word w) h e = ap (λ (t : List ℕ). said_in (t ++ after)) h.0 ∙ word_again w after h.1 e
-shown token after (Literal bytes) (inl q) e = ap (λ (t : List ℕ). said_in (t ++ after)) q.0 ∙ quotes_again bytes after q.1 e
-shown token after (Literal bytes) (inr d) e = ap (λ (t : List ℕ). said_in (t ++ after)) d.parts ∙ digits_again d.digits bytes after d.value e
-shown token after Bad h e = absurd h
+gives_moving : (step : ℕ → ℕ → Step) (i j : ℕ) (line : List Said) → AllSay line (moved_operands i j) → Gives (moving step) (step i j) line []
+unfolding moving
+gives_moving step i j line h = then _ (gives_number 4294967295 i line (Number 4294967295 j ∷ []) h) (λ rest k. then _ (gives_number 4294967295 j rest [] k) (λ rest k. gives_pure (step i j) rest [] k))
 
-silent_end : (b : ℕ) (line : List ℕ) → eqb b 35 ≡ true → token_at (b ∷ line) ≡ None
-unfolding token_at
-silent_end b line e = rw e refl
+gives_operands : (s : Step) (line : List Said) → AllSay line (operands s) → Gives (operands_read (form_of s)) s line []
+unfolding add_sample remove_sample set_info
+gives_operands (MovePreset i j) line h = gives_moving (λ i j. MovePreset i j) i j line h
+gives_operands (RenameInstrument i n) line h = gives_renaming (λ i n. RenameInstrument i n) i n line h
+gives_operands (MoveInstrument i j) line h = gives_moving (λ i j. MoveInstrument i j) i j line h
+gives_operands (RenameSample s n) line h = gives_renaming (λ i n. RenameSample i n) s n line h
+gives_operands (AddSample at s) line h =
+    then _ (gives_number 4294967295 at line (body_operands s) h) (λ rest k. then _ (gives_body s rest k) (λ rest k. gives_pure (AddSample at s) rest [] k))
+gives_operands (RemoveSample s) line h = then _ (gives_number 4294967295 s line [] h) (λ rest k. gives_pure (RemoveSample s) rest [] k)
+gives_operands (MoveSample i j) line h = gives_moving (λ i j. MoveSample i j) i j line h
+gives_operands (SetInfo id text) line h =
+    then _ (gives_id id line (Text text ∷ []) h) (λ rest k. then _ (gives_text text rest [] k) (λ rest k. gives_pure (SetInfo id text) rest [] k))
 
-comment_stays : (b : ℕ) (line : List ℕ) → eqb b 35 ≡ true → after_blanks (b ∷ line) ≡ b ∷ line
-comment_stays b line e = let n = eqb-true b 35 e in rw n (stays 35 line refl)
+gives_step : (s : Step) (line : List Said) → SaysEdit line (One s) → Gives step s line []
+unfolding step
+gives_step s line h =
+    then _ (gives_word (form_word (form_of s)) line (operands s) h) (λ rest k.
+    then _ (gives_some (form_of s) (named form_word forms (form_word (form_of s))) rest (operands s) (form_named (form_of s)) k) (λ rest k. gives_operands s rest k))
 
-silent_said : (rest : List ℕ) → is_silent rest ≡ true → said_in rest ≡ []
-silent_said [] e = ap (map said) tokens_nothing
-silent_said (b ∷ line) e = ap (map said) (tokens_end (b ∷ line) (ap token_at (comment_stays b line e) ∙ silent_end b line e))
-
-nothing_said : (line : List ℕ) → SaysNothing line → said_in line ≡ []
-nothing_said line h = ap said_in h.parts ∙ said_behind h.blanks h.rest h.blank ∙ silent_said h.rest h.silent
-
-pub line_said : (said : List Said) (line : List ℕ) → LineSays line said → said_in line ≡ said
-line_said [] line h = nothing_said line h
-line_said (s ∷ said) line h =
-    let b = h.1 in
-    ap said_in b.parts
-    ∙ said_behind b.blanks (b.token ++ h.0) b.blank
-    ∙ shown b.token h.0 s b.shows b.apart
-    ∙ ap (λ (l : List Said). s ∷ l) (line_said said h.0 h.2)
-
--- ---- an edit
-
-number_again : (limit n : ℕ) (w : List ℕ) → Writes limit w n → number_of limit w ≡ Some n
-unfolding number_of
-number_again limit n w h =
-    let some : nat_lt 0 (length w) ≡ true = lt-ltb 0 (length w) h.some in
-    let few : nat_le (length w) 10 ≡ true = le-leb (length w) 10 h.few in
-    let within : nat_le n limit ≡ true = le-leb n limit h.within in
-    rw (some, few, h.digits, h.value, within) refl
-
-number_read : (limit n : ℕ) (w : List ℕ) (line : List Said) → Writes limit w n → number limit (Word w ∷ line) ≡ Ok (record { value = n; rest = line })
-unfolding number
-number_read limit n w line h = let k = number_again limit n w h in rw k refl
-
-name_read : (n : List ℕ) (line : List Said) → IsName n → name (Literal n ∷ line) ≡ Ok (record { value = n; rest = line })
-unfolding name literal name_of
-name_read n line h = let k = name_passes n h in rw k refl
+nothing_left : (line : List Said) → AllSay line [] → line ≡ []
+nothing_left [] h = refl
+nothing_left (s ∷ line) h = absurd h
 
 pub edit_read : (said : List Said) (e : Edit) → SaysEdit said e → edit said ≡ Ok (record { value = e; rest = [] })
-unfolding edit word rename_sample ended
-edit_read said (RenameSample s n) h = rw (h.1, number_read 4294967295 s h.0 (Literal n ∷ []) h.2, name_read n [] h.3) refl
+unfolding edit ended
+edit_read said (One s) h =
+    let g = gives_step s said h in
+    ap (λ r. and_then r (λ s. ended (One s))) g.is ∙ ap (ended (One s)) (nothing_left g.rest g.says)
 
 some_said : (e : Edit) → SaysEdit [] e → ⊥
-some_said (RenameSample s n) h = cc (h.1)
+some_said (One s) h = h
 
 -- ---- lines
 
--- some list comes of it
-abbrev Grows : {X : Type 0} → Grown X → Type 0
-Grows {X} r = (xs : List X) × (r ≡ Ok xs)
+-- each line that says edits says something
+all_say : (n : ℕ) (ls : List (List ℕ)) (edits : List Line) → LinesSay n ls edits → AllByRecursion Says ls
+all_say n [] edits h = tt
+all_say n (l ∷ ls) edits (inl h) = (([], h.0), all_say (suc n) ls edits h.1)
+all_say n (l ∷ ls) edits (inr h) = ((h.said, h.tokens), all_say (suc n) ls h.more h.follow)
 
-literal_grows : (n : ℕ) (token : List ℕ) (s : Said) (pool : List ℕ) → Shows token s → Grows (literal_of n s pool)
-unfolding literal_of
-literal_grows n token (Word w) pool h = (pool, refl)
-literal_grows n token (Literal bytes) pool h = (pool ++ bytes, refl)
-literal_grows n token Bad pool h = absurd h
+-- what a line adds to the edits before it
+silent_kept : (n : ℕ) (l : List ℕ) (edits : List Line) → SaysNothing l → edit_of n (said_in l) edits ≡ Ok edits
+silent_kept n l edits h = says_nothing n (said_in l) edits (line_said [] l h)
 
-literals_grow : (n : ℕ) (said : List Said) (line pool : List ℕ) → LineSays line said → Grows (literals_of n said pool)
-literals_grow n [] line pool h = (pool, literals_none n pool)
-literals_grow n (s ∷ said) line pool h =
-    let a = literal_grows n h.1.token s pool h.1.shows in
-    let b = literals_grow n said h.0 a.0 h.2 in
-    (b.0, literals_on n s said pool ∙ ap (λ (r : Grown ℕ). and_then r (λ more. literals_of n said more)) a.1 ∙ b.1)
+empty_room : (before : List Line) → length before ≤ 0 → is_full before ≡ false
+empty_room [] h = refl
+empty_room (l ∷ before) h = absurd (omega (arith, h))
 
-lines_grow : (n : ℕ) (ls : List (List ℕ)) (edits : List Line) (pool : List ℕ) → LinesSay n ls edits → Grows (gather literals_of n (map said_in ls) pool)
-lines_grow n [] edits pool h = (pool, gather_none literals_of n pool)
-lines_grow n (l ∷ ls) edits pool (inl h) =
-    let b = lines_grow (suc n) ls edits pool h.1 in (
-      b.0,
-      gather_on literals_of n (said_in l) (map said_in ls) pool
-          ∙ ap (λ (s : List Said). and_then (literals_of n s pool) (λ more. gather literals_of (suc n) (map said_in ls) more)) (nothing_said l h.0)
-          ∙ ap (λ (r : Grown ℕ). and_then r (λ more. gather literals_of (suc n) (map said_in ls) more)) (literals_none n pool)
-          ∙ b.1,
-    )
-lines_grow n (l ∷ ls) edits pool (inr h) =
-    let a = literals_grow n h.said l pool h.tokens in
-    let b = lines_grow (suc n) ls h.more a.0 h.follow in (
-      b.0,
-      gather_on literals_of n (said_in l) (map said_in ls) pool
-          ∙ ap (λ (s : List Said). and_then (literals_of n s pool) (λ more. gather literals_of (suc n) (map said_in ls) more)) (line_said h.said l h.tokens)
-          ∙ ap (λ (r : Grown ℕ). and_then r (λ more. gather literals_of (suc n) (map said_in ls) more)) a.1
-          ∙ b.1,
-    )
-
-silent_kept : (n : ℕ) (edits : List Line) → edit_of n [] edits ≡ Ok edits
-unfolding edit_of
-silent_kept n edits = refl
-
-first_added : (n : ℕ) (said : List Said) (e : Edit) → SaysEdit said e → edit_of n said [] ≡ Ok (record { number = n; edit = e } ∷ [])
-unfolding edit_of
-first_added n [] e h = absurd (some_said e h)
-first_added n (s ∷ said) e h = ap (with_edit n []) (edit_read (s ∷ said) e h)
+edit_added : (n : ℕ) (l : List ℕ) (said : List Said) (e : Edit) (before : List Line) → length before ≤ 0 → LineSays l said → SaysEdit said e → edit_of n (said_in l) before ≡ Ok (before ++ record { number = n; edit = e } ∷ [])
+edit_added n l said e before few t h =
+    ap (λ (s : List Said). edit_of n s before) (line_said said l t)
+    ∙ one_more n said before (λ k. some_said e (subst (λ (s : List Said). SaysEdit s e) k h)) (empty_room before few)
+    ∙ ap (with_edit n before) (edit_read said e h)
 
 gathered : (n : ℕ) (ls : List (List ℕ)) (before edits : List Line) → length before + length edits ≤ 1 → LinesSay n ls edits → gather edit_of n (map said_in ls) before ≡ Ok (before ++ edits)
 gathered n [] before edits few h = gather_none edit_of n before ∙ ap (λ (l : List Line). Ok l) (sym (ap (λ (l : List Line). before ++ l) h ∙ append-nil before))
 gathered n (l ∷ ls) before edits few (inl h) =
     gather_on edit_of n (said_in l) (map said_in ls) before
-    ∙ ap (λ (s : List Said). and_then (edit_of n s before) (λ more. gather edit_of (suc n) (map said_in ls) more)) (nothing_said l h.0)
-    ∙ ap (λ (r : Grown Line). and_then r (λ more. gather edit_of (suc n) (map said_in ls) more)) (silent_kept n before)
+    ∙ ap (λ (r : Grown Line). pool.and_then r (λ more. gather edit_of (suc n) (map said_in ls) more)) (silent_kept n l before h.0)
     ∙ gathered (suc n) ls before edits few h.1
-gathered n (l ∷ ls) [] edits few (inr h) =
+gathered n (l ∷ ls) before edits few (inr h) =
     let len = ap length h.parts in
-    gather_on edit_of n (said_in l) (map said_in ls) []
-    ∙ ap (λ (s : List Said). and_then (edit_of n s []) (λ more. gather edit_of (suc n) (map said_in ls) more)) (line_said h.said l h.tokens)
-    ∙ ap (λ (r : Grown Line). and_then r (λ more. gather edit_of (suc n) (map said_in ls) more)) (first_added n h.said h.edit h.form)
-    ∙ gathered (suc n) ls (record { number = n; edit = h.edit } ∷ []) h.more (omega (arith, few, len)) h.follow
-    ∙ ap (λ (l : List Line). Ok l) (sym h.parts)
-gathered n (l ∷ ls) (e ∷ before) edits few (inr h) = let len = ap length h.parts in absurd (omega (arith, few, len))
+    let one : Line = record { number = n; edit = h.edit } in
+    let more : length (before ++ one ∷ []) + length h.more ≤ 1 = omega (arith, few, len, length-append before (one ∷ [])) in
+    gather_on edit_of n (said_in l) (map said_in ls) before
+    ∙ ap (λ (r : Grown Line). pool.and_then r (λ more. gather edit_of (suc n) (map said_in ls) more)) (edit_added n l h.said h.edit before (omega (arith, few, len)) h.tokens h.form)
+    ∙ gathered (suc n) ls (before ++ one ∷ []) h.more more h.follow
+    ∙ ap (λ (l : List Line). Ok l) (append_assoc before (one ∷ []) h.more ∙ ap (λ (l : List Line). before ++ l) (sym h.parts))
 
 pub spelled_read : (text : List ℕ) (edits : List Line) → Spells text edits → script_of text ≡ Ok edits
 unfolding script_of pool_bytes edits_in
 spelled_read text edits h =
-    let p = lines_grow 1 (lines_of text) edits [] h.lines in
+    let p = lines_grow 1 (lines_of text) [] (all_say 1 (lines_of text) edits h.lines) in
     ap (λ (r : Grown ℕ). result_and r (gather edit_of 1 (said_lines text) [])) p.1
     ∙ gathered 1 (lines_of text) [] edits (let few = h.few in omega (arith, few)) h.lines
 

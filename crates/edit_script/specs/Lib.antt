@@ -1,7 +1,8 @@
-pub mod Faults
-pub mod Lines
-pub mod Tokens
-pub mod Said
+pub mod Operands
+pub mod Names
+pub mod Members
+pub mod Samples
+pub mod Texts
 pub mod Grammar
 pub mod Script
 pub mod Printing

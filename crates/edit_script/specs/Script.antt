@@ -1,65 +1,28 @@
 -- What a script says, or its first fault.
-use Rattle.std.specs.Prelude.{◌≡◌, ℕ, suc, List, [], ◌∷◌, ◌++◌, Result, Ok, Err}
+use Rattle.std.specs.Prelude.{ℕ, List, [], ◌∷◌, ◌++◌, length, Result, Ok, Err, Bool, nat_lt, if◌then◌else◌}
 use Rattle.std.specs.Result.{result_and}
-use Rattle.sf_base.specs.declared.memory.Failure.{Failure}
-use Rattle.sf_base.specs.declared.memory.Failure.TheVariants as failures
 use Rattle.bank_edits.specs.declared.edit.Edit.{Edit}
-use Rattle.edit_script.specs.declared.cursor.Said.{Said}
-use Rattle.edit_script.specs.declared.cursor.Said.TheVariants.{Word, Literal, Bad}
-use Rattle.edit_script.specs.declared.cursor.Stop.{Stop}
-use Rattle.edit_script.specs.declared.cursor.Stop.TheVariants as stop
-use Rattle.edit_script.specs.declared.fault.ScriptFault.{ScriptFault}
-use Rattle.edit_script.specs.declared.fault.ScriptFault.TheVariants as faults
+use Rattle.line_tokens.specs.declared.cursor.Said.{Said}
+use Rattle.line_tokens.specs.declared.fault.LineFault.{LineFault}
+use Rattle.line_tokens.specs.declared.fault.ScriptFault.TheVariants as faults
+use Rattle.line_tokens.specs.Said.{said_lines}
+use Rattle.line_tokens.specs.Parts.{Took}
+use Rattle.line_tokens.specs.Pool.{Grown, gather, on_line, pool_bytes}
 use Rattle.edit_script.specs.declared.parsing.Line.{Line}
-use Rattle.edit_script.specs.Said.{said_lines}
-use Rattle.edit_script.specs.Grammar.{Took, edit}
+use Rattle.edit_script.specs.Grammar.{edit}
 
--- ---- lists that grow from left to right, up to the first fault
-
--- a list, or the fault that came before it was whole
-abbrev pub Grown : Type 0 → Type 0
-Grown X = Result (List X) ScriptFault
-
-abbrev pub and_then : {X : Type 0} → Grown X → (List X → Grown X) → Grown X
-and_then (Ok xs) f = f xs
-and_then (Err e) f = Err e
-
--- the list behind all lines, of which the first has the number n
-unfoldable pub gather : {X : Type 0} → (ℕ → List Said → List X → Grown X) → ℕ → List (List Said) → List X → Grown X
-gather f n [] xs = Ok xs
-gather f n (l ∷ ls) xs = and_then (f n l xs) (λ ys. gather f (suc n) ls ys)
-
--- ---- the pool: the bytes of all literals, or the first that is badly spelled
-
-unfoldable pub literal_of : ℕ → Said → List ℕ → Grown ℕ
-literal_of n (Word w) pool = Ok pool
-literal_of n (Literal bytes) pool = Ok (pool ++ bytes)
-literal_of n Bad pool = Err (faults.Literal n)
-
-unfoldable pub literals_of : ℕ → List Said → List ℕ → Grown ℕ
-literals_of n [] pool = Ok pool
-literals_of n (s ∷ line) pool = and_then (literal_of n s pool) (λ more. literals_of n line more)
-
-unfoldable pub pool_bytes : List ℕ → Grown ℕ
-pool_bytes text = gather literals_of 1 (said_lines text) []
-
--- ---- the edits, or the first fault from left to right
-
--- a fault, with its line
-abbrev pub on_line : ℕ → Stop → ScriptFault
-on_line n stop.Syntax = faults.Syntax n
-on_line n stop.Number = faults.Number n
-on_line n stop.Literal = faults.Literal n
-
-abbrev pub with_edit : ℕ → List Line → Result (Took Edit) Stop → Grown Line
+abbrev pub with_edit : ℕ → List Line → Result (Took Edit) LineFault → Grown Line
 with_edit n lines (Ok t) = Ok (lines ++ record { number = n; edit = t.value } ∷ [])
 with_edit n lines (Err e) = Err (on_line n e)
 
--- a line without tokens says nothing, and every other one is an edit, of which a script has at most one
+-- a script has at most one edit
+abbrev pub is_full : List Line → Bool
+is_full lines = nat_lt 0 (length lines)
+
+-- a line without tokens says nothing, and every other one is an edit
 unfoldable pub edit_of : ℕ → List Said → List Line → Grown Line
 edit_of n [] lines = Ok lines
-edit_of n (s ∷ line) [] = with_edit n [] (edit (s ∷ line))
-edit_of n (s ∷ line) (l ∷ lines) = Err (faults.Syntax n)
+edit_of n (s ∷ line) lines = if is_full lines then Err (faults.Syntax n) else with_edit n lines (edit (s ∷ line))
 
 unfoldable pub edits_in : List (List Said) → Grown Line
 edits_in lines = gather edit_of 1 lines []
@@ -68,15 +31,3 @@ edits_in lines = gather edit_of 1 lines []
 -- text, and else the first fault from left to right.
 unfoldable pub script_of : List ℕ → Grown Line
 script_of text = result_and (pool_bytes text) (edits_in (said_lines text))
-
--- ---- what calls answer
-
--- the fault, or want of memory, which can come in place of any answer
-abbrev pub Fails : {Y : Type 0} → Failure ScriptFault → Result Y ScriptFault → Type 0
-Fails (failures.Fault fault) r = r ≡ Err fault
-Fails failures.OutOfMemory r = Unit {0}
-
--- the answer, or why there is none
-abbrev pub Answers : {X Y : Type 0} → (X → Y) → Result X (Failure ScriptFault) → Result Y ScriptFault → Type 0
-Answers view (Ok x) r = r ≡ Ok (view x)
-Answers view (Err failure) r = Fails failure r

@@ -1,60 +1,122 @@
-//! The forms of edits: each has a word, and a function that reads what stands behind the word.
-ghost use Rattle.std.specs.Prelude.{◌≡◌, [], OnOk};
+//! The forms of edits, and what is named by a word.
+ghost use Rattle.std.specs.Prelude.{◌≡◌};
 ghost use Rattle.std.specs.Str.{bytes_eq};
-ghost use Rattle.edit_script.specs.Grammar.{Reads, form_of, operands, rename_sample, edit};
+ghost use Rattle.edit_script.specs.Names.{named};
+ghost use Rattle.edit_script.specs.Grammar.{form_word, forms, form_of};
 
-use crate::cursor::{Cursor, Stop};
-use bank_edits::Edit;
+use bank_edits::Step;
 
-#[derive(Debug, Clone, Copy)]
-pub enum Form {
-    RenameSample,
+/// What has a word of its own.
+pub(crate) trait HasWord: Copy + 'static {
+    ghost use Rattle.std.specs.Prelude.{ℕ, List};
+
+    ghost all: { List Self };
+
+    ghost word_of: { Self → List ℕ };
+
+    /// All that there are.
+    fn all() -> &'static [Self]
+        ensures { result.now ≡ all };
+
+    /// Its word.
+    fn word(self) -> &'static [u8]
+        ensures { result.now ≡ word_of self };
 }
 
-/// The edit that a line says, to the line's end.
-#[tactic(auto, unfolding(crate::specs::Grammar::edit, crate::specs::Grammar::ended))]
-pub fn edit(line: &mut Cursor<'_, '_>) -> Result<Edit, Stop>
-    ensures reads { Reads (λ e. e) edit line.old line.new result }
-    ensures done { OnOk result (line.new.said ≡ []) }
+/// The one that a word names, if there is one.
+pub(crate) fn named<T: HasWord>(word: &[u8]) -> Option<T>
+    ensures { result ≡ named T.word_of T.all word.now }
 {
-    let word = line.word()?;
-    let Some(form) = form_of(word) else {
-        return Err(Stop::Syntax);
-    };
-    let edit = operands(form, line)?;
-    line.end()?;
-    Ok(edit)
+    first_named(T::all(), word)
 }
 
-fn form_of(word: &[u8]) -> Option<Form>
-    ensures { result ≡ form_of word.now }
+// The first of these that a word names.
+fn first_named<T: HasWord>(items: &[T], word: &[u8]) -> Option<T>
+    ensures { result ≡ named T.word_of items.now word.now }
 {
-    if says(word, b"rename-sample") {
-        Some(Form::RenameSample)
-    } else {
-        None
+    for item in items {
+        if says(word, item.word()) {
+            return Some(*item);
+        }
     }
+    None
 }
 
-fn says(word: &[u8], text: &[u8]) -> bool
+/// Whether a word is this one.
+pub(crate) fn says(word: &[u8], text: &[u8]) -> bool
     ensures { result ≡ bytes_eq word.now text.now }
 {
     word == text
 }
 
-fn operands(form: Form, line: &mut Cursor<'_, '_>) -> Result<Edit, Stop>
-    ensures { Reads (λ e. e) (operands form) line.old line.new result }
-{
-    match form {
-        Form::RenameSample => rename_sample(line),
+/// A form of edits: one for each kind of step.
+#[derive(Debug, Clone, Copy)]
+pub enum Form {
+    // ---- presets
+    MovePreset,
+
+    // ---- instruments
+    RenameInstrument,
+    MoveInstrument,
+
+    // ---- samples
+    RenameSample,
+    AddSample,
+    RemoveSample,
+    MoveSample,
+
+    // ---- texts
+    SetInfo,
+}
+
+static FORMS: [Form; 8] = [
+    Form::MovePreset,
+    Form::RenameInstrument,
+    Form::MoveInstrument,
+    Form::RenameSample,
+    Form::AddSample,
+    Form::RemoveSample,
+    Form::MoveSample,
+    Form::SetInfo,
+];
+
+impl HasWord for Form {
+    ghost all = { forms };
+
+    ghost word_of = { form_word };
+
+    fn all() -> &'static [Form] {
+        &FORMS
+    }
+
+    fn word(self) -> &'static [u8] {
+        match self {
+            Form::MovePreset => b"move-preset",
+            Form::RenameInstrument => b"rename-inst",
+            Form::MoveInstrument => b"move-inst",
+            Form::RenameSample => b"rename-sample",
+            Form::AddSample => b"add-sample",
+            Form::RemoveSample => b"remove-sample",
+            Form::MoveSample => b"move-sample",
+            Form::SetInfo => b"set-info",
+        }
     }
 }
 
-#[tactic(auto, unfolding(crate::specs::Grammar::rename_sample))]
-fn rename_sample(line: &mut Cursor<'_, '_>) -> Result<Edit, Stop>
-    ensures { Reads (λ e. e) rename_sample line.old line.new result }
-{
-    let sample = line.number(u32::MAX)?;
-    let name = line.name()?;
-    Ok(Edit::RenameSample { sample, name })
+impl Form {
+    /// The form of a step.
+    pub(crate) fn of(step: &Step<'_>) -> Form
+        ensures { result ≡ form_of step.now }
+    {
+        match step {
+            Step::MovePreset { .. } => Form::MovePreset,
+            Step::RenameInstrument { .. } => Form::RenameInstrument,
+            Step::MoveInstrument { .. } => Form::MoveInstrument,
+            Step::RenameSample { .. } => Form::RenameSample,
+            Step::AddSample { .. } => Form::AddSample,
+            Step::RemoveSample { .. } => Form::RemoveSample,
+            Step::MoveSample { .. } => Form::MoveSample,
+            Step::SetInfo { .. } => Form::SetInfo,
+        }
+    }
 }

@@ -1,29 +1,32 @@
 //! The edits of a script.
 ghost use Rattle.std.specs.Prelude.{◌≡◌, Ok, IfOk};
-ghost use Rattle.edit_script.specs.Tokens.{tokens_of};
-ghost use Rattle.edit_script.specs.Lines.{lines_of};
-ghost use Rattle.edit_script.specs.Said.{all_said_over, pool_after, lines_said_over};
+ghost use Rattle.line_tokens.specs.Tokens.{tokens_of};
+ghost use Rattle.line_tokens.specs.Lines.{lines_of};
+ghost use Rattle.line_tokens.specs.Said.{all_said_over, pool_after, lines_said_over};
 ghost use Rattle.edit_script.specs.Printing.{LinesFit};
-ghost use Rattle.edit_script.specs.Script.{Answers, edit_of, edits_in, pool_bytes, script_of};
+ghost use Rattle.line_tokens.specs.Pool.{Answers, pool_bytes};
+ghost use Rattle.edit_script.specs.Script.{is_full, edit_of, edits_in, script_of};
 
-use crate::cursor::Cursor;
-use crate::fault::ScriptFault;
-use crate::forms::edit;
-use crate::lines::Lines;
+use crate::edits::edit;
 use bank_edits::Edit;
+use line_tokens::{Cursor, Lines, ScriptFault};
 use sf_base::Failure;
 use std::alloc::Global;
 
 /// An edit of a script, and the number of its line, counted from 1.
 #[derive(Drop)]
-pub struct Line {
+pub struct Line<'a> {
     pub number: u64,
-    pub edit: Edit,
+    pub edit: Edit<'a>,
 }
 
 /// The edits of a text with their lines, over the bytes of its literals; or the first fault from left
 /// to right. Want of memory may come in place of either.
-pub fn parse(alloc: Global, text: &[u8], pool: &[u8]) -> Result<Vec<Line>, Failure<ScriptFault>>
+pub fn parse<'a>(
+    alloc: Global,
+    text: &[u8],
+    pool: &'a [u8],
+) -> Result<Vec<Line<'a>>, Failure<ScriptFault>>
     requires { pool_bytes text.now ≡ Ok pool.now }
     ensures answers { Answers (λ lines. lines.items) result (script_of text.now) }
     ensures fit { IfOk result (λ lines. LinesFit lines.items) }
@@ -31,7 +34,11 @@ pub fn parse(alloc: Global, text: &[u8], pool: &[u8]) -> Result<Vec<Line>, Failu
     parse_lines(alloc, text, pool)
 }
 
-fn parse_lines(alloc: Global, text: &[u8], pool: &[u8]) -> Result<Vec<Line>, Failure<ScriptFault>>
+fn parse_lines<'a>(
+    alloc: Global,
+    text: &[u8],
+    pool: &'a [u8],
+) -> Result<Vec<Line<'a>>, Failure<ScriptFault>>
     ensures { Answers (λ lines. lines.items) result (edits_in (lines_said_over pool.now (lines_of text.now))) }
 {
     let mut edits = Vec::new(alloc);
@@ -39,14 +46,15 @@ fn parse_lines(alloc: Global, text: &[u8], pool: &[u8]) -> Result<Vec<Line>, Fai
     let mut rest = pool;
     for line in Lines::of(text) {
         number += 1;
-        rest = add_edit(&mut edits, number, line, rest)?;
+        rest = add_edit(alloc, &mut edits, number, line, rest)?;
     }
     Ok(edits)
 }
 
 // Adds the edit of a line, if it has one, and gives the pool behind the line.
 fn add_edit<'a>(
-    edits: &mut Vec<Line>,
+    alloc: Global,
+    edits: &mut Vec<Line<'a>>,
     number: u64,
     line: &[u8],
     pool: &'a [u8],
@@ -58,12 +66,19 @@ fn add_edit<'a>(
     if cursor.is_empty() {
         return Ok(pool);
     }
-    if !edits.as_slice().is_empty() {
+    if is_full(edits) {
         return Err(ScriptFault::Syntax(number).into());
     }
-    match edit(&mut cursor) {
+    match edit(alloc, &mut cursor) {
         Ok(edit) => edits.push(Line { number, edit })?,
-        Err(stop) => return Err(stop.on_line(number).into()),
+        Err(fault) => return Err(fault.on_line(number).into()),
     }
     Ok(cursor.pool())
+}
+
+// Whether there is no room for a further edit: a script has at most one.
+fn is_full(edits: &Vec<Line<'_>>) -> bool
+    ensures { result ≡ is_full edits.now.items }
+{
+    edits.len() > 0
 }

@@ -1,10 +1,10 @@
 use Rattle.std.proofs.Common.{◌∙◌, sym, ap}
-use Rattle.edit_script.specs.Said.{Left, all_said_over}
-use Rattle.edit_script.specs.Tokens.{tokens_of}
+use Rattle.line_tokens.specs.Said.{Left, all_said_over}
+use Rattle.line_tokens.specs.Tokens.{tokens_of}
 use Rattle.edit_script.specs.Grammar.{edit}
 use Rattle.edit_script.specs.Script.{with_edit}
-use Rattle.edit_script.proofs.PoolLaws.{pool_at_end}
-use Rattle.edit_script.proofs.ScriptLaws.{says_nothing, one_too_many, first_edit, not_both, none_before, some_before}
+use Rattle.line_tokens.proofs.PoolLaws.{pool_at_end}
+use Rattle.edit_script.proofs.ScriptLaws.{says_nothing, one_too_many, one_more, not_both}
 use Rattle.edit_script.proofs.parsing.add_edit.Goals as goal
 
 pub returns-then-is_empty-clause-added : goal.returns-then-is_empty-clause-added
@@ -15,25 +15,25 @@ pub returns-then-is_empty-clause-behind : goal.returns-then-is_empty-clause-behi
 returns-then-is_empty-clause-behind c =
     pool_at_end c.args.pool.now (tokens_of c.args.line.now) (sym (ap (λ (l : Left). l.said) c.of-cursor.ensures) ∙ c.is_empty.ensures.0 c.if-is_empty.true)
 
-pub returns-then-not-is_empty-clause-added : goal.returns-then-not-is_empty-clause-added
-returns-then-not-is_empty-clause-added c =
+pub returns-then-is_full-clause-added : goal.returns-then-is_full-clause-added
+returns-then-is_full-clause-added c =
     let e = sym (ap (λ (l : Left). l.said) c.of-cursor.ensures) in
     rw c.into.ensures (one_too_many c.args.number _ c.args.edits.now.items
     (λ h. not_both (c.is_empty.ensures.1 (sym e ∙ h)) c.if-is_empty.false)
-    (some_before _ _ (sym c.as_slice.ensures.value) (sym c.is_empty-2.ensures ∙ c.if-not-is_empty.true)))
+    (sym c.is_full.ensures ∙ c.if-is_full.true))
 
 pub returns-in-Err-clause-added : goal.returns-in-Err-clause-added
 returns-in-Err-clause-added c =
     let e = sym (ap (λ (l : Left). l.said) c.of-cursor.ensures) in
-    let on = first_edit c.args.number (all_said_over c.args.pool.now (tokens_of c.args.line.now)) c.args.edits.now.items
+    let on = one_more c.args.number (all_said_over c.args.pool.now (tokens_of c.args.line.now)) c.args.edits.now.items
     (λ h. not_both (c.is_empty.ensures.1 (sym e ∙ h)) c.if-is_empty.false)
-    (none_before _ _ (sym c.as_slice.ensures.value) (sym c.is_empty-2.ensures ∙ c.if-not-is_empty.false)) in
+    (sym c.is_full.ensures ∙ c.if-is_full.false) in
     rw (c.into-in-Err.ensures, c.on_line.ensures) (on ∙ ap (with_edit c.args.number c.args.edits.now.items) (ap edit e ∙ c.in-Err.ensures.reads))
 
 pub returns-clause-added : goal.returns-clause-added
 returns-clause-added c =
     let e = sym (ap (λ (l : Left). l.said) c.of-cursor.ensures) in
-    let on = first_edit c.args.number (all_said_over c.args.pool.now (tokens_of c.args.line.now)) c.args.edits.now.items
+    let on = one_more c.args.number (all_said_over c.args.pool.now (tokens_of c.args.line.now)) c.args.edits.now.items
     (λ h. not_both (c.is_empty.ensures.1 (sym e ∙ h)) c.if-is_empty.false)
-    (none_before _ _ (sym c.as_slice.ensures.value) (sym c.is_empty-2.ensures ∙ c.if-not-is_empty.false)) in
+    (sym c.is_full.ensures ∙ c.if-is_full.false) in
     rw c.in_ok-push-in-Ok.ensures.items (on ∙ ap (with_edit c.args.number c.args.edits.now.items) (ap edit e ∙ c.in-Ok.ensures.reads.0))

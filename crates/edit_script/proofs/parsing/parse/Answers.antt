@@ -1,4 +1,4 @@
-use Rattle.edit_script.proofs.PoolLaws.{script_over_pool}
+use Rattle.edit_script.proofs.ScriptLaws.{script_over_pool}
 use Rattle.edit_script.proofs.FitLaws.{answers_fit}
 use Rattle.edit_script.proofs.parsing.parse.Goals as goal
 

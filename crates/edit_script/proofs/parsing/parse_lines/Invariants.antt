@@ -1,7 +1,8 @@
 use Rattle.std.proofs.Common.{◌≡◌, ◌≤◌, ◌+◌, length}
-use Rattle.edit_script.specs.Lines.{lines_of}
-use Rattle.edit_script.specs.Said.{lines_said_over}
-use Rattle.edit_script.specs.Script.{gather, edit_of, edits_in}
+use Rattle.line_tokens.specs.Lines.{lines_of}
+use Rattle.line_tokens.specs.Said.{lines_said_over}
+use Rattle.line_tokens.specs.Pool.{gather}
+use Rattle.edit_script.specs.Script.{edit_of, edits_in}
 use Rattle.edit_script.proofs.parsing.parse_lines.Given as goal
 
 -- what is left makes of the edits so far what the whole text says

@@ -1,0 +1,72 @@
+-- Operands that fit are printed as pieces that say them.
+use Rattle.std.proofs.Common.{◌≡◌, ◌≤◌, ◌<◌, ◌^◌, ◌%◌, ℕ, true, List, [], ◌∷◌, ◌++◌, length, map, decimal, refl, sym, arith}
+use Rattle.std.specs.List.{list_all, flat_map, AllByRecursion}
+use Rattle.std.specs.Fmt.{signed_decimal}
+use Rattle.sf_base.specs.Names.{IsName}
+use Rattle.sample_view.specs.Words.{word_bytes}
+use Rattle.sample_view.proofs.WordLemmas.{words_of_bytes}
+use Rattle.bank_parts.specs.Fits.{FitsText}
+use Rattle.line_tokens.specs.Spelling.{is_word, IsWithin}
+use Rattle.line_tokens.proofs.TestLaws.{not_feed}
+use Rattle.line_tokens.proofs.PieceLaws.{meant, Spoken, AllSpoken, writes, writes_signed, spoken_number, spoken_signed, spoken_word, spoken_name, spoken_bytes, spoken_hex, are_bytes}
+use Rattle.edit_script.specs.Operands.{Operand, Fixed, Number, Signed, Name, Text, Points, Says, AllSay, piece_of, pieces_of}
+
+-- a word that a line can hold
+abbrev pub IsFixed : List ℕ → Type 0
+IsFixed w = (is_word w ≡ true) × (list_all not_feed w ≡ true)
+
+-- what can be said
+abbrev pub FitsOperand : Operand → Type 0
+FitsOperand (Fixed w) = IsFixed w
+FitsOperand (Number limit n) = (n ≤ limit) × (limit < 2 ^ 32)
+FitsOperand (Signed limit z) = IsWithin limit z × (limit < 2 ^ 16)
+FitsOperand (Name bytes) = IsName bytes
+FitsOperand (Text bytes) = FitsText bytes
+FitsOperand (Points ps) = AllByRecursion (λ p. p < 2 ^ 16) ps
+
+abbrev pub AllFit : List Operand → Type 0
+AllFit os = AllByRecursion FitsOperand os
+
+-- ---- bytes
+
+points_text : (ps : List ℕ) → AllByRecursion (λ p. p < 2 ^ 16) ps → FitsText (flat_map word_bytes ps)
+unfolding word_bytes
+points_text [] h = tt
+points_text (p ∷ ps) h = (omega arith, (let l = h.0 in omega (arith, l), points_text ps h.1))
+
+length-points : (ps : List ℕ) → length (flat_map word_bytes ps) % 2 ≡ 0
+unfolding word_bytes
+length-points [] = refl
+length-points (p ∷ ps) = let h = length-points ps in omega (arith, h)
+
+-- ---- one operand
+
+pub operand_spoken : (o : Operand) → FitsOperand o → Spoken (piece_of o)
+operand_spoken (Fixed w) h = spoken_word w h.0 h.1
+operand_spoken (Number limit n) h = spoken_number n (let a = h.0 in let b = h.1 in omega (arith, a, b))
+operand_spoken (Signed limit z) h = spoken_signed limit z h.0 h.1
+operand_spoken (Name bytes) h = spoken_name bytes h
+operand_spoken (Text bytes) h = spoken_bytes bytes (are_bytes bytes h)
+operand_spoken (Points ps) h = spoken_hex (flat_map word_bytes ps) (are_bytes (flat_map word_bytes ps) (points_text ps h))
+
+operand_says : (o : Operand) → FitsOperand o → Says (meant (piece_of o)) o
+operand_says (Fixed w) h = refl
+operand_says (Number limit n) h = (decimal n, refl, writes limit n h.0 h.1)
+operand_says (Signed limit z) h = (signed_decimal z, refl, writes_signed limit z h.0 h.1)
+operand_says (Name bytes) h = (refl, h)
+operand_says (Text bytes) h = (refl, h)
+operand_says (Points ps) h = (flat_map word_bytes ps, refl, points_text ps h, length-points ps, sym (words_of_bytes ps))
+
+-- ---- all of them
+
+pub all_spoken : (os : List Operand) → AllFit os → AllSpoken (pieces_of os)
+all_spoken [] h = tt
+all_spoken (o ∷ os) h = (operand_spoken o h.0, all_spoken os h.1)
+
+pub all_say : (os : List Operand) → AllFit os → AllSay (map meant (pieces_of os)) os
+all_say [] h = tt
+all_say (o ∷ os) h = (operand_says o h.0, all_say os h.1)
+
+pub both_fit : (os more : List Operand) → AllFit os → AllFit more → AllFit (os ++ more)
+both_fit [] more h k = k
+both_fit (o ∷ os) more h k = (h.0, both_fit os more h.1 k)

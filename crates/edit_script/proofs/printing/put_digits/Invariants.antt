@@ -1,8 +1,0 @@
-use Rattle.std.proofs.Common.{drop}
-use Rattle.hex.specs.Hex.{encode_lower}
-use Rattle.sf_base.proofs.PenLaws.{Putting}
-use Rattle.edit_script.proofs.printing.put_digits.Given as goal
-
--- the digits of the bytes that are left are still to be put
-abbrev pub invariant-loop-byte : goal.invariant-loop-byte
-invariant-loop-byte g l = Putting (g.W.Write.contents l.initial.out) (g.W.Write.contents l.out) l.initial.pen l.pen (encode_lower l.bytes) (encode_lower (drop l.byte-index l.bytes))

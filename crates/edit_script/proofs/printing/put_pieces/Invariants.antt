@@ -1,9 +1,0 @@
-use Rattle.std.proofs.Common.{drop}
-use Rattle.std.specs.List.{flat_map}
-use Rattle.edit_script.specs.Printing.{spaced}
-use Rattle.sf_base.proofs.PenLaws.{Putting}
-use Rattle.edit_script.proofs.printing.put_pieces.Given as goal
-
--- the pieces that are left are still to be put
-abbrev pub invariant-loop-piece : goal.invariant-loop-piece
-invariant-loop-piece g l = Putting (g.W.Write.contents l.initial.out) (g.W.Write.contents l.out) l.initial.pen l.pen (flat_map spaced l.pieces) (flat_map spaced (drop l.piece-index l.pieces))

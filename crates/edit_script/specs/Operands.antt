@@ -1,0 +1,49 @@
+-- What stands on a line, token by token: the tokens that say it, and the pieces that it is printed as.
+use Rattle.std.specs.Prelude.{◌≡◌, ◌%◌, ℕ, ℤ, List, [], ◌∷◌, length, map}
+use Rattle.std.specs.List.{flat_map}
+use Rattle.sf_base.specs.Names.{IsName}
+use Rattle.sample_view.specs.Words.{words, word_bytes}
+use Rattle.bank_parts.specs.Fits.{FitsText}
+use Rattle.line_tokens.specs.declared.cursor.Said.{Said}
+use Rattle.line_tokens.specs.declared.cursor.Said.TheVariants.{Word, Literal}
+use Rattle.line_tokens.specs.declared.printing.Piece.{Piece}
+use Rattle.line_tokens.specs.declared.printing.Piece.TheVariants as piece
+use Rattle.line_tokens.specs.Spelling.{Writes, WritesSigned}
+
+-- one token: a word that is always the same, a number up to a limit, a signed number from one below
+-- minus the limit up to the limit, a name, a text, points as words of 16 bits
+pub data Operand : Type 0 where
+  Fixed : List ℕ → Operand
+  Number : ℕ → ℕ → Operand
+  Signed : ℕ → ℤ → Operand
+  Name : List ℕ → Operand
+  Text : List ℕ → Operand
+  Points : List ℕ → Operand
+
+-- the token says it
+abbrev pub Says : Said → Operand → Type 0
+Says s (Fixed w) = s ≡ Word w
+Says s (Number limit n) = (w : List ℕ) × (s ≡ Word w) × Writes limit w n
+Says s (Signed limit z) = (w : List ℕ) × (s ≡ Word w) × WritesSigned limit w z
+Says s (Name bytes) = (s ≡ Literal bytes) × IsName bytes
+Says s (Text bytes) = (s ≡ Literal bytes) × FitsText bytes
+Says s (Points ps) = (bytes : List ℕ) × (s ≡ Literal bytes) × FitsText bytes × (length bytes % 2 ≡ 0) × (ps ≡ words bytes)
+
+-- the tokens say it, one by one
+abbrev pub AllSay : List Said → List Operand → Type 0
+AllSay [] [] = Unit {0}
+AllSay [] (o ∷ os) = ⊥
+AllSay (s ∷ said) [] = ⊥
+AllSay (s ∷ said) (o ∷ os) = Says s o × AllSay said os
+
+-- what it is printed as
+abbrev pub piece_of : Operand → Piece
+piece_of (Fixed w) = piece.Word w
+piece_of (Number limit n) = piece.Number n
+piece_of (Signed limit z) = piece.Signed z
+piece_of (Name bytes) = piece.Name bytes
+piece_of (Text bytes) = piece.Name bytes
+piece_of (Points ps) = piece.Hex (flat_map word_bytes ps)
+
+abbrev pub pieces_of : List Operand → List Piece
+pieces_of os = map piece_of os

@@ -1,0 +1,9 @@
+pub mod TestLaws
+pub mod LexLaws
+pub mod PoolLaws
+pub mod NameLaws
+pub mod GatherLaws
+pub mod PrintLaws
+pub mod SpellLaws
+pub mod ReadLaws
+pub mod PieceLaws

@@ -1,0 +1,9 @@
+use Rattle.std.proofs.Common.{drop}
+use Rattle.std.specs.List.{flat_map}
+use Rattle.sf_base.proofs.OutputLaws.{Putting}
+use Rattle.line_tokens.specs.Printing.{spaced}
+use Rattle.line_tokens.proofs.printing.put_pieces.Given as goal
+
+-- the pieces that are left are still to be put
+abbrev pub invariant-loop-piece : goal.invariant-loop-piece
+invariant-loop-piece g l = Putting g.W.Write.contents l.initial.output l.output (flat_map spaced l.pieces) (flat_map spaced (drop l.piece-index l.pieces))

@@ -1,0 +1,22 @@
+-- What a fault of a script is called, and where it is.
+use Rattle.std.specs.Prelude.{ℕ, List, codes}
+use Rattle.line_tokens.specs.declared.fault.ScriptFault.{ScriptFault}
+use Rattle.line_tokens.specs.declared.fault.ScriptFault.TheVariants.{Syntax, Number, Literal}
+
+-- the number of each kind of fault
+abbrev pub number_of : ScriptFault → ℕ
+number_of (Syntax line) = 41
+number_of (Number line) = 42
+number_of (Literal line) = 43
+
+-- the name of each kind of fault
+abbrev pub name_of : ScriptFault → List ℕ
+name_of (Syntax line) = codes "Syntax"
+name_of (Number line) = codes "Number"
+name_of (Literal line) = codes "Literal"
+
+-- the line at fault
+abbrev pub line_of : ScriptFault → ℕ
+line_of (Syntax line) = line
+line_of (Number line) = line
+line_of (Literal line) = line

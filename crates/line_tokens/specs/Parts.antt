@@ -1,0 +1,110 @@
+-- The parts of a line, which are read from left to right, up to the first fault.
+use Rattle.std.specs.Prelude.{◌≡◌, ℕ, ℤ, pos, neg_ℤ, ◌+◌, ◌*◌, ◌-◌, List, [], ◌∷◌, length, fold, Option, Some, None, option_map, Result, Ok, Err, Bool, ◌==◌, ◌&&◌, nat_le, nat_lt, if◌then◌else◌}
+use Rattle.std.specs.List.{list_all}
+use Rattle.line_tokens.specs.declared.cursor.Said.{Said}
+use Rattle.line_tokens.specs.declared.cursor.Said.TheVariants.{Word, Literal, Bad}
+use Rattle.line_tokens.specs.declared.fault.LineFault.{LineFault}
+use Rattle.line_tokens.specs.declared.fault.LineFault.TheVariants as faults
+use Rattle.line_tokens.specs.Said as saying
+
+-- ---- a part of a line: a value and what is left of the line, or the first fault
+
+pub record Took (X : Type 0) : Type 0 where
+  pub value : X
+  pub rest : List Said
+
+abbrev pub Part : Type 0 → Type 0
+Part X = List Said → Result (Took X) LineFault
+
+abbrev pub and_then : {X Y : Type 0} → Result (Took X) LineFault → (X → Part Y) → Result (Took Y) LineFault
+and_then (Ok t) f = f t.value t.rest
+and_then (Err e) f = Err e
+
+-- one part, and then another
+infixl 10 ◌>>=◌
+abbrev pub ◌>>=◌ : {X Y : Type 0} → Part X → (X → Part Y) → Part Y
+(p >>= f) line = and_then (p line) f
+
+-- a value that takes no token
+abbrev pub pure : {X : Type 0} → X → Part X
+pure x line = Ok (record { value = x; rest = line })
+
+-- the value that there is, or this fault
+abbrev pub or_fault : {X : Type 0} → LineFault → Option X → Part X
+or_fault e None line = Err e
+or_fault e (Some x) line = Ok (record { value = x; rest = line })
+
+-- ---- the smallest parts
+
+-- a word, and neither a literal nor the line's end
+unfoldable pub word : Part (List ℕ)
+word [] = Err faults.Syntax
+word (Word w ∷ line) = Ok (record { value = w; rest = line })
+word (Literal bytes ∷ line) = Err faults.Syntax
+word (Bad ∷ line) = Err faults.Syntax
+
+-- a literal, and neither a word nor the line's end
+unfoldable pub literal : Part (List ℕ)
+literal [] = Err faults.Syntax
+literal (Word w ∷ line) = Err faults.Syntax
+literal (Literal bytes ∷ line) = Ok (record { value = bytes; rest = line })
+literal (Bad ∷ line) = Err faults.Syntax
+
+-- the line's end
+unfoldable pub ended : {X : Type 0} → X → Part X
+ended x [] = Ok (record { value = x; rest = [] })
+ended x (s ∷ line) = Err faults.Syntax
+
+-- ---- numbers
+
+abbrev pub is_digit : ℕ → Bool
+is_digit b = nat_le 48 b && nat_le b 57
+
+abbrev pub digits_value : List ℕ → ℕ
+digits_value w = fold (λ n b. n * 10 + (b - 48)) 0 w
+
+-- the number of 1 to 10 decimal digits, if it is within the limit
+unfoldable pub number_of : ℕ → List ℕ → Option ℕ
+number_of limit w = if nat_lt 0 (length w) && nat_le (length w) 10 && list_all is_digit w && nat_le (digits_value w) limit then Some (digits_value w) else None
+
+-- a word that is a number: any other token is a fault of number, and the line's end one of syntax
+abbrev pub numeral : {X : Type 0} → (List ℕ → Option X) → Part X
+numeral f [] = Err faults.Syntax
+numeral f (Word w ∷ line) = or_fault faults.Number (f w) line
+numeral f (Literal bytes ∷ line) = Err faults.Number
+numeral f (Bad ∷ line) = Err faults.Number
+
+-- a number within the limit
+unfoldable pub number : ℕ → Part ℕ
+number limit = numeral (number_of limit)
+
+-- the number of digits that may have `-` before them, from one below minus the limit up to the limit
+unfoldable pub signed_of : ℕ → List ℕ → Option ℤ
+signed_of limit [] = None
+signed_of limit (b ∷ w) = if b == 45 then option_map (λ n. neg_ℤ (pos n)) (number_of (limit + 1) w) else option_map pos (number_of limit (b ∷ w))
+
+-- a signed number
+unfoldable pub signed : ℕ → Part ℤ
+signed limit = numeral (signed_of limit)
+
+-- ---- names
+
+-- at most 20 bytes, none of them zero
+abbrev pub is_name : List ℕ → Bool
+is_name bytes = nat_le (length bytes) 20 && list_all (λ b. nat_lt 0 b) bytes
+
+-- the name with these bytes, if they are one
+unfoldable pub name_of : List ℕ → Option (List ℕ)
+name_of bytes = if is_name bytes then Some bytes else None
+
+-- a literal whose bytes are a name
+unfoldable pub name : Part (List ℕ)
+name = do
+  bytes ← literal
+  or_fault faults.Literal (name_of bytes)
+
+-- ---- what the code of a part does to what is left of a line
+
+abbrev pub Reads : {X Y : Type 0} → (X → Y) → Part Y → saying.Left → saying.Left → Result X LineFault → Type 0
+Reads view part old new (Ok x) = (part old.said ≡ Ok (record { value = view x; rest = new.said })) × (new.pool ≡ old.pool)
+Reads view part old new (Err e) = part old.said ≡ Err e

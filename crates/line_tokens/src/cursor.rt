@@ -1,0 +1,207 @@
+//! A line, read from left to right.
+ghost use Rattle.std.specs.Prelude.{◌≡◌, ◌≤◌, ◌≤ℤ◌, ◌+ℤ◌, pos, neg_ℤ, ◌↔◌, List, [], ◌∷◌, MatchOption, take, ℕ, IfOk, OnOk, IsTrue};
+ghost use Rattle.line_tokens.specs.Said.{left_over, size_of, said_over, is_hex};
+ghost use Rattle.line_tokens.specs.Tokens.{tokens_of};
+ghost use Rattle.line_tokens.specs.Parts.{Reads, word, literal, number, signed, name, name_of, ended};
+
+use crate::fault::LineFault;
+use crate::numbers::{number_of, signed_of};
+use crate::tokens::{Token, Tokens};
+use sf_base::{Lent, Name20, front_of, rest_from};
+use std::marker::Model;
+
+/// What a token says.
+#[derive(Debug, Drop)]
+pub enum Said<'t, 'p> {
+    /// A word of the text.
+    Word(Lent<'t>),
+    /// The bytes of a literal, in the pool.
+    Literal(Lent<'p>),
+    /// A literal that is badly spelled.
+    Bad,
+}
+
+/// What is left of a line, seen as what its tokens say, and the pool behind the line. Each byte of
+/// the line is passed once: the cursor keeps the next token and what lies behind it.
+#[derive(Drop)]
+pub struct Cursor<'t, 'p> {
+    first: Option<Token<'t>>,
+    others: Tokens<'t>,
+    pool: &'p [u8],
+}
+
+impl<'t, 'p> Model for Cursor<'t, 'p> {
+    ghost use Rattle.line_tokens.specs.Said.{Left, left_over, all_tokens};
+
+    ghost Value = { Left };
+
+    ghost view = { λ c. left_over c.pool.now (all_tokens c.first c.others) };
+}
+
+impl<'t, 'p> Cursor<'t, 'p> {
+    /// The cursor at the start of a line, over a pool that begins with the bytes of its literals.
+    pub fn of(line: &'t [u8], pool: &'p [u8]) -> Cursor<'t, 'p>
+        ensures { result ≡ left_over pool.now (tokens_of line.now) }
+    {
+        let mut others = Tokens::of(line);
+        let first = others.next();
+        Cursor {
+            first,
+            others,
+            pool,
+        }
+    }
+
+    // What the next token says, if there is one.
+    fn next(&mut self) -> Option<Said<'t, 'p>>
+        ensures left { MatchOption result ((self.old.said ≡ []) × (self.new.said ≡ [])) (λ s. self.old.said ≡ s ∷ self.new.said) }
+        ensures pool { self.new.pool ≡ self.old.pool }
+    {
+        let token = self.first.take()?;
+        self.first = self.others.next();
+        let size = size_of(&token);
+        let bytes = front_of(self.pool, size);
+        self.pool = rest_from(self.pool, size);
+        Some(said_over(token, bytes))
+    }
+
+    /// Whether no token is left.
+    pub fn is_empty(&self) -> bool
+        ensures { IsTrue result ↔ (self.now.said ≡ []) }
+    {
+        self.first.is_none()
+    }
+
+    /// The pool behind the line, at the line's end.
+    pub fn pool(&self) -> &'p [u8]
+        requires { self.now.said ≡ [] }
+        ensures { result.now ≡ self.now.pool }
+    {
+        self.pool
+    }
+
+    /// A word: a token that is no literal. Any other token, and the line's end, is a fault of syntax.
+    #[tactic(auto, unfolding(crate::specs::Parts::word))]
+    pub fn word(&mut self) -> Result<&'t [u8], LineFault>
+        ensures { Reads (λ w. w.now) word self.old self.new result }
+    {
+        match self.next() {
+            Some(Said::Word(word)) => Ok(word.bytes()),
+            _ => Err(LineFault::Syntax),
+        }
+    }
+
+    /// The bytes of a literal. Any other token, and the line's end, is a fault of syntax.
+    #[tactic(auto, unfolding(crate::specs::Parts::literal))]
+    pub fn literal(&mut self) -> Result<&'p [u8], LineFault>
+        ensures { Reads (λ bytes. bytes.now) literal self.old self.new result }
+    {
+        match self.next() {
+            Some(Said::Literal(bytes)) => Ok(bytes.bytes()),
+            _ => Err(LineFault::Syntax),
+        }
+    }
+
+    /// A number from 0 up to the limit. Any other token is a fault of number, and the line's end one
+    /// of syntax.
+    #[tactic(auto, unfolding(crate::specs::Parts::number))]
+    pub fn number(&mut self, limit: u32) -> Result<u32, LineFault>
+        ensures reads { Reads (λ n. n) (number limit) self.old self.new result }
+        ensures within { IfOk result (λ n. n ≤ limit) }
+    {
+        match self.next() {
+            Some(Said::Word(word)) => number_of(word.bytes(), limit).ok_or(LineFault::Number),
+            Some(_) => Err(LineFault::Number),
+            None => Err(LineFault::Syntax),
+        }
+    }
+
+    /// A number from `-limit - 1` up to the limit, with `-` before its digits where it is below zero.
+    /// Any other token is a fault of number, and the line's end one of syntax.
+    #[tactic(auto, unfolding(crate::specs::Parts::signed))]
+    pub fn signed(&mut self, limit: u16) -> Result<i32, LineFault>
+        ensures reads { Reads (λ z. z) (signed limit) self.old self.new result }
+        ensures low { IfOk result (λ z. neg_ℤ (pos limit) ≤ℤ (z +ℤ pos 1)) }
+        ensures high { IfOk result (λ z. z ≤ℤ pos limit) }
+    {
+        match self.next() {
+            Some(Said::Word(word)) => signed_of(word.bytes(), limit).ok_or(LineFault::Number),
+            Some(_) => Err(LineFault::Number),
+            None => Err(LineFault::Syntax),
+        }
+    }
+
+    /// A literal of at most 20 bytes, none of them zero: else a fault of literal. Any other token,
+    /// and the line's end, is a fault of syntax.
+    #[tactic(auto, unfolding(crate::specs::Parts::name))]
+    pub fn name(&mut self) -> Result<Name20, LineFault>
+        ensures { Reads (λ bytes. bytes) name self.old self.new result }
+    {
+        let bytes = self.literal()?;
+        name_of(bytes).ok_or(LineFault::Literal)
+    }
+
+    /// The line's end. A token that is left over is a fault of syntax.
+    #[tactic(auto, unfolding(crate::specs::Parts::ended))]
+    pub fn end(&mut self) -> Result<(), LineFault>
+        ensures reads { Reads (λ u. u) (ended tt) self.old self.new result }
+        ensures done { OnOk result (self.new.said ≡ []) }
+    {
+        match self.next() {
+            Some(_) => Err(LineFault::Syntax),
+            None => Ok(()),
+        }
+    }
+}
+
+// How many bytes of the pool a token takes.
+#[tactic(auto, unfolding(crate::specs::Said::size_of))]
+fn size_of(token: &Token<'_>) -> usize
+    ensures { result ≡ size_of token.now }
+{
+    match token {
+        Token::Plain(word) => {
+            let word = word.bytes();
+            if is_hex(word) {
+                (word.len() - 1) / 2
+            } else {
+                0
+            }
+        }
+        Token::Quoted(inside) => inside.bytes().len(),
+        Token::Broken => 0,
+    }
+}
+
+// What a token says, with the bytes that it takes.
+#[tactic(auto, unfolding(crate::specs::Said::said_over))]
+fn said_over<'t, 'p>(token: Token<'t>, bytes: &'p [u8]) -> Said<'t, 'p>
+    ensures { (pool : List ℕ) → bytes.now ≡ take (size_of token.entry) pool → result ≡ said_over pool token.entry }
+{
+    match token {
+        Token::Plain(word) => {
+            if is_hex(word.bytes()) {
+                Said::Literal(Lent::new(bytes))
+            } else {
+                Said::Word(word)
+            }
+        }
+        Token::Quoted(_) => Said::Literal(Lent::new(bytes)),
+        Token::Broken => Said::Bad,
+    }
+}
+
+// Whether a token that runs to a blank is a literal.
+pub(crate) fn is_hex(word: &[u8]) -> bool
+    ensures { result ≡ is_hex word.now }
+{
+    !word.is_empty() && word[0] == b'x'
+}
+
+// The name with these bytes, if they are one.
+#[tactic(auto, using(crate::proofs::NameLaws::name_of_bytes))]
+fn name_of(bytes: &[u8]) -> Option<Name20>
+    ensures { result ≡ name_of bytes.now }
+{
+    Name20::from_bytes(bytes).ok()
+}

@@ -1,0 +1,59 @@
+//! Numbers in decimal digits.
+ghost use Rattle.std.specs.Prelude.{◌≡◌, ◌≤◌, ◌≤ℤ◌, ◌+ℤ◌, pos, neg_ℤ, true, length, IfSome};
+ghost use Rattle.std.specs.List.{list_all};
+ghost use Rattle.line_tokens.specs.Parts.{is_digit, digits_value, number_of, signed_of};
+
+use sf_base::rest_from;
+
+// The number of 1 to 10 digits, if it is within the limit.
+#[tactic(auto, unfolding(crate::specs::Parts::number_of))]
+pub fn number_of(word: &[u8], limit: u32) -> Option<u32>
+    ensures value { result ≡ number_of limit word.now }
+    ensures within { IfSome result (λ n. n ≤ limit) }
+{
+    if word.is_empty() || word.len() > 10 || !all_digits(word) {
+        return None;
+    }
+    let value = digits_value(word);
+    if value > u64::from(limit) {
+        return None;
+    }
+    Some(value as u32)
+}
+
+// The number of digits that may have `-` before them, if it is within the limit.
+#[tactic(auto, unfolding(crate::specs::Parts::signed_of))]
+pub fn signed_of(word: &[u8], limit: u16) -> Option<i32>
+    ensures value { result ≡ signed_of limit word.now }
+    ensures low { IfSome result (λ z. neg_ℤ (pos limit) ≤ℤ (z +ℤ pos 1)) }
+    ensures high { IfSome result (λ z. z ≤ℤ pos limit) }
+{
+    if word.is_empty() {
+        return None;
+    }
+    if word[0] == b'-' {
+        let value = number_of(rest_from(word, 1), u32::from(limit) + 1)?;
+        return Some(-(value as i32));
+    }
+    let value = number_of(word, u32::from(limit))?;
+    Some(value as i32)
+}
+
+fn all_digits(word: &[u8]) -> bool
+    ensures { result ≡ list_all is_digit word.now }
+{
+    word.iter().all(|digit| *digit >= b'0' && *digit <= b'9')
+}
+
+// The number that digits write.
+fn digits_value(word: &[u8]) -> u64
+    requires short { length word.now ≤ 10 }
+    requires digits { list_all is_digit word.now ≡ true }
+    ensures { result ≡ digits_value word.now }
+{
+    let mut value = 0;
+    for digit in word {
+        value = value * 10 + u64::from(*digit - b'0');
+    }
+    value
+}
