@@ -68,7 +68,12 @@ pub(crate) fn move_sample<'p>(line: &mut Cursor<'_, 'p>) -> Result<Step<'p>, Lin
 
 // ---- printed
 
-pub(crate) fn put_renaming<W: Write>(form: Form, number: u32, name: &Name20, output: &mut Output<'_, W>)
+pub(crate) fn put_renaming<W: Write>(
+    form: Form,
+    number: u32,
+    name: &Name20,
+    output: &mut Output<'_, W>,
+)
     ensures { Puts W.contents output.old output.new (line_text (form_word form) (pieces_of (named_operands number name.now))) }
 {
     let number = Piece::Number(u64::from(number));
