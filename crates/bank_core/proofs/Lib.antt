@@ -1,6 +1,10 @@
 pub mod Changes
 pub mod Everywhere
+pub mod Moves
+pub mod OwnerReferences
 pub mod References
 pub mod TotalsLaws
 pub mod SampleLaws
+pub mod InstrumentLaws
+pub mod PresetLaws
 pub mod TextLaws

@@ -4,7 +4,6 @@ use Rattle.std.specs.List.{AllByRecursion, list_any}
 use Rattle.numbered_lists.specs.declared.renumbering.Renumbering.{Renumbering}
 use Rattle.numbered_lists.specs.Renumbered.{renumbered}
 use Rattle.sf_base.specs.Names.{IsName}
-use Rattle.generators.specs.declared.level.Level.{Level}
 use Rattle.generators.specs.declared.level.Level.TheVariants as level
 use Rattle.sf_base.specs.Names.{IsName}
 use Rattle.bank_parts.specs.declared.parts.Kind.{Kind}
@@ -17,18 +16,15 @@ use Rattle.bank_parts.specs.Links.{OfLink}
 use Rattle.bank_parts.specs.Renumbered.{kind_renumbered, sample_renumbered, zone_renumbered, owner_renumbered, samples_renumbered}
 use Rattle.bank_parts.specs.Owners.{targets}
 use Rattle.bank_core.specs.Samples.{links_to, sample_in_use}
-use Rattle.bank_parts.specs.Valid.{IsZone, IsInstrument, IsSample, IsValid}
-use Rattle.bank_parts.specs.Fits.{Fits, FitsSample, FitsOwner, FitsZone}
+use Rattle.bank_parts.specs.Valid.{IsInstrument, IsSample, IsValid}
+use Rattle.bank_parts.specs.Fits.{Fits, FitsSample}
+use Rattle.bank_core.proofs.OwnerReferences.{OfTargets, OfOwners, owners_always, owners_within, owners_valid, owners_fit, owners_back}
 use Rattle.bank_core.proofs.Everywhere.{all_weaker, all_always, all_map, all_sent, all_both, map_kept, map_back, or_left, or_right, or_none, none_passes, passes_none}
-
--- P holds of each target of the zones
-abbrev pub OfTargets : (ℕ → Type 0) → List Zone → Type 0
-OfTargets P zones = AllByRecursion (λ (z : Zone). P z.target) zones
 
 -- P holds of every target and link into the bank's samples
 pub record OfSampleRefs (P : ℕ → Type 0) (b : Parts) : Type 0 where
   pub links : AllByRecursion (λ (s : Sample). OfLink P s.kind) b.samples
-  pub targets : AllByRecursion (λ (i : WithZones (List ℕ)). OfTargets P i.zones) b.instruments
+  pub targets : OfOwners P b.instruments
 
 -- ---- weaker facts
 
@@ -53,7 +49,7 @@ refs_weaker P Q to b h = record {
 pub refs_always : (P : ℕ → Type 0) → ((x : ℕ) → P x) → (b : Parts) → OfSampleRefs P b
 refs_always P h b = record {
   links = all_always (λ (s : Sample). OfLink P s.kind) (λ s. link_always P h s.kind) b.samples;
-  targets = all_always (λ (i : WithZones (List ℕ)). OfTargets P i.zones) (λ i. all_always (λ (z : Zone). P z.target) (λ z. h z.target) i.zones) b.instruments;
+  targets = owners_always P h b.instruments;
 }
 
 link_both : (P Q : ℕ → Type 0) (k : Kind) → OfLink P k → OfLink Q k → OfLink (λ x. P x × Q x) k
@@ -91,8 +87,7 @@ refs_within b v =
     let n : ℕ = length b.samples in
     record {
       links = all_weaker (IsSample n) (λ (s : Sample). OfLink (λ x. x < n) s.kind) (λ s h. h.kind) b.samples v.samples;
-      targets = all_weaker (IsInstrument n) (λ (i : WithZones (List ℕ)). OfTargets (λ x. x < n) i.zones)
-          (λ i h. all_weaker (IsZone level.Instrument n) (λ (z : Zone). z.target < n) (λ z k. k.target) i.zones h.zones.zones) b.instruments v.instruments;
+      targets = owners_within (λ name. name) level.Instrument n b.instruments v.instruments;
     }
 
 -- ---- validity with new numbers
@@ -102,12 +97,8 @@ module _ (P : ℕ → Type 0) (by : Renumbering) (n m : ℕ) (to : (x : ℕ) →
   samples_valid = all_map (IsSample n) (λ (s : Sample). OfLink P s.kind) (IsSample m) (sample_renumbered by)
       (λ s v h. record { name = v.name; looped = v.looped; kind = link_sent P (λ x. x < m) by to s.kind h })
 
-  zones_valid : (at : Level) (zs : List Zone) → AllByRecursion (IsZone at n) zs → OfTargets P zs → AllByRecursion (IsZone at m) (map (zone_renumbered by) zs)
-  zones_valid at = all_map (IsZone at n) (λ (z : Zone). P z.target) (IsZone at m) (zone_renumbered by) (λ z v h. record { target = to z.target h; gens = v.gens })
-
-  pub instruments_valid : (is : List (WithZones (List ℕ))) → AllByRecursion (IsInstrument n) is → AllByRecursion (λ (i : WithZones (List ℕ)). OfTargets P i.zones) is → AllByRecursion (IsInstrument m) (map (owner_renumbered by) is)
-  instruments_valid = all_map (IsInstrument n) (λ (i : WithZones (List ℕ)). OfTargets P i.zones) (IsInstrument m) (owner_renumbered by)
-      (λ i v h. record { name = v.name; zones = record { global = v.zones.global; zones = zones_valid level.Instrument i.zones v.zones.zones h } })
+  pub instruments_valid : (is : List (WithZones (List ℕ))) → AllByRecursion (IsInstrument n) is → OfOwners P is → AllByRecursion (IsInstrument m) (map (owner_renumbered by) is)
+  instruments_valid = owners_valid (λ name. name) level.Instrument n P by m to
 
 -- ---- ranges of fields
 
@@ -117,9 +108,7 @@ module _ (by : Renumbering) (n : ℕ) (to : (x : ℕ) → x < n → renumbered b
     minor = f.minor;
     texts = f.texts;
     presets = f.presets;
-    instruments = all_map (FitsOwner IsName) (λ (i : WithZones (List ℕ)). OfTargets (λ x. x < n) i.zones) (FitsOwner IsName) (owner_renumbered by)
-        (λ i g k. record { head = g.head; global = g.global; zones = all_map FitsZone (λ (z : Zone). z.target < n) FitsZone (zone_renumbered by) (λ z g h. record { target = to z.target h; gens = g.gens; mods = g.mods }) i.zones g.zones k })
-        b.instruments f.instruments h.targets;
+    instruments = owners_fit IsName by n to b.instruments f.instruments h.targets;
     samples = all_map FitsSample (λ (s : Sample). OfLink (λ x. x < n) s.kind) FitsSample (sample_renumbered by)
         (λ s g h. record { name = g.name; points = g.points; looped = g.looped; rate = g.rate; key = g.key; correction = g.correction; kind = link_sent (λ x. x < n) (λ x. x < 2 ^ 16) by to s.kind h }) b.samples f.samples h.links;
   }
@@ -158,12 +147,7 @@ module _ (by back : Renumbering) where
       map_back (sample_renumbered by) (sample_renumbered back) b.samples
       (all_weaker (λ (s : Sample). OfLink (λ x. renumbered back (renumbered by x) ≡ x) s.kind) (λ (s : Sample). sample_renumbered back (sample_renumbered by s) ≡ s)
       (λ s k. ap (λ (kind : Kind). let t : Sample = record s { kind = kind } in t) (kind_back s.kind k)) b.samples h.links) in
-      let targets : map (owner_renumbered back) (map (owner_renumbered by) b.instruments) ≡ b.instruments =
-      map_back (owner_renumbered by) (owner_renumbered back) b.instruments
-      (all_weaker (λ (i : WithZones (List ℕ)). OfTargets (λ x. renumbered back (renumbered by x) ≡ x) i.zones) (λ (i : WithZones (List ℕ)). owner_renumbered back (owner_renumbered by i) ≡ i)
-      (λ i k. ap (λ (zones : List Zone). let t : WithZones (List ℕ) = record i { zones = zones } in t)
-      (map_back (zone_renumbered by) (zone_renumbered back) i.zones (all_weaker (λ (z : Zone). renumbered back (renumbered by z.target) ≡ z.target) (λ (z : Zone). zone_renumbered back (zone_renumbered by z) ≡ z)
-      (λ z e. ap (λ (target : ℕ). let t : Zone = record z { target = target } in t) e) i.zones k))) b.instruments h.targets) in
+      let targets = owners_back by back b.instruments h.targets in
       λ i. record b { samples = links i; instruments = targets i }
 
 -- ---- what no reference names

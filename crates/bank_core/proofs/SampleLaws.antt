@@ -1,16 +1,17 @@
 -- The raw changes of samples: each keeps a bank sound, and is taken back.
-use Rattle.std.proofs.Common.{inl, inr, get_or, ◌≡◌, ◌++◌, ◌∷◌, [], Result, Ok, Err, OnOk, ◌<◌, ◌≤◌, ◌+◌, ◌==◌, false, ℕ, List, length, map, insert, remove, slice_get, Some, None, refl, sym, ◌∙◌, ap, subst, arith}
+use Rattle.std.proofs.Common.{get_or, ◌≡◌, ◌++◌, ◌∷◌, [], Result, Ok, Err, OnOk, ◌<◌, ◌≤◌, ◌+◌, ◌^◌, ◌==◌, false, ℕ, List, length, map, insert, remove, slice_get, Some, None, refl, sym, ◌∙◌, ap, subst, arith}
 use Rattle.std.proofs.lemmas.List.{length-map}
 use Rattle.std.proofs.lemmas.List.Edits.{length-insert, length-remove}
 use Rattle.std.proofs.lemmas.List.Sums.{sum_by-insert, sum_by-remove}
 use Rattle.std.proofs.lemmas.Option.{get_or_from_slice_get}
-use Rattle.std.specs.List.{AllByRecursion}
+use Rattle.std.specs.Prelude.{All}
+use Rattle.std.proofs.lemmas.List.Elements.{All-from_recursion}
 use Rattle.sf_base.specs.Names.{IsName}
-use Rattle.numbered_lists.specs.declared.renumbering.Renumbering.TheVariants.{Insertion, Removal}
+use Rattle.numbered_lists.specs.declared.renumbering.Renumbering.TheVariants.{Insertion, Removal, Move}
 use Rattle.numbered_lists.specs.Renumbered.{renumbered}
-use Rattle.numbered_lists.specs.Moved.{changed}
-use Rattle.numbered_lists.proofs.Lists.{slice_get-found, slice_get-within, length-changed, insert-remove, remove-insert}
-use Rattle.numbered_lists.proofs.Numbers.{insertion_returned, removal_returned_by_test, insertion_below, removal_below_by_test, insertion_keeps, insertion_misses_by_test, removal_no_more}
+use Rattle.numbered_lists.specs.Moved.{changed, moved}
+use Rattle.numbered_lists.proofs.Lists.{slice_get-found, slice_get-within, length-changed, length-moved, insert-remove, remove-insert}
+use Rattle.numbered_lists.proofs.Numbers.{insertion_returned, removal_returned_by_test, insertion_below, removal_below_by_test, insertion_keeps, insertion_misses_by_test, removal_no_more, move_below, move_returned}
 use Rattle.bank_parts.specs.declared.parts.Sample.{Sample}
 use Rattle.bank_parts.specs.Fits.{Fits, FitsSample}
 use Rattle.bank_parts.specs.declared.parts.Parts.{Parts}
@@ -18,31 +19,21 @@ use Rattle.bank_parts.specs.declared.totals.Totals.{Totals}
 use Rattle.bank_parts.specs.Links.{OfLink}
 use Rattle.bank_parts.specs.Renumbered.{sample_renumbered, owner_renumbered, samples_renumbered}
 use Rattle.bank_parts.specs.Sound.{IsSound}
-use Rattle.bank_core.specs.Samples.{named, sample_in_use, sample_renamed, sample_added, sample_removed}
+use Rattle.bank_core.specs.Samples.{named, sample_in_use, sample_renamed, sample_added, sample_removed, sample_moved}
 use Rattle.bank_parts.specs.Valid.{IsSample, IsValid, point_total}
 use Rattle.bank_parts.specs.Limits.{totals_of, broken, broken_limit, with_sample}
-use Rattle.bank_core.proofs.Everywhere.{all_insert, all_remove}
-use Rattle.bank_core.proofs.References.{fits_refs, OfSampleRefs, refs_weaker, refs_always, refs_within, refs_both, refs_renumbered, samples_valid, instruments_valid, refs_kept, refs_back, unused, not_in_use}
+use Rattle.bank_core.proofs.Everywhere.{all_weaker, all_insert, all_remove}
+use Rattle.bank_core.proofs.Moves.{all_moved, sum-moved, moved_back-sent}
+use Rattle.bank_core.proofs.References.{fits_refs, OfSampleRefs, link_weaker, refs_weaker, refs_always, refs_within, refs_both, refs_renumbered, samples_valid, instruments_valid, refs_kept, refs_back, unused, not_in_use}
 use Rattle.sf_base.specs.declared.limits.TheConstants.{ZERO_POINTS}
 use Rattle.bank_parts.proofs.LimitLaws.{limits_of, no_limit_of}
-use Rattle.bank_core.proofs.Changes.{change_cases, all_set, all_found, sum-set}
+use Rattle.bank_core.proofs.Changes.{all_changed, sum-changed}
 use Rattle.bank_core.proofs.TotalsLaws.{without_sample_within, with_sample_same, zones_kept, gens_kept, mods_kept, points_kept}
 
 -- ---- renaming
 
-module _ (samples : List Sample) (number : ℕ) (name : List ℕ) where
-  -- what holds of all samples, and still of one that is renamed
-  renamed_all : (P : Sample → Type 0) → ((s : Sample) → P s → P (named name s)) → AllByRecursion P samples → AllByRecursion P (changed samples number (named name))
-  renamed_all P keep all = elim (change_cases samples number (named name)) [
-    | inl same ↦ rw same all
-    | inr c ↦ rw c.is (all_set P samples number (named name c.member) (keep c.member (all_found P samples number c.member c.there all)) all)
-  ]
-
-  point_total-renamed : point_total (changed samples number (named name)) ≡ point_total samples
-  point_total-renamed = elim (change_cases samples number (named name)) [
-    | inl same ↦ rw same refl
-    | inr c ↦ rw c.is (sum-set (λ (s : Sample). length s.points + ZERO_POINTS) samples number c.member (named name c.member) c.there refl)
-  ]
+point_total-renamed : (samples : List Sample) (number : ℕ) (name : List ℕ) → point_total (changed samples number (named name)) ≡ point_total samples
+point_total-renamed samples number name = sum-changed (λ (s : Sample). length s.points + ZERO_POINTS) (named name) (λ s. refl) samples number
 
 renamed_valid : (b : Parts) (number : ℕ) (name : List ℕ) → IsValid b → IsName name → IsValid (sample_renamed b number name)
 renamed_valid b number name v h =
@@ -54,7 +45,7 @@ renamed_valid b number name v h =
       texts = v.texts;
       presets = v.presets;
       instruments = rw n v.instruments;
-      samples = rw n (renamed_all b.samples number name (IsSample (length b.samples)) (λ s is. record { name = h; looped = is.looped; kind = is.kind }) v.samples);
+      samples = rw n (all_changed (named name) (IsSample (length b.samples)) (λ s is. record { name = h; looped = is.looped; kind = is.kind }) b.samples number v.samples);
       limits = record {
         presets = v.limits.presets;
         instruments = v.limits.instruments;
@@ -75,8 +66,8 @@ renamed_fits b number name f h = record {
   texts = f.texts;
   presets = f.presets;
   instruments = f.instruments;
-  samples = renamed_all b.samples number name FitsSample
-      (λ s fits. record { name = h; points = fits.points; looped = fits.looped; rate = fits.rate; key = fits.key; correction = fits.correction; kind = fits.kind }) f.samples;
+  samples = all_changed (named name) FitsSample
+      (λ s fits. record { name = h; points = fits.points; looped = fits.looped; rate = fits.rate; key = fits.key; correction = fits.correction; kind = fits.kind }) b.samples number f.samples;
 }
 
 pub renamed_sound : (b : Parts) (number : ℕ) (name : List ℕ) → IsSound b → IsName name → IsSound (sample_renamed b number name)
@@ -235,6 +226,69 @@ module _ (b : Parts) (i : ℕ) (s : Sample) (le : i ≤ length b.samples) where
       let free : OfSampleRefs (λ x. (x == i) ≡ false) (samples_renumbered (Insertion i) b) =
       refs_renumbered (λ x. Unit {0}) (λ x. (x == i) ≡ false) (Insertion i) (λ x u. insertion_misses_by_test i x) b (refs_always (λ x. Unit {0}) (λ x. tt) b) in
       not_in_use (sample_added b i s) i (subst (λ (ss : List Sample). OfSampleRefs (λ x. (x == i) ≡ false) (let t : Parts = record (samples_renumbered (Insertion i) b) { samples = ss } in t)) (sym out) free)
+
+-- ---- moving
+
+module _ (b : Parts) (i j : ℕ) (lt : i < length b.samples) (lu : j < length b.samples) where
+  pub length-sample_moved : length (sample_moved b i j).samples ≡ length b.samples
+  length-sample_moved = length-map (moved b.samples i j) (sample_renumbered (Move i j)) ∙ length-moved b.samples i j lt lu
+
+  pub totals-moved : totals_of (sample_moved b i j) ≡ totals_of b
+  unfolding totals_of
+  totals-moved =
+      let by = Move i j in
+      let points = points_kept by (moved b.samples i j) ∙ sum-moved (λ (s : Sample). length s.points + ZERO_POINTS) b.samples i j lt in
+      λ k. record (totals_of b) {
+        instruments = length-map b.instruments (owner_renumbered by) k;
+        samples = length-sample_moved k;
+        instrument_zones = zones_kept by b.instruments k;
+        instrument_gens = gens_kept by b.instruments k;
+        instrument_mods = mods_kept by b.instruments k;
+        points = points k;
+      }
+
+  moved_valid : IsValid b → IsValid (sample_moved b i j)
+  moved_valid v =
+      let n : ℕ = length b.samples in
+      let by = Move i j in
+      let within = refs_within b v in
+      let to : (x : ℕ) → x < n → renumbered by x < n = λ x h. move_below i j x n lt lu h in
+      record {
+        texts = v.texts;
+        presets = rw (length-map b.instruments (owner_renumbered by)) v.presets;
+        instruments = rw length-sample_moved (instruments_valid (λ x. x < n) by n n to b.instruments v.instruments within.targets);
+        samples = rw length-sample_moved (samples_valid (λ x. x < n) by n n to (moved b.samples i j) (all_moved (IsSample n) b.samples i j lt v.samples)
+            (all_moved (λ (s : Sample). OfLink (λ x. x < n) s.kind) b.samples i j lt within.links));
+        limits = limits_of (sample_moved b i j) (ap broken totals-moved ∙ no_limit_of b v.limits);
+      }
+
+  moved_fits : IsValid b → Fits b → Fits (sample_moved b i j)
+  moved_fits v f =
+      let n : ℕ = length b.samples in
+      let few = v.limits.samples in
+      let within = refs_within b v in
+      fits_refs (Move i j) n (λ x h. let below = move_below i j x n lt lu h in omega (arith, below, few)) (record b { samples = moved b.samples i j })
+      (record { minor = f.minor; texts = f.texts; presets = f.presets; instruments = f.instruments; samples = all_moved FitsSample b.samples i j lt f.samples })
+      (record { links = all_moved (λ (s : Sample). OfLink (λ x. x < n) s.kind) b.samples i j lt within.links; targets = within.targets })
+
+  -- each link has 16 bits afterwards
+  pub links_fit-moved : IsValid b → All (λ (s : Sample). OfLink (λ x. renumbered (Move i j) x < 2 ^ 16) s.kind) (moved b.samples i j)
+  links_fit-moved v =
+      let n : ℕ = length b.samples in
+      let few = v.limits.samples in
+      let within = refs_within b v in
+      let P : Sample → Type 0 = λ s. OfLink (λ x. renumbered (Move i j) x < 2 ^ 16) s.kind in
+      let fit = all_weaker (λ (s : Sample). OfLink (λ x. x < n) s.kind) P
+      (λ s. link_weaker (λ x. x < n) (λ x. renumbered (Move i j) x < 2 ^ 16) (λ x h. let below = move_below i j x n lt lu h in omega (arith, below, few)) s.kind) b.samples within.links in
+      All-from_recursion P (moved b.samples i j) (all_moved P b.samples i j lt fit)
+
+  pub moved_sound : IsSound b → IsSound (sample_moved b i j)
+  moved_sound sound = record { valid = moved_valid sound.valid; fits = moved_fits sound.valid sound.fits }
+
+  pub restored_moved : sample_moved (sample_moved b i j) j i ≡ b
+  restored_moved =
+      ap (λ (ss : List Sample). let t : Parts = samples_renumbered (Move j i) (record (samples_renumbered (Move i j) b) { samples = ss }) in t) (moved_back-sent (sample_renumbered (Move i j)) b.samples i j lt lu)
+      ∙ refs_back (Move i j) (Move j i) b (refs_always (λ x. renumbered (Move j i) (renumbered (Move i j) x) ≡ x) (λ x. move_returned i j x) b)
 
 -- ---- the totals that the code keeps
 

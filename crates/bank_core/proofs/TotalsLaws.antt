@@ -53,16 +53,16 @@ with_sample_same t u n e =
 
 -- ---- sums that new numbers don't change
 
-pub zones_kept : (by : Renumbering) (is : List (WithZones (List ℕ))) → owner_total zone_count (map (owner_renumbered by) is) ≡ owner_total zone_count is
-zones_kept by = sum_kept (λ (i : WithZones (List ℕ)). zone_count i.global i.zones) (owner_renumbered by)
+pub zones_kept : {H : Type 0} (by : Renumbering) (owners : List (WithZones H)) → owner_total zone_count (map (owner_renumbered by) owners) ≡ owner_total zone_count owners
+zones_kept {H} by = sum_kept (λ (i : WithZones H). zone_count i.global i.zones) (owner_renumbered by)
     (λ i. let e = length-map i.zones (zone_renumbered by) in omega (arith, e))
 
-pub gens_kept : (by : Renumbering) (is : List (WithZones (List ℕ))) → owner_total gen_count (map (owner_renumbered by) is) ≡ owner_total gen_count is
-gens_kept by = sum_kept (λ (i : WithZones (List ℕ)). gen_count i.global i.zones) (owner_renumbered by)
+pub gens_kept : {H : Type 0} (by : Renumbering) (owners : List (WithZones H)) → owner_total gen_count (map (owner_renumbered by) owners) ≡ owner_total gen_count owners
+gens_kept {H} by = sum_kept (λ (i : WithZones H). gen_count i.global i.zones) (owner_renumbered by)
     (λ i. ap (λ (n : ℕ). len i.global.gens + n) (sum_kept (λ (z : Zone). len z.gens + 1) (zone_renumbered by) (λ z. refl) i.zones))
 
-pub mods_kept : (by : Renumbering) (is : List (WithZones (List ℕ))) → owner_total mod_count (map (owner_renumbered by) is) ≡ owner_total mod_count is
-mods_kept by = sum_kept (λ (i : WithZones (List ℕ)). mod_count i.global i.zones) (owner_renumbered by)
+pub mods_kept : {H : Type 0} (by : Renumbering) (owners : List (WithZones H)) → owner_total mod_count (map (owner_renumbered by) owners) ≡ owner_total mod_count owners
+mods_kept {H} by = sum_kept (λ (i : WithZones H). mod_count i.global i.zones) (owner_renumbered by)
     (λ i. ap (λ (n : ℕ). length i.global.mods + n) (sum_kept (λ (z : Zone). length z.mods) (zone_renumbered by) (λ z. refl) i.zones))
 
 pub points_kept : (by : Renumbering) (ss : List Sample) → point_total (map (sample_renumbered by) ss) ≡ point_total ss

@@ -1,8 +1,8 @@
 -- The raw changes of samples, and who names a sample.
 use Rattle.std.specs.Prelude.{ℕ, Bool, false, ◌==◌, ◌||◌, List, insert, remove}
 use Rattle.std.specs.List.{list_any}
-use Rattle.numbered_lists.specs.declared.renumbering.Renumbering.TheVariants.{Insertion, Removal}
-use Rattle.numbered_lists.specs.Moved.{changed}
+use Rattle.numbered_lists.specs.declared.renumbering.Renumbering.TheVariants.{Insertion, Removal, Move}
+use Rattle.numbered_lists.specs.Moved.{changed, moved}
 use Rattle.bank_parts.specs.declared.parts.Kind.{Kind}
 use Rattle.bank_parts.specs.declared.parts.Kind.TheVariants.{Mono, Right, Left, Linked}
 use Rattle.bank_parts.specs.declared.parts.Sample.{Sample}
@@ -25,6 +25,10 @@ sample_added b i s = let r = samples_renumbered (Insertion i) b in record r { sa
 -- the sample of a number is gone
 abbrev pub sample_removed : Parts → ℕ → Parts
 sample_removed b i = samples_renumbered (Removal i) (record b { samples = remove b.samples i })
+
+-- the sample of number i is number j, and the others keep their order
+abbrev pub sample_moved : Parts → ℕ → ℕ → Parts
+sample_moved b i j = samples_renumbered (Move i j) (record b { samples = moved b.samples i j })
 
 abbrev pub links_to : ℕ → Kind → Bool
 links_to number Mono = false

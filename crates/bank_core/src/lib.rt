@@ -3,8 +3,10 @@
 
 mod bank;
 mod fault;
+mod instruments;
 mod laws;
 mod members;
+mod presets;
 mod samples;
 mod texts;
 mod zones;

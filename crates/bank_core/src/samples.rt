@@ -4,7 +4,7 @@ ghost use Rattle.std.specs.List.{list_any};
 ghost use Rattle.bank_parts.specs.declared.parts.Sample.{Sample};
 ghost use Rattle.bank_parts.specs.Valid.{IsValid};
 ghost use Rattle.bank_parts.specs.Sound.{IsSound};
-ghost use Rattle.bank_core.specs.Samples.{sample_renamed, sample_added, sample_removed, sample_in_use};
+ghost use Rattle.bank_core.specs.Samples.{sample_renamed, sample_added, sample_removed, sample_moved, sample_in_use};
 ghost use Rattle.bank_core.specs.Samples as uses;
 
 use crate::bank::Bank;
@@ -51,6 +51,17 @@ impl<'a> Bank<'a> {
         let sample = take_sample(&mut self.parts, number);
         self.totals = self.totals.without_sample(sample.points.len());
         sample
+    }
+
+    /// Makes sample `from` sample `to`; the others keep their order, and what names them follows.
+    /// Takes no memory.
+    pub fn move_sample(&mut self, from: u32, to: u32)
+        requires there { from < length self.old.samples }
+        requires place { to < length self.old.samples }
+        requires sound { IsSound (sample_moved self.old from to) }
+        ensures { self.new ≡ sample_moved self.old from to }
+    {
+        move_sample(&mut self.parts, from, to);
     }
 
     /// Whether a zone targets the sample, or another sample links to it.
@@ -109,6 +120,18 @@ fn take_sample<'a>(parts: &mut Parts<'a>, number: u32) -> Sample<'a>
     parts.samples.renumber(by);
     parts.instruments.renumber(by);
     sample
+}
+
+fn move_sample(parts: &mut Parts<'_>, from: u32, to: u32)
+    requires valid { IsValid parts.old }
+    requires there { from < length parts.old.samples }
+    requires place { to < length parts.old.samples }
+    ensures { parts.new ≡ sample_moved parts.old from to }
+{
+    let by = Renumbering::Move { from, to };
+    parts.samples.move_member(from as usize, to as usize);
+    parts.samples.renumber(by);
+    parts.instruments.renumber(by);
 }
 
 // ---- who names a sample

@@ -11,13 +11,15 @@ use Rattle.bank_parts.specs.Fits.{FitsSample}
 use Rattle.bank_parts.specs.Sound.{IsSound}
 use Rattle.bank_parts.specs.Limits.{totals_of, broken, broken_limit, with_sample}
 use Rattle.bank_parts.proofs.LimitLaws.{no_limit_of}
-use Rattle.bank_core.specs.Samples.{sample_in_use, sample_renamed, sample_added, sample_removed}
+use Rattle.bank_core.specs.Samples.{sample_in_use, sample_renamed, sample_added, sample_removed, sample_moved}
 use Rattle.bank_core.proofs.Everywhere.{or_left, or_right, or_none}
-use Rattle.bank_core.proofs.SampleLaws.{totals-renamed, totals-added, added_sound, removed_sound}
-use Rattle.bank_edits.specs.declared.edit.Step.TheVariants.{RenameSample, AddSample, RemoveSample}
+use Rattle.bank_core.proofs.SampleLaws.{totals-renamed, totals-added, totals-moved, added_sound, removed_sound, moved_sound}
+use Rattle.bank_edits.specs.declared.edit.Step.TheVariants.{RenameSample, AddSample, RemoveSample, MoveSample}
+use Rattle.bank_edits.specs.declared.cause.Cause.TheVariants.{NoSuchSample}
 use Rattle.bank_edits.specs.Causes.{link_misses, loop_misses}
 use Rattle.bank_edits.specs.Steps.{refusal, inverse, causes}
 use Rattle.bank_edits.proofs.Accepted.{NoneStands, accepted, below, not_below, up_to, not_above}
+use Rattle.bank_edits.proofs.Moves.{Moves, moves}
 
 -- ---- the tests of contents
 
@@ -95,3 +97,15 @@ module _ (b : Parts) (i : ℕ) where
 
   pub within_remove : IsSound b → i < length b.samples → sample_in_use b i ≡ false → broken_limit (sample_removed b i) ≡ None
   within_remove sound lt free = no_limit_of (sample_removed b i) (removed_sound b i sound lt free).valid.limits
+
+-- ---- move-sample
+
+module _ (b : Parts) (i j : ℕ) where
+  pub moves_sample : refusal b (MoveSample i j) ≡ None → Moves (length b.samples) i j
+  moves_sample h = moves (length b.samples) i j NoSuchSample (accepted b (MoveSample i j) h).tests
+
+  pub sound_move_sample : IsSound b → refusal b (MoveSample i j) ≡ None → IsSound (sample_moved b i j)
+  sound_move_sample sound h = let m = moves_sample h in moved_sound b i j m.there m.place sound
+
+  pub within_move_sample : IsValid b → i < length b.samples → j < length b.samples → broken_limit (sample_moved b i j) ≡ None
+  within_move_sample v lt lu = ap broken (totals-moved b i j lt lu) ∙ no_limit_of b v.limits

@@ -2,9 +2,11 @@
 use Rattle.std.specs.Prelude.{ℕ, List, Option, Some, None, codes}
 use Rattle.bank_parts.specs.declared.limits.Limit.{Limit}
 use Rattle.bank_edits.specs.declared.cause.Cause.{Cause}
-use Rattle.bank_edits.specs.declared.cause.Cause.TheVariants.{NoSuchSample, BadPlace, InUse, BadLoop, BadText, Full}
+use Rattle.bank_edits.specs.declared.cause.Cause.TheVariants.{NoSuchPreset, NoSuchInstrument, NoSuchSample, BadPlace, InUse, BadLoop, BadText, Full}
 
 abbrev pub number_of : Cause → ℕ
+number_of NoSuchPreset = 20
+number_of NoSuchInstrument = 21
 number_of NoSuchSample = 22
 number_of BadPlace = 25
 number_of InUse = 26
@@ -13,6 +15,8 @@ number_of BadText = 36
 number_of (Full limit) = 37
 
 abbrev pub name_of : Cause → List ℕ
+name_of NoSuchPreset = codes "NoSuchPreset"
+name_of NoSuchInstrument = codes "NoSuchInstrument"
 name_of NoSuchSample = codes "NoSuchSample"
 name_of BadPlace = codes "BadPlace"
 name_of InUse = codes "InUse"

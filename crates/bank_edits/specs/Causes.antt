@@ -9,7 +9,7 @@ use Rattle.bank_parts.specs.declared.parts.Parts.{Parts}
 use Rattle.bank_parts.specs.Texts.{most_bytes, is_engine}
 use Rattle.bank_core.specs.Samples.{sample_in_use}
 use Rattle.bank_edits.specs.declared.cause.Cause.{Cause}
-use Rattle.bank_edits.specs.declared.cause.Cause.TheVariants.{NoSuchSample, BadPlace, InUse, BadLoop, BadText}
+use Rattle.bank_edits.specs.declared.cause.Cause.TheVariants.{NoSuchPreset, NoSuchInstrument, NoSuchSample, BadPlace, InUse, BadLoop, BadText}
 
 -- a cause of refusal, and whether it stands
 pub record Test : Type 0 where
@@ -23,6 +23,14 @@ test stands cause = record { stands = stands; cause = cause }
 abbrev pub first_cause : List Test → Option Cause → Option Cause
 first_cause [] last = last
 first_cause (t ∷ others) last = if t.stands then Some t.cause else first_cause others last
+
+-- ---- presets and instruments
+
+abbrev pub no_such_preset : Parts → ℕ → Test
+no_such_preset b preset = test (nat_le (length b.presets) preset) NoSuchPreset
+
+abbrev pub no_such_instrument : Parts → ℕ → Test
+no_such_instrument b instrument = test (nat_le (length b.instruments) instrument) NoSuchInstrument
 
 -- ---- samples
 
@@ -57,6 +65,10 @@ in_use b sample = test (sample_in_use b sample) InUse
 -- past the end of a list of so many
 abbrev pub bad_place : ℕ → ℕ → Test
 bad_place count at = test (nat_lt count at) BadPlace
+
+-- not the place of one of so many
+abbrev pub no_such_place : ℕ → ℕ → Test
+no_such_place count at = test (nat_le count at) BadPlace
 
 -- ---- texts
 

@@ -3,6 +3,8 @@ pub use Rattle.bank_parts.specs.Fits
 pub use Rattle.bank_parts.specs.Sound
 pub use Rattle.bank_parts.specs.Limits
 pub use Rattle.bank_core.specs.Samples
+pub use Rattle.bank_core.specs.Instruments
+pub use Rattle.bank_core.specs.Presets
 pub use Rattle.sf_base.specs.Names
 pub mod CauseNames
 pub mod Causes

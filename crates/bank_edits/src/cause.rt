@@ -8,9 +8,13 @@ use thiserror::Error;
 /// What stands against an edit, in the order of the numbers by which fault lines tell it.
 #[derive(Clone, Copy, Debug, PartialEq, Eq, Error)]
 pub enum Cause {
+    #[error("there is no such preset")]
+    NoSuchPreset,
+    #[error("there is no such instrument")]
+    NoSuchInstrument,
     #[error("there is no such sample")]
     NoSuchSample,
-    /// A place past the end of the list.
+    /// A place past the end of the list, or for what is moved, past its last member.
     #[error("there is no such place")]
     BadPlace,
     /// A zone targets the member, or another sample links to it.
@@ -31,6 +35,8 @@ impl Cause {
         ensures { result ≡ number_of self }
     {
         match self {
+            Cause::NoSuchPreset => 20,
+            Cause::NoSuchInstrument => 21,
             Cause::NoSuchSample => 22,
             Cause::BadPlace => 25,
             Cause::InUse => 26,
@@ -45,6 +51,8 @@ impl Cause {
         ensures { result.now ≡ name_of self }
     {
         match self {
+            Cause::NoSuchPreset => "NoSuchPreset",
+            Cause::NoSuchInstrument => "NoSuchInstrument",
             Cause::NoSuchSample => "NoSuchSample",
             Cause::BadPlace => "BadPlace",
             Cause::InUse => "InUse",

@@ -22,6 +22,23 @@ pub(crate) fn full(limit: Option<Limit>) -> Result<(), Cause>
     }
 }
 
+// ---- presets and instruments
+
+pub(crate) fn no_such_preset(bank: &Bank<'_>, preset: u32) -> Result<(), Cause>
+    ensures { Passes (causes.no_such_preset bank.now preset) result }
+{
+    judge(bank.presets().len() <= preset as usize, Cause::NoSuchPreset)
+}
+
+pub(crate) fn no_such_instrument(bank: &Bank<'_>, instrument: u32) -> Result<(), Cause>
+    ensures { Passes (causes.no_such_instrument bank.now instrument) result }
+{
+    judge(
+        bank.instruments().len() <= instrument as usize,
+        Cause::NoSuchInstrument,
+    )
+}
+
 // ---- samples
 
 pub(crate) fn no_such_sample(bank: &Bank<'_>, sample: u32) -> Result<(), Cause>
@@ -61,6 +78,12 @@ pub(crate) fn bad_place(count: usize, at: u32) -> Result<(), Cause>
     ensures { Passes (causes.bad_place count at) result }
 {
     judge(count < at as usize, Cause::BadPlace)
+}
+
+pub(crate) fn no_such_place(count: usize, at: u32) -> Result<(), Cause>
+    ensures { Passes (causes.no_such_place count at) result }
+{
+    judge(count <= at as usize, Cause::BadPlace)
 }
 
 // ---- texts

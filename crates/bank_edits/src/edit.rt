@@ -7,9 +7,13 @@ ghost use Rattle.bank_edits.specs.Steps.{FitsStep, GrowsNothing, refusal};
 ghost use Rattle.bank_edits.specs.Edits.{FitsEdit};
 
 use crate::cause::Cause;
+use crate::instruments::{
+    move_instrument, refuse_move_instrument, refuse_rename_instrument, rename_instrument,
+};
+use crate::presets::{move_preset, refuse_move_preset};
 use crate::samples::{
-    add_sample, refuse_add_sample, refuse_remove_sample, refuse_rename_sample, remove_sample,
-    rename_sample,
+    add_sample, move_sample, refuse_add_sample, refuse_move_sample, refuse_remove_sample,
+    refuse_rename_sample, remove_sample, rename_sample,
 };
 use crate::texts::{refuse_set_info, set_info};
 use bank_core::Bank;
@@ -21,6 +25,16 @@ use std::alloc::Global;
 /// 0. It borrows the points and texts that it carries.
 #[derive(Drop)]
 pub enum Step<'a> {
+    // ---- presets
+    /// `move-preset I J`: preset `from` is preset `to`.
+    MovePreset { from: u32, to: u32 },
+
+    // ---- instruments
+    /// `rename-inst I NAME`: the instrument gets the name.
+    RenameInstrument { instrument: u32, name: Name20 },
+    /// `move-inst I J`: instrument `from` is instrument `to`.
+    MoveInstrument { from: u32, to: u32 },
+
     // ---- samples
     /// `rename-sample S NAME`: the sample gets the name.
     RenameSample { sample: u32, name: Name20 },
@@ -29,6 +43,8 @@ pub enum Step<'a> {
     AddSample { at: u32, sample: Sample<'a> },
     /// `remove-sample S`: the sample is taken out.
     RemoveSample { sample: u32 },
+    /// `move-sample I J`: sample `from` is sample `to`.
+    MoveSample { from: u32, to: u32 },
 
     // ---- texts
     /// `set-info ID TEXT`: the text of the kind is this one.
@@ -47,8 +63,21 @@ impl<'a> Step<'a> {
         ensures { FitsStep self.now }
     {
         match self {
-            Step::RenameSample { sample, name } => {
-                let _sample = *sample;
+            Step::MovePreset { from, to }
+            | Step::MoveInstrument { from, to }
+            | Step::MoveSample { from, to } => {
+                let _from = *from;
+                let _to = *to;
+            }
+            Step::RenameInstrument {
+                instrument: number,
+                name,
+            }
+            | Step::RenameSample {
+                sample: number,
+                name,
+            } => {
+                let _number = *number;
                 let _name = name.bytes();
             }
             Step::AddSample { at, sample } => {
@@ -71,9 +100,15 @@ pub(crate) fn refuse_step(bank: &Bank<'_>, step: &Step<'_>) -> Result<(), Cause>
     ensures { Judges (refusal bank.now step.now) result }
 {
     match step {
+        Step::MovePreset { from, to } => refuse_move_preset(bank, *from, *to),
+        Step::RenameInstrument { instrument, name } => {
+            refuse_rename_instrument(bank, *instrument, *name)
+        }
+        Step::MoveInstrument { from, to } => refuse_move_instrument(bank, *from, *to),
         Step::RenameSample { sample, name } => refuse_rename_sample(bank, *sample, *name),
         Step::AddSample { at, sample } => refuse_add_sample(bank, *at, sample),
         Step::RemoveSample { sample } => refuse_remove_sample(bank, *sample),
+        Step::MoveSample { from, to } => refuse_move_sample(bank, *from, *to),
         Step::SetInfo { id, text } => refuse_set_info(bank, *id, text),
     }
 }
@@ -91,9 +126,15 @@ pub(crate) fn change_step<'a>(
 {
     let _ = alloc;
     match step {
+        Step::MovePreset { from, to } => Ok(move_preset(bank, from, to)),
+        Step::RenameInstrument { instrument, name } => {
+            Ok(rename_instrument(bank, instrument, name))
+        }
+        Step::MoveInstrument { from, to } => Ok(move_instrument(bank, from, to)),
         Step::RenameSample { sample, name } => Ok(rename_sample(bank, sample, name)),
         Step::AddSample { at, sample } => add_sample(bank, at, sample),
         Step::RemoveSample { sample } => Ok(remove_sample(bank, sample)),
+        Step::MoveSample { from, to } => Ok(move_sample(bank, from, to)),
         Step::SetInfo { id, text } => Ok(set_info(bank, id, text)),
     }
 }

@@ -6,9 +6,11 @@ ghost use Rattle.bank_edits.specs.Answers.{Judges, IsStepChange};
 ghost use Rattle.bank_edits.specs.Steps.{refusal};
 
 use crate::cause::Cause;
-use crate::causes::{bad_loop, bad_place, full, in_use, no_such_link, no_such_sample};
+use crate::causes::{
+    bad_loop, bad_place, full, in_use, no_such_link, no_such_place, no_such_sample,
+};
 use crate::edit::{Step, sample_fits};
-use bank_core::Bank;
+use bank_core::{Bank, Members};
 use bank_parts::Sample;
 use sf_base::Name20;
 
@@ -79,4 +81,23 @@ pub(crate) fn remove_sample<'a>(bank: &mut Bank<'a>, sample: u32) -> Step<'a>
         at: sample,
         sample: removed,
     }
+}
+
+// ---- move-sample
+
+pub(crate) fn refuse_move_sample(bank: &Bank<'_>, from: u32, to: u32) -> Result<(), Cause>
+    requires { IsSound bank.now }
+    ensures { Judges (refusal bank.now (step.MoveSample from to)) result }
+{
+    no_such_sample(bank, from)?;
+    no_such_place(bank.count(Members::Samples), to)
+}
+
+pub(crate) fn move_sample<'a>(bank: &mut Bank<'a>, from: u32, to: u32) -> Step<'a>
+    requires sound { IsSound bank.old }
+    requires accepted { refusal bank.old (step.MoveSample from to) ≡ None }
+    ensures { IsStepChange bank.old bank.new (step.MoveSample from to) (Ok result) }
+{
+    bank.move_sample(from, to);
+    Step::MoveSample { from: to, to: from }
 }

@@ -11,7 +11,7 @@ use Rattle.bank_parts.specs.declared.parts.Kind.TheVariants.{Mono, Right, Left, 
 use Rattle.bank_parts.specs.declared.parts.Sample.{Sample}
 use Rattle.bank_parts.specs.Fits.{FitsText, FitsKind, FitsLoop, FitsSample}
 use Rattle.bank_edits.specs.declared.edit.Step.{Step}
-use Rattle.bank_edits.specs.declared.edit.Step.TheVariants.{RenameSample, AddSample, RemoveSample, SetInfo}
+use Rattle.bank_edits.specs.declared.edit.Step.TheVariants.{MovePreset, RenameInstrument, MoveInstrument, RenameSample, AddSample, RemoveSample, MoveSample, SetInfo}
 use Rattle.bank_edits.specs.declared.edit.Edit.{Edit}
 use Rattle.bank_edits.specs.declared.edit.Edit.TheVariants.{One}
 use Rattle.bank_edits.specs.Steps.{FitsStep}
@@ -23,6 +23,7 @@ use Rattle.line_tokens.specs.Pool.{Answers}
 use Rattle.line_tokens.specs.Spelling.{WritesSigned, IsWithin}
 use Rattle.edit_script.specs.declared.parsing.Line.{Line}
 use Rattle.edit_script.specs.Operands.{Operand, Fixed, Number, Signed, Name, Text, Points, Says, AllSay}
+use Rattle.edit_script.specs.Members.{moved_operands}
 use Rattle.edit_script.specs.Samples.{kind_operands, loop_operands, head_operands, body_operands}
 use Rattle.edit_script.specs.Grammar.{operands}
 use Rattle.edit_script.specs.Script.{script_of}
@@ -106,10 +107,17 @@ sample_fits s h =
       kind = kind_fits s.kind k.0;
     }
 
+both_fit : (from to : ℕ) → AllRanged (moved_operands from to) → (from < 2 ^ 32) × (to < 2 ^ 32)
+both_fit from to h = (let a = h.0 in omega (arith, a), let b = h.1.0 in omega (arith, b))
+
 step_fits : (s : Step) → AllRanged (operands s) → FitsStep s
+step_fits (MovePreset from to) h = both_fit from to h
+step_fits (RenameInstrument instrument name) h = (let l = h.0 in omega (arith, l), h.1.0)
+step_fits (MoveInstrument from to) h = both_fit from to h
 step_fits (RenameSample sample name) h = (let l = h.0 in omega (arith, l), h.1.0)
 step_fits (AddSample at s) h = (let l = h.0 in omega (arith, l), sample_fits s h.1)
 step_fits (RemoveSample sample) h = let l = h.0 in omega (arith, l)
+step_fits (MoveSample from to) h = both_fit from to h
 step_fits (SetInfo id text) h = h.1.0
 
 edit_fits : (said : List Said) (e : Edit) → SaysEdit said e → FitsEdit e

@@ -8,7 +8,7 @@ use Rattle.bank_parts.specs.declared.parts.Kind.TheVariants.{Mono, Right, Left, 
 use Rattle.bank_parts.specs.declared.parts.Sample.{Sample}
 use Rattle.bank_parts.specs.Fits.{FitsKind, FitsLoop, FitsSample}
 use Rattle.bank_edits.specs.declared.edit.Step.{Step}
-use Rattle.bank_edits.specs.declared.edit.Step.TheVariants.{RenameSample, AddSample, RemoveSample, SetInfo}
+use Rattle.bank_edits.specs.declared.edit.Step.TheVariants.{MovePreset, RenameInstrument, MoveInstrument, RenameSample, AddSample, RemoveSample, MoveSample, SetInfo}
 use Rattle.bank_edits.specs.declared.edit.Edit.{Edit}
 use Rattle.bank_edits.specs.declared.edit.Edit.TheVariants.{One}
 use Rattle.bank_edits.specs.Steps.{FitsStep}
@@ -43,9 +43,13 @@ id_fixed id.Comment = (refl, refl)
 id_fixed id.Software = (refl, refl)
 
 form_fixed : (f : Form) → IsFixed (form_word f)
+form_fixed form.MovePreset = (refl, refl)
+form_fixed form.RenameInstrument = (refl, refl)
+form_fixed form.MoveInstrument = (refl, refl)
 form_fixed form.RenameSample = (refl, refl)
 form_fixed form.AddSample = (refl, refl)
 form_fixed form.RemoveSample = (refl, refl)
+form_fixed form.MoveSample = (refl, refl)
 form_fixed form.SetInfo = (refl, refl)
 
 -- ---- what an edit says can be said
@@ -76,9 +80,13 @@ head_fit s h =
     (h.name, (word32 s.rate h.rate, ((omega (arith, key), lit< tt), ((cents s.correction h.correction, lit< tt), both_fit (kind_operands s.kind) (loop_operands s.looped) (kind_fit s.kind h.kind) (loop_fit s.looped h.looped)))))
 
 operands_fit : (s : Step) → FitsStep s → operand.AllFit (operands s)
+operands_fit (MovePreset from to) h = (word32 from h.0, (word32 to h.1, tt))
+operands_fit (RenameInstrument instrument name) h = (word32 instrument h.0, (h.1, tt))
+operands_fit (MoveInstrument from to) h = (word32 from h.0, (word32 to h.1, tt))
 operands_fit (RenameSample sample name) h = (word32 sample h.0, (h.1, tt))
 operands_fit (AddSample at s) h = (word32 at h.0, both_fit (head_operands s) _ (head_fit s h.1) (h.1.points, tt))
 operands_fit (RemoveSample sample) h = (word32 sample h, tt)
+operands_fit (MoveSample from to) h = (word32 from h.0, (word32 to h.1, tt))
 operands_fit (SetInfo i text) h = (id_fixed i, (h, tt))
 
 -- ---- lines

@@ -6,7 +6,7 @@ use Rattle.std.proofs.lemmas.Slice.Eq.{bytes_eq-Decides}
 use Rattle.bank_parts.specs.declared.texts.InfoId.{InfoId}
 use Rattle.bank_parts.specs.declared.texts.InfoId.TheVariants.{Engine, Name, Date, Engineers, Product, Copyright, Comment, Software}
 use Rattle.edit_script.specs.declared.forms.Form.{Form}
-use Rattle.edit_script.specs.declared.forms.Form.TheVariants.{RenameSample, AddSample, RemoveSample, SetInfo}
+use Rattle.edit_script.specs.declared.forms.Form.TheVariants.{MovePreset, RenameInstrument, MoveInstrument, RenameSample, AddSample, RemoveSample, MoveSample, SetInfo}
 use Rattle.edit_script.specs.Names.{named}
 use Rattle.edit_script.specs.Texts.{id_word, ids}
 use Rattle.edit_script.specs.Grammar.{form_word, forms}
@@ -39,9 +39,13 @@ named_nowhere {X} word_of xs i w whole s h = sym s ∙ ap (λ (ys : List X). nam
 -- ---- each of them
 
 pub form_named : (f : Form) → named form_word forms (form_word f) ≡ Some f
+form_named MovePreset = refl
+form_named RenameInstrument = refl
+form_named MoveInstrument = refl
 form_named RenameSample = refl
 form_named AddSample = refl
 form_named RemoveSample = refl
+form_named MoveSample = refl
 form_named SetInfo = refl
 
 pub id_named : (id : InfoId) → named id_word ids (id_word id) ≡ Some id

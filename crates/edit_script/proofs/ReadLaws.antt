@@ -11,7 +11,7 @@ use Rattle.bank_parts.specs.declared.parts.Kind.{Kind}
 use Rattle.bank_parts.specs.declared.parts.Kind.TheVariants.{Mono, Right, Left, Linked}
 use Rattle.bank_parts.specs.declared.parts.Sample.{Sample}
 use Rattle.bank_edits.specs.declared.edit.Step.{Step}
-use Rattle.bank_edits.specs.declared.edit.Step.TheVariants.{RenameSample, AddSample, RemoveSample, SetInfo}
+use Rattle.bank_edits.specs.declared.edit.Step.TheVariants.{MovePreset, RenameInstrument, MoveInstrument, RenameSample, AddSample, RemoveSample, MoveSample, SetInfo}
 use Rattle.bank_edits.specs.declared.edit.Edit.{Edit}
 use Rattle.bank_edits.specs.declared.edit.Edit.TheVariants.{One}
 use Rattle.line_tokens.specs.declared.cursor.Said.{Said}
@@ -33,7 +33,8 @@ use Rattle.edit_script.specs.declared.forms.Form.TheVariants as form
 use Rattle.edit_script.specs.declared.parsing.Line.{Line}
 use Rattle.edit_script.specs.Operands.{Operand, Fixed, Number, Signed, Name, Text, Points, Says, AllSay}
 use Rattle.edit_script.specs.Names.{named}
-use Rattle.edit_script.specs.Samples.{kind_operands, loop_operands, body_operands, kind_behind, kind, loop_behind, looped, points_of, points, sample_of, body, rename_sample, add_sample, remove_sample}
+use Rattle.edit_script.specs.Members.{named_operands, moved_operands, renaming, moving}
+use Rattle.edit_script.specs.Samples.{kind_operands, loop_operands, body_operands, kind_behind, kind, loop_behind, looped, points_of, points, sample_of, body, add_sample, remove_sample}
 use Rattle.edit_script.specs.Texts.{id_word, ids, info_id, set_info}
 use Rattle.edit_script.specs.Grammar.{form_word, forms, form_of, operands, operands_read, step, edit}
 use Rattle.edit_script.specs.Script.{edit_of, with_edit, edits_in, script_of}
@@ -182,15 +183,31 @@ body_front line t h e =
 
 -- ---- the forms
 
-rename_front : (line : List Said) (t : Took Step) → AllHoldBytes line → rename_sample line ≡ Ok t → Fronts line t.rest (operands t.value) × (form_of t.value ≡ form.RenameSample)
-unfolding rename_sample
-rename_front line t h e =
-    let s = both (number 4294967295 line) (λ s. name >>= λ n. pure (RenameSample s n)) t e in
-    let a = number_front 4294967295 line s.first h s.is in
-    let n = both (name s.first.rest) (λ n. pure (RenameSample s.first.value n)) t s.second in
-    let b = name_front s.first.rest n.first a.holds n.is in
-    let same : record { value = RenameSample s.first.value n.first.value; rest = n.first.rest } ≡ t = made _ n.first.rest t n.second in
-    subst (λ (u : Took Step). Fronts line u.rest (operands u.value) × (form_of u.value ≡ form.RenameSample)) same (then (Number 4294967295 s.first.value ∷ []) (Name n.first.value ∷ []) a b, refl)
+module _ (f : Form) (step : ℕ → List ℕ → Step) (says : (i : ℕ) (n : List ℕ) → (operands (step i n) ≡ named_operands i n) × (form_of (step i n) ≡ f)) where
+  renaming_front : (line : List Said) (t : Took Step) → AllHoldBytes line → renaming step line ≡ Ok t → Fronts line t.rest (operands t.value) × (form_of t.value ≡ f)
+  unfolding renaming
+  renaming_front line t h e =
+      let i = both (number 4294967295 line) (λ i. name >>= λ n. pure (step i n)) t e in
+      let a = number_front 4294967295 line i.first h i.is in
+      let n = both (name i.first.rest) (λ n. pure (step i.first.value n)) t i.second in
+      let b = name_front i.first.rest n.first a.holds n.is in
+      let same : record { value = step i.first.value n.first.value; rest = n.first.rest } ≡ t = made _ n.first.rest t n.second in
+      let said = says i.first.value n.first.value in
+      subst (λ (u : Took Step). Fronts line u.rest (operands u.value) × (form_of u.value ≡ f)) same
+      (subst (Fronts line n.first.rest) (sym said.0) (then (Number 4294967295 i.first.value ∷ []) (Name n.first.value ∷ []) a b), said.1)
+
+module _ (f : Form) (step : ℕ → ℕ → Step) (says : (i j : ℕ) → (operands (step i j) ≡ moved_operands i j) × (form_of (step i j) ≡ f)) where
+  moving_front : (line : List Said) (t : Took Step) → AllHoldBytes line → moving step line ≡ Ok t → Fronts line t.rest (operands t.value) × (form_of t.value ≡ f)
+  unfolding moving
+  moving_front line t h e =
+      let i = both (number 4294967295 line) (λ i. number 4294967295 >>= λ j. pure (step i j)) t e in
+      let a = number_front 4294967295 line i.first h i.is in
+      let j = both (number 4294967295 i.first.rest) (λ j. pure (step i.first.value j)) t i.second in
+      let b = number_front 4294967295 i.first.rest j.first a.holds j.is in
+      let same : record { value = step i.first.value j.first.value; rest = j.first.rest } ≡ t = made _ j.first.rest t j.second in
+      let said = says i.first.value j.first.value in
+      subst (λ (u : Took Step). Fronts line u.rest (operands u.value) × (form_of u.value ≡ f)) same
+      (subst (Fronts line j.first.rest) (sym said.0) (then (Number 4294967295 i.first.value ∷ []) (Number 4294967295 j.first.value ∷ []) a b), said.1)
 
 add_front : (line : List Said) (t : Took Step) → AllHoldBytes line → add_sample line ≡ Ok t → Fronts line t.rest (operands t.value) × (form_of t.value ≡ form.AddSample)
 unfolding add_sample
@@ -229,9 +246,13 @@ info_front line t h e =
 
 -- what stands behind the word of a form says a step of that form
 operands_front : (f : Form) (line : List Said) (t : Took Step) → AllHoldBytes line → operands_read f line ≡ Ok t → Fronts line t.rest (operands t.value) × (form_of t.value ≡ f)
-operands_front form.RenameSample line t h e = rename_front line t h e
+operands_front form.MovePreset line t h e = moving_front form.MovePreset (λ i j. MovePreset i j) (λ i j. (refl, refl)) line t h e
+operands_front form.RenameInstrument line t h e = renaming_front form.RenameInstrument (λ i n. RenameInstrument i n) (λ i n. (refl, refl)) line t h e
+operands_front form.MoveInstrument line t h e = moving_front form.MoveInstrument (λ i j. MoveInstrument i j) (λ i j. (refl, refl)) line t h e
+operands_front form.RenameSample line t h e = renaming_front form.RenameSample (λ i n. RenameSample i n) (λ i n. (refl, refl)) line t h e
 operands_front form.AddSample line t h e = add_front line t h e
 operands_front form.RemoveSample line t h e = remove_front line t h e
+operands_front form.MoveSample line t h e = moving_front form.MoveSample (λ i j. MoveSample i j) (λ i j. (refl, refl)) line t h e
 operands_front form.SetInfo line t h e = info_front line t h e
 
 step_front : (line : List Said) (t : Took Step) → AllHoldBytes line → step line ≡ Ok t → Fronts line t.rest (Fixed (form_word (form_of t.value)) ∷ operands t.value)

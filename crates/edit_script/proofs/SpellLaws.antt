@@ -9,7 +9,7 @@ use Rattle.bank_parts.specs.declared.parts.Kind.{Kind}
 use Rattle.bank_parts.specs.declared.parts.Kind.TheVariants.{Mono, Right, Left, Linked}
 use Rattle.bank_parts.specs.declared.parts.Sample.{Sample}
 use Rattle.bank_edits.specs.declared.edit.Step.{Step}
-use Rattle.bank_edits.specs.declared.edit.Step.TheVariants.{RenameSample, AddSample, RemoveSample, SetInfo}
+use Rattle.bank_edits.specs.declared.edit.Step.TheVariants.{MovePreset, RenameInstrument, MoveInstrument, RenameSample, AddSample, RemoveSample, MoveSample, SetInfo}
 use Rattle.bank_edits.specs.declared.edit.Edit.{Edit}
 use Rattle.bank_edits.specs.declared.edit.Edit.TheVariants.{One}
 use Rattle.line_tokens.specs.declared.cursor.Said.{Said}
@@ -27,7 +27,8 @@ use Rattle.line_tokens.proofs.GatherLaws.{gather_on, gather_none}
 use Rattle.edit_script.specs.declared.parsing.Line.{Line}
 use Rattle.edit_script.specs.Operands.{Operand, Fixed, Number, Signed, Name, Text, Points, AllSay}
 use Rattle.edit_script.specs.Names.{named}
-use Rattle.edit_script.specs.Samples.{kind_operands, loop_operands, body_operands, kind_behind, kind, loop_behind, looped, points_of, points, body, rename_sample, add_sample, remove_sample}
+use Rattle.edit_script.specs.Members.{named_operands, moved_operands, renaming, moving}
+use Rattle.edit_script.specs.Samples.{kind_operands, loop_operands, body_operands, kind_behind, kind, loop_behind, looped, points_of, points, body, add_sample, remove_sample}
 use Rattle.edit_script.specs.Texts.{id_word, ids, info_id, set_info}
 use Rattle.edit_script.specs.Grammar.{form_word, forms, form_of, operands, operands_read, step, edit}
 use Rattle.edit_script.specs.Script.{edit_of, with_edit, edits_in, script_of}
@@ -124,13 +125,24 @@ gives_id id line more h = then _ (gives_word (id_word id) line more h) (λ rest 
 
 -- ---- the forms
 
+gives_renaming : (step : ℕ → List ℕ → Step) (i : ℕ) (n : List ℕ) (line : List Said) → AllSay line (named_operands i n) → Gives (renaming step) (step i n) line []
+unfolding renaming
+gives_renaming step i n line h = then _ (gives_number 4294967295 i line (Name n ∷ []) h) (λ rest k. then _ (gives_name n rest [] k) (λ rest k. gives_pure (step i n) rest [] k))
+
+gives_moving : (step : ℕ → ℕ → Step) (i j : ℕ) (line : List Said) → AllSay line (moved_operands i j) → Gives (moving step) (step i j) line []
+unfolding moving
+gives_moving step i j line h = then _ (gives_number 4294967295 i line (Number 4294967295 j ∷ []) h) (λ rest k. then _ (gives_number 4294967295 j rest [] k) (λ rest k. gives_pure (step i j) rest [] k))
+
 gives_operands : (s : Step) (line : List Said) → AllSay line (operands s) → Gives (operands_read (form_of s)) s line []
-unfolding rename_sample add_sample remove_sample set_info
-gives_operands (RenameSample s n) line h =
-    then _ (gives_number 4294967295 s line (Name n ∷ []) h) (λ rest k. then _ (gives_name n rest [] k) (λ rest k. gives_pure (RenameSample s n) rest [] k))
+unfolding add_sample remove_sample set_info
+gives_operands (MovePreset i j) line h = gives_moving (λ i j. MovePreset i j) i j line h
+gives_operands (RenameInstrument i n) line h = gives_renaming (λ i n. RenameInstrument i n) i n line h
+gives_operands (MoveInstrument i j) line h = gives_moving (λ i j. MoveInstrument i j) i j line h
+gives_operands (RenameSample s n) line h = gives_renaming (λ i n. RenameSample i n) s n line h
 gives_operands (AddSample at s) line h =
     then _ (gives_number 4294967295 at line (body_operands s) h) (λ rest k. then _ (gives_body s rest k) (λ rest k. gives_pure (AddSample at s) rest [] k))
 gives_operands (RemoveSample s) line h = then _ (gives_number 4294967295 s line [] h) (λ rest k. gives_pure (RemoveSample s) rest [] k)
+gives_operands (MoveSample i j) line h = gives_moving (λ i j. MoveSample i j) i j line h
 gives_operands (SetInfo id text) line h =
     then _ (gives_id id line (Text text ∷ []) h) (λ rest k. then _ (gives_text text rest [] k) (λ rest k. gives_pure (SetInfo id text) rest [] k))
 

@@ -1,5 +1,6 @@
 pub mod Operands
 pub mod Names
+pub mod Members
 pub mod Samples
 pub mod Texts
 pub mod Grammar

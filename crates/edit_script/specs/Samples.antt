@@ -6,7 +6,7 @@ use Rattle.bank_parts.specs.declared.parts.Kind.{Kind}
 use Rattle.bank_parts.specs.declared.parts.Kind.TheVariants.{Mono, Right, Left, Linked}
 use Rattle.bank_parts.specs.declared.parts.Sample.{Sample}
 use Rattle.bank_edits.specs.declared.edit.Step.{Step}
-use Rattle.bank_edits.specs.declared.edit.Step.TheVariants.{RenameSample, AddSample, RemoveSample}
+use Rattle.bank_edits.specs.declared.edit.Step.TheVariants.{AddSample, RemoveSample}
 use Rattle.line_tokens.specs.declared.fault.LineFault.TheVariants as faults
 use Rattle.line_tokens.specs.Parts.{Part, ◌>>=◌, pure, or_fault, word, literal, number, signed, name}
 use Rattle.edit_script.specs.Operands.{Operand, Fixed, Number, Signed, Name, Points}
@@ -80,13 +80,6 @@ body = do
   pure (sample_of n rate key correction k l p)
 
 -- ---- the forms
-
--- `rename-sample S NAME`
-unfoldable pub rename_sample : Part Step
-rename_sample = do
-  s ← number 4294967295
-  n ← name
-  pure (RenameSample s n)
 
 -- `add-sample S BODY`
 unfoldable pub add_sample : Part Step

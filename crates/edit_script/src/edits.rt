@@ -9,9 +9,11 @@ ghost use Rattle.edit_script.specs.Grammar.{form_word, form_of, operands, operan
 ghost use Rattle.edit_script.specs.Printing.{text_of};
 
 use crate::forms::{Form, named};
-use crate::samples::{
-    add_sample, put_add_sample, put_remove_sample, put_rename_sample, remove_sample, rename_sample,
+use crate::members::{
+    move_instrument, move_preset, move_sample, put_moving, put_renaming, rename_instrument,
+    rename_sample,
 };
+use crate::samples::{add_sample, put_add_sample, put_remove_sample, remove_sample};
 use crate::texts::{put_set_info, set_info};
 use bank_edits::{Edit, Step};
 use line_tokens::{Cursor, LineFault};
@@ -53,9 +55,13 @@ fn operands_read<'p>(
     ensures { Reads (λ s. s) (operands_read form) line.old line.new result }
 {
     match form {
+        Form::MovePreset => move_preset(line),
+        Form::RenameInstrument => rename_instrument(line),
+        Form::MoveInstrument => move_instrument(line),
         Form::RenameSample => rename_sample(line),
         Form::AddSample => add_sample(alloc, line),
         Form::RemoveSample => remove_sample(line),
+        Form::MoveSample => move_sample(line),
         Form::SetInfo => set_info(line),
     }
 }
@@ -86,9 +92,17 @@ fn put_step<W: Write>(step: &Step<'_>, output: &mut Output<'_, W>)
     ensures { Puts W.contents output.old output.new (line_text (form_word (form_of step.now)) (pieces_of (operands step.now))) }
 {
     match step {
-        Step::RenameSample { sample, name } => put_rename_sample(*sample, name, output),
+        Step::MovePreset { from, to } => put_moving(Form::MovePreset, *from, *to, output),
+        Step::RenameInstrument { instrument, name } => {
+            put_renaming(Form::RenameInstrument, *instrument, name, output)
+        }
+        Step::MoveInstrument { from, to } => put_moving(Form::MoveInstrument, *from, *to, output),
+        Step::RenameSample { sample, name } => {
+            put_renaming(Form::RenameSample, *sample, name, output)
+        }
         Step::AddSample { at, sample } => put_add_sample(*at, sample, output),
         Step::RemoveSample { sample } => put_remove_sample(*sample, output),
+        Step::MoveSample { from, to } => put_moving(Form::MoveSample, *from, *to, output),
         Step::SetInfo { id, text } => put_set_info(*id, text, output),
     }
 }

@@ -52,19 +52,31 @@ pub(crate) fn says(word: &[u8], text: &[u8]) -> bool
 /// A form of edits: one for each kind of step.
 #[derive(Debug, Clone, Copy)]
 pub enum Form {
+    // ---- presets
+    MovePreset,
+
+    // ---- instruments
+    RenameInstrument,
+    MoveInstrument,
+
     // ---- samples
     RenameSample,
     AddSample,
     RemoveSample,
+    MoveSample,
 
     // ---- texts
     SetInfo,
 }
 
-static FORMS: [Form; 4] = [
+static FORMS: [Form; 8] = [
+    Form::MovePreset,
+    Form::RenameInstrument,
+    Form::MoveInstrument,
     Form::RenameSample,
     Form::AddSample,
     Form::RemoveSample,
+    Form::MoveSample,
     Form::SetInfo,
 ];
 
@@ -79,9 +91,13 @@ impl HasWord for Form {
 
     fn word(self) -> &'static [u8] {
         match self {
+            Form::MovePreset => b"move-preset",
+            Form::RenameInstrument => b"rename-inst",
+            Form::MoveInstrument => b"move-inst",
             Form::RenameSample => b"rename-sample",
             Form::AddSample => b"add-sample",
             Form::RemoveSample => b"remove-sample",
+            Form::MoveSample => b"move-sample",
             Form::SetInfo => b"set-info",
         }
     }
@@ -93,9 +109,13 @@ impl Form {
         ensures { result ≡ form_of step.now }
     {
         match step {
+            Step::MovePreset { .. } => Form::MovePreset,
+            Step::RenameInstrument { .. } => Form::RenameInstrument,
+            Step::MoveInstrument { .. } => Form::MoveInstrument,
             Step::RenameSample { .. } => Form::RenameSample,
             Step::AddSample { .. } => Form::AddSample,
             Step::RemoveSample { .. } => Form::RemoveSample,
+            Step::MoveSample { .. } => Form::MoveSample,
             Step::SetInfo { .. } => Form::SetInfo,
         }
     }

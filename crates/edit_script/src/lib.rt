@@ -3,13 +3,15 @@
 //! [`pool_of`] takes the bytes of all literals of a text, and [`parse`] reads the text's edits over
 //! them. [`print`] writes the line of an edit, and [`put_edit`] puts it into an output.
 //!
-//! The forms are `rename-sample S NAME`, `add-sample S NAME RATE KEY CORR KIND LOOP POINTS`,
-//! `remove-sample S` and `set-info ID TEXT`.
+//! The forms are `move-preset I J`, `rename-inst I NAME`, `move-inst I J`, `rename-sample S NAME`,
+//! `add-sample S NAME RATE KEY CORR KIND LOOP POINTS`, `remove-sample S`, `move-sample I J` and
+//! `set-info ID TEXT`.
 #![tactic(auto)]
 
 mod edits;
 mod forms;
 mod laws;
+mod members;
 mod parsing;
 mod samples;
 mod texts;

@@ -6,28 +6,18 @@ ghost use Rattle.line_tokens.specs.Parts.{Reads};
 ghost use Rattle.line_tokens.specs.Printing.{spaced, line_text};
 ghost use Rattle.edit_script.specs.Operands as operand;
 ghost use Rattle.edit_script.specs.Operands.{pieces_of};
-ghost use Rattle.edit_script.specs.Samples.{kind_operands, loop_operands, head_operands, body_operands, kind, looped, points_of, points, body, rename_sample, add_sample, remove_sample};
+ghost use Rattle.edit_script.specs.Samples.{kind_operands, loop_operands, head_operands, body_operands, kind, looped, points_of, points, body, add_sample, remove_sample};
 
 use crate::forms::{Form, HasWord, says};
 use bank_edits::Step;
 use bank_parts::{Kind, Sample};
 use line_tokens::{Cursor, Joined, LineFault, Piece, put_line, put_pieces};
 use sample_view::Points;
-use sf_base::{Lent, Name20, Output};
+use sf_base::{Lent, Output};
 use std::alloc::Global;
 use std::io::Write;
 
 // ---- read
-
-// `S NAME`
-#[tactic(auto, unfolding(crate::specs::Samples::rename_sample))]
-pub(crate) fn rename_sample<'p>(line: &mut Cursor<'_, 'p>) -> Result<Step<'p>, LineFault>
-    ensures { Reads (λ s. s) rename_sample line.old line.new result }
-{
-    let sample = line.number(u32::MAX)?;
-    let name = line.name()?;
-    Ok(Step::RenameSample { sample, name })
-}
 
 // `S BODY`
 #[tactic(auto, unfolding(crate::specs::Samples::add_sample))]
@@ -211,14 +201,6 @@ pub(crate) fn put_add_sample<W: Write>(at: u32, sample: &Sample<'_>, output: &mu
     output.put(Form::AddSample.word());
     put_added(at, sample, output);
     output.put(b"\n");
-}
-
-pub(crate) fn put_rename_sample<W: Write>(sample: u32, name: &Name20, output: &mut Output<'_, W>)
-    ensures { Puts W.contents output.old output.new (line_text (codes "rename-sample") (pieces_of (operand.Number 4294967295 sample ∷ operand.Name name.now ∷ []))) }
-{
-    let sample = Piece::Number(u64::from(sample));
-    let name = Piece::Name(Lent::new(name.bytes()));
-    put_line(Form::RenameSample.word(), &[sample, name], output);
 }
 
 pub(crate) fn put_remove_sample<W: Write>(sample: u32, output: &mut Output<'_, W>)

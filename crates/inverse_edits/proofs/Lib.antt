@@ -1,4 +1,6 @@
 pub mod UndoneBy
+pub mod PresetLaws
+pub mod InstrumentLaws
 pub mod SampleLaws
 pub mod TextLaws
 pub mod Law

@@ -1,5 +1,5 @@
 -- Undo restores, for the forms that edit samples.
-use Rattle.std.proofs.Common.{◌≡◌, ◌≤◌, ◌+◌, ℕ, List, length, map, remove, Some, refl, ap, arith}
+use Rattle.std.proofs.Common.{◌≡◌, ◌≤◌, ◌+◌, ℕ, List, length, map, remove, Some, refl, sym, ap, arith}
 use Rattle.std.proofs.lemmas.List.{length-map}
 use Rattle.std.proofs.lemmas.List.Edits.{length-insert, length-remove}
 use Rattle.std.specs.Prelude.{slice_get}
@@ -13,11 +13,13 @@ use Rattle.bank_parts.specs.Fits.{FitsSample}
 use Rattle.bank_parts.specs.Sound.{IsSound}
 use Rattle.bank_core.specs.Samples.{named, sample_renamed, sample_added, sample_removed}
 use Rattle.bank_core.proofs.Changes.{all_found}
-use Rattle.bank_core.proofs.SampleLaws.{renamed_sound, restored_added, restored_removed, added_unused}
+use Rattle.bank_core.proofs.SampleLaws.{renamed_sound, restored_added, restored_removed, restored_moved, added_unused, length-sample_moved}
 use Rattle.bank_edits.specs.declared.edit.Edit.TheVariants.{One}
-use Rattle.bank_edits.specs.declared.edit.Step.TheVariants.{RenameSample, AddSample, RemoveSample}
+use Rattle.bank_edits.specs.declared.edit.Step.TheVariants.{RenameSample, AddSample, RemoveSample, MoveSample}
 use Rattle.bank_edits.proofs.Accepted.{accepted, not_below}
-use Rattle.bank_edits.proofs.SampleLaws.{there_of_rename, goes_in, tests_add, sound_add, comes_out, sound_remove}
+use Rattle.bank_edits.proofs.SampleLaws.{there_of_rename, goes_in, tests_add, sound_add, comes_out, sound_remove, moves_sample, sound_move_sample}
+use Rattle.bank_edits.specs.declared.cause.Cause.TheVariants.{NoSuchSample}
+use Rattle.bank_edits.proofs.Moves.{tests_move, moves_back}
 use Rattle.inverse_edits.specs.Undone.{IsTaken, IsUndone}
 use Rattle.inverse_edits.proofs.UndoneBy.{undone_by}
 
@@ -75,5 +77,20 @@ undone_remove b i s t =
       fits = (t.fits, all_found FitsSample b.samples i x e s.fits.samples);
       tests = tests_add (sample_removed b i) i x (record { link = is_then.kind; place = omega (arith, one_less, lt); looped = is.looped });
       restored = restored_removed b i x e c.free;
+      redone = refl;
+    })
+
+-- ---- move-sample
+
+pub undone_move_sample : (b : Parts) (i j : ℕ) → IsSound b → IsTaken b (One (MoveSample i j)) → IsUndone b (One (MoveSample i j))
+undone_move_sample b i j s t =
+    let m = moves_sample b i j t.accepted in
+    let back = moves_back m (sym (length-sample_moved b i j m.there m.place)) in
+    undone_by b (MoveSample i j) (MoveSample j i) s (record {
+      is = refl;
+      sound = sound_move_sample b i j s t.accepted;
+      fits = (t.fits.1, t.fits.0);
+      tests = tests_move _ j i NoSuchSample back;
+      restored = restored_moved b i j m.there m.place;
       redone = refl;
     })

@@ -1,0 +1,17 @@
+use Rattle.std.proofs.Common.{[], ◌∷◌, length}
+use Rattle.bank_parts.specs.Limits.{broken_limit}
+use Rattle.bank_edits.specs.declared.edit.Step.TheVariants.{MoveSample}
+use Rattle.bank_edits.specs.Causes.{no_such_sample, no_such_place}
+use Rattle.bank_edits.specs.Steps.{raw}
+use Rattle.bank_edits.proofs.Accepted.{by_last, below}
+use Rattle.bank_edits.proofs.SampleLaws.{within_move_sample}
+use Rattle.bank_edits.proofs.samples.refuse_move_sample.Goals as goal
+
+pub returns : goal.returns
+returns c =
+    let b = c.args.bank.now in
+    let i = c.args.from in
+    let j = c.args.to in
+    let there = c.in_ok-no_such_sample.ensures in
+    by_last (no_such_sample b i ∷ []) (no_such_place (length b.samples) j) (broken_limit (raw b (MoveSample i j))) c.no_such_place.result (there, tt) (rw c.count.ensures at c.no_such_place.ensures)
+    (λ place. within_move_sample b i j c.requires.valid (below _ i there) (below _ j place))
