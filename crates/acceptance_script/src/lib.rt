@@ -5,6 +5,8 @@
 #[cfg(test)]
 mod full;
 #[cfg(test)]
+mod members;
+#[cfg(test)]
 mod samples;
 #[cfg(test)]
 mod scripts;

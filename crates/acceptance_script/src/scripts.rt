@@ -168,7 +168,7 @@ const LATER: [(&[u8], &[u8]); 6] = [
     (b"frob\nrename-sample 0 x1", b": line 2: fault 43 Literal\n"),
     (
         b"rename-sample 0 \"a\"\n\nrename-sample zero x",
-        b": line 3: fault 41 Syntax\n",
+        b": line 3: fault 42 Number\n",
     ),
     (
         b"rename-sample 0 \"a\"\n\"b\"",
