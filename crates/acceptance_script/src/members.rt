@@ -25,7 +25,10 @@ const RETURNS: [(&[u8], &[u8]); 9] = [
 fn members_that_are_moved(rt: HostRuntime) {
     let wide = wide();
     for (row, (script, back)) in RETURNS.iter().enumerate() {
-        assert!(rt; returns(rt.alloc(), wide.bytes(), script, back), "row {row}");
+        assert!(rt;
+            returns(rt.alloc(), wide.bytes(), script, back),
+            "row {row}"
+        );
     }
     // Both links follow.
     let (there, back) = (b"move-sample 0 1\n", b"move-sample 1 0\n");
