@@ -24,7 +24,7 @@ impl<const N: usize> Model for Spelling<N> {
 
 impl<const N: usize> Spelling<N> {
     // No field.
-    pub fn new() -> Spelling<N>
+    pub(crate) fn new() -> Spelling<N>
         ensures { result ≡ [] }
     {
         Spelling {
@@ -34,7 +34,7 @@ impl<const N: usize> Spelling<N> {
     }
 
     // The fields, and then these bytes.
-    pub fn with_bytes(mut self, bytes: &[u8]) -> Spelling<N>
+    pub(crate) fn with_bytes(mut self, bytes: &[u8]) -> Spelling<N>
         requires { length self + length bytes.now ≤ N }
         ensures value { result ≡ self.entry ++ bytes.now }
         ensures len { length result ≡ length self.entry + length bytes.now }
@@ -46,7 +46,7 @@ impl<const N: usize> Spelling<N> {
     }
 
     // The fields, and then a number, its low byte first.
-    pub fn with_u8(self, byte: u8) -> Spelling<N>
+    pub(crate) fn with_u8(self, byte: u8) -> Spelling<N>
         requires { length self + 1 ≤ N }
         ensures value { result ≡ self.entry ++ little_bytes 1 byte }
         ensures len { length result ≡ length self.entry + 1 }
@@ -54,7 +54,7 @@ impl<const N: usize> Spelling<N> {
         self.with_bytes(&[byte])
     }
 
-    pub fn with_i8(self, number: i8) -> Spelling<N>
+    pub(crate) fn with_i8(self, number: i8) -> Spelling<N>
         requires { length self + 1 ≤ N }
         ensures value { result ≡ self.entry ++ little_bytes 1 (cast_unsigned w8 number) }
         ensures len { length result ≡ length self.entry + 1 }
@@ -62,7 +62,7 @@ impl<const N: usize> Spelling<N> {
         self.with_u8(number.cast_unsigned())
     }
 
-    pub fn with_u16(self, word: u16) -> Spelling<N>
+    pub(crate) fn with_u16(self, word: u16) -> Spelling<N>
         requires { length self + 2 ≤ N }
         ensures value { result ≡ self.entry ++ little_bytes 2 word }
         ensures len { length result ≡ length self.entry + 2 }
@@ -70,7 +70,7 @@ impl<const N: usize> Spelling<N> {
         self.with_bytes(&word.to_le_bytes())
     }
 
-    pub fn with_i16(self, number: i16) -> Spelling<N>
+    pub(crate) fn with_i16(self, number: i16) -> Spelling<N>
         requires { length self + 2 ≤ N }
         ensures value { result ≡ self.entry ++ little_bytes 2 (cast_unsigned w16 number) }
         ensures len { length result ≡ length self.entry + 2 }
@@ -78,7 +78,7 @@ impl<const N: usize> Spelling<N> {
         self.with_u16(number.cast_unsigned())
     }
 
-    pub fn with_u32(self, dword: u32) -> Spelling<N>
+    pub(crate) fn with_u32(self, dword: u32) -> Spelling<N>
         requires { length self + 4 ≤ N }
         ensures value { result ≡ self.entry ++ little_bytes 4 dword }
         ensures len { length result ≡ length self.entry + 4 }
@@ -87,7 +87,7 @@ impl<const N: usize> Spelling<N> {
     }
 
     // All bytes of the record.
-    pub fn whole(self) -> [u8; N]
+    pub(crate) fn whole(self) -> [u8; N]
         requires { length self ≡ N }
         ensures { result ≡ self.entry }
     {
