@@ -20,7 +20,7 @@ fn decayed_at(v: &VoiceParameters, fallen: u64) -> u32
 
 // The level at frame `t` of the note, before its end.
 #[tactic(auto, unfolding(crate::specs::Envelope::held))]
-pub fn held_at(v: &VoiceParameters, t: u64) -> u32
+pub(crate) fn held_at(v: &VoiceParameters, t: u64) -> u32
     requires { t < 2 ^ 34 }
     ensures value { result ≡ held v.now t }
     ensures most { result ≤ 65536 }
@@ -44,7 +44,7 @@ pub fn held_at(v: &VoiceParameters, t: u64) -> u32
 
 // The level at frame `t`, while the voice isn't over.
 #[tactic(auto, using(crate::proofs::LevelLemmas::faded), unfolding(crate::specs::Envelope::envelope, crate::specs::Envelope::released))]
-pub fn envelope_at(v: &VoiceParameters, t: u64) -> u32
+pub(crate) fn envelope_at(v: &VoiceParameters, t: u64) -> u32
     requires { t < v.now.length + v.now.release }
     ensures value { result ≡ envelope v.now t }
     ensures most { result ≤ 65536 }

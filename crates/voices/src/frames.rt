@@ -13,7 +13,7 @@ use sample_view::Points;
 use sound_tables::gain;
 
 // What the left side gets, of 1000.
-pub fn left_part(v: &VoiceParameters) -> u32
+pub(crate) fn left_part(v: &VoiceParameters) -> u32
     requires { (negsuc 499 ≤ℤ v.now.pan) × (v.now.pan ≤ℤ pos 500) }
     ensures value { result ≡ part_of v.now true }
     ensures most { result ≤ 1000 }
@@ -22,7 +22,7 @@ pub fn left_part(v: &VoiceParameters) -> u32
 }
 
 // What the right side gets, of 1000.
-pub fn right_part(v: &VoiceParameters) -> u32
+pub(crate) fn right_part(v: &VoiceParameters) -> u32
     requires { (negsuc 499 ≤ℤ v.now.pan) × (v.now.pan ≤ℤ pos 500) }
     ensures value { result ≡ part_of v.now false }
     ensures most { result ≤ 1000 }
@@ -32,7 +32,7 @@ pub fn right_part(v: &VoiceParameters) -> u32
 
 // What the sample says at frame `t`, at which the voice isn't over.
 #[tactic(auto, using(crate::proofs::OverLemmas::loop_start_inside))]
-pub fn point_at_frame(points: &Points, v: &VoiceParameters, t: u64) -> i32
+fn point_at_frame(points: &Points, v: &VoiceParameters, t: u64) -> i32
     requires playable { IsPlayable (length points.now) v.now }
     requires sounds { is_over v.now t ≡ false }
     requires young { t < 2 ^ 33 }
@@ -60,7 +60,7 @@ fn sound_of(points: &Points, v: &VoiceParameters, t: u64) -> i32
 
 // Both sides of frame `t`.
 #[tactic(auto, unfolding(crate::specs::Sound::snd))]
-pub fn frame(points: &Points, v: &VoiceParameters, t: u64) -> (i32, i32)
+pub(crate) fn frame(points: &Points, v: &VoiceParameters, t: u64) -> (i32, i32)
     requires playable { IsPlayable (length points.now) v.now }
     ensures left { result.0 ≡ snd (record { points = points.now; parameters = v.now }) true t }
     ensures right { result.1 ≡ snd (record { points = points.now; parameters = v.now }) false t }

@@ -5,7 +5,7 @@ ghost use Rattle.voices.specs.Levels.{scaled_by, side};
 // A point as loud as `gain` of 65536.
 #[inline(always)]
 #[tactic(auto, using(crate::proofs::LevelLemmas::scaled_within), unfolding(crate::specs::Levels::scaled_by))]
-pub fn louder(p: i32, gain: u32) -> i32
+pub(crate) fn louder(p: i32, gain: u32) -> i32
     requires low { negsuc 32767 ≤ℤ p }
     requires high { p ≤ℤ pos 32767 }
     requires level { gain ≤ 65536 }
@@ -31,7 +31,7 @@ fn part_down(z: i32, part: u32) -> i32
 // What a side gets that has `part` of 1000.
 #[inline(always)]
 #[tactic(auto, using(crate::proofs::LevelLemmas::side_within))]
-pub fn parted(z: i32, part: u32) -> i32
+pub(crate) fn parted(z: i32, part: u32) -> i32
     requires low { negsuc 32767 ≤ℤ z }
     requires high { z ≤ℤ pos 32767 }
     requires level { part ≤ 1000 }

@@ -155,7 +155,7 @@ fn fill_released(v: &VoiceParameters, fallen: u64, levels: &mut [u32])
 }
 
 // How loud the voice is at each frame of a stretch, which the note's end ends.
-pub fn fill_levels(v: &VoiceParameters, t: u64, levels: &mut [u32])
+pub(crate) fn fill_levels(v: &VoiceParameters, t: u64, levels: &mut [u32])
     requires young { t + length levels.old < 2 ^ 33 }
     requires unreleased { t + length levels.old ≤ v.now.length + v.now.release }
     requires held { t < v.now.length → t + length levels.old ≤ v.now.length }

@@ -29,7 +29,7 @@ fn looped_place_at(v: &VoiceParameters, t: u64) -> u64
 }
 
 // Whether the loop is in force at frame `t`.
-pub fn is_looping_at(v: &VoiceParameters, t: u64) -> bool
+pub(crate) fn is_looping_at(v: &VoiceParameters, t: u64) -> bool
     ensures { result ≡ is_looping v.now t }
 {
     v.looped && !(v.until_release && u64::from(v.length) <= t)
@@ -37,7 +37,7 @@ pub fn is_looping_at(v: &VoiceParameters, t: u64) -> bool
 
 // The place at frame `t`.
 #[tactic(auto, using(crate::proofs::PlaceLemmas::far_rest), unfolding(crate::specs::Place::place))]
-pub fn place_at(v: &VoiceParameters, t: u64) -> u64
+pub(crate) fn place_at(v: &VoiceParameters, t: u64) -> u64
     requires loop_is { v.now.looped ≡ true → v.now.loop_start < v.now.loop_end }
     requires steps { v.now.step ≤ 73043661 }
     requires young { t < 2 ^ 33 }
@@ -53,7 +53,7 @@ pub fn place_at(v: &VoiceParameters, t: u64) -> u64
 }
 
 // Whether the voice is over at frame `t`.
-pub fn is_over_at(v: &VoiceParameters, t: u64) -> bool
+pub(crate) fn is_over_at(v: &VoiceParameters, t: u64) -> bool
     requires loop_is { v.now.looped ≡ true → v.now.loop_start < v.now.loop_end }
     requires steps { v.now.step ≤ 73043661 }
     ensures value { result ≡ is_over v.now t }
@@ -68,7 +68,7 @@ pub fn is_over_at(v: &VoiceParameters, t: u64) -> bool
 
 // How many frames, at most `most`, lie before `to`: the first is at `x`, each next one `step` further.
 #[tactic(auto, using(crate::proofs::PlaceLemmas::run_stays, crate::proofs::PlaceLemmas::stands_still))]
-pub fn frames_before(x: u64, step: u64, to: u64, most: u64) -> u64
+pub(crate) fn frames_before(x: u64, step: u64, to: u64, most: u64) -> u64
     requires before { x < to }
     requires some { 0 < most }
     ensures some { 0 < result }

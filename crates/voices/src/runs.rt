@@ -154,7 +154,7 @@ fn add_stretch(points: &Points, v: &VoiceParameters, t: u64, sums: &mut [i32])
 }
 
 // Adds the frames from `age` on to the sums of both sides, which stand in turn.
-pub fn add_run(points: &Points, v: &VoiceParameters, age: u64, sums: &mut [i32])
+pub(crate) fn add_run(points: &Points, v: &VoiceParameters, age: u64, sums: &mut [i32])
     requires playable { IsPlayable (length points.now) v.now }
     requires even { length sums.old % 2 ≡ 0 }
     requires young { age + length sums.old < 2 ^ 64 }

@@ -18,7 +18,7 @@ fn slope(p0: i16, p1: i16, part: u32) -> i64
 // Between two points, at `part` of 65536.
 #[inline(always)]
 #[tactic(auto, using(crate::proofs::LevelLemmas::between_within, crate::proofs::LevelLemmas::between_is))]
-pub fn interpolated(p0: i16, p1: i16, part: u32) -> i32
+pub(crate) fn interpolated(p0: i16, p1: i16, part: u32) -> i32
     requires { part < 65536 }
     ensures value { result ≡ between p0 p1 part }
     ensures low { negsuc 32767 ≤ℤ result }
@@ -46,7 +46,7 @@ fn follower_at(points: &Points, v: &VoiceParameters, looping: bool, i: usize) ->
 
 // What the sample says at a place before the end.
 #[tactic(auto, unfolding(crate::specs::Points::point_of, crate::specs::Points::point_at))]
-pub fn point_of_place(points: &Points, v: &VoiceParameters, looping: bool, x: u64) -> i32
+pub(crate) fn point_of_place(points: &Points, v: &VoiceParameters, looping: bool, x: u64) -> i32
     requires inside { v.now.end ≤ length points.now }
     requires loop_inside { looping ≡ true → v.now.loop_start < length points.now }
     requires near { x < 65536 * v.now.end }

@@ -91,7 +91,7 @@ fn advanced(v: &VoiceParameters, looping: bool, x: u64, frames: usize) -> u64
 }
 
 // What the sample says at each frame of a stretch.
-pub fn fill_points(points: &Points, v: &VoiceParameters, t: u64, run: &mut [i16])
+pub(crate) fn fill_points(points: &Points, v: &VoiceParameters, t: u64, run: &mut [i16])
     requires playable { IsPlayable (length points.now) v.now }
     requires one_way { IsStretch v.now t (length run.old) }
     requires short { length run.old ≤ 256 }
