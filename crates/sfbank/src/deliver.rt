@@ -20,7 +20,7 @@ use sf_writer::put_bank;
 use std::io::Write;
 
 /// The bank's file goes out, and then the undo text. It takes no memory.
-pub fn deliver<W: Write, V: Write>(
+pub(crate) fn deliver<W: Write, V: Write>(
     plan: &Plan<'_>,
     out: &mut W,
     undo: &mut V,
@@ -34,7 +34,7 @@ pub fn deliver<W: Write, V: Write>(
 
 /// The canonical file of a bank goes out. It takes no memory.
 #[tactic(auto, using(crate::proofs::Texts::text_goes_out))]
-pub fn deliver_bank<W: Write>(bank: &Bank<'_>, out: &mut W) -> Result<(), RunFault>
+pub(crate) fn deliver_bank<W: Write>(bank: &Bank<'_>, out: &mut W) -> Result<(), RunFault>
     ensures { GoesOut Out (W.contents out.old) (W.contents out.new) (canon bank.now) result }
 {
     let mut output = Output::to(out);
@@ -44,7 +44,7 @@ pub fn deliver_bank<W: Write>(bank: &Bank<'_>, out: &mut W) -> Result<(), RunFau
 
 /// The listing of a bank and of the counts of reading it goes out. It takes no memory.
 #[tactic(auto, using(crate::proofs::Texts::text_goes_out))]
-pub fn deliver_listing<W: Write>(
+pub(crate) fn deliver_listing<W: Write>(
     bank: &Bank<'_>,
     counts: &Counts,
     out: &mut W,

@@ -16,13 +16,13 @@ use std::alloc::Global;
 /// The edited bank, and the edits that take its edits back, the last one's first. They borrow from the
 /// bank's file and from the script's pool.
 #[derive(Drop)]
-pub struct Plan<'a> {
-    pub bank: Bank<'a>,
-    pub undo: Vec<Edit<'a>>,
+pub(crate) struct Plan<'a> {
+    pub(crate) bank: Bank<'a>,
+    pub(crate) undo: Vec<Edit<'a>>,
 }
 
 /// Runs a script on a bank, over the pool of its literals. Nothing goes out.
-pub fn make_plan<'a>(
+pub(crate) fn make_plan<'a>(
     alloc: Global,
     mut bank: Bank<'a>,
     script: &[u8],
