@@ -7,7 +7,7 @@ use sf_base::{front_of, rest_from};
 
 // The number of 1 to 10 digits, if it is within the limit.
 #[tactic(auto, unfolding(crate::specs::Parts::number_of))]
-pub fn number_of(word: &[u8], limit: u32) -> Option<u32>
+pub(crate) fn number_of(word: &[u8], limit: u32) -> Option<u32>
     ensures value { result ≡ number_of limit word.now }
     ensures within { IfSome result (λ n. n ≤ limit) }
 {
@@ -23,7 +23,7 @@ pub fn number_of(word: &[u8], limit: u32) -> Option<u32>
 
 // The number of digits that may have `-` before them, if it is within the limit.
 #[tactic(auto, unfolding(crate::specs::Parts::signed_of))]
-pub fn signed_of(word: &[u8], limit: u16) -> Option<i32>
+pub(crate) fn signed_of(word: &[u8], limit: u16) -> Option<i32>
     ensures value { result ≡ signed_of limit word.now }
     ensures low { IfSome result (λ z. neg_ℤ (pos limit) ≤ℤ (z +ℤ pos 1)) }
     ensures high { IfSome result (λ z. z ≤ℤ pos limit) }
