@@ -74,12 +74,18 @@ digits_value w = fold (λ n b. n * 10 + (b - 48)) 0 w
 unfoldable pub number_of : ℕ → List ℕ → Option ℕ
 number_of limit w = if nat_lt 0 (length w) && nat_le (length w) 10 && list_all is_digit w && nat_le (digits_value w) limit then Some (digits_value w) else None
 
--- a word that is a number: any other token is a fault of number, and the line's end one of syntax
+-- a word where a number is due: any other token is a fault of number, and the line's end one of syntax
+unfoldable pub number_word : Part (List ℕ)
+number_word [] = Err faults.Syntax
+number_word (Word w ∷ line) = Ok (record { value = w; rest = line })
+number_word (Literal bytes ∷ line) = Err faults.Number
+number_word (Bad ∷ line) = Err faults.Number
+
+-- a word that is a number
 abbrev pub numeral : {X : Type 0} → (List ℕ → Option X) → Part X
-numeral f [] = Err faults.Syntax
-numeral f (Word w ∷ line) = or_fault faults.Number (f w) line
-numeral f (Literal bytes ∷ line) = Err faults.Number
-numeral f (Bad ∷ line) = Err faults.Number
+numeral f = do
+  w ← number_word
+  or_fault faults.Number (f w)
 
 -- a number within the limit
 unfoldable pub number : ℕ → Part ℕ
