@@ -7,11 +7,11 @@ use Rattle.line_tokens.specs.declared.fault.ScriptFault.{ScriptFault}
 use Rattle.line_tokens.specs.Lines.{lines_of, onto, is_feed}
 use Rattle.line_tokens.specs.Pool.{Grown, Fails, and_then, gather, literal_of, literals_of}
 
-pub gather_none : {X : Type 0} (f : ℕ → List Said → List X → Grown X) (n : ℕ) (xs : List X) → gather f n [] xs ≡ Ok xs
+pub gather_none : {X F : Type 0} (f : ℕ → List Said → List X → Result (List X) F) (n : ℕ) (xs : List X) → gather f n [] xs ≡ Ok xs
 unfolding gather
 gather_none f n xs = refl
 
-pub gather_on : {X : Type 0} (f : ℕ → List Said → List X → Grown X) (n : ℕ) (l : List Said) (ls : List (List Said)) (xs : List X) → gather f n (l ∷ ls) xs ≡ and_then (f n l xs) (λ ys. gather f (suc n) ls ys)
+pub gather_on : {X F : Type 0} (f : ℕ → List Said → List X → Result (List X) F) (n : ℕ) (l : List Said) (ls : List (List Said)) (xs : List X) → gather f n (l ∷ ls) xs ≡ and_then (f n l xs) (λ ys. gather f (suc n) ls ys)
 unfolding gather
 gather_on f n l ls xs = refl
 
@@ -25,19 +25,19 @@ literals_on n s line pool = refl
 
 -- ---- steps of a loop over lines: what is left makes of the list so far what the whole makes
 
-pub lines_on : {X : Type 0} (f : ℕ → List Said → List X → Grown X) (n m : ℕ) (xs ys : List X) (l : List Said) (ls all : List (List Said)) (whole : Grown X) → m ≡ suc n → all ≡ l ∷ ls
+pub lines_on : {X F : Type 0} (f : ℕ → List Said → List X → Result (List X) F) (n m : ℕ) (xs ys : List X) (l : List Said) (ls all : List (List Said)) (whole : Result (List X) F) → m ≡ suc n → all ≡ l ∷ ls
     → gather f n all xs ≡ whole → f n l xs ≡ Ok ys → gather f m ls ys ≡ whole
 lines_on f n m xs ys l ls all whole em e h a =
     let on = gather_on f n l ls xs in
     rw em (rw (e, on, a) at h)
 
-pub lines_stop : {X : Type 0} (f : ℕ → List Said → List X → Grown X) (n : ℕ) (xs : List X) (l : List Said) (ls all : List (List Said)) (whole : Grown X) (d : ScriptFault) → all ≡ l ∷ ls
+pub lines_stop : {X F : Type 0} (f : ℕ → List Said → List X → Result (List X) F) (n : ℕ) (xs : List X) (l : List Said) (ls all : List (List Said)) (whole : Result (List X) F) (d : F) → all ≡ l ∷ ls
     → gather f n all xs ≡ whole → f n l xs ≡ Err d → whole ≡ Err d
 lines_stop f n xs l ls all whole d e h a =
     let on = gather_on f n l ls xs in
     sym (rw (e, on, a) at h)
 
-pub lines_over : {X : Type 0} (f : ℕ → List Said → List X → Grown X) (n : ℕ) (xs : List X) (all : List (List Said)) (whole : Grown X) → all ≡ []
+pub lines_over : {X F : Type 0} (f : ℕ → List Said → List X → Result (List X) F) (n : ℕ) (xs : List X) (all : List (List Said)) (whole : Result (List X) F) → all ≡ []
     → gather f n all xs ≡ whole → whole ≡ Ok xs
 lines_over f n xs all whole e h = sym (rw e at h) ∙ gather_none f n xs
 
@@ -76,7 +76,7 @@ length-lines_of (b ∷ text) = from (is_feed b) (length-lines_of text)
 
 -- ---- where a step fails, so does the whole
 
-pub step_fails : {X Y : Type 0} (failure : Failure ScriptFault) (step : Result X ScriptFault) (whole : Result Y ScriptFault)
-    → Fails failure step → ((fault : ScriptFault) → step ≡ Err fault → whole ≡ Err fault) → Fails failure whole
+pub step_fails : {X Y F : Type 0} (failure : Failure F) (step : Result X F) (whole : Result Y F)
+    → Fails failure step → ((fault : F) → step ≡ Err fault → whole ≡ Err fault) → Fails failure whole
 step_fails (failures.Fault fault) step whole h f = f fault h
 step_fails failures.OutOfMemory step whole h f = tt

@@ -1,4 +1,4 @@
--- What the lines of a text make, and the pool: the bytes of all literals of a text.
+-- What the lines of a text make, whatever their faults are, and the pool: the bytes of all literals of a text.
 use Rattle.std.specs.Prelude.{◌≡◌, ℕ, suc, List, [], ◌∷◌, ◌++◌, Result, Ok, Err}
 use Rattle.sf_base.specs.declared.memory.Failure.{Failure}
 use Rattle.sf_base.specs.declared.memory.Failure.TheVariants as failures
@@ -12,16 +12,17 @@ use Rattle.line_tokens.specs.Said.{said_lines}
 
 -- ---- lists that grow from left to right, up to the first fault
 
--- a list, or the fault that came before it was whole
+-- a list, or the fault of a script that came before it was whole
 abbrev pub Grown : Type 0 → Type 0
 Grown X = Result (List X) ScriptFault
 
-abbrev pub and_then : {X : Type 0} → Grown X → (List X → Grown X) → Grown X
-and_then (Ok xs) f = f xs
+-- one step and then the next, of which the first fault is that of both
+abbrev pub and_then : {X Y F : Type 0} → Result X F → (X → Result Y F) → Result Y F
+and_then (Ok x) f = f x
 and_then (Err e) f = Err e
 
 -- the list behind all lines, of which the first has the number n
-unfoldable pub gather : {X : Type 0} → (ℕ → List Said → List X → Grown X) → ℕ → List (List Said) → List X → Grown X
+unfoldable pub gather : {X F : Type 0} → (ℕ → List Said → List X → Result (List X) F) → ℕ → List (List Said) → List X → Result (List X) F
 gather f n [] xs = Ok xs
 gather f n (l ∷ ls) xs = and_then (f n l xs) (λ ys. gather f (suc n) ls ys)
 
@@ -48,11 +49,11 @@ pool_bytes text = gather literals_of 1 (said_lines text) []
 -- ---- what calls answer
 
 -- the fault, or want of memory, which can come in place of any answer
-abbrev pub Fails : {Y : Type 0} → Failure ScriptFault → Result Y ScriptFault → Type 0
+abbrev pub Fails : {Y F : Type 0} → Failure F → Result Y F → Type 0
 Fails (failures.Fault fault) r = r ≡ Err fault
 Fails failures.OutOfMemory r = Unit {0}
 
 -- the answer, or why there is none
-abbrev pub Answers : {X Y : Type 0} → (X → Y) → Result X (Failure ScriptFault) → Result Y ScriptFault → Type 0
+abbrev pub Answers : {X Y F : Type 0} → (X → Y) → Result X (Failure F) → Result Y F → Type 0
 Answers view (Ok x) r = r ≡ Ok (view x)
 Answers view (Err failure) r = Fails failure r

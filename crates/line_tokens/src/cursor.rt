@@ -2,10 +2,10 @@
 ghost use Rattle.std.specs.Prelude.{◌≡◌, ◌≤◌, ◌≤ℤ◌, ◌+ℤ◌, pos, neg_ℤ, ◌↔◌, List, [], ◌∷◌, MatchOption, take, ℕ, IfOk, OnOk, IsTrue};
 ghost use Rattle.line_tokens.specs.Said.{left_over, size_of, said_over, is_hex};
 ghost use Rattle.line_tokens.specs.Tokens.{tokens_of};
-ghost use Rattle.line_tokens.specs.Parts.{Reads, word, literal, number, signed, name, name_of, ended};
+ghost use Rattle.line_tokens.specs.Parts.{Reads, is_next, word, literal, number_word, number, signed, range, name, name_of, ended};
 
 use crate::fault::LineFault;
-use crate::numbers::{number_of, signed_of};
+use crate::numbers::{number_of, range_of, signed_of};
 use crate::tokens::{Token, Tokens};
 use sf_base::{Lent, Name20, front_of, rest_from};
 use std::marker::Model;
@@ -72,6 +72,17 @@ impl<'t, 'p> Cursor<'t, 'p> {
         self.first.is_none()
     }
 
+    /// Whether the next token is this word. Neither a literal nor the line's end is one.
+    #[tactic(auto, unfolding(crate::specs::Said::said_over))]
+    pub fn is_next(&self, word: &[u8]) -> bool
+        ensures { result ≡ is_next word.now self.now.said }
+    {
+        match &self.first {
+            Some(Token::Plain(plain)) => !is_hex(plain.bytes()) && plain.bytes() == word,
+            _ => false,
+        }
+    }
+
     /// The pool behind the line, at the line's end.
     pub fn pool(&self) -> &'p [u8]
         requires { self.now.said ≡ [] }
@@ -102,6 +113,18 @@ impl<'t, 'p> Cursor<'t, 'p> {
         }
     }
 
+    // A word where a number is due.
+    #[tactic(auto, unfolding(crate::specs::Parts::number_word))]
+    fn number_word(&mut self) -> Result<&'t [u8], LineFault>
+        ensures { Reads (λ w. w.now) number_word self.old self.new result }
+    {
+        match self.next() {
+            Some(Said::Word(number)) => Ok(number.bytes()),
+            Some(_) => Err(LineFault::Number),
+            None => Err(LineFault::Syntax),
+        }
+    }
+
     /// A number from 0 up to the limit. Any other token is a fault of number, and the line's end one
     /// of syntax.
     #[tactic(auto, unfolding(crate::specs::Parts::number))]
@@ -109,11 +132,8 @@ impl<'t, 'p> Cursor<'t, 'p> {
         ensures reads { Reads (λ n. n) (number limit) self.old self.new result }
         ensures within { IfOk result (λ n. n ≤ limit) }
     {
-        match self.next() {
-            Some(Said::Word(word)) => number_of(word.bytes(), limit).ok_or(LineFault::Number),
-            Some(_) => Err(LineFault::Number),
-            None => Err(LineFault::Syntax),
-        }
+        let word = self.number_word()?;
+        number_of(word, limit).ok_or(LineFault::Number)
     }
 
     /// A number from `-limit - 1` up to the limit, with `-` before its digits where it is below zero.
@@ -124,11 +144,18 @@ impl<'t, 'p> Cursor<'t, 'p> {
         ensures low { IfOk result (λ z. neg_ℤ (pos limit) ≤ℤ (z +ℤ pos 1)) }
         ensures high { IfOk result (λ z. z ≤ℤ pos limit) }
     {
-        match self.next() {
-            Some(Said::Word(word)) => signed_of(word.bytes(), limit).ok_or(LineFault::Number),
-            Some(_) => Err(LineFault::Number),
-            None => Err(LineFault::Syntax),
-        }
+        let word = self.number_word()?;
+        signed_of(word, limit).ok_or(LineFault::Number)
+    }
+
+    /// A range `LO..HI` in one token, both ends from 0 to 255 and in any order. Any other token is a
+    /// fault of number, and the line's end one of syntax.
+    #[tactic(auto, unfolding(crate::specs::Parts::range))]
+    pub fn range(&mut self) -> Result<(u8, u8), LineFault>
+        ensures { Reads (λ r. r) range self.old self.new result }
+    {
+        let word = self.number_word()?;
+        range_of(word).ok_or(LineFault::Number)
     }
 
     /// A literal of at most 20 bytes, none of them zero: else a fault of literal. Any other token,

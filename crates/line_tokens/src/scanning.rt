@@ -7,7 +7,7 @@ ghost use Rattle.line_tokens.specs.Tokens.{is_blank, is_quote};
 use sf_base::rest_from;
 
 // The bytes behind a place, or none where they end there or before it.
-pub fn behind(bytes: &[u8], at: usize) -> &[u8]
+pub(crate) fn behind(bytes: &[u8], at: usize) -> &[u8]
     ensures { result.now ≡ drop (at + 1) bytes.now }
 {
     if at < bytes.len() {
@@ -17,28 +17,28 @@ pub fn behind(bytes: &[u8], at: usize) -> &[u8]
     }
 }
 
-pub fn is_blank(byte: u8) -> bool
+pub(crate) fn is_blank(byte: u8) -> bool
     ensures { result ≡ is_blank byte }
 {
     byte == b' ' || byte == b'\t' || byte == b'\r'
 }
 
 // The place of the first line feed, or the length where there is none.
-pub fn feed_at(bytes: &[u8]) -> usize
+pub(crate) fn feed_at(bytes: &[u8]) -> usize
     ensures { result ≡ position_or_len is_feed bytes.now }
 {
     bytes.iter().take_while(|byte| **byte != b'\n').count()
 }
 
 // The place of the first quote, or the length where there is none.
-pub fn quote_at(bytes: &[u8]) -> usize
+pub(crate) fn quote_at(bytes: &[u8]) -> usize
     ensures { result ≡ position_or_len is_quote bytes.now }
 {
     bytes.iter().take_while(|byte| **byte != b'"').count()
 }
 
 // The place of the first blank, or the length where there is none.
-pub fn blank_at(bytes: &[u8]) -> usize
+pub(crate) fn blank_at(bytes: &[u8]) -> usize
     ensures at { result ≡ position_or_len is_blank bytes.now }
     ensures within { result ≤ length bytes.now }
 {
@@ -46,7 +46,7 @@ pub fn blank_at(bytes: &[u8]) -> usize
 }
 
 // How many blanks stand at the front.
-pub fn blanks_before(bytes: &[u8]) -> usize
+pub(crate) fn blanks_before(bytes: &[u8]) -> usize
     ensures { result ≡ prefix_len is_blank bytes.now }
 {
     bytes.iter().take_while(|byte| is_blank(**byte)).count()

@@ -20,7 +20,7 @@ pub enum Token<'a> {
 
 /// The tokens of a line, seen as the list of those that are left.
 #[derive(Drop)]
-pub struct Tokens<'a> {
+pub(crate) struct Tokens<'a> {
     rest: &'a [u8],
 }
 
@@ -35,7 +35,7 @@ impl<'a> Model for Tokens<'a> {
 }
 
 impl<'a> Tokens<'a> {
-    pub fn of(line: &'a [u8]) -> Tokens<'a>
+    pub(crate) fn of(line: &'a [u8]) -> Tokens<'a>
         ensures { result ≡ tokens_of line.now }
     {
         Tokens { rest: line }

@@ -8,7 +8,7 @@ use Rattle.line_tokens.specs.declared.cursor.Said.TheVariants.{Word, Literal, Ba
 use Rattle.line_tokens.specs.declared.fault.LineFault.{LineFault}
 use Rattle.line_tokens.specs.declared.fault.LineFault.TheVariants as faults
 use Rattle.line_tokens.specs.Said.{is_plain, is_hex, decoded, said, size_of, said_over, all_said_over}
-use Rattle.line_tokens.specs.Parts.{Took, Part, and_then, pure, or_fault, numeral, number_of, number, ended}
+use Rattle.line_tokens.specs.Parts.{Took, Part, and_then, pure, or_fault, number_word, number_of, number, ended}
 use Rattle.note_list.specs.Notes.{Numbers, note, note_of, judged}
 
 -- ---- the same words in the same places, and literals in the others
@@ -75,23 +75,24 @@ found_alike : {X : Type 0} (o : Option X) (xs ys : List Said) → AreAlike xs ys
 found_alike None xs ys h = tt
 found_alike (Some x) xs ys h = (refl, h)
 
-numeral_alike : {X : Type 0} (f : List ℕ → Option X) → ReadsAlike (numeral f)
-numeral_alike f [] [] h = tt
-numeral_alike f [] (t ∷ ys) h = absurd h
-numeral_alike f (s ∷ xs) [] h = absurd h
-numeral_alike f (Word w ∷ xs) (Word v ∷ ys) h = rw h.0 (found_alike (f v) xs ys h.1)
-numeral_alike f (Word w ∷ xs) (Literal b ∷ ys) h = absurd h
-numeral_alike f (Word w ∷ xs) (Bad ∷ ys) h = absurd h
-numeral_alike f (Literal a ∷ xs) (Word v ∷ ys) h = absurd h
-numeral_alike f (Literal a ∷ xs) (Literal b ∷ ys) h = tt
-numeral_alike f (Literal a ∷ xs) (Bad ∷ ys) h = tt
-numeral_alike f (Bad ∷ xs) (Word v ∷ ys) h = absurd h
-numeral_alike f (Bad ∷ xs) (Literal b ∷ ys) h = tt
-numeral_alike f (Bad ∷ xs) (Bad ∷ ys) h = tt
+number_word_alike : ReadsAlike number_word
+unfolding number_word
+number_word_alike [] [] h = tt
+number_word_alike [] (t ∷ ys) h = absurd h
+number_word_alike (s ∷ xs) [] h = absurd h
+number_word_alike (Word w ∷ xs) (Word v ∷ ys) h = h
+number_word_alike (Word w ∷ xs) (Literal b ∷ ys) h = absurd h
+number_word_alike (Word w ∷ xs) (Bad ∷ ys) h = absurd h
+number_word_alike (Literal a ∷ xs) (Word v ∷ ys) h = absurd h
+number_word_alike (Literal a ∷ xs) (Literal b ∷ ys) h = tt
+number_word_alike (Literal a ∷ xs) (Bad ∷ ys) h = tt
+number_word_alike (Bad ∷ xs) (Word v ∷ ys) h = absurd h
+number_word_alike (Bad ∷ xs) (Literal b ∷ ys) h = tt
+number_word_alike (Bad ∷ xs) (Bad ∷ ys) h = tt
 
 number_alike : (limit : ℕ) → ReadsAlike (number limit)
 unfolding number
-number_alike limit xs ys h = numeral_alike (number_of limit) xs ys h
+number_alike limit xs ys h = then_alike _ _ _ (number_word_alike xs ys h) (λ w. found_alike (number_of limit w))
 
 ended_alike : {X : Type 0} (x : X) → ReadsAlike (ended x)
 unfolding ended

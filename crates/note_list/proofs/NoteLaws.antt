@@ -1,14 +1,14 @@
 -- The notes of a text, line by line.
 use Rattle.std.proofs.Common.{◌≡◌, ℕ, nat_le, Some, suc, Bool, true, false, List, [], ◌∷◌, ◌++◌, length, map, Ok, Err, refl, sym, ap, ◌∙◌, append_assoc, arith}
 use Rattle.std.proofs.lemmas.List.{append-nil, length-append}
-use Rattle.sf_base.specs.declared.memory.Failure.{Failure}
-use Rattle.sf_base.specs.declared.memory.Failure.TheVariants as failures
 use Rattle.line_tokens.specs.declared.cursor.Said.{Said}
 use Rattle.line_tokens.specs.declared.tokens.Token.{Token}
-use Rattle.line_tokens.specs.Said.{said, all_said_over}
+use Rattle.line_tokens.specs.Said.{said, said_lines, all_said_over}
+use Rattle.line_tokens.specs.Pool.{and_then, gather}
+use Rattle.line_tokens.proofs.GatherLaws.{gather_none, gather_on}
 use Rattle.note_list.specs.declared.fault.NoteFault.{NoteFault}
 use Rattle.note_list.specs.declared.fault.NoteFault.TheVariants as faults
-use Rattle.note_list.specs.Notes.{Numbers, OrFault, and_then, note, in_time, judged, spoken, notes_after, with_note, Fails}
+use Rattle.note_list.specs.Notes.{Numbers, OrFault, note, in_time, judged, spoken, notes_after, notes_of, with_note}
 use Rattle.note_list.proofs.BareLaws.{judged_alike, nothing_alike, something_alike}
 
 -- ---- the line that is judged
@@ -39,10 +39,10 @@ some_room k n x e = rw e refl
 pub not_both : {b : Bool} → b ≡ true → b ≡ false → ⊥
 not_both p q = cc
 
--- ---- what is left makes of the notes so far what the whole text says
+-- ---- the notes of a text, taken line by line
 
 -- the notes, and those of the lines from line n on
-abbrev pub then_notes : ℕ → List Numbers → List (List Said) → OrFault (List Numbers)
+abbrev then_notes : ℕ → List Numbers → List (List Said) → OrFault (List Numbers)
 then_notes n notes lines = and_then (notes_after (length notes) (spoken n lines)) (λ xs. Ok (notes ++ xs))
 
 passed : (n : ℕ) (notes : List Numbers) (ls : List (List Said)) → then_notes n notes ([] ∷ ls) ≡ then_notes (suc n) notes ls
@@ -83,35 +83,23 @@ stopped n notes (s ∷ l) ls d e = from (judged (length notes) n (note (s ∷ l)
     from (Ok x) j f = cc
     from (Err c) j f = let same : c ≡ d = cc in failed n notes s l ls d (j ∙ ap (λ (c : NoteFault). Err c) same)
 
--- ---- steps of the loop
-
-pub lines_on : (n m : ℕ) (notes more : List Numbers) (l : List Said) (ls all : List (List Said)) (whole : OrFault (List Numbers)) → m ≡ suc n → all ≡ l ∷ ls
-    → then_notes n notes all ≡ whole → with_note n l notes ≡ Ok more → then_notes m more ls ≡ whole
-lines_on n m notes more l ls all whole em e h a =
-    let on = went_on n notes more l ls a in
-    rw em (rw (e, on) at h)
-
-pub lines_stop : (n : ℕ) (notes : List Numbers) (l : List Said) (ls all : List (List Said)) (whole : OrFault (List Numbers)) (d : NoteFault) → all ≡ l ∷ ls
-    → then_notes n notes all ≡ whole → with_note n l notes ≡ Err d → whole ≡ Err d
-lines_stop n notes l ls all whole d e h a =
-    let on = stopped n notes l ls d a in
-    sym (rw (e, on) at h)
-
 none_left : (n : ℕ) (notes : List Numbers) → then_notes n notes [] ≡ Ok notes
 unfolding spoken notes_after
 none_left n notes = ap (λ (xs : List Numbers). Ok xs) (append-nil notes)
 
-pub lines_over : (n : ℕ) (notes : List Numbers) (all : List (List Said)) (whole : OrFault (List Numbers)) → all ≡ []
-    → then_notes n notes all ≡ whole → whole ≡ Ok notes
-lines_over n notes all whole e h = sym (rw e at h) ∙ none_left n notes
+-- taken one by one, the lines make the same notes
+gathered : (n : ℕ) (notes : List Numbers) (ls : List (List Said)) → gather with_note n ls notes ≡ then_notes n notes ls
+gathered n notes [] = gather_none with_note n notes ∙ sym (none_left n notes)
+gathered n notes (l ∷ ls) = gather_on with_note n l ls notes ∙ from (λ more. gathered (suc n) more ls) (with_note n l notes) refl
+  where
+    from : ((more : List Numbers) → gather with_note (suc n) ls more ≡ then_notes (suc n) more ls) → (r : OrFault (List Numbers)) → with_note n l notes ≡ r → and_then r (λ more. gather with_note (suc n) ls more) ≡ then_notes n notes (l ∷ ls)
+    from rest (Ok more) e = rest more ∙ sym (went_on n notes more l ls e)
+    from rest (Err d) e = sym (stopped n notes l ls d e)
 
-pub from_start : (r : OrFault (List Numbers)) → and_then r (λ xs. Ok ([] ++ xs)) ≡ r
+from_start : (r : OrFault (List Numbers)) → and_then r (λ xs. Ok ([] ++ xs)) ≡ r
 from_start (Ok xs) = refl
 from_start (Err d) = refl
 
--- ---- where a step fails, so does the whole
-
-pub step_fails : {X Y : Type 0} (failure : Failure NoteFault) (step : OrFault X) (whole : OrFault Y)
-    → Fails failure step → ((fault : NoteFault) → step ≡ Err fault → whole ≡ Err fault) → Fails failure whole
-step_fails (failures.Fault fault) step whole h f = f fault h
-step_fails failures.OutOfMemory step whole h f = tt
+pub notes_gathered : (text : List ℕ) → gather with_note 1 (said_lines text) [] ≡ notes_of text
+unfolding notes_of
+notes_gathered text = gathered 1 [] (said_lines text) ∙ from_start (notes_after 0 (spoken 1 (said_lines text)))

@@ -1,11 +1,10 @@
 -- Notes, and the notes of a text or its first fault.
-use Rattle.std.specs.Prelude.{◌≡◌, ◌≤◌, ℕ, suc, ◌+◌, List, [], ◌∷◌, ◌++◌, length, Option, Some, None, Result, Ok, Err, nat_le, ◌&&◌, if◌then◌else◌}
-use Rattle.sf_base.specs.declared.memory.Failure.{Failure}
-use Rattle.sf_base.specs.declared.memory.Failure.TheVariants as failures
+use Rattle.std.specs.Prelude.{◌≤◌, ℕ, suc, ◌+◌, List, [], ◌∷◌, ◌++◌, length, Option, Some, None, Result, Ok, Err, nat_le, ◌&&◌, if◌then◌else◌}
 use Rattle.line_tokens.specs.declared.cursor.Said.{Said}
 use Rattle.line_tokens.specs.declared.fault.LineFault.{LineFault}
 use Rattle.line_tokens.specs.Said.{said_lines}
 use Rattle.line_tokens.specs.Parts.{Took, Part, ◌>>=◌, pure, number, ended}
+use Rattle.line_tokens.specs.Pool.{and_then}
 use Rattle.note_list.specs.declared.fault.NoteFault.{NoteFault}
 use Rattle.note_list.specs.declared.fault.NoteFault.TheVariants as faults
 
@@ -30,14 +29,9 @@ pub record IsNote (n : Numbers) : Type 0 where
 unfoldable pub note_of : Numbers → Option Numbers
 note_of n = if nat_le (n.start + n.length) 100000000 && nat_le n.key 127 && nat_le n.velocity 127 then Some n else None
 
--- ---- a value, or the first fault
-
+-- a value, or the first fault of a note list
 abbrev pub OrFault : Type 0 → Type 0
 OrFault X = Result X NoteFault
-
-abbrev pub and_then : {X Y : Type 0} → OrFault X → (X → OrFault Y) → OrFault Y
-and_then (Ok x) f = f x
-and_then (Err e) f = Err e
 
 -- ---- the note of a line
 
@@ -85,19 +79,9 @@ notes_after k (s ∷ lines) = and_then (judged k s.line (note s.said)) (λ x. an
 unfoldable pub notes_of : List ℕ → OrFault (List Numbers)
 notes_of text = notes_after 0 (spoken 1 (said_lines text))
 
--- ---- a note more, and what calls answer
+-- ---- a note more
 
 -- the notes, and that of line n, if it says something
 abbrev pub with_note : ℕ → List Said → List Numbers → OrFault (List Numbers)
 with_note n [] notes = Ok notes
 with_note n (s ∷ said) notes = and_then (judged (length notes) n (note (s ∷ said))) (λ x. Ok (notes ++ x ∷ []))
-
--- the fault, or want of memory, which can come in place of any answer
-abbrev pub Fails : {Y : Type 0} → Failure NoteFault → Result Y NoteFault → Type 0
-Fails (failures.Fault fault) r = r ≡ Err fault
-Fails failures.OutOfMemory r = Unit {0}
-
--- the answer, or why there is none
-abbrev pub Answers : {X Y : Type 0} → (X → Y) → Result X (Failure NoteFault) → Result Y NoteFault → Type 0
-Answers view (Ok x) r = r ≡ Ok (view x)
-Answers view (Err failure) r = Fails failure r

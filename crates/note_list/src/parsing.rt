@@ -2,7 +2,8 @@
 ghost use Rattle.std.specs.Prelude.{◌≡◌, ◌≤◌, nat_le, length, IfOk};
 ghost use Rattle.line_tokens.specs.Parts.{Reads};
 ghost use Rattle.line_tokens.specs.Said.{said_in};
-ghost use Rattle.note_list.specs.Notes.{Answers, note, with_note, notes_of};
+ghost use Rattle.line_tokens.specs.Pool.{Answers};
+ghost use Rattle.note_list.specs.Notes.{note, with_note, notes_of};
 
 use crate::fault::NoteFault;
 use crate::note::{MOST_NOTES, Note};
