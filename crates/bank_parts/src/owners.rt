@@ -30,7 +30,7 @@ pub enum ZonePlace {
 /// lends no zone, but what one holds.
 #[derive(Drop)]
 pub struct Owners<H> {
-    list: NumberedList<WithZones<H>>,
+    pub(crate) list: NumberedList<WithZones<H>>,
 }
 
 impl<H> Model for Owners<H> {
