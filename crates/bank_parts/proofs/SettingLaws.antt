@@ -11,8 +11,8 @@ use Rattle.bank_parts.specs.declared.owners.ZonePlace.{ZonePlace}
 use Rattle.bank_parts.specs.declared.owners.ZonePlace.TheVariants as place
 use Rattle.bank_parts.specs.declared.parts.Zone.{Zone}
 use Rattle.bank_parts.specs.declared.parts.WithZones.{WithZones}
-use Rattle.bank_parts.specs.Owners.{zone_at, gens_at, mods_at}
-use Rattle.bank_parts.specs.Settings.{Settings, settings_of_zone, zone_with_settings, settings_in, settings_changed, settings_at, place_changed, zones_at, with_zones, zones_changed, with_gens, with_mods}
+use Rattle.bank_parts.specs.Owners.{gens_at, mods_at}
+use Rattle.bank_parts.specs.Settings.{Settings, settings_of_zone, zone_with_settings, settings_in, settings_changed, settings_at, place_changed, with_zones, with_gens, with_mods}
 use Rattle.bank_parts.specs.PlaceLaws.{PlaceRead, ZonesRead, PlaceReturns, ZonesReturn, PlaceKept, ZonesKept, OthersStay, OthersKeepZones, PlacesStay, GlobalStays, HeadsStay, HeadsStayByZones, TargetsStay}
 
 -- ---- options

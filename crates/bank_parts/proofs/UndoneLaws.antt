@@ -1,5 +1,5 @@
 -- An edit of zones, generators or modulators and its inverse, and what is read in between.
-use Rattle.std.proofs.Common.{◌≡◌, ◌<◌, ◌≤◌, ℕ, List, length, insert, remove, Option, Some, None, IsSome, cond, refl, sym, ap, ◌∙◌, arith}
+use Rattle.std.proofs.Common.{◌≡◌, ◌<◌, ◌≤◌, ℕ, List, length, insert, remove, Option, Some, None, IsSome, cond, refl, sym, ap, ◌∙◌}
 use Rattle.std.specs.Prelude.{slice_get, slice_set, IsSomeAnd}
 use Rattle.std.specs.Option.{option_map, option_and_then}
 use Rattle.std.specs.FinMap as map
@@ -13,11 +13,11 @@ use Rattle.bank_parts.specs.declared.owners.ZonePlace.{ZonePlace}
 use Rattle.bank_parts.specs.declared.owners.ZonePlace.TheVariants as place
 use Rattle.bank_parts.specs.declared.parts.Zone.{Zone}
 use Rattle.bank_parts.specs.declared.parts.WithZones.{WithZones}
-use Rattle.bank_parts.specs.Owners.{HasPlace, zone_count_at, zone_at, target_at, gens_at, mods_at, amount_at, mod_at}
+use Rattle.bank_parts.specs.Owners.{HasPlace, zone_count_at, zone_at, mods_at, amount_at, mod_at}
 use Rattle.bank_parts.specs.Settings.{Settings, settings_of_zone, settings_in, settings_at, zones_at, with_gens, with_mods}
 use Rattle.bank_parts.specs.ZoneChanges.{with_target, zone_added, zone_moved, target_set, gen_set, gen_cleared, mod_added, mod_set}
 use Rattle.bank_parts.specs.ChangesUndone.{ZoneAddedUndone, ZoneRemovedUndone, ZoneMovedUndone, TargetSetBack, GenSetBack, GenSetCleared, GenClearedUndone, ModAddedUndone, ModRemovedUndone, ModSetBack, ZoneAddedRead, ZoneMovedRead, TargetSetRead, GenSetRead, GenClearedRead, ModAddedRead, ModSetRead}
-use Rattle.bank_parts.proofs.SettingLaws.{Source, source, Given, given, read_changed, place_read, place_returns, zones_read, zones_return, gens_of_settings, mods_of_settings}
+use Rattle.bank_parts.proofs.SettingLaws.{source, Given, given, read_changed, place_read, place_returns, zones_read, zones_return, gens_of_settings, mods_of_settings}
 
 -- ---- what is there
 
@@ -73,11 +73,10 @@ module _ {H : Type 0} (owners : List (WithZones H)) (i : ℕ) where
   settings_there (place.Zone k) h =
       let t = zones_there (λ count. k < count) h in
       let (zone, e) = slice_get-found t.member k t.holds in
-      let x = source (λ (x : WithZones H). x.zones) (slice_get owners i) t.member t.there in
-      (
+      let x = source (λ (x : WithZones H). x.zones) (slice_get owners i) t.member t.there in (
         settings_of_zone zone,
         ap (option_and_then (settings_in (place.Zone k))) x.there
-        ∙ (ap (λ (zs : List Zone). option_map settings_of_zone (slice_get zs k)) x.seen ∙ ap (option_map settings_of_zone) e),
+            ∙ (ap (λ (zs : List Zone). option_map settings_of_zone (slice_get zs k)) x.seen ∙ ap (option_map settings_of_zone) e),
       )
 
   pub mods_there : (at : ZonePlace) (P : List Modulator → Type 0) → IsSomeAnd (mods_at owners i at) P → There (settings_at owners i at) (λ s. P s.mods)

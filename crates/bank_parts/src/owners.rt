@@ -230,13 +230,6 @@ impl<H> Owners<H> {
         total
     }
 
-    // For what is said of all of them.
-    pub(crate) fn as_slice(&self) -> &[WithZones<H>]
-        ensures { result.now ≡ self.now }
-    {
-        self.list.as_slice()
-    }
-
     fn zone(&self, i: usize, k: usize) -> &Zone
         requires { HasPlace self.now i (place.Zone k) }
         ensures { zone_at self.now i k ≡ Some result.now }

@@ -83,7 +83,13 @@ impl<H> Owners<H> {
 
     /// Puts a modulator in the place of modulator `j` at a place of number `i`, all of which are there,
     /// and gives back the one that it replaces. Takes no memory.
-    pub fn set_mod(&mut self, i: usize, place: ZonePlace, j: usize, modulator: Modulator) -> Modulator
+    pub fn set_mod(
+        &mut self,
+        i: usize,
+        place: ZonePlace,
+        j: usize,
+        modulator: Modulator,
+    ) -> Modulator
         requires there { HasPlace self.old i place }
         requires index { IfSome (mods_at self.old i place) (λ mods. j < length mods) }
         ensures value { mod_at self.old i place j ≡ Some result }
