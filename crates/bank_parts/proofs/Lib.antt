@@ -1,3 +1,7 @@
+pub mod Everywhere
+pub mod ContentLaws
 pub mod Counts
 pub mod Fitting
 pub mod LimitLaws
+pub mod SettingLaws
+pub mod UndoneLaws

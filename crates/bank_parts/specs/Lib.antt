@@ -12,4 +12,9 @@ pub mod Fits
 pub mod Sound
 pub mod Counts
 pub mod Limits
+pub mod Contents
 pub mod Owners
+pub mod Settings
+pub mod ZoneChanges
+pub mod PlaceLaws
+pub mod ChangesUndone
