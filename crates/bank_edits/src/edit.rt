@@ -72,7 +72,7 @@ pub enum Edit<'a> {
 
 impl<'a> Step<'a> {
     /// The law that each number, name and text is in the range of its field. It does nothing.
-    pub fn fits(&self)
+    pub(crate) fn fits(&self)
         ensures { FitsStep self.now }
     {
         match self {
@@ -171,7 +171,7 @@ pub(crate) fn change_step<'a>(
 
 impl<'a> Edit<'a> {
     /// The law that each number, name and text is in the range of its field. It does nothing.
-    pub fn fits(&self)
+    pub(crate) fn fits(&self)
         ensures { FitsEdit self.now }
     {
         match self {

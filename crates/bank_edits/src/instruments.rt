@@ -27,8 +27,12 @@ pub(crate) fn refuse_add_instrument(
     requires { IsSound bank.now }
     ensures { Judges (refusal bank.now (step.AddInstrument at instrument.now)) result }
 {
-    no_such_target(bank.samples().len(), instrument, Cause::NoSuchSample)?;
-    bad_place(bank.instruments().len(), at)?;
+    no_such_target(
+        bank.count(Members::Samples),
+        instrument,
+        Cause::NoSuchSample,
+    )?;
+    bad_place(bank.count(Members::Instruments), at)?;
     bad_generator(Level::Instrument, instrument)?;
     bad_range(instrument)?;
     full(
@@ -44,7 +48,7 @@ pub(crate) fn add_instrument<'a>(
 ) -> Result<Step<'a>, Step<'a>>
     requires sound { IsSound bank.old }
     requires accepted { refusal bank.old (step.AddInstrument at instrument) ≡ None }
-    ensures { IsStepChange bank.old bank.new (step.AddInstrument at instrument.entry) result }
+    ensures { IsStepChange bank.old bank.new (step.AddInstrument at instrument) result }
 {
     instrument.fits();
     match bank.add_instrument(at, instrument) {

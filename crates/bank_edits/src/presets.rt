@@ -21,8 +21,12 @@ pub(crate) fn refuse_add_preset(bank: &Bank<'_>, at: u32, preset: &Preset) -> Re
     requires { IsSound bank.now }
     ensures { Judges (refusal bank.now (step.AddPreset at preset.now)) result }
 {
-    no_such_target(bank.instruments().len(), preset, Cause::NoSuchInstrument)?;
-    bad_place(bank.presets().len(), at)?;
+    no_such_target(
+        bank.count(Members::Instruments),
+        preset,
+        Cause::NoSuchInstrument,
+    )?;
+    bad_place(bank.count(Members::Presets), at)?;
     bad_generator(Level::Preset, preset)?;
     bad_range(preset)?;
     full(
@@ -38,7 +42,7 @@ pub(crate) fn add_preset<'a>(
 ) -> Result<Step<'a>, Step<'a>>
     requires sound { IsSound bank.old }
     requires accepted { refusal bank.old (step.AddPreset at preset) ≡ None }
-    ensures { IsStepChange bank.old bank.new (step.AddPreset at preset.entry) result }
+    ensures { IsStepChange bank.old bank.new (step.AddPreset at preset) result }
 {
     preset.fits();
     match bank.add_preset(at, preset) {
