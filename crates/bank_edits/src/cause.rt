@@ -20,7 +20,8 @@ pub enum Cause {
     /// A zone targets the member, or another sample links to it.
     #[error("the member is in use")]
     InUse,
-    /// An operator, or the operator of a target, where its level does not allow it.
+    /// An operator that the level does not allow, those of targets included (SoundFont 2.04, section
+    /// 8.1.2).
     #[error("the generator is not allowed there")]
     BadGenerator,
     /// A range whose low end is above its high end, or whose high end is above 127.

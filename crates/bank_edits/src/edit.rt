@@ -31,17 +31,17 @@ use std::alloc::Global;
 pub enum Step<'a> {
     // ---- presets
     /// `add-preset P NAME NUMBER BANK LIBRARY GENRE MORPHOLOGY GLOBAL? ZONE*`: the preset is put in as
-    /// number `at`.
+    /// number `at`, with its zones.
     AddPreset { at: u32, preset: Preset },
-    /// `remove-preset P`: the preset is taken out.
+    /// `remove-preset P`: the preset is taken out, with its zones.
     RemovePreset { preset: u32 },
     /// `move-preset I J`: preset `from` is preset `to`.
     MovePreset { from: u32, to: u32 },
 
     // ---- instruments
-    /// `add-inst I NAME GLOBAL? ZONE*`: the instrument is put in as number `at`.
+    /// `add-inst I NAME GLOBAL? ZONE*`: the instrument is put in as number `at`, with its zones.
     AddInstrument { at: u32, instrument: Instrument },
-    /// `remove-inst I`: the instrument is taken out.
+    /// `remove-inst I`: the instrument, which no zone targets, is taken out, with its zones.
     RemoveInstrument { instrument: u32 },
     /// `rename-inst I NAME`: the instrument gets the name.
     RenameInstrument { instrument: u32, name: Name20 },
