@@ -1,12 +1,9 @@
 -- What holds of each member of a list.
-use Rattle.std.proofs.Common.{◌≡◌, ◌||◌, ℕ, zero, suc, Bool, true, false, List, [], ◌∷◌, map, insert, remove, refl, arith}
+use Rattle.std.proofs.Common.{◌≡◌, ℕ, zero, suc, List, [], ◌∷◌, map, insert, remove, refl, arith}
 use Rattle.std.specs.Prelude.{sum_by}
-use Rattle.std.specs.List.{AllByRecursion, list_any}
+use Rattle.std.specs.List.{AllByRecursion}
 use Rattle.std.proofs.lemmas.List.Sums.{sum_by-cons}
-
-pub all_weaker : {X : Type 0} (P Q : X → Type 0) → ((x : X) → P x → Q x) → (xs : List X) → AllByRecursion P xs → AllByRecursion Q xs
-all_weaker P Q to [] v = tt
-all_weaker P Q to (x ∷ xs) v = (to x v.0, all_weaker P Q to xs v.1)
+pub use Rattle.bank_parts.proofs.Everywhere.{all_weaker, all_both, or_left, or_right, or_none, none_passes, passes_none}
 
 pub all_always : {X : Type 0} (P : X → Type 0) → ((x : X) → P x) → (xs : List X) → AllByRecursion P xs
 all_always P h [] = tt
@@ -20,10 +17,6 @@ all_map P R Q f to (x ∷ xs) v w = (to x v.0 w.0, all_map P R Q f to xs v.1 w.1
 pub all_sent : {X Y : Type 0} (P : X → Type 0) (Q : Y → Type 0) (f : X → Y) → ((x : X) → P x → Q (f x)) → (xs : List X) → AllByRecursion P xs → AllByRecursion Q (map f xs)
 all_sent P Q f to [] v = tt
 all_sent P Q f to (x ∷ xs) v = (to x v.0, all_sent P Q f to xs v.1)
-
-pub all_both : {X : Type 0} (P Q R : X → Type 0) → ((x : X) → P x → Q x → R x) → (xs : List X) → AllByRecursion P xs → AllByRecursion Q xs → AllByRecursion R xs
-all_both P Q R to [] v w = tt
-all_both P Q R to (x ∷ xs) v w = (to x v.0 w.0, all_both P Q R to xs v.1 w.1)
 
 pub all_insert : {X : Type 0} (P : X → Type 0) (xs : List X) (i : ℕ) (x : X) → P x → AllByRecursion P xs → AllByRecursion P (insert xs i x)
 all_insert P [] zero x h v = (h, tt)
@@ -53,25 +46,3 @@ sum_kept measure f same (x ∷ xs) =
     let new = sum_by-cons measure (f x) (map f xs) in
     let here = same x in
     omega (arith, rest, old, new, here)
-
--- tests that none passes
-
-pub or_left : (a b : Bool) → (a || b) ≡ false → a ≡ false
-or_left true b h = cc
-or_left false b h = refl
-
-pub or_right : (a b : Bool) → (a || b) ≡ false → b ≡ false
-or_right true b h = cc
-or_right false b h = h
-
-pub or_none : (a b : Bool) → a ≡ false → b ≡ false → (a || b) ≡ false
-or_none true b h k = cc
-or_none false b h k = k
-
-pub none_passes : {X : Type 0} (test : X → Bool) (xs : List X) → list_any test xs ≡ false → AllByRecursion (λ x. test x ≡ false) xs
-none_passes test [] h = tt
-none_passes test (x ∷ xs) h = (or_left (test x) (list_any test xs) h, none_passes test xs (or_right (test x) (list_any test xs) h))
-
-pub passes_none : {X : Type 0} (test : X → Bool) (xs : List X) → AllByRecursion (λ x. test x ≡ false) xs → list_any test xs ≡ false
-passes_none test [] v = refl
-passes_none test (x ∷ xs) v = or_none (test x) (list_any test xs) v.0 (passes_none test xs v.1)

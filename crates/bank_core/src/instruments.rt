@@ -34,7 +34,9 @@ impl<'a> Bank<'a> {
         ensures err { OnErr result (self.new ≡ self.old) }
         ensures value_returned { IfErr result (λ back. back ≡ instrument) }
     {
-        let totals = self.totals.with_owner(Level::Instrument, instrument.records());
+        let totals = self
+            .totals
+            .with_owner(Level::Instrument, instrument.records());
         insert_instrument(&mut self.parts, number, instrument)?;
         self.totals = totals;
         Ok(())
@@ -43,7 +45,11 @@ impl<'a> Bank<'a> {
     /// Takes an instrument out; the instruments behind it get the number before each, and what names
     /// them follows. At the end of the list no preset is touched. It takes no memory and never answers
     /// want of it, but another representation may; then the bank stays as it is.
-    pub fn remove_instrument(&mut self, alloc: Global, number: u32) -> Result<Instrument, OutOfMemory>
+    pub fn remove_instrument(
+        &mut self,
+        alloc: Global,
+        number: u32,
+    ) -> Result<Instrument, OutOfMemory>
         requires there { number < length self.old.instruments }
         requires sound { IsSound (instrument_removed self.old number) }
         ensures value { IfOk result (λ instrument. slice_get self.old.instruments number ≡ Some instrument) }
@@ -51,7 +57,9 @@ impl<'a> Bank<'a> {
         ensures err { OnErr result (self.new ≡ self.old) }
     {
         let instrument = take_instrument(&mut self.parts, alloc, number)?;
-        self.totals = self.totals.without_owner(Level::Instrument, instrument.records());
+        self.totals = self
+            .totals
+            .without_owner(Level::Instrument, instrument.records());
         Ok(instrument)
     }
 

@@ -20,6 +20,6 @@ invariant_of-self-2 c =
     rw (c.in_ok-preset.ensures.change, c.self.view_is) (
       c.requires.sound,
       totals_without level.Preset (preset_removed was c.args.number) was (records_of_owner c.in_ok-preset.preset) c.records.result
-    (sym (totals-removed_preset was c.args.number c.in_ok-preset.preset (rw c.self.view_is at c.in_ok-preset.ensures.value))) (no_limit_of was (rw c.self.view_is at c.self.invariant.0).valid.limits) c.records.ensures
+          (sym (totals-removed_preset was c.args.number c.in_ok-preset.preset (rw c.self.view_is at c.in_ok-preset.ensures.value))) (no_limit_of was (rw c.self.view_is at c.self.invariant.0).valid.limits) c.records.ensures
           c.self.inside.totals c.without_owner-self-inside.result (rw c.self.view_is at c.self.invariant.1) c.without_owner-self-inside.ensures,
     )
