@@ -13,7 +13,7 @@ use Rattle.bank_parts.specs.declared.parts.WithZones.{WithZones}
 use Rattle.bank_parts.specs.declared.parts.Zone.{Zone}
 use Rattle.sf_base.specs.declared.memory.Failure.{Failure}
 use Rattle.bank_format.specs.declared.fault.ReadFault.{ReadFault}
-use Rattle.bank_format.specs.Steps.{Step, first_broken, Fails, PassesGivenMemory}
+use Rattle.bank_format.specs.Steps.{first_broken, Fails, PassesGivenMemory}
 use Rattle.bank_format.specs.Windows.{windows, together, rows}
 use Rattle.bank_format.specs.Zones.{Bagged, zones_read, ignored, gens_dropped, ranges_mended}
 use Rattle.bank_format.specs.Reading.{bags_in}
@@ -128,13 +128,12 @@ bags_between bags part gens mods i j from to is first next =
     ap (λ (l : List Bag). bags_in l gens mods) (is ∙ ap (λ (n : ℕ). slice_range bags n (j + 1)) first ∙ ap (λ (n : ℕ). slice_range bags from (n + 1)) next)
     ∙ sym (slice-bags_in bags gens mods from to)
 
-pub targets_fail : {Y Z : Type 0} (view : Y → Z) (value : Z) (r : Result Y (Failure ReadFault)) (e : Failure ReadFault) (targets : ℕ) (fault missing : ReadFault) (found zones : List Zone)
-    → fault ≡ missing → found ≡ zones → IsErrAnd r (λ d. d ≡ e) → Fails e (first_broken (map (target_step targets fault) found)) → PassesGivenMemory view r (map (target_step targets missing) zones) value
-targets_fail view value r e targets fault missing found zones same is err h =
+pub targets_fail : {Y Z : Type 0} (view : Y → Z) (value : Z) (r : Result Y (Failure ReadFault)) (e : Failure ReadFault) (targets : ℕ) (missing : ReadFault) (found zones : List Zone)
+    → found ≡ zones → IsErrAnd r (λ d. d ≡ e) → Fails e (first_broken (map (target_step targets missing) found)) → PassesGivenMemory view r (map (target_step targets missing) zones) value
+targets_fail view value r e targets missing found zones is err h =
     given_by view value r e (map (target_step targets missing) zones) err
-    (subst (λ (l : List Step). Fails e (first_broken l)) (ap (λ (f : ReadFault). map (target_step targets f) found) same ∙ ap (map (target_step targets missing)) is) h)
+    (subst (λ (l : List Zone). Fails e (first_broken (map (target_step targets missing) l))) is h)
 
-pub targets_hold : (targets : ℕ) (fault missing : ReadFault) (found zones : List Zone)
-    → fault ≡ missing → found ≡ zones → first_broken (map (target_step targets fault) found) ≡ None → first_broken (map (target_step targets missing) zones) ≡ None
-targets_hold targets fault missing found zones same is h =
-    sym (ap (λ (f : ReadFault). first_broken (map (target_step targets f) found)) same ∙ ap (λ (l : List Zone). first_broken (map (target_step targets missing) l)) is) ∙ h
+pub targets_hold : (targets : ℕ) (missing : ReadFault) (found zones : List Zone)
+    → found ≡ zones → first_broken (map (target_step targets missing) found) ≡ None → first_broken (map (target_step targets missing) zones) ≡ None
+targets_hold targets missing found zones is h = sym (ap (λ (l : List Zone). first_broken (map (target_step targets missing) l)) is) ∙ h
