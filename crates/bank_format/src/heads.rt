@@ -31,14 +31,20 @@ pub trait RecordedHead: OwnerHead + Drop {
     /// The last record of the list, its terminal, where there are `bags` bags.
     fn last(bags: u16) -> Self::Record
         ensures { result ≡ headers.last bags };
+
+    /// The list is of the level of its zones.
+    ghost same_level: { headers.level ≡ Self.OwnerHead.LEVEL };
 }
 
 impl RecordedHead for Head {
     type Record = PresetHead;
 
+    ghost use Rattle.std.proofs.Common.{refl};
     ghost use Rattle.bank_format.specs.Tables.{presets};
 
     ghost headers = { presets };
+
+    ghost same_level = { refl };
 
     fn of_record(row: &PresetHead) -> Head {
         Head {
@@ -84,9 +90,12 @@ impl RecordedHead for Head {
 impl RecordedHead for Name20 {
     type Record = InstrumentHead;
 
+    ghost use Rattle.std.proofs.Common.{refl};
     ghost use Rattle.bank_format.specs.Tables.{instruments};
 
     ghost headers = { instruments };
+
+    ghost same_level = { refl };
 
     fn of_record(row: &InstrumentHead) -> Name20 {
         name_of(&row.name)

@@ -5,7 +5,7 @@ ghost use Rattle.sf_base.specs.declared.limits.TheConstants.{RECORDS};
 ghost use Rattle.bank_format.specs.Steps.{Passes, PassesGivenMemory, first_broken};
 ghost use Rattle.bank_format.specs.Zones.{zones_read};
 ghost use Rattle.bank_format.specs.ReadSteps.{count_steps, all_index_steps, target_step};
-ghost use Rattle.sf_reader.specs.Owners.{added, AreSmall, window_of, windows_of, owner_read, owners_read, zone_steps, members_of, member_steps};
+ghost use Rattle.sf_reader.specs.Owners.{added, AreSmall, window_of, windows_of, owner_with_counts, owners_with_counts, zone_steps, members_of, member_steps};
 
 use crate::hydra::{LevelTables, Tables, row_count};
 use bank_format::{ReadFault, RecordedHead};
@@ -80,8 +80,8 @@ fn read_owners<H: RecordedHead>(
     requires bags { length level.now.bags ≤ RECORDS }
     requires generators { length level.now.generators ≤ RECORDS }
     ensures { PassesGivenMemory (λ read. read) result
-        (zone_steps H.LEVEL targets.count targets.missing (windows_of H.headers.first_bag level.now))
-        (owners_read H.LEVEL H.headers.read level.now.heads (windows_of H.headers.first_bag level.now)) }
+        (zone_steps H.headers.level targets.count targets.missing (windows_of H.headers.first_bag level.now))
+        (owners_with_counts H.headers level.now.heads (windows_of H.headers.first_bag level.now)) }
 {
     let mut counts = ZoneCounts {
         zones: 0,
@@ -113,8 +113,8 @@ fn read_owner<H: RecordedHead>(
     requires bags { length level.now.bags ≤ RECORDS }
     requires generators { length level.now.generators ≤ RECORDS }
     ensures { PassesGivenMemory (λ read. read) result
-        (map (target_step targets.count targets.missing) (zones_read H.LEVEL (window_of H.headers.first_bag level.now head.now next.now)))
-        (owner_read H.LEVEL H.headers.read head.now (window_of H.headers.first_bag level.now head.now next.now)) }
+        (map (target_step targets.count targets.missing) (zones_read H.headers.level (window_of H.headers.first_bag level.now head.now next.now)))
+        (owner_with_counts H.headers head.now (window_of H.headers.first_bag level.now head.now next.now)) }
 {
     let bags = level.bags.part(H::first_bag(head) as usize, H::first_bag(next) as usize + 1);
     let BagsRead {
