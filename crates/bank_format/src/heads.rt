@@ -32,7 +32,7 @@ pub trait RecordedHead: OwnerHead + Drop {
     fn last(bags: u16) -> Self::Record
         ensures { result ≡ headers.last bags };
 
-    /// The list is of the level of its zones.
+    /// The list of its records and its zones are of one level.
     ghost same_level: { headers.level ≡ Self.OwnerHead.LEVEL };
 }
 
