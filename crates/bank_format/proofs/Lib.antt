@@ -2,6 +2,8 @@ pub mod StepLemmas
 pub mod AllLemmas
 pub mod CountLemmas
 pub mod NameLaws
+pub mod ZeroLemmas
+pub mod NameLemmas
 pub mod TextLaws
 pub mod WindowLaws
 pub mod ZoneLaws

@@ -3,15 +3,13 @@ ghost use Rattle.std.specs.Prelude.{◌≡◌};
 ghost use Rattle.bank_listing.specs.Listing.{point_count};
 
 use bank_core::Bank;
+use sf_base::limits::ZERO_POINTS;
 
-// How many points all samples have.
-#[tactic(auto, using(crate::proofs::PointLaws::point_count_le_total))]
+// How many points all samples have: those of a file, without the zero points after each sample.
+#[tactic(auto, using(crate::proofs::PointLaws::file_points), unfolding(bank_parts::specs::Limits::totals_of))]
 pub(crate) fn point_count(bank: &Bank<'_>) -> u64
     ensures { result ≡ point_count bank.now.samples }
 {
-    let mut count = 0;
-    for sample in bank.samples() {
-        count += sample.points.len() as u64;
-    }
-    count
+    let totals = bank.totals();
+    (totals.points - ZERO_POINTS * totals.samples) as u64
 }

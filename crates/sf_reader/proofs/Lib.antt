@@ -3,9 +3,7 @@ pub mod WindowLaws
 pub mod CountLaws
 pub mod OwnerLaws
 pub mod MemberLaws
-pub mod TextLemmas
 pub mod HydraLaws
-pub mod NameLemmas
 pub mod RowLemmas
 pub mod SampleLemmas
 pub mod TableLaws

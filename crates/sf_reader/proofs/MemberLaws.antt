@@ -1,24 +1,28 @@
 -- The presets and the instruments of the nine lists, each by its own four.
-use Rattle.std.proofs.Common.{◌≡◌, ◌∙◌, ℕ, List, length, None, Result, sym, ap, subst}
+use Rattle.std.proofs.Common.{◌≡◌, ◌∙◌, ℕ, List, length, map, None, Result, sym, ap, subst}
 use Rattle.std.specs.Result.{IsErrAnd}
 use Rattle.generators.specs.declared.level.Level.TheVariants as level
 use Rattle.hydra_records.specs.declared.head.PresetHead.{PresetHead}
 use Rattle.hydra_records.specs.declared.head.InstrumentHead.{InstrumentHead}
+use Rattle.hydra_records.specs.declared.zone.Bag.{Bag}
+use Rattle.hydra_records.specs.declared.zone.Generator.{Generator}
+use Rattle.modulators.specs.declared.modulator.Modulator.{Modulator}
 use Rattle.bank_parts.specs.declared.parts.Head.{Head}
 use Rattle.sf_base.specs.declared.memory.Failure.{Failure}
 use Rattle.bank_format.specs.declared.fault.ReadFault.{ReadFault}
 use Rattle.bank_format.specs.declared.fault.ReadFault.TheVariants.{BadInstrument, BadSample}
 use Rattle.bank_format.specs.Steps.{Step, first_broken, Fails, PassesGivenMemory}
-use Rattle.bank_format.specs.Windows.{rows}
+use Rattle.bank_format.specs.Windows.{rows, windows}
 use Rattle.bank_format.specs.Zones.{Bagged}
-use Rattle.bank_format.specs.Tables.{Tables, preset_head, instrument_head}
-use Rattle.bank_format.specs.Reading.{preset_windows, instrument_windows}
+use Rattle.bank_format.specs.Tables as format
+use Rattle.bank_format.specs.Tables.{Tables, Headers}
+use Rattle.bank_format.specs.Reading.{bags_in, preset_windows, instrument_windows}
 use Rattle.bank_format.specs.ReadSteps.{count_steps}
 use Rattle.sf_reader.specs.declared.hydra.LevelTables.{LevelTables}
 use Rattle.sf_reader.specs.declared.owners.OwnersRead.{OwnersRead}
 use Rattle.sf_reader.specs.declared.owners.Members.{Members}
 use Rattle.sf_reader.specs.Hydra.{AreLists}
-use Rattle.sf_reader.specs.Owners.{AreSmall, added, windows_of, owners_read, zone_steps, members_of, member_steps}
+use Rattle.sf_reader.specs.Owners.{AreSmall, added, windows_of, owners_with_counts, zone_steps, members_of, member_steps}
 use Rattle.sf_reader.proofs.StepLaws.{given_by, given_front, given_after, none_after}
 use Rattle.sf_reader.proofs.HydraLaws.{ModsInside, few_records, windows_are}
 use Rattle.sf_reader.proofs.CountLaws.{counts-few, both-small}
@@ -31,25 +35,39 @@ preset_part t = zone_steps level.Preset (length (rows t.inst)) BadInstrument (pr
 abbrev pub instrument_part : Tables → List Step
 instrument_part t = zone_steps level.Instrument (length (rows t.shdr)) BadSample (instrument_windows t)
 
--- ---- of four lists
+-- ---- of four lists, of either level
 
-abbrev preset_bag : PresetHead → ℕ
-preset_bag h = h.bag
+-- the zones that they say, where the targets are among so many
+abbrev pub steps_of : {H R : Type 0} → Headers H R → ReadFault → LevelTables R → ℕ → List Step
+steps_of h missing l targets = zone_steps h.level targets missing (windows_of h.first_bag l)
 
-abbrev instrument_bag : InstrumentHead → ℕ
-instrument_bag h = h.bag
+-- what they hold
+abbrev pub read_of : {H R : Type 0} → Headers H R → LevelTables R → OwnersRead H
+read_of h l = owners_with_counts h l.heads (windows_of h.first_bag l)
+
+-- where they are these four of the nine lists
+module _ {H R : Type 0} (h : Headers H R) (l : LevelTables R) (heads : List R) (bags : List Bag) (gens : List Generator) (mods : List Modulator) (are : AreLists l heads bags gens mods) (within : ModsInside bags mods) where
+  abbrev all : List (List Bagged)
+  all = windows (bags_in bags gens mods) (map h.first_bag heads)
+
+  same_windows : windows_of h.first_bag l ≡ all
+  same_windows = windows_are h.first_bag l heads bags gens mods are within
+
+  same_steps : (missing : ReadFault) (targets count : ℕ) → targets ≡ count → steps_of h missing l targets ≡ zone_steps h.level count missing all
+  same_steps missing targets count same = ap (λ (n : ℕ). steps_of h missing l n) same ∙ ap (zone_steps h.level count missing) same_windows
+
+  same_value : read_of h l ≡ owners_with_counts h heads all
+  same_value =
+      ap (λ (ws : List (List Bagged)). owners_with_counts h l.heads ws) same_windows
+      ∙ ap (λ (hs : List R). owners_with_counts h hs all) are.heads_are
+
+-- ---- of both levels
 
 abbrev pub preset_steps : LevelTables PresetHead → ℕ → List Step
-preset_steps l targets = zone_steps level.Preset targets BadInstrument (windows_of preset_bag l)
+preset_steps = steps_of format.presets BadInstrument
 
 abbrev pub instrument_steps : LevelTables InstrumentHead → ℕ → List Step
-instrument_steps l targets = zone_steps level.Instrument targets BadSample (windows_of instrument_bag l)
-
-abbrev pub presets_of : LevelTables PresetHead → OwnersRead Head
-presets_of l = owners_read level.Preset preset_head l.heads (windows_of preset_bag l)
-
-abbrev pub instruments_of : LevelTables InstrumentHead → OwnersRead (List ℕ)
-instruments_of l = owners_read level.Instrument instrument_head l.heads (windows_of instrument_bag l)
+instrument_steps = steps_of format.instruments BadSample
 
 -- the four lists of the presets, those of the instruments, and the numbers of their targets
 pub record Levels (t : Tables) (p : LevelTables PresetHead) (i : LevelTables InstrumentHead) (instruments samples : ℕ) : Type 0 where
@@ -60,33 +78,21 @@ pub record Levels (t : Tables) (p : LevelTables PresetHead) (i : LevelTables Ins
   pub samples_count : samples ≡ length (rows t.shdr)
 
 module _ (t : Tables) (p : LevelTables PresetHead) (i : LevelTables InstrumentHead) (instruments samples : ℕ) (l : Levels t p i instruments samples) where
-  preset_bags_are : windows_of preset_bag p ≡ preset_windows t
-  unfolding preset_windows
-  preset_bags_are = windows_are preset_bag p t.phdr t.pbag t.pgen t.pmod l.presets_are l.mods.0
-
-  instrument_bags_are : windows_of instrument_bag i ≡ instrument_windows t
-  unfolding instrument_windows
-  instrument_bags_are = windows_are instrument_bag i t.inst t.ibag t.igen t.imod l.instruments_are l.mods.1
-
   preset_steps_are : preset_steps p instruments ≡ preset_part t
-  preset_steps_are =
-      ap (λ (n : ℕ). preset_steps p n) l.instruments_count
-      ∙ ap (zone_steps level.Preset (length (rows t.inst)) BadInstrument) preset_bags_are
+  unfolding preset_windows
+  preset_steps_are = same_steps format.presets p t.phdr t.pbag t.pgen t.pmod l.presets_are l.mods.0 BadInstrument instruments (length (rows t.inst)) l.instruments_count
 
   instrument_steps_are : instrument_steps i samples ≡ instrument_part t
-  instrument_steps_are =
-      ap (λ (n : ℕ). instrument_steps i n) l.samples_count
-      ∙ ap (zone_steps level.Instrument (length (rows t.shdr)) BadSample) instrument_bags_are
+  unfolding instrument_windows
+  instrument_steps_are = same_steps format.instruments i t.inst t.ibag t.igen t.imod l.instruments_are l.mods.1 BadSample samples (length (rows t.shdr)) l.samples_count
 
-  presets_value : presets_of p ≡ (members_of t).presets
-  presets_value =
-      ap (λ (ws : List (List Bagged)). owners_read level.Preset preset_head p.heads ws) preset_bags_are
-      ∙ ap (λ (hs : List PresetHead). owners_read level.Preset preset_head hs (preset_windows t)) l.presets_are.heads_are
+  presets_value : read_of format.presets p ≡ (members_of t).presets
+  unfolding preset_windows
+  presets_value = same_value format.presets p t.phdr t.pbag t.pgen t.pmod l.presets_are l.mods.0
 
-  instruments_value : instruments_of i ≡ (members_of t).instruments
-  instruments_value =
-      ap (λ (ws : List (List Bagged)). owners_read level.Instrument instrument_head i.heads ws) instrument_bags_are
-      ∙ ap (λ (hs : List InstrumentHead). owners_read level.Instrument instrument_head hs (instrument_windows t)) l.instruments_are.heads_are
+  instruments_value : read_of format.instruments i ≡ (members_of t).instruments
+  unfolding instrument_windows
+  instruments_value = same_value format.instruments i t.inst t.ibag t.igen t.imod l.instruments_are l.mods.1
 
   module _ (r : Result Members (Failure ReadFault)) (e : Failure ReadFault) (is : IsErrAnd r (λ d. d ≡ e)) where
     pub presets_fail : Fails e (first_broken (preset_steps p instruments)) → PassesGivenMemory (λ (m : Members). m) r (member_steps t) (members_of t)
@@ -98,8 +104,8 @@ module _ (t : Tables) (p : LevelTables PresetHead) (i : LevelTables InstrumentHe
         given_after (λ (m : Members). m) (members_of t) r (preset_part t) (instrument_part t) (sym (ap first_broken preset_steps_are) ∙ none)
         (given_by (λ (m : Members). m) (members_of t) r e (instrument_part t) is (subst (λ (s : List Step). Fails e (first_broken s)) instrument_steps_are h))
 
-  pub members_hold : (presets : OwnersRead Head) (of_instruments : OwnersRead (List ℕ)) → first_broken (preset_steps p instruments) ≡ None → presets ≡ presets_of p
-      → first_broken (instrument_steps i samples) ≡ None → of_instruments ≡ instruments_of i
+  pub members_hold : (presets : OwnersRead Head) (of_instruments : OwnersRead (List ℕ)) → first_broken (preset_steps p instruments) ≡ None → presets ≡ read_of format.presets p
+      → first_broken (instrument_steps i samples) ≡ None → of_instruments ≡ read_of format.instruments i
       → (first_broken (member_steps t) ≡ None) × (record { presets = presets; instruments = of_instruments } ≡ members_of t)
   members_hold presets of_instruments none presets_are none_too instruments_are =
       let first = presets_are ∙ presets_value in
@@ -115,5 +121,5 @@ unfolding preset_windows instrument_windows
 members_small t e =
     let few = few_records t e in
     both-small (members_of t).presets.counts (members_of t).instruments.counts
-    (counts-few level.Preset preset_bag t.phdr t.pbag t.pgen t.pmod few.phdr few.pbag few.pgen)
-    (counts-few level.Instrument instrument_bag t.inst t.ibag t.igen t.imod few.inst few.ibag few.igen)
+    (counts-few level.Preset format.presets.first_bag t.phdr t.pbag t.pgen t.pmod few.phdr few.pbag few.pgen)
+    (counts-few level.Instrument format.instruments.first_bag t.inst t.ibag t.igen t.imod few.inst few.ibag few.igen)

@@ -57,9 +57,9 @@ const PDTA_IDS: &[[u8; 4]] = &[
 /// The three lists of a file, each as its chunks (SoundFont 2.04, section 4).
 #[derive(Drop)]
 pub(crate) struct Lists<'a> {
-    pub info: FirstChunks<'a>,
-    pub sdta: FirstChunks<'a>,
-    pub pdta: FirstChunks<'a>,
+    pub(crate) info: FirstChunks<'a>,
+    pub(crate) sdta: FirstChunks<'a>,
+    pub(crate) pdta: FirstChunks<'a>,
 }
 
 impl<'a> Model for Lists<'a> {

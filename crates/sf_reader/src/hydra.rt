@@ -2,16 +2,18 @@
 ghost use Rattle.std.specs.Prelude.{◌≡◌, [], ◌∷◌, length, map, nat_le};
 ghost use Rattle.std.specs.List.{list_all};
 ghost use Rattle.bank_format.specs.Steps.{Passes};
+ghost use Rattle.bank_format.specs.Windows.{rows};
 ghost use Rattle.bank_format.specs.Chunks.{body_in, or_zero};
 ghost use Rattle.bank_format.specs.ReadSteps.{chunk_step, nine, record_counts, count_steps, all_index_steps};
 ghost use Rattle.sf_reader.specs.Hydra.{bodies_in, whole_steps, tables_from, level_whole_steps, level_of, level_index_steps, AreLists};
 
-use crate::heads::HeadRecord;
-use crate::indexes::{FirstBag, FirstGenerator, FirstModulator, check_indexes};
+use crate::indexes::{FirstBag, FirstGenerator, FirstModulator, Index, check_indexes};
 use bank_format::ReadFault;
+use bank_parts::Head;
 use hydra_records::{Bag, Generator, InstrumentHead, PresetHead, Record, SampleHead, Table};
 use modulators::Modulator;
 use riff_chunks::FirstChunks;
+use sf_base::Name20;
 use sf_base::limits::RECORDS;
 use std::marker::Model;
 
@@ -60,7 +62,7 @@ impl<'a> Model for HydraChunks<'a> {
 impl<'a> HydraChunks<'a> {
     /// The first chunk of each of the nine ids, all of which have to be there.
     #[tactic(auto, unfolding(crate::specs::Hydra::bodies_in, bank_format::specs::Ids::PHDR, bank_format::specs::Ids::PBAG, bank_format::specs::Ids::PMOD, bank_format::specs::Ids::PGEN, bank_format::specs::Ids::INST, bank_format::specs::Ids::IBAG, bank_format::specs::Ids::IMOD, bank_format::specs::Ids::IGEN, bank_format::specs::Ids::SHDR))]
-    pub fn of(pdta: &FirstChunks<'a>) -> Result<HydraChunks<'a>, ReadFault>
+    pub(crate) fn of(pdta: &FirstChunks<'a>) -> Result<HydraChunks<'a>, ReadFault>
         ensures { Passes (λ bodies. bodies) result (map (chunk_step pdta.now) nine)
             (bodies_in pdta.now) }
     {
@@ -83,7 +85,7 @@ impl<'a> HydraChunks<'a> {
 
     /// The nine lists, each of which has to be whole records long.
     #[tactic(auto, unfolding(crate::specs::Hydra::whole_steps, crate::specs::Hydra::tables_from))]
-    pub fn tables(&self) -> Result<Tables<'a>, ReadFault>
+    pub(crate) fn tables(&self) -> Result<Tables<'a>, ReadFault>
         ensures { Passes (λ tables. tables) result (whole_steps self.now) (tables_from self.now) }
     {
         Ok(Tables {
@@ -98,16 +100,16 @@ impl<'a> HydraChunks<'a> {
 #[derive(Drop)]
 pub(crate) struct LevelTables<'a, H: Record> {
     /// The heads of the presets or of the instruments, and their terminal.
-    pub heads: Table<'a, H>,
+    pub(crate) heads: Table<'a, H>,
 
     /// Their bags, each of which is a zone, and a terminal.
-    pub bags: Table<'a, Bag>,
+    pub(crate) bags: Table<'a, Bag>,
 
     /// The modulators of the bags, and a terminal, which may be missing.
-    pub modulators: Table<'a, Modulator>,
+    pub(crate) modulators: Table<'a, Modulator>,
 
     /// The generators of the bags, and a terminal.
-    pub generators: Table<'a, Generator>,
+    pub(crate) generators: Table<'a, Generator>,
 }
 
 impl<'a> LevelChunks<'a> {
@@ -125,7 +127,7 @@ impl<'a> LevelChunks<'a> {
     }
 }
 
-impl<'a, H: HeadRecord> LevelTables<'a, H> {
+impl<'a, H: Record + Copy> LevelTables<'a, H> {
     // How many modulators there are; a list of none reads as one zero record.
     fn modulator_count(&self) -> usize
         ensures { result ≡ length (or_zero self.now.modulators) }
@@ -135,10 +137,10 @@ impl<'a, H: HeadRecord> LevelTables<'a, H> {
 
     // Each head says where its bags begin, and each bag where its generators and modulators do.
     #[tactic(auto, unfolding(bank_format::specs::ReadSteps::index_steps))]
-    fn check_indexes(&self) -> Result<(), ReadFault>
-        ensures { Passes (λ u. u) result (level_index_steps (map H.first_bag self.now.heads) self.now) tt }
+    fn check_indexes<I: Index<H>>(&self) -> Result<(), ReadFault>
+        ensures { Passes (λ u. u) result (level_index_steps (map I.index self.now.heads) self.now) tt }
     {
-        check_indexes::<H, FirstBag>(&self.heads, self.bags.len())?;
+        check_indexes::<H, I>(&self.heads, self.bags.len())?;
         check_indexes::<Bag, FirstGenerator>(&self.bags, self.generators.len())?;
         check_indexes::<Bag, FirstModulator>(&self.bags, self.modulator_count())
     }
@@ -173,21 +175,21 @@ impl<'a> Model for Tables<'a> {
 
 impl<'a> Tables<'a> {
     /// The four lists of the presets.
-    pub fn presets(&self) -> &LevelTables<'a, PresetHead>
+    pub(crate) fn presets(&self) -> &LevelTables<'a, PresetHead>
         ensures { AreLists result.now self.now.phdr self.now.pbag self.now.pgen self.now.pmod }
     {
         &self.presets
     }
 
     /// The four lists of the instruments.
-    pub fn instruments(&self) -> &LevelTables<'a, InstrumentHead>
+    pub(crate) fn instruments(&self) -> &LevelTables<'a, InstrumentHead>
         ensures { AreLists result.now self.now.inst self.now.ibag self.now.igen self.now.imod }
     {
         &self.instruments
     }
 
     /// The heads of the samples, and their terminal.
-    pub fn samples(&self) -> &Table<'a, SampleHead>
+    pub(crate) fn samples(&self) -> &Table<'a, SampleHead>
         ensures { result.now ≡ self.now.shdr }
     {
         &self.samples
@@ -212,7 +214,7 @@ impl<'a> Tables<'a> {
 
     /// Each of the nine has a terminal, and none has too many records.
     #[tactic(auto, using(crate::proofs::StepLaws::same_fault), unfolding(bank_format::specs::ReadSteps::count_steps))]
-    pub fn check_counts(&self) -> Result<(), ReadFault>
+    pub(crate) fn check_counts(&self) -> Result<(), ReadFault>
         ensures { Passes (λ u. u) result (count_steps self.now) tt }
     {
         let counts = self.counts();
@@ -226,12 +228,19 @@ impl<'a> Tables<'a> {
     }
 
     /// The indexes of each list rise, and lie in the list that they point into.
-    pub fn check_indexes(&self) -> Result<(), ReadFault>
+    pub(crate) fn check_indexes(&self) -> Result<(), ReadFault>
         ensures { Passes (λ u. u) result (all_index_steps self.now) tt }
     {
-        self.presets.check_indexes()?;
-        self.instruments.check_indexes()
+        self.presets.check_indexes::<FirstBag<Head>>()?;
+        self.instruments.check_indexes::<FirstBag<Name20>>()
     }
+}
+
+/// How many members the heads of a list are of: all but the last, which is the terminal.
+pub(crate) fn row_count<H: Record>(heads: &Table<H>) -> usize
+    ensures { result ≡ length (rows heads.now) }
+{
+    heads.len().saturating_sub(1)
 }
 
 // Whether no count is below the least.

@@ -3,9 +3,9 @@ ghost use Rattle.std.specs.Prelude.{◌≡◌, ℕ, map};
 ghost use Rattle.bank_format.specs.Steps.{Passes};
 ghost use Rattle.bank_format.specs.ReadSteps.{index_steps};
 
-use crate::heads::HeadRecord;
-use bank_format::ReadFault;
+use bank_format::{ReadFault, RecordedHead};
 use hydra_records::{Bag, Record, Table};
+use std::marker::PhantomData;
 
 /// A number of a record that says where in another list something of it begins.
 pub(crate) trait Index<R> {
@@ -17,8 +17,8 @@ pub(crate) trait Index<R> {
         ensures { result ≡ index row.now };
 }
 
-/// Where the bags of a preset or an instrument begin.
-pub(crate) enum FirstBag {}
+/// Where the bags of a preset or an instrument begin, of which a bank keeps `H`.
+pub(crate) struct FirstBag<H>(PhantomData<H>);
 
 /// Where the generators of a bag begin.
 pub(crate) enum FirstGenerator {}
@@ -26,11 +26,11 @@ pub(crate) enum FirstGenerator {}
 /// Where the modulators of a bag begin.
 pub(crate) enum FirstModulator {}
 
-impl<H: HeadRecord> Index<H> for FirstBag {
-    ghost index = { H.first_bag };
+impl<H: RecordedHead> Index<H::Record> for FirstBag<H> {
+    ghost index = { H.headers.first_bag };
 
-    fn of(head: &H) -> u16 {
-        head.first_bag()
+    fn of(head: &H::Record) -> u16 {
+        H::first_bag(head)
     }
 }
 

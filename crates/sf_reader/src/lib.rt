@@ -4,7 +4,6 @@
 #![tactic(auto)]
 
 mod frame;
-mod heads;
 mod hydra;
 mod indexes;
 mod owners;

@@ -5,11 +5,10 @@ ghost use Rattle.sf_base.specs.declared.limits.TheConstants.{RECORDS};
 ghost use Rattle.bank_format.specs.Steps.{Passes, PassesGivenMemory, first_broken};
 ghost use Rattle.bank_format.specs.Zones.{zones_read};
 ghost use Rattle.bank_format.specs.ReadSteps.{count_steps, all_index_steps, target_step};
-ghost use Rattle.sf_reader.specs.Owners.{added, AreSmall, window_of, windows_of, owner_read, owners_read, zone_steps, members_of, member_steps};
+ghost use Rattle.sf_reader.specs.Owners.{added, AreSmall, window_of, windows_of, owner_with_counts, owners_with_counts, zone_steps, members_of, member_steps};
 
-use crate::heads::{HeadRecord, row_count};
-use crate::hydra::{LevelTables, Tables};
-use bank_format::ReadFault;
+use crate::hydra::{LevelTables, Tables, row_count};
+use bank_format::{ReadFault, RecordedHead};
 use bank_parts::{Head, Owners, WithZones, Zone};
 use sf_base::{Failure, Name20};
 use std::alloc::Global;
@@ -26,17 +25,27 @@ pub(crate) struct OwnerRead<H> {
 #[derive(Drop)]
 pub(crate) struct OwnersRead<H> {
     /// Each in its order.
-    pub owners: Owners<H>,
+    pub(crate) owners: Owners<H>,
 
     /// What was dropped or mended in all of them.
-    pub counts: ZoneCounts,
+    pub(crate) counts: ZoneCounts,
 }
 
 /// The presets and the instruments of a file.
 #[derive(Drop)]
 pub(crate) struct Members {
-    pub presets: OwnersRead<Head>,
-    pub instruments: OwnersRead<Name20>,
+    pub(crate) presets: OwnersRead<Head>,
+    pub(crate) instruments: OwnersRead<Name20>,
+}
+
+// What the zones of a level name.
+#[derive(Clone, Copy)]
+struct Targets {
+    // How many there are.
+    count: usize,
+
+    // The fault of a zone that names none of them.
+    missing: ReadFault,
 }
 
 /// The presets and the instruments, each zone of which names a target that is there.
@@ -45,29 +54,34 @@ pub(crate) fn read_members(alloc: Global, tables: &Tables) -> Result<Members, Fa
     requires indexes { first_broken (all_index_steps tables.now) ≡ None }
     ensures { PassesGivenMemory (λ members. members) result (member_steps tables.now) (members_of tables.now) }
 {
-    let presets = read_owners(
-        alloc,
-        tables.presets(),
-        row_count(&tables.instruments().heads),
-    )?;
-    let instruments = read_owners(alloc, tables.instruments(), row_count(tables.samples()))?;
+    let instruments = Targets {
+        count: row_count(&tables.instruments().heads),
+        missing: ReadFault::BadInstrument,
+    };
+    let presets = read_owners(alloc, tables.presets(), instruments)?;
+    let samples = Targets {
+        count: row_count(tables.samples()),
+        missing: ReadFault::BadSample,
+    };
+    let instruments = read_owners(alloc, tables.instruments(), samples)?;
     Ok(Members {
         presets,
         instruments,
     })
 }
 
-// The presets or the instruments, in whose zones the targets are among so many.
-fn read_owners<H: HeadRecord>(
+// The presets or the instruments, in whose zones the targets are among these.
+fn read_owners<H: RecordedHead>(
     alloc: Global,
-    level: &LevelTables<H>,
-    targets: usize,
-) -> Result<OwnersRead<H::Head>, Failure<ReadFault>>
+    level: &LevelTables<H::Record>,
+    targets: Targets,
+) -> Result<OwnersRead<H>, Failure<ReadFault>>
     requires heads { length level.now.heads ≤ RECORDS }
     requires bags { length level.now.bags ≤ RECORDS }
     requires generators { length level.now.generators ≤ RECORDS }
-    ensures { PassesGivenMemory (λ read. read) result (zone_steps H.LEVEL targets H.MISSING (windows_of H.first_bag level.now))
-        (owners_read H.LEVEL H.head level.now.heads (windows_of H.first_bag level.now)) }
+    ensures { PassesGivenMemory (λ read. read) result
+        (zone_steps H.headers.level targets.count targets.missing (windows_of H.headers.first_bag level.now))
+        (owners_with_counts H.headers level.now.heads (windows_of H.headers.first_bag level.now)) }
 {
     let mut counts = ZoneCounts {
         zones: 0,
@@ -89,31 +103,29 @@ fn read_owners<H: HeadRecord>(
 }
 
 // One of them. Its bags end where those of the next one begin.
-fn read_owner<H: HeadRecord>(
+fn read_owner<H: RecordedHead>(
     alloc: Global,
-    level: &LevelTables<H>,
-    head: &H,
-    next: &H,
-    targets: usize,
-) -> Result<OwnerRead<H::Head>, Failure<ReadFault>>
+    level: &LevelTables<H::Record>,
+    head: &H::Record,
+    next: &H::Record,
+    targets: Targets,
+) -> Result<OwnerRead<H>, Failure<ReadFault>>
     requires bags { length level.now.bags ≤ RECORDS }
     requires generators { length level.now.generators ≤ RECORDS }
     ensures { PassesGivenMemory (λ read. read) result
-        (map (target_step targets H.MISSING) (zones_read H.LEVEL (window_of H.first_bag level.now head.now next.now)))
-        (owner_read H.LEVEL H.head head.now (window_of H.first_bag level.now head.now next.now)) }
+        (map (target_step targets.count targets.missing) (zones_read H.headers.level (window_of H.headers.first_bag level.now head.now next.now)))
+        (owner_with_counts H.headers head.now (window_of H.headers.first_bag level.now head.now next.now)) }
 {
-    let bags = level
-        .bags
-        .part(head.first_bag() as usize, next.first_bag() as usize + 1);
+    let bags = level.bags.part(H::first_bag(head) as usize, H::first_bag(next) as usize + 1);
     let BagsRead {
         global,
         zones,
         counts,
     } = read_bags(alloc, H::LEVEL, &bags, &level.generators, &level.modulators)?;
-    check_targets(zones.as_slice(), targets, H::MISSING)?;
+    check_targets(zones.as_slice(), targets)?;
     Ok(OwnerRead {
         owner: WithZones {
-            head: head.head(),
+            head: H::of_record(head),
             global,
             zones,
         },
@@ -121,22 +133,22 @@ fn read_owner<H: HeadRecord>(
     })
 }
 
-// The target of each zone is one of so many.
+// The target of each zone is one of these.
 #[tactic(auto, using(crate::proofs::OwnerLaws::targets_there, crate::proofs::OwnerLaws::target_missing))]
-fn check_targets(zones: &[Zone], targets: usize, missing: ReadFault) -> Result<(), ReadFault>
-    ensures { Passes (λ u. u) result (map (target_step targets missing) zones.now) tt }
+fn check_targets(zones: &[Zone], targets: Targets) -> Result<(), ReadFault>
+    ensures { Passes (λ u. u) result (map (target_step targets.count targets.missing) zones.now) tt }
 {
-    if !all_below(targets, zones) {
-        return Err(missing);
+    if !all_below(targets.count, zones) {
+        return Err(targets.missing);
     }
     Ok(())
 }
 
 // Whether the target of each zone is one of so many.
-fn all_below(targets: usize, zones: &[Zone]) -> bool
-    ensures { result ≡ list_all (λ zone. nat_lt zone.target targets) zones.now }
+fn all_below(count: usize, zones: &[Zone]) -> bool
+    ensures { result ≡ list_all (λ zone. nat_lt zone.target count) zones.now }
 {
-    zones.iter().all(|zone| (zone.target as usize) < targets)
+    zones.iter().all(|zone| (zone.target as usize) < count)
 }
 
 /// Both counts together.

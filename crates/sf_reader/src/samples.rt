@@ -8,10 +8,9 @@ ghost use Rattle.bank_format.specs.Samples.{has_loop, loop_read, kind_read, samp
 ghost use Rattle.bank_format.specs.Reading.{samples_read};
 ghost use Rattle.bank_format.specs.ReadSteps.{sample_step, total_steps};
 
-use crate::heads::row_count;
-use crate::texts::name_of;
+use crate::hydra::row_count;
 use bank_core::{Kind, Sample};
-use bank_format::ReadFault;
+use bank_format::{ReadFault, name_of};
 use hydra_records::{Records, SampleHead, Table};
 use numbered_lists::NumberedList;
 use sample_view::Points;

@@ -1,31 +1,13 @@
 //! The eight texts of a file (SoundFont 2.04, section 5).
-ghost use Rattle.std.specs.Prelude.{◌≡◌, ◌≤◌, ◌==◌, take};
-ghost use Rattle.sf_base.specs.Names.{before_zero};
+ghost use Rattle.std.specs.Prelude.{◌≡◌, ◌≤◌, take};
 ghost use Rattle.bank_format.specs.Texts.{text_in, engine_read, over};
 ghost use Rattle.sf_reader.specs.Texts.{texts_in, cut_of, cut_count};
 
 use bank_core::Texts;
+use bank_format::before_zero;
 use riff_chunks::FirstChunks;
 use sf_base::limits::{COMMENT_LENGTH, TEXT_LENGTH};
-use sf_base::{Lent, Name20, front_of};
-
-/// The bytes before the first zero.
-pub(crate) fn before_zero(bytes: &[u8]) -> &[u8]
-    ensures { result.now ≡ before_zero bytes.now }
-{
-    let end = bytes
-        .iter()
-        .position(|byte| *byte == 0)
-        .unwrap_or(bytes.len());
-    front_of(bytes, end)
-}
-
-/// The name in a field of a head: the bytes before the first zero.
-pub(crate) fn name_of(field: &[u8; 20]) -> Name20
-    ensures { result ≡ before_zero field.now }
-{
-    Name20::from_bytes(before_zero(field)).unwrap()
-}
+use sf_base::{Lent, front_of};
 
 /// The eight texts of the list `INFO`, before any is cut. A missing one is empty.
 #[tactic(auto, unfolding(crate::specs::Texts::texts_in, bank_format::specs::Ids::ISNG, bank_format::specs::Ids::INAM, bank_format::specs::Ids::ICRD, bank_format::specs::Ids::IENG, bank_format::specs::Ids::IPRD, bank_format::specs::Ids::ICOP, bank_format::specs::Ids::ICMT, bank_format::specs::Ids::ISFT))]

@@ -1,5 +1,4 @@
 pub mod ChunkLemmas
-pub mod NameLemmas
 pub mod TextLemmas
 pub mod PointLemmas
 pub mod BagLemmas

@@ -16,7 +16,7 @@ use Rattle.bank_parts.specs.Owners.{head_at}
 use Rattle.bank_parts.specs.Valid.{zone_count, owner_total, IsPreset, IsInstrument, IsValid}
 use Rattle.bank_format.specs.Ids.{EOP, EOI}
 use Rattle.bank_format.specs.Tables.{Headers, heads_from, bags_of, tables_of, presets, preset_written, preset_end, instruments, instrument_written, instrument_end}
-use Rattle.sf_writer.proofs.NameLemmas.{length-filled}
+use Rattle.bank_format.proofs.NameLaws.{length-filled}
 use Rattle.sf_writer.proofs.BagLemmas.{length-bags_written}
 use Rattle.sf_writer.proofs.PlaceLemmas.{there, left_at}
 
@@ -91,7 +91,7 @@ length-preset_end at = length-preset_head (preset_end at) refl
 pub length_phdr : (b : Parts) → IsValid b → length (flat_map preset_head_bytes (tables_of b).phdr) ≡ (length b.presets + 1) * 38
 length_phdr b v =
     ap (λ (hs : List PresetHead). length (flat_map preset_head_bytes hs)) (phdr-is b)
-    ∙ length-heads preset_head_bytes presets 38 (IsPreset (length b.instruments)) (λ at x v. length-preset_head (preset_written at x.head) (length-filled x.head.name v.name)) length-preset_end 0 b.presets v.presets
+    ∙ length-heads preset_head_bytes presets 38 (IsPreset (length b.instruments)) (λ at x v. length-preset_head (preset_written at x.head) (length-filled x.head.name v.name.0)) length-preset_end 0 b.presets v.presets
 
 -- the heads of the presets that a bank lends are those of its list
 pub phdr-lent : (b : Parts) (owners : List (WithZones Head)) → owners ≡ b.presets → flat_map preset_head_bytes (heads_from presets 0 owners) ≡ flat_map preset_head_bytes (tables_of b).phdr
@@ -117,7 +117,7 @@ length-instrument_end at = length-instrument_head (instrument_end at) refl
 pub length_inst : (b : Parts) → IsValid b → length (flat_map instrument_head_bytes (tables_of b).inst) ≡ (length b.instruments + 1) * 22
 length_inst b v =
     ap (λ (hs : List InstrumentHead). length (flat_map instrument_head_bytes hs)) (inst-is b)
-    ∙ length-heads instrument_head_bytes instruments 22 (IsInstrument (length b.samples)) (λ at x v. length-instrument_head (instrument_written at x.head) (length-filled x.head v.name)) length-instrument_end 0 b.instruments v.instruments
+    ∙ length-heads instrument_head_bytes instruments 22 (IsInstrument (length b.samples)) (λ at x v. length-instrument_head (instrument_written at x.head) (length-filled x.head v.name.0)) length-instrument_end 0 b.instruments v.instruments
 
 pub inst-lent : (b : Parts) (owners : List (WithZones (List ℕ))) → owners ≡ b.instruments → flat_map instrument_head_bytes (heads_from instruments 0 owners) ≡ flat_map instrument_head_bytes (tables_of b).inst
 inst-lent b owners e = ap (λ (is : List (WithZones (List ℕ))). flat_map instrument_head_bytes (heads_from instruments 0 is)) e ∙ ap (flat_map instrument_head_bytes) (sym (inst-is b))

@@ -19,7 +19,7 @@ use Rattle.bank_format.specs.Tables.{tables_of, sample_end, sample_head, sample_
 use Rattle.bank_format.specs.Canon.{pdta}
 use Rattle.sf_writer.specs.Lists.{zone_lists}
 use Rattle.sf_writer.proofs.ChunkLemmas.{length-form-even, length-LIST}
-use Rattle.sf_writer.proofs.NameLemmas.{length-filled}
+use Rattle.bank_format.proofs.NameLaws.{length-filled}
 use Rattle.sf_writer.proofs.ZoneListLemmas.{length_zone_lists}
 
 -- ---- the heads of samples
@@ -44,7 +44,7 @@ length-heads n start (s ∷ samples) v =
     omega (
       arith,
       length-append (sample_head_bytes (sample_head start s)) (flat_map sample_head_bytes (sample_heads_from (start + length s.points + 46) samples)),
-      length-head (sample_head start s) (length-filled s.name v.0.name),
+      length-head (sample_head start s) (length-filled s.name v.0.name.0),
       length-heads n (start + length s.points + 46) samples v.1,
     )
 

@@ -1,36 +1,10 @@
-//! The records that end the lists of `pdta` (SoundFont 2.04, section 7).
+//! The records that end the lists of samples, modulators and generators (SoundFont 2.04, sections 7.4,
+//! 7.5 and 7.8 to 7.10).
 ghost use Rattle.std.specs.Prelude.{◌≡◌};
-ghost use Rattle.bank_format.specs.Tables.{preset_end, instrument_end, sample_end, modulator_end, generator_end};
+ghost use Rattle.bank_format.specs.Tables.{sample_end, modulator_end, generator_end};
 
-use hydra_records::{Generator, InstrumentHead, PresetHead, SampleHead};
+use hydra_records::{Generator, SampleHead};
 use modulators::Modulator;
-
-// The last record of `phdr`, where there are `bags` bags.
-#[tactic(auto, unfolding(bank_format::specs::Ids::EOP))]
-pub(crate) fn preset_end(bags: u16) -> PresetHead
-    ensures { result ≡ preset_end bags }
-{
-    PresetHead {
-        name: *b"EOP\0\0\0\0\0\0\0\0\0\0\0\0\0\0\0\0\0",
-        number: 0,
-        bank: 0,
-        bag: bags,
-        library: 0,
-        genre: 0,
-        morphology: 0,
-    }
-}
-
-// The last record of `inst`, where there are `bags` bags.
-#[tactic(auto, unfolding(bank_format::specs::Ids::EOI))]
-pub(crate) fn instrument_end(bags: u16) -> InstrumentHead
-    ensures { result ≡ instrument_end bags }
-{
-    InstrumentHead {
-        name: *b"EOI\0\0\0\0\0\0\0\0\0\0\0\0\0\0\0\0\0",
-        bag: bags,
-    }
-}
 
 // The last record of `shdr`.
 #[tactic(auto, unfolding(bank_format::specs::Ids::EOS))]

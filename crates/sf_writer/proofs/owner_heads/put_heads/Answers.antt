@@ -16,7 +16,7 @@ pub loop-i-preserved : goal.loop-i-preserved
 loop-i-preserved g c = record {
   putting =
       putting_step c.put.result _ c.loop-i.invariant.putting
-      (heads-next g.H.Record.Spelled.bytes_of g.H.Headed.headers c.args.owners.now c.loop-i.i c.loop-i.bag c.bag_count.result (c.loop-i.bag + c.bag_count.result) c.head.result.now _ _ (omega arith) c.head.ensures c.record.ensures c.put.ensures c.bag_count.ensures refl)
+      (heads-next g.H.Record.Spelled.bytes_of g.H.RecordedHead.headers c.args.owners.now c.loop-i.i c.loop-i.bag c.bag_count.result (c.loop-i.bag + c.bag_count.result) c.head.result.now _ _ (omega arith) c.head.ensures c.record.ensures c.put.ensures c.bag_count.ensures refl)
       c.put-in-loop-i.ensures;
   room = few_after c.args.owners.now c.loop-i.i c.loop-i.bag (omega arith) c.loop-i.invariant.room _ c.bag_count.ensures;
 }
@@ -24,4 +24,4 @@ loop-i-preserved g c = record {
 pub returns : goal.returns
 returns g c =
     putting_last c.loop-i.invariant.putting
-    (puts_as _ _ (sym (heads-last g.H.Record.Spelled.bytes_of g.H.Headed.headers c.args.owners.now c.loop-i.i c.loop-i.bag _ _ (omega arith) c.last.ensures c.put-2.ensures)) c.put-3.ensures)
+    (puts_as _ _ (sym (heads-last g.H.Record.Spelled.bytes_of g.H.RecordedHead.headers c.args.owners.now c.loop-i.i c.loop-i.bag _ _ (omega arith) c.last.ensures c.put-2.ensures)) c.put-3.ensures)

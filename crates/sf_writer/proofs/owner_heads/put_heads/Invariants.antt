@@ -6,7 +6,7 @@ use Rattle.sf_base.proofs.OutputLaws.{Putting}
 use Rattle.sf_writer.proofs.owner_heads.put_heads.Given as goal
 
 abbrev pub invariant-loop-i : goal.invariant-loop-i
-invariant-loop-i g l = let h = g.H.Headed in record {
+invariant-loop-i g l = let h = g.H.RecordedHead in record {
   putting :
       Putting g.W.Write.contents l.initial.output l.output (flat_map g.H.Record.Spelled.bytes_of (heads_from h.headers 0 l.owners))
       (flat_map g.H.Record.Spelled.bytes_of (heads_from h.headers l.bag (drop l.i l.owners)));

@@ -1,6 +1,6 @@
 use Rattle.std.proofs.Common.{◌≡◌, length, rules}
-use Rattle.sf_reader.proofs.NameLemmas.{field_names}
-use Rattle.sf_reader.proofs.texts.name_of.Goals as goal
+use Rattle.bank_format.proofs.NameLemmas.{field_names}
+use Rattle.bank_format.proofs.names.name_of.Goals as goal
 
 pub unwrap-requires : goal.unwrap-requires
 unwrap-requires c =

@@ -1,8 +1,8 @@
 use Rattle.std.proofs.Common.{◌==◌, ◌∙◌, rules, tests}
 use Rattle.std.proofs.lemmas.Iterator.{YieldsList-from_slice}
 use Rattle.std.proofs.lemmas.Iterator.Search.{position_from_yields_List}
-use Rattle.sf_reader.proofs.TextLemmas.{before_found}
-use Rattle.sf_reader.proofs.texts.before_zero.Goals as goal
+use Rattle.bank_format.proofs.ZeroLemmas.{before_found}
+use Rattle.bank_format.proofs.names.before_zero.Goals as goal
 
 pub returns : goal.returns
 returns c =
