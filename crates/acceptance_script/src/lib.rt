@@ -5,10 +5,16 @@
 #[cfg(test)]
 mod full;
 #[cfg(test)]
+mod instruments;
+#[cfg(test)]
 mod members;
+#[cfg(test)]
+mod presets;
 #[cfg(test)]
 mod samples;
 #[cfg(test)]
 mod scripts;
 #[cfg(test)]
 mod texts;
+#[cfg(test)]
+mod zones;
