@@ -5,11 +5,9 @@
 #[cfg(test)]
 mod full;
 #[cfg(test)]
-mod instruments;
-#[cfg(test)]
 mod members;
 #[cfg(test)]
-mod presets;
+mod owners;
 #[cfg(test)]
 mod samples;
 #[cfg(test)]
