@@ -3,7 +3,7 @@
 use sfbank::canon_run;
 use std::alloc::{AllocError, Global};
 use std::test::Fail;
-use worked_files::{many_points, returns, stops, with_more};
+use worked_files::{grown, many_points, returns, saw, stops, with_more};
 
 #[test]
 fn a_sample_more_than_the_most(rt: HostRuntime) -> Result<(), Fail> {
@@ -28,6 +28,71 @@ fn a_sample_more_than_the_most(rt: HostRuntime) -> Result<(), Fail> {
             place
         )
     );
+    Ok(())
+}
+
+#[test]
+fn a_preset_more_than_the_most(rt: HostRuntime) -> Result<(), Fail> {
+    let file = with_more(rt.alloc(), 98, 38, 65_535)?;
+    let full = b": line 1: refused 37 Full presets\n";
+    let add = b"add-preset 65535 \"\" 0 0 0 0 0";
+    assert!(rt; stops(rt.alloc(), &file, add, full));
+    Ok(())
+}
+
+#[test]
+fn an_instrument_more_than_the_most(rt: HostRuntime) -> Result<(), Fail> {
+    let file = with_more(rt.alloc(), 186, 22, 65_535)?;
+    let full = b": line 1: refused 37 Full instruments\n";
+    assert!(rt; stops(rt.alloc(), &file, b"add-inst 0 \"\"", full));
+    Ok(())
+}
+
+/// An instrument of many zones, of many generators, or of many modulators: its line, the place in the
+/// line where a piece is put in, the piece, how many of it are the most, and the fault of one more.
+type Growth = (&'static [u8], usize, &'static [u8], usize, &'static [u8]);
+
+const GROWTHS: [Growth; 3] = [
+    (
+        b"add-inst 0 \"i\"\n",
+        14,
+        b" { 0 }",
+        65_535,
+        b"refused 37 Full zones\n",
+    ),
+    (
+        b"add-inst 0 \"i\" { global g 54 1 }\n",
+        32,
+        b" { 0 g 17 0 }",
+        32_767,
+        b"refused 37 Full generators\n",
+    ),
+    (
+        b"add-inst 0 \"i\" { 0 }\n",
+        18,
+        b" m 0 0 0 0 0",
+        65_535,
+        b"refused 37 Full modulators\n",
+    ),
+];
+
+/// Whether an instrument of the most pieces is put in and taken out, and one of one more is refused.
+fn ends_at(alloc: Global, growth: Growth) -> Result<bool, AllocError> {
+    let (line, at, piece, most, full) = growth;
+    let longest = grown(alloc, line, at, piece, most, &[])?;
+    let longer = grown(alloc, line, at, piece, most.saturating_add(1), &[])?;
+    let file = saw();
+    Ok(
+        returns(alloc, file.bytes(), &longest, b"remove-inst 0\n")
+            && stops(alloc, file.bytes(), &longer, full),
+    )
+}
+
+#[test]
+fn an_instrument_of_the_most(rt: HostRuntime) -> Result<(), Fail> {
+    for growth in GROWTHS {
+        assert!(rt; ends_at(rt.alloc(), growth)?);
+    }
     Ok(())
 }
 

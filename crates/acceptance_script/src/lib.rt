@@ -7,8 +7,12 @@ mod full;
 #[cfg(test)]
 mod members;
 #[cfg(test)]
+mod owners;
+#[cfg(test)]
 mod samples;
 #[cfg(test)]
 mod scripts;
 #[cfg(test)]
 mod texts;
+#[cfg(test)]
+mod zones;

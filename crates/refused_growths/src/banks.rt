@@ -91,8 +91,8 @@ fn fixed_writer() -> Fixed {
     }
 }
 
-/// Scripts of one edit, each with the undo text that takes it back.
-pub(crate) static EDITS: [(&[u8], &[u8]); 3] = [
+/// Scripts, each with the undo text that takes it back.
+pub(crate) static EDITS: [(&[u8], &[u8]); 5] = [
     (b"rename-sample 0 \"sine\"\n", b"rename-sample 0 \"saw\"\n"),
     (
         b"add-sample 0 \"low\" 44100 48 0 right 1 loop 0 2 x0100feff\n",
@@ -101,6 +101,19 @@ pub(crate) static EDITS: [(&[u8], &[u8]); 3] = [
     (
         b"set-info ICMT \"a bank of one sample\"\n",
         b"set-info ICMT \"\"\n",
+    ),
+    (
+        b"\
+        add-inst 1 \"n\" { global g 17 100 m 1282 48 50 0 0 } { 0 g 43 0..59 g 54 1 m 1282 48 50 0 0 }\n\
+        add-preset 0 \"n\" 1 0 0 0 0 { global g 44 0..64 } { 1 g 51 -12 m 1282 48 50 0 0 } { 0 }\n",
+        b"remove-preset 0\nremove-inst 1\n",
+    ),
+    (
+        b"remove-preset 0\nremove-inst 0\n",
+        b"\
+        add-inst 0 \"i\" { global g 17 100 g 48 10 m 1282 48 100 0 0 } \
+        { 0 g 43 0..127 g 54 1 m 1282 48 100 0 0 m 1282 48 100 0 0 }\n\
+        add-preset 0 \"p\" 0 0 0 0 0 { global g 51 1 } { 0 m 1282 48 100 0 0 } { 0 g 44 64..127 }\n",
     ),
 ];
 
