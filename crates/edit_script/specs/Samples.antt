@@ -3,6 +3,7 @@ use Rattle.bank_edits.specs.declared.edit.Step.{Step}
 use Rattle.bank_edits.specs.declared.edit.Step.TheVariants.{AddSample, RemoveSample}
 use Rattle.line_tokens.specs.Parts.{Part, ◌>>=◌, pure, number}
 use Rattle.script_grammar.specs.Samples.{body}
+pub use Rattle.script_grammar.specs.Samples.{head_operands}
 
 -- `add-sample S BODY`
 unfoldable pub add_sample : Part Step
