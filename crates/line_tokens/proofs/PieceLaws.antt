@@ -4,6 +4,7 @@ use Rattle.std.specs.Prelude.{nat_le, fold, ◌&&◌, ◌||◌, ◌==◌}
 use Rattle.std.specs.Fmt.{signed_decimal}
 use Rattle.std.specs.List.{list_all, flat_map, AllByRecursion}
 use Rattle.std.proofs.lemmas.Bool.{and_parts, and_from}
+use Rattle.std.proofs.lemmas.List.{length-append}
 use Rattle.std.proofs.lemmas.List.Sums.{list_all-from_AllPass}
 use Rattle.std.proofs.lemmas.List.Folds.{list_all-append}
 use Rattle.std.proofs.lemmas.Str.Parse.{IsNumeralModel, numerals_by_fold}
@@ -14,12 +15,12 @@ use Rattle.sf_base.specs.Names.{IsTextByte, IsName}
 use Rattle.line_tokens.specs.declared.cursor.Said.{Said}
 use Rattle.line_tokens.specs.declared.cursor.Said.TheVariants as says
 use Rattle.line_tokens.specs.declared.printing.Piece.{Piece}
-use Rattle.line_tokens.specs.declared.printing.Piece.TheVariants.{Number, Signed, Word, Name, Hex}
+use Rattle.line_tokens.specs.declared.printing.Piece.TheVariants.{Number, Signed, Range, Word, Name, Hex}
 use Rattle.line_tokens.specs.Lines.{lines_of, onto, is_feed}
 use Rattle.line_tokens.specs.Tokens.{ends_well}
 use Rattle.line_tokens.specs.Parts.{is_digit}
 use Rattle.line_tokens.specs.Printing.{is_open, hex_literal, name_text, spelled, spaced, line_text}
-use Rattle.line_tokens.specs.Spelling.{is_word, not_blank, IsQuoted, Shows, LineSays, Writes, WritesSigned, IsWithin}
+use Rattle.line_tokens.specs.Spelling.{is_word, not_blank, IsQuoted, Shows, LineSays, Writes, WritesSigned, WritesRange, IsWithin}
 use Rattle.line_tokens.proofs.TestLaws.{not_true, list_all_weaker, differs, not_feed, no_blank_of, not_blank_of, not_feed_of}
 use Rattle.line_tokens.proofs.LexLaws.{lines_yes, lines_no}
 use Rattle.line_tokens.proofs.PrintLaws.{line_spaced}
@@ -74,6 +75,13 @@ pub writes_signed : (limit : ℕ) (z : ℤ) → IsWithin limit z → limit < 2 ^
 writes_signed limit (pos n) h l = inr (record { number = n; writes = writes limit n h (omega (arith, l)); value = refl })
 writes_signed limit (negsuc n) h l = inl (record { digits = decimal (suc n); number = suc n; parts = refl; writes = writes (limit + 1) (suc n) (omega (arith, h)) (omega (arith, l)); value = refl })
 
+-- the two ends, with `..` between them
+abbrev pub range_text : ℕ → ℕ → List ℕ
+range_text low high = decimal low ++ 46 ∷ 46 ∷ decimal high
+
+pub writes_range : (low high : ℕ) → low ≤ 255 → high ≤ 255 → WritesRange (range_text low high) low high
+writes_range low high h k = record { before = decimal low; behind = decimal high; parts = refl; writes_low = writes 255 low h (omega arith); writes_high = writes 255 high k (omega arith) }
+
 -- ---- names
 
 name_bytes : (n : List ℕ) → AllByRecursion IsTextByte n → IsBytes n
@@ -107,6 +115,7 @@ meant (Number n) = says.Word (decimal n)
 meant (Name bytes) = says.Literal bytes
 meant (Word bytes) = says.Word bytes
 meant (Signed z) = says.Word (signed_decimal z)
+meant (Range low high) = says.Word (range_text low high)
 meant (Hex bytes) = says.Literal bytes
 
 -- a piece shows what it says, and keeps to its line
@@ -136,6 +145,28 @@ spoken_plus n h = let s = spoken_number n h in record { shows = s.shows; no_feed
 pub spoken_signed : (limit : ℕ) (z : ℤ) → IsWithin limit z → limit < 2 ^ 16 → Spoken (Signed z)
 spoken_signed limit (pos n) h l = spoken_plus n (omega (arith, h, l))
 spoken_signed limit (negsuc n) h l = spoken_minus n (omega (arith, h, l))
+
+-- a digit or a dot
+abbrev in_range : ℕ → Bool
+in_range b = is_digit b || b == 46
+
+digit_in_range : (b : ℕ) → is_digit b ≡ true → in_range b ≡ true
+digit_in_range b e = rw e refl
+
+range_in_range : (low high : ℕ) → low < 2 ^ 32 → high < 2 ^ 32 → list_all in_range (range_text low high) ≡ true
+range_in_range low high h k =
+    list_all-append in_range (decimal low) (46 ∷ 46 ∷ decimal high)
+    ∙ and_from _ _ (list_all_weaker is_digit in_range digit_in_range (decimal low) (all_digits low h)) (list_all_weaker is_digit in_range digit_in_range (decimal high) (all_digits high k))
+
+pub spoken_range : (low high : ℕ) → low ≤ 255 → high ≤ 255 → Spoken (Range low high)
+unfolding spelled
+spoken_range low high h k =
+    let all = range_in_range low high (omega (arith, h)) (omega (arith, k)) in
+    let some : 0 < length (range_text low high) = omega (arith, length-append (decimal low) (46 ∷ 46 ∷ decimal high)) in
+    record {
+      shows = (refl, word_of in_range refl refl refl refl refl refl (range_text low high) some all);
+      no_feed = list_all_weaker in_range not_feed (not_feed_of in_range refl) (range_text low high) all;
+    }
 
 pub spoken_hex : (bytes : List ℕ) → IsBytes bytes → Spoken (Hex bytes)
 unfolding spelled

@@ -3,6 +3,7 @@ use Rattle.std.proofs.Common.{◌≡◌, ◌≤◌, ◌<◌, ◌+◌, ℕ, zero,
 use Rattle.std.specs.Prelude.{nat_lt, nat_le, ◌&&◌, neg_ℤ, option_map}
 use Rattle.std.specs.List.{list_all, AllByRecursion, position_or_len, prefix_len, before_first, after_first}
 use Rattle.std.proofs.lemmas.Bool.{ltb-true, leb-true, and_parts, and_from}
+use Rattle.std.proofs.lemmas.List.{length-drop}
 use Rattle.std.proofs.lemmas.List.Sums.{split_at_first, passes_at_first}
 use Rattle.hex.specs.Hex.{IsBytes, decode_of}
 use Rattle.hex.specs.declared.error.FromHexError.{FromHexError}
@@ -16,10 +17,10 @@ use Rattle.line_tokens.specs.declared.fault.LineFault.{LineFault}
 use Rattle.line_tokens.specs.declared.fault.LineFault.TheVariants as faults
 use Rattle.line_tokens.specs.Tokens.{is_blank, is_quote, after_blanks, ends_well, Front, quoted_at, plain_at, token_at, and_behind, tokens_of}
 use Rattle.line_tokens.specs.Said.{is_plain, is_hex, decoded, said, said_in}
-use Rattle.line_tokens.specs.Parts.{Took, Part, and_then, or_fault, word, literal, number, number_of, signed, signed_of, digits_value, is_digit, is_name, name_of, name, ended}
+use Rattle.line_tokens.specs.Parts.{Took, Part, and_then, or_fault, word, literal, number, number_of, signed, signed_of, dots_at, both_of, range, range_of, digits_value, is_digit, is_name, name_of, name, ended}
 use Rattle.line_tokens.specs.Pool.{gather, literal_of, literals_of}
-use Rattle.line_tokens.specs.Spelling.{not_blank, Shows, is_silent, SaysNothing, Begins, LineSays, Writes, WritesMinus, WritesPlus, WritesSigned}
-use Rattle.line_tokens.proofs.TestLaws.{front_passes}
+use Rattle.line_tokens.specs.Spelling.{not_blank, Shows, is_silent, SaysNothing, Begins, LineSays, Writes, WritesMinus, WritesPlus, WritesSigned, WritesRange}
+use Rattle.line_tokens.proofs.TestLaws.{front_passes, split_at_dots}
 use Rattle.line_tokens.proofs.LexLaws.{tokens_once}
 use Rattle.line_tokens.proofs.PoolLaws.{literals_through, lines_through}
 
@@ -329,6 +330,21 @@ signed_writes limit (b ∷ w) z e = from (eqb b 45) refl e
     from true k h = inl (subst (λ (c : ℕ). WritesMinus limit (c ∷ w) z) (sym (eqb-true b 45 k)) (writes_minus limit w z (number_of (limit + 1) w) refl h))
     from false k h = inr (writes_plus limit (b ∷ w) z (number_of limit (b ∷ w)) refl h)
 
+-- the word of a range
+range_writes : (w : List ℕ) (r : ℕ × ℕ) → range_of w ≡ Some r → WritesRange w r.0 r.1
+unfolding range_of
+range_writes w r e = from (number_of 255 (take (dots_at w) w)) (number_of 255 (drop (dots_at w + 2) w)) refl refl e
+  where
+    from : (o p : Option ℕ) → number_of 255 (take (dots_at w) w) ≡ o → number_of 255 (drop (dots_at w + 2) w) ≡ p → both_of o p ≡ Some r → WritesRange w r.0 r.1
+    from None p x y k = cc
+    from (Some low) None x y k = cc
+    from (Some low) (Some high) x y k =
+        let behind = writes 255 (drop (dots_at w + 2) w) high y in
+        let some = behind.some in
+        let enough : dots_at w + 2 ≤ length w = omega (arith, some, length-drop (dots_at w + 2) w) in
+        let same : (low, high) ≡ r = cc in
+        subst (λ (q : ℕ × ℕ). WritesRange w q.0 q.1) same (record { before = take (dots_at w) w; behind = drop (dots_at w + 2) w; parts = split_at_dots w enough; writes_low = writes 255 (take (dots_at w) w) low x; writes_high = behind })
+
 -- a line that begins with a signed number
 pub record SignedFirst (limit : ℕ) (line : List Said) (t : Took ℤ) : Type 0 where
   pub digits : List ℕ
@@ -343,6 +359,21 @@ signed_is limit (Word w ∷ line) t e =
     record { digits = w; parts = ap (λ (l : List Said). Word w ∷ l) k.1; writes = signed_writes limit w t.value k.0 }
 signed_is limit (Literal bytes ∷ line) t e = cc
 signed_is limit (Bad ∷ line) t e = cc
+
+-- a line that begins with a range
+pub record RangeFirst (line : List Said) (t : Took (ℕ × ℕ)) : Type 0 where
+  pub digits : List ℕ
+  pub parts : line ≡ Word digits ∷ t.rest
+  pub writes : WritesRange digits t.value.0 t.value.1
+
+pub range_is : (line : List Said) (t : Took (ℕ × ℕ)) → range line ≡ Ok t → RangeFirst line t
+unfolding range
+range_is [] t e = cc
+range_is (Word w ∷ line) t e =
+    let k = or_fault_is faults.Number (range_of w) line t e in
+    record { digits = w; parts = ap (λ (l : List Said). Word w ∷ l) k.1; writes = range_writes w t.value k.0 }
+range_is (Literal bytes ∷ line) t e = cc
+range_is (Bad ∷ line) t e = cc
 
 text_bytes : (bytes : List ℕ) → list_all (λ b. nat_lt 0 b) bytes ≡ true → IsBytes bytes → AllByRecursion IsTextByte bytes
 text_bytes [] e h = tt

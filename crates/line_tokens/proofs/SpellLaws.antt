@@ -1,5 +1,5 @@
 -- What a text spells is read from it.
-use Rattle.std.proofs.Common.{◌≡◌, ◌<◌, ◌+◌, ℕ, suc, true, false, eqb, eqb-true, ltb, not, List, [], ◌∷◌, ◌++◌, length, drop, map, Some, None, Ok, refl, sym, ap, ◌∙◌, append_assoc, arith, inl, inr, ℤ}
+use Rattle.std.proofs.Common.{◌≡◌, ◌<◌, ◌+◌, ℕ, suc, true, false, eqb, eqb-true, ltb, not, List, [], ◌∷◌, ◌++◌, length, take, drop, map, Some, None, Ok, refl, sym, ap, ◌∙◌, append_assoc, arith, inl, inr, ℤ}
 use Rattle.std.specs.Prelude.{nat_lt, nat_le, ◌&&◌}
 use Rattle.std.specs.List.{list_all, prefix_len, AllByRecursion}
 use Rattle.std.proofs.lemmas.Bool.{lt-ltb, le-leb, and_parts}
@@ -13,11 +13,11 @@ use Rattle.line_tokens.specs.declared.cursor.Said.{Said}
 use Rattle.line_tokens.specs.declared.cursor.Said.TheVariants.{Word, Literal, Bad}
 use Rattle.line_tokens.specs.Tokens.{is_blank, is_quote, after_blanks, ends_well, Front, quoted_at, plain_at, token_at, and_behind, tokens_of}
 use Rattle.line_tokens.specs.Said.{is_plain, is_hex, decoded, said, said_in}
-use Rattle.line_tokens.specs.Parts.{is_digit, word, literal, number, number_of, signed, signed_of, name_of, name}
+use Rattle.line_tokens.specs.Parts.{is_digit, word, literal, number, number_of, signed, signed_of, dots_at, range, range_of, name_of, name}
 use Rattle.line_tokens.specs.Pool.{Grown, and_then, gather, literal_of, literals_of}
 use Rattle.line_tokens.specs.Printing.{is_open}
-use Rattle.line_tokens.specs.Spelling.{not_blank, is_word, Shows, is_silent, SaysNothing, LineSays, Writes, WritesSigned}
-use Rattle.line_tokens.proofs.TestLaws.{not_true, differs, list_all_weaker, not_quote, not_blank_of, first_behind, blank_behind}
+use Rattle.line_tokens.specs.Spelling.{not_blank, is_word, Shows, is_silent, SaysNothing, LineSays, Writes, WritesSigned, WritesRange}
+use Rattle.line_tokens.proofs.TestLaws.{not_true, differs, list_all_weaker, not_quote, not_blank_of, first_behind, blank_behind, no_dots}
 use Rattle.line_tokens.proofs.LexLaws.{tokens_once, tokens_end, tokens_front, tokens_nothing}
 use Rattle.line_tokens.proofs.NameLaws.{name_passes}
 use Rattle.line_tokens.proofs.GatherLaws.{gather_on, gather_none, literals_none, literals_on}
@@ -173,6 +173,26 @@ signed_again limit z (b ∷ w) (inr h) =
 pub signed_read : (limit : ℕ) (z : ℤ) (w : List ℕ) (line : List Said) → WritesSigned limit w z → signed limit (Word w ∷ line) ≡ Ok (record { value = z; rest = line })
 unfolding signed
 signed_read limit z w line h = let k = signed_again limit z w h in rw k refl
+
+-- no `..` stands in digits, so that the first is behind them
+dots_behind : (w rest : List ℕ) → list_all is_digit w ≡ true → dots_at (w ++ 46 ∷ 46 ∷ rest) ≡ length w
+dots_behind [] rest h = refl
+dots_behind (b ∷ w) rest h =
+    let g = and_parts (is_digit b) (list_all is_digit w) h in
+    no_dots b (w ++ 46 ∷ 46 ∷ rest) (differs is_digit 46 b refl g.0) ∙ ap suc (dots_behind w rest g.1)
+
+range_again : (low high : ℕ) (w : List ℕ) → WritesRange w low high → range_of w ≡ Some (low, high)
+unfolding range_of
+range_again low high w h =
+    let at = dots_behind h.before h.behind h.writes_low.digits in
+    let before : take (length h.before) (h.before ++ 46 ∷ 46 ∷ h.behind) ≡ h.before = take_at h.before (46 ∷ 46 ∷ h.behind) (length h.before) refl in
+    let grouped : h.before ++ 46 ∷ 46 ∷ h.behind ≡ (h.before ++ 46 ∷ 46 ∷ []) ++ h.behind = sym (append_assoc h.before (46 ∷ 46 ∷ []) h.behind) in
+    let behind : drop (length h.before + 2) (h.before ++ 46 ∷ 46 ∷ h.behind) ≡ h.behind = ap (drop (length h.before + 2)) grouped ∙ drop_at (h.before ++ 46 ∷ 46 ∷ []) h.behind (length h.before + 2) (length-append h.before (46 ∷ 46 ∷ [])) in
+    rw (h.parts, at, before, behind, number_again 255 low h.before h.writes_low, number_again 255 high h.behind h.writes_high) refl
+
+pub range_read : (low high : ℕ) (w : List ℕ) (line : List Said) → WritesRange w low high → range (Word w ∷ line) ≡ Ok (record { value = (low, high); rest = line })
+unfolding range
+range_read low high w line h = let k = range_again low high w h in rw k refl
 
 pub literal_read : (bytes : List ℕ) (line : List Said) → literal (Literal bytes ∷ line) ≡ Ok (record { value = bytes; rest = line })
 unfolding literal

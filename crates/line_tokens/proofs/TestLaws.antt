@@ -1,9 +1,10 @@
 -- Tests of bytes, and of lists of them.
-use Rattle.std.proofs.Common.{◌≡◌, ℕ, suc, Bool, true, false, cond, ◌+◌, eqb, not, List, [], ◌∷◌, ◌++◌, length, take, refl, ap, ◌∙◌, arith}
+use Rattle.std.proofs.Common.{◌≡◌, ◌≤◌, ◌<◌, ℕ, suc, Bool, true, false, cond, ◌+◌, eqb, eqb-true, not, List, [], ◌∷◌, ◌++◌, length, get_or, take, drop, drop-cons, refl, ap, ◌∙◌, arith}
 use Rattle.std.specs.List.{list_all, position_or_len, prefix_len}
 use Rattle.std.proofs.lemmas.Bool.{ne_eqb, and_parts, and_from}
 use Rattle.line_tokens.specs.Lines.{is_feed}
 use Rattle.line_tokens.specs.Tokens.{is_blank, is_quote, ends_well}
+use Rattle.line_tokens.specs.Parts.{is_dots, dots_at}
 use Rattle.line_tokens.specs.Spelling.{not_blank}
 
 pub not_true : (b : Bool) → not b ≡ true → b ≡ false
@@ -66,3 +67,39 @@ front_passes p (x ∷ xs) = from (front_passes p xs) (p x) refl
     from : list_all p (take (prefix_len p xs) xs) ≡ true → (b : Bool) → p x ≡ b → list_all p (take (cond b (1 + prefix_len p xs) 0) (x ∷ xs)) ≡ true
     from h true e = let n : 1 + prefix_len p xs ≡ suc (prefix_len p xs) = omega arith in rw (n, e, h) refl
     from h false e = refl
+
+-- ---- the first `..`
+
+-- `..`, and what stands behind it
+are_dots : (w : List ℕ) → is_dots w ≡ true → w ≡ 46 ∷ 46 ∷ drop 2 w
+are_dots [] e = cc
+are_dots (b ∷ []) e = cc
+are_dots (b ∷ c ∷ w) e =
+    let h = and_parts (eqb b 46) (eqb c 46) e in
+    rw (eqb-true b 46 h.0, eqb-true c 46 h.1) refl
+
+-- a place where no `..` stands is passed
+passed : (b : ℕ) (w : List ℕ) → is_dots (b ∷ w) ≡ false → dots_at (b ∷ w) ≡ suc (dots_at w)
+passed b w e = rw e refl
+
+pub dots_on : (at : ℕ) (w : List ℕ) → at < length w → is_dots (drop at w) ≡ false → at + 1 + dots_at (drop (at + 1) w) ≡ at + dots_at (drop at w)
+dots_on at w l e =
+    let d = drop-cons w at 0 l in
+    let n : at + 1 ≡ suc at = omega arith in
+    let p : dots_at (drop at w) ≡ suc (dots_at (drop (at + 1) w)) = rw n (ap dots_at d ∙ passed (get_or w at 0) (drop (suc at) w) (rw d at e)) in
+    omega (arith, p)
+
+pub no_dots : (b : ℕ) (w : List ℕ) → eqb b 46 ≡ false → dots_at (b ∷ w) ≡ suc (dots_at w)
+no_dots b [] e = refl
+no_dots b (c ∷ w) e = rw e refl
+
+-- what stands before it, `..`, and what stands behind it
+pub split_at_dots : (w : List ℕ) → dots_at w + 2 ≤ length w → w ≡ take (dots_at w) w ++ 46 ∷ 46 ∷ drop (dots_at w + 2) w
+split_at_dots [] h = absurd (omega arith)
+split_at_dots (b ∷ w) h = from (split_at_dots w) (is_dots (b ∷ w)) refl h
+  where
+    from : (dots_at w + 2 ≤ length w → w ≡ take (dots_at w) w ++ 46 ∷ 46 ∷ drop (dots_at w + 2) w) → (t : Bool) → is_dots (b ∷ w) ≡ t → cond t 0 (suc (dots_at w)) + 2 ≤ suc (length w) → b ∷ w ≡ take (cond t 0 (suc (dots_at w))) (b ∷ w) ++ 46 ∷ 46 ∷ drop (cond t 0 (suc (dots_at w)) + 2) (b ∷ w)
+    from more true e l = are_dots (b ∷ w) e
+    from more false e l =
+        let n : suc (dots_at w) + 2 ≡ suc (dots_at w + 2) = omega arith in
+        rw n (ap (λ (v : List ℕ). b ∷ v) (more (omega (arith, l))))

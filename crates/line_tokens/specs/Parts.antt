@@ -1,5 +1,5 @@
 -- The parts of a line, which are read from left to right, up to the first fault.
-use Rattle.std.specs.Prelude.{◌≡◌, ℕ, ℤ, pos, neg_ℤ, ◌+◌, ◌*◌, ◌-◌, List, [], ◌∷◌, length, fold, Option, Some, None, option_map, Result, Ok, Err, Bool, ◌==◌, ◌&&◌, nat_le, nat_lt, if◌then◌else◌}
+use Rattle.std.specs.Prelude.{◌≡◌, ℕ, suc, ℤ, pos, neg_ℤ, ◌+◌, ◌*◌, ◌-◌, List, [], ◌∷◌, length, take, drop, bytes_eq, fold, Option, Some, None, option_map, Result, Ok, Err, Bool, false, ◌==◌, ◌&&◌, nat_le, nat_lt, if◌then◌else◌}
 use Rattle.std.specs.List.{list_all}
 use Rattle.line_tokens.specs.declared.cursor.Said.{Said}
 use Rattle.line_tokens.specs.declared.cursor.Said.TheVariants.{Word, Literal, Bad}
@@ -50,6 +50,13 @@ literal (Word w ∷ line) = Err faults.Syntax
 literal (Literal bytes ∷ line) = Ok (record { value = bytes; rest = line })
 literal (Bad ∷ line) = Err faults.Syntax
 
+-- whether the next token is this word
+abbrev pub is_next : List ℕ → List Said → Bool
+is_next w [] = false
+is_next w (Word v ∷ line) = bytes_eq v w
+is_next w (Literal bytes ∷ line) = false
+is_next w (Bad ∷ line) = false
+
 -- the line's end
 unfoldable pub ended : {X : Type 0} → X → Part X
 ended x [] = Ok (record { value = x; rest = [] })
@@ -86,6 +93,31 @@ signed_of limit (b ∷ w) = if b == 45 then option_map (λ n. neg_ℤ (pos n)) (
 -- a signed number
 unfoldable pub signed : ℕ → Part ℤ
 signed limit = numeral (signed_of limit)
+
+-- whether `..` stands at the front
+abbrev pub is_dots : List ℕ → Bool
+is_dots [] = false
+is_dots (b ∷ []) = false
+is_dots (b ∷ c ∷ w) = b == 46 && c == 46
+
+-- where the first `..` stands, or the length where there is none
+abbrev pub dots_at : List ℕ → ℕ
+dots_at [] = 0
+dots_at (b ∷ w) = if is_dots (b ∷ w) then 0 else suc (dots_at w)
+
+-- two numbers, where both are there
+abbrev pub both_of : Option ℕ → Option ℕ → Option (ℕ × ℕ)
+both_of None high = None
+both_of (Some low) None = None
+both_of (Some low) (Some high) = Some (low, high)
+
+-- `LO..HI`, split at its first `..`, where each end is a number up to 255
+unfoldable pub range_of : List ℕ → Option (ℕ × ℕ)
+range_of w = both_of (number_of 255 (take (dots_at w) w)) (number_of 255 (drop (dots_at w + 2) w))
+
+-- a range, in one token
+unfoldable pub range : Part (ℕ × ℕ)
+range = numeral range_of
 
 -- ---- names
 

@@ -4,7 +4,7 @@ use Rattle.std.specs.Fmt.{signed_decimal}
 use Rattle.std.specs.List.{list_all, join_with_byte}
 use Rattle.hex.specs.Hex.{encode_lower}
 use Rattle.line_tokens.specs.declared.printing.Piece.{Piece}
-use Rattle.line_tokens.specs.declared.printing.Piece.TheVariants.{Number, Signed, Word, Name, Hex}
+use Rattle.line_tokens.specs.declared.printing.Piece.TheVariants.{Number, Signed, Range, Word, Name, Hex}
 use Rattle.line_tokens.specs.Tokens.{is_quote}
 use Rattle.line_tokens.specs.Said.{is_plain}
 
@@ -20,10 +20,11 @@ hex_literal bytes = 120 ∷ encode_lower bytes
 unfoldable pub name_text : List ℕ → List ℕ
 name_text bytes = if list_all is_open bytes then 34 ∷ bytes ++ 34 ∷ [] else hex_literal bytes
 
--- a number has no leading zeros, and a word stands as it is
+-- a number has no leading zeros, `..` stands between the ends of a range, and a word stands as it is
 unfoldable pub spelled : Piece → List ℕ
 spelled (Number n) = decimal n
 spelled (Signed z) = signed_decimal z
+spelled (Range low high) = decimal low ++ 46 ∷ 46 ∷ decimal high
 spelled (Word bytes) = bytes
 spelled (Name bytes) = name_text bytes
 spelled (Hex bytes) = hex_literal bytes

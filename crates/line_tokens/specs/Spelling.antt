@@ -91,6 +91,14 @@ pub record WritesPlus (limit : ℕ) (word : List ℕ) (z : ℤ) : Type 0 where
 abbrev pub WritesSigned : ℕ → List ℕ → ℤ → Type 0
 WritesSigned limit word z = WritesMinus limit word z ⊎ WritesPlus limit word z
 
+-- a number up to 255, `..`, and another
+pub record WritesRange (word : List ℕ) (low high : ℕ) : Type 0 where
+  pub before : List ℕ
+  pub behind : List ℕ
+  pub parts : word ≡ before ++ 46 ∷ 46 ∷ behind
+  pub writes_low : Writes 255 before low
+  pub writes_high : Writes 255 behind high
+
 -- from one below minus the limit up to the limit
 abbrev pub IsWithin : ℕ → ℤ → Type 0
 IsWithin limit (pos n) = n ≤ limit

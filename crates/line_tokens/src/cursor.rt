@@ -2,10 +2,10 @@
 ghost use Rattle.std.specs.Prelude.{◌≡◌, ◌≤◌, ◌≤ℤ◌, ◌+ℤ◌, pos, neg_ℤ, ◌↔◌, List, [], ◌∷◌, MatchOption, take, ℕ, IfOk, OnOk, IsTrue};
 ghost use Rattle.line_tokens.specs.Said.{left_over, size_of, said_over, is_hex};
 ghost use Rattle.line_tokens.specs.Tokens.{tokens_of};
-ghost use Rattle.line_tokens.specs.Parts.{Reads, word, literal, number, signed, name, name_of, ended};
+ghost use Rattle.line_tokens.specs.Parts.{Reads, is_next, word, literal, number, signed, range, name, name_of, ended};
 
 use crate::fault::LineFault;
-use crate::numbers::{number_of, signed_of};
+use crate::numbers::{number_of, range_of, signed_of};
 use crate::tokens::{Token, Tokens};
 use sf_base::{Lent, Name20, front_of, rest_from};
 use std::marker::Model;
@@ -72,6 +72,17 @@ impl<'t, 'p> Cursor<'t, 'p> {
         self.first.is_none()
     }
 
+    /// Whether the next token is this word. Neither a literal nor the line's end is one.
+    #[tactic(auto, unfolding(crate::specs::Said::said_over))]
+    pub fn is_next(&self, word: &[u8]) -> bool
+        ensures { result ≡ is_next word.now self.now.said }
+    {
+        match &self.first {
+            Some(Token::Plain(plain)) => !is_hex(plain.bytes()) && plain.bytes() == word,
+            _ => false,
+        }
+    }
+
     /// The pool behind the line, at the line's end.
     pub fn pool(&self) -> &'p [u8]
         requires { self.now.said ≡ [] }
@@ -126,6 +137,19 @@ impl<'t, 'p> Cursor<'t, 'p> {
     {
         match self.next() {
             Some(Said::Word(word)) => signed_of(word.bytes(), limit).ok_or(LineFault::Number),
+            Some(_) => Err(LineFault::Number),
+            None => Err(LineFault::Syntax),
+        }
+    }
+
+    /// A range `LO..HI` in one token, both ends from 0 to 255 and in any order. Any other token is a
+    /// fault of number, and the line's end one of syntax.
+    #[tactic(auto, unfolding(crate::specs::Parts::range))]
+    pub fn range(&mut self) -> Result<(u8, u8), LineFault>
+        ensures { Reads (λ r. r) range self.old self.new result }
+    {
+        match self.next() {
+            Some(Said::Word(word)) => range_of(word.bytes()).ok_or(LineFault::Number),
             Some(_) => Err(LineFault::Number),
             None => Err(LineFault::Syntax),
         }

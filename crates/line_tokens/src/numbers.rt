@@ -1,9 +1,9 @@
 //! Numbers in decimal digits.
 ghost use Rattle.std.specs.Prelude.{◌≡◌, ◌≤◌, ◌≤ℤ◌, ◌+ℤ◌, pos, neg_ℤ, true, length, IfSome};
 ghost use Rattle.std.specs.List.{list_all};
-ghost use Rattle.line_tokens.specs.Parts.{is_digit, digits_value, number_of, signed_of};
+ghost use Rattle.line_tokens.specs.Parts.{is_digit, digits_value, number_of, signed_of, is_dots, dots_at, range_of};
 
-use sf_base::rest_from;
+use sf_base::{front_of, rest_from};
 
 // The number of 1 to 10 digits, if it is within the limit.
 #[tactic(auto, unfolding(crate::specs::Parts::number_of))]
@@ -37,6 +37,37 @@ pub fn signed_of(word: &[u8], limit: u16) -> Option<i32>
     }
     let value = number_of(word, u32::from(limit))?;
     Some(value as i32)
+}
+
+// The two ends of a range: the numbers before and behind the first `..`.
+#[tactic(auto, unfolding(crate::specs::Parts::range_of))]
+pub(crate) fn range_of(word: &[u8]) -> Option<(u8, u8)>
+    ensures { result ≡ range_of word.now }
+{
+    let dots = dots_at(word);
+    let low = number_of(front_of(word, dots), 255)?;
+    let high = number_of(rest_from(word, dots + 2), 255)?;
+    Some((low as u8, high as u8))
+}
+
+// Where the first `..` stands, or the length where there is none.
+#[tactic(auto, using(crate::proofs::TestLaws::dots_on))]
+fn dots_at(word: &[u8]) -> usize
+    ensures at { result ≡ dots_at word.now }
+    ensures within { result ≤ length word.now }
+{
+    let mut at = 0;
+    while at < word.len() && !is_dots(rest_from(word, at)) {
+        at += 1;
+    }
+    at
+}
+
+// Whether `..` stands at the front.
+fn is_dots(bytes: &[u8]) -> bool
+    ensures { result ≡ is_dots bytes.now }
+{
+    bytes.len() >= 2 && bytes[0] == b'.' && bytes[1] == b'.'
 }
 
 fn all_digits(word: &[u8]) -> bool

@@ -1,5 +1,5 @@
 //! Lines that are printed.
-ghost use Rattle.std.specs.Prelude.{◌≡◌, ◌++◌, ◌∷◌, []};
+ghost use Rattle.std.specs.Prelude.{◌≡◌, ◌++◌, ◌∷◌, [], decimal};
 ghost use Rattle.std.specs.List.{list_all, flat_map};
 ghost use Rattle.hex.specs.Hex.{encode_lower};
 ghost use Rattle.sf_base.specs.Output.{Puts};
@@ -18,6 +18,8 @@ pub enum Piece<'a> {
     Number(u64),
     /// A number, in decimal digits with `-` before them where it is below zero.
     Signed(i64),
+    /// The ends of a range, in decimal digits with `..` between them.
+    Range(u8, u8),
     /// A word that stands as it is.
     Word(Lent<'a>),
     /// Bytes as a literal: between quotes where they all are from 0x20 to 0x7e and no quote, and else
@@ -67,10 +69,22 @@ fn put_piece<W: Write>(piece: &Piece<'_>, output: &mut Output<'_, W>)
             let mut digits = Buffer::new();
             output.put(digits.format(*number).as_bytes());
         }
+        Piece::Range(low, high) => put_range(*low, *high, output),
         Piece::Word(word) => output.put(word.bytes()),
         Piece::Name(name) => put_name(name.bytes(), output),
         Piece::Hex(bytes) => put_hex(bytes.slices(), output),
     }
+}
+
+// The two ends, with `..` between them.
+#[tactic(auto, using(sf_base::proofs::OutputLaws::puts_then))]
+fn put_range<W: Write>(low: u8, high: u8, output: &mut Output<'_, W>)
+    ensures { Puts W.contents output.old output.new (decimal low ++ 46 ∷ 46 ∷ decimal high) }
+{
+    let mut digits = Buffer::new();
+    output.put(digits.format(low).as_bytes());
+    output.put(b"..");
+    output.put(digits.format(high).as_bytes());
 }
 
 // Bytes between quotes, where they all stand for themselves, and else in hex digits.
