@@ -1,6 +1,5 @@
 pub mod ScriptLaws
 pub mod NameLaws
-pub mod OperandLaws
 pub mod PutLaws
 pub mod SpellLaws
 pub mod ReadLaws

@@ -1,12 +1,5 @@
 -- The printed lines of edits spell those edits.
-use Rattle.std.proofs.Common.{◌≡◌, ◌≤◌, ◌<◌, ◌^◌, ◌++◌, ℕ, ℤ, pos, negsuc, suc, List, [], ◌∷◌, map, Option, Some, None, Ok, refl, sym, subst, arith, lit<, inr, FitsSigned}
-use Rattle.std.specs.Int.{w8}
-use Rattle.bank_parts.specs.declared.texts.InfoId.{InfoId}
-use Rattle.bank_parts.specs.declared.texts.InfoId.TheVariants as id
-use Rattle.bank_parts.specs.declared.parts.Kind.{Kind}
-use Rattle.bank_parts.specs.declared.parts.Kind.TheVariants.{Mono, Right, Left, Linked}
-use Rattle.bank_parts.specs.declared.parts.Sample.{Sample}
-use Rattle.bank_parts.specs.Fits.{FitsKind, FitsLoop, FitsSample}
+use Rattle.std.proofs.Common.{◌≡◌, ◌++◌, ℕ, suc, List, [], ◌∷◌, map, Ok, refl, sym, subst, inr}
 use Rattle.bank_edits.specs.declared.edit.Step.{Step}
 use Rattle.bank_edits.specs.declared.edit.Step.TheVariants.{MovePreset, RenameInstrument, MoveInstrument, RenameSample, AddSample, RemoveSample, MoveSample, SetInfo}
 use Rattle.bank_edits.specs.declared.edit.Edit.{Edit}
@@ -14,33 +7,21 @@ use Rattle.bank_edits.specs.declared.edit.Edit.TheVariants.{One}
 use Rattle.bank_edits.specs.Steps.{FitsStep}
 use Rattle.line_tokens.specs.declared.cursor.Said.TheVariants as says
 use Rattle.line_tokens.specs.Lines.{lines_of}
-use Rattle.line_tokens.specs.Spelling.{IsWithin}
 use Rattle.line_tokens.proofs.LexLaws.{lines_none}
 use Rattle.line_tokens.proofs.PieceLaws.{meant, line, line_says, line_first}
 use Rattle.edit_script.specs.declared.forms.Form.{Form}
 use Rattle.edit_script.specs.declared.forms.Form.TheVariants as form
-use Rattle.edit_script.specs.Operands.{pieces_of}
-use Rattle.edit_script.specs.Samples.{kind_operands, loop_operands, head_operands}
-use Rattle.edit_script.specs.Texts.{id_word}
+use Rattle.script_grammar.specs.Operands.{pieces_of}
 use Rattle.edit_script.specs.Grammar.{form_word, form_of, operands}
 use Rattle.edit_script.specs.Script.{script_of}
 use Rattle.edit_script.specs.Printing.{text_of, texts_of, numbered, AllFit}
 use Rattle.edit_script.specs.Spelling.{LinesSay, Spells}
-use Rattle.edit_script.proofs.OperandLaws as operand
-use Rattle.edit_script.proofs.OperandLaws.{IsFixed, all_spoken, all_say, both_fit}
+use Rattle.script_grammar.proofs.OperandLaws as operand
+use Rattle.script_grammar.proofs.OperandLaws.{IsFixed, all_spoken, all_say}
+use Rattle.script_grammar.proofs.FitLaws.{word32, body_fit, id_fixed}
 use Rattle.edit_script.proofs.SpellLaws.{spelled_read}
 
 -- ---- words
-
-id_fixed : (i : InfoId) → IsFixed (id_word i)
-id_fixed id.Engine = (refl, refl)
-id_fixed id.Name = (refl, refl)
-id_fixed id.Date = (refl, refl)
-id_fixed id.Engineers = (refl, refl)
-id_fixed id.Product = (refl, refl)
-id_fixed id.Copyright = (refl, refl)
-id_fixed id.Comment = (refl, refl)
-id_fixed id.Software = (refl, refl)
 
 form_fixed : (f : Form) → IsFixed (form_word f)
 form_fixed form.MovePreset = (refl, refl)
@@ -54,37 +35,12 @@ form_fixed form.SetInfo = (refl, refl)
 
 -- ---- what an edit says can be said
 
-word32 : (n : ℕ) → n < 2 ^ 32 → (n ≤ 4294967295) × (4294967295 < 2 ^ 32)
-word32 n h = (omega (arith, h), lit< tt)
-
-word16 : (n : ℕ) → n < 2 ^ 16 → (n ≤ 65535) × (65535 < 2 ^ 32)
-word16 n h = (omega (arith, h), lit< tt)
-
-kind_fit : (k : Kind) → FitsKind k → operand.AllFit (kind_operands k)
-kind_fit Mono h = ((refl, refl), tt)
-kind_fit (Right link) h = ((refl, refl), (word16 link h, tt))
-kind_fit (Left link) h = ((refl, refl), (word16 link h, tt))
-kind_fit (Linked link) h = ((refl, refl), (word16 link h, tt))
-
-loop_fit : (l : Option (ℕ × ℕ)) → FitsLoop l → operand.AllFit (loop_operands l)
-loop_fit None h = ((refl, refl), tt)
-loop_fit (Some l) h = ((refl, refl), (word32 l.0 h.0, (word32 l.1 h.1, tt)))
-
-cents : (z : ℤ) → FitsSigned w8 z → IsWithin 127 z
-cents (pos n) v = let h : n < 2 ^ 7 = v.sfits in omega (arith, h)
-cents (negsuc n) v = let h : n < 2 ^ 7 = v.sfits in omega (arith, h)
-
-head_fit : (s : Sample) → FitsSample s → operand.AllFit (head_operands s)
-head_fit s h =
-    let key = h.key in
-    (h.name, (word32 s.rate h.rate, ((omega (arith, key), lit< tt), ((cents s.correction h.correction, lit< tt), both_fit (kind_operands s.kind) (loop_operands s.looped) (kind_fit s.kind h.kind) (loop_fit s.looped h.looped)))))
-
 operands_fit : (s : Step) → FitsStep s → operand.AllFit (operands s)
 operands_fit (MovePreset from to) h = (word32 from h.0, (word32 to h.1, tt))
 operands_fit (RenameInstrument instrument name) h = (word32 instrument h.0, (h.1, tt))
 operands_fit (MoveInstrument from to) h = (word32 from h.0, (word32 to h.1, tt))
 operands_fit (RenameSample sample name) h = (word32 sample h.0, (h.1, tt))
-operands_fit (AddSample at s) h = (word32 at h.0, both_fit (head_operands s) _ (head_fit s h.1) (h.1.points, tt))
+operands_fit (AddSample at s) h = (word32 at h.0, body_fit s h.1)
 operands_fit (RemoveSample sample) h = (word32 sample h, tt)
 operands_fit (MoveSample from to) h = (word32 from h.0, (word32 to h.1, tt))
 operands_fit (SetInfo i text) h = (id_fixed i, (h, tt))

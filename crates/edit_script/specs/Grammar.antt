@@ -9,8 +9,10 @@ use Rattle.line_tokens.specs.declared.fault.LineFault.TheVariants as faults
 use Rattle.line_tokens.specs.Parts.{Part, ◌>>=◌, or_fault, word, ended}
 use Rattle.edit_script.specs.declared.forms.Form.{Form}
 use Rattle.edit_script.specs.declared.forms.Form.TheVariants as form
-use Rattle.edit_script.specs.Operands.{Operand, Fixed, Number, Text}
-use Rattle.edit_script.specs.Names.{named}
+use Rattle.script_grammar.specs.Operands.{Operand, Fixed, Number, Text}
+use Rattle.script_grammar.specs.Names.{named}
+use Rattle.script_grammar.specs.Samples.{body_operands}
+use Rattle.script_grammar.specs.Texts.{id_word}
 use Rattle.edit_script.specs.Members as members
 use Rattle.edit_script.specs.Samples as samples
 use Rattle.edit_script.specs.Texts as texts
@@ -50,10 +52,10 @@ operands (MovePreset from to) = members.moved_operands from to
 operands (RenameInstrument instrument name) = members.named_operands instrument name
 operands (MoveInstrument from to) = members.moved_operands from to
 operands (RenameSample sample name) = members.named_operands sample name
-operands (AddSample at sample) = Number 4294967295 at ∷ samples.body_operands sample
+operands (AddSample at sample) = Number 4294967295 at ∷ body_operands sample
 operands (RemoveSample sample) = Number 4294967295 sample ∷ []
 operands (MoveSample from to) = members.moved_operands from to
-operands (SetInfo id text) = Fixed (texts.id_word id) ∷ Text text ∷ []
+operands (SetInfo id text) = Fixed (id_word id) ∷ Text text ∷ []
 
 -- how it is read
 abbrev pub operands_read : Form → Part Step

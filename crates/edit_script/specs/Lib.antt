@@ -1,5 +1,4 @@
-pub mod Operands
-pub mod Names
+pub use Rattle.script_grammar.specs.Operands
 pub mod Members
 pub mod Samples
 pub mod Texts

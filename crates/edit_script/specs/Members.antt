@@ -2,7 +2,7 @@
 use Rattle.std.specs.Prelude.{ℕ, List, [], ◌∷◌}
 use Rattle.bank_edits.specs.declared.edit.Step.{Step}
 use Rattle.line_tokens.specs.Parts.{Part, ◌>>=◌, pure, number, name}
-use Rattle.edit_script.specs.Operands.{Operand, Number, Name}
+use Rattle.script_grammar.specs.Operands.{Operand, Number, Name}
 
 -- `I NAME`
 abbrev pub named_operands : ℕ → List ℕ → List Operand

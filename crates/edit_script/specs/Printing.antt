@@ -6,7 +6,7 @@ use Rattle.bank_edits.specs.declared.edit.Edit.TheVariants.{One}
 use Rattle.bank_edits.specs.Edits.{FitsEdit}
 use Rattle.line_tokens.specs.Printing.{line_text}
 use Rattle.edit_script.specs.declared.parsing.Line.{Line}
-use Rattle.edit_script.specs.Operands.{pieces_of}
+use Rattle.script_grammar.specs.Operands.{pieces_of}
 use Rattle.edit_script.specs.Grammar.{form_word, form_of, operands}
 
 -- the line of an edit, with its line feed

@@ -1,85 +1,9 @@
--- The forms that edit samples: what is read behind their words, and what they say.
-use Rattle.std.specs.Prelude.{ℕ, ℤ, ◌%◌, List, [], ◌∷◌, ◌++◌, length, codes, Option, Some, None, ◌==◌, if◌then◌else◌}
-use Rattle.std.specs.Str.{bytes_eq}
-use Rattle.sample_view.specs.Words.{words}
-use Rattle.bank_parts.specs.declared.parts.Kind.{Kind}
-use Rattle.bank_parts.specs.declared.parts.Kind.TheVariants.{Mono, Right, Left, Linked}
-use Rattle.bank_parts.specs.declared.parts.Sample.{Sample}
+-- The forms that edit samples: what is read behind their words.
 use Rattle.bank_edits.specs.declared.edit.Step.{Step}
 use Rattle.bank_edits.specs.declared.edit.Step.TheVariants.{AddSample, RemoveSample}
-use Rattle.line_tokens.specs.declared.fault.LineFault.TheVariants as faults
-use Rattle.line_tokens.specs.Parts.{Part, ◌>>=◌, pure, or_fault, word, literal, number, signed, name}
-use Rattle.edit_script.specs.Operands.{Operand, Fixed, Number, Signed, Name, Points}
-
--- ---- what stands on the line
-
--- `mono`, `right N`, `left N` or `linked N`
-abbrev pub kind_operands : Kind → List Operand
-kind_operands Mono = Fixed (codes "mono") ∷ []
-kind_operands (Right link) = Fixed (codes "right") ∷ Number 65535 link ∷ []
-kind_operands (Left link) = Fixed (codes "left") ∷ Number 65535 link ∷ []
-kind_operands (Linked link) = Fixed (codes "linked") ∷ Number 65535 link ∷ []
-
--- `noloop` or `loop A B`
-abbrev pub loop_operands : Option (ℕ × ℕ) → List Operand
-loop_operands None = Fixed (codes "noloop") ∷ []
-loop_operands (Some looped) = Fixed (codes "loop") ∷ Number 4294967295 looped.0 ∷ Number 4294967295 looped.1 ∷ []
-
--- all that a sample has but its points: `NAME RATE KEY CORR KIND LOOP`
-abbrev pub head_operands : Sample → List Operand
-head_operands s = Name s.name ∷ Number 4294967295 s.rate ∷ Number 255 s.key ∷ Signed 127 s.correction ∷ (kind_operands s.kind ++ loop_operands s.looped)
-
-abbrev pub body_operands : Sample → List Operand
-body_operands s = head_operands s ++ Points s.points ∷ []
-
--- ---- how it is read
-
-unfoldable pub kind_behind : List ℕ → Part Kind
-kind_behind w =
-    if bytes_eq w (codes "mono") then pure Mono
-    else if bytes_eq w (codes "right") then (number 65535 >>= λ link. pure (Right link))
-    else if bytes_eq w (codes "left") then (number 65535 >>= λ link. pure (Left link))
-    else if bytes_eq w (codes "linked") then (number 65535 >>= λ link. pure (Linked link))
-    else or_fault faults.Syntax None
-
-unfoldable pub kind : Part Kind
-kind = word >>= kind_behind
-
-unfoldable pub loop_behind : List ℕ → Part (Option (ℕ × ℕ))
-loop_behind w =
-    if bytes_eq w (codes "noloop") then pure None
-    else if bytes_eq w (codes "loop") then (number 4294967295 >>= λ a. number 4294967295 >>= λ b. pure (Some (a, b)))
-    else or_fault faults.Syntax None
-
-unfoldable pub looped : Part (Option (ℕ × ℕ))
-looped = word >>= loop_behind
-
--- two bytes for each point
-unfoldable pub points_of : List ℕ → Option (List ℕ)
-points_of bytes = if length bytes % 2 == 0 then Some (words bytes) else None
-
-unfoldable pub points : Part (List ℕ)
-points = do
-  bytes ← literal
-  or_fault faults.Literal (points_of bytes)
-
-abbrev pub sample_of : List ℕ → ℕ → ℕ → ℤ → Kind → Option (ℕ × ℕ) → List ℕ → Sample
-sample_of name rate key correction kind looped points =
-    record { name = name; points = points; looped = looped; rate = rate; key = key; correction = correction; kind = kind }
-
--- `NAME RATE KEY CORR KIND LOOP POINTS`
-unfoldable pub body : Part Sample
-body = do
-  n ← name
-  rate ← number 4294967295
-  key ← number 255
-  correction ← signed 127
-  k ← kind
-  l ← looped
-  p ← points
-  pure (sample_of n rate key correction k l p)
-
--- ---- the forms
+use Rattle.line_tokens.specs.Parts.{Part, ◌>>=◌, pure, number}
+use Rattle.script_grammar.specs.Samples.{body}
+pub use Rattle.script_grammar.specs.Samples.{head_operands}
 
 -- `add-sample S BODY`
 unfoldable pub add_sample : Part Step

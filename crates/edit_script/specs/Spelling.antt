@@ -6,7 +6,7 @@ use Rattle.line_tokens.specs.declared.cursor.Said.{Said}
 use Rattle.line_tokens.specs.Lines.{lines_of}
 use Rattle.line_tokens.specs.Spelling.{SaysNothing, LineSays}
 use Rattle.edit_script.specs.declared.parsing.Line.{Line}
-use Rattle.edit_script.specs.Operands.{Fixed, AllSay}
+use Rattle.script_grammar.specs.Operands.{Fixed, AllSay}
 use Rattle.edit_script.specs.Grammar.{form_word, form_of, operands}
 
 -- what says an edit: the word of its form, and what stands behind it

@@ -4,11 +4,11 @@ ghost use Rattle.sf_base.specs.Writing.{Writes};
 ghost use Rattle.sf_base.specs.Output.{Puts};
 ghost use Rattle.line_tokens.specs.Parts.{Reads};
 ghost use Rattle.line_tokens.specs.Printing.{line_text};
-ghost use Rattle.edit_script.specs.Operands.{pieces_of};
+ghost use Rattle.script_grammar.specs.Operands.{pieces_of};
 ghost use Rattle.edit_script.specs.Grammar.{form_word, form_of, operands, operands_read, step, edit};
 ghost use Rattle.edit_script.specs.Printing.{text_of};
 
-use crate::forms::{Form, named};
+use crate::forms::Form;
 use crate::members::{
     move_instrument, move_preset, move_sample, put_moving, put_renaming, rename_instrument,
     rename_sample,
@@ -17,6 +17,7 @@ use crate::samples::{add_sample, put_add_sample, put_remove_sample, remove_sampl
 use crate::texts::{put_set_info, set_info};
 use bank_edits::{Edit, Step};
 use line_tokens::{Cursor, LineFault};
+use script_grammar::named;
 use sf_base::{Output, WriteFault};
 use std::alloc::Global;
 use std::io::Write;

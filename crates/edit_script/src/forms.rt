@@ -1,53 +1,9 @@
-//! The forms of edits, and what is named by a word.
+//! The forms of edits.
 ghost use Rattle.std.specs.Prelude.{◌≡◌};
-ghost use Rattle.std.specs.Str.{bytes_eq};
-ghost use Rattle.edit_script.specs.Names.{named};
 ghost use Rattle.edit_script.specs.Grammar.{form_word, forms, form_of};
 
 use bank_edits::Step;
-
-/// What has a word of its own.
-pub(crate) trait HasWord: Copy + 'static {
-    ghost use Rattle.std.specs.Prelude.{ℕ, List};
-
-    ghost all: { List Self };
-
-    ghost word_of: { Self → List ℕ };
-
-    /// All that there are.
-    fn all() -> &'static [Self]
-        ensures { result.now ≡ all };
-
-    /// Its word.
-    fn word(self) -> &'static [u8]
-        ensures { result.now ≡ word_of self };
-}
-
-/// The one that a word names, if there is one.
-pub(crate) fn named<T: HasWord>(word: &[u8]) -> Option<T>
-    ensures { result ≡ named T.word_of T.all word.now }
-{
-    first_named(T::all(), word)
-}
-
-// The first of these that a word names.
-fn first_named<T: HasWord>(items: &[T], word: &[u8]) -> Option<T>
-    ensures { result ≡ named T.word_of items.now word.now }
-{
-    for item in items {
-        if says(word, item.word()) {
-            return Some(*item);
-        }
-    }
-    None
-}
-
-/// Whether a word is this one.
-pub(crate) fn says(word: &[u8], text: &[u8]) -> bool
-    ensures { result ≡ bytes_eq word.now text.now }
-{
-    word == text
-}
+use script_grammar::HasWord;
 
 /// A form of edits: one for each kind of step.
 #[derive(Debug, Clone, Copy)]

@@ -4,13 +4,14 @@ ghost use Rattle.sf_base.specs.Output.{Puts};
 ghost use Rattle.bank_edits.specs.declared.edit.Step.TheVariants as step;
 ghost use Rattle.line_tokens.specs.Parts.{Reads};
 ghost use Rattle.line_tokens.specs.Printing.{line_text};
-ghost use Rattle.edit_script.specs.Operands.{pieces_of};
+ghost use Rattle.script_grammar.specs.Operands.{pieces_of};
 ghost use Rattle.edit_script.specs.Members.{named_operands, moved_operands, renaming, moving};
 ghost use Rattle.edit_script.specs.Grammar.{form_word};
 
-use crate::forms::{Form, HasWord};
+use crate::forms::Form;
 use bank_edits::Step;
 use line_tokens::{Cursor, LineFault, Piece, put_line};
+use script_grammar::HasWord;
 use sf_base::{Lent, Name20, Output};
 use std::io::Write;
 

@@ -1,7 +1,7 @@
 use Rattle.std.proofs.Common.{◌∷◌, codes}
 use Rattle.line_tokens.proofs.PrintLaws.{puts_line}
-use Rattle.edit_script.specs.Operands.{Number, pieces_of}
-use Rattle.edit_script.specs.Samples.{body_operands}
+use Rattle.script_grammar.specs.Operands.{Number, pieces_of}
+use Rattle.script_grammar.specs.Samples.{body_operands}
 use Rattle.edit_script.proofs.samples.put_add_sample.Goals as goal
 
 pub returns : goal.returns

@@ -9,7 +9,7 @@ use Rattle.bank_parts.specs.Fits.{FitsText}
 use Rattle.line_tokens.specs.Spelling.{is_word, IsWithin}
 use Rattle.line_tokens.proofs.TestLaws.{not_feed}
 use Rattle.line_tokens.proofs.PieceLaws.{meant, Spoken, AllSpoken, writes, writes_signed, spoken_number, spoken_signed, spoken_word, spoken_name, spoken_bytes, spoken_hex, are_bytes}
-use Rattle.edit_script.specs.Operands.{Operand, Fixed, Number, Signed, Name, Text, Points, Says, AllSay, piece_of, pieces_of}
+use Rattle.script_grammar.specs.Operands.{Operand, Fixed, Number, Signed, Name, Text, Points, Says, AllSay, piece_of, pieces_of}
 
 -- a word that a line can hold
 abbrev pub IsFixed : List ℕ → Type 0

@@ -1,6 +1,6 @@
 use Rattle.std.proofs.Common.{◌∙◌, sym}
-use Rattle.edit_script.proofs.NameLaws.{named_here, named_behind, named_nowhere}
-use Rattle.edit_script.proofs.forms.first_named.Goals as goal
+use Rattle.script_grammar.proofs.NameLaws.{named_here, named_behind, named_nowhere}
+use Rattle.script_grammar.proofs.names.first_named.Goals as goal
 
 pub returns-then-says : goal.returns-then-says
 returns-then-says g c = sym (named_here _ c.args.items.now _ c.loop-item.item-index _ _ _ c.loop-item.invariant c.loop-item-test.true c.item-item.is c.word.ensures (sym c.says.ensures ∙ c.if-says.true))

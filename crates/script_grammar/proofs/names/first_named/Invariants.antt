@@ -1,6 +1,6 @@
 use Rattle.std.proofs.Common.{◌≡◌, drop}
-use Rattle.edit_script.specs.Names.{named}
-use Rattle.edit_script.proofs.forms.first_named.Given as goal
+use Rattle.script_grammar.specs.Names.{named}
+use Rattle.script_grammar.proofs.names.first_named.Given as goal
 
 -- what is left names what the whole list does
 abbrev pub invariant-loop-item : goal.invariant-loop-item

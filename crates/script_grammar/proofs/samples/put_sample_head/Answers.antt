@@ -1,5 +1,5 @@
-use Rattle.edit_script.proofs.PutLaws.{puts_head}
-use Rattle.edit_script.proofs.samples.put_sample_head.Goals as goal
+use Rattle.script_grammar.proofs.PutLaws.{puts_head}
+use Rattle.script_grammar.proofs.samples.put_sample_head.Goals as goal
 
 pub returns : goal.returns
 returns g c = puts_head c.args.sample.now c.put_numbers.ensures c.put_kind.ensures c.put_loop.ensures

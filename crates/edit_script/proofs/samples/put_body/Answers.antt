@@ -1,5 +1,0 @@
-use Rattle.edit_script.proofs.PutLaws.{puts_body}
-use Rattle.edit_script.proofs.samples.put_body.Goals as goal
-
-pub returns : goal.returns
-returns g c = puts_body c.args.sample.now c.put_sample_head.ensures c.put_points.ensures

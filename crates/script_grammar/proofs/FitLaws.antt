@@ -1,0 +1,136 @@
+-- What is said fits, and what fits can be said.
+use Rattle.std.proofs.Common.{◌≤◌, ◌<◌, ◌^◌, ◌+◌, ℕ, ℤ, pos, negsuc, neg_ℤ, zero, suc, List, [], ◌∷◌, ◌++◌, Option, Some, None, refl, sym, subst, arith, lit<, inl, inr, FitsSigned}
+use Rattle.std.specs.Int.{w8}
+use Rattle.std.specs.List.{AllByRecursion}
+use Rattle.sf_base.specs.Names.{IsName}
+use Rattle.sample_view.specs.Words.{words}
+use Rattle.bank_parts.specs.declared.texts.InfoId.{InfoId}
+use Rattle.bank_parts.specs.declared.texts.InfoId.TheVariants as id
+use Rattle.bank_parts.specs.declared.parts.Kind.{Kind}
+use Rattle.bank_parts.specs.declared.parts.Kind.TheVariants.{Mono, Right, Left, Linked}
+use Rattle.bank_parts.specs.declared.parts.Sample.{Sample}
+use Rattle.bank_parts.specs.Fits.{FitsText, FitsKind, FitsLoop, FitsSample}
+use Rattle.line_tokens.specs.declared.cursor.Said.{Said}
+use Rattle.line_tokens.specs.Spelling.{WritesSigned, IsWithin}
+use Rattle.script_grammar.specs.Operands.{Operand, Fixed, Number, Signed, Name, Text, Points, Says, AllSay}
+use Rattle.script_grammar.specs.Samples.{kind_operands, loop_operands, head_operands, body_operands}
+use Rattle.script_grammar.specs.Texts.{id_word}
+use Rattle.script_grammar.proofs.OperandLaws.{IsFixed, AllFit, both_fit}
+
+-- ---- what is said is in its range
+
+abbrev pub Ranged : Operand → Type 0
+Ranged (Fixed w) = Unit {0}
+Ranged (Number limit n) = n ≤ limit
+Ranged (Signed limit z) = IsWithin limit z
+Ranged (Name bytes) = IsName bytes
+Ranged (Text bytes) = FitsText bytes
+Ranged (Points ps) = AllByRecursion (λ p. p < 2 ^ 16) ps
+
+within_negated : (limit n : ℕ) → n ≤ limit + 1 → IsWithin limit (neg_ℤ (pos n))
+within_negated limit zero h = omega arith
+within_negated limit (suc n) h = omega (arith, h)
+
+signed_within : (limit : ℕ) (w : List ℕ) (z : ℤ) → WritesSigned limit w z → IsWithin limit z
+signed_within limit w z (inl h) = subst (IsWithin limit) (sym h.value) (within_negated limit h.number h.writes.within)
+signed_within limit w z (inr h) = subst (IsWithin limit) (sym h.value) h.writes.within
+
+words_fit : (bytes : List ℕ) → FitsText bytes → AllByRecursion (λ p. p < 2 ^ 16) (words bytes)
+unfolding words
+words_fit [] h = tt
+words_fit (b ∷ []) h = tt
+words_fit (a ∷ b ∷ bytes) h = (let x = h.0 in let y = h.1.0 in omega (arith, x, y), words_fit bytes h.1.1)
+
+ranged : (s : Said) (o : Operand) → Says s o → Ranged o
+ranged s (Fixed w) h = tt
+ranged s (Number limit n) h = h.2.within
+ranged s (Signed limit z) h = signed_within limit h.0 z h.2
+ranged s (Name bytes) h = h.1
+ranged s (Text bytes) h = h.1
+ranged s (Points ps) h = subst (AllByRecursion (λ p. p < 2 ^ 16)) (sym h.4) (words_fit h.0 h.2)
+
+abbrev pub AllRanged : List Operand → Type 0
+AllRanged os = AllByRecursion Ranged os
+
+pub all_ranged : (said : List Said) (os : List Operand) → AllSay said os → AllRanged os
+all_ranged [] [] h = tt
+all_ranged [] (o ∷ os) h = absurd h
+all_ranged (s ∷ said) [] h = absurd h
+all_ranged (s ∷ said) (o ∷ os) h = (ranged s o h.0, all_ranged said os h.1)
+
+pub behind : (os more : List Operand) → AllRanged (os ++ more) → AllRanged os × AllRanged more
+behind [] more h = (tt, h)
+behind (o ∷ os) more h = let k = behind os more h.1 in ((h.0, k.0), k.1)
+
+-- ---- so it fits
+
+kind_fits : (k : Kind) → AllRanged (kind_operands k) → FitsKind k
+kind_fits Mono h = tt
+kind_fits (Right n) h = let l = h.1.0 in omega (arith, l)
+kind_fits (Left n) h = let l = h.1.0 in omega (arith, l)
+kind_fits (Linked n) h = let l = h.1.0 in omega (arith, l)
+
+loop_fits : (l : Option (ℕ × ℕ)) → AllRanged (loop_operands l) → FitsLoop l
+loop_fits None h = tt
+loop_fits (Some l) h = let a = h.1.0 in let b = h.1.1.0 in (omega (arith, a), omega (arith, b))
+
+cents : (z : ℤ) → IsWithin 127 z → FitsSigned w8 z
+cents (pos n) h = record { sfits = omega (arith, h) }
+cents (negsuc n) h = record { sfits = omega (arith, h) }
+
+pub sample_fits : (s : Sample) → AllRanged (body_operands s) → FitsSample s
+sample_fits s h =
+    let b = behind (head_operands s) (Points s.points ∷ []) h in
+    let k = behind (kind_operands s.kind) (loop_operands s.looped) b.0.1.1.1.1 in
+    let rate = b.0.1.0 in
+    let key = b.0.1.1.0 in record {
+      name = b.0.0;
+      points = b.1.0;
+      looped = loop_fits s.looped k.1;
+      rate = omega (arith, rate);
+      key = omega (arith, key);
+      correction = cents s.correction b.0.1.1.1.0;
+      kind = kind_fits s.kind k.0;
+    }
+
+-- ---- what fits can be said
+
+pub word32 : (n : ℕ) → n < 2 ^ 32 → (n ≤ 4294967295) × (4294967295 < 2 ^ 32)
+word32 n h = (omega (arith, h), lit< tt)
+
+pub word16 : (n : ℕ) → n < 2 ^ 16 → (n ≤ 65535) × (65535 < 2 ^ 32)
+word16 n h = (omega (arith, h), lit< tt)
+
+kind_fit : (k : Kind) → FitsKind k → AllFit (kind_operands k)
+kind_fit Mono h = ((refl, refl), tt)
+kind_fit (Right link) h = ((refl, refl), (word16 link h, tt))
+kind_fit (Left link) h = ((refl, refl), (word16 link h, tt))
+kind_fit (Linked link) h = ((refl, refl), (word16 link h, tt))
+
+loop_fit : (l : Option (ℕ × ℕ)) → FitsLoop l → AllFit (loop_operands l)
+loop_fit None h = ((refl, refl), tt)
+loop_fit (Some l) h = ((refl, refl), (word32 l.0 h.0, (word32 l.1 h.1, tt)))
+
+cents_within : (z : ℤ) → FitsSigned w8 z → IsWithin 127 z
+cents_within (pos n) v = let h : n < 2 ^ 7 = v.sfits in omega (arith, h)
+cents_within (negsuc n) v = let h : n < 2 ^ 7 = v.sfits in omega (arith, h)
+
+pub head_fit : (s : Sample) → FitsSample s → AllFit (head_operands s)
+head_fit s h =
+    let key = h.key in
+    (h.name, (word32 s.rate h.rate, ((omega (arith, key), lit< tt), ((cents_within s.correction h.correction, lit< tt), both_fit (kind_operands s.kind) (loop_operands s.looped) (kind_fit s.kind h.kind) (loop_fit s.looped h.looped)))))
+
+pub body_fit : (s : Sample) → FitsSample s → AllFit (body_operands s)
+body_fit s h = both_fit (head_operands s) (Points s.points ∷ []) (head_fit s h) (h.points, tt)
+
+-- ---- texts
+
+pub id_fixed : (i : InfoId) → IsFixed (id_word i)
+id_fixed id.Engine = (refl, refl)
+id_fixed id.Name = (refl, refl)
+id_fixed id.Date = (refl, refl)
+id_fixed id.Engineers = (refl, refl)
+id_fixed id.Product = (refl, refl)
+id_fixed id.Copyright = (refl, refl)
+id_fixed id.Comment = (refl, refl)
+id_fixed id.Software = (refl, refl)

@@ -1,0 +1,4 @@
+pub mod Operands
+pub mod Names
+pub mod Samples
+pub mod Texts

@@ -1,0 +1,26 @@
+-- The part of a line that names one of a bank's texts.
+use Rattle.std.specs.Prelude.{ℕ, List, [], ◌∷◌, codes}
+use Rattle.bank_parts.specs.declared.texts.InfoId.{InfoId}
+use Rattle.bank_parts.specs.declared.texts.InfoId.TheVariants.{Engine, Name, Date, Engineers, Product, Copyright, Comment, Software}
+use Rattle.line_tokens.specs.declared.fault.LineFault.TheVariants as faults
+use Rattle.line_tokens.specs.Parts.{Part, ◌>>=◌, or_fault, word}
+use Rattle.script_grammar.specs.Names.{named}
+
+-- the id of a text's chunk
+abbrev pub id_word : InfoId → List ℕ
+id_word Engine = codes "isng"
+id_word Name = codes "INAM"
+id_word Date = codes "ICRD"
+id_word Engineers = codes "IENG"
+id_word Product = codes "IPRD"
+id_word Copyright = codes "ICOP"
+id_word Comment = codes "ICMT"
+id_word Software = codes "ISFT"
+
+abbrev pub ids : List InfoId
+ids = Engine ∷ Name ∷ Date ∷ Engineers ∷ Product ∷ Copyright ∷ Comment ∷ Software ∷ []
+
+unfoldable pub info_id : Part InfoId
+info_id = do
+  w ← word
+  or_fault faults.Syntax (named id_word ids w)

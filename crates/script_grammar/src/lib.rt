@@ -1,0 +1,15 @@
+//! What the lines of a script have in common, whatever form of edit they say: what their tokens say,
+//! and the parts of a line that several forms have.
+//!
+//! A part is read by a function that takes it from a [`Cursor`](line_tokens::Cursor), and put by one
+//! that puts each of its tokens behind a space. The parts are a word of a list of words
+//! ([`named`]), the id of a text ([`info_id`]) and a sample, `NAME RATE KEY CORR KIND LOOP POINTS` ([`sample_body`]).
+#![tactic(auto)]
+
+mod names;
+mod samples;
+mod texts;
+
+pub use names::{HasWord, named};
+pub use samples::{put_sample_body, put_sample_head, sample_body};
+pub use texts::info_id;

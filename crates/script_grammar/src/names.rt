@@ -1,0 +1,47 @@
+//! What is named by a word.
+ghost use Rattle.std.specs.Prelude.{◌≡◌};
+ghost use Rattle.std.specs.Str.{bytes_eq};
+ghost use Rattle.script_grammar.specs.Names.{named};
+
+/// What has a word of its own.
+pub trait HasWord: Copy + 'static {
+    ghost use Rattle.std.specs.Prelude.{ℕ, List};
+
+    ghost all: { List Self };
+
+    ghost word_of: { Self → List ℕ };
+
+    /// All that there are.
+    fn all() -> &'static [Self]
+        ensures { result.now ≡ all };
+
+    /// Its word.
+    fn word(self) -> &'static [u8]
+        ensures { result.now ≡ word_of self };
+}
+
+/// The one that a word names, if there is one.
+pub fn named<T: HasWord>(word: &[u8]) -> Option<T>
+    ensures { result ≡ named T.word_of T.all word.now }
+{
+    first_named(T::all(), word)
+}
+
+// The first of these that a word names.
+fn first_named<T: HasWord>(items: &[T], word: &[u8]) -> Option<T>
+    ensures { result ≡ named T.word_of items.now word.now }
+{
+    for item in items {
+        if says(word, item.word()) {
+            return Some(*item);
+        }
+    }
+    None
+}
+
+/// Whether a word is this one.
+pub(crate) fn says(word: &[u8], text: &[u8]) -> bool
+    ensures { result ≡ bytes_eq word.now text.now }
+{
+    word == text
+}

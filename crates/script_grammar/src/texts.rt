@@ -1,0 +1,52 @@
+//! The part of a line that names one of a bank's texts.
+ghost use Rattle.std.specs.Prelude.{◌≡◌};
+ghost use Rattle.line_tokens.specs.Parts.{Reads};
+ghost use Rattle.script_grammar.specs.Texts.{id_word, ids, info_id};
+
+use crate::names::{HasWord, named};
+use bank_parts::InfoId;
+use line_tokens::{Cursor, LineFault};
+
+static IDS: [InfoId; 8] = [
+    InfoId::Engine,
+    InfoId::Name,
+    InfoId::Date,
+    InfoId::Engineers,
+    InfoId::Product,
+    InfoId::Copyright,
+    InfoId::Comment,
+    InfoId::Software,
+];
+
+impl HasWord for InfoId {
+    ghost all = { ids };
+
+    ghost word_of = { id_word };
+
+    fn all() -> &'static [InfoId] {
+        &IDS
+    }
+
+    fn word(self) -> &'static [u8] {
+        match self {
+            InfoId::Engine => b"isng",
+            InfoId::Name => b"INAM",
+            InfoId::Date => b"ICRD",
+            InfoId::Engineers => b"IENG",
+            InfoId::Product => b"IPRD",
+            InfoId::Copyright => b"ICOP",
+            InfoId::Comment => b"ICMT",
+            InfoId::Software => b"ISFT",
+        }
+    }
+}
+
+/// The id of a text, by the name of its chunk (SoundFont 2.04, section 5). Another word is a fault of
+/// syntax.
+#[tactic(auto, unfolding(crate::specs::Texts::info_id))]
+pub fn info_id(line: &mut Cursor<'_, '_>) -> Result<InfoId, LineFault>
+    ensures { Reads (λ id. id) info_id line.old line.new result }
+{
+    let word = line.word()?;
+    named(word).ok_or(LineFault::Syntax)
+}
