@@ -1,6 +1,6 @@
 //! What a preset or an instrument is besides its zones, as a file's records hold it.
-ghost use Rattle.std.specs.Prelude.{◌≡◌};
-ghost use Rattle.bank_format.specs.Tables.{Headers};
+ghost use Rattle.std.specs.Prelude.{◌≡◌, refl};
+ghost use Rattle.bank_format.specs.Tables.{Headers, presets, instruments};
 
 use crate::names::name_of;
 use bank_parts::{Head, OwnerHead};
@@ -38,9 +38,6 @@ pub trait RecordedHead: OwnerHead + Drop {
 
 impl RecordedHead for Head {
     type Record = PresetHead;
-
-    ghost use Rattle.std.proofs.Common.{refl};
-    ghost use Rattle.bank_format.specs.Tables.{presets};
 
     ghost headers = { presets };
 
@@ -89,9 +86,6 @@ impl RecordedHead for Head {
 
 impl RecordedHead for Name20 {
     type Record = InstrumentHead;
-
-    ghost use Rattle.std.proofs.Common.{refl};
-    ghost use Rattle.bank_format.specs.Tables.{instruments};
 
     ghost headers = { instruments };
 
