@@ -7,8 +7,8 @@ use Rattle.bank_parts.specs.declared.parts.Parts.{Parts}
 use Rattle.bank_format.specs.declared.fault.Counts.{Counts}
 use Rattle.line_tokens.specs.declared.printing.Piece.TheVariants.{Number, Word, Name}
 use Rattle.line_tokens.specs.Printing.{line_text}
-use Rattle.edit_script.specs.Operands.{pieces_of}
-use Rattle.edit_script.specs.Samples.{head_operands}
+use Rattle.script_grammar.specs.Operands.{pieces_of}
+use Rattle.script_grammar.specs.Samples.{head_operands}
 
 -- ---- the bank
 

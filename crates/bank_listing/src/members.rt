@@ -5,7 +5,7 @@ ghost use Rattle.bank_listing.specs.Listing.{preset_line, instrument_line, sampl
 
 use crate::pieces::{name_piece, number_piece};
 use bank_core::{Head, Sample};
-use edit_script::put_sample_head;
+use script_grammar::put_sample_head;
 use line_tokens::{put_line, put_pieces};
 use sf_base::{Name20, Output};
 use std::io::Write;

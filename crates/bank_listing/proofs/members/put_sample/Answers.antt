@@ -4,8 +4,8 @@ use Rattle.std.specs.List.{flat_map}
 use Rattle.sf_base.proofs.OutputLaws.{puts_as, puts_then}
 use Rattle.line_tokens.specs.declared.printing.Piece.TheVariants.{Number}
 use Rattle.line_tokens.specs.Printing.{spaced}
-use Rattle.edit_script.specs.Operands.{pieces_of}
-use Rattle.edit_script.specs.Samples.{head_operands}
+use Rattle.script_grammar.specs.Operands.{pieces_of}
+use Rattle.script_grammar.specs.Samples.{head_operands}
 use Rattle.bank_listing.specs.Listing.{sample_line}
 use Rattle.bank_listing.proofs.LineLaws.{line_parts}
 use Rattle.bank_listing.proofs.members.put_sample.Goals as goal
