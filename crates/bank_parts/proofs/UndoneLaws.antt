@@ -57,6 +57,15 @@ module _ {H : Type 0} (owners : List (WithZones H)) (i : ℕ) where
       here None h = absurd h
       here (Some x) h = record { member = x.zones; there = refl; holds = h }
 
+  -- two zones of a member
+  both_there : (k l : ℕ) → HasPlace owners i (place.Zone k) → HasPlace owners i (place.Zone l) → There (zones_at owners i) (λ zones. (k < length zones) × (l < length zones))
+  both_there k l h m =
+      let t = zones_there (λ count. k < count) h in
+      let u = zones_there (λ count. l < count) m in
+      let same : u.member ≡ t.member = some_same (zones_at owners i) u.member t.member u.there t.there in
+      let lt : l < length t.member = rw same at u.holds in
+      record { member = t.member; there = t.there; holds = (t.holds, lt) }
+
   pub zone_in : (k : ℕ) (zone : Zone) → zone_at owners i k ≡ Some zone → Given (λ (zones : List Zone). slice_get zones k) (zones_at owners i) zone
   zone_in k zone e = given (λ (zones : List Zone). slice_get zones k) (zones_at owners i) zone (sym (zone_of_zones k) ∙ e)
 
@@ -101,12 +110,9 @@ zone_removed_undone owners i k zone e =
 
 pub zone_moved_undone : {H : Type 0} → ZoneMovedUndone H
 zone_moved_undone owners i from to h l =
-    let t = zones_there owners i (λ count. from < count) h in
+    let t = both_there owners i from to h l in
     let zones = t.member in
-    let u = zones_there owners i (λ count. to < count) l in
-    let same : u.member ≡ zones = some_same (zones_at owners i) u.member zones u.there t.there in
-    let lu : to < length zones = rw same at u.holds in
-    zones_return owners i (λ zs. moved zs from to) (λ zs. moved zs to from) zones t.there (moved-back zones from to t.holds lu)
+    zones_return owners i (λ zs. moved zs from to) (λ zs. moved zs to from) zones t.there (moved-back zones from to t.holds.0 t.holds.1)
 
 pub target_set_back : {H : Type 0} → TargetSetBack H
 target_set_back owners i k was target e =
@@ -183,15 +189,12 @@ zone_added_read owners i k zone h =
 
 pub zone_moved_read : {H : Type 0} → ZoneMovedRead H
 zone_moved_read owners i from to h l =
-    let t = zones_there owners i (λ count. from < count) h in
+    let t = both_there owners i from to h l in
     let zones = t.member in
-    let u = zones_there owners i (λ count. to < count) l in
-    let same : u.member ≡ zones = some_same (zones_at owners i) u.member zones u.there t.there in
-    let lu : to < length zones = rw same at u.holds in
     zone_of_zones (zone_moved owners i from to) i to
     ∙ (ap (option_and_then (λ (zs : List Zone). slice_get zs to)) (zones_read owners i (λ zs. moved zs from to))
     ∙ (zones_give owners i (λ zs. moved zs from to) (λ (zs : List Zone). slice_get zs to) zones t.there
-    ∙ (slice_get-moved zones from to t.holds lu
+    ∙ (slice_get-moved zones from to t.holds.0 t.holds.1
     ∙ (sym (ap (option_and_then (λ (zs : List Zone). slice_get zs from)) t.there) ∙ sym (zone_of_zones owners i from)))))
 
 pub target_set_read : {H : Type 0} → TargetSetRead H
