@@ -1,6 +1,6 @@
 -- A preset or an instrument may stand in a bank exactly where its name is one, and none of the tests of
 -- its content stands.
-use Rattle.std.proofs.Common.{◌≡◌, ◌<◌, ◌≤◌, ◌/◌, ◌%◌, ◌&&◌, ℕ, Bool, true, false, nat_le, not, List, refl, arith}
+use Rattle.std.proofs.Common.{◌≡◌, ◌<◌, ◌≤◌, ◌/◌, ◌%◌, ◌&&◌, ℕ, Bool, true, false, nat_le, not, List, refl, arith, ◌↔◌, IsTrue, true≢false, sym, ◌∙◌}
 use Rattle.std.specs.List.{AllByRecursion, list_any}
 use Rattle.std.specs.FinMap.{entries}
 use Rattle.std.proofs.lemmas.Bool.Decides.{nat_tests}
@@ -120,3 +120,18 @@ module _ {H : Type 0} (name_of : H → List ℕ) (at : Level) (count : ℕ) (x :
             or_none (sets_bad_range x.global.gens) (list_any bad x.zones) (gens_good at x.global.gens h.zones.global)
             (passes_none bad x.zones (all_weaker (IsZone at count) (λ (z : Zone). bad z ≡ false) (λ z k. gens_good at z.gens k.gens) x.zones zones));
       }
+
+  -- what the code answers
+
+  refuses : (t : Bool) → t ≡ true → (IsOwner name_of at count x → t ≡ false) → IsTrue false ↔ IsOwner name_of at count x
+  refuses t stands none = (λ h. absurd (true≢false (sym h)), λ h. absurd (true≢false (sym stands ∙ none h)))
+
+  pub target_refuses : misses_target count x ≡ true → IsTrue false ↔ IsOwner name_of at count x
+  target_refuses h = refuses (misses_target count x) h (λ o. (tests_from_owner o).targets)
+
+  pub operator_refuses : has_foreign at x ≡ true → IsTrue false ↔ IsOwner name_of at count x
+  operator_refuses h = refuses (has_foreign at x) h (λ o. (tests_from_owner o).operators)
+
+  pub ranges_decide : IsName (name_of x.head) → misses_target count x ≡ false → has_foreign at x ≡ false → (t : Bool) → t ≡ has_bad_range x → IsTrue (not t) ↔ IsOwner name_of at count x
+  ranges_decide named near own true h = refuses (has_bad_range x) (sym h) (λ o. (tests_from_owner o).ranges)
+  ranges_decide named near own false h = (λ t. owner_from_tests named (record { targets = near; operators = own; ranges = sym h }), λ o. refl)

@@ -3,3 +3,5 @@ pub mod ContentLaws
 pub mod Counts
 pub mod Fitting
 pub mod LimitLaws
+pub mod SettingLaws
+pub mod UndoneLaws

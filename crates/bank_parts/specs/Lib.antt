@@ -14,3 +14,7 @@ pub mod Counts
 pub mod Limits
 pub mod Contents
 pub mod Owners
+pub mod Settings
+pub mod ZoneChanges
+pub mod PlaceLaws
+pub mod ChangesUndone

@@ -2,7 +2,7 @@
 use Rattle.std.specs.Prelude.{◌<◌, ◌==◌, ℕ, Bool, List, length, Option, IsSomeAnd, slice_get}
 use Rattle.std.specs.Option.{option_map, option_and_then}
 use Rattle.std.specs.List.{list_any}
-use Rattle.std.specs.FinMap.{entries}
+use Rattle.std.specs.FinMap.{entries, get}
 use Rattle.generators.specs.Gens.{Gens}
 use Rattle.modulators.specs.declared.modulator.Modulator.{Modulator}
 use Rattle.bank_parts.specs.declared.parts.Zone.{Zone}
@@ -48,6 +48,14 @@ entries_at owners i at = option_map entries (gens_at owners i at)
 abbrev pub mods_at : {H : Type 0} → List (WithZones H) → ℕ → ZonePlace → Option (List Modulator)
 mods_at owners i place.Global = option_map (λ x. x.global.mods) (slice_get owners i)
 mods_at owners i (place.Zone k) = option_map (λ (z : Zone). z.mods) (zone_at owners i k)
+
+-- the amount of an operator at a place; none where it is not set
+abbrev pub amount_at : {H : Type 0} → List (WithZones H) → ℕ → ZonePlace → ℕ → Option ℕ
+amount_at owners i at op = option_and_then (λ gens. get gens op) (gens_at owners i at)
+
+-- a modulator of a place
+abbrev pub mod_at : {H : Type 0} → List (WithZones H) → ℕ → ZonePlace → ℕ → Option Modulator
+mod_at owners i at j = option_and_then (λ mods. slice_get mods j) (mods_at owners i at)
 
 -- a zone has this number as its target
 abbrev pub targets : {H : Type 0} → ℕ → WithZones H → Bool

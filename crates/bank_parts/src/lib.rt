@@ -12,14 +12,18 @@ mod limits;
 mod owners;
 mod parts;
 mod renumbering;
+mod setting_changes;
 mod texts;
 mod totals;
 mod validity;
+mod zone_changes;
 
 pub use copying::copy_parts;
 pub use counting::Records;
 pub use heads::OwnerHead;
-pub use laws::limits_agree;
+pub use laws::{
+    limits_agree, other_places_stay, places_are_lenses, zone_changes_read, zone_changes_undone,
+};
 pub use limits::Limit;
 pub use owners::{Owners, ZonePlace};
 pub use parts::{GlobalZone, Head, Instrument, Kind, Parts, Preset, Sample, WithZones, Zone};

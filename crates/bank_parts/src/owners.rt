@@ -30,7 +30,7 @@ pub enum ZonePlace {
 /// lends no zone, but what one holds.
 #[derive(Drop)]
 pub struct Owners<H> {
-    list: NumberedList<WithZones<H>>,
+    pub(crate) list: NumberedList<WithZones<H>>,
 }
 
 impl<H> Model for Owners<H> {
@@ -228,13 +228,6 @@ impl<H> Owners<H> {
             total = total.plus(owner.records());
         }
         total
-    }
-
-    // For what is said of all of them.
-    pub(crate) fn as_slice(&self) -> &[WithZones<H>]
-        ensures { result.now ≡ self.now }
-    {
-        self.list.as_slice()
     }
 
     fn zone(&self, i: usize, k: usize) -> &Zone

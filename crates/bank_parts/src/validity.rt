@@ -3,15 +3,13 @@ ghost use Rattle.std.specs.Prelude.{◌↔◌, IsTrue};
 ghost use Rattle.std.specs.Bool.{OnTrue};
 ghost use Rattle.std.specs.List.{AllByRecursion};
 ghost use Rattle.sf_base.specs.Names.{IsName, IsText};
-ghost use Rattle.bank_parts.specs.Valid.{IsGenerator, AreGenerators, IsZone, AreZones, IsOwner, IsPreset, IsInstrument, IsLoop, IsLink, IsSample, AreTexts, IsWithin, IsValid};
+ghost use Rattle.bank_parts.specs.Valid.{IsPreset, IsInstrument, IsLoop, IsLink, IsSample, AreTexts, IsWithin, IsValid};
 ghost use Rattle.bank_parts.specs.Fits.{FitTexts, FitsHead, FitsOwner, FitsSample, FitsLoop, FitsKind, Fits};
 
-use crate::heads::OwnerHead;
 use crate::owners::Owners;
-use crate::parts::{GlobalZone, Head, Kind, Parts, Sample, WithZones, Zone};
+use crate::parts::{Head, Kind, Parts, Sample};
 use crate::texts::Texts;
 use crate::totals::totals_of;
-use generators::{GenMap, Level, Range, allowed, is_range_operator};
 use sf_base::Name20;
 use sf_base::limits::{COMMENT_LENGTH, TEXT_LENGTH};
 
@@ -67,21 +65,14 @@ fn are_presets(presets: &Owners<Head>, instruments: usize) -> bool
     ensures valid { IsTrue result ↔ AllByRecursion (IsPreset instruments) presets.now }
     ensures fits { OnTrue result (AllByRecursion (FitsOwner FitsHead) presets.now) }
 {
-    are_owners(presets.as_slice(), instruments)
+    presets.are_valid(instruments)
 }
 
 fn are_instruments(instruments: &Owners<Name20>, samples: usize) -> bool
     ensures valid { IsTrue result ↔ AllByRecursion (IsInstrument samples) instruments.now }
     ensures fits { OnTrue result (AllByRecursion (FitsOwner IsName) instruments.now) }
 {
-    are_owners(instruments.as_slice(), samples)
-}
-
-fn are_owners<H: OwnerHead>(owners: &[WithZones<H>], targets: usize) -> bool
-    ensures valid { IsTrue result ↔ AllByRecursion (IsOwner H.name H.LEVEL targets) owners.now }
-    ensures fits { OnTrue result (AllByRecursion (FitsOwner H.IsFit) owners.now) }
-{
-    owners.iter().all(|owner| is_owner(owner, targets))
+    instruments.are_valid(samples)
 }
 
 fn are_samples(samples: &[Sample<'_>], count: usize) -> bool
@@ -89,15 +80,6 @@ fn are_samples(samples: &[Sample<'_>], count: usize) -> bool
     ensures fits { OnTrue result (AllByRecursion FitsSample samples.now) }
 {
     samples.iter().all(|sample| is_sample(sample, count))
-}
-
-fn is_owner<H: OwnerHead>(owner: &WithZones<H>, targets: usize) -> bool
-    ensures valid { IsTrue result ↔ IsOwner H.name H.LEVEL targets owner.now }
-    ensures fits { OnTrue result (FitsOwner H.IsFit owner.now) }
-{
-    owner.head.fits();
-    owner.fits();
-    are_zones(H::LEVEL, targets, &owner.global, owner.zones.as_slice())
 }
 
 fn is_sample(sample: &Sample<'_>, samples: usize) -> bool
@@ -129,39 +111,4 @@ fn is_link(kind: Kind, samples: usize) -> bool
         Kind::Mono => true,
         Kind::Right(link) | Kind::Left(link) | Kind::Linked(link) => (link as usize) < samples,
     }
-}
-
-// ---- zones
-
-fn are_zones(level: Level, targets: usize, shared: &GlobalZone, own: &[Zone]) -> bool
-    ensures { IsTrue result ↔ AreZones level targets shared.now own.now }
-{
-    are_generators(level, &shared.gens) && all_are_zones(level, targets, own)
-}
-
-fn all_are_zones(level: Level, targets: usize, zones: &[Zone]) -> bool
-    ensures { IsTrue result ↔ AllByRecursion (IsZone level targets) zones.now }
-{
-    zones.iter().all(|zone| is_zone(level, targets, zone))
-}
-
-fn is_zone(level: Level, targets: usize, zone: &Zone) -> bool
-    ensures { IsTrue result ↔ IsZone level targets zone.now }
-{
-    (zone.target as usize) < targets && are_generators(level, &zone.gens)
-}
-
-fn are_generators(level: Level, gens: &GenMap) -> bool
-    ensures { IsTrue result ↔ AreGenerators level gens.now }
-{
-    gens.entries()
-        .iter()
-        .all(|&entry| is_generator(level, entry))
-}
-
-fn is_generator(level: Level, entry: (u16, u16)) -> bool
-    ensures { IsTrue result ↔ IsGenerator level entry }
-{
-    let (operator, word) = entry;
-    allowed(operator, level) && (!is_range_operator(operator) || Range::of_word(word).is_valid())
 }

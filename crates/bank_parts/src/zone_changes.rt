@@ -1,0 +1,61 @@
+//! Changes of the lists of zones.
+ghost use Rattle.std.specs.Prelude.{◌≡◌, ◌≤◌, Some, IsSomeAnd, IfOk, IfErr, OnOk, OnErr};
+ghost use Rattle.bank_parts.specs.declared.owners.ZonePlace.TheVariants as place;
+ghost use Rattle.bank_parts.specs.Owners.{HasPlace, zone_count_at, zone_at, target_at};
+ghost use Rattle.bank_parts.specs.ZoneChanges.{zone_added, zone_removed, zone_moved, target_set};
+
+use crate::owners::Owners;
+use crate::parts::Zone;
+use sf_base::OutOfMemory;
+use std::alloc::Global;
+
+impl<H> Owners<H> {
+    /// Makes a zone number `k` of number `i`, which is there and has so many; its zones from there on
+    /// get the next number each. For want of memory nothing changes, and the zone comes back.
+    #[tactic(auto, using(numbered_lists::proofs::Lists::slice_set_same))]
+    pub fn insert_zone(&mut self, i: usize, k: usize, zone: Zone) -> Result<(), Zone>
+        requires { IsSomeAnd (zone_count_at self.old i) (λ count. k ≤ count) }
+        ensures ok { OnOk result (self.new ≡ zone_added self.old i k zone) }
+        ensures err { OnErr result (self.new ≡ self.old) }
+        ensures value_returned { IfErr result (λ back. back ≡ zone) }
+    {
+        let member = self.list.member_mut(i);
+        member.zones.insert(k, zone)
+    }
+
+    /// Takes zone `k` of number `i` out, both of which are there; the zones behind it get the number
+    /// before each. It takes no memory and never answers want of it, but another representation may.
+    pub fn remove_zone(&mut self, alloc: Global, i: usize, k: usize) -> Result<Zone, OutOfMemory>
+        requires { HasPlace self.old i (place.Zone k) }
+        ensures value { IfOk result (λ zone. zone_at self.old i k ≡ Some zone) }
+        ensures change { OnOk result (self.new ≡ zone_removed self.old i k) }
+        ensures err { OnErr result (self.new ≡ self.old) }
+    {
+        let _ = alloc;
+        let member = self.list.member_mut(i);
+        Ok(member.zones.remove(k))
+    }
+
+    /// Makes zone `from` of number `i` zone `to`, all of which are there; its other zones keep their
+    /// order. Takes no memory.
+    pub fn move_zone(&mut self, i: usize, from: usize, to: usize)
+        requires from { HasPlace self.old i (place.Zone from) }
+        requires to { HasPlace self.old i (place.Zone to) }
+        ensures { self.new ≡ zone_moved self.old i from to }
+    {
+        let member = self.list.member_mut(i);
+        member.zones.move_member(from, to);
+    }
+
+    /// Gives zone `k` of number `i`, both of which are there, another target, and gives back the one
+    /// that it had. Takes no memory.
+    pub fn set_target(&mut self, i: usize, k: usize, target: u16) -> u16
+        requires { HasPlace self.old i (place.Zone k) }
+        ensures value { target_at self.old i k ≡ Some result }
+        ensures change { self.new ≡ target_set self.old i k target }
+    {
+        let member = self.list.member_mut(i);
+        let zone = member.zones.member_mut(k);
+        std::mem::replace(&mut zone.target, target)
+    }
+}
