@@ -74,7 +74,7 @@ impl<'a> Bank<'a> {
         move_instrument(&mut self.parts, from, to);
     }
 
-    /// Whether a zone of a preset targets the instrument. There need be none of the number.
+    /// Whether a zone of a preset targets the instrument of this number, also where there is none.
     #[tactic(auto, unfolding(crate::specs::Instruments::instrument_in_use))]
     pub fn is_instrument_in_use(&self, number: u32) -> bool
         ensures { result ≡ instrument_in_use self.now number }
