@@ -4,3 +4,7 @@ pub mod PutLaws
 pub mod SpellLaws
 pub mod ReadLaws
 pub mod FitLaws
+pub mod RepeatedLaws
+pub mod ItemLaws
+pub mod MemoryLaws
+pub mod ZoneSpellLaws
