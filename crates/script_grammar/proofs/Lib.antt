@@ -8,3 +8,4 @@ pub mod RepeatedLaws
 pub mod ItemLaws
 pub mod MemoryLaws
 pub mod ZoneSpellLaws
+pub mod ZoneReadLaws

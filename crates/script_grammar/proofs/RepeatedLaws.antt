@@ -66,13 +66,13 @@ then_alike (Ok t) f g h = h t refl
 then_alike (Err e) f g h = refl
 
 module _ {X Y : Type 0} (ends : List Said → Bool) (last : Y → Part Y) (part : Part X) (with : Y → X → Y) where
-  here : (n : ℕ) (y : Y) (line : List Said) → ends line ≡ true → repeated_within ends last part with (suc n) y line ≡ last y line
+  pub within_ends : (n : ℕ) (y : Y) (line : List Said) → ends line ≡ true → repeated_within ends last part with (suc n) y line ≡ last y line
   unfolding repeated_within
-  here n y line e = rw e refl
+  within_ends n y line e = rw e refl
 
-  behind : (n : ℕ) (y : Y) (line : List Said) → ends line ≡ false → repeated_within ends last part with (suc n) y line ≡ and_then (part line) (λ x. repeated_within ends last part with n (with y x))
+  pub within_goes_on : (n : ℕ) (y : Y) (line : List Said) → ends line ≡ false → repeated_within ends last part with (suc n) y line ≡ and_then (part line) (λ x. repeated_within ends last part with n (with y x))
   unfolding repeated_within
-  behind n y line e = rw e refl
+  within_goes_on n y line e = rw e refl
 
   -- more tests than tokens change nothing
   enough : Shortens part → (n m : ℕ) (y : Y) (line : List Said) → length line < n → length line < m → repeated_within ends last part with n y line ≡ repeated_within ends last part with m y line
@@ -82,24 +82,24 @@ module _ {X Y : Type 0} (ends : List Said → Bool) (last : Y → Part Y) (part 
     where
       from : ((t : Took X) → part line ≡ Ok t → repeated_within ends last part with n (with y t.value) t.rest ≡ repeated_within ends last part with m (with y t.value) t.rest) → (b : Bool) → ends line ≡ b
           → repeated_within ends last part with (suc n) y line ≡ repeated_within ends last part with (suc m) y line
-      from on true e = here n y line e ∙ sym (here m y line e)
+      from on true e = within_ends n y line e ∙ sym (within_ends m y line e)
       from on false e =
-          behind n y line e
+          within_goes_on n y line e
           ∙ then_alike (part line) (λ x. repeated_within ends last part with n (with y x)) (λ x. repeated_within ends last part with m (with y x)) on
-          ∙ sym (behind m y line e)
+          ∙ sym (within_goes_on m y line e)
 
   pub repeated_ends : (y : Y) (line : List Said) → ends line ≡ true → repeated ends last part with y line ≡ last y line
-  repeated_ends y line e = here (length line) y line e
+  repeated_ends y line e = within_ends (length line) y line e
 
   pub repeated_goes_on : Shortens part → (y : Y) (line : List Said) (t : Took X) → ends line ≡ false → part line ≡ Ok t → repeated ends last part with y line ≡ repeated ends last part with (with y t.value) t.rest
   repeated_goes_on h y line t e i =
       let s = h line t i in
-      behind (length line) y line e
+      within_goes_on (length line) y line e
       ∙ ap (λ (r : Result (Took X) LineFault). and_then r (λ x. repeated_within ends last part with (length line) (with y x))) i
       ∙ enough h (length line) (suc (length t.rest)) (with y t.value) t.rest s (omega arith)
 
   pub repeated_fails : (y : Y) (line : List Said) (d : LineFault) → ends line ≡ false → part line ≡ Err d → repeated ends last part with y line ≡ Err d
-  repeated_fails y line d e i = behind (length line) y line e ∙ ap (λ (r : Result (Took X) LineFault). and_then r (λ x. repeated_within ends last part with (length line) (with y x))) i
+  repeated_fails y line d e i = within_goes_on (length line) y line e ∙ ap (λ (r : Result (Took X) LineFault). and_then r (λ x. repeated_within ends last part with (length line) (with y x))) i
 
   within_keeps : ((y : Y) → Keeps (last y)) → Keeps part → (n : ℕ) (y : Y) → Keeps (repeated_within ends last part with n y)
   unfolding repeated_within
@@ -107,8 +107,8 @@ module _ {X Y : Type 0} (ends : List Said → Bool) (last : Y → Part Y) (part 
   within_keeps h k (suc n) y line t e = from (λ x. within_keeps h k n (with y x)) (ends line) refl
     where
       from : ((x : X) → Keeps (repeated_within ends last part with n (with y x))) → (b : Bool) → ends line ≡ b → length t.rest ≤ length line
-      from on true i = h y line t (sym (here n y line i) ∙ e)
-      from on false i = then_keeps part (λ x. repeated_within ends last part with n (with y x)) k on line t (sym (behind n y line i) ∙ e)
+      from on true i = h y line t (sym (within_ends n y line i) ∙ e)
+      from on false i = then_keeps part (λ x. repeated_within ends last part with n (with y x)) k on line t (sym (within_goes_on n y line i) ∙ e)
 
   pub repeated_keeps : ((y : Y) → Keeps (last y)) → Keeps part → (y : Y) → Keeps (repeated ends last part with y)
   repeated_keeps h k y line t e = within_keeps h k (suc (length line)) y line t e
