@@ -1,6 +1,5 @@
 -- Items and zones take tokens, and how lists of them go on.
-use Rattle.std.proofs.Common.{◌≡◌, ◌≤◌, ℕ, ℤ, Bool, true, false, List, [], ◌∷◌, length, codes, Some, None, Ok, Err, refl, sym, ap}
-use Rattle.std.specs.Int.{w16, cast_unsigned}
+use Rattle.std.proofs.Common.{◌≡◌, ℕ, Bool, true, false, List, [], ◌∷◌, codes, None, Ok, Err, refl}
 use Rattle.std.specs.Str.{bytes_eq}
 use Rattle.generators.specs.Ranges.{is_range_operator}
 use Rattle.bank_parts.specs.declared.parts.GlobalZone.{GlobalZone}
@@ -8,11 +7,10 @@ use Rattle.bank_parts.specs.declared.parts.Zone.{Zone}
 use Rattle.line_tokens.specs.declared.cursor.Said.{Said}
 use Rattle.line_tokens.specs.declared.fault.LineFault.{LineFault}
 use Rattle.line_tokens.specs.declared.fault.LineFault.TheVariants as faults
-use Rattle.line_tokens.specs.Parts.{Took, Part, ◌>>=◌, pure, or_fault, is_next, word, number, signed, range}
+use Rattle.line_tokens.specs.Parts.{Took, ◌>>=◌, pure, or_fault, is_next, word, number, signed, range}
 use Rattle.script_grammar.specs.declared.items.Item.{Item}
-use Rattle.script_grammar.specs.declared.items.Item.TheVariants as item
-use Rattle.script_grammar.specs.Items.{amount, generator, modulator_of, modulator, item_behind, an_item, closed, with_item, items_on, items, no_content}
-use Rattle.script_grammar.specs.Zones.{zone_of, opened_by, opened, zone_behind, zone, is_end, with_zone, zones_left, global_behind, first_behind, zones_behind, zones}
+use Rattle.script_grammar.specs.Items.{amount, generator, modulator, item_behind, an_item, closed, with_item, items_on, items, no_content}
+use Rattle.script_grammar.specs.Zones.{opened_by, opened, zone_behind, zone, is_end, with_zone, zones_left, global_behind, first_behind, zones_behind, zones}
 use Rattle.script_grammar.proofs.RepeatedLaws.{Keeps, Shortens, shortens_keeps, pure_keeps, fault_keeps, then_keeps, then_shortens, either_keeps, word_shortens, number_shortens, signed_shortens, range_shortens, repeated_ends, repeated_goes_on, repeated_fails, repeated_keeps}
 
 -- ---- tokens taken

@@ -9,3 +9,5 @@ pub mod ItemLaws
 pub mod MemoryLaws
 pub mod ZoneSpellLaws
 pub mod ZoneReadLaws
+pub mod ZoneFitLaws
+pub mod ZonePutLaws

@@ -1,5 +1,5 @@
 -- What is read as zones, the line says.
-use Rattle.std.proofs.Common.{◌≡◌, ◌≤◌, ◌<◌, ◌+◌, ◌*◌, ◌/◌, ◌%◌, ℕ, zero, suc, ℤ, Bool, true, false, cond, List, [], ◌∷◌, ◌++◌, length, map, codes, Option, Some, None, Ok, refl, sym, ap, subst, append_assoc, ◌∙◌, arith}
+use Rattle.std.proofs.Common.{◌≡◌, ◌≤◌, ◌+◌, ◌*◌, ◌/◌, ◌%◌, ℕ, zero, suc, Bool, true, false, cond, List, [], ◌∷◌, ◌++◌, length, map, codes, Some, None, Ok, refl, sym, ap, subst, append_assoc, ◌∙◌, arith}
 use Rattle.std.specs.Int.{w16, cast_unsigned}
 use Rattle.std.specs.List.{flat_map}
 use Rattle.std.specs.Str.{bytes_eq}
@@ -12,14 +12,14 @@ use Rattle.bank_parts.specs.declared.parts.Zone.{Zone}
 use Rattle.line_tokens.specs.declared.cursor.Said.{Said}
 use Rattle.line_tokens.specs.declared.cursor.Said.TheVariants.{Word}
 use Rattle.line_tokens.specs.declared.fault.LineFault.TheVariants as faults
-use Rattle.line_tokens.specs.Parts.{Took, Part, and_then, ◌>>=◌, pure, or_fault, is_next, word, number, signed, range}
-use Rattle.line_tokens.proofs.ReadLaws.{AllHoldBytes, both, or_fault_is, word_is, signed_is, range_is}
+use Rattle.line_tokens.specs.Parts.{Took, ◌>>=◌, pure, or_fault, is_next, word, number, signed, range}
+use Rattle.line_tokens.proofs.ReadLaws.{AllHoldBytes, both, word_is, signed_is, range_is}
 use Rattle.script_grammar.specs.declared.items.Item.{Item}
 use Rattle.script_grammar.specs.declared.items.Item.TheVariants as item
-use Rattle.script_grammar.specs.Operands.{Operand, Fixed, Number, Signed, Amount, Range, AllSay}
+use Rattle.script_grammar.specs.Operands.{Operand, Fixed, Number, Signed, Amount, Range}
 use Rattle.script_grammar.specs.Repeated.{repeated_within}
-use Rattle.script_grammar.specs.Items.{amount_operand, generator_operands, modulator_operands, item_operands, items_operands, no_content, with_item, with_items, content_of, amount, generator, modulator_of, modulator, item_behind, an_item, closed, items_on, items}
-use Rattle.script_grammar.specs.Zones.{Written, WrittenZone, zone_operands, global_operands, written_operands, zone_of, zone_in, global_in, zones_in, opened_by, opened, zone_behind, zone, is_end, with_zone, zones_left, global_zones, global_behind, first_behind, zones_behind, zones}
+use Rattle.script_grammar.specs.Items.{amount_operand, generator_operands, modulator_operands, item_operands, items_operands, no_content, with_item, with_items, amount, generator, modulator_of, modulator, item_behind, an_item, closed, items_on, items}
+use Rattle.script_grammar.specs.Zones.{Written, WrittenZone, zone_operands, written_operands, zone_of, zone_in, zones_in, opened_by, opened, zone_behind, zone, is_end, with_zone, zones_left, global_zones, global_behind, first_behind, zones_behind, zones}
 use Rattle.script_grammar.proofs.ReadLaws.{Fronts, front, then, made, word_front, number_front, signed_front}
 use Rattle.script_grammar.proofs.RepeatedLaws.{within_ends, within_goes_on}
 use Rattle.script_grammar.proofs.ItemLaws.{global_first, zone_first, none_said, some_said}

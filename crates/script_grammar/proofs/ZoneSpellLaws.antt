@@ -1,5 +1,5 @@
 -- What zones on a line say is read as such.
-use Rattle.std.proofs.Common.{◌≡◌, ◌≤◌, ◌<◌, ◌+◌, ◌*◌, ◌/◌, ◌%◌, ℕ, ℤ, Bool, true, false, cond, List, [], ◌∷◌, ◌++◌, length, map, codes, Option, Some, None, Ok, refl, sym, ap, subst, append_assoc, ◌∙◌, arith}
+use Rattle.std.proofs.Common.{◌≡◌, ◌+◌, ◌*◌, ◌/◌, ◌%◌, ℕ, Bool, true, false, cond, List, [], ◌∷◌, ◌++◌, map, codes, Option, Some, None, Ok, refl, sym, ap, subst, append_assoc, ◌∙◌, arith}
 use Rattle.std.specs.Int.{w16, cast_unsigned}
 use Rattle.std.specs.List.{flat_map, list_all}
 use Rattle.std.proofs.lemmas.List.{append-nil}
@@ -10,16 +10,14 @@ use Rattle.modulators.specs.declared.modulator.Modulator.{Modulator}
 use Rattle.bank_parts.specs.declared.parts.GlobalZone.{GlobalZone}
 use Rattle.bank_parts.specs.declared.parts.Zone.{Zone}
 use Rattle.line_tokens.specs.declared.cursor.Said.{Said}
-use Rattle.line_tokens.specs.declared.cursor.Said.TheVariants.{Word}
-use Rattle.line_tokens.specs.declared.fault.LineFault.{LineFault}
-use Rattle.line_tokens.specs.Parts.{Took, Part, and_then, ◌>>=◌, pure, or_fault, is_next, is_digit, word, number, signed, range}
+use Rattle.line_tokens.specs.Parts.{Part, and_then, ◌>>=◌, pure, is_next, is_digit, signed, range}
 use Rattle.line_tokens.specs.Spelling.{Writes}
 use Rattle.line_tokens.proofs.SpellLaws as tokens
 use Rattle.script_grammar.specs.declared.items.Item.{Item}
 use Rattle.script_grammar.specs.declared.items.Item.TheVariants as item
 use Rattle.script_grammar.specs.Operands.{Operand, Fixed, Number, Signed, Amount, Range, AllSay}
 use Rattle.script_grammar.specs.Items.{amount_operand, generator_operands, modulator_operands, item_operands, items_operands, no_content, with_item, with_items, content_of, amount, generator, modulator, item_behind, an_item, closed, items_on, items}
-use Rattle.script_grammar.specs.Zones.{Written, WrittenZone, zone_operands, global_operands, written_operands, zone_of, zone_in, global_in, zones_in, opened_by, opened, zone_behind, zone, is_end, with_zone, zones_left, global_zones, global_behind, first_behind, zones_behind, zones}
+use Rattle.script_grammar.specs.Zones.{Written, WrittenZone, zone_operands, global_operands, written_operands, zone_in, global_in, zones_in, opened_by, opened, zone_behind, zone, is_end, with_zone, zones_left, global_zones, global_behind, first_behind, zones_behind, zones}
 use Rattle.script_grammar.proofs.SpellLaws.{Gives, then, gives_pure, gives_word, gives_number, gives_signed}
 use Rattle.script_grammar.proofs.ItemLaws.{items_end, items_go_on, zones_end, zones_go_on, global_first, zone_first, none_said, some_said}
 

@@ -4,7 +4,7 @@ use Rattle.std.specs.Int.{w16, cast_unsigned}
 use Rattle.std.specs.List.{flat_map}
 use Rattle.std.specs.Str.{bytes_eq}
 use Rattle.std.specs.FinMap.{insert}
-use Rattle.generators.specs.Gens.{Gens, no_gens}
+use Rattle.generators.specs.Gens.{no_gens}
 use Rattle.generators.specs.Ranges.{is_range_operator}
 use Rattle.modulators.specs.declared.modulator.Modulator.{Modulator}
 use Rattle.bank_parts.specs.declared.parts.GlobalZone.{GlobalZone}

@@ -1,4 +1,4 @@
-use Rattle.std.proofs.Common.{◌≡◌, ℕ, length}
+use Rattle.std.proofs.Common.{◌≡◌, length}
 use Rattle.script_grammar.specs.Items.{items, items_on}
 use Rattle.script_grammar.proofs.items.items.Given as goal
 

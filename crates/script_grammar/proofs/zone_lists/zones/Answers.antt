@@ -1,6 +1,5 @@
-use Rattle.std.proofs.Common.{◌∙◌, sym, ap, refl, Ok, []}
-use Rattle.line_tokens.specs.Parts.{◌>>=◌, pure}
-use Rattle.script_grammar.specs.Items.{no_content}
+use Rattle.std.proofs.Common.{◌∙◌, refl}
+use Rattle.line_tokens.specs.Parts.{◌>>=◌}
 use Rattle.script_grammar.specs.Zones.{opened, zones_behind, zones}
 use Rattle.script_grammar.proofs.ItemLaws.{none_said, some_said, end_is, no_end, off}
 use Rattle.script_grammar.proofs.MemoryLaws.{first_fails, then_reads, reads_as}

@@ -1,4 +1,4 @@
-use Rattle.std.proofs.Common.{◌≡◌, ℕ, length}
+use Rattle.std.proofs.Common.{◌≡◌, length}
 use Rattle.script_grammar.specs.Zones.{zones_left}
 use Rattle.script_grammar.proofs.zone_lists.zones_left.Given as goal
 
