@@ -1,16 +1,76 @@
 -- The raw changes of presets: each keeps a bank sound, and is taken back.
-use Rattle.std.proofs.Common.{◌≡◌, ◌<◌, ℕ, List, length, ◌∙◌, ap}
-use Rattle.numbered_lists.proofs.Lists.{length-moved, moved-back}
+use Rattle.std.proofs.Common.{◌≡◌, ◌<◌, ◌≤◌, ℕ, List, length, insert, remove, slice_get, Some, None, ◌∙◌, ap}
+use Rattle.std.specs.List.{AllByRecursion}
+use Rattle.std.proofs.lemmas.List.Edits.{length-insert, length-remove}
+use Rattle.numbered_lists.proofs.Lists.{slice_get-found, slice_get-within, length-moved, moved-back, insert-remove, remove-insert}
+use Rattle.generators.specs.declared.level.Level.TheVariants as level
 use Rattle.bank_parts.specs.declared.parts.Head.{Head}
 use Rattle.bank_parts.specs.declared.parts.WithZones.{WithZones}
 use Rattle.bank_parts.specs.declared.parts.Parts.{Parts}
+use Rattle.bank_parts.specs.Counts.{records_of_owner}
 use Rattle.bank_parts.specs.Valid.{IsPreset, zone_count, gen_count, mod_count}
 use Rattle.bank_parts.specs.Fits.{FitsHead, FitsOwner}
 use Rattle.bank_parts.specs.Sound.{IsSound}
-use Rattle.bank_parts.specs.Limits.{totals_of, broken}
+use Rattle.bank_parts.specs.Limits.{totals_of, broken, broken_limit, with_owner}
 use Rattle.bank_parts.proofs.LimitLaws.{limits_of, no_limit_of}
-use Rattle.bank_core.specs.Presets.{preset_moved}
+use Rattle.bank_core.specs.Presets.{preset_added, preset_removed, preset_moved}
+use Rattle.bank_core.proofs.Everywhere.{all_insert, all_remove}
 use Rattle.bank_core.proofs.Moves.{all_moved, sum-moved}
+use Rattle.bank_core.proofs.TotalsLaws.{total-inserted, total-removed, without_owner_within}
+
+-- the bank with other presets
+abbrev with_presets : Parts → List (WithZones Head) → Parts
+with_presets b presets = record b { presets = presets }
+
+presets_sound : (b : Parts) → IsSound b → (presets : List (WithZones Head)) → AllByRecursion (IsPreset (length b.instruments)) presets → AllByRecursion (FitsOwner FitsHead) presets
+    → broken_limit (with_presets b presets) ≡ None → IsSound (with_presets b presets)
+presets_sound b sound presets are fit e =
+    let v = sound.valid in
+    let f = sound.fits in
+    record {
+      valid = record { texts = v.texts; presets = are; instruments = v.instruments; samples = v.samples; limits = limits_of (with_presets b presets) e };
+      fits = record { minor = f.minor; texts = f.texts; presets = fit; instruments = f.instruments; samples = f.samples };
+    }
+
+-- ---- adding
+
+module _ (b : Parts) (i : ℕ) (p : WithZones Head) where
+  pub totals-added_preset : i ≤ length b.presets → totals_of (preset_added b i p) ≡ with_owner level.Preset (totals_of b) (records_of_owner p)
+  unfolding totals_of
+  totals-added_preset le = λ k. record (totals_of b) {
+    presets = length-insert b.presets i p le k;
+    preset_zones = total-inserted zone_count b.presets i p k;
+    preset_gens = total-inserted gen_count b.presets i p k;
+    preset_mods = total-inserted mod_count b.presets i p k;
+  }
+
+  pub sound_added_preset : IsSound b → IsPreset (length b.instruments) p → FitsOwner FitsHead p → broken_limit (preset_added b i p) ≡ None → IsSound (preset_added b i p)
+  sound_added_preset sound is fits e = presets_sound b sound (insert b.presets i p)
+      (all_insert (IsPreset (length b.instruments)) b.presets i p is sound.valid.presets) (all_insert (FitsOwner FitsHead) b.presets i p fits sound.fits.presets) e
+
+  pub restored_added_preset : i ≤ length b.presets → preset_removed (preset_added b i p) i ≡ b
+  restored_added_preset le = ap (with_presets b) (remove-insert b.presets i p le)
+
+-- ---- removing
+
+module _ (b : Parts) (i : ℕ) (p : WithZones Head) (e : slice_get b.presets i ≡ Some p) where
+  pub totals-removed_preset : with_owner level.Preset (totals_of (preset_removed b i)) (records_of_owner p) ≡ totals_of b
+  unfolding totals_of
+  totals-removed_preset = λ k. record (totals_of b) {
+    presets = length-remove b.presets i (slice_get-within b.presets i p e) k;
+    preset_zones = total-removed zone_count b.presets i p e k;
+    preset_gens = total-removed gen_count b.presets i p e k;
+    preset_mods = total-removed mod_count b.presets i p e k;
+  }
+
+  pub restored_removed_preset : preset_added (preset_removed b i) i p ≡ b
+  restored_removed_preset = ap (with_presets b) (insert-remove b.presets i p e)
+
+pub sound_removed_preset : (b : Parts) (i : ℕ) → IsSound b → i < length b.presets → IsSound (preset_removed b i)
+sound_removed_preset b i sound lt =
+    let (p, e) = slice_get-found b.presets i lt in
+    presets_sound b sound (remove b.presets i) (all_remove (IsPreset (length b.instruments)) b.presets i sound.valid.presets) (all_remove (FitsOwner FitsHead) b.presets i sound.fits.presets)
+    (without_owner_within level.Preset (totals_of (preset_removed b i)) (records_of_owner p) (ap broken (totals-removed_preset b i p e) ∙ no_limit_of b sound.valid.limits))
 
 -- ---- moving
 
@@ -28,25 +88,9 @@ module _ (b : Parts) (i j : ℕ) (lt : i < length b.presets) (lu : j < length b.
   }
 
   pub preset_moved_sound : IsSound b → IsSound (preset_moved b i j)
-  preset_moved_sound sound =
-      let v = sound.valid in
-      let f = sound.fits in
-      record {
-        valid = record {
-          texts = v.texts;
-          presets = all_moved (IsPreset (length b.instruments)) b.presets i j lt v.presets;
-          instruments = v.instruments;
-          samples = v.samples;
-          limits = limits_of (preset_moved b i j) (ap broken totals-preset_moved ∙ no_limit_of b v.limits);
-        };
-        fits = record {
-          minor = f.minor;
-          texts = f.texts;
-          presets = all_moved (FitsOwner FitsHead) b.presets i j lt f.presets;
-          instruments = f.instruments;
-          samples = f.samples;
-        };
-      }
+  preset_moved_sound sound = presets_sound b sound (preset_moved b i j).presets
+      (all_moved (IsPreset (length b.instruments)) b.presets i j lt sound.valid.presets) (all_moved (FitsOwner FitsHead) b.presets i j lt sound.fits.presets)
+      (ap broken totals-preset_moved ∙ no_limit_of b sound.valid.limits)
 
   pub restored_preset_moved : preset_moved (preset_moved b i j) j i ≡ b
-  restored_preset_moved = ap (λ (presets : List (WithZones Head)). let t : Parts = record b { presets = presets } in t) (moved-back b.presets i j lt lu)
+  restored_preset_moved = ap (with_presets b) (moved-back b.presets i j lt lu)

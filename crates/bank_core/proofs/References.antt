@@ -5,20 +5,18 @@ use Rattle.numbered_lists.specs.declared.renumbering.Renumbering.{Renumbering}
 use Rattle.numbered_lists.specs.Renumbered.{renumbered}
 use Rattle.sf_base.specs.Names.{IsName}
 use Rattle.generators.specs.declared.level.Level.TheVariants as level
-use Rattle.sf_base.specs.Names.{IsName}
 use Rattle.bank_parts.specs.declared.parts.Kind.{Kind}
 use Rattle.bank_parts.specs.declared.parts.Kind.TheVariants.{Mono, Right, Left, Linked}
-use Rattle.bank_parts.specs.declared.parts.Zone.{Zone}
 use Rattle.bank_parts.specs.declared.parts.WithZones.{WithZones}
 use Rattle.bank_parts.specs.declared.parts.Sample.{Sample}
 use Rattle.bank_parts.specs.declared.parts.Parts.{Parts}
 use Rattle.bank_parts.specs.Links.{OfLink}
-use Rattle.bank_parts.specs.Renumbered.{kind_renumbered, sample_renumbered, zone_renumbered, owner_renumbered, samples_renumbered}
+use Rattle.bank_parts.specs.Renumbered.{kind_renumbered, sample_renumbered, owner_renumbered, samples_renumbered}
 use Rattle.bank_parts.specs.Owners.{targets}
 use Rattle.bank_core.specs.Samples.{links_to, sample_in_use}
 use Rattle.bank_parts.specs.Valid.{IsInstrument, IsSample, IsValid}
 use Rattle.bank_parts.specs.Fits.{Fits, FitsSample}
-use Rattle.bank_core.proofs.OwnerReferences.{OfTargets, OfOwners, owners_always, owners_within, owners_valid, owners_fit, owners_back}
+use Rattle.bank_core.proofs.OwnerReferences.{OfOwners, owners_always, owners_weaker, owners_both, owners_sent, owners_within, owners_valid, owners_fit, owners_kept, owners_back, untargeted, not_targeted}
 use Rattle.bank_core.proofs.Everywhere.{all_weaker, all_always, all_map, all_sent, all_both, map_kept, map_back, or_left, or_right, or_none, none_passes, passes_none}
 
 -- P holds of every target and link into the bank's samples
@@ -43,7 +41,7 @@ link_always P h (Linked x) = h x
 pub refs_weaker : (P Q : ℕ → Type 0) → ((x : ℕ) → P x → Q x) → (b : Parts) → OfSampleRefs P b → OfSampleRefs Q b
 refs_weaker P Q to b h = record {
   links = all_weaker (λ (s : Sample). OfLink P s.kind) (λ (s : Sample). OfLink Q s.kind) (λ s. link_weaker P Q to s.kind) b.samples h.links;
-  targets = all_weaker (λ (i : WithZones (List ℕ)). OfTargets P i.zones) (λ (i : WithZones (List ℕ)). OfTargets Q i.zones) (λ i. all_weaker (λ (z : Zone). P z.target) (λ (z : Zone). Q z.target) (λ z. to z.target) i.zones) b.instruments h.targets;
+  targets = owners_weaker P Q to b.instruments h.targets;
 }
 
 pub refs_always : (P : ℕ → Type 0) → ((x : ℕ) → P x) → (b : Parts) → OfSampleRefs P b
@@ -61,8 +59,7 @@ link_both P Q (Linked x) h g = (h, g)
 pub refs_both : (P Q : ℕ → Type 0) (b : Parts) → OfSampleRefs P b → OfSampleRefs Q b → OfSampleRefs (λ x. P x × Q x) b
 refs_both P Q b h g = record {
   links = all_both (λ (s : Sample). OfLink P s.kind) (λ (s : Sample). OfLink Q s.kind) (λ (s : Sample). OfLink (λ x. P x × Q x) s.kind) (λ s. link_both P Q s.kind) b.samples h.links g.links;
-  targets = all_both (λ (i : WithZones (List ℕ)). OfTargets P i.zones) (λ (i : WithZones (List ℕ)). OfTargets Q i.zones) (λ (i : WithZones (List ℕ)). OfTargets (λ x. P x × Q x) i.zones)
-      (λ i. all_both (λ (z : Zone). P z.target) (λ (z : Zone). Q z.target) (λ (z : Zone). P z.target × Q z.target) (λ z p q. (p, q)) i.zones) b.instruments h.targets g.targets;
+  targets = owners_both P Q b.instruments h.targets g.targets;
 }
 
 module _ (P Q : ℕ → Type 0) (by : Renumbering) (to : (x : ℕ) → P x → Q (renumbered by x)) where
@@ -76,8 +73,7 @@ module _ (P Q : ℕ → Type 0) (by : Renumbering) (to : (x : ℕ) → P x → Q
   pub refs_renumbered : (b : Parts) → OfSampleRefs P b → OfSampleRefs Q (samples_renumbered by b)
   refs_renumbered b h = record {
     links = all_sent (λ (s : Sample). OfLink P s.kind) (λ (s : Sample). OfLink Q s.kind) (sample_renumbered by) (λ s. link_sent s.kind) b.samples h.links;
-    targets = all_sent (λ (i : WithZones (List ℕ)). OfTargets P i.zones) (λ (i : WithZones (List ℕ)). OfTargets Q i.zones) (owner_renumbered by)
-        (λ i. all_sent (λ (z : Zone). P z.target) (λ (z : Zone). Q z.target) (zone_renumbered by) (λ z. to z.target) i.zones) b.instruments h.targets;
+    targets = owners_sent P Q by to b.instruments h.targets;
   }
 
 -- ---- a valid bank's references
@@ -108,7 +104,7 @@ module _ (by : Renumbering) (n : ℕ) (to : (x : ℕ) → x < n → renumbered b
     minor = f.minor;
     texts = f.texts;
     presets = f.presets;
-    instruments = owners_fit IsName by n to b.instruments f.instruments h.targets;
+    instruments = owners_fit IsName (λ x. x < n) by to b.instruments f.instruments h.targets;
     samples = all_map FitsSample (λ (s : Sample). OfLink (λ x. x < n) s.kind) FitsSample (sample_renumbered by)
         (λ s g h. record { name = g.name; points = g.points; looped = g.looped; rate = g.rate; key = g.key; correction = g.correction; kind = link_sent (λ x. x < n) (λ x. x < 2 ^ 16) by to s.kind h }) b.samples f.samples h.links;
   }
@@ -127,11 +123,7 @@ module _ (by : Renumbering) where
       let links : map (sample_renumbered by) b.samples ≡ b.samples =
       map_kept (sample_renumbered by) b.samples (all_weaker (λ (s : Sample). OfLink (λ x. renumbered by x ≡ x) s.kind) (λ (s : Sample). sample_renumbered by s ≡ s)
       (λ s k. ap (λ (kind : Kind). let t : Sample = record s { kind = kind } in t) (kind_kept s.kind k)) b.samples h.links) in
-      let targets : map (owner_renumbered by) b.instruments ≡ b.instruments =
-      map_kept (owner_renumbered by) b.instruments (all_weaker (λ (i : WithZones (List ℕ)). OfTargets (λ x. renumbered by x ≡ x) i.zones) (λ (i : WithZones (List ℕ)). owner_renumbered by i ≡ i)
-      (λ i k. ap (λ (zones : List Zone). let t : WithZones (List ℕ) = record i { zones = zones } in t)
-      (map_kept (zone_renumbered by) i.zones (all_weaker (λ (z : Zone). renumbered by z.target ≡ z.target) (λ (z : Zone). zone_renumbered by z ≡ z)
-      (λ z e. ap (λ (target : ℕ). let t : Zone = record z { target = target } in t) e) i.zones k))) b.instruments h.targets) in
+      let targets = owners_kept by b.instruments h.targets in
       λ i. record b { samples = links i; instruments = targets i }
 
 module _ (by back : Renumbering) where
@@ -173,13 +165,12 @@ unused b i h =
     record {
       links = all_weaker (λ (s : Sample). links_to i s.kind ≡ false) (λ (s : Sample). OfLink (λ x. (x == i) ≡ false) s.kind) (λ s. not_linked i s.kind) (remove b.samples i)
           (none_passes (λ (s : Sample). links_to i s.kind) (remove b.samples i) (or_right used linked h));
-      targets = all_weaker (λ (x : WithZones (List ℕ)). targets i x ≡ false) (λ (x : WithZones (List ℕ)). OfTargets (λ t. (t == i) ≡ false) x.zones) (λ x. none_passes (λ (z : Zone). z.target == i) x.zones) b.instruments
-          (none_passes (targets i) b.instruments (or_left used linked h));
+      targets = untargeted i b.instruments (or_left used linked h);
     }
 
 pub not_in_use : (b : Parts) (i : ℕ) → OfSampleRefs (λ x. (x == i) ≡ false) (record b { samples = remove b.samples i }) → sample_in_use b i ≡ false
 unfolding sample_in_use
 not_in_use b i h =
     or_none (list_any (targets i) b.instruments) (list_any (λ (s : Sample). links_to i s.kind) (remove b.samples i))
-    (passes_none (targets i) b.instruments (all_weaker (λ (x : WithZones (List ℕ)). OfTargets (λ t. (t == i) ≡ false) x.zones) (λ (x : WithZones (List ℕ)). targets i x ≡ false) (λ x. passes_none (λ (z : Zone). z.target == i) x.zones) b.instruments h.targets))
+    (not_targeted i b.instruments h.targets)
     (passes_none (λ (s : Sample). links_to i s.kind) (remove b.samples i) (all_weaker (λ (s : Sample). OfLink (λ x. (x == i) ≡ false) s.kind) (λ (s : Sample). links_to i s.kind ≡ false) (λ s. linked_not i s.kind) (remove b.samples i) h.links))

@@ -1,12 +1,13 @@
 -- The raw changes of samples: each keeps a bank sound, and is taken back.
-use Rattle.std.proofs.Common.{get_or, ◌≡◌, ◌++◌, ◌∷◌, [], Result, Ok, Err, OnOk, ◌<◌, ◌≤◌, ◌+◌, ◌^◌, ◌==◌, false, ℕ, List, length, map, insert, remove, slice_get, Some, None, refl, sym, ◌∙◌, ap, subst, arith}
+use Rattle.std.proofs.Common.{◌≡◌, ◌++◌, ◌∷◌, [], Result, Ok, Err, OnOk, ◌<◌, ◌≤◌, ◌+◌, ◌^◌, ◌==◌, false, ℕ, List, length, map, insert, remove, slice_get, Some, None, refl, sym, ◌∙◌, ap, subst, arith}
 use Rattle.std.proofs.lemmas.List.{length-map}
 use Rattle.std.proofs.lemmas.List.Edits.{length-insert, length-remove}
-use Rattle.std.proofs.lemmas.List.Sums.{sum_by-insert, sum_by-remove}
-use Rattle.std.proofs.lemmas.Option.{get_or_from_slice_get}
+use Rattle.std.proofs.lemmas.List.Sums.{sum_by-insert}
 use Rattle.std.specs.Prelude.{All}
+use Rattle.std.specs.List.{AllByRecursion}
 use Rattle.std.proofs.lemmas.List.Elements.{All-from_recursion}
 use Rattle.sf_base.specs.Names.{IsName}
+use Rattle.numbered_lists.specs.declared.renumbering.Renumbering.{Renumbering}
 use Rattle.numbered_lists.specs.declared.renumbering.Renumbering.TheVariants.{Insertion, Removal, Move}
 use Rattle.numbered_lists.specs.Renumbered.{renumbered}
 use Rattle.numbered_lists.specs.Moved.{changed, moved}
@@ -24,10 +25,11 @@ use Rattle.bank_parts.specs.Valid.{IsSample, IsValid, point_total}
 use Rattle.bank_parts.specs.Limits.{totals_of, broken, broken_limit, with_sample}
 use Rattle.bank_core.proofs.Everywhere.{all_weaker, all_insert, all_remove}
 use Rattle.bank_core.proofs.Moves.{all_moved, sum-moved, moved_back-sent}
+use Rattle.bank_core.proofs.OwnerReferences.{removal_keeps}
 use Rattle.bank_core.proofs.References.{fits_refs, OfSampleRefs, link_weaker, refs_weaker, refs_always, refs_within, refs_both, refs_renumbered, samples_valid, instruments_valid, refs_kept, refs_back, unused, not_in_use}
 use Rattle.sf_base.specs.declared.limits.TheConstants.{ZERO_POINTS}
 use Rattle.bank_parts.proofs.LimitLaws.{limits_of, no_limit_of}
-use Rattle.bank_core.proofs.Changes.{all_changed, sum-changed}
+use Rattle.bank_core.proofs.Changes.{all_changed, sum-changed, sum-removed}
 use Rattle.bank_core.proofs.TotalsLaws.{without_sample_within, with_sample_same, zones_kept, gens_kept, mods_kept, points_kept}
 
 -- ---- renaming
@@ -144,6 +146,19 @@ pushed b i s new (Err x) v e h = h
 
 -- ---- removing
 
+-- each link has 16 bits afterwards
+links_fit : (by : Renumbering) (n : ℕ) → ((x : ℕ) → x < n → renumbered by x < 2 ^ 16) → (ss : List Sample) → AllByRecursion (λ (s : Sample). OfLink (λ x. x < n) s.kind) ss
+    → All (λ (s : Sample). OfLink (λ x. renumbered by x < 2 ^ 16) s.kind) ss
+links_fit by n to ss within =
+    let P : Sample → Type 0 = λ s. OfLink (λ x. renumbered by x < 2 ^ 16) s.kind in
+    All-from_recursion P ss (all_weaker (λ (s : Sample). OfLink (λ x. x < n) s.kind) P (λ s. link_weaker (λ x. x < n) (λ x. renumbered by x < 2 ^ 16) to s.kind) ss within)
+
+pub links_fit-removed : (b : Parts) (i : ℕ) → IsValid b → All (λ (s : Sample). OfLink (λ x. renumbered (Removal i) x < 2 ^ 16) s.kind) (remove b.samples i)
+links_fit-removed b i v =
+    let few = v.limits.samples in
+    links_fit (Removal i) (length b.samples) (λ x lt. let h = removal_no_more i x in omega (arith, h, lt, few)) (remove b.samples i)
+    (all_remove (λ (s : Sample). OfLink (λ x. x < length b.samples) s.kind) b.samples i (refs_within b v).links)
+
 pub totals-removed : (b : Parts) (i : ℕ) (s : Sample) → slice_get b.samples i ≡ Some s → with_sample (totals_of (sample_removed b i)) (length s.points) ≡ totals_of b
 unfolding totals_of
 totals-removed b i s e =
@@ -153,9 +168,8 @@ totals-removed b i s e =
     let samples : length (map (sample_renumbered by) left) + 1 ≡ length b.samples =
     let same = length-map left (sample_renumbered by) in let less = length-remove b.samples i lt in omega (arith, same, less) in
     let points : point_total (map (sample_renumbered by) left) + (length s.points + ZERO_POINTS) ≡ point_total b.samples =
-    let less = sum_by-remove {X = Sample} (λ (t : Sample). length t.points + ZERO_POINTS) b.samples i s lt in
-    let here : length (get_or b.samples i s).points + ZERO_POINTS ≡ length s.points + ZERO_POINTS = ap (λ (t : Sample). length t.points + ZERO_POINTS) (get_or_from_slice_get b.samples i s s e) in
-    let kept = points_kept by left in omega (arith, less, here, kept) in
+    let less = sum-removed (λ (t : Sample). length t.points + ZERO_POINTS) b.samples i s e in
+    let kept = points_kept by left in omega (arith, less, kept) in
     λ k. record (totals_of b) {
       instruments = length-map b.instruments (owner_renumbered by) k;
       samples = samples k;
@@ -200,6 +214,16 @@ removed_fits b i v f =
 
 pub removed_sound : (b : Parts) (i : ℕ) → IsSound b → i < length b.samples → sample_in_use b i ≡ false → IsSound (sample_removed b i)
 removed_sound b i sound lt free = record { valid = removed_valid b i sound.valid lt free; fits = removed_fits b i sound.valid sound.fits }
+
+-- the last one's removal renumbers nothing
+pub removed_last : (b : Parts) (i : ℕ) → IsValid b → i < length b.samples → length (remove b.samples i) ≤ i → (let t : Parts = record b { samples = remove b.samples i } in t) ≡ sample_removed b i
+removed_last b i v lt last =
+    let n : ℕ = length b.samples in
+    let left : Parts = record b { samples = remove b.samples i } in
+    let less = length-remove b.samples i lt in
+    let within = refs_within b v in
+    sym (refs_kept (Removal i) left (refs_weaker (λ x. x < n) (λ x. renumbered (Removal i) x ≡ x) (λ x h. removal_keeps i x (omega (arith, less, last, h))) left
+    (record { links = all_remove (λ (t : Sample). OfLink (λ x. x < n) t.kind) b.samples i within.links; targets = within.targets })))
 
 -- ---- there and back
 
@@ -271,16 +295,11 @@ module _ (b : Parts) (i j : ℕ) (lt : i < length b.samples) (lu : j < length b.
       (record { minor = f.minor; texts = f.texts; presets = f.presets; instruments = f.instruments; samples = all_moved FitsSample b.samples i j lt f.samples })
       (record { links = all_moved (λ (s : Sample). OfLink (λ x. x < n) s.kind) b.samples i j lt within.links; targets = within.targets })
 
-  -- each link has 16 bits afterwards
   pub links_fit-moved : IsValid b → All (λ (s : Sample). OfLink (λ x. renumbered (Move i j) x < 2 ^ 16) s.kind) (moved b.samples i j)
   links_fit-moved v =
-      let n : ℕ = length b.samples in
       let few = v.limits.samples in
-      let within = refs_within b v in
-      let P : Sample → Type 0 = λ s. OfLink (λ x. renumbered (Move i j) x < 2 ^ 16) s.kind in
-      let fit = all_weaker (λ (s : Sample). OfLink (λ x. x < n) s.kind) P
-      (λ s. link_weaker (λ x. x < n) (λ x. renumbered (Move i j) x < 2 ^ 16) (λ x h. let below = move_below i j x n lt lu h in omega (arith, below, few)) s.kind) b.samples within.links in
-      All-from_recursion P (moved b.samples i j) (all_moved P b.samples i j lt fit)
+      links_fit (Move i j) (length b.samples) (λ x h. let below = move_below i j x (length b.samples) lt lu h in omega (arith, below, few)) (moved b.samples i j)
+      (all_moved (λ (s : Sample). OfLink (λ x. x < length b.samples) s.kind) b.samples i j lt (refs_within b v).links)
 
   pub moved_sound : IsSound b → IsSound (sample_moved b i j)
   moved_sound sound = record { valid = moved_valid sound.valid; fits = moved_fits sound.valid sound.fits }

@@ -1,15 +1,17 @@
-//! The raw changes of a bank's instruments.
-ghost use Rattle.std.specs.Prelude.{◌≡◌, ◌<◌, Some, length};
+//! The raw changes of a bank's instruments, and who names an instrument.
+ghost use Rattle.std.specs.Prelude.{◌≡◌, ◌<◌, ◌≤◌, Some, length, slice_get, OnOk, OnErr, IfOk, IfErr};
 ghost use Rattle.bank_parts.specs.Owners.{head_at};
 ghost use Rattle.bank_parts.specs.Valid.{IsValid};
 ghost use Rattle.bank_parts.specs.Sound.{IsSound};
 ghost use Rattle.bank_core.specs.Members.{instrument_name_of};
-ghost use Rattle.bank_core.specs.Instruments.{instrument_renamed, instrument_moved};
+ghost use Rattle.bank_core.specs.Instruments.{instrument_renamed, instrument_added, instrument_removed, instrument_moved, instrument_in_use};
 
 use crate::bank::Bank;
-use bank_parts::Parts;
+use bank_parts::{Instrument, Parts};
+use generators::Level;
 use numbered_lists::{Renumber, Renumbering};
-use sf_base::Name20;
+use sf_base::{Name20, OutOfMemory};
+use std::alloc::Global;
 
 impl<'a> Bank<'a> {
     /// Gives an instrument a name, and gives back the one that it had. Takes no memory.
@@ -22,6 +24,37 @@ impl<'a> Bank<'a> {
         rename_instrument(&mut self.parts, number, name)
     }
 
+    /// Makes an instrument number `number`. The instruments from there on get the next number each, and
+    /// what names them follows; at the end of the list nothing does, and no preset is touched. For want
+    /// of memory the bank stays as it is, and the instrument comes back.
+    pub fn add_instrument(&mut self, number: u32, instrument: Instrument) -> Result<(), Instrument>
+        requires place { number ≤ length self.old.instruments }
+        requires sound { IsSound (instrument_added self.old number instrument) }
+        ensures ok { OnOk result (self.new ≡ instrument_added self.old number instrument) }
+        ensures err { OnErr result (self.new ≡ self.old) }
+        ensures value_returned { IfErr result (λ back. back ≡ instrument) }
+    {
+        let totals = self.totals.with_owner(Level::Instrument, instrument.records());
+        insert_instrument(&mut self.parts, number, instrument)?;
+        self.totals = totals;
+        Ok(())
+    }
+
+    /// Takes an instrument out; the instruments behind it get the number before each, and what names
+    /// them follows. At the end of the list no preset is touched. It takes no memory and never answers
+    /// want of it, but another representation may; then the bank stays as it is.
+    pub fn remove_instrument(&mut self, alloc: Global, number: u32) -> Result<Instrument, OutOfMemory>
+        requires there { number < length self.old.instruments }
+        requires sound { IsSound (instrument_removed self.old number) }
+        ensures value { IfOk result (λ instrument. slice_get self.old.instruments number ≡ Some instrument) }
+        ensures change { OnOk result (self.new ≡ instrument_removed self.old number) }
+        ensures err { OnErr result (self.new ≡ self.old) }
+    {
+        let instrument = take_instrument(&mut self.parts, alloc, number)?;
+        self.totals = self.totals.without_owner(Level::Instrument, instrument.records());
+        Ok(instrument)
+    }
+
     /// Makes instrument `from` instrument `to`; the others keep their order, and what names them
     /// follows. Takes no memory.
     pub fn move_instrument(&mut self, from: u32, to: u32)
@@ -31,6 +64,14 @@ impl<'a> Bank<'a> {
         ensures { self.new ≡ instrument_moved self.old from to }
     {
         move_instrument(&mut self.parts, from, to);
+    }
+
+    /// Whether a zone of a preset targets the instrument. There need be none of the number.
+    #[tactic(auto, unfolding(crate::specs::Instruments::instrument_in_use))]
+    pub fn is_instrument_in_use(&self, number: u32) -> bool
+        ensures { result ≡ instrument_in_use self.now number }
+    {
+        self.parts.presets.any_targets(number)
     }
 }
 
@@ -42,6 +83,47 @@ fn rename_instrument(parts: &mut Parts<'_>, number: u32, name: Name20) -> Name20
     ensures change { parts.new ≡ instrument_renamed parts.old number name }
 {
     parts.instruments.replace_head(number as usize, name)
+}
+
+// At the end it renumbers nothing, and does not walk the bank.
+fn insert_instrument(
+    parts: &mut Parts<'_>,
+    number: u32,
+    instrument: Instrument,
+) -> Result<(), Instrument>
+    requires valid { IsValid parts.old }
+    requires place { number ≤ length parts.old.instruments }
+    ensures ok { OnOk result (parts.new ≡ instrument_added parts.old number instrument) }
+    ensures err { OnErr result (parts.new ≡ parts.old) }
+    ensures value_returned { IfErr result (λ back. back ≡ instrument) }
+{
+    let count = parts.instruments.len();
+    parts.instruments.insert(number as usize, instrument)?;
+    if (number as usize) < count {
+        let by = Renumbering::Insertion { at: number };
+        parts.presets.renumber(by);
+    }
+    Ok(())
+}
+
+// At the end it renumbers nothing, and does not walk the bank.
+fn take_instrument(
+    parts: &mut Parts<'_>,
+    alloc: Global,
+    number: u32,
+) -> Result<Instrument, OutOfMemory>
+    requires valid { IsValid parts.old }
+    requires there { number < length parts.old.instruments }
+    ensures value { IfOk result (λ instrument. slice_get parts.old.instruments number ≡ Some instrument) }
+    ensures change { OnOk result (parts.new ≡ instrument_removed parts.old number) }
+    ensures err { OnErr result (parts.new ≡ parts.old) }
+{
+    let instrument = parts.instruments.remove(alloc, number as usize)?;
+    if (number as usize) < parts.instruments.len() {
+        let by = Renumbering::Removal { at: number };
+        parts.presets.renumber(by);
+    }
+    Ok(instrument)
 }
 
 fn move_instrument(parts: &mut Parts<'_>, from: u32, to: u32)

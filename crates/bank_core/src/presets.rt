@@ -1,12 +1,45 @@
 //! The raw changes of a bank's presets.
-ghost use Rattle.std.specs.Prelude.{◌≡◌, ◌<◌, length};
+ghost use Rattle.std.specs.Prelude.{◌≡◌, ◌<◌, ◌≤◌, Some, length, slice_get, OnOk, OnErr, IfOk, IfErr};
 ghost use Rattle.bank_parts.specs.Sound.{IsSound};
-ghost use Rattle.bank_core.specs.Presets.{preset_moved};
+ghost use Rattle.bank_core.specs.Presets.{preset_added, preset_removed, preset_moved};
 
 use crate::bank::Bank;
-use bank_parts::Parts;
+use bank_parts::{Parts, Preset};
+use generators::Level;
+use sf_base::OutOfMemory;
+use std::alloc::Global;
 
 impl<'a> Bank<'a> {
+    /// Makes a preset number `number`; the presets from there on get the next number each. Nothing names
+    /// a preset, so nothing follows. For want of memory the bank stays as it is, and the preset comes
+    /// back.
+    pub fn add_preset(&mut self, number: u32, preset: Preset) -> Result<(), Preset>
+        requires place { number ≤ length self.old.presets }
+        requires sound { IsSound (preset_added self.old number preset) }
+        ensures ok { OnOk result (self.new ≡ preset_added self.old number preset) }
+        ensures err { OnErr result (self.new ≡ self.old) }
+        ensures value_returned { IfErr result (λ back. back ≡ preset) }
+    {
+        let totals = self.totals.with_owner(Level::Preset, preset.records());
+        insert_preset(&mut self.parts, number, preset)?;
+        self.totals = totals;
+        Ok(())
+    }
+
+    /// Takes a preset out; the presets behind it get the number before each. It takes no memory and
+    /// never answers want of it, but another representation may; then the bank stays as it is.
+    pub fn remove_preset(&mut self, alloc: Global, number: u32) -> Result<Preset, OutOfMemory>
+        requires there { number < length self.old.presets }
+        requires sound { IsSound (preset_removed self.old number) }
+        ensures value { IfOk result (λ preset. slice_get self.old.presets number ≡ Some preset) }
+        ensures change { OnOk result (self.new ≡ preset_removed self.old number) }
+        ensures err { OnErr result (self.new ≡ self.old) }
+    {
+        let preset = take_preset(&mut self.parts, alloc, number)?;
+        self.totals = self.totals.without_owner(Level::Preset, preset.records());
+        Ok(preset)
+    }
+
     /// Makes preset `from` preset `to`; the others keep their order. Takes no memory.
     pub fn move_preset(&mut self, from: u32, to: u32)
         requires there { from < length self.old.presets }
@@ -18,7 +51,25 @@ impl<'a> Bank<'a> {
     }
 }
 
-// ---- the change, without what a bank keeps beside its parts
+// ---- the changes, without what a bank keeps beside its parts
+
+fn insert_preset(parts: &mut Parts<'_>, number: u32, preset: Preset) -> Result<(), Preset>
+    requires { number ≤ length parts.old.presets }
+    ensures ok { OnOk result (parts.new ≡ preset_added parts.old number preset) }
+    ensures err { OnErr result (parts.new ≡ parts.old) }
+    ensures value_returned { IfErr result (λ back. back ≡ preset) }
+{
+    parts.presets.insert(number as usize, preset)
+}
+
+fn take_preset(parts: &mut Parts<'_>, alloc: Global, number: u32) -> Result<Preset, OutOfMemory>
+    requires { number < length parts.old.presets }
+    ensures value { IfOk result (λ preset. slice_get parts.old.presets number ≡ Some preset) }
+    ensures change { OnOk result (parts.new ≡ preset_removed parts.old number) }
+    ensures err { OnErr result (parts.new ≡ parts.old) }
+{
+    parts.presets.remove(alloc, number as usize)
+}
 
 fn move_preset(parts: &mut Parts<'_>, from: u32, to: u32)
     requires there { from < length parts.old.presets }

@@ -41,7 +41,7 @@ impl<'a> Bank<'a> {
     }
 
     /// Takes a sample out; the samples behind it get the number before each, and what names them
-    /// follows. Takes no memory.
+    /// follows. At the end of the list nothing but the list is touched. Takes no memory.
     pub fn remove_sample(&mut self, number: u32) -> Sample<'a>
         requires there { number < length self.old.samples }
         requires sound { IsSound (sample_removed self.old number) }
@@ -109,6 +109,7 @@ fn insert_sample<'a>(
     Ok(())
 }
 
+// At the end it renumbers nothing, and does not walk the bank.
 fn take_sample<'a>(parts: &mut Parts<'a>, number: u32) -> Sample<'a>
     requires valid { IsValid parts.old }
     requires there { number < length parts.old.samples }
@@ -116,9 +117,11 @@ fn take_sample<'a>(parts: &mut Parts<'a>, number: u32) -> Sample<'a>
     ensures change { parts.new ≡ sample_removed parts.old number }
 {
     let sample = parts.samples.remove(number as usize);
-    let by = Renumbering::Removal { at: number };
-    parts.samples.renumber(by);
-    parts.instruments.renumber(by);
+    if (number as usize) < parts.samples.len() {
+        let by = Renumbering::Removal { at: number };
+        parts.samples.renumber(by);
+        parts.instruments.renumber(by);
+    }
     sample
 }
 

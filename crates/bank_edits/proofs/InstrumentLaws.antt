@@ -1,18 +1,57 @@
 -- The forms that edit instruments: what acceptance says of each, and what the code answers.
-use Rattle.std.proofs.Common.{◌≡◌, ◌<◌, ℕ, List, length, Some, None, refl, ◌∙◌, ap}
+use Rattle.std.proofs.Common.{◌≡◌, ◌<◌, ◌≤◌, ℕ, false, List, length, Some, None, refl, ◌∙◌, ap}
+use Rattle.sf_base.specs.Names.{IsName}
+use Rattle.generators.specs.declared.level.Level.TheVariants as level
+use Rattle.bank_parts.specs.declared.parts.WithZones.{WithZones}
 use Rattle.bank_parts.specs.Owners.{head_at}
 use Rattle.bank_parts.specs.declared.parts.Parts.{Parts}
 use Rattle.bank_parts.specs.Valid.{IsValid}
+use Rattle.bank_parts.specs.Fits.{FitsOwner}
 use Rattle.bank_parts.specs.Sound.{IsSound}
-use Rattle.bank_parts.specs.Limits.{broken, broken_limit}
+use Rattle.bank_parts.specs.Counts.{records_of_owner}
+use Rattle.bank_parts.specs.Limits.{totals_of, broken, broken_limit, with_owner}
 use Rattle.bank_parts.proofs.LimitLaws.{no_limit_of}
-use Rattle.bank_core.specs.Instruments.{instrument_renamed, instrument_moved}
-use Rattle.bank_core.proofs.InstrumentLaws.{totals-instrument_renamed, totals-instrument_moved, instrument_moved_sound}
-use Rattle.bank_edits.specs.declared.edit.Step.TheVariants.{RenameInstrument, MoveInstrument}
-use Rattle.bank_edits.specs.declared.cause.Cause.TheVariants.{NoSuchInstrument}
-use Rattle.bank_edits.specs.Steps.{refusal, inverse}
-use Rattle.bank_edits.proofs.Accepted.{accepted, below}
+use Rattle.bank_core.specs.Instruments.{instrument_added, instrument_removed, instrument_in_use, instrument_renamed, instrument_moved}
+use Rattle.bank_core.proofs.InstrumentLaws.{totals-added_instrument, totals-instrument_renamed, totals-instrument_moved, sound_added_instrument, sound_removed_instrument, instrument_moved_sound}
+use Rattle.bank_edits.specs.declared.edit.Step.TheVariants.{AddInstrument, RemoveInstrument, RenameInstrument, MoveInstrument}
+use Rattle.bank_edits.specs.declared.cause.Cause.TheVariants.{NoSuchInstrument, NoSuchSample}
+use Rattle.bank_edits.specs.Steps.{refusal, inverse, causes}
+use Rattle.bank_edits.proofs.Accepted.{NoneStands, accepted, below}
 use Rattle.bank_edits.proofs.Moves.{Moves, moves}
+use Rattle.bank_edits.proofs.OwnerLaws.{GoesIn, goes_in}
+
+-- ---- add-inst
+
+module _ (b : Parts) (i : ℕ) (x : WithZones (List ℕ)) where
+  abbrev pub InstrumentGoes : Type 0
+  InstrumentGoes = GoesIn (λ name. name) level.Instrument (length b.samples) (length b.instruments) i x
+
+  pub instrument_goes : FitsOwner IsName x → refusal b (AddInstrument i x) ≡ None → InstrumentGoes
+  instrument_goes fits h =
+      goes_in (λ name. name) level.Instrument (length b.samples) (length b.instruments) i x NoSuchSample fits.head (accepted b (AddInstrument i x) h).tests
+
+  pub sound_add_instrument : IsSound b → FitsOwner IsName x → refusal b (AddInstrument i x) ≡ None → IsSound (instrument_added b i x)
+  sound_add_instrument sound fits h = let g = instrument_goes fits h in sound_added_instrument b i x sound g.place g.is fits (accepted b (AddInstrument i x) h).limits
+
+  -- the limit that the sums tell
+  pub limit_add_instrument : i ≤ length b.instruments → broken_limit (instrument_added b i x) ≡ broken (with_owner level.Instrument (totals_of b) (records_of_owner x))
+  limit_add_instrument le = ap broken (totals-added_instrument b i x le)
+
+-- ---- remove-inst
+
+module _ (b : Parts) (i : ℕ) where
+  pub record InstrumentComes : Type 0 where
+    pub there : i < length b.instruments
+    pub free : instrument_in_use b i ≡ false
+
+  pub instrument_comes : NoneStands (causes b (RemoveInstrument i)) → InstrumentComes
+  instrument_comes (there, (free, end)) = record { there = below (length b.instruments) i there; free = free }
+
+  pub sound_remove_instrument : IsSound b → refusal b (RemoveInstrument i) ≡ None → IsSound (instrument_removed b i)
+  sound_remove_instrument sound h = let c = instrument_comes (accepted b (RemoveInstrument i) h).tests in sound_removed_instrument b i sound c.there c.free
+
+  pub within_remove_instrument : IsSound b → i < length b.instruments → instrument_in_use b i ≡ false → broken_limit (instrument_removed b i) ≡ None
+  within_remove_instrument sound lt free = no_limit_of (instrument_removed b i) (sound_removed_instrument b i sound lt free).valid.limits
 
 -- ---- rename-inst
 

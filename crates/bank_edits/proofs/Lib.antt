@@ -1,5 +1,6 @@
 pub mod Accepted
 pub mod Moves
+pub mod OwnerLaws
 pub mod InstrumentLaws
 pub mod PresetLaws
 pub mod SampleLaws

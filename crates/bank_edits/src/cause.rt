@@ -20,6 +20,12 @@ pub enum Cause {
     /// A zone targets the member, or another sample links to it.
     #[error("the member is in use")]
     InUse,
+    /// An operator, or the operator of a target, where its level does not allow it.
+    #[error("the generator is not allowed there")]
+    BadGenerator,
+    /// A range whose low end is above its high end, or whose high end is above 127.
+    #[error("the range is empty or above 127")]
+    BadRange,
     #[error("the loop is empty or not in the sample")]
     BadLoop,
     #[error("the text is too long, has a zero byte, or is empty and must not be")]
@@ -40,6 +46,8 @@ impl Cause {
             Cause::NoSuchSample => 22,
             Cause::BadPlace => 25,
             Cause::InUse => 26,
+            Cause::BadGenerator => 27,
+            Cause::BadRange => 29,
             Cause::BadLoop => 35,
             Cause::BadText => 36,
             Cause::Full(_) => 37,
@@ -56,6 +64,8 @@ impl Cause {
             Cause::NoSuchSample => "NoSuchSample",
             Cause::BadPlace => "BadPlace",
             Cause::InUse => "InUse",
+            Cause::BadGenerator => "BadGenerator",
+            Cause::BadRange => "BadRange",
             Cause::BadLoop => "BadLoop",
             Cause::BadText => "BadText",
             Cause::Full(_) => "Full",

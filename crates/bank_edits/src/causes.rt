@@ -8,7 +8,8 @@ ghost use Rattle.bank_edits.specs.Causes as causes;
 
 use crate::cause::Cause;
 use bank_core::Bank;
-use bank_parts::{InfoId, Kind, Limit, Sample};
+use bank_parts::{InfoId, Kind, Limit, Sample, WithZones};
+use generators::Level;
 use sf_base::Lent;
 use sf_base::limits::{COMMENT_LENGTH, TEXT_LENGTH};
 
@@ -39,6 +40,37 @@ pub(crate) fn no_such_instrument(bank: &Bank<'_>, instrument: u32) -> Result<(),
     )
 }
 
+pub(crate) fn used_instrument(bank: &Bank<'_>, instrument: u32) -> Result<(), Cause>
+    ensures { Passes (causes.used_instrument bank.now instrument) result }
+{
+    judge(bank.is_instrument_in_use(instrument), Cause::InUse)
+}
+
+// ---- zones of a preset or an instrument
+
+/// A zone's target is past so many members; the cause says of which kind they are.
+pub(crate) fn no_such_target<H>(
+    count: usize,
+    owner: &WithZones<H>,
+    cause: Cause,
+) -> Result<(), Cause>
+    ensures { Passes (causes.no_such_target count owner.now cause) result }
+{
+    judge(owner.misses_target(count), cause)
+}
+
+pub(crate) fn bad_generator<H>(at: Level, owner: &WithZones<H>) -> Result<(), Cause>
+    ensures { Passes (causes.bad_generator at owner.now) result }
+{
+    judge(owner.has_foreign(at), Cause::BadGenerator)
+}
+
+pub(crate) fn bad_range<H>(owner: &WithZones<H>) -> Result<(), Cause>
+    ensures { Passes (causes.bad_range owner.now) result }
+{
+    judge(owner.has_bad_range(), Cause::BadRange)
+}
+
 // ---- samples
 
 pub(crate) fn no_such_sample(bank: &Bank<'_>, sample: u32) -> Result<(), Cause>
@@ -65,9 +97,9 @@ pub(crate) fn bad_loop(sample: &Sample<'_>) -> Result<(), Cause>
     )
 }
 
-pub(crate) fn in_use(bank: &Bank<'_>, sample: u32) -> Result<(), Cause>
+pub(crate) fn used_sample(bank: &Bank<'_>, sample: u32) -> Result<(), Cause>
     requires { sample < length bank.now.samples }
-    ensures { Passes (causes.in_use bank.now sample) result }
+    ensures { Passes (causes.used_sample bank.now sample) result }
 {
     judge(bank.is_sample_in_use(sample), Cause::InUse)
 }

@@ -8,16 +8,20 @@ ghost use Rattle.bank_edits.specs.Edits.{FitsEdit};
 
 use crate::cause::Cause;
 use crate::instruments::{
-    move_instrument, refuse_move_instrument, refuse_rename_instrument, rename_instrument,
+    add_instrument, move_instrument, refuse_add_instrument, refuse_move_instrument,
+    refuse_remove_instrument, refuse_rename_instrument, remove_instrument, rename_instrument,
 };
-use crate::presets::{move_preset, refuse_move_preset};
+use crate::presets::{
+    add_preset, move_preset, refuse_add_preset, refuse_move_preset, refuse_remove_preset,
+    remove_preset,
+};
 use crate::samples::{
     add_sample, move_sample, refuse_add_sample, refuse_move_sample, refuse_remove_sample,
     refuse_rename_sample, remove_sample, rename_sample,
 };
 use crate::texts::{refuse_set_info, set_info};
 use bank_core::Bank;
-use bank_parts::{InfoId, Kind, Sample};
+use bank_parts::{InfoId, Instrument, Kind, Preset, Sample};
 use sf_base::{Lent, Name20};
 use std::alloc::Global;
 
@@ -26,10 +30,19 @@ use std::alloc::Global;
 #[derive(Drop)]
 pub enum Step<'a> {
     // ---- presets
+    /// `add-preset P NAME NUMBER BANK LIBRARY GENRE MORPHOLOGY GLOBAL? ZONE*`: the preset is put in as
+    /// number `at`.
+    AddPreset { at: u32, preset: Preset },
+    /// `remove-preset P`: the preset is taken out.
+    RemovePreset { preset: u32 },
     /// `move-preset I J`: preset `from` is preset `to`.
     MovePreset { from: u32, to: u32 },
 
     // ---- instruments
+    /// `add-inst I NAME GLOBAL? ZONE*`: the instrument is put in as number `at`.
+    AddInstrument { at: u32, instrument: Instrument },
+    /// `remove-inst I`: the instrument is taken out.
+    RemoveInstrument { instrument: u32 },
     /// `rename-inst I NAME`: the instrument gets the name.
     RenameInstrument { instrument: u32, name: Name20 },
     /// `move-inst I J`: instrument `from` is instrument `to`.
@@ -59,7 +72,7 @@ pub enum Edit<'a> {
 
 impl<'a> Step<'a> {
     /// The law that each number, name and text is in the range of its field. It does nothing.
-    pub fn fits(&self)
+    pub(crate) fn fits(&self)
         ensures { FitsStep self.now }
     {
         match self {
@@ -80,12 +93,22 @@ impl<'a> Step<'a> {
                 let _number = *number;
                 let _name = name.bytes();
             }
+            Step::AddPreset { at, preset } => {
+                let _at = *at;
+                preset.fits();
+            }
+            Step::AddInstrument { at, instrument } => {
+                let _at = *at;
+                instrument.fits();
+            }
             Step::AddSample { at, sample } => {
                 let _at = *at;
                 sample_fits(sample);
             }
-            Step::RemoveSample { sample } => {
-                let _sample = *sample;
+            Step::RemovePreset { preset: number }
+            | Step::RemoveInstrument { instrument: number }
+            | Step::RemoveSample { sample: number } => {
+                let _number = *number;
             }
             Step::SetInfo { id: _, text } => {
                 let _text = text.bytes();
@@ -100,7 +123,11 @@ pub(crate) fn refuse_step(bank: &Bank<'_>, step: &Step<'_>) -> Result<(), Cause>
     ensures { Judges (refusal bank.now step.now) result }
 {
     match step {
+        Step::AddPreset { at, preset } => refuse_add_preset(bank, *at, preset),
+        Step::RemovePreset { preset } => refuse_remove_preset(bank, *preset),
         Step::MovePreset { from, to } => refuse_move_preset(bank, *from, *to),
+        Step::AddInstrument { at, instrument } => refuse_add_instrument(bank, *at, instrument),
+        Step::RemoveInstrument { instrument } => refuse_remove_instrument(bank, *instrument),
         Step::RenameInstrument { instrument, name } => {
             refuse_rename_instrument(bank, *instrument, *name)
         }
@@ -124,9 +151,12 @@ pub(crate) fn change_step<'a>(
     ensures outcome { IsStepChange bank.old bank.new step.entry result }
     ensures no_memory { GrowsNothing step.entry → IsOk result }
 {
-    let _ = alloc;
     match step {
+        Step::AddPreset { at, preset } => add_preset(bank, at, preset),
+        Step::RemovePreset { preset } => remove_preset(alloc, bank, preset),
         Step::MovePreset { from, to } => Ok(move_preset(bank, from, to)),
+        Step::AddInstrument { at, instrument } => add_instrument(bank, at, instrument),
+        Step::RemoveInstrument { instrument } => remove_instrument(alloc, bank, instrument),
         Step::RenameInstrument { instrument, name } => {
             Ok(rename_instrument(bank, instrument, name))
         }
@@ -141,7 +171,7 @@ pub(crate) fn change_step<'a>(
 
 impl<'a> Edit<'a> {
     /// The law that each number, name and text is in the range of its field. It does nothing.
-    pub fn fits(&self)
+    pub(crate) fn fits(&self)
         ensures { FitsEdit self.now }
     {
         match self {

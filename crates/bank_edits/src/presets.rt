@@ -1,4 +1,4 @@
-//! The form that edits presets: why it is refused, and what it does.
+//! The forms that edit presets: why each is refused, and what it does.
 ghost use Rattle.std.specs.Prelude.{◌≡◌, None, Ok};
 ghost use Rattle.bank_parts.specs.Sound.{IsSound};
 ghost use Rattle.bank_edits.specs.declared.edit.Step.TheVariants as step;
@@ -6,9 +6,77 @@ ghost use Rattle.bank_edits.specs.Answers.{Judges, IsStepChange};
 ghost use Rattle.bank_edits.specs.Steps.{refusal};
 
 use crate::cause::Cause;
-use crate::causes::{no_such_place, no_such_preset};
+use crate::causes::{
+    bad_generator, bad_place, bad_range, full, no_such_place, no_such_preset, no_such_target,
+};
 use crate::edit::Step;
 use bank_core::{Bank, Members};
+use bank_parts::Preset;
+use generators::Level;
+use std::alloc::Global;
+
+// ---- add-preset
+
+pub(crate) fn refuse_add_preset(bank: &Bank<'_>, at: u32, preset: &Preset) -> Result<(), Cause>
+    requires { IsSound bank.now }
+    ensures { Judges (refusal bank.now (step.AddPreset at preset.now)) result }
+{
+    no_such_target(
+        bank.count(Members::Instruments),
+        preset,
+        Cause::NoSuchInstrument,
+    )?;
+    bad_place(bank.count(Members::Presets), at)?;
+    bad_generator(Level::Preset, preset)?;
+    bad_range(preset)?;
+    full(
+        bank.totals()
+            .broken_with_owner(Level::Preset, preset.records()),
+    )
+}
+
+pub(crate) fn add_preset<'a>(
+    bank: &mut Bank<'a>,
+    at: u32,
+    preset: Preset,
+) -> Result<Step<'a>, Step<'a>>
+    requires sound { IsSound bank.old }
+    requires accepted { refusal bank.old (step.AddPreset at preset) ≡ None }
+    ensures { IsStepChange bank.old bank.new (step.AddPreset at preset) result }
+{
+    preset.fits();
+    match bank.add_preset(at, preset) {
+        Ok(()) => Ok(Step::RemovePreset { preset: at }),
+        Err(preset) => Err(Step::AddPreset { at, preset }),
+    }
+}
+
+// ---- remove-preset
+
+pub(crate) fn refuse_remove_preset(bank: &Bank<'_>, preset: u32) -> Result<(), Cause>
+    requires { IsSound bank.now }
+    ensures { Judges (refusal bank.now (step.RemovePreset preset)) result }
+{
+    no_such_preset(bank, preset)
+}
+
+pub(crate) fn remove_preset<'a>(
+    alloc: Global,
+    bank: &mut Bank<'a>,
+    preset: u32,
+) -> Result<Step<'a>, Step<'a>>
+    requires sound { IsSound bank.old }
+    requires accepted { refusal bank.old (step.RemovePreset preset) ≡ None }
+    ensures { IsStepChange bank.old bank.new (step.RemovePreset preset) result }
+{
+    match bank.remove_preset(alloc, preset) {
+        Ok(removed) => Ok(Step::AddPreset {
+            at: preset,
+            preset: removed,
+        }),
+        Err(_) => Err(Step::RemovePreset { preset }),
+    }
+}
 
 // ---- move-preset
 

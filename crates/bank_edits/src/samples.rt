@@ -7,7 +7,7 @@ ghost use Rattle.bank_edits.specs.Steps.{refusal};
 
 use crate::cause::Cause;
 use crate::causes::{
-    bad_loop, bad_place, full, in_use, no_such_link, no_such_place, no_such_sample,
+    bad_loop, bad_place, full, no_such_link, no_such_place, no_such_sample, used_sample,
 };
 use crate::edit::{Step, sample_fits};
 use bank_core::{Bank, Members};
@@ -68,7 +68,7 @@ pub(crate) fn refuse_remove_sample(bank: &Bank<'_>, sample: u32) -> Result<(), C
     ensures { Judges (refusal bank.now (step.RemoveSample sample)) result }
 {
     no_such_sample(bank, sample)?;
-    in_use(bank, sample)
+    used_sample(bank, sample)
 }
 
 pub(crate) fn remove_sample<'a>(bank: &mut Bank<'a>, sample: u32) -> Step<'a>

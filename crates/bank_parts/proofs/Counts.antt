@@ -1,9 +1,7 @@
 -- Counts of records.
-use Rattle.std.proofs.Common.{◌≡◌, ◌+◌, ◌==◌, ◌↔◌, ◌<◌, ◌≤◌, ◌^◌, ℕ, zero, suc, Bool, true, false, IsTrue, true≢false, List, [], ◌∷◌, length, take, slice_get, Option, Some, None, refl, sym, ap, ◌∙◌, arith}
-use Rattle.std.specs.Prelude.{sum_by, min, IfSome, IsSomeAnd, if◌then◌else◌}
-use Rattle.std.specs.Option.{option_map, option_and_then}
+use Rattle.std.proofs.Common.{◌≡◌, ◌+◌, ◌==◌, ◌↔◌, ◌<◌, ◌^◌, ℕ, zero, suc, Bool, true, false, IsTrue, true≢false, List, [], ◌∷◌, length, take, slice_get, Some, refl, sym, ap, ◌∙◌, arith}
+use Rattle.std.specs.Prelude.{sum_by, min, if◌then◌else◌}
 use Rattle.std.proofs.lemmas.Bool.Decides.{nat_tests}
-use Rattle.numbered_lists.proofs.Lists.{slice_get-found}
 use Rattle.std.specs.FinMap.{empty, len, len-empty, empty_of_len}
 use Rattle.std.proofs.Math.Nat.{min-eq_left}
 use Rattle.std.proofs.lemmas.Bool.{eq-eqb, ne_eqb}
@@ -94,12 +92,8 @@ counted_more before more after total so_far s t whole m e = t ∙ (λ i. all_cou
 
 -- ---- what is counted of a place
 
-pub zone_is : (o : Option Zone) (g m : ℕ) → option_map len (option_map (λ (z : Zone). z.gens) o) ≡ Some g → option_map length (option_map (λ (z : Zone). z.mods) o) ≡ Some m → m < 2 ^ 64
-    → IfSome o (λ z. record { zones = 1; gens = counted (g + 1); mods = m } ≡ all_counted (records_of_zone z))
-zone_is None g m eg em small = tt
-zone_is (Some z) g m eg em small =
-    let gens : g ≡ len z.gens = cc in
-    let mods : m ≡ length z.mods = cc in
+pub zone_is : (z : Zone) (g m : ℕ) → g ≡ len z.gens → m ≡ length z.mods → m < 2 ^ 64 → record { zones = 1; gens = counted (g + 1); mods = m } ≡ all_counted (records_of_zone z)
+zone_is z g m gens mods small =
     let one : 1 ≡ counted 1 = sym (counted_same 1 (omega arith)) in
     let few : m ≡ counted (length z.mods) = sym (counted_same m small) ∙ ap counted mods in
     λ i. record { zones = one i; gens = counted (gens i + 1); mods = few i }
@@ -108,38 +102,25 @@ one_if_any : (n : ℕ) → min (counted n) 1 ≡ counted (if n == 0 then 0 else 
 one_if_any zero = grind (arith, nat_tests)
 one_if_any (suc n) = grind (arith, nat_tests)
 
-pub global_is : {H : Type 0} (o : Option (WithZones H)) (g m : ℕ) → option_map len (option_map (λ (x : WithZones H). x.global.gens) o) ≡ Some g → option_map length (option_map (λ (x : WithZones H). x.global.mods) o) ≡ Some m
-    → g < 2 ^ 64 → m < 2 ^ 64 → IfSome o (λ x. record { zones = min (counted (g + m)) 1; gens = g; mods = m } ≡ all_counted (records_of_global x.global))
-global_is None g m eg em small few = tt
-global_is (Some x) g m eg em small few =
-    let gens : g ≡ len x.global.gens = cc in
-    let mods : m ≡ length x.global.mods = cc in
-    let gens_are : g ≡ counted (len x.global.gens) = sym (counted_same g small) ∙ ap counted gens in
-    let mods_are : m ≡ counted (length x.global.mods) = sym (counted_same m few) ∙ ap counted mods in
-    let zones : min (counted (g + m)) 1 ≡ counted (global_count x.global) = (λ i. min (counted (gens i + mods i)) 1) ∙ one_if_any (len x.global.gens + length x.global.mods) in
+pub global_is : (x : GlobalZone) (g m : ℕ) → g ≡ len x.gens → m ≡ length x.mods → g < 2 ^ 64 → m < 2 ^ 64 → record { zones = min (counted (g + m)) 1; gens = g; mods = m } ≡ all_counted (records_of_global x)
+global_is x g m gens mods small few =
+    let gens_are : g ≡ counted (len x.gens) = sym (counted_same g small) ∙ ap counted gens in
+    let mods_are : m ≡ counted (length x.mods) = sym (counted_same m few) ∙ ap counted mods in
+    let zones : min (counted (g + m)) 1 ≡ counted (global_count x) = (λ i. min (counted (gens i + mods i)) 1) ∙ one_if_any (len x.gens + length x.mods) in
     λ i. record { zones = zones i; gens = gens_are i; mods = mods_are i }
 
 -- ---- one more of what is there
 
-pub owner_step : {H : Type 0} (o : Option (WithZones H)) (k : ℕ) (so_far more total : Records) → IsSomeAnd (option_map (λ (x : WithZones H). length x.zones) o) (λ n. k < n)
-    → IfSome o (λ x. so_far ≡ all_counted (records_of x.global (take k x.zones))) → IfSome (option_and_then (λ (x : WithZones H). slice_get x.zones k) o) (λ z. more ≡ all_counted (records_of_zone z))
-    → total ≡ all_counted (records_sum so_far more) → IfSome o (λ x. total ≡ all_counted (records_of x.global (take (suc k) x.zones)))
-owner_step None k so_far more total lt h m t = tt
-owner_step (Some x) k so_far more total lt h m t =
-    let (z, e) = slice_get-found x.zones k lt in
-    counted_more (records_of x.global (take k x.zones)) more (records_of x.global (take (suc k) x.zones)) total so_far h t (records_of_zone z) (rw e at m) (owner_more x.global x.zones k z e)
+pub owner_next : (global : GlobalZone) (zones : List Zone) (k j : ℕ) → j ≡ k + 1 → (z : Zone) → slice_get zones k ≡ Some z → (so_far more total : Records)
+    → so_far ≡ all_counted (records_of global (take k zones)) → more ≡ all_counted (records_of_zone z) → total ≡ all_counted (records_sum so_far more)
+    → total ≡ all_counted (records_of global (take j zones))
+owner_next global zones k j next z e so_far more total h m t =
+    let same : j ≡ suc k = omega (arith, next) in
+    rw same (counted_more (records_of global (take k zones)) more (records_of global (take (suc k) zones)) total so_far h t (records_of_zone z) m (owner_more global zones k z e))
 
-pub total_step : {H : Type 0} (xs : List (WithZones H)) (i : ℕ) (so_far more total : Records) → i < length xs → so_far ≡ all_counted (records_total records_of_owner (take i xs))
-    → IfSome (slice_get xs i) (λ x. more ≡ all_counted (records_of_owner x)) → total ≡ all_counted (records_sum so_far more) → total ≡ all_counted (records_total records_of_owner (take (suc i) xs))
-total_step xs i so_far more total lt h m t =
-    let (x, e) = slice_get-found xs i lt in
-    counted_more (records_total records_of_owner (take i xs)) more (records_total records_of_owner (take (suc i) xs)) total so_far h t (records_of_owner x) (rw e at m) (total_more records_of_owner xs i x e)
-
-pub owner_next : {H : Type 0} (o : Option (WithZones H)) (k j : ℕ) → j ≡ k + 1 → (so_far more total : Records) → IsSomeAnd (option_map (λ (x : WithZones H). length x.zones) o) (λ n. k < n)
-    → IfSome o (λ x. so_far ≡ all_counted (records_of x.global (take k x.zones))) → IfSome (option_and_then (λ (x : WithZones H). slice_get x.zones k) o) (λ z. more ≡ all_counted (records_of_zone z))
-    → total ≡ all_counted (records_sum so_far more) → IfSome o (λ x. total ≡ all_counted (records_of x.global (take j x.zones)))
-owner_next o k j e so_far more total lt h m t = let next : j ≡ suc k = omega (arith, e) in rw next (owner_step o k so_far more total lt h m t)
-
-pub total_next : {H : Type 0} (xs : List (WithZones H)) (i j : ℕ) → j ≡ i + 1 → (so_far more total : Records) → i < length xs → so_far ≡ all_counted (records_total records_of_owner (take i xs))
-    → IfSome (slice_get xs i) (λ x. more ≡ all_counted (records_of_owner x)) → total ≡ all_counted (records_sum so_far more) → total ≡ all_counted (records_total records_of_owner (take j xs))
-total_next xs i j e so_far more total lt h m t = let next : j ≡ suc i = omega (arith, e) in rw next (total_step xs i so_far more total lt h m t)
+pub total_next : {H : Type 0} (xs : List (WithZones H)) (i j : ℕ) → j ≡ i + 1 → (x : WithZones H) → slice_get xs i ≡ Some x → (so_far more total : Records)
+    → so_far ≡ all_counted (records_total records_of_owner (take i xs)) → more ≡ all_counted (records_of_owner x) → total ≡ all_counted (records_sum so_far more)
+    → total ≡ all_counted (records_total records_of_owner (take j xs))
+total_next xs i j next x e so_far more total h m t =
+    let same : j ≡ suc i = omega (arith, next) in
+    rw same (counted_more (records_total records_of_owner (take i xs)) more (records_total records_of_owner (take (suc i) xs)) total so_far h t (records_of_owner x) m (total_more records_of_owner xs i x e))

@@ -1,3 +1,5 @@
+pub mod Everywhere
+pub mod ContentLaws
 pub mod Counts
 pub mod Fitting
 pub mod LimitLaws

@@ -2,13 +2,16 @@
 use Rattle.std.proofs.Common.{◌≡◌, ◌+◌, ◌-◌, ◌<◌, ◌≤◌, ◌^◌, ℕ, nat_lt, true, false, Some, None, refl, ap, sym, ◌∙◌, arith}
 use Rattle.std.proofs.lemmas.Bool.Decides.{nat_tests}
 use Rattle.sf_base.specs.declared.limits.TheConstants.{PRESETS, INSTRUMENTS, SAMPLES, ZONES, GENERATORS, MODULATORS, POINTS, ZERO_POINTS}
+use Rattle.generators.specs.declared.level.Level.{Level}
+use Rattle.generators.specs.declared.level.Level.TheVariants as level
+use Rattle.bank_parts.specs.declared.counting.Records.{Records}
 use Rattle.bank_parts.specs.declared.totals.Totals.{Totals}
 use Rattle.bank_parts.specs.declared.limits.Limit.TheVariants as limit
 use Rattle.bank_parts.specs.declared.parts.Parts.{Parts}
 use Rattle.bank_parts.specs.Valid.{IsWithin, owner_total, zone_count, gen_count, mod_count, point_total}
-use Rattle.bank_parts.specs.Counts.{counted}
+use Rattle.bank_parts.specs.Counts.{counted, all_counted}
 use Rattle.bank_parts.proofs.Counts.{counted_same}
-use Rattle.bank_parts.specs.Limits.{totals_of, broken, broken_limit, with_sample}
+use Rattle.bank_parts.specs.Limits.{totals_of, broken, broken_limit, with_sample, with_owner, with_owner_counted}
 
 -- ---- no limit is broken
 
@@ -118,6 +121,9 @@ broken_counted t =
       counted_test POINTS t.points (omega arith),
     ) refl
 
+few : (most n : ℕ) → n ≤ most → most < 2 ^ 64 → counted n ≡ n
+few most n h small = counted_same n (omega (arith, h, small))
+
 -- where no limit is broken they are the sums
 pub counted_within : (b : Parts) → IsWithin b → totals_counted (totals_of b) ≡ totals_of b
 unfolding totals_of
@@ -130,9 +136,6 @@ counted_within b w = λ i. record (totals_of b) {
   instrument_mods = few MODULATORS (owner_total mod_count b.instruments) w.instrument_mods (omega arith) i;
   points = few POINTS (point_total b.samples) w.points (omega arith) i;
 }
-  where
-    few : (most n : ℕ) → n ≤ most → most < 2 ^ 64 → counted n ≡ n
-    few most n h small = counted_same n (omega (arith, h, small))
 
 -- ---- a sample more
 
@@ -173,3 +176,56 @@ module _ (t : Totals) (n : ℕ) where
     instrument_mods = w.instrument_mods;
     points = h;
   })
+
+-- ---- a preset or an instrument more
+
+counted_plus : (a more b : ℕ) → more ≡ counted b → counted (a + more) ≡ counted (a + b)
+counted_plus a more b e = grind (arith)
+
+counted_next : (most n : ℕ) → n ≤ most → most < 2 ^ 64 - 1 → counted (n + 1) ≡ n + 1
+counted_next most n h small = counted_same (n + 1) (omega (arith, h, small))
+
+-- a count that stops at the largest number tells the same limit
+owner_counted : (at : Level) (t : Totals) (more r : Records) → AreWithin t → more ≡ all_counted r → with_owner_counted at t more ≡ totals_counted (with_owner at t r)
+owner_counted level.Preset t more r w m = λ i. record t {
+  presets = counted_next PRESETS t.presets w.presets (omega arith) i;
+  preset_zones = counted_plus t.preset_zones more.zones r.zones (ap (λ (s : Records). s.zones) m) i;
+  preset_gens = counted_plus t.preset_gens more.gens r.gens (ap (λ (s : Records). s.gens) m) i;
+  preset_mods = counted_plus t.preset_mods more.mods r.mods (ap (λ (s : Records). s.mods) m) i;
+  instrument_zones = sym (few ZONES t.instrument_zones w.instrument_zones (omega arith)) i;
+  instrument_gens = sym (few GENERATORS t.instrument_gens w.instrument_gens (omega arith)) i;
+  instrument_mods = sym (few MODULATORS t.instrument_mods w.instrument_mods (omega arith)) i;
+  points = sym (few POINTS t.points w.points (omega arith)) i;
+}
+owner_counted level.Instrument t more r w m = λ i. record t {
+  instruments = counted_next INSTRUMENTS t.instruments w.instruments (omega arith) i;
+  preset_zones = sym (few ZONES t.preset_zones w.preset_zones (omega arith)) i;
+  preset_gens = sym (few GENERATORS t.preset_gens w.preset_gens (omega arith)) i;
+  preset_mods = sym (few MODULATORS t.preset_mods w.preset_mods (omega arith)) i;
+  instrument_zones = counted_plus t.instrument_zones more.zones r.zones (ap (λ (s : Records). s.zones) m) i;
+  instrument_gens = counted_plus t.instrument_gens more.gens r.gens (ap (λ (s : Records). s.gens) m) i;
+  instrument_mods = counted_plus t.instrument_mods more.mods r.mods (ap (λ (s : Records). s.mods) m) i;
+  points = sym (few POINTS t.points w.points (omega arith)) i;
+}
+
+pub owner_broken : (at : Level) (t : Totals) (more r : Records) → broken t ≡ None → more ≡ all_counted r → broken (with_owner_counted at t more) ≡ broken (with_owner at t r)
+owner_broken at t more r e m = ap broken (owner_counted at t more r (within_totals t e) m) ∙ broken_counted (with_owner at t r)
+
+-- where no limit is broken then, the counts are the sums
+pub owner_within : (at : Level) (t : Totals) (r : Records) → broken (with_owner at t r) ≡ None → with_owner_counted at t r ≡ with_owner at t r
+owner_within level.Preset t r e =
+    let w = within_totals (with_owner level.Preset t r) e in
+    λ i. record t {
+      presets = few PRESETS (t.presets + 1) w.presets (omega arith) i;
+      preset_zones = few ZONES (t.preset_zones + r.zones) w.preset_zones (omega arith) i;
+      preset_gens = few GENERATORS (t.preset_gens + r.gens) w.preset_gens (omega arith) i;
+      preset_mods = few MODULATORS (t.preset_mods + r.mods) w.preset_mods (omega arith) i;
+    }
+owner_within level.Instrument t r e =
+    let w = within_totals (with_owner level.Instrument t r) e in
+    λ i. record t {
+      instruments = few INSTRUMENTS (t.instruments + 1) w.instruments (omega arith) i;
+      instrument_zones = few ZONES (t.instrument_zones + r.zones) w.instrument_zones (omega arith) i;
+      instrument_gens = few GENERATORS (t.instrument_gens + r.gens) w.instrument_gens (omega arith) i;
+      instrument_mods = few MODULATORS (t.instrument_mods + r.mods) w.instrument_mods (omega arith) i;
+    }

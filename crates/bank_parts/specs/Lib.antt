@@ -12,4 +12,5 @@ pub mod Fits
 pub mod Sound
 pub mod Counts
 pub mod Limits
+pub mod Contents
 pub mod Owners

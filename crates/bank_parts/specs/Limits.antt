@@ -1,10 +1,14 @@
 -- How long the lists of a bank are, and the first limit that it breaks.
-use Rattle.std.specs.Prelude.{ℕ, ◌+◌, ◌||◌, nat_lt, if◌then◌else◌, Option, Some, None, List, length, codes}
+use Rattle.std.specs.Prelude.{ℕ, ◌+◌, ◌<◌, ◌≤◌, ◌||◌, nat_lt, if◌then◌else◌, Option, Some, None, List, length, codes}
 use Rattle.sf_base.specs.declared.limits.TheConstants.{PRESETS, INSTRUMENTS, SAMPLES, ZONES, GENERATORS, MODULATORS, POINTS, ZERO_POINTS}
+use Rattle.generators.specs.declared.level.Level.{Level}
+use Rattle.generators.specs.declared.level.Level.TheVariants as level
+use Rattle.bank_parts.specs.declared.counting.Records.{Records}
 use Rattle.bank_parts.specs.declared.totals.Totals.{Totals}
 use Rattle.bank_parts.specs.declared.limits.Limit.{Limit}
 use Rattle.bank_parts.specs.declared.limits.Limit.TheVariants.{Presets, Instruments, Samples, Zones, Generators, Modulators, Points}
 use Rattle.bank_parts.specs.declared.parts.Parts.{Parts}
+use Rattle.bank_parts.specs.Counts.{counted}
 use Rattle.bank_parts.specs.Valid.{owner_total, zone_count, gen_count, mod_count, point_total}
 
 unfoldable pub totals_of : Parts → Totals
@@ -39,6 +43,21 @@ broken_limit b = broken (totals_of b)
 -- the totals with a sample more, of so many points
 abbrev pub with_sample : Totals → ℕ → Totals
 with_sample t points = record t { samples = t.samples + 1; points = t.points + (points + ZERO_POINTS) }
+
+-- the totals with a preset or an instrument more, that has so many records
+abbrev pub with_owner : Level → Totals → Records → Totals
+with_owner level.Preset t r = record t { presets = t.presets + 1; preset_zones = t.preset_zones + r.zones; preset_gens = t.preset_gens + r.gens; preset_mods = t.preset_mods + r.mods }
+with_owner level.Instrument t r = record t { instruments = t.instruments + 1; instrument_zones = t.instrument_zones + r.zones; instrument_gens = t.instrument_gens + r.gens; instrument_mods = t.instrument_mods + r.mods }
+
+-- the same, as 64 bits count them
+abbrev pub with_owner_counted : Level → Totals → Records → Totals
+with_owner_counted level.Preset t r = record t { presets = counted (t.presets + 1); preset_zones = counted (t.preset_zones + r.zones); preset_gens = counted (t.preset_gens + r.gens); preset_mods = counted (t.preset_mods + r.mods) }
+with_owner_counted level.Instrument t r = record t { instruments = counted (t.instruments + 1); instrument_zones = counted (t.instrument_zones + r.zones); instrument_gens = counted (t.instrument_gens + r.gens); instrument_mods = counted (t.instrument_mods + r.mods) }
+
+-- the totals count a preset or an instrument, and so many records
+abbrev pub HasOwner : Level → Totals → Records → Type 0
+HasOwner level.Preset t r = (0 < t.presets) × (r.zones ≤ t.preset_zones) × (r.gens ≤ t.preset_gens) × (r.mods ≤ t.preset_mods)
+HasOwner level.Instrument t r = (0 < t.instruments) × (r.zones ≤ t.instrument_zones) × (r.gens ≤ t.instrument_gens) × (r.mods ≤ t.instrument_mods)
 
 -- the word by which a limit is told
 abbrev pub word_of : Limit → List ℕ

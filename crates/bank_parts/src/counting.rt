@@ -1,15 +1,13 @@
 //! How many records presets and instruments have, as a file would hold them.
-ghost use Rattle.std.specs.Prelude.{◌≡◌, ◌<◌, length, slice_get, IfSome};
-ghost use Rattle.bank_parts.specs.declared.owners.ZonePlace.TheVariants as place;
-ghost use Rattle.bank_parts.specs.Owners.{HasPlace, zone_at};
-ghost use Rattle.bank_parts.specs.Counts.{records_of_global, records_of_zone, records_of_owner, records_sum, records_total, all_counted};
+ghost use Rattle.std.specs.Prelude.{◌≡◌};
+ghost use Rattle.bank_parts.specs.Counts.{records_of_global, records_of_zone, records_of_owner, records_sum, all_counted};
 
-use crate::owners::{Owners, ZonePlace};
+use crate::parts::{GlobalZone, WithZones, Zone};
 
 /// So many zones, generators and modulators: a zone's target is a generator, and an empty global zone
 /// is none.
-#[derive(Clone, Copy)]
-pub(crate) struct Records {
+#[derive(Clone, Copy, Debug, PartialEq, Eq)]
+pub struct Records {
     pub zones: usize,
     pub gens: usize,
     pub mods: usize,
@@ -17,7 +15,7 @@ pub(crate) struct Records {
 
 impl Records {
     // Both together. A sum that would pass 2^64 stays below it.
-    fn plus(self, more: Records) -> Records
+    pub(crate) fn plus(self, more: Records) -> Records
         ensures { result ≡ all_counted (records_sum self more) }
     {
         Records {
@@ -28,39 +26,25 @@ impl Records {
     }
 }
 
-/// How many records these have in all.
-pub(crate) fn records_in<H>(owners: &Owners<H>) -> Records
-    ensures { result ≡ all_counted (records_total records_of_owner owners.now) }
-{
-    let mut total = Records {
-        zones: 0,
-        gens: 0,
-        mods: 0,
-    };
-    for i in 0..owners.len() {
-        total = total.plus(owner_records(owners, i));
+impl<H> WithZones<H> {
+    /// How many records its zones have, as a file would hold them. A sum that would pass 2^64, far
+    /// above each limit, stays below it.
+    pub fn records(&self) -> Records
+        ensures { result ≡ all_counted (records_of_owner self.now) }
+    {
+        let mut total = global_records(&self.global);
+        for zone in self.zones.as_slice() {
+            total = total.plus(zone_records(zone));
+        }
+        total
     }
-    total
 }
 
-// Those of one of them.
-fn owner_records<H>(owners: &Owners<H>, i: usize) -> Records
-    requires { i < length owners.now }
-    ensures { IfSome (slice_get owners.now i) (λ x. result ≡ all_counted (records_of_owner x)) }
+fn global_records(global: &GlobalZone) -> Records
+    ensures { result ≡ all_counted (records_of_global global.now) }
 {
-    let mut total = global_records(owners, i);
-    for k in 0..owners.zone_count(i) {
-        total = total.plus(zone_records(owners, i, k));
-    }
-    total
-}
-
-fn global_records<H>(owners: &Owners<H>, i: usize) -> Records
-    requires { i < length owners.now }
-    ensures { IfSome (slice_get owners.now i) (λ x. result ≡ all_counted (records_of_global x.global)) }
-{
-    let gens = owners.gen_count(i, ZonePlace::Global);
-    let mods = owners.mod_count(i, ZonePlace::Global);
+    let gens = global.gens.len();
+    let mods = global.mods.len();
     Records {
         zones: gens.saturating_add(mods).min(1),
         gens,
@@ -68,15 +52,12 @@ fn global_records<H>(owners: &Owners<H>, i: usize) -> Records
     }
 }
 
-fn zone_records<H>(owners: &Owners<H>, i: usize, k: usize) -> Records
-    requires { HasPlace owners.now i (place.Zone k) }
-    ensures { IfSome (zone_at owners.now i k) (λ zone. result ≡ all_counted (records_of_zone zone)) }
+fn zone_records(zone: &Zone) -> Records
+    ensures { result ≡ all_counted (records_of_zone zone.now) }
 {
-    let gens = owners.gen_count(i, ZonePlace::Zone(k));
-    let mods = owners.mod_count(i, ZonePlace::Zone(k));
     Records {
         zones: 1,
-        gens: gens.saturating_add(1),
-        mods,
+        gens: zone.gens.len().saturating_add(1),
+        mods: zone.mods.len(),
     }
 }

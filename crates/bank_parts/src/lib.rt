@@ -2,8 +2,10 @@
 //! of that is a valid bank; and equal parts in memory of their own.
 #![tactic(auto)]
 
+mod contents;
 mod copying;
 mod counting;
+mod fits;
 mod heads;
 mod laws;
 mod limits;
@@ -15,6 +17,7 @@ mod totals;
 mod validity;
 
 pub use copying::copy_parts;
+pub use counting::Records;
 pub use heads::OwnerHead;
 pub use laws::limits_agree;
 pub use limits::Limit;

@@ -1,9 +1,13 @@
 //! The limits of a bank, and which of them is broken first.
 ghost use Rattle.std.specs.Prelude.{◌≡◌, ◌<◌, ◌+◌, ◌≤◌, None};
 ghost use Rattle.sf_base.specs.declared.limits.TheConstants.{ZERO_POINTS};
-ghost use Rattle.bank_parts.specs.Limits.{broken, with_sample, word_of};
+ghost use Rattle.bank_parts.specs.Limits.{broken, with_sample, with_owner, with_owner_counted, HasOwner, word_of};
+ghost use Rattle.bank_parts.specs.Counts.{all_counted};
+ghost use Rattle.bank_parts.specs.declared.counting.Records.{Records};
 
+use crate::counting::Records;
 use crate::totals::Totals;
+use generators::Level;
 use sf_base::limits::{
     GENERATORS, INSTRUMENTS, MODULATORS, POINTS, PRESETS, SAMPLES, ZERO_POINTS, ZONES,
 };
@@ -103,6 +107,68 @@ impl Totals {
             samples: self.samples - 1,
             points: self.points - (points + ZERO_POINTS),
             ..self
+        }
+    }
+
+    /// The first limit that is broken with a preset or an instrument more, that has so many records. A
+    /// count that would pass 2^64 may stay below it, as that of `WithZones::records` does.
+    pub fn broken_with_owner(self, at: Level, more: Records) -> Option<Limit>
+        requires { broken self ≡ None }
+        ensures { (r : Records) → more ≡ all_counted r → result ≡ broken (with_owner at self r) }
+    {
+        self.plus_owner(at, more).broken()
+    }
+
+    /// The totals with a preset or an instrument more, that has so many records.
+    pub fn with_owner(self, at: Level, more: Records) -> Totals
+        requires { broken (with_owner at self more) ≡ None }
+        ensures { result ≡ with_owner at self more }
+    {
+        self.plus_owner(at, more)
+    }
+
+    /// The totals without one of the presets or of the instruments, that has so many records.
+    pub fn without_owner(self, at: Level, less: Records) -> Totals
+        requires { HasOwner at self less }
+        ensures { with_owner at result less ≡ self }
+    {
+        match at {
+            Level::Preset => Totals {
+                presets: self.presets - 1,
+                preset_zones: self.preset_zones - less.zones,
+                preset_gens: self.preset_gens - less.gens,
+                preset_mods: self.preset_mods - less.mods,
+                ..self
+            },
+            Level::Instrument => Totals {
+                instruments: self.instruments - 1,
+                instrument_zones: self.instrument_zones - less.zones,
+                instrument_gens: self.instrument_gens - less.gens,
+                instrument_mods: self.instrument_mods - less.mods,
+                ..self
+            },
+        }
+    }
+
+    // A sum that would pass 2^64 stays below it.
+    fn plus_owner(self, at: Level, more: Records) -> Totals
+        ensures { result ≡ with_owner_counted at self more }
+    {
+        match at {
+            Level::Preset => Totals {
+                presets: self.presets.saturating_add(1),
+                preset_zones: self.preset_zones.saturating_add(more.zones),
+                preset_gens: self.preset_gens.saturating_add(more.gens),
+                preset_mods: self.preset_mods.saturating_add(more.mods),
+                ..self
+            },
+            Level::Instrument => Totals {
+                instruments: self.instruments.saturating_add(1),
+                instrument_zones: self.instrument_zones.saturating_add(more.zones),
+                instrument_gens: self.instrument_gens.saturating_add(more.gens),
+                instrument_mods: self.instrument_mods.saturating_add(more.mods),
+                ..self
+            },
         }
     }
 }

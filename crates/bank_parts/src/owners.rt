@@ -1,5 +1,5 @@
 //! The presets or the instruments of a bank, and what they lend of their zones.
-ghost use Rattle.std.specs.Prelude.{◌≡◌, ◌<◌, ◌↔◌, IsTrue, ◌++◌, ◌∷◌, [], Some, length, IfSome, IfOk, OnOk, OnErr};
+ghost use Rattle.std.specs.Prelude.{◌≡◌, ◌<◌, ◌≤◌, ◌↔◌, IsTrue, ◌++◌, ◌∷◌, [], Some, length, insert, remove, slice_get, IfSome, IfOk, IfErr, OnOk, OnErr};
 ghost use Rattle.std.specs.FinMap.{get, len};
 ghost use Rattle.std.specs.Option.{option_map};
 ghost use Rattle.std.specs.List.{list_any};
@@ -7,8 +7,10 @@ ghost use Rattle.generators.specs.Gens.{FitGens};
 ghost use Rattle.numbered_lists.specs.Moved.{moved, changed};
 ghost use Rattle.bank_parts.specs.declared.owners.ZonePlace.TheVariants as place;
 ghost use Rattle.bank_parts.specs.Owners.{HasPlace, targets, head_at, with_head, zone_count_at, zone_at, target_at, gens_at, entries_at, mods_at};
+ghost use Rattle.bank_parts.specs.Counts.{records_of_owner, records_total, all_counted};
 
 use crate::copying::copy_list;
+use crate::counting::Records;
 use crate::parts::{WithZones, Zone};
 use modulators::Modulator;
 use numbered_lists::{NumberedList, Renumber, Renumbering};
@@ -188,6 +190,44 @@ impl<H> Owners<H> {
     {
         let member = self.list.member_mut(i);
         std::mem::replace(&mut member.head, head)
+    }
+
+    /// Puts one in as number `i`; those from there on get the next number each. For want of memory the
+    /// list stays as it is, and it comes back.
+    pub fn insert(&mut self, i: usize, owner: WithZones<H>) -> Result<(), WithZones<H>>
+        requires { i ≤ length self.old }
+        ensures ok { OnOk result (self.new ≡ insert self.old i owner) }
+        ensures err { OnErr result (self.new ≡ self.old) }
+        ensures value_returned { IfErr result (λ back. back ≡ owner) }
+    {
+        self.list.insert(i, owner)
+    }
+
+    /// Takes number `i`, which is there, out; those behind it get the number before each. It takes no
+    /// memory and never answers want of it, but another representation may.
+    pub fn remove(&mut self, alloc: Global, i: usize) -> Result<WithZones<H>, OutOfMemory>
+        requires { i < length self.old }
+        ensures value { IfOk result (λ owner. slice_get self.old i ≡ Some owner) }
+        ensures change { OnOk result (self.new ≡ remove self.old i) }
+        ensures err { OnErr result (self.new ≡ self.old) }
+    {
+        let _ = alloc;
+        Ok(self.list.remove(i))
+    }
+
+    /// How many records they have in all.
+    pub(crate) fn records(&self) -> Records
+        ensures { result ≡ all_counted (records_total records_of_owner self.now) }
+    {
+        let mut total = Records {
+            zones: 0,
+            gens: 0,
+            mods: 0,
+        };
+        for owner in self.list.as_slice() {
+            total = total.plus(owner.records());
+        }
+        total
     }
 
     // For what is said of all of them.

@@ -4,7 +4,6 @@ ghost use Rattle.bank_parts.specs.Valid.{IsWithin, point_total};
 ghost use Rattle.bank_parts.specs.Limits.{totals_of, broken, broken_limit};
 ghost use Rattle.bank_parts.specs.Counts.{counted};
 
-use crate::counting::records_in;
 use crate::parts::{Parts, Sample};
 use sf_base::limits::ZERO_POINTS;
 
@@ -32,8 +31,8 @@ pub fn totals_of(parts: &Parts<'_>) -> Totals
     ensures value { IsWithin parts.now → result ≡ totals_of parts.now }
     ensures limits { broken result ≡ broken_limit parts.now }
 {
-    let presets = records_in(&parts.presets);
-    let instruments = records_in(&parts.instruments);
+    let presets = parts.presets.records();
+    let instruments = parts.instruments.records();
     Totals {
         presets: parts.presets.len(),
         instruments: parts.instruments.len(),

@@ -3,10 +3,8 @@ ghost use Rattle.std.specs.Prelude.{◌↔◌, IsTrue};
 ghost use Rattle.std.specs.Bool.{OnTrue};
 ghost use Rattle.std.specs.List.{AllByRecursion};
 ghost use Rattle.sf_base.specs.Names.{IsName, IsText};
-ghost use Rattle.generators.specs.Gens.{FitGens};
-ghost use Rattle.modulators.specs.Modulators.{FitsModulator};
 ghost use Rattle.bank_parts.specs.Valid.{IsGenerator, AreGenerators, IsZone, AreZones, IsOwner, IsPreset, IsInstrument, IsLoop, IsLink, IsSample, AreTexts, IsWithin, IsValid};
-ghost use Rattle.bank_parts.specs.Fits.{FitTexts, FitsHead, FitsOwner, FitsSample, FitsLoop, FitsKind, FitsGlobal, FitsZone, Fits};
+ghost use Rattle.bank_parts.specs.Fits.{FitTexts, FitsHead, FitsOwner, FitsSample, FitsLoop, FitsKind, Fits};
 
 use crate::heads::OwnerHead;
 use crate::owners::Owners;
@@ -14,7 +12,6 @@ use crate::parts::{GlobalZone, Head, Kind, Parts, Sample, WithZones, Zone};
 use crate::texts::Texts;
 use crate::totals::totals_of;
 use generators::{GenMap, Level, Range, allowed, is_range_operator};
-use modulators::Modulator;
 use sf_base::Name20;
 use sf_base::limits::{COMMENT_LENGTH, TEXT_LENGTH};
 
@@ -99,6 +96,7 @@ fn is_owner<H: OwnerHead>(owner: &WithZones<H>, targets: usize) -> bool
     ensures fits { OnTrue result (FitsOwner H.IsFit owner.now) }
 {
     owner.head.fits();
+    owner.fits();
     are_zones(H::LEVEL, targets, &owner.global, owner.zones.as_slice())
 }
 
@@ -136,32 +134,25 @@ fn is_link(kind: Kind, samples: usize) -> bool
 // ---- zones
 
 fn are_zones(level: Level, targets: usize, shared: &GlobalZone, own: &[Zone]) -> bool
-    ensures valid { IsTrue result ↔ AreZones level targets shared.now own.now }
-    ensures global_fits { OnTrue result (FitsGlobal shared.now) }
-    ensures zones_fit { OnTrue result (AllByRecursion FitsZone own.now) }
+    ensures { IsTrue result ↔ AreZones level targets shared.now own.now }
 {
-    read_modulators(shared.mods.as_slice());
     are_generators(level, &shared.gens) && all_are_zones(level, targets, own)
 }
 
 fn all_are_zones(level: Level, targets: usize, zones: &[Zone]) -> bool
-    ensures valid { IsTrue result ↔ AllByRecursion (IsZone level targets) zones.now }
-    ensures fits { OnTrue result (AllByRecursion FitsZone zones.now) }
+    ensures { IsTrue result ↔ AllByRecursion (IsZone level targets) zones.now }
 {
     zones.iter().all(|zone| is_zone(level, targets, zone))
 }
 
 fn is_zone(level: Level, targets: usize, zone: &Zone) -> bool
-    ensures valid { IsTrue result ↔ IsZone level targets zone.now }
-    ensures fits { OnTrue result (FitsZone zone.now) }
+    ensures { IsTrue result ↔ IsZone level targets zone.now }
 {
-    read_modulators(zone.mods.as_slice());
     (zone.target as usize) < targets && are_generators(level, &zone.gens)
 }
 
 fn are_generators(level: Level, gens: &GenMap) -> bool
-    ensures valid { IsTrue result ↔ AreGenerators level gens.now }
-    ensures fits { FitGens gens.now }
+    ensures { IsTrue result ↔ AreGenerators level gens.now }
 {
     gens.entries()
         .iter()
@@ -174,16 +165,3 @@ fn is_generator(level: Level, entry: (u16, u16)) -> bool
     let (operator, word) = entry;
     allowed(operator, level) && (!is_range_operator(operator) || Range::of_word(word).is_valid())
 }
-
-// Modulators need no check, since any number of a field may stand there.
-fn read_modulators(mods: &[Modulator])
-    ensures { AllByRecursion FitsModulator mods.now }
-{
-    for modulator in mods {
-        read_modulator(*modulator);
-    }
-}
-
-fn read_modulator(_modulator: Modulator)
-    ensures { FitsModulator _modulator }
-{}

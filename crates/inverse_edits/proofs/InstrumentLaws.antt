@@ -1,23 +1,62 @@
 -- Undo restores, for the forms that edit instruments.
-use Rattle.std.proofs.Common.{ℕ, List, length, refl, sym, ap, arith}
+use Rattle.std.proofs.Common.{◌≡◌, ℕ, List, length, Some, refl, sym, ap, arith}
+use Rattle.std.proofs.lemmas.List.Edits.{length-insert, length-remove}
+use Rattle.std.specs.Prelude.{slice_get}
 use Rattle.sf_base.specs.Names.{IsName}
-use Rattle.numbered_lists.proofs.Lists.{slice_get-found, slice_get-changed, length-changed, changed-back}
+use Rattle.numbered_lists.proofs.Lists.{slice_get-found, slice_get-insert, slice_get-changed, length-changed, changed-back}
+use Rattle.generators.specs.declared.level.Level.TheVariants as level
 use Rattle.bank_parts.specs.declared.parts.WithZones.{WithZones}
 use Rattle.bank_parts.specs.declared.parts.Parts.{Parts}
 use Rattle.bank_parts.specs.Owners.{with_head}
+use Rattle.bank_parts.specs.Valid.{IsInstrument}
 use Rattle.bank_parts.specs.Fits.{FitsOwner}
 use Rattle.bank_parts.specs.Sound.{IsSound}
-use Rattle.bank_core.specs.Instruments.{instrument_renamed}
+use Rattle.bank_core.specs.Instruments.{instrument_added, instrument_removed, instrument_renamed}
 use Rattle.bank_core.proofs.Changes.{all_found}
-use Rattle.bank_core.proofs.InstrumentLaws.{instrument_renamed_sound, length-instrument_moved, restored_instrument_moved}
+use Rattle.bank_core.proofs.InstrumentLaws.{restored_added_instrument, added_instrument_unused, restored_removed_instrument, instrument_renamed_sound, length-instrument_moved, restored_instrument_moved}
 use Rattle.bank_edits.specs.declared.edit.Edit.TheVariants.{One}
-use Rattle.bank_edits.specs.declared.edit.Step.TheVariants.{RenameInstrument, MoveInstrument}
-use Rattle.bank_edits.proofs.Accepted.{not_below}
-use Rattle.bank_edits.specs.declared.cause.Cause.TheVariants.{NoSuchInstrument}
+use Rattle.bank_edits.specs.declared.edit.Step.TheVariants.{AddInstrument, RemoveInstrument, RenameInstrument, MoveInstrument}
+use Rattle.bank_edits.proofs.Accepted.{accepted, not_below}
+use Rattle.bank_edits.specs.declared.cause.Cause.TheVariants.{NoSuchInstrument, NoSuchSample}
 use Rattle.bank_edits.proofs.Moves.{tests_move, moves_back}
-use Rattle.bank_edits.proofs.InstrumentLaws.{there_of_rename_instrument, moves_instrument, sound_move_instrument}
+use Rattle.bank_edits.proofs.OwnerLaws.{tests_add}
+use Rattle.bank_edits.proofs.InstrumentLaws.{instrument_goes, sound_add_instrument, instrument_comes, sound_remove_instrument, there_of_rename_instrument, moves_instrument, sound_move_instrument}
 use Rattle.inverse_edits.specs.Undone.{IsTaken, IsUndone}
 use Rattle.inverse_edits.proofs.UndoneBy.{undone_by}
+
+-- ---- add-inst
+
+pub undone_add_instrument : (b : Parts) (i : ℕ) (x : WithZones (List ℕ)) → IsSound b → IsTaken b (One (AddInstrument i x)) → IsUndone b (One (AddInstrument i x))
+undone_add_instrument b i x s t =
+    let le = (instrument_goes b i x t.fits.1 t.accepted).place in
+    let size = length-insert b.instruments i x le in
+    let there : slice_get (instrument_added b i x).instruments i ≡ Some x = slice_get-insert b.instruments i x le in
+    undone_by b (AddInstrument i x) (RemoveInstrument i) s (record {
+      is = refl;
+      sound = sound_add_instrument b i x s t.fits.1 t.accepted;
+      fits = t.fits.0;
+      tests = (not_below (length (instrument_added b i x).instruments) i (omega (arith, size, le)), (added_instrument_unused b i x, tt));
+      restored = restored_added_instrument b i x le;
+      redone = rw there refl;
+    })
+
+-- ---- remove-inst
+
+pub undone_remove_instrument : (b : Parts) (i : ℕ) → IsSound b → IsTaken b (One (RemoveInstrument i)) → IsUndone b (One (RemoveInstrument i))
+undone_remove_instrument b i s t =
+    let c = instrument_comes b i (accepted b (RemoveInstrument i) t.accepted).tests in
+    let lt = c.there in
+    let (x, e) = slice_get-found b.instruments i lt in
+    let less = length-remove b.instruments i lt in
+    let is = all_found (IsInstrument (length b.samples)) b.instruments i x e s.valid.instruments in
+    undone_by b (RemoveInstrument i) (AddInstrument i x) s (record {
+      is = rw e refl;
+      sound = sound_remove_instrument b i s t.accepted;
+      fits = (t.fits, all_found (FitsOwner IsName) b.instruments i x e s.fits.instruments);
+      tests = tests_add (λ name. name) level.Instrument (length b.samples) (length (instrument_removed b i).instruments) i x NoSuchSample (record { place = omega (arith, less, lt); is = is });
+      restored = restored_removed_instrument b i x e c.free;
+      redone = refl;
+    })
 
 -- ---- rename-inst
 

@@ -1,14 +1,18 @@
 -- Undo restores, for every form of edit.
 use Rattle.bank_edits.specs.declared.edit.Edit.TheVariants.{One}
-use Rattle.bank_edits.specs.declared.edit.Step.TheVariants.{MovePreset, RenameInstrument, MoveInstrument, RenameSample, AddSample, RemoveSample, MoveSample, SetInfo}
+use Rattle.bank_edits.specs.declared.edit.Step.TheVariants.{AddPreset, RemovePreset, MovePreset, AddInstrument, RemoveInstrument, RenameInstrument, MoveInstrument, RenameSample, AddSample, RemoveSample, MoveSample, SetInfo}
 use Rattle.inverse_edits.specs.Undone.{UndoRestores}
-use Rattle.inverse_edits.proofs.PresetLaws.{undone_move_preset}
-use Rattle.inverse_edits.proofs.InstrumentLaws.{undone_rename_instrument, undone_move_instrument}
+use Rattle.inverse_edits.proofs.PresetLaws.{undone_add_preset, undone_remove_preset, undone_move_preset}
+use Rattle.inverse_edits.proofs.InstrumentLaws.{undone_add_instrument, undone_remove_instrument, undone_rename_instrument, undone_move_instrument}
 use Rattle.inverse_edits.proofs.SampleLaws.{undone_rename, undone_add, undone_remove, undone_move_sample}
 use Rattle.inverse_edits.proofs.TextLaws.{undone_set_info}
 
 pub undone : UndoRestores
+undone b (One (AddPreset i p)) = undone_add_preset b i p
+undone b (One (RemovePreset i)) = undone_remove_preset b i
 undone b (One (MovePreset i j)) = undone_move_preset b i j
+undone b (One (AddInstrument i x)) = undone_add_instrument b i x
+undone b (One (RemoveInstrument i)) = undone_remove_instrument b i
 undone b (One (RenameInstrument i name)) = undone_rename_instrument b i name
 undone b (One (MoveInstrument i j)) = undone_move_instrument b i j
 undone b (One (RenameSample i name)) = undone_rename b i name

@@ -1,15 +1,60 @@
--- Undo restores, for the form that edits presets.
-use Rattle.std.proofs.Common.{ℕ, refl, sym}
+-- Undo restores, for the forms that edit presets.
+use Rattle.std.proofs.Common.{◌≡◌, ℕ, length, Some, refl, sym, arith}
+use Rattle.std.proofs.lemmas.List.Edits.{length-insert, length-remove}
+use Rattle.std.specs.Prelude.{slice_get}
+use Rattle.numbered_lists.proofs.Lists.{slice_get-found, slice_get-insert}
+use Rattle.generators.specs.declared.level.Level.TheVariants as level
+use Rattle.bank_parts.specs.declared.parts.Head.{Head}
+use Rattle.bank_parts.specs.declared.parts.WithZones.{WithZones}
 use Rattle.bank_parts.specs.declared.parts.Parts.{Parts}
+use Rattle.bank_parts.specs.Valid.{IsPreset}
+use Rattle.bank_parts.specs.Fits.{FitsHead, FitsOwner}
 use Rattle.bank_parts.specs.Sound.{IsSound}
-use Rattle.bank_core.proofs.PresetLaws.{length-preset_moved, restored_preset_moved}
+use Rattle.bank_core.specs.Presets.{preset_added, preset_removed}
+use Rattle.bank_core.proofs.Changes.{all_found}
+use Rattle.bank_core.proofs.PresetLaws.{length-preset_moved, restored_added_preset, restored_removed_preset, restored_preset_moved}
 use Rattle.bank_edits.specs.declared.edit.Edit.TheVariants.{One}
-use Rattle.bank_edits.specs.declared.edit.Step.TheVariants.{MovePreset}
-use Rattle.bank_edits.specs.declared.cause.Cause.TheVariants.{NoSuchPreset}
+use Rattle.bank_edits.specs.declared.edit.Step.TheVariants.{AddPreset, RemovePreset, MovePreset}
+use Rattle.bank_edits.specs.declared.cause.Cause.TheVariants.{NoSuchPreset, NoSuchInstrument}
+use Rattle.bank_edits.proofs.Accepted.{not_below}
 use Rattle.bank_edits.proofs.Moves.{tests_move, moves_back}
-use Rattle.bank_edits.proofs.PresetLaws.{moves_preset, sound_move_preset}
+use Rattle.bank_edits.proofs.OwnerLaws.{tests_add}
+use Rattle.bank_edits.proofs.PresetLaws.{preset_goes, sound_add_preset, there_of_remove_preset, sound_remove_preset, moves_preset, sound_move_preset}
 use Rattle.inverse_edits.specs.Undone.{IsTaken, IsUndone}
 use Rattle.inverse_edits.proofs.UndoneBy.{undone_by}
+
+-- ---- add-preset
+
+pub undone_add_preset : (b : Parts) (i : ℕ) (p : WithZones Head) → IsSound b → IsTaken b (One (AddPreset i p)) → IsUndone b (One (AddPreset i p))
+undone_add_preset b i p s t =
+    let le = (preset_goes b i p t.fits.1 t.accepted).place in
+    let size = length-insert b.presets i p le in
+    let there : slice_get (preset_added b i p).presets i ≡ Some p = slice_get-insert b.presets i p le in
+    undone_by b (AddPreset i p) (RemovePreset i) s (record {
+      is = refl;
+      sound = sound_add_preset b i p s t.fits.1 t.accepted;
+      fits = t.fits.0;
+      tests = (not_below (length (preset_added b i p).presets) i (omega (arith, size, le)), tt);
+      restored = restored_added_preset b i p le;
+      redone = rw there refl;
+    })
+
+-- ---- remove-preset
+
+pub undone_remove_preset : (b : Parts) (i : ℕ) → IsSound b → IsTaken b (One (RemovePreset i)) → IsUndone b (One (RemovePreset i))
+undone_remove_preset b i s t =
+    let lt = there_of_remove_preset b i t.accepted in
+    let (p, e) = slice_get-found b.presets i lt in
+    let less = length-remove b.presets i lt in
+    let is = all_found (IsPreset (length b.instruments)) b.presets i p e s.valid.presets in
+    undone_by b (RemovePreset i) (AddPreset i p) s (record {
+      is = rw e refl;
+      sound = sound_remove_preset b i s t.accepted;
+      fits = (t.fits, all_found (FitsOwner FitsHead) b.presets i p e s.fits.presets);
+      tests = tests_add (λ (h : Head). h.name) level.Preset (length b.instruments) (length (preset_removed b i).presets) i p NoSuchInstrument (record { place = omega (arith, less, lt); is = is });
+      restored = restored_removed_preset b i p e;
+      redone = refl;
+    })
 
 -- ---- move-preset
 

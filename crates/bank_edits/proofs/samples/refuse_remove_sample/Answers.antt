@@ -1,7 +1,7 @@
 use Rattle.std.proofs.Common.{[], ◌∷◌}
 use Rattle.bank_parts.specs.Limits.{broken_limit}
 use Rattle.bank_edits.specs.declared.edit.Step.TheVariants.{RemoveSample}
-use Rattle.bank_edits.specs.Causes.{no_such_sample, in_use}
+use Rattle.bank_edits.specs.Causes.{no_such_sample, used_sample}
 use Rattle.bank_edits.specs.Steps.{raw}
 use Rattle.bank_edits.proofs.Accepted.{by_last, below}
 use Rattle.bank_edits.proofs.SampleLaws.{within_remove}
@@ -12,5 +12,5 @@ returns c =
     let b = c.args.bank.now in
     let i = c.args.sample in
     let there = c.in_ok-no_such_sample.ensures in
-    by_last (no_such_sample b i ∷ []) (in_use b i) (broken_limit (raw b (RemoveSample i))) c.in_use.result (there, tt) c.in_use.ensures
+    by_last (no_such_sample b i ∷ []) (used_sample b i) (broken_limit (raw b (RemoveSample i))) c.used_sample.result (there, tt) c.used_sample.ensures
     (λ free. within_remove b i c.requires (below _ i there) free)

@@ -1,0 +1,15 @@
+use Rattle.std.proofs.Common.{[]}
+use Rattle.bank_parts.specs.Limits.{broken_limit}
+use Rattle.bank_edits.specs.declared.edit.Step.TheVariants.{RemovePreset}
+use Rattle.bank_edits.specs.Causes.{no_such_preset}
+use Rattle.bank_edits.specs.Steps.{raw}
+use Rattle.bank_edits.proofs.Accepted.{by_last, below}
+use Rattle.bank_edits.proofs.PresetLaws.{within_remove_preset}
+use Rattle.bank_edits.proofs.presets.refuse_remove_preset.Goals as goal
+
+pub returns : goal.returns
+returns c =
+    let b = c.args.bank.now in
+    let i = c.args.preset in
+    by_last [] (no_such_preset b i) (broken_limit (raw b (RemovePreset i))) c.no_such_preset.result tt c.no_such_preset.ensures
+    (λ there. within_remove_preset b i c.requires (below _ i there))

@@ -1,0 +1,69 @@
+//! What stands against the zones of a preset or an instrument.
+ghost use Rattle.std.specs.Prelude.{◌≡◌};
+ghost use Rattle.std.specs.List.{list_any};
+ghost use Rattle.bank_parts.specs.declared.parts.Zone.{Zone};
+ghost use Rattle.bank_parts.specs.Contents.{misses_target, sets_foreign, has_foreign, is_bad_range, sets_bad_range, has_bad_range};
+
+use crate::parts::{WithZones, Zone};
+use generators::{GenMap, Level, Range, allowed, is_range_operator};
+
+impl<H> WithZones<H> {
+    /// Whether a zone's target is past so many members, instruments or samples.
+    pub fn misses_target(&self, count: usize) -> bool
+        ensures { result ≡ misses_target count self.now }
+    {
+        self.zones
+            .as_slice()
+            .iter()
+            .any(|zone| count <= zone.target as usize)
+    }
+
+    /// Whether it has a generator that the level does not allow (SoundFont 2.04, section 8.1.2); the
+    /// target is none.
+    pub fn has_foreign(&self, at: Level) -> bool
+        ensures { result ≡ has_foreign at self.now }
+    {
+        sets_foreign(at, &self.global.gens) || any_sets_foreign(at, self.zones.as_slice())
+    }
+
+    /// Whether it has a range of keys or of velocities whose ends are in the wrong order, or over 127
+    /// (SoundFont 2.04, section 8.1.2, `keyRange` and `velRange`).
+    pub fn has_bad_range(&self) -> bool
+        ensures { result ≡ has_bad_range self.now }
+    {
+        sets_bad_range(&self.global.gens) || any_sets_bad_range(self.zones.as_slice())
+    }
+}
+
+fn any_sets_foreign(at: Level, zones: &[Zone]) -> bool
+    ensures { result ≡ list_any (λ (z : Zone). sets_foreign at z.gens) zones.now }
+{
+    zones.iter().any(|zone| sets_foreign(at, &zone.gens))
+}
+
+fn sets_foreign(at: Level, gens: &GenMap) -> bool
+    ensures { result ≡ sets_foreign at gens.now }
+{
+    gens.entries()
+        .iter()
+        .any(|&(operator, _)| !allowed(operator, at))
+}
+
+fn any_sets_bad_range(zones: &[Zone]) -> bool
+    ensures { result ≡ list_any (λ (z : Zone). sets_bad_range z.gens) zones.now }
+{
+    zones.iter().any(|zone| sets_bad_range(&zone.gens))
+}
+
+fn sets_bad_range(gens: &GenMap) -> bool
+    ensures { result ≡ sets_bad_range gens.now }
+{
+    gens.entries().iter().any(|&entry| is_bad_range(entry))
+}
+
+fn is_bad_range(entry: (u16, u16)) -> bool
+    ensures { result ≡ is_bad_range entry }
+{
+    let (operator, word) = entry;
+    is_range_operator(operator) && !Range::of_word(word).is_valid()
+}
