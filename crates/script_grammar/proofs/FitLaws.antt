@@ -1,6 +1,6 @@
 -- What is said fits, and what fits can be said.
 use Rattle.std.proofs.Common.{◌≤◌, ◌<◌, ◌^◌, ◌+◌, ℕ, ℤ, pos, negsuc, neg_ℤ, zero, suc, List, [], ◌∷◌, ◌++◌, Option, Some, None, refl, sym, subst, arith, lit<, inl, inr, FitsSigned}
-use Rattle.std.specs.Int.{w8}
+use Rattle.std.specs.Int.{w8, w16, cast_unsigned}
 use Rattle.std.specs.List.{AllByRecursion}
 use Rattle.sf_base.specs.Names.{IsName}
 use Rattle.sample_view.specs.Words.{words}
@@ -12,7 +12,7 @@ use Rattle.bank_parts.specs.declared.parts.Sample.{Sample}
 use Rattle.bank_parts.specs.Fits.{FitsText, FitsKind, FitsLoop, FitsSample}
 use Rattle.line_tokens.specs.declared.cursor.Said.{Said}
 use Rattle.line_tokens.specs.Spelling.{WritesSigned, IsWithin}
-use Rattle.script_grammar.specs.Operands.{Operand, Fixed, Number, Signed, Name, Text, Points, Says, AllSay}
+use Rattle.script_grammar.specs.Operands.{Operand, Fixed, Number, Signed, Amount, Range, Name, Text, Points, Says, AllSay}
 use Rattle.script_grammar.specs.Samples.{kind_operands, loop_operands, head_operands, body_operands}
 use Rattle.script_grammar.specs.Texts.{id_word}
 use Rattle.script_grammar.proofs.OperandLaws.{IsFixed, AllFit, both_fit}
@@ -23,6 +23,8 @@ abbrev pub Ranged : Operand → Type 0
 Ranged (Fixed w) = Unit {0}
 Ranged (Number limit n) = n ≤ limit
 Ranged (Signed limit z) = IsWithin limit z
+Ranged (Amount amount) = amount < 2 ^ 16
+Ranged (Range low high) = (low ≤ 255) × (high ≤ 255)
 Ranged (Name bytes) = IsName bytes
 Ranged (Text bytes) = FitsText bytes
 Ranged (Points ps) = AllByRecursion (λ p. p < 2 ^ 16) ps
@@ -35,6 +37,11 @@ signed_within : (limit : ℕ) (w : List ℕ) (z : ℤ) → WritesSigned limit w 
 signed_within limit w z (inl h) = subst (IsWithin limit) (sym h.value) (within_negated limit h.number h.writes.within)
 signed_within limit w z (inr h) = subst (IsWithin limit) (sym h.value) h.writes.within
 
+-- the word of a signed number
+word_within : (z : ℤ) → IsWithin 32767 z → cast_unsigned w16 z < 2 ^ 16
+word_within (pos n) h = omega (arith, h)
+word_within (negsuc n) h = omega arith
+
 words_fit : (bytes : List ℕ) → FitsText bytes → AllByRecursion (λ p. p < 2 ^ 16) (words bytes)
 unfolding words
 words_fit [] h = tt
@@ -45,6 +52,8 @@ ranged : (s : Said) (o : Operand) → Says s o → Ranged o
 ranged s (Fixed w) h = tt
 ranged s (Number limit n) h = h.2.within
 ranged s (Signed limit z) h = signed_within limit h.0 z h.2
+ranged s (Amount amount) h = subst (λ (n : ℕ). n < 2 ^ 16) (sym h.4) (word_within h.1 (signed_within 32767 h.0 h.1 h.3))
+ranged s (Range low high) h = (h.2.writes_low.within, h.2.writes_high.within)
 ranged s (Name bytes) h = h.1
 ranged s (Text bytes) h = h.1
 ranged s (Points ps) h = subst (AllByRecursion (λ p. p < 2 ^ 16)) (sym h.4) (words_fit h.0 h.2)

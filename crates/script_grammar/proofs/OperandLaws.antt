@@ -1,6 +1,9 @@
 -- Operands that fit are printed as pieces that say them.
-use Rattle.std.proofs.Common.{◌≡◌, ◌≤◌, ◌<◌, ◌^◌, ◌%◌, ℕ, true, List, [], ◌∷◌, ◌++◌, length, map, decimal, refl, sym, arith}
+use Rattle.std.proofs.Common.{◌≡◌, ◌≤◌, ◌<◌, ◌^◌, ◌%◌, ℕ, ℤ, pos, negsuc, lit<, FitsSigned, true, List, [], ◌∷◌, ◌++◌, length, map, decimal, refl, sym, arith}
 use Rattle.std.specs.List.{list_all, flat_map, AllByRecursion}
+use Rattle.std.specs.Int.{w16, cast_signed}
+use Rattle.std.proofs.Math.Facts.{sfits_to_z}
+use Rattle.std.proofs.lemmas.Int.{of_z-to_z}
 use Rattle.std.specs.Fmt.{signed_decimal}
 use Rattle.sf_base.specs.Names.{IsName}
 use Rattle.sample_view.specs.Words.{word_bytes}
@@ -8,8 +11,8 @@ use Rattle.sample_view.proofs.WordLemmas.{words_of_bytes}
 use Rattle.bank_parts.specs.Fits.{FitsText}
 use Rattle.line_tokens.specs.Spelling.{is_word, IsWithin}
 use Rattle.line_tokens.proofs.TestLaws.{not_feed}
-use Rattle.line_tokens.proofs.PieceLaws.{meant, Spoken, AllSpoken, writes, writes_signed, spoken_number, spoken_signed, spoken_word, spoken_name, spoken_bytes, spoken_hex, are_bytes}
-use Rattle.script_grammar.specs.Operands.{Operand, Fixed, Number, Signed, Name, Text, Points, Says, AllSay, piece_of, pieces_of}
+use Rattle.line_tokens.proofs.PieceLaws.{meant, Spoken, AllSpoken, writes, writes_signed, writes_range, range_text, spoken_number, spoken_signed, spoken_range, spoken_word, spoken_name, spoken_bytes, spoken_hex, are_bytes}
+use Rattle.script_grammar.specs.Operands.{Operand, Fixed, Number, Signed, Amount, Range, Name, Text, Points, Says, AllSay, piece_of, pieces_of}
 
 -- a word that a line can hold
 abbrev pub IsFixed : List ℕ → Type 0
@@ -20,6 +23,8 @@ abbrev pub FitsOperand : Operand → Type 0
 FitsOperand (Fixed w) = IsFixed w
 FitsOperand (Number limit n) = (n ≤ limit) × (limit < 2 ^ 32)
 FitsOperand (Signed limit z) = IsWithin limit z × (limit < 2 ^ 16)
+FitsOperand (Amount amount) = amount < 2 ^ 16
+FitsOperand (Range low high) = (low ≤ 255) × (high ≤ 255)
 FitsOperand (Name bytes) = IsName bytes
 FitsOperand (Text bytes) = FitsText bytes
 FitsOperand (Points ps) = AllByRecursion (λ p. p < 2 ^ 16) ps
@@ -39,12 +44,23 @@ unfolding word_bytes
 length-points [] = refl
 length-points (p ∷ ps) = let h = length-points ps in omega (arith, h)
 
+-- ---- amounts
+
+amount_within : (amount : ℕ) → amount < 2 ^ 16 → IsWithin 32767 (cast_signed w16 amount)
+amount_within amount h = within (cast_signed w16 amount) (sfits_to_z (record { fits = h }))
+  where
+    within : (z : ℤ) → FitsSigned w16 z → IsWithin 32767 z
+    within (pos n) v = let k : n < 2 ^ 15 = v.sfits in omega (arith, k)
+    within (negsuc n) v = let k : n < 2 ^ 15 = v.sfits in omega (arith, k)
+
 -- ---- one operand
 
 pub operand_spoken : (o : Operand) → FitsOperand o → Spoken (piece_of o)
 operand_spoken (Fixed w) h = spoken_word w h.0 h.1
 operand_spoken (Number limit n) h = spoken_number n (let a = h.0 in let b = h.1 in omega (arith, a, b))
 operand_spoken (Signed limit z) h = spoken_signed limit z h.0 h.1
+operand_spoken (Amount amount) h = spoken_signed 32767 (cast_signed w16 amount) (amount_within amount h) (lit< tt)
+operand_spoken (Range low high) h = spoken_range low high h.0 h.1
 operand_spoken (Name bytes) h = spoken_name bytes h
 operand_spoken (Text bytes) h = spoken_bytes bytes (are_bytes bytes h)
 operand_spoken (Points ps) h = spoken_hex (flat_map word_bytes ps) (are_bytes (flat_map word_bytes ps) (points_text ps h))
@@ -53,6 +69,8 @@ operand_says : (o : Operand) → FitsOperand o → Says (meant (piece_of o)) o
 operand_says (Fixed w) h = refl
 operand_says (Number limit n) h = (decimal n, refl, writes limit n h.0 h.1)
 operand_says (Signed limit z) h = (signed_decimal z, refl, writes_signed limit z h.0 h.1)
+operand_says (Amount amount) h = (signed_decimal (cast_signed w16 amount), cast_signed w16 amount, refl, writes_signed 32767 (cast_signed w16 amount) (amount_within amount h) (lit< tt), sym (of_z-to_z w16 amount h))
+operand_says (Range low high) h = (range_text low high, refl, writes_range low high h.0 h.1)
 operand_says (Name bytes) h = (refl, h)
 operand_says (Text bytes) h = (refl, h)
 operand_says (Points ps) h = (flat_map word_bytes ps, refl, points_text ps h, length-points ps, sym (words_of_bytes ps))

@@ -1,4 +1,7 @@
 pub mod Operands
 pub mod Names
+pub mod Memory
 pub mod Samples
 pub mod Texts
+pub mod Items
+pub mod Zones

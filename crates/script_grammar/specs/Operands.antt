@@ -1,5 +1,6 @@
 -- What stands on a line, token by token: the tokens that say it, and the pieces that it is printed as.
 use Rattle.std.specs.Prelude.{◌≡◌, ◌%◌, ℕ, ℤ, List, [], ◌∷◌, length, map}
+use Rattle.std.specs.Int.{w16, cast_signed, cast_unsigned}
 use Rattle.std.specs.List.{flat_map}
 use Rattle.sf_base.specs.Names.{IsName}
 use Rattle.sample_view.specs.Words.{words, word_bytes}
@@ -8,14 +9,17 @@ use Rattle.line_tokens.specs.declared.cursor.Said.{Said}
 use Rattle.line_tokens.specs.declared.cursor.Said.TheVariants.{Word, Literal}
 use Rattle.line_tokens.specs.declared.printing.Piece.{Piece}
 use Rattle.line_tokens.specs.declared.printing.Piece.TheVariants as piece
-use Rattle.line_tokens.specs.Spelling.{Writes, WritesSigned}
+use Rattle.line_tokens.specs.Spelling.{Writes, WritesSigned, WritesRange}
 
 -- one token: a word that is always the same, a number up to a limit, a signed number from one below
--- minus the limit up to the limit, a name, a text, points as words of 16 bits
+-- minus the limit up to the limit, one of 16 bits as the word that holds it, the ends of a range, a name,
+-- a text, points as words of 16 bits
 pub data Operand : Type 0 where
   Fixed : List ℕ → Operand
   Number : ℕ → ℕ → Operand
   Signed : ℕ → ℤ → Operand
+  Amount : ℕ → Operand
+  Range : ℕ → ℕ → Operand
   Name : List ℕ → Operand
   Text : List ℕ → Operand
   Points : List ℕ → Operand
@@ -25,6 +29,8 @@ abbrev pub Says : Said → Operand → Type 0
 Says s (Fixed w) = s ≡ Word w
 Says s (Number limit n) = (w : List ℕ) × (s ≡ Word w) × Writes limit w n
 Says s (Signed limit z) = (w : List ℕ) × (s ≡ Word w) × WritesSigned limit w z
+Says s (Amount amount) = (w : List ℕ) × (z : ℤ) × (s ≡ Word w) × WritesSigned 32767 w z × (amount ≡ cast_unsigned w16 z)
+Says s (Range low high) = (w : List ℕ) × (s ≡ Word w) × WritesRange w low high
 Says s (Name bytes) = (s ≡ Literal bytes) × IsName bytes
 Says s (Text bytes) = (s ≡ Literal bytes) × FitsText bytes
 Says s (Points ps) = (bytes : List ℕ) × (s ≡ Literal bytes) × FitsText bytes × (length bytes % 2 ≡ 0) × (ps ≡ words bytes)
@@ -41,6 +47,8 @@ abbrev pub piece_of : Operand → Piece
 piece_of (Fixed w) = piece.Word w
 piece_of (Number limit n) = piece.Number n
 piece_of (Signed limit z) = piece.Signed z
+piece_of (Amount amount) = piece.Signed (cast_signed w16 amount)
+piece_of (Range low high) = piece.Range low high
 piece_of (Name bytes) = piece.Name bytes
 piece_of (Text bytes) = piece.Name bytes
 piece_of (Points ps) = piece.Hex (flat_map word_bytes ps)

@@ -6,10 +6,13 @@
 //! ([`named`]), the id of a text ([`info_id`]) and a sample, `NAME RATE KEY CORR KIND LOOP POINTS` ([`sample_body`]).
 #![tactic(auto)]
 
+mod items;
 mod names;
 mod samples;
 mod texts;
+mod zone_lists;
 
 pub use names::{HasWord, named};
 pub use samples::{put_sample_body, put_sample_head, sample_body};
 pub use texts::info_id;
+pub use zone_lists::zones;

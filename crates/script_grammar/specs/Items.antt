@@ -1,0 +1,113 @@
+-- What a zone sets: the parts of a line that say a generator or a modulator, and lists of them in braces.
+use Rattle.std.specs.Prelude.{ℕ, zero, suc, ℤ, ◌+◌, ◌*◌, ◌/◌, ◌%◌, List, [], ◌∷◌, ◌++◌, length, codes, None, if◌then◌else◌}
+use Rattle.std.specs.Int.{w16, cast_unsigned}
+use Rattle.std.specs.List.{flat_map}
+use Rattle.std.specs.Str.{bytes_eq}
+use Rattle.std.specs.FinMap.{insert}
+use Rattle.generators.specs.Gens.{Gens, no_gens}
+use Rattle.generators.specs.Ranges.{is_range_operator}
+use Rattle.modulators.specs.declared.modulator.Modulator.{Modulator}
+use Rattle.bank_parts.specs.declared.parts.GlobalZone.{GlobalZone}
+use Rattle.line_tokens.specs.declared.fault.LineFault.TheVariants as faults
+use Rattle.line_tokens.specs.Parts.{Part, ◌>>=◌, pure, or_fault, is_next, word, number, signed, range}
+use Rattle.script_grammar.specs.declared.items.Item.{Item}
+use Rattle.script_grammar.specs.declared.items.Item.TheVariants as item
+use Rattle.script_grammar.specs.Operands.{Operand, Fixed, Number, Signed, Amount, Range}
+
+-- ---- what stands on the line
+
+-- `LO..HI` for the ranges of keys and of velocities, and else a signed number
+abbrev pub amount_operand : ℕ → ℕ → Operand
+amount_operand operator amount = if is_range_operator operator then Range (amount % 256) (amount / 256) else Amount amount
+
+-- `OPERATOR AMOUNT`
+abbrev pub generator_operands : ℕ → ℕ → List Operand
+generator_operands operator amount = Number 65535 operator ∷ amount_operand operator amount ∷ []
+
+-- `SOURCE DEST AMOUNT ASOURCE TRANSFORM`
+abbrev pub modulator_operands : Modulator → List Operand
+modulator_operands m = Number 65535 m.source ∷ Number 65535 m.dest ∷ Signed 32767 m.amount ∷ Number 65535 m.amount_source ∷ Number 65535 m.transform ∷ []
+
+-- `g OPERATOR AMOUNT` or `m MOD`
+abbrev pub item_operands : Item → List Operand
+item_operands (item.Generator operator amount) = Fixed (codes "g") ∷ generator_operands operator amount
+item_operands (item.Modulator m) = Fixed (codes "m") ∷ modulator_operands m
+
+-- items, and the brace that closes them
+abbrev pub items_operands : List Item → List Operand
+items_operands items = flat_map item_operands items ++ Fixed (codes "}") ∷ []
+
+-- ---- what it stands for
+
+-- neither generators nor modulators
+abbrev pub no_content : GlobalZone
+no_content = record { gens = no_gens; mods = [] }
+
+-- a generator is set, and a modulator comes behind the others
+abbrev pub with_item : GlobalZone → Item → GlobalZone
+with_item content (item.Generator operator amount) = record content { gens = insert content.gens operator amount }
+with_item content (item.Modulator m) = record content { mods = content.mods ++ m ∷ [] }
+
+-- so that of a repeated operator the last counts
+abbrev pub with_items : GlobalZone → List Item → GlobalZone
+with_items content [] = content
+with_items content (i ∷ items) = with_items (with_item content i) items
+
+abbrev pub content_of : List Item → GlobalZone
+content_of items = with_items no_content items
+
+-- ---- how it is read
+
+-- the amount of an operator, as a word
+unfoldable pub amount : ℕ → Part ℕ
+amount operator =
+    if is_range_operator operator then (range >>= λ ends. pure (ends.0 + 256 * ends.1))
+    else (signed 32767 >>= λ z. pure (cast_unsigned w16 z))
+
+-- `OPERATOR AMOUNT`
+unfoldable pub generator : Part (ℕ × ℕ)
+generator = do
+  operator ← number 65535
+  a ← amount operator
+  pure (operator, a)
+
+abbrev pub modulator_of : ℕ → ℕ → ℤ → ℕ → ℕ → Modulator
+modulator_of source dest amount amount_source transform =
+    record { source = source; dest = dest; amount = amount; amount_source = amount_source; transform = transform }
+
+-- `SOURCE DEST AMOUNT ASOURCE TRANSFORM`
+unfoldable pub modulator : Part Modulator
+modulator = do
+  source ← number 65535
+  dest ← number 65535
+  amount ← signed 32767
+  amount_source ← number 65535
+  transform ← number 65535
+  pure (modulator_of source dest amount amount_source transform)
+
+unfoldable pub item_behind : List ℕ → Part Item
+item_behind w =
+    if bytes_eq w (codes "g") then (generator >>= λ e. pure (item.Generator e.0 e.1))
+    else if bytes_eq w (codes "m") then (modulator >>= λ m. pure (item.Modulator m))
+    else or_fault faults.Syntax None
+
+-- `g OPERATOR AMOUNT` or `m MOD`
+unfoldable pub an_item : Part Item
+an_item = word >>= item_behind
+
+-- the brace that closes items
+unfoldable pub closed : {X : Type 0} → X → Part X
+closed x = do
+  w ← word
+  pure x
+
+-- items, at most so many, each put into what there is, up to the brace that closes them
+unfoldable pub items_within : ℕ → GlobalZone → Part GlobalZone
+items_within zero content line = or_fault faults.Syntax None line
+items_within (suc n) content line =
+    if is_next (codes "}") line then closed content line
+    else (an_item >>= λ i. items_within n (with_item content i)) line
+
+-- items up to the brace that closes them; a line has no more of them than tokens
+unfoldable pub items : Part GlobalZone
+items line = items_within (length line) no_content line

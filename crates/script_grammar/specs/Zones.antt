@@ -1,0 +1,126 @@
+-- The parts of a line that say zones: what stands there, what it stands for, and how it is read.
+use Rattle.std.specs.Prelude.{ℕ, zero, suc, ◌+◌, ◌==◌, List, [], ◌∷◌, ◌++◌, length, map, codes, Option, Some, None, if◌then◌else◌}
+use Rattle.std.specs.FinMap.{len, entries}
+use Rattle.std.specs.List.{flat_map}
+use Rattle.std.specs.Str.{bytes_eq}
+use Rattle.modulators.specs.declared.modulator.Modulator.{Modulator}
+use Rattle.generators.specs.Gens.{Gens}
+use Rattle.bank_parts.specs.declared.parts.GlobalZone.{GlobalZone}
+use Rattle.bank_parts.specs.declared.parts.Zone.{Zone}
+use Rattle.line_tokens.specs.declared.fault.LineFault.TheVariants as faults
+use Rattle.line_tokens.specs.Parts.{Part, ◌>>=◌, pure, or_fault, is_next, word, number}
+use Rattle.script_grammar.specs.declared.items.Item.{Item}
+use Rattle.script_grammar.specs.declared.items.Item.TheVariants as item
+use Rattle.script_grammar.specs.Operands.{Operand, Fixed, Number}
+use Rattle.script_grammar.specs.Items.{items_operands, no_content, content_of, items}
+
+-- ---- zones as they are written
+
+pub record WrittenZone : Type 0 where
+  pub target : ℕ
+  pub items : List Item
+
+-- the global zone, where there is one, and the zones
+pub record Written : Type 0 where
+  pub global : Option (List Item)
+  pub zones : List WrittenZone
+
+-- `{ TARGET ITEM* }`
+abbrev pub zone_operands : WrittenZone → List Operand
+zone_operands z = Fixed (codes "{") ∷ Number 65535 z.target ∷ items_operands z.items
+
+-- `{ global ITEM* }`, or nothing
+abbrev pub global_operands : Option (List Item) → List Operand
+global_operands None = []
+global_operands (Some items) = Fixed (codes "{") ∷ Fixed (codes "global") ∷ items_operands items
+
+-- GLOBAL? ZONE*
+abbrev pub written_operands : Written → List Operand
+written_operands w = global_operands w.global ++ flat_map zone_operands w.zones
+
+-- ---- what it stands for
+
+abbrev pub zone_of : ℕ → GlobalZone → Zone
+zone_of target content = record { target = target; gens = content.gens; mods = content.mods }
+
+abbrev pub zone_in : WrittenZone → Zone
+zone_in z = zone_of z.target (content_of z.items)
+
+-- an empty global zone is none
+abbrev pub global_in : Option (List Item) → GlobalZone
+global_in None = no_content
+global_in (Some items) = content_of items
+
+abbrev pub zones_in : Written → GlobalZone × List Zone
+zones_in w = (global_in w.global, map zone_in w.zones)
+
+-- ---- as they are printed
+
+-- generators in canonical order, and then modulators
+abbrev pub items_of : Gens → List Modulator → List Item
+items_of gens mods = map (λ (e : ℕ × ℕ). item.Generator e.0 e.1) (entries gens) ++ map (λ (m : Modulator). item.Modulator m) mods
+
+abbrev pub global_of : GlobalZone → Option (List Item)
+global_of g = if len g.gens + length g.mods == 0 then None else Some (items_of g.gens g.mods)
+
+abbrev pub written_zone : Zone → WrittenZone
+written_zone z = record { target = z.target; items = items_of z.gens z.mods }
+
+abbrev pub written_of : GlobalZone → List Zone → Written
+written_of g zs = record { global = global_of g; zones = map written_zone zs }
+
+-- ---- how it is read
+
+-- the brace that opens a zone
+unfoldable pub opened_by : List ℕ → Part (Unit {0})
+opened_by w = if bytes_eq w (codes "{") then pure tt else or_fault faults.Syntax None
+
+unfoldable pub opened : Part (Unit {0})
+opened = word >>= opened_by
+
+-- `TARGET ITEM* }`
+unfoldable pub zone_behind : Part Zone
+zone_behind = do
+  target ← number 65535
+  content ← items
+  pure (zone_of target content)
+
+-- `{ TARGET ITEM* }`
+unfoldable pub zone : Part Zone
+zone = do
+  o ← opened
+  zone_behind
+
+-- zones, at most so many, behind those that there are, up to the line's end
+unfoldable pub zones_within : ℕ → List Zone → Part (List Zone)
+zones_within n zs [] = pure zs []
+zones_within zero zs (s ∷ line) = or_fault faults.Syntax None (s ∷ line)
+zones_within (suc n) zs (s ∷ line) = (zone >>= λ z. zones_within n (zs ++ z ∷ [])) (s ∷ line)
+
+-- the zones that are left; a line has no more of them than tokens
+unfoldable pub zones_left : List Zone → Part (List Zone)
+zones_left zs line = zones_within (length line) zs line
+
+-- `global ITEM* }`, and the zones
+unfoldable pub global_behind : Part (GlobalZone × List Zone)
+global_behind = do
+  w ← word
+  g ← items
+  zs ← zones_left []
+  pure (g, zs)
+
+-- the first zone behind its brace, where no global zone is, and the others
+unfoldable pub first_behind : Part (GlobalZone × List Zone)
+first_behind = do
+  z ← zone_behind
+  zs ← zones_left (z ∷ [])
+  pure (no_content, zs)
+
+-- only the first brace can be that of a global zone
+unfoldable pub zones_behind : Part (GlobalZone × List Zone)
+zones_behind line = if is_next (codes "global") line then global_behind line else first_behind line
+
+-- GLOBAL? ZONE*, to the line's end
+unfoldable pub zones : Part (GlobalZone × List Zone)
+zones [] = pure (no_content, []) []
+zones (s ∷ line) = (opened >>= λ o. zones_behind) (s ∷ line)

@@ -1,0 +1,124 @@
+//! The parts of a line that say what a zone sets.
+ghost use Rattle.std.specs.Prelude.{◌≡◌, OnOk};
+ghost use Rattle.line_tokens.specs.Parts.{Reads};
+ghost use Rattle.script_grammar.specs.Items.{an_item, item_behind, amount, generator, modulator, items, with_item, no_content};
+ghost use Rattle.script_grammar.specs.Memory.{ReadsOrWants};
+
+use crate::names::says;
+use bank_parts::GlobalZone;
+use generators::{GenMap, Range, is_range_operator};
+use line_tokens::{Cursor, LineFault};
+use modulators::Modulator;
+use numbered_lists::NumberedList;
+use sf_base::{Failure, OutOfMemory};
+use std::alloc::Global;
+
+/// What a zone sets: a generator and its amount, or a modulator.
+#[derive(Debug, Clone, Copy)]
+pub enum Item {
+    Generator(u16, u16),
+    Modulator(Modulator),
+}
+
+// ---- read
+
+/// `ITEM* }`: the generators and the modulators up to the closing brace. Of a repeated operator the
+/// last counts.
+pub(crate) fn items(
+    alloc: Global,
+    line: &mut Cursor<'_, '_>,
+) -> Result<GlobalZone, Failure<LineFault>>
+    ensures { ReadsOrWants (λ z. z) items line.old line.new result }
+{
+    let mut content = no_content(alloc);
+    while !line.is_next(b"}") {
+        let item = an_item(line).map_err(Failure::Fault)?;
+        add_item(&mut content, item)?;
+    }
+    line.word().map_err(Failure::Fault)?;
+    Ok(content)
+}
+
+// Neither generators nor modulators.
+pub(crate) fn no_content(alloc: Global) -> GlobalZone
+    ensures { result ≡ no_content }
+{
+    GlobalZone {
+        gens: GenMap::new(alloc),
+        mods: NumberedList::new(alloc),
+    }
+}
+
+// Sets a generator, or puts a modulator behind the others.
+fn add_item(content: &mut GlobalZone, item: Item) -> Result<(), OutOfMemory>
+    ensures { OnOk result (content.new ≡ with_item content.old item) }
+{
+    match item {
+        Item::Generator(operator, amount) => {
+            content.gens.set(operator, amount)?;
+        }
+        Item::Modulator(modulator) => {
+            content.mods.push(modulator).map_err(|_| OutOfMemory)?;
+        }
+    }
+    Ok(())
+}
+
+// `g OPERATOR AMOUNT` or `m MOD`
+#[tactic(auto, unfolding(crate::specs::Items::an_item, crate::specs::Items::item_behind))]
+fn an_item(line: &mut Cursor<'_, '_>) -> Result<Item, LineFault>
+    ensures { Reads (λ i. i) an_item line.old line.new result }
+{
+    let word = line.word()?;
+    if says(word, b"g") {
+        let (operator, amount) = generator(line)?;
+        Ok(Item::Generator(operator, amount))
+    } else if says(word, b"m") {
+        Ok(Item::Modulator(modulator(line)?))
+    } else {
+        Err(LineFault::Syntax)
+    }
+}
+
+// `OPERATOR AMOUNT`
+#[tactic(auto, unfolding(crate::specs::Items::generator))]
+fn generator(line: &mut Cursor<'_, '_>) -> Result<(u16, u16), LineFault>
+    ensures { Reads (λ e. e) generator line.old line.new result }
+{
+    let operator = line.number(u32::from(u16::MAX))? as u16;
+    let amount = amount(operator, line)?;
+    Ok((operator, amount))
+}
+
+// `LO..HI` for the ranges of keys and of velocities, and else a signed number, as a word.
+#[tactic(auto, unfolding(crate::specs::Items::amount))]
+fn amount(operator: u16, line: &mut Cursor<'_, '_>) -> Result<u16, LineFault>
+    ensures { Reads (λ a. a) (amount operator) line.old line.new result }
+{
+    if is_range_operator(operator) {
+        let (low, high) = line.range()?;
+        Ok(Range { low, high }.to_word())
+    } else {
+        let number = line.signed(32767)? as i16;
+        Ok(number.cast_unsigned())
+    }
+}
+
+// `SOURCE DEST AMOUNT ASOURCE TRANSFORM`
+#[tactic(auto, unfolding(crate::specs::Items::modulator))]
+fn modulator(line: &mut Cursor<'_, '_>) -> Result<Modulator, LineFault>
+    ensures { Reads (λ m. m) modulator line.old line.new result }
+{
+    let source = line.number(u32::from(u16::MAX))? as u16;
+    let dest = line.number(u32::from(u16::MAX))? as u16;
+    let amount = line.signed(32767)? as i16;
+    let amount_source = line.number(u32::from(u16::MAX))? as u16;
+    let transform = line.number(u32::from(u16::MAX))? as u16;
+    Ok(Modulator {
+        source,
+        dest,
+        amount,
+        amount_source,
+        transform,
+    })
+}

@@ -1,0 +1,117 @@
+//! The parts of a line that say zones.
+ghost use Rattle.std.specs.Prelude.{◌≡◌, ◌++◌, ◌∷◌, []};
+ghost use Rattle.line_tokens.specs.Parts.{Reads};
+ghost use Rattle.script_grammar.specs.Zones.{opened, zone_behind, zone, zones_left, global_behind, first_behind, zones_behind, zones};
+ghost use Rattle.script_grammar.specs.Memory.{ReadsOrWants};
+
+use crate::items::{items, no_content};
+use crate::names::says;
+use bank_parts::{GlobalZone, Zone};
+use line_tokens::{Cursor, LineFault};
+use numbered_lists::NumberedList;
+use sf_base::{Failure, OutOfMemory};
+use std::alloc::Global;
+
+// ---- read
+
+/// `GLOBAL? ZONE*`, to the line's end: the global zone, which is empty where none is said, and the
+/// zones. `global` behind a later brace is a fault of number, and another token than a brace where a
+/// zone could begin one of syntax.
+pub fn zones(
+    alloc: Global,
+    line: &mut Cursor<'_, '_>,
+) -> Result<(GlobalZone, NumberedList<Zone>), Failure<LineFault>>
+    ensures { ReadsOrWants (λ z. z) zones line.old line.new result }
+{
+    if line.is_empty() {
+        return Ok((no_content(alloc), NumberedList::new(alloc)));
+    }
+    opened(line).map_err(Failure::Fault)?;
+    zones_behind(alloc, line)
+}
+
+// What follows the first brace.
+fn zones_behind(
+    alloc: Global,
+    line: &mut Cursor<'_, '_>,
+) -> Result<(GlobalZone, NumberedList<Zone>), Failure<LineFault>>
+    ensures { ReadsOrWants (λ z. z) zones_behind line.old line.new result }
+{
+    if line.is_next(b"global") {
+        global_behind(alloc, line)
+    } else {
+        first_behind(alloc, line)
+    }
+}
+
+// `global ITEM* }`, and the zones
+fn global_behind(
+    alloc: Global,
+    line: &mut Cursor<'_, '_>,
+) -> Result<(GlobalZone, NumberedList<Zone>), Failure<LineFault>>
+    ensures { ReadsOrWants (λ z. z) global_behind line.old line.new result }
+{
+    line.word().map_err(Failure::Fault)?;
+    let global = items(alloc, line)?;
+    let zones = zones_left(alloc, NumberedList::new(alloc), line)?;
+    Ok((global, zones))
+}
+
+// The first zone behind its brace, and the others.
+fn first_behind(
+    alloc: Global,
+    line: &mut Cursor<'_, '_>,
+) -> Result<(GlobalZone, NumberedList<Zone>), Failure<LineFault>>
+    ensures { ReadsOrWants (λ z. z) first_behind line.old line.new result }
+{
+    let zone = zone_behind(alloc, line)?;
+    let mut zones = NumberedList::new(alloc);
+    zones.push(zone).map_err(|_| Failure::OutOfMemory)?;
+    let zones = zones_left(alloc, zones, line)?;
+    Ok((no_content(alloc), zones))
+}
+
+// The zones up to the line's end, behind those that there are.
+fn zones_left(
+    alloc: Global,
+    mut zones: NumberedList<Zone>,
+    line: &mut Cursor<'_, '_>,
+) -> Result<NumberedList<Zone>, Failure<LineFault>>
+    ensures { ReadsOrWants (λ zs. zs) (zones_left zones) line.old line.new result }
+{
+    while !line.is_empty() {
+        let zone = zone(alloc, line)?;
+        zones.push(zone).map_err(|_| Failure::OutOfMemory)?;
+    }
+    Ok(zones)
+}
+
+// `{ TARGET ITEM* }`
+fn zone(alloc: Global, line: &mut Cursor<'_, '_>) -> Result<Zone, Failure<LineFault>>
+    ensures { ReadsOrWants (λ z. z) zone line.old line.new result }
+{
+    opened(line).map_err(Failure::Fault)?;
+    zone_behind(alloc, line)
+}
+
+// `TARGET ITEM* }`
+fn zone_behind(alloc: Global, line: &mut Cursor<'_, '_>) -> Result<Zone, Failure<LineFault>>
+    ensures { ReadsOrWants (λ z. z) zone_behind line.old line.new result }
+{
+    let target = line.number(u32::from(u16::MAX)).map_err(Failure::Fault)? as u16;
+    let GlobalZone { gens, mods } = items(alloc, line)?;
+    Ok(Zone { target, gens, mods })
+}
+
+// The brace that opens a zone.
+#[tactic(auto, unfolding(crate::specs::Zones::opened, crate::specs::Zones::opened_by))]
+fn opened(line: &mut Cursor<'_, '_>) -> Result<(), LineFault>
+    ensures { Reads (λ u. u) opened line.old line.new result }
+{
+    let word = line.word()?;
+    if says(word, b"{") {
+        Ok(())
+    } else {
+        Err(LineFault::Syntax)
+    }
+}
