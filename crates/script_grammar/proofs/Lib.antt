@@ -4,3 +4,10 @@ pub mod PutLaws
 pub mod SpellLaws
 pub mod ReadLaws
 pub mod FitLaws
+pub mod RepeatedLaws
+pub mod ItemLaws
+pub mod MemoryLaws
+pub mod ZoneSpellLaws
+pub mod ZoneReadLaws
+pub mod ZoneFitLaws
+pub mod ZonePutLaws

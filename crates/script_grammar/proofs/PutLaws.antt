@@ -13,7 +13,7 @@ use Rattle.script_grammar.specs.Samples.{kind_operands, loop_operands, head_oper
 abbrev pub spaced_out : List Operand → List ℕ
 spaced_out os = flat_map spaced (pieces_of os)
 
-spaced_both : (os more : List Operand) → spaced_out (os ++ more) ≡ spaced_out os ++ spaced_out more
+pub spaced_both : (os more : List Operand) → spaced_out (os ++ more) ≡ spaced_out os ++ spaced_out more
 spaced_both [] more = refl
 spaced_both (o ∷ os) more = ap (λ (t : List ℕ). spaced (piece_of o) ++ t) (spaced_both os more) ∙ sym (append_assoc (spaced (piece_of o)) (spaced_out os) (spaced_out more))
 

@@ -1,10 +1,10 @@
 -- What a zone sets: the parts of a line that say a generator or a modulator, and lists of them in braces.
-use Rattle.std.specs.Prelude.{ℕ, zero, suc, ℤ, ◌+◌, ◌*◌, ◌/◌, ◌%◌, List, [], ◌∷◌, ◌++◌, length, codes, None, if◌then◌else◌}
+use Rattle.std.specs.Prelude.{ℕ, ℤ, ◌+◌, ◌*◌, ◌/◌, ◌%◌, List, [], ◌∷◌, ◌++◌, codes, None, if◌then◌else◌}
 use Rattle.std.specs.Int.{w16, cast_unsigned}
 use Rattle.std.specs.List.{flat_map}
 use Rattle.std.specs.Str.{bytes_eq}
 use Rattle.std.specs.FinMap.{insert}
-use Rattle.generators.specs.Gens.{Gens, no_gens}
+use Rattle.generators.specs.Gens.{no_gens}
 use Rattle.generators.specs.Ranges.{is_range_operator}
 use Rattle.modulators.specs.declared.modulator.Modulator.{Modulator}
 use Rattle.bank_parts.specs.declared.parts.GlobalZone.{GlobalZone}
@@ -12,6 +12,7 @@ use Rattle.line_tokens.specs.declared.fault.LineFault.TheVariants as faults
 use Rattle.line_tokens.specs.Parts.{Part, ◌>>=◌, pure, or_fault, is_next, word, number, signed, range}
 use Rattle.script_grammar.specs.declared.items.Item.{Item}
 use Rattle.script_grammar.specs.declared.items.Item.TheVariants as item
+use Rattle.script_grammar.specs.Repeated.{repeated}
 use Rattle.script_grammar.specs.Operands.{Operand, Fixed, Number, Signed, Amount, Range}
 
 -- ---- what stands on the line
@@ -101,13 +102,9 @@ closed x = do
   w ← word
   pure x
 
--- items, at most so many, each put into what there is, up to the brace that closes them
-unfoldable pub items_within : ℕ → GlobalZone → Part GlobalZone
-items_within zero content line = or_fault faults.Syntax None line
-items_within (suc n) content line =
-    if is_next (codes "}") line then closed content line
-    else (an_item >>= λ i. items_within n (with_item content i)) line
+-- items, each put into what there is, up to the brace that closes them
+unfoldable pub items_on : GlobalZone → Part GlobalZone
+items_on content line = repeated (is_next (codes "}")) closed an_item with_item content line
 
--- items up to the brace that closes them; a line has no more of them than tokens
 unfoldable pub items : Part GlobalZone
-items line = items_within (length line) no_content line
+items = items_on no_content

@@ -1,5 +1,5 @@
 -- The parts of a line that say zones: what stands there, what it stands for, and how it is read.
-use Rattle.std.specs.Prelude.{ℕ, zero, suc, ◌+◌, ◌==◌, List, [], ◌∷◌, ◌++◌, length, map, codes, Option, Some, None, if◌then◌else◌}
+use Rattle.std.specs.Prelude.{ℕ, ◌+◌, ◌==◌, List, [], ◌∷◌, ◌++◌, length, map, codes, Option, Some, None, Bool, true, false, if◌then◌else◌}
 use Rattle.std.specs.FinMap.{len, entries}
 use Rattle.std.specs.List.{flat_map}
 use Rattle.std.specs.Str.{bytes_eq}
@@ -7,10 +7,12 @@ use Rattle.modulators.specs.declared.modulator.Modulator.{Modulator}
 use Rattle.generators.specs.Gens.{Gens}
 use Rattle.bank_parts.specs.declared.parts.GlobalZone.{GlobalZone}
 use Rattle.bank_parts.specs.declared.parts.Zone.{Zone}
+use Rattle.line_tokens.specs.declared.cursor.Said.{Said}
 use Rattle.line_tokens.specs.declared.fault.LineFault.TheVariants as faults
 use Rattle.line_tokens.specs.Parts.{Part, ◌>>=◌, pure, or_fault, is_next, word, number}
 use Rattle.script_grammar.specs.declared.items.Item.{Item}
 use Rattle.script_grammar.specs.declared.items.Item.TheVariants as item
+use Rattle.script_grammar.specs.Repeated.{repeated}
 use Rattle.script_grammar.specs.Operands.{Operand, Fixed, Number}
 use Rattle.script_grammar.specs.Items.{items_operands, no_content, content_of, items}
 
@@ -91,23 +93,30 @@ zone = do
   o ← opened
   zone_behind
 
--- zones, at most so many, behind those that there are, up to the line's end
-unfoldable pub zones_within : ℕ → List Zone → Part (List Zone)
-zones_within n zs [] = pure zs []
-zones_within zero zs (s ∷ line) = or_fault faults.Syntax None (s ∷ line)
-zones_within (suc n) zs (s ∷ line) = (zone >>= λ z. zones_within n (zs ++ z ∷ [])) (s ∷ line)
+-- whether no token is left
+abbrev pub is_end : List Said → Bool
+is_end [] = true
+is_end (s ∷ line) = false
 
--- the zones that are left; a line has no more of them than tokens
+abbrev pub with_zone : List Zone → Zone → List Zone
+with_zone zs z = zs ++ z ∷ []
+
+-- zones, each behind those that there are, up to the line's end
 unfoldable pub zones_left : List Zone → Part (List Zone)
-zones_left zs line = zones_within (length line) zs line
+zones_left zs line = repeated is_end pure zone with_zone zs line
+
+-- the items of the global zone, and the zones
+unfoldable pub global_zones : Part (GlobalZone × List Zone)
+global_zones = do
+  g ← items
+  zs ← zones_left []
+  pure (g, zs)
 
 -- `global ITEM* }`, and the zones
 unfoldable pub global_behind : Part (GlobalZone × List Zone)
 global_behind = do
   w ← word
-  g ← items
-  zs ← zones_left []
-  pure (g, zs)
+  global_zones
 
 -- the first zone behind its brace, where no global zone is, and the others
 unfoldable pub first_behind : Part (GlobalZone × List Zone)
@@ -122,5 +131,4 @@ zones_behind line = if is_next (codes "global") line then global_behind line els
 
 -- GLOBAL? ZONE*, to the line's end
 unfoldable pub zones : Part (GlobalZone × List Zone)
-zones [] = pure (no_content, []) []
-zones (s ∷ line) = (opened >>= λ o. zones_behind) (s ∷ line)
+zones line = if is_end line then pure (no_content, []) line else (opened >>= λ o. zones_behind) line

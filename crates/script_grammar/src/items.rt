@@ -32,11 +32,15 @@ pub(crate) fn items(
 {
     let mut content = no_content(alloc);
     while !line.is_next(b"}") {
-        let item = an_item(line).map_err(Failure::Fault)?;
-        add_item(&mut content, item)?;
+        match an_item(line) {
+            Ok(item) => add_item(&mut content, item)?,
+            Err(fault) => return Err(Failure::Fault(fault)),
+        }
     }
-    line.word().map_err(Failure::Fault)?;
-    Ok(content)
+    match line.word() {
+        Ok(_) => Ok(content),
+        Err(fault) => Err(Failure::Fault(fault)),
+    }
 }
 
 // Neither generators nor modulators.

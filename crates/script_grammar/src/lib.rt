@@ -10,9 +10,11 @@ mod items;
 mod names;
 mod samples;
 mod texts;
+mod zone_lines;
 mod zone_lists;
 
 pub use names::{HasWord, named};
 pub use samples::{put_sample_body, put_sample_head, sample_body};
 pub use texts::info_id;
+pub use zone_lines::put_zones;
 pub use zone_lists::zones;

@@ -1,7 +1,7 @@
 //! The parts of a line that say zones.
 ghost use Rattle.std.specs.Prelude.{◌≡◌, ◌++◌, ◌∷◌, []};
 ghost use Rattle.line_tokens.specs.Parts.{Reads};
-ghost use Rattle.script_grammar.specs.Zones.{opened, zone_behind, zone, zones_left, global_behind, first_behind, zones_behind, zones};
+ghost use Rattle.script_grammar.specs.Zones.{opened, zone_behind, zone, zones_left, global_zones, global_behind, first_behind, zones_behind, zones};
 ghost use Rattle.script_grammar.specs.Memory.{ReadsOrWants};
 
 use crate::items::{items, no_content};
@@ -9,7 +9,7 @@ use crate::names::says;
 use bank_parts::{GlobalZone, Zone};
 use line_tokens::{Cursor, LineFault};
 use numbered_lists::NumberedList;
-use sf_base::{Failure, OutOfMemory};
+use sf_base::Failure;
 use std::alloc::Global;
 
 // ---- read
@@ -26,8 +26,10 @@ pub fn zones(
     if line.is_empty() {
         return Ok((no_content(alloc), NumberedList::new(alloc)));
     }
-    opened(line).map_err(Failure::Fault)?;
-    zones_behind(alloc, line)
+    match opened(line) {
+        Ok(()) => zones_behind(alloc, line),
+        Err(fault) => Err(Failure::Fault(fault)),
+    }
 }
 
 // What follows the first brace.
@@ -51,7 +53,19 @@ fn global_behind(
 ) -> Result<(GlobalZone, NumberedList<Zone>), Failure<LineFault>>
     ensures { ReadsOrWants (λ z. z) global_behind line.old line.new result }
 {
-    line.word().map_err(Failure::Fault)?;
+    match line.word() {
+        Ok(_) => global_zones(alloc, line),
+        Err(fault) => Err(Failure::Fault(fault)),
+    }
+}
+
+// The items of the global zone, and the zones.
+fn global_zones(
+    alloc: Global,
+    line: &mut Cursor<'_, '_>,
+) -> Result<(GlobalZone, NumberedList<Zone>), Failure<LineFault>>
+    ensures { ReadsOrWants (λ z. z) global_zones line.old line.new result }
+{
     let global = items(alloc, line)?;
     let zones = zones_left(alloc, NumberedList::new(alloc), line)?;
     Ok((global, zones))
@@ -66,7 +80,9 @@ fn first_behind(
 {
     let zone = zone_behind(alloc, line)?;
     let mut zones = NumberedList::new(alloc);
-    zones.push(zone).map_err(|_| Failure::OutOfMemory)?;
+    if zones.push(zone).is_err() {
+        return Err(Failure::OutOfMemory);
+    }
     let zones = zones_left(alloc, zones, line)?;
     Ok((no_content(alloc), zones))
 }
@@ -81,7 +97,9 @@ fn zones_left(
 {
     while !line.is_empty() {
         let zone = zone(alloc, line)?;
-        zones.push(zone).map_err(|_| Failure::OutOfMemory)?;
+        if zones.push(zone).is_err() {
+            return Err(Failure::OutOfMemory);
+        }
     }
     Ok(zones)
 }
@@ -90,15 +108,20 @@ fn zones_left(
 fn zone(alloc: Global, line: &mut Cursor<'_, '_>) -> Result<Zone, Failure<LineFault>>
     ensures { ReadsOrWants (λ z. z) zone line.old line.new result }
 {
-    opened(line).map_err(Failure::Fault)?;
-    zone_behind(alloc, line)
+    match opened(line) {
+        Ok(()) => zone_behind(alloc, line),
+        Err(fault) => Err(Failure::Fault(fault)),
+    }
 }
 
 // `TARGET ITEM* }`
 fn zone_behind(alloc: Global, line: &mut Cursor<'_, '_>) -> Result<Zone, Failure<LineFault>>
     ensures { ReadsOrWants (λ z. z) zone_behind line.old line.new result }
 {
-    let target = line.number(u32::from(u16::MAX)).map_err(Failure::Fault)? as u16;
+    let target = match line.number(u32::from(u16::MAX)) {
+        Ok(target) => target as u16,
+        Err(fault) => return Err(Failure::Fault(fault)),
+    };
     let GlobalZone { gens, mods } = items(alloc, line)?;
     Ok(Zone { target, gens, mods })
 }

@@ -1,0 +1,129 @@
+-- Items and zones take tokens, and how lists of them go on.
+use Rattle.std.proofs.Common.{◌≡◌, ℕ, Bool, true, false, List, [], ◌∷◌, codes, None, Ok, Err, refl}
+use Rattle.std.specs.Str.{bytes_eq}
+use Rattle.generators.specs.Ranges.{is_range_operator}
+use Rattle.bank_parts.specs.declared.parts.GlobalZone.{GlobalZone}
+use Rattle.bank_parts.specs.declared.parts.Zone.{Zone}
+use Rattle.line_tokens.specs.declared.cursor.Said.{Said}
+use Rattle.line_tokens.specs.declared.fault.LineFault.{LineFault}
+use Rattle.line_tokens.specs.declared.fault.LineFault.TheVariants as faults
+use Rattle.line_tokens.specs.Parts.{Took, ◌>>=◌, pure, or_fault, is_next, word, number, signed, range}
+use Rattle.script_grammar.specs.declared.items.Item.{Item}
+use Rattle.script_grammar.specs.Items.{amount, generator, modulator, item_behind, an_item, closed, with_item, items_on, items, no_content}
+use Rattle.script_grammar.specs.Zones.{opened_by, opened, zone_behind, zone, is_end, with_zone, zones_left, global_behind, first_behind, zones_behind, zones}
+use Rattle.script_grammar.proofs.RepeatedLaws.{Keeps, Shortens, shortens_keeps, pure_keeps, fault_keeps, then_keeps, then_shortens, either_keeps, word_shortens, number_shortens, signed_shortens, range_shortens, repeated_ends, repeated_goes_on, repeated_fails, repeated_keeps}
+
+-- ---- tokens taken
+
+number_keeps : (limit : ℕ) → Keeps (number limit)
+number_keeps limit = shortens_keeps (number limit) (number_shortens limit)
+
+signed_keeps : (limit : ℕ) → Keeps (signed limit)
+signed_keeps limit = shortens_keeps (signed limit) (signed_shortens limit)
+
+amount_keeps : (operator : ℕ) → Keeps (amount operator)
+unfolding amount
+amount_keeps operator =
+    either_keeps (is_range_operator operator) _ _ (then_keeps range _ (shortens_keeps range range_shortens) (λ ends. pure_keeps _))
+    (then_keeps (signed 32767) _ (signed_keeps 32767) (λ z. pure_keeps _))
+
+generator_keeps : Keeps generator
+unfolding generator
+generator_keeps = then_keeps (number 65535) _ (number_keeps 65535) (λ operator. then_keeps (amount operator) _ (amount_keeps operator) (λ a. pure_keeps _))
+
+modulator_keeps : Keeps modulator
+unfolding modulator
+modulator_keeps =
+    then_keeps (number 65535) _ (number_keeps 65535) (λ source.
+    then_keeps (number 65535) _ (number_keeps 65535) (λ dest.
+    then_keeps (signed 32767) _ (signed_keeps 32767) (λ a.
+    then_keeps (number 65535) _ (number_keeps 65535) (λ amount_source.
+    then_keeps (number 65535) _ (number_keeps 65535) (λ transform. pure_keeps _)))))
+
+behind_keeps : (w : List ℕ) → Keeps (item_behind w)
+unfolding item_behind
+behind_keeps w =
+    either_keeps (bytes_eq w (codes "g")) _ _ (then_keeps generator _ generator_keeps (λ e. pure_keeps _))
+    (either_keeps (bytes_eq w (codes "m")) _ _ (then_keeps modulator _ modulator_keeps (λ m. pure_keeps _)) (fault_keeps faults.Syntax None))
+
+pub item_shortens : Shortens an_item
+unfolding an_item
+item_shortens = then_shortens word item_behind word_shortens behind_keeps
+
+closed_keeps : (content : GlobalZone) → Keeps (closed content)
+unfolding closed
+closed_keeps content = then_keeps word _ (shortens_keeps word word_shortens) (λ w. pure_keeps content)
+
+items_keeps : Keeps items
+unfolding items items_on
+items_keeps line t e = repeated_keeps (is_next (codes "}")) closed an_item with_item closed_keeps (shortens_keeps an_item item_shortens) no_content line t e
+
+opened_shortens : Shortens opened
+unfolding opened opened_by
+opened_shortens = then_shortens word opened_by word_shortens (λ w. either_keeps (bytes_eq w (codes "{")) (pure tt) (or_fault faults.Syntax None) (pure_keeps tt) (fault_keeps faults.Syntax None))
+
+zone_behind_keeps : Keeps zone_behind
+unfolding zone_behind
+zone_behind_keeps = then_keeps (number 65535) _ (number_keeps 65535) (λ target. then_keeps items _ items_keeps (λ content. pure_keeps _))
+
+pub zone_shortens : Shortens zone
+unfolding zone
+zone_shortens = then_shortens opened _ opened_shortens (λ o. zone_behind_keeps)
+
+-- ---- a list of items
+
+pub items_end : (content : GlobalZone) (line : List Said) → is_next (codes "}") line ≡ true → items_on content line ≡ closed content line
+unfolding items_on
+items_end content line e = repeated_ends (is_next (codes "}")) closed an_item with_item content line e
+
+pub items_go_on : (content : GlobalZone) (line : List Said) (t : Took Item) → is_next (codes "}") line ≡ false → an_item line ≡ Ok t → items_on content line ≡ items_on (with_item content t.value) t.rest
+unfolding items_on
+items_go_on content line t e i = repeated_goes_on (is_next (codes "}")) closed an_item with_item item_shortens content line t e i
+
+pub items_fail : (content : GlobalZone) (line : List Said) (d : LineFault) → is_next (codes "}") line ≡ false → an_item line ≡ Err d → items_on content line ≡ Err d
+unfolding items_on
+items_fail content line d e i = repeated_fails (is_next (codes "}")) closed an_item with_item content line d e i
+
+-- ---- a list of zones
+
+pub zones_end : (zs : List Zone) (line : List Said) → is_end line ≡ true → zones_left zs line ≡ pure zs line
+unfolding zones_left
+zones_end zs line e = repeated_ends is_end pure zone with_zone zs line e
+
+pub zones_go_on : (zs : List Zone) (line : List Said) (t : Took Zone) → is_end line ≡ false → zone line ≡ Ok t → zones_left zs line ≡ zones_left (with_zone zs t.value) t.rest
+unfolding zones_left
+zones_go_on zs line t e i = repeated_goes_on is_end pure zone with_zone zone_shortens zs line t e i
+
+pub zones_fail : (zs : List Zone) (line : List Said) (d : LineFault) → is_end line ≡ false → zone line ≡ Err d → zones_left zs line ≡ Err d
+unfolding zones_left
+zones_fail zs line d e i = repeated_fails is_end pure zone with_zone zs line d e i
+
+-- no token is left, or some
+pub end_is : (line : List Said) → line ≡ [] → is_end line ≡ true
+end_is [] e = refl
+end_is (s ∷ line) e = cc
+
+pub no_end : (line : List Said) → (line ≡ [] → ⊥) → is_end line ≡ false
+no_end [] h = absurd (h refl)
+no_end (s ∷ line) h = refl
+
+pub off : {b : Bool} → b ≡ true → b ≡ false → ⊥
+off p q = cc
+
+-- ---- behind the first brace
+
+pub global_first : (line : List Said) → is_next (codes "global") line ≡ true → zones_behind line ≡ global_behind line
+unfolding zones_behind
+global_first line e = rw e refl
+
+pub zone_first : (line : List Said) → is_next (codes "global") line ≡ false → zones_behind line ≡ first_behind line
+unfolding zones_behind
+zone_first line e = rw e refl
+
+pub none_said : (line : List Said) → is_end line ≡ true → zones line ≡ pure (no_content, []) line
+unfolding zones
+none_said line e = rw e refl
+
+pub some_said : (line : List Said) → is_end line ≡ false → zones line ≡ (opened >>= λ o. zones_behind) line
+unfolding zones
+some_said line e = rw e refl

@@ -1,0 +1,10 @@
+use Rattle.std.proofs.Common.{◌≡◌, length}
+use Rattle.script_grammar.specs.Items.{items, items_on}
+use Rattle.script_grammar.proofs.items.items.Given as goal
+
+-- what is left, put into what there is, makes the whole
+abbrev pub invariant-loop-line : goal.invariant-loop-line
+invariant-loop-line l = (items_on l.content l.line.said ≡ items l.fn.line.said) × (l.line.pool ≡ l.fn.line.pool)
+
+abbrev pub decreases-loop-line : goal.decreases-loop-line
+decreases-loop-line l = length l.line.said

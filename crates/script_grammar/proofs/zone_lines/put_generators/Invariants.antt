@@ -1,0 +1,9 @@
+use Rattle.std.proofs.Common.{drop}
+use Rattle.std.specs.List.{flat_map}
+use Rattle.sf_base.proofs.OutputLaws.{Putting}
+use Rattle.script_grammar.proofs.ZonePutLaws.{generator_text}
+use Rattle.script_grammar.proofs.zone_lines.put_generators.Given as goal
+
+-- the generators that are left are still to be put
+abbrev pub invariant-loop-entry : goal.invariant-loop-entry
+invariant-loop-entry g l = Putting g.W.Write.contents l.initial.output l.output (flat_map generator_text l.entries) (flat_map generator_text (drop l.entry-index l.entries))

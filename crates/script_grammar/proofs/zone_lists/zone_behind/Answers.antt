@@ -1,0 +1,30 @@
+use Rattle.std.proofs.Common.{Ok, Err, ℕ, refl}
+use Rattle.std.proofs.lemmas.Result.{err_from_is_err_and}
+use Rattle.bank_parts.specs.declared.parts.GlobalZone.{GlobalZone}
+use Rattle.bank_parts.specs.declared.parts.Zone.{Zone}
+use Rattle.line_tokens.specs.Parts.{Part, ◌>>=◌, pure, number}
+use Rattle.script_grammar.specs.Items.{items}
+use Rattle.script_grammar.specs.Zones.{zone_behind, zone_of}
+use Rattle.script_grammar.proofs.MemoryLaws.{first_fails, first_wants, then_reads}
+use Rattle.script_grammar.proofs.zone_lists.zone_behind.Goals as goal
+
+abbrev made : ℕ → GlobalZone → Part Zone
+made target content = pure (zone_of target content)
+
+pub returns-in-Err : goal.returns-in-Err
+unfolding zone_behind
+returns-in-Err c = first_fails (number 65535) (λ target. items >>= made target) c.args.line.now c.in-Err.fault (rw c.from.ensures at c.in-Err.ensures.reads)
+
+pub returns-in_err-gens : goal.returns-in_err-gens
+unfolding zone_behind
+returns-in_err-gens c =
+    let p = err_from_is_err_and c.from_residual.result c.from_residual.ensures.1 in
+    rw (p.1, p.2) (then_reads (number 65535) (λ target. items >>= made target) (λ z. z) c.args.line.now c.number.new.self c.items.new.line c.in-Ok.target (Err c.in_err-gens.field-0.0) (rw c.from.ensures at c.in-Ok.ensures.reads)
+    (first_wants items (made c.in-Ok.target) (λ z. z) (λ z. z) c.number.new.self c.items.new.line c.items.new.line c.in_err-gens.field-0.0 c.in_err-gens.ensures))
+
+pub returns : goal.returns
+unfolding zone_behind
+returns c =
+    let content : GlobalZone = c.in_ok-gens.field-0 in
+    then_reads (number 65535) (λ target. items >>= made target) (λ z. z) c.args.line.now c.number.new.self c.items.new.line c.in-Ok.target (Ok (zone_of c.in-Ok.target content)) (rw c.from.ensures at c.in-Ok.ensures.reads)
+    (then_reads items (made c.in-Ok.target) (λ z. z) c.number.new.self c.items.new.line c.items.new.line content (Ok (zone_of c.in-Ok.target content)) c.in_ok-gens.ensures (refl, refl))

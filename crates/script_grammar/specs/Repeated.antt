@@ -1,0 +1,16 @@
+-- A part of a line that stands there several times, up to an end.
+use Rattle.std.specs.Prelude.{ℕ, zero, suc, List, length, Err, Bool, if◌then◌else◌}
+use Rattle.line_tokens.specs.declared.cursor.Said.{Said}
+use Rattle.line_tokens.specs.declared.fault.LineFault.TheVariants as faults
+use Rattle.line_tokens.specs.Parts.{Part, ◌>>=◌}
+
+-- Up to n tests for the end: each part puts its value into what there is, and the last makes the whole.
+unfoldable pub repeated_within : {X Y : Type 0} → (List Said → Bool) → (Y → Part Y) → Part X → (Y → X → Y) → ℕ → Y → Part Y
+repeated_within ends last part with zero y line = Err faults.Syntax
+repeated_within ends last part with (suc n) y line =
+    if ends line then last y line
+    else (part >>= λ x. repeated_within ends last part with n (with y x)) line
+
+-- a line has no more parts than tokens
+abbrev pub repeated : {X Y : Type 0} → (List Said → Bool) → (Y → Part Y) → Part X → (Y → X → Y) → Y → Part Y
+repeated ends last part with y line = repeated_within ends last part with (suc (length line)) y line

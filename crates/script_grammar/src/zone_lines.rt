@@ -1,0 +1,123 @@
+//! Zones, put on a line.
+ghost use Rattle.std.specs.Prelude.{◌≡◌, ◌∷◌, []};
+ghost use Rattle.std.specs.List.{flat_map};
+ghost use Rattle.sf_base.specs.Output.{Puts};
+ghost use Rattle.bank_parts.specs.declared.parts.Zone.{Zone};
+ghost use Rattle.modulators.specs.declared.modulator.Modulator.{Modulator};
+ghost use Rattle.line_tokens.specs.Printing.{spaced};
+ghost use Rattle.script_grammar.specs.Operands as operand;
+ghost use Rattle.script_grammar.specs.Operands.{piece_of, pieces_of};
+ghost use Rattle.script_grammar.specs.declared.items.Item.TheVariants as item;
+ghost use Rattle.script_grammar.specs.Items.{amount_operand, item_operands, items_operands};
+ghost use Rattle.script_grammar.specs.Zones.{items_of, global_of, global_operands, zone_operands, written_zone, written_of, written_operands};
+
+use bank_parts::{GlobalZone, Zone};
+use generators::{GenMap, Range, is_range_operator};
+use line_tokens::{Piece, put_pieces};
+use modulators::Modulator;
+use sf_base::{Lent, Output};
+use std::io::Write;
+
+/// Puts `GLOBAL? ZONE*`, each token behind a space: no `GLOBAL` where the global zone is empty, and
+/// the generators of each zone in canonical order before its modulators.
+pub fn put_zones<W: Write>(global: &GlobalZone, zones: &[Zone], output: &mut Output<'_, W>)
+    ensures { Puts W.contents output.old output.new (flat_map spaced (pieces_of (written_operands (written_of global.now zones.now)))) }
+{
+    put_global(global, output);
+    put_all_zones(zones, output);
+}
+
+// `{ global ITEM* }`, or nothing where it is empty.
+fn put_global<W: Write>(global: &GlobalZone, output: &mut Output<'_, W>)
+    ensures { Puts W.contents output.old output.new (flat_map spaced (pieces_of (global_operands (global_of global.now)))) }
+{
+    if !global.is_empty() {
+        put_pieces(
+            &[
+                Piece::Word(Lent::new(b"{")),
+                Piece::Word(Lent::new(b"global")),
+            ],
+            output,
+        );
+        put_items(&global.gens, global.mods.as_slice(), output);
+    }
+}
+
+fn put_all_zones<W: Write>(zones: &[Zone], output: &mut Output<'_, W>)
+    ensures { Puts W.contents output.old output.new (flat_map (λ (z : Zone). flat_map spaced (pieces_of (zone_operands (written_zone z)))) zones.now) }
+{
+    for zone in zones {
+        put_zone(zone, output);
+    }
+}
+
+// `{ TARGET ITEM* }`
+fn put_zone<W: Write>(zone: &Zone, output: &mut Output<'_, W>)
+    ensures { Puts W.contents output.old output.new (flat_map spaced (pieces_of (zone_operands (written_zone zone.now)))) }
+{
+    let target = Piece::Number(u64::from(zone.target));
+    put_pieces(&[Piece::Word(Lent::new(b"{")), target], output);
+    put_items(&zone.gens, zone.mods.as_slice(), output);
+}
+
+// `ITEM* }`
+fn put_items<W: Write>(gens: &GenMap, mods: &[Modulator], output: &mut Output<'_, W>)
+    ensures { Puts W.contents output.old output.new (flat_map spaced (pieces_of (items_operands (items_of gens.now mods.now)))) }
+{
+    put_generators(gens.entries(), output);
+    put_modulators(mods, output);
+    put_pieces(&[Piece::Word(Lent::new(b"}"))], output);
+}
+
+fn put_generators<W: Write>(entries: &[(u16, u16)], output: &mut Output<'_, W>)
+    ensures { Puts W.contents output.old output.new (flat_map (λ e. flat_map spaced (pieces_of (item_operands (item.Generator e.0 e.1)))) entries.now) }
+{
+    for entry in entries {
+        put_generator(entry.0, entry.1, output);
+    }
+}
+
+// `g OPERATOR AMOUNT`
+fn put_generator<W: Write>(operator: u16, amount: u16, output: &mut Output<'_, W>)
+    ensures { Puts W.contents output.old output.new (flat_map spaced (pieces_of (item_operands (item.Generator operator amount)))) }
+{
+    let word = Piece::Word(Lent::new(b"g"));
+    let amount = amount_piece(operator, amount);
+    put_pieces(&[word, Piece::Number(u64::from(operator)), amount], output);
+}
+
+// `LO..HI` for the ranges of keys and of velocities, and else a signed number.
+fn amount_piece(operator: u16, amount: u16) -> Piece<'static>
+    ensures { result ≡ piece_of (amount_operand operator amount) }
+{
+    if is_range_operator(operator) {
+        let Range { low, high } = Range::of_word(amount);
+        Piece::Range(low, high)
+    } else {
+        Piece::Signed(i64::from(amount.cast_signed()))
+    }
+}
+
+fn put_modulators<W: Write>(mods: &[Modulator], output: &mut Output<'_, W>)
+    ensures { Puts W.contents output.old output.new (flat_map (λ (m : Modulator). flat_map spaced (pieces_of (item_operands (item.Modulator m)))) mods.now) }
+{
+    for modulator in mods {
+        put_modulator(modulator, output);
+    }
+}
+
+// `m MOD`
+fn put_modulator<W: Write>(modulator: &Modulator, output: &mut Output<'_, W>)
+    ensures { Puts W.contents output.old output.new (flat_map spaced (pieces_of (item_operands (item.Modulator modulator.now)))) }
+{
+    let word = Piece::Word(Lent::new(b"m"));
+    let source = Piece::Number(u64::from(modulator.source));
+    let dest = Piece::Number(u64::from(modulator.dest));
+    let amount = Piece::Signed(i64::from(modulator.amount));
+    let amount_source = Piece::Number(u64::from(modulator.amount_source));
+    let transform = Piece::Number(u64::from(modulator.transform));
+    put_pieces(
+        &[word, source, dest, amount, amount_source, transform],
+        output,
+    );
+}
