@@ -2,8 +2,17 @@
 use Rattle.std.proofs.Common.{◌≡◌, ◌<◌, ◌^◌, ℕ, suc, List, [], ◌∷◌, Result, Ok, Err, sym, subst, arith, inl, inr}
 use Rattle.std.specs.Result.{IfOk}
 use Rattle.sf_base.specs.declared.memory.Failure.{Failure}
+use Rattle.std.specs.List.{AllByRecursion}
+use Rattle.sf_base.specs.Names.{IsName}
+use Rattle.bank_parts.specs.declared.parts.GlobalZone.{GlobalZone}
+use Rattle.bank_parts.specs.declared.parts.Zone.{Zone}
+use Rattle.bank_parts.specs.declared.parts.Head.{Head}
+use Rattle.bank_parts.specs.declared.parts.WithZones.{WithZones}
+use Rattle.bank_parts.specs.Fits.{FitsGlobal, FitsZone, FitsHead, FitsOwner}
+use Rattle.script_grammar.specs.Operands.{Operand}
+use Rattle.script_grammar.specs.Zones.{written_operands}
 use Rattle.bank_edits.specs.declared.edit.Step.{Step}
-use Rattle.bank_edits.specs.declared.edit.Step.TheVariants.{MovePreset, RenameInstrument, MoveInstrument, RenameSample, AddSample, RemoveSample, MoveSample, SetInfo}
+use Rattle.bank_edits.specs.declared.edit.Step.TheVariants.{AddPreset, RemovePreset, MovePreset, AddInstrument, RemoveInstrument, RenameInstrument, MoveInstrument, RenameSample, AddSample, RemoveSample, MoveSample, SetInfo}
 use Rattle.bank_edits.specs.declared.edit.Edit.{Edit}
 use Rattle.bank_edits.specs.declared.edit.Edit.TheVariants.{One}
 use Rattle.bank_edits.specs.Steps.{FitsStep}
@@ -13,9 +22,12 @@ use Rattle.line_tokens.specs.declared.fault.ScriptFault.{ScriptFault}
 use Rattle.line_tokens.specs.Lines.{lines_of}
 use Rattle.line_tokens.specs.Pool.{Answers}
 use Rattle.edit_script.specs.declared.parsing.Line.{Line}
-use Rattle.edit_script.specs.Members.{moved_operands}
-use Rattle.script_grammar.proofs.FitLaws.{AllRanged, all_ranged, sample_fits}
-use Rattle.edit_script.specs.Grammar.{operands}
+use Rattle.edit_script.specs.Members.{place, named_operands, moved_operands, SaysOwner}
+use Rattle.edit_script.specs.Presets.{head_operands}
+use Rattle.edit_script.specs.Instruments.{name_operands}
+use Rattle.script_grammar.proofs.FitLaws.{AllRanged, all_ranged, behind, sample_fits}
+use Rattle.script_grammar.proofs.ZoneFitLaws.{zones_ranged}
+use Rattle.edit_script.specs.Grammar.{SaysStep}
 use Rattle.edit_script.specs.Script.{script_of}
 use Rattle.edit_script.specs.Printing.{LinesFit}
 use Rattle.edit_script.specs.Spelling.{SaysEdit, LinesSay, Spells}
@@ -26,18 +38,51 @@ use Rattle.edit_script.proofs.ReadLaws.{read_spelled}
 both_fit : (from to : ℕ) → AllRanged (moved_operands from to) → (from < 2 ^ 32) × (to < 2 ^ 32)
 both_fit from to h = (let a = h.0 in omega (arith, a), let b = h.1.0 in omega (arith, b))
 
-step_fits : (s : Step) → AllRanged (operands s) → FitsStep s
-step_fits (MovePreset from to) h = both_fit from to h
-step_fits (RenameInstrument instrument name) h = (let l = h.0 in omega (arith, l), h.1.0)
-step_fits (MoveInstrument from to) h = both_fit from to h
-step_fits (RenameSample sample name) h = (let l = h.0 in omega (arith, l), h.1.0)
-step_fits (AddSample at s) h = (let l = h.0 in omega (arith, l), sample_fits s h.1)
-step_fits (RemoveSample sample) h = let l = h.0 in omega (arith, l)
-step_fits (MoveSample from to) h = both_fit from to h
-step_fits (SetInfo id text) h = h.1.0
+named_fit : (i : ℕ) (n : List ℕ) → AllRanged (named_operands i n) → (i < 2 ^ 32) × IsName n
+named_fit i n h = (let l = h.0 in omega (arith, l), h.1.0)
+
+place_fits : (i : ℕ) → AllRanged (place i ∷ []) → i < 2 ^ 32
+place_fits i h = let l = h.0 in omega (arith, l)
+
+module _ {H : Type 0} (IsFit : H → Type 0) (head : H → List Operand) (at : ℕ) (x : WithZones H) where
+  owner_fits : (os : List Operand) → (AllRanged (head x.head) → IsFit x.head) → SaysOwner head at x os → AllRanged os → (at < 2 ^ 32) × FitsOwner IsFit x
+  owner_fits os f s h =
+      let b = behind (place at ∷ head x.head) (written_operands s.written) (subst AllRanged s.operands h) in
+      let z = subst (λ (z : GlobalZone × List Zone). FitsGlobal z.0 × AllByRecursion FitsZone z.1) s.stands (zones_ranged s.written b.1) in
+      let l = b.0.0 in
+      (omega (arith, l), record { head = f b.0.1; global = z.0; zones = z.1 })
+
+head_fits : (h : Head) → AllRanged (head_operands h) → FitsHead h
+head_fits h k =
+    let number = k.1.0 in
+    let bank = k.1.1.0 in
+    let library = k.1.1.1.0 in
+    let genre = k.1.1.1.1.0 in
+    let morphology = k.1.1.1.1.1.0 in record {
+      name = k.0;
+      number = omega (arith, number);
+      bank = omega (arith, bank);
+      library = omega (arith, library);
+      genre = omega (arith, genre);
+      morphology = omega (arith, morphology);
+    }
+
+step_fits : (s : Step) (os : List Operand) → SaysStep s os → AllRanged os → FitsStep s
+step_fits (AddPreset at preset) os s h = owner_fits FitsHead head_operands at preset os (head_fits preset.head) s h
+step_fits (RemovePreset preset) os s h = place_fits preset (subst AllRanged s h)
+step_fits (MovePreset from to) os s h = both_fit from to (subst AllRanged s h)
+step_fits (AddInstrument at instrument) os s h = owner_fits IsName name_operands at instrument os (λ h. h.0) s h
+step_fits (RemoveInstrument instrument) os s h = place_fits instrument (subst AllRanged s h)
+step_fits (RenameInstrument instrument name) os s h = named_fit instrument name (subst AllRanged s h)
+step_fits (MoveInstrument from to) os s h = both_fit from to (subst AllRanged s h)
+step_fits (RenameSample sample name) os s h = named_fit sample name (subst AllRanged s h)
+step_fits (AddSample at sample) os s h = let k = subst AllRanged s h in (let l = k.0 in omega (arith, l), sample_fits sample k.1)
+step_fits (RemoveSample sample) os s h = place_fits sample (subst AllRanged s h)
+step_fits (MoveSample from to) os s h = both_fit from to (subst AllRanged s h)
+step_fits (SetInfo id text) os s h = let k = subst AllRanged s h in k.1.0
 
 edit_fits : (said : List Said) (e : Edit) → SaysEdit said e → FitsEdit e
-edit_fits said (One s) h = step_fits s (all_ranged said _ h).1
+edit_fits said (One s) h = let r = all_ranged said _ h.tokens in step_fits s h.operands h.says r.1
 
 lines_fit : (n : ℕ) (ls : List (List ℕ)) (edits : List Line) → LinesSay n ls edits → LinesFit edits
 lines_fit n [] edits h = subst LinesFit (sym h) tt

@@ -1,7 +1,9 @@
 pub mod ScriptLaws
 pub mod NameLaws
 pub mod PutLaws
+pub mod FormSpellLaws
 pub mod SpellLaws
+pub mod FormReadLaws
 pub mod ReadLaws
 pub mod LineLaws
 pub mod FitLaws

@@ -1,7 +1,11 @@
 -- The printed lines of edits spell those edits.
-use Rattle.std.proofs.Common.{◌≡◌, ◌++◌, ℕ, suc, List, [], ◌∷◌, map, Ok, refl, sym, subst, inr}
+use Rattle.std.proofs.Common.{◌≡◌, ◌<◌, ◌^◌, ◌++◌, ℕ, suc, List, [], ◌∷◌, map, Ok, refl, sym, subst, inr}
+use Rattle.sf_base.specs.Names.{IsName}
+use Rattle.bank_parts.specs.declared.parts.Head.{Head}
+use Rattle.bank_parts.specs.declared.parts.WithZones.{WithZones}
+use Rattle.bank_parts.specs.Fits.{FitsHead, FitsOwner}
 use Rattle.bank_edits.specs.declared.edit.Step.{Step}
-use Rattle.bank_edits.specs.declared.edit.Step.TheVariants.{MovePreset, RenameInstrument, MoveInstrument, RenameSample, AddSample, RemoveSample, MoveSample, SetInfo}
+use Rattle.bank_edits.specs.declared.edit.Step.TheVariants.{AddPreset, RemovePreset, MovePreset, AddInstrument, RemoveInstrument, RenameInstrument, MoveInstrument, RenameSample, AddSample, RemoveSample, MoveSample, SetInfo}
 use Rattle.bank_edits.specs.declared.edit.Edit.{Edit}
 use Rattle.bank_edits.specs.declared.edit.Edit.TheVariants.{One}
 use Rattle.bank_edits.specs.Steps.{FitsStep}
@@ -11,20 +15,29 @@ use Rattle.line_tokens.proofs.LexLaws.{lines_none}
 use Rattle.line_tokens.proofs.PieceLaws.{meant, line, line_says, line_first}
 use Rattle.edit_script.specs.declared.forms.Form.{Form}
 use Rattle.edit_script.specs.declared.forms.Form.TheVariants as form
-use Rattle.script_grammar.specs.Operands.{pieces_of}
-use Rattle.edit_script.specs.Grammar.{form_word, form_of, operands}
+use Rattle.script_grammar.specs.Operands.{Operand, pieces_of}
+use Rattle.script_grammar.specs.Zones.{written_operands, written_of}
+use Rattle.edit_script.specs.Grammar.{form_word, form_of, operands, SaysStep}
+use Rattle.edit_script.specs.Members.{printed_owner, SaysOwner}
+use Rattle.edit_script.specs.Presets.{head_operands}
+use Rattle.edit_script.specs.Instruments.{name_operands}
 use Rattle.edit_script.specs.Script.{script_of}
 use Rattle.edit_script.specs.Printing.{text_of, texts_of, numbered, AllFit}
 use Rattle.edit_script.specs.Spelling.{LinesSay, Spells}
 use Rattle.script_grammar.proofs.OperandLaws as operand
-use Rattle.script_grammar.proofs.OperandLaws.{IsFixed, all_spoken, all_say}
-use Rattle.script_grammar.proofs.FitLaws.{word32, body_fit, id_fixed}
+use Rattle.script_grammar.proofs.OperandLaws.{IsFixed, all_spoken, all_say, both_fit}
+use Rattle.script_grammar.proofs.FitLaws.{word32, word16, body_fit, id_fixed}
+use Rattle.script_grammar.proofs.ZoneFitLaws.{zones_stand, zones_fit}
 use Rattle.edit_script.proofs.SpellLaws.{spelled_read}
 
 -- ---- words
 
 form_fixed : (f : Form) → IsFixed (form_word f)
+form_fixed form.AddPreset = (refl, refl)
+form_fixed form.RemovePreset = (refl, refl)
 form_fixed form.MovePreset = (refl, refl)
+form_fixed form.AddInstrument = (refl, refl)
+form_fixed form.RemoveInstrument = (refl, refl)
 form_fixed form.RenameInstrument = (refl, refl)
 form_fixed form.MoveInstrument = (refl, refl)
 form_fixed form.RenameSample = (refl, refl)
@@ -35,8 +48,19 @@ form_fixed form.SetInfo = (refl, refl)
 
 -- ---- what an edit says can be said
 
+module _ {H : Type 0} (IsFit : H → Type 0) (head : H → List Operand) (at : ℕ) (x : WithZones H) where
+  owner_fit : (IsFit x.head → operand.AllFit (head x.head)) → (at < 2 ^ 32) × FitsOwner IsFit x → operand.AllFit (printed_owner head at x)
+  owner_fit f h = (word32 at h.0, both_fit (head x.head) (written_operands (written_of x.global x.zones)) (f h.1.head) (zones_fit x.global x.zones h.1.global h.1.zones))
+
+head_fit : (h : Head) → FitsHead h → operand.AllFit (head_operands h)
+head_fit h k = (k.name, (word16 h.number k.number, (word16 h.bank k.bank, (word32 h.library k.library, (word32 h.genre k.genre, (word32 h.morphology k.morphology, tt))))))
+
 operands_fit : (s : Step) → FitsStep s → operand.AllFit (operands s)
+operands_fit (AddPreset at preset) h = owner_fit FitsHead head_operands at preset (head_fit preset.head) h
+operands_fit (RemovePreset preset) h = (word32 preset h, tt)
 operands_fit (MovePreset from to) h = (word32 from h.0, (word32 to h.1, tt))
+operands_fit (AddInstrument at instrument) h = owner_fit IsName name_operands at instrument (λ k. (k, tt)) h
+operands_fit (RemoveInstrument instrument) h = (word32 instrument h, tt)
 operands_fit (RenameInstrument instrument name) h = (word32 instrument h.0, (h.1, tt))
 operands_fit (MoveInstrument from to) h = (word32 from h.0, (word32 to h.1, tt))
 operands_fit (RenameSample sample name) h = (word32 sample h.0, (h.1, tt))
@@ -44,6 +68,24 @@ operands_fit (AddSample at s) h = (word32 at h.0, body_fit s h.1)
 operands_fit (RemoveSample sample) h = (word32 sample h, tt)
 operands_fit (MoveSample from to) h = (word32 from h.0, (word32 to h.1, tt))
 operands_fit (SetInfo i text) h = (id_fixed i, (h, tt))
+
+-- what is printed says the step
+owner_printed : {H : Type 0} (head : H → List Operand) (at : ℕ) (x : WithZones H) → SaysOwner head at x (printed_owner head at x)
+owner_printed head at x = record { written = written_of x.global x.zones; operands = refl; stands = zones_stand x.global x.zones }
+
+step_printed : (s : Step) → SaysStep s (operands s)
+step_printed (AddPreset at preset) = owner_printed head_operands at preset
+step_printed (RemovePreset preset) = refl
+step_printed (MovePreset from to) = refl
+step_printed (AddInstrument at instrument) = owner_printed name_operands at instrument
+step_printed (RemoveInstrument instrument) = refl
+step_printed (RenameInstrument instrument name) = refl
+step_printed (MoveInstrument from to) = refl
+step_printed (RenameSample sample name) = refl
+step_printed (AddSample at s) = refl
+step_printed (RemoveSample sample) = refl
+step_printed (MoveSample from to) = refl
+step_printed (SetInfo id text) = refl
 
 -- ---- lines
 
@@ -65,7 +107,7 @@ texts_say n (One s ∷ es) h =
       more = numbered (suc n) es;
       parts = refl;
       tokens = line_says (word s) (pieces_of (operands s)) (form_fixed (form_of s)).0 (all_spoken (operands s) fit);
-      form = (refl, all_say (operands s) fit);
+      form = record { operands = operands s; says = step_printed s; tokens = (refl, all_say (operands s) fit) };
       follow = texts_say (suc n) es h.1;
     }))
 

@@ -3,16 +3,22 @@ use Rattle.std.proofs.Common.{◌≡◌, subst, ℕ, List, [], ◌∷◌, Option
 use Rattle.sf_base.specs.declared.output.Output.{Output}
 use Rattle.sf_base.specs.Output.{Puts}
 use Rattle.bank_parts.specs.declared.parts.Sample.{Sample}
+use Rattle.bank_parts.specs.declared.parts.WithZones.{WithZones}
 use Rattle.bank_edits.specs.declared.edit.Step.{Step}
 use Rattle.line_tokens.specs.Printing.{line_text}
-use Rattle.script_grammar.specs.Operands.{Number, pieces_of}
+use Rattle.script_grammar.specs.Operands.{Operand, pieces_of}
+use Rattle.script_grammar.specs.Zones.{written_operands, written_of}
 use Rattle.script_grammar.specs.Samples.{body_operands}
 use Rattle.script_grammar.proofs.PutLaws.{spaced_out, puts_both}
+use Rattle.edit_script.specs.Members.{place, printed_owner}
 use Rattle.edit_script.specs.Grammar.{form_word, form_of, operands}
 
 module _ {W : Type 0} {c : W → Option (List ℕ)} where
-  pub puts_added : {o p q : Output W} (n : ℕ) (s : Sample) → Puts c o p (spaced_out (Number 4294967295 n ∷ [])) → Puts c p q (spaced_out (body_operands s)) → Puts c o q (spaced_out (Number 4294967295 n ∷ body_operands s))
-  puts_added n s h k = puts_both (Number 4294967295 n ∷ []) (body_operands s) h k
+  pub puts_added : {o p q : Output W} (n : ℕ) (s : Sample) → Puts c o p (spaced_out (place n ∷ [])) → Puts c p q (spaced_out (body_operands s)) → Puts c o q (spaced_out (place n ∷ body_operands s))
+  puts_added n s h k = puts_both (place n ∷ []) (body_operands s) h k
+
+  pub puts_owner : {o p q : Output W} {H : Type 0} (head : H → List Operand) (n : ℕ) (x : WithZones H) → Puts c o p (spaced_out (place n ∷ head x.head)) → Puts c p q (spaced_out (written_operands (written_of x.global x.zones))) → Puts c o q (spaced_out (printed_owner head n x))
+  puts_owner head n x h k = puts_both (place n ∷ head x.head) (written_operands (written_of x.global x.zones)) h k
 
   -- the line of a step, by another name of the step
   pub puts_same : {o p : Output W} (s t : Step) → s ≡ t → Puts c o p (line_text (form_word (form_of t)) (pieces_of (operands t))) → Puts c o p (line_text (form_word (form_of s)) (pieces_of (operands s)))

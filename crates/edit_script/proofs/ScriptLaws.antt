@@ -1,11 +1,16 @@
 -- The edits of a script, line by line.
-use Rattle.std.proofs.Common.{◌≡◌, ℕ, Bool, true, false, List, [], ◌∷◌, Ok, refl, sym, ap, ◌∙◌}
+use Rattle.std.proofs.Common.{◌≡◌, ℕ, Bool, true, false, List, [], ◌∷◌, Ok, Err, refl, sym, ap, subst, ◌∙◌}
 use Rattle.std.specs.Result.{result_and}
+use Rattle.sf_base.specs.declared.memory.Failure.{Failure}
+use Rattle.sf_base.specs.declared.memory.Failure.TheVariants.{Fault}
 use Rattle.line_tokens.specs.declared.cursor.Said.{Said}
+use Rattle.line_tokens.specs.declared.fault.LineFault.{LineFault}
 use Rattle.line_tokens.specs.Lines.{lines_of}
-use Rattle.line_tokens.specs.Said.{said_lines, lines_said_over}
+use Rattle.line_tokens.specs.Said.{Left, said_lines, lines_said_over}
+use Rattle.line_tokens.specs.Parts.{Part}
 use Rattle.line_tokens.specs.Pool.{Grown, pool_bytes}
 use Rattle.line_tokens.proofs.PoolLaws.{over_pool}
+use Rattle.script_grammar.specs.Memory.{ReadsOrWants}
 use Rattle.edit_script.specs.declared.parsing.Line.{Line}
 use Rattle.edit_script.specs.Grammar.{edit}
 use Rattle.edit_script.specs.Script.{edit_of, with_edit, edits_in, script_of}
@@ -19,6 +24,10 @@ pub one_more : (n : ℕ) (said : List Said) (lines : List Line) → (said ≡ []
 unfolding edit_of
 one_more n [] lines some = absurd (some refl)
 one_more n (s ∷ said) lines some = refl
+
+-- the fault of a part that was not read
+pub not_read : {X Y : Type 0} (part : Part Y) (view : X → Y) (old new : Left) (failure : Failure LineFault) (fault : LineFault) → failure ≡ Fault fault → ReadsOrWants view part old new (Err failure) → part old.said ≡ Err fault
+not_read part view old new failure fault e h = subst (λ (f : Failure LineFault). ReadsOrWants view part old new (Err f)) e h
 
 pub not_both : {b : Bool} → b ≡ true → b ≡ false → ⊥
 not_both p q = cc

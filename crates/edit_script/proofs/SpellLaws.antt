@@ -3,8 +3,6 @@ use Rattle.std.proofs.Common.{◌≡◌, ℕ, suc, List, [], ◌∷◌, ◌++◌
 use Rattle.std.specs.Result.{result_and}
 use Rattle.std.specs.List.{AllByRecursion}
 use Rattle.std.proofs.lemmas.List.{append-nil}
-use Rattle.bank_edits.specs.declared.edit.Step.{Step}
-use Rattle.bank_edits.specs.declared.edit.Step.TheVariants.{MovePreset, RenameInstrument, MoveInstrument, RenameSample, AddSample, RemoveSample, MoveSample, SetInfo}
 use Rattle.bank_edits.specs.declared.edit.Edit.{Edit}
 use Rattle.bank_edits.specs.declared.edit.Edit.TheVariants.{One}
 use Rattle.line_tokens.specs.declared.cursor.Said.{Said}
@@ -17,47 +15,12 @@ use Rattle.line_tokens.specs.Spelling.{SaysNothing, LineSays}
 use Rattle.line_tokens.proofs.SpellLaws.{Says, line_said, lines_grow}
 use Rattle.line_tokens.proofs.GatherLaws.{gather_on, gather_none}
 use Rattle.edit_script.specs.declared.parsing.Line.{Line}
-use Rattle.script_grammar.specs.Operands.{Number, Name, Text, AllSay}
-use Rattle.script_grammar.specs.Names.{named}
-use Rattle.edit_script.specs.Members.{named_operands, moved_operands, renaming, moving}
-use Rattle.script_grammar.specs.Samples.{body_operands}
-use Rattle.script_grammar.proofs.SpellLaws.{Gives, then, gives_pure, gives_some, gives_word, gives_number, gives_name, gives_text, gives_body, gives_id}
-use Rattle.edit_script.specs.Samples.{add_sample, remove_sample}
-use Rattle.edit_script.specs.Texts.{set_info}
-use Rattle.edit_script.specs.Grammar.{form_word, forms, form_of, operands, operands_read, step, edit}
+use Rattle.script_grammar.specs.Operands.{AllSay}
+use Rattle.edit_script.specs.Grammar.{edit}
 use Rattle.edit_script.specs.Script.{edit_of, with_edit, edits_in, script_of}
 use Rattle.edit_script.specs.Spelling.{SaysEdit, LinesSay, Spells}
-use Rattle.edit_script.proofs.NameLaws.{form_named}
 use Rattle.edit_script.proofs.ScriptLaws.{one_more, says_nothing}
-
--- ---- the forms
-
-gives_renaming : (step : ℕ → List ℕ → Step) (i : ℕ) (n : List ℕ) (line : List Said) → AllSay line (named_operands i n) → Gives (renaming step) (step i n) line []
-unfolding renaming
-gives_renaming step i n line h = then _ (gives_number 4294967295 i line (Name n ∷ []) h) (λ rest k. then _ (gives_name n rest [] k) (λ rest k. gives_pure (step i n) rest [] k))
-
-gives_moving : (step : ℕ → ℕ → Step) (i j : ℕ) (line : List Said) → AllSay line (moved_operands i j) → Gives (moving step) (step i j) line []
-unfolding moving
-gives_moving step i j line h = then _ (gives_number 4294967295 i line (Number 4294967295 j ∷ []) h) (λ rest k. then _ (gives_number 4294967295 j rest [] k) (λ rest k. gives_pure (step i j) rest [] k))
-
-gives_operands : (s : Step) (line : List Said) → AllSay line (operands s) → Gives (operands_read (form_of s)) s line []
-unfolding add_sample remove_sample set_info
-gives_operands (MovePreset i j) line h = gives_moving (λ i j. MovePreset i j) i j line h
-gives_operands (RenameInstrument i n) line h = gives_renaming (λ i n. RenameInstrument i n) i n line h
-gives_operands (MoveInstrument i j) line h = gives_moving (λ i j. MoveInstrument i j) i j line h
-gives_operands (RenameSample s n) line h = gives_renaming (λ i n. RenameSample i n) s n line h
-gives_operands (AddSample at s) line h =
-    then _ (gives_number 4294967295 at line (body_operands s) h) (λ rest k. then _ (gives_body s rest k) (λ rest k. gives_pure (AddSample at s) rest [] k))
-gives_operands (RemoveSample s) line h = then _ (gives_number 4294967295 s line [] h) (λ rest k. gives_pure (RemoveSample s) rest [] k)
-gives_operands (MoveSample i j) line h = gives_moving (λ i j. MoveSample i j) i j line h
-gives_operands (SetInfo id text) line h =
-    then _ (gives_id id line (Text text ∷ []) h) (λ rest k. then _ (gives_text text rest [] k) (λ rest k. gives_pure (SetInfo id text) rest [] k))
-
-gives_step : (s : Step) (line : List Said) → SaysEdit line (One s) → Gives step s line []
-unfolding step
-gives_step s line h =
-    then _ (gives_word (form_word (form_of s)) line (operands s) h) (λ rest k.
-    then _ (gives_some (form_of s) (named form_word forms (form_word (form_of s))) rest (operands s) (form_named (form_of s)) k) (λ rest k. gives_operands s rest k))
+use Rattle.edit_script.proofs.FormSpellLaws.{gives_step}
 
 nothing_left : (line : List Said) → AllSay line [] → line ≡ []
 nothing_left [] h = refl
@@ -70,7 +33,7 @@ edit_read said (One s) h =
     ap (λ r. and_then r (λ s. ended (One s))) g.is ∙ ap (ended (One s)) (nothing_left g.rest g.says)
 
 some_said : (e : Edit) → SaysEdit [] e → ⊥
-some_said (One s) h = h
+some_said (One s) h = h.tokens
 
 -- ---- lines
 

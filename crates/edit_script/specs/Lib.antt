@@ -1,5 +1,7 @@
 pub use Rattle.script_grammar.specs.Operands
 pub mod Members
+pub mod Presets
+pub mod Instruments
 pub mod Samples
 pub mod Texts
 pub mod Grammar

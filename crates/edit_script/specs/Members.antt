@@ -1,27 +1,65 @@
--- The forms that rename a member or move one: what stands behind their words, and how it is read.
-use Rattle.std.specs.Prelude.{ℕ, List, [], ◌∷◌}
-use Rattle.bank_edits.specs.declared.edit.Step.{Step}
+-- What the forms of presets, instruments and samples have in common: what stands behind their words, what
+-- that says, and how it is read.
+use Rattle.std.specs.Prelude.{◌≡◌, ℕ, List, [], ◌∷◌, ◌++◌}
+use Rattle.bank_parts.specs.declared.parts.GlobalZone.{GlobalZone}
+use Rattle.bank_parts.specs.declared.parts.Zone.{Zone}
+use Rattle.bank_parts.specs.declared.parts.WithZones.{WithZones}
 use Rattle.line_tokens.specs.Parts.{Part, ◌>>=◌, pure, number, name}
 use Rattle.script_grammar.specs.Operands.{Operand, Number, Name}
+use Rattle.script_grammar.specs.Zones.{Written, written_operands, written_of, zones_in, zones}
+
+-- ---- what stands on the line
+
+-- a number of a list
+abbrev pub place : ℕ → Operand
+place i = Number 4294967295 i
 
 -- `I NAME`
 abbrev pub named_operands : ℕ → List ℕ → List Operand
-named_operands i n = Number 4294967295 i ∷ Name n ∷ []
+named_operands i n = place i ∷ Name n ∷ []
 
 -- `I J`
 abbrev pub moved_operands : ℕ → ℕ → List Operand
-moved_operands i j = Number 4294967295 i ∷ Number 4294967295 j ∷ []
+moved_operands i j = place i ∷ place j ∷ []
 
--- `I NAME`, of which a step is made
-unfoldable pub renaming : (ℕ → List ℕ → Step) → Part Step
-renaming step = do
-  i ← number 4294967295
-  n ← name
-  pure (step i n)
+-- a number, a head, and GLOBAL? ZONE*
+abbrev pub owner_operands : ℕ → List Operand → Written → List Operand
+owner_operands at head written = (place at ∷ head) ++ written_operands written
 
--- `I J`, of which a step is made
-unfoldable pub moving : (ℕ → ℕ → Step) → Part Step
-moving step = do
+-- as it is printed
+abbrev pub printed_owner : {H : Type 0} → (H → List Operand) → ℕ → WithZones H → List Operand
+printed_owner head at x = owner_operands at (head x.head) (written_of x.global x.zones)
+
+-- the operands say a preset or an instrument that is put in: by zones that stand for its own, however
+-- they are written
+pub record SaysOwner {H : Type 0} (head : H → List Operand) (at : ℕ) (x : WithZones H) (os : List Operand) : Type 0 where
+  pub written : Written
+  pub operands : os ≡ owner_operands at (head x.head) written
+  pub stands : zones_in written ≡ (x.global, x.zones)
+
+-- ---- how it is read
+
+-- a number, and what follows it
+abbrev pub placed : {X : Type 0} → Part X → Part (ℕ × X)
+placed part = do
   i ← number 4294967295
-  j ← number 4294967295
-  pure (step i j)
+  x ← part
+  pure (i, x)
+
+-- `I NAME`
+unfoldable pub naming : Part (ℕ × List ℕ)
+naming = placed name
+
+-- `I J`
+unfoldable pub moving : Part (ℕ × ℕ)
+moving = placed (number 4294967295)
+
+abbrev pub owner_of : {H : Type 0} → H → GlobalZone × List Zone → WithZones H
+owner_of head z = record { head = head; global = z.0; zones = z.1 }
+
+-- a number and a head, and GLOBAL? ZONE*
+abbrev pub owner : {H : Type 0} → Part (ℕ × H) → Part (ℕ × WithZones H)
+owner part = do
+  h ← part
+  z ← zones
+  pure (h.0, owner_of h.1 z)

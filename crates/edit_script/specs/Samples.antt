@@ -1,19 +1,11 @@
--- The forms that edit samples: what is read behind their words.
-use Rattle.bank_edits.specs.declared.edit.Step.{Step}
-use Rattle.bank_edits.specs.declared.edit.Step.TheVariants.{AddSample, RemoveSample}
-use Rattle.line_tokens.specs.Parts.{Part, ◌>>=◌, pure, number}
+-- The form that puts a sample in: how it is read.
+use Rattle.std.specs.Prelude.{ℕ}
+use Rattle.bank_parts.specs.declared.parts.Sample.{Sample}
+use Rattle.line_tokens.specs.Parts.{Part}
 use Rattle.script_grammar.specs.Samples.{body}
+use Rattle.edit_script.specs.Members.{placed}
 pub use Rattle.script_grammar.specs.Samples.{head_operands}
 
--- `add-sample S BODY`
-unfoldable pub add_sample : Part Step
-add_sample = do
-  at ← number 4294967295
-  s ← body
-  pure (AddSample at s)
-
--- `remove-sample S`
-unfoldable pub remove_sample : Part Step
-remove_sample = do
-  s ← number 4294967295
-  pure (RemoveSample s)
+-- `S BODY`
+unfoldable pub added_sample : Part (ℕ × Sample)
+added_sample = placed body

@@ -1,17 +1,23 @@
 -- Which texts spell which edits: a relation of lines and what they say, without a reader.
 use Rattle.std.specs.Prelude.{◌≡◌, ◌⊎◌, ℕ, suc, List, [], ◌∷◌}
+use Rattle.bank_edits.specs.declared.edit.Step.{Step}
 use Rattle.bank_edits.specs.declared.edit.Edit.{Edit}
 use Rattle.bank_edits.specs.declared.edit.Edit.TheVariants.{One}
 use Rattle.line_tokens.specs.declared.cursor.Said.{Said}
 use Rattle.line_tokens.specs.Lines.{lines_of}
 use Rattle.line_tokens.specs.Spelling.{SaysNothing, LineSays}
 use Rattle.edit_script.specs.declared.parsing.Line.{Line}
-use Rattle.script_grammar.specs.Operands.{Fixed, AllSay}
-use Rattle.edit_script.specs.Grammar.{form_word, form_of, operands}
+use Rattle.script_grammar.specs.Operands.{Operand, Fixed, AllSay}
+use Rattle.edit_script.specs.Grammar.{form_word, form_of, SaysStep}
 
--- what says an edit: the word of its form, and what stands behind it
+-- what says a step: the word of its form, and operands behind it that say the rest
+pub record SaysForm (said : List Said) (step : Step) : Type 0 where
+  pub operands : List Operand
+  pub says : SaysStep step operands
+  pub tokens : AllSay said (Fixed (form_word (form_of step)) ∷ operands)
+
 abbrev pub SaysEdit : List Said → Edit → Type 0
-SaysEdit said (One step) = AllSay said (Fixed (form_word (form_of step)) ∷ operands step)
+SaysEdit said (One step) = SaysForm said step
 
 -- line n says the first of the edits, and the rest are said by what follows
 pub record SaysFirst (n : ℕ) (line : List ℕ) (edits : List Line) (Follow : List Line → Type 0) : Type 0 where

@@ -9,9 +9,13 @@ use script_grammar::HasWord;
 #[derive(Debug, Clone, Copy)]
 pub enum Form {
     // ---- presets
+    AddPreset,
+    RemovePreset,
     MovePreset,
 
     // ---- instruments
+    AddInstrument,
+    RemoveInstrument,
     RenameInstrument,
     MoveInstrument,
 
@@ -25,8 +29,12 @@ pub enum Form {
     SetInfo,
 }
 
-static FORMS: [Form; 8] = [
+static FORMS: [Form; 12] = [
+    Form::AddPreset,
+    Form::RemovePreset,
     Form::MovePreset,
+    Form::AddInstrument,
+    Form::RemoveInstrument,
     Form::RenameInstrument,
     Form::MoveInstrument,
     Form::RenameSample,
@@ -47,7 +55,11 @@ impl HasWord for Form {
 
     fn word(self) -> &'static [u8] {
         match self {
+            Form::AddPreset => b"add-preset",
+            Form::RemovePreset => b"remove-preset",
             Form::MovePreset => b"move-preset",
+            Form::AddInstrument => b"add-inst",
+            Form::RemoveInstrument => b"remove-inst",
             Form::RenameInstrument => b"rename-inst",
             Form::MoveInstrument => b"move-inst",
             Form::RenameSample => b"rename-sample",
@@ -65,7 +77,11 @@ impl Form {
         ensures { result ≡ form_of step.now }
     {
         match step {
+            Step::AddPreset { .. } => Form::AddPreset,
+            Step::RemovePreset { .. } => Form::RemovePreset,
             Step::MovePreset { .. } => Form::MovePreset,
+            Step::AddInstrument { .. } => Form::AddInstrument,
+            Step::RemoveInstrument { .. } => Form::RemoveInstrument,
             Step::RenameInstrument { .. } => Form::RenameInstrument,
             Step::MoveInstrument { .. } => Form::MoveInstrument,
             Step::RenameSample { .. } => Form::RenameSample,

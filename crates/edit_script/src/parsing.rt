@@ -68,7 +68,8 @@ fn add_edit<'a>(
     }
     match edit(alloc, &mut cursor) {
         Ok(edit) => edits.push(Line { number, edit })?,
-        Err(fault) => return Err(fault.on_line(number).into()),
+        Err(Failure::Fault(fault)) => return Err(fault.on_line(number).into()),
+        Err(Failure::OutOfMemory) => return Err(Failure::OutOfMemory),
     }
     Ok(cursor.pool())
 }

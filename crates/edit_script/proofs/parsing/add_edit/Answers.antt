@@ -4,7 +4,7 @@ use Rattle.line_tokens.specs.Tokens.{tokens_of}
 use Rattle.edit_script.specs.Grammar.{edit}
 use Rattle.edit_script.specs.Script.{with_edit}
 use Rattle.line_tokens.proofs.PoolLaws.{pool_at_end}
-use Rattle.edit_script.proofs.ScriptLaws.{says_nothing, one_more, not_both}
+use Rattle.edit_script.proofs.ScriptLaws.{says_nothing, one_more, not_read, not_both}
 use Rattle.edit_script.proofs.parsing.add_edit.Goals as goal
 
 pub returns-then-is_empty-clause-added : goal.returns-then-is_empty-clause-added
@@ -15,12 +15,13 @@ pub returns-then-is_empty-clause-behind : goal.returns-then-is_empty-clause-behi
 returns-then-is_empty-clause-behind c =
     pool_at_end c.args.pool.now (tokens_of c.args.line.now) (sym (ap (λ (l : Left). l.said) c.of-cursor.ensures) ∙ c.is_empty.ensures.0 c.if-is_empty.true)
 
-pub returns-in-Err-clause-added : goal.returns-in-Err-clause-added
-returns-in-Err-clause-added c =
+pub returns-in-Err-Fault-clause-added : goal.returns-in-Err-Fault-clause-added
+returns-in-Err-Fault-clause-added c =
     let e = sym (ap (λ (l : Left). l.said) c.of-cursor.ensures) in
     let on = one_more c.args.number (all_said_over c.args.pool.now (tokens_of c.args.line.now)) c.args.edits.now.items
     (λ h. not_both (c.is_empty.ensures.1 (sym e ∙ h)) c.if-is_empty.false) in
-    rw (c.into.ensures, c.on_line.ensures) (on ∙ ap (with_edit c.args.number c.args.edits.now.items) (ap edit e ∙ c.in-Err.ensures.reads))
+    let r = not_read edit (λ e. e) c.of-cursor.result c.edit.new.line c.in-Err-Fault.field-0 c.in-Err-Fault.fault c.in-Err-Fault.field-0-is c.in-Err-Fault.ensures.reads in
+    rw (c.into.ensures, c.on_line.ensures, c.in-Err-Fault.fault-is) (on ∙ ap (with_edit c.args.number c.args.edits.now.items) (ap edit e ∙ r))
 
 pub returns-clause-added : goal.returns-clause-added
 returns-clause-added c =
