@@ -1,4 +1,3 @@
-pub use Rattle.script_grammar.specs.Operands
 pub mod Members
 pub mod Presets
 pub mod Instruments

@@ -4,7 +4,6 @@ use Rattle.bank_parts.specs.declared.parts.Sample.{Sample}
 use Rattle.line_tokens.specs.Parts.{Part}
 use Rattle.script_grammar.specs.Samples.{body}
 use Rattle.edit_script.specs.Members.{placed}
-pub use Rattle.script_grammar.specs.Samples.{head_operands}
 
 -- `S BODY`
 unfoldable pub added_sample : Part (ℕ × Sample)

@@ -24,4 +24,3 @@ pub use edits::{print, put_edit};
 pub use laws::{one_reading, printed_lines_spell, spelled_edits_fit, spelled_is_read};
 pub use line_tokens::{ScriptFault, pool_of};
 pub use parsing::{Line, parse};
-pub use script_grammar::put_sample_head;
