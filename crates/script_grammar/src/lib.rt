@@ -2,8 +2,12 @@
 //! and the parts of a line that several forms have.
 //!
 //! A part is read by a function that takes it from a [`Cursor`](line_tokens::Cursor), and put by one
-//! that puts each of its tokens behind a space. The parts are a word of a list of words
-//! ([`named`]), the id of a text ([`info_id`]) and a sample, `NAME RATE KEY CORR KIND LOOP POINTS` ([`sample_body`]).
+//! that puts each of its tokens behind a space. The parts are a word of a list of words ([`named`]),
+//! the id of a text ([`info_id`]), a sample, `NAME RATE KEY CORR KIND LOOP POINTS` ([`sample_body`]),
+//! and the zones of a preset or an instrument, `GLOBAL? ZONE*` ([`zones`]).
+//!
+//! `GLOBAL` is `{ global ITEM* }`, `ZONE` is `{ TARGET ITEM* }`, and `ITEM` is `g OPERATOR AMOUNT` or
+//! `m SOURCE DEST AMOUNT ASOURCE TRANSFORM`.
 #![tactic(auto)]
 
 mod items;
