@@ -19,7 +19,7 @@ use Rattle.script_grammar.specs.Zones.{Written, written_operands, zones_in, zone
 use Rattle.script_grammar.proofs.NameLaws.{named_is}
 use Rattle.script_grammar.proofs.ReadLaws.{Fronts, then, made, word_front, number_front, name_front, text_front, body_front, id_front}
 use Rattle.script_grammar.proofs.ZoneReadLaws.{zones_front}
-use Rattle.edit_script.specs.Members.{place, named_operands, moved_operands, owner_operands, owner_of, SaysOwner, placed, naming, moving, owner}
+use Rattle.edit_script.specs.Members.{place, named_operands, moved_operands, owner_of, SaysOwner, placed, naming, moving, zones_of, owner}
 use Rattle.edit_script.specs.Presets.{head_operands, head, head_of, placed_head, added_preset}
 use Rattle.edit_script.specs.Instruments.{name_operands, added_instrument}
 use Rattle.edit_script.specs.Samples.{added_sample}
@@ -92,11 +92,15 @@ zones_said : IsSaid (GlobalZone × List Zone) zones (λ z os. (w : Written) × (
 zones_said line t h e = let s = zones_front line t h e in record { operands = written_operands s.written; says = (s.written, refl, s.stands); fronts = s.fronts }
 
 owner_said : {H : Type 0} (p : Part (ℕ × H)) (o : H → List Operand) → IsSaidBy (ℕ × H) p (λ a. place a.0 ∷ o a.1) → IsSaid _ (owner p) (λ a os. SaysOwner o a.0 a.1 os)
+unfolding zones_of
 owner_said {H} p o h =
     behind p _ (λ a os. SaysOwner o a.0 a.1 os) (λ a. place a.0 ∷ o a.1) h (λ a.
-    behind_said zones _ (λ b os. SaysOwner o b.0 b.1 ((place a.0 ∷ o a.1) ++ os)) zones_said (λ z os s.
-    none (a.0, owner_of a.1 z) (λ b more. SaysOwner o b.0 b.1 ((place a.0 ∷ o a.1) ++ (os ++ more)))
+    behind_said (zones_of a.1) _ (λ b os. SaysOwner o b.0 b.1 ((place a.0 ∷ o a.1) ++ os)) {S = λ x os. SaysOwner o a.0 x ((place a.0 ∷ o a.1) ++ os)}
+    (behind_said zones _ (λ x os. SaysOwner o a.0 x ((place a.0 ∷ o a.1) ++ os)) zones_said (λ z os s.
+    none (owner_of a.1 z) (λ x more. SaysOwner o a.0 x ((place a.0 ∷ o a.1) ++ (os ++ more)))
     (record { written = s.0; operands = ap (λ (os : List Operand). (place a.0 ∷ o a.1) ++ os) (append-nil os ∙ s.1); stands = s.2 })))
+    (λ x os s. none (a.0, x) (λ b more. SaysOwner o b.0 b.1 ((place a.0 ∷ o a.1) ++ (os ++ more)))
+    (subst (λ (os : List Operand). SaysOwner o a.0 x ((place a.0 ∷ o a.1) ++ os)) (sym (append-nil os)) s)))
 
 -- ---- presets
 

@@ -1,5 +1,5 @@
 -- What is said behind the word of a form is read as the step.
-use Rattle.std.proofs.Common.{◌≡◌, ℕ, List, [], ◌∷◌, ◌++◌, subst}
+use Rattle.std.proofs.Common.{ℕ, List, [], ◌∷◌, ◌++◌, subst}
 use Rattle.bank_parts.specs.declared.texts.InfoId.{InfoId}
 use Rattle.bank_parts.specs.declared.parts.GlobalZone.{GlobalZone}
 use Rattle.bank_parts.specs.declared.parts.Zone.{Zone}
@@ -17,7 +17,7 @@ use Rattle.script_grammar.specs.Texts.{id_word}
 use Rattle.script_grammar.specs.Zones.{written_operands, zones}
 use Rattle.script_grammar.proofs.SpellLaws.{Gives, then, gives_pure, gives_some, gives_word, gives_number, gives_name, gives_text, gives_body, gives_id}
 use Rattle.script_grammar.proofs.ZoneSpellLaws.{gives_zones}
-use Rattle.edit_script.specs.Members.{place, named_operands, moved_operands, SaysOwner, placed, naming, moving, owner}
+use Rattle.edit_script.specs.Members.{place, named_operands, moved_operands, SaysOwner, placed, naming, moving, zones_of, owner}
 use Rattle.edit_script.specs.Presets.{head_operands, head, placed_head, added_preset}
 use Rattle.edit_script.specs.Instruments.{name_operands, added_instrument}
 use Rattle.edit_script.specs.Samples.{added_sample}
@@ -42,9 +42,10 @@ gives_moving i j line h = gives_placed (number 4294967295) i j (place j ∷ []) 
 module _ {H : Type 0} (p : Part (ℕ × H)) (head : H → List Operand) (at : ℕ) (x : WithZones H) where
   gives_owner : (os : List Operand) → ((more : List Operand) (line : List Said) → AllSay line ((place at ∷ head x.head) ++ more) → Gives p (at, x.head) line more) → SaysOwner head at x os
       → (line : List Said) → AllSay line os → Gives (owner p) (at, x) line []
+  unfolding zones_of
   gives_owner os g s line h =
       then _ (g (written_operands s.written) line (subst (AllSay line) s.operands h)) (λ rest k.
-      then _ (subst (λ (z : GlobalZone × List Zone). Gives zones z rest []) s.stands (gives_zones s.written rest k)) (λ rest k. gives_pure (at, x) rest [] k))
+      then _ (then _ (subst (λ (z : GlobalZone × List Zone). Gives zones z rest []) s.stands (gives_zones s.written rest k)) (λ rest k. gives_pure x rest [] k)) (λ rest k. gives_pure (at, x) rest [] k))
 
 -- ---- presets
 

@@ -10,7 +10,7 @@ use Rattle.line_tokens.specs.declared.fault.LineFault.{LineFault}
 use Rattle.line_tokens.specs.Lines.{lines_of}
 use Rattle.line_tokens.specs.Tokens.{tokens_of}
 use Rattle.line_tokens.specs.Said.{said_in, said_lines}
-use Rattle.line_tokens.specs.Parts.{Took, ◌>>=◌, ended}
+use Rattle.line_tokens.specs.Parts.{Took, ended}
 use Rattle.line_tokens.specs.Pool.{Grown, gather, pool_bytes}
 use Rattle.line_tokens.specs.Spelling.{LineSays}
 use Rattle.line_tokens.proofs.PoolLaws.{through}

@@ -57,9 +57,15 @@ moving = placed (number 4294967295)
 abbrev pub owner_of : {H : Type 0} → H → GlobalZone × List Zone → WithZones H
 owner_of head z = record { head = head; global = z.0; zones = z.1 }
 
+-- GLOBAL? ZONE*, behind a head
+unfoldable pub zones_of : {H : Type 0} → H → Part (WithZones H)
+zones_of head = do
+  z ← zones
+  pure (owner_of head z)
+
 -- a number and a head, and GLOBAL? ZONE*
 abbrev pub owner : {H : Type 0} → Part (ℕ × H) → Part (ℕ × WithZones H)
 owner part = do
   h ← part
-  z ← zones
-  pure (h.0, owner_of h.1 z)
+  x ← zones_of h.1
+  pure (h.0, x)

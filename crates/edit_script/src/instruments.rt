@@ -9,10 +9,10 @@ ghost use Rattle.edit_script.specs.Members.{place, printed_owner};
 ghost use Rattle.edit_script.specs.Instruments.{name_operands, added_instrument};
 
 use crate::forms::Form;
-use crate::members::naming;
-use bank_parts::{Instrument, WithZones};
+use crate::members::{naming, zones_of};
+use bank_parts::Instrument;
 use line_tokens::{Cursor, LineFault, Piece, put_pieces};
-use script_grammar::{HasWord, put_zones, zones};
+use script_grammar::{HasWord, put_zones};
 use sf_base::{Failure, Lent, Name20, Output};
 use std::alloc::Global;
 use std::io::Write;
@@ -28,17 +28,7 @@ pub(crate) fn added_instrument(
     ensures { ReadsOrWants (λ a. a) added_instrument line.old line.new result }
 {
     match naming(line) {
-        Ok((at, head)) => {
-            let (global, zones) = zones(alloc, line)?;
-            Ok((
-                at,
-                WithZones {
-                    head,
-                    global,
-                    zones,
-                },
-            ))
-        }
+        Ok((at, head)) => Ok((at, zones_of(head, alloc, line)?)),
         Err(fault) => Err(Failure::Fault(fault)),
     }
 }

@@ -4,13 +4,16 @@ ghost use Rattle.sf_base.specs.Output.{Puts};
 ghost use Rattle.line_tokens.specs.Parts.{Reads};
 ghost use Rattle.line_tokens.specs.Printing.{line_text};
 ghost use Rattle.script_grammar.specs.Operands.{pieces_of};
-ghost use Rattle.edit_script.specs.Members.{place, named_operands, moved_operands, naming, moving};
+ghost use Rattle.script_grammar.specs.Memory.{ReadsOrWants};
+ghost use Rattle.edit_script.specs.Members.{place, named_operands, moved_operands, naming, moving, zones_of};
 ghost use Rattle.edit_script.specs.Grammar.{form_word};
 
 use crate::forms::Form;
+use bank_parts::WithZones;
 use line_tokens::{Cursor, LineFault, Piece, put_line};
-use script_grammar::HasWord;
-use sf_base::{Lent, Name20, Output};
+use script_grammar::{HasWord, zones};
+use sf_base::{Failure, Lent, Name20, Output};
+use std::alloc::Global;
 use std::io::Write;
 
 // ---- read
@@ -33,6 +36,23 @@ pub(crate) fn moving(line: &mut Cursor<'_, '_>) -> Result<(u32, u32), LineFault>
     let from = line.number(u32::MAX)?;
     let to = line.number(u32::MAX)?;
     Ok((from, to))
+}
+
+// GLOBAL? ZONE*, behind a head
+#[tactic(auto, unfolding(crate::specs::Members::zones_of))]
+pub(crate) fn zones_of<H: Copy>(
+    head: H,
+    alloc: Global,
+    line: &mut Cursor<'_, '_>,
+) -> Result<WithZones<H>, Failure<LineFault>>
+    ensures { ReadsOrWants (λ x. x) (zones_of head) line.old line.new result }
+{
+    let (global, zones) = zones(alloc, line)?;
+    Ok(WithZones {
+        head,
+        global,
+        zones,
+    })
 }
 
 // ---- printed

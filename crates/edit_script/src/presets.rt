@@ -10,9 +10,10 @@ ghost use Rattle.edit_script.specs.Members.{place, printed_owner};
 ghost use Rattle.edit_script.specs.Presets.{head_operands, head, placed_head, added_preset};
 
 use crate::forms::Form;
-use bank_parts::{Head, Preset, WithZones};
+use crate::members::zones_of;
+use bank_parts::{Head, Preset};
 use line_tokens::{Cursor, LineFault, Piece, put_pieces};
-use script_grammar::{HasWord, put_zones, zones};
+use script_grammar::{HasWord, put_zones};
 use sf_base::{Failure, Lent, Output};
 use std::alloc::Global;
 use std::io::Write;
@@ -28,17 +29,7 @@ pub(crate) fn added_preset(
     ensures { ReadsOrWants (λ a. a) added_preset line.old line.new result }
 {
     match placed_head(line) {
-        Ok((at, head)) => {
-            let (global, zones) = zones(alloc, line)?;
-            Ok((
-                at,
-                WithZones {
-                    head,
-                    global,
-                    zones,
-                },
-            ))
-        }
+        Ok((at, head)) => Ok((at, zones_of(head, alloc, line)?)),
         Err(fault) => Err(Failure::Fault(fault)),
     }
 }
