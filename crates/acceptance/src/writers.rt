@@ -1,7 +1,8 @@
 //! Writers that fail: each holds exactly the front of the text that the fault counts.
 ghost use Rattle.std.specs.Prelude.{Some};
 
-use sf_base::{WriteFault, front_of, put_all};
+use outputs::{WriteFault, put_all};
+use sf_base::front_of;
 use sfbank::{RunFault, Which, canon_run, edit_run, show_run};
 use std::alloc::Global;
 use std::io;

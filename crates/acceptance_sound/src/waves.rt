@@ -2,7 +2,8 @@
 ghost use Rattle.std.specs.Prelude.{Some};
 ghost use Rattle.wave_file.specs.Wave.{FitsWave};
 
-use sf_base::{Output, front_of};
+use outputs::Output;
+use sf_base::front_of;
 use std::alloc::Global;
 use std::io;
 use std::io::Write;

@@ -1,6 +1,6 @@
 //! The lines of a bank.
 ghost use Rattle.std.specs.Prelude.{◌≡◌};
-ghost use Rattle.sf_base.specs.Output.{Puts};
+ghost use Rattle.outputs.specs.Output.{Puts};
 ghost use Rattle.bank_listing.specs.Listing.{listing, bank_line, counts_line, owner_line, sample_line, lines_from};
 
 use crate::members::{ListedHead, put_sample};
@@ -9,7 +9,7 @@ use crate::points::point_count;
 use bank_core::{Bank, Owners, Sample};
 use bank_format::Counts;
 use line_tokens::put_line;
-use sf_base::Output;
+use outputs::Output;
 use std::io::Write;
 
 /// Puts a line for the bank, one for the counts of what was dropped or mended as it was read, and one
@@ -69,7 +69,7 @@ fn put_counts<W: Write>(counts: &Counts, output: &mut Output<'_, W>)
 }
 
 // A line for each preset, or for each instrument.
-#[tactic(auto, using(sf_base::proofs::OutputLaws::putting_start))]
+#[tactic(auto, using(outputs::proofs::OutputLaws::putting_start))]
 fn put_owners<H: ListedHead, W: Write>(owners: &Owners<H>, output: &mut Output<'_, W>)
     ensures { Puts W.contents output.old output.new (lines_from (owner_line H.line) 0 owners.now) }
 {
@@ -80,7 +80,7 @@ fn put_owners<H: ListedHead, W: Write>(owners: &Owners<H>, output: &mut Output<'
 }
 
 // A line for each sample.
-#[tactic(auto, using(sf_base::proofs::OutputLaws::putting_start))]
+#[tactic(auto, using(outputs::proofs::OutputLaws::putting_start))]
 fn put_samples<W: Write>(samples: &[Sample<'_>], output: &mut Output<'_, W>)
     ensures { Puts W.contents output.old output.new (lines_from sample_line 0 samples.now) }
 {

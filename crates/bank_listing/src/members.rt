@@ -1,13 +1,14 @@
 //! The line of a preset, an instrument or a sample.
 ghost use Rattle.std.specs.Prelude.{◌≡◌, ℕ, List};
-ghost use Rattle.sf_base.specs.Output.{Puts};
+ghost use Rattle.outputs.specs.Output.{Puts};
 ghost use Rattle.bank_listing.specs.Listing.{preset_line, instrument_line, sample_line};
 
 use crate::pieces::{name_piece, number_piece};
 use bank_core::{Head, Sample};
-use script_grammar::put_sample_head;
 use line_tokens::{put_line, put_pieces};
-use sf_base::{Name20, Output};
+use outputs::Output;
+use script_grammar::put_sample_head;
+use sf_base::Name20;
 use std::io::Write;
 
 /// What a preset or an instrument has besides its zones.

@@ -1,7 +1,7 @@
 //! Edits, read from their lines and printed.
 ghost use Rattle.std.specs.Prelude.{◌≡◌, [], OnOk};
-ghost use Rattle.sf_base.specs.Writing.{Writes};
-ghost use Rattle.sf_base.specs.Output.{Puts};
+ghost use Rattle.outputs.specs.Writing.{Writes};
+ghost use Rattle.outputs.specs.Output.{Puts};
 ghost use Rattle.line_tokens.specs.Parts.{Reads};
 ghost use Rattle.line_tokens.specs.Printing.{line_text};
 ghost use Rattle.script_grammar.specs.Operands.{pieces_of};
@@ -17,8 +17,9 @@ use crate::samples::{added_sample, put_add_sample};
 use crate::texts::{id_and_text, put_set_info};
 use bank_edits::{Edit, Step};
 use line_tokens::{Cursor, LineFault};
+use outputs::{Output, WriteFault};
 use script_grammar::named;
-use sf_base::{Failure, Output, WriteFault};
+use sf_base::Failure;
 use std::alloc::Global;
 use std::io::Write;
 

@@ -1,7 +1,7 @@
 //! The form that puts an instrument in.
 ghost use Rattle.std.specs.Prelude.{◌≡◌, ◌∷◌, codes};
 ghost use Rattle.std.specs.List.{flat_map};
-ghost use Rattle.sf_base.specs.Output.{Puts};
+ghost use Rattle.outputs.specs.Output.{Puts};
 ghost use Rattle.line_tokens.specs.Printing.{spaced, line_text};
 ghost use Rattle.script_grammar.specs.Operands.{pieces_of};
 ghost use Rattle.script_grammar.specs.Memory.{ReadsOrWants};
@@ -12,8 +12,9 @@ use crate::forms::Form;
 use crate::members::{naming, zones_of};
 use bank_parts::Instrument;
 use line_tokens::{Cursor, LineFault, Piece, put_pieces};
+use outputs::Output;
 use script_grammar::{HasWord, put_zones};
-use sf_base::{Failure, Lent, Name20, Output};
+use sf_base::{Failure, Lent, Name20};
 use std::alloc::Global;
 use std::io::Write;
 

@@ -1,6 +1,6 @@
 //! What the forms of presets, instruments and samples have in common.
 ghost use Rattle.std.specs.Prelude.{◌≡◌, ◌∷◌, []};
-ghost use Rattle.sf_base.specs.Output.{Puts};
+ghost use Rattle.outputs.specs.Output.{Puts};
 ghost use Rattle.line_tokens.specs.Parts.{Reads};
 ghost use Rattle.line_tokens.specs.Printing.{line_text};
 ghost use Rattle.script_grammar.specs.Operands.{pieces_of};
@@ -11,8 +11,9 @@ ghost use Rattle.edit_script.specs.Grammar.{form_word};
 use crate::forms::Form;
 use bank_parts::WithZones;
 use line_tokens::{Cursor, LineFault, Piece, put_line};
+use outputs::Output;
 use script_grammar::{HasWord, zones};
-use sf_base::{Failure, Lent, Name20, Output};
+use sf_base::{Failure, Lent, Name20};
 use std::alloc::Global;
 use std::io::Write;
 

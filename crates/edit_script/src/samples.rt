@@ -1,7 +1,7 @@
 //! The form that puts a sample in.
 ghost use Rattle.std.specs.Prelude.{◌≡◌, ◌∷◌, codes};
 ghost use Rattle.std.specs.List.{flat_map};
-ghost use Rattle.sf_base.specs.Output.{Puts};
+ghost use Rattle.outputs.specs.Output.{Puts};
 ghost use Rattle.line_tokens.specs.Parts.{Reads};
 ghost use Rattle.line_tokens.specs.Printing.{spaced, line_text};
 ghost use Rattle.script_grammar.specs.Operands.{pieces_of};
@@ -12,8 +12,8 @@ ghost use Rattle.edit_script.specs.Samples.{added_sample};
 use crate::forms::Form;
 use bank_parts::Sample;
 use line_tokens::{Cursor, LineFault, Piece, put_pieces};
+use outputs::Output;
 use script_grammar::{HasWord, put_sample_body, sample_body};
-use sf_base::Output;
 use std::alloc::Global;
 use std::io::Write;
 

@@ -1,6 +1,6 @@
 //! The form that edits a bank's texts.
 ghost use Rattle.std.specs.Prelude.{◌≡◌, ◌∷◌, [], codes};
-ghost use Rattle.sf_base.specs.Output.{Puts};
+ghost use Rattle.outputs.specs.Output.{Puts};
 ghost use Rattle.line_tokens.specs.Printing.{line_text};
 ghost use Rattle.script_grammar.specs.Operands as operand;
 ghost use Rattle.script_grammar.specs.Operands.{pieces_of};
@@ -11,8 +11,9 @@ ghost use Rattle.edit_script.specs.Texts.{id_and_text};
 use crate::forms::Form;
 use bank_parts::InfoId;
 use line_tokens::{Cursor, LineFault, Piece, put_line};
+use outputs::Output;
 use script_grammar::{HasWord, info_id};
-use sf_base::{Lent, Output};
+use sf_base::Lent;
 use std::io::Write;
 
 // `ID TEXT`

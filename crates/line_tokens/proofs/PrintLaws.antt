@@ -4,9 +4,9 @@ use Rattle.std.specs.Prelude.{Option}
 use Rattle.std.specs.Borrow.{Bor}
 use Rattle.std.specs.List.{flat_map, join_with_byte}
 use Rattle.std.proofs.lemmas.List.{drop_all, append-nil}
-use Rattle.sf_base.specs.declared.output.Output.{Output}
-use Rattle.sf_base.specs.Output.{Puts}
-use Rattle.sf_base.proofs.OutputLaws.{puts_then, puts_as, Putting, putting_step, putting_member, putting_end}
+use Rattle.outputs.specs.declared.output.Output.{Output}
+use Rattle.outputs.specs.Output.{Puts}
+use Rattle.outputs.proofs.OutputLaws.{puts_then, puts_as, Putting, putting_step, putting_member, putting_end}
 use Rattle.hex.specs.Hex.{encode_with, encode_lower}
 use Rattle.line_tokens.specs.Slices.{all_bytes}
 use Rattle.line_tokens.specs.declared.printing.Piece.{Piece}

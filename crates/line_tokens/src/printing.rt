@@ -2,13 +2,14 @@
 ghost use Rattle.std.specs.Prelude.{◌≡◌, ◌++◌, ◌∷◌, [], decimal};
 ghost use Rattle.std.specs.List.{list_all, flat_map};
 ghost use Rattle.hex.specs.Hex.{encode_lower};
-ghost use Rattle.sf_base.specs.Output.{Puts};
+ghost use Rattle.outputs.specs.Output.{Puts};
 ghost use Rattle.line_tokens.specs.Slices.{all_bytes};
 ghost use Rattle.line_tokens.specs.Printing.{is_open, hex_literal, name_text, spelled, spaced, line_text};
 
 use crate::joined::Joined;
 use itoa::Buffer;
-use sf_base::{Lent, Output};
+use outputs::Output;
+use sf_base::Lent;
 use std::io::Write;
 
 /// A token of a printed line, behind the first.
@@ -48,7 +49,7 @@ pub fn put_pieces<W: Write>(pieces: &[Piece<'_>], output: &mut Output<'_, W>)
 }
 
 // A space, and a piece.
-#[tactic(auto, using(sf_base::proofs::OutputLaws::puts_then))]
+#[tactic(auto, using(outputs::proofs::OutputLaws::puts_then))]
 fn put_spaced<W: Write>(piece: &Piece<'_>, output: &mut Output<'_, W>)
     ensures { Puts W.contents output.old output.new (spaced piece.now) }
 {
@@ -77,7 +78,7 @@ fn put_piece<W: Write>(piece: &Piece<'_>, output: &mut Output<'_, W>)
 }
 
 // The two ends, with `..` between them.
-#[tactic(auto, using(sf_base::proofs::OutputLaws::puts_then))]
+#[tactic(auto, using(outputs::proofs::OutputLaws::puts_then))]
 fn put_range<W: Write>(low: u8, high: u8, output: &mut Output<'_, W>)
     ensures { Puts W.contents output.old output.new (decimal low ++ 46 ∷ 46 ∷ decimal high) }
 {
@@ -88,7 +89,7 @@ fn put_range<W: Write>(low: u8, high: u8, output: &mut Output<'_, W>)
 }
 
 // Bytes between quotes, where they all stand for themselves, and else in hex digits.
-#[tactic(auto, unfolding(crate::specs::Printing::name_text), using(sf_base::proofs::OutputLaws::puts_then))]
+#[tactic(auto, unfolding(crate::specs::Printing::name_text), using(outputs::proofs::OutputLaws::puts_then))]
 fn put_name<W: Write>(name: &[u8], output: &mut Output<'_, W>)
     ensures { Puts W.contents output.old output.new (name_text name.now) }
 {
@@ -103,7 +104,7 @@ fn put_name<W: Write>(name: &[u8], output: &mut Output<'_, W>)
 }
 
 // `x`, and the bytes of slices in hex digits.
-#[tactic(auto, using(sf_base::proofs::OutputLaws::puts_then))]
+#[tactic(auto, using(outputs::proofs::OutputLaws::puts_then))]
 fn put_hex<W: Write>(slices: &[&[u8]], output: &mut Output<'_, W>)
     ensures { Puts W.contents output.old output.new (hex_literal (all_bytes slices.now)) }
 {

@@ -1,10 +1,10 @@
 //! The head of a chunk: its id and the size of its body.
 ghost use Rattle.std.specs.Prelude.{◌≡◌};
-ghost use Rattle.sf_base.specs.Output.{Puts};
+ghost use Rattle.outputs.specs.Output.{Puts};
 ghost use Rattle.riff_chunks.specs.Spelling.{chunk_head};
 
 use byteorder::{ByteOrder, LittleEndian};
-use sf_base::Output;
+use outputs::Output;
 use std::io::Write;
 
 /// Puts the id and the size of a chunk, 8 bytes. The body comes next; where its size is odd, a zero

@@ -1,9 +1,9 @@
 -- What is put part by part stands on the line.
 use Rattle.std.proofs.Common.{◌≡◌, ℕ, List, [], ◌∷◌, ◌++◌, Option, refl, sym, ap, ◌∙◌, append_assoc}
 use Rattle.std.specs.List.{flat_map}
-use Rattle.sf_base.specs.declared.output.Output.{Output}
-use Rattle.sf_base.specs.Output.{Puts}
-use Rattle.sf_base.proofs.OutputLaws.{puts_then, puts_as}
+use Rattle.outputs.specs.declared.output.Output.{Output}
+use Rattle.outputs.specs.Output.{Puts}
+use Rattle.outputs.proofs.OutputLaws.{puts_then, puts_as}
 use Rattle.bank_parts.specs.declared.parts.Sample.{Sample}
 use Rattle.line_tokens.specs.Printing.{spaced}
 use Rattle.script_grammar.specs.Operands.{Operand, Number, Signed, Name, Points, piece_of, pieces_of}

@@ -3,9 +3,9 @@ use Rattle.std.proofs.Common.{◌≡◌, ◌<◌, ◌+◌, drop, get_or, ℕ, fa
 use Rattle.std.specs.Prelude.{◌==◌}
 use Rattle.std.specs.List.{flat_map}
 use Rattle.std.specs.FinMap.{entries, len}
-use Rattle.sf_base.specs.declared.output.Output.{Output}
-use Rattle.sf_base.specs.Output.{Puts}
-use Rattle.sf_base.proofs.OutputLaws.{puts_as, Putting, putting_member}
+use Rattle.outputs.specs.declared.output.Output.{Output}
+use Rattle.outputs.specs.Output.{Puts}
+use Rattle.outputs.proofs.OutputLaws.{puts_as, Putting, putting_member}
 use Rattle.generators.specs.Gens.{Gens}
 use Rattle.modulators.specs.declared.modulator.Modulator.{Modulator}
 use Rattle.bank_parts.specs.declared.parts.GlobalZone.{GlobalZone}

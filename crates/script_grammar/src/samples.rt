@@ -1,7 +1,7 @@
 //! The parts of a line that say a sample.
 ghost use Rattle.std.specs.Prelude.{◌≡◌, ◌∷◌, []};
 ghost use Rattle.std.specs.List.{flat_map};
-ghost use Rattle.sf_base.specs.Output.{Puts};
+ghost use Rattle.outputs.specs.Output.{Puts};
 ghost use Rattle.line_tokens.specs.Parts.{Reads};
 ghost use Rattle.line_tokens.specs.Printing.{spaced};
 ghost use Rattle.script_grammar.specs.Operands as operand;
@@ -11,8 +11,9 @@ ghost use Rattle.script_grammar.specs.Samples.{kind_operands, loop_operands, hea
 use crate::names::says;
 use bank_parts::{Kind, Sample};
 use line_tokens::{Cursor, Joined, LineFault, Piece, put_pieces};
+use outputs::Output;
 use sample_view::Points;
-use sf_base::{Lent, Output};
+use sf_base::Lent;
 use std::alloc::Global;
 use std::io::Write;
 

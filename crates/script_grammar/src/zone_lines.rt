@@ -1,7 +1,7 @@
 //! Zones, put on a line.
 ghost use Rattle.std.specs.Prelude.{◌≡◌, ◌∷◌, []};
 ghost use Rattle.std.specs.List.{flat_map};
-ghost use Rattle.sf_base.specs.Output.{Puts};
+ghost use Rattle.outputs.specs.Output.{Puts};
 ghost use Rattle.bank_parts.specs.declared.parts.Zone.{Zone};
 ghost use Rattle.modulators.specs.declared.modulator.Modulator.{Modulator};
 ghost use Rattle.line_tokens.specs.Printing.{spaced};
@@ -15,7 +15,8 @@ use bank_parts::{GlobalZone, Zone};
 use generators::{GenMap, Range, is_range_operator};
 use line_tokens::{Piece, put_pieces};
 use modulators::Modulator;
-use sf_base::{Lent, Output};
+use outputs::Output;
+use sf_base::Lent;
 use std::io::Write;
 
 /// Puts `GLOBAL? ZONE*`, each token behind a space: no `GLOBAL` where the global zone is empty, and

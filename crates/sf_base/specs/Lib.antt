@@ -1,4 +1,2 @@
 pub mod Fields
 pub mod Names
-pub mod Writing
-pub mod Output

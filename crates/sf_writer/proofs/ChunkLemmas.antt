@@ -7,9 +7,9 @@ use Rattle.std.proofs.lemmas.List.Concat.{flat_map-append}
 use Rattle.riff_chunks.specs.Walk.{LIST}
 use Rattle.riff_chunks.specs.Spelling.{pad, chunk, chunk_head}
 use Rattle.riff_chunks.proofs.SpellingLemmas.{length-chunk}
-use Rattle.sf_base.specs.declared.output.Output.{Output}
-use Rattle.sf_base.specs.Output.{Puts}
-use Rattle.sf_base.proofs.OutputLaws.{puts_row}
+use Rattle.outputs.specs.declared.output.Output.{Output}
+use Rattle.outputs.specs.Output.{Puts}
+use Rattle.outputs.proofs.OutputLaws.{puts_row}
 
 -- ---- chunks
 

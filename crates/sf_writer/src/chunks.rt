@@ -1,10 +1,10 @@
 //! Chunks of even size, as all of a canonical file are: none has a pad byte.
 ghost use Rattle.std.specs.Prelude.{◌≡◌, ◌<◌, ◌%◌, ◌^◌, ◌++◌, length};
-ghost use Rattle.sf_base.specs.Output.{Puts};
+ghost use Rattle.outputs.specs.Output.{Puts};
 ghost use Rattle.riff_chunks.specs.Spelling.{chunk, chunk_head};
 
+use outputs::Output;
 use riff_chunks::put_head;
-use sf_base::Output;
 use std::io::Write;
 
 /// The bytes of a chunk's id and size.
@@ -14,7 +14,7 @@ pub(crate) const HEAD_SIZE: u32 = 8;
 pub(crate) const FORM_SIZE: u32 = 4;
 
 // Puts the id, the size and the form of a chunk, whose body has `size` bytes with the form.
-#[tactic(auto, using(sf_base::proofs::OutputLaws::puts_then))]
+#[tactic(auto, using(outputs::proofs::OutputLaws::puts_then))]
 pub(crate) fn put_form_head<W: Write>(
     output: &mut Output<'_, W>,
     id: [u8; 4],

@@ -1,7 +1,7 @@
 //! The lists `phdr` and `inst`: the heads of presets and of instruments, which own zones (SoundFont
 //! 2.04, sections 7.2 and 7.6).
 ghost use Rattle.std.specs.Prelude.{◌≡◌, ◌<◌, ◌≤◌, ◌^◌, length, flat_map};
-ghost use Rattle.sf_base.specs.Output.{Puts};
+ghost use Rattle.outputs.specs.Output.{Puts};
 ghost use Rattle.hydra_records.specs.Spelling.{preset_head_bytes, instrument_head_bytes};
 ghost use Rattle.bank_parts.specs.Valid.{owner_total, zone_count};
 ghost use Rattle.bank_format.specs.Ids.{PHDR, INST};
@@ -13,8 +13,8 @@ use bank_core::Bank;
 use bank_format::RecordedHead;
 use bank_parts::Owners;
 use hydra_records::Spelled;
+use outputs::Output;
 use riff_chunks::put_head;
-use sf_base::Output;
 use std::io::Write;
 
 // Puts the list `phdr`.
@@ -38,7 +38,7 @@ pub(crate) fn put_inst<W: Write>(output: &mut Output<'_, W>, bank: &Bank<'_>, si
 }
 
 // Each head says how many bags stand before those of its owner, and the last one how many there are.
-#[tactic(auto, using(sf_base::proofs::OutputLaws::putting_start))]
+#[tactic(auto, using(outputs::proofs::OutputLaws::putting_start))]
 fn put_heads<const N: usize, H: RecordedHead, W: Write>(
     output: &mut Output<'_, W>,
     owners: &Owners<H>,

@@ -1,6 +1,6 @@
 //! The list `sdta`: the points of all samples (SoundFont 2.04, section 6).
 ghost use Rattle.std.specs.Prelude.{◌≡◌, ◌++◌, length, flat_map};
-ghost use Rattle.sf_base.specs.Output.{Puts};
+ghost use Rattle.outputs.specs.Output.{Puts};
 ghost use Rattle.riff_chunks.specs.Spelling.{spell};
 ghost use Rattle.sample_view.specs.Words.{word_bytes};
 ghost use Rattle.bank_format.specs.Canon.{sdta};
@@ -10,9 +10,9 @@ ghost use Rattle.sf_writer.specs.Lists.{list_bytes};
 
 use crate::chunks::put_form_head;
 use bank_core::{Bank, Sample};
+use outputs::Output;
 use riff_chunks::{LIST_ID, put_head};
 use sample_view::Points;
-use sf_base::Output;
 use std::io::Write;
 
 /// The zero points after those of a sample, as their bytes.
@@ -38,7 +38,7 @@ fn put_smpl<W: Write>(output: &mut Output<'_, W>, bank: &Bank<'_>, size: u32)
 }
 
 // Puts the points of each sample, and its zero points.
-#[tactic(auto, using(sf_base::proofs::OutputLaws::putting_start, sf_base::proofs::OutputLaws::putting_end))]
+#[tactic(auto, using(outputs::proofs::OutputLaws::putting_start, outputs::proofs::OutputLaws::putting_end))]
 fn put_samples<W: Write>(output: &mut Output<'_, W>, samples: &[Sample<'_>])
     ensures { Puts W.contents output.old output.new
         (flat_map word_bytes (flat_map points_written samples.now)) }
@@ -57,7 +57,7 @@ fn put_sample<W: Write>(output: &mut Output<'_, W>, sample: &Sample<'_>)
 }
 
 // Puts points as the slices of the file that they were read from: a long one goes out as it stands.
-#[tactic(auto, using(sf_base::proofs::OutputLaws::putting_start, sf_base::proofs::OutputLaws::putting_end))]
+#[tactic(auto, using(outputs::proofs::OutputLaws::putting_start, outputs::proofs::OutputLaws::putting_end))]
 fn put_points<W: Write>(output: &mut Output<'_, W>, points: &Points<'_>)
     ensures { Puts W.contents output.old output.new (flat_map word_bytes points.now) }
 {

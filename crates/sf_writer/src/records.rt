@@ -1,6 +1,6 @@
 //! The list `pdta`: nine lists of records (SoundFont 2.04, section 7).
 ghost use Rattle.std.specs.Prelude.{◌≡◌};
-ghost use Rattle.sf_base.specs.Output.{Puts};
+ghost use Rattle.outputs.specs.Output.{Puts};
 ghost use Rattle.riff_chunks.specs.Spelling.{spell};
 ghost use Rattle.bank_format.specs.Canon.{pdta};
 ghost use Rattle.bank_format.specs.Ids.{PDTA};
@@ -14,8 +14,8 @@ use crate::sample_heads::put_shdr;
 use crate::sizes::Sizes;
 use crate::zone_lists::put_zone_lists;
 use bank_core::Bank;
+use outputs::Output;
 use riff_chunks::LIST_ID;
-use sf_base::Output;
 use std::io::Write;
 
 // Puts the list.

@@ -1,7 +1,7 @@
 //! The three lists of the zones of a level: bags, modulators and generators (SoundFont 2.04,
 //! sections 7.3 to 7.5 for presets, and 7.7 to 7.9 for instruments).
 ghost use Rattle.std.specs.Prelude.{◌≡◌, length, map, flat_map};
-ghost use Rattle.sf_base.specs.Output.{Puts};
+ghost use Rattle.outputs.specs.Output.{Puts};
 ghost use Rattle.riff_chunks.specs.Spelling.{spell};
 ghost use Rattle.hydra_records.specs.Spelling.{bag_bytes, modulator_bytes, generator_bytes};
 ghost use Rattle.bank_format.specs.Zones.{generator};
@@ -17,8 +17,8 @@ use bank_parts::{OwnerHead, Owners};
 use generators::Level;
 use hydra_records::{Bag, Generator, Spelled};
 use modulators::Modulator;
+use outputs::Output;
 use riff_chunks::put_head;
-use sf_base::Output;
 use std::io::Write;
 
 // Puts the three lists.
@@ -88,7 +88,7 @@ fn put_mod_records<H: OwnerHead, W: Write>(output: &mut Output<'_, W>, owners: &
 }
 
 // The modulators of one bag.
-#[tactic(auto, using(sf_base::proofs::OutputLaws::putting_start, sf_base::proofs::OutputLaws::putting_end))]
+#[tactic(auto, using(outputs::proofs::OutputLaws::putting_start, outputs::proofs::OutputLaws::putting_end))]
 fn put_mods_of<W: Write>(output: &mut Output<'_, W>, mods: &[Modulator])
     ensures { Puts W.contents output.old output.new (flat_map modulator_bytes mods.now) }
 {
@@ -130,7 +130,7 @@ fn put_gens_of<W: Write>(output: &mut Output<'_, W>, bag: &BagView<'_>)
 }
 
 // Operators and words as generators.
-#[tactic(auto, using(sf_base::proofs::OutputLaws::putting_start, sf_base::proofs::OutputLaws::putting_end))]
+#[tactic(auto, using(outputs::proofs::OutputLaws::putting_start, outputs::proofs::OutputLaws::putting_end))]
 fn put_entries<W: Write>(output: &mut Output<'_, W>, entries: &[(u16, u16)])
     ensures { Puts W.contents output.old output.new
         (flat_map generator_bytes (map (λ e. generator e.0 e.1) entries.now)) }

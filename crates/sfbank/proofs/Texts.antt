@@ -1,7 +1,7 @@
 -- A text that was delivered.
 use Rattle.std.proofs.Common.{ℕ, List, Option, Result, Ok, Err, refl}
-use Rattle.sf_base.specs.declared.writing.WriteFault.{WriteFault}
-use Rattle.sf_base.specs.Writing as writing
+use Rattle.outputs.specs.declared.writing.WriteFault.{WriteFault}
+use Rattle.outputs.specs.Writing as writing
 use Rattle.sfbank.specs.declared.fault.RunFault.{RunFault}
 use Rattle.sfbank.specs.declared.fault.Which.{Which}
 use Rattle.sfbank.specs.Written.{GoesOut, IsTold}

@@ -1,7 +1,7 @@
 -- What a run leaves in its two writers.
 use Rattle.std.specs.Prelude.{◌≡◌, ◌≤◌, ℕ, List, length, take, Option, Result, Ok, Err}
 use Rattle.std.specs.Io.KnownBytes.{Appends, Keeps}
-use Rattle.sf_base.specs.declared.writing.WriteFault.{WriteFault}
+use Rattle.outputs.specs.declared.writing.WriteFault.{WriteFault}
 use Rattle.sfbank.specs.declared.fault.RunFault.{RunFault}
 use Rattle.sfbank.specs.declared.fault.RunFault.TheVariants as run
 use Rattle.sfbank.specs.declared.fault.Which.{Which}

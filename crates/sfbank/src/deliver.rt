@@ -1,6 +1,6 @@
 //! Texts go out, each whole and flushed.
 ghost use Rattle.std.specs.Prelude.{◌≡◌};
-ghost use Rattle.sf_base.specs.Output.{Puts};
+ghost use Rattle.outputs.specs.Output.{Puts};
 ghost use Rattle.bank_format.specs.Canon.{canon};
 ghost use Rattle.bank_listing.specs.Listing.{listing};
 ghost use Rattle.edit_script.specs.Printing.{texts_of};
@@ -15,7 +15,7 @@ use bank_edits::Edit;
 use bank_format::Counts;
 use bank_listing::put_listing;
 use edit_script::put_edit;
-use sf_base::{Output, WriteFault};
+use outputs::{Output, WriteFault};
 use sf_writer::put_bank;
 use std::io::Write;
 

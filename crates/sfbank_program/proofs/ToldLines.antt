@@ -1,8 +1,8 @@
 -- Lines of the standard error.
 use Rattle.std.proofs.Common.{ℕ, List, length, take_all, Option, Result, Ok, Err, sym, subst, le_refl}
 use Rattle.std.specs.Io.KnownBytes.{Appends}
-use Rattle.sf_base.specs.declared.writing.WriteFault.{WriteFault}
-use Rattle.sf_base.specs.Writing.{Writes}
+use Rattle.outputs.specs.declared.writing.WriteFault.{WriteFault}
+use Rattle.outputs.specs.Writing.{Writes}
 use Rattle.sfbank_program.specs.Telling.{GoesOut}
 
 -- a text that was written went out, or a front of it

@@ -1,7 +1,7 @@
 //! The lines by which faults are told.
 ghost use Rattle.std.specs.Prelude.{◌≡◌, IfOk};
-ghost use Rattle.sf_base.specs.Output.{Puts};
-ghost use Rattle.sf_base.specs.Writing.{Writes};
+ghost use Rattle.outputs.specs.Output.{Puts};
+ghost use Rattle.outputs.specs.Writing.{Writes};
 ghost use Rattle.sample_view.specs.Pieces.{joined_bytes};
 ghost use Rattle.sfbank_program.specs.FaultLines.{fault_line, status_of, read_line, script_line, refused_line, cause_text, limit_text, write_line, file_line};
 
@@ -10,7 +10,7 @@ use bank_format::ReadFault;
 use bank_parts::Limit;
 use edit_script::ScriptFault;
 use itoa::Buffer;
-use sf_base::{Output, WriteFault};
+use outputs::{Output, WriteFault};
 use sfbank::RunFault;
 use std::io::Write;
 

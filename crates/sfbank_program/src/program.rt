@@ -8,7 +8,7 @@ use crate::show::show;
 use crate::telling::tell;
 use crate::words::{Request, request_of};
 use clap::error::ErrorKind;
-use sf_base::Output;
+use outputs::Output;
 use sfbank::{RunFault, Which};
 use std::alloc::{AllocError, Global};
 use std::convert::AsStr;

@@ -4,7 +4,7 @@ ghost use Rattle.sfbank_program.specs.Telling.{Tells, status_of};
 
 use crate::fault::Fault;
 use crate::fault_lines::{exit_status, fault_text, file_fault_text};
-use sf_base::put_all;
+use outputs::put_all;
 use std::io::Write;
 
 const NOT_TEXT: &[u8] = b"error: a word is not text\n";

@@ -1,5 +1,5 @@
 use Rattle.std.proofs.Common.{ap}
-use Rattle.sf_base.proofs.OutputLaws.{puts_as, puts_then}
+use Rattle.outputs.proofs.OutputLaws.{puts_as, puts_then}
 use Rattle.bank_listing.specs.Listing.{listing, preset_line, instrument_line, sample_line, owner_line, lines_from}
 use Rattle.bank_listing.proofs.listing.put_listing.Goals as goal
 

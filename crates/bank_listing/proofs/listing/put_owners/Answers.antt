@@ -1,5 +1,5 @@
 use Rattle.std.proofs.Common.{length, ◌<◌, arith}
-use Rattle.sf_base.proofs.OutputLaws.{putting_step}
+use Rattle.outputs.proofs.OutputLaws.{putting_step}
 use Rattle.bank_listing.proofs.ListLaws.{owner_lines_at}
 use Rattle.bank_listing.proofs.listing.put_owners.Goals as goal
 

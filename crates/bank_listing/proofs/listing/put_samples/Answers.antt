@@ -1,5 +1,5 @@
 use Rattle.std.proofs.Common.{sym}
-use Rattle.sf_base.proofs.OutputLaws.{puts_as, puts_nothing, putting_step, putting_last}
+use Rattle.outputs.proofs.OutputLaws.{puts_as, puts_nothing, putting_step, putting_last}
 use Rattle.bank_listing.specs.Listing.{sample_line}
 use Rattle.bank_listing.proofs.ListLaws.{lines_at, lines_over}
 use Rattle.bank_listing.proofs.listing.put_samples.Goals as goal

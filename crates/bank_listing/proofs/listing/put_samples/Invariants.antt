@@ -1,5 +1,5 @@
 use Rattle.std.proofs.Common.{drop}
-use Rattle.sf_base.proofs.OutputLaws.{Putting}
+use Rattle.outputs.proofs.OutputLaws.{Putting}
 use Rattle.bank_listing.specs.Listing.{sample_line, lines_from}
 use Rattle.bank_listing.proofs.listing.put_samples.Given as goal
 

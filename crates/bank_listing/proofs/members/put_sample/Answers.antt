@@ -1,7 +1,7 @@
 use Rattle.std.proofs.Common.{[], ◌∷◌, ◌∙◌, length, ap, sym}
 use Rattle.std.specs.Prelude.{codes}
 use Rattle.std.specs.List.{flat_map}
-use Rattle.sf_base.proofs.OutputLaws.{puts_as, puts_then}
+use Rattle.outputs.proofs.OutputLaws.{puts_as, puts_then}
 use Rattle.line_tokens.specs.declared.printing.Piece.TheVariants.{Number}
 use Rattle.line_tokens.specs.Printing.{spaced}
 use Rattle.script_grammar.specs.Operands.{pieces_of}

@@ -1,5 +1,5 @@
 use Rattle.std.proofs.Common.{drop}
-use Rattle.sf_base.proofs.OutputLaws.{Putting}
+use Rattle.outputs.proofs.OutputLaws.{Putting}
 use Rattle.line_tokens.proofs.PrintLaws.{all_digits}
 use Rattle.line_tokens.proofs.printing.put_all_digits.Given as goal
 

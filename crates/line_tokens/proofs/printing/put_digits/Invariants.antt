@@ -1,6 +1,6 @@
 use Rattle.std.proofs.Common.{drop}
 use Rattle.hex.specs.Hex.{encode_lower}
-use Rattle.sf_base.proofs.OutputLaws.{Putting}
+use Rattle.outputs.proofs.OutputLaws.{Putting}
 use Rattle.line_tokens.proofs.printing.put_digits.Given as goal
 
 -- the digits of the bytes that are left are still to be put

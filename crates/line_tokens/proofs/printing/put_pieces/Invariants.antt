@@ -1,6 +1,6 @@
 use Rattle.std.proofs.Common.{drop}
 use Rattle.std.specs.List.{flat_map}
-use Rattle.sf_base.proofs.OutputLaws.{Putting}
+use Rattle.outputs.proofs.OutputLaws.{Putting}
 use Rattle.line_tokens.specs.Printing.{spaced}
 use Rattle.line_tokens.proofs.printing.put_pieces.Given as goal
 

@@ -1,5 +1,5 @@
 use Rattle.std.proofs.Common.{◌+◌, refl, sym, arith}
-use Rattle.sf_base.proofs.OutputLaws.{puts_as, putting_step, putting_last}
+use Rattle.outputs.proofs.OutputLaws.{puts_as, putting_step, putting_last}
 use Rattle.sf_writer.proofs.OwnerHeadLemmas.{heads-next, heads-last, few_own, few_after}
 use Rattle.sf_writer.proofs.owner_heads.put_heads.Goals as goal
 

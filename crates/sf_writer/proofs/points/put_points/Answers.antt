@@ -1,4 +1,4 @@
-use Rattle.sf_base.proofs.OutputLaws.{putting_step}
+use Rattle.outputs.proofs.OutputLaws.{putting_step}
 use Rattle.sf_writer.proofs.ChunkLemmas.{flat_map-next}
 use Rattle.sf_writer.proofs.points.put_points.Goals as goal
 

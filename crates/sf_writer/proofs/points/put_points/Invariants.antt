@@ -1,6 +1,6 @@
 use Rattle.std.proofs.Common.{drop}
 use Rattle.sample_view.specs.Pieces.{joined_bytes}
-use Rattle.sf_base.proofs.OutputLaws.{Putting}
+use Rattle.outputs.proofs.OutputLaws.{Putting}
 use Rattle.sf_writer.proofs.points.put_points.Given as goal
 
 -- the slices that are ahead are still to be put

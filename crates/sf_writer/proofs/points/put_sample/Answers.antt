@@ -1,4 +1,4 @@
-use Rattle.sf_base.proofs.OutputLaws.{puts_row}
+use Rattle.outputs.proofs.OutputLaws.{puts_row}
 use Rattle.sf_writer.proofs.PointLemmas.{sample-parts}
 use Rattle.sf_writer.proofs.points.put_sample.Goals as goal
 

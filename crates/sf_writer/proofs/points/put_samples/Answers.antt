@@ -1,4 +1,4 @@
-use Rattle.sf_base.proofs.OutputLaws.{putting_step}
+use Rattle.outputs.proofs.OutputLaws.{putting_step}
 use Rattle.sf_writer.proofs.ChunkLemmas.{spelled-read}
 use Rattle.sf_writer.proofs.points.put_samples.Goals as goal
 

@@ -2,7 +2,7 @@ use Rattle.std.proofs.Common.{ap}
 use Rattle.generators.specs.declared.level.Level.TheVariants as level
 use Rattle.riff_chunks.specs.Spelling.{spell}
 use Rattle.bank_format.specs.Tables.{all_bags}
-use Rattle.sf_base.proofs.OutputLaws.{puts_as, puts_row, puts_then}
+use Rattle.outputs.proofs.OutputLaws.{puts_as, puts_row, puts_then}
 use Rattle.sf_writer.specs.Lists.{zone_lists}
 use Rattle.sf_writer.proofs.BagLemmas.{few_preset_bags, few_instrument_bags}
 use Rattle.sf_writer.proofs.RecordLemmas.{pdta-is}

@@ -1,7 +1,7 @@
 use Rattle.std.proofs.Common.{◌≡◌, ◌∙◌, List, length, sym, ap, arith}
 use Rattle.bank_format.specs.Zones.{Bagged}
 use Rattle.bank_format.specs.Tables.{all_bags}
-use Rattle.sf_base.proofs.OutputLaws.{puts_as, putting_from, putting_step, putting_last}
+use Rattle.outputs.proofs.OutputLaws.{puts_as, putting_from, putting_step, putting_last}
 use Rattle.sf_writer.specs.Bags.{all_gens, all_mods}
 use Rattle.sf_writer.proofs.BagLemmas.{bags-start, bags-next, bags-last, all_gens-next, all_mods-next}
 use Rattle.sf_writer.proofs.zone_lists.put_bag_records.Goals as goal

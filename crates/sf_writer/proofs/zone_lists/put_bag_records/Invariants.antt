@@ -2,7 +2,7 @@ use Rattle.std.proofs.Common.{◌≤◌, ◌+◌, length}
 use Rattle.std.specs.List.{flat_map}
 use Rattle.hydra_records.specs.Spelling.{bag_bytes}
 use Rattle.bank_format.specs.Tables.{bag_list, all_bags}
-use Rattle.sf_base.proofs.OutputLaws.{Putting}
+use Rattle.outputs.proofs.OutputLaws.{Putting}
 use Rattle.sf_writer.specs.Bags.{all_gens, all_mods, bags_from}
 use Rattle.sf_writer.proofs.zone_lists.put_bag_records.Given as goal
 

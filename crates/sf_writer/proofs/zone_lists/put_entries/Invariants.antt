@@ -2,7 +2,7 @@ use Rattle.std.proofs.Common.{drop, map}
 use Rattle.std.specs.List.{flat_map}
 use Rattle.hydra_records.specs.Spelling.{generator_bytes}
 use Rattle.bank_format.specs.Zones.{generator}
-use Rattle.sf_base.proofs.OutputLaws.{Putting}
+use Rattle.outputs.proofs.OutputLaws.{Putting}
 use Rattle.sf_writer.proofs.zone_lists.put_entries.Given as goal
 
 abbrev pub invariant-loop-operator : goal.invariant-loop-operator

@@ -1,7 +1,7 @@
 use Rattle.std.specs.List.{flat_map}
 use Rattle.hydra_records.specs.Spelling.{generator_bytes}
 use Rattle.bank_format.specs.Tables.{gen_list, all_bags}
-use Rattle.sf_base.proofs.OutputLaws.{Putting}
+use Rattle.outputs.proofs.OutputLaws.{Putting}
 use Rattle.sf_writer.proofs.zone_lists.put_gen_records.Given as goal
 
 abbrev pub invariant-loop-bag : goal.invariant-loop-bag

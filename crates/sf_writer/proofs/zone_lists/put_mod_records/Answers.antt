@@ -1,5 +1,5 @@
 use Rattle.std.proofs.Common.{◌∙◌, sym}
-use Rattle.sf_base.proofs.OutputLaws.{puts_as, putting_from, putting_step, putting_last}
+use Rattle.outputs.proofs.OutputLaws.{puts_as, putting_from, putting_step, putting_last}
 use Rattle.sf_writer.proofs.BagLemmas.{mods-start, mods-next, mods-last}
 use Rattle.sf_writer.proofs.zone_lists.put_mod_records.Goals as goal
 

@@ -1,4 +1,4 @@
-use Rattle.sf_base.proofs.OutputLaws.{putting_step}
+use Rattle.outputs.proofs.OutputLaws.{putting_step}
 use Rattle.sf_writer.proofs.BagLemmas.{mods_at}
 use Rattle.sf_writer.proofs.zone_lists.put_mods_of.Goals as goal
 

@@ -1,7 +1,7 @@
 use Rattle.std.proofs.Common.{drop}
 use Rattle.std.specs.List.{flat_map}
 use Rattle.hydra_records.specs.Spelling.{modulator_bytes}
-use Rattle.sf_base.proofs.OutputLaws.{Putting}
+use Rattle.outputs.proofs.OutputLaws.{Putting}
 use Rattle.sf_writer.proofs.zone_lists.put_mods_of.Given as goal
 
 abbrev pub invariant-loop-modulator : goal.invariant-loop-modulator

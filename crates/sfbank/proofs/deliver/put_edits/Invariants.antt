@@ -1,5 +1,5 @@
 use Rattle.std.proofs.Common.{drop}
-use Rattle.sf_base.proofs.OutputLaws.{Putting}
+use Rattle.outputs.proofs.OutputLaws.{Putting}
 use Rattle.edit_script.specs.Printing.{texts_of}
 use Rattle.sfbank.proofs.deliver.put_edits.Given as goal
 

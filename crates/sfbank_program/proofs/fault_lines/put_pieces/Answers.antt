@@ -1,6 +1,6 @@
 use Rattle.std.proofs.Common.{List, [], ℕ}
 use Rattle.std.specs.Borrow.{Bor}
-use Rattle.sf_base.proofs.OutputLaws.{putting_member}
+use Rattle.outputs.proofs.OutputLaws.{putting_member}
 use Rattle.sfbank_program.proofs.fault_lines.put_pieces.Goals as goal
 
 abbrev no_piece : Bor (List ℕ)

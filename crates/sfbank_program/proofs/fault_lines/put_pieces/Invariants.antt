@@ -1,5 +1,5 @@
 use Rattle.std.proofs.Common.{drop}
-use Rattle.sf_base.proofs.OutputLaws.{Putting}
+use Rattle.outputs.proofs.OutputLaws.{Putting}
 use Rattle.sample_view.specs.Pieces.{joined_bytes}
 use Rattle.sfbank_program.proofs.fault_lines.put_pieces.Given as goal
 

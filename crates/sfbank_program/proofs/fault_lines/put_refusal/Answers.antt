@@ -1,6 +1,6 @@
 use Rattle.std.proofs.Common.{Option, subst}
-use Rattle.sf_base.specs.Output.{Puts}
-use Rattle.sf_base.proofs.OutputLaws.{puts_then}
+use Rattle.outputs.specs.Output.{Puts}
+use Rattle.outputs.proofs.OutputLaws.{puts_then}
 use Rattle.bank_parts.specs.declared.limits.Limit.{Limit}
 use Rattle.sfbank_program.specs.FaultLines.{limit_text}
 use Rattle.sfbank_program.proofs.fault_lines.put_refusal.Goals as goal

@@ -1,7 +1,7 @@
 -- How a text goes out, and how much of it went out where it could not go out whole.
 use Rattle.std.specs.Prelude.{◌≡◌, ◌<◌, ◌≤◌, ◌+◌, ℕ, List, length, take, Option, Result, Ok, Err}
 use Rattle.std.specs.Io.KnownBytes.{Appends, Keeps}
-use Rattle.sf_base.specs.declared.writing.WriteFault.{WriteFault}
+use Rattle.outputs.specs.declared.writing.WriteFault.{WriteFault}
 
 -- After `sent` bytes exactly a front of the text went out, and not all of it. The fault counts both.
 pub record StopsIn (old new : Option (List ℕ)) (sent : ℕ) (text : List ℕ) (written : ℕ) : Type 0 where

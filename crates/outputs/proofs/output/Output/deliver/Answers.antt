@@ -1,7 +1,7 @@
 use Rattle.std.proofs.lemmas.Result.{err_from_is_err_and}
 use Rattle.std.proofs.Common.{Err, rules}
-use Rattle.sf_base.proofs.OutputSteps.{ends_sent, ends_unflushed}
-use Rattle.sf_base.proofs.output.Output.deliver.Goals as goal
+use Rattle.outputs.proofs.OutputSteps.{ends_sent, ends_unflushed}
+use Rattle.outputs.proofs.output.Output.deliver.Goals as goal
 
 pub returns-in_err-total : goal.returns-in_err-total
 returns-in_err-total g c =

@@ -2,9 +2,9 @@
 use Rattle.std.specs.Prelude.{◌≡◌, ◌<◌, ℕ, List, [], ◌++◌, length, take, Option, Result, MatchOption, IfOk}
 use Rattle.std.specs.Borrow.{MutBor}
 use Rattle.std.specs.Io.KnownBytes.{Appends}
-use Rattle.sf_base.specs.declared.writing.WriteFault.{WriteFault}
-use Rattle.sf_base.specs.declared.output.Output.{Output}
-use Rattle.sf_base.specs.Writing.{Writes, Delivers}
+use Rattle.outputs.specs.declared.writing.WriteFault.{WriteFault}
+use Rattle.outputs.specs.declared.output.Output.{Output}
+use Rattle.outputs.specs.Writing.{Writes, Delivers}
 
 -- A front of a text went out, and the rest is held back.
 pub record IsOnItsWay (start now : Option (List ℕ)) (held : List ℕ) (sent : ℕ) (text : List ℕ) : Type 0 where

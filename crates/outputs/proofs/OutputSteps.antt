@@ -5,10 +5,10 @@ use Rattle.std.specs.Io.KnownBytes.{Appends}
 use Rattle.std.proofs.KnownBytes.{Appends-trans}
 use Rattle.std.proofs.Math.Seq.{take-append-add}
 use Rattle.std.proofs.lemmas.List.{length-append, take-append-le}
-use Rattle.sf_base.specs.declared.writing.WriteFault.{WriteFault}
-use Rattle.sf_base.specs.declared.output.Output.{Output}
-use Rattle.sf_base.specs.Writing.{StopsIn, Sends}
-use Rattle.sf_base.specs.Output.{IsOnItsWay, StoppedIn, Puts, Ends, EndsFlushed}
+use Rattle.outputs.specs.declared.writing.WriteFault.{WriteFault}
+use Rattle.outputs.specs.declared.output.Output.{Output}
+use Rattle.outputs.specs.Writing.{StopsIn, Sends}
+use Rattle.outputs.specs.Output.{IsOnItsWay, StoppedIn, Puts, Ends, EndsFlushed}
 
 -- bytes after a front of a text
 stopped_after : (a b d : Option (List ℕ)) (n w : ℕ) (gone t : List ℕ) → n ≡ length gone → Appends a b gone → StopsIn b d n t w → StoppedIn a d (gone ++ t) w
