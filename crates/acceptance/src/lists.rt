@@ -167,11 +167,11 @@ fn operators(rt: HostRuntime) {
         |operator| default_of(operator),
     );
     assert_eq!(rt; none, [None; 14]);
-    let range = Range::of_word(0x7f3c);
+    let range = Range::of_amount(0x7f3c);
     assert!(rt;
-        range.low == 60 && range.high == 127 && range.to_word() == 0x7f3c && range.is_valid()
+        range.low == 60 && range.high == 127 && range.to_amount() == 0x7f3c && range.is_valid()
     );
-    assert!(rt; range.contains(60) && !range.contains(59) && !Range::of_word(0x8000).is_valid());
+    assert!(rt; range.contains(60) && !range.contains(59) && !Range::of_amount(0x8000).is_valid());
 }
 
 #[test]

@@ -21,7 +21,7 @@ fn gens_of(alloc: Global, ranges: Ranges<'_>) -> Result<GenMap, OutOfMemory> {
     let mut gens = GenMap::new(alloc);
     for range in ranges {
         let (operator, low, high) = *range;
-        gens.set(operator, Range { low, high }.to_word())?;
+        gens.set(operator, Range { low, high }.to_amount())?;
     }
     Ok(gens)
 }

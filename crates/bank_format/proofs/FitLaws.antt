@@ -118,7 +118,7 @@ pub record FitsBagged (r : Bagged) : Type 0 where
 
 spelled_fit : (es : Entries) → FitEntries es → AllByRecursion FitsGenerator (spelled es)
 spelled_fit [] v = tt
-spelled_fit (e ∷ es) v = (record { operator = v.0.0; word = v.0.1 }, spelled_fit es v.1)
+spelled_fit (e ∷ es) v = (record { operator = v.0.0; amount = v.0.1 }, spelled_fit es v.1)
 
 small_target : (at : Level) → target_operator at < 2 ^ 16
 small_target level.Preset = omega arith
@@ -126,7 +126,7 @@ small_target level.Instrument = omega arith
 
 zones_fit : (at : Level) (zs : List Zone) → AllByRecursion FitsZone zs → AllByRecursion FitsBagged (map (zone_written at) zs)
 zones_fit at [] v = tt
-zones_fit at (z ∷ zs) v = (record { gens = all-append FitsGenerator _ _ (spelled_fit (entries z.gens) v.0.gens) (record { operator = small_target at; word = v.0.target }, tt); mods = v.0.mods }, zones_fit at zs v.1)
+zones_fit at (z ∷ zs) v = (record { gens = all-append FitsGenerator _ _ (spelled_fit (entries z.gens) v.0.gens) (record { operator = small_target at; amount = v.0.target }, tt); mods = v.0.mods }, zones_fit at zs v.1)
 
 pub written_fit : (at : Level) (g : GlobalZone) (zs : List Zone) → FitsGlobal g → AllByRecursion FitsZone zs → AllByRecursion FitsBagged (bags_written at g zs)
 unfolding bags_written
@@ -138,7 +138,7 @@ written_fit at g zs vg v =
 
 pub gen_list_fit : (bags : List Bagged) → AllByRecursion FitsBagged bags → AllByRecursion FitsGenerator (gen_list bags)
 unfolding gen_list
-gen_list_fit bags v = all-append FitsGenerator _ _ (all-flat_map FitsGenerator FitsBagged (λ (r : Bagged). r.gens) (λ r w. w.gens) bags v) (record { operator = omega arith; word = omega arith }, tt)
+gen_list_fit bags v = all-append FitsGenerator _ _ (all-flat_map FitsGenerator FitsBagged (λ (r : Bagged). r.gens) (λ r w. w.gens) bags v) (record { operator = omega arith; amount = omega arith }, tt)
 
 pub mod_list_fit : (bags : List Bagged) → AllByRecursion FitsBagged bags → AllByRecursion FitsModulator (mod_list bags)
 unfolding mod_list

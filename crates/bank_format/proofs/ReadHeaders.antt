@@ -69,8 +69,8 @@ module _ (at : Level) where
   target_fits : (rs : List Generator) → AllByRecursion FitsGenerator rs → (t : ℕ) → target_of at rs ≡ Some t → t < 2 ^ 16
   target_fits [] v t e = absurd cc
   target_fits (r ∷ rs) v t e =
-      elim (is_target at r) as (λ b. option_map (λ (x : Generator). x.word) (cond b (Some r) (find (is_target at) rs)) ≡ Some t → t < 2 ^ 16) [
-        | true ↦ λ h. (let same : r.word ≡ t = cc in let f = v.0.word in omega (arith, same, f))
+      elim (is_target at r) as (λ b. option_map (λ (x : Generator). x.amount) (cond b (Some r) (find (is_target at) rs)) ≡ Some t → t < 2 ^ 16) [
+        | true ↦ λ h. (let same : r.amount ≡ t = cc in let f = v.0.amount in omega (arith, same, f))
         | false ↦ λ h. target_fits rs v.1 t h
       ] e
 

@@ -47,7 +47,7 @@ abbrev pub one_for : Option ℕ → ℕ
 one_for target = cond (is_some target) 1 0
 
 abbrev entry_of : Generator → ℕ × ℕ
-entry_of r = (r.operator, r.word)
+entry_of r = (r.operator, r.amount)
 
 -- ---- the records that are kept
 
@@ -91,8 +91,8 @@ module _ (at : Level) where
 
   mended_is : (r : Generator) → IsAllowed r → IsGenerator at (entry_of (mended r))
   mended_is r a =
-      (elim (is_range r) as (λ b. is_range r ≡ b → IsGenerator at (entry_of (cond b (record { operator = r.operator; word = range_mended r.word }) r))) [
-        | true ↦ λ e. record { allowed = a; range = λ t. range_in_order r.word }
+      (elim (is_range r) as (λ b. is_range r ≡ b → IsGenerator at (entry_of (cond b (record { operator = r.operator; amount = range_mended r.amount }) r))) [
+        | true ↦ λ e. record { allowed = a; range = λ t. range_in_order r.amount }
         | false ↦ λ e. record { allowed = a; range = λ t. absurd (true_not_false (sym t ∙ e)) }
       ]) refl
     where
@@ -112,9 +112,9 @@ module _ (at : Level) where
   -- ---- numbers that fit
 
   mended_fits : (r : Generator) → FitsGenerator r → FitsEntry (entry_of (mended r))
-  mended_fits r f = elim (is_range r) as (λ b. FitsEntry (entry_of (cond b (record { operator = r.operator; word = range_mended r.word }) r))) [
-    | true ↦ (f.operator, small r.word)
-    | false ↦ (f.operator, f.word)
+  mended_fits r f = elim (is_range r) as (λ b. FitsEntry (entry_of (cond b (record { operator = r.operator; amount = range_mended r.amount }) r))) [
+    | true ↦ (f.operator, small r.amount)
+    | false ↦ (f.operator, f.amount)
   ]
     where
       small : (w : ℕ) → range_mended w < 2 ^ 16
@@ -134,7 +134,7 @@ module _ (at : Level) where
   length-before [] = omega arith
   length-before (r ∷ rs) =
       let rest = length-before rs in
-      elim (is_target at r) as (λ b. length (cond b [] (r ∷ before_target at rs)) + one_for (option_map (λ (x : Generator). x.word) (cond b (Some r) (find (is_target at) rs))) ≤ suc (length rs)) [
+      elim (is_target at r) as (λ b. length (cond b [] (r ∷ before_target at rs)) + one_for (option_map (λ (x : Generator). x.amount) (cond b (Some r) (find (is_target at) rs))) ≤ suc (length rs)) [
         | true ↦ omega arith
         | false ↦ omega (arith, rest)
       ]

@@ -109,7 +109,7 @@ module _ (at : Level) where
 
 -- ---- the map
 
-pairs-again : (es : Entries) → map (λ (r : Generator). (r.operator, r.word)) (spelled es) ≡ es
+pairs-again : (es : Entries) → map (λ (r : Generator). (r.operator, r.amount)) (spelled es) ≡ es
 pairs-again [] = refl
 pairs-again (e ∷ es) = ap (λ (xs : Entries). e ∷ xs) (pairs-again es)
 

@@ -44,7 +44,7 @@ abbrev pub modulator_end : Modulator
 modulator_end = record { source = 0; dest = 0; amount = pos 0; amount_source = 0; transform = 0 }
 
 abbrev pub generator_end : Generator
-generator_end = record { operator = 0; word = 0 }
+generator_end = record { operator = 0; amount = 0 }
 
 abbrev pub sample_end : SampleHead
 sample_end = record { name = filled EOS; start = 0; end = 0; loop_start = 0; loop_end = 0; rate = 0; key = 0; correction = pos 0; link = 0; kind = 0 }

@@ -21,7 +21,7 @@ pub record Bagged : Type 0 where
 -- ---- written
 
 abbrev pub generator : ℕ → ℕ → Generator
-generator op w = record { operator = op; word = w }
+generator op w = record { operator = op; amount = w }
 
 -- in canonical order, which is the order of the map
 abbrev pub gens_written : Gens → List Generator
@@ -43,9 +43,9 @@ bags_written at g zs = global_written g ++ map (zone_written at) zs
 abbrev pub is_target : Level → Generator → Bool
 is_target at r = r.operator == target_operator at
 
--- the word of the first target
+-- the amount of the first target
 abbrev pub target_of : Level → List Generator → Option ℕ
-target_of at rs = option_map (λ (r : Generator). r.word) (find (is_target at) rs)
+target_of at rs = option_map (λ (r : Generator). r.amount) (find (is_target at) rs)
 
 -- the records up to the first target
 abbrev pub before_target : Level → List Generator → List Generator
@@ -80,10 +80,10 @@ abbrev pub range_mended : ℕ → ℕ
 range_mended w = in_order (cut_end (w % 256)) (cut_end (w / 256))
 
 abbrev pub mended : Generator → Generator
-mended r = if is_range r then record { operator = r.operator; word = range_mended r.word } else r
+mended r = if is_range r then record { operator = r.operator; amount = range_mended r.amount } else r
 
 abbrev pub gens_of : List Generator → Gens
-gens_of rs = from_entries (map (λ (r : Generator). (r.operator, r.word)) rs)
+gens_of rs = from_entries (map (λ (r : Generator). (r.operator, r.amount)) rs)
 
 abbrev pub gens_read : Level → List Generator → Gens
 gens_read at rs = gens_of (map mended (kept at rs))
@@ -128,7 +128,7 @@ dropped at rs = length rs - (length (kept at rs) + (if is_some (target_of at rs)
 
 -- the kept ranges that are not in order
 abbrev pub is_mended : Generator → Bool
-is_mended r = is_range r && not (range_mended r.word == r.word)
+is_mended r = is_range r && not (range_mended r.amount == r.amount)
 
 unfoldable pub gens_dropped : Level → List Bagged → ℕ
 gens_dropped at bags = sum_by (λ (r : Bagged). dropped at r.gens) (looked_at at bags)

@@ -21,7 +21,7 @@ use Rattle.bank_parts.specs.declared.parts.Parts.{Parts}
 
 -- ---- zones
 
--- an operator that the level allows, and a word, which is a range where the operator asks for one
+-- an operator that the level allows, and an amount, which is a range where the operator asks for one
 pub record IsGenerator (at : Level) (e : ℕ × ℕ) : Type 0 where
   pub allowed : is_allowed at e.0 ≡ true
   pub range : is_range_operator e.0 ≡ true → IsRange e.1

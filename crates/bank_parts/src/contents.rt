@@ -101,6 +101,6 @@ fn sets_bad_range(gens: &GenMap) -> bool
 fn is_bad_range(entry: (u16, u16)) -> bool
     ensures { result ≡ is_bad_range entry }
 {
-    let (operator, word) = entry;
-    is_range_operator(operator) && !Range::of_word(word).is_valid()
+    let (operator, amount) = entry;
+    is_range_operator(operator) && !Range::of_amount(amount).is_valid()
 }

@@ -114,8 +114,8 @@ impl<H> Owners<H> {
         self.zone(i, k).target
     }
 
-    /// The generators of a place of number `i`, both of which are there: each operator with its word, in
-    /// the order in which a file has them.
+    /// The generators of a place of number `i`, both of which are there: each operator with its amount,
+    /// in the order in which a file has them.
     pub fn entries(&self, i: usize, place: ZonePlace) -> &[(u16, u16)]
         requires { HasPlace self.now i place }
         ensures value { entries_at self.now i place ≡ Some result.now }
@@ -160,9 +160,9 @@ impl<H> Owners<H> {
         }
     }
 
-    /// The word of an operator in a place of number `i`, both of which are there; none where it is not
+    /// The amount of an operator in a place of number `i`, both of which are there; none where it is not
     /// set.
-    pub fn word(&self, i: usize, place: ZonePlace, operator: u16) -> Option<u16>
+    pub fn amount(&self, i: usize, place: ZonePlace, operator: u16) -> Option<u16>
         requires { HasPlace self.now i place }
         ensures { IfSome (gens_at self.now i place) (λ gens. result ≡ get gens operator) }
     {

@@ -100,7 +100,7 @@ module _ (P : ℕ × ℕ → Type 0) where
 
 -- ---- entries in any order
 
--- one more than the word that is found, or 0
+-- one more than the amount that is found, or 0
 code : Option ℕ → ℕ
 code None = 0
 code (Some w) = suc w
@@ -112,7 +112,7 @@ same_code None (Some w) e = absurd (omega arith)
 same_code (Some v) None e = absurd (omega arith)
 same_code (Some v) (Some w) e = ap Some (omega arith)
 
--- how often an operator stands, and the codes of its words together
+-- how often an operator stands, and the codes of its amounts together
 times : ℕ → Entries → ℕ
 times op es = sum_by (λ (e : ℕ × ℕ). if tied op e.0 then 1 else 0) es
 

@@ -1,4 +1,4 @@
--- The generators of a zone: a finite map from operators to words, whose order is the canonical one.
+-- The generators of a zone: a finite map from operators to amounts, whose order is the canonical one.
 use Rattle.std.specs.Prelude.{ℕ, ◌+◌, ◌<◌, ◌^◌, ◌==◌, if◌then◌else◌, IsTrue, List, [], ◌∷◌}
 use Rattle.std.specs.List.{AllByRecursion, list_any}
 use Rattle.std.specs.Ordering.{nat_cmp}
@@ -29,7 +29,7 @@ abbrev pub last_of_each : List (ℕ × ℕ) → List (ℕ × ℕ)
 last_of_each [] = []
 last_of_each (e ∷ es) = if list_any (λ (x : ℕ × ℕ). x.0 == e.0) es then last_of_each es else e ∷ last_of_each es
 
--- an operator and a word of 16 bits each
+-- an operator and an amount of 16 bits each
 abbrev pub FitsEntry : ℕ × ℕ → Type 0
 FitsEntry e = (e.0 < 2 ^ 16) × (e.1 < 2 ^ 16)
 

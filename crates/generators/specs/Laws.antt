@@ -54,7 +54,7 @@ EntriesGiveTheMap = (m : Gens) (es : List (ℕ × ℕ)) → IsPermutation (entri
 
 -- ---- one edit and its undoing
 
--- an operator that is set, set to another word and set back
+-- an operator that is set, set to another amount and set back
 abbrev pub SettingBackRestores : Type 0
 SettingBackRestores = (m : Gens) (op was w : ℕ) → get m op ≡ Some was → insert (insert m op w) op was ≡ m
 

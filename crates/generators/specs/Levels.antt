@@ -4,7 +4,7 @@ use Rattle.std.specs.List.{list_any}
 use Rattle.generators.specs.declared.level.Level.{Level}
 use Rattle.generators.specs.declared.level.Level.TheVariants.{Preset, Instrument}
 
--- the operator whose word is a zone's target
+-- the operator whose amount is a zone's target
 abbrev pub target_operator : Level → ℕ
 target_operator Preset = 41
 target_operator Instrument = 53

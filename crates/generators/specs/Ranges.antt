@@ -1,7 +1,7 @@
--- Ranges of keys and of velocities, as words.
+-- Ranges of keys and of velocities, as amounts.
 use Rattle.std.specs.Prelude.{ℕ, Bool, ◌≤◌, ◌/◌, ◌%◌, ◌==◌, ◌||◌}
 
--- the operators whose words are ranges
+-- the operators whose amounts are ranges
 abbrev pub is_range_operator : ℕ → Bool
 is_range_operator op = op == 43 || op == 44
 
@@ -11,4 +11,4 @@ AreEnds low high = (low ≤ high) × (high ≤ 127)
 
 -- the low byte is the low end, the high byte the high end
 abbrev pub IsRange : ℕ → Type 0
-IsRange word = AreEnds (word % 256) (word / 256)
+IsRange amount = AreEnds (amount % 256) (amount / 256)

@@ -9,7 +9,7 @@ use sf_base::OutOfMemory;
 use std::alloc::Global;
 use std::marker::Model;
 
-/// A finite map from operators to words, in the canonical order: `keyRange`, then `velRange`, then
+/// A finite map from operators to amounts, in the canonical order: `keyRange`, then `velRange`, then
 /// the other operators by rising number. In a file the ranges come first, so that it can be written
 /// in this order (SoundFont 2.04, section 8.1.2).
 #[derive(Debug, Drop)]
@@ -58,7 +58,7 @@ impl GenMap {
         self.entries.is_empty()
     }
 
-    /// The word of an operator, if it is set.
+    /// The amount of an operator, if it is set.
     pub fn get(&self, operator: u16) -> Option<u16>
         ensures { result ≡ map.get self.now operator }
     {
@@ -68,14 +68,14 @@ impl GenMap {
         }
     }
 
-    /// The operator and the word at this place of the canonical order, if there are so many.
+    /// The operator and the amount at this place of the canonical order, if there are so many.
     pub fn at(&self, index: usize) -> Option<(u16, u16)>
         ensures { result ≡ slice_get (map.entries self.now) index }
     {
         self.entries.get(index).copied()
     }
 
-    /// The operators that are set, each with its word, in canonical order.
+    /// The operators that are set, each with its amount, in canonical order.
     pub fn entries(&self) -> &[(u16, u16)]
         ensures all { result.now ≡ map.entries self.now }
         ensures fit { FitGens self.now }
@@ -83,28 +83,28 @@ impl GenMap {
         self.entries.as_slice()
     }
 
-    /// Sets an operator, and gives the word that it had. It needs memory only for an operator that is
+    /// Sets an operator, and gives the amount that it had. It needs memory only for an operator that is
     /// not set, and changes nothing where that is refused.
-    pub fn set(&mut self, operator: u16, word: u16) -> Result<Option<u16>, OutOfMemory>
+    pub fn set(&mut self, operator: u16, amount: u16) -> Result<Option<u16>, OutOfMemory>
         ensures was { IfOk result (λ was. was ≡ map.get self.old operator) }
-        ensures ok { OnOk result (self.new ≡ map.insert self.old operator word) }
+        ensures ok { OnOk result (self.new ≡ map.insert self.old operator amount) }
         ensures err { OnErr result (self.new ≡ self.old) }
         ensures needs_no_memory { IsSome (map.get self.old operator) → IsOk result }
     {
         match self.search(operator) {
             Ok(at) => {
                 let was = self.entries[at].1;
-                self.entries[at] = (operator, word);
+                self.entries[at] = (operator, amount);
                 Ok(Some(was))
             }
             Err(at) => {
-                self.entries.insert(at, (operator, word))?;
+                self.entries.insert(at, (operator, amount))?;
                 Ok(None)
             }
         }
     }
 
-    /// Clears an operator, and gives the word that it had. It needs no memory.
+    /// Clears an operator, and gives the amount that it had. It needs no memory.
     pub fn clear(&mut self, operator: u16) -> Option<u16>
         ensures was { result ≡ map.get self.old operator }
         ensures cleared { self.new ≡ map.remove self.old operator }

@@ -13,7 +13,7 @@ pub enum Level {
 impl Level {
     ghost use Rattle.generators.specs.Levels.{target_operator};
 
-    /// The operator whose word is the target of a zone: the number of an instrument, or of a sample.
+    /// The operator whose amount is the target of a zone: the number of an instrument, or of a sample.
     pub fn target_operator(self) -> u16
         ensures { result ≡ target_operator self }
     {

@@ -3,7 +3,7 @@ ghost use Rattle.std.specs.Prelude.{◌≡◌, ◌+◌, ◌*◌, ◌/◌, ◌%�
 ghost use Rattle.generators.specs.Ranges.{AreEnds};
 
 /// A range of keys or of velocities, both ends in it (SoundFont 2.04, section 8.1.2, `keyRange` and
-/// `velRange`). The ends may be in the wrong order or over 127, as any word of a file has ends:
+/// `velRange`). The ends may be in the wrong order or over 127, as any amount of a file has ends:
 /// `is_valid` tells.
 #[derive(Debug, Clone, Copy, PartialEq, Eq)]
 pub struct Range {
@@ -12,20 +12,20 @@ pub struct Range {
 }
 
 impl Range {
-    /// The ends that a word holds: the low one in its low byte.
-    pub fn of_word(word: u16) -> Range
-        ensures low { result.low ≡ word % 256 }
-        ensures high { result.high ≡ word / 256 }
+    /// The ends that an amount holds: the low one in its low byte.
+    pub fn of_amount(amount: u16) -> Range
+        ensures low { result.low ≡ amount % 256 }
+        ensures high { result.high ≡ amount / 256 }
     {
         Range {
-            low: (word % 256) as u8,
-            high: (word / 256) as u8,
+            low: (amount % 256) as u8,
+            high: (amount / 256) as u8,
         }
     }
 
-    /// The word that holds these ends.
-    pub fn to_word(self) -> u16
-        ensures word { result ≡ self.low + 256 * self.high }
+    /// The amount that holds these ends.
+    pub fn to_amount(self) -> u16
+        ensures amount { result ≡ self.low + 256 * self.high }
         ensures low { result % 256 ≡ self.low }
         ensures high { result / 256 ≡ self.high }
     {

@@ -38,7 +38,7 @@ pub fn allowed(operator: u16, level: Level) -> bool
     }
 }
 
-/// Whether the operator's word is a range of keys or of velocities.
+/// Whether the operator's amount is a range of keys or of velocities.
 pub fn is_range_operator(operator: u16) -> bool
     ensures { result ≡ is_range_operator operator }
 {

@@ -70,13 +70,13 @@ length-generator_bytes r f = refl
 pub generator_of-bytes : ReadsBack generator_of generator_bytes FitsGenerator
 unfolding generator_bytes generator_of
 generator_of-bytes r f =
-    let operator = little_number-reads_back 2 r.operator (little_bytes 2 r.word) f.operator in
-    let word = little_number-reads_back 2 r.word [] f.word in
-    λ i. record { operator = operator i; word = word i }
+    let operator = little_number-reads_back 2 r.operator (little_bytes 2 r.amount) f.operator in
+    let amount = little_number-reads_back 2 r.amount [] f.amount in
+    λ i. record { operator = operator i; amount = amount i }
 
 pub FitsGenerator-of : ReadFits 4 generator_of FitsGenerator
 unfolding generator_of
-FitsGenerator-of bytes b e = record { operator = field_at-lt 0 2 bytes b; word = field_at-lt 2 2 bytes b }
+FitsGenerator-of bytes b e = record { operator = field_at-lt 0 2 bytes b; amount = field_at-lt 2 2 bytes b }
 
 pub generator_lawful : IsLawful 4 generator_of generator_bytes FitsGenerator
 generator_lawful = is_lawful 4 generator_of generator_bytes FitsGenerator (lit< tt) length-generator_bytes generator_of-bytes FitsGenerator-of

@@ -26,7 +26,7 @@ pub record FitsBag (b : Bag) : Type 0 where
 -- a record of pgen or igen
 pub record FitsGenerator (g : Generator) : Type 0 where
   pub operator : g.operator < 2 ^ 16
-  pub word : g.word < 2 ^ 16
+  pub amount : g.amount < 2 ^ 16
 
 -- a record of inst
 pub record FitsInstrumentHead (h : InstrumentHead) : Type 0 where

@@ -74,11 +74,11 @@ modulator_bytes m = concat (
 
 -- what bytes hold
 unfoldable pub generator_of : List ℕ → Generator
-generator_of b = record { operator = field_at 0 2 b; word = field_at 2 2 b }
+generator_of b = record { operator = field_at 0 2 b; amount = field_at 2 2 b }
 
 -- what spells it
 unfoldable pub generator_bytes : Generator → List ℕ
-generator_bytes g = concat (little_bytes 2 g.operator ∷ little_bytes 2 g.word ∷ [])
+generator_bytes g = concat (little_bytes 2 g.operator ∷ little_bytes 2 g.amount ∷ [])
 
 -- ---- an instrument, in inst
 

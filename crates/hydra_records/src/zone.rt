@@ -61,7 +61,7 @@ pub struct Generator {
 
     /// The 16 bits of its amount, `genAmount`: a signed number in the generator's unit, or a range
     /// with its low end in the low byte and its high end in the high byte.
-    pub word: u16,
+    pub amount: u16,
 }
 
 impl Record for Generator {
@@ -80,7 +80,7 @@ impl Record for Generator {
     fn read(bytes: &[u8]) -> Generator {
         Generator {
             operator: u16_at(bytes, 0),
-            word: u16_at(bytes, 2),
+            amount: u16_at(bytes, 2),
         }
     }
 }
@@ -94,7 +94,7 @@ impl Spelled<4> for Generator {
     fn put(&self) -> [u8; 4] {
         Spelling::new()
             .with_u16(self.operator)
-            .with_u16(self.word)
+            .with_u16(self.amount)
             .whole()
     }
 }

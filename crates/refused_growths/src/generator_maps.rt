@@ -3,7 +3,7 @@ use crate::outcome::Outcome;
 use generators::GenMap;
 use std::alloc::Global;
 
-// Operators and words in the order in which they are set, and in canonical order.
+// Operators and amounts in the order in which they are set, and in canonical order.
 static SETTINGS: [(u16, u16); 6] = [(17, 1), (58, 2), (43, 3), (5, 4), (44, 5), (48, 6)];
 
 static ENTRIES: [(u16, u16); 6] = [(43, 3), (44, 5), (5, 4), (17, 1), (48, 6), (58, 2)];
@@ -31,13 +31,13 @@ pub(crate) fn generators_copy(alloc: Global) -> Outcome {
 fn all_set(alloc: Global) -> (GenMap, Outcome) {
     let mut gens = GenMap::new(alloc);
     let mut outcome = Outcome::Done;
-    for (operator, word) in SETTINGS {
+    for (operator, amount) in SETTINGS {
         let len = gens.len();
-        if gens.set(operator, word).is_ok() {
+        if gens.set(operator, amount).is_ok() {
             continue;
         }
         let unchanged = gens.len() == len && gens.get(operator).is_none();
-        outcome = outcome.and(Outcome::refused(unchanged && gens.set(operator, word).is_ok()));
+        outcome = outcome.and(Outcome::refused(unchanged && gens.set(operator, amount).is_ok()));
     }
     (gens, outcome)
 }

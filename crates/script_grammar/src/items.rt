@@ -101,7 +101,7 @@ fn amount(operator: u16, line: &mut Cursor<'_, '_>) -> Result<u16, LineFault>
 {
     if is_range_operator(operator) {
         let (low, high) = line.range()?;
-        Ok(Range { low, high }.to_word())
+        Ok(Range { low, high }.to_amount())
     } else {
         let number = line.signed(32767)? as i16;
         Ok(number.cast_unsigned())

@@ -92,7 +92,7 @@ fn amount_piece(operator: u16, amount: u16) -> Piece<'static>
     ensures { result ≡ piece_of (amount_operand operator amount) }
 {
     if is_range_operator(operator) {
-        let Range { low, high } = Range::of_word(amount);
+        let Range { low, high } = Range::of_amount(amount);
         Piece::Range(low, high)
     } else {
         Piece::Signed(i64::from(amount.cast_signed()))

@@ -87,7 +87,7 @@ mods_at ms i d bytes lt spelled =
 abbrev as_generators : List (ℕ × ℕ) → List Generator
 as_generators es = map (λ e. generator e.0 e.1) es
 
--- the same of operators and words
+-- the same of operators and amounts
 pub entries_at : (es : List (ℕ × ℕ)) (i : ℕ) (bytes : List ℕ) → i < length es → bytes ≡ generator_bytes (generator (get_or es i (0, 0)).0 (get_or es i (0, 0)).1)
     → flat_map generator_bytes (as_generators (drop i es)) ≡ bytes ++ flat_map generator_bytes (as_generators (drop (i + 1) es))
 entries_at es i bytes lt spelled =

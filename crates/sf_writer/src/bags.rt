@@ -17,7 +17,7 @@ use std::marker::Model;
 /// What a bag holds.
 #[derive(Drop)]
 pub(crate) struct BagView<'a> {
-    /// Operators and words, in canonical order.
+    /// Operators and amounts, in canonical order.
     pub(crate) entries: &'a [(u16, u16)],
     /// The last generator. A global zone has none.
     pub(crate) target: Option<Generator>,
@@ -47,7 +47,7 @@ impl<'a> BagView<'a> {
             entries: owners.entries(i, ZonePlace::Zone(k)),
             target: Some(Generator {
                 operator: H::LEVEL.target_operator(),
-                word: owners.target(i, k),
+                amount: owners.target(i, k),
             }),
             mods: owners.mods(i, ZonePlace::Zone(k)),
         }

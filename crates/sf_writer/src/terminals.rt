@@ -44,6 +44,6 @@ pub(crate) fn generator_end() -> Generator
 {
     Generator {
         operator: 0,
-        word: 0,
+        amount: 0,
     }
 }

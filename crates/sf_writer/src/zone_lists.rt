@@ -129,14 +129,14 @@ fn put_gens_of<W: Write>(output: &mut Output<'_, W>, bag: &BagView<'_>)
     }
 }
 
-// Operators and words as generators.
+// Operators and amounts as generators.
 #[tactic(auto, using(outputs::proofs::OutputLaws::putting_start, outputs::proofs::OutputLaws::putting_end))]
 fn put_entries<W: Write>(output: &mut Output<'_, W>, entries: &[(u16, u16)])
     ensures { Puts W.contents output.old output.new
         (flat_map generator_bytes (map (λ e. generator e.0 e.1) entries.now)) }
 {
-    for &(operator, word) in entries {
-        output.put(&Generator { operator, word }.put());
+    for &(operator, amount) in entries {
+        output.put(&Generator { operator, amount }.put());
     }
 }
 

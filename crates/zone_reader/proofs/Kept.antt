@@ -56,7 +56,7 @@ length-before_target : (at : Level) (rs : List Generator) → length (before_tar
 length-before_target at [] = omega arith
 length-before_target at (r ∷ rs) =
     let rest = length-before_target at rs in
-    elim (is_target at r) as (λ t. length (cond t [] (r ∷ before_target at rs)) + one_if (is_some (option_map (λ (x : Generator). x.word) (cond t (Some r) (find (is_target at) rs)))) ≤ length (r ∷ rs)) [
+    elim (is_target at r) as (λ t. length (cond t [] (r ∷ before_target at rs)) + one_if (is_some (option_map (λ (x : Generator). x.amount) (cond t (Some r) (find (is_target at) rs)))) ≤ length (r ∷ rs)) [
       | true ↦ omega arith
       | false ↦ omega (arith, rest)
     ]

@@ -14,21 +14,21 @@ use Rattle.hydra_records.specs.declared.zone.Generator.{Generator}
 use Rattle.bank_format.specs.Zones.{last_of_each, gens_of, mended, is_mended, range_mended}
 use Rattle.zone_reader.specs.Gens.{entry_of, one_if, is_out_of_order, mended_at}
 
--- ---- the words
+-- ---- the amounts
 
-abbrev word_mended : ℕ → ℕ → ℕ
-word_mended op w = cond (is_range_operator op) (range_mended w) w
+abbrev amount_mended : ℕ → ℕ → ℕ
+amount_mended op w = cond (is_range_operator op) (range_mended w) w
 
-entry_mended : (r : Generator) → entry_of (mended r) ≡ (r.operator, word_mended r.operator r.word)
-entry_mended r = elim (is_range_operator r.operator) as (λ b. entry_of (cond b (record { operator = r.operator; word = range_mended r.word }) r) ≡ (r.operator, cond b (range_mended r.word) r.word)) [ true ↦ refl | false ↦ refl ]
+entry_mended : (r : Generator) → entry_of (mended r) ≡ (r.operator, amount_mended r.operator r.amount)
+entry_mended r = elim (is_range_operator r.operator) as (λ b. entry_of (cond b (record { operator = r.operator; amount = range_mended r.amount }) r) ≡ (r.operator, cond b (range_mended r.amount) r.amount)) [ true ↦ refl | false ↦ refl ]
 
-find-mended : (q : ℕ) (rs : List Generator) → find operator_cmp q (map entry_of (map mended rs)) ≡ option_map (word_mended q) (find operator_cmp q (map entry_of rs))
+find-mended : (q : ℕ) (rs : List Generator) → find operator_cmp q (map entry_of (map mended rs)) ≡ option_map (amount_mended q) (find operator_cmp q (map entry_of rs))
 find-mended q [] = refl
 find-mended q (r ∷ rs) =
     let rest = find-mended q rs in
     ap (λ (e : ℕ × ℕ). find operator_cmp q (e ∷ map entry_of (map mended rs))) (entry_mended r)
-    ∙ elim (tied q r.operator) as (λ t. tied q r.operator ≡ t → cond t (Some (word_mended r.operator r.word)) (find operator_cmp q (map entry_of (map mended rs))) ≡ option_map (word_mended q) (cond t (Some r.word) (find operator_cmp q (map entry_of rs)))) [
-      | true ↦ λ t. ap (λ (op : ℕ). Some (word_mended op r.word)) (sym (tied_is_same q r.operator t))
+    ∙ elim (tied q r.operator) as (λ t. tied q r.operator ≡ t → cond t (Some (amount_mended r.operator r.amount)) (find operator_cmp q (map entry_of (map mended rs))) ≡ option_map (amount_mended q) (cond t (Some r.amount) (find operator_cmp q (map entry_of rs)))) [
+      | true ↦ λ t. ap (λ (op : ℕ). Some (amount_mended op r.amount)) (sym (tied_is_same q r.operator t))
       | false ↦ λ t. rest
     ] refl
 
@@ -51,16 +51,16 @@ option_map-same : (f : ℕ → ℕ) → ((w : ℕ) → f w ≡ w) → (o : Optio
 option_map-same f same None = refl
 option_map-same f same (Some w) = ap Some (same w)
 
-other_word : (q w : ℕ) → q ≢ 43 → q ≢ 44 → word_mended q w ≡ w
-other_word q w n k = rw (ne_eqb q 43 n, ne_eqb q 44 k) refl
+other_amount : (q w : ℕ) → q ≢ 43 → q ≢ 44 → amount_mended q w ≡ w
+other_amount q w n k = rw (ne_eqb q 43 n, ne_eqb q 44 k) refl
 
 -- the range of an operator that is one, or of none
-mended_word_at : (q : ℕ) (o : Option ℕ) → cond (tied q 44) (option_map range_mended (cond (tied q 43) (option_map range_mended o) o)) (cond (tied q 43) (option_map range_mended o) o) ≡ option_map (word_mended q) o
-mended_word_at q o = elim (cases_eq q 43) [
+mended_amount_at : (q : ℕ) (o : Option ℕ) → cond (tied q 44) (option_map range_mended (cond (tied q 43) (option_map range_mended o) o)) (cond (tied q 43) (option_map range_mended o) o) ≡ option_map (amount_mended q) o
+mended_amount_at q o = elim (cases_eq q 43) [
   | inl e ↦ rw e refl
   | inr n ↦ elim (cases_eq q 44) [
     | inl e ↦ rw e refl
-    | inr k ↦ rw (untied q 43 n, untied q 44 k) (sym (option_map-same (word_mended q) (λ w. other_word q w n k) o))
+    | inr k ↦ rw (untied q 43 n, untied q 44 k) (sym (option_map-same (amount_mended q) (λ w. other_amount q w n k) o))
   ]
 ]
 
@@ -73,8 +73,8 @@ mended_gens rs =
     same_gens (mended_at 44 (mended_at 43 m)) (gens_of (map mended rs)) (λ q.
     get-mended_at 44 q (mended_at 43 m)
     ∙ ap (λ (o : Option ℕ). cond (tied q 44) (option_map range_mended o) o) (get-mended_at 43 q m)
-    ∙ mended_word_at q (get m q)
-    ∙ ap (option_map (word_mended q)) (get-gens_of rs q)
+    ∙ mended_amount_at q (get m q)
+    ∙ ap (option_map (amount_mended q)) (get-gens_of rs q)
     ∙ sym (get-gens_of (map mended rs) q ∙ find-mended q rs))
 
 -- ---- how many
@@ -84,17 +84,17 @@ changes w = not (eqb (range_mended w) w)
 
 -- a range of this operator that is not in order
 abbrev changes_at : ℕ → Generator → Bool
-changes_at op r = eqb r.operator op && changes r.word
+changes_at op r = eqb r.operator op && changes r.amount
 
-abbrev word_changes : Option ℕ → Bool
-word_changes o = elim o [ None ↦ false | Some w ↦ changes w ]
+abbrev amount_changes : Option ℕ → Bool
+amount_changes o = elim o [ None ↦ false | Some w ↦ changes w ]
 
 count_by-cons : (p : Generator → Bool) (r : Generator) (rs : List Generator) → count_by p (r ∷ rs) ≡ one_if (p r) + count_by p rs
 count_by-cons p r rs = sum_by-cons (λ x. cond (p x) 1 0) r rs
 
 either_range : (r : Generator) → one_if (is_mended r) ≡ one_if (changes_at 43 r) + one_if (changes_at 44 r)
 either_range r = elim (cases_eq r.operator 43) [
-  | inl e ↦ rw e (elim (changes r.word) as (λ b. one_if b ≡ one_if b + 0) [ true ↦ refl | false ↦ refl ])
+  | inl e ↦ rw e (elim (changes r.amount) as (λ b. one_if b ≡ one_if b + 0) [ true ↦ refl | false ↦ refl ])
   | inr n ↦
       let keys : one_if (changes_at 43 r) ≡ 0 = rw (ne_eqb r.operator 43 n) refl in
       let either : one_if (is_mended r) ≡ one_if (changes_at 44 r) = rw (ne_eqb r.operator 43 n) refl in
@@ -121,24 +121,24 @@ none_changes op (r ∷ rs) e =
           ]
     ] refl e
 
-changes_found : (op : ℕ) (rs : List Generator) → count_by (changes_at op) (last_of_each rs) ≡ one_if (word_changes (find operator_cmp op (map entry_of (last_of_each rs))))
+changes_found : (op : ℕ) (rs : List Generator) → count_by (changes_at op) (last_of_each rs) ≡ one_if (amount_changes (find operator_cmp op (map entry_of (last_of_each rs))))
 changes_found op [] = refl
 changes_found op (r ∷ rs) =
     let lasts = last_of_each rs in
     let rest = changes_found op rs in
-    elim (list_any (λ (x : Generator). eqb x.operator r.operator) rs) as (λ s. list_any (λ (x : Generator). eqb x.operator r.operator) rs ≡ s → count_by (changes_at op) (cond s lasts (r ∷ lasts)) ≡ one_if (word_changes (find operator_cmp op (map entry_of (cond s lasts (r ∷ lasts)))))) [
+    elim (list_any (λ (x : Generator). eqb x.operator r.operator) rs) as (λ s. list_any (λ (x : Generator). eqb x.operator r.operator) rs ≡ s → count_by (changes_at op) (cond s lasts (r ∷ lasts)) ≡ one_if (amount_changes (find operator_cmp op (map entry_of (cond s lasts (r ∷ lasts)))))) [
       | true ↦ λ s. rest
       | false ↦ λ s.
           let whole = count_by-cons (changes_at op) r lasts in
           elim (cases_eq r.operator op) [
             | inl e ↦
                 let others : count_by (changes_at op) lasts ≡ 0 = rw (← e) (none_changes r.operator rs s) in
-                let here : one_if (changes_at op r) ≡ one_if (changes r.word) = rw (eq-eqb r.operator op e) refl in
-                let found : one_if (word_changes (find operator_cmp op (map entry_of (r ∷ lasts)))) ≡ one_if (changes r.word) = rw (e, tied_same op) refl in
+                let here : one_if (changes_at op r) ≡ one_if (changes r.amount) = rw (eq-eqb r.operator op e) refl in
+                let found : one_if (amount_changes (find operator_cmp op (map entry_of (r ∷ lasts)))) ≡ one_if (changes r.amount) = rw (e, tied_same op) refl in
                 omega (arith, others, whole, here, found)
             | inr n ↦
                 let here : one_if (changes_at op r) ≡ 0 = rw (ne_eqb r.operator op n) refl in
-                let found : one_if (word_changes (find operator_cmp op (map entry_of (r ∷ lasts)))) ≡ one_if (word_changes (find operator_cmp op (map entry_of lasts))) = rw (untied op r.operator (λ k. n (sym k))) refl in
+                let found : one_if (amount_changes (find operator_cmp op (map entry_of (r ∷ lasts)))) ≡ one_if (amount_changes (find operator_cmp op (map entry_of lasts))) = rw (untied op r.operator (λ k. n (sym k))) refl in
                 omega (arith, rest, whole, here, found)
           ]
     ] refl
@@ -146,10 +146,10 @@ changes_found op (r ∷ rs) =
 pub mended_count : (rs : List Generator) → one_if (is_out_of_order 43 (gens_of (last_of_each rs))) + one_if (is_out_of_order 44 (gens_of (last_of_each rs))) ≡ count_by is_mended (last_of_each rs)
 mended_count rs =
     let lasts = last_of_each rs in
-    let keys : one_if (is_out_of_order 43 (gens_of lasts)) ≡ count_by (changes_at 43) lasts = ap (λ (o : Option ℕ). one_if (word_changes o)) (get-gens_of lasts 43) ∙ sym (changes_found 43 rs) in
-    let velocities : one_if (is_out_of_order 44 (gens_of lasts)) ≡ count_by (changes_at 44) lasts = ap (λ (o : Option ℕ). one_if (word_changes o)) (get-gens_of lasts 44) ∙ sym (changes_found 44 rs) in
+    let keys : one_if (is_out_of_order 43 (gens_of lasts)) ≡ count_by (changes_at 43) lasts = ap (λ (o : Option ℕ). one_if (amount_changes o)) (get-gens_of lasts 43) ∙ sym (changes_found 43 rs) in
+    let velocities : one_if (is_out_of_order 44 (gens_of lasts)) ≡ count_by (changes_at 44) lasts = ap (λ (o : Option ℕ). one_if (amount_changes o)) (get-gens_of lasts 44) ∙ sym (changes_found 44 rs) in
     omega (arith, keys, velocities, both_ranges lasts)
 
 -- the key range doesn't matter to the velocity range
 pub second_range : (m : Gens) → is_out_of_order 44 (mended_at 43 m) ≡ is_out_of_order 44 m
-second_range m = ap word_changes (get-mended_at 43 44 m)
+second_range m = ap amount_changes (get-mended_at 43 44 m)

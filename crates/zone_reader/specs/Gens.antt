@@ -13,7 +13,7 @@ gens_read_of at rs = record { gens = gens_read at rs; target = target_of at rs; 
 -- ---- the way there
 
 abbrev pub entry_of : Generator → ℕ × ℕ
-entry_of r = (r.operator, r.word)
+entry_of r = (r.operator, r.amount)
 
 -- the settings up to the target that the level allows, in their order
 abbrev pub entries_in : Level → List Generator → List (ℕ × ℕ)

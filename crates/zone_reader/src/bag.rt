@@ -20,7 +20,7 @@ const HIGHEST: u8 = 127;
 pub(crate) struct GensRead {
     /// The generators that are kept, with their ranges mended.
     pub(crate) gens: GenMap,
-    /// The word of the first target.
+    /// The amount of the first target.
     pub(crate) target: Option<u16>,
     /// How many records are neither kept nor the target.
     pub(crate) dropped: u64,
@@ -62,10 +62,10 @@ fn set_gens(
 {
     for record in records.iter() {
         if record.operator == level.target_operator() {
-            return Ok(Some(record.word));
+            return Ok(Some(record.amount));
         }
         if allowed(record.operator, level) {
-            gens.set(record.operator, record.word)?;
+            gens.set(record.operator, record.amount)?;
         }
     }
     Ok(None)
@@ -86,19 +86,19 @@ fn mend_range(gens: &mut GenMap, operator: u16) -> bool
     ensures changed { result ≡ is_out_of_order operator gens.old }
     ensures mended { gens.new ≡ mended_at operator gens.old }
 {
-    let Some(word) = gens.get(operator) else {
+    let Some(amount) = gens.get(operator) else {
         return false;
     };
-    let mended = mended_word(word);
+    let mended = mended_amount(amount);
     gens.set(operator, mended).unwrap();
-    mended != word
+    mended != amount
 }
 
 // A range whose ends are cut to the highest and put in order.
-fn mended_word(word: u16) -> u16
-    ensures { result ≡ range_mended word }
+fn mended_amount(amount: u16) -> u16
+    ensures { result ≡ range_mended amount }
 {
-    let Range { low, high } = Range::of_word(word);
+    let Range { low, high } = Range::of_amount(amount);
     let (low, high) = (low.min(HIGHEST), high.min(HIGHEST));
     let range = if low <= high {
         Range { low, high }
@@ -108,7 +108,7 @@ fn mended_word(word: u16) -> u16
             high: low,
         }
     };
-    range.to_word()
+    range.to_amount()
 }
 
 /// The modulators of a bag, in memory of just their size.

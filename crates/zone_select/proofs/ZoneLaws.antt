@@ -75,8 +75,8 @@ pub holds_told : (b : Parts) (n : Numbers) (o : Owner) (k : ℕ) → k < zones_i
 holds_told b n (owner.Preset p) k h = let s = zones_of_preset b p _ refl in preset_told b n p k _ refl (omega (arith, h, s))
 holds_told b n (owner.Instrument i) k h = let s = zones_of_instrument b i _ refl in instrument_told b n i k _ refl (omega (arith, h, s))
 
-pub contains_is : (r : Bool) (low high word x : ℕ) → low ≡ word % 256 → high ≡ word / 256 → (IsTrue r ↔ ((low ≤ x) × (x ≤ high))) → r ≡ within word x
-contains_is r low high word x l h e = rw (← l, ← h) (from r (nat_le low x) (nat_le x high) refl refl e)
+pub contains_is : (r : Bool) (low high amount x : ℕ) → low ≡ amount % 256 → high ≡ amount / 256 → (IsTrue r ↔ ((low ≤ x) × (x ≤ high))) → r ≡ within amount x
+contains_is r low high amount x l h e = rw (← l, ← h) (from r (nat_le low x) (nat_le x high) refl refl e)
   where
     from : (r s t : Bool) → nat_le low x ≡ s → nat_le x high ≡ t → (IsTrue r ↔ ((low ≤ x) × (x ≤ high))) → r ≡ (s && t)
     from true true true p q e = refl

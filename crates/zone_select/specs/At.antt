@@ -7,7 +7,7 @@ use Rattle.bank_core.specs.declared.members.Owner.TheVariants as owner
 use Rattle.bank_core.specs.declared.members.Place.{Place}
 use Rattle.bank_core.specs.declared.members.Place.TheVariants as place
 use Rattle.modulators.specs.declared.modulator.Modulator.{Modulator}
-use Rattle.bank_core.specs.Members.{word_of, mods_of}
+use Rattle.bank_core.specs.Members.{amount_of, mods_of}
 use Rattle.bank_parts.specs.declared.parts.Parts.{Parts}
 use Rattle.zone_select.specs.declared.amounts.PairAt.{PairAt}
 use Rattle.zone_select.specs.Taken.{Taken}
@@ -19,7 +19,7 @@ mods_at b o at = unwrap_or (mods_of b o at) []
 -- of zone k of an owner
 abbrev pub taken_at : Parts → Owner → ℕ → Taken
 taken_at b o k = record {
-  settings = λ op. cond (is_range_operator op) None (option_or (word_of b o (place.Zone k) op) (word_of b o place.Global op));
+  settings = λ op. cond (is_range_operator op) None (option_or (amount_of b o (place.Zone k) op) (amount_of b o place.Global op));
   mods = mods_at b o (place.Zone k);
   inherited = mods_at b o place.Global;
 }

@@ -13,9 +13,9 @@ whole_range = 32512
 abbrev pub range_of : GlobalZone → Zone → ℕ → ℕ
 range_of global z op = unwrap_or (get z.gens op) (unwrap_or (get global.gens op) whole_range)
 
--- a number lies in the range of a word
+-- a number lies in the range of an amount
 abbrev pub within : ℕ → ℕ → Bool
-within word x = nat_le (word % 256) x && nat_le x (word / 256)
+within amount x = nat_le (amount % 256) x && nat_le x (amount / 256)
 
 -- both ranges of a zone hold the note's own key and velocity
 unfoldable pub holds : Numbers → GlobalZone → Zone → Bool

@@ -7,11 +7,11 @@ use Rattle.modulators.specs.declared.modulator.Modulator.{Modulator}
 use Rattle.bank_parts.specs.declared.parts.GlobalZone.{GlobalZone}
 use Rattle.bank_parts.specs.declared.parts.Zone.{Zone}
 
--- the zone's word, else its global zone's; a range is no amount
+-- the zone's amount, else its global zone's; none of a range
 unfoldable pub setting : GlobalZone → Zone → ℕ → Option ℕ
 setting global z op = cond (is_range_operator op) None (option_or (get z.gens op) (get global.gens op))
 
--- the words that hold for a zone, its own modulators, and those of its global zone
+-- the amounts that hold for a zone, its own modulators, and those of its global zone
 pub record Taken : Type 0 where
   pub settings : ℕ → Option ℕ
   pub mods : List Modulator

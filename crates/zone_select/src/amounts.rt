@@ -3,7 +3,7 @@ ghost use Rattle.std.specs.Prelude.{◌≡◌, ◌≤ℤ◌, pos, negsuc, false,
 ghost use Rattle.std.specs.Option.{option_or, option_map};
 ghost use Rattle.generators.specs.Ranges.{is_range_operator};
 ghost use Rattle.bank_core.specs.declared.members.Place.TheVariants as place;
-ghost use Rattle.bank_core.specs.Members.{word_of};
+ghost use Rattle.bank_core.specs.Members.{amount_of};
 ghost use Rattle.zone_select.specs.Amounts.{amount, last_like, modulator_like, modulator_amount};
 ghost use Rattle.zone_select.specs.At.{mods_at, taken_at, inner_at, outer_at};
 
@@ -20,17 +20,17 @@ pub(crate) struct PairAt {
     pub(crate) inner: u32,
 }
 
-// The word of an operator that holds for a zone: its own, else its global zone's.
-fn word_at(bank: &Bank<'_>, owner: Owner, zone: u32, operator: u16) -> Option<u16>
-    ensures { result ≡ option_or (word_of bank.now owner (place.Zone zone) operator) (word_of bank.now owner place.Global operator) }
+// The amount of an operator that holds for a zone: its own, else its global zone's.
+fn amount_at(bank: &Bank<'_>, owner: Owner, zone: u32, operator: u16) -> Option<u16>
+    ensures { result ≡ option_or (amount_of bank.now owner (place.Zone zone) operator) (amount_of bank.now owner place.Global operator) }
 {
     match bank.gen_of(owner, Place::Zone(zone), operator) {
-        Some(word) => Some(word),
+        Some(amount) => Some(amount),
         None => bank.gen_of(owner, Place::Global, operator),
     }
 }
 
-// The amount of an operator whose word is no range: the instrument's, and the preset's where presets
+// The amount of an operator that sets no range: the instrument's, and the preset's where presets
 // may have it.
 #[tactic(auto, unfolding(crate::specs::Amounts::amount))]
 pub(crate) fn amount(bank: &Bank<'_>, at: &PairAt, operator: u16) -> i32
@@ -38,12 +38,12 @@ pub(crate) fn amount(bank: &Bank<'_>, at: &PairAt, operator: u16) -> i32
     ensures value { result ≡ amount (inner_at bank.now at.now) (outer_at bank.now at.now) operator }
     ensures within { (negsuc 65535 ≤ℤ result) × (result ≤ℤ pos 65534) }
 {
-    let inner = match word_at(bank, Owner::Instrument(at.instrument), at.inner, operator) {
-        Some(word) => word.cast_signed(),
+    let inner = match amount_at(bank, Owner::Instrument(at.instrument), at.inner, operator) {
+        Some(amount) => amount.cast_signed(),
         None => default_of(operator).unwrap_or(0),
     };
     let outer = if allowed(operator, Level::Preset) {
-        word_at(bank, Owner::Preset(at.preset), at.outer, operator)
+        amount_at(bank, Owner::Preset(at.preset), at.outer, operator)
             .unwrap_or(0)
             .cast_signed()
     } else {

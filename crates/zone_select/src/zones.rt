@@ -29,11 +29,11 @@ fn range_at(bank: &Bank<'_>, owner: Owner, zone: u32, operator: u16) -> Range
     ensures low { result.low ≡ range_at bank.now owner zone operator % 256 }
     ensures high { result.high ≡ range_at bank.now owner zone operator / 256 }
 {
-    if let Some(word) = bank.gen_of(owner, Place::Zone(zone), operator) {
-        return Range::of_word(word);
+    if let Some(amount) = bank.gen_of(owner, Place::Zone(zone), operator) {
+        return Range::of_amount(amount);
     }
     match bank.gen_of(owner, Place::Global, operator) {
-        Some(word) => Range::of_word(word),
+        Some(amount) => Range::of_amount(amount),
         None => WHOLE_RANGE,
     }
 }
