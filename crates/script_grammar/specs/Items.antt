@@ -59,7 +59,7 @@ content_of items = with_items no_content items
 
 -- ---- how it is read
 
--- the amount of an operator, as a word
+-- the amount of an operator, as a word of 16 bits
 unfoldable pub amount : ℕ → Part ℕ
 amount operator =
     if is_range_operator operator then (range >>= λ ends. pure (ends.0 + 256 * ends.1))
