@@ -5,5 +5,7 @@ pub mod Members
 pub mod Samples
 pub mod Instruments
 pub mod Presets
+pub mod Zones
+pub mod Settings
 pub mod Texts
 pub mod Faults

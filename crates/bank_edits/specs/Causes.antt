@@ -1,19 +1,32 @@
 -- The tests that refuse an edit, each with the cause that it tells.
-use Rattle.std.specs.Prelude.{ℕ, ◌+◌, ◌==◌, ◌||◌, ◌&&◌, nat_le, nat_lt, Bool, false, Option, Some, None, List, [], ◌∷◌, length, if◌then◌else◌}
+use Rattle.std.specs.Prelude.{ℕ, ◌+◌, ◌==◌, ◌||◌, ◌&&◌, nat_le, nat_lt, not, Bool, false, Option, Some, None, List, [], ◌∷◌, length, slice_get, unwrap_or, if◌then◌else◌}
 use Rattle.std.specs.List.{list_any}
+use Rattle.std.specs.Option.{option_map_or, is_some}
 use Rattle.generators.specs.declared.level.Level.{Level}
+use Rattle.generators.specs.Levels.{is_allowed}
+use Rattle.modulators.specs.declared.modulator.Modulator.{Modulator}
+use Rattle.modulators.specs.Modulators.{is_link}
 use Rattle.bank_parts.specs.declared.texts.InfoId.{InfoId}
 use Rattle.bank_parts.specs.declared.parts.Kind.{Kind}
 use Rattle.bank_parts.specs.declared.parts.Kind.TheVariants.{Mono, Right, Left, Linked}
+use Rattle.bank_parts.specs.declared.parts.Zone.{Zone}
 use Rattle.bank_parts.specs.declared.parts.WithZones.{WithZones}
 use Rattle.bank_parts.specs.declared.parts.Sample.{Sample}
 use Rattle.bank_parts.specs.declared.parts.Parts.{Parts}
 use Rattle.bank_parts.specs.Texts.{most_bytes, is_engine}
-use Rattle.bank_parts.specs.Contents.{misses_target, has_foreign, has_bad_range}
+use Rattle.bank_parts.specs.Contents.{misses_target, sets_foreign, has_foreign, is_bad_range, sets_bad_range, has_bad_range}
+use Rattle.zone_ranges.specs.declared.axes.Axis.{Axis}
+use Rattle.zone_ranges.specs.declared.axes.Keep.{Keep}
+use Rattle.zone_ranges.specs.Splits.{splits, joins}
+use Rattle.bank_core.specs.declared.members.Owner.{Owner}
+use Rattle.bank_core.specs.declared.members.Owner.TheVariants as owner
+use Rattle.bank_core.specs.declared.members.Place.{Place}
+use Rattle.bank_core.specs.declared.members.Place.TheVariants as place
+use Rattle.bank_core.specs.Members.{own_zone_count, target_count, mods_of, amount_of}
 use Rattle.bank_core.specs.Instruments.{instrument_in_use}
 use Rattle.bank_core.specs.Samples.{sample_in_use}
 use Rattle.bank_edits.specs.declared.cause.Cause.{Cause}
-use Rattle.bank_edits.specs.declared.cause.Cause.TheVariants.{NoSuchPreset, NoSuchInstrument, NoSuchSample, BadPlace, InUse, BadGenerator, BadRange, BadLoop, BadText}
+use Rattle.bank_edits.specs.declared.cause.Cause.TheVariants.{NoSuchPreset, NoSuchInstrument, NoSuchSample, NoSuchZone, NoSuchModulator, BadPlace, InUse, BadGenerator, NotSet, BadRange, SplitOutside, NotJoinable, LinkedModulator, BadLoop, BadText}
 
 -- a cause of refusal, and whether it stands
 pub record Test : Type 0 where
@@ -40,7 +53,85 @@ no_such_instrument b instrument = test (nat_le (length b.instruments) instrument
 abbrev pub used_instrument : Parts → ℕ → Test
 used_instrument b instrument = test (instrument_in_use b instrument) InUse
 
+abbrev pub no_such_owner : Parts → Owner → Test
+no_such_owner b (owner.Preset p) = no_such_preset b p
+no_such_owner b (owner.Instrument i) = no_such_instrument b i
+
 -- ---- zones of a preset or an instrument
+
+-- how many an owner has, the global one not counted; none where there is no such owner
+abbrev pub zone_total : Parts → Owner → ℕ
+zone_total b o = unwrap_or (own_zone_count b o) 0
+
+abbrev pub no_such_zone : Parts → Owner → ℕ → Test
+no_such_zone b o k = test (nat_le (zone_total b o) k) NoSuchZone
+
+-- the global zone is always there
+abbrev pub no_such_zone_at : Parts → Owner → Place → Test
+no_such_zone_at b o place.Global = test false NoSuchZone
+no_such_zone_at b o (place.Zone k) = no_such_zone b o k
+
+-- the cause of a target that names no member
+abbrev pub target_cause : Owner → Cause
+target_cause (owner.Preset p) = NoSuchInstrument
+target_cause (owner.Instrument i) = NoSuchSample
+
+-- the target of one zone is past the members that its level may target
+abbrev pub no_such_target_of : Parts → Owner → ℕ → Test
+no_such_target_of b o target = test (nat_le (target_count b o) target) (target_cause o)
+
+-- one zone's operators and ranges
+
+abbrev pub bad_generators : Level → Zone → Test
+bad_generators at zone = test (sets_foreign at zone.gens) BadGenerator
+
+abbrev pub bad_ranges : Zone → Test
+bad_ranges zone = test (sets_bad_range zone.gens) BadRange
+
+-- not `lo < M <= hi` for the range that holds for the zone
+abbrev pub can_split : Parts → Owner → ℕ → Axis → ℕ → Bool
+can_split b (owner.Preset p) k axis m = option_map_or (λ x. splits axis m k x) (slice_get b.presets p) false
+can_split b (owner.Instrument i) k axis m = option_map_or (λ x. splits axis m k x) (slice_get b.instruments i) false
+
+abbrev pub split_outside : Parts → Owner → ℕ → Axis → ℕ → Test
+split_outside b o k axis m = test (not (can_split b o k axis m)) SplitOutside
+
+-- the zone and the next don't agree in all but their own ranges on the axis, or these are not neighbours,
+-- or a bare zone would have another range
+abbrev pub can_join : Parts → Owner → ℕ → Axis → Keep → Bool
+can_join b (owner.Preset p) k axis keep = option_map_or (λ x. joins axis keep k x) (slice_get b.presets p) false
+can_join b (owner.Instrument i) k axis keep = option_map_or (λ x. joins axis keep k x) (slice_get b.instruments i) false
+
+abbrev pub not_joinable : Parts → Owner → ℕ → Axis → Keep → Test
+not_joinable b o k axis keep = test (not (can_join b o k axis keep)) NotJoinable
+
+-- ---- generators and modulators of a place
+
+abbrev pub foreign_operator : Level → ℕ → Test
+foreign_operator at op = test (not (is_allowed at op)) BadGenerator
+
+-- a range without `low <= high <= 127`
+abbrev pub bad_amount : ℕ → ℕ → Test
+bad_amount op amount = test (is_bad_range (op, amount)) BadRange
+
+abbrev pub not_set : Parts → Owner → Place → ℕ → Test
+not_set b o at op = test (not (is_some (amount_of b o at op))) NotSet
+
+-- those of a place; none where there is no such place
+abbrev pub mods_there : Parts → Owner → Place → List Modulator
+mods_there b o at = unwrap_or (mods_of b o at) []
+
+abbrev pub no_such_modulator : Parts → Owner → Place → ℕ → Test
+no_such_modulator b o at j = test (nat_le (length (mods_there b o at)) j) NoSuchModulator
+
+-- a link changes its meaning with the numbers of the modulators beside it
+abbrev pub linked_place : Parts → Owner → Place → Test
+linked_place b o at = test (list_any is_link (mods_there b o at)) LinkedModulator
+
+abbrev pub linked_modulator : Parts → Owner → Place → Modulator → Test
+linked_modulator b o at m = test (list_any is_link (mods_there b o at) || is_link m) LinkedModulator
+
+-- ---- presets or instruments that are put in
 
 -- a zone's target is past so many members
 abbrev pub no_such_target : {H : Type 0} → ℕ → WithZones H → Cause → Test

@@ -1,31 +1,53 @@
 -- What a step does to a bank, when it is refused, and what takes it back: one line for each form.
-use Rattle.std.specs.Prelude.{ℕ, ◌<◌, ◌^◌, Option, List, [], ◌∷◌, length, slice_get}
+use Rattle.std.specs.Prelude.{ℕ, ◌<◌, ◌^◌, true, Option, List, [], ◌∷◌, length, slice_get, unwrap_or, ◌+◌}
 use Rattle.std.specs.Option.{option_map, option_map_or}
+use Rattle.modulators.specs.declared.modulator.Modulator.{Modulator}
+use Rattle.modulators.specs.Modulators.{FitsModulator}
 use Rattle.sf_base.specs.Names.{IsName}
 use Rattle.generators.specs.declared.level.Level.TheVariants as level
 use Rattle.bank_parts.specs.declared.parts.Head.{Head}
+use Rattle.bank_parts.specs.declared.parts.Zone.{Zone}
 use Rattle.bank_parts.specs.declared.parts.WithZones.{WithZones}
 use Rattle.bank_parts.specs.declared.parts.Sample.{Sample}
 use Rattle.bank_parts.specs.declared.parts.Parts.{Parts}
-use Rattle.bank_parts.specs.Fits.{FitsHead, FitsOwner, FitsSample, FitsText}
+use Rattle.bank_parts.specs.Fits.{FitsHead, FitsOwner, FitsZone, FitsSample, FitsText}
 use Rattle.bank_parts.specs.Texts.{text_of}
 use Rattle.bank_parts.specs.Limits.{broken_limit}
 use Rattle.bank_core.specs.Samples.{sample_renamed, sample_added, sample_removed, sample_moved}
 use Rattle.bank_core.specs.Instruments.{instrument_added, instrument_removed, instrument_renamed, instrument_moved}
-use Rattle.bank_core.specs.Presets.{preset_added, preset_removed, preset_moved}
+use Rattle.zone_ranges.specs.declared.axes.Axis.{Axis}
+use Rattle.zone_ranges.specs.Ranges.{low_end, own_range, whole_range}
+use Rattle.zone_ranges.specs.Splits.{keep_for}
+use Rattle.bank_core.specs.Presets.{preset_added, preset_removed, preset_moved, head_set}
+use Rattle.bank_core.specs.Zones.{zone_added, zone_removed, zone_moved, zone_split, zone_joined, target_set}
+use Rattle.bank_core.specs.Settings.{gen_set, gen_cleared, mod_added, mod_removed, mod_set}
+use Rattle.bank_core.specs.declared.members.Owner.{Owner}
+use Rattle.bank_core.specs.declared.members.Owner.TheVariants as owner
+use Rattle.bank_core.specs.declared.members.Place.{Place}
+use Rattle.bank_core.specs.declared.members.Place.TheVariants as place
 use Rattle.bank_core.specs.Texts.{info_set}
-use Rattle.bank_core.specs.Members.{instrument_name_of}
+use Rattle.bank_core.specs.Members.{head_of, instrument_name_of, level_of, zone_of, target_of, amount_of, mod_at}
 use Rattle.bank_edits.specs.declared.edit.Step.{Step}
-use Rattle.bank_edits.specs.declared.edit.Step.TheVariants.{AddPreset, RemovePreset, MovePreset, AddInstrument, RemoveInstrument, RenameInstrument, MoveInstrument, RenameSample, AddSample, RemoveSample, MoveSample, SetInfo}
+use Rattle.bank_edits.specs.declared.edit.Step.TheVariants.{AddPreset, RemovePreset, MovePreset, SetHead, AddInstrument, RemoveInstrument, RenameInstrument, MoveInstrument, RenameSample, AddSample, RemoveSample, MoveSample, AddZone, RemoveZone, MoveZone, SplitZone, JoinZone, SetTarget, SetGen, ClearGen, AddMod, RemoveMod, SetMod, SetInfo}
 use Rattle.bank_edits.specs.declared.cause.Cause.{Cause}
-use Rattle.bank_edits.specs.declared.cause.Cause.TheVariants.{NoSuchInstrument, NoSuchSample, Full}
-use Rattle.bank_edits.specs.Causes.{Test, first_cause, no_such_preset, no_such_instrument, no_such_sample, no_such_target, used_instrument, bad_generator, bad_range, no_such_link, used_sample, bad_place, no_such_place, bad_loop, bad_text}
+use Rattle.bank_edits.specs.declared.cause.Cause.TheVariants.{NoSuchInstrument, NoSuchSample, BadPlace, Full}
+use Rattle.bank_edits.specs.Causes.{Test, test, first_cause, no_such_preset, no_such_instrument, no_such_sample, no_such_target, used_instrument, bad_generator, bad_range, no_such_link, used_sample, bad_place, no_such_place, bad_loop, bad_text}
+
+-- numbers of 32 bits
+abbrev pub FitsNumberOf : Owner → Type 0
+FitsNumberOf (owner.Preset p) = p < 2 ^ 32
+FitsNumberOf (owner.Instrument i) = i < 2 ^ 32
+
+abbrev pub FitsPlace : Place → Type 0
+FitsPlace place.Global = Unit {0}
+FitsPlace (place.Zone k) = k < 2 ^ 32
 
 -- each number, name and text in the range of its field
 abbrev pub FitsStep : Step → Type 0
 FitsStep (AddPreset at preset) = (at < 2 ^ 32) × FitsOwner FitsHead preset
 FitsStep (RemovePreset preset) = preset < 2 ^ 32
 FitsStep (MovePreset from to) = (from < 2 ^ 32) × (to < 2 ^ 32)
+FitsStep (SetHead preset name number bank) = (preset < 2 ^ 32) × IsName name × (number < 2 ^ 16) × (bank < 2 ^ 16)
 FitsStep (AddInstrument at instrument) = (at < 2 ^ 32) × FitsOwner IsName instrument
 FitsStep (RemoveInstrument instrument) = instrument < 2 ^ 32
 FitsStep (RenameInstrument instrument name) = (instrument < 2 ^ 32) × IsName name
@@ -34,6 +56,17 @@ FitsStep (RenameSample sample name) = (sample < 2 ^ 32) × IsName name
 FitsStep (AddSample at sample) = (at < 2 ^ 32) × FitsSample sample
 FitsStep (RemoveSample sample) = sample < 2 ^ 32
 FitsStep (MoveSample from to) = (from < 2 ^ 32) × (to < 2 ^ 32)
+FitsStep (AddZone o at zone) = FitsNumberOf o × (at < 2 ^ 32) × FitsZone zone
+FitsStep (RemoveZone o zone) = FitsNumberOf o × (zone < 2 ^ 32)
+FitsStep (MoveZone o from to) = FitsNumberOf o × (from < 2 ^ 32) × (to < 2 ^ 32)
+FitsStep (SplitZone o zone axis at) = FitsNumberOf o × (zone < 2 ^ 32) × (at < 2 ^ 8)
+FitsStep (JoinZone o zone axis keep) = FitsNumberOf o × (zone < 2 ^ 32)
+FitsStep (SetTarget o zone target) = FitsNumberOf o × (zone < 2 ^ 32) × (target < 2 ^ 16)
+FitsStep (SetGen o at operator amount) = FitsNumberOf o × FitsPlace at × (operator < 2 ^ 16) × (amount < 2 ^ 16)
+FitsStep (ClearGen o at operator) = FitsNumberOf o × FitsPlace at × (operator < 2 ^ 16)
+FitsStep (AddMod o at index modulator) = FitsNumberOf o × FitsPlace at × (index < 2 ^ 32) × FitsModulator modulator
+FitsStep (RemoveMod o at index) = FitsNumberOf o × FitsPlace at × (index < 2 ^ 32)
+FitsStep (SetMod o at index modulator) = FitsNumberOf o × FitsPlace at × (index < 2 ^ 32) × FitsModulator modulator
 FitsStep (SetInfo id text) = FitsText text
 
 -- the bank after the step, where it is not refused
@@ -41,6 +74,7 @@ abbrev pub raw : Parts → Step → Parts
 raw b (AddPreset at preset) = preset_added b at preset
 raw b (RemovePreset preset) = preset_removed b preset
 raw b (MovePreset from to) = preset_moved b from to
+raw b (SetHead preset name number bank) = head_set b preset name number bank
 raw b (AddInstrument at instrument) = instrument_added b at instrument
 raw b (RemoveInstrument instrument) = instrument_removed b instrument
 raw b (RenameInstrument instrument name) = instrument_renamed b instrument name
@@ -49,7 +83,21 @@ raw b (RenameSample sample name) = sample_renamed b sample name
 raw b (AddSample at sample) = sample_added b at sample
 raw b (RemoveSample sample) = sample_removed b sample
 raw b (MoveSample from to) = sample_moved b from to
+raw b (AddZone o at zone) = zone_added b o at zone
+raw b (RemoveZone o zone) = zone_removed b o zone
+raw b (MoveZone o from to) = zone_moved b o from to
+raw b (SplitZone o zone axis at) = zone_split b o zone axis at
+raw b (JoinZone o zone axis keep) = zone_joined b o zone axis keep
+raw b (SetTarget o zone target) = target_set b o zone target
+raw b (SetGen o at operator amount) = gen_set b o at operator amount
+raw b (ClearGen o at operator) = gen_cleared b o at operator
+raw b (AddMod o at index modulator) = mod_added b o at index modulator
+raw b (RemoveMod o at index) = mod_removed b o at index
+raw b (SetMod o at index modulator) = mod_set b o at index modulator
 raw b (SetInfo id text) = info_set b id text
+
+abbrev not_yet : List Test
+not_yet = test true BadPlace ∷ []
 
 -- the causes that it can have, in the order of their numbers
 abbrev pub causes : Parts → Step → List Test
@@ -61,6 +109,7 @@ causes b (AddPreset at preset) =
     ∷ []
 causes b (RemovePreset preset) = no_such_preset b preset ∷ []
 causes b (MovePreset from to) = no_such_preset b from ∷ no_such_place (length b.presets) to ∷ []
+causes b (SetHead preset name number bank) = not_yet
 causes b (AddInstrument at instrument) =
     no_such_target (length b.samples) instrument NoSuchSample
     ∷ bad_place (length b.instruments) at
@@ -74,6 +123,17 @@ causes b (RenameSample sample name) = no_such_sample b sample ∷ []
 causes b (AddSample at sample) = no_such_link b sample.kind ∷ bad_place (length b.samples) at ∷ bad_loop sample ∷ []
 causes b (RemoveSample sample) = no_such_sample b sample ∷ used_sample b sample ∷ []
 causes b (MoveSample from to) = no_such_sample b from ∷ no_such_place (length b.samples) to ∷ []
+causes b (AddZone o at zone) = not_yet
+causes b (RemoveZone o zone) = not_yet
+causes b (MoveZone o from to) = not_yet
+causes b (SplitZone o zone axis at) = not_yet
+causes b (JoinZone o zone axis keep) = not_yet
+causes b (SetTarget o zone target) = not_yet
+causes b (SetGen o at operator amount) = not_yet
+causes b (ClearGen o at operator) = not_yet
+causes b (AddMod o at index modulator) = not_yet
+causes b (RemoveMod o at index) = not_yet
+causes b (SetMod o at index modulator) = not_yet
 causes b (SetInfo id text) = bad_text id text ∷ []
 
 -- Why it is refused, if it is: the cause of the first test that stands; where none does, the first
@@ -87,6 +147,8 @@ inverse b (AddPreset at preset) = RemovePreset at
 inverse b (RemovePreset preset) =
     option_map_or (λ (p : WithZones Head). AddPreset preset p) (slice_get b.presets preset) (RemovePreset preset)
 inverse b (MovePreset from to) = MovePreset to from
+inverse b (SetHead preset name number bank) =
+    option_map_or (λ (h : Head). SetHead preset h.name h.number h.bank) (head_of b preset) (SetHead preset name number bank)
 inverse b (AddInstrument at instrument) = RemoveInstrument at
 inverse b (RemoveInstrument instrument) =
     option_map_or (λ (i : WithZones (List ℕ)). AddInstrument instrument i) (slice_get b.instruments instrument) (RemoveInstrument instrument)
@@ -98,6 +160,18 @@ inverse b (RenameSample sample name) =
 inverse b (AddSample at sample) = RemoveSample at
 inverse b (RemoveSample sample) = option_map_or (λ (s : Sample). AddSample sample s) (slice_get b.samples sample) (RemoveSample sample)
 inverse b (MoveSample from to) = MoveSample to from
+inverse b (AddZone o at zone) = RemoveZone o at
+inverse b (RemoveZone o zone) = option_map_or (λ (z : Zone). AddZone o zone z) (zone_of b o zone) (RemoveZone o zone)
+inverse b (MoveZone o from to) = MoveZone o to from
+inverse b (SplitZone o zone axis at) = option_map_or (λ (z : Zone). JoinZone o zone axis (keep_for axis z)) (zone_of b o zone) (SplitZone o zone axis at)
+inverse b (JoinZone o zone axis keep) =
+    option_map_or (λ (z : Zone). SplitZone o zone axis (low_end (unwrap_or (own_range axis z) whole_range))) (zone_of b o (zone + 1)) (JoinZone o zone axis keep)
+inverse b (SetTarget o zone target) = option_map_or (λ (was : ℕ). SetTarget o zone was) (target_of b o zone) (SetTarget o zone target)
+inverse b (SetGen o at operator amount) = option_map_or (λ (was : ℕ). SetGen o at operator was) (amount_of b o at operator) (ClearGen o at operator)
+inverse b (ClearGen o at operator) = option_map_or (λ (was : ℕ). SetGen o at operator was) (amount_of b o at operator) (ClearGen o at operator)
+inverse b (AddMod o at index modulator) = RemoveMod o at index
+inverse b (RemoveMod o at index) = option_map_or (λ (m : Modulator). AddMod o at index m) (mod_at b o at index) (RemoveMod o at index)
+inverse b (SetMod o at index modulator) = option_map_or (λ (m : Modulator). SetMod o at index m) (mod_at b o at index) (SetMod o at index modulator)
 inverse b (SetInfo id text) = SetInfo id (text_of b.texts id)
 
 -- it grows nothing
@@ -105,6 +179,7 @@ abbrev pub GrowsNothing : Step → Type 0
 GrowsNothing (AddPreset at preset) = ⊥
 GrowsNothing (RemovePreset preset) = ⊥
 GrowsNothing (MovePreset from to) = Unit {0}
+GrowsNothing (SetHead preset name number bank) = Unit {0}
 GrowsNothing (AddInstrument at instrument) = ⊥
 GrowsNothing (RemoveInstrument instrument) = ⊥
 GrowsNothing (RenameInstrument instrument name) = Unit {0}
@@ -113,4 +188,15 @@ GrowsNothing (RenameSample sample name) = Unit {0}
 GrowsNothing (AddSample at sample) = ⊥
 GrowsNothing (RemoveSample sample) = ⊥
 GrowsNothing (MoveSample from to) = Unit {0}
+GrowsNothing (AddZone o at zone) = ⊥
+GrowsNothing (RemoveZone o zone) = ⊥
+GrowsNothing (MoveZone o from to) = ⊥
+GrowsNothing (SplitZone o zone axis at) = ⊥
+GrowsNothing (JoinZone o zone axis keep) = ⊥
+GrowsNothing (SetTarget o zone target) = Unit {0}
+GrowsNothing (SetGen o at operator amount) = ⊥
+GrowsNothing (ClearGen o at operator) = ⊥
+GrowsNothing (AddMod o at index modulator) = ⊥
+GrowsNothing (RemoveMod o at index) = ⊥
+GrowsNothing (SetMod o at index modulator) = ⊥
 GrowsNothing (SetInfo id text) = Unit {0}

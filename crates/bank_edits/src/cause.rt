@@ -14,6 +14,10 @@ pub enum Cause {
     NoSuchInstrument,
     #[error("there is no such sample")]
     NoSuchSample,
+    #[error("there is no such zone")]
+    NoSuchZone,
+    #[error("there is no such modulator")]
+    NoSuchModulator,
     /// A place past the end of the list, or for what is moved, past its last member.
     #[error("there is no such place")]
     BadPlace,
@@ -24,9 +28,21 @@ pub enum Cause {
     /// 8.1.2).
     #[error("the generator is not allowed there")]
     BadGenerator,
+    #[error("the generator is not set there")]
+    NotSet,
     /// A range whose low end is above its high end, or whose high end is above 127.
     #[error("the range is empty or above 127")]
     BadRange,
+    /// The zone's range does not hold the place of the split, or begins there.
+    #[error("the split is not inside the range of the zone")]
+    SplitOutside,
+    /// The zones differ in more than their ranges on the axis, or these do not meet, or a zone without a
+    /// range of its own would have another than both together.
+    #[error("the zones can't be joined")]
+    NotJoinable,
+    /// The zone holds a modulator that is linked to others by their numbers, or the new one is such.
+    #[error("modulators are linked there")]
+    LinkedModulator,
     #[error("the loop is empty or not in the sample")]
     BadLoop,
     #[error("the text is too long, has a zero byte, or is empty and must not be")]
@@ -45,10 +61,16 @@ impl Cause {
             Cause::NoSuchPreset => 20,
             Cause::NoSuchInstrument => 21,
             Cause::NoSuchSample => 22,
+            Cause::NoSuchZone => 23,
+            Cause::NoSuchModulator => 24,
             Cause::BadPlace => 25,
             Cause::InUse => 26,
             Cause::BadGenerator => 27,
+            Cause::NotSet => 28,
             Cause::BadRange => 29,
+            Cause::SplitOutside => 30,
+            Cause::NotJoinable => 31,
+            Cause::LinkedModulator => 32,
             Cause::BadLoop => 35,
             Cause::BadText => 36,
             Cause::Full(_) => 37,
@@ -63,10 +85,16 @@ impl Cause {
             Cause::NoSuchPreset => "NoSuchPreset",
             Cause::NoSuchInstrument => "NoSuchInstrument",
             Cause::NoSuchSample => "NoSuchSample",
+            Cause::NoSuchZone => "NoSuchZone",
+            Cause::NoSuchModulator => "NoSuchModulator",
             Cause::BadPlace => "BadPlace",
             Cause::InUse => "InUse",
             Cause::BadGenerator => "BadGenerator",
+            Cause::NotSet => "NotSet",
             Cause::BadRange => "BadRange",
+            Cause::SplitOutside => "SplitOutside",
+            Cause::NotJoinable => "NotJoinable",
+            Cause::LinkedModulator => "LinkedModulator",
             Cause::BadLoop => "BadLoop",
             Cause::BadText => "BadText",
             Cause::Full(_) => "Full",

@@ -3,7 +3,7 @@ ghost use Rattle.std.specs.Prelude.{◌≡◌, None, IsOk};
 ghost use Rattle.bank_parts.specs.Fits.{FitsSample, FitsLoop, FitsKind};
 ghost use Rattle.bank_parts.specs.Sound.{IsSound};
 ghost use Rattle.bank_edits.specs.Answers.{Judges, IsStepChange};
-ghost use Rattle.bank_edits.specs.Steps.{FitsStep, GrowsNothing, refusal};
+ghost use Rattle.bank_edits.specs.Steps.{FitsNumberOf, FitsPlace, FitsStep, GrowsNothing, refusal};
 ghost use Rattle.bank_edits.specs.Edits.{FitsEdit};
 
 use crate::cause::Cause;
@@ -20,10 +20,12 @@ use crate::samples::{
     refuse_rename_sample, remove_sample, rename_sample,
 };
 use crate::texts::{refuse_set_info, set_info};
-use bank_core::Bank;
-use bank_parts::{InfoId, Instrument, Kind, Preset, Sample};
+use bank_core::{Bank, Owner, Place};
+use bank_parts::{InfoId, Instrument, Kind, Preset, Sample, Zone, modulator_fits};
+use modulators::Modulator;
 use sf_base::{Lent, Name20};
 use std::alloc::Global;
+use zone_ranges::{Axis, Keep};
 
 /// A step that changes a bank: one variant for each form of the edit script. Numbers are counted from
 /// 0. It borrows the points and texts that it carries.
@@ -37,6 +39,13 @@ pub enum Step<'a> {
     RemovePreset { preset: u32 },
     /// `move-preset I J`: preset `from` is preset `to`.
     MovePreset { from: u32, to: u32 },
+    /// `set-head P NAME NUMBER BANK`: the preset gets the name and both numbers.
+    SetHead {
+        preset: u32,
+        name: Name20,
+        number: u16,
+        bank: u16,
+    },
 
     // ---- instruments
     /// `add-inst I NAME GLOBAL? ZONE*`: the instrument is put in as number `at`, with its zones.
@@ -58,6 +67,70 @@ pub enum Step<'a> {
     RemoveSample { sample: u32 },
     /// `move-sample I J`: sample `from` is sample `to`.
     MoveSample { from: u32, to: u32 },
+
+    // ---- zones
+    /// `add-zone OWNER K ZONE`: the zone is put in as number `at`.
+    AddZone { owner: Owner, at: u32, zone: Zone },
+    /// `remove-zone OWNER K`: the zone is taken out.
+    RemoveZone { owner: Owner, zone: u32 },
+    /// `move-zone OWNER I J`: zone `from` is zone `to`.
+    MoveZone { owner: Owner, from: u32, to: u32 },
+    /// `split-zone OWNER K key|vel M`: the zone has its range up to below `at`, and a copy behind it the
+    /// rest.
+    SplitZone {
+        owner: Owner,
+        zone: u32,
+        axis: Axis,
+        at: u8,
+    },
+    /// `join-zone OWNER K key|vel keep|bare`: the zone and the next are one, with both ranges together.
+    JoinZone {
+        owner: Owner,
+        zone: u32,
+        axis: Axis,
+        keep: Keep,
+    },
+    /// `set-target OWNER K TARGET`: the zone has the target.
+    SetTarget {
+        owner: Owner,
+        zone: u32,
+        target: u16,
+    },
+
+    // ---- generators and modulators
+    /// `set-gen OWNER PLACE OPERATOR AMOUNT`: the operator has the amount there.
+    SetGen {
+        owner: Owner,
+        place: Place,
+        operator: u16,
+        amount: u16,
+    },
+    /// `clear-gen OWNER PLACE OPERATOR`: the operator is not set there.
+    ClearGen {
+        owner: Owner,
+        place: Place,
+        operator: u16,
+    },
+    /// `add-mod OWNER PLACE J MOD`: the modulator is put in there as number `index`.
+    AddMod {
+        owner: Owner,
+        place: Place,
+        index: u32,
+        modulator: Modulator,
+    },
+    /// `remove-mod OWNER PLACE J`: the modulator is taken out.
+    RemoveMod {
+        owner: Owner,
+        place: Place,
+        index: u32,
+    },
+    /// `set-mod OWNER PLACE J MOD`: the modulator is this one.
+    SetMod {
+        owner: Owner,
+        place: Place,
+        index: u32,
+        modulator: Modulator,
+    },
 
     // ---- texts
     /// `set-info ID TEXT`: the text of the kind is this one.
@@ -110,6 +183,91 @@ impl<'a> Step<'a> {
             | Step::RemoveSample { sample: number } => {
                 let _number = *number;
             }
+            Step::SetHead {
+                preset,
+                name,
+                number,
+                bank,
+            } => {
+                let _preset = *preset;
+                let _name = name.bytes();
+                let _number = *number;
+                let _bank = *bank;
+            }
+            Step::AddZone { owner, at, zone } => {
+                owner_fits(*owner);
+                let _at = *at;
+                zone.fits();
+            }
+            Step::RemoveZone { owner, zone } | Step::JoinZone { owner, zone, .. } => {
+                owner_fits(*owner);
+                let _zone = *zone;
+            }
+            Step::MoveZone { owner, from, to } => {
+                owner_fits(*owner);
+                let _from = *from;
+                let _to = *to;
+            }
+            Step::SplitZone { owner, zone, at, .. } => {
+                owner_fits(*owner);
+                let _zone = *zone;
+                let _at = *at;
+            }
+            Step::SetTarget {
+                owner,
+                zone,
+                target,
+            } => {
+                owner_fits(*owner);
+                let _zone = *zone;
+                let _target = *target;
+            }
+            Step::SetGen {
+                owner,
+                place,
+                operator,
+                amount,
+            } => {
+                owner_fits(*owner);
+                place_fits(*place);
+                let _operator = *operator;
+                let _amount = *amount;
+            }
+            Step::ClearGen {
+                owner,
+                place,
+                operator,
+            } => {
+                owner_fits(*owner);
+                place_fits(*place);
+                let _operator = *operator;
+            }
+            Step::AddMod {
+                owner,
+                place,
+                index,
+                modulator,
+            }
+            | Step::SetMod {
+                owner,
+                place,
+                index,
+                modulator,
+            } => {
+                owner_fits(*owner);
+                place_fits(*place);
+                let _index = *index;
+                modulator_fits(*modulator);
+            }
+            Step::RemoveMod {
+                owner,
+                place,
+                index,
+            } => {
+                owner_fits(*owner);
+                place_fits(*place);
+                let _index = *index;
+            }
             Step::SetInfo { id: _, text } => {
                 let _text = text.bytes();
             }
@@ -136,6 +294,18 @@ pub(crate) fn refuse_step(bank: &Bank<'_>, step: &Step<'_>) -> Result<(), Cause>
         Step::AddSample { at, sample } => refuse_add_sample(bank, *at, sample),
         Step::RemoveSample { sample } => refuse_remove_sample(bank, *sample),
         Step::MoveSample { from, to } => refuse_move_sample(bank, *from, *to),
+        Step::SetHead { .. }
+        | Step::AddZone { .. }
+        | Step::RemoveZone { .. }
+        | Step::MoveZone { .. }
+        | Step::SplitZone { .. }
+        | Step::JoinZone { .. }
+        | Step::SetTarget { .. }
+        | Step::SetGen { .. }
+        | Step::ClearGen { .. }
+        | Step::AddMod { .. }
+        | Step::RemoveMod { .. }
+        | Step::SetMod { .. } => Err(Cause::BadPlace),
         Step::SetInfo { id, text } => refuse_set_info(bank, *id, text),
     }
 }
@@ -165,6 +335,18 @@ pub(crate) fn change_step<'a>(
         Step::AddSample { at, sample } => add_sample(bank, at, sample),
         Step::RemoveSample { sample } => Ok(remove_sample(bank, sample)),
         Step::MoveSample { from, to } => Ok(move_sample(bank, from, to)),
+        Step::SetHead { .. }
+        | Step::AddZone { .. }
+        | Step::RemoveZone { .. }
+        | Step::MoveZone { .. }
+        | Step::SplitZone { .. }
+        | Step::JoinZone { .. }
+        | Step::SetTarget { .. }
+        | Step::SetGen { .. }
+        | Step::ClearGen { .. }
+        | Step::AddMod { .. }
+        | Step::RemoveMod { .. }
+        | Step::SetMod { .. } => Err(step),
         Step::SetInfo { id, text } => Ok(set_info(bank, id, text)),
     }
 }
@@ -181,6 +363,23 @@ impl<'a> Edit<'a> {
 }
 
 // ---- what they carry
+
+fn owner_fits(owner: Owner)
+    ensures { FitsNumberOf owner }
+{
+    match owner {
+        Owner::Preset(_number) | Owner::Instrument(_number) => {}
+    }
+}
+
+fn place_fits(place: Place)
+    ensures { FitsPlace place }
+{
+    match place {
+        Place::Global => {}
+        Place::Zone(_number) => {}
+    }
+}
 
 /// The law that what a sample holds is in the ranges of its fields. It does nothing.
 pub(crate) fn sample_fits(sample: &Sample<'_>)

@@ -78,7 +78,8 @@ fn any_sets_foreign(at: Level, zones: &[Zone]) -> bool
     zones.iter().any(|zone| sets_foreign(at, &zone.gens))
 }
 
-fn sets_foreign(at: Level, gens: &GenMap) -> bool
+/// Whether a map has an operator that the level does not allow (SoundFont 2.04, section 8.1.2).
+pub fn sets_foreign(at: Level, gens: &GenMap) -> bool
     ensures { result ≡ sets_foreign at gens.now }
 {
     gens.entries()
@@ -92,13 +93,15 @@ fn any_sets_bad_range(zones: &[Zone]) -> bool
     zones.iter().any(|zone| sets_bad_range(&zone.gens))
 }
 
-fn sets_bad_range(gens: &GenMap) -> bool
+/// Whether a map has a range whose ends are in the wrong order, or over 127.
+pub fn sets_bad_range(gens: &GenMap) -> bool
     ensures { result ≡ sets_bad_range gens.now }
 {
     gens.entries().iter().any(|&entry| is_bad_range(entry))
 }
 
-fn is_bad_range(entry: (u16, u16)) -> bool
+/// Whether an operator and its amount are a range whose ends are in the wrong order, or over 127.
+pub fn is_bad_range(entry: (u16, u16)) -> bool
     ensures { result ≡ is_bad_range entry }
 {
     let (operator, amount) = entry;

@@ -34,7 +34,7 @@ impl<H> WithZones<H> {
     {
         let mut total = global_records(&self.global);
         for zone in self.zones.as_slice() {
-            total = total.plus(zone_records(zone));
+            total = total.plus(zone.records());
         }
         total
     }
@@ -52,12 +52,15 @@ fn global_records(global: &GlobalZone) -> Records
     }
 }
 
-fn zone_records(zone: &Zone) -> Records
-    ensures { result ≡ all_counted (records_of_zone zone.now) }
-{
-    Records {
-        zones: 1,
-        gens: zone.gens.len().saturating_add(1),
-        mods: zone.mods.len(),
+impl Zone {
+    /// How many records it has, as a file would hold them: its target is one of its generators.
+    pub fn records(&self) -> Records
+        ensures { result ≡ all_counted (records_of_zone self.now) }
+    {
+        Records {
+            zones: 1,
+            gens: self.gens.len().saturating_add(1),
+            mods: self.mods.len(),
+        }
     }
 }

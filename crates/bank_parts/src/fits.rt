@@ -30,26 +30,30 @@ fn zones_fit(zones: &[Zone])
     ensures { AllByRecursion FitsZone zones.now }
 {
     for zone in zones {
-        zone_fits(zone);
+        zone.fits();
     }
 }
 
-fn zone_fits(zone: &Zone)
-    ensures { FitsZone zone.now }
-{
-    let _target = zone.target;
-    let _count = zone.gens.len();
-    mods_fit(zone.mods.as_slice());
+impl Zone {
+    /// The law that the target and all that the zone holds is in the range of its field.
+    pub fn fits(&self)
+        ensures { FitsZone self.now }
+    {
+        let _target = self.target;
+        let _count = self.gens.len();
+        mods_fit(self.mods.as_slice());
+    }
 }
 
 fn mods_fit(mods: &[Modulator])
     ensures { AllByRecursion FitsModulator mods.now }
 {
     for modulator in mods {
-        mod_fits(*modulator);
+        modulator_fits(*modulator);
     }
 }
 
-fn mod_fits(_modulator: Modulator)
+/// The law that each number of a modulator is in the range of its field.
+pub fn modulator_fits(_modulator: Modulator)
     ensures { FitsModulator _modulator }
 {}

@@ -18,8 +18,10 @@ mod totals;
 mod validity;
 mod zone_changes;
 
+pub use contents::{is_bad_range, sets_bad_range, sets_foreign};
 pub use copying::copy_parts;
 pub use counting::Records;
+pub use fits::modulator_fits;
 pub use heads::OwnerHead;
 pub use laws::{
     limits_agree, other_places_stay, places_are_lenses, zone_changes_read, zone_changes_undone,

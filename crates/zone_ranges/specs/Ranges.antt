@@ -1,0 +1,45 @@
+-- The range of keys or of velocities that holds for a zone: its own, else its global zone's, else 0 to 127.
+-- A range is an amount, with the low end in the low byte.
+use Rattle.std.specs.Prelude.{ℕ, ◌+◌, ◌*◌, ◌/◌, ◌%◌, Option, unwrap_or}
+use Rattle.std.specs.FinMap as map
+use Rattle.bank_parts.specs.declared.parts.GlobalZone.{GlobalZone}
+use Rattle.bank_parts.specs.declared.parts.Zone.{Zone}
+use Rattle.zone_ranges.specs.declared.axes.Axis.{Axis}
+use Rattle.zone_ranges.specs.declared.axes.Axis.TheVariants.{Key, Velocity}
+
+-- ---- amounts
+
+abbrev pub low_end : ℕ → ℕ
+low_end range = range % 256
+
+abbrev pub high_end : ℕ → ℕ
+high_end range = range / 256
+
+abbrev pub range_from : ℕ → ℕ → ℕ
+range_from low high = low + 256 * high
+
+-- 0 to 127
+abbrev pub whole_range : ℕ
+whole_range = 32512
+
+-- ---- of a zone
+
+abbrev pub range_operator : Axis → ℕ
+range_operator Key = 43
+range_operator Velocity = 44
+
+abbrev pub own_range : Axis → Zone → Option ℕ
+own_range axis z = map.get z.gens (range_operator axis)
+
+-- what a zone without its own has
+abbrev pub inherited_range : Axis → GlobalZone → ℕ
+inherited_range axis global = unwrap_or (map.get global.gens (range_operator axis)) whole_range
+
+abbrev pub range_of : Axis → GlobalZone → Zone → ℕ
+range_of axis global z = unwrap_or (own_range axis z) (inherited_range axis global)
+
+abbrev pub with_range : Axis → ℕ → Zone → Zone
+with_range axis range z = record z { gens = map.insert z.gens (range_operator axis) range }
+
+abbrev pub without_range : Axis → Zone → Zone
+without_range axis z = record z { gens = map.remove z.gens (range_operator axis) }
