@@ -34,11 +34,19 @@ pub enum Step<'a> {
     // ---- presets
     /// `add-preset P NAME NUMBER BANK LIBRARY GENRE MORPHOLOGY GLOBAL? ZONE*`: the preset is put in as
     /// number `at`, with its zones.
-    AddPreset { at: u32, preset: Preset },
+    AddPreset {
+        at: u32,
+        preset: Preset,
+    },
     /// `remove-preset P`: the preset is taken out, with its zones.
-    RemovePreset { preset: u32 },
+    RemovePreset {
+        preset: u32,
+    },
     /// `move-preset I J`: preset `from` is preset `to`.
-    MovePreset { from: u32, to: u32 },
+    MovePreset {
+        from: u32,
+        to: u32,
+    },
     /// `set-head P NAME NUMBER BANK`: the preset gets the name and both numbers.
     SetHead {
         preset: u32,
@@ -49,32 +57,65 @@ pub enum Step<'a> {
 
     // ---- instruments
     /// `add-inst I NAME GLOBAL? ZONE*`: the instrument is put in as number `at`, with its zones.
-    AddInstrument { at: u32, instrument: Instrument },
+    AddInstrument {
+        at: u32,
+        instrument: Instrument,
+    },
     /// `remove-inst I`: the instrument, which no zone targets, is taken out, with its zones.
-    RemoveInstrument { instrument: u32 },
+    RemoveInstrument {
+        instrument: u32,
+    },
     /// `rename-inst I NAME`: the instrument gets the name.
-    RenameInstrument { instrument: u32, name: Name20 },
+    RenameInstrument {
+        instrument: u32,
+        name: Name20,
+    },
     /// `move-inst I J`: instrument `from` is instrument `to`.
-    MoveInstrument { from: u32, to: u32 },
+    MoveInstrument {
+        from: u32,
+        to: u32,
+    },
 
     // ---- samples
     /// `rename-sample S NAME`: the sample gets the name.
-    RenameSample { sample: u32, name: Name20 },
+    RenameSample {
+        sample: u32,
+        name: Name20,
+    },
     /// `add-sample S BODY`: the sample is put in as number `at`. Its link has the numbers that hold
     /// afterwards.
-    AddSample { at: u32, sample: Sample<'a> },
+    AddSample {
+        at: u32,
+        sample: Sample<'a>,
+    },
     /// `remove-sample S`: the sample is taken out.
-    RemoveSample { sample: u32 },
+    RemoveSample {
+        sample: u32,
+    },
     /// `move-sample I J`: sample `from` is sample `to`.
-    MoveSample { from: u32, to: u32 },
+    MoveSample {
+        from: u32,
+        to: u32,
+    },
 
     // ---- zones
     /// `add-zone OWNER K ZONE`: the zone is put in as number `at`.
-    AddZone { owner: Owner, at: u32, zone: Zone },
+    AddZone {
+        owner: Owner,
+        at: u32,
+        zone: Zone,
+    },
     /// `remove-zone OWNER K`: the zone is taken out.
-    RemoveZone { owner: Owner, zone: u32 },
+    RemoveZone {
+        owner: Owner,
+        zone: u32,
+    },
     /// `move-zone OWNER I J`: zone `from` is zone `to`.
-    MoveZone { owner: Owner, from: u32, to: u32 },
+    MoveZone {
+        owner: Owner,
+        from: u32,
+        to: u32,
+    },
     /// `split-zone OWNER K key|vel M`: the zone has its range up to below `at`, and a copy behind it the
     /// rest.
     SplitZone {
@@ -134,7 +175,10 @@ pub enum Step<'a> {
 
     // ---- texts
     /// `set-info ID TEXT`: the text of the kind is this one.
-    SetInfo { id: InfoId, text: Lent<'a> },
+    SetInfo {
+        id: InfoId,
+        text: Lent<'a>,
+    },
 }
 
 /// An edit of a bank.
@@ -190,7 +234,7 @@ impl<'a> Step<'a> {
                 bank,
             } => {
                 let _preset = *preset;
-                let _name = name.bytes();
+                let _bytes = name.bytes();
                 let _number = *number;
                 let _bank = *bank;
             }
@@ -208,7 +252,12 @@ impl<'a> Step<'a> {
                 let _from = *from;
                 let _to = *to;
             }
-            Step::SplitZone { owner, zone, at, .. } => {
+            Step::SplitZone {
+                owner,
+                zone,
+                at,
+                ..
+            } => {
                 owner_fits(*owner);
                 let _zone = *zone;
                 let _at = *at;

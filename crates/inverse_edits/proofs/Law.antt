@@ -1,4 +1,6 @@
 -- Undo restores, for every form of edit.
+use Rattle.std.proofs.Common.{◌≡◌, Some, None}
+use Rattle.bank_edits.specs.declared.cause.Cause.{Cause}
 use Rattle.bank_edits.specs.declared.edit.Edit.TheVariants.{One}
 use Rattle.bank_edits.specs.declared.edit.Step.TheVariants.{AddPreset, RemovePreset, MovePreset, SetHead, AddInstrument, RemoveInstrument, RenameInstrument, MoveInstrument, RenameSample, AddSample, RemoveSample, MoveSample, AddZone, RemoveZone, MoveZone, SplitZone, JoinZone, SetTarget, SetGen, ClearGen, AddMod, RemoveMod, SetMod, SetInfo}
 use Rattle.inverse_edits.specs.Undone.{UndoRestores}
@@ -7,9 +9,9 @@ use Rattle.inverse_edits.proofs.InstrumentLaws.{undone_add_instrument, undone_re
 use Rattle.inverse_edits.proofs.SampleLaws.{undone_rename, undone_add, undone_remove, undone_move_sample}
 use Rattle.inverse_edits.proofs.TextLaws.{undone_set_info}
 
--- of a form that is refused as yet
-none_yet : (b : Parts) (s : Step) → refusal b s ≡ Some BadPlace → IsTaken b (One s) → IsUndone b (One s)
-none_yet b s e t = absurd (none_some (sym t.accepted ∙ e))
+-- a form that is refused as yet
+none_yet : {c : Cause} → Some c ≡ None → ⊥
+none_yet h = cc
 
 pub undone : UndoRestores
 undone b (One (AddPreset i p)) = undone_add_preset b i p
@@ -24,15 +26,15 @@ undone b (One (AddSample i s)) = undone_add b i s
 undone b (One (RemoveSample i)) = undone_remove b i
 undone b (One (MoveSample i j)) = undone_move_sample b i j
 undone b (One (SetInfo id text)) = undone_set_info b id text
-undone b (One (SetHead p name number bank)) = λ s t. cc
-undone b (One (AddZone o at zone)) = λ s t. cc
-undone b (One (RemoveZone o zone)) = λ s t. cc
-undone b (One (MoveZone o from to)) = λ s t. cc
-undone b (One (SplitZone o zone axis at)) = λ s t. cc
-undone b (One (JoinZone o zone axis keep)) = λ s t. cc
-undone b (One (SetTarget o zone target)) = λ s t. cc
-undone b (One (SetGen o at op amount)) = λ s t. cc
-undone b (One (ClearGen o at op)) = λ s t. cc
-undone b (One (AddMod o at j m)) = λ s t. cc
-undone b (One (RemoveMod o at j)) = λ s t. cc
-undone b (One (SetMod o at j m)) = λ s t. cc
+undone b (One (SetHead p name number bank)) = λ s t. absurd (none_yet t.accepted)
+undone b (One (AddZone o at zone)) = λ s t. absurd (none_yet t.accepted)
+undone b (One (RemoveZone o zone)) = λ s t. absurd (none_yet t.accepted)
+undone b (One (MoveZone o from to)) = λ s t. absurd (none_yet t.accepted)
+undone b (One (SplitZone o zone axis at)) = λ s t. absurd (none_yet t.accepted)
+undone b (One (JoinZone o zone axis keep)) = λ s t. absurd (none_yet t.accepted)
+undone b (One (SetTarget o zone target)) = λ s t. absurd (none_yet t.accepted)
+undone b (One (SetGen o at op amount)) = λ s t. absurd (none_yet t.accepted)
+undone b (One (ClearGen o at op)) = λ s t. absurd (none_yet t.accepted)
+undone b (One (AddMod o at j m)) = λ s t. absurd (none_yet t.accepted)
+undone b (One (RemoveMod o at j)) = λ s t. absurd (none_yet t.accepted)
+undone b (One (SetMod o at j m)) = λ s t. absurd (none_yet t.accepted)
