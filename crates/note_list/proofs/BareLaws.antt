@@ -9,6 +9,7 @@ use Rattle.line_tokens.specs.declared.fault.LineFault.{LineFault}
 use Rattle.line_tokens.specs.declared.fault.LineFault.TheVariants as faults
 use Rattle.line_tokens.specs.Said.{is_plain, is_hex, decoded, said, size_of, said_over, all_said_over}
 use Rattle.line_tokens.specs.Parts.{Took, Part, and_then, pure, or_fault, number_word, number_of, number, ended}
+use Rattle.note_list.specs.declared.limits.TheConstants.{HIGHEST_KEY, HIGHEST_VELOCITY}
 use Rattle.note_list.specs.Notes.{Numbers, note, note_of, judged}
 
 -- ---- the same words in the same places, and literals in the others
@@ -111,8 +112,8 @@ note_alike xs ys h =
     then_alike _ _ _ (number_alike 4294967295 xs ys h) (λ l xs ys h.
     then_alike _ _ _ (number_alike 65535 xs ys h) (λ b xs ys h.
     then_alike _ _ _ (number_alike 65535 xs ys h) (λ n xs ys h.
-    then_alike _ _ _ (number_alike 127 xs ys h) (λ k xs ys h.
-    then_alike _ _ _ (number_alike 127 xs ys h) (λ v xs ys h.
+    then_alike _ _ _ (number_alike HIGHEST_KEY xs ys h) (λ k xs ys h.
+    then_alike _ _ _ (number_alike HIGHEST_VELOCITY xs ys h) (λ v xs ys h.
     then_alike _ _ _ (ended_alike (tt {0}) xs ys h) (λ u.
     pure_alike (note_of (record { start = s; length = l; bank = b; number = n; key = k; velocity = v })))))))))
 

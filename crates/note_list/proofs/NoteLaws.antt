@@ -6,6 +6,7 @@ use Rattle.line_tokens.specs.declared.tokens.Token.{Token}
 use Rattle.line_tokens.specs.Said.{said, said_lines, all_said_over}
 use Rattle.line_tokens.specs.Pool.{and_then, gather}
 use Rattle.line_tokens.proofs.GatherLaws.{gather_none, gather_on}
+use Rattle.note_list.specs.declared.limits.TheConstants.{MOST_NOTES}
 use Rattle.note_list.specs.declared.fault.NoteFault.{NoteFault}
 use Rattle.note_list.specs.declared.fault.NoteFault.TheVariants as faults
 use Rattle.note_list.specs.Notes.{Numbers, OrFault, note, in_time, judged, spoken, notes_after, notes_of, with_note}
@@ -30,10 +31,10 @@ pub line_is_read : (n : ℕ) (left : List Said) (ts : List Token) (notes : List 
 line_is_read n left ts notes r e some j =
     says_more n (map said ts) notes r (something_alike [] ts (λ none. some (e ∙ none))) (sym (judged_alike (length notes) n [] ts) ∙ ap (λ (xs : List Said). judged (length notes) n (note xs)) (sym e) ∙ j)
 
-pub no_room : (k n : ℕ) (x : Numbers) → nat_le 65535 k ≡ true → in_time k n (Some x) ≡ Err (faults.TooManyNotes n)
+pub no_room : (k n : ℕ) (x : Numbers) → nat_le MOST_NOTES k ≡ true → in_time k n (Some x) ≡ Err (faults.TooManyNotes n)
 no_room k n x e = rw e refl
 
-pub some_room : (k n : ℕ) (x : Numbers) → nat_le 65535 k ≡ false → in_time k n (Some x) ≡ Ok x
+pub some_room : (k n : ℕ) (x : Numbers) → nat_le MOST_NOTES k ≡ false → in_time k n (Some x) ≡ Ok x
 some_room k n x e = rw e refl
 
 pub not_both : {b : Bool} → b ≡ true → b ≡ false → ⊥

@@ -5,6 +5,7 @@ use Rattle.line_tokens.specs.declared.fault.LineFault.{LineFault}
 use Rattle.line_tokens.specs.Said.{said_lines}
 use Rattle.line_tokens.specs.Parts.{Took, Part, ◌>>=◌, pure, number, ended}
 use Rattle.line_tokens.specs.Pool.{and_then}
+use Rattle.note_list.specs.declared.limits.TheConstants.{MOST_NOTES, LAST_FRAME, HIGHEST_KEY, HIGHEST_VELOCITY}
 use Rattle.note_list.specs.declared.fault.NoteFault.{NoteFault}
 use Rattle.note_list.specs.declared.fault.NoteFault.TheVariants as faults
 
@@ -21,13 +22,13 @@ pub record Numbers : Type 0 where
 
 -- they are within the limits
 pub record IsNote (n : Numbers) : Type 0 where
-  pub ends : n.start + n.length ≤ 100000000
-  pub key : n.key ≤ 127
-  pub velocity : n.velocity ≤ 127
+  pub ends : n.start + n.length ≤ LAST_FRAME
+  pub key : n.key ≤ HIGHEST_KEY
+  pub velocity : n.velocity ≤ HIGHEST_VELOCITY
 
 -- the note with these numbers, if they are within the limits
 unfoldable pub note_of : Numbers → Option Numbers
-note_of n = if nat_le (n.start + n.length) 100000000 && nat_le n.key 127 && nat_le n.velocity 127 then Some n else None
+note_of n = if nat_le (n.start + n.length) LAST_FRAME && nat_le n.key HIGHEST_KEY && nat_le n.velocity HIGHEST_VELOCITY then Some n else None
 
 -- a value, or the first fault of a note list
 abbrev pub OrFault : Type 0 → Type 0
@@ -42,15 +43,15 @@ note = do
   l ← number 4294967295
   b ← number 65535
   n ← number 65535
-  k ← number 127
-  v ← number 127
+  k ← number HIGHEST_KEY
+  v ← number HIGHEST_VELOCITY
   u ← ended (tt {0})
   pure (note_of (record { start = s; length = l; bank = b; number = n; key = k; velocity = v }))
 
 -- a note of line n, before which stand k notes; none is one that ends too late
 abbrev pub in_time : ℕ → ℕ → Option Numbers → OrFault Numbers
 in_time k n None = Err (faults.TooLong n)
-in_time k n (Some x) = if nat_le 65535 k then Err (faults.TooManyNotes n) else Ok x
+in_time k n (Some x) = if nat_le MOST_NOTES k then Err (faults.TooManyNotes n) else Ok x
 
 -- the note that was read of line n, before which stand k notes, or its fault
 abbrev pub judged : ℕ → ℕ → Result (Took (Option Numbers)) LineFault → OrFault Numbers

@@ -5,9 +5,11 @@
 #![tactic(auto)]
 
 mod fault;
+mod limits;
 mod note;
 mod parsing;
 
 pub use fault::NoteFault;
-pub use note::{MOST_NOTES, Note};
+pub use limits::{HIGHEST_KEY, HIGHEST_VELOCITY, LAST_FRAME, MOST_NOTES};
+pub use note::Note;
 pub use parsing::parse_notes;

@@ -1,14 +1,10 @@
 //! One note.
 ghost use Rattle.std.specs.Prelude.{◌≡◌, ◌+◌, ◌≤◌};
+ghost use Rattle.note_list.specs.declared.limits.TheConstants.{LAST_FRAME, HIGHEST_KEY, HIGHEST_VELOCITY};
 ghost use Rattle.note_list.specs.Notes.{note_of};
 
+use crate::limits::{HIGHEST_KEY, HIGHEST_VELOCITY, LAST_FRAME};
 use std::marker::Model;
-
-/// The frame behind which no note ends.
-const LAST_FRAME: u64 = 100_000_000;
-
-/// How many notes a list has at most.
-pub const MOST_NOTES: usize = 65_535;
 
 /// A note to be played: it starts and ends by frame 100,000,000, and its key and velocity are at most
 /// 127.
@@ -48,7 +44,8 @@ impl Note {
     ) -> Option<Note>
         ensures { result ≡ note_of (record { start = start; length = length; bank = bank; number = number; key = key; velocity = velocity }) }
     {
-        if u64::from(start) + u64::from(length) > LAST_FRAME || key > 127 || velocity > 127 {
+        let end = u64::from(start) + u64::from(length);
+        if end > LAST_FRAME || key > HIGHEST_KEY || velocity > HIGHEST_VELOCITY {
             return None;
         }
         Some(Note {
@@ -64,7 +61,7 @@ impl Note {
     /// The frame at which it starts.
     pub fn start(&self) -> u32
         ensures value { result ≡ self.now.start }
-        ensures ends { self.now.start + self.now.length ≤ 100000000 }
+        ensures ends { self.now.start + self.now.length ≤ LAST_FRAME }
     {
         self.start
     }
@@ -72,7 +69,7 @@ impl Note {
     /// How many frames it is held.
     pub fn length(&self) -> u32
         ensures value { result ≡ self.now.length }
-        ensures ends { self.now.start + self.now.length ≤ 100000000 }
+        ensures ends { self.now.start + self.now.length ≤ LAST_FRAME }
     {
         self.length
     }
@@ -94,7 +91,7 @@ impl Note {
     /// The key, up to 127. 60 is the middle C.
     pub fn key(&self) -> u8
         ensures value { result ≡ self.now.key }
-        ensures within { result ≤ 127 }
+        ensures within { result ≤ HIGHEST_KEY }
     {
         self.key
     }
@@ -102,7 +99,7 @@ impl Note {
     /// The velocity, up to 127.
     pub fn velocity(&self) -> u8
         ensures value { result ≡ self.now.velocity }
-        ensures within { result ≤ 127 }
+        ensures within { result ≤ HIGHEST_VELOCITY }
     {
         self.velocity
     }

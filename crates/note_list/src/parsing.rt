@@ -3,10 +3,12 @@ ghost use Rattle.std.specs.Prelude.{◌≡◌, ◌≤◌, nat_le, length, IfOk};
 ghost use Rattle.line_tokens.specs.Parts.{Reads};
 ghost use Rattle.line_tokens.specs.Said.{said_in};
 ghost use Rattle.line_tokens.specs.Pool.{Answers};
+ghost use Rattle.note_list.specs.declared.limits.TheConstants.{MOST_NOTES};
 ghost use Rattle.note_list.specs.Notes.{note, with_note, notes_of};
 
 use crate::fault::NoteFault;
-use crate::note::{MOST_NOTES, Note};
+use crate::limits::{HIGHEST_KEY, HIGHEST_VELOCITY, MOST_NOTES};
+use crate::note::Note;
 use line_tokens::{Cursor, LineFault, Lines};
 use sf_base::Failure;
 use std::alloc::Global;
@@ -16,7 +18,7 @@ use std::alloc::Global;
 /// place of either.
 pub fn parse_notes(alloc: Global, text: &[u8]) -> Result<Vec<Note>, Failure<NoteFault>>
     ensures answers { Answers (λ notes. notes.items) result (notes_of text.now) }
-    ensures few { IfOk result (λ notes. length notes.items ≤ 65535) }
+    ensures few { IfOk result (λ notes. length notes.items ≤ MOST_NOTES) }
 {
     let mut notes = Vec::new(alloc);
     let mut number: u64 = 0;
@@ -29,9 +31,9 @@ pub fn parse_notes(alloc: Global, text: &[u8]) -> Result<Vec<Note>, Failure<Note
 
 // Adds the note of a line, if it has one.
 fn add_note(notes: &mut Vec<Note>, number: u64, line: &[u8]) -> Result<(), Failure<NoteFault>>
-    requires { length notes.old.items ≤ 65535 }
+    requires { length notes.old.items ≤ MOST_NOTES }
     ensures added { Answers (λ _. notes.new.items) result (with_note number (said_in line.now) notes.old.items) }
-    ensures few { IfOk result (λ _. length notes.new.items ≤ 65535) }
+    ensures few { IfOk result (λ _. length notes.new.items ≤ MOST_NOTES) }
 {
     // A note has no literals, and so no line needs a pool.
     let mut cursor = Cursor::of(line, &[]);
@@ -58,10 +60,10 @@ fn note(cursor: &mut Cursor<'_, '_>) -> Result<Option<Note>, LineFault>
 {
     let start = cursor.number(u32::MAX)?;
     let length = cursor.number(u32::MAX)?;
-    let bank = cursor.number(65_535)?;
-    let number = cursor.number(65_535)?;
-    let key = cursor.number(127)?;
-    let velocity = cursor.number(127)?;
+    let bank = cursor.number(u32::from(u16::MAX))?;
+    let number = cursor.number(u32::from(u16::MAX))?;
+    let key = cursor.number(u32::from(HIGHEST_KEY))?;
+    let velocity = cursor.number(u32::from(HIGHEST_VELOCITY))?;
     cursor.end()?;
     Ok(Note::new(
         start,
@@ -75,7 +77,7 @@ fn note(cursor: &mut Cursor<'_, '_>) -> Result<Option<Note>, LineFault>
 
 // Whether there is no room for a further note.
 fn is_full(notes: &Vec<Note>) -> bool
-    ensures { result ≡ nat_le 65535 (length notes.now.items) }
+    ensures { result ≡ nat_le MOST_NOTES (length notes.now.items) }
 {
     notes.len() >= MOST_NOTES
 }

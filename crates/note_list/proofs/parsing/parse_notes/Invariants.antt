@@ -1,6 +1,7 @@
 use Rattle.std.proofs.Common.{◌≡◌, ◌≤◌, ◌+◌, length, map}
 use Rattle.line_tokens.specs.Said.{said_in}
 use Rattle.line_tokens.specs.Pool.{gather}
+use Rattle.note_list.specs.declared.limits.TheConstants.{MOST_NOTES}
 use Rattle.note_list.specs.Notes.{with_note, notes_of}
 use Rattle.note_list.proofs.parsing.parse_notes.Given as goal
 
@@ -11,5 +12,5 @@ invariant-loop-line l = record {
   is_finite : (goal.iterator-loop-line).is_finite l.line-iterator;
   left : gather with_note (l.number + 1) (map said_in l.line-iterator) l.notes.items ≡ notes_of l.text;
   counted : l.number + length l.line-iterator ≤ length l.text;
-  few : length l.notes.items ≤ 65535;
+  few : length l.notes.items ≤ MOST_NOTES;
 }
