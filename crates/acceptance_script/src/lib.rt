@@ -13,6 +13,12 @@ mod samples;
 #[cfg(test)]
 mod scripts;
 #[cfg(test)]
+mod settings;
+#[cfg(test)]
+mod splits;
+#[cfg(test)]
 mod texts;
+#[cfg(test)]
+mod zone_edits;
 #[cfg(test)]
 mod zones;

@@ -1,4 +1,4 @@
-//! Presets and instruments that are put in and taken out.
+//! Presets and instruments that are put in and taken out, and presets that get another head.
 
 use worked_files::{edits, empty, layered, returns, stops, tone, wide};
 
@@ -41,7 +41,7 @@ fn banks_that_are_built(rt: HostRuntime) {
 }
 
 /// Edits of the bank of two presets and three instruments, each with what takes it back.
-const RETURNS: [(&[u8], &[u8]); 18] = [
+const RETURNS: [(&[u8], &[u8]); 21] = [
     (b"add-inst 0 \"n\"\n", b"remove-inst 0\n"),
     (b"add-inst 2 \"\" { 0 }\n", b"remove-inst 2\n"),
     (b"add-inst 3 x22 { 0 } { 0 }\n", b"remove-inst 3\n"),
@@ -99,6 +99,13 @@ add-preset 0 \"p\" 0 0 0 0 0 { global m 1282 48 1 0 0 } { 2 g 51 -12 }
         b"remove-preset 1\n",
         b"add-preset 1 \"q\" 1 128 1 2 3 { 0 } { 2 m 1282 48 2 0 0 }\n",
     ),
+    (b"set-head 0 \"z\" 127 128\n", b"set-head 0 \"p\" 0 0\n"),
+    (b"set-head 1 x22 65535 65535\n", b"set-head 1 \"q\" 1 128\n"),
+    // The three words of the file, which no one reads, stay.
+    (
+        b"set-head 1 \"z\" 0 0\nremove-preset 1\n",
+        b"add-preset 1 \"z\" 0 0 1 2 3 { 0 } { 2 m 1282 48 2 0 0 }\nset-head 1 \"q\" 1 128\n",
+    ),
     // Its target follows an instrument that is put in meanwhile.
     (
         b"remove-preset 0\nadd-inst 1 \"n\" { 0 }\nadd-preset 1 \"r\" 0 0 0 0 0 { 3 } { 1 }\n",
@@ -120,7 +127,7 @@ fn owners_that_are_put_in_and_taken_out(rt: HostRuntime) {
 
 /// Edits of the bank of one preset, instrument and sample that are refused, each with the end of its
 /// line.
-const REFUSED: [(&[u8], &[u8]); 16] = [
+const REFUSED: [(&[u8], &[u8]); 18] = [
     (b"remove-inst 0", b"refused 26 InUse\n"),
     (b"remove-inst 1", b"refused 21 NoSuchInstrument\n"),
     (b"remove-inst 4294967295", b"refused 21 NoSuchInstrument\n"),
@@ -138,6 +145,11 @@ const REFUSED: [(&[u8], &[u8]); 16] = [
     ),
     (b"remove-preset 1", b"refused 20 NoSuchPreset\n"),
     (b"remove-preset 4294967295", b"refused 20 NoSuchPreset\n"),
+    (b"set-head 1 \"q\" 0 0", b"refused 20 NoSuchPreset\n"),
+    (
+        b"set-head 4294967295 \"q\" 0 0",
+        b"refused 20 NoSuchPreset\n",
+    ),
     (b"add-preset 2 \"q\" 0 0 0 0 0", b"refused 25 BadPlace\n"),
     (
         b"add-preset 4294967295 \"q\" 0 0 0 0 0",

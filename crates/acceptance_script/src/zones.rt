@@ -6,7 +6,7 @@ use std::alloc::Global;
 use worked_files::{edits, stops, tone};
 
 /// Lines as they are said, what takes them back, and the lines as they are printed.
-const PRINTED: [(&[u8], &[u8], &[u8]); 6] = [
+const PRINTED: [(&[u8], &[u8], &[u8]); 9] = [
     (
         b"add-inst 1 \"i\" { global }",
         b"remove-inst 1\n",
@@ -39,6 +39,21 @@ const PRINTED: [(&[u8], &[u8], &[u8]); 6] = [
         b"remove-preset 0\n",
         b"add-preset 0 \"A\" 1 2 3 4 5 { global g 48 7 m 0 0 0 0 0 } { 0 } { 0 g 48 8 }\n",
     ),
+    (
+        b"add-zone\tinst 0 1 { 00 m 1 2 3 4 5 g 17 1 g 43 200..100 g 17 2 g 43 0..09 } # }",
+        b"remove-zone inst 0 1\n",
+        b"add-zone inst 0 1 { 0 g 43 0..9 g 17 2 m 1 2 3 4 5 }\n",
+    ),
+    (
+        b"set-gen inst 0 00 43 000..0127\r\n",
+        b"clear-gen inst 0 0 43\n",
+        b"set-gen inst 0 0 43 0..127\n",
+    ),
+    (
+        b"add-mod preset 00 global 0 01 02 -0 00 1",
+        b"remove-mod preset 0 global 0\n",
+        b"add-mod preset 0 global 0 1 2 0 0 1\n",
+    ),
 ];
 
 /// Whether a line is taken back so, and that is taken back by the line as it is printed.
@@ -58,7 +73,7 @@ fn zones_as_they_are_said_and_as_they_are_printed(rt: HostRuntime) {
     }
 }
 
-const SYNTAX: [&[u8]; 26] = [
+const SYNTAX: [&[u8]; 54] = [
     b"remove-inst",
     b"remove-preset 0 0",
     b"add-inst 1",
@@ -85,9 +100,37 @@ const SYNTAX: [&[u8]; 26] = [
     b"add-inst 1 \"i\" { 0 m 1 2 3 4",
     b"add-preset 1 \"q\" 0 0 0 0",
     b"add-preset 1 \"q\" 0 0 0 0 0 0",
+    b"add-zone",
+    b"add-zone inst",
+    b"add-zone inst 0",
+    b"add-zone inst 0 0",
+    b"add-zone instrument 0 0 { 0 }",
+    b"add-zone \"inst\" 0 0 { 0 }",
+    b"add-zone sample 0 0 { 0 }",
+    b"add-zone inst 0 0 0 }",
+    b"add-zone inst 0 0 {0}",
+    b"add-zone inst 0 0 { 0",
+    b"add-zone inst 0 0 { 0 } { 0 }",
+    b"remove-zone inst 0",
+    b"remove-zone inst 0 0 0",
+    b"move-zone preset 0 0",
+    b"split-zone inst 0 0",
+    b"split-zone inst 0 0 60",
+    b"split-zone inst 0 0 pitch 60",
+    b"split-zone inst 0 0 key",
+    b"join-zone inst 0 0 vel",
+    b"join-zone inst 0 0 key both",
+    b"join-zone inst 0 0 key keep bare",
+    b"set-target inst 0 0",
+    b"set-gen inst 0 global 17",
+    b"clear-gen inst 0 global",
+    b"add-mod inst 0 0 0 1 2 3 4",
+    b"set-mod inst 0 0 0 1 2 3 4 5 6",
+    b"set-head 0 a 0 0",
+    b"set-head 0 \"a\" 0",
 ];
 
-const NUMBER: [&[u8]; 32] = [
+const NUMBER: [&[u8]; 51] = [
     b"remove-inst x",
     b"remove-preset -1",
     b"add-inst 4294967296 \"i\"",
@@ -120,13 +163,35 @@ const NUMBER: [&[u8]; 32] = [
     b"add-preset 1 \"q\" 0 65536 0 0 0",
     b"add-preset 1 \"q\" 0 0 0 0 4294967296",
     b"add-preset 1 \"q\" 0 0 0 { 0 }",
+    b"add-zone inst 0 0 { global }",
+    b"add-zone inst 0 0 { }",
+    b"add-zone inst 0 global { 0 }",
+    b"add-zone inst x 0 { 0 }",
+    b"remove-zone inst 0 4294967296",
+    b"move-zone inst 0 0 -1",
+    b"split-zone inst 0 0 key 256",
+    b"split-zone inst 0 0 key -1",
+    b"join-zone inst 0 global key keep",
+    b"set-target inst 0 0 65536",
+    b"set-gen inst 0 all 17 0",
+    b"set-gen inst 0 \"global\" 17 0",
+    b"set-gen inst 0 0 65536 0",
+    b"set-gen inst 0 0 17 0..1",
+    b"set-gen inst 0 0 44 5",
+    b"add-mod inst 0 0 0 65536 2 3 4 5",
+    b"add-mod inst 0 0 0 1 2 32768 4 5",
+    b"remove-mod inst 0 0 x",
+    b"set-head 0 \"a\" 65536 0",
 ];
 
-const LITERAL: [&[u8]; 4] = [
+const LITERAL: [&[u8]; 7] = [
     b"add-inst 1 \"ABCDEFGHIJKLMNOPQRSTU\" {",
     b"add-preset 1 x00 0 0",
     b"add-inst 1 \"i\" { 0 x1",
     b"add-inst 1 \"i\" { 65536 \"}",
+    b"set-gen inst zero 0 17 x1",
+    b"set-head 0 \"ABCDEFGHIJKLMNOPQRSTU\" 0 0",
+    b"set-head 0 x00 0 0",
 ];
 
 /// Generators and ranges that no zone may have there, and what else is wrong, of which the lowest
