@@ -5,6 +5,7 @@ pub mod OwnerReferences
 pub mod References
 pub mod TotalsLaws
 pub mod RecordLaws
+pub mod ZoneLaws
 pub mod SampleLaws
 pub mod InstrumentLaws
 pub mod PresetLaws
