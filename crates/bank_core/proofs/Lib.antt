@@ -6,6 +6,7 @@ pub mod References
 pub mod TotalsLaws
 pub mod RecordLaws
 pub mod ZoneLaws
+pub mod ZoneChangeLaws
 pub mod SampleLaws
 pub mod InstrumentLaws
 pub mod PresetLaws

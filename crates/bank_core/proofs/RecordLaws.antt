@@ -9,7 +9,7 @@ use Rattle.bank_parts.specs.declared.parts.Parts.{Parts}
 use Rattle.bank_parts.specs.Counts.{counted, all_counted}
 use Rattle.bank_parts.specs.Limits.{totals_of, broken, broken_limit}
 use Rattle.bank_parts.proofs.Counts.{counted_same}
-use Rattle.bank_parts.proofs.LimitLaws.{AreWithin, within_totals, totals_counted, broken_counted}
+use Rattle.bank_parts.proofs.LimitLaws.{AreWithin, within_totals, none_broken, totals_counted, broken_counted}
 use Rattle.bank_core.specs.Totals.{with_records, with_records_counted, HasRecords}
 use Rattle.bank_core.proofs.TotalsLaws.{whole}
 
@@ -88,6 +88,44 @@ with_records_same at t u r e = sym (less_with_records at t r) ∙ (ap (λ (w : T
 has_records : (at : Level) (t : Totals) (r : Records) → HasRecords at (with_records at t r) r
 has_records level.Preset t r = (omega arith, omega arith, omega arith)
 has_records level.Instrument t r = (omega arith, omega arith, omega arith)
+
+-- ---- where no limit is broken with them, none is without
+
+pub without_records_within : (at : Level) (t : Totals) (r : Records) → broken (with_records at t r) ≡ None → broken t ≡ None
+without_records_within level.Preset t r e =
+    let w = within_totals (with_records level.Preset t r) e in
+    let zones = w.preset_zones in
+    let gens = w.preset_gens in
+    let mods = w.preset_mods in
+    none_broken t (record {
+      presets = w.presets;
+      instruments = w.instruments;
+      samples = w.samples;
+      preset_zones = omega (arith, zones);
+      instrument_zones = w.instrument_zones;
+      preset_gens = omega (arith, gens);
+      instrument_gens = w.instrument_gens;
+      preset_mods = omega (arith, mods);
+      instrument_mods = w.instrument_mods;
+      points = w.points;
+    })
+without_records_within level.Instrument t r e =
+    let w = within_totals (with_records level.Instrument t r) e in
+    let zones = w.instrument_zones in
+    let gens = w.instrument_gens in
+    let mods = w.instrument_mods in
+    none_broken t (record {
+      presets = w.presets;
+      instruments = w.instruments;
+      samples = w.samples;
+      preset_zones = w.preset_zones;
+      instrument_zones = omega (arith, zones);
+      preset_gens = w.preset_gens;
+      instrument_gens = omega (arith, gens);
+      preset_mods = w.preset_mods;
+      instrument_mods = omega (arith, mods);
+      points = w.points;
+    })
 
 -- ---- where no limit is broken, the count is the sum
 

@@ -10,6 +10,7 @@ mod presets;
 mod samples;
 mod texts;
 mod totals;
+mod zone_changes;
 mod zones;
 
 pub use bank::Bank;
