@@ -1,25 +1,22 @@
 -- The raw changes of zones: each keeps a bank sound, and is taken back.
-use Rattle.std.proofs.Common.{◌≡◌, ◌+◌, ◌≤◌, ◌<◌, ◌^◌, ℕ, List, length, insert, remove, slice_get, Option, Some, None, refl, sym, ap, ◌∙◌, arith}
-use Rattle.std.specs.Prelude.{IsSomeAnd, sum_by, slice_set}
+use Rattle.std.proofs.Common.{◌≡◌, ◌+◌, ◌≤◌, ◌<◌, ◌^◌, ℕ, List, length, insert, remove, slice_get, Option, Some, None, refl, sym, ap, ◌∙◌}
+use Rattle.std.specs.Prelude.{IsSomeAnd}
 use Rattle.std.specs.Option.{option_and_then}
-use Rattle.std.specs.List.{AllByRecursion}
 use Rattle.std.specs.FinMap.{len}
 use Rattle.std.proofs.lemmas.List.Sums.{sum_by-insert}
 use Rattle.numbered_lists.specs.Moved.{changed, moved}
 use Rattle.numbered_lists.proofs.Lists.{slice_get-found}
-use Rattle.bank_parts.specs.declared.counting.Records.{Records}
 use Rattle.bank_parts.specs.declared.parts.Head.{Head}
 use Rattle.bank_parts.specs.declared.parts.Zone.{Zone}
 use Rattle.bank_parts.specs.declared.parts.WithZones.{WithZones}
 use Rattle.bank_parts.specs.declared.parts.Parts.{Parts}
-use Rattle.bank_parts.specs.Counts.{records_of_zone, records_sum, all_counted}
+use Rattle.bank_parts.specs.Counts.{records_of_zone, records_sum}
 use Rattle.bank_parts.specs.ZoneChanges.{with_target}
 use Rattle.bank_parts.specs.Valid.{IsZone}
 use Rattle.bank_parts.specs.Fits.{FitsZone}
 use Rattle.bank_parts.specs.Sound.{IsSound}
 use Rattle.bank_parts.specs.Limits.{totals_of, broken, broken_limit}
 use Rattle.bank_parts.proofs.LimitLaws.{no_limit_of}
-use Rattle.bank_parts.proofs.SettingLaws.{source}
 use Rattle.bank_parts.proofs.UndoneLaws as list
 use Rattle.bank_parts.proofs.UndoneLaws.{There}
 use Rattle.bank_core.specs.declared.members.Owner.{Owner}
@@ -27,7 +24,7 @@ use Rattle.bank_core.specs.declared.members.Owner.TheVariants as owner
 use Rattle.bank_core.specs.Members.{own_zone_count, zones_of, zone_of, target_of, level_of, target_count}
 use Rattle.bank_core.specs.Totals.{with_records}
 use Rattle.bank_core.specs.Zones.{zone_added, zone_removed, zone_moved, target_set}
-use Rattle.bank_core.proofs.Changes.{all_found, all_changed, sum-changed, sum-removed}
+use Rattle.bank_core.proofs.Changes.{all_changed, sum-changed, sum-removed}
 use Rattle.bank_core.proofs.Everywhere.{all_insert, all_remove}
 use Rattle.bank_core.proofs.Moves.{all_moved, sum-moved}
 use Rattle.bank_core.proofs.RecordLaws.{without_records_within}

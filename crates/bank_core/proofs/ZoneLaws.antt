@@ -1,10 +1,9 @@
 -- The zones of an owner put in the place of those that it had: the bank stays sound, and the totals follow.
-use Rattle.std.proofs.Common.{◌≡◌, ◌+◌, ◌≤◌, ◌<◌, ℕ, zero, suc, List, [], ◌∷◌, length, insert, remove, slice_get, Some, None, refl, sym, ap, subst, ◌∙◌, arith}
+use Rattle.std.proofs.Common.{◌≡◌, ◌+◌, ℕ, zero, suc, List, [], ◌∷◌, length, slice_get, Some, None, refl, sym, ap, subst, ◌∙◌, arith}
 use Rattle.std.specs.Prelude.{sum_by, slice_set}
 use Rattle.std.specs.List.{AllByRecursion}
 use Rattle.std.specs.FinMap.{len}
-use Rattle.std.proofs.lemmas.List.Sums.{sum_by-cons, sum_by-insert}
-use Rattle.numbered_lists.specs.Moved.{changed, moved}
+use Rattle.std.proofs.lemmas.List.Sums.{sum_by-cons}
 use Rattle.numbered_lists.proofs.Lists.{changed-found, length-changed}
 use Rattle.sf_base.specs.Names.{IsName}
 use Rattle.generators.specs.declared.level.Level.{Level}
@@ -30,8 +29,7 @@ use Rattle.bank_core.specs.Members.{zones_of, level_of, target_count}
 use Rattle.bank_core.specs.Totals.{with_records}
 use Rattle.bank_core.specs.Zones.{own_zones_changed}
 use Rattle.bank_core.proofs.Everywhere.{all_weaker}
-use Rattle.bank_core.proofs.Changes.{all_found, all_changed, sum-removed}
-use Rattle.bank_core.proofs.Moves.{sum-moved}
+use Rattle.bank_core.proofs.Changes.{all_found, all_changed}
 use Rattle.bank_core.proofs.RecordLaws.{with_records_same}
 
 -- ---- a list of members of which one has other zones

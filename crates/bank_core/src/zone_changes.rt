@@ -84,7 +84,9 @@ fn insert_zone(parts: &mut Parts<'_>, owner: Owner, at: u32, zone: Zone) -> Resu
     ensures value_returned { IfErr result (λ back. back ≡ zone) }
 {
     match owner {
-        Owner::Preset(number) => parts.presets.insert_zone(number as usize, at as usize, zone),
+        Owner::Preset(number) => parts
+            .presets
+            .insert_zone(number as usize, at as usize, zone),
         Owner::Instrument(number) => {
             parts
                 .instruments
