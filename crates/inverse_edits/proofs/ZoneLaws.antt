@@ -113,7 +113,7 @@ undone_remove_zone b o k s t =
     undone_by b (RemoveZone o k) (AddZone o k zone) s (record {
       is = rw e refl;
       sound = sound_remove_zone b o k s t.accepted;
-      fits = (t.fits.0, (t.fits.1, all_found FitsZone h.member k zone h.holds (zones_fit b o h.member s h.there)));
+      fits = (t.fits.0, t.fits.1, all_found FitsZone h.member k zone h.holds (zones_fit b o h.member s h.there));
       tests = tests_add_zone (zone_removed b o k) o k zone (record {
         place = counted_removed h.member k (λ count. k ≤ count) b o h.there (omega (arith, less, lt));
         is = subst (λ n. IsZone (level_of o) n zone) (sym (targets_stay-removed b o k)) is;
@@ -135,7 +135,7 @@ undone_move_zone b o from to s t =
     undone_by b (MoveZone o from to) (MoveZone o to from) s (record {
       is = refl;
       sound = sound_move_zone b o from to s t.accepted;
-      fits = (t.fits.0, (t.fits.2, t.fits.1));
+      fits = (t.fits.0, t.fits.2, t.fits.1);
       tests = tests_move_zone (zone_moved b o from to) o to from (record {
         there = counted_moved h.member from (λ count. to < count) b o to h.there (omega (arith, size, lu));
         place = counted_moved h.member from (λ count. from < count) b o to h.there (omega (arith, size, lt));
@@ -160,7 +160,7 @@ undone_set_target b o k target s t =
     undone_by b (SetTarget o k target) (SetTarget o k zone.target) s (record {
       is = rw was refl;
       sound = sound_set_target b o k target s t.fits.2 t.accepted;
-      fits = (t.fits.0, (t.fits.1, fit.target));
+      fits = (t.fits.0, t.fits.1, fit.target);
       tests = tests_set_target (target_set b o k target) o k zone.target (record {
         there = counted_target h.member k (λ count. k < count) b o target h.there (omega (arith, size, lt));
         target_is = subst (λ n. zone.target < n) (sym (targets_stay-set b o k target)) is.target;
