@@ -73,7 +73,7 @@ content_stands content =
     ∙ with_modulators content.mods (record no_content { gens = set_in_order no_gens (entries content.gens) })
     ∙ ap (λ (m : Gens). record content { gens = m }) (entries_set content.gens)
 
-zone_stands : (z : Zone) → zone_in (written_zone z) ≡ z
+pub zone_stands : (z : Zone) → zone_in (written_zone z) ≡ z
 zone_stands z = ap (zone_of z.target) (content_stands (record { gens = z.gens; mods = z.mods }))
 
 all_stand : (zs : List Zone) → map zone_in (map written_zone zs) ≡ zs

@@ -84,9 +84,10 @@ fn an_item(line: &mut Cursor<'_, '_>) -> Result<Item, LineFault>
     }
 }
 
-// `OPERATOR AMOUNT`
+/// `OPERATOR AMOUNT`: a generator's operator and its amount, as a word of 16 bits. The amount is
+/// `LO..HI` for the ranges of keys and of velocities, and else a signed number.
 #[tactic(auto, unfolding(crate::specs::Items::generator))]
-fn generator(line: &mut Cursor<'_, '_>) -> Result<(u16, u16), LineFault>
+pub fn generator(line: &mut Cursor<'_, '_>) -> Result<(u16, u16), LineFault>
     ensures { Reads (λ e. e) generator line.old line.new result }
 {
     let operator = line.number(u32::from(u16::MAX))? as u16;
@@ -108,9 +109,9 @@ fn amount(operator: u16, line: &mut Cursor<'_, '_>) -> Result<u16, LineFault>
     }
 }
 
-// `SOURCE DEST AMOUNT ASOURCE TRANSFORM`
+/// A modulator: `SOURCE DEST AMOUNT ASOURCE TRANSFORM`.
 #[tactic(auto, unfolding(crate::specs::Items::modulator))]
-fn modulator(line: &mut Cursor<'_, '_>) -> Result<Modulator, LineFault>
+pub fn modulator(line: &mut Cursor<'_, '_>) -> Result<Modulator, LineFault>
     ensures { Reads (λ m. m) modulator line.old line.new result }
 {
     let source = line.number(u32::from(u16::MAX))? as u16;

@@ -4,7 +4,8 @@
 //! A part is read by a function that takes it from a [`Cursor`](line_tokens::Cursor), and put by one
 //! that puts each of its tokens behind a space. The parts are a word of a list of words ([`named`]),
 //! the id of a text ([`info_id`]), a sample, `NAME RATE KEY CORR KIND LOOP POINTS` ([`sample_body`]),
-//! and the zones of a preset or an instrument, `GLOBAL? ZONE*` ([`zones`]).
+//! the zones of a preset or an instrument, `GLOBAL? ZONE*` ([`zones`]), or one of them ([`zone`]), and
+//! what a zone sets: a generator, `OPERATOR AMOUNT` ([`generator`]), or a modulator ([`modulator`]).
 //!
 //! `GLOBAL` is `{ global ITEM* }`, `ZONE` is `{ TARGET ITEM* }`, and `ITEM` is `g OPERATOR AMOUNT` or
 //! `m SOURCE DEST AMOUNT ASOURCE TRANSFORM`.
@@ -17,8 +18,9 @@ mod texts;
 mod zone_lines;
 mod zone_lists;
 
+pub use items::{generator, modulator};
 pub use names::{HasWord, named};
 pub use samples::{put_sample_body, put_sample_head, sample_body};
 pub use texts::info_id;
-pub use zone_lines::put_zones;
-pub use zone_lists::zones;
+pub use zone_lines::{put_generator, put_modulator, put_zone, put_zones};
+pub use zone_lists::{zone, zones};

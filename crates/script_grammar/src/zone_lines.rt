@@ -8,7 +8,7 @@ ghost use Rattle.line_tokens.specs.Printing.{spaced};
 ghost use Rattle.script_grammar.specs.Operands as operand;
 ghost use Rattle.script_grammar.specs.Operands.{piece_of, pieces_of};
 ghost use Rattle.script_grammar.specs.declared.items.Item.TheVariants as item;
-ghost use Rattle.script_grammar.specs.Items.{amount_operand, item_operands, items_operands};
+ghost use Rattle.script_grammar.specs.Items.{amount_operand, generator_operands, modulator_operands, item_operands, items_operands};
 ghost use Rattle.script_grammar.specs.Zones.{items_of, global_of, global_operands, zone_operands, written_zone, written_of, written_operands};
 
 use bank_parts::{GlobalZone, Zone};
@@ -52,8 +52,9 @@ fn put_all_zones<W: Write>(zones: &[Zone], output: &mut Output<'_, W>)
     }
 }
 
-// `{ TARGET ITEM* }`
-fn put_zone<W: Write>(zone: &Zone, output: &mut Output<'_, W>)
+/// Puts one zone, `{ TARGET ITEM* }`, each token behind a space: its generators in canonical order
+/// before its modulators.
+pub fn put_zone<W: Write>(zone: &Zone, output: &mut Output<'_, W>)
     ensures { Puts W.contents output.old output.new (flat_map spaced (pieces_of (zone_operands (written_zone zone.now)))) }
 {
     let target = Piece::Number(u64::from(zone.target));
@@ -74,17 +75,24 @@ fn put_generators<W: Write>(entries: &[(u16, u16)], output: &mut Output<'_, W>)
     ensures { Puts W.contents output.old output.new (flat_map (λ e. flat_map spaced (pieces_of (item_operands (item.Generator e.0 e.1)))) entries.now) }
 {
     for entry in entries {
-        put_generator(entry.0, entry.1, output);
+        put_generator_item(entry.0, entry.1, output);
     }
 }
 
 // `g OPERATOR AMOUNT`
-fn put_generator<W: Write>(operator: u16, amount: u16, output: &mut Output<'_, W>)
+fn put_generator_item<W: Write>(operator: u16, amount: u16, output: &mut Output<'_, W>)
     ensures { Puts W.contents output.old output.new (flat_map spaced (pieces_of (item_operands (item.Generator operator amount)))) }
 {
-    let word = Piece::Word(Lent::new(b"g"));
+    put_pieces(&[Piece::Word(Lent::new(b"g"))], output);
+    put_generator(operator, amount, output);
+}
+
+/// Puts `OPERATOR AMOUNT`, each token behind a space.
+pub fn put_generator<W: Write>(operator: u16, amount: u16, output: &mut Output<'_, W>)
+    ensures { Puts W.contents output.old output.new (flat_map spaced (pieces_of (generator_operands operator amount))) }
+{
     let amount = amount_piece(operator, amount);
-    put_pieces(&[word, Piece::Number(u64::from(operator)), amount], output);
+    put_pieces(&[Piece::Number(u64::from(operator)), amount], output);
 }
 
 // `LO..HI` for the ranges of keys and of velocities, and else a signed number.
@@ -103,22 +111,26 @@ fn put_modulators<W: Write>(mods: &[Modulator], output: &mut Output<'_, W>)
     ensures { Puts W.contents output.old output.new (flat_map (λ (m : Modulator). flat_map spaced (pieces_of (item_operands (item.Modulator m)))) mods.now) }
 {
     for modulator in mods {
-        put_modulator(modulator, output);
+        put_modulator_item(modulator, output);
     }
 }
 
 // `m MOD`
-fn put_modulator<W: Write>(modulator: &Modulator, output: &mut Output<'_, W>)
+fn put_modulator_item<W: Write>(modulator: &Modulator, output: &mut Output<'_, W>)
     ensures { Puts W.contents output.old output.new (flat_map spaced (pieces_of (item_operands (item.Modulator modulator.now)))) }
 {
-    let word = Piece::Word(Lent::new(b"m"));
+    put_pieces(&[Piece::Word(Lent::new(b"m"))], output);
+    put_modulator(modulator, output);
+}
+
+/// Puts a modulator, `SOURCE DEST AMOUNT ASOURCE TRANSFORM`, each token behind a space.
+pub fn put_modulator<W: Write>(modulator: &Modulator, output: &mut Output<'_, W>)
+    ensures { Puts W.contents output.old output.new (flat_map spaced (pieces_of (modulator_operands modulator.now))) }
+{
     let source = Piece::Number(u64::from(modulator.source));
     let dest = Piece::Number(u64::from(modulator.dest));
     let amount = Piece::Signed(i64::from(modulator.amount));
     let amount_source = Piece::Number(u64::from(modulator.amount_source));
     let transform = Piece::Number(u64::from(modulator.transform));
-    put_pieces(
-        &[word, source, dest, amount, amount_source, transform],
-        output,
-    );
+    put_pieces(&[source, dest, amount, amount_source, transform], output);
 }

@@ -104,8 +104,8 @@ fn zones_left(
     Ok(zones)
 }
 
-// `{ TARGET ITEM* }`
-fn zone(alloc: Global, line: &mut Cursor<'_, '_>) -> Result<Zone, Failure<LineFault>>
+/// One zone: `{ TARGET ITEM* }`. `global` in place of the target is a fault of number.
+pub fn zone(alloc: Global, line: &mut Cursor<'_, '_>) -> Result<Zone, Failure<LineFault>>
     ensures { ReadsOrWants (λ z. z) zone line.old line.new result }
 {
     match opened(line) {
