@@ -80,6 +80,14 @@ impl ScriptFault {
     }
 }
 
+impl From<LineFault> for Failure<LineFault> {
+    ghost from_gives = { λ fault failure. failure ≡ Fault fault };
+
+    fn from(fault: LineFault) -> Failure<LineFault> {
+        Failure::Fault(fault)
+    }
+}
+
 impl From<ScriptFault> for Failure<ScriptFault> {
     ghost from_gives = { λ fault failure. failure ≡ Fault fault };
 
