@@ -1,5 +1,5 @@
 -- What a script says fits.
-use Rattle.std.proofs.Common.{◌≡◌, ◌<◌, ◌^◌, ℕ, suc, List, [], ◌∷◌, Result, Ok, Err, sym, subst, arith, inl, inr}
+use Rattle.std.proofs.Common.{◌≡◌, ◌≤◌, ◌<◌, ◌^◌, ℕ, suc, List, [], ◌∷◌, Result, Ok, Err, sym, subst, arith, inl, inr}
 use Rattle.std.specs.Result.{IfOk}
 use Rattle.sf_base.specs.declared.memory.Failure.{Failure}
 use Rattle.std.specs.List.{AllByRecursion}
@@ -12,10 +12,14 @@ use Rattle.bank_parts.specs.Fits.{FitsGlobal, FitsZone, FitsHead, FitsOwner}
 use Rattle.script_grammar.specs.Operands.{Operand}
 use Rattle.script_grammar.specs.Zones.{written_operands}
 use Rattle.bank_edits.specs.declared.edit.Step.{Step}
-use Rattle.bank_edits.specs.declared.edit.Step.TheVariants.{AddPreset, RemovePreset, MovePreset, AddInstrument, RemoveInstrument, RenameInstrument, MoveInstrument, RenameSample, AddSample, RemoveSample, MoveSample, SetInfo}
+use Rattle.bank_edits.specs.declared.edit.Step.TheVariants.{AddPreset, RemovePreset, MovePreset, SetHead, AddInstrument, RemoveInstrument, RenameInstrument, MoveInstrument, RenameSample, AddSample, RemoveSample, MoveSample, AddZone, RemoveZone, MoveZone, SplitZone, JoinZone, SetTarget, SetGen, ClearGen, AddMod, RemoveMod, SetMod, SetInfo}
 use Rattle.bank_edits.specs.declared.edit.Edit.{Edit}
 use Rattle.bank_edits.specs.declared.edit.Edit.TheVariants.{One}
-use Rattle.bank_edits.specs.Steps.{FitsStep}
+use Rattle.bank_core.specs.declared.members.Owner.{Owner}
+use Rattle.bank_core.specs.declared.members.Owner.TheVariants as owner
+use Rattle.bank_core.specs.declared.members.Place.{Place}
+use Rattle.bank_core.specs.declared.members.Place.TheVariants as there
+use Rattle.bank_edits.specs.Steps.{FitsNumberOf, FitsPlace, FitsStep}
 use Rattle.bank_edits.specs.Edits.{FitsEdit}
 use Rattle.line_tokens.specs.declared.cursor.Said.{Said}
 use Rattle.line_tokens.specs.declared.fault.ScriptFault.{ScriptFault}
@@ -25,8 +29,9 @@ use Rattle.edit_script.specs.declared.parsing.Line.{Line}
 use Rattle.edit_script.specs.Members.{place, named_operands, moved_operands, SaysOwner}
 use Rattle.edit_script.specs.Presets.{head_operands}
 use Rattle.edit_script.specs.Instruments.{name_operands}
-use Rattle.script_grammar.proofs.FitLaws.{AllRanged, all_ranged, behind, sample_fits}
-use Rattle.script_grammar.proofs.ZoneFitLaws.{zones_ranged}
+use Rattle.edit_script.specs.Owners.{number_in, at_place}
+use Rattle.script_grammar.proofs.FitLaws.{Ranged, AllRanged, all_ranged, behind, sample_fits}
+use Rattle.script_grammar.proofs.ZoneFitLaws.{generator_fits, modulator_fits, zone_fits, zones_ranged}
 use Rattle.edit_script.specs.Grammar.{SaysStep}
 use Rattle.edit_script.specs.Script.{script_of}
 use Rattle.edit_script.specs.Printing.{LinesFit}
@@ -67,10 +72,30 @@ head_fits h k =
       morphology = omega (arith, morphology);
     }
 
+number_ranged : (n : ℕ) → n ≤ 4294967295 → n < 2 ^ 32
+number_ranged n h = omega (arith, h)
+
+word_ranged : (n : ℕ) → n ≤ 65535 → n < 2 ^ 16
+word_ranged n h = omega (arith, h)
+
+byte_ranged : (n : ℕ) → n ≤ 255 → n < 2 ^ 8
+byte_ranged n h = omega (arith, h)
+
+owner_ranged : (o : Owner) → number_in o ≤ 4294967295 → FitsNumberOf o
+owner_ranged (owner.Preset p) h = number_ranged p h
+owner_ranged (owner.Instrument i) h = number_ranged i h
+
+place_ranged : (p : Place) → Ranged (at_place p) → FitsPlace p
+place_ranged there.Global h = tt
+place_ranged (there.Zone k) h = number_ranged k h
+
 step_fits : (s : Step) (os : List Operand) → SaysStep s os → AllRanged os → FitsStep s
 step_fits (AddPreset at preset) os s h = owner_fits FitsHead head_operands at preset os (head_fits preset.head) s h
 step_fits (RemovePreset preset) os s h = place_fits preset (subst AllRanged s h)
 step_fits (MovePreset from to) os s h = both_fit from to (subst AllRanged s h)
+step_fits (SetHead preset name number bank) os s h =
+    let k = subst AllRanged s h in
+    (number_ranged preset k.0, k.1.0, word_ranged number k.1.1.0, word_ranged bank k.1.1.1.0)
 step_fits (AddInstrument at instrument) os s h = owner_fits IsName name_operands at instrument os (λ h. h.0) s h
 step_fits (RemoveInstrument instrument) os s h = place_fits instrument (subst AllRanged s h)
 step_fits (RenameInstrument instrument name) os s h = named_fit instrument name (subst AllRanged s h)
@@ -79,6 +104,22 @@ step_fits (RenameSample sample name) os s h = named_fit sample name (subst AllRa
 step_fits (AddSample at sample) os s h = let k = subst AllRanged s h in (let l = k.0 in omega (arith, l), sample_fits sample k.1)
 step_fits (RemoveSample sample) os s h = place_fits sample (subst AllRanged s h)
 step_fits (MoveSample from to) os s h = both_fit from to (subst AllRanged s h)
+step_fits (AddZone o at zone) os s h =
+    let k = subst AllRanged s.operands h in
+    (owner_ranged o k.1.0, number_ranged at k.1.1.0, subst FitsZone s.stands (zone_fits s.written k.1.1.1))
+step_fits (RemoveZone o zone) os s h = let k = subst AllRanged s h in (owner_ranged o k.1.0, number_ranged zone k.1.1.0)
+step_fits (MoveZone o from to) os s h = let k = subst AllRanged s h in (owner_ranged o k.1.0, number_ranged from k.1.1.0, number_ranged to k.1.1.1.0)
+step_fits (SplitZone o zone axis at) os s h = let k = subst AllRanged s h in (owner_ranged o k.1.0, number_ranged zone k.1.1.0, byte_ranged at k.1.1.1.1.0)
+step_fits (JoinZone o zone axis kept) os s h = let k = subst AllRanged s h in (owner_ranged o k.1.0, number_ranged zone k.1.1.0)
+step_fits (SetTarget o zone target) os s h = let k = subst AllRanged s h in (owner_ranged o k.1.0, number_ranged zone k.1.1.0, word_ranged target k.1.1.1.0)
+step_fits (SetGen o at operator amount) os s h =
+    let k = subst AllRanged s h in
+    let g = generator_fits operator amount k.1.1.1 in
+    (owner_ranged o k.1.0, place_ranged at k.1.1.0, g.0, g.1)
+step_fits (ClearGen o at operator) os s h = let k = subst AllRanged s h in (owner_ranged o k.1.0, place_ranged at k.1.1.0, word_ranged operator k.1.1.1.0)
+step_fits (AddMod o at index m) os s h = let k = subst AllRanged s h in (owner_ranged o k.1.0, place_ranged at k.1.1.0, number_ranged index k.1.1.1.0, modulator_fits m k.1.1.1.1)
+step_fits (RemoveMod o at index) os s h = let k = subst AllRanged s h in (owner_ranged o k.1.0, place_ranged at k.1.1.0, number_ranged index k.1.1.1.0)
+step_fits (SetMod o at index m) os s h = let k = subst AllRanged s h in (owner_ranged o k.1.0, place_ranged at k.1.1.0, number_ranged index k.1.1.1.0, modulator_fits m k.1.1.1.1)
 step_fits (SetInfo id text) os s h = let k = subst AllRanged s h in k.1.0
 
 edit_fits : (said : List Said) (e : Edit) → SaysEdit said e → FitsEdit e

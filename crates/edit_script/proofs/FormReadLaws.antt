@@ -1,26 +1,34 @@
 -- What is read behind the word of a form, operands of a step of that form say.
-use Rattle.std.proofs.Common.{◌≡◌, ℕ, List, [], ◌∷◌, ◌++◌, Ok, refl, sym, ap, subst, ◌∙◌}
+use Rattle.std.proofs.Common.{◌≡◌, ℕ, Bool, true, false, cond, List, [], ◌∷◌, ◌++◌, codes, Ok, refl, sym, ap, subst, ◌∙◌}
 use Rattle.std.proofs.lemmas.List.{append-nil}
 use Rattle.bank_parts.specs.declared.parts.GlobalZone.{GlobalZone}
 use Rattle.bank_parts.specs.declared.parts.Zone.{Zone}
+use Rattle.bank_core.specs.declared.members.Owner.{Owner}
+use Rattle.bank_core.specs.declared.members.Place.{Place}
+use Rattle.bank_core.specs.declared.members.Place.TheVariants as there
 use Rattle.bank_edits.specs.declared.edit.Step.{Step}
-use Rattle.bank_edits.specs.declared.edit.Step.TheVariants.{AddPreset, RemovePreset, MovePreset, AddInstrument, RemoveInstrument, RenameInstrument, MoveInstrument, RenameSample, AddSample, RemoveSample, MoveSample, SetInfo}
+use Rattle.bank_edits.specs.declared.edit.Step.TheVariants.{AddPreset, RemovePreset, MovePreset, SetHead, AddInstrument, RemoveInstrument, RenameInstrument, MoveInstrument, RenameSample, AddSample, RemoveSample, MoveSample, AddZone, RemoveZone, MoveZone, SplitZone, JoinZone, SetTarget, SetGen, ClearGen, AddMod, RemoveMod, SetMod, SetInfo}
 use Rattle.line_tokens.specs.declared.cursor.Said.{Said}
-use Rattle.line_tokens.specs.declared.fault.LineFault.TheVariants as faults
-use Rattle.line_tokens.specs.Parts.{Part, Took, ◌>>=◌, pure, or_fault, word, literal, number, name}
-use Rattle.line_tokens.proofs.ReadLaws.{AllHoldBytes, both, or_fault_is}
+use Rattle.line_tokens.specs.Parts.{Part, Took, ◌>>=◌, pure, is_next, word, literal, number, name}
+use Rattle.line_tokens.proofs.ReadLaws.{AllHoldBytes, both}
 use Rattle.edit_script.specs.declared.forms.Form.{Form}
 use Rattle.edit_script.specs.declared.forms.Form.TheVariants as form
 use Rattle.script_grammar.specs.Operands.{Operand, Fixed, Number, Name, Text}
-use Rattle.script_grammar.specs.Names.{named}
+use Rattle.script_grammar.specs.Names.{next_named}
+use Rattle.script_grammar.specs.Ranges.{axis_word, axes, keep_word, keeps}
 use Rattle.script_grammar.specs.Samples.{body_operands, body}
 use Rattle.script_grammar.specs.Texts.{id_word, info_id}
-use Rattle.script_grammar.specs.Zones.{Written, written_operands, zones_in, zones}
-use Rattle.script_grammar.proofs.NameLaws.{named_is}
-use Rattle.script_grammar.proofs.ReadLaws.{Fronts, then, made, word_front, number_front, name_front, text_front, body_front, id_front}
-use Rattle.script_grammar.proofs.ZoneReadLaws.{zones_front}
+use Rattle.script_grammar.specs.Items.{generator, modulator}
+use Rattle.script_grammar.specs.Zones.{Written, WrittenZone, zone_operands, written_operands, zone_in, zones_in, zone, zones}
+use Rattle.script_grammar.proofs.ReadLaws.{Fronts, then, made, word_front, number_front, name_front, next_named_front, text_front, body_front, id_front}
+use Rattle.script_grammar.proofs.ZoneReadLaws.{next_is, generator_front, modulator_front, zone_front, zones_front}
 use Rattle.edit_script.specs.Members.{place, named_operands, moved_operands, owner_of, SaysOwner, placed, naming, moving, zones_of, owner}
-use Rattle.edit_script.specs.Presets.{head_operands, head, head_of, placed_head, added_preset}
+use Rattle.edit_script.specs.declared.owners.OwnerKind.{OwnerKind}
+use Rattle.edit_script.specs.declared.owners.OwnerKind.TheVariants as kind
+use Rattle.edit_script.specs.Owners.{kind_word, kinds, of_owner, at_place, of_zone, of_place, owner_with, an_owner, a_place, owner_zone, owner_place}
+use Rattle.edit_script.specs.Zones.{add_zone, remove_zone, move_zone, split_zone, join_zone, set_target}
+use Rattle.edit_script.specs.Settings.{set_gen, clear_gen, add_mod, remove_mod, set_mod}
+use Rattle.edit_script.specs.Presets.{head_operands, head, head_of, placed_head, added_preset, set_head}
 use Rattle.edit_script.specs.Instruments.{name_operands, added_instrument}
 use Rattle.edit_script.specs.Samples.{added_sample}
 use Rattle.edit_script.specs.Texts.{id_and_text}
@@ -74,11 +82,15 @@ none x T h line t g e = subst (SaidFront T line) (made x line t e) (record { ope
 
 -- ---- parts of several forms
 
+-- two parts, each said by operands of its own
+pair_said : {X Y : Type 0} (p : Part X) (q : Part Y) (o : X → List Operand) (r : Y → List Operand) → IsSaidBy X p o → IsSaidBy Y q r → IsSaidBy (X × Y) (p >>= λ x. q >>= λ y. pure (x, y)) (λ a. o a.0 ++ r a.1)
+pair_said {X} {Y} p q o r h k =
+    said_by (behind p _ (λ (a : X × Y) os. os ≡ o a.0 ++ r a.1) o h (λ x.
+    behind q _ (λ (a : X × Y) os. o x ++ os ≡ o a.0 ++ r a.1) r k (λ y.
+    none (x, y) (λ (a : X × Y) os. o x ++ (r y ++ os) ≡ o a.0 ++ r a.1) (ap (λ (os : List Operand). o x ++ os) (append-nil (r y))))))
+
 placed_said : {X : Type 0} (p : Part X) (o : X → List Operand) → IsSaidBy X p o → IsSaidBy (ℕ × X) (placed p) (λ a. place a.0 ∷ o a.1)
-placed_said {X} p o h =
-    said_by (behind (number 4294967295) _ (λ (a : ℕ × X) os. os ≡ place a.0 ∷ o a.1) (λ i. place i ∷ []) (number_front 4294967295) (λ i.
-    behind p _ (λ (a : ℕ × X) os. place i ∷ os ≡ place a.0 ∷ o a.1) o h (λ x.
-    none (i, x) (λ (a : ℕ × X) os. place i ∷ (o x ++ os) ≡ place a.0 ∷ o a.1) (ap (λ (os : List Operand). place i ∷ os) (append-nil (o x))))))
+placed_said p o h = pair_said (number 4294967295) p (λ i. place i ∷ []) o (number_front 4294967295) h
 
 naming_said : IsSaidBy (ℕ × List ℕ) naming (λ n. named_operands n.0 n.1)
 unfolding naming
@@ -144,6 +156,48 @@ id_and_text_said =
     behind literal _ (λ t os. Fixed (id_word i) ∷ os ≡ Fixed (id_word t.0) ∷ Text t.1 ∷ []) (λ x. Text x ∷ []) text_front (λ x.
     none (i, x) (λ t os. Fixed (id_word i) ∷ Text x ∷ os ≡ Fixed (id_word t.0) ∷ Text t.1 ∷ []) refl)))
 
+-- ---- owners
+
+owner_with_said : (k : OwnerKind) (n : ℕ) → Fixed (kind_word k) ∷ place n ∷ [] ≡ of_owner (owner_with k n)
+owner_with_said kind.Preset n = refl
+owner_with_said kind.Instrument n = refl
+
+owner_front : IsSaidBy Owner an_owner of_owner
+unfolding an_owner
+owner_front =
+    said_by (behind (next_named kind_word kinds) _ (λ o os. os ≡ of_owner o) (λ k. Fixed (kind_word k) ∷ []) (next_named_front kind_word kinds) (λ k.
+    behind (number 4294967295) _ (λ o os. Fixed (kind_word k) ∷ os ≡ of_owner o) (λ n. place n ∷ []) (number_front 4294967295) (λ n.
+    none (owner_with k n) (λ o os. Fixed (kind_word k) ∷ place n ∷ os ≡ of_owner o) (owner_with_said k n))))
+
+place_front : IsSaidBy Place a_place (λ p. at_place p ∷ [])
+unfolding a_place
+place_front line t h e = from (is_next (codes "global") line) refl e
+  where
+    from : (b : Bool) → is_next (codes "global") line ≡ b → cond b ((word >>= λ w. pure there.Global) line) ((number 4294967295 >>= λ k. pure (there.Zone k)) line) ≡ Ok t → Fronts line t.rest (at_place t.value ∷ [])
+    from true k e =
+        let w = both (word line) (λ w. pure there.Global) t e in
+        let g = word_front line w.first h w.is in
+        let same : record { value = there.Global; rest = w.first.rest } ≡ t = made _ w.first.rest t w.second in
+        subst (λ (u : Took Place). Fronts line u.rest (at_place u.value ∷ [])) same
+        (subst (λ (v : List ℕ). Fronts line w.first.rest (Fixed v ∷ [])) (next_is (codes "global") line w.first w.is k) g)
+    from false k e =
+        let n = both (number 4294967295 line) (λ k. pure (there.Zone k)) t e in
+        let g = number_front 4294967295 line n.first h n.is in
+        let same : record { value = there.Zone n.first.value; rest = n.first.rest } ≡ t = made _ n.first.rest t n.second in
+        subst (λ (u : Took Place). Fronts line u.rest (at_place u.value ∷ [])) same g
+
+owner_zone_said : IsSaidBy (Owner × ℕ) owner_zone (λ z. of_zone z.0 z.1)
+unfolding owner_zone
+owner_zone_said = pair_said an_owner (number 4294967295) of_owner (λ k. place k ∷ []) owner_front (number_front 4294967295)
+
+owner_place_said : IsSaidBy (Owner × Place) owner_place (λ p. of_place p.0 p.1)
+unfolding owner_place
+owner_place_said = pair_said an_owner a_place of_owner (λ p. at_place p ∷ []) owner_front place_front
+
+-- a zone, however it is written
+zone_said : IsSaid Zone zone (λ z os. (w : WrittenZone) × (os ≡ zone_operands w) × (zone_in w ≡ z))
+zone_said line t h e = let s = zone_front line t h e in record { operands = zone_operands s.said; says = (s.said, refl, s.stands); fronts = s.fronts }
+
 -- ---- the forms
 
 -- a step of the form, and what says it
@@ -155,11 +209,29 @@ form_said : {X : Type 0} (f : Form) (p : Part X) (S : X → List Operand → Typ
 form_said f p S make h k =
     behind_said p _ (StepOf f) {S = S} h (λ x os s. none (make x) (λ t more. StepOf f t (os ++ more)) (subst (StepOf f (make x)) (sym (append-nil os)) (k x os s)))
 
+-- of two parts, and of three
+form_of_two : {X Y : Type 0} (f : Form) (p : Part X) (q : Part Y) (o : X → List Operand) (S : Y → List Operand → Type 0) (make : X → Y → Step) → IsSaidBy X p o → IsSaid Y q S
+    → ((x : X) (y : Y) (os : List Operand) → S y os → StepOf f (make x y) (o x ++ os)) → IsSaid Step (p >>= λ x. q >>= λ y. pure (make x y)) (StepOf f)
+form_of_two f p q o S make h k e =
+    behind p _ (StepOf f) o h (λ x.
+    behind_said q _ (λ s os. StepOf f s (o x ++ os)) {S = S} k (λ y os s.
+    none (make x y) (λ t more. StepOf f t (o x ++ (os ++ more))) (subst (λ (all : List Operand). StepOf f (make x y) (o x ++ all)) (sym (append-nil os)) (e x y os s))))
+
+form_of_three : {X Y Z : Type 0} (f : Form) (p : Part X) (q : Part Y) (r : Part Z) (o : X → List Operand) (u : Y → List Operand) (v : Z → List Operand) (make : X → Y → Z → Step) → IsSaidBy X p o → IsSaidBy Y q u → IsSaidBy Z r v
+    → ((x : X) (y : Y) (z : Z) → StepOf f (make x y z) (o x ++ (u y ++ v z))) → IsSaid Step (p >>= λ x. q >>= λ y. r >>= λ z. pure (make x y z)) (StepOf f)
+form_of_three f p q r o u v make h k l e =
+    behind p _ (StepOf f) o h (λ x.
+    behind q _ (λ s os. StepOf f s (o x ++ os)) u k (λ y.
+    behind r _ (λ s os. StepOf f s (o x ++ (u y ++ os))) v l (λ z.
+    none (make x y z) (λ t more. StepOf f t (o x ++ (u y ++ (v z ++ more)))) (subst (λ (all : List Operand). StepOf f (make x y z) (o x ++ (u y ++ all))) (sym (append-nil (v z))) (e x y z)))))
+
 -- what stands behind the word of a form says a step of that form
 operands_said : (f : Form) → IsSaid Step (operands_read f) (StepOf f)
+unfolding set_head add_zone remove_zone move_zone split_zone join_zone set_target set_gen clear_gen add_mod remove_mod set_mod
 operands_said form.AddPreset = form_said form.AddPreset added_preset _ (λ a. AddPreset a.0 a.1) added_preset_said (λ a os h. (h, refl))
 operands_said form.RemovePreset = form_said form.RemovePreset (number 4294967295) _ (λ p. RemovePreset p) (plain (number_front 4294967295)) (λ p os h. (h, refl))
 operands_said form.MovePreset = form_said form.MovePreset moving _ (λ m. MovePreset m.0 m.1) (plain moving_said) (λ m os h. (h, refl))
+operands_said form.SetHead = form_of_three form.SetHead naming (number 65535) (number 65535) _ _ _ (λ n number bank. SetHead n.0 n.1 number bank) naming_said (number_front 65535) (number_front 65535) (λ n number bank. (refl, refl))
 operands_said form.AddInstrument = form_said form.AddInstrument added_instrument _ (λ a. AddInstrument a.0 a.1) added_instrument_said (λ a os h. (h, refl))
 operands_said form.RemoveInstrument = form_said form.RemoveInstrument (number 4294967295) _ (λ i. RemoveInstrument i) (plain (number_front 4294967295)) (λ i os h. (h, refl))
 operands_said form.RenameInstrument = form_said form.RenameInstrument naming _ (λ n. RenameInstrument n.0 n.1) (plain naming_said) (λ n os h. (h, refl))
@@ -168,15 +240,22 @@ operands_said form.RenameSample = form_said form.RenameSample naming _ (λ n. Re
 operands_said form.AddSample = form_said form.AddSample added_sample _ (λ a. AddSample a.0 a.1) (plain added_sample_said) (λ a os h. (h, refl))
 operands_said form.RemoveSample = form_said form.RemoveSample (number 4294967295) _ (λ s. RemoveSample s) (plain (number_front 4294967295)) (λ s os h. (h, refl))
 operands_said form.MoveSample = form_said form.MoveSample moving _ (λ m. MoveSample m.0 m.1) (plain moving_said) (λ m os h. (h, refl))
+operands_said form.AddZone = form_of_two form.AddZone owner_zone zone _ _ (λ z content. AddZone z.0 z.1 content) owner_zone_said zone_said (λ z content os s. (record { written = s.0; operands = ap (λ (os : List Operand). of_zone z.0 z.1 ++ os) s.1; stands = s.2 }, refl))
+operands_said form.RemoveZone = form_said form.RemoveZone owner_zone _ (λ z. RemoveZone z.0 z.1) (plain owner_zone_said) (λ z os h. (h, refl))
+operands_said form.MoveZone = form_of_two form.MoveZone owner_zone (number 4294967295) _ _ (λ z to. MoveZone z.0 z.1 to) owner_zone_said (plain (number_front 4294967295)) (λ z to os s. (ap (λ (os : List Operand). of_zone z.0 z.1 ++ os) s, refl))
+operands_said form.SplitZone = form_of_three form.SplitZone owner_zone (next_named axis_word axes) (number 255) _ _ _ (λ z axis at. SplitZone z.0 z.1 axis at) owner_zone_said (next_named_front axis_word axes) (number_front 255) (λ z axis at. (refl, refl))
+operands_said form.JoinZone = form_of_three form.JoinZone owner_zone (next_named axis_word axes) (next_named keep_word keeps) _ _ _ (λ z axis keep. JoinZone z.0 z.1 axis keep) owner_zone_said (next_named_front axis_word axes) (next_named_front keep_word keeps) (λ z axis keep. (refl, refl))
+operands_said form.SetTarget = form_of_two form.SetTarget owner_zone (number 65535) _ _ (λ z target. SetTarget z.0 z.1 target) owner_zone_said (plain (number_front 65535)) (λ z target os s. (ap (λ (os : List Operand). of_zone z.0 z.1 ++ os) s, refl))
+operands_said form.SetGen = form_of_two form.SetGen owner_place generator _ _ (λ p g. SetGen p.0 p.1 g.0 g.1) owner_place_said (plain generator_front) (λ p g os s. (ap (λ (os : List Operand). of_place p.0 p.1 ++ os) s, refl))
+operands_said form.ClearGen = form_of_two form.ClearGen owner_place (number 65535) _ _ (λ p operator. ClearGen p.0 p.1 operator) owner_place_said (plain (number_front 65535)) (λ p operator os s. (ap (λ (os : List Operand). of_place p.0 p.1 ++ os) s, refl))
+operands_said form.AddMod = form_of_three form.AddMod owner_place (number 4294967295) modulator _ _ _ (λ p j m. AddMod p.0 p.1 j m) owner_place_said (number_front 4294967295) modulator_front (λ p j m. (refl, refl))
+operands_said form.RemoveMod = form_of_two form.RemoveMod owner_place (number 4294967295) _ _ (λ p j. RemoveMod p.0 p.1 j) owner_place_said (plain (number_front 4294967295)) (λ p j os s. (ap (λ (os : List Operand). of_place p.0 p.1 ++ os) s, refl))
+operands_said form.SetMod = form_of_three form.SetMod owner_place (number 4294967295) modulator _ _ _ (λ p j m. SetMod p.0 p.1 j m) owner_place_said (number_front 4294967295) modulator_front (λ p j m. (refl, refl))
 operands_said form.SetInfo = form_said form.SetInfo id_and_text _ (λ t. SetInfo t.0 t.1) (plain id_and_text_said) (λ t os h. (h, refl))
 
 form_front : IsSaidBy Form a_form (λ f. Fixed (form_word f) ∷ [])
 unfolding a_form
-form_front line t h e =
-    let w = both (word line) (λ w. or_fault faults.Syntax (named form_word forms w)) t e in
-    let g = word_front line w.first h w.is in
-    let o = or_fault_is faults.Syntax (named form_word forms w.first.value) w.first.rest t w.second in
-    subst (λ (r : List Said). Fronts line r (Fixed (form_word t.value) ∷ [])) o.1 (subst (λ (v : List ℕ). Fronts line w.first.rest (Fixed v ∷ [])) (named_is form_word forms w.first.value t.value o.0) g)
+form_front = next_named_front form_word forms
 
 -- the word of a form, and operands that say a step of it
 pub record SaysWhole (s : Step) (os : List Operand) : Type 0 where

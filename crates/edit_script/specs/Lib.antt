@@ -2,6 +2,9 @@ pub mod Members
 pub mod Presets
 pub mod Instruments
 pub mod Samples
+pub mod Owners
+pub mod Zones
+pub mod Settings
 pub mod Texts
 pub mod Grammar
 pub mod Script

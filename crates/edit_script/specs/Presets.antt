@@ -1,10 +1,12 @@
--- The form that puts a preset in: what stands behind its word, and how it is read.
-use Rattle.std.specs.Prelude.{ℕ, List, [], ◌∷◌}
+-- The forms that put a preset in and change its head: what stands behind their words, and how it is read.
+use Rattle.std.specs.Prelude.{ℕ, List, [], ◌∷◌, ◌++◌}
 use Rattle.bank_parts.specs.declared.parts.Head.{Head}
 use Rattle.bank_parts.specs.declared.parts.WithZones.{WithZones}
 use Rattle.line_tokens.specs.Parts.{Part, ◌>>=◌, pure, number, name}
 use Rattle.script_grammar.specs.Operands.{Operand, Number, Name}
-use Rattle.edit_script.specs.Members.{placed, owner}
+use Rattle.bank_edits.specs.declared.edit.Step.{Step}
+use Rattle.bank_edits.specs.declared.edit.Step.TheVariants.{SetHead}
+use Rattle.edit_script.specs.Members.{named_operands, naming, placed, owner}
 
 -- `NAME NUMBER BANK LIBRARY GENRE MORPHOLOGY`
 abbrev pub head_operands : Head → List Operand
@@ -33,3 +35,14 @@ placed_head = placed head
 -- `P NAME NUMBER BANK LIBRARY GENRE MORPHOLOGY GLOBAL? ZONE*`
 unfoldable pub added_preset : Part (ℕ × WithZones Head)
 added_preset = owner placed_head
+
+-- `P NAME NUMBER BANK`
+abbrev pub new_head_operands : ℕ → List ℕ → ℕ → ℕ → List Operand
+new_head_operands p name number bank = named_operands p name ++ Number 65535 number ∷ Number 65535 bank ∷ []
+
+unfoldable pub set_head : Part Step
+set_head = do
+  n ← naming
+  program ← number 65535
+  bank ← number 65535
+  pure (SetHead n.0 n.1 program bank)

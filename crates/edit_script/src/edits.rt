@@ -10,15 +10,27 @@ ghost use Rattle.edit_script.specs.Grammar.{form_word, form_of, operands, operan
 ghost use Rattle.edit_script.specs.Printing.{text_of};
 
 use crate::forms::Form;
-use crate::instruments::{added_instrument, put_add_instrument};
-use crate::members::{moving, naming, put_moving, put_removal, put_renaming};
-use crate::presets::{added_preset, put_add_preset};
-use crate::samples::{added_sample, put_add_sample};
-use crate::texts::{id_and_text, put_set_info};
+use crate::instruments::{
+    add_instrument, move_instrument, put_add_instrument, remove_instrument, rename_instrument,
+};
+use crate::members::{put_moving, put_removal, put_renaming};
+use crate::presets::{
+    add_preset, move_preset, put_add_preset, put_set_head, remove_preset, set_head,
+};
+use crate::samples::{add_sample, move_sample, put_add_sample, remove_sample, rename_sample};
+use crate::settings::{
+    add_mod, clear_gen, put_clear_gen, put_modulator_at, put_remove_mod, put_set_gen, remove_mod,
+    set_gen, set_mod,
+};
+use crate::texts::{put_set_info, set_info};
+use crate::zones::{
+    add_zone, join_zone, move_zone, put_add_zone, put_join_zone, put_move_zone, put_remove_zone,
+    put_set_target, put_split_zone, remove_zone, set_target, split_zone,
+};
 use bank_edits::{Edit, Step};
 use line_tokens::{Cursor, LineFault};
 use outputs::{Output, WriteFault};
-use script_grammar::named;
+use script_grammar::next_named;
 use sf_base::Failure;
 use std::alloc::Global;
 use std::io::Write;
@@ -35,10 +47,8 @@ pub(crate) fn edit<'p>(
     ensures done { OnOk result (line.new.said ≡ []) }
 {
     let step = step(alloc, line)?;
-    match line.end() {
-        Ok(()) => Ok(Edit::One(step)),
-        Err(fault) => Err(Failure::Fault(fault)),
-    }
+    line.end()?;
+    Ok(Edit::One(step))
 }
 
 // The step that begins here.
@@ -46,10 +56,8 @@ pub(crate) fn edit<'p>(
 fn step<'p>(alloc: Global, line: &mut Cursor<'_, 'p>) -> Result<Step<'p>, Failure<LineFault>>
     ensures { ReadsOrWants (λ s. s) step line.old line.new result }
 {
-    match form(line) {
-        Ok(form) => operands_read(form, alloc, line),
-        Err(fault) => Err(Failure::Fault(fault)),
-    }
+    let form = form(line)?;
+    operands_read(form, alloc, line)
 }
 
 // The form whose word is next.
@@ -57,8 +65,7 @@ fn step<'p>(alloc: Global, line: &mut Cursor<'_, 'p>) -> Result<Step<'p>, Failur
 fn form(line: &mut Cursor<'_, '_>) -> Result<Form, LineFault>
     ensures { Reads (λ f. f) a_form line.old line.new result }
 {
-    let word = line.word()?;
-    named(word).ok_or(LineFault::Syntax)
+    next_named(line)
 }
 
 // What stands behind the word of a form.
@@ -70,54 +77,30 @@ fn operands_read<'p>(
     ensures { ReadsOrWants (λ s. s) (operands_read form) line.old line.new result }
 {
     match form {
-        Form::AddPreset => {
-            let (at, preset) = added_preset(alloc, line)?;
-            Ok(Step::AddPreset { at, preset })
-        }
-        Form::RemovePreset => match line.number(u32::MAX) {
-            Ok(preset) => Ok(Step::RemovePreset { preset }),
-            Err(fault) => Err(Failure::Fault(fault)),
-        },
-        Form::MovePreset => match moving(line) {
-            Ok((from, to)) => Ok(Step::MovePreset { from, to }),
-            Err(fault) => Err(Failure::Fault(fault)),
-        },
-        Form::AddInstrument => {
-            let (at, instrument) = added_instrument(alloc, line)?;
-            Ok(Step::AddInstrument { at, instrument })
-        }
-        Form::RemoveInstrument => match line.number(u32::MAX) {
-            Ok(instrument) => Ok(Step::RemoveInstrument { instrument }),
-            Err(fault) => Err(Failure::Fault(fault)),
-        },
-        Form::RenameInstrument => match naming(line) {
-            Ok((instrument, name)) => Ok(Step::RenameInstrument { instrument, name }),
-            Err(fault) => Err(Failure::Fault(fault)),
-        },
-        Form::MoveInstrument => match moving(line) {
-            Ok((from, to)) => Ok(Step::MoveInstrument { from, to }),
-            Err(fault) => Err(Failure::Fault(fault)),
-        },
-        Form::RenameSample => match naming(line) {
-            Ok((sample, name)) => Ok(Step::RenameSample { sample, name }),
-            Err(fault) => Err(Failure::Fault(fault)),
-        },
-        Form::AddSample => match added_sample(alloc, line) {
-            Ok((at, sample)) => Ok(Step::AddSample { at, sample }),
-            Err(fault) => Err(Failure::Fault(fault)),
-        },
-        Form::RemoveSample => match line.number(u32::MAX) {
-            Ok(sample) => Ok(Step::RemoveSample { sample }),
-            Err(fault) => Err(Failure::Fault(fault)),
-        },
-        Form::MoveSample => match moving(line) {
-            Ok((from, to)) => Ok(Step::MoveSample { from, to }),
-            Err(fault) => Err(Failure::Fault(fault)),
-        },
-        Form::SetInfo => match id_and_text(line) {
-            Ok((id, text)) => Ok(Step::SetInfo { id, text }),
-            Err(fault) => Err(Failure::Fault(fault)),
-        },
+        Form::AddPreset => add_preset(alloc, line),
+        Form::RemovePreset => Ok(remove_preset(line)?),
+        Form::MovePreset => Ok(move_preset(line)?),
+        Form::SetHead => Ok(set_head(line)?),
+        Form::AddInstrument => add_instrument(alloc, line),
+        Form::RemoveInstrument => Ok(remove_instrument(line)?),
+        Form::RenameInstrument => Ok(rename_instrument(line)?),
+        Form::MoveInstrument => Ok(move_instrument(line)?),
+        Form::RenameSample => Ok(rename_sample(line)?),
+        Form::AddSample => Ok(add_sample(alloc, line)?),
+        Form::RemoveSample => Ok(remove_sample(line)?),
+        Form::MoveSample => Ok(move_sample(line)?),
+        Form::AddZone => add_zone(alloc, line),
+        Form::RemoveZone => Ok(remove_zone(line)?),
+        Form::MoveZone => Ok(move_zone(line)?),
+        Form::SplitZone => Ok(split_zone(line)?),
+        Form::JoinZone => Ok(join_zone(line)?),
+        Form::SetTarget => Ok(set_target(line)?),
+        Form::SetGen => Ok(set_gen(line)?),
+        Form::ClearGen => Ok(clear_gen(line)?),
+        Form::AddMod => Ok(add_mod(line)?),
+        Form::RemoveMod => Ok(remove_mod(line)?),
+        Form::SetMod => Ok(set_mod(line)?),
+        Form::SetInfo => Ok(set_info(line)?),
     }
 }
 
@@ -150,6 +133,12 @@ fn put_step<W: Write>(step: &Step<'_>, output: &mut Output<'_, W>)
         Step::AddPreset { at, preset } => put_add_preset(*at, preset, output),
         Step::RemovePreset { preset } => put_removal(Form::RemovePreset, *preset, output),
         Step::MovePreset { from, to } => put_moving(Form::MovePreset, *from, *to, output),
+        Step::SetHead {
+            preset,
+            name,
+            number,
+            bank,
+        } => put_set_head(*preset, name, *number, *bank, output),
         Step::AddInstrument { at, instrument } => put_add_instrument(*at, instrument, output),
         Step::RemoveInstrument { instrument } => {
             put_removal(Form::RemoveInstrument, *instrument, output)
@@ -164,6 +153,54 @@ fn put_step<W: Write>(step: &Step<'_>, output: &mut Output<'_, W>)
         Step::AddSample { at, sample } => put_add_sample(*at, sample, output),
         Step::RemoveSample { sample } => put_removal(Form::RemoveSample, *sample, output),
         Step::MoveSample { from, to } => put_moving(Form::MoveSample, *from, *to, output),
+        Step::AddZone { owner, at, zone } => put_add_zone(*owner, *at, zone, output),
+        Step::RemoveZone { owner, zone } => put_remove_zone(*owner, *zone, output),
+        Step::MoveZone { owner, from, to } => put_move_zone(*owner, *from, *to, output),
+        Step::SplitZone {
+            owner,
+            zone,
+            axis,
+            at,
+        } => put_split_zone(*owner, *zone, *axis, *at, output),
+        Step::JoinZone {
+            owner,
+            zone,
+            axis,
+            keep,
+        } => put_join_zone(*owner, *zone, *axis, *keep, output),
+        Step::SetTarget {
+            owner,
+            zone,
+            target,
+        } => put_set_target(*owner, *zone, *target, output),
+        Step::SetGen {
+            owner,
+            place,
+            operator,
+            amount,
+        } => put_set_gen(*owner, *place, *operator, *amount, output),
+        Step::ClearGen {
+            owner,
+            place,
+            operator,
+        } => put_clear_gen(*owner, *place, *operator, output),
+        Step::AddMod {
+            owner,
+            place,
+            index,
+            modulator,
+        } => put_modulator_at(Form::AddMod, *owner, *place, *index, modulator, output),
+        Step::RemoveMod {
+            owner,
+            place,
+            index,
+        } => put_remove_mod(*owner, *place, *index, output),
+        Step::SetMod {
+            owner,
+            place,
+            index,
+            modulator,
+        } => put_modulator_at(Form::SetMod, *owner, *place, *index, modulator, output),
         Step::SetInfo { id, text } => put_set_info(*id, text, output),
     }
 }

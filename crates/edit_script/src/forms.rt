@@ -12,6 +12,7 @@ pub enum Form {
     AddPreset,
     RemovePreset,
     MovePreset,
+    SetHead,
 
     // ---- instruments
     AddInstrument,
@@ -25,14 +26,30 @@ pub enum Form {
     RemoveSample,
     MoveSample,
 
+    // ---- zones
+    AddZone,
+    RemoveZone,
+    MoveZone,
+    SplitZone,
+    JoinZone,
+    SetTarget,
+
+    // ---- generators and modulators
+    SetGen,
+    ClearGen,
+    AddMod,
+    RemoveMod,
+    SetMod,
+
     // ---- texts
     SetInfo,
 }
 
-static FORMS: [Form; 12] = [
+static FORMS: [Form; 24] = [
     Form::AddPreset,
     Form::RemovePreset,
     Form::MovePreset,
+    Form::SetHead,
     Form::AddInstrument,
     Form::RemoveInstrument,
     Form::RenameInstrument,
@@ -41,6 +58,17 @@ static FORMS: [Form; 12] = [
     Form::AddSample,
     Form::RemoveSample,
     Form::MoveSample,
+    Form::AddZone,
+    Form::RemoveZone,
+    Form::MoveZone,
+    Form::SplitZone,
+    Form::JoinZone,
+    Form::SetTarget,
+    Form::SetGen,
+    Form::ClearGen,
+    Form::AddMod,
+    Form::RemoveMod,
+    Form::SetMod,
     Form::SetInfo,
 ];
 
@@ -58,6 +86,7 @@ impl HasWord for Form {
             Form::AddPreset => b"add-preset",
             Form::RemovePreset => b"remove-preset",
             Form::MovePreset => b"move-preset",
+            Form::SetHead => b"set-head",
             Form::AddInstrument => b"add-inst",
             Form::RemoveInstrument => b"remove-inst",
             Form::RenameInstrument => b"rename-inst",
@@ -66,6 +95,17 @@ impl HasWord for Form {
             Form::AddSample => b"add-sample",
             Form::RemoveSample => b"remove-sample",
             Form::MoveSample => b"move-sample",
+            Form::AddZone => b"add-zone",
+            Form::RemoveZone => b"remove-zone",
+            Form::MoveZone => b"move-zone",
+            Form::SplitZone => b"split-zone",
+            Form::JoinZone => b"join-zone",
+            Form::SetTarget => b"set-target",
+            Form::SetGen => b"set-gen",
+            Form::ClearGen => b"clear-gen",
+            Form::AddMod => b"add-mod",
+            Form::RemoveMod => b"remove-mod",
+            Form::SetMod => b"set-mod",
             Form::SetInfo => b"set-info",
         }
     }
@@ -80,6 +120,7 @@ impl Form {
             Step::AddPreset { .. } => Form::AddPreset,
             Step::RemovePreset { .. } => Form::RemovePreset,
             Step::MovePreset { .. } => Form::MovePreset,
+            Step::SetHead { .. } => Form::SetHead,
             Step::AddInstrument { .. } => Form::AddInstrument,
             Step::RemoveInstrument { .. } => Form::RemoveInstrument,
             Step::RenameInstrument { .. } => Form::RenameInstrument,
@@ -88,6 +129,17 @@ impl Form {
             Step::AddSample { .. } => Form::AddSample,
             Step::RemoveSample { .. } => Form::RemoveSample,
             Step::MoveSample { .. } => Form::MoveSample,
+            Step::AddZone { .. } => Form::AddZone,
+            Step::RemoveZone { .. } => Form::RemoveZone,
+            Step::MoveZone { .. } => Form::MoveZone,
+            Step::SplitZone { .. } => Form::SplitZone,
+            Step::JoinZone { .. } => Form::JoinZone,
+            Step::SetTarget { .. } => Form::SetTarget,
+            Step::SetGen { .. } => Form::SetGen,
+            Step::ClearGen { .. } => Form::ClearGen,
+            Step::AddMod { .. } => Form::AddMod,
+            Step::RemoveMod { .. } => Form::RemoveMod,
+            Step::SetMod { .. } => Form::SetMod,
             Step::SetInfo { .. } => Form::SetInfo,
         }
     }

@@ -1,15 +1,19 @@
-//! The form that puts an instrument in.
+//! The forms that edit instruments.
 ghost use Rattle.std.specs.Prelude.{◌≡◌, ◌∷◌, codes};
 ghost use Rattle.std.specs.List.{flat_map};
 ghost use Rattle.outputs.specs.Output.{Puts};
+ghost use Rattle.line_tokens.specs.Parts.{Reads};
 ghost use Rattle.line_tokens.specs.Printing.{spaced, line_text};
 ghost use Rattle.script_grammar.specs.Operands.{pieces_of};
 ghost use Rattle.script_grammar.specs.Memory.{ReadsOrWants};
+ghost use Rattle.edit_script.specs.declared.forms.Form.TheVariants as form;
+ghost use Rattle.edit_script.specs.Grammar.{operands_read};
 ghost use Rattle.edit_script.specs.Members.{place, printed_owner};
 ghost use Rattle.edit_script.specs.Instruments.{name_operands, added_instrument};
 
 use crate::forms::Form;
-use crate::members::{naming, zones_of};
+use crate::members::{moving, naming, zones_of};
+use bank_edits::Step;
 use bank_parts::Instrument;
 use line_tokens::{Cursor, LineFault, Piece, put_pieces};
 use outputs::Output;
@@ -20,18 +24,48 @@ use std::io::Write;
 
 // ---- read
 
+pub(crate) fn add_instrument<'p>(
+    alloc: Global,
+    line: &mut Cursor<'_, 'p>,
+) -> Result<Step<'p>, Failure<LineFault>>
+    ensures { ReadsOrWants (λ s. s) (operands_read form.AddInstrument) line.old line.new result }
+{
+    let (at, instrument) = added_instrument(alloc, line)?;
+    Ok(Step::AddInstrument { at, instrument })
+}
+
+pub(crate) fn remove_instrument<'p>(line: &mut Cursor<'_, 'p>) -> Result<Step<'p>, LineFault>
+    ensures { Reads (λ s. s) (operands_read form.RemoveInstrument) line.old line.new result }
+{
+    let instrument = line.number(u32::MAX)?;
+    Ok(Step::RemoveInstrument { instrument })
+}
+
+pub(crate) fn rename_instrument<'p>(line: &mut Cursor<'_, 'p>) -> Result<Step<'p>, LineFault>
+    ensures { Reads (λ s. s) (operands_read form.RenameInstrument) line.old line.new result }
+{
+    let (instrument, name) = naming(line)?;
+    Ok(Step::RenameInstrument { instrument, name })
+}
+
+pub(crate) fn move_instrument<'p>(line: &mut Cursor<'_, 'p>) -> Result<Step<'p>, LineFault>
+    ensures { Reads (λ s. s) (operands_read form.MoveInstrument) line.old line.new result }
+{
+    let (from, to) = moving(line)?;
+    Ok(Step::MoveInstrument { from, to })
+}
+
 // `I NAME GLOBAL? ZONE*`
 #[tactic(auto, unfolding(crate::specs::Instruments::added_instrument))]
-pub(crate) fn added_instrument(
+fn added_instrument(
     alloc: Global,
     line: &mut Cursor<'_, '_>,
 ) -> Result<(u32, Instrument), Failure<LineFault>>
     ensures { ReadsOrWants (λ a. a) added_instrument line.old line.new result }
 {
-    match naming(line) {
-        Ok((at, head)) => Ok((at, zones_of(head, alloc, line)?)),
-        Err(fault) => Err(Failure::Fault(fault)),
-    }
+    let (at, name) = naming(line)?;
+    let instrument = zones_of(name, alloc, line)?;
+    Ok((at, instrument))
 }
 
 // ---- printed

@@ -1,4 +1,4 @@
-//! The form that puts a sample in.
+//! The forms that edit samples.
 ghost use Rattle.std.specs.Prelude.{◌≡◌, ◌∷◌, codes};
 ghost use Rattle.std.specs.List.{flat_map};
 ghost use Rattle.outputs.specs.Output.{Puts};
@@ -6,10 +6,13 @@ ghost use Rattle.line_tokens.specs.Parts.{Reads};
 ghost use Rattle.line_tokens.specs.Printing.{spaced, line_text};
 ghost use Rattle.script_grammar.specs.Operands.{pieces_of};
 ghost use Rattle.script_grammar.specs.Samples.{body_operands};
+ghost use Rattle.edit_script.specs.declared.forms.Form.TheVariants as form;
+ghost use Rattle.edit_script.specs.Grammar.{operands_read};
 ghost use Rattle.edit_script.specs.Members.{place};
-ghost use Rattle.edit_script.specs.Samples.{added_sample};
 
 use crate::forms::Form;
+use crate::members::{moving, naming};
+use bank_edits::Step;
 use bank_parts::Sample;
 use line_tokens::{Cursor, LineFault, Piece, put_pieces};
 use outputs::Output;
@@ -19,17 +22,38 @@ use std::io::Write;
 
 // ---- read
 
+pub(crate) fn rename_sample<'p>(line: &mut Cursor<'_, 'p>) -> Result<Step<'p>, LineFault>
+    ensures { Reads (λ s. s) (operands_read form.RenameSample) line.old line.new result }
+{
+    let (sample, name) = naming(line)?;
+    Ok(Step::RenameSample { sample, name })
+}
+
 // `S BODY`
 #[tactic(auto, unfolding(crate::specs::Samples::added_sample))]
-pub(crate) fn added_sample<'p>(
+pub(crate) fn add_sample<'p>(
     alloc: Global,
     line: &mut Cursor<'_, 'p>,
-) -> Result<(u32, Sample<'p>), LineFault>
-    ensures { Reads (λ a. a) added_sample line.old line.new result }
+) -> Result<Step<'p>, LineFault>
+    ensures { Reads (λ s. s) (operands_read form.AddSample) line.old line.new result }
 {
     let at = line.number(u32::MAX)?;
     let sample = sample_body(alloc, line)?;
-    Ok((at, sample))
+    Ok(Step::AddSample { at, sample })
+}
+
+pub(crate) fn remove_sample<'p>(line: &mut Cursor<'_, 'p>) -> Result<Step<'p>, LineFault>
+    ensures { Reads (λ s. s) (operands_read form.RemoveSample) line.old line.new result }
+{
+    let sample = line.number(u32::MAX)?;
+    Ok(Step::RemoveSample { sample })
+}
+
+pub(crate) fn move_sample<'p>(line: &mut Cursor<'_, 'p>) -> Result<Step<'p>, LineFault>
+    ensures { Reads (λ s. s) (operands_read form.MoveSample) line.old line.new result }
+{
+    let (from, to) = moving(line)?;
+    Ok(Step::MoveSample { from, to })
 }
 
 // ---- printed

@@ -6,9 +6,11 @@ ghost use Rattle.script_grammar.specs.Operands as operand;
 ghost use Rattle.script_grammar.specs.Operands.{pieces_of};
 ghost use Rattle.line_tokens.specs.Parts.{Reads};
 ghost use Rattle.script_grammar.specs.Texts.{id_word};
-ghost use Rattle.edit_script.specs.Texts.{id_and_text};
+ghost use Rattle.edit_script.specs.declared.forms.Form.TheVariants as form;
+ghost use Rattle.edit_script.specs.Grammar.{operands_read};
 
 use crate::forms::Form;
+use bank_edits::Step;
 use bank_parts::InfoId;
 use line_tokens::{Cursor, LineFault, Piece, put_line};
 use outputs::Output;
@@ -18,12 +20,12 @@ use std::io::Write;
 
 // `ID TEXT`
 #[tactic(auto, unfolding(crate::specs::Texts::id_and_text))]
-pub(crate) fn id_and_text<'p>(line: &mut Cursor<'_, 'p>) -> Result<(InfoId, Lent<'p>), LineFault>
-    ensures { Reads (λ t. t) id_and_text line.old line.new result }
+pub(crate) fn set_info<'p>(line: &mut Cursor<'_, 'p>) -> Result<Step<'p>, LineFault>
+    ensures { Reads (λ s. s) (operands_read form.SetInfo) line.old line.new result }
 {
     let id = info_id(line)?;
     let text = Lent::new(line.literal()?);
-    Ok((id, text))
+    Ok(Step::SetInfo { id, text })
 }
 
 pub(crate) fn put_set_info<W: Write>(id: InfoId, text: &Lent<'_>, output: &mut Output<'_, W>)

@@ -10,11 +10,16 @@ use Rattle.bank_parts.specs.declared.parts.Kind.{Kind}
 use Rattle.bank_parts.specs.declared.parts.Kind.TheVariants.{Mono, Right, Left, Linked}
 use Rattle.bank_parts.specs.declared.parts.Sample.{Sample}
 use Rattle.bank_parts.specs.Fits.{FitsText, FitsKind, FitsLoop, FitsSample}
+use Rattle.zone_ranges.specs.declared.axes.Axis.{Axis}
+use Rattle.zone_ranges.specs.declared.axes.Axis.TheVariants as axis
+use Rattle.zone_ranges.specs.declared.axes.Keep.{Keep}
+use Rattle.zone_ranges.specs.declared.axes.Keep.TheVariants as keep
 use Rattle.line_tokens.specs.declared.cursor.Said.{Said}
 use Rattle.line_tokens.specs.Spelling.{WritesSigned, IsWithin}
 use Rattle.script_grammar.specs.Operands.{Operand, Fixed, Number, Signed, Amount, Range, Name, Text, Points, Says, AllSay}
 use Rattle.script_grammar.specs.Samples.{kind_operands, loop_operands, head_operands, body_operands}
 use Rattle.script_grammar.specs.Texts.{id_word}
+use Rattle.script_grammar.specs.Ranges.{axis_word, keep_word}
 use Rattle.script_grammar.proofs.OperandLaws.{IsFixed, AllFit, both_fit}
 
 -- ---- what is said is in its range
@@ -143,3 +148,13 @@ id_fixed id.Product = (refl, refl)
 id_fixed id.Copyright = (refl, refl)
 id_fixed id.Comment = (refl, refl)
 id_fixed id.Software = (refl, refl)
+
+-- ---- ranges
+
+pub axis_fixed : (a : Axis) → IsFixed (axis_word a)
+axis_fixed axis.Key = (refl, refl)
+axis_fixed axis.Velocity = (refl, refl)
+
+pub keep_fixed : (k : Keep) → IsFixed (keep_word k)
+keep_fixed keep.Keep = (refl, refl)
+keep_fixed keep.Bare = (refl, refl)

@@ -5,8 +5,13 @@ use Rattle.std.proofs.lemmas.List.{drop_all}
 use Rattle.std.proofs.lemmas.Slice.Eq.{bytes_eq-Decides}
 use Rattle.bank_parts.specs.declared.texts.InfoId.{InfoId}
 use Rattle.bank_parts.specs.declared.texts.InfoId.TheVariants.{Engine, Name, Date, Engineers, Product, Copyright, Comment, Software}
+use Rattle.zone_ranges.specs.declared.axes.Axis.{Axis}
+use Rattle.zone_ranges.specs.declared.axes.Axis.TheVariants as axis
+use Rattle.zone_ranges.specs.declared.axes.Keep.{Keep}
+use Rattle.zone_ranges.specs.declared.axes.Keep.TheVariants as keep
 use Rattle.script_grammar.specs.Names.{named}
 use Rattle.script_grammar.specs.Texts.{id_word, ids}
+use Rattle.script_grammar.specs.Ranges.{axis_word, axes, keep_word, keeps}
 
 pub named_is : {X : Type 0} (word_of : X → List ℕ) (xs : List X) (w : List ℕ) (x : X) → named word_of xs w ≡ Some x → w ≡ word_of x
 named_is word_of [] w x e = cc
@@ -44,3 +49,11 @@ id_named Product = refl
 id_named Copyright = refl
 id_named Comment = refl
 id_named Software = refl
+
+pub axis_named : (a : Axis) → named axis_word axes (axis_word a) ≡ Some a
+axis_named axis.Key = refl
+axis_named axis.Velocity = refl
+
+pub keep_named : (k : Keep) → named keep_word keeps (keep_word k) ≡ Some k
+keep_named keep.Keep = refl
+keep_named keep.Bare = refl

@@ -14,7 +14,7 @@ use Rattle.line_tokens.specs.Parts.{Took, ◌>>=◌, pure, or_fault, word, liter
 use Rattle.line_tokens.proofs.PieceLaws.{bytes_are}
 use Rattle.line_tokens.proofs.ReadLaws.{AllHoldBytes, both, or_fault_is, word_is, literal_is, number_is, signed_is, name_is}
 use Rattle.script_grammar.specs.Operands.{Operand, Fixed, Number, Signed, Name, Text, Points, Says, AllSay}
-use Rattle.script_grammar.specs.Names.{named}
+use Rattle.script_grammar.specs.Names.{named, next_named}
 use Rattle.script_grammar.specs.Texts.{id_word, ids, info_id}
 use Rattle.script_grammar.proofs.NameLaws.{named_is}
 use Rattle.script_grammar.specs.Samples.{kind_operands, loop_operands, body_operands, kind_behind, kind, loop_behind, looped, points_of, points, sample_of, body}
@@ -72,6 +72,14 @@ points_front line t h e =
     let w = whole_points b.first.value t.value o.0 in
     let bytes = bytes_are b.first.value (let k = subst AllHoldBytes l h in k.0) in
     front line t.rest (Literal b.first.value) (Points t.value) h (l ∙ ap (λ (r : List Said). Literal b.first.value ∷ r) o.1) (b.first.value, refl, bytes, w.0, w.1)
+
+pub next_named_front : {X : Type 0} (word_of : X → List ℕ) (xs : List X) (line : List Said) (t : Took X) → AllHoldBytes line → next_named word_of xs line ≡ Ok t → Fronts line t.rest (Fixed (word_of t.value) ∷ [])
+unfolding next_named
+next_named_front word_of xs line t h e =
+    let w = both (word line) (λ w. or_fault faults.Syntax (named word_of xs w)) t e in
+    let g = word_front line w.first h w.is in
+    let o = or_fault_is faults.Syntax (named word_of xs w.first.value) w.first.rest t w.second in
+    subst (λ (r : List Said). Fronts line r (Fixed (word_of t.value) ∷ [])) o.1 (subst (λ (v : List ℕ). Fronts line w.first.rest (Fixed v ∷ [])) (named_is word_of xs w.first.value t.value o.0) g)
 
 -- what takes no token
 pub made : {X : Type 0} (x : X) (line : List Said) (t : Took X) → pure x line ≡ Ok t → record { value = x; rest = line } ≡ t
@@ -163,8 +171,4 @@ body_front line t h e =
 
 pub id_front : (line : List Said) (t : Took InfoId) → AllHoldBytes line → info_id line ≡ Ok t → Fronts line t.rest (Fixed (id_word t.value) ∷ [])
 unfolding info_id
-id_front line t h e =
-    let w = both (word line) (λ w. or_fault faults.Syntax (named id_word ids w)) t e in
-    let g = word_front line w.first h w.is in
-    let o = or_fault_is faults.Syntax (named id_word ids w.first.value) w.first.rest t w.second in
-    subst (λ (r : List Said). Fronts line r (Fixed (id_word t.value) ∷ [])) o.1 (subst (λ (v : List ℕ). Fronts line w.first.rest (Fixed v ∷ [])) (named_is id_word ids w.first.value t.value o.0) g)
+id_front line t h e = next_named_front id_word ids line t h e

@@ -11,7 +11,7 @@ use Rattle.line_tokens.specs.declared.fault.LineFault.TheVariants as faults
 use Rattle.line_tokens.specs.Parts.{Part, and_then, ◌>>=◌, pure, or_fault, word, literal, number, signed, name}
 use Rattle.line_tokens.proofs.SpellLaws as tokens
 use Rattle.script_grammar.specs.Operands.{Operand, Fixed, Number, Signed, Name, Text, Points, AllSay}
-use Rattle.script_grammar.specs.Names.{named}
+use Rattle.script_grammar.specs.Names.{named, next_named}
 use Rattle.script_grammar.specs.Texts.{id_word, ids, info_id}
 use Rattle.script_grammar.proofs.NameLaws.{id_named}
 use Rattle.script_grammar.specs.Samples.{kind_operands, loop_operands, body_operands, kind_behind, kind, loop_behind, looped, points_of, points, body}
@@ -31,12 +31,16 @@ then f g h = let k = h g.rest g.says in record { rest = k.rest; is = ap (λ r. a
 pub gives_pure : {X : Type 0} (x : X) (line : List Said) (more : List Operand) → AllSay line more → Gives (pure x) x line more
 gives_pure x line more h = record { rest = line; is = refl; says = h }
 
-pub gives_some : {X : Type 0} (x : X) (o : Option X) (line : List Said) (more : List Operand) → o ≡ Some x → AllSay line more → Gives (or_fault faults.Syntax o) x line more
+gives_some : {X : Type 0} (x : X) (o : Option X) (line : List Said) (more : List Operand) → o ≡ Some x → AllSay line more → Gives (or_fault faults.Syntax o) x line more
 gives_some x o line more e h = record { rest = line; is = ap (λ (p : Option _). or_fault faults.Syntax p line) e; says = h }
 
 pub gives_word : (w : List ℕ) (line : List Said) (more : List Operand) → AllSay line (Fixed w ∷ more) → Gives word w line more
 gives_word w [] more h = absurd h
 gives_word w (s ∷ line) more h = record { rest = line; is = ap (λ (t : Said). word (t ∷ line)) h.0 ∙ tokens.word_read w line; says = h.1 }
+
+pub gives_named : {X : Type 0} (word_of : X → List ℕ) (xs : List X) (x : X) → named word_of xs (word_of x) ≡ Some x → (line : List Said) (more : List Operand) → AllSay line (Fixed (word_of x) ∷ more) → Gives (next_named word_of xs) x line more
+unfolding next_named
+gives_named word_of xs x e line more h = then _ (gives_word (word_of x) line more h) (λ rest k. gives_some x (named word_of xs (word_of x)) rest more e k)
 
 pub gives_number : (limit n : ℕ) (line : List Said) (more : List Operand) → AllSay line (Number limit n ∷ more) → Gives (number limit) n line more
 gives_number limit n [] more h = absurd h
@@ -101,4 +105,4 @@ gives_body s line h =
 
 pub gives_id : (id : InfoId) (line : List Said) (more : List Operand) → AllSay line (Fixed (id_word id) ∷ more) → Gives info_id id line more
 unfolding info_id
-gives_id id line more h = then _ (gives_word (id_word id) line more h) (λ rest k. gives_some id (named id_word ids (id_word id)) rest more (id_named id) k)
+gives_id id line more h = gives_named id_word ids id (id_named id) line more h

@@ -127,7 +127,7 @@ pub record SaidItems (content : GlobalZone) (line : List Said) (t : Took GlobalZ
   pub stands : with_items content said ≡ t.value
 
 -- the word that comes next
-next_is : (c : List ℕ) (line : List Said) (t : Took (List ℕ)) → word line ≡ Ok t → is_next c line ≡ true → t.value ≡ c
+pub next_is : (c : List ℕ) (line : List Said) (t : Took (List ℕ)) → word line ≡ Ok t → is_next c line ≡ true → t.value ≡ c
 next_is c line t e k = (bytes_eq-Decides t.value c).0 (sym (ap (is_next c) (word_is line t e)) ∙ k)
 
 closed_front : (content : GlobalZone) (line : List Said) (t : Took GlobalZone) → AllHoldBytes line → is_next (codes "}") line ≡ true → closed content line ≡ Ok t → SaidItems content line t

@@ -77,7 +77,7 @@ gives_item (item.Modulator m) line more h =
     then _ (gives_modulator m rest more k) (λ rest k. gives_pure (item.Modulator m) rest more k))
 
 -- the first token of a line that begins with a word
-next_word : (w v : List ℕ) (line : List Said) (more : List Operand) → AllSay line (Fixed w ∷ more) → is_next v line ≡ bytes_eq w v
+pub next_word : (w v : List ℕ) (line : List Said) (more : List Operand) → AllSay line (Fixed w ∷ more) → is_next v line ≡ bytes_eq w v
 next_word w v [] more h = absurd h
 next_word w v (s ∷ line) more h = ap (λ (t : Said). is_next v (t ∷ line)) h.0
 
@@ -142,7 +142,7 @@ gives_zones_left (w ∷ ws) zs line h =
     }
 
 -- a number is no word of letters
-not_global : (limit n : ℕ) (line : List Said) (more : List Operand) → AllSay line (Number limit n ∷ more) → is_next (codes "global") line ≡ false
+pub not_global : (limit n : ℕ) (line : List Said) (more : List Operand) → AllSay line (Number limit n ∷ more) → is_next (codes "global") line ≡ false
 not_global limit n [] more h = absurd h
 not_global limit n (s ∷ line) more h = ap (λ (t : Said). is_next (codes "global") (t ∷ line)) h.0.1 ∙ from h.0.0 h.0.2
   where
@@ -170,7 +170,7 @@ gives_first_behind w ws line h =
     then _ (gives_zones_left ws (zone_in w ∷ []) rest k) (λ rest k. gives_pure (no_content, map zone_in (w ∷ ws)) rest [] k))
 
 -- a part that reads as another
-as_other : {X : Type 0} (p q : Part X) (x : X) (line : List Said) (more : List Operand) → q line ≡ p line → Gives p x line more → Gives q x line more
+pub as_other : {X : Type 0} (p q : Part X) (x : X) (line : List Said) (more : List Operand) → q line ≡ p line → Gives p x line more → Gives q x line more
 as_other p q x line more e g = record { rest = g.rest; is = e ∙ g.is; says = g.says }
 
 pub gives_zones : (w : Written) (line : List Said) → AllSay line (written_operands w) → Gives zones (zones_in w) line []

@@ -3,6 +3,7 @@ pub mod Names
 pub mod Memory
 pub mod Samples
 pub mod Texts
+pub mod Ranges
 pub mod Repeated
 pub mod Items
 pub mod Zones

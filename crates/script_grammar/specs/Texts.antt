@@ -2,9 +2,8 @@
 use Rattle.std.specs.Prelude.{ℕ, List, [], ◌∷◌, codes}
 use Rattle.bank_parts.specs.declared.texts.InfoId.{InfoId}
 use Rattle.bank_parts.specs.declared.texts.InfoId.TheVariants.{Engine, Name, Date, Engineers, Product, Copyright, Comment, Software}
-use Rattle.line_tokens.specs.declared.fault.LineFault.TheVariants as faults
-use Rattle.line_tokens.specs.Parts.{Part, ◌>>=◌, or_fault, word}
-use Rattle.script_grammar.specs.Names.{named}
+use Rattle.line_tokens.specs.Parts.{Part}
+use Rattle.script_grammar.specs.Names.{next_named}
 
 -- the id of a text's chunk
 abbrev pub id_word : InfoId → List ℕ
@@ -21,6 +20,4 @@ abbrev pub ids : List InfoId
 ids = Engine ∷ Name ∷ Date ∷ Engineers ∷ Product ∷ Copyright ∷ Comment ∷ Software ∷ []
 
 unfoldable pub info_id : Part InfoId
-info_id = do
-  w ← word
-  or_fault faults.Syntax (named id_word ids w)
+info_id = next_named id_word ids

@@ -1,7 +1,10 @@
 //! What is named by a word.
 ghost use Rattle.std.specs.Prelude.{◌≡◌};
 ghost use Rattle.std.specs.Str.{bytes_eq};
-ghost use Rattle.script_grammar.specs.Names.{named};
+ghost use Rattle.line_tokens.specs.Parts.{Reads};
+ghost use Rattle.script_grammar.specs.Names.{named, next_named};
+
+use line_tokens::{Cursor, LineFault};
 
 /// What has a word of its own.
 pub trait HasWord: Copy + 'static {
@@ -25,6 +28,15 @@ pub fn named<T: HasWord>(word: &[u8]) -> Option<T>
     ensures { result ≡ named T.word_of T.all word.now }
 {
     first_named(T::all(), word)
+}
+
+/// The one whose word is next on a line. Another word is a fault of syntax.
+#[tactic(auto, unfolding(crate::specs::Names::next_named))]
+pub fn next_named<T: HasWord>(line: &mut Cursor<'_, '_>) -> Result<T, LineFault>
+    ensures { Reads (λ x. x) (next_named T.word_of T.all) line.old line.new result }
+{
+    let word = line.word()?;
+    named(word).ok_or(LineFault::Syntax)
 }
 
 // The first of these that a word names.

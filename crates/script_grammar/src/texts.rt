@@ -3,7 +3,7 @@ ghost use Rattle.std.specs.Prelude.{◌≡◌};
 ghost use Rattle.line_tokens.specs.Parts.{Reads};
 ghost use Rattle.script_grammar.specs.Texts.{id_word, ids, info_id};
 
-use crate::names::{HasWord, named};
+use crate::names::{HasWord, next_named};
 use bank_parts::InfoId;
 use line_tokens::{Cursor, LineFault};
 
@@ -47,6 +47,5 @@ impl HasWord for InfoId {
 pub fn info_id(line: &mut Cursor<'_, '_>) -> Result<InfoId, LineFault>
     ensures { Reads (λ id. id) info_id line.old line.new result }
 {
-    let word = line.word()?;
-    named(word).ok_or(LineFault::Syntax)
+    next_named(line)
 }

@@ -1,0 +1,22 @@
+-- The words that are said of a zone's range.
+use Rattle.std.specs.Prelude.{ℕ, List, [], ◌∷◌, codes}
+use Rattle.zone_ranges.specs.declared.axes.Axis.{Axis}
+use Rattle.zone_ranges.specs.declared.axes.Axis.TheVariants as axis
+use Rattle.zone_ranges.specs.declared.axes.Keep.{Keep}
+use Rattle.zone_ranges.specs.declared.axes.Keep.TheVariants as keep
+
+-- of what it is the range
+abbrev pub axis_word : Axis → List ℕ
+axis_word axis.Key = codes "key"
+axis_word axis.Velocity = codes "vel"
+
+abbrev pub axes : List Axis
+axes = axis.Key ∷ axis.Velocity ∷ []
+
+-- whether it is the zone's own
+abbrev pub keep_word : Keep → List ℕ
+keep_word keep.Keep = codes "keep"
+keep_word keep.Bare = codes "bare"
+
+abbrev pub keeps : List Keep
+keeps = keep.Keep ∷ keep.Bare ∷ []

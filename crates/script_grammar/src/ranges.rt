@@ -1,0 +1,44 @@
+//! The words that are said of a zone's range.
+ghost use Rattle.std.specs.Prelude.{◌≡◌};
+ghost use Rattle.script_grammar.specs.Ranges.{axis_word, axes, keep_word, keeps};
+
+use crate::names::HasWord;
+use zone_ranges::{Axis, Keep};
+
+static AXES: [Axis; 2] = [Axis::Key, Axis::Velocity];
+
+impl HasWord for Axis {
+    ghost all = { axes };
+
+    ghost word_of = { axis_word };
+
+    fn all() -> &'static [Axis] {
+        &AXES
+    }
+
+    fn word(self) -> &'static [u8] {
+        match self {
+            Axis::Key => b"key",
+            Axis::Velocity => b"vel",
+        }
+    }
+}
+
+static KEEPS: [Keep; 2] = [Keep::Keep, Keep::Bare];
+
+impl HasWord for Keep {
+    ghost all = { keeps };
+
+    ghost word_of = { keep_word };
+
+    fn all() -> &'static [Keep] {
+        &KEEPS
+    }
+
+    fn word(self) -> &'static [u8] {
+        match self {
+            Keep::Keep => b"keep",
+            Keep::Bare => b"bare",
+        }
+    }
+}
