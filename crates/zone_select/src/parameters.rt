@@ -1,9 +1,9 @@
 //! The numbers that the voice of a pair of zones plays by.
 
-/// The numbers that a voice plays by beside the points of its sample. Points are counted from the
-/// sample's first, times are frames of 1/44100 second.
+/// The numbers that a voice plays by beside the points of its sample (SoundFont 2.04, sections 8.1.2
+/// and 9). Points are counted from the sample's first, times are frames of 1/44100 second.
 #[derive(Debug, Clone, Copy, PartialEq, Eq)]
-pub struct Plays {
+pub struct VoiceParameters {
     /// The point at which the voice begins.
     pub start: u32,
     /// The point before which it ends.
@@ -16,7 +16,7 @@ pub struct Plays {
     pub looped: bool,
     /// Whether the note's end ends the loop too, so that the rest of the sample is heard.
     pub until_release: bool,
-    /// How far a frame goes on, in 65536ths of a point.
+    /// How far a frame goes on, in 65536ths of a point; at most 73,043,661.
     pub step: u32,
     /// Frames of silence before the attack.
     pub delay: u32,
