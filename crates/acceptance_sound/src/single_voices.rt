@@ -4,7 +4,8 @@ ghost use Rattle.voices.specs.Within.{AllWithin};
 
 use sample_view::Points;
 use std::test::Fail;
-use voices::{Voice, VoiceParameters};
+use voices::Voice;
+use zone_select::VoiceParameters;
 
 /// 1000, 2000 and -2000.
 const THREE: [u8; 6] = [0xe8, 0x03, 0xd0, 0x07, 0x30, 0xf8];
@@ -28,6 +29,7 @@ fn plain(end: u32, length: u32) -> VoiceParameters {
         attenuation: 0,
         pan: 0,
         length,
+        class: 0,
     }
 }
 

@@ -2,9 +2,9 @@
 use Rattle.std.proofs.Common.{◌≡◌, ℕ, zero, suc, ◌+◌, ◌*◌, ◌<◌, ◌≤◌, Bool, true, false, cond, not, ◌&&◌, refl, ◌∙◌, ap, subst, arith, nat_le, ⊎_elim}
 use Rattle.std.proofs.lemmas.Bool.{cases_eq}
 use Rattle.std.proofs.lemmas.Bool.Decides.{nat_tests}
-use Rattle.voices.specs.declared.parameters.VoiceParameters.{VoiceParameters}
+use Rattle.zone_select.specs.declared.parameters.VoiceParameters.{VoiceParameters}
 use Rattle.voices.specs.Place.{wrapped, place, is_looping, is_loop_left, is_over}
-use Rattle.voices.specs.Sound.{IsPlayable}
+use Rattle.zone_select.specs.Playable.{IsPlayable}
 use Rattle.voices.proofs.PlaceLemmas.{place_inside, place_more}
 
 is_looped : (looped left : Bool) → (looped && not left) ≡ true → looped ≡ true

@@ -5,7 +5,7 @@ use Rattle.std.proofs.lemmas.Bool.Decides.{nat_tests}
 use Rattle.std.proofs.lemmas.Nat.{div-add-mod', div-mul-add, mul-le, div_below, mod_below}
 use Rattle.sound_tables.specs.Tables.{ratio, gain_at}
 use Rattle.sound_tables.proofs.GainLemmas.{gain_falls}
-use Rattle.voices.specs.declared.parameters.VoiceParameters.{VoiceParameters}
+use Rattle.zone_select.specs.declared.parameters.VoiceParameters.{VoiceParameters}
 use Rattle.voices.specs.Envelope.{decayed, held, released, envelope}
 use Rattle.voices.proofs.LevelLemmas.{faded}
 

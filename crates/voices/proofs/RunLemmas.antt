@@ -4,10 +4,12 @@ use Rattle.std.specs.Int.{w32}
 use Rattle.std.proofs.lemmas.Int.{ints}
 use Rattle.std.proofs.lemmas.Bool.{cases_lt}
 use Rattle.std.proofs.lemmas.Bool.Decides.{nat_tests}
-use Rattle.voices.specs.declared.parameters.VoiceParameters.{VoiceParameters}
+use Rattle.zone_select.specs.declared.parameters.VoiceParameters.{VoiceParameters}
 use Rattle.voices.specs.Levels.{side}
 use Rattle.voices.specs.Place.{wrapped, place, is_looping, is_over}
-use Rattle.voices.specs.Sound.{VoiceValue, IsPlayable, snd, sound_at, part_of}
+use Rattle.zone_select.specs.Playable.{IsPlayable}
+use Rattle.zone_select.specs.Select.{Voice}
+use Rattle.voices.specs.Sound.{snd, sound_at, part_of}
 use Rattle.voices.specs.Within.{IsWithin}
 use Rattle.voices.specs.Runs.{IsAdded, IsStretch, limit, gone_on}
 use Rattle.voices.proofs.PlaceLemmas.{place_more, place_inside, wrapped_below, wrapped_step}
@@ -86,16 +88,16 @@ pub silent_added : (was s sum : ℤ) → s ≡ pos 0 → sum ≡ was → IsAdded
 silent_added was s sum e f = is_added was s sum (pos 0) (sym e) (f ∙ add_nothing was) (omega (arith, ints)) (omega (arith, ints))
 
 -- a voice that is over is silent
-pub over_is_silent : (v : VoiceValue) (left : Bool) (t : ℕ) → is_over v.parameters t ≡ true → snd v left t ≡ pos 0
+pub over_is_silent : (v : Voice) (left : Bool) (t : ℕ) → is_over v.parameters t ≡ true → snd v left t ≡ pos 0
 unfolding snd
 over_is_silent v left t e = ap (λ b. cond b (pos 0) (side (sound_at v t) (part_of v.parameters left))) e
 
-pub silent_from : (v : VoiceValue) (left : Bool) (s t : ℕ) → (v.parameters.looped ≡ true → v.parameters.loop_start < v.parameters.loop_end)
+pub silent_from : (v : Voice) (left : Bool) (s t : ℕ) → (v.parameters.looped ≡ true → v.parameters.loop_start < v.parameters.loop_end)
     → is_over v.parameters s ≡ true → s ≤ t → snd v left t ≡ pos 0
 silent_from v left s t h e l = over_is_silent v left t (over_stays v.parameters s t h l e)
 
 -- what a stretch adds, counted from the run's start
-pub later_added : (v : VoiceValue) (age at k : ℕ) (was was' sum : ℤ) → at % 2 ≡ 0 → was' ≡ was
+pub later_added : (v : Voice) (age at k : ℕ) (was was' sum : ℤ) → at % 2 ≡ 0 → was' ≡ was
     → IsAdded was' (snd v (nat_eq (k % 2) 0) (age + at / 2 + k / 2)) sum
     → IsAdded was (snd v (nat_eq ((at + k) % 2) 0) (age + (at + k) / 2)) sum
 later_added v age at k was was' sum even e a =
@@ -106,13 +108,13 @@ later_added v age at k was was' sum even e a =
     (subst (λ x. IsAdded was' (snd v (nat_eq (k % 2) 0) x) sum) q a))
 
 -- a frame that is heard, from its parts
-pub part_is : (v : VoiceValue) (t : ℕ) (i left right : ℕ) → is_over v.parameters t ≡ false → left ≡ part_of v.parameters true → right ≡ part_of v.parameters false
+pub part_is : (v : Voice) (t : ℕ) (i left right : ℕ) → is_over v.parameters t ≡ false → left ≡ part_of v.parameters true → right ≡ part_of v.parameters false
     → side (sound_at v t) (cond (nat_eq i 0) left right) ≡ snd v (nat_eq i 0) t
 unfolding snd
 part_is v t i left right e f g =
     by_side (nat_eq i 0) v t left right f g ∙ sym (ap (λ b. cond b (pos 0) (side (sound_at v t) (part_of v.parameters (nat_eq i 0)))) e)
   where
-    by_side : (b : Bool) (v : VoiceValue) (t left right : ℕ) → left ≡ part_of v.parameters true → right ≡ part_of v.parameters false
+    by_side : (b : Bool) (v : Voice) (t left right : ℕ) → left ≡ part_of v.parameters true → right ≡ part_of v.parameters false
         → side (sound_at v t) (cond b left right) ≡ side (sound_at v t) (part_of v.parameters b)
     by_side true v t left right f g = ap (side (sound_at v t)) f
     by_side false v t left right f g = ap (side (sound_at v t)) g

@@ -8,7 +8,7 @@ use Rattle.sample_view.specs.Words.{words}
 use Rattle.sample_view.specs.Runs.{IsRunAround}
 use Rattle.sample_view.proofs.RunLemmas.{get_or-run}
 use Rattle.sample_view.proofs.WordLemmas.{get_or-words}
-use Rattle.voices.specs.declared.parameters.VoiceParameters.{VoiceParameters}
+use Rattle.zone_select.specs.declared.parameters.VoiceParameters.{VoiceParameters}
 use Rattle.voices.specs.Points.{between, point_at, follower, point_of}
 use Rattle.voices.specs.Runs.{limit, straight}
 

@@ -1,7 +1,7 @@
 -- How loud a voice is at frame t, in 65536ths.
 use Rattle.std.specs.Prelude.{ℕ, ◌-◌, ◌*◌, ◌/◌, cond, nat_lt, min}
 use Rattle.sound_tables.specs.Tables.{gain_at}
-use Rattle.voices.specs.declared.parameters.VoiceParameters.{VoiceParameters}
+use Rattle.zone_select.specs.declared.parameters.VoiceParameters.{VoiceParameters}
 
 -- u frames into the decay, which goes on as the sustain
 unfoldable pub decayed : VoiceParameters → ℕ → ℕ

@@ -1,6 +1,6 @@
 -- Where a voice reads its sample at frame t, in 65536ths of a point, and when it is over.
 use Rattle.std.specs.Prelude.{ℕ, ◌+◌, ◌-◌, ◌*◌, ◌%◌, Bool, true, cond, not, ◌&&◌, nat_le}
-use Rattle.voices.specs.declared.parameters.VoiceParameters.{VoiceParameters}
+use Rattle.zone_select.specs.declared.parameters.VoiceParameters.{VoiceParameters}
 
 -- a place in a loop from `from` to `to`: from the loop's end on it begins again, with what it went too far
 abbrev pub wrapped : ℕ → ℕ → ℕ → ℕ

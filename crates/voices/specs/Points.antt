@@ -2,7 +2,7 @@
 use Rattle.std.specs.Prelude.{ℕ, ◌+◌, ◌/◌, ◌%◌, ℤ, pos, ◌+ℤ◌, ◌-ℤ◌, ◌*ℤ◌, Bool, cond, ◌&&◌, ◌==◌, nat_lt, List, slice_index}
 use Rattle.std.specs.Int.{cast_signed, w16}
 use Rattle.sound_tables.specs.Floor.{floor_div}
-use Rattle.voices.specs.declared.parameters.VoiceParameters.{VoiceParameters}
+use Rattle.zone_select.specs.declared.parameters.VoiceParameters.{VoiceParameters}
 
 -- point i of a sample, signed
 unfoldable pub point_at : List ℕ → ℕ → ℤ

@@ -2,44 +2,31 @@
 use Rattle.std.specs.Prelude.{ℕ, ◌+◌, ◌≡◌, ◌≤◌, ◌<◌, ℤ, pos, negsuc, ◌+ℤ◌, ◌-ℤ◌, ◌≤ℤ◌, Bool, true, cond, List}
 use Rattle.sound_tables.specs.Tables.{gain_of}
 use Rattle.sound_tables.specs.Floor.{above_zero}
-use Rattle.voices.specs.declared.parameters.VoiceParameters.{VoiceParameters}
+use Rattle.zone_select.specs.declared.parameters.VoiceParameters.{VoiceParameters}
+use Rattle.zone_select.specs.Select.{Voice}
 use Rattle.voices.specs.Levels.{scaled_by, side}
 use Rattle.voices.specs.Place.{place, is_looping, is_over}
 use Rattle.voices.specs.Points.{point_of}
 use Rattle.voices.specs.Envelope.{envelope}
 
--- all that a voice plays by
-pub record VoiceValue : Type 0 where
-  pub points : List ℕ
-  pub parameters : VoiceParameters
-
 -- a voice, and the number of the frame that comes next
 pub record Live : Type 0 where
-  pub value : VoiceValue
+  pub value : Voice
   pub age : ℕ
-
--- the parameters lie within their ranges, for a sample of so many points
-pub record IsPlayable (count : ℕ) (v : VoiceParameters) : Type 0 where
-  pub inside : v.end ≤ count
-  pub ordered : v.looped ≡ true → v.loop_start < v.loop_end
-  pub loop_inside : v.looped ≡ true → v.loop_end ≤ v.end
-  pub step : v.step ≤ 73043661
-  pub left : negsuc 499 ≤ℤ v.pan
-  pub right : v.pan ≤ℤ pos 500
 
 -- the part of 1000 that a side gets
 abbrev pub part_of : VoiceParameters → Bool → ℕ
 part_of v left = above_zero (cond left (pos 500 -ℤ v.pan) (pos 500 +ℤ v.pan))
 
 -- frame t before it is parted, of a voice that isn't over
-unfoldable pub sound_at : VoiceValue → ℕ → ℤ
+unfoldable pub sound_at : Voice → ℕ → ℤ
 sound_at v t =
     scaled_by
     (scaled_by (point_of v.points v.parameters (is_looping v.parameters t) (place v.parameters t)) (envelope v.parameters t))
     (gain_of v.parameters.attenuation)
 
 -- the left or the right side of frame t
-unfoldable pub snd : VoiceValue → Bool → ℕ → ℤ
+unfoldable pub snd : Voice → Bool → ℕ → ℤ
 snd v left t = cond (is_over v.parameters t) (pos 0) (side (sound_at v t) (part_of v.parameters left))
 
 -- a voice that is over counts no more frames

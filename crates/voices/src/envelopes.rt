@@ -2,8 +2,8 @@
 ghost use Rattle.std.specs.Prelude.{◌≡◌, ◌≤◌, ◌<◌, ◌+◌, ◌^◌};
 ghost use Rattle.voices.specs.Envelope.{decayed, held, envelope};
 
-use crate::parameters::VoiceParameters;
 use sound_tables::gain;
+use zone_select::VoiceParameters;
 
 // The level so many frames into the decay.
 #[tactic(auto, unfolding(crate::specs::Envelope::decayed))]

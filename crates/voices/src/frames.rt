@@ -2,15 +2,16 @@
 ghost use Rattle.std.specs.Prelude.{◌≡◌, ℕ, ◌+◌, ◌*◌, ◌/◌, ◌%◌, ◌^◌, ◌≤◌, ◌<◌, ◌≤ℤ◌, ◌+ℤ◌, pos, negsuc, true, false, length, nat_eq, slice_index_or};
 ghost use Rattle.voices.specs.Place.{is_over, is_looping, place};
 ghost use Rattle.voices.specs.Points.{point_of};
-ghost use Rattle.voices.specs.Sound.{IsPlayable, sound_at, part_of, snd};
+ghost use Rattle.zone_select.specs.Playable.{IsPlayable};
+ghost use Rattle.voices.specs.Sound.{sound_at, part_of, snd};
 
 use crate::envelopes::envelope_at;
 use crate::levels::{louder, parted};
-use crate::parameters::VoiceParameters;
 use crate::places::{is_looping_at, is_over_at, place_at};
 use crate::sampled::point_of_place;
 use sample_view::Points;
 use sound_tables::gain;
+use zone_select::VoiceParameters;
 
 // What the left side gets, of 1000.
 pub(crate) fn left_part(v: &VoiceParameters) -> u32

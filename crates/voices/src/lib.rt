@@ -6,7 +6,6 @@ ghost use Rattle.voices.specs.Sound.{OverStaysOver};
 mod envelopes;
 mod frames;
 mod levels;
-mod parameters;
 mod phases;
 mod places;
 mod runs;
@@ -14,7 +13,6 @@ mod sampled;
 mod slices;
 mod voice;
 
-pub use parameters::VoiceParameters;
 pub use voice::Voice;
 
 /// The law that a voice that is over at a frame is over at each later one. It does nothing.

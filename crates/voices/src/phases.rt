@@ -4,9 +4,9 @@ ghost use Rattle.sound_tables.specs.Tables.{gain_at};
 ghost use Rattle.voices.specs.Envelope.{decayed, held, released, envelope};
 
 use crate::envelopes::held_at;
-use crate::parameters::VoiceParameters;
 use crate::places::frames_before;
 use sound_tables::gain;
+use zone_select::VoiceParameters;
 
 // The whole parts of `amount * j / over` for each j from `first` on: no frame divides.
 #[tactic(auto, using(crate::proofs::PhaseLemmas::line_fits, crate::proofs::PhaseLemmas::part_small))]

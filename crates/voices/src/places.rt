@@ -3,7 +3,7 @@ ghost use Rattle.std.specs.Prelude.{◌≡◌, ◌+◌, ◌≤◌, ◌<◌, ◌^
 ghost use Rattle.std.specs.Bool.{OnFalse};
 ghost use Rattle.voices.specs.Place.{looped_place, place, is_looping, is_over};
 
-use crate::parameters::VoiceParameters;
+use zone_select::VoiceParameters;
 
 // The place while the loop, if there is one, is in force.
 #[tactic(auto, using(crate::proofs::PlaceLemmas::wrapped_below, crate::proofs::PlaceLemmas::wrapped_above, crate::proofs::PlaceLemmas::far_place), unfolding(crate::specs::Place::looped_place))]

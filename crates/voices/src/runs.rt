@@ -5,18 +5,19 @@ ghost use Rattle.sound_tables.specs.Tables.{gain_of};
 ghost use Rattle.voices.specs.Levels.{scaled_by, side};
 ghost use Rattle.voices.specs.Place.{is_over};
 ghost use Rattle.voices.specs.Envelope.{envelope};
-ghost use Rattle.voices.specs.Sound.{IsPlayable, sound_at, snd};
+ghost use Rattle.zone_select.specs.Playable.{IsPlayable};
+ghost use Rattle.voices.specs.Sound.{sound_at, snd};
 ghost use Rattle.voices.specs.Within.{AllWithin};
 ghost use Rattle.voices.specs.Runs.{IsAdded, IsStretch};
 
 use crate::frames::{left_part, right_part};
 use crate::levels::{louder, parted};
-use crate::parameters::VoiceParameters;
 use crate::phases::fill_levels;
 use crate::places::{frames_before, is_looping_at, is_over_at, place_at};
 use crate::slices::fill_points;
 use sample_view::Points;
 use sound_tables::gain;
+use zone_select::VoiceParameters;
 
 // The most frames of a stretch.
 const LONGEST: usize = 256;

@@ -3,8 +3,8 @@ ghost use Rattle.std.specs.Prelude.{◌≡◌, ◌+◌, ◌-ℤ◌, ◌*ℤ◌, 
 ghost use Rattle.sound_tables.specs.Floor.{floor_div};
 ghost use Rattle.voices.specs.Points.{between, point_at, follower, point_of};
 
-use crate::parameters::VoiceParameters;
 use sample_view::Points;
+use zone_select::VoiceParameters;
 
 // The part of 65536 of the way from one point to the next.
 #[inline(always)]

@@ -3,13 +3,13 @@ ghost use Rattle.std.specs.Prelude.{◌≡◌, ℕ, ◌+◌, ◌*◌, ◌/◌, �
 ghost use Rattle.sample_view.specs.Words.{words};
 ghost use Rattle.voices.specs.Place.{is_looping, place};
 ghost use Rattle.voices.specs.Points.{point_at, point_of};
-ghost use Rattle.voices.specs.Sound.{IsPlayable};
+ghost use Rattle.zone_select.specs.Playable.{IsPlayable};
 ghost use Rattle.voices.specs.Runs.{IsStretch, limit, gone_on, straight};
 
-use crate::parameters::VoiceParameters;
 use crate::places::{frames_before, is_looping_at, place_at};
 use crate::sampled::{interpolated, point_of_place};
 use sample_view::Points;
+use zone_select::VoiceParameters;
 
 // Point `i` of a slice.
 #[inline(always)]

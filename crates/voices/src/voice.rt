@@ -2,15 +2,16 @@
 ghost use Rattle.std.specs.Prelude.{◌≡◌, ℕ, ◌+◌, ◌*◌, ◌/◌, ◌%◌, ◌^◌, ◌≤◌, ◌<◌, ◌+ℤ◌, ◌≤ℤ◌, pos, negsuc, true, false, EachIndex, length, nat_eq, slice_index_or};
 ghost use Rattle.std.specs.Bool.{OnFalse};
 ghost use Rattle.voices.specs.Place.{is_over};
-ghost use Rattle.voices.specs.Sound.{IsPlayable, snd, after_frame};
+ghost use Rattle.zone_select.specs.Playable.{IsPlayable};
+ghost use Rattle.voices.specs.Sound.{snd, after_frame};
 ghost use Rattle.voices.specs.Within.{AllWithin};
 
 use crate::frames::frame;
-use crate::parameters::VoiceParameters;
 use crate::places::is_over_at;
 use crate::runs::add_run;
 use sample_view::Points;
 use std::marker::Model;
+use zone_select::VoiceParameters;
 
 /// A sample that is played by the numbers of a pair of zones. It holds slices of the file and not the
 /// bank. Contracts see its points, its parameters, and the number of the frame that comes next.
@@ -23,7 +24,8 @@ pub struct Voice<'a> {
 
 impl<'a> Model for Voice<'a> {
     ghost use Rattle.std.specs.Prelude.{length};
-    ghost use Rattle.voices.specs.Sound.{IsPlayable, Live};
+    ghost use Rattle.zone_select.specs.Playable.{IsPlayable};
+    ghost use Rattle.voices.specs.Sound.{Live};
 
     ghost Value = { Live };
 

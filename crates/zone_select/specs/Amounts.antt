@@ -14,7 +14,7 @@ use Rattle.sound_tables.specs.Floor.{floor_div, floor_mod, above_zero}
 use Rattle.sound_tables.specs.Tables.{frames_of, velatt_of, step_of}
 use Rattle.note_list.specs.Notes.{Numbers}
 use Rattle.bank_parts.specs.declared.parts.Sample.{Sample}
-use Rattle.zone_select.specs.declared.params.Plays.{Plays}
+use Rattle.zone_select.specs.declared.parameters.VoiceParameters.{VoiceParameters}
 use Rattle.zone_select.specs.Taken.{Taken}
 
 -- ---- generators
@@ -130,8 +130,8 @@ is_looped v u s =
     && int_le (pos (start_of v u s)) (loop_start_of v u s) && int_lt (loop_start_of v u s) (loop_end_of v u s) && int_le (loop_end_of v u s) (pos (end_of v u s))
 
 -- all of them, for a sample; the ends of a loop are 0 where there is none
-unfoldable pub plays_of : Numbers → Taken → Taken → Sample → Plays
-plays_of n v u s = record {
+unfoldable pub parameters_of : Numbers → Taken → Taken → Sample → VoiceParameters
+parameters_of n v u s = record {
   start = start_of v u s;
   end = end_of v u s;
   loop_start = cond (is_looped v u s) (above_zero (loop_start_of v u s)) 0;

@@ -1,4 +1,5 @@
 pub mod Ranges
+pub mod Playable
 pub mod Taken
 pub mod Amounts
 pub mod Select

@@ -9,19 +9,19 @@ use Rattle.bank_parts.specs.declared.parts.Zone.{Zone}
 use Rattle.bank_parts.specs.declared.parts.WithZones.{WithZones}
 use Rattle.bank_parts.specs.declared.parts.Sample.{Sample}
 use Rattle.bank_parts.specs.declared.parts.Parts.{Parts}
-use Rattle.zone_select.specs.declared.params.Plays.{Plays}
+use Rattle.zone_select.specs.declared.parameters.VoiceParameters.{VoiceParameters}
 use Rattle.zone_select.specs.Ranges.{holds}
 use Rattle.zone_select.specs.Taken.{Taken, taken}
-use Rattle.zone_select.specs.Amounts.{plays_of}
+use Rattle.zone_select.specs.Amounts.{parameters_of}
 
 -- the points of a voice, and the numbers that it plays by
 pub record Voice : Type 0 where
   pub points : List ℕ
-  pub plays : Plays
+  pub parameters : VoiceParameters
 
 -- the voice of a sample, for what is taken of an instrument's zone and of a preset's
 unfoldable pub voice_of : Numbers → Taken → Taken → Sample → Voice
-voice_of n v u s = record { points = s.points; plays = plays_of n v u s }
+voice_of n v u s = record { points = s.points; parameters = parameters_of n v u s }
 
 -- of each zone that holds the note, the voices of its target
 unfoldable pub voices_of : (Taken → ℕ → List Voice) → Numbers → GlobalZone → List Zone → List Voice

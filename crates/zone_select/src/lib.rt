@@ -5,9 +5,9 @@
 mod amounts;
 mod laws;
 mod pairs;
-mod params;
+mod parameters;
 mod zones;
 
 pub use laws::selected_by_pairs;
 pub use pairs::{ZonePairs, matches};
-pub use params::Plays;
+pub use parameters::VoiceParameters;

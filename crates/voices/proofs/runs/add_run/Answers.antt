@@ -1,7 +1,8 @@
 use Rattle.std.proofs.Common.{◌≡◌, ◌+◌, ◌-◌, ◌*◌, ◌/◌, ◌%◌, ◌≤◌, pos, arith, get_or, length, nat_eq, take, drop, inl, inr, sym, ◌∙◌}
 use Rattle.std.proofs.lemmas.Bool.{cases_lt}
 use Rattle.std.proofs.lemmas.Grind.{common_steps}
-use Rattle.voices.specs.Sound.{VoiceValue, snd}
+use Rattle.zone_select.specs.Select.{Voice}
+use Rattle.voices.specs.Sound.{snd}
 use Rattle.voices.specs.Runs.{IsAdded}
 use Rattle.voices.proofs.WriteLemmas.{below_piece, after_piece, in_piece}
 use Rattle.voices.proofs.RunLemmas.{silent_added, silent_from, later_added}
@@ -9,7 +10,7 @@ use Rattle.voices.proofs.runs.add_run.Goals as goal
 
 pub returns-then-is_over_at : goal.returns-then-is_over_at
 returns-then-is_over_at c i h =
-    let v : VoiceValue = record { points = c.args.points.now; parameters = c.args.v.now } in
+    let v : Voice = record { points = c.args.points.now; parameters = c.args.v.now } in
     elim (cases_lt i c.loop-at.at) [
       | inl lt ↦ c.loop-at.invariant.done i lt
       | inr ge ↦ silent_added _ _ _
@@ -20,7 +21,7 @@ returns-then-is_over_at c i h =
 
 pub loop-at-preserved : goal.loop-at-preserved
 loop-at-preserved c =
-    let v : VoiceValue = record { points = c.args.points.now; parameters = c.args.v.now } in
+    let v : Voice = record { points = c.args.points.now; parameters = c.args.v.now } in
     let at = c.loop-at.at in
     let n = 2 * c.stretch-n.result in
     let xs = c.loop-at.sums in

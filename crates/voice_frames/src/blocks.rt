@@ -1,0 +1,94 @@
+//! Voices in blocks, and frame by frame.
+ghost use Rattle.std.specs.Prelude.{◌≡◌, ◌≤◌, ◌*◌, length};
+ghost use Rattle.voices.specs.Within.{AllWithin};
+
+use crate::examples::Example;
+use sample_view::Points;
+use sf_base::OutOfMemory;
+use std::alloc::Global;
+use std::io;
+use voices::Voice;
+
+/// The frames of a block.
+const BLOCK: usize = 512;
+
+/// The blocks of a voice.
+const BLOCKS: u64 = 128;
+
+/// The frames of a voice.
+pub(crate) const FRAMES: u64 = 65536;
+
+/// Plays a voice, adds its blocks up, and answers a sum over that; 0 where there is no such voice.
+pub(crate) fn play(
+    alloc: Global,
+    points: &Points,
+    example: Example,
+    round: u32,
+) -> io::Result<u64> {
+    let mut sums: [i32; 2 * BLOCK] = silence();
+    if let Some(mut voice) = example.voice(points.copy(alloc).map_err(no_memory)?, round) {
+        add_blocks(&mut voice, &mut sums);
+    }
+    Ok(folded(&sums))
+}
+
+/// Whether the frames of a block are those that come one by one.
+pub(crate) fn is_as_single_frames(
+    alloc: Global,
+    points: &Points,
+    example: Example,
+) -> io::Result<bool> {
+    let mut sums: [i32; 8 * BLOCK] = silence();
+    let in_block = example.voice(points.copy(alloc).map_err(no_memory)?, 0);
+    let one_by_one = example.voice(points.copy(alloc).map_err(no_memory)?, 0);
+    let (Some(mut in_block), Some(mut one_by_one)) = (in_block, one_by_one) else {
+        return Ok(false);
+    };
+    in_block.add_frames(&mut sums);
+    Ok(plays(&mut one_by_one, &sums))
+}
+
+// Whether these are the next frames.
+fn plays(voice: &mut Voice, sums: &[i32]) -> bool {
+    for frame in 0..sums.len() / 2 {
+        let (left, right) = voice.next_frame();
+        if left != sums[2 * frame] || right != sums[2 * frame + 1] {
+            return false;
+        }
+    }
+    true
+}
+
+fn no_memory(_error: OutOfMemory) -> io::Error {
+    io::Error::from(io::ErrorKind::OutOfMemory)
+}
+
+// Sums with nothing in them.
+fn silence<const N: usize>() -> [i32; N]
+    ensures room { AllWithin 0 result }
+    ensures length { length result ≡ N }
+{
+    [0; N]
+}
+
+// Adds all blocks of a voice to the same sums.
+fn add_blocks(voice: &mut Voice, sums: &mut [i32])
+    requires fresh { voice.old.age ≡ 0 }
+    requires long { length sums.old ≡ 1024 }
+    requires silent { AllWithin 0 sums.old }
+{
+    for _ in 0..BLOCKS {
+        voice.add_frames(sums);
+    }
+}
+
+// One number for all sums and their order.
+fn folded(sums: &[i32]) -> u64 {
+    let mut sum: u64 = 0;
+    for k in 0..sums.len() {
+        sum = sum
+            .wrapping_mul(31)
+            .wrapping_add(i64::from(sums[k]).cast_unsigned());
+    }
+    sum
+}

@@ -1,0 +1,12 @@
+-- The ranges in which a voice's parameters lie.
+use Rattle.std.specs.Prelude.{ℕ, ◌≡◌, ◌≤◌, ◌<◌, pos, negsuc, ◌≤ℤ◌, true}
+use Rattle.zone_select.specs.declared.parameters.VoiceParameters.{VoiceParameters}
+
+-- for a sample of so many points
+pub record IsPlayable (count : ℕ) (v : VoiceParameters) : Type 0 where
+  pub inside : v.end ≤ count
+  pub ordered : v.looped ≡ true → v.loop_start < v.loop_end
+  pub loop_inside : v.looped ≡ true → v.loop_end ≤ v.end
+  pub step : v.step ≤ 73043661
+  pub left : negsuc 499 ≤ℤ v.pan
+  pub right : v.pan ≤ℤ pos 500
