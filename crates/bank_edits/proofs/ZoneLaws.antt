@@ -1,8 +1,6 @@
 -- The forms that edit zones: what acceptance says of each, and what the code answers.
-use Rattle.std.proofs.Common.{◌≡◌, ◌<◌, ◌≤◌, ◌^◌, ◌||◌, ℕ, false, nat_le, nat_lt, List, [], ◌∷◌, length, Option, Some, None, unwrap_or, refl, sym, ◌∙◌, ap, arith}
+use Rattle.std.proofs.Common.{◌≡◌, ◌<◌, ◌≤◌, ◌^◌, ◌||◌, ℕ, false, nat_le, List, [], ◌∷◌, length, Option, Some, None, unwrap_or, refl, ◌∙◌, ap, arith}
 use Rattle.std.specs.Prelude.{IsSomeAnd, slice_get}
-use Rattle.std.specs.List.{list_any}
-use Rattle.std.proofs.lemmas.Bool.Decides.{nat_tests}
 use Rattle.sf_base.specs.Names.{IsName}
 use Rattle.numbered_lists.proofs.Lists.{slice_get-found, slice_get-within}
 use Rattle.generators.specs.declared.level.Level.{Level}

@@ -15,7 +15,6 @@ use Rattle.bank_parts.specs.Texts.{text_of}
 use Rattle.bank_parts.specs.Limits.{broken_limit}
 use Rattle.bank_core.specs.Samples.{sample_renamed, sample_added, sample_removed, sample_moved}
 use Rattle.bank_core.specs.Instruments.{instrument_added, instrument_removed, instrument_renamed, instrument_moved}
-use Rattle.zone_ranges.specs.declared.axes.Axis.{Axis}
 use Rattle.zone_ranges.specs.Ranges.{low_end, own_range, whole_range}
 use Rattle.zone_ranges.specs.Splits.{keep_for}
 use Rattle.bank_core.specs.Presets.{preset_added, preset_removed, preset_moved, head_set}

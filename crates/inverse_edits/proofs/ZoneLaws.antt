@@ -1,5 +1,5 @@
 -- Undo restores, for the forms that edit zones.
-use Rattle.std.proofs.Common.{◌≡◌, ◌<◌, ◌≤◌, ℕ, List, length, insert, remove, Option, Some, None, refl, sym, subst, ap, ◌∙◌, arith}
+use Rattle.std.proofs.Common.{◌≡◌, ◌<◌, ◌≤◌, ℕ, List, length, insert, remove, Option, Some, refl, sym, subst, ap, ◌∙◌, arith}
 use Rattle.std.specs.Prelude.{IsSomeAnd, slice_get}
 use Rattle.std.specs.Option.{option_map}
 use Rattle.std.proofs.lemmas.List.Edits.{length-insert, length-remove}
@@ -15,7 +15,7 @@ use Rattle.bank_parts.specs.Valid.{IsZone}
 use Rattle.bank_parts.specs.Fits.{FitsZone}
 use Rattle.bank_parts.specs.Sound.{IsSound}
 use Rattle.bank_parts.proofs.SettingLaws.{source, zones_read}
-use Rattle.bank_parts.proofs.UndoneLaws.{There, zones_there, zone_added_read, target_set_read}
+use Rattle.bank_parts.proofs.UndoneLaws.{zone_added_read, target_set_read}
 use Rattle.bank_core.specs.declared.members.Owner.{Owner}
 use Rattle.bank_core.specs.declared.members.Owner.TheVariants as owner
 use Rattle.bank_core.specs.Members.{own_zone_count, zones_of, zone_of, target_of, level_of, target_count}
