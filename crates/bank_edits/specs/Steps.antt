@@ -109,7 +109,7 @@ causes b (AddPreset at preset) =
     ∷ []
 causes b (RemovePreset preset) = no_such_preset b preset ∷ []
 causes b (MovePreset from to) = no_such_preset b from ∷ no_such_place (length b.presets) to ∷ []
-causes b (SetHead preset name number bank) = not_yet
+causes b (SetHead preset name number bank) = no_such_preset b preset ∷ []
 causes b (AddInstrument at instrument) =
     no_such_target (length b.samples) instrument NoSuchSample
     ∷ bad_place (length b.instruments) at

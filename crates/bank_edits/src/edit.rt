@@ -13,7 +13,7 @@ use crate::instruments::{
 };
 use crate::presets::{
     add_preset, move_preset, refuse_add_preset, refuse_move_preset, refuse_remove_preset,
-    remove_preset,
+    refuse_set_head, remove_preset, set_head,
 };
 use crate::samples::{
     add_sample, move_sample, refuse_add_sample, refuse_move_sample, refuse_remove_sample,
@@ -333,6 +333,12 @@ pub(crate) fn refuse_step(bank: &Bank<'_>, step: &Step<'_>) -> Result<(), Cause>
         Step::AddPreset { at, preset } => refuse_add_preset(bank, *at, preset),
         Step::RemovePreset { preset } => refuse_remove_preset(bank, *preset),
         Step::MovePreset { from, to } => refuse_move_preset(bank, *from, *to),
+        Step::SetHead {
+            preset,
+            name,
+            number,
+            bank: bank_number,
+        } => refuse_set_head(bank, *preset, *name, *number, *bank_number),
         Step::AddInstrument { at, instrument } => refuse_add_instrument(bank, *at, instrument),
         Step::RemoveInstrument { instrument } => refuse_remove_instrument(bank, *instrument),
         Step::RenameInstrument { instrument, name } => {
@@ -343,8 +349,7 @@ pub(crate) fn refuse_step(bank: &Bank<'_>, step: &Step<'_>) -> Result<(), Cause>
         Step::AddSample { at, sample } => refuse_add_sample(bank, *at, sample),
         Step::RemoveSample { sample } => refuse_remove_sample(bank, *sample),
         Step::MoveSample { from, to } => refuse_move_sample(bank, *from, *to),
-        Step::SetHead { .. }
-        | Step::AddZone { .. }
+        Step::AddZone { .. }
         | Step::RemoveZone { .. }
         | Step::MoveZone { .. }
         | Step::SplitZone { .. }
@@ -374,6 +379,12 @@ pub(crate) fn change_step<'a>(
         Step::AddPreset { at, preset } => add_preset(bank, at, preset),
         Step::RemovePreset { preset } => remove_preset(alloc, bank, preset),
         Step::MovePreset { from, to } => Ok(move_preset(bank, from, to)),
+        Step::SetHead {
+            preset,
+            name,
+            number,
+            bank: bank_number,
+        } => Ok(set_head(bank, preset, name, number, bank_number)),
         Step::AddInstrument { at, instrument } => add_instrument(bank, at, instrument),
         Step::RemoveInstrument { instrument } => remove_instrument(alloc, bank, instrument),
         Step::RenameInstrument { instrument, name } => {
@@ -384,8 +395,7 @@ pub(crate) fn change_step<'a>(
         Step::AddSample { at, sample } => add_sample(bank, at, sample),
         Step::RemoveSample { sample } => Ok(remove_sample(bank, sample)),
         Step::MoveSample { from, to } => Ok(move_sample(bank, from, to)),
-        Step::SetHead { .. }
-        | Step::AddZone { .. }
+        Step::AddZone { .. }
         | Step::RemoveZone { .. }
         | Step::MoveZone { .. }
         | Step::SplitZone { .. }
