@@ -15,6 +15,7 @@ use Rattle.bank_parts.specs.Texts.{text_of}
 use Rattle.bank_parts.specs.Limits.{broken_limit}
 use Rattle.bank_core.specs.Samples.{sample_renamed, sample_added, sample_removed, sample_moved}
 use Rattle.bank_core.specs.Instruments.{instrument_added, instrument_removed, instrument_renamed, instrument_moved}
+use Rattle.zone_ranges.specs.declared.axes.Axis.{Axis}
 use Rattle.zone_ranges.specs.Ranges.{low_end, own_range, whole_range}
 use Rattle.zone_ranges.specs.Splits.{keep_for}
 use Rattle.bank_core.specs.Presets.{preset_added, preset_removed, preset_moved, head_set}
@@ -25,7 +26,7 @@ use Rattle.bank_core.specs.declared.members.Owner.TheVariants as owner
 use Rattle.bank_core.specs.declared.members.Place.{Place}
 use Rattle.bank_core.specs.declared.members.Place.TheVariants as place
 use Rattle.bank_core.specs.Texts.{info_set}
-use Rattle.bank_core.specs.Members.{head_of, instrument_name_of, zone_of, target_of, amount_of, mod_at}
+use Rattle.bank_core.specs.Members.{head_of, instrument_name_of, level_of, zone_of, target_of, amount_of, mod_at}
 use Rattle.bank_edits.specs.declared.edit.Step.{Step}
 use Rattle.bank_edits.specs.declared.edit.Step.TheVariants.{AddPreset, RemovePreset, MovePreset, SetHead, AddInstrument, RemoveInstrument, RenameInstrument, MoveInstrument, RenameSample, AddSample, RemoveSample, MoveSample, AddZone, RemoveZone, MoveZone, SplitZone, JoinZone, SetTarget, SetGen, ClearGen, AddMod, RemoveMod, SetMod, SetInfo}
 use Rattle.bank_edits.specs.declared.cause.Cause.{Cause}
