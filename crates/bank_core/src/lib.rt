@@ -9,6 +9,7 @@ mod members;
 mod presets;
 mod samples;
 mod texts;
+mod totals;
 mod zones;
 
 pub use bank::Bank;
