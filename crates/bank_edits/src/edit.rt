@@ -11,6 +11,9 @@ use crate::instruments::{
     add_instrument, move_instrument, refuse_add_instrument, refuse_move_instrument,
     refuse_remove_instrument, refuse_rename_instrument, remove_instrument, rename_instrument,
 };
+use crate::modulator_forms::{
+    add_mod, refuse_add_mod, refuse_remove_mod, refuse_set_mod, remove_mod, set_mod,
+};
 use crate::presets::{
     add_preset, move_preset, refuse_add_preset, refuse_move_preset, refuse_remove_preset,
     refuse_set_head, remove_preset, set_head,
@@ -356,10 +359,24 @@ pub(crate) fn refuse_step(bank: &Bank<'_>, step: &Step<'_>) -> Result<(), Cause>
         | Step::JoinZone { .. }
         | Step::SetTarget { .. }
         | Step::SetGen { .. }
-        | Step::ClearGen { .. }
-        | Step::AddMod { .. }
-        | Step::RemoveMod { .. }
-        | Step::SetMod { .. } => Err(Cause::BadPlace),
+        | Step::ClearGen { .. } => Err(Cause::BadPlace),
+        Step::AddMod {
+            owner,
+            place,
+            index,
+            modulator,
+        } => refuse_add_mod(bank, *owner, *place, *index, *modulator),
+        Step::RemoveMod {
+            owner,
+            place,
+            index,
+        } => refuse_remove_mod(bank, *owner, *place, *index),
+        Step::SetMod {
+            owner,
+            place,
+            index,
+            modulator,
+        } => refuse_set_mod(bank, *owner, *place, *index, *modulator),
         Step::SetInfo { id, text } => refuse_set_info(bank, *id, text),
     }
 }
@@ -402,10 +419,24 @@ pub(crate) fn change_step<'a>(
         | Step::JoinZone { .. }
         | Step::SetTarget { .. }
         | Step::SetGen { .. }
-        | Step::ClearGen { .. }
-        | Step::AddMod { .. }
-        | Step::RemoveMod { .. }
-        | Step::SetMod { .. } => Err(step),
+        | Step::ClearGen { .. } => Err(step),
+        Step::AddMod {
+            owner,
+            place,
+            index,
+            modulator,
+        } => add_mod(bank, owner, place, index, modulator),
+        Step::RemoveMod {
+            owner,
+            place,
+            index,
+        } => Ok(remove_mod(bank, owner, place, index)),
+        Step::SetMod {
+            owner,
+            place,
+            index,
+            modulator,
+        } => Ok(set_mod(bank, owner, place, index, modulator)),
         Step::SetInfo { id, text } => Ok(set_info(bank, id, text)),
     }
 }
