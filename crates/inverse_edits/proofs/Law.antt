@@ -6,6 +6,7 @@ use Rattle.bank_edits.specs.declared.edit.Step.TheVariants.{AddPreset, RemovePre
 use Rattle.inverse_edits.specs.Undone.{UndoRestores}
 use Rattle.inverse_edits.proofs.PresetLaws.{undone_add_preset, undone_remove_preset, undone_move_preset, undone_set_head}
 use Rattle.inverse_edits.proofs.InstrumentLaws.{undone_add_instrument, undone_remove_instrument, undone_rename_instrument, undone_move_instrument}
+use Rattle.inverse_edits.proofs.ModulatorLaws.{undone_add_mod, undone_remove_mod, undone_set_mod}
 use Rattle.inverse_edits.proofs.SampleLaws.{undone_rename, undone_add, undone_remove, undone_move_sample}
 use Rattle.inverse_edits.proofs.TextLaws.{undone_set_info}
 
@@ -35,6 +36,6 @@ undone b (One (JoinZone o zone axis keep)) = λ s t. absurd (none_yet t.accepted
 undone b (One (SetTarget o zone target)) = λ s t. absurd (none_yet t.accepted)
 undone b (One (SetGen o at op amount)) = λ s t. absurd (none_yet t.accepted)
 undone b (One (ClearGen o at op)) = λ s t. absurd (none_yet t.accepted)
-undone b (One (AddMod o at j m)) = λ s t. absurd (none_yet t.accepted)
-undone b (One (RemoveMod o at j)) = λ s t. absurd (none_yet t.accepted)
-undone b (One (SetMod o at j m)) = λ s t. absurd (none_yet t.accepted)
+undone b (One (AddMod o at j m)) = undone_add_mod b o at j m
+undone b (One (RemoveMod o at j)) = undone_remove_mod b o at j
+undone b (One (SetMod o at j m)) = undone_set_mod b o at j m
