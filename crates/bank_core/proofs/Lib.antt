@@ -11,3 +11,6 @@ pub mod SampleLaws
 pub mod InstrumentLaws
 pub mod PresetLaws
 pub mod TextLaws
+pub mod PlaceLaws
+pub mod RecountLaws
+pub mod SettingLaws

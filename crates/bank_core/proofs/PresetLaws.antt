@@ -1,19 +1,26 @@
 -- The raw changes of presets: each keeps a bank sound, and is taken back.
-use Rattle.std.proofs.Common.{◌≡◌, ◌<◌, ◌≤◌, ℕ, List, length, insert, remove, slice_get, Some, None, ◌∙◌, ap}
+use Rattle.std.proofs.Common.{◌≡◌, ◌<◌, ◌≤◌, ◌^◌, ℕ, List, length, insert, remove, slice_get, slice_set, Some, None, refl, sym, ◌∙◌, ap}
 use Rattle.std.specs.List.{AllByRecursion}
+use Rattle.std.specs.Option.{option_map}
 use Rattle.std.proofs.lemmas.List.Edits.{length-insert, length-remove}
-use Rattle.numbered_lists.proofs.Lists.{slice_get-found, slice_get-within, length-moved, moved-back, insert-remove, remove-insert}
+use Rattle.sf_base.specs.Names.{IsName}
+use Rattle.numbered_lists.specs.Moved.{changed}
+use Rattle.numbered_lists.proofs.Lists.{slice_get-found, slice_get-within, length-changed, changed-found, changed-back, slice_get-changed, length-moved, moved-back, insert-remove, remove-insert}
 use Rattle.generators.specs.declared.level.Level.TheVariants as level
 use Rattle.bank_parts.specs.declared.parts.Head.{Head}
 use Rattle.bank_parts.specs.declared.parts.WithZones.{WithZones}
 use Rattle.bank_parts.specs.declared.parts.Parts.{Parts}
 use Rattle.bank_parts.specs.Counts.{records_of_owner}
+use Rattle.bank_parts.specs.Owners.{head_at, with_head}
 use Rattle.bank_parts.specs.Valid.{IsPreset, zone_count, gen_count, mod_count}
 use Rattle.bank_parts.specs.Fits.{FitsHead, FitsOwner}
 use Rattle.bank_parts.specs.Sound.{IsSound}
 use Rattle.bank_parts.specs.Limits.{totals_of, broken, broken_limit, with_owner}
 use Rattle.bank_parts.proofs.LimitLaws.{limits_of, no_limit_of}
-use Rattle.bank_core.specs.Presets.{preset_added, preset_removed, preset_moved}
+use Rattle.bank_parts.proofs.SettingLaws.{source}
+use Rattle.bank_core.specs.Members.{head_of}
+use Rattle.bank_core.specs.Presets.{preset_added, preset_removed, preset_moved, head_called, head_set}
+use Rattle.bank_core.proofs.Changes.{all_changed, sum-changed}
 use Rattle.bank_core.proofs.Everywhere.{all_insert, all_remove}
 use Rattle.bank_core.proofs.Moves.{all_moved, sum-moved}
 use Rattle.bank_core.proofs.TotalsLaws.{total-inserted, total-removed, without_owner_within}
@@ -94,3 +101,47 @@ module _ (b : Parts) (i j : ℕ) (lt : i < length b.presets) (lu : j < length b.
 
   pub restored_preset_moved : preset_moved (preset_moved b i j) j i ≡ b
   restored_preset_moved = ap (with_presets b) (moved-back b.presets i j lt lu)
+
+-- ---- setting the head
+
+module _ (b : Parts) (i : ℕ) (name : List ℕ) (number bank : ℕ) where
+  abbrev called : WithZones Head → WithZones Head
+  called = λ x. with_head (head_called name number bank x.head) x
+
+  pub length-head_set : length (head_set b i name number bank).presets ≡ length b.presets
+  length-head_set = length-changed b.presets i called
+
+  pub totals-head_set : totals_of (head_set b i name number bank) ≡ totals_of b
+  unfolding totals_of
+  totals-head_set = λ k. record (totals_of b) {
+    presets = length-changed b.presets i called k;
+    preset_zones = sum-changed (λ (x : WithZones Head). zone_count x.global x.zones) called (λ x. refl) b.presets i k;
+    preset_gens = sum-changed (λ (x : WithZones Head). gen_count x.global x.zones) called (λ x. refl) b.presets i k;
+    preset_mods = sum-changed (λ (x : WithZones Head). mod_count x.global x.zones) called (λ x. refl) b.presets i k;
+  }
+
+  fits_called : IsName name → number < 2 ^ 16 → bank < 2 ^ 16 → (h : Head) → FitsHead h → FitsHead (head_called name number bank h)
+  fits_called named n m h f = record { name = named; number = n; bank = m; library = f.library; genre = f.genre; morphology = f.morphology }
+
+  pub head_set_sound : IsSound b → IsName name → number < 2 ^ 16 → bank < 2 ^ 16 → IsSound (head_set b i name number bank)
+  head_set_sound sound named n m = presets_sound b sound (head_set b i name number bank).presets
+      (all_changed called (IsPreset (length b.instruments)) (λ x is. record { name = named; zones = is.zones }) b.presets i sound.valid.presets)
+      (all_changed called (FitsOwner FitsHead) (λ x fits. record { head = fits_called named n m x.head fits.head; global = fits.global; zones = fits.zones }) b.presets i sound.fits.presets)
+      (ap broken totals-head_set ∙ no_limit_of b sound.valid.limits)
+
+  -- the head that it had is put back
+  pub restored_head_set : (x : WithZones Head) → slice_get b.presets i ≡ Some x → head_set (head_set b i name number bank) i x.head.name x.head.number x.head.bank ≡ b
+  restored_head_set x e =
+      ap (with_presets b) (changed-back b.presets i called (λ (y : WithZones Head). with_head (head_called x.head.name x.head.number x.head.bank y.head) y) x e refl)
+
+  pub read_head_set : (x : WithZones Head) → slice_get b.presets i ≡ Some x → head_of (head_set b i name number bank) i ≡ Some (head_called name number bank x.head)
+  read_head_set x e = ap (option_map (λ (y : WithZones Head). y.head)) (slice_get-changed b.presets i called x e)
+
+  -- a head that is made of the one that is there
+  pub head_replaced : (old : Head) → head_at b.presets i ≡ Some old → with_presets b (changed b.presets i (with_head (head_called name number bank old))) ≡ head_set b i name number bank
+  head_replaced old e =
+      let h = source (λ (x : WithZones Head). x.head) (slice_get b.presets i) old e in
+      ap (with_presets b)
+      (changed-found b.presets i (with_head (head_called name number bank old)) h.member h.there
+      ∙ (ap (λ (was : Head). slice_set b.presets i (with_head (head_called name number bank was) h.member)) (sym h.seen)
+      ∙ sym (changed-found b.presets i called h.member h.there)))

@@ -1,12 +1,14 @@
 //! The raw changes of a bank's presets.
 ghost use Rattle.std.specs.Prelude.{◌≡◌, ◌<◌, ◌≤◌, Some, length, slice_get, OnOk, OnErr, IfOk, IfErr};
+ghost use Rattle.bank_parts.specs.Owners.{head_at};
 ghost use Rattle.bank_parts.specs.Sound.{IsSound};
-ghost use Rattle.bank_core.specs.Presets.{preset_added, preset_removed, preset_moved};
+ghost use Rattle.bank_core.specs.Members.{head_of};
+ghost use Rattle.bank_core.specs.Presets.{preset_added, preset_removed, preset_moved, head_set};
 
 use crate::bank::Bank;
-use bank_parts::{Parts, Preset};
+use bank_parts::{Head, Parts, Preset};
 use generators::Level;
-use sf_base::OutOfMemory;
+use sf_base::{Name20, OutOfMemory};
 use std::alloc::Global;
 
 impl<'a> Bank<'a> {
@@ -49,6 +51,17 @@ impl<'a> Bank<'a> {
     {
         move_preset(&mut self.parts, from, to);
     }
+
+    /// Gives a preset a name and both numbers, and gives back the head that it had, of which it keeps the
+    /// rest. Takes no memory.
+    pub fn set_head(&mut self, preset: u32, name: Name20, number: u16, bank: u16) -> Head
+        requires there { preset < length self.old.presets }
+        requires sound { IsSound (head_set self.old preset name number bank) }
+        ensures value { head_of self.old preset ≡ Some result }
+        ensures change { self.new ≡ head_set self.old preset name number bank }
+    {
+        set_head(&mut self.parts, preset, name, number, bank)
+    }
 }
 
 // ---- the changes, without what a bank keeps beside its parts
@@ -77,4 +90,20 @@ fn move_preset(parts: &mut Parts<'_>, from: u32, to: u32)
     ensures { parts.new ≡ preset_moved parts.old from to }
 {
     parts.presets.move_member(from as usize, to as usize);
+}
+
+fn set_head(parts: &mut Parts<'_>, preset: u32, name: Name20, number: u16, bank: u16) -> Head
+    requires { preset < length parts.old.presets }
+    ensures value { head_at parts.old.presets preset ≡ Some result }
+    ensures change { parts.new ≡ head_set parts.old preset name number bank }
+{
+    let preset = preset as usize;
+    let old = *parts.presets.head(preset);
+    let head = Head {
+        name,
+        number,
+        bank,
+        ..old
+    };
+    parts.presets.replace_head(preset, head)
 }

@@ -1,6 +1,7 @@
 //! The totals of a bank with records more or less in a preset or an instrument that it has.
 ghost use Rattle.std.specs.Prelude.{◌≡◌, None};
 ghost use Rattle.bank_parts.specs.declared.counting.Records.{Records};
+ghost use Rattle.bank_parts.specs.declared.totals.Totals.{Totals};
 ghost use Rattle.bank_parts.specs.Counts.{all_counted};
 ghost use Rattle.bank_parts.specs.Limits.{broken};
 ghost use Rattle.bank_core.specs.Totals.{with_records, with_records_counted, HasRecords};
@@ -44,6 +45,17 @@ pub(crate) fn without_records(totals: Totals, at: Level, less: Records) -> Total
             ..totals
         },
     }
+}
+
+/// The totals where so many records, which are counted, became so many others. A sum that would pass
+/// 2^64 may stay below it, and breaks the same limit.
+pub(crate) fn recounted(totals: Totals, at: Level, before: Records, after: Records) -> Totals
+    requires within { broken totals ≡ None }
+    requires counted { HasRecords at totals before }
+    ensures value { (now : Totals) → broken now ≡ None → with_records at now before ≡ with_records at totals after → result ≡ now }
+    ensures limit { (now : Totals) → with_records at now before ≡ with_records at totals after → broken result ≡ broken now }
+{
+    plus_records(without_records(totals, at, before), at, after)
 }
 
 // A sum that would pass 2^64 stays below it.

@@ -6,3 +6,5 @@ pub mod PresetLaws
 pub mod SampleLaws
 pub mod TextLaws
 pub mod ZoneLaws
+pub mod PlaceLaws
+pub mod ModulatorLaws

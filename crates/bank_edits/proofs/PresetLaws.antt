@@ -1,5 +1,5 @@
 -- The forms that edit presets: what acceptance says of each, and what the code answers.
-use Rattle.std.proofs.Common.{◌≡◌, ◌<◌, ◌≤◌, ℕ, length, None, ◌∙◌, ap}
+use Rattle.std.proofs.Common.{◌≡◌, ◌<◌, ◌≤◌, ℕ, List, length, Some, None, refl, ◌∙◌, ap}
 use Rattle.generators.specs.declared.level.Level.TheVariants as level
 use Rattle.bank_parts.specs.declared.parts.Head.{Head}
 use Rattle.bank_parts.specs.declared.parts.WithZones.{WithZones}
@@ -8,13 +8,14 @@ use Rattle.bank_parts.specs.Valid.{IsValid}
 use Rattle.bank_parts.specs.Fits.{FitsHead, FitsOwner}
 use Rattle.bank_parts.specs.Sound.{IsSound}
 use Rattle.bank_parts.specs.Counts.{records_of_owner}
+use Rattle.bank_parts.specs.Owners.{head_at}
 use Rattle.bank_parts.specs.Limits.{totals_of, broken, broken_limit, with_owner}
 use Rattle.bank_parts.proofs.LimitLaws.{no_limit_of}
-use Rattle.bank_core.specs.Presets.{preset_added, preset_removed, preset_moved}
-use Rattle.bank_core.proofs.PresetLaws.{totals-added_preset, totals-preset_moved, sound_added_preset, sound_removed_preset, preset_moved_sound}
-use Rattle.bank_edits.specs.declared.edit.Step.TheVariants.{AddPreset, RemovePreset, MovePreset}
+use Rattle.bank_core.specs.Presets.{preset_added, preset_removed, preset_moved, head_set}
+use Rattle.bank_core.proofs.PresetLaws.{totals-added_preset, totals-preset_moved, totals-head_set, sound_added_preset, sound_removed_preset, preset_moved_sound}
+use Rattle.bank_edits.specs.declared.edit.Step.TheVariants.{AddPreset, RemovePreset, MovePreset, SetHead}
 use Rattle.bank_edits.specs.declared.cause.Cause.TheVariants.{NoSuchPreset, NoSuchInstrument}
-use Rattle.bank_edits.specs.Steps.{refusal}
+use Rattle.bank_edits.specs.Steps.{refusal, inverse}
 use Rattle.bank_edits.proofs.Accepted.{accepted, below}
 use Rattle.bank_edits.proofs.Moves.{Moves, moves}
 use Rattle.bank_edits.proofs.OwnerLaws.{GoesIn, goes_in}
@@ -59,3 +60,15 @@ module _ (b : Parts) (i j : ℕ) where
 
   pub within_move_preset : IsValid b → i < length b.presets → j < length b.presets → broken_limit (preset_moved b i j) ≡ None
   within_move_preset v lt lu = ap broken (totals-preset_moved b i j lt lu) ∙ no_limit_of b v.limits
+
+-- ---- set-head
+
+module _ (b : Parts) (i : ℕ) (name : List ℕ) (number bank : ℕ) where
+  pub there_of_set_head : refusal b (SetHead i name number bank) ≡ None → i < length b.presets
+  there_of_set_head h = below (length b.presets) i (accepted b (SetHead i name number bank) h).tests.0
+
+  pub within_set_head : IsValid b → broken_limit (head_set b i name number bank) ≡ None
+  within_set_head v = ap broken (totals-head_set b i name number bank) ∙ no_limit_of b v.limits
+
+  pub inverse_of_set_head : (old : Head) → head_at b.presets i ≡ Some old → SetHead i old.name old.number old.bank ≡ inverse b (SetHead i name number bank)
+  inverse_of_set_head old e = rw e refl

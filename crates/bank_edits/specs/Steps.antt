@@ -30,7 +30,7 @@ use Rattle.bank_edits.specs.declared.edit.Step.{Step}
 use Rattle.bank_edits.specs.declared.edit.Step.TheVariants.{AddPreset, RemovePreset, MovePreset, SetHead, AddInstrument, RemoveInstrument, RenameInstrument, MoveInstrument, RenameSample, AddSample, RemoveSample, MoveSample, AddZone, RemoveZone, MoveZone, SplitZone, JoinZone, SetTarget, SetGen, ClearGen, AddMod, RemoveMod, SetMod, SetInfo}
 use Rattle.bank_edits.specs.declared.cause.Cause.{Cause}
 use Rattle.bank_edits.specs.declared.cause.Cause.TheVariants.{NoSuchInstrument, NoSuchSample, BadPlace, Full}
-use Rattle.bank_edits.specs.Causes.{Test, test, first_cause, no_such_preset, no_such_instrument, no_such_sample, no_such_target, used_instrument, bad_generator, bad_range, no_such_link, used_sample, no_such_owner, zone_total, no_such_zone, no_such_target_of, bad_generators, bad_ranges, bad_place, no_such_place, bad_loop, bad_text}
+use Rattle.bank_edits.specs.Causes.{Test, test, first_cause, no_such_preset, no_such_instrument, no_such_sample, no_such_target, used_instrument, bad_generator, bad_range, no_such_link, used_sample, no_such_owner, zone_total, no_such_zone, no_such_target_of, bad_generators, bad_ranges, bad_place, no_such_place, bad_loop, bad_text, no_such_zone_at, mods_there, no_such_modulator, linked_place, linked_modulator}
 
 -- numbers of 32 bits
 abbrev pub FitsNumberOf : Owner → Type 0
@@ -108,7 +108,7 @@ causes b (AddPreset at preset) =
     ∷ []
 causes b (RemovePreset preset) = no_such_preset b preset ∷ []
 causes b (MovePreset from to) = no_such_preset b from ∷ no_such_place (length b.presets) to ∷ []
-causes b (SetHead preset name number bank) = not_yet
+causes b (SetHead preset name number bank) = no_such_preset b preset ∷ []
 causes b (AddInstrument at instrument) =
     no_such_target (length b.samples) instrument NoSuchSample
     ∷ bad_place (length b.instruments) at
@@ -136,9 +136,15 @@ causes b (JoinZone o zone axis keep) = not_yet
 causes b (SetTarget o zone target) = no_such_owner b o ∷ no_such_target_of b o target ∷ no_such_zone b o zone ∷ []
 causes b (SetGen o at operator amount) = not_yet
 causes b (ClearGen o at operator) = not_yet
-causes b (AddMod o at index modulator) = not_yet
-causes b (RemoveMod o at index) = not_yet
-causes b (SetMod o at index modulator) = not_yet
+causes b (AddMod o at index modulator) =
+    no_such_owner b o
+    ∷ no_such_zone_at b o at
+    ∷ bad_place (length (mods_there b o at)) index
+    ∷ linked_modulator b o at modulator
+    ∷ []
+causes b (RemoveMod o at index) = no_such_owner b o ∷ no_such_zone_at b o at ∷ no_such_modulator b o at index ∷ linked_place b o at ∷ []
+causes b (SetMod o at index modulator) =
+    no_such_owner b o ∷ no_such_zone_at b o at ∷ no_such_modulator b o at index ∷ linked_modulator b o at modulator ∷ []
 causes b (SetInfo id text) = bad_text id text ∷ []
 
 -- Why it is refused, if it is: the cause of the first test that stands; where none does, the first

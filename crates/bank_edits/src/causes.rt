@@ -7,9 +7,10 @@ ghost use Rattle.bank_edits.specs.Answers.{Passes, Judges};
 ghost use Rattle.bank_edits.specs.Causes as causes;
 
 use crate::cause::Cause;
-use bank_core::{Bank, Owner};
+use bank_core::{Bank, Owner, Place};
 use bank_parts::{InfoId, Kind, Limit, Sample, WithZones, Zone, sets_bad_range, sets_foreign};
 use generators::Level;
+use modulators::Modulator;
 use sf_base::Lent;
 use sf_base::limits::{COMMENT_LENGTH, TEXT_LENGTH};
 
@@ -57,6 +58,29 @@ pub(crate) fn no_such_owner(bank: &Bank<'_>, owner: Owner) -> Result<(), Cause>
 
 // ---- zones of a preset or an instrument
 
+/// How many zones an owner has, the global one not counted; none where there is no such owner.
+pub(crate) fn zone_total(bank: &Bank<'_>, owner: Owner) -> usize
+    ensures { result ≡ causes.zone_total bank.now owner }
+{
+    bank.zone_count(owner).unwrap_or(0)
+}
+
+pub(crate) fn no_such_zone(bank: &Bank<'_>, owner: Owner, zone: u32) -> Result<(), Cause>
+    ensures { Passes (causes.no_such_zone bank.now owner zone) result }
+{
+    judge(zone_total(bank, owner) <= zone as usize, Cause::NoSuchZone)
+}
+
+/// The global zone is always there.
+pub(crate) fn no_such_zone_at(bank: &Bank<'_>, owner: Owner, place: Place) -> Result<(), Cause>
+    ensures { Passes (causes.no_such_zone_at bank.now owner place) result }
+{
+    match place {
+        Place::Global => Ok(()),
+        Place::Zone(zone) => no_such_zone(bank, owner, zone),
+    }
+}
+
 /// A zone's target is past so many members; the cause says of which kind they are.
 pub(crate) fn no_such_target<H>(
     count: usize,
@@ -82,19 +106,6 @@ pub(crate) fn bad_range<H>(owner: &WithZones<H>) -> Result<(), Cause>
 
 // ---- one zone
 
-/// How many zones an owner has, the global one not counted; none where there is no such owner.
-pub(crate) fn zone_total(bank: &Bank<'_>, owner: Owner) -> usize
-    ensures { result ≡ causes.zone_total bank.now owner }
-{
-    bank.zone_count(owner).unwrap_or(0)
-}
-
-pub(crate) fn no_such_zone(bank: &Bank<'_>, owner: Owner, zone: u32) -> Result<(), Cause>
-    ensures { Passes (causes.no_such_zone bank.now owner zone) result }
-{
-    judge(zone_total(bank, owner) <= zone as usize, Cause::NoSuchZone)
-}
-
 /// The target is past the members that zones of the owner may target.
 pub(crate) fn no_such_target_of(bank: &Bank<'_>, owner: Owner, target: u16) -> Result<(), Cause>
     ensures { Passes (causes.no_such_target_of bank.now owner target) result }
@@ -118,6 +129,49 @@ pub(crate) fn bad_ranges(zone: &Zone) -> Result<(), Cause>
     ensures { Passes (causes.bad_ranges zone.now) result }
 {
     judge(sets_bad_range(&zone.gens), Cause::BadRange)
+}
+
+// ---- modulators of a place
+
+/// How many modulators a place has; none where there is no such place.
+pub(crate) fn mods_there(bank: &Bank<'_>, owner: Owner, place: Place) -> usize
+    ensures { result ≡ length (causes.mods_there bank.now owner place) }
+{
+    bank.mod_count(owner, place).unwrap_or(0)
+}
+
+pub(crate) fn no_such_modulator(
+    bank: &Bank<'_>,
+    owner: Owner,
+    place: Place,
+    index: u32,
+) -> Result<(), Cause>
+    ensures { Passes (causes.no_such_modulator bank.now owner place index) result }
+{
+    judge(
+        mods_there(bank, owner, place) <= index as usize,
+        Cause::NoSuchModulator,
+    )
+}
+
+pub(crate) fn linked_place(bank: &Bank<'_>, owner: Owner, place: Place) -> Result<(), Cause>
+    ensures { Passes (causes.linked_place bank.now owner place) result }
+{
+    judge(bank.has_link(owner, place), Cause::LinkedModulator)
+}
+
+pub(crate) fn linked_modulator(
+    bank: &Bank<'_>,
+    owner: Owner,
+    place: Place,
+    modulator: Modulator,
+) -> Result<(), Cause>
+    ensures { Passes (causes.linked_modulator bank.now owner place modulator) result }
+{
+    judge(
+        bank.has_link(owner, place) || modulator.is_link(),
+        Cause::LinkedModulator,
+    )
 }
 
 // ---- samples

@@ -11,9 +11,12 @@ use crate::instruments::{
     add_instrument, move_instrument, refuse_add_instrument, refuse_move_instrument,
     refuse_remove_instrument, refuse_rename_instrument, remove_instrument, rename_instrument,
 };
+use crate::modulator_forms::{
+    add_mod, refuse_add_mod, refuse_remove_mod, refuse_set_mod, remove_mod, set_mod,
+};
 use crate::presets::{
     add_preset, move_preset, refuse_add_preset, refuse_move_preset, refuse_remove_preset,
-    remove_preset,
+    refuse_set_head, remove_preset, set_head,
 };
 use crate::samples::{
     add_sample, move_sample, refuse_add_sample, refuse_move_sample, refuse_remove_sample,
@@ -337,6 +340,12 @@ pub(crate) fn refuse_step(bank: &Bank<'_>, step: &Step<'_>) -> Result<(), Cause>
         Step::AddPreset { at, preset } => refuse_add_preset(bank, *at, preset),
         Step::RemovePreset { preset } => refuse_remove_preset(bank, *preset),
         Step::MovePreset { from, to } => refuse_move_preset(bank, *from, *to),
+        Step::SetHead {
+            preset,
+            name,
+            number,
+            bank: bank_number,
+        } => refuse_set_head(bank, *preset, *name, *number, *bank_number),
         Step::AddInstrument { at, instrument } => refuse_add_instrument(bank, *at, instrument),
         Step::RemoveInstrument { instrument } => refuse_remove_instrument(bank, *instrument),
         Step::RenameInstrument { instrument, name } => {
@@ -347,22 +356,33 @@ pub(crate) fn refuse_step(bank: &Bank<'_>, step: &Step<'_>) -> Result<(), Cause>
         Step::AddSample { at, sample } => refuse_add_sample(bank, *at, sample),
         Step::RemoveSample { sample } => refuse_remove_sample(bank, *sample),
         Step::MoveSample { from, to } => refuse_move_sample(bank, *from, *to),
-        Step::SetHead { .. }
-        | Step::SplitZone { .. }
-        | Step::JoinZone { .. }
-        | Step::SetGen { .. }
-        | Step::ClearGen { .. }
-        | Step::AddMod { .. }
-        | Step::RemoveMod { .. }
-        | Step::SetMod { .. } => Err(Cause::BadPlace),
         Step::AddZone { owner, at, zone } => refuse_add_zone(bank, *owner, *at, zone),
         Step::RemoveZone { owner, zone } => refuse_remove_zone(bank, *owner, *zone),
         Step::MoveZone { owner, from, to } => refuse_move_zone(bank, *owner, *from, *to),
+        Step::SplitZone { .. } | Step::JoinZone { .. } => Err(Cause::BadPlace),
         Step::SetTarget {
             owner,
             zone,
             target,
         } => refuse_set_target(bank, *owner, *zone, *target),
+        Step::SetGen { .. } | Step::ClearGen { .. } => Err(Cause::BadPlace),
+        Step::AddMod {
+            owner,
+            place,
+            index,
+            modulator,
+        } => refuse_add_mod(bank, *owner, *place, *index, *modulator),
+        Step::RemoveMod {
+            owner,
+            place,
+            index,
+        } => refuse_remove_mod(bank, *owner, *place, *index),
+        Step::SetMod {
+            owner,
+            place,
+            index,
+            modulator,
+        } => refuse_set_mod(bank, *owner, *place, *index, *modulator),
         Step::SetInfo { id, text } => refuse_set_info(bank, *id, text),
     }
 }
@@ -382,6 +402,12 @@ pub(crate) fn change_step<'a>(
         Step::AddPreset { at, preset } => add_preset(bank, at, preset),
         Step::RemovePreset { preset } => remove_preset(alloc, bank, preset),
         Step::MovePreset { from, to } => Ok(move_preset(bank, from, to)),
+        Step::SetHead {
+            preset,
+            name,
+            number,
+            bank: bank_number,
+        } => Ok(set_head(bank, preset, name, number, bank_number)),
         Step::AddInstrument { at, instrument } => add_instrument(bank, at, instrument),
         Step::RemoveInstrument { instrument } => remove_instrument(alloc, bank, instrument),
         Step::RenameInstrument { instrument, name } => {
@@ -392,22 +418,33 @@ pub(crate) fn change_step<'a>(
         Step::AddSample { at, sample } => add_sample(bank, at, sample),
         Step::RemoveSample { sample } => Ok(remove_sample(bank, sample)),
         Step::MoveSample { from, to } => Ok(move_sample(bank, from, to)),
-        Step::SetHead { .. }
-        | Step::SplitZone { .. }
-        | Step::JoinZone { .. }
-        | Step::SetGen { .. }
-        | Step::ClearGen { .. }
-        | Step::AddMod { .. }
-        | Step::RemoveMod { .. }
-        | Step::SetMod { .. } => Err(step),
         Step::AddZone { owner, at, zone } => add_zone(bank, owner, at, zone),
         Step::RemoveZone { owner, zone } => remove_zone(alloc, bank, owner, zone),
         Step::MoveZone { owner, from, to } => Ok(move_zone(bank, owner, from, to)),
+        Step::SplitZone { .. } | Step::JoinZone { .. } => Err(step),
         Step::SetTarget {
             owner,
             zone,
             target,
         } => Ok(set_target(bank, owner, zone, target)),
+        Step::SetGen { .. } | Step::ClearGen { .. } => Err(step),
+        Step::AddMod {
+            owner,
+            place,
+            index,
+            modulator,
+        } => add_mod(bank, owner, place, index, modulator),
+        Step::RemoveMod {
+            owner,
+            place,
+            index,
+        } => Ok(remove_mod(bank, owner, place, index)),
+        Step::SetMod {
+            owner,
+            place,
+            index,
+            modulator,
+        } => Ok(set_mod(bank, owner, place, index, modulator)),
         Step::SetInfo { id, text } => Ok(set_info(bank, id, text)),
     }
 }

@@ -13,6 +13,7 @@ use crate::edit::Step;
 use bank_core::{Bank, Members};
 use bank_parts::Preset;
 use generators::Level;
+use sf_base::Name20;
 use std::alloc::Global;
 
 // ---- add-preset
@@ -95,4 +96,40 @@ pub(crate) fn move_preset<'a>(bank: &mut Bank<'a>, from: u32, to: u32) -> Step<'
 {
     bank.move_preset(from, to);
     Step::MovePreset { from: to, to: from }
+}
+
+// ---- set-head
+
+pub(crate) fn refuse_set_head(
+    bank: &Bank<'_>,
+    preset: u32,
+    _name: Name20,
+    _number: u16,
+    _bank_number: u16,
+) -> Result<(), Cause>
+    requires { IsSound bank.now }
+    ensures { Judges (refusal bank.now (step.SetHead preset _name _number _bank_number)) result }
+{
+    no_such_preset(bank, preset)
+}
+
+pub(crate) fn set_head<'a>(
+    bank: &mut Bank<'a>,
+    preset: u32,
+    name: Name20,
+    number: u16,
+    bank_number: u16,
+) -> Step<'a>
+    requires sound { IsSound bank.old }
+    requires accepted { refusal bank.old (step.SetHead preset name number bank_number) ≡ None }
+    ensures { IsStepChange bank.old bank.new (step.SetHead preset name number bank_number) (Ok result) }
+{
+    let _bytes = name.bytes();
+    let old = bank.set_head(preset, name, number, bank_number);
+    Step::SetHead {
+        preset,
+        name: old.name,
+        number: old.number,
+        bank: old.bank,
+    }
 }

@@ -4,8 +4,9 @@ use Rattle.bank_edits.specs.declared.cause.Cause.{Cause}
 use Rattle.bank_edits.specs.declared.edit.Edit.TheVariants.{One}
 use Rattle.bank_edits.specs.declared.edit.Step.TheVariants.{AddPreset, RemovePreset, MovePreset, SetHead, AddInstrument, RemoveInstrument, RenameInstrument, MoveInstrument, RenameSample, AddSample, RemoveSample, MoveSample, AddZone, RemoveZone, MoveZone, SplitZone, JoinZone, SetTarget, SetGen, ClearGen, AddMod, RemoveMod, SetMod, SetInfo}
 use Rattle.inverse_edits.specs.Undone.{UndoRestores}
-use Rattle.inverse_edits.proofs.PresetLaws.{undone_add_preset, undone_remove_preset, undone_move_preset}
+use Rattle.inverse_edits.proofs.PresetLaws.{undone_add_preset, undone_remove_preset, undone_move_preset, undone_set_head}
 use Rattle.inverse_edits.proofs.InstrumentLaws.{undone_add_instrument, undone_remove_instrument, undone_rename_instrument, undone_move_instrument}
+use Rattle.inverse_edits.proofs.ModulatorLaws.{undone_add_mod, undone_remove_mod, undone_set_mod}
 use Rattle.inverse_edits.proofs.SampleLaws.{undone_rename, undone_add, undone_remove, undone_move_sample}
 use Rattle.inverse_edits.proofs.TextLaws.{undone_set_info}
 use Rattle.inverse_edits.proofs.ZoneLaws.{undone_add_zone, undone_remove_zone, undone_move_zone, undone_set_target}
@@ -18,6 +19,7 @@ pub undone : UndoRestores
 undone b (One (AddPreset i p)) = undone_add_preset b i p
 undone b (One (RemovePreset i)) = undone_remove_preset b i
 undone b (One (MovePreset i j)) = undone_move_preset b i j
+undone b (One (SetHead p name number bank)) = undone_set_head b p name number bank
 undone b (One (AddInstrument i x)) = undone_add_instrument b i x
 undone b (One (RemoveInstrument i)) = undone_remove_instrument b i
 undone b (One (RenameInstrument i name)) = undone_rename_instrument b i name
@@ -27,7 +29,6 @@ undone b (One (AddSample i s)) = undone_add b i s
 undone b (One (RemoveSample i)) = undone_remove b i
 undone b (One (MoveSample i j)) = undone_move_sample b i j
 undone b (One (SetInfo id text)) = undone_set_info b id text
-undone b (One (SetHead p name number bank)) = λ s t. absurd (none_yet t.accepted)
 undone b (One (AddZone o at zone)) = undone_add_zone b o at zone
 undone b (One (RemoveZone o zone)) = undone_remove_zone b o zone
 undone b (One (MoveZone o from to)) = undone_move_zone b o from to
@@ -36,6 +37,6 @@ undone b (One (JoinZone o zone axis keep)) = λ s t. absurd (none_yet t.accepted
 undone b (One (SetTarget o zone target)) = undone_set_target b o zone target
 undone b (One (SetGen o at op amount)) = λ s t. absurd (none_yet t.accepted)
 undone b (One (ClearGen o at op)) = λ s t. absurd (none_yet t.accepted)
-undone b (One (AddMod o at j m)) = λ s t. absurd (none_yet t.accepted)
-undone b (One (RemoveMod o at j)) = λ s t. absurd (none_yet t.accepted)
-undone b (One (SetMod o at j m)) = λ s t. absurd (none_yet t.accepted)
+undone b (One (AddMod o at j m)) = undone_add_mod b o at j m
+undone b (One (RemoveMod o at j)) = undone_remove_mod b o at j
+undone b (One (SetMod o at j m)) = undone_set_mod b o at j m

@@ -1,5 +1,5 @@
 -- Undo restores, for the forms that edit presets.
-use Rattle.std.proofs.Common.{◌≡◌, ℕ, length, Some, refl, sym, arith}
+use Rattle.std.proofs.Common.{◌≡◌, ℕ, List, length, Some, refl, sym, arith}
 use Rattle.std.proofs.lemmas.List.Edits.{length-insert, length-remove}
 use Rattle.std.specs.Prelude.{slice_get}
 use Rattle.numbered_lists.proofs.Lists.{slice_get-found, slice_get-insert}
@@ -10,16 +10,16 @@ use Rattle.bank_parts.specs.declared.parts.Parts.{Parts}
 use Rattle.bank_parts.specs.Valid.{IsPreset}
 use Rattle.bank_parts.specs.Fits.{FitsHead, FitsOwner}
 use Rattle.bank_parts.specs.Sound.{IsSound}
-use Rattle.bank_core.specs.Presets.{preset_added, preset_removed}
+use Rattle.bank_core.specs.Presets.{preset_added, preset_removed, head_set}
 use Rattle.bank_core.proofs.Changes.{all_found}
-use Rattle.bank_core.proofs.PresetLaws.{length-preset_moved, restored_added_preset, restored_removed_preset, restored_preset_moved}
+use Rattle.bank_core.proofs.PresetLaws.{length-preset_moved, length-head_set, head_set_sound, read_head_set, restored_added_preset, restored_removed_preset, restored_preset_moved, restored_head_set}
 use Rattle.bank_edits.specs.declared.edit.Edit.TheVariants.{One}
-use Rattle.bank_edits.specs.declared.edit.Step.TheVariants.{AddPreset, RemovePreset, MovePreset}
+use Rattle.bank_edits.specs.declared.edit.Step.TheVariants.{AddPreset, RemovePreset, MovePreset, SetHead}
 use Rattle.bank_edits.specs.declared.cause.Cause.TheVariants.{NoSuchPreset, NoSuchInstrument}
 use Rattle.bank_edits.proofs.Accepted.{not_below}
 use Rattle.bank_edits.proofs.Moves.{tests_move, moves_back}
 use Rattle.bank_edits.proofs.OwnerLaws.{tests_add}
-use Rattle.bank_edits.proofs.PresetLaws.{preset_goes, sound_add_preset, there_of_remove_preset, sound_remove_preset, moves_preset, sound_move_preset}
+use Rattle.bank_edits.proofs.PresetLaws.{preset_goes, sound_add_preset, there_of_remove_preset, sound_remove_preset, moves_preset, sound_move_preset, there_of_set_head}
 use Rattle.inverse_edits.specs.Undone.{IsTaken, IsUndone}
 use Rattle.inverse_edits.proofs.UndoneBy.{undone_by}
 
@@ -69,4 +69,21 @@ undone_move_preset b i j s t =
       tests = tests_move _ j i NoSuchPreset back;
       restored = restored_preset_moved b i j m.there m.place;
       redone = refl;
+    })
+
+-- ---- set-head
+
+pub undone_set_head : (b : Parts) (i : ℕ) (name : List ℕ) (number bank : ℕ) → IsSound b → IsTaken b (One (SetHead i name number bank)) → IsUndone b (One (SetHead i name number bank))
+undone_set_head b i name number bank s t =
+    let lt = there_of_set_head b i name number bank t.accepted in
+    let (x, e) = slice_get-found b.presets i lt in
+    let same = length-head_set b i name number bank in
+    let was = (all_found (FitsOwner FitsHead) b.presets i x e s.fits.presets).head in
+    undone_by b (SetHead i name number bank) (SetHead i x.head.name x.head.number x.head.bank) s (record {
+      is = rw e refl;
+      sound = head_set_sound b i name number bank s t.fits.1 t.fits.2 t.fits.3;
+      fits = (t.fits.0, was.name, was.number, was.bank);
+      tests = (not_below (length (head_set b i name number bank).presets) i (omega (arith, same, lt)), tt);
+      restored = restored_head_set b i name number bank x e;
+      redone = let now = read_head_set b i name number bank x e in rw now refl;
     })

@@ -1,0 +1,29 @@
+use Rattle.std.proofs.Common.{insert, ◌∙◌}
+use Rattle.bank_parts.specs.Limits.{totals_of}
+use Rattle.bank_parts.specs.Settings.{with_mods}
+use Rattle.bank_core.specs.Members.{settings_of}
+use Rattle.bank_core.specs.Settings.{mod_added}
+use Rattle.bank_core.proofs.PlaceLaws.{found_there, no_limit_in, counted_there, became}
+use Rattle.bank_core.proofs.SettingLaws.{mod_added_is, mod_records}
+use Rattle.bank_core.proofs.bank.Bank.broken_with_mod.Goals as goal
+
+pub recounted-requires-clause-within : goal.recounted-requires-clause-within
+recounted-requires-clause-within c = no_limit_in c.args.self.now c.self.inside.totals (rw c.self.view_is at c.self.invariant.0) (rw c.self.view_is at c.self.invariant.1)
+
+pub recounted-requires-clause-counted : goal.recounted-requires-clause-counted
+recounted-requires-clause-counted c =
+    counted_there c.args.self.now c.args.owner c.args.place c.requires c.self.inside.totals (rw c.self.view_is at c.self.invariant.1) c.level_of.result c.level_of.ensures
+    c.records_there-before.result (rw c.self.view_is at c.records_there-before.ensures)
+
+pub returns : goal.returns
+returns c = λ index modulator.
+    let b = c.args.self.now in
+    let new = mod_added b c.args.owner c.args.place index modulator in
+    let (s, e) = found_there (settings_of b c.args.owner c.args.place) c.requires in
+    let sound = rw c.self.view_is at c.self.invariant.0 in
+    let counts = rw c.self.view_is at c.self.invariant.1 in
+    let had = rw c.self.view_is at c.records_there-before.ensures in
+    let has = mod_records b c.args.owner c.args.place s e sound c.records_there-before.result had c.zones_at.result c.saturating_add.result c.zones_at.ensures index modulator c.saturating_add.ensures in
+    c.broken.ensures
+    ∙ c.recounted.ensures.limit (totals_of new) (became b c.args.owner c.args.place c.requires c.self.inside.totals counts c.level_of.result c.level_of.ensures c.records_there-before.result had
+    (λ s. with_mods (insert s.mods index modulator) s) new (mod_added_is b c.args.owner c.args.place index modulator) _ has)

@@ -1,0 +1,338 @@
+//! The raw changes of the generators and the modulators of a place, and what stands there.
+ghost use Rattle.std.specs.Prelude.{◌≡◌, ◌<◌, ◌≤◌, Some, ℕ, length, IsSome, IsOk, IfOk, IfSome, OnOk, OnErr, unwrap_or, []};
+ghost use Rattle.std.specs.Option.{option_map};
+ghost use Rattle.std.specs.List.{list_any};
+ghost use Rattle.modulators.specs.declared.modulator.Modulator.{Modulator};
+ghost use Rattle.modulators.specs.Modulators.{is_link};
+ghost use Rattle.bank_parts.specs.Owners.{mods_at};
+ghost use Rattle.bank_parts.specs.Sound.{IsSound};
+ghost use Rattle.bank_parts.specs.Limits.{broken_limit};
+ghost use Rattle.bank_core.specs.Members.{zone_place, level_of, settings_of, mods_of, amount_of, mod_at};
+ghost use Rattle.bank_core.specs.Settings.{gen_set, gen_cleared, mod_added, mod_removed, mod_set, records_at, records_there, zones_at};
+
+use crate::bank::Bank;
+use crate::members::{Owner, Place};
+use crate::totals::recounted;
+use crate::zones::place_of;
+use bank_parts::{Limit, Owners, Parts, Records, ZonePlace};
+use generators::Level;
+use modulators::Modulator;
+use sf_base::OutOfMemory;
+
+impl<'a> Bank<'a> {
+    /// Sets an operator at a place, and gives the amount that it had. It needs memory only for an
+    /// operator that is not set; for want of it the bank stays as it is.
+    pub fn set_gen(
+        &mut self,
+        owner: Owner,
+        place: Place,
+        operator: u16,
+        amount: u16,
+    ) -> Result<Option<u16>, OutOfMemory>
+        requires there { IsSome (settings_of self.old owner place) }
+        requires sound { IsSound (gen_set self.old owner place operator amount) }
+        ensures was { IfOk result (λ was. was ≡ amount_of self.old owner place operator) }
+        ensures ok { OnOk result (self.new ≡ gen_set self.old owner place operator amount) }
+        ensures err { OnErr result (self.new ≡ self.old) }
+        ensures needs_no_memory { IsSome (amount_of self.old owner place operator) → IsOk result }
+    {
+        let before = records_there(&self.parts, owner, place);
+        let was = set_gen(&mut self.parts, owner, place, operator, amount)?;
+        let after = records_there(&self.parts, owner, place);
+        self.totals = recounted(self.totals, level_of(owner), before, after);
+        Ok(was)
+    }
+
+    /// Clears an operator at a place, and gives the amount that it had. Takes no memory.
+    pub fn clear_gen(&mut self, owner: Owner, place: Place, operator: u16) -> Option<u16>
+        requires there { IsSome (settings_of self.old owner place) }
+        requires sound { IsSound (gen_cleared self.old owner place operator) }
+        ensures was { result ≡ amount_of self.old owner place operator }
+        ensures change { self.new ≡ gen_cleared self.old owner place operator }
+    {
+        let before = records_there(&self.parts, owner, place);
+        let was = clear_gen(&mut self.parts, owner, place, operator);
+        let after = records_there(&self.parts, owner, place);
+        self.totals = recounted(self.totals, level_of(owner), before, after);
+        was
+    }
+
+    /// Makes a modulator number `index` at a place; those from there on get the next number each. For
+    /// want of memory the bank stays as it is.
+    pub fn add_mod(
+        &mut self,
+        owner: Owner,
+        place: Place,
+        index: u32,
+        modulator: Modulator,
+    ) -> Result<(), OutOfMemory>
+        requires there { IsSome (settings_of self.old owner place) }
+        requires place { IfSome (mods_of self.old owner place) (λ mods. index ≤ length mods) }
+        requires sound { IsSound (mod_added self.old owner place index modulator) }
+        ensures ok { OnOk result (self.new ≡ mod_added self.old owner place index modulator) }
+        ensures err { OnErr result (self.new ≡ self.old) }
+    {
+        let before = records_there(&self.parts, owner, place);
+        add_mod(&mut self.parts, owner, place, index, modulator)?;
+        let after = records_there(&self.parts, owner, place);
+        self.totals = recounted(self.totals, level_of(owner), before, after);
+        Ok(())
+    }
+
+    /// Takes the modulator of a number at a place out; those behind it get the number before each.
+    /// Takes no memory.
+    pub fn remove_mod(&mut self, owner: Owner, place: Place, index: u32) -> Modulator
+        requires there { IsSome (settings_of self.old owner place) }
+        requires place { IfSome (mods_of self.old owner place) (λ mods. index < length mods) }
+        requires sound { IsSound (mod_removed self.old owner place index) }
+        ensures value { mod_at self.old owner place index ≡ Some result }
+        ensures change { self.new ≡ mod_removed self.old owner place index }
+    {
+        let before = records_there(&self.parts, owner, place);
+        let modulator = remove_mod(&mut self.parts, owner, place, index);
+        let after = records_there(&self.parts, owner, place);
+        self.totals = recounted(self.totals, level_of(owner), before, after);
+        modulator
+    }
+
+    /// Puts a modulator in the place of the one of a number at a place, and gives back the one that it
+    /// replaces. Takes no memory.
+    pub fn set_mod(
+        &mut self,
+        owner: Owner,
+        place: Place,
+        index: u32,
+        modulator: Modulator,
+    ) -> Modulator
+        requires there { IsSome (settings_of self.old owner place) }
+        requires place { IfSome (mods_of self.old owner place) (λ mods. index < length mods) }
+        requires sound { IsSound (mod_set self.old owner place index modulator) }
+        ensures value { mod_at self.old owner place index ≡ Some result }
+        ensures change { self.new ≡ mod_set self.old owner place index modulator }
+    {
+        let before = records_there(&self.parts, owner, place);
+        let replaced = set_mod(&mut self.parts, owner, place, index, modulator);
+        let after = records_there(&self.parts, owner, place);
+        self.totals = recounted(self.totals, level_of(owner), before, after);
+        replaced
+    }
+
+    /// How many modulators a place has; none where there is no such place.
+    pub fn mod_count(&self, owner: Owner, place: Place) -> Option<usize>
+        ensures { result ≡ option_map length (mods_of self.now owner place) }
+    {
+        match owner {
+            Owner::Preset(number) => mod_count_in(self.presets(), number, place),
+            Owner::Instrument(number) => mod_count_in(self.instruments(), number, place),
+        }
+    }
+
+    /// Whether a modulator of a place is linked to another there; not where there is no such place.
+    pub fn has_link(&self, owner: Owner, place: Place) -> bool
+        ensures { result ≡ list_any is_link (unwrap_or (mods_of self.now owner place) []) }
+    {
+        match owner {
+            Owner::Preset(number) => has_link_in(self.presets(), number, place),
+            Owner::Instrument(number) => has_link_in(self.instruments(), number, place),
+        }
+    }
+
+    /// The first limit that is broken with an operator set at a place that is there, to any amount.
+    pub fn broken_with_gen(&self, owner: Owner, place: Place, operator: u16) -> Option<Limit>
+        requires { IsSome (settings_of self.now owner place) }
+        ensures { (amount : ℕ) → result ≡ broken_limit (gen_set self.now owner place operator amount) }
+    {
+        let before = records_there(&self.parts, owner, place);
+        if self.gen_of(owner, place, operator).is_some() {
+            return None;
+        }
+        let after = Records {
+            zones: zones_at(place),
+            gens: before.gens.saturating_add(1),
+            mods: before.mods,
+        };
+        recounted(self.totals, level_of(owner), before, after).broken()
+    }
+
+    /// The first limit that is broken with a modulator more at a place that is there.
+    pub fn broken_with_mod(&self, owner: Owner, place: Place) -> Option<Limit>
+        requires { IsSome (settings_of self.now owner place) }
+        ensures { (index : ℕ) → (modulator : Modulator) → result ≡ broken_limit (mod_added self.now owner place index modulator) }
+    {
+        let before = records_there(&self.parts, owner, place);
+        let after = Records {
+            zones: zones_at(place),
+            gens: before.gens,
+            mods: before.mods.saturating_add(1),
+        };
+        recounted(self.totals, level_of(owner), before, after).broken()
+    }
+}
+
+pub(crate) fn level_of(owner: Owner) -> Level
+    ensures { result ≡ level_of owner }
+{
+    match owner {
+        Owner::Preset(_) => Level::Preset,
+        Owner::Instrument(_) => Level::Instrument,
+    }
+}
+
+// The global zone is counted once it holds something, and another zone always is.
+fn zones_at(place: Place) -> usize
+    ensures { result ≡ zones_at place }
+{
+    match place {
+        Place::Global => 1,
+        Place::Zone(_) => 0,
+    }
+}
+
+// ---- the changes, without what a bank keeps beside its parts
+
+fn set_gen(
+    parts: &mut Parts<'_>,
+    owner: Owner,
+    place: Place,
+    operator: u16,
+    amount: u16,
+) -> Result<Option<u16>, OutOfMemory>
+    requires { IsSome (settings_of parts.old owner place) }
+    ensures was { IfOk result (λ was. was ≡ amount_of parts.old owner place operator) }
+    ensures ok { OnOk result (parts.new ≡ gen_set parts.old owner place operator amount) }
+    ensures err { OnErr result (parts.new ≡ parts.old) }
+    ensures needs_no_memory { IsSome (amount_of parts.old owner place operator) → IsOk result }
+{
+    let at = place_of(place);
+    match owner {
+        Owner::Preset(number) => parts.presets.set_gen(number as usize, at, operator, amount),
+        Owner::Instrument(number) => parts
+            .instruments
+            .set_gen(number as usize, at, operator, amount),
+    }
+}
+
+fn clear_gen(parts: &mut Parts<'_>, owner: Owner, place: Place, operator: u16) -> Option<u16>
+    requires { IsSome (settings_of parts.old owner place) }
+    ensures was { result ≡ amount_of parts.old owner place operator }
+    ensures change { parts.new ≡ gen_cleared parts.old owner place operator }
+{
+    let at = place_of(place);
+    match owner {
+        Owner::Preset(number) => parts.presets.clear_gen(number as usize, at, operator),
+        Owner::Instrument(number) => parts.instruments.clear_gen(number as usize, at, operator),
+    }
+}
+
+fn add_mod(
+    parts: &mut Parts<'_>,
+    owner: Owner,
+    place: Place,
+    index: u32,
+    modulator: Modulator,
+) -> Result<(), OutOfMemory>
+    requires there { IsSome (settings_of parts.old owner place) }
+    requires place { IfSome (mods_of parts.old owner place) (λ mods. index ≤ length mods) }
+    ensures ok { OnOk result (parts.new ≡ mod_added parts.old owner place index modulator) }
+    ensures err { OnErr result (parts.new ≡ parts.old) }
+{
+    let (at, index) = (place_of(place), index as usize);
+    match owner {
+        Owner::Preset(number) => parts
+            .presets
+            .insert_mod(number as usize, at, index, modulator),
+        Owner::Instrument(number) => parts
+            .instruments
+            .insert_mod(number as usize, at, index, modulator),
+    }
+}
+
+fn remove_mod(parts: &mut Parts<'_>, owner: Owner, place: Place, index: u32) -> Modulator
+    requires there { IsSome (settings_of parts.old owner place) }
+    requires place { IfSome (mods_of parts.old owner place) (λ mods. index < length mods) }
+    ensures value { mod_at parts.old owner place index ≡ Some result }
+    ensures change { parts.new ≡ mod_removed parts.old owner place index }
+{
+    let (at, index) = (place_of(place), index as usize);
+    match owner {
+        Owner::Preset(number) => parts.presets.remove_mod(number as usize, at, index),
+        Owner::Instrument(number) => parts.instruments.remove_mod(number as usize, at, index),
+    }
+}
+
+fn set_mod(
+    parts: &mut Parts<'_>,
+    owner: Owner,
+    place: Place,
+    index: u32,
+    modulator: Modulator,
+) -> Modulator
+    requires there { IsSome (settings_of parts.old owner place) }
+    requires place { IfSome (mods_of parts.old owner place) (λ mods. index < length mods) }
+    ensures value { mod_at parts.old owner place index ≡ Some result }
+    ensures change { parts.new ≡ mod_set parts.old owner place index modulator }
+{
+    let (at, index) = (place_of(place), index as usize);
+    match owner {
+        Owner::Preset(number) => parts.presets.set_mod(number as usize, at, index, modulator),
+        Owner::Instrument(number) => parts
+            .instruments
+            .set_mod(number as usize, at, index, modulator),
+    }
+}
+
+// ---- what stands at a place
+
+// The records of a place; none where there is no such place.
+fn records_there(parts: &Parts<'_>, owner: Owner, place: Place) -> Records
+    ensures { result ≡ records_there parts.now owner place }
+{
+    match owner {
+        Owner::Preset(number) => records_in(&parts.presets, number, place),
+        Owner::Instrument(number) => records_in(&parts.instruments, number, place),
+    }
+}
+
+fn records_in<H>(owners: &Owners<H>, number: u32, place: Place) -> Records
+    ensures { result ≡ records_at owners.now number (zone_place place) }
+{
+    let (number, place) = (number as usize, place_of(place));
+    if !owners.has_place(number, place) {
+        return Records {
+            zones: 0,
+            gens: 0,
+            mods: 0,
+        };
+    }
+    let gens = owners.gen_count(number, place);
+    let mods = owners.mod_count(number, place);
+    let is_counted = place == ZonePlace::Global && (gens > 0 || mods > 0);
+    Records {
+        zones: usize::from(is_counted),
+        gens,
+        mods,
+    }
+}
+
+fn mod_count_in<H>(owners: &Owners<H>, number: u32, place: Place) -> Option<usize>
+    ensures { result ≡ option_map length (mods_at owners.now number (zone_place place)) }
+{
+    let (number, place) = (number as usize, place_of(place));
+    if !owners.has_place(number, place) {
+        return None;
+    }
+    Some(owners.mod_count(number, place))
+}
+
+fn has_link_in<H>(owners: &Owners<H>, number: u32, place: Place) -> bool
+    ensures { result ≡ list_any is_link (unwrap_or (mods_at owners.now number (zone_place place)) []) }
+{
+    let (number, place) = (number as usize, place_of(place));
+    if !owners.has_place(number, place) {
+        return false;
+    }
+    owners
+        .mods(number, place)
+        .iter()
+        .any(|modulator| modulator.is_link())
+}

@@ -1,0 +1,20 @@
+use Rattle.std.proofs.Common.{◌≤◌, length}
+use Rattle.bank_edits.specs.declared.edit.Step.TheVariants.{AddMod}
+use Rattle.bank_edits.proofs.Accepted.{accepted}
+use Rattle.bank_edits.proofs.ModulatorLaws.{mod_goes, sound_add_mod}
+use Rattle.bank_edits.proofs.PlaceLaws.{some_settings, mods_hold}
+use Rattle.bank_edits.proofs.modulator_forms.add_mod.Goals as goal
+
+pub add_mod-requires-clause-there : goal.add_mod-requires-clause-there
+add_mod-requires-clause-there c =
+    let g = mod_goes c.args.bank.now c.args.owner c.args.place c.args.index c.args.modulator (accepted c.args.bank.now (AddMod c.args.owner c.args.place c.args.index c.args.modulator) c.requires.accepted).tests in
+    some_settings c.args.bank.now c.args.owner c.args.place g.settings g.holds.there
+
+pub add_mod-requires-clause-place : goal.add_mod-requires-clause-place
+add_mod-requires-clause-place c =
+    let g = mod_goes c.args.bank.now c.args.owner c.args.place c.args.index c.args.modulator (accepted c.args.bank.now (AddMod c.args.owner c.args.place c.args.index c.args.modulator) c.requires.accepted).tests in
+    mods_hold c.args.bank.now c.args.owner c.args.place g.settings g.holds.there (λ mods. c.args.index ≤ length mods) g.place
+
+pub add_mod-requires-clause-sound : goal.add_mod-requires-clause-sound
+add_mod-requires-clause-sound c =
+    sound_add_mod c.args.bank.now c.args.owner c.args.place c.args.index c.args.modulator c.requires.sound c.modulator_fits.ensures c.requires.accepted
