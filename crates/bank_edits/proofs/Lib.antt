@@ -5,3 +5,5 @@ pub mod InstrumentLaws
 pub mod PresetLaws
 pub mod SampleLaws
 pub mod TextLaws
+pub mod PlaceLaws
+pub mod SettingLaws

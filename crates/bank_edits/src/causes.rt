@@ -7,9 +7,9 @@ ghost use Rattle.bank_edits.specs.Answers.{Passes, Judges};
 ghost use Rattle.bank_edits.specs.Causes as causes;
 
 use crate::cause::Cause;
-use bank_core::Bank;
-use bank_parts::{InfoId, Kind, Limit, Sample, WithZones};
-use generators::Level;
+use bank_core::{Bank, Owner, Place};
+use bank_parts::{InfoId, Kind, Limit, Sample, WithZones, is_bad_range};
+use generators::{Level, allowed};
 use sf_base::Lent;
 use sf_base::limits::{COMMENT_LENGTH, TEXT_LENGTH};
 
@@ -46,7 +46,39 @@ pub(crate) fn used_instrument(bank: &Bank<'_>, instrument: u32) -> Result<(), Ca
     judge(bank.is_instrument_in_use(instrument), Cause::InUse)
 }
 
+pub(crate) fn no_such_owner(bank: &Bank<'_>, owner: Owner) -> Result<(), Cause>
+    ensures { Passes (causes.no_such_owner bank.now owner) result }
+{
+    match owner {
+        Owner::Preset(preset) => no_such_preset(bank, preset),
+        Owner::Instrument(instrument) => no_such_instrument(bank, instrument),
+    }
+}
+
 // ---- zones of a preset or an instrument
+
+/// How many zones an owner has, the global one not counted; none where there is no such owner.
+pub(crate) fn zone_total(bank: &Bank<'_>, owner: Owner) -> usize
+    ensures { result ≡ causes.zone_total bank.now owner }
+{
+    bank.zone_count(owner).unwrap_or(0)
+}
+
+pub(crate) fn no_such_zone(bank: &Bank<'_>, owner: Owner, zone: u32) -> Result<(), Cause>
+    ensures { Passes (causes.no_such_zone bank.now owner zone) result }
+{
+    judge(zone_total(bank, owner) <= zone as usize, Cause::NoSuchZone)
+}
+
+/// The global zone is always there.
+pub(crate) fn no_such_zone_at(bank: &Bank<'_>, owner: Owner, place: Place) -> Result<(), Cause>
+    ensures { Passes (causes.no_such_zone_at bank.now owner place) result }
+{
+    match place {
+        Place::Global => Ok(()),
+        Place::Zone(zone) => no_such_zone(bank, owner, zone),
+    }
+}
 
 /// A zone's target is past so many members; the cause says of which kind they are.
 pub(crate) fn no_such_target<H>(
@@ -69,6 +101,34 @@ pub(crate) fn bad_range<H>(owner: &WithZones<H>) -> Result<(), Cause>
     ensures { Passes (causes.bad_range owner.now) result }
 {
     judge(owner.has_bad_range(), Cause::BadRange)
+}
+
+// ---- generators of a place
+
+pub(crate) fn foreign_operator(at: Level, operator: u16) -> Result<(), Cause>
+    ensures { Passes (causes.foreign_operator at operator) result }
+{
+    judge(!allowed(operator, at), Cause::BadGenerator)
+}
+
+pub(crate) fn bad_amount(operator: u16, amount: u16) -> Result<(), Cause>
+    ensures { Passes (causes.bad_amount operator amount) result }
+{
+    judge(is_bad_range((operator, amount)), Cause::BadRange)
+}
+
+pub(crate) fn not_set(
+    bank: &Bank<'_>,
+    owner: Owner,
+    place: Place,
+    operator: u16,
+) -> Result<(), Cause>
+    ensures { Passes (causes.not_set bank.now owner place operator) result }
+{
+    judge(
+        bank.gen_of(owner, place, operator).is_none(),
+        Cause::NotSet,
+    )
 }
 
 // ---- samples

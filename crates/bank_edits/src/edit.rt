@@ -19,6 +19,7 @@ use crate::samples::{
     add_sample, move_sample, refuse_add_sample, refuse_move_sample, refuse_remove_sample,
     refuse_rename_sample, remove_sample, rename_sample,
 };
+use crate::settings::{clear_gen, refuse_clear_gen, refuse_set_gen, set_gen};
 use crate::texts::{refuse_set_info, set_info};
 use bank_core::{Bank, Owner, Place};
 use bank_parts::{InfoId, Instrument, Kind, Preset, Sample, Zone, modulator_fits};
@@ -350,11 +351,20 @@ pub(crate) fn refuse_step(bank: &Bank<'_>, step: &Step<'_>) -> Result<(), Cause>
         | Step::SplitZone { .. }
         | Step::JoinZone { .. }
         | Step::SetTarget { .. }
-        | Step::SetGen { .. }
-        | Step::ClearGen { .. }
         | Step::AddMod { .. }
         | Step::RemoveMod { .. }
         | Step::SetMod { .. } => Err(Cause::BadPlace),
+        Step::SetGen {
+            owner,
+            place,
+            operator,
+            amount,
+        } => refuse_set_gen(bank, *owner, *place, *operator, *amount),
+        Step::ClearGen {
+            owner,
+            place,
+            operator,
+        } => refuse_clear_gen(bank, *owner, *place, *operator),
         Step::SetInfo { id, text } => refuse_set_info(bank, *id, text),
     }
 }
@@ -391,11 +401,20 @@ pub(crate) fn change_step<'a>(
         | Step::SplitZone { .. }
         | Step::JoinZone { .. }
         | Step::SetTarget { .. }
-        | Step::SetGen { .. }
-        | Step::ClearGen { .. }
         | Step::AddMod { .. }
         | Step::RemoveMod { .. }
         | Step::SetMod { .. } => Err(step),
+        Step::SetGen {
+            owner,
+            place,
+            operator,
+            amount,
+        } => set_gen(bank, owner, place, operator, amount),
+        Step::ClearGen {
+            owner,
+            place,
+            operator,
+        } => Ok(clear_gen(bank, owner, place, operator)),
         Step::SetInfo { id, text } => Ok(set_info(bank, id, text)),
     }
 }
