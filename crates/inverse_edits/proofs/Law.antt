@@ -7,6 +7,7 @@ use Rattle.inverse_edits.specs.Undone.{UndoRestores}
 use Rattle.inverse_edits.proofs.PresetLaws.{undone_add_preset, undone_remove_preset, undone_move_preset}
 use Rattle.inverse_edits.proofs.InstrumentLaws.{undone_add_instrument, undone_remove_instrument, undone_rename_instrument, undone_move_instrument}
 use Rattle.inverse_edits.proofs.SampleLaws.{undone_rename, undone_add, undone_remove, undone_move_sample}
+use Rattle.inverse_edits.proofs.SettingLaws.{undone_set_gen, undone_clear_gen}
 use Rattle.inverse_edits.proofs.TextLaws.{undone_set_info}
 
 -- a form that is refused as yet
@@ -33,8 +34,8 @@ undone b (One (MoveZone o from to)) = λ s t. absurd (none_yet t.accepted)
 undone b (One (SplitZone o zone axis at)) = λ s t. absurd (none_yet t.accepted)
 undone b (One (JoinZone o zone axis keep)) = λ s t. absurd (none_yet t.accepted)
 undone b (One (SetTarget o zone target)) = λ s t. absurd (none_yet t.accepted)
-undone b (One (SetGen o at op amount)) = λ s t. absurd (none_yet t.accepted)
-undone b (One (ClearGen o at op)) = λ s t. absurd (none_yet t.accepted)
+undone b (One (SetGen o at op amount)) = undone_set_gen b o at op amount
+undone b (One (ClearGen o at op)) = undone_clear_gen b o at op
 undone b (One (AddMod o at j m)) = λ s t. absurd (none_yet t.accepted)
 undone b (One (RemoveMod o at j)) = λ s t. absurd (none_yet t.accepted)
 undone b (One (SetMod o at j m)) = λ s t. absurd (none_yet t.accepted)
