@@ -7,7 +7,7 @@ ghost use Rattle.modulators.specs.Modulators.{is_link};
 ghost use Rattle.bank_parts.specs.Owners.{mods_at};
 ghost use Rattle.bank_parts.specs.Sound.{IsSound};
 ghost use Rattle.bank_parts.specs.Limits.{broken_limit};
-ghost use Rattle.bank_core.specs.Members.{zone_place, level_of, settings_of, mods_of, amount_of, mod_at};
+ghost use Rattle.bank_core.specs.Members.{zone_place, settings_of, mods_of, amount_of, mod_at};
 ghost use Rattle.bank_core.specs.Settings.{gen_set, gen_cleared, mod_added, mod_removed, mod_set, records_at, records_there, zones_at};
 
 use crate::bank::Bank;
@@ -15,7 +15,6 @@ use crate::members::{Owner, Place};
 use crate::totals::recounted;
 use crate::zones::place_of;
 use bank_parts::{Limit, Owners, Parts, Records, ZonePlace};
-use generators::Level;
 use modulators::Modulator;
 use sf_base::OutOfMemory;
 
@@ -39,7 +38,7 @@ impl<'a> Bank<'a> {
         let before = records_there(&self.parts, owner, place);
         let was = set_gen(&mut self.parts, owner, place, operator, amount)?;
         let after = records_there(&self.parts, owner, place);
-        self.totals = recounted(self.totals, level_of(owner), before, after);
+        self.totals = recounted(self.totals, owner.level(), before, after);
         Ok(was)
     }
 
@@ -53,7 +52,7 @@ impl<'a> Bank<'a> {
         let before = records_there(&self.parts, owner, place);
         let was = clear_gen(&mut self.parts, owner, place, operator);
         let after = records_there(&self.parts, owner, place);
-        self.totals = recounted(self.totals, level_of(owner), before, after);
+        self.totals = recounted(self.totals, owner.level(), before, after);
         was
     }
 
@@ -75,7 +74,7 @@ impl<'a> Bank<'a> {
         let before = records_there(&self.parts, owner, place);
         add_mod(&mut self.parts, owner, place, index, modulator)?;
         let after = records_there(&self.parts, owner, place);
-        self.totals = recounted(self.totals, level_of(owner), before, after);
+        self.totals = recounted(self.totals, owner.level(), before, after);
         Ok(())
     }
 
@@ -91,7 +90,7 @@ impl<'a> Bank<'a> {
         let before = records_there(&self.parts, owner, place);
         let modulator = remove_mod(&mut self.parts, owner, place, index);
         let after = records_there(&self.parts, owner, place);
-        self.totals = recounted(self.totals, level_of(owner), before, after);
+        self.totals = recounted(self.totals, owner.level(), before, after);
         modulator
     }
 
@@ -113,7 +112,7 @@ impl<'a> Bank<'a> {
         let before = records_there(&self.parts, owner, place);
         let replaced = set_mod(&mut self.parts, owner, place, index, modulator);
         let after = records_there(&self.parts, owner, place);
-        self.totals = recounted(self.totals, level_of(owner), before, after);
+        self.totals = recounted(self.totals, owner.level(), before, after);
         replaced
     }
 
@@ -151,7 +150,7 @@ impl<'a> Bank<'a> {
             gens: before.gens.saturating_add(1),
             mods: before.mods,
         };
-        recounted(self.totals, level_of(owner), before, after).broken()
+        recounted(self.totals, owner.level(), before, after).broken()
     }
 
     /// The first limit that is broken with a modulator more at a place that is there.
@@ -165,16 +164,7 @@ impl<'a> Bank<'a> {
             gens: before.gens,
             mods: before.mods.saturating_add(1),
         };
-        recounted(self.totals, level_of(owner), before, after).broken()
-    }
-}
-
-pub(crate) fn level_of(owner: Owner) -> Level
-    ensures { result ≡ level_of owner }
-{
-    match owner {
-        Owner::Preset(_) => Level::Preset,
-        Owner::Instrument(_) => Level::Instrument,
+        recounted(self.totals, owner.level(), before, after).broken()
     }
 }
 

@@ -8,3 +8,4 @@ pub mod TextLaws
 pub mod ZoneLaws
 pub mod PlaceLaws
 pub mod ModulatorLaws
+pub mod SettingLaws

@@ -30,7 +30,7 @@ use Rattle.bank_edits.specs.declared.edit.Step.{Step}
 use Rattle.bank_edits.specs.declared.edit.Step.TheVariants.{AddPreset, RemovePreset, MovePreset, SetHead, AddInstrument, RemoveInstrument, RenameInstrument, MoveInstrument, RenameSample, AddSample, RemoveSample, MoveSample, AddZone, RemoveZone, MoveZone, SplitZone, JoinZone, SetTarget, SetGen, ClearGen, AddMod, RemoveMod, SetMod, SetInfo}
 use Rattle.bank_edits.specs.declared.cause.Cause.{Cause}
 use Rattle.bank_edits.specs.declared.cause.Cause.TheVariants.{NoSuchInstrument, NoSuchSample, BadPlace, Full}
-use Rattle.bank_edits.specs.Causes.{Test, test, first_cause, no_such_preset, no_such_instrument, no_such_sample, no_such_target, used_instrument, bad_generator, bad_range, no_such_link, used_sample, no_such_owner, zone_total, no_such_zone, no_such_target_of, bad_generators, bad_ranges, bad_place, no_such_place, bad_loop, bad_text, no_such_zone_at, mods_there, no_such_modulator, linked_place, linked_modulator}
+use Rattle.bank_edits.specs.Causes.{Test, test, first_cause, no_such_preset, no_such_instrument, no_such_sample, no_such_target, used_instrument, bad_generator, bad_range, no_such_link, used_sample, no_such_owner, zone_total, no_such_zone, no_such_target_of, bad_generators, bad_ranges, bad_place, no_such_place, bad_loop, bad_text, no_such_zone_at, mods_there, no_such_modulator, linked_place, linked_modulator, foreign_operator, bad_amount, not_set}
 
 -- numbers of 32 bits
 abbrev pub FitsNumberOf : Owner → Type 0
@@ -134,8 +134,10 @@ causes b (MoveZone o from to) = no_such_owner b o ∷ no_such_zone b o from ∷ 
 causes b (SplitZone o zone axis at) = not_yet
 causes b (JoinZone o zone axis keep) = not_yet
 causes b (SetTarget o zone target) = no_such_owner b o ∷ no_such_target_of b o target ∷ no_such_zone b o zone ∷ []
-causes b (SetGen o at operator amount) = not_yet
-causes b (ClearGen o at operator) = not_yet
+causes b (SetGen o at operator amount) =
+    no_such_owner b o ∷ no_such_zone_at b o at ∷ foreign_operator (level_of o) operator ∷ bad_amount operator amount ∷ []
+causes b (ClearGen o at operator) =
+    no_such_owner b o ∷ no_such_zone_at b o at ∷ foreign_operator (level_of o) operator ∷ not_set b o at operator ∷ []
 causes b (AddMod o at index modulator) =
     no_such_owner b o
     ∷ no_such_zone_at b o at

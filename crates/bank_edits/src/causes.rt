@@ -8,8 +8,10 @@ ghost use Rattle.bank_edits.specs.Causes as causes;
 
 use crate::cause::Cause;
 use bank_core::{Bank, Owner, Place};
-use bank_parts::{InfoId, Kind, Limit, Sample, WithZones, Zone, sets_bad_range, sets_foreign};
-use generators::Level;
+use bank_parts::{
+    InfoId, Kind, Limit, Sample, WithZones, Zone, is_bad_range, sets_bad_range, sets_foreign,
+};
+use generators::{Level, allowed};
 use modulators::Modulator;
 use sf_base::Lent;
 use sf_base::limits::{COMMENT_LENGTH, TEXT_LENGTH};
@@ -171,6 +173,34 @@ pub(crate) fn linked_modulator(
     judge(
         bank.has_link(owner, place) || modulator.is_link(),
         Cause::LinkedModulator,
+    )
+}
+
+// ---- generators of a place
+
+pub(crate) fn foreign_operator(at: Level, operator: u16) -> Result<(), Cause>
+    ensures { Passes (causes.foreign_operator at operator) result }
+{
+    judge(!allowed(operator, at), Cause::BadGenerator)
+}
+
+pub(crate) fn bad_amount(operator: u16, amount: u16) -> Result<(), Cause>
+    ensures { Passes (causes.bad_amount operator amount) result }
+{
+    judge(is_bad_range((operator, amount)), Cause::BadRange)
+}
+
+pub(crate) fn not_set(
+    bank: &Bank<'_>,
+    owner: Owner,
+    place: Place,
+    operator: u16,
+) -> Result<(), Cause>
+    ensures { Passes (causes.not_set bank.now owner place operator) result }
+{
+    judge(
+        bank.gen_of(owner, place, operator).is_none(),
+        Cause::NotSet,
     )
 }
 

@@ -22,6 +22,7 @@ use crate::samples::{
     add_sample, move_sample, refuse_add_sample, refuse_move_sample, refuse_remove_sample,
     refuse_rename_sample, remove_sample, rename_sample,
 };
+use crate::settings::{clear_gen, refuse_clear_gen, refuse_set_gen, set_gen};
 use crate::texts::{refuse_set_info, set_info};
 use crate::zones::{
     add_zone, move_zone, refuse_add_zone, refuse_move_zone, refuse_remove_zone, refuse_set_target,
@@ -365,7 +366,17 @@ pub(crate) fn refuse_step(bank: &Bank<'_>, step: &Step<'_>) -> Result<(), Cause>
             zone,
             target,
         } => refuse_set_target(bank, *owner, *zone, *target),
-        Step::SetGen { .. } | Step::ClearGen { .. } => Err(Cause::BadPlace),
+        Step::SetGen {
+            owner,
+            place,
+            operator,
+            amount,
+        } => refuse_set_gen(bank, *owner, *place, *operator, *amount),
+        Step::ClearGen {
+            owner,
+            place,
+            operator,
+        } => refuse_clear_gen(bank, *owner, *place, *operator),
         Step::AddMod {
             owner,
             place,
@@ -427,7 +438,17 @@ pub(crate) fn change_step<'a>(
             zone,
             target,
         } => Ok(set_target(bank, owner, zone, target)),
-        Step::SetGen { .. } | Step::ClearGen { .. } => Err(step),
+        Step::SetGen {
+            owner,
+            place,
+            operator,
+            amount,
+        } => set_gen(bank, owner, place, operator, amount),
+        Step::ClearGen {
+            owner,
+            place,
+            operator,
+        } => Ok(clear_gen(bank, owner, place, operator)),
         Step::AddMod {
             owner,
             place,

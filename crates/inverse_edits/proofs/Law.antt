@@ -8,6 +8,7 @@ use Rattle.inverse_edits.proofs.PresetLaws.{undone_add_preset, undone_remove_pre
 use Rattle.inverse_edits.proofs.InstrumentLaws.{undone_add_instrument, undone_remove_instrument, undone_rename_instrument, undone_move_instrument}
 use Rattle.inverse_edits.proofs.ModulatorLaws.{undone_add_mod, undone_remove_mod, undone_set_mod}
 use Rattle.inverse_edits.proofs.SampleLaws.{undone_rename, undone_add, undone_remove, undone_move_sample}
+use Rattle.inverse_edits.proofs.SettingLaws.{undone_set_gen, undone_clear_gen}
 use Rattle.inverse_edits.proofs.TextLaws.{undone_set_info}
 use Rattle.inverse_edits.proofs.ZoneLaws.{undone_add_zone, undone_remove_zone, undone_move_zone, undone_set_target}
 
@@ -35,8 +36,8 @@ undone b (One (MoveZone o from to)) = undone_move_zone b o from to
 undone b (One (SplitZone o zone axis at)) = λ s t. absurd (none_yet t.accepted)
 undone b (One (JoinZone o zone axis keep)) = λ s t. absurd (none_yet t.accepted)
 undone b (One (SetTarget o zone target)) = undone_set_target b o zone target
-undone b (One (SetGen o at op amount)) = λ s t. absurd (none_yet t.accepted)
-undone b (One (ClearGen o at op)) = λ s t. absurd (none_yet t.accepted)
+undone b (One (SetGen o at op amount)) = undone_set_gen b o at op amount
+undone b (One (ClearGen o at op)) = undone_clear_gen b o at op
 undone b (One (AddMod o at j m)) = undone_add_mod b o at j m
 undone b (One (RemoveMod o at j)) = undone_remove_mod b o at j
 undone b (One (SetMod o at j m)) = undone_set_mod b o at j m

@@ -5,5 +5,6 @@ pub mod SampleLaws
 pub mod TextLaws
 pub mod ZoneLaws
 pub mod ModulatorLaws
+pub mod SettingLaws
 pub mod Law
 pub mod RunLaw

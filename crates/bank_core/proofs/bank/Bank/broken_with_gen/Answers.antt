@@ -21,7 +21,7 @@ recounted-requires-clause-within c = no_limit_in c.args.self.now c.self.inside.t
 
 pub recounted-requires-clause-counted : goal.recounted-requires-clause-counted
 recounted-requires-clause-counted c =
-    counted_there c.args.self.now c.args.owner c.args.place c.requires c.self.inside.totals (rw c.self.view_is at c.self.invariant.1) c.level_of.result c.level_of.ensures
+    counted_there c.args.self.now c.args.owner c.args.place c.requires c.self.inside.totals (rw c.self.view_is at c.self.invariant.1) c.level.result c.level.ensures
     c.records_there-before.result (rw c.self.view_is at c.records_there-before.ensures)
 
 pub returns : goal.returns
@@ -35,5 +35,5 @@ returns c = λ amount.
     let unset = not_some (map.get s.gens c.args.operator) (subst (λ found. is_some found ≡ false) (c.gen_of.ensures ∙ amount_found b c.args.owner c.args.place c.args.operator s e) (sym c.is_some.ensures ∙ c.if-is_some.false)) in
     let has = gen_records b c.args.owner c.args.place s e sound c.records_there-before.result had c.zones_at.result c.saturating_add.result c.zones_at.ensures c.args.operator amount unset c.saturating_add.ensures in
     c.broken.ensures
-    ∙ c.recounted.ensures.limit (totals_of new) (became b c.args.owner c.args.place c.requires c.self.inside.totals counts c.level_of.result c.level_of.ensures c.records_there-before.result had
+    ∙ c.recounted.ensures.limit (totals_of new) (became b c.args.owner c.args.place c.requires c.self.inside.totals counts c.level.result c.level.ensures c.records_there-before.result had
     (λ s. with_gens (map.insert s.gens c.args.operator amount) s) new (gen_set_is b c.args.owner c.args.place c.args.operator amount) _ has)

@@ -12,7 +12,7 @@ recounted-requires-clause-within c = no_limit_in c.args.self.now c.self.inside.t
 
 pub recounted-requires-clause-counted : goal.recounted-requires-clause-counted
 recounted-requires-clause-counted c =
-    counted_there c.args.self.now c.args.owner c.args.place c.requires c.self.inside.totals (rw c.self.view_is at c.self.invariant.1) c.level_of.result c.level_of.ensures
+    counted_there c.args.self.now c.args.owner c.args.place c.requires c.self.inside.totals (rw c.self.view_is at c.self.invariant.1) c.level.result c.level.ensures
     c.records_there-before.result (rw c.self.view_is at c.records_there-before.ensures)
 
 pub returns : goal.returns
@@ -25,5 +25,5 @@ returns c = λ index modulator.
     let had = rw c.self.view_is at c.records_there-before.ensures in
     let has = mod_records b c.args.owner c.args.place s e sound c.records_there-before.result had c.zones_at.result c.saturating_add.result c.zones_at.ensures index modulator c.saturating_add.ensures in
     c.broken.ensures
-    ∙ c.recounted.ensures.limit (totals_of new) (became b c.args.owner c.args.place c.requires c.self.inside.totals counts c.level_of.result c.level_of.ensures c.records_there-before.result had
+    ∙ c.recounted.ensures.limit (totals_of new) (became b c.args.owner c.args.place c.requires c.self.inside.totals counts c.level.result c.level.ensures c.records_there-before.result had
     (λ s. with_mods (insert s.mods index modulator) s) new (mod_added_is b c.args.owner c.args.place index modulator) _ has)

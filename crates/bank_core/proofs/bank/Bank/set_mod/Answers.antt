@@ -11,7 +11,7 @@ recounted-self-inside-requires-clause-within c = no_limit_in c.args.self.now c.s
 
 pub recounted-self-inside-requires-clause-counted : goal.recounted-self-inside-requires-clause-counted
 recounted-self-inside-requires-clause-counted c =
-    counted_there c.args.self.now c.args.owner c.args.place c.requires.there c.self.inside.totals (rw c.self.view_is at c.self.invariant.1) c.level_of.result c.level_of.ensures
+    counted_there c.args.self.now c.args.owner c.args.place c.requires.there c.self.inside.totals (rw c.self.view_is at c.self.invariant.1) c.level.result c.level.ensures
     c.records_there-before.result (rw c.self.view_is at c.records_there-before.ensures)
 
 pub invariant_of-self : goal.invariant_of-self
@@ -21,7 +21,7 @@ invariant_of-self c =
     let changed = rw c.self.view_is at c.set_mod-replaced.ensures.change in
     let sound = subst IsSound (sym changed) c.requires.sound in (
       sound,
-      kept_totals was c.args.owner c.args.place c.requires.there c.self.inside.totals (rw c.self.view_is at c.self.invariant.1) c.level_of.result c.level_of.ensures
+      kept_totals was c.args.owner c.args.place c.requires.there c.self.inside.totals (rw c.self.view_is at c.self.invariant.1) c.level.result c.level.ensures
           c.records_there-before.result (rw c.self.view_is at c.records_there-before.ensures) (λ s. with_mods (slice_set s.mods c.args.index c.args.modulator) s) new (changed ∙ mod_set_is was c.args.owner c.args.place c.args.index c.args.modulator)
           c.records_there-after.result c.records_there-after.ensures sound c.recounted-self-inside.result c.recounted-self-inside.ensures.value,
     )

@@ -1,0 +1,15 @@
+use Rattle.bank_edits.specs.declared.edit.Step.TheVariants.{SetGen}
+use Rattle.bank_edits.proofs.Accepted.{accepted}
+use Rattle.bank_edits.proofs.PlaceLaws.{there_found}
+use Rattle.bank_edits.proofs.SettingLaws.{gen_goes, sound_set_gen}
+use Rattle.bank_edits.proofs.settings.set_gen.Goals as goal
+
+pub set_gen-requires-clause-there : goal.set_gen-requires-clause-there
+set_gen-requires-clause-there c =
+    let b = c.args.bank.now in
+    let g = gen_goes b c.args.owner c.args.place c.args.operator c.args.amount (accepted b (SetGen c.args.owner c.args.place c.args.operator c.args.amount) c.requires.accepted).tests in
+    there_found b c.args.owner c.args.place g.allows.owner g.allows.zone
+
+pub set_gen-requires-clause-sound : goal.set_gen-requires-clause-sound
+set_gen-requires-clause-sound c =
+    sound_set_gen c.args.bank.now c.args.owner c.args.place c.args.operator c.args.amount c.requires.sound c.ranges.operator.fits c.ranges.amount.fits c.requires.accepted
