@@ -32,15 +32,11 @@ pub(crate) fn items(
 {
     let mut content = no_content(alloc);
     while !line.is_next(b"}") {
-        match an_item(line) {
-            Ok(item) => add_item(&mut content, item)?,
-            Err(fault) => return Err(Failure::Fault(fault)),
-        }
+        let item = an_item(line)?;
+        add_item(&mut content, item)?;
     }
-    match line.word() {
-        Ok(_) => Ok(content),
-        Err(fault) => Err(Failure::Fault(fault)),
-    }
+    line.word()?;
+    Ok(content)
 }
 
 // Neither generators nor modulators.

@@ -26,10 +26,8 @@ pub fn zones(
     if line.is_empty() {
         return Ok((no_content(alloc), NumberedList::new(alloc)));
     }
-    match opened(line) {
-        Ok(()) => zones_behind(alloc, line),
-        Err(fault) => Err(Failure::Fault(fault)),
-    }
+    opened(line)?;
+    zones_behind(alloc, line)
 }
 
 // What follows the first brace.
@@ -53,10 +51,8 @@ fn global_behind(
 ) -> Result<(GlobalZone, NumberedList<Zone>), Failure<LineFault>>
     ensures { ReadsOrWants (λ z. z) global_behind line.old line.new result }
 {
-    match line.word() {
-        Ok(_) => global_zones(alloc, line),
-        Err(fault) => Err(Failure::Fault(fault)),
-    }
+    line.word()?;
+    global_zones(alloc, line)
 }
 
 // The items of the global zone, and the zones.
@@ -108,20 +104,15 @@ fn zones_left(
 pub fn zone(alloc: Global, line: &mut Cursor<'_, '_>) -> Result<Zone, Failure<LineFault>>
     ensures { ReadsOrWants (λ z. z) zone line.old line.new result }
 {
-    match opened(line) {
-        Ok(()) => zone_behind(alloc, line),
-        Err(fault) => Err(Failure::Fault(fault)),
-    }
+    opened(line)?;
+    zone_behind(alloc, line)
 }
 
 // `TARGET ITEM* }`
 fn zone_behind(alloc: Global, line: &mut Cursor<'_, '_>) -> Result<Zone, Failure<LineFault>>
     ensures { ReadsOrWants (λ z. z) zone_behind line.old line.new result }
 {
-    let target = match line.number(u32::from(u16::MAX)) {
-        Ok(target) => target as u16,
-        Err(fault) => return Err(Failure::Fault(fault)),
-    };
+    let target = line.number(u32::from(u16::MAX))? as u16;
     let GlobalZone { gens, mods } = items(alloc, line)?;
     Ok(Zone { target, gens, mods })
 }

@@ -11,20 +11,22 @@ use Rattle.script_grammar.proofs.zone_lists.zone_behind.Goals as goal
 abbrev made : ℕ → GlobalZone → Part Zone
 made target content = pure (zone_of target content)
 
-pub returns-in-Err : goal.returns-in-Err
+pub returns-in_err-target : goal.returns-in_err-target
 unfolding zone_behind
-returns-in-Err c = first_fails (number 65535) (λ target. items >>= made target) c.args.line.now c.in-Err.fault (rw c.from.ensures at c.in-Err.ensures.reads)
+returns-in_err-target c =
+    let p = err_from_is_err_and c.from_residual.result c.from_residual.ensures.1 in
+    rw (p.1, p.2) (first_fails (number 65535) (λ target. items >>= made target) c.args.line.now c.in_err-target.field-0.0 (rw c.from.ensures at c.in_err-target.ensures.reads))
 
 pub returns-in_err-gens : goal.returns-in_err-gens
 unfolding zone_behind
 returns-in_err-gens c =
-    let p = err_from_is_err_and c.from_residual.result c.from_residual.ensures.1 in
-    rw (p.1, p.2) (then_reads (number 65535) (λ target. items >>= made target) (λ z. z) c.args.line.now c.number.new.self c.items.new.line c.in-Ok.target (Err c.in_err-gens.field-0.0) (rw c.from.ensures at c.in-Ok.ensures.reads)
-    (first_wants items (made c.in-Ok.target) (λ z. z) (λ z. z) c.number.new.self c.items.new.line c.items.new.line c.in_err-gens.field-0.0 c.in_err-gens.ensures))
+    let p = err_from_is_err_and c.from_residual-in_err-gens.result c.from_residual-in_err-gens.ensures.1 in
+    rw (p.1, p.2) (then_reads (number 65535) (λ target. items >>= made target) (λ z. z) c.args.line.now c.number.new.self c.items.new.line c.in_ok-target.field-0 (Err c.in_err-gens.field-0.0) (rw c.from.ensures at c.in_ok-target.ensures.reads)
+    (first_wants items (made c.in_ok-target.field-0) (λ z. z) (λ z. z) c.number.new.self c.items.new.line c.items.new.line c.in_err-gens.field-0.0 c.in_err-gens.ensures))
 
 pub returns : goal.returns
 unfolding zone_behind
 returns c =
     let content : GlobalZone = c.in_ok-gens.field-0 in
-    then_reads (number 65535) (λ target. items >>= made target) (λ z. z) c.args.line.now c.number.new.self c.items.new.line c.in-Ok.target (Ok (zone_of c.in-Ok.target content)) (rw c.from.ensures at c.in-Ok.ensures.reads)
-    (then_reads items (made c.in-Ok.target) (λ z. z) c.number.new.self c.items.new.line c.items.new.line content (Ok (zone_of c.in-Ok.target content)) c.in_ok-gens.ensures (refl, refl))
+    then_reads (number 65535) (λ target. items >>= made target) (λ z. z) c.args.line.now c.number.new.self c.items.new.line c.in_ok-target.field-0 (Ok (zone_of c.in_ok-target.field-0 content)) (rw c.from.ensures at c.in_ok-target.ensures.reads)
+    (then_reads items (made c.in_ok-target.field-0) (λ z. z) c.number.new.self c.items.new.line c.items.new.line content (Ok (zone_of c.in_ok-target.field-0 content)) c.in_ok-gens.ensures (refl, refl))
