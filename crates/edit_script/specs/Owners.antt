@@ -8,7 +8,7 @@ use Rattle.bank_core.specs.declared.members.Place.TheVariants as there
 use Rattle.line_tokens.specs.Parts.{Part, ◌>>=◌, pure, is_next, word, number}
 use Rattle.edit_script.specs.declared.owners.OwnerKind.{OwnerKind}
 use Rattle.edit_script.specs.declared.owners.OwnerKind.TheVariants as kind
-use Rattle.script_grammar.specs.Operands.{Operand, Fixed, Number}
+use Rattle.script_grammar.specs.Operands.{Operand, Fixed}
 use Rattle.script_grammar.specs.Names.{next_named}
 use Rattle.edit_script.specs.Members.{place}
 
