@@ -4,6 +4,9 @@ pub mod Moves
 pub mod OwnerReferences
 pub mod References
 pub mod TotalsLaws
+pub mod RecordLaws
+pub mod ZoneLaws
+pub mod ZoneChangeLaws
 pub mod SampleLaws
 pub mod InstrumentLaws
 pub mod PresetLaws

@@ -162,7 +162,7 @@ with_owner_same at t u r e = sym (less_with_owner at t r) ∙ (ap (λ (w : Total
 
 -- where no limit is broken, the count is the sum
 
-whole : (r : Records) → r.zones ≤ ZONES → r.gens ≤ GENERATORS → r.mods ≤ MODULATORS → all_counted r ≡ r
+pub whole : (r : Records) → r.zones ≤ ZONES → r.gens ≤ GENERATORS → r.mods ≤ MODULATORS → all_counted r ≡ r
 whole r zones gens mods = λ i. record {
   zones = counted_same r.zones (omega arith) i;
   gens = counted_same r.gens (omega arith) i;

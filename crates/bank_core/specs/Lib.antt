@@ -6,6 +6,7 @@ pub mod Samples
 pub mod Instruments
 pub mod Presets
 pub mod Zones
+pub mod Totals
 pub mod Settings
 pub mod Texts
 pub mod Faults

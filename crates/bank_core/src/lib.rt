@@ -9,6 +9,8 @@ mod members;
 mod presets;
 mod samples;
 mod texts;
+mod totals;
+mod zone_changes;
 mod zones;
 
 pub use bank::Bank;

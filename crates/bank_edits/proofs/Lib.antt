@@ -5,3 +5,4 @@ pub mod InstrumentLaws
 pub mod PresetLaws
 pub mod SampleLaws
 pub mod TextLaws
+pub mod ZoneLaws

@@ -7,8 +7,8 @@ ghost use Rattle.bank_edits.specs.Answers.{Passes, Judges};
 ghost use Rattle.bank_edits.specs.Causes as causes;
 
 use crate::cause::Cause;
-use bank_core::Bank;
-use bank_parts::{InfoId, Kind, Limit, Sample, WithZones};
+use bank_core::{Bank, Owner};
+use bank_parts::{InfoId, Kind, Limit, Sample, WithZones, Zone, sets_bad_range, sets_foreign};
 use generators::Level;
 use sf_base::Lent;
 use sf_base::limits::{COMMENT_LENGTH, TEXT_LENGTH};
@@ -46,6 +46,15 @@ pub(crate) fn used_instrument(bank: &Bank<'_>, instrument: u32) -> Result<(), Ca
     judge(bank.is_instrument_in_use(instrument), Cause::InUse)
 }
 
+pub(crate) fn no_such_owner(bank: &Bank<'_>, owner: Owner) -> Result<(), Cause>
+    ensures { Passes (causes.no_such_owner bank.now owner) result }
+{
+    match owner {
+        Owner::Preset(number) => no_such_preset(bank, number),
+        Owner::Instrument(number) => no_such_instrument(bank, number),
+    }
+}
+
 // ---- zones of a preset or an instrument
 
 /// A zone's target is past so many members; the cause says of which kind they are.
@@ -69,6 +78,46 @@ pub(crate) fn bad_range<H>(owner: &WithZones<H>) -> Result<(), Cause>
     ensures { Passes (causes.bad_range owner.now) result }
 {
     judge(owner.has_bad_range(), Cause::BadRange)
+}
+
+// ---- one zone
+
+/// How many zones an owner has, the global one not counted; none where there is no such owner.
+pub(crate) fn zone_total(bank: &Bank<'_>, owner: Owner) -> usize
+    ensures { result ≡ causes.zone_total bank.now owner }
+{
+    bank.zone_count(owner).unwrap_or(0)
+}
+
+pub(crate) fn no_such_zone(bank: &Bank<'_>, owner: Owner, zone: u32) -> Result<(), Cause>
+    ensures { Passes (causes.no_such_zone bank.now owner zone) result }
+{
+    judge(zone_total(bank, owner) <= zone as usize, Cause::NoSuchZone)
+}
+
+/// The target is past the members that zones of the owner may target.
+pub(crate) fn no_such_target_of(bank: &Bank<'_>, owner: Owner, target: u16) -> Result<(), Cause>
+    ensures { Passes (causes.no_such_target_of bank.now owner target) result }
+{
+    match owner {
+        Owner::Preset(_) => judge(
+            bank.instruments().len() <= target as usize,
+            Cause::NoSuchInstrument,
+        ),
+        Owner::Instrument(_) => judge(bank.samples().len() <= target as usize, Cause::NoSuchSample),
+    }
+}
+
+pub(crate) fn bad_generators(at: Level, zone: &Zone) -> Result<(), Cause>
+    ensures { Passes (causes.bad_generators at zone.now) result }
+{
+    judge(sets_foreign(at, &zone.gens), Cause::BadGenerator)
+}
+
+pub(crate) fn bad_ranges(zone: &Zone) -> Result<(), Cause>
+    ensures { Passes (causes.bad_ranges zone.now) result }
+{
+    judge(sets_bad_range(&zone.gens), Cause::BadRange)
 }
 
 // ---- samples

@@ -20,6 +20,10 @@ use crate::samples::{
     refuse_rename_sample, remove_sample, rename_sample,
 };
 use crate::texts::{refuse_set_info, set_info};
+use crate::zones::{
+    add_zone, move_zone, refuse_add_zone, refuse_move_zone, refuse_remove_zone, refuse_set_target,
+    remove_zone, set_target,
+};
 use bank_core::{Bank, Owner, Place};
 use bank_parts::{InfoId, Instrument, Kind, Preset, Sample, Zone, modulator_fits};
 use modulators::Modulator;
@@ -344,17 +348,21 @@ pub(crate) fn refuse_step(bank: &Bank<'_>, step: &Step<'_>) -> Result<(), Cause>
         Step::RemoveSample { sample } => refuse_remove_sample(bank, *sample),
         Step::MoveSample { from, to } => refuse_move_sample(bank, *from, *to),
         Step::SetHead { .. }
-        | Step::AddZone { .. }
-        | Step::RemoveZone { .. }
-        | Step::MoveZone { .. }
         | Step::SplitZone { .. }
         | Step::JoinZone { .. }
-        | Step::SetTarget { .. }
         | Step::SetGen { .. }
         | Step::ClearGen { .. }
         | Step::AddMod { .. }
         | Step::RemoveMod { .. }
         | Step::SetMod { .. } => Err(Cause::BadPlace),
+        Step::AddZone { owner, at, zone } => refuse_add_zone(bank, *owner, *at, zone),
+        Step::RemoveZone { owner, zone } => refuse_remove_zone(bank, *owner, *zone),
+        Step::MoveZone { owner, from, to } => refuse_move_zone(bank, *owner, *from, *to),
+        Step::SetTarget {
+            owner,
+            zone,
+            target,
+        } => refuse_set_target(bank, *owner, *zone, *target),
         Step::SetInfo { id, text } => refuse_set_info(bank, *id, text),
     }
 }
@@ -385,17 +393,21 @@ pub(crate) fn change_step<'a>(
         Step::RemoveSample { sample } => Ok(remove_sample(bank, sample)),
         Step::MoveSample { from, to } => Ok(move_sample(bank, from, to)),
         Step::SetHead { .. }
-        | Step::AddZone { .. }
-        | Step::RemoveZone { .. }
-        | Step::MoveZone { .. }
         | Step::SplitZone { .. }
         | Step::JoinZone { .. }
-        | Step::SetTarget { .. }
         | Step::SetGen { .. }
         | Step::ClearGen { .. }
         | Step::AddMod { .. }
         | Step::RemoveMod { .. }
         | Step::SetMod { .. } => Err(step),
+        Step::AddZone { owner, at, zone } => add_zone(bank, owner, at, zone),
+        Step::RemoveZone { owner, zone } => remove_zone(alloc, bank, owner, zone),
+        Step::MoveZone { owner, from, to } => Ok(move_zone(bank, owner, from, to)),
+        Step::SetTarget {
+            owner,
+            zone,
+            target,
+        } => Ok(set_target(bank, owner, zone, target)),
         Step::SetInfo { id, text } => Ok(set_info(bank, id, text)),
     }
 }

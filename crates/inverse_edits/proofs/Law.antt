@@ -8,6 +8,7 @@ use Rattle.inverse_edits.proofs.PresetLaws.{undone_add_preset, undone_remove_pre
 use Rattle.inverse_edits.proofs.InstrumentLaws.{undone_add_instrument, undone_remove_instrument, undone_rename_instrument, undone_move_instrument}
 use Rattle.inverse_edits.proofs.SampleLaws.{undone_rename, undone_add, undone_remove, undone_move_sample}
 use Rattle.inverse_edits.proofs.TextLaws.{undone_set_info}
+use Rattle.inverse_edits.proofs.ZoneLaws.{undone_add_zone, undone_remove_zone, undone_move_zone, undone_set_target}
 
 -- a form that is refused as yet
 none_yet : {c : Cause} → Some c ≡ None → ⊥
@@ -27,12 +28,12 @@ undone b (One (RemoveSample i)) = undone_remove b i
 undone b (One (MoveSample i j)) = undone_move_sample b i j
 undone b (One (SetInfo id text)) = undone_set_info b id text
 undone b (One (SetHead p name number bank)) = λ s t. absurd (none_yet t.accepted)
-undone b (One (AddZone o at zone)) = λ s t. absurd (none_yet t.accepted)
-undone b (One (RemoveZone o zone)) = λ s t. absurd (none_yet t.accepted)
-undone b (One (MoveZone o from to)) = λ s t. absurd (none_yet t.accepted)
+undone b (One (AddZone o at zone)) = undone_add_zone b o at zone
+undone b (One (RemoveZone o zone)) = undone_remove_zone b o zone
+undone b (One (MoveZone o from to)) = undone_move_zone b o from to
 undone b (One (SplitZone o zone axis at)) = λ s t. absurd (none_yet t.accepted)
 undone b (One (JoinZone o zone axis keep)) = λ s t. absurd (none_yet t.accepted)
-undone b (One (SetTarget o zone target)) = λ s t. absurd (none_yet t.accepted)
+undone b (One (SetTarget o zone target)) = undone_set_target b o zone target
 undone b (One (SetGen o at op amount)) = λ s t. absurd (none_yet t.accepted)
 undone b (One (ClearGen o at op)) = λ s t. absurd (none_yet t.accepted)
 undone b (One (AddMod o at j m)) = λ s t. absurd (none_yet t.accepted)

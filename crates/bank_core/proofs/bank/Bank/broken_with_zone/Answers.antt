@@ -1,0 +1,19 @@
+use Rattle.std.proofs.Common.{◌∙◌, sym, ap}
+use Rattle.bank_parts.specs.Counts.{records_of_zone}
+use Rattle.bank_parts.specs.Limits.{broken}
+use Rattle.bank_parts.proofs.LimitLaws.{no_limit_of}
+use Rattle.bank_core.proofs.ZoneChangeLaws.{totals-zone_added}
+use Rattle.bank_core.proofs.bank.Bank.broken_with_zone.Goals as goal
+
+pub broken_with_records-requires : goal.broken_with_records-requires
+broken_with_records-requires c =
+    let now = c.args.self.now in
+    ap broken (rw c.self.view_is at c.self.invariant.1) ∙ no_limit_of now (rw c.self.view_is at c.self.invariant.0).valid.limits
+
+pub returns : goal.returns
+returns c = λ at there.
+    let now = c.args.self.now in
+    let o = c.args.owner in
+    let zone = c.args.zone.now in
+    rw (c.level.ensures, rw c.self.view_is at c.self.invariant.1) at c.broken_with_records.ensures (records_of_zone zone) c.records.ensures
+    ∙ sym (ap broken (totals-zone_added now o at zone there))

@@ -1,0 +1,145 @@
+//! The raw changes of the zones of a bank's presets and instruments.
+ghost use Rattle.std.specs.Prelude.{◌≡◌, ◌<◌, ◌≤◌, ℕ, Some, IsSomeAnd, OnOk, OnErr, IfOk, IfErr};
+ghost use Rattle.bank_parts.specs.Sound.{IsSound};
+ghost use Rattle.bank_parts.specs.Limits.{broken_limit};
+ghost use Rattle.bank_core.specs.Members.{own_zone_count, zone_of, target_of};
+ghost use Rattle.bank_core.specs.Zones.{zone_added, zone_removed, zone_moved, target_set};
+
+use crate::bank::Bank;
+use crate::members::Owner;
+use crate::totals::{broken_with_records, with_records, without_records};
+use bank_parts::{Limit, Parts, Zone};
+use sf_base::OutOfMemory;
+use std::alloc::Global;
+
+impl<'a> Bank<'a> {
+    /// Makes a zone number `at` of an owner; its zones from there on get the next number each. For want
+    /// of memory the bank stays as it is, and the zone comes back.
+    pub fn add_zone(&mut self, owner: Owner, at: u32, zone: Zone) -> Result<(), Zone>
+        requires place { IsSomeAnd (own_zone_count self.old owner) (λ count. at ≤ count) }
+        requires sound { IsSound (zone_added self.old owner at zone) }
+        ensures ok { OnOk result (self.new ≡ zone_added self.old owner at zone) }
+        ensures err { OnErr result (self.new ≡ self.old) }
+        ensures value_returned { IfErr result (λ back. back ≡ zone) }
+    {
+        let totals = with_records(self.totals, owner.level(), zone.records());
+        insert_zone(&mut self.parts, owner, at, zone)?;
+        self.totals = totals;
+        Ok(())
+    }
+
+    /// Takes a zone out of an owner; the zones behind it get the number before each. It takes no memory
+    /// and never answers want of it, but another representation may; then the bank stays as it is.
+    pub fn remove_zone(
+        &mut self,
+        alloc: Global,
+        owner: Owner,
+        zone: u32,
+    ) -> Result<Zone, OutOfMemory>
+        requires there { IsSomeAnd (own_zone_count self.old owner) (λ count. zone < count) }
+        requires sound { IsSound (zone_removed self.old owner zone) }
+        ensures value { IfOk result (λ removed. zone_of self.old owner zone ≡ Some removed) }
+        ensures change { OnOk result (self.new ≡ zone_removed self.old owner zone) }
+        ensures err { OnErr result (self.new ≡ self.old) }
+    {
+        let removed = take_zone(&mut self.parts, alloc, owner, zone)?;
+        self.totals = without_records(self.totals, owner.level(), removed.records());
+        Ok(removed)
+    }
+
+    /// Makes zone `from` of an owner zone `to`; its other zones keep their order. Takes no memory.
+    pub fn move_zone(&mut self, owner: Owner, from: u32, to: u32)
+        requires there { IsSomeAnd (own_zone_count self.old owner) (λ count. from < count) }
+        requires place { IsSomeAnd (own_zone_count self.old owner) (λ count. to < count) }
+        requires sound { IsSound (zone_moved self.old owner from to) }
+        ensures { self.new ≡ zone_moved self.old owner from to }
+    {
+        move_zone(&mut self.parts, owner, from, to);
+    }
+
+    /// Gives a zone another target, and gives back the one that it had. Takes no memory.
+    pub fn set_target(&mut self, owner: Owner, zone: u32, target: u16) -> u16
+        requires there { IsSomeAnd (own_zone_count self.old owner) (λ count. zone < count) }
+        requires sound { IsSound (target_set self.old owner zone target) }
+        ensures value { target_of self.old owner zone ≡ Some result }
+        ensures change { self.new ≡ target_set self.old owner zone target }
+    {
+        set_target(&mut self.parts, owner, zone, target)
+    }
+
+    /// The first limit that is broken with this zone more in an owner. Counts nothing but the zone.
+    pub fn broken_with_zone(&self, owner: Owner, zone: &Zone) -> Option<Limit>
+        ensures { (at : ℕ) → IsSomeAnd (own_zone_count self.now owner) (λ count. at ≤ count) → result ≡ broken_limit (zone_added self.now owner at zone.now) }
+    {
+        broken_with_records(self.totals, owner.level(), zone.records())
+    }
+}
+
+// ---- the changes, without what a bank keeps beside its parts
+
+fn insert_zone(parts: &mut Parts<'_>, owner: Owner, at: u32, zone: Zone) -> Result<(), Zone>
+    requires { IsSomeAnd (own_zone_count parts.old owner) (λ count. at ≤ count) }
+    ensures ok { OnOk result (parts.new ≡ zone_added parts.old owner at zone) }
+    ensures err { OnErr result (parts.new ≡ parts.old) }
+    ensures value_returned { IfErr result (λ back. back ≡ zone) }
+{
+    match owner {
+        Owner::Preset(number) => parts
+            .presets
+            .insert_zone(number as usize, at as usize, zone),
+        Owner::Instrument(number) => {
+            parts
+                .instruments
+                .insert_zone(number as usize, at as usize, zone)
+        }
+    }
+}
+
+fn take_zone(
+    parts: &mut Parts<'_>,
+    alloc: Global,
+    owner: Owner,
+    zone: u32,
+) -> Result<Zone, OutOfMemory>
+    requires { IsSomeAnd (own_zone_count parts.old owner) (λ count. zone < count) }
+    ensures value { IfOk result (λ removed. zone_of parts.old owner zone ≡ Some removed) }
+    ensures change { OnOk result (parts.new ≡ zone_removed parts.old owner zone) }
+    ensures err { OnErr result (parts.new ≡ parts.old) }
+{
+    match owner {
+        Owner::Preset(number) => {
+            parts
+                .presets
+                .remove_zone(alloc, number as usize, zone as usize)
+        }
+        Owner::Instrument(number) => {
+            parts
+                .instruments
+                .remove_zone(alloc, number as usize, zone as usize)
+        }
+    }
+}
+
+fn move_zone(parts: &mut Parts<'_>, owner: Owner, from: u32, to: u32)
+    requires there { IsSomeAnd (own_zone_count parts.old owner) (λ count. from < count) }
+    requires place { IsSomeAnd (own_zone_count parts.old owner) (λ count. to < count) }
+    ensures { parts.new ≡ zone_moved parts.old owner from to }
+{
+    let (from, to) = (from as usize, to as usize);
+    match owner {
+        Owner::Preset(number) => parts.presets.move_zone(number as usize, from, to),
+        Owner::Instrument(number) => parts.instruments.move_zone(number as usize, from, to),
+    }
+}
+
+fn set_target(parts: &mut Parts<'_>, owner: Owner, zone: u32, target: u16) -> u16
+    requires { IsSomeAnd (own_zone_count parts.old owner) (λ count. zone < count) }
+    ensures value { target_of parts.old owner zone ≡ Some result }
+    ensures change { parts.new ≡ target_set parts.old owner zone target }
+{
+    let zone = zone as usize;
+    match owner {
+        Owner::Preset(number) => parts.presets.set_target(number as usize, zone, target),
+        Owner::Instrument(number) => parts.instruments.set_target(number as usize, zone, target),
+    }
+}

@@ -1,0 +1,13 @@
+use Rattle.bank_edits.specs.declared.edit.Step.TheVariants.{AddZone}
+use Rattle.bank_edits.proofs.Accepted.{accepted}
+use Rattle.bank_edits.proofs.ZoneLaws.{zone_goes, sound_add_zone}
+use Rattle.bank_edits.proofs.zones.add_zone.Goals as goal
+
+pub add_zone-requires-clause-place : goal.add_zone-requires-clause-place
+add_zone-requires-clause-place c =
+    let b = c.args.bank.now in
+    let o = c.args.owner in
+    (zone_goes b o c.args.at c.args.zone (accepted b (AddZone o c.args.at c.args.zone) c.requires.accepted).tests).place
+
+pub add_zone-requires-clause-sound : goal.add_zone-requires-clause-sound
+add_zone-requires-clause-sound c = sound_add_zone c.args.bank.now c.args.owner c.args.at c.args.zone c.requires.sound c.fits.ensures c.requires.accepted
