@@ -1,5 +1,5 @@
 -- The forms that edit generators: what acceptance says of each, and what the code answers.
-use Rattle.std.proofs.Common.{◌≡◌, ◌<◌, ◌≤◌, ◌%◌, ◌/◌, ◌&&◌, ◌^◌, not, ℕ, nat_le, Bool, true, false, List, [], ◌∷◌, Option, Some, None, IsSome, refl, sym, subst, ◌∙◌, ap, arith}
+use Rattle.std.proofs.Common.{◌≡◌, ◌<◌, ◌≤◌, ◌%◌, ◌/◌, ◌&&◌, ◌^◌, not, ℕ, nat_le, Bool, true, false, Option, Some, None, refl, sym, ◌∙◌, arith}
 use Rattle.std.specs.Option.{is_some}
 use Rattle.std.proofs.lemmas.Bool.Decides.{nat_tests}
 use Rattle.generators.specs.Levels.{is_allowed}

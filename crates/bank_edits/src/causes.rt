@@ -198,10 +198,7 @@ pub(crate) fn not_set(
 ) -> Result<(), Cause>
     ensures { Passes (causes.not_set bank.now owner place operator) result }
 {
-    judge(
-        bank.gen_of(owner, place, operator).is_none(),
-        Cause::NotSet,
-    )
+    judge(bank.gen_of(owner, place, operator).is_none(), Cause::NotSet)
 }
 
 // ---- samples

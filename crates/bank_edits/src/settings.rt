@@ -6,9 +6,7 @@ ghost use Rattle.bank_edits.specs.Answers.{Judges, IsStepChange};
 ghost use Rattle.bank_edits.specs.Steps.{refusal};
 
 use crate::cause::Cause;
-use crate::causes::{
-    bad_amount, foreign_operator, full, no_such_owner, no_such_zone_at, not_set,
-};
+use crate::causes::{bad_amount, foreign_operator, full, no_such_owner, no_such_zone_at, not_set};
 use crate::edit::Step;
 use bank_core::{Bank, Owner, Place};
 

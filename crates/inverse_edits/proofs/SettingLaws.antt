@@ -1,20 +1,19 @@
 -- Undo restores, for the forms that edit generators.
 use Rattle.std.proofs.Common.{◌≡◌, ◌<◌, ◌^◌, ℕ, List, Option, Some, None, refl, sym, subst, ◌∙◌, ap}
-use Rattle.std.specs.FinMap.{get, insert, remove}
-use Rattle.generators.specs.Gens.{Gens, FitsEntry}
+use Rattle.std.specs.FinMap.{insert, remove}
+use Rattle.generators.specs.Gens.{FitsEntry}
 use Rattle.generators.proofs.EntryLaws.{set_is_entry}
 use Rattle.bank_parts.specs.declared.parts.Head.{Head}
 use Rattle.bank_parts.specs.declared.parts.WithZones.{WithZones}
 use Rattle.bank_parts.specs.declared.parts.Parts.{Parts}
 use Rattle.bank_parts.specs.Settings.{Settings, with_gens}
-use Rattle.bank_parts.specs.Valid.{IsGenerator, AreGenerators}
-use Rattle.bank_parts.specs.Fits.{FitsGlobal}
+use Rattle.bank_parts.specs.Valid.{IsGenerator}
 use Rattle.bank_parts.specs.Sound.{IsSound}
 use Rattle.bank_parts.proofs.UndoneLaws.{gen_set_back, gen_set_cleared, gen_cleared_undone, gen_set_read, gen_cleared_read}
 use Rattle.bank_core.specs.declared.members.Owner.{Owner}
 use Rattle.bank_core.specs.declared.members.Owner.TheVariants as owner
 use Rattle.bank_core.specs.declared.members.Place.{Place}
-use Rattle.bank_core.specs.Members.{zone_place, settings_of, level_of, amount_of}
+use Rattle.bank_core.specs.Members.{zone_place, level_of, amount_of}
 use Rattle.bank_core.specs.Settings.{own_place_changed, gen_set, gen_cleared}
 use Rattle.bank_core.proofs.Changes.{all_found}
 use Rattle.bank_core.proofs.PlaceLaws.{place_there, gens_of_sound, settings_fit}
