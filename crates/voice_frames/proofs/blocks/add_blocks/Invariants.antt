@@ -1,4 +1,4 @@
-use Rattle.std.proofs.Common.{◌≡◌, ◌*◌, ◌≤◌, length}
+use Rattle.std.proofs.Common.{◌≡◌, ◌*◌, length}
 use Rattle.voices.specs.Within.{AllWithin}
 use Rattle.voice_frames.proofs.blocks.add_blocks.Given as goal
 
