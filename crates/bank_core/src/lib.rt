@@ -9,6 +9,7 @@ mod members;
 mod presets;
 mod samples;
 mod settings;
+mod splits;
 mod texts;
 mod totals;
 mod zone_changes;
