@@ -9,7 +9,7 @@ ghost use Rattle.bank_parts.specs.declared.owners.ZonePlace.TheVariants as place
 ghost use Rattle.bank_parts.specs.Owners.{HasPlace, targets, head_at, with_head, zone_count_at, zone_at, target_at, gens_at, entries_at, mods_at};
 ghost use Rattle.bank_parts.specs.Counts.{records_of_owner, records_total, all_counted};
 
-use crate::copying::copy_list;
+use crate::copying::{CopyOut, copy_list};
 use crate::counting::Records;
 use crate::parts::{WithZones, Zone};
 use modulators::Modulator;
@@ -213,6 +213,14 @@ impl<H> Owners<H> {
     {
         let _ = alloc;
         Ok(self.list.remove(i))
+    }
+
+    /// A zone equal to zone `k` of number `i`, both of which are there, in memory of its own.
+    pub fn copy_zone(&self, alloc: Global, i: usize, k: usize) -> Result<Zone, OutOfMemory>
+        requires { HasPlace self.now i (place.Zone k) }
+        ensures { IfOk result (λ zone. zone_at self.now i k ≡ Some zone) }
+    {
+        self.zone(i, k).copy_out(alloc)
     }
 
     /// How many records they have in all.

@@ -1,9 +1,11 @@
 -- The range of keys or of velocities that holds for a zone: its own, else its global zone's, else 0 to 127.
 -- A range is an amount, with the low end in the low byte.
-use Rattle.std.specs.Prelude.{ℕ, ◌+◌, ◌*◌, ◌/◌, ◌%◌, Option, unwrap_or}
+use Rattle.std.specs.Prelude.{ℕ, ◌+◌, ◌*◌, ◌/◌, ◌%◌, List, Option, slice_get, unwrap_or}
+use Rattle.std.specs.Option.{option_map, option_and_then}
 use Rattle.std.specs.FinMap as map
 use Rattle.bank_parts.specs.declared.parts.GlobalZone.{GlobalZone}
 use Rattle.bank_parts.specs.declared.parts.Zone.{Zone}
+use Rattle.bank_parts.specs.declared.parts.WithZones.{WithZones}
 use Rattle.zone_ranges.specs.declared.axes.Axis.{Axis}
 use Rattle.zone_ranges.specs.declared.axes.Axis.TheVariants.{Key, Velocity}
 
@@ -43,3 +45,7 @@ with_range axis range z = record z { gens = map.insert z.gens (range_operator ax
 
 abbrev pub without_range : Axis → Zone → Zone
 without_range axis z = record z { gens = map.remove z.gens (range_operator axis) }
+
+-- of zone k of a member; none where there is no such zone
+abbrev pub range_at : {H : Type 0} → Axis → List (WithZones H) → ℕ → ℕ → Option ℕ
+range_at axis owners i k = option_and_then (λ x. option_map (range_of axis x.global) (slice_get x.zones k)) (slice_get owners i)

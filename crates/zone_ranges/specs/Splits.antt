@@ -1,10 +1,11 @@
 -- A zone split in two at a key or a velocity, and two neighbours joined; and when each can be done.
-use Rattle.std.specs.Prelude.{ℕ, ◌+◌, ◌-◌, ◌==◌, ◌&&◌, nat_le, nat_lt, Bool, true, false, List, [], ◌∷◌, insert, remove, slice_get, slice_set, unwrap_or}
+use Rattle.std.specs.Prelude.{ℕ, ◌+◌, ◌-◌, ◌==◌, ◌&&◌, nat_le, nat_lt, Bool, true, false, List, [], ◌∷◌, insert, remove, slice_get, slice_set, length, unwrap_or}
 use Rattle.std.specs.Option.{option_map_or, is_some}
-use Rattle.std.specs.FinMap.{entries}
+use Rattle.std.specs.FinMap.{entries, len}
 use Rattle.std.specs.Ordering.{int_eq}
 use Rattle.numbered_lists.specs.Moved.{changed}
 use Rattle.modulators.specs.declared.modulator.Modulator.{Modulator}
+use Rattle.bank_parts.specs.declared.counting.Records.{Records}
 use Rattle.bank_parts.specs.declared.parts.GlobalZone.{GlobalZone}
 use Rattle.bank_parts.specs.declared.parts.Zone.{Zone}
 use Rattle.bank_parts.specs.declared.parts.WithZones.{WithZones}
@@ -102,3 +103,20 @@ joins axis keep k x = option_map_or (λ (y : Zone). option_map_or (are_joinable 
 -- how a split of the zone is taken back: the one zone keeps a range where it had its own
 abbrev pub keep_for : Axis → Zone → Keep
 keep_for axis z = option_map_or (λ _. keep.Keep) (own_range axis z) keep.Bare
+
+abbrev pub splits_at : {H : Type 0} → Axis → ℕ → List (WithZones H) → ℕ → ℕ → Bool
+splits_at axis m owners i k = option_map_or (λ x. splits axis m k x) (slice_get owners i) false
+
+abbrev pub joins_at : {H : Type 0} → Axis → Keep → List (WithZones H) → ℕ → ℕ → Bool
+joins_at axis keep owners i k = option_map_or (λ x. joins axis keep k x) (slice_get owners i) false
+
+-- ---- records
+
+-- those that a split of the zone adds: its own again, and two ranges where it had none
+abbrev pub split_records : Axis → Zone → Records
+split_records axis z = record { zones = 1; gens = len z.gens + option_map_or (λ _. 1) (own_range axis z) 3; mods = length z.mods }
+
+-- those that a join takes: those of the second zone, and the range of a bare one
+abbrev pub join_records : Keep → Zone → Records
+join_records keep.Keep z = record { zones = 1; gens = len z.gens + 1; mods = length z.mods }
+join_records keep.Bare z = record { zones = 1; gens = len z.gens + 2; mods = length z.mods }

@@ -2,6 +2,13 @@
 //! and neighbours joined again.
 #![tactic(auto)]
 
+mod alike;
 mod axes;
+mod laws;
+mod ranges;
+mod splitting;
 
 pub use axes::{Axis, Keep};
+pub use laws::splits_and_joins_undone;
+pub use ranges::zone_range;
+pub use splitting::{join_zones, joins, split_zone, splits};

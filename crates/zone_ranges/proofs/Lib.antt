@@ -1,0 +1,4 @@
+pub mod AlikeLaws
+pub mod Parting
+pub mod SplitLaws
+pub mod There
