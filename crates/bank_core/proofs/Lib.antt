@@ -7,6 +7,7 @@ pub mod TotalsLaws
 pub mod RecordLaws
 pub mod ZoneLaws
 pub mod ZoneChangeLaws
+pub mod SplitLaws
 pub mod SampleLaws
 pub mod InstrumentLaws
 pub mod PresetLaws

@@ -50,7 +50,7 @@ module _ {H : Type 0} (owners : List (WithZones H)) (i : ℕ) (zones : List Zone
       let h = source (λ (x : WithZones H). x.zones) (slice_get owners i) zones e in
       subst P h.seen (all_found (λ (x : WithZones H). P x.zones) owners i h.member h.there all)
 
-sum_set : {X : Type 0} (measure : X → ℕ) (xs : List X) (i : ℕ) (x y : X) → slice_get xs i ≡ Some x → sum_by measure (slice_set xs i y) + measure x ≡ sum_by measure xs + measure y
+pub sum_set : {X : Type 0} (measure : X → ℕ) (xs : List X) (i : ℕ) (x y : X) → slice_get xs i ≡ Some x → sum_by measure (slice_set xs i y) + measure x ≡ sum_by measure xs + measure y
 sum_set measure [] i x y e = absurd cc
 sum_set measure (z ∷ zs) zero x y e =
     let old = sum_by-cons measure z zs in

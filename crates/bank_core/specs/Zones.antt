@@ -1,11 +1,12 @@
 -- The raw changes of zones, wherever they stand.
-use Rattle.std.specs.Prelude.{ℕ, List}
+use Rattle.std.specs.Prelude.{ℕ, Bool, List, Option}
 use Rattle.bank_parts.specs.declared.parts.Zone.{Zone}
 use Rattle.bank_parts.specs.declared.parts.Parts.{Parts}
 use Rattle.bank_parts.specs.Settings.{zones_changed}
 use Rattle.bank_parts.specs.ZoneChanges as list
 use Rattle.zone_ranges.specs.declared.axes.Axis.{Axis}
 use Rattle.zone_ranges.specs.declared.axes.Keep.{Keep}
+use Rattle.zone_ranges.specs.Ranges.{range_at}
 use Rattle.zone_ranges.specs.Splits as split
 use Rattle.bank_core.specs.declared.members.Owner.{Owner}
 use Rattle.bank_core.specs.declared.members.Owner.TheVariants.{Preset, Instrument}
@@ -44,3 +45,18 @@ zone_split b (Instrument i) k axis m = record b { instruments = split.zone_split
 abbrev pub zone_joined : Parts → Owner → ℕ → Axis → Keep → Parts
 zone_joined b (Preset p) k axis keep = record b { presets = split.zone_joined b.presets p k axis keep }
 zone_joined b (Instrument i) k axis keep = record b { instruments = split.zone_joined b.instruments i k axis keep }
+
+-- there is the zone, and `lo < m <= hi` for the range that holds for it
+abbrev pub can_split : Parts → Owner → ℕ → Axis → ℕ → Bool
+can_split b (Preset p) k axis m = split.splits_at axis m b.presets p k
+can_split b (Instrument i) k axis m = split.splits_at axis m b.instruments i k
+
+-- there are the zone and the next, and they can be joined
+abbrev pub can_join : Parts → Owner → ℕ → Axis → Keep → Bool
+can_join b (Preset p) k axis keep = split.joins_at axis keep b.presets p k
+can_join b (Instrument i) k axis keep = split.joins_at axis keep b.instruments i k
+
+-- the range that holds for the zone
+abbrev pub range_of_zone : Parts → Owner → ℕ → Axis → Option ℕ
+range_of_zone b (Preset p) k axis = range_at axis b.presets p k
+range_of_zone b (Instrument i) k axis = range_at axis b.instruments i k

@@ -8,6 +8,7 @@ mod laws;
 mod members;
 mod presets;
 mod samples;
+mod splits;
 mod texts;
 mod totals;
 mod zone_changes;

@@ -10,7 +10,7 @@ use Rattle.bank_parts.specs.declared.parts.GlobalZone.{GlobalZone}
 use Rattle.bank_parts.specs.declared.parts.Zone.{Zone}
 use Rattle.bank_parts.specs.declared.parts.WithZones.{WithZones}
 use Rattle.bank_parts.specs.Owners.{HasPlace, zone_count_at, zone_at, gens_at, entries_at, amount_at}
-use Rattle.bank_parts.specs.Settings.{Settings, place_changed, settings_of_zone, settings_changed, zone_with_settings, with_zones, with_gens}
+use Rattle.bank_parts.specs.Settings.{Settings, place_changed, settings_of_zone, settings_changed, zone_with_settings, zones_at, zones_changed, with_zones, with_gens}
 use Rattle.bank_parts.specs.ZoneChanges.{zone_added, zone_removed, gen_set, gen_cleared}
 use Rattle.bank_parts.proofs.UndoneLaws.{gen_set_back, gen_set_cleared}
 use Rattle.zone_ranges.specs.declared.axes.Axis.{Axis}
@@ -203,3 +203,27 @@ module _ {H : Type 0} (owners : List (WithZones H)) (i k : ℕ) (axis : Axis) (k
 
   pub bared : (was : Option ℕ) → keep ≡ keeping.Bare → was ≡ None → Joined was
   bared was e f = rw (e, f) (join_put_bare owners i k h.at h.second h.next axis)
+
+-- ---- a split and a join as zones that are put there
+
+module _ {H : Type 0} (owners : List (WithZones H)) (i k : ℕ) (t : ZoneThere owners i k) where
+  pub zones_there : zones_at owners i ≡ Some t.member.zones
+  zones_there = ap (option_map (λ (x : WithZones H). x.zones)) t.there
+
+  pub split_is_put : (axis : Axis) (m : ℕ)
+      → zone_split owners i k axis m ≡ zones_changed owners i (λ _. parted t.member.zones k (lower_part axis m t.member.global t.zone) (upper_part axis m t.member.global t.zone))
+  split_is_put axis m =
+      let x : WithZones H = t.member in
+      let put = parted x.zones k (lower_part axis m x.global t.zone) (upper_part axis m x.global t.zone) in
+      let is : zones_split axis m x.global x.zones k ≡ put = rw t.zone_there refl in
+      changed-found owners i (λ (x : WithZones H). with_zones (zones_split axis m x.global x.zones k) x) x t.there
+      ∙ (ap (λ (zones : List Zone). slice_set owners i (with_zones zones x)) is ∙ sym (changed-found owners i (with_zones put) x t.there))
+
+  pub join_is_put : (axis : Axis) (keep : Keep) (second : Zone) → slice_get t.member.zones (k + 1) ≡ Some second
+      → zone_joined owners i k axis keep ≡ zones_changed owners i (λ _. merged t.member.zones k (joined axis keep t.zone second))
+  join_is_put axis keep second next =
+      let x : WithZones H = t.member in
+      let put = merged x.zones k (joined axis keep t.zone second) in
+      let is : zones_joined axis keep x.zones k ≡ put = rw (t.zone_there, next) refl in
+      changed-found owners i (λ (x : WithZones H). with_zones (zones_joined axis keep x.zones k) x) x t.there
+      ∙ (ap (λ (zones : List Zone). slice_set owners i (with_zones zones x)) is ∙ sym (changed-found owners i (with_zones put) x t.there))

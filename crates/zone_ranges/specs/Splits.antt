@@ -112,11 +112,15 @@ joins_at axis keep owners i k = option_map_or (λ x. joins axis keep k x) (slice
 
 -- ---- records
 
+-- a zone more, with so many generators more than this one has
+abbrev pub records_with : ℕ → Zone → Records
+records_with more z = record { zones = 1; gens = len z.gens + more; mods = length z.mods }
+
 -- those that a split of the zone adds: its own again, and two ranges where it had none
 abbrev pub split_records : Axis → Zone → Records
-split_records axis z = record { zones = 1; gens = len z.gens + option_map_or (λ _. 1) (own_range axis z) 3; mods = length z.mods }
+split_records axis z = records_with (option_map_or (λ _. 1) (own_range axis z) 3) z
 
 -- those that a join takes: those of the second zone, and the range of a bare one
 abbrev pub join_records : Keep → Zone → Records
-join_records keep.Keep z = record { zones = 1; gens = len z.gens + 1; mods = length z.mods }
-join_records keep.Bare z = record { zones = 1; gens = len z.gens + 2; mods = length z.mods }
+join_records keep.Keep z = records_with 1 z
+join_records keep.Bare z = records_with 2 z

@@ -6,9 +6,11 @@ mod alike;
 mod axes;
 mod laws;
 mod ranges;
+mod records;
 mod splitting;
 
 pub use axes::{Axis, Keep};
 pub use laws::splits_and_joins_undone;
 pub use ranges::zone_range;
+pub use records::{join_records, split_records};
 pub use splitting::{join_zones, joins, split_zone, splits};

@@ -1,0 +1,21 @@
+use Rattle.std.proofs.Common.{◌≡◌, ◌∙◌, sym, ap}
+use Rattle.bank_parts.specs.Counts.{all_counted}
+use Rattle.bank_parts.specs.Limits.{broken}
+use Rattle.bank_parts.proofs.LimitLaws.{no_limit_of}
+use Rattle.zone_ranges.specs.Splits.{split_records}
+use Rattle.bank_core.proofs.SplitLaws.{split, totals-zone_split}
+use Rattle.bank_core.proofs.bank.Bank.broken_with_split.Goals as goal
+
+pub broken_with_records-requires : goal.broken_with_records-requires
+broken_with_records-requires c =
+    let now = c.args.self.now in
+    ap broken (rw c.self.view_is at c.self.invariant.1) ∙ no_limit_of now (rw c.self.view_is at c.self.invariant.0).valid.limits
+
+pub returns : goal.returns
+returns c = λ at can.
+    let now = c.args.self.now in
+    let o = c.args.owner in
+    let s = split now o c.args.zone c.args.axis at can in
+    let count : c.split_records-more.result ≡ all_counted (split_records c.args.axis s.zone) = rw (c.self.view_is, s.zone_is) at c.split_records-more.ensures in
+    rw (c.level.ensures, rw c.self.view_is at c.self.invariant.1) at c.broken_with_records.ensures (split_records c.args.axis s.zone) count
+    ∙ sym (ap broken (totals-zone_split now o c.args.zone c.args.axis at can))
