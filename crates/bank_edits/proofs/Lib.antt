@@ -6,3 +6,4 @@ pub mod PresetLaws
 pub mod SampleLaws
 pub mod TextLaws
 pub mod ZoneLaws
+pub mod SplitLaws
