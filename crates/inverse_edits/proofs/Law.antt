@@ -9,6 +9,7 @@ use Rattle.inverse_edits.proofs.InstrumentLaws.{undone_add_instrument, undone_re
 use Rattle.inverse_edits.proofs.SampleLaws.{undone_rename, undone_add, undone_remove, undone_move_sample}
 use Rattle.inverse_edits.proofs.TextLaws.{undone_set_info}
 use Rattle.inverse_edits.proofs.ZoneLaws.{undone_add_zone, undone_remove_zone, undone_move_zone, undone_set_target}
+use Rattle.inverse_edits.proofs.SplitLaws.{undone_split_zone, undone_join_zone}
 
 -- a form that is refused as yet
 none_yet : {c : Cause} → Some c ≡ None → ⊥
@@ -31,8 +32,8 @@ undone b (One (SetHead p name number bank)) = λ s t. absurd (none_yet t.accepte
 undone b (One (AddZone o at zone)) = undone_add_zone b o at zone
 undone b (One (RemoveZone o zone)) = undone_remove_zone b o zone
 undone b (One (MoveZone o from to)) = undone_move_zone b o from to
-undone b (One (SplitZone o zone axis at)) = λ s t. absurd (none_yet t.accepted)
-undone b (One (JoinZone o zone axis keep)) = λ s t. absurd (none_yet t.accepted)
+undone b (One (SplitZone o zone axis at)) = undone_split_zone b o zone axis at
+undone b (One (JoinZone o zone axis keep)) = undone_join_zone b o zone axis keep
 undone b (One (SetTarget o zone target)) = undone_set_target b o zone target
 undone b (One (SetGen o at op amount)) = λ s t. absurd (none_yet t.accepted)
 undone b (One (ClearGen o at op)) = λ s t. absurd (none_yet t.accepted)

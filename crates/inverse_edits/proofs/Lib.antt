@@ -4,5 +4,6 @@ pub mod InstrumentLaws
 pub mod SampleLaws
 pub mod TextLaws
 pub mod ZoneLaws
+pub mod SplitLaws
 pub mod Law
 pub mod RunLaw
