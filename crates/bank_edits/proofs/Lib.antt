@@ -9,3 +9,4 @@ pub mod ZoneLaws
 pub mod PlaceLaws
 pub mod ModulatorLaws
 pub mod SettingLaws
+pub mod SplitLaws

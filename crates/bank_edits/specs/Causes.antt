@@ -1,7 +1,7 @@
 -- The tests that refuse an edit, each with the cause that it tells.
-use Rattle.std.specs.Prelude.{ℕ, ◌+◌, ◌==◌, ◌||◌, ◌&&◌, nat_le, nat_lt, not, Bool, false, Option, Some, None, List, [], ◌∷◌, length, slice_get, unwrap_or, if◌then◌else◌}
+use Rattle.std.specs.Prelude.{ℕ, ◌+◌, ◌==◌, ◌||◌, ◌&&◌, nat_le, nat_lt, not, Bool, false, Option, Some, None, List, [], ◌∷◌, length, unwrap_or, if◌then◌else◌}
 use Rattle.std.specs.List.{list_any}
-use Rattle.std.specs.Option.{option_map_or, is_some}
+use Rattle.std.specs.Option.{is_some}
 use Rattle.generators.specs.declared.level.Level.{Level}
 use Rattle.generators.specs.Levels.{is_allowed}
 use Rattle.modulators.specs.declared.modulator.Modulator.{Modulator}
@@ -17,12 +17,12 @@ use Rattle.bank_parts.specs.Texts.{most_bytes, is_engine}
 use Rattle.bank_parts.specs.Contents.{misses_target, sets_foreign, has_foreign, is_bad_range, sets_bad_range, has_bad_range}
 use Rattle.zone_ranges.specs.declared.axes.Axis.{Axis}
 use Rattle.zone_ranges.specs.declared.axes.Keep.{Keep}
-use Rattle.zone_ranges.specs.Splits.{splits, joins}
 use Rattle.bank_core.specs.declared.members.Owner.{Owner}
 use Rattle.bank_core.specs.declared.members.Owner.TheVariants as owner
 use Rattle.bank_core.specs.declared.members.Place.{Place}
 use Rattle.bank_core.specs.declared.members.Place.TheVariants as place
 use Rattle.bank_core.specs.Members.{own_zone_count, target_count, mods_of, amount_of}
+use Rattle.bank_core.specs.Zones.{can_split, can_join}
 use Rattle.bank_core.specs.Instruments.{instrument_in_use}
 use Rattle.bank_core.specs.Samples.{sample_in_use}
 use Rattle.bank_edits.specs.declared.cause.Cause.{Cause}
@@ -89,19 +89,11 @@ abbrev pub bad_ranges : Zone → Test
 bad_ranges zone = test (sets_bad_range zone.gens) BadRange
 
 -- not `lo < M <= hi` for the range that holds for the zone
-abbrev pub can_split : Parts → Owner → ℕ → Axis → ℕ → Bool
-can_split b (owner.Preset p) k axis m = option_map_or (λ x. splits axis m k x) (slice_get b.presets p) false
-can_split b (owner.Instrument i) k axis m = option_map_or (λ x. splits axis m k x) (slice_get b.instruments i) false
-
 abbrev pub split_outside : Parts → Owner → ℕ → Axis → ℕ → Test
 split_outside b o k axis m = test (not (can_split b o k axis m)) SplitOutside
 
 -- the zone and the next don't agree in all but their own ranges on the axis, or these are not neighbours,
 -- or a bare zone would have another range
-abbrev pub can_join : Parts → Owner → ℕ → Axis → Keep → Bool
-can_join b (owner.Preset p) k axis keep = option_map_or (λ x. joins axis keep k x) (slice_get b.presets p) false
-can_join b (owner.Instrument i) k axis keep = option_map_or (λ x. joins axis keep k x) (slice_get b.instruments i) false
-
 abbrev pub not_joinable : Parts → Owner → ℕ → Axis → Keep → Test
 not_joinable b o k axis keep = test (not (can_join b o k axis keep)) NotJoinable
 

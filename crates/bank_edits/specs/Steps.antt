@@ -1,5 +1,5 @@
 -- What a step does to a bank, when it is refused, and what takes it back: one line for each form.
-use Rattle.std.specs.Prelude.{ℕ, ◌<◌, ◌^◌, true, Option, List, [], ◌∷◌, length, slice_get, unwrap_or, ◌+◌}
+use Rattle.std.specs.Prelude.{ℕ, ◌<◌, ◌^◌, Option, List, [], ◌∷◌, length, slice_get, unwrap_or, ◌+◌}
 use Rattle.std.specs.Option.{option_map, option_map_or}
 use Rattle.modulators.specs.declared.modulator.Modulator.{Modulator}
 use Rattle.modulators.specs.Modulators.{FitsModulator}
@@ -29,8 +29,8 @@ use Rattle.bank_core.specs.Members.{head_of, instrument_name_of, level_of, zone_
 use Rattle.bank_edits.specs.declared.edit.Step.{Step}
 use Rattle.bank_edits.specs.declared.edit.Step.TheVariants.{AddPreset, RemovePreset, MovePreset, SetHead, AddInstrument, RemoveInstrument, RenameInstrument, MoveInstrument, RenameSample, AddSample, RemoveSample, MoveSample, AddZone, RemoveZone, MoveZone, SplitZone, JoinZone, SetTarget, SetGen, ClearGen, AddMod, RemoveMod, SetMod, SetInfo}
 use Rattle.bank_edits.specs.declared.cause.Cause.{Cause}
-use Rattle.bank_edits.specs.declared.cause.Cause.TheVariants.{NoSuchInstrument, NoSuchSample, BadPlace, Full}
-use Rattle.bank_edits.specs.Causes.{Test, test, first_cause, no_such_preset, no_such_instrument, no_such_sample, no_such_target, used_instrument, bad_generator, bad_range, no_such_link, used_sample, no_such_owner, zone_total, no_such_zone, no_such_target_of, bad_generators, bad_ranges, bad_place, no_such_place, bad_loop, bad_text, no_such_zone_at, mods_there, no_such_modulator, linked_place, linked_modulator, foreign_operator, bad_amount, not_set}
+use Rattle.bank_edits.specs.declared.cause.Cause.TheVariants.{NoSuchInstrument, NoSuchSample, Full}
+use Rattle.bank_edits.specs.Causes.{Test, first_cause, no_such_preset, no_such_instrument, no_such_sample, no_such_target, used_instrument, bad_generator, bad_range, no_such_link, used_sample, no_such_owner, zone_total, no_such_zone, no_such_target_of, bad_generators, bad_ranges, bad_place, no_such_place, bad_loop, bad_text, no_such_zone_at, mods_there, no_such_modulator, linked_place, linked_modulator, foreign_operator, bad_amount, not_set, split_outside, not_joinable}
 
 -- numbers of 32 bits
 abbrev pub FitsNumberOf : Owner → Type 0
@@ -59,7 +59,7 @@ FitsStep (AddZone o at zone) = FitsNumberOf o × (at < 2 ^ 32) × FitsZone zone
 FitsStep (RemoveZone o zone) = FitsNumberOf o × (zone < 2 ^ 32)
 FitsStep (MoveZone o from to) = FitsNumberOf o × (from < 2 ^ 32) × (to < 2 ^ 32)
 FitsStep (SplitZone o zone axis at) = FitsNumberOf o × (zone < 2 ^ 32) × (at < 2 ^ 8)
-FitsStep (JoinZone o zone axis keep) = FitsNumberOf o × (zone < 2 ^ 32)
+FitsStep (JoinZone o zone axis kept) = FitsNumberOf o × (zone < 2 ^ 32)
 FitsStep (SetTarget o zone target) = FitsNumberOf o × (zone < 2 ^ 32) × (target < 2 ^ 16)
 FitsStep (SetGen o at operator amount) = FitsNumberOf o × FitsPlace at × (operator < 2 ^ 16) × (amount < 2 ^ 16)
 FitsStep (ClearGen o at operator) = FitsNumberOf o × FitsPlace at × (operator < 2 ^ 16)
@@ -86,7 +86,7 @@ raw b (AddZone o at zone) = zone_added b o at zone
 raw b (RemoveZone o zone) = zone_removed b o zone
 raw b (MoveZone o from to) = zone_moved b o from to
 raw b (SplitZone o zone axis at) = zone_split b o zone axis at
-raw b (JoinZone o zone axis keep) = zone_joined b o zone axis keep
+raw b (JoinZone o zone axis kept) = zone_joined b o zone axis kept
 raw b (SetTarget o zone target) = target_set b o zone target
 raw b (SetGen o at operator amount) = gen_set b o at operator amount
 raw b (ClearGen o at operator) = gen_cleared b o at operator
@@ -94,9 +94,6 @@ raw b (AddMod o at index modulator) = mod_added b o at index modulator
 raw b (RemoveMod o at index) = mod_removed b o at index
 raw b (SetMod o at index modulator) = mod_set b o at index modulator
 raw b (SetInfo id text) = info_set b id text
-
-abbrev not_yet : List Test
-not_yet = test true BadPlace ∷ []
 
 -- the causes that it can have, in the order of their numbers
 abbrev pub causes : Parts → Step → List Test
@@ -131,8 +128,8 @@ causes b (AddZone o at zone) =
     ∷ []
 causes b (RemoveZone o zone) = no_such_owner b o ∷ no_such_zone b o zone ∷ []
 causes b (MoveZone o from to) = no_such_owner b o ∷ no_such_zone b o from ∷ no_such_place (zone_total b o) to ∷ []
-causes b (SplitZone o zone axis at) = not_yet
-causes b (JoinZone o zone axis keep) = not_yet
+causes b (SplitZone o zone axis at) = no_such_owner b o ∷ no_such_zone b o zone ∷ split_outside b o zone axis at ∷ []
+causes b (JoinZone o zone axis kept) = no_such_owner b o ∷ no_such_zone b o (zone + 1) ∷ not_joinable b o zone axis kept ∷ []
 causes b (SetTarget o zone target) = no_such_owner b o ∷ no_such_target_of b o target ∷ no_such_zone b o zone ∷ []
 causes b (SetGen o at operator amount) =
     no_such_owner b o ∷ no_such_zone_at b o at ∷ foreign_operator (level_of o) operator ∷ bad_amount operator amount ∷ []
@@ -177,8 +174,8 @@ inverse b (AddZone o at zone) = RemoveZone o at
 inverse b (RemoveZone o zone) = option_map_or (λ (z : Zone). AddZone o zone z) (zone_of b o zone) (RemoveZone o zone)
 inverse b (MoveZone o from to) = MoveZone o to from
 inverse b (SplitZone o zone axis at) = option_map_or (λ (z : Zone). JoinZone o zone axis (keep_for axis z)) (zone_of b o zone) (SplitZone o zone axis at)
-inverse b (JoinZone o zone axis keep) =
-    option_map_or (λ (z : Zone). SplitZone o zone axis (low_end (unwrap_or (own_range axis z) whole_range))) (zone_of b o (zone + 1)) (JoinZone o zone axis keep)
+inverse b (JoinZone o zone axis kept) =
+    option_map_or (λ (z : Zone). SplitZone o zone axis (low_end (unwrap_or (own_range axis z) whole_range))) (zone_of b o (zone + 1)) (JoinZone o zone axis kept)
 inverse b (SetTarget o zone target) = option_map_or (λ (was : ℕ). SetTarget o zone was) (target_of b o zone) (SetTarget o zone target)
 inverse b (SetGen o at operator amount) = option_map_or (λ (was : ℕ). SetGen o at operator was) (amount_of b o at operator) (ClearGen o at operator)
 inverse b (ClearGen o at operator) = option_map_or (λ (was : ℕ). SetGen o at operator was) (amount_of b o at operator) (ClearGen o at operator)
@@ -205,7 +202,7 @@ GrowsNothing (AddZone o at zone) = ⊥
 GrowsNothing (RemoveZone o zone) = ⊥
 GrowsNothing (MoveZone o from to) = ⊥
 GrowsNothing (SplitZone o zone axis at) = ⊥
-GrowsNothing (JoinZone o zone axis keep) = ⊥
+GrowsNothing (JoinZone o zone axis kept) = ⊥
 GrowsNothing (SetTarget o zone target) = Unit {0}
 GrowsNothing (SetGen o at operator amount) = ⊥
 GrowsNothing (ClearGen o at operator) = ⊥

@@ -15,6 +15,7 @@ use generators::{Level, allowed};
 use modulators::Modulator;
 use sf_base::Lent;
 use sf_base::limits::{COMMENT_LENGTH, TEXT_LENGTH};
+use zone_ranges::{Axis, Keep};
 
 /// A limit that the changed bank would break, the last of the tests of every form.
 pub(crate) fn full(limit: Option<Limit>) -> Result<(), Cause>
@@ -108,6 +109,14 @@ pub(crate) fn bad_range<H>(owner: &WithZones<H>) -> Result<(), Cause>
 
 // ---- one zone
 
+/// There is no zone behind this one.
+pub(crate) fn no_next_zone(bank: &Bank<'_>, owner: Owner, zone: u32) -> Result<(), Cause>
+    ensures { Passes (causes.no_such_zone bank.now owner (zone + 1)) result }
+{
+    let next = zone as usize + 1;
+    judge(zone_total(bank, owner) <= next, Cause::NoSuchZone)
+}
+
 /// The target is past the members that zones of the owner may target.
 pub(crate) fn no_such_target_of(bank: &Bank<'_>, owner: Owner, target: u16) -> Result<(), Cause>
     ensures { Passes (causes.no_such_target_of bank.now owner target) result }
@@ -131,6 +140,36 @@ pub(crate) fn bad_ranges(zone: &Zone) -> Result<(), Cause>
     ensures { Passes (causes.bad_ranges zone.now) result }
 {
     judge(sets_bad_range(&zone.gens), Cause::BadRange)
+}
+
+pub(crate) fn split_outside(
+    bank: &Bank<'_>,
+    owner: Owner,
+    zone: u32,
+    axis: Axis,
+    at: u8,
+) -> Result<(), Cause>
+    ensures { Passes (causes.split_outside bank.now owner zone axis at) result }
+{
+    judge(
+        !bank.can_split(owner, zone, axis, at),
+        Cause::SplitOutside,
+    )
+}
+
+pub(crate) fn not_joinable(
+    bank: &Bank<'_>,
+    owner: Owner,
+    zone: u32,
+    axis: Axis,
+    keep: Keep,
+) -> Result<(), Cause>
+    ensures { Passes (causes.not_joinable bank.now owner zone axis keep) result }
+{
+    judge(
+        !bank.can_join(owner, zone, axis, keep),
+        Cause::NotJoinable,
+    )
 }
 
 // ---- modulators of a place

@@ -23,6 +23,7 @@ use crate::samples::{
     refuse_rename_sample, remove_sample, rename_sample,
 };
 use crate::settings::{clear_gen, refuse_clear_gen, refuse_set_gen, set_gen};
+use crate::splits::{join_zone, refuse_join_zone, refuse_split_zone, split_zone};
 use crate::texts::{refuse_set_info, set_info};
 use crate::zones::{
     add_zone, move_zone, refuse_add_zone, refuse_move_zone, refuse_remove_zone, refuse_set_target,
@@ -360,7 +361,18 @@ pub(crate) fn refuse_step(bank: &Bank<'_>, step: &Step<'_>) -> Result<(), Cause>
         Step::AddZone { owner, at, zone } => refuse_add_zone(bank, *owner, *at, zone),
         Step::RemoveZone { owner, zone } => refuse_remove_zone(bank, *owner, *zone),
         Step::MoveZone { owner, from, to } => refuse_move_zone(bank, *owner, *from, *to),
-        Step::SplitZone { .. } | Step::JoinZone { .. } => Err(Cause::BadPlace),
+        Step::SplitZone {
+            owner,
+            zone,
+            axis,
+            at,
+        } => refuse_split_zone(bank, *owner, *zone, *axis, *at),
+        Step::JoinZone {
+            owner,
+            zone,
+            axis,
+            keep,
+        } => refuse_join_zone(bank, *owner, *zone, *axis, *keep),
         Step::SetTarget {
             owner,
             zone,
@@ -432,7 +444,18 @@ pub(crate) fn change_step<'a>(
         Step::AddZone { owner, at, zone } => add_zone(bank, owner, at, zone),
         Step::RemoveZone { owner, zone } => remove_zone(alloc, bank, owner, zone),
         Step::MoveZone { owner, from, to } => Ok(move_zone(bank, owner, from, to)),
-        Step::SplitZone { .. } | Step::JoinZone { .. } => Err(step),
+        Step::SplitZone {
+            owner,
+            zone,
+            axis,
+            at,
+        } => split_zone(alloc, bank, owner, zone, axis, at),
+        Step::JoinZone {
+            owner,
+            zone,
+            axis,
+            keep,
+        } => join_zone(alloc, bank, owner, zone, axis, keep),
         Step::SetTarget {
             owner,
             zone,

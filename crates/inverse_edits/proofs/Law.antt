@@ -1,6 +1,4 @@
 -- Undo restores, for every form of edit.
-use Rattle.std.proofs.Common.{◌≡◌, Some, None}
-use Rattle.bank_edits.specs.declared.cause.Cause.{Cause}
 use Rattle.bank_edits.specs.declared.edit.Edit.TheVariants.{One}
 use Rattle.bank_edits.specs.declared.edit.Step.TheVariants.{AddPreset, RemovePreset, MovePreset, SetHead, AddInstrument, RemoveInstrument, RenameInstrument, MoveInstrument, RenameSample, AddSample, RemoveSample, MoveSample, AddZone, RemoveZone, MoveZone, SplitZone, JoinZone, SetTarget, SetGen, ClearGen, AddMod, RemoveMod, SetMod, SetInfo}
 use Rattle.inverse_edits.specs.Undone.{UndoRestores}
@@ -11,10 +9,7 @@ use Rattle.inverse_edits.proofs.SampleLaws.{undone_rename, undone_add, undone_re
 use Rattle.inverse_edits.proofs.SettingLaws.{undone_set_gen, undone_clear_gen}
 use Rattle.inverse_edits.proofs.TextLaws.{undone_set_info}
 use Rattle.inverse_edits.proofs.ZoneLaws.{undone_add_zone, undone_remove_zone, undone_move_zone, undone_set_target}
-
--- a form that is refused as yet
-none_yet : {c : Cause} → Some c ≡ None → ⊥
-none_yet h = cc
+use Rattle.inverse_edits.proofs.SplitLaws.{undone_split_zone, undone_join_zone}
 
 pub undone : UndoRestores
 undone b (One (AddPreset i p)) = undone_add_preset b i p
@@ -33,8 +28,8 @@ undone b (One (SetInfo id text)) = undone_set_info b id text
 undone b (One (AddZone o at zone)) = undone_add_zone b o at zone
 undone b (One (RemoveZone o zone)) = undone_remove_zone b o zone
 undone b (One (MoveZone o from to)) = undone_move_zone b o from to
-undone b (One (SplitZone o zone axis at)) = λ s t. absurd (none_yet t.accepted)
-undone b (One (JoinZone o zone axis keep)) = λ s t. absurd (none_yet t.accepted)
+undone b (One (SplitZone o zone axis at)) = undone_split_zone b o zone axis at
+undone b (One (JoinZone o zone axis keep)) = undone_join_zone b o zone axis keep
 undone b (One (SetTarget o zone target)) = undone_set_target b o zone target
 undone b (One (SetGen o at op amount)) = undone_set_gen b o at op amount
 undone b (One (ClearGen o at op)) = undone_clear_gen b o at op

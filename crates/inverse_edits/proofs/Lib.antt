@@ -6,5 +6,6 @@ pub mod TextLaws
 pub mod ZoneLaws
 pub mod ModulatorLaws
 pub mod SettingLaws
+pub mod SplitLaws
 pub mod Law
 pub mod RunLaw
