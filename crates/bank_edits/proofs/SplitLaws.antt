@@ -68,8 +68,7 @@ module _ (b : Parts) (o : Owner) (k : ℕ) (axis : Axis) (m : ℕ) where
   pub tests_split_zone : can_split b o k axis m ≡ true → NoneStands (causes b (SplitZone o k axis m))
   tests_split_zone can =
       let s = split b o k axis m can in
-      let zone = counted b o s.zones (λ count. k < count) s.there (slice_get-within s.zones k s.zone s.at) in
-      (
+      let zone = counted b o s.zones (λ count. k < count) s.there (slice_get-within s.zones k s.zone s.at) in (
         owner_is_there b o (λ count. k < count) zone,
         (not_below (zone_total b o) k (total_is (own_zone_count b o) (λ count. k < count) zone), (is_not (can_split b o k axis m) can, tt)),
       )
@@ -89,8 +88,7 @@ module _ (b : Parts) (o : Owner) (k : ℕ) (axis : Axis) (keep : Keep) where
   pub tests_join_zone : can_join b o k axis keep ≡ true → NoneStands (causes b (JoinZone o k axis keep))
   tests_join_zone can =
       let s = join b o k axis keep can in
-      let next = counted b o s.zones (λ count. k + 1 < count) s.there (slice_get-within s.zones (k + 1) s.second s.next) in
-      (
+      let next = counted b o s.zones (λ count. k + 1 < count) s.there (slice_get-within s.zones (k + 1) s.second s.next) in (
         owner_is_there b o (λ count. k + 1 < count) next,
         (not_below (zone_total b o) (k + 1) (total_is (own_zone_count b o) (λ count. k + 1 < count) next), (is_not (can_join b o k axis keep) can, tt)),
       )

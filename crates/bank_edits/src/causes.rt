@@ -151,10 +151,7 @@ pub(crate) fn split_outside(
 ) -> Result<(), Cause>
     ensures { Passes (causes.split_outside bank.now owner zone axis at) result }
 {
-    judge(
-        !bank.can_split(owner, zone, axis, at),
-        Cause::SplitOutside,
-    )
+    judge(!bank.can_split(owner, zone, axis, at), Cause::SplitOutside)
 }
 
 pub(crate) fn not_joinable(
@@ -166,10 +163,7 @@ pub(crate) fn not_joinable(
 ) -> Result<(), Cause>
     ensures { Passes (causes.not_joinable bank.now owner zone axis keep) result }
 {
-    judge(
-        !bank.can_join(owner, zone, axis, keep),
-        Cause::NotJoinable,
-    )
+    judge(!bank.can_join(owner, zone, axis, keep), Cause::NotJoinable)
 }
 
 // ---- modulators of a place

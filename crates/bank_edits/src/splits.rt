@@ -12,9 +12,7 @@ ghost use Rattle.bank_edits.specs.Answers.{Judges, IsStepChange};
 ghost use Rattle.bank_edits.specs.Steps.{refusal};
 
 use crate::cause::Cause;
-use crate::causes::{
-    full, no_next_zone, no_such_owner, no_such_zone, not_joinable, split_outside,
-};
+use crate::causes::{full, no_next_zone, no_such_owner, no_such_zone, not_joinable, split_outside};
 use crate::edit::Step;
 use bank_core::{Bank, Owner, Place};
 use generators::{Range, operators};

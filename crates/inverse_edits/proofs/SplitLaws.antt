@@ -1,5 +1,5 @@
 -- Undo restores, for the forms that split zones and join them.
-use Rattle.std.proofs.Common.{◌≡◌, ◌<◌, ◌+◌, ◌^◌, ℕ, true, List, length, Some, unwrap_or, refl, ap, ◌∙◌, arith}
+use Rattle.std.proofs.Common.{◌≡◌, ◌<◌, ◌+◌, ◌^◌, ℕ, true, List, length, Some, unwrap_or, refl, ap, ◌∙◌}
 use Rattle.std.specs.Prelude.{slice_get}
 use Rattle.numbered_lists.proofs.Lists.{slice_get-within, slice_get-changed}
 use Rattle.generators.specs.Ranges.{IsRange}
