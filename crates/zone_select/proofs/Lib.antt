@@ -3,3 +3,6 @@ pub mod PairLaws
 pub mod ZoneLaws
 pub mod LeftLaws
 pub mod ModulatorLaws
+pub mod ChosenLaws
+pub mod LinearLaws
+pub mod SpanLaws

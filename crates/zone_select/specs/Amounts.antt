@@ -1,6 +1,6 @@
 -- The amounts of a pair of zones, of which v is taken of the instrument's zone and u of the preset's; and the
 -- numbers that a voice plays by.
-use Rattle.std.specs.Prelude.{ℕ, ◌==◌, ◌||◌, ◌&&◌, Bool, cond, nat_le, ℤ, pos, negsuc, ◌+ℤ◌, ◌-ℤ◌, ◌*ℤ◌, int_le, int_lt, List, [], ◌∷◌, length, map, fold, reverse, Option, unwrap_or}
+use Rattle.std.specs.Prelude.{ℕ, ◌==◌, ◌||◌, ◌&&◌, Bool, cond, nat_le, ℤ, pos, negsuc, ◌+ℤ◌, ◌-ℤ◌, ◌*ℤ◌, int_le, int_lt, List, [], ◌∷◌, length, map, fold, reverse, Option, Some, None, unwrap_or}
 use Rattle.std.specs.Int.{w16, cast_signed, int_max, int_min}
 use Rattle.std.specs.List.{find}
 use Rattle.std.specs.Option.{option_or, option_map_or, is_some}
@@ -123,11 +123,18 @@ loop_end_of v u s = option_map_or (λ l. pos l.1) s.looped (pos 0) +ℤ offset v
 abbrev pub mode_of : Taken → Taken → ℕ
 mode_of v u = floor_mod (amount v u 54) 4
 
+abbrev pub asks_for_loop : Taken → Taken → Bool
+asks_for_loop v u = mode_of v u == 1 || mode_of v u == 3
+
 -- the zone asks for a loop, the sample has one, and it lies in what is played
 unfoldable pub is_looped : Taken → Taken → Sample → Bool
 is_looped v u s =
-    (mode_of v u == 1 || mode_of v u == 3) && is_some s.looped
+    asks_for_loop v u && is_some s.looped
     && int_le (pos (start_of v u s)) (loop_start_of v u s) && int_lt (loop_start_of v u s) (loop_end_of v u s) && int_le (loop_end_of v u s) (pos (end_of v u s))
+
+-- both ends of the loop
+unfoldable pub loop_of : Taken → Taken → Sample → Option (ℕ × ℕ)
+loop_of v u s = cond (is_looped v u s) (Some (above_zero (loop_start_of v u s), above_zero (loop_end_of v u s))) None
 
 -- all of them, for a sample; the ends of a loop are 0 where there is none
 unfoldable pub parameters_of : Numbers → Taken → Taken → Sample → VoiceParameters

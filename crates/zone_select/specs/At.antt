@@ -1,5 +1,5 @@
 -- What is taken of the zones of a pair, by what a bank tells of them.
-use Rattle.std.specs.Prelude.{ℕ, List, [], None, cond, unwrap_or}
+use Rattle.std.specs.Prelude.{ℕ, List, [], Option, None, cond, unwrap_or}
 use Rattle.std.specs.Option.{option_or}
 use Rattle.generators.specs.Ranges.{is_range_operator}
 use Rattle.bank_core.specs.declared.members.Owner.{Owner}
@@ -7,10 +7,14 @@ use Rattle.bank_core.specs.declared.members.Owner.TheVariants as owner
 use Rattle.bank_core.specs.declared.members.Place.{Place}
 use Rattle.bank_core.specs.declared.members.Place.TheVariants as place
 use Rattle.modulators.specs.declared.modulator.Modulator.{Modulator}
-use Rattle.bank_core.specs.Members.{amount_of, mods_of}
+use Rattle.bank_core.specs.Members.{amount_of, mods_of, target_of}
 use Rattle.bank_parts.specs.declared.parts.Parts.{Parts}
+use Rattle.note_list.specs.Notes.{Numbers}
 use Rattle.zone_select.specs.declared.amounts.PairAt.{PairAt}
+use Rattle.zone_select.specs.declared.chosen.ChosenAt.{ChosenAt}
 use Rattle.zone_select.specs.Taken.{Taken}
+use Rattle.zone_select.specs.Pairs.{Chosen}
+use Rattle.zone_select.specs.Left.{owner_holds}
 
 -- the modulators of a place; none where there is no such place
 abbrev pub mods_at : Parts → Owner → Place → List Modulator
@@ -29,3 +33,13 @@ inner_at b at = taken_at b (owner.Instrument at.instrument) at.inner
 
 abbrev pub outer_at : Parts → PairAt → Taken
 outer_at b at = taken_at b (owner.Preset at.preset) at.outer
+
+-- ---- a pair
+
+-- the target of zone k of an owner, if the zone holds the note
+abbrev pub target_held : Parts → Numbers → Owner → ℕ → Option ℕ
+target_held b n o k = cond (owner_holds b n o k) (target_of b o k) None
+
+-- what is taken of both zones, and the sample's number
+abbrev pub chosen_at : Parts → ChosenAt → Chosen
+chosen_at b c = record { inner = inner_at b c.zones; outer = outer_at b c.zones; sample = c.sample }

@@ -8,6 +8,7 @@ ghost use Rattle.zone_select.specs.Amounts.{amount, last_like, modulator_like, m
 ghost use Rattle.zone_select.specs.At.{mods_at, taken_at, inner_at, outer_at};
 
 use bank_core::{Bank, Owner, Place};
+use generators::operators::EXCLUSIVE_CLASS;
 use generators::{Level, allowed, default_of};
 use modulators::Modulator;
 
@@ -50,6 +51,22 @@ pub(crate) fn amount(bank: &Bank<'_>, at: &PairAt, operator: u16) -> i32
         0
     };
     i32::from(inner) + i32::from(outer)
+}
+
+// The exclusive class, which is the instrument's alone.
+#[tactic(auto, using(crate::proofs::LinearLaws::class_is))]
+pub(crate) fn class(bank: &Bank<'_>, at: &PairAt) -> i16
+    ensures { result ≡ amount (inner_at bank.now at.now) (outer_at bank.now at.now) 57 }
+{
+    match amount_at(
+        bank,
+        Owner::Instrument(at.instrument),
+        at.inner,
+        EXCLUSIVE_CLASS,
+    ) {
+        Some(amount) => amount.cast_signed(),
+        None => 0,
+    }
 }
 
 // The last modulator of a place with this identity.

@@ -1,13 +1,18 @@
-//! Which zones of a bank a note selects (SoundFont 2.04, sections 7 and 9.4), and by definition the
-//! numbers that their voices play by.
+//! Which zones of a bank a note selects (SoundFont 2.04, sections 7 and 9.4), and the numbers that
+//! their voices play by.
 #![tactic(auto)]
 
 mod amounts;
+mod chosen;
 mod laws;
+mod levels;
+mod linear;
 mod pairs;
 mod parameters;
+mod pitches;
+mod spans;
 mod zones;
 
 pub use laws::selected_by_pairs;
 pub use pairs::{ZonePairs, matches};
-pub use parameters::VoiceParameters;
+pub use parameters::{VoiceParameters, params, sample_of};

@@ -1,4 +1,22 @@
 //! The numbers that the voice of a pair of zones plays by.
+ghost use Rattle.std.specs.Prelude.{◌≡◌, ◌<◌, ◌^◌, length, IfSome};
+ghost use Rattle.std.specs.Option.{option_map};
+ghost use Rattle.zone_select.specs.Amounts.{parameters_of};
+ghost use Rattle.zone_select.specs.At.{inner_at, outer_at};
+ghost use Rattle.zone_select.specs.Pairs.{chosen_by, voice_by};
+ghost use Rattle.zone_select.specs.Playable.{IsPlayable};
+
+use crate::amounts::{PairAt, class};
+use crate::chosen::chosen;
+use crate::levels::{attenuation, moved_time, pan, sustain, time};
+use crate::pitches::step_through;
+use crate::spans::{UNTIL_RELEASE, loop_within, mode, span_of};
+use bank_core::Bank;
+use bank_parts::Sample;
+use generators::operators::{
+    ATTACK_VOL_ENV, DECAY_VOL_ENV, DELAY_VOL_ENV, HOLD_VOL_ENV, RELEASE_VOL_ENV,
+};
+use note_list::Note;
 
 /// The numbers that a voice plays by beside the points of its sample (SoundFont 2.04, sections 8.1.2
 /// and 9). Points are counted from the sample's first, times are frames of 1/44100 second.
@@ -38,4 +56,55 @@ pub struct VoiceParameters {
     pub length: u32,
     /// The exclusive class; 0 for none.
     pub class: i16,
+}
+
+/// The numbers that the voice of a pair of zones plays by: those of the first preset with the note's
+/// bank number and number, each zone by its number. None where there are no such zones, or they don't
+/// both hold the note. It takes no memory.
+pub fn params(bank: &Bank<'_>, note: &Note, pair: (u32, u32)) -> Option<VoiceParameters>
+    ensures value { result ≡ option_map (λ v. v.parameters) (voice_by bank.now note.now pair) }
+    ensures playable { IfSome (voice_by bank.now note.now pair) (λ v. IsPlayable (length v.points) v.parameters) }
+{
+    // What the bank tells of its totals is that it keeps within the limits.
+    let _ = bank.totals();
+    let chosen = chosen(bank, note, pair)?;
+    let sample = bank.sample(chosen.sample)?;
+    Some(parameters_of(bank, note, &chosen.zones, sample))
+}
+
+/// The number of the sample that the voice of a pair of zones plays; none as [`params`] says.
+pub fn sample_of(bank: &Bank<'_>, note: &Note, pair: (u32, u32)) -> Option<u32>
+    ensures { result ≡ option_map (λ c. c.sample) (chosen_by bank.now note.now pair) }
+{
+    Some(chosen(bank, note, pair)?.sample)
+}
+
+// Those of two zones and their sample.
+#[tactic(auto, using(crate::proofs::SpanLaws::loop_there, crate::proofs::SpanLaws::loop_start_is, crate::proofs::SpanLaws::loop_end_is), unfolding(crate::specs::Amounts::parameters_of))]
+fn parameters_of(bank: &Bank<'_>, note: &Note, at: &PairAt, sample: &Sample<'_>) -> VoiceParameters
+    requires { length sample.now.points < 2 ^ 32 }
+    ensures { result ≡ parameters_of note.now (inner_at bank.now at.now) (outer_at bank.now at.now) sample.now }
+{
+    let span = span_of(bank, at, sample);
+    let looped = loop_within(bank, at, sample, &span);
+    let (loop_start, loop_end) = looped.unwrap_or((0, 0));
+    VoiceParameters {
+        start: span.start,
+        end: span.end,
+        loop_start,
+        loop_end,
+        looped: looped.is_some(),
+        until_release: mode(bank, at) == UNTIL_RELEASE,
+        step: step_through(bank, note, at, sample),
+        delay: time(bank, at, DELAY_VOL_ENV),
+        attack: moved_time(bank, note, at, ATTACK_VOL_ENV),
+        hold: time(bank, at, HOLD_VOL_ENV),
+        decay: moved_time(bank, note, at, DECAY_VOL_ENV),
+        release: moved_time(bank, note, at, RELEASE_VOL_ENV),
+        sustain: sustain(bank, note, at),
+        attenuation: attenuation(bank, note, at),
+        pan: pan(bank, note, at),
+        length: note.length(),
+        class: class(bank, at),
+    }
 }

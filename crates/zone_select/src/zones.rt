@@ -39,7 +39,7 @@ fn range_at(bank: &Bank<'_>, owner: Owner, zone: u32, operator: u16) -> Range
 }
 
 // Whether a zone that is there holds the note.
-fn holds(bank: &Bank<'_>, note: &Note, owner: Owner, zone: u32) -> bool
+pub(crate) fn holds(bank: &Bank<'_>, note: &Note, owner: Owner, zone: u32) -> bool
     requires { zone < zones_in bank.now owner }
     ensures { result ≡ owner_holds bank.now note.now owner zone }
 {

@@ -1,0 +1,154 @@
+-- The loop of a voice, and the ranges in which its parameters lie.
+use Rattle.std.proofs.Common.{◌≡◌, ◌≤◌, ◌<◌, ◌/◌, ◌%◌, ◌+◌, ◌*◌, ℕ, ℤ, pos, negsuc, ◌+ℤ◌, ◌≤ℤ◌, Bool, true, false, cond, ◌&&◌, List, length, Option, Some, None, slice_get, unwrap_or, IfSome, min, max, refl, sym, ap, ◌∙◌, arith}
+use Rattle.std.specs.Prelude.{int_le, int_lt}
+use Rattle.std.specs.Int.{int_min, int_max}
+use Rattle.std.specs.Option.{option_map, option_and_then, is_some}
+use Rattle.std.proofs.lemmas.Bool.{leb-true, ltb-true, false≢true}
+use Rattle.std.proofs.lemmas.Int.{ints, clamps}
+use Rattle.std.proofs.lemmas.Nat.{mod_below, div-add-mod'}
+use Rattle.std.proofs.lemmas.Option.{get_or_from_slice_get, slice_get_within}
+use Rattle.std.proofs.lemmas.List.Sums.{get_or-le-sum_by}
+use Rattle.note_list.specs.Notes.{Numbers}
+use Rattle.bank_parts.specs.declared.parts.Sample.{Sample}
+use Rattle.bank_parts.specs.declared.parts.Parts.{Parts}
+use Rattle.bank_parts.specs.Sound.{IsSound}
+use Rattle.sound_tables.specs.Floor.{floor_div, floor_mod, above_zero}
+use Rattle.sound_tables.specs.Tables.{ratio, step_at, step_of}
+use Rattle.sound_tables.proofs.FloorLemmas.{floor_div_is, floor_mod_is}
+use Rattle.sound_tables.proofs.OctaveLemmas.{step_case, step_bound}
+use Rattle.zone_select.specs.Taken.{Taken}
+use Rattle.zone_select.specs.Amounts.{cut, start_of, end_of, offset, mode_of, asks_for_loop, loop_start_of, loop_end_of, is_looped, loop_of, cents_of, parameters_of}
+use Rattle.zone_select.specs.Select.{voice_of}
+use Rattle.zone_select.specs.Pairs.{Chosen, chosen_by, chosen_voice, voice_by}
+use Rattle.zone_select.specs.Playable.{IsPlayable}
+
+-- ---- the loop
+
+fails : {X : Type 0} (m a b c : Bool) (x : Option X) → None ≡ cond (m && false && a && b && c) x None
+fails true a b c x = refl
+fails false a b c x = refl
+
+pub no_loop : (v u : Taken) (s : Sample) → s.looped ≡ None → None ≡ loop_of v u s
+unfolding loop_of is_looped
+no_loop v u s e = rw e (fails (asks_for_loop v u) _ _ _ _)
+
+pub not_asked : (v u : Taken) (s : Sample) → asks_for_loop v u ≡ false → None ≡ loop_of v u s
+unfolding loop_of is_looped
+not_asked v u s e = rw e refl
+
+-- both ends, if they are in order and lie in what is played
+abbrev pub ends_within : ℤ → ℤ → ℕ → ℕ → Option (ℕ × ℕ)
+ends_within first after start end = cond (int_le (pos start) first && int_lt first after && int_le after (pos end)) (Some (above_zero first, above_zero after)) None
+
+pub loop_is : (v u : Taken) (s : Sample) (l : ℕ × ℕ) → s.looped ≡ Some l → asks_for_loop v u ≡ true
+    → ends_within (pos l.0 +ℤ offset v u 2 45) (pos l.1 +ℤ offset v u 3 50) (start_of v u s) (end_of v u s) ≡ loop_of v u s
+unfolding loop_of is_looped
+loop_is v u s l e m = rw (e, m) refl
+
+pub loop_by : (v u : Taken) (s : Sample) (l : ℕ × ℕ) (x y : ℤ) (start end : ℕ) → s.looped ≡ Some l → asks_for_loop v u ≡ true → x ≡ pos l.0 +ℤ offset v u 2 45 → y ≡ pos l.1 +ℤ offset v u 3 50
+    → start ≡ start_of v u s → end ≡ end_of v u s → ends_within x y start end ≡ loop_of v u s
+loop_by v u s l x y start end e m p q f g = rw (p, q, f, g) (loop_is v u s l e m)
+
+some_if : {X : Type 0} (t : Bool) (x : X) → is_some (cond t (Some x) None) ≡ t
+some_if true x = refl
+some_if false x = refl
+
+first_if : (t : Bool) (a b : ℕ) → (unwrap_or {T = ℕ × ℕ} (cond t (Some (a, b)) None) (0, 0)).0 ≡ cond t a 0
+first_if true a b = refl
+first_if false a b = refl
+
+second_if : (t : Bool) (a b : ℕ) → (unwrap_or {T = ℕ × ℕ} (cond t (Some (a, b)) None) (0, 0)).1 ≡ cond t b 0
+second_if true a b = refl
+second_if false a b = refl
+
+pub loop_there : (v u : Taken) (s : Sample) → is_some (loop_of v u s) ≡ is_looped v u s
+unfolding loop_of
+loop_there v u s = some_if (is_looped v u s) _
+
+pub loop_start_is : (v u : Taken) (s : Sample) → (unwrap_or (loop_of v u s) (0, 0)).0 ≡ cond (is_looped v u s) (above_zero (loop_start_of v u s)) 0
+unfolding loop_of
+loop_start_is v u s = first_if (is_looped v u s) _ _
+
+pub loop_end_is : (v u : Taken) (s : Sample) → (unwrap_or (loop_of v u s) (0, 0)).1 ≡ cond (is_looped v u s) (above_zero (loop_end_of v u s)) 0
+unfolding loop_of
+loop_end_is v u s = second_if (is_looped v u s) _ _
+
+-- ---- the ranges of the parameters
+
+below : (z : ℤ) (high : ℕ) → z ≤ℤ pos high → above_zero z ≤ high
+below (pos a) high h = omega (arith, ints, h)
+below (negsuc a) high h = omega arith
+
+cut_most : (low high : ℕ) (z : ℤ) → cut low high z ≤ high
+cut_most low high z = below (int_min (int_max z (pos low)) (pos high)) high (omega (arith, ints, clamps))
+
+both : (a b : Bool) → (a && b) ≡ true → (a ≡ true) × (b ≡ true)
+both true b h = (refl, h)
+both false b h = absurd (false≢true h)
+
+in_order : (start end : ℕ) (p q : ℤ) → int_le (pos start) p ≡ true → int_lt p q ≡ true → int_le q (pos end) ≡ true → (above_zero p < above_zero q) × (above_zero q ≤ end)
+in_order start end (pos a) (pos b) e f g = (ltb-true a b f, leb-true b end g)
+in_order start end (pos a) (negsuc b) e f g = absurd (false≢true f)
+in_order start end (negsuc a) q e f g = absurd (false≢true e)
+
+loop_lies : (v u : Taken) (s : Sample) → is_looped v u s ≡ true → (above_zero (loop_start_of v u s) < above_zero (loop_end_of v u s)) × (above_zero (loop_end_of v u s) ≤ end_of v u s)
+unfolding is_looped
+loop_lies v u s e =
+    let last = both _ _ e in
+    let middle = both _ _ last.0 in
+    let first = both _ _ middle.0 in
+    in_order (start_of v u s) (end_of v u s) (loop_start_of v u s) (loop_end_of v u s) first.1 middle.1 last.1
+
+above_least : (z : ℤ) (k : ℕ) → pos 0 ≤ℤ (z +ℤ pos k) → (m : ℕ) × (z +ℤ pos k ≡ pos m)
+above_least z k h = from (z +ℤ pos k) refl h
+  where
+    from : (y : ℤ) → z +ℤ pos k ≡ y → pos 0 ≤ℤ y → (m : ℕ) × (z +ℤ pos k ≡ pos m)
+    from (pos m) e h = (m, e)
+    from (negsuc m) e h = absurd (omega (arith, ints, h))
+
+step_most : (cents : ℤ) (rate : ℕ) → step_of cents rate ≤ 73043661
+step_most cents rate = at (int_min (int_max cents (negsuc 14399)) (pos 9600)) (min (max rate 400) 192000) (omega (arith, ints, clamps)) (omega (arith, ints, clamps)) (omega arith)
+  where
+    at : (x : ℤ) (r : ℕ) → negsuc 14399 ≤ℤ x → x ≤ℤ pos 9600 → r ≤ 192000 → step_at x r ≤ 73043661
+    at x r low high h =
+        let up = above_least x 14400 (omega (arith, ints, low)) in
+        let is : x +ℤ pos (12 * 1200) ≡ pos up.0 = up.1 in
+        let few : up.0 ≤ 24000 = omega (arith, ints, is, high) in
+        let d : up.0 / 1200 * 1200 + up.0 % 1200 ≡ up.0 = div-add-mod' up.0 1200 in
+        let m : up.0 % 1200 < 1200 = mod_below up.0 1200 (omega arith) in
+        let e = step_case x (up.0 / 1200) (up.0 % 1200) r (floor_div_is x 12 1200 up.0 (omega arith) is) (sym (floor_mod_is x 12 1200 up.0 (omega arith) is)) in
+        let b = step_bound (up.0 / 1200) (up.0 % 1200) r (omega (arith, d, few)) m h in
+        rw e b
+
+pub playable : (n : Numbers) (v u : Taken) (s : Sample) → IsPlayable (length s.points) (parameters_of n v u s)
+unfolding parameters_of
+playable n v u s = record {
+  inside = cut_most (start_of v u s) (length s.points) _;
+  ordered = λ e. rw e ((loop_lies v u s e).0);
+  loop_inside = λ e. rw e ((loop_lies v u s e).1);
+  step = step_most (cents_of n v u s) s.rate;
+  left = omega (arith, ints, clamps);
+  right = omega (arith, ints, clamps);
+}
+
+pub voices_playable : (b : Parts) (n : Numbers) (q : ℕ × ℕ) → IfSome (voice_by b n q) (λ v. IsPlayable (length v.points) v.parameters)
+unfolding voice_of
+voices_playable b n q =
+    elim (chosen_by b n q) as (λ (o : Option Chosen). IfSome (option_and_then (chosen_voice b n) o) (λ v. IsPlayable (length v.points) v.parameters)) [
+      | None ↦ tt
+      | Some c ↦ elim (slice_get b.samples c.sample) as (λ (o : Option Sample). IfSome (option_map (voice_of n c.inner c.outer) o) (λ v. IsPlayable (length v.points) v.parameters)) [ None ↦ tt | Some s ↦ playable n c.inner c.outer s ]
+    ]
+
+pub parameters_by : (b : Parts) (n : Numbers) (q : ℕ × ℕ) (c : Chosen) (s : Sample) → chosen_by b n q ≡ Some c → slice_get b.samples c.sample ≡ Some s
+    → Some (parameters_of n c.inner c.outer s) ≡ option_map (λ v. v.parameters) (voice_by b n q)
+unfolding voice_of
+parameters_by b n q c s e f = rw (e, f) refl
+
+-- ---- a sample's points
+
+pub points_few : (b : Parts) (k : ℕ) (s : Sample) → IsSound b → slice_get b.samples k ≡ Some s → length s.points < 4294967296
+points_few b k s sound e =
+    let h = get_or-le-sum_by (λ (x : Sample). length x.points + 46) b.samples k s (slice_get_within b.samples k s e) in
+    let same = ap (λ (x : Sample). length x.points + 46) (get_or_from_slice_get b.samples k s s e) in
+    let most = sound.valid.limits.points in
+    omega (arith, h, same, most)

@@ -1,0 +1,16 @@
+use Rattle.std.proofs.Common.{Some, sym, ap, ◌∙◌}
+use Rattle.zone_select.specs.At.{chosen_at}
+use Rattle.zone_select.specs.declared.parameters.VoiceParameters.{VoiceParameters}
+use Rattle.zone_select.proofs.SpanLaws.{points_few, parameters_by, voices_playable}
+use Rattle.zone_select.proofs.parameters.params.Goals as goal
+
+pub parameters_of-requires : goal.parameters_of-requires
+parameters_of-requires c = points_few c.args.bank.now c.in_ok-chosen.chosen.sample c.in_ok-sample.sample.now c.totals.ensures.sound (sym c.in_ok-sample.ensures)
+
+pub returns-clause-value : goal.returns-clause-value
+returns-clause-value c =
+    ap (λ (v : VoiceParameters). Some v) c.parameters_of.ensures
+    ∙ parameters_by c.args.bank.now c.args.note.now c.args.pair (chosen_at c.args.bank.now c.in_ok-chosen.chosen) c.in_ok-sample.sample.now (sym c.in_ok-chosen.ensures) (sym c.in_ok-sample.ensures)
+
+pub returns-clause-playable : goal.returns-clause-playable
+returns-clause-playable c = voices_playable c.args.bank.now c.args.note.now c.args.pair

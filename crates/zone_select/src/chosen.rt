@@ -1,0 +1,46 @@
+//! The zones of a pair that hold a note.
+ghost use Rattle.std.specs.Prelude.{◌≡◌};
+ghost use Rattle.std.specs.Option.{option_map};
+ghost use Rattle.zone_select.specs.At.{target_held, chosen_at};
+ghost use Rattle.zone_select.specs.Pairs.{chosen_by};
+
+use crate::amounts::PairAt;
+use crate::pairs::first_called;
+use crate::zones::holds;
+use bank_core::{Bank, Owner};
+use note_list::Note;
+
+// Two zones that hold a note, and the number of the sample that is played.
+#[derive(Debug, Clone, Copy, PartialEq, Eq)]
+pub(crate) struct ChosenAt {
+    pub(crate) zones: PairAt,
+    pub(crate) sample: u32,
+}
+
+// The zones of a pair of numbers, if both are there and hold the note.
+pub(crate) fn chosen(bank: &Bank<'_>, note: &Note, pair: (u32, u32)) -> Option<ChosenAt>
+    ensures { option_map (chosen_at bank.now) result ≡ chosen_by bank.now note.now pair }
+{
+    let (outer, inner) = pair;
+    let preset = first_called(bank, note)?;
+    let instrument = held_target(bank, note, Owner::Preset(preset), outer)?;
+    let sample = held_target(bank, note, Owner::Instrument(instrument), inner)?;
+    let zones = PairAt {
+        preset,
+        outer,
+        instrument,
+        inner,
+    };
+    Some(ChosenAt { zones, sample })
+}
+
+// The target of a zone, if it is there and holds the note.
+fn held_target(bank: &Bank<'_>, note: &Note, owner: Owner, zone: u32) -> Option<u32>
+    ensures { result ≡ target_held bank.now note.now owner zone }
+{
+    let target = bank.target(owner, zone)?;
+    if !holds(bank, note, owner, zone) {
+        return None;
+    }
+    Some(u32::from(target))
+}

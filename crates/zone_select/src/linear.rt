@@ -1,0 +1,82 @@
+//! The amounts of generators that linear modulators move.
+ghost use Rattle.std.specs.Prelude.{◌≡◌, ◌<◌, ◌≤◌, ◌≤ℤ◌, ◌+ℤ◌, ◌*ℤ◌, pos, negsuc, false, map};
+ghost use Rattle.generators.specs.Ranges.{is_range_operator};
+ghost use Rattle.sound_tables.specs.Floor.{floor_div};
+ghost use Rattle.zone_select.specs.Amounts.{linear_part, linear_sources, sum_of, moved};
+ghost use Rattle.zone_select.specs.At.{inner_at, outer_at};
+
+use crate::amounts::{PairAt, amount, modulator_amount};
+use crate::pitches::{key, velocity};
+use bank_core::Bank;
+use modulators::{Modulator, linear_value};
+use note_list::Note;
+
+/// The sources of linear modulators: the velocity or the key, rising or falling, of one polarity or two.
+const LINEAR_SOURCES: [u16; 8] = [2, 3, 258, 259, 514, 515, 770, 771];
+
+// So many of `whole` parts of an amount, rounded down.
+pub(crate) fn part_of(amount: i32, parts: i32, whole: u32) -> i32
+    requires amount { (negsuc 65535 ≤ℤ amount) × (amount ≤ℤ pos 65534) }
+    requires parts { (pos 0 ≤ℤ (parts +ℤ pos whole)) × (parts ≤ℤ pos whole) }
+    requires whole { (0 < whole) × (whole ≤ 1000) }
+    ensures value { result ≡ floor_div (amount *ℤ parts) whole }
+    ensures within { (negsuc 65535 ≤ℤ result) × (result ≤ℤ pos 65536) }
+{
+    (amount * parts).div_euclid(whole as i32)
+}
+
+// What the linear modulators from a source to a generator add to it.
+fn linear_part(
+    bank: &Bank<'_>,
+    at: &PairAt,
+    key: u8,
+    velocity: u8,
+    operator: u16,
+    source: u16,
+) -> i32
+    requires key { key ≤ 127 }
+    requires velocity { velocity ≤ 127 }
+    ensures value { result ≡ linear_part key velocity (inner_at bank.now at.now) (outer_at bank.now at.now) operator source }
+    ensures within { (negsuc 65535 ≤ℤ result) × (result ≤ℤ pos 65536) }
+{
+    let modulator = Modulator {
+        source,
+        dest: operator,
+        amount: 0,
+        amount_source: 0,
+        transform: 0,
+    };
+    match linear_value(&modulator, key, velocity) {
+        Some(value) => {
+            let most = modulator_amount(bank, at, &modulator, 0);
+            part_of(most, i32::from(value), 128)
+        }
+        None => 0,
+    }
+}
+
+// What all linear modulators of a generator add to it.
+fn linear_parts(bank: &Bank<'_>, at: &PairAt, key: u8, velocity: u8, operator: u16) -> i32
+    requires key { key ≤ 127 }
+    requires velocity { velocity ≤ 127 }
+    ensures value { result ≡ sum_of (map (linear_part key velocity (inner_at bank.now at.now) (outer_at bank.now at.now) operator) linear_sources) }
+    ensures within { (negsuc 524287 ≤ℤ result) × (result ≤ℤ pos 524288) }
+{
+    let mut sum = 0;
+    for source in LINEAR_SOURCES {
+        sum += linear_part(bank, at, key, velocity, operator, source);
+    }
+    sum
+}
+
+// The amount of an operator with what linear modulators add to it.
+#[tactic(auto, unfolding(crate::specs::Amounts::moved_amount))]
+pub(crate) fn moved(bank: &Bank<'_>, note: &Note, at: &PairAt, operator: u16) -> i32
+    requires { is_range_operator operator ≡ false }
+    ensures value { result ≡ moved note.now (inner_at bank.now at.now) (outer_at bank.now at.now) operator }
+    ensures within { (negsuc 589823 ≤ℤ result) × (result ≤ℤ pos 589824) }
+{
+    let key = key(bank, note, at);
+    let velocity = velocity(bank, note, at);
+    amount(bank, at, operator) + linear_parts(bank, at, key, velocity, operator)
+}

@@ -1,0 +1,99 @@
+//! The key and the velocity of a voice, and how fast it goes through its sample.
+ghost use Rattle.std.specs.Prelude.{◌≡◌, ◌≤◌, ◌≤ℤ◌, ◌+ℤ◌, ◌-ℤ◌, ◌*ℤ◌, pos, negsuc};
+ghost use Rattle.sound_tables.specs.Tables.{step_of};
+ghost use Rattle.zone_select.specs.Amounts.{chosen, key_of, velocity_of, root_of, cents_of};
+ghost use Rattle.zone_select.specs.At.{inner_at, outer_at};
+
+use crate::amounts::{PairAt, amount};
+use crate::linear::moved;
+use bank_core::Bank;
+use bank_parts::Sample;
+use generators::operators::{
+    COARSE_TUNE, FINE_TUNE, KEYNUM, OVERRIDING_ROOT_KEY, SCALE_TUNING, VELOCITY,
+};
+use note_list::Note;
+use sound_tables::step;
+
+/// The key of a sample that says none: the middle C.
+const MIDDLE_KEY: u8 = 60;
+
+// A number from 0 to 127, else the other one.
+fn up_to_127(number: i32, other: u8) -> u8
+    ensures value { result ≡ chosen number other }
+    ensures within { other ≤ 127 → result ≤ 127 }
+{
+    if 0 <= number && number <= 127 {
+        number as u8
+    } else {
+        other
+    }
+}
+
+// The key that the voice plays: the zones' own, else the note's.
+pub(crate) fn key(bank: &Bank<'_>, note: &Note, at: &PairAt) -> u8
+    ensures value { result ≡ key_of note.now (inner_at bank.now at.now) (outer_at bank.now at.now) }
+    ensures within { result ≤ 127 }
+{
+    up_to_127(amount(bank, at, KEYNUM), note.key())
+}
+
+// The velocity that the voice has: the zones' own, else the note's.
+pub(crate) fn velocity(bank: &Bank<'_>, note: &Note, at: &PairAt) -> u8
+    ensures value { result ≡ velocity_of note.now (inner_at bank.now at.now) (outer_at bank.now at.now) }
+    ensures within { result ≤ 127 }
+{
+    up_to_127(amount(bank, at, VELOCITY), note.velocity())
+}
+
+// The key at which the sample sounds as recorded.
+fn root(bank: &Bank<'_>, at: &PairAt, sample: &Sample<'_>) -> u8
+    ensures value { result ≡ root_of (inner_at bank.now at.now) (outer_at bank.now at.now) sample.now }
+    ensures within { result ≤ 127 }
+{
+    let own = if sample.key <= 127 {
+        sample.key
+    } else {
+        MIDDLE_KEY
+    };
+    up_to_127(amount(bank, at, OVERRIDING_ROOT_KEY), own)
+}
+
+// How far the voice goes through its sample in a frame, in 65536ths of a point.
+pub(crate) fn step_through(bank: &Bank<'_>, note: &Note, at: &PairAt, sample: &Sample<'_>) -> u32
+    ensures { result ≡ step_of (cents_of note.now (inner_at bank.now at.now) (outer_at bank.now at.now) sample.now) sample.now.rate }
+{
+    step(i64::from(cents(bank, note, at, sample)), sample.rate)
+}
+
+// So many times `tuning`.
+fn times(tuning: i32, keys: i32) -> i32
+    requires tuning { (negsuc 65535 ≤ℤ tuning) × (tuning ≤ℤ pos 65534) }
+    requires keys { (pos 0 ≤ℤ (keys +ℤ pos 127)) × (keys ≤ℤ pos 127) }
+    ensures value { result ≡ tuning *ℤ keys }
+    ensures within { (pos 0 ≤ℤ (result +ℤ pos 8323072)) × (result ≤ℤ pos 8323072) }
+{
+    tuning * keys
+}
+
+// The interval from a root to a key, of `tuning` cents for each key.
+fn interval(tuning: i32, key: u8, root: u8) -> i32
+    requires tuning { (negsuc 65535 ≤ℤ tuning) × (tuning ≤ℤ pos 65534) }
+    requires keys { (key ≤ 127) × (root ≤ 127) }
+    ensures value { result ≡ tuning *ℤ (pos key -ℤ pos root) }
+    ensures within { (pos 0 ≤ℤ (result +ℤ pos 8323072)) × (result ≤ℤ pos 8323072) }
+{
+    let keys = i32::from(key) - i32::from(root);
+    times(tuning, keys)
+}
+
+// The interval above the sample's own pitch, in cents.
+fn cents(bank: &Bank<'_>, note: &Note, at: &PairAt, sample: &Sample<'_>) -> i32
+    ensures { result ≡ cents_of note.now (inner_at bank.now at.now) (outer_at bank.now at.now) sample.now }
+{
+    let key = key(bank, note, at);
+    let root = root(bank, at, sample);
+    interval(amount(bank, at, SCALE_TUNING), key, root)
+        + 100 * amount(bank, at, COARSE_TUNE)
+        + moved(bank, note, at, FINE_TUNE)
+        + i32::from(sample.correction)
+}

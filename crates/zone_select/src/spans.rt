@@ -1,0 +1,116 @@
+//! Which points of its sample a voice plays.
+ghost use Rattle.std.specs.Prelude.{◌≡◌, ◌≤◌, ◌<◌, ◌^◌, ◌≤ℤ◌, ◌&&◌, pos, negsuc, false, cond, length, int_le, int_lt, Some, None};
+ghost use Rattle.generators.specs.Ranges.{is_range_operator};
+ghost use Rattle.sound_tables.specs.Floor.{above_zero};
+ghost use Rattle.zone_select.specs.Amounts.{offset, cut, start_of, end_of, mode_of, asks_for_loop, loop_of};
+ghost use Rattle.zone_select.specs.At.{inner_at, outer_at};
+
+use crate::amounts::{PairAt, amount};
+use bank_core::Bank;
+use bank_parts::Sample;
+use generators::operators::{
+    END_ADDRS_COARSE_OFFSET, END_ADDRS_OFFSET, ENDLOOP_ADDRS_COARSE_OFFSET, ENDLOOP_ADDRS_OFFSET,
+    SAMPLE_MODES, START_ADDRS_COARSE_OFFSET, START_ADDRS_OFFSET, STARTLOOP_ADDRS_COARSE_OFFSET,
+    STARTLOOP_ADDRS_OFFSET,
+};
+
+/// The points of a step of a coarse offset.
+const COARSE: i64 = 32_768;
+
+/// The mode of a voice that is looped to its end.
+const LOOPED: u8 = 1;
+
+/// The mode of a voice that is looped until the note's end.
+pub(crate) const UNTIL_RELEASE: u8 = 3;
+
+// The first point that is played, and the one after the last.
+#[derive(Debug, Clone, Copy, PartialEq, Eq)]
+pub(crate) struct Span {
+    pub(crate) start: u32,
+    pub(crate) end: u32,
+}
+
+// An offset in points: the fine one, and the coarse one in its steps.
+fn offset(bank: &Bank<'_>, at: &PairAt, fine: u16, coarse: u16) -> i64
+    requires fine { is_range_operator fine ≡ false }
+    requires coarse { is_range_operator coarse ≡ false }
+    ensures value { result ≡ offset (inner_at bank.now at.now) (outer_at bank.now at.now) fine coarse }
+    ensures within { (negsuc 2147549183 ≤ℤ result) × (result ≤ℤ pos 2147549184) }
+{
+    i64::from(amount(bank, at, fine)) + COARSE * i64::from(amount(bank, at, coarse))
+}
+
+// A number, cut to these ends.
+fn cut(number: i64, low: u32, high: u32) -> u32
+    ensures value { result ≡ cut low high number }
+    ensures most { result ≤ high }
+{
+    number.max(i64::from(low)).min(i64::from(high)) as u32
+}
+
+// The points of a sample that the zones take.
+pub(crate) fn span_of(bank: &Bank<'_>, at: &PairAt, sample: &Sample<'_>) -> Span
+    requires { length sample.now.points < 2 ^ 32 }
+    ensures start { result.start ≡ start_of (inner_at bank.now at.now) (outer_at bank.now at.now) sample.now }
+    ensures end { result.end ≡ end_of (inner_at bank.now at.now) (outer_at bank.now at.now) sample.now }
+{
+    let count = sample.points.len() as u32;
+    let from = offset(bank, at, START_ADDRS_OFFSET, START_ADDRS_COARSE_OFFSET);
+    let to = offset(bank, at, END_ADDRS_OFFSET, END_ADDRS_COARSE_OFFSET);
+    let start = cut(from, 0, count);
+    let end = cut(i64::from(count) + to, start, count);
+    Span { start, end }
+}
+
+// The low two bits of the mode that the zones ask for.
+#[tactic(auto, using(crate::proofs::LinearLaws::euclid_is_mod))]
+pub(crate) fn mode(bank: &Bank<'_>, at: &PairAt) -> u8
+    ensures value { result ≡ mode_of (inner_at bank.now at.now) (outer_at bank.now at.now) }
+    ensures within { result < 4 }
+{
+    amount(bank, at, SAMPLE_MODES).rem_euclid(4) as u8
+}
+
+// Whether the zones ask for a loop.
+fn asks_for_loop(bank: &Bank<'_>, at: &PairAt) -> bool
+    ensures { result ≡ asks_for_loop (inner_at bank.now at.now) (outer_at bank.now at.now) }
+{
+    matches!(mode(bank, at), LOOPED | UNTIL_RELEASE)
+}
+
+// The loop's first point and the one after its last, where the voice is looped: the zones ask for it,
+// the sample has a loop, and it lies in what is played.
+pub(crate) fn loop_within(
+    bank: &Bank<'_>,
+    at: &PairAt,
+    sample: &Sample<'_>,
+    span: &Span,
+) -> Option<(u32, u32)>
+    requires start { span.now.start ≡ start_of (inner_at bank.now at.now) (outer_at bank.now at.now) sample.now }
+    requires end { span.now.end ≡ end_of (inner_at bank.now at.now) (outer_at bank.now at.now) sample.now }
+    ensures { result ≡ loop_of (inner_at bank.now at.now) (outer_at bank.now at.now) sample.now }
+{
+    let (first, after) = sample.looped?;
+    if !asks_for_loop(bank, at) {
+        return None;
+    }
+    let later = offset(
+        bank,
+        at,
+        STARTLOOP_ADDRS_OFFSET,
+        STARTLOOP_ADDRS_COARSE_OFFSET,
+    );
+    let longer = offset(bank, at, ENDLOOP_ADDRS_OFFSET, ENDLOOP_ADDRS_COARSE_OFFSET);
+    ends_within(i64::from(first) + later, i64::from(after) + longer, span)
+}
+
+// Both ends of a loop, if they are in order and lie in what is played.
+fn ends_within(first: i64, after: i64, span: &Span) -> Option<(u32, u32)>
+    ensures { result ≡ cond (int_le (pos span.now.start) first && int_lt first after && int_le after (pos span.now.end)) (Some (above_zero first, above_zero after)) None }
+{
+    if i64::from(span.start) <= first && first < after && after <= i64::from(span.end) {
+        Some((first as u32, after as u32))
+    } else {
+        None
+    }
+}
