@@ -12,6 +12,8 @@ mod selection;
 #[cfg(test)]
 mod single_voices;
 #[cfg(test)]
+mod started_voices;
+#[cfg(test)]
 mod tables;
 #[cfg(test)]
 mod waves;

@@ -45,7 +45,7 @@ fn zones_of(alloc: Global, zones: &[(u16, Ranges<'_>)]) -> Result<NumberedList<Z
     Ok(NumberedList::from_vec(list))
 }
 
-fn preset_of(
+pub(crate) fn preset_of(
     alloc: Global,
     numbers: (u16, u16),
     global: Ranges<'_>,
@@ -65,7 +65,7 @@ fn preset_of(
     })
 }
 
-fn instrument_of(
+pub(crate) fn instrument_of(
     alloc: Global,
     global: Ranges<'_>,
     zones: &[(u16, Ranges<'_>)],
@@ -77,7 +77,7 @@ fn instrument_of(
     })
 }
 
-fn no_texts<'a>() -> Texts<'a> {
+pub(crate) fn no_texts<'a>() -> Texts<'a> {
     Texts {
         engine: Lent::new(b"EMU8000"),
         name: Lent::new(b""),

@@ -5,3 +5,4 @@ pub mod WriteLemmas
 pub mod RunLemmas
 pub mod SliceLemmas
 pub mod PhaseLemmas
+pub mod StartLaws

@@ -5,3 +5,4 @@ pub mod Envelope
 pub mod Sound
 pub mod Within
 pub mod Runs
+pub mod Starts

@@ -11,8 +11,10 @@ mod places;
 mod runs;
 mod sampled;
 mod slices;
+mod start;
 mod voice;
 
+pub use start::NoMatch;
 pub use voice::Voice;
 
 /// The law that a voice that is over at a frame is over at each later one. It does nothing.

@@ -1,0 +1,240 @@
+//! The voices of pairs of zones, of banks that scripts build.
+
+use crate::selection::{instrument_of, no_texts, preset_of};
+use bank_core::{Bank, Kind, Owners, Parts, Sample};
+use note_list::Note;
+use numbered_lists::NumberedList;
+use sample_view::Points;
+use sf_base::{Failure, Name20};
+use sf_reader::read;
+use sfbank::edit_run;
+use std::alloc::Global;
+use std::test::Fail;
+use voices::Voice;
+use worked_files::{empty, tone};
+use zone_select::params;
+
+/// A sample of the points 1000, 2000, -2000 with a loop from the second on, and one of one point.
+const THREE: &[u8] = b"add-sample 0 \"t\" 44100 60 0 mono loop 1 3 xe803d00730f8\n";
+
+const ONE: &[u8] = b"add-sample 0 \"c\" 44100 60 0 mono loop 0 1 xe803\n";
+
+const PRESET: &[u8] = b"add-preset 0 \"p\" 0 0 0 0 0 { 0 }\n";
+
+/// The frames of a voice.
+type Frames<'a> = &'a [(i32, i32)];
+
+// The file of a bank of a sample, an instrument and a preset of the numbers 0 and 0.
+fn file_of(alloc: Global, sample: &[u8], instrument: &[u8]) -> Result<Vec<u8>, Fail> {
+    let mut script = Vec::from_slice(alloc, sample)?;
+    script.extend_from_slice(instrument)?;
+    script.extend_from_slice(PRESET)?;
+    let mut out = Vec::new(alloc);
+    let mut undo = Vec::new(alloc);
+    edit_run(
+        alloc,
+        empty().bytes(),
+        script.as_slice(),
+        &mut out,
+        &mut undo,
+    )?;
+    Ok(out)
+}
+
+// The voice of the first zones of a file's bank, which is dropped once the voice is started.
+fn started<'a>(alloc: Global, file: &'a [u8], note: &Note) -> Result<Voice<'a>, Fail> {
+    let (bank, _counts) = read(alloc, file)?;
+    Ok(Voice::start(alloc, &bank, note, (0, 0))?)
+}
+
+// All frames of a voice, one by one; at most 1000.
+fn frames_of(alloc: Global, mut voice: Voice<'_>) -> Result<Vec<(i32, i32)>, Fail> {
+    let mut frames = Vec::new(alloc);
+    for _ in 0..1000 {
+        if voice.done() {
+            return Ok(frames);
+        }
+        frames.push(voice.next_frame())?;
+    }
+    Ok(frames)
+}
+
+/// Instruments over the sample of three points, a note's length and key, and its frames.
+const PLAYED: [(&[u8], (u32, u8), Frames<'static>); 5] = [
+    (
+        b"add-inst 0 \"i\" { 0 g 54 1 }\n",
+        (8, 67),
+        &[
+            (500, 500),
+            (3, 3),
+            (993, 993),
+            (-11, -11),
+            (-987, -987),
+            (16, 16),
+            (979, 979),
+            (-24, -24),
+        ],
+    ),
+    (
+        b"add-inst 0 \"i\" { 0 g 54 1 m 2 17 500 0 0 }\n",
+        (8, 67),
+        &[
+            (4, 996),
+            (0, 5),
+            (7, 1978),
+            (-1, -21),
+            (-8, -1966),
+            (0, 32),
+            (7, 1951),
+            (-1, -48),
+        ],
+    ),
+    (
+        b"add-inst 0 \"i\" { 0 g 54 1 m 3 52 128 0 0 }\n",
+        (2, 60),
+        &[(500, 500), (928, 928)],
+    ),
+    (
+        b"add-inst 0 \"i\" { 0 g 54 3 g 38 -11999 }\n",
+        (3, 60),
+        &[
+            (500, 500),
+            (1000, 1000),
+            (-1000, -1000),
+            (1000, 1000),
+            (-776, -776),
+        ],
+    ),
+    (b"add-inst 0 \"i\" { 0 }\n", (0, 60), &[]),
+];
+
+#[test]
+fn worked_voices(rt: HostRuntime) -> Result<(), Fail> {
+    for (instrument, sound, frames) in PLAYED {
+        let file = file_of(rt.alloc(), THREE, instrument)?;
+        let note = Note::new(0, sound.0, 0, 0, sound.1, 127).expect(&rt, "a note");
+        let voice = started(rt.alloc(), file.as_slice(), &note)?;
+        let found = frames_of(rt.alloc(), voice)?;
+        assert_eq!(rt; found.as_slice(), frames);
+    }
+    Ok(())
+}
+
+#[test]
+fn an_attack_and_a_release(rt: HostRuntime) -> Result<(), Fail> {
+    let instrument = b"add-inst 0 \"i\" { 0 g 17 500 g 34 -11999 g 38 -11999 g 54 1 }\n";
+    let file = file_of(rt.alloc(), ONE, instrument)?;
+    let note = Note::new(0, 50, 0, 0, 60, 127).expect(&rt, "a note");
+    let frames = frames_of(rt.alloc(), started(rt.alloc(), file.as_slice(), &note)?)?;
+    assert_eq!(rt; frames.len(), 93);
+    assert!(rt; frames.iter().all(|frame| frame.0 == 0));
+    let worked = [
+        (0, 0),
+        (1, 23),
+        (42, 976),
+        (43, 1000),
+        (50, 1000),
+        (71, 4),
+        (92, 0),
+    ];
+    for (frame, right) in worked {
+        assert_eq!(rt; frames.get(frame), Some(&(0, right)));
+    }
+    let empty = Note::new(0, 0, 0, 0, 60, 127).expect(&rt, "a note");
+    let frames = frames_of(rt.alloc(), started(rt.alloc(), file.as_slice(), &empty)?)?;
+    assert_eq!(rt; frames.len(), 43);
+    assert!(rt; frames.iter().all(|frame| *frame == (0, 0)));
+    Ok(())
+}
+
+#[test]
+fn a_decay_to_a_sustain(rt: HostRuntime) -> Result<(), Fail> {
+    let instrument =
+        b"add-inst 0 \"i\" { 0 g 17 500 g 34 -11999 g 36 -11999 g 37 60 g 38 -11999 g 54 1 }\n";
+    let file = file_of(rt.alloc(), ONE, instrument)?;
+    let note = Note::new(0, 50, 0, 0, 60, 127).expect(&rt, "a note");
+    let frames = frames_of(rt.alloc(), started(rt.alloc(), file.as_slice(), &note)?)?;
+    let worked = [
+        (43, 1000),
+        (44, 775),
+        (45, 601),
+        (46, 500),
+        (50, 500),
+        (71, 2),
+    ];
+    for (frame, right) in worked {
+        assert_eq!(rt; frames.get(frame), Some(&(0, right)));
+    }
+    Ok(())
+}
+
+#[test]
+fn the_later_modulator_and_the_class(rt: HostRuntime) -> Result<(), Fail> {
+    let instrument = b"add-inst 0 \"i\" { 0 g 54 1 g 57 1 m 2 17 500 0 0 m 2 17 250 0 2 }\n";
+    let file = file_of(rt.alloc(), THREE, instrument)?;
+    let (bank, _counts) = read(rt.alloc(), file.as_slice())?;
+    let note = Note::new(0, 8, 0, 0, 67, 127).expect(&rt, "a note");
+    let played = params(&bank, &note, (0, 0));
+    assert_eq!(rt;
+        played.map(|parameters| (parameters.pan, parameters.class)),
+        Some((248, 1))
+    );
+    Ok(())
+}
+
+#[test]
+fn no_such_pair(rt: HostRuntime) -> Result<(), Fail> {
+    let file = tone();
+    let (bank, _counts) = read(rt.alloc(), file.bytes())?;
+    let note = Note::new(0, 8, 0, 0, 67, 127).expect(&rt, "a note");
+    for pair in [(0, 1), (1, 0)] {
+        let voice = Voice::start(rt.alloc(), &bank, &note, pair);
+        assert!(rt; matches!(&voice, Err(Failure::Fault(_))));
+    }
+    Ok(())
+}
+
+// A bank of one sample, without a loop, of these points.
+fn bank_over<'a>(alloc: Global, points: Points<'a>) -> Result<Bank<'a>, Fail> {
+    let mut presets = Owners::new(alloc);
+    presets.push(preset_of(alloc, (0, 0), &[], &[(0, &[])])?)?;
+    let mut instruments = Owners::new(alloc);
+    instruments.push(instrument_of(alloc, &[], &[(0, &[])])?)?;
+    let mut samples = Vec::new(alloc);
+    samples.push(Sample {
+        name: Name20::from_bytes(b"s")?,
+        points,
+        looped: None,
+        rate: 44_100,
+        key: 60,
+        correction: 0,
+        kind: Kind::Mono,
+    })?;
+    Ok(Bank::from_parts(
+        alloc,
+        Parts {
+            minor: 4,
+            texts: no_texts(),
+            presets,
+            instruments,
+            samples: NumberedList::from_vec(samples),
+        },
+    )?)
+}
+
+#[test]
+fn a_sample_over_three_slices(rt: HostRuntime) -> Result<(), Fail> {
+    let middle = [1, 0, 2, 0, 3, 0, 4, 0, 5, 0, 6, 0, 7, 0, 8, 0, 9, 0, 10, 0];
+    let mut points = Points::of_slice(rt.alloc(), &middle)?;
+    let front = Points::of_slice(rt.alloc(), &[11, 0])?;
+    let back = Points::of_slice(rt.alloc(), &[12, 0])?;
+    assert!(rt; points.len() == 10 && front.len() == 1 && back.len() == 1);
+    assert!(rt; points.join(front, back).is_ok());
+    let bank = bank_over(rt.alloc(), points)?;
+    let note = Note::new(0, 12, 0, 0, 60, 127).expect(&rt, "a note");
+    let frames = frames_of(rt.alloc(), Voice::start(rt.alloc(), &bank, &note, (0, 0))?)?;
+    let left = [5, 0, 1, 1, 2, 2, 3, 3, 4, 4, 5, 6];
+    let worked = left.map(|side| (side, side));
+    assert_eq!(rt; frames.as_slice(), worked.as_slice());
+    Ok(())
+}

@@ -1,0 +1,47 @@
+//! The voice of a pair of zones.
+ghost use Rattle.std.specs.Prelude.{◌≡◌, Some, IfOk, IfErr};
+ghost use Rattle.std.specs.Option.{option_copied};
+ghost use Rattle.voices.specs.Starts.{sample_by, started, IsStartFault};
+
+use crate::voice::Voice;
+use bank_core::{Bank, Sample};
+use note_list::Note;
+use sf_base::Failure;
+use std::alloc::Global;
+use thiserror::Error;
+use zone_select::{params, sample_of};
+
+/// The note doesn't select the pair of zones.
+#[derive(Debug, Drop, Clone, Copy, PartialEq, Eq, Error)]
+#[error("the note does not select this pair of zones")]
+pub struct NoMatch;
+
+impl<'a> Voice<'a> {
+    /// The voice of a pair of zones that the note selects, the number of a preset's zone before that of
+    /// its instrument's, at its first frame. It copies which slices of the file the points are in, and
+    /// not the bank: the bank may change while the voice lives.
+    pub fn start(
+        alloc: Global,
+        bank: &Bank<'a>,
+        note: &Note,
+        pair: (u32, u32),
+    ) -> Result<Voice<'a>, Failure<NoMatch>>
+        ensures value { IfOk result (λ voice. started bank.now note.now pair ≡ Some voice) }
+        ensures fault { IfErr result (λ failure. IsStartFault (started bank.now note.now pair) failure) }
+    {
+        let Some(parameters) = params(bank, note, pair) else {
+            return Err(Failure::Fault(NoMatch));
+        };
+        let Some(sample) = sample_at(bank, note, pair) else {
+            return Err(Failure::Fault(NoMatch));
+        };
+        Ok(Voice::of(sample.points.copy(alloc)?, parameters))
+    }
+}
+
+// The sample of a pair.
+fn sample_at<'b, 'a>(bank: &'b Bank<'a>, note: &Note, pair: (u32, u32)) -> Option<&'b Sample<'a>>
+    ensures { option_copied result ≡ sample_by bank.now note.now pair }
+{
+    bank.sample(sample_of(bank, note, pair)?)
+}
