@@ -1,5 +1,5 @@
-//! What only a run can show of scripts: that each form of edit is read, done, refused and taken back,
-//! byte for byte, from a script's text.
+//! What only a run can show of scripts: that each form of edit of a member or a text is read, done,
+//! refused and taken back, byte for byte, from a script's text. Zones stand in `acceptance_zones`.
 #![tactic(auto)]
 
 #[cfg(test)]
@@ -13,12 +13,4 @@ mod samples;
 #[cfg(test)]
 mod scripts;
 #[cfg(test)]
-mod settings;
-#[cfg(test)]
-mod splits;
-#[cfg(test)]
 mod texts;
-#[cfg(test)]
-mod zone_edits;
-#[cfg(test)]
-mod zones;

@@ -1,0 +1,12 @@
+//! What only a run can show of scripts that edit zones, and the generators and modulators in them: that
+//! each form is read, done, refused and taken back, byte for byte, from a script's text.
+#![tactic(auto)]
+
+#[cfg(test)]
+mod settings;
+#[cfg(test)]
+mod splits;
+#[cfg(test)]
+mod zone_edits;
+#[cfg(test)]
+mod zones;
