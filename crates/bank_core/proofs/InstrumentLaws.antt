@@ -10,7 +10,7 @@ use Rattle.numbered_lists.specs.Moved.{moved}
 use Rattle.numbered_lists.proofs.Lists.{slice_get-found, slice_get-within, length-changed, length-moved, moved-back, insert-remove, remove-insert}
 use Rattle.numbered_lists.proofs.Numbers.{insertion_returned, removal_returned_by_test, insertion_below, removal_below_by_test, insertion_keeps, insertion_misses_by_test, move_below, move_returned}
 use Rattle.generators.specs.declared.level.Level.TheVariants as level
-use Rattle.bank_parts.specs.declared.totals.Totals.{Totals}
+use Rattle.bank_validity.specs.declared.totals.Totals.{Totals}
 use Rattle.bank_parts.specs.declared.parts.Head.{Head}
 use Rattle.bank_parts.specs.declared.parts.WithZones.{WithZones}
 use Rattle.bank_parts.specs.declared.parts.Parts.{Parts}
@@ -20,8 +20,8 @@ use Rattle.bank_parts.specs.Renumbered.{instruments_renumbered}
 use Rattle.bank_parts.specs.Valid.{IsInstrument, IsValid, zone_count, gen_count, mod_count}
 use Rattle.bank_parts.specs.Fits.{FitsHead, FitsOwner}
 use Rattle.bank_parts.specs.Sound.{IsSound}
-use Rattle.bank_parts.specs.Limits.{totals_of, broken, broken_limit, with_owner}
-use Rattle.bank_parts.proofs.LimitLaws.{limits_of, no_limit_of}
+use Rattle.bank_validity.specs.Limits.{totals_of, broken, broken_limit, with_owner}
+use Rattle.bank_validity.proofs.LimitLaws.{limits_of, no_limit_of}
 use Rattle.bank_core.specs.Instruments.{instrument_renamed, instrument_added, instrument_removed, instrument_moved, instrument_in_use}
 use Rattle.bank_core.proofs.Changes.{all_changed, sum-changed}
 use Rattle.bank_core.proofs.Everywhere.{all_insert, all_remove}

@@ -12,7 +12,7 @@ use Rattle.generators.specs.Gens.{no_gens, operator_cmp}
 use Rattle.generators.specs.declared.level.Level.{Level}
 use Rattle.generators.specs.declared.level.Level.TheVariants as level
 use Rattle.bank_parts.specs.declared.counting.Records.{Records}
-use Rattle.bank_parts.specs.declared.totals.Totals.{Totals}
+use Rattle.bank_validity.specs.declared.totals.Totals.{Totals}
 use Rattle.bank_parts.specs.declared.owners.ZonePlace.{ZonePlace}
 use Rattle.bank_parts.specs.declared.owners.ZonePlace.TheVariants as place
 use Rattle.bank_parts.specs.declared.parts.Head.{Head}
@@ -24,8 +24,8 @@ use Rattle.bank_parts.specs.Settings.{Settings, settings_of_zone, zone_with_sett
 use Rattle.bank_parts.specs.Valid.{IsZone, IsOwner, AreGenerators, zone_count, gen_count, mod_count, owner_total, global_count}
 use Rattle.bank_parts.specs.Fits.{FitsGlobal, FitsZone, FitsOwner, FitsHead}
 use Rattle.bank_parts.specs.Sound.{IsSound}
-use Rattle.bank_parts.specs.Limits.{totals_of, broken, broken_limit}
-use Rattle.bank_parts.proofs.LimitLaws.{limits_of, no_limit_of}
+use Rattle.bank_validity.specs.Limits.{totals_of, broken, broken_limit}
+use Rattle.bank_validity.proofs.LimitLaws.{limits_of, no_limit_of}
 use Rattle.bank_parts.proofs.SettingLaws.{source, given, place_read}
 use Rattle.bank_core.specs.declared.members.Owner.{Owner}
 use Rattle.bank_core.specs.declared.members.Owner.TheVariants.{Preset, Instrument}

@@ -15,8 +15,8 @@ use Rattle.bank_parts.specs.Owners.{head_at, with_head}
 use Rattle.bank_parts.specs.Valid.{IsPreset, zone_count, gen_count, mod_count}
 use Rattle.bank_parts.specs.Fits.{FitsHead, FitsOwner}
 use Rattle.bank_parts.specs.Sound.{IsSound}
-use Rattle.bank_parts.specs.Limits.{totals_of, broken, broken_limit, with_owner}
-use Rattle.bank_parts.proofs.LimitLaws.{limits_of, no_limit_of}
+use Rattle.bank_validity.specs.Limits.{totals_of, broken, broken_limit, with_owner}
+use Rattle.bank_validity.proofs.LimitLaws.{limits_of, no_limit_of}
 use Rattle.bank_parts.proofs.SettingLaws.{source}
 use Rattle.bank_core.specs.Members.{head_of}
 use Rattle.bank_core.specs.Presets.{preset_added, preset_removed, preset_moved, head_called, head_set}

@@ -4,12 +4,12 @@ use Rattle.sf_base.specs.declared.limits.TheConstants.{ZONES, GENERATORS, MODULA
 use Rattle.generators.specs.declared.level.Level.{Level}
 use Rattle.generators.specs.declared.level.Level.TheVariants as level
 use Rattle.bank_parts.specs.declared.counting.Records.{Records}
-use Rattle.bank_parts.specs.declared.totals.Totals.{Totals}
+use Rattle.bank_validity.specs.declared.totals.Totals.{Totals}
 use Rattle.bank_parts.specs.declared.parts.Parts.{Parts}
 use Rattle.bank_parts.specs.Counts.{counted, all_counted}
-use Rattle.bank_parts.specs.Limits.{totals_of, broken, broken_limit}
+use Rattle.bank_validity.specs.Limits.{totals_of, broken, broken_limit}
 use Rattle.bank_parts.proofs.Counts.{counted_same}
-use Rattle.bank_parts.proofs.LimitLaws.{AreWithin, within_totals, none_broken, totals_counted, broken_counted}
+use Rattle.bank_validity.proofs.LimitLaws.{AreWithin, within_totals, none_broken, totals_counted, broken_counted}
 use Rattle.bank_core.specs.Totals.{with_records, with_records_counted, HasRecords}
 use Rattle.bank_core.proofs.TotalsLaws.{whole}
 

@@ -4,10 +4,10 @@ use Rattle.sf_base.specs.declared.limits.TheConstants.{PRESETS, INSTRUMENTS, SAM
 use Rattle.generators.specs.declared.level.Level.{Level}
 use Rattle.generators.specs.declared.level.Level.TheVariants as level
 use Rattle.bank_parts.specs.declared.counting.Records.{Records}
-use Rattle.bank_parts.specs.declared.totals.Totals.{Totals}
+use Rattle.bank_validity.specs.declared.totals.Totals.{Totals}
 use Rattle.bank_parts.specs.Counts.{all_counted}
-use Rattle.bank_parts.specs.Limits.{broken}
-use Rattle.bank_parts.proofs.LimitLaws.{within_totals, none_broken}
+use Rattle.bank_validity.specs.Limits.{broken}
+use Rattle.bank_validity.proofs.LimitLaws.{within_totals, none_broken}
 use Rattle.bank_core.specs.Totals.{with_records, with_records_counted}
 use Rattle.bank_core.proofs.RecordLaws.{with_records_same, records_broken, records_within}
 

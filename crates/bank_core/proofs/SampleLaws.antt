@@ -16,19 +16,19 @@ use Rattle.numbered_lists.proofs.Numbers.{insertion_returned, removal_returned_b
 use Rattle.bank_parts.specs.declared.parts.Sample.{Sample}
 use Rattle.bank_parts.specs.Fits.{Fits, FitsSample}
 use Rattle.bank_parts.specs.declared.parts.Parts.{Parts}
-use Rattle.bank_parts.specs.declared.totals.Totals.{Totals}
+use Rattle.bank_validity.specs.declared.totals.Totals.{Totals}
 use Rattle.bank_parts.specs.Links.{OfLink}
 use Rattle.bank_parts.specs.Renumbered.{sample_renumbered, owner_renumbered, samples_renumbered}
 use Rattle.bank_parts.specs.Sound.{IsSound}
 use Rattle.bank_core.specs.Samples.{named, sample_in_use, sample_renamed, sample_added, sample_removed, sample_moved}
 use Rattle.bank_parts.specs.Valid.{IsSample, IsValid, point_total}
-use Rattle.bank_parts.specs.Limits.{totals_of, broken, broken_limit, with_sample}
+use Rattle.bank_validity.specs.Limits.{totals_of, broken, broken_limit, with_sample}
 use Rattle.bank_core.proofs.Everywhere.{all_weaker, all_insert, all_remove}
 use Rattle.bank_core.proofs.Moves.{all_moved, sum-moved, moved_back-sent}
 use Rattle.bank_core.proofs.OwnerReferences.{removal_keeps}
 use Rattle.bank_core.proofs.References.{fits_refs, OfSampleRefs, link_weaker, refs_weaker, refs_always, refs_within, refs_both, refs_renumbered, samples_valid, instruments_valid, refs_kept, refs_back, unused, not_in_use}
 use Rattle.sf_base.specs.declared.limits.TheConstants.{ZERO_POINTS}
-use Rattle.bank_parts.proofs.LimitLaws.{limits_of, no_limit_of}
+use Rattle.bank_validity.proofs.LimitLaws.{limits_of, no_limit_of}
 use Rattle.bank_core.proofs.Changes.{all_changed, sum-changed, sum-removed}
 use Rattle.bank_core.proofs.TotalsLaws.{without_sample_within, with_sample_same, zones_kept, gens_kept, mods_kept, points_kept}
 

@@ -18,15 +18,15 @@ use Rattle.generators.proofs.MapLaws as gens
 use Rattle.modulators.specs.declared.modulator.Modulator.{Modulator}
 use Rattle.modulators.specs.Modulators.{FitsModulator}
 use Rattle.bank_parts.specs.declared.counting.Records.{Records}
-use Rattle.bank_parts.specs.declared.totals.Totals.{Totals}
+use Rattle.bank_validity.specs.declared.totals.Totals.{Totals}
 use Rattle.bank_parts.specs.declared.parts.Parts.{Parts}
 use Rattle.bank_parts.specs.Settings.{Settings, with_gens, with_mods}
 use Rattle.bank_parts.specs.Valid.{IsGenerator}
 use Rattle.bank_parts.specs.Sound.{IsSound}
 use Rattle.bank_parts.specs.Counts.{counted}
-use Rattle.bank_parts.specs.Limits.{totals_of, broken, broken_limit}
+use Rattle.bank_validity.specs.Limits.{totals_of, broken, broken_limit}
 use Rattle.bank_parts.proofs.Counts.{counted_same}
-use Rattle.bank_parts.proofs.LimitLaws.{within_totals, no_limit_of}
+use Rattle.bank_validity.proofs.LimitLaws.{within_totals, no_limit_of}
 use Rattle.bank_parts.proofs.UndoneLaws.{amount_of_settings}
 use Rattle.bank_core.specs.declared.members.Owner.{Owner}
 use Rattle.bank_core.specs.declared.members.Owner.TheVariants.{Preset, Instrument}

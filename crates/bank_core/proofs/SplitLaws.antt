@@ -19,8 +19,8 @@ use Rattle.bank_parts.specs.Counts.{records_sum}
 use Rattle.bank_parts.specs.Valid.{IsZone, IsPreset, IsInstrument, AreGenerators}
 use Rattle.bank_parts.specs.Fits.{FitsZone}
 use Rattle.bank_parts.specs.Sound.{IsSound}
-use Rattle.bank_parts.specs.Limits.{totals_of, broken, broken_limit}
-use Rattle.bank_parts.proofs.LimitLaws.{no_limit_of}
+use Rattle.bank_validity.specs.Limits.{totals_of, broken, broken_limit}
+use Rattle.bank_validity.proofs.LimitLaws.{no_limit_of}
 use Rattle.zone_ranges.specs.declared.axes.Axis.{Axis}
 use Rattle.zone_ranges.specs.declared.axes.Keep.{Keep}
 use Rattle.zone_ranges.specs.declared.axes.Keep.TheVariants as keeping

@@ -10,7 +10,7 @@ use Rattle.bank_core.specs.Texts.{text_set, info_set}
 use Rattle.bank_parts.specs.Valid.{AreTexts, IsValid}
 use Rattle.bank_parts.specs.Fits.{FitsText, FitTexts}
 use Rattle.bank_parts.specs.Sound.{IsSound}
-use Rattle.bank_parts.specs.Limits.{totals_of}
+use Rattle.bank_validity.specs.Limits.{totals_of}
 use Rattle.bank_core.proofs.Everywhere.{all_weaker}
 
 -- what a text of an id is

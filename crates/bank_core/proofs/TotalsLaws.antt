@@ -8,7 +8,7 @@ use Rattle.sf_base.specs.declared.limits.TheConstants.{ZONES, GENERATORS, MODULA
 use Rattle.generators.specs.declared.level.Level.{Level}
 use Rattle.generators.specs.declared.level.Level.TheVariants as level
 use Rattle.bank_parts.specs.declared.counting.Records.{Records}
-use Rattle.bank_parts.specs.declared.totals.Totals.{Totals}
+use Rattle.bank_validity.specs.declared.totals.Totals.{Totals}
 use Rattle.bank_parts.specs.declared.parts.GlobalZone.{GlobalZone}
 use Rattle.bank_parts.specs.declared.parts.Zone.{Zone}
 use Rattle.bank_parts.specs.declared.parts.WithZones.{WithZones}
@@ -17,9 +17,9 @@ use Rattle.bank_parts.specs.declared.parts.Parts.{Parts}
 use Rattle.bank_parts.specs.Renumbered.{sample_renumbered, zone_renumbered, owner_renumbered, instruments_renumbered}
 use Rattle.bank_parts.specs.Valid.{owner_total, zone_count, gen_count, mod_count, point_total}
 use Rattle.bank_parts.specs.Counts.{all_counted}
-use Rattle.bank_parts.specs.Limits.{totals_of, broken, broken_limit, with_sample, with_owner, HasOwner}
+use Rattle.bank_validity.specs.Limits.{totals_of, broken, broken_limit, with_sample, with_owner, HasOwner}
 use Rattle.bank_parts.proofs.Counts.{counted_same}
-use Rattle.bank_parts.proofs.LimitLaws.{within_totals, none_broken}
+use Rattle.bank_validity.proofs.LimitLaws.{within_totals, none_broken}
 use Rattle.bank_core.proofs.Changes.{sum-removed}
 use Rattle.bank_core.proofs.Everywhere.{sum_kept}
 

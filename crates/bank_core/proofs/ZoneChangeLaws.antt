@@ -15,8 +15,8 @@ use Rattle.bank_parts.specs.ZoneChanges.{with_target}
 use Rattle.bank_parts.specs.Valid.{IsZone}
 use Rattle.bank_parts.specs.Fits.{FitsZone}
 use Rattle.bank_parts.specs.Sound.{IsSound}
-use Rattle.bank_parts.specs.Limits.{totals_of, broken, broken_limit}
-use Rattle.bank_parts.proofs.LimitLaws.{no_limit_of}
+use Rattle.bank_validity.specs.Limits.{totals_of, broken, broken_limit}
+use Rattle.bank_validity.proofs.LimitLaws.{no_limit_of}
 use Rattle.bank_parts.proofs.UndoneLaws as list
 use Rattle.bank_parts.proofs.UndoneLaws.{There}
 use Rattle.bank_core.specs.declared.members.Owner.{Owner}

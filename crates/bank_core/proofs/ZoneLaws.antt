@@ -9,7 +9,7 @@ use Rattle.sf_base.specs.Names.{IsName}
 use Rattle.generators.specs.declared.level.Level.{Level}
 use Rattle.generators.specs.declared.level.Level.TheVariants as level
 use Rattle.bank_parts.specs.declared.counting.Records.{Records}
-use Rattle.bank_parts.specs.declared.totals.Totals.{Totals}
+use Rattle.bank_validity.specs.declared.totals.Totals.{Totals}
 use Rattle.bank_parts.specs.declared.parts.GlobalZone.{GlobalZone}
 use Rattle.bank_parts.specs.declared.parts.Head.{Head}
 use Rattle.bank_parts.specs.declared.parts.Zone.{Zone}
@@ -20,8 +20,8 @@ use Rattle.bank_parts.specs.Settings.{zones_at, with_zones, zones_changed}
 use Rattle.bank_parts.specs.Valid.{IsZone, IsOwner, IsPreset, IsInstrument, owner_total, global_count, zone_count, gen_count, mod_count}
 use Rattle.bank_parts.specs.Fits.{FitsZone, FitsHead, FitsOwner}
 use Rattle.bank_parts.specs.Sound.{IsSound}
-use Rattle.bank_parts.specs.Limits.{totals_of, broken_limit}
-use Rattle.bank_parts.proofs.LimitLaws.{limits_of}
+use Rattle.bank_validity.specs.Limits.{totals_of, broken_limit}
+use Rattle.bank_validity.proofs.LimitLaws.{limits_of}
 use Rattle.bank_parts.proofs.SettingLaws.{source}
 use Rattle.bank_core.specs.declared.members.Owner.{Owner}
 use Rattle.bank_core.specs.declared.members.Owner.TheVariants as owner

@@ -3,7 +3,7 @@ use Rattle.std.specs.Prelude.{◌+◌, ◌≤◌}
 use Rattle.generators.specs.declared.level.Level.{Level}
 use Rattle.generators.specs.declared.level.Level.TheVariants.{Preset, Instrument}
 use Rattle.bank_parts.specs.declared.counting.Records.{Records}
-use Rattle.bank_parts.specs.declared.totals.Totals.{Totals}
+use Rattle.bank_validity.specs.declared.totals.Totals.{Totals}
 use Rattle.bank_parts.specs.Counts.{counted}
 
 -- so many records more, in the owners that there are

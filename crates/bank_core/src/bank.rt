@@ -7,12 +7,13 @@ ghost use Rattle.bank_core.specs.Members.{member_count, head_of, instrument_name
 ghost use Rattle.bank_parts.specs.Valid.{IsValid};
 ghost use Rattle.bank_parts.specs.Fits.{Fits};
 ghost use Rattle.bank_parts.specs.Sound.{IsSound};
-ghost use Rattle.bank_parts.specs.Limits.{totals_of};
+ghost use Rattle.bank_validity.specs.Limits.{totals_of};
 ghost use Rattle.bank_core.specs.Faults.{IsPartsFault};
 
 use crate::fault::PartsFault;
 use crate::members::Members;
-use bank_parts::{Head, InfoId, Owners, Parts, Sample, Totals, copy_parts, is_valid, totals_of};
+use bank_parts::{Head, InfoId, Owners, Parts, Sample, copy_parts};
+use bank_validity::{Totals, is_valid, totals_of};
 use sf_base::{Failure, Name20, OutOfMemory};
 use std::alloc::Global;
 use std::marker::Model;
@@ -30,7 +31,7 @@ impl<'a> Model for Bank<'a> {
     ghost use Rattle.std.specs.Prelude.{◌≡◌};
     ghost use Rattle.bank_parts.specs.declared.parts.Parts.{Parts};
     ghost use Rattle.bank_parts.specs.Sound.{IsSound};
-    ghost use Rattle.bank_parts.specs.Limits.{totals_of};
+    ghost use Rattle.bank_validity.specs.Limits.{totals_of};
     ghost use Rattle.generators.specs.contracts.gen_map.GenMap as gens;
     ghost use Rattle.std.specs.Coded.{codes};
 

@@ -6,7 +6,7 @@ ghost use Rattle.modulators.specs.declared.modulator.Modulator.{Modulator};
 ghost use Rattle.modulators.specs.Modulators.{is_link};
 ghost use Rattle.bank_parts.specs.Owners.{mods_at};
 ghost use Rattle.bank_parts.specs.Sound.{IsSound};
-ghost use Rattle.bank_parts.specs.Limits.{broken_limit};
+ghost use Rattle.bank_validity.specs.Limits.{broken_limit};
 ghost use Rattle.bank_core.specs.Members.{zone_place, settings_of, mods_of, amount_of, mod_at};
 ghost use Rattle.bank_core.specs.Settings.{gen_set, gen_cleared, mod_added, mod_removed, mod_set, records_at, records_there, zones_at};
 
@@ -14,7 +14,8 @@ use crate::bank::Bank;
 use crate::members::{Owner, Place};
 use crate::totals::recounted;
 use crate::zones::place_of;
-use bank_parts::{Limit, Owners, Parts, Records, ZonePlace};
+use bank_parts::{Owners, Parts, Records, ZonePlace};
+use bank_validity::Limit;
 use modulators::Modulator;
 use sf_base::OutOfMemory;
 

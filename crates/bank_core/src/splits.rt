@@ -3,7 +3,7 @@ ghost use Rattle.std.specs.Prelude.{◌≡◌, ◌<◌, ◌+◌, ℕ, true, Some
 ghost use Rattle.std.specs.Option.{option_map};
 ghost use Rattle.bank_parts.specs.Counts.{all_counted};
 ghost use Rattle.bank_parts.specs.Sound.{IsSound};
-ghost use Rattle.bank_parts.specs.Limits.{broken_limit};
+ghost use Rattle.bank_validity.specs.Limits.{broken_limit};
 ghost use Rattle.zone_ranges.specs.Ranges.{low_end, high_end};
 ghost use Rattle.zone_ranges.specs.Splits.{split_records, join_records};
 ghost use Rattle.bank_core.specs.Members.{own_zone_count, zone_of};
@@ -12,7 +12,8 @@ ghost use Rattle.bank_core.specs.Zones.{can_split, can_join, zone_split, zone_jo
 use crate::bank::Bank;
 use crate::members::Owner;
 use crate::totals::{broken_with_records, with_records, without_records};
-use bank_parts::{Limit, Parts, Records};
+use bank_parts::{Parts, Records};
+use bank_validity::Limit;
 use generators::Range;
 use sf_base::OutOfMemory;
 use std::alloc::Global;

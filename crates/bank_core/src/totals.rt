@@ -1,12 +1,13 @@
 //! The totals of a bank with records more or less in a preset or an instrument that it has.
 ghost use Rattle.std.specs.Prelude.{◌≡◌, None};
 ghost use Rattle.bank_parts.specs.declared.counting.Records.{Records};
-ghost use Rattle.bank_parts.specs.declared.totals.Totals.{Totals};
+ghost use Rattle.bank_validity.specs.declared.totals.Totals.{Totals};
 ghost use Rattle.bank_parts.specs.Counts.{all_counted};
-ghost use Rattle.bank_parts.specs.Limits.{broken};
+ghost use Rattle.bank_validity.specs.Limits.{broken};
 ghost use Rattle.bank_core.specs.Totals.{with_records, with_records_counted, HasRecords};
 
-use bank_parts::{Limit, Records, Totals};
+use bank_parts::Records;
+use bank_validity::{Limit, Totals};
 use generators::Level;
 
 /// The first limit that is broken with so many records more. A count that would pass 2^64 may stay

@@ -1,14 +1,15 @@
 //! The raw changes of the zones of a bank's presets and instruments.
 ghost use Rattle.std.specs.Prelude.{◌≡◌, ◌<◌, ◌≤◌, ℕ, Some, IsSomeAnd, OnOk, OnErr, IfOk, IfErr};
 ghost use Rattle.bank_parts.specs.Sound.{IsSound};
-ghost use Rattle.bank_parts.specs.Limits.{broken_limit};
+ghost use Rattle.bank_validity.specs.Limits.{broken_limit};
 ghost use Rattle.bank_core.specs.Members.{own_zone_count, zone_of, target_of};
 ghost use Rattle.bank_core.specs.Zones.{zone_added, zone_removed, zone_moved, target_set};
 
 use crate::bank::Bank;
 use crate::members::Owner;
 use crate::totals::{broken_with_records, with_records, without_records};
-use bank_parts::{Limit, Parts, Zone};
+use bank_parts::{Parts, Zone};
+use bank_validity::Limit;
 use sf_base::OutOfMemory;
 use std::alloc::Global;
 

@@ -7,7 +7,7 @@ use Rattle.modulators.specs.Modulators.{is_link, FitsModulator}
 use Rattle.bank_parts.specs.declared.parts.Parts.{Parts}
 use Rattle.bank_parts.specs.Settings.{Settings, with_mods}
 use Rattle.bank_parts.specs.Sound.{IsSound}
-use Rattle.bank_parts.specs.Limits.{broken_limit}
+use Rattle.bank_validity.specs.Limits.{broken_limit}
 use Rattle.bank_core.specs.declared.members.Owner.{Owner}
 use Rattle.bank_core.specs.declared.members.Place.{Place}
 use Rattle.bank_core.specs.Members.{settings_of, mod_at}

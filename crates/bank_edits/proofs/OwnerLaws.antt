@@ -5,13 +5,13 @@ use Rattle.std.specs.Option.{option_map}
 use Rattle.sf_base.specs.Names.{IsName}
 use Rattle.generators.specs.declared.level.Level.{Level}
 use Rattle.bank_parts.specs.declared.parts.WithZones.{WithZones}
-use Rattle.bank_parts.specs.declared.limits.Limit.{Limit}
+use Rattle.bank_validity.specs.declared.limits.Limit.{Limit}
 use Rattle.bank_parts.specs.declared.counting.Records.{Records}
-use Rattle.bank_parts.specs.declared.totals.Totals.{Totals}
+use Rattle.bank_validity.specs.declared.totals.Totals.{Totals}
 use Rattle.bank_parts.specs.declared.parts.Parts.{Parts}
 use Rattle.bank_parts.specs.Valid.{IsOwner}
 use Rattle.bank_parts.specs.Counts.{records_of_owner, all_counted}
-use Rattle.bank_parts.specs.Limits.{totals_of, broken, broken_limit, with_owner}
+use Rattle.bank_validity.specs.Limits.{totals_of, broken, broken_limit, with_owner}
 use Rattle.bank_parts.proofs.ContentLaws.{owner_from_tests, tests_from_owner}
 use Rattle.bank_edits.specs.declared.edit.Step.{Step}
 use Rattle.bank_edits.specs.declared.cause.Cause.{Cause}

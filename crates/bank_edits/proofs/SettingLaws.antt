@@ -10,7 +10,7 @@ use Rattle.bank_parts.specs.Contents.{is_bad_range}
 use Rattle.bank_parts.specs.Settings.{Settings}
 use Rattle.bank_parts.specs.Valid.{IsGenerator}
 use Rattle.bank_parts.specs.Sound.{IsSound}
-use Rattle.bank_parts.specs.Limits.{broken_limit}
+use Rattle.bank_validity.specs.Limits.{broken_limit}
 use Rattle.bank_core.specs.declared.members.Owner.{Owner}
 use Rattle.bank_core.specs.declared.members.Place.{Place}
 use Rattle.bank_core.specs.Members.{settings_of, level_of, amount_of}

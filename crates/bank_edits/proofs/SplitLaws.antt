@@ -10,8 +10,8 @@ use Rattle.bank_parts.specs.declared.parts.WithZones.{WithZones}
 use Rattle.bank_parts.specs.declared.parts.Parts.{Parts}
 use Rattle.bank_parts.specs.Valid.{owner_total, zone_count, global_count}
 use Rattle.bank_parts.specs.Sound.{IsSound}
-use Rattle.bank_parts.specs.Limits.{broken_limit}
-use Rattle.bank_parts.proofs.LimitLaws.{no_limit_of}
+use Rattle.bank_validity.specs.Limits.{broken_limit}
+use Rattle.bank_validity.proofs.LimitLaws.{no_limit_of}
 use Rattle.bank_parts.proofs.SettingLaws.{source}
 use Rattle.zone_ranges.specs.declared.axes.Axis.{Axis}
 use Rattle.zone_ranges.specs.declared.axes.Keep.{Keep}

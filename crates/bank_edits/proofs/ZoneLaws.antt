@@ -12,10 +12,10 @@ use Rattle.bank_parts.specs.Settings.{settings_of_zone}
 use Rattle.bank_parts.specs.Valid.{IsZone, IsOwner}
 use Rattle.bank_parts.specs.Fits.{FitsZone}
 use Rattle.bank_parts.specs.Sound.{IsSound}
-use Rattle.bank_parts.specs.Limits.{broken, broken_limit}
+use Rattle.bank_validity.specs.Limits.{broken, broken_limit}
 use Rattle.bank_parts.proofs.Everywhere.{or_none, or_left}
 use Rattle.bank_parts.proofs.ContentLaws.{owner_from_tests, tests_from_owner}
-use Rattle.bank_parts.proofs.LimitLaws.{no_limit_of}
+use Rattle.bank_validity.proofs.LimitLaws.{no_limit_of}
 use Rattle.bank_parts.proofs.SettingLaws.{source}
 use Rattle.bank_parts.proofs.UndoneLaws.{zones_there}
 use Rattle.bank_core.specs.declared.members.Owner.{Owner}

@@ -1,6 +1,6 @@
 -- The number, the name and the limit by which each cause is told.
 use Rattle.std.specs.Prelude.{ℕ, List, Option, Some, None, codes}
-use Rattle.bank_parts.specs.declared.limits.Limit.{Limit}
+use Rattle.bank_validity.specs.declared.limits.Limit.{Limit}
 use Rattle.bank_edits.specs.declared.cause.Cause.{Cause}
 use Rattle.bank_edits.specs.declared.cause.Cause.TheVariants.{NoSuchPreset, NoSuchInstrument, NoSuchSample, NoSuchZone, NoSuchModulator, BadPlace, InUse, BadGenerator, NotSet, BadRange, SplitOutside, NotJoinable, LinkedModulator, BadLoop, BadText, Full}
 

@@ -1,7 +1,7 @@
 pub use Rattle.bank_parts.specs.Valid
 pub use Rattle.bank_parts.specs.Fits
 pub use Rattle.bank_parts.specs.Sound
-pub use Rattle.bank_parts.specs.Limits
+pub use Rattle.bank_validity.specs.Limits
 pub use Rattle.bank_parts.specs.Contents
 pub use Rattle.bank_core.specs.Samples
 pub use Rattle.bank_core.specs.Instruments

@@ -12,7 +12,7 @@ use Rattle.bank_parts.specs.declared.parts.Sample.{Sample}
 use Rattle.bank_parts.specs.declared.parts.Parts.{Parts}
 use Rattle.bank_parts.specs.Fits.{FitsHead, FitsOwner, FitsZone, FitsSample, FitsText}
 use Rattle.bank_parts.specs.Texts.{text_of}
-use Rattle.bank_parts.specs.Limits.{broken_limit}
+use Rattle.bank_validity.specs.Limits.{broken_limit}
 use Rattle.bank_core.specs.Samples.{sample_renamed, sample_added, sample_removed, sample_moved}
 use Rattle.bank_core.specs.Instruments.{instrument_added, instrument_removed, instrument_renamed, instrument_moved}
 use Rattle.zone_ranges.specs.Ranges.{low_end, own_range, whole_range}

@@ -2,7 +2,7 @@
 ghost use Rattle.std.specs.Prelude.{◌≡◌};
 ghost use Rattle.bank_edits.specs.CauseNames.{number_of, name_of, limit_of};
 
-use bank_parts::Limit;
+use bank_validity::Limit;
 use thiserror::Error;
 
 /// What stands against an edit, in the order of the numbers by which fault lines tell it.

@@ -8,9 +8,8 @@ ghost use Rattle.bank_edits.specs.Causes as causes;
 
 use crate::cause::Cause;
 use bank_core::{Bank, Owner, Place};
-use bank_parts::{
-    InfoId, Kind, Limit, Sample, WithZones, Zone, is_bad_range, sets_bad_range, sets_foreign,
-};
+use bank_parts::{InfoId, Kind, Sample, WithZones, Zone, is_bad_range, sets_bad_range, sets_foreign};
+use bank_validity::Limit;
 use generators::{Level, allowed};
 use modulators::Modulator;
 use sf_base::Lent;

@@ -2,6 +2,5 @@ pub mod Everywhere
 pub mod ContentLaws
 pub mod Counts
 pub mod Fitting
-pub mod LimitLaws
 pub mod SettingLaws
 pub mod UndoneLaws

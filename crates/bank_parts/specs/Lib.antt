@@ -11,7 +11,6 @@ pub mod Valid
 pub mod Fits
 pub mod Sound
 pub mod Counts
-pub mod Limits
 pub mod Contents
 pub mod Owners
 pub mod Settings

@@ -61,7 +61,7 @@ impl<H: OwnerHead> WithZones<H> {
 
 impl<H: OwnerHead> Owners<H> {
     /// Whether all may stand in a bank, where a target names one of so many members.
-    pub(crate) fn are_valid(&self, targets: usize) -> bool
+    pub fn are_valid(&self, targets: usize) -> bool
         ensures valid { IsTrue result ↔ AllByRecursion (IsOwner H.name H.LEVEL targets) self.now }
         ensures fits { OnTrue result (AllByRecursion (FitsOwner H.IsFit) self.now) }
     {

@@ -1,15 +1,6 @@
-//! Laws of banks as data.
-ghost use Rattle.std.specs.Prelude.{◌≡◌, ◌↔◌, None};
-ghost use Rattle.bank_parts.specs.declared.parts.Parts.{Parts};
-ghost use Rattle.bank_parts.specs.Valid.{IsWithin};
-ghost use Rattle.bank_parts.specs.Limits.{broken_limit};
+//! Laws of presets and instruments as data.
 ghost use Rattle.bank_parts.specs.PlaceLaws.{PlaceRead, ZonesRead, PlaceReturns, ZonesReturn, PlaceKept, ZonesKept, OthersStay, OthersKeepZones, PlacesStay, GlobalStays, HeadsStay, HeadsStayByZones, TargetsStay};
 ghost use Rattle.bank_parts.specs.ChangesUndone.{ZoneAddedUndone, ZoneRemovedUndone, ZoneMovedUndone, TargetSetBack, GenSetBack, GenSetCleared, GenClearedUndone, ModAddedUndone, ModRemovedUndone, ModSetBack, ZoneAddedRead, ZoneMovedRead, TargetSetRead, GenSetRead, GenClearedRead, ModAddedRead, ModSetRead};
-
-/// No limit is broken exactly where every list is within its limit.
-pub fn limits_agree()
-    ensures { (b : Parts) → (broken_limit b ≡ None) ↔ IsWithin b }
-{}
 
 /// A change of what a place holds, or of the zones of a member: what is read after it, what takes it
 /// back, and that one which leaves what is there leaves all.

@@ -1,5 +1,5 @@
-//! What a bank is made of: its texts, presets, instruments and samples with their zones and points; which
-//! of that is a valid bank; and equal parts in memory of their own.
+//! What a bank is made of: its texts, presets, instruments and samples with their zones and points; what
+//! stands against them; and equal parts in memory of their own.
 #![tactic(auto)]
 
 mod contents;
@@ -8,14 +8,11 @@ mod counting;
 mod fits;
 mod heads;
 mod laws;
-mod limits;
 mod owners;
 mod parts;
 mod renumbering;
 mod setting_changes;
 mod texts;
-mod totals;
-mod validity;
 mod zone_changes;
 
 pub use contents::{is_bad_range, sets_bad_range, sets_foreign};
@@ -24,11 +21,8 @@ pub use counting::Records;
 pub use fits::modulator_fits;
 pub use heads::OwnerHead;
 pub use laws::{
-    limits_agree, other_places_stay, places_are_lenses, zone_changes_read, zone_changes_undone,
+    other_places_stay, places_are_lenses, zone_changes_read, zone_changes_undone,
 };
-pub use limits::Limit;
 pub use owners::{Owners, ZonePlace};
 pub use parts::{GlobalZone, Head, Instrument, Kind, Parts, Preset, Sample, WithZones, Zone};
 pub use texts::{InfoId, Texts};
-pub use totals::{Totals, totals_of};
-pub use validity::is_valid;

@@ -223,8 +223,9 @@ impl<H> Owners<H> {
         self.zone(i, k).copy_out(alloc)
     }
 
-    /// How many records they have in all.
-    pub(crate) fn records(&self) -> Records
+    /// How many records they have in all, as a file would hold them. A sum that would pass 2^64, far above
+    /// each limit, stays below it.
+    pub fn records(&self) -> Records
         ensures { result ≡ all_counted (records_total records_of_owner self.now) }
     {
         let mut total = Records {

@@ -1,14 +1,14 @@
 //! What the heads of chunks say. Sizes stand before bodies in a file; they follow from the totals that
 //! a bank keeps, and from its texts.
 ghost use Rattle.std.specs.Prelude.{◌≡◌, ◌+◌, ◌*◌, ◌<◌, ◌≤◌, ◌^◌};
-ghost use Rattle.bank_parts.specs.Limits.{totals_of};
+ghost use Rattle.bank_validity.specs.Limits.{totals_of};
 ghost use Rattle.bank_parts.specs.Valid.{IsValid};
 ghost use Rattle.sf_writer.specs.Sizes.{AreSizes};
 
 use crate::chunks::{FORM_SIZE, HEAD_SIZE};
 use crate::info::chunks_size;
 use bank_core::Bank;
-use bank_parts::Totals;
+use bank_validity::Totals;
 use hydra_records::{Bag, Generator, InstrumentHead, PresetHead, Record, SampleHead};
 use modulators::Modulator;
 

@@ -5,8 +5,8 @@ use Rattle.bank_format.specs.declared.fault.ReadFault.{ReadFault}
 use Rattle.bank_format.specs.FaultNames as reading
 use Rattle.line_tokens.specs.declared.fault.ScriptFault.{ScriptFault}
 use Rattle.line_tokens.specs.Faults as scripts
-use Rattle.bank_parts.specs.declared.limits.Limit.{Limit}
-use Rattle.bank_parts.specs.Limits.{word_of}
+use Rattle.bank_validity.specs.declared.limits.Limit.{Limit}
+use Rattle.bank_validity.specs.Limits.{word_of}
 use Rattle.bank_edits.specs.declared.cause.Cause.{Cause}
 use Rattle.bank_edits.specs.CauseNames as causes
 use Rattle.sfbank.specs.declared.fault.RunFault.{RunFault}

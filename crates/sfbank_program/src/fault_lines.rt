@@ -7,7 +7,7 @@ ghost use Rattle.sfbank_program.specs.FaultLines.{fault_line, status_of, read_li
 
 use bank_edits::Cause;
 use bank_format::ReadFault;
-use bank_parts::Limit;
+use bank_validity::Limit;
 use edit_script::ScriptFault;
 use itoa::Buffer;
 use outputs::{Output, WriteFault};

@@ -1,5 +1,5 @@
 use Rattle.std.proofs.Common.{ap, ◌∙◌}
-use Rattle.bank_parts.specs.Limits.{broken}
+use Rattle.bank_validity.specs.Limits.{broken}
 use Rattle.bank_core.proofs.RecordLaws.{records_broken}
 use Rattle.bank_core.proofs.totals.broken_with_records.Goals as goal
 

@@ -1,6 +1,6 @@
 use Rattle.std.proofs.Common.{◌≡◌, ◌∙◌, ap, sym, rules}
 use Rattle.bank_parts.specs.Counts.{all_counted}
-use Rattle.bank_parts.specs.Limits.{broken}
+use Rattle.bank_validity.specs.Limits.{broken}
 use Rattle.bank_parts.proofs.Counts.{counted_same}
 use Rattle.bank_core.proofs.RecountLaws.{recounted_value, recounted_limit}
 use Rattle.bank_core.proofs.totals.recounted.Goals as goal

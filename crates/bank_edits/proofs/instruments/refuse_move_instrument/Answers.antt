@@ -1,5 +1,5 @@
 use Rattle.std.proofs.Common.{[], ◌∷◌, length}
-use Rattle.bank_parts.specs.Limits.{broken_limit}
+use Rattle.bank_validity.specs.Limits.{broken_limit}
 use Rattle.bank_edits.specs.declared.edit.Step.TheVariants.{MoveInstrument}
 use Rattle.bank_edits.specs.Causes.{no_such_instrument, no_such_place}
 use Rattle.bank_edits.specs.Steps.{raw}

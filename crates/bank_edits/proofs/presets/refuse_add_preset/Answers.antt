@@ -1,7 +1,7 @@
 use Rattle.std.proofs.Common.{◌∙◌, ap}
 use Rattle.generators.specs.declared.level.Level.TheVariants as level
-use Rattle.bank_parts.specs.Limits.{broken}
-use Rattle.bank_parts.proofs.LimitLaws.{no_limit_of}
+use Rattle.bank_validity.specs.Limits.{broken}
+use Rattle.bank_validity.proofs.LimitLaws.{no_limit_of}
 use Rattle.bank_edits.specs.declared.edit.Step.TheVariants.{AddPreset}
 use Rattle.bank_edits.proofs.Accepted.{up_to}
 use Rattle.bank_edits.proofs.OwnerLaws.{by_records}

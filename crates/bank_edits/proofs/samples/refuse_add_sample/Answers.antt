@@ -1,7 +1,7 @@
 use Rattle.std.proofs.Common.{ℕ, ◌∙◌, sym, ap}
-use Rattle.bank_parts.specs.declared.totals.Totals.{Totals}
-use Rattle.bank_parts.specs.Limits.{totals_of, broken, with_sample}
-use Rattle.bank_parts.proofs.LimitLaws.{no_limit_of}
+use Rattle.bank_validity.specs.declared.totals.Totals.{Totals}
+use Rattle.bank_validity.specs.Limits.{totals_of, broken, with_sample}
+use Rattle.bank_validity.proofs.LimitLaws.{no_limit_of}
 use Rattle.bank_edits.specs.declared.edit.Step.TheVariants.{AddSample}
 use Rattle.bank_edits.proofs.Accepted.{by_limit, up_to}
 use Rattle.bank_edits.proofs.SampleLaws.{limit_add}

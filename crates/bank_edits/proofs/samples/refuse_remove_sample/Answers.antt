@@ -1,5 +1,5 @@
 use Rattle.std.proofs.Common.{[], ◌∷◌}
-use Rattle.bank_parts.specs.Limits.{broken_limit}
+use Rattle.bank_validity.specs.Limits.{broken_limit}
 use Rattle.bank_edits.specs.declared.edit.Step.TheVariants.{RemoveSample}
 use Rattle.bank_edits.specs.Causes.{no_such_sample, used_sample}
 use Rattle.bank_edits.specs.Steps.{raw}

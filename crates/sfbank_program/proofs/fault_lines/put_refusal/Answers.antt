@@ -1,7 +1,7 @@
 use Rattle.std.proofs.Common.{Option, subst}
 use Rattle.outputs.specs.Output.{Puts}
 use Rattle.outputs.proofs.OutputLaws.{puts_then}
-use Rattle.bank_parts.specs.declared.limits.Limit.{Limit}
+use Rattle.bank_validity.specs.declared.limits.Limit.{Limit}
 use Rattle.sfbank_program.specs.FaultLines.{limit_text}
 use Rattle.sfbank_program.proofs.fault_lines.put_refusal.Goals as goal
 

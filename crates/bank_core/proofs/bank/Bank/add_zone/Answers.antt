@@ -1,6 +1,6 @@
 use Rattle.std.proofs.Common.{◌∙◌}
 use Rattle.bank_parts.specs.Counts.{records_of_zone}
-use Rattle.bank_parts.proofs.LimitLaws.{no_limit_of}
+use Rattle.bank_validity.proofs.LimitLaws.{no_limit_of}
 use Rattle.bank_core.specs.Members.{level_of}
 use Rattle.bank_core.specs.Zones.{zone_added}
 use Rattle.bank_core.proofs.ZoneChangeLaws.{totals-zone_added}

@@ -1,7 +1,7 @@
 use Rattle.std.proofs.Common.{◌≡◌, false, sym, subst, IsSome, ◌∙◌}
 use Rattle.std.specs.Option.{is_some}
 use Rattle.std.specs.FinMap as map
-use Rattle.bank_parts.specs.Limits.{totals_of}
+use Rattle.bank_validity.specs.Limits.{totals_of}
 use Rattle.bank_parts.specs.Settings.{with_gens}
 use Rattle.bank_core.specs.Members.{settings_of}
 use Rattle.bank_core.specs.Settings.{gen_set}

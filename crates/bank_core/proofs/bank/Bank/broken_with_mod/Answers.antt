@@ -1,5 +1,5 @@
 use Rattle.std.proofs.Common.{insert, ◌∙◌}
-use Rattle.bank_parts.specs.Limits.{totals_of}
+use Rattle.bank_validity.specs.Limits.{totals_of}
 use Rattle.bank_parts.specs.Settings.{with_mods}
 use Rattle.bank_core.specs.Members.{settings_of}
 use Rattle.bank_core.specs.Settings.{mod_added}

@@ -1,7 +1,7 @@
 use Rattle.std.proofs.Common.{◌≡◌, ◌∙◌, sym, ap}
 use Rattle.bank_parts.specs.Counts.{all_counted}
-use Rattle.bank_parts.specs.Limits.{broken}
-use Rattle.bank_parts.proofs.LimitLaws.{no_limit_of}
+use Rattle.bank_validity.specs.Limits.{broken}
+use Rattle.bank_validity.proofs.LimitLaws.{no_limit_of}
 use Rattle.zone_ranges.specs.Splits.{split_records}
 use Rattle.bank_core.proofs.SplitLaws.{split, totals-zone_split}
 use Rattle.bank_core.proofs.bank.Bank.broken_with_split.Goals as goal

@@ -1,6 +1,6 @@
 use Rattle.std.proofs.Common.{◌≡◌, sym}
 use Rattle.bank_parts.specs.Counts.{all_counted}
-use Rattle.bank_parts.proofs.LimitLaws.{no_limit_of}
+use Rattle.bank_validity.proofs.LimitLaws.{no_limit_of}
 use Rattle.zone_ranges.specs.Splits.{join_records}
 use Rattle.bank_core.specs.Members.{level_of}
 use Rattle.bank_core.specs.Zones.{zone_joined}

@@ -1,6 +1,6 @@
 use Rattle.std.proofs.Common.{◌≡◌, ap, arith, length}
 use Rattle.generators.specs.declared.level.Level.TheVariants as level
-use Rattle.bank_parts.specs.Limits.{totals_of}
+use Rattle.bank_validity.specs.Limits.{totals_of}
 use Rattle.bank_parts.specs.Valid.{point_total}
 use Rattle.sf_writer.proofs.PointLemmas.{length_all_points}
 use Rattle.sf_writer.proofs.OwnerHeadLemmas.{length_phdr, length_inst}

@@ -4,9 +4,9 @@ use Rattle.sf_base.specs.declared.limits.TheConstants.{PRESETS, INSTRUMENTS, SAM
 use Rattle.generators.specs.declared.level.Level.{Level}
 use Rattle.generators.specs.declared.level.Level.TheVariants as level
 use Rattle.bank_parts.specs.declared.counting.Records.{Records}
-use Rattle.bank_parts.specs.declared.totals.Totals.{Totals}
-use Rattle.bank_parts.specs.declared.limits.Limit.{Limit}
-use Rattle.bank_parts.specs.declared.limits.Limit.TheVariants.{Presets, Instruments, Samples, Zones, Generators, Modulators, Points}
+use Rattle.bank_validity.specs.declared.totals.Totals.{Totals}
+use Rattle.bank_validity.specs.declared.limits.Limit.{Limit}
+use Rattle.bank_validity.specs.declared.limits.Limit.TheVariants.{Presets, Instruments, Samples, Zones, Generators, Modulators, Points}
 use Rattle.bank_parts.specs.declared.parts.Parts.{Parts}
 use Rattle.bank_parts.specs.Counts.{counted}
 use Rattle.bank_parts.specs.Valid.{owner_total, zone_count, gen_count, mod_count, point_total}

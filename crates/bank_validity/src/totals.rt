@@ -1,10 +1,10 @@
 //! How long the lists of a bank are, as a file would hold them.
 ghost use Rattle.std.specs.Prelude.{◌≡◌};
 ghost use Rattle.bank_parts.specs.Valid.{IsWithin, point_total};
-ghost use Rattle.bank_parts.specs.Limits.{totals_of, broken, broken_limit};
+ghost use Rattle.bank_validity.specs.Limits.{totals_of, broken, broken_limit};
 ghost use Rattle.bank_parts.specs.Counts.{counted};
 
-use crate::parts::{Parts, Sample};
+use bank_parts::{Parts, Sample};
 use sf_base::limits::ZERO_POINTS;
 
 /// How long the lists of a bank are, as a file would hold them: each zone's target is one of its

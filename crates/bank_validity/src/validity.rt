@@ -6,10 +6,8 @@ ghost use Rattle.sf_base.specs.Names.{IsName, IsText};
 ghost use Rattle.bank_parts.specs.Valid.{IsPreset, IsInstrument, IsLoop, IsLink, IsSample, AreTexts, IsWithin, IsValid};
 ghost use Rattle.bank_parts.specs.Fits.{FitTexts, FitsHead, FitsOwner, FitsSample, FitsLoop, FitsKind, Fits};
 
-use crate::owners::Owners;
-use crate::parts::{Head, Kind, Parts, Sample};
-use crate::texts::Texts;
 use crate::totals::totals_of;
+use bank_parts::{Head, Kind, Owners, Parts, Sample, Texts};
 use sf_base::Name20;
 use sf_base::limits::{COMMENT_LENGTH, TEXT_LENGTH};
 

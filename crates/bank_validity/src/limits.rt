@@ -1,12 +1,12 @@
 //! The limits of a bank, and which of them is broken first.
 ghost use Rattle.std.specs.Prelude.{◌≡◌, ◌<◌, ◌+◌, ◌≤◌, None};
 ghost use Rattle.sf_base.specs.declared.limits.TheConstants.{ZERO_POINTS};
-ghost use Rattle.bank_parts.specs.Limits.{broken, with_sample, with_owner, with_owner_counted, HasOwner, word_of};
+ghost use Rattle.bank_validity.specs.Limits.{broken, with_sample, with_owner, with_owner_counted, HasOwner, word_of};
 ghost use Rattle.bank_parts.specs.Counts.{all_counted};
 ghost use Rattle.bank_parts.specs.declared.counting.Records.{Records};
 
-use crate::counting::Records;
 use crate::totals::Totals;
+use bank_parts::Records;
 use generators::Level;
 use sf_base::limits::{
     GENERATORS, INSTRUMENTS, MODULATORS, POINTS, PRESETS, SAMPLES, ZERO_POINTS, ZONES,

@@ -1,7 +1,7 @@
 use Rattle.std.proofs.Common.{ap, ◌∙◌}
-use Rattle.bank_parts.specs.Limits.{broken}
-use Rattle.bank_parts.proofs.LimitLaws.{owner_broken}
-use Rattle.bank_parts.proofs.totals.Totals.broken_with_owner.Goals as goal
+use Rattle.bank_validity.specs.Limits.{broken}
+use Rattle.bank_validity.proofs.LimitLaws.{owner_broken}
+use Rattle.bank_validity.proofs.totals.Totals.broken_with_owner.Goals as goal
 
 pub returns : goal.returns
 returns c = λ r m. c.broken.ensures ∙ (ap broken c.plus_owner.ensures ∙ owner_broken c.args.at c.args.self c.args.more r c.requires m)

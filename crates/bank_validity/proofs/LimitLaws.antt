@@ -5,13 +5,13 @@ use Rattle.sf_base.specs.declared.limits.TheConstants.{PRESETS, INSTRUMENTS, SAM
 use Rattle.generators.specs.declared.level.Level.{Level}
 use Rattle.generators.specs.declared.level.Level.TheVariants as level
 use Rattle.bank_parts.specs.declared.counting.Records.{Records}
-use Rattle.bank_parts.specs.declared.totals.Totals.{Totals}
-use Rattle.bank_parts.specs.declared.limits.Limit.TheVariants as limit
+use Rattle.bank_validity.specs.declared.totals.Totals.{Totals}
+use Rattle.bank_validity.specs.declared.limits.Limit.TheVariants as limit
 use Rattle.bank_parts.specs.declared.parts.Parts.{Parts}
 use Rattle.bank_parts.specs.Valid.{IsWithin, owner_total, zone_count, gen_count, mod_count, point_total}
 use Rattle.bank_parts.specs.Counts.{counted, all_counted}
 use Rattle.bank_parts.proofs.Counts.{counted_same}
-use Rattle.bank_parts.specs.Limits.{totals_of, broken, broken_limit, with_sample, with_owner, with_owner_counted}
+use Rattle.bank_validity.specs.Limits.{totals_of, broken, broken_limit, with_sample, with_owner, with_owner_counted}
 
 -- ---- no limit is broken
 

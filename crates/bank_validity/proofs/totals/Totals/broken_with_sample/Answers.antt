@@ -1,6 +1,6 @@
 use Rattle.std.proofs.Common.{sym, arith}
-use Rattle.bank_parts.proofs.LimitLaws.{within_totals, samples_broken, points_broken, with_sample_within}
-use Rattle.bank_parts.proofs.totals.Totals.broken_with_sample.Goals as goal
+use Rattle.bank_validity.proofs.LimitLaws.{within_totals, samples_broken, points_broken, with_sample_within}
+use Rattle.bank_validity.proofs.totals.Totals.broken_with_sample.Goals as goal
 
 pub returns-then-self-ge-SAMPLES : goal.returns-then-self-ge-SAMPLES
 returns-then-self-ge-SAMPLES c = sym (samples_broken c.args.self c.args.points (within_totals c.args.self c.requires) (omega arith))

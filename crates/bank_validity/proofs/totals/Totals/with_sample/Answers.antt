@@ -1,7 +1,7 @@
 use Rattle.std.proofs.Common.{arith}
-use Rattle.bank_parts.specs.Limits.{with_sample}
-use Rattle.bank_parts.proofs.LimitLaws.{within_totals}
-use Rattle.bank_parts.proofs.totals.Totals.with_sample.Goals as goal
+use Rattle.bank_validity.specs.Limits.{with_sample}
+use Rattle.bank_validity.proofs.LimitLaws.{within_totals}
+use Rattle.bank_validity.proofs.totals.Totals.with_sample.Goals as goal
 
 pub overflow_add-result : goal.overflow_add-result
 overflow_add-result c = let h = (within_totals (with_sample c.args.self c.args.points) c.requires).samples in omega (arith, h)

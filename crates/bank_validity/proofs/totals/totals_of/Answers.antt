@@ -1,6 +1,6 @@
-use Rattle.bank_parts.specs.Limits.{totals_of}
-use Rattle.bank_parts.proofs.LimitLaws.{broken_counted, counted_within}
-use Rattle.bank_parts.proofs.totals.totals_of.Goals as goal
+use Rattle.bank_validity.specs.Limits.{totals_of}
+use Rattle.bank_validity.proofs.LimitLaws.{broken_counted, counted_within}
+use Rattle.bank_validity.proofs.totals.totals_of.Goals as goal
 
 pub returns-clause-value : goal.returns-clause-value
 unfolding totals_of

@@ -1,5 +1,0 @@
-use Rattle.bank_parts.proofs.LimitLaws.{limits_of, no_limit_of}
-use Rattle.bank_parts.proofs.laws.limits_agree.Goals as goal
-
-pub returns : goal.returns
-returns c = λ b. (limits_of b, no_limit_of b)

@@ -1,0 +1,12 @@
+//! Which parts are a valid bank; how long its lists are, and the limits that they keep.
+#![tactic(auto)]
+
+mod laws;
+mod limits;
+mod totals;
+mod validity;
+
+pub use laws::limits_agree;
+pub use limits::Limit;
+pub use totals::{Totals, totals_of};
+pub use validity::is_valid;
