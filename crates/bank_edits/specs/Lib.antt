@@ -9,8 +9,10 @@ pub use Rattle.bank_core.specs.Presets
 pub use Rattle.bank_core.specs.Zones
 pub use Rattle.bank_core.specs.Settings
 pub use Rattle.sf_base.specs.Names
-pub mod CauseNames
-pub mod Causes
-pub mod Steps
-pub mod Edits
-pub mod Answers
+pub use Rattle.edit_forms.specs.CauseNames
+pub use Rattle.edit_forms.specs.Causes
+pub use Rattle.edit_forms.specs.Steps
+pub use Rattle.edit_forms.specs.Edits
+pub use Rattle.edit_forms.specs.Answers
+pub mod StepChanges
+pub mod EditChanges

@@ -20,11 +20,11 @@ use Rattle.bank_core.specs.Settings.{mod_added, mod_removed, mod_set}
 use Rattle.bank_core.proofs.Changes.{all_found}
 use Rattle.bank_core.proofs.PlaceLaws.{settings_fit}
 use Rattle.bank_core.proofs.SettingLaws.{mod_added_is, mod_removed_is, mod_set_is}
-use Rattle.bank_edits.specs.declared.edit.Edit.TheVariants.{One}
-use Rattle.bank_edits.specs.declared.edit.Step.TheVariants.{AddMod, RemoveMod, SetMod}
-use Rattle.bank_edits.proofs.Accepted.{accepted}
-use Rattle.bank_edits.proofs.PlaceLaws.{mods_found}
-use Rattle.bank_edits.proofs.ModulatorLaws.{mods_sent, still_no_link, none_inserted, none_left, none_exchanged, plain_found, mod_goes, sound_add_mod, tests_add_mod, mod_comes, sound_remove_mod, tests_remove_mod, mod_changes, sound_set_mod, tests_set_mod}
+use Rattle.edit_forms.specs.declared.edit.Edit.TheVariants.{One}
+use Rattle.edit_forms.specs.declared.edit.Step.TheVariants.{AddMod, RemoveMod, SetMod}
+use Rattle.edit_forms.proofs.Accepted.{accepted}
+use Rattle.edit_forms.proofs.PlaceLaws.{mods_found}
+use Rattle.edit_forms.proofs.ModulatorLaws.{mods_sent, still_no_link, none_inserted, none_left, none_exchanged, plain_found, mod_goes, sound_add_mod, tests_add_mod, mod_comes, sound_remove_mod, tests_remove_mod, mod_changes, sound_set_mod, tests_set_mod}
 use Rattle.inverse_edits.specs.Undone.{IsTaken, IsUndone}
 use Rattle.inverse_edits.proofs.UndoneBy.{undone_by}
 

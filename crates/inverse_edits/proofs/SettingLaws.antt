@@ -18,11 +18,11 @@ use Rattle.bank_core.specs.Settings.{own_place_changed, gen_set, gen_cleared}
 use Rattle.bank_core.proofs.Changes.{all_found}
 use Rattle.bank_core.proofs.PlaceLaws.{place_there, gens_of_sound, settings_fit}
 use Rattle.bank_core.proofs.SettingLaws.{gen_set_is, gen_cleared_is, amount_found}
-use Rattle.bank_edits.specs.declared.edit.Edit.TheVariants.{One}
-use Rattle.bank_edits.specs.declared.edit.Step.TheVariants.{SetGen, ClearGen}
-use Rattle.bank_edits.proofs.Accepted.{accepted}
-use Rattle.bank_edits.proofs.PlaceLaws.{some_settings, owner_stays_there, place_stays_there}
-use Rattle.bank_edits.proofs.SettingLaws.{AllowsThere, settings_allowed, GenGoes, gen_goes, tests_set_gen, sound_set_gen, gen_comes, tests_clear_gen, sound_clear_gen}
+use Rattle.edit_forms.specs.declared.edit.Edit.TheVariants.{One}
+use Rattle.edit_forms.specs.declared.edit.Step.TheVariants.{SetGen, ClearGen}
+use Rattle.edit_forms.proofs.Accepted.{accepted}
+use Rattle.edit_forms.proofs.PlaceLaws.{some_settings, owner_stays_there, place_stays_there}
+use Rattle.edit_forms.proofs.SettingLaws.{AllowsThere, settings_allowed, GenGoes, gen_goes, tests_set_gen, sound_set_gen, gen_comes, tests_clear_gen, sound_clear_gen}
 use Rattle.inverse_edits.specs.Undone.{IsTaken, IsUndone}
 use Rattle.inverse_edits.proofs.UndoneBy.{undone_by}
 
