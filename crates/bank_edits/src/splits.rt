@@ -1,8 +1,8 @@
 //! What each form that splits zones of presets and instruments, or joins them, does.
 ghost use Rattle.std.specs.Prelude.{◌≡◌, None, IfSome};
 ghost use Rattle.bank_parts.specs.Sound.{IsSound};
-ghost use Rattle.bank_core.specs.declared.members.Place.TheVariants as place;
-ghost use Rattle.bank_core.specs.Members.{zone_of, amount_of};
+ghost use Rattle.bank_changes.specs.declared.members.Place.TheVariants as place;
+ghost use Rattle.bank_changes.specs.Members.{zone_of, amount_of};
 ghost use Rattle.zone_ranges.specs.Ranges.{range_operator};
 ghost use Rattle.zone_ranges.specs.Splits.{keep_for};
 ghost use Rattle.zone_ranges.specs.Undone.{own_low};

@@ -1,6 +1,6 @@
 -- The forms that edit zones: what stands behind their words, and how it is read.
 use Rattle.std.specs.Prelude.{◌≡◌, ℕ, List, [], ◌∷◌, ◌++◌}
-use Rattle.bank_core.specs.declared.members.Owner.{Owner}
+use Rattle.bank_changes.specs.declared.members.Owner.{Owner}
 use Rattle.bank_parts.specs.declared.parts.Zone.{Zone}
 use Rattle.zone_ranges.specs.declared.axes.Axis.{Axis}
 use Rattle.zone_ranges.specs.declared.axes.Keep.{Keep}
