@@ -7,9 +7,9 @@ use Rattle.bank_parts.specs.declared.parts.Head.{Head}
 use Rattle.bank_parts.specs.declared.parts.Sample.{Sample}
 use Rattle.bank_parts.specs.declared.parts.Parts.{Parts}
 use Rattle.bank_parts.specs.Owners.{head_at}
-use Rattle.bank_core.specs.declared.members.Owner.{Owner}
-use Rattle.bank_core.specs.declared.members.Place.{Place}
-use Rattle.bank_core.specs.Members.{target_of, mod_at}
+use Rattle.bank_changes.specs.declared.members.Owner.{Owner}
+use Rattle.bank_changes.specs.declared.members.Place.{Place}
+use Rattle.bank_changes.specs.Members.{target_of, mod_at}
 use Rattle.edit_forms.specs.declared.edit.Step.TheVariants.{SetHead, RenameInstrument, RenameSample, SetTarget, AddMod, RemoveMod, SetMod}
 use Rattle.bank_edits.specs.StepChanges.{inverse}
 

@@ -10,7 +10,7 @@ use Rattle.bank_parts.specs.declared.parts.Parts.{Parts}
 use Rattle.bank_parts.specs.Texts.{text_of}
 use Rattle.zone_ranges.specs.Ranges.{low_end, own_range, whole_range}
 use Rattle.zone_ranges.specs.Splits.{keep_for}
-use Rattle.bank_core.specs.Members.{head_of, instrument_name_of, zone_of, target_of, amount_of, mod_at}
+use Rattle.bank_changes.specs.Members.{head_of, instrument_name_of, zone_of, target_of, amount_of, mod_at}
 use Rattle.edit_forms.specs.declared.edit.Step.{Step}
 use Rattle.edit_forms.specs.declared.edit.Step.TheVariants.{AddPreset, RemovePreset, MovePreset, SetHead, AddInstrument, RemoveInstrument, RenameInstrument, MoveInstrument, RenameSample, AddSample, RemoveSample, MoveSample, AddZone, RemoveZone, MoveZone, SplitZone, JoinZone, SetTarget, SetGen, ClearGen, AddMod, RemoveMod, SetMod, SetInfo}
 use Rattle.edit_forms.specs.Steps.{raw}

@@ -10,8 +10,8 @@ use Rattle.bank_parts.specs.Sound.{IsSound}
 use Rattle.bank_parts.specs.Counts.{records_of_owner}
 use Rattle.bank_validity.specs.Limits.{totals_of, broken, broken_limit, with_owner}
 use Rattle.bank_validity.proofs.LimitLaws.{no_limit_of}
-use Rattle.bank_core.specs.Instruments.{instrument_added, instrument_removed, instrument_in_use, instrument_renamed, instrument_moved}
-use Rattle.bank_core.proofs.InstrumentLaws.{totals-added_instrument, totals-instrument_renamed, totals-instrument_moved, sound_added_instrument, sound_removed_instrument, instrument_moved_sound}
+use Rattle.bank_changes.specs.Instruments.{instrument_added, instrument_removed, instrument_in_use, instrument_renamed, instrument_moved}
+use Rattle.bank_changes.proofs.InstrumentLaws.{totals-added_instrument, totals-instrument_renamed, totals-instrument_moved, sound_added_instrument, sound_removed_instrument, instrument_moved_sound}
 use Rattle.edit_forms.specs.declared.edit.Step.TheVariants.{AddInstrument, RemoveInstrument, RenameInstrument, MoveInstrument}
 use Rattle.edit_forms.specs.declared.cause.Cause.TheVariants.{NoSuchInstrument, NoSuchSample}
 use Rattle.edit_forms.specs.Steps.{refusal, causes}

@@ -8,13 +8,13 @@ use Rattle.bank_parts.specs.declared.parts.Parts.{Parts}
 use Rattle.bank_parts.specs.Settings.{Settings, with_mods}
 use Rattle.bank_parts.specs.Sound.{IsSound}
 use Rattle.bank_validity.specs.Limits.{broken_limit}
-use Rattle.bank_core.specs.declared.members.Owner.{Owner}
-use Rattle.bank_core.specs.declared.members.Place.{Place}
-use Rattle.bank_core.specs.Members.{settings_of}
-use Rattle.bank_core.specs.Settings.{own_place_changed, mod_added, mod_removed, mod_set}
-use Rattle.bank_core.proofs.Changes.{all_set, all_found}
-use Rattle.bank_core.proofs.Everywhere.{all_insert, all_remove, or_left, or_right, or_none, none_passes, passes_none}
-use Rattle.bank_core.proofs.SettingLaws.{sound_mod_added, sound_mod_removed, sound_mod_set, within_mod_removed, within_mod_set}
+use Rattle.bank_changes.specs.declared.members.Owner.{Owner}
+use Rattle.bank_changes.specs.declared.members.Place.{Place}
+use Rattle.bank_changes.specs.Members.{settings_of}
+use Rattle.bank_changes.specs.Settings.{own_place_changed, mod_added, mod_removed, mod_set}
+use Rattle.bank_changes.proofs.Changes.{all_set, all_found}
+use Rattle.bank_changes.proofs.Everywhere.{all_insert, all_remove, or_left, or_right, or_none, none_passes, passes_none}
+use Rattle.bank_changes.proofs.SettingLaws.{sound_mod_added, sound_mod_removed, sound_mod_set, within_mod_removed, within_mod_set}
 use Rattle.edit_forms.specs.declared.edit.Step.TheVariants.{AddMod, RemoveMod, SetMod}
 use Rattle.edit_forms.specs.Causes.{no_such_owner, no_such_zone_at}
 use Rattle.edit_forms.specs.Steps.{refusal, causes}

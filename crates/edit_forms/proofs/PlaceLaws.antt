@@ -13,13 +13,13 @@ use Rattle.bank_parts.specs.Owners.{zone_count_at}
 use Rattle.bank_parts.specs.Settings.{Settings, settings_of_zone, zone_with_settings, settings_changed, place_changed}
 use Rattle.bank_parts.proofs.SettingLaws.{changed_unseen, mods_of_settings}
 use Rattle.bank_parts.proofs.UndoneLaws.{settings_there}
-use Rattle.bank_core.specs.declared.members.Owner.{Owner}
-use Rattle.bank_core.specs.declared.members.Owner.TheVariants.{Preset, Instrument}
-use Rattle.bank_core.specs.declared.members.Place.{Place}
-use Rattle.bank_core.specs.declared.members.Place.TheVariants as place
-use Rattle.bank_core.specs.Members.{zone_place, settings_of, mods_of}
-use Rattle.bank_core.specs.Settings.{own_place_changed}
-use Rattle.bank_core.proofs.PlaceLaws.{settings_read}
+use Rattle.bank_changes.specs.declared.members.Owner.{Owner}
+use Rattle.bank_changes.specs.declared.members.Owner.TheVariants.{Preset, Instrument}
+use Rattle.bank_changes.specs.declared.members.Place.{Place}
+use Rattle.bank_changes.specs.declared.members.Place.TheVariants as place
+use Rattle.bank_changes.specs.Members.{zone_place, settings_of, mods_of}
+use Rattle.bank_changes.specs.Settings.{own_place_changed}
+use Rattle.bank_changes.proofs.PlaceLaws.{settings_read}
 use Rattle.edit_forms.specs.Causes.{no_such_owner, no_such_zone_at, zone_total, mods_there}
 use Rattle.edit_forms.proofs.Accepted.{below}
 

@@ -10,8 +10,8 @@ use Rattle.bank_parts.specs.Sound.{IsSound}
 use Rattle.bank_parts.specs.Counts.{records_of_owner}
 use Rattle.bank_validity.specs.Limits.{totals_of, broken, broken_limit, with_owner}
 use Rattle.bank_validity.proofs.LimitLaws.{no_limit_of}
-use Rattle.bank_core.specs.Presets.{preset_added, preset_removed, preset_moved, head_set}
-use Rattle.bank_core.proofs.PresetLaws.{totals-added_preset, totals-preset_moved, totals-head_set, sound_added_preset, sound_removed_preset, preset_moved_sound}
+use Rattle.bank_changes.specs.Presets.{preset_added, preset_removed, preset_moved, head_set}
+use Rattle.bank_changes.proofs.PresetLaws.{totals-added_preset, totals-preset_moved, totals-head_set, sound_added_preset, sound_removed_preset, preset_moved_sound}
 use Rattle.edit_forms.specs.declared.edit.Step.TheVariants.{AddPreset, RemovePreset, MovePreset, SetHead}
 use Rattle.edit_forms.specs.declared.cause.Cause.TheVariants.{NoSuchPreset, NoSuchInstrument}
 use Rattle.edit_forms.specs.Steps.{refusal}

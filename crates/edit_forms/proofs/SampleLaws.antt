@@ -9,9 +9,9 @@ use Rattle.bank_parts.specs.Fits.{FitsSample}
 use Rattle.bank_parts.specs.Sound.{IsSound}
 use Rattle.bank_validity.specs.Limits.{totals_of, broken, broken_limit, with_sample}
 use Rattle.bank_validity.proofs.LimitLaws.{no_limit_of}
-use Rattle.bank_core.specs.Samples.{sample_in_use, sample_renamed, sample_added, sample_removed, sample_moved}
-use Rattle.bank_core.proofs.Everywhere.{or_left, or_right, or_none}
-use Rattle.bank_core.proofs.SampleLaws.{totals-renamed, totals-added, totals-moved, added_sound, removed_sound, moved_sound}
+use Rattle.bank_changes.specs.Samples.{sample_in_use, sample_renamed, sample_added, sample_removed, sample_moved}
+use Rattle.bank_changes.proofs.Everywhere.{or_left, or_right, or_none}
+use Rattle.bank_changes.proofs.SampleLaws.{totals-renamed, totals-added, totals-moved, added_sound, removed_sound, moved_sound}
 use Rattle.edit_forms.specs.declared.edit.Step.TheVariants.{RenameSample, AddSample, RemoveSample, MoveSample}
 use Rattle.edit_forms.specs.declared.cause.Cause.TheVariants.{NoSuchSample}
 use Rattle.edit_forms.specs.Causes.{link_misses, loop_misses}

@@ -11,11 +11,11 @@ use Rattle.bank_parts.specs.Settings.{Settings}
 use Rattle.bank_parts.specs.Valid.{IsGenerator}
 use Rattle.bank_parts.specs.Sound.{IsSound}
 use Rattle.bank_validity.specs.Limits.{broken_limit}
-use Rattle.bank_core.specs.declared.members.Owner.{Owner}
-use Rattle.bank_core.specs.declared.members.Place.{Place}
-use Rattle.bank_core.specs.Members.{settings_of, level_of, amount_of}
-use Rattle.bank_core.specs.Settings.{gen_set, gen_cleared}
-use Rattle.bank_core.proofs.SettingLaws.{sound_gen_set, sound_gen_cleared, within_gen_cleared, amount_found}
+use Rattle.bank_changes.specs.declared.members.Owner.{Owner}
+use Rattle.bank_changes.specs.declared.members.Place.{Place}
+use Rattle.bank_changes.specs.Members.{settings_of, level_of, amount_of}
+use Rattle.bank_changes.specs.Settings.{gen_set, gen_cleared}
+use Rattle.bank_changes.proofs.SettingLaws.{sound_gen_set, sound_gen_cleared, within_gen_cleared, amount_found}
 use Rattle.edit_forms.specs.declared.edit.Step.TheVariants.{SetGen, ClearGen}
 use Rattle.edit_forms.specs.Causes.{no_such_owner, no_such_zone_at}
 use Rattle.edit_forms.specs.Steps.{refusal, causes}

@@ -15,12 +15,12 @@ use Rattle.bank_validity.proofs.LimitLaws.{no_limit_of}
 use Rattle.bank_parts.proofs.SettingLaws.{source}
 use Rattle.zone_ranges.specs.declared.axes.Axis.{Axis}
 use Rattle.zone_ranges.specs.declared.axes.Keep.{Keep}
-use Rattle.bank_core.specs.declared.members.Owner.{Owner}
-use Rattle.bank_core.specs.declared.members.Owner.TheVariants as owner
-use Rattle.bank_core.specs.Members.{own_zone_count, zones_of}
-use Rattle.bank_core.specs.Zones.{zone_split, zone_joined, can_split, can_join}
-use Rattle.bank_core.proofs.Changes.{sum-removed}
-use Rattle.bank_core.proofs.SplitLaws.{split, join, sound_zone_split, sound_zone_joined}
+use Rattle.bank_changes.specs.declared.members.Owner.{Owner}
+use Rattle.bank_changes.specs.declared.members.Owner.TheVariants as owner
+use Rattle.bank_changes.specs.Members.{own_zone_count, zones_of}
+use Rattle.bank_changes.specs.Zones.{zone_split, zone_joined, can_split, can_join}
+use Rattle.bank_changes.proofs.Changes.{sum-removed}
+use Rattle.bank_changes.proofs.SplitLaws.{split, join, sound_zone_split, sound_zone_joined}
 use Rattle.edit_forms.specs.declared.edit.Step.TheVariants.{SplitZone, JoinZone}
 use Rattle.edit_forms.specs.Causes.{zone_total}
 use Rattle.edit_forms.specs.Steps.{refusal, causes}

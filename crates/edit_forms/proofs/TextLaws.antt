@@ -11,9 +11,9 @@ use Rattle.bank_parts.specs.Fits.{FitsText}
 use Rattle.bank_parts.specs.Sound.{IsSound}
 use Rattle.bank_validity.specs.Limits.{broken, broken_limit}
 use Rattle.bank_validity.proofs.LimitLaws.{no_limit_of}
-use Rattle.bank_core.specs.Texts.{info_set}
-use Rattle.bank_core.proofs.Everywhere.{all_weaker, all_both, none_passes, passes_none, or_left, or_right, or_none}
-use Rattle.bank_core.proofs.TextLaws.{IsInfo, info_sound, totals-info}
+use Rattle.bank_changes.specs.Texts.{info_set}
+use Rattle.bank_changes.proofs.Everywhere.{all_weaker, all_both, none_passes, passes_none, or_left, or_right, or_none}
+use Rattle.bank_changes.proofs.TextLaws.{IsInfo, info_sound, totals-info}
 use Rattle.edit_forms.specs.declared.edit.Step.TheVariants.{SetInfo}
 use Rattle.edit_forms.specs.Causes.{bad_text}
 use Rattle.edit_forms.specs.Steps.{refusal}

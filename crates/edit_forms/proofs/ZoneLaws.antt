@@ -18,11 +18,11 @@ use Rattle.bank_parts.proofs.ContentLaws.{owner_from_tests, tests_from_owner}
 use Rattle.bank_validity.proofs.LimitLaws.{no_limit_of}
 use Rattle.bank_parts.proofs.SettingLaws.{source}
 use Rattle.bank_parts.proofs.UndoneLaws.{zones_there}
-use Rattle.bank_core.specs.declared.members.Owner.{Owner}
-use Rattle.bank_core.specs.declared.members.Owner.TheVariants as owner
-use Rattle.bank_core.specs.Members.{own_zone_count, level_of, target_count}
-use Rattle.bank_core.specs.Zones.{zone_added, zone_removed, zone_moved, target_set}
-use Rattle.bank_core.proofs.ZoneChangeLaws.{sound_zone_added, sound_zone_removed, sound_zone_moved, sound_target_set, totals-zone_moved, totals-target_set}
+use Rattle.bank_changes.specs.declared.members.Owner.{Owner}
+use Rattle.bank_changes.specs.declared.members.Owner.TheVariants as owner
+use Rattle.bank_changes.specs.Members.{own_zone_count, level_of, target_count}
+use Rattle.bank_changes.specs.Zones.{zone_added, zone_removed, zone_moved, target_set}
+use Rattle.bank_changes.proofs.ZoneChangeLaws.{sound_zone_added, sound_zone_removed, sound_zone_moved, sound_target_set, totals-zone_moved, totals-target_set}
 use Rattle.edit_forms.specs.declared.edit.Step.TheVariants.{AddZone, RemoveZone, MoveZone, SetTarget}
 use Rattle.edit_forms.specs.Causes.{zone_total, no_such_owner}
 use Rattle.edit_forms.specs.Steps.{refusal, causes}

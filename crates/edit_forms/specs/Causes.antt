@@ -17,14 +17,14 @@ use Rattle.bank_parts.specs.Texts.{most_bytes, is_engine}
 use Rattle.bank_parts.specs.Contents.{misses_target, sets_foreign, has_foreign, is_bad_range, sets_bad_range, has_bad_range}
 use Rattle.zone_ranges.specs.declared.axes.Axis.{Axis}
 use Rattle.zone_ranges.specs.declared.axes.Keep.{Keep}
-use Rattle.bank_core.specs.declared.members.Owner.{Owner}
-use Rattle.bank_core.specs.declared.members.Owner.TheVariants as owner
-use Rattle.bank_core.specs.declared.members.Place.{Place}
-use Rattle.bank_core.specs.declared.members.Place.TheVariants as place
-use Rattle.bank_core.specs.Members.{own_zone_count, target_count, mods_of, amount_of}
-use Rattle.bank_core.specs.Zones.{can_split, can_join}
-use Rattle.bank_core.specs.Instruments.{instrument_in_use}
-use Rattle.bank_core.specs.Samples.{sample_in_use}
+use Rattle.bank_changes.specs.declared.members.Owner.{Owner}
+use Rattle.bank_changes.specs.declared.members.Owner.TheVariants as owner
+use Rattle.bank_changes.specs.declared.members.Place.{Place}
+use Rattle.bank_changes.specs.declared.members.Place.TheVariants as place
+use Rattle.bank_changes.specs.Members.{own_zone_count, target_count, mods_of, amount_of}
+use Rattle.bank_changes.specs.Zones.{can_split, can_join}
+use Rattle.bank_changes.specs.Instruments.{instrument_in_use}
+use Rattle.bank_changes.specs.Samples.{sample_in_use}
 use Rattle.edit_forms.specs.declared.cause.Cause.{Cause}
 use Rattle.edit_forms.specs.declared.cause.Cause.TheVariants.{NoSuchPreset, NoSuchInstrument, NoSuchSample, NoSuchZone, NoSuchModulator, BadPlace, InUse, BadGenerator, NotSet, BadRange, SplitOutside, NotJoinable, LinkedModulator, BadLoop, BadText}
 

@@ -7,17 +7,17 @@ use Rattle.generators.specs.declared.level.Level.TheVariants as level
 use Rattle.bank_parts.specs.declared.parts.Parts.{Parts}
 use Rattle.bank_parts.specs.Fits.{FitsHead, FitsOwner, FitsZone, FitsSample, FitsText}
 use Rattle.bank_validity.specs.Limits.{broken_limit}
-use Rattle.bank_core.specs.Samples.{sample_renamed, sample_added, sample_removed, sample_moved}
-use Rattle.bank_core.specs.Instruments.{instrument_added, instrument_removed, instrument_renamed, instrument_moved}
-use Rattle.bank_core.specs.Presets.{preset_added, preset_removed, preset_moved, head_set}
-use Rattle.bank_core.specs.Zones.{zone_added, zone_removed, zone_moved, zone_split, zone_joined, target_set}
-use Rattle.bank_core.specs.Settings.{gen_set, gen_cleared, mod_added, mod_removed, mod_set}
-use Rattle.bank_core.specs.declared.members.Owner.{Owner}
-use Rattle.bank_core.specs.declared.members.Owner.TheVariants as owner
-use Rattle.bank_core.specs.declared.members.Place.{Place}
-use Rattle.bank_core.specs.declared.members.Place.TheVariants as place
-use Rattle.bank_core.specs.Texts.{info_set}
-use Rattle.bank_core.specs.Members.{level_of}
+use Rattle.bank_changes.specs.Samples.{sample_renamed, sample_added, sample_removed, sample_moved}
+use Rattle.bank_changes.specs.Instruments.{instrument_added, instrument_removed, instrument_renamed, instrument_moved}
+use Rattle.bank_changes.specs.Presets.{preset_added, preset_removed, preset_moved, head_set}
+use Rattle.bank_changes.specs.Zones.{zone_added, zone_removed, zone_moved, zone_split, zone_joined, target_set}
+use Rattle.bank_changes.specs.Settings.{gen_set, gen_cleared, mod_added, mod_removed, mod_set}
+use Rattle.bank_changes.specs.declared.members.Owner.{Owner}
+use Rattle.bank_changes.specs.declared.members.Owner.TheVariants as owner
+use Rattle.bank_changes.specs.declared.members.Place.{Place}
+use Rattle.bank_changes.specs.declared.members.Place.TheVariants as place
+use Rattle.bank_changes.specs.Texts.{info_set}
+use Rattle.bank_changes.specs.Members.{level_of}
 use Rattle.edit_forms.specs.declared.edit.Step.{Step}
 use Rattle.edit_forms.specs.declared.edit.Step.TheVariants.{AddPreset, RemovePreset, MovePreset, SetHead, AddInstrument, RemoveInstrument, RenameInstrument, MoveInstrument, RenameSample, AddSample, RemoveSample, MoveSample, AddZone, RemoveZone, MoveZone, SplitZone, JoinZone, SetTarget, SetGen, ClearGen, AddMod, RemoveMod, SetMod, SetInfo}
 use Rattle.edit_forms.specs.declared.cause.Cause.{Cause}

@@ -9,10 +9,10 @@ use Rattle.edit_forms.specs.declared.edit.Step.TheVariants.{AddPreset, RemovePre
 use Rattle.edit_forms.specs.declared.edit.Edit.{Edit}
 use Rattle.edit_forms.specs.declared.edit.Edit.TheVariants.{One}
 use Rattle.edit_forms.specs.Steps.{FitsNumberOf, FitsPlace, FitsStep}
-use Rattle.bank_core.specs.declared.members.Owner.{Owner}
-use Rattle.bank_core.specs.declared.members.Owner.TheVariants as owner
-use Rattle.bank_core.specs.declared.members.Place.{Place}
-use Rattle.bank_core.specs.declared.members.Place.TheVariants as there
+use Rattle.bank_changes.specs.declared.members.Owner.{Owner}
+use Rattle.bank_changes.specs.declared.members.Owner.TheVariants as owner
+use Rattle.bank_changes.specs.declared.members.Place.{Place}
+use Rattle.bank_changes.specs.declared.members.Place.TheVariants as there
 use Rattle.line_tokens.specs.declared.cursor.Said.TheVariants as says
 use Rattle.line_tokens.specs.Lines.{lines_of}
 use Rattle.line_tokens.proofs.LexLaws.{lines_none}

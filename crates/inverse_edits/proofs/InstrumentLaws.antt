@@ -11,9 +11,9 @@ use Rattle.bank_parts.specs.Owners.{with_head}
 use Rattle.bank_parts.specs.Valid.{IsInstrument}
 use Rattle.bank_parts.specs.Fits.{FitsOwner}
 use Rattle.bank_parts.specs.Sound.{IsSound}
-use Rattle.bank_core.specs.Instruments.{instrument_added, instrument_removed, instrument_renamed}
-use Rattle.bank_core.proofs.Changes.{all_found}
-use Rattle.bank_core.proofs.InstrumentLaws.{restored_added_instrument, added_instrument_unused, restored_removed_instrument, instrument_renamed_sound, length-instrument_moved, restored_instrument_moved}
+use Rattle.bank_changes.specs.Instruments.{instrument_added, instrument_removed, instrument_renamed}
+use Rattle.bank_changes.proofs.Changes.{all_found}
+use Rattle.bank_changes.proofs.InstrumentLaws.{restored_added_instrument, added_instrument_unused, restored_removed_instrument, instrument_renamed_sound, length-instrument_moved, restored_instrument_moved}
 use Rattle.edit_forms.specs.declared.edit.Edit.TheVariants.{One}
 use Rattle.edit_forms.specs.declared.edit.Step.TheVariants.{AddInstrument, RemoveInstrument, RenameInstrument, MoveInstrument}
 use Rattle.edit_forms.proofs.Accepted.{accepted, not_below}

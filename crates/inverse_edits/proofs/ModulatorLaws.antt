@@ -12,14 +12,14 @@ use Rattle.bank_parts.specs.declared.parts.Parts.{Parts}
 use Rattle.bank_parts.specs.Settings.{Settings}
 use Rattle.bank_parts.specs.Sound.{IsSound}
 use Rattle.bank_parts.proofs.UndoneLaws.{mod_added_undone, mod_removed_undone, mod_set_back}
-use Rattle.bank_core.specs.declared.members.Owner.{Owner}
-use Rattle.bank_core.specs.declared.members.Owner.TheVariants as owner
-use Rattle.bank_core.specs.declared.members.Place.{Place}
-use Rattle.bank_core.specs.Members.{zone_place, settings_of, mods_of, mod_at}
-use Rattle.bank_core.specs.Settings.{mod_added, mod_removed, mod_set}
-use Rattle.bank_core.proofs.Changes.{all_found}
-use Rattle.bank_core.proofs.PlaceLaws.{settings_fit}
-use Rattle.bank_core.proofs.SettingLaws.{mod_added_is, mod_removed_is, mod_set_is}
+use Rattle.bank_changes.specs.declared.members.Owner.{Owner}
+use Rattle.bank_changes.specs.declared.members.Owner.TheVariants as owner
+use Rattle.bank_changes.specs.declared.members.Place.{Place}
+use Rattle.bank_changes.specs.Members.{zone_place, settings_of, mods_of, mod_at}
+use Rattle.bank_changes.specs.Settings.{mod_added, mod_removed, mod_set}
+use Rattle.bank_changes.proofs.Changes.{all_found}
+use Rattle.bank_changes.proofs.PlaceLaws.{settings_fit}
+use Rattle.bank_changes.proofs.SettingLaws.{mod_added_is, mod_removed_is, mod_set_is}
 use Rattle.edit_forms.specs.declared.edit.Edit.TheVariants.{One}
 use Rattle.edit_forms.specs.declared.edit.Step.TheVariants.{AddMod, RemoveMod, SetMod}
 use Rattle.edit_forms.proofs.Accepted.{accepted}

@@ -10,9 +10,9 @@ use Rattle.bank_parts.specs.declared.parts.Parts.{Parts}
 use Rattle.bank_parts.specs.Valid.{IsPreset}
 use Rattle.bank_parts.specs.Fits.{FitsHead, FitsOwner}
 use Rattle.bank_parts.specs.Sound.{IsSound}
-use Rattle.bank_core.specs.Presets.{preset_added, preset_removed, head_set}
-use Rattle.bank_core.proofs.Changes.{all_found}
-use Rattle.bank_core.proofs.PresetLaws.{length-preset_moved, length-head_set, head_set_sound, read_head_set, restored_added_preset, restored_removed_preset, restored_preset_moved, restored_head_set}
+use Rattle.bank_changes.specs.Presets.{preset_added, preset_removed, head_set}
+use Rattle.bank_changes.proofs.Changes.{all_found}
+use Rattle.bank_changes.proofs.PresetLaws.{length-preset_moved, length-head_set, head_set_sound, read_head_set, restored_added_preset, restored_removed_preset, restored_preset_moved, restored_head_set}
 use Rattle.edit_forms.specs.declared.edit.Edit.TheVariants.{One}
 use Rattle.edit_forms.specs.declared.edit.Step.TheVariants.{AddPreset, RemovePreset, MovePreset, SetHead}
 use Rattle.edit_forms.specs.declared.cause.Cause.TheVariants.{NoSuchPreset, NoSuchInstrument}

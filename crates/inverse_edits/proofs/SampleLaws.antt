@@ -11,9 +11,9 @@ use Rattle.bank_parts.specs.Renumbered.{sample_renumbered}
 use Rattle.bank_parts.specs.Valid.{IsSample}
 use Rattle.bank_parts.specs.Fits.{FitsSample}
 use Rattle.bank_parts.specs.Sound.{IsSound}
-use Rattle.bank_core.specs.Samples.{named, sample_renamed, sample_added, sample_removed}
-use Rattle.bank_core.proofs.Changes.{all_found}
-use Rattle.bank_core.proofs.SampleLaws.{renamed_sound, restored_added, restored_removed, restored_moved, added_unused, length-sample_moved}
+use Rattle.bank_changes.specs.Samples.{named, sample_renamed, sample_added, sample_removed}
+use Rattle.bank_changes.proofs.Changes.{all_found}
+use Rattle.bank_changes.proofs.SampleLaws.{renamed_sound, restored_added, restored_removed, restored_moved, added_unused, length-sample_moved}
 use Rattle.edit_forms.specs.declared.edit.Edit.TheVariants.{One}
 use Rattle.edit_forms.specs.declared.edit.Step.TheVariants.{RenameSample, AddSample, RemoveSample, MoveSample}
 use Rattle.edit_forms.proofs.Accepted.{accepted, not_below}

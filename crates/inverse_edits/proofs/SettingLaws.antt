@@ -10,14 +10,14 @@ use Rattle.bank_parts.specs.Settings.{Settings, with_gens}
 use Rattle.bank_parts.specs.Valid.{IsGenerator}
 use Rattle.bank_parts.specs.Sound.{IsSound}
 use Rattle.bank_parts.proofs.UndoneLaws.{gen_set_back, gen_set_cleared, gen_cleared_undone, gen_set_read, gen_cleared_read}
-use Rattle.bank_core.specs.declared.members.Owner.{Owner}
-use Rattle.bank_core.specs.declared.members.Owner.TheVariants as owner
-use Rattle.bank_core.specs.declared.members.Place.{Place}
-use Rattle.bank_core.specs.Members.{zone_place, level_of, amount_of}
-use Rattle.bank_core.specs.Settings.{own_place_changed, gen_set, gen_cleared}
-use Rattle.bank_core.proofs.Changes.{all_found}
-use Rattle.bank_core.proofs.PlaceLaws.{place_there, gens_of_sound, settings_fit}
-use Rattle.bank_core.proofs.SettingLaws.{gen_set_is, gen_cleared_is, amount_found}
+use Rattle.bank_changes.specs.declared.members.Owner.{Owner}
+use Rattle.bank_changes.specs.declared.members.Owner.TheVariants as owner
+use Rattle.bank_changes.specs.declared.members.Place.{Place}
+use Rattle.bank_changes.specs.Members.{zone_place, level_of, amount_of}
+use Rattle.bank_changes.specs.Settings.{own_place_changed, gen_set, gen_cleared}
+use Rattle.bank_changes.proofs.Changes.{all_found}
+use Rattle.bank_changes.proofs.PlaceLaws.{place_there, gens_of_sound, settings_fit}
+use Rattle.bank_changes.proofs.SettingLaws.{gen_set_is, gen_cleared_is, amount_found}
 use Rattle.edit_forms.specs.declared.edit.Edit.TheVariants.{One}
 use Rattle.edit_forms.specs.declared.edit.Step.TheVariants.{SetGen, ClearGen}
 use Rattle.edit_forms.proofs.Accepted.{accepted}

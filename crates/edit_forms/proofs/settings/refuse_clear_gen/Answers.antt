@@ -1,6 +1,6 @@
 use Rattle.std.proofs.Common.{[], ◌∷◌}
 use Rattle.bank_validity.specs.Limits.{broken_limit}
-use Rattle.bank_core.specs.Members.{level_of}
+use Rattle.bank_changes.specs.Members.{level_of}
 use Rattle.edit_forms.specs.declared.edit.Step.TheVariants.{ClearGen}
 use Rattle.edit_forms.specs.Causes.{no_such_owner, no_such_zone_at, foreign_operator, not_set}
 use Rattle.edit_forms.specs.Steps.{raw}
