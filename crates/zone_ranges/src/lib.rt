@@ -11,6 +11,6 @@ mod splitting;
 
 pub use axes::{Axis, Keep};
 pub use laws::splits_and_joins_undone;
-pub use ranges::zone_range;
+pub use ranges::{range_operator, zone_range};
 pub use records::{join_records, split_records};
 pub use splitting::{join_zones, joins, split_zone, splits};

@@ -12,7 +12,8 @@ use generators::{Range, operators};
 // 0 to 127, as an amount.
 pub(crate) const WHOLE_RANGE: u16 = 32_512;
 
-pub(crate) fn range_operator(axis: Axis) -> u16
+/// The generator that sets the range of a zone on an axis.
+pub fn range_operator(axis: Axis) -> u16
     ensures { result ≡ range_operator axis }
 {
     match axis {
@@ -47,6 +48,8 @@ pub fn zone_range<H>(owners: &Owners<H>, i: u32, k: u32, axis: Axis) -> Range
     ensures high { option_map high_end (range_at axis owners.now i k) ≡ Some result.high }
 {
     let (i, k) = (i as usize, k as usize);
-    let own = own_range(owners, i, k, axis);
-    Range::of_amount(own.unwrap_or(inherited_range(owners, i, axis)))
+    Range::of_amount(match own_range(owners, i, k, axis) {
+        Some(own) => own,
+        None => inherited_range(owners, i, axis),
+    })
 }

@@ -17,7 +17,6 @@ use Rattle.zone_select.specs.Taken.{Taken, taken, setting}
 use Rattle.zone_select.specs.Select.{is_called}
 use Rattle.zone_select.specs.Pairs.{Chosen, inner_chosen, preset_chosen, chosen_by}
 use Rattle.zone_select.specs.At.{taken_at, target_held, chosen_at}
-use Rattle.zone_select.specs.declared.chosen.ChosenAt.{ChosenAt}
 
 -- what is taken of a zone, if it is there
 abbrev taken_with : GlobalZone → Option Zone → Taken

@@ -6,3 +6,4 @@ pub mod ModulatorLaws
 pub mod ChosenLaws
 pub mod LinearLaws
 pub mod SpanLaws
+pub mod SummedLaws

@@ -1,5 +1,5 @@
 -- The loop of a voice, and the ranges in which its parameters lie.
-use Rattle.std.proofs.Common.{◌≡◌, ◌≤◌, ◌<◌, ◌/◌, ◌%◌, ◌+◌, ◌*◌, ℕ, ℤ, pos, negsuc, ◌+ℤ◌, ◌≤ℤ◌, Bool, true, false, cond, ◌&&◌, List, length, Option, Some, None, slice_get, unwrap_or, IfSome, min, max, refl, sym, ap, ◌∙◌, arith}
+use Rattle.std.proofs.Common.{◌≡◌, ◌≤◌, ◌<◌, ◌/◌, ◌%◌, ◌+◌, ◌*◌, ℕ, ℤ, pos, negsuc, ◌+ℤ◌, ◌≤ℤ◌, Bool, true, false, cond, ◌&&◌, length, Option, Some, None, slice_get, unwrap_or, IfSome, min, max, refl, sym, ap, arith}
 use Rattle.std.specs.Prelude.{int_le, int_lt}
 use Rattle.std.specs.Int.{int_min, int_max}
 use Rattle.std.specs.Option.{option_map, option_and_then, is_some}
@@ -12,12 +12,12 @@ use Rattle.note_list.specs.Notes.{Numbers}
 use Rattle.bank_parts.specs.declared.parts.Sample.{Sample}
 use Rattle.bank_parts.specs.declared.parts.Parts.{Parts}
 use Rattle.bank_parts.specs.Sound.{IsSound}
-use Rattle.sound_tables.specs.Floor.{floor_div, floor_mod, above_zero}
-use Rattle.sound_tables.specs.Tables.{ratio, step_at, step_of}
+use Rattle.sound_tables.specs.Floor.{above_zero}
+use Rattle.sound_tables.specs.Tables.{step_at, step_of}
 use Rattle.sound_tables.proofs.FloorLemmas.{floor_div_is, floor_mod_is}
 use Rattle.sound_tables.proofs.OctaveLemmas.{step_case, step_bound}
 use Rattle.zone_select.specs.Taken.{Taken}
-use Rattle.zone_select.specs.Amounts.{cut, start_of, end_of, offset, mode_of, asks_for_loop, loop_start_of, loop_end_of, is_looped, loop_of, cents_of, parameters_of}
+use Rattle.zone_select.specs.Amounts.{cut, start_of, end_of, offset, asks_for_loop, loop_start_of, loop_end_of, is_looped, loop_of, cents_of, parameters_of}
 use Rattle.zone_select.specs.Select.{voice_of}
 use Rattle.zone_select.specs.Pairs.{Chosen, chosen_by, chosen_voice, voice_by}
 use Rattle.zone_select.specs.Playable.{IsPlayable}

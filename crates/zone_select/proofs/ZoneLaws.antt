@@ -1,5 +1,5 @@
 -- Zones by what a bank tells of them.
-use Rattle.std.proofs.Common.{◌≡◌, ◌≤◌, ◌<◌, ◌⊎◌, inl, inr, get_or, ◌&&◌, ◌%◌, ◌/◌, ◌↔◌, IsTrue, nat_le, Fits, w32, ℕ, ◌+◌, Bool, true, false, List, [], ◌∷◌, length, Option, Some, None, slice_get, unwrap_or, refl, sym, ap, ◌∙◌, arith}
+use Rattle.std.proofs.Common.{◌≡◌, ◌≤◌, ◌<◌, ◌⊎◌, inl, inr, get_or, ◌&&◌, ◌↔◌, IsTrue, nat_le, Fits, w32, ℕ, ◌+◌, Bool, true, false, List, [], ◌∷◌, length, Option, Some, None, IsSomeAnd, slice_get, unwrap_or, refl, sym, ap, ◌∙◌, arith}
 use Rattle.std.specs.Option.{option_map_or, option_map}
 use Rattle.std.proofs.lemmas.Bool.{leb-true, leb-false}
 use Rattle.std.proofs.lemmas.Option.{get_or_from_slice_get, slice_get_within, slice_get_cases}
@@ -14,9 +14,12 @@ use Rattle.bank_parts.specs.Sound.{IsSound}
 use Rattle.bank_changes.specs.declared.members.Owner.{Owner}
 use Rattle.bank_changes.specs.declared.members.Owner.TheVariants as owner
 use Rattle.bank_changes.specs.Members.{own_zone_count}
+use Rattle.bank_changes.specs.Zones.{range_of_zone}
+use Rattle.zone_ranges.specs.declared.axes.Axis.TheVariants.{Key, Velocity}
+use Rattle.zone_ranges.specs.Ranges.{low_end, high_end, range_of}
 use Rattle.zone_select.specs.Ranges.{holds, within}
 use Rattle.zone_select.specs.Pairs.{holds_at, held}
-use Rattle.zone_select.specs.Left.{zones_in, range_at, owner_holds, owner_held}
+use Rattle.zone_select.specs.Left.{zones_in, owner_holds, owner_held}
 use Rattle.zone_select.proofs.NumberLaws.{numbers, numbers_end, numbers_hit, numbers_miss}
 
 -- ---- an owner has no more zones than all of its level together
@@ -50,9 +53,13 @@ fits_field n h = omega (arith, h)
 
 -- ---- whether a zone holds the note
 
--- the same by the two ranges that a bank tells
-abbrev pub told : Parts → Numbers → Owner → ℕ → Bool
-told b n o k = within (range_at b o k 43) n.key && within (range_at b o k 44) n.velocity
+-- a zone that is there, by the two ranges that a bank tells of it
+pub record ZoneTold (b : Parts) (n : Numbers) (o : Owner) (k : ℕ) : Type 0 where
+  pub key : ℕ
+  pub velocity : ℕ
+  pub key_range : range_of_zone b o k Key ≡ Some key
+  pub velocity_range : range_of_zone b o k Velocity ≡ Some velocity
+  pub holds : owner_holds b n o k ≡ (within key n.key && within velocity n.velocity)
 
 there : (zones : List Zone) (k : ℕ) → k < length zones → (z : Zone) × (slice_get zones k ≡ Some z)
 there zones k h = from (slice_get_cases zones k).1
@@ -61,22 +68,27 @@ there zones k h = from (slice_get_cases zones k).1
     from (inl r) = (r.0, r.2)
     from (inr r) = absurd (let past = r.0 in omega (arith, h, past))
 
-preset_told : (b : Parts) (n : Numbers) (p k : ℕ) (o : Option (WithZones Head)) → slice_get b.presets p ≡ o → k < option_map_or (λ (x : WithZones Head). length x.zones) o 0 → owner_holds b n (owner.Preset p) k ≡ told b n (owner.Preset p) k
+in_presets : (b : Parts) (n : Numbers) (p k : ℕ) (o : Option (WithZones Head)) → slice_get b.presets p ≡ o → k < option_map_or (λ (x : WithZones Head). length x.zones) o 0 → ZoneTold b n (owner.Preset p) k
 unfolding holds
-preset_told b n p k None e h = absurd (omega (arith, h))
-preset_told b n p k (Some x) e h = let z = there x.zones k h in rw (e, z.1) refl
+in_presets b n p k None e h = absurd (omega (arith, h))
+in_presets b n p k (Some x) e h =
+    let z = there x.zones k h in
+    record { key = range_of Key x.global z.0; velocity = range_of Velocity x.global z.0; key_range = rw (e, z.1) refl; velocity_range = rw (e, z.1) refl; holds = rw (e, z.1) refl }
 
-instrument_told : (b : Parts) (n : Numbers) (i k : ℕ) (o : Option (WithZones (List ℕ))) → slice_get b.instruments i ≡ o → k < option_map_or (λ (x : WithZones (List ℕ)). length x.zones) o 0 → owner_holds b n (owner.Instrument i) k ≡ told b n (owner.Instrument i) k
+in_instruments : (b : Parts) (n : Numbers) (i k : ℕ) (o : Option (WithZones (List ℕ))) → slice_get b.instruments i ≡ o → k < option_map_or (λ (x : WithZones (List ℕ)). length x.zones) o 0 → ZoneTold b n (owner.Instrument i) k
 unfolding holds
-instrument_told b n i k None e h = absurd (omega (arith, h))
-instrument_told b n i k (Some x) e h = let z = there x.zones k h in rw (e, z.1) refl
+in_instruments b n i k None e h = absurd (omega (arith, h))
+in_instruments b n i k (Some x) e h =
+    let z = there x.zones k h in
+    record { key = range_of Key x.global z.0; velocity = range_of Velocity x.global z.0; key_range = rw (e, z.1) refl; velocity_range = rw (e, z.1) refl; holds = rw (e, z.1) refl }
 
-pub holds_told : (b : Parts) (n : Numbers) (o : Owner) (k : ℕ) → k < zones_in b o → owner_holds b n o k ≡ told b n o k
-holds_told b n (owner.Preset p) k h = let s = zones_of_preset b p _ refl in preset_told b n p k _ refl (omega (arith, h, s))
-holds_told b n (owner.Instrument i) k h = let s = zones_of_instrument b i _ refl in instrument_told b n i k _ refl (omega (arith, h, s))
+pub zone_told : (b : Parts) (n : Numbers) (o : Owner) (k : ℕ) → k < zones_in b o → ZoneTold b n o k
+zone_told b n (owner.Preset p) k h = let s = zones_of_preset b p _ refl in in_presets b n p k _ refl (omega (arith, h, s))
+zone_told b n (owner.Instrument i) k h = let s = zones_of_instrument b i _ refl in in_instruments b n i k _ refl (omega (arith, h, s))
 
-pub contains_is : (r : Bool) (low high amount x : ℕ) → low ≡ amount % 256 → high ≡ amount / 256 → (IsTrue r ↔ ((low ≤ x) × (x ≤ high))) → r ≡ within amount x
-contains_is r low high amount x l h e = rw (← l, ← h) (from r (nat_le low x) (nat_le x high) refl refl e)
+-- a range by its ends
+both_ends : (r : Bool) (low high range x : ℕ) → low_end range ≡ low → high_end range ≡ high → (IsTrue r ↔ ((low ≤ x) × (x ≤ high))) → r ≡ within range x
+both_ends r low high range x l h e = rw (l, h) (from r (nat_le low x) (nat_le x high) refl refl e)
   where
     from : (r s t : Bool) → nat_le low x ≡ s → nat_le x high ≡ t → (IsTrue r ↔ ((low ≤ x) × (x ≤ high))) → r ≡ (s && t)
     from true true true p q e = refl
@@ -86,11 +98,22 @@ contains_is r low high amount x l h e = rw (← l, ← h) (from r (nat_le low x)
     from false true false p q e = refl
     from false false t p q e = refl
 
-pub both_hold : (b : Parts) (n : Numbers) (o : Owner) (k : ℕ) (q r : Bool) → k < zones_in b o → q ≡ within (range_at b o k 43) n.key → q ≡ true → r ≡ within (range_at b o k 44) n.velocity → r ≡ owner_holds b n o k
-both_hold b n o k q r h e t f = f ∙ ap (λ (x : Bool). x && within (range_at b o k 44) n.velocity) (sym t ∙ e) ∙ sym (holds_told b n o k h)
+same_some : {x y : ℕ} → Some x ≡ Some y → x ≡ y
+same_some e = cc
 
-pub first_fails : (b : Parts) (n : Numbers) (o : Owner) (k : ℕ) (q : Bool) → k < zones_in b o → q ≡ within (range_at b o k 43) n.key → q ≡ false → q ≡ owner_holds b n o k
-first_fails b n o k q h e t = t ∙ ap (λ (x : Bool). x && within (range_at b o k 44) n.velocity) (sym t ∙ e) ∙ sym (holds_told b n o k h)
+pub contains_is : (r : Bool) (low high range x : ℕ) (o : Option ℕ) → o ≡ Some range → option_map low_end o ≡ Some low → option_map high_end o ≡ Some high
+    → (IsTrue r ↔ ((low ≤ x) × (x ≤ high))) → r ≡ within range x
+contains_is r low high range x o is l h e = both_ends r low high range x (same_some (sym (ap (option_map low_end) is) ∙ l)) (same_some (sym (ap (option_map high_end) is) ∙ h)) e
+
+pub both_hold : (b : Parts) (n : Numbers) (o : Owner) (k : ℕ) (q r : Bool) (t : ZoneTold b n o k) → q ≡ within t.key n.key → q ≡ true → r ≡ within t.velocity n.velocity → r ≡ owner_holds b n o k
+both_hold b n o k q r t e f g = g ∙ ap (λ (x : Bool). x && within t.velocity n.velocity) (sym f ∙ e) ∙ sym t.holds
+
+pub first_fails : (b : Parts) (n : Numbers) (o : Owner) (k : ℕ) (q : Bool) (t : ZoneTold b n o k) → q ≡ within t.key n.key → q ≡ false → q ≡ owner_holds b n o k
+first_fails b n o k q t e f = f ∙ ap (λ (x : Bool). x && within t.velocity n.velocity) (sym f ∙ e) ∙ sym t.holds
+
+pub counted : (o : Option ℕ) (k : ℕ) → k < unwrap_or o 0 → IsSomeAnd o (λ count. k < count)
+counted None k h = absurd (omega (arith, h))
+counted (Some n) k h = h
 
 -- ---- the numbers of the zones that hold it
 

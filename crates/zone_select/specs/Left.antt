@@ -5,22 +5,16 @@ use Rattle.std.specs.Option.{option_map_or}
 use Rattle.note_list.specs.Notes.{Numbers}
 use Rattle.bank_changes.specs.declared.members.Owner.{Owner}
 use Rattle.bank_changes.specs.declared.members.Owner.TheVariants as owner
-use Rattle.bank_changes.specs.declared.members.Place.TheVariants as place
-use Rattle.bank_changes.specs.Members.{amount_of, own_zone_count, target_of}
+use Rattle.bank_changes.specs.Members.{own_zone_count, target_of}
 use Rattle.bank_parts.specs.declared.parts.Head.{Head}
 use Rattle.bank_parts.specs.declared.parts.WithZones.{WithZones}
 use Rattle.bank_parts.specs.declared.parts.Zone.{Zone}
 use Rattle.bank_parts.specs.declared.parts.Parts.{Parts}
-use Rattle.zone_select.specs.Ranges.{whole_range}
 use Rattle.zone_select.specs.Pairs.{holds_at, held, held_inside, pairs_at}
 
 -- how many zones an owner has; none where there is no such owner
 abbrev pub zones_in : Parts → Owner → ℕ
 zones_in b o = unwrap_or (own_zone_count b o) 0
-
--- the amount of a range operator that holds for zone k of an owner
-abbrev pub range_at : Parts → Owner → ℕ → ℕ → ℕ
-range_at b o k op = unwrap_or (amount_of b o (place.Zone k) op) (unwrap_or (amount_of b o place.Global op) whole_range)
 
 -- an owner has zone k, and it holds the note
 abbrev pub owner_holds : Parts → Numbers → Owner → ℕ → Bool

@@ -6,3 +6,4 @@ pub mod Select
 pub mod Pairs
 pub mod Left
 pub mod At
+pub mod Summed

@@ -1,22 +1,15 @@
--- The ranges that hold for a zone, and which notes it takes.
-use Rattle.std.specs.Prelude.{ℕ, ◌%◌, ◌/◌, Bool, nat_le, ◌&&◌, unwrap_or}
-use Rattle.std.specs.FinMap.{get}
+-- Which notes a zone takes.
+use Rattle.std.specs.Prelude.{ℕ, Bool, nat_le, ◌&&◌}
 use Rattle.note_list.specs.Notes.{Numbers}
 use Rattle.bank_parts.specs.declared.parts.GlobalZone.{GlobalZone}
 use Rattle.bank_parts.specs.declared.parts.Zone.{Zone}
+use Rattle.zone_ranges.specs.declared.axes.Axis.TheVariants.{Key, Velocity}
+use Rattle.zone_ranges.specs.Ranges.{low_end, high_end, range_of}
 
--- 0 to 127: the low end in the low byte
-abbrev pub whole_range : ℕ
-whole_range = 32512
-
--- the zone's own range, else its global zone's, else 0 to 127
-abbrev pub range_of : GlobalZone → Zone → ℕ → ℕ
-range_of global z op = unwrap_or (get z.gens op) (unwrap_or (get global.gens op) whole_range)
-
--- a number lies in the range of an amount
+-- a number lies in a range
 abbrev pub within : ℕ → ℕ → Bool
-within amount x = nat_le (amount % 256) x && nat_le x (amount / 256)
+within range x = nat_le (low_end range) x && nat_le x (high_end range)
 
--- both ranges of a zone hold the note's own key and velocity
+-- both ranges that hold for a zone hold the note's own key and velocity
 unfoldable pub holds : Numbers → GlobalZone → Zone → Bool
-holds n global z = within (range_of global z 43) n.key && within (range_of global z 44) n.velocity
+holds n global z = within (range_of Key global z) n.key && within (range_of Velocity global z) n.velocity

@@ -13,6 +13,6 @@ mod pitches;
 mod spans;
 mod zones;
 
-pub use laws::selected_by_pairs;
+pub use laws::{linear_modulators_are_summed, selected_by_pairs};
 pub use pairs::{ZonePairs, matches};
 pub use parameters::{VoiceParameters, params, sample_of};

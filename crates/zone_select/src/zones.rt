@@ -1,15 +1,11 @@
 //! Which zones of an owner hold a note.
-ghost use Rattle.std.specs.Prelude.{◌≡◌, ◌<◌, ◌≤◌, ◌%◌, ◌/◌, ◌∷◌, ◌+◌, [], MatchOption, IfSome};
+ghost use Rattle.std.specs.Prelude.{◌≡◌, ◌<◌, ◌≤◌, ◌∷◌, ◌+◌, [], MatchOption, IfSome};
 ghost use Rattle.note_list.specs.Notes.{Numbers};
-ghost use Rattle.zone_select.specs.Left.{zones_in, range_at, owner_holds, owner_held};
+ghost use Rattle.zone_select.specs.Left.{zones_in, owner_holds, owner_held};
 
-use bank_core::{Bank, Owner, Place};
-use generators::Range;
-use generators::operators::{KEY_RANGE, VEL_RANGE};
+use bank_core::{Bank, Owner};
 use note_list::Note;
-
-/// The keys and the velocities that a zone takes where neither it nor its global zone says.
-const WHOLE_RANGE: Range = Range { low: 0, high: 127 };
+use zone_ranges::Axis;
 
 // How many zones an owner has; none where there is no such owner.
 fn zones_in(bank: &Bank<'_>, owner: Owner) -> u32
@@ -24,27 +20,15 @@ fn zones_in(bank: &Bank<'_>, owner: Owner) -> u32
     }
 }
 
-// The range that holds for a zone.
-fn range_at(bank: &Bank<'_>, owner: Owner, zone: u32, operator: u16) -> Range
-    ensures low { result.low ≡ range_at bank.now owner zone operator % 256 }
-    ensures high { result.high ≡ range_at bank.now owner zone operator / 256 }
-{
-    if let Some(amount) = bank.gen_of(owner, Place::Zone(zone), operator) {
-        return Range::of_amount(amount);
-    }
-    match bank.gen_of(owner, Place::Global, operator) {
-        Some(amount) => Range::of_amount(amount),
-        None => WHOLE_RANGE,
-    }
-}
-
 // Whether a zone that is there holds the note.
 pub(crate) fn holds(bank: &Bank<'_>, note: &Note, owner: Owner, zone: u32) -> bool
     requires { zone < zones_in bank.now owner }
     ensures { result ≡ owner_holds bank.now note.now owner zone }
 {
-    range_at(bank, owner, zone, KEY_RANGE).contains(note.key())
-        && range_at(bank, owner, zone, VEL_RANGE).contains(note.velocity())
+    bank.zone_range(owner, zone, Axis::Key).contains(note.key())
+        && bank
+            .zone_range(owner, zone, Axis::Velocity)
+            .contains(note.velocity())
 }
 
 // The first zone of an owner, from this number on, that holds the note.

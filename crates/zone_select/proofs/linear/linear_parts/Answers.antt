@@ -1,7 +1,7 @@
-use Rattle.std.proofs.Common.{◌≡◌, ◌≤ℤ◌, ◌+ℤ◌, ◌<◌, ℕ, ℤ, length, get_or, take, pos, negsuc, SFits, to_z, of_z, sym, ◌∙◌, ap, arith}
+use Rattle.std.proofs.Common.{◌≡◌, ◌+ℤ◌, ℕ, ℤ, take, pos, to_z, of_z, sym, ◌∙◌, ap, arith}
 use Rattle.std.specs.Int.{w32}
 use Rattle.std.specs.List.{fold}
-use Rattle.std.proofs.lemmas.Int.{ints, to_z-of_z}
+use Rattle.std.proofs.lemmas.Int.{ints}
 use Rattle.zone_select.specs.Amounts.{linear_part, linear_sources}
 use Rattle.zone_select.specs.At.{inner_at, outer_at}
 use Rattle.zone_select.proofs.LinearLaws.{one_more, all_summed}

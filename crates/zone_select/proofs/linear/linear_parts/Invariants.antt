@@ -1,4 +1,4 @@
-use Rattle.std.proofs.Common.{◌≡◌, ◌+◌, ◌*◌, ℤ, pos, ◌+ℤ◌, ◌≤ℤ◌, take}
+use Rattle.std.proofs.Common.{◌≡◌, ◌*◌, pos, ◌+ℤ◌, ◌≤ℤ◌, take}
 use Rattle.std.specs.List.{fold}
 use Rattle.zone_select.specs.Amounts.{linear_part, linear_sources}
 use Rattle.zone_select.specs.At.{inner_at, outer_at}

@@ -1,4 +1,4 @@
-use Rattle.std.proofs.Common.{◌≡◌, ℕ, Option, unwrap_or, SFits, to_z, of_z, refl, sym, ap, ◌∙◌, rules}
+use Rattle.std.proofs.Common.{ℕ, Option, unwrap_or, SFits, refl, ap, ◌∙◌, rules}
 use Rattle.std.specs.Int.{w16, w32}
 use Rattle.std.specs.Option.{is_some}
 use Rattle.std.proofs.lemmas.Int.{to_z-of_z}

@@ -1,4 +1,4 @@
-use Rattle.std.proofs.Common.{◌≡◌, ◌≤ℤ◌, ◌+ℤ◌, ◌*ℤ◌, pos, SFits, to_z, of_z, arith}
+use Rattle.std.proofs.Common.{◌*ℤ◌, SFits, arith}
 use Rattle.std.specs.Int.{w32}
 use Rattle.std.proofs.lemmas.Int.{to_z-of_z}
 use Rattle.zone_select.proofs.LinearLaws.{product_fits, interval_within}

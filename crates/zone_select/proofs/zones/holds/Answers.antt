@@ -1,16 +1,31 @@
-use Rattle.zone_select.specs.Left.{range_at}
-use Rattle.zone_select.proofs.ZoneLaws.{contains_is, first_fails, both_hold}
+use Rattle.std.proofs.Common.{◌∙◌, ap}
+use Rattle.bank_changes.specs.Members.{own_zone_count}
+use Rattle.bank_changes.specs.Zones.{range_of_zone}
+use Rattle.zone_ranges.specs.declared.axes.Axis.TheVariants.{Key, Velocity}
+use Rattle.zone_select.specs.Ranges.{within}
+use Rattle.zone_select.proofs.ZoneLaws.{zone_told, contains_is, first_fails, both_hold, counted}
 use Rattle.zone_select.proofs.zones.holds.Goals as goal
+
+pub zone_range-requires : goal.zone_range-requires
+zone_range-requires c = counted (own_zone_count c.args.bank.now c.args.owner) c.args.zone c.requires
+
+pub zone_range-requires-then-contains : goal.zone_range-requires-then-contains
+zone_range-requires-then-contains c = counted (own_zone_count c.args.bank.now c.args.owner) c.args.zone c.requires
 
 pub returns-then-contains : goal.returns-then-contains
 returns-then-contains c =
-    both_hold c.args.bank.now c.args.note.now c.args.owner c.args.zone c.contains.result c.contains-then-contains.result c.requires
-    (rw (← c.key.ensures.value) (contains_is c.contains.result c.range_at.result.low c.range_at.result.high (range_at c.args.bank.now c.args.owner c.args.zone 43) c.key.result c.range_at.ensures.low c.range_at.ensures.high c.contains.ensures))
+    let t = zone_told c.args.bank.now c.args.note.now c.args.owner c.args.zone c.requires in
+    both_hold c.args.bank.now c.args.note.now c.args.owner c.args.zone c.contains.result c.contains-then-contains.result t
+    (contains_is c.contains.result c.zone_range.result.low c.zone_range.result.high t.key c.key.result (range_of_zone c.args.bank.now c.args.owner c.args.zone Key) t.key_range c.zone_range.ensures.low c.zone_range.ensures.high c.contains.ensures
+    ∙ ap (within t.key) c.key.ensures.value)
     c.if-contains.true
-    (rw (← c.velocity.ensures.value) (contains_is c.contains-then-contains.result c.range_at-then-contains.result.low c.range_at-then-contains.result.high (range_at c.args.bank.now c.args.owner c.args.zone 44) c.velocity.result c.range_at-then-contains.ensures.low c.range_at-then-contains.ensures.high c.contains-then-contains.ensures))
+    (contains_is c.contains-then-contains.result c.zone_range-then-contains.result.low c.zone_range-then-contains.result.high t.velocity c.velocity.result (range_of_zone c.args.bank.now c.args.owner c.args.zone Velocity) t.velocity_range c.zone_range-then-contains.ensures.low c.zone_range-then-contains.ensures.high c.contains-then-contains.ensures
+    ∙ ap (within t.velocity) c.velocity.ensures.value)
 
 pub returns-else-contains : goal.returns-else-contains
 returns-else-contains c =
-    first_fails c.args.bank.now c.args.note.now c.args.owner c.args.zone c.contains.result c.requires
-    (rw (← c.key.ensures.value) (contains_is c.contains.result c.range_at.result.low c.range_at.result.high (range_at c.args.bank.now c.args.owner c.args.zone 43) c.key.result c.range_at.ensures.low c.range_at.ensures.high c.contains.ensures))
+    let t = zone_told c.args.bank.now c.args.note.now c.args.owner c.args.zone c.requires in
+    first_fails c.args.bank.now c.args.note.now c.args.owner c.args.zone c.contains.result t
+    (contains_is c.contains.result c.zone_range.result.low c.zone_range.result.high t.key c.key.result (range_of_zone c.args.bank.now c.args.owner c.args.zone Key) t.key_range c.zone_range.ensures.low c.zone_range.ensures.high c.contains.ensures
+    ∙ ap (within t.key) c.key.ensures.value)
     c.if-contains.false
