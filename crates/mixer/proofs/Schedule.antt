@@ -87,10 +87,11 @@ play_last b ps now out new written all p even new_is written_is =
     written_is ∙ ap (λ l. take now out ++ l) (new_is ∙ ap (block ps) half ∙ sym (append-nil (block ps (length out / 2 - now / 2)))) ∙ p.is
 
 -- the note that the loop comes to
-pub played_next : (b : Parts) (ps : List Playing) (ns : List Numbers) (i now : ℕ) (d : Numbers) (out all : List ℤ) → i < length ns
-    → IsPlayed b ps (drop i ns) now out all → IsPlayed b ps (get_or ns i d ∷ drop (i + 1) ns) now out all
-played_next b ps ns i now d out all l p =
-    subst (λ (ms : List Numbers). IsPlayed b ps ms now out all) (at_drop_more (λ (ms : List Numbers). ms) ns i d l) p
+pub played_next : (b : Parts) (ps : List Playing) (ns : List Numbers) (i now : ℕ) (n : Numbers) (out all : List ℤ) → i < length ns → n ≡ get_or ns i n
+    → IsPlayed b ps (drop i ns) now out all → IsPlayed b ps (n ∷ drop (i + 1) ns) now out all
+played_next b ps ns i now n out all l e p =
+    subst (λ (x : Numbers). IsPlayed b ps (x ∷ drop (i + 1) ns) now out all) (sym e)
+    (subst (λ (ms : List Numbers). IsPlayed b ps ms now out all) (at_drop_more (λ (ms : List Numbers). ms) ns i n l) p)
 
 pub played_end : (b : Parts) (ps : List Playing) (ns : List Numbers) (i now : ℕ) (out all : List ℤ) → length ns ≤ i → IsPlayed b ps (drop i ns) now out all → IsPlayed b ps [] now out all
 played_end b ps ns i now out all l p =

@@ -1,4 +1,4 @@
-use Rattle.std.proofs.Common.{◌≡◌, ◌≤◌, ◌+◌, ◌-◌, ◌*◌, ◌/◌, ◌%◌, ◌++◌, ◌∙◌, ℕ, List, ap, arith, length, get_or, take, drop}
+use Rattle.std.proofs.Common.{◌≡◌, ◌≤◌, ◌+◌, ◌-◌, ◌*◌, ◌/◌, ◌%◌, ◌++◌, ◌∙◌, ℕ, List, ap, arith, length, take, drop}
 use Rattle.note_list.specs.Notes.{Numbers}
 use Rattle.mixer.specs.declared.playing.Playing.{Playing}
 use Rattle.mixer.specs.Heard as heard
@@ -12,19 +12,21 @@ loop-note-preserved c =
     let i = c.loop-note.note-index in
     let now = c.loop-note.now in
     let out = c.loop-note.out in
-    let n : Numbers = get_or ns i (record { start = 0; length = 0; bank = 0; number = 0; key = 0; velocity = 0 }) in
-    let here = played_next _ _ ns i now (record { start = 0; length = 0; bank = 0; number = 0; key = 0; velocity = 0 }) out _ c.loop-note-test.true c.loop-note.invariant.played in
+    let n : Numbers = c.note-item.result in
+    let here = played_next _ _ ns i now n out _ c.loop-note-test.true c.note-item.is c.loop-note.invariant.played in
+    let next = 2 * c.start.result in
+    let same : c.start.result ≡ n.start = c.start.ensures.value in
     let later : now / 2 ≤ n.start = here.rising.0 in
     let in_out : n.start ≤ length out / 2 = here.starts_in.0 in
-    let fits : now + (2 * n.start - now) ≤ length out = omega (arith, later, in_out, c.loop-note.invariant.played.even) in
-    let sub : length (take (2 * n.start - now) (drop now out)) ≡ 2 * n.start - now = part_len now (2 * n.start - now) out fits in
-    let long : length c.block.new.out ≡ 2 * n.start - now = c.block.auto.out ∙ sub in
-    let kept : length (take now out ++ (c.block.new.out ++ drop (2 * n.start - now) (drop now out))) ≡ length out = put_len now (2 * n.start - now) out c.block.new.out fits long in
+    let fits : now + (next - now) ≤ length out = omega (arith, same, later, in_out, c.loop-note.invariant.played.even) in
+    let sub : length (take (next - now) (drop now out)) ≡ next - now = part_len now (next - now) out fits in
+    let long : length c.block.new.out ≡ next - now = c.block.auto.out ∙ sub in
+    let kept : length (take now out ++ (c.block.new.out ++ drop (next - now) (drop now out))) ≡ length out = put_len now (next - now) out c.block.new.out fits long in
     record {
-      played = play_step c.args.bank.now c.loop-note.player c.start.new.self n (drop (i + 1) ns) now (2 * n.start) out c.block.new.out _ _ here (λ _. 2 * n.start)
+      played = play_step c.args.bank.now c.loop-note.player c.start-in-loop-note.new.self n (drop (i + 1) ns) now next out c.block.new.out _ _ here (ap (λ (k : ℕ). 2 * k) same)
           (c.block.ensures.heard ∙ ap (λ (m : ℕ). block c.loop-note.player (m / 2)) sub) long
-          (c.in_ok-start.ensures.ok ∙ ap (λ (ps : List Playing). after_start ps (heard.fresh c.args.bank.now n)) (c.block.ensures.live ∙ ap (λ (m : ℕ). after_block c.loop-note.player (m / 2)) sub))
-          (λ _. take now out ++ (c.block.new.out ++ drop (2 * n.start - now) (drop now out))) kept;
+          (c.in_ok-start.ensures.done ∙ ap (λ (ps : List Playing). after_start ps (heard.fresh c.args.bank.now n)) (c.block.ensures.live ∙ ap (λ (m : ℕ). after_block c.loop-note.player (m / 2)) sub))
+          (λ _. take now out ++ (c.block.new.out ++ drop (next - now) (drop now out))) kept;
       long = kept ∙ c.loop-note.invariant.long;
     }
 
