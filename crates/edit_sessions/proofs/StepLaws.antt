@@ -1,0 +1,99 @@
+-- Steps over a bank and its lists of edits, whose last edit is the next one, as steps of the history.
+use Rattle.std.proofs.Common.{◌≡◌, ◌<◌, List, [], ◌∷◌, ◌++◌, reverse, length, refl, sym, subst, ◌∙◌, ap, arith, OnOk, IfErr}
+use Rattle.std.specs.Prelude.{Result, Ok, Err}
+use Rattle.std.proofs.lemmas.Grind.{common_steps}
+use Rattle.sf_base.specs.declared.memory.Failure.{Failure}
+use Rattle.sf_base.specs.declared.memory.Failure.TheVariants as failure
+use Rattle.bank_parts.specs.declared.parts.Parts.{Parts}
+use Rattle.bank_parts.specs.Sound.{IsSound}
+use Rattle.edit_forms.specs.declared.edit.Edit.{Edit}
+use Rattle.edit_forms.specs.declared.cause.Refusal.{Refusal}
+use Rattle.edit_forms.specs.declared.cause.Refusal.TheVariants as refusal_of
+use Rattle.edit_forms.specs.Edits.{raw}
+use Rattle.bank_edits.specs.EditChanges.{inverse}
+use Rattle.inverse_edits.specs.Undone.{IsTaken, IsUndone}
+use Rattle.inverse_edits.specs.Runs.{AllTaken}
+use Rattle.inverse_edits.proofs.Law.{undone}
+use Rattle.edit_sessions.specs.declared.fault.SessionFault.{SessionFault}
+use Rattle.edit_sessions.specs.declared.fault.SessionFault.TheVariants.{NothingToUndo, NothingToRedo}
+use Rattle.edit_sessions.specs.Steps.{IsStep, IsDoneStep, IsNoStep, IsDoneEdit, IsWhy}
+use Rattle.edit_sessions.specs.Histories.{history_of, IsForth, IsRedoFailure, edited, IsEdited, IsRefusalNow}
+use Rattle.edit_sessions.proofs.ListLaws.{reverse_push}
+use Rattle.edit_sessions.proofs.HistoryLaws.{forth, edit_done, bank_total, stands}
+
+-- what a session keeps
+pub record Keeps (b : Parts) (undos next : List Edit) : Type 0 where
+  pub sound : IsSound b
+  pub back : AllTaken b undos
+  pub forth : AllTaken b next
+
+taken_back : (b : Parts) (e : Edit) (others : List Edit) → IsUndone b e → AllTaken b others → AllTaken (raw b e) (inverse b e ∷ others)
+taken_back b e others u t = (u.taken, subst (λ (c : Parts). AllTaken c others) (sym u.restored) t)
+
+module _ (old new : Parts) (f f' t t' : List Edit) (s : IsSound old) (from : AllTaken old (reverse f)) where
+  -- what a step that is done says of the lists from their last edit on
+  record Done (d : IsDoneStep old new f f' t t') : Type 0 where
+    from_is : reverse f ≡ d.edit ∷ reverse f'
+    to_is : reverse t' ≡ inverse old d.edit ∷ reverse t
+    rest : AllTaken (raw old d.edit) (reverse f')
+    undone_is : IsUndone old d.edit
+
+  done : (d : IsDoneStep old new f f' t t') → Done d
+  done d =
+      let from_is : reverse f ≡ d.edit ∷ reverse f' = ap reverse d.last ∙ reverse_push f' d.edit in
+      let taken : AllTaken old (d.edit ∷ reverse f') = subst (AllTaken old) from_is from in
+      record { from_is = from_is; to_is = ap reverse d.back ∙ reverse_push t (inverse old d.edit); rest = taken.1; undone_is = undone old d.edit s taken.0 }
+
+  pub step_keeps : (at_end : SessionFault) (r : Result (Unit {0}) (Failure SessionFault)) → IsStep old new f f' t t' at_end r → AllTaken old (reverse t)
+      → Keeps new (reverse f') (reverse t')
+  step_keeps at_end (Ok u) d to =
+      let h = done d in
+      let there : Keeps (raw old d.edit) (reverse f') (inverse old d.edit ∷ reverse t)
+            = record { sound = h.undone_is.sound; back = h.rest; forth = taken_back old d.edit (reverse t) h.undone_is to } in
+      subst (λ (b : Parts). Keeps b (reverse f') (reverse t')) (sym d.changed) (subst (Keeps (raw old d.edit) (reverse f')) (sym h.to_is) there)
+  step_keeps at_end (Err (failure.Fault x)) d to = rw (d.0.bank, d.0.from, d.0.to) (record { sound = s; back = from; forth = to })
+  step_keeps at_end (Err failure.OutOfMemory) d to = rw (d.0.bank, d.0.from, d.0.to) (record { sound = s; back = from; forth = to })
+
+  pub step_back : (at_end : SessionFault) (r : Result (Unit {0}) (Failure SessionFault)) → IsStep old new f f' t t' at_end r
+      → OnOk r (IsForth (history_of new (reverse f') (reverse t')) (history_of old (reverse f) (reverse t)))
+  step_back at_end (Ok u) d =
+      let h = done d in
+      let there = forth (raw old d.edit) old (inverse old d.edit) d.edit (reverse f') (reverse t) refl refl h.undone_is.restored in
+      rw (h.from_is, h.to_is, d.changed) there
+  step_back at_end (Err x) d = tt
+
+  pub step_forth : (at_end : SessionFault) (r : Result (Unit {0}) (Failure SessionFault)) → IsStep old new f f' t t' at_end r
+      → OnOk r (IsForth (history_of old (reverse t) (reverse f)) (history_of new (reverse t') (reverse f')))
+  step_forth at_end (Ok u) d =
+      let h = done d in
+      let there = forth old (raw old d.edit) d.edit (inverse old d.edit) (reverse t) (reverse f') h.undone_is.restored h.undone_is.redone refl in
+      rw (h.from_is, h.to_is, d.changed) there
+  step_forth at_end (Err x) d = tt
+
+pub redo_failure : (old new : Parts) (f f' t t' : List Edit) (r : Result (Unit {0}) (Failure SessionFault)) → IsStep old new f f' t t' NothingToRedo r
+    → IfErr r (IsRedoFailure (history_of old (reverse t) (reverse f)))
+redo_failure old new f f' t t' (Ok u) d = tt
+redo_failure old new f f' t t' (Err (failure.Fault NothingToRedo)) d = grind (arith, common_steps, d.1, bank_total old (reverse t) (reverse f))
+redo_failure old new f f' t t' (Err (failure.Fault NothingToUndo)) d = (let h : NothingToUndo ≡ NothingToRedo = d.2 in absurd cc)
+redo_failure old new f f' t t' (Err failure.OutOfMemory) d = grind (arith, common_steps, d.1, bank_total old (reverse t) (reverse f))
+
+module _ (old new : Parts) (was now : List Edit) (e : Edit) (d : IsDoneEdit old new was now e) (s : IsSound old) where
+  last : reverse now ≡ inverse old e ∷ reverse was
+  last = ap reverse d.back ∙ reverse_push was (inverse old e)
+
+  undone_is : IsUndone old e
+  undone_is = undone old e s (record { fits = d.fits; accepted = d.accepted })
+
+  pub edit_keeps : AllTaken old (reverse was) → Keeps new (reverse now) []
+  edit_keeps back =
+      let there : Keeps (raw old e) (inverse old e ∷ reverse was) [] = record { sound = undone_is.sound; back = taken_back old e (reverse was) undone_is back; forth = tt } in
+      subst (λ (b : Parts). Keeps b (reverse now) []) (sym d.changed) (subst (λ (l : List Edit). Keeps (raw old e) l []) (sym last) there)
+
+  pub edit_history : (next : List Edit) → IsEdited (history_of old (reverse was) next) (history_of new (reverse now) []) e
+  edit_history next =
+      let there = edit_done old (raw old e) e (inverse old e) (reverse was) next undone_is.restored undone_is.redone next in
+      record { bank = old; here = stands old (reverse was) next; accepted = d.accepted; changed = rw (last, d.changed) there }
+
+pub why_refused : (b : Parts) (undos next : List Edit) (e : Edit) (why : Refusal) → IsWhy b e why → IsRefusalNow (history_of b undos next) e why
+why_refused b undos next e (refusal_of.Of cause) w = rw (stands b undos next) w
+why_refused b undos next e refusal_of.OutOfMemory w = tt

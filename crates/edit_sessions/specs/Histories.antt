@@ -1,0 +1,99 @@
+-- What a session is: a list of banks, the edit between each two neighbours, and a place in the list.
+use Rattle.std.specs.Prelude.{◌≡◌, ℕ, ◌<◌, ◌+◌, Option, Some, None, List, [], ◌∷◌, ◌++◌, length, map, take, zip, slice_get, option_and_then}
+use Rattle.sf_base.specs.declared.memory.Failure.{Failure}
+use Rattle.sf_base.specs.declared.memory.Failure.TheVariants as failure
+use Rattle.bank_parts.specs.declared.parts.Parts.{Parts}
+use Rattle.edit_forms.specs.declared.edit.Edit.{Edit}
+use Rattle.edit_forms.specs.declared.cause.Refusal.{Refusal}
+use Rattle.edit_forms.specs.declared.cause.Refusal.TheVariants as refusal_of
+use Rattle.edit_forms.specs.Edits.{raw, refusal}
+use Rattle.bank_edits.specs.EditChanges.{inverse}
+use Rattle.inverse_edits.specs.Undone.{IsTaken}
+use Rattle.inverse_edits.specs.Runs.{undo_list}
+use Rattle.edit_sessions.specs.declared.fault.SessionFault.{SessionFault}
+use Rattle.edit_sessions.specs.declared.fault.SessionFault.TheVariants.{NothingToUndo, NothingToRedo}
+
+pub record History : Type 0 where
+  pub banks : List Parts
+  pub edits : List Edit
+  pub place : ℕ
+
+-- the bank at the place
+abbrev pub bank_now : History → Option Parts
+bank_now h = slice_get h.banks h.place
+
+-- from a bank on, each edit is taken and gives the next bank
+abbrev pub Follow : Parts → List Parts → List Edit → Type 0
+Follow b [] [] = Unit {0}
+Follow b (c ∷ banks) (e ∷ edits) = IsTaken b e × (c ≡ raw b e) × Follow c banks edits
+Follow b [] (e ∷ edits) = ⊥
+Follow b (c ∷ banks) [] = ⊥
+
+-- the same of a list of banks, which is not empty
+abbrev pub AreLinked : List Parts → List Edit → Type 0
+AreLinked [] edits = ⊥
+AreLinked (b ∷ banks) edits = Follow b banks edits
+
+pub record IsHistory (h : History) : Type 0 where
+  pub linked : AreLinked h.banks h.edits
+  pub within : h.place < length h.banks
+
+-- ---- the calls
+
+-- one bank, and no edit yet
+abbrev pub begun : Parts → History
+begun b = record { banks = b ∷ []; edits = []; place = 0 }
+
+-- both lists end at the place; then come the edit and the bank that it gives
+abbrev pub edited : History → Edit → Parts → History
+edited h e next = record { banks = take (h.place + 1) h.banks ++ next ∷ []; edits = take h.place h.edits ++ e ∷ []; place = h.place + 1 }
+
+-- the bank at the place takes the edit
+pub record IsEdited (old new : History) (e : Edit) : Type 0 where
+  pub bank : Parts
+  pub here : bank_now old ≡ Some bank
+  pub accepted : refusal bank e ≡ None
+  pub changed : new ≡ edited old e (raw bank e)
+
+-- a cause is the one for which the bank at the place refuses the edit; memory may be wanting in any case
+abbrev pub IsRefusalNow : History → Edit → Refusal → Type 0
+IsRefusalNow h e (refusal_of.Of cause) = option_and_then (λ (b : Parts). refusal b e) (bank_now h) ≡ Some cause
+IsRefusalNow h e refusal_of.OutOfMemory = Unit {0}
+
+-- one place forth, in the same lists; undo goes from new to old
+pub record IsForth (old new : History) : Type 0 where
+  pub next : old.place + 1 < length old.banks
+  pub moved : new ≡ record old { place = old.place + 1 }
+
+-- there is nothing to undo at the first place; memory is wanting only elsewhere
+abbrev pub IsUndoFailure : History → Failure SessionFault → Type 0
+IsUndoFailure h (failure.Fault NothingToUndo) = h.place ≡ 0
+IsUndoFailure h (failure.Fault NothingToRedo) = ⊥
+IsUndoFailure h failure.OutOfMemory = 0 < h.place
+
+-- there is nothing to redo at the last place; memory is wanting only elsewhere
+abbrev pub IsRedoFailure : History → Failure SessionFault → Type 0
+IsRedoFailure h (failure.Fault NothingToRedo) = h.place + 1 ≡ length h.banks
+IsRedoFailure h (failure.Fault NothingToUndo) = ⊥
+IsRedoFailure h failure.OutOfMemory = h.place + 1 < length h.banks
+
+-- the inverses of the edits up to the place, each read on the bank before its edit, the oldest first
+abbrev pub way_back : History → List Edit
+way_back h = map (λ (step : Parts × Edit). inverse step.0 step.1) (take h.place (zip h.banks h.edits))
+
+-- ---- the history that a bank has with the edits that take it back, the last one's first, and those
+-- that come next
+
+-- the banks before this one, the oldest first
+abbrev pub banks_before : Parts → List Edit → List Parts
+banks_before b [] = []
+banks_before b (e ∷ edits) = banks_before (raw b e) edits ++ raw b e ∷ []
+
+-- the banks after this one
+abbrev pub banks_after : Parts → List Edit → List Parts
+banks_after b [] = []
+banks_after b (e ∷ edits) = raw b e ∷ banks_after (raw b e) edits
+
+abbrev pub history_of : Parts → List Edit → List Edit → History
+history_of b undos next =
+    record { banks = banks_before b undos ++ b ∷ banks_after b next; edits = undo_list b undos ++ next; place = length undos }

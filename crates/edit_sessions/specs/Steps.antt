@@ -1,0 +1,54 @@
+-- One step of a session, over its bank and its lists of edits.
+use Rattle.std.specs.Prelude.{◌≡◌, ◌<◌, None, Some, List, [], ◌∷◌, ◌++◌, length, Result, Ok, Err}
+use Rattle.sf_base.specs.declared.memory.Failure.{Failure}
+use Rattle.sf_base.specs.declared.memory.Failure.TheVariants as failure
+use Rattle.bank_parts.specs.declared.parts.Parts.{Parts}
+use Rattle.edit_forms.specs.declared.edit.Edit.{Edit}
+use Rattle.edit_forms.specs.declared.cause.Refusal.{Refusal}
+use Rattle.edit_forms.specs.declared.cause.Refusal.TheVariants as refusal_of
+use Rattle.edit_forms.specs.Edits.{FitsEdit, raw, refusal}
+use Rattle.bank_edits.specs.EditChanges.{inverse}
+use Rattle.edit_sessions.specs.declared.fault.SessionFault.{SessionFault}
+
+-- the bank takes the last edit of the list, if there is one
+abbrev pub TakesLast : Parts → List Edit → Type 0
+TakesLast b edits = (left : List Edit) (e : Edit) → edits ≡ left ++ e ∷ [] → refusal b e ≡ None
+
+-- the last edit of one list was done, and what takes it back stands behind the other list
+pub record IsDoneStep (old new : Parts) (old_from new_from old_to new_to : List Edit) : Type 0 where
+  pub edit : Edit
+  pub last : old_from ≡ new_from ++ edit ∷ []
+  pub changed : new ≡ raw old edit
+  pub back : new_to ≡ old_to ++ inverse old edit ∷ []
+
+pub record IsNoStep (old new : Parts) (old_from new_from old_to new_to : List Edit) : Type 0 where
+  pub bank : new ≡ old
+  pub from : new_from ≡ old_from
+  pub to : new_to ≡ old_to
+
+-- there is no step exactly from an empty list, or else for want of memory
+abbrev pub IsStep : Parts → Parts → List Edit → List Edit → List Edit → List Edit → SessionFault → Result (Unit {0}) (Failure SessionFault) → Type 0
+IsStep old new f f' t t' at_end (Ok done) = IsDoneStep old new f f' t t'
+IsStep old new f f' t t' at_end (Err (failure.Fault fault)) = IsNoStep old new f f' t t' × (f ≡ []) × (fault ≡ at_end)
+IsStep old new f f' t t' at_end (Err failure.OutOfMemory) = IsNoStep old new f f' t t' × (0 < length f)
+
+-- the edit was done, and what takes it back stands behind the list
+pub record IsDoneEdit (old new : Parts) (was now : List Edit) (e : Edit) : Type 0 where
+  pub fits : FitsEdit e
+  pub accepted : refusal old e ≡ None
+  pub changed : new ≡ raw old e
+  pub back : now ≡ was ++ inverse old e ∷ []
+
+abbrev pub IsWhy : Parts → Edit → Refusal → Type 0
+IsWhy b e (refusal_of.Of cause) = refusal b e ≡ Some cause
+IsWhy b e refusal_of.OutOfMemory = Unit {0}
+
+pub record IsNoEdit (old new : Parts) (was now : List Edit) (e : Edit) (why : Refusal) (given : Edit) : Type 0 where
+  pub named : IsWhy old e why
+  pub bank : new ≡ old
+  pub list : now ≡ was
+  pub handed_back : given ≡ e
+
+abbrev pub IsEdit : Parts → Parts → List Edit → List Edit → Edit → Result (Unit {0}) (Refusal × Edit) → Type 0
+IsEdit old new was now e (Ok done) = IsDoneEdit old new was now e
+IsEdit old new was now e (Err refused) = IsNoEdit old new was now e refused.0 refused.1

@@ -1,0 +1,73 @@
+//! One step of a session, over its bank and its lists of edits.
+ghost use Rattle.std.specs.Prelude.{◌≡◌, ◌<◌, ◌++◌, ◌∷◌, [], vec_len, vec_capacity};
+ghost use Rattle.edit_sessions.specs.Steps.{IsStep, TakesLast, IsEdit};
+
+use crate::fault::SessionFault;
+use bank_core::Bank;
+use bank_edits::{Edit, Refusal, apply};
+use sf_base::Failure;
+use std::alloc::Global;
+
+/// Does the last edit of a list, which the bank takes, and puts the edit that takes it back behind
+/// the other list. An empty list is the fault given, whatever memory there is.
+pub(crate) fn do_last<'a>(
+    alloc: Global,
+    bank: &mut Bank<'a>,
+    from: &mut Vec<Edit<'a>>,
+    to: &mut Vec<Edit<'a>>,
+    at_end: SessionFault,
+) -> Result<(), Failure<SessionFault>>
+    requires { TakesLast bank.old from.old.items }
+    ensures { IsStep bank.old bank.new from.old.items from.new.items to.old.items to.new.items at_end result }
+{
+    let Some(edit) = from.pop() else {
+        return Err(Failure::Fault(at_end));
+    };
+    if to.try_reserve(1).is_err() {
+        push_reserved(from, edit);
+        return Err(Failure::OutOfMemory);
+    }
+    match apply(alloc, bank, edit) {
+        Ok(back) => {
+            push_reserved(to, back);
+            Ok(())
+        }
+        Err((_, given)) => {
+            push_reserved(from, given);
+            Err(Failure::OutOfMemory)
+        }
+    }
+}
+
+/// Does an edit, and puts the one that takes it back behind the list; or hands it back, with nothing
+/// changed.
+pub(crate) fn do_edit<'a>(
+    alloc: Global,
+    bank: &mut Bank<'a>,
+    undo: &mut Vec<Edit<'a>>,
+    edit: Edit<'a>,
+) -> Result<(), (Refusal, Edit<'a>)>
+    ensures { IsEdit bank.old bank.new undo.old.items undo.new.items edit.entry result }
+{
+    if undo.try_reserve(1).is_err() {
+        return Err((Refusal::OutOfMemory, edit));
+    }
+    match apply(alloc, bank, edit) {
+        Ok(back) => {
+            push_reserved(undo, back);
+            Ok(())
+        }
+        Err(refused) => Err(refused),
+    }
+}
+
+// Puts an edit behind a list that has the memory for it.
+fn push_reserved<'a>(list: &mut Vec<Edit<'a>>, edit: Edit<'a>)
+    requires { vec_len list.old < vec_capacity list.old }
+    ensures { list.new.items ≡ list.old.items ++ edit.entry ∷ [] }
+{
+    match list.push(edit) {
+        Ok(()) => {}
+        Err(_) => unreachable!(),
+    }
+}
