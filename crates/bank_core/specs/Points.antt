@@ -11,13 +11,15 @@ use Rattle.bank_parts.specs.declared.parts.Parts.{Parts}
 abbrev pub trimmed : ℕ → ℕ → Sample → Sample
 trimmed front back s = record s {
   points = slice_range s.points front (length s.points - back);
-  looped = option_map (λ (ends : ℕ × ℕ). (ends.0 - front, ends.1 - front)) s.looped }
+  looped = option_map (λ (ends : ℕ × ℕ). (ends.0 - front, ends.1 - front)) s.looped;
+}
 
 -- with points before its own and after them; the loop stays on its points
 abbrev pub extended : List ℕ → List ℕ → Sample → Sample
 extended front back s = record s {
   points = front ++ s.points ++ back;
-  looped = option_map (λ (ends : ℕ × ℕ). (ends.0 + length front, ends.1 + length front)) s.looped }
+  looped = option_map (λ (ends : ℕ × ℕ). (ends.0 + length front, ends.1 + length front)) s.looped;
+}
 
 abbrev pub sample_trimmed : Parts → ℕ → ℕ → ℕ → Parts
 sample_trimmed b i front back = record b { samples = changed b.samples i (trimmed front back) }

@@ -16,7 +16,10 @@ mod zone_changes;
 mod zones;
 
 pub use bank::Bank;
-pub use bank_parts::{GlobalZone, Head, InfoId, Instrument, Kind, Owners, Parts, Preset, Sample, Texts, WithZones, Zone, ZonePlace};
+pub use bank_parts::{
+    GlobalZone, Head, InfoId, Instrument, Kind, Owners, Parts, Preset, Sample, Texts, WithZones,
+    Zone, ZonePlace,
+};
 pub use bank_validity::is_valid;
 pub use fault::PartsFault;
 pub use laws::renaming_keeps_sound;
