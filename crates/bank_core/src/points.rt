@@ -3,10 +3,10 @@ ghost use Rattle.std.specs.Prelude.{◌≡◌, ◌<◌, ◌≤◌, ◌+◌, ◌-
 ghost use Rattle.bank_parts.specs.Sound.{IsSound};
 ghost use Rattle.bank_parts.specs.Counts.{counted};
 ghost use Rattle.bank_validity.specs.Limits.{broken_limit};
-ghost use Rattle.bank_core.specs.Points.{points_of, loop_of, sample_trimmed, sample_extended, loop_set, kind_set, tune_set};
+ghost use Rattle.bank_changes.specs.Points.{points_of, loop_of, sample_trimmed, sample_extended, loop_set, kind_set, tune_set};
 
 use crate::bank::Bank;
-use crate::raw_points::{extend_sample, set_kind, set_loop, set_tune, trim_sample};
+use bank_changes::{extend_sample, set_kind, set_loop, set_tune, trim_sample};
 use bank_parts::Kind;
 use bank_validity::Limit;
 use sample_view::Points;

@@ -1,5 +1,5 @@
 use Rattle.std.proofs.Common.{arith}
-use Rattle.bank_core.proofs.PointLaws.{points_within, points_full, points_fit}
+use Rattle.bank_changes.proofs.PointLaws.{points_within, points_full, points_fit}
 use Rattle.bank_core.proofs.bank.Bank.broken_with_points.Goals as goal
 
 pub overflow_sub-room : goal.overflow_sub-room

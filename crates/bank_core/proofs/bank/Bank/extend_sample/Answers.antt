@@ -1,5 +1,5 @@
 use Rattle.std.proofs.Common.{arith, ◌+◌, refl}
-use Rattle.bank_core.proofs.PointLaws.{few_then, loop_then, room_then, totals_then}
+use Rattle.bank_changes.proofs.PointLaws.{few_then, loop_then, room_then, totals_then}
 use Rattle.bank_core.proofs.bank.Bank.extend_sample.Goals as goal
 
 pub overflow_add-more : goal.overflow_add-more

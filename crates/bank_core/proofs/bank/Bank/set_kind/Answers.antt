@@ -1,6 +1,6 @@
 use Rattle.std.proofs.Common.{refl}
-use Rattle.bank_core.specs.Points.{of_kind}
-use Rattle.bank_core.proofs.PointLaws.{totals_stay}
+use Rattle.bank_changes.specs.Points.{of_kind}
+use Rattle.bank_changes.proofs.PointLaws.{totals_stay}
 use Rattle.bank_core.proofs.bank.Bank.set_kind.Goals as goal
 
 pub invariant_of-self : goal.invariant_of-self

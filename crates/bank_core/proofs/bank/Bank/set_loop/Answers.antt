@@ -1,6 +1,6 @@
 use Rattle.std.proofs.Common.{refl}
-use Rattle.bank_core.specs.Points.{looped_as}
-use Rattle.bank_core.proofs.PointLaws.{totals_stay}
+use Rattle.bank_changes.specs.Points.{looped_as}
+use Rattle.bank_changes.proofs.PointLaws.{totals_stay}
 use Rattle.bank_core.proofs.bank.Bank.set_loop.Goals as goal
 
 pub invariant_of-self : goal.invariant_of-self

@@ -1,7 +1,7 @@
 use Rattle.std.proofs.Common.{refl, w8}
 use Rattle.std.proofs.lemmas.Int.{to_z-of_z}
-use Rattle.bank_core.specs.Points.{tuned}
-use Rattle.bank_core.proofs.PointLaws.{totals_stay}
+use Rattle.bank_changes.specs.Points.{tuned}
+use Rattle.bank_changes.proofs.PointLaws.{totals_stay}
 use Rattle.bank_core.proofs.bank.Bank.set_tune.Goals as goal
 
 pub invariant_of-self : goal.invariant_of-self

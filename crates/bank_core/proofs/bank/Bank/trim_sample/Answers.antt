@@ -1,4 +1,4 @@
-use Rattle.bank_core.proofs.PointLaws.{had_points, totals_left}
+use Rattle.bank_changes.proofs.PointLaws.{had_points, totals_left}
 use Rattle.bank_core.proofs.bank.Bank.trim_sample.Goals as goal
 
 pub overflow_sub-self : goal.overflow_sub-self
