@@ -1,8 +1,7 @@
 -- The raw changes of one sample: each keeps a bank sound where the sample is, and is taken back.
 use Rattle.std.proofs.Common.{◌≡◌, ◌<◌, ◌≤◌, ◌+◌, ◌-◌, ◌++◌, ◌^◌, ℕ, nat_lt, true, false, List, [], ◌∷◌, zero, suc, length, take, drop, Option, Some, None, Result, Ok, Err, OnErr, if◌then◌else◌, refl, sym, ◌∙◌, ap, arith}
-use Rattle.std.specs.Prelude.{slice_get, slice_set, slice_range, sum_by, IfSome, All}
+use Rattle.std.specs.Prelude.{slice_get, slice_set, slice_range, sum_by, IfSome}
 use Rattle.std.specs.Option.{option_map}
-use Rattle.std.specs.List.{AllByRecursion}
 use Rattle.std.proofs.lemmas.Bool.Decides.{nat_tests}
 use Rattle.std.proofs.lemmas.List.{length-append, length-take, length-take-le, length-drop, take-append-drop, append_assoc, take_at, drop_at}
 use Rattle.std.proofs.lemmas.List.Folds.{drop_split}
@@ -19,7 +18,6 @@ use Rattle.bank_parts.specs.Valid.{IsSample, IsLoop, point_total}
 use Rattle.bank_parts.specs.Fits.{FitsSample, FitsLoop}
 use Rattle.bank_parts.specs.Sound.{IsSound}
 use Rattle.bank_validity.specs.declared.totals.Totals.{Totals}
-use Rattle.bank_validity.specs.declared.limits.Limit.{Limit}
 use Rattle.bank_validity.specs.declared.limits.Limit.TheVariants as limit
 use Rattle.bank_validity.specs.Limits.{totals_of, broken, broken_limit}
 use Rattle.bank_validity.proofs.LimitLaws.{AreWithin, within_totals, limits_of, no_limit_of}

@@ -10,8 +10,8 @@ use std::alloc::Global;
 
 // ---- in a bank
 
-/// Takes the first `front` points and the last `back` out of a sample, and gives both; its loop stays
-/// on its points. For want of memory the parts stay as they are.
+/// Takes the first `front` points and the last `back` out of a sample, and gives both. Its loop stays on
+/// its points; no point is copied. For want of memory the parts stay as they are.
 pub fn trim_sample<'a>(
     parts: &mut Parts<'a>,
     alloc: Global,
@@ -30,8 +30,8 @@ pub fn trim_sample<'a>(
     trim(sample, alloc, front, back)
 }
 
-/// Puts points before those of a sample and after them; its loop stays on its points. For want of
-/// memory the parts stay as they are, and the points come back.
+/// Puts points before those of a sample and after them. Its loop stays on its points; no point is
+/// copied. For want of memory the parts stay as they are, and the points come back.
 pub fn extend_sample<'a>(
     parts: &mut Parts<'a>,
     number: u32,
@@ -50,7 +50,8 @@ pub fn extend_sample<'a>(
     extend(sample, front, back)
 }
 
-/// Gives a sample a loop, or none, and gives back the one that it had.
+/// Gives a sample a loop, or none, and gives back the one that it had. It is counted in points from the
+/// sample's start: its first one, and the first one after it. Takes no memory.
 pub fn set_loop(
     parts: &mut Parts<'_>,
     number: u32,
@@ -64,7 +65,8 @@ pub fn set_loop(
     std::mem::replace(&mut sample.looped, looped)
 }
 
-/// Gives a sample a kind, and gives back the one that it had.
+/// Gives a sample a kind (SoundFont 2.04, section 7.10), and gives back the one that it had. Takes no
+/// memory.
 pub fn set_kind(parts: &mut Parts<'_>, number: u32, kind: Kind) -> Kind
     requires { number < length parts.old.samples }
     ensures value { IfSome (slice_get parts.old.samples number) (λ sample. result ≡ sample.kind) }
@@ -74,7 +76,8 @@ pub fn set_kind(parts: &mut Parts<'_>, number: u32, kind: Kind) -> Kind
     std::mem::replace(&mut sample.kind, kind)
 }
 
-/// Gives a sample a rate, an original key and a correction, and gives back those that it had.
+/// Gives a sample its rate in frames a second, its original key (above 127 for none) and the correction
+/// of its pitch in cents, and gives back the three that it had. Takes no memory.
 pub fn set_tune(
     parts: &mut Parts<'_>,
     number: u32,
