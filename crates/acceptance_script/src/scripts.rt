@@ -1,6 +1,6 @@
 //! How scripts are read, on the file of one sample.
 
-use bank_edits::{Edit, Step};
+use edit_forms::{Edit, Step};
 use edit_script::print;
 use sf_base::Name20;
 use sfbank::{edit_run, show_run};

@@ -1,13 +1,4 @@
 pub use Rattle.bank_parts.specs.Valid
 pub use Rattle.bank_parts.specs.Fits
 pub use Rattle.bank_parts.specs.Sound
-pub mod Members
-pub mod Samples
-pub mod Points
-pub mod Instruments
-pub mod Presets
-pub mod Zones
-pub mod Totals
-pub mod Settings
-pub mod Texts
 pub mod Faults

@@ -3,7 +3,7 @@ ghost use Rattle.std.specs.Prelude.{◌≡◌, slice_get, IfOk, IfErr, OnOk};
 ghost use Rattle.std.specs.Option.{option_copied};
 ghost use Rattle.bank_parts.specs.Texts.{text_of};
 ghost use Rattle.bank_parts.specs.Owners.{head_at};
-ghost use Rattle.bank_core.specs.Members.{member_count, head_of, instrument_name_of};
+ghost use Rattle.bank_changes.specs.Members.{member_count, head_of, instrument_name_of};
 ghost use Rattle.bank_parts.specs.Valid.{IsValid};
 ghost use Rattle.bank_parts.specs.Fits.{Fits};
 ghost use Rattle.bank_parts.specs.Sound.{IsSound};
@@ -11,7 +11,7 @@ ghost use Rattle.bank_validity.specs.Limits.{totals_of};
 ghost use Rattle.bank_core.specs.Faults.{IsPartsFault};
 
 use crate::fault::PartsFault;
-use crate::members::Members;
+use bank_changes::Members;
 use bank_parts::{Head, InfoId, Owners, Parts, Sample, copy_parts};
 use bank_validity::{Totals, is_valid, totals_of};
 use sf_base::{Failure, Name20, OutOfMemory};

@@ -1,15 +1,13 @@
 //! The raw changes of a bank's instruments, and who names an instrument.
 ghost use Rattle.std.specs.Prelude.{◌≡◌, ◌<◌, ◌≤◌, Some, length, slice_get, OnOk, OnErr, IfOk, IfErr};
-ghost use Rattle.bank_parts.specs.Owners.{head_at};
-ghost use Rattle.bank_parts.specs.Valid.{IsValid};
 ghost use Rattle.bank_parts.specs.Sound.{IsSound};
-ghost use Rattle.bank_core.specs.Members.{instrument_name_of};
-ghost use Rattle.bank_core.specs.Instruments.{instrument_renamed, instrument_added, instrument_removed, instrument_moved, instrument_in_use};
+ghost use Rattle.bank_changes.specs.Members.{instrument_name_of};
+ghost use Rattle.bank_changes.specs.Instruments.{instrument_renamed, instrument_added, instrument_removed, instrument_moved, instrument_in_use};
 
 use crate::bank::Bank;
-use bank_parts::{Instrument, Parts};
+use bank_changes::{insert_instrument, move_instrument, rename_instrument, take_instrument};
+use bank_parts::Instrument;
 use generators::Level;
-use numbered_lists::{Renumber, Renumbering};
 use sf_base::{Name20, OutOfMemory};
 use std::alloc::Global;
 
@@ -75,72 +73,10 @@ impl<'a> Bank<'a> {
     }
 
     /// Whether a zone of a preset targets the instrument of this number, also where there is none.
-    #[tactic(auto, unfolding(crate::specs::Instruments::instrument_in_use))]
+    #[tactic(auto, unfolding(bank_changes::specs::Instruments::instrument_in_use))]
     pub fn is_instrument_in_use(&self, number: u32) -> bool
         ensures { result ≡ instrument_in_use self.now number }
     {
         self.parts.presets.any_targets(number)
     }
-}
-
-// ---- the changes, without what a bank keeps beside its parts
-
-fn rename_instrument(parts: &mut Parts<'_>, number: u32, name: Name20) -> Name20
-    requires { number < length parts.old.instruments }
-    ensures value { head_at parts.old.instruments number ≡ Some result }
-    ensures change { parts.new ≡ instrument_renamed parts.old number name }
-{
-    parts.instruments.replace_head(number as usize, name)
-}
-
-// At the end it renumbers nothing, and does not walk the bank.
-fn insert_instrument(
-    parts: &mut Parts<'_>,
-    number: u32,
-    instrument: Instrument,
-) -> Result<(), Instrument>
-    requires valid { IsValid parts.old }
-    requires place { number ≤ length parts.old.instruments }
-    ensures ok { OnOk result (parts.new ≡ instrument_added parts.old number instrument) }
-    ensures err { OnErr result (parts.new ≡ parts.old) }
-    ensures value_returned { IfErr result (λ back. back ≡ instrument) }
-{
-    let count = parts.instruments.len();
-    parts.instruments.insert(number as usize, instrument)?;
-    if (number as usize) < count {
-        let by = Renumbering::Insertion { at: number };
-        parts.presets.renumber(by);
-    }
-    Ok(())
-}
-
-// At the end it renumbers nothing, and does not walk the bank.
-fn take_instrument(
-    parts: &mut Parts<'_>,
-    alloc: Global,
-    number: u32,
-) -> Result<Instrument, OutOfMemory>
-    requires valid { IsValid parts.old }
-    requires there { number < length parts.old.instruments }
-    ensures value { IfOk result (λ instrument. slice_get parts.old.instruments number ≡ Some instrument) }
-    ensures change { OnOk result (parts.new ≡ instrument_removed parts.old number) }
-    ensures err { OnErr result (parts.new ≡ parts.old) }
-{
-    let instrument = parts.instruments.remove(alloc, number as usize)?;
-    if (number as usize) < parts.instruments.len() {
-        let by = Renumbering::Removal { at: number };
-        parts.presets.renumber(by);
-    }
-    Ok(instrument)
-}
-
-fn move_instrument(parts: &mut Parts<'_>, from: u32, to: u32)
-    requires valid { IsValid parts.old }
-    requires there { from < length parts.old.instruments }
-    requires place { to < length parts.old.instruments }
-    ensures { parts.new ≡ instrument_moved parts.old from to }
-{
-    let by = Renumbering::Move { from, to };
-    parts.instruments.move_member(from as usize, to as usize);
-    parts.presets.renumber(by);
 }

@@ -1,12 +1,12 @@
 //! The raw changes of a bank's presets.
 ghost use Rattle.std.specs.Prelude.{◌≡◌, ◌<◌, ◌≤◌, Some, length, slice_get, OnOk, OnErr, IfOk, IfErr};
-ghost use Rattle.bank_parts.specs.Owners.{head_at};
 ghost use Rattle.bank_parts.specs.Sound.{IsSound};
-ghost use Rattle.bank_core.specs.Members.{head_of};
-ghost use Rattle.bank_core.specs.Presets.{preset_added, preset_removed, preset_moved, head_set};
+ghost use Rattle.bank_changes.specs.Members.{head_of};
+ghost use Rattle.bank_changes.specs.Presets.{preset_added, preset_removed, preset_moved, head_set};
 
 use crate::bank::Bank;
-use bank_parts::{Head, Parts, Preset};
+use bank_changes::{insert_preset, move_preset, set_head, take_preset};
+use bank_parts::{Head, Preset};
 use generators::Level;
 use sf_base::{Name20, OutOfMemory};
 use std::alloc::Global;
@@ -62,48 +62,4 @@ impl<'a> Bank<'a> {
     {
         set_head(&mut self.parts, preset, name, number, bank)
     }
-}
-
-// ---- the changes, without what a bank keeps beside its parts
-
-fn insert_preset(parts: &mut Parts<'_>, number: u32, preset: Preset) -> Result<(), Preset>
-    requires { number ≤ length parts.old.presets }
-    ensures ok { OnOk result (parts.new ≡ preset_added parts.old number preset) }
-    ensures err { OnErr result (parts.new ≡ parts.old) }
-    ensures value_returned { IfErr result (λ back. back ≡ preset) }
-{
-    parts.presets.insert(number as usize, preset)
-}
-
-fn take_preset(parts: &mut Parts<'_>, alloc: Global, number: u32) -> Result<Preset, OutOfMemory>
-    requires { number < length parts.old.presets }
-    ensures value { IfOk result (λ preset. slice_get parts.old.presets number ≡ Some preset) }
-    ensures change { OnOk result (parts.new ≡ preset_removed parts.old number) }
-    ensures err { OnErr result (parts.new ≡ parts.old) }
-{
-    parts.presets.remove(alloc, number as usize)
-}
-
-fn move_preset(parts: &mut Parts<'_>, from: u32, to: u32)
-    requires there { from < length parts.old.presets }
-    requires place { to < length parts.old.presets }
-    ensures { parts.new ≡ preset_moved parts.old from to }
-{
-    parts.presets.move_member(from as usize, to as usize);
-}
-
-fn set_head(parts: &mut Parts<'_>, preset: u32, name: Name20, number: u16, bank: u16) -> Head
-    requires { preset < length parts.old.presets }
-    ensures value { head_at parts.old.presets preset ≡ Some result }
-    ensures change { parts.new ≡ head_set parts.old preset name number bank }
-{
-    let preset = preset as usize;
-    let old = *parts.presets.head(preset);
-    let head = Head {
-        name,
-        number,
-        bank,
-        ..old
-    };
-    parts.presets.replace_head(preset, head)
 }

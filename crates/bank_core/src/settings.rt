@@ -7,14 +7,15 @@ ghost use Rattle.modulators.specs.Modulators.{is_link};
 ghost use Rattle.bank_parts.specs.Owners.{mods_at};
 ghost use Rattle.bank_parts.specs.Sound.{IsSound};
 ghost use Rattle.bank_validity.specs.Limits.{broken_limit};
-ghost use Rattle.bank_core.specs.Members.{zone_place, settings_of, mods_of, amount_of, mod_at};
-ghost use Rattle.bank_core.specs.Settings.{gen_set, gen_cleared, mod_added, mod_removed, mod_set, records_at, records_there, zones_at};
+ghost use Rattle.bank_changes.specs.Members.{zone_place, settings_of, mods_of, amount_of, mod_at};
+ghost use Rattle.bank_changes.specs.Settings.{gen_set, gen_cleared, mod_added, mod_removed, mod_set, zones_at};
 
 use crate::bank::Bank;
-use crate::members::{Owner, Place};
-use crate::totals::recounted;
-use crate::zones::place_of;
-use bank_parts::{Owners, Parts, Records, ZonePlace};
+use bank_changes::{
+    Owner, Place, add_mod, clear_gen, place_of, records_there, recounted, remove_mod, set_gen,
+    set_mod,
+};
+use bank_parts::{Owners, Records};
 use bank_validity::Limit;
 use modulators::Modulator;
 use sf_base::OutOfMemory;
@@ -179,131 +180,7 @@ fn zones_at(place: Place) -> usize
     }
 }
 
-// ---- the changes, without what a bank keeps beside its parts
-
-fn set_gen(
-    parts: &mut Parts<'_>,
-    owner: Owner,
-    place: Place,
-    operator: u16,
-    amount: u16,
-) -> Result<Option<u16>, OutOfMemory>
-    requires { IsSome (settings_of parts.old owner place) }
-    ensures was { IfOk result (λ was. was ≡ amount_of parts.old owner place operator) }
-    ensures ok { OnOk result (parts.new ≡ gen_set parts.old owner place operator amount) }
-    ensures err { OnErr result (parts.new ≡ parts.old) }
-    ensures needs_no_memory { IsSome (amount_of parts.old owner place operator) → IsOk result }
-{
-    let at = place_of(place);
-    match owner {
-        Owner::Preset(number) => parts.presets.set_gen(number as usize, at, operator, amount),
-        Owner::Instrument(number) => parts
-            .instruments
-            .set_gen(number as usize, at, operator, amount),
-    }
-}
-
-fn clear_gen(parts: &mut Parts<'_>, owner: Owner, place: Place, operator: u16) -> Option<u16>
-    requires { IsSome (settings_of parts.old owner place) }
-    ensures was { result ≡ amount_of parts.old owner place operator }
-    ensures change { parts.new ≡ gen_cleared parts.old owner place operator }
-{
-    let at = place_of(place);
-    match owner {
-        Owner::Preset(number) => parts.presets.clear_gen(number as usize, at, operator),
-        Owner::Instrument(number) => parts.instruments.clear_gen(number as usize, at, operator),
-    }
-}
-
-fn add_mod(
-    parts: &mut Parts<'_>,
-    owner: Owner,
-    place: Place,
-    index: u32,
-    modulator: Modulator,
-) -> Result<(), OutOfMemory>
-    requires there { IsSome (settings_of parts.old owner place) }
-    requires place { IfSome (mods_of parts.old owner place) (λ mods. index ≤ length mods) }
-    ensures ok { OnOk result (parts.new ≡ mod_added parts.old owner place index modulator) }
-    ensures err { OnErr result (parts.new ≡ parts.old) }
-{
-    let (at, index) = (place_of(place), index as usize);
-    match owner {
-        Owner::Preset(number) => parts
-            .presets
-            .insert_mod(number as usize, at, index, modulator),
-        Owner::Instrument(number) => parts
-            .instruments
-            .insert_mod(number as usize, at, index, modulator),
-    }
-}
-
-fn remove_mod(parts: &mut Parts<'_>, owner: Owner, place: Place, index: u32) -> Modulator
-    requires there { IsSome (settings_of parts.old owner place) }
-    requires place { IfSome (mods_of parts.old owner place) (λ mods. index < length mods) }
-    ensures value { mod_at parts.old owner place index ≡ Some result }
-    ensures change { parts.new ≡ mod_removed parts.old owner place index }
-{
-    let (at, index) = (place_of(place), index as usize);
-    match owner {
-        Owner::Preset(number) => parts.presets.remove_mod(number as usize, at, index),
-        Owner::Instrument(number) => parts.instruments.remove_mod(number as usize, at, index),
-    }
-}
-
-fn set_mod(
-    parts: &mut Parts<'_>,
-    owner: Owner,
-    place: Place,
-    index: u32,
-    modulator: Modulator,
-) -> Modulator
-    requires there { IsSome (settings_of parts.old owner place) }
-    requires place { IfSome (mods_of parts.old owner place) (λ mods. index < length mods) }
-    ensures value { mod_at parts.old owner place index ≡ Some result }
-    ensures change { parts.new ≡ mod_set parts.old owner place index modulator }
-{
-    let (at, index) = (place_of(place), index as usize);
-    match owner {
-        Owner::Preset(number) => parts.presets.set_mod(number as usize, at, index, modulator),
-        Owner::Instrument(number) => parts
-            .instruments
-            .set_mod(number as usize, at, index, modulator),
-    }
-}
-
 // ---- what stands at a place
-
-// The records of a place; none where there is no such place.
-fn records_there(parts: &Parts<'_>, owner: Owner, place: Place) -> Records
-    ensures { result ≡ records_there parts.now owner place }
-{
-    match owner {
-        Owner::Preset(number) => records_in(&parts.presets, number, place),
-        Owner::Instrument(number) => records_in(&parts.instruments, number, place),
-    }
-}
-
-fn records_in<H>(owners: &Owners<H>, number: u32, place: Place) -> Records
-    ensures { result ≡ records_at owners.now number (zone_place place) }
-{
-    let (number, place) = (number as usize, place_of(place));
-    if !owners.has_place(number, place) {
-        return Records {
-            zones: 0,
-            gens: 0,
-            mods: 0,
-        };
-    }
-    let gens = owners.gen_count(number, place);
-    let mods = owners.mod_count(number, place);
-    let is_counted = place == ZonePlace::Global && (gens > 0 || mods > 0);
-    Records {
-        zones: usize::from(is_counted),
-        gens,
-        mods,
-    }
-}
 
 fn mod_count_in<H>(owners: &Owners<H>, number: u32, place: Place) -> Option<usize>
     ensures { result ≡ option_map length (mods_at owners.now number (zone_place place)) }

@@ -1,18 +1,17 @@
 //! Zones of a bank split in two, and joined.
-ghost use Rattle.std.specs.Prelude.{◌≡◌, ◌<◌, ◌+◌, ℕ, true, Some, IfSome, IsSomeAnd, OnOk, OnErr};
+ghost use Rattle.std.specs.Prelude.{◌≡◌, ◌<◌, ℕ, true, Some, IsSomeAnd, OnOk, OnErr};
 ghost use Rattle.std.specs.Option.{option_map};
-ghost use Rattle.bank_parts.specs.Counts.{all_counted};
 ghost use Rattle.bank_parts.specs.Sound.{IsSound};
 ghost use Rattle.bank_validity.specs.Limits.{broken_limit};
 ghost use Rattle.zone_ranges.specs.Ranges.{low_end, high_end};
-ghost use Rattle.zone_ranges.specs.Splits.{split_records, join_records};
-ghost use Rattle.bank_core.specs.Members.{own_zone_count, zone_of};
-ghost use Rattle.bank_core.specs.Zones.{can_split, can_join, zone_split, zone_joined, range_of_zone};
+ghost use Rattle.bank_changes.specs.Members.{own_zone_count};
+ghost use Rattle.bank_changes.specs.Zones.{can_split, can_join, zone_split, zone_joined, range_of_zone};
 
 use crate::bank::Bank;
-use crate::members::Owner;
-use crate::totals::{broken_with_records, with_records, without_records};
-use bank_parts::{Parts, Records};
+use bank_changes::{
+    Owner, broken_with_records, join_records, join_zone, split_records, split_zone, with_records,
+    without_records,
+};
 use bank_validity::Limit;
 use generators::Range;
 use sf_base::OutOfMemory;
@@ -118,75 +117,5 @@ impl<'a> Bank<'a> {
     {
         let more = split_records(&self.parts, owner, zone, axis);
         broken_with_records(self.totals, owner.level(), more)
-    }
-}
-
-// ---- without what a bank keeps beside its parts
-
-fn split_records(parts: &Parts<'_>, owner: Owner, zone: u32, axis: Axis) -> Records
-    requires { IsSomeAnd (own_zone_count parts.now owner) (λ count. zone < count) }
-    ensures { IfSome (zone_of parts.now owner zone) (λ z. result ≡ all_counted (split_records axis z)) }
-{
-    match owner {
-        Owner::Preset(number) => zone_ranges::split_records(&parts.presets, number, zone, axis),
-        Owner::Instrument(number) => {
-            zone_ranges::split_records(&parts.instruments, number, zone, axis)
-        }
-    }
-}
-
-fn join_records(parts: &Parts<'_>, owner: Owner, zone: u32, keep: Keep) -> Records
-    requires { IsSomeAnd (own_zone_count parts.now owner) (λ count. zone + 1 < count) }
-    ensures { IfSome (zone_of parts.now owner (zone + 1)) (λ z. result ≡ all_counted (join_records keep z)) }
-{
-    match owner {
-        Owner::Preset(number) => zone_ranges::join_records(&parts.presets, number, zone, keep),
-        Owner::Instrument(number) => {
-            zone_ranges::join_records(&parts.instruments, number, zone, keep)
-        }
-    }
-}
-
-fn split_zone(
-    parts: &mut Parts<'_>,
-    alloc: Global,
-    owner: Owner,
-    zone: u32,
-    axis: Axis,
-    at: u8,
-) -> Result<(), OutOfMemory>
-    requires { can_split parts.old owner zone axis at ≡ true }
-    ensures ok { OnOk result (parts.new ≡ zone_split parts.old owner zone axis at) }
-    ensures err { OnErr result (parts.new ≡ parts.old) }
-{
-    match owner {
-        Owner::Preset(number) => {
-            zone_ranges::split_zone(&mut parts.presets, alloc, number, zone, axis, at)
-        }
-        Owner::Instrument(number) => {
-            zone_ranges::split_zone(&mut parts.instruments, alloc, number, zone, axis, at)
-        }
-    }
-}
-
-fn join_zone(
-    parts: &mut Parts<'_>,
-    alloc: Global,
-    owner: Owner,
-    zone: u32,
-    axis: Axis,
-    keep: Keep,
-) -> Result<(), OutOfMemory>
-    requires { can_join parts.old owner zone axis keep ≡ true }
-    ensures ok { OnOk result (parts.new ≡ zone_joined parts.old owner zone axis keep) }
-    ensures err { OnErr result (parts.new ≡ parts.old) }
-{
-    match owner {
-        Owner::Preset(number) => {
-            zone_ranges::join_zones(&mut parts.presets, alloc, number, zone, axis, keep)
-        }
-        Owner::Instrument(number) => {
-            zone_ranges::join_zones(&mut parts.instruments, alloc, number, zone, axis, keep)
-        }
     }
 }

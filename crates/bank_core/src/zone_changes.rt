@@ -2,13 +2,15 @@
 ghost use Rattle.std.specs.Prelude.{◌≡◌, ◌<◌, ◌≤◌, ℕ, Some, IsSomeAnd, OnOk, OnErr, IfOk, IfErr};
 ghost use Rattle.bank_parts.specs.Sound.{IsSound};
 ghost use Rattle.bank_validity.specs.Limits.{broken_limit};
-ghost use Rattle.bank_core.specs.Members.{own_zone_count, zone_of, target_of};
-ghost use Rattle.bank_core.specs.Zones.{zone_added, zone_removed, zone_moved, target_set};
+ghost use Rattle.bank_changes.specs.Members.{own_zone_count, zone_of, target_of};
+ghost use Rattle.bank_changes.specs.Zones.{zone_added, zone_removed, zone_moved, target_set};
 
 use crate::bank::Bank;
-use crate::members::Owner;
-use crate::totals::{broken_with_records, with_records, without_records};
-use bank_parts::{Parts, Zone};
+use bank_changes::{
+    Owner, broken_with_records, insert_zone, move_zone, set_target, take_zone, with_records,
+    without_records,
+};
+use bank_parts::Zone;
 use bank_validity::Limit;
 use sf_base::OutOfMemory;
 use std::alloc::Global;
@@ -73,74 +75,5 @@ impl<'a> Bank<'a> {
         ensures { (at : ℕ) → IsSomeAnd (own_zone_count self.now owner) (λ count. at ≤ count) → result ≡ broken_limit (zone_added self.now owner at zone.now) }
     {
         broken_with_records(self.totals, owner.level(), zone.records())
-    }
-}
-
-// ---- the changes, without what a bank keeps beside its parts
-
-fn insert_zone(parts: &mut Parts<'_>, owner: Owner, at: u32, zone: Zone) -> Result<(), Zone>
-    requires { IsSomeAnd (own_zone_count parts.old owner) (λ count. at ≤ count) }
-    ensures ok { OnOk result (parts.new ≡ zone_added parts.old owner at zone) }
-    ensures err { OnErr result (parts.new ≡ parts.old) }
-    ensures value_returned { IfErr result (λ back. back ≡ zone) }
-{
-    match owner {
-        Owner::Preset(number) => parts
-            .presets
-            .insert_zone(number as usize, at as usize, zone),
-        Owner::Instrument(number) => {
-            parts
-                .instruments
-                .insert_zone(number as usize, at as usize, zone)
-        }
-    }
-}
-
-fn take_zone(
-    parts: &mut Parts<'_>,
-    alloc: Global,
-    owner: Owner,
-    zone: u32,
-) -> Result<Zone, OutOfMemory>
-    requires { IsSomeAnd (own_zone_count parts.old owner) (λ count. zone < count) }
-    ensures value { IfOk result (λ removed. zone_of parts.old owner zone ≡ Some removed) }
-    ensures change { OnOk result (parts.new ≡ zone_removed parts.old owner zone) }
-    ensures err { OnErr result (parts.new ≡ parts.old) }
-{
-    match owner {
-        Owner::Preset(number) => {
-            parts
-                .presets
-                .remove_zone(alloc, number as usize, zone as usize)
-        }
-        Owner::Instrument(number) => {
-            parts
-                .instruments
-                .remove_zone(alloc, number as usize, zone as usize)
-        }
-    }
-}
-
-fn move_zone(parts: &mut Parts<'_>, owner: Owner, from: u32, to: u32)
-    requires there { IsSomeAnd (own_zone_count parts.old owner) (λ count. from < count) }
-    requires place { IsSomeAnd (own_zone_count parts.old owner) (λ count. to < count) }
-    ensures { parts.new ≡ zone_moved parts.old owner from to }
-{
-    let (from, to) = (from as usize, to as usize);
-    match owner {
-        Owner::Preset(number) => parts.presets.move_zone(number as usize, from, to),
-        Owner::Instrument(number) => parts.instruments.move_zone(number as usize, from, to),
-    }
-}
-
-fn set_target(parts: &mut Parts<'_>, owner: Owner, zone: u32, target: u16) -> u16
-    requires { IsSomeAnd (own_zone_count parts.old owner) (λ count. zone < count) }
-    ensures value { target_of parts.old owner zone ≡ Some result }
-    ensures change { parts.new ≡ target_set parts.old owner zone target }
-{
-    let zone = zone as usize;
-    match owner {
-        Owner::Preset(number) => parts.presets.set_target(number as usize, zone, target),
-        Owner::Instrument(number) => parts.instruments.set_target(number as usize, zone, target),
     }
 }

@@ -1,12 +1,12 @@
 //! One edit, done or refused.
 ghost use Rattle.std.specs.Prelude.{◌≡◌, None, MatchResult, IsOk, IfOk};
 ghost use Rattle.bank_parts.specs.Sound.{IsSound};
-ghost use Rattle.bank_edits.specs.Edits.{FitsEdit, IsDone, IsRefused, NeedsNoMemory, refusal};
-ghost use Rattle.bank_edits.specs.Answers.{Judges, IsChange};
+ghost use Rattle.edit_forms.specs.Edits.{FitsEdit, refusal};
+ghost use Rattle.bank_edits.specs.EditChanges.{IsChange, IsDone, IsRefused, NeedsNoMemory};
 
-use crate::cause::{Cause, Refusal};
-use crate::edit::{Edit, change_step, refuse_step};
+use crate::step_changes::change_step;
 use bank_core::Bank;
+use edit_forms::{Edit, Refusal, refuse};
 use std::alloc::Global;
 
 /// Does the edit and answers the one that takes it back, into which what was removed is moved. Or
@@ -37,18 +37,6 @@ pub fn apply<'a>(
             Ok(back)
         }
         Err(given) => Err((Refusal::OutOfMemory, given)),
-    }
-}
-
-// The first cause that stands against the edit, if there is one.
-fn refuse(bank: &Bank<'_>, edit: &Edit<'_>) -> Result<(), Cause>
-    ensures refusal { Judges (refusal bank.now edit.now) result }
-    ensures sound { IsSound bank.now }
-{
-    // For what it says of the bank.
-    let _samples = bank.samples();
-    match edit {
-        Edit::One(step) => refuse_step(bank, step),
     }
 }
 

@@ -1,40 +1,17 @@
-//! The forms that edit presets: why each is refused, and what it does.
+//! What each form that edits presets does.
 ghost use Rattle.std.specs.Prelude.{◌≡◌, None, Ok};
 ghost use Rattle.bank_parts.specs.Sound.{IsSound};
-ghost use Rattle.bank_edits.specs.declared.edit.Step.TheVariants as step;
-ghost use Rattle.bank_edits.specs.Answers.{Judges, IsStepChange};
-ghost use Rattle.bank_edits.specs.Steps.{refusal};
+ghost use Rattle.edit_forms.specs.declared.edit.Step.TheVariants as step;
+ghost use Rattle.edit_forms.specs.Steps.{refusal};
+ghost use Rattle.bank_edits.specs.StepChanges.{IsStepChange};
 
-use crate::cause::Cause;
-use crate::causes::{
-    bad_generator, bad_place, bad_range, full, no_such_place, no_such_preset, no_such_target,
-};
-use crate::edit::Step;
-use bank_core::{Bank, Members};
+use bank_core::Bank;
 use bank_parts::Preset;
-use generators::Level;
+use edit_forms::Step;
 use sf_base::Name20;
 use std::alloc::Global;
 
 // ---- add-preset
-
-pub(crate) fn refuse_add_preset(bank: &Bank<'_>, at: u32, preset: &Preset) -> Result<(), Cause>
-    requires { IsSound bank.now }
-    ensures { Judges (refusal bank.now (step.AddPreset at preset.now)) result }
-{
-    no_such_target(
-        bank.count(Members::Instruments),
-        preset,
-        Cause::NoSuchInstrument,
-    )?;
-    bad_place(bank.count(Members::Presets), at)?;
-    bad_generator(Level::Preset, preset)?;
-    bad_range(preset)?;
-    full(
-        bank.totals()
-            .broken_with_owner(Level::Preset, preset.records()),
-    )
-}
 
 pub(crate) fn add_preset<'a>(
     bank: &mut Bank<'a>,
@@ -53,13 +30,6 @@ pub(crate) fn add_preset<'a>(
 }
 
 // ---- remove-preset
-
-pub(crate) fn refuse_remove_preset(bank: &Bank<'_>, preset: u32) -> Result<(), Cause>
-    requires { IsSound bank.now }
-    ensures { Judges (refusal bank.now (step.RemovePreset preset)) result }
-{
-    no_such_preset(bank, preset)
-}
 
 pub(crate) fn remove_preset<'a>(
     alloc: Global,
@@ -81,14 +51,6 @@ pub(crate) fn remove_preset<'a>(
 
 // ---- move-preset
 
-pub(crate) fn refuse_move_preset(bank: &Bank<'_>, from: u32, to: u32) -> Result<(), Cause>
-    requires { IsSound bank.now }
-    ensures { Judges (refusal bank.now (step.MovePreset from to)) result }
-{
-    no_such_preset(bank, from)?;
-    no_such_place(bank.count(Members::Presets), to)
-}
-
 pub(crate) fn move_preset<'a>(bank: &mut Bank<'a>, from: u32, to: u32) -> Step<'a>
     requires sound { IsSound bank.old }
     requires accepted { refusal bank.old (step.MovePreset from to) ≡ None }
@@ -99,19 +61,6 @@ pub(crate) fn move_preset<'a>(bank: &mut Bank<'a>, from: u32, to: u32) -> Step<'
 }
 
 // ---- set-head
-
-pub(crate) fn refuse_set_head(
-    bank: &Bank<'_>,
-    preset: u32,
-    _name: Name20,
-    _number: u16,
-    _bank_number: u16,
-) -> Result<(), Cause>
-    requires { IsSound bank.now }
-    ensures { Judges (refusal bank.now (step.SetHead preset _name _number _bank_number)) result }
-{
-    no_such_preset(bank, preset)
-}
 
 pub(crate) fn set_head<'a>(
     bank: &mut Bank<'a>,

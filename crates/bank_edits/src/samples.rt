@@ -1,27 +1,16 @@
-//! The forms that edit samples: why each is refused, and what it does.
+//! What each form that edits samples does.
 ghost use Rattle.std.specs.Prelude.{◌≡◌, None, Ok};
 ghost use Rattle.bank_parts.specs.Sound.{IsSound};
-ghost use Rattle.bank_edits.specs.declared.edit.Step.TheVariants as step;
-ghost use Rattle.bank_edits.specs.Answers.{Judges, IsStepChange};
-ghost use Rattle.bank_edits.specs.Steps.{refusal};
+ghost use Rattle.edit_forms.specs.declared.edit.Step.TheVariants as step;
+ghost use Rattle.edit_forms.specs.Steps.{refusal};
+ghost use Rattle.bank_edits.specs.StepChanges.{IsStepChange};
 
-use crate::cause::Cause;
-use crate::causes::{
-    bad_loop, bad_place, full, no_such_link, no_such_place, no_such_sample, used_sample,
-};
-use crate::edit::{Step, sample_fits};
-use bank_core::{Bank, Members};
+use bank_core::Bank;
 use bank_parts::Sample;
+use edit_forms::{Step, sample_fits};
 use sf_base::Name20;
 
 // ---- rename-sample
-
-pub(crate) fn refuse_rename_sample(bank: &Bank<'_>, sample: u32, _name: Name20) -> Result<(), Cause>
-    requires { IsSound bank.now }
-    ensures { Judges (refusal bank.now (step.RenameSample sample _name)) result }
-{
-    no_such_sample(bank, sample)
-}
 
 pub(crate) fn rename_sample<'a>(bank: &mut Bank<'a>, sample: u32, name: Name20) -> Step<'a>
     requires sound { IsSound bank.old }
@@ -34,16 +23,6 @@ pub(crate) fn rename_sample<'a>(bank: &mut Bank<'a>, sample: u32, name: Name20) 
 }
 
 // ---- add-sample
-
-pub(crate) fn refuse_add_sample(bank: &Bank<'_>, at: u32, sample: &Sample<'_>) -> Result<(), Cause>
-    requires { IsSound bank.now }
-    ensures { Judges (refusal bank.now (step.AddSample at sample.now)) result }
-{
-    no_such_link(bank, sample.kind)?;
-    bad_place(bank.samples().len(), at)?;
-    bad_loop(sample)?;
-    full(bank.totals().broken_with_sample(sample.points.len()))
-}
 
 pub(crate) fn add_sample<'a>(
     bank: &mut Bank<'a>,
@@ -63,14 +42,6 @@ pub(crate) fn add_sample<'a>(
 
 // ---- remove-sample
 
-pub(crate) fn refuse_remove_sample(bank: &Bank<'_>, sample: u32) -> Result<(), Cause>
-    requires { IsSound bank.now }
-    ensures { Judges (refusal bank.now (step.RemoveSample sample)) result }
-{
-    no_such_sample(bank, sample)?;
-    used_sample(bank, sample)
-}
-
 pub(crate) fn remove_sample<'a>(bank: &mut Bank<'a>, sample: u32) -> Step<'a>
     requires sound { IsSound bank.old }
     requires accepted { refusal bank.old (step.RemoveSample sample) ≡ None }
@@ -84,14 +55,6 @@ pub(crate) fn remove_sample<'a>(bank: &mut Bank<'a>, sample: u32) -> Step<'a>
 }
 
 // ---- move-sample
-
-pub(crate) fn refuse_move_sample(bank: &Bank<'_>, from: u32, to: u32) -> Result<(), Cause>
-    requires { IsSound bank.now }
-    ensures { Judges (refusal bank.now (step.MoveSample from to)) result }
-{
-    no_such_sample(bank, from)?;
-    no_such_place(bank.count(Members::Samples), to)
-}
 
 pub(crate) fn move_sample<'a>(bank: &mut Bank<'a>, from: u32, to: u32) -> Step<'a>
     requires sound { IsSound bank.old }

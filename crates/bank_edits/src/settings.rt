@@ -1,33 +1,14 @@
-//! The forms that edit generators: why each is refused, and what it does.
+//! What each form that edits generators does.
 ghost use Rattle.std.specs.Prelude.{◌≡◌, None, Ok};
 ghost use Rattle.bank_parts.specs.Sound.{IsSound};
-ghost use Rattle.bank_edits.specs.declared.edit.Step.TheVariants as step;
-ghost use Rattle.bank_edits.specs.Answers.{Judges, IsStepChange};
-ghost use Rattle.bank_edits.specs.Steps.{refusal};
+ghost use Rattle.edit_forms.specs.declared.edit.Step.TheVariants as step;
+ghost use Rattle.edit_forms.specs.Steps.{refusal};
+ghost use Rattle.bank_edits.specs.StepChanges.{IsStepChange};
 
-use crate::cause::Cause;
-use crate::causes::{bad_amount, foreign_operator, full, no_such_owner, no_such_zone_at, not_set};
-use crate::edit::Step;
 use bank_core::{Bank, Owner, Place};
+use edit_forms::Step;
 
 // ---- set-gen
-
-pub(crate) fn refuse_set_gen(
-    bank: &Bank<'_>,
-    owner: Owner,
-    place: Place,
-    operator: u16,
-    amount: u16,
-) -> Result<(), Cause>
-    requires { IsSound bank.now }
-    ensures { Judges (refusal bank.now (step.SetGen owner place operator amount)) result }
-{
-    no_such_owner(bank, owner)?;
-    no_such_zone_at(bank, owner, place)?;
-    foreign_operator(owner.level(), operator)?;
-    bad_amount(operator, amount)?;
-    full(bank.broken_with_gen(owner, place, operator))
-}
 
 pub(crate) fn set_gen<'a>(
     bank: &mut Bank<'a>,
@@ -62,21 +43,6 @@ pub(crate) fn set_gen<'a>(
 }
 
 // ---- clear-gen
-
-pub(crate) fn refuse_clear_gen(
-    bank: &Bank<'_>,
-    owner: Owner,
-    place: Place,
-    operator: u16,
-) -> Result<(), Cause>
-    requires { IsSound bank.now }
-    ensures { Judges (refusal bank.now (step.ClearGen owner place operator)) result }
-{
-    no_such_owner(bank, owner)?;
-    no_such_zone_at(bank, owner, place)?;
-    foreign_operator(owner.level(), operator)?;
-    not_set(bank, owner, place, operator)
-}
 
 pub(crate) fn clear_gen<'a>(
     bank: &mut Bank<'a>,

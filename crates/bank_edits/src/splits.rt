@@ -1,41 +1,22 @@
-//! The forms that split zones of presets and instruments, and join them: why each is refused, and what
-//! it does.
+//! What each form that splits zones of presets and instruments, or joins them, does.
 ghost use Rattle.std.specs.Prelude.{◌≡◌, None, IfSome};
 ghost use Rattle.bank_parts.specs.Sound.{IsSound};
-ghost use Rattle.bank_core.specs.declared.members.Place.TheVariants as place;
-ghost use Rattle.bank_core.specs.Members.{zone_of, amount_of};
+ghost use Rattle.bank_changes.specs.declared.members.Place.TheVariants as place;
+ghost use Rattle.bank_changes.specs.Members.{zone_of, amount_of};
 ghost use Rattle.zone_ranges.specs.Ranges.{range_operator};
 ghost use Rattle.zone_ranges.specs.Splits.{keep_for};
 ghost use Rattle.zone_ranges.specs.Undone.{own_low};
-ghost use Rattle.bank_edits.specs.declared.edit.Step.TheVariants as step;
-ghost use Rattle.bank_edits.specs.Answers.{Judges, IsStepChange};
-ghost use Rattle.bank_edits.specs.Steps.{refusal};
+ghost use Rattle.edit_forms.specs.declared.edit.Step.TheVariants as step;
+ghost use Rattle.edit_forms.specs.Steps.{refusal};
+ghost use Rattle.bank_edits.specs.StepChanges.{IsStepChange};
 
-use crate::cause::Cause;
-use crate::causes::{full, no_next_zone, no_such_owner, no_such_zone, not_joinable, split_outside};
-use crate::edit::Step;
 use bank_core::{Bank, Owner, Place};
+use edit_forms::Step;
 use generators::{Range, operators};
 use std::alloc::Global;
 use zone_ranges::{Axis, Keep};
 
 // ---- split-zone
-
-pub(crate) fn refuse_split_zone(
-    bank: &Bank<'_>,
-    owner: Owner,
-    zone: u32,
-    axis: Axis,
-    at: u8,
-) -> Result<(), Cause>
-    requires { IsSound bank.now }
-    ensures { Judges (refusal bank.now (step.SplitZone owner zone axis at)) result }
-{
-    no_such_owner(bank, owner)?;
-    no_such_zone(bank, owner, zone)?;
-    split_outside(bank, owner, zone, axis, at)?;
-    full(bank.broken_with_split(owner, zone, axis))
-}
 
 pub(crate) fn split_zone<'a>(
     alloc: Global,
@@ -67,21 +48,6 @@ pub(crate) fn split_zone<'a>(
 }
 
 // ---- join-zone
-
-pub(crate) fn refuse_join_zone(
-    bank: &Bank<'_>,
-    owner: Owner,
-    zone: u32,
-    axis: Axis,
-    keep: Keep,
-) -> Result<(), Cause>
-    requires { IsSound bank.now }
-    ensures { Judges (refusal bank.now (step.JoinZone owner zone axis keep)) result }
-{
-    no_such_owner(bank, owner)?;
-    no_next_zone(bank, owner, zone)?;
-    not_joinable(bank, owner, zone, axis, keep)
-}
 
 pub(crate) fn join_zone<'a>(
     alloc: Global,
@@ -116,6 +82,7 @@ pub(crate) fn join_zone<'a>(
 // ---- a zone's own range
 
 // Whether the zone keeps a range of its own when a split of it is taken back.
+
 fn keep_for(bank: &Bank<'_>, owner: Owner, zone: u32, axis: Axis) -> Keep
     ensures { IfSome (zone_of bank.now owner zone) (λ z. result ≡ keep_for axis z) }
 {
@@ -126,6 +93,7 @@ fn keep_for(bank: &Bank<'_>, owner: Owner, zone: u32, axis: Axis) -> Keep
 }
 
 // Where the zone's own range begins.
+
 fn own_low(bank: &Bank<'_>, owner: Owner, zone: u32, axis: Axis) -> u8
     ensures { IfSome (zone_of bank.now owner zone) (λ z. result ≡ own_low axis z) }
 {

@@ -1,25 +1,16 @@
-//! The form that edits a text: why it is refused, and what it does.
+//! What the form that edits a text does.
 ghost use Rattle.std.specs.Prelude.{◌≡◌, None, Ok};
 ghost use Rattle.bank_parts.specs.Sound.{IsSound};
-ghost use Rattle.bank_edits.specs.declared.edit.Step.TheVariants as step;
-ghost use Rattle.bank_edits.specs.Answers.{Judges, IsStepChange};
-ghost use Rattle.bank_edits.specs.Steps.{refusal};
+ghost use Rattle.edit_forms.specs.declared.edit.Step.TheVariants as step;
+ghost use Rattle.edit_forms.specs.Steps.{refusal};
+ghost use Rattle.bank_edits.specs.StepChanges.{IsStepChange};
 
-use crate::cause::Cause;
-use crate::causes::bad_text;
-use crate::edit::Step;
 use bank_core::Bank;
 use bank_parts::InfoId;
+use edit_forms::Step;
 use sf_base::Lent;
 
 // ---- set-info
-
-pub(crate) fn refuse_set_info(bank: &Bank<'_>, id: InfoId, text: &Lent<'_>) -> Result<(), Cause>
-    requires { IsSound bank.now }
-    ensures { Judges (refusal bank.now (step.SetInfo id text.now)) result }
-{
-    bad_text(id, text)
-}
 
 pub(crate) fn set_info<'a>(bank: &mut Bank<'a>, id: InfoId, text: Lent<'a>) -> Step<'a>
     requires sound { IsSound bank.old }

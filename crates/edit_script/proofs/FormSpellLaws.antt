@@ -6,12 +6,12 @@ use Rattle.bank_parts.specs.declared.parts.GlobalZone.{GlobalZone}
 use Rattle.bank_parts.specs.declared.parts.Zone.{Zone}
 use Rattle.bank_parts.specs.declared.parts.Head.{Head}
 use Rattle.bank_parts.specs.declared.parts.WithZones.{WithZones}
-use Rattle.bank_core.specs.declared.members.Owner.{Owner}
-use Rattle.bank_core.specs.declared.members.Owner.TheVariants as owner
-use Rattle.bank_core.specs.declared.members.Place.{Place}
-use Rattle.bank_core.specs.declared.members.Place.TheVariants as there
-use Rattle.bank_edits.specs.declared.edit.Step.{Step}
-use Rattle.bank_edits.specs.declared.edit.Step.TheVariants.{AddPreset, RemovePreset, MovePreset, SetHead, AddInstrument, RemoveInstrument, RenameInstrument, MoveInstrument, RenameSample, AddSample, RemoveSample, MoveSample, Trim, Extend, SetLoop, SetKind, SetTune, AddZone, RemoveZone, MoveZone, SplitZone, JoinZone, SetTarget, SetGen, ClearGen, AddMod, RemoveMod, SetMod, SetInfo}
+use Rattle.bank_changes.specs.declared.members.Owner.{Owner}
+use Rattle.bank_changes.specs.declared.members.Owner.TheVariants as owner
+use Rattle.bank_changes.specs.declared.members.Place.{Place}
+use Rattle.bank_changes.specs.declared.members.Place.TheVariants as there
+use Rattle.edit_forms.specs.declared.edit.Step.{Step}
+use Rattle.edit_forms.specs.declared.edit.Step.TheVariants.{AddPreset, RemovePreset, MovePreset, SetHead, AddInstrument, RemoveInstrument, RenameInstrument, MoveInstrument, RenameSample, AddSample, RemoveSample, MoveSample, Trim, Extend, SetLoop, SetKind, SetTune, AddZone, RemoveZone, MoveZone, SplitZone, JoinZone, SetTarget, SetGen, ClearGen, AddMod, RemoveMod, SetMod, SetInfo}
 use Rattle.line_tokens.specs.declared.cursor.Said.{Said}
 use Rattle.line_tokens.specs.Parts.{Part, ◌>>=◌, pure, is_next, word, number, name}
 use Rattle.edit_script.specs.declared.forms.Form.{Form}

@@ -4,15 +4,15 @@ use Rattle.sf_base.specs.Names.{IsName}
 use Rattle.bank_parts.specs.declared.parts.Head.{Head}
 use Rattle.bank_parts.specs.declared.parts.WithZones.{WithZones}
 use Rattle.bank_parts.specs.Fits.{FitsHead, FitsOwner}
-use Rattle.bank_edits.specs.declared.edit.Step.{Step}
-use Rattle.bank_edits.specs.declared.edit.Step.TheVariants.{AddPreset, RemovePreset, MovePreset, SetHead, AddInstrument, RemoveInstrument, RenameInstrument, MoveInstrument, RenameSample, AddSample, RemoveSample, MoveSample, Trim, Extend, SetLoop, SetKind, SetTune, AddZone, RemoveZone, MoveZone, SplitZone, JoinZone, SetTarget, SetGen, ClearGen, AddMod, RemoveMod, SetMod, SetInfo}
-use Rattle.bank_edits.specs.declared.edit.Edit.{Edit}
-use Rattle.bank_edits.specs.declared.edit.Edit.TheVariants.{One}
-use Rattle.bank_edits.specs.Steps.{FitsNumberOf, FitsPlace, FitsStep}
-use Rattle.bank_core.specs.declared.members.Owner.{Owner}
-use Rattle.bank_core.specs.declared.members.Owner.TheVariants as owner
-use Rattle.bank_core.specs.declared.members.Place.{Place}
-use Rattle.bank_core.specs.declared.members.Place.TheVariants as there
+use Rattle.edit_forms.specs.declared.edit.Step.{Step}
+use Rattle.edit_forms.specs.declared.edit.Step.TheVariants.{AddPreset, RemovePreset, MovePreset, SetHead, AddInstrument, RemoveInstrument, RenameInstrument, MoveInstrument, RenameSample, AddSample, RemoveSample, MoveSample, Trim, Extend, SetLoop, SetKind, SetTune, AddZone, RemoveZone, MoveZone, SplitZone, JoinZone, SetTarget, SetGen, ClearGen, AddMod, RemoveMod, SetMod, SetInfo}
+use Rattle.edit_forms.specs.declared.edit.Edit.{Edit}
+use Rattle.edit_forms.specs.declared.edit.Edit.TheVariants.{One}
+use Rattle.edit_forms.specs.Steps.{FitsNumberOf, FitsPlace, FitsStep}
+use Rattle.bank_changes.specs.declared.members.Owner.{Owner}
+use Rattle.bank_changes.specs.declared.members.Owner.TheVariants as owner
+use Rattle.bank_changes.specs.declared.members.Place.{Place}
+use Rattle.bank_changes.specs.declared.members.Place.TheVariants as there
 use Rattle.line_tokens.specs.declared.cursor.Said.TheVariants as says
 use Rattle.line_tokens.specs.Lines.{lines_of}
 use Rattle.line_tokens.proofs.LexLaws.{lines_none}

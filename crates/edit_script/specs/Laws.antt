@@ -1,6 +1,6 @@
 -- What holds of all scripts.
 use Rattle.std.specs.Prelude.{◌≡◌, ◌↔◌, ℕ, List, Ok}
-use Rattle.bank_edits.specs.declared.edit.Edit.{Edit}
+use Rattle.edit_forms.specs.declared.edit.Edit.{Edit}
 use Rattle.edit_script.specs.declared.parsing.Line.{Line}
 use Rattle.edit_script.specs.Script.{script_of}
 use Rattle.edit_script.specs.Spelling.{Spells}

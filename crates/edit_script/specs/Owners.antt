@@ -1,10 +1,10 @@
 -- Whose zones, generators and modulators are edited, and where they stand: what is said there, and how it
 -- is read.
 use Rattle.std.specs.Prelude.{ℕ, List, [], ◌∷◌, ◌++◌, codes, if◌then◌else◌}
-use Rattle.bank_core.specs.declared.members.Owner.{Owner}
-use Rattle.bank_core.specs.declared.members.Owner.TheVariants as owner
-use Rattle.bank_core.specs.declared.members.Place.{Place}
-use Rattle.bank_core.specs.declared.members.Place.TheVariants as there
+use Rattle.bank_changes.specs.declared.members.Owner.{Owner}
+use Rattle.bank_changes.specs.declared.members.Owner.TheVariants as owner
+use Rattle.bank_changes.specs.declared.members.Place.{Place}
+use Rattle.bank_changes.specs.declared.members.Place.TheVariants as there
 use Rattle.line_tokens.specs.Parts.{Part, ◌>>=◌, pure, is_next, word, number}
 use Rattle.edit_script.specs.declared.owners.OwnerKind.{OwnerKind}
 use Rattle.edit_script.specs.declared.owners.OwnerKind.TheVariants as kind

@@ -1,8 +1,8 @@
 -- Which texts spell which edits: a relation of lines and what they say, without a reader.
 use Rattle.std.specs.Prelude.{◌≡◌, ◌⊎◌, ℕ, suc, List, [], ◌∷◌}
-use Rattle.bank_edits.specs.declared.edit.Step.{Step}
-use Rattle.bank_edits.specs.declared.edit.Edit.{Edit}
-use Rattle.bank_edits.specs.declared.edit.Edit.TheVariants.{One}
+use Rattle.edit_forms.specs.declared.edit.Step.{Step}
+use Rattle.edit_forms.specs.declared.edit.Edit.{Edit}
+use Rattle.edit_forms.specs.declared.edit.Edit.TheVariants.{One}
 use Rattle.line_tokens.specs.declared.cursor.Said.{Said}
 use Rattle.line_tokens.specs.Lines.{lines_of}
 use Rattle.line_tokens.specs.Spelling.{SaysNothing, LineSays}

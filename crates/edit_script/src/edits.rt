@@ -31,7 +31,7 @@ use crate::zones::{
     add_zone, join_zone, move_zone, put_add_zone, put_join_zone, put_move_zone, put_remove_zone,
     put_set_target, put_split_zone, remove_zone, set_target, split_zone,
 };
-use bank_edits::{Edit, Step};
+use edit_forms::{Edit, Step};
 use line_tokens::{Cursor, LineFault};
 use outputs::{Output, WriteFault};
 use script_grammar::next_named;

@@ -2,7 +2,7 @@
 ghost use Rattle.std.specs.Prelude.{◌≡◌};
 ghost use Rattle.edit_script.specs.Grammar.{form_word, forms, form_of};
 
-use bank_edits::Step;
+use edit_forms::Step;
 use script_grammar::HasWord;
 
 /// A form of edits: one for each kind of step.

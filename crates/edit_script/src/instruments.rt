@@ -13,7 +13,7 @@ ghost use Rattle.edit_script.specs.Instruments.{name_operands, added_instrument}
 
 use crate::forms::Form;
 use crate::members::{moving, naming, zones_of};
-use bank_edits::Step;
+use edit_forms::Step;
 use bank_parts::Instrument;
 use line_tokens::{Cursor, LineFault, Piece, put_pieces};
 use outputs::Output;

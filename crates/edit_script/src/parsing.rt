@@ -8,7 +8,7 @@ ghost use Rattle.line_tokens.specs.Pool.{Answers, pool_bytes};
 ghost use Rattle.edit_script.specs.Script.{edit_of, edits_in, script_of};
 
 use crate::edits::edit;
-use bank_edits::Edit;
+use edit_forms::Edit;
 use line_tokens::{Cursor, Lines, ScriptFault};
 use sf_base::Failure;
 use std::alloc::Global;

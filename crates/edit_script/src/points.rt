@@ -9,7 +9,7 @@ ghost use Rattle.edit_script.specs.Members.{place};
 ghost use Rattle.edit_script.specs.Points.{cut_operands, both_ends_operands, loop_of_operands, kind_of_operands, tune_of_operands, trim, extend, set_loop, set_kind, set_tune};
 
 use crate::forms::Form;
-use bank_edits::Step;
+use edit_forms::Step;
 use bank_parts::Kind;
 use line_tokens::{Cursor, Joined, LineFault, Piece, put_line, put_pieces};
 use outputs::Output;

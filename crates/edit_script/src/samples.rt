@@ -12,7 +12,7 @@ ghost use Rattle.edit_script.specs.Members.{place};
 
 use crate::forms::Form;
 use crate::members::{moving, naming};
-use bank_edits::Step;
+use edit_forms::Step;
 use bank_parts::Sample;
 use line_tokens::{Cursor, LineFault, Piece, put_pieces};
 use outputs::Output;

@@ -12,7 +12,7 @@ ghost use Rattle.edit_script.specs.Grammar.{form_word};
 use crate::forms::Form;
 use crate::owners::{kind_piece, number_piece, owner_place, place_piece};
 use bank_core::{Owner, Place};
-use bank_edits::Step;
+use edit_forms::Step;
 use line_tokens::{Cursor, LineFault, Piece, put_line, put_pieces};
 use modulators::Modulator;
 use outputs::Output;

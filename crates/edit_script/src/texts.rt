@@ -10,7 +10,7 @@ ghost use Rattle.edit_script.specs.declared.forms.Form.TheVariants as form;
 ghost use Rattle.edit_script.specs.Grammar.{operands_read};
 
 use crate::forms::Form;
-use bank_edits::Step;
+use edit_forms::Step;
 use bank_parts::InfoId;
 use line_tokens::{Cursor, LineFault, Piece, put_line};
 use outputs::Output;

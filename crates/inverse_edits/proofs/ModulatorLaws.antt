@@ -12,19 +12,19 @@ use Rattle.bank_parts.specs.declared.parts.Parts.{Parts}
 use Rattle.bank_parts.specs.Settings.{Settings}
 use Rattle.bank_parts.specs.Sound.{IsSound}
 use Rattle.bank_parts.proofs.UndoneLaws.{mod_added_undone, mod_removed_undone, mod_set_back}
-use Rattle.bank_core.specs.declared.members.Owner.{Owner}
-use Rattle.bank_core.specs.declared.members.Owner.TheVariants as owner
-use Rattle.bank_core.specs.declared.members.Place.{Place}
-use Rattle.bank_core.specs.Members.{zone_place, settings_of, mods_of, mod_at}
-use Rattle.bank_core.specs.Settings.{mod_added, mod_removed, mod_set}
-use Rattle.bank_core.proofs.Changes.{all_found}
-use Rattle.bank_core.proofs.PlaceLaws.{settings_fit}
-use Rattle.bank_core.proofs.SettingLaws.{mod_added_is, mod_removed_is, mod_set_is}
-use Rattle.bank_edits.specs.declared.edit.Edit.TheVariants.{One}
-use Rattle.bank_edits.specs.declared.edit.Step.TheVariants.{AddMod, RemoveMod, SetMod}
-use Rattle.bank_edits.proofs.Accepted.{accepted}
-use Rattle.bank_edits.proofs.PlaceLaws.{mods_found}
-use Rattle.bank_edits.proofs.ModulatorLaws.{mods_sent, still_no_link, none_inserted, none_left, none_exchanged, plain_found, mod_goes, sound_add_mod, tests_add_mod, mod_comes, sound_remove_mod, tests_remove_mod, mod_changes, sound_set_mod, tests_set_mod}
+use Rattle.bank_changes.specs.declared.members.Owner.{Owner}
+use Rattle.bank_changes.specs.declared.members.Owner.TheVariants as owner
+use Rattle.bank_changes.specs.declared.members.Place.{Place}
+use Rattle.bank_changes.specs.Members.{zone_place, settings_of, mods_of, mod_at}
+use Rattle.bank_changes.specs.Settings.{mod_added, mod_removed, mod_set}
+use Rattle.bank_changes.proofs.Changes.{all_found}
+use Rattle.bank_changes.proofs.PlaceLaws.{settings_fit}
+use Rattle.bank_changes.proofs.SettingLaws.{mod_added_is, mod_removed_is, mod_set_is}
+use Rattle.edit_forms.specs.declared.edit.Edit.TheVariants.{One}
+use Rattle.edit_forms.specs.declared.edit.Step.TheVariants.{AddMod, RemoveMod, SetMod}
+use Rattle.edit_forms.proofs.Accepted.{accepted}
+use Rattle.edit_forms.proofs.PlaceLaws.{mods_found}
+use Rattle.edit_forms.proofs.ModulatorLaws.{mods_sent, still_no_link, none_inserted, none_left, none_exchanged, plain_found, mod_goes, sound_add_mod, tests_add_mod, mod_comes, sound_remove_mod, tests_remove_mod, mod_changes, sound_set_mod, tests_set_mod}
 use Rattle.inverse_edits.specs.Undone.{IsTaken, IsUndone}
 use Rattle.inverse_edits.proofs.UndoneBy.{undone_by}
 

@@ -10,19 +10,19 @@ use Rattle.bank_parts.specs.Settings.{Settings, with_gens}
 use Rattle.bank_parts.specs.Valid.{IsGenerator}
 use Rattle.bank_parts.specs.Sound.{IsSound}
 use Rattle.bank_parts.proofs.UndoneLaws.{gen_set_back, gen_set_cleared, gen_cleared_undone, gen_set_read, gen_cleared_read}
-use Rattle.bank_core.specs.declared.members.Owner.{Owner}
-use Rattle.bank_core.specs.declared.members.Owner.TheVariants as owner
-use Rattle.bank_core.specs.declared.members.Place.{Place}
-use Rattle.bank_core.specs.Members.{zone_place, level_of, amount_of}
-use Rattle.bank_core.specs.Settings.{own_place_changed, gen_set, gen_cleared}
-use Rattle.bank_core.proofs.Changes.{all_found}
-use Rattle.bank_core.proofs.PlaceLaws.{place_there, gens_of_sound, settings_fit}
-use Rattle.bank_core.proofs.SettingLaws.{gen_set_is, gen_cleared_is, amount_found}
-use Rattle.bank_edits.specs.declared.edit.Edit.TheVariants.{One}
-use Rattle.bank_edits.specs.declared.edit.Step.TheVariants.{SetGen, ClearGen}
-use Rattle.bank_edits.proofs.Accepted.{accepted}
-use Rattle.bank_edits.proofs.PlaceLaws.{some_settings, owner_stays_there, place_stays_there}
-use Rattle.bank_edits.proofs.SettingLaws.{AllowsThere, settings_allowed, GenGoes, gen_goes, tests_set_gen, sound_set_gen, gen_comes, tests_clear_gen, sound_clear_gen}
+use Rattle.bank_changes.specs.declared.members.Owner.{Owner}
+use Rattle.bank_changes.specs.declared.members.Owner.TheVariants as owner
+use Rattle.bank_changes.specs.declared.members.Place.{Place}
+use Rattle.bank_changes.specs.Members.{zone_place, level_of, amount_of}
+use Rattle.bank_changes.specs.Settings.{own_place_changed, gen_set, gen_cleared}
+use Rattle.bank_changes.proofs.Changes.{all_found}
+use Rattle.bank_changes.proofs.PlaceLaws.{place_there, gens_of_sound, settings_fit}
+use Rattle.bank_changes.proofs.SettingLaws.{gen_set_is, gen_cleared_is, amount_found}
+use Rattle.edit_forms.specs.declared.edit.Edit.TheVariants.{One}
+use Rattle.edit_forms.specs.declared.edit.Step.TheVariants.{SetGen, ClearGen}
+use Rattle.edit_forms.proofs.Accepted.{accepted}
+use Rattle.edit_forms.proofs.PlaceLaws.{some_settings, owner_stays_there, place_stays_there}
+use Rattle.edit_forms.proofs.SettingLaws.{AllowsThere, settings_allowed, GenGoes, gen_goes, tests_set_gen, sound_set_gen, gen_comes, tests_clear_gen, sound_clear_gen}
 use Rattle.inverse_edits.specs.Undone.{IsTaken, IsUndone}
 use Rattle.inverse_edits.proofs.UndoneBy.{undone_by}
 

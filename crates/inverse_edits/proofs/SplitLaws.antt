@@ -20,14 +20,14 @@ use Rattle.zone_ranges.proofs.Parting.{first_parted, second_parted, first_merged
 use Rattle.zone_ranges.proofs.SplitLaws.{low_of_range, low_is_small, own_with, split_is_joinable, split_undone, join_is_splittable, join_undone, keep_of_joined}
 use Rattle.zone_ranges.proofs.There.{split_there, join_there, zones_there}
 use Rattle.zone_ranges.proofs.PartLaws.{own_holds}
-use Rattle.bank_core.specs.declared.members.Owner.{Owner}
-use Rattle.bank_core.specs.declared.members.Owner.TheVariants as owner
-use Rattle.bank_core.specs.Members.{zones_of, zone_of, level_of, target_count}
-use Rattle.bank_core.specs.Zones.{zone_split, zone_joined, can_split, can_join}
-use Rattle.bank_core.proofs.ZoneLaws.{zones_valid}
-use Rattle.bank_edits.specs.declared.edit.Edit.TheVariants.{One}
-use Rattle.bank_edits.specs.declared.edit.Step.TheVariants.{SplitZone, JoinZone}
-use Rattle.bank_edits.proofs.SplitLaws.{can_of_split_zone, tests_split_zone, sound_split_zone, can_of_join_zone, tests_join_zone, sound_join_zone}
+use Rattle.bank_changes.specs.declared.members.Owner.{Owner}
+use Rattle.bank_changes.specs.declared.members.Owner.TheVariants as owner
+use Rattle.bank_changes.specs.Members.{zones_of, zone_of, level_of, target_count}
+use Rattle.bank_changes.specs.Zones.{zone_split, zone_joined, can_split, can_join}
+use Rattle.bank_changes.proofs.ZoneLaws.{zones_valid}
+use Rattle.edit_forms.specs.declared.edit.Edit.TheVariants.{One}
+use Rattle.edit_forms.specs.declared.edit.Step.TheVariants.{SplitZone, JoinZone}
+use Rattle.edit_forms.proofs.SplitLaws.{can_of_split_zone, tests_split_zone, sound_split_zone, can_of_join_zone, tests_join_zone, sound_join_zone}
 use Rattle.inverse_edits.specs.Undone.{IsTaken, IsUndone}
 use Rattle.inverse_edits.proofs.UndoneBy.{undone_by}
 

@@ -2,10 +2,11 @@
 use Rattle.std.proofs.Common.{◌≡◌, sym, subst, ap}
 use Rattle.bank_parts.specs.declared.parts.Parts.{Parts}
 use Rattle.bank_parts.specs.Sound.{IsSound}
-use Rattle.bank_edits.specs.declared.edit.Step.{Step}
-use Rattle.bank_edits.specs.declared.edit.Edit.TheVariants.{One}
-use Rattle.bank_edits.specs.Steps.{FitsStep, raw, inverse, causes}
-use Rattle.bank_edits.proofs.Accepted.{NoneStands, accepted_by}
+use Rattle.edit_forms.specs.declared.edit.Step.{Step}
+use Rattle.edit_forms.specs.declared.edit.Edit.TheVariants.{One}
+use Rattle.edit_forms.specs.Steps.{FitsStep, raw, causes}
+use Rattle.bank_edits.specs.StepChanges.{inverse}
+use Rattle.edit_forms.proofs.Accepted.{NoneStands, accepted_by}
 use Rattle.inverse_edits.specs.Undone.{IsUndone}
 
 -- The facts about the inverse as it computes. That it breaks no limit follows from what it restores.

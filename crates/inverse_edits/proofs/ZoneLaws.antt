@@ -16,17 +16,17 @@ use Rattle.bank_parts.specs.Fits.{FitsZone}
 use Rattle.bank_parts.specs.Sound.{IsSound}
 use Rattle.bank_parts.proofs.SettingLaws.{source, zones_read}
 use Rattle.bank_parts.proofs.UndoneLaws.{zone_added_read, target_set_read}
-use Rattle.bank_core.specs.declared.members.Owner.{Owner}
-use Rattle.bank_core.specs.declared.members.Owner.TheVariants as owner
-use Rattle.bank_core.specs.Members.{own_zone_count, zones_of, zone_of, target_of, level_of, target_count}
-use Rattle.bank_core.specs.Zones.{zone_added, zone_removed, zone_moved, target_set}
-use Rattle.bank_core.proofs.Changes.{all_found}
-use Rattle.bank_core.proofs.ZoneLaws.{zones_valid, zones_fit}
-use Rattle.bank_core.proofs.ZoneChangeLaws.{own_zones_there, zone_there, zone_found, restored_zone_added, restored_zone_removed, restored_zone_moved, restored_target_set}
-use Rattle.bank_edits.specs.declared.edit.Edit.TheVariants.{One}
-use Rattle.bank_edits.specs.declared.edit.Step.TheVariants.{AddZone, RemoveZone, MoveZone, SetTarget}
-use Rattle.bank_edits.proofs.Accepted.{accepted}
-use Rattle.bank_edits.proofs.ZoneLaws.{zone_goes, tests_add_zone, sound_add_zone, comes_of_remove_zone, tests_remove_zone, sound_remove_zone, moves_of_move_zone, tests_move_zone, sound_move_zone, goes_of_set_target, tests_set_target, sound_set_target}
+use Rattle.bank_changes.specs.declared.members.Owner.{Owner}
+use Rattle.bank_changes.specs.declared.members.Owner.TheVariants as owner
+use Rattle.bank_changes.specs.Members.{own_zone_count, zones_of, zone_of, target_of, level_of, target_count}
+use Rattle.bank_changes.specs.Zones.{zone_added, zone_removed, zone_moved, target_set}
+use Rattle.bank_changes.proofs.Changes.{all_found}
+use Rattle.bank_changes.proofs.ZoneLaws.{zones_valid, zones_fit}
+use Rattle.bank_changes.proofs.ZoneChangeLaws.{own_zones_there, zone_there, zone_found, restored_zone_added, restored_zone_removed, restored_zone_moved, restored_target_set}
+use Rattle.edit_forms.specs.declared.edit.Edit.TheVariants.{One}
+use Rattle.edit_forms.specs.declared.edit.Step.TheVariants.{AddZone, RemoveZone, MoveZone, SetTarget}
+use Rattle.edit_forms.proofs.Accepted.{accepted}
+use Rattle.edit_forms.proofs.ZoneLaws.{zone_goes, tests_add_zone, sound_add_zone, comes_of_remove_zone, tests_remove_zone, sound_remove_zone, moves_of_move_zone, tests_move_zone, sound_move_zone, goes_of_set_target, tests_set_target, sound_set_target}
 use Rattle.inverse_edits.specs.Undone.{IsTaken, IsUndone}
 use Rattle.inverse_edits.proofs.UndoneBy.{undone_by}
 

@@ -2,8 +2,9 @@
 use Rattle.std.specs.Prelude.{◌≡◌, List, [], ◌∷◌, ◌++◌}
 use Rattle.bank_parts.specs.declared.parts.Parts.{Parts}
 use Rattle.bank_parts.specs.Sound.{IsSound}
-use Rattle.bank_edits.specs.declared.edit.Edit.{Edit}
-use Rattle.bank_edits.specs.Edits.{raw, inverse}
+use Rattle.edit_forms.specs.declared.edit.Edit.{Edit}
+use Rattle.edit_forms.specs.Edits.{raw}
+use Rattle.bank_edits.specs.EditChanges.{inverse}
 use Rattle.inverse_edits.specs.Undone.{IsTaken}
 
 -- each edit is taken in its turn

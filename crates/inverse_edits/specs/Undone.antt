@@ -2,8 +2,9 @@
 use Rattle.std.specs.Prelude.{◌≡◌, None}
 use Rattle.bank_parts.specs.declared.parts.Parts.{Parts}
 use Rattle.bank_parts.specs.Sound.{IsSound}
-use Rattle.bank_edits.specs.declared.edit.Edit.{Edit}
-use Rattle.bank_edits.specs.Edits.{FitsEdit, raw, refusal, inverse}
+use Rattle.edit_forms.specs.declared.edit.Edit.{Edit}
+use Rattle.edit_forms.specs.Edits.{FitsEdit, raw, refusal}
+use Rattle.bank_edits.specs.EditChanges.{inverse}
 
 -- its numbers, names and texts are in the ranges of their fields, and it is not refused
 pub record IsTaken (b : Parts) (e : Edit) : Type 0 where

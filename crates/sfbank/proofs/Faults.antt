@@ -9,7 +9,7 @@ use Rattle.bank_format.specs.Canon.{canon}
 use Rattle.bank_format.specs.Reading.{Content}
 use Rattle.bank_format.specs.Steps as reading
 use Rattle.bank_format.specs.ReadSteps.{fault_of, ReadsAs}
-use Rattle.bank_edits.specs.declared.edit.Edit.{Edit}
+use Rattle.edit_forms.specs.declared.edit.Edit.{Edit}
 use Rattle.line_tokens.specs.declared.fault.ScriptFault.{ScriptFault}
 use Rattle.line_tokens.specs.Pool.{pool_bytes}
 use Rattle.line_tokens.specs.Pool as scripts

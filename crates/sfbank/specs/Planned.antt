@@ -3,7 +3,7 @@ use Rattle.std.specs.Prelude.{◌≡◌, List, Option, Some, None}
 use Rattle.sf_base.specs.declared.memory.Failure.{Failure}
 use Rattle.sf_base.specs.declared.memory.Failure.TheVariants as failures
 use Rattle.bank_parts.specs.declared.parts.Parts.{Parts}
-use Rattle.bank_edits.specs.declared.edit.Edit.{Edit}
+use Rattle.edit_forms.specs.declared.edit.Edit.{Edit}
 use Rattle.inverse_edits.specs.Runs.{after_all, undo_list}
 use Rattle.edit_script.specs.declared.parsing.Line.{Line}
 use Rattle.sfbank.specs.declared.fault.RunFault.{RunFault}

@@ -5,7 +5,7 @@ ghost use Rattle.outputs.specs.Writing.{Writes};
 ghost use Rattle.sample_view.specs.Pieces.{joined_bytes};
 ghost use Rattle.sfbank_program.specs.FaultLines.{fault_line, status_of, read_line, script_line, refused_line, cause_text, limit_text, write_line, file_line};
 
-use bank_edits::Cause;
+use edit_forms::Cause;
 use bank_format::ReadFault;
 use bank_validity::Limit;
 use edit_script::ScriptFault;

@@ -11,7 +11,7 @@ use Rattle.bank_parts.specs.declared.parts.Head.{Head}
 use Rattle.bank_parts.specs.declared.parts.Zone.{Zone}
 use Rattle.bank_parts.specs.declared.parts.WithZones.{WithZones}
 use Rattle.bank_parts.specs.declared.parts.Parts.{Parts}
-use Rattle.bank_core.specs.declared.members.Owner.TheVariants as owner
+use Rattle.bank_changes.specs.declared.members.Owner.TheVariants as owner
 use Rattle.zone_select.specs.Ranges.{holds}
 use Rattle.zone_select.specs.Taken.{Taken, taken, setting}
 use Rattle.zone_select.specs.Select.{is_called}

@@ -9,7 +9,7 @@ use Rattle.bank_parts.specs.declared.parts.Zone.{Zone}
 use Rattle.bank_parts.specs.declared.parts.WithZones.{WithZones}
 use Rattle.bank_parts.specs.declared.parts.Parts.{Parts}
 use Rattle.bank_parts.specs.Sound.{IsSound}
-use Rattle.bank_core.specs.declared.members.Owner.TheVariants as owner
+use Rattle.bank_changes.specs.declared.members.Owner.TheVariants as owner
 use Rattle.zone_select.specs.Select.{is_called}
 use Rattle.zone_select.specs.Pairs.{held, held_inside, pairs_at, pairs}
 use Rattle.zone_select.specs.Left.{owner_held, inside_held, left_of, pairs_left}

@@ -13,11 +13,11 @@ use Rattle.bank_parts.specs.declared.parts.WithZones.{WithZones}
 use Rattle.bank_parts.specs.declared.parts.Parts.{Parts}
 use Rattle.bank_parts.specs.Valid.{mod_count, owner_total}
 use Rattle.bank_parts.specs.Sound.{IsSound}
-use Rattle.bank_core.specs.declared.members.Owner.{Owner}
-use Rattle.bank_core.specs.declared.members.Owner.TheVariants as owner
-use Rattle.bank_core.specs.declared.members.Place.{Place}
-use Rattle.bank_core.specs.declared.members.Place.TheVariants as place
-use Rattle.bank_core.specs.Members.{mods_of, mod_at}
+use Rattle.bank_changes.specs.declared.members.Owner.{Owner}
+use Rattle.bank_changes.specs.declared.members.Owner.TheVariants as owner
+use Rattle.bank_changes.specs.declared.members.Place.{Place}
+use Rattle.bank_changes.specs.declared.members.Place.TheVariants as place
+use Rattle.bank_changes.specs.Members.{mods_of, mod_at}
 use Rattle.zone_select.specs.Amounts.{last_like}
 use Rattle.zone_select.specs.At.{mods_at}
 

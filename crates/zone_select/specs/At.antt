@@ -2,12 +2,12 @@
 use Rattle.std.specs.Prelude.{ℕ, List, [], Option, None, cond, unwrap_or}
 use Rattle.std.specs.Option.{option_or}
 use Rattle.generators.specs.Ranges.{is_range_operator}
-use Rattle.bank_core.specs.declared.members.Owner.{Owner}
-use Rattle.bank_core.specs.declared.members.Owner.TheVariants as owner
-use Rattle.bank_core.specs.declared.members.Place.{Place}
-use Rattle.bank_core.specs.declared.members.Place.TheVariants as place
+use Rattle.bank_changes.specs.declared.members.Owner.{Owner}
+use Rattle.bank_changes.specs.declared.members.Owner.TheVariants as owner
+use Rattle.bank_changes.specs.declared.members.Place.{Place}
+use Rattle.bank_changes.specs.declared.members.Place.TheVariants as place
 use Rattle.modulators.specs.declared.modulator.Modulator.{Modulator}
-use Rattle.bank_core.specs.Members.{amount_of, mods_of, target_of}
+use Rattle.bank_changes.specs.Members.{amount_of, mods_of, target_of}
 use Rattle.bank_parts.specs.declared.parts.Parts.{Parts}
 use Rattle.note_list.specs.Notes.{Numbers}
 use Rattle.zone_select.specs.declared.amounts.PairAt.{PairAt}

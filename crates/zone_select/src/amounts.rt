@@ -2,8 +2,8 @@
 ghost use Rattle.std.specs.Prelude.{◌≡◌, ◌≤ℤ◌, pos, negsuc, false, unwrap_or, length};
 ghost use Rattle.std.specs.Option.{option_or, option_map};
 ghost use Rattle.generators.specs.Ranges.{is_range_operator};
-ghost use Rattle.bank_core.specs.declared.members.Place.TheVariants as place;
-ghost use Rattle.bank_core.specs.Members.{amount_of};
+ghost use Rattle.bank_changes.specs.declared.members.Place.TheVariants as place;
+ghost use Rattle.bank_changes.specs.Members.{amount_of};
 ghost use Rattle.zone_select.specs.Amounts.{amount, last_like, modulator_like, modulator_amount};
 ghost use Rattle.zone_select.specs.At.{mods_at, taken_at, inner_at, outer_at};
 

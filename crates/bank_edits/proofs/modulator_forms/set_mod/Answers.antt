@@ -1,8 +1,9 @@
 use Rattle.std.proofs.Common.{◌<◌, length}
-use Rattle.bank_edits.proofs.Accepted.{accepted}
-use Rattle.bank_edits.specs.declared.edit.Step.TheVariants.{SetMod}
-use Rattle.bank_edits.proofs.ModulatorLaws.{mod_changes, sound_set_mod, inverse_of_set_mod}
-use Rattle.bank_edits.proofs.PlaceLaws.{some_settings, mods_hold}
+use Rattle.edit_forms.proofs.Accepted.{accepted}
+use Rattle.edit_forms.specs.declared.edit.Step.TheVariants.{SetMod}
+use Rattle.edit_forms.proofs.ModulatorLaws.{mod_changes, sound_set_mod}
+use Rattle.bank_edits.proofs.InverseLaws.{inverse_of_set_mod}
+use Rattle.edit_forms.proofs.PlaceLaws.{some_settings, mods_hold}
 use Rattle.bank_edits.proofs.modulator_forms.set_mod.Goals as goal
 
 pub set_mod-replaced-requires-clause-there : goal.set_mod-replaced-requires-clause-there

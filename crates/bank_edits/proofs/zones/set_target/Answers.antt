@@ -1,4 +1,5 @@
-use Rattle.bank_edits.proofs.ZoneLaws.{goes_of_set_target, sound_set_target, inverse_of_set_target}
+use Rattle.edit_forms.proofs.ZoneLaws.{goes_of_set_target, sound_set_target}
+use Rattle.bank_edits.proofs.InverseLaws.{inverse_of_set_target}
 use Rattle.bank_edits.proofs.zones.set_target.Goals as goal
 
 pub set_target-was-requires-clause-there : goal.set_target-was-requires-clause-there

@@ -1,7 +1,7 @@
 use Rattle.std.proofs.Common.{subst}
 use Rattle.outputs.specs.Output.{Puts}
 use Rattle.outputs.proofs.OutputLaws.{putting_member}
-use Rattle.bank_edits.specs.declared.edit.Edit.{Edit}
+use Rattle.edit_forms.specs.declared.edit.Edit.{Edit}
 use Rattle.edit_script.specs.Printing.{text_of}
 use Rattle.sfbank.proofs.deliver.put_edits.Goals as goal
 

@@ -2,9 +2,9 @@ use Rattle.std.proofs.Common.{◌∙◌}
 use Rattle.generators.specs.declared.level.Level.TheVariants as level
 use Rattle.bank_parts.specs.Counts.{records_of_owner}
 use Rattle.bank_validity.proofs.LimitLaws.{no_limit_of}
-use Rattle.bank_core.specs.Presets.{preset_added}
-use Rattle.bank_core.proofs.PresetLaws.{totals-added_preset}
-use Rattle.bank_core.proofs.TotalsLaws.{room_with, totals_with}
+use Rattle.bank_changes.specs.Presets.{preset_added}
+use Rattle.bank_changes.proofs.PresetLaws.{totals-added_preset}
+use Rattle.bank_changes.proofs.TotalsLaws.{room_with, totals_with}
 use Rattle.bank_core.proofs.bank.Bank.add_preset.Goals as goal
 
 pub with_owner-totals-requires : goal.with_owner-totals-requires

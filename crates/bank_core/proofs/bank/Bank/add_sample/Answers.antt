@@ -1,5 +1,5 @@
 use Rattle.std.proofs.Common.{◌∙◌}
-use Rattle.bank_core.proofs.SampleLaws.{room_for, totals_grown}
+use Rattle.bank_changes.proofs.SampleLaws.{room_for, totals_grown}
 use Rattle.bank_core.proofs.bank.Bank.add_sample.Goals as goal
 
 pub with_sample-totals-requires : goal.with_sample-totals-requires

@@ -1,10 +1,10 @@
 use Rattle.std.proofs.Common.{◌∙◌}
 use Rattle.bank_parts.specs.Counts.{records_of_zone}
 use Rattle.bank_validity.proofs.LimitLaws.{no_limit_of}
-use Rattle.bank_core.specs.Members.{level_of}
-use Rattle.bank_core.specs.Zones.{zone_added}
-use Rattle.bank_core.proofs.ZoneChangeLaws.{totals-zone_added}
-use Rattle.bank_core.proofs.RecordLaws.{room_with_records, totals_with_records}
+use Rattle.bank_changes.specs.Members.{level_of}
+use Rattle.bank_changes.specs.Zones.{zone_added}
+use Rattle.bank_changes.proofs.ZoneChangeLaws.{totals-zone_added}
+use Rattle.bank_changes.proofs.RecordLaws.{room_with_records, totals_with_records}
 use Rattle.bank_core.proofs.bank.Bank.add_zone.Goals as goal
 
 pub with_records-totals-requires : goal.with_records-totals-requires

@@ -3,10 +3,10 @@ use Rattle.std.specs.Option.{is_some}
 use Rattle.std.specs.FinMap as map
 use Rattle.bank_validity.specs.Limits.{totals_of}
 use Rattle.bank_parts.specs.Settings.{with_gens}
-use Rattle.bank_core.specs.Members.{settings_of}
-use Rattle.bank_core.specs.Settings.{gen_set}
-use Rattle.bank_core.proofs.PlaceLaws.{found_there, not_some, no_limit_in, counted_there, became}
-use Rattle.bank_core.proofs.SettingLaws.{amount_found, gen_set_is, within_gen_replaced, gen_records}
+use Rattle.bank_changes.specs.Members.{settings_of}
+use Rattle.bank_changes.specs.Settings.{gen_set}
+use Rattle.bank_changes.proofs.PlaceLaws.{found_there, not_some, no_limit_in, counted_there, became}
+use Rattle.bank_changes.proofs.SettingLaws.{amount_found, gen_set_is, within_gen_replaced, gen_records}
 use Rattle.bank_core.proofs.bank.Bank.broken_with_gen.Goals as goal
 
 pub returns-then-is_some : goal.returns-then-is_some

@@ -1,10 +1,10 @@
 use Rattle.std.proofs.Common.{insert, ◌∙◌}
 use Rattle.bank_validity.specs.Limits.{totals_of}
 use Rattle.bank_parts.specs.Settings.{with_mods}
-use Rattle.bank_core.specs.Members.{settings_of}
-use Rattle.bank_core.specs.Settings.{mod_added}
-use Rattle.bank_core.proofs.PlaceLaws.{found_there, no_limit_in, counted_there, became}
-use Rattle.bank_core.proofs.SettingLaws.{mod_added_is, mod_records}
+use Rattle.bank_changes.specs.Members.{settings_of}
+use Rattle.bank_changes.specs.Settings.{mod_added}
+use Rattle.bank_changes.proofs.PlaceLaws.{found_there, no_limit_in, counted_there, became}
+use Rattle.bank_changes.proofs.SettingLaws.{mod_added_is, mod_records}
 use Rattle.bank_core.proofs.bank.Bank.broken_with_mod.Goals as goal
 
 pub recounted-requires-clause-within : goal.recounted-requires-clause-within

@@ -3,7 +3,7 @@ use Rattle.bank_parts.specs.Counts.{all_counted}
 use Rattle.bank_validity.specs.Limits.{broken}
 use Rattle.bank_validity.proofs.LimitLaws.{no_limit_of}
 use Rattle.zone_ranges.specs.Splits.{split_records}
-use Rattle.bank_core.proofs.SplitLaws.{split, totals-zone_split}
+use Rattle.bank_changes.proofs.SplitLaws.{split, totals-zone_split}
 use Rattle.bank_core.proofs.bank.Bank.broken_with_split.Goals as goal
 
 pub broken_with_records-requires : goal.broken_with_records-requires

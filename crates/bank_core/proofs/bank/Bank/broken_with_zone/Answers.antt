@@ -2,7 +2,7 @@ use Rattle.std.proofs.Common.{◌∙◌, sym, ap}
 use Rattle.bank_parts.specs.Counts.{records_of_zone}
 use Rattle.bank_validity.specs.Limits.{broken}
 use Rattle.bank_validity.proofs.LimitLaws.{no_limit_of}
-use Rattle.bank_core.proofs.ZoneChangeLaws.{totals-zone_added}
+use Rattle.bank_changes.proofs.ZoneChangeLaws.{totals-zone_added}
 use Rattle.bank_core.proofs.bank.Bank.broken_with_zone.Goals as goal
 
 pub broken_with_records-requires : goal.broken_with_records-requires

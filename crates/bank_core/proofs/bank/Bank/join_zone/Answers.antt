@@ -2,10 +2,10 @@ use Rattle.std.proofs.Common.{◌≡◌, sym}
 use Rattle.bank_parts.specs.Counts.{all_counted}
 use Rattle.bank_validity.proofs.LimitLaws.{no_limit_of}
 use Rattle.zone_ranges.specs.Splits.{join_records}
-use Rattle.bank_core.specs.Members.{level_of}
-use Rattle.bank_core.specs.Zones.{zone_joined}
-use Rattle.bank_core.proofs.SplitLaws.{join, totals-zone_joined}
-use Rattle.bank_core.proofs.RecordLaws.{has_those_records, totals_without_records}
+use Rattle.bank_changes.specs.Members.{level_of}
+use Rattle.bank_changes.specs.Zones.{zone_joined}
+use Rattle.bank_changes.proofs.SplitLaws.{join, totals-zone_joined}
+use Rattle.bank_changes.proofs.RecordLaws.{has_those_records, totals_without_records}
 use Rattle.bank_core.proofs.bank.Bank.join_zone.Goals as goal
 
 pub join_records-less-requires : goal.join_records-less-requires

@@ -1,5 +1,5 @@
 use Rattle.std.proofs.Common.{◌∙◌, sym}
-use Rattle.bank_core.proofs.InstrumentLaws.{totals-instrument_moved}
+use Rattle.bank_changes.proofs.InstrumentLaws.{totals-instrument_moved}
 use Rattle.bank_core.proofs.bank.Bank.move_instrument.Goals as goal
 
 pub invariant_of-self : goal.invariant_of-self

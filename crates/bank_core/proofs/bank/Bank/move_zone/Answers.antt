@@ -1,5 +1,5 @@
 use Rattle.std.proofs.Common.{◌∙◌, sym}
-use Rattle.bank_core.proofs.ZoneChangeLaws.{totals-zone_moved}
+use Rattle.bank_changes.proofs.ZoneChangeLaws.{totals-zone_moved}
 use Rattle.bank_core.proofs.bank.Bank.move_zone.Goals as goal
 
 pub invariant_of-self : goal.invariant_of-self

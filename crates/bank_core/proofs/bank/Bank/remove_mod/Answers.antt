@@ -1,8 +1,8 @@
 use Rattle.std.proofs.Common.{remove, sym, subst, ◌∙◌}
 use Rattle.bank_parts.specs.Settings.{with_mods}
 use Rattle.bank_parts.specs.Sound.{IsSound}
-use Rattle.bank_core.proofs.PlaceLaws.{no_limit_in, counted_there, kept_totals}
-use Rattle.bank_core.proofs.SettingLaws.{mod_removed_is}
+use Rattle.bank_changes.proofs.PlaceLaws.{no_limit_in, counted_there, kept_totals}
+use Rattle.bank_changes.proofs.SettingLaws.{mod_removed_is}
 use Rattle.bank_core.proofs.bank.Bank.remove_mod.Goals as goal
 
 pub recounted-self-inside-requires-clause-within : goal.recounted-self-inside-requires-clause-within

@@ -2,9 +2,9 @@ use Rattle.std.proofs.Common.{sym}
 use Rattle.generators.specs.declared.level.Level.TheVariants as level
 use Rattle.bank_parts.specs.Counts.{records_of_owner}
 use Rattle.bank_validity.proofs.LimitLaws.{no_limit_of}
-use Rattle.bank_core.specs.Presets.{preset_removed}
-use Rattle.bank_core.proofs.PresetLaws.{totals-removed_preset}
-use Rattle.bank_core.proofs.TotalsLaws.{has_one, totals_without}
+use Rattle.bank_changes.specs.Presets.{preset_removed}
+use Rattle.bank_changes.proofs.PresetLaws.{totals-removed_preset}
+use Rattle.bank_changes.proofs.TotalsLaws.{has_one, totals_without}
 use Rattle.bank_core.proofs.bank.Bank.remove_preset.Goals as goal
 
 pub without_owner-self-inside-requires : goal.without_owner-self-inside-requires

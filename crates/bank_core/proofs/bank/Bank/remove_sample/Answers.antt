@@ -1,4 +1,4 @@
-use Rattle.bank_core.proofs.SampleLaws.{had_sample, totals_shrunk}
+use Rattle.bank_changes.proofs.SampleLaws.{had_sample, totals_shrunk}
 use Rattle.bank_core.proofs.bank.Bank.remove_sample.Goals as goal
 
 pub without_sample-self-inside-requires-clause-samples : goal.without_sample-self-inside-requires-clause-samples

@@ -1,10 +1,10 @@
 use Rattle.std.proofs.Common.{sym}
 use Rattle.bank_parts.specs.Counts.{records_of_zone}
 use Rattle.bank_validity.proofs.LimitLaws.{no_limit_of}
-use Rattle.bank_core.specs.Members.{level_of}
-use Rattle.bank_core.specs.Zones.{zone_removed}
-use Rattle.bank_core.proofs.ZoneChangeLaws.{totals-zone_removed}
-use Rattle.bank_core.proofs.RecordLaws.{has_those_records, totals_without_records}
+use Rattle.bank_changes.specs.Members.{level_of}
+use Rattle.bank_changes.specs.Zones.{zone_removed}
+use Rattle.bank_changes.proofs.ZoneChangeLaws.{totals-zone_removed}
+use Rattle.bank_changes.proofs.RecordLaws.{has_those_records, totals_without_records}
 use Rattle.bank_core.proofs.bank.Bank.remove_zone.Goals as goal
 
 pub without_records-self-inside-requires : goal.without_records-self-inside-requires

@@ -1,5 +1,5 @@
 use Rattle.std.proofs.Common.{◌∙◌, sym}
-use Rattle.bank_core.proofs.SampleLaws.{totals-renamed}
+use Rattle.bank_changes.proofs.SampleLaws.{totals-renamed}
 use Rattle.bank_core.proofs.bank.Bank.rename_sample.Goals as goal
 
 pub invariant_of-self : goal.invariant_of-self

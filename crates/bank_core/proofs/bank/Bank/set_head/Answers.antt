@@ -1,5 +1,5 @@
 use Rattle.std.proofs.Common.{◌∙◌, sym}
-use Rattle.bank_core.proofs.PresetLaws.{totals-head_set}
+use Rattle.bank_changes.proofs.PresetLaws.{totals-head_set}
 use Rattle.bank_core.proofs.bank.Bank.set_head.Goals as goal
 
 pub invariant_of-self : goal.invariant_of-self

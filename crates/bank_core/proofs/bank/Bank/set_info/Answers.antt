@@ -1,5 +1,5 @@
 use Rattle.std.proofs.Common.{◌∙◌, sym}
-use Rattle.bank_core.proofs.TextLaws.{totals-info}
+use Rattle.bank_changes.proofs.TextLaws.{totals-info}
 use Rattle.bank_core.proofs.bank.Bank.set_info.Goals as goal
 
 pub invariant_of-self : goal.invariant_of-self

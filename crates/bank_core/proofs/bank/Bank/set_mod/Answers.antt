@@ -2,8 +2,8 @@ use Rattle.std.proofs.Common.{sym, subst, ◌∙◌}
 use Rattle.std.specs.Prelude.{slice_set}
 use Rattle.bank_parts.specs.Settings.{with_mods}
 use Rattle.bank_parts.specs.Sound.{IsSound}
-use Rattle.bank_core.proofs.PlaceLaws.{no_limit_in, counted_there, kept_totals}
-use Rattle.bank_core.proofs.SettingLaws.{mod_set_is}
+use Rattle.bank_changes.proofs.PlaceLaws.{no_limit_in, counted_there, kept_totals}
+use Rattle.bank_changes.proofs.SettingLaws.{mod_set_is}
 use Rattle.bank_core.proofs.bank.Bank.set_mod.Goals as goal
 
 pub recounted-self-inside-requires-clause-within : goal.recounted-self-inside-requires-clause-within

@@ -2,10 +2,10 @@ use Rattle.std.proofs.Common.{◌≡◌, ◌∙◌}
 use Rattle.bank_parts.specs.Counts.{all_counted}
 use Rattle.bank_validity.proofs.LimitLaws.{no_limit_of}
 use Rattle.zone_ranges.specs.Splits.{split_records}
-use Rattle.bank_core.specs.Members.{level_of}
-use Rattle.bank_core.specs.Zones.{zone_split}
-use Rattle.bank_core.proofs.SplitLaws.{split, totals-zone_split}
-use Rattle.bank_core.proofs.RecordLaws.{room_with_records, totals_with_records}
+use Rattle.bank_changes.specs.Members.{level_of}
+use Rattle.bank_changes.specs.Zones.{zone_split}
+use Rattle.bank_changes.proofs.SplitLaws.{split, totals-zone_split}
+use Rattle.bank_changes.proofs.RecordLaws.{room_with_records, totals_with_records}
 use Rattle.bank_core.proofs.bank.Bank.split_zone.Goals as goal
 
 pub with_records-totals-requires : goal.with_records-totals-requires

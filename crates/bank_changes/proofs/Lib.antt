@@ -1,0 +1,17 @@
+pub mod Changes
+pub mod Everywhere
+pub mod Moves
+pub mod OwnerReferences
+pub mod References
+pub mod TotalsLaws
+pub mod RecordLaws
+pub mod ZoneLaws
+pub mod ZoneChangeLaws
+pub mod SplitLaws
+pub mod SampleLaws
+pub mod InstrumentLaws
+pub mod PresetLaws
+pub mod TextLaws
+pub mod PlaceLaws
+pub mod RecountLaws
+pub mod SettingLaws

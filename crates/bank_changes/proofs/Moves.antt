@@ -1,0 +1,25 @@
+-- A list with one member moved.
+use Rattle.std.proofs.Common.{◌≡◌, ◌<◌, ℕ, List, length, map, remove, sym, ◌∙◌, ap, arith}
+use Rattle.std.specs.Prelude.{sum_by}
+use Rattle.std.specs.List.{AllByRecursion}
+use Rattle.std.proofs.lemmas.List.Sums.{sum_by-insert}
+use Rattle.numbered_lists.specs.Moved.{moved}
+use Rattle.numbered_lists.proofs.Lists.{slice_get-found, length-moved, map-moved, moved-back}
+use Rattle.bank_changes.proofs.Everywhere.{all_insert, all_remove}
+use Rattle.bank_changes.proofs.Changes.{all_found, sum-removed}
+
+pub all_moved : {X : Type 0} (P : X → Type 0) (xs : List X) (i j : ℕ) → i < length xs → AllByRecursion P xs → AllByRecursion P (moved xs i j)
+all_moved P xs i j lt all = let (x, e) = slice_get-found xs i lt in rw e (all_insert P (remove xs i) j x (all_found P xs i x e all) (all_remove P xs i all))
+
+pub sum-moved : {X : Type 0} (measure : X → ℕ) (xs : List X) (i j : ℕ) → i < length xs → sum_by measure (moved xs i j) ≡ sum_by measure xs
+sum-moved measure xs i j lt =
+    let (x, e) = slice_get-found xs i lt in
+    let less = sum-removed measure xs i x e in
+    let more = sum_by-insert measure (remove xs i) j x in
+    rw e (omega (arith, less, more))
+
+-- moved back, with each member sent through f in between
+pub moved_back-sent : {X : Type 0} (f : X → X) (xs : List X) (i j : ℕ) → i < length xs → j < length xs → moved (map f (moved xs i j)) j i ≡ map f xs
+moved_back-sent f xs i j lt lu =
+    let size = length-moved xs i j lt lu in
+    sym (map-moved f (moved xs i j) j i (omega (arith, size, lu))) ∙ ap (map f) (moved-back xs i j lt lu)

@@ -1,0 +1,357 @@
+-- A change of one place, wherever it is: what it keeps, and what becomes of the totals.
+use Rattle.std.proofs.Common.{◌≡◌, false, ◌≤◌, ◌+◌, ℕ, zero, suc, List, [], ◌∷◌, length, Option, Some, None, IsSome, refl, sym, ◌∙◌, ap, subst, arith}
+use Rattle.std.specs.Prelude.{slice_get, slice_set, sum_by, if◌then◌else◌, ◌==◌}
+use Rattle.std.specs.Option.{is_some, option_map, option_map_or}
+use Rattle.std.specs.FinMap.{len, len-empty}
+use Rattle.std.proofs.lemmas.List.Sums.{sum_by-cons}
+use Rattle.std.proofs.lemmas.Bool.Decides.{nat_tests}
+use Rattle.sf_base.specs.Names.{IsName}
+use Rattle.numbered_lists.specs.Moved.{changed}
+use Rattle.numbered_lists.proofs.Lists.{slice_get-within, changed-found, length-changed}
+use Rattle.generators.specs.Gens.{no_gens, operator_cmp}
+use Rattle.generators.specs.declared.level.Level.{Level}
+use Rattle.generators.specs.declared.level.Level.TheVariants as level
+use Rattle.bank_parts.specs.declared.counting.Records.{Records}
+use Rattle.bank_validity.specs.declared.totals.Totals.{Totals}
+use Rattle.bank_parts.specs.declared.owners.ZonePlace.{ZonePlace}
+use Rattle.bank_parts.specs.declared.owners.ZonePlace.TheVariants as place
+use Rattle.bank_parts.specs.declared.parts.Head.{Head}
+use Rattle.bank_parts.specs.declared.parts.Zone.{Zone}
+use Rattle.bank_parts.specs.declared.parts.WithZones.{WithZones}
+use Rattle.bank_parts.specs.declared.parts.Parts.{Parts}
+use Rattle.bank_parts.specs.Owners.{HasPlace}
+use Rattle.bank_parts.specs.Settings.{Settings, settings_of_zone, zone_with_settings, settings_in, settings_changed, settings_at, place_changed}
+use Rattle.bank_parts.specs.Valid.{IsZone, IsOwner, AreGenerators, zone_count, gen_count, mod_count, owner_total, global_count}
+use Rattle.bank_parts.specs.Fits.{FitsGlobal, FitsZone, FitsOwner, FitsHead}
+use Rattle.bank_parts.specs.Sound.{IsSound}
+use Rattle.bank_validity.specs.Limits.{totals_of, broken, broken_limit}
+use Rattle.bank_validity.proofs.LimitLaws.{limits_of, no_limit_of}
+use Rattle.bank_parts.proofs.SettingLaws.{source, given, place_read}
+use Rattle.bank_changes.specs.declared.members.Owner.{Owner}
+use Rattle.bank_changes.specs.declared.members.Owner.TheVariants.{Preset, Instrument}
+use Rattle.bank_changes.specs.declared.members.Place.{Place}
+use Rattle.bank_changes.specs.Members.{zone_place, settings_of, level_of}
+use Rattle.bank_changes.specs.Settings.{own_place_changed, records_of_place, no_records, records_there}
+use Rattle.bank_changes.specs.Totals.{with_records, HasRecords}
+use Rattle.bank_changes.proofs.Changes.{all_changed, all_found}
+use Rattle.bank_changes.proofs.RecountLaws.{AreNoMore, no_more_within}
+
+-- ---- a place that is there
+
+pub place_there : {H : Type 0} (owners : List (WithZones H)) (i : ℕ) (at : ZonePlace) → IsSome (settings_at owners i at) → HasPlace owners i at
+place_there {H} owners i at h = (elim (settings_at owners i at) as (λ o. settings_at owners i at ≡ o → IsSome o → HasPlace owners i at) [
+  | None ↦ λ e k. cc
+  | Some s ↦ λ e k. found at s e
+]) refl h
+  where
+    found : (at : ZonePlace) (s : Settings) → settings_at owners i at ≡ Some s → HasPlace owners i at
+    found place.Global s e = let x = given (settings_in place.Global) (slice_get owners i) s e in slice_get-within owners i x.member x.there
+    found (place.Zone k) s e =
+        let x = given (settings_in (place.Zone k)) (slice_get owners i) s e in
+        let z = source settings_of_zone (slice_get x.member.zones k) s x.gives in
+        let there = x.there in
+        rw there (slice_get-within x.member.zones k z.member z.there)
+
+-- ---- what holds of the settings of all places, and still of those that are changed
+
+module _ (lvl : Level) (targets : ℕ) (f : Settings → Settings) (keeps : (s : Settings) → AreGenerators lvl s.gens → AreGenerators lvl (f s).gens) where
+  pub owner_stays : {H : Type 0} (name_of : H → List ℕ) (at : ZonePlace) (x : WithZones H) → IsOwner name_of lvl targets x → IsOwner name_of lvl targets (settings_changed at f x)
+  owner_stays name_of place.Global x is = record {
+    name = is.name;
+    zones = record { global = keeps x.global is.zones.global; zones = is.zones.zones };
+  }
+  owner_stays name_of (place.Zone k) x is = record {
+    name = is.name;
+    zones = record {
+      global = is.zones.global;
+      zones = all_changed (λ (z : Zone). zone_with_settings (f (settings_of_zone z)) z) (IsZone lvl targets) (λ z was. record { target = was.target; gens = keeps (settings_of_zone z) was.gens }) x.zones k is.zones.zones;
+    };
+  }
+
+module _ (f : Settings → Settings) (keeps : (s : Settings) → FitsGlobal s → FitsGlobal (f s)) where
+  pub owner_fits_still : {H : Type 0} (IsFit : H → Type 0) (at : ZonePlace) (x : WithZones H) → FitsOwner IsFit x → FitsOwner IsFit (settings_changed at f x)
+  owner_fits_still IsFit place.Global x fits = record { head = fits.head; global = keeps x.global fits.global; zones = fits.zones }
+  owner_fits_still IsFit (place.Zone k) x fits = record {
+    head = fits.head;
+    global = fits.global;
+    zones = all_changed (λ (z : Zone). zone_with_settings (f (settings_of_zone z)) z) FitsZone (
+        λ z was.
+        let now = keeps (settings_of_zone z) (record { gens = was.gens; mods = was.mods }) in
+        record { target = was.target; gens = now.gens; mods = now.mods }
+        ) x.zones k fits.zones;
+  }
+
+-- what a change of settings keeps at a level
+pub record Keeps (lvl : Level) (f : Settings → Settings) : Type 0 where
+  pub valid : (s : Settings) → AreGenerators lvl s.gens → AreGenerators lvl (f s).gens
+  pub fits : (s : Settings) → FitsGlobal s → FitsGlobal (f s)
+
+pub sound_place_changed : (b : Parts) (o : Owner) (at : Place) (f : Settings → Settings) → IsSound b → Keeps (level_of o) f → broken_limit (own_place_changed b o at f) ≡ None
+    → IsSound (own_place_changed b o at f)
+sound_place_changed b (Preset p) at f sound keeps within =
+    let v = sound.valid in
+    let t = sound.fits in
+    let change : WithZones Head → WithZones Head = settings_changed (zone_place at) f in
+    record {
+      valid = record {
+        texts = v.texts;
+        presets = all_changed change (IsOwner (λ (h : Head). h.name) level.Preset (length b.instruments)) (owner_stays level.Preset (length b.instruments) f keeps.valid (λ (h : Head). h.name) (zone_place at)) b.presets p v.presets;
+        instruments = v.instruments;
+        samples = v.samples;
+        limits = limits_of (own_place_changed b (Preset p) at f) within;
+      };
+      fits = record {
+        minor = t.minor;
+        texts = t.texts;
+        presets = all_changed change (FitsOwner FitsHead) (owner_fits_still f keeps.fits FitsHead (zone_place at)) b.presets p t.presets;
+        instruments = t.instruments;
+        samples = t.samples;
+      };
+    }
+sound_place_changed b (Instrument i) at f sound keeps within =
+    let v = sound.valid in
+    let t = sound.fits in
+    let change : WithZones (List ℕ) → WithZones (List ℕ) = settings_changed (zone_place at) f in
+    record {
+      valid = record {
+        texts = v.texts;
+        presets = rw (length-changed b.instruments i change) v.presets;
+        instruments = all_changed change (IsOwner (λ (name : List ℕ). name) level.Instrument (length b.samples)) (owner_stays level.Instrument (length b.samples) f keeps.valid (λ (name : List ℕ). name) (zone_place at)) b.instruments i v.instruments;
+        samples = v.samples;
+        limits = limits_of (own_place_changed b (Instrument i) at f) within;
+      };
+      fits = record {
+        minor = t.minor;
+        texts = t.texts;
+        presets = t.presets;
+        instruments = all_changed change (FitsOwner IsName) (owner_fits_still f keeps.fits IsName (zone_place at)) b.instruments i t.instruments;
+        samples = t.samples;
+      };
+    }
+
+-- the settings of a sound bank
+
+member_gens : {H : Type 0} (name_of : H → List ℕ) (lvl : Level) (targets : ℕ) (at : ZonePlace) (x : WithZones H) (s : Settings) → settings_in at x ≡ Some s → IsOwner name_of lvl targets x → AreGenerators lvl s.gens
+member_gens name_of lvl targets place.Global x s e is = let same : x.global ≡ s = cc in subst (λ (s : Settings). AreGenerators lvl s.gens) same is.zones.global
+member_gens name_of lvl targets (place.Zone k) x s e is =
+    let z = source settings_of_zone (slice_get x.zones k) s e in
+    subst (λ (s : Settings). AreGenerators lvl s.gens) z.seen (all_found (IsZone lvl targets) x.zones k z.member z.there is.zones.zones).gens
+
+member_fits : {H : Type 0} (IsFit : H → Type 0) (at : ZonePlace) (x : WithZones H) (s : Settings) → settings_in at x ≡ Some s → FitsOwner IsFit x → FitsGlobal s
+member_fits IsFit place.Global x s e fits = let same : x.global ≡ s = cc in subst FitsGlobal same fits.global
+member_fits IsFit (place.Zone k) x s e fits =
+    let z = source settings_of_zone (slice_get x.zones k) s e in
+    let was = all_found FitsZone x.zones k z.member z.there fits.zones in
+    subst FitsGlobal z.seen (record { gens = was.gens; mods = was.mods })
+
+pub gens_of_sound : (b : Parts) (o : Owner) (at : Place) (s : Settings) → IsSound b → settings_of b o at ≡ Some s → AreGenerators (level_of o) s.gens
+gens_of_sound b (Preset p) at s sound e =
+    let x = given (settings_in (zone_place at)) (slice_get b.presets p) s e in
+    member_gens (λ (h : Head). h.name) level.Preset (length b.instruments) (zone_place at) x.member s x.gives
+    (all_found (IsOwner (λ (h : Head). h.name) level.Preset (length b.instruments)) b.presets p x.member x.there sound.valid.presets)
+gens_of_sound b (Instrument i) at s sound e =
+    let x = given (settings_in (zone_place at)) (slice_get b.instruments i) s e in
+    member_gens (λ (name : List ℕ). name) level.Instrument (length b.samples) (zone_place at) x.member s x.gives
+    (all_found (IsOwner (λ (name : List ℕ). name) level.Instrument (length b.samples)) b.instruments i x.member x.there sound.valid.instruments)
+
+pub settings_fit : (b : Parts) (o : Owner) (at : Place) (s : Settings) → IsSound b → settings_of b o at ≡ Some s → FitsGlobal s
+settings_fit b (Preset p) at s sound e =
+    let x = given (settings_in (zone_place at)) (slice_get b.presets p) s e in
+    member_fits FitsHead (zone_place at) x.member s x.gives (all_found (FitsOwner FitsHead) b.presets p x.member x.there sound.fits.presets)
+settings_fit b (Instrument i) at s sound e =
+    let x = given (settings_in (zone_place at)) (slice_get b.instruments i) s e in
+    member_fits IsName (zone_place at) x.member s x.gives (all_found (FitsOwner IsName) b.instruments i x.member x.there sound.fits.instruments)
+
+-- ---- totals
+
+-- a sum with another member in the place of one
+sum-put : {X : Type 0} (measure : X → ℕ) (xs : List X) (i : ℕ) (x y : X) → slice_get xs i ≡ Some x → sum_by measure (slice_set xs i y) + measure x ≡ sum_by measure xs + measure y
+sum-put measure [] i x y e = cc
+sum-put measure (z ∷ zs) zero x y e =
+    let here : z ≡ x = cc in
+    let old = sum_by-cons measure z zs in
+    let new = sum_by-cons measure y zs in
+    let old_is : measure z ≡ measure x = ap measure here in
+    omega (arith, old, new, old_is)
+sum-put measure (z ∷ zs) (suc i) x y e =
+    let rest = sum-put measure zs i x y e in
+    let old = sum_by-cons measure z zs in
+    let new = sum_by-cons measure z (slice_set zs i y) in
+    omega (arith, rest, old, new)
+
+pub sum-changed_there : {X : Type 0} (measure : X → ℕ) (f : X → X) (xs : List X) (i : ℕ) (x : X) → slice_get xs i ≡ Some x → sum_by measure (changed xs i f) + measure x ≡ sum_by measure xs + measure (f x)
+sum-changed_there measure f xs i x e = ap (λ ys. sum_by measure ys + measure x) (changed-found xs i f x e) ∙ sum-put measure xs i x (f x) e
+
+-- a count of the zones of a member is that of the global zone and that of the others
+module _ (global_part zone_part : Settings → ℕ) (others : List Zone → ℕ) (f : Settings → Settings)
+    (one : (zones : List Zone) (k : ℕ) (z : Zone) → slice_get zones k ≡ Some z
+    → others (changed zones k (λ (z : Zone). zone_with_settings (f (settings_of_zone z)) z)) + zone_part (settings_of_zone z) ≡ others zones + zone_part (f (settings_of_zone z))) where
+  abbrev part : ZonePlace → Settings → ℕ
+  part place.Global s = global_part s
+  part (place.Zone k) s = zone_part s
+
+  abbrev all_of : {H : Type 0} → WithZones H → ℕ
+  all_of x = global_part x.global + others x.zones
+
+  member_recount : {H : Type 0} (at : ZonePlace) (x : WithZones H) (s : Settings) → settings_in at x ≡ Some s → all_of (settings_changed at f x) + part at s ≡ all_of x + part at (f s)
+  member_recount place.Global x s e =
+      let same : x.global ≡ s = cc in
+      subst (λ (s : Settings). global_part (f x.global) + others x.zones + global_part s ≡ global_part x.global + others x.zones + global_part (f s)) same (omega arith)
+  member_recount (place.Zone k) x s e =
+      let z = source settings_of_zone (slice_get x.zones k) s e in
+      let more = one x.zones k z.member z.there in
+      subst (λ (s : Settings). all_of (settings_changed (place.Zone k) f x) + zone_part s ≡ all_of x + zone_part (f s)) z.seen (omega (arith, more))
+
+  total_recount : {H : Type 0} (owners : List (WithZones H)) (i : ℕ) (at : ZonePlace) (s : Settings) → settings_at owners i at ≡ Some s
+      → sum_by (λ (x : WithZones H). global_part x.global + others x.zones) (place_changed owners i at f) + part at s ≡ sum_by (λ (x : WithZones H). global_part x.global + others x.zones) owners + part at (f s)
+  total_recount {H} owners i at s e =
+      let x = given (settings_in at) (slice_get owners i) s e in
+      let more = member_recount at x.member s x.gives in
+      let all = sum-changed_there (λ (x : WithZones H). global_part x.global + others x.zones) (settings_changed at f) owners i x.member x.there in
+      omega (arith, more, all)
+
+module _ (f : Settings → Settings) where
+  gens_one : (zones : List Zone) (k : ℕ) (z : Zone) → slice_get zones k ≡ Some z
+      → sum_by (λ (z : Zone). len z.gens + 1) (changed zones k (λ (z : Zone). zone_with_settings (f (settings_of_zone z)) z)) + len z.gens ≡ sum_by (λ (z : Zone). len z.gens + 1) zones + len (f (settings_of_zone z)).gens
+  gens_one zones k z e = let all = sum-changed_there (λ (z : Zone). len z.gens + 1) (λ (z : Zone). zone_with_settings (f (settings_of_zone z)) z) zones k z e in omega (arith, all)
+
+  zones_one : (zones : List Zone) (k : ℕ) (z : Zone) → slice_get zones k ≡ Some z
+      → length (changed zones k (λ (z : Zone). zone_with_settings (f (settings_of_zone z)) z)) + 0 ≡ length zones + 0
+  zones_one zones k z e = ap (λ n. n + 0) (length-changed zones k (λ (z : Zone). zone_with_settings (f (settings_of_zone z)) z))
+
+  mods_one : (zones : List Zone) (k : ℕ) (z : Zone) → slice_get zones k ≡ Some z
+      → sum_by (λ (z : Zone). length z.mods) (changed zones k (λ (z : Zone). zone_with_settings (f (settings_of_zone z)) z)) + length z.mods ≡ sum_by (λ (z : Zone). length z.mods) zones + length (f (settings_of_zone z)).mods
+  mods_one zones k z e = sum-changed_there (λ (z : Zone). length z.mods) (λ (z : Zone). zone_with_settings (f (settings_of_zone z)) z) zones k z e
+
+  module _ {H : Type 0} (owners : List (WithZones H)) (i : ℕ) (s : Settings) where
+    zones_recount : (at : ZonePlace) → settings_at owners i at ≡ Some s
+        → owner_total zone_count (place_changed owners i at f) + (records_of_place at s).zones ≡ owner_total zone_count owners + (records_of_place at (f s)).zones
+    zones_recount place.Global e = total_recount global_count (λ s. 0) length f zones_one owners i place.Global s e
+    zones_recount (place.Zone k) e = total_recount global_count (λ s. 0) length f zones_one owners i (place.Zone k) s e
+
+    gens_recount : (at : ZonePlace) → settings_at owners i at ≡ Some s
+        → owner_total gen_count (place_changed owners i at f) + (records_of_place at s).gens ≡ owner_total gen_count owners + (records_of_place at (f s)).gens
+    gens_recount place.Global e = total_recount (λ (s : Settings). len s.gens) (λ (s : Settings). len s.gens) (sum_by (λ (z : Zone). len z.gens + 1)) f gens_one owners i place.Global s e
+    gens_recount (place.Zone k) e = total_recount (λ (s : Settings). len s.gens) (λ (s : Settings). len s.gens) (sum_by (λ (z : Zone). len z.gens + 1)) f gens_one owners i (place.Zone k) s e
+
+    mods_recount : (at : ZonePlace) → settings_at owners i at ≡ Some s
+        → owner_total mod_count (place_changed owners i at f) + (records_of_place at s).mods ≡ owner_total mod_count owners + (records_of_place at (f s)).mods
+    mods_recount place.Global e = total_recount (λ (s : Settings). length s.mods) (λ (s : Settings). length s.mods) (sum_by (λ (z : Zone). length z.mods)) f mods_one owners i place.Global s e
+    mods_recount (place.Zone k) e = total_recount (λ (s : Settings). length s.mods) (λ (s : Settings). length s.mods) (sum_by (λ (z : Zone). length z.mods)) f mods_one owners i (place.Zone k) s e
+
+pub totals_place_changed : (b : Parts) (o : Owner) (at : Place) (f : Settings → Settings) (s : Settings) → settings_of b o at ≡ Some s
+    → with_records (level_of o) (totals_of (own_place_changed b o at f)) (records_of_place (zone_place at) s) ≡ with_records (level_of o) (totals_of b) (records_of_place (zone_place at) (f s))
+unfolding totals_of
+totals_place_changed b (Preset p) at f s e = λ k. record (totals_of b) {
+  presets = length-changed b.presets p (settings_changed (zone_place at) f) k;
+  preset_zones = zones_recount f b.presets p s (zone_place at) e k;
+  preset_gens = gens_recount f b.presets p s (zone_place at) e k;
+  preset_mods = mods_recount f b.presets p s (zone_place at) e k;
+}
+totals_place_changed b (Instrument i) at f s e = λ k. record (totals_of b) {
+  instruments = length-changed b.instruments i (settings_changed (zone_place at) f) k;
+  instrument_zones = zones_recount f b.instruments i s (zone_place at) e k;
+  instrument_gens = gens_recount f b.instruments i s (zone_place at) e k;
+  instrument_mods = mods_recount f b.instruments i s (zone_place at) e k;
+}
+
+-- ---- the records of a place that is there
+
+pub records_found : (b : Parts) (o : Owner) (at : Place) (s : Settings) → settings_of b o at ≡ Some s → records_there b o at ≡ records_of_place (zone_place at) s
+records_found b (Preset p) at s e = ap (λ found. option_map_or (records_of_place (zone_place at)) found no_records) e
+records_found b (Instrument i) at s e = ap (λ found. option_map_or (records_of_place (zone_place at)) found no_records) e
+
+pub settings_read : (b : Parts) (o : Owner) (at : Place) (f : Settings → Settings) → settings_of (own_place_changed b o at f) o at ≡ option_map f (settings_of b o at)
+settings_read b (Preset p) at f = place_read b.presets p (zone_place at) f
+settings_read b (Instrument i) at f = place_read b.instruments i (zone_place at) f
+
+module _ (b : Parts) (o : Owner) (at : Place) (f : Settings → Settings) (s : Settings) (there : settings_of b o at ≡ Some s) where
+  pub changed_there : settings_of (own_place_changed b o at f) o at ≡ Some (f s)
+  changed_there = settings_read b o at f ∙ ap (option_map f) there
+
+  -- so many records became so many others
+  pub recount : with_records (level_of o) (totals_of (own_place_changed b o at f)) (records_there b o at) ≡ with_records (level_of o) (totals_of b) (records_there (own_place_changed b o at f) o at)
+  recount =
+      ap (with_records (level_of o) (totals_of (own_place_changed b o at f))) (records_found b o at s there)
+      ∙ (totals_place_changed b o at f s there ∙ ap (with_records (level_of o) (totals_of b)) (sym (records_found (own_place_changed b o at f) o at (f s) changed_there)))
+
+abbrev nothing_set : Settings
+nothing_set = record { gens = no_gens; mods = [] }
+
+nothing_counts : (at : ZonePlace) → records_of_place at nothing_set ≡ no_records
+nothing_counts place.Global =
+    let none = len-empty operator_cmp ℕ in
+    λ k. record { zones = ap (λ (n : ℕ). let counted : ℕ = if n + 0 == 0 then 0 else 1 in counted) none k; gens = none k; mods = 0 }
+nothing_counts (place.Zone k) = let none = len-empty operator_cmp ℕ in λ k. record { zones = 0; gens = none k; mods = 0 }
+
+within : (a b n : ℕ) → a + n ≡ b + 0 → n ≤ b
+within a b n e = omega (arith, e)
+
+pub has_records : (b : Parts) (o : Owner) (at : Place) (s : Settings) → settings_of b o at ≡ Some s → HasRecords (level_of o) (totals_of b) (records_of_place (zone_place at) s)
+has_records b (Preset p) at s e =
+    let less = totals_place_changed b (Preset p) at (λ _. nothing_set) s e in
+    let none : records_of_place (zone_place at) nothing_set ≡ no_records = nothing_counts (zone_place at) in
+    let t : Totals = totals_of (own_place_changed b (Preset p) at (λ _. nothing_set)) in
+    let r : Records = records_of_place (zone_place at) s in
+    let same = less ∙ ap (with_records level.Preset (totals_of b)) none in
+    let u : Totals = totals_of b in (
+      within t.preset_zones u.preset_zones r.zones (ap (λ (t : Totals). t.preset_zones) same),
+      within t.preset_gens u.preset_gens r.gens (ap (λ (t : Totals). t.preset_gens) same),
+      within t.preset_mods u.preset_mods r.mods (ap (λ (t : Totals). t.preset_mods) same),
+    )
+has_records b (Instrument i) at s e =
+    let less = totals_place_changed b (Instrument i) at (λ _. nothing_set) s e in
+    let none : records_of_place (zone_place at) nothing_set ≡ no_records = nothing_counts (zone_place at) in
+    let t : Totals = totals_of (own_place_changed b (Instrument i) at (λ _. nothing_set)) in
+    let r : Records = records_of_place (zone_place at) s in
+    let same = less ∙ ap (with_records level.Instrument (totals_of b)) none in
+    let u : Totals = totals_of b in (
+      within t.instrument_zones u.instrument_zones r.zones (ap (λ (t : Totals). t.instrument_zones) same),
+      within t.instrument_gens u.instrument_gens r.gens (ap (λ (t : Totals). t.instrument_gens) same),
+      within t.instrument_mods u.instrument_mods r.mods (ap (λ (t : Totals). t.instrument_mods) same),
+    )
+
+-- ---- what the code keeps
+
+pub found_there : {X : Type 0} (o : Option X) → IsSome o → (x : X) × (o ≡ Some x)
+found_there None h = cc
+found_there (Some x) h = (x, refl)
+
+pub not_some : {X : Type 0} (o : Option X) → is_some o ≡ false → o ≡ None
+not_some None h = refl
+not_some (Some x) h = cc
+
+pub no_limit_in : (b : Parts) (t : Totals) → IsSound b → t ≡ totals_of b → broken t ≡ None
+no_limit_in b t sound e = ap broken e ∙ no_limit_of b sound.valid.limits
+
+module _ (b : Parts) (o : Owner) (at : Place) (there : IsSome (settings_of b o at)) (t : Totals) (counts : t ≡ totals_of b) (lvl : Level) (is_level : lvl ≡ level_of o) (before : Records) (had : before ≡ records_there b o at) where
+  pub counted_there : HasRecords lvl t before
+  counted_there =
+      let (s, e) = found_there (settings_of b o at) there in
+      subst (λ (r : Records). HasRecords lvl t r) (sym (had ∙ records_found b o at s e))
+      (subst (λ (l : Level). HasRecords l t (records_of_place (zone_place at) s)) (sym is_level) (subst (λ (u : Totals). HasRecords (level_of o) u (records_of_place (zone_place at) s)) (sym counts) (has_records b o at s e)))
+
+  module _ (f : Settings → Settings) (new : Parts) (is : new ≡ own_place_changed b o at f) (after : Records) (has : after ≡ records_there new o at) where
+    pub became : with_records lvl (totals_of new) before ≡ with_records lvl t after
+    became =
+        let (s, e) = found_there (settings_of b o at) there in
+        (λ k. with_records (is_level k) (totals_of (is k)) (had k))
+        ∙ (recount b o at f s e ∙ sym (λ k. with_records (is_level k) (counts k) ((has ∙ ap (λ (c : Parts). records_there c o at) is) k)))
+
+    pub kept_totals : IsSound new → (result : Totals) → ((now : Totals) → broken now ≡ None → with_records lvl now before ≡ with_records lvl t after → result ≡ now) → result ≡ totals_of new
+    kept_totals sound result value = value (totals_of new) (no_limit_of new sound.valid.limits) became
+
+-- ---- a change that leaves no more there
+
+fewer_count : (n m k l : ℕ) → k ≤ n → l ≤ m → (if k + l == 0 then 0 else 1) ≤ (if n + m == 0 then 0 else 1)
+fewer_count n m k l h j = grind (arith, nat_tests)
+
+no_more_there : (at : ZonePlace) (s u : Settings) → len u.gens ≤ len s.gens → length u.mods ≤ length s.mods → AreNoMore (records_of_place at u) (records_of_place at s)
+no_more_there place.Global s u gens mods = record { zones = fewer_count (len s.gens) (length s.mods) (len u.gens) (length u.mods) gens mods; gens = gens; mods = mods }
+no_more_there (place.Zone k) s u gens mods = record { zones = omega arith; gens = gens; mods = mods }
+
+pub within_no_more : (b : Parts) (o : Owner) (at : Place) (f : Settings → Settings) (s : Settings) → settings_of b o at ≡ Some s → IsSound b
+    → len (f s).gens ≤ len s.gens → length (f s).mods ≤ length s.mods → broken_limit (own_place_changed b o at f) ≡ None
+within_no_more b o at f s e sound gens mods =
+    no_more_within (level_of o) (totals_of b) (totals_of (own_place_changed b o at f)) (records_of_place (zone_place at) s) (records_of_place (zone_place at) (f s))
+    (totals_place_changed b o at f s e) (no_more_there (zone_place at) s (f s) gens mods) (no_limit_of b sound.valid.limits)

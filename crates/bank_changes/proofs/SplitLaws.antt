@@ -1,0 +1,278 @@
+-- A zone split in two, and two joined: each keeps a bank sound, and the totals follow.
+use Rattle.std.proofs.Common.{◌≡◌, ◌+◌, ◌≤◌, ◌<◌, ◌-◌, ℕ, true, List, length, insert, remove, slice_get, Option, Some, None, IsSome, refl, sym, ap, ◌∙◌, arith, add-one}
+use Rattle.std.specs.Prelude.{sum_by, slice_set, IsSomeAnd}
+use Rattle.std.specs.List.{AllByRecursion}
+use Rattle.std.specs.Option.{option_map_or}
+use Rattle.std.specs.FinMap.{len}
+use Rattle.std.proofs.lemmas.List.Sums.{sum_by-insert}
+use Rattle.numbered_lists.proofs.Lists.{slice_get-within}
+use Rattle.generators.specs.declared.level.Level.{Level}
+use Rattle.generators.specs.declared.level.Level.TheVariants as level
+use Rattle.generators.proofs.MapLaws.{len-insert_absent, len-insert_present, len-remove_present}
+use Rattle.bank_parts.specs.declared.counting.Records.{Records}
+use Rattle.bank_parts.specs.declared.parts.Head.{Head}
+use Rattle.bank_parts.specs.declared.parts.GlobalZone.{GlobalZone}
+use Rattle.bank_parts.specs.declared.parts.Zone.{Zone}
+use Rattle.bank_parts.specs.declared.parts.WithZones.{WithZones}
+use Rattle.bank_parts.specs.declared.parts.Parts.{Parts}
+use Rattle.bank_parts.specs.Counts.{records_sum}
+use Rattle.bank_parts.specs.Valid.{IsZone, IsPreset, IsInstrument, AreGenerators}
+use Rattle.bank_parts.specs.Fits.{FitsZone}
+use Rattle.bank_parts.specs.Sound.{IsSound}
+use Rattle.bank_validity.specs.Limits.{totals_of, broken, broken_limit}
+use Rattle.bank_validity.proofs.LimitLaws.{no_limit_of}
+use Rattle.zone_ranges.specs.declared.axes.Axis.{Axis}
+use Rattle.zone_ranges.specs.declared.axes.Keep.{Keep}
+use Rattle.zone_ranges.specs.declared.axes.Keep.TheVariants as keeping
+use Rattle.zone_ranges.specs.Ranges.{range_operator, low_end, high_end, range_from, range_of, own_range, with_range, without_range}
+use Rattle.zone_ranges.specs.Splits.{is_inside, lower_part, upper_part, parted, merged, joint_range, joined, are_joinable, split_records, join_records}
+use Rattle.zone_ranges.specs.Undone.{own_amount}
+use Rattle.zone_ranges.proofs.Parting.{parted_at, all_parted, all_merged, all_at, left_first}
+use Rattle.zone_ranges.proofs.SplitLaws.{split_at, joined_at}
+use Rattle.zone_ranges.proofs.There.{ZoneThere, SplitThere, JoinThere, split_there, join_there, zone_is, zone_within, place_there, zones_there, split_is_put, join_is_put}
+use Rattle.zone_ranges.proofs.PartLaws.{valid_with, fits_with, range_holds, own_holds, lower_is_range, upper_is_range, joined_range, valid_joined, fits_joined}
+use Rattle.bank_changes.specs.declared.members.Owner.{Owner}
+use Rattle.bank_changes.specs.declared.members.Owner.TheVariants as owner
+use Rattle.bank_changes.specs.Members.{own_zone_count, zones_of, zone_of, level_of, target_count}
+use Rattle.bank_changes.specs.Totals.{with_records}
+use Rattle.bank_changes.specs.Zones.{zone_split, zone_joined, can_split, can_join}
+use Rattle.bank_changes.proofs.Changes.{all_found, sum-removed}
+use Rattle.bank_changes.proofs.RecordLaws.{without_records_within}
+use Rattle.bank_changes.proofs.ZoneLaws.{zones_put, sum_set, sound_zones_put, zones_valid, zones_fit, records_of_zones, totals_zones_more, totals_zones_less}
+
+-- ---- what is there
+
+pub record Split (b : Parts) (o : Owner) (k : ℕ) (axis : Axis) (m : ℕ) : Type 0 where
+  pub global : GlobalZone
+  pub valid : IsSound b → AreGenerators (level_of o) global.gens
+  pub zones : List Zone
+  pub there : zones_of b o ≡ Some zones
+  pub zone : Zone
+  pub at : slice_get zones k ≡ Some zone
+  pub zone_is : zone_of b o k ≡ Some zone
+  pub counted : IsSomeAnd (own_zone_count b o) (λ count. k < count)
+  pub inside : is_inside axis m global zone ≡ true
+  pub put : zone_split b o k axis m ≡ zones_put b o (parted zones k (lower_part axis m global zone) (upper_part axis m global zone))
+
+pub split : (b : Parts) (o : Owner) (k : ℕ) (axis : Axis) (m : ℕ) → can_split b o k axis m ≡ true → Split b o k axis m
+split b (owner.Preset p) k axis m h =
+    let s = split_there axis m b.presets p k h in
+    let t = s.at in
+    record {
+      global = t.member.global;
+      valid = λ sound. (all_found (IsPreset (length b.instruments)) b.presets p t.member t.there sound.valid.presets).zones.global;
+      zones = t.member.zones;
+      there = zones_there b.presets p k t;
+      zone = t.zone;
+      at = t.zone_there;
+      zone_is = zone_is t;
+      counted = place_there t k (zone_within t);
+      inside = s.inside;
+      put = ap (λ (presets : List (WithZones Head)). let r : Parts = record b { presets = presets } in r) (split_is_put b.presets p k t axis m);
+    }
+split b (owner.Instrument i) k axis m h =
+    let s = split_there axis m b.instruments i k h in
+    let t = s.at in
+    record {
+      global = t.member.global;
+      valid = λ sound. (all_found (IsInstrument (length b.samples)) b.instruments i t.member t.there sound.valid.instruments).zones.global;
+      zones = t.member.zones;
+      there = zones_there b.instruments i k t;
+      zone = t.zone;
+      at = t.zone_there;
+      zone_is = zone_is t;
+      counted = place_there t k (zone_within t);
+      inside = s.inside;
+      put = ap (λ (instruments : List (WithZones (List ℕ))). let r : Parts = record b { instruments = instruments } in r) (split_is_put b.instruments i k t axis m);
+    }
+
+pub record Join (b : Parts) (o : Owner) (k : ℕ) (axis : Axis) (keep : Keep) : Type 0 where
+  pub global : GlobalZone
+  pub zones : List Zone
+  pub there : zones_of b o ≡ Some zones
+  pub first : Zone
+  pub at : slice_get zones k ≡ Some first
+  pub second : Zone
+  pub next : slice_get zones (k + 1) ≡ Some second
+  pub second_is : zone_of b o (k + 1) ≡ Some second
+  pub counted : IsSomeAnd (own_zone_count b o) (λ count. k + 1 < count)
+  pub joinable : are_joinable axis keep global first second ≡ true
+  pub put : zone_joined b o k axis keep ≡ zones_put b o (merged zones k (joined axis keep first second))
+
+pub join : (b : Parts) (o : Owner) (k : ℕ) (axis : Axis) (keep : Keep) → can_join b o k axis keep ≡ true → Join b o k axis keep
+join b (owner.Preset p) k axis keep h =
+    let s = join_there axis keep b.presets p k h in
+    let t = s.at in
+    record {
+      global = t.member.global;
+      zones = t.member.zones;
+      there = zones_there b.presets p k t;
+      first = t.zone;
+      at = t.zone_there;
+      second = s.second;
+      next = s.next;
+      second_is = rw t.there s.next;
+      counted = place_there t (k + 1) (slice_get-within t.member.zones (k + 1) s.second s.next);
+      joinable = s.joinable;
+      put = ap (λ (presets : List (WithZones Head)). let r : Parts = record b { presets = presets } in r) (join_is_put b.presets p k t axis keep s.second s.next);
+    }
+join b (owner.Instrument i) k axis keep h =
+    let s = join_there axis keep b.instruments i k h in
+    let t = s.at in
+    record {
+      global = t.member.global;
+      zones = t.member.zones;
+      there = zones_there b.instruments i k t;
+      first = t.zone;
+      at = t.zone_there;
+      second = s.second;
+      next = s.next;
+      second_is = rw t.there s.next;
+      counted = place_there t (k + 1) (slice_get-within t.member.zones (k + 1) s.second s.next);
+      joinable = s.joinable;
+      put = ap (λ (instruments : List (WithZones (List ℕ))). let r : Parts = record b { instruments = instruments } in r) (join_is_put b.instruments i k t axis keep s.second s.next);
+    }
+
+-- ---- records
+
+module _ (measure : Zone → ℕ) (zones : List Zone) (k : ℕ) (z : Zone) (at : slice_get zones k ≡ Some z) where
+  sum_parted : (lower upper : Zone) → sum_by measure (parted zones k lower upper) + measure z ≡ sum_by measure zones + measure lower + measure upper
+  sum_parted lower upper =
+      let is = ap (sum_by measure) (parted_at zones k lower upper (slice_get-within zones k z at)) in
+      let sum = sum_by-insert measure (slice_set zones k lower) (k + 1) upper in
+      let set = sum_set measure zones k z lower at in
+      omega (arith, is, sum, set)
+
+  sum_merged : (second one : Zone) → slice_get zones (k + 1) ≡ Some second → sum_by measure (merged zones k one) + measure z + measure second ≡ sum_by measure zones + measure one
+  sum_merged second one next =
+      let left : slice_get (remove zones (k + 1)) k ≡ Some z = rw add-one (left_first zones k z second at next) in
+      let set = sum_set measure (remove zones (k + 1)) k z one left in
+      let less = sum-removed measure zones (k + 1) second next in
+      omega (arith, set, less)
+
+-- both parts' generators, where the zone has a range and where it has none
+gens_parted : (axis : Axis) (z : Zone) (v w : ℕ) → (len (with_range axis v z).gens + 1) + (len (with_range axis w z).gens + 1) ≡ (len z.gens + 1) + (len z.gens + option_map_or (λ _. 1) (own_range axis z) 3)
+gens_parted axis z v w =
+    (elim (own_range axis z) as (λ o. own_range axis z ≡ o → (len (with_range axis v z).gens + 1) + (len (with_range axis w z).gens + 1) ≡ (len z.gens + 1) + (len z.gens + option_map_or (λ _. 1) o 3)) [
+      | None ↦ λ e.
+          let one = len-insert_absent z.gens (range_operator axis) v e in
+          let two = len-insert_absent z.gens (range_operator axis) w e in
+          omega (arith, one, two)
+      | Some u ↦ λ e.
+          let own : IsSome (own_range axis z) = rw e refl in
+          let one = len-insert_present z.gens (range_operator axis) v own in
+          let two = len-insert_present z.gens (range_operator axis) w own in
+          omega (arith, one, two)
+    ]) refl
+
+pub records-parted : (axis : Axis) (m : ℕ) (global : GlobalZone) (zones : List Zone) (k : ℕ) (z : Zone) → slice_get zones k ≡ Some z
+    → records_of_zones (parted zones k (lower_part axis m global z) (upper_part axis m global z)) ≡ records_sum (records_of_zones zones) (split_records axis z)
+records-parted axis m global zones k z at =
+    let lower = lower_part axis m global z in
+    let upper = upper_part axis m global z in
+    let one = sum_parted (λ (z : Zone). 1) zones k z at lower upper in
+    let gens = sum_parted (λ (z : Zone). len z.gens + 1) zones k z at lower upper in
+    let both = gens_parted axis z (range_from (low_end (range_of axis global z)) (m - 1)) (range_from m (high_end (range_of axis global z))) in
+    let mods = sum_parted (λ (z : Zone). length z.mods) zones k z at lower upper in
+    let zones_are : (records_of_zones (parted zones k lower upper)).zones ≡ (records_of_zones zones).zones + 1 = omega (arith, one) in
+    let gens_are : (records_of_zones (parted zones k lower upper)).gens ≡ (records_of_zones zones).gens + (len z.gens + option_map_or (λ _. 1) (own_range axis z) 3) = omega (arith, gens, both) in
+    let mods_are : (records_of_zones (parted zones k lower upper)).mods ≡ (records_of_zones zones).mods + length z.mods = omega (arith, mods) in
+    λ i. record { zones = zones_are i; gens = gens_are i; mods = mods_are i }
+
+module _ (axis : Axis) (global : GlobalZone) (zones : List Zone) (k : ℕ) (y z : Zone) (at : slice_get zones k ≡ Some y) (next : slice_get zones (k + 1) ≡ Some z) where
+  gens_joined : (keep : Keep) → are_joinable axis keep global y z ≡ true → len (joined axis keep y z).gens + (join_records keep z).gens ≡ len y.gens + (len z.gens + 1)
+  gens_joined keeping.Keep h =
+      let j = joined_at axis keeping.Keep global y z h in
+      let own : IsSome (own_range axis y) = rw j.own_first refl in
+      let same = len-insert_present y.gens (range_operator axis) (joint_range (own_amount axis y) (own_amount axis z)) own in
+      omega (arith, same)
+  gens_joined keeping.Bare h =
+      let j = joined_at axis keeping.Bare global y z h in
+      let own : IsSome (own_range axis y) = rw j.own_first refl in
+      let less = len-remove_present y.gens (range_operator axis) own in
+      omega (arith, less)
+
+  mods_joined : (keep : Keep) → (joined axis keep y z).mods ≡ y.mods
+  mods_joined keeping.Keep = refl
+  mods_joined keeping.Bare = refl
+
+  mods_of_join : (keep : Keep) → (join_records keep z).mods ≡ length z.mods
+  mods_of_join keeping.Keep = refl
+  mods_of_join keeping.Bare = refl
+
+  zones_of_join : (keep : Keep) → (join_records keep z).zones ≡ 1
+  zones_of_join keeping.Keep = refl
+  zones_of_join keeping.Bare = refl
+
+  pub records-merged : (keep : Keep) → are_joinable axis keep global y z ≡ true
+      → records_of_zones zones ≡ records_sum (records_of_zones (merged zones k (joined axis keep y z))) (join_records keep z)
+  records-merged keep h =
+      let one = joined axis keep y z in
+      let sum = sum_merged (λ (z : Zone). 1) zones k y at z one next in
+      let gens = sum_merged (λ (z : Zone). len z.gens + 1) zones k y at z one next in
+      let mods = sum_merged (λ (z : Zone). length z.mods) zones k y at z one next in
+      let kept = gens_joined keep h in
+      let same = ap length (mods_joined keep) in
+      let count = zones_of_join keep in
+      let few = mods_of_join keep in
+      let zones_are : (records_of_zones zones).zones ≡ (records_of_zones (merged zones k one)).zones + (join_records keep z).zones = omega (arith, sum, count) in
+      let gens_are : (records_of_zones zones).gens ≡ (records_of_zones (merged zones k one)).gens + (join_records keep z).gens = omega (arith, gens, kept) in
+      let mods_are : (records_of_zones zones).mods ≡ (records_of_zones (merged zones k one)).mods + (join_records keep z).mods = omega (arith, mods, same, few) in
+      λ i. record { zones = zones_are i; gens = gens_are i; mods = mods_are i }
+
+-- ---- a split
+
+module _ (b : Parts) (o : Owner) (k : ℕ) (axis : Axis) (m : ℕ) (can : can_split b o k axis m ≡ true) where
+  pub totals-zone_split : totals_of (zone_split b o k axis m) ≡ with_records (level_of o) (totals_of b) (split_records axis (split b o k axis m can).zone)
+  totals-zone_split =
+      let s = split b o k axis m can in
+      ap totals_of s.put
+      ∙ totals_zones_more b o s.zones (parted s.zones k (lower_part axis m s.global s.zone) (upper_part axis m s.global s.zone)) s.there (split_records axis s.zone)
+      (records-parted axis m s.global s.zones k s.zone s.at)
+
+  pub sound_zone_split : IsSound b → broken_limit (zone_split b o k axis m) ≡ None → IsSound (zone_split b o k axis m)
+  sound_zone_split sound e =
+      let s = split b o k axis m can in
+      let valid = zones_valid b o s.zones sound s.there in
+      let fit = zones_fit b o s.zones sound s.there in
+      let v = all_at (IsZone (level_of o) (target_count b o)) s.zones k s.zone s.at valid in
+      let f = all_at FitsZone s.zones k s.zone s.at fit in
+      let r = range_holds (level_of o) axis s.global s.zone (s.valid sound) v.gens in
+      let inside = split_at axis m s.global s.zone s.inside in
+      let low = lower_is_range axis m s.global s.zone inside r in
+      let high = upper_is_range axis m s.global s.zone inside r in
+      let lower = lower_part axis m s.global s.zone in
+      let upper = upper_part axis m s.global s.zone in
+      rw s.put
+      (sound_zones_put b o (parted s.zones k lower upper) sound
+      (all_parted (IsZone (level_of o) (target_count b o)) s.zones k lower upper (valid_with (level_of o) (target_count b o) axis s.zone v (range_from (low_end (range_of axis s.global s.zone)) (m - 1)) low)
+      (valid_with (level_of o) (target_count b o) axis s.zone v (range_from m (high_end (range_of axis s.global s.zone))) high) valid)
+      (all_parted FitsZone s.zones k lower upper (fits_with axis s.zone f (range_from (low_end (range_of axis s.global s.zone)) (m - 1)) low)
+      (fits_with axis s.zone f (range_from m (high_end (range_of axis s.global s.zone))) high) fit)
+      (rw s.put at e))
+
+-- ---- a join
+
+module _ (b : Parts) (o : Owner) (k : ℕ) (axis : Axis) (keep : Keep) (can : can_join b o k axis keep ≡ true) where
+  pub totals-zone_joined : with_records (level_of o) (totals_of (zone_joined b o k axis keep)) (join_records keep (join b o k axis keep can).second) ≡ totals_of b
+  totals-zone_joined =
+      let s = join b o k axis keep can in
+      ap (λ (now : Parts). with_records (level_of o) (totals_of now) (join_records keep s.second)) s.put
+      ∙ totals_zones_less b o s.zones (merged s.zones k (joined axis keep s.first s.second)) s.there (join_records keep s.second)
+      (records-merged axis s.global s.zones k s.first s.second s.at s.next keep s.joinable)
+
+  pub sound_zone_joined : IsSound b → IsSound (zone_joined b o k axis keep)
+  sound_zone_joined sound =
+      let s = join b o k axis keep can in
+      let valid = zones_valid b o s.zones sound s.there in
+      let fit = zones_fit b o s.zones sound s.there in
+      let v = all_at (IsZone (level_of o) (target_count b o)) s.zones k s.first s.at valid in
+      let w = all_at (IsZone (level_of o) (target_count b o)) s.zones (k + 1) s.second s.next valid in
+      let f = all_at FitsZone s.zones k s.first s.at fit in
+      let one = joined axis keep s.first s.second in
+      let r = joined_range axis s.global s.first s.second keep s.joinable (own_holds (level_of o) axis s.first v.gens) (own_holds (level_of o) axis s.second w.gens) in
+      let within = without_records_within (level_of o) (totals_of (zone_joined b o k axis keep)) (join_records keep s.second) (ap broken totals-zone_joined ∙ no_limit_of b sound.valid.limits) in
+      rw s.put
+      (sound_zones_put b o (merged s.zones k one) sound
+      (all_merged (IsZone (level_of o) (target_count b o)) s.zones k one (valid_joined axis s.global s.first s.second (level_of o) (target_count b o) keep v r) valid)
+      (all_merged FitsZone s.zones k one (fits_joined axis s.global s.first s.second keep f r) fit) (rw s.put at within))

@@ -1,0 +1,228 @@
+-- The zones of an owner put in the place of those that it had: the bank stays sound, and the totals follow.
+use Rattle.std.proofs.Common.{◌≡◌, ◌+◌, ℕ, zero, suc, List, [], ◌∷◌, length, slice_get, Some, None, refl, sym, ap, subst, ◌∙◌, arith}
+use Rattle.std.specs.Prelude.{sum_by, slice_set}
+use Rattle.std.specs.List.{AllByRecursion}
+use Rattle.std.specs.FinMap.{len}
+use Rattle.std.proofs.lemmas.List.Sums.{sum_by-cons}
+use Rattle.numbered_lists.proofs.Lists.{changed-found, length-changed}
+use Rattle.sf_base.specs.Names.{IsName}
+use Rattle.generators.specs.declared.level.Level.{Level}
+use Rattle.generators.specs.declared.level.Level.TheVariants as level
+use Rattle.bank_parts.specs.declared.counting.Records.{Records}
+use Rattle.bank_validity.specs.declared.totals.Totals.{Totals}
+use Rattle.bank_parts.specs.declared.parts.GlobalZone.{GlobalZone}
+use Rattle.bank_parts.specs.declared.parts.Head.{Head}
+use Rattle.bank_parts.specs.declared.parts.Zone.{Zone}
+use Rattle.bank_parts.specs.declared.parts.WithZones.{WithZones}
+use Rattle.bank_parts.specs.declared.parts.Parts.{Parts}
+use Rattle.bank_parts.specs.Counts.{records_of_zone, records_total, records_sum}
+use Rattle.bank_parts.specs.Settings.{zones_at, with_zones, zones_changed}
+use Rattle.bank_parts.specs.Valid.{IsZone, IsOwner, IsPreset, IsInstrument, owner_total, global_count, zone_count, gen_count, mod_count}
+use Rattle.bank_parts.specs.Fits.{FitsZone, FitsHead, FitsOwner}
+use Rattle.bank_parts.specs.Sound.{IsSound}
+use Rattle.bank_validity.specs.Limits.{totals_of, broken_limit}
+use Rattle.bank_validity.proofs.LimitLaws.{limits_of}
+use Rattle.bank_parts.proofs.SettingLaws.{source}
+use Rattle.bank_changes.specs.declared.members.Owner.{Owner}
+use Rattle.bank_changes.specs.declared.members.Owner.TheVariants as owner
+use Rattle.bank_changes.specs.Members.{zones_of, level_of, target_count}
+use Rattle.bank_changes.specs.Totals.{with_records}
+use Rattle.bank_changes.specs.Zones.{own_zones_changed}
+use Rattle.bank_changes.proofs.Everywhere.{all_weaker}
+use Rattle.bank_changes.proofs.Changes.{all_found, all_changed}
+use Rattle.bank_changes.proofs.RecordLaws.{with_records_same}
+
+-- ---- a list of members of which one has other zones
+
+module _ {H : Type 0} (owners : List (WithZones H)) (i : ℕ) (zones : List Zone) (e : zones_at owners i ≡ Some zones) where
+  -- two changes that agree on what is there
+  changed_alike : (f g : List Zone → List Zone) → f zones ≡ g zones → zones_changed owners i f ≡ zones_changed owners i g
+  changed_alike f g same =
+      let h = source (λ (x : WithZones H). x.zones) (slice_get owners i) zones e in
+      let x : WithZones H = h.member in
+      changed-found owners i (λ (x : WithZones H). with_zones (f x.zones) x) x h.there
+      ∙ (ap (λ (zs : List Zone). slice_set owners i (with_zones zs x)) (ap f h.seen ∙ (same ∙ sym (ap g h.seen)))
+      ∙ sym (changed-found owners i (λ (x : WithZones H). with_zones (g x.zones) x) x h.there))
+
+  -- what holds of the zones of each member
+  found_zones : (P : List Zone → Type 0) → AllByRecursion (λ (x : WithZones H). P x.zones) owners → P zones
+  found_zones P all =
+      let h = source (λ (x : WithZones H). x.zones) (slice_get owners i) zones e in
+      subst P h.seen (all_found (λ (x : WithZones H). P x.zones) owners i h.member h.there all)
+
+pub sum_set : {X : Type 0} (measure : X → ℕ) (xs : List X) (i : ℕ) (x y : X) → slice_get xs i ≡ Some x → sum_by measure (slice_set xs i y) + measure x ≡ sum_by measure xs + measure y
+sum_set measure [] i x y e = absurd cc
+sum_set measure (z ∷ zs) zero x y e =
+    let old = sum_by-cons measure z zs in
+    let new = sum_by-cons measure y zs in
+    let same : measure z ≡ measure x = ap measure cc in
+    omega (arith, old, new, same)
+sum_set measure (z ∷ zs) (suc i) x y e =
+    let rest = sum_set measure zs i x y e in
+    let old = sum_by-cons measure z zs in
+    let new = sum_by-cons measure z (slice_set zs i y) in
+    omega (arith, rest, old, new)
+
+-- a count of the global zone and of the others: it changes by that of the others
+total_put : {H : Type 0} (shared : GlobalZone → ℕ) (own : List Zone → ℕ) (owners : List (WithZones H)) (i : ℕ) (zones put : List Zone) → zones_at owners i ≡ Some zones
+    → owner_total (λ g zs. shared g + own zs) (zones_changed owners i (λ _. put)) + own zones ≡ owner_total (λ g zs. shared g + own zs) owners + own put
+total_put {H} shared own owners i zones put e =
+    let h = source (λ (x : WithZones H). x.zones) (slice_get owners i) zones e in
+    let x : WithZones H = h.member in
+    let y : WithZones H = with_zones put x in
+    let count : WithZones H → ℕ = λ (x : WithZones H). shared x.global + own x.zones in
+    let is : sum_by count (zones_changed owners i (λ _. put)) ≡ sum_by count (slice_set owners i y) = ap (sum_by count) (changed-found owners i (with_zones put) x h.there) in
+    let sum : sum_by count (slice_set owners i y) + (shared x.global + own x.zones) ≡ sum_by count owners + (shared x.global + own put) = sum_set count owners i x y h.there in
+    let same : own x.zones ≡ own zones = ap own h.seen in
+    omega (arith, is, sum, same)
+
+-- ---- the zones of an owner
+
+-- the bank with these zones there
+abbrev pub zones_put : Parts → Owner → List Zone → Parts
+zones_put b o zones = own_zones_changed b o (λ _. zones)
+
+pub zones_put_is : (b : Parts) (o : Owner) (f : List Zone → List Zone) (zones : List Zone) → zones_of b o ≡ Some zones → own_zones_changed b o f ≡ zones_put b o (f zones)
+zones_put_is b (owner.Preset p) f zones e =
+    ap (λ (presets : List (WithZones Head)). let r : Parts = record b { presets = presets } in r) (changed_alike b.presets p zones e f (λ _. f zones) refl)
+zones_put_is b (owner.Instrument i) f zones e =
+    ap (λ (instruments : List (WithZones (List ℕ))). let r : Parts = record b { instruments = instruments } in r) (changed_alike b.instruments i zones e f (λ _. f zones) refl)
+
+-- ---- soundness
+
+pub valid_with_zones : {H : Type 0} (name_of : H → List ℕ) (at : Level) (targets : ℕ) (owners : List (WithZones H)) (i : ℕ) (zones : List Zone) → AllByRecursion (IsZone at targets) zones
+    → AllByRecursion (IsOwner name_of at targets) owners → AllByRecursion (IsOwner name_of at targets) (zones_changed owners i (λ _. zones))
+valid_with_zones {H} name_of at targets owners i zones are all =
+    all_changed (with_zones zones) (IsOwner name_of at targets) (λ (x : WithZones H) v. record { name = v.name; zones = record { global = v.zones.global; zones = are } }) owners i all
+
+pub fit_with_zones : {H : Type 0} (IsFit : H → Type 0) (owners : List (WithZones H)) (i : ℕ) (zones : List Zone) → AllByRecursion FitsZone zones
+    → AllByRecursion (FitsOwner IsFit) owners → AllByRecursion (FitsOwner IsFit) (zones_changed owners i (λ _. zones))
+fit_with_zones {H} IsFit owners i zones fit all =
+    all_changed (with_zones zones) (FitsOwner IsFit) (λ (x : WithZones H) v. record { head = v.head; global = v.global; zones = fit }) owners i all
+
+pub sound_zones_put : (b : Parts) (o : Owner) (zones : List Zone) → IsSound b → AllByRecursion (IsZone (level_of o) (target_count b o)) zones → AllByRecursion FitsZone zones
+    → broken_limit (zones_put b o zones) ≡ None → IsSound (zones_put b o zones)
+sound_zones_put b (owner.Preset p) zones sound are fit e =
+    let v = sound.valid in
+    let f = sound.fits in
+    record {
+      valid = record {
+        texts = v.texts;
+        presets = valid_with_zones (λ (h : Head). h.name) level.Preset (length b.instruments) b.presets p zones are v.presets;
+        instruments = v.instruments;
+        samples = v.samples;
+        limits = limits_of (zones_put b (owner.Preset p) zones) e;
+      };
+      fits = record { minor = f.minor; texts = f.texts; presets = fit_with_zones FitsHead b.presets p zones fit f.presets; instruments = f.instruments; samples = f.samples };
+    }
+sound_zones_put b (owner.Instrument i) zones sound are fit e =
+    let v = sound.valid in
+    let f = sound.fits in
+    let count = length-changed b.instruments i (with_zones zones) in
+    record {
+      valid = record {
+        texts = v.texts;
+        presets = subst (λ n. AllByRecursion (IsPreset n) b.presets) (sym count) v.presets;
+        instruments = valid_with_zones (λ (name : List ℕ). name) level.Instrument (length b.samples) b.instruments i zones are v.instruments;
+        samples = v.samples;
+        limits = limits_of (zones_put b (owner.Instrument i) zones) e;
+      };
+      fits = record { minor = f.minor; texts = f.texts; presets = f.presets; instruments = fit_with_zones IsName b.instruments i zones fit f.instruments; samples = f.samples };
+    }
+
+-- the zones of a sound bank
+pub zones_valid : (b : Parts) (o : Owner) (zones : List Zone) → IsSound b → zones_of b o ≡ Some zones → AllByRecursion (IsZone (level_of o) (target_count b o)) zones
+zones_valid b (owner.Preset p) zones sound e =
+    found_zones b.presets p zones e (AllByRecursion (IsZone level.Preset (length b.instruments)))
+    (all_weaker (IsPreset (length b.instruments)) (λ (x : WithZones Head). AllByRecursion (IsZone level.Preset (length b.instruments)) x.zones) (λ x v. v.zones.zones) b.presets sound.valid.presets)
+zones_valid b (owner.Instrument i) zones sound e =
+    found_zones b.instruments i zones e (AllByRecursion (IsZone level.Instrument (length b.samples)))
+    (all_weaker (IsInstrument (length b.samples)) (λ (x : WithZones (List ℕ)). AllByRecursion (IsZone level.Instrument (length b.samples)) x.zones) (λ x v. v.zones.zones) b.instruments sound.valid.instruments)
+
+pub zones_fit : (b : Parts) (o : Owner) (zones : List Zone) → IsSound b → zones_of b o ≡ Some zones → AllByRecursion FitsZone zones
+zones_fit b (owner.Preset p) zones sound e =
+    found_zones b.presets p zones e (AllByRecursion FitsZone) (all_weaker (FitsOwner FitsHead) (λ (x : WithZones Head). AllByRecursion FitsZone x.zones) (λ x v. v.zones) b.presets sound.fits.presets)
+zones_fit b (owner.Instrument i) zones sound e =
+    found_zones b.instruments i zones e (AllByRecursion FitsZone) (all_weaker (FitsOwner IsName) (λ (x : WithZones (List ℕ)). AllByRecursion FitsZone x.zones) (λ x v. v.zones) b.instruments sound.fits.instruments)
+
+pub zones_of_sound : (b : Parts) (o : Owner) (zones : List Zone) → IsSound b → zones_of b o ≡ Some zones
+    → AllByRecursion (IsZone (level_of o) (target_count b o)) zones × AllByRecursion FitsZone zones
+zones_of_sound b o zones sound e = (zones_valid b o zones sound e, zones_fit b o zones sound e)
+
+-- ---- totals
+
+-- the records of zones alone
+abbrev pub records_of_zones : List Zone → Records
+records_of_zones = records_total records_of_zone
+
+ones : {X : Type 0} (xs : List X) → sum_by (λ _. 1) xs ≡ length xs
+ones [] = refl
+ones {X} (x ∷ xs) =
+    let rest = ones xs in
+    let sum = sum_by-cons (λ (_ : X). 1) x xs in
+    omega (arith, rest, sum)
+
+module _ {H : Type 0} (owners : List (WithZones H)) (i : ℕ) (zones put : List Zone) (e : zones_at owners i ≡ Some zones) where
+  zones_follow : owner_total zone_count (zones_changed owners i (λ _. put)) + (records_of_zones zones).zones ≡ owner_total zone_count owners + (records_of_zones put).zones
+  zones_follow =
+      let sum = total_put global_count (λ (zs : List Zone). length zs) owners i zones put e in
+      let was = ones zones in
+      let now = ones put in
+      omega (arith, sum, was, now)
+
+  gens_follow : owner_total gen_count (zones_changed owners i (λ _. put)) + (records_of_zones zones).gens ≡ owner_total gen_count owners + (records_of_zones put).gens
+  gens_follow = total_put (λ (g : GlobalZone). len g.gens) (sum_by (λ (z : Zone). len z.gens + 1)) owners i zones put e
+
+  mods_follow : owner_total mod_count (zones_changed owners i (λ _. put)) + (records_of_zones zones).mods ≡ owner_total mod_count owners + (records_of_zones put).mods
+  mods_follow = total_put (λ (g : GlobalZone). length g.mods) (sum_by (λ (z : Zone). length z.mods)) owners i zones put e
+
+pub totals_zones_put : (b : Parts) (o : Owner) (zones put : List Zone) → zones_of b o ≡ Some zones
+    → with_records (level_of o) (totals_of (zones_put b o put)) (records_of_zones zones) ≡ with_records (level_of o) (totals_of b) (records_of_zones put)
+unfolding totals_of
+totals_zones_put b (owner.Preset p) zones put e = λ k. record (totals_of b) {
+  presets = length-changed b.presets p (with_zones put) k;
+  preset_zones = zones_follow b.presets p zones put e k;
+  preset_gens = gens_follow b.presets p zones put e k;
+  preset_mods = mods_follow b.presets p zones put e k;
+}
+totals_zones_put b (owner.Instrument i) zones put e = λ k. record (totals_of b) {
+  instruments = length-changed b.instruments i (with_zones put) k;
+  instrument_zones = zones_follow b.instruments i zones put e k;
+  instrument_gens = gens_follow b.instruments i zones put e k;
+  instrument_mods = mods_follow b.instruments i zones put e k;
+}
+
+with_records_sum : (at : Level) (t : Totals) (r s : Records) → with_records at t (records_sum r s) ≡ with_records at (with_records at t s) r
+with_records_sum level.Preset t r s = λ k. record t {
+  preset_zones = plus_twice t.preset_zones r.zones s.zones k;
+  preset_gens = plus_twice t.preset_gens r.gens s.gens k;
+  preset_mods = plus_twice t.preset_mods r.mods s.mods k;
+}
+  where
+    plus_twice : (a r s : ℕ) → a + (r + s) ≡ a + s + r
+    plus_twice a r s = omega arith
+with_records_sum level.Instrument t r s = λ k. record t {
+  instrument_zones = plus_twice t.instrument_zones r.zones s.zones k;
+  instrument_gens = plus_twice t.instrument_gens r.gens s.gens k;
+  instrument_mods = plus_twice t.instrument_mods r.mods s.mods k;
+}
+  where
+    plus_twice : (a r s : ℕ) → a + (r + s) ≡ a + s + r
+    plus_twice a r s = omega arith
+
+module _ (b : Parts) (o : Owner) (zones put : List Zone) (e : zones_of b o ≡ Some zones) where
+  pub totals_zones_more : (r : Records) → records_of_zones put ≡ records_sum (records_of_zones zones) r → totals_of (zones_put b o put) ≡ with_records (level_of o) (totals_of b) r
+  totals_zones_more r more =
+      with_records_same (level_of o) (totals_of (zones_put b o put)) (with_records (level_of o) (totals_of b) r) (records_of_zones zones)
+      (totals_zones_put b o zones put e ∙ (ap (with_records (level_of o) (totals_of b)) more ∙ with_records_sum (level_of o) (totals_of b) (records_of_zones zones) r))
+
+  pub totals_zones_less : (r : Records) → records_of_zones zones ≡ records_sum (records_of_zones put) r → with_records (level_of o) (totals_of (zones_put b o put)) r ≡ totals_of b
+  totals_zones_less r less =
+      with_records_same (level_of o) (with_records (level_of o) (totals_of (zones_put b o put)) r) (totals_of b) (records_of_zones put)
+      (sym (with_records_sum (level_of o) (totals_of (zones_put b o put)) (records_of_zones put) r)
+      ∙ (ap (with_records (level_of o) (totals_of (zones_put b o put))) (sym less) ∙ totals_zones_put b o zones put e))
+
+  pub totals_zones_same : records_of_zones put ≡ records_of_zones zones → totals_of (zones_put b o put) ≡ totals_of b
+  totals_zones_same same =
+      with_records_same (level_of o) (totals_of (zones_put b o put)) (totals_of b) (records_of_zones zones)
+      (totals_zones_put b o zones put e ∙ ap (with_records (level_of o) (totals_of b)) same)

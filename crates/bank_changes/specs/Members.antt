@@ -1,0 +1,93 @@
+-- The members of a bank by their numbers; none where there is no such member.
+use Rattle.std.specs.Prelude.{ℕ, List, length, Option, slice_get}
+use Rattle.std.specs.Option.{option_and_then}
+use Rattle.std.specs.FinMap.{entries, get}
+use Rattle.generators.specs.Gens.{Gens}
+use Rattle.generators.specs.declared.level.Level.{Level}
+use Rattle.generators.specs.declared.level.Level.TheVariants as level
+use Rattle.modulators.specs.declared.modulator.Modulator.{Modulator}
+use Rattle.bank_changes.specs.declared.members.Members.{Members}
+use Rattle.bank_changes.specs.declared.members.Members.TheVariants.{Presets, Instruments, Samples}
+use Rattle.bank_changes.specs.declared.members.Owner.{Owner}
+use Rattle.bank_changes.specs.declared.members.Owner.TheVariants as owner
+use Rattle.bank_changes.specs.declared.members.Place.{Place}
+use Rattle.bank_changes.specs.declared.members.Place.TheVariants as place
+use Rattle.bank_parts.specs.declared.owners.ZonePlace.{ZonePlace}
+use Rattle.bank_parts.specs.declared.owners.ZonePlace.TheVariants as there
+use Rattle.bank_parts.specs.declared.parts.Head.{Head}
+use Rattle.bank_parts.specs.declared.parts.Parts.{Parts}
+use Rattle.bank_parts.specs.declared.parts.Zone.{Zone}
+use Rattle.bank_parts.specs.Owners.{head_at, zone_count_at, zone_at, target_at, gens_at, mods_at}
+use Rattle.bank_parts.specs.Settings.{Settings, settings_at, zones_at}
+
+abbrev pub member_count : Parts → Members → ℕ
+member_count b Presets = length b.presets
+member_count b Instruments = length b.instruments
+member_count b Samples = length b.samples
+
+-- a preset without its zones
+abbrev pub head_of : Parts → ℕ → Option Head
+head_of b p = head_at b.presets p
+
+abbrev pub instrument_name_of : Parts → ℕ → Option (List ℕ)
+instrument_name_of b i = head_at b.instruments i
+
+-- ---- zones and their owners
+
+-- how many zones there are, the global one not counted
+abbrev pub own_zone_count : Parts → Owner → Option ℕ
+own_zone_count b (owner.Preset p) = zone_count_at b.presets p
+own_zone_count b (owner.Instrument i) = zone_count_at b.instruments i
+
+abbrev pub target_of : Parts → Owner → ℕ → Option ℕ
+target_of b (owner.Preset p) k = target_at b.presets p k
+target_of b (owner.Instrument i) k = target_at b.instruments i k
+
+-- all of them, in order
+abbrev pub zones_of : Parts → Owner → Option (List Zone)
+zones_of b (owner.Preset p) = zones_at b.presets p
+zones_of b (owner.Instrument i) = zones_at b.instruments i
+
+abbrev pub zone_of : Parts → Owner → ℕ → Option Zone
+zone_of b (owner.Preset p) k = zone_at b.presets p k
+zone_of b (owner.Instrument i) k = zone_at b.instruments i k
+
+-- the level at which the zones stand
+abbrev pub level_of : Owner → Level
+level_of (owner.Preset p) = level.Preset
+level_of (owner.Instrument i) = level.Instrument
+
+-- how many members zones may target
+abbrev pub target_count : Parts → Owner → ℕ
+target_count b (owner.Preset p) = length b.instruments
+target_count b (owner.Instrument i) = length b.samples
+
+-- ---- the generators and modulators of a place
+
+abbrev pub zone_place : Place → ZonePlace
+zone_place place.Global = there.Global
+zone_place (place.Zone k) = there.Zone k
+
+abbrev pub gens_of : Parts → Owner → Place → Option Gens
+gens_of b (owner.Preset p) at = gens_at b.presets p (zone_place at)
+gens_of b (owner.Instrument i) at = gens_at b.instruments i (zone_place at)
+
+abbrev pub mods_of : Parts → Owner → Place → Option (List Modulator)
+mods_of b (owner.Preset p) at = mods_at b.presets p (zone_place at)
+mods_of b (owner.Instrument i) at = mods_at b.instruments i (zone_place at)
+
+-- both
+abbrev pub settings_of : Parts → Owner → Place → Option Settings
+settings_of b (owner.Preset p) at = settings_at b.presets p (zone_place at)
+settings_of b (owner.Instrument i) at = settings_at b.instruments i (zone_place at)
+
+-- the amount of an operator, where it is set
+abbrev pub amount_of : Parts → Owner → Place → ℕ → Option ℕ
+amount_of b o at op = option_and_then (λ (gens : Gens). get gens op) (gens_of b o at)
+
+-- the generator at a place of the canonical order
+abbrev pub gen_at : Parts → Owner → Place → ℕ → Option (ℕ × ℕ)
+gen_at b o at j = option_and_then (λ (gens : Gens). slice_get (entries gens) j) (gens_of b o at)
+
+abbrev pub mod_at : Parts → Owner → Place → ℕ → Option Modulator
+mod_at b o at j = option_and_then (λ (mods : List Modulator). slice_get mods j) (mods_of b o at)

@@ -1,0 +1,77 @@
+//! The raw changes of a bank's instruments.
+ghost use Rattle.std.specs.Prelude.{◌≡◌, ◌<◌, ◌≤◌, Some, length, slice_get, OnOk, OnErr, IfOk, IfErr};
+ghost use Rattle.bank_parts.specs.Owners.{head_at};
+ghost use Rattle.bank_parts.specs.Valid.{IsValid};
+ghost use Rattle.bank_changes.specs.Instruments.{instrument_renamed, instrument_added, instrument_removed, instrument_moved};
+
+use bank_parts::{Instrument, Parts};
+use numbered_lists::{Renumber, Renumbering};
+use sf_base::{Name20, OutOfMemory};
+use std::alloc::Global;
+
+/// Gives an instrument a name, and gives back the one that it had. Takes no memory.
+pub fn rename_instrument(parts: &mut Parts<'_>, number: u32, name: Name20) -> Name20
+    requires { number < length parts.old.instruments }
+    ensures value { head_at parts.old.instruments number ≡ Some result }
+    ensures change { parts.new ≡ instrument_renamed parts.old number name }
+{
+    parts.instruments.replace_head(number as usize, name)
+}
+
+/// Makes an instrument number `number`. The instruments from there on get the next number each, and what
+/// names them follows; at the end of the list nothing does, and no preset is touched. For want of memory
+/// the parts stay as they are, and the instrument comes back.
+pub fn insert_instrument(
+    parts: &mut Parts<'_>,
+    number: u32,
+    instrument: Instrument,
+) -> Result<(), Instrument>
+    requires valid { IsValid parts.old }
+    requires place { number ≤ length parts.old.instruments }
+    ensures ok { OnOk result (parts.new ≡ instrument_added parts.old number instrument) }
+    ensures err { OnErr result (parts.new ≡ parts.old) }
+    ensures value_returned { IfErr result (λ back. back ≡ instrument) }
+{
+    let count = parts.instruments.len();
+    parts.instruments.insert(number as usize, instrument)?;
+    if (number as usize) < count {
+        let by = Renumbering::Insertion { at: number };
+        parts.presets.renumber(by);
+    }
+    Ok(())
+}
+
+/// Takes an instrument out; the instruments behind it get the number before each, and what names them
+/// follows. At the end of the list no preset is touched. It takes no memory and never answers want of it,
+/// but another representation may; then the parts stay as they are.
+pub fn take_instrument(
+    parts: &mut Parts<'_>,
+    alloc: Global,
+    number: u32,
+) -> Result<Instrument, OutOfMemory>
+    requires valid { IsValid parts.old }
+    requires there { number < length parts.old.instruments }
+    ensures value { IfOk result (λ instrument. slice_get parts.old.instruments number ≡ Some instrument) }
+    ensures change { OnOk result (parts.new ≡ instrument_removed parts.old number) }
+    ensures err { OnErr result (parts.new ≡ parts.old) }
+{
+    let instrument = parts.instruments.remove(alloc, number as usize)?;
+    if (number as usize) < parts.instruments.len() {
+        let by = Renumbering::Removal { at: number };
+        parts.presets.renumber(by);
+    }
+    Ok(instrument)
+}
+
+/// Makes instrument `from` instrument `to`; the others keep their order, and what names them follows.
+/// Takes no memory.
+pub fn move_instrument(parts: &mut Parts<'_>, from: u32, to: u32)
+    requires valid { IsValid parts.old }
+    requires there { from < length parts.old.instruments }
+    requires place { to < length parts.old.instruments }
+    ensures { parts.new ≡ instrument_moved parts.old from to }
+{
+    let by = Renumbering::Move { from, to };
+    parts.instruments.move_member(from as usize, to as usize);
+    parts.presets.renumber(by);
+}

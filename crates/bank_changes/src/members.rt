@@ -1,0 +1,51 @@
+//! Which member of a bank is spoken of.
+ghost use Rattle.std.specs.Prelude.{◌≡◌};
+ghost use Rattle.bank_changes.specs.Members.{level_of, zone_place};
+
+use bank_parts::ZonePlace;
+use generators::Level;
+
+/// One of the three numbered lists of a bank.
+#[derive(Clone, Copy, Debug, PartialEq, Eq)]
+pub enum Members {
+    Presets,
+    Instruments,
+    Samples,
+}
+
+/// What zones belong to: the preset or the instrument of a number.
+#[derive(Clone, Copy, Debug, PartialEq, Eq)]
+pub enum Owner {
+    Preset(u32),
+    Instrument(u32),
+}
+
+impl Owner {
+    /// The level at which its zones stand.
+    pub fn level(self) -> Level
+        ensures { result ≡ level_of self }
+    {
+        match self {
+            Owner::Preset(_) => Level::Preset,
+            Owner::Instrument(_) => Level::Instrument,
+        }
+    }
+}
+
+/// Where generators and modulators stand in their owner: in its global zone, or in the zone of a
+/// number.
+#[derive(Clone, Copy, Debug, PartialEq, Eq)]
+pub enum Place {
+    Global,
+    Zone(u32),
+}
+
+/// The place as its owner numbers its zones.
+pub fn place_of(place: Place) -> ZonePlace
+    ensures { result ≡ zone_place place }
+{
+    match place {
+        Place::Global => ZonePlace::Global,
+        Place::Zone(zone) => ZonePlace::Zone(zone as usize),
+    }
+}

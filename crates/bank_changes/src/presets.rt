@@ -1,0 +1,57 @@
+//! The raw changes of a bank's presets. Nothing names a preset, so nothing follows.
+ghost use Rattle.std.specs.Prelude.{◌≡◌, ◌<◌, ◌≤◌, Some, length, slice_get, OnOk, OnErr, IfOk, IfErr};
+ghost use Rattle.bank_parts.specs.Owners.{head_at};
+ghost use Rattle.bank_changes.specs.Presets.{preset_added, preset_removed, preset_moved, head_set};
+
+use bank_parts::{Head, Parts, Preset};
+use sf_base::{Name20, OutOfMemory};
+use std::alloc::Global;
+
+/// Makes a preset number `number`; the presets from there on get the next number each. For want of memory
+/// the parts stay as they are, and the preset comes back.
+pub fn insert_preset(parts: &mut Parts<'_>, number: u32, preset: Preset) -> Result<(), Preset>
+    requires { number ≤ length parts.old.presets }
+    ensures ok { OnOk result (parts.new ≡ preset_added parts.old number preset) }
+    ensures err { OnErr result (parts.new ≡ parts.old) }
+    ensures value_returned { IfErr result (λ back. back ≡ preset) }
+{
+    parts.presets.insert(number as usize, preset)
+}
+
+/// Takes a preset out; the presets behind it get the number before each. It takes no memory and never
+/// answers want of it, but another representation may; then the parts stay as they are.
+pub fn take_preset(parts: &mut Parts<'_>, alloc: Global, number: u32) -> Result<Preset, OutOfMemory>
+    requires { number < length parts.old.presets }
+    ensures value { IfOk result (λ preset. slice_get parts.old.presets number ≡ Some preset) }
+    ensures change { OnOk result (parts.new ≡ preset_removed parts.old number) }
+    ensures err { OnErr result (parts.new ≡ parts.old) }
+{
+    parts.presets.remove(alloc, number as usize)
+}
+
+/// Makes preset `from` preset `to`; the others keep their order. Takes no memory.
+pub fn move_preset(parts: &mut Parts<'_>, from: u32, to: u32)
+    requires there { from < length parts.old.presets }
+    requires place { to < length parts.old.presets }
+    ensures { parts.new ≡ preset_moved parts.old from to }
+{
+    parts.presets.move_member(from as usize, to as usize);
+}
+
+/// Gives a preset a name and both numbers, and gives back the head that it had, of which it keeps the
+/// rest. Takes no memory.
+pub fn set_head(parts: &mut Parts<'_>, preset: u32, name: Name20, number: u16, bank: u16) -> Head
+    requires { preset < length parts.old.presets }
+    ensures value { head_at parts.old.presets preset ≡ Some result }
+    ensures change { parts.new ≡ head_set parts.old preset name number bank }
+{
+    let preset = preset as usize;
+    let old = *parts.presets.head(preset);
+    let head = Head {
+        name,
+        number,
+        bank,
+        ..old
+    };
+    parts.presets.replace_head(preset, head)
+}

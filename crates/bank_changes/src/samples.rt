@@ -1,0 +1,106 @@
+//! The raw changes of a bank's samples, and who links to a sample.
+ghost use Rattle.std.specs.Prelude.{◌≡◌, ◌<◌, ◌≤◌, Some, length, slice_get, remove, IfSome, OnOk, OnErr, IfErr};
+ghost use Rattle.std.specs.List.{list_any};
+ghost use Rattle.bank_parts.specs.declared.parts.Sample.{Sample};
+ghost use Rattle.bank_parts.specs.Valid.{IsValid};
+ghost use Rattle.bank_changes.specs.Samples.{sample_renamed, sample_added, sample_removed, sample_moved};
+ghost use Rattle.bank_changes.specs.Samples as uses;
+
+use bank_parts::{Kind, Parts, Sample};
+use numbered_lists::{Renumber, Renumbering};
+use sf_base::Name20;
+
+/// Gives a sample a name, and gives back the one that it had. Takes no memory.
+pub fn rename_sample(parts: &mut Parts<'_>, number: u32, name: Name20) -> Name20
+    requires { number < length parts.old.samples }
+    ensures value { IfSome (slice_get parts.old.samples number) (λ sample. result ≡ sample.name) }
+    ensures change { parts.new ≡ sample_renamed parts.old number name }
+{
+    let sample = parts.samples.member_mut(number as usize);
+    std::mem::replace(&mut sample.name, name)
+}
+
+/// Makes a sample number `number`; its own link has the numbers that hold afterwards. The samples from
+/// there on get the next number each, and what names them follows. At the end of the list it renumbers
+/// nothing, and does not walk the bank. For want of memory the parts stay as they are, and the sample
+/// comes back.
+pub fn insert_sample<'a>(
+    parts: &mut Parts<'a>,
+    number: u32,
+    sample: Sample<'a>,
+) -> Result<(), Sample<'a>>
+    requires valid { IsValid parts.old }
+    requires place { number ≤ length parts.old.samples }
+    ensures ok { OnOk result (parts.new ≡ sample_added parts.old number sample.entry) }
+    ensures err { OnErr result (parts.new ≡ parts.old) }
+    ensures value_returned { IfErr result (λ back. back ≡ sample.entry) }
+{
+    if number as usize == parts.samples.len() {
+        return parts.samples.push(sample);
+    }
+    let by = Renumbering::Insertion { at: number };
+    parts
+        .samples
+        .insert_renumbered(by, number as usize, sample)?;
+    parts.instruments.renumber(by);
+    Ok(())
+}
+
+/// Takes a sample out; the samples behind it get the number before each, and what names them follows.
+/// At the end of the list it renumbers nothing, and does not walk the bank. Takes no memory.
+pub fn take_sample<'a>(parts: &mut Parts<'a>, number: u32) -> Sample<'a>
+    requires valid { IsValid parts.old }
+    requires there { number < length parts.old.samples }
+    ensures value { slice_get parts.old.samples number ≡ Some result }
+    ensures change { parts.new ≡ sample_removed parts.old number }
+{
+    let sample = parts.samples.remove(number as usize);
+    if (number as usize) < parts.samples.len() {
+        let by = Renumbering::Removal { at: number };
+        parts.samples.renumber(by);
+        parts.instruments.renumber(by);
+    }
+    sample
+}
+
+/// Makes sample `from` sample `to`; the others keep their order, and what names them follows. Takes no
+/// memory.
+pub fn move_sample(parts: &mut Parts<'_>, from: u32, to: u32)
+    requires valid { IsValid parts.old }
+    requires there { from < length parts.old.samples }
+    requires place { to < length parts.old.samples }
+    ensures { parts.new ≡ sample_moved parts.old from to }
+{
+    let by = Renumbering::Move { from, to };
+    parts.samples.move_member(from as usize, to as usize);
+    parts.samples.renumber(by);
+    parts.instruments.renumber(by);
+}
+
+// ---- who links to a sample
+
+fn links_to(number: u32, kind: Kind) -> bool
+    ensures { result ≡ uses.links_to number kind }
+{
+    match kind {
+        Kind::Mono => false,
+        Kind::Right(link) | Kind::Left(link) | Kind::Linked(link) => u32::from(link) == number,
+    }
+}
+
+fn any_links_to(number: u32, samples: &[Sample<'_>]) -> bool
+    ensures { result ≡ list_any (λ (s : Sample). uses.links_to number s.kind) samples.now }
+{
+    samples.iter().any(|s| links_to(number, s.kind))
+}
+
+/// Whether a sample other than that of the number links to it.
+pub fn others_link_to(number: u32, samples: &[Sample<'_>]) -> bool
+    requires { number < length samples.now }
+    ensures { result ≡ list_any (λ (s : Sample). uses.links_to number s.kind) (remove samples.now number) }
+{
+    let at = number as usize;
+    let before = any_links_to(number, &samples[..at]);
+    let after = any_links_to(number, &samples[at + 1..]);
+    before || after
+}

@@ -1,0 +1,143 @@
+//! The raw changes of the generators and the modulators of a place, and the records that it has.
+ghost use Rattle.std.specs.Prelude.{◌≡◌, ◌<◌, ◌≤◌, Some, length, IsSome, IsOk, IfOk, IfSome, OnOk, OnErr};
+ghost use Rattle.bank_changes.specs.Members.{zone_place, settings_of, mods_of, amount_of, mod_at};
+ghost use Rattle.bank_changes.specs.Settings.{gen_set, gen_cleared, mod_added, mod_removed, mod_set, records_at, records_there};
+
+use crate::members::{Owner, Place, place_of};
+use bank_parts::{Owners, Parts, Records, ZonePlace};
+use modulators::Modulator;
+use sf_base::OutOfMemory;
+
+/// Sets an operator at a place, and gives the amount that it had. It needs memory only for an operator
+/// that is not set; for want of it the parts stay as they are.
+pub fn set_gen(
+    parts: &mut Parts<'_>,
+    owner: Owner,
+    place: Place,
+    operator: u16,
+    amount: u16,
+) -> Result<Option<u16>, OutOfMemory>
+    requires { IsSome (settings_of parts.old owner place) }
+    ensures was { IfOk result (λ was. was ≡ amount_of parts.old owner place operator) }
+    ensures ok { OnOk result (parts.new ≡ gen_set parts.old owner place operator amount) }
+    ensures err { OnErr result (parts.new ≡ parts.old) }
+    ensures needs_no_memory { IsSome (amount_of parts.old owner place operator) → IsOk result }
+{
+    let at = place_of(place);
+    match owner {
+        Owner::Preset(number) => parts.presets.set_gen(number as usize, at, operator, amount),
+        Owner::Instrument(number) => parts
+            .instruments
+            .set_gen(number as usize, at, operator, amount),
+    }
+}
+
+/// Clears an operator at a place, and gives the amount that it had. Takes no memory.
+pub fn clear_gen(parts: &mut Parts<'_>, owner: Owner, place: Place, operator: u16) -> Option<u16>
+    requires { IsSome (settings_of parts.old owner place) }
+    ensures was { result ≡ amount_of parts.old owner place operator }
+    ensures change { parts.new ≡ gen_cleared parts.old owner place operator }
+{
+    let at = place_of(place);
+    match owner {
+        Owner::Preset(number) => parts.presets.clear_gen(number as usize, at, operator),
+        Owner::Instrument(number) => parts.instruments.clear_gen(number as usize, at, operator),
+    }
+}
+
+/// Makes a modulator number `index` at a place; those from there on get the next number each. For want of
+/// memory the parts stay as they are.
+pub fn add_mod(
+    parts: &mut Parts<'_>,
+    owner: Owner,
+    place: Place,
+    index: u32,
+    modulator: Modulator,
+) -> Result<(), OutOfMemory>
+    requires there { IsSome (settings_of parts.old owner place) }
+    requires place { IfSome (mods_of parts.old owner place) (λ mods. index ≤ length mods) }
+    ensures ok { OnOk result (parts.new ≡ mod_added parts.old owner place index modulator) }
+    ensures err { OnErr result (parts.new ≡ parts.old) }
+{
+    let (at, index) = (place_of(place), index as usize);
+    match owner {
+        Owner::Preset(number) => parts
+            .presets
+            .insert_mod(number as usize, at, index, modulator),
+        Owner::Instrument(number) => parts
+            .instruments
+            .insert_mod(number as usize, at, index, modulator),
+    }
+}
+
+/// Takes the modulator of a number at a place out; those behind it get the number before each. Takes no
+/// memory.
+pub fn remove_mod(parts: &mut Parts<'_>, owner: Owner, place: Place, index: u32) -> Modulator
+    requires there { IsSome (settings_of parts.old owner place) }
+    requires place { IfSome (mods_of parts.old owner place) (λ mods. index < length mods) }
+    ensures value { mod_at parts.old owner place index ≡ Some result }
+    ensures change { parts.new ≡ mod_removed parts.old owner place index }
+{
+    let (at, index) = (place_of(place), index as usize);
+    match owner {
+        Owner::Preset(number) => parts.presets.remove_mod(number as usize, at, index),
+        Owner::Instrument(number) => parts.instruments.remove_mod(number as usize, at, index),
+    }
+}
+
+/// Puts a modulator in the place of the one of a number at a place, and gives back the one that it
+/// replaces. Takes no memory.
+pub fn set_mod(
+    parts: &mut Parts<'_>,
+    owner: Owner,
+    place: Place,
+    index: u32,
+    modulator: Modulator,
+) -> Modulator
+    requires there { IsSome (settings_of parts.old owner place) }
+    requires place { IfSome (mods_of parts.old owner place) (λ mods. index < length mods) }
+    ensures value { mod_at parts.old owner place index ≡ Some result }
+    ensures change { parts.new ≡ mod_set parts.old owner place index modulator }
+{
+    let (at, index) = (place_of(place), index as usize);
+    match owner {
+        Owner::Preset(number) => parts.presets.set_mod(number as usize, at, index, modulator),
+        Owner::Instrument(number) => parts
+            .instruments
+            .set_mod(number as usize, at, index, modulator),
+    }
+}
+
+// ---- the records of a place
+
+/// The records of a place; none where there is no such place. The record of a zone that is not global is
+/// not among them, for it is counted whatever it holds.
+pub fn records_there(parts: &Parts<'_>, owner: Owner, place: Place) -> Records
+    ensures { result ≡ records_there parts.now owner place }
+{
+    match owner {
+        Owner::Preset(number) => records_in(&parts.presets, number, place),
+        Owner::Instrument(number) => records_in(&parts.instruments, number, place),
+    }
+}
+
+fn records_in<H>(owners: &Owners<H>, number: u32, place: Place) -> Records
+    ensures { result ≡ records_at owners.now number (zone_place place) }
+{
+    let (number, place) = (number as usize, place_of(place));
+    if !owners.has_place(number, place) {
+        return Records {
+            zones: 0,
+            gens: 0,
+            mods: 0,
+        };
+    }
+    let gens = owners.gen_count(number, place);
+    let mods = owners.mod_count(number, place);
+    let is_counted = place == ZonePlace::Global && (gens > 0 || mods > 0);
+    Records {
+        zones: usize::from(is_counted),
+        gens,
+        mods,
+    }
+}

@@ -1,0 +1,24 @@
+//! The raw change of a bank's texts.
+ghost use Rattle.std.specs.Prelude.{◌≡◌};
+ghost use Rattle.bank_parts.specs.Texts.{text_of};
+ghost use Rattle.bank_changes.specs.Texts.{text_set};
+
+use bank_parts::{InfoId, Texts};
+use sf_base::Lent;
+
+/// Sets the text of this kind, and gives back the one that was there. Takes no memory.
+pub fn replace_text<'a>(texts: &mut Texts<'a>, id: InfoId, text: Lent<'a>) -> Lent<'a>
+    ensures value { result ≡ text_of texts.old id }
+    ensures change { texts.new ≡ text_set texts.old id text.entry }
+{
+    match id {
+        InfoId::Engine => std::mem::replace(&mut texts.engine, text),
+        InfoId::Name => std::mem::replace(&mut texts.name, text),
+        InfoId::Date => std::mem::replace(&mut texts.date, text),
+        InfoId::Engineers => std::mem::replace(&mut texts.engineers, text),
+        InfoId::Product => std::mem::replace(&mut texts.product, text),
+        InfoId::Copyright => std::mem::replace(&mut texts.copyright, text),
+        InfoId::Comment => std::mem::replace(&mut texts.comment, text),
+        InfoId::Software => std::mem::replace(&mut texts.software, text),
+    }
+}

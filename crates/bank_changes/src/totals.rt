@@ -1,0 +1,80 @@
+//! The totals of a bank with records more or less in a preset or an instrument that it has.
+ghost use Rattle.std.specs.Prelude.{◌≡◌, None};
+ghost use Rattle.bank_parts.specs.declared.counting.Records.{Records};
+ghost use Rattle.bank_validity.specs.declared.totals.Totals.{Totals};
+ghost use Rattle.bank_parts.specs.Counts.{all_counted};
+ghost use Rattle.bank_validity.specs.Limits.{broken};
+ghost use Rattle.bank_changes.specs.Totals.{with_records, with_records_counted, HasRecords};
+
+use bank_parts::Records;
+use bank_validity::{Limit, Totals};
+use generators::Level;
+
+/// The first limit that is broken with so many records more. A count that would pass 2^64 may stay
+/// below it, as that of `Zone::records` does.
+pub fn broken_with_records(totals: Totals, at: Level, more: Records) -> Option<Limit>
+    requires { broken totals ≡ None }
+    ensures { (r : Records) → more ≡ all_counted r → result ≡ broken (with_records at totals r) }
+{
+    plus_records(totals, at, more).broken()
+}
+
+/// The totals with so many records more.
+pub fn with_records(totals: Totals, at: Level, more: Records) -> Totals
+    requires { broken (with_records at totals more) ≡ None }
+    ensures { result ≡ with_records at totals more }
+{
+    plus_records(totals, at, more)
+}
+
+/// The totals without so many of the records.
+pub fn without_records(totals: Totals, at: Level, less: Records) -> Totals
+    requires { HasRecords at totals less }
+    ensures { with_records at result less ≡ totals }
+{
+    match at {
+        Level::Preset => Totals {
+            preset_zones: totals.preset_zones - less.zones,
+            preset_gens: totals.preset_gens - less.gens,
+            preset_mods: totals.preset_mods - less.mods,
+            ..totals
+        },
+        Level::Instrument => Totals {
+            instrument_zones: totals.instrument_zones - less.zones,
+            instrument_gens: totals.instrument_gens - less.gens,
+            instrument_mods: totals.instrument_mods - less.mods,
+            ..totals
+        },
+    }
+}
+
+/// The totals where so many records, which are counted, became so many others. A sum that would pass
+/// 2^64 may stay below it, and breaks the same limit.
+pub fn recounted(totals: Totals, at: Level, before: Records, after: Records) -> Totals
+    requires within { broken totals ≡ None }
+    requires counted { HasRecords at totals before }
+    ensures value { (now : Totals) → broken now ≡ None → with_records at now before ≡ with_records at totals after → result ≡ now }
+    ensures limit { (now : Totals) → with_records at now before ≡ with_records at totals after → broken result ≡ broken now }
+{
+    plus_records(without_records(totals, at, before), at, after)
+}
+
+// A sum that would pass 2^64 stays below it.
+fn plus_records(totals: Totals, at: Level, more: Records) -> Totals
+    ensures { result ≡ with_records_counted at totals more }
+{
+    match at {
+        Level::Preset => Totals {
+            preset_zones: totals.preset_zones.saturating_add(more.zones),
+            preset_gens: totals.preset_gens.saturating_add(more.gens),
+            preset_mods: totals.preset_mods.saturating_add(more.mods),
+            ..totals
+        },
+        Level::Instrument => Totals {
+            instrument_zones: totals.instrument_zones.saturating_add(more.zones),
+            instrument_gens: totals.instrument_gens.saturating_add(more.gens),
+            instrument_mods: totals.instrument_mods.saturating_add(more.mods),
+            ..totals
+        },
+    }
+}

@@ -1,0 +1,82 @@
+//! The raw changes of the zones of a bank's presets and instruments.
+ghost use Rattle.std.specs.Prelude.{◌≡◌, ◌<◌, ◌≤◌, Some, IsSomeAnd, OnOk, OnErr, IfOk, IfErr};
+ghost use Rattle.bank_changes.specs.Members.{own_zone_count, zone_of, target_of};
+ghost use Rattle.bank_changes.specs.Zones.{zone_added, zone_removed, zone_moved, target_set};
+
+use crate::members::Owner;
+use bank_parts::{Parts, Zone};
+use sf_base::OutOfMemory;
+use std::alloc::Global;
+
+/// Makes a zone number `at` of an owner; its zones from there on get the next number each. For want of
+/// memory the parts stay as they are, and the zone comes back.
+pub fn insert_zone(parts: &mut Parts<'_>, owner: Owner, at: u32, zone: Zone) -> Result<(), Zone>
+    requires { IsSomeAnd (own_zone_count parts.old owner) (λ count. at ≤ count) }
+    ensures ok { OnOk result (parts.new ≡ zone_added parts.old owner at zone) }
+    ensures err { OnErr result (parts.new ≡ parts.old) }
+    ensures value_returned { IfErr result (λ back. back ≡ zone) }
+{
+    match owner {
+        Owner::Preset(number) => parts
+            .presets
+            .insert_zone(number as usize, at as usize, zone),
+        Owner::Instrument(number) => {
+            parts
+                .instruments
+                .insert_zone(number as usize, at as usize, zone)
+        }
+    }
+}
+
+/// Takes a zone out of an owner; the zones behind it get the number before each. It takes no memory and
+/// never answers want of it, but another representation may; then the parts stay as they are.
+pub fn take_zone(
+    parts: &mut Parts<'_>,
+    alloc: Global,
+    owner: Owner,
+    zone: u32,
+) -> Result<Zone, OutOfMemory>
+    requires { IsSomeAnd (own_zone_count parts.old owner) (λ count. zone < count) }
+    ensures value { IfOk result (λ removed. zone_of parts.old owner zone ≡ Some removed) }
+    ensures change { OnOk result (parts.new ≡ zone_removed parts.old owner zone) }
+    ensures err { OnErr result (parts.new ≡ parts.old) }
+{
+    match owner {
+        Owner::Preset(number) => {
+            parts
+                .presets
+                .remove_zone(alloc, number as usize, zone as usize)
+        }
+        Owner::Instrument(number) => {
+            parts
+                .instruments
+                .remove_zone(alloc, number as usize, zone as usize)
+        }
+    }
+}
+
+/// Makes zone `from` of an owner zone `to`; its other zones keep their order. Takes no memory.
+pub fn move_zone(parts: &mut Parts<'_>, owner: Owner, from: u32, to: u32)
+    requires there { IsSomeAnd (own_zone_count parts.old owner) (λ count. from < count) }
+    requires place { IsSomeAnd (own_zone_count parts.old owner) (λ count. to < count) }
+    ensures { parts.new ≡ zone_moved parts.old owner from to }
+{
+    let (from, to) = (from as usize, to as usize);
+    match owner {
+        Owner::Preset(number) => parts.presets.move_zone(number as usize, from, to),
+        Owner::Instrument(number) => parts.instruments.move_zone(number as usize, from, to),
+    }
+}
+
+/// Gives a zone another target, and gives back the one that it had. Takes no memory.
+pub fn set_target(parts: &mut Parts<'_>, owner: Owner, zone: u32, target: u16) -> u16
+    requires { IsSomeAnd (own_zone_count parts.old owner) (λ count. zone < count) }
+    ensures value { target_of parts.old owner zone ≡ Some result }
+    ensures change { parts.new ≡ target_set parts.old owner zone target }
+{
+    let zone = zone as usize;
+    match owner {
+        Owner::Preset(number) => parts.presets.set_target(number as usize, zone, target),
+        Owner::Instrument(number) => parts.instruments.set_target(number as usize, zone, target),
+    }
+}

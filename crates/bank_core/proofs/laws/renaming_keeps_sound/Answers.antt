@@ -1,5 +1,0 @@
-use Rattle.bank_core.proofs.SampleLaws.{renamed_sound}
-use Rattle.bank_core.proofs.laws.renaming_keeps_sound.Goals as goal
-
-pub returns : goal.returns
-returns c = renamed_sound

@@ -1,0 +1,100 @@
+//! What a step does: the change of its form.
+ghost use Rattle.std.specs.Prelude.{◌≡◌, None, IsOk};
+ghost use Rattle.bank_parts.specs.Sound.{IsSound};
+ghost use Rattle.edit_forms.specs.Steps.{refusal};
+ghost use Rattle.bank_edits.specs.StepChanges.{GrowsNothing, IsStepChange};
+
+use crate::instruments::{add_instrument, move_instrument, remove_instrument, rename_instrument};
+use crate::modulator_forms::{add_mod, remove_mod, set_mod};
+use crate::presets::{add_preset, move_preset, remove_preset, set_head};
+use crate::samples::{add_sample, move_sample, remove_sample, rename_sample};
+use crate::settings::{clear_gen, set_gen};
+use crate::splits::{join_zone, split_zone};
+use crate::texts::set_info;
+use crate::zones::{add_zone, move_zone, remove_zone, set_target};
+use bank_core::Bank;
+use edit_forms::Step;
+use std::alloc::Global;
+
+/// Does the step and answers the one that takes it back, or hands it back for want of memory.
+pub(crate) fn change_step<'a>(
+    alloc: Global,
+    bank: &mut Bank<'a>,
+    step: Step<'a>,
+) -> Result<Step<'a>, Step<'a>>
+    requires sound { IsSound bank.old }
+    requires accepted { refusal bank.old step ≡ None }
+    ensures outcome { IsStepChange bank.old bank.new step.entry result }
+    ensures no_memory { GrowsNothing step.entry → IsOk result }
+{
+    match step {
+        Step::AddPreset { at, preset } => add_preset(bank, at, preset),
+        Step::RemovePreset { preset } => remove_preset(alloc, bank, preset),
+        Step::MovePreset { from, to } => Ok(move_preset(bank, from, to)),
+        Step::SetHead {
+            preset,
+            name,
+            number,
+            bank: bank_number,
+        } => Ok(set_head(bank, preset, name, number, bank_number)),
+        Step::AddInstrument { at, instrument } => add_instrument(bank, at, instrument),
+        Step::RemoveInstrument { instrument } => remove_instrument(alloc, bank, instrument),
+        Step::RenameInstrument { instrument, name } => {
+            Ok(rename_instrument(bank, instrument, name))
+        }
+        Step::MoveInstrument { from, to } => Ok(move_instrument(bank, from, to)),
+        Step::RenameSample { sample, name } => Ok(rename_sample(bank, sample, name)),
+        Step::AddSample { at, sample } => add_sample(bank, at, sample),
+        Step::RemoveSample { sample } => Ok(remove_sample(bank, sample)),
+        Step::MoveSample { from, to } => Ok(move_sample(bank, from, to)),
+        Step::AddZone { owner, at, zone } => add_zone(bank, owner, at, zone),
+        Step::RemoveZone { owner, zone } => remove_zone(alloc, bank, owner, zone),
+        Step::MoveZone { owner, from, to } => Ok(move_zone(bank, owner, from, to)),
+        Step::SplitZone {
+            owner,
+            zone,
+            axis,
+            at,
+        } => split_zone(alloc, bank, owner, zone, axis, at),
+        Step::JoinZone {
+            owner,
+            zone,
+            axis,
+            keep,
+        } => join_zone(alloc, bank, owner, zone, axis, keep),
+        Step::SetTarget {
+            owner,
+            zone,
+            target,
+        } => Ok(set_target(bank, owner, zone, target)),
+        Step::SetGen {
+            owner,
+            place,
+            operator,
+            amount,
+        } => set_gen(bank, owner, place, operator, amount),
+        Step::ClearGen {
+            owner,
+            place,
+            operator,
+        } => Ok(clear_gen(bank, owner, place, operator)),
+        Step::AddMod {
+            owner,
+            place,
+            index,
+            modulator,
+        } => add_mod(bank, owner, place, index, modulator),
+        Step::RemoveMod {
+            owner,
+            place,
+            index,
+        } => Ok(remove_mod(bank, owner, place, index)),
+        Step::SetMod {
+            owner,
+            place,
+            index,
+            modulator,
+        } => Ok(set_mod(bank, owner, place, index, modulator)),
+        Step::SetInfo { id, text } => Ok(set_info(bank, id, text)),
+    }
+}

@@ -1,0 +1,12 @@
+pub mod Accepted
+pub mod Moves
+pub mod OwnerLaws
+pub mod InstrumentLaws
+pub mod PresetLaws
+pub mod SampleLaws
+pub mod TextLaws
+pub mod ZoneLaws
+pub mod PlaceLaws
+pub mod ModulatorLaws
+pub mod SettingLaws
+pub mod SplitLaws
