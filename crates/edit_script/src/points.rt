@@ -11,10 +11,12 @@ ghost use Rattle.edit_script.specs.Points.{cut_operands, both_ends_operands, loo
 use crate::forms::Form;
 use edit_forms::Step;
 use bank_parts::Kind;
-use line_tokens::{Cursor, Joined, LineFault, Piece, put_line, put_pieces};
+use line_tokens::{Cursor, LineFault, Piece, put_line, put_pieces};
 use outputs::Output;
 use sample_view::Points;
-use script_grammar::{HasWord, kind, looped, points, put_kind, put_loop, put_tune, tune};
+use script_grammar::{
+    HasWord, kind, looped, points, put_kind, put_loop, put_points, put_tune, tune,
+};
 use std::alloc::Global;
 use std::io::Write;
 
@@ -107,10 +109,11 @@ pub(crate) fn put_extend<W: Write>(
 )
     ensures { Puts W.contents output.old output.new (line_text (codes "extend") (pieces_of (both_ends_operands sample front.now back.now))) }
 {
-    let sample = Piece::Number(u64::from(sample));
-    let front = Piece::Hex(Joined::new(front.pieces()));
-    let back = Piece::Hex(Joined::new(back.pieces()));
-    put_line(Form::Extend.word(), &[sample, front, back], output);
+    output.put(Form::Extend.word());
+    put_number(sample, output);
+    put_points(front, output);
+    put_points(back, output);
+    output.put(b"\n");
 }
 
 // `S`, behind a space
