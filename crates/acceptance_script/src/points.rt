@@ -108,7 +108,15 @@ fn edits_of_points_and_their_return(rt: HostRuntime) {
 fn a_correction_of_minus_zero(rt: HostRuntime) {
     let (alloc, tone) = (rt.alloc(), tone());
     let back = b"set-tune 0 44100 60 0\n";
-    assert!(rt; edits(alloc, tone.bytes(), b"set-tune 0 44100 60 -0", tone.bytes(), back));
+    assert!(rt;
+        edits(
+            alloc,
+            tone.bytes(),
+            b"set-tune 0 44100 60 -0",
+            tone.bytes(),
+            back
+        )
+    );
 }
 
 /// Two samples, of which the second links to the first, and then the first to the second.
@@ -138,10 +146,7 @@ const REFUSED: [(&[u8], &[u8]); 28] = [
     (b"trim 0 11 0", b"refused 33 TooShort\n"),
     (b"trim 0 0 11", b"refused 33 TooShort\n"),
     (b"trim 0 5 6", b"refused 33 TooShort\n"),
-    (
-        b"trim 0 4294967295 4294967295",
-        b"refused 33 TooShort\n",
-    ),
+    (b"trim 0 4294967295 4294967295", b"refused 33 TooShort\n"),
     (b"trim 0 10 0", b"refused 34 LoopCut\n"),
     (b"trim 0 0 10", b"refused 34 LoopCut\n"),
     (b"trim 0 5 5", b"refused 34 LoopCut\n"),
@@ -178,6 +183,9 @@ fn edits_of_points_that_are_refused(rt: HostRuntime) {
         (b"set-loop 0 loop 2 2", b": line 1: refused 35 BadLoop\n"),
     ];
     for (row, (script, line)) in rows.iter().enumerate() {
-        assert!(rt; stops(rt.alloc(), tone().bytes(), script, line), "row {row}");
+        assert!(rt;
+            stops(rt.alloc(), tone().bytes(), script, line),
+            "row {row}"
+        );
     }
 }

@@ -9,8 +9,8 @@ ghost use Rattle.edit_script.specs.Members.{place};
 ghost use Rattle.edit_script.specs.Points.{cut_operands, both_ends_operands, loop_of_operands, kind_of_operands, tune_of_operands, trim, extend, set_loop, set_kind, set_tune};
 
 use crate::forms::Form;
-use edit_forms::Step;
 use bank_parts::Kind;
+use edit_forms::Step;
 use line_tokens::{Cursor, LineFault, Piece, put_line, put_pieces};
 use outputs::Output;
 use sample_view::Points;
@@ -39,10 +39,7 @@ pub(crate) fn trim<'p>(line: &mut Cursor<'_, 'p>) -> Result<Step<'p>, LineFault>
 
 // `S POINTS POINTS`
 #[tactic(auto, unfolding(crate::specs::Points::extend))]
-pub(crate) fn extend<'p>(
-    alloc: Global,
-    line: &mut Cursor<'_, 'p>,
-) -> Result<Step<'p>, LineFault>
+pub(crate) fn extend<'p>(alloc: Global, line: &mut Cursor<'_, 'p>) -> Result<Step<'p>, LineFault>
     ensures { Reads (λ s. s) extend line.old line.new result }
 {
     let sample = line.number(u32::MAX)?;

@@ -136,9 +136,11 @@ pub tune_fit : (rate key : ℕ) (correction : ℤ) → rate < 2 ^ 32 → key < 2
 tune_fit rate key correction r k c = (word32 rate r, ((omega (arith, k), lit< tt), ((cents_within correction c, lit< tt), tt)))
 
 pub head_fit : (s : Sample) → FitsSample s → AllFit (head_operands s)
-head_fit s h =
-    (h.name, both_fit (tune_operands s.rate s.key s.correction) (kind_operands s.kind ++ loop_operands s.looped) (tune_fit s.rate s.key s.correction h.rate h.key h.correction)
-    (both_fit (kind_operands s.kind) (loop_operands s.looped) (kind_fit s.kind h.kind) (loop_fit s.looped h.looped)))
+head_fit s h = (
+  h.name,
+  both_fit (tune_operands s.rate s.key s.correction) (kind_operands s.kind ++ loop_operands s.looped) (tune_fit s.rate s.key s.correction h.rate h.key h.correction)
+      (both_fit (kind_operands s.kind) (loop_operands s.looped) (kind_fit s.kind h.kind) (loop_fit s.looped h.looped)),
+)
 
 pub body_fit : (s : Sample) → FitsSample s → AllFit (body_operands s)
 body_fit s h = both_fit (head_operands s) (Points s.points ∷ []) (head_fit s h) (h.points, tt)

@@ -23,8 +23,8 @@ mod zone_lists;
 pub use items::{generator, modulator};
 pub use names::{HasWord, next_named};
 pub use samples::{
-    kind, looped, points, put_kind, put_loop, put_points, put_sample_body, put_sample_head, put_tune,
-    sample_body, tune,
+    kind, looped, points, put_kind, put_loop, put_points, put_sample_body, put_sample_head,
+    put_tune, sample_body, tune,
 };
 pub use texts::info_id;
 pub use zone_lines::{put_generator, put_modulator, put_zone, put_zones};
