@@ -9,6 +9,7 @@ pub mod ZoneLaws
 pub mod ZoneChangeLaws
 pub mod SplitLaws
 pub mod SampleLaws
+pub mod PointLaws
 pub mod InstrumentLaws
 pub mod PresetLaws
 pub mod TextLaws

@@ -4,6 +4,7 @@
 mod instruments;
 mod laws;
 mod members;
+mod points;
 mod presets;
 mod samples;
 mod settings;
@@ -15,6 +16,7 @@ mod zones;
 pub use instruments::{insert_instrument, move_instrument, rename_instrument, take_instrument};
 pub use laws::renaming_keeps_sound;
 pub use members::{Members, Owner, Place, place_of};
+pub use points::{extend_sample, set_kind, set_loop, set_tune, trim_sample};
 pub use presets::{insert_preset, move_preset, set_head, take_preset};
 pub use samples::{insert_sample, move_sample, others_link_to, rename_sample, take_sample};
 pub use settings::{add_mod, clear_gen, records_there, remove_mod, set_gen, set_mod};

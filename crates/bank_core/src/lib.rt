@@ -4,6 +4,7 @@
 mod bank;
 mod fault;
 mod instruments;
+mod points;
 mod presets;
 mod samples;
 mod settings;

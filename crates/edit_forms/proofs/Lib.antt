@@ -4,6 +4,7 @@ pub mod OwnerLaws
 pub mod InstrumentLaws
 pub mod PresetLaws
 pub mod SampleLaws
+pub mod PointLaws
 pub mod TextLaws
 pub mod ZoneLaws
 pub mod PlaceLaws

@@ -2,7 +2,7 @@
 use Rattle.std.specs.Prelude.{ℕ, List, Option, Some, None, codes}
 use Rattle.bank_validity.specs.declared.limits.Limit.{Limit}
 use Rattle.edit_forms.specs.declared.cause.Cause.{Cause}
-use Rattle.edit_forms.specs.declared.cause.Cause.TheVariants.{NoSuchPreset, NoSuchInstrument, NoSuchSample, NoSuchZone, NoSuchModulator, BadPlace, InUse, BadGenerator, NotSet, BadRange, SplitOutside, NotJoinable, LinkedModulator, BadLoop, BadText, Full}
+use Rattle.edit_forms.specs.declared.cause.Cause.TheVariants.{NoSuchPreset, NoSuchInstrument, NoSuchSample, NoSuchZone, NoSuchModulator, BadPlace, InUse, BadGenerator, NotSet, BadRange, SplitOutside, NotJoinable, LinkedModulator, TooShort, LoopCut, BadLoop, BadText, Full}
 
 abbrev pub number_of : Cause → ℕ
 number_of NoSuchPreset = 20
@@ -18,6 +18,8 @@ number_of BadRange = 29
 number_of SplitOutside = 30
 number_of NotJoinable = 31
 number_of LinkedModulator = 32
+number_of TooShort = 33
+number_of LoopCut = 34
 number_of BadLoop = 35
 number_of BadText = 36
 number_of (Full limit) = 37
@@ -36,6 +38,8 @@ name_of BadRange = codes "BadRange"
 name_of SplitOutside = codes "SplitOutside"
 name_of NotJoinable = codes "NotJoinable"
 name_of LinkedModulator = codes "LinkedModulator"
+name_of TooShort = codes "TooShort"
+name_of LoopCut = codes "LoopCut"
 name_of BadLoop = codes "BadLoop"
 name_of BadText = codes "BadText"
 name_of (Full limit) = codes "Full"

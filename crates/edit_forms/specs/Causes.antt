@@ -25,8 +25,9 @@ use Rattle.bank_changes.specs.Members.{own_zone_count, target_count, mods_of, am
 use Rattle.bank_changes.specs.Zones.{can_split, can_join}
 use Rattle.bank_changes.specs.Instruments.{instrument_in_use}
 use Rattle.bank_changes.specs.Samples.{sample_in_use}
+use Rattle.bank_changes.specs.Points.{points_of, loop_of}
 use Rattle.edit_forms.specs.declared.cause.Cause.{Cause}
-use Rattle.edit_forms.specs.declared.cause.Cause.TheVariants.{NoSuchPreset, NoSuchInstrument, NoSuchSample, NoSuchZone, NoSuchModulator, BadPlace, InUse, BadGenerator, NotSet, BadRange, SplitOutside, NotJoinable, LinkedModulator, BadLoop, BadText}
+use Rattle.edit_forms.specs.declared.cause.Cause.TheVariants.{NoSuchPreset, NoSuchInstrument, NoSuchSample, NoSuchZone, NoSuchModulator, BadPlace, InUse, BadGenerator, NotSet, BadRange, SplitOutside, NotJoinable, LinkedModulator, TooShort, LoopCut, BadLoop, BadText}
 
 -- a cause of refusal, and whether it stands
 pub record Test : Type 0 where
@@ -160,6 +161,25 @@ loop_misses count (Some looped) = nat_le looped.1 looped.0 || nat_lt count loope
 
 abbrev pub bad_loop : Sample → Test
 bad_loop sample = test (loop_misses (length sample.points) sample.looped) BadLoop
+
+-- a sample that is there may link to itself and to the others
+abbrev pub no_such_link_among : Parts → Kind → Test
+no_such_link_among b kind = test (link_misses (length b.samples) kind) NoSuchSample
+
+abbrev pub bad_loop_of : Parts → ℕ → Option (ℕ × ℕ) → Test
+bad_loop_of b sample looped = test (loop_misses (length (points_of b sample)) looped) BadLoop
+
+-- fewer points than are to be taken off
+abbrev pub too_short : Parts → ℕ → ℕ → ℕ → Test
+too_short b sample front back = test (nat_lt (length (points_of b sample)) (front + back)) TooShort
+
+-- of so many points, some of the loop or its start would be taken off with those before or after
+abbrev pub cuts_loop : ℕ → ℕ → ℕ → Option (ℕ × ℕ) → Bool
+cuts_loop count front back None = false
+cuts_loop count front back (Some looped) = nat_lt looped.0 front || nat_lt count (looped.1 + back)
+
+abbrev pub loop_cut : Parts → ℕ → ℕ → ℕ → Test
+loop_cut b sample front back = test (cuts_loop (length (points_of b sample)) front back (loop_of b sample)) LoopCut
 
 -- a zone targets the sample, or another sample links to it
 abbrev pub used_sample : Parts → ℕ → Test

@@ -1,13 +1,16 @@
 -- What a step does to a bank, and when it is refused: one line for each form.
-use Rattle.std.specs.Prelude.{◌<◌, ◌^◌, ◌+◌, Option, List, [], ◌∷◌, length}
+use Rattle.std.specs.Prelude.{◌<◌, ◌^◌, ◌+◌, FitsSigned, Option, List, [], ◌∷◌, length}
 use Rattle.std.specs.Option.{option_map}
+use Rattle.std.specs.Int.{w8}
+use Rattle.sample_view.specs.Words.{AreWords}
 use Rattle.modulators.specs.Modulators.{FitsModulator}
 use Rattle.sf_base.specs.Names.{IsName}
 use Rattle.generators.specs.declared.level.Level.TheVariants as level
 use Rattle.bank_parts.specs.declared.parts.Parts.{Parts}
-use Rattle.bank_parts.specs.Fits.{FitsHead, FitsOwner, FitsZone, FitsSample, FitsText}
+use Rattle.bank_parts.specs.Fits.{FitsHead, FitsOwner, FitsZone, FitsSample, FitsLoop, FitsKind, FitsText}
 use Rattle.bank_validity.specs.Limits.{broken_limit}
 use Rattle.bank_changes.specs.Samples.{sample_renamed, sample_added, sample_removed, sample_moved}
+use Rattle.bank_changes.specs.Points.{sample_trimmed, sample_extended, loop_set, kind_set, tune_set}
 use Rattle.bank_changes.specs.Instruments.{instrument_added, instrument_removed, instrument_renamed, instrument_moved}
 use Rattle.bank_changes.specs.Presets.{preset_added, preset_removed, preset_moved, head_set}
 use Rattle.bank_changes.specs.Zones.{zone_added, zone_removed, zone_moved, zone_split, zone_joined, target_set}
@@ -19,10 +22,10 @@ use Rattle.bank_changes.specs.declared.members.Place.TheVariants as place
 use Rattle.bank_changes.specs.Texts.{info_set}
 use Rattle.bank_changes.specs.Members.{level_of}
 use Rattle.edit_forms.specs.declared.edit.Step.{Step}
-use Rattle.edit_forms.specs.declared.edit.Step.TheVariants.{AddPreset, RemovePreset, MovePreset, SetHead, AddInstrument, RemoveInstrument, RenameInstrument, MoveInstrument, RenameSample, AddSample, RemoveSample, MoveSample, AddZone, RemoveZone, MoveZone, SplitZone, JoinZone, SetTarget, SetGen, ClearGen, AddMod, RemoveMod, SetMod, SetInfo}
+use Rattle.edit_forms.specs.declared.edit.Step.TheVariants.{AddPreset, RemovePreset, MovePreset, SetHead, AddInstrument, RemoveInstrument, RenameInstrument, MoveInstrument, RenameSample, AddSample, RemoveSample, MoveSample, Trim, Extend, SetLoop, SetKind, SetTune, AddZone, RemoveZone, MoveZone, SplitZone, JoinZone, SetTarget, SetGen, ClearGen, AddMod, RemoveMod, SetMod, SetInfo}
 use Rattle.edit_forms.specs.declared.cause.Cause.{Cause}
 use Rattle.edit_forms.specs.declared.cause.Cause.TheVariants.{NoSuchInstrument, NoSuchSample, Full}
-use Rattle.edit_forms.specs.Causes.{Test, first_cause, no_such_preset, no_such_instrument, no_such_sample, no_such_target, used_instrument, bad_generator, bad_range, no_such_link, used_sample, no_such_owner, zone_total, no_such_zone, no_such_target_of, bad_generators, bad_ranges, bad_place, no_such_place, bad_loop, bad_text, no_such_zone_at, mods_there, no_such_modulator, linked_place, linked_modulator, foreign_operator, bad_amount, not_set, split_outside, not_joinable}
+use Rattle.edit_forms.specs.Causes.{Test, first_cause, no_such_preset, no_such_instrument, no_such_sample, no_such_target, used_instrument, bad_generator, bad_range, no_such_link, used_sample, no_such_owner, zone_total, no_such_zone, no_such_target_of, bad_generators, bad_ranges, bad_place, no_such_place, bad_loop, no_such_link_among, bad_loop_of, too_short, loop_cut, bad_text, no_such_zone_at, mods_there, no_such_modulator, linked_place, linked_modulator, foreign_operator, bad_amount, not_set, split_outside, not_joinable}
 
 -- numbers of 32 bits
 abbrev pub FitsNumberOf : Owner → Type 0
@@ -47,6 +50,11 @@ FitsStep (RenameSample sample name) = (sample < 2 ^ 32) × IsName name
 FitsStep (AddSample at sample) = (at < 2 ^ 32) × FitsSample sample
 FitsStep (RemoveSample sample) = sample < 2 ^ 32
 FitsStep (MoveSample from to) = (from < 2 ^ 32) × (to < 2 ^ 32)
+FitsStep (Trim sample front back) = (sample < 2 ^ 32) × (front < 2 ^ 32) × (back < 2 ^ 32)
+FitsStep (Extend sample front back) = (sample < 2 ^ 32) × AreWords front × AreWords back
+FitsStep (SetLoop sample looped) = (sample < 2 ^ 32) × FitsLoop looped
+FitsStep (SetKind sample kind) = (sample < 2 ^ 32) × FitsKind kind
+FitsStep (SetTune sample rate key correction) = (sample < 2 ^ 32) × (rate < 2 ^ 32) × (key < 2 ^ 8) × FitsSigned w8 correction
 FitsStep (AddZone o at zone) = FitsNumberOf o × (at < 2 ^ 32) × FitsZone zone
 FitsStep (RemoveZone o zone) = FitsNumberOf o × (zone < 2 ^ 32)
 FitsStep (MoveZone o from to) = FitsNumberOf o × (from < 2 ^ 32) × (to < 2 ^ 32)
@@ -74,6 +82,11 @@ raw b (RenameSample sample name) = sample_renamed b sample name
 raw b (AddSample at sample) = sample_added b at sample
 raw b (RemoveSample sample) = sample_removed b sample
 raw b (MoveSample from to) = sample_moved b from to
+raw b (Trim sample front back) = sample_trimmed b sample front back
+raw b (Extend sample front back) = sample_extended b sample front back
+raw b (SetLoop sample looped) = loop_set b sample looped
+raw b (SetKind sample kind) = kind_set b sample kind
+raw b (SetTune sample rate key correction) = tune_set b sample rate key correction
 raw b (AddZone o at zone) = zone_added b o at zone
 raw b (RemoveZone o zone) = zone_removed b o zone
 raw b (MoveZone o from to) = zone_moved b o from to
@@ -111,6 +124,11 @@ causes b (RenameSample sample name) = no_such_sample b sample ∷ []
 causes b (AddSample at sample) = no_such_link b sample.kind ∷ bad_place (length b.samples) at ∷ bad_loop sample ∷ []
 causes b (RemoveSample sample) = no_such_sample b sample ∷ used_sample b sample ∷ []
 causes b (MoveSample from to) = no_such_sample b from ∷ no_such_place (length b.samples) to ∷ []
+causes b (Trim sample front back) = no_such_sample b sample ∷ too_short b sample front back ∷ loop_cut b sample front back ∷ []
+causes b (Extend sample front back) = no_such_sample b sample ∷ []
+causes b (SetLoop sample looped) = no_such_sample b sample ∷ bad_loop_of b sample looped ∷ []
+causes b (SetKind sample kind) = no_such_sample b sample ∷ no_such_link_among b kind ∷ []
+causes b (SetTune sample rate key correction) = no_such_sample b sample ∷ []
 causes b (AddZone o at zone) =
     no_such_owner b o
     ∷ no_such_target_of b o zone.target

@@ -43,6 +43,12 @@ pub enum Cause {
     /// The zone holds a modulator that is linked to others by their numbers, or the new one is such.
     #[error("modulators are linked there")]
     LinkedModulator,
+    /// A trim takes off more points than the sample has.
+    #[error("the sample is too short")]
+    TooShort,
+    /// A trim takes off points of the loop, or its start.
+    #[error("the cut is in the loop")]
+    LoopCut,
     #[error("the loop is empty or not in the sample")]
     BadLoop,
     #[error("the text is too long, has a zero byte, or is empty and must not be")]
@@ -71,6 +77,8 @@ impl Cause {
             Cause::SplitOutside => 30,
             Cause::NotJoinable => 31,
             Cause::LinkedModulator => 32,
+            Cause::TooShort => 33,
+            Cause::LoopCut => 34,
             Cause::BadLoop => 35,
             Cause::BadText => 36,
             Cause::Full(_) => 37,
@@ -95,6 +103,8 @@ impl Cause {
             Cause::SplitOutside => "SplitOutside",
             Cause::NotJoinable => "NotJoinable",
             Cause::LinkedModulator => "LinkedModulator",
+            Cause::TooShort => "TooShort",
+            Cause::LoopCut => "LoopCut",
             Cause::BadLoop => "BadLoop",
             Cause::BadText => "BadText",
             Cause::Full(_) => "Full",

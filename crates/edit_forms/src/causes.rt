@@ -252,6 +252,41 @@ pub(crate) fn no_such_link(bank: &Bank<'_>, kind: Kind) -> Result<(), Cause>
     )
 }
 
+/// A sample that is there may link to itself and to the others.
+pub(crate) fn no_such_link_among(bank: &Bank<'_>, kind: Kind) -> Result<(), Cause>
+    ensures { Passes (causes.no_such_link_among bank.now kind) result }
+{
+    judge(link_misses(bank.samples().len(), kind), Cause::NoSuchSample)
+}
+
+/// The loop that the sample would get.
+pub(crate) fn bad_loop_of(
+    bank: &Bank<'_>,
+    sample: u32,
+    looped: Option<(u32, u32)>,
+) -> Result<(), Cause>
+    ensures { Passes (causes.bad_loop_of bank.now sample looped) result }
+{
+    judge(
+        loop_misses(bank.point_count(sample), looped),
+        Cause::BadLoop,
+    )
+}
+
+pub(crate) fn too_short(bank: &Bank<'_>, sample: u32, front: u32, back: u32) -> Result<(), Cause>
+    ensures { Passes (causes.too_short bank.now sample front back) result }
+{
+    let off = front as usize + back as usize;
+    judge(bank.point_count(sample) < off, Cause::TooShort)
+}
+
+pub(crate) fn loop_cut(bank: &Bank<'_>, sample: u32, front: u32, back: u32) -> Result<(), Cause>
+    ensures { Passes (causes.loop_cut bank.now sample front back) result }
+{
+    let stands = cuts_loop(bank.point_count(sample), front, back, bank.loop_of(sample));
+    judge(stands, Cause::LoopCut)
+}
+
 pub(crate) fn bad_loop(sample: &Sample<'_>) -> Result<(), Cause>
     ensures { Passes (causes.bad_loop sample.now) result }
 {
@@ -319,6 +354,15 @@ fn loop_misses(count: usize, looped: Option<(u32, u32)>) -> bool
 {
     match looped {
         Some((start, end)) => end <= start || count < end as usize,
+        None => false,
+    }
+}
+
+fn cuts_loop(count: usize, front: u32, back: u32, looped: Option<(u32, u32)>) -> bool
+    ensures { result ≡ causes.cuts_loop count front back looped }
+{
+    match looped {
+        Some((start, end)) => start < front || count < end as usize + back as usize,
         None => false,
     }
 }

@@ -6,6 +6,7 @@ ghost use Rattle.edit_forms.specs.Edits.{FitsEdit};
 use bank_core::{Owner, Place};
 use bank_parts::{InfoId, Instrument, Kind, Preset, Sample, Zone, modulator_fits};
 use modulators::Modulator;
+use sample_view::Points;
 use sf_base::{Lent, Name20};
 use zone_ranges::{Axis, Keep};
 
@@ -78,6 +79,39 @@ pub enum Step<'a> {
     MoveSample {
         from: u32,
         to: u32,
+    },
+    /// `trim S F B`: the sample's first `front` points and its last `back` are taken off. Its loop stays
+    /// on its points.
+    Trim {
+        sample: u32,
+        front: u32,
+        back: u32,
+    },
+    /// `extend S POINTS POINTS`: points are put before the sample's own and after them. Its loop stays on
+    /// its points.
+    Extend {
+        sample: u32,
+        front: Points<'a>,
+        back: Points<'a>,
+    },
+    /// `set-loop S LOOP`: the sample has the loop (its first point, and the first point after it, counted
+    /// from the sample's start), or none.
+    SetLoop {
+        sample: u32,
+        looped: Option<(u32, u32)>,
+    },
+    /// `set-kind S KIND`: the sample has the kind.
+    SetKind {
+        sample: u32,
+        kind: Kind,
+    },
+    /// `set-tune S RATE KEY CORR`: the sample has the rate in frames a second, the key at which it sounds
+    /// as recorded (above 127 for none) and the correction in cents.
+    SetTune {
+        sample: u32,
+        rate: u32,
+        key: u8,
+        correction: i8,
     },
 
     // ---- zones
@@ -203,6 +237,43 @@ impl<'a> Step<'a> {
             Step::AddSample { at, sample } => {
                 let _at = *at;
                 sample_fits(sample);
+            }
+            Step::Trim {
+                sample,
+                front,
+                back,
+            } => {
+                let _sample = *sample;
+                let _front = *front;
+                let _back = *back;
+            }
+            Step::Extend {
+                sample,
+                front,
+                back,
+            } => {
+                let _sample = *sample;
+                let _front = front.len();
+                let _back = back.len();
+            }
+            Step::SetLoop { sample, looped } => {
+                let _sample = *sample;
+                loop_fits(*looped);
+            }
+            Step::SetKind { sample, kind } => {
+                let _sample = *sample;
+                kind_fits(*kind);
+            }
+            Step::SetTune {
+                sample,
+                rate,
+                key,
+                correction,
+            } => {
+                let _sample = *sample;
+                let _rate = *rate;
+                let _key = *key;
+                let _correction = *correction;
             }
             Step::RemovePreset { preset: number }
             | Step::RemoveInstrument { instrument: number }

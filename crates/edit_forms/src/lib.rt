@@ -7,6 +7,7 @@ mod causes;
 mod edit;
 mod instruments;
 mod modulator_forms;
+mod points;
 mod presets;
 mod refusing;
 mod samples;

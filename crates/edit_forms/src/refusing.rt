@@ -11,6 +11,9 @@ use crate::instruments::{
     refuse_rename_instrument,
 };
 use crate::modulator_forms::{refuse_add_mod, refuse_remove_mod, refuse_set_mod};
+use crate::points::{
+    refuse_extend, refuse_set_kind, refuse_set_loop, refuse_set_tune, refuse_trim,
+};
 use crate::presets::{
     refuse_add_preset, refuse_move_preset, refuse_remove_preset, refuse_set_head,
 };
@@ -61,6 +64,24 @@ fn refuse_step(bank: &Bank<'_>, step: &Step<'_>) -> Result<(), Cause>
         Step::AddSample { at, sample } => refuse_add_sample(bank, *at, sample),
         Step::RemoveSample { sample } => refuse_remove_sample(bank, *sample),
         Step::MoveSample { from, to } => refuse_move_sample(bank, *from, *to),
+        Step::Trim {
+            sample,
+            front,
+            back,
+        } => refuse_trim(bank, *sample, *front, *back),
+        Step::Extend {
+            sample,
+            front,
+            back,
+        } => refuse_extend(bank, *sample, front, back),
+        Step::SetLoop { sample, looped } => refuse_set_loop(bank, *sample, *looped),
+        Step::SetKind { sample, kind } => refuse_set_kind(bank, *sample, *kind),
+        Step::SetTune {
+            sample,
+            rate,
+            key,
+            correction,
+        } => refuse_set_tune(bank, *sample, *rate, *key, *correction),
         Step::AddZone { owner, at, zone } => refuse_add_zone(bank, *owner, *at, zone),
         Step::RemoveZone { owner, zone } => refuse_remove_zone(bank, *owner, *zone),
         Step::MoveZone { owner, from, to } => refuse_move_zone(bank, *owner, *from, *to),
