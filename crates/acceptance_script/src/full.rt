@@ -259,8 +259,14 @@ fn the_most_points(rt: HostRuntime) -> Result<(), Fail> {
     for script in [
         b"add-sample 0 \"n\" 0 0 0 mono noloop x".as_slice(),
         b"add-sample 10000 \"n\" 0 0 0 mono noloop x0000",
+        b"extend 0 x0000 x",
+        b"extend 9999 x x0000",
     ] {
         assert!(rt; stops(alloc, &file, script, full));
     }
+    // A point that was cut comes back, and one more does not.
+    let script = b"trim 0 1 0\nextend 0 x0000 x\nextend 0 x x\nextend 0 x0000 x";
+    let full = b": line 4: refused 37 Full points\n";
+    assert!(rt; stops(alloc, &file, script, full));
     Ok(())
 }

@@ -9,6 +9,8 @@ mod members;
 #[cfg(test)]
 mod owners;
 #[cfg(test)]
+mod points;
+#[cfg(test)]
 mod samples;
 #[cfg(test)]
 mod scripts;

@@ -12,7 +12,7 @@ use Rattle.bank_parts.specs.Fits.{FitsGlobal, FitsZone, FitsHead, FitsOwner}
 use Rattle.script_grammar.specs.Operands.{Operand}
 use Rattle.script_grammar.specs.Zones.{written_operands}
 use Rattle.edit_forms.specs.declared.edit.Step.{Step}
-use Rattle.edit_forms.specs.declared.edit.Step.TheVariants.{AddPreset, RemovePreset, MovePreset, SetHead, AddInstrument, RemoveInstrument, RenameInstrument, MoveInstrument, RenameSample, AddSample, RemoveSample, MoveSample, AddZone, RemoveZone, MoveZone, SplitZone, JoinZone, SetTarget, SetGen, ClearGen, AddMod, RemoveMod, SetMod, SetInfo}
+use Rattle.edit_forms.specs.declared.edit.Step.TheVariants.{AddPreset, RemovePreset, MovePreset, SetHead, AddInstrument, RemoveInstrument, RenameInstrument, MoveInstrument, RenameSample, AddSample, RemoveSample, MoveSample, Trim, Extend, SetLoop, SetKind, SetTune, AddZone, RemoveZone, MoveZone, SplitZone, JoinZone, SetTarget, SetGen, ClearGen, AddMod, RemoveMod, SetMod, SetInfo}
 use Rattle.edit_forms.specs.declared.edit.Edit.{Edit}
 use Rattle.edit_forms.specs.declared.edit.Edit.TheVariants.{One}
 use Rattle.bank_changes.specs.declared.members.Owner.{Owner}
@@ -30,7 +30,7 @@ use Rattle.edit_script.specs.Members.{place, named_operands, moved_operands, Say
 use Rattle.edit_script.specs.Presets.{head_operands}
 use Rattle.edit_script.specs.Instruments.{name_operands}
 use Rattle.edit_script.specs.Owners.{number_in, at_place}
-use Rattle.script_grammar.proofs.FitLaws.{Ranged, AllRanged, all_ranged, behind, sample_fits}
+use Rattle.script_grammar.proofs.FitLaws.{Ranged, AllRanged, all_ranged, behind, kind_fits, loop_fits, tune_fits, sample_fits}
 use Rattle.script_grammar.proofs.ZoneFitLaws.{generator_fits, modulator_fits, zone_fits, zones_ranged}
 use Rattle.edit_script.specs.Grammar.{SaysStep}
 use Rattle.edit_script.specs.Script.{script_of}
@@ -104,6 +104,14 @@ step_fits (RenameSample sample name) os s h = named_fit sample name (subst AllRa
 step_fits (AddSample at sample) os s h = let k = subst AllRanged s h in (let l = k.0 in omega (arith, l), sample_fits sample k.1)
 step_fits (RemoveSample sample) os s h = place_fits sample (subst AllRanged s h)
 step_fits (MoveSample from to) os s h = both_fit from to (subst AllRanged s h)
+step_fits (Trim sample front back) os s h = let k = subst AllRanged s h in (number_ranged sample k.0, number_ranged front k.1.0, number_ranged back k.1.1.0)
+step_fits (Extend sample front back) os s h = let k = subst AllRanged s h in (number_ranged sample k.0, k.1.0, k.1.1.0)
+step_fits (SetLoop sample looped) os s h = let k = subst AllRanged s h in (number_ranged sample k.0, loop_fits looped k.1)
+step_fits (SetKind sample kind) os s h = let k = subst AllRanged s h in (number_ranged sample k.0, kind_fits kind k.1)
+step_fits (SetTune sample rate key correction) os s h =
+    let k = subst AllRanged s h in
+    let t = tune_fits rate key correction k.1 in
+    (number_ranged sample k.0, t.0, t.1, t.2)
 step_fits (AddZone o at zone) os s h =
     let k = subst AllRanged s.operands h in
     (owner_ranged o k.1.0, number_ranged at k.1.1.0, subst FitsZone s.stands (zone_fits s.written k.1.1.1))

@@ -7,7 +7,7 @@ use Rattle.bank_changes.specs.declared.members.Owner.{Owner}
 use Rattle.bank_changes.specs.declared.members.Place.{Place}
 use Rattle.bank_changes.specs.declared.members.Place.TheVariants as there
 use Rattle.edit_forms.specs.declared.edit.Step.{Step}
-use Rattle.edit_forms.specs.declared.edit.Step.TheVariants.{AddPreset, RemovePreset, MovePreset, SetHead, AddInstrument, RemoveInstrument, RenameInstrument, MoveInstrument, RenameSample, AddSample, RemoveSample, MoveSample, AddZone, RemoveZone, MoveZone, SplitZone, JoinZone, SetTarget, SetGen, ClearGen, AddMod, RemoveMod, SetMod, SetInfo}
+use Rattle.edit_forms.specs.declared.edit.Step.TheVariants.{AddPreset, RemovePreset, MovePreset, SetHead, AddInstrument, RemoveInstrument, RenameInstrument, MoveInstrument, RenameSample, AddSample, RemoveSample, MoveSample, Trim, Extend, SetLoop, SetKind, SetTune, AddZone, RemoveZone, MoveZone, SplitZone, JoinZone, SetTarget, SetGen, ClearGen, AddMod, RemoveMod, SetMod, SetInfo}
 use Rattle.line_tokens.specs.declared.cursor.Said.{Said}
 use Rattle.line_tokens.specs.Parts.{Part, Took, ◌>>=◌, pure, is_next, word, literal, number, name}
 use Rattle.line_tokens.proofs.ReadLaws.{AllHoldBytes, both}
@@ -16,11 +16,11 @@ use Rattle.edit_script.specs.declared.forms.Form.TheVariants as form
 use Rattle.script_grammar.specs.Operands.{Operand, Fixed, Number, Name, Text}
 use Rattle.script_grammar.specs.Names.{next_named}
 use Rattle.script_grammar.specs.Ranges.{axis_word, axes, keep_word, keeps}
-use Rattle.script_grammar.specs.Samples.{body_operands, body}
+use Rattle.script_grammar.specs.Samples.{body_operands, kind, looped, points, tune, body}
 use Rattle.script_grammar.specs.Texts.{id_word, info_id}
 use Rattle.script_grammar.specs.Items.{generator, modulator}
 use Rattle.script_grammar.specs.Zones.{Written, WrittenZone, zone_operands, written_operands, zone_in, zones_in, zone, zones}
-use Rattle.script_grammar.proofs.ReadLaws.{Fronts, then, made, word_front, number_front, name_front, next_named_front, text_front, body_front, id_front}
+use Rattle.script_grammar.proofs.ReadLaws.{Fronts, then, made, word_front, number_front, name_front, next_named_front, text_front, points_front, kind_front, loop_front, tune_front, body_front, id_front}
 use Rattle.script_grammar.proofs.ZoneReadLaws.{next_is, generator_front, modulator_front, zone_front, zones_front}
 use Rattle.edit_script.specs.Members.{place, named_operands, moved_operands, owner_of, SaysOwner, placed, naming, moving, zones_of, owner}
 use Rattle.edit_script.specs.declared.owners.OwnerKind.{OwnerKind}
@@ -31,6 +31,7 @@ use Rattle.edit_script.specs.Settings.{set_gen, clear_gen, add_mod, remove_mod, 
 use Rattle.edit_script.specs.Presets.{head_operands, head, head_of, placed_head, added_preset, set_head}
 use Rattle.edit_script.specs.Instruments.{name_operands, added_instrument}
 use Rattle.edit_script.specs.Samples.{added_sample}
+use Rattle.edit_script.specs.Points.{trim, extend, set_loop, set_kind, set_tune}
 use Rattle.edit_script.specs.Texts.{id_and_text}
 use Rattle.edit_script.specs.Grammar.{form_word, forms, form_of, SaysStep, operands_read, a_form, step}
 
@@ -227,7 +228,7 @@ form_of_three f p q r o u v make h k l e =
 
 -- what stands behind the word of a form says a step of that form
 operands_said : (f : Form) → IsSaid Step (operands_read f) (StepOf f)
-unfolding set_head add_zone remove_zone move_zone split_zone join_zone set_target set_gen clear_gen add_mod remove_mod set_mod
+unfolding set_head trim extend set_loop set_kind set_tune add_zone remove_zone move_zone split_zone join_zone set_target set_gen clear_gen add_mod remove_mod set_mod
 operands_said form.AddPreset = form_said form.AddPreset added_preset _ (λ a. AddPreset a.0 a.1) added_preset_said (λ a os h. (h, refl))
 operands_said form.RemovePreset = form_said form.RemovePreset (number 4294967295) _ (λ p. RemovePreset p) (plain (number_front 4294967295)) (λ p os h. (h, refl))
 operands_said form.MovePreset = form_said form.MovePreset moving _ (λ m. MovePreset m.0 m.1) (plain moving_said) (λ m os h. (h, refl))
@@ -240,6 +241,11 @@ operands_said form.RenameSample = form_said form.RenameSample naming _ (λ n. Re
 operands_said form.AddSample = form_said form.AddSample added_sample _ (λ a. AddSample a.0 a.1) (plain added_sample_said) (λ a os h. (h, refl))
 operands_said form.RemoveSample = form_said form.RemoveSample (number 4294967295) _ (λ s. RemoveSample s) (plain (number_front 4294967295)) (λ s os h. (h, refl))
 operands_said form.MoveSample = form_said form.MoveSample moving _ (λ m. MoveSample m.0 m.1) (plain moving_said) (λ m os h. (h, refl))
+operands_said form.Trim = form_of_three form.Trim (number 4294967295) (number 4294967295) (number 4294967295) _ _ _ (λ s front back. Trim s front back) (number_front 4294967295) (number_front 4294967295) (number_front 4294967295) (λ s front back. (refl, refl))
+operands_said form.Extend = form_of_three form.Extend (number 4294967295) points points _ _ _ (λ s front back. Extend s front back) (number_front 4294967295) points_front points_front (λ s front back. (refl, refl))
+operands_said form.SetLoop = form_of_two form.SetLoop (number 4294967295) looped _ _ (λ s l. SetLoop s l) (number_front 4294967295) (plain loop_front) (λ s l os e. (ap (λ (os : List Operand). place s ∷ os) e, refl))
+operands_said form.SetKind = form_of_two form.SetKind (number 4294967295) kind _ _ (λ s k. SetKind s k) (number_front 4294967295) (plain kind_front) (λ s k os e. (ap (λ (os : List Operand). place s ∷ os) e, refl))
+operands_said form.SetTune = form_of_two form.SetTune (number 4294967295) tune _ _ (λ s t. SetTune s t.0 t.1 t.2) (number_front 4294967295) (plain tune_front) (λ s t os e. (ap (λ (os : List Operand). place s ∷ os) e, refl))
 operands_said form.AddZone = form_of_two form.AddZone owner_zone zone _ _ (λ z content. AddZone z.0 z.1 content) owner_zone_said zone_said (λ z content os s. (record { written = s.0; operands = ap (λ (os : List Operand). of_zone z.0 z.1 ++ os) s.1; stands = s.2 }, refl))
 operands_said form.RemoveZone = form_said form.RemoveZone owner_zone _ (λ z. RemoveZone z.0 z.1) (plain owner_zone_said) (λ z os h. (h, refl))
 operands_said form.MoveZone = form_of_two form.MoveZone owner_zone (number 4294967295) _ _ (λ z to. MoveZone z.0 z.1 to) owner_zone_said (plain (number_front 4294967295)) (λ z to os s. (ap (λ (os : List Operand). of_zone z.0 z.1 ++ os) s, refl))

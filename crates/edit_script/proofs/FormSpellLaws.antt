@@ -11,18 +11,18 @@ use Rattle.bank_changes.specs.declared.members.Owner.TheVariants as owner
 use Rattle.bank_changes.specs.declared.members.Place.{Place}
 use Rattle.bank_changes.specs.declared.members.Place.TheVariants as there
 use Rattle.edit_forms.specs.declared.edit.Step.{Step}
-use Rattle.edit_forms.specs.declared.edit.Step.TheVariants.{AddPreset, RemovePreset, MovePreset, SetHead, AddInstrument, RemoveInstrument, RenameInstrument, MoveInstrument, RenameSample, AddSample, RemoveSample, MoveSample, AddZone, RemoveZone, MoveZone, SplitZone, JoinZone, SetTarget, SetGen, ClearGen, AddMod, RemoveMod, SetMod, SetInfo}
+use Rattle.edit_forms.specs.declared.edit.Step.TheVariants.{AddPreset, RemovePreset, MovePreset, SetHead, AddInstrument, RemoveInstrument, RenameInstrument, MoveInstrument, RenameSample, AddSample, RemoveSample, MoveSample, Trim, Extend, SetLoop, SetKind, SetTune, AddZone, RemoveZone, MoveZone, SplitZone, JoinZone, SetTarget, SetGen, ClearGen, AddMod, RemoveMod, SetMod, SetInfo}
 use Rattle.line_tokens.specs.declared.cursor.Said.{Said}
 use Rattle.line_tokens.specs.Parts.{Part, ◌>>=◌, pure, is_next, word, number, name}
 use Rattle.edit_script.specs.declared.forms.Form.{Form}
-use Rattle.script_grammar.specs.Operands.{Operand, Fixed, Number, Name, Text, AllSay}
+use Rattle.script_grammar.specs.Operands.{Operand, Fixed, Number, Name, Text, Points, AllSay}
 use Rattle.script_grammar.specs.Ranges.{axis_word, axes, keep_word, keeps}
-use Rattle.script_grammar.specs.Samples.{body_operands, body}
+use Rattle.script_grammar.specs.Samples.{kind_operands, loop_operands, tune_operands, body_operands, body}
 use Rattle.script_grammar.specs.Texts.{id_word}
 use Rattle.script_grammar.specs.Items.{generator_operands, modulator_operands}
 use Rattle.script_grammar.specs.Zones.{WrittenZone, zone_operands, written_operands, zone_in, zone, zones}
 use Rattle.script_grammar.proofs.NameLaws.{axis_named, keep_named}
-use Rattle.script_grammar.proofs.SpellLaws.{Gives, then, gives_pure, gives_word, gives_named, gives_number, gives_name, gives_text, gives_body, gives_id}
+use Rattle.script_grammar.proofs.SpellLaws.{Gives, then, gives_pure, gives_word, gives_named, gives_number, gives_name, gives_text, gives_points, gives_kind, gives_loop, gives_tune, gives_body, gives_id}
 use Rattle.script_grammar.proofs.ZoneSpellLaws.{gives_generator, gives_modulator, next_word, gives_zone, not_global, as_other, gives_zones}
 use Rattle.edit_script.specs.Members.{place, named_operands, moved_operands, SaysOwner, placed, naming, moving, zones_of, owner}
 use Rattle.edit_script.specs.declared.owners.OwnerKind.TheVariants as kind
@@ -32,6 +32,7 @@ use Rattle.edit_script.specs.Settings.{set_gen, clear_gen, add_mod, remove_mod, 
 use Rattle.edit_script.specs.Presets.{head_operands, head, placed_head, added_preset, set_head}
 use Rattle.edit_script.specs.Instruments.{name_operands, added_instrument}
 use Rattle.edit_script.specs.Samples.{added_sample}
+use Rattle.edit_script.specs.Points.{trim, extend, set_loop, set_kind, set_tune}
 use Rattle.edit_script.specs.Texts.{id_and_text}
 use Rattle.edit_script.specs.Grammar.{form_word, forms, form_of, SaysStep, operands_read, a_form, step}
 use Rattle.edit_script.specs.Spelling.{SaysForm}
@@ -144,8 +145,11 @@ module _ {X Y : Type 0} {p : Part X} {q : Part Y} {x : X} {y : Y} (o os : List O
       → ((line : List Said) → AllSay line os → Gives r z line []) → (line : List Said) → AllSay line (o ++ m ∷ os) → Gives (p >>= λ x. q >>= λ y. r >>= λ z. pure (make x y z)) (make x y z) line []
   gives_three make m g k l line h = then _ (g (m ∷ os) line h) (λ rest h. then _ (k rest h) (λ rest h. then _ (l rest h) (λ rest h. gives_pure (make x y _) rest [] h)))
 
+gives_a_number : (s : ℕ) (more : List Operand) (line : List Said) → AllSay line (place s ∷ more) → Gives (number 4294967295) s line more
+gives_a_number s more line h = gives_number 4294967295 s line more h
+
 gives_operands : (s : Step) (os : List Operand) → SaysStep s os → (line : List Said) → AllSay line os → Gives (operands_read (form_of s)) s line []
-unfolding added_sample set_head add_zone remove_zone move_zone split_zone join_zone set_target set_gen clear_gen add_mod remove_mod set_mod
+unfolding added_sample set_head trim extend set_loop set_kind set_tune add_zone remove_zone move_zone split_zone join_zone set_target set_gen clear_gen add_mod remove_mod set_mod
 gives_operands (AddPreset at p) os h line k = gives_made (λ a. AddPreset a.0 a.1) line (gives_added_preset at p os h line k)
 gives_operands (RemovePreset p) os h line k = gives_made (λ p. RemovePreset p) line (gives_number 4294967295 p line [] (subst (AllSay line) h k))
 gives_operands (MovePreset i j) os h line k = gives_made (λ m. MovePreset m.0 m.1) line (gives_moving i j line (subst (AllSay line) h k))
@@ -158,6 +162,11 @@ gives_operands (RenameSample s n) os h line k = gives_made (λ n. RenameSample n
 gives_operands (AddSample at s) os h line k = gives_made (λ a. AddSample a.0 a.1) line (gives_placed body at s (body_operands s) [] (gives_body s) line (subst (AllSay line) h k))
 gives_operands (RemoveSample s) os h line k = gives_made (λ s. RemoveSample s) line (gives_number 4294967295 s line [] (subst (AllSay line) h k))
 gives_operands (MoveSample i j) os h line k = gives_made (λ m. MoveSample m.0 m.1) line (gives_moving i j line (subst (AllSay line) h k))
+gives_operands (Trim s front back) os h line k = gives_three (place s ∷ []) (place back ∷ []) (λ s front back. Trim s front back) (place front) (gives_a_number s) (λ line k. gives_number 4294967295 front line (place back ∷ []) k) (λ line k. gives_number 4294967295 back line [] k) line (subst (AllSay line) h k)
+gives_operands (Extend s front back) os h line k = gives_three (place s ∷ []) (Points back ∷ []) (λ s front back. Extend s front back) (Points front) (gives_a_number s) (λ line k. gives_points front line (Points back ∷ []) k) (λ line k. gives_points back line [] k) line (subst (AllSay line) h k)
+gives_operands (SetLoop s l) os h line k = gives_two (place s ∷ []) (loop_operands l) (λ s l. SetLoop s l) (gives_a_number s) (λ line k. gives_loop l line [] (subst (AllSay line) (sym (append-nil (loop_operands l))) k)) line (subst (AllSay line) h k)
+gives_operands (SetKind s kind) os h line k = gives_two (place s ∷ []) (kind_operands kind) (λ s k. SetKind s k) (gives_a_number s) (λ line k. gives_kind kind line [] (subst (AllSay line) (sym (append-nil (kind_operands kind))) k)) line (subst (AllSay line) h k)
+gives_operands (SetTune s rate key correction) os h line k = gives_two (place s ∷ []) (tune_operands rate key correction) (λ s t. SetTune s t.0 t.1 t.2) (gives_a_number s) (λ line k. gives_tune rate key correction line [] k) line (subst (AllSay line) h k)
 gives_operands (AddZone o at z) os h line k = gives_two (of_zone o at) (zone_operands h.written) (λ z content. AddZone z.0 z.1 content) (gives_owner_zone o at) (gives_written h.written z h.stands) line (subst (AllSay line) h.operands k)
 gives_operands (RemoveZone o z) os h line k = gives_made (λ z. RemoveZone z.0 z.1) line (gives_owner_zone o z [] line (subst (AllSay line) h k))
 gives_operands (MoveZone o i j) os h line k = gives_two (of_zone o i) (place j ∷ []) (λ z to. MoveZone z.0 z.1 to) (gives_owner_zone o i) (λ line k. gives_number 4294967295 j line [] k) line (subst (AllSay line) h k)

@@ -5,7 +5,7 @@ use Rattle.bank_parts.specs.declared.parts.Head.{Head}
 use Rattle.bank_parts.specs.declared.parts.WithZones.{WithZones}
 use Rattle.bank_parts.specs.Fits.{FitsHead, FitsOwner}
 use Rattle.edit_forms.specs.declared.edit.Step.{Step}
-use Rattle.edit_forms.specs.declared.edit.Step.TheVariants.{AddPreset, RemovePreset, MovePreset, SetHead, AddInstrument, RemoveInstrument, RenameInstrument, MoveInstrument, RenameSample, AddSample, RemoveSample, MoveSample, AddZone, RemoveZone, MoveZone, SplitZone, JoinZone, SetTarget, SetGen, ClearGen, AddMod, RemoveMod, SetMod, SetInfo}
+use Rattle.edit_forms.specs.declared.edit.Step.TheVariants.{AddPreset, RemovePreset, MovePreset, SetHead, AddInstrument, RemoveInstrument, RenameInstrument, MoveInstrument, RenameSample, AddSample, RemoveSample, MoveSample, Trim, Extend, SetLoop, SetKind, SetTune, AddZone, RemoveZone, MoveZone, SplitZone, JoinZone, SetTarget, SetGen, ClearGen, AddMod, RemoveMod, SetMod, SetInfo}
 use Rattle.edit_forms.specs.declared.edit.Edit.{Edit}
 use Rattle.edit_forms.specs.declared.edit.Edit.TheVariants.{One}
 use Rattle.edit_forms.specs.Steps.{FitsNumberOf, FitsPlace, FitsStep}
@@ -35,7 +35,7 @@ use Rattle.edit_script.specs.Printing.{text_of, texts_of, numbered, AllFit}
 use Rattle.edit_script.specs.Spelling.{LinesSay, Spells}
 use Rattle.script_grammar.proofs.OperandLaws as operand
 use Rattle.script_grammar.proofs.OperandLaws.{IsFixed, all_spoken, all_say, both_fit}
-use Rattle.script_grammar.proofs.FitLaws.{word32, word16, body_fit, id_fixed, axis_fixed, keep_fixed}
+use Rattle.script_grammar.proofs.FitLaws.{word32, word16, kind_fit, loop_fit, tune_fit, body_fit, id_fixed, axis_fixed, keep_fixed}
 use Rattle.script_grammar.proofs.ZoneFitLaws.{zone_stands, zones_stand, zones_fit, generator_said, modulator_said, zone_said}
 use Rattle.edit_script.proofs.SpellLaws.{spelled_read}
 
@@ -54,6 +54,11 @@ form_fixed form.RenameSample = (refl, refl)
 form_fixed form.AddSample = (refl, refl)
 form_fixed form.RemoveSample = (refl, refl)
 form_fixed form.MoveSample = (refl, refl)
+form_fixed form.Trim = (refl, refl)
+form_fixed form.Extend = (refl, refl)
+form_fixed form.SetLoop = (refl, refl)
+form_fixed form.SetKind = (refl, refl)
+form_fixed form.SetTune = (refl, refl)
 form_fixed form.AddZone = (refl, refl)
 form_fixed form.RemoveZone = (refl, refl)
 form_fixed form.MoveZone = (refl, refl)
@@ -111,6 +116,11 @@ operands_fit (RenameSample sample name) h = (word32 sample h.0, (h.1, tt))
 operands_fit (AddSample at s) h = (word32 at h.0, body_fit s h.1)
 operands_fit (RemoveSample sample) h = (word32 sample h, tt)
 operands_fit (MoveSample from to) h = (word32 from h.0, (word32 to h.1, tt))
+operands_fit (Trim sample front back) h = (word32 sample h.0, (word32 front h.1, (word32 back h.2, tt)))
+operands_fit (Extend sample front back) h = (word32 sample h.0, (h.1, (h.2, tt)))
+operands_fit (SetLoop sample looped) h = (word32 sample h.0, loop_fit looped h.1)
+operands_fit (SetKind sample kind) h = (word32 sample h.0, kind_fit kind h.1)
+operands_fit (SetTune sample rate key correction) h = (word32 sample h.0, tune_fit rate key correction h.1 h.2 h.3)
 operands_fit (AddZone o at zone) h = zone_fit o at (zone_operands (written_zone zone)) h.0 h.1 (zone_said zone h.2)
 operands_fit (RemoveZone o zone) h = zone_fit o zone [] h.0 h.1 tt
 operands_fit (MoveZone o from to) h = zone_fit o from (place to ∷ []) h.0 h.1 (word32 to h.2, tt)
@@ -141,6 +151,11 @@ step_printed (RenameSample sample name) = refl
 step_printed (AddSample at s) = refl
 step_printed (RemoveSample sample) = refl
 step_printed (MoveSample from to) = refl
+step_printed (Trim sample front back) = refl
+step_printed (Extend sample front back) = refl
+step_printed (SetLoop sample looped) = refl
+step_printed (SetKind sample kind) = refl
+step_printed (SetTune sample rate key correction) = refl
 step_printed (AddZone o at zone) = record { written = written_zone zone; operands = refl; stands = zone_stands zone }
 step_printed (RemoveZone o zone) = refl
 step_printed (MoveZone o from to) = refl

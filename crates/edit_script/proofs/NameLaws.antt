@@ -1,7 +1,7 @@
 -- Each form, and each kind of owner, has a word of its own.
 use Rattle.std.proofs.Common.{◌≡◌, Some, refl}
 use Rattle.edit_script.specs.declared.forms.Form.{Form}
-use Rattle.edit_script.specs.declared.forms.Form.TheVariants.{AddPreset, RemovePreset, MovePreset, SetHead, AddInstrument, RemoveInstrument, RenameInstrument, MoveInstrument, RenameSample, AddSample, RemoveSample, MoveSample, AddZone, RemoveZone, MoveZone, SplitZone, JoinZone, SetTarget, SetGen, ClearGen, AddMod, RemoveMod, SetMod, SetInfo}
+use Rattle.edit_script.specs.declared.forms.Form.TheVariants.{AddPreset, RemovePreset, MovePreset, SetHead, AddInstrument, RemoveInstrument, RenameInstrument, MoveInstrument, RenameSample, AddSample, RemoveSample, MoveSample, Trim, Extend, SetLoop, SetKind, SetTune, AddZone, RemoveZone, MoveZone, SplitZone, JoinZone, SetTarget, SetGen, ClearGen, AddMod, RemoveMod, SetMod, SetInfo}
 use Rattle.edit_script.specs.declared.owners.OwnerKind.{OwnerKind}
 use Rattle.edit_script.specs.declared.owners.OwnerKind.TheVariants as kind
 use Rattle.edit_script.specs.Grammar.{form_word, forms}
@@ -21,6 +21,11 @@ form_named RenameSample = refl
 form_named AddSample = refl
 form_named RemoveSample = refl
 form_named MoveSample = refl
+form_named Trim = refl
+form_named Extend = refl
+form_named SetLoop = refl
+form_named SetKind = refl
+form_named SetTune = refl
 form_named AddZone = refl
 form_named RemoveZone = refl
 form_named MoveZone = refl

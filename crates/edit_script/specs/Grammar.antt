@@ -2,7 +2,7 @@
 -- from left to right, up to the first fault.
 use Rattle.std.specs.Prelude.{◌≡◌, ℕ, List, [], ◌∷◌, codes}
 use Rattle.edit_forms.specs.declared.edit.Step.{Step}
-use Rattle.edit_forms.specs.declared.edit.Step.TheVariants.{AddPreset, RemovePreset, MovePreset, SetHead, AddInstrument, RemoveInstrument, RenameInstrument, MoveInstrument, RenameSample, AddSample, RemoveSample, MoveSample, AddZone, RemoveZone, MoveZone, SplitZone, JoinZone, SetTarget, SetGen, ClearGen, AddMod, RemoveMod, SetMod, SetInfo}
+use Rattle.edit_forms.specs.declared.edit.Step.TheVariants.{AddPreset, RemovePreset, MovePreset, SetHead, AddInstrument, RemoveInstrument, RenameInstrument, MoveInstrument, RenameSample, AddSample, RemoveSample, MoveSample, Trim, Extend, SetLoop, SetKind, SetTune, AddZone, RemoveZone, MoveZone, SplitZone, JoinZone, SetTarget, SetGen, ClearGen, AddMod, RemoveMod, SetMod, SetInfo}
 use Rattle.edit_forms.specs.declared.edit.Edit.{Edit}
 use Rattle.edit_forms.specs.declared.edit.Edit.TheVariants.{One}
 use Rattle.line_tokens.specs.Parts.{Part, ◌>>=◌, pure, number, ended}
@@ -16,6 +16,7 @@ use Rattle.edit_script.specs.Members.{place, named_operands, moved_operands, pri
 use Rattle.edit_script.specs.Presets.{head_operands, new_head_operands, added_preset, set_head}
 use Rattle.edit_script.specs.Instruments.{name_operands, added_instrument}
 use Rattle.edit_script.specs.Samples.{added_sample}
+use Rattle.edit_script.specs.Points.{cut_operands, both_ends_operands, loop_of_operands, kind_of_operands, tune_of_operands, trim, extend, set_loop, set_kind, set_tune}
 use Rattle.edit_script.specs.Owners.{of_zone}
 use Rattle.edit_script.specs.Zones.{printed_zone, SaysZone, moved_zone_operands, split_operands, joined_operands, target_operands, add_zone, remove_zone, move_zone, split_zone, join_zone, set_target}
 use Rattle.edit_script.specs.Settings.{generator_at_operands, operator_operands, index_operands, modulator_at_operands, set_gen, clear_gen, add_mod, remove_mod, set_mod}
@@ -37,6 +38,11 @@ form_word form.RenameSample = codes "rename-sample"
 form_word form.AddSample = codes "add-sample"
 form_word form.RemoveSample = codes "remove-sample"
 form_word form.MoveSample = codes "move-sample"
+form_word form.Trim = codes "trim"
+form_word form.Extend = codes "extend"
+form_word form.SetLoop = codes "set-loop"
+form_word form.SetKind = codes "set-kind"
+form_word form.SetTune = codes "set-tune"
 form_word form.AddZone = codes "add-zone"
 form_word form.RemoveZone = codes "remove-zone"
 form_word form.MoveZone = codes "move-zone"
@@ -56,6 +62,8 @@ forms =
     ∷ form.SetHead
     ∷ form.AddInstrument ∷ form.RemoveInstrument ∷ form.RenameInstrument ∷ form.MoveInstrument
     ∷ form.RenameSample ∷ form.AddSample ∷ form.RemoveSample ∷ form.MoveSample
+    ∷ form.Trim ∷ form.Extend
+    ∷ form.SetLoop ∷ form.SetKind ∷ form.SetTune
     ∷ form.AddZone ∷ form.RemoveZone ∷ form.MoveZone
     ∷ form.SplitZone ∷ form.JoinZone
     ∷ form.SetTarget
@@ -77,6 +85,11 @@ form_of (RenameSample sample name) = form.RenameSample
 form_of (AddSample at sample) = form.AddSample
 form_of (RemoveSample sample) = form.RemoveSample
 form_of (MoveSample from to) = form.MoveSample
+form_of (Trim sample front back) = form.Trim
+form_of (Extend sample front back) = form.Extend
+form_of (SetLoop sample looped) = form.SetLoop
+form_of (SetKind sample kind) = form.SetKind
+form_of (SetTune sample rate key correction) = form.SetTune
 form_of (AddZone o at zone) = form.AddZone
 form_of (RemoveZone o zone) = form.RemoveZone
 form_of (MoveZone o from to) = form.MoveZone
@@ -104,6 +117,11 @@ operands (RenameSample sample name) = named_operands sample name
 operands (AddSample at sample) = place at ∷ body_operands sample
 operands (RemoveSample sample) = place sample ∷ []
 operands (MoveSample from to) = moved_operands from to
+operands (Trim sample front back) = cut_operands sample front back
+operands (Extend sample front back) = both_ends_operands sample front back
+operands (SetLoop sample looped) = loop_of_operands sample looped
+operands (SetKind sample kind) = kind_of_operands sample kind
+operands (SetTune sample rate key correction) = tune_of_operands sample rate key correction
 operands (AddZone o at zone) = printed_zone o at zone
 operands (RemoveZone o zone) = of_zone o zone
 operands (MoveZone o from to) = moved_zone_operands o from to
@@ -138,6 +156,11 @@ operands_read form.RenameSample = naming >>= λ n. pure (RenameSample n.0 n.1)
 operands_read form.AddSample = added_sample >>= λ a. pure (AddSample a.0 a.1)
 operands_read form.RemoveSample = number 4294967295 >>= λ s. pure (RemoveSample s)
 operands_read form.MoveSample = moving >>= λ m. pure (MoveSample m.0 m.1)
+operands_read form.Trim = trim
+operands_read form.Extend = extend
+operands_read form.SetLoop = set_loop
+operands_read form.SetKind = set_kind
+operands_read form.SetTune = set_tune
 operands_read form.AddZone = add_zone
 operands_read form.RemoveZone = remove_zone
 operands_read form.MoveZone = move_zone

@@ -2,6 +2,7 @@ pub mod Members
 pub mod Presets
 pub mod Instruments
 pub mod Samples
+pub mod Points
 pub mod Owners
 pub mod Zones
 pub mod Settings

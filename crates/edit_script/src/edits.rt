@@ -14,6 +14,10 @@ use crate::instruments::{
     add_instrument, move_instrument, put_add_instrument, remove_instrument, rename_instrument,
 };
 use crate::members::{put_moving, put_removal, put_renaming};
+use crate::points::{
+    extend, put_extend, put_set_kind, put_set_loop, put_set_tune, put_trim, set_kind, set_loop,
+    set_tune, trim,
+};
 use crate::presets::{
     add_preset, move_preset, put_add_preset, put_set_head, remove_preset, set_head,
 };
@@ -89,6 +93,11 @@ fn operands_read<'p>(
         Form::AddSample => Ok(add_sample(alloc, line)?),
         Form::RemoveSample => Ok(remove_sample(line)?),
         Form::MoveSample => Ok(move_sample(line)?),
+        Form::Trim => Ok(trim(line)?),
+        Form::Extend => Ok(extend(alloc, line)?),
+        Form::SetLoop => Ok(set_loop(line)?),
+        Form::SetKind => Ok(set_kind(line)?),
+        Form::SetTune => Ok(set_tune(line)?),
         Form::AddZone => add_zone(alloc, line),
         Form::RemoveZone => Ok(remove_zone(line)?),
         Form::MoveZone => Ok(move_zone(line)?),
@@ -153,6 +162,24 @@ fn put_step<W: Write>(step: &Step<'_>, output: &mut Output<'_, W>)
         Step::AddSample { at, sample } => put_add_sample(*at, sample, output),
         Step::RemoveSample { sample } => put_removal(Form::RemoveSample, *sample, output),
         Step::MoveSample { from, to } => put_moving(Form::MoveSample, *from, *to, output),
+        Step::Trim {
+            sample,
+            front,
+            back,
+        } => put_trim(*sample, *front, *back, output),
+        Step::Extend {
+            sample,
+            front,
+            back,
+        } => put_extend(*sample, front, back, output),
+        Step::SetLoop { sample, looped } => put_set_loop(*sample, *looped, output),
+        Step::SetKind { sample, kind } => put_set_kind(*sample, *kind, output),
+        Step::SetTune {
+            sample,
+            rate,
+            key,
+            correction,
+        } => put_set_tune(*sample, *rate, *key, *correction, output),
         Step::AddZone { owner, at, zone } => put_add_zone(*owner, *at, zone, output),
         Step::RemoveZone { owner, zone } => put_remove_zone(*owner, *zone, output),
         Step::MoveZone { owner, from, to } => put_move_zone(*owner, *from, *to, output),

@@ -25,6 +25,11 @@ pub enum Form {
     AddSample,
     RemoveSample,
     MoveSample,
+    Trim,
+    Extend,
+    SetLoop,
+    SetKind,
+    SetTune,
 
     // ---- zones
     AddZone,
@@ -45,7 +50,7 @@ pub enum Form {
     SetInfo,
 }
 
-static FORMS: [Form; 24] = [
+static FORMS: [Form; 29] = [
     Form::AddPreset,
     Form::RemovePreset,
     Form::MovePreset,
@@ -58,6 +63,11 @@ static FORMS: [Form; 24] = [
     Form::AddSample,
     Form::RemoveSample,
     Form::MoveSample,
+    Form::Trim,
+    Form::Extend,
+    Form::SetLoop,
+    Form::SetKind,
+    Form::SetTune,
     Form::AddZone,
     Form::RemoveZone,
     Form::MoveZone,
@@ -95,6 +105,11 @@ impl HasWord for Form {
             Form::AddSample => b"add-sample",
             Form::RemoveSample => b"remove-sample",
             Form::MoveSample => b"move-sample",
+            Form::Trim => b"trim",
+            Form::Extend => b"extend",
+            Form::SetLoop => b"set-loop",
+            Form::SetKind => b"set-kind",
+            Form::SetTune => b"set-tune",
             Form::AddZone => b"add-zone",
             Form::RemoveZone => b"remove-zone",
             Form::MoveZone => b"move-zone",
@@ -129,6 +144,11 @@ impl Form {
             Step::AddSample { .. } => Form::AddSample,
             Step::RemoveSample { .. } => Form::RemoveSample,
             Step::MoveSample { .. } => Form::MoveSample,
+            Step::Trim { .. } => Form::Trim,
+            Step::Extend { .. } => Form::Extend,
+            Step::SetLoop { .. } => Form::SetLoop,
+            Step::SetKind { .. } => Form::SetKind,
+            Step::SetTune { .. } => Form::SetTune,
             Step::AddZone { .. } => Form::AddZone,
             Step::RemoveZone { .. } => Form::RemoveZone,
             Step::MoveZone { .. } => Form::MoveZone,

@@ -13,8 +13,8 @@ ghost use Rattle.edit_script.specs.Instruments.{name_operands, added_instrument}
 
 use crate::forms::Form;
 use crate::members::{moving, naming, zones_of};
-use edit_forms::Step;
 use bank_parts::Instrument;
+use edit_forms::Step;
 use line_tokens::{Cursor, LineFault, Piece, put_pieces};
 use outputs::Output;
 use script_grammar::{HasWord, put_zones};

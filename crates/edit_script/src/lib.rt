@@ -10,6 +10,8 @@
 //! - `add-inst I NAME GLOBAL? ZONE*`, `remove-inst I`, `rename-inst I NAME` and `move-inst I J`;
 //! - `add-sample S NAME RATE KEY CORR KIND LOOP POINTS`, `remove-sample S`, `rename-sample S NAME` and
 //!   `move-sample I J`;
+//! - `trim S F B`, `extend S POINTS POINTS`, `set-loop S LOOP`, `set-kind S KIND` and
+//!   `set-tune S RATE KEY CORR`;
 //! - `add-zone OWNER K ZONE`, `remove-zone OWNER K`, `move-zone OWNER I J`,
 //!   `split-zone OWNER K key|vel M`, `join-zone OWNER K key|vel keep|bare` and
 //!   `set-target OWNER K TARGET`;
@@ -28,6 +30,7 @@ mod laws;
 mod members;
 mod owners;
 mod parsing;
+mod points;
 mod presets;
 mod samples;
 mod settings;

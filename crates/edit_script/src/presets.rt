@@ -13,8 +13,8 @@ ghost use Rattle.edit_script.specs.Presets.{head_operands, new_head_operands, he
 
 use crate::forms::Form;
 use crate::members::{moving, naming, zones_of};
-use edit_forms::Step;
 use bank_parts::{Head, Preset};
+use edit_forms::Step;
 use line_tokens::{Cursor, LineFault, Piece, put_line, put_pieces};
 use outputs::Output;
 use script_grammar::{HasWord, put_zones};

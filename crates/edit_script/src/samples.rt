@@ -12,8 +12,8 @@ ghost use Rattle.edit_script.specs.Members.{place};
 
 use crate::forms::Form;
 use crate::members::{moving, naming};
-use edit_forms::Step;
 use bank_parts::Sample;
+use edit_forms::Step;
 use line_tokens::{Cursor, LineFault, Piece, put_pieces};
 use outputs::Output;
 use script_grammar::{HasWord, put_sample_body, sample_body};

@@ -10,8 +10,8 @@ ghost use Rattle.edit_script.specs.declared.forms.Form.TheVariants as form;
 ghost use Rattle.edit_script.specs.Grammar.{operands_read};
 
 use crate::forms::Form;
-use edit_forms::Step;
 use bank_parts::InfoId;
+use edit_forms::Step;
 use line_tokens::{Cursor, LineFault, Piece, put_line};
 use outputs::Output;
 use script_grammar::{HasWord, info_id};

@@ -12,8 +12,8 @@ ghost use Rattle.edit_script.specs.Zones.{printed_zone, moved_zone_operands, spl
 use crate::forms::Form;
 use crate::owners::{kind_piece, number_piece, owner_zone};
 use bank_core::Owner;
-use edit_forms::Step;
 use bank_parts::Zone;
+use edit_forms::Step;
 use line_tokens::{Cursor, LineFault, Piece, put_line, put_pieces};
 use outputs::Output;
 use script_grammar::{HasWord, next_named, put_zone, zone};

@@ -17,7 +17,7 @@ use Rattle.zone_ranges.specs.declared.axes.Keep.TheVariants as keep
 use Rattle.line_tokens.specs.declared.cursor.Said.{Said}
 use Rattle.line_tokens.specs.Spelling.{WritesSigned, IsWithin}
 use Rattle.script_grammar.specs.Operands.{Operand, Fixed, Number, Signed, Amount, Range, Name, Text, Points, Says, AllSay}
-use Rattle.script_grammar.specs.Samples.{kind_operands, loop_operands, head_operands, body_operands}
+use Rattle.script_grammar.specs.Samples.{kind_operands, loop_operands, tune_operands, head_operands, body_operands}
 use Rattle.script_grammar.specs.Texts.{id_word}
 use Rattle.script_grammar.specs.Ranges.{axis_word, keep_word}
 use Rattle.script_grammar.proofs.OperandLaws.{IsFixed, AllFit, both_fit}
@@ -78,13 +78,13 @@ behind (o ∷ os) more h = let k = behind os more h.1 in ((h.0, k.0), k.1)
 
 -- ---- so it fits
 
-kind_fits : (k : Kind) → AllRanged (kind_operands k) → FitsKind k
+pub kind_fits : (k : Kind) → AllRanged (kind_operands k) → FitsKind k
 kind_fits Mono h = tt
 kind_fits (Right n) h = let l = h.1.0 in omega (arith, l)
 kind_fits (Left n) h = let l = h.1.0 in omega (arith, l)
 kind_fits (Linked n) h = let l = h.1.0 in omega (arith, l)
 
-loop_fits : (l : Option (ℕ × ℕ)) → AllRanged (loop_operands l) → FitsLoop l
+pub loop_fits : (l : Option (ℕ × ℕ)) → AllRanged (loop_operands l) → FitsLoop l
 loop_fits None h = tt
 loop_fits (Some l) h = let a = h.1.0 in let b = h.1.1.0 in (omega (arith, a), omega (arith, b))
 
@@ -92,18 +92,21 @@ cents : (z : ℤ) → IsWithin 127 z → FitsSigned w8 z
 cents (pos n) h = record { sfits = omega (arith, h) }
 cents (negsuc n) h = record { sfits = omega (arith, h) }
 
+pub tune_fits : (rate key : ℕ) (correction : ℤ) → AllRanged (tune_operands rate key correction) → (rate < 2 ^ 32) × (key < 2 ^ 8) × FitsSigned w8 correction
+tune_fits rate key correction h = (let r = h.0 in omega (arith, r), let k = h.1.0 in omega (arith, k), cents correction h.1.1.0)
+
 pub sample_fits : (s : Sample) → AllRanged (body_operands s) → FitsSample s
 sample_fits s h =
     let b = behind (head_operands s) (Points s.points ∷ []) h in
-    let k = behind (kind_operands s.kind) (loop_operands s.looped) b.0.1.1.1.1 in
-    let rate = b.0.1.0 in
-    let key = b.0.1.1.0 in record {
+    let t = behind (tune_operands s.rate s.key s.correction) (kind_operands s.kind ++ loop_operands s.looped) b.0.1 in
+    let k = behind (kind_operands s.kind) (loop_operands s.looped) t.1 in
+    let tune = tune_fits s.rate s.key s.correction t.0 in record {
       name = b.0.0;
       points = b.1.0;
       looped = loop_fits s.looped k.1;
-      rate = omega (arith, rate);
-      key = omega (arith, key);
-      correction = cents s.correction b.0.1.1.1.0;
+      rate = tune.0;
+      key = tune.1;
+      correction = tune.2;
       kind = kind_fits s.kind k.0;
     }
 
@@ -115,13 +118,13 @@ word32 n h = (omega (arith, h), lit< tt)
 pub word16 : (n : ℕ) → n < 2 ^ 16 → (n ≤ 65535) × (65535 < 2 ^ 32)
 word16 n h = (omega (arith, h), lit< tt)
 
-kind_fit : (k : Kind) → FitsKind k → AllFit (kind_operands k)
+pub kind_fit : (k : Kind) → FitsKind k → AllFit (kind_operands k)
 kind_fit Mono h = ((refl, refl), tt)
 kind_fit (Right link) h = ((refl, refl), (word16 link h, tt))
 kind_fit (Left link) h = ((refl, refl), (word16 link h, tt))
 kind_fit (Linked link) h = ((refl, refl), (word16 link h, tt))
 
-loop_fit : (l : Option (ℕ × ℕ)) → FitsLoop l → AllFit (loop_operands l)
+pub loop_fit : (l : Option (ℕ × ℕ)) → FitsLoop l → AllFit (loop_operands l)
 loop_fit None h = ((refl, refl), tt)
 loop_fit (Some l) h = ((refl, refl), (word32 l.0 h.0, (word32 l.1 h.1, tt)))
 
@@ -129,10 +132,15 @@ cents_within : (z : ℤ) → FitsSigned w8 z → IsWithin 127 z
 cents_within (pos n) v = let h : n < 2 ^ 7 = v.sfits in omega (arith, h)
 cents_within (negsuc n) v = let h : n < 2 ^ 7 = v.sfits in omega (arith, h)
 
+pub tune_fit : (rate key : ℕ) (correction : ℤ) → rate < 2 ^ 32 → key < 2 ^ 8 → FitsSigned w8 correction → AllFit (tune_operands rate key correction)
+tune_fit rate key correction r k c = (word32 rate r, ((omega (arith, k), lit< tt), ((cents_within correction c, lit< tt), tt)))
+
 pub head_fit : (s : Sample) → FitsSample s → AllFit (head_operands s)
-head_fit s h =
-    let key = h.key in
-    (h.name, (word32 s.rate h.rate, ((omega (arith, key), lit< tt), ((cents_within s.correction h.correction, lit< tt), both_fit (kind_operands s.kind) (loop_operands s.looped) (kind_fit s.kind h.kind) (loop_fit s.looped h.looped)))))
+head_fit s h = (
+  h.name,
+  both_fit (tune_operands s.rate s.key s.correction) (kind_operands s.kind ++ loop_operands s.looped) (tune_fit s.rate s.key s.correction h.rate h.key h.correction)
+      (both_fit (kind_operands s.kind) (loop_operands s.looped) (kind_fit s.kind h.kind) (loop_fit s.looped h.looped)),
+)
 
 pub body_fit : (s : Sample) → FitsSample s → AllFit (body_operands s)
 body_fit s h = both_fit (head_operands s) (Points s.points ∷ []) (head_fit s h) (h.points, tt)

@@ -17,7 +17,7 @@ use Rattle.script_grammar.specs.Operands.{Operand, Fixed, Number, Signed, Name, 
 use Rattle.script_grammar.specs.Names.{named, next_named}
 use Rattle.script_grammar.specs.Texts.{id_word, ids, info_id}
 use Rattle.script_grammar.proofs.NameLaws.{named_is}
-use Rattle.script_grammar.specs.Samples.{kind_operands, loop_operands, body_operands, kind_behind, kind, loop_behind, looped, points_of, points, sample_of, body}
+use Rattle.script_grammar.specs.Samples.{kind_operands, loop_operands, tune_operands, body_operands, kind_behind, kind, loop_behind, looped, points_of, points, tune, sample_of, body}
 
 -- ---- parts
 
@@ -63,7 +63,7 @@ whole_points bytes ps e = from (eqb (length bytes % 2) 0) refl e
     from true k h = let same : words bytes ≡ ps = cc in (eqb-true (length bytes % 2) 0 k, sym same)
     from false k h = cc
 
-points_front : (line : List Said) (t : Took (List ℕ)) → AllHoldBytes line → points line ≡ Ok t → Fronts line t.rest (Points t.value ∷ [])
+pub points_front : (line : List Said) (t : Took (List ℕ)) → AllHoldBytes line → points line ≡ Ok t → Fronts line t.rest (Points t.value ∷ [])
 unfolding points
 points_front line t h e =
     let b = both (literal line) (λ bytes. or_fault faults.Literal (points_of bytes)) t e in
@@ -95,7 +95,7 @@ link_front w f line t is h e before g =
     subst (λ (u : Took Kind). Fronts before u.rest (kind_operands u.value)) k
     (subst (Fronts before n.first.rest) (sym (is n.first.value)) (then (Fixed w ∷ []) (Number 65535 n.first.value ∷ []) g (number_front 65535 line n.first h n.is)))
 
-kind_front : (line : List Said) (t : Took Kind) → AllHoldBytes line → kind line ≡ Ok t → Fronts line t.rest (kind_operands t.value)
+pub kind_front : (line : List Said) (t : Took Kind) → AllHoldBytes line → kind line ≡ Ok t → Fronts line t.rest (kind_operands t.value)
 unfolding kind kind_behind
 kind_front line t h e =
     let w = both (word line) kind_behind t e in
@@ -113,7 +113,7 @@ kind_front line t h e =
     from v rest g false false false true p q r s k = link_front (codes "linked") (λ n. Linked n) rest t (λ n. refl) g.holds k line (at v (codes "linked") rest g s)
     from v rest g false false false false p q r s k = cc
 
-loop_front : (line : List Said) (t : Took (Option (ℕ × ℕ))) → AllHoldBytes line → looped line ≡ Ok t → Fronts line t.rest (loop_operands t.value)
+pub loop_front : (line : List Said) (t : Took (Option (ℕ × ℕ))) → AllHoldBytes line → looped line ≡ Ok t → Fronts line t.rest (loop_operands t.value)
 unfolding looped loop_behind
 loop_front line t h e =
     let w = both (word line) loop_behind t e in
@@ -139,33 +139,43 @@ loop_front line t h e =
     from v rest g false true p q k = ends rest (at v (codes "loop") rest g q) k
     from v rest g false false p q k = cc
 
+pub tune_front : (line : List Said) (t : Took (ℕ × ℕ × ℤ)) → AllHoldBytes line → tune line ≡ Ok t → Fronts line t.rest (tune_operands t.value.0 t.value.1 t.value.2)
+unfolding tune
+tune_front line t h e =
+    let r = both (number 4294967295 line) (λ r. number 255 >>= λ y. signed 127 >>= λ c. pure (r, y, c)) t e in
+    let rf = number_front 4294967295 line r.first h r.is in
+    let y = both (number 255 r.first.rest) (λ y. signed 127 >>= λ c. pure (r.first.value, y, c)) t r.second in
+    let yf = number_front 255 r.first.rest y.first rf.holds y.is in
+    let c = both (signed 127 y.first.rest) (λ c. pure (r.first.value, y.first.value, c)) t y.second in
+    let cf = signed_front 127 y.first.rest c.first yf.holds c.is in
+    let cs : List Operand = Signed 127 c.first.value ∷ [] in
+    let ys : List Operand = Number 255 y.first.value ∷ [] in
+    let rs : List Operand = Number 4294967295 r.first.value ∷ [] in
+    let same : record { value = (r.first.value, y.first.value, c.first.value); rest = c.first.rest } ≡ t = made _ c.first.rest t c.second in
+    subst (λ (u : Took (ℕ × ℕ × ℤ)). Fronts line u.rest (tune_operands u.value.0 u.value.1 u.value.2)) same
+    (then rs (ys ++ cs) rf (then ys cs yf cf))
+
 pub body_front : (line : List Said) (t : Took Sample) → AllHoldBytes line → body line ≡ Ok t → Fronts line t.rest (body_operands t.value)
 unfolding body
 body_front line t h e =
-    let n = both (name line) (λ n. number 4294967295 >>= λ r. number 255 >>= λ y. signed 127 >>= λ c. kind >>= λ k. looped >>= λ l. points >>= λ p. pure (sample_of n r y c k l p)) t e in
+    let n = both (name line) (λ n. tune >>= λ u. kind >>= λ k. looped >>= λ l. points >>= λ p. pure (sample_of n u k l p)) t e in
     let nf = name_front line n.first h n.is in
-    let r = both (number 4294967295 n.first.rest) (λ r. number 255 >>= λ y. signed 127 >>= λ c. kind >>= λ k. looped >>= λ l. points >>= λ p. pure (sample_of n.first.value r y c k l p)) t n.second in
-    let rf = number_front 4294967295 n.first.rest r.first nf.holds r.is in
-    let y = both (number 255 r.first.rest) (λ y. signed 127 >>= λ c. kind >>= λ k. looped >>= λ l. points >>= λ p. pure (sample_of n.first.value r.first.value y c k l p)) t r.second in
-    let yf = number_front 255 r.first.rest y.first rf.holds y.is in
-    let c = both (signed 127 y.first.rest) (λ c. kind >>= λ k. looped >>= λ l. points >>= λ p. pure (sample_of n.first.value r.first.value y.first.value c k l p)) t y.second in
-    let cf = signed_front 127 y.first.rest c.first yf.holds c.is in
-    let k = both (kind c.first.rest) (λ k. looped >>= λ l. points >>= λ p. pure (sample_of n.first.value r.first.value y.first.value c.first.value k l p)) t c.second in
-    let kf = kind_front c.first.rest k.first cf.holds k.is in
-    let l = both (looped k.first.rest) (λ l. points >>= λ p. pure (sample_of n.first.value r.first.value y.first.value c.first.value k.first.value l p)) t k.second in
+    let u = both (tune n.first.rest) (λ u. kind >>= λ k. looped >>= λ l. points >>= λ p. pure (sample_of n.first.value u k l p)) t n.second in
+    let uf = tune_front n.first.rest u.first nf.holds u.is in
+    let k = both (kind u.first.rest) (λ k. looped >>= λ l. points >>= λ p. pure (sample_of n.first.value u.first.value k l p)) t u.second in
+    let kf = kind_front u.first.rest k.first uf.holds k.is in
+    let l = both (looped k.first.rest) (λ l. points >>= λ p. pure (sample_of n.first.value u.first.value k.first.value l p)) t k.second in
     let lf = loop_front k.first.rest l.first kf.holds l.is in
-    let p = both (points l.first.rest) (λ p. pure (sample_of n.first.value r.first.value y.first.value c.first.value k.first.value l.first.value p)) t l.second in
+    let p = both (points l.first.rest) (λ p. pure (sample_of n.first.value u.first.value k.first.value l.first.value p)) t l.second in
     let pf = points_front l.first.rest p.first lf.holds p.is in
     let ks = kind_operands k.first.value in
     let ls = loop_operands l.first.value in
     let ps : List Operand = Points p.first.value ∷ [] in
-    let cs : List Operand = Signed 127 c.first.value ∷ [] in
-    let ys : List Operand = Number 255 y.first.value ∷ [] in
-    let rs : List Operand = Number 4294967295 r.first.value ∷ [] in
+    let us = tune_operands u.first.value.0 u.first.value.1 u.first.value.2 in
     let ns : List Operand = Name n.first.value ∷ [] in
-    let same : record { value = sample_of n.first.value r.first.value y.first.value c.first.value k.first.value l.first.value p.first.value; rest = p.first.rest } ≡ t = made _ p.first.rest t p.second in
+    let same : record { value = sample_of n.first.value u.first.value k.first.value l.first.value p.first.value; rest = p.first.rest } ≡ t = made _ p.first.rest t p.second in
     subst (λ (u : Took Sample). Fronts line u.rest (body_operands u.value)) same
-    (then ns (rs ++ (ys ++ (cs ++ ((ks ++ ls) ++ ps)))) nf (then rs (ys ++ (cs ++ ((ks ++ ls) ++ ps))) rf (then ys (cs ++ ((ks ++ ls) ++ ps)) yf (then cs ((ks ++ ls) ++ ps) cf (then (ks ++ ls) ps (then ks ls kf lf) pf)))))
+    (then ns (us ++ ((ks ++ ls) ++ ps)) nf (then us ((ks ++ ls) ++ ps) uf (then (ks ++ ls) ps (then ks ls kf lf) pf)))
 
 -- ---- texts
 

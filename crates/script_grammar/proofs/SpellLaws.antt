@@ -14,7 +14,7 @@ use Rattle.script_grammar.specs.Operands.{Operand, Fixed, Number, Signed, Name, 
 use Rattle.script_grammar.specs.Names.{named, next_named}
 use Rattle.script_grammar.specs.Texts.{id_word, ids, info_id}
 use Rattle.script_grammar.proofs.NameLaws.{id_named}
-use Rattle.script_grammar.specs.Samples.{kind_operands, loop_operands, body_operands, kind_behind, kind, loop_behind, looped, points_of, points, body}
+use Rattle.script_grammar.specs.Samples.{kind_operands, loop_operands, tune_operands, body_operands, kind_behind, kind, loop_behind, looped, points_of, points, tune, body}
 
 -- ---- parts
 
@@ -62,20 +62,20 @@ points_read : (bytes ps : List ℕ) (line : List Said) → length bytes % 2 ≡ 
 unfolding points literal points_of
 points_read bytes ps line even e = rw (even, e) refl
 
-gives_points : (ps : List ℕ) (line : List Said) (more : List Operand) → AllSay line (Points ps ∷ more) → Gives points ps line more
+pub gives_points : (ps : List ℕ) (line : List Said) (more : List Operand) → AllSay line (Points ps ∷ more) → Gives points ps line more
 gives_points ps [] more h = absurd h
 gives_points ps (s ∷ line) more h = record { rest = line; is = ap (λ (t : Said). points (t ∷ line)) h.0.1 ∙ points_read h.0.0 ps line h.0.3 h.0.4; says = h.1 }
 
 -- ---- samples
 
-gives_kind : (k : Kind) (line : List Said) (more : List Operand) → AllSay line (kind_operands k ++ more) → Gives kind k line more
+pub gives_kind : (k : Kind) (line : List Said) (more : List Operand) → AllSay line (kind_operands k ++ more) → Gives kind k line more
 unfolding kind kind_behind
 gives_kind Mono line more h = then _ (gives_word (codes "mono") line more h) (λ rest k. gives_pure Mono rest more k)
 gives_kind (Right n) line more h = then _ (gives_word (codes "right") line (Number 65535 n ∷ more) h) (λ rest k. then _ (gives_number 65535 n rest more k) (λ rest k. gives_pure (Right n) rest more k))
 gives_kind (Left n) line more h = then _ (gives_word (codes "left") line (Number 65535 n ∷ more) h) (λ rest k. then _ (gives_number 65535 n rest more k) (λ rest k. gives_pure (Left n) rest more k))
 gives_kind (Linked n) line more h = then _ (gives_word (codes "linked") line (Number 65535 n ∷ more) h) (λ rest k. then _ (gives_number 65535 n rest more k) (λ rest k. gives_pure (Linked n) rest more k))
 
-gives_loop : (l : Option (ℕ × ℕ)) (line : List Said) (more : List Operand) → AllSay line (loop_operands l ++ more) → Gives looped l line more
+pub gives_loop : (l : Option (ℕ × ℕ)) (line : List Said) (more : List Operand) → AllSay line (loop_operands l ++ more) → Gives looped l line more
 unfolding looped loop_behind
 gives_loop None line more h = then _ (gives_word (codes "noloop") line more h) (λ rest k. gives_pure None rest more k)
 gives_loop (Some l) line more h =
@@ -83,23 +83,28 @@ gives_loop (Some l) line more h =
     then _ (gives_number 4294967295 l.0 rest (Number 4294967295 l.1 ∷ more) k) (λ rest k.
     then _ (gives_number 4294967295 l.1 rest more k) (λ rest k. gives_pure (Some l) rest more k)))
 
+pub gives_tune : (rate key : ℕ) (correction : ℤ) (line : List Said) (more : List Operand) → AllSay line (tune_operands rate key correction ++ more) → Gives tune (rate, key, correction) line more
+unfolding tune
+gives_tune rate key correction line more h =
+    then _ (gives_number 4294967295 rate line (Number 255 key ∷ Signed 127 correction ∷ more) h) (λ rest k.
+    then _ (gives_number 255 key rest (Signed 127 correction ∷ more) k) (λ rest k.
+    then _ (gives_signed 127 correction rest more k) (λ rest k. gives_pure (rate, key, correction) rest more k)))
+
 -- the last three parts of a sample
 abbrev tail_operands : Sample → List Operand
 tail_operands s = kind_operands s.kind ++ (loop_operands s.looped ++ Points s.points ∷ [])
 
-body_regrouped : (s : Sample) → body_operands s ≡ Name s.name ∷ Number 4294967295 s.rate ∷ Number 255 s.key ∷ Signed 127 s.correction ∷ tail_operands s
-body_regrouped s = ap (λ (os : List Operand). Name s.name ∷ Number 4294967295 s.rate ∷ Number 255 s.key ∷ Signed 127 s.correction ∷ os) (append_assoc (kind_operands s.kind) (loop_operands s.looped) (Points s.points ∷ []))
+body_regrouped : (s : Sample) → body_operands s ≡ (Name s.name ∷ tune_operands s.rate s.key s.correction) ++ tail_operands s
+body_regrouped s = ap (λ (os : List Operand). (Name s.name ∷ tune_operands s.rate s.key s.correction) ++ os) (append_assoc (kind_operands s.kind) (loop_operands s.looped) (Points s.points ∷ []))
 
 pub gives_body : (s : Sample) (line : List Said) → AllSay line (body_operands s) → Gives body s line []
 unfolding body
 gives_body s line h =
-    then _ (gives_name s.name line (Number 4294967295 s.rate ∷ Number 255 s.key ∷ Signed 127 s.correction ∷ tail_operands s) (subst (AllSay line) (body_regrouped s) h)) (λ rest k.
-    then _ (gives_number 4294967295 s.rate rest (Number 255 s.key ∷ Signed 127 s.correction ∷ tail_operands s) k) (λ rest k.
-    then _ (gives_number 255 s.key rest (Signed 127 s.correction ∷ tail_operands s) k) (λ rest k.
-    then _ (gives_signed 127 s.correction rest (tail_operands s) k) (λ rest k.
+    then _ (gives_name s.name line (tune_operands s.rate s.key s.correction ++ tail_operands s) (subst (AllSay line) (body_regrouped s) h)) (λ rest k.
+    then _ (gives_tune s.rate s.key s.correction rest (tail_operands s) k) (λ rest k.
     then _ (gives_kind s.kind rest (loop_operands s.looped ++ Points s.points ∷ []) k) (λ rest k.
     then _ (gives_loop s.looped rest (Points s.points ∷ []) k) (λ rest k.
-    then _ (gives_points s.points rest [] k) (λ rest k. gives_pure s rest [] k)))))))
+    then _ (gives_points s.points rest [] k) (λ rest k. gives_pure s rest [] k)))))
 
 -- ---- texts
 

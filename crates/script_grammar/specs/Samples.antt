@@ -23,9 +23,13 @@ abbrev pub loop_operands : Option (ℕ × ℕ) → List Operand
 loop_operands None = Fixed (codes "noloop") ∷ []
 loop_operands (Some looped) = Fixed (codes "loop") ∷ Number 4294967295 looped.0 ∷ Number 4294967295 looped.1 ∷ []
 
+-- `RATE KEY CORR`
+abbrev pub tune_operands : ℕ → ℕ → ℤ → List Operand
+tune_operands rate key correction = Number 4294967295 rate ∷ Number 255 key ∷ Signed 127 correction ∷ []
+
 -- all that a sample has but its points: `NAME RATE KEY CORR KIND LOOP`
 abbrev pub head_operands : Sample → List Operand
-head_operands s = Name s.name ∷ Number 4294967295 s.rate ∷ Number 255 s.key ∷ Signed 127 s.correction ∷ (kind_operands s.kind ++ loop_operands s.looped)
+head_operands s = (Name s.name ∷ tune_operands s.rate s.key s.correction) ++ (kind_operands s.kind ++ loop_operands s.looped)
 
 abbrev pub body_operands : Sample → List Operand
 body_operands s = head_operands s ++ Points s.points ∷ []
@@ -61,18 +65,24 @@ points = do
   bytes ← literal
   or_fault faults.Literal (points_of bytes)
 
-abbrev pub sample_of : List ℕ → ℕ → ℕ → ℤ → Kind → Option (ℕ × ℕ) → List ℕ → Sample
-sample_of name rate key correction kind looped points =
-    record { name = name; points = points; looped = looped; rate = rate; key = key; correction = correction; kind = kind }
+-- `RATE KEY CORR`
+unfoldable pub tune : Part (ℕ × ℕ × ℤ)
+tune = do
+  rate ← number 4294967295
+  key ← number 255
+  correction ← signed 127
+  pure (rate, key, correction)
+
+abbrev pub sample_of : List ℕ → ℕ × ℕ × ℤ → Kind → Option (ℕ × ℕ) → List ℕ → Sample
+sample_of name tune kind looped points =
+    record { name = name; points = points; looped = looped; rate = tune.0; key = tune.1; correction = tune.2; kind = kind }
 
 -- `NAME RATE KEY CORR KIND LOOP POINTS`
 unfoldable pub body : Part Sample
 body = do
   n ← name
-  rate ← number 4294967295
-  key ← number 255
-  correction ← signed 127
+  t ← tune
   k ← kind
   l ← looped
   p ← points
-  pure (sample_of n rate key correction k l p)
+  pure (sample_of n t k l p)

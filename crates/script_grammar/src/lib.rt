@@ -3,7 +3,8 @@
 //!
 //! A part is read by a function that takes it from a [`Cursor`](line_tokens::Cursor), and put by one
 //! that puts each of its tokens behind a space. The parts are a word of a list of words ([`next_named`]),
-//! the id of a text ([`info_id`]), a sample, `NAME RATE KEY CORR KIND LOOP POINTS` ([`sample_body`]),
+//! the id of a text ([`info_id`]), a sample, `NAME RATE KEY CORR KIND LOOP POINTS` ([`sample_body`]), or
+//! some of it, `RATE KEY CORR` ([`tune`]), `KIND` ([`kind`]), `LOOP` ([`looped`]) or `POINTS` ([`points`]),
 //! the zones of a preset or an instrument, `GLOBAL? ZONE*` ([`zones`]), or one of them ([`zone`]), and
 //! what a zone sets: a generator, `OPERATOR AMOUNT` ([`generator`]), or a modulator ([`modulator`]).
 //!
@@ -21,7 +22,10 @@ mod zone_lists;
 
 pub use items::{generator, modulator};
 pub use names::{HasWord, next_named};
-pub use samples::{put_sample_body, put_sample_head, sample_body};
+pub use samples::{
+    kind, looped, points, put_kind, put_loop, put_points, put_sample_body, put_sample_head,
+    put_tune, sample_body, tune,
+};
 pub use texts::info_id;
 pub use zone_lines::{put_generator, put_modulator, put_zone, put_zones};
 pub use zone_lists::{zone, zones};

@@ -6,14 +6,14 @@ ghost use Rattle.line_tokens.specs.Parts.{Reads};
 ghost use Rattle.line_tokens.specs.Printing.{spaced};
 ghost use Rattle.script_grammar.specs.Operands as operand;
 ghost use Rattle.script_grammar.specs.Operands.{pieces_of};
-ghost use Rattle.script_grammar.specs.Samples.{kind_operands, loop_operands, head_operands, body_operands, kind, looped, points_of, points, body};
+ghost use Rattle.script_grammar.specs.Samples.{kind_operands, loop_operands, tune_operands, head_operands, body_operands, kind, looped, points_of, points, tune, body};
 
 use crate::names::says;
 use bank_parts::{Kind, Sample};
 use line_tokens::{Cursor, Joined, LineFault, Piece, put_pieces};
 use outputs::Output;
 use sample_view::Points;
-use sf_base::Lent;
+use sf_base::{Lent, Name20};
 use std::alloc::Global;
 use std::io::Write;
 
@@ -25,9 +25,7 @@ pub fn sample_body<'p>(alloc: Global, line: &mut Cursor<'_, 'p>) -> Result<Sampl
     ensures { Reads (λ s. s) body line.old line.new result }
 {
     let name = line.name()?;
-    let rate = line.number(u32::MAX)?;
-    let key = line.number(u32::from(u8::MAX))?;
-    let correction = line.signed(127)?;
+    let (rate, key, correction) = tune(line)?;
     let kind = kind(line)?;
     let looped = looped(line)?;
     let points = points(alloc, line)?;
@@ -36,15 +34,28 @@ pub fn sample_body<'p>(alloc: Global, line: &mut Cursor<'_, 'p>) -> Result<Sampl
         points,
         looped,
         rate,
-        key: key as u8,
-        correction: correction as i8,
+        key,
+        correction,
         kind,
     })
 }
 
-// `mono`, `right N`, `left N` or `linked N`
+/// `RATE KEY CORR`: the points a second of a sample, its key (0 to 255), and its correction in cents
+/// (-128 to 127), as a sample's header has them (SoundFont 2.04, section 7.10).
+#[tactic(auto, unfolding(crate::specs::Samples::tune))]
+pub fn tune(line: &mut Cursor<'_, '_>) -> Result<(u32, u8, i8), LineFault>
+    ensures { Reads (λ t. t) tune line.old line.new result }
+{
+    let rate = line.number(u32::MAX)?;
+    let key = line.number(u32::from(u8::MAX))?;
+    let correction = line.signed(127)?;
+    Ok((rate, key as u8, correction as i8))
+}
+
+/// A sample's kind: `mono`, `right N`, `left N` or `linked N`, where N is the number of the sample that
+/// it links to, up to 65,535. Another word is a fault of syntax.
 #[tactic(auto, unfolding(crate::specs::Samples::kind, crate::specs::Samples::kind_behind))]
-fn kind(line: &mut Cursor<'_, '_>) -> Result<Kind, LineFault>
+pub fn kind(line: &mut Cursor<'_, '_>) -> Result<Kind, LineFault>
     ensures { Reads (λ k. k) kind line.old line.new result }
 {
     let word = line.word()?;
@@ -61,9 +72,10 @@ fn kind(line: &mut Cursor<'_, '_>) -> Result<Kind, LineFault>
     }
 }
 
-// `noloop` or `loop A B`
+/// A sample's loop: `noloop`, or `loop A B`, from point A up to before point B. Another word is a fault
+/// of syntax.
 #[tactic(auto, unfolding(crate::specs::Samples::looped, crate::specs::Samples::loop_behind))]
-fn looped(line: &mut Cursor<'_, '_>) -> Result<Option<(u32, u32)>, LineFault>
+pub fn looped(line: &mut Cursor<'_, '_>) -> Result<Option<(u32, u32)>, LineFault>
     ensures { Reads (λ l. l) looped line.old line.new result }
 {
     let word = line.word()?;
@@ -78,9 +90,10 @@ fn looped(line: &mut Cursor<'_, '_>) -> Result<Option<(u32, u32)>, LineFault>
     }
 }
 
-// A literal of two bytes for each point.
+/// Points: a literal of two bytes for each point, the low byte first. A literal of an odd number of
+/// bytes is a fault of its own.
 #[tactic(auto, unfolding(crate::specs::Samples::points))]
-fn points<'p>(alloc: Global, line: &mut Cursor<'_, 'p>) -> Result<Points<'p>, LineFault>
+pub fn points<'p>(alloc: Global, line: &mut Cursor<'_, 'p>) -> Result<Points<'p>, LineFault>
     ensures { Reads (λ p. p) points line.old line.new result }
 {
     let bytes = line.literal()?;
@@ -102,23 +115,30 @@ fn points_of(alloc: Global, bytes: &[u8]) -> Option<Points<'_>>
 pub fn put_sample_head<W: Write>(sample: &Sample<'_>, output: &mut Output<'_, W>)
     ensures { Puts W.contents output.old output.new (flat_map spaced (pieces_of (head_operands sample.now))) }
 {
-    put_numbers(sample, output);
+    put_name(&sample.name, output);
+    put_tune(sample.rate, sample.key, sample.correction, output);
     put_kind(sample.kind, output);
     put_loop(sample.looped, output);
 }
 
-// `NAME RATE KEY CORR`
-fn put_numbers<W: Write>(sample: &Sample<'_>, output: &mut Output<'_, W>)
-    ensures { Puts W.contents output.old output.new (flat_map spaced (pieces_of (operand.Name sample.now.name ∷ operand.Number 4294967295 sample.now.rate ∷ operand.Number 255 sample.now.key ∷ operand.Signed 127 sample.now.correction ∷ []))) }
+fn put_name<W: Write>(name: &Name20, output: &mut Output<'_, W>)
+    ensures { Puts W.contents output.old output.new (flat_map spaced (pieces_of (operand.Name name.now ∷ []))) }
 {
-    let name = Piece::Name(Lent::new(sample.name.bytes()));
-    let rate = Piece::Number(u64::from(sample.rate));
-    let key = Piece::Number(u64::from(sample.key));
-    let correction = Piece::Signed(i64::from(sample.correction));
-    put_pieces(&[name, rate, key, correction], output);
+    put_pieces(&[Piece::Name(Lent::new(name.bytes()))], output);
 }
 
-fn put_kind<W: Write>(kind: Kind, output: &mut Output<'_, W>)
+/// Puts `RATE KEY CORR`, each token behind a space.
+pub fn put_tune<W: Write>(rate: u32, key: u8, correction: i8, output: &mut Output<'_, W>)
+    ensures { Puts W.contents output.old output.new (flat_map spaced (pieces_of (tune_operands rate key correction))) }
+{
+    let rate = Piece::Number(u64::from(rate));
+    let key = Piece::Number(u64::from(key));
+    let correction = Piece::Signed(i64::from(correction));
+    put_pieces(&[rate, key, correction], output);
+}
+
+/// Puts a sample's kind, each token behind a space.
+pub fn put_kind<W: Write>(kind: Kind, output: &mut Output<'_, W>)
     ensures { Puts W.contents output.old output.new (flat_map spaced (pieces_of (kind_operands kind))) }
 {
     match kind {
@@ -136,7 +156,8 @@ fn put_link<W: Write>(word: &[u8], link: u16, output: &mut Output<'_, W>)
     put_pieces(&[Piece::Word(Lent::new(word)), link], output);
 }
 
-fn put_loop<W: Write>(looped: Option<(u32, u32)>, output: &mut Output<'_, W>)
+/// Puts a sample's loop, each token behind a space.
+pub fn put_loop<W: Write>(looped: Option<(u32, u32)>, output: &mut Output<'_, W>)
     ensures { Puts W.contents output.old output.new (flat_map spaced (pieces_of (loop_operands looped))) }
 {
     match looped {
@@ -150,8 +171,8 @@ fn put_loop<W: Write>(looped: Option<(u32, u32)>, output: &mut Output<'_, W>)
     }
 }
 
-// The points of a sample, behind a space.
-fn put_points<W: Write>(points: &Points<'_>, output: &mut Output<'_, W>)
+/// Puts points as the bytes of their words, behind a space.
+pub fn put_points<W: Write>(points: &Points<'_>, output: &mut Output<'_, W>)
     ensures { Puts W.contents output.old output.new (flat_map spaced (pieces_of (operand.Points points.now ∷ []))) }
 {
     put_pieces(&[Piece::Hex(Joined::new(points.pieces()))], output);

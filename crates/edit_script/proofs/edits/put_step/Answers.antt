@@ -48,3 +48,18 @@ returns-in-SetMod g c = puts_same _ _ c.in-SetMod.is c.put_modulator_at-in-SetMo
 
 pub returns-in-SetInfo : goal.returns-in-SetInfo
 returns-in-SetInfo g c = puts_same _ _ c.in-SetInfo.is c.put_set_info.ensures
+
+pub returns-in-Trim : goal.returns-in-Trim
+returns-in-Trim g c = puts_same _ _ c.in-Trim.is c.put_trim.ensures
+
+pub returns-in-Extend : goal.returns-in-Extend
+returns-in-Extend g c = puts_same _ _ c.in-Extend.is c.put_extend.ensures
+
+pub returns-in-SetLoop : goal.returns-in-SetLoop
+returns-in-SetLoop g c = puts_same _ _ c.in-SetLoop.is c.put_set_loop.ensures
+
+pub returns-in-SetKind : goal.returns-in-SetKind
+returns-in-SetKind g c = puts_same _ _ c.in-SetKind.is c.put_set_kind.ensures
+
+pub returns-in-SetTune : goal.returns-in-SetTune
+returns-in-SetTune g c = puts_same _ _ c.in-SetTune.is c.put_set_tune.ensures

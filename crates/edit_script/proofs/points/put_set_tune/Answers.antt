@@ -1,0 +1,12 @@
+use Rattle.std.proofs.Common.{◌∷◌, [], codes}
+use Rattle.line_tokens.proofs.PrintLaws.{puts_line}
+use Rattle.script_grammar.specs.Operands.{pieces_of}
+use Rattle.script_grammar.specs.Samples.{tune_operands}
+use Rattle.script_grammar.proofs.PutLaws.{puts_both}
+use Rattle.edit_script.specs.Members.{place}
+use Rattle.edit_script.specs.Points.{tune_of_operands}
+use Rattle.edit_script.proofs.points.put_set_tune.Goals as goal
+
+pub returns : goal.returns
+returns g c = puts_line (codes "set-tune") (pieces_of (tune_of_operands c.args.sample c.args.rate c.args.key c.args.correction)) (rw c.word.ensures at c.put.ensures)
+    (puts_both (place c.args.sample ∷ []) (tune_operands c.args.rate c.args.key c.args.correction) c.put_number.ensures c.put_tune.ensures) c.put-2.ensures
