@@ -1,5 +1,5 @@
 -- What the bank answers of what it replaced or took out makes the step that takes the change back.
-use Rattle.std.proofs.Common.{◌≡◌, ◌<◌, ℕ, ℤ, List, length, Option, Some, refl, ap}
+use Rattle.std.proofs.Common.{◌≡◌, ◌<◌, ℕ, ℤ, List, length, Option, Some, FitsSigned, w8, refl, ap}
 use Rattle.std.specs.Prelude.{slice_get, IfSome}
 use Rattle.numbered_lists.proofs.Lists.{slice_get-found}
 use Rattle.modulators.specs.declared.modulator.Modulator.{Modulator}
@@ -8,9 +8,11 @@ use Rattle.bank_parts.specs.declared.parts.Kind.{Kind}
 use Rattle.bank_parts.specs.declared.parts.Sample.{Sample}
 use Rattle.bank_parts.specs.declared.parts.Parts.{Parts}
 use Rattle.bank_parts.specs.Owners.{head_at}
+use Rattle.bank_parts.specs.Sound.{IsSound}
 use Rattle.bank_changes.specs.declared.members.Owner.{Owner}
 use Rattle.bank_changes.specs.declared.members.Place.{Place}
 use Rattle.bank_changes.specs.Members.{target_of, mod_at}
+use Rattle.bank_changes.proofs.PointLaws.{there_fits}
 use Rattle.edit_forms.specs.declared.edit.Step.TheVariants.{SetHead, RenameInstrument, RenameSample, SetLoop, SetKind, SetTune, SetTarget, AddMod, RemoveMod, SetMod}
 use Rattle.bank_edits.specs.StepChanges.{inverse}
 
@@ -39,6 +41,13 @@ module _ (b : Parts) (i : ℕ) (lt : i < length b.samples) where
       let (s, e) = slice_get-found b.samples i lt in
       let same : old ≡ s.kind = rw e at h in
       rw e (ap (λ (k : Kind). SetKind i k) same)
+
+  pub correction_fits : IsSound b → (old : ℤ) → IfSome (slice_get b.samples i) (λ (s : Sample). old ≡ s.correction) → FitsSigned w8 old
+  correction_fits sound old h =
+      let (s, e) = slice_get-found b.samples i lt in
+      let same : old ≡ s.correction = rw e at h in
+      let fits = there_fits b i s e sound in
+      rw same fits.correction
 
   pub inverse_of_set_tune : (rate key : ℕ) (correction : ℤ) (old_rate old_key : ℕ) (old_correction : ℤ) → IfSome (slice_get b.samples i) (λ (s : Sample). old_rate ≡ s.rate)
       → IfSome (slice_get b.samples i) (λ (s : Sample). old_key ≡ s.key) → IfSome (slice_get b.samples i) (λ (s : Sample). old_correction ≡ s.correction)
