@@ -203,7 +203,7 @@ loop_extended n m by None size is = tt
 loop_extended n m by (Some ends) size is = let order = is.0 in let high = is.1 in (omega (arith, order), omega (arith, size, high))
 
 -- a loop within so few points
-loop_fits : (n : ℕ) (l : Option (ℕ × ℕ)) → n ≤ POINTS → IsLoop n l → FitsLoop l
+pub loop_fits : (n : ℕ) (l : Option (ℕ × ℕ)) → n ≤ POINTS → IsLoop n l → FitsLoop l
 loop_fits n None few is = tt
 loop_fits n (Some ends) few is = let order = is.0 in let high = is.1 in (omega (arith, order, high, few), omega (arith, high, few))
 

@@ -1,5 +1,5 @@
 -- What takes a step back, and what a change by a step answers: one line for each form.
-use Rattle.std.specs.Prelude.{◌≡◌, ℕ, List, Result, Ok, Err, slice_get, unwrap_or, ◌+◌}
+use Rattle.std.specs.Prelude.{◌≡◌, ℕ, List, Result, Ok, Err, length, take, drop, slice_get, unwrap_or, ◌+◌, ◌-◌}
 use Rattle.std.specs.Option.{option_map_or}
 use Rattle.modulators.specs.declared.modulator.Modulator.{Modulator}
 use Rattle.bank_parts.specs.declared.parts.Head.{Head}
@@ -10,9 +10,10 @@ use Rattle.bank_parts.specs.declared.parts.Parts.{Parts}
 use Rattle.bank_parts.specs.Texts.{text_of}
 use Rattle.zone_ranges.specs.Ranges.{low_end, own_range, whole_range}
 use Rattle.zone_ranges.specs.Splits.{keep_for}
+use Rattle.bank_changes.specs.Points.{points_of}
 use Rattle.bank_changes.specs.Members.{head_of, instrument_name_of, zone_of, target_of, amount_of, mod_at}
 use Rattle.edit_forms.specs.declared.edit.Step.{Step}
-use Rattle.edit_forms.specs.declared.edit.Step.TheVariants.{AddPreset, RemovePreset, MovePreset, SetHead, AddInstrument, RemoveInstrument, RenameInstrument, MoveInstrument, RenameSample, AddSample, RemoveSample, MoveSample, AddZone, RemoveZone, MoveZone, SplitZone, JoinZone, SetTarget, SetGen, ClearGen, AddMod, RemoveMod, SetMod, SetInfo}
+use Rattle.edit_forms.specs.declared.edit.Step.TheVariants.{AddPreset, RemovePreset, MovePreset, SetHead, AddInstrument, RemoveInstrument, RenameInstrument, MoveInstrument, RenameSample, AddSample, RemoveSample, MoveSample, Trim, Extend, SetLoop, SetKind, SetTune, AddZone, RemoveZone, MoveZone, SplitZone, JoinZone, SetTarget, SetGen, ClearGen, AddMod, RemoveMod, SetMod, SetInfo}
 use Rattle.edit_forms.specs.Steps.{raw}
 
 -- the step that takes it back, read on the bank before
@@ -34,6 +35,12 @@ inverse b (RenameSample sample name) =
 inverse b (AddSample at sample) = RemoveSample at
 inverse b (RemoveSample sample) = option_map_or (λ (s : Sample). AddSample sample s) (slice_get b.samples sample) (RemoveSample sample)
 inverse b (MoveSample from to) = MoveSample to from
+inverse b (Trim sample front back) = Extend sample (take front (points_of b sample)) (drop (length (points_of b sample) - back) (points_of b sample))
+inverse b (Extend sample front back) = Trim sample (length front) (length back)
+inverse b (SetLoop sample looped) = option_map_or (λ (s : Sample). SetLoop sample s.looped) (slice_get b.samples sample) (SetLoop sample looped)
+inverse b (SetKind sample kind) = option_map_or (λ (s : Sample). SetKind sample s.kind) (slice_get b.samples sample) (SetKind sample kind)
+inverse b (SetTune sample rate key correction) =
+    option_map_or (λ (s : Sample). SetTune sample s.rate s.key s.correction) (slice_get b.samples sample) (SetTune sample rate key correction)
 inverse b (AddZone o at zone) = RemoveZone o at
 inverse b (RemoveZone o zone) = option_map_or (λ (z : Zone). AddZone o zone z) (zone_of b o zone) (RemoveZone o zone)
 inverse b (MoveZone o from to) = MoveZone o to from
@@ -62,6 +69,11 @@ GrowsNothing (RenameSample sample name) = Unit {0}
 GrowsNothing (AddSample at sample) = ⊥
 GrowsNothing (RemoveSample sample) = ⊥
 GrowsNothing (MoveSample from to) = Unit {0}
+GrowsNothing (Trim sample front back) = ⊥
+GrowsNothing (Extend sample front back) = ⊥
+GrowsNothing (SetLoop sample looped) = Unit {0}
+GrowsNothing (SetKind sample kind) = Unit {0}
+GrowsNothing (SetTune sample rate key correction) = Unit {0}
 GrowsNothing (AddZone o at zone) = ⊥
 GrowsNothing (RemoveZone o zone) = ⊥
 GrowsNothing (MoveZone o from to) = ⊥

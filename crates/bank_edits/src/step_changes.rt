@@ -6,6 +6,7 @@ ghost use Rattle.bank_edits.specs.StepChanges.{GrowsNothing, IsStepChange};
 
 use crate::instruments::{add_instrument, move_instrument, remove_instrument, rename_instrument};
 use crate::modulator_forms::{add_mod, remove_mod, set_mod};
+use crate::points::{extend, set_kind, set_loop, set_tune, trim};
 use crate::presets::{add_preset, move_preset, remove_preset, set_head};
 use crate::samples::{add_sample, move_sample, remove_sample, rename_sample};
 use crate::settings::{clear_gen, set_gen};
@@ -47,6 +48,24 @@ pub(crate) fn change_step<'a>(
         Step::AddSample { at, sample } => add_sample(bank, at, sample),
         Step::RemoveSample { sample } => Ok(remove_sample(bank, sample)),
         Step::MoveSample { from, to } => Ok(move_sample(bank, from, to)),
+        Step::Trim {
+            sample,
+            front,
+            back,
+        } => trim(alloc, bank, sample, front, back),
+        Step::Extend {
+            sample,
+            front,
+            back,
+        } => extend(bank, sample, front, back),
+        Step::SetLoop { sample, looped } => Ok(set_loop(bank, sample, looped)),
+        Step::SetKind { sample, kind } => Ok(set_kind(bank, sample, kind)),
+        Step::SetTune {
+            sample,
+            rate,
+            key,
+            correction,
+        } => Ok(set_tune(bank, sample, rate, key, correction)),
         Step::AddZone { owner, at, zone } => add_zone(bank, owner, at, zone),
         Step::RemoveZone { owner, zone } => remove_zone(alloc, bank, owner, zone),
         Step::MoveZone { owner, from, to } => Ok(move_zone(bank, owner, from, to)),

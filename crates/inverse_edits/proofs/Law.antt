@@ -1,11 +1,12 @@
 -- Undo restores, for every form of edit.
 use Rattle.edit_forms.specs.declared.edit.Edit.TheVariants.{One}
-use Rattle.edit_forms.specs.declared.edit.Step.TheVariants.{AddPreset, RemovePreset, MovePreset, SetHead, AddInstrument, RemoveInstrument, RenameInstrument, MoveInstrument, RenameSample, AddSample, RemoveSample, MoveSample, AddZone, RemoveZone, MoveZone, SplitZone, JoinZone, SetTarget, SetGen, ClearGen, AddMod, RemoveMod, SetMod, SetInfo}
+use Rattle.edit_forms.specs.declared.edit.Step.TheVariants.{AddPreset, RemovePreset, MovePreset, SetHead, AddInstrument, RemoveInstrument, RenameInstrument, MoveInstrument, RenameSample, AddSample, RemoveSample, MoveSample, Trim, Extend, SetLoop, SetKind, SetTune, AddZone, RemoveZone, MoveZone, SplitZone, JoinZone, SetTarget, SetGen, ClearGen, AddMod, RemoveMod, SetMod, SetInfo}
 use Rattle.inverse_edits.specs.Undone.{UndoRestores}
 use Rattle.inverse_edits.proofs.PresetLaws.{undone_add_preset, undone_remove_preset, undone_move_preset, undone_set_head}
 use Rattle.inverse_edits.proofs.InstrumentLaws.{undone_add_instrument, undone_remove_instrument, undone_rename_instrument, undone_move_instrument}
 use Rattle.inverse_edits.proofs.ModulatorLaws.{undone_add_mod, undone_remove_mod, undone_set_mod}
 use Rattle.inverse_edits.proofs.SampleLaws.{undone_rename, undone_add, undone_remove, undone_move_sample}
+use Rattle.inverse_edits.proofs.PointLaws.{undone_trim, undone_extend, undone_set_loop, undone_set_kind, undone_set_tune}
 use Rattle.inverse_edits.proofs.SettingLaws.{undone_set_gen, undone_clear_gen}
 use Rattle.inverse_edits.proofs.TextLaws.{undone_set_info}
 use Rattle.inverse_edits.proofs.ZoneLaws.{undone_add_zone, undone_remove_zone, undone_move_zone, undone_set_target}
@@ -24,6 +25,11 @@ undone b (One (RenameSample i name)) = undone_rename b i name
 undone b (One (AddSample i s)) = undone_add b i s
 undone b (One (RemoveSample i)) = undone_remove b i
 undone b (One (MoveSample i j)) = undone_move_sample b i j
+undone b (One (Trim i front back)) = undone_trim b i front back
+undone b (One (Extend i front back)) = undone_extend b i front back
+undone b (One (SetLoop i looped)) = undone_set_loop b i looped
+undone b (One (SetKind i kind)) = undone_set_kind b i kind
+undone b (One (SetTune i rate key correction)) = undone_set_tune b i rate key correction
 undone b (One (SetInfo id text)) = undone_set_info b id text
 undone b (One (AddZone o at zone)) = undone_add_zone b o at zone
 undone b (One (RemoveZone o zone)) = undone_remove_zone b o zone

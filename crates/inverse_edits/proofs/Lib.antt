@@ -2,6 +2,7 @@ pub mod UndoneBy
 pub mod PresetLaws
 pub mod InstrumentLaws
 pub mod SampleLaws
+pub mod PointLaws
 pub mod TextLaws
 pub mod ZoneLaws
 pub mod ModulatorLaws

@@ -1,4 +1,5 @@
-use Rattle.std.proofs.Common.{refl, sym}
+use Rattle.std.proofs.Common.{◌≡◌, ◌+◌, length, sym, arith}
+use Rattle.bank_parts.specs.Counts.{counted}
 use Rattle.edit_forms.specs.declared.edit.Step.TheVariants.{Extend}
 use Rattle.edit_forms.proofs.Accepted.{by_limit, below}
 use Rattle.edit_forms.proofs.points.refuse_extend.Goals as goal
@@ -10,5 +11,5 @@ returns c =
     let front = c.args.front.now in
     let back = c.args.back.now in
     let there = c.in_ok-no_such_sample.ensures in
-    by_limit b (Extend i front back) c.broken_with_points.result c.full.result (there, tt)
-    (sym (c.broken_with_points.ensures i front back (below _ i there) search)) c.full.ensures
+    let many : c.saturating_add-more.result ≡ counted (length front + length back) = omega (arith, c.len.ensures.value, c.len-2.ensures.value, c.saturating_add-more.ensures) in
+    by_limit b (Extend i front back) c.broken_with_points.result c.full.result (there, tt) (sym (c.broken_with_points.ensures i front back (below _ i there) many)) c.full.ensures
