@@ -40,8 +40,18 @@ fn widen(sums: &[i32], totals: &mut [i128])
     }
 }
 
+// Each sum as 16 bits.
+fn cut_sums(sums: &[i32], out: &mut [i16])
+    requires { length sums.now ≡ length out.old }
+    ensures { EachIndex out.new (λ i. slice_index_or out.new i (pos 0) ≡ heard.cut (slice_index_or sums.now i (pos 0))) }
+{
+    for i in 0..out.len() {
+        out[i] = sums[i].min(32767).max(-32768) as i16;
+    }
+}
+
 // Each total as 16 bits.
-fn cut_all(totals: &[i128], out: &mut [i16])
+fn cut_totals(totals: &[i128], out: &mut [i16])
     requires { length totals.now ≡ length out.old }
     ensures { EachIndex out.new (λ i. slice_index_or out.new i (pos 0) ≡ heard.cut (slice_index_or totals.now i (pos 0))) }
 {
@@ -98,9 +108,25 @@ fn add_all(voices: &mut [Playing], totals: &mut [i128])
     }
 }
 
-// A part of a block.
+// A part of a block of no more voices than a group has.
 #[tactic(auto, unfolding(crate::specs::Events::next_side))]
-fn mix_part(voices: &mut [Playing], out: &mut [i16])
+fn mix_group(voices: &mut [Playing], out: &mut [i16])
+    requires few { length voices.old ≤ 65535 }
+    requires young { AllYounger (2 ^ 63 + 2 ^ 34) voices.old }
+    requires short { length out.old ≤ 512 }
+    requires even { length out.old % 2 ≡ 0 }
+    ensures value { EachIndex out.new (λ i. slice_index_or out.new i (pos 0) ≡ next_side voices.old i) }
+    ensures live { voices.new ≡ map (aged (length out.old / 2)) voices.old }
+{
+    let mut sums = silent_sums();
+    let n = out.len();
+    add_group(voices, &mut sums[..n]);
+    cut_sums(&sums[..n], out);
+}
+
+// A part of a block of any number of voices.
+#[tactic(auto, unfolding(crate::specs::Events::next_side))]
+fn mix_groups(voices: &mut [Playing], out: &mut [i16])
     requires young { AllYounger (2 ^ 63 + 2 ^ 34) voices.old }
     requires short { length out.old ≤ 512 }
     requires even { length out.old % 2 ≡ 0 }
@@ -110,7 +136,22 @@ fn mix_part(voices: &mut [Playing], out: &mut [i16])
     let mut totals = silent_totals();
     let n = out.len();
     add_all(voices, &mut totals[..n]);
-    cut_all(&totals[..n], out);
+    cut_totals(&totals[..n], out);
+}
+
+// A part of a block.
+fn mix_part(voices: &mut [Playing], out: &mut [i16])
+    requires young { AllYounger (2 ^ 63 + 2 ^ 34) voices.old }
+    requires short { length out.old ≤ 512 }
+    requires even { length out.old % 2 ≡ 0 }
+    ensures value { EachIndex out.new (λ i. slice_index_or out.new i (pos 0) ≡ next_side voices.old i) }
+    ensures live { voices.new ≡ map (aged (length out.old / 2)) voices.old }
+{
+    if voices.len() <= GROUP {
+        mix_group(voices, out);
+    } else {
+        mix_groups(voices, out);
+    }
 }
 
 // A block, part by part. The voices are left as they are then, those that are over among them.
