@@ -15,4 +15,6 @@ mod samples;
 #[cfg(test)]
 mod scripts;
 #[cfg(test)]
+mod sessions;
+#[cfg(test)]
 mod texts;

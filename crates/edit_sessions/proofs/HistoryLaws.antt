@@ -1,7 +1,6 @@
 -- Histories of a bank with the edits that take it back and those that come next.
-use Rattle.std.proofs.Common.{◌≡◌, ℕ, ◌+◌, ◌<◌, List, [], ◌∷◌, ◌++◌, map, reverse, length, take, refl, sym, subst, ◌∙◌, ap, append_assoc, Some, arith}
+use Rattle.std.proofs.Common.{◌≡◌, ◌+◌, List, [], ◌∷◌, ◌++◌, map, reverse, length, take, refl, sym, subst, ◌∙◌, ap, append_assoc, Some, arith}
 use Rattle.std.proofs.lemmas.Grind.{common_steps}
-use Rattle.std.proofs.lemmas.List.{append-nil}
 use Rattle.std.proofs.Math.Seq.{take-append_seam}
 use Rattle.std.specs.Prelude.{zip}
 use Rattle.bank_parts.specs.declared.parts.Parts.{Parts}
@@ -9,10 +8,9 @@ use Rattle.bank_parts.specs.Sound.{IsSound}
 use Rattle.edit_forms.specs.declared.edit.Edit.{Edit}
 use Rattle.edit_forms.specs.Edits.{raw}
 use Rattle.bank_edits.specs.EditChanges.{inverse}
-use Rattle.inverse_edits.specs.Undone.{IsTaken, IsUndone}
 use Rattle.inverse_edits.specs.Runs.{AllTaken, undo_list}
 use Rattle.inverse_edits.proofs.Law.{undone}
-use Rattle.edit_sessions.specs.Histories.{History, IsHistory, AreLinked, Follow, IsForth, bank_now, edited, way_back, banks_before, banks_after, history_of}
+use Rattle.edit_sessions.specs.Histories.{IsHistory, AreLinked, Follow, IsForth, bank_now, edited, way_back, banks_before, banks_after, history_of}
 use Rattle.edit_sessions.proofs.ListLaws.{get_seam, take_past_seam, take_zip, map_zip_push, reverse_cons}
 
 -- ---- lengths
@@ -46,7 +44,7 @@ linked_before b (e ∷ undos) banks edits s t f =
     let c : Parts = raw b e in
     let there = linked_before c undos (b ∷ banks) (inverse b e ∷ edits) u.sound t.1 (u.taken, sym u.restored, f) in
     subst (λ (l : List Parts). AreLinked l ((undo_list c undos ++ inverse b e ∷ []) ++ edits)) (sym (append_assoc (banks_before c undos) (c ∷ []) (b ∷ banks)))
-      (subst (λ (l : List Edit). AreLinked (banks_before c undos ++ c ∷ b ∷ banks) l) (sym (append_assoc (undo_list c undos) (inverse b e ∷ []) edits)) there)
+    (subst (λ (l : List Edit). AreLinked (banks_before c undos ++ c ∷ b ∷ banks) l) (sym (append_assoc (undo_list c undos) (inverse b e ∷ []) edits)) there)
 
 pub is_history : (b : Parts) (undos next : List Edit) → IsSound b → AllTaken b undos → AllTaken b next → IsHistory (history_of b undos next)
 is_history b undos next s t n = record {
@@ -69,7 +67,7 @@ module _ (b c : Parts) (e i : Edit) (undos next : List Edit) (back : raw c i ≡
   pub forth : raw b e ≡ c → IsForth (history_of b undos (e ∷ next)) (history_of c (i ∷ undos) next)
   forth there =
       let banks : (banks_before (raw c i) undos ++ raw c i ∷ []) ++ c ∷ banks_after c next ≡ banks_before b undos ++ b ∷ raw b e ∷ banks_after (raw b e) next
-            = banks_grow (c ∷ banks_after c next) ∙ ap (λ (x : Parts). banks_before b undos ++ b ∷ x ∷ banks_after x next) (sym there) in
+      = banks_grow (c ∷ banks_after c next) ∙ ap (λ (x : Parts). banks_before b undos ++ b ∷ x ∷ banks_after x next) (sym there) in
       let place : length (i ∷ undos) ≡ length undos + 1 = omega arith in
       record {
         next = omega (arith, bank_total b undos (e ∷ next));
@@ -79,13 +77,13 @@ module _ (b c : Parts) (e i : Edit) (undos next : List Edit) (back : raw c i ≡
   pub edit_done : (was : List Edit) → history_of c (i ∷ undos) [] ≡ edited (history_of b undos was) e c
   edit_done was =
       let kept_banks : take (length undos + 1) (banks_before b undos ++ b ∷ banks_after b was) ≡ banks_before b undos ++ b ∷ []
-            = rw (← length_before b undos) (take_past_seam (banks_before b undos) (banks_after b was) b) in
+      = rw (← length_before b undos) (take_past_seam (banks_before b undos) (banks_after b was) b) in
       let kept_edits : take (length undos) (undo_list b undos ++ was) ≡ undo_list b undos
-            = rw (← length_undos b undos) (take-append_seam (undo_list b undos) was) in
+      = rw (← length_undos b undos) (take-append_seam (undo_list b undos) was) in
       let banks : (banks_before (raw c i) undos ++ raw c i ∷ []) ++ c ∷ [] ≡ take (length undos + 1) (banks_before b undos ++ b ∷ banks_after b was) ++ c ∷ []
-            = banks_grow (c ∷ []) ∙ (sym (append_assoc (banks_before b undos) (b ∷ []) (c ∷ [])) ∙ ap (λ (l : List Parts). l ++ c ∷ []) (sym kept_banks)) in
+      = banks_grow (c ∷ []) ∙ (sym (append_assoc (banks_before b undos) (b ∷ []) (c ∷ [])) ∙ ap (λ (l : List Parts). l ++ c ∷ []) (sym kept_banks)) in
       let edits : (undo_list (raw c i) undos ++ inverse c i ∷ []) ++ [] ≡ take (length undos) (undo_list b undos ++ was) ++ e ∷ []
-            = edits_grow [] ∙ ap (λ (l : List Edit). l ++ e ∷ []) (sym kept_edits) in
+      = edits_grow [] ∙ ap (λ (l : List Edit). l ++ e ∷ []) (sym kept_edits) in
       let place : length (i ∷ undos) ≡ length undos + 1 = omega arith in
       λ k. record { banks = banks k; edits = edits k; place = place k }
 
@@ -99,12 +97,12 @@ inverses b (e ∷ undos) s t =
     let c : Parts = raw b e in
     let f = λ (step : Parts × Edit). inverse step.0 step.1 in
     map_zip_push f (banks_before c undos) (undo_list c undos) c (inverse b e) (length_before c undos ∙ sym (length_undos c undos))
-      ∙ (ap (λ (l : List Edit). l ++ inverse c (inverse b e) ∷ []) (inverses c undos u.sound t.1)
-      ∙ (ap (λ (x : Edit). reverse undos ++ x ∷ []) u.redone ∙ sym (reverse_cons undos e)))
+    ∙ (ap (λ (l : List Edit). l ++ inverse c (inverse b e) ∷ []) (inverses c undos u.sound t.1)
+    ∙ (ap (λ (x : Edit). reverse undos ++ x ∷ []) u.redone ∙ sym (reverse_cons undos e)))
 
 pub way_back_is : (b : Parts) (undos next : List Edit) → IsSound b → AllTaken b undos → way_back (history_of b undos next) ≡ reverse undos
 way_back_is b undos next s t =
     let f = λ (step : Parts × Edit). inverse step.0 step.1 in
     let cut : take (length undos) (zip (banks_before b undos ++ b ∷ banks_after b next) (undo_list b undos ++ next)) ≡ zip (banks_before b undos) (undo_list b undos)
-          = rw (← length_undos b undos) (take_zip (banks_before b undos) (b ∷ banks_after b next) (undo_list b undos) next (length_before b undos ∙ sym (length_undos b undos))) in
+    = rw (← length_undos b undos) (take_zip (banks_before b undos) (b ∷ banks_after b next) (undo_list b undos) next (length_before b undos ∙ sym (length_undos b undos))) in
     ap (λ (l : List (Parts × Edit)). map f l) cut ∙ inverses b undos s t

@@ -1,5 +1,5 @@
 -- Steps over a bank and its lists of edits, whose last edit is the next one, as steps of the history.
-use Rattle.std.proofs.Common.{◌≡◌, ◌<◌, List, [], ◌∷◌, ◌++◌, reverse, length, refl, sym, subst, ◌∙◌, ap, arith, OnOk, IfErr}
+use Rattle.std.proofs.Common.{◌≡◌, List, [], ◌∷◌, reverse, refl, sym, subst, ◌∙◌, ap, arith, OnOk, IfErr}
 use Rattle.std.specs.Prelude.{Result, Ok, Err}
 use Rattle.std.proofs.lemmas.Grind.{common_steps}
 use Rattle.sf_base.specs.declared.memory.Failure.{Failure}
@@ -11,13 +11,13 @@ use Rattle.edit_forms.specs.declared.cause.Refusal.{Refusal}
 use Rattle.edit_forms.specs.declared.cause.Refusal.TheVariants as refusal_of
 use Rattle.edit_forms.specs.Edits.{raw}
 use Rattle.bank_edits.specs.EditChanges.{inverse}
-use Rattle.inverse_edits.specs.Undone.{IsTaken, IsUndone}
+use Rattle.inverse_edits.specs.Undone.{IsUndone}
 use Rattle.inverse_edits.specs.Runs.{AllTaken}
 use Rattle.inverse_edits.proofs.Law.{undone}
 use Rattle.edit_sessions.specs.declared.fault.SessionFault.{SessionFault}
 use Rattle.edit_sessions.specs.declared.fault.SessionFault.TheVariants.{NothingToUndo, NothingToRedo}
-use Rattle.edit_sessions.specs.Steps.{IsStep, IsDoneStep, IsNoStep, IsDoneEdit, IsWhy}
-use Rattle.edit_sessions.specs.Histories.{history_of, IsForth, IsRedoFailure, edited, IsEdited, IsRefusalNow}
+use Rattle.edit_sessions.specs.Steps.{IsStep, IsDoneStep, IsDoneEdit, IsWhy}
+use Rattle.edit_sessions.specs.Histories.{history_of, IsForth, IsRedoFailure, IsEdited, IsRefusalNow}
 use Rattle.edit_sessions.proofs.ListLaws.{reverse_push}
 use Rattle.edit_sessions.proofs.HistoryLaws.{forth, edit_done, bank_total, stands}
 
@@ -49,7 +49,7 @@ module _ (old new : Parts) (f f' t t' : List Edit) (s : IsSound old) (from : All
   step_keeps at_end (Ok u) d to =
       let h = done d in
       let there : Keeps (raw old d.edit) (reverse f') (inverse old d.edit ∷ reverse t)
-            = record { sound = h.undone_is.sound; back = h.rest; forth = taken_back old d.edit (reverse t) h.undone_is to } in
+      = record { sound = h.undone_is.sound; back = h.rest; forth = taken_back old d.edit (reverse t) h.undone_is to } in
       subst (λ (b : Parts). Keeps b (reverse f') (reverse t')) (sym d.changed) (subst (Keeps (raw old d.edit) (reverse f')) (sym h.to_is) there)
   step_keeps at_end (Err (failure.Fault x)) d to = rw (d.0.bank, d.0.from, d.0.to) (record { sound = s; back = from; forth = to })
   step_keeps at_end (Err failure.OutOfMemory) d to = rw (d.0.bank, d.0.from, d.0.to) (record { sound = s; back = from; forth = to })
