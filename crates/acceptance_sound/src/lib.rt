@@ -8,6 +8,8 @@ mod linear;
 #[cfg(test)]
 mod notes;
 #[cfg(test)]
+mod plays;
+#[cfg(test)]
 mod selection;
 #[cfg(test)]
 mod single_voices;

@@ -15,9 +15,9 @@ use worked_files::{empty, tone};
 use zone_select::params;
 
 /// A sample of the points 1000, 2000, -2000 with a loop from the second on, and one of one point.
-const THREE: &[u8] = b"add-sample 0 \"t\" 44100 60 0 mono loop 1 3 xe803d00730f8\n";
+pub(crate) const THREE: &[u8] = b"add-sample 0 \"t\" 44100 60 0 mono loop 1 3 xe803d00730f8\n";
 
-const ONE: &[u8] = b"add-sample 0 \"c\" 44100 60 0 mono loop 0 1 xe803\n";
+pub(crate) const ONE: &[u8] = b"add-sample 0 \"c\" 44100 60 0 mono loop 0 1 xe803\n";
 
 const PRESET: &[u8] = b"add-preset 0 \"p\" 0 0 0 0 0 { 0 }\n";
 
@@ -25,7 +25,7 @@ const PRESET: &[u8] = b"add-preset 0 \"p\" 0 0 0 0 0 { 0 }\n";
 type Frames<'a> = &'a [(i32, i32)];
 
 // The file of a bank of a sample, an instrument and a preset of the numbers 0 and 0.
-fn file_of(alloc: Global, sample: &[u8], instrument: &[u8]) -> Result<Vec<u8>, Fail> {
+pub(crate) fn file_of(alloc: Global, sample: &[u8], instrument: &[u8]) -> Result<Vec<u8>, Fail> {
     let mut script = Vec::from_slice(alloc, sample)?;
     script.extend_from_slice(instrument)?;
     script.extend_from_slice(PRESET)?;
