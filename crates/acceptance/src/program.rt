@@ -102,6 +102,10 @@ sfbank apply no/in no/none no/out no/undo -> 5 sfbank: file fault no/none
 sfbank apply no/cut no/frob no/out no/undo -> 2 sfbank: read fault 3 Truncated
 sfbank apply no/in no/frob no/out no/undo -> 3 sfbank: line 2: fault 41 Syntax
 sfbank apply no/in no/other no/out no/undo -> 4 sfbank: line 1: refused 22 NoSuchSample
+sfbank play no/cut no/frob no/out -> 2 sfbank: read fault 3 Truncated
+sfbank play no/in no/frob no/out -> 3 sfbank: line 2: fault 45 BadNote
+sfbank play no/in no/none no/out -> 5 sfbank: file fault no/none
+sfbank play no/in no/notes no/no/out -> 5 sfbank: write fault no/no/out after 0 bytes
 sfbank apply no/in no/rename no/no/out no/undo -> 5 sfbank: write fault no/no/out after 0 bytes
 sfbank apply no/in no/rename /dev/full no/undo -> 5 sfbank: write fault /dev/full after 0 bytes
 ";
@@ -127,8 +131,9 @@ fn is_refused(rt: &HostRuntime, row: &str) -> bool {
 #[test]
 fn refused_runs_make_no_file(rt: HostRuntime) -> Result<(), Fail> {
     let one = saw();
-    let files: [(&str, &[u8]); 5] = [
+    let files: [(&str, &[u8]); 6] = [
         ("no/in", one.bytes()),
+        ("no/notes", b"0 1 0 0 60 127\n"),
         ("no/cut", front_of(one.bytes(), 400)),
         ("no/rename", RENAME),
         ("no/frob", b"\nfrob\n"),
@@ -185,6 +190,7 @@ fn what_goes_to_the_output(rt: HostRuntime) -> Result<(), Fail> {
             b"Writes a bank in its one spelling"
         )
     );
+    assert!(rt; tells(&rt, "sfbank help play", b"Plays notes on a bank"));
     assert!(rt; tells(&rt, "sfbank show --help", b"Tells what a bank has"));
     Ok(())
 }
@@ -207,6 +213,7 @@ fn words_that_are_no_run(rt: HostRuntime) {
         "sfbank apply --frob a b c",
         "sfbank canon a",
         "sfbank canon a b c",
+        "sfbank play a b",
         "sfbank show",
         "sfbank show a b",
     ] {

@@ -10,6 +10,8 @@ mod notes;
 #[cfg(test)]
 mod players;
 #[cfg(test)]
+mod plays;
+#[cfg(test)]
 mod rendered;
 #[cfg(test)]
 mod selection;

@@ -15,13 +15,13 @@ const FRAMES: [i16; 16] = [
 ];
 
 /// The file of those frames.
-const FILE: &[u8] =
+pub(crate) const FILE: &[u8] =
     b"RIFF\x44\0\0\0WAVEfmt \x10\0\0\0\x01\0\x02\0\x44\xac\0\0\x10\xb1\x02\0\x04\0\x10\0\
 data\x20\0\0\0\xf4\x01\xf4\x01\x03\0\x03\0\xe1\x03\xe1\x03\xf5\xff\xf5\xff\x25\xfc\x25\xfc\x10\0\x10\0\
 \xd3\x03\xd3\x03\xe8\xff\xe8\xff";
 
 /// The file of no frame.
-const SILENCE: &[u8] =
+pub(crate) const SILENCE: &[u8] =
     b"RIFF\x24\0\0\0WAVEfmt \x10\0\0\0\x01\0\x02\0\x44\xac\0\0\x10\xb1\x02\0\x04\0\x10\0\
 data\0\0\0\0";
 

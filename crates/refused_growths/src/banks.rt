@@ -4,7 +4,7 @@ use bank_core::Bank;
 use sf_base::front_of;
 use sf_reader::read;
 use sf_writer::write;
-use sfbank::{RunFault, canon_run, edit_run, show_run};
+use sfbank::{RunFault, canon_run, edit_run, play_run, show_run};
 use std::alloc::Global;
 use std::io;
 use std::io::{ErrorKind, Write};
@@ -169,6 +169,24 @@ pub(crate) fn listing_run(alloc: Global) -> Outcome {
 
 fn is_listing(out: &Fixed) -> bool {
     out.held[..].starts_with(b"bank 4 presets 1 instruments 1 samples 1 points 2\n".as_slice())
+}
+
+/// Plays two frames of a note. Want of memory leaves no byte, and the run is made again.
+pub(crate) fn playing_run(alloc: Global) -> Outcome {
+    let notes = b"0 2 0 0 60 127\n";
+    let mut out = fixed_writer();
+    match play_run(alloc, BANK, notes, &mut out) {
+        Ok(()) => Outcome::done(is_wave(&out)),
+        Err(RunFault::Memory) if out.len == 0 => {
+            let again = play_run(alloc, BANK, notes, &mut out);
+            Outcome::refused(again.is_ok() && is_wave(&out))
+        }
+        Err(_) => Outcome::Wrong,
+    }
+}
+
+fn is_wave(out: &Fixed) -> bool {
+    out.len == 52 && out.held[..].starts_with(b"RIFF\x2c\0\0\0WAVE".as_slice())
 }
 
 /// Reads the bank and copies it. A refused read, or copy, is made again.

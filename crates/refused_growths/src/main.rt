@@ -11,7 +11,7 @@ mod generator_maps;
 mod outcome;
 mod points;
 
-use crate::banks::{EDITS, bank_copy, canonical_run, edit_and_return, listing_run};
+use crate::banks::{EDITS, bank_copy, canonical_run, edit_and_return, listing_run, playing_run};
 use crate::generator_maps::{generators_copy, generators_set};
 use crate::outcome::Outcome;
 use crate::points::{points_copy, points_join, points_narrow};
@@ -27,6 +27,7 @@ fn main(rt: HostRuntime) -> ExitCode {
         generators_copy(alloc),
         canonical_run(alloc),
         listing_run(alloc),
+        playing_run(alloc),
         bank_copy(alloc),
     ];
     let mut outcome = Outcome::Done;

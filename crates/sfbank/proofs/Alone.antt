@@ -1,4 +1,4 @@
--- Runs with one text: the canonical file, and the listing.
+-- Runs with one text: the canonical file, the listing, and the sound.
 use Rattle.std.proofs.Common.{◌≡◌, ℕ, List, [], Option, Some, None, Result, Ok, Err, refl, sym, ap, ◌∙◌}
 use Rattle.std.proofs.KnownBytes.{Keeps-refl}
 use Rattle.sf_base.specs.declared.memory.Failure.{Failure}
@@ -28,7 +28,7 @@ use Rattle.sfbank.proofs.Restores.{reading_done}
 
 -- ---- a file that can't be read
 
-not_read : (U : Type 0) (failure : Failure ReadFault) (known : Option (List ℕ)) (broken : Option ReadFault) (r : Result (List ℕ) RunFault) → Fails failure broken
+pub not_read : (U : Type 0) (failure : Failure ReadFault) (known : Option (List ℕ)) (broken : Option ReadFault) (r : Result (List ℕ) RunFault) → Fails failure broken
     → RunsAlone {U = U} known known (after_reading broken r) (Err (in_run run.Read failure))
 not_read U (failures.Fault fault) known broken r h = (ap (λ o. after_reading o r) h, Keeps-refl known)
 not_read U failures.OutOfMemory known broken r h = Keeps-refl known
@@ -45,7 +45,7 @@ show_not_read U failure known file h = not_read U failure known (fault_of file) 
 
 -- ---- a text that goes out
 
-sent_text : {U : Type 0} (old new : Option (List ℕ)) (outcome : Result (List ℕ) RunFault) (text : List ℕ) (r : Result U RunFault) → outcome ≡ Ok text → GoesOut Out old new text r
+pub sent_text : {U : Type 0} (old new : Option (List ℕ)) (outcome : Result (List ℕ) RunFault) (text : List ℕ) (r : Result U RunFault) → outcome ≡ Ok text → GoesOut Out old new text r
     → RunsAlone old new outcome r
 sent_text old new outcome text (Ok u) e h = record { text = text; is_text = e; sends = h }
 sent_text old new outcome text (Err (run.Write which n)) e h = record { text = text; is_text = e; sends = h }
@@ -53,6 +53,7 @@ sent_text old new outcome text (Err run.Memory) e h = absurd h
 sent_text old new outcome text (Err (run.Read fault)) e h = absurd h
 sent_text old new outcome text (Err (run.Script fault)) e h = absurd h
 sent_text old new outcome text (Err (run.Refused number cause)) e h = absurd h
+sent_text old new outcome text (Err (run.Notes fault)) e h = absurd h
 
 canon_text : (file : List ℕ) (b : Parts) (counts : Counts) → ReadsAs file b counts → canon_outcome file ≡ Ok (canon b)
 unfolding canon_outcome

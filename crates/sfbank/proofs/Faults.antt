@@ -63,6 +63,7 @@ at_line b script lines (run.Refused number cause) e h =
 at_line b script lines run.Memory e h = tt
 at_line b script lines (run.Read fault) e h = absurd h
 at_line b script lines (run.Script fault) e h = absurd h
+at_line b script lines (run.Notes fault) e h = absurd h
 at_line b script lines (run.Write which n) e h = h
 
 abbrev texts : Parts → List Edit → Done

@@ -3,4 +3,5 @@ pub mod Applying
 pub mod Endings
 pub mod Faults
 pub mod Restores
+pub mod Sounds
 pub mod Texts

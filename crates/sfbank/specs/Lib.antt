@@ -4,6 +4,9 @@ pub use Rattle.inverse_edits.specs.Runs
 pub use Rattle.edit_script.specs.Script
 pub use Rattle.edit_script.specs.Printing
 pub use Rattle.bank_listing.specs.Listing
+pub use Rattle.note_list.specs.Notes
+pub use Rattle.mixer.specs.Render
+pub use Rattle.wave_file.specs.Wave
 pub mod Outcome
 pub mod Written
 pub mod Planned

@@ -16,6 +16,10 @@ use Rattle.line_tokens.specs.declared.fault.ScriptFault.{ScriptFault}
 use Rattle.edit_script.specs.Script.{script_of}
 use Rattle.edit_script.specs.Printing.{texts_of}
 use Rattle.bank_listing.specs.Listing.{listing}
+use Rattle.note_list.specs.declared.fault.NoteFault.{NoteFault}
+use Rattle.note_list.specs.Notes.{Numbers, notes_of}
+use Rattle.mixer.specs.Render.{render}
+use Rattle.wave_file.specs.Wave.{wave}
 use Rattle.sfbank.specs.declared.fault.RunFault.{RunFault}
 use Rattle.sfbank.specs.declared.fault.RunFault.TheVariants as run
 
@@ -80,12 +84,32 @@ canon_outcome file = after_reading (fault_of file) (Ok (canon (bank_in file)))
 unfoldable pub show_outcome : List ℕ → Result (List ℕ) RunFault
 show_outcome file = after_reading (fault_of file) (Ok (listing (bank_in file) (counts_in file)))
 
+-- the WAVE file of notes that are played on a bank, or their first fault
+abbrev pub after_notes : Parts → Result (List Numbers) NoteFault → Result (List ℕ) RunFault
+after_notes b (Ok notes) = Ok (wave (render b notes))
+after_notes b (Err fault) = Err (run.Notes fault)
+
+-- The first broken step of the file, else the first fault of the notes, else the WAVE file of the notes on its bank.
+unfoldable pub play_outcome : List ℕ → List ℕ → Result (List ℕ) RunFault
+play_outcome file notes = after_reading (fault_of file) (after_notes (bank_in file) (notes_of notes))
+
 -- Where these bytes come to a run that is done, the undo text, run on the written file alone, is done
 -- too: it writes the canonical file of the first bank, and the script's edits as they are printed.
 abbrev pub IsUndone : List ℕ → List ℕ → Type 0
 IsUndone file script =
     (done : Done) (lines : List Line) → outcome file script ≡ Ok done → script_of script ≡ Ok lines
     → outcome done.out done.undo ≡ Ok (record { out = canon (bank_in file); undo = texts_of (edits_of lines) })
+
+-- Where these bytes come to a run that is done, and its undo text on the written file to another, each list of notes comes
+-- to the same on the file written last as on the first.
+abbrev pub SoundsAgain : List ℕ → List ℕ → Type 0
+SoundsAgain file script =
+    (done back : Done) (notes : List ℕ) → outcome file script ≡ Ok done → outcome done.out done.undo ≡ Ok back
+    → play_outcome back.out notes ≡ play_outcome file notes
+
+-- Notes come to the same on the canonical file that these bytes come to.
+abbrev pub SoundsInCanon : List ℕ → List ℕ → Type 0
+SoundsInCanon file notes = (text : List ℕ) → canon_outcome file ≡ Ok text → play_outcome text notes ≡ play_outcome file notes
 
 -- a text, and no undo text
 abbrev pub without_undo : Result (List ℕ) RunFault → Result Done RunFault

@@ -4,6 +4,7 @@ ghost use Rattle.outputs.specs.Output.{Puts};
 ghost use Rattle.bank_format.specs.Canon.{canon};
 ghost use Rattle.bank_listing.specs.Listing.{listing};
 ghost use Rattle.edit_script.specs.Printing.{texts_of};
+ghost use Rattle.wave_file.specs.Wave.{FitsWave, wave};
 ghost use Rattle.sfbank.specs.declared.fault.Which.TheVariants.{Out, Undo};
 ghost use Rattle.sfbank.specs.Written.{Delivers, GoesOut, IsTold};
 ghost use Rattle.sfbank.specs.Plans.{planned};
@@ -18,6 +19,7 @@ use edit_script::put_edit;
 use outputs::{Output, WriteFault};
 use sf_writer::put_bank;
 use std::io::Write;
+use wave_file::put_wave;
 
 /// The bank's file goes out, and then the undo text. It takes no memory.
 pub(crate) fn deliver<W: Write, V: Write>(
@@ -53,6 +55,18 @@ pub(crate) fn deliver_listing<W: Write>(
 {
     let mut output = Output::to(out);
     put_listing(bank, counts, &mut output);
+    told(Which::Out, output.deliver())
+}
+
+/// The WAVE file of frames goes out, which are samples of the left and the right side in turn. It takes
+/// no memory.
+#[tactic(auto, using(crate::proofs::Texts::text_goes_out))]
+pub(crate) fn deliver_wave<W: Write>(frames: &[i16], out: &mut W) -> Result<(), RunFault>
+    requires { FitsWave frames.now }
+    ensures { GoesOut Out (W.contents out.old) (W.contents out.new) (wave frames.now) result }
+{
+    let mut output = Output::to(out);
+    put_wave(frames, &mut output);
     told(Which::Out, output.deliver())
 }
 

@@ -1,12 +1,13 @@
 //! How a run ends that is not done.
 ghost use Rattle.std.specs.Prelude.{◌≡◌};
-ghost use Rattle.sfbank.specs.declared.fault.RunFault.TheVariants.{Read, Script, Memory};
+ghost use Rattle.sfbank.specs.declared.fault.RunFault.TheVariants.{Read, Script, Notes, Memory};
 ghost use Rattle.sfbank.specs.Planned.{in_run};
 
 use bank_edits::Cause;
 use bank_format::ReadFault;
 use edit_script::ScriptFault;
-use sf_base::Failure;
+use note_list::NoteFault;
+use sf_base::{Failure, OutOfMemory};
 use std::alloc::AllocFailed;
 use thiserror::Error;
 
@@ -29,6 +30,9 @@ pub enum RunFault {
     /// The first refused line, and the cause that stands against it.
     #[error("line {0}: {1}")]
     Refused(u64, Cause),
+    /// The first fault of the notes.
+    #[error("{0}")]
+    Notes(NoteFault),
     /// A writer took exactly so many bytes of its text, or all of them where its flush failed.
     #[error("write fault after {1} bytes")]
     Write(Which, u64),
@@ -56,6 +60,25 @@ impl From<Failure<ScriptFault>> for RunFault {
             Failure::Fault(fault) => RunFault::Script(fault),
             Failure::OutOfMemory => RunFault::Memory,
         }
+    }
+}
+
+impl From<Failure<NoteFault>> for RunFault {
+    ghost from_gives = { λ failure fault. fault ≡ in_run Notes failure };
+
+    fn from(failure: Failure<NoteFault>) -> RunFault {
+        match failure {
+            Failure::Fault(fault) => RunFault::Notes(fault),
+            Failure::OutOfMemory => RunFault::Memory,
+        }
+    }
+}
+
+impl From<OutOfMemory> for RunFault {
+    ghost from_gives = { λ _ fault. fault ≡ Memory };
+
+    fn from(_error: OutOfMemory) -> RunFault {
+        RunFault::Memory
     }
 }
 

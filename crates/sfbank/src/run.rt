@@ -1,6 +1,6 @@
 //! A run, from bytes to bytes.
 ghost use Rattle.std.specs.Prelude.{◌≡◌};
-ghost use Rattle.sfbank.specs.Outcome.{outcome, IsUndone};
+ghost use Rattle.sfbank.specs.Outcome.{outcome, IsUndone, SoundsAgain};
 ghost use Rattle.sfbank.specs.Written.{Runs};
 
 use crate::deliver::deliver;
@@ -29,6 +29,8 @@ pub fn edit_run<W: Write, V: Write>(
         (outcome file.now script.now) result }
     // Run on the written file alone, the undo text writes the canonical file of the first bank.
     ensures restores { IsUndone file.now script.now }
+    // Each list of notes sounds on the file that is written then as on the first.
+    ensures sounds { SoundsAgain file.now script.now }
 {
     let (bank, _counts) = read(alloc, file)?;
     let pool = pool_of(alloc, script)?;

@@ -5,18 +5,27 @@ use Rattle.bank_format.specs.declared.fault.ReadFault.{ReadFault}
 use Rattle.bank_format.specs.FaultNames as reading
 use Rattle.line_tokens.specs.declared.fault.ScriptFault.{ScriptFault}
 use Rattle.line_tokens.specs.Faults as scripts
+use Rattle.note_list.specs.declared.fault.NoteFault.{NoteFault}
+use Rattle.note_list.specs.Faults as notes
 use Rattle.bank_validity.specs.declared.limits.Limit.{Limit}
 use Rattle.bank_validity.specs.Limits.{word_of}
 use Rattle.edit_forms.specs.declared.cause.Cause.{Cause}
 use Rattle.edit_forms.specs.CauseNames as causes
 use Rattle.sfbank.specs.declared.fault.RunFault.{RunFault}
-use Rattle.sfbank.specs.declared.fault.RunFault.TheVariants.{Read, Script, Refused, Write, Memory}
+use Rattle.sfbank.specs.declared.fault.RunFault.TheVariants.{Read, Script, Refused, Notes, Write, Memory}
 
 abbrev pub read_line : ReadFault → List ℕ
 read_line fault = concat (codes "sfbank: read fault " ∷ decimal (reading.number_of fault) ∷ codes " " ∷ reading.name_of fault ∷ codes "\n" ∷ [])
 
+-- a fault on a line of a text, by its number and its name
+abbrev pub text_line : ℕ → ℕ → List ℕ → List ℕ
+text_line line number name = concat (codes "sfbank: line " ∷ decimal line ∷ codes ": fault " ∷ decimal number ∷ codes " " ∷ name ∷ codes "\n" ∷ [])
+
 abbrev pub script_line : ScriptFault → List ℕ
-script_line fault = concat (codes "sfbank: line " ∷ decimal (scripts.line_of fault) ∷ codes ": fault " ∷ decimal (scripts.number_of fault) ∷ codes " " ∷ scripts.name_of fault ∷ codes "\n" ∷ [])
+script_line fault = text_line (scripts.line_of fault) (scripts.number_of fault) (scripts.name_of fault)
+
+abbrev pub notes_line : NoteFault → List ℕ
+notes_line fault = text_line (notes.line_of fault) (notes.number_of fault) (notes.name_of fault)
 
 -- the limit that a bank would break
 abbrev pub limit_text : Option Limit → List ℕ
@@ -42,6 +51,7 @@ unfoldable pub fault_line : List ℕ → RunFault → List ℕ
 fault_line path (Read fault) = read_line fault
 fault_line path (Script fault) = script_line fault
 fault_line path (Refused line cause) = refused_line line cause
+fault_line path (Notes fault) = notes_line fault
 fault_line path (Write which written) = write_line path written
 fault_line path Memory = codes "sfbank: out of memory\n"
 
@@ -50,5 +60,6 @@ abbrev pub status_of : RunFault → ℕ
 status_of (Read fault) = 2
 status_of (Script fault) = 3
 status_of (Refused line cause) = 4
+status_of (Notes fault) = 3
 status_of (Write which written) = 5
 status_of Memory = 6

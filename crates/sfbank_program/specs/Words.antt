@@ -3,14 +3,16 @@ use Rattle.std.specs.Prelude.{◌≡◌, ℕ, List, Option, Some, is_some, true,
 use Rattle.clap.specs.Words.{first_value}
 use Rattle.clap.specs.declared.parser.matches.Found.{Found}
 use Rattle.sfbank_program.specs.declared.words.Request.{Request}
-use Rattle.sfbank_program.specs.declared.words.Request.TheVariants.{Apply, Canon, Show}
+use Rattle.sfbank_program.specs.declared.words.Request.TheVariants.{Apply, Canon, Play, Show}
 use Rattle.sfbank_program.specs.declared.words.ApplyPaths.{ApplyPaths}
 use Rattle.sfbank_program.specs.declared.words.CanonPaths.{CanonPaths}
+use Rattle.sfbank_program.specs.declared.words.PlayPaths.{PlayPaths}
 
 -- a request is that of the command that was used
 abbrev pub IsOfCommand : Option (List ℕ) → Request → Type 0
 IsOfCommand used (Apply paths) = used ≡ Some (codes "apply")
 IsOfCommand used (Canon paths) = used ≡ Some (codes "canon")
+IsOfCommand used (Play paths) = used ≡ Some (codes "play")
 IsOfCommand used (Show input) = used ≡ Some (codes "show")
 
 -- a path that has a name
@@ -41,3 +43,10 @@ NamesCanonPaths found paths = NamesInput found paths.input.now × (first_value f
 
 abbrev pub HasCanonPaths : Found → Type 0
 HasCanonPaths found = HasInput found × IsGiven found (codes "OUT")
+
+abbrev pub NamesPlayPaths : Found → PlayPaths → Type 0
+NamesPlayPaths found paths =
+    NamesInput found paths.input.now × (first_value found (codes "NOTES") ≡ Some paths.notes.now) × (first_value found (codes "OUT") ≡ Some paths.out.now)
+
+abbrev pub HasPlayPaths : Found → Type 0
+HasPlayPaths found = HasInput found × IsGiven found (codes "NOTES") × IsGiven found (codes "OUT")

@@ -3,12 +3,11 @@ ghost use Rattle.std.specs.Prelude.{◌≡◌, IfOk};
 ghost use Rattle.outputs.specs.Output.{Puts};
 ghost use Rattle.outputs.specs.Writing.{Writes};
 ghost use Rattle.sample_view.specs.Pieces.{joined_bytes};
-ghost use Rattle.sfbank_program.specs.FaultLines.{fault_line, status_of, read_line, script_line, refused_line, cause_text, limit_text, write_line, file_line};
+ghost use Rattle.sfbank_program.specs.FaultLines.{fault_line, status_of, read_line, text_line, refused_line, cause_text, limit_text, write_line, file_line};
 
 use edit_forms::Cause;
 use bank_format::ReadFault;
 use bank_validity::Limit;
-use edit_script::ScriptFault;
 use itoa::Buffer;
 use outputs::{Output, WriteFault};
 use sfbank::RunFault;
@@ -26,14 +25,14 @@ pub fn fault_text<W: Write>(fault: &RunFault, path: &str, out: &mut W) -> Result
     Ok(exit_status(fault))
 }
 
-/// The exit status of a program whose run ends so: 2 for a fault of the file, 3 of the script, 4
-/// for a refused edit, 5 for a write fault, and 6 for want of memory.
+/// The exit status of a program whose run ends so: 2 for a fault of the file, 3 of the script or of the
+/// notes, 4 for a refused edit, 5 for a write fault, and 6 for want of memory.
 pub fn exit_status(fault: &RunFault) -> u8
     ensures { result ≡ status_of fault.now }
 {
     match fault {
         RunFault::Read(_) => 2,
-        RunFault::Script(_) => 3,
+        RunFault::Script(_) | RunFault::Notes(_) => 3,
         RunFault::Refused(_, _) => 4,
         RunFault::Write(_, _) => 5,
         RunFault::Memory => 6,
@@ -46,7 +45,12 @@ fn put_fault<W: Write>(fault: &RunFault, path: &str, output: &mut Output<'_, W>)
 {
     match fault {
         RunFault::Read(fault) => put_read_fault(*fault, output),
-        RunFault::Script(fault) => put_script_fault(*fault, output),
+        RunFault::Script(fault) => {
+            put_text_fault(fault.line(), fault.number(), fault.name(), output);
+        }
+        RunFault::Notes(fault) => {
+            put_text_fault(fault.line(), fault.number(), fault.name(), output);
+        }
         RunFault::Refused(line, cause) => put_refusal(*line, *cause, output),
         RunFault::Write(_, written) => put_write_fault(path, *written, output),
         RunFault::Memory => put_pieces(&[b"sfbank: out of memory\n"], output),
@@ -69,19 +73,20 @@ fn put_read_fault<W: Write>(fault: ReadFault, output: &mut Output<'_, W>)
     );
 }
 
-fn put_script_fault<W: Write>(fault: ScriptFault, output: &mut Output<'_, W>)
-    ensures { Puts W.contents output.old output.new (script_line fault) }
+// A fault on a line of a text, by its number and its name.
+fn put_text_fault<W: Write>(line: u64, number: u8, name: &str, output: &mut Output<'_, W>)
+    ensures { Puts W.contents output.old output.new (text_line line number name.now) }
 {
-    let mut line = Buffer::new();
-    let mut number = Buffer::new();
+    let mut line_digits = Buffer::new();
+    let mut number_digits = Buffer::new();
     put_pieces(
         &[
             b"sfbank: line ",
-            line.format(fault.line()).as_bytes(),
+            line_digits.format(line).as_bytes(),
             b": fault ",
-            number.format(fault.number()).as_bytes(),
+            number_digits.format(number).as_bytes(),
             b" ",
-            fault.name().as_bytes(),
+            name.as_bytes(),
             b"\n",
         ],
         output,

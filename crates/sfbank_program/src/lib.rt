@@ -8,6 +8,7 @@ mod fault;
 mod fault_lines;
 mod input;
 mod output;
+mod play;
 mod program;
 mod show;
 mod telling;

@@ -4,6 +4,7 @@ ghost use Rattle.sfbank_program.specs.Telling.{Ends};
 use crate::apply::apply;
 use crate::canon::canon;
 use crate::fault::{Fault, STANDARD_OUTPUT};
+use crate::play::play;
 use crate::show::show;
 use crate::telling::tell;
 use crate::words::{Request, request_of};
@@ -48,7 +49,7 @@ fn arguments<R: Env + AllocGlobal>(rt: &R) -> Result<Vec<String>, Fault<'static>
 /// | 0 | done, or help or the version was asked for |
 /// | 1 | the words are refused |
 /// | 2 | the file is no bank |
-/// | 3 | the script has a fault |
+/// | 3 | the script or the text of notes has a fault |
 /// | 4 | an edit is refused |
 /// | 5 | an input can't be read or is too long, or an output can't be written |
 /// | 6 | want of memory |
@@ -79,6 +80,7 @@ fn serve<'a, R: Files + AllocGlobal, S: AsStr, O: Write>(
     match request_of(rt.alloc(), words) {
         Ok(Request::Apply(paths)) => apply(rt, paths),
         Ok(Request::Canon(paths)) => canon(rt, paths),
+        Ok(Request::Play(paths)) => play(rt, paths),
         Ok(Request::Show(input)) => show(rt, input, output),
         Err(error) => answer(rt.alloc(), error, output),
     }

@@ -1,7 +1,7 @@
 //! The words of the program.
 ghost use Rattle.std.specs.Prelude.{IfSome, IsSome};
 ghost use Rattle.clap.specs.Words.{found_of, subcommand_name_of};
-ghost use Rattle.sfbank_program.specs.Words.{IsOfCommand, NamesApplyPaths, HasApplyPaths, NamesCanonPaths, HasCanonPaths, NamesInput, HasInput};
+ghost use Rattle.sfbank_program.specs.Words.{IsOfCommand, NamesApplyPaths, HasApplyPaths, NamesCanonPaths, HasCanonPaths, NamesPlayPaths, HasPlayPaths, NamesInput, HasInput};
 
 use clap::error::ErrorKind;
 use clap::{Arg, ArgAction, ArgMatches, Command, Error};
@@ -17,6 +17,8 @@ pub(crate) enum Request<'a> {
     Apply(ApplyPaths<'a>),
     /// Write a bank in its one spelling.
     Canon(CanonPaths<'a>),
+    /// Play notes on a bank.
+    Play(PlayPaths<'a>),
     /// Tell what the bank at this path has.
     Show(&'a str),
 }
@@ -34,6 +36,14 @@ pub(crate) struct ApplyPaths<'a> {
 #[derive(Clone, Copy)]
 pub(crate) struct CanonPaths<'a> {
     pub(crate) input: &'a str,
+    pub(crate) out: &'a str,
+}
+
+/// The paths of `play`.
+#[derive(Clone, Copy)]
+pub(crate) struct PlayPaths<'a> {
+    pub(crate) input: &'a str,
+    pub(crate) notes: &'a str,
     pub(crate) out: &'a str,
 }
 
@@ -59,6 +69,9 @@ fn chosen<'a>(matches: &ArgMatches<'a>) -> Option<Request<'a>>
     }
     if let Some(canon) = matches.subcommand_matches("canon") {
         return Some(Request::Canon(canon_paths(canon)?));
+    }
+    if let Some(play) = matches.subcommand_matches("play") {
+        return Some(Request::Play(play_paths(play)?));
     }
     let show = matches.subcommand_matches("show")?;
     Some(Request::Show(input_path(show)?))
@@ -86,6 +99,17 @@ fn canon_paths<'a>(matches: &ArgMatches<'a>) -> Option<CanonPaths<'a>>
     })
 }
 
+fn play_paths<'a>(matches: &ArgMatches<'a>) -> Option<PlayPaths<'a>>
+    ensures named { IfSome result (NamesPlayPaths (found_of matches.now)) }
+    ensures given { HasPlayPaths (found_of matches.now) → IsSome result }
+{
+    Some(PlayPaths {
+        input: input_path(matches)?,
+        notes: matches.get_str("NOTES")?,
+        out: matches.get_str("OUT")?,
+    })
+}
+
 fn input_path<'a>(matches: &ArgMatches<'a>) -> Option<&'a str>
     ensures named { IfSome result (λ path. NamesInput (found_of matches.now) path.now) }
     ensures given { HasInput (found_of matches.now) → IsSome result }
@@ -98,12 +122,13 @@ fn sfbank_command<'a>(alloc: Global) -> Result<Command<'a>, AllocError> {
         .bin_name(NAME)?
         .version("0.1.0")
         .about(
-            "Edits SoundFont 2 banks by scripts, and writes the scripts that take the edits back",
+            "Edits SoundFont 2 banks by scripts, writes the scripts that take the edits back, and plays banks",
         )
         .subcommand_required(true)
         .arg_required_else_help(true)
         .subcommand(apply_command(alloc)?)?
         .subcommand(canon_command(alloc)?)?
+        .subcommand(play_command(alloc)?)?
         .subcommand(show_command(alloc)?)
 }
 
@@ -121,6 +146,14 @@ fn canon_command<'a>(alloc: Global) -> Result<Command<'a>, AllocError> {
         .about("Writes a bank in its one spelling")
         .arg(path(alloc, "IN").help("The bank to spell"))?
         .arg(path(alloc, "OUT").help("Where its canonical file is written; may be IN"))
+}
+
+fn play_command<'a>(alloc: Global) -> Result<Command<'a>, AllocError> {
+    Command::new(alloc, "play")
+        .about("Plays notes on a bank, and writes the sound as a WAVE file")
+        .arg(path(alloc, "IN").help("The bank to play on"))?
+        .arg(path(alloc, "NOTES").help("The notes, one a line"))?
+        .arg(path(alloc, "OUT").help("Where the WAVE file is written"))
 }
 
 fn show_command<'a>(alloc: Global) -> Result<Command<'a>, AllocError> {

@@ -5,6 +5,7 @@ use Rattle.sfbank.specs.Plans.{planned}
 use Rattle.sfbank.proofs.Endings.{ends_early, ends_with}
 use Rattle.sfbank.proofs.Faults.{at_read, at_bank, at_script, pool_fails}
 use Rattle.sfbank.proofs.Restores.{are_bytes, restores}
+use Rattle.sfbank.proofs.Sounds.{sounds_again}
 use Rattle.sfbank.proofs.run.edit_run.Goals as goal
 
 -- ---- what goes out
@@ -56,3 +57,17 @@ returns-in_err-plan-clause-restores g c = restores c.args.file.now c.args.script
 
 pub returns-clause-restores : goal.returns-clause-restores
 returns-clause-restores g c = restores c.args.file.now c.args.script.now (are_bytes c.args.file.now c.type_inv.file)
+
+-- ---- the sound
+
+pub returns-in_err-bank-clause-sounds : goal.returns-in_err-bank-clause-sounds
+returns-in_err-bank-clause-sounds g c = sounds_again c.args.file.now c.args.script.now (are_bytes c.args.file.now c.type_inv.file)
+
+pub returns-in_err-pool-clause-sounds : goal.returns-in_err-pool-clause-sounds
+returns-in_err-pool-clause-sounds g c = sounds_again c.args.file.now c.args.script.now (are_bytes c.args.file.now c.type_inv.file)
+
+pub returns-in_err-plan-clause-sounds : goal.returns-in_err-plan-clause-sounds
+returns-in_err-plan-clause-sounds g c = sounds_again c.args.file.now c.args.script.now (are_bytes c.args.file.now c.type_inv.file)
+
+pub returns-clause-sounds : goal.returns-clause-sounds
+returns-clause-sounds g c = sounds_again c.args.file.now c.args.script.now (are_bytes c.args.file.now c.type_inv.file)
