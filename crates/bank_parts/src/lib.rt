@@ -20,9 +20,7 @@ pub use copying::copy_parts;
 pub use counting::Records;
 pub use fits::modulator_fits;
 pub use heads::OwnerHead;
-pub use laws::{
-    other_places_stay, places_are_lenses, zone_changes_read, zone_changes_undone,
-};
+pub use laws::{other_places_stay, places_are_lenses, zone_changes_read, zone_changes_undone};
 pub use owners::{Owners, ZonePlace};
 pub use parts::{GlobalZone, Head, Instrument, Kind, Parts, Preset, Sample, WithZones, Zone};
 pub use texts::{InfoId, Texts};

@@ -5,9 +5,9 @@ ghost use Rattle.outputs.specs.Writing.{Writes};
 ghost use Rattle.sample_view.specs.Pieces.{joined_bytes};
 ghost use Rattle.sfbank_program.specs.FaultLines.{fault_line, status_of, read_line, text_line, refused_line, cause_text, limit_text, write_line, file_line};
 
-use edit_forms::Cause;
 use bank_format::ReadFault;
 use bank_validity::Limit;
+use edit_forms::Cause;
 use itoa::Buffer;
 use outputs::{Output, WriteFault};
 use sfbank::RunFault;
