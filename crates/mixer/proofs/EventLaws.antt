@@ -9,7 +9,6 @@ use Rattle.voices.specs.Place.{is_over}
 use Rattle.voices.proofs.OverLemmas.{over_stays}
 use Rattle.bank_parts.specs.declared.parts.Parts.{Parts}
 use Rattle.zone_select.specs.declared.parameters.VoiceParameters.{VoiceParameters}
-use Rattle.note_list.specs.Notes.{Numbers}
 use Rattle.mixer.specs.declared.playing.Playing.{Playing}
 use Rattle.mixer.specs.Sums.{sum_of}
 use Rattle.mixer.specs.Heard.{Start, fresh, excludes, silences, is_silenced, voice_at, start_at, sum_at, side_at, frames, cut, is_left}

@@ -1,5 +1,5 @@
 //! Blocks of frames: the sum of voices, a part of a block at a time, cut once.
-ghost use Rattle.std.specs.Prelude.{◌≡◌, ℕ, ◌+◌, ◌*◌, ◌/◌, ◌%◌, ◌<◌, ◌≤◌, ◌^◌, ◌≤ℤ◌, ◌+ℤ◌, pos, negsuc, nat_eq, EachIndex, length, map, slice_index_or};
+ghost use Rattle.std.specs.Prelude.{◌≡◌, ℕ, ◌+◌, ◌/◌, ◌%◌, ◌<◌, ◌≤◌, ◌^◌, ◌+ℤ◌, pos, EachIndex, length, map, slice_index_or};
 ghost use Rattle.voices.specs.Within.{AllWithin};
 ghost use Rattle.mixer.specs.Heard as heard;
 ghost use Rattle.mixer.specs.Events.{aged, total_at, next_side, block};

@@ -1,5 +1,5 @@
 //! All frames of a list of notes.
-ghost use Rattle.std.specs.Prelude.{◌≡◌, ℕ, ◌+◌, ◌*◌, ◌/◌, ◌%◌, ◌<◌, ◌≤◌, IfOk, OnOk, length};
+ghost use Rattle.std.specs.Prelude.{◌≡◌, ◌+◌, ◌*◌, ◌/◌, ◌%◌, ◌<◌, ◌≤◌, IfOk, OnOk, length};
 ghost use Rattle.zone_select.specs.Select.{selected};
 ghost use Rattle.zone_select.specs.Pairs.{voice_by, listed};
 ghost use Rattle.mixer.specs.Render as whole;

@@ -1,4 +1,4 @@
-use Rattle.std.proofs.Common.{◌≡◌, ◌≤◌, ◌∙◌, max, sym, arith}
+use Rattle.std.proofs.Common.{◌≡◌, ◌∙◌, max, arith}
 use Rattle.mixer.proofs.Selected.{release_first, release_next, release_last}
 use Rattle.mixer.proofs.rendering.last_release.Goals as goal
 
