@@ -1,6 +1,6 @@
 //! What only a run can show of the layers of sound: worked values of the tables and of linear
-//! modulators, worked note lists, the zones that notes select, worked files, and what is left where a
-//! writer fails.
+//! modulators, worked note lists, the zones that notes select, worked voices and their sums, worked
+//! files, and what is left where a writer fails.
 #![tactic(auto)]
 
 #[cfg(test)]
@@ -8,7 +8,11 @@ mod linear;
 #[cfg(test)]
 mod notes;
 #[cfg(test)]
+mod players;
+#[cfg(test)]
 mod plays;
+#[cfg(test)]
+mod rendered;
 #[cfg(test)]
 mod selection;
 #[cfg(test)]

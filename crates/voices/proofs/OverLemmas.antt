@@ -3,9 +3,9 @@ use Rattle.std.proofs.Common.{◌≡◌, ℕ, zero, suc, ◌+◌, ◌*◌, ◌<�
 use Rattle.std.proofs.lemmas.Bool.{cases_eq}
 use Rattle.std.proofs.lemmas.Bool.Decides.{nat_tests}
 use Rattle.zone_select.specs.declared.parameters.VoiceParameters.{VoiceParameters}
-use Rattle.voices.specs.Place.{wrapped, place, is_looping, is_loop_left, is_over}
+use Rattle.voices.specs.Place.{place, is_looping, is_loop_left, is_over}
 use Rattle.zone_select.specs.Playable.{IsPlayable}
-use Rattle.voices.proofs.PlaceLemmas.{place_inside, place_more}
+use Rattle.voices.proofs.PlaceLemmas.{place_inside, place_straight}
 
 is_looped : (looped left : Bool) → (looped && not left) ≡ true → looped ≡ true
 is_looped true left e = refl
@@ -52,18 +52,17 @@ over_case false false false looping' end at at' step f g h e =
     let a : at' ≡ at + step = h refl in
     let b : nat_le end at' ≡ true = grind (arith, nat_tests) in rw (g refl, b) refl
 
-pub over_next : (v : VoiceParameters) (t : ℕ) → (v.looped ≡ true → v.loop_start < v.loop_end) → is_over v t ≡ true → is_over v (t + 1) ≡ true
-over_next v t h e =
+pub over_next : (v : VoiceParameters) (t : ℕ) → is_over v t ≡ true → is_over v (t + 1) ≡ true
+over_next v t e =
     over_case (nat_le (v.length + v.release) t) (nat_le (v.length + v.release) (t + 1)) (is_looping v t) (is_looping v (t + 1))
     (65536 * v.end) (place v t) (place v (t + 1)) v.step
-    (λ l. grind (arith, nat_tests)) (loop_left_stays v t)
-    (λ l. place_more v t h ∙ ap (λ b. cond b (wrapped (65536 * v.loop_start) (65536 * v.loop_end) (place v t + v.step)) (place v t + v.step)) l) e
+    (λ l. grind (arith, nat_tests)) (loop_left_stays v t) (place_straight v t) e
 
-pub over_stays : (v : VoiceParameters) (s t : ℕ) → (v.looped ≡ true → v.loop_start < v.loop_end) → s ≤ t → is_over v s ≡ true → is_over v t ≡ true
-over_stays v s zero h l e = subst (λ x. is_over v x ≡ true) (omega arith) e
-over_stays v s (suc t) h l e = ⊎_elim
+pub over_stays : (v : VoiceParameters) (s t : ℕ) → s ≤ t → is_over v s ≡ true → is_over v t ≡ true
+over_stays v s zero l e = subst (λ x. is_over v x ≡ true) (omega arith) e
+over_stays v s (suc t) l e = ⊎_elim
     (λ q. subst (λ x. is_over v x ≡ true) q e)
-    (λ apart. subst (λ x. is_over v x ≡ true) (omega arith) (over_next v t h (over_stays v s t h (omega arith) e)))
+    (λ apart. subst (λ x. is_over v x ≡ true) (omega arith) (over_next v t (over_stays v s t (omega arith) e)))
     (cases_eq s (suc t))
 
 pub is_looped_at : (v : VoiceParameters) (t : ℕ) → is_looping v t ≡ true → v.looped ≡ true

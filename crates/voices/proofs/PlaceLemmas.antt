@@ -145,6 +145,24 @@ pub place_more : (v : VoiceParameters) (t : ℕ) → (v.looped ≡ true → v.lo
 unfolding place
 place_more v t h = by_until v.until_release v.looped v.length t v.step (looped_place v) (wrapped (65536 * v.loop_start) (65536 * v.loop_end)) (looped_place_more v t h)
 
+straight_case : (until looped : Bool) (l t step : ℕ) (r : ℕ → ℕ) → (looped ≡ false → r (t + 1) ≡ r t + step) → (looped && not (until && nat_le l t)) ≡ false
+    → cond (until && nat_le l (t + 1)) (r l + (t + 1 - l) * step) (r (t + 1)) ≡ cond (until && nat_le l t) (r l + (t - l) * step) (r t) + step
+straight_case false false l t step r e f = e refl
+straight_case false true l t step r e f = absurd cc
+straight_case true false l t step r e f =
+    elim (cases_lt t l) [
+      | inl lt ↦ early false l t step r (λ x. x) (e refl) lt
+      | inr ge ↦ late false l t step r (λ x. x) ge
+    ]
+straight_case true true l t step r e f = late false l t step r (λ x. x) (grind (arith, nat_tests))
+
+-- where no loop is in force the place goes straight on
+pub place_straight : (v : VoiceParameters) (t : ℕ) → is_looping v t ≡ false → place v (t + 1) ≡ place v t + v.step
+unfolding place looped_place
+place_straight v t e =
+    straight_case v.until_release v.looped v.length t v.step (looped_place v)
+    (λ l. let f : 65536 * v.start + (t + 1) * v.step ≡ 65536 * v.start + t * v.step + v.step = omega arith in rw l f) e
+
 times_div : (k d n : ℕ) → k ≤ d / n → k * n ≤ d
 times_div k d n h =
     let e : d / n * n + d % n ≡ d = div-add-mod' d n in

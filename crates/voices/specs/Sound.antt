@@ -35,4 +35,4 @@ after_frame live = cond (is_over live.value.parameters live.age) live (record { 
 
 -- a voice that is over stays so, and is silent
 abbrev pub OverStaysOver : Type 0
-OverStaysOver = (v : VoiceParameters) (s t : ℕ) → (v.looped ≡ true → v.loop_start < v.loop_end) → s ≤ t → is_over v s ≡ true → is_over v t ≡ true
+OverStaysOver = (v : VoiceParameters) (s t : ℕ) → s ≤ t → is_over v s ≡ true → is_over v t ≡ true

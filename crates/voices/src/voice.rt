@@ -55,6 +55,13 @@ impl<'a> Voice<'a> {
         is_over_at(&self.parameters, self.age)
     }
 
+    /// The exclusive class of the voice's zones; 0 for none.
+    pub fn class(&self) -> i16
+        ensures { result ≡ self.now.value.parameters.class }
+    {
+        self.parameters.class
+    }
+
     /// The next frame, left and right, each from -32768 to 32767. A voice that is over gives silence
     /// and counts no more.
     pub fn next_frame(&mut self) -> (i32, i32)

@@ -14,7 +14,7 @@ returns-then-is_over_at c i h =
     elim (cases_lt i c.loop-at.at) [
       | inl lt ↦ c.loop-at.invariant.done i lt
       | inr ge ↦ silent_added _ _ _
-          (silent_from v (nat_eq (i % 2) 0) (c.args.age + c.loop-at.at / 2) (c.args.age + i / 2) c.requires.playable.ordered
+          (silent_from v (nat_eq (i % 2) 0) (c.args.age + c.loop-at.at / 2) (c.args.age + i / 2)
           (sym c.is_over_at.ensures.value ∙ c.if-is_over_at.true) (omega (arith, ge)))
           (c.loop-at.invariant.rest i ge)
     ]

@@ -1,0 +1,13 @@
+pub mod Sums
+pub mod Ranges
+pub mod EventLaws
+pub mod Selected
+pub mod Releases
+pub mod Aging
+pub mod Silent
+pub mod Parts
+pub mod Orders
+pub mod Schedule
+pub mod Counts
+pub mod Unordered
+pub mod Stops

@@ -1,0 +1,86 @@
+-- What is heard of a player, and what its calls do to the voices that it plays.
+use Rattle.std.specs.Prelude.{◌≡◌, ℕ, ◌+◌, ◌*◌, ◌/◌, ℤ, Bool, not, List, [], ◌∷◌, ◌++◌, map, filter}
+use Rattle.std.specs.List.{range_with_len}
+use Rattle.bank_parts.specs.declared.parts.Parts.{Parts}
+use Rattle.note_list.specs.Notes.{Numbers}
+use Rattle.voices.specs.Sound.{snd}
+use Rattle.voices.specs.Place.{is_over}
+use Rattle.mixer.specs.declared.playing.Playing.{Playing}
+use Rattle.mixer.specs.Sums.{sum_of}
+use Rattle.mixer.specs.Heard.{Start, fresh, silences, frames, cut, is_left}
+
+-- ---- what is heard
+
+-- an edit, with the bank that it leaves, which may be any; a note's start that was done; a block of so many frames
+pub data Event : Type 0 where
+  Edited : Parts → Event
+  Started : Numbers → Event
+  Given : ℕ → Event
+
+-- the starts, with each bank as it is then; b is the bank, and t the frame that comes next
+unfoldable pub starts : Parts → ℕ → List Event → List Start
+starts b t [] = []
+starts b t (Edited c ∷ es) = starts c t es
+starts b t (Started n ∷ es) = record { frame = t; voices = fresh b n } ∷ starts b t es
+starts b t (Given m ∷ es) = starts b (t + m) es
+
+-- how many frames are given
+unfoldable pub given : List Event → ℕ
+given [] = 0
+given (Edited c ∷ es) = given es
+given (Started n ∷ es) = given es
+given (Given m ∷ es) = m + given es
+
+-- all frames that are given, wherever the blocks are cut
+unfoldable pub heard : Parts → List Event → List ℤ
+heard b es = frames (starts b 0 es) 0 (given es)
+
+-- ---- what a player's calls do
+
+-- the voice isn't over at its next frame
+unfoldable pub is_sounding : Playing → Bool
+is_sounding p = not (is_over p.voice.value.parameters p.voice.age)
+
+-- those that new voices don't silence
+unfoldable pub unsilenced : List Playing → List Playing → List Playing
+unsilenced new ps = filter (λ q. not (silences new q)) ps
+
+-- after a note's start
+unfoldable pub after_start : List Playing → List Playing → List Playing
+after_start ps new = unsilenced new ps ++ filter is_sounding new
+
+-- m frames older
+unfoldable pub aged : ℕ → Playing → Playing
+aged m p = record p { voice = record { value = p.voice.value; age = p.voice.age + m } }
+
+-- after a block of m frames
+unfoldable pub after_block : List Playing → ℕ → List Playing
+after_block ps m = filter is_sounding (map (aged m) ps)
+
+-- the voices' sum for number i of the next sides
+unfoldable pub total_at : List Playing → ℕ → ℤ
+total_at ps i = sum_of (λ p. snd p.voice.value (is_left i) (p.voice.age + i / 2)) ps
+
+-- number i of the next sides
+unfoldable pub next_side : List Playing → ℕ → ℤ
+next_side ps i = cut (total_at ps i)
+
+-- the next m frames, left and right in turn
+unfoldable pub block : List Playing → ℕ → List ℤ
+block ps m = map (next_side ps) (range_with_len 0 (2 * m))
+
+-- all blocks of a player of these voices
+unfoldable pub blocks : Parts → List Playing → List Event → List ℤ
+blocks b ps [] = []
+blocks b ps (Edited c ∷ es) = blocks c ps es
+blocks b ps (Started n ∷ es) = blocks b (after_start ps (fresh b n)) es
+blocks b ps (Given m ∷ es) = block ps m ++ blocks b (after_block ps m) es
+
+-- ---- the laws
+
+abbrev pub BlocksAreHeard : Type 0
+BlocksAreHeard = (b : Parts) (es : List Event) → blocks b [] es ≡ heard b es
+
+-- a block that is cut in two gives the same frames
+abbrev pub CutsAreFree : Type 0
+CutsAreFree = (b : Parts) (es fs : List Event) (m n : ℕ) → heard b (es ++ Given (m + n) ∷ fs) ≡ heard b (es ++ Given m ∷ Given n ∷ fs)

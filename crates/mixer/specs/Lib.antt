@@ -1,0 +1,7 @@
+pub mod Sums
+pub mod Heard
+pub mod Events
+pub mod Render
+pub mod Order
+pub mod Stops
+pub mod Young

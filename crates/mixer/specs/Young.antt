@@ -1,0 +1,12 @@
+-- What holds of all voices that a player keeps.
+use Rattle.std.specs.Prelude.{◌≡◌, ℕ, ◌<◌, true, List, All}
+use Rattle.mixer.specs.declared.playing.Playing.{Playing}
+use Rattle.mixer.specs.Events.{is_sounding}
+
+-- no voice has given n frames
+abbrev pub AllYounger : ℕ → List Playing → Type 0
+AllYounger n ps = All (λ p. p.voice.age < n) ps
+
+-- no voice is over at its next frame
+abbrev pub AllSounding : List Playing → Type 0
+AllSounding ps = All (λ p. is_sounding p ≡ true) ps

@@ -1,0 +1,129 @@
+//! Blocks of frames: the sum of voices, a part of a block at a time, cut once.
+ghost use Rattle.std.specs.Prelude.{◌≡◌, ℕ, ◌+◌, ◌*◌, ◌/◌, ◌%◌, ◌<◌, ◌≤◌, ◌^◌, ◌≤ℤ◌, ◌+ℤ◌, pos, negsuc, nat_eq, EachIndex, length, map, slice_index_or};
+ghost use Rattle.voices.specs.Within.{AllWithin};
+ghost use Rattle.mixer.specs.Heard as heard;
+ghost use Rattle.mixer.specs.Events.{aged, total_at, next_side, block};
+ghost use Rattle.mixer.specs.Young.{AllYounger};
+
+use crate::playing::Playing;
+
+// The sides that are summed in one pass: those of 256 frames.
+const PART: usize = 512;
+
+// The most voices whose sum fits 32 bits.
+const GROUP: usize = 65535;
+
+// Adds all voices of a group, and makes each as many frames older.
+fn add_group(voices: &mut [Playing], sums: &mut [i32])
+    requires few { length voices.old ≤ 65535 }
+    requires young { AllYounger (2 ^ 63 + 2 ^ 34) voices.old }
+    requires short { length sums.old ≤ 512 }
+    requires even { length sums.old % 2 ≡ 0 }
+    requires silent { AllWithin 0 sums.old }
+    ensures value { EachIndex sums.new (λ i. slice_index_or sums.new i (pos 0) ≡ slice_index_or sums.old i (pos 0) +ℤ total_at voices.old i) }
+    ensures room { AllWithin (length voices.old) sums.new }
+    ensures live { voices.new ≡ map (aged (length sums.old / 2)) voices.old }
+{
+    for p in voices.iter_mut() {
+        p.voice.add_frames(sums);
+    }
+}
+
+// Adds sums to totals.
+fn widen(sums: &[i32], totals: &mut [i128])
+    requires long { length totals.old ≡ length sums.now }
+    requires room { AllWithin (2 ^ 64) totals.old }
+    ensures { EachIndex totals.new (λ i. slice_index_or totals.new i (pos 0) ≡ slice_index_or totals.old i (pos 0) +ℤ slice_index_or sums.now i (pos 0)) }
+{
+    for i in 0..sums.len() {
+        totals[i] += i128::from(sums[i]);
+    }
+}
+
+// Each total as 16 bits.
+fn cut_all(totals: &[i128], out: &mut [i16])
+    requires { length totals.now ≡ length out.old }
+    ensures { EachIndex out.new (λ i. slice_index_or out.new i (pos 0) ≡ heard.cut (slice_index_or totals.now i (pos 0))) }
+{
+    for i in 0..out.len() {
+        out[i] = totals[i].min(32767).max(-32768) as i16;
+    }
+}
+
+fn silent_sums() -> [i32; PART]
+    ensures silent { (k : ℕ) → slice_index_or result k (pos 0) ≡ pos 0 }
+    ensures long { length result ≡ 512 }
+{
+    [0; PART]
+}
+
+fn silent_totals() -> [i128; PART]
+    ensures silent { (k : ℕ) → slice_index_or result k (pos 0) ≡ pos 0 }
+    ensures long { length result ≡ 512 }
+{
+    [0; PART]
+}
+
+// Adds a group of voices to totals.
+fn add_one_group(voices: &mut [Playing], totals: &mut [i128])
+    requires few { length voices.old ≤ 65535 }
+    requires young { AllYounger (2 ^ 63 + 2 ^ 34) voices.old }
+    requires short { length totals.old ≤ 512 }
+    requires even { length totals.old % 2 ≡ 0 }
+    requires room { AllWithin (2 ^ 64) totals.old }
+    ensures value { EachIndex totals.new (λ i. slice_index_or totals.new i (pos 0) ≡ slice_index_or totals.old i (pos 0) +ℤ total_at voices.old i) }
+    ensures room { (j : ℕ) → AllWithin j totals.old → AllWithin (j + length voices.old) totals.new }
+    ensures live { voices.new ≡ map (aged (length totals.old / 2)) voices.old }
+{
+    let mut sums = silent_sums();
+    let n = totals.len();
+    add_group(voices, &mut sums[..n]);
+    widen(&sums[..n], totals);
+}
+
+// Adds all voices to totals, group by group.
+fn add_all(voices: &mut [Playing], totals: &mut [i128])
+    requires young { AllYounger (2 ^ 63 + 2 ^ 34) voices.old }
+    requires short { length totals.old ≤ 512 }
+    requires even { length totals.old % 2 ≡ 0 }
+    requires silent { AllWithin 0 totals.old }
+    ensures value { EachIndex totals.new (λ i. slice_index_or totals.new i (pos 0) ≡ slice_index_or totals.old i (pos 0) +ℤ total_at voices.old i) }
+    ensures live { voices.new ≡ map (aged (length totals.old / 2)) voices.old }
+{
+    let mut at = 0;
+    while at < voices.len() {
+        let n = (voices.len() - at).min(GROUP);
+        add_one_group(&mut voices[at..at + n], totals);
+        at += n;
+    }
+}
+
+// A part of a block.
+#[tactic(auto, unfolding(crate::specs::Events::next_side))]
+fn mix_part(voices: &mut [Playing], out: &mut [i16])
+    requires young { AllYounger (2 ^ 63 + 2 ^ 34) voices.old }
+    requires short { length out.old ≤ 512 }
+    requires even { length out.old % 2 ≡ 0 }
+    ensures value { EachIndex out.new (λ i. slice_index_or out.new i (pos 0) ≡ next_side voices.old i) }
+    ensures live { voices.new ≡ map (aged (length out.old / 2)) voices.old }
+{
+    let mut totals = silent_totals();
+    let n = out.len();
+    add_all(voices, &mut totals[..n]);
+    cut_all(&totals[..n], out);
+}
+
+// A block, part by part. The voices are left as they are then, those that are over among them.
+pub(crate) fn mix(voices: &mut [Playing], out: &mut [i16])
+    requires young { AllYounger (2 ^ 33) voices.old }
+    requires even { length out.old % 2 ≡ 0 }
+    ensures value { out.new ≡ block voices.old (length out.old / 2) }
+    ensures live { voices.new ≡ map (aged (length out.old / 2)) voices.old }
+{
+    let mut at = 0;
+    while at < out.len() {
+        let n = (out.len() - at).min(PART);
+        mix_part(voices, &mut out[at..at + n]);
+        at += n;
+    }
+}

@@ -1,0 +1,31 @@
+//! The laws of players and of notes.
+ghost use Rattle.mixer.specs.Events.{BlocksAreHeard, CutsAreFree};
+ghost use Rattle.mixer.specs.Order.{OrderIsFree};
+ghost use Rattle.mixer.specs.Stops.{StopsAreLeast};
+
+/// The law that the blocks of a player are what is heard of its note starts, each with the bank as it
+/// was then: after any starts, changes of the bank and blocks of any length. It does nothing.
+#[tactic(auto, using(crate::proofs::EventLaws::blocks_heard))]
+pub fn blocks_are_heard()
+    ensures { BlocksAreHeard }
+{}
+
+/// The law that blocks that are cut elsewhere give the same frames. It does nothing.
+#[tactic(auto, using(crate::proofs::EventLaws::cuts_free))]
+pub fn cuts_are_free()
+    ensures { CutsAreFree }
+{}
+
+/// The law that notes sound the same in the order of their starts, where those that start together keep
+/// theirs. It does nothing.
+#[tactic(auto, using(crate::proofs::Unordered::order_free))]
+pub fn order_is_free()
+    ensures { OrderIsFree }
+{}
+
+/// The law that a voice is silent from the least frame on at which a later start silences it. It does
+/// nothing.
+#[tactic(auto, using(crate::proofs::Stops::stops_least))]
+pub fn stops_are_least()
+    ensures { StopsAreLeast }
+{}

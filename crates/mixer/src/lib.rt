@@ -1,0 +1,13 @@
+//! The sum of voices: a player of notes that start as it plays, and all frames of a list of notes. Both
+//! give samples of 16 bits of the left and the right side in turn, 44,100 frames a second.
+#![tactic(auto)]
+
+mod blocks;
+mod laws;
+mod player;
+mod playing;
+mod rendering;
+
+pub use laws::{blocks_are_heard, cuts_are_free, order_is_free, stops_are_least};
+pub use player::Player;
+pub use rendering::render;

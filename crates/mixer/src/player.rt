@@ -1,0 +1,75 @@
+//! A player of notes.
+ghost use Rattle.std.specs.Prelude.{◌≡◌, ◌%◌, ◌/◌, [], OnOk, OnErr, length};
+ghost use Rattle.mixer.specs.Heard as heard;
+ghost use Rattle.mixer.specs.Events.{after_start, after_block, block};
+
+use crate::blocks::mix;
+use crate::playing::{Playing, drop_over, drop_silenced, fresh};
+use bank_core::Bank;
+use note_list::Note;
+use sf_base::OutOfMemory;
+use std::alloc::Global;
+use std::marker::Model;
+
+/// Plays notes that are started between its blocks. It holds slices of the file and no bank: a bank may
+/// be edited or dropped while its notes play on. Contracts see the list of the voices that are neither
+/// over nor silenced, each with its age in frames and the bank and preset numbers of its note.
+#[derive(Drop)]
+pub struct Player<'a> {
+    voices: Vec<Playing<'a>>,
+}
+
+impl<'a> Model for Player<'a> {
+    ghost use Rattle.std.specs.Prelude.{List, ◌^◌};
+    ghost use Rattle.mixer.specs.declared.playing.Playing.{Playing};
+    ghost use Rattle.mixer.specs.Young.{AllSounding, AllYounger};
+
+    ghost Value = { List Playing };
+
+    ghost view = { λ p. p.voices.items };
+
+    ghost invariant = { λ p. AllYounger (2 ^ 33) p.voices.items × AllSounding p.voices.items };
+}
+
+impl<'a> Player<'a> {
+    /// A player of no voices. It takes no memory.
+    pub fn new(alloc: Global) -> Player<'a>
+        ensures { result ≡ [] }
+    {
+        Player {
+            voices: Vec::new(alloc),
+        }
+    }
+
+    /// Starts all voices of a note at the frame that comes next; the note's own start isn't looked at.
+    /// Before that it silences the voices of earlier starts whose exclusive class one of the new voices
+    /// has, if they have the note's bank and preset numbers (SoundFont 2.04, section 8.1.2, generator
+    /// 57; a class of 0 is none). For want of memory nothing is started and nothing silenced.
+    pub fn start(&mut self, alloc: Global, bank: &Bank<'a>, note: &Note) -> Result<(), OutOfMemory>
+        ensures done { OnOk result (self.new ≡ after_start self.old (heard.fresh bank.now note.now)) }
+        ensures refused { OnErr result (self.new ≡ self.old) }
+    {
+        let mut new = fresh(alloc, bank, note)?;
+        self.voices.try_reserve(new.len())?;
+        // Nothing is refused from here on.
+        drop_silenced(&mut self.voices, new.as_slice());
+        drop_over(&mut new);
+        match self.voices.append(&mut new) {
+            Ok(()) => Ok(()),
+            Err(_) => unreachable!(),
+        }
+    }
+
+    /// The next frames, the left and the right side in turn: sums of all voices, each cut once to 16
+    /// bits. It takes no memory, and its work is that of the voices' own frames.
+    #[tactic(auto, unfolding(crate::specs::Events::after_block))]
+    pub fn block(&mut self, out: &mut [i16])
+        requires { length out.old % 2 ≡ 0 }
+        ensures heard { out.new ≡ block self.old (length out.old / 2) }
+        ensures live { self.new ≡ after_block self.old (length out.old / 2) }
+        ensures none { length out.old ≡ 0 → self.new ≡ self.old }
+    {
+        mix(self.voices.as_mut_slice(), out);
+        drop_over(&mut self.voices);
+    }
+}

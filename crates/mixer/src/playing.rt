@@ -1,0 +1,109 @@
+//! Voices that play, and which of them an exclusive class silences.
+ghost use Rattle.std.specs.Prelude.{◌≡◌, ◌≤◌, ◌^◌, ◌<◌, ◌++◌, filter, map, IfOk, OnOk, vec_len};
+ghost use Rattle.std.specs.Bool.{OnTrue};
+ghost use Rattle.std.specs.Vec.{vec_capacity};
+ghost use Rattle.zone_select.specs.Pairs.{voice_by, listed};
+ghost use Rattle.mixer.specs.Heard as heard;
+ghost use Rattle.mixer.specs.Events.{is_sounding, unsilenced};
+ghost use Rattle.mixer.specs.Young.{AllSounding, AllYounger};
+
+use bank_core::Bank;
+use note_list::Note;
+use sf_base::{Failure, OutOfMemory};
+use std::alloc::Global;
+use voices::Voice;
+use zone_select::matches;
+
+// A voice, and the two numbers of its preset.
+#[derive(Drop)]
+pub(crate) struct Playing<'a> {
+    pub(crate) voice: Voice<'a>,
+    pub(crate) bank: u16,
+    pub(crate) number: u16,
+}
+
+// Whether the first voice, as it starts, silences the second.
+#[tactic(auto, unfolding(crate::specs::Heard::excludes))]
+fn excludes(new: &Playing, old: &Playing) -> bool
+    ensures { result ≡ heard.excludes new.now old.now }
+{
+    new.voice.class() != 0
+        && new.voice.class() == old.voice.class()
+        && new.bank == old.bank
+        && new.number == old.number
+}
+
+#[tactic(auto, unfolding(crate::specs::Heard::silences))]
+fn silences(new: &[Playing], old: &Playing) -> bool
+    ensures { result ≡ heard.silences new.now old.now }
+{
+    new.iter().any(|p| excludes(p, old))
+}
+
+// Drops the voices that new ones silence.
+pub(crate) fn drop_silenced<'a>(voices: &mut Vec<Playing<'a>>, new: &[Playing<'a>])
+    ensures items { voices.new.items ≡ unsilenced new.now voices.old.items }
+    ensures bound { vec_len voices.new ≤ vec_len voices.old }
+    ensures capacity { vec_capacity voices.new ≡ vec_capacity voices.old }
+{
+    voices.retain(|p| !silences(new, p));
+}
+
+#[tactic(auto, unfolding(crate::specs::Events::is_sounding))]
+fn is_sounding(p: &Playing) -> bool
+    ensures value { result ≡ is_sounding p.now }
+    ensures young { OnTrue result (p.now.voice.age < 2 ^ 33) }
+{
+    !p.voice.done()
+}
+
+// Drops the voices that are over.
+pub(crate) fn drop_over<'a>(voices: &mut Vec<Playing<'a>>)
+    ensures items { voices.new.items ≡ filter is_sounding voices.old.items }
+    ensures young { AllYounger (2 ^ 33) voices.new.items }
+    ensures sounding { AllSounding voices.new.items }
+    ensures bound { vec_len voices.new ≤ vec_len voices.old }
+    ensures capacity { vec_capacity voices.new ≡ vec_capacity voices.old }
+{
+    voices.retain(|p| is_sounding(p));
+}
+
+// The voices of a note, each at its first frame.
+pub(crate) fn fresh<'a>(
+    alloc: Global,
+    bank: &Bank<'a>,
+    note: &Note,
+) -> Result<Vec<Playing<'a>>, OutOfMemory>
+    ensures { IfOk result (λ voices. voices.items ≡ heard.fresh bank.now note.now) }
+{
+    let mut voices = Vec::new(alloc);
+    for pair in matches(bank, note) {
+        add_voice(alloc, bank, note, pair, &mut voices)?;
+    }
+    Ok(voices)
+}
+
+// Adds the voice of a pair of zones.
+fn add_voice<'a>(
+    alloc: Global,
+    bank: &Bank<'a>,
+    note: &Note,
+    pair: (u32, u32),
+    voices: &mut Vec<Playing<'a>>,
+) -> Result<(), OutOfMemory>
+    ensures { OnOk result (voices.new.items
+        ≡ voices.old.items ++ map (heard.playing note.now) (listed (voice_by bank.now note.now pair))) }
+{
+    match Voice::start(alloc, bank, note, pair) {
+        Ok(voice) => {
+            voices.push(Playing {
+                voice,
+                bank: note.bank(),
+                number: note.number(),
+            })?;
+            Ok(())
+        }
+        Err(Failure::Fault(_)) => Ok(()),
+        Err(Failure::OutOfMemory) => Err(OutOfMemory),
+    }
+}

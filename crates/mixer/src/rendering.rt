@@ -1,0 +1,111 @@
+//! All frames of a list of notes.
+ghost use Rattle.std.specs.Prelude.{◌≡◌, ℕ, ◌+◌, ◌*◌, ◌/◌, ◌%◌, ◌<◌, ◌≤◌, IfOk, OnOk, length};
+ghost use Rattle.zone_select.specs.Select.{selected};
+ghost use Rattle.zone_select.specs.Pairs.{voice_by, listed};
+ghost use Rattle.mixer.specs.Render as whole;
+ghost use Rattle.mixer.specs.Render.{IsRendered};
+ghost use Rattle.mixer.specs.Order as order;
+ghost use Rattle.mixer.specs.Order.{IsRising, StartWithin};
+
+use crate::player::Player;
+use bank_core::Bank;
+use note_list::Note;
+use sf_base::OutOfMemory;
+use std::alloc::Global;
+use zone_select::{matches, params};
+
+/// All frames of notes in any order, 44,100 a second, the left and the right side in turn: the sum of
+/// all voices of all notes, each from its note's start on, cut once to 16 bits. Notes end other notes'
+/// voices by their exclusive classes as in [`Player::start`]; of notes that start together, the later in
+/// the list starts later. There are as many frames as the notes and the releases of all their voices
+/// need, at most 104,480,284. None are left out for notes that can't be heard.
+pub fn render(alloc: Global, bank: &Bank<'_>, notes: &[Note]) -> Result<Vec<i16>, OutOfMemory>
+    ensures value { IfOk result (λ sides. sides.items ≡ whole.render bank.now notes.now) }
+    ensures fits { IfOk result (λ sides. IsRendered sides.items) }
+{
+    let sorted = in_order(alloc, notes)?;
+    let count = frame_count(bank, notes);
+    let mut out = vec![in alloc; 0i16; 2 * count as usize]?;
+    play(alloc, bank, sorted.as_slice(), out.as_mut_slice())?;
+    Ok(out)
+}
+
+// The notes in the order of their starts.
+fn in_order(alloc: Global, notes: &[Note]) -> Result<Vec<Note>, OutOfMemory>
+    ensures { IfOk result (λ sorted. sorted.items ≡ order.in_order notes.now) }
+{
+    let mut sorted = notes.to_vec(alloc)?;
+    sorted.sort_by_key(|note| note.start())?;
+    Ok(sorted)
+}
+
+// Plays notes that are in order.
+fn play<'a>(
+    alloc: Global,
+    bank: &Bank<'a>,
+    notes: &[Note],
+    out: &mut [i16],
+) -> Result<(), OutOfMemory>
+    requires even { length out.old % 2 ≡ 0 }
+    requires rising { IsRising 0 notes.now }
+    requires within { StartWithin (length out.old / 2) notes.now }
+    ensures { OnOk result (out.new ≡ order.frames_of bank.now notes.now (length out.old / 2)) }
+{
+    let mut player = Player::new(alloc);
+    let mut now = 0;
+    for note in notes {
+        let next = 2 * note.start() as usize;
+        player.block(&mut out[now..next]);
+        player.start(alloc, bank, note)?;
+        now = next;
+    }
+    player.block(&mut out[now..]);
+    Ok(())
+}
+
+// The release of a pair's voice.
+fn release_of(bank: &Bank<'_>, note: &Note, pair: (u32, u32)) -> u32
+    ensures value { result ≡ whole.last_release (listed (voice_by bank.now note.now pair)) }
+    ensures most { result ≤ 4480284 }
+{
+    match params(bank, note, pair) {
+        Some(parameters) => parameters.release,
+        None => 0,
+    }
+}
+
+// The last release of a note's voices.
+fn last_release(bank: &Bank<'_>, note: &Note) -> u32
+    ensures value { result ≡ whole.last_release (selected bank.now note.now) }
+    ensures most { result ≤ 4480284 }
+{
+    let mut last = 0;
+    for pair in matches(bank, note) {
+        last = release_of(bank, note, pair).max(last);
+    }
+    last
+}
+
+// The frame at which a note and the releases of all its voices have ended.
+#[tactic(auto, unfolding(crate::specs::Render::end_of))]
+fn end_of(bank: &Bank<'_>, note: &Note) -> u32
+    ensures value { result ≡ whole.end_of bank.now note.now }
+    ensures most { result ≤ 104480284 }
+{
+    let start = note.start();
+    let length = note.length();
+    start + length + last_release(bank, note)
+}
+
+// How many frames the notes need.
+#[tactic(auto, using(crate::proofs::Counts::count_more, crate::proofs::Counts::count_none))]
+fn frame_count(bank: &Bank<'_>, notes: &[Note]) -> u32
+    ensures value { result ≡ whole.frame_count bank.now notes.now }
+    ensures most { result ≤ 104480284 }
+{
+    let mut count = 0;
+    for note in notes {
+        count = end_of(bank, note).max(count);
+    }
+    count
+}
