@@ -1,3 +1,4 @@
+use Rattle.std.proofs.Common.{Ok, sym, ap, ◌∙◌}
 use Rattle.std.proofs.lemmas.Result.{err_from_is_err_and}
 use Rattle.std.proofs.KnownBytes.{Keeps-refl}
 use Rattle.sfbank.proofs.Restores.{are_bytes}
@@ -20,12 +21,12 @@ returns-in_err-frames-clause-runs g c =
     rw (p.1, p.2) (Keeps-refl (g.W.Write.contents c.args.out.now))
 
 pub deliver_wave-requires : goal.deliver_wave-requires
-deliver_wave-requires g c = fits_wave c.in_ok-frames.frames.items c.in_ok-frames.ensures.fits
+deliver_wave-requires g c = rw c.as_slice-2.ensures.value (fits_wave c.in_ok-frames.frames.items c.in_ok-frames.ensures.fits)
 
 pub returns-clause-runs : goal.returns-clause-runs
 returns-clause-runs g c =
-    play_runs _ _ c.args.file.now c.args.notes.now c.in_ok-bank.bank c.in_ok-bank._counts c.in_ok-notes.notes.items c.in_ok-frames.frames.items c.deliver_wave.result
-    c.in_ok-bank.ensures.ok c.in_ok-notes.ensures.answers c.in_ok-frames.ensures.value c.deliver_wave.ensures
+    play_runs _ _ c.args.file.now c.args.notes.now c.in_ok-bank.bank c.in_ok-bank._counts c.as_slice.result.now c.as_slice-2.result.now c.deliver_wave.result
+    c.in_ok-bank.ensures.ok (c.in_ok-notes.ensures.answers ∙ ap Ok (sym c.as_slice.ensures.value)) (c.as_slice-2.ensures.value ∙ c.in_ok-frames.ensures.value) c.deliver_wave.ensures
 
 -- ---- on the canonical file
 
