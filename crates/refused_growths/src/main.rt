@@ -11,9 +11,7 @@ mod generator_maps;
 mod outcome;
 mod points;
 
-use crate::banks::{
-    EDITS, bank_copy, canonical_run, edit_and_return, listing_run, playing_run,
-};
+use crate::banks::{EDITS, bank_copy, canonical_run, edit_and_return, listing_run, playing_run};
 use crate::generator_maps::{generators_copy, generators_set};
 use crate::outcome::Outcome;
 use crate::points::{points_copy, points_join, points_narrow};

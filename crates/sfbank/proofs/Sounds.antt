@@ -80,6 +80,7 @@ sounds_again file script bytes done back notes h g = by_lines (script_of script)
   where
     read : (fault_of file ≡ None) × (after_script (bank_in file) (script_of script) ≡ Ok done)
     read = reading_done (fault_of file) (after_script (bank_in file) (script_of script)) done h
+
     by_lines : (r : Result (List Line) ScriptFault) → script_of script ≡ r → play_outcome back.out notes ≡ play_outcome file notes
     by_lines (Ok lines) e =
         ap (λ (t : List ℕ). play_outcome t notes) (same_out back _ _ (outcome done.out done.undo) (restores file script bytes done lines h e) g)
