@@ -39,7 +39,7 @@ undone_trim b i front back s t =
     undone_by b (Trim i front back) (Extend i (take front x.points) (drop (length x.points - back) x.points)) s (record {
       is = rw e refl;
       sound = sound_trim b i front back s c;
-      fits = (t.fits.0, (first_fit x.points front g.points, last_fit x.points (length x.points - back) g.points));
+      fits = (t.fits.0, first_fit x.points front g.points, last_fit x.points (length x.points - back) g.points);
       tests = (not_below (length (sample_trimmed b i front back).samples) i (omega (arith, size, lt)), tt);
       restored = ap (λ (samples : List Sample). record b { samples = samples })
           (changed-back b.samples i (trimmed front back) (extended (take front x.points) (drop (length x.points - back) x.points)) x e (trim_returned front back x inside outside v.looped));
@@ -62,8 +62,8 @@ undone_extend b i front back s t =
     rw then_is (extension_outside front back x v.looped) in
     undone_by b (Extend i front back) (Trim i (length front) (length back)) s (record {
       is = refl;
-      sound = sound_extend b i front back s t.fits.1.0 t.fits.1.1 t.accepted;
-      fits = (t.fits.0, (omega (arith, few, more), omega (arith, few, more)));
+      sound = sound_extend b i front back s t.fits.1 t.fits.2 t.accepted;
+      fits = (t.fits.0, omega (arith, few, more), omega (arith, few, more));
       tests = tests_trim (sample_extended b i front back) i (length front) (length back) (record { there = omega (arith, size, lt); inside = inside; outside = outside });
       restored = ap (λ (samples : List Sample). record b { samples = samples })
           (changed-back b.samples i (extended front back) (trimmed (length front) (length back)) x e (extension_returned front back x));
@@ -121,8 +121,8 @@ undone_set_tune b i rate key correction s t =
     let g = there_fits b i x e s in
     undone_by b (SetTune i rate key correction) (SetTune i x.rate x.key x.correction) s (record {
       is = rw e refl;
-      sound = sound_tune b i rate key correction s t.fits.1.0 t.fits.1.1.0 t.fits.1.1.1 lt;
-      fits = (t.fits.0, (g.rate, (g.key, g.correction)));
+      sound = sound_tune b i rate key correction s t.fits.1 t.fits.2 t.fits.3 lt;
+      fits = (t.fits.0, g.rate, g.key, g.correction);
       tests = (not_below (length (tune_set b i rate key correction).samples) i (omega (arith, size, lt)), tt);
       restored = ap (λ (samples : List Sample). record b { samples = samples }) (changed-back b.samples i (tuned rate key correction) (tuned x.rate x.key x.correction) x e refl);
       redone = rw then_is refl;

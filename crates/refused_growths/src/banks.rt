@@ -11,7 +11,7 @@ use std::io::{ErrorKind, Write};
 
 // The canonical file of a bank with a preset and an instrument, whose zones and global zones hold
 // generators and modulators, and with one sample, `saw`.
-static BANK: &[u8] = b"\
+pub(crate) static BANK: &[u8] = b"\
     RIFF\x56\x02\0\0sfbk\
     LIST\x2a\0\0\0INFO\
     ifil\x04\0\0\0\x02\0\x04\0\
@@ -52,7 +52,7 @@ static BANK: &[u8] = b"\
 
 // Holds what it is given without asking for memory.
 #[derive(Drop)]
-struct Fixed {
+pub(crate) struct Fixed {
     held: [u8; 1000],
     len: usize,
 }
@@ -74,17 +74,17 @@ impl Write for Fixed {
 
 impl Fixed {
     // What it was given.
-    fn text(&self) -> &[u8] {
+    pub(crate) fn text(&self) -> &[u8] {
         front_of(&self.held, self.len)
     }
 
     // Whether it was given exactly this text.
-    fn has(&self, text: &[u8]) -> bool {
+    pub(crate) fn has(&self, text: &[u8]) -> bool {
         self.text() == text
     }
 }
 
-fn fixed_writer() -> Fixed {
+pub(crate) fn fixed_writer() -> Fixed {
     Fixed {
         held: [0; 1000],
         len: 0,

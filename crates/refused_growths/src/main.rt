@@ -10,11 +10,13 @@ mod banks;
 mod generator_maps;
 mod outcome;
 mod points;
+mod sessions;
 
 use crate::banks::{EDITS, bank_copy, canonical_run, edit_and_return, listing_run, playing_run};
 use crate::generator_maps::{generators_copy, generators_set};
 use crate::outcome::Outcome;
 use crate::points::{points_copy, points_join, points_narrow};
+use crate::sessions::session_walk;
 use std::process::ExitCode;
 
 fn main(rt: HostRuntime) -> ExitCode {
@@ -29,6 +31,7 @@ fn main(rt: HostRuntime) -> ExitCode {
         listing_run(alloc),
         playing_run(alloc),
         bank_copy(alloc),
+        session_walk(alloc),
     ];
     let mut outcome = Outcome::Done;
     for case in cases {

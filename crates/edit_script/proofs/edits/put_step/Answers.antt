@@ -1,3 +1,5 @@
+use Rattle.std.proofs.Common.{rules, FitsSigned, w8}
+use Rattle.std.proofs.lemmas.Int.{to_z-of_z}
 use Rattle.edit_script.proofs.PutLaws.{puts_same}
 use Rattle.edit_script.proofs.edits.put_step.Goals as goal
 
@@ -62,4 +64,6 @@ pub returns-in-SetKind : goal.returns-in-SetKind
 returns-in-SetKind g c = puts_same _ _ c.in-SetKind.is c.put_set_kind.ensures
 
 pub returns-in-SetTune : goal.returns-in-SetTune
-returns-in-SetTune g c = puts_same _ _ c.in-SetTune.is c.put_set_tune.ensures
+returns-in-SetTune g c =
+    let fits : FitsSigned w8 c.in-SetTune.correction = search rules in
+    puts_same _ _ c.in-SetTune.is (rw (to_z-of_z w8 c.in-SetTune.correction fits) at c.put_set_tune.ensures)

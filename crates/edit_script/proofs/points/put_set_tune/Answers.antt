@@ -1,4 +1,5 @@
-use Rattle.std.proofs.Common.{◌∷◌, [], codes}
+use Rattle.std.proofs.Common.{rules, ◌∷◌, [], codes, FitsSigned, w8}
+use Rattle.std.proofs.lemmas.Int.{to_z-of_z}
 use Rattle.line_tokens.proofs.PrintLaws.{puts_line}
 use Rattle.script_grammar.specs.Operands.{pieces_of}
 use Rattle.script_grammar.specs.Samples.{tune_operands}
@@ -8,5 +9,7 @@ use Rattle.edit_script.specs.Points.{tune_of_operands}
 use Rattle.edit_script.proofs.points.put_set_tune.Goals as goal
 
 pub returns : goal.returns
-returns g c = puts_line (codes "set-tune") (pieces_of (tune_of_operands c.args.sample c.args.rate c.args.key c.args.correction)) (rw c.word.ensures at c.put.ensures)
-    (puts_both (place c.args.sample ∷ []) (tune_operands c.args.rate c.args.key c.args.correction) c.put_number.ensures c.put_tune.ensures) c.put-2.ensures
+returns g c =
+    let fits : FitsSigned w8 c.args.correction = search rules in
+    puts_line (codes "set-tune") (pieces_of (tune_of_operands c.args.sample c.args.rate c.args.key c.args.correction)) (rw c.word.ensures at c.put.ensures)
+    (puts_both (place c.args.sample ∷ []) (tune_operands c.args.rate c.args.key c.args.correction) c.put_number.ensures (rw (to_z-of_z w8 c.args.correction fits) at c.put_tune.ensures)) c.put-2.ensures

@@ -1,0 +1,110 @@
+//! The calls of sessions that may want memory.
+use crate::banks::{BANK, Fixed, fixed_writer};
+use crate::outcome::Outcome;
+use bank_edits::{Edit, Refusal, Step};
+use edit_script::print;
+use edit_sessions::{Session, SessionFault};
+use sf_base::{Failure, Name20, OutOfMemory};
+use sf_reader::read;
+use sf_writer::write;
+use std::alloc::Global;
+
+#[derive(Clone, Copy)]
+enum Call {
+    Rename,
+    Remove,
+    Undo,
+    Redo,
+}
+
+// Calls, each with whether it is done, and the number of edits to undo after it.
+static CALLS: [(Call, bool, usize); 10] = [
+    (Call::Undo, false, 0),
+    (Call::Rename, true, 1),
+    (Call::Remove, true, 2),
+    (Call::Redo, false, 2),
+    (Call::Undo, true, 1),
+    (Call::Redo, true, 2),
+    (Call::Undo, true, 1),
+    (Call::Undo, true, 0),
+    (Call::Remove, true, 1),
+    (Call::Undo, true, 0),
+];
+
+/// Makes ten calls of a session, of which the last gives the first bank back. For want of memory a call
+/// leaves the session as it was, and is made again.
+pub(crate) fn session_walk(alloc: Global) -> Outcome {
+    let (bank, mut outcome) = match read(alloc, BANK) {
+        Ok((bank, _counts)) => (bank, Outcome::Done),
+        Err(_) => match read(alloc, BANK) {
+            Ok((bank, _counts)) => (bank, Outcome::Refused),
+            Err(_) => return Outcome::Wrong,
+        },
+    };
+    let mut session = Session::new(alloc, bank);
+    for (call, done, undos) in CALLS {
+        outcome = outcome.and(called(alloc, &mut session, call, done));
+        outcome = outcome.and(Outcome::done(session.undo_list().len() == undos));
+    }
+    outcome.and(Outcome::done(file_of(&session).has(BANK)))
+}
+
+// Makes a call, and again where memory was wanting.
+fn called(alloc: Global, session: &mut Session<'_>, call: Call, done: bool) -> Outcome {
+    let (file, back) = (file_of(session), back_of(session));
+    match made(alloc, session, call) {
+        Ok(was) => Outcome::done(was == done),
+        Err(OutOfMemory) => {
+            let unchanged = file_of(session).has(file.text()) && back_of(session).has(back.text());
+            Outcome::refused(unchanged && made(alloc, session, call) == Ok(done))
+        }
+    }
+}
+
+// The file of its bank.
+fn file_of(session: &Session<'_>) -> Fixed {
+    let mut out = fixed_writer();
+    let _ = write(session.bank(), &mut out);
+    out
+}
+
+// The text of its undo list.
+fn back_of(session: &Session<'_>) -> Fixed {
+    let mut out = fixed_writer();
+    for edit in session.undo_list() {
+        let _ = print(edit, &mut out);
+    }
+    out
+}
+
+// Makes a call, and answers whether it was done.
+fn made(alloc: Global, session: &mut Session<'_>, call: Call) -> Result<bool, OutOfMemory> {
+    match call {
+        Call::Rename => match Name20::from_bytes(b"u") {
+            Ok(name) => edited(session.edit(
+                alloc,
+                Edit::One(Step::RenameSample { sample: 0, name }),
+            )),
+            Err(_) => Ok(false),
+        },
+        Call::Remove => edited(session.edit(alloc, Edit::One(Step::RemovePreset { preset: 0 }))),
+        Call::Undo => moved(session.undo(alloc)),
+        Call::Redo => moved(session.redo(alloc)),
+    }
+}
+
+fn edited(answer: Result<(), (Refusal, Edit<'_>)>) -> Result<bool, OutOfMemory> {
+    match answer {
+        Ok(()) => Ok(true),
+        Err((Refusal::Of(_), _)) => Ok(false),
+        Err((Refusal::OutOfMemory, _)) => Err(OutOfMemory),
+    }
+}
+
+fn moved(answer: Result<(), Failure<SessionFault>>) -> Result<bool, OutOfMemory> {
+    match answer {
+        Ok(()) => Ok(true),
+        Err(Failure::Fault(_)) => Ok(false),
+        Err(Failure::OutOfMemory) => Err(OutOfMemory),
+    }
+}
