@@ -1,5 +1,5 @@
 -- The forms that edit one sample's points, loop, kind or pitch: what acceptance says of each.
-use Rattle.std.proofs.Common.{◌≡◌, ◌<◌, ◌≤◌, ◌+◌, ◌^◌, ℕ, ℤ, nat_lt, FitsSigned, w8, false, List, length, slice_get, Option, Some, None, refl, sym, ◌∙◌, ap, arith}
+use Rattle.std.proofs.Common.{◌≡◌, ◌<◌, ◌≤◌, ◌+◌, ◌^◌, ℕ, ℤ, nat_lt, FitsSigned, w8, false, List, length, Option, Some, None, refl, sym, ◌∙◌, ap, arith}
 use Rattle.sample_view.specs.Words.{AreWords}
 use Rattle.numbered_lists.proofs.Lists.{slice_get-found}
 use Rattle.bank_parts.specs.declared.parts.Kind.{Kind}
