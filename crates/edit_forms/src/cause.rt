@@ -128,7 +128,7 @@ pub enum Refusal {
     /// The first cause that stands, in the order of their numbers.
     #[error("{0}")]
     Of(Cause),
-    /// Only where no cause stands.
+    /// Of `apply` only where no cause stands; a session may answer it in place of any cause.
     #[error("out of memory")]
     OutOfMemory,
 }

@@ -14,7 +14,7 @@ pub enum SessionFault {
 }
 
 impl SessionFault {
-    /// The number by which it is told: it follows those of the causes of `bank_edits`.
+    /// The number by which it is told, which no cause of an edit has.
     pub fn number(self) -> u8
         ensures { result ≡ number_of self }
     {
