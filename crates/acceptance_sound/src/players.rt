@@ -20,30 +20,6 @@ fn note_of(length: u32, key: u8) -> Option<Note> {
     Note::new(0, length, 0, 0, key, 127)
 }
 
-// A player of a note of 8 frames, a fifth above its sample's pitch. The bank is dropped.
-fn playing<'a>(alloc: Global, file: &'a [u8], note: &Note) -> Result<Player<'a>, Fail> {
-    let (bank, _counts) = read(alloc, file)?;
-    let mut player = Player::new(alloc);
-    player.start(alloc, &bank, note)?;
-    Ok(player)
-}
-
-#[test]
-fn blocks_of_any_length(rt: HostRuntime) -> Result<(), Fail> {
-    let file = tone();
-    let note = note_of(8, 67).expect(&rt, "a note");
-    let mut player = playing(rt.alloc(), file.bytes(), &note)?;
-    let mut out = [0; 16];
-    player.block(&mut out[..2]);
-    player.block(&mut out[2..2]);
-    player.block(&mut out[2..8]);
-    player.block(&mut out[8..]);
-    assert_eq!(rt; out, FIFTH);
-    player.block(&mut out);
-    assert_eq!(rt; out, [0; 16]);
-    Ok(())
-}
-
 // Takes out the one zone of the instrument.
 fn without_zone(alloc: Global, bank: &mut Bank<'_>) -> bool {
     let owner = Owner::Instrument(0);
