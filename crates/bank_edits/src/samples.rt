@@ -7,7 +7,7 @@ ghost use Rattle.bank_edits.specs.StepChanges.{IsStepChange};
 
 use bank_core::Bank;
 use bank_parts::Sample;
-use edit_forms::{Step, sample_fits};
+use edit_forms::Step;
 use sf_base::Name20;
 
 // ---- rename-sample
@@ -33,7 +33,7 @@ pub(crate) fn add_sample<'a>(
     requires accepted { refusal bank.old (step.AddSample at sample) ≡ None }
     ensures { IsStepChange bank.old bank.new (step.AddSample at sample.entry) result }
 {
-    sample_fits(&sample);
+    sample.fits();
     match bank.add_sample(at, sample) {
         Ok(()) => Ok(Step::RemoveSample { sample: at }),
         Err(sample) => Err(Step::AddSample { at, sample }),

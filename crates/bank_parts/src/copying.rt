@@ -8,9 +8,9 @@ use numbered_lists::NumberedList;
 use sf_base::{Lent, OutOfMemory};
 use std::alloc::Global;
 
-/// What a bank's lists hold.
-pub(crate) trait CopyOut: Sized {
-    /// An equal one.
+/// What a bank's lists hold, and what changes them.
+pub trait CopyOut: Sized {
+    /// An equal one, in memory of its own; or want of memory. Points and texts stay where they are.
     fn copy_out(&self, alloc: Global) -> Result<Self, OutOfMemory>
         ensures { IfOk result (λ copy. copy ≡ self.now) };
 }

@@ -1,11 +1,11 @@
-//! The law that all that the zones of a preset or an instrument hold is in the range of its field. It
+//! The law that all that a preset, an instrument or a sample holds is in the range of its field. It
 //! does nothing: every value of the code is, and here it is known.
 ghost use Rattle.std.specs.List.{AllByRecursion};
 ghost use Rattle.modulators.specs.Modulators.{FitsModulator};
-ghost use Rattle.bank_parts.specs.Fits.{FitsOwner, FitsGlobal, FitsZone};
+ghost use Rattle.bank_parts.specs.Fits.{FitsOwner, FitsGlobal, FitsZone, FitsSample, FitsLoop, FitsKind};
 
 use crate::heads::OwnerHead;
-use crate::parts::{GlobalZone, WithZones, Zone};
+use crate::parts::{GlobalZone, Kind, Sample, WithZones, Zone};
 use modulators::Modulator;
 
 impl<H: OwnerHead> WithZones<H> {
@@ -57,3 +57,40 @@ fn mods_fit(mods: &[Modulator])
 pub fn modulator_fits(_modulator: Modulator)
     ensures { FitsModulator _modulator }
 {}
+
+impl<'a> Sample<'a> {
+    /// The law that all that the sample holds is in the range of its field.
+    pub fn fits(&self)
+        ensures { FitsSample self.now }
+    {
+        let _name = self.name.bytes();
+        let _points = self.points.len();
+        loop_fits(self.looped);
+        let _rate = self.rate;
+        let _key = self.key;
+        let _correction = self.correction;
+        self.kind.fits();
+    }
+}
+
+/// The law that both ends of a loop are in the ranges of their fields.
+pub fn loop_fits(looped: Option<(u32, u32)>)
+    ensures { FitsLoop looped }
+{
+    match looped {
+        Some((_start, _end)) => {}
+        None => {}
+    }
+}
+
+impl Kind {
+    /// The law that the number of a linked sample is in the range of its field.
+    pub fn fits(self)
+        ensures { FitsKind self }
+    {
+        match self {
+            Kind::Mono => {}
+            Kind::Right(_link) | Kind::Left(_link) | Kind::Linked(_link) => {}
+        }
+    }
+}

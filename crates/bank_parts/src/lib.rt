@@ -16,9 +16,9 @@ mod texts;
 mod zone_changes;
 
 pub use contents::{is_bad_range, sets_bad_range, sets_foreign};
-pub use copying::copy_parts;
+pub use copying::{CopyOut, copy_parts};
 pub use counting::Records;
-pub use fits::modulator_fits;
+pub use fits::{loop_fits, modulator_fits};
 pub use heads::OwnerHead;
 pub use laws::{other_places_stay, places_are_lenses, zone_changes_read, zone_changes_undone};
 pub use owners::{Owners, ZonePlace};

@@ -1,10 +1,9 @@
 //! What an edit says: its forms, and that what each carries is in the ranges of its fields.
-ghost use Rattle.bank_parts.specs.Fits.{FitsSample, FitsLoop, FitsKind};
 ghost use Rattle.edit_forms.specs.Steps.{FitsNumberOf, FitsPlace, FitsStep};
 ghost use Rattle.edit_forms.specs.Edits.{FitsEdit};
 
 use bank_core::{Owner, Place};
-use bank_parts::{InfoId, Instrument, Kind, Preset, Sample, Zone, modulator_fits};
+use bank_parts::{InfoId, Instrument, Kind, Preset, Sample, Zone, loop_fits, modulator_fits};
 use modulators::Modulator;
 use sample_view::Points;
 use sf_base::{Lent, Name20};
@@ -236,7 +235,7 @@ impl<'a> Step<'a> {
             }
             Step::AddSample { at, sample } => {
                 let _at = *at;
-                sample_fits(sample);
+                sample.fits();
             }
             Step::Trim {
                 sample,
@@ -262,7 +261,7 @@ impl<'a> Step<'a> {
             }
             Step::SetKind { sample, kind } => {
                 let _sample = *sample;
-                kind_fits(*kind);
+                kind.fits();
             }
             Step::SetTune {
                 sample,
@@ -404,36 +403,5 @@ fn place_fits(place: Place)
     match place {
         Place::Global => {}
         Place::Zone(_number) => {}
-    }
-}
-
-/// The law that what a sample holds is in the ranges of its fields. It does nothing.
-pub fn sample_fits(sample: &Sample<'_>)
-    ensures { FitsSample sample.now }
-{
-    let _name = sample.name.bytes();
-    let _points = sample.points.len();
-    loop_fits(sample.looped);
-    let _rate = sample.rate;
-    let _key = sample.key;
-    let _correction = sample.correction;
-    kind_fits(sample.kind);
-}
-
-fn loop_fits(looped: Option<(u32, u32)>)
-    ensures { FitsLoop looped }
-{
-    match looped {
-        Some((_start, _end)) => {}
-        None => {}
-    }
-}
-
-fn kind_fits(kind: Kind)
-    ensures { FitsKind kind }
-{
-    match kind {
-        Kind::Mono => {}
-        Kind::Right(_link) | Kind::Left(_link) | Kind::Linked(_link) => {}
     }
 }

@@ -17,6 +17,6 @@ mod texts;
 mod zones;
 
 pub use cause::{Cause, Refusal};
-pub use edit::{Edit, Step, sample_fits};
+pub use edit::{Edit, Step};
 pub use refusing::refuse;
 pub use zone_ranges::{Axis, Keep};
