@@ -13,7 +13,7 @@ use Rattle.bank_changes.specs.declared.members.Owner.{Owner}
 use Rattle.bank_changes.specs.declared.members.Place.{Place}
 use Rattle.bank_changes.specs.Members.{target_of, mod_at}
 use Rattle.bank_changes.proofs.PointLaws.{there_fits}
-use Rattle.edit_forms.specs.declared.edit.Step.TheVariants.{SetHead, RenameInstrument, RenameSample, SetLoop, SetKind, SetTune, SetTarget, AddMod, RemoveMod, SetMod}
+use Rattle.edit_forms.specs.declared.step.Step.TheVariants.{SetHead, RenameInstrument, RenameSample, SetLoop, SetKind, SetTune, SetTarget, AddMod, RemoveMod, SetMod}
 use Rattle.bank_edits.specs.StepChanges.{inverse}
 
 module _ (b : Parts) (i : ℕ) (name : List ℕ) where

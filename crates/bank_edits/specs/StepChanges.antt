@@ -12,9 +12,9 @@ use Rattle.zone_ranges.specs.Ranges.{low_end, own_range, whole_range}
 use Rattle.zone_ranges.specs.Splits.{keep_for}
 use Rattle.bank_changes.specs.Points.{points_of}
 use Rattle.bank_changes.specs.Members.{head_of, instrument_name_of, zone_of, target_of, amount_of, mod_at}
-use Rattle.edit_forms.specs.declared.edit.Step.{Step}
-use Rattle.edit_forms.specs.declared.edit.Step.TheVariants.{AddPreset, RemovePreset, MovePreset, SetHead, AddInstrument, RemoveInstrument, RenameInstrument, MoveInstrument, RenameSample, AddSample, RemoveSample, MoveSample, Trim, Extend, SetLoop, SetKind, SetTune, AddZone, RemoveZone, MoveZone, SplitZone, JoinZone, SetTarget, SetGen, ClearGen, AddMod, RemoveMod, SetMod, SetInfo}
-use Rattle.edit_forms.specs.Steps.{raw}
+use Rattle.edit_forms.specs.declared.step.Step.{Step}
+use Rattle.edit_forms.specs.declared.step.Step.TheVariants.{AddPreset, RemovePreset, MovePreset, SetHead, AddInstrument, RemoveInstrument, RenameInstrument, MoveInstrument, RenameSample, AddSample, RemoveSample, MoveSample, Trim, Extend, SetLoop, SetKind, SetTune, AddZone, RemoveZone, MoveZone, SplitZone, JoinZone, SetTarget, SetGen, ClearGen, AddMod, RemoveMod, SetMod, SetInfo}
+use Rattle.edit_refusals.specs.Steps.{raw}
 
 -- the step that takes it back, read on the bank before
 abbrev pub inverse : Parts → Step → Step

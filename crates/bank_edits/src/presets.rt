@@ -1,8 +1,8 @@
 //! What each form that edits presets does.
 ghost use Rattle.std.specs.Prelude.{◌≡◌, None, Ok};
 ghost use Rattle.bank_parts.specs.Sound.{IsSound};
-ghost use Rattle.edit_forms.specs.declared.edit.Step.TheVariants as step;
-ghost use Rattle.edit_forms.specs.Steps.{refusal};
+ghost use Rattle.edit_forms.specs.declared.step.Step.TheVariants as step;
+ghost use Rattle.edit_refusals.specs.Steps.{refusal};
 ghost use Rattle.bank_edits.specs.StepChanges.{IsStepChange};
 
 use bank_core::Bank;

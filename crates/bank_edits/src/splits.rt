@@ -6,8 +6,8 @@ ghost use Rattle.bank_changes.specs.Members.{zone_of, amount_of};
 ghost use Rattle.zone_ranges.specs.Ranges.{range_operator};
 ghost use Rattle.zone_ranges.specs.Splits.{keep_for};
 ghost use Rattle.zone_ranges.specs.Undone.{own_low};
-ghost use Rattle.edit_forms.specs.declared.edit.Step.TheVariants as step;
-ghost use Rattle.edit_forms.specs.Steps.{refusal};
+ghost use Rattle.edit_forms.specs.declared.step.Step.TheVariants as step;
+ghost use Rattle.edit_refusals.specs.Steps.{refusal};
 ghost use Rattle.bank_edits.specs.StepChanges.{IsStepChange};
 
 use bank_core::{Bank, Owner, Place};

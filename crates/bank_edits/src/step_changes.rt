@@ -1,7 +1,7 @@
 //! What a step does: the change of its form.
 ghost use Rattle.std.specs.Prelude.{◌≡◌, None, IsOk};
 ghost use Rattle.bank_parts.specs.Sound.{IsSound};
-ghost use Rattle.edit_forms.specs.Steps.{refusal};
+ghost use Rattle.edit_refusals.specs.Steps.{refusal};
 ghost use Rattle.bank_edits.specs.StepChanges.{GrowsNothing, IsStepChange};
 
 use crate::instruments::{add_instrument, move_instrument, remove_instrument, rename_instrument};

@@ -1,16 +1,3 @@
-pub use Rattle.bank_parts.specs.Valid
 pub use Rattle.bank_parts.specs.Fits
-pub use Rattle.bank_parts.specs.Sound
-pub use Rattle.bank_validity.specs.Limits
-pub use Rattle.bank_parts.specs.Contents
-pub use Rattle.bank_changes.specs.Samples
-pub use Rattle.bank_changes.specs.Instruments
-pub use Rattle.bank_changes.specs.Presets
-pub use Rattle.bank_changes.specs.Zones
-pub use Rattle.bank_changes.specs.Settings
 pub use Rattle.sf_base.specs.Names
-pub mod CauseNames
-pub mod Causes
-pub mod Steps
-pub mod Edits
-pub mod Answers
+pub mod Fits

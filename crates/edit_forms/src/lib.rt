@@ -1,22 +1,10 @@
-//! What an edit of a bank says, and what stands against it: the forms of edits, the causes of refusal,
-//! and the one call that judges.
+//! What an edit of a bank says: its forms, that what each carries is in the range of its field, and an
+//! equal one in memory of its own.
 #![tactic(auto)]
 
-mod cause;
-mod causes;
 mod edit;
-mod instruments;
-mod modulator_forms;
-mod points;
-mod presets;
-mod refusing;
-mod samples;
-mod settings;
-mod splits;
-mod texts;
-mod zones;
+mod step;
 
-pub use cause::{Cause, Refusal};
-pub use edit::{Edit, Step};
-pub use refusing::refuse;
+pub use edit::Edit;
+pub use step::Step;
 pub use zone_ranges::{Axis, Keep};

@@ -4,7 +4,7 @@ use Rattle.outputs.specs.declared.output.Output.{Output}
 use Rattle.outputs.specs.Output.{Puts}
 use Rattle.bank_parts.specs.declared.parts.Sample.{Sample}
 use Rattle.bank_parts.specs.declared.parts.WithZones.{WithZones}
-use Rattle.edit_forms.specs.declared.edit.Step.{Step}
+use Rattle.edit_forms.specs.declared.step.Step.{Step}
 use Rattle.line_tokens.specs.Printing.{line_text}
 use Rattle.script_grammar.specs.Operands.{Operand, pieces_of}
 use Rattle.script_grammar.specs.Zones.{written_operands, written_of}

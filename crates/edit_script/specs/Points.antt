@@ -2,8 +2,8 @@
 -- and how it is read.
 use Rattle.std.specs.Prelude.{ℕ, ℤ, List, [], ◌∷◌, Option}
 use Rattle.bank_parts.specs.declared.parts.Kind.{Kind}
-use Rattle.edit_forms.specs.declared.edit.Step.{Step}
-use Rattle.edit_forms.specs.declared.edit.Step.TheVariants.{Trim, Extend, SetLoop, SetKind, SetTune}
+use Rattle.edit_forms.specs.declared.step.Step.{Step}
+use Rattle.edit_forms.specs.declared.step.Step.TheVariants.{Trim, Extend, SetLoop, SetKind, SetTune}
 use Rattle.line_tokens.specs.Parts.{Part, ◌>>=◌, pure, number}
 use Rattle.script_grammar.specs.Operands.{Operand, Number, Points}
 use Rattle.script_grammar.specs.Samples.{kind_operands, loop_operands, tune_operands, kind, looped, points, tune}

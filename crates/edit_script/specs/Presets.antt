@@ -4,8 +4,8 @@ use Rattle.bank_parts.specs.declared.parts.Head.{Head}
 use Rattle.bank_parts.specs.declared.parts.WithZones.{WithZones}
 use Rattle.line_tokens.specs.Parts.{Part, ◌>>=◌, pure, number, name}
 use Rattle.script_grammar.specs.Operands.{Operand, Number, Name}
-use Rattle.edit_forms.specs.declared.edit.Step.{Step}
-use Rattle.edit_forms.specs.declared.edit.Step.TheVariants.{SetHead}
+use Rattle.edit_forms.specs.declared.step.Step.{Step}
+use Rattle.edit_forms.specs.declared.step.Step.TheVariants.{SetHead}
 use Rattle.edit_script.specs.Members.{named_operands, naming, placed, owner}
 
 -- `NAME NUMBER BANK LIBRARY GENRE MORPHOLOGY`

@@ -3,8 +3,8 @@ use Rattle.std.specs.Prelude.{ℕ, List, [], ◌∷◌, ◌++◌}
 use Rattle.modulators.specs.declared.modulator.Modulator.{Modulator}
 use Rattle.bank_changes.specs.declared.members.Owner.{Owner}
 use Rattle.bank_changes.specs.declared.members.Place.{Place}
-use Rattle.edit_forms.specs.declared.edit.Step.{Step}
-use Rattle.edit_forms.specs.declared.edit.Step.TheVariants.{SetGen, ClearGen, AddMod, RemoveMod, SetMod}
+use Rattle.edit_forms.specs.declared.step.Step.{Step}
+use Rattle.edit_forms.specs.declared.step.Step.TheVariants.{SetGen, ClearGen, AddMod, RemoveMod, SetMod}
 use Rattle.line_tokens.specs.Parts.{Part, ◌>>=◌, pure, number}
 use Rattle.script_grammar.specs.Operands.{Operand, Number}
 use Rattle.script_grammar.specs.Items.{generator_operands, modulator_operands, generator, modulator}

@@ -1,6 +1,6 @@
 -- Which texts spell which edits: a relation of lines and what they say, without a reader.
 use Rattle.std.specs.Prelude.{◌≡◌, ◌⊎◌, ℕ, suc, List, [], ◌∷◌}
-use Rattle.edit_forms.specs.declared.edit.Step.{Step}
+use Rattle.edit_forms.specs.declared.step.Step.{Step}
 use Rattle.edit_forms.specs.declared.edit.Edit.{Edit}
 use Rattle.edit_forms.specs.declared.edit.Edit.TheVariants.{One}
 use Rattle.line_tokens.specs.declared.cursor.Said.{Said}

@@ -6,7 +6,7 @@ use Rattle.std.specs.Prelude.{zip}
 use Rattle.bank_parts.specs.declared.parts.Parts.{Parts}
 use Rattle.bank_parts.specs.Sound.{IsSound}
 use Rattle.edit_forms.specs.declared.edit.Edit.{Edit}
-use Rattle.edit_forms.specs.Edits.{raw}
+use Rattle.edit_refusals.specs.Edits.{raw}
 use Rattle.bank_edits.specs.EditChanges.{inverse}
 use Rattle.inverse_edits.specs.Runs.{AllTaken, undo_list}
 use Rattle.inverse_edits.proofs.Law.{undone}

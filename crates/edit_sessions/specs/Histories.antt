@@ -4,9 +4,9 @@ use Rattle.sf_base.specs.declared.memory.Failure.{Failure}
 use Rattle.sf_base.specs.declared.memory.Failure.TheVariants as failure
 use Rattle.bank_parts.specs.declared.parts.Parts.{Parts}
 use Rattle.edit_forms.specs.declared.edit.Edit.{Edit}
-use Rattle.edit_forms.specs.declared.cause.Refusal.{Refusal}
-use Rattle.edit_forms.specs.declared.cause.Refusal.TheVariants as refusal_of
-use Rattle.edit_forms.specs.Edits.{raw, refusal}
+use Rattle.edit_refusals.specs.declared.refusal.Refusal.{Refusal}
+use Rattle.edit_refusals.specs.declared.refusal.Refusal.TheVariants as refusal_of
+use Rattle.edit_refusals.specs.Edits.{raw, refusal}
 use Rattle.bank_edits.specs.EditChanges.{inverse}
 use Rattle.inverse_edits.specs.Undone.{IsTaken}
 use Rattle.inverse_edits.specs.Runs.{undo_list}

@@ -15,12 +15,12 @@ use Rattle.bank_changes.specs.Instruments.{instrument_added, instrument_removed,
 use Rattle.bank_changes.proofs.Changes.{all_found}
 use Rattle.bank_changes.proofs.InstrumentLaws.{restored_added_instrument, added_instrument_unused, restored_removed_instrument, instrument_renamed_sound, length-instrument_moved, restored_instrument_moved}
 use Rattle.edit_forms.specs.declared.edit.Edit.TheVariants.{One}
-use Rattle.edit_forms.specs.declared.edit.Step.TheVariants.{AddInstrument, RemoveInstrument, RenameInstrument, MoveInstrument}
-use Rattle.edit_forms.proofs.Accepted.{accepted, not_below}
-use Rattle.edit_forms.specs.declared.cause.Cause.TheVariants.{NoSuchInstrument, NoSuchSample}
-use Rattle.edit_forms.proofs.Moves.{tests_move, moves_back}
-use Rattle.edit_forms.proofs.OwnerLaws.{tests_add}
-use Rattle.edit_forms.proofs.InstrumentLaws.{instrument_goes, sound_add_instrument, instrument_comes, sound_remove_instrument, there_of_rename_instrument, moves_instrument, sound_move_instrument}
+use Rattle.edit_forms.specs.declared.step.Step.TheVariants.{AddInstrument, RemoveInstrument, RenameInstrument, MoveInstrument}
+use Rattle.edit_refusals.proofs.Accepted.{accepted, not_below}
+use Rattle.edit_refusals.specs.declared.cause.Cause.TheVariants.{NoSuchInstrument, NoSuchSample}
+use Rattle.edit_refusals.proofs.Moves.{tests_move, moves_back}
+use Rattle.edit_refusals.proofs.OwnerLaws.{tests_add}
+use Rattle.edit_refusals.proofs.InstrumentLaws.{instrument_goes, sound_add_instrument, instrument_comes, sound_remove_instrument, there_of_rename_instrument, moves_instrument, sound_move_instrument}
 use Rattle.inverse_edits.specs.Undone.{IsTaken, IsUndone}
 use Rattle.inverse_edits.proofs.UndoneBy.{undone_by}
 

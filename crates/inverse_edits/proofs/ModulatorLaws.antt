@@ -21,10 +21,10 @@ use Rattle.bank_changes.proofs.Changes.{all_found}
 use Rattle.bank_changes.proofs.PlaceLaws.{settings_fit}
 use Rattle.bank_changes.proofs.SettingLaws.{mod_added_is, mod_removed_is, mod_set_is}
 use Rattle.edit_forms.specs.declared.edit.Edit.TheVariants.{One}
-use Rattle.edit_forms.specs.declared.edit.Step.TheVariants.{AddMod, RemoveMod, SetMod}
-use Rattle.edit_forms.proofs.Accepted.{accepted}
-use Rattle.edit_forms.proofs.PlaceLaws.{mods_found}
-use Rattle.edit_forms.proofs.ModulatorLaws.{mods_sent, still_no_link, none_inserted, none_left, none_exchanged, plain_found, mod_goes, sound_add_mod, tests_add_mod, mod_comes, sound_remove_mod, tests_remove_mod, mod_changes, sound_set_mod, tests_set_mod}
+use Rattle.edit_forms.specs.declared.step.Step.TheVariants.{AddMod, RemoveMod, SetMod}
+use Rattle.edit_refusals.proofs.Accepted.{accepted}
+use Rattle.edit_refusals.proofs.PlaceLaws.{mods_found}
+use Rattle.edit_refusals.proofs.ModulatorLaws.{mods_sent, still_no_link, none_inserted, none_left, none_exchanged, plain_found, mod_goes, sound_add_mod, tests_add_mod, mod_comes, sound_remove_mod, tests_remove_mod, mod_changes, sound_set_mod, tests_set_mod}
 use Rattle.inverse_edits.specs.Undone.{IsTaken, IsUndone}
 use Rattle.inverse_edits.proofs.UndoneBy.{undone_by}
 

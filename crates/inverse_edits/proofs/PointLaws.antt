@@ -10,9 +10,9 @@ use Rattle.bank_parts.specs.Sound.{IsSound}
 use Rattle.bank_changes.specs.Points.{points_of, loop_of, trimmed, extended, looped_as, of_kind, tuned, sample_trimmed, sample_extended, loop_set, kind_set, tune_set}
 use Rattle.bank_changes.proofs.PointLaws.{OutsideLoop, there_valid, there_fits, length-sample_changed, length-extended, few_points, length-front, length-back, trim_returned, front_cut, back_cut, extension_returned, extension_outside}
 use Rattle.edit_forms.specs.declared.edit.Edit.TheVariants.{One}
-use Rattle.edit_forms.specs.declared.edit.Step.TheVariants.{Trim, Extend, SetLoop, SetKind, SetTune}
-use Rattle.edit_forms.proofs.Accepted.{accepted, not_below}
-use Rattle.edit_forms.proofs.PointLaws.{trims, tests_trim, sound_trim, there_of_extend, sound_extend, loops, tests_loop, sound_loop, links, tests_kind, sound_kind, there_of_tune, sound_tune}
+use Rattle.edit_forms.specs.declared.step.Step.TheVariants.{Trim, Extend, SetLoop, SetKind, SetTune}
+use Rattle.edit_refusals.proofs.Accepted.{accepted, not_below}
+use Rattle.edit_refusals.proofs.PointLaws.{trims, tests_trim, sound_trim, there_of_extend, sound_extend, loops, tests_loop, sound_loop, links, tests_kind, sound_kind, there_of_tune, sound_tune}
 use Rattle.inverse_edits.specs.Undone.{IsTaken, IsUndone}
 use Rattle.inverse_edits.proofs.UndoneBy.{undone_by}
 

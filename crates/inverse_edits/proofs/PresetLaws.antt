@@ -14,12 +14,12 @@ use Rattle.bank_changes.specs.Presets.{preset_added, preset_removed, head_set}
 use Rattle.bank_changes.proofs.Changes.{all_found}
 use Rattle.bank_changes.proofs.PresetLaws.{length-preset_moved, length-head_set, head_set_sound, read_head_set, restored_added_preset, restored_removed_preset, restored_preset_moved, restored_head_set}
 use Rattle.edit_forms.specs.declared.edit.Edit.TheVariants.{One}
-use Rattle.edit_forms.specs.declared.edit.Step.TheVariants.{AddPreset, RemovePreset, MovePreset, SetHead}
-use Rattle.edit_forms.specs.declared.cause.Cause.TheVariants.{NoSuchPreset, NoSuchInstrument}
-use Rattle.edit_forms.proofs.Accepted.{not_below}
-use Rattle.edit_forms.proofs.Moves.{tests_move, moves_back}
-use Rattle.edit_forms.proofs.OwnerLaws.{tests_add}
-use Rattle.edit_forms.proofs.PresetLaws.{preset_goes, sound_add_preset, there_of_remove_preset, sound_remove_preset, moves_preset, sound_move_preset, there_of_set_head}
+use Rattle.edit_forms.specs.declared.step.Step.TheVariants.{AddPreset, RemovePreset, MovePreset, SetHead}
+use Rattle.edit_refusals.specs.declared.cause.Cause.TheVariants.{NoSuchPreset, NoSuchInstrument}
+use Rattle.edit_refusals.proofs.Accepted.{not_below}
+use Rattle.edit_refusals.proofs.Moves.{tests_move, moves_back}
+use Rattle.edit_refusals.proofs.OwnerLaws.{tests_add}
+use Rattle.edit_refusals.proofs.PresetLaws.{preset_goes, sound_add_preset, there_of_remove_preset, sound_remove_preset, moves_preset, sound_move_preset, there_of_set_head}
 use Rattle.inverse_edits.specs.Undone.{IsTaken, IsUndone}
 use Rattle.inverse_edits.proofs.UndoneBy.{undone_by}
 

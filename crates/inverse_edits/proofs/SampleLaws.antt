@@ -15,11 +15,11 @@ use Rattle.bank_changes.specs.Samples.{named, sample_renamed, sample_added, samp
 use Rattle.bank_changes.proofs.Changes.{all_found}
 use Rattle.bank_changes.proofs.SampleLaws.{renamed_sound, restored_added, restored_removed, restored_moved, added_unused, length-sample_moved}
 use Rattle.edit_forms.specs.declared.edit.Edit.TheVariants.{One}
-use Rattle.edit_forms.specs.declared.edit.Step.TheVariants.{RenameSample, AddSample, RemoveSample, MoveSample}
-use Rattle.edit_forms.proofs.Accepted.{accepted, not_below}
-use Rattle.edit_forms.proofs.SampleLaws.{there_of_rename, goes_in, tests_add, sound_add, comes_out, sound_remove, moves_sample, sound_move_sample}
-use Rattle.edit_forms.specs.declared.cause.Cause.TheVariants.{NoSuchSample}
-use Rattle.edit_forms.proofs.Moves.{tests_move, moves_back}
+use Rattle.edit_forms.specs.declared.step.Step.TheVariants.{RenameSample, AddSample, RemoveSample, MoveSample}
+use Rattle.edit_refusals.proofs.Accepted.{accepted, not_below}
+use Rattle.edit_refusals.proofs.SampleLaws.{there_of_rename, goes_in, tests_add, sound_add, comes_out, sound_remove, moves_sample, sound_move_sample}
+use Rattle.edit_refusals.specs.declared.cause.Cause.TheVariants.{NoSuchSample}
+use Rattle.edit_refusals.proofs.Moves.{tests_move, moves_back}
 use Rattle.inverse_edits.specs.Undone.{IsTaken, IsUndone}
 use Rattle.inverse_edits.proofs.UndoneBy.{undone_by}
 

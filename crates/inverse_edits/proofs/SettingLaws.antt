@@ -19,10 +19,10 @@ use Rattle.bank_changes.proofs.Changes.{all_found}
 use Rattle.bank_changes.proofs.PlaceLaws.{place_there, gens_of_sound, settings_fit}
 use Rattle.bank_changes.proofs.SettingLaws.{gen_set_is, gen_cleared_is, amount_found}
 use Rattle.edit_forms.specs.declared.edit.Edit.TheVariants.{One}
-use Rattle.edit_forms.specs.declared.edit.Step.TheVariants.{SetGen, ClearGen}
-use Rattle.edit_forms.proofs.Accepted.{accepted}
-use Rattle.edit_forms.proofs.PlaceLaws.{some_settings, owner_stays_there, place_stays_there}
-use Rattle.edit_forms.proofs.SettingLaws.{AllowsThere, settings_allowed, GenGoes, gen_goes, tests_set_gen, sound_set_gen, gen_comes, tests_clear_gen, sound_clear_gen}
+use Rattle.edit_forms.specs.declared.step.Step.TheVariants.{SetGen, ClearGen}
+use Rattle.edit_refusals.proofs.Accepted.{accepted}
+use Rattle.edit_refusals.proofs.PlaceLaws.{some_settings, owner_stays_there, place_stays_there}
+use Rattle.edit_refusals.proofs.SettingLaws.{AllowsThere, settings_allowed, GenGoes, gen_goes, tests_set_gen, sound_set_gen, gen_comes, tests_clear_gen, sound_clear_gen}
 use Rattle.inverse_edits.specs.Undone.{IsTaken, IsUndone}
 use Rattle.inverse_edits.proofs.UndoneBy.{undone_by}
 

@@ -26,8 +26,8 @@ use Rattle.bank_changes.specs.Members.{zones_of, zone_of, level_of, target_count
 use Rattle.bank_changes.specs.Zones.{zone_split, zone_joined, can_split, can_join}
 use Rattle.bank_changes.proofs.ZoneLaws.{zones_valid}
 use Rattle.edit_forms.specs.declared.edit.Edit.TheVariants.{One}
-use Rattle.edit_forms.specs.declared.edit.Step.TheVariants.{SplitZone, JoinZone}
-use Rattle.edit_forms.proofs.SplitLaws.{can_of_split_zone, tests_split_zone, sound_split_zone, can_of_join_zone, tests_join_zone, sound_join_zone}
+use Rattle.edit_forms.specs.declared.step.Step.TheVariants.{SplitZone, JoinZone}
+use Rattle.edit_refusals.proofs.SplitLaws.{can_of_split_zone, tests_split_zone, sound_split_zone, can_of_join_zone, tests_join_zone, sound_join_zone}
 use Rattle.inverse_edits.specs.Undone.{IsTaken, IsUndone}
 use Rattle.inverse_edits.proofs.UndoneBy.{undone_by}
 

@@ -7,8 +7,8 @@ use Rattle.bank_parts.specs.Texts.{text_of}
 use Rattle.bank_parts.specs.Sound.{IsSound}
 use Rattle.bank_changes.proofs.TextLaws.{info_of, text_fits, text_of-set, text_set-back}
 use Rattle.edit_forms.specs.declared.edit.Edit.TheVariants.{One}
-use Rattle.edit_forms.specs.declared.edit.Step.TheVariants.{SetInfo}
-use Rattle.edit_forms.proofs.TextLaws.{sound_set_info, not_bad}
+use Rattle.edit_forms.specs.declared.step.Step.TheVariants.{SetInfo}
+use Rattle.edit_refusals.proofs.TextLaws.{sound_set_info, not_bad}
 use Rattle.inverse_edits.specs.Undone.{IsTaken, IsUndone}
 use Rattle.inverse_edits.proofs.UndoneBy.{undone_by}
 

@@ -2,11 +2,12 @@
 use Rattle.std.proofs.Common.{◌≡◌, sym, subst, ap}
 use Rattle.bank_parts.specs.declared.parts.Parts.{Parts}
 use Rattle.bank_parts.specs.Sound.{IsSound}
-use Rattle.edit_forms.specs.declared.edit.Step.{Step}
+use Rattle.edit_forms.specs.declared.step.Step.{Step}
 use Rattle.edit_forms.specs.declared.edit.Edit.TheVariants.{One}
-use Rattle.edit_forms.specs.Steps.{FitsStep, raw, causes}
+use Rattle.edit_forms.specs.Fits.{FitsStep}
+use Rattle.edit_refusals.specs.Steps.{raw, causes}
 use Rattle.bank_edits.specs.StepChanges.{inverse}
-use Rattle.edit_forms.proofs.Accepted.{NoneStands, accepted_by}
+use Rattle.edit_refusals.proofs.Accepted.{NoneStands, accepted_by}
 use Rattle.inverse_edits.specs.Undone.{IsUndone}
 
 -- The facts about the inverse as it computes. That it breaks no limit follows from what it restores.

@@ -24,9 +24,9 @@ use Rattle.bank_changes.proofs.Changes.{all_found}
 use Rattle.bank_changes.proofs.ZoneLaws.{zones_valid, zones_fit}
 use Rattle.bank_changes.proofs.ZoneChangeLaws.{own_zones_there, zone_there, zone_found, restored_zone_added, restored_zone_removed, restored_zone_moved, restored_target_set}
 use Rattle.edit_forms.specs.declared.edit.Edit.TheVariants.{One}
-use Rattle.edit_forms.specs.declared.edit.Step.TheVariants.{AddZone, RemoveZone, MoveZone, SetTarget}
-use Rattle.edit_forms.proofs.Accepted.{accepted}
-use Rattle.edit_forms.proofs.ZoneLaws.{zone_goes, tests_add_zone, sound_add_zone, comes_of_remove_zone, tests_remove_zone, sound_remove_zone, moves_of_move_zone, tests_move_zone, sound_move_zone, goes_of_set_target, tests_set_target, sound_set_target}
+use Rattle.edit_forms.specs.declared.step.Step.TheVariants.{AddZone, RemoveZone, MoveZone, SetTarget}
+use Rattle.edit_refusals.proofs.Accepted.{accepted}
+use Rattle.edit_refusals.proofs.ZoneLaws.{zone_goes, tests_add_zone, sound_add_zone, comes_of_remove_zone, tests_remove_zone, sound_remove_zone, moves_of_move_zone, tests_move_zone, sound_move_zone, goes_of_set_target, tests_set_target, sound_set_target}
 use Rattle.inverse_edits.specs.Undone.{IsTaken, IsUndone}
 use Rattle.inverse_edits.proofs.UndoneBy.{undone_by}
 

@@ -3,7 +3,8 @@ use Rattle.std.specs.Prelude.{◌≡◌, None}
 use Rattle.bank_parts.specs.declared.parts.Parts.{Parts}
 use Rattle.bank_parts.specs.Sound.{IsSound}
 use Rattle.edit_forms.specs.declared.edit.Edit.{Edit}
-use Rattle.edit_forms.specs.Edits.{FitsEdit, raw, refusal}
+use Rattle.edit_forms.specs.Fits.{FitsEdit}
+use Rattle.edit_refusals.specs.Edits.{raw, refusal}
 use Rattle.bank_edits.specs.EditChanges.{inverse}
 
 -- its numbers, names and texts are in the ranges of their fields, and it is not refused

@@ -11,8 +11,8 @@ use Rattle.bank_format.specs.ReadSteps.{fault_of}
 use Rattle.bank_format.proofs.RoundTrip.{reads-again}
 use Rattle.bank_format.proofs.ReadValid.{read_valid, read_fits}
 use Rattle.edit_forms.specs.declared.edit.Edit.{Edit}
-use Rattle.edit_forms.specs.declared.cause.Cause.{Cause}
-use Rattle.edit_forms.specs.Edits.{raw, refusal}
+use Rattle.edit_refusals.specs.declared.cause.Cause.{Cause}
+use Rattle.edit_refusals.specs.Edits.{raw, refusal}
 use Rattle.inverse_edits.specs.Runs.{AllTaken, after_all, undo_list}
 use Rattle.inverse_edits.proofs.RunLaw.{all_undone}
 use Rattle.edit_script.specs.declared.parsing.Line.{Line}

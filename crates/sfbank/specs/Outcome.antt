@@ -8,8 +8,8 @@ use Rattle.bank_format.specs.Chunks.{window}
 use Rattle.bank_format.specs.Reading.{content_in}
 use Rattle.bank_format.specs.ReadSteps.{fault_of}
 use Rattle.edit_forms.specs.declared.edit.Edit.{Edit}
-use Rattle.edit_forms.specs.declared.cause.Cause.{Cause}
-use Rattle.edit_forms.specs.Edits.{raw, refusal}
+use Rattle.edit_refusals.specs.declared.cause.Cause.{Cause}
+use Rattle.edit_refusals.specs.Edits.{raw, refusal}
 use Rattle.inverse_edits.specs.Runs.{after_all, undo_list}
 use Rattle.edit_script.specs.declared.parsing.Line.{Line}
 use Rattle.line_tokens.specs.declared.fault.ScriptFault.{ScriptFault}

@@ -7,7 +7,7 @@ ghost use Rattle.sfbank_program.specs.FaultLines.{fault_line, status_of, read_li
 
 use bank_format::ReadFault;
 use bank_validity::Limit;
-use edit_forms::Cause;
+use edit_refusals::Cause;
 use itoa::Buffer;
 use outputs::{Output, WriteFault};
 use sfbank::RunFault;

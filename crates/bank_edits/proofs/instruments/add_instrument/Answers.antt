@@ -1,4 +1,4 @@
-use Rattle.edit_forms.proofs.InstrumentLaws.{instrument_goes, sound_add_instrument}
+use Rattle.edit_refusals.proofs.InstrumentLaws.{instrument_goes, sound_add_instrument}
 use Rattle.bank_edits.proofs.instruments.add_instrument.Goals as goal
 
 pub add_instrument-requires-clause-place : goal.add_instrument-requires-clause-place

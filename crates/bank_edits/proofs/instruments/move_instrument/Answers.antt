@@ -1,4 +1,4 @@
-use Rattle.edit_forms.proofs.InstrumentLaws.{moves_instrument, sound_move_instrument}
+use Rattle.edit_refusals.proofs.InstrumentLaws.{moves_instrument, sound_move_instrument}
 use Rattle.bank_edits.proofs.instruments.move_instrument.Goals as goal
 
 pub move_instrument-requires-clause-there : goal.move_instrument-requires-clause-there

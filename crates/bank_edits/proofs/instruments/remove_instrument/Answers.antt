@@ -1,4 +1,4 @@
-use Rattle.edit_forms.proofs.InstrumentLaws.{sound_remove_instrument}
+use Rattle.edit_refusals.proofs.InstrumentLaws.{sound_remove_instrument}
 use Rattle.bank_edits.proofs.instruments.remove_instrument.Goals as goal
 
 pub remove_instrument-requires-clause-sound : goal.remove_instrument-requires-clause-sound

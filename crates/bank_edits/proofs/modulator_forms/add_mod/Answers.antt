@@ -1,8 +1,8 @@
 use Rattle.std.proofs.Common.{◌≤◌, length}
-use Rattle.edit_forms.specs.declared.edit.Step.TheVariants.{AddMod}
-use Rattle.edit_forms.proofs.Accepted.{accepted}
-use Rattle.edit_forms.proofs.ModulatorLaws.{mod_goes, sound_add_mod}
-use Rattle.edit_forms.proofs.PlaceLaws.{some_settings, mods_hold}
+use Rattle.edit_forms.specs.declared.step.Step.TheVariants.{AddMod}
+use Rattle.edit_refusals.proofs.Accepted.{accepted}
+use Rattle.edit_refusals.proofs.ModulatorLaws.{mod_goes, sound_add_mod}
+use Rattle.edit_refusals.proofs.PlaceLaws.{some_settings, mods_hold}
 use Rattle.bank_edits.proofs.modulator_forms.add_mod.Goals as goal
 
 pub add_mod-requires-clause-there : goal.add_mod-requires-clause-there

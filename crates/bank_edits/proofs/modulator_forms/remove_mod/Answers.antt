@@ -1,9 +1,9 @@
 use Rattle.std.proofs.Common.{◌<◌, length}
-use Rattle.edit_forms.proofs.Accepted.{accepted}
-use Rattle.edit_forms.specs.declared.edit.Step.TheVariants.{RemoveMod}
-use Rattle.edit_forms.proofs.ModulatorLaws.{mod_comes, sound_remove_mod}
+use Rattle.edit_refusals.proofs.Accepted.{accepted}
+use Rattle.edit_forms.specs.declared.step.Step.TheVariants.{RemoveMod}
+use Rattle.edit_refusals.proofs.ModulatorLaws.{mod_comes, sound_remove_mod}
 use Rattle.bank_edits.proofs.InverseLaws.{inverse_of_remove_mod}
-use Rattle.edit_forms.proofs.PlaceLaws.{some_settings, mods_hold}
+use Rattle.edit_refusals.proofs.PlaceLaws.{some_settings, mods_hold}
 use Rattle.bank_edits.proofs.modulator_forms.remove_mod.Goals as goal
 
 pub remove_mod-modulator-requires-clause-there : goal.remove_mod-modulator-requires-clause-there

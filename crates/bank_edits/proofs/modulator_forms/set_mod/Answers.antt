@@ -1,9 +1,9 @@
 use Rattle.std.proofs.Common.{◌<◌, length}
-use Rattle.edit_forms.proofs.Accepted.{accepted}
-use Rattle.edit_forms.specs.declared.edit.Step.TheVariants.{SetMod}
-use Rattle.edit_forms.proofs.ModulatorLaws.{mod_changes, sound_set_mod}
+use Rattle.edit_refusals.proofs.Accepted.{accepted}
+use Rattle.edit_forms.specs.declared.step.Step.TheVariants.{SetMod}
+use Rattle.edit_refusals.proofs.ModulatorLaws.{mod_changes, sound_set_mod}
 use Rattle.bank_edits.proofs.InverseLaws.{inverse_of_set_mod}
-use Rattle.edit_forms.proofs.PlaceLaws.{some_settings, mods_hold}
+use Rattle.edit_refusals.proofs.PlaceLaws.{some_settings, mods_hold}
 use Rattle.bank_edits.proofs.modulator_forms.set_mod.Goals as goal
 
 pub set_mod-replaced-requires-clause-there : goal.set_mod-replaced-requires-clause-there

@@ -1,6 +1,6 @@
 use Rattle.std.proofs.Common.{arith}
 use Rattle.bank_changes.proofs.PointLaws.{few_then}
-use Rattle.edit_forms.proofs.PointLaws.{there_of_extend, sound_extend}
+use Rattle.edit_refusals.proofs.PointLaws.{there_of_extend, sound_extend}
 use Rattle.bank_edits.proofs.points.extend.Goals as goal
 
 pub extend_sample-requires-clause-there : goal.extend_sample-requires-clause-there

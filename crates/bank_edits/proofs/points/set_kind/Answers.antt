@@ -1,6 +1,6 @@
-use Rattle.edit_forms.specs.declared.edit.Step.TheVariants.{SetKind}
-use Rattle.edit_forms.proofs.Accepted.{accepted}
-use Rattle.edit_forms.proofs.PointLaws.{links, sound_kind}
+use Rattle.edit_forms.specs.declared.step.Step.TheVariants.{SetKind}
+use Rattle.edit_refusals.proofs.Accepted.{accepted}
+use Rattle.edit_refusals.proofs.PointLaws.{links, sound_kind}
 use Rattle.bank_edits.proofs.InverseLaws.{inverse_of_set_kind}
 use Rattle.bank_edits.proofs.points.set_kind.Goals as goal
 

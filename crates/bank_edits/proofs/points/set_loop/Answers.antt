@@ -1,6 +1,6 @@
-use Rattle.edit_forms.specs.declared.edit.Step.TheVariants.{SetLoop}
-use Rattle.edit_forms.proofs.Accepted.{accepted}
-use Rattle.edit_forms.proofs.PointLaws.{loops, sound_loop}
+use Rattle.edit_forms.specs.declared.step.Step.TheVariants.{SetLoop}
+use Rattle.edit_refusals.proofs.Accepted.{accepted}
+use Rattle.edit_refusals.proofs.PointLaws.{loops, sound_loop}
 use Rattle.bank_edits.proofs.InverseLaws.{inverse_of_set_loop}
 use Rattle.bank_edits.proofs.points.set_loop.Goals as goal
 

@@ -1,6 +1,6 @@
-use Rattle.edit_forms.specs.declared.edit.Step.TheVariants.{Trim}
-use Rattle.edit_forms.proofs.Accepted.{accepted}
-use Rattle.edit_forms.proofs.PointLaws.{trims, sound_trim}
+use Rattle.edit_forms.specs.declared.step.Step.TheVariants.{Trim}
+use Rattle.edit_refusals.proofs.Accepted.{accepted}
+use Rattle.edit_refusals.proofs.PointLaws.{trims, sound_trim}
 use Rattle.bank_edits.proofs.points.trim.Goals as goal
 
 pub trim_sample-requires-clause-there : goal.trim_sample-requires-clause-there

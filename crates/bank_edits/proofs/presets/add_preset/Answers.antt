@@ -1,4 +1,4 @@
-use Rattle.edit_forms.proofs.PresetLaws.{preset_goes, sound_add_preset}
+use Rattle.edit_refusals.proofs.PresetLaws.{preset_goes, sound_add_preset}
 use Rattle.bank_edits.proofs.presets.add_preset.Goals as goal
 
 pub add_preset-requires-clause-place : goal.add_preset-requires-clause-place

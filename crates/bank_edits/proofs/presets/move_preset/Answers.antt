@@ -1,4 +1,4 @@
-use Rattle.edit_forms.proofs.PresetLaws.{moves_preset, sound_move_preset}
+use Rattle.edit_refusals.proofs.PresetLaws.{moves_preset, sound_move_preset}
 use Rattle.bank_edits.proofs.presets.move_preset.Goals as goal
 
 pub move_preset-requires-clause-there : goal.move_preset-requires-clause-there

@@ -1,4 +1,4 @@
-use Rattle.edit_forms.proofs.PresetLaws.{sound_remove_preset}
+use Rattle.edit_refusals.proofs.PresetLaws.{sound_remove_preset}
 use Rattle.bank_edits.proofs.presets.remove_preset.Goals as goal
 
 pub remove_preset-requires-clause-sound : goal.remove_preset-requires-clause-sound

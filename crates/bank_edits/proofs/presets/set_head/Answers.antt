@@ -1,6 +1,6 @@
 use Rattle.std.proofs.Math.Facts.{Fits-lt-pow}
 use Rattle.bank_changes.proofs.PresetLaws.{head_set_sound}
-use Rattle.edit_forms.proofs.PresetLaws.{there_of_set_head}
+use Rattle.edit_refusals.proofs.PresetLaws.{there_of_set_head}
 use Rattle.bank_edits.proofs.InverseLaws.{inverse_of_set_head}
 use Rattle.bank_edits.proofs.presets.set_head.Goals as goal
 

@@ -1,4 +1,4 @@
-use Rattle.edit_forms.proofs.SampleLaws.{sound_add}
+use Rattle.edit_refusals.proofs.SampleLaws.{sound_add}
 use Rattle.bank_edits.proofs.samples.add_sample.Goals as goal
 
 pub add_sample-requires-clause-sound : goal.add_sample-requires-clause-sound

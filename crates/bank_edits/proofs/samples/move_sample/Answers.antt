@@ -1,4 +1,4 @@
-use Rattle.edit_forms.proofs.SampleLaws.{moves_sample, sound_move_sample}
+use Rattle.edit_refusals.proofs.SampleLaws.{moves_sample, sound_move_sample}
 use Rattle.bank_edits.proofs.samples.move_sample.Goals as goal
 
 pub move_sample-requires-clause-there : goal.move_sample-requires-clause-there

@@ -1,4 +1,4 @@
-use Rattle.edit_forms.proofs.SampleLaws.{sound_remove}
+use Rattle.edit_refusals.proofs.SampleLaws.{sound_remove}
 use Rattle.bank_edits.proofs.samples.remove_sample.Goals as goal
 
 pub remove_sample-removed-requires-clause-sound : goal.remove_sample-removed-requires-clause-sound

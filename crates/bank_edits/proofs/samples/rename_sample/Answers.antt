@@ -1,5 +1,5 @@
 use Rattle.bank_changes.proofs.SampleLaws.{renamed_sound}
-use Rattle.edit_forms.proofs.SampleLaws.{there_of_rename}
+use Rattle.edit_refusals.proofs.SampleLaws.{there_of_rename}
 use Rattle.bank_edits.proofs.InverseLaws.{inverse_of_rename}
 use Rattle.bank_edits.proofs.samples.rename_sample.Goals as goal
 

@@ -1,7 +1,7 @@
-use Rattle.edit_forms.specs.declared.edit.Step.TheVariants.{ClearGen}
-use Rattle.edit_forms.proofs.Accepted.{accepted}
-use Rattle.edit_forms.proofs.PlaceLaws.{there_found}
-use Rattle.edit_forms.proofs.SettingLaws.{gen_comes, sound_clear_gen}
+use Rattle.edit_forms.specs.declared.step.Step.TheVariants.{ClearGen}
+use Rattle.edit_refusals.proofs.Accepted.{accepted}
+use Rattle.edit_refusals.proofs.PlaceLaws.{there_found}
+use Rattle.edit_refusals.proofs.SettingLaws.{gen_comes, sound_clear_gen}
 use Rattle.bank_edits.proofs.settings.clear_gen.Goals as goal
 
 pub clear_gen-requires-clause-there : goal.clear_gen-requires-clause-there

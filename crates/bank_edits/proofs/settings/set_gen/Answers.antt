@@ -1,7 +1,7 @@
-use Rattle.edit_forms.specs.declared.edit.Step.TheVariants.{SetGen}
-use Rattle.edit_forms.proofs.Accepted.{accepted}
-use Rattle.edit_forms.proofs.PlaceLaws.{there_found}
-use Rattle.edit_forms.proofs.SettingLaws.{gen_goes, sound_set_gen}
+use Rattle.edit_forms.specs.declared.step.Step.TheVariants.{SetGen}
+use Rattle.edit_refusals.proofs.Accepted.{accepted}
+use Rattle.edit_refusals.proofs.PlaceLaws.{there_found}
+use Rattle.edit_refusals.proofs.SettingLaws.{gen_goes, sound_set_gen}
 use Rattle.bank_edits.proofs.settings.set_gen.Goals as goal
 
 pub set_gen-requires-clause-there : goal.set_gen-requires-clause-there

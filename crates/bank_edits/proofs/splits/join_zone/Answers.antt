@@ -1,5 +1,5 @@
 use Rattle.std.proofs.Common.{arith}
-use Rattle.edit_forms.proofs.SplitLaws.{can_of_join_zone, sound_join_zone, next_of_join_zone}
+use Rattle.edit_refusals.proofs.SplitLaws.{can_of_join_zone, sound_join_zone, next_of_join_zone}
 use Rattle.bank_edits.proofs.splits.join_zone.Goals as goal
 
 pub join_zone-requires-clause-there : goal.join_zone-requires-clause-there

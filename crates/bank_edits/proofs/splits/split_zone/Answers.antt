@@ -1,4 +1,4 @@
-use Rattle.edit_forms.proofs.SplitLaws.{can_of_split_zone, sound_split_zone}
+use Rattle.edit_refusals.proofs.SplitLaws.{can_of_split_zone, sound_split_zone}
 use Rattle.bank_edits.proofs.splits.split_zone.Goals as goal
 
 pub split_zone-requires-clause-there : goal.split_zone-requires-clause-there

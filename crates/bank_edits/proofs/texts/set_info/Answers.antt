@@ -1,4 +1,4 @@
-use Rattle.edit_forms.proofs.TextLaws.{sound_set_info}
+use Rattle.edit_refusals.proofs.TextLaws.{sound_set_info}
 use Rattle.bank_edits.proofs.texts.set_info.Goals as goal
 
 pub set_info-old-requires : goal.set_info-old-requires

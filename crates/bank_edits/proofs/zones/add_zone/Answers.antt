@@ -1,6 +1,6 @@
-use Rattle.edit_forms.specs.declared.edit.Step.TheVariants.{AddZone}
-use Rattle.edit_forms.proofs.Accepted.{accepted}
-use Rattle.edit_forms.proofs.ZoneLaws.{zone_goes, sound_add_zone}
+use Rattle.edit_forms.specs.declared.step.Step.TheVariants.{AddZone}
+use Rattle.edit_refusals.proofs.Accepted.{accepted}
+use Rattle.edit_refusals.proofs.ZoneLaws.{zone_goes, sound_add_zone}
 use Rattle.bank_edits.proofs.zones.add_zone.Goals as goal
 
 pub add_zone-requires-clause-place : goal.add_zone-requires-clause-place

@@ -1,4 +1,4 @@
-use Rattle.edit_forms.proofs.ZoneLaws.{moves_of_move_zone, sound_move_zone}
+use Rattle.edit_refusals.proofs.ZoneLaws.{moves_of_move_zone, sound_move_zone}
 use Rattle.bank_edits.proofs.zones.move_zone.Goals as goal
 
 pub move_zone-requires-clause-there : goal.move_zone-requires-clause-there

@@ -1,4 +1,4 @@
-use Rattle.edit_forms.proofs.ZoneLaws.{comes_of_remove_zone, sound_remove_zone}
+use Rattle.edit_refusals.proofs.ZoneLaws.{comes_of_remove_zone, sound_remove_zone}
 use Rattle.bank_edits.proofs.zones.remove_zone.Goals as goal
 
 pub remove_zone-requires-clause-there : goal.remove_zone-requires-clause-there

@@ -1,4 +1,4 @@
-use Rattle.edit_forms.proofs.ZoneLaws.{goes_of_set_target, sound_set_target}
+use Rattle.edit_refusals.proofs.ZoneLaws.{goes_of_set_target, sound_set_target}
 use Rattle.bank_edits.proofs.InverseLaws.{inverse_of_set_target}
 use Rattle.bank_edits.proofs.zones.set_target.Goals as goal
 

@@ -1,0 +1,21 @@
+-- What acceptance says of a move: both are numbers of members.
+use Rattle.std.proofs.Common.{◌≡◌, ◌<◌, ℕ, nat_le, [], ◌∷◌, subst}
+use Rattle.edit_refusals.specs.declared.cause.Cause.{Cause}
+use Rattle.edit_refusals.specs.Causes.{test, no_such_place}
+use Rattle.edit_refusals.proofs.Accepted.{NoneStands, below, not_below}
+
+-- a move among so many, from one place to another
+pub record Moves (count from to : ℕ) : Type 0 where
+  pub there : from < count
+  pub place : to < count
+
+module _ (count from to : ℕ) (cause : Cause) where
+  pub moves : NoneStands (test (nat_le count from) cause ∷ no_such_place count to ∷ []) → Moves count from to
+  moves (there, (place, end)) = record { there = below count from there; place = below count to place }
+
+  pub tests_move : Moves count from to → NoneStands (test (nat_le count from) cause ∷ no_such_place count to ∷ [])
+  tests_move m = (not_below count from m.there, (not_below count to m.place, tt))
+
+-- the way back, among as many
+pub moves_back : {count now from to : ℕ} → Moves count from to → count ≡ now → Moves now to from
+moves_back {count} {now} {from} {to} m e = subst (λ n. Moves n to from) e (record { there = m.place; place = m.there })

@@ -1,0 +1,49 @@
+-- What acceptance says of a preset or an instrument that is added, among so many whose zones target so
+-- many members; and what the code answers.
+use Rattle.std.proofs.Common.{◌≡◌, ◌≤◌, ℕ, List, [], ◌∷◌, Option, Result, sym, ◌∙◌, ap}
+use Rattle.std.specs.Option.{option_map}
+use Rattle.sf_base.specs.Names.{IsName}
+use Rattle.generators.specs.declared.level.Level.{Level}
+use Rattle.bank_parts.specs.declared.parts.WithZones.{WithZones}
+use Rattle.bank_validity.specs.declared.limits.Limit.{Limit}
+use Rattle.bank_parts.specs.declared.counting.Records.{Records}
+use Rattle.bank_validity.specs.declared.totals.Totals.{Totals}
+use Rattle.bank_parts.specs.declared.parts.Parts.{Parts}
+use Rattle.bank_parts.specs.Valid.{IsOwner}
+use Rattle.bank_parts.specs.Counts.{records_of_owner, all_counted}
+use Rattle.bank_validity.specs.Limits.{totals_of, broken, broken_limit, with_owner}
+use Rattle.bank_parts.proofs.ContentLaws.{owner_from_tests, tests_from_owner}
+use Rattle.edit_forms.specs.declared.step.Step.{Step}
+use Rattle.edit_refusals.specs.declared.cause.Cause.{Cause}
+use Rattle.edit_refusals.specs.declared.cause.Cause.TheVariants.{Full}
+use Rattle.edit_refusals.specs.Causes.{Test, no_such_target, bad_place, bad_generator, bad_range}
+use Rattle.edit_refusals.specs.Steps.{raw, causes, refusal}
+use Rattle.edit_refusals.specs.Answers.{Judges}
+use Rattle.edit_refusals.proofs.Accepted.{NoneStands, by_limit, up_to, not_above}
+
+module _ {H : Type 0} (name_of : H → List ℕ) (at : Level) (targets count i : ℕ) (x : WithZones H) where
+  pub record GoesIn : Type 0 where
+    pub place : i ≤ count
+    pub is : IsOwner name_of at targets x
+
+  module _ (cause : Cause) where
+    abbrev tests_of : List Test
+    tests_of = no_such_target targets x cause ∷ bad_place count i ∷ bad_generator at x ∷ bad_range x ∷ []
+
+    pub goes_in : IsName (name_of x.head) → NoneStands tests_of → GoesIn
+    goes_in named (target, (place, (generator, (range, end)))) = record {
+      place = up_to count i place;
+      is = owner_from_tests name_of at targets x named (record { targets = target; operators = generator; ranges = range });
+    }
+
+    pub tests_add : GoesIn → NoneStands tests_of
+    tests_add g =
+        let t = tests_from_owner name_of at targets x g.is in
+        (t.targets, (not_above count i g.place, (t.operators, (t.ranges, tt))))
+
+-- where no test stands, the limit is told that the counted records break
+pub by_records : {H : Type 0} (b : Parts) (s : Step) (at : Level) (x : WithZones H) (t : Totals) (more : Records) (found : Option Limit) (r : Result (Unit {0}) Cause)
+    → NoneStands (causes b s) → broken_limit (raw b s) ≡ broken (with_owner at (totals_of b) (records_of_owner x)) → t ≡ totals_of b → more ≡ all_counted (records_of_owner x)
+    → ((n : Records) → more ≡ all_counted n → found ≡ broken (with_owner at t n)) → Judges (option_map Full found) r → Judges (refusal b s) r
+by_records b s at x t more found r tests limit same counted sums h =
+    by_limit b s found r tests (limit ∙ sym (sums (records_of_owner x) counted ∙ ap (λ (u : Totals). broken (with_owner at u (records_of_owner x))) same)) h

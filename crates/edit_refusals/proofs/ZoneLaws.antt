@@ -1,0 +1,187 @@
+-- The forms that edit zones: what acceptance says of each.
+use Rattle.std.proofs.Common.{◌≡◌, ◌<◌, ◌≤◌, ◌^◌, ◌||◌, ℕ, false, nat_le, List, [], ◌∷◌, length, Option, Some, None, unwrap_or, refl, ◌∙◌, ap, arith}
+use Rattle.std.specs.Prelude.{IsSomeAnd, slice_get}
+use Rattle.sf_base.specs.Names.{IsName}
+use Rattle.numbered_lists.proofs.Lists.{slice_get-found, slice_get-within}
+use Rattle.generators.specs.declared.level.Level.{Level}
+use Rattle.bank_parts.specs.declared.parts.Zone.{Zone}
+use Rattle.bank_parts.specs.declared.parts.WithZones.{WithZones}
+use Rattle.bank_parts.specs.declared.parts.Parts.{Parts}
+use Rattle.bank_parts.specs.Contents.{sets_foreign, sets_bad_range}
+use Rattle.bank_parts.specs.Settings.{settings_of_zone}
+use Rattle.bank_parts.specs.Valid.{IsZone, IsOwner}
+use Rattle.bank_parts.specs.Fits.{FitsZone}
+use Rattle.bank_parts.specs.Sound.{IsSound}
+use Rattle.bank_validity.specs.Limits.{broken, broken_limit}
+use Rattle.bank_parts.proofs.Everywhere.{or_none, or_left}
+use Rattle.bank_parts.proofs.ContentLaws.{owner_from_tests, tests_from_owner}
+use Rattle.bank_validity.proofs.LimitLaws.{no_limit_of}
+use Rattle.bank_parts.proofs.SettingLaws.{source}
+use Rattle.bank_parts.proofs.UndoneLaws.{zones_there}
+use Rattle.bank_changes.specs.declared.members.Owner.{Owner}
+use Rattle.bank_changes.specs.declared.members.Owner.TheVariants as owner
+use Rattle.bank_changes.specs.Members.{own_zone_count, level_of, target_count}
+use Rattle.bank_changes.specs.Zones.{zone_added, zone_removed, zone_moved, target_set}
+use Rattle.bank_changes.proofs.ZoneChangeLaws.{sound_zone_added, sound_zone_removed, sound_zone_moved, sound_target_set, totals-zone_moved, totals-target_set}
+use Rattle.edit_forms.specs.declared.step.Step.TheVariants.{AddZone, RemoveZone, MoveZone, SetTarget}
+use Rattle.edit_refusals.specs.Causes.{zone_total, no_such_owner}
+use Rattle.edit_refusals.specs.Steps.{refusal, causes}
+use Rattle.edit_refusals.proofs.Accepted.{NoneStands, accepted, below, not_below, up_to, not_above}
+
+-- ---- owners and their zones
+
+-- an owner that is there has so many zones
+pub total_there : (b : Parts) (o : Owner) (P : ℕ → Type 0) → (no_such_owner b o).stands ≡ false → P (zone_total b o) → IsSomeAnd (own_zone_count b o) P
+total_there b (owner.Preset p) P h k = let (x, e) = slice_get-found b.presets p (below (length b.presets) p h) in rw e (rw e at k)
+total_there b (owner.Instrument i) P h k = let (x, e) = slice_get-found b.instruments i (below (length b.instruments) i h) in rw e (rw e at k)
+
+pub total_is : (o : Option ℕ) (P : ℕ → Type 0) → IsSomeAnd o P → P (unwrap_or o 0)
+total_is None P h = absurd h
+total_is (Some n) P h = h
+
+pub owner_is_there : (b : Parts) (o : Owner) (P : ℕ → Type 0) → IsSomeAnd (own_zone_count b o) P → (no_such_owner b o).stands ≡ false
+owner_is_there b (owner.Preset p) P h =
+    let t = zones_there b.presets p P h in
+    let x = source (λ x. x.zones) (slice_get b.presets p) t.member t.there in
+    not_below (length b.presets) p (slice_get-within b.presets p x.member x.there)
+owner_is_there b (owner.Instrument i) P h =
+    let t = zones_there b.instruments i P h in
+    let x = source (λ x. x.zones) (slice_get b.instruments i) t.member t.there in
+    not_below (length b.instruments) i (slice_get-within b.instruments i x.member x.there)
+
+-- ---- the tests of one zone, as those of an owner with this zone alone
+
+no_name : IsName []
+no_name = (omega arith, tt)
+
+module _ (at : Level) (count : ℕ) (zone : Zone) where
+  abbrev alone : WithZones (List ℕ)
+  alone = record { head = []; global = settings_of_zone zone; zones = zone ∷ [] }
+
+  pub zone_from_tests : nat_le count zone.target ≡ false → sets_foreign at zone.gens ≡ false → sets_bad_range zone.gens ≡ false → IsZone at count zone
+  zone_from_tests target operators ranges =
+      let is : IsOwner (λ name. name) at count alone = owner_from_tests (λ name. name) at count alone no_name (record {
+        targets = or_none (nat_le count zone.target) false target refl;
+        operators = or_none (sets_foreign at zone.gens) (sets_foreign at zone.gens || false) operators (or_none (sets_foreign at zone.gens) false operators refl);
+        ranges = or_none (sets_bad_range zone.gens) (sets_bad_range zone.gens || false) ranges (or_none (sets_bad_range zone.gens) false ranges refl);
+      }) in
+      is.zones.zones.0
+
+  pub record ZonePasses : Type 0 where
+    pub target : nat_le count zone.target ≡ false
+    pub operators : sets_foreign at zone.gens ≡ false
+    pub ranges : sets_bad_range zone.gens ≡ false
+
+  pub tests_from_zone : IsZone at count zone → ZonePasses
+  tests_from_zone is =
+      let t = tests_from_owner (λ name. name) at count alone (record { name = no_name; zones = record { global = is.gens; zones = (is, tt) } }) in
+      record {
+        target = or_left (nat_le count zone.target) false t.targets;
+        operators = or_left (sets_foreign at zone.gens) (sets_foreign at zone.gens || false) t.operators;
+        ranges = or_left (sets_bad_range zone.gens) (sets_bad_range zone.gens || false) t.ranges;
+      }
+
+-- ---- add-zone
+
+module _ (b : Parts) (o : Owner) (at : ℕ) (zone : Zone) where
+  pub record ZoneGoes : Type 0 where
+    pub place : IsSomeAnd (own_zone_count b o) (λ count. at ≤ count)
+    pub is : IsZone (level_of o) (target_count b o) zone
+
+  pub zone_goes : NoneStands (causes b (AddZone o at zone)) → ZoneGoes
+  zone_goes (there, (target, (place, (operators, (ranges, end))))) = record {
+    place = total_there b o (λ count. at ≤ count) there (up_to (zone_total b o) at place);
+    is = zone_from_tests (level_of o) (target_count b o) zone target operators ranges;
+  }
+
+  pub tests_add_zone : ZoneGoes → NoneStands (causes b (AddZone o at zone))
+  tests_add_zone g =
+      let t = tests_from_zone (level_of o) (target_count b o) zone g.is in
+      let place = total_is (own_zone_count b o) (λ count. at ≤ count) g.place in
+      (owner_is_there b o (λ count. at ≤ count) g.place, (t.target, (not_above (zone_total b o) at place, (t.operators, (t.ranges, tt)))))
+
+  pub sound_add_zone : IsSound b → FitsZone zone → refusal b (AddZone o at zone) ≡ None → IsSound (zone_added b o at zone)
+  sound_add_zone sound fits h =
+      let a = accepted b (AddZone o at zone) h in
+      let g = zone_goes a.tests in
+      sound_zone_added b o at zone g.place sound g.is fits a.limits
+
+-- ---- remove-zone
+
+module _ (b : Parts) (o : Owner) (k : ℕ) where
+  pub zone_comes : NoneStands (causes b (RemoveZone o k)) → IsSomeAnd (own_zone_count b o) (λ count. k < count)
+  zone_comes (there, (zone, end)) = total_there b o (λ count. k < count) there (below (zone_total b o) k zone)
+
+  pub tests_remove_zone : IsSomeAnd (own_zone_count b o) (λ count. k < count) → NoneStands (causes b (RemoveZone o k))
+  tests_remove_zone h = (owner_is_there b o (λ count. k < count) h, (not_below (zone_total b o) k (total_is (own_zone_count b o) (λ count. k < count) h), tt))
+
+  pub comes_of_remove_zone : refusal b (RemoveZone o k) ≡ None → IsSomeAnd (own_zone_count b o) (λ count. k < count)
+  comes_of_remove_zone h = zone_comes (accepted b (RemoveZone o k) h).tests
+
+  pub sound_remove_zone : IsSound b → refusal b (RemoveZone o k) ≡ None → IsSound (zone_removed b o k)
+  sound_remove_zone sound h = sound_zone_removed b o k (comes_of_remove_zone h) sound
+
+  pub within_remove_zone : IsSound b → NoneStands (causes b (RemoveZone o k)) → broken_limit (zone_removed b o k) ≡ None
+  within_remove_zone sound h = no_limit_of (zone_removed b o k) (sound_zone_removed b o k (zone_comes h) sound).valid.limits
+
+-- ---- move-zone
+
+module _ (b : Parts) (o : Owner) (from to : ℕ) where
+  pub record ZoneMoves : Type 0 where
+    pub there : IsSomeAnd (own_zone_count b o) (λ count. from < count)
+    pub place : IsSomeAnd (own_zone_count b o) (λ count. to < count)
+
+  pub zone_moves : NoneStands (causes b (MoveZone o from to)) → ZoneMoves
+  zone_moves (there, (zone, (place, end))) = record {
+    there = total_there b o (λ count. from < count) there (below (zone_total b o) from zone);
+    place = total_there b o (λ count. to < count) there (below (zone_total b o) to place);
+  }
+
+  pub tests_move_zone : ZoneMoves → NoneStands (causes b (MoveZone o from to))
+  tests_move_zone m = (
+    owner_is_there b o (λ count. from < count) m.there,
+    (
+      not_below (zone_total b o) from (total_is (own_zone_count b o) (λ count. from < count) m.there),
+      (not_below (zone_total b o) to (total_is (own_zone_count b o) (λ count. to < count) m.place), tt),
+    ),
+  )
+
+  pub moves_of_move_zone : refusal b (MoveZone o from to) ≡ None → ZoneMoves
+  moves_of_move_zone h = zone_moves (accepted b (MoveZone o from to) h).tests
+
+  pub sound_move_zone : IsSound b → refusal b (MoveZone o from to) ≡ None → IsSound (zone_moved b o from to)
+  sound_move_zone sound h = sound_zone_moved b o from to (moves_of_move_zone h).there sound
+
+  pub within_move_zone : IsSound b → NoneStands (causes b (MoveZone o from to)) → broken_limit (zone_moved b o from to) ≡ None
+  within_move_zone sound h = ap broken (totals-zone_moved b o from to (zone_moves h).there) ∙ no_limit_of b sound.valid.limits
+
+-- ---- set-target
+
+module _ (b : Parts) (o : Owner) (k target : ℕ) where
+  pub record TargetGoes : Type 0 where
+    pub there : IsSomeAnd (own_zone_count b o) (λ count. k < count)
+    pub target_is : target < target_count b o
+
+  pub target_goes : NoneStands (causes b (SetTarget o k target)) → TargetGoes
+  target_goes (there, (names, (zone, end))) = record {
+    there = total_there b o (λ count. k < count) there (below (zone_total b o) k zone);
+    target_is = below (target_count b o) target names;
+  }
+
+  pub tests_set_target : TargetGoes → NoneStands (causes b (SetTarget o k target))
+  tests_set_target g = (
+    owner_is_there b o (λ count. k < count) g.there,
+    (
+      not_below (target_count b o) target g.target_is,
+      (not_below (zone_total b o) k (total_is (own_zone_count b o) (λ count. k < count) g.there), tt),
+    ),
+  )
+
+  pub goes_of_set_target : refusal b (SetTarget o k target) ≡ None → TargetGoes
+  goes_of_set_target h = target_goes (accepted b (SetTarget o k target) h).tests
+
+  pub sound_set_target : IsSound b → target < 2 ^ 16 → refusal b (SetTarget o k target) ≡ None → IsSound (target_set b o k target)
+  sound_set_target sound fits h = let g = goes_of_set_target h in sound_target_set b o k target g.there sound g.target_is fits
+
+  pub within_set_target : IsSound b → NoneStands (causes b (SetTarget o k target)) → broken_limit (target_set b o k target) ≡ None
+  within_set_target sound h = ap broken (totals-target_set b o k target (target_goes h).there) ∙ no_limit_of b sound.valid.limits

@@ -1,0 +1,14 @@
+use Rattle.std.proofs.Common.{[]}
+use Rattle.bank_validity.specs.Limits.{broken_limit}
+use Rattle.edit_forms.specs.declared.step.Step.TheVariants.{RenameInstrument}
+use Rattle.edit_refusals.specs.Causes.{no_such_instrument}
+use Rattle.edit_refusals.specs.Steps.{raw}
+use Rattle.edit_refusals.proofs.Accepted.{by_last}
+use Rattle.edit_refusals.proofs.InstrumentLaws.{within_rename_instrument}
+use Rattle.edit_refusals.proofs.instruments.refuse_rename_instrument.Goals as goal
+
+pub returns : goal.returns
+returns c =
+    let b = c.args.bank.now in
+    by_last [] (no_such_instrument b c.args.instrument) (broken_limit (raw b (RenameInstrument c.args.instrument c.args._name))) c.no_such_instrument.result tt c.no_such_instrument.ensures
+    (λ h. within_rename_instrument b c.args.instrument c.args._name c.requires.valid)

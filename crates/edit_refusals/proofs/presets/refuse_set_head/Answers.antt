@@ -1,0 +1,14 @@
+use Rattle.std.proofs.Common.{[]}
+use Rattle.bank_validity.specs.Limits.{broken_limit}
+use Rattle.edit_forms.specs.declared.step.Step.TheVariants.{SetHead}
+use Rattle.edit_refusals.specs.Causes.{no_such_preset}
+use Rattle.edit_refusals.specs.Steps.{raw}
+use Rattle.edit_refusals.proofs.Accepted.{by_last}
+use Rattle.edit_refusals.proofs.PresetLaws.{within_set_head}
+use Rattle.edit_refusals.proofs.presets.refuse_set_head.Goals as goal
+
+pub returns : goal.returns
+returns c =
+    let b = c.args.bank.now in
+    by_last [] (no_such_preset b c.args.preset) (broken_limit (raw b (SetHead c.args.preset c.args._name c.args._number c.args._bank_number))) c.no_such_preset.result tt c.no_such_preset.ensures
+    (λ h. within_set_head b c.args.preset c.args._name c.args._number c.args._bank_number c.requires.valid)

@@ -1,0 +1,72 @@
+//! Why each form that edits instruments is refused.
+ghost use Rattle.bank_parts.specs.Sound.{IsSound};
+ghost use Rattle.edit_forms.specs.declared.step.Step.TheVariants as step;
+ghost use Rattle.edit_refusals.specs.Answers.{Judges};
+ghost use Rattle.edit_refusals.specs.Steps.{refusal};
+
+use crate::cause::Cause;
+use crate::causes::{
+    bad_generator, bad_place, bad_range, full, no_such_instrument, no_such_place, no_such_target,
+    used_instrument,
+};
+use bank_core::{Bank, Members};
+use bank_parts::Instrument;
+use generators::Level;
+use sf_base::Name20;
+
+// ---- add-inst
+
+pub(crate) fn refuse_add_instrument(
+    bank: &Bank<'_>,
+    at: u32,
+    instrument: &Instrument,
+) -> Result<(), Cause>
+    requires { IsSound bank.now }
+    ensures { Judges (refusal bank.now (step.AddInstrument at instrument.now)) result }
+{
+    no_such_target(
+        bank.count(Members::Samples),
+        instrument,
+        Cause::NoSuchSample,
+    )?;
+    bad_place(bank.count(Members::Instruments), at)?;
+    bad_generator(Level::Instrument, instrument)?;
+    bad_range(instrument)?;
+    full(
+        bank.totals()
+            .broken_with_owner(Level::Instrument, instrument.records()),
+    )
+}
+
+// ---- remove-inst
+
+pub(crate) fn refuse_remove_instrument(bank: &Bank<'_>, instrument: u32) -> Result<(), Cause>
+    requires { IsSound bank.now }
+    ensures { Judges (refusal bank.now (step.RemoveInstrument instrument)) result }
+{
+    no_such_instrument(bank, instrument)?;
+    used_instrument(bank, instrument)
+}
+
+// ---- rename-inst
+
+pub(crate) fn refuse_rename_instrument(
+    bank: &Bank<'_>,
+    instrument: u32,
+    _name: Name20,
+) -> Result<(), Cause>
+    requires { IsSound bank.now }
+    ensures { Judges (refusal bank.now (step.RenameInstrument instrument _name)) result }
+{
+    no_such_instrument(bank, instrument)
+}
+
+// ---- move-inst
+
+pub(crate) fn refuse_move_instrument(bank: &Bank<'_>, from: u32, to: u32) -> Result<(), Cause>
+    requires { IsSound bank.now }
+    ensures { Judges (refusal bank.now (step.MoveInstrument from to)) result }
+{
+    no_such_instrument(bank, from)?;
+    no_such_place(bank.count(Members::Instruments), to)
+}

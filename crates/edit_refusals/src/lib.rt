@@ -1,0 +1,20 @@
+//! Why an edit of a bank is refused: the causes, and the one call that judges a step.
+#![tactic(auto)]
+
+mod cause;
+mod causes;
+mod instruments;
+mod modulator_forms;
+mod points;
+mod presets;
+mod refusal;
+mod refusing;
+mod samples;
+mod settings;
+mod splits;
+mod texts;
+mod zones;
+
+pub use cause::Cause;
+pub use refusal::Refusal;
+pub use refusing::refuse;
