@@ -58,7 +58,7 @@ at_script b script failures.OutOfMemory h = tt
 
 pub at_line : (b : Parts) (script : List ℕ) (lines : List Line) (fault : RunFault) → script_of script ≡ Ok lines
     → StopsAtLine fault (first_refused b lines) → FailsBefore fault (after_script b (script_of script))
-at_line b script lines (run.Refused number cause) e h =
+at_line b script lines (run.Refused number why) e h =
     ap (after_script b) e ∙ ap (λ (o : Option RefusedLine). unless_refused o (both_texts b (edits_of lines))) h
 at_line b script lines run.Memory e h = tt
 at_line b script lines (run.Read fault) e h = absurd h

@@ -11,7 +11,7 @@ use Rattle.bank_format.specs.ReadSteps.{fault_of}
 use Rattle.bank_format.proofs.RoundTrip.{reads-again}
 use Rattle.bank_format.proofs.ReadValid.{read_valid, read_fits}
 use Rattle.edit_forms.specs.declared.edit.Edit.{Edit}
-use Rattle.edit_refusals.specs.declared.cause.Cause.{Cause}
+use Rattle.edit_refusals.specs.declared.refusal.Refusal.{Refusal}
 use Rattle.edit_refusals.specs.Edits.{raw, refusal}
 use Rattle.inverse_edits.specs.Runs.{AllTaken, after_all, undo_list}
 use Rattle.inverse_edits.proofs.RunLaw.{all_undone}
@@ -30,7 +30,7 @@ are_bytes file fits = All-from_get_or (λ b. b < 256) file 0 (λ i l. let byte =
 -- ---- what a run that is done says
 
 -- no line is refused where the first refused is none
-or_none : (n : ℕ) (r : Option Cause) (later : Option RefusedLine) → or_else n r later ≡ None → (r ≡ None) × (later ≡ None)
+or_none : (n : ℕ) (r : Option Refusal) (later : Option RefusedLine) → or_else n r later ≡ None → (r ≡ None) × (later ≡ None)
 or_none n None later e = (refl, e)
 or_none n (Some r) later e = absurd cc
 

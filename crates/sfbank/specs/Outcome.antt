@@ -8,7 +8,7 @@ use Rattle.bank_format.specs.Chunks.{window}
 use Rattle.bank_format.specs.Reading.{content_in}
 use Rattle.bank_format.specs.ReadSteps.{fault_of}
 use Rattle.edit_forms.specs.declared.edit.Edit.{Edit}
-use Rattle.edit_refusals.specs.declared.cause.Cause.{Cause}
+use Rattle.edit_refusals.specs.declared.refusal.Refusal.{Refusal}
 use Rattle.edit_refusals.specs.Edits.{raw, refusal}
 use Rattle.inverse_edits.specs.Runs.{after_all, undo_list}
 use Rattle.edit_script.specs.declared.parsing.Line.{Line}
@@ -35,10 +35,10 @@ edits_of lines = map (λ (l : Line). l.edit) lines
 -- a refused line, by its number
 pub record RefusedLine : Type 0 where
   pub number : ℕ
-  pub cause : Cause
+  pub why : Refusal
 
-abbrev pub or_else : ℕ → Option Cause → Option RefusedLine → Option RefusedLine
-or_else number (Some cause) later = Some (record { number = number; cause = cause })
+abbrev pub or_else : ℕ → Option Refusal → Option RefusedLine → Option RefusedLine
+or_else number (Some why) later = Some (record { number = number; why = why })
 or_else number None later = later
 
 -- the first line that is refused, each edit in its turn
@@ -51,7 +51,7 @@ abbrev pub both_texts : Parts → List Edit → Done
 both_texts b edits = record { out = canon (after_all b edits); undo = texts_of (undo_list b edits) }
 
 abbrev pub unless_refused : Option RefusedLine → Done → Result Done RunFault
-unless_refused (Some r) done = Err (run.Refused r.number r.cause)
+unless_refused (Some r) done = Err (run.Refused r.number r.why)
 unless_refused None done = Ok done
 
 abbrev pub after_script : Parts → Result (List Line) ScriptFault → Result Done RunFault

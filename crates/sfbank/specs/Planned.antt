@@ -17,7 +17,7 @@ in_run told failures.OutOfMemory = run.Memory
 
 -- the first refused line, or want of memory
 abbrev pub StopsAtLine : RunFault → Option RefusedLine → Type 0
-StopsAtLine (run.Refused number cause) first = first ≡ Some (record { number = number; cause = cause })
+StopsAtLine (run.Refused number why) first = first ≡ Some (record { number = number; why = why })
 StopsAtLine run.Memory first = Unit {0}
 StopsAtLine fault first = ⊥
 

@@ -3,8 +3,8 @@ ghost use Rattle.std.specs.Prelude.{◌≡◌};
 ghost use Rattle.sfbank.specs.declared.fault.RunFault.TheVariants.{Read, Script, Notes, Memory};
 ghost use Rattle.sfbank.specs.Planned.{in_run};
 
-use bank_edits::Cause;
 use bank_format::ReadFault;
+use edit_refusals::Refusal;
 use edit_script::ScriptFault;
 use note_list::NoteFault;
 use sf_base::{Failure, OutOfMemory};
@@ -27,9 +27,9 @@ pub enum RunFault {
     /// The first fault of the script.
     #[error("{0}")]
     Script(ScriptFault),
-    /// The first refused line, and the cause that stands against it.
+    /// The first refused line, and why it is. Want of memory for an edit is `Memory`.
     #[error("line {0}: {1}")]
-    Refused(u64, Cause),
+    Refused(u64, Refusal),
     /// The first fault of the notes.
     #[error("{0}")]
     Notes(NoteFault),

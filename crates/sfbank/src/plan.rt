@@ -9,7 +9,9 @@ ghost use Rattle.sfbank.specs.Plans.{planned};
 
 use crate::fault::RunFault;
 use bank_core::Bank;
-use bank_edits::{Edit, Refusal, apply};
+use bank_edits::apply;
+use edit_forms::Edit;
+use edit_refusals::Refusal;
 use edit_script::{Line, parse};
 use std::alloc::Global;
 
@@ -49,8 +51,8 @@ fn apply_all<'a>(
     for line in lines {
         match apply(alloc, bank, line.edit) {
             Ok(inverse) => inverses.push(inverse)?,
-            Err((Refusal::Of(cause), _edit)) => return Err(RunFault::Refused(line.number, cause)),
             Err((Refusal::OutOfMemory, _edit)) => return Err(RunFault::Memory),
+            Err((why, _edit)) => return Err(RunFault::Refused(line.number, why)),
         }
     }
     inverses.as_mut_slice().reverse();

@@ -10,6 +10,8 @@ use Rattle.note_list.specs.Faults as notes
 use Rattle.bank_validity.specs.declared.limits.Limit.{Limit}
 use Rattle.bank_validity.specs.Limits.{word_of}
 use Rattle.edit_refusals.specs.declared.cause.Cause.{Cause}
+use Rattle.edit_refusals.specs.declared.refusal.Refusal.{Refusal}
+use Rattle.edit_refusals.specs.declared.refusal.Refusal.TheVariants.{Of, OutOfMemory, NothingToUndo, NothingToRedo, GroupRefused}
 use Rattle.edit_refusals.specs.CauseNames as causes
 use Rattle.sfbank.specs.declared.fault.RunFault.{RunFault}
 use Rattle.sfbank.specs.declared.fault.RunFault.TheVariants.{Read, Script, Refused, Notes, Write, Memory}
@@ -32,12 +34,25 @@ abbrev pub limit_text : Option Limit → List ℕ
 limit_text (Some limit) = codes " " ++ word_of limit
 limit_text None = []
 
--- the line and the cause
-abbrev pub cause_text : ℕ → Cause → List ℕ
-cause_text line cause = concat (codes "sfbank: line " ∷ decimal line ∷ codes ": refused " ∷ decimal (causes.number_of cause) ∷ codes " " ∷ causes.name_of cause ∷ [])
+-- the line and why it is refused, by its number and its name
+abbrev pub refusal_text : ℕ → Refusal → List ℕ
+refusal_text line why =
+    concat (codes "sfbank: line " ∷ decimal line ∷ codes ": refused " ∷ decimal (causes.refusal_number why) ∷ codes " " ∷ causes.refusal_name why ∷ [])
 
-abbrev pub refused_line : ℕ → Cause → List ℕ
-refused_line line cause = cause_text line cause ++ (limit_text (causes.limit_of cause) ++ codes "\n")
+-- the step of a group, counted from 0, and the cause that stands against it
+abbrev pub step_text : ℕ → Cause → List ℕ
+step_text step cause = concat (codes " " ∷ decimal step ∷ codes " " ∷ decimal (causes.number_of cause) ∷ codes " " ∷ causes.name_of cause ∷ [])
+
+-- what stands behind the name
+abbrev pub detail_text : Refusal → List ℕ
+detail_text (Of cause) = limit_text (causes.limit_of cause)
+detail_text (GroupRefused step cause) = step_text step cause ++ limit_text (causes.limit_of cause)
+detail_text OutOfMemory = []
+detail_text NothingToUndo = []
+detail_text NothingToRedo = []
+
+abbrev pub refused_line : ℕ → Refusal → List ℕ
+refused_line line why = refusal_text line why ++ (detail_text why ++ codes "\n")
 
 abbrev pub write_line : List ℕ → ℕ → List ℕ
 write_line path written = concat (codes "sfbank: write fault " ∷ path ∷ codes " after " ∷ decimal written ∷ codes " bytes\n" ∷ [])
@@ -50,7 +65,7 @@ file_line path = concat (codes "sfbank: file fault " ∷ path ∷ codes "\n" ∷
 unfoldable pub fault_line : List ℕ → RunFault → List ℕ
 fault_line path (Read fault) = read_line fault
 fault_line path (Script fault) = script_line fault
-fault_line path (Refused line cause) = refused_line line cause
+fault_line path (Refused line why) = refused_line line why
 fault_line path (Notes fault) = notes_line fault
 fault_line path (Write which written) = write_line path written
 fault_line path Memory = codes "sfbank: out of memory\n"
@@ -59,7 +74,7 @@ fault_line path Memory = codes "sfbank: out of memory\n"
 abbrev pub status_of : RunFault → ℕ
 status_of (Read fault) = 2
 status_of (Script fault) = 3
-status_of (Refused line cause) = 4
+status_of (Refused line why) = 4
 status_of (Notes fault) = 3
 status_of (Write which written) = 5
 status_of Memory = 6

@@ -3,11 +3,11 @@ ghost use Rattle.std.specs.Prelude.{◌≡◌, IfOk};
 ghost use Rattle.outputs.specs.Output.{Puts};
 ghost use Rattle.outputs.specs.Writing.{Writes};
 ghost use Rattle.sample_view.specs.Pieces.{joined_bytes};
-ghost use Rattle.sfbank_program.specs.FaultLines.{fault_line, status_of, read_line, text_line, refused_line, cause_text, limit_text, write_line, file_line};
+ghost use Rattle.sfbank_program.specs.FaultLines.{fault_line, status_of, read_line, text_line, refused_line, refusal_text, detail_text, step_text, limit_text, write_line, file_line};
 
 use bank_format::ReadFault;
 use bank_validity::Limit;
-use edit_refusals::Cause;
+use edit_refusals::{Cause, Refusal};
 use itoa::Buffer;
 use outputs::{Output, WriteFault};
 use sfbank::RunFault;
@@ -51,7 +51,7 @@ fn put_fault<W: Write>(fault: &RunFault, path: &str, output: &mut Output<'_, W>)
         RunFault::Notes(fault) => {
             put_text_fault(fault.line(), fault.number(), fault.name(), output);
         }
-        RunFault::Refused(line, cause) => put_refusal(*line, *cause, output),
+        RunFault::Refused(line, why) => put_refused(*line, *why, output),
         RunFault::Write(_, written) => put_write_fault(path, *written, output),
         RunFault::Memory => put_pieces(&[b"sfbank: out of memory\n"], output),
     }
@@ -93,26 +93,59 @@ fn put_text_fault<W: Write>(line: u64, number: u8, name: &str, output: &mut Outp
     );
 }
 
-fn put_refusal<W: Write>(line: u64, cause: Cause, output: &mut Output<'_, W>)
-    ensures { Puts W.contents output.old output.new (refused_line line cause) }
+fn put_refused<W: Write>(line: u64, why: Refusal, output: &mut Output<'_, W>)
+    ensures { Puts W.contents output.old output.new (refused_line line why) }
 {
-    put_cause(line, cause, output);
-    put_limit(cause.limit(), output);
+    put_refusal(line, why, output);
+    put_detail(why, output);
     output.put(b"\n");
 }
 
-// The line and the cause.
-fn put_cause<W: Write>(line: u64, cause: Cause, output: &mut Output<'_, W>)
-    ensures { Puts W.contents output.old output.new (cause_text line cause) }
+// The line and why it is refused, by its number and its name.
+fn put_refusal<W: Write>(line: u64, why: Refusal, output: &mut Output<'_, W>)
+    ensures { Puts W.contents output.old output.new (refusal_text line why) }
 {
-    let mut place = Buffer::new();
-    let mut number = Buffer::new();
+    let mut line_digits = Buffer::new();
+    let mut number_digits = Buffer::new();
     put_pieces(
         &[
             b"sfbank: line ",
-            place.format(line).as_bytes(),
+            line_digits.format(line).as_bytes(),
             b": refused ",
-            number.format(cause.number()).as_bytes(),
+            number_digits.format(why.number()).as_bytes(),
+            b" ",
+            why.name().as_bytes(),
+        ],
+        output,
+    );
+}
+
+// What stands behind the name.
+fn put_detail<W: Write>(why: Refusal, output: &mut Output<'_, W>)
+    ensures { Puts W.contents output.old output.new (detail_text why) }
+{
+    match why {
+        Refusal::Of(cause) => put_limit(cause.limit(), output),
+        Refusal::GroupRefused(step, cause) => {
+            put_step(step, cause, output);
+            put_limit(cause.limit(), output);
+        }
+        Refusal::OutOfMemory | Refusal::NothingToUndo | Refusal::NothingToRedo => {}
+    }
+}
+
+// The step of a group, and the cause that stands against it.
+fn put_step<W: Write>(step: usize, cause: Cause, output: &mut Output<'_, W>)
+    ensures { Puts W.contents output.old output.new (step_text step cause) }
+{
+    let mut step_digits = Buffer::new();
+    let mut number_digits = Buffer::new();
+    put_pieces(
+        &[
+            b" ",
+            step_digits.format(step).as_bytes(),
+            b" ",
+            number_digits.format(cause.number()).as_bytes(),
             b" ",
             cause.name().as_bytes(),
         ],
