@@ -1,5 +1,5 @@
 pub use Rattle.bank_parts.specs.Valid
-pub use Rattle.bank_parts.specs.Fits
+pub use Rattle.edit_forms.specs.Fits
 pub use Rattle.bank_parts.specs.Sound
 pub use Rattle.bank_validity.specs.Limits
 pub use Rattle.bank_parts.specs.Contents
@@ -9,7 +9,6 @@ pub use Rattle.bank_changes.specs.Presets
 pub use Rattle.bank_changes.specs.Zones
 pub use Rattle.bank_changes.specs.Settings
 pub use Rattle.sf_base.specs.Names
-pub use Rattle.edit_forms.specs.Fits
 pub mod CauseNames
 pub mod Causes
 pub mod Steps
