@@ -1,10 +1,10 @@
-//! What only a run can show of scripts: that each form of edit of a member, of points or of a text is read,
-//! done, refused and taken back, byte for byte, from a script's text; and of sessions. Zones stand in
-//! `acceptance_zones`.
+//! What only a run can show of scripts: that each form of edit of a member, of points or of a text, and a
+//! group of edits, is read, done, refused and taken back, byte for byte, from a script's text; and of
+//! sessions. Zones and limits stand in `acceptance_zones`.
 #![tactic(auto)]
 
 #[cfg(test)]
-mod full;
+mod groups;
 #[cfg(test)]
 mod members;
 #[cfg(test)]

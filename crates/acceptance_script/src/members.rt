@@ -36,7 +36,7 @@ fn members_that_are_moved(rt: HostRuntime) {
 }
 
 /// Scripts that the bank of one preset, instrument and sample refuses.
-const REFUSED: [(&[u8], &[u8]); 9] = [
+const REFUSED: [(&[u8], &[u8]); 10] = [
     (
         b"move-preset 1 0",
         b"sfbank: line 1: refused 20 NoSuchPreset\n",
@@ -59,6 +59,10 @@ const REFUSED: [(&[u8], &[u8]); 9] = [
     (b"move-inst 0", b"sfbank: line 1: fault 41 Syntax\n"),
     (
         b"rename-sample 0 \"u\"\nremove-sample 0\n",
+        b"sfbank: line 2: refused 26 InUse\n",
+    ),
+    (
+        b"rename-sample 0 \"u\"\nremove-inst 0\n",
         b"sfbank: line 2: refused 26 InUse\n",
     ),
 ];

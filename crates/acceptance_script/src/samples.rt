@@ -98,6 +98,9 @@ const ONE_LINK: [Patch; 2] = [(498, 8), (544, 1)];
 #[test]
 fn links_of_samples_that_are_taken_out(rt: HostRuntime) {
     let alloc = rt.alloc();
+    // One links to itself.
+    let there = b"add-sample 0 \"l\" 44100 60 0 linked 0 noloop x\nremove-sample 0\n";
+    assert!(rt; returns(alloc, empty().bytes(), there, there));
     // Each links to the other.
     for script in [b"remove-sample 0", b"remove-sample 1"] {
         let line = b": line 1: refused 26 InUse\n";

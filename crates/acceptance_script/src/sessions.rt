@@ -1,10 +1,11 @@
 //! Sessions on T: edits that are taken back, and brought forth again.
 
 use bank_core::InfoId;
-use bank_edits::{Cause, Edit, Refusal, Step};
+use edit_forms::{Edit, Step};
+use edit_refusals::{Cause, Refusal};
 use edit_script::print;
-use edit_sessions::{Session, SessionFault};
-use sf_base::{Failure, Lent, Name20};
+use edit_sessions::Session;
+use sf_base::{Lent, Name20};
 use sf_reader::read;
 use sf_writer::write;
 use std::alloc::Global;
@@ -27,12 +28,12 @@ fn stands(alloc: Global, session: &Session<'_>, file: &File, back: &[u8]) -> boo
 
 /// Whether a session is at its first bank.
 fn is_first(alloc: Global, session: &mut Session<'_>) -> bool {
-    session.undo(alloc) == Err(Failure::Fault(SessionFault::NothingToUndo))
+    session.undo(alloc) == Err(Refusal::NothingToUndo)
 }
 
 /// Whether a session is at its last bank.
 fn is_last(alloc: Global, session: &mut Session<'_>) -> bool {
-    session.redo(alloc) == Err(Failure::Fault(SessionFault::NothingToRedo))
+    session.redo(alloc) == Err(Refusal::NothingToRedo)
 }
 
 /// T with another name of its sample, and with a name of its own.
@@ -105,8 +106,11 @@ fn a_refused_edit_leaves_what_is_to_redo(rt: HostRuntime) -> Result<(), Fail> {
 }
 
 #[test]
-fn faults_of_sessions_are_told(rt: HostRuntime) {
-    let (undo, redo) = (SessionFault::NothingToUndo, SessionFault::NothingToRedo);
+fn refusals_are_told(rt: HostRuntime) {
+    let (memory, cause) = (Refusal::OutOfMemory, Refusal::Of(Cause::InUse));
+    assert!(rt; memory.number() == 38 && memory.name() == "OutOfMemory");
+    assert!(rt; cause.number() == 26 && cause.name() == "InUse");
+    let (undo, redo) = (Refusal::NothingToUndo, Refusal::NothingToRedo);
     assert!(rt; undo.number() == 39 && undo.name() == "NothingToUndo");
     assert!(rt; redo.number() == 40 && redo.name() == "NothingToRedo");
 }

@@ -1,7 +1,10 @@
 //! What only a run can show of scripts that edit zones, and the generators and modulators in them: that
-//! each form is read, done, refused and taken back, byte for byte, from a script's text.
+//! each form is read, done, refused and taken back, byte for byte, from a script's text; and of edits of
+//! banks that have as much as a bank can.
 #![tactic(auto)]
 
+#[cfg(test)]
+mod full;
 #[cfg(test)]
 mod settings;
 #[cfg(test)]

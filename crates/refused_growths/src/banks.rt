@@ -92,7 +92,7 @@ pub(crate) fn fixed_writer() -> Fixed {
 }
 
 /// Scripts, each with the undo text that takes it back.
-pub(crate) static EDITS: [(&[u8], &[u8]); 5] = [
+pub(crate) static EDITS: [(&[u8], &[u8]); 6] = [
     (b"rename-sample 0 \"sine\"\n", b"rename-sample 0 \"saw\"\n"),
     (
         b"add-sample 0 \"low\" 44100 48 0 right 1 loop 0 2 x0100feff\n",
@@ -114,6 +114,12 @@ pub(crate) static EDITS: [(&[u8], &[u8]); 5] = [
         add-inst 0 \"i\" { global g 17 100 g 48 10 m 1282 48 100 0 0 } \
         { 0 g 43 0..127 g 54 1 m 1282 48 100 0 0 m 1282 48 100 0 0 }\n\
         add-preset 0 \"p\" 0 0 0 0 0 { global g 51 1 } { 0 m 1282 48 100 0 0 } { 0 g 44 64..127 }\n",
+    ),
+    (
+        b"group { remove-zone inst 0 0 } { remove-sample 0 }\n",
+        b"\
+        group { add-sample 0 \"saw\" 44100 60 0 mono noloop x0100feff } \
+        { add-zone inst 0 0 { 0 g 43 0..127 g 54 1 m 1282 48 100 0 0 m 1282 48 100 0 0 } }\n",
     ),
 ];
 

@@ -1,10 +1,13 @@
 //! The calls of sessions that may want memory.
 use crate::banks::{BANK, Fixed, fixed_writer};
 use crate::outcome::Outcome;
-use bank_edits::{Edit, Refusal, Step};
+use bank_core::Owner;
+use edit_forms::{Edit, Step};
+use edit_refusals::Refusal;
 use edit_script::print;
-use edit_sessions::{Session, SessionFault};
-use sf_base::{Failure, Name20, OutOfMemory};
+use edit_sessions::Session;
+use numbered_lists::NumberedList;
+use sf_base::{Name20, OutOfMemory};
 use sf_reader::read;
 use sf_writer::write;
 use std::alloc::Global;
@@ -13,12 +16,13 @@ use std::alloc::Global;
 enum Call {
     Rename,
     Remove,
+    Empty,
     Undo,
     Redo,
 }
 
 // Calls, each with whether it is done, and the number of edits to undo after it.
-static CALLS: [(Call, bool, usize); 10] = [
+static CALLS: [(Call, bool, usize); 14] = [
     (Call::Undo, false, 0),
     (Call::Rename, true, 1),
     (Call::Remove, true, 2),
@@ -29,9 +33,13 @@ static CALLS: [(Call, bool, usize); 10] = [
     (Call::Undo, true, 0),
     (Call::Remove, true, 1),
     (Call::Undo, true, 0),
+    (Call::Empty, true, 1),
+    (Call::Undo, true, 0),
+    (Call::Redo, true, 1),
+    (Call::Undo, true, 0),
 ];
 
-/// Makes ten calls of a session, of which the last gives the first bank back. For want of memory a call
+/// Makes fourteen calls of a session, of which the last gives the first bank back. For want of memory a call
 /// leaves the session as it was, and is made again.
 pub(crate) fn session_walk(alloc: Global) -> Outcome {
     let (bank, mut outcome) = match read(alloc, BANK) {
@@ -88,23 +96,41 @@ fn made(alloc: Global, session: &mut Session<'_>, call: Call) -> Result<bool, Ou
             Err(_) => Ok(false),
         },
         Call::Remove => edited(session.edit(alloc, Edit::One(Step::RemovePreset { preset: 0 }))),
+        Call::Empty => edited(session.edit(alloc, emptying(alloc)?)),
         Call::Undo => moved(session.undo(alloc)),
         Call::Redo => moved(session.redo(alloc)),
     }
 }
 
+// A group that takes out the zone of the instrument, and then the sample that it plays.
+fn emptying(alloc: Global) -> Result<Edit<'static>, OutOfMemory> {
+    let mut steps = Vec::new(alloc);
+    steps.push(Step::RemoveZone {
+        owner: Owner::Instrument(0),
+        zone: 0,
+    })?;
+    steps.push(Step::RemoveSample { sample: 0 })?;
+    Ok(Edit::Group(NumberedList::from_vec(steps)))
+}
+
 fn edited(answer: Result<(), (Refusal, Edit<'_>)>) -> Result<bool, OutOfMemory> {
     match answer {
         Ok(()) => Ok(true),
-        Err((Refusal::Of(_), _)) => Ok(false),
-        Err((Refusal::OutOfMemory, _)) => Err(OutOfMemory),
+        Err((why, _)) => refused(why),
     }
 }
 
-fn moved(answer: Result<(), Failure<SessionFault>>) -> Result<bool, OutOfMemory> {
+fn moved(answer: Result<(), Refusal>) -> Result<bool, OutOfMemory> {
     match answer {
         Ok(()) => Ok(true),
-        Err(Failure::Fault(_)) => Ok(false),
-        Err(Failure::OutOfMemory) => Err(OutOfMemory),
+        Err(why) => refused(why),
+    }
+}
+
+// That a call was not done, or that memory was wanting.
+fn refused(why: Refusal) -> Result<bool, OutOfMemory> {
+    match why {
+        Refusal::OutOfMemory => Err(OutOfMemory),
+        _ => Ok(false),
     }
 }
