@@ -2,6 +2,7 @@
 //! equal one in memory of its own.
 #![tactic(auto)]
 
+mod copying;
 mod edit;
 mod step;
 
