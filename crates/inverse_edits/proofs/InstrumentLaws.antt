@@ -14,19 +14,17 @@ use Rattle.bank_parts.specs.Sound.{IsSound}
 use Rattle.bank_changes.specs.Instruments.{instrument_added, instrument_removed, instrument_renamed}
 use Rattle.bank_changes.proofs.Changes.{all_found}
 use Rattle.bank_changes.proofs.InstrumentLaws.{restored_added_instrument, added_instrument_unused, restored_removed_instrument, instrument_renamed_sound, length-instrument_moved, restored_instrument_moved}
-use Rattle.edit_forms.specs.declared.edit.Edit.TheVariants.{One}
 use Rattle.edit_forms.specs.declared.step.Step.TheVariants.{AddInstrument, RemoveInstrument, RenameInstrument, MoveInstrument}
 use Rattle.edit_refusals.proofs.Accepted.{accepted, not_below}
 use Rattle.edit_refusals.specs.declared.cause.Cause.TheVariants.{NoSuchInstrument, NoSuchSample}
 use Rattle.edit_refusals.proofs.Moves.{tests_move, moves_back}
 use Rattle.edit_refusals.proofs.OwnerLaws.{tests_add}
 use Rattle.edit_refusals.proofs.InstrumentLaws.{instrument_goes, sound_add_instrument, instrument_comes, sound_remove_instrument, there_of_rename_instrument, moves_instrument, sound_move_instrument}
-use Rattle.inverse_edits.specs.Undone.{IsTaken, IsUndone}
-use Rattle.inverse_edits.proofs.UndoneBy.{undone_by}
+use Rattle.inverse_edits.proofs.UndoneBy.{IsTaken, IsUndone, undone_by}
 
 -- ---- add-inst
 
-pub undone_add_instrument : (b : Parts) (i : ℕ) (x : WithZones (List ℕ)) → IsSound b → IsTaken b (One (AddInstrument i x)) → IsUndone b (One (AddInstrument i x))
+pub undone_add_instrument : (b : Parts) (i : ℕ) (x : WithZones (List ℕ)) → IsSound b → IsTaken b (AddInstrument i x) → IsUndone b (AddInstrument i x)
 undone_add_instrument b i x s t =
     let le = (instrument_goes b i x t.fits.1 t.accepted).place in
     let size = length-insert b.instruments i x le in
@@ -42,7 +40,7 @@ undone_add_instrument b i x s t =
 
 -- ---- remove-inst
 
-pub undone_remove_instrument : (b : Parts) (i : ℕ) → IsSound b → IsTaken b (One (RemoveInstrument i)) → IsUndone b (One (RemoveInstrument i))
+pub undone_remove_instrument : (b : Parts) (i : ℕ) → IsSound b → IsTaken b (RemoveInstrument i) → IsUndone b (RemoveInstrument i)
 undone_remove_instrument b i s t =
     let c = instrument_comes b i (accepted b (RemoveInstrument i) t.accepted).tests in
     let lt = c.there in
@@ -60,7 +58,7 @@ undone_remove_instrument b i s t =
 
 -- ---- rename-inst
 
-pub undone_rename_instrument : (b : Parts) (i : ℕ) (name : List ℕ) → IsSound b → IsTaken b (One (RenameInstrument i name)) → IsUndone b (One (RenameInstrument i name))
+pub undone_rename_instrument : (b : Parts) (i : ℕ) (name : List ℕ) → IsSound b → IsTaken b (RenameInstrument i name) → IsUndone b (RenameInstrument i name)
 undone_rename_instrument b i name s t =
     let lt = there_of_rename_instrument b i name t.accepted in
     let (x, e) = slice_get-found b.instruments i lt in
@@ -76,7 +74,7 @@ undone_rename_instrument b i name s t =
 
 -- ---- move-inst
 
-pub undone_move_instrument : (b : Parts) (i j : ℕ) → IsSound b → IsTaken b (One (MoveInstrument i j)) → IsUndone b (One (MoveInstrument i j))
+pub undone_move_instrument : (b : Parts) (i j : ℕ) → IsSound b → IsTaken b (MoveInstrument i j) → IsUndone b (MoveInstrument i j)
 undone_move_instrument b i j s t =
     let m = moves_instrument b i j t.accepted in
     let back = moves_back m (sym (length-instrument_moved b i j m.there m.place)) in

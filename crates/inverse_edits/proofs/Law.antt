@@ -1,44 +1,68 @@
--- Undo restores, for every form of edit.
-use Rattle.edit_forms.specs.declared.edit.Edit.TheVariants.{One}
-use Rattle.edit_forms.specs.declared.step.Step.TheVariants.{AddPreset, RemovePreset, MovePreset, SetHead, AddInstrument, RemoveInstrument, RenameInstrument, MoveInstrument, RenameSample, AddSample, RemoveSample, MoveSample, Trim, Extend, SetLoop, SetKind, SetTune, AddZone, RemoveZone, MoveZone, SplitZone, JoinZone, SetTarget, SetGen, ClearGen, AddMod, RemoveMod, SetMod, SetInfo}
-use Rattle.inverse_edits.specs.Undone.{UndoRestores}
-use Rattle.inverse_edits.proofs.PresetLaws.{undone_add_preset, undone_remove_preset, undone_move_preset, undone_set_head}
-use Rattle.inverse_edits.proofs.InstrumentLaws.{undone_add_instrument, undone_remove_instrument, undone_rename_instrument, undone_move_instrument}
-use Rattle.inverse_edits.proofs.ModulatorLaws.{undone_add_mod, undone_remove_mod, undone_set_mod}
-use Rattle.inverse_edits.proofs.SampleLaws.{undone_rename, undone_add, undone_remove, undone_move_sample}
-use Rattle.inverse_edits.proofs.PointLaws.{undone_trim, undone_extend, undone_set_loop, undone_set_kind, undone_set_tune}
-use Rattle.inverse_edits.proofs.SettingLaws.{undone_set_gen, undone_clear_gen}
-use Rattle.inverse_edits.proofs.TextLaws.{undone_set_info}
-use Rattle.inverse_edits.proofs.ZoneLaws.{undone_add_zone, undone_remove_zone, undone_move_zone, undone_set_target}
-use Rattle.inverse_edits.proofs.SplitLaws.{undone_split_zone, undone_join_zone}
+-- Undo restores, for one step and for a group of them.
+use Rattle.std.proofs.Common.{◌≡◌, ℕ, suc, Option, None, Some, List, [], ◌∷◌, refl, ap}
+use Rattle.std.specs.List.{AllByRecursion}
+use Rattle.std.specs.Option.{option_map}
+use Rattle.bank_parts.specs.declared.parts.Parts.{Parts}
+use Rattle.edit_forms.specs.declared.step.Step.{Step}
+use Rattle.edit_forms.specs.declared.edit.Edit.TheVariants.{One, Group}
+use Rattle.edit_forms.specs.Fits.{FitsStep}
+use Rattle.edit_refusals.specs.declared.cause.Cause.{Cause}
+use Rattle.edit_refusals.specs.declared.refusal.Refusal.{Refusal}
+use Rattle.edit_refusals.specs.declared.refusal.Refusal.TheVariants.{Of}
+use Rattle.edit_refusals.specs.Steps.{raw, refusal}
+use Rattle.edit_refusals.specs.Edits.{or_later, first_refused}
+use Rattle.bank_edits.specs.StepChanges.{inverse}
+use Rattle.inverse_edits.specs.Undoing.{AllTakenBy}
+use Rattle.inverse_edits.specs.Undone as edits
+use Rattle.inverse_edits.proofs.UndoneBy.{IsTaken}
+use Rattle.inverse_edits.proofs.StepLaw.{undone_step}
+use Rattle.inverse_edits.proofs.SequenceLaw.{row_undone}
 
-pub undone : UndoRestores
-undone b (One (AddPreset i p)) = undone_add_preset b i p
-undone b (One (RemovePreset i)) = undone_remove_preset b i
-undone b (One (MovePreset i j)) = undone_move_preset b i j
-undone b (One (SetHead p name number bank)) = undone_set_head b p name number bank
-undone b (One (AddInstrument i x)) = undone_add_instrument b i x
-undone b (One (RemoveInstrument i)) = undone_remove_instrument b i
-undone b (One (RenameInstrument i name)) = undone_rename_instrument b i name
-undone b (One (MoveInstrument i j)) = undone_move_instrument b i j
-undone b (One (RenameSample i name)) = undone_rename b i name
-undone b (One (AddSample i s)) = undone_add b i s
-undone b (One (RemoveSample i)) = undone_remove b i
-undone b (One (MoveSample i j)) = undone_move_sample b i j
-undone b (One (Trim i front back)) = undone_trim b i front back
-undone b (One (Extend i front back)) = undone_extend b i front back
-undone b (One (SetLoop i looped)) = undone_set_loop b i looped
-undone b (One (SetKind i kind)) = undone_set_kind b i kind
-undone b (One (SetTune i rate key correction)) = undone_set_tune b i rate key correction
-undone b (One (SetInfo id text)) = undone_set_info b id text
-undone b (One (AddZone o at zone)) = undone_add_zone b o at zone
-undone b (One (RemoveZone o zone)) = undone_remove_zone b o zone
-undone b (One (MoveZone o from to)) = undone_move_zone b o from to
-undone b (One (SplitZone o zone axis at)) = undone_split_zone b o zone axis at
-undone b (One (JoinZone o zone axis keep)) = undone_join_zone b o zone axis keep
-undone b (One (SetTarget o zone target)) = undone_set_target b o zone target
-undone b (One (SetGen o at op amount)) = undone_set_gen b o at op amount
-undone b (One (ClearGen o at op)) = undone_clear_gen b o at op
-undone b (One (AddMod o at j m)) = undone_add_mod b o at j m
-undone b (One (RemoveMod o at j)) = undone_remove_mod b o at j
-undone b (One (SetMod o at j m)) = undone_set_mod b o at j m
+-- ---- one step
+
+no_cause : (c : Option Cause) → option_map Of c ≡ None → c ≡ None
+no_cause None h = refl
+no_cause (Some cause) h = cc
+
+-- ---- a group is taken where each of its steps is, in its turn
+
+abbrev StepsTaken : Parts → List Step → Type 0
+StepsTaken = AllTakenBy raw IsTaken
+
+none_of_both : (n : ℕ) (c : Option Cause) (later : Option Refusal) → or_later n c later ≡ None → (c ≡ None) × (later ≡ None)
+none_of_both n None later h = (refl, h)
+none_of_both n (Some cause) later h = cc
+
+steps_taken : (n : ℕ) (b : Parts) (group : List Step) → AllByRecursion FitsStep group → first_refused n b group ≡ None → StepsTaken b group
+steps_taken n b [] fits accepted = tt
+steps_taken n b (s ∷ group) fits accepted =
+    let none = none_of_both n (refusal b s) (first_refused (suc n) (raw b s) group) accepted in
+    (record { fits = fits.0; accepted = none.0 }, steps_taken (suc n) (raw b s) group fits.1 none.1)
+
+group_fits : (b : Parts) (group : List Step) → StepsTaken b group → AllByRecursion FitsStep group
+group_fits b [] t = tt
+group_fits b (s ∷ group) t = (t.0.fits, group_fits (raw b s) group t.1)
+
+group_accepted : (n : ℕ) (b : Parts) (group : List Step) → StepsTaken b group → first_refused n b group ≡ None
+group_accepted n b [] t = refl
+group_accepted n b (s ∷ group) t = let here = t.0.accepted in rw here (group_accepted (suc n) (raw b s) group t.1)
+
+-- ---- both
+
+pub undone : edits.UndoRestores
+undone b (One s) sound t =
+    let u = undone_step b s sound (record { fits = t.fits; accepted = no_cause (refusal b s) t.accepted }) in
+    record {
+      sound = u.sound;
+      taken = record { fits = u.taken.fits; accepted = ap (option_map Of) u.taken.accepted };
+      restored = u.restored;
+      redone = ap One u.redone;
+    }
+undone b (Group group) sound t =
+    let u = row_undone raw inverse IsTaken undone_step b group sound (steps_taken 0 b group t.fits t.accepted) in
+    record {
+      sound = u.sound;
+      taken = record { fits = group_fits _ _ u.taken; accepted = group_accepted 0 _ _ u.taken };
+      restored = u.restored;
+      redone = ap Group u.redone;
+    }

@@ -8,5 +8,7 @@ pub mod ZoneLaws
 pub mod ModulatorLaws
 pub mod SettingLaws
 pub mod SplitLaws
+pub mod StepLaw
+pub mod SequenceLaw
 pub mod Law
 pub mod RunLaw

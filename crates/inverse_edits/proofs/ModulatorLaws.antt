@@ -20,13 +20,11 @@ use Rattle.bank_changes.specs.Settings.{mod_added, mod_removed, mod_set}
 use Rattle.bank_changes.proofs.Changes.{all_found}
 use Rattle.bank_changes.proofs.PlaceLaws.{settings_fit}
 use Rattle.bank_changes.proofs.SettingLaws.{mod_added_is, mod_removed_is, mod_set_is}
-use Rattle.edit_forms.specs.declared.edit.Edit.TheVariants.{One}
 use Rattle.edit_forms.specs.declared.step.Step.TheVariants.{AddMod, RemoveMod, SetMod}
 use Rattle.edit_refusals.proofs.Accepted.{accepted}
 use Rattle.edit_refusals.proofs.PlaceLaws.{mods_found}
 use Rattle.edit_refusals.proofs.ModulatorLaws.{mods_sent, still_no_link, none_inserted, none_left, none_exchanged, plain_found, mod_goes, sound_add_mod, tests_add_mod, mod_comes, sound_remove_mod, tests_remove_mod, mod_changes, sound_set_mod, tests_set_mod}
-use Rattle.inverse_edits.specs.Undone.{IsTaken, IsUndone}
-use Rattle.inverse_edits.proofs.UndoneBy.{undone_by}
+use Rattle.inverse_edits.proofs.UndoneBy.{IsTaken, IsUndone, undone_by}
 
 -- ---- the modulators of a place
 
@@ -53,7 +51,7 @@ restored_set b (owner.Instrument i) at j was m e = ap (λ (instruments : List (W
 
 -- ---- add-mod
 
-pub undone_add_mod : (b : Parts) (o : Owner) (at : Place) (j : ℕ) (m : Modulator) → IsSound b → IsTaken b (One (AddMod o at j m)) → IsUndone b (One (AddMod o at j m))
+pub undone_add_mod : (b : Parts) (o : Owner) (at : Place) (j : ℕ) (m : Modulator) → IsSound b → IsTaken b (AddMod o at j m) → IsUndone b (AddMod o at j m)
 undone_add_mod b o at j m s t =
     let g = mod_goes b o at j m (accepted b (AddMod o at j m) t.accepted).tests in
     let old : Settings = g.settings in
@@ -73,7 +71,7 @@ undone_add_mod b o at j m s t =
 
 -- ---- remove-mod
 
-pub undone_remove_mod : (b : Parts) (o : Owner) (at : Place) (j : ℕ) → IsSound b → IsTaken b (One (RemoveMod o at j)) → IsUndone b (One (RemoveMod o at j))
+pub undone_remove_mod : (b : Parts) (o : Owner) (at : Place) (j : ℕ) → IsSound b → IsTaken b (RemoveMod o at j) → IsUndone b (RemoveMod o at j)
 undone_remove_mod b o at j s t =
     let c = mod_comes b o at j (accepted b (RemoveMod o at j) t.accepted).tests in
     let old : Settings = c.settings in
@@ -99,7 +97,7 @@ undone_remove_mod b o at j s t =
 
 -- ---- set-mod
 
-pub undone_set_mod : (b : Parts) (o : Owner) (at : Place) (j : ℕ) (m : Modulator) → IsSound b → IsTaken b (One (SetMod o at j m)) → IsUndone b (One (SetMod o at j m))
+pub undone_set_mod : (b : Parts) (o : Owner) (at : Place) (j : ℕ) (m : Modulator) → IsSound b → IsTaken b (SetMod o at j m) → IsUndone b (SetMod o at j m)
 undone_set_mod b o at j m s t =
     let c = mod_changes b o at j m (accepted b (SetMod o at j m) t.accepted).tests in
     let old : Settings = c.settings in

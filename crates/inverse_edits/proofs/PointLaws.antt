@@ -9,12 +9,10 @@ use Rattle.bank_parts.specs.declared.parts.Parts.{Parts}
 use Rattle.bank_parts.specs.Sound.{IsSound}
 use Rattle.bank_changes.specs.Points.{points_of, loop_of, trimmed, extended, looped_as, of_kind, tuned, sample_trimmed, sample_extended, loop_set, kind_set, tune_set}
 use Rattle.bank_changes.proofs.PointLaws.{OutsideLoop, there_valid, there_fits, length-sample_changed, length-extended, few_points, length-front, length-back, trim_returned, front_cut, back_cut, extension_returned, extension_outside}
-use Rattle.edit_forms.specs.declared.edit.Edit.TheVariants.{One}
 use Rattle.edit_forms.specs.declared.step.Step.TheVariants.{Trim, Extend, SetLoop, SetKind, SetTune}
 use Rattle.edit_refusals.proofs.Accepted.{accepted, not_below}
 use Rattle.edit_refusals.proofs.PointLaws.{trims, tests_trim, sound_trim, there_of_extend, sound_extend, loops, tests_loop, sound_loop, links, tests_kind, sound_kind, there_of_tune, sound_tune}
-use Rattle.inverse_edits.specs.Undone.{IsTaken, IsUndone}
-use Rattle.inverse_edits.proofs.UndoneBy.{undone_by}
+use Rattle.inverse_edits.proofs.UndoneBy.{IsTaken, IsUndone, undone_by}
 
 -- ---- trim
 
@@ -26,7 +24,7 @@ last_fit : (points : List ℕ) (n : ℕ) → AreWords points → AreWords (drop 
 last_fit points n h =
     let P : ℕ → Type 0 = λ p. p < 2 ^ 16 in recursion_from_All P (drop n points) (All-drop P n points (All-from_recursion P points h))
 
-pub undone_trim : (b : Parts) (i front back : ℕ) → IsSound b → IsTaken b (One (Trim i front back)) → IsUndone b (One (Trim i front back))
+pub undone_trim : (b : Parts) (i front back : ℕ) → IsSound b → IsTaken b (Trim i front back) → IsUndone b (Trim i front back)
 undone_trim b i front back s t =
     let c = trims b i front back (accepted b (Trim i front back) t.accepted).tests in
     let lt = c.there in
@@ -48,7 +46,7 @@ undone_trim b i front back s t =
 
 -- ---- extend
 
-pub undone_extend : (b : Parts) (i : ℕ) (front back : List ℕ) → IsSound b → IsTaken b (One (Extend i front back)) → IsUndone b (One (Extend i front back))
+pub undone_extend : (b : Parts) (i : ℕ) (front back : List ℕ) → IsSound b → IsTaken b (Extend i front back) → IsUndone b (Extend i front back)
 undone_extend b i front back s t =
     let lt = there_of_extend b i front back t.accepted in
     let (x, e) = slice_get-found b.samples i lt in
@@ -72,7 +70,7 @@ undone_extend b i front back s t =
 
 -- ---- set-loop
 
-pub undone_set_loop : (b : Parts) (i : ℕ) (looped : Option (ℕ × ℕ)) → IsSound b → IsTaken b (One (SetLoop i looped)) → IsUndone b (One (SetLoop i looped))
+pub undone_set_loop : (b : Parts) (i : ℕ) (looped : Option (ℕ × ℕ)) → IsSound b → IsTaken b (SetLoop i looped) → IsUndone b (SetLoop i looped)
 undone_set_loop b i looped s t =
     let l = loops b i looped (accepted b (SetLoop i looped) t.accepted).tests in
     let lt = l.there in
@@ -92,7 +90,7 @@ undone_set_loop b i looped s t =
 
 -- ---- set-kind
 
-pub undone_set_kind : (b : Parts) (i : ℕ) (kind : Kind) → IsSound b → IsTaken b (One (SetKind i kind)) → IsUndone b (One (SetKind i kind))
+pub undone_set_kind : (b : Parts) (i : ℕ) (kind : Kind) → IsSound b → IsTaken b (SetKind i kind) → IsUndone b (SetKind i kind)
 undone_set_kind b i kind s t =
     let l = links b i kind (accepted b (SetKind i kind) t.accepted).tests in
     let lt = l.there in
@@ -112,7 +110,7 @@ undone_set_kind b i kind s t =
 
 -- ---- set-tune
 
-pub undone_set_tune : (b : Parts) (i rate key : ℕ) (correction : ℤ) → IsSound b → IsTaken b (One (SetTune i rate key correction)) → IsUndone b (One (SetTune i rate key correction))
+pub undone_set_tune : (b : Parts) (i rate key : ℕ) (correction : ℤ) → IsSound b → IsTaken b (SetTune i rate key correction) → IsUndone b (SetTune i rate key correction)
 undone_set_tune b i rate key correction s t =
     let lt = there_of_tune b i rate key correction t.accepted in
     let (x, e) = slice_get-found b.samples i lt in

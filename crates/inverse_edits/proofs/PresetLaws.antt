@@ -13,19 +13,17 @@ use Rattle.bank_parts.specs.Sound.{IsSound}
 use Rattle.bank_changes.specs.Presets.{preset_added, preset_removed, head_set}
 use Rattle.bank_changes.proofs.Changes.{all_found}
 use Rattle.bank_changes.proofs.PresetLaws.{length-preset_moved, length-head_set, head_set_sound, read_head_set, restored_added_preset, restored_removed_preset, restored_preset_moved, restored_head_set}
-use Rattle.edit_forms.specs.declared.edit.Edit.TheVariants.{One}
 use Rattle.edit_forms.specs.declared.step.Step.TheVariants.{AddPreset, RemovePreset, MovePreset, SetHead}
 use Rattle.edit_refusals.specs.declared.cause.Cause.TheVariants.{NoSuchPreset, NoSuchInstrument}
 use Rattle.edit_refusals.proofs.Accepted.{not_below}
 use Rattle.edit_refusals.proofs.Moves.{tests_move, moves_back}
 use Rattle.edit_refusals.proofs.OwnerLaws.{tests_add}
 use Rattle.edit_refusals.proofs.PresetLaws.{preset_goes, sound_add_preset, there_of_remove_preset, sound_remove_preset, moves_preset, sound_move_preset, there_of_set_head}
-use Rattle.inverse_edits.specs.Undone.{IsTaken, IsUndone}
-use Rattle.inverse_edits.proofs.UndoneBy.{undone_by}
+use Rattle.inverse_edits.proofs.UndoneBy.{IsTaken, IsUndone, undone_by}
 
 -- ---- add-preset
 
-pub undone_add_preset : (b : Parts) (i : ℕ) (p : WithZones Head) → IsSound b → IsTaken b (One (AddPreset i p)) → IsUndone b (One (AddPreset i p))
+pub undone_add_preset : (b : Parts) (i : ℕ) (p : WithZones Head) → IsSound b → IsTaken b (AddPreset i p) → IsUndone b (AddPreset i p)
 undone_add_preset b i p s t =
     let le = (preset_goes b i p t.fits.1 t.accepted).place in
     let size = length-insert b.presets i p le in
@@ -41,7 +39,7 @@ undone_add_preset b i p s t =
 
 -- ---- remove-preset
 
-pub undone_remove_preset : (b : Parts) (i : ℕ) → IsSound b → IsTaken b (One (RemovePreset i)) → IsUndone b (One (RemovePreset i))
+pub undone_remove_preset : (b : Parts) (i : ℕ) → IsSound b → IsTaken b (RemovePreset i) → IsUndone b (RemovePreset i)
 undone_remove_preset b i s t =
     let lt = there_of_remove_preset b i t.accepted in
     let (p, e) = slice_get-found b.presets i lt in
@@ -58,7 +56,7 @@ undone_remove_preset b i s t =
 
 -- ---- move-preset
 
-pub undone_move_preset : (b : Parts) (i j : ℕ) → IsSound b → IsTaken b (One (MovePreset i j)) → IsUndone b (One (MovePreset i j))
+pub undone_move_preset : (b : Parts) (i j : ℕ) → IsSound b → IsTaken b (MovePreset i j) → IsUndone b (MovePreset i j)
 undone_move_preset b i j s t =
     let m = moves_preset b i j t.accepted in
     let back = moves_back m (sym (length-preset_moved b i j m.there m.place)) in
@@ -73,7 +71,7 @@ undone_move_preset b i j s t =
 
 -- ---- set-head
 
-pub undone_set_head : (b : Parts) (i : ℕ) (name : List ℕ) (number bank : ℕ) → IsSound b → IsTaken b (One (SetHead i name number bank)) → IsUndone b (One (SetHead i name number bank))
+pub undone_set_head : (b : Parts) (i : ℕ) (name : List ℕ) (number bank : ℕ) → IsSound b → IsTaken b (SetHead i name number bank) → IsUndone b (SetHead i name number bank)
 undone_set_head b i name number bank s t =
     let lt = there_of_set_head b i name number bank t.accepted in
     let (x, e) = slice_get-found b.presets i lt in

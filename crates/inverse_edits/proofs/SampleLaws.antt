@@ -14,18 +14,16 @@ use Rattle.bank_parts.specs.Sound.{IsSound}
 use Rattle.bank_changes.specs.Samples.{named, sample_renamed, sample_added, sample_removed}
 use Rattle.bank_changes.proofs.Changes.{all_found}
 use Rattle.bank_changes.proofs.SampleLaws.{renamed_sound, restored_added, restored_removed, restored_moved, added_unused, length-sample_moved}
-use Rattle.edit_forms.specs.declared.edit.Edit.TheVariants.{One}
 use Rattle.edit_forms.specs.declared.step.Step.TheVariants.{RenameSample, AddSample, RemoveSample, MoveSample}
 use Rattle.edit_refusals.proofs.Accepted.{accepted, not_below}
 use Rattle.edit_refusals.proofs.SampleLaws.{there_of_rename, goes_in, tests_add, sound_add, comes_out, sound_remove, moves_sample, sound_move_sample}
 use Rattle.edit_refusals.specs.declared.cause.Cause.TheVariants.{NoSuchSample}
 use Rattle.edit_refusals.proofs.Moves.{tests_move, moves_back}
-use Rattle.inverse_edits.specs.Undone.{IsTaken, IsUndone}
-use Rattle.inverse_edits.proofs.UndoneBy.{undone_by}
+use Rattle.inverse_edits.proofs.UndoneBy.{IsTaken, IsUndone, undone_by}
 
 -- ---- rename-sample
 
-pub undone_rename : (b : Parts) (i : ℕ) (name : List ℕ) → IsSound b → IsTaken b (One (RenameSample i name)) → IsUndone b (One (RenameSample i name))
+pub undone_rename : (b : Parts) (i : ℕ) (name : List ℕ) → IsSound b → IsTaken b (RenameSample i name) → IsUndone b (RenameSample i name)
 undone_rename b i name s t =
     let lt = there_of_rename b i name t.accepted in
     let (x, e) = slice_get-found b.samples i lt in
@@ -41,7 +39,7 @@ undone_rename b i name s t =
 
 -- ---- add-sample
 
-pub undone_add : (b : Parts) (i : ℕ) (x : Sample) → IsSound b → IsTaken b (One (AddSample i x)) → IsUndone b (One (AddSample i x))
+pub undone_add : (b : Parts) (i : ℕ) (x : Sample) → IsSound b → IsTaken b (AddSample i x) → IsUndone b (AddSample i x)
 undone_add b i x s t =
     let g = goes_in b i x (accepted b (AddSample i x) t.accepted).tests in
     let le = g.place in
@@ -61,7 +59,7 @@ undone_add b i x s t =
 
 -- ---- remove-sample
 
-pub undone_remove : (b : Parts) (i : ℕ) → IsSound b → IsTaken b (One (RemoveSample i)) → IsUndone b (One (RemoveSample i))
+pub undone_remove : (b : Parts) (i : ℕ) → IsSound b → IsTaken b (RemoveSample i) → IsUndone b (RemoveSample i)
 undone_remove b i s t =
     let c = comes_out b i (accepted b (RemoveSample i) t.accepted).tests in
     let lt = c.there in
@@ -82,7 +80,7 @@ undone_remove b i s t =
 
 -- ---- move-sample
 
-pub undone_move_sample : (b : Parts) (i j : ℕ) → IsSound b → IsTaken b (One (MoveSample i j)) → IsUndone b (One (MoveSample i j))
+pub undone_move_sample : (b : Parts) (i j : ℕ) → IsSound b → IsTaken b (MoveSample i j) → IsUndone b (MoveSample i j)
 undone_move_sample b i j s t =
     let m = moves_sample b i j t.accepted in
     let back = moves_back m (sym (length-sample_moved b i j m.there m.place)) in

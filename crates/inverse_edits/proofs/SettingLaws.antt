@@ -18,13 +18,11 @@ use Rattle.bank_changes.specs.Settings.{own_place_changed, gen_set, gen_cleared}
 use Rattle.bank_changes.proofs.Changes.{all_found}
 use Rattle.bank_changes.proofs.PlaceLaws.{place_there, gens_of_sound, settings_fit}
 use Rattle.bank_changes.proofs.SettingLaws.{gen_set_is, gen_cleared_is, amount_found}
-use Rattle.edit_forms.specs.declared.edit.Edit.TheVariants.{One}
 use Rattle.edit_forms.specs.declared.step.Step.TheVariants.{SetGen, ClearGen}
 use Rattle.edit_refusals.proofs.Accepted.{accepted}
 use Rattle.edit_refusals.proofs.PlaceLaws.{some_settings, owner_stays_there, place_stays_there}
 use Rattle.edit_refusals.proofs.SettingLaws.{AllowsThere, settings_allowed, GenGoes, gen_goes, tests_set_gen, sound_set_gen, gen_comes, tests_clear_gen, sound_clear_gen}
-use Rattle.inverse_edits.specs.Undone.{IsTaken, IsUndone}
-use Rattle.inverse_edits.proofs.UndoneBy.{undone_by}
+use Rattle.inverse_edits.proofs.UndoneBy.{IsTaken, IsUndone, undone_by}
 
 -- ---- an amount of a sound bank
 
@@ -83,7 +81,7 @@ restored_cleared b (owner.Instrument i) at op was e = ap (λ (instruments : List
 
 -- ---- set-gen
 
-pub undone_set_gen : (b : Parts) (o : Owner) (at : Place) (op amount : ℕ) → IsSound b → IsTaken b (One (SetGen o at op amount)) → IsUndone b (One (SetGen o at op amount))
+pub undone_set_gen : (b : Parts) (o : Owner) (at : Place) (op amount : ℕ) → IsSound b → IsTaken b (SetGen o at op amount) → IsUndone b (SetGen o at op amount)
 undone_set_gen b o at op amount s t = by (amount_of b o at op) refl
   where
     goes : GenGoes b o at op amount
@@ -92,7 +90,7 @@ undone_set_gen b o at op amount s t = by (amount_of b o at op) refl
     still : AllowsThere (gen_set b o at op amount) o at op
     still = still_allows b o at op (λ s. with_gens (insert s.gens op amount) s) (gen_set b o at op amount) (gen_set_is b o at op amount) goes.allows
 
-    by : (found : Option ℕ) → amount_of b o at op ≡ found → IsUndone b (One (SetGen o at op amount))
+    by : (found : Option ℕ) → amount_of b o at op ≡ found → IsUndone b (SetGen o at op amount)
     by (Some was) e =
         let new = read_set b o at op amount goes.allows in
         undone_by b (SetGen o at op amount) (SetGen o at op was) s (record {
@@ -116,7 +114,7 @@ undone_set_gen b o at op amount s t = by (amount_of b o at op) refl
 
 -- ---- clear-gen
 
-pub undone_clear_gen : (b : Parts) (o : Owner) (at : Place) (op : ℕ) → IsSound b → IsTaken b (One (ClearGen o at op)) → IsUndone b (One (ClearGen o at op))
+pub undone_clear_gen : (b : Parts) (o : Owner) (at : Place) (op : ℕ) → IsSound b → IsTaken b (ClearGen o at op) → IsUndone b (ClearGen o at op)
 undone_clear_gen b o at op s t =
     let g = gen_comes b o at op (accepted b (ClearGen o at op) t.accepted).tests in
     let now : Parts = gen_cleared b o at op in

@@ -25,11 +25,9 @@ use Rattle.bank_changes.specs.declared.members.Owner.TheVariants as owner
 use Rattle.bank_changes.specs.Members.{zones_of, zone_of, level_of, target_count}
 use Rattle.bank_changes.specs.Zones.{zone_split, zone_joined, can_split, can_join}
 use Rattle.bank_changes.proofs.ZoneLaws.{zones_valid}
-use Rattle.edit_forms.specs.declared.edit.Edit.TheVariants.{One}
 use Rattle.edit_forms.specs.declared.step.Step.TheVariants.{SplitZone, JoinZone}
 use Rattle.edit_refusals.proofs.SplitLaws.{can_of_split_zone, tests_split_zone, sound_split_zone, can_of_join_zone, tests_join_zone, sound_join_zone}
-use Rattle.inverse_edits.specs.Undone.{IsTaken, IsUndone}
-use Rattle.inverse_edits.proofs.UndoneBy.{undone_by}
+use Rattle.inverse_edits.proofs.UndoneBy.{IsTaken, IsUndone, undone_by}
 
 -- ---- zones of a list of members
 
@@ -194,7 +192,7 @@ is_join b (owner.Instrument i) k axis keep sound can =
 
 -- ---- split-zone
 
-pub undone_split_zone : (b : Parts) (o : Owner) (k : ℕ) (axis : Axis) (m : ℕ) → IsSound b → IsTaken b (One (SplitZone o k axis m)) → IsUndone b (One (SplitZone o k axis m))
+pub undone_split_zone : (b : Parts) (o : Owner) (k : ℕ) (axis : Axis) (m : ℕ) → IsSound b → IsTaken b (SplitZone o k axis m) → IsUndone b (SplitZone o k axis m)
 undone_split_zone b o k axis m s t =
     let f = is_split b o k axis m t.fits.2 (can_of_split_zone b o k axis m t.accepted) in
     let was = f.zone_is in
@@ -210,7 +208,7 @@ undone_split_zone b o k axis m s t =
 
 -- ---- join-zone
 
-pub undone_join_zone : (b : Parts) (o : Owner) (k : ℕ) (axis : Axis) (keep : Keep) → IsSound b → IsTaken b (One (JoinZone o k axis keep)) → IsUndone b (One (JoinZone o k axis keep))
+pub undone_join_zone : (b : Parts) (o : Owner) (k : ℕ) (axis : Axis) (keep : Keep) → IsSound b → IsTaken b (JoinZone o k axis keep) → IsUndone b (JoinZone o k axis keep)
 undone_join_zone b o k axis keep s t =
     let f = is_join b o k axis keep s (can_of_join_zone b o k axis keep t.accepted) in
     let was = f.second_is in

@@ -6,15 +6,13 @@ use Rattle.bank_parts.specs.declared.parts.Parts.{Parts}
 use Rattle.bank_parts.specs.Texts.{text_of}
 use Rattle.bank_parts.specs.Sound.{IsSound}
 use Rattle.bank_changes.proofs.TextLaws.{info_of, text_fits, text_of-set, text_set-back}
-use Rattle.edit_forms.specs.declared.edit.Edit.TheVariants.{One}
 use Rattle.edit_forms.specs.declared.step.Step.TheVariants.{SetInfo}
 use Rattle.edit_refusals.proofs.TextLaws.{sound_set_info, not_bad}
-use Rattle.inverse_edits.specs.Undone.{IsTaken, IsUndone}
-use Rattle.inverse_edits.proofs.UndoneBy.{undone_by}
+use Rattle.inverse_edits.proofs.UndoneBy.{IsTaken, IsUndone, undone_by}
 
 -- ---- set-info
 
-pub undone_set_info : (b : Parts) (id : InfoId) (text : List ℕ) → IsSound b → IsTaken b (One (SetInfo id text)) → IsUndone b (One (SetInfo id text))
+pub undone_set_info : (b : Parts) (id : InfoId) (text : List ℕ) → IsSound b → IsTaken b (SetInfo id text) → IsUndone b (SetInfo id text)
 undone_set_info b id text s t =
     let was = info_of b.texts id s.valid.texts in
     undone_by b (SetInfo id text) (SetInfo id (text_of b.texts id)) s (record {

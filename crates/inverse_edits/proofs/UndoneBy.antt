@@ -1,14 +1,22 @@
 -- How a form's law follows from its facts.
-use Rattle.std.proofs.Common.{◌≡◌, sym, subst, ap}
+use Rattle.std.proofs.Common.{◌≡◌, None, sym, subst}
 use Rattle.bank_parts.specs.declared.parts.Parts.{Parts}
 use Rattle.bank_parts.specs.Sound.{IsSound}
 use Rattle.edit_forms.specs.declared.step.Step.{Step}
-use Rattle.edit_forms.specs.declared.edit.Edit.TheVariants.{One}
 use Rattle.edit_forms.specs.Fits.{FitsStep}
-use Rattle.edit_refusals.specs.Steps.{raw, causes}
+use Rattle.edit_refusals.specs.Steps.{raw, causes, refusal}
 use Rattle.bank_edits.specs.StepChanges.{inverse}
 use Rattle.edit_refusals.proofs.Accepted.{NoneStands, accepted_by}
-use Rattle.inverse_edits.specs.Undone.{IsUndone}
+use Rattle.inverse_edits.specs.Undoing.{IsUndoneBy}
+
+-- the bank takes the step
+pub record IsTaken (b : Parts) (s : Step) : Type 0 where
+  pub fits : FitsStep s
+  pub accepted : refusal b s ≡ None
+
+-- the changed bank takes the step's inverse, which gives the bank back
+abbrev pub IsUndone : Parts → Step → Type 0
+IsUndone b s = IsUndoneBy raw inverse IsTaken b s
 
 -- The facts about the inverse as it computes. That it breaks no limit follows from what it restores.
 pub record Facts (b : Parts) (s back : Step) : Type 0 where
@@ -19,7 +27,7 @@ pub record Facts (b : Parts) (s back : Step) : Type 0 where
   pub restored : raw (raw b s) back ≡ b
   pub redone : inverse (raw b s) back ≡ s
 
-pub undone_by : (b : Parts) (s back : Step) → IsSound b → Facts b s back → IsUndone b (One s)
+pub undone_by : (b : Parts) (s back : Step) → IsSound b → Facts b s back → IsUndone b s
 undone_by b s back sound f =
     let same = f.is in
     let still : IsSound (raw (raw b s) back) = subst IsSound (sym f.restored) sound in
@@ -27,5 +35,5 @@ undone_by b s back sound f =
       sound = f.sound;
       taken = rw same (record { fits = f.fits; accepted = accepted_by (raw b s) back f.tests still });
       restored = rw same f.restored;
-      redone = rw same (ap One f.redone);
+      redone = rw same f.redone;
     }

@@ -23,12 +23,10 @@ use Rattle.bank_changes.specs.Zones.{zone_added, zone_removed, zone_moved, targe
 use Rattle.bank_changes.proofs.Changes.{all_found}
 use Rattle.bank_changes.proofs.ZoneLaws.{zones_valid, zones_fit}
 use Rattle.bank_changes.proofs.ZoneChangeLaws.{own_zones_there, zone_there, zone_found, restored_zone_added, restored_zone_removed, restored_zone_moved, restored_target_set}
-use Rattle.edit_forms.specs.declared.edit.Edit.TheVariants.{One}
 use Rattle.edit_forms.specs.declared.step.Step.TheVariants.{AddZone, RemoveZone, MoveZone, SetTarget}
 use Rattle.edit_refusals.proofs.Accepted.{accepted}
 use Rattle.edit_refusals.proofs.ZoneLaws.{zone_goes, tests_add_zone, sound_add_zone, comes_of_remove_zone, tests_remove_zone, sound_remove_zone, moves_of_move_zone, tests_move_zone, sound_move_zone, goes_of_set_target, tests_set_target, sound_set_target}
-use Rattle.inverse_edits.specs.Undone.{IsTaken, IsUndone}
-use Rattle.inverse_edits.proofs.UndoneBy.{undone_by}
+use Rattle.inverse_edits.proofs.UndoneBy.{IsTaken, IsUndone, undone_by}
 
 -- ---- what is there after a change
 
@@ -85,7 +83,7 @@ target_of_zone b (owner.Instrument i) k zone e = ap (option_map (λ (z : Zone). 
 
 -- ---- add-zone
 
-pub undone_add_zone : (b : Parts) (o : Owner) (k : ℕ) (zone : Zone) → IsSound b → IsTaken b (One (AddZone o k zone)) → IsUndone b (One (AddZone o k zone))
+pub undone_add_zone : (b : Parts) (o : Owner) (k : ℕ) (zone : Zone) → IsSound b → IsTaken b (AddZone o k zone) → IsUndone b (AddZone o k zone)
 undone_add_zone b o k zone s t =
     let place = (zone_goes b o k zone (accepted b (AddZone o k zone) t.accepted).tests).place in
     let h = own_zones_there b o (λ count. k ≤ count) place in
@@ -103,7 +101,7 @@ undone_add_zone b o k zone s t =
 
 -- ---- remove-zone
 
-pub undone_remove_zone : (b : Parts) (o : Owner) (k : ℕ) → IsSound b → IsTaken b (One (RemoveZone o k)) → IsUndone b (One (RemoveZone o k))
+pub undone_remove_zone : (b : Parts) (o : Owner) (k : ℕ) → IsSound b → IsTaken b (RemoveZone o k) → IsUndone b (RemoveZone o k)
 undone_remove_zone b o k s t =
     let (zone, e) = zone_found b o k (comes_of_remove_zone b o k t.accepted) in
     let h = zone_there b o k zone e in
@@ -124,7 +122,7 @@ undone_remove_zone b o k s t =
 
 -- ---- move-zone
 
-pub undone_move_zone : (b : Parts) (o : Owner) (from to : ℕ) → IsSound b → IsTaken b (One (MoveZone o from to)) → IsUndone b (One (MoveZone o from to))
+pub undone_move_zone : (b : Parts) (o : Owner) (from to : ℕ) → IsSound b → IsTaken b (MoveZone o from to) → IsUndone b (MoveZone o from to)
 undone_move_zone b o from to s t =
     let m = moves_of_move_zone b o from to t.accepted in
     let h = own_zones_there b o (λ count. from < count) m.there in
@@ -146,7 +144,7 @@ undone_move_zone b o from to s t =
 
 -- ---- set-target
 
-pub undone_set_target : (b : Parts) (o : Owner) (k target : ℕ) → IsSound b → IsTaken b (One (SetTarget o k target)) → IsUndone b (One (SetTarget o k target))
+pub undone_set_target : (b : Parts) (o : Owner) (k target : ℕ) → IsSound b → IsTaken b (SetTarget o k target) → IsUndone b (SetTarget o k target)
 undone_set_target b o k target s t =
     let g = goes_of_set_target b o k target t.accepted in
     let (zone, e) = zone_found b o k g.there in

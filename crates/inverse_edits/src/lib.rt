@@ -4,8 +4,8 @@
 ghost use Rattle.inverse_edits.specs.Undone.{UndoRestores};
 ghost use Rattle.inverse_edits.specs.Runs.{UndoRestoresAll};
 
-/// Where a bank is sound and takes an edit, the changed bank is sound, it takes the edit's inverse,
-/// which gives the bank back, and the inverse of that is the edit.
+/// Where a bank is sound and takes an edit, one step or a group of them, the changed bank is sound, it
+/// takes the edit's inverse, which gives the bank back, and the inverse of that is the edit.
 pub fn undo_restores()
     ensures { UndoRestores }
 {}

@@ -1,0 +1,17 @@
+-- Changes of a bank that can be taken back, whatever they are: steps, edits, or lists of them.
+use Rattle.std.specs.Prelude.{◌≡◌, List, [], ◌∷◌}
+use Rattle.bank_parts.specs.declared.parts.Parts.{Parts}
+use Rattle.bank_parts.specs.Sound.{IsSound}
+
+-- The changed bank is sound. It takes the inverse of x, which gives the bank back, and the inverse of
+-- that is x.
+pub record IsUndoneBy {X : Type 0} (change : Parts → X → Parts) (inverse : Parts → X → X) (Takes : Parts → X → Type 0) (b : Parts) (x : X) : Type 0 where
+  pub sound : IsSound (change b x)
+  pub taken : Takes (change b x) (inverse b x)
+  pub restored : change (change b x) (inverse b x) ≡ b
+  pub redone : inverse (change b x) (inverse b x) ≡ x
+
+-- each is taken in its turn
+abbrev pub AllTakenBy : {X : Type 0} → (Parts → X → Parts) → (Parts → X → Type 0) → Parts → List X → Type 0
+AllTakenBy change Takes b [] = Unit {0}
+AllTakenBy change Takes b (x ∷ xs) = Takes b x × AllTakenBy change Takes (change b x) xs
