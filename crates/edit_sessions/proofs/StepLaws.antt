@@ -2,22 +2,18 @@
 use Rattle.std.proofs.Common.{◌≡◌, List, [], ◌∷◌, reverse, refl, sym, subst, ◌∙◌, ap, arith, OnOk, IfErr}
 use Rattle.std.specs.Prelude.{Result, Ok, Err}
 use Rattle.std.proofs.lemmas.Grind.{common_steps}
-use Rattle.sf_base.specs.declared.memory.Failure.{Failure}
-use Rattle.sf_base.specs.declared.memory.Failure.TheVariants as failure
 use Rattle.bank_parts.specs.declared.parts.Parts.{Parts}
 use Rattle.bank_parts.specs.Sound.{IsSound}
 use Rattle.edit_forms.specs.declared.edit.Edit.{Edit}
 use Rattle.edit_refusals.specs.declared.refusal.Refusal.{Refusal}
-use Rattle.edit_refusals.specs.declared.refusal.Refusal.TheVariants as refusal_of
+use Rattle.edit_refusals.specs.declared.refusal.Refusal.TheVariants.{Of, OutOfMemory, NothingToUndo, NothingToRedo, GroupRefused}
 use Rattle.edit_refusals.specs.Edits.{raw}
 use Rattle.bank_edits.specs.EditChanges.{inverse}
 use Rattle.inverse_edits.specs.Undone.{IsUndone}
 use Rattle.inverse_edits.specs.Runs.{AllTaken}
 use Rattle.inverse_edits.proofs.Law.{undone}
-use Rattle.edit_sessions.specs.declared.fault.SessionFault.{SessionFault}
-use Rattle.edit_sessions.specs.declared.fault.SessionFault.TheVariants.{NothingToUndo, NothingToRedo}
 use Rattle.edit_sessions.specs.Steps.{IsStep, IsDoneStep, IsDoneEdit, IsWhy}
-use Rattle.edit_sessions.specs.Histories.{history_of, IsForth, IsRedoFailure, IsEdited, IsRefusalNow}
+use Rattle.edit_sessions.specs.Histories.{history_of, IsForth, IsUndoFailure, IsRedoFailure, IsEdited, IsRefusalNow}
 use Rattle.edit_sessions.proofs.ListLaws.{reverse_push}
 use Rattle.edit_sessions.proofs.HistoryLaws.{forth, edit_done, bank_total, stands}
 
@@ -44,17 +40,16 @@ module _ (old new : Parts) (f f' t t' : List Edit) (s : IsSound old) (from : All
       let taken : AllTaken old (d.edit ∷ reverse f') = subst (AllTaken old) from_is from in
       record { from_is = from_is; to_is = ap reverse d.back ∙ reverse_push t (inverse old d.edit); rest = taken.1; undone_is = undone old d.edit s taken.0 }
 
-  pub step_keeps : (at_end : SessionFault) (r : Result (Unit {0}) (Failure SessionFault)) → IsStep old new f f' t t' at_end r → AllTaken old (reverse t)
+  pub step_keeps : (at_end : Refusal) (r : Result (Unit {0}) Refusal) → IsStep old new f f' t t' at_end r → AllTaken old (reverse t)
       → Keeps new (reverse f') (reverse t')
   step_keeps at_end (Ok u) d to =
       let h = done d in
       let there : Keeps (raw old d.edit) (reverse f') (inverse old d.edit ∷ reverse t)
       = record { sound = h.undone_is.sound; back = h.rest; forth = taken_back old d.edit (reverse t) h.undone_is to } in
       subst (λ (b : Parts). Keeps b (reverse f') (reverse t')) (sym d.changed) (subst (Keeps (raw old d.edit) (reverse f')) (sym h.to_is) there)
-  step_keeps at_end (Err (failure.Fault x)) d to = rw (d.0.bank, d.0.from, d.0.to) (record { sound = s; back = from; forth = to })
-  step_keeps at_end (Err failure.OutOfMemory) d to = rw (d.0.bank, d.0.from, d.0.to) (record { sound = s; back = from; forth = to })
+  step_keeps at_end (Err why) d to = rw (d.0.bank, d.0.from, d.0.to) (record { sound = s; back = from; forth = to })
 
-  pub step_back : (at_end : SessionFault) (r : Result (Unit {0}) (Failure SessionFault)) → IsStep old new f f' t t' at_end r
+  pub step_back : (at_end : Refusal) (r : Result (Unit {0}) Refusal) → IsStep old new f f' t t' at_end r
       → OnOk r (IsForth (history_of new (reverse f') (reverse t')) (history_of old (reverse f) (reverse t)))
   step_back at_end (Ok u) d =
       let h = done d in
@@ -62,7 +57,7 @@ module _ (old new : Parts) (f f' t t' : List Edit) (s : IsSound old) (from : All
       rw (h.from_is, h.to_is, d.changed) there
   step_back at_end (Err x) d = tt
 
-  pub step_forth : (at_end : SessionFault) (r : Result (Unit {0}) (Failure SessionFault)) → IsStep old new f f' t t' at_end r
+  pub step_forth : (at_end : Refusal) (r : Result (Unit {0}) Refusal) → IsStep old new f f' t t' at_end r
       → OnOk r (IsForth (history_of old (reverse t) (reverse f)) (history_of new (reverse t') (reverse f')))
   step_forth at_end (Ok u) d =
       let h = done d in
@@ -70,12 +65,17 @@ module _ (old new : Parts) (f f' t t' : List Edit) (s : IsSound old) (from : All
       rw (h.from_is, h.to_is, d.changed) there
   step_forth at_end (Err x) d = tt
 
-pub redo_failure : (old new : Parts) (f f' t t' : List Edit) (r : Result (Unit {0}) (Failure SessionFault)) → IsStep old new f f' t t' NothingToRedo r
+pub redo_failure : (old new : Parts) (f f' t t' : List Edit) (r : Result (Unit {0}) Refusal) → IsStep old new f f' t t' NothingToRedo r
     → IfErr r (IsRedoFailure (history_of old (reverse t) (reverse f)))
 redo_failure old new f f' t t' (Ok u) d = tt
-redo_failure old new f f' t t' (Err (failure.Fault NothingToRedo)) d = grind (arith, common_steps, d.1, bank_total old (reverse t) (reverse f))
-redo_failure old new f f' t t' (Err (failure.Fault NothingToUndo)) d = (let h : NothingToUndo ≡ NothingToRedo = d.2 in absurd cc)
-redo_failure old new f f' t t' (Err failure.OutOfMemory) d = grind (arith, common_steps, d.1, bank_total old (reverse t) (reverse f))
+redo_failure old new [] f' t t' (Err why) d = rw d.1 (grind (arith, common_steps, bank_total old (reverse t) []))
+redo_failure old new (e ∷ f) f' t t' (Err why) d = rw d.1 (grind (arith, common_steps, bank_total old (reverse t) (reverse (e ∷ f))))
+
+pub undo_failure : (old new : Parts) (f f' t t' : List Edit) (r : Result (Unit {0}) Refusal) → IsStep old new f f' t t' NothingToUndo r
+    → IfErr r (IsUndoFailure (history_of old (reverse f) (reverse t)))
+undo_failure old new f f' t t' (Ok u) d = tt
+undo_failure old new [] f' t t' (Err why) d = rw d.1 refl
+undo_failure old new (e ∷ f) f' t t' (Err why) d = rw d.1 (grind (arith, common_steps))
 
 module _ (old new : Parts) (was now : List Edit) (e : Edit) (d : IsDoneEdit old new was now e) (s : IsSound old) where
   last : reverse now ≡ inverse old e ∷ reverse was
@@ -95,5 +95,8 @@ module _ (old new : Parts) (was now : List Edit) (e : Edit) (d : IsDoneEdit old 
       record { bank = old; here = stands old (reverse was) next; accepted = d.accepted; changed = rw (last, d.changed) there }
 
 pub why_refused : (b : Parts) (undos next : List Edit) (e : Edit) (why : Refusal) → IsWhy b e why → IsRefusalNow (history_of b undos next) e why
-why_refused b undos next e (refusal_of.Of cause) w = rw (stands b undos next) w
-why_refused b undos next e refusal_of.OutOfMemory w = tt
+why_refused b undos next e OutOfMemory w = tt
+why_refused b undos next e (Of cause) w = rw (stands b undos next) w
+why_refused b undos next e NothingToUndo w = rw (stands b undos next) w
+why_refused b undos next e NothingToRedo w = rw (stands b undos next) w
+why_refused b undos next e (GroupRefused place cause) w = rw (stands b undos next) w

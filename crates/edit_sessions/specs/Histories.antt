@@ -1,17 +1,13 @@
 -- What a session is: a list of banks, the edit between each two neighbours, and a place in the list.
 use Rattle.std.specs.Prelude.{◌≡◌, ℕ, ◌<◌, ◌+◌, Option, Some, None, List, [], ◌∷◌, ◌++◌, length, map, take, zip, slice_get, option_and_then}
-use Rattle.sf_base.specs.declared.memory.Failure.{Failure}
-use Rattle.sf_base.specs.declared.memory.Failure.TheVariants as failure
 use Rattle.bank_parts.specs.declared.parts.Parts.{Parts}
 use Rattle.edit_forms.specs.declared.edit.Edit.{Edit}
 use Rattle.edit_refusals.specs.declared.refusal.Refusal.{Refusal}
-use Rattle.edit_refusals.specs.declared.refusal.Refusal.TheVariants as refusal_of
+use Rattle.edit_refusals.specs.declared.refusal.Refusal.TheVariants.{OutOfMemory, NothingToUndo, NothingToRedo}
 use Rattle.edit_refusals.specs.Edits.{raw, refusal}
 use Rattle.bank_edits.specs.EditChanges.{inverse}
 use Rattle.inverse_edits.specs.Undone.{IsTaken}
 use Rattle.inverse_edits.specs.Runs.{undo_list}
-use Rattle.edit_sessions.specs.declared.fault.SessionFault.{SessionFault}
-use Rattle.edit_sessions.specs.declared.fault.SessionFault.TheVariants.{NothingToUndo, NothingToRedo}
 
 pub record History : Type 0 where
   pub banks : List Parts
@@ -55,10 +51,10 @@ pub record IsEdited (old new : History) (e : Edit) : Type 0 where
   pub accepted : refusal bank e ≡ None
   pub changed : new ≡ edited old e (raw bank e)
 
--- a cause is the one for which the bank at the place refuses the edit; memory may be wanting in any case
+-- why the bank at the place refuses the edit; memory may be wanting in any case
 abbrev pub IsRefusalNow : History → Edit → Refusal → Type 0
-IsRefusalNow h e (refusal_of.Of cause) = option_and_then (λ (b : Parts). refusal b e) (bank_now h) ≡ Some cause
-IsRefusalNow h e refusal_of.OutOfMemory = Unit {0}
+IsRefusalNow h e OutOfMemory = Unit {0}
+IsRefusalNow h e why = option_and_then (λ (b : Parts). refusal b e) (bank_now h) ≡ Some why
 
 -- one place forth, in the same lists; undo goes from new to old
 pub record IsForth (old new : History) : Type 0 where
@@ -66,16 +62,16 @@ pub record IsForth (old new : History) : Type 0 where
   pub moved : new ≡ record old { place = old.place + 1 }
 
 -- there is nothing to undo at the first place; memory is wanting only elsewhere
-abbrev pub IsUndoFailure : History → Failure SessionFault → Type 0
-IsUndoFailure h (failure.Fault NothingToUndo) = h.place ≡ 0
-IsUndoFailure h (failure.Fault NothingToRedo) = ⊥
-IsUndoFailure h failure.OutOfMemory = 0 < h.place
+abbrev pub IsUndoFailure : History → Refusal → Type 0
+IsUndoFailure h NothingToUndo = h.place ≡ 0
+IsUndoFailure h OutOfMemory = 0 < h.place
+IsUndoFailure h why = ⊥
 
 -- there is nothing to redo at the last place; memory is wanting only elsewhere
-abbrev pub IsRedoFailure : History → Failure SessionFault → Type 0
-IsRedoFailure h (failure.Fault NothingToRedo) = h.place + 1 ≡ length h.banks
-IsRedoFailure h (failure.Fault NothingToUndo) = ⊥
-IsRedoFailure h failure.OutOfMemory = h.place + 1 < length h.banks
+abbrev pub IsRedoFailure : History → Refusal → Type 0
+IsRedoFailure h NothingToRedo = h.place + 1 ≡ length h.banks
+IsRedoFailure h OutOfMemory = h.place + 1 < length h.banks
+IsRedoFailure h why = ⊥
 
 -- the inverses of the edits up to the place, each read on the bank before its edit, the oldest first
 abbrev pub way_back : History → List Edit

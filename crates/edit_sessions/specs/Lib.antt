@@ -1,7 +1,6 @@
 pub use Rattle.bank_parts.specs.Sound
-pub use Rattle.bank_edits.specs.Edits
+pub use Rattle.edit_refusals.specs.Edits
 pub use Rattle.inverse_edits.specs.Undone
 pub use Rattle.inverse_edits.specs.Runs
-pub mod FaultNames
 pub mod Histories
 pub mod Steps

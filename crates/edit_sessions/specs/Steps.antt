@@ -1,15 +1,12 @@
 -- One step of a session, over its bank and its lists of edits.
-use Rattle.std.specs.Prelude.{◌≡◌, ◌<◌, None, Some, List, [], ◌∷◌, ◌++◌, length, Result, Ok, Err}
-use Rattle.sf_base.specs.declared.memory.Failure.{Failure}
-use Rattle.sf_base.specs.declared.memory.Failure.TheVariants as failure
+use Rattle.std.specs.Prelude.{◌≡◌, None, Some, List, [], ◌∷◌, ◌++◌, Result, Ok, Err}
 use Rattle.bank_parts.specs.declared.parts.Parts.{Parts}
 use Rattle.edit_forms.specs.declared.edit.Edit.{Edit}
 use Rattle.edit_refusals.specs.declared.refusal.Refusal.{Refusal}
-use Rattle.edit_refusals.specs.declared.refusal.Refusal.TheVariants as refusal_of
+use Rattle.edit_refusals.specs.declared.refusal.Refusal.TheVariants.{OutOfMemory}
 use Rattle.edit_forms.specs.Fits.{FitsEdit}
 use Rattle.edit_refusals.specs.Edits.{raw, refusal}
 use Rattle.bank_edits.specs.EditChanges.{inverse}
-use Rattle.edit_sessions.specs.declared.fault.SessionFault.{SessionFault}
 
 -- the bank takes the last edit of the list, if there is one
 abbrev pub TakesLast : Parts → List Edit → Type 0
@@ -27,11 +24,14 @@ pub record IsNoStep (old new : Parts) (old_from new_from old_to new_to : List Ed
   pub from : new_from ≡ old_from
   pub to : new_to ≡ old_to
 
--- there is no step exactly from an empty list, or else for want of memory
-abbrev pub IsStep : Parts → Parts → List Edit → List Edit → List Edit → List Edit → SessionFault → Result (Unit {0}) (Failure SessionFault) → Type 0
+-- why no step is done: an empty list is at its end, and of others only memory may be wanting
+abbrev pub why_not : List Edit → Refusal → Refusal
+why_not [] at_end = at_end
+why_not (e ∷ edits) at_end = OutOfMemory
+
+abbrev pub IsStep : Parts → Parts → List Edit → List Edit → List Edit → List Edit → Refusal → Result (Unit {0}) Refusal → Type 0
 IsStep old new f f' t t' at_end (Ok done) = IsDoneStep old new f f' t t'
-IsStep old new f f' t t' at_end (Err (failure.Fault fault)) = IsNoStep old new f f' t t' × (f ≡ []) × (fault ≡ at_end)
-IsStep old new f f' t t' at_end (Err failure.OutOfMemory) = IsNoStep old new f f' t t' × (0 < length f)
+IsStep old new f f' t t' at_end (Err why) = IsNoStep old new f f' t t' × (why ≡ why_not f at_end)
 
 -- the edit was done, and what takes it back stands behind the list
 pub record IsDoneEdit (old new : Parts) (was now : List Edit) (e : Edit) : Type 0 where
@@ -41,8 +41,8 @@ pub record IsDoneEdit (old new : Parts) (was now : List Edit) (e : Edit) : Type 
   pub back : now ≡ was ++ inverse old e ∷ []
 
 abbrev pub IsWhy : Parts → Edit → Refusal → Type 0
-IsWhy b e (refusal_of.Of cause) = refusal b e ≡ Some cause
-IsWhy b e refusal_of.OutOfMemory = Unit {0}
+IsWhy b e OutOfMemory = Unit {0}
+IsWhy b e why = refusal b e ≡ Some why
 
 pub record IsNoEdit (old new : Parts) (was now : List Edit) (e : Edit) (why : Refusal) (given : Edit) : Type 0 where
   pub named : IsWhy old e why

@@ -2,11 +2,10 @@
 ghost use Rattle.std.specs.Prelude.{◌≡◌, Some, IfErr, OnOk, OnErr};
 ghost use Rattle.edit_sessions.specs.Histories.{IsHistory, bank_now, begun, IsEdited, IsRefusalNow, IsForth, IsUndoFailure, IsRedoFailure, way_back};
 
-use crate::fault::SessionFault;
 use crate::step::{do_edit, do_last};
 use bank_core::Bank;
-use bank_edits::{Edit, Refusal};
-use sf_base::Failure;
+use edit_forms::Edit;
+use edit_refusals::Refusal;
 use std::alloc::Global;
 use std::marker::Model;
 
@@ -59,8 +58,9 @@ impl<'a> Session<'a> {
         &self.bank
     }
 
-    /// Does an edit, after which nothing is there to redo. Or refuses it by the first cause that stands,
-    /// or for want of memory, hands it back, and changes nothing: what was there to redo is there still.
+    /// Does an edit, after which nothing is there to redo. Or refuses it as the bank at the place does (one
+    /// step by the first cause that stands, a group by its first step that is refused) or, in any case, for
+    /// want of memory, hands it back, and changes nothing: what was there to redo is there still.
     pub fn edit(&mut self, alloc: Global, edit: Edit<'a>) -> Result<(), (Refusal, Edit<'a>)>
         ensures done { OnOk result (IsEdited self.old self.new edit.entry) }
         ensures unchanged { OnErr result (self.new ≡ self.old) }
@@ -78,7 +78,7 @@ impl<'a> Session<'a> {
 
     /// Goes one bank back. It answers `NothingToUndo` at the first bank, whatever memory there is, and
     /// else only want of memory; then nothing was changed.
-    pub fn undo(&mut self, alloc: Global) -> Result<(), Failure<SessionFault>>
+    pub fn undo(&mut self, alloc: Global) -> Result<(), Refusal>
         ensures done { OnOk result (IsForth self.new self.old) }
         ensures unchanged { OnErr result (self.new ≡ self.old) }
         ensures failure { IfErr result (IsUndoFailure self.old) }
@@ -88,13 +88,13 @@ impl<'a> Session<'a> {
             &mut self.bank,
             &mut self.undo,
             &mut self.redo,
-            SessionFault::NothingToUndo,
+            Refusal::NothingToUndo,
         )
     }
 
     /// Goes one bank forth. It answers `NothingToRedo` at the last bank, whatever memory there is, and
     /// else only want of memory; then nothing was changed.
-    pub fn redo(&mut self, alloc: Global) -> Result<(), Failure<SessionFault>>
+    pub fn redo(&mut self, alloc: Global) -> Result<(), Refusal>
         ensures done { OnOk result (IsForth self.old self.new) }
         ensures unchanged { OnErr result (self.new ≡ self.old) }
         ensures failure { IfErr result (IsRedoFailure self.old) }
@@ -104,7 +104,7 @@ impl<'a> Session<'a> {
             &mut self.bank,
             &mut self.redo,
             &mut self.undo,
-            SessionFault::NothingToRedo,
+            Refusal::NothingToRedo,
         )
     }
 

@@ -2,30 +2,30 @@
 ghost use Rattle.std.specs.Prelude.{◌≡◌, ◌<◌, ◌++◌, ◌∷◌, [], vec_len, vec_capacity};
 ghost use Rattle.edit_sessions.specs.Steps.{IsStep, TakesLast, IsEdit};
 
-use crate::fault::SessionFault;
 use bank_core::Bank;
-use bank_edits::{Edit, Refusal, apply};
-use sf_base::Failure;
+use bank_edits::apply;
+use edit_forms::Edit;
+use edit_refusals::Refusal;
 use std::alloc::Global;
 
 /// Does the last edit of a list, which the bank takes, and puts the edit that takes it back behind
-/// the other list. An empty list is the fault given, whatever memory there is.
+/// the other list. Of an empty list the refusal given is answered, whatever memory there is.
 pub(crate) fn do_last<'a>(
     alloc: Global,
     bank: &mut Bank<'a>,
     from: &mut Vec<Edit<'a>>,
     to: &mut Vec<Edit<'a>>,
-    at_end: SessionFault,
-) -> Result<(), Failure<SessionFault>>
+    at_end: Refusal,
+) -> Result<(), Refusal>
     requires { TakesLast bank.old from.old.items }
     ensures { IsStep bank.old bank.new from.old.items from.new.items to.old.items to.new.items at_end result }
 {
     let Some(edit) = from.pop() else {
-        return Err(Failure::Fault(at_end));
+        return Err(at_end);
     };
     if to.try_reserve(1).is_err() {
         push_reserved(from, edit);
-        return Err(Failure::OutOfMemory);
+        return Err(Refusal::OutOfMemory);
     }
     match apply(alloc, bank, edit) {
         Ok(back) => {
@@ -34,7 +34,7 @@ pub(crate) fn do_last<'a>(
         }
         Err((_, given)) => {
             push_reserved(from, given);
-            Err(Failure::OutOfMemory)
+            Err(Refusal::OutOfMemory)
         }
     }
 }

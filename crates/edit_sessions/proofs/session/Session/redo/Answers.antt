@@ -1,4 +1,4 @@
-use Rattle.edit_sessions.specs.declared.fault.SessionFault.TheVariants.{NothingToRedo}
+use Rattle.edit_refusals.specs.declared.refusal.Refusal.TheVariants.{NothingToRedo}
 use Rattle.edit_sessions.proofs.StepLaws.{step_keeps, step_forth, redo_failure}
 use Rattle.edit_sessions.proofs.session.Session.redo.Goals as goal
 

@@ -1,5 +1,5 @@
-use Rattle.edit_sessions.specs.declared.fault.SessionFault.TheVariants.{NothingToUndo}
-use Rattle.edit_sessions.proofs.StepLaws.{step_keeps, step_back}
+use Rattle.edit_refusals.specs.declared.refusal.Refusal.TheVariants.{NothingToUndo}
+use Rattle.edit_sessions.proofs.StepLaws.{step_keeps, step_back, undo_failure}
 use Rattle.edit_sessions.proofs.session.Session.undo.Goals as goal
 
 pub invariant_of-self : goal.invariant_of-self
@@ -11,3 +11,8 @@ pub returns-clause-done : goal.returns-clause-done
 returns-clause-done c =
     rw (← c.self.view_is)
     (step_back c.self.inside.bank c.do_last.new.bank c.self.inside.undo.items c.do_last.new.from.items c.self.inside.redo.items c.do_last.new.to.items c.self.invariant.0 c.self.invariant.1 NothingToUndo c.do_last.result c.do_last.ensures)
+
+pub returns-clause-failure : goal.returns-clause-failure
+returns-clause-failure c =
+    rw (← c.self.view_is)
+    (undo_failure c.self.inside.bank c.do_last.new.bank c.self.inside.undo.items c.do_last.new.from.items c.self.inside.redo.items c.do_last.new.to.items c.do_last.result c.do_last.ensures)
