@@ -16,3 +16,4 @@ pub use Rattle.edit_refusals.specs.Edits
 pub use Rattle.edit_refusals.specs.Answers
 pub mod StepChanges
 pub mod EditChanges
+pub mod GroupChanges

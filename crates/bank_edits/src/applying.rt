@@ -29,5 +29,16 @@ pub fn apply<'a>(
     ensures fits { FitsEdit edit.entry }
     ensures back_fits { IfOk result FitsEdit }
 {
-    // TODO(groups): One by apply_step, Group by apply_group.
+    // The laws are called for what they say of the bank and of both edits.
+    edit.fits();
+    let _before = bank.samples();
+    let outcome = match edit {
+        Edit::One(step) => apply_step(alloc, bank, step),
+        Edit::Group(steps) => apply_group(alloc, bank, steps),
+    };
+    let _after = bank.samples();
+    if let Ok(back) = &outcome {
+        back.fits();
+    }
+    outcome
 }

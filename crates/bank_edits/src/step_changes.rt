@@ -1,8 +1,11 @@
-//! What a step does: the change of its form.
-ghost use Rattle.std.specs.Prelude.{◌≡◌, None, IsOk};
+//! One step: refused, or done by the change of its form.
+ghost use Rattle.std.specs.Prelude.{◌≡◌, None, MatchResult, IsOk};
 ghost use Rattle.bank_parts.specs.Sound.{IsSound};
+ghost use Rattle.edit_forms.specs.declared.edit.Edit.TheVariants as edits;
 ghost use Rattle.edit_refusals.specs.Steps.{refusal};
+ghost use Rattle.edit_refusals.specs.Edits.{refusal as edit_refusal};
 ghost use Rattle.bank_edits.specs.StepChanges.{GrowsNothing, IsStepChange};
+ghost use Rattle.bank_edits.specs.EditChanges.{IsDone, IsRefused};
 
 use crate::instruments::{add_instrument, move_instrument, remove_instrument, rename_instrument};
 use crate::modulator_forms::{add_mod, remove_mod, set_mod};
@@ -14,8 +17,29 @@ use crate::splits::{join_zone, split_zone};
 use crate::texts::set_info;
 use crate::zones::{add_zone, move_zone, remove_zone, set_target};
 use bank_core::Bank;
-use edit_forms::Step;
+use edit_forms::{Edit, Step};
+use edit_refusals::{Refusal, refuse};
 use std::alloc::Global;
+
+/// Does the step and answers the one that takes it back. Or refuses it by the first cause that stands,
+/// or for want of memory, hands it back, and changes nothing.
+pub(crate) fn apply_step<'a>(
+    alloc: Global,
+    bank: &mut Bank<'a>,
+    step: Step<'a>,
+) -> Result<Edit<'a>, (Refusal, Edit<'a>)>
+    ensures outcome { MatchResult result (λ back. IsDone bank.old bank.new (edits.One step.entry) back)
+        (λ refused. IsRefused bank.old bank.new (edits.One step.entry) refused.0 refused.1) }
+    ensures no_memory { GrowsNothing step.entry → edit_refusal bank.old (edits.One step.entry) ≡ None → IsOk result }
+{
+    if let Err(cause) = refuse(bank, &step) {
+        return Err((Refusal::Of(cause), Edit::One(step)));
+    }
+    match change_step(alloc, bank, step) {
+        Ok(back) => Ok(Edit::One(back)),
+        Err(given) => Err((Refusal::OutOfMemory, Edit::One(given))),
+    }
+}
 
 /// Does the step and answers the one that takes it back, or hands it back for want of memory.
 pub(crate) fn change_step<'a>(

@@ -1,0 +1,23 @@
+-- What one step of a group answers.
+use Rattle.std.specs.Prelude.{◌≡◌, ℕ, None, Some}
+use Rattle.bank_parts.specs.declared.parts.Parts.{Parts}
+use Rattle.edit_forms.specs.declared.step.Step.{Step}
+use Rattle.edit_refusals.specs.declared.cause.Cause.{Cause}
+use Rattle.edit_refusals.specs.declared.refusal.Refusal.{Refusal}
+use Rattle.edit_refusals.specs.declared.refusal.Refusal.TheVariants.{Of, OutOfMemory, NothingToUndo, NothingToRedo, GroupRefused}
+use Rattle.edit_refusals.specs.Steps.{raw, refusal}
+use Rattle.bank_edits.specs.StepChanges.{inverse}
+
+-- the step was done, and `back` takes it back
+pub record IsStepDone (old new : Parts) (s back : Step) : Type 0 where
+  pub accepted : refusal old s ≡ None
+  pub changed : new ≡ raw old s
+  pub taken_back : back ≡ inverse old s
+
+-- step `n` of its group was refused by its cause, or no memory was there
+abbrev pub StepStops : Parts → ℕ → Step → Refusal → Type 0
+StepStops b n s OutOfMemory = Unit {0}
+StepStops b n s (GroupRefused place cause) = (place ≡ n) × (refusal b s ≡ Some cause)
+StepStops b n s (Of cause) = ⊥
+StepStops b n s NothingToUndo = ⊥
+StepStops b n s NothingToRedo = ⊥

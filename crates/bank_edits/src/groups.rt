@@ -1,0 +1,77 @@
+//! What a group does: its steps in their order, all of them or none.
+ghost use Rattle.std.specs.Prelude.{MatchResult};
+ghost use Rattle.edit_forms.specs.declared.edit.Edit.TheVariants as edits;
+ghost use Rattle.bank_edits.specs.EditChanges.{IsDone, IsRefused, IsWhy};
+ghost use Rattle.bank_edits.specs.GroupChanges.{IsStepDone, StepStops};
+
+use crate::step_changes::change_step;
+use bank_core::Bank;
+use edit_forms::{Edit, Step};
+use edit_refusals::{Refusal, refuse};
+use numbered_lists::NumberedList;
+use std::alloc::Global;
+
+/// Does the steps on a copy of the bank, which takes its place at the end. Where a step is refused, or
+/// memory is wanting, the copy is dropped.
+pub(crate) fn apply_group<'a>(
+    alloc: Global,
+    bank: &mut Bank<'a>,
+    steps: NumberedList<Step<'a>>,
+) -> Result<Edit<'a>, (Refusal, Edit<'a>)>
+    ensures { MatchResult result (λ back. IsDone bank.old bank.new (edits.Group steps.entry) back)
+        (λ refused. IsRefused bank.old bank.new (edits.Group steps.entry) refused.0 refused.1) }
+{
+    let Ok(mut copy) = bank.copy(alloc) else {
+        return Err((Refusal::OutOfMemory, Edit::Group(steps)));
+    };
+    match change_all(alloc, &mut copy, steps.as_slice()) {
+        Ok(inverses) => {
+            *bank = copy;
+            Ok(Edit::Group(inverses))
+        }
+        Err(why) => Err((why, Edit::Group(steps))),
+    }
+}
+
+// Does the steps in their order, and gives those that take them back, the last one's first.
+fn change_all<'a>(
+    alloc: Global,
+    bank: &mut Bank<'a>,
+    steps: &[Step<'a>],
+) -> Result<NumberedList<Step<'a>>, Refusal>
+    ensures { MatchResult result (λ inverses. IsDone bank.old bank.new (edits.Group steps.now) (edits.Group inverses))
+        (λ why. IsWhy bank.old (edits.Group steps.now) why) }
+{
+    let Ok(mut inverses) = Vec::with_capacity(alloc, steps.len()) else {
+        return Err(Refusal::OutOfMemory);
+    };
+    for (place, step) in steps.iter().enumerate() {
+        let inverse = change_by_copy(alloc, bank, place, step)?;
+        if inverses.push(inverse).is_err() {
+            return Err(Refusal::OutOfMemory);
+        }
+    }
+    inverses.as_mut_slice().reverse();
+    Ok(NumberedList::from_vec(inverses))
+}
+
+// Does a copy of the step, which is the group's number `place`, and gives the one that takes it back.
+fn change_by_copy<'a>(
+    alloc: Global,
+    bank: &mut Bank<'a>,
+    place: usize,
+    step: &Step<'a>,
+) -> Result<Step<'a>, Refusal>
+    ensures { MatchResult result (λ back. IsStepDone bank.old bank.new step.now back) (λ why. StepStops bank.old place step.now why) }
+{
+    if let Err(cause) = refuse(bank, step) {
+        return Err(Refusal::GroupRefused(place, cause));
+    }
+    let Ok(copy) = step.copy(alloc) else {
+        return Err(Refusal::OutOfMemory);
+    };
+    match change_step(alloc, bank, copy) {
+        Ok(back) => Ok(back),
+        Err(_given) => Err(Refusal::OutOfMemory),
+    }
+}
