@@ -136,7 +136,14 @@ pub(crate) fn edit_and_return(alloc: Global, script: &[u8], back: &[u8]) -> Outc
     there.and(returned).and(Outcome::done(right))
 }
 
-fn edited(alloc: Global, file: &[u8], script: &[u8], out: &mut Fixed, undo: &mut Fixed) -> Outcome {
+// Runs a script. Want of memory leaves no byte at either writer, and the run is made again.
+pub(crate) fn edited(
+    alloc: Global,
+    file: &[u8],
+    script: &[u8],
+    out: &mut Fixed,
+    undo: &mut Fixed,
+) -> Outcome {
     match edit_run(alloc, file, script, out, undo) {
         Ok(()) => Outcome::Done,
         Err(RunFault::Memory) if out.len == 0 && undo.len == 0 => {
@@ -195,14 +202,21 @@ fn is_wave(out: &Fixed) -> bool {
     out.len == 52 && out.held[..].starts_with(b"RIFF\x2c\0\0\0WAVE".as_slice())
 }
 
-/// Reads the bank and copies it. A refused read, or copy, is made again.
-pub(crate) fn bank_copy(alloc: Global) -> Outcome {
-    let (bank, outcome) = match read(alloc, BANK) {
-        Ok((bank, _counts)) => (bank, Outcome::Done),
-        Err(_) => match read(alloc, BANK) {
-            Ok((bank, _counts)) => (bank, Outcome::Refused),
-            Err(_) => return Outcome::Wrong,
+/// Reads a file's bank. A refused read is made again.
+pub(crate) fn bank_of(alloc: Global, file: &[u8]) -> Option<(Bank<'_>, Outcome)> {
+    match read(alloc, file) {
+        Ok((bank, _counts)) => Some((bank, Outcome::Done)),
+        Err(_) => match read(alloc, file) {
+            Ok((bank, _counts)) => Some((bank, Outcome::Refused)),
+            Err(_) => None,
         },
+    }
+}
+
+/// Reads the bank and copies it. A refused copy is made again.
+pub(crate) fn bank_copy(alloc: Global) -> Outcome {
+    let Some((bank, outcome)) = bank_of(alloc, BANK) else {
+        return Outcome::Wrong;
     };
     if let Ok(copy) = bank.copy(alloc) {
         return outcome.and(Outcome::done(writes_bank(&bank) && writes_bank(&copy)));
@@ -214,6 +228,12 @@ pub(crate) fn bank_copy(alloc: Global) -> Outcome {
 }
 
 fn writes_bank(bank: &Bank<'_>) -> bool {
+    file_of(bank).has(BANK)
+}
+
+/// The file of a bank.
+pub(crate) fn file_of(bank: &Bank<'_>) -> Fixed {
     let mut out = fixed_writer();
-    write(bank, &mut out).is_ok() && out.has(BANK)
+    let _ = write(bank, &mut out);
+    out
 }

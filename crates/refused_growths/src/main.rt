@@ -9,12 +9,14 @@
 mod banks;
 mod generator_maps;
 mod outcome;
+mod players;
 mod points;
 mod sessions;
 
 use crate::banks::{EDITS, bank_copy, canonical_run, edit_and_return, listing_run, playing_run};
 use crate::generator_maps::{generators_copy, generators_set};
 use crate::outcome::Outcome;
+use crate::players::player_walk;
 use crate::points::{points_copy, points_join, points_narrow};
 use crate::sessions::session_walk;
 use std::process::ExitCode;
@@ -32,6 +34,7 @@ fn main(rt: HostRuntime) -> ExitCode {
         playing_run(alloc),
         bank_copy(alloc),
         session_walk(alloc),
+        player_walk(alloc),
     ];
     let mut outcome = Outcome::Done;
     for case in cases {

@@ -1,5 +1,5 @@
 //! The calls of sessions that may want memory.
-use crate::banks::{BANK, Fixed, fixed_writer};
+use crate::banks::{BANK, Fixed, bank_of, file_of, fixed_writer};
 use crate::outcome::Outcome;
 use bank_core::Owner;
 use edit_forms::{Edit, Step};
@@ -8,8 +8,6 @@ use edit_script::print;
 use edit_sessions::Session;
 use numbered_lists::NumberedList;
 use sf_base::{Name20, OutOfMemory};
-use sf_reader::read;
-use sf_writer::write;
 use std::alloc::Global;
 
 #[derive(Clone, Copy)]
@@ -42,38 +40,28 @@ static CALLS: [(Call, bool, usize); 14] = [
 /// Makes fourteen calls of a session, of which the last gives the first bank back. For want of memory a call
 /// leaves the session as it was, and is made again.
 pub(crate) fn session_walk(alloc: Global) -> Outcome {
-    let (bank, mut outcome) = match read(alloc, BANK) {
-        Ok((bank, _counts)) => (bank, Outcome::Done),
-        Err(_) => match read(alloc, BANK) {
-            Ok((bank, _counts)) => (bank, Outcome::Refused),
-            Err(_) => return Outcome::Wrong,
-        },
+    let Some((bank, mut outcome)) = bank_of(alloc, BANK) else {
+        return Outcome::Wrong;
     };
     let mut session = Session::new(alloc, bank);
     for (call, done, undos) in CALLS {
         outcome = outcome.and(called(alloc, &mut session, call, done));
         outcome = outcome.and(Outcome::done(session.undo_list().len() == undos));
     }
-    outcome.and(Outcome::done(file_of(&session).has(BANK)))
+    outcome.and(Outcome::done(file_of(session.bank()).has(BANK)))
 }
 
 // Makes a call, and again where memory was wanting.
 fn called(alloc: Global, session: &mut Session<'_>, call: Call, done: bool) -> Outcome {
-    let (file, back) = (file_of(session), back_of(session));
+    let (file, back) = (file_of(session.bank()), back_of(session));
     match made(alloc, session, call) {
         Ok(was) => Outcome::done(was == done),
         Err(OutOfMemory) => {
-            let unchanged = file_of(session).has(file.text()) && back_of(session).has(back.text());
+            let unchanged = file_of(session.bank()).has(file.text())
+                && back_of(session).has(back.text());
             Outcome::refused(unchanged && made(alloc, session, call) == Ok(done))
         }
     }
-}
-
-// The file of its bank.
-fn file_of(session: &Session<'_>) -> Fixed {
-    let mut out = fixed_writer();
-    let _ = write(session.bank(), &mut out);
-    out
 }
 
 // The text of its undo list.

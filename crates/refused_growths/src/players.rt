@@ -1,0 +1,145 @@
+//! The calls of players that may want memory, with edits of the bank between them.
+use crate::banks::{BANK, bank_of, edited, file_of, fixed_writer};
+use crate::outcome::Outcome;
+use bank_core::{Bank, Owner, Place};
+use bank_edits::apply;
+use edit_forms::{Edit, Step};
+use edit_refusals::Refusal;
+use mixer::Player;
+use note_list::Note;
+use sample_view::Points;
+use std::alloc::Global;
+
+// Takes the bank for one whose instrument has two zones that play 1000 in a loop: one of an exclusive
+// class, on both sides, and one on the right.
+static SCRIPT: &[u8] = b"\
+    remove-preset 0\n\
+    remove-inst 0\n\
+    remove-sample 0\n\
+    add-sample 0 \"c\" 44100 60 0 mono loop 0 1 xe803\n\
+    add-inst 0 \"i\" { 0 g 54 1 g 57 1 } { 0 g 17 500 g 54 1 }\n\
+    add-preset 0 \"p\" 0 0 0 0 0 { 0 }\n";
+
+// The sample's point.
+static POINT: [u8; 2] = [0xe8, 0x03];
+
+#[derive(Clone, Copy)]
+enum Call {
+    Start,
+    // The first zone plays on the left.
+    Left,
+    // The sample has its point three times, each in a slice of its own.
+    Longer,
+    // The first zone is taken out.
+    Fewer,
+}
+
+// Calls, each with what is heard after it on the left and on the right. A start silences the first zone
+// of the note before it, as long as it has that zone itself.
+static CALLS: [(Call, i16, i16); 7] = [
+    (Call::Start, 500, 1500),
+    (Call::Left, 500, 1500),
+    (Call::Start, 1000, 2000),
+    (Call::Longer, 1000, 2000),
+    (Call::Start, 1000, 3000),
+    (Call::Fewer, 1000, 3000),
+    (Call::Start, 1000, 4000),
+];
+
+/// Starts notes and edits their bank in turn, and hears a block after each. For want of memory a call
+/// leaves the player and the bank as they were, and is made again.
+pub(crate) fn player_walk(alloc: Global) -> Outcome {
+    let mut file = fixed_writer();
+    let mut undo = fixed_writer();
+    let made = edited(alloc, BANK, SCRIPT, &mut file, &mut undo);
+    let Some((mut bank, read)) = bank_of(alloc, file.text()) else {
+        return Outcome::Wrong;
+    };
+    let mut outcome = made.and(read);
+    let mut player = Player::new(alloc);
+    let mut heard = (0, 0);
+    for (call, left, right) in CALLS {
+        outcome = outcome.and(called(alloc, &mut player, &mut bank, call, heard));
+        heard = (left, right);
+        outcome = outcome.and(Outcome::done(gives(&mut player, heard)));
+    }
+    outcome
+}
+
+// Makes a call, and again where memory was wanting; till then the player is heard as before.
+fn called<'a>(
+    alloc: Global,
+    player: &mut Player<'a>,
+    bank: &mut Bank<'a>,
+    call: Call,
+    heard: (i16, i16),
+) -> Outcome {
+    match step_of(alloc, call) {
+        None => started(alloc, player, bank, heard),
+        Some(step) => applied(alloc, player, bank, step, heard),
+    }
+}
+
+fn started<'a>(
+    alloc: Global,
+    player: &mut Player<'a>,
+    bank: &Bank<'a>,
+    heard: (i16, i16),
+) -> Outcome {
+    let Some(note) = Note::new(0, 1000, 0, 0, 60, 127) else {
+        return Outcome::Wrong;
+    };
+    match player.start(alloc, bank, &note) {
+        Ok(()) => Outcome::Done,
+        Err(_) => {
+            let unchanged = gives(player, heard);
+            Outcome::refused(unchanged && player.start(alloc, bank, &note).is_ok())
+        }
+    }
+}
+
+fn applied<'a>(
+    alloc: Global,
+    player: &mut Player<'a>,
+    bank: &mut Bank<'a>,
+    step: Step<'a>,
+    heard: (i16, i16),
+) -> Outcome {
+    let file = file_of(bank);
+    match apply(alloc, bank, Edit::One(step)) {
+        Ok(_) => Outcome::Done,
+        Err((Refusal::OutOfMemory, edit)) => {
+            let unchanged = gives(player, heard) && file_of(bank).has(file.text());
+            Outcome::refused(unchanged && apply(alloc, bank, edit).is_ok())
+        }
+        Err(_) => Outcome::Wrong,
+    }
+}
+
+// Whether the next four frames are all this one.
+fn gives(player: &mut Player<'_>, heard: (i16, i16)) -> bool {
+    let (left, right) = heard;
+    let mut out = [0; 8];
+    player.block(&mut out);
+    out == [left, right, left, right, left, right, left, right]
+}
+
+// What a call does to the bank; none for a start.
+fn step_of(alloc: Global, call: Call) -> Option<Step<'static>> {
+    let owner = Owner::Instrument(0);
+    match call {
+        Call::Start => None,
+        Call::Left => Some(Step::SetGen {
+            owner,
+            place: Place::Zone(0),
+            operator: 17,
+            amount: (-500i16).cast_unsigned(),
+        }),
+        Call::Longer => Some(Step::Extend {
+            sample: 0,
+            front: Points::of_slice(alloc, &POINT).ok()?,
+            back: Points::of_slice(alloc, &POINT).ok()?,
+        }),
+        Call::Fewer => Some(Step::RemoveZone { owner, zone: 0 }),
+    }
+}
