@@ -3,7 +3,7 @@ use crate::fault::Fault;
 use crate::input::read_file;
 use crate::output::OutputFile;
 use crate::words::CanonPaths;
-use sfbank::canon_run;
+use sfbank::{Which, canon_run};
 use std::rt::Files;
 
 /// Writes a bank in its one spelling. It is read whole first, so the output may be the input.
@@ -12,8 +12,9 @@ pub(crate) fn canon<'a, R: Files + AllocGlobal>(
     paths: CanonPaths<'a>,
 ) -> Result<(), Fault<'a>> {
     let file = read_file(rt, paths.input)?;
-    let mut out = OutputFile::new(rt, paths.out);
-    match canon_run(rt.alloc(), file.as_slice(), &mut out) {
+    let mut out = OutputFile::new(rt, paths.out)?;
+    let run = canon_run(rt.alloc(), file.as_slice(), &mut out);
+    match out.end(Which::Out, run) {
         Ok(()) => Ok(()),
         Err(fault) => Err(Fault::Run(fault, paths.out)),
     }

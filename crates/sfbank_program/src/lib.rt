@@ -10,6 +10,7 @@ mod input;
 mod output;
 mod play;
 mod program;
+mod replacement;
 mod show;
 mod telling;
 mod words;

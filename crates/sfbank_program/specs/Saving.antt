@@ -1,0 +1,24 @@
+-- How an output file is written and ends.
+use Rattle.std.specs.Prelude.{◌≡◌, ◌+◌, ◌-◌, ◌^◌, ℕ, Result, Ok, Err, min, ⊤, ◌⊎◌}
+use Rattle.sfbank.specs.declared.fault.RunFault.{RunFault}
+use Rattle.sfbank.specs.declared.fault.RunFault.TheVariants.{Write}
+use Rattle.sfbank.specs.declared.fault.Which.{Which}
+use Rattle.sfbank.specs.declared.fault.Which.TheVariants.{Out, Undo}
+
+-- What was taken before, and after a write: the bytes that it took more, up to what a count can hold.
+abbrev pub Counts : {E : Type 0} → Result ℕ E → ℕ → ℕ → Type 0
+Counts (Ok n) before after = after ≡ min (before + n) (2 ^ 64 - 1)
+Counts (Err error) before after = after ≡ before
+
+-- An output ends as its run ended. Of a run that is done its file may still not be put in place, which is
+-- a write fault after all that was written.
+abbrev pub EndsAs : {U : Type 0} → Which → ℕ → Result U RunFault → Result U RunFault → Type 0
+EndsAs which written (Err fault) result = result ≡ Err fault
+EndsAs which written (Ok u) (Ok v) = ⊤
+EndsAs which written (Ok u) (Err fault) = fault ≡ Write which written
+
+-- Both outputs end as their run ended, or one of them by such a write fault.
+abbrev pub BothEnd : {U : Type 0} → ℕ → ℕ → Result U RunFault → Result U RunFault → Type 0
+BothEnd out undo (Err fault) result = result ≡ Err fault
+BothEnd out undo (Ok u) (Ok v) = ⊤
+BothEnd out undo (Ok u) (Err fault) = (fault ≡ Write Undo undo) ⊎ (fault ≡ Write Out out)
