@@ -1,5 +1,5 @@
 -- What takes an edit back, and what `apply` answers of a change and of a refusal.
-use Rattle.std.specs.Prelude.{◌≡◌, Option, None, Some}
+use Rattle.std.specs.Prelude.{◌≡◌, None, Some}
 use Rattle.bank_parts.specs.declared.parts.Parts.{Parts}
 use Rattle.edit_forms.specs.declared.edit.Edit.{Edit}
 use Rattle.edit_forms.specs.declared.edit.Edit.TheVariants.{One, Group}

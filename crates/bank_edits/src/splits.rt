@@ -12,9 +12,9 @@ ghost use Rattle.bank_edits.specs.StepChanges.{IsStepChange};
 
 use bank_core::{Bank, Owner, Place};
 use edit_forms::Step;
-use generators::{Range, operators};
+use generators::Range;
 use std::alloc::Global;
-use zone_ranges::{Axis, Keep};
+use zone_ranges::{Axis, Keep, range_operator};
 
 // ---- split-zone
 
@@ -106,9 +106,5 @@ fn own_low(bank: &Bank<'_>, owner: Owner, zone: u32, axis: Axis) -> u8
 fn own_range(bank: &Bank<'_>, owner: Owner, zone: u32, axis: Axis) -> Option<u16>
     ensures { result ≡ amount_of bank.now owner (place.Zone zone) (range_operator axis) }
 {
-    let operator = match axis {
-        Axis::Key => operators::KEY_RANGE,
-        Axis::Velocity => operators::VEL_RANGE,
-    };
-    bank.gen_of(owner, Place::Zone(zone), operator)
+    bank.gen_of(owner, Place::Zone(zone), range_operator(axis))
 }
