@@ -1,9 +1,9 @@
 pub mod ScriptLaws
-pub mod NameLaws
+pub mod StepsLaws
 pub mod PutLaws
-pub mod FormSpellLaws
+pub mod GroupSpellLaws
 pub mod SpellLaws
-pub mod FormReadLaws
+pub mod GroupReadLaws
 pub mod ReadLaws
 pub mod LineLaws
 pub mod FitLaws

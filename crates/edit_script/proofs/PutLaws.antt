@@ -1,25 +1,26 @@
--- What is put piece by piece is a line.
-use Rattle.std.proofs.Common.{◌≡◌, subst, ℕ, List, [], ◌∷◌, Option, sym}
+-- What is put step by step stands on the line of a group.
+use Rattle.std.proofs.Common.{◌≡◌, ℕ, List, [], ◌∷◌, codes, Option, refl, sym, ap, ◌∙◌, ◌++◌}
+use Rattle.std.specs.List.{flat_map}
 use Rattle.outputs.specs.declared.output.Output.{Output}
 use Rattle.outputs.specs.Output.{Puts}
-use Rattle.bank_parts.specs.declared.parts.Sample.{Sample}
-use Rattle.bank_parts.specs.declared.parts.WithZones.{WithZones}
+use Rattle.outputs.proofs.OutputLaws.{puts_as}
 use Rattle.edit_forms.specs.declared.step.Step.{Step}
-use Rattle.line_tokens.specs.Printing.{line_text}
-use Rattle.script_grammar.specs.Operands.{Operand, pieces_of}
-use Rattle.script_grammar.specs.Zones.{written_operands, written_of}
-use Rattle.script_grammar.specs.Samples.{body_operands}
-use Rattle.script_grammar.proofs.PutLaws.{spaced_out, puts_both}
-use Rattle.edit_script.specs.Members.{place, printed_owner}
-use Rattle.edit_script.specs.Grammar.{form_word, form_of, operands}
+use Rattle.script_grammar.specs.Operands.{Fixed}
+use Rattle.script_grammar.proofs.PutLaws.{spaced_out, spaced_both, puts_both}
+use Rattle.step_script.specs.Grammar.{form_word, form_of, operands, step_operands}
+use Rattle.edit_script.specs.Grammar.{braced}
+
+abbrev pub braced_text : Step → List ℕ
+braced_text s = spaced_out (braced s)
+
+all_braced : (ss : List Step) → flat_map braced_text ss ≡ spaced_out (flat_map braced ss)
+all_braced [] = refl
+all_braced (s ∷ ss) = ap (λ (t : List ℕ). braced_text s ++ t) (all_braced ss) ∙ sym (spaced_both (braced s) (flat_map braced ss))
 
 module _ {W : Type 0} {c : W → Option (List ℕ)} where
-  pub puts_added : {o p q : Output W} (n : ℕ) (s : Sample) → Puts c o p (spaced_out (place n ∷ [])) → Puts c p q (spaced_out (body_operands s)) → Puts c o q (spaced_out (place n ∷ body_operands s))
-  puts_added n s h k = puts_both (place n ∷ []) (body_operands s) h k
+  pub puts_braced : {o p q r : Output W} (s : Step) → Puts c o p (spaced_out (Fixed (codes "{") ∷ Fixed (form_word (form_of s)) ∷ [])) → Puts c p q (spaced_out (operands s)) → Puts c q r (spaced_out (Fixed (codes "}") ∷ [])) → Puts c o r (braced_text s)
+  puts_braced s h k l =
+      puts_both (Fixed (codes "{") ∷ step_operands s) (Fixed (codes "}") ∷ []) (puts_both (Fixed (codes "{") ∷ Fixed (form_word (form_of s)) ∷ []) (operands s) h k) l
 
-  pub puts_owner : {o p q : Output W} {H : Type 0} (head : H → List Operand) (n : ℕ) (x : WithZones H) → Puts c o p (spaced_out (place n ∷ head x.head)) → Puts c p q (spaced_out (written_operands (written_of x.global x.zones))) → Puts c o q (spaced_out (printed_owner head n x))
-  puts_owner head n x h k = puts_both (place n ∷ head x.head) (written_operands (written_of x.global x.zones)) h k
-
-  -- the line of a step, by another name of the step
-  pub puts_same : {o p : Output W} (s t : Step) → s ≡ t → Puts c o p (line_text (form_word (form_of t)) (pieces_of (operands t))) → Puts c o p (line_text (form_word (form_of s)) (pieces_of (operands s)))
-  puts_same {o} {p} s t e h = subst (λ (u : Step). Puts c o p (line_text (form_word (form_of u)) (pieces_of (operands u)))) (sym e) h
+  pub puts_all_braced : {o p : Output W} (ss : List Step) → Puts c o p (flat_map braced_text ss) → Puts c o p (spaced_out (flat_map braced ss))
+  puts_all_braced ss h = puts_as (flat_map braced_text ss) (spaced_out (flat_map braced ss)) (all_braced ss) h

@@ -4,7 +4,6 @@ use Rattle.std.specs.List.{AllByRecursion}
 use Rattle.std.specs.Result.{result_and}
 use Rattle.std.proofs.lemmas.List.{append-nil}
 use Rattle.edit_forms.specs.declared.edit.Edit.{Edit}
-use Rattle.edit_forms.specs.declared.edit.Edit.TheVariants.{One}
 use Rattle.line_tokens.specs.declared.cursor.Said.{Said}
 use Rattle.line_tokens.specs.declared.fault.LineFault.{LineFault}
 use Rattle.line_tokens.specs.Lines.{lines_of}
@@ -18,21 +17,21 @@ use Rattle.line_tokens.proofs.GatherLaws.{gather_none, gather_on}
 use Rattle.line_tokens.proofs.ReadLaws.{AllGood, AllHoldBytes, lines_good, line_shown, tokens_bytes, both, ended_is}
 use Rattle.edit_script.specs.declared.parsing.Line.{Line}
 use Rattle.script_grammar.specs.Operands.{AllSay}
-use Rattle.edit_script.specs.Grammar.{step, edit}
+use Rattle.edit_script.specs.Grammar.{one_or_group, edit}
 use Rattle.edit_script.specs.Script.{edit_of, with_edit, edits_in, script_of}
 use Rattle.edit_script.specs.Spelling.{SaysEdit, LinesSay, Spells}
-use Rattle.edit_script.proofs.FormReadLaws.{step_said}
+use Rattle.edit_script.proofs.GroupReadLaws.{edit_said}
 
 edit_says : (line : List Said) (t : Took Edit) → AllHoldBytes line → edit line ≡ Ok t → SaysEdit line t.value
 unfolding edit
 edit_says line t h e =
-    let s = both (step line) (λ s. ended (One s)) t e in
-    let g = step_said line s.first h s.is in
-    let c = ended_is (One s.first.value) s.first.rest t s.second in
-    subst (SaysEdit line) {x = One s.first.value} c.1 (record {
-      operands = g.says.operands;
-      says = g.says.says;
-      tokens = subst (AllSay line) (append-nil g.operands ∙ g.says.parts) (g.fronts.says [] (subst (λ (r : List Said). AllSay r []) (sym c.0) tt));
+    let s = both (one_or_group line) (λ e. ended e) t e in
+    let g = edit_said line s.first h s.is in
+    let c = ended_is s.first.value s.first.rest t s.second in
+    subst (SaysEdit line) {x = s.first.value} c.1 (record {
+      operands = g.operands;
+      says = g.says;
+      tokens = subst (AllSay line) (append-nil g.operands) (g.fronts.says [] (subst (λ (r : List Said). AllSay r []) (sym c.0) tt));
     })
 
 -- ---- the lines

@@ -4,7 +4,7 @@ use Rattle.std.specs.Result.{result_and}
 use Rattle.std.specs.List.{AllByRecursion}
 use Rattle.std.proofs.lemmas.List.{append-nil}
 use Rattle.edit_forms.specs.declared.edit.Edit.{Edit}
-use Rattle.edit_forms.specs.declared.edit.Edit.TheVariants.{One}
+use Rattle.edit_forms.specs.declared.edit.Edit.TheVariants.{One, Group}
 use Rattle.line_tokens.specs.declared.cursor.Said.{Said}
 use Rattle.line_tokens.specs.Lines.{lines_of}
 use Rattle.line_tokens.specs.Said.{said_in, said_lines}
@@ -15,12 +15,12 @@ use Rattle.line_tokens.specs.Spelling.{SaysNothing, LineSays}
 use Rattle.line_tokens.proofs.SpellLaws.{Says, line_said, lines_grow}
 use Rattle.line_tokens.proofs.GatherLaws.{gather_on, gather_none}
 use Rattle.edit_script.specs.declared.parsing.Line.{Line}
-use Rattle.script_grammar.specs.Operands.{AllSay}
-use Rattle.edit_script.specs.Grammar.{edit}
+use Rattle.script_grammar.specs.Operands.{Operand, AllSay}
+use Rattle.edit_script.specs.Grammar.{SaysAll, edit}
 use Rattle.edit_script.specs.Script.{edit_of, with_edit, edits_in, script_of}
 use Rattle.edit_script.specs.Spelling.{SaysEdit, LinesSay, Spells}
 use Rattle.edit_script.proofs.ScriptLaws.{one_more, says_nothing}
-use Rattle.edit_script.proofs.FormSpellLaws.{gives_step}
+use Rattle.edit_script.proofs.GroupSpellLaws.{gives_edit}
 
 nothing_left : (line : List Said) → AllSay line [] → line ≡ []
 nothing_left [] h = refl
@@ -28,12 +28,17 @@ nothing_left (s ∷ line) h = absurd h
 
 pub edit_read : (said : List Said) (e : Edit) → SaysEdit said e → edit said ≡ Ok (record { value = e; rest = [] })
 unfolding edit ended
-edit_read said (One s) h =
-    let g = gives_step s said h in
-    ap (λ r. and_then r (λ s. ended (One s))) g.is ∙ ap (ended (One s)) (nothing_left g.rest g.says)
+edit_read said e h =
+    let g = gives_edit e h.operands h.says said h.tokens in
+    ap (λ r. and_then r (λ e. ended e)) g.is ∙ ap (ended e) (nothing_left g.rest g.says)
+
+-- every edit takes a token
+none_says : (e : Edit) (os : List Operand) → SaysAll e os → AllSay [] os → ⊥
+none_says (One s) os h k = subst (AllSay []) h.parts k
+none_says (Group ss) os h k = subst (AllSay []) h.parts k
 
 some_said : (e : Edit) → SaysEdit [] e → ⊥
-some_said (One s) h = h.tokens
+some_said e h = none_says e h.operands h.says h.tokens
 
 -- ---- lines
 

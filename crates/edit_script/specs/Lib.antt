@@ -1,12 +1,3 @@
-pub mod Members
-pub mod Presets
-pub mod Instruments
-pub mod Samples
-pub mod Points
-pub mod Owners
-pub mod Zones
-pub mod Settings
-pub mod Texts
 pub mod Grammar
 pub mod Script
 pub mod Printing

@@ -1,17 +1,19 @@
 -- The line that an edit is printed as.
-use Rattle.std.specs.Prelude.{ℕ, suc, List, [], ◌∷◌}
+use Rattle.std.specs.Prelude.{ℕ, suc, List, [], ◌∷◌, codes}
 use Rattle.std.specs.List.{flat_map, AllByRecursion}
 use Rattle.edit_forms.specs.declared.edit.Edit.{Edit}
-use Rattle.edit_forms.specs.declared.edit.Edit.TheVariants.{One}
+use Rattle.edit_forms.specs.declared.edit.Edit.TheVariants.{One, Group}
 use Rattle.edit_forms.specs.Fits.{FitsEdit}
 use Rattle.line_tokens.specs.Printing.{line_text}
 use Rattle.edit_script.specs.declared.parsing.Line.{Line}
 use Rattle.script_grammar.specs.Operands.{pieces_of}
-use Rattle.edit_script.specs.Grammar.{form_word, form_of, operands}
+use Rattle.step_script.specs.Grammar.{form_word, form_of, operands}
+use Rattle.edit_script.specs.Grammar.{braced}
 
 -- the line of an edit, with its line feed
 unfoldable pub text_of : Edit → List ℕ
 text_of (One step) = line_text (form_word (form_of step)) (pieces_of (operands step))
+text_of (Group steps) = line_text (codes "group") (pieces_of (flat_map braced steps))
 
 -- ---- several lines
 

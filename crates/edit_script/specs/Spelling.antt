@@ -1,23 +1,18 @@
 -- Which texts spell which edits: a relation of lines and what they say, without a reader.
 use Rattle.std.specs.Prelude.{◌≡◌, ◌⊎◌, ℕ, suc, List, [], ◌∷◌}
-use Rattle.edit_forms.specs.declared.step.Step.{Step}
 use Rattle.edit_forms.specs.declared.edit.Edit.{Edit}
-use Rattle.edit_forms.specs.declared.edit.Edit.TheVariants.{One}
 use Rattle.line_tokens.specs.declared.cursor.Said.{Said}
 use Rattle.line_tokens.specs.Lines.{lines_of}
 use Rattle.line_tokens.specs.Spelling.{SaysNothing, LineSays}
 use Rattle.edit_script.specs.declared.parsing.Line.{Line}
-use Rattle.script_grammar.specs.Operands.{Operand, Fixed, AllSay}
-use Rattle.edit_script.specs.Grammar.{form_word, form_of, SaysStep}
+use Rattle.script_grammar.specs.Operands.{Operand, AllSay}
+use Rattle.edit_script.specs.Grammar.{SaysAll}
 
--- what says a step: the word of its form, and operands behind it that say the rest
-pub record SaysForm (said : List Said) (step : Step) : Type 0 where
+-- operands that say the edit, token by token
+pub record SaysEdit (said : List Said) (edit : Edit) : Type 0 where
   pub operands : List Operand
-  pub says : SaysStep step operands
-  pub tokens : AllSay said (Fixed (form_word (form_of step)) ∷ operands)
-
-abbrev pub SaysEdit : List Said → Edit → Type 0
-SaysEdit said (One step) = SaysForm said step
+  pub says : SaysAll edit operands
+  pub tokens : AllSay said operands
 
 -- line n says the first of the edits, and the rest are said by what follows
 pub record SaysFirst (n : ℕ) (line : List ℕ) (edits : List Line) (Follow : List Line → Type 0) : Type 0 where

@@ -1,43 +1,25 @@
 //! Edits, read from their lines and printed.
 ghost use Rattle.std.specs.Prelude.{◌≡◌, [], OnOk};
+ghost use Rattle.std.specs.List.{flat_map};
 ghost use Rattle.outputs.specs.Writing.{Writes};
 ghost use Rattle.outputs.specs.Output.{Puts};
-ghost use Rattle.line_tokens.specs.Parts.{Reads};
-ghost use Rattle.line_tokens.specs.Printing.{line_text};
+ghost use Rattle.edit_forms.specs.declared.step.Step.{Step};
+ghost use Rattle.line_tokens.specs.Printing.{spaced};
 ghost use Rattle.script_grammar.specs.Operands.{pieces_of};
 ghost use Rattle.script_grammar.specs.Memory.{ReadsOrWants};
-ghost use Rattle.edit_script.specs.Grammar.{form_word, form_of, operands, operands_read, a_form, step, edit};
+ghost use Rattle.edit_script.specs.Grammar.{braced, braced_step, steps_left, group, one, one_or_group, edit};
 ghost use Rattle.edit_script.specs.Printing.{text_of};
+ghost use Rattle.edit_forms.specs.declared.edit.Edit.TheVariants.{One, Group};
 
-use crate::forms::Form;
-use crate::instruments::{
-    add_instrument, move_instrument, put_add_instrument, remove_instrument, rename_instrument,
-};
-use crate::members::{put_moving, put_removal, put_renaming};
-use crate::points::{
-    extend, put_extend, put_set_kind, put_set_loop, put_set_tune, put_trim, set_kind, set_loop,
-    set_tune, trim,
-};
-use crate::presets::{
-    add_preset, move_preset, put_add_preset, put_set_head, remove_preset, set_head,
-};
-use crate::samples::{add_sample, move_sample, put_add_sample, remove_sample, rename_sample};
-use crate::settings::{
-    add_mod, clear_gen, put_clear_gen, put_modulator_at, put_remove_mod, put_set_gen, remove_mod,
-    set_gen, set_mod,
-};
-use crate::texts::{put_set_info, set_info};
-use crate::zones::{
-    add_zone, join_zone, move_zone, put_add_zone, put_join_zone, put_move_zone, put_remove_zone,
-    put_set_target, put_split_zone, remove_zone, set_target, split_zone,
-};
 use edit_forms::{Edit, Step};
-use line_tokens::{Cursor, LineFault};
+use line_tokens::{Cursor, LineFault, Piece, put_pieces};
+use numbered_lists::NumberedList;
 use outputs::{Output, WriteFault};
-use script_grammar::next_named;
-use sf_base::Failure;
+use script_grammar::fixed;
+use sf_base::{Failure, Lent};
 use std::alloc::Global;
 use std::io::Write;
+use step_script::{put_operands, step, word_of};
 
 // ---- read
 
@@ -50,67 +32,69 @@ pub(crate) fn edit<'p>(
     ensures reads { ReadsOrWants (λ e. e) edit line.old line.new result }
     ensures done { OnOk result (line.new.said ≡ []) }
 {
-    let step = step(alloc, line)?;
+    let edit = one_or_group(alloc, line)?;
     line.end()?;
+    Ok(edit)
+}
+
+// A step, or a group of steps.
+fn one_or_group<'p>(
+    alloc: Global,
+    line: &mut Cursor<'_, 'p>,
+) -> Result<Edit<'p>, Failure<LineFault>>
+    ensures { ReadsOrWants (λ e. e) one_or_group line.old line.new result }
+{
+    if line.is_next(b"group") {
+        group(alloc, line)
+    } else {
+        one(alloc, line)
+    }
+}
+
+#[tactic(auto, unfolding(crate::specs::Grammar::one))]
+fn one<'p>(alloc: Global, line: &mut Cursor<'_, 'p>) -> Result<Edit<'p>, Failure<LineFault>>
+    ensures { ReadsOrWants (λ e. e) one line.old line.new result }
+{
+    let step = step(alloc, line)?;
     Ok(Edit::One(step))
 }
 
-// The step that begins here.
-#[tactic(auto, unfolding(crate::specs::Grammar::step))]
-fn step<'p>(alloc: Global, line: &mut Cursor<'_, 'p>) -> Result<Step<'p>, Failure<LineFault>>
-    ensures { ReadsOrWants (λ s. s) step line.old line.new result }
+// `group`, and the steps
+#[tactic(auto, unfolding(crate::specs::Grammar::group))]
+fn group<'p>(alloc: Global, line: &mut Cursor<'_, 'p>) -> Result<Edit<'p>, Failure<LineFault>>
+    ensures { ReadsOrWants (λ e. e) group line.old line.new result }
 {
-    let form = form(line)?;
-    operands_read(form, alloc, line)
+    fixed(line, b"group")?;
+    let steps = steps_left(alloc, line)?;
+    Ok(Edit::Group(steps))
 }
 
-// The form whose word is next.
-#[tactic(auto, unfolding(crate::specs::Grammar::a_form))]
-fn form(line: &mut Cursor<'_, '_>) -> Result<Form, LineFault>
-    ensures { Reads (λ f. f) a_form line.old line.new result }
-{
-    next_named(line)
-}
-
-// What stands behind the word of a form.
-fn operands_read<'p>(
-    form: Form,
+// The steps up to the line's end, each in its braces.
+fn steps_left<'p>(
     alloc: Global,
     line: &mut Cursor<'_, 'p>,
-) -> Result<Step<'p>, Failure<LineFault>>
-    ensures { ReadsOrWants (λ s. s) (operands_read form) line.old line.new result }
+) -> Result<NumberedList<Step<'p>>, Failure<LineFault>>
+    ensures { ReadsOrWants (λ steps. steps) (steps_left []) line.old line.new result }
 {
-    match form {
-        Form::AddPreset => add_preset(alloc, line),
-        Form::RemovePreset => Ok(remove_preset(line)?),
-        Form::MovePreset => Ok(move_preset(line)?),
-        Form::SetHead => Ok(set_head(line)?),
-        Form::AddInstrument => add_instrument(alloc, line),
-        Form::RemoveInstrument => Ok(remove_instrument(line)?),
-        Form::RenameInstrument => Ok(rename_instrument(line)?),
-        Form::MoveInstrument => Ok(move_instrument(line)?),
-        Form::RenameSample => Ok(rename_sample(line)?),
-        Form::AddSample => Ok(add_sample(alloc, line)?),
-        Form::RemoveSample => Ok(remove_sample(line)?),
-        Form::MoveSample => Ok(move_sample(line)?),
-        Form::Trim => Ok(trim(line)?),
-        Form::Extend => Ok(extend(alloc, line)?),
-        Form::SetLoop => Ok(set_loop(line)?),
-        Form::SetKind => Ok(set_kind(line)?),
-        Form::SetTune => Ok(set_tune(line)?),
-        Form::AddZone => add_zone(alloc, line),
-        Form::RemoveZone => Ok(remove_zone(line)?),
-        Form::MoveZone => Ok(move_zone(line)?),
-        Form::SplitZone => Ok(split_zone(line)?),
-        Form::JoinZone => Ok(join_zone(line)?),
-        Form::SetTarget => Ok(set_target(line)?),
-        Form::SetGen => Ok(set_gen(line)?),
-        Form::ClearGen => Ok(clear_gen(line)?),
-        Form::AddMod => Ok(add_mod(line)?),
-        Form::RemoveMod => Ok(remove_mod(line)?),
-        Form::SetMod => Ok(set_mod(line)?),
-        Form::SetInfo => Ok(set_info(line)?),
+    let mut steps = NumberedList::new(alloc);
+    while !line.is_empty() {
+        let step = braced_step(alloc, line)?;
+        if steps.push(step).is_err() {
+            return Err(Failure::OutOfMemory);
+        }
     }
+    Ok(steps)
+}
+
+// `{ STEP }`
+#[tactic(auto, unfolding(crate::specs::Grammar::braced_step))]
+fn braced_step<'p>(alloc: Global, line: &mut Cursor<'_, 'p>) -> Result<Step<'p>, Failure<LineFault>>
+    ensures { ReadsOrWants (λ s. s) braced_step line.old line.new result }
+{
+    fixed(line, b"{")?;
+    let step = step(alloc, line)?;
+    fixed(line, b"}")?;
+    Ok(step)
 }
 
 // ---- printed
@@ -126,108 +110,45 @@ pub fn print<W: Write>(edit: &Edit<'_>, out: &mut W) -> Result<(), WriteFault>
 }
 
 /// Puts the line of an edit, with its line feed. It takes no memory.
-#[tactic(auto, unfolding(crate::specs::Printing::text_of))]
 pub fn put_edit<W: Write>(edit: &Edit<'_>, output: &mut Output<'_, W>)
     ensures { Puts W.contents output.old output.new (text_of edit.now) }
 {
     match edit {
-        Edit::One(step) => put_step(step, output),
+        Edit::One(step) => put_one(step, output),
+        Edit::Group(steps) => put_group(steps.as_slice(), output),
     }
 }
 
-fn put_step<W: Write>(step: &Step<'_>, output: &mut Output<'_, W>)
-    ensures { Puts W.contents output.old output.new (line_text (form_word (form_of step.now)) (pieces_of (operands step.now))) }
+fn put_one<W: Write>(step: &Step<'_>, output: &mut Output<'_, W>)
+    ensures { Puts W.contents output.old output.new (text_of (One step.now)) }
 {
-    match step {
-        Step::AddPreset { at, preset } => put_add_preset(*at, preset, output),
-        Step::RemovePreset { preset } => put_removal(Form::RemovePreset, *preset, output),
-        Step::MovePreset { from, to } => put_moving(Form::MovePreset, *from, *to, output),
-        Step::SetHead {
-            preset,
-            name,
-            number,
-            bank,
-        } => put_set_head(*preset, name, *number, *bank, output),
-        Step::AddInstrument { at, instrument } => put_add_instrument(*at, instrument, output),
-        Step::RemoveInstrument { instrument } => {
-            put_removal(Form::RemoveInstrument, *instrument, output)
-        }
-        Step::RenameInstrument { instrument, name } => {
-            put_renaming(Form::RenameInstrument, *instrument, name, output)
-        }
-        Step::MoveInstrument { from, to } => put_moving(Form::MoveInstrument, *from, *to, output),
-        Step::RenameSample { sample, name } => {
-            put_renaming(Form::RenameSample, *sample, name, output)
-        }
-        Step::AddSample { at, sample } => put_add_sample(*at, sample, output),
-        Step::RemoveSample { sample } => put_removal(Form::RemoveSample, *sample, output),
-        Step::MoveSample { from, to } => put_moving(Form::MoveSample, *from, *to, output),
-        Step::Trim {
-            sample,
-            front,
-            back,
-        } => put_trim(*sample, *front, *back, output),
-        Step::Extend {
-            sample,
-            front,
-            back,
-        } => put_extend(*sample, front, back, output),
-        Step::SetLoop { sample, looped } => put_set_loop(*sample, *looped, output),
-        Step::SetKind { sample, kind } => put_set_kind(*sample, *kind, output),
-        Step::SetTune {
-            sample,
-            rate,
-            key,
-            correction,
-        } => put_set_tune(*sample, *rate, *key, *correction, output),
-        Step::AddZone { owner, at, zone } => put_add_zone(*owner, *at, zone, output),
-        Step::RemoveZone { owner, zone } => put_remove_zone(*owner, *zone, output),
-        Step::MoveZone { owner, from, to } => put_move_zone(*owner, *from, *to, output),
-        Step::SplitZone {
-            owner,
-            zone,
-            axis,
-            at,
-        } => put_split_zone(*owner, *zone, *axis, *at, output),
-        Step::JoinZone {
-            owner,
-            zone,
-            axis,
-            keep,
-        } => put_join_zone(*owner, *zone, *axis, *keep, output),
-        Step::SetTarget {
-            owner,
-            zone,
-            target,
-        } => put_set_target(*owner, *zone, *target, output),
-        Step::SetGen {
-            owner,
-            place,
-            operator,
-            amount,
-        } => put_set_gen(*owner, *place, *operator, *amount, output),
-        Step::ClearGen {
-            owner,
-            place,
-            operator,
-        } => put_clear_gen(*owner, *place, *operator, output),
-        Step::AddMod {
-            owner,
-            place,
-            index,
-            modulator,
-        } => put_modulator_at(Form::AddMod, *owner, *place, *index, modulator, output),
-        Step::RemoveMod {
-            owner,
-            place,
-            index,
-        } => put_remove_mod(*owner, *place, *index, output),
-        Step::SetMod {
-            owner,
-            place,
-            index,
-            modulator,
-        } => put_modulator_at(Form::SetMod, *owner, *place, *index, modulator, output),
-        Step::SetInfo { id, text } => put_set_info(*id, text, output),
+    output.put(word_of(step));
+    put_operands(step, output);
+    output.put(b"\n");
+}
+
+fn put_group<W: Write>(steps: &[Step<'_>], output: &mut Output<'_, W>)
+    ensures { Puts W.contents output.old output.new (text_of (Group steps.now)) }
+{
+    output.put(b"group");
+    put_all_braced(steps, output);
+    output.put(b"\n");
+}
+
+fn put_all_braced<W: Write>(steps: &[Step<'_>], output: &mut Output<'_, W>)
+    ensures { Puts W.contents output.old output.new (flat_map (λ (s : Step). flat_map spaced (pieces_of (braced s))) steps.now) }
+{
+    for step in steps {
+        put_braced(step, output);
     }
+}
+
+// `{ STEP }`, each token behind a space
+fn put_braced<W: Write>(step: &Step<'_>, output: &mut Output<'_, W>)
+    ensures { Puts W.contents output.old output.new (flat_map spaced (pieces_of (braced step.now))) }
+{
+    let word = Piece::Word(Lent::new(word_of(step)));
+    put_pieces(&[Piece::Word(Lent::new(b"{")), word], output);
+    put_operands(step, output);
+    put_pieces(&[Piece::Word(Lent::new(b"}"))], output);
 }

@@ -3,39 +3,13 @@
 //! [`pool_of`] takes the bytes of all literals of a text, and [`parse`] reads the text's edits over
 //! them. [`print`] writes the line of an edit, and [`put_edit`] puts it into an output.
 //!
-//! The forms are
-//!
-//! - `add-preset P NAME NUMBER BANK LIBRARY GENRE MORPHOLOGY GLOBAL? ZONE*`, `remove-preset P`,
-//!   `move-preset I J` and `set-head P NAME NUMBER BANK`;
-//! - `add-inst I NAME GLOBAL? ZONE*`, `remove-inst I`, `rename-inst I NAME` and `move-inst I J`;
-//! - `add-sample S NAME RATE KEY CORR KIND LOOP POINTS`, `remove-sample S`, `rename-sample S NAME` and
-//!   `move-sample I J`;
-//! - `trim S F B`, `extend S POINTS POINTS`, `set-loop S LOOP`, `set-kind S KIND` and
-//!   `set-tune S RATE KEY CORR`;
-//! - `add-zone OWNER K ZONE`, `remove-zone OWNER K`, `move-zone OWNER I J`,
-//!   `split-zone OWNER K key|vel M`, `join-zone OWNER K key|vel keep|bare` and
-//!   `set-target OWNER K TARGET`;
-//! - `set-gen OWNER PLACE OPERATOR AMOUNT`, `clear-gen OWNER PLACE OPERATOR`,
-//!   `add-mod OWNER PLACE J MOD`, `remove-mod OWNER PLACE J` and `set-mod OWNER PLACE J MOD`;
-//! - `set-info ID TEXT`.
-//!
-//! `OWNER` is `preset P` or `inst I`, `PLACE` is `global` or the number of a zone, and `MOD` is
-//! `SOURCE DEST AMOUNT ASOURCE TRANSFORM`.
+//! An edit is a step, in one of the forms that [`step_script`] names, or
+//! `group { STEP } { STEP } ..`, any number of steps, also none. No step is a group.
 #![tactic(auto)]
 
 mod edits;
-mod forms;
-mod instruments;
 mod laws;
-mod members;
-mod owners;
 mod parsing;
-mod points;
-mod presets;
-mod samples;
-mod settings;
-mod texts;
-mod zones;
 
 pub use edits::{print, put_edit};
 pub use laws::{one_reading, printed_lines_spell, spelled_edits_fit, spelled_is_read};

@@ -1,5 +1,5 @@
 -- Items and zones take tokens, and how lists of them go on.
-use Rattle.std.proofs.Common.{◌≡◌, ℕ, Bool, true, false, List, [], ◌∷◌, codes, None, Ok, Err, refl}
+use Rattle.std.proofs.Common.{◌≡◌, ℕ, true, false, List, [], codes, None, Ok, Err, refl}
 use Rattle.std.specs.Str.{bytes_eq}
 use Rattle.generators.specs.Ranges.{is_range_operator}
 use Rattle.bank_parts.specs.declared.parts.GlobalZone.{GlobalZone}
@@ -9,16 +9,17 @@ use Rattle.line_tokens.specs.declared.fault.LineFault.{LineFault}
 use Rattle.line_tokens.specs.declared.fault.LineFault.TheVariants as faults
 use Rattle.line_tokens.specs.Parts.{Took, ◌>>=◌, pure, or_fault, is_next, word, number, signed, range}
 use Rattle.script_grammar.specs.declared.items.Item.{Item}
+use Rattle.script_grammar.specs.Names.{fixed_by, fixed}
 use Rattle.script_grammar.specs.Items.{amount, generator, modulator, item_behind, an_item, closed, with_item, items_on, items, no_content}
-use Rattle.script_grammar.specs.Zones.{opened_by, opened, zone_behind, zone, is_end, with_zone, zones_left, global_behind, first_behind, zones_behind, zones}
+use Rattle.script_grammar.specs.Zones.{opened, zone_behind, zone, is_end, with_zone, zones_left, global_behind, first_behind, zones_behind, zones}
 use Rattle.script_grammar.proofs.RepeatedLaws.{Keeps, Shortens, shortens_keeps, pure_keeps, fault_keeps, then_keeps, then_shortens, either_keeps, word_shortens, number_shortens, signed_shortens, range_shortens, repeated_ends, repeated_goes_on, repeated_fails, repeated_keeps}
 
 -- ---- tokens taken
 
-number_keeps : (limit : ℕ) → Keeps (number limit)
+pub number_keeps : (limit : ℕ) → Keeps (number limit)
 number_keeps limit = shortens_keeps (number limit) (number_shortens limit)
 
-signed_keeps : (limit : ℕ) → Keeps (signed limit)
+pub signed_keeps : (limit : ℕ) → Keeps (signed limit)
 signed_keeps limit = shortens_keeps (signed limit) (signed_shortens limit)
 
 amount_keeps : (operator : ℕ) → Keeps (amount operator)
@@ -27,11 +28,11 @@ amount_keeps operator =
     either_keeps (is_range_operator operator) _ _ (then_keeps range _ (shortens_keeps range range_shortens) (λ ends. pure_keeps _))
     (then_keeps (signed 32767) _ (signed_keeps 32767) (λ z. pure_keeps _))
 
-generator_keeps : Keeps generator
+pub generator_keeps : Keeps generator
 unfolding generator
 generator_keeps = then_keeps (number 65535) _ (number_keeps 65535) (λ operator. then_keeps (amount operator) _ (amount_keeps operator) (λ a. pure_keeps _))
 
-modulator_keeps : Keeps modulator
+pub modulator_keeps : Keeps modulator
 unfolding modulator
 modulator_keeps =
     then_keeps (number 65535) _ (number_keeps 65535) (λ source.
@@ -54,21 +55,21 @@ closed_keeps : (content : GlobalZone) → Keeps (closed content)
 unfolding closed
 closed_keeps content = then_keeps word _ (shortens_keeps word word_shortens) (λ w. pure_keeps content)
 
-items_keeps : Keeps items
+pub items_keeps : Keeps items
 unfolding items items_on
 items_keeps line t e = repeated_keeps (is_next (codes "}")) closed an_item with_item closed_keeps (shortens_keeps an_item item_shortens) no_content line t e
 
-opened_shortens : Shortens opened
-unfolding opened opened_by
-opened_shortens = then_shortens word opened_by word_shortens (λ w. either_keeps (bytes_eq w (codes "{")) (pure tt) (or_fault faults.Syntax None) (pure_keeps tt) (fault_keeps faults.Syntax None))
+pub fixed_shortens : (text : List ℕ) → Shortens (fixed text)
+unfolding fixed fixed_by
+fixed_shortens text = then_shortens word (fixed_by text) word_shortens (λ w. either_keeps (bytes_eq w text) (pure tt) (or_fault faults.Syntax None) (pure_keeps tt) (fault_keeps faults.Syntax None))
 
-zone_behind_keeps : Keeps zone_behind
+pub zone_behind_keeps : Keeps zone_behind
 unfolding zone_behind
 zone_behind_keeps = then_keeps (number 65535) _ (number_keeps 65535) (λ target. then_keeps items _ items_keeps (λ content. pure_keeps _))
 
 pub zone_shortens : Shortens zone
 unfolding zone
-zone_shortens = then_shortens opened _ opened_shortens (λ o. zone_behind_keeps)
+zone_shortens = then_shortens opened _ (fixed_shortens (codes "{")) (λ o. zone_behind_keeps)
 
 -- ---- a list of items
 
@@ -97,18 +98,6 @@ zones_go_on zs line t e i = repeated_goes_on is_end pure zone with_zone zone_sho
 pub zones_fail : (zs : List Zone) (line : List Said) (d : LineFault) → is_end line ≡ false → zone line ≡ Err d → zones_left zs line ≡ Err d
 unfolding zones_left
 zones_fail zs line d e i = repeated_fails is_end pure zone with_zone zs line d e i
-
--- no token is left, or some
-pub end_is : (line : List Said) → line ≡ [] → is_end line ≡ true
-end_is [] e = refl
-end_is (s ∷ line) e = cc
-
-pub no_end : (line : List Said) → (line ≡ [] → ⊥) → is_end line ≡ false
-no_end [] h = absurd (h refl)
-no_end (s ∷ line) h = refl
-
-pub off : {b : Bool} → b ≡ true → b ≡ false → ⊥
-off p q = cc
 
 -- ---- behind the first brace
 

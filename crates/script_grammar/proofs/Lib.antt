@@ -11,3 +11,4 @@ pub mod ZoneSpellLaws
 pub mod ZoneReadLaws
 pub mod ZoneFitLaws
 pub mod ZonePutLaws
+pub mod KeepLaws

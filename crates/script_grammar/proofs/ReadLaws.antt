@@ -14,7 +14,7 @@ use Rattle.line_tokens.specs.Parts.{Took, ◌>>=◌, pure, or_fault, word, liter
 use Rattle.line_tokens.proofs.PieceLaws.{bytes_are}
 use Rattle.line_tokens.proofs.ReadLaws.{AllHoldBytes, both, or_fault_is, word_is, literal_is, number_is, signed_is, name_is}
 use Rattle.script_grammar.specs.Operands.{Operand, Fixed, Number, Signed, Name, Text, Points, Says, AllSay}
-use Rattle.script_grammar.specs.Names.{named, next_named}
+use Rattle.script_grammar.specs.Names.{named, next_named, fixed_by, fixed}
 use Rattle.script_grammar.specs.Texts.{id_word, ids, info_id}
 use Rattle.script_grammar.proofs.NameLaws.{named_is}
 use Rattle.script_grammar.specs.Samples.{kind_operands, loop_operands, tune_operands, body_operands, kind_behind, kind, loop_behind, looped, points_of, points, tune, sample_of, body}
@@ -40,6 +40,18 @@ then {line} os more f g = record {
 
 pub word_front : (line : List Said) (t : Took (List ℕ)) → AllHoldBytes line → word line ≡ Ok t → Fronts line t.rest (Fixed t.value ∷ [])
 word_front line t h e = front line t.rest (Word t.value) (Fixed t.value) h (word_is line t e) refl
+
+pub fixed_front : (text : List ℕ) (line : List Said) (t : Took (Unit {0})) → AllHoldBytes line → fixed text line ≡ Ok t → Fronts line t.rest (Fixed text ∷ [])
+unfolding fixed fixed_by
+fixed_front text line t h e =
+    let w = both (word line) (fixed_by text) t e in
+    from w.first.value w.first.rest (word_front line w.first h w.is) (bytes_eq w.first.value text) refl w.second
+  where
+    from : (v : List ℕ) (rest : List Said) → Fronts line rest (Fixed v ∷ []) → (b : Bool) → bytes_eq v text ≡ b → cond b (pure tt) (or_fault faults.Syntax None) rest ≡ Ok t → Fronts line t.rest (Fixed text ∷ [])
+    from v rest g true k e =
+        let same : rest ≡ t.rest = cc in
+        subst (λ (r : List Said). Fronts line r (Fixed text ∷ [])) same (subst (λ (x : List ℕ). Fronts line rest (Fixed x ∷ [])) ((bytes_eq-Decides v text).0 k) g)
+    from v rest g false k e = cc
 
 pub number_front : (limit : ℕ) (line : List Said) (t : Took ℕ) → AllHoldBytes line → number limit line ≡ Ok t → Fronts line t.rest (Number limit t.value ∷ [])
 number_front limit line t h e = let k = number_is limit line t e in front line t.rest (Word k.digits) (Number limit t.value) h k.parts (k.digits, refl, k.writes)

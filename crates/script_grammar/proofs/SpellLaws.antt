@@ -1,5 +1,7 @@
 -- What the parts of a line say is read as such.
-use Rattle.std.proofs.Common.{◌≡◌, ◌%◌, ℕ, ℤ, List, [], ◌∷◌, ◌++◌, length, codes, Option, Some, None, Ok, refl, ap, subst, append_assoc, ◌∙◌}
+use Rattle.std.proofs.Common.{◌≡◌, ◌%◌, ℕ, ℤ, Bool, true, cond, List, [], ◌∷◌, ◌++◌, length, codes, Option, Some, None, Ok, refl, sym, ap, subst, append_assoc, ◌∙◌}
+use Rattle.std.specs.Str.{bytes_eq}
+use Rattle.std.proofs.lemmas.Slice.Eq.{bytes_eq-Decides}
 use Rattle.sample_view.specs.Words.{words}
 use Rattle.bank_parts.specs.declared.texts.InfoId.{InfoId}
 use Rattle.bank_parts.specs.declared.parts.Kind.{Kind}
@@ -11,7 +13,7 @@ use Rattle.line_tokens.specs.declared.fault.LineFault.TheVariants as faults
 use Rattle.line_tokens.specs.Parts.{Part, and_then, ◌>>=◌, pure, or_fault, word, literal, number, signed, name}
 use Rattle.line_tokens.proofs.SpellLaws as tokens
 use Rattle.script_grammar.specs.Operands.{Operand, Fixed, Number, Signed, Name, Text, Points, AllSay}
-use Rattle.script_grammar.specs.Names.{named, next_named}
+use Rattle.script_grammar.specs.Names.{named, next_named, fixed_by, fixed}
 use Rattle.script_grammar.specs.Texts.{id_word, ids, info_id}
 use Rattle.script_grammar.proofs.NameLaws.{id_named}
 use Rattle.script_grammar.specs.Samples.{kind_operands, loop_operands, tune_operands, body_operands, kind_behind, kind, loop_behind, looped, points_of, points, tune, body}
@@ -37,6 +39,13 @@ gives_some x o line more e h = record { rest = line; is = ap (λ (p : Option _).
 pub gives_word : (w : List ℕ) (line : List Said) (more : List Operand) → AllSay line (Fixed w ∷ more) → Gives word w line more
 gives_word w [] more h = absurd h
 gives_word w (s ∷ line) more h = record { rest = line; is = ap (λ (t : Said). word (t ∷ line)) h.0 ∙ tokens.word_read w line; says = h.1 }
+
+same_bytes : (text : List ℕ) → bytes_eq text text ≡ true
+same_bytes text = (bytes_eq-Decides text text).1 refl
+
+pub gives_fixed : (text : List ℕ) (line : List Said) (more : List Operand) → AllSay line (Fixed text ∷ more) → Gives (fixed text) tt line more
+unfolding fixed fixed_by
+gives_fixed text line more h = then _ (gives_word text line more h) (λ rest k. subst (λ (b : Bool). Gives (cond b (pure tt) (or_fault faults.Syntax None)) tt rest more) (sym (same_bytes text)) (gives_pure tt rest more k))
 
 pub gives_named : {X : Type 0} (word_of : X → List ℕ) (xs : List X) (x : X) → named word_of xs (word_of x) ≡ Some x → (line : List Said) (more : List Operand) → AllSay line (Fixed (word_of x) ∷ more) → Gives (next_named word_of xs) x line more
 unfolding next_named
@@ -91,20 +100,25 @@ gives_tune rate key correction line more h =
     then _ (gives_signed 127 correction rest more k) (λ rest k. gives_pure (rate, key, correction) rest more k)))
 
 -- the last three parts of a sample
-abbrev tail_operands : Sample → List Operand
-tail_operands s = kind_operands s.kind ++ (loop_operands s.looped ++ Points s.points ∷ [])
+abbrev tail_operands : Sample → List Operand → List Operand
+tail_operands s more = kind_operands s.kind ++ (loop_operands s.looped ++ Points s.points ∷ more)
 
-body_regrouped : (s : Sample) → body_operands s ≡ (Name s.name ∷ tune_operands s.rate s.key s.correction) ++ tail_operands s
-body_regrouped s = ap (λ (os : List Operand). (Name s.name ∷ tune_operands s.rate s.key s.correction) ++ os) (append_assoc (kind_operands s.kind) (loop_operands s.looped) (Points s.points ∷ []))
+tail_regrouped : (s : Sample) (more : List Operand) → ((kind_operands s.kind ++ loop_operands s.looped) ++ Points s.points ∷ []) ++ more ≡ tail_operands s more
+tail_regrouped s more =
+    append_assoc (kind_operands s.kind ++ loop_operands s.looped) (Points s.points ∷ []) more
+    ∙ append_assoc (kind_operands s.kind) (loop_operands s.looped) (Points s.points ∷ more)
 
-pub gives_body : (s : Sample) (line : List Said) → AllSay line (body_operands s) → Gives body s line []
+body_regrouped : (s : Sample) (more : List Operand) → body_operands s ++ more ≡ (Name s.name ∷ tune_operands s.rate s.key s.correction) ++ tail_operands s more
+body_regrouped s more = ap (λ (os : List Operand). (Name s.name ∷ tune_operands s.rate s.key s.correction) ++ os) (tail_regrouped s more)
+
+pub gives_body : (s : Sample) (line : List Said) (more : List Operand) → AllSay line (body_operands s ++ more) → Gives body s line more
 unfolding body
-gives_body s line h =
-    then _ (gives_name s.name line (tune_operands s.rate s.key s.correction ++ tail_operands s) (subst (AllSay line) (body_regrouped s) h)) (λ rest k.
-    then _ (gives_tune s.rate s.key s.correction rest (tail_operands s) k) (λ rest k.
-    then _ (gives_kind s.kind rest (loop_operands s.looped ++ Points s.points ∷ []) k) (λ rest k.
-    then _ (gives_loop s.looped rest (Points s.points ∷ []) k) (λ rest k.
-    then _ (gives_points s.points rest [] k) (λ rest k. gives_pure s rest [] k)))))
+gives_body s line more h =
+    then _ (gives_name s.name line (tune_operands s.rate s.key s.correction ++ tail_operands s more) (subst (AllSay line) (body_regrouped s more) h)) (λ rest k.
+    then _ (gives_tune s.rate s.key s.correction rest (tail_operands s more) k) (λ rest k.
+    then _ (gives_kind s.kind rest (loop_operands s.looped ++ Points s.points ∷ more) k) (λ rest k.
+    then _ (gives_loop s.looped rest (Points s.points ∷ more) k) (λ rest k.
+    then _ (gives_points s.points rest more k) (λ rest k. gives_pure s rest more k)))))
 
 -- ---- texts
 

@@ -19,8 +19,8 @@ use Rattle.script_grammar.specs.declared.items.Item.TheVariants as item
 use Rattle.script_grammar.specs.Operands.{Operand, Fixed, Number, Signed, Amount, Range}
 use Rattle.script_grammar.specs.Repeated.{repeated_within}
 use Rattle.script_grammar.specs.Items.{amount_operand, generator_operands, modulator_operands, item_operands, items_operands, no_content, with_item, with_items, amount, generator, modulator_of, modulator, item_behind, an_item, closed, items_on, items}
-use Rattle.script_grammar.specs.Zones.{Written, WrittenZone, zone_operands, written_operands, zone_of, zone_in, zones_in, opened_by, opened, zone_behind, zone, is_end, with_zone, zones_left, global_zones, global_behind, first_behind, zones_behind, zones}
-use Rattle.script_grammar.proofs.ReadLaws.{Fronts, front, then, made, word_front, number_front, signed_front}
+use Rattle.script_grammar.specs.Zones.{Written, WrittenZone, zone_operands, written_operands, zone_of, zone_in, zones_in, opened, zone_behind, zone, is_end, with_zone, zones_left, global_zones, global_behind, first_behind, zones_behind, zones}
+use Rattle.script_grammar.proofs.ReadLaws.{Fronts, front, then, made, word_front, fixed_front, number_front, signed_front}
 use Rattle.script_grammar.proofs.RepeatedLaws.{within_ends, within_goes_on}
 use Rattle.script_grammar.proofs.ItemLaws.{global_first, zone_first, none_said, some_said}
 
@@ -190,23 +190,11 @@ zone_behind_front line t h e =
       stands = ap (zone_of n.first.value) s.stands;
     })
 
-opened_front : (line : List Said) (t : Took (Unit {0})) → AllHoldBytes line → opened line ≡ Ok t → Fronts line t.rest (Fixed (codes "{") ∷ [])
-unfolding opened opened_by
-opened_front line t h e =
-    let w = both (word line) opened_by t e in
-    from w.first.value w.first.rest (word_front line w.first h w.is) (bytes_eq w.first.value (codes "{")) refl w.second
-  where
-    from : (v : List ℕ) (rest : List Said) → Fronts line rest (Fixed v ∷ []) → (b : Bool) → bytes_eq v (codes "{") ≡ b → cond b (pure tt) (or_fault faults.Syntax None) rest ≡ Ok t → Fronts line t.rest (Fixed (codes "{") ∷ [])
-    from v rest g true k e =
-        let same : rest ≡ t.rest = cc in
-        subst (λ (r : List Said). Fronts line r (Fixed (codes "{") ∷ [])) same (subst (λ (x : List ℕ). Fronts line rest (Fixed x ∷ [])) ((bytes_eq-Decides v (codes "{")).0 k) g)
-    from v rest g false k e = cc
-
 pub zone_front : (line : List Said) (t : Took Zone) → AllHoldBytes line → zone line ≡ Ok t → SaidZone line t
 unfolding zone
 zone_front line t h e =
     let o = both (opened line) (λ o. zone_behind) t e in
-    let f = opened_front line o.first h o.is in
+    let f = fixed_front (codes "{") line o.first h o.is in
     let s = zone_behind_front o.first.rest t f.holds o.second in
     record { said = s.said; fronts = then (Fixed (codes "{") ∷ []) (Number 65535 s.said.target ∷ items_operands s.said.items) f s.fronts; stands = s.stands }
 
@@ -305,7 +293,7 @@ behind_front line t h e = from (is_next (codes "global") line) refl
 some_front : (line : List Said) (t : Took (GlobalZone × List Zone)) → AllHoldBytes line → (opened >>= λ o. zones_behind) line ≡ Ok t → SaidZones line t
 some_front line t h e =
     let o = both (opened line) (λ o. zones_behind) t e in
-    let f = opened_front line o.first h o.is in
+    let f = fixed_front (codes "{") line o.first h o.is in
     let s = behind_front o.first.rest t f.holds o.second in
     record { written = s.written; fronts = subst (Fronts line t.rest) (sym s.parts) (then (Fixed (codes "{") ∷ []) s.after f s.fronts); stands = s.stands }
 

@@ -17,8 +17,8 @@ use Rattle.script_grammar.specs.declared.items.Item.{Item}
 use Rattle.script_grammar.specs.declared.items.Item.TheVariants as item
 use Rattle.script_grammar.specs.Operands.{Operand, Fixed, Number, Signed, Amount, Range, AllSay}
 use Rattle.script_grammar.specs.Items.{amount_operand, generator_operands, modulator_operands, item_operands, items_operands, no_content, with_item, with_items, content_of, amount, generator, modulator, item_behind, an_item, closed, items_on, items}
-use Rattle.script_grammar.specs.Zones.{Written, WrittenZone, zone_operands, global_operands, written_operands, zone_in, global_in, zones_in, opened_by, opened, zone_behind, zone, is_end, with_zone, zones_left, global_zones, global_behind, first_behind, zones_behind, zones}
-use Rattle.script_grammar.proofs.SpellLaws.{Gives, then, gives_pure, gives_word, gives_number, gives_signed}
+use Rattle.script_grammar.specs.Zones.{Written, WrittenZone, zone_operands, global_operands, written_operands, zone_in, global_in, zones_in, opened, zone_behind, zone, is_end, with_zone, zones_left, global_zones, global_behind, first_behind, zones_behind, zones}
+use Rattle.script_grammar.proofs.SpellLaws.{Gives, then, gives_pure, gives_word, gives_fixed, gives_number, gives_signed}
 use Rattle.script_grammar.proofs.ItemLaws.{items_end, items_go_on, zones_end, zones_go_on, global_first, zone_first, none_said, some_said}
 
 -- ---- an amount
@@ -114,30 +114,35 @@ gives_zone_behind z line more h =
     then _ (gives_number 65535 z.target line (items_operands z.items ++ more) h) (λ rest k.
     then _ (gives_items z.items rest more k) (λ rest k. gives_pure (zone_in z) rest more k))
 
-gives_opened : (line : List Said) (more : List Operand) → AllSay line (Fixed (codes "{") ∷ more) → Gives opened tt line more
-unfolding opened opened_by
-gives_opened line more h = then _ (gives_word (codes "{") line more h) (λ rest k. gives_pure tt rest more k)
-
 pub gives_zone : (z : WrittenZone) (line : List Said) (more : List Operand) → AllSay line (zone_operands z ++ more) → Gives zone (zone_in z) line more
 unfolding zone
-gives_zone z line more h = then _ (gives_opened line (behind_brace z ++ more) h) (λ rest k. gives_zone_behind z rest more k)
+gives_zone z line more h = then _ (gives_fixed (codes "{") line (behind_brace z ++ more) h) (λ rest k. gives_zone_behind z rest more k)
 
-not_end : (line : List Said) (o : Operand) (more : List Operand) → AllSay line (o ∷ more) → is_end line ≡ false
-not_end [] o more h = absurd h
-not_end (s ∷ line) o more h = refl
+not_end : (line : List Said) (more : List Operand) → AllSay line (Fixed (codes "{") ∷ more) → is_end line ≡ false
+not_end [] more h = absurd h
+not_end (s ∷ line) more h = next_word (codes "{") (codes "}") (s ∷ line) more h
 
-at_end : (line : List Said) → AllSay line [] → is_end line ≡ true
-at_end [] h = refl
-at_end (s ∷ line) h = absurd h
+-- what is said next ends the zones before it
+abbrev pub EndsZones : List Operand → Type 0
+EndsZones more = (line : List Said) → AllSay line more → is_end line ≡ true
 
-gives_zones_left : (ws : List WrittenZone) (zs : List Zone) (line : List Said) → AllSay line (flat_map zone_operands ws) → Gives (zones_left zs) (zs ++ map zone_in ws) line []
-gives_zones_left [] zs line h = record { rest = line; is = zones_end zs line (at_end line h) ∙ ap (λ (all : List Zone). Ok (record { value = all; rest = line })) (sym (append-nil zs)); says = h }
-gives_zones_left (w ∷ ws) zs line h =
-    let g = gives_zone w line (flat_map zone_operands ws) h in
-    let k = gives_zones_left ws (with_zone zs (zone_in w)) g.rest g.says in
+pub nothing_ends : EndsZones []
+nothing_ends [] h = refl
+nothing_ends (s ∷ line) h = absurd h
+
+pub brace_ends : (more : List Operand) → EndsZones (closing more)
+brace_ends more [] h = absurd h
+brace_ends more (s ∷ line) h = next_word (codes "}") (codes "}") (s ∷ line) more h
+
+gives_zones_left : (ws : List WrittenZone) (zs : List Zone) (line : List Said) (more : List Operand) → EndsZones more → AllSay line (flat_map zone_operands ws ++ more) → Gives (zones_left zs) (zs ++ map zone_in ws) line more
+gives_zones_left [] zs line more end h = record { rest = line; is = zones_end zs line (end line h) ∙ ap (λ (all : List Zone). Ok (record { value = all; rest = line })) (sym (append-nil zs)); says = h }
+gives_zones_left (w ∷ ws) zs line more end h =
+    let says : AllSay line (zone_operands w ++ (flat_map zone_operands ws ++ more)) = subst (AllSay line) (append_assoc (zone_operands w) (flat_map zone_operands ws) more) h in
+    let g = gives_zone w line (flat_map zone_operands ws ++ more) says in
+    let k = gives_zones_left ws (with_zone zs (zone_in w)) g.rest more end g.says in
     record {
       rest = k.rest;
-      is = zones_go_on zs line _ (not_end line (Fixed (codes "{")) (behind_brace w ++ flat_map zone_operands ws) h) g.is ∙ k.is ∙ ap (λ (all : List Zone). Ok (record { value = all; rest = k.rest })) (append_assoc zs (zone_in w ∷ []) (map zone_in ws));
+      is = zones_go_on zs line _ (not_end line (behind_brace w ++ (flat_map zone_operands ws ++ more)) says) g.is ∙ k.is ∙ ap (λ (all : List Zone). Ok (record { value = all; rest = k.rest })) (append_assoc zs (zone_in w ∷ []) (map zone_in ws));
       says = k.says;
     }
 
@@ -153,36 +158,39 @@ not_global limit n (s ∷ line) more h = ap (λ (t : Said). is_next (codes "glob
         other true e = let d = subst (λ (x : List ℕ). list_all is_digit x ≡ true) ((bytes_eq-Decides w (codes "global")).0 e) v.digits in cc
         other false e = refl
 
-gives_global_zones : (is : List Item) (ws : List WrittenZone) (line : List Said) → AllSay line (items_operands is ++ flat_map zone_operands ws) → Gives global_zones (content_of is, map zone_in ws) line []
+gives_global_zones : (is : List Item) (ws : List WrittenZone) (line : List Said) (more : List Operand) → EndsZones more → AllSay line (items_operands is ++ (flat_map zone_operands ws ++ more)) → Gives global_zones (content_of is, map zone_in ws) line more
 unfolding global_zones
-gives_global_zones is ws line h =
-    then _ (gives_items is line (flat_map zone_operands ws) h) (λ rest k.
-    then _ (gives_zones_left ws [] rest k) (λ rest k. gives_pure (content_of is, map zone_in ws) rest [] k))
+gives_global_zones is ws line more end h =
+    then _ (gives_items is line (flat_map zone_operands ws ++ more) h) (λ rest k.
+    then _ (gives_zones_left ws [] rest more end k) (λ rest k. gives_pure (content_of is, map zone_in ws) rest more k))
 
-gives_global_behind : (is : List Item) (ws : List WrittenZone) (line : List Said) → AllSay line (Fixed (codes "global") ∷ items_operands is ++ flat_map zone_operands ws) → Gives global_behind (content_of is, map zone_in ws) line []
+gives_global_behind : (is : List Item) (ws : List WrittenZone) (line : List Said) (more : List Operand) → EndsZones more → AllSay line (Fixed (codes "global") ∷ items_operands is ++ (flat_map zone_operands ws ++ more)) → Gives global_behind (content_of is, map zone_in ws) line more
 unfolding global_behind
-gives_global_behind is ws line h = then _ (gives_word (codes "global") line (items_operands is ++ flat_map zone_operands ws) h) (λ rest k. gives_global_zones is ws rest k)
+gives_global_behind is ws line more end h = then _ (gives_word (codes "global") line (items_operands is ++ (flat_map zone_operands ws ++ more)) h) (λ rest k. gives_global_zones is ws rest more end k)
 
-gives_first_behind : (w : WrittenZone) (ws : List WrittenZone) (line : List Said) → AllSay line (behind_brace w ++ flat_map zone_operands ws) → Gives first_behind (no_content, map zone_in (w ∷ ws)) line []
+gives_first_behind : (w : WrittenZone) (ws : List WrittenZone) (line : List Said) (more : List Operand) → EndsZones more → AllSay line (behind_brace w ++ (flat_map zone_operands ws ++ more)) → Gives first_behind (no_content, map zone_in (w ∷ ws)) line more
 unfolding first_behind
-gives_first_behind w ws line h =
-    then _ (gives_zone_behind w line (flat_map zone_operands ws) h) (λ rest k.
-    then _ (gives_zones_left ws (zone_in w ∷ []) rest k) (λ rest k. gives_pure (no_content, map zone_in (w ∷ ws)) rest [] k))
+gives_first_behind w ws line more end h =
+    then _ (gives_zone_behind w line (flat_map zone_operands ws ++ more) h) (λ rest k.
+    then _ (gives_zones_left ws (zone_in w ∷ []) rest more end k) (λ rest k. gives_pure (no_content, map zone_in (w ∷ ws)) rest more k))
 
 -- a part that reads as another
 pub as_other : {X : Type 0} (p q : Part X) (x : X) (line : List Said) (more : List Operand) → q line ≡ p line → Gives p x line more → Gives q x line more
 as_other p q x line more e g = record { rest = g.rest; is = e ∙ g.is; says = g.says }
 
-pub gives_zones : (w : Written) (line : List Said) → AllSay line (written_operands w) → Gives zones (zones_in w) line []
-gives_zones w line h = from w.global w.zones h
-  where
-    from : (g : Option (List Item)) (ws : List WrittenZone) → AllSay line (global_operands g ++ flat_map zone_operands ws) → Gives zones (global_in g, map zone_in ws) line []
-    from None [] h = as_other (pure (no_content, [])) zones (no_content, []) line [] (none_said line (at_end line h)) (gives_pure (no_content, []) line [] h)
-    from None (w ∷ ws) h =
-        as_other (opened >>= λ o. zones_behind) zones (no_content, map zone_in (w ∷ ws)) line [] (some_said line (not_end line (Fixed (codes "{")) (behind_brace w ++ flat_map zone_operands ws) h))
-        (then _ (gives_opened line (behind_brace w ++ flat_map zone_operands ws) h) (λ rest k.
-        as_other first_behind zones_behind (no_content, map zone_in (w ∷ ws)) rest [] (zone_first rest (not_global 65535 w.target rest (items_operands w.items ++ flat_map zone_operands ws) k)) (gives_first_behind w ws rest k)))
-    from (Some is) ws h =
-        as_other (opened >>= λ o. zones_behind) zones (content_of is, map zone_in ws) line [] (some_said line (not_end line (Fixed (codes "{")) (Fixed (codes "global") ∷ items_operands is ++ flat_map zone_operands ws) h))
-        (then _ (gives_opened line (Fixed (codes "global") ∷ items_operands is ++ flat_map zone_operands ws) h) (λ rest k.
-        as_other global_behind zones_behind (content_of is, map zone_in ws) rest [] (global_first rest (next_word (codes "global") (codes "global") rest (items_operands is ++ flat_map zone_operands ws) k)) (gives_global_behind is ws rest k)))
+-- GLOBAL? ZONE*, where what is said behind them ends them
+module _ (more : List Operand) (end : EndsZones more) where
+  gives_parts : (g : Option (List Item)) (ws : List WrittenZone) (line : List Said) → AllSay line (global_operands g ++ (flat_map zone_operands ws ++ more)) → Gives zones (global_in g, map zone_in ws) line more
+  gives_parts None [] line h = as_other (pure (no_content, [])) zones (no_content, []) line more (none_said line (end line h)) (gives_pure (no_content, []) line more h)
+  gives_parts None (w ∷ ws) line h =
+      let says : AllSay line (zone_operands w ++ (flat_map zone_operands ws ++ more)) = subst (AllSay line) (append_assoc (zone_operands w) (flat_map zone_operands ws) more) h in
+      as_other (opened >>= λ o. zones_behind) zones (no_content, map zone_in (w ∷ ws)) line more (some_said line (not_end line (behind_brace w ++ (flat_map zone_operands ws ++ more)) says))
+      (then _ (gives_fixed (codes "{") line (behind_brace w ++ (flat_map zone_operands ws ++ more)) says) (λ rest k.
+      as_other first_behind zones_behind (no_content, map zone_in (w ∷ ws)) rest more (zone_first rest (not_global 65535 w.target rest (items_operands w.items ++ (flat_map zone_operands ws ++ more)) k)) (gives_first_behind w ws rest more end k)))
+  gives_parts (Some is) ws line h =
+      as_other (opened >>= λ o. zones_behind) zones (content_of is, map zone_in ws) line more (some_said line (not_end line (Fixed (codes "global") ∷ items_operands is ++ (flat_map zone_operands ws ++ more)) h))
+      (then _ (gives_fixed (codes "{") line (Fixed (codes "global") ∷ items_operands is ++ (flat_map zone_operands ws ++ more)) h) (λ rest k.
+      as_other global_behind zones_behind (content_of is, map zone_in ws) rest more (global_first rest (next_word (codes "global") (codes "global") rest (items_operands is ++ (flat_map zone_operands ws ++ more)) k)) (gives_global_behind is ws rest more end k)))
+
+  pub gives_zones : (w : Written) (line : List Said) → AllSay line (written_operands w ++ more) → Gives zones (zones_in w) line more
+  gives_zones w line h = gives_parts w.global w.zones line (subst (AllSay line) (append_assoc (global_operands w.global) (flat_map zone_operands w.zones) more) h)

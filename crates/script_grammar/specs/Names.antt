@@ -2,7 +2,7 @@
 use Rattle.std.specs.Prelude.{ℕ, List, [], ◌∷◌, Option, Some, None, if◌then◌else◌}
 use Rattle.std.specs.Str.{bytes_eq}
 use Rattle.line_tokens.specs.declared.fault.LineFault.TheVariants as faults
-use Rattle.line_tokens.specs.Parts.{Part, ◌>>=◌, or_fault, word}
+use Rattle.line_tokens.specs.Parts.{Part, ◌>>=◌, pure, or_fault, word}
 
 -- the first of these that has this word
 abbrev pub named : {X : Type 0} → (X → List ℕ) → List X → List ℕ → Option X
@@ -14,3 +14,11 @@ unfoldable pub next_named : {X : Type 0} → (X → List ℕ) → List X → Par
 next_named word_of xs = do
   w ← word
   or_fault faults.Syntax (named word_of xs w)
+
+-- ---- a word that is always the same
+
+unfoldable pub fixed_by : List ℕ → List ℕ → Part (Unit {0})
+fixed_by text w = if bytes_eq w text then pure tt else or_fault faults.Syntax None
+
+unfoldable pub fixed : List ℕ → Part (Unit {0})
+fixed text = word >>= fixed_by text

@@ -1,18 +1,17 @@
 -- The parts of a line that say zones: what stands there, what it stands for, and how it is read.
-use Rattle.std.specs.Prelude.{ℕ, ◌+◌, ◌==◌, List, [], ◌∷◌, ◌++◌, length, map, codes, Option, Some, None, Bool, true, false, if◌then◌else◌}
+use Rattle.std.specs.Prelude.{ℕ, ◌+◌, ◌==◌, List, [], ◌∷◌, ◌++◌, length, map, codes, Option, Some, None, Bool, true, if◌then◌else◌}
 use Rattle.std.specs.FinMap.{len, entries}
 use Rattle.std.specs.List.{flat_map}
-use Rattle.std.specs.Str.{bytes_eq}
 use Rattle.modulators.specs.declared.modulator.Modulator.{Modulator}
 use Rattle.generators.specs.Gens.{Gens}
 use Rattle.bank_parts.specs.declared.parts.GlobalZone.{GlobalZone}
 use Rattle.bank_parts.specs.declared.parts.Zone.{Zone}
 use Rattle.line_tokens.specs.declared.cursor.Said.{Said}
-use Rattle.line_tokens.specs.declared.fault.LineFault.TheVariants as faults
-use Rattle.line_tokens.specs.Parts.{Part, ◌>>=◌, pure, or_fault, is_next, word, number}
+use Rattle.line_tokens.specs.Parts.{Part, ◌>>=◌, pure, is_next, word, number}
 use Rattle.script_grammar.specs.declared.items.Item.{Item}
 use Rattle.script_grammar.specs.declared.items.Item.TheVariants as item
 use Rattle.script_grammar.specs.Repeated.{repeated}
+use Rattle.script_grammar.specs.Names.{fixed}
 use Rattle.script_grammar.specs.Operands.{Operand, Fixed, Number}
 use Rattle.script_grammar.specs.Items.{items_operands, no_content, content_of, items}
 
@@ -74,11 +73,8 @@ written_of g zs = record { global = global_of g; zones = map written_zone zs }
 -- ---- how it is read
 
 -- the brace that opens a zone
-unfoldable pub opened_by : List ℕ → Part (Unit {0})
-opened_by w = if bytes_eq w (codes "{") then pure tt else or_fault faults.Syntax None
-
-unfoldable pub opened : Part (Unit {0})
-opened = word >>= opened_by
+abbrev pub opened : Part (Unit {0})
+opened = fixed (codes "{")
 
 -- `TARGET ITEM* }`
 unfoldable pub zone_behind : Part Zone
@@ -93,15 +89,15 @@ zone = do
   o ← opened
   zone_behind
 
--- whether no token is left
+-- whether no token is left, or the next closes what the zones stand in
 abbrev pub is_end : List Said → Bool
 is_end [] = true
-is_end (s ∷ line) = false
+is_end (s ∷ line) = is_next (codes "}") (s ∷ line)
 
 abbrev pub with_zone : List Zone → Zone → List Zone
 with_zone zs z = zs ++ z ∷ []
 
--- zones, each behind those that there are, up to the line's end
+-- zones, each behind those that there are, up to their end
 unfoldable pub zones_left : List Zone → Part (List Zone)
 zones_left zs line = repeated is_end pure zone with_zone zs line
 
@@ -129,6 +125,6 @@ first_behind = do
 unfoldable pub zones_behind : Part (GlobalZone × List Zone)
 zones_behind line = if is_next (codes "global") line then global_behind line else first_behind line
 
--- GLOBAL? ZONE*, to the line's end
+-- GLOBAL? ZONE*, to their end
 unfoldable pub zones : Part (GlobalZone × List Zone)
 zones line = if is_end line then pure (no_content, []) line else (opened >>= λ o. zones_behind) line

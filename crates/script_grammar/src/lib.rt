@@ -2,7 +2,8 @@
 //! and the parts of a line that several forms have.
 //!
 //! A part is read by a function that takes it from a [`Cursor`](line_tokens::Cursor), and put by one
-//! that puts each of its tokens behind a space. The parts are a word of a list of words ([`next_named`]),
+//! that puts each of its tokens behind a space. The parts are a word that is always the same ([`fixed`]), a
+//! word of a list of words ([`next_named`]),
 //! the id of a text ([`info_id`]), a sample, `NAME RATE KEY CORR KIND LOOP POINTS` ([`sample_body`]), or
 //! some of it, `RATE KEY CORR` ([`tune`]), `KIND` ([`kind`]), `LOOP` ([`looped`]) or `POINTS` ([`points`]),
 //! the zones of a preset or an instrument, `GLOBAL? ZONE*` ([`zones`]), or one of them ([`zone`]), and
@@ -21,7 +22,7 @@ mod zone_lines;
 mod zone_lists;
 
 pub use items::{generator, modulator};
-pub use names::{HasWord, next_named};
+pub use names::{HasWord, fixed, next_named};
 pub use samples::{
     kind, looped, points, put_kind, put_loop, put_points, put_sample_body, put_sample_head,
     put_tune, sample_body, tune,

@@ -2,7 +2,7 @@
 ghost use Rattle.std.specs.Prelude.{◌≡◌};
 ghost use Rattle.std.specs.Str.{bytes_eq};
 ghost use Rattle.line_tokens.specs.Parts.{Reads};
-ghost use Rattle.script_grammar.specs.Names.{named, next_named};
+ghost use Rattle.script_grammar.specs.Names.{named, next_named, fixed};
 
 use line_tokens::{Cursor, LineFault};
 
@@ -37,6 +37,19 @@ pub fn next_named<T: HasWord>(line: &mut Cursor<'_, '_>) -> Result<T, LineFault>
 {
     let word = line.word()?;
     named(word).ok_or(LineFault::Syntax)
+}
+
+/// This word, and no other: any other token, and the line's end, is a fault of syntax.
+#[tactic(auto, unfolding(crate::specs::Names::fixed, crate::specs::Names::fixed_by))]
+pub fn fixed(line: &mut Cursor<'_, '_>, text: &[u8]) -> Result<(), LineFault>
+    ensures { Reads (λ u. u) (fixed text.now) line.old line.new result }
+{
+    let word = line.word()?;
+    if says(word, text) {
+        Ok(())
+    } else {
+        Err(LineFault::Syntax)
+    }
 }
 
 // The first of these that a word names.

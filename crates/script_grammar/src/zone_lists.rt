@@ -1,11 +1,10 @@
 //! The parts of a line that say zones.
 ghost use Rattle.std.specs.Prelude.{◌≡◌, ◌++◌, ◌∷◌, []};
-ghost use Rattle.line_tokens.specs.Parts.{Reads};
-ghost use Rattle.script_grammar.specs.Zones.{opened, zone_behind, zone, zones_left, global_zones, global_behind, first_behind, zones_behind, zones};
+ghost use Rattle.script_grammar.specs.Zones.{zone_behind, zone, zones_left, global_zones, global_behind, first_behind, zones_behind, is_end, zones};
 ghost use Rattle.script_grammar.specs.Memory.{ReadsOrWants};
 
 use crate::items::{items, no_content};
-use crate::names::says;
+use crate::names::fixed;
 use bank_parts::{GlobalZone, Zone};
 use line_tokens::{Cursor, LineFault};
 use numbered_lists::NumberedList;
@@ -14,7 +13,7 @@ use std::alloc::Global;
 
 // ---- read
 
-/// `GLOBAL? ZONE*`, to the line's end: the global zone, which is empty where none is said, and the
+/// `GLOBAL? ZONE*`, to the line's end or a closing brace: the global zone, which is empty where none is said, and the
 /// zones. `global` behind a later brace is a fault of number, and another token than a brace where a
 /// zone could begin one of syntax.
 pub fn zones(
@@ -23,10 +22,10 @@ pub fn zones(
 ) -> Result<(GlobalZone, NumberedList<Zone>), Failure<LineFault>>
     ensures { ReadsOrWants (λ z. z) zones line.old line.new result }
 {
-    if line.is_empty() {
+    if is_end(line) {
         return Ok((no_content(alloc), NumberedList::new(alloc)));
     }
-    opened(line)?;
+    fixed(line, b"{")?;
     zones_behind(alloc, line)
 }
 
@@ -83,7 +82,7 @@ fn first_behind(
     Ok((no_content(alloc), zones))
 }
 
-// The zones up to the line's end, behind those that there are.
+// The zones that are left, behind those that there are.
 fn zones_left(
     alloc: Global,
     mut zones: NumberedList<Zone>,
@@ -91,7 +90,7 @@ fn zones_left(
 ) -> Result<NumberedList<Zone>, Failure<LineFault>>
     ensures { ReadsOrWants (λ zs. zs) (zones_left zones) line.old line.new result }
 {
-    while !line.is_empty() {
+    while !is_end(line) {
         let zone = zone(alloc, line)?;
         if zones.push(zone).is_err() {
             return Err(Failure::OutOfMemory);
@@ -104,7 +103,7 @@ fn zones_left(
 pub fn zone(alloc: Global, line: &mut Cursor<'_, '_>) -> Result<Zone, Failure<LineFault>>
     ensures { ReadsOrWants (λ z. z) zone line.old line.new result }
 {
-    opened(line)?;
+    fixed(line, b"{")?;
     zone_behind(alloc, line)
 }
 
@@ -117,15 +116,9 @@ fn zone_behind(alloc: Global, line: &mut Cursor<'_, '_>) -> Result<Zone, Failure
     Ok(Zone { target, gens, mods })
 }
 
-// The brace that opens a zone.
-#[tactic(auto, unfolding(crate::specs::Zones::opened, crate::specs::Zones::opened_by))]
-fn opened(line: &mut Cursor<'_, '_>) -> Result<(), LineFault>
-    ensures { Reads (λ u. u) opened line.old line.new result }
+// Whether no zone follows: no token is left, or the next closes what the zones stand in.
+fn is_end(line: &Cursor<'_, '_>) -> bool
+    ensures { result ≡ is_end line.now.said }
 {
-    let word = line.word()?;
-    if says(word, b"{") {
-        Ok(())
-    } else {
-        Err(LineFault::Syntax)
-    }
+    line.is_empty() || line.is_next(b"}")
 }

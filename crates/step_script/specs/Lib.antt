@@ -1,0 +1,11 @@
+pub mod Members
+pub mod Presets
+pub mod Instruments
+pub mod Samples
+pub mod Points
+pub mod Owners
+pub mod Zones
+pub mod Settings
+pub mod Texts
+pub mod Grammar
+pub mod Spelling

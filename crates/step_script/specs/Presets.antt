@@ -1,0 +1,48 @@
+-- The forms that put a preset in and change its head: what stands behind their words, and how it is read.
+use Rattle.std.specs.Prelude.{ℕ, List, [], ◌∷◌, ◌++◌}
+use Rattle.bank_parts.specs.declared.parts.Head.{Head}
+use Rattle.bank_parts.specs.declared.parts.WithZones.{WithZones}
+use Rattle.line_tokens.specs.Parts.{Part, ◌>>=◌, pure, number, name}
+use Rattle.script_grammar.specs.Operands.{Operand, Number, Name}
+use Rattle.edit_forms.specs.declared.step.Step.{Step}
+use Rattle.edit_forms.specs.declared.step.Step.TheVariants.{SetHead}
+use Rattle.step_script.specs.Members.{named_operands, naming, placed, owner}
+
+-- `NAME NUMBER BANK LIBRARY GENRE MORPHOLOGY`
+abbrev pub head_operands : Head → List Operand
+head_operands h =
+    Name h.name ∷ Number 65535 h.number ∷ Number 65535 h.bank ∷ Number 4294967295 h.library ∷ Number 4294967295 h.genre
+    ∷ Number 4294967295 h.morphology ∷ []
+
+abbrev pub head_of : List ℕ → ℕ → ℕ → ℕ → ℕ → ℕ → Head
+head_of name number bank library genre morphology =
+    record { name = name; number = number; bank = bank; library = library; genre = genre; morphology = morphology }
+
+unfoldable pub head : Part Head
+head = do
+  n ← name
+  program ← number 65535
+  bank ← number 65535
+  library ← number 4294967295
+  genre ← number 4294967295
+  morphology ← number 4294967295
+  pure (head_of n program bank library genre morphology)
+
+-- `P NAME NUMBER BANK LIBRARY GENRE MORPHOLOGY`
+unfoldable pub placed_head : Part (ℕ × Head)
+placed_head = placed head
+
+-- `P NAME NUMBER BANK LIBRARY GENRE MORPHOLOGY GLOBAL? ZONE*`
+unfoldable pub added_preset : Part (ℕ × WithZones Head)
+added_preset = owner placed_head
+
+-- `P NAME NUMBER BANK`
+abbrev pub new_head_operands : ℕ → List ℕ → ℕ → ℕ → List Operand
+new_head_operands p name number bank = named_operands p name ++ Number 65535 number ∷ Number 65535 bank ∷ []
+
+unfoldable pub set_head : Part Step
+set_head = do
+  n ← naming
+  program ← number 65535
+  bank ← number 65535
+  pure (SetHead n.0 n.1 program bank)

@@ -1,0 +1,64 @@
+-- The forms that edit generators and modulators: what stands behind their words, and how it is read.
+use Rattle.std.specs.Prelude.{ℕ, List, [], ◌∷◌, ◌++◌}
+use Rattle.modulators.specs.declared.modulator.Modulator.{Modulator}
+use Rattle.bank_changes.specs.declared.members.Owner.{Owner}
+use Rattle.bank_changes.specs.declared.members.Place.{Place}
+use Rattle.edit_forms.specs.declared.step.Step.{Step}
+use Rattle.edit_forms.specs.declared.step.Step.TheVariants.{SetGen, ClearGen, AddMod, RemoveMod, SetMod}
+use Rattle.line_tokens.specs.Parts.{Part, ◌>>=◌, pure, number}
+use Rattle.script_grammar.specs.Operands.{Operand, Number}
+use Rattle.script_grammar.specs.Items.{generator_operands, modulator_operands, generator, modulator}
+use Rattle.step_script.specs.Members.{place}
+use Rattle.step_script.specs.Owners.{of_place, owner_place}
+
+-- ---- what stands on the line
+
+-- `OWNER PLACE OPERATOR AMOUNT`
+abbrev pub generator_at_operands : Owner → Place → ℕ → ℕ → List Operand
+generator_at_operands o p operator amount = of_place o p ++ generator_operands operator amount
+
+-- `OWNER PLACE OPERATOR`
+abbrev pub operator_operands : Owner → Place → ℕ → List Operand
+operator_operands o p operator = of_place o p ++ Number 65535 operator ∷ []
+
+-- `OWNER PLACE J`
+abbrev pub index_operands : Owner → Place → ℕ → List Operand
+index_operands o p j = of_place o p ++ place j ∷ []
+
+-- `OWNER PLACE J MOD`
+abbrev pub modulator_at_operands : Owner → Place → ℕ → Modulator → List Operand
+modulator_at_operands o p j m = index_operands o p j ++ modulator_operands m
+
+-- ---- how it is read
+
+unfoldable pub set_gen : Part Step
+set_gen = do
+  p ← owner_place
+  g ← generator
+  pure (SetGen p.0 p.1 g.0 g.1)
+
+unfoldable pub clear_gen : Part Step
+clear_gen = do
+  p ← owner_place
+  operator ← number 65535
+  pure (ClearGen p.0 p.1 operator)
+
+unfoldable pub add_mod : Part Step
+add_mod = do
+  p ← owner_place
+  j ← number 4294967295
+  m ← modulator
+  pure (AddMod p.0 p.1 j m)
+
+unfoldable pub remove_mod : Part Step
+remove_mod = do
+  p ← owner_place
+  j ← number 4294967295
+  pure (RemoveMod p.0 p.1 j)
+
+unfoldable pub set_mod : Part Step
+set_mod = do
+  p ← owner_place
+  j ← number 4294967295
+  m ← modulator
+  pure (SetMod p.0 p.1 j m)

@@ -1,0 +1,90 @@
+//! The forms that edit instruments.
+ghost use Rattle.std.specs.Prelude.{◌≡◌, ◌∷◌, codes};
+ghost use Rattle.std.specs.List.{flat_map};
+ghost use Rattle.outputs.specs.Output.{Puts};
+ghost use Rattle.line_tokens.specs.Parts.{Reads};
+ghost use Rattle.line_tokens.specs.Printing.{spaced};
+ghost use Rattle.script_grammar.specs.Operands.{pieces_of};
+ghost use Rattle.script_grammar.specs.Memory.{ReadsOrWants};
+ghost use Rattle.step_script.specs.declared.forms.Form.TheVariants as form;
+ghost use Rattle.step_script.specs.Grammar.{operands_read};
+ghost use Rattle.step_script.specs.Members.{place, printed_owner};
+ghost use Rattle.step_script.specs.Instruments.{name_operands, added_instrument};
+
+use crate::members::{moving, naming, zones_of};
+use bank_parts::Instrument;
+use edit_forms::Step;
+use line_tokens::{Cursor, LineFault, Piece, put_pieces};
+use outputs::Output;
+use script_grammar::put_zones;
+use sf_base::{Failure, Lent, Name20};
+use std::alloc::Global;
+use std::io::Write;
+
+// ---- read
+
+pub(crate) fn add_instrument<'p>(
+    alloc: Global,
+    line: &mut Cursor<'_, 'p>,
+) -> Result<Step<'p>, Failure<LineFault>>
+    ensures { ReadsOrWants (λ s. s) (operands_read form.AddInstrument) line.old line.new result }
+{
+    let (at, instrument) = added_instrument(alloc, line)?;
+    Ok(Step::AddInstrument { at, instrument })
+}
+
+pub(crate) fn remove_instrument<'p>(line: &mut Cursor<'_, 'p>) -> Result<Step<'p>, LineFault>
+    ensures { Reads (λ s. s) (operands_read form.RemoveInstrument) line.old line.new result }
+{
+    let instrument = line.number(u32::MAX)?;
+    Ok(Step::RemoveInstrument { instrument })
+}
+
+pub(crate) fn rename_instrument<'p>(line: &mut Cursor<'_, 'p>) -> Result<Step<'p>, LineFault>
+    ensures { Reads (λ s. s) (operands_read form.RenameInstrument) line.old line.new result }
+{
+    let (instrument, name) = naming(line)?;
+    Ok(Step::RenameInstrument { instrument, name })
+}
+
+pub(crate) fn move_instrument<'p>(line: &mut Cursor<'_, 'p>) -> Result<Step<'p>, LineFault>
+    ensures { Reads (λ s. s) (operands_read form.MoveInstrument) line.old line.new result }
+{
+    let (from, to) = moving(line)?;
+    Ok(Step::MoveInstrument { from, to })
+}
+
+// `I NAME GLOBAL? ZONE*`
+#[tactic(auto, unfolding(crate::specs::Instruments::added_instrument))]
+fn added_instrument(
+    alloc: Global,
+    line: &mut Cursor<'_, '_>,
+) -> Result<(u32, Instrument), Failure<LineFault>>
+    ensures { ReadsOrWants (λ a. a) added_instrument line.old line.new result }
+{
+    let (at, name) = naming(line)?;
+    let instrument = zones_of(name, alloc, line)?;
+    Ok((at, instrument))
+}
+
+// ---- printed
+
+pub(crate) fn put_add_instrument<W: Write>(
+    at: u32,
+    instrument: &Instrument,
+    output: &mut Output<'_, W>,
+)
+    ensures { Puts W.contents output.old output.new (flat_map spaced (pieces_of (printed_owner name_operands at instrument.now))) }
+{
+    put_placed_name(at, &instrument.head, output);
+    put_zones(&instrument.global, instrument.zones.as_slice(), output);
+}
+
+// `I NAME`, each behind a space
+fn put_placed_name<W: Write>(at: u32, name: &Name20, output: &mut Output<'_, W>)
+    ensures { Puts W.contents output.old output.new (flat_map spaced (pieces_of (place at ∷ name_operands name.now))) }
+{
+    let at = Piece::Number(u64::from(at));
+    let name = Piece::Name(Lent::new(name.bytes()));
+    put_pieces(&[at, name], output);
+}

@@ -1,0 +1,167 @@
+//! The forms that edit generators and modulators.
+ghost use Rattle.std.specs.Prelude.{◌≡◌, codes};
+ghost use Rattle.std.specs.List.{flat_map};
+ghost use Rattle.outputs.specs.Output.{Puts};
+ghost use Rattle.line_tokens.specs.Parts.{Reads};
+ghost use Rattle.line_tokens.specs.Printing.{spaced};
+ghost use Rattle.script_grammar.specs.Operands.{pieces_of};
+ghost use Rattle.step_script.specs.Owners.{of_place};
+ghost use Rattle.step_script.specs.Settings.{generator_at_operands, operator_operands, index_operands, modulator_at_operands, set_gen, clear_gen, add_mod, remove_mod, set_mod};
+
+use crate::owners::{kind_piece, number_piece, owner_place, place_piece};
+use bank_changes::{Owner, Place};
+use edit_forms::Step;
+use line_tokens::{Cursor, LineFault, Piece, put_pieces};
+use modulators::Modulator;
+use outputs::Output;
+use script_grammar::{generator, modulator, put_generator, put_modulator};
+use std::io::Write;
+
+// ---- read
+
+// `OWNER PLACE OPERATOR AMOUNT`
+#[tactic(auto, unfolding(crate::specs::Settings::set_gen))]
+pub(crate) fn set_gen<'p>(line: &mut Cursor<'_, 'p>) -> Result<Step<'p>, LineFault>
+    ensures { Reads (λ s. s) set_gen line.old line.new result }
+{
+    let (owner, place) = owner_place(line)?;
+    let (operator, amount) = generator(line)?;
+    Ok(Step::SetGen {
+        owner,
+        place,
+        operator,
+        amount,
+    })
+}
+
+// `OWNER PLACE OPERATOR`
+#[tactic(auto, unfolding(crate::specs::Settings::clear_gen))]
+pub(crate) fn clear_gen<'p>(line: &mut Cursor<'_, 'p>) -> Result<Step<'p>, LineFault>
+    ensures { Reads (λ s. s) clear_gen line.old line.new result }
+{
+    let (owner, place) = owner_place(line)?;
+    let operator = line.number(u32::from(u16::MAX))? as u16;
+    Ok(Step::ClearGen {
+        owner,
+        place,
+        operator,
+    })
+}
+
+// `OWNER PLACE J MOD`
+#[tactic(auto, unfolding(crate::specs::Settings::add_mod))]
+pub(crate) fn add_mod<'p>(line: &mut Cursor<'_, 'p>) -> Result<Step<'p>, LineFault>
+    ensures { Reads (λ s. s) add_mod line.old line.new result }
+{
+    let (owner, place) = owner_place(line)?;
+    let index = line.number(u32::MAX)?;
+    let modulator = modulator(line)?;
+    Ok(Step::AddMod {
+        owner,
+        place,
+        index,
+        modulator,
+    })
+}
+
+// `OWNER PLACE J`
+#[tactic(auto, unfolding(crate::specs::Settings::remove_mod))]
+pub(crate) fn remove_mod<'p>(line: &mut Cursor<'_, 'p>) -> Result<Step<'p>, LineFault>
+    ensures { Reads (λ s. s) remove_mod line.old line.new result }
+{
+    let (owner, place) = owner_place(line)?;
+    let index = line.number(u32::MAX)?;
+    Ok(Step::RemoveMod {
+        owner,
+        place,
+        index,
+    })
+}
+
+// `OWNER PLACE J MOD`
+#[tactic(auto, unfolding(crate::specs::Settings::set_mod))]
+pub(crate) fn set_mod<'p>(line: &mut Cursor<'_, 'p>) -> Result<Step<'p>, LineFault>
+    ensures { Reads (λ s. s) set_mod line.old line.new result }
+{
+    let (owner, place) = owner_place(line)?;
+    let index = line.number(u32::MAX)?;
+    let modulator = modulator(line)?;
+    Ok(Step::SetMod {
+        owner,
+        place,
+        index,
+        modulator,
+    })
+}
+
+// ---- printed
+
+pub(crate) fn put_set_gen<W: Write>(
+    owner: Owner,
+    place: Place,
+    operator: u16,
+    amount: u16,
+    output: &mut Output<'_, W>,
+)
+    ensures { Puts W.contents output.old output.new (flat_map spaced (pieces_of (generator_at_operands owner place operator amount))) }
+{
+    put_owner_place(owner, place, output);
+    put_generator(operator, amount, output);
+}
+
+// `OWNER PLACE`, each behind a space
+fn put_owner_place<W: Write>(owner: Owner, place: Place, output: &mut Output<'_, W>)
+    ensures { Puts W.contents output.old output.new (flat_map spaced (pieces_of (of_place owner place))) }
+{
+    put_pieces(
+        &[kind_piece(owner), number_piece(owner), place_piece(place)],
+        output,
+    );
+}
+
+pub(crate) fn put_clear_gen<W: Write>(
+    owner: Owner,
+    place: Place,
+    operator: u16,
+    output: &mut Output<'_, W>,
+)
+    ensures { Puts W.contents output.old output.new (flat_map spaced (pieces_of (operator_operands owner place operator))) }
+{
+    let place = place_piece(place);
+    let operator = Piece::Number(u64::from(operator));
+    put_pieces(
+        &[kind_piece(owner), number_piece(owner), place, operator],
+        output,
+    );
+}
+
+// `OWNER PLACE J MOD`, each token behind a space
+pub(crate) fn put_modulator_at<W: Write>(
+    owner: Owner,
+    place: Place,
+    index: u32,
+    modulator: &Modulator,
+    output: &mut Output<'_, W>,
+)
+    ensures { Puts W.contents output.old output.new (flat_map spaced (pieces_of (modulator_at_operands owner place index modulator.now))) }
+{
+    put_index(owner, place, index, output);
+    put_modulator(modulator, output);
+}
+
+// `OWNER PLACE J`, each behind a space
+pub(crate) fn put_index<W: Write>(
+    owner: Owner,
+    place: Place,
+    index: u32,
+    output: &mut Output<'_, W>,
+)
+    ensures { Puts W.contents output.old output.new (flat_map spaced (pieces_of (index_operands owner place index))) }
+{
+    let place = place_piece(place);
+    let index = Piece::Number(u64::from(index));
+    put_pieces(
+        &[kind_piece(owner), number_piece(owner), place, index],
+        output,
+    );
+}

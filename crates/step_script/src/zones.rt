@@ -1,0 +1,179 @@
+//! The forms that edit zones.
+ghost use Rattle.std.specs.Prelude.{◌≡◌, codes};
+ghost use Rattle.std.specs.List.{flat_map};
+ghost use Rattle.outputs.specs.Output.{Puts};
+ghost use Rattle.line_tokens.specs.Parts.{Reads};
+ghost use Rattle.line_tokens.specs.Printing.{spaced};
+ghost use Rattle.script_grammar.specs.Operands.{pieces_of};
+ghost use Rattle.script_grammar.specs.Memory.{ReadsOrWants};
+ghost use Rattle.step_script.specs.Owners.{of_zone};
+ghost use Rattle.step_script.specs.Zones.{printed_zone, moved_zone_operands, split_operands, joined_operands, target_operands, add_zone, remove_zone, move_zone, split_zone, join_zone, set_target};
+
+use crate::owners::{kind_piece, number_piece, owner_zone};
+use bank_changes::Owner;
+use bank_parts::Zone;
+use edit_forms::Step;
+use line_tokens::{Cursor, LineFault, Piece, put_pieces};
+use outputs::Output;
+use script_grammar::{HasWord, next_named, put_zone, zone};
+use sf_base::{Failure, Lent};
+use std::alloc::Global;
+use std::io::Write;
+use zone_ranges::{Axis, Keep};
+
+// ---- read
+
+// `OWNER K ZONE`
+#[tactic(auto, unfolding(crate::specs::Zones::add_zone))]
+pub(crate) fn add_zone<'p>(
+    alloc: Global,
+    line: &mut Cursor<'_, 'p>,
+) -> Result<Step<'p>, Failure<LineFault>>
+    ensures { ReadsOrWants (λ s. s) add_zone line.old line.new result }
+{
+    let (owner, at) = owner_zone(line)?;
+    let zone = zone(alloc, line)?;
+    Ok(Step::AddZone { owner, at, zone })
+}
+
+// `OWNER K`
+#[tactic(auto, unfolding(crate::specs::Zones::remove_zone))]
+pub(crate) fn remove_zone<'p>(line: &mut Cursor<'_, 'p>) -> Result<Step<'p>, LineFault>
+    ensures { Reads (λ s. s) remove_zone line.old line.new result }
+{
+    let (owner, zone) = owner_zone(line)?;
+    Ok(Step::RemoveZone { owner, zone })
+}
+
+// `OWNER I J`
+#[tactic(auto, unfolding(crate::specs::Zones::move_zone))]
+pub(crate) fn move_zone<'p>(line: &mut Cursor<'_, 'p>) -> Result<Step<'p>, LineFault>
+    ensures { Reads (λ s. s) move_zone line.old line.new result }
+{
+    let (owner, from) = owner_zone(line)?;
+    let to = line.number(u32::MAX)?;
+    Ok(Step::MoveZone { owner, from, to })
+}
+
+// `OWNER K key|vel M`
+#[tactic(auto, unfolding(crate::specs::Zones::split_zone))]
+pub(crate) fn split_zone<'p>(line: &mut Cursor<'_, 'p>) -> Result<Step<'p>, LineFault>
+    ensures { Reads (λ s. s) split_zone line.old line.new result }
+{
+    let (owner, zone) = owner_zone(line)?;
+    let axis = next_named(line)?;
+    let at = line.number(u32::from(u8::MAX))? as u8;
+    Ok(Step::SplitZone {
+        owner,
+        zone,
+        axis,
+        at,
+    })
+}
+
+// `OWNER K key|vel keep|bare`
+#[tactic(auto, unfolding(crate::specs::Zones::join_zone))]
+pub(crate) fn join_zone<'p>(line: &mut Cursor<'_, 'p>) -> Result<Step<'p>, LineFault>
+    ensures { Reads (λ s. s) join_zone line.old line.new result }
+{
+    let (owner, zone) = owner_zone(line)?;
+    let axis = next_named(line)?;
+    let keep = next_named(line)?;
+    Ok(Step::JoinZone {
+        owner,
+        zone,
+        axis,
+        keep,
+    })
+}
+
+// `OWNER K TARGET`
+#[tactic(auto, unfolding(crate::specs::Zones::set_target))]
+pub(crate) fn set_target<'p>(line: &mut Cursor<'_, 'p>) -> Result<Step<'p>, LineFault>
+    ensures { Reads (λ s. s) set_target line.old line.new result }
+{
+    let (owner, zone) = owner_zone(line)?;
+    let target = line.number(u32::from(u16::MAX))? as u16;
+    Ok(Step::SetTarget {
+        owner,
+        zone,
+        target,
+    })
+}
+
+// ---- printed
+
+pub(crate) fn put_add_zone<W: Write>(owner: Owner, at: u32, zone: &Zone, output: &mut Output<'_, W>)
+    ensures { Puts W.contents output.old output.new (flat_map spaced (pieces_of (printed_zone owner at zone.now))) }
+{
+    put_owner_zone(owner, at, output);
+    put_zone(zone, output);
+}
+
+// `OWNER K`, each behind a space
+pub(crate) fn put_owner_zone<W: Write>(owner: Owner, zone: u32, output: &mut Output<'_, W>)
+    ensures { Puts W.contents output.old output.new (flat_map spaced (pieces_of (of_zone owner zone))) }
+{
+    let zone = Piece::Number(u64::from(zone));
+    put_pieces(&[kind_piece(owner), number_piece(owner), zone], output);
+}
+
+pub(crate) fn put_move_zone<W: Write>(owner: Owner, from: u32, to: u32, output: &mut Output<'_, W>)
+    ensures { Puts W.contents output.old output.new (flat_map spaced (pieces_of (moved_zone_operands owner from to))) }
+{
+    let from = Piece::Number(u64::from(from));
+    let to = Piece::Number(u64::from(to));
+    put_pieces(&[kind_piece(owner), number_piece(owner), from, to], output);
+}
+
+pub(crate) fn put_split_zone<W: Write>(
+    owner: Owner,
+    zone: u32,
+    axis: Axis,
+    at: u8,
+    output: &mut Output<'_, W>,
+)
+    ensures { Puts W.contents output.old output.new (flat_map spaced (pieces_of (split_operands owner zone axis at))) }
+{
+    let zone = Piece::Number(u64::from(zone));
+    let axis = Piece::Word(Lent::new(axis.word()));
+    let at = Piece::Number(u64::from(at));
+    put_pieces(
+        &[kind_piece(owner), number_piece(owner), zone, axis, at],
+        output,
+    );
+}
+
+pub(crate) fn put_join_zone<W: Write>(
+    owner: Owner,
+    zone: u32,
+    axis: Axis,
+    keep: Keep,
+    output: &mut Output<'_, W>,
+)
+    ensures { Puts W.contents output.old output.new (flat_map spaced (pieces_of (joined_operands owner zone axis keep))) }
+{
+    let zone = Piece::Number(u64::from(zone));
+    let axis = Piece::Word(Lent::new(axis.word()));
+    let keep = Piece::Word(Lent::new(keep.word()));
+    put_pieces(
+        &[kind_piece(owner), number_piece(owner), zone, axis, keep],
+        output,
+    );
+}
+
+pub(crate) fn put_set_target<W: Write>(
+    owner: Owner,
+    zone: u32,
+    target: u16,
+    output: &mut Output<'_, W>,
+)
+    ensures { Puts W.contents output.old output.new (flat_map spaced (pieces_of (target_operands owner zone target))) }
+{
+    let zone = Piece::Number(u64::from(zone));
+    let target = Piece::Number(u64::from(target));
+    put_pieces(
+        &[kind_piece(owner), number_piece(owner), zone, target],
+        output,
+    );
+}
