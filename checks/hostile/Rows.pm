@@ -1,0 +1,180 @@
+# The tables of files, scripts and lists of notes beside this file, row by row; and that they meet each fault,
+# each refusal and each count that there is.
+package Rows;
+use strict;
+use warnings;
+use Banks;
+use Runs;
+use Exporter 'import';
+our @EXPORT = qw(try_rows);
+
+# What the rows met: numbers of faults and refusals, and counts.
+my %met;
+
+# The rows of a table: its parts between `|`, without the blanks around them.
+sub rows_of {
+    my ($path) = @_;
+    return map { [split /\s*\|\s*/, $_, -1] } grep { /^[^#]/ } split /\s*\n/, read_bytes($path) // die "$path: $!\n";
+}
+
+# What is wrong with a run that has to end by this part of a line.
+sub ends_by {
+    my ($run, $part) = @_;
+    $met{$1}++ if $run->{line} =~ /(?:fault|refused) (\d+)/;
+    return $run->{wrong} // (index($run->{line}, $part) < 0 ? "'$run->{line}' instead of $part" : undef);
+}
+
+# What is wrong with a run that has to be done.
+sub is_done { my ($run) = @_; return $run->{wrong} // ($run->{status} ? $run->{line} : undef); }
+
+# The line of counts of a listing.
+sub counts_line {
+    my ($counts) = @_;
+    my %counted = split ' ', $counts;
+    $met{$_}++ for keys %counted;
+    return join ' ', 'counts', map { "$_ " . ($counted{$_} // 0) } qw(texts sm24 zones gens ranges loops links);
+}
+
+# What is wrong with a file that has to come to this canonical file, with these counts.
+sub reads_as {
+    my ($canonical, $counts) = @_;
+    write_bytes('want', $canonical);
+    my $wrong = is_done(canon('in', 'out'));
+    $wrong //= read_bytes('out') eq $canonical ? undef : 'another canonical file';
+    $wrong //= is_done(canon('want', 'again')) // (read_bytes('again') eq $canonical ? undef : 'no canonical file is wanted');
+    return $wrong if defined $wrong;
+    my $shown = run(['show', 'in']);
+    my $line = counts_line($counts);
+    return "'$line' is not counted" if $shown->{status} || index(read_bytes('printed'), "\n$line\n") < 0;
+    return;
+}
+
+sub try_file {
+    my ($bank, $changes, $answer, $then, $counts) = @_;
+    write_bytes('in', changed(read_bytes($bank), $changes));
+    my ($as) = $answer =~ /^as (\w+)$/;
+    my $wrong = $as ? reads_as(changed(read_bytes($as), $then // ''), $counts // '') : ends_by(canon('in', 'out'), "read fault $answer\n");
+    tell("$bank with $changes", $wrong);
+}
+
+# Each front of a file: NotRiff while its first four bytes are cut, and Truncated then.
+sub try_fronts {
+    for my $bank (qw(empty saw tone)) {
+        my $whole = read_bytes($bank);
+        for my $length (0 .. length($whole) - 1) {
+            write_bytes('in', substr $whole, 0, $length);
+            tell("$length bytes of $bank", ends_by(canon('in', 'out'), 'read fault ' . ($length < 4 ? "1 NotRiff\n" : "3 Truncated\n")));
+        }
+    }
+}
+
+sub try_script {
+    my ($bank, $script, $answer) = @_;
+    $_ = s/\\n/\n/gr for $script, $answer;
+    my $run = apply_text($bank, "$script\n", 'out', 'undo');
+    my $wrong;
+    if ($answer =~ s/^undo ?//) {
+        my $undo = $answer eq '' ? '' : "$answer\n";
+        $wrong = is_done($run) // (read_bytes('undo') eq $undo ? undone($bank) : 'another undo text: ' . read_bytes('undo'));
+    } else {
+        my $line = $answer =~ /^line/ ? $answer : "line 1: $answer";
+        $wrong = ends_by($run, ": $line\n");
+    }
+    tell("$script on $bank", $wrong);
+}
+
+sub play {
+    my ($bank, $notes, $out) = @_;
+    write_bytes('notes', $notes);
+    return run_command(['play', $bank, 'notes', $out], $out eq '/dev/null' ? () : $out);
+}
+
+# The WAVE file of these frames.
+sub wave {
+    my ($frames) = @_;
+    return pack('a4Va8VvvVVvva4V', 'RIFF', 36 + length $frames, 'WAVEfmt ', 16, 1, 2, 44_100, 176_400, 4, 16, 'data', length $frames) . $frames;
+}
+
+sub try_notes {
+    my ($bank, $notes, $answer) = @_;
+    $notes =~ s/\\n/\n/g;
+    my $run = play($bank, "$notes\n", 'out');
+    my $wrong;
+    if ($answer =~ s/^frames ?//) {
+        $wrong = is_done($run) // (read_bytes('out') eq wave(bytes_of($answer)) ? undef : 'another WAVE file');
+    } else {
+        $wrong = ends_by($run, ": line 1: $answer\n");
+    }
+    tell("$notes on $bank", $wrong);
+}
+
+# What is too long for a table.
+sub try_long {
+    tell('65,535 notes', is_done(play('tone', "0 1 0 1 60 1\n" x 65_535, 'out')));
+    tell('65,536 notes', ends_by(play('tone', "0 1 0 1 60 1\n" x 65_536, 'out'), ": line 65536: fault 46 TooManyNotes\n"));
+    tell('the latest notes', is_done(play('empty', "99999999 1 0 0 60 127\n100000000 0 0 0 60 127\n", '/dev/null')));
+    my @lines = (
+        ['100,000 braces', '{ ' x 100_000, 'fault 41 Syntax'],
+        ['a zone of 100,000 braces', 'add-zone inst 0 0 ' . '{ ' x 100_000, 'fault 42 Number'],
+        ['a word of a megabyte', 'f' x 1_000_000, 'fault 41 Syntax'],
+        ['a number of a megabyte', 'remove-sample ' . '1' x 1_000_000, 'fault 42 Number'],
+        ['a name of a megabyte', 'rename-sample 0 "' . 'n' x 1_000_000 . '"', 'fault 43 Literal'],
+        ['a literal without an end', 'rename-sample 0 "' . 'n' x 1_000_000, 'fault 43 Literal'],
+        ['a million bare literals', 'x ' x 1_000_000, 'fault 41 Syntax'],
+        ['a text of a byte too many', 'set-info ICMT "' . 'c' x 65_536 . '"', 'refused 36 BadText'],
+        ['a million lines', "\n" x 1_000_000 . 'frob', 'line 1000001: fault 41 Syntax'],
+    );
+    try_long_line(@$_) for @lines;
+    my @done = (
+        ['a literal of 2,000,000 digits', 'extend 0 x x' . '01fe' x 500_000, "trim 0 0 500000\n"],
+        ['a comment of a megabyte', '#' x 1_000_000, ''],
+        ['a text of the most bytes', 'set-info ICMT "' . 'c' x 65_535 . '"', "set-info ICMT \"\"\n"],
+        ['one generator 100,000 times', 'add-inst 1 "i" { 0' . ' g 17 1' x 100_000 . ' }', "remove-inst 1\n"],
+    );
+    for (@done) {
+        my ($name, $script, $undo) = @$_;
+        tell($name, is_undone($script, $undo));
+    }
+}
+
+# What is wrong with a script that has to be done on the tone, and taken back by this text.
+sub is_undone {
+    my ($script, $undo) = @_;
+    my $wrong = is_done(apply_text('tone', $script, 'out', 'undo'));
+    return $wrong // (read_bytes('undo') eq $undo ? undone('tone') : 'another undo text');
+}
+
+sub try_groups {
+    my ($here) = @_;
+    try_script(@$_) for rows_of("$here/groups");
+    my $name = '{ rename-sample 0 "t" }';
+    tell('a group of 100,000 edits', is_undone("group" . " $name" x 100_000, "group" . " $name" x 100_000 . "\n"));
+    try_long_line('a group of 100,000 braces', 'group' . ' {' x 100_000, 'fault 41 Syntax');
+    tell('48 is met by a row', $met{48} ? undef : 'it is not');
+}
+
+sub try_long_line {
+    my ($name, $script, $answer) = @_;
+    my $line = $answer =~ /^line/ ? $answer : "line 1: $answer";
+    tell($name, ends_by(apply_text('tone', $script, 'out', 'undo'), ": $line\n"));
+}
+
+# That each fault, refusal and count was met.
+sub try_met {
+    for (sort(keys %Runs::FAULTS, grep { /^\d+$/ } keys %Runs::REFUSALS), qw(texts sm24 zones gens ranges loops links)) {
+        tell("$_ is met by a row", $met{$_} ? undef : 'it is not');
+    }
+}
+
+sub try_rows {
+    my ($here) = @_;
+    try_file(@$_) for rows_of("$here/files");
+    try_fronts();
+    try_script(@$_) for rows_of("$here/scripts");
+    try_notes(@$_) for rows_of("$here/notes");
+    try_long();
+    try_groups($here) if knows_groups();
+    try_met();
+}
+
+1;

@@ -1,0 +1,149 @@
+# Runs of the program in a folder, and what holds of each: it ends by itself, with a status, the line
+# that goes with it, and no output but where it is done.
+package Runs;
+use strict;
+use warnings;
+use Banks;
+use Exporter 'import';
+our @EXPORT = qw(run_in program_of_runs run run_command is_right tell totals canon apply apply_text knows_groups same undone);
+
+# The faults and refusals, by their numbers.
+our %FAULTS = (
+    1 => 'NotRiff', 2 => 'NotSfbk', 3 => 'Truncated', 4 => 'MissingList', 5 => 'MissingChunk', 6 => 'Version',
+    7 => 'RecordSize', 8 => 'NoTerminal', 9 => 'BagOrder', 10 => 'IndexOutside', 11 => 'BadInstrument',
+    12 => 'BadSample', 14 => 'SampleRange', 15 => 'SampleType', 16 => 'RomSample', 17 => 'OddSamples', 18 => 'TooMany',
+    41 => 'Syntax', 42 => 'Number', 43 => 'Literal', 45 => 'BadNote', 46 => 'TooManyNotes', 47 => 'TooLong',
+);
+our %REFUSALS = (
+    20 => 'NoSuchPreset', 21 => 'NoSuchInstrument', 22 => 'NoSuchSample', 23 => 'NoSuchZone', 24 => 'NoSuchModulator',
+    25 => 'BadPlace', 26 => 'InUse', 27 => 'BadGenerator', 28 => 'NotSet', 29 => 'BadRange', 30 => 'SplitOutside',
+    31 => 'NotJoinable', 32 => 'LinkedModulator', 33 => 'TooShort', 34 => 'LoopCut', 35 => 'BadLoop', 36 => 'BadText',
+    (map { ("37 Full $_" => 1) } qw(presets instruments samples zones generators modulators points)),
+);
+
+my ($program, $folder);
+our $preloaded;
+my ($passed, $failed) = (0, 0);
+
+# The program that all runs are of, and the folder in which they are.
+sub run_in { ($program, $folder) = @_; chdir $folder or die "$folder: $!\n"; }
+sub program_of_runs { return $program; }
+
+# Counts what was tried, and shows what went wrong with it: the first twenty.
+sub tell {
+    my ($name, $wrong) = @_;
+    if (!defined $wrong) { $passed++; return; }
+    print "hostile: $name: $wrong\n" if ++$failed <= 20;
+}
+
+sub totals { return ($passed, $failed); }
+
+# Runs the program on words; its standard output is the file `printed`, or what is given. Answers what the
+# run was: its words, its status, the signal that ended it, the seconds that it computed, its line of errors.
+sub run {
+    my ($words, $output) = @_;
+    my $before = (times)[2] + (times)[3];
+    my $child = fork // die;
+    if (!$child) {
+        $ENV{LD_PRELOAD} = $preloaded if $preloaded;
+        open STDOUT, '>', $output // 'printed' or die;
+        open STDERR, '>', 'errors' or die;
+        exec { $program } 'sfbank', @$words or die;
+    }
+    local $SIG{ALRM} = sub { kill 'KILL', $child };
+    alarm 120;
+    waitpid $child, 0;
+    my $status = $?;
+    alarm 0;
+    return {
+        words => join(' ', @$words), status => $status >> 8, signal => $status & 127,
+        seconds => (times)[2] + (times)[3] - $before, line => read_bytes('errors'), printed => -s 'printed',
+    };
+}
+
+# The status that goes with a line of errors; none where no such line is told.
+sub status_of {
+    my ($line) = @_;
+    return 0 if $line eq '';
+    return $FAULTS{$1} && $FAULTS{$1} eq $2 && $1 <= 18 ? 2 : undef if $line =~ /^sfbank: read fault (\d+) (\w+)\n\z/;
+    return $FAULTS{$1} && $FAULTS{$1} eq $2 && $1 >= 41 ? 3 : undef if $line =~ /^sfbank: line [1-9]\d*: fault (\d+) (\w+)\n\z/;
+    return is_cause($1) ? 4 : undef if $line =~ /^sfbank: line [1-9]\d*: refused (?:48 GroupRefused \d+ )?(.*)\n\z/;
+    return 5 if $line =~ /^sfbank: (?:file fault [^\n]*|write fault [^\n]* after \d+ bytes)\n\z/;
+    return;
+}
+
+sub is_cause {
+    my ($cause) = @_;
+    return $REFUSALS{$cause} || $cause =~ /^(\d+) (\w+)$/ && ($REFUSALS{$1} // '') eq $2;
+}
+
+# What is wrong with a run, whatever it was on: nothing of it, or words. `bytes` is what it read and wrote.
+sub is_right {
+    my ($run, $bytes) = @_;
+    return "$run->{words}: ended by signal $run->{signal}" if $run->{signal};
+    my $status = status_of($run->{line});
+    return "$run->{words}: status $run->{status} with '$run->{line}'" if !defined $status || $status != $run->{status};
+    return "$run->{words}: printed beside a fault" if $status && $run->{printed};
+    my $seconds = least_seconds($run, 1 + $bytes / 1_000_000);
+    return "$run->{words}: took $seconds seconds for $bytes bytes" if $seconds > 1 + $bytes / 1_000_000;
+    return;
+}
+
+# How long a run computes: where it is over the limit it is tried four times more and the least counts, since a
+# busy machine counts waiting too.
+sub least_seconds {
+    my ($run, $limit) = @_;
+    my $seconds = $run->{seconds};
+    for (1 .. 4) {
+        last if $seconds <= $limit;
+        my $again = run([split ' ', $run->{words}])->{seconds};
+        $seconds = $again if $again < $seconds;
+    }
+    return $seconds;
+}
+
+# Runs a command that makes files, which are not there before; and answers the run with what is wrong: as
+# above, or a file that is there after a fault.
+sub run_command {
+    my ($words, @made) = @_;
+    die 'a file to be made is elsewhere' if grep { m{/} } @made;
+    unlink @made;
+    my $run = run($words);
+    my $bytes = 0;
+    $bytes += -s $_ // 0 for @$words[1 .. $#$words];
+    $run->{wrong} = is_right($run, $bytes);
+    $run->{wrong} //= "$run->{words}: printed" if $run->{printed};
+    for (@made) { $run->{wrong} //= $run->{status} ? "$run->{words}: left $_" : "$run->{words}: made no $_" if !$run->{status} != !!-e; }
+    return $run;
+}
+
+sub canon { my ($in, $out) = @_; return run_command(['canon', $in, $out], $out); }
+sub apply { my ($in, $script, $out, $undo) = @_; return run_command(['apply', $in, $script, $out, $undo], $out, $undo); }
+
+# The same for the text of a script.
+sub apply_text {
+    my ($in, $text, $out, $undo) = @_;
+    write_bytes('script', $text);
+    return apply($in, 'script', $out, $undo);
+}
+
+# Whether the program has groups of edits.
+sub knows_groups { return !apply_text('empty', 'group', 'out', 'undo')->{status}; }
+
+# What is wrong with the way back from `out` by `undo`: it gives the canonical file `in` back, and the way
+# back from there gives `out` and `undo`.
+sub undone {
+    my ($in) = @_;
+    for (['out', 'undo', 'back', 'again', $in], ['back', 'again', 'out.again', 'undo.again', 'out']) {
+        my ($from, $script, $to, $undo, $want) = @$_;
+        my $run = apply($from, $script, $to, $undo);
+        return $run->{wrong} if $run->{wrong};
+        return "$script is not done: $run->{line}" if $run->{status};
+        return "$script on $from is not $want" if !same($to, $want);
+    }
+    return same('undo', 'undo.again') ? undef : 'the undo of the undo of the undo is another';
+}
+
+sub same { my ($one, $other) = @_; return read_bytes($one) eq read_bytes($other); }
+
+1;

@@ -1,0 +1,82 @@
+# Files, scripts and lists of notes by seeds, as scripts/make_hostile makes them of some banks: the canonical file
+# of an accepted file is its own, and is listed alike; each accepted script is undone to the byte.
+package Seeds;
+use strict;
+use warnings;
+use Banks;
+use Runs;
+use Exporter 'import';
+our @EXPORT = qw(try_seeds);
+
+my @banks;
+our %done;
+
+# A listing without its line of counts.
+sub without_counts { return $_[0] =~ s/^counts.*\n//mr; }
+
+# What is wrong with a hostile file.
+sub wrong_of_file {
+    my ($file) = @_;
+    my $run = canon($file, 'fixed');
+    return $run->{wrong} if $run->{wrong};
+    my $shown = run(['show', $file]);
+    my $wrong = is_right($shown, -s $file);
+    return $wrong // ($shown->{line} eq $run->{line} ? undef : "show: $shown->{line}") if $wrong || $run->{status};
+    $done{files}++;
+    my $listed = without_counts(read_bytes('printed'));
+    $wrong = is_right(run(['show', 'fixed']), -s 'fixed');
+    return $wrong // 'the canonical file is listed otherwise' if $wrong || without_counts(read_bytes('printed')) ne $listed;
+    return 'the canonical file has counts' if read_bytes('printed') !~ /^counts(?: \w+ 0){7}$/m;
+    my $again = canon('fixed', 'again');
+    return $again->{wrong} // (!$again->{status} && same('fixed', 'again') ? undef : 'the canonical file is not its own');
+}
+
+# What is wrong with a script on a file whose canonical file is given.
+sub wrong_of_script {
+    my ($kind, $file, $canonical, $script) = @_;
+    my $run = apply($file, $script, 'out', 'undo');
+    return $run->{wrong} if $run->{wrong} || $run->{status};
+    $done{$kind}++;
+    return undone($canonical);
+}
+
+# What is wrong with notes on a file: the sizes in a WAVE file are those of the file.
+sub wrong_of_notes {
+    my ($file, $notes) = @_;
+    my $run = run_command(['play', $file, $notes, 'wave'], 'wave');
+    return $run->{wrong} if $run->{wrong} || $run->{status};
+    $done{notes}++;
+    my $wave = read_bytes('wave');
+    my ($whole, $frames) = (unpack 'x4Vx32V', $wave);
+    return $whole == length($wave) - 8 && $frames == length($wave) - 44 ? undef : 'the sizes of the WAVE file are others';
+}
+
+sub wrong_of_seed {
+    my ($seed) = @_;
+    my $bank = $banks[$seed % @banks];
+    return wrong_of_file("seeds/$seed.sf2")
+        // wrong_of_script('edge', $bank, $bank, "seeds/$seed.edge")
+        // wrong_of_script('wild', $bank, $bank, "seeds/$seed.wild")
+        // (-e 'fixed' ? wrong_of_script('both', "seeds/$seed.sf2", 'fixed', "seeds/$seed.wild") : undef)
+        // wrong_of_notes(-e 'fixed' ? "seeds/$seed.sf2" : $bank, "seeds/$seed.notes");
+}
+
+# Tries so many seeds from one on, with a maker of their files and the banks that it makes them of.
+sub try_seeds {
+    my ($maker, $first, $count, @from) = @_;
+    for my $number (0 .. $#from) {
+        tell("canon $from[$number]", canon($from[$number], "bank$number")->{wrong});
+        push @banks, "bank$number";
+    }
+    local $ENV{HOSTILE_GROUPS} = knows_groups() ? 1 : 0;
+    while ($count > 0) {
+        my $some = $count < 200 ? $count : 200;
+        mkdir 'seeds';
+        system($maker, 'seeds', $first, $some, @banks) and return tell('scripts/make_hostile', 'failed');
+        tell("seed $_", wrong_of_seed($_)) for $first .. $first + $some - 1;
+        unlink glob 'seeds/*';
+        ($first, $count) = ($first + $some, $count - $some);
+    }
+}
+
+1;

@@ -1,0 +1,122 @@
+# Outputs that can't be written: a write that fails, or takes no byte, at each call in turn, devices that are
+# full, streams that are closed. The fault counts exactly the bytes that the file holds, which are that front
+# of the text.
+package Writes;
+use strict;
+use warnings;
+use Banks;
+use Runs;
+use Exporter 'import';
+our @EXPORT = qw(try_writes);
+
+# The runs, each with the outputs in the order in which they are written; `-` is the standard output.
+my @runs = (
+    [['apply', 'saw', 'rename', 'out', 'undo'], 'out', 'undo'],
+    [['apply', 'layered', 'remove', 'out', 'undo'], 'out', 'undo'],
+    [['apply', 'long', 'remove', 'out', 'undo'], 'out', 'undo'],
+    [['canon', 'tone', 'out'], 'out'],
+    [['play', 'tone', 'note', 'out'], 'out'],
+    [['show', 'wide'], '-'],
+);
+
+# How writes go wrong: by an error or by taking nothing, and the most bytes that each call takes before, if any.
+my @ways = map { my $way = $_; map { [$way, $_] } 0, 1, 100 } qw(FAILED_WRITE EMPTY_WRITE);
+
+sub make_inputs {
+    write_bytes('rename', "rename-sample 0 \"ABCDEFGHIJKLMNOPQRST\"\n");
+    write_bytes('remove', "remove-inst 1\n");
+    write_bytes('note', "0 8 0 0 67 127\n");
+    my $points = '0123456789abcdef' x 5_000;
+    my $run = apply_text('layered', "extend 0 x$points x", 'long', 'undo');
+    tell('a longer bank', $run->{wrong});
+}
+
+# The file of an output; a run that had no fault leaves all of it there.
+sub file_of { my ($output) = @_; return $output eq '-' ? 'printed' : $output; }
+
+# Runs with the shim, new files only.
+sub run_under {
+    my ($shim, $settings, $words, @outputs) = @_;
+    unlink 'mark', map { file_of($_) } @outputs;
+    local @ENV{ 'FAILED_MARK', keys %$settings } = ('mark', values %$settings);
+    local $ENV{FAILED_OUTPUT} = 1 if $outputs[0] eq '-';
+    local $Runs::preloaded = $shim;
+    return run($words);
+}
+
+# What is wrong with a run of which a write went wrong: one output has the front that its fault counts, those
+# before it are whole, and those after it are not there.
+sub is_front {
+    my ($run, $whole, @outputs) = @_;
+    my ($path, $written) = $run->{line} =~ /^sfbank: write fault (\S+) after (\d+) bytes\n\z/;
+    return "status $run->{status} with '$run->{line}'" if $run->{status} != 5 || $run->{signal} || !defined $path;
+    my $place = 0;
+    for my $output (@outputs) {
+        my $held = read_bytes(file_of($output)) // '';
+        my $all = $whole->{$output};
+        my $right = $output eq $path ? substr($all, 0, $written) : $place ? '' : $all;
+        return "$output has " . length($held) . ' bytes with ' . $run->{line} if $held ne $right;
+        return "$output is there" if $place && -e $output;
+        $place = 1 if $output eq $path;
+    }
+    return $place ? undef : "the fault is of $path";
+}
+
+# Has each write of a run go wrong in turn, until none does.
+sub try_each_write {
+    my ($shim, $way, $most, $words, @outputs) = @_;
+    my $name = "@$words, $way, $most bytes a call";
+    run_under($shim, {}, $words, @outputs);
+    my %whole = map { $_ => read_bytes(file_of($_)) } @outputs;
+    for my $number (1 .. 100_000) {
+        my $run = run_under($shim, { $way => $number, $most ? (SHORT_WRITES => $most) : () }, $words, @outputs);
+        if (!-e 'mark') {
+            my ($other) = grep { read_bytes(file_of($_)) ne $whole{$_} } @outputs;
+            return tell("$name, $number calls", $run->{status} || $number == 1 ? 'is not done' : $other);
+        }
+        tell("$name, call $number", is_front($run, \%whole, @outputs));
+    }
+}
+
+# Runs of the shell: the program is `$0`. Each with its status, its line if one can be told, and a test of the
+# files that it left.
+my @shells = (
+    ['"$0" canon empty /dev/full', 5, '/dev/full', '[ -c /dev/full ]'],
+    ['"$0" show tone > /dev/full', 5, '-', 'true'],
+    ['"$0" play tone note /dev/full', 5, '/dev/full', 'true'],
+    ['"$0" apply saw rename /dev/full undo', 5, '/dev/full', '[ ! -e undo ]'],
+    ['"$0" apply saw rename out /dev/full', 5, '/dev/full', '[ "$(wc -c < out)" = 450 ]'],
+    ['"$0" apply saw rename out no/undo', 5, 'no/undo', '[ "$(wc -c < out)" = 450 ]'],
+    ['"$0" canon saw no/out', 5, 'no/out', '[ ! -e no ]'],
+    ['"$0" canon saw folder', 5, 'folder', '[ -d folder ]'],
+    ['"$0" show tone >&-', 5, '-', 'true'],
+    ['{ sleep 0.2; "$0" show tone; echo $? > status; } | true; exit $(cat status)', 5, '-', 'true'],
+    ['"$0" canon saw out <&- >&- 2>&-', 0, undef, 'cmp -s out saw'],
+    ['"$0" apply saw rename out /dev/full 2>&-', 5, undef, '[ "$(wc -c < out)" = 450 ]'],
+    ['"$0" canon saw /dev/full 2> /dev/full', 5, undef, 'true'],
+    ['"$0" show none 2> /dev/full', 5, undef, 'true'],
+    ['"$0" canon saw /dev/stdout | cmp -s - saw && exit 0', 0, undef, 'true'],
+);
+
+sub try_shell {
+    my ($line, $status, $path, $test) = @_;
+    unlink qw(out undo status errors);
+    my $ended = system('bash', '-c', "exec 2> errors; $line", program_of_runs()) >> 8;
+    my $want = $path ? "sfbank: write fault $path after 0 bytes\n" : '';
+    my $told = read_bytes('errors');
+    my $wrong = $ended != $status ? "status $ended" : $told ne $want ? "told '$told'" : system('bash', '-c', $test) ? 'left other files' : undef;
+    tell($line, $wrong);
+}
+
+sub try_writes {
+    my ($here) = @_;
+    make_inputs();
+    mkdir 'folder';
+    try_shell(@$_) for @shells;
+    return tell('the shim', 'it is not compiled') if system('cc', '-O2', '-shared', '-fPIC', '-o', 'fail.so', "$here/fail_writes.c");
+    for my $way (@ways) {
+        for my $run (@runs) { try_each_write('./fail.so', @$way, @$run) unless $way->[1] == 1 && $run->[0][1] eq 'long'; }
+    }
+}
+
+1;

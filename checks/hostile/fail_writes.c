@@ -1,0 +1,48 @@
+/* Has writes of a program go wrong: preloaded, it counts the calls of `write` to files that the program
+ * opened, from 1, and has
+ *   FAILED_WRITE=K   the call numbered K fail, and all that follow;
+ *   EMPTY_WRITE=K    the same calls take no byte;
+ *   SHORT_WRITES=N   each call take N bytes at most.
+ * It creates the file that FAILED_MARK names as a call goes wrong. The standard streams are left alone,
+ * but standard output counts as a file where FAILED_OUTPUT is set. */
+#include <errno.h>
+#include <fcntl.h>
+#include <stdlib.h>
+#include <sys/syscall.h>
+#include <unistd.h>
+
+static long counted;
+
+static long number_of(const char *name) {
+    const char *number = getenv(name);
+    return number ? strtol(number, NULL, 10) : 0;
+}
+
+static ssize_t through(int file, const void *bytes, size_t count) {
+    return syscall(SYS_write, file, bytes, count);
+}
+
+/* Whether calls from the one of this number on go wrong, and this is one of them. */
+static int goes_wrong(const char *name) {
+    long first = number_of(name);
+    if (first == 0 || counted < first)
+        return 0;
+    const char *mark = getenv("FAILED_MARK");
+    if (mark)
+        close(open(mark, O_WRONLY | O_CREAT, 0644));
+    return 1;
+}
+
+ssize_t write(int file, const void *bytes, size_t count) {
+    if (file == 0 || file == 2 || (file == 1 && !getenv("FAILED_OUTPUT")))
+        return through(file, bytes, count);
+    counted++;
+    if (goes_wrong("FAILED_WRITE")) {
+        errno = ENOSPC;
+        return -1;
+    }
+    if (goes_wrong("EMPTY_WRITE"))
+        return 0;
+    long most = number_of("SHORT_WRITES");
+    return through(file, bytes, most > 0 && count > (size_t)most ? (size_t)most : count);
+}
