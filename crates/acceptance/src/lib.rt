@@ -13,6 +13,8 @@ mod program;
 #[cfg(test)]
 mod samples;
 #[cfg(test)]
+mod saving;
+#[cfg(test)]
 mod steps;
 #[cfg(test)]
 mod writers;

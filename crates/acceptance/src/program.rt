@@ -24,7 +24,7 @@ fn run_on<O: Write, E: Write>(rt: &HostRuntime, words: &str, output: &mut O, err
 }
 
 /// Whether the program ends with this status and this line of errors, and with no output.
-fn ends(rt: &HostRuntime, words: &str, status: u8, line: &str) -> bool {
+pub(crate) fn ends(rt: &HostRuntime, words: &str, status: u8, line: &str) -> bool {
     let mut output = Vec::new(rt.alloc());
     let mut errors = Vec::new(rt.alloc());
     run_on(rt, words, &mut output, &mut errors) == status
@@ -33,7 +33,7 @@ fn ends(rt: &HostRuntime, words: &str, status: u8, line: &str) -> bool {
 }
 
 /// Whether the file at a path has these bytes.
-fn holds(rt: &HostRuntime, path: &str, bytes: &[u8]) -> bool {
+pub(crate) fn holds(rt: &HostRuntime, path: &str, bytes: &[u8]) -> bool {
     match fs::read(rt, path) {
         Ok(found) => found.as_slice() == bytes,
         Err(_) => false,
@@ -41,7 +41,7 @@ fn holds(rt: &HostRuntime, path: &str, bytes: &[u8]) -> bool {
 }
 
 /// Puts files into a new folder.
-fn put_files(rt: &HostRuntime, folder: &str, files: &[(&str, &[u8])]) -> io::Result<()> {
+pub(crate) fn put_files(rt: &HostRuntime, folder: &str, files: &[(&str, &[u8])]) -> io::Result<()> {
     let _ = fs::remove_dir_all(rt, folder);
     fs::create_dir(rt, folder)?;
     for (path, bytes) in files {
@@ -68,17 +68,17 @@ fn outputs_are_written(rt: HostRuntime) -> Result<(), Fail> {
     // An empty undo text empties its file.
     assert!(rt; ends(&rt, "sfbank apply do/in do/none do/out do/undo", 0, ""));
     assert!(rt; holds(&rt, "do/out", one.bytes()) && holds(&rt, "do/undo", b""));
-    // An undo text that can't be written leaves the bank.
+    // An undo text that can't be written leaves a bank that was not there before.
     let line = "sfbank: write fault do/no/undo after 0 bytes\n";
     assert!(rt;
         ends(
             &rt,
-            "sfbank apply do/in do/rename do/out do/no/undo",
+            "sfbank apply do/in do/rename do/new do/no/undo",
             5,
             line
         )
     );
-    assert!(rt; holds(&rt, "do/out", renamed.bytes()) && holds(&rt, "do/in", one.bytes()));
+    assert!(rt; holds(&rt, "do/new", renamed.bytes()) && holds(&rt, "do/in", one.bytes()));
     assert!(rt; ends(&rt, "sfbank canon do/longer do/out", 0, ""));
     assert!(rt; holds(&rt, "do/out", one.bytes()) && holds(&rt, "do/longer", longer.bytes()));
     assert!(rt;
