@@ -1,6 +1,6 @@
 //! Groups of edits: done whole, refused whole, and taken back in one line.
 
-use bank_core::{Bank, Owner};
+use bank_core::Owner;
 use edit_forms::{Edit, Step};
 use edit_script::{parse, pool_of, print};
 use edit_sessions::Session;
@@ -191,15 +191,14 @@ fn stands(alloc: Global, session: &Session<'_>, file: &File, back: &[u8]) -> boo
         && text.as_slice() == back
 }
 
-/// Whether a session that begins with T does the group, takes it back, and does it again.
-fn goes_back_and_forth<'a>(alloc: Global, bank: Bank<'a>, group: Edit<'a>) -> bool {
-    let mut session = Session::new(alloc, bank);
+/// Whether a session on T does the group, takes it back, and does it again.
+fn goes_back_and_forth<'a>(alloc: Global, session: &mut Session<'a>, group: Edit<'a>) -> bool {
     session.edit(alloc, group).is_ok()
-        && stands(alloc, &session, &silent(), BACK)
+        && stands(alloc, session, &silent(), BACK)
         && session.undo(alloc).is_ok()
-        && stands(alloc, &session, &tone(), b"")
+        && stands(alloc, session, &tone(), b"")
         && session.redo(alloc).is_ok()
-        && stands(alloc, &session, &silent(), BACK)
+        && stands(alloc, session, &silent(), BACK)
 }
 
 /// The edit of `GROUP`.
@@ -216,9 +215,10 @@ fn removals(alloc: Global) -> Result<Edit<'static>, OutOfMemory> {
 #[test]
 fn a_session_takes_a_group_back(rt: HostRuntime) -> Result<(), Fail> {
     let (alloc, file) = (rt.alloc(), tone());
-    let group = removals(alloc)?;
     let (bank, _counts) = read(alloc, file.bytes())?;
-    assert!(rt; goes_back_and_forth(alloc, bank, group));
+    let mut session = Session::new(alloc, bank);
+    let group = removals(alloc)?;
+    assert!(rt; goes_back_and_forth(alloc, &mut session, group));
     Ok(())
 }
 
