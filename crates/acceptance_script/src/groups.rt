@@ -1,9 +1,11 @@
 //! Groups of edits: done whole, refused whole, and taken back in one line.
 
-use bank_core::Bank;
-use edit_forms::Edit;
+use bank_core::Owner;
+use edit_forms::{Edit, Step};
 use edit_script::{parse, pool_of, print};
 use edit_sessions::Session;
+use numbered_lists::NumberedList;
+use sf_base::OutOfMemory;
 use sf_reader::read;
 use sf_writer::write;
 use std::alloc::Global;
@@ -189,25 +191,34 @@ fn stands(alloc: Global, session: &Session<'_>, file: &File, back: &[u8]) -> boo
         && text.as_slice() == back
 }
 
-/// Whether a session that begins with T does the group, takes it back, and does it again.
-fn goes_back_and_forth<'a>(alloc: Global, bank: Bank<'a>, group: Edit<'a>) -> bool {
-    let mut session = Session::new(alloc, bank);
+/// Whether a session on T does the group, takes it back, and does it again.
+fn goes_back_and_forth<'a>(alloc: Global, session: &mut Session<'a>, group: Edit<'a>) -> bool {
     session.edit(alloc, group).is_ok()
-        && stands(alloc, &session, &silent(), BACK)
+        && stands(alloc, session, &silent(), BACK)
         && session.undo(alloc).is_ok()
-        && stands(alloc, &session, &tone(), b"")
+        && stands(alloc, session, &tone(), b"")
         && session.redo(alloc).is_ok()
-        && stands(alloc, &session, &silent(), BACK)
+        && stands(alloc, session, &silent(), BACK)
+}
+
+/// The edit of `GROUP`.
+fn removals(alloc: Global) -> Result<Edit<'static>, OutOfMemory> {
+    let mut steps = Vec::new(alloc);
+    steps.push(Step::RemoveZone {
+        owner: Owner::Instrument(0),
+        zone: 0,
+    })?;
+    steps.push(Step::RemoveSample { sample: 0 })?;
+    Ok(Edit::Group(NumberedList::from_vec(steps)))
 }
 
 #[test]
 fn a_session_takes_a_group_back(rt: HostRuntime) -> Result<(), Fail> {
     let (alloc, file) = (rt.alloc(), tone());
-    let pool = pool_of(alloc, GROUP)?;
-    for line in parse(alloc, GROUP, pool.as_slice())? {
-        let (bank, _counts) = read(alloc, file.bytes())?;
-        assert!(rt; goes_back_and_forth(alloc, bank, line.edit));
-    }
+    let (bank, _counts) = read(alloc, file.bytes())?;
+    let mut session = Session::new(alloc, bank);
+    let group = removals(alloc)?;
+    assert!(rt; goes_back_and_forth(alloc, &mut session, group));
     Ok(())
 }
 
