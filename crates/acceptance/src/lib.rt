@@ -5,8 +5,6 @@
 #[cfg(test)]
 mod banks;
 #[cfg(test)]
-mod limits;
-#[cfg(test)]
 mod lists;
 #[cfg(test)]
 mod program;
