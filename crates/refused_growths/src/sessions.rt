@@ -84,10 +84,17 @@ fn made(alloc: Global, session: &mut Session<'_>, call: Call) -> Result<bool, Ou
             Err(_) => Ok(false),
         },
         Call::Remove => edited(session.edit(alloc, Edit::One(Step::RemovePreset { preset: 0 }))),
-        Call::Empty => edited(session.edit(alloc, emptying(alloc)?)),
+        Call::Empty => emptied(alloc, session),
         Call::Undo => moved(session.undo(alloc)),
         Call::Redo => moved(session.redo(alloc)),
     }
+}
+
+fn emptied(alloc: Global, session: &mut Session<'_>) -> Result<bool, OutOfMemory> {
+    let Ok(group) = emptying(alloc) else {
+        return Err(OutOfMemory);
+    };
+    edited(session.edit(alloc, group))
 }
 
 // A group that takes out the zone of the instrument, and then the sample that it plays.
