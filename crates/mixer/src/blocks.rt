@@ -7,8 +7,8 @@ ghost use Rattle.mixer.specs.Young.{AllYounger};
 
 use crate::playing::Playing;
 
-// The sides that are summed in one pass: those of 256 frames.
-const PART: usize = 512;
+// The sides that are summed in one pass: those of 1,024 frames.
+const PART: usize = 2048;
 
 // The most voices whose sum fits 32 bits.
 const GROUP: usize = 65535;
@@ -17,7 +17,7 @@ const GROUP: usize = 65535;
 fn add_group(voices: &mut [Playing], sums: &mut [i32])
     requires few { length voices.old ≤ 65535 }
     requires young { AllYounger (2 ^ 63 + 2 ^ 34) voices.old }
-    requires short { length sums.old ≤ 512 }
+    requires short { length sums.old ≤ 2048 }
     requires even { length sums.old % 2 ≡ 0 }
     requires silent { AllWithin 0 sums.old }
     ensures value { EachIndex sums.new (λ i. slice_index_or sums.new i (pos 0) ≡ slice_index_or sums.old i (pos 0) +ℤ total_at voices.old i) }
@@ -62,14 +62,14 @@ fn cut_totals(totals: &[i128], out: &mut [i16])
 
 fn silent_sums() -> [i32; PART]
     ensures silent { (k : ℕ) → slice_index_or result k (pos 0) ≡ pos 0 }
-    ensures long { length result ≡ 512 }
+    ensures long { length result ≡ 2048 }
 {
     [0; PART]
 }
 
 fn silent_totals() -> [i128; PART]
     ensures silent { (k : ℕ) → slice_index_or result k (pos 0) ≡ pos 0 }
-    ensures long { length result ≡ 512 }
+    ensures long { length result ≡ 2048 }
 {
     [0; PART]
 }
@@ -78,7 +78,7 @@ fn silent_totals() -> [i128; PART]
 fn add_one_group(voices: &mut [Playing], totals: &mut [i128])
     requires few { length voices.old ≤ 65535 }
     requires young { AllYounger (2 ^ 63 + 2 ^ 34) voices.old }
-    requires short { length totals.old ≤ 512 }
+    requires short { length totals.old ≤ 2048 }
     requires even { length totals.old % 2 ≡ 0 }
     requires room { AllWithin (2 ^ 64) totals.old }
     ensures value { EachIndex totals.new (λ i. slice_index_or totals.new i (pos 0) ≡ slice_index_or totals.old i (pos 0) +ℤ total_at voices.old i) }
@@ -94,7 +94,7 @@ fn add_one_group(voices: &mut [Playing], totals: &mut [i128])
 // Adds all voices to totals, group by group.
 fn add_all(voices: &mut [Playing], totals: &mut [i128])
     requires young { AllYounger (2 ^ 63 + 2 ^ 34) voices.old }
-    requires short { length totals.old ≤ 512 }
+    requires short { length totals.old ≤ 2048 }
     requires even { length totals.old % 2 ≡ 0 }
     requires silent { AllWithin 0 totals.old }
     ensures value { EachIndex totals.new (λ i. slice_index_or totals.new i (pos 0) ≡ slice_index_or totals.old i (pos 0) +ℤ total_at voices.old i) }
@@ -113,7 +113,7 @@ fn add_all(voices: &mut [Playing], totals: &mut [i128])
 fn mix_group(voices: &mut [Playing], out: &mut [i16])
     requires few { length voices.old ≤ 65535 }
     requires young { AllYounger (2 ^ 63 + 2 ^ 34) voices.old }
-    requires short { length out.old ≤ 512 }
+    requires short { length out.old ≤ 2048 }
     requires even { length out.old % 2 ≡ 0 }
     ensures value { EachIndex out.new (λ i. slice_index_or out.new i (pos 0) ≡ next_side voices.old i) }
     ensures live { voices.new ≡ map (aged (length out.old / 2)) voices.old }
@@ -128,7 +128,7 @@ fn mix_group(voices: &mut [Playing], out: &mut [i16])
 #[tactic(auto, unfolding(crate::specs::Events::next_side))]
 fn mix_groups(voices: &mut [Playing], out: &mut [i16])
     requires young { AllYounger (2 ^ 63 + 2 ^ 34) voices.old }
-    requires short { length out.old ≤ 512 }
+    requires short { length out.old ≤ 2048 }
     requires even { length out.old % 2 ≡ 0 }
     ensures value { EachIndex out.new (λ i. slice_index_or out.new i (pos 0) ≡ next_side voices.old i) }
     ensures live { voices.new ≡ map (aged (length out.old / 2)) voices.old }
@@ -142,7 +142,7 @@ fn mix_groups(voices: &mut [Playing], out: &mut [i16])
 // A part of a block.
 fn mix_part(voices: &mut [Playing], out: &mut [i16])
     requires young { AllYounger (2 ^ 63 + 2 ^ 34) voices.old }
-    requires short { length out.old ≤ 512 }
+    requires short { length out.old ≤ 2048 }
     requires even { length out.old % 2 ≡ 0 }
     ensures value { EachIndex out.new (λ i. slice_index_or out.new i (pos 0) ≡ next_side voices.old i) }
     ensures live { voices.new ≡ map (aged (length out.old / 2)) voices.old }

@@ -1,15 +1,13 @@
 -- Bounds of what is scaled, parted and interpolated.
-use Rattle.std.proofs.Common.{◌≡◌, ℕ, ◌*◌, ◌/◌, ◌<◌, ◌≤◌, suc, ℤ, pos, negsuc, ◌+ℤ◌, ◌-ℤ◌, ◌*ℤ◌, ◌≤ℤ◌, neg_ℤ, FitsSigned, sym, ap, arith, mul-le-mul_left}
+use Rattle.std.proofs.Common.{◌≡◌, ℕ, ◌+◌, ◌*◌, ◌/◌, ◌<◌, ◌≤◌, suc, ℤ, pos, negsuc, ◌+ℤ◌, ◌-ℤ◌, ◌*ℤ◌, ◌-◌, ◌≤ℤ◌, neg_ℤ, FitsSigned, ap, arith, mul-le-mul_left}
 use Rattle.std.proofs.lemmas.Nat.{div_below, mul-le}
 use Rattle.std.proofs.lemmas.Int.{ints}
-use Rattle.std.specs.Int.{w16, w64}
-use Rattle.std.proofs.Common.{SFits, to_z, of_z, unsigned_abs, lit<}
-use Rattle.std.proofs.lemmas.Int.{to_z-of_z, fits_signed_mul}
-use Rattle.std.specs.Int.Signed.{shr_z, mag_shr}
-use Rattle.sound_tables.specs.Floor.{floor_div}
+use Rattle.std.specs.Int.{w16}
+use Rattle.std.proofs.Common.{refl, SFits, ◌∙◌}
+use Rattle.sound_tables.specs.Floor.{floor_div, above_zero}
 use Rattle.sound_tables.proofs.FloorLemmas.{floor_div_is}
 use Rattle.voices.specs.Levels.{scaled_by, side}
-use Rattle.voices.specs.Points.{between}
+use Rattle.voices.specs.Points.{between, weighed}
 
 pub part_below : (a f n : ℕ) → 0 < n → f ≤ n → a * f / n ≤ a
 part_below a f n p h =
@@ -69,26 +67,61 @@ between_within p q f h fp fq =
     (λ s. let b = part_up (q -ℤ p) f 65536 (omega arith) (omega arith) s in (omega (arith, ints, b.0, b.1), omega (arith, ints, b.0, b.1)))
     (λ s. let b = part_down (q -ℤ p) f 65536 (omega arith) (omega arith) s in (omega (arith, ints, b.0, b.1), omega (arith, ints, b.0, b.1)))
 
-pub between_is : (p q r : ℤ) (f : ℕ) → r ≡ floor_div ((q -ℤ p) *ℤ pos f) 65536 → between p q f ≡ p +ℤ r
+-- a product, read b parts higher
+times_more : (z : ℤ) (a b f : ℕ) → z +ℤ pos b ≡ pos a → z *ℤ pos f +ℤ pos (b * f) ≡ pos (a * f)
+times_more (pos c) a b f e =
+    let g : a ≡ c + b = omega (arith, ints, e) in
+    let h : a * f ≡ (c + b) * f = ap (λ x. x * f) g in omega (arith, ints, h)
+times_more (negsuc c) a b f e =
+    let g : b ≡ a + suc c = omega (arith, ints, e) in
+    let h : b * f ≡ (a + suc c) * f = ap (λ x. x * f) g in omega (arith, ints, h)
+
+from_zero : (z : ℤ) → pos 0 ≤ℤ z → z ≡ pos (above_zero z)
+from_zero (pos a) h = refl
+from_zero (negsuc a) h = absurd (omega (arith, ints, h))
+
+-- two points from zero on, and their weighed sum
+record Raised (p q : ℤ) (f : ℕ) : Type 0 where
+  a : ℕ
+  b : ℕ
+  first : p +ℤ pos 32768 ≡ pos a
+  small : a ≤ 65535
+  second : q +ℤ pos 32768 ≡ pos b
+  small' : b ≤ 65535
+  sum : weighed p q f +ℤ pos 2147483648 ≡ pos (a * (65536 - f) + b * f)
+
+raised : (p q : ℤ) (f : ℕ) → f < 65536 → SFits w16 p → SFits w16 q → Raised p q f
+unfolding weighed
+raised p q f h fp fq =
+    let a : ℕ = above_zero (p +ℤ pos 32768) in
+    let b : ℕ = above_zero (q +ℤ pos 32768) in
+    let ea : p +ℤ pos 32768 ≡ pos a = from_zero (p +ℤ pos 32768) (omega (arith, ints)) in
+    let eb : q +ℤ pos 32768 ≡ pos b = from_zero (q +ℤ pos 32768) (omega (arith, ints)) in
+    let ma = times_more p a 32768 (65536 - f) ea in
+    let mb = times_more q b 32768 f eb in
+    record { a = a; b = b; first = ea; small = omega (arith, ints, ea); second = eb; small' = omega (arith, ints, eb); sum = omega (arith, ints, ma, mb) }
+
+pub weighed_within : (p q : ℤ) (f : ℕ) → f < 65536 → SFits w16 p → SFits w16 q → (neg_ℤ (pos 2147483648) ≤ℤ weighed p q f) × (weighed p q f ≤ℤ pos 2147418112)
+weighed_within p q f h fp fq =
+    let r = raised p q f h fp fq in
+    let sum = r.sum in
+    let x : r.a * (65536 - f) ≤ 65535 * (65536 - f) = mul-le r.a (65536 - f) 65535 (65536 - f) r.small (omega arith) in
+    let y : r.b * f ≤ 65535 * f = mul-le r.b f 65535 f r.small' (omega arith) in
+    (omega (arith, ints, sum), omega (arith, ints, sum, x, y))
+
+-- what lies between two points is their weighed sum, rounded down
+pub weighed_is : (p q : ℤ) (f : ℕ) → f < 65536 → SFits w16 p → SFits w16 q → floor_div (weighed p q f) 65536 ≡ between p q f
 unfolding between
-between_is p q r f e = ap (λ x. p +ℤ x) (sym e)
-
-abs_below : (z : ℤ) (b : ℕ) → neg_ℤ (pos b) ≤ℤ z → z ≤ℤ pos b → unsigned_abs z ≤ b
-abs_below (pos a) b lo hi = omega (arith, ints, lo, hi)
-abs_below (negsuc a) b lo hi = omega (arith, ints, lo, hi)
-
-pub slope_is : (a b : ℤ) (f : ℕ) → SFits w16 a → SFits w16 b → f < 65536
-    → to_z w64 (of_z w64 (shr_z (to_z w64 (of_z w64 (to_z w64 (of_z w64 (to_z w64 (of_z w64 a) -ℤ to_z w64 (of_z w64 b))) *ℤ to_z w64 (of_z w64 (pos f))))) 65536))
-    ≡ shr_z ((a -ℤ b) *ℤ pos f) 65536
-slope_is a b f fa fb h =
-    let f0 : SFits w64 a = omega (arith, ints) in
-    let f1 : SFits w64 b = omega (arith, ints) in
-    let f2 : SFits w64 (pos f) = omega (arith, ints) in
-    let f3 : SFits w64 (a -ℤ b) = omega (arith, ints) in
-    let m : unsigned_abs (a -ℤ b) ≤ 65536 = abs_below (a -ℤ b) 65536 (omega (arith, ints)) (omega (arith, ints)) in
-    let f4 : SFits w64 ((a -ℤ b) *ℤ pos f) = fits_signed_mul w64 (a -ℤ b) (pos f) 65536 65536 m (omega arith) (lit< tt) in
-    let f5 : SFits w64 (shr_z ((a -ℤ b) *ℤ pos f) 65536) = record { sfits = omega (arith, mag_shr ((a -ℤ b) *ℤ pos f) 65536, f4.sfits) } in
-    simp to_z-of_z
+weighed_is p q f h fp fq =
+    let r = raised p q f h fp fq in
+    let m : ℕ = r.a * (65536 - f) + r.b * f in
+    let difference : (q -ℤ p) +ℤ pos r.a ≡ pos r.b = (let e = r.first in let g = r.second in omega (arith, ints, e, g)) in
+    let slope = times_more (q -ℤ p) r.b r.a f difference in
+    let whole : r.a * 65536 ≡ r.a * (65536 - f) + r.a * f = ap (λ x. r.a * x) (let e : 65536 ≡ 65536 - f + f = omega arith in e) ∙ omega arith in
+    let one = floor_div_is (weighed p q f) 32768 65536 m (omega arith) r.sum in
+    let two = floor_div_is ((q -ℤ p) *ℤ pos f) r.a 65536 m (omega arith) (omega (arith, ints, slope, whole)) in
+    let first = r.first in
+    omega (arith, ints, one, two, first)
 
 pub faded : (a b : ℕ) → a ≤ 65536 → b ≤ 65536 → a * b / 65536 ≤ 65536
 faded a b h g =

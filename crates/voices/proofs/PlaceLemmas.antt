@@ -176,5 +176,5 @@ run_stays x step to n k h g l =
 pub stands_still : (x step to k : ℕ) → x < to → step ≡ 0 → x + k * step < to
 stands_still x step to k h e = let f : k * step ≡ 0 = ap (λ s. k * s) e ∙ omega arith in omega arith
 
-pub short_way : (n step : ℕ) → n ≤ 256 → step ≤ 73043661 → n * step ≤ 18699177216
-short_way n step h g = mul-le n step 256 73043661 h g
+pub short_way : (n step : ℕ) → n ≤ 1024 → step ≤ 73043661 → n * step ≤ 74796708864
+short_way n step h g = mul-le n step 1024 73043661 h g

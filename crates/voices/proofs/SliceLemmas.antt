@@ -1,20 +1,29 @@
 -- What one slice tells of the points around a place.
-use Rattle.std.proofs.Common.{◌≡◌, ℕ, ◌+◌, ◌-◌, ◌*◌, ◌/◌, ◌%◌, ◌<◌, ◌≤◌, ℤ, pos, Bool, true, false, cond, ◌&&◌, ◌==◌, List, length, get_or, nat_lt, refl, ◌∙◌, ap, arith, to_z, of_z, SFits, bit_and}
+use Rattle.std.proofs.Common.{◌≡◌, ℕ, ◌+◌, ◌-◌, ◌*◌, ◌/◌, ◌%◌, ◌<◌, ◌≤◌, pos, Bool, true, false, cond, ◌&&◌, ◌==◌, List, length, get_or, take, drop, nat_lt, refl, ◌∙◌, ap, arith}
 use Rattle.std.proofs.lemmas.Bool.Decides.{nat_tests}
-use Rattle.std.proofs.lemmas.Int.{to_z-of_z}
-use Rattle.std.proofs.lemmas.Nat.{and_mask}
 use Rattle.std.specs.Int.{w16, cast_signed}
 use Rattle.sample_view.specs.Words.{words}
 use Rattle.sample_view.specs.Runs.{IsRunAround}
 use Rattle.sample_view.proofs.RunLemmas.{get_or-run}
-use Rattle.sample_view.proofs.WordLemmas.{get_or-words}
+use Rattle.sample_view.proofs.WordLemmas.{length-words, words-drop, get_or-words}
+use Rattle.std.proofs.lemmas.List.{length-drop, drop-take}
+use Rattle.std.proofs.lemmas.Grind.{common_steps}
 use Rattle.zone_select.specs.declared.parameters.VoiceParameters.{VoiceParameters}
 use Rattle.voices.specs.Points.{between, point_at, follower, point_of}
-use Rattle.voices.specs.Runs.{limit, straight}
+use Rattle.voices.specs.Runs.{limit, pair_at, pair_says, straight}
 
-pub word_at : (bytes : List ℕ) (i : ℕ) → 2 * i + 1 < length bytes
+word_at : (bytes : List ℕ) (i : ℕ) → 2 * i + 1 < length bytes
     → get_or (words bytes) i 0 ≡ get_or bytes (2 * i) 0 + 256 * get_or bytes (2 * i + 1) 0
 word_at bytes i h = get_or-words (2 * i) i bytes refl h
+
+-- two points that stand side by side are four bytes
+pub pair_is : (bytes : List ℕ) (i : ℕ) → 2 * i + 3 < length bytes
+    → pair_at (words bytes) i ≡ get_or bytes (2 * i) 0 + 256 * get_or bytes (2 * i + 1) 0 + 65536 * get_or bytes (2 * i + 2) 0 + 16777216 * get_or bytes (2 * i + 3) 0
+pair_is bytes i h =
+    let here = word_at bytes i (omega arith) in
+    let next : get_or (words bytes) (i + 1) 0 ≡ get_or bytes (2 * i + 2) 0 + 256 * get_or bytes (2 * i + 3) 0 =
+    get_or-words (2 * i + 2) (i + 1) bytes (omega arith) (omega arith) ∙ ap (λ k. get_or bytes (2 * i + 2) 0 + 256 * get_or bytes k 0) (omega arith) in
+    omega (arith, here, next)
 
 -- a place, counted from another point
 from_first : (x p : ℕ) → 65536 * p ≤ x → ((x - 65536 * p) / 65536 ≡ x / 65536 - p) × ((x - 65536 * p) % 65536 ≡ x % 65536)
@@ -52,11 +61,37 @@ straight_is points bytes v looping i first x run l from last slice =
     ∙ ap (λ y. between (point_at points (x / 65536)) y ((x - 65536 * p) % 65536)) (next ∙ next_point points looping v.loop_end v.loop_start v.end (x / 65536) last l)
     ∙ ap (between (point_at points (x / 65536)) (follower points v looping (x / 65536))) f.1
 
-pub point_here : (ws : List ℕ) (place : ℕ) (p q v : ℤ) → SFits w16 p → SFits w16 q
-    → p ≡ point_at ws (place / 65536) → q ≡ point_at ws (place / 65536 + 1)
-    → v ≡ between (to_z w16 (of_z w16 p)) (to_z w16 (of_z w16 q)) (bit_and place 65535) → v ≡ straight ws place
-unfolding straight
-point_here ws place p q v fp fq e1 e2 e =
-    e ∙ ap (λ y. between y (to_z w16 (of_z w16 q)) (bit_and place 65535)) (to_z-of_z w16 p fp ∙ e1)
-    ∙ ap (λ y. between (point_at ws (place / 65536)) y (bit_and place 65535)) (to_z-of_z w16 q fq ∙ e2)
-    ∙ ap (λ y. between (point_at ws (place / 65536)) (point_at ws (place / 65536 + 1)) y) (and_mask place 16)
+-- what a pair says is what its slice says
+pub pair_straight : (bytes : List ℕ) (place : ℕ) → ((j : ℕ) → get_or bytes j 0 < 256) → 2 * (place / 65536) + 3 < length bytes
+    → pair_says (pair_at (words bytes) (place / 65536)) (place % 65536) ≡ straight (words bytes) place
+unfolding straight point_at
+pair_straight bytes place all h =
+    let i = place / 65536 in
+    let ws = words bytes in
+    let e = word_at bytes i (omega arith) in
+    let low_byte : get_or bytes (2 * i) 0 < 256 = all (2 * i) in
+    let high_byte : get_or bytes (2 * i + 1) 0 < 256 = all (2 * i + 1) in
+    let fits : get_or ws i 0 < 65536 = omega (arith, e) in
+    let here : pair_at ws i % 65536 ≡ get_or ws i 0 = omega arith in
+    let next : pair_at ws i / 65536 ≡ get_or ws (i + 1) 0 = omega arith in
+    ap (λ y. between (cast_signed w16 y) (cast_signed w16 (pair_at ws i / 65536)) (place % 65536)) here
+    ∙ ap (λ y. between (cast_signed w16 (get_or ws i 0)) (cast_signed w16 y) (place % 65536)) next
+
+-- a slice that begins at the point itself
+pub run_from : (points bytes : List ℕ) (i first : ℕ) → IsRunAround points i bytes first → IsRunAround points i (drop (2 * first) bytes) 0
+run_from points bytes i first run =
+    let n = length (words bytes) in
+    let m : ℕ = length (words (drop (2 * first) bytes)) in
+    let begins = run.begins in
+    let inside = run.inside in
+    let even = run.even in
+    let long = length-drop (2 * first) bytes in
+    let count : n ≡ first + m = (let e = length-words bytes in let f = length-words (drop (2 * first) bytes) in omega (arith, e, f, long)) in
+    let here : drop first (drop (i - first) points) ≡ drop i points = grind (arith, common_steps) in
+    record {
+      begins = omega arith;
+      inside = omega (arith, long);
+      even = omega (arith, long);
+      run = words-drop (2 * first) first bytes refl ∙ ap (drop first) run.run ∙ ap (λ k. drop first (take k (drop (i - first) points))) count
+          ∙ drop-take first m (drop (i - first) points) ∙ ap (take m) here ∙ ap (λ j. take m (drop j points)) (let e : i ≡ i - 0 = omega arith in e);
+    }

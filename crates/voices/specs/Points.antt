@@ -1,5 +1,5 @@
 -- Points, and what lies between them.
-use Rattle.std.specs.Prelude.{ℕ, ◌+◌, ◌/◌, ◌%◌, ℤ, pos, ◌+ℤ◌, ◌-ℤ◌, ◌*ℤ◌, Bool, cond, ◌&&◌, ◌==◌, nat_lt, List, slice_index}
+use Rattle.std.specs.Prelude.{ℕ, ◌+◌, ◌-◌, ◌/◌, ◌%◌, ℤ, pos, ◌+ℤ◌, ◌-ℤ◌, ◌*ℤ◌, Bool, cond, ◌&&◌, ◌==◌, nat_lt, List, slice_index}
 use Rattle.std.specs.Int.{cast_signed, w16}
 use Rattle.sound_tables.specs.Floor.{floor_div}
 use Rattle.zone_select.specs.declared.parameters.VoiceParameters.{VoiceParameters}
@@ -11,6 +11,10 @@ point_at points i = cast_signed w16 (slice_index points i)
 -- between two points, at `part` of 65536
 unfoldable pub between : ℤ → ℤ → ℕ → ℤ
 between p0 p1 part = p0 +ℤ floor_div ((p1 -ℤ p0) *ℤ pos part) 65536
+
+-- two points, each times its part of 65536: the whole of what lies between them, before it is rounded down
+unfoldable pub weighed : ℤ → ℤ → ℕ → ℤ
+weighed p0 p1 part = p0 *ℤ pos (65536 - part) +ℤ p1 *ℤ pos part
 
 -- the point after point i: the loop's first after its last, and silence after the end
 unfoldable pub follower : List ℕ → VoiceParameters → Bool → ℕ → ℤ

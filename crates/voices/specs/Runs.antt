@@ -1,5 +1,6 @@
 -- Frames that are heard one after another.
-use Rattle.std.specs.Prelude.{ℕ, ◌+◌, ◌*◌, ◌/◌, ◌%◌, Bool, cond, List, ◌≡◌, ◌≤◌, ◌<◌, ◌^◌, ℤ, pos, negsuc, ◌+ℤ◌, ◌≤ℤ◌, false}
+use Rattle.std.specs.Prelude.{ℕ, ◌+◌, ◌*◌, ◌/◌, ◌%◌, Bool, cond, List, ◌≡◌, ◌≤◌, ◌<◌, ◌^◌, ℤ, pos, negsuc, ◌+ℤ◌, ◌≤ℤ◌, false, slice_index}
+use Rattle.std.specs.Int.{cast_signed, w16}
 use Rattle.zone_select.specs.declared.parameters.VoiceParameters.{VoiceParameters}
 use Rattle.voices.specs.Place.{wrapped, is_over, is_looping}
 use Rattle.voices.specs.Points.{between, point_at}
@@ -30,3 +31,11 @@ gone_on v looping x = cond looping (wrapped (65536 * v.loop_start) (65536 * v.lo
 -- what points say at a place after which the next point follows
 unfoldable pub straight : List ℕ → ℕ → ℤ
 straight points x = between (point_at points (x / 65536)) (point_at points (x / 65536 + 1)) (x % 65536)
+
+-- a point and the next one, as they stand side by side in a file
+abbrev pub pair_at : List ℕ → ℕ → ℕ
+pair_at points i = slice_index points i + 65536 * slice_index points (i + 1)
+
+-- what lies between the two points of such a pair, at `part` of 65536
+abbrev pub pair_says : ℕ → ℕ → ℤ
+pair_says pair part = between (cast_signed w16 (pair % 65536)) (cast_signed w16 (pair / 65536)) part

@@ -1,5 +1,5 @@
 -- What a voice plays.
-use Rattle.std.specs.Prelude.{ℕ, ◌+◌, ◌≡◌, ◌≤◌, ◌<◌, ℤ, pos, ◌+ℤ◌, ◌-ℤ◌, Bool, true, cond}
+use Rattle.std.specs.Prelude.{ℕ, ◌+◌, ◌≡◌, ◌≤◌, ℤ, pos, ◌+ℤ◌, ◌-ℤ◌, Bool, true, cond}
 use Rattle.sound_tables.specs.Tables.{gain_of}
 use Rattle.sound_tables.specs.Floor.{above_zero}
 use Rattle.zone_select.specs.declared.parameters.VoiceParameters.{VoiceParameters}

@@ -20,7 +20,7 @@ use sound_tables::gain;
 use zone_select::VoiceParameters;
 
 // The most frames of a stretch.
-const LONGEST: usize = 256;
+const LONGEST: usize = 1024;
 
 // How many frames from `t` on, at most `most`, are heard in one way: the note's end ends a stretch.
 fn stretch(v: &VoiceParameters, t: u64, most: usize) -> usize
@@ -71,13 +71,13 @@ fn quieten(levels: &[u32], loudness: u32, run: &mut [i16])
 }
 
 fn silent_levels() -> [u32; LONGEST]
-    ensures { length result ≡ 256 }
+    ensures { length result ≡ 1024 }
 {
     [0; LONGEST]
 }
 
 fn silent_points() -> [i16; LONGEST]
-    ensures { length result ≡ 256 }
+    ensures { length result ≡ 1024 }
 {
     [0; LONGEST]
 }
@@ -97,13 +97,13 @@ fn soften(v: &VoiceParameters, t: u64, levels: &mut [u32], run: &mut [i16])
 fn fill_sounds(points: &Points, v: &VoiceParameters, t: u64, run: &mut [i16])
     requires playable { IsPlayable (length points.now) v.now }
     requires one_way { IsStretch v.now t (length run.old) }
-    requires short { length run.old ≤ 256 }
+    requires short { length run.old ≤ 1024 }
     ensures { EachIndex run.new (λ k. slice_index_or run.new k (pos 0)
         ≡ sound_at (record { points = points.now; parameters = v.now }) (t + k)) }
 {
     let n = run.len();
     let mut levels = silent_levels();
-    fill_points(points, v, t, run);
+    fill_points(points, v, t, &mut levels[..n], run);
     soften(v, t, &mut levels[..n], run);
 }
 
@@ -128,7 +128,7 @@ fn add_sounds(points: &Points, v: &VoiceParameters, t: u64, run: &mut [i16], sum
     requires playable { IsPlayable (length points.now) v.now }
     requires long { length sums.old ≡ 2 * length run.old }
     requires one_way { IsStretch v.now t (length run.old) }
-    requires short { length run.old ≤ 256 }
+    requires short { length run.old ≤ 1024 }
     requires room { AllWithin 65534 sums.old }
     ensures { EachIndex sums.new (λ i. IsAdded (slice_index_or sums.old i (pos 0))
         (snd (record { points = points.now; parameters = v.now }) (nat_eq (i % 2) 0) (t + i / 2))
@@ -143,7 +143,7 @@ fn add_stretch(points: &Points, v: &VoiceParameters, t: u64, sums: &mut [i32])
     requires playable { IsPlayable (length points.now) v.now }
     requires even { length sums.old % 2 ≡ 0 }
     requires one_way { IsStretch v.now t (length sums.old / 2) }
-    requires short { length sums.old ≤ 512 }
+    requires short { length sums.old ≤ 2048 }
     requires room { AllWithin 65534 sums.old }
     ensures { EachIndex sums.new (λ i. IsAdded (slice_index_or sums.old i (pos 0))
         (snd (record { points = points.now; parameters = v.now }) (nat_eq (i % 2) 0) (t + i / 2))

@@ -1,30 +1,39 @@
 //! What a sample says between its points.
-ghost use Rattle.std.specs.Prelude.{◌≡◌, ◌+◌, ◌-ℤ◌, ◌*ℤ◌, ◌*◌, ◌/◌, ◌≤◌, ◌<◌, ◌≤ℤ◌, pos, negsuc, length, true};
-ghost use Rattle.sound_tables.specs.Floor.{floor_div};
-ghost use Rattle.voices.specs.Points.{between, point_at, follower, point_of};
+ghost use Rattle.std.specs.Prelude.{◌≡◌, ◌+◌, ◌*◌, ◌/◌, ◌≤◌, ◌<◌, ◌≤ℤ◌, ◌*ℤ◌, pos, negsuc, length, true};
+ghost use Rattle.voices.specs.Points.{between, weighed, point_at, follower, point_of};
 
 use sample_view::Points;
 use zone_select::VoiceParameters;
 
-// The part of 65536 of the way from one point to the next.
+// A point times a part of 65536.
 #[inline(always)]
-fn slope(p0: i16, p1: i16, part: u32) -> i64
-    requires { part < 65536 }
-    ensures { result ≡ floor_div ((p1 -ℤ p0) *ℤ pos part) 65536 }
+fn times(p: i16, part: u32) -> i32
+    requires { part ≤ 65536 }
+    ensures { result ≡ p *ℤ pos part }
 {
-    ((i64::from(p1) - i64::from(p0)) * i64::from(part)) >> 16
+    i32::from(p) * part as i32
+}
+
+// Two points, each times its part of 65536: their sum fits 32 bits.
+#[inline(always)]
+#[tactic(auto, using(crate::proofs::LevelLemmas::weighed_within), unfolding(crate::specs::Points::weighed))]
+fn weighed(p0: i16, p1: i16, part: u32) -> i32
+    requires { part < 65536 }
+    ensures { result ≡ weighed p0 p1 part }
+{
+    times(p0, 65536 - part) + times(p1, part)
 }
 
 // Between two points, at `part` of 65536.
 #[inline(always)]
-#[tactic(auto, using(crate::proofs::LevelLemmas::between_within, crate::proofs::LevelLemmas::between_is))]
+#[tactic(auto, using(crate::proofs::LevelLemmas::between_within, crate::proofs::LevelLemmas::weighed_is))]
 pub(crate) fn interpolated(p0: i16, p1: i16, part: u32) -> i32
     requires { part < 65536 }
     ensures value { result ≡ between p0 p1 part }
     ensures low { negsuc 32767 ≤ℤ result }
     ensures high { result ≤ℤ pos 32767 }
 {
-    (i64::from(p0) + slope(p0, p1, part)) as i32
+    weighed(p0, p1, part) >> 16
 }
 
 // The point after point `i`.

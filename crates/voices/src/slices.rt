@@ -1,62 +1,117 @@
 //! What a sample says at the frames of a stretch: straight runs through the slice in hand.
-ghost use Rattle.std.specs.Prelude.{◌≡◌, ℕ, ◌+◌, ◌*◌, ◌/◌, ◌^◌, ◌≤◌, ◌<◌, pos, true, EachIndex, length, slice_index_or};
+ghost use Rattle.std.specs.Prelude.{◌≡◌, ℕ, ◌+◌, ◌*◌, ◌/◌, ◌%◌, ◌^◌, ◌≤◌, ◌<◌, ◌≤ℤ◌, pos, negsuc, true, EachIndex, length, slice_index, slice_index_or};
 ghost use Rattle.sample_view.specs.Words.{words};
 ghost use Rattle.voices.specs.Place.{is_looping, place};
-ghost use Rattle.voices.specs.Points.{point_at, point_of};
+ghost use Rattle.voices.specs.Points.{point_of};
 ghost use Rattle.zone_select.specs.Playable.{IsPlayable};
-ghost use Rattle.voices.specs.Runs.{IsStretch, limit, gone_on, straight};
+ghost use Rattle.voices.specs.Runs.{IsStretch, limit, gone_on, pair_at, pair_says, straight};
 
 use crate::places::{frames_before, is_looping_at, place_at};
 use crate::sampled::{interpolated, point_of_place};
 use sample_view::Points;
 use zone_select::VoiceParameters;
 
-// Point `i` of a slice.
+// Point `i` of a slice and the next one, as they stand there: both are read at once.
 #[inline(always)]
-#[tactic(auto, using(crate::proofs::SliceLemmas::word_at), unfolding(crate::specs::Points::point_at))]
-fn point_in(bytes: &[u8], i: usize) -> i16
-    requires { 2 * i + 1 < length bytes.now }
-    ensures { result ≡ point_at (words bytes.now) i }
+#[tactic(auto, using(crate::proofs::SliceLemmas::pair_is))]
+fn pair_in(bytes: &[u8], i: usize) -> u32
+    requires { 2 * i + 3 < length bytes.now }
+    ensures { result ≡ pair_at (words bytes.now) i }
 {
-    i16::from_le_bytes([bytes[2 * i], bytes[2 * i + 1]])
+    u32::from_le_bytes([
+        bytes[2 * i],
+        bytes[2 * i + 1],
+        bytes[2 * i + 2],
+        bytes[2 * i + 3],
+    ])
 }
 
-// What a slice says from place `x` on, with `step` more for each frame.
-fn fill_straight(bytes: &[u8], x: u64, step: u64, run: &mut [i16])
-    requires ends { (k : ℕ) → k < length run.old → 2 * ((x + k * step) / 65536) + 3 < length bytes.now }
-    requires near { x + length run.old * step < 2 ^ 63 }
-    ensures { EachIndex run.new (λ k. slice_index_or run.new k (pos 0) ≡ straight (words bytes.now) (x + k * step)) }
+// The points around each place of a slice from `x` on, with `step` more for each frame.
+fn read_pairs(bytes: &[u8], x: u32, step: u32, pairs: &mut [u32])
+    requires ends { (k : ℕ) → k < length pairs.old → 2 * ((x + k * step) / 65536) + 3 < length bytes.now }
+    requires near { x + length pairs.old * step < 2 ^ 32 }
+    ensures { EachIndex pairs.new (λ k. slice_index pairs.new k ≡ pair_at (words bytes.now) ((x + k * step) / 65536)) }
 {
     let mut place = x;
-    for k in 0..run.len() {
-        let i = (place >> 16) as usize;
-        let part = (place & 65535) as u32;
-        run[k] = interpolated(point_in(bytes, i), point_in(bytes, i + 1), part) as i16;
+    for k in 0..pairs.len() {
+        pairs[k] = pair_in(bytes, (place >> 16) as usize);
         place += step;
     }
 }
 
+// Between two points that stand side by side, at `part` of 65536.
+#[inline(always)]
+fn between_pair(pair: u32, part: u32) -> i32
+    requires { part < 65536 }
+    ensures value { result ≡ pair_says pair part }
+    ensures low { negsuc 32767 ≤ℤ result }
+    ensures high { result ≤ℤ pos 32767 }
+{
+    let here = ((pair & 65535) as u16).cast_signed();
+    let next = ((pair >> 16) as u16).cast_signed();
+    interpolated(here, next, part)
+}
+
+// What lies between the points of each pair, at places from `x` on.
+fn interpolate(pairs: &[u32], x: u32, step: u32, run: &mut [i16])
+    requires long { length pairs.now ≡ length run.old }
+    requires near { x + length run.old * step < 2 ^ 32 }
+    ensures { EachIndex run.new (λ k. slice_index_or run.new k (pos 0) ≡ pair_says (slice_index pairs.now k) ((x + k * step) % 65536)) }
+{
+    let mut place = x;
+    for k in 0..run.len() {
+        run[k] = between_pair(pairs[k], place & 65535) as i16;
+        place += step;
+    }
+}
+
+// What a slice says from place `x` on, with `step` more for each frame, by way of as many pairs of
+// points: so the arithmetic is apart from the reading, and is done for several frames at once.
+fn fill_straight(bytes: &[u8], x: u32, step: u32, pairs: &mut [u32], run: &mut [i16])
+    requires long { length pairs.old ≡ length run.old }
+    requires ends { (k : ℕ) → k < length run.old → 2 * ((x + k * step) / 65536) + 3 < length bytes.now }
+    requires near { x + length run.old * step < 2 ^ 32 }
+    ensures { EachIndex run.new (λ k. slice_index_or run.new k (pos 0) ≡ straight (words bytes.now) (x + k * step)) }
+{
+    read_pairs(bytes, x, step, pairs);
+    interpolate(pairs, x, step, run);
+}
+
+// The most points of a slice that are read in one go, so that places in it fit 32 bits.
+const FARTHEST: usize = 32768;
+
 // Fills the front of a run from place `x` on, as far as the slice in hand goes or the loop; answers
 // how many frames that are.
-fn fill_front(points: &Points, v: &VoiceParameters, looping: bool, x: u64, run: &mut [i16]) -> usize
+fn fill_front(
+    points: &Points,
+    v: &VoiceParameters,
+    looping: bool,
+    x: u64,
+    pairs: &mut [u32],
+    run: &mut [i16],
+) -> usize
     requires playable { IsPlayable (length points.now) v.now }
     requires looped { looping ≡ true → v.now.looped ≡ true }
     requires near { x < 65536 * limit v.now looping }
-    requires some { (0 < length run.old) × (length run.old ≤ 256) }
+    requires some { (0 < length run.old) × (length run.old ≤ 1024) }
+    requires long { length run.old ≤ length pairs.old }
     ensures near { x < 2 ^ 48 }
     ensures some { (0 < result) × (result ≤ length run.new) }
     ensures before { (k : ℕ) → k < result → x + k * v.now.step < 65536 * limit v.now looping }
     ensures value { (k : ℕ) → k < result
         → slice_index_or run.new k (pos 0) ≡ point_of points.now v.now looping (x + k * v.now.step) }
 {
-    let step = u64::from(v.step);
     let i = (x / 65536) as usize;
     let (bytes, first) = points.slice_at(i);
-    let last = limit_of(v, looping) as usize;
-    let ends = last.min(i - first + bytes.len() / 2);
-    if i + 1 < ends {
-        let n = frames_before(x, step, 65536 * (ends as u64 - 1), run.len() as u64) as usize;
-        fill_straight(bytes, x - 65536 * (i - first) as u64, step, &mut run[..n]);
+    let ahead = &bytes[2 * first..];
+    let ends = (limit_of(v, looping) as usize - i)
+        .min(ahead.len() / 2)
+        .min(FARTHEST);
+    if 1 < ends {
+        let part = (x % 65536) as u32;
+        let to = 65536 * (ends as u64 - 1);
+        let n = frames_before(u64::from(part), u64::from(v.step), to, run.len() as u64) as usize;
+        fill_straight(ahead, part, v.step, &mut pairs[..n], &mut run[..n]);
         n
     } else {
         run[0] = point_of_place(points, v, looping, x) as i16;
@@ -77,7 +132,7 @@ fn advanced(v: &VoiceParameters, looping: bool, x: u64, frames: usize) -> u64
     requires loop_is { looping ≡ true → v.now.loop_start < v.now.loop_end }
     requires steps { v.now.step ≤ 73043661 }
     requires near { x < 2 ^ 48 }
-    requires few { frames ≤ 256 }
+    requires few { frames ≤ 1024 }
     ensures { result ≡ gone_on v.now looping (x + frames * v.now.step) }
 {
     let next = x + frames as u64 * u64::from(v.step);
@@ -90,11 +145,18 @@ fn advanced(v: &VoiceParameters, looping: bool, x: u64, frames: usize) -> u64
     }
 }
 
-// What the sample says at each frame of a stretch.
-pub(crate) fn fill_points(points: &Points, v: &VoiceParameters, t: u64, run: &mut [i16])
+// What the sample says at each frame of a stretch, by way of pairs of points.
+pub(crate) fn fill_points(
+    points: &Points,
+    v: &VoiceParameters,
+    t: u64,
+    pairs: &mut [u32],
+    run: &mut [i16],
+)
     requires playable { IsPlayable (length points.now) v.now }
     requires one_way { IsStretch v.now t (length run.old) }
-    requires short { length run.old ≤ 256 }
+    requires short { length run.old ≤ 1024 }
+    requires long { length pairs.old ≡ length run.old }
     ensures { EachIndex run.new (λ k. slice_index_or run.new k (pos 0)
         ≡ point_of points.now v.now (is_looping v.now (t + k)) (place v.now (t + k))) }
 {
@@ -102,7 +164,7 @@ pub(crate) fn fill_points(points: &Points, v: &VoiceParameters, t: u64, run: &mu
     let mut x = place_at(v, t);
     let mut at = 0;
     while at < run.len() {
-        let n = fill_front(points, v, looping, x, &mut run[at..]);
+        let n = fill_front(points, v, looping, x, pairs, &mut run[at..]);
         x = advanced(v, looping, x, n);
         at += n;
     }

@@ -1,4 +1,4 @@
-use Rattle.std.proofs.Common.{◌≡◌, ℕ, List, length, Option, Some, IfSome, ap, subst, sym, ◌∙◌}
+use Rattle.std.proofs.Common.{ℕ, List, length, Option, Some, IfSome, ap, subst, sym, ◌∙◌}
 use Rattle.std.specs.Option.{option_map}
 use Rattle.zone_select.specs.Playable.{IsPlayable}
 use Rattle.zone_select.specs.Select.{Voice}
