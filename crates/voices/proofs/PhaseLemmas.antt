@@ -2,7 +2,7 @@
 use Rattle.std.proofs.Common.{◌≡◌, ℕ, zero, suc, ◌+◌, ◌-◌, ◌*◌, ◌/◌, ◌%◌, ◌<◌, ◌≤◌, min, Bool, true, false, cond, nat_lt, refl, sym, ◌∙◌, ap, arith, inl, inr}
 use Rattle.std.proofs.lemmas.Bool.{cases_lt}
 use Rattle.std.proofs.lemmas.Bool.Decides.{nat_tests}
-use Rattle.std.proofs.lemmas.Nat.{div-add-mod', div-mul-add, mul-le, div_below, mod_below}
+use Rattle.std.proofs.lemmas.Nat.{div-add-mod', div-mul-add, div_below, le-div, mod_below}
 use Rattle.sound_tables.specs.Tables.{ratio, gain_at}
 use Rattle.sound_tables.proofs.GainLemmas.{gain_falls}
 use Rattle.zone_select.specs.declared.parameters.VoiceParameters.{VoiceParameters}
@@ -29,16 +29,27 @@ pub part_small : (amount over : ℕ) → amount ≤ 65536 → amount / over ≤ 
 part_small amount zero h = omega arith
 part_small amount (suc over) h = let b : amount / suc over < 65537 = div_below amount (suc over) 65537 (omega arith) (omega arith) in omega arith
 
-le_div : (s d n : ℕ) → 0 < d → s * d ≤ n → s ≤ n / d
-le_div s d n p h =
-    elim (cases_lt (n / d) s) [
-      | inl lt ↦
-          let e : n / d * d + n % d ≡ n = div-add-mod' n d in
-          let b : n % d < d = mod_below n d p in
-          let f : suc (n / d) * d ≤ s * d = mul-le (suc (n / d)) d s d (omega arith) (omega arith) in
-          absurd (omega arith)
-      | inr ge ↦ ge
-    ]
+-- the frames at which the fall is by so many whole centibels
+pub lasts_some : (n over : ℕ) → 0 < over → n < (n / over + 1) * over
+lasts_some n over p =
+    let e : n / over * over + n % over ≡ n = div-add-mod' n over in
+    let b : n % over < over = mod_below n over p in omega arith
+
+pub lasts_shortly : (n over : ℕ) → 0 < over → (n / over + 1) * over ≤ n + over
+lasts_shortly n over p = let e : n / over * over + n % over ≡ n = div-add-mod' n over in omega arith
+
+pub lasting : (over fallen k : ℕ) → 0 < over → 960 * fallen + k * 960 < (960 * fallen / over + 1) * over
+    → 960 * fallen / over ≡ 960 * (fallen + k) / over
+lasting over fallen k p h =
+    let a : ℕ = 960 * fallen / over in
+    let e : a * over + 960 * fallen % over ≡ 960 * fallen = div-add-mod' (960 * fallen) over in
+    let below : 960 * (fallen + k) / over < a + 1 = div_below (960 * (fallen + k)) over (a + 1) p (omega (arith, h)) in
+    let above : a ≤ 960 * (fallen + k) / over = le-div a (960 * (fallen + k)) over p (omega (arith, e)) in
+    omega (arith, below, above)
+
+-- of all of the loudness a gain leaves itself
+pub left_of_all : (g : ℕ) → 65536 * g / 65536 ≡ g
+left_of_all g = omega arith
 
 -- the decay has come down to the sustain
 pub sustained : (s d u w : ℕ) → s * d ≤ 960 * u → u ≤ w → gain_at (cond (nat_lt 0 d) (min s (960 * w / d)) s) ≡ gain_at s
@@ -46,7 +57,7 @@ sustained s d u w h l =
     elim (cases_lt 0 d) [
       | inl lt ↦
           let t : nat_lt 0 d ≡ true = grind (arith, nat_tests) in
-          let e : s ≤ 960 * w / d = le_div s d (960 * w) lt (omega arith) in
+          let e : s ≤ 960 * w / d = le-div s (960 * w) d lt (omega arith) in
           let m : min s (960 * w / d) ≡ s = omega arith in ap (λ b. gain_at (cond b (min s (960 * w / d)) s)) t ∙ ap gain_at m
       | inr ge ↦
           let t : nat_lt 0 d ≡ false = grind (arith, nat_tests) in ap (λ b. gain_at (cond b (min s (960 * w / d)) s)) t

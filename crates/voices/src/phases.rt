@@ -41,30 +41,35 @@ fn fill_even(level: u32, levels: &mut [u32])
     }
 }
 
-// Each attenuation's gain, computed once for equal ones in a row.
-fn fill_gains(levels: &mut [u32])
-    ensures { EachIndex levels.new (λ k. slice_index levels.new k ≡ gain_at (slice_index levels.old k)) }
+// The front of a fall from `level` by 960 centibels in so many frames, as far as one centibel lasts;
+// answers how many frames that are.
+#[tactic(auto, using(crate::proofs::PhaseLemmas::lasts_some, crate::proofs::PhaseLemmas::lasts_shortly, crate::proofs::LevelLemmas::faded))]
+fn fill_centibel(level: u32, over: u64, fallen: u64, levels: &mut [u32]) -> usize
+    requires most { level ≤ 65536 }
+    requires divisor { (0 < over) × (over < 2 ^ 32) }
+    requires some { 0 < length levels.old }
+    requires near { fallen + length levels.old < 2 ^ 34 }
+    ensures some { (0 < result) × (result ≤ length levels.new) }
+    ensures value { (k : ℕ) → k < result → slice_index levels.new k ≡ level * gain_at (960 * (fallen + k) / over) / 65536 }
 {
-    let mut attenuation = 0;
-    let mut level = gain(0);
-    for k in 0..levels.len() {
-        if levels[k] != attenuation {
-            attenuation = levels[k];
-            level = gain(i64::from(attenuation));
-        }
-        levels[k] = level;
-    }
+    let attenuation = 960 * fallen / over;
+    let n = frames_before(960 * fallen, 960, (attenuation + 1) * over, levels.len() as u64) as usize;
+    let left = u64::from(level) * u64::from(gain(attenuation as i64)) / 65536;
+    fill_even(left as u32, &mut levels[..n]);
+    n
 }
 
-// Falling by 960 centibels in so many frames, from `fallen` frames on.
-fn fill_falling(over: u64, fallen: u64, levels: &mut [u32])
+// Falling from `level` by 960 centibels in so many frames, from `fallen` frames on.
+fn fill_falling(level: u32, over: u64, fallen: u64, levels: &mut [u32])
+    requires most { level ≤ 65536 }
     requires divisor { (0 < over) × (over < 2 ^ 32) }
     requires near { fallen + length levels.old < 2 ^ 34 }
-    requires fits { (k : ℕ) → k < length levels.old → 960 * (fallen + k) < over * 4294967296 }
-    ensures { EachIndex levels.new (λ k. slice_index levels.new k ≡ gain_at (960 * (fallen + k) / over)) }
+    ensures { EachIndex levels.new (λ k. slice_index levels.new k ≡ level * gain_at (960 * (fallen + k) / over) / 65536) }
 {
-    fill_line(960, over, fallen, levels);
-    fill_gains(levels);
+    let mut at = 0;
+    while at < levels.len() {
+        at += fill_centibel(level, over, fallen + at as u64, &mut levels[at..]);
+    }
 }
 
 // The front of a stretch that is so many frames into the decay; answers how many frames that are.
@@ -82,7 +87,7 @@ fn fill_decayed(v: &VoiceParameters, fallen: u64, levels: &mut [u32]) -> usize
         return levels.len();
     }
     let n = frames_before(960 * fallen, 960, sustained, levels.len() as u64) as usize;
-    fill_falling(decay, fallen, &mut levels[..n]);
+    fill_falling(65536, decay, fallen, &mut levels[..n]);
     n
 }
 
@@ -130,18 +135,6 @@ fn fill_note(v: &VoiceParameters, t: u64, levels: &mut [u32])
     }
 }
 
-// Each level, as a part of one level.
-#[tactic(auto, using(crate::proofs::LevelLemmas::faded))]
-fn fade(level: u32, levels: &mut [u32])
-    requires most { level ≤ 65536 }
-    requires levels { EachIndex levels.old (λ k. slice_index levels.old k ≤ 65536) }
-    ensures { EachIndex levels.new (λ k. slice_index levels.new k ≡ level * slice_index levels.old k / 65536) }
-{
-    for k in 0..levels.len() {
-        levels[k] = (u64::from(level) * u64::from(levels[k]) / 65536) as u32;
-    }
-}
-
 // The levels so many frames into the release.
 fn fill_released(v: &VoiceParameters, fallen: u64, levels: &mut [u32])
     requires { fallen + length levels.old ≤ v.now.release }
@@ -150,8 +143,7 @@ fn fill_released(v: &VoiceParameters, fallen: u64, levels: &mut [u32])
     if levels.is_empty() {
         return;
     }
-    fill_falling(u64::from(v.release), fallen, levels);
-    fade(held_at(v, u64::from(v.length)), levels);
+    fill_falling(held_at(v, u64::from(v.length)), u64::from(v.release), fallen, levels);
 }
 
 // How loud the voice is at each frame of a stretch, which the note's end ends.

@@ -2,7 +2,7 @@ use Rattle.std.proofs.Common.{◌≡◌, ◌+◌, ◌*◌, ◌/◌, ◌<◌, ◌
 use Rattle.std.proofs.lemmas.Grind.{common_steps}
 use Rattle.sound_tables.specs.Tables.{gain_at}
 use Rattle.voices.specs.Envelope.{decayed}
-use Rattle.voices.proofs.PhaseLemmas.{decaying}
+use Rattle.voices.proofs.PhaseLemmas.{decaying, left_of_all}
 use Rattle.voices.proofs.phases.fill_decayed.Goals as goal
 
 pub returns-clause-value : goal.returns-clause-value
@@ -20,5 +20,6 @@ returns-clause-value c k h =
     let b : 960 * c.args.fallen + k * 960 < c.from.result * c.from-decay.result = c.frames_before-n.ensures.before k h in
     let b' : 960 * c.args.fallen + k * 960 < v.sustain * v.decay =
     subst (λ y. 960 * c.args.fallen + k * 960 < v.sustain * y) d (subst (λ y. 960 * c.args.fallen + k * 960 < y * c.from-decay.result) s b) in
-    o ∙ c.fill_falling.ensures k (omega (arith, h, len)) ∙ ap (λ y. gain_at (960 * (c.args.fallen + k) / y)) d
+    o ∙ c.fill_falling.ensures k (omega (arith, h, len)) ∙ left_of_all (gain_at (960 * (c.args.fallen + k) / c.from-decay.result))
+    ∙ ap (λ y. gain_at (960 * (c.args.fallen + k) / y)) d
     ∙ decaying v.sustain v.decay (c.args.fallen + k) (omega (arith, b'))
