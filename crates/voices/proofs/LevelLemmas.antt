@@ -1,5 +1,5 @@
 -- Bounds of what is scaled, parted and interpolated.
-use Rattle.std.proofs.Common.{◌≡◌, ℕ, ◌+◌, ◌*◌, ◌/◌, ◌<◌, ◌≤◌, suc, ℤ, pos, negsuc, ◌+ℤ◌, ◌-ℤ◌, ◌*ℤ◌, ◌-◌, ◌≤ℤ◌, neg_ℤ, FitsSigned, ap, arith, mul-le-mul_left}
+use Rattle.std.proofs.Common.{◌≡◌, ℕ, ◌+◌, ◌*◌, ◌/◌, ◌<◌, ◌≤◌, zero, suc, cond, nat_eq, ℤ, pos, negsuc, ◌+ℤ◌, ◌-ℤ◌, ◌*ℤ◌, ◌-◌, ◌≤ℤ◌, neg_ℤ, FitsSigned, sym, ap, arith, mul-le-mul_left}
 use Rattle.std.proofs.lemmas.Nat.{div_below, mul-le}
 use Rattle.std.proofs.lemmas.Int.{ints}
 use Rattle.std.specs.Int.{w16}
@@ -59,6 +59,28 @@ side_within p gain h lo hi =
     cases_sign p
     (λ s. let b = part_up p gain 1000 (omega arith) h s in (omega (arith, ints, b.0), omega (arith, ints, b.1)))
     (λ s. let b = part_down p gain 1000 (omega arith) h s in (omega (arith, ints, b.0), omega (arith, ints, b.1)))
+
+-- all of it, and none of it
+pub whole_side : (z : ℤ) → side z 1000 ≡ z
+unfolding side
+whole_side (pos a) = let e : a * 1000 / 1000 ≡ a = omega arith in omega (arith, ints)
+whole_side (negsuc a) =
+    let e = floor_div_is (negsuc a *ℤ pos 1000) (suc a) 1000 0 (omega arith) (omega (arith, ints)) in omega (arith, ints, e)
+
+pub no_side : (z : ℤ) → side z 0 ≡ pos 0
+unfolding side
+no_side z = let e = floor_div_is (z *ℤ pos 0) 0 1000 0 (omega arith) (omega (arith, ints)) in omega (arith, ints, e)
+
+-- a frame that is all on the left, or on the right
+pub left_alone : (z : ℤ) (i : ℕ) → i < 2 → cond (nat_eq i 0) z (pos 0) ≡ side z (cond (nat_eq i 0) 1000 0)
+left_alone z zero h = sym (whole_side z)
+left_alone z (suc zero) h = sym (no_side z)
+left_alone z (suc (suc i)) h = absurd (omega (arith, h))
+
+pub right_alone : (z : ℤ) (i : ℕ) → i < 2 → cond (nat_eq i 1) z (pos 0) ≡ side z (cond (nat_eq i 0) 0 1000)
+right_alone z zero h = sym (no_side z)
+right_alone z (suc zero) h = sym (whole_side z)
+right_alone z (suc (suc i)) h = absurd (omega (arith, h))
 
 pub between_within : (p q : ℤ) (f : ℕ) → f < 65536 → FitsSigned w16 p → FitsSigned w16 q → (negsuc 32767 ≤ℤ between p q f) × (between p q f ≤ℤ pos 32767)
 unfolding between

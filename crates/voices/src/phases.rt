@@ -53,7 +53,12 @@ fn fill_centibel(level: u32, over: u64, fallen: u64, levels: &mut [u32]) -> usiz
     ensures value { (k : ℕ) → k < result → slice_index levels.new k ≡ level * gain_at (960 * (fallen + k) / over) / 65536 }
 {
     let attenuation = 960 * fallen / over;
-    let n = frames_before(960 * fallen, 960, (attenuation + 1) * over, levels.len() as u64) as usize;
+    let n = frames_before(
+        960 * fallen,
+        960,
+        (attenuation + 1) * over,
+        levels.len() as u64,
+    ) as usize;
     let left = u64::from(level) * u64::from(gain(attenuation as i64)) / 65536;
     fill_even(left as u32, &mut levels[..n]);
     n
@@ -143,7 +148,12 @@ fn fill_released(v: &VoiceParameters, fallen: u64, levels: &mut [u32])
     if levels.is_empty() {
         return;
     }
-    fill_falling(held_at(v, u64::from(v.length)), u64::from(v.release), fallen, levels);
+    fill_falling(
+        held_at(v, u64::from(v.length)),
+        u64::from(v.release),
+        fallen,
+        levels,
+    );
 }
 
 // How loud the voice is at each frame of a stretch, which the note's end ends.

@@ -107,8 +107,22 @@ fn fill_sounds(points: &Points, v: &VoiceParameters, t: u64, run: &mut [i16])
     soften(v, t, &mut levels[..n], run);
 }
 
-// Adds each frame's parts to the sums of both sides.
-fn add_sides(run: &[i16], left: u32, right: u32, sums: &mut [i32])
+// Adds each frame to every second sum from `first` on, which are those of one side.
+fn add_one_side(run: &[i16], first: usize, sums: &mut [i32])
+    requires long { length sums.old ≡ 2 * length run.now }
+    requires turn { first < 2 }
+    requires room { AllWithin 65534 sums.old }
+    ensures { EachIndex sums.new (λ i. IsAdded (slice_index_or sums.old i (pos 0))
+        (cond (nat_eq (i % 2) first) (slice_index_or run.now (i / 2) (pos 0)) (pos 0))
+        (slice_index_or sums.new i (pos 0))) }
+{
+    for k in 0..run.len() {
+        sums[2 * k + first] += i32::from(run[k]);
+    }
+}
+
+// Adds a part of each frame to the sums of either side.
+fn add_both_sides(run: &[i16], left: u32, right: u32, sums: &mut [i32])
     requires long { length sums.old ≡ 2 * length run.now }
     requires parts { (left ≤ 1000) × (right ≤ 1000) }
     requires room { AllWithin 65534 sums.old }
@@ -120,6 +134,24 @@ fn add_sides(run: &[i16], left: u32, right: u32, sums: &mut [i32])
         let z = i32::from(run[k]);
         sums[2 * k] += parted(z, left);
         sums[2 * k + 1] += parted(z, right);
+    }
+}
+
+// Adds each frame's parts to the sums of both sides.
+fn add_sides(run: &[i16], left: u32, right: u32, sums: &mut [i32])
+    requires long { length sums.old ≡ 2 * length run.now }
+    requires parts { (left ≤ 1000) × (right ≤ 1000) }
+    requires room { AllWithin 65534 sums.old }
+    ensures { EachIndex sums.new (λ i. IsAdded (slice_index_or sums.old i (pos 0))
+        (side (slice_index_or run.now (i / 2) (pos 0)) (cond (nat_eq (i % 2) 0) left right))
+        (slice_index_or sums.new i (pos 0))) }
+{
+    if left == 1000 && right == 0 {
+        add_one_side(run, 0, sums);
+    } else if left == 0 && right == 1000 {
+        add_one_side(run, 1, sums);
+    } else {
+        add_both_sides(run, left, right, sums);
     }
 }
 
