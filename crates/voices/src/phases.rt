@@ -8,19 +8,17 @@ use crate::places::frames_before;
 use sound_tables::gain;
 use zone_select::VoiceParameters;
 
-// The whole parts of `amount * j / over` for each j from `first` on: no frame divides.
-#[tactic(auto, using(crate::proofs::PhaseLemmas::line_fits, crate::proofs::PhaseLemmas::part_small))]
-fn fill_line(amount: u64, over: u64, first: u64, levels: &mut [u32])
+// Rising to 65536 in so many frames, from `risen` frames on: no frame divides.
+#[tactic(auto, using(crate::proofs::PhaseLemmas::rising_fits, crate::proofs::PhaseLemmas::step_small))]
+fn fill_rising(over: u64, risen: u64, levels: &mut [u32])
     requires divisor { (0 < over) × (over < 2 ^ 32) }
-    requires amounts { amount ≤ 65536 }
-    requires near { first + length levels.old < 2 ^ 34 }
-    requires fits { (k : ℕ) → k < length levels.old → amount * (first + k) < over * 4294967296 }
-    ensures { EachIndex levels.new (λ k. slice_index levels.new k ≡ amount * (first + k) / over) }
+    requires within { risen + length levels.old ≤ over }
+    ensures { EachIndex levels.new (λ k. slice_index levels.new k ≡ 65536 * (risen + k) / over) }
 {
-    let whole_step = amount / over;
-    let rest_step = amount % over;
-    let mut whole = amount * first / over;
-    let mut rest = amount * first % over;
+    let whole_step = 65536 / over;
+    let rest_step = 65536 % over;
+    let mut whole = 65536 * risen / over;
+    let mut rest = 65536 * risen % over;
     for k in 0..levels.len() {
         levels[k] = whole as u32;
         whole += whole_step;
@@ -53,7 +51,12 @@ fn fill_centibel(level: u32, over: u64, fallen: u64, levels: &mut [u32]) -> usiz
     ensures value { (k : ℕ) → k < result → slice_index levels.new k ≡ level * gain_at (960 * (fallen + k) / over) / 65536 }
 {
     let attenuation = 960 * fallen / over;
-    let n = frames_before(960 * fallen, 960, (attenuation + 1) * over, levels.len() as u64) as usize;
+    let n = frames_before(
+        960 * fallen,
+        960,
+        (attenuation + 1) * over,
+        levels.len() as u64,
+    ) as usize;
     let left = u64::from(level) * u64::from(gain(attenuation as i64)) / 65536;
     fill_even(left as u32, &mut levels[..n]);
     n
@@ -112,7 +115,7 @@ fn fill_held(v: &VoiceParameters, t: u64, levels: &mut [u32]) -> usize
     let risen = t - delay;
     if risen < attack {
         let n = most.min(attack - risen) as usize;
-        fill_line(65536, attack, risen, &mut levels[..n]);
+        fill_rising(attack, risen, &mut levels[..n]);
         return n;
     }
     let kept = risen - attack;
@@ -143,7 +146,12 @@ fn fill_released(v: &VoiceParameters, fallen: u64, levels: &mut [u32])
     if levels.is_empty() {
         return;
     }
-    fill_falling(held_at(v, u64::from(v.length)), u64::from(v.release), fallen, levels);
+    fill_falling(
+        held_at(v, u64::from(v.length)),
+        u64::from(v.release),
+        fallen,
+        levels,
+    );
 }
 
 // How loud the voice is at each frame of a stretch, which the note's end ends.

@@ -1,4 +1,4 @@
-use Rattle.std.proofs.Common.{◌≡◌, ◌+◌, ◌*◌, ◌/◌, ℕ, arith, ap, ◌∙◌}
+use Rattle.std.proofs.Common.{◌≡◌, ◌+◌, ◌*◌, ◌/◌, ap, ◌∙◌}
 use Rattle.sound_tables.specs.Tables.{gain_at}
 use Rattle.voices.specs.Envelope.{held, released}
 use Rattle.voices.proofs.phases.fill_released.Goals as goal
