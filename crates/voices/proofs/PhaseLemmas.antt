@@ -2,6 +2,7 @@
 use Rattle.std.proofs.Common.{◌≡◌, ℕ, zero, suc, ◌+◌, ◌-◌, ◌*◌, ◌/◌, ◌%◌, ◌<◌, ◌≤◌, min, Bool, true, false, cond, nat_lt, refl, sym, ◌∙◌, ap, arith, inl, inr}
 use Rattle.std.proofs.lemmas.Bool.{cases_lt}
 use Rattle.std.proofs.lemmas.Bool.Decides.{nat_tests}
+use Rattle.std.proofs.Math.Nat.{div-le_self}
 use Rattle.std.proofs.lemmas.Nat.{div-add-mod', div-mul-add, div_below, le-div, mod_below}
 use Rattle.sound_tables.specs.Tables.{ratio, gain_at}
 use Rattle.sound_tables.proofs.GainLemmas.{gain_falls}
@@ -9,25 +10,21 @@ use Rattle.zone_select.specs.declared.parameters.VoiceParameters.{VoiceParameter
 use Rattle.voices.specs.Envelope.{decayed, held, released, envelope}
 use Rattle.voices.proofs.LevelLemmas.{faded}
 
-pub line_first : (amount over first : ℕ) → amount * first / over * over + amount * first % over ≡ amount * (first + 0)
-line_first amount over first = let e = div-add-mod' (amount * first) over in omega (arith, e)
-
-pub line_more : (amount over j whole rest : ℕ) → whole * over + rest ≡ amount * j
-    → (whole + amount / over) * over + (rest + amount % over) ≡ amount * (j + 1)
-line_more amount over j whole rest e =
-    let d : amount / over * over + amount % over ≡ amount = div-add-mod' amount over in omega arith
+pub rising_more : (over j whole rest : ℕ) → whole * over + rest ≡ 65536 * j
+    → (whole + 65536 / over) * over + (rest + 65536 % over) ≡ 65536 * (j + 1)
+rising_more over j whole rest e =
+    let d : 65536 / over * over + 65536 % over ≡ 65536 = div-add-mod' 65536 over in omega arith
 
 pub line_whole : (total over whole rest : ℕ) → rest < over → whole * over + rest ≡ total → whole ≡ total / over
 line_whole total over whole rest h e = sym (ap (λ x. x / over) (sym e) ∙ div-mul-add whole over rest h)
 
-pub line_fits : (whole over rest total : ℕ) → rest < over → whole * over + rest ≡ total → total < over * 4294967296 → whole < 4294967296
-line_fits whole over rest total h e l =
-    let w : whole ≡ total / over = line_whole total over whole rest h e in
-    let b : total / over < 4294967296 = div_below total over 4294967296 (omega arith) (omega arith) in omega arith
+pub rising_fits : (whole over rest j : ℕ) → rest < over → whole * over + rest ≡ 65536 * j → j < over → whole < 65536
+rising_fits whole over rest j h e l =
+    let w : whole ≡ 65536 * j / over = line_whole (65536 * j) over whole rest h e in
+    let b : 65536 * j / over < 65536 = div_below (65536 * j) over 65536 (omega arith) (omega arith) in omega arith
 
-pub part_small : (amount over : ℕ) → amount ≤ 65536 → amount / over ≤ 65536
-part_small amount zero h = omega arith
-part_small amount (suc over) h = let b : amount / suc over < 65537 = div_below amount (suc over) 65537 (omega arith) (omega arith) in omega arith
+pub step_small : (over : ℕ) → 65536 / over ≤ 65536
+step_small over = div-le_self 65536 over
 
 -- the frames at which the fall is by so many whole centibels
 pub lasts_some : (n over : ℕ) → 0 < over → n < (n / over + 1) * over

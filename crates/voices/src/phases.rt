@@ -8,19 +8,17 @@ use crate::places::frames_before;
 use sound_tables::gain;
 use zone_select::VoiceParameters;
 
-// The whole parts of `amount * j / over` for each j from `first` on: no frame divides.
-#[tactic(auto, using(crate::proofs::PhaseLemmas::line_fits, crate::proofs::PhaseLemmas::part_small))]
-fn fill_line(amount: u64, over: u64, first: u64, levels: &mut [u32])
+// Rising to 65536 in so many frames, from `risen` frames on: no frame divides.
+#[tactic(auto, using(crate::proofs::PhaseLemmas::rising_fits, crate::proofs::PhaseLemmas::step_small))]
+fn fill_rising(over: u64, risen: u64, levels: &mut [u32])
     requires divisor { (0 < over) × (over < 2 ^ 32) }
-    requires amounts { amount ≤ 65536 }
-    requires near { first + length levels.old < 2 ^ 34 }
-    requires fits { (k : ℕ) → k < length levels.old → amount * (first + k) < over * 4294967296 }
-    ensures { EachIndex levels.new (λ k. slice_index levels.new k ≡ amount * (first + k) / over) }
+    requires within { risen + length levels.old ≤ over }
+    ensures { EachIndex levels.new (λ k. slice_index levels.new k ≡ 65536 * (risen + k) / over) }
 {
-    let whole_step = amount / over;
-    let rest_step = amount % over;
-    let mut whole = amount * first / over;
-    let mut rest = amount * first % over;
+    let whole_step = 65536 / over;
+    let rest_step = 65536 % over;
+    let mut whole = 65536 * risen / over;
+    let mut rest = 65536 * risen % over;
     for k in 0..levels.len() {
         levels[k] = whole as u32;
         whole += whole_step;
@@ -117,7 +115,7 @@ fn fill_held(v: &VoiceParameters, t: u64, levels: &mut [u32]) -> usize
     let risen = t - delay;
     if risen < attack {
         let n = most.min(attack - risen) as usize;
-        fill_line(65536, attack, risen, &mut levels[..n]);
+        fill_rising(attack, risen, &mut levels[..n]);
         return n;
     }
     let kept = risen - attack;

@@ -1,9 +1,0 @@
-use Rattle.std.proofs.Common.{◌≡◌, ℕ, ◌+◌, ◌*◌, ◌/◌, ◌<◌, get_or}
-use Rattle.voices.proofs.phases.fill_line.Given as goal
-
-abbrev pub invariant-loop-k : goal.invariant-loop-k
-invariant-loop-k l = record {
-  sum : l.whole * l.over + l.rest ≡ l.amount * (l.first + l.k);
-  small : l.rest < l.over;
-  done : (k : ℕ) → k < l.k → get_or l.levels k 0 ≡ l.amount * (l.first + k) / l.over;
-}
