@@ -178,3 +178,8 @@ stands_still x step to k h e = let f : k * step ≡ 0 = ap (λ s. k * s) e ∙ o
 
 pub short_way : (n step : ℕ) → n ≤ 1024 → step ≤ 73043661 → n * step ≤ 74796708864
 short_way n step h g = mul-le n step 1024 73043661 h g
+
+-- an earlier place is no further
+pub less_far : (x k n step far : ℕ) → k < n → x + n * step < far → (k * step < far) × (x + k * step < far)
+less_far x k n step far l h =
+    let e : k * step ≤ n * step = mul-le k step n step (omega arith) (omega arith) in (omega arith, omega arith)

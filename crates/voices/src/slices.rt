@@ -26,6 +26,25 @@ fn pair_in(bytes: &[u8], i: usize) -> u32
     ])
 }
 
+// How many frames lie between two points that are read ahead.
+const APART: usize = 16;
+
+// Reads some of the points before all of them: so memory fetches the parts of a slice side by side, and
+// not each as the run comes to it.
+#[tactic(auto, using(crate::proofs::PlaceLemmas::less_far))]
+fn read_ahead(bytes: &[u8], x: u32, step: u32, pairs: &mut [u32])
+    requires short { length pairs.old ≤ 1024 }
+    requires ends { (k : ℕ) → k < length pairs.old → 2 * ((x + k * step) / 65536) + 3 < length bytes.now }
+    requires near { x + length pairs.old * step < 2 ^ 32 }
+{
+    let mut k = 0;
+    while k < pairs.len() {
+        let place = x + k as u32 * step;
+        pairs[k] = pair_in(bytes, (place >> 16) as usize);
+        k += APART;
+    }
+}
+
 // The points around each place of a slice from `x` on, with `step` more for each frame.
 fn read_pairs(bytes: &[u8], x: u32, step: u32, pairs: &mut [u32])
     requires ends { (k : ℕ) → k < length pairs.old → 2 * ((x + k * step) / 65536) + 3 < length bytes.now }
@@ -71,8 +90,10 @@ fn fill_straight(bytes: &[u8], x: u32, step: u32, pairs: &mut [u32], run: &mut [
     requires long { length pairs.old ≡ length run.old }
     requires ends { (k : ℕ) → k < length run.old → 2 * ((x + k * step) / 65536) + 3 < length bytes.now }
     requires near { x + length run.old * step < 2 ^ 32 }
+    requires short { length run.old ≤ 1024 }
     ensures { EachIndex run.new (λ k. slice_index_or run.new k (pos 0) ≡ straight (words bytes.now) (x + k * step)) }
 {
+    read_ahead(bytes, x, step, pairs);
     read_pairs(bytes, x, step, pairs);
     interpolate(pairs, x, step, run);
 }
