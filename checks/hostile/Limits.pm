@@ -101,6 +101,8 @@ sub try_points {
     tell("the most points: $_", is_full('most', $_, 'points')) for 'add-sample 0 "n" 0 0 0 mono noloop x', 'extend 0 x0000 x', 'extend 9999 x x0000';
     $run = run(['apply', 'most', 'trim', '/dev/null', 'undo']);
     tell('the most points are edited', is_right($run, 1_000_000_000) // ($run->{status} ? $run->{line} : undef));
+    my $length = `$program canon most /dev/stdout | wc -c`;
+    tell('the file of the most points', $length == 1_000_460_308 ? undef : "has $length bytes");
     my $edited = write_the_same("$program canon trimmed /dev/stdout", "$program apply most trim /dev/stdout undo");
     my $back = $edited && write_the_same("$program canon most /dev/stdout", "$program apply trimmed undo /dev/stdout again");
     tell('the most points are edited and undone', $back && read_bytes('again') eq "trim 0 1 0\n" ? undef : $edited ? 'not undone' : 'not edited');

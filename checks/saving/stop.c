@@ -1,7 +1,9 @@
 /* Stops a program, or has one of its calls fail: preloaded, it counts the calls by which a program makes
- * and changes files, from 1. Before the one that STOP_AT numbers the program is killed, and that one and
- * each later one that FAIL_CALL names answers FAIL_ERROR, an error's number. What was counted is written to
- * the file that COUNTED names, as the program ends. All other calls go on to the C library. */
+ * and changes files, from 1. Before the one that STOP_AT numbers the program is killed. The calls that
+ * FAIL_CALL names, a list parted by commas, answer FAIL_ERROR, an error's number: each of them, or where
+ * FAIL_AT is set that one of them alone, counted from 1. The file that FAIL_MARK names is created as one fails,
+ * and what was counted is written to the file that COUNTED names, as the program ends. All other calls go on to
+ * the C library. */
 #define _GNU_SOURCE
 #include <dlfcn.h>
 #include <errno.h>
@@ -11,25 +13,59 @@
 #include <stdio.h>
 #include <stdlib.h>
 #include <string.h>
+#include <sys/stat.h>
 #include <sys/types.h>
 #include <unistd.h>
 
 static unsigned long counted;
+static unsigned long met;
 
 static unsigned long number_of(const char *name) {
     const char *text = getenv(name);
     return text ? strtoul(text, NULL, 10) : 0;
 }
 
-/* Counts a call, at which the program may be killed. Whether the call is to fail. */
+static void *next(const char *name) { return dlsym(RTLD_NEXT, name); }
+
+/* Whether the list of the calls that are to fail has this one. */
+static int is_named(const char *call) {
+    const char *list = getenv("FAIL_CALL");
+    size_t length = strlen(call);
+    while (list) {
+        if (strncmp(list, call, length) == 0 && (list[length] == ',' || list[length] == 0))
+            return 1;
+        list = strchr(list, ',');
+        list = list ? list + 1 : NULL;
+    }
+    return 0;
+}
+
+static void leave_mark(void) {
+    const char *name = getenv("FAIL_MARK");
+    FILE *file = name ? fopen(name, "w") : NULL;
+    if (file)
+        fclose(file);
+}
+
+/* Whether a call is to fail. */
 static int fails(const char *call) {
-    const char *failing = getenv("FAIL_CALL");
-    if (++counted == number_of("STOP_AT"))
-        kill(getpid(), SIGKILL);
-    if (!failing || strcmp(failing, call) != 0)
+    if (!is_named(call) || (getenv("FAIL_AT") && ++met != number_of("FAIL_AT")))
         return 0;
+    leave_mark();
     errno = (int)number_of("FAIL_ERROR");
     return 1;
+}
+
+/* Counts a call that changes files, at which the program may be killed. Whether the call is to fail. */
+static int changing_fails(const char *call) {
+    if (++counted == number_of("STOP_AT"))
+        kill(getpid(), SIGKILL);
+    return fails(call);
+}
+
+static int is_folder(int file) {
+    struct stat found;
+    return fstat(file, &found) == 0 && S_ISDIR(found.st_mode);
 }
 
 __attribute__((destructor)) static void end(void) {
@@ -41,56 +77,74 @@ __attribute__((destructor)) static void end(void) {
     }
 }
 
-static void *next(const char *name) { return dlsym(RTLD_NEXT, name); }
+/* Whether the opening of a file that is to be written, or of a folder, is to fail. */
+static int opening_fails(const char *path, int flags) {
+    struct stat found;
+    if (flags & (O_WRONLY | O_RDWR))
+        return changing_fails(flags & O_EXCL ? "create" : "open");
+    return stat(path, &found) == 0 && S_ISDIR(found.st_mode) && fails("open-folder");
+}
 
 int open(const char *path, int flags, ...) {
     va_list more;
     va_start(more, flags);
     int mode = flags & O_CREAT ? va_arg(more, int) : 0;
     va_end(more);
-    if (flags & (O_WRONLY | O_RDWR) && fails(flags & O_EXCL ? "create" : "open"))
+    if (opening_fails(path, flags))
         return -1;
     return ((int (*)(const char *, int, ...))next("open"))(path, flags, mode);
 }
 
 ssize_t write(int file, const void *bytes, size_t count) {
-    if (file > 2 && fails("write"))
+    if (file > 2 && changing_fails("write"))
         return -1;
     return ((ssize_t (*)(int, const void *, size_t))next("write"))(file, bytes, count);
 }
 
 int fsync(int file) {
-    if (fails("fsync"))
+    if (changing_fails(is_folder(file) ? "fsync-folder" : "fsync"))
         return -1;
     return ((int (*)(int))next("fsync"))(file);
 }
 
+int fdatasync(int file) {
+    if (changing_fails("fdatasync"))
+        return -1;
+    return ((int (*)(int))next("fdatasync"))(file);
+}
+
+/* A file is closed also where this fails. */
+int close(int file) {
+    int answer = ((int (*)(int))next("close"))(file);
+    return fails("close") ? -1 : answer;
+}
+
 int fchmod(int file, mode_t mode) {
-    if (fails("fchmod"))
+    if (changing_fails("fchmod"))
         return -1;
     return ((int (*)(int, mode_t))next("fchmod"))(file, mode);
 }
 
 int chown(const char *path, uid_t owner, gid_t group) {
-    if (fails("chown"))
+    if (changing_fails("chown"))
         return -1;
     return ((int (*)(const char *, uid_t, gid_t))next("chown"))(path, owner, group);
 }
 
 int ftruncate(int file, off_t length) {
-    if (fails("ftruncate"))
+    if (changing_fails("ftruncate"))
         return -1;
     return ((int (*)(int, off_t))next("ftruncate"))(file, length);
 }
 
 int rename(const char *from, const char *to) {
-    if (fails("rename"))
+    if (changing_fails("rename"))
         return -1;
     return ((int (*)(const char *, const char *))next("rename"))(from, to);
 }
 
 int unlink(const char *path) {
-    if (fails("unlink"))
+    if (changing_fails("unlink"))
         return -1;
     return ((int (*)(const char *))next("unlink"))(path);
 }

@@ -4,6 +4,8 @@
 #![tactic(auto)]
 
 #[cfg(test)]
+mod failing_plays;
+#[cfg(test)]
 mod linear;
 #[cfg(test)]
 mod notes;

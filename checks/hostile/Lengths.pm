@@ -1,0 +1,83 @@
+# Inputs that are longer than a file is at most, the longest file, inputs and sounds that memory does not hold,
+# and paths that no file has: each ends by its line, with no output. The long files have holes, and take no room.
+package Lengths;
+use strict;
+use warnings;
+use Banks;
+use Runs;
+use Exporter 'import';
+our @EXPORT = qw(try_lengths);
+
+my $most = 4_294_967_303;
+my $long_path = 'p' x 5_000;
+
+sub make_inputs {
+    write_bytes($_, '') for qw(over longest);
+    truncate 'over', $most + 1 or die "over: $!\n";
+    put_longest(bytes_of($EMPTY));
+    write_bytes('rename', "rename-sample 0 \"u\"\n");
+    write_bytes('note', "0 1 0 0 60 127\n");
+    write_bytes('late', "99999999 1 0 0 60 127\n");
+    my @lines = ('add-sample 0 "s" 44100 60 0 mono loop 0 1 x0100', 'add-inst 0 "i"' . ' { 0 }' x 1_000, 'add-preset 0 "p" 0 0 0 0 0' . ' { 0 }' x 1_000);
+    my $run = apply_text('empty', join("\n", @lines), 'voices', 'undo');
+    tell('a bank of a million voices', $run->{wrong} // ($run->{status} ? $run->{line} : undef));
+}
+
+# The empty bank's file behind a chunk that nothing reads, the last pad byte of which is not there.
+sub put_longest {
+    my ($empty) = @_;
+    my $lists = substr $empty, 12;
+    my $between = $most - 1 - 20 - length $lists;
+    open my $file, '+<:raw', 'longest' or die "longest: $!\n";
+    print {$file} pack 'a4Va8V', 'RIFF', $most - 8, 'sfbkJUNK', $between or die "longest: $!\n";
+    seek $file, 20 + $between, 0 or die "longest: $!\n";
+    print {$file} $lists or die "longest: $!\n";
+    close $file or die "longest: $!\n";
+    truncate 'longest', $most or die "longest: $!\n";
+}
+
+# Runs of the shell: the program is `$0`, and `$1` a path. Each with its status and what is told.
+my @shells = (
+    # Too long by a byte, and without an end.
+    ['"$0" canon over out', 5, 'file fault over'],
+    ['"$0" apply empty /dev/zero out undo', 5, 'file fault /dev/zero'],
+    ['"$0" play empty /dev/zero out', 5, 'file fault /dev/zero'],
+    # A fault of IN comes before what another input is.
+    ['"$0" apply none over out undo', 5, 'file fault none'],
+    ['"$0" play none over out', 5, 'file fault none'],
+    # The longest file.
+    ['"$0" canon longest back && cmp back empty', 0],
+    # What memory does not hold.
+    ['ulimit -v 1000000; "$0" canon over out', 6, 'out of memory'],
+    ['ulimit -v 1000000; "$0" show longest', 6, 'out of memory'],
+    ['ulimit -v 200000; "$0" show /dev/zero', 6, 'out of memory'],
+    ['ulimit -v 200000; "$0" apply empty /dev/zero out undo', 6, 'out of memory'],
+    ['ulimit -v 200000; "$0" apply empty over out undo', 6, 'out of memory'],
+    ['ulimit -v 200000; "$0" play empty /dev/zero out', 6, 'out of memory'],
+    ['ulimit -v 100000; "$0" play voices note out', 6, 'out of memory'],
+    ['ulimit -v 100000; "$0" play empty late out', 6, 'out of memory'],
+    # Paths.
+    ['"$0" show "$1"', 5, "file fault $long_path"],
+    ['"$0" apply saw "$1" out undo', 5, "file fault $long_path"],
+    ['"$0" play saw "$1" out', 5, "file fault $long_path"],
+    ['"$0" canon saw "$1"', 5, "write fault $long_path after 0 bytes"],
+    ['"$0" apply saw rename "$1" undo', 5, "write fault $long_path after 0 bytes"],
+);
+
+sub try_shell {
+    my ($line, $status, $told) = @_;
+    unlink qw(out undo back errors printed);
+    my $ended = system('bash', '-c', "exec 2> errors > printed; $line", program_of_runs(), $long_path) >> 8;
+    my $line_told = read_bytes('errors');
+    my $wrong = $ended != $status ? "status $ended" : $line_told ne (defined $told ? "sfbank: $told\n" : '') ? "told '$line_told'" : undef;
+    $wrong //= -s 'printed' ? 'printed' : -e 'out' || -e 'undo' ? 'left a file' : undef;
+    tell($line, $wrong);
+}
+
+sub try_lengths {
+    make_inputs();
+    try_shell(@$_) for @shells;
+    unlink qw(over longest);
+}
+
+1;
