@@ -4,11 +4,12 @@ ghost use Rattle.std.specs.Prelude.{Some};
 use outputs::{WriteFault, put_all};
 use sf_base::front_of;
 use sfbank::{RunFault, Which, canon_run, edit_run, show_run};
+use sfbank_program::fault_text;
 use std::alloc::Global;
 use std::io;
 use std::io::{ErrorKind, Write};
 use std::test::Fail;
-use worked_files::{many_points, tone, with_more};
+use worked_files::{RENAME, many_points, renamed_saw, saw, tone, with_more};
 
 /// Takes at most `bite` bytes a call, and fails at the call numbered `fails_at`, counted from 0, by an
 /// error, or where `takes_none` by taking nothing; its flush fails where `flushes` is false.
@@ -163,6 +164,37 @@ fn flushes_fail(rt: HostRuntime) {
             answer == Err(RunFault::Write(Which::Out, all)) && out.held.len() as u64 == all
         );
     }
+}
+
+/// Renames a sample, by a run whose undo text has 22 bytes.
+fn renames(alloc: Global, out: &mut Faulty, undo: &mut Faulty) -> Result<(), RunFault> {
+    edit_run(alloc, saw().bytes(), RENAME, out, undo)
+}
+
+#[test]
+fn one_of_two_writers_fails(rt: HostRuntime) {
+    // The bank's writer takes no byte after 100.
+    let mut out = writer_that_fails(rt.alloc(), 100, 1, true);
+    let mut undo = writer_that_fails(rt.alloc(), 100, 99, false);
+    let answer = renames(rt.alloc(), &mut out, &mut undo);
+    assert!(rt; answer == Err(RunFault::Write(Which::Out, 100)));
+    assert!(rt;
+        out.held.as_slice() == front_of(renamed_saw().bytes(), 100) && undo.held.is_empty()
+    );
+    // The undo text's writer fails at once, and in its flush.
+    for (fails_at, written) in [(0, 0), (99, 22)] {
+        let mut out = writer_that_fails(rt.alloc(), 100, 99, false);
+        let mut undo = writer_that_fails(rt.alloc(), 100, fails_at, false);
+        undo.flushes = false;
+        let answer = renames(rt.alloc(), &mut out, &mut undo);
+        assert!(rt; answer == Err(RunFault::Write(Which::Undo, written)));
+        assert!(rt;
+            out.held.as_slice() == renamed_saw().bytes() && undo.held.len() as u64 == written
+        );
+    }
+    let mut line = Vec::new(rt.alloc());
+    assert!(rt; fault_text(&RunFault::Write(Which::Undo, 0), "u.txt", &mut line) == Ok(5));
+    assert!(rt; line.as_slice() == b"sfbank: write fault u.txt after 0 bytes\n".as_slice());
 }
 
 #[test]
