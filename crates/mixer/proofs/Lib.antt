@@ -8,6 +8,7 @@ pub mod Silent
 pub mod Parts
 pub mod Orders
 pub mod Schedule
+pub mod Classes
 pub mod Counts
 pub mod Unordered
 pub mod Stops

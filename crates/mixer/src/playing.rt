@@ -33,10 +33,14 @@ fn excludes(new: &Playing, old: &Playing) -> bool
         && new.number == old.number
 }
 
-#[tactic(auto, unfolding(crate::specs::Heard::silences))]
+// Whether one of the voices that start silences another. A voice without a class asks none of them.
+#[tactic(auto, using(crate::proofs::Classes::none_silences), unfolding(crate::specs::Heard::silences))]
 fn silences(new: &[Playing], old: &Playing) -> bool
     ensures { result ≡ heard.silences new.now old.now }
 {
+    if old.voice.class() == 0 {
+        return false;
+    }
     new.iter().any(|p| excludes(p, old))
 }
 
