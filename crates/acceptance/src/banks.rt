@@ -12,7 +12,7 @@ use sf_reader::read;
 use sf_writer::{encoded_len, write};
 use std::alloc::Global;
 use std::test::Fail;
-use worked_files::{File, tone, wide};
+use worked_files::{File, many_points, tone, wide};
 
 /// What is told of the members of the wide bank.
 fn tells_members(bank: &Bank<'_>) -> bool {
@@ -87,6 +87,18 @@ fn a_bank_that_is_read(rt: HostRuntime) {
         Err(_) => false,
     };
     assert!(rt; told);
+}
+
+#[test]
+fn the_length_of_the_file_of_the_most_points(rt: HostRuntime) -> Result<(), Fail> {
+    let file = many_points(rt.alloc(), 10_000, 0)?;
+    let length = match read(rt.alloc(), &file) {
+        Ok((bank, _)) => encoded_len(&bank),
+        Err(_) => 0,
+    };
+    // Its preset and its instrument take 80 bytes.
+    assert!(rt; length == 1_000_460_308 + 80);
+    Ok(())
 }
 
 fn global(alloc: Global) -> GlobalZone {

@@ -1,66 +1,14 @@
 //! Writers that fail: each holds exactly the front of the text that the fault counts.
-ghost use Rattle.std.specs.Prelude.{Some};
 
 use outputs::{WriteFault, put_all};
 use sf_base::front_of;
 use sfbank::{RunFault, Which, canon_run, edit_run, show_run};
 use sfbank_program::fault_text;
 use std::alloc::Global;
-use std::io;
-use std::io::{ErrorKind, Write};
 use std::test::Fail;
-use worked_files::{RENAME, many_points, renamed_saw, saw, tone, with_more};
-
-/// Takes at most `bite` bytes a call, and fails at the call numbered `fails_at`, counted from 0, by an
-/// error, or where `takes_none` by taking nothing; its flush fails where `flushes` is false.
-#[derive(Drop)]
-struct Faulty {
-    held: Vec<u8>,
-    bite: usize,
-    fails_at: usize,
-    takes_none: bool,
-    flushes: bool,
-    calls: usize,
-    failed: bool,
-}
-
-impl Write for Faulty {
-    ghost contents = { λ s. Some s.held.items };
-
-    fn write(&mut self, buf: &[u8]) -> io::Result<usize> {
-        if self.calls >= self.fails_at {
-            self.failed = true;
-            if self.takes_none {
-                return Ok(0);
-            }
-            return Err(io::Error::from(ErrorKind::BrokenPipe));
-        }
-        self.calls += 1;
-        let taken = front_of(buf, self.bite);
-        self.held.extend_from_slice(taken)?;
-        Ok(taken.len())
-    }
-
-    fn flush(&mut self) -> io::Result<()> {
-        if self.flushes {
-            return Ok(());
-        }
-        self.failed = true;
-        Err(io::Error::from(ErrorKind::BrokenPipe))
-    }
-}
-
-fn writer_that_fails(alloc: Global, bite: usize, fails_at: usize, takes_none: bool) -> Faulty {
-    Faulty {
-        held: Vec::new(alloc),
-        bite,
-        fails_at,
-        takes_none,
-        flushes: true,
-        calls: 0,
-        failed: false,
-    }
-}
+use worked_files::{
+    FailingWriter, NEVER, RENAME, WriteFailure, many_points, renamed_saw, saw, tone, with_more,
+};
 
 /// The calls that write.
 #[derive(Clone, Copy)]
@@ -75,7 +23,7 @@ enum Call {
 const SCRIPT: &[u8] = b"rename-sample 0 \"u\"\n";
 
 /// What a call writes about a file.
-fn put(alloc: Global, call: Call, file: &[u8], out: &mut Faulty) -> Result<(), RunFault> {
+fn put(alloc: Global, call: Call, file: &[u8], out: &mut FailingWriter) -> Result<(), RunFault> {
     let mut other = Vec::new(alloc);
     match call {
         Call::PutAll => put_all(out, file).map_err(told),
@@ -95,7 +43,7 @@ fn told(fault: WriteFault) -> RunFault {
 
 /// Whether the answer of a call is right: done where the writer took all, and else the fault that
 /// counts what it holds, which is the front of all.
-fn is_right(answer: Result<(), RunFault>, out: &Faulty, all: &[u8]) -> bool {
+fn is_right(answer: Result<(), RunFault>, out: &FailingWriter, all: &[u8]) -> bool {
     match answer {
         Ok(()) => !out.failed && out.held.as_slice() == all,
         Err(RunFault::Write(Which::Out, written)) => {
@@ -107,11 +55,11 @@ fn is_right(answer: Result<(), RunFault>, out: &Faulty, all: &[u8]) -> bool {
 
 /// Whether a call goes right with writers that take so many bytes a call and fail at the first call,
 /// the second, and so on, until one takes all.
-fn goes_right(alloc: Global, call: Call, file: &[u8], bite: usize, takes_none: bool) -> bool {
-    let mut whole = writer_that_fails(alloc, usize::MAX, usize::MAX, false);
+fn goes_right(alloc: Global, call: Call, file: &[u8], bite: usize, failure: WriteFailure) -> bool {
+    let mut whole = FailingWriter::new(alloc, usize::MAX, NEVER, WriteFailure::Error);
     let done = put(alloc, call, file, &mut whole).is_ok();
     for fails_at in 0..2000 {
-        let mut out = writer_that_fails(alloc, bite, fails_at, takes_none);
+        let mut out = FailingWriter::new(alloc, bite, fails_at, failure);
         let answer = put(alloc, call, file, &mut out);
         if !is_right(answer, &out, whole.held.as_slice()) {
             return false;
@@ -132,17 +80,17 @@ fn writers_fail_at_each_call(rt: HostRuntime) {
         Call::Edit,
         Call::Undo,
     ] {
-        for (bite, takes_none) in [
-            (1, false),
-            (1, true),
-            (7, false),
-            (usize::MAX, false),
-            (usize::MAX, true),
+        for (bite, failure) in [
+            (1, WriteFailure::Error),
+            (1, WriteFailure::TakesNone),
+            (7, WriteFailure::Error),
+            (usize::MAX, WriteFailure::Error),
+            (usize::MAX, WriteFailure::TakesNone),
         ] {
-            assert!(rt; goes_right(rt.alloc(), call, tone().bytes(), bite, takes_none));
+            assert!(rt; goes_right(rt.alloc(), call, tone().bytes(), bite, failure));
         }
         // A writer that takes no byte of what is there.
-        let mut none = writer_that_fails(rt.alloc(), 0, 99, false);
+        let mut none = FailingWriter::new(rt.alloc(), 0, NEVER, WriteFailure::Error);
         assert!(rt;
             put(rt.alloc(), call, tone().bytes(), &mut none) == Err(RunFault::Write(Which::Out, 0))
         );
@@ -157,7 +105,7 @@ fn flushes_fail(rt: HostRuntime) {
         (Call::Edit, 532),
         (Call::Undo, 20),
     ] {
-        let mut out = writer_that_fails(rt.alloc(), 100, 99, false);
+        let mut out = FailingWriter::new(rt.alloc(), 100, NEVER, WriteFailure::Error);
         out.flushes = false;
         let answer = put(rt.alloc(), call, tone().bytes(), &mut out);
         assert!(rt;
@@ -167,24 +115,24 @@ fn flushes_fail(rt: HostRuntime) {
 }
 
 /// Renames a sample, by a run whose undo text has 22 bytes.
-fn renames(alloc: Global, out: &mut Faulty, undo: &mut Faulty) -> Result<(), RunFault> {
+fn renames(alloc: Global, out: &mut FailingWriter, undo: &mut FailingWriter) -> Result<(), RunFault> {
     edit_run(alloc, saw().bytes(), RENAME, out, undo)
 }
 
 #[test]
 fn one_of_two_writers_fails(rt: HostRuntime) {
     // The bank's writer takes no byte after 100.
-    let mut out = writer_that_fails(rt.alloc(), 100, 1, true);
-    let mut undo = writer_that_fails(rt.alloc(), 100, 99, false);
+    let mut out = FailingWriter::new(rt.alloc(), 100, 1, WriteFailure::TakesNone);
+    let mut undo = FailingWriter::new(rt.alloc(), 100, NEVER, WriteFailure::Error);
     let answer = renames(rt.alloc(), &mut out, &mut undo);
     assert!(rt; answer == Err(RunFault::Write(Which::Out, 100)));
     assert!(rt;
         out.held.as_slice() == front_of(renamed_saw().bytes(), 100) && undo.held.is_empty()
     );
     // The undo text's writer fails at once, and in its flush.
-    for (fails_at, written) in [(0, 0), (99, 22)] {
-        let mut out = writer_that_fails(rt.alloc(), 100, 99, false);
-        let mut undo = writer_that_fails(rt.alloc(), 100, fails_at, false);
+    for (fails_at, written) in [(0, 0), (NEVER, 22)] {
+        let mut out = FailingWriter::new(rt.alloc(), 100, NEVER, WriteFailure::Error);
+        let mut undo = FailingWriter::new(rt.alloc(), 100, fails_at, WriteFailure::Error);
         undo.flushes = false;
         let answer = renames(rt.alloc(), &mut out, &mut undo);
         assert!(rt; answer == Err(RunFault::Write(Which::Undo, written)));
@@ -201,13 +149,13 @@ fn one_of_two_writers_fails(rt: HostRuntime) {
 fn long_texts_go_out_in_large_pieces(rt: HostRuntime) -> Result<(), Fail> {
     let file = with_more(rt.alloc(), 258, 46, 400)?;
     for call in [Call::PutAll, Call::Canon, Call::Show] {
-        assert!(rt; goes_right(rt.alloc(), call, &file, usize::MAX, false));
-        assert!(rt; goes_right(rt.alloc(), call, &file, 1_000, true));
-        let mut out = writer_that_fails(rt.alloc(), usize::MAX, 99, false);
+        assert!(rt; goes_right(rt.alloc(), call, &file, usize::MAX, WriteFailure::Error));
+        assert!(rt; goes_right(rt.alloc(), call, &file, 1_000, WriteFailure::TakesNone));
+        let mut out = FailingWriter::new(rt.alloc(), usize::MAX, NEVER, WriteFailure::Error);
         assert!(rt; put(rt.alloc(), call, &file, &mut out).is_ok() && out.calls < 60);
     }
     // A sample that is longer than what is gathered.
     let file = many_points(rt.alloc(), 1, 0)?;
-    assert!(rt; goes_right(rt.alloc(), Call::Canon, &file, usize::MAX, false));
+    assert!(rt; goes_right(rt.alloc(), Call::Canon, &file, usize::MAX, WriteFailure::Error));
     Ok(())
 }

@@ -1,8 +1,11 @@
 //! Notes that are played on banks, from bytes to bytes.
 
+use crate::rendered::RELEASED;
+use crate::started_voices::{ONE, file_of};
 use crate::waves::{FILE, SILENCE};
 use sfbank::play_run;
 use std::alloc::Global;
+use std::test::Fail;
 use worked_files::{is_told, tone};
 
 /// Whether notes on a bank give this WAVE file.
@@ -25,6 +28,15 @@ fn worked_files(rt: HostRuntime) {
     let file = tone();
     assert!(rt; plays(rt.alloc(), file.bytes(), b"0 8 0 0 67 127\n", FILE));
     assert!(rt; plays(rt.alloc(), file.bytes(), b"# no note\n", SILENCE));
+}
+
+#[test]
+fn files_last_through_the_release(rt: HostRuntime) -> Result<(), Fail> {
+    let file = file_of(rt.alloc(), ONE, RELEASED)?;
+    let mut out = Vec::new(rt.alloc());
+    assert!(rt; play_run(rt.alloc(), file.as_slice(), b"0 50 0 0 60 127\n", &mut out).is_ok());
+    assert!(rt; out.len() == 416);
+    Ok(())
 }
 
 #[test]

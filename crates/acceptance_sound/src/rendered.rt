@@ -81,10 +81,13 @@ fn worked_notes(rt: HostRuntime) -> Result<(), Fail> {
     Ok(())
 }
 
+/// An instrument over the sample of one point whose notes have a release of 43 frames.
+pub(crate) const RELEASED: &[u8] =
+    b"add-inst 0 \"i\" { 0 g 17 500 g 34 -11999 g 38 -11999 g 54 1 }\n";
+
 #[test]
 fn frames_last_through_the_release(rt: HostRuntime) -> Result<(), Fail> {
-    let instrument = b"add-inst 0 \"i\" { 0 g 17 500 g 34 -11999 g 38 -11999 g 54 1 }\n";
-    let sides = rendered(rt.alloc(), ONE, instrument, b"0 50 0 0 60 127")?;
+    let sides = rendered(rt.alloc(), ONE, RELEASED, b"0 50 0 0 60 127")?;
     assert_eq!(rt; sides.len(), 2 * 93);
     let worked = [
         (0, 0),

@@ -69,11 +69,14 @@ impl Replacement {
                     self.is_made = true;
                     return Ok(Some(file));
                 }
-                Err(error) if error.kind() == ErrorKind::AlreadyExists => {}
-                Err(_) => return Ok(None),
+                Err(error) => match error.kind() {
+                    ErrorKind::AlreadyExists => {}
+                    kind if takes_no_file(kind) => return Ok(None),
+                    _ => return Err(error),
+                },
             }
         }
-        Ok(None)
+        Err(io::Error::from(ErrorKind::AlreadyExists))
     }
 
     fn name_new(&mut self, number: u16) -> Result<(), AllocError> {
@@ -156,6 +159,15 @@ fn create_private<R: Files>(rt: &R, path: &str) -> io::Result<R::File> {
         .create_new(true)
         .mode(0o600)
         .open(rt, path)
+}
+
+/// Whether a folder that takes no new file answers so. A full disk answers otherwise, and there the file
+/// that is there must not be emptied.
+fn takes_no_file(kind: ErrorKind) -> bool {
+    matches!(
+        kind,
+        ErrorKind::PermissionDenied | ErrorKind::ReadOnlyFilesystem | ErrorKind::InvalidFilename
+    )
 }
 
 /// Gives a new file the group, the owner and the permissions of another one, as far as the system lets.

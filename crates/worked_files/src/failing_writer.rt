@@ -1,0 +1,72 @@
+//! A writer that fails.
+ghost use Rattle.std.specs.Prelude.{Some};
+
+use sf_base::front_of;
+use std::alloc::Global;
+use std::io;
+use std::io::{ErrorKind, Write};
+
+/// A number that no call has.
+pub const NEVER: usize = usize::MAX;
+
+/// How a write fails: by an error, or by taking no byte.
+#[derive(Clone, Copy)]
+pub enum WriteFailure {
+    Error,
+    TakesNone,
+}
+
+/// Takes at most `bite` bytes a call, and fails from the call numbered `fails_at` on, counted from 0; its
+/// flush fails where `flushes` is false.
+#[derive(Drop)]
+pub struct FailingWriter {
+    pub held: Vec<u8>,
+    pub flushes: bool,
+    /// How many calls took bytes.
+    pub calls: usize,
+    pub failed: bool,
+    bite: usize,
+    fails_at: usize,
+    failure: WriteFailure,
+}
+
+impl FailingWriter {
+    /// One that holds nothing yet, and whose flush does not fail.
+    pub fn new(alloc: Global, bite: usize, fails_at: usize, failure: WriteFailure) -> FailingWriter {
+        FailingWriter {
+            held: Vec::new(alloc),
+            flushes: true,
+            calls: 0,
+            failed: false,
+            bite,
+            fails_at,
+            failure,
+        }
+    }
+}
+
+impl Write for FailingWriter {
+    ghost contents = { λ s. Some s.held.items };
+
+    fn write(&mut self, buf: &[u8]) -> io::Result<usize> {
+        if self.calls >= self.fails_at {
+            self.failed = true;
+            return match self.failure {
+                WriteFailure::Error => Err(io::Error::from(ErrorKind::BrokenPipe)),
+                WriteFailure::TakesNone => Ok(0),
+            };
+        }
+        self.calls += 1;
+        let taken = front_of(buf, self.bite);
+        self.held.extend_from_slice(taken)?;
+        Ok(taken.len())
+    }
+
+    fn flush(&mut self) -> io::Result<()> {
+        if self.flushes {
+            return Ok(());
+        }
+        self.failed = true;
+        Err(io::Error::from(ErrorKind::BrokenPipe))
+    }
+}
