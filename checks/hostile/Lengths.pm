@@ -8,7 +8,8 @@ use Runs;
 use Exporter 'import';
 our @EXPORT = qw(try_lengths);
 
-my $most = 4_294_967_303;
+# The longest file that is read: the largest size that its head can say, and the eight bytes before that.
+my $most = 4_294_967_295 + 8;
 my $long_path = 'p' x 5_000;
 
 sub make_inputs {
@@ -18,7 +19,11 @@ sub make_inputs {
     write_bytes('rename', "rename-sample 0 \"u\"\n");
     write_bytes('note', "0 1 0 0 60 127\n");
     write_bytes('late', "99999999 1 0 0 60 127\n");
-    my @lines = ('add-sample 0 "s" 44100 60 0 mono loop 0 1 x0100', 'add-inst 0 "i"' . ' { 0 }' x 1_000, 'add-preset 0 "p" 0 0 0 0 0' . ' { 0 }' x 1_000);
+    my @lines = (
+        'add-sample 0 "s" 44100 60 0 mono loop 0 1 x0100',
+        'add-inst 0 "i"' . ' { 0 }' x 1_000,
+        'add-preset 0 "p" 0 0 0 0 0' . ' { 0 }' x 1_000,
+    );
     my $run = apply_text('empty', join("\n", @lines), 'voices', 'undo');
     tell('a bank of a million voices', $run->{wrong} // ($run->{status} ? $run->{line} : undef));
 }
@@ -68,9 +73,12 @@ sub try_shell {
     my ($line, $status, $told) = @_;
     unlink qw(out undo back errors printed);
     my $ended = system('bash', '-c', "exec 2> errors > printed; $line", program_of_runs(), $long_path) >> 8;
-    my $line_told = read_bytes('errors');
-    my $wrong = $ended != $status ? "status $ended" : $line_told ne (defined $told ? "sfbank: $told\n" : '') ? "told '$line_told'" : undef;
-    $wrong //= -s 'printed' ? 'printed' : -e 'out' || -e 'undo' ? 'left a file' : undef;
+    my $errors = read_bytes('errors');
+    my $due = defined $told ? "sfbank: $told\n" : '';
+    my $wrong = $ended == $status ? undef : "status $ended";
+    $wrong //= "told '$errors'" if $errors ne $due;
+    $wrong //= 'printed' if -s 'printed';
+    $wrong //= 'left a file' if -e 'out' || -e 'undo';
     tell($line, $wrong);
 }
 

@@ -17,8 +17,9 @@
 #include <sys/types.h>
 #include <unistd.h>
 
+/* The calls that change files so far, and those of them and others that FAIL_CALL names. */
 static unsigned long counted;
-static unsigned long met;
+static unsigned long named;
 
 static unsigned long number_of(const char *name) {
     const char *text = getenv(name);
@@ -49,7 +50,10 @@ static void leave_mark(void) {
 
 /* Whether a call is to fail. */
 static int fails(const char *call) {
-    if (!is_named(call) || (getenv("FAIL_AT") && ++met != number_of("FAIL_AT")))
+    if (!is_named(call))
+        return 0;
+    named++;
+    if (getenv("FAIL_AT") && named != number_of("FAIL_AT"))
         return 0;
     leave_mark();
     errno = (int)number_of("FAIL_ERROR");
