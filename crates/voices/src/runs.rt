@@ -70,7 +70,7 @@ fn quieten(levels: &[u32], loudness: u32, run: &mut [i16])
     }
 }
 
-fn silent_levels() -> [u32; LONGEST]
+fn empty_words() -> [u32; LONGEST]
     ensures { length result ≡ 1024 }
 {
     [0; LONGEST]
@@ -93,7 +93,8 @@ fn soften(v: &VoiceParameters, t: u64, levels: &mut [u32], run: &mut [i16])
     quieten(levels, gain(i64::from(v.attenuation)), run);
 }
 
-// The frames of a stretch before they are parted.
+// The frames of a stretch before they are parted, by way of a word for each: the points around its place
+// first, and then its level. One buffer serves both, for a second would have to be cleared as well.
 fn fill_sounds(points: &Points, v: &VoiceParameters, t: u64, run: &mut [i16])
     requires playable { IsPlayable (length points.now) v.now }
     requires one_way { IsStretch v.now t (length run.old) }
@@ -102,9 +103,9 @@ fn fill_sounds(points: &Points, v: &VoiceParameters, t: u64, run: &mut [i16])
         ≡ sound_at (record { points = points.now; parameters = v.now }) (t + k)) }
 {
     let n = run.len();
-    let mut levels = silent_levels();
-    fill_points(points, v, t, &mut levels[..n], run);
-    soften(v, t, &mut levels[..n], run);
+    let mut words = empty_words();
+    fill_points(points, v, t, &mut words[..n], run);
+    soften(v, t, &mut words[..n], run);
 }
 
 // The sides of a frame, whose sums stand in turn.

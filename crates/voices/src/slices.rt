@@ -11,7 +11,8 @@ use crate::sampled::{interpolated, point_of_place};
 use sample_view::Points;
 use zone_select::VoiceParameters;
 
-// Point `i` of a slice and the next one, as they stand there: both are read at once.
+// Point `i` of a slice and the next one, as they stand there: both are read at once, and stay one word, for
+// a struct of two points takes more instructions where several frames are computed at once.
 #[inline(always)]
 #[tactic(auto, using(crate::proofs::SliceLemmas::pair_is))]
 fn pair_in(bytes: &[u8], i: usize) -> u32
