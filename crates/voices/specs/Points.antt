@@ -12,7 +12,7 @@ point_at points i = cast_signed w16 (slice_index points i)
 unfoldable pub between : ℤ → ℤ → ℕ → ℤ
 between p0 p1 part = p0 +ℤ floor_div ((p1 -ℤ p0) *ℤ pos part) 65536
 
--- two points, each times its part of 65536: the whole of what lies between them, before it is rounded down
+-- two points, each times its part of 65536: that is 65536 times what lies between them, and not yet rounded
 unfoldable pub weighed : ℤ → ℤ → ℕ → ℤ
 weighed p0 p1 part = p0 *ℤ pos (65536 - part) +ℤ p1 *ℤ pos part
 

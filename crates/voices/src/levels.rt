@@ -1,6 +1,10 @@
-//! How points are made quieter, and what each side gets of them.
+//! How points are made quieter, and what each side gets of them. Each frame comes here, so the calls are
+//! inlined always: a loop over a run then has none, and is done for several frames at once.
 ghost use Rattle.std.specs.Prelude.{◌≡◌, ◌≤◌, ◌≤ℤ◌, pos, negsuc};
 ghost use Rattle.voices.specs.Levels.{scaled_by, side};
+
+// The part of a side that gets a frame whole.
+pub(crate) const WHOLE: u32 = 1000;
 
 // A point as loud as `gain` of 65536.
 #[inline(always)]
@@ -25,7 +29,7 @@ fn part_down(z: i32, part: u32) -> i32
     requires level { part ≤ 1000 }
     ensures { result ≡ side z part }
 {
-    ((z * part as i32 + 32_768_000) as u32 / 1000) as i32 - 32768
+    ((z * part as i32 + 32_768_000) as u32 / WHOLE) as i32 - 32768
 }
 
 // What a side gets that has `part` of 1000.

@@ -2,7 +2,7 @@
 //! sides of it.
 ghost use Rattle.std.specs.Prelude.{◌≡◌, ℕ, ◌+◌, ◌*◌, ◌/◌, ◌%◌, ◌^◌, ◌≤◌, ◌<◌, ◌≤ℤ◌, ◌+ℤ◌, pos, negsuc, true, false, cond, EachIndex, length, nat_eq, slice_index, slice_index_or};
 ghost use Rattle.sound_tables.specs.Tables.{gain_of};
-ghost use Rattle.voices.specs.Levels.{scaled_by, side};
+ghost use Rattle.voices.specs.Levels.{scaled_by, side, turn_of};
 ghost use Rattle.voices.specs.Place.{is_over};
 ghost use Rattle.voices.specs.Envelope.{envelope};
 ghost use Rattle.zone_select.specs.Playable.{IsPlayable};
@@ -11,7 +11,7 @@ ghost use Rattle.voices.specs.Within.{AllWithin};
 ghost use Rattle.voices.specs.Runs.{IsAdded, IsStretch};
 
 use crate::frames::{left_part, right_part};
-use crate::levels::{louder, parted};
+use crate::levels::{WHOLE, louder, parted};
 use crate::phases::fill_levels;
 use crate::places::{frames_before, is_looping_at, is_over_at, place_at};
 use crate::slices::fill_points;
@@ -70,7 +70,7 @@ fn quieten(levels: &[u32], loudness: u32, run: &mut [i16])
     }
 }
 
-fn silent_levels() -> [u32; LONGEST]
+fn empty_words() -> [u32; LONGEST]
     ensures { length result ≡ 1024 }
 {
     [0; LONGEST]
@@ -93,7 +93,8 @@ fn soften(v: &VoiceParameters, t: u64, levels: &mut [u32], run: &mut [i16])
     quieten(levels, gain(i64::from(v.attenuation)), run);
 }
 
-// The frames of a stretch before they are parted.
+// The frames of a stretch before they are parted, by way of a word for each: the points around its place
+// first, and then its level. One buffer serves both, for a second would have to be cleared as well.
 fn fill_sounds(points: &Points, v: &VoiceParameters, t: u64, run: &mut [i16])
     requires playable { IsPlayable (length points.now) v.now }
     requires one_way { IsStretch v.now t (length run.old) }
@@ -102,20 +103,37 @@ fn fill_sounds(points: &Points, v: &VoiceParameters, t: u64, run: &mut [i16])
         ≡ sound_at (record { points = points.now; parameters = v.now }) (t + k)) }
 {
     let n = run.len();
-    let mut levels = silent_levels();
-    fill_points(points, v, t, &mut levels[..n], run);
-    soften(v, t, &mut levels[..n], run);
+    let mut words = empty_words();
+    fill_points(points, v, t, &mut words[..n], run);
+    soften(v, t, &mut words[..n], run);
 }
 
-// Adds each frame to every second sum from `first` on, which are those of one side.
-fn add_one_side(run: &[i16], first: usize, sums: &mut [i32])
+// The sides of a frame, whose sums stand in turn.
+enum Side {
+    Left,
+    Right,
+}
+
+// Where the first sum of a side stands.
+fn turn_of(side: Side) -> usize
+    ensures value { result ≡ turn_of side }
+    ensures first { result < 2 }
+{
+    match side {
+        Side::Left => 0,
+        Side::Right => 1,
+    }
+}
+
+// Adds each frame whole to the sums of one side.
+fn add_one_side(run: &[i16], heard: Side, sums: &mut [i32])
     requires long { length sums.old ≡ 2 * length run.now }
-    requires turn { first < 2 }
     requires room { AllWithin 65534 sums.old }
     ensures { EachIndex sums.new (λ i. IsAdded (slice_index_or sums.old i (pos 0))
-        (cond (nat_eq (i % 2) first) (slice_index_or run.now (i / 2) (pos 0)) (pos 0))
+        (cond (nat_eq (i % 2) (turn_of heard)) (slice_index_or run.now (i / 2) (pos 0)) (pos 0))
         (slice_index_or sums.new i (pos 0))) }
 {
+    let first = turn_of(heard);
     for k in 0..run.len() {
         sums[2 * k + first] += i32::from(run[k]);
     }
@@ -146,10 +164,10 @@ fn add_sides(run: &[i16], left: u32, right: u32, sums: &mut [i32])
         (side (slice_index_or run.now (i / 2) (pos 0)) (cond (nat_eq (i % 2) 0) left right))
         (slice_index_or sums.new i (pos 0))) }
 {
-    if left == 1000 && right == 0 {
-        add_one_side(run, 0, sums);
-    } else if left == 0 && right == 1000 {
-        add_one_side(run, 1, sums);
+    if left == WHOLE && right == 0 {
+        add_one_side(run, Side::Left, sums);
+    } else if left == 0 && right == WHOLE {
+        add_one_side(run, Side::Right, sums);
     } else {
         add_both_sides(run, left, right, sums);
     }

@@ -1,4 +1,5 @@
-//! What a sample says between its points.
+//! What a sample says between its points. What each frame of a run goes through is inlined always: so the
+//! run's loop has no calls, and is done for several frames at once.
 ghost use Rattle.std.specs.Prelude.{◌≡◌, ◌+◌, ◌*◌, ◌/◌, ◌≤◌, ◌<◌, ◌≤ℤ◌, ◌*ℤ◌, pos, negsuc, length, true};
 ghost use Rattle.voices.specs.Points.{between, weighed, point_at, follower, point_of};
 

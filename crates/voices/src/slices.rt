@@ -11,7 +11,8 @@ use crate::sampled::{interpolated, point_of_place};
 use sample_view::Points;
 use zone_select::VoiceParameters;
 
-// Point `i` of a slice and the next one, as they stand there: both are read at once.
+// Point `i` of a slice and the next one, as they stand there: both are read at once, and stay one word, for
+// a struct of two points takes more instructions where several frames are computed at once.
 #[inline(always)]
 #[tactic(auto, using(crate::proofs::SliceLemmas::pair_is))]
 fn pair_in(bytes: &[u8], i: usize) -> u32
@@ -30,7 +31,8 @@ fn pair_in(bytes: &[u8], i: usize) -> u32
 const APART: usize = 16;
 
 // Reads some of the points before all of them: so memory fetches the parts of a slice side by side, and
-// not each as the run comes to it.
+// not each as the run comes to it. All that is read ahead is written again when all are read; it is only
+// written at all so that the compiler keeps the reads, on which the gain rests.
 #[tactic(auto, using(crate::proofs::PlaceLemmas::less_far))]
 fn read_ahead(bytes: &[u8], x: u32, step: u32, pairs: &mut [u32])
     requires short { length pairs.old ≤ 1024 }

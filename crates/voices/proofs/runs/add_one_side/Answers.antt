@@ -41,22 +41,29 @@ loop-k-preserved c =
     let xs = c.loop-k.sums in
     let ys = c.args.sums.now in
     let run = c.args.run.now in
-    let j : ℕ = 2 * k + c.args.first in
-    let turn : c.args.first < 2 = c.requires.turn in
+    let first = c.turn_of-first.result in
+    let j : ℕ = 2 * k + first in
+    let turn : first < 2 = c.turn_of-first.ensures.first in
     let el : SFits w16 (get_or run k (pos 0)) = search rules in
     let z : c.from.result ≡ get_or run k (pos 0) = omega (arith, ints) in
     let long : j < length ys = omega (arith, c.requires.long, turn) in
     let was : get_or xs j (pos 0) ≡ get_or ys j (pos 0) = c.loop-k.invariant.rest j (omega arith) in
-    let P : ℕ → ℤ → Type 0 = λ i y. IsAdded (get_or ys i (pos 0)) (cond (nat_eq (i % 2) c.args.first) (get_or run (i / 2) (pos 0)) (pos 0)) y in
+    let P : ℕ → ℤ → Type 0 = λ i y. IsAdded (get_or ys i (pos 0)) (cond (nat_eq (i % 2) first) (get_or run (i / 2) (pos 0)) (pos 0)) y in
     let others : (i : ℕ) → i < 2 * k + 2 → i ≢ j → P i (get_or xs i (pos 0)) = λ i h ne.
     elim (cases_lt i (2 * k)) [
       | inl lt ↦ c.loop-k.invariant.done i lt
-      | inr ge ↦ silent_added _ _ _ (nothing _ (i % 2) c.args.first (omega arith)) (c.loop-k.invariant.rest i ge)
+      | inr ge ↦ silent_added _ _ _ (nothing _ (i % 2) first (omega arith)) (c.loop-k.invariant.rest i ge)
     ] in
-    let here = is_added (get_or ys j (pos 0)) _ _ c.from.result (z ∙ its_frame run k c.args.first turn)
+    let here = is_added (get_or ys j (pos 0)) _ _ c.from.result (z ∙ its_frame run k first turn)
     (added (get_or ys j (pos 0)) (get_or xs j (pos 0)) c.from.result was (c.requires.room j long) (omega (arith, ints)) (omega (arith, ints)))
     (omega (arith, ints)) (omega (arith, ints)) in
     record {
       done = λ i h. written P xs j (2 * k + 2) _ (omega (arith, long, c.loop-k.auto.sums)) others here i (omega arith);
       rest = λ i h. after_set (pos 0) xs ys j _ (λ m g. c.loop-k.invariant.rest m (omega arith)) i (omega arith);
     }
+
+pub returns : goal.returns
+returns c i h =
+    let done = c.loop-k.invariant.done i (omega (arith, h, c.loop-k.auto.sums, c.requires.long)) in
+    subst (λ (n : ℕ). IsAdded (get_or c.args.sums.now i (pos 0)) (cond (nat_eq (i % 2) n) (get_or c.args.run.now (i / 2) (pos 0)) (pos 0)) (get_or c.loop-k.sums i (pos 0)))
+    c.turn_of-first.ensures.value done

@@ -11,12 +11,12 @@ pub returns-then-right-eq0 : goal.returns-then-right-eq0
 returns-then-right-eq0 c i h =
     let z : ℤ = get_or c.args.run.now (i / 2) (pos 0) in
     subst (λ (s : ℤ). IsAdded (get_or c.args.sums.now i (pos 0)) s (get_or c.add_one_side.new.sums i (pos 0)))
-    (left_alone z (i % 2) (omega arith) ∙ in_parts z (i % 2) _ _ 1000 0 c.if-left-eq1000.true c.if-right-eq0.true)
+    (left_alone z (i % 2) (omega arith) ∙ in_parts z (i % 2) _ _ 1000 0 c.if-left-eq-WHOLE.true c.if-right-eq0.true)
     (c.add_one_side.ensures i h)
 
-pub returns-then-right-eq1000 : goal.returns-then-right-eq1000
-returns-then-right-eq1000 c i h =
+pub returns-then-right-eq-WHOLE : goal.returns-then-right-eq-WHOLE
+returns-then-right-eq-WHOLE c i h =
     let z : ℤ = get_or c.args.run.now (i / 2) (pos 0) in
-    subst (λ (s : ℤ). IsAdded (get_or c.args.sums.now i (pos 0)) s (get_or c.add_one_side-then-right-eq1000.new.sums i (pos 0)))
-    (right_alone z (i % 2) (omega arith) ∙ in_parts z (i % 2) _ _ 0 1000 c.if-left-eq0.true c.if-right-eq1000.true)
-    (c.add_one_side-then-right-eq1000.ensures i h)
+    subst (λ (s : ℤ). IsAdded (get_or c.args.sums.now i (pos 0)) s (get_or c.add_one_side-then-right-eq-WHOLE.new.sums i (pos 0)))
+    (right_alone z (i % 2) (omega arith) ∙ in_parts z (i % 2) _ _ 0 1000 c.if-left-eq0.true c.if-right-eq-WHOLE.true)
+    (c.add_one_side-then-right-eq-WHOLE.ensures i h)
