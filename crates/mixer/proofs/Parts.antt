@@ -3,6 +3,7 @@ use Rattle.std.proofs.Common.{◌≡◌, ℕ, suc, cond, filter, ◌+◌, ◌*�
 use Rattle.std.specs.List.{range_with_len}
 use Rattle.std.proofs.lemmas.Bool.{cases_lt}
 use Rattle.std.proofs.lemmas.Grind.{common_steps}
+use Rattle.std.proofs.lemmas.List.{nil_from_length}
 use Rattle.std.proofs.lemmas.List.FromFn.{fill_by_all}
 use Rattle.std.proofs.lemmas.List.Elements.{All-map}
 use Rattle.voices.specs.Sound.{snd}
@@ -69,6 +70,19 @@ filter_all (p ∷ ps) all =
     ∙ ap (λ l. p ∷ l) (filter_all ps (λ k d h. all (suc k) d (omega (arith, h))))
 
 -- where all sound, a block of no frames changes nothing
-pub nothing_given : (ps : List Playing) → AllSounding ps → after_block ps 0 ≡ ps
+nothing_given : (ps : List Playing) → AllSounding ps → after_block ps 0 ≡ ps
 unfolding after_block
 nothing_given ps all = ap (filter is_sounding) (sym (aged-none ps)) ∙ filter_all ps all
+
+pub nothing_after : (n : ℕ) (ps : List Playing) → n ≡ 0 → AllSounding ps → after_block ps (n / 2) ≡ ps
+nothing_after n ps e all = ap (λ m. after_block ps (m / 2)) e ∙ nothing_given ps all
+
+block_none : (ps : List Playing) → [] ≡ block ps 0
+unfolding block
+block_none ps = refl
+
+-- where there is no frame, a block is given already
+pub nothing_heard : (out : List ℤ) (ps : List Playing) → length out ≡ 0 → out ≡ block ps (length out / 2)
+nothing_heard out ps e =
+    let P : List ℤ → Type 0 = λ zs. zs ≡ block ps (length zs / 2) in
+    subst P (sym (nil_from_length out e)) (block_none ps)

@@ -23,10 +23,14 @@ playing n v = record { voice = record { value = v; age = 0 }; bank = n.bank; num
 unfoldable pub fresh : Parts → Numbers → List Playing
 fresh b n = map (playing n) (selected b n)
 
+-- a class of 0 is none
+abbrev pub has_class : Playing → Bool
+has_class p = not (int_eq p.voice.value.parameters.class (pos 0))
+
 -- one that starts silences another: both have one exclusive class, but not 0, and one preset's numbers
 unfoldable pub excludes : Playing → Playing → Bool
 excludes p q =
-    not (int_eq p.voice.value.parameters.class (pos 0)) && (int_eq p.voice.value.parameters.class q.voice.value.parameters.class
+    has_class p && (int_eq p.voice.value.parameters.class q.voice.value.parameters.class
     && (nat_eq p.bank q.bank && nat_eq p.number q.number))
 
 -- one of the voices that start silences q

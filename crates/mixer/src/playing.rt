@@ -1,6 +1,7 @@
 //! Voices that play, and which of them an exclusive class silences.
 ghost use Rattle.std.specs.Prelude.{◌≡◌, ◌≤◌, ◌^◌, ◌<◌, ◌++◌, filter, map, IfOk, OnOk, vec_len};
 ghost use Rattle.std.specs.Bool.{OnTrue};
+ghost use Rattle.std.specs.List.{list_any};
 ghost use Rattle.std.specs.Vec.{vec_capacity};
 ghost use Rattle.zone_select.specs.Pairs.{voice_by, listed};
 ghost use Rattle.mixer.specs.Heard as heard;
@@ -22,12 +23,20 @@ pub(crate) struct Playing<'a> {
     pub(crate) number: u16,
 }
 
+impl<'a> Playing<'a> {
+    fn has_class(&self) -> bool
+        ensures { result ≡ heard.has_class self.now }
+    {
+        self.voice.class() != 0
+    }
+}
+
 // Whether the first voice, as it starts, silences the second.
 #[tactic(auto, unfolding(crate::specs::Heard::excludes))]
 fn excludes(new: &Playing, old: &Playing) -> bool
     ensures { result ≡ heard.excludes new.now old.now }
 {
-    new.voice.class() != 0
+    new.has_class()
         && new.voice.class() == old.voice.class()
         && new.bank == old.bank
         && new.number == old.number
@@ -38,18 +47,28 @@ fn excludes(new: &Playing, old: &Playing) -> bool
 fn silences(new: &[Playing], old: &Playing) -> bool
     ensures { result ≡ heard.silences new.now old.now }
 {
-    if old.voice.class() == 0 {
+    if !old.has_class() {
         return false;
     }
     new.iter().any(|p| excludes(p, old))
 }
 
-// Drops the voices that new ones silence.
+// Whether one of the voices has an exclusive class.
+fn have_class(voices: &[Playing]) -> bool
+    ensures { result ≡ list_any heard.has_class voices.now }
+{
+    voices.iter().any(|p| p.has_class())
+}
+
+// Drops the voices that new ones silence. New voices without a class look at no other.
 pub(crate) fn drop_silenced<'a>(voices: &mut Vec<Playing<'a>>, new: &[Playing<'a>])
     ensures items { voices.new.items ≡ unsilenced new.now voices.old.items }
     ensures bound { vec_len voices.new ≤ vec_len voices.old }
     ensures capacity { vec_capacity voices.new ≡ vec_capacity voices.old }
 {
+    if !have_class(new) {
+        return;
+    }
     voices.retain(|p| !silences(new, p));
 }
 
