@@ -6,7 +6,10 @@ use warnings;
 use Banks;
 use Runs;
 use Exporter 'import';
-our @EXPORT = qw(try_seeds);
+our @EXPORT = qw(try_seeds try_accepted);
+
+# How many of each kind have to be accepted at least of those that the seeds of the gate make.
+our %floors = (files => 1, edge => 1, wild => 1, both => 1, notes => 1);
 
 my @banks;
 our %done;
@@ -76,6 +79,14 @@ sub try_seeds {
         tell("seed $_", wrong_of_seed($_)) for $first .. $first + $some - 1;
         unlink glob 'seeds/*';
         ($first, $count) = ($first + $some, $count - $some);
+    }
+}
+
+# That so many of what those seeds made were accepted that it says something.
+sub try_accepted {
+    for my $kind (sort keys %floors) {
+        my $count = $done{$kind} // 0;
+        tell("3000 seeds, $kind accepted", $count >= $floors{$kind} ? undef : "$count, not $floors{$kind}");
     }
 }
 
