@@ -115,7 +115,11 @@ fn flushes_fail(rt: HostRuntime) {
 }
 
 /// Renames a sample, by a run whose undo text has 22 bytes.
-fn renames(alloc: Global, out: &mut FailingWriter, undo: &mut FailingWriter) -> Result<(), RunFault> {
+fn renames(
+    alloc: Global,
+    out: &mut FailingWriter,
+    undo: &mut FailingWriter,
+) -> Result<(), RunFault> {
     edit_run(alloc, saw().bytes(), RENAME, out, undo)
 }
 
@@ -156,6 +160,14 @@ fn long_texts_go_out_in_large_pieces(rt: HostRuntime) -> Result<(), Fail> {
     }
     // A sample that is longer than what is gathered.
     let file = many_points(rt.alloc(), 1, 0)?;
-    assert!(rt; goes_right(rt.alloc(), Call::Canon, &file, usize::MAX, WriteFailure::Error));
+    assert!(rt;
+        goes_right(
+            rt.alloc(),
+            Call::Canon,
+            &file,
+            usize::MAX,
+            WriteFailure::Error
+        )
+    );
     Ok(())
 }

@@ -32,7 +32,12 @@ pub struct FailingWriter {
 
 impl FailingWriter {
     /// One that holds nothing yet, and whose flush does not fail.
-    pub fn new(alloc: Global, bite: usize, fails_at: usize, failure: WriteFailure) -> FailingWriter {
+    pub fn new(
+        alloc: Global,
+        bite: usize,
+        fails_at: usize,
+        failure: WriteFailure,
+    ) -> FailingWriter {
         FailingWriter {
             held: Vec::new(alloc),
             flushes: true,
