@@ -111,6 +111,7 @@ sub try_notes {
 # What is too long for a table.
 sub try_long {
     tell('65,535 notes', is_done(play('tone', "0 1 0 1 60 1\n" x 65_535, 'out')));
+    tell('65,535 notes that sound at one frame', is_done(play('tone', "0 1 0 0 60 127\n" x 65_535, 'out')));
     tell('65,536 notes', ends_by(play('tone', "0 1 0 1 60 1\n" x 65_536, 'out'), ": line 65536: fault 46 TooManyNotes\n"));
     tell('the latest notes', is_done(play('empty', "99999999 1 0 0 60 127\n100000000 0 0 0 60 127\n", '/dev/null')));
     my @lines = (
