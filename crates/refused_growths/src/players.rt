@@ -10,15 +10,15 @@ use note_list::Note;
 use sample_view::Points;
 use std::alloc::Global;
 
-// Takes the bank for one whose instrument has two zones that play 1000 in a loop: one of an exclusive
-// class, on both sides, and one on the right.
+// Takes the bank for one whose instrument has two zones that play 1000 in a loop, up to key 100: one of
+// an exclusive class, on both sides, and one on the right.
 static SCRIPT: &[u8] = b"\
     remove-preset 0\n\
     remove-inst 0\n\
     remove-sample 0\n\
     add-sample 0 \"c\" 44100 60 0 mono loop 0 1 xe803\n\
     add-inst 0 \"i\" { 0 g 54 1 g 57 1 } { 0 g 17 500 g 54 1 }\n\
-    add-preset 0 \"p\" 0 0 0 0 0 { 0 }\n";
+    add-preset 0 \"p\" 0 0 0 0 0 { 0 g 43 0..100 }\n";
 
 // The sample's point.
 static POINT: [u8; 2] = [0xe8, 0x03];
@@ -26,24 +26,35 @@ static POINT: [u8; 2] = [0xe8, 0x03];
 #[derive(Clone, Copy)]
 enum Call {
     Start,
+    // A note starts whose key no zone holds.
+    Outside,
+    // A note starts whose preset isn't there.
+    Absent,
     // The first zone plays on the left.
     Left,
-    // The sample has its point three times, each in a slice of its own.
+    // The sample has its point twice more, each in a slice of its own.
     Longer,
+    // The sample has its point once, after it had it five times.
+    Shorter,
     // The first zone is taken out.
     Fewer,
 }
 
 // Calls, each with what is heard after it on the left and on the right. A start silences the first zone
-// of the note before it, as long as it has that zone itself.
-static CALLS: [(Call, i16, i16); 7] = [
+// of the note before it, as long as it has that zone itself; a note without zones changes nothing.
+static CALLS: [(Call, i16, i16); 12] = [
     (Call::Start, 500, 1500),
     (Call::Left, 500, 1500),
     (Call::Start, 1000, 2000),
     (Call::Longer, 1000, 2000),
     (Call::Start, 1000, 3000),
+    (Call::Longer, 1000, 3000),
+    (Call::Shorter, 1000, 3000),
+    (Call::Outside, 1000, 3000),
     (Call::Fewer, 1000, 3000),
     (Call::Start, 1000, 4000),
+    (Call::Outside, 1000, 4000),
+    (Call::Absent, 1000, 4000),
 ];
 
 /// Starts notes and edits their bank in turn, and hears a block after each. For want of memory a call
@@ -74,9 +85,12 @@ fn called<'a>(
     call: Call,
     heard: (i16, i16),
 ) -> Outcome {
+    if let Some(note) = note_of(call) {
+        return started(alloc, player, bank, &note, heard);
+    }
     match step_of(alloc, call) {
-        None => started(alloc, player, bank, heard),
         Some(step) => applied(alloc, player, bank, step, heard),
+        None => Outcome::Wrong,
     }
 }
 
@@ -84,16 +98,14 @@ fn started<'a>(
     alloc: Global,
     player: &mut Player<'a>,
     bank: &Bank<'a>,
+    note: &Note,
     heard: (i16, i16),
 ) -> Outcome {
-    let Some(note) = Note::new(0, 1000, 0, 0, 60, 127) else {
-        return Outcome::Wrong;
-    };
-    match player.start(alloc, bank, &note) {
+    match player.start(alloc, bank, note) {
         Ok(()) => Outcome::Done,
         Err(_) => {
             let unchanged = gives(player, heard);
-            Outcome::refused(unchanged && player.start(alloc, bank, &note).is_ok())
+            Outcome::refused(unchanged && player.start(alloc, bank, note).is_ok())
         }
     }
 }
@@ -124,11 +136,22 @@ fn gives(player: &mut Player<'_>, heard: (i16, i16)) -> bool {
     out == [left, right, left, right, left, right, left, right]
 }
 
+// The note that a call starts; none for an edit.
+fn note_of(call: Call) -> Option<Note> {
+    let (number, key) = match call {
+        Call::Start => (0, 60),
+        Call::Outside => (0, 101),
+        Call::Absent => (1, 60),
+        Call::Left | Call::Longer | Call::Shorter | Call::Fewer => return None,
+    };
+    Note::new(0, 1000, 0, number, key, 127)
+}
+
 // What a call does to the bank; none for a start.
 fn step_of(alloc: Global, call: Call) -> Option<Step<'static>> {
     let owner = Owner::Instrument(0);
     match call {
-        Call::Start => None,
+        Call::Start | Call::Outside | Call::Absent => None,
         Call::Left => Some(Step::SetGen {
             owner,
             place: Place::Zone(0),
@@ -139,6 +162,11 @@ fn step_of(alloc: Global, call: Call) -> Option<Step<'static>> {
             sample: 0,
             front: Points::of_slice(alloc, &POINT).ok()?,
             back: Points::of_slice(alloc, &POINT).ok()?,
+        }),
+        Call::Shorter => Some(Step::Trim {
+            sample: 0,
+            front: 2,
+            back: 2,
         }),
         Call::Fewer => Some(Step::RemoveZone { owner, zone: 0 }),
     }
