@@ -9,7 +9,7 @@ use Exporter 'import';
 our @EXPORT = qw(try_seeds try_accepted);
 
 # How many of each kind have to be accepted at least of those that the seeds of the gate make.
-our %floors = (files => 1, edge => 1, wild => 1, both => 1, notes => 1);
+our %floors = (files => 800, edge => 50, wild => 500, both => 250, notes => 1300);
 
 my @banks;
 our %done;
