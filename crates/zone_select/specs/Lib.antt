@@ -7,3 +7,4 @@ pub mod Pairs
 pub mod Left
 pub mod At
 pub mod Summed
+pub mod Alike
