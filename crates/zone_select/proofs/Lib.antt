@@ -7,3 +7,11 @@ pub mod ChosenLaws
 pub mod LinearLaws
 pub mod SpanLaws
 pub mod SummedLaws
+pub mod Matched
+pub mod Flattened
+pub mod RangeLaws
+pub mod Halves
+pub mod Joins
+pub mod ZoneVoices
+pub mod AlikeLaws
+pub mod NeutralLaws

@@ -8,3 +8,4 @@ pub mod Left
 pub mod At
 pub mod Summed
 pub mod Alike
+pub mod Neutral

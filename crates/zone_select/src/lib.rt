@@ -7,6 +7,7 @@ mod chosen;
 mod laws;
 mod levels;
 mod linear;
+mod neutral;
 mod pairs;
 mod parameters;
 mod pitches;
@@ -14,5 +15,8 @@ mod spans;
 mod zones;
 
 pub use laws::{linear_modulators_are_summed, selected_by_pairs};
+pub use neutral::{
+    instruments_keep_sounding, samples_keep_sounding, texts_keep_sounding, zones_keep_sounding,
+};
 pub use pairs::{ZonePairs, matches};
 pub use parameters::{VoiceParameters, params, sample_of};

@@ -1,0 +1,11 @@
+use Rattle.zone_select.proofs.NeutralLaws as laws
+use Rattle.zone_select.proofs.neutral.zones_keep_sounding.Goals as goal
+
+pub returns-clause-moved : goal.returns-clause-moved
+returns-clause-moved c = laws.zone_moved_alike
+
+pub returns-clause-split : goal.returns-clause-split
+returns-clause-split c = laws.zone_split_alike
+
+pub returns-clause-joined : goal.returns-clause-joined
+returns-clause-joined c = laws.zone_joined_alike
