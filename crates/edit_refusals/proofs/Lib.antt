@@ -1,4 +1,5 @@
 pub mod Accepted
+pub mod OrderLaws
 pub mod Moves
 pub mod OwnerLaws
 pub mod InstrumentLaws

@@ -13,5 +13,6 @@ pub mod CauseNames
 pub mod Causes
 pub mod Steps
 pub mod Sequences
+pub mod Order
 pub mod Edits
 pub mod Answers

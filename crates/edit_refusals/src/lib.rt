@@ -4,6 +4,7 @@
 mod cause;
 mod causes;
 mod instruments;
+mod laws;
 mod modulator_forms;
 mod points;
 mod presets;
@@ -16,5 +17,6 @@ mod texts;
 mod zones;
 
 pub use cause::Cause;
+pub use laws::{lowest_is_told, numbers_never_fall};
 pub use refusal::Refusal;
 pub use refusing::refuse;

@@ -1,0 +1,206 @@
+-- The causes of each form stand in the order of their numbers.
+use Rattle.std.proofs.Common.{◌≡◌, ◌≤◌, ◌<◌, ℕ, zero, suc, nat_le, ◌&&◌, Bool, true, false, cond, Option, Some, None, List, [], ◌∷◌, length, refl, sym, ap, ◌∙◌, ◌⊎◌, inl, inr, arith}
+use Rattle.std.specs.Prelude.{MatchOption}
+use Rattle.std.specs.List.{Any, slice_index_or}
+use Rattle.std.specs.Option.{option_map}
+use Rattle.std.proofs.lemmas.Bool.Decides.{nat_tests}
+use Rattle.bank_parts.specs.declared.parts.Parts.{Parts}
+use Rattle.bank_validity.specs.declared.limits.Limit.{Limit}
+use Rattle.bank_validity.specs.Limits.{broken_limit}
+use Rattle.bank_changes.specs.declared.members.Owner.TheVariants as owner
+use Rattle.bank_changes.specs.declared.members.Place.TheVariants as place
+use Rattle.edit_forms.specs.declared.step.Step.{Step}
+use Rattle.edit_forms.specs.declared.step.Step.TheVariants.{AddPreset, RemovePreset, MovePreset, SetHead, AddInstrument, RemoveInstrument, RenameInstrument, MoveInstrument, RenameSample, AddSample, RemoveSample, MoveSample, Trim, Extend, SetLoop, SetKind, SetTune, AddZone, RemoveZone, MoveZone, SplitZone, JoinZone, SetTarget, SetGen, ClearGen, AddMod, RemoveMod, SetMod, SetInfo}
+use Rattle.edit_refusals.specs.declared.cause.Cause.{Cause}
+use Rattle.edit_refusals.specs.declared.cause.Cause.TheVariants.{NoSuchPreset, NoSuchInstrument, NoSuchSample, NoSuchZone, NoSuchModulator, BadPlace, InUse, BadGenerator, NotSet, BadRange, SplitOutside, NotJoinable, LinkedModulator, TooShort, LoopCut, BadLoop, BadText, Full}
+use Rattle.edit_refusals.specs.CauseNames.{number_of}
+use Rattle.edit_refusals.specs.Causes.{Test, first_cause}
+use Rattle.edit_refusals.specs.Steps.{raw, causes, refusal}
+use Rattle.edit_refusals.specs.Order.{NumbersNeverFall, Stands, IsLowest, LowestIsTold}
+
+-- none is below n, nor below one before it
+abbrev rises : ℕ → List Test → Bool
+rises n [] = true
+rises n (t ∷ ts) = nat_le n (number_of t.cause) && rises (number_of t.cause) ts
+
+each_rises : (b : Parts) (s : Step) → rises 0 (causes b s) ≡ true
+each_rises b (AddPreset at preset) = refl
+each_rises b (RemovePreset preset) = refl
+each_rises b (MovePreset from to) = refl
+each_rises b (SetHead preset name number bank) = refl
+each_rises b (AddInstrument at instrument) = refl
+each_rises b (RemoveInstrument instrument) = refl
+each_rises b (RenameInstrument instrument name) = refl
+each_rises b (MoveInstrument from to) = refl
+each_rises b (RenameSample sample name) = refl
+each_rises b (AddSample at sample) = refl
+each_rises b (RemoveSample sample) = refl
+each_rises b (MoveSample from to) = refl
+each_rises b (Trim sample front back) = refl
+each_rises b (Extend sample front back) = refl
+each_rises b (SetLoop sample looped) = refl
+each_rises b (SetKind sample kind) = refl
+each_rises b (SetTune sample rate key correction) = refl
+each_rises b (AddZone (owner.Preset p) at zone) = refl
+each_rises b (AddZone (owner.Instrument i) at zone) = refl
+each_rises b (RemoveZone (owner.Preset p) zone) = refl
+each_rises b (RemoveZone (owner.Instrument i) zone) = refl
+each_rises b (MoveZone (owner.Preset p) from to) = refl
+each_rises b (MoveZone (owner.Instrument i) from to) = refl
+each_rises b (SplitZone (owner.Preset p) zone axis at) = refl
+each_rises b (SplitZone (owner.Instrument i) zone axis at) = refl
+each_rises b (JoinZone (owner.Preset p) zone axis kept) = refl
+each_rises b (JoinZone (owner.Instrument i) zone axis kept) = refl
+each_rises b (SetTarget (owner.Preset p) zone target) = refl
+each_rises b (SetTarget (owner.Instrument i) zone target) = refl
+each_rises b (SetGen (owner.Preset p) place.Global operator amount) = refl
+each_rises b (SetGen (owner.Preset p) (place.Zone k) operator amount) = refl
+each_rises b (SetGen (owner.Instrument i) place.Global operator amount) = refl
+each_rises b (SetGen (owner.Instrument i) (place.Zone k) operator amount) = refl
+each_rises b (ClearGen (owner.Preset p) place.Global operator) = refl
+each_rises b (ClearGen (owner.Preset p) (place.Zone k) operator) = refl
+each_rises b (ClearGen (owner.Instrument i) place.Global operator) = refl
+each_rises b (ClearGen (owner.Instrument i) (place.Zone k) operator) = refl
+each_rises b (AddMod (owner.Preset p) place.Global index modulator) = refl
+each_rises b (AddMod (owner.Preset p) (place.Zone k) index modulator) = refl
+each_rises b (AddMod (owner.Instrument i) place.Global index modulator) = refl
+each_rises b (AddMod (owner.Instrument i) (place.Zone k) index modulator) = refl
+each_rises b (RemoveMod (owner.Preset p) place.Global index) = refl
+each_rises b (RemoveMod (owner.Preset p) (place.Zone k) index) = refl
+each_rises b (RemoveMod (owner.Instrument i) place.Global index) = refl
+each_rises b (RemoveMod (owner.Instrument i) (place.Zone k) index) = refl
+each_rises b (SetMod (owner.Preset p) place.Global index modulator) = refl
+each_rises b (SetMod (owner.Preset p) (place.Zone k) index modulator) = refl
+each_rises b (SetMod (owner.Instrument i) place.Global index modulator) = refl
+each_rises b (SetMod (owner.Instrument i) (place.Zone k) index modulator) = refl
+each_rises b (SetInfo id text) = refl
+
+both : (x y : Bool) → (x && y) ≡ true → (x ≡ true) × (y ≡ true)
+both true y h = (refl, h)
+both false y h = cc
+
+up_from : (n m : ℕ) → nat_le n m ≡ true → n ≤ m
+up_from n m h = grind (arith, nat_tests)
+
+at_least : (n : ℕ) (ts : List Test) → rises n ts ≡ true → (k : ℕ) (d : Test) → k < length ts → n ≤ number_of (slice_index_or ts k d).cause
+at_least n [] h k d lt = omega (arith, lt)
+at_least n (t ∷ ts) h zero d lt = up_from n (number_of t.cause) (both (nat_le n (number_of t.cause)) (rises (number_of t.cause) ts) h).0
+at_least n (t ∷ ts) h (suc k) d lt =
+    let p = both (nat_le n (number_of t.cause)) (rises (number_of t.cause) ts) h in
+    let first = up_from n (number_of t.cause) p.0 in
+    let later = at_least (number_of t.cause) ts p.1 k d (omega (arith, lt)) in omega (arith, first, later)
+
+never_falls : (n : ℕ) (ts : List Test) → rises n ts ≡ true → (i j : ℕ) (d : Test) → i ≤ j → j < length ts
+    → number_of (slice_index_or ts i d).cause ≤ number_of (slice_index_or ts j d).cause
+never_falls n [] h i j d le lt = omega (arith, lt)
+never_falls n (t ∷ ts) h zero zero d le lt = omega arith
+never_falls n (t ∷ ts) h (suc i) zero d le lt = omega (arith, le)
+never_falls n (t ∷ ts) h zero (suc j) d le lt =
+    at_least (number_of t.cause) ts (both (nat_le n (number_of t.cause)) (rises (number_of t.cause) ts) h).1 j d (omega (arith, lt))
+never_falls n (t ∷ ts) h (suc i) (suc j) d le lt =
+    never_falls (number_of t.cause) ts (both (nat_le n (number_of t.cause)) (rises (number_of t.cause) ts) h).1 i j d (omega (arith, le)) (omega (arith, lt))
+
+pub numbers_never_fall : NumbersNeverFall
+numbers_never_fall b s = never_falls 0 (causes b s) (each_rises b s)
+
+-- ---- the lowest is told
+
+abbrev StandsIn : List Test → Option Limit → Cause → Type 0
+StandsIn ts l cause = Any (λ (t : Test). (t.stands ≡ true) × (t.cause ≡ cause)) ts ⊎ (option_map Full l ≡ Some cause)
+
+record IsLowestIn (ts : List Test) (l : Option Limit) (cause : Cause) : Type 0 where
+  stands : StandsIn ts l cause
+  lowest : (other : Cause) → StandsIn ts l other → number_of cause ≤ number_of other
+
+no_higher : (cause : Cause) → number_of cause ≤ 37
+no_higher NoSuchPreset = omega arith
+no_higher NoSuchInstrument = omega arith
+no_higher NoSuchSample = omega arith
+no_higher NoSuchZone = omega arith
+no_higher NoSuchModulator = omega arith
+no_higher BadPlace = omega arith
+no_higher InUse = omega arith
+no_higher BadGenerator = omega arith
+no_higher NotSet = omega arith
+no_higher BadRange = omega arith
+no_higher SplitOutside = omega arith
+no_higher NotJoinable = omega arith
+no_higher LinkedModulator = omega arith
+no_higher TooShort = omega arith
+no_higher LoopCut = omega arith
+no_higher BadLoop = omega arith
+no_higher BadText = omega arith
+no_higher (Full limit) = omega arith
+
+-- a limit has the highest number
+up_to_limit : (cause : Cause) (l : Option Limit) (other : Cause) → option_map Full l ≡ Some other → number_of cause ≤ number_of other
+up_to_limit cause None other h = cc
+up_to_limit cause (Some limit) other h = let e : Full limit ≡ other = cc in rw (sym e) (no_higher cause)
+
+-- of the tests of which the first stands
+first_is : (n : ℕ) (t : Test) (ts : List Test) (l : Option Limit) (other : Cause) → rises n (t ∷ ts) ≡ true → StandsIn (t ∷ ts) l other → number_of t.cause ≤ number_of other
+first_is n t ts l other up (inl (k, x, lt, at, is)) =
+    let least = never_falls n (t ∷ ts) up 0 k x (omega arith) lt in
+    let here : number_of (slice_index_or (t ∷ ts) k x).cause ≡ number_of other = ap (λ (y : Test). number_of y.cause) at ∙ ap number_of is.1 in
+    omega (arith, least, here)
+first_is n t ts l other up (inr e) = up_to_limit t.cause l other e
+
+-- what stands of tests of which the first does not stands behind it
+later : (t : Test) (ts : List Test) (l : Option Limit) (other : Cause) → t.stands ≡ false → StandsIn (t ∷ ts) l other → StandsIn ts l other
+later t ts l other off (inl (zero, x, lt, at, is)) = let e : t.stands ≡ x.stands = ap (λ (y : Test). y.stands) at in let on = is.0 in cc
+later t ts l other off (inl (suc k, x, lt, at, is)) = inl (k, x, omega (arith, lt), at, is)
+later t ts l other off (inr e) = inr e
+
+-- what stands behind a test
+behind : (t : Test) (ts : List Test) (l : Option Limit) (cause : Cause) → StandsIn ts l cause → StandsIn (t ∷ ts) l cause
+behind t ts l cause (inl (k, x, lt, at, is)) = inl (suc k, x, omega (arith, lt), at, is)
+behind t ts l cause (inr e) = inr e
+
+none_is_there : (other : Cause) (l : Option Limit) → StandsIn [] l other → option_map Full l ≡ Some other
+none_is_there other l (inl (k, x, lt, at, is)) = absurd (omega (arith, lt))
+none_is_there other l (inr e) = e
+
+-- the first stands, or the others tell the cause, which is the lowest of them
+lowest_of : (n : ℕ) (t : Test) (ts : List Test) (l : Option Limit) (cause : Cause) → rises n (t ∷ ts) ≡ true
+    → ((t.stands ≡ true) × (t.cause ≡ cause)) ⊎ ((t.stands ≡ false) × IsLowestIn ts l cause) → IsLowestIn (t ∷ ts) l cause
+lowest_of n t ts l cause up (inl is) = record {
+  stands = inl (0, t, omega arith, refl, is);
+  lowest = λ other s. let e = is.1 in rw (sym (ap number_of e)) (first_is n t ts l other up s);
+}
+lowest_of n t ts l cause up (inr rest) = record {
+  stands = behind t ts l cause rest.1.stands;
+  lowest = λ other s. rest.1.lowest other (later t ts l other rest.0 s);
+}
+
+-- a test and others behind it, of which this one stands or the others tell the cause
+told : (t : Test) (stands : Bool) (rest : Option Cause) (cause : Cause) (L : Type 0) → (rest ≡ Some cause → L) → cond stands (Some t.cause) rest ≡ Some cause
+    → ((stands ≡ true) × (t.cause ≡ cause)) ⊎ ((stands ≡ false) × L)
+told t true rest cause L go h = inl (refl, cc)
+told t false rest cause L go h = inr (refl, go h)
+
+lowest_in : (n : ℕ) (ts : List Test) (l : Option Limit) (cause : Cause) → rises n ts ≡ true → first_cause ts (option_map Full l) ≡ Some cause → IsLowestIn ts l cause
+lowest_in n [] l cause up h = record {
+  stands = inr h;
+  lowest = λ other is. up_to_limit cause l other (none_is_there other l is);
+}
+lowest_in n (t ∷ ts) l cause up h =
+    let above = (both (nat_le n (number_of t.cause)) (rises (number_of t.cause) ts) up).1 in
+    lowest_of n t ts l cause up (told t t.stands (first_cause ts (option_map Full l)) cause (IsLowestIn ts l cause) (lowest_in (number_of t.cause) ts l cause above) h)
+
+-- where none is told none stands
+none_told : (stands : Bool) (cause : Cause) (rest : Option Cause) → cond stands (Some cause) rest ≡ None → (stands ≡ false) × (rest ≡ None)
+none_told true cause rest h = cc
+none_told false cause rest h = (refl, h)
+
+none_in : (ts : List Test) (l : Option Limit) → first_cause ts (option_map Full l) ≡ None → (other : Cause) → StandsIn ts l other → ⊥
+none_in [] l h other s = let e = none_is_there other l s in cc
+none_in (t ∷ ts) l h other s =
+    let n = none_told t.stands t.cause (first_cause ts (option_map Full l)) h in none_in ts l n.1 other (later t ts l other n.0 s)
+
+by_answer : (b : Parts) (s : Step) (answer : Option Cause) → refusal b s ≡ answer → MatchOption answer ((other : Cause) → Stands b s other → ⊥) (IsLowest b s)
+by_answer b s None h = none_in (causes b s) (broken_limit (raw b s)) h
+by_answer b s (Some cause) h =
+    let lowest = lowest_in 0 (causes b s) (broken_limit (raw b s)) cause (each_rises b s) h in record { stands = lowest.stands; lowest = lowest.lowest }
+
+pub lowest_is_told : LowestIsTold
+lowest_is_told b s = by_answer b s (refusal b s) refl
