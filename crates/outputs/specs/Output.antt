@@ -43,6 +43,6 @@ IsTotal text answer = IfOk answer (λ total. total ≡ length text)
 abbrev pub Ends : {W : Type 0} → (W → Option (List ℕ)) → Output W → Option (List ℕ) → Result ℕ WriteFault → Type 0
 Ends contents o now answer = (start : Option (List ℕ)) (text : List ℕ) → HasPut contents start o text → Writes start now text answer × IsTotal text answer
 
--- The same and a flush, whose fault comes after all of it.
+-- All goes out, and is counted; or exactly a front of it, which may be all.
 abbrev pub EndsFlushed : {W : Type 0} → (W → Option (List ℕ)) → Output W → Option (List ℕ) → Result ℕ WriteFault → Type 0
 EndsFlushed contents o now answer = (start : Option (List ℕ)) (text : List ℕ) → HasPut contents start o text → Delivers start now text answer × IsTotal text answer
