@@ -41,14 +41,16 @@ InstrumentsAlike b c i j = (n : Numbers) (u : Taken) → IsPermutation (instrume
 abbrev pub PresetsAlike : Parts → Parts → Preset → Preset → Type 0
 PresetsAlike b c p q = (p.head.bank ≡ q.head.bank) × (p.head.number ≡ q.head.number) × ((n : Numbers) → IsPermutation (preset_voices b n p) (preset_voices c n q))
 
-sample_voices-alike : (b c : Parts) (t k : ℕ) → MatchedOption SoundSame (slice_get b.samples t) (slice_get c.samples k) → (n : Numbers) (u v : Taken) → IsPermutation (sample_voices b n u v t) (sample_voices c n u v k)
+sample_voices-alike : (b c : Parts) (t k : ℕ) → MatchedOption SoundSame (slice_get b.samples t) (slice_get c.samples k)
+    → (n : Numbers) (u v : Taken) → IsPermutation (sample_voices b n u v t) (sample_voices c n u v k)
 unfolding sample_voices
 sample_voices-alike b c t k h n u v =
     matched-or SoundSame (λ (s : Sample). voice_of n v u s ∷ []) (λ (s : Sample). voice_of n v u s ∷ [])
     (λ x y e. subst (λ a. IsPermutation (voice_of n v u x ∷ []) (a ∷ [])) (e n v u) (IsPermutation-refl (voice_of n v u x ∷ [])))
     (slice_get b.samples t) (slice_get c.samples k) h
 
-number_voices-alike : (b c : Parts) (t k : ℕ) → MatchedOption (InstrumentsAlike b c) (slice_get b.instruments t) (slice_get c.instruments k)
+number_voices-alike : (b c : Parts) (t k : ℕ)
+    → MatchedOption (InstrumentsAlike b c) (slice_get b.instruments t) (slice_get c.instruments k)
     → (n : Numbers) (u : Taken) → IsPermutation (number_voices b n u t) (number_voices c n u k)
 unfolding number_voices
 number_voices-alike b c t k h n u =
@@ -61,13 +63,16 @@ selected-alike b c h n =
     (matched-find (PresetsAlike b c) (is_called n) (is_called n) (λ p q e. λ i. e.0 i == n.bank && e.1 i == n.number) b.presets c.presets h)
 
 -- the same presets over instruments that are alike
-same_presets : (b c : Parts) → ((t : ℕ) → MatchedOption (InstrumentsAlike b c) (slice_get b.instruments t) (slice_get c.instruments t)) → (p : Preset) → PresetsAlike b c p p
+same_presets : (b c : Parts)
+    → ((t : ℕ) → MatchedOption (InstrumentsAlike b c) (slice_get b.instruments t) (slice_get c.instruments t))
+    → (p : Preset) → PresetsAlike b c p p
 unfolding preset_voices
 same_presets b c h p =
     (refl, refl, λ n. voices_of-same (number_voices b n) (number_voices c n) (λ v t. number_voices-alike b c t t (h t) n v) n p.global p.zones)
 
 -- the same instruments over samples that sound the same
-same_instruments : (b c : Parts) → ((t : ℕ) → MatchedOption SoundSame (slice_get b.samples t) (slice_get c.samples t)) → (i : Instrument) → InstrumentsAlike b c i i
+same_instruments : (b c : Parts) → ((t : ℕ) → MatchedOption SoundSame (slice_get b.samples t) (slice_get c.samples t))
+    → (i : Instrument) → InstrumentsAlike b c i i
 unfolding instrument_voices
 same_instruments b c h i n u =
     voices_of-same (sample_voices b n u) (sample_voices c n u) (λ v t. sample_voices-alike b c t t (h t) n u v) n i.global i.zones
@@ -78,7 +83,8 @@ sound_same s n v u = refl
 -- ---- what is changed in its place
 
 -- samples that sound the same
-pub samples-alike : (b : Parts) (samples : List Sample) → Matched SoundSame b.samples samples → AreAlike b (record b { samples = samples })
+pub samples-alike : (b : Parts) (samples : List Sample) → Matched SoundSame b.samples samples
+    → AreAlike b (record b { samples = samples })
 samples-alike b samples h =
     let c : Parts = record b { samples = samples } in
     selected-alike b c (matched-same (PresetsAlike b c)

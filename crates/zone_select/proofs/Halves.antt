@@ -49,7 +49,8 @@ not_below l m x a b = grind (arith, nat_tests)
 cut_above : (l h m x : ℕ) → m ≤ x → l < m → (nat_le m x && nat_le x h) ≡ (nat_le l x && nat_le x h)
 cut_above l h m x a b = grind (arith, nat_tests)
 
-halved : (w m x : ℕ) → low_end w < m → m ≤ high_end w → m < 256 → Halved (within w x) (within (range_from (low_end w) (m - 1)) x) (within (range_from m (high_end w)) x)
+halved : (w m x : ℕ) → low_end w < m → m ≤ high_end w → m < 256
+    → Halved (within w x) (within (range_from (low_end w) (m - 1)) x) (within (range_from m (high_end w)) x)
 halved w m x above inside small =
     let lower = within_ends (low_end w) (m - 1) x (low_is_small w) in
     let upper = within_ends m (high_end w) x small in
@@ -77,7 +78,8 @@ halves-hold n global z Velocity m h small =
     (halved_second (within w n.velocity) (within lower n.velocity) (within upper n.velocity) (within (range_of Key global z) n.key) (halved w m n.velocity h.above h.within small))
 
 -- what the zone's target gives, the one half gives and the other doesn't
-pub halves-give : (inner : Taken → ℕ → List Voice) (n : Numbers) (global : GlobalZone) (z : Zone) (axis : Axis) (m : ℕ) → IsSplitAt axis m global z → m < 256
+pub halves-give : (inner : Taken → ℕ → List Voice) (n : Numbers) (global : GlobalZone) (z : Zone) (axis : Axis) (m : ℕ)
+    → IsSplitAt axis m global z → m < 256
     → (let give : Zone → List Voice = λ y. cond (holds n global y) (inner (taken global y) y.target) [] in give z ≡ give (lower_part axis m global z) ++ give (upper_part axis m global z))
 halves-give inner n global z axis m h small =
     let lower : Zone = lower_part axis m global z in

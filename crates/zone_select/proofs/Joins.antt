@@ -25,7 +25,8 @@ pub record AreJoinedInOrder (axis : Axis) (keep : Keep) (global : GlobalZone) (y
   pub rises : low_end both.first ≤ high_end both.first
   pub rises_too : low_end both.second ≤ high_end both.second
 
-ends_halved : (a b c d x : ℕ) → c ≡ b + 1 → a ≤ b → c ≤ d → Halved (nat_le a x && nat_le x d) (nat_le a x && nat_le x b) (nat_le c x && nat_le x d)
+ends_halved : (a b c d x : ℕ) → c ≡ b + 1 → a ≤ b → c ≤ d
+    → Halved (nat_le a x && nat_le x d) (nat_le a x && nat_le x b) (nat_le c x && nat_le x d)
 ends_halved a b c d x e h g =
     elim (cases_lt x c) [
       | inl l ↦ in_lower (let p : (nat_le a x && nat_le x b) ≡ (nat_le a x && nat_le x d) = grind (arith, nat_tests) in p) (let p : (nat_le c x && nat_le x d) ≡ false = grind (arith, nat_tests) in p)
@@ -34,11 +35,14 @@ ends_halved a b c d x e h g =
 
 -- ---- what stays
 
-other_of_joined : (global : GlobalZone) (y z : Zone) (axis other : Axis) (keep : Keep) → range_operator other ≢ range_operator axis → range_of other global (joined axis keep y z) ≡ range_of other global y
+other_of_joined : (global : GlobalZone) (y z : Zone) (axis other : Axis) (keep : Keep)
+    → range_operator other ≢ range_operator axis
+    → range_of other global (joined axis keep y z) ≡ range_of other global y
 other_of_joined global y z axis other keeping.Keep n = other-with global y axis other (joint_range (own_amount axis y) (own_amount axis z)) n
 other_of_joined global y z axis other keeping.Bare n = other-without global y axis other n
 
-taken_of_joined : (global : GlobalZone) (y z : Zone) (axis : Axis) (keep : Keep) → taken global y ≡ taken global (joined axis keep y z)
+taken_of_joined : (global : GlobalZone) (y z : Zone) (axis : Axis) (keep : Keep)
+    → taken global y ≡ taken global (joined axis keep y z)
 taken_of_joined global y z axis keeping.Keep = taken-with global y axis (joint_range (own_amount axis y) (own_amount axis z))
 taken_of_joined global y z axis keeping.Bare = taken-without global y axis
 
@@ -50,7 +54,8 @@ module _ (axis : Axis) (keep : Keep) (global : GlobalZone) (y z : Zone) (h : Are
   same_taken : taken global y ≡ taken global z
   same_taken = taken-without global y axis ∙ ap (taken global) h.both.alike ∙ sym (taken-without global z axis)
 
-  same_other : (other : Axis) → range_operator other ≢ range_operator axis → range_of other global y ≡ range_of other global z
+  same_other : (other : Axis) → range_operator other ≢ range_operator axis
+      → range_of other global y ≡ range_of other global z
   same_other other n = sym (other-without global y axis other n) ∙ ap (range_of other global) h.both.alike ∙ other-without global z axis other n
 
   same_target : y.target ≡ z.target
@@ -61,11 +66,13 @@ module _ (axis : Axis) (keep : Keep) (global : GlobalZone) (y z : Zone) (h : Are
   joint_is : joint_range (own_amount axis y) (own_amount axis z) ≡ joint_range h.both.first h.both.second
   joint_is = λ i. joint_range (unwrap_or (h.both.own_first i) whole_range) (unwrap_or (h.both.own_second i) whole_range)
 
-  range_of_joined : (keep : Keep) → IsInherited axis keep global (joint_range h.both.first h.both.second) → range_of axis global (joined axis keep y z) ≡ joint_range h.both.first h.both.second
+  range_of_joined : (keep : Keep) → IsInherited axis keep global (joint_range h.both.first h.both.second)
+      → range_of axis global (joined axis keep y z) ≡ joint_range h.both.first h.both.second
   range_of_joined keeping.Keep i = range-with global y axis (joint_range (own_amount axis y) (own_amount axis z)) ∙ joint_is
   range_of_joined keeping.Bare i = range-without global y axis ∙ sym i
 
-  axis_halved : (x : ℕ) → Halved (within (range_of axis global (joined axis keep y z)) x) (within (range_of axis global y) x) (within (range_of axis global z) x)
+  axis_halved : (x : ℕ)
+      → Halved (within (range_of axis global (joined axis keep y z)) x) (within (range_of axis global y) x) (within (range_of axis global z) x)
   axis_halved x =
       let v : ℕ = h.both.first in
       let w : ℕ = h.both.second in
@@ -75,7 +82,8 @@ module _ (axis : Axis) (keep : Keep) (global : GlobalZone) (y z : Zone) (h : Are
       (subst (λ t. Halved t (within v x) (within w x)) (sym (within_ends (low_end v) (high_end w) x (low_is_small v)))
       (ends_halved (low_end v) (high_end v) (low_end w) (high_end w) x h.both.next h.rises h.rises_too))
 
-joined_holds : (n : Numbers) (global : GlobalZone) (y z : Zone) (axis : Axis) (keep : Keep) → AreJoinedInOrder axis keep global y z
+joined_holds : (n : Numbers) (global : GlobalZone) (y z : Zone) (axis : Axis) (keep : Keep)
+    → AreJoinedInOrder axis keep global y z
     → Halved (holds n global (joined axis keep y z)) (holds n global y) (holds n global z)
 unfolding holds
 joined_holds n global y z Key keep h =
@@ -91,7 +99,8 @@ joined_holds n global y z Velocity keep h =
     (λ i. let r : ℕ × ℕ = (sym e i, same_other Velocity keep global y z h Key (omega arith) i) in r)
     (halved_second (within (range_of Velocity global x) n.velocity) (within (range_of Velocity global y) n.velocity) (within (range_of Velocity global z) n.velocity) (within (range_of Key global y) n.key) (axis_halved Velocity keep global y z h n.velocity))
 
-pub joined_gives : (inner : Taken → ℕ → List Voice) (n : Numbers) (global : GlobalZone) (y z : Zone) (axis : Axis) (keep : Keep) → AreJoinedInOrder axis keep global y z
+pub joined_gives : (inner : Taken → ℕ → List Voice) (n : Numbers) (global : GlobalZone) (y z : Zone) (axis : Axis) (keep : Keep)
+    → AreJoinedInOrder axis keep global y z
     → (let give : Zone → List Voice = λ x. cond (holds n global x) (inner (taken global x) x.target) [] in give (joined axis keep y z) ≡ give y ++ give z)
 joined_gives inner n global y z axis keep h =
     let x : Zone = joined axis keep y z in

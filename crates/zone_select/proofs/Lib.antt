@@ -15,3 +15,5 @@ pub mod Joins
 pub mod ZoneVoices
 pub mod AlikeLaws
 pub mod NeutralLaws
+pub mod Listed
+pub mod PlayedLaws

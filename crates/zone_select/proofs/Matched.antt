@@ -19,14 +19,16 @@ MatchedOption R (Some x) None = ⊥
 MatchedOption R (Some x) (Some y) = R x y
 
 module _ {X Y : Type 0} (R : X → Y → Type 0) where
-  pub matched-get : (xs : List X) (ys : List Y) (k : ℕ) → Matched R xs ys → MatchedOption R (slice_get xs k) (slice_get ys k)
+  pub matched-get : (xs : List X) (ys : List Y) (k : ℕ) → Matched R xs ys
+      → MatchedOption R (slice_get xs k) (slice_get ys k)
   matched-get [] [] k h = tt
   matched-get [] (y ∷ ys) k h = absurd h
   matched-get (x ∷ xs) [] k h = absurd h
   matched-get (x ∷ xs) (y ∷ ys) zero h = h.0
   matched-get (x ∷ xs) (y ∷ ys) (suc k) h = matched-get xs ys k h.1
 
-  pub matched-find : (p : X → Bool) (q : Y → Bool) → ((x : X) (y : Y) → R x y → p x ≡ q y) → (xs : List X) (ys : List Y) → Matched R xs ys → MatchedOption R (find p xs) (find q ys)
+  pub matched-find : (p : X → Bool) (q : Y → Bool) → ((x : X) (y : Y) → R x y → p x ≡ q y) → (xs : List X) (ys : List Y)
+      → Matched R xs ys → MatchedOption R (find p xs) (find q ys)
   matched-find p q e [] [] h = tt
   matched-find p q e [] (y ∷ ys) h = absurd h
   matched-find p q e (x ∷ xs) [] h = absurd h
@@ -34,7 +36,8 @@ module _ {X Y : Type 0} (R : X → Y → Type 0) where
       let at : (t : Bool) → MatchedOption R (cond t (Some x) (find p xs)) (cond t (Some y) (find q ys)) = elim [ true ↦ h.0 | false ↦ matched-find p q e xs ys h.1 ] in
       subst (λ t. MatchedOption R (cond (p x) (Some x) (find p xs)) (cond t (Some y) (find q ys))) (e x y h.0) (at (p x))
 
-  pub matched-or : {Z : Type 0} (f : X → List Z) (g : Y → List Z) → ((x : X) (y : Y) → R x y → IsPermutation (f x) (g y)) → (o : Option X) (p : Option Y) → MatchedOption R o p
+  pub matched-or : {Z : Type 0} (f : X → List Z) (g : Y → List Z)
+      → ((x : X) (y : Y) → R x y → IsPermutation (f x) (g y)) → (o : Option X) (p : Option Y) → MatchedOption R o p
       → IsPermutation (option_map_or f o []) (option_map_or g p [])
   matched-or f g e None None h = IsPermutation-refl []
   matched-or f g e None (Some y) h = absurd h
@@ -49,7 +52,8 @@ module _ {X Y : Type 0} (R : X → Y → Type 0) where
   matched-option_map f h None = tt
   matched-option_map f h (Some x) = h x
 
-pub changed-cons : {X : Type 0} (x : X) (xs : List X) (k : ℕ) (f : X → X) → changed (x ∷ xs) (suc k) f ≡ x ∷ changed xs k f
+pub changed-cons : {X : Type 0} (x : X) (xs : List X) (k : ℕ) (f : X → X)
+    → changed (x ∷ xs) (suc k) f ≡ x ∷ changed xs k f
 changed-cons x xs k f =
     elim (slice_get xs k) as (λ o. option_map_or (λ y. slice_set (x ∷ xs) (suc k) (f y)) o (x ∷ xs) ≡ x ∷ option_map_or (λ y. slice_set xs k (f y)) o xs) [ None ↦ refl | Some y ↦ refl ]
 
@@ -58,7 +62,8 @@ module _ {X : Type 0} (R : X → X → Type 0) (same : (x : X) → R x x) where
   matched-same [] = tt
   matched-same (x ∷ xs) = (same x, matched-same xs)
 
-  pub matched-changed : (f : X → X) (xs : List X) (k : ℕ) → ((x : X) → slice_get xs k ≡ Some x → R x (f x)) → Matched R xs (changed xs k f)
+  pub matched-changed : (f : X → X) (xs : List X) (k : ℕ) → ((x : X) → slice_get xs k ≡ Some x → R x (f x))
+      → Matched R xs (changed xs k f)
   matched-changed f [] k h = tt
   matched-changed f (x ∷ xs) zero h = (h x refl, matched-same xs)
   matched-changed f (x ∷ xs) (suc k) h = subst (Matched R (x ∷ xs)) (sym (changed-cons x xs k f)) (same x, matched-changed f xs k h)

@@ -49,7 +49,8 @@ unfolding voice_of parameters_of is_looped
 kind_set_alike b i kind = samples-alike b _ (matched-changed SoundSame sound_same (of_kind kind) b.samples i (λ s e n v u. refl))
 
 -- a sample found under a new number, its own link renumbered too
-sent_found : (xs ys : List Sample) (f : Sample → Sample) (t q : ℕ) → ((s : Sample) → SoundSame s (f s)) → slice_get ys q ≡ slice_get xs t → MatchedOption SoundSame (slice_get xs t) (slice_get (map f ys) q)
+sent_found : (xs ys : List Sample) (f : Sample → Sample) (t q : ℕ) → ((s : Sample) → SoundSame s (f s))
+    → slice_get ys q ≡ slice_get xs t → MatchedOption SoundSame (slice_get xs t) (slice_get (map f ys) q)
 sent_found xs ys f t q h e =
     subst (MatchedOption SoundSame (slice_get xs t)) (sym (slice_get-map f ys q ∙ ap (option_map f) e)) (matched-option_map SoundSame f h (slice_get xs t))
 
@@ -112,7 +113,8 @@ pub zone_moved_alike : ZoneMovedAlike
 zone_moved_alike b (owner.Preset p) i j = owner_changed-alike b (owner.Preset p) (λ global zones. moved zones i j) (λ x e inner n. voices_of-moved inner n x.global x.zones i j)
 zone_moved_alike b (owner.Instrument k) i j = owner_changed-alike b (owner.Instrument k) (λ global zones. moved zones i j) (λ x e inner n. voices_of-moved inner n x.global x.zones i j)
 
-can_split_there : {H : Type 0} (owners : List (WithZones H)) (i k : ℕ) (axis : Axis) (m : ℕ) (x : WithZones H) → splits_at axis m owners i k ≡ true → slice_get owners i ≡ Some x → CanSplit axis m x.global x.zones k
+can_split_there : {H : Type 0} (owners : List (WithZones H)) (i k : ℕ) (axis : Axis) (m : ℕ) (x : WithZones H)
+    → splits_at axis m owners i k ≡ true → slice_get owners i ≡ Some x → CanSplit axis m x.global x.zones k
 can_split_there owners i k axis m x h e z f = split_at axis m x.global z (sym (there_split axis m owners i k (record { member = x; there = e; zone = z; zone_there = f })) ∙ h)
 
 pub zone_split_alike : ZoneSplitAlike
@@ -124,11 +126,13 @@ zone_split_alike b (owner.Instrument i) k axis m small h =
     (λ x e inner n. voices_of-split inner n axis m x.global x.zones k small (can_split_there b.instruments i k axis m x h e))
 
 -- the own range of a valid zone, where it has one, is in order
-rises : (at : Level) (axis : Axis) (z : Zone) (w : ℕ) → AreGenerators at z.gens → own_range axis z ≡ Some w → low_end w ≤ high_end w
+rises : (at : Level) (axis : Axis) (z : Zone) (w : ℕ) → AreGenerators at z.gens → own_range axis z ≡ Some w
+    → low_end w ≤ high_end w
 rises at axis z w v e = subst (λ w. low_end w ≤ high_end w) (ap (λ o. unwrap_or o whole_range) e) (own_holds at axis z v).0
 
 can_join_there : {H : Type 0} (name_of : H → List ℕ) (at : Level) (targets : ℕ) (owners : List (WithZones H)) (i k : ℕ) (axis : Axis) (keep : Keep) (x : WithZones H)
-    → IsOwner name_of at targets x → joins_at axis keep owners i k ≡ true → slice_get owners i ≡ Some x → CanJoin axis keep x.global x.zones k
+    → IsOwner name_of at targets x → joins_at axis keep owners i k ≡ true → slice_get owners i ≡ Some x
+    → CanJoin axis keep x.global x.zones k
 can_join_there name_of at targets owners i k axis keep x v h e y z f g =
     let both = joined_at axis keep x.global y z (sym (there_joined axis keep owners i k (record { member = x; there = e; zone = y; zone_there = f }) z g) ∙ h) in
     record {

@@ -32,7 +32,8 @@ no_range Key op e = grind (arith, nat_tests)
 no_range Velocity op e = grind (arith, nat_tests)
 
 -- gens that say the same of all but the range
-setting_at : (global : GlobalZone) (z : Zone) (gens : Gens) (axis : Axis) → ((op : ℕ) → op ≢ range_operator axis → get gens op ≡ get z.gens op) → (op : ℕ)
+setting_at : (global : GlobalZone) (z : Zone) (gens : Gens) (axis : Axis)
+    → ((op : ℕ) → op ≢ range_operator axis → get gens op ≡ get z.gens op) → (op : ℕ)
     → setting global z op ≡ setting global (record z { gens = gens }) op
 unfolding setting
 setting_at global z gens axis h op =
@@ -41,13 +42,15 @@ setting_at global z gens axis h op =
       | false ↦ λ e. ap (λ o. option_or o (get global.gens op)) (sym (h op (no_range axis op e)))
     ] refl
 
-pub taken-with : (global : GlobalZone) (z : Zone) (axis : Axis) (w : ℕ) → taken global z ≡ taken global (with_range axis w z)
+pub taken-with : (global : GlobalZone) (z : Zone) (axis : Axis) (w : ℕ)
+    → taken global z ≡ taken global (with_range axis w z)
 unfolding taken
 taken-with global z axis w =
     let same = setting_at global z (insert z.gens (range_operator axis) w) axis (λ op n. get-insert_other z.gens (range_operator axis) w op n) in
     λ i. let r : Taken = record { settings = λ op. same op i; mods = z.mods; inherited = global.mods } in r
 
-pub taken-without : (global : GlobalZone) (z : Zone) (axis : Axis) → taken global z ≡ taken global (without_range axis z)
+pub taken-without : (global : GlobalZone) (z : Zone) (axis : Axis)
+    → taken global z ≡ taken global (without_range axis z)
 unfolding taken
 taken-without global z axis =
     let same = setting_at global z (remove z.gens (range_operator axis)) axis (λ op n. get-remove_other z.gens (range_operator axis) op n) in
@@ -58,13 +61,16 @@ taken-without global z axis =
 pub range-with : (global : GlobalZone) (z : Zone) (axis : Axis) (w : ℕ) → range_of axis global (with_range axis w z) ≡ w
 range-with global z axis w = ap (λ o. unwrap_or o (inherited_range axis global)) (own_with axis w z)
 
-pub range-without : (global : GlobalZone) (z : Zone) (axis : Axis) → range_of axis global (without_range axis z) ≡ inherited_range axis global
+pub range-without : (global : GlobalZone) (z : Zone) (axis : Axis)
+    → range_of axis global (without_range axis z) ≡ inherited_range axis global
 range-without global z axis = ap (λ o. unwrap_or o (inherited_range axis global)) (own_without axis z)
 
-pub other-with : (global : GlobalZone) (z : Zone) (axis other : Axis) (w : ℕ) → range_operator other ≢ range_operator axis → range_of other global (with_range axis w z) ≡ range_of other global z
+pub other-with : (global : GlobalZone) (z : Zone) (axis other : Axis) (w : ℕ)
+    → range_operator other ≢ range_operator axis → range_of other global (with_range axis w z) ≡ range_of other global z
 other-with global z axis other w n = ap (λ o. unwrap_or o (inherited_range other global)) (get-insert_other z.gens (range_operator axis) w (range_operator other) n)
 
-pub other-without : (global : GlobalZone) (z : Zone) (axis other : Axis) → range_operator other ≢ range_operator axis → range_of other global (without_range axis z) ≡ range_of other global z
+pub other-without : (global : GlobalZone) (z : Zone) (axis other : Axis) → range_operator other ≢ range_operator axis
+    → range_of other global (without_range axis z) ≡ range_of other global z
 other-without global z axis other n = ap (λ o. unwrap_or o (inherited_range other global)) (get-remove_other z.gens (range_operator axis) (range_operator other) n)
 
 pub within_ends : (low high x : ℕ) → low < 256 → within (range_from low high) x ≡ (nat_le low x && nat_le x high)

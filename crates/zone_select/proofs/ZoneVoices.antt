@@ -42,7 +42,8 @@ voices_of-renumbered inner other n global by (z ∷ zones) h =
     IsPermutation-append _ _ _ _ (given_same (holds n global z) _ _ (h.0 (taken global z))) (voices_of-renumbered inner other n global by zones h.1)
 
 -- each target gives the same
-pub voices_of-same : (inner other : Inner) → ((v : Taken) (t : ℕ) → IsPermutation (inner v t) (other v t)) → (n : Numbers) (global : GlobalZone) (zones : List Zone)
+pub voices_of-same : (inner other : Inner) → ((v : Taken) (t : ℕ) → IsPermutation (inner v t) (other v t))
+    → (n : Numbers) (global : GlobalZone) (zones : List Zone)
     → IsPermutation (voices_of inner n global zones) (voices_of other n global zones)
 unfolding voices_of
 voices_of-same inner other h n global [] = IsPermutation-refl []
@@ -51,7 +52,8 @@ voices_of-same inner other h n global (z ∷ zones) =
 
 -- ---- zones moved, split and joined
 
-pub voices_of-moved : (inner : Inner) (n : Numbers) (global : GlobalZone) (zones : List Zone) (i j : ℕ) → IsPermutation (voices_of inner n global zones) (voices_of inner n global (moved zones i j))
+pub voices_of-moved : (inner : Inner) (n : Numbers) (global : GlobalZone) (zones : List Zone) (i j : ℕ)
+    → IsPermutation (voices_of inner n global zones) (voices_of inner n global (moved zones i j))
 unfolding voices_of
 voices_of-moved inner n global zones i j = flat_map-moved (λ (z : Zone). cond (holds n global z) (inner (taken global z) z.target) []) zones i j
 
@@ -59,7 +61,8 @@ voices_of-moved inner n global zones i j = flat_map-moved (λ (z : Zone). cond (
 abbrev pub CanSplit : Axis → ℕ → GlobalZone → List Zone → ℕ → Type 0
 CanSplit axis m global zones k = (z : Zone) → slice_get zones k ≡ Some z → IsSplitAt axis m global z
 
-pub voices_of-split : (inner : Inner) (n : Numbers) (axis : Axis) (m : ℕ) (global : GlobalZone) (zones : List Zone) (k : ℕ) → m < 256 → CanSplit axis m global zones k
+pub voices_of-split : (inner : Inner) (n : Numbers) (axis : Axis) (m : ℕ) (global : GlobalZone) (zones : List Zone) (k : ℕ)
+    → m < 256 → CanSplit axis m global zones k
     → IsPermutation (voices_of inner n global zones) (voices_of inner n global (zones_split axis m global zones k))
 unfolding voices_of
 voices_of-split inner n axis m global zones k small h =
@@ -75,7 +78,8 @@ voices_of-split inner n axis m global zones k small h =
 abbrev pub CanJoin : Axis → Keep → GlobalZone → List Zone → ℕ → Type 0
 CanJoin axis keep global zones k = (y z : Zone) → slice_get zones k ≡ Some y → slice_get zones (k + 1) ≡ Some z → AreJoinedInOrder axis keep global y z
 
-pub voices_of-joined : (inner : Inner) (n : Numbers) (axis : Axis) (keep : Keep) (global : GlobalZone) (zones : List Zone) (k : ℕ) → CanJoin axis keep global zones k
+pub voices_of-joined : (inner : Inner) (n : Numbers) (axis : Axis) (keep : Keep) (global : GlobalZone) (zones : List Zone) (k : ℕ)
+    → CanJoin axis keep global zones k
     → IsPermutation (voices_of inner n global zones) (voices_of inner n global (zones_joined axis keep zones k))
 unfolding voices_of
 voices_of-joined inner n axis keep global zones k h =

@@ -9,3 +9,4 @@ pub mod At
 pub mod Summed
 pub mod Alike
 pub mod Neutral
+pub mod Played

@@ -45,13 +45,15 @@ KindSetAlike = (b : Parts) (i : ℕ) (kind : Kind) → AreAlike b (kind_set b i 
 
 -- whatever the instrument is
 abbrev pub InstrumentAddedAlike : Type 0
-InstrumentAddedAlike = (b : Parts) (i : ℕ) (x : WithZones (List ℕ)) → i ≤ length b.instruments → AreAlike b (instrument_added b i x)
+InstrumentAddedAlike = (b : Parts) (i : ℕ) (x : WithZones (List ℕ)) → i ≤ length b.instruments
+    → AreAlike b (instrument_added b i x)
 
 abbrev pub InstrumentRemovedAlike : Type 0
 InstrumentRemovedAlike = (b : Parts) (i : ℕ) → IsUntargeted b.presets i → AreAlike b (instrument_removed b i)
 
 abbrev pub InstrumentMovedAlike : Type 0
-InstrumentMovedAlike = (b : Parts) (i j : ℕ) → i < length b.instruments → j < length b.instruments → AreAlike b (instrument_moved b i j)
+InstrumentMovedAlike = (b : Parts) (i j : ℕ) → i < length b.instruments → j < length b.instruments
+    → AreAlike b (instrument_moved b i j)
 
 abbrev pub InstrumentRenamedAlike : Type 0
 InstrumentRenamedAlike = (b : Parts) (i : ℕ) (name : List ℕ) → AreAlike b (instrument_renamed b i name)
@@ -62,11 +64,13 @@ abbrev pub ZoneMovedAlike : Type 0
 ZoneMovedAlike = (b : Parts) (o : Owner) (from to : ℕ) → AreAlike b (zone_moved b o from to)
 
 abbrev pub ZoneSplitAlike : Type 0
-ZoneSplitAlike = (b : Parts) (o : Owner) (k : ℕ) (axis : Axis) (m : ℕ) → m < 2 ^ 8 → can_split b o k axis m ≡ true → AreAlike b (zone_split b o k axis m)
+ZoneSplitAlike = (b : Parts) (o : Owner) (k : ℕ) (axis : Axis) (m : ℕ) → m < 2 ^ 8 → can_split b o k axis m ≡ true
+    → AreAlike b (zone_split b o k axis m)
 
 -- in a valid bank no range ends before it begins
 abbrev pub ZoneJoinedAlike : Type 0
-ZoneJoinedAlike = (b : Parts) (o : Owner) (k : ℕ) (axis : Axis) (keep : Keep) → IsValid b → can_join b o k axis keep ≡ true → AreAlike b (zone_joined b o k axis keep)
+ZoneJoinedAlike = (b : Parts) (o : Owner) (k : ℕ) (axis : Axis) (keep : Keep) → IsValid b
+    → can_join b o k axis keep ≡ true → AreAlike b (zone_joined b o k axis keep)
 
 -- ---- texts
 

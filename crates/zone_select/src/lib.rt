@@ -14,7 +14,7 @@ mod pitches;
 mod spans;
 mod zones;
 
-pub use laws::{linear_modulators_are_summed, selected_by_pairs};
+pub use laws::{linear_modulators_are_summed, pairs_have_voices, selected_by_pairs};
 pub use neutral::{
     instruments_keep_sounding, samples_keep_sounding, texts_keep_sounding, zones_keep_sounding,
 };

@@ -1,9 +1,10 @@
 //! The numbers that the voice of a pair of zones plays by.
-ghost use Rattle.std.specs.Prelude.{◌≡◌, ◌<◌, ◌^◌, length, IfSome};
+ghost use Rattle.std.specs.Prelude.{◌≡◌, ◌<◌, ◌^◌, ◌↔◌, length, IsSome, IfSome};
+ghost use Rattle.std.specs.List.{Contains};
 ghost use Rattle.std.specs.Option.{option_map};
 ghost use Rattle.zone_select.specs.Amounts.{parameters_of};
 ghost use Rattle.zone_select.specs.At.{inner_at, outer_at};
-ghost use Rattle.zone_select.specs.Pairs.{chosen_by, voice_by};
+ghost use Rattle.zone_select.specs.Pairs.{pairs, chosen_by, voice_by};
 ghost use Rattle.zone_select.specs.Playable.{IsPlayable};
 
 use crate::amounts::{PairAt, class};
@@ -60,9 +61,11 @@ pub struct VoiceParameters {
 
 /// The numbers that the voice of a pair of zones plays by: those of the first preset with the note's
 /// bank number and number, each zone by its number. None where there are no such zones, or they don't
-/// both hold the note. It takes no memory.
+/// both hold the note: it answers exactly for the pairs that [`matches`](crate::matches) gives. It takes
+/// no memory.
 pub fn params(bank: &Bank<'_>, note: &Note, pair: (u32, u32)) -> Option<VoiceParameters>
     ensures value { result ≡ option_map (λ v. v.parameters) (voice_by bank.now note.now pair) }
+    ensures there { IsSome result ↔ Contains (pairs bank.now note.now) pair }
     ensures playable { IfSome (voice_by bank.now note.now pair) (λ v. IsPlayable (length v.points) v.parameters) }
 {
     // What the bank tells of its totals is that it keeps within the limits.

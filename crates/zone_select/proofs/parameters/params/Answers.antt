@@ -1,7 +1,9 @@
 use Rattle.std.proofs.Common.{Some, sym, ap, ◌∙◌}
+use Rattle.std.specs.Prelude.{is_some}
 use Rattle.zone_select.specs.At.{chosen_at}
 use Rattle.zone_select.specs.declared.parameters.VoiceParameters.{VoiceParameters}
 use Rattle.zone_select.proofs.SpanLaws.{points_few, parameters_by, voices_playable}
+use Rattle.zone_select.proofs.PlayedLaws.{there_by, never_lost}
 use Rattle.zone_select.proofs.parameters.params.Goals as goal
 
 pub parameters_of-requires : goal.parameters_of-requires
@@ -14,3 +16,14 @@ returns-clause-value c =
 
 pub returns-clause-playable : goal.returns-clause-playable
 returns-clause-playable c = voices_playable c.args.bank.now c.args.note.now c.args.pair
+
+pub returns-in_err-chosen-clause-there : goal.returns-in_err-chosen-clause-there
+returns-in_err-chosen-clause-there c =
+    there_by c.args.bank.now c.args.note.now c.args.pair c.from_residual.result (ap is_some c.from_residual.ensures ∙ ap is_some c.in_err-chosen.ensures)
+
+pub returns-in_err-sample-clause-there : goal.returns-in_err-sample-clause-there
+returns-in_err-sample-clause-there c =
+    absurd (never_lost c.args.bank.now c.args.note.now c.args.pair (chosen_at c.args.bank.now c.in_ok-chosen.chosen) c.totals.ensures.sound.valid (sym c.in_ok-chosen.ensures) (sym c.in_err-sample.ensures))
+
+pub returns-clause-there : goal.returns-clause-there
+returns-clause-there c = there_by c.args.bank.now c.args.note.now c.args.pair (Some c.parameters_of.result) (ap is_some c.in_ok-chosen.ensures)
