@@ -176,12 +176,12 @@ frames-split ss from m k =
     (map_range-same (λ i. side_at ss from (2 * m + i)) (side_at ss (from + m)) 0 (2 * k)
     (λ i _ _. λ j. cut (sum_at ss (is_left-more m i j) (half-more from m i j))))
 
-frames-same : (ss rs : List Start) (from : ℕ) → ((left : Bool) (t : ℕ) → from ≤ t → sum_at ss left t ≡ sum_at rs left t) → (m : ℕ) → frames ss from m ≡ frames rs from m
+pub frames-same : (ss rs : List Start) (from : ℕ) → ((left : Bool) (t : ℕ) → from ≤ t → sum_at ss left t ≡ sum_at rs left t) → (m : ℕ) → frames ss from m ≡ frames rs from m
 unfolding frames side_at
 frames-same ss rs from h m =
     map_range-same (side_at ss from) (side_at rs from) 0 (2 * m) (λ i _ _. ap cut (h (is_left i) (from + i / 2) (omega arith)))
 
-blocks_from : (b : Parts) (es : List Event) (ps : List Playing) (from : ℕ) → blocks b ps es ≡ frames (record { frame = from; voices = ps } ∷ starts b from es) from (given es)
+pub blocks_from : (b : Parts) (es : List Event) (ps : List Playing) (from : ℕ) → blocks b ps es ≡ frames (record { frame = from; voices = ps } ∷ starts b from es) from (given es)
 unfolding blocks starts given
 blocks_from b [] ps from = frames-none (record { frame = from; voices = ps } ∷ []) from
 blocks_from b (Edited c ∷ es) ps from = blocks_from c es ps from

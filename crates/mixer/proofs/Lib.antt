@@ -12,3 +12,5 @@ pub mod Classes
 pub mod Counts
 pub mod Unordered
 pub mod Stops
+pub mod Permuted
+pub mod AlikeLaws

@@ -5,3 +5,4 @@ pub mod Render
 pub mod Order
 pub mod Stops
 pub mod Young
+pub mod Alike

@@ -1,4 +1,5 @@
 //! The laws of players and of notes.
+ghost use Rattle.mixer.specs.Alike.{AlikeBlocks, AlikeHeard, AlikeRender};
 ghost use Rattle.mixer.specs.Events.{BlocksAreHeard, CutsAreFree};
 ghost use Rattle.mixer.specs.Order.{OrderIsFree};
 ghost use Rattle.mixer.specs.Stops.{StopsAreLeast};
@@ -28,4 +29,19 @@ pub fn order_is_free()
 #[tactic(auto, using(crate::proofs::Stops::stops_least))]
 pub fn stops_are_least()
     ensures { StopsAreLeast }
+{}
+
+/// The law that banks that give each note the same voices, in whatever order, render all notes the same.
+/// It does nothing.
+#[tactic(auto, using(crate::proofs::AlikeLaws::alike_render))]
+pub fn alike_banks_render_the_same()
+    ensures { AlikeRender }
+{}
+
+/// The law that edits are not heard where each leaves a bank that gives each note the same voices as the
+/// one before it: neither in what is heard of note starts, nor in the blocks of a player, whatever it
+/// plays at first. It does nothing.
+pub fn alike_edits_are_not_heard()
+    ensures heard { AlikeHeard }
+    ensures blocks { AlikeBlocks }
 {}

@@ -8,6 +8,9 @@ mod player;
 mod playing;
 mod rendering;
 
-pub use laws::{blocks_are_heard, cuts_are_free, order_is_free, stops_are_least};
+pub use laws::{
+    alike_banks_render_the_same, alike_edits_are_not_heard, blocks_are_heard, cuts_are_free,
+    order_is_free, stops_are_least,
+};
 pub use player::Player;
 pub use rendering::render;

@@ -1,0 +1,38 @@
+-- Banks that give each note the same voices sound the same.
+use Rattle.std.specs.Prelude.{◌≡◌, List, [], ◌∷◌}
+use Rattle.bank_parts.specs.declared.parts.Parts.{Parts}
+use Rattle.note_list.specs.Notes.{Numbers}
+use Rattle.zone_select.specs.Alike.{AreAlike}
+use Rattle.mixer.specs.declared.playing.Playing.{Playing}
+use Rattle.mixer.specs.Events.{Event, Edited, Started, Given, heard, blocks}
+use Rattle.mixer.specs.Render.{render}
+
+-- ---- notes
+
+-- banks that are alike render all notes the same
+abbrev pub AlikeRender : Type 0
+AlikeRender = (b c : Parts) → AreAlike b c → (ns : List Numbers) → render b ns ≡ render c ns
+
+-- ---- events
+
+-- each edit leaves a bank that is like the one before it
+abbrev pub LeaveAlike : Parts → List Event → Type 0
+LeaveAlike b [] = Unit {0}
+LeaveAlike b (Edited c ∷ es) = AreAlike b c × LeaveAlike c es
+LeaveAlike b (Started n ∷ es) = LeaveAlike b es
+LeaveAlike b (Given m ∷ es) = LeaveAlike b es
+
+-- the events without the edits
+unfoldable pub without_edits : List Event → List Event
+without_edits [] = []
+without_edits (Edited c ∷ es) = without_edits es
+without_edits (Started n ∷ es) = Started n ∷ without_edits es
+without_edits (Given m ∷ es) = Given m ∷ without_edits es
+
+-- such edits are not heard
+abbrev pub AlikeHeard : Type 0
+AlikeHeard = (b : Parts) (es : List Event) → LeaveAlike b es → heard b es ≡ heard b (without_edits es)
+
+-- nor are they in the blocks of a player, whatever it plays when the first of the events comes
+abbrev pub AlikeBlocks : Type 0
+AlikeBlocks = (b : Parts) (ps : List Playing) (es : List Event) → LeaveAlike b es → blocks b ps es ≡ blocks b ps (without_edits es)
