@@ -1,0 +1,4 @@
+pub mod FormLaws
+pub mod UndoneLaws
+pub mod EventLaws
+pub mod Applied

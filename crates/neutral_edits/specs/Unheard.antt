@@ -1,0 +1,24 @@
+-- Neutral edits change no sound.
+use Rattle.std.specs.Prelude.{◌≡◌, true, List}
+use Rattle.bank_parts.specs.declared.parts.Parts.{Parts}
+use Rattle.bank_parts.specs.Sound.{IsSound}
+use Rattle.note_list.specs.Notes.{Numbers}
+use Rattle.edit_forms.specs.declared.edit.Edit.{Edit}
+use Rattle.edit_refusals.specs.Edits.{raw}
+use Rattle.bank_edits.specs.EditChanges.{inverse}
+use Rattle.inverse_edits.specs.Undone.{IsTaken}
+use Rattle.zone_select.specs.Alike.{AreAlike}
+use Rattle.mixer.specs.Render.{render}
+use Rattle.neutral_edits.specs.Neutral.{is_neutral}
+
+-- the changed bank gives each note the same voices
+abbrev pub NeutralAlike : Type 0
+NeutralAlike = (b : Parts) (e : Edit) → IsSound b → IsTaken b e → is_neutral e ≡ true → AreAlike b (raw b e)
+
+-- it renders all notes the same
+abbrev pub NeutralRender : Type 0
+NeutralRender = (b : Parts) (e : Edit) → IsSound b → IsTaken b e → is_neutral e ≡ true → (ns : List Numbers) → render (raw b e) ns ≡ render b ns
+
+-- what takes a neutral edit back is neutral
+abbrev pub NeutralUndone : Type 0
+NeutralUndone = (b : Parts) (e : Edit) → is_neutral e ≡ true → is_neutral (inverse b e) ≡ true

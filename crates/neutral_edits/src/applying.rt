@@ -1,0 +1,39 @@
+//! One neutral edit, done or refused.
+ghost use Rattle.std.specs.Prelude.{◌≡◌, true, None, List, MatchResult, IsOk, IfOk, OnOk};
+ghost use Rattle.bank_parts.specs.Sound.{IsSound};
+ghost use Rattle.note_list.specs.Notes.{Numbers};
+ghost use Rattle.edit_forms.specs.Fits.{FitsEdit};
+ghost use Rattle.edit_refusals.specs.Edits.{refusal};
+ghost use Rattle.bank_edits.specs.EditChanges.{IsDone, IsRefused, NeedsNoMemory};
+ghost use Rattle.zone_select.specs.Alike.{AreAlike};
+ghost use Rattle.mixer.specs.Render.{render};
+ghost use Rattle.neutral_edits.specs.Neutral as table;
+
+use bank_core::Bank;
+use bank_edits::apply;
+use edit_forms::Edit;
+use edit_refusals::Refusal;
+use std::alloc::Global;
+
+/// Does a neutral edit, as `apply` does: it answers the edit that takes it back, or refuses it, hands it
+/// back, and changes nothing. All notes sound the same in the bank that it leaves: each has the same
+/// voices, in some order. What takes the edit back is neutral too.
+pub fn apply_neutral<'a>(
+    alloc: Global,
+    bank: &mut Bank<'a>,
+    edit: Edit<'a>,
+) -> Result<Edit<'a>, (Refusal, Edit<'a>)>
+    requires { table.is_neutral edit ≡ true }
+    ensures outcome { MatchResult result (λ back. IsDone bank.old bank.new edit.entry back)
+        (λ refused. IsRefused bank.old bank.new edit.entry refused.0 refused.1) }
+    ensures no_memory { NeedsNoMemory edit.entry → refusal bank.old edit.entry ≡ None → IsOk result }
+    ensures was_sound { IsSound bank.old }
+    ensures sound { IsSound bank.new }
+    ensures fits { FitsEdit edit.entry }
+    ensures back_fits { IfOk result FitsEdit }
+    ensures alike { OnOk result (AreAlike bank.old bank.new) }
+    ensures same { OnOk result ((ns : List Numbers) → render bank.new ns ≡ render bank.old ns) }
+    ensures back_neutral { IfOk result (λ back. table.is_neutral back ≡ true) }
+{
+    apply(alloc, bank, edit)
+}

@@ -1,0 +1,22 @@
+//! The laws of neutral edits, over banks and edits as data.
+ghost use Rattle.neutral_edits.specs.Unheard.{NeutralAlike, NeutralRender, NeutralUndone};
+ghost use Rattle.neutral_edits.specs.Events.{NeutralBlocks, NeutralHeard};
+
+/// Where a bank is sound and takes a neutral edit, the changed bank gives each note the same voices, in
+/// some order, and renders all notes the same. It does nothing.
+pub fn neutral_edits_change_no_sound()
+    ensures alike { NeutralAlike }
+    ensures same { NeutralRender }
+{}
+
+/// Where a bank is sound and all edits between note starts and blocks are neutral, and taken in their
+/// turn, the edits are neither heard nor in the blocks of a player. It does nothing.
+pub fn neutral_edits_are_not_heard()
+    ensures heard { NeutralHeard }
+    ensures blocks { NeutralBlocks }
+{}
+
+/// What takes a neutral edit back is neutral. It does nothing.
+pub fn neutral_edits_undo_neutrally()
+    ensures { NeutralUndone }
+{}

@@ -1,0 +1,12 @@
+//! Edits that change no sound: which they are, and the call and the laws that say so.
+#![tactic(auto)]
+
+mod applying;
+mod forms;
+mod laws;
+
+pub use applying::apply_neutral;
+pub use forms::is_neutral;
+pub use laws::{
+    neutral_edits_are_not_heard, neutral_edits_change_no_sound, neutral_edits_undo_neutrally,
+};
