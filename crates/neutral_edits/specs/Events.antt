@@ -34,8 +34,12 @@ AreNeutral b (Given m ∷ es) = AreNeutral b es
 
 -- what is heard is what is heard of the events without the edits
 abbrev pub NeutralHeard : Type 0
-NeutralHeard = (b : Parts) (es : List Event) → IsSound b → AreNeutral b es → heard b (events_of b es) ≡ heard b (without_edits (events_of b es))
+NeutralHeard =
+    (b : Parts) (es : List Event) → IsSound b → AreNeutral b es
+    → heard b (events_of b es) ≡ heard b (without_edits (events_of b es))
 
 -- so are the blocks of a player, whatever it plays when the first of the events comes
 abbrev pub NeutralBlocks : Type 0
-NeutralBlocks = (b : Parts) (ps : List Playing) (es : List Event) → IsSound b → AreNeutral b es → blocks b ps (events_of b es) ≡ blocks b ps (without_edits (events_of b es))
+NeutralBlocks =
+    (b : Parts) (ps : List Playing) (es : List Event) → IsSound b → AreNeutral b es
+    → blocks b ps (events_of b es) ≡ blocks b ps (without_edits (events_of b es))

@@ -17,8 +17,10 @@ NeutralAlike = (b : Parts) (e : Edit) → IsSound b → IsTaken b e → is_neutr
 
 -- it renders all notes the same
 abbrev pub NeutralRender : Type 0
-NeutralRender = (b : Parts) (e : Edit) → IsSound b → IsTaken b e → is_neutral e ≡ true → (ns : List Numbers) → render (raw b e) ns ≡ render b ns
+NeutralRender =
+    (b : Parts) (e : Edit) → IsSound b → IsTaken b e → is_neutral e ≡ true
+    → (ns : List Numbers) → render (raw b e) ns ≡ render b ns
 
 -- what takes a neutral edit back is neutral
-abbrev pub NeutralUndone : Type 0
-NeutralUndone = (b : Parts) (e : Edit) → is_neutral e ≡ true → is_neutral (inverse b e) ≡ true
+abbrev pub InversesAreNeutral : Type 0
+InversesAreNeutral = (b : Parts) (e : Edit) → is_neutral e ≡ true → is_neutral (inverse b e) ≡ true

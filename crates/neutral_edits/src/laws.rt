@@ -1,5 +1,5 @@
 //! The laws of neutral edits, over banks and edits as data.
-ghost use Rattle.neutral_edits.specs.Unheard.{NeutralAlike, NeutralRender, NeutralUndone};
+ghost use Rattle.neutral_edits.specs.Unheard.{InversesAreNeutral, NeutralAlike, NeutralRender};
 ghost use Rattle.neutral_edits.specs.Events.{NeutralBlocks, NeutralHeard};
 
 /// Where a bank is sound and takes a neutral edit, the changed bank gives each note the same voices, in
@@ -17,6 +17,6 @@ pub fn neutral_edits_are_not_heard()
 {}
 
 /// What takes a neutral edit back is neutral. It does nothing.
-pub fn neutral_edits_undo_neutrally()
-    ensures { NeutralUndone }
+pub fn inverses_are_neutral()
+    ensures { InversesAreNeutral }
 {}

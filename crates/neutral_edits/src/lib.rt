@@ -7,6 +7,4 @@ mod laws;
 
 pub use applying::apply_neutral;
 pub use forms::is_neutral;
-pub use laws::{
-    neutral_edits_are_not_heard, neutral_edits_change_no_sound, neutral_edits_undo_neutrally,
-};
+pub use laws::{inverses_are_neutral, neutral_edits_are_not_heard, neutral_edits_change_no_sound};
