@@ -1,8 +1,8 @@
 //! The program: its words, its files, the lines of its faults, and its statuses.
 
 use sf_base::{Failure, front_of};
-use sfbank::RunFault;
-use sfbank_program::{InputFault, fault_text, read_whole, run};
+use sfbank::{RunFault, run};
+use sfbank_program::{InputFault, fault_text, read_whole};
 use std::alloc::AllocError;
 use std::io::{ErrorKind, Read, Write};
 use std::test::Fail;

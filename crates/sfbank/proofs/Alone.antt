@@ -18,12 +18,12 @@ use Rattle.line_tokens.specs.declared.fault.ScriptFault.{ScriptFault}
 use Rattle.edit_script.specs.Script.{script_of}
 use Rattle.edit_script.proofs.LineLaws.{printed_spell}
 use Rattle.bank_listing.specs.Listing.{listing}
-use Rattle.sfbank.specs.declared.fault.RunFault.{RunFault}
-use Rattle.sfbank.specs.declared.fault.RunFault.TheVariants as run
-use Rattle.sfbank.specs.declared.fault.Which.TheVariants.{Out}
+use Rattle.sfbank_program.specs.declared.run_fault.RunFault.{RunFault}
+use Rattle.sfbank_program.specs.declared.run_fault.RunFault.TheVariants as run
+use Rattle.sfbank_program.specs.declared.run_fault.Which.TheVariants.{Out}
 use Rattle.sfbank.specs.Outcome.{after_script, after_reading, bank_in, counts_in, outcome, canon_outcome, show_outcome, without_undo, IsEmptyEdit, IsFixed}
 use Rattle.sfbank.specs.Written.{GoesOut, RunsAlone}
-use Rattle.sfbank.specs.Planned.{in_run}
+use Rattle.sfbank_program.specs.RunFaults.{in_run}
 use Rattle.sfbank.proofs.Restores.{reading_done}
 
 -- ---- a file that can't be read

@@ -16,11 +16,12 @@ use Rattle.line_tokens.specs.Pool as scripts
 use Rattle.edit_script.specs.declared.parsing.Line.{Line}
 use Rattle.edit_script.specs.Script.{script_of}
 use Rattle.edit_script.specs.Printing.{texts_of}
-use Rattle.sfbank.specs.declared.fault.RunFault.{RunFault}
-use Rattle.sfbank.specs.declared.fault.RunFault.TheVariants as run
+use Rattle.sfbank_program.specs.declared.run_fault.RunFault.{RunFault}
+use Rattle.sfbank_program.specs.declared.run_fault.RunFault.TheVariants as run
 use Rattle.sfbank.specs.Outcome.{Done, edits_of, RefusedLine, first_refused, both_texts, unless_refused, after_script, after_reading, bank_in, outcome}
 use Rattle.sfbank.specs.Written.{FailsBefore}
-use Rattle.sfbank.specs.Planned.{AllApplied, StopsAtLine, in_run}
+use Rattle.sfbank.specs.Planned.{AllApplied, StopsAtLine}
+use Rattle.sfbank_program.specs.RunFaults.{in_run}
 
 -- ---- the file's fault
 

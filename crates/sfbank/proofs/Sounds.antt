@@ -21,12 +21,12 @@ use Rattle.note_list.specs.declared.fault.NoteFault.{NoteFault}
 use Rattle.note_list.specs.Notes.{Numbers, notes_of}
 use Rattle.mixer.specs.Render.{render, IsRendered}
 use Rattle.wave_file.specs.Wave.{wave, FitsWave}
-use Rattle.sfbank.specs.declared.fault.RunFault.{RunFault}
-use Rattle.sfbank.specs.declared.fault.RunFault.TheVariants as run
-use Rattle.sfbank.specs.declared.fault.Which.TheVariants.{Out}
+use Rattle.sfbank_program.specs.declared.run_fault.RunFault.{RunFault}
+use Rattle.sfbank_program.specs.declared.run_fault.RunFault.TheVariants as run
+use Rattle.sfbank_program.specs.declared.run_fault.Which.TheVariants.{Out}
 use Rattle.sfbank.specs.Outcome.{Done, after_script, after_reading, bank_in, outcome, canon_outcome, after_notes, play_outcome, SoundsAgain, SoundsInCanon}
 use Rattle.sfbank.specs.Written.{GoesOut, RunsAlone}
-use Rattle.sfbank.specs.Planned.{in_run}
+use Rattle.sfbank_program.specs.RunFaults.{in_run}
 use Rattle.sfbank.proofs.Alone.{not_read, sent_text}
 use Rattle.sfbank.proofs.Restores.{reading_done, restores}
 

@@ -2,8 +2,8 @@
 use Rattle.std.proofs.Common.{ℕ, List, Option, Result, Ok, Err, refl}
 use Rattle.outputs.specs.declared.writing.WriteFault.{WriteFault}
 use Rattle.outputs.specs.Writing as writing
-use Rattle.sfbank.specs.declared.fault.RunFault.{RunFault}
-use Rattle.sfbank.specs.declared.fault.Which.{Which}
+use Rattle.sfbank_program.specs.declared.run_fault.RunFault.{RunFault}
+use Rattle.sfbank_program.specs.declared.run_fault.Which.{Which}
 use Rattle.sfbank.specs.Written.{GoesOut, IsTold}
 
 pub text_goes_out : {U : Type 0} (which : Which) (old new : Option (List ℕ)) (text : List ℕ) (delivered : Result ℕ WriteFault) (r : Result U RunFault)

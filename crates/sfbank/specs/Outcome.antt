@@ -20,8 +20,8 @@ use Rattle.note_list.specs.declared.fault.NoteFault.{NoteFault}
 use Rattle.note_list.specs.Notes.{Numbers, notes_of}
 use Rattle.mixer.specs.Render.{render}
 use Rattle.wave_file.specs.Wave.{wave}
-use Rattle.sfbank.specs.declared.fault.RunFault.{RunFault}
-use Rattle.sfbank.specs.declared.fault.RunFault.TheVariants as run
+use Rattle.sfbank_program.specs.declared.run_fault.RunFault.{RunFault}
+use Rattle.sfbank_program.specs.declared.run_fault.RunFault.TheVariants as run
 
 -- both texts of a run that is done
 pub record Done : Type 0 where

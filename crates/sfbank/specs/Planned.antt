@@ -1,19 +1,12 @@
 -- The parts of a run, before a byte goes out.
 use Rattle.std.specs.Prelude.{◌≡◌, List, Option, Some, None}
-use Rattle.sf_base.specs.declared.memory.Failure.{Failure}
-use Rattle.sf_base.specs.declared.memory.Failure.TheVariants as failures
 use Rattle.bank_parts.specs.declared.parts.Parts.{Parts}
 use Rattle.edit_forms.specs.declared.edit.Edit.{Edit}
 use Rattle.inverse_edits.specs.Runs.{after_all, undo_list}
 use Rattle.edit_script.specs.declared.parsing.Line.{Line}
-use Rattle.sfbank.specs.declared.fault.RunFault.{RunFault}
-use Rattle.sfbank.specs.declared.fault.RunFault.TheVariants as run
+use Rattle.sfbank_program.specs.declared.run_fault.RunFault.{RunFault}
+use Rattle.sfbank_program.specs.declared.run_fault.RunFault.TheVariants as run
 use Rattle.sfbank.specs.Outcome.{edits_of, RefusedLine, first_refused}
-
--- what a failure of a part is in a run
-abbrev pub in_run : {F : Type 0} → (F → RunFault) → Failure F → RunFault
-in_run told (failures.Fault fault) = told fault
-in_run told failures.OutOfMemory = run.Memory
 
 -- the first refused line, or want of memory
 abbrev pub StopsAtLine : RunFault → Option RefusedLine → Type 0

@@ -2,10 +2,10 @@
 use Rattle.std.specs.Prelude.{◌≡◌, ◌≤◌, ℕ, List, length, take, Option, Result, Ok, Err}
 use Rattle.std.specs.Io.KnownBytes.{Appends, Keeps}
 use Rattle.outputs.specs.declared.writing.WriteFault.{WriteFault}
-use Rattle.sfbank.specs.declared.fault.RunFault.{RunFault}
-use Rattle.sfbank.specs.declared.fault.RunFault.TheVariants as run
-use Rattle.sfbank.specs.declared.fault.Which.{Which}
-use Rattle.sfbank.specs.declared.fault.Which.TheVariants.{Out, Undo}
+use Rattle.sfbank_program.specs.declared.run_fault.RunFault.{RunFault}
+use Rattle.sfbank_program.specs.declared.run_fault.RunFault.TheVariants as run
+use Rattle.sfbank_program.specs.declared.run_fault.Which.{Which}
+use Rattle.sfbank_program.specs.declared.run_fault.Which.TheVariants.{Out, Undo}
 use Rattle.sfbank.specs.Outcome.{Done}
 
 -- a writer's fault is told with its text and its count
@@ -21,8 +21,7 @@ pub record Writers : Type 0 where
   pub undo : Option (List ℕ)
   pub undo_new : Option (List ℕ)
 
--- One text goes out whole and is flushed; or exactly a front of it does, all of it where the flush
--- failed.
+-- One text goes out whole; or with the writer's fault exactly so many bytes of its front do, which may be all.
 abbrev pub GoesOut : {U : Type 0} → Which → Option (List ℕ) → Option (List ℕ) → List ℕ → Result U RunFault → Type 0
 GoesOut which old new text (Ok u) = Appends old new text
 GoesOut which old new text (Err (run.Write at n)) = (at ≡ which) × (n ≤ length text) × Appends old new (take n text)
@@ -32,9 +31,9 @@ GoesOut which old new text (Err fault) = ⊥
 abbrev pub Untouched : Writers → Type 0
 Untouched w = Keeps w.out w.out_new × Keeps w.undo w.undo_new
 
--- Both texts go out whole and are flushed. Or the first writer's fault: exactly a front of the first
--- text went out, all of it where the flush failed, and nothing of the second. Or the second writer's:
--- the first text went out whole and was flushed, and exactly a front of the second.
+-- Both texts go out whole. Or the first writer's fault: exactly so many bytes of the first text's front went out,
+-- which may be all, and nothing of the second. Or the second writer's: the first text went out whole, and exactly so
+-- many bytes of the second's front, which may be all.
 abbrev pub Delivers : {U : Type 0} → Writers → Done → Result U RunFault → Type 0
 Delivers w done (Ok u) = Appends w.out w.out_new done.out × Appends w.undo w.undo_new done.undo
 Delivers w done (Err (run.Write Out n)) = (n ≤ length done.out) × Appends w.out w.out_new (take n done.out) × Keeps w.undo w.undo_new

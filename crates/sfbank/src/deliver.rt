@@ -5,11 +5,10 @@ ghost use Rattle.bank_format.specs.Canon.{canon};
 ghost use Rattle.bank_listing.specs.Listing.{listing};
 ghost use Rattle.edit_script.specs.Printing.{texts_of};
 ghost use Rattle.wave_file.specs.Wave.{FitsWave, wave};
-ghost use Rattle.sfbank.specs.declared.fault.Which.TheVariants.{Out, Undo};
+ghost use Rattle.sfbank_program.specs.declared.run_fault.Which.TheVariants.{Out, Undo};
 ghost use Rattle.sfbank.specs.Written.{Delivers, GoesOut, IsTold};
 ghost use Rattle.sfbank.specs.Plans.{planned};
 
-use crate::fault::{RunFault, Which};
 use crate::plan::Plan;
 use bank_core::Bank;
 use bank_format::Counts;
@@ -18,6 +17,7 @@ use edit_forms::Edit;
 use edit_script::put_edit;
 use outputs::{Output, WriteFault};
 use sf_writer::put_bank;
+use sfbank_program::{RunFault, Which};
 use std::io::Write;
 use wave_file::put_wave;
 

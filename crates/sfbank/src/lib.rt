@@ -1,18 +1,20 @@
 //! Bytes in to bytes out: a bank and a script of edits go in, the edited bank and the script that
 //! takes the edits back come out; a bank goes in, and its canonical file or its listing comes out; or a
-//! bank and notes go in, and a WAVE file comes out.
+//! bank and notes go in, and a WAVE file comes out. The program is these runs on the files that its words
+//! name: words in, an exit status out.
 #![tactic(auto)]
 
 mod canon;
 mod deliver;
-mod fault;
+mod edit;
 mod plan;
 mod play;
-mod run;
+mod program;
 mod show;
 
 pub use canon::canon_run;
-pub use fault::{RunFault, Which};
+pub use edit::edit_run;
 pub use play::play_run;
-pub use run::edit_run;
+pub use program::{run, run_with_arguments};
+pub use sfbank_program::{RunFault, Which};
 pub use show::show_run;

@@ -7,12 +7,12 @@ ghost use Rattle.sfbank.specs.Written.{Plans};
 ghost use Rattle.sfbank.specs.Planned.{AllApplied, StopsAtLine};
 ghost use Rattle.sfbank.specs.Plans.{planned};
 
-use crate::fault::RunFault;
 use bank_core::Bank;
 use bank_edits::apply;
 use edit_forms::Edit;
 use edit_refusals::Refusal;
 use edit_script::{Line, parse};
+use sfbank_program::RunFault;
 use std::alloc::Global;
 
 /// The edited bank, and the edits that take its edits back, the last one's first. They borrow from the

@@ -3,10 +3,10 @@ ghost use Rattle.sfbank.specs.Outcome.{play_outcome, SoundsInCanon};
 ghost use Rattle.sfbank.specs.Written.{RunsAlone};
 
 use crate::deliver::deliver_wave;
-use crate::fault::RunFault;
 use mixer::render;
 use note_list::parse_notes;
 use sf_reader::read;
+use sfbank_program::RunFault;
 use std::alloc::Global;
 use std::io::Write;
 

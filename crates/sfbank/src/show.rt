@@ -3,8 +3,8 @@ ghost use Rattle.sfbank.specs.Outcome.{show_outcome};
 ghost use Rattle.sfbank.specs.Written.{RunsAlone};
 
 use crate::deliver::deliver_listing;
-use crate::fault::RunFault;
 use sf_reader::read;
+use sfbank_program::RunFault;
 use std::alloc::Global;
 use std::io::Write;
 

@@ -2,7 +2,7 @@
 //! comes back.
 #![tactic(auto)]
 
-use sfbank_program::run_with_arguments;
+use sfbank::run_with_arguments;
 use std::process::ExitCode;
 
 fn main(rt: HostRuntime) -> ExitCode {

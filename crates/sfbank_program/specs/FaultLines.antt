@@ -13,8 +13,8 @@ use Rattle.edit_refusals.specs.declared.cause.Cause.{Cause}
 use Rattle.edit_refusals.specs.declared.refusal.Refusal.{Refusal}
 use Rattle.edit_refusals.specs.declared.refusal.Refusal.TheVariants.{Of, OutOfMemory, NothingToUndo, NothingToRedo, GroupRefused}
 use Rattle.edit_refusals.specs.CauseNames as causes
-use Rattle.sfbank.specs.declared.fault.RunFault.{RunFault}
-use Rattle.sfbank.specs.declared.fault.RunFault.TheVariants.{Read, Script, Refused, Notes, Write, Memory}
+use Rattle.sfbank_program.specs.declared.run_fault.RunFault.{RunFault}
+use Rattle.sfbank_program.specs.declared.run_fault.RunFault.TheVariants.{Read, Script, Refused, Notes, Write, Memory}
 
 abbrev pub read_line : ReadFault → List ℕ
 read_line fault = concat (codes "sfbank: read fault " ∷ decimal (reading.number_of fault) ∷ codes " " ∷ reading.name_of fault ∷ codes "\n" ∷ [])

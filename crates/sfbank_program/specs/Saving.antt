@@ -1,9 +1,9 @@
 -- How an output file is written and ends.
 use Rattle.std.specs.Prelude.{◌≡◌, ◌+◌, ◌-◌, ◌^◌, ℕ, Result, Ok, Err, min, ⊤, ◌⊎◌}
-use Rattle.sfbank.specs.declared.fault.RunFault.{RunFault}
-use Rattle.sfbank.specs.declared.fault.RunFault.TheVariants.{Write}
-use Rattle.sfbank.specs.declared.fault.Which.{Which}
-use Rattle.sfbank.specs.declared.fault.Which.TheVariants.{Out, Undo}
+use Rattle.sfbank_program.specs.declared.run_fault.RunFault.{RunFault}
+use Rattle.sfbank_program.specs.declared.run_fault.RunFault.TheVariants.{Write}
+use Rattle.sfbank_program.specs.declared.run_fault.Which.{Which}
+use Rattle.sfbank_program.specs.declared.run_fault.Which.TheVariants.{Out, Undo}
 
 -- What was taken before, and after a write: the bytes that it took more, up to what a count can hold.
 abbrev pub Counts : {E : Type 0} → Result ℕ E → ℕ → ℕ → Type 0

@@ -1,13 +1,13 @@
 //! How a command ends that is not done.
-use sfbank::RunFault;
+use crate::run_fault::RunFault;
 use std::alloc::AllocError;
 
 /// The path by which the standard output is named in a fault.
-pub(crate) const STANDARD_OUTPUT: &str = "-";
+pub const STANDARD_OUTPUT: &str = "-";
 
 /// Why the program is not done.
 #[derive(Drop)]
-pub(crate) enum Fault<'a> {
+pub enum Fault<'a> {
     /// The words are refused, by clap's text.
     Words(clap::Error),
     /// A word is not text.

@@ -5,12 +5,12 @@ ghost use Rattle.outputs.specs.Writing.{Writes};
 ghost use Rattle.sample_view.specs.Pieces.{joined_bytes};
 ghost use Rattle.sfbank_program.specs.FaultLines.{fault_line, status_of, read_line, text_line, refused_line, refusal_text, detail_text, step_text, limit_text, write_line, file_line};
 
+use crate::run_fault::RunFault;
 use bank_format::ReadFault;
 use bank_validity::Limit;
 use edit_refusals::{Cause, Refusal};
 use itoa::Buffer;
 use outputs::{Output, WriteFault};
-use sfbank::RunFault;
 use std::io::Write;
 
 /// Writes the line of a run's fault, with its line feed, and gives the exit status that goes with it.

@@ -6,9 +6,9 @@ ghost use Rattle.sf_base.specs.declared.memory.Failure.TheVariants.{Fault as Fau
 ghost use Rattle.sfbank_program.specs.declared.input.InputFault.TheVariants.{TooLong, Unreadable};
 
 use crate::fault::Fault;
+use crate::run_fault::RunFault;
 use sf_base::Failure;
 use sf_base::limits::FILE_LENGTH;
-use sfbank::RunFault;
 use std::alloc::{AllocError, Global};
 use std::fs::{File, OpenFile};
 use std::io::Read;
@@ -105,10 +105,7 @@ fn read_at<R: Read>(input: &mut R, buffer: &mut [u8], at: usize) -> Result<usize
 }
 
 /// Reads the file at a path whole.
-pub(crate) fn read_file<'a, R: Files + AllocGlobal>(
-    rt: &R,
-    path: &'a str,
-) -> Result<Vec<u8>, Fault<'a>> {
+pub fn read_file<'a, R: Files + AllocGlobal>(rt: &R, path: &'a str) -> Result<Vec<u8>, Fault<'a>> {
     let Ok(mut file) = File::open(rt, path) else {
         return Err(Fault::File(path));
     };

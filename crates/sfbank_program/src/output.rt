@@ -3,11 +3,11 @@
 ghost use Rattle.std.specs.Prelude.{◌≡◌, IfOk, IfErr, OnOk, IsSome, None};
 ghost use Rattle.std.specs.Io.{WritesAtMost};
 ghost use Rattle.std.specs.Io.KnownBytes.{WriteAppends, Keeps};
-ghost use Rattle.sfbank.specs.declared.fault.RunFault.TheVariants as run;
-ghost use Rattle.sfbank_program.specs.Saving.{Counts, EndsAs};
+ghost use Rattle.sfbank_program.specs.declared.run_fault.RunFault.TheVariants as run;
+ghost use Rattle.sfbank_program.specs.Saving.{BothEnd, Counts, EndsAs};
 
 use crate::replacement::{Replacement, sync_folder};
-use sfbank::{RunFault, Which};
+use crate::run_fault::{RunFault, Which};
 use std::alloc::AllocError;
 use std::fs::{File, OpenFile};
 use std::io::{ErrorKind, Write};
@@ -72,14 +72,14 @@ impl<R: Files> OutputFile<'_, R> {
     }
 
     /// Leaves what is there as it is, and no new file beside it.
-    pub(crate) fn discard(&self) {
+    fn discard(&self) {
         if let Some(replacement) = &self.replacement {
             replacement.remove(self.rt);
         }
     }
 
     /// Whether a new file is to take the place of one that is there.
-    pub(crate) fn replaces(&self) -> bool {
+    fn replaces(&self) -> bool {
         match &self.replacement {
             Some(replacement) => replacement.is_made(),
             None => false,
@@ -87,7 +87,7 @@ impl<R: Files> OutputFile<'_, R> {
     }
 
     /// Syncs what is written so far, where that is kept at all: a device or a pipe has nothing to sync.
-    pub(crate) fn sync(&self, which: Which) -> Result<(), RunFault>
+    fn sync(&self, which: Which) -> Result<(), RunFault>
         ensures { IfErr result (λ fault. fault ≡ run.Write which self.now.written) }
     {
         let Some(file) = &self.file else {
@@ -105,12 +105,9 @@ impl<R: Files> OutputFile<'_, R> {
     }
 
     /// Whether two outputs are at one file, by whatever names.
-    pub(crate) fn is_with(&self, other: &OutputFile<'_, R>) -> bool {
-        match (
-            fs::metadata(self.rt, self.path),
-            fs::metadata(other.rt, other.path),
-        ) {
-            (Ok(one), Ok(other)) => one.dev() == other.dev() && one.ino() == other.ino(),
+    fn is_with(&self, other: &OutputFile<'_, R>) -> bool {
+        match (place_of(self.rt, self.path), place_of(other.rt, other.path)) {
+            (Some(one), Some(other)) => one == other,
             _ => false,
         }
     }
@@ -153,4 +150,34 @@ impl<R: Files> Write for OutputFile<'_, R> {
         self.file = Some(file);
         flushed
     }
+}
+
+/// The device and the number of the file that a path names, by which it is known under each of its names.
+fn place_of<R: Files>(rt: &R, path: &str) -> Option<(u64, u64)> {
+    match fs::metadata(rt, path) {
+        Ok(found) => Some((found.dev(), found.ino())),
+        Err(_) => None,
+    }
+}
+
+/// Ends both outputs as the run ended. The undo text comes first, and is on the disk before the bank
+/// takes the place of another: that may be the one that was read, which is never without its way back.
+pub fn end_both<R: Files>(
+    out: OutputFile<'_, R>,
+    undo: OutputFile<'_, R>,
+    run: Result<(), RunFault>,
+) -> Result<(), RunFault>
+    ensures { BothEnd out.entry.written undo.entry.written run result }
+{
+    if out.is_with(&undo) {
+        // Of two texts in one file the undo text was written last.
+        out.discard();
+        return undo.end(Which::Undo, run);
+    }
+    let mut run = run;
+    if run.is_ok() && out.replaces() {
+        run = undo.sync(Which::Undo);
+    }
+    let undone = undo.end(Which::Undo, run);
+    out.end(Which::Out, undone)
 }

@@ -12,7 +12,7 @@ use std::convert::AsStr;
 const NAME: &str = "sfbank";
 
 /// What the words ask for.
-pub(crate) enum Request<'a> {
+pub enum Request<'a> {
     /// Run a script on a bank.
     Apply(ApplyPaths<'a>),
     /// Write a bank in its one spelling.
@@ -25,34 +25,31 @@ pub(crate) enum Request<'a> {
 
 /// The paths of `apply`.
 #[derive(Clone, Copy)]
-pub(crate) struct ApplyPaths<'a> {
-    pub(crate) input: &'a str,
-    pub(crate) script: &'a str,
-    pub(crate) out: &'a str,
-    pub(crate) undo: &'a str,
+pub struct ApplyPaths<'a> {
+    pub input: &'a str,
+    pub script: &'a str,
+    pub out: &'a str,
+    pub undo: &'a str,
 }
 
 /// The paths of `canon`.
 #[derive(Clone, Copy)]
-pub(crate) struct CanonPaths<'a> {
-    pub(crate) input: &'a str,
-    pub(crate) out: &'a str,
+pub struct CanonPaths<'a> {
+    pub input: &'a str,
+    pub out: &'a str,
 }
 
 /// The paths of `play`.
 #[derive(Clone, Copy)]
-pub(crate) struct PlayPaths<'a> {
-    pub(crate) input: &'a str,
-    pub(crate) notes: &'a str,
-    pub(crate) out: &'a str,
+pub struct PlayPaths<'a> {
+    pub input: &'a str,
+    pub notes: &'a str,
+    pub out: &'a str,
 }
 
 /// What the words ask for. The first word is the program's name. Asking for help or the version is
 /// an error of clap's, which has their text.
-pub(crate) fn request_of<'a, S: AsStr>(
-    alloc: Global,
-    words: &'a [S],
-) -> Result<Request<'a>, Error> {
+pub fn request_of<'a, S: AsStr>(alloc: Global, words: &'a [S]) -> Result<Request<'a>, Error> {
     let mut command = sfbank_command(alloc)?;
     let matches = command.try_get_matches_from_mut(words)?;
     match chosen(&matches) {

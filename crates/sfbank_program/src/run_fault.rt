@@ -1,11 +1,11 @@
 //! How a run ends that is not done.
 ghost use Rattle.std.specs.Prelude.{◌≡◌};
-ghost use Rattle.sfbank.specs.declared.fault.RunFault.TheVariants.{Read, Script, Notes, Memory};
-ghost use Rattle.sfbank.specs.Planned.{in_run};
+ghost use Rattle.sfbank_program.specs.declared.run_fault.RunFault.TheVariants.{Read, Script, Notes, Memory};
+ghost use Rattle.sfbank_program.specs.RunFaults.{in_run};
 
 use bank_format::ReadFault;
 use edit_refusals::Refusal;
-use edit_script::ScriptFault;
+use line_tokens::ScriptFault;
 use note_list::NoteFault;
 use sf_base::{Failure, OutOfMemory};
 use std::alloc::AllocFailed;

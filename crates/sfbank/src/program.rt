@@ -1,16 +1,18 @@
 //! From words to an exit status.
 ghost use Rattle.sfbank_program.specs.Telling.{Ends};
 
-use crate::apply::apply;
-use crate::canon::canon;
-use crate::fault::{Fault, STANDARD_OUTPUT};
-use crate::play::play;
-use crate::show::show;
-use crate::telling::tell;
-use crate::words::{Request, request_of};
+mod apply;
+mod canon;
+mod play;
+mod show;
+
+use apply::apply;
+use canon::canon;
 use clap::error::ErrorKind;
 use outputs::Output;
-use sfbank::{RunFault, Which};
+use play::play;
+use sfbank_program::{Fault, Request, RunFault, STANDARD_OUTPUT, Which, request_of, tell};
+use show::show;
 use std::alloc::{AllocError, Global};
 use std::convert::AsStr;
 use std::env::Env;

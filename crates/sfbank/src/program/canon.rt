@@ -1,9 +1,6 @@
 //! The command `canon`.
-use crate::fault::Fault;
-use crate::input::read_file;
-use crate::output::OutputFile;
-use crate::words::CanonPaths;
-use sfbank::{Which, canon_run};
+use crate::canon::canon_run;
+use sfbank_program::{CanonPaths, Fault, OutputFile, Which, read_file};
 use std::rt::Files;
 
 /// Writes a bank in its one spelling. It is read whole first, so the output may be the input.

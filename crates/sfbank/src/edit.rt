@@ -4,10 +4,10 @@ ghost use Rattle.sfbank.specs.Outcome.{outcome, IsUndone, SoundsAgain};
 ghost use Rattle.sfbank.specs.Written.{Runs};
 
 use crate::deliver::deliver;
-use crate::fault::RunFault;
 use crate::plan::make_plan;
 use edit_script::pool_of;
 use sf_reader::read;
+use sfbank_program::RunFault;
 use std::alloc::Global;
 use std::io::Write;
 

@@ -1,9 +1,6 @@
 //! The command `play`.
-use crate::fault::Fault;
-use crate::input::read_file;
-use crate::output::OutputFile;
-use crate::words::PlayPaths;
-use sfbank::{Which, play_run};
+use crate::play::play_run;
+use sfbank_program::{Fault, OutputFile, PlayPaths, Which, read_file};
 use std::rt::Files;
 
 /// Plays the notes on the bank. Both are read whole first, so the output may be one of them.

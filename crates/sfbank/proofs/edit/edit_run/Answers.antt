@@ -6,7 +6,7 @@ use Rattle.sfbank.proofs.Endings.{ends_early, ends_with}
 use Rattle.sfbank.proofs.Faults.{at_read, at_bank, at_script, pool_fails}
 use Rattle.sfbank.proofs.Restores.{are_bytes, restores}
 use Rattle.sfbank.proofs.Sounds.{sounds_again}
-use Rattle.sfbank.proofs.run.edit_run.Goals as goal
+use Rattle.sfbank.proofs.edit.edit_run.Goals as goal
 
 -- ---- what goes out
 

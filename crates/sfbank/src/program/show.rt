@@ -1,7 +1,6 @@
 //! The command `show`.
-use crate::fault::{Fault, STANDARD_OUTPUT};
-use crate::input::read_file;
-use sfbank::show_run;
+use crate::show::show_run;
+use sfbank_program::{Fault, STANDARD_OUTPUT, read_file};
 use std::io::Write;
 use std::rt::Files;
 
