@@ -46,6 +46,7 @@ my @shells = (
     # Too long by a byte, and without an end.
     ['"$0" canon over out', 5, 'file fault over'],
     ['"$0" apply empty /dev/zero out undo', 5, 'file fault /dev/zero'],
+    ['"$0" apply --neutral empty /dev/zero out undo', 5, 'file fault /dev/zero'],
     ['"$0" play empty /dev/zero out', 5, 'file fault /dev/zero'],
     # A fault of IN comes before what another input is.
     ['"$0" apply none over out undo', 5, 'file fault none'],
@@ -58,6 +59,7 @@ my @shells = (
     ['ulimit -v 200000; "$0" show /dev/zero', 6, 'out of memory'],
     ['ulimit -v 200000; "$0" apply empty /dev/zero out undo', 6, 'out of memory'],
     ['ulimit -v 200000; "$0" apply empty over out undo', 6, 'out of memory'],
+    ['ulimit -v 200000; "$0" apply --neutral empty over out undo', 6, 'out of memory'],
     ['ulimit -v 200000; "$0" play empty /dev/zero out', 6, 'out of memory'],
     ['ulimit -v 100000; "$0" play voices note out', 6, 'out of memory'],
     ['ulimit -v 100000; "$0" play empty late out', 6, 'out of memory'],

@@ -154,6 +154,14 @@ sub try_groups {
     tell('48 is met by a row', $met{48} ? undef : 'it is not');
 }
 
+# Neutral edits, whose way back is neutral too.
+sub try_neutral {
+    my ($here) = @_;
+    local @Runs::flags = ('--neutral');
+    try_script(@$_) for rows_of("$here/neutral");
+    tell('50 is met by a row', $met{50} ? undef : 'it is not');
+}
+
 sub try_long_line {
     my ($name, $script, $answer) = @_;
     my $line = $answer =~ /^line/ ? $answer : "line 1: $answer";
@@ -175,6 +183,7 @@ sub try_rows {
     try_notes(@$_) for rows_of("$here/notes");
     try_long();
     try_groups($here) if knows_groups();
+    try_neutral($here);
     try_met();
 }
 

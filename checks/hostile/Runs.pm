@@ -23,6 +23,8 @@ our %REFUSALS = (
 
 my ($program, $folder);
 our $preloaded;
+# What stands behind `apply` in each run of it.
+our @flags;
 my ($passed, $failed) = (0, 0);
 
 # The program that all runs are of, and the folder in which they are.
@@ -68,6 +70,7 @@ sub status_of {
     return $FAULTS{$1} && $FAULTS{$1} eq $2 && $1 <= 18 ? 2 : undef if $line =~ /^sfbank: read fault (\d+) (\w+)\n\z/;
     return $FAULTS{$1} && $FAULTS{$1} eq $2 && $1 >= 41 ? 3 : undef if $line =~ /^sfbank: line [1-9]\d*: fault (\d+) (\w+)\n\z/;
     return is_cause($1) ? 4 : undef if $line =~ /^sfbank: line [1-9]\d*: refused (?:48 GroupRefused \d+ )?(.*)\n\z/;
+    return 4 if $line =~ /^sfbank: line [1-9]\d*: refused 50 NotNeutral\n\z/;
     return 5 if $line =~ /^sfbank: (?:file fault [^\n]*|write fault [^\n]* after \d+ bytes)\n\z/;
     return;
 }
@@ -118,7 +121,7 @@ sub run_command {
 }
 
 sub canon { my ($in, $out) = @_; return run_command(['canon', $in, $out], $out); }
-sub apply { my ($in, $script, $out, $undo) = @_; return run_command(['apply', $in, $script, $out, $undo], $out, $undo); }
+sub apply { my ($in, $script, $out, $undo) = @_; return run_command(['apply', @flags, $in, $script, $out, $undo], $out, $undo); }
 
 # The same for the text of a script.
 sub apply_text {

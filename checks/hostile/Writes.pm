@@ -12,6 +12,7 @@ our @EXPORT = qw(try_writes);
 # The runs, each with the outputs in the order in which they are written; `-` is the standard output.
 my @runs = (
     [['apply', 'saw', 'rename', 'out', 'undo'], 'out', 'undo'],
+    [['apply', '--neutral', 'saw', 'rename', 'out', 'undo'], 'out', 'undo'],
     [['apply', 'layered', 'remove', 'out', 'undo'], 'out', 'undo'],
     [['apply', 'long', 'remove', 'out', 'undo'], 'out', 'undo'],
     [['canon', 'tone', 'out'], 'out'],
@@ -86,6 +87,7 @@ my @shells = (
     ['"$0" play tone note /dev/full', 5, '/dev/full', 'true'],
     ['"$0" apply saw rename /dev/full undo', 5, '/dev/full', '[ ! -e undo ]'],
     ['"$0" apply saw rename out /dev/full', 5, '/dev/full', '[ "$(wc -c < out)" = 450 ]'],
+    ['"$0" apply --neutral saw rename out /dev/full', 5, '/dev/full', '[ "$(wc -c < out)" = 450 ]'],
     ['"$0" apply saw rename out no/undo', 5, 'no/undo', '[ "$(wc -c < out)" = 450 ]'],
     ['"$0" canon saw no/out', 5, 'no/out', '[ ! -e no ]'],
     ['"$0" canon saw folder', 5, 'folder', '[ -d folder ]'],
