@@ -8,6 +8,7 @@
 
 mod banks;
 mod generator_maps;
+mod neutral;
 mod outcome;
 mod players;
 mod points;
@@ -15,6 +16,7 @@ mod sessions;
 
 use crate::banks::{EDITS, bank_copy, canonical_run, edit_and_return, listing_run, playing_run};
 use crate::generator_maps::{generators_copy, generators_set};
+use crate::neutral::neutral_walk;
 use crate::outcome::Outcome;
 use crate::players::player_walk;
 use crate::points::{points_copy, points_join, points_narrow};
@@ -35,6 +37,7 @@ fn main(rt: HostRuntime) -> ExitCode {
         bank_copy(alloc),
         session_walk(alloc),
         player_walk(alloc),
+        neutral_walk(alloc),
     ];
     let mut outcome = Outcome::Done;
     for case in cases {
