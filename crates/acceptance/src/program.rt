@@ -62,6 +62,9 @@ fn outputs_are_written(rt: HostRuntime) -> Result<(), Fail> {
     put_files(&rt, "do", &files)?;
     assert!(rt; ends(&rt, "sfbank apply do/in do/rename do/out do/undo", 0, ""));
     assert!(rt; holds(&rt, "do/out", renamed.bytes()) && holds(&rt, "do/undo", RENAME_BACK));
+    let line = "sfbank apply do/in do/rename do/out do/undo --neutral";
+    assert!(rt; ends(&rt, line, 0, ""));
+    assert!(rt; holds(&rt, "do/out", renamed.bytes()) && holds(&rt, "do/undo", RENAME_BACK));
     // Back, over the written file and the undo text themselves.
     assert!(rt; ends(&rt, "sfbank apply do/out do/undo do/out do/undo", 0, ""));
     assert!(rt; holds(&rt, "do/out", one.bytes()) && holds(&rt, "do/undo", RENAME));
@@ -102,6 +105,11 @@ sfbank apply no/in no/none no/out no/undo -> 5 sfbank: file fault no/none
 sfbank apply no/cut no/frob no/out no/undo -> 2 sfbank: read fault 3 Truncated
 sfbank apply no/in no/frob no/out no/undo -> 3 sfbank: line 2: fault 41 Syntax
 sfbank apply no/in no/other no/out no/undo -> 4 sfbank: line 1: refused 22 NoSuchSample
+sfbank apply --neutral no/cut no/frob no/out no/undo -> 2 sfbank: read fault 3 Truncated
+sfbank apply --neutral no/in no/frob no/out no/undo -> 3 sfbank: line 2: fault 41 Syntax
+sfbank apply --neutral no/in no/loud no/out no/undo -> 4 sfbank: line 2: refused 50 NotNeutral
+sfbank apply --neutral no/in no/other no/out no/undo -> 4 sfbank: line 1: refused 22 NoSuchSample
+sfbank apply no/in no/loud no/out no/undo -> 4 sfbank: line 1: refused 22 NoSuchSample
 sfbank play no/cut no/frob no/out -> 2 sfbank: read fault 3 Truncated
 sfbank play no/in no/frob no/out -> 3 sfbank: line 2: fault 45 BadNote
 sfbank play no/in no/none no/out -> 5 sfbank: file fault no/none
@@ -131,13 +139,14 @@ fn is_refused(rt: &HostRuntime, row: &str) -> bool {
 #[test]
 fn refused_runs_make_no_file(rt: HostRuntime) -> Result<(), Fail> {
     let one = saw();
-    let files: [(&str, &[u8]); 6] = [
+    let files: [(&str, &[u8]); 7] = [
         ("no/in", one.bytes()),
         ("no/notes", b"0 1 0 0 60 127\n"),
         ("no/cut", front_of(one.bytes(), 400)),
         ("no/rename", RENAME),
         ("no/frob", b"\nfrob\n"),
         ("no/other", b"rename-sample 1 \"a\"\n"),
+        ("no/loud", b"rename-sample 1 \"a\"\nremove-preset 0\n"),
     ];
     put_files(&rt, "no", &files)?;
     for row in REFUSED.lines() {

@@ -13,6 +13,7 @@ pub ends_early : (U : Type 0) (out undo : Option (List ℕ)) (outcome : Result D
 ends_early U out undo outcome (run.Read fault) h = (h, (Keeps-refl out, Keeps-refl undo))
 ends_early U out undo outcome (run.Script fault) h = (h, (Keeps-refl out, Keeps-refl undo))
 ends_early U out undo outcome (run.Refused number why) h = (h, (Keeps-refl out, Keeps-refl undo))
+ends_early U out undo outcome (run.NotNeutral number) h = (h, (Keeps-refl out, Keeps-refl undo))
 ends_early U out undo outcome (run.Notes fault) h = (h, (Keeps-refl out, Keeps-refl undo))
 ends_early U out undo outcome run.Memory h = (Keeps-refl out, Keeps-refl undo)
 ends_early U out undo outcome (run.Write which n) h = absurd h
@@ -25,5 +26,6 @@ ends_with w outcome done (Err (run.Write Undo n)) e d = record { done = done; is
 ends_with w outcome done (Err (run.Read fault)) e d = absurd d
 ends_with w outcome done (Err (run.Script fault)) e d = absurd d
 ends_with w outcome done (Err (run.Refused number why)) e d = absurd d
+ends_with w outcome done (Err (run.NotNeutral number)) e d = absurd d
 ends_with w outcome done (Err (run.Notes fault)) e d = absurd d
 ends_with w outcome done (Err run.Memory) e d = absurd d

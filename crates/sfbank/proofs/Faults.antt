@@ -1,5 +1,5 @@
 -- Why a run is not done: the faults of its parts.
-use Rattle.std.proofs.Common.{◌≡◌, ℕ, List, Option, Result, Ok, refl, sym, ap, ◌∙◌}
+use Rattle.std.proofs.Common.{◌≡◌, ℕ, List, Option, None, Result, Ok, Err, refl, sym, ap, ◌∙◌}
 use Rattle.sf_base.specs.declared.memory.Failure.{Failure}
 use Rattle.sf_base.specs.declared.memory.Failure.TheVariants as failures
 use Rattle.bank_parts.specs.declared.parts.Parts.{Parts}
@@ -18,9 +18,11 @@ use Rattle.edit_script.specs.Script.{script_of}
 use Rattle.edit_script.specs.Printing.{texts_of}
 use Rattle.sfbank_program.specs.declared.run_fault.RunFault.{RunFault}
 use Rattle.sfbank_program.specs.declared.run_fault.RunFault.TheVariants as run
-use Rattle.sfbank.specs.Outcome.{Done, edits_of, RefusedLine, first_refused, both_texts, unless_refused, after_script, after_reading, bank_in, outcome}
+use Rattle.sfbank.specs.Outcome.{Done, edits_of, RefusedLine, first_refused, both_texts, unless_refused, first_not_neutral, if_neutral, after_script, after_neutral_script, after_reading, bank_in, outcome}
 use Rattle.sfbank.specs.Written.{FailsBefore}
-use Rattle.sfbank.specs.Planned.{AllApplied, StopsAtLine}
+use Rattle.sfbank.specs.Planned.{AllApplied, AllOf, StopsAtLine, first_other, after_lines, outcome_of}
+use Rattle.sfbank_program.specs.declared.words.Forms.{Forms}
+use Rattle.sfbank_program.specs.declared.words.Forms.TheVariants.{Every, Neutral}
 use Rattle.sfbank_program.specs.RunFaults.{in_run}
 
 -- ---- the file's fault
@@ -30,18 +32,18 @@ at_file : {X : Type 0} (failure : Failure ReadFault) (broken : Option ReadFault)
 at_file (failures.Fault fault) broken r h = ap (λ o. after_reading o r) h
 at_file failures.OutOfMemory broken r h = tt
 
-pub at_read : (file script : List ℕ) (failure : Failure ReadFault) → reading.Fails failure (fault_of file) → FailsBefore (in_run run.Read failure) (outcome file script)
-unfolding outcome
-at_read file script failure h = at_file failure (fault_of file) (after_script (bank_in file) (script_of script)) h
+pub at_read : (forms : Forms) (file script : List ℕ) (failure : Failure ReadFault) → reading.Fails failure (fault_of file)
+    → FailsBefore (in_run run.Read failure) (outcome_of forms file script)
+at_read forms file script failure h = at_file failure (fault_of file) (after_lines forms (bank_in file) (script_of script)) h
 
 -- ---- a file that reads as a bank
 
 -- what comes of its bytes comes of the bank
-pub at_bank : (file script : List ℕ) (b : Parts) (counts : Counts) → ReadsAs file b counts → outcome file script ≡ after_script b (script_of script)
-unfolding outcome
-at_bank file script b counts r =
-    ap (λ (o : Option ReadFault). after_reading o (after_script (bank_in file) (script_of script))) r.0
-    ∙ ap (λ (c : Content). after_script c.bank (script_of script)) r.1
+pub at_bank : (forms : Forms) (file script : List ℕ) (b : Parts) (counts : Counts) → ReadsAs file b counts
+    → outcome_of forms file script ≡ after_lines forms b (script_of script)
+at_bank forms file script b counts r =
+    ap (λ (o : Option ReadFault). after_reading o (after_lines forms (bank_in file) (script_of script))) r.0
+    ∙ ap (λ (c : Content). after_lines forms c.bank (script_of script)) r.1
 
 -- ---- the script's fault
 
@@ -50,12 +52,36 @@ unfolding script_of
 pool_fails script (failures.Fault fault) h = rw h refl
 pool_fails script failures.OutOfMemory h = tt
 
-pub at_script : (b : Parts) (script : List ℕ) (failure : Failure ScriptFault) → scripts.Fails failure (script_of script)
-    → FailsBefore (in_run run.Script failure) (after_script b (script_of script))
-at_script b script (failures.Fault fault) h = ap (after_script b) h
-at_script b script failures.OutOfMemory h = tt
+pub at_script : (forms : Forms) (b : Parts) (script : List ℕ) (failure : Failure ScriptFault) → scripts.Fails failure (script_of script)
+    → FailsBefore (in_run run.Script failure) (after_lines forms b (script_of script))
+at_script Every b script (failures.Fault fault) h = ap (after_script b) h
+at_script Neutral b script (failures.Fault fault) h = ap (after_neutral_script b) h
+at_script forms b script failures.OutOfMemory h = tt
 
 -- ---- a script that spells lines
+
+of_these : (forms : Forms) (b : Parts) (lines : List Line) → first_other forms lines ≡ None → after_lines forms b (Ok lines) ≡ after_script b (Ok lines)
+of_these Every b lines h = refl
+of_these Neutral b lines h = ap (λ (o : Option ℕ). if_neutral o (after_script b (Ok lines))) h
+
+-- a script that spells lines of these forms
+pub at_these : (forms : Forms) (b : Parts) (script : List ℕ) (lines seen : List Line) → script_of script ≡ Ok lines → seen ≡ lines → first_other forms seen ≡ None
+    → after_lines forms b (script_of script) ≡ after_script b (script_of script)
+at_these forms b script lines seen e s h =
+    ap (after_lines forms b) e ∙ of_these forms b lines (ap (first_other forms) (sym s) ∙ h) ∙ sym (ap (after_script b) e)
+
+-- one whose first line of another form is a fault
+pub at_other : (U : Type 0) (forms : Forms) (b : Parts) (script : List ℕ) (lines seen : List Line) (fault : RunFault) → script_of script ≡ Ok lines → seen ≡ lines
+    → AllOf {U = U} (first_other forms seen) (Err fault) → FailsBefore fault (after_lines forms b (script_of script))
+at_other U Neutral b script lines seen (run.NotNeutral number) e s h =
+    ap (after_neutral_script b) e ∙ ap (λ (o : Option ℕ). if_neutral o (after_script b (Ok lines))) (ap first_not_neutral (sym s) ∙ h)
+at_other U Every b script lines seen (run.NotNeutral number) e s h = absurd cc
+at_other U forms b script lines seen (run.Refused number why) e s h = absurd h
+at_other U forms b script lines seen run.Memory e s h = tt
+at_other U forms b script lines seen (run.Read fault) e s h = absurd h
+at_other U forms b script lines seen (run.Script fault) e s h = absurd h
+at_other U forms b script lines seen (run.Notes fault) e s h = absurd h
+at_other U forms b script lines seen (run.Write which n) e s h = h
 
 pub at_line : (b : Parts) (script : List ℕ) (lines : List Line) (fault : RunFault) → script_of script ≡ Ok lines
     → StopsAtLine fault (first_refused b lines) → FailsBefore fault (after_script b (script_of script))
@@ -64,6 +90,7 @@ at_line b script lines (run.Refused number why) e h =
 at_line b script lines run.Memory e h = tt
 at_line b script lines (run.Read fault) e h = absurd h
 at_line b script lines (run.Script fault) e h = absurd h
+at_line b script lines (run.NotNeutral number) e h = absurd h
 at_line b script lines (run.Notes fault) e h = absurd h
 at_line b script lines (run.Write which n) e h = h
 

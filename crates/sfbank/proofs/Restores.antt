@@ -34,7 +34,7 @@ or_none : (n : ℕ) (r : Option Refusal) (later : Option RefusedLine) → or_els
 or_none n None later e = (refl, e)
 or_none n (Some r) later e = absurd cc
 
-all_taken : (b : Parts) (lines : List Line) → LinesFit lines → first_refused b lines ≡ None → AllTaken b (edits_of lines)
+pub all_taken : (b : Parts) (lines : List Line) → LinesFit lines → first_refused b lines ≡ None → AllTaken b (edits_of lines)
 all_taken b [] f e = tt
 all_taken b (l ∷ lines) f e =
     let both = or_none l.number (refusal b l.edit) (first_refused (raw b l.edit) lines) e in
@@ -56,7 +56,7 @@ pub record ScriptDone (b : Parts) (lines : List Line) (done : Done) : Type 0 whe
   pub accepted : first_refused b lines ≡ None
   pub texts : done ≡ both_texts b (edits_of lines)
 
-script_done : (b : Parts) (lines : List Line) (done : Done) → after_script b (Ok lines) ≡ Ok done → ScriptDone b lines done
+pub script_done : (b : Parts) (lines : List Line) (done : Done) → after_script b (Ok lines) ≡ Ok done → ScriptDone b lines done
 script_done b lines done h = by_what (first_refused b lines) refl h
   where
     by_what : (o : Option RefusedLine) → first_refused b lines ≡ o → unless_refused o (both_texts b (edits_of lines)) ≡ Ok done → ScriptDone b lines done

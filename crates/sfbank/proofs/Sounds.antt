@@ -38,7 +38,7 @@ unfolding play_outcome
 play_not_read U failure known file notes h = not_read U failure known (fault_of file) (after_notes (bank_in file) (notes_of notes)) h
 
 -- what comes of the bytes comes of their bank
-played_on : (file notes : List ℕ) (b : Parts) (counts : Counts) → ReadsAs file b counts → play_outcome file notes ≡ after_notes b (notes_of notes)
+pub played_on : (file notes : List ℕ) (b : Parts) (counts : Counts) → ReadsAs file b counts → play_outcome file notes ≡ after_notes b (notes_of notes)
 unfolding play_outcome
 played_on file notes b counts r =
     ap (λ (o : Option ReadFault). after_reading o (after_notes (bank_in file) (notes_of notes))) r.0

@@ -6,6 +6,7 @@ pub use Rattle.edit_script.specs.Printing
 pub use Rattle.bank_listing.specs.Listing
 pub use Rattle.note_list.specs.Notes
 pub use Rattle.mixer.specs.Render
+pub use Rattle.neutral_edits.specs.Neutral
 pub use Rattle.wave_file.specs.Wave
 pub mod Outcome
 pub mod Written

@@ -1,5 +1,5 @@
 -- What a run writes, or why it does not, from the bytes that it is given.
-use Rattle.std.specs.Prelude.{◌≡◌, ℕ, List, [], ◌∷◌, map, Option, Some, None, Result, Ok, Err}
+use Rattle.std.specs.Prelude.{◌≡◌, ℕ, Bool, true, false, List, [], ◌∷◌, map, Option, Some, None, Result, Ok, Err}
 use Rattle.bank_parts.specs.declared.parts.Parts.{Parts}
 use Rattle.bank_format.specs.declared.fault.ReadFault.{ReadFault}
 use Rattle.bank_format.specs.declared.fault.Counts.{Counts}
@@ -19,6 +19,7 @@ use Rattle.bank_listing.specs.Listing.{listing}
 use Rattle.note_list.specs.declared.fault.NoteFault.{NoteFault}
 use Rattle.note_list.specs.Notes.{Numbers, notes_of}
 use Rattle.mixer.specs.Render.{render}
+use Rattle.neutral_edits.specs.Neutral.{is_neutral}
 use Rattle.wave_file.specs.Wave.{wave}
 use Rattle.sfbank_program.specs.declared.run_fault.RunFault.{RunFault}
 use Rattle.sfbank_program.specs.declared.run_fault.RunFault.TheVariants as run
@@ -58,6 +59,24 @@ abbrev pub after_script : Parts → Result (List Line) ScriptFault → Result Do
 after_script b (Ok lines) = unless_refused (first_refused b lines) (both_texts b (edits_of lines))
 after_script b (Err f) = Err (run.Script f)
 
+abbrev pub unless_neutral : Bool → ℕ → Option ℕ → Option ℕ
+unless_neutral true number later = later
+unless_neutral false number later = Some number
+
+-- the number of the first line whose edit is not neutral
+abbrev pub first_not_neutral : List Line → Option ℕ
+first_not_neutral [] = None
+first_not_neutral (l ∷ lines) = unless_neutral (is_neutral l.edit) l.number (first_not_neutral lines)
+
+abbrev pub if_neutral : Option ℕ → Result Done RunFault → Result Done RunFault
+if_neutral (Some number) r = Err (run.NotNeutral number)
+if_neutral None r = r
+
+-- what comes of a script where all edits have to be neutral, before any is done
+abbrev pub after_neutral_script : Parts → Result (List Line) ScriptFault → Result Done RunFault
+after_neutral_script b (Ok lines) = if_neutral (first_not_neutral lines) (after_script b (Ok lines))
+after_neutral_script b (Err f) = Err (run.Script f)
+
 -- the fault of the file, if it has one, else what comes of its bank
 abbrev pub after_reading : {X : Type 0} → Option ReadFault → Result X RunFault → Result X RunFault
 after_reading (Some f) r = Err (run.Read f)
@@ -75,6 +94,11 @@ counts_in file = (content_in (window file)).counts
 -- else both texts.
 unfoldable pub outcome : List ℕ → List ℕ → Result Done RunFault
 outcome file script = after_reading (fault_of file) (after_script (bank_in file) (script_of script))
+
+-- The first broken step of the file, else the first fault of the script, else the first line whose edit is not neutral,
+-- else the first refused line, else both texts.
+unfoldable pub neutral_outcome : List ℕ → List ℕ → Result Done RunFault
+neutral_outcome file script = after_reading (fault_of file) (after_neutral_script (bank_in file) (script_of script))
 
 -- The first broken step of the file, else the canonical file of its bank.
 unfoldable pub canon_outcome : List ℕ → Result (List ℕ) RunFault
@@ -106,6 +130,19 @@ abbrev pub SoundsAgain : List ℕ → List ℕ → Type 0
 SoundsAgain file script =
     (done back : Done) (notes : List ℕ) → outcome file script ≡ Ok done → outcome done.out done.undo ≡ Ok back
     → play_outcome back.out notes ≡ play_outcome file notes
+
+-- Where these bytes come to a neutral run that is done, the undo text, run on the written file alone, writes the canonical
+-- file of the first bank, and the script's edits as they are printed.
+abbrev pub IsNeutrallyUndone : List ℕ → List ℕ → Type 0
+IsNeutrallyUndone file script =
+    (done : Done) (lines : List Line) → neutral_outcome file script ≡ Ok done → script_of script ≡ Ok lines
+    → outcome done.out done.undo ≡ Ok (record { out = canon (bank_in file); undo = texts_of (edits_of lines) })
+
+-- Where these bytes come to a neutral run that is done, each list of notes comes to the same on the written file as on the
+-- first: to the same WAVE file, or to the same fault.
+abbrev pub SoundsTheSame : List ℕ → List ℕ → Type 0
+SoundsTheSame file script =
+    (done : Done) (notes : List ℕ) → neutral_outcome file script ≡ Ok done → play_outcome done.out notes ≡ play_outcome file notes
 
 -- Notes come to the same on the canonical file that these bytes come to.
 abbrev pub SoundsInCanon : List ℕ → List ℕ → Type 0

@@ -1,12 +1,17 @@
 -- The parts of a run, before a byte goes out.
-use Rattle.std.specs.Prelude.{◌≡◌, List, Option, Some, None}
+use Rattle.std.specs.Prelude.{◌≡◌, ℕ, List, Option, Some, None, Result, Ok, Err}
 use Rattle.bank_parts.specs.declared.parts.Parts.{Parts}
 use Rattle.edit_forms.specs.declared.edit.Edit.{Edit}
 use Rattle.inverse_edits.specs.Runs.{after_all, undo_list}
 use Rattle.edit_script.specs.declared.parsing.Line.{Line}
 use Rattle.sfbank_program.specs.declared.run_fault.RunFault.{RunFault}
 use Rattle.sfbank_program.specs.declared.run_fault.RunFault.TheVariants as run
-use Rattle.sfbank.specs.Outcome.{edits_of, RefusedLine, first_refused}
+use Rattle.bank_format.specs.ReadSteps.{fault_of}
+use Rattle.line_tokens.specs.declared.fault.ScriptFault.{ScriptFault}
+use Rattle.edit_script.specs.Script.{script_of}
+use Rattle.sfbank_program.specs.declared.words.Forms.{Forms}
+use Rattle.sfbank_program.specs.declared.words.Forms.TheVariants.{Every, Neutral}
+use Rattle.sfbank.specs.Outcome.{Done, edits_of, RefusedLine, first_refused, first_not_neutral, after_script, after_neutral_script, after_reading, bank_in}
 
 -- the first refused line, or want of memory
 abbrev pub StopsAtLine : RunFault → Option RefusedLine → Type 0
@@ -20,3 +25,23 @@ pub record AllApplied (first now : Parts) (lines : List Line) (undo : List Edit)
   pub accepted : first_refused first lines ≡ None
   pub changed : now ≡ after_all first (edits_of lines)
   pub taken_back : undo ≡ undo_list first (edits_of lines)
+
+-- the first line of another form than these
+abbrev pub first_other : Forms → List Line → Option ℕ
+first_other Every lines = None
+first_other Neutral lines = first_not_neutral lines
+
+-- what comes of a script where all edits have to be of these forms
+abbrev pub after_lines : Forms → Parts → Result (List Line) ScriptFault → Result Done RunFault
+after_lines Every b lines = after_script b lines
+after_lines Neutral b lines = after_neutral_script b lines
+
+-- what comes of a file and such a script
+abbrev pub outcome_of : Forms → List ℕ → List ℕ → Result Done RunFault
+outcome_of forms file script = after_reading (fault_of file) (after_lines forms (bank_in file) (script_of script))
+
+-- all lines are of the forms that are taken, or this is the first that is not
+abbrev pub AllOf : {U : Type 0} → Option ℕ → Result U RunFault → Type 0
+AllOf first (Ok u) = first ≡ None
+AllOf first (Err (run.NotNeutral number)) = first ≡ Some number
+AllOf first (Err fault) = ⊥

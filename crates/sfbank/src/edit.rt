@@ -1,13 +1,14 @@
-//! A run, from bytes to bytes.
+//! Scripts of edits, from bytes to bytes.
 ghost use Rattle.std.specs.Prelude.{◌≡◌};
-ghost use Rattle.sfbank.specs.Outcome.{outcome, IsUndone, SoundsAgain};
+ghost use Rattle.sfbank.specs.Outcome.{outcome, neutral_outcome, IsNeutrallyUndone, IsUndone, SoundsAgain, SoundsTheSame};
+ghost use Rattle.sfbank.specs.Planned.{outcome_of};
 ghost use Rattle.sfbank.specs.Written.{Runs};
 
 use crate::deliver::deliver;
 use crate::plan::make_plan;
 use edit_script::pool_of;
 use sf_reader::read;
-use sfbank_program::RunFault;
+use sfbank_program::{Forms, RunFault};
 use std::alloc::Global;
 use std::io::Write;
 
@@ -32,8 +33,44 @@ pub fn edit_run<W: Write, V: Write>(
     // Each list of notes sounds on the file that is written then as on the first.
     ensures sounds { SoundsAgain file.now script.now }
 {
+    run_script(alloc, file, script, Forms::Every, out, undo)
+}
+
+/// Does what `edit_run` does, with a script of neutral edits alone: those that change no sound, whatever
+/// the bank. The first line with another edit is the fault `NotNeutral`, before any edit is done or refused.
+pub fn neutral_run<W: Write, V: Write>(
+    alloc: Global,
+    file: &[u8],
+    script: &[u8],
+    out: &mut W,
+    undo: &mut V,
+) -> Result<(), RunFault>
+    // The outcome of these bytes goes out: of the file, else of the script, else of the first line that is
+    // not neutral, else of the first refused line, else both texts.
+    ensures runs { Runs (record { out = W.contents out.old; out_new = W.contents out.new; undo = V.contents undo.old; undo_new = V.contents undo.new })
+        (neutral_outcome file.now script.now) result }
+    // Run on the written file alone, the undo text writes the canonical file of the first bank.
+    ensures restores { IsNeutrallyUndone file.now script.now }
+    // Each list of notes sounds on the written file as on the first.
+    ensures sounds { SoundsTheSame file.now script.now }
+{
+    run_script(alloc, file, script, Forms::Neutral, out, undo)
+}
+
+// Runs a script of edits of these forms.
+fn run_script<W: Write, V: Write>(
+    alloc: Global,
+    file: &[u8],
+    script: &[u8],
+    forms: Forms,
+    out: &mut W,
+    undo: &mut V,
+) -> Result<(), RunFault>
+    ensures runs { Runs (record { out = W.contents out.old; out_new = W.contents out.new; undo = V.contents undo.old; undo_new = V.contents undo.new })
+        (outcome_of forms file.now script.now) result }
+{
     let (bank, _counts) = read(alloc, file)?;
     let pool = pool_of(alloc, script)?;
-    let plan = make_plan(alloc, bank, script, pool.as_slice())?;
+    let plan = make_plan(alloc, bank, script, pool.as_slice(), forms)?;
     deliver(&plan, out, undo)
 }

@@ -13,7 +13,7 @@ mod program;
 mod show;
 
 pub use canon::canon_run;
-pub use edit::edit_run;
+pub use edit::{edit_run, neutral_run};
 pub use play::play_run;
 pub use program::{run, run_with_arguments};
 pub use sfbank_program::{RunFault, Which};

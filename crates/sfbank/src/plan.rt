@@ -2,9 +2,9 @@
 ghost use Rattle.std.specs.Prelude.{◌≡◌, Ok, MatchResult};
 ghost use Rattle.line_tokens.specs.Pool.{pool_bytes};
 ghost use Rattle.edit_script.specs.Script.{script_of};
-ghost use Rattle.sfbank.specs.Outcome.{after_script, first_refused};
+ghost use Rattle.sfbank.specs.Outcome.{first_not_neutral, first_refused};
 ghost use Rattle.sfbank.specs.Written.{Plans};
-ghost use Rattle.sfbank.specs.Planned.{AllApplied, StopsAtLine};
+ghost use Rattle.sfbank.specs.Planned.{AllApplied, AllOf, StopsAtLine, after_lines, first_other};
 ghost use Rattle.sfbank.specs.Plans.{planned};
 
 use bank_core::Bank;
@@ -12,7 +12,8 @@ use bank_edits::apply;
 use edit_forms::Edit;
 use edit_refusals::Refusal;
 use edit_script::{Line, parse};
-use sfbank_program::RunFault;
+use neutral_edits::is_neutral;
+use sfbank_program::{Forms, RunFault};
 use std::alloc::Global;
 
 /// The edited bank, and the edits that take its edits back, the last one's first. They borrow from the
@@ -23,19 +24,42 @@ pub(crate) struct Plan<'a> {
     pub(crate) undo: Vec<Edit<'a>>,
 }
 
-/// Runs a script on a bank, over the pool of its literals. Nothing goes out.
+/// Runs a script of edits of these forms on a bank, over the pool of its literals. Nothing goes out.
 pub(crate) fn make_plan<'a>(
     alloc: Global,
     mut bank: Bank<'a>,
     script: &[u8],
     pool: &'a [u8],
+    forms: Forms,
 ) -> Result<Plan<'a>, RunFault>
     requires pool { pool_bytes script.now ≡ Ok pool.now }
-    ensures plans { Plans planned (after_script bank.entry (script_of script.now)) result }
+    ensures plans { Plans planned (after_lines forms bank.entry (script_of script.now)) result }
 {
     let lines = parse(alloc, script, pool)?;
+    all_of(forms, lines.as_slice())?;
     let undo = apply_all(alloc, &mut bank, lines)?;
     Ok(Plan { bank, undo })
+}
+
+// The first line of another form is a fault.
+fn all_of(forms: Forms, lines: &[Line<'_>]) -> Result<(), RunFault>
+    ensures { AllOf (first_other forms lines.now) result }
+{
+    match forms {
+        Forms::Every => Ok(()),
+        Forms::Neutral => all_neutral(lines),
+    }
+}
+
+fn all_neutral(lines: &[Line<'_>]) -> Result<(), RunFault>
+    ensures { AllOf (first_not_neutral lines.now) result }
+{
+    for line in lines {
+        if !is_neutral(&line.edit) {
+            return Err(RunFault::NotNeutral(line.number));
+        }
+    }
+    Ok(())
 }
 
 // Applies the edits in order, and gives those that take them back, the last one's first.

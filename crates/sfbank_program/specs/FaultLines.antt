@@ -14,7 +14,7 @@ use Rattle.edit_refusals.specs.declared.refusal.Refusal.{Refusal}
 use Rattle.edit_refusals.specs.declared.refusal.Refusal.TheVariants.{Of, OutOfMemory, NothingToUndo, NothingToRedo, GroupRefused}
 use Rattle.edit_refusals.specs.CauseNames as causes
 use Rattle.sfbank_program.specs.declared.run_fault.RunFault.{RunFault}
-use Rattle.sfbank_program.specs.declared.run_fault.RunFault.TheVariants.{Read, Script, Refused, Notes, Write, Memory}
+use Rattle.sfbank_program.specs.declared.run_fault.RunFault.TheVariants.{Read, Script, Refused, NotNeutral, Notes, Write, Memory}
 
 abbrev pub read_line : ReadFault → List ℕ
 read_line fault = concat (codes "sfbank: read fault " ∷ decimal (reading.number_of fault) ∷ codes " " ∷ reading.name_of fault ∷ codes "\n" ∷ [])
@@ -54,6 +54,10 @@ detail_text NothingToRedo = []
 abbrev pub refused_line : ℕ → Refusal → List ℕ
 refused_line line why = refusal_text line why ++ (detail_text why ++ codes "\n")
 
+-- a line whose edit is not neutral, where all have to be
+abbrev pub not_neutral_line : ℕ → List ℕ
+not_neutral_line line = concat (codes "sfbank: line " ∷ decimal line ∷ codes ": refused 50 NotNeutral\n" ∷ [])
+
 abbrev pub write_line : List ℕ → ℕ → List ℕ
 write_line path written = concat (codes "sfbank: write fault " ∷ path ∷ codes " after " ∷ decimal written ∷ codes " bytes\n" ∷ [])
 
@@ -66,6 +70,7 @@ unfoldable pub fault_line : List ℕ → RunFault → List ℕ
 fault_line path (Read fault) = read_line fault
 fault_line path (Script fault) = script_line fault
 fault_line path (Refused line why) = refused_line line why
+fault_line path (NotNeutral line) = not_neutral_line line
 fault_line path (Notes fault) = notes_line fault
 fault_line path (Write which written) = write_line path written
 fault_line path Memory = codes "sfbank: out of memory\n"
@@ -75,6 +80,7 @@ abbrev pub status_of : RunFault → ℕ
 status_of (Read fault) = 2
 status_of (Script fault) = 3
 status_of (Refused line why) = 4
+status_of (NotNeutral line) = 4
 status_of (Notes fault) = 3
 status_of (Write which written) = 5
 status_of Memory = 6

@@ -1,10 +1,12 @@
 -- The command and the paths that words give.
-use Rattle.std.specs.Prelude.{◌≡◌, ℕ, List, Option, Some, is_some, true, codes}
-use Rattle.clap.specs.Words.{first_value}
+use Rattle.std.specs.Prelude.{◌≡◌, ℕ, List, Option, Some, None, is_some, true, codes}
+use Rattle.clap.specs.Words.{first_value, one_text}
 use Rattle.clap.specs.declared.parser.matches.Found.{Found}
 use Rattle.sfbank_program.specs.declared.words.Request.{Request}
 use Rattle.sfbank_program.specs.declared.words.Request.TheVariants.{Apply, Canon, Play, Show}
 use Rattle.sfbank_program.specs.declared.words.ApplyPaths.{ApplyPaths}
+use Rattle.sfbank_program.specs.declared.words.Forms.{Forms}
+use Rattle.sfbank_program.specs.declared.words.Forms.TheVariants.{Every, Neutral}
 use Rattle.sfbank_program.specs.declared.words.CanonPaths.{CanonPaths}
 use Rattle.sfbank_program.specs.declared.words.PlayPaths.{PlayPaths}
 
@@ -26,13 +28,21 @@ NamesInput found path = first_value found (codes "IN") ≡ Some path
 abbrev pub HasInput : Found → Type 0
 HasInput found = IsGiven found (codes "IN")
 
--- each path is the one that has its name
+-- neutral edits alone where the flag `--neutral` was given, which reads as true
+abbrev pub NamesForms : Found → Forms → Type 0
+NamesForms found forms =
+    (one_text found (codes "neutral") ≡ Some (codes "true") → forms ≡ Neutral)
+    × (one_text found (codes "neutral") ≡ Some (codes "false") → forms ≡ Every)
+    × (one_text found (codes "neutral") ≡ None → forms ≡ Every)
+
+-- each path is the one that has its name, and the forms are those of the flag
 abbrev pub NamesApplyPaths : Found → ApplyPaths → Type 0
 NamesApplyPaths found paths =
     NamesInput found paths.input.now
     × (first_value found (codes "SCRIPT") ≡ Some paths.script.now)
     × (first_value found (codes "OUT") ≡ Some paths.out.now)
     × (first_value found (codes "UNDO") ≡ Some paths.undo.now)
+    × NamesForms found paths.forms
 
 -- all of them are there
 abbrev pub HasApplyPaths : Found → Type 0

@@ -3,7 +3,7 @@ ghost use Rattle.std.specs.Prelude.{◌≡◌, IfOk};
 ghost use Rattle.outputs.specs.Output.{Puts};
 ghost use Rattle.outputs.specs.Writing.{Writes};
 ghost use Rattle.sample_view.specs.Pieces.{joined_bytes};
-ghost use Rattle.sfbank_program.specs.FaultLines.{fault_line, status_of, read_line, text_line, refused_line, refusal_text, detail_text, step_text, limit_text, write_line, file_line};
+ghost use Rattle.sfbank_program.specs.FaultLines.{fault_line, status_of, read_line, text_line, refused_line, not_neutral_line, refusal_text, detail_text, step_text, limit_text, write_line, file_line};
 
 use crate::run_fault::RunFault;
 use bank_format::ReadFault;
@@ -33,7 +33,7 @@ pub fn exit_status(fault: &RunFault) -> u8
     match fault {
         RunFault::Read(_) => 2,
         RunFault::Script(_) | RunFault::Notes(_) => 3,
-        RunFault::Refused(_, _) => 4,
+        RunFault::Refused(_, _) | RunFault::NotNeutral(_) => 4,
         RunFault::Write(_, _) => 5,
         RunFault::Memory => 6,
     }
@@ -52,6 +52,7 @@ fn put_fault<W: Write>(fault: &RunFault, path: &str, output: &mut Output<'_, W>)
             put_text_fault(fault.line(), fault.number(), fault.name(), output);
         }
         RunFault::Refused(line, why) => put_refused(*line, *why, output),
+        RunFault::NotNeutral(line) => put_not_neutral(*line, output),
         RunFault::Write(_, written) => put_write_fault(path, *written, output),
         RunFault::Memory => put_pieces(&[b"sfbank: out of memory\n"], output),
     }
@@ -115,6 +116,20 @@ fn put_refusal<W: Write>(line: u64, why: Refusal, output: &mut Output<'_, W>)
             number_digits.format(why.number()).as_bytes(),
             b" ",
             why.name().as_bytes(),
+        ],
+        output,
+    );
+}
+
+fn put_not_neutral<W: Write>(line: u64, output: &mut Output<'_, W>)
+    ensures { Puts W.contents output.old output.new (not_neutral_line line) }
+{
+    let mut digits = Buffer::new();
+    put_pieces(
+        &[
+            b"sfbank: line ",
+            digits.format(line).as_bytes(),
+            b": refused 50 NotNeutral\n",
         ],
         output,
     );

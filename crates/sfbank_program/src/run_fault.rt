@@ -30,6 +30,9 @@ pub enum RunFault {
     /// The first refused line, and why it is. Want of memory for an edit is `Memory`.
     #[error("line {0}: {1}")]
     Refused(u64, Refusal),
+    /// The first line with an edit that is not neutral, where all have to be.
+    #[error("line {0}: this edit may change the sound of notes")]
+    NotNeutral(u64),
     /// The first fault of the notes.
     #[error("{0}")]
     Notes(NoteFault),

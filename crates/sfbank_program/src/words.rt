@@ -1,7 +1,7 @@
 //! The words of the program.
 ghost use Rattle.std.specs.Prelude.{IfSome, IsSome};
 ghost use Rattle.clap.specs.Words.{found_of, subcommand_name_of};
-ghost use Rattle.sfbank_program.specs.Words.{IsOfCommand, NamesApplyPaths, HasApplyPaths, NamesCanonPaths, HasCanonPaths, NamesPlayPaths, HasPlayPaths, NamesInput, HasInput};
+ghost use Rattle.sfbank_program.specs.Words.{IsOfCommand, NamesForms, NamesApplyPaths, HasApplyPaths, NamesCanonPaths, HasCanonPaths, NamesPlayPaths, HasPlayPaths, NamesInput, HasInput};
 
 use clap::error::ErrorKind;
 use clap::{Arg, ArgAction, ArgMatches, Command, Error};
@@ -10,6 +10,9 @@ use std::convert::AsStr;
 
 /// The program's name, by whatever path it was started.
 const NAME: &str = "sfbank";
+
+/// The flag of `apply` by which only edits that change no sound are taken.
+const NEUTRAL: &str = "neutral";
 
 /// What the words ask for.
 pub enum Request<'a> {
@@ -23,13 +26,22 @@ pub enum Request<'a> {
     Show(&'a str),
 }
 
-/// The paths of `apply`.
+/// The forms of edits that `apply` takes.
+#[derive(Clone, Copy)]
+pub enum Forms {
+    Every,
+    /// Those that change no sound.
+    Neutral,
+}
+
+/// The paths of `apply`, and the forms of edits that it takes.
 #[derive(Clone, Copy)]
 pub struct ApplyPaths<'a> {
     pub input: &'a str,
     pub script: &'a str,
     pub out: &'a str,
     pub undo: &'a str,
+    pub forms: Forms,
 }
 
 /// The paths of `canon`.
@@ -83,7 +95,18 @@ fn apply_paths<'a>(matches: &ArgMatches<'a>) -> Option<ApplyPaths<'a>>
         script: matches.get_str("SCRIPT")?,
         out: matches.get_str("OUT")?,
         undo: matches.get_str("UNDO")?,
+        forms: forms_taken(matches),
     })
+}
+
+fn forms_taken(matches: &ArgMatches<'_>) -> Forms
+    ensures { NamesForms (found_of matches.now) result }
+{
+    if matches.get_flag(NEUTRAL) {
+        Forms::Neutral
+    } else {
+        Forms::Every
+    }
 }
 
 fn canon_paths<'a>(matches: &ArgMatches<'a>) -> Option<CanonPaths<'a>>
@@ -132,10 +155,18 @@ fn sfbank_command<'a>(alloc: Global) -> Result<Command<'a>, AllocError> {
 fn apply_command<'a>(alloc: Global) -> Result<Command<'a>, AllocError> {
     Command::new(alloc, "apply")
         .about("Runs a script of edits on a bank, and writes the script that takes them back")
+        .arg(neutral_flag(alloc))?
         .arg(path(alloc, "IN").help("The bank to edit"))?
         .arg(path(alloc, "SCRIPT").help("The edits, one a line"))?
         .arg(path(alloc, "OUT").help("Where the edited bank is written; may be IN"))?
         .arg(path(alloc, "UNDO").help("Where the script that takes the edits back is written"))
+}
+
+fn neutral_flag<'a>(alloc: Global) -> Arg<'a> {
+    Arg::new(alloc, NEUTRAL)
+        .long(NEUTRAL)
+        .action(ArgAction::SetTrue)
+        .help("Refuses a script with an edit that may change the sound of notes")
 }
 
 fn canon_command<'a>(alloc: Global) -> Result<Command<'a>, AllocError> {

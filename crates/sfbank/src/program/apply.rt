@@ -1,9 +1,15 @@
 //! The command `apply`.
-use crate::edit::edit_run;
-use sfbank_program::{ApplyPaths, Fault, OutputFile, RunFault, Which, end_both, read_file};
+ghost use Rattle.sfbank.specs.Planned.{outcome_of};
+ghost use Rattle.sfbank.specs.Written.{Runs};
+
+use crate::edit::{edit_run, neutral_run};
+use sfbank_program::{ApplyPaths, Fault, Forms, OutputFile, RunFault, Which, end_both, read_file};
+use std::alloc::Global;
+use std::io::Write;
 use std::rt::Files;
 
-/// Runs the script on the bank. Both are read whole first, so an output may be one of them.
+/// Runs the script on the bank, if its edits are of the forms that are taken. Both are read whole
+/// first, so an output may be one of them.
 pub(crate) fn apply<'a, R: Files + AllocGlobal>(
     rt: &'a R,
     paths: ApplyPaths<'a>,
@@ -12,10 +18,11 @@ pub(crate) fn apply<'a, R: Files + AllocGlobal>(
     let script = read_file(rt, paths.script)?;
     let mut out = OutputFile::new(rt, paths.out)?;
     let mut undo = OutputFile::new(rt, paths.undo)?;
-    let run = edit_run(
+    let run = run_asked(
         rt.alloc(),
         file.as_slice(),
         script.as_slice(),
+        paths.forms,
         &mut out,
         &mut undo,
     );
@@ -26,5 +33,24 @@ pub(crate) fn apply<'a, R: Files + AllocGlobal>(
             paths.undo,
         )),
         Err(fault) => Err(Fault::Run(fault, paths.out)),
+    }
+}
+
+/// The run that takes these forms of edits.
+#[tactic(auto, unfolding(crate::specs::Outcome::outcome, crate::specs::Outcome::neutral_outcome))]
+fn run_asked<W: Write, V: Write>(
+    alloc: Global,
+    file: &[u8],
+    script: &[u8],
+    forms: Forms,
+    out: &mut W,
+    undo: &mut V,
+) -> Result<(), RunFault>
+    ensures { Runs (record { out = W.contents out.old; out_new = W.contents out.new; undo = V.contents undo.old; undo_new = V.contents undo.new })
+        (outcome_of forms file.now script.now) result }
+{
+    match forms {
+        Forms::Every => edit_run(alloc, file, script, out, undo),
+        Forms::Neutral => neutral_run(alloc, file, script, out, undo),
     }
 }

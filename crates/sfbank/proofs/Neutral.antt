@@ -1,0 +1,108 @@
+-- Runs of neutral edits.
+use Rattle.std.proofs.Common.{◌≡◌, ℕ, Bool, true, false, List, [], ◌∷◌, Option, Some, None, Result, Ok, Err, refl, sym, ap, ◌∙◌}
+use Rattle.bank_parts.specs.declared.parts.Parts.{Parts}
+use Rattle.bank_parts.specs.Sound.{IsSound}
+use Rattle.hydra_records.specs.Records.{AreBytes}
+use Rattle.bank_format.specs.declared.fault.ReadFault.{ReadFault}
+use Rattle.bank_format.specs.Canon.{canon}
+use Rattle.bank_format.specs.ReadSteps.{fault_of}
+use Rattle.bank_format.proofs.RoundTrip.{reads-again}
+use Rattle.bank_format.proofs.ReadValid.{read_valid, read_fits}
+use Rattle.edit_refusals.specs.Edits.{raw}
+use Rattle.inverse_edits.specs.Runs.{AllTaken, after_all}
+use Rattle.inverse_edits.proofs.Law.{undone}
+use Rattle.inverse_edits.proofs.RunLaw.{all_undone}
+use Rattle.line_tokens.specs.declared.fault.ScriptFault.{ScriptFault}
+use Rattle.edit_script.specs.declared.parsing.Line.{Line}
+use Rattle.edit_script.specs.Script.{script_of}
+use Rattle.edit_script.proofs.FitLaws.{script_fits}
+use Rattle.note_list.specs.declared.fault.NoteFault.{NoteFault}
+use Rattle.note_list.specs.Notes.{Numbers, notes_of}
+use Rattle.mixer.specs.Render.{render}
+use Rattle.neutral_edits.specs.Neutral.{is_neutral}
+use Rattle.neutral_edits.proofs.EventLaws.{neutral_render}
+use Rattle.wave_file.specs.Wave.{wave}
+use Rattle.sfbank_program.specs.declared.words.Forms.TheVariants.{Every, Neutral}
+use Rattle.sfbank.specs.Outcome.{Done, edits_of, unless_neutral, first_not_neutral, if_neutral, after_script, after_neutral_script, after_reading, bank_in, outcome, neutral_outcome, after_notes, play_outcome, IsNeutrallyUndone, SoundsTheSame}
+use Rattle.sfbank.specs.Planned.{outcome_of}
+use Rattle.sfbank.proofs.Restores.{reading_done, all_taken, script_done, restores}
+use Rattle.sfbank.proofs.Sounds.{played_on}
+
+-- ---- what a run comes to, by the forms that it takes
+
+pub of_every : (file script : List ℕ) → outcome_of Every file script ≡ outcome file script
+unfolding outcome
+of_every file script = refl
+
+pub of_neutral : (file script : List ℕ) → outcome_of Neutral file script ≡ neutral_outcome file script
+unfolding neutral_outcome
+of_neutral file script = refl
+
+-- ---- a neutral run that is done
+
+record NeutralScript (b : Parts) (said : Result (List Line) ScriptFault) (done : Done) : Type 0 where
+  lines : List Line
+  spelled : said ≡ Ok lines
+  neutral : first_not_neutral lines ≡ None
+  comes_to : after_script b said ≡ Ok done
+
+neutral_script : (b : Parts) (said : Result (List Line) ScriptFault) (done : Done) → after_neutral_script b said ≡ Ok done → NeutralScript b said done
+neutral_script b (Err f) done h = absurd cc
+neutral_script b (Ok lines) done h = by_what (first_not_neutral lines) refl h
+  where
+    by_what : (o : Option ℕ) → first_not_neutral lines ≡ o → if_neutral o (after_script b (Ok lines)) ≡ Ok done → NeutralScript b (Ok lines) done
+    by_what None e h = record { lines = lines; spelled = refl; neutral = e; comes_to = h }
+    by_what (Some number) e h = absurd cc
+
+record NeutralDone (file script : List ℕ) (done : Done) : Type 0 where
+  read : fault_of file ≡ None
+  of_script : NeutralScript (bank_in file) (script_of script) done
+
+neutral_done : (file script : List ℕ) (done : Done) → neutral_outcome file script ≡ Ok done → NeutralDone file script done
+unfolding neutral_outcome
+neutral_done file script done h =
+    let read = reading_done (fault_of file) (after_neutral_script (bank_in file) (script_of script)) done h in
+    record { read = read.0; of_script = neutral_script (bank_in file) (script_of script) done read.1 }
+
+-- such a run comes to what one that takes every edit does
+as_every : (file script : List ℕ) (done : Done) → neutral_outcome file script ≡ Ok done → outcome file script ≡ Ok done
+unfolding outcome
+as_every file script done h =
+    let d = neutral_done file script done h in
+    ap (λ (o : Option ReadFault). after_reading o (after_script (bank_in file) (script_of script))) d.read ∙ d.of_script.comes_to
+
+pub neutrally_restores : (file script : List ℕ) → AreBytes file → IsNeutrallyUndone file script
+neutrally_restores file script bytes done lines h spelled = restores file script bytes done lines (as_every file script done h) spelled
+
+-- ---- the sound
+
+or_neutral : (x : Bool) (number : ℕ) (later : Option ℕ) → unless_neutral x number later ≡ None → (x ≡ true) × (later ≡ None)
+or_neutral true number later h = (refl, h)
+or_neutral false number later h = absurd cc
+
+-- neutral edits in a row
+render_same : (b : Parts) (lines : List Line) → IsSound b → AllTaken b (edits_of lines) → first_not_neutral lines ≡ None
+    → (ns : List Numbers) → render (after_all b (edits_of lines)) ns ≡ render b ns
+render_same b [] sound taken neutral ns = refl
+render_same b (l ∷ lines) sound taken neutral ns =
+    let both = or_neutral (is_neutral l.edit) l.number (first_not_neutral lines) neutral in
+    render_same (raw b l.edit) lines (undone b l.edit sound taken.0).sound taken.1 both.1 ns ∙ neutral_render b l.edit sound taken.0 both.0 ns
+
+played_same : (b end : Parts) (said : Result (List Numbers) NoteFault) → ((ns : List Numbers) → render end ns ≡ render b ns) → after_notes end said ≡ after_notes b said
+played_same b end (Ok ns) h = ap (λ xs. Ok (wave xs)) (h ns)
+played_same b end (Err fault) h = refl
+
+pub sounds_the_same : (file script : List ℕ) → AreBytes file → SoundsTheSame file script
+sounds_the_same file script bytes done notes h =
+    let d = neutral_done file script done h in
+    let b = bank_in file in
+    let lines = d.of_script.lines in
+    let run = script_done b lines done (ap (after_script b) (sym d.of_script.spelled) ∙ d.of_script.comes_to) in
+    let sound : IsSound b = record { valid = read_valid file bytes d.read; fits = read_fits file bytes } in
+    let taken = all_taken b lines (script_fits script lines d.of_script.spelled) run.accepted in
+    let end : Parts = after_all b (edits_of lines) in
+    let end_sound = (all_undone b (edits_of lines) sound taken).sound in
+    ap (λ (x : Done). play_outcome x.out notes) run.texts
+    ∙ played_on (canon end) notes end _ (reads-again end end_sound.valid end_sound.fits)
+    ∙ played_same b end (notes_of notes) (render_same b lines sound taken d.of_script.neutral)
+    ∙ sym (played_on file notes b _ (d.read, refl))
