@@ -33,15 +33,12 @@ fn a_list_is_changed(rt: HostRuntime) -> Result<(), Fail> {
     assert!(rt; *list.member(2) == 30 && list.get(2) == Some(&30) && list.get(3).is_none());
     list.push(40)?;
     list.insert(1, 15)?;
-    assert_eq!(rt; list.as_slice(), [10, 15, 20, 30, 40].as_slice());
+    assert!(rt; list.as_slice() == [10, 15, 20, 30, 40].as_slice());
     list.move_member(1, 3);
-    assert_eq!(rt; list.as_slice(), [10, 20, 30, 15, 40].as_slice());
+    assert!(rt; list.as_slice() == [10, 20, 30, 15, 40].as_slice());
     assert!(rt; list.remove(3) == 15 && list.replace(0, 11) == 10);
     *list.member_mut(3) = 44;
-    assert_eq!(rt;
-        list.take().into_vec().as_slice(),
-        [11, 20, 30, 44].as_slice()
-    );
+    assert!(rt; list.take().into_vec().as_slice() == [11, 20, 30, 44].as_slice());
     assert!(rt; list.is_empty() && list.len() == 0);
     Ok(())
 }
@@ -53,7 +50,7 @@ fn a_list_takes_a_member_without_memory(rt: HostRuntime) -> Result<(), Fail> {
     assert!(rt; room.is_empty() && room.len() == 0);
     let list = room.push(20u16).reserve_one()?.insert(0, 10);
     let list = list.reserve_one()?.into_list();
-    assert_eq!(rt; list.as_slice(), [10, 20].as_slice());
+    assert!(rt; list.as_slice() == [10, 20].as_slice());
     Ok(())
 }
 
@@ -61,19 +58,16 @@ fn a_list_takes_a_member_without_memory(rt: HostRuntime) -> Result<(), Fail> {
 fn numbers_follow_a_list(rt: HostRuntime) -> Result<(), Fail> {
     let mut list = list_of(rt.alloc(), &[0, 1, 2, 3, 4])?;
     follow(&mut list, Renumbering::Insertion { at: 2 });
-    assert_eq!(rt; list.as_slice(), [0, 1, 3, 4, 5].as_slice());
+    assert!(rt; list.as_slice() == [0, 1, 3, 4, 5].as_slice());
     follow(&mut list, Renumbering::Removal { at: 2 });
-    assert_eq!(rt; list.as_slice(), [0, 1, 2, 3, 4].as_slice());
+    assert!(rt; list.as_slice() == [0, 1, 2, 3, 4].as_slice());
     follow(&mut list, Renumbering::Move { from: 1, to: 3 });
-    assert_eq!(rt; list.as_slice(), [0, 3, 1, 2, 4].as_slice());
+    assert!(rt; list.as_slice() == [0, 3, 1, 2, 4].as_slice());
     follow(&mut list, Renumbering::Move { from: 3, to: 1 });
     list.insert_renumbered(Renumbering::Insertion { at: 5 }, 5, 5)?;
     let mut room = list.reserve_one()?;
     follow(&mut room, Renumbering::Insertion { at: 0 });
-    assert_eq!(rt;
-        room.insert(0, 0).as_slice(),
-        [0, 1, 2, 3, 4, 5, 6].as_slice()
-    );
+    assert!(rt; room.insert(0, 0).as_slice() == [0, 1, 2, 3, 4, 5, 6].as_slice());
     Ok(())
 }
 
@@ -115,7 +109,7 @@ fn points_of_other_slices_are_joined(rt: HostRuntime) -> Result<(), Fail> {
     assert!(rt; points.join(front, back).is_ok());
     assert!(rt; has(&points, &[11, 1, 2, 3, 4, 5, 6, 7, 8, 9, 10, -2000]));
     let places = [0, 1, 10, 11].map(|index| in_its_slice(&points, index));
-    assert_eq!(rt; places, [Some(11), Some(1), Some(10), Some(0x30)]);
+    assert!(rt; places == [Some(11), Some(1), Some(10), Some(0x30)]);
     let pieces: [&[u8]; 3] = [&[11, 0], &TEN, &[0x30, 0xf8]];
     assert!(rt; points.copy(rt.alloc())?.pieces() == pieces.as_slice());
     Ok(())
@@ -158,7 +152,7 @@ fn operators(rt: HostRuntime) {
         assert!(rt; allowed(operator, Level::Instrument) == all, "{operator}");
     }
     let zero = [0, 4, 12, 17, 37, 45, 48, 50, 51, 52, 54, 57].map(|operator| default_of(operator));
-    assert_eq!(rt; zero, [Some(0); 12]);
+    assert!(rt; zero == [Some(0); 12]);
     let others = [33, 34, 35, 36, 38, 46, 47, 58, 56].map(|operator| default_of(operator));
     assert!(rt;
         others[..5] == [Some(-12000); 5] && others[5..8] == [Some(-1); 3] && others[8] == Some(100)
@@ -166,7 +160,7 @@ fn operators(rt: HostRuntime) {
     let none = [5, 11, 13, 16, 21, 32, 39, 43, 44, 49, 53, 55, 59, 65_535].map(
         |operator| default_of(operator),
     );
-    assert_eq!(rt; none, [None; 14]);
+    assert!(rt; none == [None; 14]);
     let range = Range::of_amount(0x7f3c);
     assert!(rt;
         range.low == 60 && range.high == 127 && range.to_amount() == 0x7f3c && range.is_valid()

@@ -41,9 +41,8 @@ fn values_of_linear_modulators(rt: HostRuntime) {
     for (source, key, velocity, value) in VALUES {
         for dest in [17, 34, 36, 37, 38, 48, 52] {
             let modulator = from_to(source, dest);
-            assert_eq!(rt;
-                linear_value(&modulator, key, velocity),
-                Some(value),
+            assert!(rt;
+                linear_value(&modulator, key, velocity) == Some(value),
                 "source {source}"
             );
         }
@@ -53,26 +52,24 @@ fn values_of_linear_modulators(rt: HostRuntime) {
         transform: 2,
         ..from_to(0x0002, 17)
     };
-    assert_eq!(rt; linear_value(&other, 60, 127), Some(127));
+    assert!(rt; linear_value(&other, 60, 127) == Some(127));
 }
 
 #[test]
 fn modulators_that_are_not_linear(rt: HostRuntime) {
-    assert_eq!(rt; linear_value(&DEFAULT_VELOCITY, 60, 127), None);
+    assert!(rt; linear_value(&DEFAULT_VELOCITY, 60, 127) == None);
     // Another general controller, one of MIDI's, a link, and a curve.
     for source in [
         0x0000, 0x0004, 0x000a, 0x0082, 0x0083, 0x007f, 0x0402, 0x8003, 0xfc02,
     ] {
-        assert_eq!(rt;
-            linear_value(&from_to(source, 17), 60, 127),
-            None,
+        assert!(rt;
+            linear_value(&from_to(source, 17), 60, 127) == None,
             "source {source}"
         );
     }
     for dest in [0, 8, 16, 18, 33, 35, 39, 43, 47, 49, 51, 53, 56, 0x8011] {
-        assert_eq!(rt;
-            linear_value(&from_to(2, dest), 60, 127),
-            None,
+        assert!(rt;
+            linear_value(&from_to(2, dest), 60, 127) == None,
             "dest {dest}"
         );
     }
@@ -80,5 +77,5 @@ fn modulators_that_are_not_linear(rt: HostRuntime) {
         amount_source: 2,
         ..from_to(2, 17)
     };
-    assert_eq!(rt; linear_value(&scaled, 60, 127), None);
+    assert!(rt; linear_value(&scaled, 60, 127) == None);
 }

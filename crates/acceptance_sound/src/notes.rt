@@ -18,13 +18,13 @@ fn fault_of(alloc: Global, text: &[u8]) -> Option<NoteFault> {
 fn notes_of_a_text(rt: HostRuntime) -> Result<(), Fail> {
     let text = b"# two notes\n\n\t0 8 0 0 67 127 # the first\r\n99999999 1 128 65535 0 0";
     let notes = parse_notes(rt.alloc(), text)?;
-    assert_eq!(rt; notes.len(), 2);
-    assert_eq!(rt; Note::new(0, 8, 0, 0, 67, 127), Some(notes[0]));
-    assert_eq!(rt; Note::new(99_999_999, 1, 128, 65_535, 0, 0), Some(notes[1]));
+    assert!(rt; notes.len() == 2);
+    assert!(rt; Note::new(0, 8, 0, 0, 67, 127) == Some(notes[0]));
+    assert!(rt; Note::new(99_999_999, 1, 128, 65_535, 0, 0) == Some(notes[1]));
     let note = notes[1];
-    assert_eq!(rt; (note.start(), note.length()), (99_999_999, 1));
-    assert_eq!(rt; (note.bank(), note.number()), (128, 65_535));
-    assert_eq!(rt; (notes[0].key(), notes[0].velocity()), (67, 127));
+    assert!(rt; (note.start(), note.length()) == (99_999_999, 1));
+    assert!(rt; (note.bank(), note.number()) == (128, 65_535));
+    assert!(rt; (notes[0].key(), notes[0].velocity()) == (67, 127));
     assert!(rt; parse_notes(rt.alloc(), b"")?.is_empty());
     Ok(())
 }
@@ -35,7 +35,7 @@ const LAST: [&[u8]; 2] = [b"99999999 1 0 0 60 127", b"100000000 0 0 0 60 127"];
 #[test]
 fn notes_that_end_at_the_last_frame(rt: HostRuntime) -> Result<(), Fail> {
     for text in LAST {
-        assert_eq!(rt; parse_notes(rt.alloc(), text)?.len(), 1);
+        assert!(rt; parse_notes(rt.alloc(), text)?.len() == 1);
     }
     Ok(())
 }
@@ -62,13 +62,10 @@ const FAULTS: [(&[u8], NoteFault); 12] = [
 #[test]
 fn faults_of_note_lists(rt: HostRuntime) {
     for (text, fault) in FAULTS {
-        assert_eq!(rt; fault_of(rt.alloc(), text), Some(fault));
+        assert!(rt; fault_of(rt.alloc(), text) == Some(fault));
     }
     let fault = NoteFault::TooManyNotes(65_536);
-    assert_eq!(rt;
-        (fault.number(), fault.name(), fault.line()),
-        (46, "TooManyNotes", 65_536)
-    );
+    assert!(rt; (fault.number(), fault.name(), fault.line()) == (46, "TooManyNotes", 65_536));
 }
 
 #[test]
@@ -77,12 +74,9 @@ fn more_notes_than_a_list_has(rt: HostRuntime) -> Result<(), Fail> {
     for _ in 0..MOST_NOTES {
         text.extend_from_slice(b"0 0 0 0 0 0\n")?;
     }
-    assert_eq!(rt; parse_notes(rt.alloc(), &text)?.len(), MOST_NOTES);
+    assert!(rt; parse_notes(rt.alloc(), &text)?.len() == MOST_NOTES);
     text.extend_from_slice(b"0 0 0 0 0 0\n")?;
-    assert_eq!(rt;
-        fault_of(rt.alloc(), &text),
-        Some(NoteFault::TooManyNotes(65_536))
-    );
+    assert!(rt; fault_of(rt.alloc(), &text) == Some(NoteFault::TooManyNotes(65_536)));
     Ok(())
 }
 

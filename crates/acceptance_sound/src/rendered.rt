@@ -76,7 +76,7 @@ fn worked_notes(rt: HostRuntime) -> Result<(), Fail> {
     for (instrument, notes, frames) in ROWS {
         let sides = rendered(rt.alloc(), THREE, instrument, notes)?;
         let worked = on_both_sides(rt.alloc(), frames)?;
-        assert_eq!(rt; sides.as_slice(), worked.as_slice());
+        assert!(rt; sides.as_slice() == worked.as_slice());
     }
     Ok(())
 }
@@ -88,7 +88,7 @@ pub(crate) const RELEASED: &[u8] =
 #[test]
 fn frames_last_through_the_release(rt: HostRuntime) -> Result<(), Fail> {
     let sides = rendered(rt.alloc(), ONE, RELEASED, b"0 50 0 0 60 127")?;
-    assert_eq!(rt; sides.len(), 2 * 93);
+    assert!(rt; sides.len() == 2 * 93);
     let worked = [
         (0, 0),
         (1, 23),
@@ -99,8 +99,8 @@ fn frames_last_through_the_release(rt: HostRuntime) -> Result<(), Fail> {
         (92, 0),
     ];
     for (frame, right) in worked {
-        assert_eq!(rt; sides.get(2 * frame), Some(&0));
-        assert_eq!(rt; sides.get(2 * frame + 1), Some(&right));
+        assert!(rt; sides.get(2 * frame) == Some(&0));
+        assert!(rt; sides.get(2 * frame + 1) == Some(&right));
     }
     Ok(())
 }
@@ -109,7 +109,7 @@ fn frames_last_through_the_release(rt: HostRuntime) -> Result<(), Fail> {
 fn a_note_without_length_has_its_release(rt: HostRuntime) -> Result<(), Fail> {
     let instrument = b"add-inst 0 \"i\" { 0 g 17 500 g 34 -11999 g 38 -11999 g 54 1 }\n";
     let sides = rendered(rt.alloc(), ONE, instrument, b"0 0 0 0 60 127")?;
-    assert_eq!(rt; sides.len(), 2 * 43);
+    assert!(rt; sides.len() == 2 * 43);
     assert!(rt; sides.iter().all(|side| *side == 0));
     Ok(())
 }
@@ -118,9 +118,9 @@ fn a_note_without_length_has_its_release(rt: HostRuntime) -> Result<(), Fail> {
 fn frames_go_on_where_the_sample_has_ended(rt: HostRuntime) -> Result<(), Fail> {
     let instrument = b"add-inst 0 \"i\" { 0 g 54 3 g 38 -11999 }\n";
     let sides = rendered(rt.alloc(), THREE, instrument, b"0 3 0 0 60 127")?;
-    assert_eq!(rt; sides.len(), 2 * 46);
+    assert!(rt; sides.len() == 2 * 46);
     let heard = [500, 500, 1000, 1000, -1000, -1000, 1000, 1000, -776, -776];
-    assert_eq!(rt; sides.get(..10), Some(heard.as_slice()));
+    assert!(rt; sides.get(..10) == Some(heard.as_slice()));
     assert!(rt; sides.iter().skip(10).all(|side| *side == 0));
     Ok(())
 }
@@ -136,6 +136,6 @@ fn sums_are_cut_once(rt: HostRuntime) -> Result<(), Fail> {
         b"add-inst 0 \"i\" { 0 g 17 500 g 43 0..60 g 54 1 } { 1 g 17 500 g 43 61..127 g 54 1 }\n";
     let up_up_down = b"0 2 0 0 60 127\n0 2 0 0 60 127\n0 1 0 0 61 127";
     let sides = rendered(rt.alloc(), UP_AND_DOWN, instrument, up_up_down)?;
-    assert_eq!(rt; sides.as_slice(), [0, 30000, 0, 32767].as_slice());
+    assert!(rt; sides.as_slice() == [0, 30000, 0, 32767].as_slice());
     Ok(())
 }

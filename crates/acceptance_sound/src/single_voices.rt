@@ -142,13 +142,10 @@ fn a_run_is_cut_anywhere(rt: HostRuntime) -> Result<(), Fail> {
     if let Some(mut voice) = started {
         let mut front: [i32; 6] = silence();
         add(&mut voice, &mut front);
-        assert_eq!(rt; front, [500, 500, 3, 3, 993, 993]);
+        assert!(rt; front == [500, 500, 3, 3, 993, 993]);
         let mut back: [i32; 12] = silence();
         add(&mut voice, &mut back);
-        assert_eq!(rt;
-            back,
-            [-11, -11, -987, -987, 16, 16, 979, 979, -24, -24, 0, 0]
-        );
+        assert!(rt; back == [-11, -11, -987, -987, 16, 16, 979, 979, -24, -24, 0, 0]);
         assert!(rt; voice.done());
     }
     Ok(())
@@ -171,7 +168,7 @@ fn an_attack_and_a_release_on_the_right(rt: HostRuntime) -> Result<(), Fail> {
         assert!(rt; voice.done());
         let heard = [0, 1, 42, 43, 50, 71, 92].map(|frame| frame_of(&sums, frame));
         let right = [0, 23, 976, 1000, 1000, 4, 0];
-        assert_eq!(rt; heard, right.map(|side| Some((0, side))));
+        assert!(rt; heard == right.map(|side| Some((0, side))));
     }
     Ok(())
 }

@@ -115,7 +115,7 @@ fn worked_voices(rt: HostRuntime) -> Result<(), Fail> {
         let note = Note::new(0, sound.0, 0, 0, sound.1, 127).expect(&rt, "a note");
         let voice = started(rt.alloc(), file.as_slice(), &note)?;
         let found = frames_of(rt.alloc(), voice)?;
-        assert_eq!(rt; found.as_slice(), frames);
+        assert!(rt; found.as_slice() == frames);
     }
     Ok(())
 }
@@ -126,7 +126,7 @@ fn an_attack_and_a_release(rt: HostRuntime) -> Result<(), Fail> {
     let file = file_of(rt.alloc(), ONE, instrument)?;
     let note = Note::new(0, 50, 0, 0, 60, 127).expect(&rt, "a note");
     let frames = frames_of(rt.alloc(), started(rt.alloc(), file.as_slice(), &note)?)?;
-    assert_eq!(rt; frames.len(), 93);
+    assert!(rt; frames.len() == 93);
     assert!(rt; frames.iter().all(|frame| frame.0 == 0));
     let worked = [
         (0, 0),
@@ -138,11 +138,11 @@ fn an_attack_and_a_release(rt: HostRuntime) -> Result<(), Fail> {
         (92, 0),
     ];
     for (frame, right) in worked {
-        assert_eq!(rt; frames.get(frame), Some(&(0, right)));
+        assert!(rt; frames.get(frame) == Some(&(0, right)));
     }
     let empty = Note::new(0, 0, 0, 0, 60, 127).expect(&rt, "a note");
     let frames = frames_of(rt.alloc(), started(rt.alloc(), file.as_slice(), &empty)?)?;
-    assert_eq!(rt; frames.len(), 43);
+    assert!(rt; frames.len() == 43);
     assert!(rt; frames.iter().all(|frame| *frame == (0, 0)));
     Ok(())
 }
@@ -163,7 +163,7 @@ fn a_decay_to_a_sustain(rt: HostRuntime) -> Result<(), Fail> {
         (71, 2),
     ];
     for (frame, right) in worked {
-        assert_eq!(rt; frames.get(frame), Some(&(0, right)));
+        assert!(rt; frames.get(frame) == Some(&(0, right)));
     }
     Ok(())
 }
@@ -175,10 +175,7 @@ fn the_later_modulator_and_the_class(rt: HostRuntime) -> Result<(), Fail> {
     let (bank, _counts) = read(rt.alloc(), file.as_slice())?;
     let note = Note::new(0, 8, 0, 0, 67, 127).expect(&rt, "a note");
     let played = params(&bank, &note, (0, 0));
-    assert_eq!(rt;
-        played.map(|parameters| (parameters.pan, parameters.class)),
-        Some((248, 1))
-    );
+    assert!(rt; played.map(|parameters| (parameters.pan, parameters.class)) == Some((248, 1)));
     Ok(())
 }
 
@@ -235,6 +232,6 @@ fn a_sample_over_three_slices(rt: HostRuntime) -> Result<(), Fail> {
     let frames = frames_of(rt.alloc(), Voice::start(rt.alloc(), &bank, &note, (0, 0))?)?;
     let left = [5, 0, 1, 1, 2, 2, 3, 3, 4, 4, 5, 6];
     let worked = left.map(|side| (side, side));
-    assert_eq!(rt; frames.as_slice(), worked.as_slice());
+    assert!(rt; frames.as_slice() == worked.as_slice());
     Ok(())
 }

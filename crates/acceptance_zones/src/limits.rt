@@ -51,7 +51,7 @@ fn canonical_length(alloc: Global, file: Result<Vec<u8>, AllocError>) -> Option<
 #[test]
 fn the_most_samples(rt: HostRuntime) {
     let file = with_more(rt.alloc(), 258, 46, 65_535);
-    assert_eq!(rt; canonical_length(rt.alloc(), file), Some(9_044_138));
+    assert!(rt; canonical_length(rt.alloc(), file) == Some(9_044_138));
 }
 
 #[test]
