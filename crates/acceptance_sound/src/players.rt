@@ -13,7 +13,7 @@ use worked_files::tone;
 
 /// What is done with a bank and a player.
 #[derive(Clone, Copy)]
-enum Act {
+pub(crate) enum Act {
     /// Starts a note of this length, in frames, and of this key; of the preset with the numbers 0 and 0.
     Start(u32, u8),
     /// Plays a block with these sides, the left and the right of each frame in turn.
@@ -58,8 +58,8 @@ fn extension<'a>(alloc: Global) -> Result<Step<'a>, Fail> {
     })
 }
 
-// Whether the act's edit is done, if it makes one.
-fn edits<'a>(alloc: Global, bank: &mut Bank<'a>, act: Act) -> Result<bool, Fail> {
+/// Whether the act's edit is done, if it makes one.
+pub(crate) fn edits<'a>(alloc: Global, bank: &mut Bank<'a>, act: Act) -> Result<bool, Fail> {
     Ok(match step_of(alloc, act)? {
         Some(step) => apply(alloc, bank, Edit::One(step)).is_ok(),
         None => true,
@@ -163,7 +163,7 @@ fn a_note_plays_on_while_its_bank_is_edited(rt: HostRuntime) -> Result<(), Fail>
 }
 
 /// A sample of the points 1 to 10 with a loop.
-const TEN: &[u8] =
+pub(crate) const TEN: &[u8] =
     b"add-sample 0 \"n\" 44100 60 0 mono loop 4 6 x0100020003000400050006000700080009000a00\n";
 
 const OF_CLASS_1: &[u8] = b"add-inst 0 \"i\" { 0 g 54 1 g 57 1 }\n";

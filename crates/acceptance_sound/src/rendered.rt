@@ -85,57 +85,97 @@ fn worked_notes(rt: HostRuntime) -> Result<(), Fail> {
 pub(crate) const RELEASED: &[u8] =
     b"add-inst 0 \"i\" { 0 g 17 500 g 34 -11999 g 38 -11999 g 54 1 }\n";
 
-#[test]
-fn frames_last_through_the_release(rt: HostRuntime) -> Result<(), Fail> {
-    let sides = rendered(rt.alloc(), ONE, RELEASED, b"0 50 0 0 60 127")?;
-    assert!(rt; sides.len() == 2 * 93);
-    let worked = [
-        (0, 0),
-        (1, 23),
-        (42, 976),
-        (43, 1000),
-        (50, 1000),
-        (71, 4),
-        (92, 0),
-    ];
-    for (frame, right) in worked {
-        assert!(rt; sides.get(2 * frame) == Some(&0));
-        assert!(rt; sides.get(2 * frame + 1) == Some(&right));
-    }
-    Ok(())
-}
-
-#[test]
-fn a_note_without_length_has_its_release(rt: HostRuntime) -> Result<(), Fail> {
-    let instrument = b"add-inst 0 \"i\" { 0 g 17 500 g 34 -11999 g 38 -11999 g 54 1 }\n";
-    let sides = rendered(rt.alloc(), ONE, instrument, b"0 0 0 0 60 127")?;
-    assert!(rt; sides.len() == 2 * 43);
-    assert!(rt; sides.iter().all(|side| *side == 0));
-    Ok(())
-}
-
-#[test]
-fn frames_go_on_where_the_sample_has_ended(rt: HostRuntime) -> Result<(), Fail> {
-    let instrument = b"add-inst 0 \"i\" { 0 g 54 3 g 38 -11999 }\n";
-    let sides = rendered(rt.alloc(), THREE, instrument, b"0 3 0 0 60 127")?;
-    assert!(rt; sides.len() == 2 * 46);
-    let heard = [500, 500, 1000, 1000, -1000, -1000, 1000, 1000, -776, -776];
-    assert!(rt; sides.get(..10) == Some(heard.as_slice()));
-    assert!(rt; sides.iter().skip(10).all(|side| *side == 0));
-    Ok(())
-}
-
 /// Samples of one point, of 30000 and of -30000.
 const UP_AND_DOWN: &[u8] = b"\
     add-sample 0 \"u\" 44100 60 0 mono loop 0 1 x3075\n\
     add-sample 1 \"d\" 44100 60 0 mono loop 0 1 xd08a\n";
 
+/// What a text of notes gives over samples and an instrument: how many sides, the left and the right of
+/// each frame in turn; some of them by their places; and the place from which on all are 0.
+struct Heard {
+    samples: &'static [u8],
+    instrument: &'static [u8],
+    notes: &'static [u8],
+    count: usize,
+    sides: &'static [(usize, i16)],
+    silent_from: usize,
+}
+
+const HEARD: [Heard; 4] = [
+    // Frames last through the release.
+    Heard {
+        samples: ONE,
+        instrument: RELEASED,
+        notes: b"0 50 0 0 60 127",
+        count: 2 * 93,
+        sides: &[
+            (0, 0),
+            (1, 0),
+            (2, 0),
+            (3, 23),
+            (84, 0),
+            (85, 976),
+            (86, 0),
+            (87, 1000),
+            (100, 0),
+            (101, 1000),
+            (142, 0),
+            (143, 4),
+        ],
+        silent_from: 184,
+    },
+    // A note without length has its release.
+    Heard {
+        samples: ONE,
+        instrument: RELEASED,
+        notes: b"0 0 0 0 60 127",
+        count: 2 * 43,
+        sides: &[],
+        silent_from: 0,
+    },
+    // Frames go on where the sample has ended.
+    Heard {
+        samples: THREE,
+        instrument: b"add-inst 0 \"i\" { 0 g 54 3 g 38 -11999 }\n",
+        notes: b"0 3 0 0 60 127",
+        count: 2 * 46,
+        sides: &[
+            (0, 500),
+            (1, 500),
+            (2, 1000),
+            (3, 1000),
+            (4, -1000),
+            (5, -1000),
+            (6, 1000),
+            (7, 1000),
+            (8, -776),
+            (9, -776),
+        ],
+        silent_from: 10,
+    },
+    // Sums are cut once.
+    Heard {
+        samples: UP_AND_DOWN,
+        instrument: b"add-inst 0 \"i\" { 0 g 17 500 g 43 0..60 g 54 1 } { 1 g 17 500 g 43 61..127 g 54 1 }\n",
+        notes: b"0 2 0 0 60 127\n0 2 0 0 60 127\n0 1 0 0 61 127",
+        count: 4,
+        sides: &[(0, 0), (1, 30000), (2, 0), (3, 32767)],
+        silent_from: 4,
+    },
+];
+
 #[test]
-fn sums_are_cut_once(rt: HostRuntime) -> Result<(), Fail> {
-    let instrument =
-        b"add-inst 0 \"i\" { 0 g 17 500 g 43 0..60 g 54 1 } { 1 g 17 500 g 43 61..127 g 54 1 }\n";
-    let up_up_down = b"0 2 0 0 60 127\n0 2 0 0 60 127\n0 1 0 0 61 127";
-    let sides = rendered(rt.alloc(), UP_AND_DOWN, instrument, up_up_down)?;
-    assert!(rt; sides.as_slice() == [0, 30000, 0, 32767].as_slice());
+fn whole_lists_of_notes(rt: HostRuntime) -> Result<(), Fail> {
+    for (row, heard) in HEARD.iter().enumerate() {
+        let sides = rendered(rt.alloc(), heard.samples, heard.instrument, heard.notes)?;
+        assert!(rt; sides.len() == heard.count, "row {row}");
+        for (place, side) in heard.sides {
+            assert!(rt; sides.get(*place) == Some(side), "row {row}");
+        }
+        assert!(rt;
+            sides.iter().skip(heard.silent_from).all(|side| *side == 0),
+            "row {row}"
+        );
+    }
     Ok(())
 }

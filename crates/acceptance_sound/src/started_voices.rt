@@ -1,11 +1,9 @@
 //! The voices of pairs of zones, of banks that scripts build.
 
-use crate::selection::{instrument_of, no_texts, preset_of};
-use bank_core::{Bank, Kind, Owners, Parts, Sample};
+use crate::players::{Act, TEN, edits};
+use crate::rendered::RELEASED;
 use note_list::Note;
-use numbered_lists::NumberedList;
-use sample_view::Points;
-use sf_base::{Failure, Name20};
+use sf_base::Failure;
 use sf_reader::read;
 use sfbank::edit_run;
 use std::alloc::Global;
@@ -24,21 +22,20 @@ const PRESET: &[u8] = b"add-preset 0 \"p\" 0 0 0 0 0 { 0 }\n";
 /// The frames of a voice.
 type Frames<'a> = &'a [(i32, i32)];
 
-// The file of a bank of a sample, an instrument and a preset of the numbers 0 and 0.
+/// The file of the bank that a script makes of the empty one.
+pub(crate) fn made(alloc: Global, script: &[u8]) -> Result<Vec<u8>, Fail> {
+    let mut out = Vec::new(alloc);
+    let mut undo = Vec::new(alloc);
+    edit_run(alloc, empty().bytes(), script, &mut out, &mut undo)?;
+    Ok(out)
+}
+
+/// The file of a bank of a sample, an instrument and a preset of the numbers 0 and 0.
 pub(crate) fn file_of(alloc: Global, sample: &[u8], instrument: &[u8]) -> Result<Vec<u8>, Fail> {
     let mut script = Vec::from_slice(alloc, sample)?;
     script.extend_from_slice(instrument)?;
     script.extend_from_slice(PRESET)?;
-    let mut out = Vec::new(alloc);
-    let mut undo = Vec::new(alloc);
-    edit_run(
-        alloc,
-        empty().bytes(),
-        script.as_slice(),
-        &mut out,
-        &mut undo,
-    )?;
-    Ok(out)
+    made(alloc, script.as_slice())
 }
 
 // The voice of the first zones of a file's bank, which is dropped once the voice is started.
@@ -120,50 +117,56 @@ fn worked_voices(rt: HostRuntime) -> Result<(), Fail> {
     Ok(())
 }
 
-#[test]
-fn an_attack_and_a_release(rt: HostRuntime) -> Result<(), Fail> {
-    let instrument = b"add-inst 0 \"i\" { 0 g 17 500 g 34 -11999 g 38 -11999 g 54 1 }\n";
-    let file = file_of(rt.alloc(), ONE, instrument)?;
-    let note = Note::new(0, 50, 0, 0, 60, 127).expect(&rt, "a note");
-    let frames = frames_of(rt.alloc(), started(rt.alloc(), file.as_slice(), &note)?)?;
-    assert!(rt; frames.len() == 93);
-    assert!(rt; frames.iter().all(|frame| frame.0 == 0));
-    let worked = [
-        (0, 0),
-        (1, 23),
-        (42, 976),
-        (43, 1000),
-        (50, 1000),
-        (71, 4),
-        (92, 0),
-    ];
-    for (frame, right) in worked {
-        assert!(rt; frames.get(frame) == Some(&(0, right)));
-    }
-    let empty = Note::new(0, 0, 0, 0, 60, 127).expect(&rt, "a note");
-    let frames = frames_of(rt.alloc(), started(rt.alloc(), file.as_slice(), &empty)?)?;
-    assert!(rt; frames.len() == 43);
-    assert!(rt; frames.iter().all(|frame| *frame == (0, 0)));
-    Ok(())
-}
+/// Instruments over the sample of one point, all on the right: a note's length, how many frames it has if
+/// that is told, the loudest side that it may have, and the right sides of some frames.
+const ON_THE_RIGHT: [(&[u8], u32, Option<usize>, i32, &[(usize, i32)]); 3] = [
+    // An attack and a release.
+    (
+        RELEASED,
+        50,
+        Some(93),
+        1000,
+        &[
+            (0, 0),
+            (1, 23),
+            (42, 976),
+            (43, 1000),
+            (50, 1000),
+            (71, 4),
+            (92, 0),
+        ],
+    ),
+    // A note without length has its release.
+    (RELEASED, 0, Some(43), 0, &[]),
+    // A decay to a sustain.
+    (
+        b"add-inst 0 \"i\" { 0 g 17 500 g 34 -11999 g 36 -11999 g 37 60 g 38 -11999 g 54 1 }\n",
+        50,
+        None,
+        1000,
+        &[
+            (43, 1000),
+            (44, 775),
+            (45, 601),
+            (46, 500),
+            (50, 500),
+            (71, 2),
+        ],
+    ),
+];
 
 #[test]
-fn a_decay_to_a_sustain(rt: HostRuntime) -> Result<(), Fail> {
-    let instrument =
-        b"add-inst 0 \"i\" { 0 g 17 500 g 34 -11999 g 36 -11999 g 37 60 g 38 -11999 g 54 1 }\n";
-    let file = file_of(rt.alloc(), ONE, instrument)?;
-    let note = Note::new(0, 50, 0, 0, 60, 127).expect(&rt, "a note");
-    let frames = frames_of(rt.alloc(), started(rt.alloc(), file.as_slice(), &note)?)?;
-    let worked = [
-        (43, 1000),
-        (44, 775),
-        (45, 601),
-        (46, 500),
-        (50, 500),
-        (71, 2),
-    ];
-    for (frame, right) in worked {
-        assert!(rt; frames.get(frame) == Some(&(0, right)));
+fn envelopes_on_the_right(rt: HostRuntime) -> Result<(), Fail> {
+    for (instrument, length, count, loudest, sides) in ON_THE_RIGHT {
+        let file = file_of(rt.alloc(), ONE, instrument)?;
+        let note = Note::new(0, length, 0, 0, 60, 127).expect(&rt, "a note");
+        let frames = frames_of(rt.alloc(), started(rt.alloc(), file.as_slice(), &note)?)?;
+        assert!(rt; count.is_none_or(|count| frames.len() == count));
+        let within = |frame: &(i32, i32)| frame.0 == 0 && frame.1 >= 0 && frame.1 <= loudest;
+        assert!(rt; frames.iter().all(within));
+        for (frame, right) in sides {
+            assert!(rt; frames.get(*frame) == Some(&(0, *right)), "frame {frame}");
+        }
     }
     Ok(())
 }
@@ -179,59 +182,43 @@ fn the_later_modulator_and_the_class(rt: HostRuntime) -> Result<(), Fail> {
     Ok(())
 }
 
+// Whether a voice of T is refused since no such pair is there.
+fn is_refused(alloc: Global, pair: (u32, u32)) -> Result<bool, Fail> {
+    let file = tone();
+    let (bank, _counts) = read(alloc, file.bytes())?;
+    Ok(match Note::new(0, 8, 0, 0, 67, 127) {
+        Some(note) => matches!(
+            Voice::start(alloc, &bank, &note, pair),
+            Err(Failure::Fault(_))
+        ),
+        None => false,
+    })
+}
+
 #[test]
 fn no_such_pair(rt: HostRuntime) -> Result<(), Fail> {
-    let file = tone();
-    let (bank, _counts) = read(rt.alloc(), file.bytes())?;
-    let note = Note::new(0, 8, 0, 0, 67, 127).expect(&rt, "a note");
-    for pair in [(0, 1), (1, 0)] {
-        let voice = Voice::start(rt.alloc(), &bank, &note, pair);
-        assert!(rt; matches!(&voice, Err(Failure::Fault(_))));
-    }
+    assert!(rt; is_refused(rt.alloc(), (0, 1))? && is_refused(rt.alloc(), (1, 0))?);
+    assert!(rt; !is_refused(rt.alloc(), (0, 0))?);
     Ok(())
 }
 
-// A bank of one sample, without a loop, of these points.
-fn bank_over<'a>(alloc: Global, points: Points<'a>) -> Result<Bank<'a>, Fail> {
-    let mut presets = Owners::new(alloc);
-    presets.push(preset_of(alloc, (0, 0), &[], &[(0, &[])])?)?;
-    let mut instruments = Owners::new(alloc);
-    instruments.push(instrument_of(alloc, &[], &[(0, &[])])?)?;
-    let mut samples = Vec::new(alloc);
-    samples.push(Sample {
-        name: Name20::from_bytes(b"s")?,
-        points,
-        looped: None,
-        rate: 44_100,
-        key: 60,
-        correction: 0,
-        kind: Kind::Mono,
-    })?;
-    Ok(Bank::from_parts(
-        alloc,
-        Parts {
-            minor: 4,
-            texts: no_texts(),
-            presets,
-            instruments,
-            samples: NumberedList::from_vec(samples),
-        },
-    )?)
+// The frames of a voice over a sample whose points stand in three slices.
+fn frames_over_three_slices(alloc: Global) -> Result<Vec<(i32, i32)>, Fail> {
+    let file = file_of(alloc, TEN, b"add-inst 0 \"i\" { 0 }\n")?;
+    let (mut bank, _counts) = read(alloc, file.as_slice())?;
+    if !edits(alloc, &mut bank, Act::Extend)? {
+        return Ok(Vec::new(alloc));
+    }
+    match Note::new(0, 12, 0, 0, 60, 127) {
+        Some(note) => frames_of(alloc, Voice::start(alloc, &bank, &note, (0, 0))?),
+        None => Ok(Vec::new(alloc)),
+    }
 }
 
 #[test]
 fn a_sample_over_three_slices(rt: HostRuntime) -> Result<(), Fail> {
-    let middle = [1, 0, 2, 0, 3, 0, 4, 0, 5, 0, 6, 0, 7, 0, 8, 0, 9, 0, 10, 0];
-    let mut points = Points::of_slice(rt.alloc(), &middle)?;
-    let front = Points::of_slice(rt.alloc(), &[11, 0])?;
-    let back = Points::of_slice(rt.alloc(), &[12, 0])?;
-    assert!(rt; points.len() == 10 && front.len() == 1 && back.len() == 1);
-    assert!(rt; points.join(front, back).is_ok());
-    let bank = bank_over(rt.alloc(), points)?;
-    let note = Note::new(0, 12, 0, 0, 60, 127).expect(&rt, "a note");
-    let frames = frames_of(rt.alloc(), Voice::start(rt.alloc(), &bank, &note, (0, 0))?)?;
     let left = [5, 0, 1, 1, 2, 2, 3, 3, 4, 4, 5, 6];
     let worked = left.map(|side| (side, side));
-    assert!(rt; frames.as_slice() == worked.as_slice());
+    assert!(rt; frames_over_three_slices(rt.alloc())?.as_slice() == worked.as_slice());
     Ok(())
 }
