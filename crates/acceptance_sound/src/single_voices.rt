@@ -3,6 +3,7 @@ ghost use Rattle.std.specs.Prelude.{◌≡◌, ◌≤◌, ◌%◌, length};
 ghost use Rattle.voices.specs.Within.{AllWithin};
 
 use sample_view::Points;
+use std::alloc::Global;
 use std::test::Fail;
 use voices::Voice;
 use zone_select::VoiceParameters;
@@ -53,6 +54,15 @@ fn voice_of<'a>(points: Points<'a>, parameters: VoiceParameters) -> Option<Voice
         return None;
     }
     Some(Voice::of(points, parameters))
+}
+
+// The voice over these points, where its parameters are within their ranges.
+fn voice_over<'a>(
+    alloc: Global,
+    points: &'a [u8],
+    parameters: VoiceParameters,
+) -> Result<Option<Voice<'a>>, Fail> {
+    Ok(voice_of(Points::of_slice(alloc, points)?, parameters))
 }
 
 // Whether these are the next frames.
@@ -124,59 +134,46 @@ fn holds(sums: &[i32], frames: &[i32]) -> bool {
 
 #[test]
 fn a_loop_goes_round(rt: HostRuntime) -> Result<(), Fail> {
-    let points = Points::of_slice(rt.alloc(), &THREE)?;
-    let started = voice_of(points, looped());
-    assert!(rt; started.is_some());
-    if let Some(mut voice) = started {
-        let frames = [500, 3, 993, -11, -987, 16, 979, -24].map(|side| (side, side));
-        assert!(rt; ends_after(&mut voice, &frames));
-    }
+    let mut voice = voice_over(rt.alloc(), &THREE, looped())?.expect(&rt, "a voice");
+    let frames = [500, 3, 993, -11, -987, 16, 979, -24].map(|side| (side, side));
+    assert!(rt; ends_after(&mut voice, &frames));
     Ok(())
 }
 
 #[test]
 fn a_run_is_cut_anywhere(rt: HostRuntime) -> Result<(), Fail> {
-    let points = Points::of_slice(rt.alloc(), &THREE)?;
-    let started = voice_of(points, looped());
-    assert!(rt; started.is_some());
-    if let Some(mut voice) = started {
-        let mut front: [i32; 6] = silence();
-        add(&mut voice, &mut front);
-        assert!(rt; front == [500, 500, 3, 3, 993, 993]);
-        let mut back: [i32; 12] = silence();
-        add(&mut voice, &mut back);
-        assert!(rt; back == [-11, -11, -987, -987, 16, 16, 979, 979, -24, -24, 0, 0]);
-        assert!(rt; voice.done());
-    }
+    let mut voice = voice_over(rt.alloc(), &THREE, looped())?.expect(&rt, "a voice");
+    let mut front: [i32; 6] = silence();
+    add(&mut voice, &mut front);
+    assert!(rt; front == [500, 500, 3, 3, 993, 993]);
+    let mut back: [i32; 12] = silence();
+    add(&mut voice, &mut back);
+    assert!(rt; back == [-11, -11, -987, -987, 16, 16, 979, 979, -24, -24, 0, 0]);
+    assert!(rt; voice.done());
     Ok(())
 }
 
 #[test]
 fn an_attack_and_a_release_on_the_right(rt: HostRuntime) -> Result<(), Fail> {
-    let points = Points::of_slice(rt.alloc(), &THREE[..2])?;
     let mut parameters = plain(1, 50);
     parameters.loop_end = 1;
     parameters.looped = true;
     parameters.attack = 43;
     parameters.release = 43;
     parameters.pan = 500;
-    let started = voice_of(points, parameters);
-    assert!(rt; started.is_some());
-    if let Some(mut voice) = started {
-        let mut sums: [i32; 186] = silence();
-        add(&mut voice, &mut sums);
-        assert!(rt; voice.done());
-        let heard = [0, 1, 42, 43, 50, 71, 92].map(|frame| frame_of(&sums, frame));
-        let right = [0, 23, 976, 1000, 1000, 4, 0];
-        assert!(rt; heard == right.map(|side| Some((0, side))));
-    }
+    let mut voice = voice_over(rt.alloc(), &THREE[..2], parameters)?.expect(&rt, "a voice");
+    let mut sums: [i32; 186] = silence();
+    add(&mut voice, &mut sums);
+    assert!(rt; voice.done());
+    let heard = [0, 1, 42, 43, 50, 71, 92].map(|frame| frame_of(&sums, frame));
+    let right = [0, 23, 976, 1000, 1000, 4, 0];
+    assert!(rt; heard == right.map(|side| Some((0, side))));
     Ok(())
 }
 
 #[test]
 fn a_loop_that_the_notes_end_leaves(rt: HostRuntime) -> Result<(), Fail> {
     let bytes = [0xe8, 0x03, 0xd0, 0x07, 0x30, 0xf8, 0xb8, 0x0b, 0x00, 0x80];
-    let points = Points::of_slice(rt.alloc(), &bytes)?;
     let mut parameters = plain(5, 6);
     parameters.loop_start = 1;
     parameters.loop_end = 3;
@@ -186,55 +183,54 @@ fn a_loop_that_the_notes_end_leaves(rt: HostRuntime) -> Result<(), Fail> {
     parameters.release = 1000;
     parameters.attenuation = 60;
     parameters.pan = -250;
-    let started = voice_of(points, parameters);
-    assert!(rt; started.is_some());
-    if let Some(mut voice) = started {
-        let held = [
-            (375, 125),
-            (656, 218),
-            (0, 0),
-            (-375, -125),
-            (750, 250),
-            (-375, -125),
-        ];
-        assert!(rt; plays(&mut voice, &held));
-        let rest = [(187, 62), (-2229, -743), (-12150, -4050), (-3003, -1001)];
-        assert!(rt; ends_after(&mut voice, &rest));
-    }
+    let mut voice = voice_over(rt.alloc(), &bytes, parameters)?.expect(&rt, "a voice");
+    let held = [
+        (375, 125),
+        (656, 218),
+        (0, 0),
+        (-375, -125),
+        (750, 250),
+        (-375, -125),
+    ];
+    assert!(rt; plays(&mut voice, &held));
+    let rest = [(187, 62), (-2229, -743), (-12150, -4050), (-3003, -1001)];
+    assert!(rt; ends_after(&mut voice, &rest));
     Ok(())
+}
+
+// A voice over seven points in three slices.
+fn over_three_slices<'a>(alloc: Global) -> Result<Option<Voice<'a>>, Fail> {
+    let mut points = Points::of_slice(alloc, &[0xb8, 0x0b, 0x60, 0xf0, 0x88, 0x13])?;
+    let front = Points::of_slice(alloc, &[0xe8, 0x03, 0xd0, 0x07])?;
+    let back = Points::of_slice(alloc, &[0x70, 0x17, 0xa8, 0xe4])?;
+    if points.len() != 3
+        || front.len() != 2
+        || back.len() != 2
+        || points.join(front, back).is_err()
+    {
+        return Ok(None);
+    }
+    let mut parameters = plain(7, 20);
+    parameters.step = 40000;
+    Ok(voice_of(points, parameters))
 }
 
 #[test]
 fn a_voice_over_three_slices(rt: HostRuntime) -> Result<(), Fail> {
-    let mut points = Points::of_slice(rt.alloc(), &[0xb8, 0x0b, 0x60, 0xf0, 0x88, 0x13])?;
-    let front = Points::of_slice(rt.alloc(), &[0xe8, 0x03, 0xd0, 0x07])?;
-    let back = Points::of_slice(rt.alloc(), &[0x70, 0x17, 0xa8, 0xe4])?;
-    assert!(rt; points.len() == 3 && front.len() == 2 && back.len() == 2);
-    assert!(rt; points.join(front, back).is_ok());
-    let mut parameters = plain(7, 20);
-    parameters.step = 40000;
     let frames = [
         500, 805, 1110, 1415, -45, -1768, 979, 2636, 2941, -206, -3138, -1002,
     ];
-    let started = voice_of(points.copy(rt.alloc())?, parameters);
-    assert!(rt; started.is_some());
-    if let Some(mut voice) = started {
-        assert!(rt; ends_after(&mut voice, &frames.map(|side| (side, side))));
-    }
-    let started = voice_of(points, parameters);
-    assert!(rt; started.is_some());
-    if let Some(mut voice) = started {
-        let mut sums: [i32; 24] = silence();
-        add(&mut voice, &mut sums);
-        assert!(rt; voice.done());
-        assert!(rt; holds(&sums, &frames));
-    }
+    let mut voice = over_three_slices(rt.alloc())?.expect(&rt, "a voice");
+    assert!(rt; ends_after(&mut voice, &frames.map(|side| (side, side))));
+    let mut voice = over_three_slices(rt.alloc())?.expect(&rt, "a voice");
+    let mut sums: [i32; 24] = silence();
+    add(&mut voice, &mut sums);
+    assert!(rt; voice.done() && holds(&sums, &frames));
     Ok(())
 }
 
 #[test]
 fn each_phase_of_an_envelope(rt: HostRuntime) -> Result<(), Fail> {
-    let points = Points::of_slice(rt.alloc(), &[0x30, 0x75])?;
     let mut parameters = plain(1, 16);
     parameters.loop_end = 1;
     parameters.looped = true;
@@ -249,13 +245,10 @@ fn each_phase_of_an_envelope(rt: HostRuntime) -> Result<(), Fail> {
         0, 0, 0, 2651, 5303, 7954, 10606, 10606, 10606, 2651, 662, 331, 331, 331, 331, 331, 331,
         82, 20, 4, 1, 0, 0, 0,
     ];
-    let started = voice_of(points, parameters);
-    assert!(rt; started.is_some());
-    if let Some(mut voice) = started {
-        let mut sums: [i32; 48] = silence();
-        add(&mut voice, &mut sums);
-        assert!(rt; voice.done());
-        assert!(rt; holds(&sums, &frames));
-    }
+    let mut voice = voice_over(rt.alloc(), &[0x30, 0x75], parameters)?.expect(&rt, "a voice");
+    let mut sums: [i32; 48] = silence();
+    add(&mut voice, &mut sums);
+    assert!(rt; voice.done());
+    assert!(rt; holds(&sums, &frames));
     Ok(())
 }
