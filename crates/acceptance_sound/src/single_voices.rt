@@ -199,7 +199,7 @@ fn a_loop_that_the_notes_end_leaves(rt: HostRuntime) -> Result<(), Fail> {
 }
 
 // A voice over seven points in three slices.
-fn over_three_slices<'a>(alloc: Global) -> Result<Option<Voice<'a>>, Fail> {
+fn over_three_slices(alloc: Global) -> Result<Option<Voice<'static>>, Fail> {
     let mut points = Points::of_slice(alloc, &[0xb8, 0x0b, 0x60, 0xf0, 0x88, 0x13])?;
     let front = Points::of_slice(alloc, &[0xe8, 0x03, 0xd0, 0x07])?;
     let back = Points::of_slice(alloc, &[0x70, 0x17, 0xa8, 0xe4])?;
