@@ -1,0 +1,5 @@
+pub mod Starts
+pub mod Exchanges
+pub mod TableLaws
+pub mod Spots
+pub mod Wholes

@@ -1,0 +1,173 @@
+-- Where the members of a list begin that stand one after the other.
+use Rattle.std.proofs.Common.{◌≡◌, ℕ, ◌<◌, ◌≤◌, ◌+◌, suc, zero, List, [], ◌∷◌, ◌++◌, length, map, All, insert, remove, refl, sym, ◌∙◌, ap, take, drop, get_or, ◌-◌, set, append_assoc, length-append, length-take, length-drop, zero-add, suc-add, arith}
+use Rattle.std.specs.List.{flat_map}
+use Rattle.std.proofs.lemmas.List.Concat.{flat_map-append}
+use Rattle.std.proofs.lemmas.List.Elements.{All-cons, All-nil}
+use Rattle.std.proofs.lemmas.List.{drop_at, drop-append-le, set-append_right, set-append_left}
+use Rattle.flat_records.specs.Runs.{starts, changed_from, put, cut}
+
+-- members from a place on, changed and changed back
+pub changed_from-undone : {X : Type 0} (f g : X → X) → ((x : X) → g (f x) ≡ x) → (k : ℕ) (xs : List X) → changed_from k g (changed_from k f xs) ≡ xs
+changed_from-undone f g h zero [] = refl
+changed_from-undone f g h zero (x ∷ xs) = λ i. h x i ∷ changed_from-undone f g h zero xs i
+changed_from-undone f g h (suc k) [] = refl
+changed_from-undone f g h (suc k) (x ∷ xs) = ap (λ zs. x ∷ zs) (changed_from-undone f g h k xs)
+
+pub unchanged_from : {X : Type 0} (f : X → X) → ((x : X) → f x ≡ x) → (k : ℕ) (xs : List X) → xs ≡ changed_from k f xs
+unchanged_from f h zero [] = refl
+unchanged_from f h zero (x ∷ xs) = λ i. sym (h x) i ∷ unchanged_from f h zero xs i
+unchanged_from f h (suc k) [] = refl
+unchanged_from f h (suc k) (x ∷ xs) = ap (λ zs. x ∷ zs) (unchanged_from f h k xs)
+
+-- what is put into or taken out of one of several lists that are joined
+pub put-right : {X : Type 0} (xs ys : List X) (j : ℕ) (zs : List X) → put (xs ++ ys) (length xs + j) zs ≡ xs ++ put ys j zs
+put-right [] ys j zs = rw (zero-add j) refl
+put-right (x ∷ xs) ys j zs = rw (suc-add (length xs) j) (ap (λ ws. x ∷ ws) (put-right xs ys j zs))
+
+pub put-left : {X : Type 0} (xs ys : List X) (j : ℕ) (zs : List X) → j ≤ length xs → put (xs ++ ys) j zs ≡ put xs j zs ++ ys
+put-left xs ys zero zs h = sym (append_assoc zs xs ys)
+put-left [] ys (suc j) zs h = absurd (omega arith)
+put-left (x ∷ xs) ys (suc j) zs h = ap (λ ws. x ∷ ws) (put-left xs ys j zs (omega arith))
+
+pub cut-put : {X : Type 0} (xs : List X) (j : ℕ) (zs : List X) (n : ℕ) → j ≤ length xs → n ≡ length zs → cut (put xs j zs) j n ≡ xs
+cut-put xs zero zs n h e = rw (e, zero-add (length zs)) (drop_at zs xs (length zs) refl)
+cut-put [] (suc j) zs n h e = absurd (omega arith)
+cut-put (x ∷ xs) (suc j) zs n h e = rw (suc-add j n) (ap (λ ws. x ∷ ws) (cut-put xs j zs n (omega arith) e))
+
+pub cut-right : {X : Type 0} (xs ys : List X) (j n : ℕ) → cut (xs ++ ys) (length xs + j) n ≡ xs ++ cut ys j n
+cut-right [] ys j n = rw (zero-add j) refl
+cut-right (x ∷ xs) ys j n = rw (suc-add (length xs) j, suc-add (length xs + j) n) (ap (λ ws. x ∷ ws) (cut-right xs ys j n))
+
+pub cut-left : {X : Type 0} (xs ys : List X) (j n : ℕ) → j + n ≤ length xs → cut (xs ++ ys) j n ≡ cut xs j n ++ ys
+cut-left xs ys zero n h = rw (zero-add n) (drop-append-le n xs ys (omega arith))
+cut-left [] ys (suc j) n h = absurd (omega arith)
+cut-left (x ∷ xs) ys (suc j) n h = rw (suc-add j n) (ap (λ ws. x ∷ ws) (cut-left xs ys j n (omega arith)))
+
+pub length-cut : {X : Type 0} (xs : List X) (j n : ℕ) → j + n ≤ length xs → length (cut xs j n) + n ≡ length xs
+length-cut xs j n h = simp (length-append, length-take, length-drop) (omega arith)
+
+pub length-put : {X : Type 0} (xs : List X) (j : ℕ) (zs : List X) → j ≤ length xs → length (put xs j zs) ≡ length xs + length zs
+length-put xs j zs h = simp (length-append, length-take, length-drop) (omega arith)
+
+-- a list of lists, one of which is changed
+module _ {X Y : Type 0} (part : Y → List X) where
+  pub flat-among : (front : List Y) (y : Y) (back : List Y) (rest : List X)
+      → flat_map part (front ++ y ∷ back) ++ rest ≡ flat_map part front ++ (part y ++ (flat_map part back ++ rest))
+  flat-among front y back rest =
+      ap (λ xs. xs ++ rest) (flat_map-append part front (y ∷ back))
+      ∙ (append_assoc (flat_map part front) (part y ++ flat_map part back) rest
+      ∙ ap (λ xs. flat_map part front ++ xs) (append_assoc (part y) (flat_map part back) rest))
+
+  pub flat-put : (front : List Y) (y z : Y) (back : List Y) (rest : List X) (at j : ℕ) (xs : List X)
+      → at ≡ length (flat_map part front) → j ≤ length (part y) → part z ≡ put (part y) j xs
+      → put (flat_map part (front ++ y ∷ back) ++ rest) (at + j) xs ≡ flat_map part (front ++ z ∷ back) ++ rest
+  flat-put front y z back rest at j xs e h same =
+      rw (e, flat-among front y back rest, flat-among front z back rest, put-right (flat_map part front) (part y ++ (flat_map part back ++ rest)) j xs, put-left (part y) (flat_map part back ++ rest) j xs h, same) refl
+
+  pub flat-cut : (front : List Y) (y z : Y) (back : List Y) (rest : List X) (at j n : ℕ)
+      → at ≡ length (flat_map part front) → j + n ≤ length (part y) → part z ≡ cut (part y) j n
+      → cut (flat_map part (front ++ y ∷ back) ++ rest) (at + j) n ≡ flat_map part (front ++ z ∷ back) ++ rest
+  flat-cut front y z back rest at j n e h same =
+      rw (e, flat-among front y back rest, flat-among front z back rest, cut-right (flat_map part front) (part y ++ (flat_map part back ++ rest)) j n, cut-left (part y) (flat_map part back ++ rest) j n h, same) refl
+
+  pub flat-set : (front : List Y) (y z : Y) (back : List Y) (rest : List X) (at j : ℕ) (x : X)
+      → at ≡ length (flat_map part front) → j < length (part y) → part z ≡ set (part y) j x
+      → set (flat_map part (front ++ y ∷ back) ++ rest) (at + j) x ≡ flat_map part (front ++ z ∷ back) ++ rest
+  flat-set front y z back rest at j x e h same =
+      let k : (length (flat_map part front) + j) - length (flat_map part front) ≡ j = omega arith in
+      rw (e, flat-among front y back rest, flat-among front z back rest, set-append_right (flat_map part front) (part y ++ (flat_map part back ++ rest)) (length (flat_map part front)) (length (flat_map part front) + j) x refl (omega arith), k, set-append_left (part y) (flat_map part back ++ rest) j x h, same) refl
+
+  pub flat-none : (front : List Y) (y : Y) (back : List Y) (rest : List X) → part y ≡ [] → flat_map part (front ++ y ∷ back) ++ rest ≡ flat_map part (front ++ back) ++ rest
+  flat-none front y back rest e = rw (flat_map-append part front (y ∷ back), flat_map-append part front back, e) refl
+
+  pub flat-kept : (front : List Y) (y z : Y) (back : List Y) (rest : List X) → part y ≡ part z
+      → flat_map part (front ++ y ∷ back) ++ rest ≡ flat_map part (front ++ z ∷ back) ++ rest
+  flat-kept front y z back rest e = rw (flat-among front y back rest, flat-among front z back rest, e) refl
+
+module _ {X M : Type 0} (past : M → X → M) where
+  -- the places without the last, and the last
+  abbrev pub begins : M → List X → List M
+  begins at [] = []
+  begins at (x ∷ xs) = at ∷ begins (past at x) xs
+
+  abbrev pub end : M → List X → M
+  end at [] = at
+  end at (x ∷ xs) = end (past at x) xs
+
+  pub length-begins : (at : M) (xs : List X) → length (begins at xs) ≡ length xs
+  length-begins at [] = refl
+  length-begins at (x ∷ xs) = ap suc (length-begins (past at x) xs)
+
+  pub length-starts : (at : M) (xs : List X) → length (starts past at xs) ≡ suc (length xs)
+  length-starts at [] = refl
+  length-starts at (x ∷ xs) = ap suc (length-starts (past at x) xs)
+
+  pub starts-append : (at : M) (xs ys : List X) → starts past at (xs ++ ys) ≡ begins at xs ++ starts past (end at xs) ys
+  starts-append at [] ys = refl
+  starts-append at (x ∷ xs) ys = ap (λ zs. at ∷ zs) (starts-append (past at x) xs ys)
+
+  -- another start: each place is sent through s
+  pub starts-shifted : (s : M → M) → ((m : M) (x : X) → s (past m x) ≡ past (s m) x) → (at : M) (xs : List X) → starts past (s at) xs ≡ map s (starts past at xs)
+  starts-shifted s h at [] = refl
+  starts-shifted s h at (x ∷ xs) = ap (λ m. s at ∷ starts past m xs) (sym (h at x)) ∙ ap (λ zs. s at ∷ zs) (starts-shifted s h (past at x) xs)
+
+  -- members behind the first ones
+  pub take-starts : (at : M) (xs ys : List X) → take (length xs) (starts past at (xs ++ ys)) ≡ begins at xs
+  take-starts at [] ys = refl
+  take-starts at (x ∷ xs) ys = ap (λ zs. at ∷ zs) (take-starts (past at x) xs ys)
+
+  pub drop-starts : (at : M) (xs ys : List X) → drop (length xs) (starts past at (xs ++ ys)) ≡ starts past (end at xs) ys
+  drop-starts at [] ys = refl
+  drop-starts at (x ∷ xs) ys = drop-starts (past at x) xs ys
+
+  pub at-starts : (at d : M) (xs ys : List X) → get_or (starts past at (xs ++ ys)) (length xs) d ≡ end at xs
+  at-starts at d [] [] = refl
+  at-starts at d [] (y ∷ ys) = refl
+  at-starts at d (x ∷ xs) ys = at-starts (past at x) d xs ys
+
+  -- a member in another's place, whose end is sent through s
+  pub starts-replaced : (s : M → M) → ((m : M) (x : X) → s (past m x) ≡ past (s m) x) → (at : M) (front : List X) (x y : X) (back : List X) → ((m : M) → s (past m x) ≡ past m y)
+      → changed_from (suc (length front)) s (starts past at (front ++ x ∷ back)) ≡ starts past at (front ++ y ∷ back)
+  starts-replaced s h at [] x y back e = ap (λ zs. at ∷ zs) (sym (starts-shifted s h (past at x) back) ∙ ap (λ m. starts past m back) (e at))
+  starts-replaced s h at (z ∷ zs) x y back e = ap (λ ms. at ∷ ms) (starts-replaced s h (past at z) zs x y back e)
+
+  pub starts-same : (at : M) (front : List X) (x y : X) (back : List X) → ((m : M) → past m x ≡ past m y) → starts past at (front ++ x ∷ back) ≡ starts past at (front ++ y ∷ back)
+  starts-same at [] x y back e = ap (λ m. at ∷ starts past m back) (e at)
+  starts-same at (z ∷ zs) x y back e = ap (λ ms. at ∷ ms) (starts-same (past at z) zs x y back e)
+
+  -- an empty member put in
+  pub starts-put : (at d : M) (front : List X) (x : X) (back : List X) → ((m : M) → past m x ≡ m)
+      → insert (starts past at (front ++ back)) (length front) (get_or (starts past at (front ++ back)) (length front) d) ≡ starts past at (front ++ x ∷ back)
+  starts-put at d [] x [] e = ap (λ m. at ∷ m ∷ []) (sym (e at))
+  starts-put at d [] x (y ∷ ys) e = ap (λ m. at ∷ starts past m (y ∷ ys)) (sym (e at))
+  starts-put at d (z ∷ zs) x back e = ap (λ ms. at ∷ ms) (starts-put (past at z) d zs x back e)
+
+  -- an empty member taken out
+  pub starts-cut : (at : M) (front : List X) (x : X) (back : List X) → ((m : M) → past m x ≡ m)
+      → remove (starts past at (front ++ x ∷ back)) (length front) ≡ starts past at (front ++ back)
+  starts-cut at [] x back e = ap (λ m. starts past m back) (e at)
+  starts-cut at (z ∷ zs) x back e = ap (λ ms. at ∷ ms) (starts-cut (past at z) zs x back e)
+
+  pub next-starts : (at d : M) (front : List X) (x : X) (back : List X) → get_or (starts past at (front ++ x ∷ back)) (suc (length front)) d ≡ past (end at front) x
+  next-starts at d [] x [] = refl
+  next-starts at d [] x (y ∷ ys) = refl
+  next-starts at d (z ∷ zs) x back = next-starts (past at z) d zs x back
+
+  pub drop-past : (at : M) (front : List X) (x : X) (back : List X) → drop (suc (length front)) (starts past at (front ++ x ∷ back)) ≡ starts past (past (end at front) x) back
+  drop-past at [] x back = refl
+  drop-past at (z ∷ zs) x back = drop-past (past at z) zs x back
+
+  -- what each step keeps holds of all places
+  pub All-starts : (P : M → Type 0) → ((m : M) (x : X) → P m → P (past m x)) → (at : M) (xs : List X) → P at → All P (starts past at xs)
+  All-starts P h at [] p = All-cons P at [] p (All-nil P)
+  All-starts P h at (x ∷ xs) p = All-cons P at (starts past (past at x) xs) p (All-starts P h (past at x) xs (h at x p))
+
+  -- and what each step back keeps
+  pub at_first : (P : M → Type 0) → ((m : M) (x : X) → P (past m x) → P m) → (at : M) (xs : List X) → P (end at xs) → P at
+  at_first P h at [] p = p
+  at_first P h at (x ∷ xs) p = h at x (at_first P h (past at x) xs p)
+
+  pub All-starts_back : (P : M → Type 0) → ((m : M) (x : X) → P (past m x) → P m) → (at : M) (xs : List X) → P (end at xs) → All P (starts past at xs)
+  All-starts_back P h at [] p = All-cons P at [] p (All-nil P)
+  All-starts_back P h at (x ∷ xs) p =
+      All-cons P at (starts past (past at x) xs) (at_first P h at (x ∷ xs) p) (All-starts_back P h (past at x) xs p)

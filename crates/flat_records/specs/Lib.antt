@@ -1,0 +1,4 @@
+pub mod Runs
+pub mod Bags
+pub mod Raised
+pub mod Stored

@@ -1,0 +1,18 @@
+-- Indexes into generators and modulators after records were put in, or taken out, before them.
+use Rattle.std.specs.Prelude.{◌<◌, ◌≤◌, ◌^◌, ℕ, ◌+◌, ◌-◌}
+
+abbrev pub raised : ℕ × ℕ → ℕ × ℕ → ℕ × ℕ
+raised by at = (at.0 + by.0, at.1 + by.1)
+
+abbrev pub lowered : ℕ × ℕ → ℕ × ℕ → ℕ × ℕ
+lowered by at = (at.0 - by.0, at.1 - by.1)
+
+-- those that are raised keep to their 16 bits
+pub record CanRaise (by at : ℕ × ℕ) : Type 0 where
+  pub gens : 0 < by.0 → at.0 + by.0 < 2 ^ 16
+  pub mods : 0 < by.1 → at.1 + by.1 < 2 ^ 16
+
+-- none of them is less than what is taken off
+pub record CanLower (by at : ℕ × ℕ) : Type 0 where
+  pub gens : by.0 ≤ at.0
+  pub mods : by.1 ≤ at.1

@@ -1,0 +1,158 @@
+//! Changes of the bags of a level.
+ghost use Rattle.std.specs.Prelude.{◌≡◌, ◌≤◌, ◌<◌, ◌+◌, ◌^◌, length, insert, remove, slice_get, slice_set, Some, IfSome};
+ghost use Rattle.std.specs.Option.{IsSomeAnd};
+ghost use Rattle.numbered_lists.specs.Moved.{changed};
+ghost use Rattle.flat_records.specs.Runs.{put, cut};
+ghost use Rattle.flat_records.specs.Bags.{Bag, no_bag, gens_in, mods_in, with_gens, with_mods};
+ghost use Rattle.flat_records.specs.Stored.{Uses, Frees, counts_of};
+
+use crate::bags::Bags;
+use crate::pieces::{cut_within, put_within};
+use crate::raising::{lower_from, raise_from};
+use modulators::Modulator;
+
+impl Bags {
+    // Puts generators and modulators into bag k, each at a place.
+    fn grow(&mut self, k: usize, j: usize, gens: &[(u16, u16)], i: usize, mods: &[Modulator])
+        requires place { IsSomeAnd (slice_get self.old.bags k) (λ (b : Bag). (j ≤ length b.gens) × (i ≤ length b.mods)) }
+        requires gens { length gens.now ≤ self.old.spare.gens }
+        requires mods { length mods.now ≤ self.old.spare.mods }
+        requires gens_limit { 0 < length gens.now → length (gens_in self.old.bags) + length gens.now < 2 ^ 16 }
+        requires mods_limit { 0 < length mods.now → length (mods_in self.old.bags) + length mods.now < 2 ^ 16 }
+        ensures bags { self.new.bags ≡ changed self.old.bags k (λ (b : Bag). record { gens = put b.gens j gens.now; mods = put b.mods i mods.now }) }
+        ensures spare { Uses self.old.spare self.new.spare (record { bags = 0; gens = length gens.now; mods = length mods.now }) }
+    {
+        let at = self.bags[k];
+        put_within(&mut self.gens, at.0 as usize + j, gens);
+        put_within(&mut self.mods, at.1 as usize + i, mods);
+        raise_from(&mut self.bags, k + 1, (gens.len(), mods.len()));
+    }
+
+    // Takes n generators and m modulators out of bag k, each from a place on.
+    fn shrink(&mut self, k: usize, j: usize, n: usize, i: usize, m: usize)
+        requires place { IsSomeAnd (slice_get self.old.bags k) (λ (b : Bag). (j + n ≤ length b.gens) × (i + m ≤ length b.mods)) }
+        ensures bags { self.new.bags ≡ changed self.old.bags k (λ (b : Bag). record { gens = cut b.gens j n; mods = cut b.mods i m }) }
+        ensures spare { Frees self.old.spare self.new.spare (record { bags = 0; gens = n; mods = m }) }
+    {
+        let at = self.bags[k];
+        cut_within(&mut self.gens, at.0 as usize + j, n);
+        cut_within(&mut self.mods, at.1 as usize + i, m);
+        lower_from(&mut self.bags, k + 1, (n, m));
+    }
+
+    // Puts an empty bag in at a place.
+    fn open_bag(&mut self, k: usize)
+        requires place { k ≤ length self.old.bags }
+        requires room { 0 < self.old.spare.bags }
+        ensures bags { self.new.bags ≡ insert self.old.bags k no_bag }
+        ensures spare { Uses self.old.spare self.new.spare (record { bags = 1; gens = 0; mods = 0 }) }
+    {
+        let at = self.bags[k];
+        put_within(&mut self.bags, k, &[at]);
+    }
+
+    // Takes an empty bag out.
+    fn close_bag(&mut self, k: usize)
+        requires { slice_get self.old.bags k ≡ Some no_bag }
+        ensures bags { self.new.bags ≡ remove self.old.bags k }
+        ensures spare { Frees self.old.spare self.new.spare (record { bags = 1; gens = 0; mods = 0 }) }
+    {
+        self.bags.remove(k);
+    }
+
+    /// Puts a bag in at a place. Takes no memory.
+    pub fn put_bag(&mut self, k: usize, gens: &[(u16, u16)], mods: &[Modulator])
+        requires place { k ≤ length self.old.bags }
+        requires bags { 0 < self.old.spare.bags }
+        requires gens { length gens.now ≤ self.old.spare.gens }
+        requires mods { length mods.now ≤ self.old.spare.mods }
+        requires gens_limit { length (gens_in self.old.bags) + length gens.now < 2 ^ 16 }
+        requires mods_limit { length (mods_in self.old.bags) + length mods.now < 2 ^ 16 }
+        ensures bags { self.new.bags ≡ insert self.old.bags k (record { gens = gens.now; mods = mods.now }) }
+        ensures spare { Uses self.old.spare self.new.spare (record { bags = 1; gens = length gens.now; mods = length mods.now }) }
+    {
+        self.open_bag(k);
+        self.grow(k, 0, gens, 0, mods);
+    }
+
+    /// Takes a bag out. Takes no memory.
+    pub fn cut_bag(&mut self, k: usize)
+        requires { k < length self.old.bags }
+        ensures bags { self.new.bags ≡ remove self.old.bags k }
+        ensures spare { IfSome (slice_get self.old.bags k) (λ (b : Bag). Frees self.old.spare self.new.spare (counts_of b)) }
+    {
+        self.empty_bag(k);
+        self.close_bag(k);
+    }
+
+    // Takes all generators and modulators out of a bag.
+    fn empty_bag(&mut self, k: usize)
+        requires { k < length self.old.bags }
+        ensures bags { self.new.bags ≡ slice_set self.old.bags k no_bag }
+        ensures spare { IfSome (slice_get self.old.bags k) (λ (b : Bag). Frees self.old.spare self.new.spare (record { bags = 0; gens = length b.gens; mods = length b.mods })) }
+    {
+        let gens = self.gens(k).len();
+        let mods = self.mods(k).len();
+        self.shrink(k, 0, gens, 0, mods);
+    }
+
+    /// Puts generators into a bag at a place. Takes no memory.
+    pub fn put_gens(&mut self, k: usize, j: usize, gens: &[(u16, u16)])
+        requires place { IsSomeAnd (slice_get self.old.bags k) (λ (b : Bag). j ≤ length b.gens) }
+        requires room { length gens.now ≤ self.old.spare.gens }
+        requires limit { length (gens_in self.old.bags) + length gens.now < 2 ^ 16 }
+        ensures bags { self.new.bags ≡ changed self.old.bags k (λ (b : Bag). with_gens (put b.gens j gens.now) b) }
+        ensures spare { Uses self.old.spare self.new.spare (record { bags = 0; gens = length gens.now; mods = 0 }) }
+    {
+        self.grow(k, j, gens, 0, &[]);
+    }
+
+    /// Takes generators out of a bag at a place. Takes no memory.
+    pub fn cut_gens(&mut self, k: usize, j: usize, n: usize)
+        requires { IsSomeAnd (slice_get self.old.bags k) (λ (b : Bag). j + n ≤ length b.gens) }
+        ensures bags { self.new.bags ≡ changed self.old.bags k (λ (b : Bag). with_gens (cut b.gens j n) b) }
+        ensures spare { Frees self.old.spare self.new.spare (record { bags = 0; gens = n; mods = 0 }) }
+    {
+        self.shrink(k, j, n, 0, 0);
+    }
+
+    /// Makes a pair generator j of a bag. Takes no memory.
+    pub fn set_gen(&mut self, k: usize, j: usize, pair: (u16, u16))
+        requires place { IsSomeAnd (slice_get self.old.bags k) (λ (b : Bag). j < length b.gens) }
+        ensures bags { self.new.bags ≡ changed self.old.bags k (λ (b : Bag). with_gens (slice_set b.gens j pair) b) }
+        ensures spare { self.new.spare ≡ self.old.spare }
+    {
+        let at = self.bags[k].0 as usize + j;
+        self.gens[at] = pair;
+    }
+
+    /// Puts modulators into a bag at a place. Takes no memory.
+    pub fn put_mods(&mut self, k: usize, j: usize, mods: &[Modulator])
+        requires place { IsSomeAnd (slice_get self.old.bags k) (λ (b : Bag). j ≤ length b.mods) }
+        requires room { length mods.now ≤ self.old.spare.mods }
+        requires limit { length (mods_in self.old.bags) + length mods.now < 2 ^ 16 }
+        ensures bags { self.new.bags ≡ changed self.old.bags k (λ (b : Bag). with_mods (put b.mods j mods.now) b) }
+        ensures spare { Uses self.old.spare self.new.spare (record { bags = 0; gens = 0; mods = length mods.now }) }
+    {
+        self.grow(k, 0, &[], j, mods);
+    }
+
+    /// Takes modulators out of a bag at a place. Takes no memory.
+    pub fn cut_mods(&mut self, k: usize, j: usize, n: usize)
+        requires { IsSomeAnd (slice_get self.old.bags k) (λ (b : Bag). j + n ≤ length b.mods) }
+        ensures bags { self.new.bags ≡ changed self.old.bags k (λ (b : Bag). with_mods (cut b.mods j n) b) }
+        ensures spare { Frees self.old.spare self.new.spare (record { bags = 0; gens = 0; mods = n }) }
+    {
+        self.shrink(k, 0, 0, j, n);
+    }
+
+    /// Makes it modulator j of a bag. Takes no memory.
+    pub fn set_mod(&mut self, k: usize, j: usize, modulator: Modulator)
+        requires place { IsSomeAnd (slice_get self.old.bags k) (λ (b : Bag). j < length b.mods) }
+        ensures bags { self.new.bags ≡ changed self.old.bags k (λ (b : Bag). with_mods (slice_set b.mods j modulator) b) }
+        ensures spare { self.new.spare ≡ self.old.spare }
+    {
+        let at = self.bags[k].1 as usize + j;
+        self.mods[at] = modulator;
+    }
+}

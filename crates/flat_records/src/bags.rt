@@ -1,0 +1,103 @@
+//! The bags of a level.
+ghost use Rattle.std.specs.Prelude.{◌≡◌, ◌<◌, length, slice_get, [], IfOk, OnOk, IfSome};
+ghost use Rattle.flat_records.specs.Bags.{Bag};
+ghost use Rattle.flat_records.specs.Stored.{Uses, no_records};
+
+use crate::pieces::part;
+use modulators::Modulator;
+use std::alloc::{AllocError, Global};
+use std::marker::Model;
+
+/// The records of the bags, generators and modulators of a level, each list with its terminal.
+#[derive(Drop)]
+pub struct Recs {
+    /// The indexes of each bag's first generator and modulator, and last how many there are.
+    pub bags: Vec<(u16, u16)>,
+    /// Operators with their amounts, and last (0, 0).
+    pub gens: Vec<(u16, u16)>,
+    /// Modulators, and last one of zeros.
+    pub mods: Vec<Modulator>,
+}
+
+/// A list of bags, in flat lists of records.
+#[derive(Drop)]
+pub struct Bags {
+    pub(crate) bags: Vec<(u16, u16)>,
+    pub(crate) gens: Vec<(u16, u16)>,
+    pub(crate) mods: Vec<Modulator>,
+}
+
+impl Model for Bags {
+    ghost use Rattle.std.specs.Prelude.{◌-◌, vec_len, vec_capacity};
+    ghost use Rattle.flat_records.specs.Bags.{bags_in, AreTables};
+    ghost use Rattle.flat_records.specs.Stored.{Stored};
+
+    ghost Value = { Stored };
+
+    ghost view = { λ r. record {
+      bags = bags_in (record { bags = r.bags.items; gens = r.gens.items; mods = r.mods.items });
+      spare = record {
+        bags = vec_capacity r.bags - vec_len r.bags;
+        gens = vec_capacity r.gens - vec_len r.gens;
+        mods = vec_capacity r.mods - vec_len r.mods;
+      };
+    } };
+
+    ghost invariant = { λ r. AreTables (record { bags = r.bags.items; gens = r.gens.items; mods = r.mods.items }) };
+}
+
+/// The terminal of the modulators.
+const NO_MODULATOR: Modulator = Modulator {
+    source: 0,
+    dest: 0,
+    amount: 0,
+    amount_source: 0,
+    transform: 0,
+};
+
+impl Bags {
+    /// No bags: the terminals alone.
+    pub fn new(alloc: Global) -> Result<Bags, AllocError>
+        ensures { IfOk result (λ r. r.bags ≡ []) }
+    {
+        let mut bags = Vec::new(alloc);
+        bags.push((0, 0))?;
+        let mut gens = Vec::new(alloc);
+        gens.push((0, 0))?;
+        let mut mods = Vec::new(alloc);
+        mods.push(NO_MODULATOR)?;
+        Ok(Bags { bags, gens, mods })
+    }
+
+    /// Makes places for so many records. For want of memory the bags stay, and some places may be more.
+    pub fn reserve(&mut self, bags: usize, gens: usize, mods: usize) -> Result<(), AllocError>
+        ensures bags { self.new.bags ≡ self.old.bags }
+        ensures kept { Uses self.old.spare self.new.spare no_records }
+        ensures room { OnOk result (Uses (record { bags = bags; gens = gens; mods = mods }) self.new.spare no_records) }
+    {
+        self.bags.try_reserve(bags)?;
+        self.gens.try_reserve(gens)?;
+        self.mods.try_reserve(mods)?;
+        Ok(())
+    }
+
+    /// The generators of a bag: operators with their amounts.
+    pub fn gens(&self, k: usize) -> &[(u16, u16)]
+        requires { k < length self.now.bags }
+        ensures { IfSome (slice_get self.now.bags k) (λ (b : Bag). result.now ≡ b.gens) }
+    {
+        let start = self.bags[k].0 as usize;
+        let end = self.bags[k + 1].0 as usize;
+        part(&self.gens, start, end)
+    }
+
+    /// The modulators of a bag.
+    pub fn mods(&self, k: usize) -> &[Modulator]
+        requires { k < length self.now.bags }
+        ensures { IfSome (slice_get self.now.bags k) (λ (b : Bag). result.now ≡ b.mods) }
+    {
+        let start = self.bags[k].1 as usize;
+        let end = self.bags[k + 1].1 as usize;
+        part(&self.mods, start, end)
+    }
+}

@@ -1,0 +1,77 @@
+//! Pieces of a list that are put in and taken out.
+ghost use Rattle.std.specs.Prelude.{◌≡◌, ◌+◌, ◌-◌, ◌≤◌, ◌<◌, length, insert, remove, take, drop, vec_len, vec_capacity};
+ghost use Rattle.flat_records.specs.Runs.{put, cut, exchanged};
+
+// Shifts the later ones by one, as is quickest.
+fn put_one_within<T>(list: &mut Vec<T>, i: usize, item: T)
+    requires place { i ≤ length list.old.items }
+    requires room { vec_len list.old < vec_capacity list.old }
+    ensures list { list.new.items ≡ insert list.old.items i item }
+    ensures len { vec_len list.new ≡ vec_len list.old + 1 }
+    ensures capacity { vec_capacity list.old ≤ vec_capacity list.new }
+{
+    match list.insert(i, item) {
+        Ok(()) => {}
+        Err(_) => unreachable!(),
+    }
+}
+
+/// Puts members in at a place of what has the memory for them.
+pub(crate) fn put_within<T: Copy>(list: &mut Vec<T>, i: usize, items: &[T])
+    requires place { i ≤ length list.old.items }
+    requires room { vec_len list.old + length items.now ≤ vec_capacity list.old }
+    ensures list { list.new.items ≡ put list.old.items i items.now }
+    ensures len { vec_len list.new ≡ vec_len list.old + length items.now }
+    ensures capacity { vec_capacity list.old ≤ vec_capacity list.new }
+{
+    match items {
+        [] => {}
+        [item] => put_one_within(list, i, *item),
+        _ => {
+            match list.extend_from_slice(items) {
+                Ok(()) => {}
+                Err(_) => unreachable!(),
+            }
+            list[i..].rotate_right(items.len());
+        }
+    }
+}
+
+/// Takes n members out at a place.
+pub(crate) fn cut_within<T: Copy>(list: &mut Vec<T>, i: usize, n: usize)
+    requires { i + n ≤ length list.old.items }
+    ensures list { list.new.items ≡ cut list.old.items i n }
+    ensures len { vec_len list.new + n ≡ vec_len list.old }
+    ensures capacity { vec_capacity list.new ≡ vec_capacity list.old }
+{
+    match n {
+        0 => {}
+        1 => {
+            list.remove(i);
+        }
+        _ => {
+            list[i..].rotate_left(n);
+            let left = list.len() - n;
+            list.truncate(left);
+        }
+    }
+}
+
+/// Exchanges the members from one place up to the next, and from there up to the last.
+pub(crate) fn exchange_within<T: Copy>(list: &mut [T], a: usize, b: usize, c: usize)
+    requires first { a ≤ b }
+    requires second { b ≤ c }
+    requires last { c ≤ length list.old }
+    ensures { list.new ≡ exchanged list.old a b c }
+{
+    list[a..c].rotate_left(b - a);
+}
+
+/// The members from one place up to another.
+pub(crate) fn part<T>(list: &[T], start: usize, end: usize) -> &[T]
+    requires start { start ≤ end }
+    requires end { end ≤ length list.now }
+    ensures { result.now ≡ take (end - start) (drop start list.now) }
+{
+    &list[start..end]
+}
