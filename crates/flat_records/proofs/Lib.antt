@@ -3,3 +3,4 @@ pub mod Exchanges
 pub mod TableLaws
 pub mod Spots
 pub mod Wholes
+pub mod Turns

@@ -6,6 +6,10 @@ use Rattle.std.proofs.lemmas.List.Elements.{All-cons, All-nil}
 use Rattle.std.proofs.lemmas.List.{drop_at, drop-append-le, set-append_right, set-append_left}
 use Rattle.flat_records.specs.Runs.{starts, changed_from, put, cut}
 
+map_undone : {X : Type 0} (f g : X → X) → ((x : X) → f (g x) ≡ x) → (xs : List X) → map f (map g xs) ≡ xs
+map_undone f g h [] = refl
+map_undone f g h (x ∷ xs) = λ i. h x i ∷ map_undone f g h xs i
+
 -- members from a place on, changed and changed back
 pub changed_from-undone : {X : Type 0} (f g : X → X) → ((x : X) → g (f x) ≡ x) → (k : ℕ) (xs : List X) → changed_from k g (changed_from k f xs) ≡ xs
 changed_from-undone f g h zero [] = refl
@@ -171,3 +175,50 @@ module _ {X M : Type 0} (past : M → X → M) where
   All-starts_back P h at [] p = All-cons P at [] p (All-nil P)
   All-starts_back P h at (x ∷ xs) p =
       All-cons P at (starts past (past at x) xs) (at_first P h at (x ∷ xs) p) (All-starts_back P h (past at x) xs p)
+
+  -- ---- neighbouring runs that change places
+
+  pub begins-shifted : (s : M → M) → ((m : M) (x : X) → s (past m x) ≡ past (s m) x) → (at : M) (xs : List X) → begins (s at) xs ≡ map s (begins at xs)
+  begins-shifted s h at [] = refl
+  begins-shifted s h at (x ∷ xs) = ap (λ m. s at ∷ begins m xs) (sym (h at x)) ∙ ap (λ zs. s at ∷ zs) (begins-shifted s h (past at x) xs)
+
+  pub end-shifted : (s : M → M) → ((m : M) (x : X) → s (past m x) ≡ past (s m) x) → (at : M) (xs : List X) → end (s at) xs ≡ s (end at xs)
+  end-shifted s h at [] = refl
+  end-shifted s h at (x ∷ xs) = ap (λ m. end m xs) (sym (h at x)) ∙ end-shifted s h (past at x) xs
+
+  pub end-append : (at : M) (xs ys : List X) → end at (xs ++ ys) ≡ end (end at xs) ys
+  end-append at [] ys = refl
+  end-append at (x ∷ xs) ys = end-append (past at x) xs ys
+
+  pub All-begins : (P : M → Type 0) → ((m : M) (x : X) → P m → P (past m x)) → (at : M) (xs : List X) → P at → All P (begins at xs)
+  All-begins P h at [] p = All-nil P
+  All-begins P h at (x ∷ xs) p = All-cons P at (begins (past at x) xs) p (All-begins P h (past at x) xs (h at x p))
+
+  pub All-begins_back : (P : M → Type 0) → ((m : M) (x : X) → P (past m x) → P m) → (at : M) (xs : List X) → P (end at xs) → All P (begins at xs)
+  All-begins_back P h at [] p = All-nil P
+  All-begins_back P h at (x ∷ xs) p = All-cons P at (begins (past at x) xs) (at_first P h at (x ∷ xs) p) (All-begins_back P h (past at x) xs p)
+
+  -- places of four runs
+  pub starts-parts : (at : M) (ws xs ys zs : List X)
+      → starts past at (ws ++ (xs ++ (ys ++ zs)))
+      ≡ begins at ws ++ (begins (end at ws) xs ++ (begins (end (end at ws) xs) ys ++ starts past (end (end (end at ws) xs) ys) zs))
+  starts-parts at ws xs ys zs =
+      starts-append at ws (xs ++ (ys ++ zs))
+      ∙ ap (λ ms. begins at ws ++ ms)
+      (starts-append (end at ws) xs (ys ++ zs) ∙ ap (λ ms. begins (end at ws) xs ++ ms) (starts-append (end (end at ws) xs) ys zs))
+
+  -- r goes past xs, and is undone by l; s goes past ys
+  pub starts-exchanged : (r l s : M → M) → ((m : M) (x : X) → r (past m x) ≡ past (r m) x) → ((m : M) (x : X) → s (past m x) ≡ past (s m) x) → ((m : M) → l (r m) ≡ m) → ((m : M) → r (s m) ≡ s (r m))
+      → (at : M) (ws xs ys zs : List X) → end (end at ws) xs ≡ r (end at ws) → end (end at ws) ys ≡ s (end at ws)
+      → begins at ws ++ (map l (begins (end (end at ws) xs) ys) ++ (map s (begins (end at ws) xs) ++ starts past (end (end (end at ws) xs) ys) zs))
+      ≡ starts past at (ws ++ (ys ++ (xs ++ zs)))
+  starts-exchanged r l s hr hs undo swap at ws xs ys zs e f =
+      let m = end at ws in
+      let second : map l (begins (end m xs) ys) ≡ begins m ys =
+      ap (λ n. map l (begins n ys)) e ∙ (ap (map l) (begins-shifted r hr m ys) ∙ map_undone l r undo (begins m ys)) in
+      let third : map s (begins m xs) ≡ begins (end m ys) xs = sym (begins-shifted s hs m xs) ∙ ap (λ n. begins n xs) (sym f) in
+      let last : end (end m xs) ys ≡ end (end m ys) xs =
+      ap (λ n. end n ys) e
+      ∙ (end-shifted r hr m ys
+      ∙ (ap r f ∙ (swap m ∙ (ap s (sym e) ∙ (sym (end-shifted s hs m xs) ∙ ap (λ n. end n xs) (sym f)))))) in
+      (λ i. begins at ws ++ (second i ++ (third i ++ starts past (last i) zs))) ∙ sym (starts-parts at ws ys xs zs)

@@ -64,13 +64,13 @@ among (x ∷ xs) (suc k) b e =
 
 -- ---- records put in and taken out of one bag
 
-more : (by m : ℕ × ℕ) (b : Bag) → raised by (past_bag m b) ≡ past_bag (raised by m) b
+pub more : (by m : ℕ × ℕ) (b : Bag) → raised by (past_bag m b) ≡ past_bag (raised by m) b
 more by m b =
     let gens : (m.0 + length b.gens) + by.0 ≡ (m.0 + by.0) + length b.gens = omega arith in
     let mods : (m.1 + length b.mods) + by.1 ≡ (m.1 + by.1) + length b.mods = omega arith in
     λ i. (gens i, mods i)
 
-undone : (by m : ℕ × ℕ) → lowered by (raised by m) ≡ m
+pub undone : (by m : ℕ × ℕ) → lowered by (raised by m) ≡ m
 undone by m =
     let gens : (m.0 + by.0) - by.0 ≡ m.0 = omega arith in
     let mods : (m.1 + by.1) - by.1 ≡ m.1 = omega arith in

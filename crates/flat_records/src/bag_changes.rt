@@ -2,13 +2,13 @@
 ghost use Rattle.std.specs.Prelude.{◌≡◌, ◌≤◌, ◌<◌, ◌+◌, ◌^◌, length, insert, remove, slice_get, slice_set, Some, IfSome};
 ghost use Rattle.std.specs.Option.{IsSomeAnd};
 ghost use Rattle.numbered_lists.specs.Moved.{changed};
-ghost use Rattle.flat_records.specs.Runs.{put, cut};
+ghost use Rattle.flat_records.specs.Runs.{put, cut, exchanged};
 ghost use Rattle.flat_records.specs.Bags.{Bag, no_bag, gens_in, mods_in, with_gens, with_mods};
 ghost use Rattle.flat_records.specs.Stored.{Uses, Frees, counts_of};
 
 use crate::bags::Bags;
-use crate::pieces::{cut_within, put_within};
-use crate::raising::{lower_from, raise_from};
+use crate::pieces::{cut_within, exchange_within, put_within};
+use crate::raising::{exchange_indexes, index, lower_from, raise_from};
 use modulators::Modulator;
 
 impl Bags {
@@ -154,5 +154,21 @@ impl Bags {
     {
         let at = self.bags[k].1 as usize + j;
         self.mods[at] = modulator;
+    }
+
+    /// Exchanges bags a up to b with bags b up to c. Takes no memory.
+    pub fn rotate(&mut self, a: usize, b: usize, c: usize)
+        requires first { a ≤ b }
+        requires second { b ≤ c }
+        requires last { c ≤ length self.old.bags }
+        ensures bags { self.new.bags ≡ exchanged self.old.bags a b c }
+        ensures spare { self.new.spare ≡ self.old.spare }
+    {
+        let start = index(&self.bags, a);
+        let middle = index(&self.bags, b);
+        let stop = index(&self.bags, c);
+        exchange_within(&mut self.gens, start.0, middle.0, stop.0);
+        exchange_within(&mut self.mods, start.1, middle.1, stop.1);
+        exchange_indexes(&mut self.bags, a, b, c, start, middle, stop);
     }
 }

@@ -1,6 +1,6 @@
 //! Pieces of a list that are put in and taken out.
 ghost use Rattle.std.specs.Prelude.{◌≡◌, ◌+◌, ◌-◌, ◌≤◌, ◌<◌, length, insert, remove, take, drop, vec_len, vec_capacity};
-ghost use Rattle.flat_records.specs.Runs.{put, cut, exchanged};
+ghost use Rattle.flat_records.specs.Runs.{put, cut, exchanged, AreWindows};
 
 // Shifts the later ones by one, as is quickest.
 fn put_one_within<T>(list: &mut Vec<T>, i: usize, item: T)
@@ -57,14 +57,22 @@ pub(crate) fn cut_within<T: Copy>(list: &mut Vec<T>, i: usize, n: usize)
     }
 }
 
-/// Exchanges the members from one place up to the next, and from there up to the last.
-pub(crate) fn exchange_within<T: Copy>(list: &mut [T], a: usize, b: usize, c: usize)
-    requires first { a ≤ b }
-    requires second { b ≤ c }
-    requires last { c ≤ length list.old }
+/// Exchanges the members from a up to b with those from b up to c.
+pub(crate) fn exchange<T: Copy>(list: &mut [T], a: usize, b: usize, c: usize)
+    requires { AreWindows a b c (length list.old) }
     ensures { list.new ≡ exchanged list.old a b c }
 {
     list[a..c].rotate_left(b - a);
+}
+
+/// Exchanges the members from a up to b with those from b up to c.
+pub(crate) fn exchange_within<T: Copy>(list: &mut Vec<T>, a: usize, b: usize, c: usize)
+    requires { AreWindows a b c (length list.old.items) }
+    ensures list { list.new.items ≡ exchanged list.old.items a b c }
+    ensures len { vec_len list.new ≡ vec_len list.old }
+    ensures capacity { vec_capacity list.new ≡ vec_capacity list.old }
+{
+    exchange(list.as_mut_slice(), a, b, c);
 }
 
 /// The members from one place up to another.
