@@ -4,3 +4,4 @@ pub mod TableLaws
 pub mod Spots
 pub mod Wholes
 pub mod Turns
+pub mod Converse

@@ -7,7 +7,7 @@ use Rattle.numbered_lists.specs.Moved.{changed}
 use Rattle.numbered_lists.proofs.Lists.{changed-found}
 use Rattle.modulators.specs.declared.modulator.Modulator.{Modulator}
 use Rattle.flat_records.specs.Runs.{starts, changed_from, put, cut}
-use Rattle.flat_records.specs.Bags.{Bag, no_bag, past_bag, gens_in, mods_in, no_modulator, Tables, tables_of, bags_in, AreTables, with_gens, with_mods}
+use Rattle.flat_records.specs.Bags.{Bag, no_bag, past_bag, gens_in, mods_in, no_modulator, Tables, tables_of, bags_in, AreRead, with_gens, with_mods}
 use Rattle.flat_records.specs.Raised.{raised, lowered, CanRaise, CanLower}
 use Rattle.flat_records.proofs.Starts.{end, length-starts, drop-past, All-starts, All-starts_back, flat-among}
 use Rattle.flat_records.proofs.TableLaws.{begin, gens-end, mods-end, grown, shrunk, gen_set, mod_set, bag_put, bag_cut}
@@ -17,7 +17,7 @@ pub record Spot (t : Tables) (bags : List Bag) (k : ℕ) (P : Bag → Type 0) : 
   pub bag : Bag
   pub there : slice_get (bags_in t) k ≡ Some bag
   pub holds : P bag
-  pub are : AreTables t
+  pub are : AreRead t
   pub seen : bags_in t ≡ bags
   pub index : k < length t.bags
   pub gens : (get_or t.bags k (0, 0)).0 + length bag.gens < length t.gens
@@ -30,7 +30,7 @@ found : (P : Bag → Type 0) (o : Option Bag) → IsSomeAnd o P → (b : Bag) ×
 found P None h = absurd h
 found P (Some b) h = (b, refl, h)
 
-pub spot : (t : Tables) (bags : List Bag) (k : ℕ) (P : Bag → Type 0) → AreTables t → bags_in t ≡ bags → IsSomeAnd (slice_get bags k) P → Spot t bags k P
+pub spot : (t : Tables) (bags : List Bag) (k : ℕ) (P : Bag → Type 0) → AreRead t → bags_in t ≡ bags → IsSomeAnd (slice_get bags k) P → Spot t bags k P
 spot t bags k P are seen h =
     let f = found P (slice_get bags k) h in
     let b = f.0 in
@@ -105,7 +105,7 @@ module _ (t : Tables) (bags : List Bag) (k : ℕ) where
   mod_set_at j g s = mod_set t k s.bag j g s.are s.there s.holds ∙ ap tables_of (s.changed (λ b. with_mods (set b.mods j g) b))
 
   -- later indexes can be raised and lowered
-  pub raised_fit : (n m : ℕ) → AreTables t → bags_in t ≡ bags → (0 < n → length (gens_in bags) + n < 2 ^ 16) → (0 < m → length (mods_in bags) + m < 2 ^ 16) → All (CanRaise (n, m)) (drop (k + 1) t.bags)
+  pub raised_fit : (n m : ℕ) → AreRead t → bags_in t ≡ bags → (0 < n → length (gens_in bags) + n < 2 ^ 16) → (0 < m → length (mods_in bags) + m < 2 ^ 16) → All (CanRaise (n, m)) (drop (k + 1) t.bags)
   raised_fit n m are seen h1 h2 =
       let e = gens-end (0, 0) (bags_in t) in
       let f = mods-end (0, 0) (bags_in t) in
@@ -134,17 +134,17 @@ module _ (t : Tables) (bags : List Bag) (k : ℕ) where
 
 -- ---- whole bags
 
-pub bag_put_at : (t : Tables) (bags : List Bag) (k : ℕ) → AreTables t → bags_in t ≡ bags → k ≤ length bags
+pub bag_put_at : (t : Tables) (bags : List Bag) (k : ℕ) → AreRead t → bags_in t ≡ bags → k ≤ length bags
     → record { bags = put t.bags k (get_or t.bags k (0, 0) ∷ []); gens = t.gens; mods = t.mods } ≡ tables_of (insert bags k no_bag)
 bag_put_at t bags k are seen h =
     let size = ap length seen in
     bag_put t k are (omega arith) ∙ ap (λ bags. tables_of (insert bags k no_bag)) seen
 
-pub bag_cut_at : (t : Tables) (bags : List Bag) (k : ℕ) → AreTables t → bags_in t ≡ bags → slice_get bags k ≡ Some no_bag
+pub bag_cut_at : (t : Tables) (bags : List Bag) (k : ℕ) → AreRead t → bags_in t ≡ bags → slice_get bags k ≡ Some no_bag
     → record { bags = remove t.bags k; gens = t.gens; mods = t.mods } ≡ tables_of (remove bags k)
 bag_cut_at t bags k are seen h = bag_cut t k are (ap (λ bags. slice_get bags k) seen ∙ h) ∙ ap (λ bags. tables_of (remove bags k)) seen
 
-pub size_of : (t : Tables) (bags : List Bag) → AreTables t → bags_in t ≡ bags → length t.bags ≡ suc (length bags)
+pub size_of : (t : Tables) (bags : List Bag) → AreRead t → bags_in t ≡ bags → length t.bags ≡ suc (length bags)
 size_of t bags are seen = ap (λ (t : Tables). length t.bags) are ∙ (length-starts past_bag (0, 0) (bags_in t) ∙ ap (λ bags. suc (length bags)) seen)
 
 -- the records of a bag
@@ -188,3 +188,15 @@ pub within_bags : (bags : List Bag) (k : ℕ) → k < length bags → IsSomeAnd 
 within_bags [] k h = absurd (omega arith)
 within_bags (b ∷ bs) zero h = omega arith
 within_bags (b ∷ bs) (suc k) h = within_bags bs k (omega arith)
+
+pub held : (t : Tables) (bags : List Bag) → AreRead t → bags_in t ≡ bags → t ≡ tables_of bags
+held t bags are seen = are ∙ ap tables_of seen
+
+pub bags_size : (t : Tables) (bags : List Bag) → AreRead t → bags_in t ≡ bags → length t.bags ≡ length bags + 1
+bags_size t bags are seen = ap (λ (t : Tables). length t.bags) (held t bags are seen) ∙ (length-starts past_bag (0, 0) bags ∙ omega arith)
+
+pub gens_size : (t : Tables) (bags : List Bag) → AreRead t → bags_in t ≡ bags → length t.gens ≡ length (gens_in bags) + 1
+gens_size t bags are seen = ap (λ (t : Tables). length t.gens) (held t bags are seen) ∙ length-append (gens_in bags) ((0, 0) ∷ [])
+
+pub mods_size : (t : Tables) (bags : List Bag) → AreRead t → bags_in t ≡ bags → length t.mods ≡ length (mods_in bags) + 1
+mods_size t bags are seen = ap (λ (t : Tables). length t.mods) (held t bags are seen) ∙ length-append (mods_in bags) (no_modulator ∷ [])

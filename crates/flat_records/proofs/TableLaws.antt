@@ -3,7 +3,7 @@ use Rattle.std.proofs.Common.{◌≡◌, ℕ, ◌<◌, ◌≤◌, ◌+◌, ◌-�
 use Rattle.std.proofs.lemmas.List.{take_at, drop_at, set_at, length-set, length-take-le, take-append-drop}
 use Rattle.modulators.specs.declared.modulator.Modulator.{Modulator}
 use Rattle.flat_records.specs.Runs.{starts, changed_from, put, cut}
-use Rattle.flat_records.specs.Bags.{Bag, past_bag, gens_in, mods_in, no_modulator, Tables, tables_of, no_bag, bags_from, bags_of_records, bags_in, AreTables, with_gens, with_mods}
+use Rattle.flat_records.specs.Bags.{Bag, past_bag, gens_in, mods_in, no_modulator, Tables, tables_of, no_bag, bags_from, bags_of_records, bags_in, AreRead, with_gens, with_mods}
 use Rattle.flat_records.specs.Raised.{raised, lowered}
 use Rattle.flat_records.proofs.Starts.{end, at-starts, next-starts, starts-replaced, starts-same, starts-put, starts-cut, changed_from-undone, length-put, length-cut, flat-put, flat-cut, flat-set, flat-none, flat-kept}
 
@@ -34,7 +34,7 @@ tables-back bags = back-from (0, 0) bags ((0, 0) ∷ []) (no_modulator ∷ [])
 pub read : (t : Tables) (bags : List Bag) → t ≡ tables_of bags → bags_in t ≡ bags
 read t bags e = ap bags_in e ∙ tables-back bags
 
-pub are_tables : (t : Tables) (bags : List Bag) → t ≡ tables_of bags → AreTables t
+pub are_tables : (t : Tables) (bags : List Bag) → t ≡ tables_of bags → AreRead t
 are_tables t bags e = e ∙ ap tables_of (sym (read t bags e))
 
 -- ---- sizes
@@ -99,7 +99,7 @@ pub record Begin (t : Tables) (bags : List Bag) (k : ℕ) (b : Bag) : Type 0 whe
   pub changed : (c : Bag) → set bags k c ≡ front ++ c ∷ back
   pub without : remove bags k ≡ front ++ back
 
-pub begin : (t : Tables) (k : ℕ) (b : Bag) → AreTables t → slice_get (bags_in t) k ≡ Some b → Begin t (bags_in t) k b
+pub begin : (t : Tables) (k : ℕ) (b : Bag) → AreRead t → slice_get (bags_in t) k ≡ Some b → Begin t (bags_in t) k b
 begin t k b are e =
     let a = among (bags_in t) k b e in
     let same : t ≡ tables_of (a.front ++ b ∷ a.back) = are ∙ ap tables_of a.whole in
@@ -120,7 +120,7 @@ begin t k b are e =
       without = ap (λ bags. remove bags k) a.whole ∙ (ap (remove (a.front ++ b ∷ a.back)) (sym a.before) ∙ removed a.front b a.back);
     }
 
-pub grown : (t : Tables) (k : ℕ) (b : Bag) (j i : ℕ) (gens : List (ℕ × ℕ)) (mods : List Modulator) → AreTables t → slice_get (bags_in t) k ≡ Some b → j ≤ length b.gens → i ≤ length b.mods
+pub grown : (t : Tables) (k : ℕ) (b : Bag) (j i : ℕ) (gens : List (ℕ × ℕ)) (mods : List Modulator) → AreRead t → slice_get (bags_in t) k ≡ Some b → j ≤ length b.gens → i ≤ length b.mods
     → record {
       bags = changed_from (k + 1) (raised (length gens, length mods)) t.bags;
       gens = put t.gens ((get_or t.bags k (0, 0)).0 + j) gens;
@@ -147,7 +147,7 @@ grown t k b j i gens mods are e h1 h2 =
     λ i. record { bags = index i; gens = new_gens i; mods = new_mods i } in
     whole ∙ ap tables_of (sym (s.changed c))
 
-pub shrunk : (t : Tables) (k : ℕ) (b : Bag) (j n i m : ℕ) → AreTables t → slice_get (bags_in t) k ≡ Some b → j + n ≤ length b.gens → i + m ≤ length b.mods
+pub shrunk : (t : Tables) (k : ℕ) (b : Bag) (j n i m : ℕ) → AreRead t → slice_get (bags_in t) k ≡ Some b → j + n ≤ length b.gens → i + m ≤ length b.mods
     → record {
       bags = changed_from (k + 1) (lowered (n, m)) t.bags;
       gens = cut t.gens ((get_or t.bags k (0, 0)).0 + j) n;
@@ -177,7 +177,7 @@ shrunk t k b j n i m are e h1 h2 =
     λ i. record { bags = index i; gens = new_gens i; mods = new_mods i } in
     whole ∙ ap tables_of (sym (s.changed c))
 
-pub gen_set : (t : Tables) (k : ℕ) (b : Bag) (j : ℕ) (g : ℕ × ℕ) → AreTables t → slice_get (bags_in t) k ≡ Some b → j < length b.gens
+pub gen_set : (t : Tables) (k : ℕ) (b : Bag) (j : ℕ) (g : ℕ × ℕ) → AreRead t → slice_get (bags_in t) k ≡ Some b → j < length b.gens
     → record { bags = t.bags; gens = set t.gens ((get_or t.bags k (0, 0)).0 + j) g; mods = t.mods }
     ≡ tables_of (set (bags_in t) k (with_gens (set b.gens j g) b))
 gen_set t k b j g are e h =
@@ -196,7 +196,7 @@ gen_set t k b j g are e h =
     λ i. record { bags = index i; gens = list i; mods = rest i } in
     whole ∙ ap tables_of (sym (s.changed c))
 
-pub mod_set : (t : Tables) (k : ℕ) (b : Bag) (j : ℕ) (g : Modulator) → AreTables t → slice_get (bags_in t) k ≡ Some b → j < length b.mods
+pub mod_set : (t : Tables) (k : ℕ) (b : Bag) (j : ℕ) (g : Modulator) → AreRead t → slice_get (bags_in t) k ≡ Some b → j < length b.mods
     → record { bags = t.bags; gens = t.gens; mods = set t.mods ((get_or t.bags k (0, 0)).1 + j) g }
     ≡ tables_of (set (bags_in t) k (with_mods (set b.mods j g) b))
 mod_set t k b j g are e h =
@@ -217,7 +217,7 @@ mod_set t k b j g are e h =
 
 -- ---- an empty bag put in and taken out
 
-pub bag_put : (t : Tables) (k : ℕ) → AreTables t → k ≤ length (bags_in t)
+pub bag_put : (t : Tables) (k : ℕ) → AreRead t → k ≤ length (bags_in t)
     → record { bags = insert t.bags k (get_or t.bags k (0, 0)); gens = t.gens; mods = t.mods } ≡ tables_of (insert (bags_in t) k no_bag)
 bag_put t k are h =
     let bags = bags_in t in
@@ -236,7 +236,7 @@ bag_put t k are h =
     ap (λ (t : Tables). t.mods) same ∙ sym (flat-none (λ (b : Bag). b.mods) front no_bag back (no_modulator ∷ []) refl) in
     λ i. record { bags = index i; gens = gens i; mods = mods i }
 
-pub bag_cut : (t : Tables) (k : ℕ) → AreTables t → slice_get (bags_in t) k ≡ Some no_bag
+pub bag_cut : (t : Tables) (k : ℕ) → AreRead t → slice_get (bags_in t) k ≡ Some no_bag
     → record { bags = remove t.bags k; gens = t.gens; mods = t.mods } ≡ tables_of (remove (bags_in t) k)
 bag_cut t k are e =
     let s = begin t k no_bag are e in

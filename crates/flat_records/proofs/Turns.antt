@@ -5,7 +5,7 @@ use Rattle.std.proofs.lemmas.List.{get_or_default}
 use Rattle.std.proofs.lemmas.List.Concat.{flat_map-append}
 use Rattle.modulators.specs.declared.modulator.Modulator.{Modulator}
 use Rattle.flat_records.specs.Runs.{starts, exchanged, changed_exchanged, AreWindows}
-use Rattle.flat_records.specs.Bags.{Bag, past_bag, gens_in, mods_in, no_modulator, Tables, tables_of, bags_in, AreTables}
+use Rattle.flat_records.specs.Bags.{Bag, past_bag, gens_in, mods_in, no_modulator, Tables, tables_of, bags_in, AreRead}
 use Rattle.flat_records.specs.Raised.{raised, lowered, CanRaise, CanLower}
 use Rattle.flat_records.proofs.Starts.{begins, end, at-starts, end-append, length-begins, length-starts, starts-parts, starts-exchanged, All-begins, All-begins_back}
 use Rattle.flat_records.proofs.Exchanges.{Quarters, quarters, Parts, parts, exchanged-parts}
@@ -174,7 +174,7 @@ turn_of t ws xs ys zs a b c f whole start middle stop e1 e2 e3 =
       turned = new ∙ ap tables_of (sym whole);
     }
 
-pub turn : (t : Tables) (bags : List Bag) (a b c : ℕ) → AreTables t → bags_in t ≡ bags → a ≤ b → b ≤ c → c ≤ length bags
+pub turn : (t : Tables) (bags : List Bag) (a b c : ℕ) → AreRead t → bags_in t ≡ bags → a ≤ b → b ≤ c → c ≤ length bags
     → (start middle stop : ℕ × ℕ) → start ≡ get_or t.bags a start → middle ≡ get_or t.bags b middle → stop ≡ get_or t.bags c stop
     → Turn t a b c start middle stop
 turn t bags a b c are seen h1 h2 h3 start middle stop e1 e2 e3 =

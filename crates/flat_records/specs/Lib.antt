@@ -1,4 +1,5 @@
 pub mod Runs
 pub mod Bags
+pub mod Tables
 pub mod Raised
 pub mod Stored

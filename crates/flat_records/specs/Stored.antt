@@ -21,10 +21,12 @@ pub record Uses (old new used : Counts) : Type 0 where
   pub gens : old.gens ≤ new.gens + used.gens
   pub mods : old.mods ≤ new.mods + used.mods
 
+abbrev pub sum_of : Counts → Counts → Counts
+sum_of old freed = record { bags = old.bags + freed.bags; gens = old.gens + freed.gens; mods = old.mods + freed.mods }
+
 -- what is spare is what was, and what came free, or more
 abbrev pub Frees : Counts → Counts → Counts → Type 0
-Frees old new freed =
-    Uses (record { bags = old.bags + freed.bags; gens = old.gens + freed.gens; mods = old.mods + freed.mods }) new no_records
+Frees old new freed = Uses (sum_of old freed) new no_records
 
 pub record Stored : Type 0 where
   pub bags : List Bag

@@ -1,6 +1,6 @@
 //! The bags of a level.
 ghost use Rattle.std.specs.Prelude.{◌≡◌, ◌<◌, length, slice_get, [], IfOk, OnOk, IfSome};
-ghost use Rattle.flat_records.specs.Bags.{Bag};
+ghost use Rattle.flat_records.specs.Bags.{Bag, gens_in, mods_in, tables_of};
 ghost use Rattle.flat_records.specs.Stored.{Uses, no_records};
 
 use crate::pieces::part;
@@ -29,7 +29,7 @@ pub struct Bags {
 
 impl Model for Bags {
     ghost use Rattle.std.specs.Prelude.{◌-◌, vec_len, vec_capacity};
-    ghost use Rattle.flat_records.specs.Bags.{bags_in, AreTables};
+    ghost use Rattle.flat_records.specs.Bags.{bags_in, AreRead};
     ghost use Rattle.flat_records.specs.Stored.{Stored};
 
     ghost Value = { Stored };
@@ -43,7 +43,7 @@ impl Model for Bags {
       };
     } };
 
-    ghost invariant = { λ r. AreTables (record { bags = r.bags.items; gens = r.gens.items; mods = r.mods.items }) };
+    ghost invariant = { λ r. AreRead (record { bags = r.bags.items; gens = r.gens.items; mods = r.mods.items }) };
 }
 
 /// The terminal of the modulators.
@@ -99,5 +99,47 @@ impl Bags {
         let start = self.bags[k].1 as usize;
         let end = self.bags[k + 1].1 as usize;
         part(&self.mods, start, end)
+    }
+
+    /// How many bags there are.
+    pub fn bag_count(&self) -> usize
+        ensures { result ≡ length self.now.bags }
+    {
+        self.bags.len() - 1
+    }
+
+    /// How many generators there are in all bags.
+    pub fn gen_count(&self) -> usize
+        ensures { result ≡ length (gens_in self.now.bags) }
+    {
+        self.gens.len() - 1
+    }
+
+    /// How many modulators there are in all bags.
+    pub fn mod_count(&self) -> usize
+        ensures { result ≡ length (mods_in self.now.bags) }
+    {
+        self.mods.len() - 1
+    }
+
+    /// The records of the bags: the indexes of each one's first generator and modulator, and the terminal.
+    pub fn bag_records(&self) -> &[(u16, u16)]
+        ensures { result.now ≡ (tables_of self.now.bags).bags }
+    {
+        &self.bags
+    }
+
+    /// The records of the generators, with the terminal.
+    pub fn gen_records(&self) -> &[(u16, u16)]
+        ensures { result.now ≡ (tables_of self.now.bags).gens }
+    {
+        &self.gens
+    }
+
+    /// The records of the modulators, with the terminal.
+    pub fn mod_records(&self) -> &[Modulator]
+        ensures { result.now ≡ (tables_of self.now.bags).mods }
+    {
+        &self.mods
     }
 }

@@ -5,5 +5,7 @@ mod bag_changes;
 mod bags;
 mod pieces;
 mod raising;
+mod reading;
 
 pub use bags::{Bags, Recs};
+pub use reading::tables_of_bags_are_tables;

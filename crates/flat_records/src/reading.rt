@@ -1,0 +1,75 @@
+//! Which records are those of a list of bags.
+ghost use Rattle.std.specs.Prelude.{◌≡◌, ◌↔◌, ◌+◌, ◌<◌, ◌-◌, ℕ, List, length, IsTrue, MatchOption};
+ghost use Rattle.flat_records.specs.Bags.{Bag, no_modulator, tables_of};
+ghost use Rattle.flat_records.specs.Tables.{Rises, EndsIn, AreTables};
+
+use crate::bags::{Bags, Recs};
+use modulators::Modulator;
+
+impl Bags {
+    /// The bags of these records, where they are the records of a list of bags. Takes no memory.
+    #[tactic(auto, using(crate::proofs::Converse::tables_read))]
+    pub fn from_recs(recs: Recs) -> Option<Bags>
+        ensures { MatchOption result (¬ AreTables (record { bags = recs.bags.items; gens = recs.gens.items; mods = recs.mods.items })) (λ r. record { bags = recs.bags.items; gens = recs.gens.items; mods = recs.mods.items } ≡ tables_of r.bags) }
+    {
+        if !are_tables(&recs.bags, &recs.gens, &recs.mods) {
+            return None;
+        }
+        let Recs { bags, gens, mods } = recs;
+        Some(Bags { bags, gens, mods })
+    }
+}
+
+/// The records of any list of bags are tables, so that `from_recs` takes them.
+pub fn tables_of_bags_are_tables()
+    ensures { (bags : List Bag) → AreTables (tables_of bags) }
+{}
+
+fn are_tables(bags: &[(u16, u16)], gens: &[(u16, u16)], mods: &[Modulator]) -> bool
+    ensures { IsTrue result ↔ AreTables (record { bags = bags.now; gens = gens.now; mods = mods.now }) }
+{
+    matches!(bags.first(), Some((0, 0)))
+        && end_in_counts(bags, gens.len(), mods.len())
+        && matches!(gens.last(), Some((0, 0)))
+        && end_in_zeros(mods)
+        && are_rising(bags)
+}
+
+fn end_in_zeros(mods: &[Modulator]) -> bool
+    ensures { IsTrue result ↔ EndsIn mods.now no_modulator }
+{
+    matches!(
+        mods.last(),
+        Some(Modulator {
+            source: 0,
+            dest: 0,
+            amount: 0,
+            amount_source: 0,
+            transform: 0
+        })
+    )
+}
+
+fn end_in_counts(bags: &[(u16, u16)], gens: usize, mods: usize) -> bool
+    ensures { IsTrue result ↔ EndsIn bags.now (gens - 1, mods - 1) }
+{
+    match bags.last() {
+        Some((last_gen, last_mod)) => {
+            *last_gen as usize == gens.saturating_sub(1)
+                && *last_mod as usize == mods.saturating_sub(1)
+        }
+        None => false,
+    }
+}
+
+fn are_rising(bags: &[(u16, u16)]) -> bool
+    ensures { IsTrue result ↔ ((k : ℕ) → k + 1 < length bags.now → Rises bags.now k) }
+{
+    for k in 1..bags.len() {
+        let (before, here) = (bags[k - 1], bags[k]);
+        if here.0 < before.0 || here.1 < before.1 {
+            return false;
+        }
+    }
+    true
+}
