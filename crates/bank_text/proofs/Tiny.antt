@@ -1,0 +1,34 @@
+-- The edits of a small bank, by computation.
+use Rattle.std.proofs.Common.{◌≡◌, ℕ, ℤ, List, [], ◌∷◌, None, refl}
+use Rattle.std.specs.Prelude.{codes}
+use Rattle.bank_parts.specs.declared.texts.InfoId.TheVariants.{Engine, Comment}
+use Rattle.bank_parts.specs.declared.parts.Kind.{Kind}
+use Rattle.bank_parts.specs.declared.parts.Kind.TheVariants.{Mono, Right, Left}
+use Rattle.bank_parts.specs.declared.parts.Sample.{Sample}
+use Rattle.bank_parts.specs.declared.parts.Parts.{Parts}
+use Rattle.edit_forms.specs.declared.step.Step.TheVariants.{AddSample, SetKind, SetInfo}
+use Rattle.edit_forms.specs.declared.edit.Edit.TheVariants.{One}
+use Rattle.inverse_edits.specs.Runs.{after_all}
+use Rattle.bank_text.specs.Listed.{empty, edits_of_bank}
+
+abbrev side : ℤ → List ℕ → Kind → Sample
+side correction name kind = record { name = name; points = 1 ∷ 2 ∷ []; looped = None; rate = 44100; key = 60; correction = correction; kind = kind }
+
+-- two samples that link to each other, a third, and a comment
+abbrev tiny : ℤ → Parts
+tiny c = record {
+  minor = 1;
+  texts = record { engine = codes "X"; name = []; date = []; engineers = []; product = []; copyright = []; comment = codes "c"; software = [] };
+  presets = [];
+  instruments = [];
+  samples = side c (codes "L") (Left 1) ∷ side c (codes "R") (Right 0) ∷ side c (codes "M") Mono ∷ [];
+}
+
+tiny_edits : (c : ℤ) → edits_of_bank (tiny c) ≡
+    One (SetInfo Engine (codes "X")) ∷ One (SetInfo Comment (codes "c"))
+    ∷ One (AddSample 0 (side c (codes "L") Mono)) ∷ One (AddSample 1 (side c (codes "R") Mono)) ∷ One (AddSample 2 (side c (codes "M") Mono))
+    ∷ One (SetKind 0 (Left 1)) ∷ One (SetKind 1 (Right 0)) ∷ []
+tiny_edits c = refl
+
+tiny_back : (c : ℤ) → after_all (empty 1) (edits_of_bank (tiny c)) ≡ tiny c
+tiny_back c = refl

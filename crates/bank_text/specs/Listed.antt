@@ -1,0 +1,75 @@
+-- A bank as a list of edits of the empty bank.
+use Rattle.std.specs.Prelude.{◌++◌, ℕ, suc, List, [], ◌∷◌, codes}
+use Rattle.bank_parts.specs.declared.texts.InfoId.{InfoId}
+use Rattle.bank_parts.specs.declared.texts.InfoId.TheVariants as id
+use Rattle.bank_parts.specs.declared.texts.Texts.{Texts}
+use Rattle.bank_parts.specs.declared.parts.Kind.{Kind}
+use Rattle.bank_parts.specs.declared.parts.Kind.TheVariants.{Mono, Right, Left, Linked}
+use Rattle.bank_parts.specs.declared.parts.Head.{Head}
+use Rattle.bank_parts.specs.declared.parts.WithZones.{WithZones}
+use Rattle.bank_parts.specs.declared.parts.Sample.{Sample}
+use Rattle.bank_parts.specs.declared.parts.Parts.{Parts}
+use Rattle.bank_changes.specs.Points.{of_kind}
+use Rattle.edit_forms.specs.declared.step.Step.TheVariants.{AddPreset, AddInstrument, AddSample, SetKind, SetInfo}
+use Rattle.edit_forms.specs.declared.edit.Edit.{Edit}
+use Rattle.edit_forms.specs.declared.edit.Edit.TheVariants.{One}
+
+-- the texts of a file that has none
+abbrev pub empty_texts : Texts
+empty_texts = record { engine = codes "EMU8000"; name = []; date = []; engineers = []; product = []; copyright = []; comment = []; software = [] }
+
+abbrev pub empty : ℕ → Parts
+empty minor = record { minor = minor; texts = empty_texts; presets = []; instruments = []; samples = [] }
+
+-- the edits for each member in its turn, where the first has the number n
+abbrev pub in_turn : {X : Type 0} → (ℕ → X → List Edit) → ℕ → List X → List Edit
+in_turn edits n [] = []
+in_turn edits n (x ∷ xs) = edits n x ++ in_turn edits (suc n) xs
+
+-- ---- each part
+
+-- a text that is not empty
+abbrev pub text_edits : InfoId → List ℕ → List Edit
+text_edits id [] = []
+text_edits id (byte ∷ text) = One (SetInfo id (byte ∷ text)) ∷ []
+
+abbrev pub texts_edits : Texts → List Edit
+texts_edits t =
+    text_edits id.Engine t.engine
+    ++ (text_edits id.Name t.name
+    ++ (text_edits id.Date t.date
+    ++ (text_edits id.Engineers t.engineers
+    ++ (text_edits id.Product t.product
+    ++ (text_edits id.Copyright t.copyright
+    ++ (text_edits id.Comment t.comment
+    ++ text_edits id.Software t.software))))))
+
+-- a sample without its link, as the sample that it links to may not be there yet
+abbrev pub sample_edits : ℕ → Sample → List Edit
+sample_edits i s = One (AddSample i (of_kind Mono s)) ∷ []
+
+-- the kind of a sample that is there
+abbrev pub kind_edits : ℕ → Kind → List Edit
+kind_edits i Mono = []
+kind_edits i (Right link) = One (SetKind i (Right link)) ∷ []
+kind_edits i (Left link) = One (SetKind i (Left link)) ∷ []
+kind_edits i (Linked link) = One (SetKind i (Linked link)) ∷ []
+
+abbrev pub link_edits : ℕ → Sample → List Edit
+link_edits i s = kind_edits i s.kind
+
+abbrev pub instrument_edits : ℕ → WithZones (List ℕ) → List Edit
+instrument_edits i x = One (AddInstrument i x) ∷ []
+
+abbrev pub preset_edits : ℕ → WithZones Head → List Edit
+preset_edits i x = One (AddPreset i x) ∷ []
+
+-- ---- the bank
+
+abbrev pub edits_of_bank : Parts → List Edit
+edits_of_bank b =
+    texts_edits b.texts
+    ++ (in_turn sample_edits 0 b.samples
+    ++ (in_turn link_edits 0 b.samples
+    ++ (in_turn instrument_edits 0 b.instruments
+    ++ in_turn preset_edits 0 b.presets)))
