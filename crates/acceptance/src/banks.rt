@@ -4,6 +4,7 @@ use bank_core::{
     Bank, GlobalZone, Head, InfoId, Kind, Members, Owner, Owners, Parts, PartsFault, Place, Sample,
     Texts, WithZones, Zone, is_valid,
 };
+use bank_parts::OwnerHead;
 use generators::GenMap;
 use numbered_lists::NumberedList;
 use sample_view::Points;
@@ -135,12 +136,12 @@ fn one<T: Drop>(alloc: Global, member: T) -> Result<NumberedList<T>, OutOfMemory
 }
 
 /// A preset or an instrument alone, with these zones.
-fn one_owner<H: Drop>(
+fn one_owner<H: OwnerHead>(
     alloc: Global,
     head: H,
     zones: NumberedList<Zone>,
 ) -> Result<Owners<H>, OutOfMemory> {
-    let mut owners = Owners::new(alloc);
+    let mut owners = Owners::with_capacity(alloc, 1)?;
     owners.push(WithZones {
         head,
         global: global(alloc),

@@ -4,7 +4,7 @@ ghost use Rattle.bank_changes.specs.Members.{zone_place, settings_of, mods_of, a
 ghost use Rattle.bank_changes.specs.Settings.{gen_set, gen_cleared, mod_added, mod_removed, mod_set, records_at, records_there};
 
 use crate::members::{Owner, Place, place_of};
-use bank_parts::{Owners, Parts, Records, ZonePlace};
+use bank_parts::{OwnerHead, Owners, Parts, Records, ZonePlace};
 use modulators::Modulator;
 use sf_base::OutOfMemory;
 
@@ -121,7 +121,7 @@ pub fn records_there(parts: &Parts<'_>, owner: Owner, place: Place) -> Records
     }
 }
 
-fn records_in<H>(owners: &Owners<H>, number: u32, place: Place) -> Records
+fn records_in<H: OwnerHead>(owners: &Owners<H>, number: u32, place: Place) -> Records
     ensures { result ≡ records_at owners.now number (zone_place place) }
 {
     let (number, place) = (number as usize, place_of(place));

@@ -12,7 +12,7 @@ ghost use Rattle.bank_core.specs.Faults.{IsPartsFault};
 
 use crate::fault::PartsFault;
 use bank_changes::Members;
-use bank_parts::{Head, InfoId, Owners, Parts, Sample, copy_parts};
+use bank_parts::{Head, InfoId, OwnerHead, Owners, Parts, Sample, copy_parts};
 use bank_validity::{Totals, is_valid, totals_of};
 use sf_base::{Failure, Name20, OutOfMemory};
 use std::alloc::Global;
@@ -163,7 +163,7 @@ impl<'a> Bank<'a> {
     }
 }
 
-fn head_in<H: Copy>(owners: &Owners<H>, number: u32) -> Option<H>
+fn head_in<H: OwnerHead>(owners: &Owners<H>, number: u32) -> Option<H>
     ensures { result ≡ head_at owners.now number }
 {
     let number = number as usize;

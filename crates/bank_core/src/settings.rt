@@ -15,7 +15,7 @@ use bank_changes::{
     Owner, Place, add_mod, clear_gen, place_of, records_there, recounted, remove_mod, set_gen,
     set_mod,
 };
-use bank_parts::{Owners, Records};
+use bank_parts::{OwnerHead, Owners, Records};
 use bank_validity::Limit;
 use modulators::Modulator;
 use sf_base::OutOfMemory;
@@ -182,7 +182,7 @@ fn zones_at(place: Place) -> usize
 
 // ---- what stands at a place
 
-fn mod_count_in<H>(owners: &Owners<H>, number: u32, place: Place) -> Option<usize>
+fn mod_count_in<H: OwnerHead>(owners: &Owners<H>, number: u32, place: Place) -> Option<usize>
     ensures { result ≡ option_map length (mods_at owners.now number (zone_place place)) }
 {
     let (number, place) = (number as usize, place_of(place));
@@ -192,7 +192,7 @@ fn mod_count_in<H>(owners: &Owners<H>, number: u32, place: Place) -> Option<usiz
     Some(owners.mod_count(number, place))
 }
 
-fn has_link_in<H>(owners: &Owners<H>, number: u32, place: Place) -> bool
+fn has_link_in<H: OwnerHead>(owners: &Owners<H>, number: u32, place: Place) -> bool
     ensures { result ≡ list_any is_link (unwrap_or (mods_at owners.now number (zone_place place)) []) }
 {
     let (number, place) = (number as usize, place_of(place));

@@ -5,6 +5,7 @@ ghost use Rattle.bank_listing.specs.Listing.{preset_line, instrument_line, sampl
 
 use crate::pieces::{name_piece, number_piece};
 use bank_core::{Head, Sample};
+use bank_parts::OwnerHead;
 use line_tokens::{put_line, put_pieces};
 use outputs::Output;
 use script_grammar::put_sample_head;
@@ -12,7 +13,7 @@ use sf_base::Name20;
 use std::io::Write;
 
 /// What a preset or an instrument has besides its zones.
-pub(crate) trait ListedHead {
+pub(crate) trait ListedHead: OwnerHead {
     ghost use Rattle.std.specs.Prelude.{ℕ, List};
 
     /// Its line, by its number and the number of its zones.

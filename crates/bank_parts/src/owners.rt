@@ -11,6 +11,7 @@ ghost use Rattle.bank_parts.specs.Counts.{records_of_owner, records_total, all_c
 
 use crate::copying::{CopyOut, copy_list};
 use crate::counting::Records;
+use crate::heads::OwnerHead;
 use crate::parts::{WithZones, Zone};
 use modulators::Modulator;
 use numbered_lists::{NumberedList, Renumber, Renumbering};
@@ -29,11 +30,11 @@ pub enum ZonePlace {
 /// The presets of a bank, or its instruments, in order. How their zones are kept is its own affair: it
 /// lends no zone, but what one holds.
 #[derive(Drop)]
-pub struct Owners<H> {
+pub struct Owners<H: OwnerHead> {
     pub(crate) list: NumberedList<WithZones<H>>,
 }
 
-impl<H> Model for Owners<H> {
+impl<H: OwnerHead> Model for Owners<H> {
     ghost use Rattle.std.specs.Prelude.{List};
     ghost use Rattle.bank_parts.specs.declared.parts.WithZones.{WithZones};
     ghost use Rattle.generators.specs.contracts.gen_map.GenMap as gens;
@@ -46,16 +47,7 @@ impl<H> Model for Owners<H> {
     ghost view = { λ owners. owners.list };
 }
 
-impl<H> Owners<H> {
-    /// None. Takes no memory.
-    pub fn new(alloc: Global) -> Owners<H>
-        ensures { result ≡ [] }
-    {
-        Owners {
-            list: NumberedList::new(alloc),
-        }
-    }
-
+impl<H: OwnerHead> Owners<H> {
     /// None, with room for so many.
     pub fn with_capacity(alloc: Global, count: usize) -> Result<Owners<H>, OutOfMemory>
         ensures { IfOk result (λ owners. owners ≡ []) }
@@ -257,7 +249,7 @@ fn targets<H>(number: u32, owner: &WithZones<H>) -> bool
         .any(|zone| u32::from(zone.target) == number)
 }
 
-impl<H: Drop> Owners<H> {
+impl<H: OwnerHead> Owners<H> {
     /// Puts one behind the others. For want of memory the list stays as it is.
     pub fn push(&mut self, owner: WithZones<H>) -> Result<(), OutOfMemory>
         ensures ok { OnOk result (self.new ≡ self.old ++ owner ∷ []) }
@@ -267,7 +259,7 @@ impl<H: Drop> Owners<H> {
     }
 }
 
-impl<H: Copy> Owners<H> {
+impl<H: OwnerHead> Owners<H> {
     /// Equal ones in memory of their own.
     pub fn copy(&self, alloc: Global) -> Result<Owners<H>, OutOfMemory>
         ensures { IfOk result (λ copy. copy ≡ self.now) }
@@ -279,7 +271,7 @@ impl<H: Copy> Owners<H> {
 }
 
 /// Presets hold the numbers of their zones' targets, and so do instruments.
-impl<H> Renumber for Owners<H> {
+impl<H: OwnerHead> Renumber for Owners<H> {
     ghost use Rattle.std.specs.Prelude.{map, All};
     ghost use Rattle.bank_parts.specs.Renumbered.{owner_renumbered, CanRenumberOwner};
 

@@ -3,13 +3,14 @@ ghost use Rattle.std.specs.Prelude.{◌≡◌, ◌<◌, ◌≤◌, Some, length,
 ghost use Rattle.bank_parts.specs.Owners.{HasPlace, gens_at, mods_at, amount_at, mod_at};
 ghost use Rattle.bank_parts.specs.ZoneChanges.{gen_set, gen_cleared, mod_added, mod_removed, mod_set};
 
+use crate::heads::OwnerHead;
 use crate::owners::{Owners, ZonePlace};
 use generators::GenMap;
 use modulators::Modulator;
 use numbered_lists::NumberedList;
 use sf_base::OutOfMemory;
 
-impl<H> Owners<H> {
+impl<H: OwnerHead> Owners<H> {
     ghost use Rattle.std.specs.Borrow.{Lends, sem};
     ghost use Rattle.generators.specs.contracts.gen_map.GenMap as gen_map;
     ghost use Rattle.modulators.specs.contracts.modulator.Modulator as modulator;
@@ -101,7 +102,7 @@ impl<H> Owners<H> {
 
     fn gens_mut(&mut self, i: usize, place: ZonePlace) -> &mut GenMap
         requires { HasPlace self.old i place }
-        ensures* writes_back { sem 𝓛 (Lends (owners.the_row H.row) gen_map.the_row self.entry result (λ w. place_changed self.old i place (with_gens w))) }
+        ensures* writes_back { sem 𝓛 (Lends (owners.the_row H.row H.OwnerHead) gen_map.the_row self.entry result (λ w. place_changed self.old i place (with_gens w))) }
         ensures value { gens_at self.old i place ≡ Some result.now }
     {
         let member = self.list.member_mut(i);
@@ -119,7 +120,7 @@ impl<H> Owners<H> {
 
     fn mods_mut(&mut self, i: usize, place: ZonePlace) -> &mut NumberedList<Modulator>
         requires { HasPlace self.old i place }
-        ensures* writes_back { sem 𝓛 (Lends (owners.the_row H.row) (list.the_row modulator.the_row) self.entry result (λ w. place_changed self.old i place (with_mods w))) }
+        ensures* writes_back { sem 𝓛 (Lends (owners.the_row H.row H.OwnerHead) (list.the_row modulator.the_row) self.entry result (λ w. place_changed self.old i place (with_mods w))) }
         ensures value { mods_at self.old i place ≡ Some result.now }
     {
         let member = self.list.member_mut(i);

@@ -4,12 +4,13 @@ ghost use Rattle.bank_parts.specs.declared.owners.ZonePlace.TheVariants as place
 ghost use Rattle.bank_parts.specs.Owners.{HasPlace, zone_count_at, zone_at, target_at};
 ghost use Rattle.bank_parts.specs.ZoneChanges.{zone_added, zone_removed, zone_moved, target_set};
 
+use crate::heads::OwnerHead;
 use crate::owners::Owners;
 use crate::parts::Zone;
 use sf_base::OutOfMemory;
 use std::alloc::Global;
 
-impl<H> Owners<H> {
+impl<H: OwnerHead> Owners<H> {
     /// Makes a zone number `k` of number `i`, which is there and has so many; its zones from there on
     /// get the next number each. For want of memory nothing changes, and the zone comes back.
     #[tactic(auto, using(numbered_lists::proofs::Lists::slice_set_same))]

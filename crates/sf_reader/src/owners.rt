@@ -9,7 +9,7 @@ ghost use Rattle.sf_reader.specs.Owners.{added, AreSmall, window_of, windows_of,
 
 use crate::hydra::{LevelTables, Tables, row_count};
 use bank_format::{ReadFault, RecordedHead};
-use bank_parts::{Head, Owners, WithZones, Zone};
+use bank_parts::{Head, OwnerHead, Owners, WithZones, Zone};
 use sf_base::{Failure, Name20};
 use std::alloc::Global;
 use zone_reader::{BagsRead, ZoneCounts, read_bags};
@@ -23,7 +23,7 @@ pub(crate) struct OwnerRead<H> {
 
 /// The presets or the instruments of a file, and what was dropped or mended in their zones.
 #[derive(Drop)]
-pub(crate) struct OwnersRead<H> {
+pub(crate) struct OwnersRead<H: OwnerHead> {
     /// Each in its order.
     pub(crate) owners: Owners<H>,
 

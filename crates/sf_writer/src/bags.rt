@@ -54,7 +54,7 @@ impl<'a> BagView<'a> {
     }
 
     // The bag of the global zone of number `i`, which is there. An empty one has none.
-    fn of_global<H>(owners: &'a Owners<H>, i: usize) -> Option<BagView<'a>>
+    fn of_global<H: OwnerHead>(owners: &'a Owners<H>, i: usize) -> Option<BagView<'a>>
         requires { i < length owners.now }
         ensures { option_map (λ x. global_written x.global) (slice_get owners.now i) ≡ Some (option_to_list result) }
     {
@@ -196,7 +196,7 @@ fn bag_at<'a, H: OwnerHead>(owners: &'a Owners<H>, at: Position) -> (Option<BagV
 }
 
 /// How many bags number `i`, which is there, has.
-pub(crate) fn bag_count<H>(owners: &Owners<H>, i: usize) -> usize
+pub(crate) fn bag_count<H: OwnerHead>(owners: &Owners<H>, i: usize) -> usize
     requires there { i < length owners.now }
     requires few { IfSome (slice_get owners.now i) (λ x. zone_count x.global x.zones < 2 ^ 16) }
     ensures { option_map (λ x. zone_count x.global x.zones) (slice_get owners.now i) ≡ Some result }

@@ -9,10 +9,10 @@ ghost use Rattle.zone_ranges.specs.Alike.{AgreesButAt};
 
 use crate::axes::Axis;
 use crate::ranges::range_operator;
-use bank_parts::{Owners, ZonePlace};
+use bank_parts::{OwnerHead, Owners, ZonePlace};
 use modulators::Modulator;
 
-pub(crate) fn are_alike<H>(
+pub(crate) fn are_alike<H: OwnerHead>(
     owners: &Owners<H>,
     i: usize,
     first: usize,
@@ -36,7 +36,13 @@ pub(crate) fn are_alike<H>(
 }
 
 // Whether two zones set all operators but one alike.
-fn same_but<H>(owners: &Owners<H>, i: usize, first: usize, second: usize, operator: u16) -> bool
+fn same_but<H: OwnerHead>(
+    owners: &Owners<H>,
+    i: usize,
+    first: usize,
+    second: usize,
+    operator: u16,
+) -> bool
     requires first { HasPlace owners.now i (place.Zone first) }
     requires second { HasPlace owners.now i (place.Zone second) }
     ensures { IfSome (gens_at owners.now i (place.Zone first)) (λ m. IfSome (gens_at owners.now i (place.Zone second)) (λ n. IsTrue result ↔ (remove m operator ≡ remove n operator))) }
@@ -50,7 +56,7 @@ fn same_but<H>(owners: &Owners<H>, i: usize, first: usize, second: usize, operat
 }
 
 // Whether a zone sets each operator but one as these entries do.
-fn agree_but<H>(
+fn agree_but<H: OwnerHead>(
     owners: &Owners<H>,
     i: usize,
     zone: usize,
@@ -65,7 +71,7 @@ fn agree_but<H>(
         .all(|&entry| agrees_but(owners, i, zone, operator, entry))
 }
 
-fn agrees_but<H>(
+fn agrees_but<H: OwnerHead>(
     owners: &Owners<H>,
     i: usize,
     zone: usize,

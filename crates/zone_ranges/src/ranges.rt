@@ -6,7 +6,7 @@ ghost use Rattle.bank_parts.specs.Owners.{HasPlace, zone_at};
 ghost use Rattle.zone_ranges.specs.Ranges.{range_operator, low_end, high_end, own_range, inherited_range, range_at};
 
 use crate::axes::Axis;
-use bank_parts::{Owners, ZonePlace};
+use bank_parts::{OwnerHead, Owners, ZonePlace};
 use generators::{Range, operators};
 
 // 0 to 127, as an amount.
@@ -23,7 +23,12 @@ pub fn range_operator(axis: Axis) -> u16
 }
 
 // The range that zone `k` sets itself, as an amount.
-pub(crate) fn own_range<H>(owners: &Owners<H>, i: usize, k: usize, axis: Axis) -> Option<u16>
+pub(crate) fn own_range<H: OwnerHead>(
+    owners: &Owners<H>,
+    i: usize,
+    k: usize,
+    axis: Axis,
+) -> Option<u16>
     requires { HasPlace owners.now i (place.Zone k) }
     ensures { IfSome (zone_at owners.now i k) (λ z. result ≡ own_range axis z) }
 {
@@ -31,7 +36,7 @@ pub(crate) fn own_range<H>(owners: &Owners<H>, i: usize, k: usize, axis: Axis) -
 }
 
 // The range that a zone without its own has, as an amount.
-pub(crate) fn inherited_range<H>(owners: &Owners<H>, i: usize, axis: Axis) -> u16
+pub(crate) fn inherited_range<H: OwnerHead>(owners: &Owners<H>, i: usize, axis: Axis) -> u16
     requires { i < length owners.now }
     ensures { IfSome (slice_get owners.now i) (λ x. result ≡ inherited_range axis x.global) }
 {
@@ -42,7 +47,7 @@ pub(crate) fn inherited_range<H>(owners: &Owners<H>, i: usize, axis: Axis) -> u1
 
 /// The range of keys or of velocities that holds for zone `k` of number `i`, both of which are there:
 /// its own, else its global zone's, else 0 to 127. Its ends are those that the file has.
-pub fn zone_range<H>(owners: &Owners<H>, i: u32, k: u32, axis: Axis) -> Range
+pub fn zone_range<H: OwnerHead>(owners: &Owners<H>, i: u32, k: u32, axis: Axis) -> Range
     requires { HasPlace owners.now i (place.Zone k) }
     ensures low { option_map low_end (range_at axis owners.now i k) ≡ Some result.low }
     ensures high { option_map high_end (range_at axis owners.now i k) ≡ Some result.high }

@@ -7,11 +7,11 @@ ghost use Rattle.zone_ranges.specs.Splits.{records_with, split_records, join_rec
 
 use crate::axes::{Axis, Keep};
 use crate::ranges::own_range;
-use bank_parts::{Owners, Records, ZonePlace};
+use bank_parts::{OwnerHead, Owners, Records, ZonePlace};
 
 /// The records that a split of zone `k` of number `i`, both of which are there, adds: those of the
 /// zone, and two ranges where it has none of its own. A sum that would pass 2^64 stays below it.
-pub fn split_records<H>(owners: &Owners<H>, i: u32, k: u32, axis: Axis) -> Records
+pub fn split_records<H: OwnerHead>(owners: &Owners<H>, i: u32, k: u32, axis: Axis) -> Records
     requires { HasPlace owners.now i (place.Zone k) }
     ensures { IfSome (zone_at owners.now i k) (λ z. result ≡ all_counted (split_records axis z)) }
 {
@@ -24,7 +24,7 @@ pub fn split_records<H>(owners: &Owners<H>, i: u32, k: u32, axis: Axis) -> Recor
 
 /// The records that a join of zones `k` and `k + 1` of number `i`, all of which are there, takes: those
 /// of the second, and the range that a bare one loses. A sum that would pass 2^64 stays below it.
-pub fn join_records<H>(owners: &Owners<H>, i: u32, k: u32, keep: Keep) -> Records
+pub fn join_records<H: OwnerHead>(owners: &Owners<H>, i: u32, k: u32, keep: Keep) -> Records
     requires { HasPlace owners.now i (place.Zone (k + 1)) }
     ensures { IfSome (zone_at owners.now i (k + 1)) (λ z. result ≡ all_counted (join_records keep z)) }
 {
@@ -36,7 +36,7 @@ pub fn join_records<H>(owners: &Owners<H>, i: u32, k: u32, keep: Keep) -> Record
 }
 
 // A zone more, with its modulators, and with so many generators more than it has.
-fn records_with<H>(owners: &Owners<H>, i: usize, k: usize, more: usize) -> Records
+fn records_with<H: OwnerHead>(owners: &Owners<H>, i: usize, k: usize, more: usize) -> Records
     requires { HasPlace owners.now i (place.Zone k) }
     ensures { IfSome (zone_at owners.now i k) (λ z. result ≡ all_counted (records_with more z)) }
 {

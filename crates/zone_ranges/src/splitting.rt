@@ -12,14 +12,14 @@ ghost use Rattle.zone_ranges.specs.Splits.{splits_at, joins_at, zone_split, zone
 use crate::alike::are_alike;
 use crate::axes::{Axis, Keep};
 use crate::ranges::{WHOLE_RANGE, inherited_range, own_range, range_operator, zone_range};
-use bank_parts::{Owners, Zone, ZonePlace};
+use bank_parts::{OwnerHead, Owners, Zone, ZonePlace};
 use generators::Range;
 use sf_base::OutOfMemory;
 use std::alloc::Global;
 
 /// Whether zone `k` of number `i` is there and can be split at a key or a velocity: it lies in the
 /// range that holds for the zone, and not at its low end.
-pub fn splits<H>(owners: &Owners<H>, i: u32, k: u32, axis: Axis, at: u8) -> bool
+pub fn splits<H: OwnerHead>(owners: &Owners<H>, i: u32, k: u32, axis: Axis, at: u8) -> bool
     ensures { result ≡ splits_at axis at owners.now i k }
 {
     if !owners.has_place(i as usize, ZonePlace::Zone(k as usize)) {
@@ -32,7 +32,7 @@ pub fn splits<H>(owners: &Owners<H>, i: u32, k: u32, axis: Axis, at: u8) -> bool
 /// Whether zones `k` and `k + 1` of number `i` are there and can be joined: they agree in all but their
 /// own ranges on the axis, the second's begins one above the first's end, and a zone without a range of
 /// its own would have both together.
-pub fn joins<H>(owners: &Owners<H>, i: u32, k: u32, axis: Axis, keep: Keep) -> bool
+pub fn joins<H: OwnerHead>(owners: &Owners<H>, i: u32, k: u32, axis: Axis, keep: Keep) -> bool
     ensures { result ≡ joins_at axis keep owners.now i k }
 {
     let (i, first) = (i as usize, k as usize);
@@ -45,7 +45,7 @@ pub fn joins<H>(owners: &Owners<H>, i: u32, k: u32, axis: Axis, keep: Keep) -> b
 }
 
 // Whether both zones have ranges of their own, and these are neighbours.
-fn have_neighbours<H>(
+fn have_neighbours<H: OwnerHead>(
     owners: &Owners<H>,
     i: usize,
     first: usize,
@@ -91,7 +91,7 @@ fn joint_range(first: u16, second: u16) -> u16
 
 /// Splits zone `k` of number `i` at a key or a velocity, from which on the second zone holds. For want
 /// of memory nothing changes.
-pub fn split_zone<H>(
+pub fn split_zone<H: OwnerHead>(
     owners: &mut Owners<H>,
     alloc: Global,
     i: u32,
@@ -120,7 +120,7 @@ pub fn split_zone<H>(
 }
 
 // Gives zone `k` this amount, and puts a zone in behind it. For want of memory nothing changes.
-fn put_parts<H>(
+fn put_parts<H: OwnerHead>(
     owners: &mut Owners<H>,
     i: u32,
     k: u32,
@@ -144,7 +144,13 @@ fn put_parts<H>(
 }
 
 // Gives an operator that is set the amount that it had. Takes no memory.
-fn set_back<H>(owners: &mut Owners<H>, i: usize, k: usize, operator: u16, was: Option<u16>)
+fn set_back<H: OwnerHead>(
+    owners: &mut Owners<H>,
+    i: usize,
+    k: usize,
+    operator: u16,
+    was: Option<u16>,
+)
     requires there { HasPlace owners.old i (place.Zone k) }
     requires set { IsSome (amount_at owners.old i (place.Zone k) operator) }
     ensures { owners.new ≡ option_map_or (λ amount. gen_set owners.old i (place.Zone k) operator amount) was (gen_cleared owners.old i (place.Zone k) operator) }
@@ -162,7 +168,7 @@ fn set_back<H>(owners: &mut Owners<H>, i: usize, k: usize, operator: u16, was: O
 
 /// Joins zones `k` and `k + 1` of number `i`. It takes no memory, but another representation may; then
 /// nothing changes.
-pub fn join_zones<H>(
+pub fn join_zones<H: OwnerHead>(
     owners: &mut Owners<H>,
     alloc: Global,
     i: u32,
