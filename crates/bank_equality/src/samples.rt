@@ -1,9 +1,24 @@
 //! Whether two samples have the same value.
-ghost use Rattle.std.specs.Prelude.{◌≡◌, ◌↔◌, IsTrue};
+ghost use Rattle.std.specs.Prelude.{◌≡◌, ◌<◌, ◌↔◌, ℕ, slice_get, IsTrue};
 
 use crate::heads::SameHead;
 use crate::points::same_points;
 use bank_parts::{Kind, Sample};
+
+/// Whether all samples have the same values in the same order.
+pub fn same_samples(a: &[Sample<'_>], b: &[Sample<'_>]) -> bool
+    ensures { IsTrue result ↔ (a.now ≡ b.now) }
+{
+    if a.len() != b.len() {
+        return false;
+    }
+    for i in 0..a.len() {
+        if !same_sample(&a[i], &b[i]) {
+            return false;
+        }
+    }
+    true
+}
 
 /// Whether both samples have the same value, points and all.
 pub fn same_sample(a: &Sample<'_>, b: &Sample<'_>) -> bool
