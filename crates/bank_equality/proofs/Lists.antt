@@ -9,7 +9,7 @@ use Rattle.bank_parts.specs.declared.owners.ZonePlace.{ZonePlace}
 use Rattle.bank_parts.specs.declared.owners.ZonePlace.TheVariants as place
 use Rattle.bank_parts.specs.declared.parts.Zone.{Zone}
 use Rattle.bank_parts.specs.declared.parts.WithZones.{WithZones}
-use Rattle.bank_parts.specs.Owners.{zone_at, gens_at, mods_at, entries_at}
+use Rattle.bank_parts.specs.Owners.{gens_at, mods_at, entries_at}
 use Rattle.bank_parts.specs.Settings.{Settings, settings_of_zone, settings_in, settings_at}
 
 some_same : {X : Type 0} (x y : X) → Some x ≡ Some y → x ≡ y
@@ -84,9 +84,8 @@ same_by_mods xs i at ys j other es fs ms ns r a b same c d h =
     let first = ap (option_map entries) (sym (gens_lent xs i at)) ∙ a in
     let second = ap (option_map entries) (sym (gens_lent ys j other)) ∙ b ∙ ap (λ (gs : List (ℕ × ℕ)). Some gs) (sym same) in
     let third = sym (mods_lent xs i at) ∙ c in
-    let fourth = sym (mods_lent ys j other) ∙ d in
-    (
+    let fourth = sym (mods_lent ys j other) ∙ d in (
       λ t. same_lent (settings_at xs i at) (settings_at ys j other) es ms first second third
-      (fourth ∙ ap (λ (ks : List Modulator). Some ks) (sym (h.0 t))),
+          (fourth ∙ ap (λ (ks : List Modulator). Some ks) (sym (h.0 t))),
       λ e. h.1 (some_same ms ns (sym third ∙ ap (option_map (λ (s : Settings). s.mods)) e ∙ fourth)),
     )

@@ -7,7 +7,7 @@ use Rattle.sample_view.specs.Pieces.{joined_bytes}
 use Rattle.std.specs.List.{flat_map}
 use Rattle.sample_view.specs.Words.{words, word_bytes}
 use Rattle.sample_view.proofs.WordLemmas.{words_of_bytes}
-use Rattle.std.proofs.lemmas.List.{append_assoc, append_cancel_left, take_at, drop-append-le}
+use Rattle.std.proofs.lemmas.List.{append_assoc, take_at, drop-append-le}
 
 -- a front of two lists that lies in the first
 take-front : (n : ℕ) (xs ys : List ℕ) → n ≤ length xs → take n (xs ++ ys) ≡ take n xs
@@ -23,8 +23,7 @@ module _ (a b : List ℕ) (n : ℕ) (within : n ≡ min (length a) (length b)) w
       let in_a : n ≤ length a = omega arith in
       let in_b : n ≤ length b = omega arith in
       let parts : (zs ws : List ℕ) → zs ++ ws ≡ take n zs ++ (drop n zs ++ ws) = λ zs ws.
-      ap (λ t. t ++ ws) (sym (take-append-drop n zs)) ∙ append_assoc (take n zs) (drop n zs) ws in
-      (
+      ap (λ t. t ++ ws) (sym (take-append-drop n zs)) ∙ append_assoc (take n zs) (drop n zs) ws in (
         λ e. sym (drop-append-le n a xs in_a) ∙ ap (λ t. drop n t) e ∙ drop-append-le n b ys in_b,
         λ e. parts a xs ∙ ap (λ t. t ++ (drop n a ++ xs)) same ∙ ap (λ t. take n b ++ t) e ∙ sym (parts b ys),
       )

@@ -52,7 +52,10 @@ fn read_on<'a, 'b>(left: Unread<'a>, right: Unread<'b>) -> Option<(Unread<'a>, U
     let (first, second) = after_common(left.first, right.first)?;
     if first.is_empty() {
         if let Some((next, others)) = left.others.split_first() {
-            let left = Unread { first: *next, others };
+            let left = Unread {
+                first: *next,
+                others,
+            };
             let right = Unread {
                 first: second,
                 others: right.others,
@@ -68,7 +71,10 @@ fn read_on<'a, 'b>(left: Unread<'a>, right: Unread<'b>) -> Option<(Unread<'a>, U
         first,
         others: left.others,
     };
-    let right = Unread { first: *next, others };
+    let right = Unread {
+        first: *next,
+        others,
+    };
     Some((left, right))
 }
 

@@ -21,7 +21,8 @@ pub fn same_settings<H: OwnerHead, K: OwnerHead>(
     requires second { HasPlace b.now j other }
     ensures { IsTrue result ↔ (settings_at a.now i at ≡ settings_at b.now j other) }
 {
-    same_entries(a.entries(i, at), b.entries(j, other)) && same_mods(a.mods(i, at), b.mods(j, other))
+    same_entries(a.entries(i, at), b.entries(j, other))
+        && same_mods(a.mods(i, at), b.mods(j, other))
 }
 
 /// Whether zone `k` of number `i` and zone `l` of number `j` of other presets or instruments, all of

@@ -1,4 +1,4 @@
-use Rattle.std.proofs.Common.{◌≡◌, ◌≢◌, take, drop, sym, ◌∙◌, rules}
+use Rattle.std.proofs.Common.{◌≢◌, take, sym, ◌∙◌}
 use Rattle.std.proofs.lemmas.Bool.Decides.{Decides-eqb}
 use Rattle.std.proofs.lemmas.Slice.Eq.{slice_eq-Decides}
 use Rattle.bank_equality.proofs.Reading.{go_on, begin_apart}
