@@ -26,17 +26,17 @@ same_members (x ∷ xs) (y ∷ ys) e h =
     λ i. first i ∷ rest i
 
 -- zones of two members, of which each is lent
-pub same_lent_zones : {H K : Type 0} (o : Option (WithZones H)) (p : Option (WithZones K)) (n : ℕ)
-    → option_map (λ x. length x.zones) o ≡ Some n → option_map (λ x. length x.zones) p ≡ Some n
+pub same_lent_zones : {H K : Type 0} (o : Option (WithZones H)) (p : Option (WithZones K)) (n k : ℕ) → n ≡ k
+    → option_map (λ x. length x.zones) o ≡ Some n → option_map (λ x. length x.zones) p ≡ Some k
     → ((m : ℕ) → m < n → option_and_then (λ x. slice_get x.zones m) o ≡ option_and_then (λ x. slice_get x.zones m) p)
     → option_map (λ x. x.zones) o ≡ option_map (λ x. x.zones) p
-same_lent_zones (Some x) (Some y) n a b h =
+same_lent_zones (Some x) (Some y) n k e a b h =
     let first = some_same (length x.zones) n a in
-    let second = some_same (length y.zones) n b in
-    ap (λ (zones : List Zone). Some zones) (same_members x.zones y.zones (first ∙ sym second) (λ m lt. h m (omega arith)))
-same_lent_zones None None n a b h = refl
-same_lent_zones None (Some y) n a b h = cc
-same_lent_zones (Some x) None n a b h = cc
+    let second = some_same (length y.zones) k b in
+    ap (λ (zones : List Zone). Some zones) (same_members x.zones y.zones (first ∙ e ∙ sym second) (λ m lt. h m (omega arith)))
+same_lent_zones None None n k e a b h = refl
+same_lent_zones None (Some y) n k e a b h = cc
+same_lent_zones (Some x) None n k e a b h = cc
 
 -- what a place lends is what its settings have
 module _ {H : Type 0} (owners : List (WithZones H)) (i : ℕ) where

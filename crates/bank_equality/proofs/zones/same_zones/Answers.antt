@@ -1,4 +1,4 @@
-use Rattle.std.proofs.Common.{◌≡◌, ◌≤◌, slice_get, Some, ap, sym, ◌∙◌, refl, ℕ, arith, rules}
+use Rattle.std.proofs.Common.{◌≡◌, ◌≤◌, slice_get, refl, arith, rules}
 use Rattle.bank_equality.proofs.Lists.{same_lent_zones}
 use Rattle.bank_equality.proofs.zones.same_zones.Goals as goal
 
@@ -7,6 +7,6 @@ returns g c =
     let count = c.zone_count-count.result in
     let as_many : count ≡ c.zone_count.result = search rules in
     let all : count ≤ c.loop-k.k = search rules in
-    let zones = same_lent_zones (slice_get c.args.a.now c.args.i) (slice_get c.args.b.now c.args.j) count c.zone_count-count.ensures
-    (c.zone_count.ensures ∙ ap (λ (n : ℕ). Some n) (sym as_many)) (λ m lt. c.loop-k.invariant m (omega arith)) in
+    let zones = same_lent_zones (slice_get c.args.a.now c.args.i) (slice_get c.args.b.now c.args.j) count c.zone_count.result as_many
+    c.zone_count-count.ensures c.zone_count.ensures (λ m lt. c.loop-k.invariant m (omega arith)) in
     (λ t. zones, λ e. refl)
