@@ -1,6 +1,5 @@
 -- A bank's text is read as the edits that list it.
-use Rattle.std.proofs.Common.{◌≡◌, ◌<◌, ◌^◌, ◌++◌, ℕ, suc, List, [], ◌∷◌, map, codes, decimal, drop, Result, Ok, Err, refl, sym, subst, ◌∙◌, ap, arith}
-use Rattle.std.specs.List.{flat_map}
+use Rattle.std.proofs.Common.{◌≡◌, ◌<◌, ◌^◌, ℕ, List, [], ◌∷◌, map, codes, decimal, drop, Result, Ok, Err, refl, sym, subst, ◌∙◌, ap, arith}
 use Rattle.std.proofs.lemmas.List.{append-nil}
 use Rattle.bank_parts.specs.declared.parts.Parts.{Parts}
 use Rattle.bank_parts.specs.Sound.{IsSound}
@@ -12,8 +11,7 @@ use Rattle.line_tokens.specs.declared.printing.Piece.TheVariants.{Number}
 use Rattle.line_tokens.specs.Lines.{lines_of}
 use Rattle.line_tokens.specs.Parts.{digits_value}
 use Rattle.line_tokens.specs.Printing.{spelled}
-use Rattle.line_tokens.specs.Spelling.{Writes}
-use Rattle.line_tokens.proofs.PieceLaws.{line, line_first, spoken_number, writes}
+use Rattle.line_tokens.proofs.PieceLaws.{line_first, spoken_number, writes}
 use Rattle.edit_script.specs.declared.parsing.Line.{Line}
 use Rattle.edit_script.specs.Script.{script_of}
 use Rattle.edit_script.specs.Printing.{AllFit, texts_of, numbered}

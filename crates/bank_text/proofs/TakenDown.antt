@@ -12,7 +12,7 @@ use Rattle.bank_parts.specs.declared.parts.Sample.{Sample}
 use Rattle.bank_parts.specs.declared.parts.Parts.{Parts}
 use Rattle.bank_parts.specs.Texts.{text_of}
 use Rattle.edit_forms.specs.declared.step.Step.{Step}
-use Rattle.edit_forms.specs.declared.step.Step.TheVariants.{RemovePreset, RemoveInstrument, RemoveSample, SetKind, SetInfo}
+use Rattle.edit_forms.specs.declared.step.Step.TheVariants.{RemovePreset, RemoveInstrument, RemoveSample, SetInfo}
 use Rattle.edit_forms.specs.declared.edit.Edit.{Edit}
 use Rattle.edit_forms.specs.declared.edit.Edit.TheVariants.{One}
 use Rattle.inverse_edits.specs.Runs.{undo_list}

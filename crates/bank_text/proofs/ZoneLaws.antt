@@ -1,5 +1,5 @@
 -- What a list of presets or instruments lends of a member is put as the member's zones.
-use Rattle.std.proofs.Common.{◌≡◌, ◌<◌, ◌≤◌, ◌+◌, ◌++◌, ℕ, true, false, List, [], ◌∷◌, length, drop, slice_get, Option, Some, None, codes, refl, sym, subst, ap, ◌∙◌, arith}
+use Rattle.std.proofs.Common.{◌≡◌, ◌<◌, ◌≤◌, ◌+◌, ◌++◌, ℕ, true, false, List, [], ◌∷◌, length, drop, slice_get, Option, Some, None, codes, refl, ap, ◌∙◌, arith}
 use Rattle.std.specs.Prelude.{◌==◌, IfSome, IsSomeAnd}
 use Rattle.std.specs.Option.{option_map}
 use Rattle.std.specs.List.{flat_map}
@@ -11,7 +11,7 @@ use Rattle.std.proofs.lemmas.Option.{get_or_from_slice_get}
 use Rattle.numbered_lists.proofs.Lists.{slice_get-found}
 use Rattle.outputs.specs.declared.output.Output.{Output}
 use Rattle.outputs.specs.Output.{Puts}
-use Rattle.outputs.proofs.OutputLaws.{puts_as, puts_nothing, Putting, putting_start, putting_step, putting_end}
+use Rattle.outputs.proofs.OutputLaws.{puts_nothing, Putting, putting_start, putting_step, putting_end}
 use Rattle.modulators.specs.declared.modulator.Modulator.{Modulator}
 use Rattle.bank_parts.specs.declared.parts.Zone.{Zone}
 use Rattle.bank_parts.specs.declared.parts.WithZones.{WithZones}
@@ -19,7 +19,7 @@ use Rattle.bank_parts.specs.declared.owners.ZonePlace.TheVariants as place
 use Rattle.bank_parts.specs.Owners.{HasPlace, zone_count_at, zone_at, target_at, gens_at, entries_at, mods_at}
 use Rattle.script_grammar.specs.Operands.{Fixed, Number}
 use Rattle.script_grammar.specs.Items.{items_operands}
-use Rattle.script_grammar.specs.Zones.{listed_items, global_of, global_operands, zone_operands, written_zone, written_of, written_operands}
+use Rattle.script_grammar.specs.Zones.{listed_items, global_of, global_operands, written_of, written_operands}
 use Rattle.script_grammar.proofs.PutLaws.{spaced_out}
 use Rattle.script_grammar.proofs.ZonePutLaws.{zone_text, puts_zone, puts_global, puts_zones}
 

@@ -5,6 +5,7 @@
 mod laws;
 mod links;
 mod owners;
+mod replacement;
 mod samples;
 mod script;
 mod texts;
@@ -13,5 +14,6 @@ mod zones;
 pub use laws::{
     edits_give_bank, edits_lead_anywhere, replacement_leads, text_gives_bank, text_tells_bank,
 };
+pub use replacement::put_replacement;
 pub use samples::SamplePoints;
 pub use script::put_bank_text;

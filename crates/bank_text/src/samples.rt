@@ -71,11 +71,7 @@ fn put_mono_head<W: Write>(sample: &Sample<'_>, output: &mut Output<'_, W>)
 }
 
 // The points, or none.
-fn put_told_points<W: Write>(
-    points: &Points<'_>,
-    told: SamplePoints,
-    output: &mut Output<'_, W>,
-)
+fn put_told_points<W: Write>(points: &Points<'_>, told: SamplePoints, output: &mut Output<'_, W>)
     ensures { Puts W.contents output.old output.new (flat_map spaced (pieces_of (operand.Points (told_points told points.now) ∷ []))) }
 {
     match told {

@@ -19,11 +19,7 @@ use std::io::Write;
 /// command for that bank, and a line for each edit, first of the texts that are not empty, then of the
 /// samples, their links, the instruments and the presets. Without the points, the comment says so, and
 /// each sample stands with none. Takes no memory.
-pub fn put_bank_text<W: Write>(
-    bank: &Bank<'_>,
-    points: SamplePoints,
-    output: &mut Output<'_, W>,
-)
+pub fn put_bank_text<W: Write>(bank: &Bank<'_>, points: SamplePoints, output: &mut Output<'_, W>)
     ensures { Puts W.contents output.old output.new (bank_script points bank.now) }
 {
     put_first_line(points, bank.minor(), output);
@@ -46,7 +42,11 @@ fn put_first_line<W: Write>(points: SamplePoints, minor: u16, output: &mut Outpu
 }
 
 // The lines of the edits.
-fn put_parts<W: Write>(bank: &Bank<'_>, points: SamplePoints, output: &mut Output<'_, W>)
+pub(crate) fn put_parts<W: Write>(
+    bank: &Bank<'_>,
+    points: SamplePoints,
+    output: &mut Output<'_, W>,
+)
     ensures { Puts W.contents output.old output.new (texts_of (edits_of_bank (with_points points bank.now))) }
 {
     put_texts(bank, output);

@@ -31,11 +31,7 @@ pub(crate) fn put_zones_of<H: OwnerHead, W: Write>(
 }
 
 // The global zone, and nothing where it is empty.
-fn put_global_of<H: OwnerHead, W: Write>(
-    owners: &Owners<H>,
-    i: usize,
-    output: &mut Output<'_, W>,
-)
+fn put_global_of<H: OwnerHead, W: Write>(owners: &Owners<H>, i: usize, output: &mut Output<'_, W>)
     requires { i < length owners.now }
     ensures { IfSome (slice_get owners.now i) (λ x. Puts W.contents output.old output.new (flat_map spaced (pieces_of (global_operands (global_of x.global))))) }
 {
@@ -50,11 +46,7 @@ fn put_global_of<H: OwnerHead, W: Write>(
 }
 
 // The zones besides the global one.
-fn put_own_zones<H: OwnerHead, W: Write>(
-    owners: &Owners<H>,
-    i: usize,
-    output: &mut Output<'_, W>,
-)
+fn put_own_zones<H: OwnerHead, W: Write>(owners: &Owners<H>, i: usize, output: &mut Output<'_, W>)
     requires { i < length owners.now }
     ensures { IfSome (slice_get owners.now i) (λ x. Puts W.contents output.old output.new (flat_map (λ (z : Zone). flat_map spaced (pieces_of (zone_operands (written_zone z)))) x.zones)) }
 {

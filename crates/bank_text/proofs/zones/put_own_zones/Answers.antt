@@ -1,4 +1,3 @@
-use Rattle.std.proofs.Common.{arith}
 use Rattle.bank_text.proofs.ZoneLaws.{putting_zones_start, putting_zones_step, putting_zones_end, has_zone}
 use Rattle.bank_text.proofs.zones.put_own_zones.Goals as goal
 
