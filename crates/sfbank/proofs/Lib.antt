@@ -4,5 +4,6 @@ pub mod Endings
 pub mod Faults
 pub mod Neutral
 pub mod Restores
+pub mod NewBanks
 pub mod Sounds
 pub mod Texts

@@ -12,3 +12,4 @@ pub mod Outcome
 pub mod Written
 pub mod Planned
 pub mod Plans
+pub mod NewBanks

@@ -7,6 +7,7 @@
 mod canon;
 mod deliver;
 mod edit;
+mod new;
 mod plan;
 mod play;
 mod program;
@@ -14,6 +15,7 @@ mod show;
 
 pub use canon::canon_run;
 pub use edit::{edit_run, neutral_run};
+pub use new::new_run;
 pub use play::play_run;
 pub use program::{run, run_with_arguments};
 pub use sfbank_program::{RunFault, Which};

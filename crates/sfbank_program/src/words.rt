@@ -1,10 +1,10 @@
 //! The words of the program.
 ghost use Rattle.std.specs.Prelude.{IfSome, IsSome};
 ghost use Rattle.clap.specs.Words.{found_of, subcommand_name_of};
-ghost use Rattle.sfbank_program.specs.Words.{IsOfCommand, NamesForms, NamesApplyPaths, HasApplyPaths, NamesCanonPaths, HasCanonPaths, NamesPlayPaths, HasPlayPaths, NamesInput, HasInput};
+ghost use Rattle.sfbank_program.specs.Words.{IsOfCommand, NamesForms, NamesApplyPaths, HasApplyPaths, NamesCanonPaths, HasCanonPaths, NamesPlayPaths, HasPlayPaths, NamesInput, HasInput, NamesNew, HasNew};
 
 use clap::error::ErrorKind;
-use clap::{Arg, ArgAction, ArgMatches, Command, Error};
+use clap::{Arg, ArgAction, ArgMatches, Command, Error, value_parser};
 use std::alloc::{AllocError, Global};
 use std::convert::AsStr;
 
@@ -14,12 +14,18 @@ const NAME: &str = "sfbank";
 /// The flag of `apply` by which only edits that change no sound are taken.
 const NEUTRAL: &str = "neutral";
 
+/// The option of `new` that has the minor version, and that version where it isn't given.
+const MINOR: &str = "minor";
+const USUAL_MINOR: &str = "4";
+
 /// What the words ask for.
 pub enum Request<'a> {
     /// Run a script on a bank.
     Apply(ApplyPaths<'a>),
     /// Write a bank in its one spelling.
     Canon(CanonPaths<'a>),
+    /// Write an empty bank.
+    New(NewBank<'a>),
     /// Play notes on a bank.
     Play(PlayPaths<'a>),
     /// Tell what the bank at this path has.
@@ -51,6 +57,13 @@ pub struct CanonPaths<'a> {
     pub out: &'a str,
 }
 
+/// The path of `new`, and the minor version of the bank.
+#[derive(Clone, Copy)]
+pub struct NewBank<'a> {
+    pub out: &'a str,
+    pub minor: u16,
+}
+
 /// The paths of `play`.
 #[derive(Clone, Copy)]
 pub struct PlayPaths<'a> {
@@ -78,6 +91,9 @@ fn chosen<'a>(matches: &ArgMatches<'a>) -> Option<Request<'a>>
     }
     if let Some(canon) = matches.subcommand_matches("canon") {
         return Some(Request::Canon(canon_paths(canon)?));
+    }
+    if let Some(new) = matches.subcommand_matches("new") {
+        return Some(Request::New(new_bank(new)?));
     }
     if let Some(play) = matches.subcommand_matches("play") {
         return Some(Request::Play(play_paths(play)?));
@@ -119,6 +135,16 @@ fn canon_paths<'a>(matches: &ArgMatches<'a>) -> Option<CanonPaths<'a>>
     })
 }
 
+fn new_bank<'a>(matches: &ArgMatches<'a>) -> Option<NewBank<'a>>
+    ensures named { IfSome result (NamesNew (found_of matches.now)) }
+    ensures given { HasNew (found_of matches.now) → IsSome result }
+{
+    Some(NewBank {
+        out: matches.get_str("OUT")?,
+        minor: matches.get_one::<u16>(MINOR)?,
+    })
+}
+
 fn play_paths<'a>(matches: &ArgMatches<'a>) -> Option<PlayPaths<'a>>
     ensures named { IfSome result (NamesPlayPaths (found_of matches.now)) }
     ensures given { HasPlayPaths (found_of matches.now) → IsSome result }
@@ -148,6 +174,7 @@ fn sfbank_command<'a>(alloc: Global) -> Result<Command<'a>, AllocError> {
         .arg_required_else_help(true)
         .subcommand(apply_command(alloc)?)?
         .subcommand(canon_command(alloc)?)?
+        .subcommand(new_command(alloc)?)?
         .subcommand(play_command(alloc)?)?
         .subcommand(show_command(alloc)?)
 }
@@ -174,6 +201,23 @@ fn canon_command<'a>(alloc: Global) -> Result<Command<'a>, AllocError> {
         .about("Writes a bank in its one spelling")
         .arg(path(alloc, "IN").help("The bank to spell"))?
         .arg(path(alloc, "OUT").help("Where its canonical file is written; may be IN"))
+}
+
+fn new_command<'a>(alloc: Global) -> Result<Command<'a>, AllocError> {
+    Command::new(alloc, "new")
+        .about("Writes an empty bank")
+        .arg(minor_option(alloc))?
+        .arg(path(alloc, "OUT").help("Where the empty bank is written"))
+}
+
+fn minor_option<'a>(alloc: Global) -> Arg<'a> {
+    Arg::new(alloc, MINOR)
+        .long(MINOR)
+        .value_name("N")
+        .action(ArgAction::Set)
+        .value_parser(value_parser!(u16))
+        .default_value(USUAL_MINOR)
+        .help("The minor version of the format, from 0 to 65,535")
 }
 
 fn play_command<'a>(alloc: Global) -> Result<Command<'a>, AllocError> {
