@@ -1,16 +1,47 @@
 -- A bank as a text: a script that is run on the empty bank.
-use Rattle.std.specs.Prelude.{◌≡◌, ℕ, List, map, Ok}
+use Rattle.std.specs.Prelude.{◌≡◌, ℕ, List, [], ◌∷◌, ◌++◌, map, codes, Ok}
+use Rattle.bank_parts.specs.declared.parts.Sample.{Sample}
 use Rattle.bank_parts.specs.declared.parts.Parts.{Parts}
 use Rattle.bank_parts.specs.Sound.{IsSound}
+use Rattle.edit_forms.specs.declared.edit.Edit.{Edit}
+use Rattle.line_tokens.specs.declared.printing.Piece.TheVariants.{Number, Word}
+use Rattle.line_tokens.specs.Printing.{line_text}
 use Rattle.edit_script.specs.declared.parsing.Line.{Line}
 use Rattle.edit_script.specs.Script.{script_of}
 use Rattle.edit_script.specs.Printing.{texts_of}
-use Rattle.bank_text.specs.Listed.{empty, edits_of_bank}
-use Rattle.bank_text.specs.Whole.{Leads}
+use Rattle.bank_text.specs.declared.samples.SamplePoints.{SamplePoints}
+use Rattle.bank_text.specs.declared.samples.SamplePoints.TheVariants.{Kept, LeftOut}
+use Rattle.bank_text.specs.Listed.{empty, sample_edits, edits_of_bank}
+use Rattle.bank_text.specs.Whole.{Leads, edits_between}
+
+-- ---- what is told of points
+
+abbrev pub told_points : SamplePoints → List ℕ → List ℕ
+told_points Kept points = points
+told_points LeftOut points = []
+
+abbrev pub told_sample : SamplePoints → Sample → Sample
+told_sample how s = record s { points = told_points how s.points }
+
+abbrev pub told_edits : SamplePoints → ℕ → Sample → List Edit
+told_edits how i s = sample_edits i (told_sample how s)
+
+abbrev pub with_points : SamplePoints → Parts → Parts
+with_points Kept b = b
+with_points LeftOut b = record b { samples = map (told_sample LeftOut) b.samples }
+
+-- ---- the script
+
+-- the command that makes the empty bank, as a comment
+unfoldable pub first_line : SamplePoints → ℕ → List ℕ
+first_line Kept minor = line_text (codes "# sfbank new --minor") (Number minor ∷ [])
+first_line LeftOut minor = line_text (codes "# sfbank new --minor") (Number minor ∷ Word (codes "without points: to read and compare alone") ∷ [])
 
 -- the script that gives a bank from the empty one
-abbrev pub bank_text : Parts → List ℕ
-bank_text b = texts_of (edits_of_bank b)
+unfoldable pub bank_script : SamplePoints → Parts → List ℕ
+bank_script points b = first_line points b.minor ++ texts_of (edits_of_bank (with_points points b))
+
+-- ---- laws
 
 -- the text is a script whose edits lead from the one bank to the other
 pub record IsScript (from : Parts) (text : List ℕ) (to : Parts) : Type 0 where
@@ -19,8 +50,12 @@ pub record IsScript (from : Parts) (text : List ℕ) (to : Parts) : Type 0 where
   pub leads : Leads from (map (λ (l : Line). l.edit) lines) to
 
 abbrev pub TextGivesBank : Type 0
-TextGivesBank = (b : Parts) → IsSound b → IsScript (empty b.minor) (bank_text b) b
+TextGivesBank = (b : Parts) → IsSound b → IsScript (empty b.minor) (bank_script Kept b) b
 
--- no two banks of a version have the same text
+-- no two banks have the same text
 abbrev pub TextTellsBank : Type 0
-TextTellsBank = (a b : Parts) → IsSound a → IsSound b → a.minor ≡ b.minor → bank_text a ≡ bank_text b → a ≡ b
+TextTellsBank = (a b : Parts) → IsSound a → IsSound b → bank_script Kept a ≡ bank_script Kept b → a ≡ b
+
+-- what replaces a bank by another of its version is a script
+abbrev pub ReplacementLeads : Type 0
+ReplacementLeads = (a b : Parts) → IsSound a → IsSound b → a.minor ≡ b.minor → IsScript a (texts_of (edits_between a b)) b

@@ -1,6 +1,6 @@
 //! The laws of a bank as edits and as text.
 ghost use Rattle.bank_text.specs.Whole.{GivesBank, LeadsAnywhere};
-ghost use Rattle.bank_text.specs.Printed.{TextGivesBank, TextTellsBank};
+ghost use Rattle.bank_text.specs.Printed.{TextGivesBank, TextTellsBank, ReplacementLeads};
 
 /// The empty bank takes each of the edits that list a sound bank in its turn, and they give that bank.
 pub fn edits_give_bank()
@@ -17,7 +17,13 @@ pub fn text_gives_bank()
     ensures { TextGivesBank }
 {}
 
-/// No two sound banks of a minor version have the same text.
+/// No two sound banks have the same text.
 pub fn text_tells_bank()
     ensures { TextTellsBank }
+{}
+
+/// The edits that replace a sound bank by another of its minor version are a script, each of which is
+/// taken in its turn, and which lead from the one to the other.
+pub fn replacement_leads()
+    ensures { ReplacementLeads }
 {}

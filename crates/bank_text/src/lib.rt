@@ -1,6 +1,19 @@
-//! A bank as text: the script of edits that makes it from the empty bank of its minor version.
+//! A bank as text: the script of edits that makes it from the empty bank of its minor version, and the
+//! one that replaces a bank by another.
 #![tactic(auto)]
 
 mod laws;
+mod links;
+mod owners;
+mod replacement;
+mod samples;
+mod script;
+mod texts;
+mod zones;
 
-pub use laws::{edits_give_bank, edits_lead_anywhere, text_gives_bank, text_tells_bank};
+pub use laws::{
+    edits_give_bank, edits_lead_anywhere, replacement_leads, text_gives_bank, text_tells_bank,
+};
+pub use replacement::put_replacement;
+pub use samples::SamplePoints;
+pub use script::put_bank_text;

@@ -1,6 +1,6 @@
 -- The printed lines of edits spell those edits.
-use Rattle.std.proofs.Common.{◌≡◌, ◌++◌, ℕ, suc, List, [], ◌∷◌, map, codes, Ok, refl, sym, ap, subst, inr, ◌∙◌}
-use Rattle.std.specs.List.{flat_map, AllByRecursion}
+use Rattle.std.proofs.Common.{◌≡◌, ◌++◌, ℕ, suc, true, List, [], ◌∷◌, map, codes, Ok, refl, sym, ap, subst, inl, inr, ◌∙◌}
+use Rattle.std.specs.List.{flat_map, list_all, AllByRecursion}
 use Rattle.edit_forms.specs.declared.step.Step.{Step}
 use Rattle.edit_forms.specs.declared.edit.Edit.{Edit}
 use Rattle.edit_forms.specs.declared.edit.Edit.TheVariants.{One, Group}
@@ -9,7 +9,9 @@ use Rattle.line_tokens.specs.declared.cursor.Said.TheVariants as says
 use Rattle.line_tokens.specs.Lines.{lines_of}
 use Rattle.line_tokens.specs.Printing.{line_text}
 use Rattle.line_tokens.proofs.LexLaws.{lines_none}
-use Rattle.line_tokens.proofs.PieceLaws.{meant, line, line_says, line_first}
+use Rattle.line_tokens.specs.declared.printing.Piece.{Piece}
+use Rattle.line_tokens.proofs.TestLaws.{not_feed}
+use Rattle.line_tokens.proofs.PieceLaws.{meant, line, line_says, line_first, AllSpoken}
 use Rattle.script_grammar.specs.Operands.{Operand, Fixed, pieces_of}
 use Rattle.script_grammar.proofs.OperandLaws as operand
 use Rattle.script_grammar.proofs.OperandLaws.{IsFixed, all_spoken, all_say, both_fit}
@@ -17,6 +19,7 @@ use Rattle.step_script.specs.Grammar.{form_word, form_of, operands, step_operand
 use Rattle.step_script.specs.Spelling.{SaysWhole}
 use Rattle.step_script.proofs.FitLaws.{form_fixed, operands_fit, step_printed}
 use Rattle.edit_script.specs.Grammar.{braced, SaysSteps, SaysAll}
+use Rattle.edit_script.specs.declared.parsing.Line.{Line}
 use Rattle.edit_script.specs.Script.{script_of}
 use Rattle.edit_script.specs.Printing.{text_of, texts_of, numbered, AllFit}
 use Rattle.edit_script.specs.Spelling.{LinesSay, Spells}
@@ -92,3 +95,18 @@ printed es h = texts_say 1 es h
 
 pub printed_spell : (es : List Edit) → AllFit es → script_of (texts_of es) ≡ Ok (numbered 1 es)
 printed_spell es h = spelled_read (texts_of es) (numbered 1 es) (printed es h)
+
+-- ---- behind a comment, and without their numbers
+
+-- behind a line that is a comment they stand on line 2 and on
+pub printed_behind : (comment : List ℕ) (ps : List Piece) (es : List Edit) → list_all not_feed (35 ∷ comment) ≡ true → AllSpoken ps → AllFit es
+    → script_of (line_text (35 ∷ comment) ps ++ texts_of es) ≡ Ok (numbered 2 es)
+printed_behind comment ps es f s h =
+    let first = line (35 ∷ comment) ps in
+    spelled_read (line_text (35 ∷ comment) ps ++ texts_of es) (numbered 2 es)
+    (subst (λ (ls : List (List ℕ)). LinesSay 1 ls (numbered 2 es)) (sym (line_first (35 ∷ comment) ps (texts_of es) f s))
+    (inl (record { blanks = []; rest = first; parts = refl; blank = refl; silent = refl }, texts_say 2 es h)))
+
+pub edits_numbered : (n : ℕ) (es : List Edit) → map (λ (l : Line). l.edit) (numbered n es) ≡ es
+edits_numbered n [] = refl
+edits_numbered n (e ∷ es) = ap (λ (l : List Edit). e ∷ l) (edits_numbered (suc n) es)

@@ -2,11 +2,10 @@
 use Rattle.std.proofs.Common.{◌≡◌, ◌<◌, ◌+◌, drop, get_or, ℕ, false, List, [], ◌∷◌, ◌++◌, map, codes, length, Option, refl, sym, ap, subst, ◌∙◌, append_assoc}
 use Rattle.std.specs.Prelude.{◌==◌}
 use Rattle.std.specs.List.{flat_map}
-use Rattle.std.specs.FinMap.{entries, len}
+use Rattle.std.specs.FinMap.{len}
 use Rattle.outputs.specs.declared.output.Output.{Output}
 use Rattle.outputs.specs.Output.{Puts}
 use Rattle.outputs.proofs.OutputLaws.{puts_as, Putting, putting_member}
-use Rattle.generators.specs.Gens.{Gens}
 use Rattle.modulators.specs.declared.modulator.Modulator.{Modulator}
 use Rattle.bank_parts.specs.declared.parts.GlobalZone.{GlobalZone}
 use Rattle.bank_parts.specs.declared.parts.Zone.{Zone}
@@ -14,7 +13,7 @@ use Rattle.script_grammar.specs.declared.items.Item.{Item}
 use Rattle.script_grammar.specs.declared.items.Item.TheVariants as item
 use Rattle.script_grammar.specs.Operands.{Operand, Fixed, Number}
 use Rattle.script_grammar.specs.Items.{item_operands, items_operands}
-use Rattle.script_grammar.specs.Zones.{items_of, global_of, global_operands, zone_operands, written_zone, written_of, written_operands}
+use Rattle.script_grammar.specs.Zones.{listed_items, items_of, global_of, global_operands, zone_operands, written_zone, written_of, written_operands}
 use Rattle.script_grammar.proofs.PutLaws.{spaced_out, spaced_both, puts_both}
 
 abbrev pub zone_text : Zone → List ℕ
@@ -47,12 +46,12 @@ module _ {W : Type 0} {c : W → Option (List ℕ)} where
   pub member_on : {X : Type 0} {o p q : Output W} {whole : List ℕ} (f : X → List ℕ) (xs : List X) (x : X) (i : ℕ) → Putting c o p whole (flat_map f (drop i xs)) → i < length xs → x ≡ get_or xs i x → Puts c p q (f x) → Putting c o q whole (flat_map f (drop (i + 1) xs))
   member_on {X} {p = p} {q} f xs x i s h e k = putting_member f xs i x s h (subst (λ (y : X). Puts c p q (f y)) e k)
 
-  pub puts_items : {o p q r : Output W} (gens : Gens) (mods : List Modulator) → Puts c o p (flat_map generator_text (entries gens)) → Puts c p q (flat_map modulator_text mods) → Puts c q r (spaced_out (Fixed (codes "}") ∷ []))
-      → Puts c o r (spaced_out (items_operands (items_of gens mods)))
-  puts_items {o} {p} {q} {r} gens mods h k l =
-      let gs = map generator_item (entries gens) in
+  pub puts_items : {o p q r : Output W} (es : List (ℕ × ℕ)) (mods : List Modulator) → Puts c o p (flat_map generator_text es) → Puts c p q (flat_map modulator_text mods) → Puts c q r (spaced_out (Fixed (codes "}") ∷ []))
+      → Puts c o r (spaced_out (items_operands (listed_items es mods)))
+  puts_items {o} {p} {q} {r} es mods h k l =
+      let gs = map generator_item es in
       let ms = map modulator_item mods in
-      let first : Puts c o p (spaced_out (flat_map item_operands gs)) = puts_as _ _ (spaced_all item_operands generator_item (entries gens)) h in
+      let first : Puts c o p (spaced_out (flat_map item_operands gs)) = puts_as _ _ (spaced_all item_operands generator_item es) h in
       let second : Puts c p q (spaced_out (flat_map item_operands ms)) = puts_as _ _ (spaced_all item_operands modulator_item mods) k in
       let both : Puts c o q (spaced_out (flat_map item_operands (gs ++ ms))) = puts_as _ _ (ap spaced_out (sym (both_lists gs ms))) (puts_both (flat_map item_operands gs) (flat_map item_operands ms) first second) in
       puts_both (flat_map item_operands (gs ++ ms)) (Fixed (codes "}") ∷ []) both l

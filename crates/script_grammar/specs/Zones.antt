@@ -57,9 +57,13 @@ zones_in w = (global_in w.global, map zone_in w.zones)
 
 -- ---- as they are printed
 
--- generators in canonical order, and then modulators
+-- operators with their amounts, and then modulators
+abbrev pub listed_items : List (ℕ × ℕ) → List Modulator → List Item
+listed_items entries mods = map (λ (e : ℕ × ℕ). item.Generator e.0 e.1) entries ++ map (λ (m : Modulator). item.Modulator m) mods
+
+-- generators in canonical order
 abbrev pub items_of : Gens → List Modulator → List Item
-items_of gens mods = map (λ (e : ℕ × ℕ). item.Generator e.0 e.1) (entries gens) ++ map (λ (m : Modulator). item.Modulator m) mods
+items_of gens mods = listed_items (entries gens) mods
 
 abbrev pub global_of : GlobalZone → Option (List Item)
 global_of g = if len g.gens + length g.mods == 0 then None else Some (items_of g.gens g.mods)

@@ -24,9 +24,9 @@ mod zone_lists;
 pub use items::{generator, modulator};
 pub use names::{HasWord, fixed, next_named};
 pub use samples::{
-    kind, looped, points, put_kind, put_loop, put_points, put_sample_body, put_sample_head,
-    put_tune, sample_body, tune,
+    kind, looped, points, put_kind, put_loop, put_name, put_points, put_sample_body,
+    put_sample_head, put_tune, sample_body, tune,
 };
 pub use texts::info_id;
-pub use zone_lines::{put_generator, put_modulator, put_zone, put_zones};
+pub use zone_lines::{put_generator, put_items, put_modulator, put_zone, put_zones};
 pub use zone_lists::{zone, zones};

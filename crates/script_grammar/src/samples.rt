@@ -121,7 +121,8 @@ pub fn put_sample_head<W: Write>(sample: &Sample<'_>, output: &mut Output<'_, W>
     put_loop(sample.looped, output);
 }
 
-fn put_name<W: Write>(name: &Name20, output: &mut Output<'_, W>)
+/// Puts a name as a literal, behind a space.
+pub fn put_name<W: Write>(name: &Name20, output: &mut Output<'_, W>)
     ensures { Puts W.contents output.old output.new (flat_map spaced (pieces_of (operand.Name name.now ∷ []))) }
 {
     put_pieces(&[Piece::Name(Lent::new(name.bytes()))], output);

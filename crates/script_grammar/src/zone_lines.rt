@@ -9,10 +9,10 @@ ghost use Rattle.script_grammar.specs.Operands as operand;
 ghost use Rattle.script_grammar.specs.Operands.{piece_of, pieces_of};
 ghost use Rattle.script_grammar.specs.declared.items.Item.TheVariants as item;
 ghost use Rattle.script_grammar.specs.Items.{amount_operand, generator_operands, modulator_operands, item_operands, items_operands};
-ghost use Rattle.script_grammar.specs.Zones.{items_of, global_of, global_operands, zone_operands, written_zone, written_of, written_operands};
+ghost use Rattle.script_grammar.specs.Zones.{listed_items, global_of, global_operands, zone_operands, written_zone, written_of, written_operands};
 
 use bank_parts::{GlobalZone, Zone};
-use generators::{GenMap, Range, is_range_operator};
+use generators::{Range, is_range_operator};
 use line_tokens::{Piece, put_pieces};
 use modulators::Modulator;
 use outputs::Output;
@@ -40,7 +40,7 @@ fn put_global<W: Write>(global: &GlobalZone, output: &mut Output<'_, W>)
             ],
             output,
         );
-        put_items(&global.gens, global.mods.as_slice(), output);
+        put_items(global.gens.entries(), global.mods.as_slice(), output);
     }
 }
 
@@ -59,14 +59,19 @@ pub fn put_zone<W: Write>(zone: &Zone, output: &mut Output<'_, W>)
 {
     let target = Piece::Number(u64::from(zone.target));
     put_pieces(&[Piece::Word(Lent::new(b"{")), target], output);
-    put_items(&zone.gens, zone.mods.as_slice(), output);
+    put_items(zone.gens.entries(), zone.mods.as_slice(), output);
 }
 
-// `ITEM* }`
-fn put_items<W: Write>(gens: &GenMap, mods: &[Modulator], output: &mut Output<'_, W>)
-    ensures { Puts W.contents output.old output.new (flat_map spaced (pieces_of (items_operands (items_of gens.now mods.now)))) }
+/// Puts `ITEM* }`, each token behind a space: operators with their amounts, modulators, and the brace
+/// that closes them.
+pub fn put_items<W: Write>(
+    entries: &[(u16, u16)],
+    mods: &[Modulator],
+    output: &mut Output<'_, W>,
+)
+    ensures { Puts W.contents output.old output.new (flat_map spaced (pieces_of (items_operands (listed_items entries.now mods.now)))) }
 {
-    put_generators(gens.entries(), output);
+    put_generators(entries, output);
     put_modulators(mods, output);
     put_pieces(&[Piece::Word(Lent::new(b"}"))], output);
 }

@@ -1,0 +1,8 @@
+use Rattle.std.proofs.Common.{ap}
+use Rattle.outputs.proofs.OutputLaws.{puts_as, puts_then}
+use Rattle.bank_text.specs.Printed.{first_line, bank_script}
+use Rattle.bank_text.proofs.script.put_bank_text.Goals as goal
+
+pub returns : goal.returns
+unfolding bank_script
+returns g c = puts_then _ _ (puts_as _ _ (ap (first_line c.args.points) c.minor.ensures) c.put_first_line.ensures) c.put_parts.ensures

@@ -1,0 +1,69 @@
+-- A bank that is taken down to the empty one of its version: its presets, its instruments, the links of its
+-- samples, the samples and the texts, each from the last to the first.
+use Rattle.std.specs.Prelude.{◌++◌, ℕ, zero, suc, List, [], ◌∷◌, length}
+use Rattle.bank_parts.specs.declared.texts.InfoId.{InfoId}
+use Rattle.bank_parts.specs.declared.texts.InfoId.TheVariants as id
+use Rattle.bank_parts.specs.declared.texts.Texts.{Texts}
+use Rattle.bank_parts.specs.declared.parts.Kind.{Kind}
+use Rattle.bank_parts.specs.declared.parts.Kind.TheVariants.{Mono, Right, Left, Linked}
+use Rattle.bank_parts.specs.declared.parts.Sample.{Sample}
+use Rattle.bank_parts.specs.declared.parts.Parts.{Parts}
+use Rattle.bank_parts.specs.Texts.{text_of}
+use Rattle.edit_forms.specs.declared.step.Step.{Step}
+use Rattle.edit_forms.specs.declared.step.Step.TheVariants.{RemovePreset, RemoveInstrument, RemoveSample, SetKind, SetInfo}
+use Rattle.edit_forms.specs.declared.edit.Edit.{Edit}
+use Rattle.edit_forms.specs.declared.edit.Edit.TheVariants.{One}
+use Rattle.line_tokens.specs.declared.printing.Piece.TheVariants.{Number}
+use Rattle.line_tokens.specs.Printing.{line_text}
+use Rattle.bank_text.specs.Listed.{empty_texts}
+
+-- the edits for each member, the last one's first, where the first member has the number n
+abbrev pub in_reverse : {X : Type 0} → (ℕ → X → List Edit) → ℕ → List X → List Edit
+in_reverse edits n [] = []
+in_reverse edits n (x ∷ xs) = in_reverse edits (suc n) xs ++ edits n x
+
+-- as many members are removed, the last one first
+abbrev pub removals : (ℕ → Step) → ℕ → List Edit
+removals remove zero = []
+removals remove (suc n) = One (remove n) ∷ removals remove n
+
+-- a sample that has a link becomes mono
+abbrev pub mono_edits : ℕ → Kind → List Edit
+mono_edits i Mono = []
+mono_edits i (Right link) = One (SetKind i Mono) ∷ []
+mono_edits i (Left link) = One (SetKind i Mono) ∷ []
+mono_edits i (Linked link) = One (SetKind i Mono) ∷ []
+
+abbrev pub unlink_edits : ℕ → Sample → List Edit
+unlink_edits i s = mono_edits i s.kind
+
+-- a text that is not empty becomes what it is in a file that has none
+abbrev pub reset_edits : InfoId → List ℕ → List Edit
+reset_edits id [] = []
+reset_edits id (byte ∷ text) = One (SetInfo id (text_of empty_texts id)) ∷ []
+
+abbrev pub resets : Texts → List Edit
+resets t =
+    reset_edits id.Software t.software
+    ++ (reset_edits id.Comment t.comment
+    ++ (reset_edits id.Copyright t.copyright
+    ++ (reset_edits id.Product t.product
+    ++ (reset_edits id.Engineers t.engineers
+    ++ (reset_edits id.Date t.date
+    ++ (reset_edits id.Name t.name
+    ++ reset_edits id.Engine t.engine))))))
+
+abbrev pub taken_down : Parts → List Edit
+taken_down b =
+    removals RemovePreset (length b.presets)
+    ++ (removals RemoveInstrument (length b.instruments)
+    ++ (in_reverse unlink_edits 0 b.samples
+    ++ (removals RemoveSample (length b.samples)
+    ++ resets b.texts)))
+
+-- ---- its lines
+
+-- a word and the number of each member, the last one's first
+abbrev pub removal_lines : List ℕ → ℕ → List ℕ
+removal_lines word zero = []
+removal_lines word (suc n) = line_text word (Number n ∷ []) ++ removal_lines word n

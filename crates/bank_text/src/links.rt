@@ -1,0 +1,43 @@
+//! The lines that set the links of samples.
+ghost use Rattle.std.specs.Prelude.{◌≡◌};
+ghost use Rattle.outputs.specs.Output.{Puts};
+ghost use Rattle.edit_forms.specs.declared.step.Step.TheVariants.{SetKind};
+ghost use Rattle.edit_forms.specs.declared.edit.Edit.TheVariants.{One};
+ghost use Rattle.edit_script.specs.Printing.{text_of, texts_of};
+ghost use Rattle.bank_text.specs.Listed.{in_turn, kind_edits, link_edits};
+
+use bank_core::{Kind, Sample};
+use line_tokens::{Piece, put_pieces};
+use outputs::Output;
+use script_grammar::put_kind;
+use std::io::Write;
+
+// A line for each sample that has a link.
+#[tactic(auto, using(outputs::proofs::OutputLaws::putting_start))]
+pub(crate) fn put_links<W: Write>(samples: &[Sample<'_>], output: &mut Output<'_, W>)
+    ensures { Puts W.contents output.old output.new (texts_of (in_turn link_edits 0 samples.now)) }
+{
+    for (number, sample) in samples.iter().enumerate() {
+        put_link(number as u64, sample.kind, output);
+    }
+}
+
+// The line of a link, and nothing for a mono sample.
+fn put_link<W: Write>(number: u64, kind: Kind, output: &mut Output<'_, W>)
+    ensures { Puts W.contents output.old output.new (texts_of (kind_edits number kind)) }
+{
+    match kind {
+        Kind::Mono => {}
+        Kind::Right(_) | Kind::Left(_) | Kind::Linked(_) => put_set_kind(number, kind, output),
+    }
+}
+
+// The line that sets a sample's kind.
+pub(crate) fn put_set_kind<W: Write>(number: u64, kind: Kind, output: &mut Output<'_, W>)
+    ensures { Puts W.contents output.old output.new (text_of (One (SetKind number kind))) }
+{
+    output.put(b"set-kind");
+    put_pieces(&[Piece::Number(number)], output);
+    put_kind(kind, output);
+    output.put(b"\n");
+}

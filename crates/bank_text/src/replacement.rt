@@ -1,0 +1,121 @@
+//! What replaces one bank by another.
+ghost use Rattle.std.specs.Prelude.{◌≡◌, ◌<◌, length};
+ghost use Rattle.std.specs.List.{flat_map};
+ghost use Rattle.outputs.specs.Output.{Puts};
+ghost use Rattle.bank_parts.specs.declared.texts.InfoId.{InfoId};
+ghost use Rattle.bank_parts.specs.Texts as info;
+ghost use Rattle.edit_script.specs.Printing.{texts_of};
+ghost use Rattle.bank_text.specs.Listed.{empty_texts};
+ghost use Rattle.bank_text.specs.Whole.{edits_between};
+ghost use Rattle.bank_text.specs.TakenDown.{in_reverse, mono_edits, unlink_edits, reset_edits, resets, taken_down, removal_lines};
+
+use crate::links::put_set_kind;
+use crate::samples::SamplePoints;
+use crate::script::put_parts;
+use crate::texts::put_set_info;
+use bank_core::{Bank, InfoId, Kind, Sample};
+use line_tokens::{Piece, put_line};
+use outputs::Output;
+use std::io::Write;
+
+/// Puts the script that replaces a bank by another of its minor version: lines that take all of the
+/// first away, from its last preset to its first text, and those of the script of the other. Takes no
+/// memory.
+pub fn put_replacement<W: Write>(from: &Bank<'_>, to: &Bank<'_>, output: &mut Output<'_, W>)
+    ensures { Puts W.contents output.old output.new (texts_of (edits_between from.now to.now)) }
+{
+    put_taken_down(from, output);
+    put_parts(to, SamplePoints::Kept, output);
+}
+
+// The lines that take all of a bank away.
+fn put_taken_down<W: Write>(bank: &Bank<'_>, output: &mut Output<'_, W>)
+    ensures puts { Puts W.contents output.old output.new (texts_of (taken_down bank.now)) }
+    ensures engine { 0 < length bank.now.texts.engine }
+{
+    put_removals(b"remove-preset", bank.presets().len(), output);
+    put_removals(b"remove-inst", bank.instruments().len(), output);
+    put_unlinks(bank.samples(), output);
+    put_removals(b"remove-sample", bank.samples().len(), output);
+    put_resets(bank, output);
+}
+
+// A line of this word for each of so many members, the last one first.
+#[tactic(auto, using(outputs::proofs::OutputLaws::putting_start))]
+fn put_removals<W: Write>(word: &[u8], count: usize, output: &mut Output<'_, W>)
+    ensures { Puts W.contents output.old output.new (removal_lines word.now count) }
+{
+    for done in 0..count {
+        let number = count - done - 1;
+        put_line(word, &[Piece::Number(number as u64)], output);
+    }
+}
+
+// A line for each sample that has a link, the last one first.
+fn put_unlinks<W: Write>(samples: &[Sample<'_>], output: &mut Output<'_, W>)
+    ensures { Puts W.contents output.old output.new (texts_of (in_reverse unlink_edits 0 samples.now)) }
+{
+    for done in 0..samples.len() {
+        let number = samples.len() - done - 1;
+        let sample = &samples[number];
+        put_unlink(number as u64, sample.kind, output);
+    }
+}
+
+// The line that takes a link away, and nothing for a mono sample.
+fn put_unlink<W: Write>(number: u64, kind: Kind, output: &mut Output<'_, W>)
+    ensures { Puts W.contents output.old output.new (texts_of (mono_edits number kind)) }
+{
+    match kind {
+        Kind::Mono => {}
+        Kind::Right(_) | Kind::Left(_) | Kind::Linked(_) => {
+            put_set_kind(number, Kind::Mono, output);
+        }
+    }
+}
+
+// A line for each text that is not empty, the last one first.
+fn put_resets<W: Write>(bank: &Bank<'_>, output: &mut Output<'_, W>)
+    ensures { Puts W.contents output.old output.new (texts_of (resets bank.now.texts)) }
+{
+    let last_first = [
+        InfoId::Software,
+        InfoId::Comment,
+        InfoId::Copyright,
+        InfoId::Product,
+        InfoId::Engineers,
+        InfoId::Date,
+        InfoId::Name,
+        InfoId::Engine,
+    ];
+    put_each_reset(bank, &last_first, output);
+}
+
+// A line for each of these texts that is not empty.
+#[tactic(auto, using(outputs::proofs::OutputLaws::putting_start, outputs::proofs::OutputLaws::putting_end))]
+fn put_each_reset<W: Write>(bank: &Bank<'_>, ids: &[InfoId], output: &mut Output<'_, W>)
+    ensures { Puts W.contents output.old output.new (flat_map (λ (id : InfoId). texts_of (reset_edits id (info.text_of bank.now.texts id))) ids.now) }
+{
+    for id in ids {
+        put_reset(*id, bank.info(*id), output);
+    }
+}
+
+// The line that resets a text, and nothing where it is empty.
+fn put_reset<W: Write>(id: InfoId, text: &[u8], output: &mut Output<'_, W>)
+    ensures { Puts W.contents output.old output.new (texts_of (reset_edits id text.now)) }
+{
+    if !text.is_empty() {
+        put_set_info(id, first_text(id), output);
+    }
+}
+
+// What a text is in a file that has none.
+fn first_text(id: InfoId) -> &'static [u8]
+    ensures { result.now ≡ info.text_of empty_texts id }
+{
+    match id {
+        InfoId::Engine => b"EMU8000",
+        _ => b"",
+    }
+}
