@@ -13,3 +13,5 @@ pub mod Written
 pub mod Planned
 pub mod Plans
 pub mod NewBanks
+pub mod BankScripts
+pub mod Differences

@@ -2,6 +2,8 @@
 ghost use Rattle.std.specs.Prelude.{◌≡◌};
 ghost use Rattle.outputs.specs.Output.{Puts};
 ghost use Rattle.bank_format.specs.Canon.{canon};
+ghost use Rattle.bank_text.specs.Printed.{bank_script};
+ghost use Rattle.bank_text.specs.Whole.{edits_between};
 ghost use Rattle.bank_listing.specs.Listing.{listing};
 ghost use Rattle.edit_script.specs.Printing.{texts_of};
 ghost use Rattle.wave_file.specs.Wave.{FitsWave, wave};
@@ -13,6 +15,7 @@ use crate::plan::Plan;
 use bank_core::Bank;
 use bank_format::Counts;
 use bank_listing::put_listing;
+use bank_text::{SamplePoints, put_bank_text, put_replacement};
 use edit_forms::Edit;
 use edit_script::put_edit;
 use outputs::{Output, WriteFault};
@@ -67,6 +70,34 @@ pub(crate) fn deliver_wave<W: Write>(frames: &[i16], out: &mut W) -> Result<(), 
 {
     let mut output = Output::to(out);
     put_wave(frames, &mut output);
+    told(Which::Out, output.deliver())
+}
+
+/// The script of a bank goes out, with the points of its samples or without. It takes no memory.
+#[tactic(auto, using(crate::proofs::Texts::text_goes_out))]
+pub(crate) fn deliver_script<W: Write>(
+    bank: &Bank<'_>,
+    points: SamplePoints,
+    out: &mut W,
+) -> Result<(), RunFault>
+    ensures { GoesOut Out (W.contents out.old) (W.contents out.new) (bank_script points bank.now) result }
+{
+    let mut output = Output::to(out);
+    put_bank_text(bank, points, &mut output);
+    told(Which::Out, output.deliver())
+}
+
+/// The script that replaces a bank by another goes out. It takes no memory.
+#[tactic(auto, using(crate::proofs::Texts::text_goes_out))]
+pub(crate) fn deliver_replacement<W: Write>(
+    from: &Bank<'_>,
+    to: &Bank<'_>,
+    out: &mut W,
+) -> Result<(), RunFault>
+    ensures { GoesOut Out (W.contents out.old) (W.contents out.new) (texts_of (edits_between from.now to.now)) result }
+{
+    let mut output = Output::to(out);
+    put_replacement(from, to, &mut output);
     told(Which::Out, output.deliver())
 }
 

@@ -3,16 +3,20 @@ ghost use Rattle.sfbank_program.specs.Telling.{Ends};
 
 mod apply;
 mod canon;
+mod diff;
 mod new;
 mod play;
+mod script;
 mod show;
 
 use apply::apply;
 use canon::canon;
 use clap::error::ErrorKind;
+use diff::diff;
 use new::new;
 use outputs::Output;
 use play::play;
+use script::script;
 use sfbank_program::{Fault, Request, RunFault, STANDARD_OUTPUT, Which, request_of, tell};
 use show::show;
 use std::alloc::{AllocError, Global};
@@ -84,8 +88,10 @@ fn serve<'a, R: Files + AllocGlobal, S: AsStr, O: Write>(
     match request_of(rt.alloc(), words) {
         Ok(Request::Apply(paths)) => apply(rt, paths),
         Ok(Request::Canon(paths)) => canon(rt, paths),
+        Ok(Request::Diff(paths)) => diff(rt, paths),
         Ok(Request::New(bank)) => new(rt, bank),
         Ok(Request::Play(paths)) => play(rt, paths),
+        Ok(Request::Script(paths)) => script(rt, paths),
         Ok(Request::Show(input)) => show(rt, input, output),
         Err(error) => answer(rt.alloc(), error, output),
     }

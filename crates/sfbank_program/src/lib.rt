@@ -19,5 +19,5 @@ pub use output::{OutputFile, end_both};
 pub use run_fault::{RunFault, Which};
 pub use telling::tell;
 pub use words::{
-    ApplyPaths, CanonPaths, Forms, NewBank, PlayPaths, Request, request_of,
+    ApplyPaths, CanonPaths, DiffPaths, Forms, NewBank, PlayPaths, Request, ScriptPaths, request_of,
 };

@@ -1,0 +1,1 @@
+pub use Rattle.bank_text.specs.Whole
