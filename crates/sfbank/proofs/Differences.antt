@@ -1,7 +1,8 @@
 -- Scripts that make the bank of one file of the bank of another.
-use Rattle.std.proofs.Common.{◌≡◌, ◌==◌, ℕ, Bool, true, false, List, Option, Some, None, Result, Ok, Err, refl, sym, ap, subst, ◌∙◌, ◌≢◌}
+use Rattle.std.proofs.Common.{◌≡◌, ◌==◌, ℕ, Bool, true, false, List, [], Option, Some, None, Result, Ok, Err, refl, sym, ap, subst, ◌∙◌, ◌≢◌}
 use Rattle.std.proofs.lemmas.Bool.{eq-eqb, eqb-true, ne_eqb}
 use Rattle.std.proofs.KnownBytes.{Keeps-refl}
+use Rattle.std.specs.Io.KnownBytes.{Appends}
 use Rattle.sf_base.specs.declared.memory.Failure.{Failure}
 use Rattle.sf_base.specs.declared.memory.Failure.TheVariants as failures
 use Rattle.bank_parts.specs.declared.parts.Parts.{Parts}
@@ -25,7 +26,7 @@ use Rattle.sfbank_program.specs.declared.run_fault.Which.TheVariants.{Out}
 use Rattle.sfbank_program.specs.RunFaults.{in_run}
 use Rattle.sfbank.specs.Outcome.{Done, edits_of, after_script, after_reading, bank_in, outcome}
 use Rattle.sfbank.specs.Written.{GoesOut}
-use Rattle.sfbank.specs.Differences.{Pair, after_second, if_same, of_one_version, banks_in, pair_of, IsDifference, SendsDifference, RunsDifference, Pairs}
+use Rattle.sfbank.specs.Differences.{Pair, after_second, if_same, of_one_version, banks_in, pair_of, IsDifference, SendsDifference, RunsDifference, WritesNothing, Pairs}
 use Rattle.sfbank.proofs.Restores.{reading_done, all_fit, edits_numbered, restores}
 use Rattle.sfbank.proofs.BankScripts.{sound_in, led}
 
@@ -128,6 +129,15 @@ sends_difference old new a b p text (Err (run.Script fault)) bytes h s g = absur
 sends_difference old new a b p text (Err (run.Refused number why)) bytes h s g = absurd g
 sends_difference old new a b p text (Err (run.NotNeutral number)) bytes h s g = absurd g
 sends_difference old new a b p text (Err (run.Notes fault)) bytes h s g = absurd g
+
+-- banks that are one have no edits between them
+pub writes_nothing : {U : Type 0} (old new : Option (List ℕ)) (a b : List ℕ) (p : Pair) (es : List Edit) (r : Result U RunFault) → pair_of a b ≡ Ok p
+    → (p.first ≡ p.second → es ≡ []) → GoesOut Out old new (texts_of es) r → WritesNothing old new a b r
+writes_nothing old new a b p es (Ok u) h none g = λ e.
+    let banks = (both_read a b p h).banks in
+    let same : p.first ≡ p.second = sym (ap (λ (q : Pair). q.first) banks) ∙ e ∙ ap (λ (q : Pair). q.second) banks in
+    subst (λ (xs : List Edit). Appends old new (texts_of xs)) (none same) g
+writes_nothing old new a b p es (Err fault) h none g = tt
 
 pub ends_without : (U X : Type 0) (view : X → Pair) (known : Option (List ℕ)) (a b : List ℕ) (fault : RunFault) → Pairs view (pair_of a b) (Err fault)
     → RunsDifference {U = U} known known a b (Err fault)

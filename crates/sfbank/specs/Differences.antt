@@ -1,6 +1,6 @@
 -- A script that makes the bank of one file of the bank of another.
-use Rattle.std.specs.Prelude.{◌≡◌, ◌==◌, ℕ, Bool, true, false, List, Option, Some, None, Result, Ok, Err}
-use Rattle.std.specs.Io.KnownBytes.{Keeps}
+use Rattle.std.specs.Prelude.{◌≡◌, ◌==◌, ℕ, Bool, true, false, List, [], Option, Some, None, Result, Ok, Err}
+use Rattle.std.specs.Io.KnownBytes.{Appends, Keeps}
 use Rattle.bank_parts.specs.declared.parts.Parts.{Parts}
 use Rattle.bank_format.specs.declared.fault.ReadFault.{ReadFault}
 use Rattle.bank_format.specs.Canon.{canon}
@@ -61,6 +61,11 @@ RunsDifference old new a b (Ok u) = SendsDifference old new a b (Ok u)
 RunsDifference old new a b (Err (run.Write which n)) = SendsDifference {U = Unit {0}} old new a b (Err (run.Write which n))
 RunsDifference old new a b (Err run.Memory) = Keeps old new
 RunsDifference old new a b (Err fault) = (pair_of a b ≡ Err fault) × Keeps old new
+
+-- Where the files have one bank, the script is empty.
+abbrev pub WritesNothing : {U : Type 0} → Option (List ℕ) → Option (List ℕ) → List ℕ → List ℕ → Result U RunFault → Type 0
+WritesNothing old new a b (Ok u) = bank_in a ≡ bank_in b → Appends old new []
+WritesNothing old new a b (Err fault) = Unit {0}
 
 -- both banks were read, or why they were not
 abbrev pub Pairs : {X : Type 0} → (X → Pair) → Result Pair RunFault → Result X RunFault → Type 0

@@ -1,5 +1,5 @@
 //! A script that makes one bank of another.
-ghost use Rattle.sfbank.specs.Differences.{Pairs, RunsDifference, both, pair_of};
+ghost use Rattle.sfbank.specs.Differences.{Pairs, RunsDifference, WritesNothing, both, pair_of};
 
 use crate::deliver::{deliver_edits, deliver_replacement};
 use bank_core::Bank;
@@ -22,7 +22,9 @@ pub fn diff_run<W: Write>(
 ) -> Result<(), RunFault>
     // The fault of the first file, else of the second, else `OtherVersion`; else a script goes out that
     // writes the canonical file of the second, and whose undo text writes that of the first.
-    ensures { RunsDifference (W.contents out.old) (W.contents out.new) first.now second.now result }
+    ensures runs { RunsDifference (W.contents out.old) (W.contents out.new) first.now second.now result }
+    // Of files of one bank the script is empty.
+    ensures nothing { WritesNothing (W.contents out.old) (W.contents out.new) first.now second.now result }
 {
     let (from, to) = banks_of(alloc, first, second)?;
     match difference(alloc, &from, &to)? {
