@@ -51,7 +51,7 @@ text_taken b id [] s h = tt
 text_taken b id (byte ∷ text) s h =
     (one_taken b (info_set b id (byte ∷ text)) (SetInfo id (byte ∷ text)) (text_fits (byte ∷ text) h.fits) (not_bad id (byte ∷ text) h, tt) refl (info_sound b id (byte ∷ text) s h), tt)
 
-empty_are : AreTexts empty_texts
+pub empty_are : AreTexts empty_texts
 empty_are = record {
   engine = (omega arith, ((omega arith, omega arith), ((omega arith, omega arith), ((omega arith, omega arith), ((omega arith, omega arith), ((omega arith, omega arith), ((omega arith, omega arith), ((omega arith, omega arith), tt))))))));
   engine_there = omega arith;
@@ -64,7 +64,7 @@ empty_are = record {
   software = (omega arith, tt);
 }
 
-empty_fit : FitTexts empty_texts
+pub empty_fit : FitTexts empty_texts
 empty_fit = record {
   engine = text_fits empty_texts.engine empty_are.engine;
   name = tt;

@@ -51,12 +51,14 @@ sent_text old new outcome text (Ok u) e h = record { text = text; is_text = e; s
 sent_text old new outcome text (Err (run.Write which n)) e h = record { text = text; is_text = e; sends = h }
 sent_text old new outcome text (Err run.Memory) e h = absurd h
 sent_text old new outcome text (Err (run.Read fault)) e h = absurd h
+sent_text old new outcome text (Err (run.ReadSecond fault)) e h = absurd h
 sent_text old new outcome text (Err (run.Script fault)) e h = absurd h
 sent_text old new outcome text (Err (run.Refused number why)) e h = absurd h
 sent_text old new outcome text (Err (run.NotNeutral number)) e h = absurd h
+sent_text old new outcome text (Err run.OtherVersion) e h = absurd h
 sent_text old new outcome text (Err (run.Notes fault)) e h = absurd h
 
-canon_text : (file : List ℕ) (b : Parts) (counts : Counts) → ReadsAs file b counts → canon_outcome file ≡ Ok (canon b)
+pub canon_text : (file : List ℕ) (b : Parts) (counts : Counts) → ReadsAs file b counts → canon_outcome file ≡ Ok (canon b)
 unfolding canon_outcome
 canon_text file b counts r =
     ap (λ (o : Option ReadFault). after_reading o (Ok (canon (bank_in file)))) r.0

@@ -79,8 +79,10 @@ at_other U Every b script lines seen (run.NotNeutral number) e s h = absurd cc
 at_other U forms b script lines seen (run.Refused number why) e s h = absurd h
 at_other U forms b script lines seen run.Memory e s h = tt
 at_other U forms b script lines seen (run.Read fault) e s h = absurd h
+at_other U forms b script lines seen (run.ReadSecond fault) e s h = absurd h
 at_other U forms b script lines seen (run.Script fault) e s h = absurd h
 at_other U forms b script lines seen (run.Notes fault) e s h = absurd h
+at_other U forms b script lines seen run.OtherVersion e s h = absurd h
 at_other U forms b script lines seen (run.Write which n) e s h = h
 
 pub at_line : (b : Parts) (script : List ℕ) (lines : List Line) (fault : RunFault) → script_of script ≡ Ok lines
@@ -89,8 +91,10 @@ at_line b script lines (run.Refused number why) e h =
     ap (after_script b) e ∙ ap (λ (o : Option RefusedLine). unless_refused o (both_texts b (edits_of lines))) h
 at_line b script lines run.Memory e h = tt
 at_line b script lines (run.Read fault) e h = absurd h
+at_line b script lines (run.ReadSecond fault) e h = absurd h
 at_line b script lines (run.Script fault) e h = absurd h
 at_line b script lines (run.NotNeutral number) e h = absurd h
+at_line b script lines run.OtherVersion e h = absurd h
 at_line b script lines (run.Notes fault) e h = absurd h
 at_line b script lines (run.Write which n) e h = h
 

@@ -4,5 +4,8 @@ pub mod Endings
 pub mod Faults
 pub mod Neutral
 pub mod Restores
+pub mod NewBanks
+pub mod BankScripts
+pub mod Differences
 pub mod Sounds
 pub mod Texts

@@ -44,11 +44,11 @@ none_refused : (b : Parts) (n : ℕ) (es : List Edit) → AllTaken b es → firs
 none_refused b n [] h = refl
 none_refused b n (e ∷ es) h = rw h.0.accepted (none_refused (raw b e) (suc n) es h.1)
 
-all_fit : (b : Parts) (es : List Edit) → AllTaken b es → AllFit es
+pub all_fit : (b : Parts) (es : List Edit) → AllTaken b es → AllFit es
 all_fit b [] h = tt
 all_fit b (e ∷ es) h = (h.0.fits, all_fit (raw b e) es h.1)
 
-edits_numbered : (n : ℕ) (es : List Edit) → edits_of (numbered n es) ≡ es
+pub edits_numbered : (n : ℕ) (es : List Edit) → edits_of (numbered n es) ≡ es
 edits_numbered n [] = refl
 edits_numbered n (e ∷ es) = ap (λ (xs : List Edit). e ∷ xs) (edits_numbered (suc n) es)
 
@@ -69,7 +69,7 @@ reading_done (Some f) r x h = absurd cc
 
 -- ---- a run on a canonical file
 
-outcome_canon : (b : Parts) (script : List ℕ) → IsSound b → outcome (canon b) script ≡ after_script b (script_of script)
+pub outcome_canon : (b : Parts) (script : List ℕ) → IsSound b → outcome (canon b) script ≡ after_script b (script_of script)
 unfolding outcome
 outcome_canon b script s =
     let again = reads-again b s.valid s.fits in

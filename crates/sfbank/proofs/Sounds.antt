@@ -59,7 +59,7 @@ play_runs old new file notes b counts ns sides r reads spelled played h =
 
 -- ---- banks that sound the same
 
-played_on_canon : (file notes : List ℕ) → AreBytes file → fault_of file ≡ None → play_outcome (canon (bank_in file)) notes ≡ play_outcome file notes
+pub played_on_canon : (file notes : List ℕ) → AreBytes file → fault_of file ≡ None → play_outcome (canon (bank_in file)) notes ≡ play_outcome file notes
 played_on_canon file notes bytes read =
     let b = bank_in file in
     played_on (canon b) notes b _ (reads-again b (read_valid file bytes read) (read_fits file bytes)) ∙ sym (played_on file notes b _ (read, refl))

@@ -12,3 +12,6 @@ pub mod Outcome
 pub mod Written
 pub mod Planned
 pub mod Plans
+pub mod NewBanks
+pub mod BankScripts
+pub mod Differences

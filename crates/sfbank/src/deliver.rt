@@ -2,10 +2,12 @@
 ghost use Rattle.std.specs.Prelude.{◌≡◌};
 ghost use Rattle.outputs.specs.Output.{Puts};
 ghost use Rattle.bank_format.specs.Canon.{canon};
+ghost use Rattle.bank_text.specs.Printed.{bank_script};
+ghost use Rattle.bank_text.specs.Whole.{edits_between};
 ghost use Rattle.bank_listing.specs.Listing.{listing};
 ghost use Rattle.edit_script.specs.Printing.{texts_of};
 ghost use Rattle.wave_file.specs.Wave.{FitsWave, wave};
-ghost use Rattle.sfbank_program.specs.declared.run_fault.Which.TheVariants.{Out, Undo};
+ghost use Rattle.sfbank_program.specs.declared.run_fault.Which.TheVariants.{Out};
 ghost use Rattle.sfbank.specs.Written.{Delivers, GoesOut, IsTold};
 ghost use Rattle.sfbank.specs.Plans.{planned};
 
@@ -13,6 +15,7 @@ use crate::plan::Plan;
 use bank_core::Bank;
 use bank_format::Counts;
 use bank_listing::put_listing;
+use bank_text::{SamplePoints, put_bank_text, put_replacement};
 use edit_forms::Edit;
 use edit_script::put_edit;
 use outputs::{Output, WriteFault};
@@ -31,7 +34,7 @@ pub(crate) fn deliver<W: Write, V: Write>(
         (planned plan.now) result }
 {
     deliver_bank(&plan.bank, out)?;
-    deliver_undo(plan.undo.as_slice(), undo)
+    deliver_edits(Which::Undo, plan.undo.as_slice(), undo)
 }
 
 /// The canonical file of a bank goes out. It takes no memory.
@@ -70,13 +73,46 @@ pub(crate) fn deliver_wave<W: Write>(frames: &[i16], out: &mut W) -> Result<(), 
     told(Which::Out, output.deliver())
 }
 
+/// The script of a bank goes out, with the points of its samples or without. It takes no memory.
 #[tactic(auto, using(crate::proofs::Texts::text_goes_out))]
-fn deliver_undo<W: Write>(edits: &[Edit<'_>], undo: &mut W) -> Result<(), RunFault>
-    ensures { GoesOut Undo (W.contents undo.old) (W.contents undo.new) (texts_of edits.now) result }
+pub(crate) fn deliver_script<W: Write>(
+    bank: &Bank<'_>,
+    points: SamplePoints,
+    out: &mut W,
+) -> Result<(), RunFault>
+    ensures { GoesOut Out (W.contents out.old) (W.contents out.new) (bank_script points bank.now) result }
 {
-    let mut output = Output::to(undo);
+    let mut output = Output::to(out);
+    put_bank_text(bank, points, &mut output);
+    told(Which::Out, output.deliver())
+}
+
+/// The script that replaces a bank by another goes out. It takes no memory.
+#[tactic(auto, using(crate::proofs::Texts::text_goes_out))]
+pub(crate) fn deliver_replacement<W: Write>(
+    from: &Bank<'_>,
+    to: &Bank<'_>,
+    out: &mut W,
+) -> Result<(), RunFault>
+    ensures { GoesOut Out (W.contents out.old) (W.contents out.new) (texts_of (edits_between from.now to.now)) result }
+{
+    let mut output = Output::to(out);
+    put_replacement(from, to, &mut output);
+    told(Which::Out, output.deliver())
+}
+
+/// The lines of edits go out. It takes no memory.
+#[tactic(auto, using(crate::proofs::Texts::text_goes_out))]
+pub(crate) fn deliver_edits<W: Write>(
+    which: Which,
+    edits: &[Edit<'_>],
+    out: &mut W,
+) -> Result<(), RunFault>
+    ensures { GoesOut which (W.contents out.old) (W.contents out.new) (texts_of edits.now) result }
+{
+    let mut output = Output::to(out);
     put_edits(edits, &mut output);
-    told(Which::Undo, output.deliver())
+    told(which, output.deliver())
 }
 
 // The lines of the edits.

@@ -6,15 +6,23 @@
 
 mod canon;
 mod deliver;
+mod diff;
 mod edit;
+mod laws;
+mod new;
 mod plan;
 mod play;
 mod program;
+mod script;
 mod show;
 
 pub use canon::canon_run;
+pub use diff::diff_run;
 pub use edit::{edit_run, neutral_run};
+pub use laws::{remade_banks_sound, scripts_tell_banks};
+pub use new::new_run;
 pub use play::play_run;
 pub use program::{run, run_with_arguments};
+pub use script::script_run;
 pub use sfbank_program::{RunFault, Which};
 pub use show::show_run;

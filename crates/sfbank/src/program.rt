@@ -3,14 +3,20 @@ ghost use Rattle.sfbank_program.specs.Telling.{Ends};
 
 mod apply;
 mod canon;
+mod diff;
+mod new;
 mod play;
+mod script;
 mod show;
 
 use apply::apply;
 use canon::canon;
 use clap::error::ErrorKind;
+use diff::diff;
+use new::new;
 use outputs::Output;
 use play::play;
+use script::script;
 use sfbank_program::{Fault, Request, RunFault, STANDARD_OUTPUT, Which, request_of, tell};
 use show::show;
 use std::alloc::{AllocError, Global};
@@ -50,9 +56,9 @@ fn arguments<R: Env + AllocGlobal>(rt: &R) -> Result<Vec<String>, Fault<'static>
 /// |---|---|
 /// | 0 | done, or help or the version was asked for |
 /// | 1 | the words are refused |
-/// | 2 | the file is no bank |
+/// | 2 | a file is no bank |
 /// | 3 | the script or the text of notes has a fault |
-/// | 4 | an edit is refused |
+/// | 4 | an edit is refused, or two banks are of different versions |
 /// | 5 | an input can't be read or is too long, or an output can't be written |
 /// | 6 | want of memory |
 ///
@@ -82,7 +88,10 @@ fn serve<'a, R: Files + AllocGlobal, S: AsStr, O: Write>(
     match request_of(rt.alloc(), words) {
         Ok(Request::Apply(paths)) => apply(rt, paths),
         Ok(Request::Canon(paths)) => canon(rt, paths),
+        Ok(Request::Diff(paths)) => diff(rt, paths),
+        Ok(Request::New(bank)) => new(rt, bank),
         Ok(Request::Play(paths)) => play(rt, paths),
+        Ok(Request::Script(paths)) => script(rt, paths),
         Ok(Request::Show(input)) => show(rt, input, output),
         Err(error) => answer(rt.alloc(), error, output),
     }

@@ -14,10 +14,18 @@ use Rattle.edit_refusals.specs.declared.refusal.Refusal.{Refusal}
 use Rattle.edit_refusals.specs.declared.refusal.Refusal.TheVariants.{Of, OutOfMemory, NothingToUndo, NothingToRedo, GroupRefused}
 use Rattle.edit_refusals.specs.CauseNames as causes
 use Rattle.sfbank_program.specs.declared.run_fault.RunFault.{RunFault}
-use Rattle.sfbank_program.specs.declared.run_fault.RunFault.TheVariants.{Read, Script, Refused, NotNeutral, Notes, Write, Memory}
+use Rattle.sfbank_program.specs.declared.run_fault.RunFault.TheVariants.{Read, ReadSecond, Script, Refused, NotNeutral, OtherVersion, Notes, Write, Memory}
+
+-- a fault of reading, by its number and its name
+abbrev pub read_text : ReadFault → List ℕ
+read_text fault = concat (codes "read fault " ∷ decimal (reading.number_of fault) ∷ codes " " ∷ reading.name_of fault ∷ codes "\n" ∷ [])
 
 abbrev pub read_line : ReadFault → List ℕ
-read_line fault = concat (codes "sfbank: read fault " ∷ decimal (reading.number_of fault) ∷ codes " " ∷ reading.name_of fault ∷ codes "\n" ∷ [])
+read_line fault = codes "sfbank: " ++ read_text fault
+
+-- of the second of two files
+abbrev pub second_read_line : ReadFault → List ℕ
+second_read_line fault = codes "sfbank: B: " ++ read_text fault
 
 -- a fault on a line of a text, by its number and its name
 abbrev pub text_line : ℕ → ℕ → List ℕ → List ℕ
@@ -68,9 +76,11 @@ file_line path = concat (codes "sfbank: file fault " ∷ path ∷ codes "\n" ∷
 -- the line of a run's fault, with its line feed; a write fault has the path
 unfoldable pub fault_line : List ℕ → RunFault → List ℕ
 fault_line path (Read fault) = read_line fault
+fault_line path (ReadSecond fault) = second_read_line fault
 fault_line path (Script fault) = script_line fault
 fault_line path (Refused line why) = refused_line line why
 fault_line path (NotNeutral line) = not_neutral_line line
+fault_line path OtherVersion = codes "sfbank: refused 51 OtherVersion\n"
 fault_line path (Notes fault) = notes_line fault
 fault_line path (Write which written) = write_line path written
 fault_line path Memory = codes "sfbank: out of memory\n"
@@ -78,9 +88,11 @@ fault_line path Memory = codes "sfbank: out of memory\n"
 -- the exit status of a run's fault
 abbrev pub status_of : RunFault → ℕ
 status_of (Read fault) = 2
+status_of (ReadSecond fault) = 2
 status_of (Script fault) = 3
 status_of (Refused line why) = 4
 status_of (NotNeutral line) = 4
+status_of OtherVersion = 4
 status_of (Notes fault) = 3
 status_of (Write which written) = 5
 status_of Memory = 6

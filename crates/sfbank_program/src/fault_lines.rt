@@ -3,7 +3,7 @@ ghost use Rattle.std.specs.Prelude.{◌≡◌, IfOk};
 ghost use Rattle.outputs.specs.Output.{Puts};
 ghost use Rattle.outputs.specs.Writing.{Writes};
 ghost use Rattle.sample_view.specs.Pieces.{joined_bytes};
-ghost use Rattle.sfbank_program.specs.FaultLines.{fault_line, status_of, read_line, text_line, refused_line, not_neutral_line, refusal_text, detail_text, step_text, limit_text, write_line, file_line};
+ghost use Rattle.sfbank_program.specs.FaultLines.{fault_line, status_of, read_line, second_read_line, read_text, text_line, refused_line, not_neutral_line, refusal_text, detail_text, step_text, limit_text, write_line, file_line};
 
 use crate::run_fault::RunFault;
 use bank_format::ReadFault;
@@ -25,15 +25,15 @@ pub fn fault_text<W: Write>(fault: &RunFault, path: &str, out: &mut W) -> Result
     Ok(exit_status(fault))
 }
 
-/// The exit status of a program whose run ends so: 2 for a fault of the file, 3 of the script or of the
-/// notes, 4 for a refused edit, 5 for a write fault, and 6 for want of memory.
+/// The exit status of a program whose run ends so: 2 for a fault of a file, 3 of the script or of the
+/// notes, 4 for a refused edit or banks of different versions, 5 for a write fault, and 6 for want of memory.
 pub fn exit_status(fault: &RunFault) -> u8
     ensures { result ≡ status_of fault.now }
 {
     match fault {
-        RunFault::Read(_) => 2,
+        RunFault::Read(_) | RunFault::ReadSecond(_) => 2,
         RunFault::Script(_) | RunFault::Notes(_) => 3,
-        RunFault::Refused(_, _) | RunFault::NotNeutral(_) => 4,
+        RunFault::Refused(_, _) | RunFault::NotNeutral(_) | RunFault::OtherVersion => 4,
         RunFault::Write(_, _) => 5,
         RunFault::Memory => 6,
     }
@@ -45,6 +45,7 @@ fn put_fault<W: Write>(fault: &RunFault, path: &str, output: &mut Output<'_, W>)
 {
     match fault {
         RunFault::Read(fault) => put_read_fault(*fault, output),
+        RunFault::ReadSecond(fault) => put_second_read_fault(*fault, output),
         RunFault::Script(fault) => {
             put_text_fault(fault.line(), fault.number(), fault.name(), output);
         }
@@ -53,6 +54,7 @@ fn put_fault<W: Write>(fault: &RunFault, path: &str, output: &mut Output<'_, W>)
         }
         RunFault::Refused(line, why) => put_refused(*line, *why, output),
         RunFault::NotNeutral(line) => put_not_neutral(*line, output),
+        RunFault::OtherVersion => put_pieces(&[b"sfbank: refused 51 OtherVersion\n"], output),
         RunFault::Write(_, written) => put_write_fault(path, *written, output),
         RunFault::Memory => put_pieces(&[b"sfbank: out of memory\n"], output),
     }
@@ -61,10 +63,25 @@ fn put_fault<W: Write>(fault: &RunFault, path: &str, output: &mut Output<'_, W>)
 fn put_read_fault<W: Write>(fault: ReadFault, output: &mut Output<'_, W>)
     ensures { Puts W.contents output.old output.new (read_line fault) }
 {
+    output.put(b"sfbank: ");
+    put_read_text(fault, output);
+}
+
+// A fault of the second of two files, which the words of the program call B.
+fn put_second_read_fault<W: Write>(fault: ReadFault, output: &mut Output<'_, W>)
+    ensures { Puts W.contents output.old output.new (second_read_line fault) }
+{
+    output.put(b"sfbank: B: ");
+    put_read_text(fault, output);
+}
+
+fn put_read_text<W: Write>(fault: ReadFault, output: &mut Output<'_, W>)
+    ensures { Puts W.contents output.old output.new (read_text fault) }
+{
     let mut number = Buffer::new();
     put_pieces(
         &[
-            b"sfbank: read fault ",
+            b"read fault ",
             number.format(fault.number()).as_bytes(),
             b" ",
             fault.name().as_bytes(),

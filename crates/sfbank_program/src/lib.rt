@@ -18,4 +18,6 @@ pub use input::{InputFault, read_file, read_whole};
 pub use output::{OutputFile, end_both};
 pub use run_fault::{RunFault, Which};
 pub use telling::tell;
-pub use words::{ApplyPaths, CanonPaths, Forms, PlayPaths, Request, request_of};
+pub use words::{
+    ApplyPaths, CanonPaths, DiffPaths, Forms, NewBank, PlayPaths, Request, ScriptPaths, request_of,
+};

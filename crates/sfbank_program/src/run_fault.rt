@@ -1,6 +1,6 @@
 //! How a run ends that is not done.
 ghost use Rattle.std.specs.Prelude.{◌≡◌};
-ghost use Rattle.sfbank_program.specs.declared.run_fault.RunFault.TheVariants.{Read, Script, Notes, Memory};
+ghost use Rattle.sfbank_program.specs.declared.run_fault.RunFault.TheVariants.{Read, ReadSecond, Script, Notes, Memory};
 ghost use Rattle.sfbank_program.specs.RunFaults.{in_run};
 
 use bank_format::ReadFault;
@@ -24,6 +24,9 @@ pub enum RunFault {
     /// The first step of reading that the file breaks.
     #[error("{0}")]
     Read(ReadFault),
+    /// The first step of reading that the second file breaks, where there are two.
+    #[error("B: {0}")]
+    ReadSecond(ReadFault),
     /// The first fault of the script.
     #[error("{0}")]
     Script(ScriptFault),
@@ -33,6 +36,9 @@ pub enum RunFault {
     /// The first line with an edit that is not neutral, where all have to be.
     #[error("line {0}: this edit may change the sound of notes")]
     NotNeutral(u64),
+    /// Two banks are of different minor versions, where they have to be of one.
+    #[error("the banks are of different versions")]
+    OtherVersion,
     /// The first fault of the notes.
     #[error("{0}")]
     Notes(NoteFault),
@@ -42,6 +48,18 @@ pub enum RunFault {
     /// A growth was refused.
     #[error("out of memory")]
     Memory,
+}
+
+impl RunFault {
+    /// The fault of a run that could not read its second file.
+    pub fn of_second(failure: Failure<ReadFault>) -> RunFault
+        ensures { result ≡ in_run ReadSecond failure }
+    {
+        match failure {
+            Failure::Fault(fault) => RunFault::ReadSecond(fault),
+            Failure::OutOfMemory => RunFault::Memory,
+        }
+    }
 }
 
 impl From<Failure<ReadFault>> for RunFault {

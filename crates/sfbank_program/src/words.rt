@@ -1,10 +1,10 @@
 //! The words of the program.
 ghost use Rattle.std.specs.Prelude.{IfSome, IsSome};
 ghost use Rattle.clap.specs.Words.{found_of, subcommand_name_of};
-ghost use Rattle.sfbank_program.specs.Words.{IsOfCommand, NamesForms, NamesApplyPaths, HasApplyPaths, NamesCanonPaths, HasCanonPaths, NamesPlayPaths, HasPlayPaths, NamesInput, HasInput};
+ghost use Rattle.sfbank_program.specs.Words.{IsOfCommand, NamesForms, NamesApplyPaths, HasApplyPaths, NamesCanonPaths, HasCanonPaths, NamesPlayPaths, HasPlayPaths, NamesInput, HasInput, NamesNew, HasNew, NamesScriptPaths, HasScriptPaths, SaysNoPoints, NamesDiffPaths, HasDiffPaths};
 
 use clap::error::ErrorKind;
-use clap::{Arg, ArgAction, ArgMatches, Command, Error};
+use clap::{Arg, ArgAction, ArgMatches, Command, Error, value_parser};
 use std::alloc::{AllocError, Global};
 use std::convert::AsStr;
 
@@ -14,14 +14,27 @@ const NAME: &str = "sfbank";
 /// The flag of `apply` by which only edits that change no sound are taken.
 const NEUTRAL: &str = "neutral";
 
+/// The option of `new` that has the minor version, and that version where it isn't given.
+const MINOR: &str = "minor";
+const USUAL_MINOR: &str = "4";
+
+/// The flag of `script` by which the points of samples are left out.
+const NO_POINTS: &str = "no-points";
+
 /// What the words ask for.
 pub enum Request<'a> {
     /// Run a script on a bank.
     Apply(ApplyPaths<'a>),
     /// Write a bank in its one spelling.
     Canon(CanonPaths<'a>),
+    /// Write a script that makes one bank of another.
+    Diff(DiffPaths<'a>),
+    /// Write an empty bank.
+    New(NewBank<'a>),
     /// Play notes on a bank.
     Play(PlayPaths<'a>),
+    /// Write the script that makes a bank of the empty one.
+    Script(ScriptPaths<'a>),
     /// Tell what the bank at this path has.
     Show(&'a str),
 }
@@ -49,6 +62,29 @@ pub struct ApplyPaths<'a> {
 pub struct CanonPaths<'a> {
     pub input: &'a str,
     pub out: &'a str,
+}
+
+/// The paths of `diff`.
+#[derive(Clone, Copy)]
+pub struct DiffPaths<'a> {
+    pub first: &'a str,
+    pub second: &'a str,
+    pub out: &'a str,
+}
+
+/// The path of `new`, and the minor version of the bank.
+#[derive(Clone, Copy)]
+pub struct NewBank<'a> {
+    pub out: &'a str,
+    pub minor: u16,
+}
+
+/// The paths of `script`, and whether it leaves the points of samples out.
+#[derive(Clone, Copy)]
+pub struct ScriptPaths<'a> {
+    pub input: &'a str,
+    pub out: &'a str,
+    pub no_points: bool,
 }
 
 /// The paths of `play`.
@@ -79,8 +115,17 @@ fn chosen<'a>(matches: &ArgMatches<'a>) -> Option<Request<'a>>
     if let Some(canon) = matches.subcommand_matches("canon") {
         return Some(Request::Canon(canon_paths(canon)?));
     }
+    if let Some(diff) = matches.subcommand_matches("diff") {
+        return Some(Request::Diff(diff_paths(diff)?));
+    }
+    if let Some(new) = matches.subcommand_matches("new") {
+        return Some(Request::New(new_bank(new)?));
+    }
     if let Some(play) = matches.subcommand_matches("play") {
         return Some(Request::Play(play_paths(play)?));
+    }
+    if let Some(script) = matches.subcommand_matches("script") {
+        return Some(Request::Script(script_paths(script)?));
     }
     let show = matches.subcommand_matches("show")?;
     Some(Request::Show(input_path(show)?))
@@ -119,6 +164,44 @@ fn canon_paths<'a>(matches: &ArgMatches<'a>) -> Option<CanonPaths<'a>>
     })
 }
 
+fn diff_paths<'a>(matches: &ArgMatches<'a>) -> Option<DiffPaths<'a>>
+    ensures named { IfSome result (NamesDiffPaths (found_of matches.now)) }
+    ensures given { HasDiffPaths (found_of matches.now) → IsSome result }
+{
+    Some(DiffPaths {
+        first: matches.get_str("A")?,
+        second: matches.get_str("B")?,
+        out: matches.get_str("OUT")?,
+    })
+}
+
+fn new_bank<'a>(matches: &ArgMatches<'a>) -> Option<NewBank<'a>>
+    ensures named { IfSome result (NamesNew (found_of matches.now)) }
+    ensures given { HasNew (found_of matches.now) → IsSome result }
+{
+    Some(NewBank {
+        out: matches.get_str("OUT")?,
+        minor: matches.get_one::<u16>(MINOR)?,
+    })
+}
+
+fn script_paths<'a>(matches: &ArgMatches<'a>) -> Option<ScriptPaths<'a>>
+    ensures named { IfSome result (NamesScriptPaths (found_of matches.now)) }
+    ensures given { HasScriptPaths (found_of matches.now) → IsSome result }
+{
+    Some(ScriptPaths {
+        input: input_path(matches)?,
+        out: matches.get_str("OUT")?,
+        no_points: leaves_points(matches),
+    })
+}
+
+fn leaves_points(matches: &ArgMatches<'_>) -> bool
+    ensures { SaysNoPoints (found_of matches.now) result }
+{
+    matches.get_flag(NO_POINTS)
+}
+
 fn play_paths<'a>(matches: &ArgMatches<'a>) -> Option<PlayPaths<'a>>
     ensures named { IfSome result (NamesPlayPaths (found_of matches.now)) }
     ensures given { HasPlayPaths (found_of matches.now) → IsSome result }
@@ -148,7 +231,10 @@ fn sfbank_command<'a>(alloc: Global) -> Result<Command<'a>, AllocError> {
         .arg_required_else_help(true)
         .subcommand(apply_command(alloc)?)?
         .subcommand(canon_command(alloc)?)?
+        .subcommand(diff_command(alloc)?)?
+        .subcommand(new_command(alloc)?)?
         .subcommand(play_command(alloc)?)?
+        .subcommand(script_command(alloc)?)?
         .subcommand(show_command(alloc)?)
 }
 
@@ -174,6 +260,46 @@ fn canon_command<'a>(alloc: Global) -> Result<Command<'a>, AllocError> {
         .about("Writes a bank in its one spelling")
         .arg(path(alloc, "IN").help("The bank to spell"))?
         .arg(path(alloc, "OUT").help("Where its canonical file is written; may be IN"))
+}
+
+fn diff_command<'a>(alloc: Global) -> Result<Command<'a>, AllocError> {
+    Command::new(alloc, "diff")
+        .about("Writes a script that makes the bank B of the bank A")
+        .arg(path(alloc, "A").help("The bank to begin with"))?
+        .arg(path(alloc, "B").help("The bank to come to, of the same minor version"))?
+        .arg(path(alloc, "OUT").help("Where the script is written"))
+}
+
+fn new_command<'a>(alloc: Global) -> Result<Command<'a>, AllocError> {
+    Command::new(alloc, "new")
+        .about("Writes an empty bank")
+        .arg(minor_option(alloc))?
+        .arg(path(alloc, "OUT").help("Where the empty bank is written"))
+}
+
+fn minor_option<'a>(alloc: Global) -> Arg<'a> {
+    Arg::new(alloc, MINOR)
+        .long(MINOR)
+        .value_name("N")
+        .action(ArgAction::Set)
+        .value_parser(value_parser!(u16))
+        .default_value(USUAL_MINOR)
+        .help("The minor version of the format, from 0 to 65,535")
+}
+
+fn script_command<'a>(alloc: Global) -> Result<Command<'a>, AllocError> {
+    Command::new(alloc, "script")
+        .about("Writes the script that makes a bank of the empty one of its minor version")
+        .arg(no_points_flag(alloc))?
+        .arg(path(alloc, "IN").help("The bank to make"))?
+        .arg(path(alloc, "OUT").help("Where the script is written"))
+}
+
+fn no_points_flag<'a>(alloc: Global) -> Arg<'a> {
+    Arg::new(alloc, NO_POINTS)
+        .long(NO_POINTS)
+        .action(ArgAction::SetTrue)
+        .help("Leaves the points of samples out, so that the script is short and makes silent samples")
 }
 
 fn play_command<'a>(alloc: Global) -> Result<Command<'a>, AllocError> {

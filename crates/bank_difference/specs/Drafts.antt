@@ -1,0 +1,29 @@
+-- A bank in the making.
+use Rattle.std.specs.Prelude.{◌≡◌, List, [], ◌∷◌, ◌++◌, Result, Ok, Err}
+use Rattle.bank_parts.specs.declared.parts.Parts.{Parts}
+use Rattle.edit_forms.specs.declared.step.Step.{Step}
+use Rattle.edit_forms.specs.declared.edit.Edit.{Edit}
+use Rattle.edit_forms.specs.declared.edit.Edit.TheVariants.{One}
+use Rattle.edit_refusals.specs.Edits.{raw}
+use Rattle.inverse_edits.specs.Undone.{IsTaken}
+
+-- a first bank, edits, and the bank that they lead to
+pub record Drafted : Type 0 where
+  pub first : Parts
+  pub edits : List Edit
+  pub bank : Parts
+
+-- the bank took the step, which stands behind the list of edits
+pub record IsDoneStep (old new : Parts) (was now : List Edit) (s : Step) : Type 0 where
+  pub taken : IsTaken old (One s)
+  pub changed : new ≡ raw old (One s)
+  pub listed : now ≡ was ++ One s ∷ []
+
+-- neither the bank nor the list was changed
+pub record IsNoStep (old new : Parts) (was now : List Edit) : Type 0 where
+  pub bank : new ≡ old
+  pub list : now ≡ was
+
+abbrev pub IsTry : {Why : Type 0} → Parts → Parts → List Edit → List Edit → Step → Result (Unit {0}) Why → Type 0
+IsTry old new was now s (Ok done) = IsDoneStep old new was now s
+IsTry old new was now s (Err why) = IsNoStep old new was now

@@ -1,0 +1,2 @@
+pub use Rattle.bank_text.specs.Whole
+pub mod Drafts

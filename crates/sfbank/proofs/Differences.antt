@@ -1,0 +1,152 @@
+-- Scripts that make the bank of one file of the bank of another.
+use Rattle.std.proofs.Common.{◌≡◌, ◌==◌, ℕ, Bool, true, false, List, [], Option, Some, None, Result, Ok, Err, refl, sym, ap, subst, ◌∙◌, ◌≢◌}
+use Rattle.std.proofs.lemmas.Bool.{eq-eqb, eqb-true, ne_eqb}
+use Rattle.std.proofs.KnownBytes.{Keeps-refl}
+use Rattle.std.specs.Io.KnownBytes.{Appends}
+use Rattle.sf_base.specs.declared.memory.Failure.{Failure}
+use Rattle.sf_base.specs.declared.memory.Failure.TheVariants as failures
+use Rattle.bank_parts.specs.declared.parts.Parts.{Parts}
+use Rattle.hydra_records.specs.Records.{AreBytes}
+use Rattle.bank_format.specs.declared.fault.Counts.{Counts}
+use Rattle.bank_format.specs.declared.fault.ReadFault.{ReadFault}
+use Rattle.bank_format.specs.Canon.{canon}
+use Rattle.bank_format.specs.Steps.{Fails}
+use Rattle.bank_format.specs.ReadSteps.{fault_of, ReadsAs}
+use Rattle.edit_forms.specs.declared.edit.Edit.{Edit}
+use Rattle.inverse_edits.specs.Runs.{undo_list}
+use Rattle.edit_script.specs.Script.{script_of}
+use Rattle.edit_script.specs.Printing.{texts_of, numbered}
+use Rattle.edit_script.proofs.LineLaws.{printed_spell}
+use Rattle.bank_text.specs.Printed.{IsScript}
+use Rattle.bank_text.specs.Whole.{Leads, edits_between}
+use Rattle.bank_text.proofs.PrintedLaws.{replaces}
+use Rattle.sfbank_program.specs.declared.run_fault.RunFault.{RunFault}
+use Rattle.sfbank_program.specs.declared.run_fault.RunFault.TheVariants as run
+use Rattle.sfbank_program.specs.declared.run_fault.Which.TheVariants.{Out}
+use Rattle.sfbank_program.specs.RunFaults.{in_run}
+use Rattle.sfbank.specs.Outcome.{Done, edits_of, after_script, after_reading, bank_in, outcome}
+use Rattle.sfbank.specs.Written.{GoesOut}
+use Rattle.sfbank.specs.Differences.{Pair, after_second, if_same, of_one_version, banks_in, pair_of, IsDifference, SendsDifference, RunsDifference, WritesNothing, Pairs}
+use Rattle.sfbank.proofs.Restores.{reading_done, all_fit, edits_numbered, restores}
+use Rattle.sfbank.proofs.BankScripts.{sound_in, led}
+
+-- ---- reading both files
+
+pub first_not_read : (X : Type 0) (view : X → Pair) (failure : Failure ReadFault) (a b : List ℕ) → Fails failure (fault_of a)
+    → Pairs view (pair_of a b) (Err (in_run run.Read failure))
+unfolding pair_of
+first_not_read X view (failures.Fault fault) a b h = ap (λ (o : Option ReadFault). after_reading o (after_second (fault_of b) (of_one_version (banks_in a b)))) h
+first_not_read X view failures.OutOfMemory a b h = tt
+
+-- the first file is read
+pair_first : (a b : List ℕ) → fault_of a ≡ None → pair_of a b ≡ after_second (fault_of b) (of_one_version (banks_in a b))
+unfolding pair_of
+pair_first a b h = ap (λ (o : Option ReadFault). after_reading o (after_second (fault_of b) (of_one_version (banks_in a b)))) h
+
+pub second_not_read : (X : Type 0) (view : X → Pair) (failure : Failure ReadFault) (a b : List ℕ) → fault_of a ≡ None → Fails failure (fault_of b)
+    → Pairs view (pair_of a b) (Err (in_run run.ReadSecond failure))
+second_not_read X view (failures.Fault fault) a b r h = pair_first a b r ∙ ap (λ (o : Option ReadFault). after_second o (of_one_version (banks_in a b))) h
+second_not_read X view failures.OutOfMemory a b r h = tt
+
+-- both files are read
+pub pair_read : (a b : List ℕ) (x y : Parts) (c d : Counts) → ReadsAs a x c → ReadsAs b y d → pair_of a b ≡ of_one_version (record { first = x; second = y })
+pair_read a b x y c d r s =
+    pair_first a b r.0
+    ∙ ap (λ (o : Option ReadFault). after_second o (of_one_version (banks_in a b))) s.0
+    ∙ (λ i. of_one_version (record { first = (r.1 i).bank; second = (s.1 i).bank }))
+
+pub other_versions : (p : Pair) → p.first.minor ≢ p.second.minor → of_one_version p ≡ Err run.OtherVersion
+other_versions p h = ap (λ (t : Bool). if_same t p) (ne_eqb p.first.minor p.second.minor h)
+
+pub one_version : (p : Pair) → p.first.minor ≡ p.second.minor → of_one_version p ≡ Ok p
+one_version p h = ap (λ (t : Bool). if_same t p) (eq-eqb p.first.minor p.second.minor h)
+
+record BothRead (a b : List ℕ) (p : Pair) : Type 0 where
+  first : fault_of a ≡ None
+  second : fault_of b ≡ None
+  minors : (bank_in a).minor ≡ (bank_in b).minor
+  banks : banks_in a b ≡ p
+
+second_done : (o : Option ReadFault) (r : Result Pair RunFault) (p : Pair) → after_second o r ≡ Ok p → (o ≡ None) × (r ≡ Ok p)
+second_done None r p h = (refl, h)
+second_done (Some f) r p h = absurd cc
+
+same_done : (t : Bool) (q p : Pair) → if_same t q ≡ Ok p → (t ≡ true) × (q ≡ p)
+same_done true q p h = (refl, cc)
+same_done false q p h = absurd cc
+
+both_read : (a b : List ℕ) (p : Pair) → pair_of a b ≡ Ok p → BothRead a b p
+unfolding pair_of
+both_read a b p h =
+    let first = reading_done (fault_of a) (after_second (fault_of b) (of_one_version (banks_in a b))) p h in
+    let second = second_done (fault_of b) (of_one_version (banks_in a b)) p first.1 in
+    let same = same_done ((bank_in a).minor == (bank_in b).minor) (banks_in a b) p second.1 in
+    record { first = first.0; second = second.0; minors = eqb-true (bank_in a).minor (bank_in b).minor same.0; banks = same.1 }
+
+-- ---- a script that leads from the one to the other
+
+is_difference : (a b text : List ℕ) → AreBytes a → fault_of a ≡ None → IsScript (bank_in a) text (bank_in b) → IsDifference a b text
+unfolding outcome
+is_difference a b text bytes read s =
+    let x = bank_in a in
+    let undo = texts_of (undo_list x (edits_of s.lines)) in
+    let done : Done = record { out = canon (bank_in b); undo = undo } in
+    let leads : outcome a text ≡ Ok done = ap (λ (o : Option ReadFault). after_reading o (after_script x (script_of text))) read ∙ led x text (bank_in b) s in
+    record { undo = undo; again = texts_of (edits_of s.lines); leads = leads; returns = restores a text bytes done s.lines leads s.read }
+
+-- edits, as they are printed
+pub printed_leads : (p : Pair) (es : List Edit) → Leads p.first es p.second → IsScript p.first (texts_of es) p.second
+printed_leads p es h = record {
+  lines = numbered 1 es;
+  read = printed_spell es (all_fit p.first es h.taken);
+  leads = subst (λ (xs : List Edit). Leads p.first xs p.second) (sym (edits_numbered 1 es)) h;
+}
+
+pub replacement_is : (a b : List ℕ) (p : Pair) → AreBytes a → AreBytes b → pair_of a b ≡ Ok p → IsScript p.first (texts_of (edits_between p.first p.second)) p.second
+replacement_is a b p in_a in_b h =
+    let r = both_read a b p h in
+    let whole = replaces (bank_in a) (bank_in b) (sound_in a in_a r.first) (sound_in b in_b r.second) r.minors in
+    subst (λ (q : Pair). IsScript q.first (texts_of (edits_between q.first q.second)) q.second) r.banks whole
+
+-- ---- how the run ends
+
+sent : {U : Type 0} (old new : Option (List ℕ)) (a b : List ℕ) (p : Pair) (text : List ℕ) (r : Result U RunFault) → AreBytes a → pair_of a b ≡ Ok p
+    → IsScript p.first text p.second → GoesOut Out old new text r → SendsDifference old new a b r
+sent old new a b p text r bytes h s g =
+    let d = both_read a b p h in
+    let script = subst (λ (q : Pair). IsScript q.first text q.second) (sym d.banks) s in
+    record { is_pair = h ∙ ap Ok (sym d.banks); text = text; differs = is_difference a b text bytes d.first script; sends = g }
+
+pub sends_difference : {U : Type 0} (old new : Option (List ℕ)) (a b : List ℕ) (p : Pair) (text : List ℕ) (r : Result U RunFault) → AreBytes a → pair_of a b ≡ Ok p
+    → IsScript p.first text p.second → GoesOut Out old new text r → RunsDifference old new a b r
+sends_difference old new a b p text (Ok u) bytes h s g = sent old new a b p text (Ok u) bytes h s g
+sends_difference old new a b p text (Err (run.Write which n)) bytes h s g = sent {U = Unit {0}} old new a b p text (Err (run.Write which n)) bytes h s g
+sends_difference old new a b p text (Err run.Memory) bytes h s g = absurd g
+sends_difference old new a b p text (Err run.OtherVersion) bytes h s g = absurd g
+sends_difference old new a b p text (Err (run.Read fault)) bytes h s g = absurd g
+sends_difference old new a b p text (Err (run.ReadSecond fault)) bytes h s g = absurd g
+sends_difference old new a b p text (Err (run.Script fault)) bytes h s g = absurd g
+sends_difference old new a b p text (Err (run.Refused number why)) bytes h s g = absurd g
+sends_difference old new a b p text (Err (run.NotNeutral number)) bytes h s g = absurd g
+sends_difference old new a b p text (Err (run.Notes fault)) bytes h s g = absurd g
+
+-- banks that are one have no edits between them
+pub writes_nothing : {U : Type 0} (old new : Option (List ℕ)) (a b : List ℕ) (p : Pair) (es : List Edit) (r : Result U RunFault) → pair_of a b ≡ Ok p
+    → (p.first ≡ p.second → es ≡ []) → GoesOut Out old new (texts_of es) r → WritesNothing old new a b r
+writes_nothing old new a b p es (Ok u) h none g = λ e.
+    let banks = (both_read a b p h).banks in
+    let same : p.first ≡ p.second = sym (ap (λ (q : Pair). q.first) banks) ∙ e ∙ ap (λ (q : Pair). q.second) banks in
+    subst (λ (xs : List Edit). Appends old new (texts_of xs)) (none same) g
+writes_nothing old new a b p es (Err fault) h none g = tt
+
+pub ends_without : (U X : Type 0) (view : X → Pair) (known : Option (List ℕ)) (a b : List ℕ) (fault : RunFault) → Pairs view (pair_of a b) (Err fault)
+    → RunsDifference {U = U} known known a b (Err fault)
+ends_without U X view known a b run.Memory h = Keeps-refl known
+ends_without U X view known a b (run.Write which n) h = absurd h
+ends_without U X view known a b run.OtherVersion h = (h, Keeps-refl known)
+ends_without U X view known a b (run.Read fault) h = (h, Keeps-refl known)
+ends_without U X view known a b (run.ReadSecond fault) h = (h, Keeps-refl known)
+ends_without U X view known a b (run.Script fault) h = (h, Keeps-refl known)
+ends_without U X view known a b (run.Refused number why) h = (h, Keeps-refl known)
+ends_without U X view known a b (run.NotNeutral number) h = (h, Keeps-refl known)
+ends_without U X view known a b (run.Notes fault) h = (h, Keeps-refl known)

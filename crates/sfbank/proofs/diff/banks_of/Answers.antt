@@ -1,0 +1,24 @@
+use Rattle.std.proofs.Common.{◌∙◌}
+use Rattle.std.proofs.lemmas.Result.{err_from_is_err_and}
+use Rattle.bank_parts.specs.declared.parts.Parts.{Parts}
+use Rattle.sfbank.specs.Differences.{both}
+use Rattle.sfbank.proofs.Differences.{first_not_read, second_not_read, pair_read, other_versions, one_version}
+use Rattle.sfbank.proofs.diff.banks_of.Goals as goal
+
+pub returns-in_err-from : goal.returns-in_err-from
+returns-in_err-from c =
+    let p = err_from_is_err_and c.from_residual.result c.from_residual.ensures.1 in
+    rw (p.1, p.2) (first_not_read (Parts × Parts) both c.in_err-from.field-0.0 c.args.first.now c.args.second.now c.in_err-from.ensures.err)
+
+pub returns-in-Err : goal.returns-in-Err
+returns-in-Err c = rw c.of_second.ensures (second_not_read (Parts × Parts) both c.in-Err.failure c.args.first.now c.args.second.now c.in_ok-from.ensures.ok.0 c.in-Err.ensures.err)
+
+pub returns-then-minor : goal.returns-then-minor
+returns-then-minor c =
+    pair_read c.args.first.now c.args.second.now c.in_ok-from.from c.in-Ok.bank _ _ c.in_ok-from.ensures.ok c.in-Ok.ensures.ok
+    ∙ other_versions (record { first = c.in_ok-from.from; second = c.in-Ok.bank }) (rw (c.minor.ensures, c.minor-2.ensures) at c.if-minor.true)
+
+pub returns : goal.returns
+returns c =
+    pair_read c.args.first.now c.args.second.now c.in_ok-from.from c.in-Ok.bank _ _ c.in_ok-from.ensures.ok c.in-Ok.ensures.ok
+    ∙ one_version (record { first = c.in_ok-from.from; second = c.in-Ok.bank }) (rw (c.minor.ensures, c.minor-2.ensures) at c.if-minor.false)

@@ -1,0 +1,40 @@
+-- The script that makes the bank of a file of the empty one of its minor version.
+use Rattle.std.specs.Prelude.{◌≡◌, ◌↔◌, ℕ, List, None, Result, Ok}
+use Rattle.hydra_records.specs.Records.{AreBytes}
+use Rattle.bank_format.specs.Canon.{canon}
+use Rattle.bank_format.specs.ReadSteps.{fault_of}
+use Rattle.bank_text.specs.declared.samples.SamplePoints.{SamplePoints}
+use Rattle.bank_text.specs.declared.samples.SamplePoints.TheVariants.{Kept}
+use Rattle.bank_text.specs.Printed.{bank_script}
+use Rattle.sfbank_program.specs.declared.run_fault.RunFault.{RunFault}
+use Rattle.sfbank.specs.Outcome.{Done, after_reading, bank_in, outcome, canon_outcome, play_outcome}
+use Rattle.sfbank.specs.NewBanks.{new_file}
+
+-- The first broken step of the file, else the script of its bank.
+unfoldable pub script_outcome : SamplePoints → List ℕ → Result (List ℕ) RunFault
+script_outcome points file = after_reading (fault_of file) (Ok (bank_script points (bank_in file)))
+
+-- the file of the empty bank of the minor version of a file's bank
+abbrev pub start_of : List ℕ → List ℕ
+start_of file = new_file (bank_in file).minor
+
+-- a run that is done and writes this file
+abbrev pub WritesFile : Result Done RunFault → List ℕ → Type 0
+WritesFile r file = (undo : List ℕ) × (r ≡ Ok (record { out = file; undo = undo }))
+
+-- Where the file comes to a script with all points, that script, run on the file of the empty bank, writes the canonical
+-- file of the bank.
+abbrev pub IsRemade : List ℕ → Type 0
+IsRemade file = (text : List ℕ) → script_outcome Kept file ≡ Ok text → WritesFile (outcome (start_of file) text) (canon (bank_in file))
+
+-- Two files that are read have one script with all points exactly where they have one canonical file.
+abbrev pub ScriptsTell : Type 0
+ScriptsTell =
+    (a b : List ℕ) → AreBytes a → AreBytes b → fault_of a ≡ None → fault_of b ≡ None
+    → (script_outcome Kept a ≡ script_outcome Kept b) ↔ (canon_outcome a ≡ canon_outcome b)
+
+-- Each list of notes sounds on the file that the script makes of the empty bank as on the first.
+abbrev pub RemadeSounds : Type 0
+RemadeSounds =
+    (file text notes : List ℕ) (done : Done) → AreBytes file → script_outcome Kept file ≡ Ok text → outcome (start_of file) text ≡ Ok done
+    → play_outcome done.out notes ≡ play_outcome file notes

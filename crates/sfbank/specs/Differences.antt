@@ -1,0 +1,75 @@
+-- A script that makes the bank of one file of the bank of another.
+use Rattle.std.specs.Prelude.{◌≡◌, ◌==◌, ℕ, Bool, true, false, List, [], Option, Some, None, Result, Ok, Err}
+use Rattle.std.specs.Io.KnownBytes.{Appends, Keeps}
+use Rattle.bank_parts.specs.declared.parts.Parts.{Parts}
+use Rattle.bank_format.specs.declared.fault.ReadFault.{ReadFault}
+use Rattle.bank_format.specs.Canon.{canon}
+use Rattle.bank_format.specs.ReadSteps.{fault_of}
+use Rattle.sfbank_program.specs.declared.run_fault.RunFault.{RunFault}
+use Rattle.sfbank_program.specs.declared.run_fault.RunFault.TheVariants as run
+use Rattle.sfbank_program.specs.declared.run_fault.Which.TheVariants.{Out}
+use Rattle.sfbank.specs.Outcome.{after_reading, bank_in, outcome}
+use Rattle.sfbank.specs.Written.{GoesOut}
+
+-- the banks that two files read as
+pub record Pair : Type 0 where
+  pub first : Parts
+  pub second : Parts
+
+abbrev pub both : Parts × Parts → Pair
+both banks = record { first = banks.0; second = banks.1 }
+
+-- the fault of the second file, if it has one, else what comes of both banks
+abbrev pub after_second : {X : Type 0} → Option ReadFault → Result X RunFault → Result X RunFault
+after_second (Some f) r = Err (run.ReadSecond f)
+after_second None r = r
+
+abbrev pub if_same : Bool → Pair → Result Pair RunFault
+if_same true banks = Ok banks
+if_same false banks = Err run.OtherVersion
+
+-- both banks, where they are of one minor version
+abbrev pub of_one_version : Pair → Result Pair RunFault
+of_one_version banks = if_same (banks.first.minor == banks.second.minor) banks
+
+abbrev pub banks_in : List ℕ → List ℕ → Pair
+banks_in a b = record { first = bank_in a; second = bank_in b }
+
+-- The first broken step of the first file, else that of the second, else both banks, if their minor versions are one.
+unfoldable pub pair_of : List ℕ → List ℕ → Result Pair RunFault
+pair_of a b = after_reading (fault_of a) (after_second (fault_of b) (of_one_version (banks_in a b)))
+
+-- The text, run on the first file, writes the canonical file of the second; and its undo text, run on what was written,
+-- writes the canonical file of the first.
+pub record IsDifference (a b text : List ℕ) : Type 0 where
+  pub undo : List ℕ
+  pub again : List ℕ
+  pub leads : outcome a text ≡ Ok (record { out = canon (bank_in b); undo = undo })
+  pub returns : outcome (canon (bank_in b)) undo ≡ Ok (record { out = canon (bank_in a); undo = again })
+
+-- a difference of two files that are read, which goes out
+pub record SendsDifference {U : Type 0} (old new : Option (List ℕ)) (a b : List ℕ) (r : Result U RunFault) : Type 0 where
+  pub is_pair : pair_of a b ≡ Ok (banks_in a b)
+  pub text : List ℕ
+  pub differs : IsDifference a b text
+  pub sends : GoesOut Out old new text r
+
+-- Done, or with the writer's fault, a difference went out so far. With any other fault not a byte went to the writer; and
+-- want of memory can come in place of any answer before the first byte.
+abbrev pub RunsDifference : {U : Type 0} → Option (List ℕ) → Option (List ℕ) → List ℕ → List ℕ → Result U RunFault → Type 0
+RunsDifference old new a b (Ok u) = SendsDifference old new a b (Ok u)
+RunsDifference old new a b (Err (run.Write which n)) = SendsDifference {U = Unit {0}} old new a b (Err (run.Write which n))
+RunsDifference old new a b (Err run.Memory) = Keeps old new
+RunsDifference old new a b (Err fault) = (pair_of a b ≡ Err fault) × Keeps old new
+
+-- Where the files have one bank, the script is empty.
+abbrev pub WritesNothing : {U : Type 0} → Option (List ℕ) → Option (List ℕ) → List ℕ → List ℕ → Result U RunFault → Type 0
+WritesNothing old new a b (Ok u) = bank_in a ≡ bank_in b → Appends old new []
+WritesNothing old new a b (Err fault) = Unit {0}
+
+-- both banks were read, or why they were not
+abbrev pub Pairs : {X : Type 0} → (X → Pair) → Result Pair RunFault → Result X RunFault → Type 0
+Pairs view pair (Ok x) = pair ≡ Ok (view x)
+Pairs view pair (Err run.Memory) = Unit {0}
+Pairs view pair (Err (run.Write which n)) = ⊥
+Pairs view pair (Err fault) = pair ≡ Err fault

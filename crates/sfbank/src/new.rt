@@ -1,0 +1,55 @@
+//! An empty bank.
+ghost use Rattle.std.specs.Prelude.{◌≡◌, IfOk};
+ghost use Rattle.bank_text.specs.Listed.{empty, empty_texts};
+ghost use Rattle.sfbank.specs.NewBanks.{IsNew, new_outcome};
+ghost use Rattle.sfbank.specs.Written.{RunsAlone};
+
+use crate::deliver::deliver_bank;
+use bank_core::{Bank, Owners, Parts, Texts};
+use numbered_lists::NumberedList;
+use sf_base::{Lent, OutOfMemory};
+use sfbank_program::RunFault;
+use std::alloc::Global;
+use std::io::Write;
+
+/// Writes the canonical file of the empty bank of version 2.`minor` to `out`, whole and flushed: 308 bytes.
+///
+/// Where memory is wanting, not one byte goes to the writer. A writer's fault, which is of `Which::Out`,
+/// tells how many bytes of the file it took.
+pub fn new_run<W: Write>(alloc: Global, minor: u16, out: &mut W) -> Result<(), RunFault>
+    // The canonical file of the empty bank goes out.
+    ensures runs { RunsAlone (W.contents out.old) (W.contents out.new) (new_outcome minor) result }
+    // It is its own canonical file, and reads as the empty bank.
+    ensures fixed { IsNew minor }
+{
+    let bank = empty_bank(alloc, minor)?;
+    deliver_bank(&bank, out)
+}
+
+fn empty_bank(alloc: Global, minor: u16) -> Result<Bank<'static>, OutOfMemory>
+    ensures { IfOk result (λ bank. bank ≡ empty minor) }
+{
+    let parts = Parts {
+        minor,
+        texts: empty_texts(),
+        presets: Owners::with_capacity(alloc, 0)?,
+        instruments: Owners::with_capacity(alloc, 0)?,
+        samples: NumberedList::new(alloc),
+    };
+    Ok(Bank::from_sound_parts(parts))
+}
+
+fn empty_texts() -> Texts<'static>
+    ensures { result ≡ empty_texts }
+{
+    Texts {
+        engine: Lent::new(b"EMU8000"),
+        name: Lent::new(b""),
+        date: Lent::new(b""),
+        engineers: Lent::new(b""),
+        product: Lent::new(b""),
+        copyright: Lent::new(b""),
+        comment: Lent::new(b""),
+        software: Lent::new(b""),
+    }
+}

@@ -1,0 +1,20 @@
+//! The command `diff`.
+use crate::diff::diff_run;
+use sfbank_program::{DiffPaths, Fault, OutputFile, Which, read_file};
+use std::rt::Files;
+
+/// Writes a script that makes the second bank of the first. Both are read whole first, so the output may
+/// be one of them.
+pub(crate) fn diff<'a, R: Files + AllocGlobal>(
+    rt: &'a R,
+    paths: DiffPaths<'a>,
+) -> Result<(), Fault<'a>> {
+    let first = read_file(rt, paths.first)?;
+    let second = read_file(rt, paths.second)?;
+    let mut out = OutputFile::new(rt, paths.out)?;
+    let run = diff_run(rt.alloc(), first.as_slice(), second.as_slice(), &mut out);
+    match out.end(Which::Out, run) {
+        Ok(()) => Ok(()),
+        Err(fault) => Err(Fault::Run(fault, paths.out)),
+    }
+}

@@ -1,0 +1,32 @@
+//! The command `script`.
+ghost use Rattle.std.specs.Prelude.{◌≡◌, if◌then◌else◌};
+ghost use Rattle.bank_text.specs.declared.samples.SamplePoints.TheVariants.{Kept, LeftOut};
+
+use crate::script::script_run;
+use bank_text::SamplePoints;
+use sfbank_program::{Fault, OutputFile, ScriptPaths, Which, read_file};
+use std::rt::Files;
+
+/// Writes the script that makes a bank. The bank is read whole first, so the output may be the input.
+pub(crate) fn script<'a, R: Files + AllocGlobal>(
+    rt: &'a R,
+    paths: ScriptPaths<'a>,
+) -> Result<(), Fault<'a>> {
+    let file = read_file(rt, paths.input)?;
+    let mut out = OutputFile::new(rt, paths.out)?;
+    let run = script_run(rt.alloc(), file.as_slice(), points_of(paths.no_points), &mut out);
+    match out.end(Which::Out, run) {
+        Ok(()) => Ok(()),
+        Err(fault) => Err(Fault::Run(fault, paths.out)),
+    }
+}
+
+fn points_of(left_out: bool) -> SamplePoints
+    ensures { result ≡ if left_out then LeftOut else Kept }
+{
+    if left_out {
+        SamplePoints::LeftOut
+    } else {
+        SamplePoints::Kept
+    }
+}
