@@ -1,0 +1,134 @@
+# Pairs of banks by seeds, and the texts of some: a bank and what the lines of a hostile script that it takes make of it,
+# states of a bank under a script of edits of all forms, a bank and a hostile file that can be read, and banks that have
+# nothing to do with each other.
+package Pairs;
+use strict;
+use warnings;
+use Banks;
+use Differences;
+use Runs;
+use Texts;
+use Told;
+use Exporter 'import';
+our @EXPORT = qw(try_pairs);
+
+# How many pairs are of each kind at least, of 3,000; and how many of them have a difference of no more lines than the
+# edits that made the pair.
+my %floors = (edited => 1300, states => 500, files => 60, strangers => 250, short => 1000);
+
+my (@banks, %states, %count);
+# A bank that an earlier seed made.
+my $stranger;
+
+# Puts into the folder what the lines of a hostile script that a bank takes make of it, as `b`; answers how many these are.
+sub put_edited {
+    my ($bank, $path) = @_;
+    my @lines = split /\n/, read_bytes($path);
+    while (1) {
+        my $run = apply_text($bank, join("\n", @lines), 'b', 'undo');
+        return scalar @lines unless $run->{status};
+        my ($line) = $run->{line} =~ /^sfbank: line (\d+): / or return tell_text("$path on $bank", $run->{line});
+        splice @lines, $line - 1, 1;
+    }
+}
+
+# The states of a bank under a script of edits of all forms, as bytes: each some edits behind the one before it.
+sub states_of {
+    my ($maker, $bank) = @_;
+    run(['show', $bank], 'listing');
+    my @members = read_bytes('listing') =~ /^bank \d+ presets (\d+) instruments (\d+) samples (\d+) /;
+    my @lines = split /\n/, `$maker 1200 @members`;
+    my @states = ([0, read_bytes($bank)]);
+    my $done = 0;
+    while ($done < @lines) {
+        my $more = 1 + $done * 7 % 11;
+        write_bytes('state', $states[-1][1]);
+        my $wrong = done(apply_text('state', join("\n", grep { defined } @lines[$done .. $done + $more - 1]), 'out', 'undo'));
+        return tell_text("scripts/make_edits on $bank", $wrong) if $wrong;
+        push @states, [$done += $more, read_bytes('out')];
+    }
+    return \@states;
+}
+
+# Puts two states of a bank into the folder, as `a` and `b`; answers how many edits lie between them.
+sub put_states {
+    my ($maker, $number, $seed) = @_;
+    my $states = $states{$number} //= states_of($maker, "bank$number");
+    my $first = int(rand $#$states);
+    my $second = $first + 1 + $seed % 3;
+    $second = $#$states if $second > $#$states;
+    write_bytes('a', $states->[$first][1]);
+    write_bytes('b', $states->[$second][1]);
+    return $states->[$second][0] - $states->[$first][0];
+}
+
+# What is wrong with a pair, one of whose files may be no canonical one.
+sub wrong_of_pair {
+    my ($kind, $from, $to, $edits) = @_;
+    my $wrong = done(canon($from, 'canon.a')) // done(canon($to, 'canon.b'));
+    return $wrong if defined $wrong;
+    $count{$kind}++;
+    return wrong_of_versions($from, $to) if substr(read_bytes('canon.a'), 34, 2) ne substr read_bytes('canon.b'), 34, 2;
+    $wrong = leads($from, $to, 'canon.a', 'canon.b');
+    $count{short}++ if defined $edits && lines_of(read_bytes('difference')) <= $edits;
+    return $wrong;
+}
+
+sub wrong_of_versions {
+    my ($from, $to) = @_;
+    unlink 'difference';
+    my $run = run(['diff', $from, $to, 'difference']);
+    return $run->{status} == 4 && $run->{line} eq "sfbank: refused 51 OtherVersion\n" && !-e 'difference' ? undef : $run->{line};
+}
+
+# The kind of the pair of a seed, its two files and how many edits lie between them, if any do.
+sub pair_of_seed {
+    my ($maker, $seed) = @_;
+    my $number = $seed % @banks;
+    return ('states', 'a', 'b', put_states($maker, $number, $seed)) if $seed % 5 == 1;
+    return ('files', "bank$number", "seeds/$seed.sf2") if $seed % 5 == 2 && !canon("seeds/$seed.sf2", 'out')->{status};
+    my $edits = put_edited("bank$number", "seeds/$seed.wild");
+    if ($seed % 10 == 3 && defined $stranger) {
+        write_bytes('a', $stranger);
+        $stranger = read_bytes('b');
+        return ('strangers', 'a', 'b');
+    }
+    $stranger = read_bytes('b') if $seed % 10 == 9;
+    return $seed % 2 ? ('edited', "bank$number", 'b', $edits) : ('edited', 'b', "bank$number", $edits);
+}
+
+sub try_seed {
+    my ($maker, $seed) = @_;
+    my ($kind, $from, $to, $edits) = pair_of_seed($maker, $seed);
+    tell_text("pair $seed, $kind", wrong_of_pair($kind, $from, $to, $edits));
+    tell_text("the text of pair $seed", remade($to, 'canon.b')) if $seed % 4 == 0;
+}
+
+# Tries so many seeds from one on, with the folder of the makers and the banks that they make pairs of.
+sub try_pairs {
+    my ($scripts, $first, $count, @from) = @_;
+    for my $number (0 .. $#from) {
+        tell_text("canon $from[$number]", done(canon($from[$number], "bank$number")));
+        push @banks, "bank$number";
+    }
+    local $ENV{HOSTILE_GROUPS} = 1;
+    srand 1;
+    while ($count > 0) {
+        my $some = $count < 200 ? $count : 200;
+        mkdir 'seeds';
+        system("$scripts/make_hostile", 'seeds', $first, $some, @banks) and return tell_text('scripts/make_hostile', 'failed');
+        try_seed("$scripts/make_edits", $_) for $first .. $first + $some - 1;
+        unlink glob 'seeds/*';
+        ($first, $count) = ($first + $some, $count - $some);
+    }
+}
+
+# That there were so many of each kind that it says something.
+sub try_counts {
+    for my $kind (sort keys %floors) {
+        my $there = $count{$kind} // 0;
+        tell_text("3000 pairs, $kind", $there >= $floors{$kind} ? undef : "$there, not $floors{$kind}");
+    }
+}
+
+1;
