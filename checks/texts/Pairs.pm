@@ -16,7 +16,9 @@ our @EXPORT = qw(try_pairs);
 # edits that made the pair.
 my %floors = (edited => 1300, states => 500, files => 60, strangers => 250, short => 1000);
 
-my (@banks, %states, %count);
+# The banks, and those that scripts/make_edits can edit.
+my (@banks, @edited);
+my (%states, %count);
 # A bank that an earlier seed made.
 my $stranger;
 
@@ -32,29 +34,36 @@ sub put_edited {
     }
 }
 
-# The states of a bank under a script of edits of all forms, as bytes: each some edits behind the one before it.
+# How many presets, instruments and samples a bank has.
+sub members_of {
+    my ($bank) = @_;
+    run(['show', $bank], 'listing');
+    return read_bytes('listing') =~ /^bank \d+ presets (\d+) instruments (\d+) samples (\d+) /;
+}
+
+# The states of a bank under a script of edits of all forms, as bytes, with the number of the edits: each some edits behind
+# the one before it.
 sub states_of {
     my ($maker, $bank) = @_;
-    run(['show', $bank], 'listing');
-    my @members = read_bytes('listing') =~ /^bank \d+ presets (\d+) instruments (\d+) samples (\d+) /;
-    my @lines = split /\n/, `$maker 1200 @members`;
+    my @lines = split /\n/, join '', `$maker 1200 @{[members_of($bank)]}`;
     my @states = ([0, read_bytes($bank)]);
-    my $done = 0;
-    while ($done < @lines) {
-        my $more = 1 + $done * 7 % 11;
-        write_bytes('state', $states[-1][1]);
-        my $wrong = done(apply_text('state', join("\n", grep { defined } @lines[$done .. $done + $more - 1]), 'out', 'undo'));
-        return tell_text("scripts/make_edits on $bank", $wrong) if $wrong;
-        push @states, [$done += $more, read_bytes('out')];
+    while (@lines) {
+        my ($done, $bytes) = @{ $states[-1] };
+        my @edits = splice @lines, 0, 1 + $done * 7 % 11;
+        write_bytes('state', $bytes);
+        my $wrong = done(apply_text('state', join("\n", @edits), 'out', 'undo'));
+        if ($wrong) { tell_text("scripts/make_edits on $bank", $wrong); last; }
+        push @states, [$done + @edits, read_bytes('out')];
     }
     return \@states;
 }
 
-# Puts two states of a bank into the folder, as `a` and `b`; answers how many edits lie between them.
+# Puts two states of a bank into the folder, as `a` and `b`; answers how many edits lie between them. The bank has members
+# of each kind, as the script of edits wants.
 sub put_states {
-    my ($maker, $number, $seed) = @_;
-    my $states = $states{$number} //= states_of($maker, "bank$number");
-    my $first = int(rand $#$states);
+    my ($maker, $bank, $seed) = @_;
+    my $states = $states{$bank} //= states_of($maker, $bank);
+    my $first = int rand @$states;
     my $second = $first + 1 + $seed % 3;
     $second = $#$states if $second > $#$states;
     write_bytes('a', $states->[$first][1]);
@@ -85,7 +94,7 @@ sub wrong_of_versions {
 sub pair_of_seed {
     my ($maker, $seed) = @_;
     my $number = $seed % @banks;
-    return ('states', 'a', 'b', put_states($maker, $number, $seed)) if $seed % 5 == 1;
+    return ('states', 'a', 'b', put_states($maker, $edited[$seed % @edited], $seed)) if $seed % 5 == 1;
     return ('files', "bank$number", "seeds/$seed.sf2") if $seed % 5 == 2 && !canon("seeds/$seed.sf2", 'out')->{status};
     my $edits = put_edited("bank$number", "seeds/$seed.wild");
     if ($seed % 10 == 3 && defined $stranger) {
@@ -110,6 +119,7 @@ sub try_pairs {
     for my $number (0 .. $#from) {
         tell_text("canon $from[$number]", done(canon($from[$number], "bank$number")));
         push @banks, "bank$number";
+        push @edited, "bank$number" unless grep { $_ == 0 } members_of("bank$number");
     }
     local $ENV{HOSTILE_GROUPS} = 1;
     srand 1;

@@ -36,7 +36,7 @@ sub make_banks {
     for (Rows::rows_of("$here/banks")) { $banks{ $_->[0] } = [$_->[1], $_->[2] =~ s/\\n/\n/gr]; }
     tell_text("the bank $_", make_bank($_, @{ $banks{$_} })) for sort keys %banks;
     write_bytes($_, read_bytes("$here/../../examples/$_.sf2")) for qw(organ untidy);
-    return (sort(keys %banks), 'organ', 'untidy');
+    return ('empty', sort(keys %banks), 'organ', 'untidy');
 }
 
 sub make_bank {
