@@ -6,9 +6,10 @@ use warnings;
 use Banks;
 use Rows;
 use Runs;
+use Texts;
 use Told;
 use Exporter 'import';
-our @EXPORT = qw(try_differences leads back_and_forth);
+our @EXPORT = qw(try_differences);
 
 # What is wrong with the difference of two banks, whose canonical files are given: `difference` holds it afterwards.
 sub leads {
@@ -55,7 +56,7 @@ sub try_differences {
         my ($from, $edits, $expected) = @$_;
         tell_text("diff $from, " . ($edits || 'nothing'), wrong_of_row($from, $edits, $expected));
     }
-    my $over = done(canon('wide', 'over')) // done(Texts::run_over('diff', 'tone', 'over', 'over')) // done(diff('tone', 'wide', 'difference'));
+    my $over = done(canon('wide', 'over')) // done(run_over('diff', 'tone', 'over', 'over')) // done(diff('tone', 'wide', 'difference'));
     tell_text('a difference over a bank', $over // (same('over', 'difference') ? undef : 'another text'));
 }
 

@@ -38,7 +38,8 @@ sub try_full {
         try_bank("the most $limit, of " . substr($lines->[-1], 0, 12), $taken->[0]);
     }
     system("$scripts/make_bank wide 65535 > full") and return tell_text('scripts/make_bank', 'failed');
-    try_bank('the most members', 'rename-sample 7 "n"', 'move-preset 65534 0', 'remove-preset 32767', 'set-gen inst 40000 0 17 5', 'trim 65534 0 0');
+    my @edits = ('rename-sample 7 "n"', 'move-preset 65534 0', 'remove-preset 32767', 'set-target inst 40000 0 7', 'set-kind 65534 left 0');
+    try_bank('the most members', @edits);
 }
 
 1;

@@ -10,7 +10,7 @@ use Runs;
 use Texts;
 use Told;
 use Exporter 'import';
-our @EXPORT = qw(try_pairs);
+our @EXPORT = qw(try_pairs try_counts);
 
 # How many pairs are of each kind at least, of 3,000; and how many of them have a difference of no more lines than the
 # edits that made the pair.
@@ -71,16 +71,16 @@ sub put_states {
     return $states->[$second][0] - $states->[$first][0];
 }
 
-# What is wrong with a pair, one of whose files may be no canonical one.
+# What is wrong with the difference of a pair, which has to make B of A and to be taken back; `canonical` is the canonical
+# file of B, and A is its own.
 sub wrong_of_pair {
-    my ($kind, $from, $to, $edits) = @_;
-    my $wrong = done(canon($from, 'canon.a')) // done(canon($to, 'canon.b'));
-    return $wrong if defined $wrong;
+    my ($kind, $from, $to, $canonical, $edits) = @_;
     $count{$kind}++;
-    return wrong_of_versions($from, $to) if substr(read_bytes('canon.a'), 34, 2) ne substr read_bytes('canon.b'), 34, 2;
-    $wrong = leads($from, $to, 'canon.a', 'canon.b');
-    $count{short}++ if defined $edits && lines_of(read_bytes('difference')) <= $edits;
-    return $wrong;
+    return wrong_of_versions($from, $to) if substr(read_bytes($from), 34, 2) ne substr read_bytes($canonical), 34, 2;
+    my $wrong = done(diff($from, $to, 'difference')) // done(apply($from, 'difference', 'out', 'undo'));
+    $wrong //= same('out', $canonical) ? done(apply('out', 'undo', 'back', 'again')) : 'the difference makes another bank';
+    $count{short}++ if !defined $wrong && defined $edits && lines_of(read_bytes('difference')) <= $edits;
+    return $wrong // (same('back', $from) ? undef : 'the difference is not undone');
 }
 
 sub wrong_of_versions {
@@ -90,27 +90,28 @@ sub wrong_of_versions {
     return $run->{status} == 4 && $run->{line} eq "sfbank: refused 51 OtherVersion\n" && !-e 'difference' ? undef : $run->{line};
 }
 
-# The kind of the pair of a seed, its two files and how many edits lie between them, if any do.
+# The kind of the pair of a seed, its two files, the canonical file of the second, and how many edits lie between them, if
+# any do.
 sub pair_of_seed {
     my ($maker, $seed) = @_;
-    my $number = $seed % @banks;
-    return ('states', 'a', 'b', put_states($maker, $edited[$seed % @edited], $seed)) if $seed % 5 == 1;
-    return ('files', "bank$number", "seeds/$seed.sf2") if $seed % 5 == 2 && !canon("seeds/$seed.sf2", 'out')->{status};
-    my $edits = put_edited("bank$number", "seeds/$seed.wild");
+    my $bank = $banks[$seed % @banks];
+    return ('states', 'a', 'b', 'b', put_states($maker, $edited[$seed % @edited], $seed)) if $seed % 5 == 1;
+    return ('files', $bank, "seeds/$seed.sf2", 'canonical') if $seed % 5 == 2 && !canon("seeds/$seed.sf2", 'canonical')->{status};
+    my $edits = put_edited($bank, "seeds/$seed.wild");
     if ($seed % 10 == 3 && defined $stranger) {
         write_bytes('a', $stranger);
         $stranger = read_bytes('b');
-        return ('strangers', 'a', 'b');
+        return ('strangers', 'a', 'b', 'b');
     }
     $stranger = read_bytes('b') if $seed % 10 == 9;
-    return $seed % 2 ? ('edited', "bank$number", 'b', $edits) : ('edited', 'b', "bank$number", $edits);
+    return $seed % 2 ? ('edited', $bank, 'b', 'b', $edits) : ('edited', 'b', $bank, $bank, $edits);
 }
 
 sub try_seed {
     my ($maker, $seed) = @_;
-    my ($kind, $from, $to, $edits) = pair_of_seed($maker, $seed);
-    tell_text("pair $seed, $kind", wrong_of_pair($kind, $from, $to, $edits));
-    tell_text("the text of pair $seed", remade($to, 'canon.b')) if $seed % 4 == 0;
+    my ($kind, $from, $to, $canonical, $edits) = pair_of_seed($maker, $seed);
+    tell_text("pair $seed, $kind", wrong_of_pair($kind, $from, $to, $canonical, $edits));
+    tell_text("the text of pair $seed", remade($to, $canonical)) if $seed % 4 == 0;
 }
 
 # Tries so many seeds from one on, with the folder of the makers and the banks that they make pairs of.

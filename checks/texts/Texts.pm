@@ -8,7 +8,7 @@ use Rows;
 use Runs;
 use Told;
 use Exporter 'import';
-our @EXPORT = qw(try_new make_banks try_texts try_faults remade);
+our @EXPORT = qw(try_new make_banks try_texts try_streams try_faults remade run_over);
 
 my $without = ' without points: to read and compare alone';
 
@@ -90,6 +90,16 @@ sub run_over {
     my $run = run(\@words);
     $run->{wrong} = is_right($run, 10_000_000);
     return $run;
+}
+
+# Output to a stream.
+sub try_streams {
+    for (['new'], ['script', 'organ'], ['diff', 'tone', 'wide']) {
+        my $run = run([@$_, '/dev/stdout']);
+        rename 'printed', 'streamed';
+        my $wrong = is_right({ %$run, printed => 0 }, 10_000_000) // done(run_command([@$_, 'out'], 'out'));
+        tell_text("@$_ to a stream", $wrong // (same('streamed', 'out') ? undef : 'another text'));
+    }
 }
 
 # Tries the texts of all banks, and that each printed one is of a bank.
