@@ -1,0 +1,49 @@
+# Texts and banks that can't be written: a write that fails, or takes no byte, at each call in turn.
+package Failures;
+use strict;
+use warnings;
+use Banks;
+use Runs;
+use Told;
+use Writes;
+use Exporter 'import';
+our @EXPORT = qw(try_failures);
+
+my @runs = (
+    ['new', 'out'],
+    ['script', 'organ', 'out'],
+    ['script', 'long', 'out'],
+    ['script', '--no-points', 'wide', 'out'],
+    ['diff', 'tone', 'wide', 'out'],
+    ['diff', 'tone', 'long', 'out'],
+    ['diff', 'renamed', 'tone', 'out'],
+);
+
+# Has each write of a run go wrong in turn, until none does.
+sub try_each_write {
+    my ($way, $most, $words) = @_;
+    my $name = "@$words, $way, $most bytes a call";
+    Writes::run_under('./fail.so', {}, $words, 'out');
+    my %whole = (out => read_bytes('out'));
+    for my $number (1 .. 100_000) {
+        my $run = Writes::run_under('./fail.so', { $way => $number, $most ? (SHORT_WRITES => $most) : () }, $words, 'out');
+        if (!-e 'mark') {
+            my $right = !$run->{status} && $number > 1 && read_bytes('out') eq $whole{out};
+            return tell_text("$name, $number calls", $right ? undef : 'is not done');
+        }
+        tell_text("$name, call $number", Writes::is_front($run, \%whole, 'out'));
+    }
+}
+
+sub try_failures {
+    my ($hostile) = @_;
+    my $points = '0123456789abcdef' x 5_000;
+    tell_text('a longer bank', done(apply_text('layered', "extend 0 x$points x", 'long', 'undo')));
+    tell_text('another name', done(apply_text('tone', 'rename-sample 0 "ABCDEFGHIJKLMNOPQRST"', 'renamed', 'undo')));
+    return tell_text('the shim', 'it is not compiled') if system('cc', '-O2', '-shared', '-fPIC', '-o', 'fail.so', "$hostile/fail_writes.c");
+    for my $way (qw(FAILED_WRITE EMPTY_WRITE)) {
+        for my $run (@runs) { try_each_write($way, $_, $run) for 0, 100; }
+    }
+}
+
+1;

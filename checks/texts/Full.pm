@@ -1,0 +1,45 @@
+# Banks that have as much as a bank can: their texts, and differences of one edit, in a second and a second for each
+# megabyte.
+package Full;
+use strict;
+use warnings;
+use Banks;
+use Differences;
+use Limits;
+use Runs;
+use Texts;
+use Told;
+use Exporter 'import';
+our @EXPORT = qw(try_full);
+
+# What is wrong with the difference of the full bank and what an edit makes of it, which has at most so many lines if a
+# number is given.
+sub differs {
+    my ($edit, $most) = @_;
+    my $wrong = done(apply_text('full', $edit, 'edited', 'undo')) // done(diff('full', 'edited', 'difference')) // done(apply('full', 'difference', 'out', 'undo'));
+    $wrong //= same('out', 'edited') ? undef : 'the difference makes another bank';
+    return $wrong if defined $wrong || !defined $most;
+    my $lines = lines_of(read_bytes('difference'));
+    return $lines <= $most ? undef : "the difference has $lines lines, not at most $most";
+}
+
+sub try_bank {
+    my ($name, @edits) = @_;
+    tell_text("the text of $name", remade('full', 'full'));
+    tell_text("$name: nothing differs", differs('', 0));
+    tell_text("$name: $_", differs($_, 1 + lines_of($_))) for @edits;
+}
+
+sub try_full {
+    my ($scripts) = @_;
+    for (Limits::full_banks()) {
+        my ($limit, $lines, undef, $taken) = @$_;
+        tell_text("the most $limit", done(apply_text('empty', join("\n", @$lines), 'full', 'undo')));
+        try_bank("the most $limit, of " . substr($lines->[-1], 0, 12), $taken->[0]);
+    }
+    system("$scripts/make_bank wide 65535 > full") and return tell_text('scripts/make_bank', 'failed');
+    my @edits = ('rename-sample 7 "n"', 'move-preset 65534 0', 'remove-preset 32767', 'set-target inst 40000 0 7', 'set-kind 65534 left 0');
+    try_bank('the most members', @edits);
+}
+
+1;

@@ -1,0 +1,134 @@
+# Banks as texts: what `script` writes of a bank is as the files of `printed` have it, to the byte; and on the bank that
+# `new` makes of its version, `apply` makes the bank of it again.
+package Texts;
+use strict;
+use warnings;
+use Banks;
+use Rows;
+use Runs;
+use Told;
+use Exporter 'import';
+our @EXPORT = qw(try_new make_banks try_texts try_streams try_faults remade run_over);
+
+my $without = ' without points: to read and compare alone';
+
+# What is wrong with the empty bank of a minor version.
+sub wrong_of_new {
+    my ($minor, @words) = @_;
+    my $wrong = done(new_bank('out', @words));
+    $wrong //= read_bytes('out') eq changed(bytes_of($EMPTY), '34 2 ' . unpack 'H*', pack 'v', $minor) ? undef : 'another file';
+    return $wrong // done(canon('out', 'again')) // (same('out', 'again') ? undef : 'it is not its own canonical file');
+}
+
+sub try_new {
+    tell_text('new', wrong_of_new(4));
+    tell_text("new, of minor version $_", wrong_of_new($_, '--minor', $_)) for 0, 1, 4, 9, 255, 256, 65_535;
+    done(new_bank('empty'));
+    my $made = read_bytes('empty') // '';
+    tell_text('an empty bank has 308 bytes', length $made == 308 ? undef : length($made) . ' bytes');
+}
+
+# Puts the banks into the folder: those that scripts make, those of the examples, and one of 200 presets.
+sub make_banks {
+    my ($here) = @_;
+    my @many = ('add-inst 0 "i"', map { "add-preset $_ \"p$_\" $_ 0 0 0 0 { 0 }" } 0 .. 199);
+    my %banks = (many => [4, join "\n", @many], map { ($_ => [4, join "\n", @{ $SCRIPTS{$_} }[1 .. $#{ $SCRIPTS{$_} }]]) } keys %SCRIPTS);
+    for (Rows::rows_of("$here/banks")) { $banks{ $_->[0] } = [$_->[1], $_->[2] =~ s/\\n/\n/gr]; }
+    tell_text("the bank $_", make_bank($_, @{ $banks{$_} })) for sort keys %banks;
+    write_bytes($_, read_bytes("$here/../../examples/$_.sf2")) for qw(organ untidy);
+    return ('empty', sort(keys %banks), 'organ', 'untidy');
+}
+
+sub make_bank {
+    my ($name, $minor, $script) = @_;
+    my $wrong = done(new_bank('from', '--minor', $minor)) // done(apply_text('from', $script, 'out', 'undo'));
+    rename 'out', $name or $wrong //= "$name is not there";
+    return $wrong;
+}
+
+# What is wrong with a bank that is made again of its text on the bank that the first line names: the file has to be
+# this one, and its text the same.
+sub remade {
+    my ($bank, $canonical) = @_;
+    my $wrong = done(script($bank, 'text'));
+    return $wrong if defined $wrong;
+    my ($minor) = read_bytes('text') =~ /\A# sfbank new --minor (\d+)\n/ or return 'no first line';
+    $wrong = done(new_bank('from', '--minor', $minor)) // done(apply('from', 'text', 'out', 'undo'));
+    $wrong //= same('out', $canonical) ? undef : 'its text makes another bank';
+    return $wrong // done(script('out', 'text.again')) // (same('text', 'text.again') ? undef : 'the bank of its text has another text');
+}
+
+# What a text is without the points of the samples.
+sub without_points {
+    my ($text) = @_;
+    $text =~ s/\n/$without\n/;
+    return $text =~ s/^(add-sample .* x)[0-9a-f]*$/$1/mgr;
+}
+
+sub is_printed {
+    my ($bank, $text, @flags) = @_;
+    my $wrong = done(script($bank, 'text', @flags));
+    return $wrong // (read_bytes('text') eq $text ? undef : 'prints ' . one_line(read_bytes('text')));
+}
+
+sub try_text {
+    my ($here, $bank) = @_;
+    my $text = read_bytes("$here/printed/$bank.txt");
+    if (defined $text) {
+        tell_text("script $bank", is_printed($bank, $text));
+        tell_text("script --no-points $bank", is_printed($bank, without_points($text), '--no-points'));
+    }
+    tell_text("canon $bank", done(canon($bank, 'canonical')));
+    tell_text("$bank is made of its text", remade($bank, 'canonical') // undone('from'));
+    my $over = done(canon($bank, 'over')) // done(run_over('script', 'over', 'over')) // done(script($bank, 'text'));
+    tell_text("script of $bank over it", $over // (same('over', 'text') ? undef : 'another text'));
+}
+
+# A run that puts its output over an input.
+sub run_over {
+    my (@words) = @_;
+    my $run = run(\@words);
+    $run->{wrong} = is_right($run, 10_000_000);
+    return $run;
+}
+
+# Output to a stream.
+sub try_streams {
+    for (['new'], ['script', 'organ'], ['diff', 'tone', 'wide']) {
+        my $run = run([@$_, '/dev/stdout']);
+        rename 'printed', 'streamed';
+        my $wrong = is_right({ %$run, printed => 0 }, 10_000_000) // done(run_command([@$_, 'out'], 'out'));
+        tell_text("@$_ to a stream", $wrong // (same('streamed', 'out') ? undef : 'another text'));
+    }
+}
+
+# Tries the texts of all banks, and that each printed one is of a bank.
+sub try_texts {
+    my ($here, @banks) = @_;
+    try_text($here, $_) for @banks;
+    my %known = map { $_ => 1 } @banks;
+    for (glob "$here/printed/*") { tell_text("$_ is a bank's", m{/(\w+)\.txt$} && $known{$1} ? undef : 'it is not'); }
+}
+
+# ---- faults
+
+sub wrong_of_fault {
+    my ($words, $status, $line) = @_;
+    my @there = sort glob '*';
+    my $run = run([split ' ', $words]);
+    return "ended by signal $run->{signal}" if $run->{signal};
+    return "status $run->{status}" if $run->{status} != $status;
+    return "told '" . one_line($run->{line}) . "'" if defined $line && $run->{line} ne "$line\n";
+    return 'printed' if $run->{printed};
+    return "@there" eq join(' ', sort glob '*') ? undef : 'made a file';
+}
+
+sub try_faults {
+    my ($here) = @_;
+    write_bytes('cut', substr read_bytes('tone'), 0, 300);
+    tell_text('another version', done(new_bank('other', '--minor', 3)));
+    unlink qw(out undo);
+    tell_text($_->[0], wrong_of_fault(@$_)) for Rows::rows_of("$here/faults");
+}
+
+1;
