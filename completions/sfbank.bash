@@ -1,0 +1,69 @@
+# Completions of sfbank for bash.
+
+# The options of a command, or of the program where none is given.
+_sfbank_options() {
+  case $1 in
+    apply) echo --neutral --help ;;
+    new) echo --minor --help ;;
+    script) echo --no-points --help ;;
+    canon | diff | play | show) echo --help ;;
+    '') echo --help --version ;;
+  esac
+}
+
+# The endings of the files that a command takes, in their order.
+_sfbank_endings() {
+  case $1 in
+    apply) echo sf2 txt sf2 txt ;;
+    canon) echo sf2 sf2 ;;
+    diff) echo sf2 sf2 txt ;;
+    new | show) echo sf2 ;;
+    play) echo sf2 txt wav ;;
+    script) echo sf2 txt ;;
+  esac
+}
+
+# Gives the command's name, and behind it the files before the cursor, without options and what belongs to them.
+_sfbank_given() {
+  local i
+  for ((i = 1; i < COMP_CWORD; i++)); do
+    case ${COMP_WORDS[i]} in
+      --minor)
+        [ "${COMP_WORDS[i + 1]}" = = ] && ((i++))
+        ((i++))
+        ;;
+      -*) ;;
+      *) echo "${COMP_WORDS[i]}" ;;
+    esac
+  done
+}
+
+# Completes a folder or a file with an ending, or where there is none any file.
+_sfbank_files() {
+  local ending=$1 word=$2
+  compopt -o filenames -o default 2> /dev/null
+  mapfile -t COMPREPLY < <(
+    compgen -f -X "!*.$ending" -- "$word"
+    compgen -f -X "!*.${ending^^}" -- "$word"
+    compgen -d -- "$word"
+  )
+}
+
+_sfbank() {
+  local word=${COMP_WORDS[COMP_CWORD]} before=${COMP_WORDS[COMP_CWORD - 1]}
+  local commands="apply canon diff help new play script show" given endings
+  COMPREPLY=()
+  mapfile -t given < <(_sfbank_given)
+  read -ra endings < <(_sfbank_endings "${given[0]}")
+  if [[ $before == --minor || $before == = ]]; then
+    return
+  elif [[ $word == -* ]]; then
+    mapfile -t COMPREPLY < <(compgen -W "$(_sfbank_options "${given[0]}")" -- "$word")
+  elif [[ ${#given[@]} -eq 0 || ${given[0]} == help && ${#given[@]} -eq 1 ]]; then
+    mapfile -t COMPREPLY < <(compgen -W "$commands" -- "$word")
+  elif [[ ${#given[@]} -le ${#endings[@]} ]]; then
+    _sfbank_files "${endings[${#given[@]} - 1]}" "$word"
+  fi
+}
+
+complete -F _sfbank sfbank

@@ -1,0 +1,68 @@
+# Completions of sfbank for fish.
+
+# Gives the command's name, and behind it the files before the cursor, without options and what belongs to them.
+function __sfbank_given
+    set -l is_value no
+    for word in (commandline -opc)[2..]
+        if test $is_value = yes
+            set is_value no
+        else if test "$word" = --minor
+            set is_value yes
+        else if not string match -q -- '-*' $word
+            echo $word
+        end
+    end
+end
+
+# Whether the command is one of some.
+function __sfbank_is
+    set -l given (__sfbank_given)
+    set -q given[1]; and contains -- $given[1] $argv
+end
+
+# Whether no command is given yet.
+function __sfbank_is_bare
+    test -z "$(__sfbank_given)"
+end
+
+# The files at the cursor, those with the ending that is due there first.
+function __sfbank_files
+    set -l given (__sfbank_given)
+    set -l endings
+    switch $given[1]
+        case apply
+            set endings sf2 txt sf2 txt
+        case canon
+            set endings sf2 sf2
+        case diff
+            set endings sf2 sf2 txt
+        case new show
+            set endings sf2
+        case play
+            set endings sf2 txt wav
+        case script
+            set endings sf2 txt
+    end
+    set -l place (count $given)
+    set -q endings[$place]; and __fish_complete_suffix .$endings[$place]
+end
+
+set -l commands apply canon diff new play script show
+
+complete -c sfbank -f
+complete -c sfbank -n __sfbank_is_bare -a apply -d 'Run a script of edits on a bank, and write the one that takes them back'
+complete -c sfbank -n __sfbank_is_bare -a canon -d 'Write a bank in its one spelling'
+complete -c sfbank -n __sfbank_is_bare -a diff -d 'Write a script that makes one bank of another'
+complete -c sfbank -n __sfbank_is_bare -a help -d 'Print the help of the program or of a command'
+complete -c sfbank -n __sfbank_is_bare -a new -d 'Write an empty bank'
+complete -c sfbank -n __sfbank_is_bare -a play -d 'Play notes on a bank, and write the sound as a WAVE file'
+complete -c sfbank -n __sfbank_is_bare -a script -d 'Write the script that makes a bank of the empty one'
+complete -c sfbank -n __sfbank_is_bare -a show -d 'Tell what a bank has, and what was dropped or mended as it was read'
+complete -c sfbank -n 'test "$(__sfbank_given)" = help' -a "$commands"
+complete -c sfbank -n "__sfbank_is $commands" -k -a '(__sfbank_files)'
+
+complete -c sfbank -n 'not __sfbank_is help' -s h -l help -d 'Print help'
+complete -c sfbank -n __sfbank_is_bare -s V -l version -d 'Print version'
+complete -c sfbank -n '__sfbank_is apply' -l neutral -d 'Refuse an edit that may change the sound of notes'
+complete -c sfbank -n '__sfbank_is new' -l minor -x -d 'The minor version, 4 by default'
+complete -c sfbank -n '__sfbank_is script' -l no-points -d 'Leave the points of the samples out'
