@@ -115,8 +115,8 @@ pub(crate) fn deliver_edits<W: Write>(
     told(which, output.deliver())
 }
 
-// The lines of the edits.
-fn put_edits<W: Write>(edits: &[Edit<'_>], output: &mut Output<'_, W>)
+/// Puts the lines of the edits. It takes no memory.
+pub(crate) fn put_edits<W: Write>(edits: &[Edit<'_>], output: &mut Output<'_, W>)
     ensures { Puts W.contents output.old output.new (texts_of edits.now) }
 {
     for edit in edits {

@@ -2,8 +2,8 @@
 ghost use Rattle.sfbank.specs.Differences.{Pairs, RunsDifference, WritesNothing, both, pair_of};
 
 use crate::deliver::{deliver_edits, deliver_replacement};
+use crate::short::short_difference;
 use bank_core::Bank;
-use bank_difference::difference;
 use sf_reader::read;
 use sfbank_program::{RunFault, Which};
 use std::alloc::Global;
@@ -27,7 +27,7 @@ pub fn diff_run<W: Write>(
     ensures nothing { WritesNothing (W.contents out.old) (W.contents out.new) first.now second.now result }
 {
     let (from, to) = banks_of(alloc, first, second)?;
-    match difference(alloc, &from, &to)? {
+    match short_difference(alloc, &from, &to)? {
         Some(edits) => deliver_edits(Which::Out, edits.as_slice(), out),
         None => deliver_replacement(&from, &to, out),
     }

@@ -14,6 +14,7 @@ mod plan;
 mod play;
 mod program;
 mod script;
+mod short;
 mod show;
 
 pub use canon::canon_run;

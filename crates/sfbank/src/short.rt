@@ -1,0 +1,76 @@
+//! Which of two scripts is shorter, without writing them.
+ghost use Rattle.std.specs.Prelude.{◌≡◌, [], IsTrue, IfOk, IfSome, IsSomeAnd};
+ghost use Rattle.bank_text.specs.Whole.{Leads};
+
+use crate::deliver::put_edits;
+use bank_core::Bank;
+use bank_difference::difference;
+use bank_text::put_replacement;
+use edit_forms::Edit;
+use outputs::Output;
+use sf_base::OutOfMemory;
+use std::alloc::Global;
+use std::io;
+use std::io::{ErrorKind, Write};
+
+/// The edits that were found between two banks, if their script is not longer than the one that replaces the
+/// first bank by the second.
+pub(crate) fn short_difference<'a>(
+    alloc: Global,
+    from: &Bank<'a>,
+    to: &Bank<'a>,
+) -> Result<Option<Vec<Edit<'a>>>, OutOfMemory>
+    ensures found { IfOk result (λ answer. IfSome answer (λ edits. Leads from.now edits.items to.now)) }
+    ensures nothing { from.now ≡ to.now → IfOk result (λ answer. IsSomeAnd answer (λ edits. edits.items ≡ [])) }
+{
+    if let Some(edits) = difference(alloc, from, to)? {
+        if are_short(edits.as_slice(), from, to) {
+            return Ok(Some(edits));
+        }
+    }
+    Ok(None)
+}
+
+// Of the choice no more is proved than that no edits are short.
+fn are_short(edits: &[Edit<'_>], from: &Bank<'_>, to: &Bank<'_>) -> bool
+    ensures { edits.now ≡ [] → IsTrue result }
+{
+    edits.is_empty() || !replacement_fits(length_of(edits).saturating_sub(1), from, to)
+}
+
+/// Takes so many bytes, of which it holds none, and fails at the first piece that is longer than what is left.
+#[derive(Drop)]
+struct Room {
+    left: u64,
+}
+
+impl Write for Room {
+    fn write(&mut self, bytes: &[u8]) -> io::Result<usize> {
+        let count = bytes.len() as u64;
+        if count > self.left {
+            return Err(io::Error::from(ErrorKind::WriteZero));
+        }
+        self.left -= count;
+        Ok(bytes.len())
+    }
+
+    fn flush(&mut self) -> io::Result<()> {
+        Ok(())
+    }
+}
+
+// The length of the lines of edits.
+fn length_of(edits: &[Edit<'_>]) -> u64 {
+    let mut room = Room { left: u64::MAX };
+    let mut output = Output::to(&mut room);
+    put_edits(edits, &mut output);
+    output.end().unwrap_or(u64::MAX)
+}
+
+// Whether the script that replaces a bank has at most so many bytes.
+fn replacement_fits(most: u64, from: &Bank<'_>, to: &Bank<'_>) -> bool {
+    let mut room = Room { left: most };
+    let mut output = Output::to(&mut room);
+    put_replacement(from, to, &mut output);
+    output.end().is_ok()
+}
