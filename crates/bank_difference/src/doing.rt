@@ -66,10 +66,10 @@ fn take<'a>(alloc: Global, bank: &mut Bank<'a>, edit: Edit<'a>) -> Result<(), St
 }
 
 fn stop_of(why: Refusal) -> Stop {
-    match why {
-        Refusal::OutOfMemory => Stop::OutOfMemory,
-        _ => Stop::Refused,
+    if why == Refusal::OutOfMemory {
+        return Stop::OutOfMemory;
     }
+    Stop::Refused
 }
 
 // Puts an edit behind a list that has the memory for it.

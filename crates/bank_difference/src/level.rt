@@ -143,6 +143,15 @@ impl<'s, H: OwnerHead> Level<'s, H> {
         key
     }
 
+    /// The key of the targets of number `i`.
+    pub(crate) fn targets_key(&self, i: usize) -> u64 {
+        let mut key = NOTHING;
+        for k in 0..self.zone_count(i) {
+            key = with_number(key, self.target(i, k).into());
+        }
+        key
+    }
+
     /// The key of all that a zone has, behind another.
     pub(crate) fn zone_key(&self, key: u64, i: usize, k: usize) -> u64 {
         let key = with_number(key, self.target(i, k).into());
