@@ -17,6 +17,7 @@ mod script;
 mod short;
 mod show;
 
+pub use bank_text::SamplePoints;
 pub use canon::canon_run;
 pub use diff::diff_run;
 pub use edit::{edit_run, neutral_run};
