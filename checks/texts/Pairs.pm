@@ -14,7 +14,7 @@ our @EXPORT = qw(try_pairs try_counts);
 
 # How many pairs are of each kind at least, of 3,000; and how many of them have a difference of no more lines than the
 # edits that made the pair.
-my %floors = (edited => 1300, states => 500, files => 60, strangers => 250, short => 1000);
+my %floors = (edited => 1500, states => 500, files => 200, strangers => 250, short => 2000);
 
 # The banks, and those that scripts/make_edits can edit.
 my (@banks, @edited);
