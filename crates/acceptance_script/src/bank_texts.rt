@@ -96,7 +96,10 @@ const DIFFERENCES: [&[u8]; 18] = [
 fn differences(rt: HostRuntime) {
     let (alloc, layered) = (rt.alloc(), layered());
     for (row, script) in DIFFERENCES.iter().enumerate() {
-        assert!(rt; differs(alloc, layered.bytes(), script, script), "row {row}");
+        assert!(rt;
+            differs(alloc, layered.bytes(), script, script),
+            "row {row}"
+        );
     }
 }
 

@@ -100,7 +100,7 @@ resets_lines t =
     let e5 = reset_edits Date t.date in
     let e6 = reset_edits Name t.name in
     let e7 = reset_edits Engine t.engine in
-    ap (λ (r : List ℕ). texts_of e0 ++ (texts_of e1 ++ (texts_of e2 ++ (texts_of e3 ++ (texts_of e4 ++ (texts_of e5 ++ (texts_of e6 ++ r)))))))  (append-nil (texts_of e7))
+    ap (λ (r : List ℕ). texts_of e0 ++ (texts_of e1 ++ (texts_of e2 ++ (texts_of e3 ++ (texts_of e4 ++ (texts_of e5 ++ (texts_of e6 ++ r))))))) (append-nil (texts_of e7))
     ∙ sym (then_texts e0 _ _ (then_texts e1 _ _ (then_texts e2 _ _ (then_texts e3 _ _ (then_texts e4 _ _ (then_texts e5 _ _ (then_texts e6 e7 (texts_of e7) refl)))))))
 
 -- ---- all of them

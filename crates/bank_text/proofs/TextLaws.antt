@@ -88,7 +88,7 @@ texts_lines t =
     let e5 = text_edits Copyright t.copyright in
     let e6 = text_edits Comment t.comment in
     let e7 = text_edits Software t.software in
-    ap (λ (r : List ℕ). texts_of e0 ++ (texts_of e1 ++ (texts_of e2 ++ (texts_of e3 ++ (texts_of e4 ++ (texts_of e5 ++ (texts_of e6 ++ r)))))))  (append-nil (texts_of e7))
+    ap (λ (r : List ℕ). texts_of e0 ++ (texts_of e1 ++ (texts_of e2 ++ (texts_of e3 ++ (texts_of e4 ++ (texts_of e5 ++ (texts_of e6 ++ r))))))) (append-nil (texts_of e7))
     ∙ sym (then_texts e0 _ _ (then_texts e1 _ _ (then_texts e2 _ _ (then_texts e3 _ _ (then_texts e4 _ _ (then_texts e5 _ _ (then_texts e6 e7 (texts_of e7) refl)))))))
 
 -- ---- points

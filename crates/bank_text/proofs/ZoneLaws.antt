@@ -56,7 +56,7 @@ module _ {H : Type 0} (xs : List (WithZones H)) (i : ℕ) where
       let b : length x.global.mods ≡ mods = (let p = rw is at m in cc p) in
       let e : (len x.global.gens + length x.global.mods == 0) ≡ false = ne_eqb _ _ (λ z. omega (arith, a, b, some, z)) in
       let own : Puts c p q (spaced_out (items_operands (listed_items (map.entries x.global.gens) x.global.mods))) =
-          (let u : map.entries x.global.gens ≡ es = (let w = rw is at entries in cc w) in let v : x.global.mods ≡ ms = (let w = rw is at modulators in cc w) in rw (u, v) k) in
+      (let u : map.entries x.global.gens ≡ es = (let w = rw is at entries in cc w) in let v : x.global.mods ≡ ms = (let w = rw is at modulators in cc w) in rw (u, v) k) in
       rw is (puts_global x.global e h own)
 
   -- ---- the zones

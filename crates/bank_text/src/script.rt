@@ -42,11 +42,7 @@ fn put_first_line<W: Write>(points: SamplePoints, minor: u16, output: &mut Outpu
 }
 
 // The lines of the edits.
-pub(crate) fn put_parts<W: Write>(
-    bank: &Bank<'_>,
-    points: SamplePoints,
-    output: &mut Output<'_, W>,
-)
+pub(crate) fn put_parts<W: Write>(bank: &Bank<'_>, points: SamplePoints, output: &mut Output<'_, W>)
     ensures { Puts W.contents output.old output.new (texts_of (edits_of_bank (with_points points bank.now))) }
 {
     put_texts(bank, output);

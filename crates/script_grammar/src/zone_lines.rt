@@ -64,11 +64,7 @@ pub fn put_zone<W: Write>(zone: &Zone, output: &mut Output<'_, W>)
 
 /// Puts `ITEM* }`, each token behind a space: operators with their amounts, modulators, and the brace
 /// that closes them.
-pub fn put_items<W: Write>(
-    entries: &[(u16, u16)],
-    mods: &[Modulator],
-    output: &mut Output<'_, W>,
-)
+pub fn put_items<W: Write>(entries: &[(u16, u16)], mods: &[Modulator], output: &mut Output<'_, W>)
     ensures { Puts W.contents output.old output.new (flat_map spaced (pieces_of (items_operands (listed_items entries.now mods.now)))) }
 {
     put_generators(entries, output);

@@ -100,9 +100,9 @@ tells a b in_a in_b read_a read_b =
     let canon_a = canon_text a (bank_in a) _ (read_a, refl) in
     let canon_b = canon_text b (bank_in b) _ (read_b, refl) in (
       (λ e. let same : bank_script Kept (bank_in a) ≡ bank_script Kept (bank_in b) = cc in
-        canon_a ∙ ap (λ (c : Parts). Ok (canon c)) (text_tells (bank_in a) (bank_in b) s r same) ∙ sym canon_b),
+          canon_a ∙ ap (λ (c : Parts). Ok (canon c)) (text_tells (bank_in a) (bank_in b) s r same) ∙ sym canon_b),
       (λ e. let same : canon (bank_in a) ≡ canon (bank_in b) = cc in
-        script_a ∙ ap (λ (c : Parts). Ok (bank_script Kept c)) (told_by_canon (bank_in a) (bank_in b) s r same) ∙ sym script_b),
+          script_a ∙ ap (λ (c : Parts). Ok (bank_script Kept c)) (told_by_canon (bank_in a) (bank_in b) s r same) ∙ sym script_b),
     )
 
 pub remade_sounds : RemadeSounds

@@ -16,6 +16,7 @@ const NEUTRAL: &str = "neutral";
 
 /// The option of `new` that has the minor version, and that version where it isn't given.
 const MINOR: &str = "minor";
+
 const USUAL_MINOR: &str = "4";
 
 /// The flag of `script` by which the points of samples are left out.
@@ -299,7 +300,9 @@ fn no_points_flag<'a>(alloc: Global) -> Arg<'a> {
     Arg::new(alloc, NO_POINTS)
         .long(NO_POINTS)
         .action(ArgAction::SetTrue)
-        .help("Leaves the points of samples out, so that the script is short and makes silent samples")
+        .help(
+            "Leaves the points of samples out, so that the script is short and makes silent samples",
+        )
 }
 
 fn play_command<'a>(alloc: Global) -> Result<Command<'a>, AllocError> {

@@ -14,7 +14,12 @@ pub(crate) fn script<'a, R: Files + AllocGlobal>(
 ) -> Result<(), Fault<'a>> {
     let file = read_file(rt, paths.input)?;
     let mut out = OutputFile::new(rt, paths.out)?;
-    let run = script_run(rt.alloc(), file.as_slice(), points_of(paths.no_points), &mut out);
+    let run = script_run(
+        rt.alloc(),
+        file.as_slice(),
+        points_of(paths.no_points),
+        &mut out,
+    );
     match out.end(Which::Out, run) {
         Ok(()) => Ok(()),
         Err(fault) => Err(Fault::Run(fault, paths.out)),
