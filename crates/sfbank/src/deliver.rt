@@ -1,26 +1,28 @@
 //! Texts go out, each whole and flushed.
-ghost use Rattle.std.specs.Prelude.{◌≡◌};
+ghost use Rattle.std.specs.Prelude.{◌≡◌, Ok};
 ghost use Rattle.outputs.specs.Output.{Puts};
 ghost use Rattle.bank_format.specs.Canon.{canon};
 ghost use Rattle.bank_text.specs.Printed.{bank_script};
 ghost use Rattle.bank_text.specs.Whole.{edits_between};
 ghost use Rattle.bank_listing.specs.Listing.{listing};
+ghost use Rattle.bank_listing.specs.Details.{detailed_listing};
 ghost use Rattle.edit_script.specs.Printing.{texts_of};
 ghost use Rattle.wave_file.specs.Wave.{FitsWave, wave};
 ghost use Rattle.sfbank_program.specs.declared.run_fault.Which.TheVariants.{Out};
-ghost use Rattle.sfbank.specs.Written.{Delivers, GoesOut, IsTold};
+ghost use Rattle.sfbank.specs.Written.{Delivers, GoesOut, RunsAlone, IsTold};
 ghost use Rattle.sfbank.specs.Plans.{planned};
 
 use crate::plan::Plan;
 use bank_core::Bank;
 use bank_format::Counts;
-use bank_listing::put_listing;
+use bank_listing::{Details, put_details, put_listing};
 use bank_text::{SamplePoints, put_bank_text, put_replacement};
 use edit_forms::Edit;
 use edit_script::put_edit;
 use outputs::{Output, WriteFault};
 use sf_writer::put_bank;
 use sfbank_program::{RunFault, Which};
+use std::alloc::Global;
 use std::io::Write;
 use wave_file::put_wave;
 
@@ -58,6 +60,21 @@ pub(crate) fn deliver_listing<W: Write>(
 {
     let mut output = Output::to(out);
     put_listing(bank, counts, &mut output);
+    told(Which::Out, output.deliver())
+}
+
+/// The listing of a bank with details goes out. Where there is no memory to count uses, nothing does.
+pub(crate) fn deliver_details<W: Write>(
+    alloc: Global,
+    bank: &Bank<'_>,
+    counts: &Counts,
+    details: Details,
+    out: &mut W,
+) -> Result<(), RunFault>
+    ensures { RunsAlone (W.contents out.old) (W.contents out.new) (Ok (detailed_listing details bank.now counts.now)) result }
+{
+    let mut output = Output::to(out);
+    put_details(alloc, bank, counts, details, &mut output)?;
     told(Which::Out, output.deliver())
 }
 

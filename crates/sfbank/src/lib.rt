@@ -17,6 +17,7 @@ mod script;
 mod short;
 mod show;
 
+pub use bank_listing::Details;
 pub use bank_text::SamplePoints;
 pub use canon::canon_run;
 pub use diff::diff_run;
@@ -27,4 +28,4 @@ pub use play::play_run;
 pub use program::{run, run_with_arguments};
 pub use script::script_run;
 pub use sfbank_program::{RunFault, Which};
-pub use show::show_run;
+pub use show::{show_details_run, show_run};
