@@ -1,5 +1,5 @@
 -- A listing without details.
-use Rattle.std.proofs.Common.{◌≡◌, ◌++◌, ℕ, suc, false, List, [], ◌∷◌, None, refl, ap, codes}
+use Rattle.std.proofs.Common.{◌≡◌, ◌++◌, ℕ, suc, false, List, [], ◌∷◌, None, refl, codes}
 use Rattle.std.proofs.lemmas.List.{append-nil}
 use Rattle.bank_parts.specs.declared.parts.Sample.{Sample}
 use Rattle.bank_parts.specs.declared.parts.WithZones.{WithZones}

@@ -1,7 +1,6 @@
 -- The targets of zones, gathered one by one.
 use Rattle.std.proofs.Common.{◌≡◌, ◌≤◌, ◌<◌, ◌+◌, ◌++◌, ℕ, suc, List, [], ◌∷◌, length, map, drop, get_or, slice_get, Some, refl, sym, ap, ◌∙◌, arith, drop-cons, append_assoc}
 use Rattle.std.specs.Prelude.{IfSome}
-use Rattle.std.specs.List.{flat_map}
 use Rattle.std.proofs.lemmas.List.{drop_all, at_drop_more, append-nil}
 use Rattle.std.proofs.lemmas.Option.{get_or_from_slice_get}
 use Rattle.numbered_lists.proofs.Lists.{slice_get-found}

@@ -1,4 +1,3 @@
-use Rattle.std.proofs.Common.{refl}
 use Rattle.outputs.proofs.OutputLaws.{puts_as}
 use Rattle.bank_listing.proofs.PlainLaws.{plain}
 use Rattle.bank_listing.proofs.listing.put_listing.Goals as goal

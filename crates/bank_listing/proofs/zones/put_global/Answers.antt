@@ -1,5 +1,4 @@
-use Rattle.std.proofs.Common.{[], ◌∷◌, ◌+◌, ◌<◌, codes, arith}
-use Rattle.line_tokens.specs.declared.printing.Piece.TheVariants.{Number, Word}
+use Rattle.std.proofs.Common.{◌+◌, ◌<◌, arith}
 use Rattle.bank_listing.proofs.ZoneLaws.{puts_global_line}
 use Rattle.bank_listing.proofs.zones.put_global.Goals as goal
 use Rattle.bank_listing.proofs.zones.put_global.Goals.{then-gens-gt0-via-then-gens-gt0, then-gens-gt0-via-else-gens-gt0+then-mods-gt0}

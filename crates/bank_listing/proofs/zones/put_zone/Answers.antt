@@ -1,10 +1,7 @@
-use Rattle.std.proofs.Common.{[], ◌∷◌, ap, codes}
-use Rattle.std.specs.List.{flat_map}
+use Rattle.std.proofs.Common.{[], ◌∷◌, codes}
 use Rattle.std.proofs.lemmas.Option.{IfSome_then}
-use Rattle.outputs.proofs.OutputLaws.{puts_as}
 use Rattle.bank_parts.specs.Owners.{zone_at}
 use Rattle.line_tokens.specs.declared.printing.Piece.TheVariants.{Number, Word}
-use Rattle.line_tokens.specs.Printing.{spaced}
 use Rattle.script_grammar.specs.Operands.{pieces_of}
 use Rattle.script_grammar.specs.Zones.{zone_operands, written_zone}
 use Rattle.bank_listing.proofs.ZoneLaws.{puts_line_parts}
