@@ -1,8 +1,8 @@
 //! The generators and modulators of a place that differ.
 use crate::numbers::member_number;
-use crate::slices::{before, behind, common_back, common_front};
 use bank_core::{Owner, Place};
 use edit_forms::Step;
+use list_orders::{before, behind, common_back, common_front};
 use modulators::Modulator;
 use sf_base::OutOfMemory;
 

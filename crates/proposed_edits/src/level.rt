@@ -1,9 +1,9 @@
 //! The presets or the instruments of a bank, read as the other bank numbers what they target.
-use crate::hashing::{NOTHING, with_number};
 use crate::numbers::target_number;
 use bank_core::{Owners, ZonePlace};
 use bank_parts::{GlobalZone, OwnerHead, WithZones, Zone};
 use generators::GenMap;
+use list_orders::{NOTHING, with_number};
 use modulators::Modulator;
 use numbered_lists::NumberedList;
 use sf_base::OutOfMemory;
@@ -12,9 +12,9 @@ use std::alloc::Global;
 /// Presets or instruments, and the number that each target has in the bank that is edited; where none are
 /// given they are those that it has here.
 #[derive(Clone, Copy)]
-pub(crate) struct Level<'s, H: OwnerHead> {
-    pub(crate) owners: &'s Owners<H>,
-    pub(crate) targets: Option<&'s [usize]>,
+pub struct Level<'s, H: OwnerHead> {
+    pub owners: &'s Owners<H>,
+    pub targets: Option<&'s [usize]>,
 }
 
 impl<'s, H: OwnerHead> Level<'s, H> {

@@ -16,7 +16,7 @@ const IDS: [InfoId; 8] = [
 ];
 
 /// Steps that give the bank the other's texts.
-pub(crate) fn text_steps<'a>(
+pub fn text_steps<'a>(
     alloc: Global,
     now: &Bank<'a>,
     to: &Bank<'a>,
