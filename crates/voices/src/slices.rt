@@ -4,9 +4,9 @@ ghost use Rattle.sample_view.specs.Words.{words};
 ghost use Rattle.voices.specs.Place.{is_looping, place};
 ghost use Rattle.voices.specs.Points.{point_of};
 ghost use Rattle.zone_select.specs.Playable.{IsPlayable};
-ghost use Rattle.voices.specs.Runs.{IsStretch, limit, gone_on, pair_at, pair_says, straight};
+ghost use Rattle.voices.specs.Runs.{IsStretch, limit, pair_at, pair_says, straight};
 
-use crate::places::{frames_before, is_looping_at, place_at};
+use crate::places::{advanced, frames_before, is_looping_at};
 use crate::sampled::{interpolated, point_of_place};
 use sample_view::Points;
 use zone_select::VoiceParameters;
@@ -149,46 +149,32 @@ fn limit_of(v: &VoiceParameters, looping: bool) -> u32
     if looping { v.loop_end } else { v.end }
 }
 
-// Where a place has come after some frames.
-#[tactic(auto, using(crate::proofs::PlaceLemmas::wrapped_below, crate::proofs::PlaceLemmas::wrapped_above, crate::proofs::PlaceLemmas::short_way))]
-fn advanced(v: &VoiceParameters, looping: bool, x: u64, frames: usize) -> u64
-    requires loop_is { looping ≡ true → v.now.loop_start < v.now.loop_end }
-    requires steps { v.now.step ≤ 73043661 }
-    requires near { x < 2 ^ 48 }
-    requires few { frames ≤ 1024 }
-    ensures { result ≡ gone_on v.now looping (x + frames * v.now.step) }
-{
-    let next = x + frames as u64 * u64::from(v.step);
-    let to = 65536 * u64::from(v.loop_end);
-    if looping && to <= next {
-        let from = 65536 * u64::from(v.loop_start);
-        from + (next - from) % (to - from)
-    } else {
-        next
-    }
-}
-
-// What the sample says at each frame of a stretch, by way of pairs of points.
+// What the sample says at each frame of a stretch, the first of them at place `from`, by way of pairs of
+// points; answers the place of the frame behind them.
 pub(crate) fn fill_points(
     points: &Points,
     v: &VoiceParameters,
     t: u64,
+    from: u64,
     pairs: &mut [u32],
     run: &mut [i16],
-)
+) -> u64
     requires playable { IsPlayable (length points.now) v.now }
     requires one_way { IsStretch v.now t (length run.old) }
+    requires here { from ≡ place v.now t }
     requires short { length run.old ≤ 1024 }
     requires long { length pairs.old ≡ length run.old }
-    ensures { EachIndex run.new (λ k. slice_index_or run.new k (pos 0)
+    ensures points { EachIndex run.new (λ k. slice_index_or run.new k (pos 0)
         ≡ point_of points.now v.now (is_looping v.now (t + k)) (place v.now (t + k))) }
+    ensures there { result ≡ place v.now (t + length run.old) }
 {
     let looping = is_looping_at(v, t);
-    let mut x = place_at(v, t);
+    let mut x = from;
     let mut at = 0;
     while at < run.len() {
         let n = fill_front(points, v, looping, x, pairs, &mut run[at..]);
         x = advanced(v, looping, x, n);
         at += n;
     }
+    x
 }

@@ -6,8 +6,8 @@ ghost use Rattle.zone_select.specs.Playable.{IsPlayable};
 ghost use Rattle.voices.specs.Sound.{snd, after_frame};
 ghost use Rattle.voices.specs.Within.{AllWithin};
 
-use crate::frames::frame;
-use crate::places::is_over_at;
+use crate::frames::{frame, next_place};
+use crate::places::{Course, place_at};
 use crate::runs::add_run;
 use sample_view::Points;
 use std::marker::Model;
@@ -20,18 +20,20 @@ pub struct Voice<'a> {
     points: Points<'a>,
     parameters: VoiceParameters,
     age: u64,
+    course: Course,
 }
 
 impl<'a> Model for Voice<'a> {
     ghost use Rattle.std.specs.Prelude.{length};
     ghost use Rattle.zone_select.specs.Playable.{IsPlayable};
+    ghost use Rattle.voices.specs.Course.{IsCourse};
     ghost use Rattle.voices.specs.Sound.{Live};
 
     ghost Value = { Live };
 
     ghost view = { λ v. record { value = record { points = v.points; parameters = v.parameters }; age = v.age } };
 
-    ghost invariant = { λ v. IsPlayable (length v.points) v.parameters };
+    ghost invariant = { λ v. IsPlayable (length v.points) v.parameters × IsCourse v.parameters v.age v.course };
 }
 
 impl<'a> Voice<'a> {
@@ -40,10 +42,12 @@ impl<'a> Voice<'a> {
         requires { IsPlayable (length points) parameters }
         ensures { result ≡ record { value = record { points = points.entry; parameters = parameters }; age = 0 } }
     {
+        let course = Course::at(&parameters, 0, place_at(&parameters, 0));
         Voice {
             points,
             parameters,
             age: 0,
+            course,
         }
     }
 
@@ -52,7 +56,7 @@ impl<'a> Voice<'a> {
         ensures value { result ≡ is_over self.now.value.parameters self.now.age }
         ensures young { OnFalse result (self.now.age < 2 ^ 33) }
     {
-        is_over_at(&self.parameters, self.age)
+        self.course.over
     }
 
     /// The exclusive class of the voice's zones; 0 for none.
@@ -71,10 +75,14 @@ impl<'a> Voice<'a> {
         ensures right_fits { (negsuc 32767 ≤ℤ result.1) × (result.1 ≤ℤ pos 32767) }
         ensures live { self.new ≡ after_frame self.old }
     {
-        let sides = frame(&self.points, &self.parameters, self.age);
-        if !self.done() {
-            self.age += 1;
+        if self.course.over {
+            return (0, 0);
         }
+        let place = self.course.place;
+        let sides = frame(&self.points, &self.parameters, self.age, place);
+        let next = next_place(&self.points, &self.parameters, self.age, place);
+        self.age += 1;
+        self.course = Course::at(&self.parameters, self.age, next);
         sides
     }
 
@@ -89,7 +97,7 @@ impl<'a> Voice<'a> {
         ensures room { (j : ℕ) → AllWithin j sums.old → AllWithin (j + 1) sums.new }
         ensures live { self.new ≡ record { value = self.old.value; age = self.old.age + length sums.old / 2 } }
     {
-        add_run(&self.points, &self.parameters, self.age, sums);
+        self.course = add_run(&self.points, &self.parameters, self.age, self.course, sums);
         self.age += sums.len() as u64 / 2;
     }
 }

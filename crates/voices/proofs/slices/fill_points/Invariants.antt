@@ -6,7 +6,7 @@ use Rattle.voices.proofs.slices.fill_points.Given as goal
 abbrev pub invariant-loop-at : goal.invariant-loop-at
 invariant-loop-at l = record {
   within : l.at ≤ length l.run;
-  here : l.at < length l.run → l.x ≡ place l.v (l.t + l.at);
+  here : l.x ≡ place l.v (l.t + l.at);
   done : (k : ℕ) → k < l.at → get_or l.run k (pos 0) ≡ point_of l.points l.v (is_looping l.v (l.t + k)) (place l.v (l.t + k));
 }
 
