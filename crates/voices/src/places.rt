@@ -1,7 +1,6 @@
 //! Where a voice reads its sample.
 ghost use Rattle.std.specs.Prelude.{◌≡◌, ◌+◌, ◌≤◌, ◌<◌, ◌^◌, ◌*◌, ℕ, true, false};
 ghost use Rattle.voices.specs.Place.{looped_place, place, is_looping, is_over};
-ghost use Rattle.voices.specs.Course.{IsCourse};
 ghost use Rattle.voices.specs.Runs.{gone_on};
 
 use zone_select::VoiceParameters;
@@ -54,7 +53,7 @@ pub(crate) fn place_at(v: &VoiceParameters, t: u64) -> u64
 }
 
 // Whether the voice is over at frame `t`, whose place is `x`.
-fn is_over_by(v: &VoiceParameters, t: u64, x: u64) -> bool
+pub(crate) fn is_over_by(v: &VoiceParameters, t: u64, x: u64) -> bool
     requires here { x ≡ place v.now t }
     ensures value { result ≡ is_over v.now t }
     ensures young { result ≡ false → t + 1 < 2 ^ 33 }
@@ -64,28 +63,6 @@ fn is_over_by(v: &VoiceParameters, t: u64, x: u64) -> bool
         return true;
     }
     !is_looping_at(v, t) && 65536 * u64::from(v.end) <= x
-}
-
-// What a voice keeps of the frame that comes next, so that it is not found anew.
-#[derive(Debug, Clone, Copy, PartialEq, Eq)]
-pub(crate) struct Course {
-    // Whether the voice is over.
-    pub(crate) over: bool,
-    // The place, unless it is over.
-    pub(crate) place: u64,
-}
-
-impl Course {
-    // That of frame `t`, whose place is `x`.
-    pub(crate) fn at(v: &VoiceParameters, t: u64, x: u64) -> Course
-        requires here { x ≡ place v.now t }
-        ensures { IsCourse v.now t result }
-    {
-        Course {
-            over: is_over_by(v, t, x),
-            place: x,
-        }
-    }
 }
 
 // Where a place has come after some frames.

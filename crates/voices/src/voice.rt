@@ -6,8 +6,8 @@ ghost use Rattle.zone_select.specs.Playable.{IsPlayable};
 ghost use Rattle.voices.specs.Sound.{snd, after_frame};
 ghost use Rattle.voices.specs.Within.{AllWithin};
 
+use crate::courses::Course;
 use crate::frames::{frame, next_place};
-use crate::places::{Course, place_at};
 use crate::runs::add_run;
 use sample_view::Points;
 use std::marker::Model;
@@ -20,7 +20,7 @@ pub struct Voice<'a> {
     points: Points<'a>,
     parameters: VoiceParameters,
     age: u64,
-    course: Course,
+    course: Course<'a>,
 }
 
 impl<'a> Model for Voice<'a> {
@@ -33,7 +33,7 @@ impl<'a> Model for Voice<'a> {
 
     ghost view = { λ v. record { value = record { points = v.points; parameters = v.parameters }; age = v.age } };
 
-    ghost invariant = { λ v. IsPlayable (length v.points) v.parameters × IsCourse v.parameters v.age v.course };
+    ghost invariant = { λ v. IsPlayable (length v.points) v.parameters × IsCourse v.points v.parameters v.age v.course };
 }
 
 impl<'a> Voice<'a> {
@@ -42,7 +42,7 @@ impl<'a> Voice<'a> {
         requires { IsPlayable (length points) parameters }
         ensures { result ≡ record { value = record { points = points.entry; parameters = parameters }; age = 0 } }
     {
-        let course = Course::at(&parameters, 0, place_at(&parameters, 0));
+        let course = Course::start(&parameters);
         Voice {
             points,
             parameters,
@@ -68,6 +68,7 @@ impl<'a> Voice<'a> {
 
     /// The next frame, left and right, each from -32768 to 32767. A voice that is over gives silence
     /// and counts no more.
+    #[tactic(auto, using(crate::proofs::OverLemmas::even_later))]
     pub fn next_frame(&mut self) -> (i32, i32)
         ensures left { result.0 ≡ snd self.old.value true self.old.age }
         ensures right { result.1 ≡ snd self.old.value false self.old.age }
@@ -75,14 +76,14 @@ impl<'a> Voice<'a> {
         ensures right_fits { (negsuc 32767 ≤ℤ result.1) × (result.1 ≤ℤ pos 32767) }
         ensures live { self.new ≡ after_frame self.old }
     {
-        if self.course.over {
+        let course = self.course;
+        if course.over {
             return (0, 0);
         }
-        let place = self.course.place;
-        let sides = frame(&self.points, &self.parameters, self.age, place);
-        let next = next_place(&self.points, &self.parameters, self.age, place);
+        let sides = frame(&self.points, &self.parameters, self.age, course.place);
+        let next = next_place(&self.points, &self.parameters, self.age, course.place);
         self.age += 1;
-        self.course = Course::at(&self.parameters, self.age, next);
+        self.course = course.later(&self.parameters, self.age, next, course.level);
         sides
     }
 

@@ -20,7 +20,7 @@ fill_front-n-requires-clause-near c =
 pub loop-at-preserved : goal.loop-at-preserved
 loop-at-preserved c =
     let at = c.loop-at.at in
-    let n = c.fill_front-n.result in
+    let n = c.fill_front-n.result.0 in
     let v = c.args.v.now in
     let t = c.args.t in
     let xs = c.loop-at.run in
@@ -44,6 +44,7 @@ loop-at-preserved c =
     let long : length (borrow.Rule.Slice.PartMut.put_mid at (length xs - at) xs new) ≡ length xs = grind (arith, common_steps) in
     record {
       within = omega (arith, part, long, inside);
+      in_hand = c.fill_front-n.ensures.in_hand;
       here = c.advanced-x.ensures ∙ sym (gone n (omega arith));
       done = below_front (pos 0) (λ k y. y ≡ point_of c.args.points.now v (is_looping v (t + k)) (place v (t + k))) xs new at m n (omega arith) len part
           c.loop-at.invariant.done
