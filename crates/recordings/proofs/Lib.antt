@@ -1,0 +1,4 @@
+pub mod StepLaws
+pub mod ReadLaws
+pub mod ImportLemmas
+pub mod FitLaws
