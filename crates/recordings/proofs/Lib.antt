@@ -2,3 +2,4 @@ pub mod StepLaws
 pub mod ReadLaws
 pub mod ImportLemmas
 pub mod FitLaws
+pub mod BackLaws
