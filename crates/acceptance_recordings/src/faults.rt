@@ -36,7 +36,10 @@ const FAULTS: [(usize, u8, &[u8]); 13] = [
 fn each_fault(rt: HostRuntime) {
     let (alloc, wave) = (rt.alloc(), tone_wave());
     for (row, (at, byte, end)) in FAULTS.iter().enumerate() {
-        assert!(rt; refuses(alloc, wave.patched(&[(*at, *byte)]).bytes(), end), "row {row}");
+        assert!(rt;
+            refuses(alloc, wave.patched(&[(*at, *byte)]).bytes(), end),
+            "row {row}"
+        );
     }
     assert!(rt; refuses(alloc, b"RIFF", b"sfbank: wave fault 54 Truncated\n"));
 }

@@ -49,7 +49,15 @@ add-sample 2 \"eighteen bytes are R\" 44100 60 0 right 1 noloop x03000400
 set-kind 1 left 2
 ";
     let back = b"set-kind 1 mono\nremove-sample 2\nremove-sample 1\n";
-    assert!(rt; imports(rt.alloc(), &stereo(), b"eighteen bytes are few", script, back));
+    assert!(rt;
+        imports(
+            rt.alloc(),
+            &stereo(),
+            b"eighteen bytes are few",
+            script,
+            back
+        )
+    );
 }
 
 /// One point in the extensible format, with an unknown chunk and a sampler chunk of another program: a fraction of 0.7,
@@ -67,5 +75,13 @@ fn other_program() -> File {
 #[test]
 fn files_of_other_programs(rt: HostRuntime) {
     let script = b"add-sample 1 \"o\" 22050 58 30 mono loop 0 1 x0100\n";
-    assert!(rt; imports(rt.alloc(), &other_program(), b"o", script, b"remove-sample 1\n"));
+    assert!(rt;
+        imports(
+            rt.alloc(),
+            &other_program(),
+            b"o",
+            script,
+            b"remove-sample 1\n"
+        )
+    );
 }

@@ -43,7 +43,13 @@ fn refuses(alloc: Global, file: &[u8], line: &[u8]) -> bool {
 
 #[test]
 fn no_such_sample(rt: HostRuntime) {
-    assert!(rt; refuses(rt.alloc(), tone().bytes(), b"sfbank: refused 22 NoSuchSample\n"));
+    assert!(rt;
+        refuses(
+            rt.alloc(),
+            tone().bytes(),
+            b"sfbank: refused 22 NoSuchSample\n"
+        )
+    );
 }
 
 /// Keys and corrections, and the bytes of unity note, fraction, key and correction.

@@ -167,6 +167,10 @@ format_back : (rate : ℕ) → rate < 2 ^ 32 → format_in (mono_format rate) �
 unfolding mono_format
 format_back rate lt = let e = little_number-reads_back 4 rate (drop 8 (mono_format rate)) lt in λ i. record { layout = layout.Mono; rate = e i }
 
+mono_layout : (rate : ℕ) → layout_in (mono_format rate) ≡ layout.Mono
+unfolding mono_format
+mono_layout rate = refl
+
 module _ (s : Sample) (f : FitsSample s) (l : IsLoop (length s.points) s.looped) (most : length s.points ≤ POINTS) where
   abbrev form : List ℕ
   form = WAVE ++ spell (sample_chunks s)
@@ -182,7 +186,7 @@ module _ (s : Sample) (f : FitsSample s) (l : IsLoop (length s.points) s.looped)
       let b = length-sampler s in
       let c = loop_count_small s.looped in
       let d = length-word_bytes s.points in
-      (record { id = ids.2; body = omega (arith, a) }, record { id = ids.3; body = omega (arith, b, c) }, record { id = ids.4; body = omega (arith, d, most) }, tt)
+      (record { id = ids.2; body = omega (arith, a) }, (record { id = ids.3; body = omega (arith, b, c) }, (record { id = ids.4; body = omega (arith, d, most) }, tt)))
 
   wave_is : sample_wave s ≡ chunk_head RIFF (length form) ++ (form ++ pad (length form))
   unfolding sample_wave
@@ -257,11 +261,7 @@ module _ (s : Sample) (f : FitsSample s) (l : IsLoop (length s.points) s.looped)
   data_holds = let even : eqb (length points % 2) 0 ≡ true = eq-eqb _ _ (let a = length-word_bytes s.points in omega (arith, a)) in rw even refl
 
   layout_is : layout_in (body_in FORMAT (sample_chunks s)) ≡ layout.Mono
-  layout_is = ap layout_in format_found ∙ mono_layout
-    where
-      mono_layout : layout_in (mono_format s.rate) ≡ layout.Mono
-      unfolding mono_format
-      mono_layout = refl
+  layout_is = ap layout_in format_found ∙ mono_layout s.rate
 
   channels_are : channels_in (layout_in (body_in FORMAT (sample_chunks s))) (body_in DATA (sample_chunks s)) ≡ Mono s.points
   channels_are = (λ i. channels_in (layout_is i) (unwrap_or (data_found i) [])) ∙ channels_back

@@ -197,7 +197,7 @@ pair_fits n left right most l r = by_test (ltb n SAMPLES) refl
         → AllByRecursion FitsEdit (cond b (add_edit n left ∷ add_edit (n + 1) right ∷ One (SetKind n (kind.Left (n + 1))) ∷ []) (add_edit n left ∷ []))
     by_test true e =
         let lt = ltb-true n SAMPLES e in
-        ((omega (arith, most), l), (omega (arith, most), r), (omega (arith, most), omega (arith, lt)), tt)
+        ((omega (arith, most), l), ((omega (arith, most), r), ((omega (arith, most), omega (arith, lt)), tt)))
     by_test false e = ((omega (arith, most), l), tt)
 
 name_fits : (name side : List ℕ) → AreBytes name → length side ≡ 2 → AllByRecursion IsTextByte side → IsName (side_name name side)
@@ -208,8 +208,8 @@ channels_edits_fit : (n : ℕ) (name : List ℕ) (rate : ℕ) (sampler : Sampler
 channels_edits_fit n name rate sampler (Mono points) most b r s p =
     ((omega (arith, most), sample_fits rate sampler (mono_name name) points kind.Mono r s (cut_text 20 name b) p tt), tt)
 channels_edits_fit n name rate sampler (Stereo frames) most b r s p =
-    let left = name_fits name (codes " L") b refl ((omega arith, omega arith), (omega arith, omega arith), tt) in
-    let right = name_fits name (codes " R") b refl ((omega arith, omega arith), (omega arith, omega arith), tt) in
+    let left = name_fits name (codes " L") b refl ((omega arith, omega arith), ((omega arith, omega arith), tt)) in
+    let right = name_fits name (codes " R") b refl ((omega arith, omega arith), ((omega arith, omega arith), tt)) in
     pair_fits n _ _ most
     (sample_fits rate sampler (side_name name (codes " L")) (left_points frames) kind.Mono r s left p.0 tt)
     (sample_fits rate sampler (side_name name (codes " R")) (right_points frames) (kind.Right n) r s right p.1 (omega (arith, most)))

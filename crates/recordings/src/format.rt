@@ -43,8 +43,14 @@ pub(crate) fn read_format(format: &[u8]) -> Result<Format, WaveFault>
     }
     let rate = u32_at(format, 4);
     match u16_at(format, 2) {
-        1 => Ok(Format { layout: Layout::Mono, rate }),
-        2 => Ok(Format { layout: Layout::Stereo, rate }),
+        1 => Ok(Format {
+            layout: Layout::Mono,
+            rate,
+        }),
+        2 => Ok(Format {
+            layout: Layout::Stereo,
+            rate,
+        }),
         _ => Err(WaveFault::ChannelCount),
     }
 }

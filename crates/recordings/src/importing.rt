@@ -18,6 +18,7 @@ use std::alloc::Global;
 
 /// What stands behind the name of a left sample and of a right one.
 const LEFT: &[u8; 2] = b" L";
+
 const RIGHT: &[u8; 2] = b" R";
 
 /// The bytes of a name before its side, at most.

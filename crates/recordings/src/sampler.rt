@@ -92,10 +92,7 @@ fn forward_loop(chunk: &[u8]) -> Option<SamplerLoop>
 }
 
 // The ends of a loop, which has to lie among so many frames.
-fn read_loop(
-    found: Option<SamplerLoop>,
-    frames: usize,
-) -> Result<Option<(u32, u32)>, WaveFault>
+fn read_loop(found: Option<SamplerLoop>, frames: usize) -> Result<Option<(u32, u32)>, WaveFault>
     ensures { Passes (λ looped. looped) result (loop_steps frames found) (option_map ends_of found) }
 {
     let Some(found) = found else {

@@ -83,10 +83,7 @@ fn plan_of<'a>(
 }
 
 // Edits on lines in a row, the first on line 1.
-fn numbered_lines<'a>(
-    alloc: Global,
-    edits: Vec<Edit<'a>>,
-) -> Result<Vec<Line<'a>>, OutOfMemory>
+fn numbered_lines<'a>(alloc: Global, edits: Vec<Edit<'a>>) -> Result<Vec<Line<'a>>, OutOfMemory>
     requires { length edits.items ≤ 3 }
     ensures { IfOk result (λ lines. lines.items ≡ numbered 1 edits.entry.items) }
 {
