@@ -16,3 +16,4 @@ pub mod Plans
 pub mod NewBanks
 pub mod BankScripts
 pub mod Differences
+pub mod Recordings

@@ -1,5 +1,5 @@
 //! Texts go out, each whole and flushed.
-ghost use Rattle.std.specs.Prelude.{◌≡◌, Ok};
+ghost use Rattle.std.specs.Prelude.{◌≡◌, ◌≤◌, Ok, length};
 ghost use Rattle.outputs.specs.Output.{Puts};
 ghost use Rattle.bank_format.specs.Canon.{canon};
 ghost use Rattle.bank_text.specs.Printed.{bank_script};
@@ -7,13 +7,15 @@ ghost use Rattle.bank_text.specs.Whole.{edits_between};
 ghost use Rattle.bank_listing.specs.Listing.{listing};
 ghost use Rattle.bank_listing.specs.Details.{detailed_listing};
 ghost use Rattle.edit_script.specs.Printing.{texts_of};
+ghost use Rattle.sf_base.specs.declared.limits.TheConstants.{POINTS};
+ghost use Rattle.wave_file.specs.SampleWave.{sample_wave};
 ghost use Rattle.wave_file.specs.Wave.{FitsWave, wave};
 ghost use Rattle.sfbank_program.specs.declared.run_fault.Which.TheVariants.{Out};
 ghost use Rattle.sfbank.specs.Written.{Delivers, GoesOut, RunsAlone, IsTold};
 ghost use Rattle.sfbank.specs.Plans.{planned};
 
 use crate::plan::Plan;
-use bank_core::Bank;
+use bank_core::{Bank, Sample};
 use bank_format::Counts;
 use bank_listing::{Details, put_details, put_listing};
 use bank_text::{SamplePoints, put_bank_text, put_replacement};
@@ -24,7 +26,7 @@ use sf_writer::put_bank;
 use sfbank_program::{RunFault, Which};
 use std::alloc::Global;
 use std::io::Write;
-use wave_file::put_wave;
+use wave_file::{put_sample_wave, put_wave};
 
 /// The bank's file goes out, and then the undo text. It takes no memory.
 pub(crate) fn deliver<W: Write, V: Write>(
@@ -87,6 +89,17 @@ pub(crate) fn deliver_wave<W: Write>(frames: &[i16], out: &mut W) -> Result<(), 
 {
     let mut output = Output::to(out);
     put_wave(frames, &mut output);
+    told(Which::Out, output.deliver())
+}
+
+/// The WAVE file of a sample goes out. It takes no memory.
+#[tactic(auto, using(crate::proofs::Texts::text_goes_out))]
+pub(crate) fn deliver_sample<W: Write>(sample: &Sample<'_>, out: &mut W) -> Result<(), RunFault>
+    requires { length sample.now.points ≤ POINTS }
+    ensures { GoesOut Out (W.contents out.old) (W.contents out.new) (sample_wave sample.now) result }
+{
+    let mut output = Output::to(out);
+    put_sample_wave(sample, &mut output);
     told(Which::Out, output.deliver())
 }
 
