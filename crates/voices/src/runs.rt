@@ -77,6 +77,18 @@ fn quieten(levels: &[u32], loudness: u32, run: &mut [i16])
     }
 }
 
+// Makes each point as loud as one level and one gain.
+fn quieten_evenly(level: u32, loudness: u32, run: &mut [i16])
+    requires most { level ≤ 65536 }
+    requires gain { loudness ≤ 65536 }
+    ensures { EachIndex run.new (λ k. slice_index_or run.new k (pos 0)
+        ≡ scaled_by (scaled_by (slice_index_or run.old k (pos 0)) level) loudness) }
+{
+    for i in 0..run.len() {
+        run[i] = louder(louder(i32::from(run[i]), level), loudness) as i16;
+    }
+}
+
 fn empty_words<const N: usize>() -> [u32; N]
     ensures { length result ≡ N }
 {
@@ -90,7 +102,7 @@ fn silent_points<const N: usize>() -> [i16; N]
 }
 
 // Makes the points of a stretch as loud as the voice is, from the level in hand on; answers the level that is
-// in hand behind it.
+// in hand behind it. A level that outlasts the stretch needs no list of levels.
 fn soften(
     v: &VoiceParameters,
     t: u64,
@@ -107,7 +119,13 @@ fn soften(
         ≡ scaled_by (scaled_by (slice_index_or run.old k (pos 0)) (envelope v.now (t + k))) (gain_of v.now.attenuation)) }
     ensures in_hand { IsEven (envelope v.now) (t + length run.old) result }
 {
-    let level = fill_levels(v, t, course.level, course.at_end, levels);
+    let even = course.level;
+    let n = run.len() as u64;
+    if t + n < even.until {
+        quieten_evenly(even.loud, course.loudness, run);
+        return even;
+    }
+    let level = fill_levels(v, t, even, course.at_end, levels);
     quieten(levels, course.loudness, run);
     level
 }
