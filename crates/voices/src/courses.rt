@@ -48,19 +48,24 @@ impl<'a> Course<'a> {
         }
     }
 
-    // That of a later frame `t`, whose place is `x`.
-    pub(crate) fn later(self, v: &VoiceParameters, t: u64, x: u64, level: Level) -> Course<'a>
+    // Goes on to a later frame `t`, whose place is `x`.
+    pub(crate) fn go_on(
+        &mut self,
+        v: &VoiceParameters,
+        t: u64,
+        x: u64,
+        level: Level,
+        slice: Slice<'a>,
+    )
         requires here { x ≡ place v.now t }
         requires level { IsEven (envelope v.now) t level }
-        requires at_end { (self.at_end ≡ held v.now v.now.length) × (self.at_end ≤ 65536) }
-        requires loudness { (self.loudness ≡ gain_of v.now.attenuation) × (self.loudness ≤ 65536) }
-        ensures { (points : List ℕ) → IsInHand points self.entry.slice → IsCourse points v.now t result }
+        requires at_end { (self.old.at_end ≡ held v.now v.now.length) × (self.old.at_end ≤ 65536) }
+        requires loudness { (self.old.loudness ≡ gain_of v.now.attenuation) × (self.old.loudness ≤ 65536) }
+        ensures { (points : List ℕ) → IsInHand points slice.entry → IsCourse points v.now t self.new }
     {
-        Course {
-            over: is_over_by(v, t, x),
-            place: x,
-            level,
-            ..self
-        }
+        self.over = is_over_by(v, t, x);
+        self.place = x;
+        self.level = level;
+        self.slice = slice;
     }
 }

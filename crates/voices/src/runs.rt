@@ -23,9 +23,11 @@ use zone_select::VoiceParameters;
 // The most frames of a stretch.
 const LONGEST: usize = 1024;
 
-// The most frames of a stretch that has small buffers, as in the short blocks of live play: a buffer is
-// cleared before it is used, however little of it is.
+// The most frames of a stretch that has small buffers, and of one that has smaller ones, as in the short
+// blocks of live play: a buffer is cleared before it is used, however little of it is.
 const SHORT: usize = 64;
+
+const SHORTEST: usize = 32;
 
 // How many frames from `t` on, at most `most`, are heard in one way: the note's end ends a stretch. The
 // place of the first is `x`.
@@ -77,6 +79,18 @@ fn quieten(levels: &[u32], loudness: u32, run: &mut [i16])
     }
 }
 
+// Makes each point as loud as one level and one gain.
+fn quieten_evenly(level: u32, loudness: u32, run: &mut [i16])
+    requires most { level ≤ 65536 }
+    requires gain { loudness ≤ 65536 }
+    ensures { EachIndex run.new (λ k. slice_index_or run.new k (pos 0)
+        ≡ scaled_by (scaled_by (slice_index_or run.old k (pos 0)) level) loudness) }
+{
+    for i in 0..run.len() {
+        run[i] = louder(louder(i32::from(run[i]), level), loudness) as i16;
+    }
+}
+
 fn empty_words<const N: usize>() -> [u32; N]
     ensures { length result ≡ N }
 {
@@ -90,7 +104,8 @@ fn silent_points<const N: usize>() -> [i16; N]
 }
 
 // Makes the points of a stretch as loud as the voice is, from the level in hand on; answers the level that is
-// in hand behind it.
+// in hand behind it. A level that outlasts the stretch needs no list of levels.
+#[tactic(auto, using(crate::proofs::OverLemmas::even_later))]
 fn soften(
     v: &VoiceParameters,
     t: u64,
@@ -107,36 +122,42 @@ fn soften(
         ≡ scaled_by (scaled_by (slice_index_or run.old k (pos 0)) (envelope v.now (t + k))) (gain_of v.now.attenuation)) }
     ensures in_hand { IsEven (envelope v.now) (t + length run.old) result }
 {
-    let level = fill_levels(v, t, course.level, course.at_end, levels);
+    let even = course.level;
+    let end = t + run.len() as u64;
+    if end < even.until {
+        quieten_evenly(even.loud, course.loudness, run);
+        return even;
+    }
+    let level = fill_levels(v, t, even, course.at_end, levels);
     quieten(levels, course.loudness, run);
     level
 }
 
 // The frames of a stretch before they are parted, by way of a word for each: the points around its place
-// first, and then its level. One buffer serves both, for a second would have to be cleared as well. Answers
-// the course of the frame behind the last.
+// first, and then its level. One buffer serves both, for a second would have to be cleared as well. The course
+// of the first frame goes on to that behind the last.
 fn fill_sounds<'a>(
     points: &Points<'a>,
     v: &VoiceParameters,
     t: u64,
-    course: Course<'a>,
+    course: &mut Course<'a>,
     words: &mut [u32],
     run: &mut [i16],
-) -> Course<'a>
+)
     requires long { length words.old ≡ length run.old }
     requires playable { IsPlayable (length points.now) v.now }
     requires one_way { IsStretch v.now t (length run.old) }
-    requires course { IsCourse points.now v.now t course }
-    requires heard { course.over ≡ false }
+    requires course { IsCourse points.now v.now t course.old }
+    requires heard { course.old.over ≡ false }
     requires short { length run.old ≤ 1024 }
     ensures sounds { EachIndex run.new (λ k. slice_index_or run.new k (pos 0)
         ≡ sound_at (record { points = points.now; parameters = v.now }) (t + k)) }
-    ensures course { IsCourse points.now v.now (t + length run.old) result }
+    ensures course { IsCourse points.now v.now (t + length run.old) course.new }
 {
     let n = run.len() as u64;
     let (next, slice) = fill_points(points, v, t, course.place, course.slice, words, run);
-    let level = soften(v, t, course, words, run);
-    Course { slice, ..course }.later(v, t + n, next, level)
+    let level = soften(v, t, *course, words, run);
+    course.go_on(v, t + n, next, level, slice);
 }
 
 // The sides of a frame, whose sums stand in turn.
@@ -204,33 +225,32 @@ fn add_sides(run: &[i16], left: u32, right: u32, sums: &mut [i32])
     }
 }
 
-// Adds the frames of a stretch, by way of as many words and points. As all that add a stretch it asks for
-// the course of the first frame, and answers that of the frame behind the last.
+// Adds the frames of a stretch, by way of as many words and points. As in all that add a stretch
+// the course of its first frame goes on to that behind the last.
 fn add_sounds<'a>(
     points: &Points<'a>,
     v: &VoiceParameters,
     t: u64,
-    course: Course<'a>,
+    course: &mut Course<'a>,
     words: &mut [u32],
     run: &mut [i16],
     sums: &mut [i32],
-) -> Course<'a>
+)
     requires playable { IsPlayable (length points.now) v.now }
     requires long { length sums.old ≡ 2 * length run.old }
     requires words { length words.old ≡ length run.old }
     requires one_way { IsStretch v.now t (length run.old) }
-    requires course { IsCourse points.now v.now t course }
-    requires heard { course.over ≡ false }
+    requires course { IsCourse points.now v.now t course.old }
+    requires heard { course.old.over ≡ false }
     requires short { length run.old ≤ 1024 }
     requires room { AllWithin 65534 sums.old }
     ensures sums { EachIndex sums.new (λ i. IsAdded (slice_index_or sums.old i (pos 0))
         (snd (record { points = points.now; parameters = v.now }) (nat_eq (i % 2) 0) (t + i / 2))
         (slice_index_or sums.new i (pos 0))) }
-    ensures course { IsCourse points.now v.now (t + length run.old) result }
+    ensures course { IsCourse points.now v.now (t + length run.old) course.new }
 {
-    let next = fill_sounds(points, v, t, course, words, run);
+    fill_sounds(points, v, t, course, words, run);
     add_sides(run, left_part(v), right_part(v), sums);
-    next
 }
 
 // Adds the frames of a stretch, by way of buffers for N frames.
@@ -238,26 +258,26 @@ fn add_by_buffers<'a, const N: usize>(
     points: &Points<'a>,
     v: &VoiceParameters,
     t: u64,
-    course: Course<'a>,
+    course: &mut Course<'a>,
     sums: &mut [i32],
-) -> Course<'a>
+)
     requires playable { IsPlayable (length points.now) v.now }
     requires even { length sums.old % 2 ≡ 0 }
     requires one_way { IsStretch v.now t (length sums.old / 2) }
-    requires course { IsCourse points.now v.now t course }
-    requires heard { course.over ≡ false }
+    requires course { IsCourse points.now v.now t course.old }
+    requires heard { course.old.over ≡ false }
     requires few { N ≤ 1024 }
     requires short { length sums.old ≤ 2 * N }
     requires room { AllWithin 65534 sums.old }
     ensures sums { EachIndex sums.new (λ i. IsAdded (slice_index_or sums.old i (pos 0))
         (snd (record { points = points.now; parameters = v.now }) (nat_eq (i % 2) 0) (t + i / 2))
         (slice_index_or sums.new i (pos 0))) }
-    ensures course { IsCourse points.now v.now (t + length sums.old / 2) result }
+    ensures course { IsCourse points.now v.now (t + length sums.old / 2) course.new }
 {
     let mut words: [u32; N] = empty_words();
     let mut run: [i16; N] = silent_points();
     let n = sums.len() / 2;
-    add_sounds(points, v, t, course, &mut words[..n], &mut run[..n], sums)
+    add_sounds(points, v, t, course, &mut words[..n], &mut run[..n], sums);
 }
 
 // Adds the frames of a stretch.
@@ -265,57 +285,57 @@ fn add_stretch<'a>(
     points: &Points<'a>,
     v: &VoiceParameters,
     t: u64,
-    course: Course<'a>,
+    course: &mut Course<'a>,
     sums: &mut [i32],
-) -> Course<'a>
+)
     requires playable { IsPlayable (length points.now) v.now }
     requires even { length sums.old % 2 ≡ 0 }
     requires one_way { IsStretch v.now t (length sums.old / 2) }
-    requires course { IsCourse points.now v.now t course }
-    requires heard { course.over ≡ false }
+    requires course { IsCourse points.now v.now t course.old }
+    requires heard { course.old.over ≡ false }
     requires short { length sums.old ≤ 2048 }
     requires room { AllWithin 65534 sums.old }
     ensures sums { EachIndex sums.new (λ i. IsAdded (slice_index_or sums.old i (pos 0))
         (snd (record { points = points.now; parameters = v.now }) (nat_eq (i % 2) 0) (t + i / 2))
         (slice_index_or sums.new i (pos 0))) }
-    ensures course { IsCourse points.now v.now (t + length sums.old / 2) result }
+    ensures course { IsCourse points.now v.now (t + length sums.old / 2) course.new }
 {
-    if sums.len() <= 2 * SHORT {
-        add_by_buffers::<SHORT>(points, v, t, course, sums)
+    if sums.len() <= 2 * SHORTEST {
+        add_by_buffers::<SHORTEST>(points, v, t, course, sums);
+    } else if sums.len() <= 2 * SHORT {
+        add_by_buffers::<SHORT>(points, v, t, course, sums);
     } else {
-        add_by_buffers::<LONGEST>(points, v, t, course, sums)
+        add_by_buffers::<LONGEST>(points, v, t, course, sums);
     }
 }
 
-// Adds the frames from `age` on to the sums of both sides, which stand in turn; answers the course of the
-// frame behind them.
+// Adds the frames from `age` on to the sums of both sides, which stand in turn. The course goes on to
+// the frame behind them.
 pub(crate) fn add_run<'a>(
     points: &Points<'a>,
     v: &VoiceParameters,
     age: u64,
-    from: Course<'a>,
+    course: &mut Course<'a>,
     sums: &mut [i32],
-) -> Course<'a>
+)
     requires playable { IsPlayable (length points.now) v.now }
-    requires here { IsCourse points.now v.now age from }
+    requires here { IsCourse points.now v.now age course.old }
     requires even { length sums.old % 2 ≡ 0 }
     requires young { age + length sums.old < 2 ^ 64 }
     requires room { AllWithin 65534 sums.old }
     ensures sums { EachIndex sums.new (λ i. IsAdded (slice_index_or sums.old i (pos 0))
         (snd (record { points = points.now; parameters = v.now }) (nat_eq (i % 2) 0) (age + i / 2))
         (slice_index_or sums.new i (pos 0))) }
-    ensures there { IsCourse points.now v.now (age + length sums.old / 2) result }
+    ensures there { IsCourse points.now v.now (age + length sums.old / 2) course.new }
 {
-    let mut course = from;
     let mut at = 0;
     while at < sums.len() {
         if course.over {
-            return course;
+            return;
         }
         let t = age + at as u64 / 2;
         let n = stretch(v, t, course.place, ((sums.len() - at) / 2).min(LONGEST));
-        course = add_stretch(points, v, t, course, &mut sums[at..at + 2 * n]);
+        add_stretch(points, v, t, course, &mut sums[at..at + 2 * n]);
         at += 2 * n;
     }
-    course
 }

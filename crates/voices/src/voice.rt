@@ -83,7 +83,7 @@ impl<'a> Voice<'a> {
         let sides = frame(&self.points, &self.parameters, self.age, course.place);
         let next = next_place(&self.points, &self.parameters, self.age, course.place);
         self.age += 1;
-        self.course = course.later(&self.parameters, self.age, next, course.level);
+        self.course.go_on(&self.parameters, self.age, next, course.level, course.slice);
         sides
     }
 
@@ -98,7 +98,13 @@ impl<'a> Voice<'a> {
         ensures room { (j : ℕ) → AllWithin j sums.old → AllWithin (j + 1) sums.new }
         ensures live { self.new ≡ record { value = self.old.value; age = self.old.age + length sums.old / 2 } }
     {
-        self.course = add_run(&self.points, &self.parameters, self.age, self.course, sums);
+        add_run(
+            &self.points,
+            &self.parameters,
+            self.age,
+            &mut self.course,
+            sums,
+        );
         self.age += sums.len() as u64 / 2;
     }
 }

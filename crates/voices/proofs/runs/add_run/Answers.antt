@@ -14,7 +14,7 @@ pub loop-at-init : goal.loop-at-init
 loop-at-init c = record {
   within = omega arith;
   even = (λ _. 0);
-  here = subst (λ t. IsCourse c.args.points.now c.args.v.now t c.args.from) (let e : c.args.age ≡ c.args.age + 0 / 2 = omega arith in e) c.requires.here;
+  here = subst (λ t. IsCourse c.args.points.now c.args.v.now t c.args.course.now) (let e : c.args.age ≡ c.args.age + 0 / 2 = omega arith in e) c.requires.here;
   done = λ i h. absurd (omega (arith, h));
   rest = λ i h. refl;
 }
@@ -51,16 +51,16 @@ loop-at-preserved c =
     let most : c.stretch-n.result ≤ (length xs - at) / 2 = omega (arith, c.stretch-n.ensures.some.1, c.min.ensures) in
     let end : at + n ≤ length xs = omega (arith, most) in
     let long : length (take (at + n - at) (drop at xs)) ≡ n = grind (arith, common_steps) in
-    let len : length c.add_stretch-course.new.sums ≡ n = c.add_stretch-course.auto.sums ∙ long in
+    let len : length c.add_stretch.new.sums ≡ n = c.add_stretch.auto.sums ∙ long in
     record {
       within = omega (arith, end, c.loop-at.auto.sums);
       even = omega (arith, even);
-      here = subst (λ t. IsCourse c.args.points.now c.args.v.now t c.add_stretch-course.result) (let e : c.args.age + at / 2 + c.stretch-n.result ≡ c.args.age + (at + n) / 2 = omega (arith, even) in e)
-          (subst (λ m. IsCourse c.args.points.now c.args.v.now (c.args.age + at / 2 + m) c.add_stretch-course.result) (let e : length (take (at + n - at) (drop at xs)) / 2 ≡ c.stretch-n.result = omega (arith, long) in e) c.add_stretch-course.ensures.course);
-      done = below_piece (pos 0) (λ i y. IsAdded (get_or ys i (pos 0)) (snd v (nat_eq (i % 2) 0) (c.args.age + i / 2)) y) xs c.add_stretch-course.new.sums at n end len
+      here = subst (λ t. IsCourse c.args.points.now c.args.v.now t c.add_stretch.new.course) (let e : c.args.age + at / 2 + c.stretch-n.result ≡ c.args.age + (at + n) / 2 = omega (arith, even) in e)
+          (subst (λ m. IsCourse c.args.points.now c.args.v.now (c.args.age + at / 2 + m) c.add_stretch.new.course) (let e : length (take (at + n - at) (drop at xs)) / 2 ≡ c.stretch-n.result = omega (arith, long) in e) c.add_stretch.ensures.course);
+      done = below_piece (pos 0) (λ i y. IsAdded (get_or ys i (pos 0)) (snd v (nat_eq (i % 2) 0) (c.args.age + i / 2)) y) xs c.add_stretch.new.sums at n end len
           c.loop-at.invariant.done
           (λ k h. later_added v c.args.age at k (get_or ys (at + k) (pos 0)) _ _ even
           (in_piece (pos 0) xs at n k end h ∙ c.loop-at.invariant.rest (at + k) (omega arith))
-          (c.add_stretch-course.ensures.sums k (omega (arith, h, len))));
-      rest = after_piece (pos 0) xs ys c.add_stretch-course.new.sums at n end len c.loop-at.invariant.rest;
+          (c.add_stretch.ensures.sums k (omega (arith, h, len))));
+      rest = after_piece (pos 0) xs ys c.add_stretch.new.sums at n end len c.loop-at.invariant.rest;
     }

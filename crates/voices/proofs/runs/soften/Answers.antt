@@ -1,7 +1,15 @@
-use Rattle.std.proofs.Common.{ℕ, ◌+◌, subst}
+use Rattle.std.proofs.Common.{◌≡◌, ◌≤◌, ℕ, ℤ, pos, ◌+◌, arith, ap, subst, sym, get_or, ◌∙◌}
+use Rattle.sound_tables.specs.Tables.{gain_of}
+use Rattle.voices.specs.Levels.{scaled_by}
 use Rattle.voices.specs.Course.{IsEven}
 use Rattle.voices.specs.Envelope.{envelope}
+use Rattle.voices.proofs.OverLemmas.{even_later}
+use Rattle.voices.proofs.PhaseLemmas.{envelope_within}
 use Rattle.voices.proofs.runs.soften.Goals as goal
+
+pub quieten_evenly-requires-clause-most : goal.quieten_evenly-requires-clause-most
+quieten_evenly-requires-clause-most c =
+    subst (λ (y : ℕ). y ≤ 65536) (c.requires.in_hand.even c.args.t (omega arith) (omega arith)) (envelope_within c.args.v.now c.args.t)
 
 pub returns-clause-in_hand : goal.returns-clause-in_hand
 returns-clause-in_hand c =
