@@ -27,6 +27,7 @@ use Rattle.wave_file.proofs.SampleLemmas.{length-ids, length-mono_format, length
 use Rattle.recordings.specs.declared.frames.SamplerLoop.{SamplerLoop}
 use Rattle.recordings.specs.declared.recording.Layout.{Layout}
 use Rattle.recordings.specs.declared.recording.Layout.TheVariants as layout
+use Rattle.recordings.specs.declared.recording.Format.{Format}
 use Rattle.recordings.specs.declared.recording.Channels.{Channels}
 use Rattle.recordings.specs.declared.recording.Channels.TheVariants.{Mono}
 use Rattle.recordings.specs.declared.recording.Pitch.{Pitch}
@@ -277,7 +278,7 @@ module _ (s : Sample) (f : FitsSample s) (l : IsLoop (length s.points) s.looped)
   content_is : content_in (sample_chunks s) ≡ recorded s
   unfolding content_in
   content_is =
-      let rate : (format_in (body_in FORMAT (sample_chunks s))).rate ≡ s.rate = ap (λ (x : List ℕ). (format_in x).rate) format_found ∙ ap (λ x. x.rate) (format_back s.rate f.rate) in
+      let rate : (format_in (body_in FORMAT (sample_chunks s))).rate ≡ s.rate = ap (λ (x : List ℕ). (format_in x).rate) format_found ∙ ap (λ (x : Format). x.rate) (format_back s.rate f.rate) in
       let sampler_is : sampler_in (first_body SAMPLER (sample_chunks s)) ≡ (recorded s).sampler = ap sampler_in sampler_found ∙ says.is in
       λ i. record { channels = channels_are i; rate = rate i; sampler = sampler_is i }
 
