@@ -32,8 +32,11 @@ detail_pieces NothingToUndo = []
 detail_pieces NothingToRedo = []
 
 -- why an edit is refused, or a session can't go back or forth, by its number and its name
+abbrev pub reason_pieces : Refusal → List Piece
+reason_pieces why = Number (causes.refusal_number why) ∷ Word (causes.refusal_name why) ∷ detail_pieces why
+
 abbrev pub refused_line : Refusal → List ℕ
-refused_line why = line_text (codes "refused") (Number (causes.refusal_number why) ∷ Word (causes.refusal_name why) ∷ detail_pieces why)
+refused_line why = line_text (codes "refused") (reason_pieces why)
 
 -- want of memory is told in words, whoever tells it
 abbrev pub no_memory : List ℕ

@@ -1,9 +1,9 @@
 //! What a line is answered.
-ghost use Rattle.std.specs.Prelude.{◌≡◌, ◌∷◌, []};
+ghost use Rattle.std.specs.Prelude.{◌≡◌, ◌∷◌, [], codes};
 ghost use Rattle.std.specs.List.{flat_map};
 ghost use Rattle.outputs.specs.Output.{Puts};
 ghost use Rattle.line_tokens.specs.Printing.{line_text, spaced};
-ghost use Rattle.live_lines.specs.Answers.{answer_text, refused_text, refused_line, detail_pieces, step_pieces, limit_pieces, fault_text, write_text};
+ghost use Rattle.live_lines.specs.Answers.{answer_text, refused_text, refused_line, reason_pieces, detail_pieces, step_pieces, limit_pieces, fault_text, write_text};
 
 use crate::fault::RequestFault;
 use crate::paths::FilePath;
@@ -44,14 +44,19 @@ pub fn put_answer<W: Write>(answer: &Answer<'_>, output: &mut Output<'_, W>)
         Answer::Done => put_line(b"ok", &[], output),
         Answer::Started(voices) => put_line(b"ok", &[Piece::Number(*voices as u64)], output),
         Answer::Refused(why) => put_refused(*why, output),
-        Answer::NotNeutral => put_line(b"refused", &[Piece::Number(50), word("NotNeutral")], output),
-        Answer::TooManyFrames => {
-            put_line(b"refused", &[Piece::Number(52), word("TooManyFrames")], output);
-        }
+        Answer::NotNeutral => put_named(50, "NotNeutral", output),
+        Answer::TooManyFrames => put_named(52, "TooManyFrames", output),
         Answer::Fault(fault) => put_fault(*fault, output),
         Answer::OutOfMemory => output.put(b"out of memory\n"),
         Answer::WriteFault { path, written } => put_write_fault(path.text(), *written, output),
     }
+}
+
+// A refusal that no bank and no session tells, by its number and its name.
+fn put_named<W: Write>(number: u64, name: &str, output: &mut Output<'_, W>)
+    ensures { Puts W.contents output.old output.new (line_text (codes "refused") (Piece.Number number ∷ Piece.Word name.now ∷ [])) }
+{
+    put_line(b"refused", &[Piece::Number(number), word(name)], output);
 }
 
 // Why an edit is refused, or a session can't go back or forth.
@@ -69,10 +74,16 @@ fn put_refusal<W: Write>(why: Refusal, output: &mut Output<'_, W>)
     ensures { Puts W.contents output.old output.new (refused_line why) }
 {
     output.put(b"refused");
+    put_reason(why, output);
+    output.put(b"\n");
+}
+
+fn put_reason<W: Write>(why: Refusal, output: &mut Output<'_, W>)
+    ensures { Puts W.contents output.old output.new (flat_map spaced (reason_pieces why)) }
+{
     let number = Piece::Number(u64::from(why.number()));
     put_pieces(&[number, word(why.name())], output);
     put_detail(why, output);
-    output.put(b"\n");
 }
 
 // What stands behind the name.
@@ -94,7 +105,10 @@ fn put_step<W: Write>(step: usize, cause: Cause, output: &mut Output<'_, W>)
     ensures { Puts W.contents output.old output.new (flat_map spaced (step_pieces step cause)) }
 {
     let number = Piece::Number(u64::from(cause.number()));
-    put_pieces(&[Piece::Number(step as u64), number, word(cause.name())], output);
+    put_pieces(
+        &[Piece::Number(step as u64), number, word(cause.name())],
+        output,
+    );
 }
 
 // The limit that a bank would break.

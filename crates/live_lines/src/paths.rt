@@ -1,8 +1,9 @@
 //! The paths of files.
-ghost use Rattle.std.specs.Prelude.{◌≡◌, drop, MatchResult, IfOk};
+ghost use Rattle.std.specs.Prelude.{◌≡◌, [], drop, nat_le, MatchResult, IsOk};
+ghost use Rattle.std.specs.List.{list_all};
 ghost use Rattle.line_tokens.specs.Tokens.{tokens_of};
 ghost use Rattle.line_tokens.specs.Said.{all_said_over};
-ghost use Rattle.line_tokens.specs.Parts.{Reads};
+ghost use Rattle.line_tokens.specs.Parts.{Reads, word};
 ghost use Rattle.live_lines.specs.Paths.{path_of, path, paths};
 
 use line_tokens::{Cursor, LineFault};
@@ -24,12 +25,14 @@ impl<'a> Model for FilePath<'a> {
 
 impl<'a> FilePath<'a> {
     /// The path with these bytes. None where they are not UTF-8, or one of them is below 0x20.
-    #[tactic(auto, unfolding(crate::specs::Paths::path_of))]
+    #[tactic(auto, using(crate::proofs::PathLaws::is_a_path, crate::proofs::PathLaws::has_controls, crate::proofs::PathLaws::is_no_text))]
     pub fn of(bytes: &'a [u8]) -> Option<FilePath<'a>>
         ensures { result ≡ path_of bytes.now }
     {
-        let text = str::from_utf8(bytes).ok()?;
-        if !bytes.iter().all(|byte| *byte >= 0x20) {
+        let Ok(text) = str::from_utf8(bytes) else {
+            return None;
+        };
+        if !has_no_controls(bytes) {
             return None;
         }
         Some(FilePath { text })
@@ -52,10 +55,17 @@ pub struct Paths<'a> {
     pub undo: FilePath<'a>,
 }
 
+fn has_no_controls(bytes: &[u8]) -> bool
+    ensures { result ≡ list_all (λ b. nat_le 32 b) bytes.now }
+{
+    bytes.iter().all(|byte| *byte >= 0x20)
+}
+
 // The paths behind the first word of a line, to its end.
-#[tactic(auto, unfolding(crate::specs::Paths::paths))]
+#[tactic(auto, unfolding(crate::specs::Paths::paths, line_tokens::specs::Parts::ended))]
 pub(crate) fn both_paths<'t, 'p: 't>(line: &'t [u8], pool: &'p [u8]) -> Result<Paths<'t>, LineFault>
-    ensures { result ≡ paths (drop 1 (all_said_over pool.now (tokens_of line.now))) }
+    requires { IsOk (word (all_said_over pool.now (tokens_of line.now))) }
+    ensures { MatchResult result (λ p. paths (drop 1 (all_said_over pool.now (tokens_of line.now))) ≡ Ok (record { value = p; rest = [] })) (λ e. paths (drop 1 (all_said_over pool.now (tokens_of line.now))) ≡ Err e) }
 {
     let (out, mut rest) = first_path(line, pool)?;
     let (_, twin) = first_path(line, pool)?;
@@ -69,21 +79,24 @@ fn first_path<'t, 'p: 't>(
     line: &'t [u8],
     pool: &'p [u8],
 ) -> Result<(FilePath<'t>, Cursor<'t, 'p>), LineFault>
+    requires { IsOk (word (all_said_over pool.now (tokens_of line.now))) }
     ensures { MatchResult result (λ r. path (drop 1 (all_said_over pool.now (tokens_of line.now))) ≡ Ok (record { value = r.0; rest = r.1.said })) (λ e. path (drop 1 (all_said_over pool.now (tokens_of line.now))) ≡ Err e) }
 {
-    let mut rest = behind_word(line, pool)?;
-    let twin = behind_word(line, pool)?;
+    let mut rest = behind_word(line, pool);
+    let twin = behind_word(line, pool);
     let out = path(&mut rest, twin)?;
     Ok((out, rest))
 }
 
-// What is left of a line behind its first token, which is a word.
-fn behind_word<'t, 'p>(line: &'t [u8], pool: &'p [u8]) -> Result<Cursor<'t, 'p>, LineFault>
-    ensures { IfOk result (λ rest. rest.said ≡ drop 1 (all_said_over pool.now (tokens_of line.now))) }
+// What is left of a line behind its first word.
+#[tactic(auto, using(crate::proofs::RequestLaws::word_taken))]
+fn behind_word<'t, 'p>(line: &'t [u8], pool: &'p [u8]) -> Cursor<'t, 'p>
+    requires { IsOk (word (all_said_over pool.now (tokens_of line.now))) }
+    ensures { result.said ≡ drop 1 (all_said_over pool.now (tokens_of line.now)) }
 {
     let mut rest = Cursor::of(line, pool);
-    rest.word()?;
-    Ok(rest)
+    rest.word().unwrap();
+    rest
 }
 
 // The next path. A cursor doesn't tell whether a word or a literal is next before it is taken, so a twin

@@ -1,8 +1,8 @@
 //! What a line asks for.
-ghost use Rattle.std.specs.Prelude.{◌≡◌, drop, Ok, IfOk, IfErr};
+ghost use Rattle.std.specs.Prelude.{◌≡◌, drop, Ok, IfOk, IfErr, IsOk};
 ghost use Rattle.line_tokens.specs.Tokens.{tokens_of};
 ghost use Rattle.line_tokens.specs.Said.{said_in, all_said_over};
-ghost use Rattle.line_tokens.specs.Parts.{Reads, ended};
+ghost use Rattle.line_tokens.specs.Parts.{Reads, word, ended};
 ghost use Rattle.line_tokens.specs.Pool.{Answers, Fails, pool_bytes};
 ghost use Rattle.edit_forms.specs.declared.edit.Edit.{Edit};
 ghost use Rattle.edit_script.specs.Grammar.{edit};
@@ -32,7 +32,7 @@ pub fn pool_of_line(alloc: Global, line: &[u8]) -> Result<Vec<u8>, Failure<Reque
 {
     match pool_of(alloc, line) {
         Ok(pool) => Ok(pool),
-        Err(Failure::Fault(_)) => Err(RequestFault::Literal.into()),
+        Err(Failure::Fault(_)) => Err(Failure::Fault(RequestFault::Literal)),
         Err(Failure::OutOfMemory) => Err(Failure::OutOfMemory),
     }
 }
@@ -52,8 +52,10 @@ pub fn read_line<'t, 'p: 't>(
     if cursor.is_empty() {
         return Ok(None);
     }
-    let request = request(alloc, line, pool)?;
-    Ok(Some(request))
+    match request(alloc, line, pool) {
+        Ok(request) => Ok(Some(request)),
+        Err(failure) => Err(failure),
+    }
 }
 
 // What a line asks for that says something.
@@ -67,7 +69,7 @@ fn request<'t, 'p: 't>(
     let mut rest = Cursor::of(line, pool);
     match next_named(&mut rest) {
         Ok(command) => asked_by(alloc, command, rest, line, pool),
-        Err(_) => Ok(Request::Edit(an_edit(alloc, Cursor::of(line, pool))?)),
+        Err(_) => edit_request(alloc, Cursor::of(line, pool)),
     }
 }
 
@@ -79,7 +81,8 @@ fn asked_by<'t, 'p: 't>(
     line: &'t [u8],
     pool: &'p [u8],
 ) -> Result<Request<'t, 'p>, Failure<RequestFault>>
-    requires { rest.said ≡ drop 1 (all_said_over pool.now (tokens_of line.now)) }
+    requires behind { rest.said ≡ drop 1 (all_said_over pool.now (tokens_of line.now)) }
+    requires word { IsOk (word (all_said_over pool.now (tokens_of line.now))) }
     ensures { Answers (λ r. r) result (asked_by command rest.entry.said) }
 {
     match command {
@@ -95,11 +98,18 @@ fn asked_by<'t, 'p: 't>(
     }
 }
 
-// The edit that is left of a line.
-fn an_edit<'p>(
+// An edit, to the line's end.
+fn edit_request<'t, 'p>(
     alloc: Global,
-    mut line: Cursor<'_, 'p>,
-) -> Result<Edit<'p>, Failure<RequestFault>>
+    line: Cursor<'_, 'p>,
+) -> Result<Request<'t, 'p>, Failure<RequestFault>>
+    ensures { Answers (λ r. r) result (told asks.Edit (edit line.entry.said)) }
+{
+    Ok(Request::Edit(an_edit(alloc, line)?))
+}
+
+// The edit that is left of a line.
+fn an_edit<'p>(alloc: Global, mut line: Cursor<'_, 'p>) -> Result<Edit<'p>, Failure<RequestFault>>
     ensures { (make : Edit → Request) → Answers make result (told make (edit line.entry.said)) }
 {
     match edit(alloc, &mut line) {
@@ -153,18 +163,26 @@ fn note_now(line: &mut Cursor<'_, '_>) -> Result<Option<Note>, LineFault>
     ))
 }
 
-// So many frames, to the line's end.
-#[tactic(auto, unfolding(crate::specs::Requests::frames))]
+// So many frames.
 fn some_frames<'t, 'p>(mut line: Cursor<'_, '_>) -> Result<Request<'t, 'p>, RequestFault>
     ensures { result ≡ told asks.Frames (frames line.entry.said) }
 {
+    Ok(Request::Frames(frames(&mut line)?))
+}
+
+// A number of frames, to the line's end.
+#[tactic(auto, unfolding(crate::specs::Requests::frames, line_tokens::specs::Parts::ended))]
+fn frames(line: &mut Cursor<'_, '_>) -> Result<u32, LineFault>
+    ensures { Reads (λ n. n) frames line.old line.new result }
+{
     let count = line.number(MOST_FRAMES)?;
     line.end()?;
-    Ok(Request::Frames(count))
+    Ok(count)
 }
 
 // The paths of the files, by the whole line.
 fn save<'t, 'p: 't>(line: &'t [u8], pool: &'p [u8]) -> Result<Request<'t, 'p>, RequestFault>
+    requires { IsOk (word (all_said_over pool.now (tokens_of line.now))) }
     ensures { result ≡ told asks.Save (paths (drop 1 (all_said_over pool.now (tokens_of line.now)))) }
 {
     Ok(Request::Save(both_paths(line, pool)?))
