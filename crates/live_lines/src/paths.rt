@@ -1,5 +1,5 @@
 //! The paths of files.
-ghost use Rattle.std.specs.Prelude.{◌≡◌, [], drop, nat_le, MatchResult, IsOk};
+ghost use Rattle.std.specs.Prelude.{◌≡◌, [], drop, nat_le, MatchResult, IsOk, if◌then◌else◌};
 ghost use Rattle.std.specs.List.{list_all};
 ghost use Rattle.line_tokens.specs.Tokens.{tokens_of};
 ghost use Rattle.line_tokens.specs.Said.{all_said_over};
@@ -25,17 +25,13 @@ impl<'a> Model for FilePath<'a> {
 
 impl<'a> FilePath<'a> {
     /// The path with these bytes. None where they are not UTF-8, or one of them is below 0x20.
-    #[tactic(auto, using(crate::proofs::PathLaws::is_a_path, crate::proofs::PathLaws::has_controls, crate::proofs::PathLaws::is_no_text))]
     pub fn of(bytes: &'a [u8]) -> Option<FilePath<'a>>
         ensures { result ≡ path_of bytes.now }
     {
-        let Ok(text) = str::from_utf8(bytes) else {
-            return None;
-        };
-        if !has_no_controls(bytes) {
-            return None;
+        match str::from_utf8(bytes) {
+            Ok(text) => without_controls(text),
+            Err(_) => None,
         }
-        Some(FilePath { text })
     }
 
     /// Its text.
@@ -53,6 +49,17 @@ pub struct Paths<'a> {
     pub out: FilePath<'a>,
     /// Where the script goes that takes it back.
     pub undo: FilePath<'a>,
+}
+
+// The path with this text, if no byte of it is below 0x20.
+fn without_controls(text: &str) -> Option<FilePath<'_>>
+    ensures { result ≡ (if list_all (λ b. nat_le 32 b) text.now then Some text.now else None) }
+{
+    if has_no_controls(text.as_bytes()) {
+        Some(FilePath { text })
+    } else {
+        None
+    }
 }
 
 fn has_no_controls(bytes: &[u8]) -> bool

@@ -68,22 +68,34 @@ fn request<'t, 'p: 't>(
 {
     let mut rest = Cursor::of(line, pool);
     match next_named(&mut rest) {
-        Ok(command) => asked_by(alloc, command, rest, line, pool),
-        Err(_) => edit_request(alloc, Cursor::of(line, pool)),
+        Ok(command) => asked_by(alloc, command, &mut rest, line, pool),
+        Err(_) => edit_of_line(alloc, line, pool),
     }
+}
+
+// The edit that a line says.
+fn edit_of_line<'t, 'p>(
+    alloc: Global,
+    line: &[u8],
+    pool: &'p [u8],
+) -> Result<Request<'t, 'p>, Failure<RequestFault>>
+    ensures { Answers (λ r. r) result (told asks.Edit (edit (all_said_over pool.now (tokens_of line.now)))) }
+{
+    let mut whole = Cursor::of(line, pool);
+    Ok(Request::Edit(an_edit(alloc, &mut whole)?))
 }
 
 // What a command asks for, by what is left of its line.
 fn asked_by<'t, 'p: 't>(
     alloc: Global,
     command: Command,
-    rest: Cursor<'t, 'p>,
+    rest: &mut Cursor<'t, 'p>,
     line: &'t [u8],
     pool: &'p [u8],
 ) -> Result<Request<'t, 'p>, Failure<RequestFault>>
-    requires behind { rest.said ≡ drop 1 (all_said_over pool.now (tokens_of line.now)) }
+    requires behind { rest.old.said ≡ drop 1 (all_said_over pool.now (tokens_of line.now)) }
     requires word { IsOk (word (all_said_over pool.now (tokens_of line.now))) }
-    ensures { Answers (λ r. r) result (asked_by command rest.entry.said) }
+    ensures { Answers (λ r. r) result (asked_by command rest.old.said) }
 {
     match command {
         Command::Neutral => Ok(Request::Neutral(an_edit(alloc, rest)?)),
@@ -98,21 +110,11 @@ fn asked_by<'t, 'p: 't>(
     }
 }
 
-// An edit, to the line's end.
-fn edit_request<'t, 'p>(
-    alloc: Global,
-    line: Cursor<'_, 'p>,
-) -> Result<Request<'t, 'p>, Failure<RequestFault>>
-    ensures { Answers (λ r. r) result (told asks.Edit (edit line.entry.said)) }
-{
-    Ok(Request::Edit(an_edit(alloc, line)?))
-}
-
 // The edit that is left of a line.
-fn an_edit<'p>(alloc: Global, mut line: Cursor<'_, 'p>) -> Result<Edit<'p>, Failure<RequestFault>>
-    ensures { (make : Edit → Request) → Answers make result (told make (edit line.entry.said)) }
+fn an_edit<'p>(alloc: Global, line: &mut Cursor<'_, 'p>) -> Result<Edit<'p>, Failure<RequestFault>>
+    ensures { (make : Edit → Request) → Answers make result (told make (edit line.old.said)) }
 {
-    match edit(alloc, &mut line) {
+    match edit(alloc, line) {
         Ok(edit) => Ok(edit),
         Err(Failure::Fault(fault)) => Err(Failure::Fault(fault.into())),
         Err(Failure::OutOfMemory) => Err(Failure::OutOfMemory),
@@ -123,19 +125,19 @@ fn an_edit<'p>(alloc: Global, mut line: Cursor<'_, 'p>) -> Result<Edit<'p>, Fail
 #[tactic(auto, unfolding(line_tokens::specs::Parts::ended))]
 fn alone<'t, 'p>(
     request: Request<'t, 'p>,
-    mut line: Cursor<'_, '_>,
+    line: &mut Cursor<'_, '_>,
 ) -> Result<Request<'t, 'p>, RequestFault>
-    ensures { result ≡ told (λ r. r) (ended request.entry line.entry.said) }
+    ensures { result ≡ told (λ r. r) (ended request.entry line.old.said) }
 {
     line.end()?;
     Ok(request)
 }
 
 // A note that starts now.
-fn note<'t, 'p>(mut line: Cursor<'_, '_>) -> Result<Request<'t, 'p>, RequestFault>
-    ensures { result ≡ noted (note_now line.entry.said) }
+fn note<'t, 'p>(line: &mut Cursor<'_, '_>) -> Result<Request<'t, 'p>, RequestFault>
+    ensures { result ≡ noted (note_now line.old.said) }
 {
-    match note_now(&mut line) {
+    match note_now(line) {
         Ok(Some(note)) => Ok(Request::Note(note)),
         Ok(None) => Err(RequestFault::TooLong),
         Err(_) => Err(RequestFault::BadNote),
@@ -164,10 +166,10 @@ fn note_now(line: &mut Cursor<'_, '_>) -> Result<Option<Note>, LineFault>
 }
 
 // So many frames.
-fn some_frames<'t, 'p>(mut line: Cursor<'_, '_>) -> Result<Request<'t, 'p>, RequestFault>
-    ensures { result ≡ told asks.Frames (frames line.entry.said) }
+fn some_frames<'t, 'p>(line: &mut Cursor<'_, '_>) -> Result<Request<'t, 'p>, RequestFault>
+    ensures { result ≡ told asks.Frames (frames line.old.said) }
 {
-    Ok(Request::Frames(frames(&mut line)?))
+    Ok(Request::Frames(frames(line)?))
 }
 
 // A number of frames, to the line's end.

@@ -1,22 +1,16 @@
-use Rattle.std.proofs.Common.{◌≡◌, ◌∙◌, List, sym, ap}
-use Rattle.line_tokens.specs.declared.cursor.Said.{Said}
-use Rattle.line_tokens.specs.Said.{Left, all_said_over}
-use Rattle.line_tokens.specs.Tokens.{tokens_of}
+use Rattle.std.proofs.Common.{ap}
+use Rattle.line_tokens.specs.Said.{Left}
 use Rattle.live_lines.proofs.RequestLaws.{command_is_word, behind_command, is_command, is_edit}
 use Rattle.live_lines.proofs.reading.request.Goals as goal
 
 pub asked_by-requires-clause-behind : goal.asked_by-requires-clause-behind
-asked_by-requires-clause-behind c =
-    rw (← ap (λ (l : Left). l.said) c.of-rest.ensures) (behind_command _ _ c.in-Ok.ensures.0)
+asked_by-requires-clause-behind c = rw (← ap (λ (l : Left). l.said) c.of-rest.ensures) (behind_command _ _ c.in-Ok.ensures.0)
 
 pub asked_by-requires-clause-word : goal.asked_by-requires-clause-word
-asked_by-requires-clause-word c =
-    rw (← ap (λ (l : Left). l.said) c.of-rest.ensures) (command_is_word _ _ c.in-Ok.ensures.0)
+asked_by-requires-clause-word c = rw (← ap (λ (l : Left). l.said) c.of-rest.ensures) (command_is_word _ _ c.in-Ok.ensures.0)
 
 pub returns-in-Ok : goal.returns-in-Ok
-returns-in-Ok c =
-    rw (← ap (λ (l : Left). l.said) c.of-rest.ensures, is_command _ _ c.in-Ok.ensures.0) c.asked_by.ensures
+returns-in-Ok c = rw (← ap (λ (l : Left). l.said) c.of-rest.ensures, is_command _ _ c.in-Ok.ensures.0) c.asked_by.ensures
 
 pub returns-in-Err : goal.returns-in-Err
-returns-in-Err c =
-    rw (← ap (λ (l : Left). l.said) c.of-rest.ensures, is_edit _ _ c.in-Err.ensures, ap (λ (l : Left). l.said) c.of-rest.ensures, ← ap (λ (l : Left). l.said) c.of.ensures) c.edit_request.ensures
+returns-in-Err c = rw (is_edit _ _ (rw (ap (λ (l : Left). l.said) c.of-rest.ensures) at c.in-Err.ensures)) c.edit_of_line.ensures
