@@ -1,15 +1,16 @@
 //! What a line asks for.
 ghost use Rattle.std.specs.Prelude.{◌≡◌, drop, Ok, IfOk, IfErr, IsOk};
 ghost use Rattle.line_tokens.specs.Tokens.{tokens_of};
-ghost use Rattle.line_tokens.specs.Said.{said_in, all_said_over};
+ghost use Rattle.line_tokens.specs.Said.{said_in, left_over, all_said_over};
 ghost use Rattle.line_tokens.specs.Parts.{Reads, word, ended};
 ghost use Rattle.line_tokens.specs.Pool.{Answers, Fails, pool_bytes};
+ghost use Rattle.script_grammar.specs.Names.{next_named};
 ghost use Rattle.edit_forms.specs.declared.edit.Edit.{Edit};
 ghost use Rattle.edit_script.specs.Grammar.{edit};
 ghost use Rattle.live_lines.specs.declared.request.Request.{Request};
 ghost use Rattle.live_lines.specs.declared.request.Request.TheVariants as asks;
 ghost use Rattle.live_lines.specs.Paths.{paths};
-ghost use Rattle.live_lines.specs.Requests.{told, note_now, noted, frames, asked_by, request, request_of, HasNoFeed};
+ghost use Rattle.live_lines.specs.Requests.{command_word, commands, told, note_now, noted, frames, asked_by, request, request_of, HasNoFeed};
 
 use crate::command::Command;
 use crate::fault::RequestFault;
@@ -67,8 +68,23 @@ fn request<'t, 'p: 't>(
     ensures { Answers (λ r. r) result (request (all_said_over pool.now (tokens_of line.now))) }
 {
     let mut rest = Cursor::of(line, pool);
-    match next_named(&mut rest) {
-        Ok(command) => asked_by(alloc, command, &mut rest, line, pool),
+    let command = next_named(&mut rest);
+    asked(alloc, command, &mut rest, line, pool)
+}
+
+// What a line asks for, by its command, if it begins with one; else it is an edit.
+fn asked<'t, 'p: 't>(
+    alloc: Global,
+    command: Result<Command, LineFault>,
+    rest: &mut Cursor<'t, 'p>,
+    line: &'t [u8],
+    pool: &'p [u8],
+) -> Result<Request<'t, 'p>, Failure<RequestFault>>
+    requires { Reads (λ c. c) (next_named command_word commands) (left_over pool.now (tokens_of line.now)) rest.old command }
+    ensures { Answers (λ r. r) result (request (all_said_over pool.now (tokens_of line.now))) }
+{
+    match command {
+        Ok(command) => asked_by(alloc, command, rest, line, pool),
         Err(_) => edit_of_line(alloc, line, pool),
     }
 }
@@ -76,7 +92,7 @@ fn request<'t, 'p: 't>(
 // The edit that a line says.
 fn edit_of_line<'t, 'p>(
     alloc: Global,
-    line: &[u8],
+    line: &'t [u8],
     pool: &'p [u8],
 ) -> Result<Request<'t, 'p>, Failure<RequestFault>>
     ensures { Answers (λ r. r) result (told asks.Edit (edit (all_said_over pool.now (tokens_of line.now)))) }
