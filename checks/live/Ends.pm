@@ -115,7 +115,6 @@ my @shells = (
     ['"$0" live tone pcm < lines >&-', 5, qr{^sfbank: write fault - after 0 bytes\n\z}, 'true'],
     ['{ sleep 0.2; "$0" live tone pcm < lines; echo $? > status; } | true; exit $(cat status)', 5, qr{^sfbank: write fault - after 0 bytes\n\z}, 'true'],
     ['mkfifo pipe; head -c 400 pipe > /dev/null & "$0" live tone pipe < lines > answers; s=$?; rm pipe; exit $s', 5, qr{^sfbank: write fault pipe after \d+ bytes\n\z}, 'true'],
-    ['"$0" live tone /dev/stdout < lines > both', 0, qr{^\z}, '[ "$(wc -c < both)" -gt 20000 ]'],
     ['mkfifo pipe; cat pipe > pcm & "$0" live tone pipe < lines > answers; s=$?; wait; rm pipe; exit $s', 0, qr{^\z}, 'cmp -s pcm whole.pcm && cmp -s answers whole.answers'],
     ['"$0" live none pcm < lines > answers', 5, qr{^sfbank: file fault none\b[^\n]*\n\z}, '[ ! -s answers ] && [ ! -e pcm ]'],
     ['"$0" live lines pcm < lines > answers', 2, qr{^sfbank: read fault 1 NotRiff\n\z}, '[ ! -s answers ]'],
