@@ -3,6 +3,7 @@
 //! the crates that the runs stand on.
 #![tactic(auto)]
 
+mod commands;
 mod fault;
 mod fault_lines;
 mod input;
@@ -19,5 +20,6 @@ pub use output::{OutputFile, end_both};
 pub use run_fault::{RunFault, Which};
 pub use telling::tell;
 pub use words::{
-    ApplyPaths, CanonPaths, DiffPaths, Forms, NewBank, PlayPaths, Request, ScriptPaths, request_of,
+    ApplyPaths, CanonPaths, DiffPaths, Forms, ImportPaths, LivePaths, MapPaths, NewBank, PlayPaths,
+    Request, ScriptPaths, ShowPaths, WavePaths, request_of,
 };
