@@ -1,1 +1,3 @@
 pub mod Wave
+pub mod Pitch
+pub mod SampleWave

@@ -1,0 +1,5 @@
+pub mod FaultNames
+pub mod Steps
+pub mod Recordings
+pub mod ReadSteps
+pub mod Imports

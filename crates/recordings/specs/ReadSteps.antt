@@ -1,0 +1,97 @@
+-- The steps of reading a WAVE file, in their order. The first that a file breaks gives its fault.
+use Rattle.std.specs.Prelude.{◌+◌, ◌-◌, ◌*◌, ◌%◌, ◌^◌, ◌==◌, ◌&&◌, ◌||◌, ℕ, Bool, min, nat_le, nat_lt, List, [], ◌∷◌, ◌++◌, length, take, drop, bytes_eq, Option, Some, None, is_some, unwrap_or, Result}
+use Rattle.riff_chunks.specs.Walk.{Chunk, walk}
+use Rattle.riff_chunks.specs.Finding.{chunks_in, is_whole, first_body}
+use Rattle.bank_format.specs.Chunks.{riff_size, window, body_in}
+use Rattle.wave_file.specs.Wave.{RIFF, WAVE, FORMAT, DATA}
+use Rattle.wave_file.specs.SampleWave.{SAMPLER}
+use Rattle.recordings.specs.declared.fault.WaveFault.{WaveFault}
+use Rattle.recordings.specs.declared.fault.WaveFault.TheVariants as fault
+use Rattle.recordings.specs.declared.frames.SamplerLoop.{SamplerLoop}
+use Rattle.recordings.specs.declared.recording.Layout.{Layout}
+use Rattle.recordings.specs.declared.recording.Recording.{Recording}
+use Rattle.recordings.specs.Steps.{Step, step, first_broken, unless_broken}
+use Rattle.recordings.specs.Recordings.{channel_count_in, bits_in, is_plain, layout_in, format_in, frame_size, channels_in, frame_count, loop_count_in, forward_loop, unity_note_in, sampler_in}
+
+-- ---- the RIFF chunk, whose form is WAVE
+
+unfoldable pub riff_steps : List ℕ → List Step
+riff_steps file =
+    step (bytes_eq (take 4 file) RIFF) fault.NotWave
+    ∷ step (nat_le 12 (length file)) fault.Truncated
+    ∷ step (nat_le 4 (riff_size file)) fault.Truncated
+    ∷ step (nat_le (8 + riff_size file) (length file + 1)) fault.Truncated
+    ∷ step (bytes_eq (take 4 (drop 8 file)) WAVE) fault.NotWave
+    ∷ []
+
+-- ---- the format chunk
+
+unfoldable pub format_steps : List ℕ → List Step
+format_steps f =
+    step (nat_le 16 (length f)) fault.NoFormat
+    ∷ step (is_plain f) fault.Compressed
+    ∷ step (bits_in f == 16) fault.SampleBits
+    ∷ step (channel_count_in f == 1 || channel_count_in f == 2) fault.ChannelCount
+    ∷ []
+
+-- ---- the data chunk, of whole frames
+
+unfoldable pub frame_steps : Layout → List ℕ → List Step
+frame_steps layout bytes = step (length bytes % frame_size layout == 0) fault.HalfFrame ∷ []
+
+unfoldable pub data_steps : Layout → Option (List ℕ) → List Step
+data_steps layout body = step (is_some body) fault.NoData ∷ frame_steps layout (unwrap_or body [])
+
+-- ---- the sampler chunk, if there is one
+
+-- the chunk has what stands before its loops, and its loops
+abbrev pub has_loops : List ℕ → Bool
+has_loops s = nat_le 36 (length s) && nat_le (36 + 24 * loop_count_in s) (length s)
+
+-- a loop of at least one point among so many frames, whose end is a number of 32 bits
+abbrev pub is_inside : ℕ → SamplerLoop → Bool
+is_inside frames l = nat_le l.first l.last && nat_lt l.last (min frames (2 ^ 32 - 1))
+
+abbrev pub loop_steps : ℕ → Option SamplerLoop → List Step
+loop_steps frames None = []
+loop_steps frames (Some l) = step (is_inside frames l) fault.LoopOutside ∷ []
+
+unfoldable pub chunk_steps : ℕ → List ℕ → List Step
+chunk_steps frames s =
+    step (has_loops s) fault.ShortSampler
+    ∷ step (nat_le (unity_note_in s) 127) fault.UnityNote
+    ∷ loop_steps frames (forward_loop s)
+
+abbrev pub sampler_steps : ℕ → Option (List ℕ) → List Step
+sampler_steps frames None = []
+sampler_steps frames (Some s) = chunk_steps frames s
+
+-- ---- together
+
+-- what the first chunk of each id says
+unfoldable pub content_steps : List Chunk → List Step
+content_steps chunks =
+    let f = body_in FORMAT chunks in
+    let body = body_in DATA chunks in
+    format_steps f
+    ++ (data_steps (layout_in f) (first_body DATA chunks)
+    ++ sampler_steps (frame_count (channels_in (layout_in f) body)) (first_body SAMPLER chunks))
+
+unfoldable pub content_in : List Chunk → Recording
+content_in chunks =
+    let f = format_in (body_in FORMAT chunks) in
+    record {
+      channels = channels_in f.layout (body_in DATA chunks);
+      rate = f.rate;
+      sampler = sampler_in (first_body SAMPLER chunks);
+    }
+
+unfoldable pub window_steps : List ℕ → List Step
+window_steps w = step (is_whole (walk w)) fault.Truncated ∷ content_steps (chunks_in (walk w))
+
+unfoldable pub steps : List ℕ → List Step
+steps file = riff_steps file ++ window_steps (window file)
+
+-- The recording that a WAVE file says, or the fault of the first step that it breaks.
+unfoldable pub recording_in : List ℕ → Result Recording WaveFault
+recording_in file = unless_broken (first_broken (steps file)) (content_in (chunks_in (walk (window file))))

@@ -1,0 +1,82 @@
+//! The format chunk and the data chunk of a WAVE file.
+ghost use Rattle.std.specs.Prelude.{◌≡◌, ◌≤◌, length};
+ghost use Rattle.recordings.specs.Steps.{Passes};
+ghost use Rattle.recordings.specs.Recordings.{format_in, is_plain, channels_in};
+ghost use Rattle.recordings.specs.ReadSteps.{format_steps, frame_steps};
+
+use crate::fault::WaveFault;
+use crate::recording::{Channels, Format, Layout};
+use hydra_records::Table;
+use sample_view::Points;
+use sf_base::{part_of, u16_at, u32_at};
+use std::alloc::Global;
+
+/// The bytes of a format chunk at least.
+const FORMAT_SIZE: usize = 16;
+
+/// The tag of plain whole numbers.
+const PLAIN_TAG: u16 = 1;
+
+/// The tag of the extensible format, which has a subformat.
+const EXTENSIBLE_TAG: u16 = 0xfffe;
+
+/// Where the subformat stands.
+const SUBFORMAT_PLACE: usize = 24;
+
+/// The subformat of plain whole numbers.
+const PLAIN_SUBFORMAT: [u8; 16] = [1, 0, 0, 0, 0, 0, 16, 0, 128, 0, 0, 170, 0, 56, 155, 113];
+
+/// The layout and the rate of samples of 16 bits that are plain whole numbers.
+#[tactic(auto, unfolding(crate::specs::ReadSteps::format_steps))]
+pub(crate) fn read_format(format: &[u8]) -> Result<Format, WaveFault>
+    ensures { Passes (λ f. f) result (format_steps format.now) (format_in format.now) }
+{
+    if format.len() < FORMAT_SIZE {
+        return Err(WaveFault::NoFormat);
+    }
+    if !is_plain(format) {
+        return Err(WaveFault::Compressed);
+    }
+    if u16_at(format, 14) != 16 {
+        return Err(WaveFault::SampleBits);
+    }
+    let rate = u32_at(format, 4);
+    match u16_at(format, 2) {
+        1 => Ok(Format { layout: Layout::Mono, rate }),
+        2 => Ok(Format { layout: Layout::Stereo, rate }),
+        _ => Err(WaveFault::ChannelCount),
+    }
+}
+
+// Whether samples are plain whole numbers, also in the extensible format.
+#[tactic(auto, unfolding(crate::specs::Recordings::PLAIN))]
+fn is_plain(format: &[u8]) -> bool
+    requires { 16 ≤ length format.now }
+    ensures { result ≡ is_plain format.now }
+{
+    let tag = u16_at(format, 0);
+    tag == PLAIN_TAG
+        || (tag == EXTENSIBLE_TAG
+            && part_of(format, SUBFORMAT_PLACE, 16) == PLAIN_SUBFORMAT.as_slice())
+}
+
+/// The points or the frames of a data chunk, which has to be whole frames long. Takes no memory.
+#[tactic(auto, unfolding(crate::specs::ReadSteps::frame_steps))]
+pub(crate) fn read_channels<'a>(
+    alloc: Global,
+    layout: Layout,
+    bytes: &'a [u8],
+) -> Result<Channels<'a>, WaveFault>
+    ensures { Passes (λ c. c) result (frame_steps layout bytes.now) (channels_in layout bytes.now) }
+{
+    match layout {
+        Layout::Mono => match Points::of_slice(alloc, bytes) {
+            Ok(points) => Ok(Channels::Mono(points)),
+            Err(_) => Err(WaveFault::HalfFrame),
+        },
+        Layout::Stereo => match Table::over(bytes) {
+            Some(frames) => Ok(Channels::Stereo(frames)),
+            None => Err(WaveFault::HalfFrame),
+        },
+    }
+}

@@ -1,0 +1,90 @@
+//! Reading a WAVE file.
+ghost use Rattle.std.specs.Prelude.{◌≡◌};
+ghost use Rattle.bank_format.specs.Chunks.{window};
+ghost use Rattle.riff_chunks.specs.Walk.{walk};
+ghost use Rattle.riff_chunks.specs.Finding.{chunks_in};
+ghost use Rattle.recordings.specs.Steps.{Passes};
+ghost use Rattle.recordings.specs.ReadSteps.{riff_steps, window_steps, content_steps, content_in, recording_in};
+
+use crate::fault::WaveFault;
+use crate::format::{read_channels, read_format};
+use crate::recording::Recording;
+use crate::sampler::read_sampler;
+use riff_chunks::FirstChunks;
+use sf_base::{front_of, part_of, rest_from, u32_at};
+use std::alloc::Global;
+
+/// The bytes of the RIFF chunk's id and size.
+const HEAD_LENGTH: usize = 8;
+
+/// The bytes of the form after them.
+const FORM_LENGTH: usize = 4;
+
+/// The chunks that are read.
+const IDS: &[[u8; 4]] = &[*b"fmt ", *b"data", *b"smpl"];
+
+/// What a WAVE file says, or the fault of the first step of reading that it breaks. It borrows the points from the
+/// file, and takes no memory.
+///
+/// The samples are plain whole numbers of 16 bits, of one channel or of two. The sampler chunk gives key, correction
+/// and loop: of its loops the first that is played forwards.
+pub fn read_recording<'a>(alloc: Global, file: &'a [u8]) -> Result<Recording<'a>, WaveFault>
+    ensures { result ≡ recording_in file.now }
+{
+    let window = window_of(file)?;
+    read_window(alloc, window)
+}
+
+// What follows the form in the RIFF chunk of a file. The chunk may lack its last pad byte, and what follows it is
+// ignored.
+#[tactic(auto, unfolding(crate::specs::ReadSteps::riff_steps, bank_format::specs::Chunks::window, wave_file::specs::Wave::RIFF, wave_file::specs::Wave::WAVE))]
+fn window_of(file: &[u8]) -> Result<&[u8], WaveFault>
+    ensures { Passes (λ w. w.now) result (riff_steps file.now) (window file.now) }
+{
+    if front_of(file, 4) != b"RIFF".as_slice() {
+        return Err(WaveFault::NotWave);
+    }
+    if file.len() < HEAD_LENGTH + FORM_LENGTH {
+        return Err(WaveFault::Truncated);
+    }
+    let size = u32_at(file, 4) as usize;
+    if size < FORM_LENGTH || file.len() + 1 < HEAD_LENGTH + size {
+        return Err(WaveFault::Truncated);
+    }
+    if part_of(file, HEAD_LENGTH, FORM_LENGTH) != b"WAVE".as_slice() {
+        return Err(WaveFault::NotWave);
+    }
+    Ok(rest_from(
+        front_of(file, HEAD_LENGTH + size),
+        HEAD_LENGTH + FORM_LENGTH,
+    ))
+}
+
+// What the chunks of the window say, which is walked to its end.
+#[tactic(auto, unfolding(crate::specs::ReadSteps::window_steps))]
+fn read_window<'a>(alloc: Global, window: &'a [u8]) -> Result<Recording<'a>, WaveFault>
+    ensures { Passes (λ r. r) result (window_steps window.now) (content_in (chunks_in (walk window.now))) }
+{
+    let chunks = FirstChunks::over(window, IDS)?;
+    read_content(alloc, &chunks)
+}
+
+// What the first chunk of each id says.
+fn read_content<'a>(
+    alloc: Global,
+    chunks: &FirstChunks<'a>,
+) -> Result<Recording<'a>, WaveFault>
+    ensures { Passes (λ r. r) result (content_steps chunks.now) (content_in chunks.now) }
+{
+    let format = read_format(chunks.body_of(*b"fmt ").unwrap_or(&[]))?;
+    let Some(bytes) = chunks.body_of(*b"data") else {
+        return Err(WaveFault::NoData);
+    };
+    let channels = read_channels(alloc, format.layout, bytes)?;
+    let sampler = read_sampler(chunks.body_of(*b"smpl"), channels.frame_count())?;
+    Ok(Recording {
+        channels,
+        rate: format.rate,
+        sampler,
+    })
+}

@@ -1,0 +1,147 @@
+//! A sample as a WAVE file: one channel of 16 bits, and a sampler chunk with its loop and its pitch.
+ghost use Rattle.std.specs.Prelude.{◌≡◌, ◌+◌, ◌*◌, ◌≤◌, length};
+ghost use Rattle.std.specs.List.{flat_map};
+ghost use Rattle.outputs.specs.Output.{Puts};
+ghost use Rattle.riff_chunks.specs.Spelling.{chunk};
+ghost use Rattle.sample_view.specs.Words.{word_bytes};
+ghost use Rattle.sf_base.specs.declared.limits.TheConstants.{POINTS};
+ghost use Rattle.wave_file.specs.Wave.{FORMAT, DATA};
+ghost use Rattle.wave_file.specs.SampleWave.{SAMPLER, numbers, mono_format, frame_time, loop_count, sampler_head, loop_bytes, held_pitch, sampler, sample_wave};
+
+use crate::pitch::{pitch_fraction, unity_note};
+use bank_parts::Sample;
+use outputs::Output;
+use riff_chunks::put_head;
+use sample_view::Points;
+use std::io::Write;
+
+/// The bytes of the file but those of the sampler chunk's body and of the points, and but the first 8.
+const AROUND: u32 = 44;
+
+/// The bytes of the format chunk.
+const FORMAT_SIZE: u32 = 16;
+
+/// The bytes of a sampler chunk without loops, with 8 bytes of data.
+const SAMPLER_SIZE: u32 = 44;
+
+/// The bytes of a loop.
+const LOOP_SIZE: u32 = 24;
+
+/// The nanoseconds of a second.
+const SECOND: u32 = 1_000_000_000;
+
+/// Puts a sample as a whole WAVE file: one channel of 16 bits, its points as they are, its rate in frames a
+/// second, and a sampler chunk with its key, its correction in cents and its loop. Takes no memory.
+///
+/// The sampler chunk tells other programs the pitch, as a unity note of 0 to 127 and a fraction of a semitone above
+/// it. Its data, 8 bytes, keep the key and the correction as they are: several of them have one pitch.
+pub fn put_sample_wave<W: Write>(sample: &Sample<'_>, output: &mut Output<'_, W>)
+    requires { length sample.now.points ≤ POINTS }
+    ensures { Puts W.contents output.old output.new (sample_wave sample.now) }
+{
+    let data_size = 2 * sample.points.len() as u32;
+    put_head(output, *b"RIFF", AROUND + sampler_size(sample) + data_size);
+    output.put(b"WAVE");
+    put_mono_format(sample.rate, output);
+    put_sampler(sample, output);
+    put_head(output, *b"data", data_size);
+    put_points(&sample.points, output);
+}
+
+// Puts the format chunk: whole numbers, one channel, the rate, 16 bits.
+fn put_mono_format<W: Write>(rate: u32, output: &mut Output<'_, W>)
+    ensures { Puts W.contents output.old output.new (chunk FORMAT (mono_format rate)) }
+{
+    put_head(output, *b"fmt ", FORMAT_SIZE);
+    output.put(&[1, 0, 1, 0]);
+    output.put(&rate.to_le_bytes());
+    output.put(&rate.saturating_mul(2).to_le_bytes());
+    output.put(&[2, 0, 16, 0]);
+}
+
+// Puts the sampler chunk.
+fn put_sampler<W: Write>(sample: &Sample<'_>, output: &mut Output<'_, W>)
+    ensures { Puts W.contents output.old output.new (chunk SAMPLER (sampler sample.now)) }
+{
+    put_head(output, *b"smpl", sampler_size(sample));
+    put_sampler_head(sample, output);
+    put_loop(sample.looped, output);
+    put_held_pitch(sample, output);
+}
+
+// The bytes of the body of the sampler chunk.
+fn sampler_size(sample: &Sample<'_>) -> u32
+    ensures value { result ≡ length (sampler sample.now) }
+    ensures bound { result ≤ 68 }
+{
+    SAMPLER_SIZE + LOOP_SIZE * loop_count(sample.looped)
+}
+
+fn loop_count(looped: Option<(u32, u32)>) -> u32
+    ensures value { result ≡ loop_count looped }
+    ensures bound { result ≤ 1 }
+{
+    match looped {
+        Some(_) => 1,
+        None => 0,
+    }
+}
+
+// Puts what stands in the sampler chunk before the loops.
+#[tactic(auto, unfolding(crate::specs::SampleWave::sampler_head))]
+fn put_sampler_head<W: Write>(sample: &Sample<'_>, output: &mut Output<'_, W>)
+    ensures { Puts W.contents output.old output.new (sampler_head sample.now) }
+{
+    let unity_note = unity_note(sample.key, sample.correction);
+    let fraction = pitch_fraction(sample.key, sample.correction);
+    let loops = loop_count(sample.looped);
+    let time = frame_time(sample.rate);
+    put_numbers(&[0, 0, time, unity_note, fraction, 0, 0, loops, 8], output);
+}
+
+// How long a frame lasts, in nanoseconds.
+fn frame_time(rate: u32) -> u32
+    ensures { result ≡ frame_time rate }
+{
+    if rate == 0 { 0 } else { SECOND / rate }
+}
+
+// Puts a loop that is played forwards without end, if there is one.
+#[tactic(auto, unfolding(crate::specs::SampleWave::loop_bytes), using(outputs::proofs::OutputLaws::puts_nothing))]
+fn put_loop<W: Write>(looped: Option<(u32, u32)>, output: &mut Output<'_, W>)
+    ensures { Puts W.contents output.old output.new (loop_bytes looped) }
+{
+    if let Some((first, end)) = looped {
+        put_numbers(&[0, 0, first, end.saturating_sub(1), 0, 0], output);
+    }
+}
+
+// Puts the data of the sampler chunk: the key and the correction as they are.
+#[tactic(auto, unfolding(crate::specs::SampleWave::held_pitch), using(outputs::proofs::OutputLaws::puts_then))]
+fn put_held_pitch<W: Write>(sample: &Sample<'_>, output: &mut Output<'_, W>)
+    ensures { Puts W.contents output.old output.new (held_pitch sample.now.key sample.now.correction) }
+{
+    output.put(b"sfbk");
+    output.put(&[sample.key, sample.correction.cast_unsigned(), 0, 0]);
+}
+
+// Puts numbers, the low byte of each first.
+#[tactic(auto, using(outputs::proofs::OutputLaws::putting_start, outputs::proofs::OutputLaws::putting_end))]
+fn put_numbers<W: Write>(values: &[u32], output: &mut Output<'_, W>)
+    ensures { Puts W.contents output.old output.new (numbers values.now) }
+{
+    for number in values {
+        output.put(&number.to_le_bytes());
+    }
+}
+
+// Puts points as the slices that they lie in: a long one goes out as it stands.
+#[tactic(auto, using(outputs::proofs::OutputLaws::putting_start, outputs::proofs::OutputLaws::putting_end))]
+fn put_points<W: Write>(points: &Points<'_>, output: &mut Output<'_, W>)
+    ensures { Puts W.contents output.old output.new (flat_map word_bytes points.now) }
+{
+    let pieces = points.pieces();
+    for piece in pieces {
+        output.put(piece);
+    }
+}
