@@ -15,6 +15,8 @@ use Rattle.edit_refusals.specs.declared.cause.Cause.{Cause}
 use Rattle.edit_refusals.specs.declared.refusal.Refusal.{Refusal}
 use Rattle.edit_refusals.specs.declared.refusal.Refusal.TheVariants.{Of, OutOfMemory, NothingToUndo, NothingToRedo, GroupRefused}
 use Rattle.edit_refusals.specs.CauseNames as causes
+use Rattle.sfbank_program.specs.declared.input_fault.InputFault.{InputFault}
+use Rattle.sfbank_program.specs.InputFaults.{reason_of}
 use Rattle.sfbank_program.specs.declared.run_fault.RunFault.{RunFault}
 use Rattle.sfbank_program.specs.declared.run_fault.RunFault.TheVariants.{Read, ReadSecond, Script, Refused, NotNeutral, OtherVersion, Notes, Recording, NoMember, Write, Memory}
 
@@ -80,9 +82,13 @@ no_member_line cause = concat (codes "sfbank: refused " ∷ decimal (causes.numb
 abbrev pub write_line : List ℕ → ℕ → List ℕ
 write_line path written = concat (codes "sfbank: write fault " ∷ path ∷ codes " after " ∷ decimal written ∷ codes " bytes\n" ∷ [])
 
--- an input at a path that can't be read, or is too long
-abbrev pub file_line : List ℕ → List ℕ
-file_line path = concat (codes "sfbank: file fault " ∷ path ∷ codes "\n" ∷ [])
+-- an input at a path that is not there as a whole, and why
+abbrev pub file_line : List ℕ → InputFault → List ℕ
+file_line path fault = concat (codes "sfbank: file fault " ∷ path ∷ codes ": " ∷ reason_of fault ∷ codes "\n" ∷ [])
+
+-- a number that no fault and no refusal has
+abbrev pub unexplained_line : ℕ → List ℕ
+unexplained_line number = concat (codes "error: no fault and no refusal has the number " ∷ decimal number ∷ codes "\n" ∷ [])
 
 -- the line of a run's fault, with its line feed; a write fault has the path
 unfoldable pub fault_line : List ℕ → RunFault → List ℕ

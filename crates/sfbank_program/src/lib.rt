@@ -4,19 +4,27 @@
 #![tactic(auto)]
 
 mod commands;
+mod explanations;
 mod fault;
 mod fault_lines;
 mod input;
+mod input_fault;
 mod output;
+mod prompt;
+mod recording_name;
 mod replacement;
 mod run_fault;
 mod telling;
 mod words;
 
+pub use explanations::{Explanation, Told, explanation, write_explanation};
 pub use fault::{Fault, STANDARD_OUTPUT};
 pub use fault_lines::{exit_status, fault_text};
-pub use input::{InputFault, read_file, read_whole};
+pub use input::{read_file, read_whole};
+pub use input_fault::InputFault;
 pub use output::{OutputFile, end_both};
+pub use prompt::Prompted;
+pub use recording_name::recording_name;
 pub use run_fault::{RunFault, Which};
 pub use telling::tell;
 pub use words::{
