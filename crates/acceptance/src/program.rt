@@ -18,7 +18,7 @@ sample 0 \"saw\" 44100 60 0 mono noloop 2
 fn run_on<O: Write, E: Write>(rt: &HostRuntime, words: &str, output: &mut O, errors: &mut E) -> u8 {
     let words: Result<Vec<&str>, AllocError> = words.split_ascii_whitespace().collect(rt.alloc());
     match words {
-        Ok(words) => run(rt, words.as_slice(), output, errors),
+        Ok(words) => run(rt, words.as_slice(), &mut b"".as_slice(), output, errors),
         Err(AllocError) => 255,
     }
 }
@@ -95,13 +95,13 @@ fn outputs_are_written(rt: HostRuntime) -> Result<(), Fail> {
 const REFUSED: &str = "\
 sfbank canon no/cut no/out -> 2 sfbank: read fault 3 Truncated
 sfbank show no/cut -> 2 sfbank: read fault 3 Truncated
-sfbank canon no/none no/out -> 5 sfbank: file fault no/none
-sfbank show no/none -> 5 sfbank: file fault no/none
+sfbank canon no/none no/out -> 5 sfbank: file fault no/none: No such file or directory
+sfbank show no/none -> 5 sfbank: file fault no/none: No such file or directory
 sfbank canon no/in no/no/out -> 5 sfbank: write fault no/no/out after 0 bytes
 sfbank canon no/in /dev/full -> 5 sfbank: write fault /dev/full after 0 bytes
-sfbank apply no/none no no/out no/undo -> 5 sfbank: file fault no/none
-sfbank apply no/in no no/out no/undo -> 5 sfbank: file fault no
-sfbank apply no/in no/none no/out no/undo -> 5 sfbank: file fault no/none
+sfbank apply no/none no no/out no/undo -> 5 sfbank: file fault no/none: No such file or directory
+sfbank apply no/in no no/out no/undo -> 5 sfbank: file fault no: Is a directory
+sfbank apply no/in no/none no/out no/undo -> 5 sfbank: file fault no/none: No such file or directory
 sfbank apply no/cut no/frob no/out no/undo -> 2 sfbank: read fault 3 Truncated
 sfbank apply no/in no/frob no/out no/undo -> 3 sfbank: line 2: fault 41 Syntax
 sfbank apply no/in no/other no/out no/undo -> 4 sfbank: line 1: refused 22 NoSuchSample
@@ -112,7 +112,7 @@ sfbank apply --neutral no/in no/other no/out no/undo -> 4 sfbank: line 1: refuse
 sfbank apply no/in no/loud no/out no/undo -> 4 sfbank: line 1: refused 22 NoSuchSample
 sfbank play no/cut no/frob no/out -> 2 sfbank: read fault 3 Truncated
 sfbank play no/in no/frob no/out -> 3 sfbank: line 2: fault 45 BadNote
-sfbank play no/in no/none no/out -> 5 sfbank: file fault no/none
+sfbank play no/in no/none no/out -> 5 sfbank: file fault no/none: No such file or directory
 sfbank play no/in no/notes no/no/out -> 5 sfbank: write fault no/no/out after 0 bytes
 sfbank apply no/in no/rename no/no/out no/undo -> 5 sfbank: write fault no/no/out after 0 bytes
 sfbank apply no/in no/rename /dev/full no/undo -> 5 sfbank: write fault /dev/full after 0 bytes
@@ -201,6 +201,7 @@ fn what_goes_to_the_output(rt: HostRuntime) -> Result<(), Fail> {
     );
     assert!(rt; tells(&rt, "sfbank help play", b"Plays notes on a bank"));
     assert!(rt; tells(&rt, "sfbank show --help", b"Tells what a bank has"));
+    assert!(rt; tells(&rt, "sfbank explain 18", b"18 TooMany\n"));
     Ok(())
 }
 
@@ -225,6 +226,16 @@ fn words_that_are_no_run(rt: HostRuntime) {
         "sfbank play a b",
         "sfbank show",
         "sfbank show a b",
+        "sfbank explain",
+        "sfbank explain Syntax",
+        "sfbank explain 256 257",
+        "sfbank import a b c",
+        "sfbank live a",
+        "sfbank map a preset 0",
+        "sfbank map a bank 0 b",
+        "sfbank map a preset -1 b",
+        "sfbank wave a b",
+        "sfbank wave a 4294967296 b",
     ] {
         assert!(rt; are_refused(&rt, words), "{words}");
     }

@@ -173,7 +173,7 @@ impl Told {
 /// What the fault or the refusal of a number means: there is an answer exactly where one has the number, and it
 /// has the name of that one.
 #[tactic(auto, using(crate::proofs::AllExplained::all_found))]
-pub fn explanation(number: u32) -> Option<Explanation>
+pub fn explain(number: u32) -> Option<Explanation>
     ensures known { IfSome result (λ e. IsOfNumber number e.number e.name.now) }
     ensures all { (told : Told) → number_of told ≡ number → IsSome result }
 {

@@ -17,7 +17,7 @@ mod run_fault;
 mod telling;
 mod words;
 
-pub use explanations::{Explanation, Told, explanation, write_explanation};
+pub use explanations::{Explanation, Told, explain, write_explanation};
 pub use fault::{Fault, STANDARD_OUTPUT};
 pub use fault_lines::{exit_status, fault_text};
 pub use input::{read_file, read_whole};
