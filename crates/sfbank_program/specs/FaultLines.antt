@@ -83,8 +83,11 @@ abbrev pub write_line : List ℕ → ℕ → List ℕ
 write_line path written = concat (codes "sfbank: write fault " ∷ path ∷ codes " after " ∷ decimal written ∷ codes " bytes\n" ∷ [])
 
 -- an input at a path that is not there as a whole, and why
+abbrev pub file_reason_line : List ℕ → List ℕ → List ℕ
+file_reason_line path reason = concat (codes "sfbank: file fault " ∷ path ∷ codes ": " ∷ reason ∷ codes "\n" ∷ [])
+
 abbrev pub file_line : List ℕ → InputFault → List ℕ
-file_line path fault = concat (codes "sfbank: file fault " ∷ path ∷ codes ": " ∷ reason_of fault ∷ codes "\n" ∷ [])
+file_line path fault = file_reason_line path (reason_of fault)
 
 -- a number that no fault and no refusal has
 abbrev pub unexplained_line : ℕ → List ℕ

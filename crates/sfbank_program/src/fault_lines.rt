@@ -3,7 +3,7 @@ ghost use Rattle.std.specs.Prelude.{◌≡◌, IfOk};
 ghost use Rattle.outputs.specs.Output.{Puts};
 ghost use Rattle.outputs.specs.Writing.{Writes};
 ghost use Rattle.sample_view.specs.Pieces.{joined_bytes};
-ghost use Rattle.sfbank_program.specs.FaultLines.{fault_line, status_of, read_line, second_read_line, read_text, text_line, refused_line, not_neutral_line, recording_line, no_member_line, refusal_text, detail_text, step_text, limit_text, write_line, file_line, unexplained_line};
+ghost use Rattle.sfbank_program.specs.FaultLines.{fault_line, status_of, read_line, second_read_line, read_text, text_line, refused_line, not_neutral_line, recording_line, no_member_line, refusal_text, detail_text, step_text, limit_text, write_line, file_line, file_reason_line, unexplained_line};
 
 use crate::input_fault::InputFault;
 use crate::run_fault::RunFault;
@@ -268,12 +268,18 @@ pub(crate) fn file_fault_text<W: Write>(
 fn put_file_fault<W: Write>(path: &str, fault: InputFault, output: &mut Output<'_, W>)
     ensures { Puts W.contents output.old output.new (file_line path.now fault) }
 {
+    put_file_reason(path, fault.reason(), output);
+}
+
+fn put_file_reason<'t, W: Write>(path: &'t str, reason: &'t str, output: &mut Output<'_, W>)
+    ensures { Puts W.contents output.old output.new (file_reason_line path.now reason.now) }
+{
     put_pieces(
         &[
             b"sfbank: file fault ",
             path.as_bytes(),
             b": ",
-            fault.reason().as_bytes(),
+            reason.as_bytes(),
             b"\n",
         ],
         output,

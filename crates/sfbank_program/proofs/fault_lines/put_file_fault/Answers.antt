@@ -1,5 +1,4 @@
-use Rattle.std.proofs.Common.{◌∙◌}
 use Rattle.sfbank_program.proofs.fault_lines.put_file_fault.Goals as goal
 
 pub returns : goal.returns
-returns g c = rw (c.as_bytes.ensures.value, c.as_bytes-2.ensures.value ∙ c.reason.ensures) at c.put_pieces.ensures
+returns g c = rw c.reason.ensures at c.put_file_reason.ensures
