@@ -70,10 +70,10 @@ sub status_of {
     my ($line) = @_;
     return 0 if $line eq '';
     return $FAULTS{$1} && $FAULTS{$1} eq $2 && $1 <= 18 ? 2 : undef if $line =~ /^sfbank: read fault (\d+) (\w+)\n\z/;
-    return $FAULTS{$1} && $FAULTS{$1} eq $2 && $1 >= 41 && $1 < 53 ? 3 : undef if $line =~ /^sfbank: line [1-9]\d*: fault (\d+) (\w+)\n\z/;
+    return $FAULTS{$1} && $FAULTS{$1} eq $2 && $1 >= 41 && $1 <= 47 ? 3 : undef if $line =~ /^sfbank: line [1-9]\d*: fault (\d+) (\w+)\n\z/;
     return $FAULTS{$1} && $FAULTS{$1} eq $2 && $1 >= 53 ? 2 : undef if $line =~ /^sfbank: wave fault (\d+) (\w+)\n\z/;
-    return is_cause($1) ? 4 : undef if $line =~ /^sfbank: refused (2[012] \w+)\n\z/;
     return 4 if $line =~ /^sfbank: line [1-9]\d*: refused 50 NotNeutral\n\z/;
+    return is_cause($1) ? 4 : undef if $line =~ /^sfbank: refused (\d+ NoSuch\w+)\n\z/;
     return is_cause($1) ? 4 : undef if $line =~ /^sfbank: line [1-9]\d*: refused (?:48 GroupRefused \d+ )?(.*)\n\z/;
     return 5 if $line =~ /^sfbank: (?:file fault [^\n]*|write fault [^\n]* after \d+ bytes)\n\z/;
     return;

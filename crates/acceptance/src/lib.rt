@@ -5,6 +5,7 @@
 #[cfg(test)]
 mod banks;
 #[cfg(test)]
+mod details;
 mod lists;
 #[cfg(test)]
 mod program;

@@ -1,9 +1,12 @@
 //! A bank as lines of text: what `show` tells of it.
 #![tactic(auto)]
 
+mod counting;
 mod listing;
 mod members;
 mod pieces;
 mod points;
+mod uses;
+mod zones;
 
-pub use listing::put_listing;
+pub use listing::{Details, put_details, put_listing};

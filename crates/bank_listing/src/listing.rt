@@ -1,16 +1,33 @@
 //! The lines of a bank.
-ghost use Rattle.std.specs.Prelude.{◌≡◌};
+ghost use Rattle.std.specs.Prelude.{◌≡◌, ◌<◌, length, slice_get, Option, IfSome, OnOk, OnErr};
+ghost use Rattle.std.specs.Option.{option_copied};
 ghost use Rattle.outputs.specs.Output.{Puts};
-ghost use Rattle.bank_listing.specs.Listing.{listing, bank_line, counts_line, owner_line, sample_line, lines_from};
+ghost use Rattle.bank_listing.specs.Listing.{listing, bank_line, counts_line, lines_from};
+ghost use Rattle.bank_listing.specs.Details.{owner_lines, sample_lines, listing_with, detailed_listing};
 
 use crate::members::{ListedHead, put_sample};
 use crate::pieces::{number_piece, word_piece};
 use crate::points::point_count;
+use crate::uses::{Uses, of_instruments, put_sample_uses, put_uses, told_uses};
+use crate::zones::put_zones;
 use bank_core::{Bank, Owners, Sample};
 use bank_format::Counts;
 use line_tokens::put_line;
 use outputs::Output;
+use sf_base::OutOfMemory;
+use std::alloc::Global;
 use std::io::Write;
+
+/// What a listing tells besides a line for each preset, each instrument and each sample.
+#[derive(Clone, Copy, Debug, PartialEq, Eq)]
+pub struct Details {
+    /// A line for the global zone of each preset and each instrument, where it is not empty, and one for
+    /// each other zone.
+    pub zones: bool,
+    /// A line for each instrument and each sample: how many zones name it, and how many other samples
+    /// are linked with a sample.
+    pub uses: bool,
+}
 
 /// Puts a line for the bank, one for the counts of what was dropped or mended as it was read, and one
 /// for each preset, each instrument and each sample. Names stand as the literals of the edit script.
@@ -18,11 +35,43 @@ use std::io::Write;
 pub fn put_listing<W: Write>(bank: &Bank<'_>, counts: &Counts, output: &mut Output<'_, W>)
     ensures { Puts W.contents output.old output.new (listing bank.now counts.now) }
 {
+    put_lines(bank, counts, false, None, output);
+}
+
+/// Puts what `put_listing` puts, and behind the line of each member what is told of it besides: how often
+/// it is named, and then its zones, as scripts spell them.
+///
+/// Where memory is wanted, to count uses, and there is none, nothing is put.
+pub fn put_details<W: Write>(
+    alloc: Global,
+    bank: &Bank<'_>,
+    counts: &Counts,
+    details: Details,
+    output: &mut Output<'_, W>,
+) -> Result<(), OutOfMemory>
+    ensures ok { OnOk result (Puts W.contents output.old output.new (detailed_listing details bank.now counts.now)) }
+    ensures err { OnErr result (output.new ≡ output.old) }
+{
+    let uses = told_uses(alloc, bank, details.uses)?;
+    put_lines(bank, counts, details.zones, uses.as_ref(), output);
+    Ok(())
+}
+
+// The lines of a bank, with those of zones and of uses, if these are to be told.
+fn put_lines<W: Write>(
+    bank: &Bank<'_>,
+    counts: &Counts,
+    zones: bool,
+    uses: Option<&Uses>,
+    output: &mut Output<'_, W>,
+)
+    ensures { Puts W.contents output.old output.new (listing_with zones (option_copied uses.entry) bank.now counts.now) }
+{
     put_bank(bank, output);
     put_counts(counts, output);
-    put_owners(bank.presets(), output);
-    put_owners(bank.instruments(), output);
-    put_samples(bank.samples(), output);
+    put_owners(bank.presets(), zones, None, output);
+    put_owners(bank.instruments(), zones, of_instruments(uses), output);
+    put_samples(bank.samples(), uses, output);
 }
 
 // The line of the bank.
@@ -68,23 +117,58 @@ fn put_counts<W: Write>(counts: &Counts, output: &mut Output<'_, W>)
     put_line(b"counts", &pieces, output);
 }
 
-// A line for each preset, or for each instrument.
+// The lines of presets, or of instruments.
 #[tactic(auto, using(outputs::proofs::OutputLaws::putting_start))]
-fn put_owners<H: ListedHead, W: Write>(owners: &Owners<H>, output: &mut Output<'_, W>)
-    ensures { Puts W.contents output.old output.new (lines_from (owner_line H.line) 0 owners.now) }
+fn put_owners<H: ListedHead, W: Write>(
+    owners: &Owners<H>,
+    zones: bool,
+    uses: Option<&[u64]>,
+    output: &mut Output<'_, W>,
+)
+    ensures { Puts W.contents output.old output.new (lines_from (owner_lines H.line H.word (option_copied uses.entry) zones) 0 owners.now) }
 {
     for number in 0..owners.len() {
-        let zones = owners.zone_count(number) as u64;
-        owners.head(number).put(number as u64, zones, output);
+        put_owner(owners, number, zones, uses, output);
     }
 }
 
-// A line for each sample.
+// The lines of number `i`, which is there.
+fn put_owner<H: ListedHead, W: Write>(
+    owners: &Owners<H>,
+    i: usize,
+    zones: bool,
+    uses: Option<&[u64]>,
+    output: &mut Output<'_, W>,
+)
+    requires { i < length owners.now }
+    ensures { IfSome (slice_get owners.now i) (λ x. Puts W.contents output.old output.new (owner_lines H.line H.word (option_copied uses.entry) zones i x)) }
+{
+    let zone_count = owners.zone_count(i) as u64;
+    owners.head(i).put(i as u64, zone_count, output);
+    put_uses(H::word(), i, uses, output);
+    put_zones(owners, i, zones, output);
+}
+
+// The lines of each sample.
 #[tactic(auto, using(outputs::proofs::OutputLaws::putting_start))]
-fn put_samples<W: Write>(samples: &[Sample<'_>], output: &mut Output<'_, W>)
-    ensures { Puts W.contents output.old output.new (lines_from sample_line 0 samples.now) }
+fn put_samples<W: Write>(samples: &[Sample<'_>], uses: Option<&Uses>, output: &mut Output<'_, W>)
+    ensures { Puts W.contents output.old output.new (lines_from (sample_lines (option_copied uses.entry)) 0 samples.now) }
 {
     for (number, sample) in samples.iter().enumerate() {
-        put_sample(number as u64, sample, output);
+        put_told_sample(number, sample, uses, output);
     }
+}
+
+// The lines of a sample.
+#[tactic(auto, using(outputs::proofs::OutputLaws::puts_then))]
+fn put_told_sample<W: Write>(
+    number: usize,
+    sample: &Sample<'_>,
+    uses: Option<&Uses>,
+    output: &mut Output<'_, W>,
+)
+    ensures { Puts W.contents output.old output.new (sample_lines (option_copied uses.entry) number sample.now) }
+{
+    put_sample(number as u64, sample, output);
+    put_sample_uses(number, uses, output);
 }

@@ -16,8 +16,15 @@ use std::io::Write;
 pub(crate) trait ListedHead: OwnerHead {
     ghost use Rattle.std.specs.Prelude.{ℕ, List};
 
+    /// The word for it in scripts.
+    ghost word: { List ℕ };
+
     /// Its line, by its number and the number of its zones.
     ghost line: { ℕ → Self → ℕ → List ℕ };
+
+    /// The word for it in scripts.
+    fn word() -> &'static [u8]
+        ensures { result.now ≡ word };
 
     /// Puts its line.
     fn put<W: Write>(&self, number: u64, zones: u64, output: &mut Output<'_, W>)
@@ -25,7 +32,15 @@ pub(crate) trait ListedHead: OwnerHead {
 }
 
 impl ListedHead for Head {
+    ghost use Rattle.std.specs.Prelude.{codes};
+
+    ghost word = { codes "preset" };
+
     ghost line = { preset_line };
+
+    fn word() -> &'static [u8] {
+        b"preset"
+    }
 
     #[tactic(auto, unfolding(crate::specs::Listing::preset_line))]
     fn put<W: Write>(&self, number: u64, zones: u64, output: &mut Output<'_, W>) {
@@ -41,7 +56,15 @@ impl ListedHead for Head {
 }
 
 impl ListedHead for Name20 {
+    ghost use Rattle.std.specs.Prelude.{codes};
+
+    ghost word = { codes "inst" };
+
     ghost line = { instrument_line };
+
+    fn word() -> &'static [u8] {
+        b"inst"
+    }
 
     #[tactic(auto, unfolding(crate::specs::Listing::instrument_line))]
     fn put<W: Write>(&self, number: u64, zones: u64, output: &mut Output<'_, W>) {

@@ -17,3 +17,4 @@ pub use laws::{
 pub use replacement::put_replacement;
 pub use samples::SamplePoints;
 pub use script::put_bank_text;
+pub use zones::{put_global_of, put_zone_of};

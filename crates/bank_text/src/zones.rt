@@ -30,8 +30,13 @@ pub(crate) fn put_zones_of<H: OwnerHead, W: Write>(
     put_own_zones(owners, i, output);
 }
 
-// The global zone, and nothing where it is empty.
-fn put_global_of<H: OwnerHead, W: Write>(owners: &Owners<H>, i: usize, output: &mut Output<'_, W>)
+/// Puts the global zone of number `i`, which is there, each token behind a space, and nothing where it is
+/// empty.
+pub fn put_global_of<H: OwnerHead, W: Write>(
+    owners: &Owners<H>,
+    i: usize,
+    output: &mut Output<'_, W>,
+)
     requires { i < length owners.now }
     ensures { IfSome (slice_get owners.now i) (λ x. Puts W.contents output.old output.new (flat_map spaced (pieces_of (global_operands (global_of x.global))))) }
 {
@@ -55,8 +60,8 @@ fn put_own_zones<H: OwnerHead, W: Write>(owners: &Owners<H>, i: usize, output: &
     }
 }
 
-// Zone `k` of number `i`, both of which are there.
-fn put_zone_of<H: OwnerHead, W: Write>(
+/// Puts zone `k` of number `i`, both of which are there, each token behind a space.
+pub fn put_zone_of<H: OwnerHead, W: Write>(
     owners: &Owners<H>,
     i: usize,
     k: usize,

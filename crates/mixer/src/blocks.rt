@@ -10,6 +10,10 @@ use crate::playing::Playing;
 // The sides that are summed in one pass: those of 1,024 frames.
 const PART: usize = 2048;
 
+// The sides of a block that has few sums, as in live play: those of 64 frames. Sums are cleared before they
+// are used, however few of them are.
+const SHORT: usize = 128;
+
 // The most voices whose sum fits 32 bits.
 const GROUP: usize = 65535;
 
@@ -60,11 +64,11 @@ fn cut_totals(totals: &[i128], out: &mut [i16])
     }
 }
 
-fn silent_sums() -> [i32; PART]
+fn silent_sums<const N: usize>() -> [i32; N]
     ensures silent { (k : ℕ) → slice_index_or result k (pos 0) ≡ pos 0 }
-    ensures long { length result ≡ 2048 }
+    ensures long { length result ≡ N }
 {
-    [0; PART]
+    [0; N]
 }
 
 fn silent_totals() -> [i128; PART]
@@ -85,7 +89,7 @@ fn add_one_group(voices: &mut [Playing], totals: &mut [i128])
     ensures room { (j : ℕ) → AllWithin j totals.old → AllWithin (j + length voices.old) totals.new }
     ensures live { voices.new ≡ map (aged (length totals.old / 2)) voices.old }
 {
-    let mut sums = silent_sums();
+    let mut sums: [i32; PART] = silent_sums();
     let n = totals.len();
     add_group(voices, &mut sums[..n]);
     widen(&sums[..n], totals);
@@ -108,8 +112,24 @@ fn add_all(voices: &mut [Playing], totals: &mut [i128])
     }
 }
 
-// A part of a block of no more voices than a group has.
+// A part of a block of no more voices than a group has, by way of N sums.
 #[tactic(auto, unfolding(crate::specs::Events::next_side))]
+fn mix_by_sums<const N: usize>(voices: &mut [Playing], out: &mut [i16])
+    requires few { length voices.old ≤ 65535 }
+    requires young { AllYounger (2 ^ 63 + 2 ^ 34) voices.old }
+    requires fits { length out.old ≤ N }
+    requires short { N ≤ 2048 }
+    requires even { length out.old % 2 ≡ 0 }
+    ensures value { EachIndex out.new (λ i. slice_index_or out.new i (pos 0) ≡ next_side voices.old i) }
+    ensures live { voices.new ≡ map (aged (length out.old / 2)) voices.old }
+{
+    let mut sums: [i32; N] = silent_sums();
+    let n = out.len();
+    add_group(voices, &mut sums[..n]);
+    cut_sums(&sums[..n], out);
+}
+
+// A part of a block of no more voices than a group has.
 fn mix_group(voices: &mut [Playing], out: &mut [i16])
     requires few { length voices.old ≤ 65535 }
     requires young { AllYounger (2 ^ 63 + 2 ^ 34) voices.old }
@@ -118,10 +138,11 @@ fn mix_group(voices: &mut [Playing], out: &mut [i16])
     ensures value { EachIndex out.new (λ i. slice_index_or out.new i (pos 0) ≡ next_side voices.old i) }
     ensures live { voices.new ≡ map (aged (length out.old / 2)) voices.old }
 {
-    let mut sums = silent_sums();
-    let n = out.len();
-    add_group(voices, &mut sums[..n]);
-    cut_sums(&sums[..n], out);
+    if out.len() <= SHORT {
+        mix_by_sums::<SHORT>(voices, out);
+    } else {
+        mix_by_sums::<PART>(voices, out);
+    }
 }
 
 // A part of a block of any number of voices.

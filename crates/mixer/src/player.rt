@@ -62,8 +62,8 @@ impl<'a> Player<'a> {
 
     /// The next frames, the left and the right side in turn: sums of all voices, each cut once to 16
     /// bits. It takes no memory. Its work is that of the voices' own frames, and, for each 1,024 of them or
-    /// what is left, to clear some kilobytes once and six for each voice: blocks of a few frames cost
-    /// that much more for each frame. For no frame it does nothing.
+    /// what is left, to clear eight kilobytes once and six for each voice; where these are at most 64
+    /// frames, it clears a sixteenth of that. For no frame it does nothing.
     #[tactic(auto, unfolding(crate::specs::Events::after_block))]
     pub fn block(&mut self, out: &mut [i16])
         requires { length out.old % 2 ≡ 0 }

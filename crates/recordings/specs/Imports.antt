@@ -13,6 +13,7 @@ use Rattle.edit_forms.specs.declared.step.Step.TheVariants.{AddSample, SetKind}
 use Rattle.recordings.specs.declared.frames.Frame.{Frame}
 use Rattle.recordings.specs.declared.recording.Channels.{Channels}
 use Rattle.recordings.specs.declared.recording.Channels.TheVariants.{Mono, Stereo}
+use Rattle.recordings.specs.declared.recording.Sampler.{Sampler}
 use Rattle.recordings.specs.declared.recording.Recording.{Recording}
 
 -- ---- the points of two channels
@@ -43,41 +44,35 @@ side_name name letter = before_zero (take 18 name) ++ letter
 
 -- ---- the edits
 
-abbrev pub sample_of : Recording → List ℕ → List ℕ → Kind → Sample
-sample_of r name points kind = record {
+abbrev pub sample_of : ℕ → Sampler → List ℕ → List ℕ → Kind → Sample
+sample_of rate sampler name points kind = record {
   name = name;
   points = points;
-  looped = r.sampler.looped;
-  rate = r.rate;
-  key = r.sampler.pitch.key;
-  correction = r.sampler.pitch.correction;
+  looped = sampler.looped;
+  rate = rate;
+  key = sampler.pitch.key;
+  correction = sampler.pitch.correction;
   kind = kind;
 }
 
 abbrev pub add_edit : ℕ → Sample → Edit
 add_edit at sample = One (AddSample at sample)
 
--- One channel comes as sample n.
-abbrev pub mono_edits : ℕ → List ℕ → Recording → List ℕ → List Edit
-mono_edits n name r points = add_edit n (sample_of r (mono_name name) points kind.Mono) ∷ []
-
-abbrev pub left_edit : ℕ → List ℕ → Recording → List ℕ → Edit
-left_edit n name r points = add_edit n (sample_of r (side_name name (codes " L")) points kind.Mono)
-
-abbrev pub right_edit : ℕ → List ℕ → Recording → List ℕ → Edit
-right_edit n name r points = add_edit (n + 1) (sample_of r (side_name name (codes " R")) points (kind.Right n))
-
--- Two channels come as samples n and n + 1, each linked with the other. A full bank refuses the first of these edits, and
+-- Two samples come as samples n and n + 1, and the first is linked with the second. A full bank refuses the first edit, and
 -- the others can't be said of it.
-abbrev pub stereo_edits : ℕ → List ℕ → Recording → BothSides → List Edit
-stereo_edits n name r sides =
-    if nat_lt n SAMPLES then left_edit n name r sides.left ∷ right_edit n name r sides.right ∷ One (SetKind n (kind.Left (n + 1))) ∷ []
-    else left_edit n name r sides.left ∷ []
+abbrev pub pair_edits : ℕ → Sample → Sample → List Edit
+pair_edits n left right =
+    if nat_lt n SAMPLES then add_edit n left ∷ add_edit (n + 1) right ∷ One (SetKind n (kind.Left (n + 1))) ∷ []
+    else add_edit n left ∷ []
 
-abbrev pub channel_edits : ℕ → List ℕ → Recording → Channels → List Edit
-channel_edits n name r (Mono points) = mono_edits n name r points
-channel_edits n name r (Stereo frames) = stereo_edits n name r (sides_of (Stereo frames))
+-- one channel comes as one sample, and two as a left and a right one
+abbrev pub channel_edits : ℕ → List ℕ → ℕ → Sampler → Channels → List Edit
+channel_edits n name rate sampler (Mono points) = add_edit n (sample_of rate sampler (mono_name name) points kind.Mono) ∷ []
+channel_edits n name rate sampler (Stereo frames) =
+    pair_edits n
+    (sample_of rate sampler (side_name name (codes " L")) (left_points frames) kind.Mono)
+    (sample_of rate sampler (side_name name (codes " R")) (right_points frames) (kind.Right n))
 
 -- the edits that put a recording of this name behind n samples
 unfoldable pub import_edits : ℕ → List ℕ → Recording → List Edit
-import_edits n name r = channel_edits n name r r.channels
+import_edits n name r = channel_edits n name r.rate r.sampler r.channels

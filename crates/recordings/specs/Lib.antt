@@ -3,3 +3,4 @@ pub mod Steps
 pub mod Recordings
 pub mod ReadSteps
 pub mod Imports
+pub mod Laws

@@ -1,8 +1,9 @@
 //! The format chunk and the data chunk of a WAVE file.
-ghost use Rattle.std.specs.Prelude.{◌≡◌, ◌≤◌, length};
+ghost use Rattle.std.specs.Prelude.{◌≡◌, ◌≤◌, [], length, unwrap_or};
+ghost use Rattle.std.specs.Option.{option_copied};
 ghost use Rattle.recordings.specs.Steps.{Passes};
 ghost use Rattle.recordings.specs.Recordings.{format_in, is_plain, channels_in};
-ghost use Rattle.recordings.specs.ReadSteps.{format_steps, frame_steps};
+ghost use Rattle.recordings.specs.ReadSteps.{format_steps, data_steps, frame_steps};
 
 use crate::fault::WaveFault;
 use crate::recording::{Channels, Format, Layout};
@@ -42,8 +43,14 @@ pub(crate) fn read_format(format: &[u8]) -> Result<Format, WaveFault>
     }
     let rate = u32_at(format, 4);
     match u16_at(format, 2) {
-        1 => Ok(Format { layout: Layout::Mono, rate }),
-        2 => Ok(Format { layout: Layout::Stereo, rate }),
+        1 => Ok(Format {
+            layout: Layout::Mono,
+            rate,
+        }),
+        2 => Ok(Format {
+            layout: Layout::Stereo,
+            rate,
+        }),
         _ => Err(WaveFault::ChannelCount),
     }
 }
@@ -60,9 +67,25 @@ fn is_plain(format: &[u8]) -> bool
             && part_of(format, SUBFORMAT_PLACE, 16) == PLAIN_SUBFORMAT.as_slice())
 }
 
-/// The points or the frames of a data chunk, which has to be whole frames long. Takes no memory.
+/// The points or the frames of a data chunk, which has to be there and to be whole frames long. Takes no memory.
+#[tactic(auto, unfolding(crate::specs::ReadSteps::data_steps))]
+pub(crate) fn read_data<'a>(
+    alloc: Global,
+    layout: Layout,
+    body: Option<&'a [u8]>,
+) -> Result<Channels<'a>, WaveFault>
+    ensures { Passes (λ c. c) result (data_steps layout (option_copied body.entry))
+        (channels_in layout (unwrap_or (option_copied body.entry) [])) }
+{
+    match body {
+        Some(bytes) => read_channels(alloc, layout, bytes),
+        None => Err(WaveFault::NoData),
+    }
+}
+
+// The points or the frames in bytes.
 #[tactic(auto, unfolding(crate::specs::ReadSteps::frame_steps))]
-pub(crate) fn read_channels<'a>(
+fn read_channels<'a>(
     alloc: Global,
     layout: Layout,
     bytes: &'a [u8],

@@ -1,10 +1,13 @@
 //! The edits by which a recording comes into a bank.
-ghost use Rattle.std.specs.Prelude.{◌≡◌, ◌≤◌, ◌<◌, ◌+◌, codes, IfOk};
+ghost use Rattle.std.specs.Prelude.{◌≡◌, ◌≤◌, [], ◌∷◌, IfOk};
+ghost use Rattle.std.specs.List.{AllByRecursion};
+ghost use Rattle.sf_base.specs.Names.{IsName, IsTextByte};
 ghost use Rattle.sf_base.specs.declared.limits.TheConstants.{SAMPLES};
-ghost use Rattle.recordings.specs.Imports.{sides_of, mono_name, side_name, sample_of, add_edit, mono_edits, stereo_edits, import_edits};
+ghost use Rattle.recordings.specs.Imports.{sides_of, mono_name, side_name, sample_of, add_edit, pair_edits, import_edits};
 
 use crate::recording::{Channels, Recording, Sampler};
 use crate::sides::Sides;
+use arrayvec::ArrayVec;
 use bank_format::before_zero;
 use bank_parts::{Kind, Sample};
 use edit_forms::{Edit, Step};
@@ -15,13 +18,18 @@ use std::alloc::Global;
 
 /// What stands behind the name of a left sample and of a right one.
 const LEFT: &[u8; 2] = b" L";
+
 const RIGHT: &[u8; 2] = b" R";
+
+/// The bytes of a name before its side, at most.
+const OWN_LENGTH: usize = 18;
 
 /// The edits that put a recording behind `samples` samples, whose points are parted in `sides`: one sample of one channel, or
 /// a left and a right one of two, linked with each other.
 ///
 /// A name is cut before a zero byte and after 20 bytes. Of two channels it is cut after 18, and ` L` or ` R` stands behind
 /// it.
+#[tactic(auto, unfolding(crate::specs::Imports::import_edits))]
 pub fn import_edits<'a>(
     alloc: Global,
     samples: usize,
@@ -30,7 +38,121 @@ pub fn import_edits<'a>(
     sides: &'a Sides,
 ) -> Result<Vec<Edit<'a>>, OutOfMemory>
     requires count { samples ≤ SAMPLES }
-    requires parted { sides.now ≡ sides_of recording.entry.channels }
+    requires parted { sides.now ≡ sides_of recording.channels }
     ensures { IfOk result (λ edits. edits.items ≡ import_edits samples name.now recording.entry) }
 {
+    let Recording {
+        channels,
+        rate,
+        sampler,
+    } = recording;
+    match channels {
+        Channels::Mono(points) => {
+            let name = mono_name(name);
+            single_edit(
+                alloc,
+                samples,
+                sample_of(rate, sampler, name, points, Kind::Mono),
+            )
+        }
+        Channels::Stereo(_) => {
+            let left_name = side_name(name, LEFT);
+            let right_name = side_name(name, RIGHT);
+            let left_kind = Kind::Mono;
+            let right_kind = Kind::Right(samples as u16);
+            let left = sample_of(rate, sampler, left_name, sides.left(alloc), left_kind);
+            let right = sample_of(rate, sampler, right_name, sides.right(alloc), right_kind);
+            pair_edits(alloc, samples, left, right)
+        }
+    }
+}
+
+// What stands before the first zero byte, of the first 20 bytes.
+fn mono_name(name: &[u8]) -> Name20
+    ensures { result ≡ mono_name name.now }
+{
+    name_of(before_zero(front_of(name, NAME_LENGTH)))
+}
+
+// The same of the first 18, and then the side.
+fn side_name(name: &[u8], side: &[u8; 2]) -> Name20
+    requires { AllByRecursion IsTextByte side.now }
+    ensures { result ≡ side_name name.now side.now }
+{
+    let mut text: ArrayVec<u8, 20> = ArrayVec::new();
+    let own = before_zero(front_of(name, OWN_LENGTH));
+    text.try_extend_from_slice(own).unwrap();
+    text.try_extend_from_slice(side).unwrap();
+    name_of(text.as_slice())
+}
+
+fn name_of(text: &[u8]) -> Name20
+    requires { IsName text.now }
+    ensures { result ≡ text.now }
+{
+    Name20::from_bytes(text).unwrap()
+}
+
+fn sample_of<'a>(
+    rate: u32,
+    sampler: Sampler,
+    name: Name20,
+    points: Points<'a>,
+    kind: Kind,
+) -> Sample<'a>
+    ensures { result ≡ sample_of rate sampler name points.entry kind }
+{
+    Sample {
+        name,
+        points,
+        looped: sampler.looped,
+        rate,
+        key: sampler.pitch.key,
+        correction: sampler.pitch.correction,
+        kind,
+    }
+}
+
+fn add_edit(at: u32, sample: Sample<'_>) -> Edit<'_>
+    ensures { result ≡ add_edit at sample.entry }
+{
+    Edit::One(Step::AddSample { at, sample })
+}
+
+// The edit that puts a sample behind `samples` others.
+fn single_edit<'a>(
+    alloc: Global,
+    samples: usize,
+    sample: Sample<'a>,
+) -> Result<Vec<Edit<'a>>, OutOfMemory>
+    requires { samples ≤ SAMPLES }
+    ensures { IfOk result (λ edits. edits.items ≡ add_edit samples sample.entry ∷ []) }
+{
+    let mut edits = Vec::new(alloc);
+    edits.push(add_edit(samples as u32, sample))?;
+    Ok(edits)
+}
+
+// The edits that put a left sample and a right one behind `samples` others. Where the bank is full the first of them is
+// refused, and stands for all.
+fn pair_edits<'a>(
+    alloc: Global,
+    samples: usize,
+    left: Sample<'a>,
+    right: Sample<'a>,
+) -> Result<Vec<Edit<'a>>, OutOfMemory>
+    requires { samples ≤ SAMPLES }
+    ensures { IfOk result (λ edits. edits.items ≡ pair_edits samples left.entry right.entry) }
+{
+    let mut edits = single_edit(alloc, samples, left)?;
+    if samples >= SAMPLES {
+        return Ok(edits);
+    }
+    let at = samples as u32;
+    edits.push(add_edit(at + 1, right))?;
+    edits.push(Edit::One(Step::SetKind {
+        sample: at,
+        kind: Kind::Left(samples as u16 + 1),
+    }))?;
+    Ok(edits)
 }

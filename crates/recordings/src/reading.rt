@@ -1,13 +1,14 @@
 //! Reading a WAVE file.
 ghost use Rattle.std.specs.Prelude.{◌≡◌};
-ghost use Rattle.bank_format.specs.Chunks.{window};
+ghost use Rattle.bank_format.specs.Chunks.{window, body_in};
+ghost use Rattle.wave_file.specs.Wave.{FORMAT};
 ghost use Rattle.riff_chunks.specs.Walk.{walk};
 ghost use Rattle.riff_chunks.specs.Finding.{chunks_in};
 ghost use Rattle.recordings.specs.Steps.{Passes};
 ghost use Rattle.recordings.specs.ReadSteps.{riff_steps, window_steps, content_steps, content_in, recording_in};
 
 use crate::fault::WaveFault;
-use crate::format::{read_channels, read_format};
+use crate::format::{read_data, read_format};
 use crate::recording::Recording;
 use crate::sampler::read_sampler;
 use riff_chunks::FirstChunks;
@@ -70,21 +71,23 @@ fn read_window<'a>(alloc: Global, window: &'a [u8]) -> Result<Recording<'a>, Wav
 }
 
 // What the first chunk of each id says.
-fn read_content<'a>(
-    alloc: Global,
-    chunks: &FirstChunks<'a>,
-) -> Result<Recording<'a>, WaveFault>
+fn read_content<'a>(alloc: Global, chunks: &FirstChunks<'a>) -> Result<Recording<'a>, WaveFault>
     ensures { Passes (λ r. r) result (content_steps chunks.now) (content_in chunks.now) }
 {
-    let format = read_format(chunks.body_of(*b"fmt ").unwrap_or(&[]))?;
-    let Some(bytes) = chunks.body_of(*b"data") else {
-        return Err(WaveFault::NoData);
-    };
-    let channels = read_channels(alloc, format.layout, bytes)?;
+    let format = read_format(format_of(chunks))?;
+    let channels = read_data(alloc, format.layout, chunks.body_of(*b"data"))?;
     let sampler = read_sampler(chunks.body_of(*b"smpl"), channels.frame_count())?;
     Ok(Recording {
         channels,
         rate: format.rate,
         sampler,
     })
+}
+
+// The body of the format chunk. A missing one holds no byte.
+#[tactic(auto, unfolding(wave_file::specs::Wave::FORMAT))]
+fn format_of<'a>(chunks: &FirstChunks<'a>) -> &'a [u8]
+    ensures { result.now ≡ body_in FORMAT chunks.now }
+{
+    chunks.body_of(*b"fmt ").unwrap_or(&[])
 }

@@ -30,7 +30,7 @@ const HIGHEST_KEY: u32 = 127;
 /// What the sampler chunk says, if there is one, of so many frames. Without it the key is 60, and there is neither a
 /// correction nor a loop.
 pub(crate) fn read_sampler(chunk: Option<&[u8]>, frames: usize) -> Result<Sampler, WaveFault>
-    ensures { Passes (λ s. s) result (sampler_steps frames (option_copied chunk)) (sampler_in (option_copied chunk)) }
+    ensures { Passes (λ s. s) result (sampler_steps frames (option_copied chunk.entry)) (sampler_in (option_copied chunk.entry)) }
 {
     match chunk {
         None => Ok(Sampler {
@@ -83,14 +83,16 @@ fn forward_loop(chunk: &[u8]) -> Option<SamplerLoop>
 {
     let loops = part_of(chunk, HEAD_SIZE, LOOP_SIZE * loop_count(chunk));
     let table: Table<SamplerLoop> = Table::over(loops).unwrap();
-    table.iter().find(|found| found.kind == FORWARDS)
+    for found in table.iter() {
+        if found.kind == FORWARDS {
+            return Some(found);
+        }
+    }
+    None
 }
 
 // The ends of a loop, which has to lie among so many frames.
-fn read_loop(
-    found: Option<SamplerLoop>,
-    frames: usize,
-) -> Result<Option<(u32, u32)>, WaveFault>
+fn read_loop(found: Option<SamplerLoop>, frames: usize) -> Result<Option<(u32, u32)>, WaveFault>
     ensures { Passes (λ looped. looped) result (loop_steps frames found) (option_map ends_of found) }
 {
     let Some(found) = found else {

@@ -4,6 +4,7 @@ pub use Rattle.inverse_edits.specs.Runs
 pub use Rattle.edit_script.specs.Script
 pub use Rattle.edit_script.specs.Printing
 pub use Rattle.bank_listing.specs.Listing
+pub use Rattle.bank_listing.specs.Details
 pub use Rattle.note_list.specs.Notes
 pub use Rattle.mixer.specs.Render
 pub use Rattle.neutral_edits.specs.Neutral
@@ -15,3 +16,4 @@ pub mod Plans
 pub mod NewBanks
 pub mod BankScripts
 pub mod Differences
+pub mod Recordings

@@ -1,21 +1,24 @@
 //! Texts go out, each whole and flushed.
-ghost use Rattle.std.specs.Prelude.{◌≡◌};
+ghost use Rattle.std.specs.Prelude.{◌≡◌, ◌≤◌, Ok, length};
 ghost use Rattle.outputs.specs.Output.{Puts};
 ghost use Rattle.bank_format.specs.Canon.{canon};
 ghost use Rattle.bank_text.specs.Printed.{bank_script};
 ghost use Rattle.bank_text.specs.Whole.{edits_between};
 ghost use Rattle.bank_listing.specs.Listing.{listing};
+ghost use Rattle.bank_listing.specs.Details.{detailed_listing};
 ghost use Rattle.edit_script.specs.Printing.{texts_of};
+ghost use Rattle.sf_base.specs.declared.limits.TheConstants.{POINTS};
+ghost use Rattle.wave_file.specs.SampleWave.{sample_wave};
 ghost use Rattle.wave_file.specs.Wave.{FitsWave, wave};
 ghost use Rattle.live_sessions.specs.Saved.{undo_text};
 ghost use Rattle.sfbank_program.specs.declared.run_fault.Which.TheVariants.{Out, Undo};
-ghost use Rattle.sfbank.specs.Written.{Delivers, GoesOut, IsTold};
+ghost use Rattle.sfbank.specs.Written.{Delivers, GoesOut, RunsAlone, IsTold};
 ghost use Rattle.sfbank.specs.Plans.{planned};
 
 use crate::plan::Plan;
-use bank_core::Bank;
+use bank_core::{Bank, Sample};
 use bank_format::Counts;
-use bank_listing::put_listing;
+use bank_listing::{Details, put_details, put_listing};
 use bank_text::{SamplePoints, put_bank_text, put_replacement};
 use edit_forms::Edit;
 use edit_script::put_edit;
@@ -23,8 +26,9 @@ use live_sessions::put_undo;
 use outputs::{Output, WriteFault};
 use sf_writer::put_bank;
 use sfbank_program::{RunFault, Which};
+use std::alloc::Global;
 use std::io::Write;
-use wave_file::put_wave;
+use wave_file::{put_sample_wave, put_wave};
 
 /// The bank's file goes out, and then the undo text. It takes no memory.
 pub(crate) fn deliver<W: Write, V: Write>(
@@ -63,6 +67,21 @@ pub(crate) fn deliver_listing<W: Write>(
     told(Which::Out, output.deliver())
 }
 
+/// The listing of a bank with details goes out. Where there is no memory to count uses, nothing does.
+pub(crate) fn deliver_details<W: Write>(
+    alloc: Global,
+    bank: &Bank<'_>,
+    counts: &Counts,
+    details: Details,
+    out: &mut W,
+) -> Result<(), RunFault>
+    ensures { RunsAlone (W.contents out.old) (W.contents out.new) (Ok (detailed_listing details bank.now counts.now)) result }
+{
+    let mut output = Output::to(out);
+    put_details(alloc, bank, counts, details, &mut output)?;
+    told(Which::Out, output.deliver())
+}
+
 /// The WAVE file of frames goes out, which are samples of the left and the right side in turn. It takes
 /// no memory.
 #[tactic(auto, using(crate::proofs::Texts::text_goes_out))]
@@ -72,6 +91,17 @@ pub(crate) fn deliver_wave<W: Write>(frames: &[i16], out: &mut W) -> Result<(), 
 {
     let mut output = Output::to(out);
     put_wave(frames, &mut output);
+    told(Which::Out, output.deliver())
+}
+
+/// The WAVE file of a sample goes out. It takes no memory.
+#[tactic(auto, using(crate::proofs::Texts::text_goes_out))]
+pub(crate) fn deliver_sample<W: Write>(sample: &Sample<'_>, out: &mut W) -> Result<(), RunFault>
+    requires { length sample.now.points ≤ POINTS }
+    ensures { GoesOut Out (W.contents out.old) (W.contents out.new) (sample_wave sample.now) result }
+{
+    let mut output = Output::to(out);
+    put_sample_wave(sample, &mut output);
     told(Which::Out, output.deliver())
 }
 

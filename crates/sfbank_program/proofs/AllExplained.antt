@@ -31,73 +31,73 @@ Found n = IsSome (find (λ told. number_of told == n) ALL)
 
 
 of_reading : (it : ReadFault) → Found (number_of (Reading it))
-of_reading read.NotRiff = tt
-of_reading read.NotSfbk = tt
-of_reading read.Truncated = tt
-of_reading read.MissingList = tt
-of_reading read.MissingChunk = tt
-of_reading read.Version = tt
-of_reading read.RecordSize = tt
-of_reading read.NoTerminal = tt
-of_reading read.BagOrder = tt
-of_reading read.IndexOutside = tt
-of_reading read.BadInstrument = tt
-of_reading read.BadSample = tt
-of_reading read.SampleRange = tt
-of_reading read.SampleType = tt
-of_reading read.RomSample = tt
-of_reading read.OddSamples = tt
-of_reading read.TooMany = tt
+of_reading read.NotRiff = refl
+of_reading read.NotSfbk = refl
+of_reading read.Truncated = refl
+of_reading read.MissingList = refl
+of_reading read.MissingChunk = refl
+of_reading read.Version = refl
+of_reading read.RecordSize = refl
+of_reading read.NoTerminal = refl
+of_reading read.BagOrder = refl
+of_reading read.IndexOutside = refl
+of_reading read.BadInstrument = refl
+of_reading read.BadSample = refl
+of_reading read.SampleRange = refl
+of_reading read.SampleType = refl
+of_reading read.RomSample = refl
+of_reading read.OddSamples = refl
+of_reading read.TooMany = refl
 
 of_script : (it : ScriptFault) → Found (number_of (Script it))
-of_script (script.Syntax line) = tt
-of_script (script.Number line) = tt
-of_script (script.Literal line) = tt
+of_script (script.Syntax line) = refl
+of_script (script.Number line) = refl
+of_script (script.Literal line) = refl
 
 of_notes : (it : NoteFault) → Found (number_of (Notes it))
-of_notes (note.BadNote line) = tt
-of_notes (note.TooManyNotes line) = tt
-of_notes (note.TooLong line) = tt
+of_notes (note.BadNote line) = refl
+of_notes (note.TooManyNotes line) = refl
+of_notes (note.TooLong line) = refl
 
 of_recording : (it : WaveFault) → Found (number_of (Recording it))
-of_recording wave.NotWave = tt
-of_recording wave.Truncated = tt
-of_recording wave.Compressed = tt
-of_recording wave.NoFormat = tt
-of_recording wave.SampleBits = tt
-of_recording wave.ChannelCount = tt
-of_recording wave.NoData = tt
-of_recording wave.HalfFrame = tt
-of_recording wave.ShortSampler = tt
-of_recording wave.UnityNote = tt
-of_recording wave.LoopOutside = tt
+of_recording wave.NotWave = refl
+of_recording wave.Truncated = refl
+of_recording wave.Compressed = refl
+of_recording wave.NoFormat = refl
+of_recording wave.SampleBits = refl
+of_recording wave.ChannelCount = refl
+of_recording wave.NoData = refl
+of_recording wave.HalfFrame = refl
+of_recording wave.ShortSampler = refl
+of_recording wave.UnityNote = refl
+of_recording wave.LoopOutside = refl
 
 of_cause : (it : Cause) → Found (number_of (Refused (refusal.Of it)))
-of_cause cause.NoSuchPreset = tt
-of_cause cause.NoSuchInstrument = tt
-of_cause cause.NoSuchSample = tt
-of_cause cause.NoSuchZone = tt
-of_cause cause.NoSuchModulator = tt
-of_cause cause.BadPlace = tt
-of_cause cause.InUse = tt
-of_cause cause.BadGenerator = tt
-of_cause cause.NotSet = tt
-of_cause cause.BadRange = tt
-of_cause cause.SplitOutside = tt
-of_cause cause.NotJoinable = tt
-of_cause cause.LinkedModulator = tt
-of_cause cause.TooShort = tt
-of_cause cause.LoopCut = tt
-of_cause cause.BadLoop = tt
-of_cause cause.BadText = tt
-of_cause (cause.Full limit) = tt
+of_cause cause.NoSuchPreset = refl
+of_cause cause.NoSuchInstrument = refl
+of_cause cause.NoSuchSample = refl
+of_cause cause.NoSuchZone = refl
+of_cause cause.NoSuchModulator = refl
+of_cause cause.BadPlace = refl
+of_cause cause.InUse = refl
+of_cause cause.BadGenerator = refl
+of_cause cause.NotSet = refl
+of_cause cause.BadRange = refl
+of_cause cause.SplitOutside = refl
+of_cause cause.NotJoinable = refl
+of_cause cause.LinkedModulator = refl
+of_cause cause.TooShort = refl
+of_cause cause.LoopCut = refl
+of_cause cause.BadLoop = refl
+of_cause cause.BadText = refl
+of_cause (cause.Full limit) = refl
 
 of_refusal : (it : Refusal) → Found (number_of (Refused it))
 of_refusal (refusal.Of it) = of_cause it
-of_refusal refusal.OutOfMemory = tt
-of_refusal refusal.NothingToUndo = tt
-of_refusal refusal.NothingToRedo = tt
-of_refusal (refusal.GroupRefused step it) = tt
+of_refusal refusal.OutOfMemory = refl
+of_refusal refusal.NothingToUndo = refl
+of_refusal refusal.NothingToRedo = refl
+of_refusal (refusal.GroupRefused step it) = refl
 
 of_told : (told : Told) → Found (number_of told)
 of_told (Reading it) = of_reading it
@@ -105,9 +105,9 @@ of_told (Script it) = of_script it
 of_told (Notes it) = of_notes it
 of_told (Recording it) = of_recording it
 of_told (Refused it) = of_refusal it
-of_told NotNeutral = tt
-of_told OtherVersion = tt
-of_told TooManyFrames = tt
+of_told NotNeutral = refl
+of_told OtherVersion = refl
+of_told TooManyFrames = refl
 
 -- each is found by its number
 pub all_found : (told : Told) (n : ℕ) → number_of told ≡ n → Found n

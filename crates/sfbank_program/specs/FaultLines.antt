@@ -70,14 +70,17 @@ refused_line line why = refusal_text line why ++ (detail_text why ++ codes "\n")
 abbrev pub not_neutral_line : ℕ → List ℕ
 not_neutral_line line = concat (codes "sfbank: line " ∷ decimal line ∷ codes ": refused 50 NotNeutral\n" ∷ [])
 
+-- a line that ends with a number and a name
+abbrev pub named_line : List ℕ → ℕ → List ℕ → List ℕ
+named_line start number name = concat (start ∷ decimal number ∷ codes " " ∷ name ∷ codes "\n" ∷ [])
+
 -- a fault of a WAVE file, by its number and its name
 abbrev pub recording_line : WaveFault → List ℕ
-recording_line fault =
-    concat (codes "sfbank: wave fault " ∷ decimal (recordings.number_of fault) ∷ codes " " ∷ recordings.name_of fault ∷ codes "\n" ∷ [])
+recording_line fault = named_line (codes "sfbank: wave fault ") (recordings.number_of fault) (recordings.name_of fault)
 
 -- a member that isn't there, which no line asked for
 abbrev pub no_member_line : Cause → List ℕ
-no_member_line cause = concat (codes "sfbank: refused " ∷ decimal (causes.number_of cause) ∷ codes " " ∷ causes.name_of cause ∷ codes "\n" ∷ [])
+no_member_line cause = named_line (codes "sfbank: refused ") (causes.number_of cause) (causes.name_of cause)
 
 abbrev pub write_line : List ℕ → ℕ → List ℕ
 write_line path written = concat (codes "sfbank: write fault " ∷ path ∷ codes " after " ∷ decimal written ∷ codes " bytes\n" ∷ [])

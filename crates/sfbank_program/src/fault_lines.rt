@@ -3,7 +3,7 @@ ghost use Rattle.std.specs.Prelude.{◌≡◌, IfOk};
 ghost use Rattle.outputs.specs.Output.{Puts};
 ghost use Rattle.outputs.specs.Writing.{Writes};
 ghost use Rattle.sample_view.specs.Pieces.{joined_bytes};
-ghost use Rattle.sfbank_program.specs.FaultLines.{fault_line, status_of, read_line, second_read_line, read_text, text_line, refused_line, not_neutral_line, recording_line, no_member_line, refusal_text, detail_text, step_text, limit_text, write_line, file_line, file_reason_line, unexplained_line};
+ghost use Rattle.sfbank_program.specs.FaultLines.{fault_line, status_of, read_line, second_read_line, read_text, text_line, refused_line, not_neutral_line, named_line, recording_line, no_member_line, refusal_text, detail_text, step_text, limit_text, write_line, file_line, file_reason_line, unexplained_line};
 
 use crate::input_fault::InputFault;
 use crate::run_fault::RunFault;
@@ -164,30 +164,32 @@ fn put_not_neutral<W: Write>(line: u64, output: &mut Output<'_, W>)
 fn put_recording_fault<W: Write>(fault: WaveFault, output: &mut Output<'_, W>)
     ensures { Puts W.contents output.old output.new (recording_line fault) }
 {
-    let mut number = Buffer::new();
-    put_pieces(
-        &[
-            b"sfbank: wave fault ",
-            number.format(fault.number()).as_bytes(),
-            b" ",
-            fault.name().as_bytes(),
-            b"\n",
-        ],
-        output,
-    );
+    put_named("sfbank: wave fault ", fault.number(), fault.name(), output);
 }
 
 // A member that isn't there, which no line asked for.
 fn put_no_member<W: Write>(cause: Cause, output: &mut Output<'_, W>)
     ensures { Puts W.contents output.old output.new (no_member_line cause) }
 {
-    let mut number = Buffer::new();
+    put_named("sfbank: refused ", cause.number(), cause.name(), output);
+}
+
+// A line that ends with a number and a name.
+fn put_named<'t, W: Write>(
+    start: &'t str,
+    number: u8,
+    name: &'t str,
+    output: &mut Output<'_, W>,
+)
+    ensures { Puts W.contents output.old output.new (named_line start.now number name.now) }
+{
+    let mut digits = Buffer::new();
     put_pieces(
         &[
-            b"sfbank: refused ",
-            number.format(cause.number()).as_bytes(),
+            start.as_bytes(),
+            digits.format(number).as_bytes(),
             b" ",
-            cause.name().as_bytes(),
+            name.as_bytes(),
             b"\n",
         ],
         output,

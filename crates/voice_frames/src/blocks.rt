@@ -1,5 +1,5 @@
 //! Voices in blocks, and frame by frame.
-ghost use Rattle.std.specs.Prelude.{◌≡◌, ◌≤◌, ◌*◌, length};
+ghost use Rattle.std.specs.Prelude.{◌≡◌, ◌≤◌, ◌%◌, length};
 ghost use Rattle.voices.specs.Within.{AllWithin};
 
 use crate::examples::Example;
@@ -9,27 +9,28 @@ use std::alloc::Global;
 use std::io;
 use voices::Voice;
 
-/// The frames of a block.
-const BLOCK: usize = 512;
+/// The most frames of a block.
+pub(crate) const MOST: usize = 1024;
 
-/// The blocks of a voice.
-const BLOCKS: u64 = 128;
-
-/// The frames of a voice.
+/// The frames of a voice, if whole blocks have as many.
 pub(crate) const FRAMES: u64 = 65536;
 
-/// Plays a voice, adds its blocks up, and answers a sum over that; 0 where there is no such voice.
+/// Plays a voice in blocks of so many frames, adds these up, and answers a sum over that; 0 where there
+/// is no such voice.
 pub(crate) fn play(
     alloc: Global,
     points: &Points,
     example: Example,
     round: u32,
-) -> io::Result<u64> {
-    let mut sums: [i32; 2 * BLOCK] = silence();
+    block: usize,
+) -> io::Result<u64>
+    requires { (16 ≤ block) × (block ≤ 1024) }
+{
+    let mut sums: [i32; 2 * MOST] = silence();
     if let Some(mut voice) = example.voice(points.copy(alloc).map_err(no_memory)?, round) {
-        add_blocks(&mut voice, &mut sums);
+        add_blocks(&mut voice, FRAMES / block as u64, &mut sums[..2 * block]);
     }
-    Ok(folded(&sums))
+    Ok(folded(&sums[..2 * block]))
 }
 
 /// Whether the frames of a block are those that come one by one.
@@ -38,7 +39,7 @@ pub(crate) fn is_as_single_frames(
     points: &Points,
     example: Example,
 ) -> io::Result<bool> {
-    let mut sums: [i32; 8 * BLOCK] = silence();
+    let mut sums: [i32; 4 * MOST] = silence();
     let in_block = example.voice(points.copy(alloc).map_err(no_memory)?, 0);
     let one_by_one = example.voice(points.copy(alloc).map_err(no_memory)?, 0);
     let (Some(mut in_block), Some(mut one_by_one)) = (in_block, one_by_one) else {
@@ -71,13 +72,15 @@ fn silence<const N: usize>() -> [i32; N]
     [0; N]
 }
 
-// Adds all blocks of a voice to the same sums.
-fn add_blocks(voice: &mut Voice, sums: &mut [i32])
+// Adds so many blocks of a voice to the same sums.
+fn add_blocks(voice: &mut Voice, blocks: u64, sums: &mut [i32])
     requires fresh { voice.old.age ≡ 0 }
-    requires long { length sums.old ≡ 1024 }
+    requires few { blocks ≤ 65534 }
+    requires short { length sums.old ≤ 2048 }
+    requires even { length sums.old % 2 ≡ 0 }
     requires silent { AllWithin 0 sums.old }
 {
-    for _ in 0..BLOCKS {
+    for _ in 0..blocks {
         voice.add_frames(sums);
     }
 }

@@ -2,28 +2,63 @@
 //!
 //! Without a word it compares a block with single frames. With a number it plays each voice so many
 //! times, and prints its name, a sum over what it played, its frames, and the nanoseconds that they
-//! took. `scripts/voice_frames.c` prints the same of the same voices. With the paths of a bank and of a
-//! list of notes it prints how many frames the voices of all notes have.
+//! took; a second number says of how many frames its blocks are, 512 without it. `scripts/voice_frames.c`
+//! prints the same of the same voices in blocks of 512. With the paths of a bank and of a list of notes
+//! it prints how many frames the voices of all notes have; with a number behind them it starts all notes
+//! at once, plays ten seconds in blocks of so many frames, and prints what it prints of a voice.
 #![tactic(auto)]
+
+ghost use Rattle.std.specs.Prelude.{◌≤◌};
 
 mod blocks;
 mod examples;
+mod live;
 mod notes;
 
-use crate::blocks::{FRAMES, is_as_single_frames, play};
+use crate::blocks::{FRAMES, MOST, is_as_single_frames, play};
 use crate::examples::{Example, PHASES, sample_bytes};
+use crate::live::{play_blocks, player_of};
 use crate::notes::voice_frames;
 use sample_view::Points;
 use std::time::Instant;
 use std::{env, fs, io};
 
+/// The fewest frames of a block.
+const LEAST: usize = 16;
+
+/// The frames of a block that no word tells.
+const USUAL: usize = 512;
+
+/// The frames of live play.
+const LIVE: u64 = 441000;
+
 fn main(rt: HostRuntime) -> io::Result<()> {
     let mut words = env::args(&rt)?;
     let _own_name = words.next();
-    match (words.next(), words.next()) {
-        (Some(bank), Some(notes)) => count(&rt, &bank, &notes),
-        (rounds, _) => play_all(&rt, rounds.and_then(|word| word.parse().ok())),
+    match (words.next(), words.next(), words.next()) {
+        (None, _, _) => compare_all(&rt),
+        (Some(bank), Some(notes), Some(block)) => measure_live(
+            &rt,
+            &bank,
+            &notes,
+            frames_of(&block),
+        ),
+        (Some(first), None, _) => measure_all(&rt, &first, USUAL),
+        (Some(first), Some(second), None) => {
+            if second.parse::<u32>().is_ok() {
+                measure_all(&rt, &first, frames_of(&second))
+            } else {
+                count(&rt, &first, &second)
+            }
+        }
     }
+}
+
+// The frames of a block that a word tells.
+fn frames_of(word: &str) -> usize
+    ensures { (16 ≤ result) × (result ≤ 1024) }
+{
+    word.parse::<usize>().unwrap_or(USUAL).max(LEAST).min(MOST)
 }
 
 fn count(rt: &HostRuntime, bank: &str, notes: &str) -> io::Result<()> {
@@ -33,18 +68,28 @@ fn count(rt: &HostRuntime, bank: &str, notes: &str) -> io::Result<()> {
     println!(rt; "{frames}")
 }
 
-fn play_all(rt: &HostRuntime, rounds: Option<u32>) -> io::Result<()> {
+fn measure_live(rt: &HostRuntime, bank: &str, notes: &str, block: usize) -> io::Result<()>
+    requires { (16 ≤ block) × (block ≤ 1024) }
+{
+    let bank = fs::read(rt, bank)?;
+    let notes = fs::read(rt, notes)?;
+    let mut player = player_of(rt.alloc(), bank.as_slice(), notes.as_slice())?;
+    let started = Instant::now(rt)?;
+    let blocks = LIVE / block as u64;
+    let sum = play_blocks(&mut player, block, blocks);
+    let nanoseconds = started.elapsed(rt)?.as_nanos();
+    let frames = blocks * block as u64;
+    println!(rt; "live {sum} {frames} {nanoseconds}")
+}
+
+fn compare_all(rt: &HostRuntime) -> io::Result<()> {
     let bytes = sample_bytes(rt.alloc())?;
     let Ok(points) = Points::of_slice(rt.alloc(), bytes.as_slice()) else {
         return Err(io::Error::from(io::ErrorKind::InvalidData));
     };
     for looped in [true, false] {
         for phase in PHASES {
-            let example = Example { looped, phase };
-            match rounds {
-                Some(rounds) => measure(rt, &points, example, rounds)?,
-                None => compare(rt, &points, example)?,
-            }
+            compare(rt, &points, Example { looped, phase })?;
         }
     }
     Ok(())
@@ -59,14 +104,41 @@ fn compare(rt: &HostRuntime, points: &Points, example: Example) -> io::Result<()
     println!(rt; "{}: the frames of a block are {is_so}", example.name())
 }
 
-fn measure(rt: &HostRuntime, points: &Points, example: Example, rounds: u32) -> io::Result<()> {
+fn measure_all(rt: &HostRuntime, rounds: &str, block: usize) -> io::Result<()>
+    requires { (16 ≤ block) × (block ≤ 1024) }
+{
+    let Ok(rounds) = rounds.parse() else {
+        return Err(io::Error::from(io::ErrorKind::InvalidInput));
+    };
+    let bytes = sample_bytes(rt.alloc())?;
+    let Ok(points) = Points::of_slice(rt.alloc(), bytes.as_slice()) else {
+        return Err(io::Error::from(io::ErrorKind::InvalidData));
+    };
+    for looped in [true, false] {
+        for phase in PHASES {
+            measure(rt, &points, Example { looped, phase }, rounds, block)?;
+        }
+    }
+    Ok(())
+}
+
+fn measure(
+    rt: &HostRuntime,
+    points: &Points,
+    example: Example,
+    rounds: u32,
+    block: usize,
+) -> io::Result<()>
+    requires { (16 ≤ block) × (block ≤ 1024) }
+{
     let started = Instant::now(rt)?;
     let mut sum: u64 = 0;
     for round in 0..rounds {
-        let played = play(rt.alloc(), points, example, round)?;
+        let played = play(rt.alloc(), points, example, round, block)?;
         sum = sum.wrapping_mul(31).wrapping_add(played);
     }
     let nanoseconds = started.elapsed(rt)?.as_nanos();
-    let frames = u64::from(rounds) * FRAMES;
+    let blocks = FRAMES / block as u64;
+    let frames = u64::from(rounds) * (blocks * block as u64);
     println!(rt; "{} {sum} {frames} {nanoseconds}", example.name())
 }

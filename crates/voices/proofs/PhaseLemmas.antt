@@ -3,10 +3,12 @@ use Rattle.std.proofs.Common.{◌≡◌, ℕ, zero, suc, ◌+◌, ◌-◌, ◌*�
 use Rattle.std.proofs.lemmas.Bool.{cases_lt}
 use Rattle.std.proofs.lemmas.Bool.Decides.{nat_tests}
 use Rattle.std.proofs.Math.Nat.{div-le_self}
-use Rattle.std.proofs.lemmas.Nat.{div-add-mod', div-mul-add, div_below, le-div, mod_below}
+use Rattle.std.proofs.lemmas.Nat.{div-add-mod', div-mul-add, div_below, le-div, mod_below, mul-le}
 use Rattle.sound_tables.specs.Tables.{ratio, gain_at}
 use Rattle.sound_tables.proofs.GainLemmas.{gain_falls}
 use Rattle.zone_select.specs.declared.parameters.VoiceParameters.{VoiceParameters}
+use Rattle.voices.specs.declared.phases.Level.{Level}
+use Rattle.voices.specs.Course.{IsEven}
 use Rattle.voices.specs.Envelope.{decayed, held, released, envelope}
 use Rattle.voices.proofs.LevelLemmas.{faded}
 
@@ -112,9 +114,91 @@ unfolding envelope
 envelope_held v t h =
     let e : nat_lt t v.length ≡ true = grind (arith, nat_tests) in sym (ap (λ b. cond b (held v t) (released v (t - v.length))) e)
 
-pub envelope_released : (v : VoiceParameters) (l t k : ℕ) → l ≡ v.length → l ≤ t → released v (t - l + k) ≡ envelope v (t + k)
+pub envelope_after : (v : VoiceParameters) (k : ℕ) → v.length ≤ k → envelope v k ≡ released v (k - v.length)
 unfolding envelope
-envelope_released v l t k e h =
-    let f : nat_lt (t + k) v.length ≡ false = grind (arith, nat_tests) in
-    let g : t - l + k ≡ t + k - v.length = omega (arith, e) in
-    ap (released v) g ∙ sym (ap (λ b. cond b (held v (t + k)) (released v (t + k - v.length))) f)
+envelope_after v k h =
+    let f : nat_lt k v.length ≡ false = grind (arith, nat_tests) in ap (λ b. cond b (held v k) (released v (k - v.length))) f
+
+-- the release, from numbers that are equal to its own
+pub released_is : (v : VoiceParameters) (l k at_end over : ℕ) → l ≡ v.length → at_end ≡ held v v.length → over ≡ v.release → l ≤ k
+    → envelope v k ≡ at_end * gain_at (960 * (k - l) / over) / 65536
+unfolding released
+released_is v l k at_end over e f g h =
+    let after : v.length ≤ k = omega (arith, e, h) in
+    envelope_after v k after
+    ∙ ap (λ y. held v v.length * gain_at (960 * (k - y) / v.release) / 65536) (sym e)
+    ∙ ap (λ y. held v v.length * gain_at (960 * (k - l) / y) / 65536) (sym g)
+    ∙ ap (λ y. y * gain_at (960 * (k - l) / over) / 65536) (sym f)
+
+-- the frames of one centibel
+pub same_centibel : (over fallen k : ℕ) → 0 < over → fallen ≤ k → k < ((960 * fallen / over + 1) * over + 959) / 960
+    → 960 * fallen / over ≡ 960 * k / over
+same_centibel over fallen k p le lt =
+    let far : ℕ = (960 * fallen / over + 1) * over in
+    let h : 960 * k < far = omega (arith, lt) in
+    let e : fallen + (k - fallen) ≡ k = omega arith in
+    lasting over fallen (k - fallen) p (omega (arith, h)) ∙ ap (λ m. 960 * m / over) e
+
+-- a centibel before the sustain ends before it
+pub before_sustain : (s d fallen k until : ℕ) → 0 < d → 960 * fallen < s * d → k < until → 960 * until < (960 * fallen / d + 1) * d + 960
+    → 960 * k < s * d
+before_sustain s d fallen k until p h l g =
+    let a : 960 * fallen / d < s = div_below (960 * fallen) d s p h in
+    let m : (960 * fallen / d + 1) * d ≤ s * d = mul-le (960 * fallen / d + 1) d s d (omega arith) (omega arith) in omega (arith, m, l, g)
+
+-- the phases of a note
+pub held_delayed : (v : VoiceParameters) (k : ℕ) → k < v.delay → held v k ≡ 0
+unfolding held
+held_delayed v k h = let a : nat_lt k v.delay ≡ true = grind (arith, nat_tests) in rw a refl
+
+pub held_rising : (v : VoiceParameters) (k : ℕ) → v.delay ≤ k → k < v.delay + v.attack → held v k ≡ 65536 * (k - v.delay) / v.attack
+unfolding held
+held_rising v k h g =
+    let a : nat_lt k v.delay ≡ false = grind (arith, nat_tests) in
+    let b : nat_lt (k - v.delay) v.attack ≡ true = grind (arith, nat_tests) in rw (a, b) refl
+
+pub held_full : (v : VoiceParameters) (k : ℕ) → v.delay + v.attack ≤ k → k < v.delay + v.attack + v.hold → held v k ≡ 65536
+unfolding held
+held_full v k h g =
+    let a : nat_lt k v.delay ≡ false = grind (arith, nat_tests) in
+    let b : nat_lt (k - v.delay) v.attack ≡ false = grind (arith, nat_tests) in
+    let d : nat_lt (k - v.delay - v.attack) v.hold ≡ true = grind (arith, nat_tests) in rw (a, b, d) refl
+
+pub held_decayed : (v : VoiceParameters) (k : ℕ) → v.delay + v.attack + v.hold ≤ k → held v k ≡ decayed v (k - v.delay - v.attack - v.hold)
+unfolding held
+held_decayed v k h =
+    let a : nat_lt k v.delay ≡ false = grind (arith, nat_tests) in
+    let b : nat_lt (k - v.delay) v.attack ≡ false = grind (arith, nat_tests) in
+    let d : nat_lt (k - v.delay - v.attack) v.hold ≡ false = grind (arith, nat_tests) in rw (a, b, d) refl
+
+-- levels of these phases
+pub none_even : (f : ℕ → ℕ) (t : ℕ) (level : Level) → level.until ≡ 0 → IsEven f t level
+none_even f t level e = record { even = λ k le lt. absurd (omega (arith, e, lt)) }
+
+pub delayed_even : (v : VoiceParameters) (t : ℕ) (level : Level) → level.loud ≡ 0 → level.until ≡ v.delay → IsEven (held v) t level
+delayed_even v t level e f = record { even = λ k le lt. held_delayed v k (omega (arith, f, lt)) ∙ sym e }
+
+pub full_even : (v : VoiceParameters) (t : ℕ) (level : Level) → v.delay + v.attack ≤ t → level.loud ≡ 65536 → level.until ≡ v.delay + v.attack + v.hold
+    → IsEven (held v) t level
+full_even v t level h e f = record { even = λ k le lt. held_full v k (omega (arith, h, le)) (omega (arith, f, lt)) ∙ sym e }
+
+pub decayed_even : (v : VoiceParameters) (t base : ℕ) (level inner : Level) → base ≡ v.delay + v.attack + v.hold → base ≤ t
+    → level.loud ≡ inner.loud → level.until ≡ base + inner.until → IsEven (decayed v) (t - base) inner → IsEven (held v) t level
+decayed_even v t base level inner b h e f even = record {
+  even = λ k le lt.
+      held_decayed v k (omega (arith, b, h, le)) ∙ ap (decayed v) (let q : k - v.delay - v.attack - v.hold ≡ k - base = omega (arith, b, h, le) in q)
+      ∙ even.even (k - base) (omega (arith, h, le)) (omega (arith, f, lt, h, le)) ∙ sym e;
+}
+
+pub sustained_even : (v : VoiceParameters) (t : ℕ) (level : Level) → v.sustain * v.decay ≤ 960 * t → level.loud ≡ gain_at v.sustain → IsEven (decayed v) t level
+unfolding decayed
+sustained_even v t level h e = record { even = λ k le lt. sustained v.sustain v.decay t k h le ∙ sym e }
+
+-- the rise of the attack, from numbers that are equal to its own
+pub attack_is : (v : VoiceParameters) (t k attack delay : ℕ) → attack ≡ v.attack → delay ≡ v.delay → delay ≤ t → t - delay + k < attack → t + k < v.length
+    → 65536 * (t - delay + k) / attack ≡ envelope v (t + k)
+attack_is v t k attack delay e f h g l =
+    ap (λ y. 65536 * (t - delay + k) / y) e
+    ∙ ap (λ y. 65536 * y / v.attack) (let q : t - delay + k ≡ t + k - v.delay = omega (arith, f, h) in q)
+    ∙ sym (held_rising v (t + k) (omega (arith, f, h)) (omega (arith, e, f, h, g)))
+    ∙ envelope_held v (t + k) l

@@ -1,7 +1,7 @@
 -- Places that wrap and go on.
-use Rattle.std.proofs.Common.{◌≡◌, ℕ, ◌+◌, ◌-◌, ◌*◌, ◌/◌, ◌%◌, ◌<◌, ◌≤◌, Bool, true, false, cond, not, ◌&&◌, refl, sym, ◌∙◌, ap, arith, inl, inr, nat_le}
+use Rattle.std.proofs.Common.{◌≡◌, ℕ, zero, suc, ◌+◌, ◌-◌, ◌*◌, ◌/◌, ◌%◌, ◌<◌, ◌≤◌, Bool, true, false, cond, not, ◌&&◌, refl, sym, ◌∙◌, ap, arith, inl, inr, nat_le}
 use Rattle.zone_select.specs.declared.parameters.VoiceParameters.{VoiceParameters}
-use Rattle.std.proofs.lemmas.Nat.{mod_below}
+use Rattle.std.proofs.lemmas.Nat.{mod_below, div_below}
 use Rattle.std.proofs.lemmas.Bool.{cases_lt}
 use Rattle.std.proofs.lemmas.Bool.Decides.{nat_tests}
 use Rattle.std.proofs.Math.Nat.{mul-add-mod_self_right, mod-eq_of_lt}
@@ -173,8 +173,23 @@ pub run_stays : (x step to n k : ℕ) → x < to → n ≤ (to - 1 - x) / step +
 run_stays x step to n k h g l =
     let e : k * step ≤ to - 1 - x = times_div k (to - 1 - x) step (omega arith) in omega arith
 
-pub stands_still : (x step to k : ℕ) → x < to → step ≡ 0 → x + k * step < to
-stands_still x step to k h e = let f : k * step ≡ 0 = ap (λ s. k * s) e ∙ omega arith in omega arith
+-- a run whose last frame lies before an end does so whole
+pub all_before : (x step to n k : ℕ) → x + (n - 1) * step < to → k < n → x + k * step < to
+all_before x step to n k h l =
+    let e : k * step ≤ (n - 1) * step = mul-le k step (n - 1) step (omega arith) (omega arith) in omega arith
+
+-- a run whose last frame doesn't lie before an end moves, and has fewer frames before it
+pub moves_on : (x step to n : ℕ) → x < to → to ≤ x + (n - 1) * step → 0 < step
+moves_on x zero to n h g = absurd (omega (arith, (let e : (n - 1) * 0 ≡ 0 = omega arith in e)))
+moves_on x (suc step) to n h g = omega arith
+
+pub fewer : (x step to n : ℕ) → x < to → to ≤ x + (n - 1) * step → (to - 1 - x) / step + 1 ≤ n
+fewer x step to n h g =
+    let p : 0 < step = moves_on x step to n h g in
+    let b : (to - 1 - x) / step < n - 1 = div_below (to - 1 - x) step (n - 1) p (omega arith) in omega arith
+
+pub one_less : (n step : ℕ) → (n - 1) * step ≤ n * step
+one_less n step = mul-le (n - 1) step n step (omega arith) (omega arith)
 
 pub short_way : (n step : ℕ) → n ≤ 1024 → step ≤ 73043661 → n * step ≤ 74796708864
 short_way n step h g = mul-le n step 1024 73043661 h g

@@ -9,6 +9,8 @@ use Rattle.sample_view.proofs.WordLemmas.{length-words, words-drop, get_or-words
 use Rattle.std.proofs.lemmas.List.{length-drop, drop-take}
 use Rattle.std.proofs.lemmas.Grind.{common_steps}
 use Rattle.zone_select.specs.declared.parameters.VoiceParameters.{VoiceParameters}
+use Rattle.voices.specs.declared.slices.Slice.{Slice}
+use Rattle.voices.specs.Course.{IsInHand}
 use Rattle.voices.specs.Points.{between, point_at, follower, point_of}
 use Rattle.voices.specs.Runs.{limit, pair_at, pair_says, straight}
 
@@ -95,3 +97,21 @@ run_from points bytes i first run =
       run = words-drop (2 * first) first bytes refl ∙ ap (drop first) run.run ∙ ap (λ k. drop first (take k (drop (i - first) points))) count
           ∙ drop-take first m (drop (i - first) points) ∙ ap (take m) here ∙ ap (λ j. take m (drop j points)) (let e : i ≡ i - 0 = omega arith in e);
     }
+
+-- a slice is in hand once it tells of one point
+pub in_hand : (points : List ℕ) (i place : ℕ) (slice : Slice) → IsRunAround points i slice.bytes.now place → slice.first ≡ i - place → IsInHand points slice
+in_hand points i place slice run e = record {
+  holds = λ k le inside.
+      let begins = run.begins in
+      let f : i - place ≡ k - (k - slice.first) = omega (arith, e, le, begins) in
+      record {
+        begins = omega arith;
+        inside = omega (arith, inside);
+        even = run.even;
+        run = run.run ∙ ap (λ j. take (length (words slice.bytes.now)) (drop j points)) f;
+      };
+}
+
+-- no slice is as good as any
+pub none_in_hand : (points : List ℕ) (slice : Slice) → length slice.bytes.now ≡ 0 → IsInHand points slice
+none_in_hand points slice e = record { holds = λ k le inside. absurd (omega (arith, e, inside)) }

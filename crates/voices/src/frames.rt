@@ -7,7 +7,7 @@ ghost use Rattle.voices.specs.Sound.{sound_at, part_of, snd};
 
 use crate::envelopes::envelope_at;
 use crate::levels::{louder, parted};
-use crate::places::{is_looping_at, is_over_at, place_at};
+use crate::places::{advanced, is_looping_at};
 use crate::sampled::point_of_place;
 use sample_view::Points;
 use sound_tables::gain;
@@ -31,38 +31,41 @@ pub(crate) fn right_part(v: &VoiceParameters) -> u32
     (500 + v.pan) as u32
 }
 
-// What the sample says at frame `t`, at which the voice isn't over.
+// What the sample says at frame `t`, at which the voice isn't over, and whose place is `x`.
 #[tactic(auto, using(crate::proofs::OverLemmas::loop_start_inside))]
-fn point_at_frame(points: &Points, v: &VoiceParameters, t: u64) -> i32
+fn point_at_frame(points: &Points, v: &VoiceParameters, t: u64, x: u64) -> i32
     requires playable { IsPlayable (length points.now) v.now }
     requires sounds { is_over v.now t ≡ false }
-    requires young { t < 2 ^ 33 }
+    requires here { x ≡ place v.now t }
     ensures value { result ≡ point_of points.now v.now (is_looping v.now t) (place v.now t) }
     ensures low { negsuc 32767 ≤ℤ result }
     ensures high { result ≤ℤ pos 32767 }
 {
-    point_of_place(points, v, is_looping_at(v, t), place_at(v, t))
+    point_of_place(points, v, is_looping_at(v, t), x)
 }
 
 // Frame `t` before it is parted, of a voice that isn't over then.
 #[tactic(auto, unfolding(crate::specs::Sound::sound_at))]
-fn sound_of(points: &Points, v: &VoiceParameters, t: u64) -> i32
+fn sound_of(points: &Points, v: &VoiceParameters, t: u64, x: u64) -> i32
     requires playable { IsPlayable (length points.now) v.now }
     requires sounds { is_over v.now t ≡ false }
     requires unreleased { t < v.now.length + v.now.release }
-    requires young { t < 2 ^ 33 }
+    requires here { x ≡ place v.now t }
     ensures value { result ≡ sound_at (record { points = points.now; parameters = v.now }) t }
     ensures low { negsuc 32767 ≤ℤ result }
     ensures high { result ≤ℤ pos 32767 }
 {
-    let p = point_at_frame(points, v, t);
+    let p = point_at_frame(points, v, t, x);
     louder(louder(p, envelope_at(v, t)), gain(i64::from(v.attenuation)))
 }
 
-// Both sides of frame `t`.
+// Both sides of frame `t`, at which the voice isn't over, and whose place is `x`.
 #[tactic(auto, unfolding(crate::specs::Sound::snd))]
-pub(crate) fn frame(points: &Points, v: &VoiceParameters, t: u64) -> (i32, i32)
+pub(crate) fn frame(points: &Points, v: &VoiceParameters, t: u64, x: u64) -> (i32, i32)
     requires playable { IsPlayable (length points.now) v.now }
+    requires sounds { is_over v.now t ≡ false }
+    requires unreleased { t < v.now.length + v.now.release }
+    requires here { x ≡ place v.now t }
     ensures left { result.0 ≡ snd (record { points = points.now; parameters = v.now }) true t }
     ensures right { result.1 ≡ snd (record { points = points.now; parameters = v.now }) false t }
     ensures left_low { negsuc 32767 ≤ℤ result.0 }
@@ -70,9 +73,19 @@ pub(crate) fn frame(points: &Points, v: &VoiceParameters, t: u64) -> (i32, i32)
     ensures right_low { negsuc 32767 ≤ℤ result.1 }
     ensures right_high { result.1 ≤ℤ pos 32767 }
 {
-    if is_over_at(v, t) {
-        return (0, 0);
-    }
-    let z = sound_of(points, v, t);
+    let z = sound_of(points, v, t, x);
     (parted(z, left_part(v)), parted(z, right_part(v)))
+}
+
+// The place of the frame behind frame `t`, whose place is `x`.
+#[tactic(auto, using(crate::proofs::OverLemmas::place_sounds))]
+pub(crate) fn next_place(points: &Points, v: &VoiceParameters, t: u64, x: u64) -> u64
+    requires playable { IsPlayable (length points.now) v.now }
+    requires sounds { is_over v.now t ≡ false }
+    requires here { x ≡ place v.now t }
+    ensures { result ≡ place v.now (t + 1) }
+{
+    let end = 65536 * u64::from(v.end);
+    prove!(x < end);
+    advanced(v, is_looping_at(v, t), x, 1)
 }

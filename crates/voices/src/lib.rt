@@ -3,6 +3,7 @@
 
 ghost use Rattle.voices.specs.Sound.{OverStaysOver};
 
+mod courses;
 mod envelopes;
 mod frames;
 mod levels;

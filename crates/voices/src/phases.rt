@@ -1,12 +1,118 @@
-//! How loud a voice is at the frames of a stretch: phase by phase, each with its count of frames.
-ghost use Rattle.std.specs.Prelude.{◌≡◌, ℕ, ◌+◌, ◌*◌, ◌/◌, ◌^◌, ◌≤◌, ◌<◌, EachIndex, length, slice_index};
+//! How loud a voice is at the frames of a stretch: level by level, each as long as it lasts.
+ghost use Rattle.std.specs.Prelude.{◌≡◌, ℕ, ◌+◌, ◌*◌, ◌/◌, ◌%◌, ◌^◌, ◌≤◌, ◌<◌, EachIndex, length, slice_index};
 ghost use Rattle.sound_tables.specs.Tables.{gain_at};
-ghost use Rattle.voices.specs.Envelope.{decayed, held, released, envelope};
+ghost use Rattle.voices.specs.Course.{IsEven};
+ghost use Rattle.voices.specs.Envelope.{decayed, held, envelope};
 
-use crate::envelopes::held_at;
-use crate::places::frames_before;
 use sound_tables::gain;
 use zone_select::VoiceParameters;
+
+// A level, and the frame before which it stays so.
+#[derive(Clone, Copy)]
+pub(crate) struct Level {
+    pub(crate) loud: u32,
+    pub(crate) until: u64,
+}
+
+// A level that has ended.
+pub(crate) const NO_LEVEL: Level = Level { loud: 0, until: 0 };
+
+// No level lasts longer.
+const FOREVER: u64 = 1_099_511_627_776;
+
+// The level so many frames into a fall from `level` by 960 centibels: as long as one centibel lasts.
+#[tactic(auto, using(crate::proofs::PhaseLemmas::lasts_some, crate::proofs::PhaseLemmas::lasts_shortly, crate::proofs::LevelLemmas::faded))]
+fn falling_from(level: u32, over: u64, fallen: u64) -> Level
+    requires most { level ≤ 65536 }
+    requires divisor { (0 < over) × (over < 2 ^ 32) }
+    requires near { fallen < 2 ^ 34 }
+    ensures some { fallen < result.until }
+    ensures near { result.until < 2 ^ 36 }
+    ensures last { 960 * result.until < (960 * fallen / over + 1) * over + 960 }
+    ensures even { IsEven (λ k. level * gain_at (960 * k / over) / 65536) fallen result }
+{
+    let attenuation = 960 * fallen / over;
+    let left = u64::from(level) * u64::from(gain(attenuation as i64)) / 65536;
+    Level {
+        loud: left as u32,
+        until: ((attenuation + 1) * over + 959) / 960,
+    }
+}
+
+// The level so many frames into the decay.
+#[tactic(auto, using(crate::proofs::PhaseLemmas::sustained_even))]
+fn decayed_from(v: &VoiceParameters, fallen: u64) -> Level
+    requires near { fallen < 2 ^ 34 }
+    ensures some { fallen < result.until }
+    ensures near { result.until ≤ 2 ^ 40 }
+    ensures even { IsEven (decayed v.now) fallen result }
+{
+    let decay = u64::from(v.decay);
+    let sustained = u64::from(v.sustain) * decay;
+    if sustained <= 960 * fallen {
+        return Level {
+            loud: gain(i64::from(v.sustain)),
+            until: FOREVER,
+        };
+    }
+    falling_from(65536, decay, fallen)
+}
+
+// The level at frame `t`, if the note lasts so long; one that has ended by then where the voice rises.
+#[tactic(auto, using(crate::proofs::PhaseLemmas::delayed_even, crate::proofs::PhaseLemmas::full_even, crate::proofs::PhaseLemmas::decayed_even, crate::proofs::PhaseLemmas::none_even))]
+fn held_from(v: &VoiceParameters, t: u64) -> Level
+    requires near { t < 2 ^ 33 }
+    ensures rising { result.until ≤ t → (v.now.delay ≤ t) × (t < v.now.delay + v.now.attack) }
+    ensures even { IsEven (held v.now) t result }
+{
+    let delay = u64::from(v.delay);
+    let attack = delay + u64::from(v.attack);
+    let hold = attack + u64::from(v.hold);
+    if t < delay {
+        return Level {
+            loud: 0,
+            until: delay,
+        };
+    }
+    if t < attack {
+        return NO_LEVEL;
+    }
+    if t < hold {
+        return Level {
+            loud: 65536,
+            until: hold,
+        };
+    }
+    let level = decayed_from(v, t - hold);
+    Level {
+        loud: level.loud,
+        until: hold + level.until,
+    }
+}
+
+// The level at frame `t`, of a voice that is as loud as `at_end` at its note's end; one that has ended by then
+// where the voice rises.
+fn level_from(v: &VoiceParameters, t: u64, at_end: u32) -> Level
+    requires unreleased { t < v.now.length + v.now.release }
+    requires at_end { (at_end ≡ held v.now v.now.length) × (at_end ≤ 65536) }
+    ensures rising { result.until ≤ t → (v.now.delay ≤ t) × (t < v.now.delay + v.now.attack) × (t < v.now.length) }
+    ensures even { IsEven (envelope v.now) t result }
+{
+    let length = u64::from(v.length);
+    if t < length {
+        let level = held_from(v, t);
+        return Level {
+            loud: level.loud,
+            until: level.until.min(length),
+        };
+    }
+    let release = u64::from(v.release);
+    let level = falling_from(at_end, release, t - length);
+    Level {
+        loud: level.loud,
+        until: length + level.until,
+    }
+}
 
 // Rising to 65536 in so many frames, from `risen` frames on: no frame divides.
 #[tactic(auto, using(crate::proofs::PhaseLemmas::rising_fits, crate::proofs::PhaseLemmas::step_small))]
@@ -39,133 +145,88 @@ fn fill_even(level: u32, levels: &mut [u32])
     }
 }
 
-// The front of a fall from `level` by 960 centibels in so many frames, as far as one centibel lasts;
-// answers how many frames that are.
-#[tactic(auto, using(crate::proofs::PhaseLemmas::lasts_some, crate::proofs::PhaseLemmas::lasts_shortly, crate::proofs::LevelLemmas::faded))]
-fn fill_centibel(level: u32, over: u64, fallen: u64, levels: &mut [u32]) -> usize
-    requires most { level ≤ 65536 }
-    requires divisor { (0 < over) × (over < 2 ^ 32) }
+// The levels of a stretch from `t` on that begins as the voice rises, as far as that goes; answers how many
+// frames that are.
+fn fill_attack(v: &VoiceParameters, t: u64, levels: &mut [u32]) -> usize
     requires some { 0 < length levels.old }
-    requires near { fallen + length levels.old < 2 ^ 34 }
+    requires rising { (v.now.delay ≤ t) × (t < v.now.delay + v.now.attack) }
+    requires held { t + length levels.old ≤ v.now.length }
     ensures some { (0 < result) × (result ≤ length levels.new) }
-    ensures value { (k : ℕ) → k < result → slice_index levels.new k ≡ level * gain_at (960 * (fallen + k) / over) / 65536 }
+    ensures value { (k : ℕ) → k < result → slice_index levels.new k ≡ envelope v.now (t + k) }
 {
-    let attenuation = 960 * fallen / over;
-    let n = frames_before(
-        960 * fallen,
-        960,
-        (attenuation + 1) * over,
-        levels.len() as u64,
-    ) as usize;
-    let left = u64::from(level) * u64::from(gain(attenuation as i64)) / 65536;
-    fill_even(left as u32, &mut levels[..n]);
-    n
-}
-
-// Falling from `level` by 960 centibels in so many frames, from `fallen` frames on.
-fn fill_falling(level: u32, over: u64, fallen: u64, levels: &mut [u32])
-    requires most { level ≤ 65536 }
-    requires divisor { (0 < over) × (over < 2 ^ 32) }
-    requires near { fallen + length levels.old < 2 ^ 34 }
-    ensures { EachIndex levels.new (λ k. slice_index levels.new k ≡ level * gain_at (960 * (fallen + k) / over) / 65536) }
-{
-    let mut at = 0;
-    while at < levels.len() {
-        at += fill_centibel(level, over, fallen + at as u64, &mut levels[at..]);
-    }
-}
-
-// The front of a stretch that is so many frames into the decay; answers how many frames that are.
-#[tactic(auto, using(crate::proofs::PhaseLemmas::sustained, crate::proofs::PhaseLemmas::decaying), unfolding(crate::specs::Envelope::decayed))]
-fn fill_decayed(v: &VoiceParameters, fallen: u64, levels: &mut [u32]) -> usize
-    requires some { 0 < length levels.old }
-    requires near { fallen + length levels.old < 2 ^ 34 }
-    ensures some { (0 < result) × (result ≤ length levels.new) }
-    ensures value { (k : ℕ) → k < result → slice_index levels.new k ≡ decayed v.now (fallen + k) }
-{
-    let decay = u64::from(v.decay);
-    let sustained = u64::from(v.sustain) * decay;
-    if sustained <= 960 * fallen {
-        fill_even(gain(i64::from(v.sustain)), levels);
-        return levels.len();
-    }
-    let n = frames_before(960 * fallen, 960, sustained, levels.len() as u64) as usize;
-    fill_falling(65536, decay, fallen, &mut levels[..n]);
-    n
-}
-
-// The front of a stretch from `t` on, as far as one phase goes of those before the note's end;
-// answers how many frames that are.
-#[tactic(auto, unfolding(crate::specs::Envelope::held))]
-fn fill_held(v: &VoiceParameters, t: u64, levels: &mut [u32]) -> usize
-    requires some { 0 < length levels.old }
-    requires near { t + length levels.old < 2 ^ 33 }
-    ensures some { (0 < result) × (result ≤ length levels.new) }
-    ensures value { (k : ℕ) → k < result → slice_index levels.new k ≡ held v.now (t + k) }
-{
-    let delay = u64::from(v.delay);
     let attack = u64::from(v.attack);
-    let hold = u64::from(v.hold);
-    let most = levels.len() as u64;
-    if t < delay {
-        let n = most.min(delay - t) as usize;
-        fill_even(0, &mut levels[..n]);
-        return n;
-    }
+    let delay = u64::from(v.delay);
     let risen = t - delay;
-    if risen < attack {
-        let n = most.min(attack - risen) as usize;
-        fill_rising(attack, risen, &mut levels[..n]);
-        return n;
-    }
-    let kept = risen - attack;
-    if kept < hold {
-        let n = most.min(hold - kept) as usize;
-        fill_even(65536, &mut levels[..n]);
-        return n;
-    }
-    fill_decayed(v, kept - hold, levels)
+    let n = (levels.len() as u64).min(attack - risen) as usize;
+    fill_rising(attack, risen, &mut levels[..n]);
+    n
 }
 
-// The levels before the note's end.
-fn fill_note(v: &VoiceParameters, t: u64, levels: &mut [u32])
-    requires near { t + length levels.old < 2 ^ 33 }
-    ensures { EachIndex levels.new (λ k. slice_index levels.new k ≡ held v.now (t + k)) }
+// The level in hand, or else, where it has ended by frame `t`, that which is next.
+fn level_at(v: &VoiceParameters, t: u64, hand: Level, at_end: u32) -> Level
+    requires unreleased { t < v.now.length + v.now.release }
+    requires in_hand { IsEven (envelope v.now) t hand }
+    requires at_end { (at_end ≡ held v.now v.now.length) × (at_end ≤ 65536) }
+    ensures rising { result.until ≤ t → (v.now.delay ≤ t) × (t < v.now.delay + v.now.attack) × (t < v.now.length) }
+    ensures even { IsEven (envelope v.now) t result }
 {
-    let mut at = 0;
-    while at < levels.len() {
-        at += fill_held(v, t + at as u64, &mut levels[at..]);
+    if t < hand.until {
+        return hand;
     }
+    level_from(v, t, at_end)
 }
 
-// The levels so many frames into the release.
-fn fill_released(v: &VoiceParameters, fallen: u64, levels: &mut [u32])
-    requires { fallen + length levels.old ≤ v.now.release }
-    ensures { EachIndex levels.new (λ k. slice_index levels.new k ≡ released v.now (fallen + k)) }
+// The front of a stretch from `t` on, as far as one level goes or the attack; answers how many frames that
+// are, and the level.
+fn fill_phase(
+    v: &VoiceParameters,
+    t: u64,
+    hand: Level,
+    at_end: u32,
+    levels: &mut [u32],
+) -> (usize, Level)
+    requires some { 0 < length levels.old }
+    requires unreleased { t + length levels.old ≤ v.now.length + v.now.release }
+    requires held { t < v.now.length → t + length levels.old ≤ v.now.length }
+    requires in_hand { IsEven (envelope v.now) t hand }
+    requires at_end { (at_end ≡ held v.now v.now.length) × (at_end ≤ 65536) }
+    ensures some { (0 < result.0) × (result.0 ≤ length levels.new) }
+    ensures value { (k : ℕ) → k < result.0 → slice_index levels.new k ≡ envelope v.now (t + k) }
+    ensures in_hand { IsEven (envelope v.now) t result.1 }
 {
-    if levels.is_empty() {
-        return;
+    let level = level_at(v, t, hand, at_end);
+    if level.until <= t {
+        return (fill_attack(v, t, levels), level);
     }
-    fill_falling(
-        held_at(v, u64::from(v.length)),
-        u64::from(v.release),
-        fallen,
-        levels,
-    );
+    let n = (levels.len() as u64).min(level.until - t) as usize;
+    fill_even(level.loud, &mut levels[..n]);
+    (n, level)
 }
 
-// How loud the voice is at each frame of a stretch, which the note's end ends.
-pub(crate) fn fill_levels(v: &VoiceParameters, t: u64, levels: &mut [u32])
+// How loud the voice is at each frame of a stretch, which the note's end ends, from the level in hand on;
+// answers the level that is in hand behind it.
+pub(crate) fn fill_levels(
+    v: &VoiceParameters,
+    t: u64,
+    hand: Level,
+    at_end: u32,
+    levels: &mut [u32],
+) -> Level
     requires young { t + length levels.old < 2 ^ 33 }
     requires unreleased { t + length levels.old ≤ v.now.length + v.now.release }
     requires held { t < v.now.length → t + length levels.old ≤ v.now.length }
+    requires in_hand { IsEven (envelope v.now) t hand }
+    requires at_end { (at_end ≡ held v.now v.now.length) × (at_end ≤ 65536) }
     ensures value { EachIndex levels.new (λ k. slice_index levels.new k ≡ envelope v.now (t + k)) }
     ensures most { EachIndex levels.new (λ k. slice_index levels.new k ≤ 65536) }
+    ensures in_hand { IsEven (envelope v.now) (t + length levels.old) result }
 {
-    let length = u64::from(v.length);
-    if t < length {
-        fill_note(v, t, levels);
-    } else {
-        fill_released(v, t - length, levels);
+    let mut level = hand;
+    let mut at = 0;
+    while at < levels.len() {
+        let (n, next) = fill_phase(v, t + at as u64, level, at_end, &mut levels[at..]);
+        level = next;
+        at += n;
     }
+    level
 }

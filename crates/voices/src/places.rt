@@ -1,7 +1,7 @@
 //! Where a voice reads its sample.
-ghost use Rattle.std.specs.Prelude.{◌≡◌, ◌+◌, ◌≤◌, ◌<◌, ◌^◌, ◌*◌, ℕ, IsTrue, true};
-ghost use Rattle.std.specs.Bool.{OnFalse};
+ghost use Rattle.std.specs.Prelude.{◌≡◌, ◌+◌, ◌≤◌, ◌<◌, ◌^◌, ◌*◌, ℕ, true, false};
 ghost use Rattle.voices.specs.Place.{looped_place, place, is_looping, is_over};
+ghost use Rattle.voices.specs.Runs.{gone_on};
 
 use zone_select::VoiceParameters;
 
@@ -52,32 +52,51 @@ pub(crate) fn place_at(v: &VoiceParameters, t: u64) -> u64
     }
 }
 
-// Whether the voice is over at frame `t`.
-pub(crate) fn is_over_at(v: &VoiceParameters, t: u64) -> bool
-    requires loop_is { v.now.looped ≡ true → v.now.loop_start < v.now.loop_end }
-    requires steps { v.now.step ≤ 73043661 }
+// Whether the voice is over at frame `t`, whose place is `x`.
+pub(crate) fn is_over_by(v: &VoiceParameters, t: u64, x: u64) -> bool
+    requires here { x ≡ place v.now t }
     ensures value { result ≡ is_over v.now t }
-    ensures sounds { OnFalse result (t < v.now.length + v.now.release) }
-    ensures young { OnFalse result (t < 2 ^ 33) }
+    ensures young { result ≡ false → t + 1 < 2 ^ 33 }
+    ensures sounds { result ≡ false → t < v.now.length + v.now.release }
 {
     if u64::from(v.length) + u64::from(v.release) <= t {
         return true;
     }
-    !is_looping_at(v, t) && 65536 * u64::from(v.end) <= place_at(v, t)
+    !is_looping_at(v, t) && 65536 * u64::from(v.end) <= x
+}
+
+// Where a place has come after some frames.
+#[tactic(auto, using(crate::proofs::PlaceLemmas::wrapped_below, crate::proofs::PlaceLemmas::wrapped_above, crate::proofs::PlaceLemmas::short_way))]
+pub(crate) fn advanced(v: &VoiceParameters, looping: bool, x: u64, frames: usize) -> u64
+    requires loop_is { looping ≡ true → v.now.loop_start < v.now.loop_end }
+    requires steps { v.now.step ≤ 73043661 }
+    requires near { x < 2 ^ 48 }
+    requires few { frames ≤ 1024 }
+    ensures { result ≡ gone_on v.now looping (x + frames * v.now.step) }
+{
+    let next = x + frames as u64 * u64::from(v.step);
+    let to = 65536 * u64::from(v.loop_end);
+    if looping && to <= next {
+        let from = 65536 * u64::from(v.loop_start);
+        from + (next - from) % (to - from)
+    } else {
+        next
+    }
 }
 
 // How many frames, at most `most`, lie before `to`: the first is at `x`, each next one `step` further.
-#[tactic(auto, using(crate::proofs::PlaceLemmas::run_stays, crate::proofs::PlaceLemmas::stands_still))]
+// Mostly all do, so that is asked before anything is divided.
+#[tactic(auto, using(crate::proofs::PlaceLemmas::all_before, crate::proofs::PlaceLemmas::run_stays, crate::proofs::PlaceLemmas::fewer, crate::proofs::PlaceLemmas::moves_on, crate::proofs::PlaceLemmas::one_less))]
 pub(crate) fn frames_before(x: u64, step: u64, to: u64, most: u64) -> u64
     requires before { x < to }
     requires some { 0 < most }
+    requires near { x + most * step < 2 ^ 64 }
     ensures some { 0 < result }
     ensures most { result ≤ most }
     ensures before { (k : ℕ) → k < result → x + k * step < to }
 {
-    if step == 0 {
+    if x + (most - 1) * step < to {
         return most;
     }
-    let whole = (to - 1 - x) / step;
-    if whole < most { whole + 1 } else { most }
+    (to - 1 - x) / step + 1
 }

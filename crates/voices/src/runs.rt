@@ -3,32 +3,39 @@
 ghost use Rattle.std.specs.Prelude.{◌≡◌, ℕ, ◌+◌, ◌*◌, ◌/◌, ◌%◌, ◌^◌, ◌≤◌, ◌<◌, ◌≤ℤ◌, ◌+ℤ◌, pos, negsuc, true, false, cond, EachIndex, length, nat_eq, slice_index, slice_index_or};
 ghost use Rattle.sound_tables.specs.Tables.{gain_of};
 ghost use Rattle.voices.specs.Levels.{scaled_by, side, turn_of};
-ghost use Rattle.voices.specs.Place.{is_over};
-ghost use Rattle.voices.specs.Envelope.{envelope};
+ghost use Rattle.voices.specs.Place.{is_over, place};
+ghost use Rattle.voices.specs.Course.{IsCourse, IsEven};
+ghost use Rattle.voices.specs.Envelope.{held, envelope};
 ghost use Rattle.zone_select.specs.Playable.{IsPlayable};
 ghost use Rattle.voices.specs.Sound.{sound_at, snd};
 ghost use Rattle.voices.specs.Within.{AllWithin};
 ghost use Rattle.voices.specs.Runs.{IsAdded, IsStretch};
 
+use crate::courses::Course;
 use crate::frames::{left_part, right_part};
 use crate::levels::{WHOLE, louder, parted};
-use crate::phases::fill_levels;
-use crate::places::{frames_before, is_looping_at, is_over_at, place_at};
+use crate::phases::{Level, fill_levels};
+use crate::places::{frames_before, is_looping_at};
 use crate::slices::fill_points;
 use sample_view::Points;
-use sound_tables::gain;
 use zone_select::VoiceParameters;
 
 // The most frames of a stretch.
 const LONGEST: usize = 1024;
 
-// How many frames from `t` on, at most `most`, are heard in one way: the note's end ends a stretch.
-fn stretch(v: &VoiceParameters, t: u64, most: usize) -> usize
+// The most frames of a stretch that has small buffers, as in the short blocks of live play: a buffer is
+// cleared before it is used, however little of it is.
+const SHORT: usize = 64;
+
+// How many frames from `t` on, at most `most`, are heard in one way: the note's end ends a stretch. The
+// place of the first is `x`.
+fn stretch(v: &VoiceParameters, t: u64, x: u64, most: usize) -> usize
     requires loop_is { v.now.looped ≡ true → v.now.loop_start < v.now.loop_end }
     requires steps { v.now.step ≤ 73043661 }
     requires sounds { is_over v.now t ≡ false }
+    requires here { x ≡ place v.now t }
     requires young { (t < 2 ^ 33) × (t < v.now.length + v.now.release) }
-    requires more { 0 < most }
+    requires more { (0 < most) × (most ≤ 1024) }
     ensures some { (0 < result) × (result ≤ most) }
     ensures one_way { IsStretch v.now t result }
 {
@@ -37,7 +44,7 @@ fn stretch(v: &VoiceParameters, t: u64, most: usize) -> usize
         return n as usize;
     }
     let end = 65536 * u64::from(v.end);
-    frames_before(place_at(v, t), u64::from(v.step), end, n) as usize
+    frames_before(x, u64::from(v.step), end, n) as usize
 }
 
 // How many frames, at most `most`, come before the note's end, or, from it on, before the release's.
@@ -70,42 +77,66 @@ fn quieten(levels: &[u32], loudness: u32, run: &mut [i16])
     }
 }
 
-fn empty_words() -> [u32; LONGEST]
-    ensures { length result ≡ 1024 }
+fn empty_words<const N: usize>() -> [u32; N]
+    ensures { length result ≡ N }
 {
-    [0; LONGEST]
+    [0; N]
 }
 
-fn silent_points() -> [i16; LONGEST]
-    ensures { length result ≡ 1024 }
+fn silent_points<const N: usize>() -> [i16; N]
+    ensures { length result ≡ N }
 {
-    [0; LONGEST]
+    [0; N]
 }
 
-// Makes the points of a stretch as loud as the voice is.
-fn soften(v: &VoiceParameters, t: u64, levels: &mut [u32], run: &mut [i16])
+// Makes the points of a stretch as loud as the voice is, from the level in hand on; answers the level that is
+// in hand behind it.
+fn soften(
+    v: &VoiceParameters,
+    t: u64,
+    course: Course<'_>,
+    levels: &mut [u32],
+    run: &mut [i16],
+) -> Level
     requires long { length levels.old ≡ length run.old }
     requires one_way { IsStretch v.now t (length run.old) }
-    ensures { EachIndex run.new (λ k. slice_index_or run.new k (pos 0)
+    requires in_hand { IsEven (envelope v.now) t course.level }
+    requires at_end { (course.at_end ≡ held v.now v.now.length) × (course.at_end ≤ 65536) }
+    requires loudness { (course.loudness ≡ gain_of v.now.attenuation) × (course.loudness ≤ 65536) }
+    ensures soft { EachIndex run.new (λ k. slice_index_or run.new k (pos 0)
         ≡ scaled_by (scaled_by (slice_index_or run.old k (pos 0)) (envelope v.now (t + k))) (gain_of v.now.attenuation)) }
+    ensures in_hand { IsEven (envelope v.now) (t + length run.old) result }
 {
-    fill_levels(v, t, levels);
-    quieten(levels, gain(i64::from(v.attenuation)), run);
+    let level = fill_levels(v, t, course.level, course.at_end, levels);
+    quieten(levels, course.loudness, run);
+    level
 }
 
 // The frames of a stretch before they are parted, by way of a word for each: the points around its place
-// first, and then its level. One buffer serves both, for a second would have to be cleared as well.
-fn fill_sounds(points: &Points, v: &VoiceParameters, t: u64, run: &mut [i16])
+// first, and then its level. One buffer serves both, for a second would have to be cleared as well. Answers
+// the course of the frame behind the last.
+fn fill_sounds<'a>(
+    points: &Points<'a>,
+    v: &VoiceParameters,
+    t: u64,
+    course: Course<'a>,
+    words: &mut [u32],
+    run: &mut [i16],
+) -> Course<'a>
+    requires long { length words.old ≡ length run.old }
     requires playable { IsPlayable (length points.now) v.now }
     requires one_way { IsStretch v.now t (length run.old) }
+    requires course { IsCourse points.now v.now t course }
+    requires heard { course.over ≡ false }
     requires short { length run.old ≤ 1024 }
-    ensures { EachIndex run.new (λ k. slice_index_or run.new k (pos 0)
+    ensures sounds { EachIndex run.new (λ k. slice_index_or run.new k (pos 0)
         ≡ sound_at (record { points = points.now; parameters = v.now }) (t + k)) }
+    ensures course { IsCourse points.now v.now (t + length run.old) result }
 {
-    let n = run.len();
-    let mut words = empty_words();
-    fill_points(points, v, t, &mut words[..n], run);
-    soften(v, t, &mut words[..n], run);
+    let n = run.len() as u64;
+    let (next, slice) = fill_points(points, v, t, course.place, course.slice, words, run);
+    let level = soften(v, t, course, words, run);
+    Course { slice, ..course }.later(v, t + n, next, level)
 }
 
 // The sides of a frame, whose sums stand in turn.
@@ -173,55 +204,118 @@ fn add_sides(run: &[i16], left: u32, right: u32, sums: &mut [i32])
     }
 }
 
-// Adds the frames of a stretch, by way of a run of as many points.
-fn add_sounds(points: &Points, v: &VoiceParameters, t: u64, run: &mut [i16], sums: &mut [i32])
+// Adds the frames of a stretch, by way of as many words and points. As all that add a stretch it asks for
+// the course of the first frame, and answers that of the frame behind the last.
+fn add_sounds<'a>(
+    points: &Points<'a>,
+    v: &VoiceParameters,
+    t: u64,
+    course: Course<'a>,
+    words: &mut [u32],
+    run: &mut [i16],
+    sums: &mut [i32],
+) -> Course<'a>
     requires playable { IsPlayable (length points.now) v.now }
     requires long { length sums.old ≡ 2 * length run.old }
+    requires words { length words.old ≡ length run.old }
     requires one_way { IsStretch v.now t (length run.old) }
+    requires course { IsCourse points.now v.now t course }
+    requires heard { course.over ≡ false }
     requires short { length run.old ≤ 1024 }
     requires room { AllWithin 65534 sums.old }
-    ensures { EachIndex sums.new (λ i. IsAdded (slice_index_or sums.old i (pos 0))
+    ensures sums { EachIndex sums.new (λ i. IsAdded (slice_index_or sums.old i (pos 0))
         (snd (record { points = points.now; parameters = v.now }) (nat_eq (i % 2) 0) (t + i / 2))
         (slice_index_or sums.new i (pos 0))) }
+    ensures course { IsCourse points.now v.now (t + length run.old) result }
 {
-    fill_sounds(points, v, t, run);
+    let next = fill_sounds(points, v, t, course, words, run);
     add_sides(run, left_part(v), right_part(v), sums);
+    next
 }
 
-// Adds the frames of a stretch.
-fn add_stretch(points: &Points, v: &VoiceParameters, t: u64, sums: &mut [i32])
+// Adds the frames of a stretch, by way of buffers for N frames.
+fn add_by_buffers<'a, const N: usize>(
+    points: &Points<'a>,
+    v: &VoiceParameters,
+    t: u64,
+    course: Course<'a>,
+    sums: &mut [i32],
+) -> Course<'a>
     requires playable { IsPlayable (length points.now) v.now }
     requires even { length sums.old % 2 ≡ 0 }
     requires one_way { IsStretch v.now t (length sums.old / 2) }
-    requires short { length sums.old ≤ 2048 }
+    requires course { IsCourse points.now v.now t course }
+    requires heard { course.over ≡ false }
+    requires few { N ≤ 1024 }
+    requires short { length sums.old ≤ 2 * N }
     requires room { AllWithin 65534 sums.old }
-    ensures { EachIndex sums.new (λ i. IsAdded (slice_index_or sums.old i (pos 0))
+    ensures sums { EachIndex sums.new (λ i. IsAdded (slice_index_or sums.old i (pos 0))
         (snd (record { points = points.now; parameters = v.now }) (nat_eq (i % 2) 0) (t + i / 2))
         (slice_index_or sums.new i (pos 0))) }
+    ensures course { IsCourse points.now v.now (t + length sums.old / 2) result }
 {
-    let mut run = silent_points();
+    let mut words: [u32; N] = empty_words();
+    let mut run: [i16; N] = silent_points();
     let n = sums.len() / 2;
-    add_sounds(points, v, t, &mut run[..n], sums);
+    add_sounds(points, v, t, course, &mut words[..n], &mut run[..n], sums)
 }
 
-// Adds the frames from `age` on to the sums of both sides, which stand in turn.
-pub(crate) fn add_run(points: &Points, v: &VoiceParameters, age: u64, sums: &mut [i32])
+// Adds the frames of a stretch.
+fn add_stretch<'a>(
+    points: &Points<'a>,
+    v: &VoiceParameters,
+    t: u64,
+    course: Course<'a>,
+    sums: &mut [i32],
+) -> Course<'a>
     requires playable { IsPlayable (length points.now) v.now }
+    requires even { length sums.old % 2 ≡ 0 }
+    requires one_way { IsStretch v.now t (length sums.old / 2) }
+    requires course { IsCourse points.now v.now t course }
+    requires heard { course.over ≡ false }
+    requires short { length sums.old ≤ 2048 }
+    requires room { AllWithin 65534 sums.old }
+    ensures sums { EachIndex sums.new (λ i. IsAdded (slice_index_or sums.old i (pos 0))
+        (snd (record { points = points.now; parameters = v.now }) (nat_eq (i % 2) 0) (t + i / 2))
+        (slice_index_or sums.new i (pos 0))) }
+    ensures course { IsCourse points.now v.now (t + length sums.old / 2) result }
+{
+    if sums.len() <= 2 * SHORT {
+        add_by_buffers::<SHORT>(points, v, t, course, sums)
+    } else {
+        add_by_buffers::<LONGEST>(points, v, t, course, sums)
+    }
+}
+
+// Adds the frames from `age` on to the sums of both sides, which stand in turn; answers the course of the
+// frame behind them.
+pub(crate) fn add_run<'a>(
+    points: &Points<'a>,
+    v: &VoiceParameters,
+    age: u64,
+    from: Course<'a>,
+    sums: &mut [i32],
+) -> Course<'a>
+    requires playable { IsPlayable (length points.now) v.now }
+    requires here { IsCourse points.now v.now age from }
     requires even { length sums.old % 2 ≡ 0 }
     requires young { age + length sums.old < 2 ^ 64 }
     requires room { AllWithin 65534 sums.old }
-    ensures { EachIndex sums.new (λ i. IsAdded (slice_index_or sums.old i (pos 0))
+    ensures sums { EachIndex sums.new (λ i. IsAdded (slice_index_or sums.old i (pos 0))
         (snd (record { points = points.now; parameters = v.now }) (nat_eq (i % 2) 0) (age + i / 2))
         (slice_index_or sums.new i (pos 0))) }
+    ensures there { IsCourse points.now v.now (age + length sums.old / 2) result }
 {
+    let mut course = from;
     let mut at = 0;
     while at < sums.len() {
-        let t = age + at as u64 / 2;
-        if is_over_at(v, t) {
-            return;
+        if course.over {
+            return course;
         }
-        let n = 2 * stretch(v, t, ((sums.len() - at) / 2).min(LONGEST));
-        add_stretch(points, v, t, &mut sums[at..at + n]);
-        at += n;
+        let t = age + at as u64 / 2;
+        let n = stretch(v, t, course.place, ((sums.len() - at) / 2).min(LONGEST));
+        course = add_stretch(points, v, t, course, &mut sums[at..at + 2 * n]);
+        at += 2 * n;
     }
+    course
 }

@@ -1,12 +1,14 @@
 //! What a sample says at the frames of a stretch: straight runs through the slice in hand.
-ghost use Rattle.std.specs.Prelude.{◌≡◌, ℕ, ◌+◌, ◌*◌, ◌/◌, ◌%◌, ◌^◌, ◌≤◌, ◌<◌, ◌≤ℤ◌, pos, negsuc, true, EachIndex, length, slice_index, slice_index_or};
+ghost use Rattle.std.specs.Prelude.{◌≡◌, ℕ, ◌+◌, ◌-◌, ◌*◌, ◌/◌, ◌%◌, ◌^◌, ◌≤◌, ◌<◌, ◌≤ℤ◌, pos, negsuc, true, EachIndex, length, slice_index, slice_index_or};
+ghost use Rattle.sample_view.specs.Runs.{IsRunAround};
 ghost use Rattle.sample_view.specs.Words.{words};
+ghost use Rattle.voices.specs.Course.{IsInHand};
 ghost use Rattle.voices.specs.Place.{is_looping, place};
 ghost use Rattle.voices.specs.Points.{point_of};
 ghost use Rattle.zone_select.specs.Playable.{IsPlayable};
-ghost use Rattle.voices.specs.Runs.{IsStretch, limit, gone_on, pair_at, pair_says, straight};
+ghost use Rattle.voices.specs.Runs.{IsStretch, limit, pair_at, pair_says, straight};
 
-use crate::places::{frames_before, is_looping_at, place_at};
+use crate::places::{advanced, frames_before, is_looping_at};
 use crate::sampled::{interpolated, point_of_place};
 use sample_view::Points;
 use zone_select::VoiceParameters;
@@ -103,30 +105,71 @@ fn fill_straight(bytes: &[u8], x: u32, step: u32, pairs: &mut [u32], run: &mut [
 // The most points of a slice that are read in one go, so that places in it fit 32 bits.
 const FARTHEST: usize = 32768;
 
-// Fills the front of a run from place `x` on, as far as the slice in hand goes or the loop; answers
-// how many frames that are.
-fn fill_front(
-    points: &Points,
+// The slice in hand of a sample's points: its bytes, and the number of its first point.
+#[derive(Clone, Copy)]
+pub(crate) struct Slice<'a> {
+    pub(crate) bytes: &'a [u8],
+    pub(crate) first: usize,
+}
+
+impl<'a> Slice<'a> {
+    // No slice.
+    pub(crate) fn none() -> Slice<'a>
+        ensures { length result.bytes.now ≡ 0 }
+    {
+        Slice {
+            bytes: &[],
+            first: 0,
+        }
+    }
+
+    // The slice in hand if it holds point `i`, and else the one that does.
+    fn around(self, points: &Points<'a>, i: usize) -> Slice<'a>
+        requires inside { i < length points.now }
+        requires in_hand { IsInHand points.now self }
+        ensures in_hand { IsInHand points.now result }
+        ensures begins { result.first ≤ i }
+        ensures run { IsRunAround points.now i result.bytes.now (i - result.first) }
+    {
+        if self.first <= i && i - self.first < self.bytes.len() / 2 {
+            return self;
+        }
+        let (bytes, place) = points.slice_at(i);
+        Slice {
+            bytes,
+            first: i - place,
+        }
+    }
+}
+
+// Fills the front of a run from place `x` on, as far as the slice goes or the loop; answers how many frames
+// that are, and the slice.
+fn fill_front<'a>(
+    points: &Points<'a>,
     v: &VoiceParameters,
     looping: bool,
+    hand: Slice<'a>,
     x: u64,
     pairs: &mut [u32],
     run: &mut [i16],
-) -> usize
+) -> (usize, Slice<'a>)
     requires playable { IsPlayable (length points.now) v.now }
     requires looped { looping ≡ true → v.now.looped ≡ true }
+    requires in_hand { IsInHand points.now hand }
     requires near { x < 65536 * limit v.now looping }
     requires some { (0 < length run.old) × (length run.old ≤ 1024) }
     requires long { length run.old ≤ length pairs.old }
     ensures near { x < 2 ^ 48 }
-    ensures some { (0 < result) × (result ≤ length run.new) }
-    ensures before { (k : ℕ) → k < result → x + k * v.now.step < 65536 * limit v.now looping }
-    ensures value { (k : ℕ) → k < result
+    ensures some { (0 < result.0) × (result.0 ≤ length run.new) }
+    ensures before { (k : ℕ) → k < result.0 → x + k * v.now.step < 65536 * limit v.now looping }
+    ensures value { (k : ℕ) → k < result.0
         → slice_index_or run.new k (pos 0) ≡ point_of points.now v.now looping (x + k * v.now.step) }
+    ensures in_hand { IsInHand points.now result.1 }
 {
     let i = (x / 65536) as usize;
-    let (bytes, first) = points.slice_at(i);
-    let ahead = &bytes[2 * first..];
+    let slice = hand.around(points, i);
+    let first = i - slice.first;
+    let ahead = &slice.bytes[2 * first..];
     let ends = (limit_of(v, looping) as usize - i)
         .min(ahead.len() / 2)
         .min(FARTHEST);
@@ -135,10 +178,10 @@ fn fill_front(
         let to = 65536 * (ends as u64 - 1);
         let n = frames_before(u64::from(part), u64::from(v.step), to, run.len() as u64) as usize;
         fill_straight(ahead, part, v.step, &mut pairs[..n], &mut run[..n]);
-        n
+        (n, slice)
     } else {
         run[0] = point_of_place(points, v, looping, x) as i16;
-        1
+        (1, slice)
     }
 }
 
@@ -149,46 +192,37 @@ fn limit_of(v: &VoiceParameters, looping: bool) -> u32
     if looping { v.loop_end } else { v.end }
 }
 
-// Where a place has come after some frames.
-#[tactic(auto, using(crate::proofs::PlaceLemmas::wrapped_below, crate::proofs::PlaceLemmas::wrapped_above, crate::proofs::PlaceLemmas::short_way))]
-fn advanced(v: &VoiceParameters, looping: bool, x: u64, frames: usize) -> u64
-    requires loop_is { looping ≡ true → v.now.loop_start < v.now.loop_end }
-    requires steps { v.now.step ≤ 73043661 }
-    requires near { x < 2 ^ 48 }
-    requires few { frames ≤ 1024 }
-    ensures { result ≡ gone_on v.now looping (x + frames * v.now.step) }
-{
-    let next = x + frames as u64 * u64::from(v.step);
-    let to = 65536 * u64::from(v.loop_end);
-    if looping && to <= next {
-        let from = 65536 * u64::from(v.loop_start);
-        from + (next - from) % (to - from)
-    } else {
-        next
-    }
-}
-
-// What the sample says at each frame of a stretch, by way of pairs of points.
-pub(crate) fn fill_points(
-    points: &Points,
+// What the sample says at each frame of a stretch, the first of them at place `from`, by way of pairs of
+// points; answers the place of the frame behind them, and the slice that is in hand there.
+pub(crate) fn fill_points<'a>(
+    points: &Points<'a>,
     v: &VoiceParameters,
     t: u64,
+    from: u64,
+    hand: Slice<'a>,
     pairs: &mut [u32],
     run: &mut [i16],
-)
+) -> (u64, Slice<'a>)
     requires playable { IsPlayable (length points.now) v.now }
     requires one_way { IsStretch v.now t (length run.old) }
+    requires here { from ≡ place v.now t }
+    requires in_hand { IsInHand points.now hand }
     requires short { length run.old ≤ 1024 }
     requires long { length pairs.old ≡ length run.old }
-    ensures { EachIndex run.new (λ k. slice_index_or run.new k (pos 0)
+    ensures points { EachIndex run.new (λ k. slice_index_or run.new k (pos 0)
         ≡ point_of points.now v.now (is_looping v.now (t + k)) (place v.now (t + k))) }
+    ensures there { result.0 ≡ place v.now (t + length run.old) }
+    ensures in_hand { IsInHand points.now result.1 }
 {
     let looping = is_looping_at(v, t);
-    let mut x = place_at(v, t);
+    let mut x = from;
+    let mut slice = hand;
     let mut at = 0;
     while at < run.len() {
-        let n = fill_front(points, v, looping, x, pairs, &mut run[at..]);
+        let (n, next) = fill_front(points, v, looping, slice, x, pairs, &mut run[at..]);
         x = advanced(v, looping, x, n);
+        slice = next;
         at += n;
     }
+    (x, slice)
 }

@@ -6,8 +6,8 @@ ghost use Rattle.zone_select.specs.Playable.{IsPlayable};
 ghost use Rattle.voices.specs.Sound.{snd, after_frame};
 ghost use Rattle.voices.specs.Within.{AllWithin};
 
-use crate::frames::frame;
-use crate::places::is_over_at;
+use crate::courses::Course;
+use crate::frames::{frame, next_place};
 use crate::runs::add_run;
 use sample_view::Points;
 use std::marker::Model;
@@ -20,18 +20,20 @@ pub struct Voice<'a> {
     points: Points<'a>,
     parameters: VoiceParameters,
     age: u64,
+    course: Course<'a>,
 }
 
 impl<'a> Model for Voice<'a> {
     ghost use Rattle.std.specs.Prelude.{length};
     ghost use Rattle.zone_select.specs.Playable.{IsPlayable};
+    ghost use Rattle.voices.specs.Course.{IsCourse};
     ghost use Rattle.voices.specs.Sound.{Live};
 
     ghost Value = { Live };
 
     ghost view = { λ v. record { value = record { points = v.points; parameters = v.parameters }; age = v.age } };
 
-    ghost invariant = { λ v. IsPlayable (length v.points) v.parameters };
+    ghost invariant = { λ v. IsPlayable (length v.points) v.parameters × IsCourse v.points v.parameters v.age v.course };
 }
 
 impl<'a> Voice<'a> {
@@ -40,10 +42,12 @@ impl<'a> Voice<'a> {
         requires { IsPlayable (length points) parameters }
         ensures { result ≡ record { value = record { points = points.entry; parameters = parameters }; age = 0 } }
     {
+        let course = Course::start(&parameters);
         Voice {
             points,
             parameters,
             age: 0,
+            course,
         }
     }
 
@@ -52,7 +56,7 @@ impl<'a> Voice<'a> {
         ensures value { result ≡ is_over self.now.value.parameters self.now.age }
         ensures young { OnFalse result (self.now.age < 2 ^ 33) }
     {
-        is_over_at(&self.parameters, self.age)
+        self.course.over
     }
 
     /// The exclusive class of the voice's zones; 0 for none.
@@ -64,6 +68,7 @@ impl<'a> Voice<'a> {
 
     /// The next frame, left and right, each from -32768 to 32767. A voice that is over gives silence
     /// and counts no more.
+    #[tactic(auto, using(crate::proofs::OverLemmas::even_later))]
     pub fn next_frame(&mut self) -> (i32, i32)
         ensures left { result.0 ≡ snd self.old.value true self.old.age }
         ensures right { result.1 ≡ snd self.old.value false self.old.age }
@@ -71,10 +76,14 @@ impl<'a> Voice<'a> {
         ensures right_fits { (negsuc 32767 ≤ℤ result.1) × (result.1 ≤ℤ pos 32767) }
         ensures live { self.new ≡ after_frame self.old }
     {
-        let sides = frame(&self.points, &self.parameters, self.age);
-        if !self.done() {
-            self.age += 1;
+        let course = self.course;
+        if course.over {
+            return (0, 0);
         }
+        let sides = frame(&self.points, &self.parameters, self.age, course.place);
+        let next = next_place(&self.points, &self.parameters, self.age, course.place);
+        self.age += 1;
+        self.course = course.later(&self.parameters, self.age, next, course.level);
         sides
     }
 
@@ -89,7 +98,7 @@ impl<'a> Voice<'a> {
         ensures room { (j : ℕ) → AllWithin j sums.old → AllWithin (j + 1) sums.new }
         ensures live { self.new ≡ record { value = self.old.value; age = self.old.age + length sums.old / 2 } }
     {
-        add_run(&self.points, &self.parameters, self.age, sums);
+        self.course = add_run(&self.points, &self.parameters, self.age, self.course, sums);
         self.age += sums.len() as u64 / 2;
     }
 }

@@ -1,8 +1,12 @@
 use Rattle.std.proofs.Common.{drop}
+use Rattle.std.specs.Option.{option_copied}
 use Rattle.outputs.proofs.OutputLaws.{Putting}
-use Rattle.bank_listing.specs.Listing.{owner_line, lines_from}
+use Rattle.bank_listing.specs.Listing.{lines_from}
+use Rattle.bank_listing.specs.Details.{owner_lines}
 use Rattle.bank_listing.proofs.listing.put_owners.Given as goal
 
 -- the lines of those that are ahead are still to be put
 abbrev pub invariant-loop-number : goal.invariant-loop-number
-invariant-loop-number g l = Putting g.W.Write.contents l.initial.output l.output (lines_from (owner_line g.H.ListedHead.line) 0 l.owners) (lines_from (owner_line g.H.ListedHead.line) l.number (drop l.number l.owners))
+invariant-loop-number g l =
+    Putting g.W.Write.contents l.initial.output l.output (lines_from (owner_lines g.H.ListedHead.line g.H.ListedHead.word (option_copied l.uses) l.zones) 0 l.owners)
+    (lines_from (owner_lines g.H.ListedHead.line g.H.ListedHead.word (option_copied l.uses) l.zones) l.number (drop l.number l.owners))

@@ -1,8 +1,11 @@
 use Rattle.std.proofs.Common.{drop}
+use Rattle.std.specs.Option.{option_copied}
 use Rattle.outputs.proofs.OutputLaws.{Putting}
-use Rattle.bank_listing.specs.Listing.{sample_line, lines_from}
+use Rattle.bank_listing.specs.Listing.{lines_from}
+use Rattle.bank_listing.specs.Details.{sample_lines}
 use Rattle.bank_listing.proofs.listing.put_samples.Given as goal
 
 -- the lines of the samples that are ahead are still to be put
 abbrev pub invariant-loop-number : goal.invariant-loop-number
-invariant-loop-number g l = Putting g.W.Write.contents l.initial.output l.output (lines_from sample_line 0 l.samples) (lines_from sample_line l.number (drop l.number l.samples))
+invariant-loop-number g l =
+    Putting g.W.Write.contents l.initial.output l.output (lines_from (sample_lines (option_copied l.uses)) 0 l.samples) (lines_from (sample_lines (option_copied l.uses)) l.number (drop l.number l.samples))

@@ -5,9 +5,9 @@ use Rattle.voices.specs.Envelope.{envelope}
 use Rattle.voices.specs.Sound.{sound_at}
 use Rattle.voices.proofs.runs.fill_sounds.Goals as goal
 
-pub returns : goal.returns
+pub returns-clause-sounds : goal.returns-clause-sounds
 unfolding sound_at
-returns c i h =
-    c.soften.ensures i h
+returns-clause-sounds c i h =
+    c.soften-level.ensures.soft i h
     ∙ ap (λ (y : ℤ). scaled_by (scaled_by y (envelope c.args.v.now (c.args.t + i))) (gain_of c.args.v.now.attenuation))
-    (c.fill_points.ensures i (omega (arith, h, c.soften.auto.run)))
+    (c.fill_points-next.ensures.points i (omega (arith, h, c.soften-level.auto.run)))

@@ -13,4 +13,4 @@ returns-clause-one_way c =
     (let e = c.frames_ahead-n.ensures.young in let f = c.frames_before.ensures.most in omega arith)
     (let e = c.frames_ahead-n.ensures.unreleased in let f = c.frames_before.ensures.most in omega arith)
     (λ h. let e = c.frames_ahead-n.ensures.held h in let f = c.frames_before.ensures.most in omega arith)
-    (λ l k h. near_is _ _ _ _ _ _ k c.place_at.ensures.value c.from.ensures c.from-end.ensures (c.frames_before.ensures.before k h))
+    (λ l k h. near_is _ _ _ _ _ _ k c.requires.here c.from.ensures c.from-end.ensures (c.frames_before.ensures.before k h))

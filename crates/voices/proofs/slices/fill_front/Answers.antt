@@ -25,10 +25,10 @@ pub returns-then-ends-gt1-clause-value : goal.returns-then-ends-gt1-clause-value
 returns-then-ends-gt1-clause-value c k h =
     let n = c.frames_before-n.result in
     let x = c.args.x in
-    let bytes = c.slice_at-first.result.0.now in
-    let first = c.slice_at-first.result.1 in
+    let bytes = c.around-slice.result.bytes.now in
+    let first : ℕ = x / 65536 - c.around-slice.result.first in
     let ahead = drop (2 * first) bytes in
-    let run = run_from c.args.points.now bytes (x / 65536) first c.slice_at-first.ensures.run in
+    let run = run_from c.args.points.now bytes (x / 65536) first c.around-slice.ensures.run in
     let fits : n ≤ length c.args.run.now = omega (arith, c.frames_before-n.ensures.most) in
     let len : length c.fill_straight.new.run ≡ n = c.fill_straight.auto.run ∙ (let e : length (take n c.args.run.now) ≡ n = grind (arith, common_steps) in e) in
     let o : get_or (c.fill_straight.new.run ++ drop n c.args.run.now) k (pos 0) ≡ get_or c.fill_straight.new.run k (pos 0) = grind (arith, common_steps) in

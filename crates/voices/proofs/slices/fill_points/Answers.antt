@@ -12,7 +12,7 @@ pub fill_front-n-requires-clause-near : goal.fill_front-n-requires-clause-near
 fill_front-n-requires-clause-near c =
     let at = c.loop-at.at in
     let lt : at < length c.args.run.now = omega (arith, c.loop-at-test.true, c.loop-at.auto.run) in
-    let e : c.loop-at.x ≡ place c.args.v.now (c.args.t + at) = c.loop-at.invariant.here c.loop-at-test.true in
+    let e : c.loop-at.x ≡ place c.args.v.now (c.args.t + at) = c.loop-at.invariant.here in
     subst (λ x. x < 65536 * limit c.args.v.now c.is_looping_at-looping.result) (sym e)
     (place_near (length c.args.points.now) c.args.v.now (c.args.t + at) c.is_looping_at-looping.result c.requires.playable
     (c.requires.one_way.sounds at lt) (c.requires.one_way.same at lt ∙ sym c.is_looping_at-looping.ensures))
@@ -20,7 +20,7 @@ fill_front-n-requires-clause-near c =
 pub loop-at-preserved : goal.loop-at-preserved
 loop-at-preserved c =
     let at = c.loop-at.at in
-    let n = c.fill_front-n.result in
+    let n = c.fill_front-n.result.0 in
     let v = c.args.v.now in
     let t = c.args.t in
     let xs = c.loop-at.run in
@@ -31,7 +31,7 @@ loop-at-preserved c =
     let auto : length xs ≡ length c.args.run.now = c.loop-at.auto.run in
     let len : length new ≡ m = c.fill_front-n.auto.run ∙ (let e : length (take (length xs - at) (drop at xs)) ≡ m = grind (arith, common_steps) in e) in
     let part : n ≤ m = omega (arith, c.fill_front-n.ensures.some.1, len) in
-    let e : c.loop-at.x ≡ place v (t + at) = c.loop-at.invariant.here inside in
+    let e : c.loop-at.x ≡ place v (t + at) = c.loop-at.invariant.here in
     let same : (j : ℕ) → j < m → is_looping v (t + at + j) ≡ looping =
     λ j h. ap (is_looping v) (let q : t + at + j ≡ t + (at + j) = omega arith in q) ∙ c.requires.one_way.same (at + j) (omega (arith, h, auto)) ∙ sym c.is_looping_at-looping.ensures in
     let here : is_looping v (t + at) ≡ looping = c.requires.one_way.same at (omega (arith, inside, auto)) ∙ sym c.is_looping_at-looping.ensures in
@@ -44,7 +44,8 @@ loop-at-preserved c =
     let long : length (borrow.Rule.Slice.PartMut.put_mid at (length xs - at) xs new) ≡ length xs = grind (arith, common_steps) in
     record {
       within = omega (arith, part, long, inside);
-      here = λ h. c.advanced-x.ensures ∙ sym (gone n (omega arith));
+      in_hand = c.fill_front-n.ensures.in_hand;
+      here = c.advanced-x.ensures ∙ sym (gone n (omega arith));
       done = below_front (pos 0) (λ k y. y ≡ point_of c.args.points.now v (is_looping v (t + k)) (place v (t + k))) xs new at m n (omega arith) len part
           c.loop-at.invariant.done
           (λ k h.
@@ -55,3 +56,8 @@ loop-at-preserved c =
           ∙ ap (λ b. point_of c.args.points.now v b (c.loop-at.x + k * v.step)) (sym l)
           ∙ ap (point_of c.args.points.now v (is_looping v (t + (at + k)))) (sym p));
     }
+
+pub returns-clause-there : goal.returns-clause-there
+returns-clause-there c =
+    let e : c.loop-at.at ≡ length c.args.run.now = omega (arith, c.loop-at.invariant.within, c.loop-at.auto.run) in
+    c.loop-at.invariant.here ∙ ap (λ k. place c.args.v.now (c.args.t + k)) e

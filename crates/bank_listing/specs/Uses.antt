@@ -1,0 +1,49 @@
+-- How often instruments and samples are named: by the zones whose target they are, and samples by other samples that are linked
+-- with them.
+use Rattle.std.specs.Prelude.{ℕ, ◌==◌, List, length, map, filter, Option, Some, None, if◌then◌else◌}
+use Rattle.std.specs.List.{flat_map, filter_map, enumerate_from, range_with_len}
+use Rattle.bank_parts.specs.declared.parts.Kind.{Kind}
+use Rattle.bank_parts.specs.declared.parts.Kind.TheVariants.{Mono, Right, Left, Linked}
+use Rattle.bank_parts.specs.declared.parts.Zone.{Zone}
+use Rattle.bank_parts.specs.declared.parts.WithZones.{WithZones}
+use Rattle.bank_parts.specs.declared.parts.Sample.{Sample}
+use Rattle.bank_parts.specs.declared.parts.Parts.{Parts}
+
+-- how often a number is among these
+abbrev pub times : ℕ → List ℕ → ℕ
+times n numbers = length (filter (λ m. m == n) numbers)
+
+-- how often each number below `members` is
+abbrev pub tally : ℕ → List ℕ → List ℕ
+tally members numbers = map (λ n. times n numbers) (range_with_len 0 members)
+
+-- the targets of all zones; a global zone has none
+abbrev pub targets_in : {H : Type 0} → List (WithZones H) → List ℕ
+targets_in owners = flat_map (λ x. map (λ (z : Zone). z.target) x.zones) owners
+
+abbrev pub other_than : ℕ → ℕ → Option ℕ
+other_than n link = if link == n then None else Some link
+
+-- the sample that sample n is linked with, where that is another one
+abbrev pub other_link : ℕ → Kind → Option ℕ
+other_link n Mono = None
+other_link n (Right link) = other_than n link
+other_link n (Left link) = other_than n link
+other_link n (Linked link) = other_than n link
+
+-- the samples that other samples are linked with
+abbrev pub links_in : List Sample → List ℕ
+links_in samples = filter_map (λ (e : ℕ × Sample). other_link e.0 e.1.kind) (enumerate_from 0 samples)
+
+-- how often each instrument is named by zones, each sample by zones, and each sample by other samples
+pub record Named : Type 0 where
+  pub instruments : List ℕ
+  pub samples : List ℕ
+  pub links : List ℕ
+
+abbrev pub named_in : Parts → Named
+named_in b = record {
+  instruments = tally (length b.instruments) (targets_in b.presets);
+  samples = tally (length b.samples) (targets_in b.instruments);
+  links = tally (length b.samples) (links_in b.samples);
+}

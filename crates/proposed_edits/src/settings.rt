@@ -1,0 +1,118 @@
+//! The generators and modulators of a place that differ.
+use crate::numbers::member_number;
+use bank_core::{Owner, Place};
+use edit_forms::Step;
+use list_orders::{before, behind, common_back, common_front};
+use modulators::Modulator;
+use sf_base::OutOfMemory;
+
+/// Steps that give a place the generators that are wanted.
+pub(crate) fn gen_steps<'a>(
+    steps: &mut Vec<Step<'a>>,
+    owner: Owner,
+    place: Place,
+    had: &[(u16, u16)],
+    wanted: &[(u16, u16)],
+) -> Result<(), OutOfMemory> {
+    clear_steps(steps, owner, place, had, wanted)?;
+    for &(operator, amount) in wanted {
+        if !had.contains(&(operator, amount)) {
+            steps.push(Step::SetGen {
+                owner,
+                place,
+                operator,
+                amount,
+            })?;
+        }
+    }
+    Ok(())
+}
+
+fn clear_steps<'a>(
+    steps: &mut Vec<Step<'a>>,
+    owner: Owner,
+    place: Place,
+    had: &[(u16, u16)],
+    wanted: &[(u16, u16)],
+) -> Result<(), OutOfMemory> {
+    for &(operator, _) in had {
+        if !wanted.iter().any(|&(other, _)| other == operator) {
+            steps.push(Step::ClearGen {
+                owner,
+                place,
+                operator,
+            })?;
+        }
+    }
+    Ok(())
+}
+
+/// Whether modulators differ that no step can change, as there is a link among them.
+pub(crate) fn mods_are_barred(had: &[Modulator], wanted: &[Modulator]) -> bool {
+    had != wanted && (has_link(had) || has_link(wanted))
+}
+
+fn has_link(mods: &[Modulator]) -> bool {
+    mods.iter().any(|modulator| modulator.is_link())
+}
+
+/// Steps that give a place the modulators that are wanted, where they are not barred.
+pub(crate) fn mod_steps<'a>(
+    steps: &mut Vec<Step<'a>>,
+    owner: Owner,
+    place: Place,
+    had: &[Modulator],
+    wanted: &[Modulator],
+) -> Result<(), OutOfMemory> {
+    let first = common_front(had, wanted);
+    let (had, wanted) = (behind(had, first), behind(wanted, first));
+    let last = common_back(had, wanted);
+    let had = before(had, had.len().saturating_sub(last));
+    let wanted = before(wanted, wanted.len().saturating_sub(last));
+    for (index, (modulator, _)) in wanted.iter().zip(had).enumerate() {
+        steps.push(Step::SetMod {
+            owner,
+            place,
+            index: member_number(first.saturating_add(index)),
+            modulator: *modulator,
+        })?;
+    }
+    let both = first.saturating_add(wanted.len().min(had.len()));
+    remove_steps(steps, owner, place, both, behind(had, wanted.len()))?;
+    add_steps(steps, owner, place, both, behind(wanted, had.len()))
+}
+
+fn remove_steps<'a>(
+    steps: &mut Vec<Step<'a>>,
+    owner: Owner,
+    place: Place,
+    first: usize,
+    mods: &[Modulator],
+) -> Result<(), OutOfMemory> {
+    for _ in mods {
+        steps.push(Step::RemoveMod {
+            owner,
+            place,
+            index: member_number(first),
+        })?;
+    }
+    Ok(())
+}
+
+fn add_steps<'a>(
+    steps: &mut Vec<Step<'a>>,
+    owner: Owner,
+    place: Place,
+    first: usize,
+    mods: &[Modulator],
+) -> Result<(), OutOfMemory> {
+    for (index, modulator) in mods.iter().enumerate() {
+        steps.push(Step::AddMod {
+            owner,
+            place,
+            index: member_number(first.saturating_add(index)),
+            modulator: *modulator,
+        })?;
+    }
+    Ok(())
+}

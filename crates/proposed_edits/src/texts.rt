@@ -1,0 +1,35 @@
+//! The texts that differ.
+use bank_core::{Bank, InfoId};
+use edit_forms::Step;
+use sf_base::{Lent, OutOfMemory};
+use std::alloc::Global;
+
+const IDS: [InfoId; 8] = [
+    InfoId::Engine,
+    InfoId::Name,
+    InfoId::Date,
+    InfoId::Engineers,
+    InfoId::Product,
+    InfoId::Copyright,
+    InfoId::Comment,
+    InfoId::Software,
+];
+
+/// Steps that give the bank the other's texts.
+pub fn text_steps<'a>(
+    alloc: Global,
+    now: &Bank<'a>,
+    to: &Bank<'a>,
+) -> Result<Vec<Step<'a>>, OutOfMemory> {
+    let mut steps = Vec::new(alloc);
+    for id in IDS {
+        let text = to.info(id);
+        if now.info(id) != text {
+            steps.push(Step::SetInfo {
+                id,
+                text: Lent::new(text),
+            })?;
+        }
+    }
+    Ok(steps)
+}

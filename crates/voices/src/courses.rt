@@ -1,0 +1,66 @@
+//! What a voice keeps from call to call, so that it is not found anew.
+ghost use Rattle.std.specs.Prelude.{◌≡◌, ◌≤◌, ◌<◌, ℕ, List, true};
+ghost use Rattle.sound_tables.specs.Tables.{gain_of};
+ghost use Rattle.voices.specs.Course.{IsCourse, IsEven, IsInHand};
+ghost use Rattle.voices.specs.Envelope.{held, envelope};
+ghost use Rattle.voices.specs.Place.{place};
+
+use crate::envelopes::held_at;
+use crate::phases::{Level, NO_LEVEL};
+use crate::places::{is_over_by, place_at};
+use crate::slices::Slice;
+use sound_tables::gain;
+use zone_select::VoiceParameters;
+
+// What is kept of the frame that comes next.
+#[derive(Clone, Copy)]
+pub(crate) struct Course<'a> {
+    // Whether the voice is over.
+    pub(crate) over: bool,
+    // The place, unless it is over.
+    pub(crate) place: u64,
+    // The level, and how long it lasts; it may have ended.
+    pub(crate) level: Level,
+    // The level at the note's end.
+    pub(crate) at_end: u32,
+    // What the attenuation leaves of each frame, of 65536.
+    pub(crate) loudness: u32,
+    // The slice of points in hand; it may have been left.
+    pub(crate) slice: Slice<'a>,
+}
+
+impl<'a> Course<'a> {
+    // That of a voice at its first frame.
+    #[tactic(auto, using(crate::proofs::SliceLemmas::none_in_hand))]
+    pub(crate) fn start(v: &VoiceParameters) -> Course<'a>
+        requires loop_is { v.now.looped ≡ true → v.now.loop_start < v.now.loop_end }
+        requires steps { v.now.step ≤ 73043661 }
+        ensures { (points : List ℕ) → IsCourse points v.now 0 result }
+    {
+        let x = place_at(v, 0);
+        Course {
+            over: is_over_by(v, 0, x),
+            place: x,
+            level: NO_LEVEL,
+            at_end: held_at(v, u64::from(v.length)),
+            loudness: gain(i64::from(v.attenuation)),
+            slice: Slice::none(),
+        }
+    }
+
+    // That of a later frame `t`, whose place is `x`.
+    pub(crate) fn later(self, v: &VoiceParameters, t: u64, x: u64, level: Level) -> Course<'a>
+        requires here { x ≡ place v.now t }
+        requires level { IsEven (envelope v.now) t level }
+        requires at_end { (self.at_end ≡ held v.now v.now.length) × (self.at_end ≤ 65536) }
+        requires loudness { (self.loudness ≡ gain_of v.now.attenuation) × (self.loudness ≤ 65536) }
+        ensures { (points : List ℕ) → IsInHand points self.entry.slice → IsCourse points v.now t result }
+    {
+        Course {
+            over: is_over_by(v, t, x),
+            place: x,
+            level,
+            ..self
+        }
+    }
+}
