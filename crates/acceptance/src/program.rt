@@ -91,6 +91,23 @@ fn outputs_are_written(rt: HostRuntime) -> Result<(), Fail> {
     Ok(())
 }
 
+#[test]
+fn samples_go_out_and_in(rt: HostRuntime) -> Result<(), Fail> {
+    let one = saw();
+    put_files(&rt, "take", &[("take/in", one.bytes())])?;
+    assert!(rt; ends(&rt, "sfbank wave take/in 0 take/a.wav", 0, ""));
+    let line = "sfbank import take/in take/a.wav take/out take/undo";
+    assert!(rt; ends(&rt, line, 0, "") && holds(&rt, "take/undo", b"remove-sample 1\n"));
+    let line = "sfbank apply take/out take/undo take/back take/again";
+    assert!(rt; ends(&rt, line, 0, "") && holds(&rt, "take/back", one.bytes()));
+    let line = "sfbank: refused 22 NoSuchSample\n";
+    assert!(rt; ends(&rt, "sfbank wave take/in 1 take/b.wav", 4, line));
+    let line = "sfbank: wave fault 53 NotWave\n";
+    assert!(rt; ends(&rt, "sfbank import take/in take/in take/out take/undo", 2, line));
+    fs::remove_dir_all(&rt, "take")?;
+    Ok(())
+}
+
 /// Runs that are refused, each with its status and the line of errors.
 const REFUSED: &str = "\
 sfbank canon no/cut no/out -> 2 sfbank: read fault 3 Truncated
@@ -181,6 +198,7 @@ fn tells(rt: &HostRuntime, words: &str, text: &[u8]) -> bool {
 fn what_goes_to_the_output(rt: HostRuntime) -> Result<(), Fail> {
     put_files(&rt, "show", &[("show/in", saw().bytes())])?;
     assert!(rt; tells(&rt, "sfbank show show/in", LISTING));
+    assert!(rt; tells(&rt, "sfbank show --zones show/in", LISTING));
     fs::remove_dir_all(&rt, "show")?;
     assert!(rt; tells(&rt, "sfbank --version", b"sfbank 0.1.0\n"));
     assert!(rt; tells(&rt, "sfbank --help", b"Edits SoundFont 2 banks by scripts"));
@@ -242,6 +260,12 @@ fn want_of_memory_is_told(rt: HostRuntime) {
     let mut line = Vec::new(rt.alloc());
     assert!(rt; fault_text(&RunFault::Memory, "-", &mut line) == Ok(6));
     assert!(rt; line.as_slice() == b"sfbank: out of memory\n".as_slice());
+}
+
+#[test]
+fn a_number_without_an_explanation_is_told(rt: HostRuntime) {
+    let line = "error: no fault and no refusal has the number 13\n";
+    assert!(rt; ends(&rt, "sfbank explain 13", 1, line));
 }
 
 /// Gives its bytes three at a time, and then an error.
