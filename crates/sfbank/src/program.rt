@@ -4,15 +4,22 @@ ghost use Rattle.sfbank_program.specs.Telling.{Ends};
 mod apply;
 mod canon;
 mod diff;
+mod endings;
+mod explain;
+mod import;
 mod new;
 mod play;
 mod script;
 mod show;
+mod wave;
 
 use apply::apply;
 use canon::canon;
 use clap::error::ErrorKind;
 use diff::diff;
+use endings::at;
+use explain::explain;
+use import::import;
 use new::new;
 use outputs::Output;
 use play::play;
@@ -25,6 +32,7 @@ use std::env::Env;
 use std::io::Write;
 use std::rt::Files;
 use std::{env, io};
+use wave::wave;
 
 /// Runs the program on the words that it was started with, and answers its exit status.
 pub fn run_with_arguments<R: Env + Files + AllocGlobal, O: Write, E: Write>(
@@ -56,13 +64,13 @@ fn arguments<R: Env + AllocGlobal>(rt: &R) -> Result<Vec<String>, Fault<'static>
 /// |---|---|
 /// | 0 | done, or help or the version was asked for |
 /// | 1 | the words are refused |
-/// | 2 | a file is no bank |
+/// | 2 | a file is no bank, or no WAVE file that is taken |
 /// | 3 | the script or the text of notes has a fault |
-/// | 4 | an edit is refused, or two banks are of different versions |
+/// | 4 | an edit is refused, or there is no such member, or two banks are of different versions |
 /// | 5 | an input can't be read or is too long, or an output can't be written |
 /// | 6 | want of memory |
 ///
-/// What `show` tells, help and the version go to `output`.
+/// What `show` and `explain` tell, help and the version go to `output`.
 /// Where it is not 0, one line (of clap's text, more) goes to `errors`. If that can't be written, the
 /// status is the same.
 pub fn run<R: Files + AllocGlobal, S: AsStr, O: Write, E: Write>(
@@ -89,10 +97,13 @@ fn serve<'a, R: Files + AllocGlobal, S: AsStr, O: Write>(
         Ok(Request::Apply(paths)) => apply(rt, paths),
         Ok(Request::Canon(paths)) => canon(rt, paths),
         Ok(Request::Diff(paths)) => diff(rt, paths),
+        Ok(Request::Explain(number)) => explain(number, output),
+        Ok(Request::Import(paths)) => import(rt, paths),
         Ok(Request::New(bank)) => new(rt, bank),
         Ok(Request::Play(paths)) => play(rt, paths),
         Ok(Request::Script(paths)) => script(rt, paths),
-        Ok(Request::Show(input)) => show(rt, input, output),
+        Ok(Request::Show(paths)) => show(rt, paths, output),
+        Ok(Request::Wave(paths)) => wave(rt, paths),
         Err(error) => answer(rt.alloc(), error, output),
     }
 }
@@ -119,6 +130,6 @@ fn put_text<'a, O: Write>(text: &str, out: &mut O) -> Result<(), Fault<'a>> {
     output.put(text.as_bytes());
     match output.deliver() {
         Ok(_) => Ok(()),
-        Err(fault) => Err(Fault::Run(RunFault::Write(Which::Out, fault.written), STANDARD_OUTPUT)),
+        Err(fault) => at(STANDARD_OUTPUT, Err(RunFault::Write(Which::Out, fault.written))),
     }
 }

@@ -1,2 +1,3 @@
+mod AllExplained
 mod ReadInPlace
 mod ToldLines

@@ -3,8 +3,9 @@ ghost use Rattle.std.specs.Prelude.{◌≡◌, IfOk};
 ghost use Rattle.outputs.specs.Output.{Puts};
 ghost use Rattle.outputs.specs.Writing.{Writes};
 ghost use Rattle.sample_view.specs.Pieces.{joined_bytes};
-ghost use Rattle.sfbank_program.specs.FaultLines.{fault_line, status_of, read_line, second_read_line, read_text, text_line, refused_line, not_neutral_line, recording_line, no_member_line, refusal_text, detail_text, step_text, limit_text, write_line, file_line};
+ghost use Rattle.sfbank_program.specs.FaultLines.{fault_line, status_of, read_line, second_read_line, read_text, text_line, refused_line, not_neutral_line, named_line, recording_line, no_member_line, refusal_text, detail_text, step_text, limit_text, write_line, file_line, file_reason_line, unexplained_line};
 
+use crate::input_fault::InputFault;
 use crate::run_fault::RunFault;
 use bank_format::ReadFault;
 use bank_validity::Limit;
@@ -163,30 +164,32 @@ fn put_not_neutral<W: Write>(line: u64, output: &mut Output<'_, W>)
 fn put_recording_fault<W: Write>(fault: WaveFault, output: &mut Output<'_, W>)
     ensures { Puts W.contents output.old output.new (recording_line fault) }
 {
-    let mut number = Buffer::new();
-    put_pieces(
-        &[
-            b"sfbank: wave fault ",
-            number.format(fault.number()).as_bytes(),
-            b" ",
-            fault.name().as_bytes(),
-            b"\n",
-        ],
-        output,
-    );
+    put_named("sfbank: wave fault ", fault.number(), fault.name(), output);
 }
 
 // A member that isn't there, which no line asked for.
 fn put_no_member<W: Write>(cause: Cause, output: &mut Output<'_, W>)
     ensures { Puts W.contents output.old output.new (no_member_line cause) }
 {
-    let mut number = Buffer::new();
+    put_named("sfbank: refused ", cause.number(), cause.name(), output);
+}
+
+// A line that ends with a number and a name.
+fn put_named<'t, W: Write>(
+    start: &'t str,
+    number: u8,
+    name: &'t str,
+    output: &mut Output<'_, W>,
+)
+    ensures { Puts W.contents output.old output.new (named_line start.now number name.now) }
+{
+    let mut digits = Buffer::new();
     put_pieces(
         &[
-            b"sfbank: refused ",
-            number.format(cause.number()).as_bytes(),
+            start.as_bytes(),
+            digits.format(number).as_bytes(),
             b" ",
-            cause.name().as_bytes(),
+            name.as_bytes(),
             b"\n",
         ],
         output,
@@ -251,23 +254,65 @@ fn put_write_fault<W: Write>(path: &str, written: u64, output: &mut Output<'_, W
     );
 }
 
-/// Writes the line of an input at a path that can't be read, or is too long.
-pub(crate) fn file_fault_text<W: Write>(path: &str, out: &mut W) -> Result<u64, WriteFault>
-    ensures { Writes (W.contents out.old) (W.contents out.new) (file_line path.now) result }
+/// Writes the line of an input at a path that is not there as a whole.
+pub(crate) fn file_fault_text<W: Write>(
+    path: &str,
+    fault: InputFault,
+    out: &mut W,
+) -> Result<u64, WriteFault>
+    ensures { Writes (W.contents out.old) (W.contents out.new) (file_line path.now fault) result }
 {
     let mut output = Output::to(out);
-    put_file_fault(path, &mut output);
+    put_file_fault(path, fault, &mut output);
     output.end()
 }
 
-fn put_file_fault<W: Write>(path: &str, output: &mut Output<'_, W>)
-    ensures { Puts W.contents output.old output.new (file_line path.now) }
+fn put_file_fault<W: Write>(path: &str, fault: InputFault, output: &mut Output<'_, W>)
+    ensures { Puts W.contents output.old output.new (file_line path.now fault) }
 {
-    put_pieces(&[b"sfbank: file fault ", path.as_bytes(), b"\n"], output);
+    put_file_reason(path, fault.reason(), output);
 }
 
-// Puts the pieces one after the other.
-fn put_pieces<W: Write>(pieces: &[&[u8]], output: &mut Output<'_, W>)
+fn put_file_reason<'t, W: Write>(path: &'t str, reason: &'t str, output: &mut Output<'_, W>)
+    ensures { Puts W.contents output.old output.new (file_reason_line path.now reason.now) }
+{
+    put_pieces(
+        &[
+            b"sfbank: file fault ",
+            path.as_bytes(),
+            b": ",
+            reason.as_bytes(),
+            b"\n",
+        ],
+        output,
+    );
+}
+
+/// Writes the line of a number that no fault and no refusal has.
+pub(crate) fn unexplained_text<W: Write>(number: u32, out: &mut W) -> Result<u64, WriteFault>
+    ensures { Writes (W.contents out.old) (W.contents out.new) (unexplained_line number) result }
+{
+    let mut output = Output::to(out);
+    put_unexplained(number, &mut output);
+    output.end()
+}
+
+fn put_unexplained<W: Write>(number: u32, output: &mut Output<'_, W>)
+    ensures { Puts W.contents output.old output.new (unexplained_line number) }
+{
+    let mut digits = Buffer::new();
+    put_pieces(
+        &[
+            b"error: no fault and no refusal has the number ",
+            digits.format(number).as_bytes(),
+            b"\n",
+        ],
+        output,
+    );
+}
+
+/// Puts the pieces one after the other.
+pub(crate) fn put_pieces<W: Write>(pieces: &[&[u8]], output: &mut Output<'_, W>)
     ensures { Puts W.contents output.old output.new (joined_bytes pieces.now) }
 {
     for piece in pieces {

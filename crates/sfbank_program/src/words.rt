@@ -1,26 +1,13 @@
 //! The words of the program.
-ghost use Rattle.std.specs.Prelude.{IfSome, IsSome};
+ghost use Rattle.std.specs.Prelude.{◌^◌, IfSome, IsSome};
 ghost use Rattle.clap.specs.Words.{found_of, subcommand_name_of};
-ghost use Rattle.sfbank_program.specs.Words.{IsOfCommand, NamesForms, NamesApplyPaths, HasApplyPaths, NamesCanonPaths, HasCanonPaths, NamesPlayPaths, HasPlayPaths, NamesInput, HasInput, NamesNew, HasNew, NamesScriptPaths, HasScriptPaths, SaysNoPoints, NamesDiffPaths, HasDiffPaths};
+ghost use Rattle.sfbank_program.specs.Words.{IsOfCommand, NamesPath, HasPath, NamesNumber, HasNumber, SaysFlag, NamesForms, NamesApplyPaths, HasApplyPaths, NamesCanonPaths, HasCanonPaths, NamesDiffPaths, HasDiffPaths, NamesImportPaths, HasImportPaths, NamesNew, HasNew, NamesPlayPaths, HasPlayPaths, NamesScriptPaths, HasScriptPaths, NamesShowPaths, HasShowPaths, NamesWavePaths, HasWavePaths};
 
+use crate::commands::sfbank_command;
 use clap::error::ErrorKind;
-use clap::{Arg, ArgAction, ArgMatches, Command, Error, value_parser};
-use std::alloc::{AllocError, Global};
+use clap::{ArgMatches, Error};
+use std::alloc::Global;
 use std::convert::AsStr;
-
-/// The program's name, by whatever path it was started.
-const NAME: &str = "sfbank";
-
-/// The flag of `apply` by which only edits that change no sound are taken.
-const NEUTRAL: &str = "neutral";
-
-/// The option of `new` that has the minor version, and that version where it isn't given.
-const MINOR: &str = "minor";
-
-const USUAL_MINOR: &str = "4";
-
-/// The flag of `script` by which the points of samples are left out.
-const NO_POINTS: &str = "no-points";
 
 /// What the words ask for.
 pub enum Request<'a> {
@@ -30,14 +17,20 @@ pub enum Request<'a> {
     Canon(CanonPaths<'a>),
     /// Write a script that makes one bank of another.
     Diff(DiffPaths<'a>),
+    /// Tell what the fault or the refusal of this number means.
+    Explain(u32),
+    /// Add a recording to a bank.
+    Import(ImportPaths<'a>),
     /// Write an empty bank.
     New(NewBank<'a>),
     /// Play notes on a bank.
     Play(PlayPaths<'a>),
     /// Write the script that makes a bank of the empty one.
     Script(ScriptPaths<'a>),
-    /// Tell what the bank at this path has.
-    Show(&'a str),
+    /// Tell what a bank has.
+    Show(ShowPaths<'a>),
+    /// Write a sample as a WAVE file.
+    Wave(WavePaths<'a>),
 }
 
 /// The forms of edits that `apply` takes.
@@ -73,11 +66,28 @@ pub struct DiffPaths<'a> {
     pub out: &'a str,
 }
 
+/// The paths of `import`.
+#[derive(Clone, Copy)]
+pub struct ImportPaths<'a> {
+    pub input: &'a str,
+    pub wave: &'a str,
+    pub out: &'a str,
+    pub undo: &'a str,
+}
+
 /// The path of `new`, and the minor version of the bank.
 #[derive(Clone, Copy)]
 pub struct NewBank<'a> {
     pub out: &'a str,
     pub minor: u16,
+}
+
+/// The paths of `play`.
+#[derive(Clone, Copy)]
+pub struct PlayPaths<'a> {
+    pub input: &'a str,
+    pub notes: &'a str,
+    pub out: &'a str,
 }
 
 /// The paths of `script`, and whether it leaves the points of samples out.
@@ -88,11 +98,19 @@ pub struct ScriptPaths<'a> {
     pub no_points: bool,
 }
 
-/// The paths of `play`.
+/// The path of `show`, and whether it tells the zones, and how many use each member.
 #[derive(Clone, Copy)]
-pub struct PlayPaths<'a> {
+pub struct ShowPaths<'a> {
     pub input: &'a str,
-    pub notes: &'a str,
+    pub zones: bool,
+    pub uses: bool,
+}
+
+/// The paths of `wave`, and the number of the sample.
+#[derive(Clone, Copy)]
+pub struct WavePaths<'a> {
+    pub input: &'a str,
+    pub sample: u32,
     pub out: &'a str,
 }
 
@@ -110,6 +128,19 @@ pub fn request_of<'a, S: AsStr>(alloc: Global, words: &'a [S]) -> Result<Request
 fn chosen<'a>(matches: &ArgMatches<'a>) -> Option<Request<'a>>
     ensures { IfSome result (IsOfCommand (subcommand_name_of matches.now)) }
 {
+    if let Some(script) = chosen_for_scripts(matches) {
+        return Some(script);
+    }
+    if let Some(sound) = chosen_for_sound(matches) {
+        return Some(sound);
+    }
+    chosen_for_looks(matches)
+}
+
+/// The commands whose outputs are banks or scripts.
+fn chosen_for_scripts<'a>(matches: &ArgMatches<'a>) -> Option<Request<'a>>
+    ensures { IfSome result (IsOfCommand (subcommand_name_of matches.now)) }
+{
     if let Some(apply) = matches.subcommand_matches("apply") {
         return Some(Request::Apply(apply_paths(apply)?));
     }
@@ -122,14 +153,33 @@ fn chosen<'a>(matches: &ArgMatches<'a>) -> Option<Request<'a>>
     if let Some(new) = matches.subcommand_matches("new") {
         return Some(Request::New(new_bank(new)?));
     }
+    let script = matches.subcommand_matches("script")?;
+    Some(Request::Script(script_paths(script)?))
+}
+
+/// The commands that take or give sound.
+fn chosen_for_sound<'a>(matches: &ArgMatches<'a>) -> Option<Request<'a>>
+    ensures { IfSome result (IsOfCommand (subcommand_name_of matches.now)) }
+{
+    if let Some(import) = matches.subcommand_matches("import") {
+        return Some(Request::Import(import_paths(import)?));
+    }
     if let Some(play) = matches.subcommand_matches("play") {
         return Some(Request::Play(play_paths(play)?));
     }
-    if let Some(script) = matches.subcommand_matches("script") {
-        return Some(Request::Script(script_paths(script)?));
+    let wave = matches.subcommand_matches("wave")?;
+    Some(Request::Wave(wave_paths(wave)?))
+}
+
+/// The commands that tell.
+fn chosen_for_looks<'a>(matches: &ArgMatches<'a>) -> Option<Request<'a>>
+    ensures { IfSome result (IsOfCommand (subcommand_name_of matches.now)) }
+{
+    if let Some(explain) = matches.subcommand_matches("explain") {
+        return Some(Request::Explain(number(explain, "N")?));
     }
     let show = matches.subcommand_matches("show")?;
-    Some(Request::Show(input_path(show)?))
+    Some(Request::Show(show_paths(show)?))
 }
 
 fn apply_paths<'a>(matches: &ArgMatches<'a>) -> Option<ApplyPaths<'a>>
@@ -137,10 +187,10 @@ fn apply_paths<'a>(matches: &ArgMatches<'a>) -> Option<ApplyPaths<'a>>
     ensures given { HasApplyPaths (found_of matches.now) → IsSome result }
 {
     Some(ApplyPaths {
-        input: input_path(matches)?,
-        script: matches.get_str("SCRIPT")?,
-        out: matches.get_str("OUT")?,
-        undo: matches.get_str("UNDO")?,
+        input: path(matches, "IN")?,
+        script: path(matches, "SCRIPT")?,
+        out: path(matches, "OUT")?,
+        undo: path(matches, "UNDO")?,
         forms: forms_taken(matches),
     })
 }
@@ -148,7 +198,7 @@ fn apply_paths<'a>(matches: &ArgMatches<'a>) -> Option<ApplyPaths<'a>>
 fn forms_taken(matches: &ArgMatches<'_>) -> Forms
     ensures { NamesForms (found_of matches.now) result }
 {
-    if matches.get_flag(NEUTRAL) {
+    if matches.get_flag("neutral") {
         Forms::Neutral
     } else {
         Forms::Every
@@ -160,8 +210,8 @@ fn canon_paths<'a>(matches: &ArgMatches<'a>) -> Option<CanonPaths<'a>>
     ensures given { HasCanonPaths (found_of matches.now) → IsSome result }
 {
     Some(CanonPaths {
-        input: input_path(matches)?,
-        out: matches.get_str("OUT")?,
+        input: path(matches, "IN")?,
+        out: path(matches, "OUT")?,
     })
 }
 
@@ -170,9 +220,21 @@ fn diff_paths<'a>(matches: &ArgMatches<'a>) -> Option<DiffPaths<'a>>
     ensures given { HasDiffPaths (found_of matches.now) → IsSome result }
 {
     Some(DiffPaths {
-        first: matches.get_str("A")?,
-        second: matches.get_str("B")?,
-        out: matches.get_str("OUT")?,
+        first: path(matches, "A")?,
+        second: path(matches, "B")?,
+        out: path(matches, "OUT")?,
+    })
+}
+
+fn import_paths<'a>(matches: &ArgMatches<'a>) -> Option<ImportPaths<'a>>
+    ensures named { IfSome result (NamesImportPaths (found_of matches.now)) }
+    ensures given { HasImportPaths (found_of matches.now) → IsSome result }
+{
+    Some(ImportPaths {
+        input: path(matches, "IN")?,
+        wave: path(matches, "WAVE")?,
+        out: path(matches, "OUT")?,
+        undo: path(matches, "UNDO")?,
     })
 }
 
@@ -181,8 +243,19 @@ fn new_bank<'a>(matches: &ArgMatches<'a>) -> Option<NewBank<'a>>
     ensures given { HasNew (found_of matches.now) → IsSome result }
 {
     Some(NewBank {
-        out: matches.get_str("OUT")?,
-        minor: matches.get_one::<u16>(MINOR)?,
+        out: path(matches, "OUT")?,
+        minor: matches.get_one::<u16>("minor")?,
+    })
+}
+
+fn play_paths<'a>(matches: &ArgMatches<'a>) -> Option<PlayPaths<'a>>
+    ensures named { IfSome result (NamesPlayPaths (found_of matches.now)) }
+    ensures given { HasPlayPaths (found_of matches.now) → IsSome result }
+{
+    Some(PlayPaths {
+        input: path(matches, "IN")?,
+        notes: path(matches, "NOTES")?,
+        out: path(matches, "OUT")?,
     })
 }
 
@@ -191,134 +264,50 @@ fn script_paths<'a>(matches: &ArgMatches<'a>) -> Option<ScriptPaths<'a>>
     ensures given { HasScriptPaths (found_of matches.now) → IsSome result }
 {
     Some(ScriptPaths {
-        input: input_path(matches)?,
-        out: matches.get_str("OUT")?,
-        no_points: leaves_points(matches),
+        input: path(matches, "IN")?,
+        out: path(matches, "OUT")?,
+        no_points: flag(matches, "no-points"),
     })
 }
 
-fn leaves_points(matches: &ArgMatches<'_>) -> bool
-    ensures { SaysNoPoints (found_of matches.now) result }
+fn show_paths<'a>(matches: &ArgMatches<'a>) -> Option<ShowPaths<'a>>
+    ensures named { IfSome result (NamesShowPaths (found_of matches.now)) }
+    ensures given { HasShowPaths (found_of matches.now) → IsSome result }
 {
-    matches.get_flag(NO_POINTS)
-}
-
-fn play_paths<'a>(matches: &ArgMatches<'a>) -> Option<PlayPaths<'a>>
-    ensures named { IfSome result (NamesPlayPaths (found_of matches.now)) }
-    ensures given { HasPlayPaths (found_of matches.now) → IsSome result }
-{
-    Some(PlayPaths {
-        input: input_path(matches)?,
-        notes: matches.get_str("NOTES")?,
-        out: matches.get_str("OUT")?,
+    Some(ShowPaths {
+        input: path(matches, "IN")?,
+        zones: flag(matches, "zones"),
+        uses: flag(matches, "uses"),
     })
 }
 
-fn input_path<'a>(matches: &ArgMatches<'a>) -> Option<&'a str>
-    ensures named { IfSome result (λ path. NamesInput (found_of matches.now) path.now) }
-    ensures given { HasInput (found_of matches.now) → IsSome result }
+fn wave_paths<'a>(matches: &ArgMatches<'a>) -> Option<WavePaths<'a>>
+    ensures named { IfSome result (NamesWavePaths (found_of matches.now)) }
+    ensures given { HasWavePaths (found_of matches.now) → IsSome result }
 {
-    matches.get_str("IN")
+    Some(WavePaths {
+        input: path(matches, "IN")?,
+        sample: number(matches, "S")?,
+        out: path(matches, "OUT")?,
+    })
 }
 
-fn sfbank_command<'a>(alloc: Global) -> Result<Command<'a>, AllocError> {
-    Command::new(alloc, NAME)
-        .bin_name(NAME)?
-        .version("0.1.0")
-        .about(
-            "Edits SoundFont 2 banks by scripts, writes the scripts that take the edits back, and plays banks",
-        )
-        .subcommand_required(true)
-        .arg_required_else_help(true)
-        .subcommand(apply_command(alloc)?)?
-        .subcommand(canon_command(alloc)?)?
-        .subcommand(diff_command(alloc)?)?
-        .subcommand(new_command(alloc)?)?
-        .subcommand(play_command(alloc)?)?
-        .subcommand(script_command(alloc)?)?
-        .subcommand(show_command(alloc)?)
+fn path<'a>(matches: &ArgMatches<'a>, name: &str) -> Option<&'a str>
+    ensures named { IfSome result (λ path. NamesPath (found_of matches.now) name.now path.now) }
+    ensures given { HasPath (found_of matches.now) name.now → IsSome result }
+{
+    matches.get_str(name)
 }
 
-fn apply_command<'a>(alloc: Global) -> Result<Command<'a>, AllocError> {
-    Command::new(alloc, "apply")
-        .about("Runs a script of edits on a bank, and writes the script that takes them back")
-        .arg(neutral_flag(alloc))?
-        .arg(path(alloc, "IN").help("The bank to edit"))?
-        .arg(path(alloc, "SCRIPT").help("The edits, one a line"))?
-        .arg(path(alloc, "OUT").help("Where the edited bank is written; may be IN"))?
-        .arg(path(alloc, "UNDO").help("Where the script that takes the edits back is written"))
+fn number(matches: &ArgMatches<'_>, name: &str) -> Option<u32>
+    ensures named { IfSome result (NamesNumber (found_of matches.now) name.now) }
+    ensures given { HasNumber (found_of matches.now) name.now (2 ^ 32) → IsSome result }
+{
+    matches.get_one::<u32>(name)
 }
 
-fn neutral_flag<'a>(alloc: Global) -> Arg<'a> {
-    Arg::new(alloc, NEUTRAL)
-        .long(NEUTRAL)
-        .action(ArgAction::SetTrue)
-        .help("Refuses a script with an edit that may change the sound of notes")
-}
-
-fn canon_command<'a>(alloc: Global) -> Result<Command<'a>, AllocError> {
-    Command::new(alloc, "canon")
-        .about("Writes a bank in its one spelling")
-        .arg(path(alloc, "IN").help("The bank to spell"))?
-        .arg(path(alloc, "OUT").help("Where its canonical file is written; may be IN"))
-}
-
-fn diff_command<'a>(alloc: Global) -> Result<Command<'a>, AllocError> {
-    Command::new(alloc, "diff")
-        .about("Writes a script that makes the bank B of the bank A")
-        .arg(path(alloc, "A").help("The bank to begin with"))?
-        .arg(path(alloc, "B").help("The bank to come to, of the same minor version"))?
-        .arg(path(alloc, "OUT").help("Where the script is written"))
-}
-
-fn new_command<'a>(alloc: Global) -> Result<Command<'a>, AllocError> {
-    Command::new(alloc, "new")
-        .about("Writes an empty bank")
-        .arg(minor_option(alloc))?
-        .arg(path(alloc, "OUT").help("Where the empty bank is written"))
-}
-
-fn minor_option<'a>(alloc: Global) -> Arg<'a> {
-    Arg::new(alloc, MINOR)
-        .long(MINOR)
-        .value_name("N")
-        .action(ArgAction::Set)
-        .value_parser(value_parser!(u16))
-        .default_value(USUAL_MINOR)
-        .help("The minor version of the format, from 0 to 65,535")
-}
-
-fn script_command<'a>(alloc: Global) -> Result<Command<'a>, AllocError> {
-    Command::new(alloc, "script")
-        .about("Writes the script that makes a bank of the empty one of its minor version")
-        .arg(no_points_flag(alloc))?
-        .arg(path(alloc, "IN").help("The bank to make"))?
-        .arg(path(alloc, "OUT").help("Where the script is written"))
-}
-
-fn no_points_flag<'a>(alloc: Global) -> Arg<'a> {
-    Arg::new(alloc, NO_POINTS)
-        .long(NO_POINTS)
-        .action(ArgAction::SetTrue)
-        .help(
-            "Leaves the points of samples out, so that the script is short and makes silent samples",
-        )
-}
-
-fn play_command<'a>(alloc: Global) -> Result<Command<'a>, AllocError> {
-    Command::new(alloc, "play")
-        .about("Plays notes on a bank, and writes the sound as a WAVE file")
-        .arg(path(alloc, "IN").help("The bank to play on"))?
-        .arg(path(alloc, "NOTES").help("The notes, one a line"))?
-        .arg(path(alloc, "OUT").help("Where the WAVE file is written"))
-}
-
-fn show_command<'a>(alloc: Global) -> Result<Command<'a>, AllocError> {
-    Command::new(alloc, "show")
-        .about("Tells what a bank has, and what was dropped or mended as it was read")
-        .arg(path(alloc, "IN").help("The bank to show"))
-}
-
-fn path<'a>(alloc: Global, name: &'a str) -> Arg<'a> {
-    Arg::new(alloc, name).required(true).action(ArgAction::Set)
+fn flag(matches: &ArgMatches<'_>, name: &str) -> bool
+    ensures { SaysFlag (found_of matches.now) name.now result }
+{
+    matches.get_flag(name)
 }

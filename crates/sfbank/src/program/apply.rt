@@ -2,8 +2,9 @@
 ghost use Rattle.sfbank.specs.Planned.{outcome_of};
 ghost use Rattle.sfbank.specs.Written.{Runs};
 
+use super::endings::at_either;
 use crate::edit::{edit_run, neutral_run};
-use sfbank_program::{ApplyPaths, Fault, Forms, OutputFile, RunFault, Which, end_both, read_file};
+use sfbank_program::{ApplyPaths, Fault, Forms, OutputFile, RunFault, end_both, read_file};
 use std::alloc::Global;
 use std::io::Write;
 use std::rt::Files;
@@ -26,14 +27,7 @@ pub(crate) fn apply<'a, R: Files + AllocGlobal>(
         &mut out,
         &mut undo,
     );
-    match end_both(out, undo, run) {
-        Ok(()) => Ok(()),
-        Err(RunFault::Write(Which::Undo, written)) => Err(Fault::Run(
-            RunFault::Write(Which::Undo, written),
-            paths.undo,
-        )),
-        Err(fault) => Err(Fault::Run(fault, paths.out)),
-    }
+    at_either(paths.out, paths.undo, end_both(out, undo, run))
 }
 
 /// The run that takes these forms of edits.

@@ -1,4 +1,5 @@
 //! The command `new`.
+use super::endings::at;
 use crate::new::new_run;
 use sfbank_program::{Fault, NewBank, OutputFile, Which};
 use std::rt::Files;
@@ -10,8 +11,5 @@ pub(crate) fn new<'a, R: Files + AllocGlobal>(
 ) -> Result<(), Fault<'a>> {
     let mut out = OutputFile::new(rt, bank.out)?;
     let run = new_run(rt.alloc(), bank.minor, &mut out);
-    match out.end(Which::Out, run) {
-        Ok(()) => Ok(()),
-        Err(fault) => Err(Fault::Run(fault, bank.out)),
-    }
+    at(bank.out, out.end(Which::Out, run))
 }
