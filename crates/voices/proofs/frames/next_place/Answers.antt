@@ -1,6 +1,6 @@
-use Rattle.std.proofs.Common.{◌≡◌, ℕ, ◌+◌, ◌*◌, ◌<◌, ◌≤◌, true, length, arith, ap, subst, sym, ◌∙◌}
-use Rattle.voices.specs.Place.{place, is_looping}
-use Rattle.voices.specs.Runs.{limit, gone_on}
+use Rattle.std.proofs.Common.{◌≡◌, ℕ, ◌+◌, ◌*◌, ◌<◌, length, arith, ap, sym, ◌∙◌}
+use Rattle.voices.specs.Place.{is_looping}
+use Rattle.voices.specs.Runs.{gone_on}
 use Rattle.voices.proofs.OverLemmas.{place_sounds, is_looped_at}
 use Rattle.voices.proofs.RunLemmas.{place_on}
 use Rattle.voices.proofs.frames.next_place.Goals as goal

@@ -1,4 +1,4 @@
-use Rattle.std.proofs.Common.{◌≡◌, zero, suc, ◌+◌, ◌*◌, ◌/◌, ◌<◌, ◌≤◌, ℕ, arith, ap, subst, sym, ◌∙◌}
+use Rattle.std.proofs.Common.{◌≡◌, zero, suc, ◌*◌, ◌/◌, ◌<◌, ℕ, arith, ap, subst, sym, ◌∙◌}
 use Rattle.sound_tables.specs.Tables.{gain_at}
 use Rattle.voices.specs.Envelope.{decayed}
 use Rattle.voices.proofs.PhaseLemmas.{before_sustain, decaying, left_of_all}

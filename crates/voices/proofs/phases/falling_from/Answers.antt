@@ -1,4 +1,4 @@
-use Rattle.std.proofs.Common.{◌≡◌, pos, to_z, ◌+◌, ◌*◌, ◌/◌, ◌<◌, ◌≤◌, ℕ, arith, ap, sym, ◌∙◌}
+use Rattle.std.proofs.Common.{◌≡◌, pos, to_z, ◌*◌, ◌/◌, arith, ap, sym, ◌∙◌}
 use Rattle.std.proofs.lemmas.Int.{to_z_pos}
 use Rattle.std.proofs.Math.Nat.{div-le_self}
 use Rattle.std.specs.Int.{w64}

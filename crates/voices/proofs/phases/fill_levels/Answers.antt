@@ -1,6 +1,5 @@
 use Rattle.std.proofs.Common.{◌≡◌, ◌+◌, ◌-◌, ◌<◌, ◌≤◌, ℕ, length, take, drop, arith, ap, subst, sym, ◌∙◌}
 use Rattle.std.proofs.lemmas.Grind.{common_steps}
-use Rattle.voices.specs.Course.{IsEven}
 use Rattle.voices.specs.Envelope.{envelope}
 use Rattle.voices.proofs.OverLemmas.{even_later}
 use Rattle.voices.proofs.PhaseLemmas.{envelope_within}

@@ -1,6 +1,4 @@
-use Rattle.std.proofs.Common.{◌≡◌, ◌+◌, ◌-◌, ◌*◌, ◌/◌, ◌<◌, ◌≤◌, ℕ, arith, ap, subst, sym, ◌∙◌}
-use Rattle.sound_tables.specs.Tables.{gain_at}
-use Rattle.voices.specs.Envelope.{held, envelope}
+use Rattle.std.proofs.Common.{◌-◌, arith, sym, ◌∙◌}
 use Rattle.voices.proofs.PhaseLemmas.{envelope_held, released_is}
 use Rattle.voices.proofs.phases.level_from.Goals as goal
 

@@ -1,9 +1,6 @@
-use Rattle.std.proofs.Common.{◌≡◌, ◌≤◌, ℕ, ℤ, pos, ◌+◌, arith, ap, subst, sym, get_or, ◌∙◌}
-use Rattle.sound_tables.specs.Tables.{gain_of}
-use Rattle.voices.specs.Levels.{scaled_by}
+use Rattle.std.proofs.Common.{◌≤◌, ℕ, ◌+◌, arith, subst}
 use Rattle.voices.specs.Course.{IsEven}
 use Rattle.voices.specs.Envelope.{envelope}
-use Rattle.voices.proofs.OverLemmas.{even_later}
 use Rattle.voices.proofs.PhaseLemmas.{envelope_within}
 use Rattle.voices.proofs.runs.soften.Goals as goal
 

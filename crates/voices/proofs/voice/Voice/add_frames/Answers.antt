@@ -1,4 +1,4 @@
-use Rattle.std.proofs.Common.{arith, pos}
+use Rattle.std.proofs.Common.{arith}
 use Rattle.std.proofs.lemmas.Int.{ints}
 use Rattle.voices.proofs.voice.Voice.add_frames.Goals as goal
 

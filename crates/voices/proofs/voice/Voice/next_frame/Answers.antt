@@ -1,4 +1,4 @@
-use Rattle.std.proofs.Common.{◌≡◌, true, false, pos, sym, ap, subst, ◌∙◌}
+use Rattle.std.proofs.Common.{◌≡◌, true, false, pos, sym, subst, ◌∙◌}
 use Rattle.voices.specs.Place.{is_over}
 use Rattle.voices.specs.Sound.{Live, snd}
 use Rattle.voices.proofs.RunLemmas.{over_is_silent}
