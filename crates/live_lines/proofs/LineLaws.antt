@@ -1,5 +1,5 @@
 -- Over the bytes of its literals, a line says what it says by itself.
-use Rattle.std.proofs.Common.{◌≡◌, ℕ, Bool, true, false, not, List, [], ◌∷◌, ◌++◌, map, Result, Ok, Err, refl, sym, ap, subst, ◌∙◌}
+use Rattle.std.proofs.Common.{◌≡◌, ℕ, Bool, true, false, not, List, [], ◌∷◌, ◌++◌, map, Ok, Err, refl, sym, ap, ◌∙◌}
 use Rattle.std.specs.List.{list_all, list_any}
 use Rattle.std.specs.Result.{is_err}
 use Rattle.std.proofs.lemmas.Bool.{and_parts}
@@ -7,7 +7,7 @@ use Rattle.std.proofs.lemmas.List.{append-nil}
 use Rattle.line_tokens.specs.declared.cursor.Said.{Said}
 use Rattle.line_tokens.specs.declared.cursor.Said.TheVariants.{Word, Literal, Bad}
 use Rattle.line_tokens.specs.declared.fault.ScriptFault.{ScriptFault}
-use Rattle.line_tokens.specs.Lines.{lines_of, onto, is_feed}
+use Rattle.line_tokens.specs.Lines.{lines_of, is_feed}
 use Rattle.line_tokens.specs.Tokens.{tokens_of, tokens_for}
 use Rattle.line_tokens.specs.Said.{said, said_in, all_said_over}
 use Rattle.line_tokens.specs.Pool.{Grown, and_then, gather, literal_of, literals_of, pool_bytes}

@@ -3,7 +3,7 @@ use Rattle.std.proofs.Common.{◌≡◌, ℕ, Bool, true, false, cond, List, Som
 use Rattle.std.specs.List.{list_all}
 use Rattle.std.specs.Str.{IsUtf8, is_utf8}
 use Rattle.std.proofs.lemmas.Str.{is_utf8-from_IsUtf8, IsUtf8-from_is_utf8}
-use Rattle.live_lines.specs.Paths.{is_path, path_of}
+use Rattle.live_lines.specs.Paths.{path_of}
 
 pub text_path : (text bytes : List ℕ) → text ≡ bytes → IsUtf8 bytes → cond (list_all (λ b. nat_le 32 b) text) (Some text) None ≡ path_of bytes
 unfolding path_of

@@ -13,10 +13,9 @@ use Rattle.line_tokens.specs.Pool.{pool_bytes}
 use Rattle.script_grammar.specs.Names.{named, next_named}
 use Rattle.edit_script.specs.Grammar.{edit}
 use Rattle.live_lines.specs.declared.command.Command.{Command}
-use Rattle.live_lines.specs.declared.fault.RequestFault.{RequestFault}
 use Rattle.live_lines.specs.declared.fault.RequestFault.TheVariants as faults
 use Rattle.live_lines.specs.declared.request.Request.TheVariants as asks
-use Rattle.live_lines.specs.Requests.{Asked, told, command_word, commands, asked_by, some_request, is_bad, request, request_of, HasNoFeed}
+use Rattle.live_lines.specs.Requests.{told, command_word, commands, asked_by, some_request, is_bad, request, request_of, HasNoFeed}
 use Rattle.live_lines.proofs.LineLaws.{well_spelled, badly_spelled}
 
 pub asks_nothing : (said : List Said) → said ≡ [] → request_of said ≡ Ok None

@@ -7,7 +7,6 @@ use Rattle.line_tokens.specs.declared.fault.LineFault.{LineFault}
 use Rattle.line_tokens.specs.Lines.{is_feed}
 use Rattle.line_tokens.specs.Parts.{Took, Part, ◌>>=◌, pure, number, ended}
 use Rattle.script_grammar.specs.Names.{next_named}
-use Rattle.edit_forms.specs.declared.edit.Edit.{Edit}
 use Rattle.edit_script.specs.Grammar.{edit}
 use Rattle.note_list.specs.declared.limits.TheConstants.{HIGHEST_KEY, HIGHEST_VELOCITY}
 use Rattle.note_list.specs.Notes.{Numbers, note_of}

@@ -1,4 +1,3 @@
-use Rattle.std.proofs.Common.{◌∙◌, ap}
 use Rattle.live_lines.proofs.RequestLaws.{bad_line}
 use Rattle.live_lines.proofs.reading.pool_of_line.Goals as goal
 

@@ -1,7 +1,5 @@
-use Rattle.std.proofs.Common.{◌≡◌, ◌∙◌, List, [], sym, ap}
-use Rattle.line_tokens.specs.declared.cursor.Said.{Said}
-use Rattle.line_tokens.specs.Said.{Left, said_in, all_said_over}
-use Rattle.line_tokens.specs.Tokens.{tokens_of}
+use Rattle.std.proofs.Common.{◌∙◌, sym, ap}
+use Rattle.line_tokens.specs.Said.{Left, said_in}
 use Rattle.line_tokens.proofs.GatherLaws.{step_fails}
 use Rattle.live_lines.specs.Requests.{some_request}
 use Rattle.live_lines.proofs.LineLaws.{says_same}
