@@ -7,6 +7,7 @@ pub use Rattle.live_lines.specs.Requests
 pub use Rattle.live_lines.specs.Answers
 pub use Rattle.mixer.specs.Events
 pub mod Saved
+pub mod Telling
 pub mod Steps
 pub mod Turns
 pub mod Runs

@@ -1,11 +1,10 @@
 -- What a request makes of a session, by what it is answered, and what goes out of it.
-use Rattle.std.specs.Prelude.{◌≡◌, ◌≤◌, ◌<◌, ◌+◌, ◌*◌, ℕ, ℤ, Bool, true, false, List, [], ◌∷◌, length, take, Option, Some, None}
+use Rattle.std.specs.Prelude.{◌≡◌, ◌⊎◌, ◌≤◌, ◌<◌, ◌+◌, ◌-◌, ◌*◌, ◌^◌, min, ℕ, ℤ, Bool, true, false, List, [], ◌∷◌, length, take, Option, Some, None}
 use Rattle.std.specs.List.{flat_map}
 use Rattle.std.specs.Io.KnownBytes.{Appends}
 use Rattle.std.specs.Option.{option_map_or}
 use Rattle.bank_parts.specs.declared.parts.Parts.{Parts}
 use Rattle.bank_format.specs.declared.fault.Counts.{Counts}
-use Rattle.bank_listing.specs.Listing.{listing}
 use Rattle.edit_forms.specs.declared.edit.Edit.{Edit}
 use Rattle.edit_refusals.specs.declared.refusal.Refusal.{Refusal}
 use Rattle.edit_sessions.specs.Histories.{bank_now, begun, IsEdited, IsRefusalNow, IsForth, IsUndoFailure, IsRedoFailure, way_back}
@@ -23,8 +22,9 @@ use Rattle.live_lines.specs.declared.paths.Paths.{Paths}
 use Rattle.live_sessions.specs.declared.live.Live.{Live}
 use Rattle.wave_file.specs.Wave.{sample_bytes}
 use Rattle.live_sessions.specs.declared.fault.LiveFault.{LiveFault}
-use Rattle.live_sessions.specs.declared.fault.LiveFault.TheVariants as live
+use Rattle.live_sessions.specs.declared.fault.LiveFault.TheVariants as fault
 use Rattle.live_sessions.specs.Saved.{Saved, Adds, saved_of}
+use Rattle.live_sessions.specs.Telling.{bank_told}
 
 -- a session that begins with a bank: no edit yet, no voice and no frame
 abbrev pub started_with : Parts → Live
@@ -60,11 +60,11 @@ RedoIs old answer.Done new = IsForth old.session new.session × OnlyTheBank old 
 RedoIs old (answer.Refused why) new = IsRedoFailure old.session why × (new ≡ old)
 RedoIs old other new = ⊥
 
--- a note starts all its voices on the bank as it is now, at the next frame
+-- a note starts all its voices on the bank as it is now, at the next frame; they are counted as far as a number goes
 pub record StartsVoices (old : Live) (n : Numbers) (voices : ℕ) (new : Live) : Type 0 where
   pub bank : Parts
   pub here : bank_now old.session ≡ Some bank
-  pub counted : voices ≡ length (fresh bank n)
+  pub counted : voices ≡ min (length (fresh bank n)) (2 ^ 64 - 1)
   pub plays : new ≡ record old { player = after_start old.player (fresh bank n) }
 
 abbrev pub NoteIs : Live → Numbers → Answer → Live → Type 0
@@ -81,12 +81,12 @@ FramesAre old m answer.Done new = (old.given + m ≤ MOST_FRAMES) × (new ≡ af
 FramesAre old m answer.TooManyFrames new = (MOST_FRAMES < old.given + m) × (new ≡ old)
 FramesAre old m other new = ⊥
 
--- a save changes nothing, whether it is done or not
-abbrev pub SaveIs : Live → Answer → Live → Type 0
-SaveIs old answer.Done new = new ≡ old
-SaveIs old answer.OutOfMemory new = new ≡ old
-SaveIs old (answer.WriteFault path written) new = new ≡ old
-SaveIs old other new = ⊥
+-- a save changes nothing, whether it is done or not; a write fault names one of its paths
+abbrev pub SaveIs : Live → Paths → Answer → Live → Type 0
+SaveIs old paths answer.Done new = new ≡ old
+SaveIs old paths answer.OutOfMemory new = new ≡ old
+SaveIs old paths (answer.WriteFault path written) new = ((path ≡ paths.out) ⊎ (path ≡ paths.undo)) × (new ≡ old)
+SaveIs old paths other new = ⊥
 
 abbrev pub TellIs : Live → Answer → Live → Type 0
 TellIs old answer.Done new = new ≡ old
@@ -100,7 +100,7 @@ RequestIs old asks.Undo a new = UndoIs old a new
 RequestIs old asks.Redo a new = RedoIs old a new
 RequestIs old (asks.Note n) a new = NoteIs old n a new
 RequestIs old (asks.Frames m) a new = FramesAre old m a new
-RequestIs old (asks.Save paths) a new = SaveIs old a new
+RequestIs old (asks.Save paths) a new = SaveIs old paths a new
 RequestIs old asks.Show a new = TellIs old a new
 RequestIs old asks.Help a new = TellIs old a new
 RequestIs old asks.Quit a new = TellIs old a new
@@ -151,24 +151,24 @@ abbrev pub saves_of : Live → Request → Answer → List Saved
 saves_of old (asks.Save paths) a = saves_if old a
 saves_of old other a = []
 
--- what is told before the answer: the bank as it is, with the counts of reading it, or the help
-abbrev pub told_by : Counts → Live → Request → List ℕ
-told_by counts old asks.Show = option_map_or (λ (b : Parts). listing b counts) (bank_now old.session) []
-told_by counts old asks.Help = HELP.now
-told_by counts old other = []
+abbrev pub told_if : Answer → List ℕ → List ℕ
+told_if answer.Done text = text
+told_if other text = []
 
+-- what is told before the answer: the bank as it is, with the counts of reading it, or the help
 abbrev pub told_of : Counts → Live → Request → Answer → List ℕ
-told_of counts old r answer.Done = told_by counts old r
-told_of counts old r other = []
+told_of counts old asks.Show a = told_if a (bank_told counts old)
+told_of counts old asks.Help a = told_if a HELP.now
+told_of counts old other a = []
+
+abbrev pub is_done : Answer → Bool
+is_done answer.Done = true
+is_done other = false
 
 -- whether the session ends behind it
-abbrev pub is_quit : Request → Bool
-is_quit asks.Quit = true
-is_quit other = false
-
 abbrev pub is_end : Request → Answer → Bool
-is_end r answer.Done = is_quit r
-is_end r other = false
+is_end asks.Quit a = is_done a
+is_end other a = false
 
 -- ---- one request done
 
@@ -178,17 +178,20 @@ pub record Does (old new : Live) (r : Request) (a : Answer) (pcm pcm_new : Optio
   pub frames : Appends pcm pcm_new (flat_map sample_bytes (frames_of old r a))
   pub saves : Adds saved saved_new (saves_of old r a)
 
--- Exactly a front of the frames of a request went out, and then the writer failed. The fault counts the bytes of all frames.
-pub record StopsInFrames (old : Live) (r : Request) (pcm pcm_new : Option (List ℕ)) (saved saved_new : Option (List Saved)) (written : ℕ) : Type 0 where
-  pub frames : ℕ
-  pub asked : r ≡ asks.Frames frames
-  pub within : old.given + frames ≤ MOST_FRAMES
+-- Exactly a front of so many frames went out, and then the writer failed. The fault counts the bytes of all frames that
+-- the session gave, as far as a number goes.
+pub record StopsInFrames (old : Live) (count : ℕ) (pcm pcm_new : Option (List ℕ)) (written : ℕ) : Type 0 where
+  pub within : old.given + count ≤ MOST_FRAMES
   pub part : ℕ
-  pub counted : written ≡ 4 * old.given + part
-  pub front : part ≤ length (flat_map sample_bytes (block old.player frames))
-  pub out : Appends pcm pcm_new (take part (flat_map sample_bytes (block old.player frames)))
-  pub saves : Adds saved saved_new []
+  pub counted : written ≡ min (4 * old.given + part) (2 ^ 64 - 1)
+  pub front : part ≤ length (flat_map sample_bytes (block old.player count))
+  pub out : Appends pcm pcm_new (take part (flat_map sample_bytes (block old.player count)))
 
+abbrev pub FramesStop : Live → ℕ → Option (List ℕ) → Option (List ℕ) → LiveFault → Type 0
+FramesStop old count pcm pcm_new (fault.Pcm written) = StopsInFrames old count pcm pcm_new written
+FramesStop old count pcm pcm_new other = ⊥
+
+-- only frames stop in their midst, and nothing was saved
 abbrev pub StopsIn : Live → Request → Option (List ℕ) → Option (List ℕ) → Option (List Saved) → Option (List Saved) → LiveFault → Type 0
-StopsIn old r pcm pcm_new saved saved_new (live.Pcm written) = StopsInFrames old r pcm pcm_new saved saved_new written
-StopsIn old r pcm pcm_new saved saved_new other = ⊥
+StopsIn old (asks.Frames count) pcm pcm_new saved saved_new why = FramesStop old count pcm pcm_new why × Adds saved saved_new []
+StopsIn old other pcm pcm_new saved saved_new why = ⊥

@@ -11,7 +11,10 @@ use mixer::Player;
 use outputs::{Output, WriteFault};
 use std::io::Write;
 
-/// The samples that are made at a time: those of 1,024 frames.
+/// The frames that are made at a time.
+const MOST_AT_ONCE: usize = 1024;
+
+/// The samples of these frames, left and right in turn.
 const BLOCK: usize = 2048;
 
 /// Sends the next frames, each sample its low byte first, and flushes. A fault tells how many bytes went
@@ -34,15 +37,15 @@ fn put_frames<P: Write>(player: &mut Player<'_>, count: u32, output: &mut Output
     ensures put { Puts P.contents output.old output.new (flat_map sample_bytes (block player.old count)) }
     ensures played { player.new ≡ after_block player.old count }
 {
-    // For what it says of a player that gives no frame.
-    player.block(&mut []);
     let mut samples = [0; BLOCK];
-    let mut left = 2 * count as usize;
+    let mut left = count as usize;
     while left > 0 {
-        let size = left.min(BLOCK);
-        put_block(player, &mut samples[..size], output);
+        let size = left.min(MOST_AT_ONCE);
+        put_block(player, &mut samples[..2 * size], output);
         left -= size;
     }
+    // For what it says of a player that gives no frame.
+    player.block(&mut []);
 }
 
 // Puts a block of at most 1,024 frames.

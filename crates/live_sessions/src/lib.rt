@@ -1,10 +1,15 @@
 //! Live sessions: a bank that is edited and played line by line.
 #![tactic(auto)]
 
+mod asking;
 mod fault;
 mod frames;
 mod live;
+mod requests;
+mod run;
 mod saving;
+mod telling;
 
 pub use fault::LiveFault;
+pub use run::live_run;
 pub use saving::{SaveFault, Saves, put_undo};

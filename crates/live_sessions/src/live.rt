@@ -1,5 +1,5 @@
 //! A session in its course: its bank, its player, and how many frames it gave.
-ghost use Rattle.std.specs.Prelude.{◌≡◌, length};
+ghost use Rattle.std.specs.Prelude.{◌≡◌, ◌+◌, length, min};
 ghost use Rattle.mixer.specs.Heard.{fresh};
 ghost use Rattle.live_sessions.specs.Steps.{EditIs, NeutralIs, UndoIs, RedoIs, NoteIs, started_with};
 
@@ -88,9 +88,20 @@ impl<'a> Live<'a> {
 
 // How many voices a note has: one of each pair of zones that hold it.
 fn voice_count(bank: &Bank<'_>, note: &Note) -> usize
-    ensures { result ≡ length (fresh bank.now note.now) }
+    ensures { result ≡ min (length (fresh bank.now note.now)) usize.MAX }
 {
     // For what it says of the bank.
     let _samples = bank.samples();
-    matches(bank, note).count()
+    let mut voices = 0usize;
+    for _pair in matches(bank, note) {
+        voices = one_more(voices);
+    }
+    voices
+}
+
+// One more, as far as a number goes.
+fn one_more(count: usize) -> usize
+    ensures { result ≡ min (count + 1) usize.MAX }
+{
+    if count < usize::MAX { count + 1 } else { count }
 }

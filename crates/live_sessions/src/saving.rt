@@ -49,7 +49,9 @@ pub trait Saves {
 pub fn put_undo<W: Write>(back: &[Edit<'_>], output: &mut Output<'_, W>)
     ensures { Puts W.contents output.old output.new (undo_text back.now) }
 {
-    for edit in back.iter().rev() {
-        put_edit(edit, output);
+    let mut left = back.len();
+    while left > 0 {
+        left -= 1;
+        put_edit(&back[left], output);
     }
 }
