@@ -3,7 +3,7 @@ use Rattle.std.proofs.Common.{◌≡◌, ℕ, ◌+◌, ◌-◌, ◌*◌, ◌≤�
 use Rattle.std.specs.List.{flat_map}
 use Rattle.std.proofs.lemmas.Bool.{not-false}
 use Rattle.bank_parts.specs.declared.parts.Parts.{Parts}
-use Rattle.bank_text.specs.Listed.{empty}
+use Rattle.bank_parts.specs.declared.texts.Texts.{Texts}
 use Rattle.voices.specs.Place.{is_over}
 use Rattle.voices.proofs.OverLemmas.{over_stays}
 use Rattle.zone_select.specs.declared.parameters.VoiceParameters.{VoiceParameters}
@@ -49,21 +49,28 @@ pub after_both : (ps : List Playing) (k n : ℕ) → after_block (after_block ps
 unfolding after_block
 after_both ps k n = both_parts ps k n
 
+-- some bank, for the law speaks of one
+no_texts : Texts
+no_texts = record { engine = []; name = []; date = []; engineers = []; product = []; copyright = []; comment = []; software = [] }
+
+no_bank : Parts
+no_bank = record { minor = 1; texts = no_texts; presets = []; instruments = []; samples = [] }
+
 -- a block is all that comes of a player that gives it
-alone : (ps : List Playing) (k : ℕ) → blocks (empty 1) ps (Given k ∷ []) ≡ block ps k
+alone : (ps : List Playing) (k : ℕ) → blocks no_bank ps (Given k ∷ []) ≡ block ps k
 unfolding blocks
 alone ps k = append-nil (block ps k)
 
-in_two : (ps : List Playing) (k n : ℕ) → blocks (empty 1) ps (Given k ∷ Given n ∷ []) ≡ block ps k ++ block (after_block ps k) n
+in_two : (ps : List Playing) (k n : ℕ) → blocks no_bank ps (Given k ∷ Given n ∷ []) ≡ block ps k ++ block (after_block ps k) n
 unfolding blocks
 in_two ps k n = ap (λ (xs : List ℤ). block ps k ++ xs) (append-nil (block (after_block ps k) n))
 
-same_events : (ps : List Playing) (k n : ℕ) → blocks (empty 1) ps (Given (k + n) ∷ []) ≡ blocks (empty 1) ps (Given k ∷ Given n ∷ [])
+same_events : (ps : List Playing) (k n : ℕ) → blocks no_bank ps (Given (k + n) ∷ []) ≡ blocks no_bank ps (Given k ∷ Given n ∷ [])
 unfolding starts given
 same_events ps k n =
-    blocks_from (empty 1) (Given (k + n) ∷ []) ps 0
+    blocks_from no_bank (Given (k + n) ∷ []) ps 0
     ∙ ap (λ (m : ℕ). frames (record { frame = 0; voices = ps } ∷ []) 0 m) (let e : k + n + 0 ≡ k + (n + 0) = omega arith in e)
-    ∙ sym (blocks_from (empty 1) (Given k ∷ Given n ∷ []) ps 0)
+    ∙ sym (blocks_from no_bank (Given k ∷ Given n ∷ []) ps 0)
 
 pub block_cut : (ps : List Playing) (k n : ℕ) → block ps (k + n) ≡ block ps k ++ block (after_block ps k) n
 block_cut ps k n = sym (alone ps (k + n)) ∙ same_events ps k n ∙ in_two ps k n
