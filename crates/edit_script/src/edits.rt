@@ -23,9 +23,10 @@ use step_script::{put_operands, step, word_of};
 
 // ---- read
 
-/// The edit that a line says, to the line's end.
+/// The edit that what is left of a line says, to the line's end; or its first fault from left to right. Want
+/// of memory may come in place of either.
 #[tactic(auto, unfolding(crate::specs::Grammar::edit, line_tokens::specs::Parts::ended))]
-pub(crate) fn edit<'p>(
+pub fn edit<'p>(
     alloc: Global,
     line: &mut Cursor<'_, 'p>,
 ) -> Result<Edit<'p>, Failure<LineFault>>

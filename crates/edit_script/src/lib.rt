@@ -11,7 +11,7 @@ mod edits;
 mod laws;
 mod parsing;
 
-pub use edits::{print, put_edit};
+pub use edits::{edit, print, put_edit};
 pub use laws::{one_reading, printed_lines_spell, spelled_edits_fit, spelled_is_read};
 pub use line_tokens::{ScriptFault, pool_of};
 pub use parsing::{Line, parse};

@@ -1,0 +1,69 @@
+-- The texts of the answers, each one line.
+use Rattle.std.specs.Prelude.{ℕ, List, [], ◌∷◌, ◌++◌, codes, Option, Some, None}
+use Rattle.bank_validity.specs.declared.limits.Limit.{Limit}
+use Rattle.bank_validity.specs.Limits.{word_of}
+use Rattle.edit_refusals.specs.declared.cause.Cause.{Cause}
+use Rattle.edit_refusals.specs.declared.refusal.Refusal.{Refusal}
+use Rattle.edit_refusals.specs.declared.refusal.Refusal.TheVariants.{Of, OutOfMemory, NothingToUndo, NothingToRedo, GroupRefused}
+use Rattle.edit_refusals.specs.CauseNames as causes
+use Rattle.line_tokens.specs.declared.printing.Piece.{Piece}
+use Rattle.line_tokens.specs.declared.printing.Piece.TheVariants.{Number, Word}
+use Rattle.line_tokens.specs.Printing.{line_text}
+use Rattle.live_lines.specs.declared.answer.Answer.{Answer}
+use Rattle.live_lines.specs.declared.answer.Answer.TheVariants as answers
+use Rattle.live_lines.specs.declared.fault.RequestFault.{RequestFault}
+use Rattle.live_lines.specs.Faults as faults
+
+-- the limit that a bank would break
+abbrev pub limit_pieces : Option Limit → List Piece
+limit_pieces (Some limit) = Word (word_of limit) ∷ []
+limit_pieces None = []
+
+-- the step of a group, counted from 0, and the cause that stands against it
+abbrev pub step_pieces : ℕ → Cause → List Piece
+step_pieces step cause = Number step ∷ Number (causes.number_of cause) ∷ Word (causes.name_of cause) ∷ []
+
+-- what stands behind the name of a refusal
+abbrev pub detail_pieces : Refusal → List Piece
+detail_pieces (Of cause) = limit_pieces (causes.limit_of cause)
+detail_pieces (GroupRefused step cause) = step_pieces step cause ++ limit_pieces (causes.limit_of cause)
+detail_pieces OutOfMemory = []
+detail_pieces NothingToUndo = []
+detail_pieces NothingToRedo = []
+
+-- why an edit is refused, or a session can't go back or forth, by its number and its name
+abbrev pub reason_pieces : Refusal → List Piece
+reason_pieces why = Number (causes.refusal_number why) ∷ Word (causes.refusal_name why) ∷ detail_pieces why
+
+abbrev pub refused_line : Refusal → List ℕ
+refused_line why = line_text (codes "refused") (reason_pieces why)
+
+-- want of memory is told in words, whoever tells it
+abbrev pub no_memory : List ℕ
+no_memory = codes "out of memory\n"
+
+abbrev pub refused_text : Refusal → List ℕ
+refused_text (Of cause) = refused_line (Of cause)
+refused_text OutOfMemory = no_memory
+refused_text NothingToUndo = refused_line NothingToUndo
+refused_text NothingToRedo = refused_line NothingToRedo
+refused_text (GroupRefused step cause) = refused_line (GroupRefused step cause)
+
+-- a fault of a line, by its number and its name
+abbrev pub fault_text : RequestFault → List ℕ
+fault_text fault = line_text (codes "fault") (Number (faults.number_of fault) ∷ Word (faults.name_of fault) ∷ [])
+
+-- how much of a file went out
+abbrev pub write_text : List ℕ → ℕ → List ℕ
+write_text path written = line_text (codes "write") (Word (codes "fault") ∷ Word path ∷ Word (codes "after") ∷ Number written ∷ Word (codes "bytes") ∷ [])
+
+-- the line of an answer, with its line feed
+unfoldable pub answer_text : Answer → List ℕ
+answer_text answers.Done = line_text (codes "ok") []
+answer_text (answers.Started voices) = line_text (codes "ok") (Number voices ∷ [])
+answer_text (answers.Refused why) = refused_text why
+answer_text answers.NotNeutral = line_text (codes "refused") (Number 50 ∷ Word (codes "NotNeutral") ∷ [])
+answer_text answers.TooManyFrames = line_text (codes "refused") (Number 52 ∷ Word (codes "TooManyFrames") ∷ [])
+answer_text (answers.Fault fault) = fault_text fault
+answer_text answers.OutOfMemory = no_memory
+answer_text (answers.WriteFault path written) = write_text path written

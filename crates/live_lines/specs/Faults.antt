@@ -1,0 +1,28 @@
+-- What a fault of a line is called.
+use Rattle.std.specs.Prelude.{ℕ, List, codes}
+use Rattle.line_tokens.specs.declared.fault.LineFault.{LineFault}
+use Rattle.line_tokens.specs.declared.fault.LineFault.TheVariants as line
+use Rattle.live_lines.specs.declared.fault.RequestFault.{RequestFault}
+use Rattle.live_lines.specs.declared.fault.RequestFault.TheVariants.{Syntax, Number, Literal, BadNote, TooLong}
+
+-- the number of each kind of fault, as of scripts and of note lists
+abbrev pub number_of : RequestFault → ℕ
+number_of Syntax = 41
+number_of Number = 42
+number_of Literal = 43
+number_of BadNote = 45
+number_of TooLong = 47
+
+-- the name of each kind of fault
+abbrev pub name_of : RequestFault → List ℕ
+name_of Syntax = codes "Syntax"
+name_of Number = codes "Number"
+name_of Literal = codes "Literal"
+name_of BadNote = codes "BadNote"
+name_of TooLong = codes "TooLong"
+
+-- the fault of a part of a line
+abbrev pub of_line : LineFault → RequestFault
+of_line line.Syntax = Syntax
+of_line line.Number = Number
+of_line line.Literal = Literal

@@ -1,0 +1,4 @@
+pub mod Faults
+pub mod Paths
+pub mod Requests
+pub mod Answers

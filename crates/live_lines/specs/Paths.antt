@@ -1,0 +1,31 @@
+-- The paths that a line says.
+use Rattle.std.specs.Prelude.{ℕ, List, [], ◌∷◌, Option, Some, None, Result, Ok, Err, Bool, ◌&&◌, nat_le, if◌then◌else◌}
+use Rattle.std.specs.List.{list_all}
+use Rattle.std.specs.Str.{is_utf8}
+use Rattle.line_tokens.specs.declared.cursor.Said.{Said}
+use Rattle.line_tokens.specs.declared.cursor.Said.TheVariants.{Word, Literal, Bad}
+use Rattle.line_tokens.specs.declared.fault.LineFault.TheVariants as faults
+use Rattle.line_tokens.specs.Parts.{Part, ◌>>=◌, or_fault, ended}
+use Rattle.live_lines.specs.declared.paths.Paths.{Paths}
+
+-- UTF-8 without control characters
+abbrev pub is_path : List ℕ → Bool
+is_path bytes = is_utf8 bytes && list_all (λ b. nat_le 32 b) bytes
+
+-- the path with these bytes, if they are one
+unfoldable pub path_of : List ℕ → Option (List ℕ)
+path_of bytes = if is_path bytes then Some bytes else None
+
+-- a path, in a word or in a literal
+unfoldable pub path : Part (List ℕ)
+path [] = Err faults.Syntax
+path (Word w ∷ line) = or_fault faults.Syntax (path_of w) line
+path (Literal bytes ∷ line) = or_fault faults.Literal (path_of bytes) line
+path (Bad ∷ line) = Err faults.Syntax
+
+-- where the bank goes and where the script goes that takes it back, to the line's end
+unfoldable pub paths : Part Paths
+paths = do
+  o ← path
+  u ← path
+  ended (record { out = o; undo = u })

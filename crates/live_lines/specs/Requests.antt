@@ -1,0 +1,126 @@
+-- What a line of a live session asks for, or its fault.
+use Rattle.std.specs.Prelude.{ℕ, List, [], ◌∷◌, codes, Option, Some, None, Result, Ok, Err, Bool, true, false, not, IsTrue, if◌then◌else◌}
+use Rattle.std.specs.List.{list_all, list_any}
+use Rattle.line_tokens.specs.declared.cursor.Said.{Said}
+use Rattle.line_tokens.specs.declared.cursor.Said.TheVariants.{Word, Literal, Bad}
+use Rattle.line_tokens.specs.declared.fault.LineFault.{LineFault}
+use Rattle.line_tokens.specs.Lines.{is_feed}
+use Rattle.line_tokens.specs.Parts.{Took, Part, ◌>>=◌, pure, number, ended}
+use Rattle.script_grammar.specs.Names.{next_named}
+use Rattle.edit_forms.specs.declared.edit.Edit.{Edit}
+use Rattle.edit_script.specs.Grammar.{edit}
+use Rattle.note_list.specs.declared.limits.TheConstants.{HIGHEST_KEY, HIGHEST_VELOCITY}
+use Rattle.note_list.specs.Notes.{Numbers, note_of}
+use Rattle.live_lines.specs.declared.command.Command.{Command}
+use Rattle.live_lines.specs.declared.command.Command.TheVariants as command
+use Rattle.live_lines.specs.declared.fault.RequestFault.{RequestFault}
+use Rattle.live_lines.specs.declared.fault.RequestFault.TheVariants as faults
+use Rattle.live_lines.specs.declared.request.Request.{Request}
+use Rattle.live_lines.specs.declared.request.Request.TheVariants as asks
+use Rattle.live_lines.specs.declared.request.TheConstants.{MOST_FRAMES}
+use Rattle.live_lines.specs.Faults.{of_line}
+use Rattle.live_lines.specs.Paths.{paths}
+
+-- ---- the commands, one line each
+
+-- the word of a command
+abbrev pub command_word : Command → List ℕ
+command_word command.Neutral = codes "neutral"
+command_word command.Undo = codes "undo"
+command_word command.Redo = codes "redo"
+command_word command.Note = codes "note"
+command_word command.Frames = codes "frames"
+command_word command.Save = codes "save"
+command_word command.Show = codes "show"
+command_word command.Help = codes "help"
+command_word command.Quit = codes "quit"
+
+abbrev pub commands : List Command
+commands =
+    command.Neutral ∷ command.Undo ∷ command.Redo ∷ command.Note ∷ command.Frames ∷ command.Save
+    ∷ command.Show ∷ command.Help ∷ command.Quit ∷ []
+
+-- ---- what stands behind a word
+
+-- a request, or the fault of its line
+abbrev pub Asked : Type 0
+Asked = Result Request RequestFault
+
+-- what is made of the value of a part, or its fault
+abbrev pub told : {X : Type 0} → (X → Request) → Result (Took X) LineFault → Asked
+told f (Ok t) = Ok (f t.value)
+told f (Err e) = Err (of_line e)
+
+-- the numbers of a note that starts now, to the line's end: a note, or none where it is too long
+unfoldable pub note_now : Part (Option Numbers)
+note_now = do
+  l ← number 4294967295
+  b ← number 65535
+  n ← number 65535
+  k ← number HIGHEST_KEY
+  v ← number HIGHEST_VELOCITY
+  u ← ended (tt {0})
+  pure (note_of (record { start = 0; length = l; bank = b; number = n; key = k; velocity = v }))
+
+-- the note, if it is short enough
+abbrev pub in_time : Option Numbers → Asked
+in_time (Some note) = Ok (asks.Note note)
+in_time None = Err faults.TooLong
+
+-- the note that was read; whatever stands against its line, it is no note
+abbrev pub noted : Result (Took (Option Numbers)) LineFault → Asked
+noted (Ok t) = in_time t.value
+noted (Err e) = Err faults.BadNote
+
+-- so many frames, to the line's end
+unfoldable pub frames : Part ℕ
+frames = do
+  n ← number MOST_FRAMES
+  ended n
+
+-- what a command asks for, by what is left of its line
+abbrev pub asked_by : Command → List Said → Asked
+asked_by command.Neutral line = told asks.Neutral (edit line)
+asked_by command.Undo line = told (λ r. r) (ended asks.Undo line)
+asked_by command.Redo line = told (λ r. r) (ended asks.Redo line)
+asked_by command.Note line = noted (note_now line)
+asked_by command.Frames line = told asks.Frames (frames line)
+asked_by command.Save line = told asks.Save (paths line)
+asked_by command.Show line = told (λ r. r) (ended asks.Show line)
+asked_by command.Help line = told (λ r. r) (ended asks.Help line)
+asked_by command.Quit line = told (λ r. r) (ended asks.Quit line)
+
+-- ---- a whole line
+
+-- by its command, if it begins with one; else it is an edit
+abbrev pub by_command : List Said → Result (Took Command) LineFault → Asked
+by_command line (Ok t) = asked_by t.value t.rest
+by_command line (Err e) = told asks.Edit (edit line)
+
+unfoldable pub request : List Said → Asked
+request line = by_command line (next_named command_word commands line)
+
+-- a request, where there is one
+abbrev pub some_request : Asked → Result (Option Request) RequestFault
+some_request (Ok r) = Ok (Some r)
+some_request (Err e) = Err e
+
+-- a line without tokens asks for nothing
+abbrev pub if_any : List Said → Result (Option Request) RequestFault
+if_any [] = Ok None
+if_any (s ∷ line) = some_request (request (s ∷ line))
+
+-- a literal that is badly spelled
+abbrev pub is_bad : Said → Bool
+is_bad (Word w) = false
+is_bad (Literal bytes) = false
+is_bad Bad = true
+
+-- a line of a text, which holds no line feed
+abbrev pub HasNoFeed : List ℕ → Type 0
+HasNoFeed line = IsTrue (list_all (λ b. not (is_feed b)) line)
+
+-- What a line asks for, or its fault: a badly spelled literal anywhere in the line, and else the first
+-- fault from left to right.
+unfoldable pub request_of : List Said → Result (Option Request) RequestFault
+request_of said = if list_any is_bad said then Err faults.Literal else if_any said

@@ -1,0 +1,151 @@
+//! What a line is answered.
+ghost use Rattle.std.specs.Prelude.{◌≡◌, ◌∷◌, [], codes};
+ghost use Rattle.std.specs.List.{flat_map};
+ghost use Rattle.outputs.specs.Output.{Puts};
+ghost use Rattle.line_tokens.specs.Printing.{line_text, spaced};
+ghost use Rattle.live_lines.specs.Answers.{answer_text, refused_text, refused_line, reason_pieces, detail_pieces, step_pieces, limit_pieces, fault_text, write_text};
+
+use crate::fault::RequestFault;
+use crate::paths::FilePath;
+use bank_validity::Limit;
+use edit_refusals::{Cause, Refusal};
+use line_tokens::{Piece, put_line, put_pieces};
+use outputs::Output;
+use sf_base::Lent;
+use std::io::Write;
+
+/// The answer to a line of a live session.
+#[derive(Debug, Drop)]
+pub enum Answer<'a> {
+    /// `ok`
+    Done,
+    /// `ok VOICES`: how many voices a note started.
+    Started(usize),
+    /// `refused NUMBER NAME ..`: why an edit is refused, or a session can't go back or forth.
+    Refused(Refusal),
+    /// `refused 50 NotNeutral`: the edit could be heard.
+    NotNeutral,
+    /// `refused 52 TooManyFrames`: a session has 100,000,000 frames at most.
+    TooManyFrames,
+    /// `fault NUMBER NAME`: the line asks for nothing that there is.
+    Fault(RequestFault),
+    /// `out of memory`
+    OutOfMemory,
+    /// `write fault PATH after N bytes`: a file could not be saved.
+    WriteFault { path: FilePath<'a>, written: u64 },
+}
+
+/// Puts the line of an answer, with its line feed. It takes no memory.
+#[tactic(auto, unfolding(crate::specs::Answers::answer_text))]
+pub fn put_answer<W: Write>(answer: &Answer<'_>, output: &mut Output<'_, W>)
+    ensures { Puts W.contents output.old output.new (answer_text answer.now) }
+{
+    match answer {
+        Answer::Done => put_line(b"ok", &[], output),
+        Answer::Started(voices) => put_line(b"ok", &[Piece::Number(*voices as u64)], output),
+        Answer::Refused(why) => put_refused(*why, output),
+        Answer::NotNeutral => put_named(50, "NotNeutral", output),
+        Answer::TooManyFrames => put_named(52, "TooManyFrames", output),
+        Answer::Fault(fault) => put_fault(*fault, output),
+        Answer::OutOfMemory => output.put(b"out of memory\n"),
+        Answer::WriteFault { path, written } => put_write_fault(path.text(), *written, output),
+    }
+}
+
+// A refusal that no bank and no session tells, by its number and its name.
+fn put_named<W: Write>(number: u64, name: &str, output: &mut Output<'_, W>)
+    ensures { Puts W.contents output.old output.new (line_text (codes "refused") (Piece.Number number ∷ Piece.Word name.now ∷ [])) }
+{
+    put_line(b"refused", &[Piece::Number(number), word(name)], output);
+}
+
+// Why an edit is refused, or a session can't go back or forth.
+fn put_refused<W: Write>(why: Refusal, output: &mut Output<'_, W>)
+    ensures { Puts W.contents output.old output.new (refused_text why) }
+{
+    match why {
+        Refusal::OutOfMemory => output.put(b"out of memory\n"),
+        _ => put_refusal(why, output),
+    }
+}
+
+// The same by its number and its name.
+fn put_refusal<W: Write>(why: Refusal, output: &mut Output<'_, W>)
+    ensures { Puts W.contents output.old output.new (refused_line why) }
+{
+    output.put(b"refused");
+    put_reason(why, output);
+    output.put(b"\n");
+}
+
+fn put_reason<W: Write>(why: Refusal, output: &mut Output<'_, W>)
+    ensures { Puts W.contents output.old output.new (flat_map spaced (reason_pieces why)) }
+{
+    let number = Piece::Number(u64::from(why.number()));
+    put_pieces(&[number, word(why.name())], output);
+    put_detail(why, output);
+}
+
+// What stands behind the name.
+fn put_detail<W: Write>(why: Refusal, output: &mut Output<'_, W>)
+    ensures { Puts W.contents output.old output.new (flat_map spaced (detail_pieces why)) }
+{
+    match why {
+        Refusal::Of(cause) => put_limit(cause.limit(), output),
+        Refusal::GroupRefused(step, cause) => {
+            put_step(step, cause, output);
+            put_limit(cause.limit(), output);
+        }
+        Refusal::OutOfMemory | Refusal::NothingToUndo | Refusal::NothingToRedo => {}
+    }
+}
+
+// The step of a group, and the cause that stands against it.
+fn put_step<W: Write>(step: usize, cause: Cause, output: &mut Output<'_, W>)
+    ensures { Puts W.contents output.old output.new (flat_map spaced (step_pieces step cause)) }
+{
+    let number = Piece::Number(u64::from(cause.number()));
+    put_pieces(
+        &[Piece::Number(step as u64), number, word(cause.name())],
+        output,
+    );
+}
+
+// The limit that a bank would break.
+fn put_limit<W: Write>(limit: Option<Limit>, output: &mut Output<'_, W>)
+    ensures { Puts W.contents output.old output.new (flat_map spaced (limit_pieces limit)) }
+{
+    if let Some(limit) = limit {
+        put_pieces(&[word(limit.word())], output);
+    }
+}
+
+fn put_fault<W: Write>(fault: RequestFault, output: &mut Output<'_, W>)
+    ensures { Puts W.contents output.old output.new (fault_text fault) }
+{
+    let number = Piece::Number(u64::from(fault.number()));
+    put_line(b"fault", &[number, word(fault.name())], output);
+}
+
+fn put_write_fault<W: Write>(path: &str, written: u64, output: &mut Output<'_, W>)
+    ensures { Puts W.contents output.old output.new (write_text path.now written) }
+{
+    put_line(
+        b"write",
+        &[
+            word("fault"),
+            word(path),
+            word("after"),
+            Piece::Number(written),
+            word("bytes"),
+        ],
+        output,
+    );
+}
+
+// A word that stands as it is.
+fn word(text: &str) -> Piece<'_>
+    ensures { result ≡ Piece.Word text.now }
+{
+    Piece::Word(Lent::new(text.as_bytes()))
+}

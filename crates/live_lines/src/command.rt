@@ -1,0 +1,58 @@
+//! The commands of a live session.
+ghost use Rattle.live_lines.specs.Requests.{commands, command_word};
+
+use script_grammar::HasWord;
+
+/// What a line asks for that begins with its word. A line that begins with no such word is an edit.
+#[derive(Debug, Clone, Copy)]
+pub enum Command {
+    /// `neutral EDIT`
+    Neutral,
+    Undo,
+    Redo,
+    /// `note LENGTH BANK NUMBER KEY VELOCITY`
+    Note,
+    /// `frames N`
+    Frames,
+    /// `save OUT UNDO`
+    Save,
+    Show,
+    Help,
+    Quit,
+}
+
+static COMMANDS: [Command; 9] = [
+    Command::Neutral,
+    Command::Undo,
+    Command::Redo,
+    Command::Note,
+    Command::Frames,
+    Command::Save,
+    Command::Show,
+    Command::Help,
+    Command::Quit,
+];
+
+impl HasWord for Command {
+    ghost all = { commands };
+
+    ghost word_of = { command_word };
+
+    fn all() -> &'static [Command] {
+        &COMMANDS
+    }
+
+    fn word(self) -> &'static [u8] {
+        match self {
+            Command::Neutral => b"neutral",
+            Command::Undo => b"undo",
+            Command::Redo => b"redo",
+            Command::Note => b"note",
+            Command::Frames => b"frames",
+            Command::Save => b"save",
+            Command::Show => b"show",
+            Command::Help => b"help",
+            Command::Quit => b"quit",
+        }
+    }
+}

@@ -1,0 +1,129 @@
+//! The paths of files.
+ghost use Rattle.std.specs.Prelude.{◌≡◌, [], drop, nat_le, MatchResult, IsOk, if◌then◌else◌};
+ghost use Rattle.std.specs.List.{list_all};
+ghost use Rattle.line_tokens.specs.Tokens.{tokens_of};
+ghost use Rattle.line_tokens.specs.Said.{all_said_over};
+ghost use Rattle.line_tokens.specs.Parts.{Reads, word};
+ghost use Rattle.live_lines.specs.Paths.{path_of, path, paths};
+
+use line_tokens::{Cursor, LineFault};
+use std::marker::Model;
+
+/// The path of a file, seen as its bytes: UTF-8 without control characters.
+#[derive(Debug, Drop)]
+pub struct FilePath<'a> {
+    text: &'a str,
+}
+
+impl<'a> Model for FilePath<'a> {
+    ghost use Rattle.std.specs.Prelude.{ℕ, List};
+
+    ghost Value = { List ℕ };
+
+    ghost view = { λ path. path.text.now };
+}
+
+impl<'a> FilePath<'a> {
+    /// The path with these bytes. None where they are not UTF-8, or one of them is below 0x20.
+    pub fn of(bytes: &'a [u8]) -> Option<FilePath<'a>>
+        ensures { result ≡ path_of bytes.now }
+    {
+        match str::from_utf8(bytes) {
+            Ok(text) => without_controls(text),
+            Err(_) => None,
+        }
+    }
+
+    /// Its text.
+    pub fn text(&self) -> &'a str
+        ensures { result.now ≡ self.now }
+    {
+        self.text
+    }
+}
+
+/// The paths of the files that are saved.
+#[derive(Debug, Drop)]
+pub struct Paths<'a> {
+    /// Where the bank goes.
+    pub out: FilePath<'a>,
+    /// Where the script goes that takes it back.
+    pub undo: FilePath<'a>,
+}
+
+// The path with this text, if no byte of it is below 0x20.
+fn without_controls(text: &str) -> Option<FilePath<'_>>
+    ensures { result ≡ (if list_all (λ b. nat_le 32 b) text.now then Some text.now else None) }
+{
+    if has_no_controls(text.as_bytes()) {
+        Some(FilePath { text })
+    } else {
+        None
+    }
+}
+
+fn has_no_controls(bytes: &[u8]) -> bool
+    ensures { result ≡ list_all (λ b. nat_le 32 b) bytes.now }
+{
+    bytes.iter().all(|byte| *byte >= 0x20)
+}
+
+// The paths behind the first word of a line, to its end.
+#[tactic(auto, unfolding(crate::specs::Paths::paths, line_tokens::specs::Parts::ended))]
+pub(crate) fn both_paths<'t, 'p: 't>(line: &'t [u8], pool: &'p [u8]) -> Result<Paths<'t>, LineFault>
+    requires { IsOk (word (all_said_over pool.now (tokens_of line.now))) }
+    ensures { MatchResult result (λ p. paths (drop 1 (all_said_over pool.now (tokens_of line.now))) ≡ Ok (record { value = p; rest = [] })) (λ e. paths (drop 1 (all_said_over pool.now (tokens_of line.now))) ≡ Err e) }
+{
+    let (out, mut rest) = first_path(line, pool)?;
+    let (_, twin) = first_path(line, pool)?;
+    let undo = path(&mut rest, twin)?;
+    rest.end()?;
+    Ok(Paths { out, undo })
+}
+
+// The first path behind the first word of a line, and what is left of the line.
+fn first_path<'t, 'p: 't>(
+    line: &'t [u8],
+    pool: &'p [u8],
+) -> Result<(FilePath<'t>, Cursor<'t, 'p>), LineFault>
+    requires { IsOk (word (all_said_over pool.now (tokens_of line.now))) }
+    ensures { MatchResult result (λ r. path (drop 1 (all_said_over pool.now (tokens_of line.now))) ≡ Ok (record { value = r.0; rest = r.1.said })) (λ e. path (drop 1 (all_said_over pool.now (tokens_of line.now))) ≡ Err e) }
+{
+    let mut rest = behind_word(line, pool);
+    let twin = behind_word(line, pool);
+    let out = path(&mut rest, twin)?;
+    Ok((out, rest))
+}
+
+// What is left of a line behind its first word.
+#[tactic(auto, using(crate::proofs::RequestLaws::word_taken))]
+fn behind_word<'t, 'p>(line: &'t [u8], pool: &'p [u8]) -> Cursor<'t, 'p>
+    requires { IsOk (word (all_said_over pool.now (tokens_of line.now))) }
+    ensures { result.said ≡ drop 1 (all_said_over pool.now (tokens_of line.now)) }
+{
+    let mut rest = Cursor::of(line, pool);
+    rest.word().unwrap();
+    rest
+}
+
+// The next path. A cursor doesn't tell whether a word or a literal is next before it is taken, so a twin
+// that stands at the same place looks.
+#[tactic(auto, unfolding(crate::specs::Paths::path, line_tokens::specs::Parts::word, line_tokens::specs::Parts::literal))]
+fn path<'t, 'p: 't>(
+    line: &mut Cursor<'t, 'p>,
+    mut twin: Cursor<'t, 'p>,
+) -> Result<FilePath<'t>, LineFault>
+    requires { twin.said ≡ line.old.said }
+    ensures { Reads (λ p. p) path line.old line.new result }
+{
+    match twin.word() {
+        Ok(_) => {
+            let word = line.word()?;
+            FilePath::of(word).ok_or(LineFault::Syntax)
+        }
+        Err(_) => {
+            let bytes = line.literal()?;
+            FilePath::of(bytes).ok_or(LineFault::Literal)
+        }
+    }
+}

@@ -1,0 +1,207 @@
+//! What a line asks for.
+ghost use Rattle.std.specs.Prelude.{◌≡◌, drop, Ok, IfOk, IfErr, IsOk};
+ghost use Rattle.line_tokens.specs.Tokens.{tokens_of};
+ghost use Rattle.line_tokens.specs.Said.{said_in, left_over, all_said_over};
+ghost use Rattle.line_tokens.specs.Parts.{Reads, word, ended};
+ghost use Rattle.line_tokens.specs.Pool.{Answers, Fails, pool_bytes};
+ghost use Rattle.script_grammar.specs.Names.{next_named};
+ghost use Rattle.edit_forms.specs.declared.edit.Edit.{Edit};
+ghost use Rattle.edit_script.specs.Grammar.{edit};
+ghost use Rattle.live_lines.specs.declared.request.Request.{Request};
+ghost use Rattle.live_lines.specs.declared.request.Request.TheVariants as asks;
+ghost use Rattle.live_lines.specs.Paths.{paths};
+ghost use Rattle.live_lines.specs.Requests.{command_word, commands, told, note_now, noted, frames, asked_by, request, request_of, HasNoFeed};
+
+use crate::command::Command;
+use crate::fault::RequestFault;
+use crate::paths::both_paths;
+use crate::request::{MOST_FRAMES, Request};
+use edit_forms::Edit;
+use edit_script::edit;
+use line_tokens::{Cursor, LineFault, pool_of};
+use note_list::{HIGHEST_KEY, HIGHEST_VELOCITY, Note};
+use script_grammar::next_named;
+use sf_base::Failure;
+use std::alloc::Global;
+
+/// The bytes of the literals of a line, in their order; or the line's fault, where one of them is badly
+/// spelled. Want of memory may come in place of either. A line without literals takes no memory.
+pub fn pool_of_line(alloc: Global, line: &[u8]) -> Result<Vec<u8>, Failure<RequestFault>>
+    requires { HasNoFeed line.now }
+    ensures pool { IfOk result (λ pool. pool_bytes line.now ≡ Ok pool.items) }
+    ensures fault { IfErr result (λ why. Fails why (request_of (said_in line.now))) }
+{
+    match pool_of(alloc, line) {
+        Ok(pool) => Ok(pool),
+        Err(Failure::Fault(_)) => Err(Failure::Fault(RequestFault::Literal)),
+        Err(Failure::OutOfMemory) => Err(Failure::OutOfMemory),
+    }
+}
+
+/// What a line asks for, over the bytes of its literals; or its first fault from left to right. A line
+/// without tokens asks for nothing. Want of memory may come in place of any answer of an edit.
+pub fn read_line<'t, 'p: 't>(
+    alloc: Global,
+    line: &'t [u8],
+    pool: &'p [u8],
+) -> Result<Option<Request<'t, 'p>>, Failure<RequestFault>>
+    requires line { HasNoFeed line.now }
+    requires pool { pool_bytes line.now ≡ Ok pool.now }
+    ensures { Answers (λ r. r) result (request_of (said_in line.now)) }
+{
+    let cursor = Cursor::of(line, pool);
+    if cursor.is_empty() {
+        return Ok(None);
+    }
+    match request(alloc, line, pool) {
+        Ok(request) => Ok(Some(request)),
+        Err(failure) => Err(failure),
+    }
+}
+
+// What a line asks for that says something.
+fn request<'t, 'p: 't>(
+    alloc: Global,
+    line: &'t [u8],
+    pool: &'p [u8],
+) -> Result<Request<'t, 'p>, Failure<RequestFault>>
+    ensures { Answers (λ r. r) result (request (all_said_over pool.now (tokens_of line.now))) }
+{
+    let mut rest = Cursor::of(line, pool);
+    let command = next_named(&mut rest);
+    asked(alloc, command, &mut rest, line, pool)
+}
+
+// What a line asks for, by its command, if it begins with one; else it is an edit.
+fn asked<'t, 'p: 't>(
+    alloc: Global,
+    command: Result<Command, LineFault>,
+    rest: &mut Cursor<'t, 'p>,
+    line: &'t [u8],
+    pool: &'p [u8],
+) -> Result<Request<'t, 'p>, Failure<RequestFault>>
+    requires { Reads (λ c. c) (next_named command_word commands) (left_over pool.now (tokens_of line.now)) rest.old command }
+    ensures { Answers (λ r. r) result (request (all_said_over pool.now (tokens_of line.now))) }
+{
+    match command {
+        Ok(command) => asked_by(alloc, command, rest, line, pool),
+        Err(_) => edit_of_line(alloc, line, pool),
+    }
+}
+
+// The edit that a line says.
+fn edit_of_line<'t, 'p>(
+    alloc: Global,
+    line: &'t [u8],
+    pool: &'p [u8],
+) -> Result<Request<'t, 'p>, Failure<RequestFault>>
+    ensures { Answers (λ r. r) result (told asks.Edit (edit (all_said_over pool.now (tokens_of line.now)))) }
+{
+    let mut whole = Cursor::of(line, pool);
+    Ok(Request::Edit(an_edit(alloc, &mut whole)?))
+}
+
+// What a command asks for, by what is left of its line.
+fn asked_by<'t, 'p: 't>(
+    alloc: Global,
+    command: Command,
+    rest: &mut Cursor<'t, 'p>,
+    line: &'t [u8],
+    pool: &'p [u8],
+) -> Result<Request<'t, 'p>, Failure<RequestFault>>
+    requires behind { rest.old.said ≡ drop 1 (all_said_over pool.now (tokens_of line.now)) }
+    requires word { IsOk (word (all_said_over pool.now (tokens_of line.now))) }
+    ensures { Answers (λ r. r) result (asked_by command rest.old.said) }
+{
+    match command {
+        Command::Neutral => Ok(Request::Neutral(an_edit(alloc, rest)?)),
+        Command::Undo => Ok(alone(Request::Undo, rest)?),
+        Command::Redo => Ok(alone(Request::Redo, rest)?),
+        Command::Note => Ok(note(rest)?),
+        Command::Frames => Ok(some_frames(rest)?),
+        Command::Save => Ok(save(line, pool)?),
+        Command::Show => Ok(alone(Request::Show, rest)?),
+        Command::Help => Ok(alone(Request::Help, rest)?),
+        Command::Quit => Ok(alone(Request::Quit, rest)?),
+    }
+}
+
+// The edit that is left of a line.
+fn an_edit<'p>(alloc: Global, line: &mut Cursor<'_, 'p>) -> Result<Edit<'p>, Failure<RequestFault>>
+    ensures { (make : Edit → Request) → Answers make result (told make (edit line.old.said)) }
+{
+    match edit(alloc, line) {
+        Ok(edit) => Ok(edit),
+        Err(Failure::Fault(fault)) => Err(Failure::Fault(fault.into())),
+        Err(Failure::OutOfMemory) => Err(Failure::OutOfMemory),
+    }
+}
+
+// The request, where nothing is left of its line.
+#[tactic(auto, unfolding(line_tokens::specs::Parts::ended))]
+fn alone<'t, 'p>(
+    request: Request<'t, 'p>,
+    line: &mut Cursor<'_, '_>,
+) -> Result<Request<'t, 'p>, RequestFault>
+    ensures { result ≡ told (λ r. r) (ended request.entry line.old.said) }
+{
+    line.end()?;
+    Ok(request)
+}
+
+// A note that starts now.
+fn note<'t, 'p>(line: &mut Cursor<'_, '_>) -> Result<Request<'t, 'p>, RequestFault>
+    ensures { result ≡ noted (note_now line.old.said) }
+{
+    match note_now(line) {
+        Ok(Some(note)) => Ok(Request::Note(note)),
+        Ok(None) => Err(RequestFault::TooLong),
+        Err(_) => Err(RequestFault::BadNote),
+    }
+}
+
+// The numbers of a note that starts now, to the line's end; none where it is too long.
+#[tactic(auto, unfolding(crate::specs::Requests::note_now))]
+fn note_now(line: &mut Cursor<'_, '_>) -> Result<Option<Note>, LineFault>
+    ensures { Reads (λ n. n) note_now line.old line.new result }
+{
+    let length = line.number(u32::MAX)?;
+    let bank = line.number(u32::from(u16::MAX))?;
+    let number = line.number(u32::from(u16::MAX))?;
+    let key = line.number(u32::from(HIGHEST_KEY))?;
+    let velocity = line.number(u32::from(HIGHEST_VELOCITY))?;
+    line.end()?;
+    Ok(Note::new(
+        0,
+        length,
+        bank as u16,
+        number as u16,
+        key as u8,
+        velocity as u8,
+    ))
+}
+
+// So many frames.
+fn some_frames<'t, 'p>(line: &mut Cursor<'_, '_>) -> Result<Request<'t, 'p>, RequestFault>
+    ensures { result ≡ told asks.Frames (frames line.old.said) }
+{
+    Ok(Request::Frames(frames(line)?))
+}
+
+// A number of frames, to the line's end.
+#[tactic(auto, unfolding(crate::specs::Requests::frames, line_tokens::specs::Parts::ended))]
+fn frames(line: &mut Cursor<'_, '_>) -> Result<u32, LineFault>
+    ensures { Reads (λ n. n) frames line.old line.new result }
+{
+    let count = line.number(MOST_FRAMES)?;
+    line.end()?;
+    Ok(count)
+}
+
+// The paths of the files, by the whole line.
+fn save<'t, 'p: 't>(line: &'t [u8], pool: &'p [u8]) -> Result<Request<'t, 'p>, RequestFault>
+    requires { IsOk (word (all_said_over pool.now (tokens_of line.now))) }
+    ensures { result ≡ told asks.Save (paths (drop 1 (all_said_over pool.now (tokens_of line.now)))) }
+{
+    Ok(Request::Save(both_paths(line, pool)?))
+}
