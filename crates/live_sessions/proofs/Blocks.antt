@@ -38,7 +38,7 @@ both_parts (p ∷ ps) k n =
     let all : List Playing = filter is_sounding (map (aged (k + n)) ps) in
     let same : filter is_sounding (map (aged n) kept) ≡ all = both_parts ps k n in
     let P : Bool → Type 0 = λ b. is_sounding (aged k p) ≡ b
-        → filter is_sounding (map (aged n) (cond b (aged k p ∷ kept) kept)) ≡ cond (is_sounding (aged (k + n) p)) (aged (k + n) p ∷ all) all in
+    → filter is_sounding (map (aged n) (cond b (aged k p ∷ kept) kept)) ≡ cond (is_sounding (aged (k + n) p)) (aged (k + n) p ∷ all) all in
     let at : (b : Bool) → P b = elim [
       | true ↦ λ _. (λ i. cond (is_sounding (aged_twice p k n i)) (aged_twice p k n i ∷ same i) (same i))
       | false ↦ λ h. same ∙ sym (ap (λ (b : Bool). cond b (aged (k + n) p ∷ all) all) (over_later p k n h))

@@ -79,7 +79,7 @@ no_told counts s asks.Show = refl
 no_told counts s asks.Help = refl
 no_told counts s asks.Quit = refl
 
-no_frames : (s : Live) (r : Request) → frames_of s r answer.OutOfMemory ≡ []
+pub no_frames : (s : Live) (r : Request) → frames_of s r answer.OutOfMemory ≡ []
 no_frames s (asks.Edit e) = refl
 no_frames s (asks.Neutral e) = refl
 no_frames s asks.Undo = refl

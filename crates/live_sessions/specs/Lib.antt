@@ -11,3 +11,4 @@ pub mod Telling
 pub mod Steps
 pub mod Turns
 pub mod Runs
+pub mod Laws

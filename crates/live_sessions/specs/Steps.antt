@@ -7,7 +7,7 @@ use Rattle.bank_parts.specs.declared.parts.Parts.{Parts}
 use Rattle.bank_format.specs.declared.fault.Counts.{Counts}
 use Rattle.edit_forms.specs.declared.edit.Edit.{Edit}
 use Rattle.edit_refusals.specs.declared.refusal.Refusal.{Refusal}
-use Rattle.edit_sessions.specs.Histories.{bank_now, begun, IsEdited, IsRefusalNow, IsForth, IsUndoFailure, IsRedoFailure, way_back}
+use Rattle.edit_sessions.specs.Histories.{IsHistory, bank_now, begun, IsEdited, IsRefusalNow, IsForth, IsUndoFailure, IsRedoFailure, way_back}
 use Rattle.neutral_edits.specs.Neutral.{is_neutral}
 use Rattle.note_list.specs.Notes.{Numbers}
 use Rattle.mixer.specs.Heard.{fresh}
@@ -81,9 +81,9 @@ FramesAre old m answer.Done new = (old.given + m ≤ MOST_FRAMES) × (new ≡ af
 FramesAre old m answer.TooManyFrames new = (MOST_FRAMES < old.given + m) × (new ≡ old)
 FramesAre old m other new = ⊥
 
--- a save changes nothing, whether it is done or not; a write fault names one of its paths
+-- a save changes nothing, whether it is done or not; what it saves takes a history back, and a write fault names one of its paths
 abbrev pub SaveIs : Live → Paths → Answer → Live → Type 0
-SaveIs old paths answer.Done new = new ≡ old
+SaveIs old paths answer.Done new = IsHistory old.session × (new ≡ old)
 SaveIs old paths answer.OutOfMemory new = new ≡ old
 SaveIs old paths (answer.WriteFault path written) new = ((path ≡ paths.out) ⊎ (path ≡ paths.undo)) × (new ≡ old)
 SaveIs old paths other new = ⊥

@@ -4,6 +4,7 @@
 mod asking;
 mod fault;
 mod frames;
+mod laws;
 mod live;
 mod requests;
 mod run;
@@ -11,5 +12,6 @@ mod saving;
 mod telling;
 
 pub use fault::LiveFault;
+pub use laws::{frames_are_heard, saved_ways_lead_back};
 pub use run::live_run;
 pub use saving::{SaveFault, Saves, put_undo};

@@ -11,7 +11,7 @@ loop-pair-init c =
 pub loop-pair-preserved : goal.loop-pair-preserved
 loop-pair-preserved c =
     let f = count_next (length (fresh c.args.bank.now c.args.note.now)) _ c.next.new.self c.loop-pair._pair-iterator c.loop-pair.voices c.one_more-voices.result
-        c.in-Some.ensures.steps c.one_more-voices.ensures c.loop-pair.invariant.left c.loop-pair.invariant.counted in
+    c.in-Some.ensures.steps c.one_more-voices.ensures c.loop-pair.invariant.left c.loop-pair.invariant.counted in
     record { can_next = tt; is_finite = tt; left = f.0; counted = f.1 }
 
 pub returns : goal.returns
