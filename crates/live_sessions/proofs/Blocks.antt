@@ -1,5 +1,5 @@
 -- A block that is cut in two.
-use Rattle.std.proofs.Common.{◌≡◌, ℕ, ◌+◌, ◌-◌, ◌*◌, ◌≤◌, ℤ, Bool, true, false, not, cond, List, [], ◌∷◌, ◌++◌, map, filter, refl, sym, ap, subst, ◌∙◌, arith, append-nil, Option}
+use Rattle.std.proofs.Common.{◌≡◌, ℕ, ◌+◌, ◌-◌, ◌≤◌, ℤ, Bool, true, false, not, cond, List, [], ◌∷◌, ◌++◌, map, filter, refl, sym, ap, ◌∙◌, arith, append-nil, Option}
 use Rattle.std.specs.List.{flat_map}
 use Rattle.std.proofs.lemmas.Bool.{not-false}
 use Rattle.bank_parts.specs.declared.parts.Parts.{Parts}
@@ -9,7 +9,7 @@ use Rattle.voices.proofs.OverLemmas.{over_stays}
 use Rattle.zone_select.specs.declared.parameters.VoiceParameters.{VoiceParameters}
 use Rattle.mixer.specs.declared.playing.Playing.{Playing}
 use Rattle.mixer.specs.Heard.{frames}
-use Rattle.mixer.specs.Events.{Event, Given, starts, given, is_sounding, aged, after_block, block, blocks}
+use Rattle.mixer.specs.Events.{Given, starts, given, is_sounding, aged, after_block, block, blocks}
 use Rattle.std.proofs.lemmas.Grind.{flat_map-append}
 use Rattle.outputs.specs.declared.output.Output.{Output}
 use Rattle.outputs.specs.Output.{Puts}

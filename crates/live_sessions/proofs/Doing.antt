@@ -1,5 +1,5 @@
 -- One request done.
-use Rattle.std.proofs.Common.{◌≡◌, ◌≤◌, ◌+◌, ◌-◌, ◌*◌, ◌^◌, ℕ, ℤ, min, List, [], ◌∷◌, ◌++◌, length, take, Option, Some, None, Result, Ok, Err, IfOk, IfErr, refl, sym, ap, subst, append-nil, append_assoc, ◌∙◌}
+use Rattle.std.proofs.Common.{◌≡◌, ◌≤◌, ◌+◌, ◌-◌, ◌*◌, ◌^◌, ℕ, ℤ, min, List, [], ◌∷◌, ◌++◌, Option, Some, None, Result, Ok, Err, IfOk, IfErr, sym, ap, subst, append-nil, append_assoc, ◌∙◌}
 use Rattle.std.specs.List.{flat_map}
 use Rattle.std.specs.Option.{option_map_or}
 use Rattle.std.specs.Io.KnownBytes.{Appends}
@@ -9,7 +9,6 @@ use Rattle.edit_forms.specs.declared.edit.Edit.{Edit}
 use Rattle.edit_sessions.specs.Histories.{bank_now, way_back}
 use Rattle.mixer.specs.declared.playing.Playing.{Playing}
 use Rattle.mixer.specs.Events.{after_block, block}
-use Rattle.outputs.specs.declared.writing.WriteFault.{WriteFault}
 use Rattle.outputs.specs.Writing as writing
 use Rattle.wave_file.specs.Wave.{sample_bytes}
 use Rattle.live_lines.specs.declared.answer.Answer.{Answer}

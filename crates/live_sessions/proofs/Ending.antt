@@ -1,5 +1,5 @@
 -- Lines that pass one after the other, and the end of a session.
-use Rattle.std.proofs.Common.{◌≡◌, ◌⊎◌, inl, inr, ℕ, Bool, true, false, ◌||◌, List, [], ◌∷◌, ◌++◌, map, Option, Some, None, Result, Ok, Err, refl, sym, ap, subst, ◌∙◌, append-nil, append_assoc}
+use Rattle.std.proofs.Common.{◌≡◌, inl, inr, ℕ, Bool, true, false, ◌||◌, List, [], ◌∷◌, ◌++◌, map, Option, Some, None, Result, Ok, Err, refl, sym, ap, subst, ◌∙◌, append-nil, append_assoc}
 use Rattle.std.specs.List.{flat_map, list_any}
 use Rattle.std.specs.Io.KnownBytes.{Appends, IsAtEnd}
 use Rattle.std.proofs.KnownBytes.{Appends-nil, Appends-trans}
@@ -16,8 +16,8 @@ use Rattle.live_sessions.specs.declared.fault.LiveFault.{LiveFault}
 use Rattle.live_sessions.specs.declared.fault.LiveFault.TheVariants as fault
 use Rattle.live_sessions.specs.Saved.{Saved, Adds}
 use Rattle.live_sessions.specs.Steps.{started_with}
-use Rattle.live_sessions.specs.Turns.{LineIs, Turn, Around, asked, text_in, bytes_in, saves_in, ends_in, AreTurns, Reads, Passes, Passed, StopsInAnswer, StopsBefore, StopsAt}
-use Rattle.live_sessions.specs.Runs.{OnlyReads, Quits, Stops, EndsWell, EndsBy, Plays, PlaysBank, Runs, Answers, StopsLine, AnswersOr, GoesOn, Goes, IsReadFault}
+use Rattle.live_sessions.specs.Turns.{LineIs, Turn, Around, asked, text_in, bytes_in, saves_in, ends_in, AreTurns, Reads, Passes, Passed}
+use Rattle.live_sessions.specs.Runs.{OnlyReads, EndsWell, EndsBy, Plays, Runs, AnswersOr, GoesOn, Goes, IsReadFault}
 use Rattle.live_sessions.proofs.Doing.{adds_nothing, adds_then}
 use Rattle.live_sessions.proofs.Turning.{around}
 

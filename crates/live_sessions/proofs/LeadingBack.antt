@@ -1,12 +1,10 @@
 -- The way back leads to the first bank.
-use Rattle.std.proofs.Common.{◌≡◌, ℕ, zero, suc, List, [], ◌∷◌, ◌++◌, map, take, reverse, Option, Some, None, slice_get, refl, sym, ap, subst, ◌∙◌}
+use Rattle.std.proofs.Common.{◌≡◌, ℕ, zero, suc, List, [], ◌∷◌, ◌++◌, map, take, reverse, Some, slice_get, refl, sym, ap, subst, ◌∙◌}
 use Rattle.std.specs.Prelude.{zip}
 use Rattle.bank_parts.specs.declared.parts.Parts.{Parts}
 use Rattle.bank_parts.specs.Sound.{IsSound}
 use Rattle.edit_forms.specs.declared.edit.Edit.{Edit}
-use Rattle.edit_refusals.specs.Edits.{raw}
 use Rattle.bank_edits.specs.EditChanges.{inverse}
-use Rattle.inverse_edits.specs.Undone.{IsTaken}
 use Rattle.inverse_edits.specs.Runs.{AllTaken, after_all, undo_list, AreUndone}
 use Rattle.inverse_edits.proofs.RunLaw.{all_undone}
 use Rattle.edit_sessions.specs.Histories.{Follow, AreLinked, IsHistory, bank_now, way_back}

@@ -1,5 +1,5 @@
 -- A text that answers a line goes out.
-use Rattle.std.proofs.Common.{◌≡◌, ℕ, List, [], Option, Some, Result, Ok, Err, refl, sym, ap}
+use Rattle.std.proofs.Common.{◌≡◌, ℕ, List, [], Option, Some, Result, Ok, Err, ap}
 use Rattle.std.specs.Option.{option_map_or}
 use Rattle.bank_parts.specs.declared.parts.Parts.{Parts}
 use Rattle.bank_format.specs.declared.fault.Counts.{Counts}

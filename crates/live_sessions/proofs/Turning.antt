@@ -1,7 +1,6 @@
 -- A line that is answered.
-use Rattle.std.proofs.Common.{◌≡◌, ◌≤◌, ◌⊎◌, inl, inr, ℕ, ℤ, Bool, true, false, List, [], ◌∷◌, ◌++◌, length, take, Option, Some, None, Result, Ok, Err, refl, sym, ap, subst, ◌∙◌, append-nil}
+use Rattle.std.proofs.Common.{◌≡◌, ◌≤◌, inl, inr, ℕ, ℤ, false, List, [], ◌++◌, length, take, Option, Some, None, Ok, Err, refl, sym, ap, subst, ◌∙◌}
 use Rattle.std.specs.List.{flat_map}
-use Rattle.std.specs.Option.{option_map_or}
 use Rattle.std.specs.Io.KnownBytes.{Appends}
 use Rattle.std.proofs.KnownBytes.{Appends-nil}
 use Rattle.sf_base.specs.declared.memory.Failure.{Failure}
@@ -15,20 +14,18 @@ use Rattle.live_lines.specs.declared.answer.Answer.TheVariants as answer
 use Rattle.live_lines.specs.declared.fault.RequestFault.{RequestFault}
 use Rattle.live_lines.specs.declared.request.Request.{Request}
 use Rattle.live_lines.specs.declared.request.Request.TheVariants as asks
-use Rattle.live_lines.specs.declared.help.TheConstants.{HELP}
 use Rattle.live_lines.specs.Requests.{request_of}
 use Rattle.live_lines.specs.Answers.{answer_text}
 use Rattle.live_sessions.specs.declared.live.Live.{Live}
 use Rattle.live_sessions.specs.declared.requests.Kind.{Kind}
-use Rattle.live_sessions.specs.declared.requests.Kind.TheVariants as kind
 use Rattle.live_sessions.specs.declared.requests.Next.{Next}
 use Rattle.live_sessions.specs.declared.fault.LiveFault.{LiveFault}
 use Rattle.live_sessions.specs.declared.fault.LiveFault.TheVariants as fault
 use Rattle.live_sessions.specs.Saved.{Saved, Adds}
 use Rattle.live_sessions.specs.Telling.{kind_of, bank_told, told_text, next_of, is_last, told_failure, IsSent}
-use Rattle.live_sessions.specs.Steps.{RequestIs, StopsIn, FramesStop, Does, frames_of, saves_of, told_of, is_end, is_done}
-use Rattle.live_sessions.specs.Turns.{Asked, AnswerIs, LineIs, Turn, Around, answered, ends, Passes, StopsInAnswer, StopsBefore, StopsAt, text_in}
-use Rattle.live_sessions.specs.Runs.{Answers, StopsLine, AnswersOr}
+use Rattle.live_sessions.specs.Steps.{RequestIs, StopsIn, FramesStop, Does, frames_of, saves_of, told_of, is_end}
+use Rattle.live_sessions.specs.Turns.{Asked, LineIs, Turn, Around, answered, ends}
+use Rattle.live_sessions.specs.Runs.{Answers, StopsLine}
 use Rattle.live_sessions.proofs.Doing.{adds_nothing}
 
 -- what is around a session, but for its input

@@ -1,12 +1,11 @@
 -- What a request makes of a session, by what it is answered, and what goes out of it.
-use Rattle.std.specs.Prelude.{◌≡◌, ◌⊎◌, ◌≤◌, ◌<◌, ◌+◌, ◌-◌, ◌*◌, ◌^◌, min, ℕ, ℤ, Bool, true, false, List, [], ◌∷◌, length, take, Option, Some, None}
+use Rattle.std.specs.Prelude.{◌≡◌, ◌⊎◌, ◌≤◌, ◌<◌, ◌+◌, ◌-◌, ◌*◌, ◌^◌, min, ℕ, ℤ, Bool, true, false, List, [], ◌∷◌, length, take, Option, Some}
 use Rattle.std.specs.List.{flat_map}
 use Rattle.std.specs.Io.KnownBytes.{Appends}
 use Rattle.std.specs.Option.{option_map_or}
 use Rattle.bank_parts.specs.declared.parts.Parts.{Parts}
 use Rattle.bank_format.specs.declared.fault.Counts.{Counts}
 use Rattle.edit_forms.specs.declared.edit.Edit.{Edit}
-use Rattle.edit_refusals.specs.declared.refusal.Refusal.{Refusal}
 use Rattle.edit_sessions.specs.Histories.{IsHistory, bank_now, begun, IsEdited, IsRefusalNow, IsForth, IsUndoFailure, IsRedoFailure, way_back}
 use Rattle.neutral_edits.specs.Neutral.{is_neutral}
 use Rattle.note_list.specs.Notes.{Numbers}

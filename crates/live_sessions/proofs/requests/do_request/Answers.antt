@@ -1,6 +1,4 @@
-use Rattle.std.proofs.Common.{refl, sym, subst}
-use Rattle.live_lines.specs.declared.request.Request.{Request}
-use Rattle.live_sessions.specs.Steps.{Does}
+use Rattle.std.proofs.Common.{refl}
 use Rattle.live_sessions.proofs.Doing.{does_quietly, quietly_as}
 use Rattle.live_sessions.proofs.requests.do_request.Goals as goal
 
