@@ -1,0 +1,300 @@
+-- A line that is answered.
+use Rattle.std.proofs.Common.{◌≡◌, ◌≤◌, inl, inr, ℕ, ℤ, false, List, [], ◌++◌, length, take, Option, Some, None, Ok, Err, refl, sym, ap, subst, ◌∙◌}
+use Rattle.std.specs.List.{flat_map}
+use Rattle.std.specs.Io.KnownBytes.{Appends}
+use Rattle.std.proofs.KnownBytes.{Appends-nil}
+use Rattle.sf_base.specs.declared.memory.Failure.{Failure}
+use Rattle.sf_base.specs.declared.memory.Failure.TheVariants as failures
+use Rattle.line_tokens.specs.Said.{said_in}
+use Rattle.line_tokens.specs.Pool.{Fails}
+use Rattle.bank_format.specs.declared.fault.Counts.{Counts}
+use Rattle.wave_file.specs.Wave.{sample_bytes}
+use Rattle.live_lines.specs.declared.answer.Answer.{Answer}
+use Rattle.live_lines.specs.declared.answer.Answer.TheVariants as answer
+use Rattle.live_lines.specs.declared.fault.RequestFault.{RequestFault}
+use Rattle.live_lines.specs.declared.request.Request.{Request}
+use Rattle.live_lines.specs.declared.request.Request.TheVariants as asks
+use Rattle.live_lines.specs.Requests.{request_of}
+use Rattle.live_lines.specs.Answers.{answer_text}
+use Rattle.live_sessions.specs.declared.live.Live.{Live}
+use Rattle.live_sessions.specs.declared.requests.Kind.{Kind}
+use Rattle.live_sessions.specs.declared.requests.Next.{Next}
+use Rattle.live_sessions.specs.declared.fault.LiveFault.{LiveFault}
+use Rattle.live_sessions.specs.declared.fault.LiveFault.TheVariants as fault
+use Rattle.live_sessions.specs.Saved.{Saved, Adds}
+use Rattle.live_sessions.specs.Telling.{kind_of, bank_told, told_text, next_of, is_last, told_failure, IsSent}
+use Rattle.live_sessions.specs.Steps.{RequestIs, StopsIn, FramesStop, Does, frames_of, saves_of, told_of, is_end}
+use Rattle.live_sessions.specs.Turns.{Asked, LineIs, Turn, Around, answered, ends}
+use Rattle.live_sessions.specs.Runs.{Answers, StopsLine}
+use Rattle.live_sessions.proofs.Doing.{adds_nothing}
+
+-- what is around a session, but for its input
+abbrev pub around : Option (List ℕ) → Option (List ℕ) → Option (List Saved) → Around
+around answers pcm saved = record { input = None; answers = answers; pcm = pcm; saved = saved }
+
+abbrev pub turn_of : List ℕ → Live → Option Answer → Live → Turn
+turn_of line old a new = record { line = line; old = old; answer = a; new = new }
+
+-- ---- a line that asks for nothing
+
+pub none_asked : (counts : Counts) (line : List ℕ) (s : Live) (o p : Option (List ℕ)) (v : Option (List Saved)) → request_of (said_in line) ≡ Ok None
+    → Answers counts line s s (around o p v) (around o p v) false
+none_asked counts line s o p v e = record {
+  turn = turn_of line s None s;
+  said = refl;
+  begins = refl;
+  leaves = refl;
+  passes = record {
+    is = (e, refl);
+    answers = subst (λ (x : Asked). Appends o o (answered x None (told_of counts s) ++ [])) (sym e) (Appends-nil o);
+    pcm = subst (λ (x : Asked). Appends p p (flat_map sample_bytes (answered x None (frames_of s)))) (sym e) (Appends-nil p);
+    saved = subst (λ (x : Asked). Adds v v (answered x None (saves_of s))) (sym e) (adds_nothing v);
+  };
+  ends = ap (λ (x : Asked). ends x None) e;
+}
+
+-- ---- a line that has a fault, or for which memory is wanting
+
+-- what goes out of a line whose answer is this one is this answer alone
+pub record Bare (counts : Counts) (s : Live) (x : Asked) (a : Answer) : Type 0 where
+  pub is : LineIs x s (Some a) s
+  pub told : answered x (Some a) (told_of counts s) ≡ []
+  pub frames : answered x (Some a) (frames_of s) ≡ []
+  pub saves : answered x (Some a) (saves_of s) ≡ []
+  pub ends : ends x (Some a) ≡ false
+
+-- want of memory, whatever the request
+no_told : (counts : Counts) (s : Live) (r : Request) → told_of counts s r answer.OutOfMemory ≡ []
+no_told counts s (asks.Edit e) = refl
+no_told counts s (asks.Neutral e) = refl
+no_told counts s asks.Undo = refl
+no_told counts s asks.Redo = refl
+no_told counts s (asks.Note n) = refl
+no_told counts s (asks.Frames n) = refl
+no_told counts s (asks.Save paths) = refl
+no_told counts s asks.Show = refl
+no_told counts s asks.Help = refl
+no_told counts s asks.Quit = refl
+
+pub no_frames : (s : Live) (r : Request) → frames_of s r answer.OutOfMemory ≡ []
+no_frames s (asks.Edit e) = refl
+no_frames s (asks.Neutral e) = refl
+no_frames s asks.Undo = refl
+no_frames s asks.Redo = refl
+no_frames s (asks.Note n) = refl
+no_frames s (asks.Frames n) = refl
+no_frames s (asks.Save paths) = refl
+no_frames s asks.Show = refl
+no_frames s asks.Help = refl
+no_frames s asks.Quit = refl
+
+no_saves : (s : Live) (r : Request) → saves_of s r answer.OutOfMemory ≡ []
+no_saves s (asks.Edit e) = refl
+no_saves s (asks.Neutral e) = refl
+no_saves s asks.Undo = refl
+no_saves s asks.Redo = refl
+no_saves s (asks.Note n) = refl
+no_saves s (asks.Frames n) = refl
+no_saves s (asks.Save paths) = refl
+no_saves s asks.Show = refl
+no_saves s asks.Help = refl
+no_saves s asks.Quit = refl
+
+no_end : (r : Request) → is_end r answer.OutOfMemory ≡ false
+no_end (asks.Edit e) = refl
+no_end (asks.Neutral e) = refl
+no_end asks.Undo = refl
+no_end asks.Redo = refl
+no_end (asks.Note n) = refl
+no_end (asks.Frames n) = refl
+no_end (asks.Save paths) = refl
+no_end asks.Show = refl
+no_end asks.Help = refl
+no_end asks.Quit = refl
+
+memory_bare : (counts : Counts) (s : Live) (x : Asked) → Bare counts s x answer.OutOfMemory
+memory_bare counts s (Ok None) = record { is = inr (refl, refl); told = refl; frames = refl; saves = refl; ends = refl }
+memory_bare counts s (Ok (Some r)) = record { is = inr (refl, refl); told = no_told counts s r; frames = no_frames s r; saves = no_saves s r; ends = no_end r }
+memory_bare counts s (Err f) = record { is = inr (refl, refl); told = refl; frames = refl; saves = refl; ends = refl }
+
+fault_bare : (counts : Counts) (s : Live) (x : Asked) (f : RequestFault) → x ≡ Err f → Bare counts s x (answer.Fault f)
+fault_bare counts s x f e =
+    let at : Bare counts s (Err f) (answer.Fault f) = record { is = inl (refl, refl); told = refl; frames = refl; saves = refl; ends = refl } in
+    subst (λ (y : Asked). Bare counts s y (answer.Fault f)) (sym e) at
+
+failure_bare : (counts : Counts) (s : Live) (x : Asked) (why : Failure RequestFault) → Fails why x → Bare counts s x (told_failure why)
+failure_bare counts s x (failures.Fault f) h = fault_bare counts s x f h
+failure_bare counts s x failures.OutOfMemory h = memory_bare counts s x
+
+pub failure_told : (counts : Counts) (line : List ℕ) (s : Live) (o n p : Option (List ℕ)) (v : Option (List Saved)) (why : Failure RequestFault) (a : Answer)
+    → Fails why (request_of (said_in line)) → a ≡ told_failure why → Appends o n (answer_text a)
+    → Answers counts line s s (around o p v) (around n p v) false
+failure_told counts line s o n p v why a h e sent =
+    let b : Bare counts s (request_of (said_in line)) a = subst (λ (x : Answer). Bare counts s (request_of (said_in line)) x) (sym e) (failure_bare counts s (request_of (said_in line)) why h) in
+    record {
+      turn = turn_of line s (Some a) s;
+      said = refl;
+      begins = refl;
+      leaves = refl;
+      passes = record {
+        is = b.is;
+        answers = subst (λ (xs : List ℕ). Appends o n (xs ++ answer_text a)) (sym b.told) sent;
+        pcm = subst (λ (xs : List ℤ). Appends p p (flat_map sample_bytes xs)) (sym b.frames) (Appends-nil p);
+        saved = subst (λ (xs : List Saved). Adds v v xs) (sym b.saves) (adds_nothing v);
+      };
+      ends = b.ends;
+    }
+
+pub failure_unsent : (counts : Counts) (line : List ℕ) (s : Live) (o n p : Option (List ℕ)) (v : Option (List Saved)) (why : Failure RequestFault) (a : Answer) (f : LiveFault)
+    → Fails why (request_of (said_in line)) → a ≡ told_failure why → IsSent {U = Unit {0}} o n (answer_text a) (Err f)
+    → StopsLine counts line s (around o p v) (around n p v) f
+failure_unsent counts line s o n p v why a (fault.Answers k) h e sent =
+    let b : Bare counts s (request_of (said_in line)) a = subst (λ (x : Answer). Bare counts s (request_of (said_in line)) x) (sym e) (failure_bare counts s (request_of (said_in line)) why h) in
+    record {
+      turn = turn_of line s (Some a) s;
+      said = refl;
+      begins = refl;
+      stops = record {
+        is = b.is;
+        within = subst (λ (xs : List ℕ). k ≤ length (xs ++ answer_text a)) (sym b.told) sent.0;
+        answers = subst (λ (xs : List ℕ). Appends o n (take k (xs ++ answer_text a))) (sym b.told) sent.1;
+        pcm = subst (λ (xs : List ℤ). Appends p p (flat_map sample_bytes xs)) (sym b.frames) (Appends-nil p);
+        saved = subst (λ (xs : List Saved). Adds v v xs) (sym b.saves) (adds_nothing v);
+      };
+    }
+failure_unsent counts line s o n p v why a (fault.File g) h e sent = absurd sent
+failure_unsent counts line s o n p v why a fault.Memory h e sent = absurd sent
+failure_unsent counts line s o n p v why a fault.Input h e sent = absurd sent
+failure_unsent counts line s o n p v why a (fault.Pcm k) h e sent = absurd sent
+
+-- ---- a request
+
+-- what is told of a request is told of the session as it leaves it
+same_told : (counts : Counts) (old new : Live) (r : Request) (a : Answer) → RequestIs old r a new → told_text counts new (kind_of r) ≡ told_of counts old r a
+same_told counts old new (asks.Edit e) a h = refl
+same_told counts old new (asks.Neutral e) a h = refl
+same_told counts old new asks.Undo a h = refl
+same_told counts old new asks.Redo a h = refl
+same_told counts old new (asks.Note n) a h = refl
+same_told counts old new (asks.Frames n) a h = refl
+same_told counts old new (asks.Save paths) a h = refl
+same_told counts old new asks.Show answer.Done h = ap (bank_told counts) h
+same_told counts old new asks.Show (answer.Started n) h = absurd h
+same_told counts old new asks.Show (answer.Refused why) h = absurd h
+same_told counts old new asks.Show answer.NotNeutral h = absurd h
+same_told counts old new asks.Show answer.TooManyFrames h = absurd h
+same_told counts old new asks.Show (answer.Fault f) h = absurd h
+same_told counts old new asks.Show answer.OutOfMemory h = absurd h
+same_told counts old new asks.Show (answer.WriteFault path n) h = absurd h
+same_told counts old new asks.Help answer.Done h = refl
+same_told counts old new asks.Help (answer.Started n) h = absurd h
+same_told counts old new asks.Help (answer.Refused why) h = absurd h
+same_told counts old new asks.Help answer.NotNeutral h = absurd h
+same_told counts old new asks.Help answer.TooManyFrames h = absurd h
+same_told counts old new asks.Help (answer.Fault f) h = absurd h
+same_told counts old new asks.Help answer.OutOfMemory h = absurd h
+same_told counts old new asks.Help (answer.WriteFault path n) h = absurd h
+same_told counts old new asks.Quit a h = refl
+
+same_end : (old new : Live) (r : Request) (a : Answer) → RequestIs old r a new → is_end r a ≡ is_last (next_of (kind_of r))
+same_end old new (asks.Edit e) a h = refl
+same_end old new (asks.Neutral e) a h = refl
+same_end old new asks.Undo a h = refl
+same_end old new asks.Redo a h = refl
+same_end old new (asks.Note n) a h = refl
+same_end old new (asks.Frames n) a h = refl
+same_end old new (asks.Save paths) a h = refl
+same_end old new asks.Show a h = refl
+same_end old new asks.Help a h = refl
+same_end old new asks.Quit answer.Done h = refl
+same_end old new asks.Quit (answer.Started n) h = absurd h
+same_end old new asks.Quit (answer.Refused why) h = absurd h
+same_end old new asks.Quit answer.NotNeutral h = absurd h
+same_end old new asks.Quit answer.TooManyFrames h = absurd h
+same_end old new asks.Quit (answer.Fault f) h = absurd h
+same_end old new asks.Quit answer.OutOfMemory h = absurd h
+same_end old new asks.Quit (answer.WriteFault path n) h = absurd h
+
+-- what a line comes to that asks for this request
+pub request_told : (counts : Counts) (line : List ℕ) (old new : Live) (r : Request) (a : Answer) (k : Kind) (next : Next) (o n p q : Option (List ℕ)) (v w : Option (List Saved))
+    → request_of (said_in line) ≡ Ok (Some r) → k ≡ kind_of r → next ≡ next_of k → Does old new r a p q v w → Appends o n (told_text counts new k ++ answer_text a)
+    → Answers counts line old new (around o p v) (around n q w) (is_last next)
+request_told counts line old new r a k next o n p q v w e kind_is next_is d sent =
+    let told : told_text counts new k ≡ told_of counts old r a = ap (told_text counts new) kind_is ∙ same_told counts old new r a d.session in
+    let last : is_end r a ≡ is_last next = same_end old new r a d.session ∙ sym (ap is_last (next_is ∙ ap next_of kind_is)) in
+    record {
+      turn = turn_of line old (Some a) new;
+      said = refl;
+      begins = refl;
+      leaves = refl;
+      passes = record {
+        is = subst (λ (x : Asked). LineIs x old (Some a) new) (sym e) (inl d.session);
+        answers = subst (λ (x : Asked). Appends o n (answered x (Some a) (told_of counts old) ++ answer_text a)) (sym e)
+            (subst (λ (xs : List ℕ). Appends o n (xs ++ answer_text a)) told sent);
+        pcm = subst (λ (x : Asked). Appends p q (flat_map sample_bytes (answered x (Some a) (frames_of old)))) (sym e) d.frames;
+        saved = subst (λ (x : Asked). Adds v w (answered x (Some a) (saves_of old))) (sym e) d.saves;
+      };
+      ends = ap (λ (x : Asked). ends x (Some a)) e ∙ last;
+    }
+
+pub request_unsent : (counts : Counts) (line : List ℕ) (old new : Live) (r : Request) (a : Answer) (k : Kind) (o n p q : Option (List ℕ)) (v w : Option (List Saved)) (f : LiveFault)
+    → request_of (said_in line) ≡ Ok (Some r) → k ≡ kind_of r → Does old new r a p q v w → IsSent {U = Unit {0}} o n (told_text counts new k ++ answer_text a) (Err f)
+    → StopsLine counts line old (around o p v) (around n q w) f
+request_unsent counts line old new r a k o n p q v w (fault.Answers m) e kind_is d sent =
+    let told : told_text counts new k ≡ told_of counts old r a = ap (told_text counts new) kind_is ∙ same_told counts old new r a d.session in
+    let S : List ℕ → Type 0 = λ xs. (m ≤ length (xs ++ answer_text a)) × Appends o n (take m (xs ++ answer_text a)) in
+    let T : Asked → Type 0 = λ x. S (answered x (Some a) (told_of counts old)) in
+    let both : T (request_of (said_in line)) = subst T (sym e) (subst S told sent) in
+    record {
+      turn = turn_of line old (Some a) new;
+      said = refl;
+      begins = refl;
+      stops = record {
+        is = subst (λ (x : Asked). LineIs x old (Some a) new) (sym e) (inl d.session);
+        within = both.0;
+        answers = both.1;
+        pcm = subst (λ (x : Asked). Appends p q (flat_map sample_bytes (answered x (Some a) (frames_of old)))) (sym e) d.frames;
+        saved = subst (λ (x : Asked). Adds v w (answered x (Some a) (saves_of old))) (sym e) d.saves;
+      };
+    }
+request_unsent counts line old new r a k o n p q v w (fault.File g) e kind_is d sent = absurd sent
+request_unsent counts line old new r a k o n p q v w fault.Memory e kind_is d sent = absurd sent
+request_unsent counts line old new r a k o n p q v w fault.Input e kind_is d sent = absurd sent
+request_unsent counts line old new r a k o n p q v w (fault.Pcm m) e kind_is d sent = absurd sent
+
+-- a request stops for no other fault than that of the frames' writer
+abbrev IsOfFrames : LiveFault → Type 0
+IsOfFrames (fault.Pcm n) = Unit {0}
+IsOfFrames other = ⊥
+
+of_frames : (old : Live) (n : ℕ) (p q : Option (List ℕ)) (f : LiveFault) → FramesStop old n p q f → IsOfFrames f
+of_frames old n p q (fault.Pcm k) h = tt
+of_frames old n p q (fault.File g) h = h
+of_frames old n p q fault.Memory h = h
+of_frames old n p q fault.Input h = h
+of_frames old n p q (fault.Answers k) h = h
+
+only_frames : (old : Live) (r : Request) (p q : Option (List ℕ)) (v w : Option (List Saved)) (f : LiveFault) → StopsIn old r p q v w f → IsOfFrames f
+only_frames old (asks.Edit e) p q v w f h = absurd h
+only_frames old (asks.Neutral e) p q v w f h = absurd h
+only_frames old asks.Undo p q v w f h = absurd h
+only_frames old asks.Redo p q v w f h = absurd h
+only_frames old (asks.Note n) p q v w f h = absurd h
+only_frames old (asks.Frames n) p q v w f h = of_frames old n p q f h.0
+only_frames old (asks.Save paths) p q v w f h = absurd h
+only_frames old asks.Show p q v w f h = absurd h
+only_frames old asks.Help p q v w f h = absurd h
+only_frames old asks.Quit p q v w f h = absurd h
+
+pub request_stopped : (counts : Counts) (line : List ℕ) (old : Live) (r : Request) (o p q : Option (List ℕ)) (v w : Option (List Saved)) (f : LiveFault)
+    → request_of (said_in line) ≡ Ok (Some r) → StopsIn old r p q v w f → StopsLine counts line old (around o p v) (around o q w) f
+request_stopped counts line old r o p q v w (fault.Pcm n) e h = record {
+  turn = turn_of line old None old;
+  said = refl;
+  begins = refl;
+  stops = record { request = r; is = e; stops = h; answers = Appends-nil o };
+}
+request_stopped counts line old r o p q v w (fault.File g) e h = absurd (only_frames old r p q v w (fault.File g) h)
+request_stopped counts line old r o p q v w fault.Memory e h = absurd (only_frames old r p q v w fault.Memory h)
+request_stopped counts line old r o p q v w fault.Input e h = absurd (only_frames old r p q v w fault.Input h)
+request_stopped counts line old r o p q v w (fault.Answers n) e h = absurd (only_frames old r p q v w (fault.Answers n) h)

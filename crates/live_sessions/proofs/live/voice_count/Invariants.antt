@@ -1,0 +1,12 @@
+use Rattle.std.proofs.Common.{◌≡◌, ◌≤◌, ◌-◌, ◌^◌, length, min}
+use Rattle.mixer.specs.Heard.{fresh}
+use Rattle.live_sessions.proofs.live.voice_count.Given as goal
+
+-- the pairs that are behind were counted
+abbrev pub invariant-loop-pair : goal.invariant-loop-pair
+invariant-loop-pair l = record {
+  can_next : (goal.iterator-loop-pair).can_next l._pair-iterator;
+  is_finite : (goal.iterator-loop-pair).is_finite l._pair-iterator;
+  left : length l._pair-iterator ≤ length (fresh l.bank l.note);
+  counted : l.voices ≡ min (length (fresh l.bank l.note) - length l._pair-iterator) (2 ^ 64 - 1);
+}

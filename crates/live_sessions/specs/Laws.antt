@@ -1,0 +1,26 @@
+-- What holds of all sessions.
+use Rattle.std.specs.Prelude.{◌≡◌, List, Some, reverse}
+use Rattle.std.specs.List.{flat_map}
+use Rattle.bank_parts.specs.declared.parts.Parts.{Parts}
+use Rattle.bank_parts.specs.Sound.{IsSound}
+use Rattle.inverse_edits.specs.Runs.{AllTaken, after_all}
+use Rattle.edit_sessions.specs.Histories.{IsHistory, bank_now, way_back}
+use Rattle.mixer.specs.Events.{heard}
+use Rattle.wave_file.specs.Wave.{sample_bytes}
+use Rattle.live_sessions.specs.declared.live.Live.{Live}
+use Rattle.live_sessions.specs.Steps.{started_with}
+use Rattle.live_sessions.specs.Turns.{Turn, AreTurns, events_in, bytes_in}
+
+-- What goes to the writer of frames is what is heard of the starts of notes, each on the bank as it was then: of the edits,
+-- undone and done again, of the starts and of the frames that were given, in the order of their lines.
+abbrev pub FramesAreHeard : Type 0
+FramesAreHeard =
+    (b : Parts) (ts : List Turn) (last : Live) → AreTurns (started_with b) ts last
+    → flat_map bytes_in ts ≡ flat_map sample_bytes (heard b (flat_map events_in ts))
+
+-- Where a session stands, as where it saves, its bank takes the edits of the way back, from the last one on, and they give
+-- the bank with which it began.
+abbrev pub WaysLeadBack : Type 0
+WaysLeadBack =
+    (b c : Parts) (ts : List Turn) (last : Live) → IsSound b → AreTurns (started_with b) ts last → IsHistory last.session → bank_now last.session ≡ Some c
+    → AllTaken c (reverse (way_back last.session)) × (after_all c (reverse (way_back last.session)) ≡ b)

@@ -1,0 +1,14 @@
+pub use Rattle.bank_format.specs.Canon
+pub use Rattle.bank_format.specs.ReadSteps
+pub use Rattle.bank_listing.specs.Listing
+pub use Rattle.edit_script.specs.Printing
+pub use Rattle.edit_sessions.specs.Histories
+pub use Rattle.live_lines.specs.Requests
+pub use Rattle.live_lines.specs.Answers
+pub use Rattle.mixer.specs.Events
+pub mod Saved
+pub mod Telling
+pub mod Steps
+pub mod Turns
+pub mod Runs
+pub mod Laws

@@ -1,0 +1,134 @@
+-- How a session ends.
+use Rattle.std.specs.Prelude.{◌≡◌, ◌⊎◌, ℕ, Bool, true, false, List, [], ◌∷◌, Option, Some, Result, Ok, Err}
+use Rattle.std.specs.Io.KnownBytes.{IsAtEnd}
+use Rattle.line_tokens.specs.Lines.{lines_of}
+use Rattle.live_sessions.specs.Telling.{is_last}
+use Rattle.bank_parts.specs.declared.parts.Parts.{Parts}
+use Rattle.bank_format.specs.declared.fault.Counts.{Counts}
+use Rattle.bank_format.specs.ReadSteps.{ReadsAs, fault_of}
+use Rattle.live_sessions.specs.declared.fault.LiveFault.{LiveFault}
+use Rattle.live_sessions.specs.declared.fault.LiveFault.TheVariants as fault
+use Rattle.live_sessions.specs.declared.live.Live.{Live}
+use Rattle.live_sessions.specs.declared.requests.Next.{Next}
+use Rattle.live_sessions.specs.declared.requests.Next.TheVariants as next
+use Rattle.live_sessions.specs.Steps.{started_with}
+use Rattle.live_sessions.specs.Turns.{Turn, Around, Reads, Passes, Passed, StopsAt, ends_in}
+
+-- ---- the last line
+
+-- nothing went out, and no line was answered
+pub record OnlyReads (between new : Around) : Type 0 where
+  pub answers : new.answers ≡ between.answers
+  pub pcm : new.pcm ≡ between.pcm
+  pub saved : new.saved ≡ between.saved
+
+-- a line ends the session
+pub record Quits (counts : Counts) (last : Live) (between new : Around) : Type 0 where
+  pub turn : Turn
+  pub begins : turn.old ≡ last
+  pub input : Reads between.input new.input (turn.line ∷ [])
+  pub passes : Passes counts turn between new
+  pub ends : ends_in turn ≡ true
+
+-- a writer fails at a line
+pub record Stops (counts : Counts) (last : Live) (between new : Around) (why : LiveFault) : Type 0 where
+  pub turn : Turn
+  pub begins : turn.old ≡ last
+  pub input : Reads between.input new.input (turn.line ∷ [])
+  pub stops : StopsAt counts turn between new why
+
+-- the input is at its end, or a line ends the session
+abbrev pub EndsWell : Counts → Live → Around → Around → Type 0
+EndsWell counts last between new = (IsAtEnd between.input × OnlyReads between new) ⊎ Quits counts last between new
+
+-- the end, or the fault: no further line could be read, or there was no memory for it, or a writer fails
+abbrev pub EndsBy : Counts → Live → Around → Around → Result (Unit {0}) LiveFault → Type 0
+EndsBy counts last between new (Ok u) = EndsWell counts last between new
+EndsBy counts last between new (Err (fault.File f)) = ⊥
+EndsBy counts last between new (Err fault.Memory) = OnlyReads between new
+EndsBy counts last between new (Err fault.Input) = OnlyReads between new
+EndsBy counts last between new (Err (fault.Answers n)) = Stops counts last between new (fault.Answers n)
+EndsBy counts last between new (Err (fault.Pcm n)) = Stops counts last between new (fault.Pcm n)
+
+-- ---- the whole session
+
+-- lines passed, and then it ended
+pub record Plays (counts : Counts) (first : Live) (old new : Around) (r : Result (Unit {0}) LiveFault) : Type 0 where
+  pub turns : List Turn
+  pub last : Live
+  pub between : Around
+  pub passed : Passed counts first turns last old between
+  pub end : EndsBy counts last between new r
+
+-- the file is read as a bank, with which the session begins
+pub record PlaysBank (file : List ℕ) (old new : Around) (r : Result (Unit {0}) LiveFault) : Type 0 where
+  pub bank : Parts
+  pub counts : Counts
+  pub reads : ReadsAs file bank counts
+  pub plays : Plays counts (started_with bank) old new r
+
+-- nothing was read of the input, and nothing went out
+abbrev pub IsUntouched : Around → Around → Type 0
+IsUntouched old new = (new.input ≡ old.input) × OnlyReads old new
+
+-- So a session answers. Where its file is no bank, or memory is wanting as that is read, nothing is read of the input and
+-- nothing goes out.
+abbrev pub Runs : List ℕ → Around → Around → Result (Unit {0}) LiveFault → Type 0
+Runs file old new (Ok u) = PlaysBank file old new (Ok u)
+Runs file old new (Err (fault.File f)) = (fault_of file ≡ Some f) × IsUntouched old new
+Runs file old new (Err fault.Memory) = IsUntouched old new ⊎ PlaysBank file old new (Err fault.Memory)
+Runs file old new (Err fault.Input) = PlaysBank file old new (Err fault.Input)
+Runs file old new (Err (fault.Answers n)) = PlaysBank file old new (Err (fault.Answers n))
+Runs file old new (Err (fault.Pcm n)) = PlaysBank file old new (Err (fault.Pcm n))
+
+-- ---- one line of it
+
+-- this line is answered, and passes; whether it ends the session
+pub record Answers (counts : Counts) (line : List ℕ) (live live_new : Live) (old new : Around) (ending : Bool) : Type 0 where
+  pub turn : Turn
+  pub said : turn.line ≡ line
+  pub begins : turn.old ≡ live
+  pub leaves : turn.new ≡ live_new
+  pub passes : Passes counts turn old new
+  pub ends : ends_in turn ≡ ending
+
+-- a writer fails at this line
+pub record StopsLine (counts : Counts) (line : List ℕ) (live : Live) (old new : Around) (why : LiveFault) : Type 0 where
+  pub turn : Turn
+  pub said : turn.line ≡ line
+  pub begins : turn.old ≡ live
+  pub stops : StopsAt counts turn old new why
+
+abbrev pub AnswersOr : Counts → List ℕ → Live → Live → Around → Around → Result Next LiveFault → Type 0
+AnswersOr counts line live live_new old new (Ok n) = Answers counts line live live_new old new (is_last n)
+AnswersOr counts line live live_new old new (Err why) = StopsLine counts line live old new why
+
+-- the line was read before it was answered
+pub record GoesOn (counts : Counts) (live live_new : Live) (old new : Around) : Type 0 where
+  pub line : List ℕ
+  pub input : Reads old.input new.input (line ∷ [])
+  pub answers : Answers counts line live live_new old new false
+
+-- what becomes of the next line
+abbrev pub Goes : Counts → Live → Live → Around → Around → Result Next LiveFault → Type 0
+Goes counts live live_new old new (Ok next.Line) = GoesOn counts live live_new old new
+Goes counts live live_new old new (Ok next.End) = EndsWell counts live old new
+Goes counts live live_new old new (Err why) = EndsBy counts live old new (Err why)
+
+-- ---- how it is read
+
+-- the first of a text's lines; of no text it is empty
+abbrev pub IsFirst : List (List ℕ) → List ℕ → Type 0
+IsFirst [] line = line ≡ []
+IsFirst (l ∷ ls) line = line ≡ l
+
+-- These bytes were read up to a line feed or the end: they are one line. Or there are none.
+abbrev pub IsRead : Next → Option (List ℕ) → Option (List ℕ) → List ℕ → Type 0
+IsRead next.Line old new bytes = (line : List ℕ) → IsFirst (lines_of bytes) line → Reads old new (line ∷ [])
+IsRead next.End old new bytes = IsAtEnd old
+
+-- no further line can be read, or held
+abbrev pub IsReadFault : LiveFault → Type 0
+IsReadFault fault.Memory = Unit {0}
+IsReadFault fault.Input = Unit {0}
+IsReadFault other = ⊥

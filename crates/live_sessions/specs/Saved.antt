@@ -1,0 +1,25 @@
+-- What a session saves.
+use Rattle.std.specs.Prelude.{◌≡◌, ℕ, List, ◌++◌, reverse, Option, Some, None}
+use Rattle.bank_parts.specs.declared.parts.Parts.{Parts}
+use Rattle.bank_format.specs.Canon.{canon}
+use Rattle.edit_forms.specs.declared.edit.Edit.{Edit}
+use Rattle.edit_script.specs.Printing.{texts_of}
+
+-- the two texts that are saved together
+pub record Saved : Type 0 where
+  pub out : List ℕ
+  pub undo : List ℕ
+
+-- the script of edits that are done from the last one back to the first
+abbrev pub undo_text : List Edit → List ℕ
+undo_text back = texts_of (reverse back)
+
+-- the canonical file of a bank, and the script that takes it back; of the edits that do so the oldest one's comes first
+abbrev pub saved_of : Parts → List Edit → Saved
+saved_of b back = record { out = canon b; undo = undo_text back }
+
+-- known saves stay, and these come behind them
+abbrev pub Adds : Option (List Saved) → Option (List Saved) → List Saved → Type 0
+Adds None new more = Unit {0}
+Adds (Some saves) None more = ⊥
+Adds (Some saves) (Some now) more = now ≡ saves ++ more

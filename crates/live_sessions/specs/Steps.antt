@@ -1,0 +1,196 @@
+-- What a request makes of a session, by what it is answered, and what goes out of it.
+use Rattle.std.specs.Prelude.{◌≡◌, ◌⊎◌, ◌≤◌, ◌<◌, ◌+◌, ◌-◌, ◌*◌, ◌^◌, min, ℕ, ℤ, Bool, true, false, List, [], ◌∷◌, length, take, Option, Some}
+use Rattle.std.specs.List.{flat_map}
+use Rattle.std.specs.Io.KnownBytes.{Appends}
+use Rattle.std.specs.Option.{option_map_or}
+use Rattle.bank_parts.specs.declared.parts.Parts.{Parts}
+use Rattle.bank_format.specs.declared.fault.Counts.{Counts}
+use Rattle.edit_forms.specs.declared.edit.Edit.{Edit}
+use Rattle.edit_sessions.specs.Histories.{IsHistory, bank_now, begun, IsEdited, IsRefusalNow, IsForth, IsUndoFailure, IsRedoFailure, way_back}
+use Rattle.neutral_edits.specs.Neutral.{is_neutral}
+use Rattle.note_list.specs.Notes.{Numbers}
+use Rattle.mixer.specs.Heard.{fresh}
+use Rattle.mixer.specs.Events.{Event, Edited, Started, Given, after_start, after_block, block}
+use Rattle.live_lines.specs.declared.answer.Answer.{Answer}
+use Rattle.live_lines.specs.declared.answer.Answer.TheVariants as answer
+use Rattle.live_lines.specs.declared.request.Request.{Request}
+use Rattle.live_lines.specs.declared.request.Request.TheVariants as asks
+use Rattle.live_lines.specs.declared.request.TheConstants.{MOST_FRAMES}
+use Rattle.live_lines.specs.declared.help.TheConstants.{HELP}
+use Rattle.live_lines.specs.declared.paths.Paths.{Paths}
+use Rattle.live_sessions.specs.declared.live.Live.{Live}
+use Rattle.wave_file.specs.Wave.{sample_bytes}
+use Rattle.live_sessions.specs.declared.fault.LiveFault.{LiveFault}
+use Rattle.live_sessions.specs.declared.fault.LiveFault.TheVariants as fault
+use Rattle.live_sessions.specs.Saved.{Saved, Adds, saved_of}
+use Rattle.live_sessions.specs.Telling.{bank_told}
+
+-- a session that begins with a bank: no edit yet, no voice and no frame
+abbrev pub started_with : Parts → Live
+started_with b = record { session = begun b; player = []; given = 0 }
+
+-- ---- what a request makes of a session
+
+-- the player and the frames given stay
+pub record OnlyTheBank (old new : Live) : Type 0 where
+  pub player : new.player ≡ old.player
+  pub given : new.given ≡ old.given
+
+-- the bank takes the edit, or refuses it and nothing changes
+abbrev pub EditIs : Live → Edit → Answer → Live → Type 0
+EditIs old e answer.Done new = IsEdited old.session new.session e × OnlyTheBank old new
+EditIs old e (answer.Refused why) new = IsRefusalNow old.session e why × (new ≡ old)
+EditIs old e other new = ⊥
+
+-- an edit that isn't neutral is refused as such, and else it is as any other
+abbrev pub NeutralIs : Live → Edit → Answer → Live → Type 0
+NeutralIs old e answer.NotNeutral new = (is_neutral e ≡ false) × (new ≡ old)
+NeutralIs old e other new = (is_neutral e ≡ true) × EditIs old e other new
+
+-- one bank back
+abbrev pub UndoIs : Live → Answer → Live → Type 0
+UndoIs old answer.Done new = IsForth new.session old.session × OnlyTheBank old new
+UndoIs old (answer.Refused why) new = IsUndoFailure old.session why × (new ≡ old)
+UndoIs old other new = ⊥
+
+-- one bank forth
+abbrev pub RedoIs : Live → Answer → Live → Type 0
+RedoIs old answer.Done new = IsForth old.session new.session × OnlyTheBank old new
+RedoIs old (answer.Refused why) new = IsRedoFailure old.session why × (new ≡ old)
+RedoIs old other new = ⊥
+
+-- a note starts all its voices on the bank as it is now, at the next frame; they are counted as far as a number goes
+pub record StartsVoices (old : Live) (n : Numbers) (voices : ℕ) (new : Live) : Type 0 where
+  pub bank : Parts
+  pub here : bank_now old.session ≡ Some bank
+  pub counted : voices ≡ min (length (fresh bank n)) (2 ^ 64 - 1)
+  pub plays : new ≡ record old { player = after_start old.player (fresh bank n) }
+
+abbrev pub NoteIs : Live → Numbers → Answer → Live → Type 0
+NoteIs old n (answer.Started voices) new = StartsVoices old n voices new
+NoteIs old n answer.OutOfMemory new = new ≡ old
+NoteIs old n other new = ⊥
+
+-- so many frames are given, as long as they are no more than a session gives
+abbrev pub after_frames : Live → ℕ → Live
+after_frames old m = record { session = old.session; player = after_block old.player m; given = old.given + m }
+
+abbrev pub FramesAre : Live → ℕ → Answer → Live → Type 0
+FramesAre old m answer.Done new = (old.given + m ≤ MOST_FRAMES) × (new ≡ after_frames old m)
+FramesAre old m answer.TooManyFrames new = (MOST_FRAMES < old.given + m) × (new ≡ old)
+FramesAre old m other new = ⊥
+
+-- a save changes nothing, whether it is done or not; what it saves takes a history back, and a write fault names one of its paths
+abbrev pub SaveIs : Live → Paths → Answer → Live → Type 0
+SaveIs old paths answer.Done new = IsHistory old.session × (new ≡ old)
+SaveIs old paths answer.OutOfMemory new = new ≡ old
+SaveIs old paths (answer.WriteFault path written) new = ((path ≡ paths.out) ⊎ (path ≡ paths.undo)) × (new ≡ old)
+SaveIs old paths other new = ⊥
+
+abbrev pub TellIs : Live → Answer → Live → Type 0
+TellIs old answer.Done new = new ≡ old
+TellIs old other new = ⊥
+
+-- the answer to a request, and the session after it
+abbrev pub RequestIs : Live → Request → Answer → Live → Type 0
+RequestIs old (asks.Edit e) a new = EditIs old e a new
+RequestIs old (asks.Neutral e) a new = NeutralIs old e a new
+RequestIs old asks.Undo a new = UndoIs old a new
+RequestIs old asks.Redo a new = RedoIs old a new
+RequestIs old (asks.Note n) a new = NoteIs old n a new
+RequestIs old (asks.Frames m) a new = FramesAre old m a new
+RequestIs old (asks.Save paths) a new = SaveIs old paths a new
+RequestIs old asks.Show a new = TellIs old a new
+RequestIs old asks.Help a new = TellIs old a new
+RequestIs old asks.Quit a new = TellIs old a new
+
+-- ---- what goes out
+
+-- the bank that an edit, an undo or a redo leaves, once it is done
+abbrev pub if_edited : Answer → Live → List Event
+if_edited answer.Done new = option_map_or (λ (b : Parts). Edited b ∷ []) (bank_now new.session) []
+if_edited other new = []
+
+abbrev pub if_started : Numbers → Answer → List Event
+if_started n (answer.Started voices) = Started n ∷ []
+if_started n other = []
+
+abbrev pub if_given : ℕ → Answer → List Event
+if_given m answer.Done = Given m ∷ []
+if_given m other = []
+
+-- what the player hears of a request
+abbrev pub events_of : Request → Answer → Live → List Event
+events_of (asks.Edit e) a new = if_edited a new
+events_of (asks.Neutral e) a new = if_edited a new
+events_of asks.Undo a new = if_edited a new
+events_of asks.Redo a new = if_edited a new
+events_of (asks.Note n) a new = if_started n a
+events_of (asks.Frames m) a new = if_given m a
+events_of (asks.Save paths) a new = []
+events_of asks.Show a new = []
+events_of asks.Help a new = []
+events_of asks.Quit a new = []
+
+abbrev pub block_if : Live → ℕ → Answer → List ℤ
+block_if old m answer.Done = block old.player m
+block_if old m other = []
+
+-- the frames that a request sends, left and right in turn
+abbrev pub frames_of : Live → Request → Answer → List ℤ
+frames_of old (asks.Frames m) a = block_if old m a
+frames_of old other a = []
+
+abbrev pub saves_if : Live → Answer → List Saved
+saves_if old answer.Done = option_map_or (λ (b : Parts). saved_of b (way_back old.session) ∷ []) (bank_now old.session) []
+saves_if old other = []
+
+-- what a request saves: the bank as it is, and the way back to the first
+abbrev pub saves_of : Live → Request → Answer → List Saved
+saves_of old (asks.Save paths) a = saves_if old a
+saves_of old other a = []
+
+abbrev pub told_if : Answer → List ℕ → List ℕ
+told_if answer.Done text = text
+told_if other text = []
+
+-- what is told before the answer: the bank as it is, with the counts of reading it, or the help
+abbrev pub told_of : Counts → Live → Request → Answer → List ℕ
+told_of counts old asks.Show a = told_if a (bank_told counts old)
+told_of counts old asks.Help a = told_if a HELP.now
+told_of counts old other a = []
+
+abbrev pub is_done : Answer → Bool
+is_done answer.Done = true
+is_done other = false
+
+-- whether the session ends behind it
+abbrev pub is_end : Request → Answer → Bool
+is_end asks.Quit a = is_done a
+is_end other a = false
+
+-- ---- one request done
+
+-- what it makes of the session, what went to the writer of frames, and what was saved
+pub record Does (old new : Live) (r : Request) (a : Answer) (pcm pcm_new : Option (List ℕ)) (saved saved_new : Option (List Saved)) : Type 0 where
+  pub session : RequestIs old r a new
+  pub frames : Appends pcm pcm_new (flat_map sample_bytes (frames_of old r a))
+  pub saves : Adds saved saved_new (saves_of old r a)
+
+-- Exactly a front of so many frames went out, and then the writer failed. The fault counts the bytes of all frames that
+-- the session gave, as far as a number goes.
+pub record StopsInFrames (old : Live) (count : ℕ) (pcm pcm_new : Option (List ℕ)) (written : ℕ) : Type 0 where
+  pub within : old.given + count ≤ MOST_FRAMES
+  pub part : ℕ
+  pub counted : written ≡ min (4 * old.given + part) (2 ^ 64 - 1)
+  pub front : part ≤ length (flat_map sample_bytes (block old.player count))
+  pub out : Appends pcm pcm_new (take part (flat_map sample_bytes (block old.player count)))
+
+abbrev pub FramesStop : Live → ℕ → Option (List ℕ) → Option (List ℕ) → LiveFault → Type 0
+FramesStop old count pcm pcm_new (fault.Pcm written) = StopsInFrames old count pcm pcm_new written
+FramesStop old count pcm pcm_new other = ⊥
+
+-- only frames stop in their midst, and nothing was saved
+abbrev pub StopsIn : Live → Request → Option (List ℕ) → Option (List ℕ) → Option (List Saved) → Option (List Saved) → LiveFault → Type 0
+StopsIn old (asks.Frames count) pcm pcm_new saved saved_new why = FramesStop old count pcm pcm_new why × Adds saved saved_new []
+StopsIn old other pcm pcm_new saved saved_new why = ⊥

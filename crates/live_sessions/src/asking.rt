@@ -1,0 +1,34 @@
+//! What a line asks for.
+ghost use Rattle.std.specs.Prelude.{◌≡◌};
+ghost use Rattle.line_tokens.specs.Said.{said_in};
+ghost use Rattle.line_tokens.specs.Pool.{Answers};
+ghost use Rattle.live_lines.specs.Requests.{request_of, HasNoFeed};
+
+use live_lines::{Request, RequestFault, pool_of_line, read_line};
+use sf_base::Failure;
+use std::alloc::Global;
+
+/// What a line asks for, or its fault. Want of memory may come in place of either.
+///
+/// The bytes of its literals stay in memory, since edits and points borrow them as long as there is a bank: no
+/// more than twice as many bytes as the literals of all lines have. A line without literals leaves nothing.
+pub(crate) fn ask<'t, 'p: 't>(
+    alloc: Global,
+    line: &'t [u8],
+) -> Result<Option<Request<'t, 'p>>, Failure<RequestFault>>
+    requires { HasNoFeed line.now }
+    ensures { Answers (λ r. r) result (request_of (said_in line.now)) }
+{
+    let pool = pool_of_line(alloc, line)?;
+    read_line(alloc, line, kept(pool))
+}
+
+// Bytes that are kept for good.
+fn kept<'p>(pool: Vec<u8>) -> &'p [u8]
+    ensures { result.now ≡ pool.items }
+{
+    if pool.is_empty() {
+        return &[];
+    }
+    pool.leak()
+}

@@ -1,0 +1,71 @@
+//! Frames that go out.
+ghost use Rattle.std.specs.Prelude.{◌≡◌, ◌≤◌, ◌/◌, ◌%◌, length};
+ghost use Rattle.std.specs.List.{flat_map};
+ghost use Rattle.outputs.specs.Output.{Puts};
+ghost use Rattle.outputs.specs.Writing as writing;
+ghost use Rattle.mixer.specs.Events.{after_block, block};
+ghost use Rattle.wave_file.specs.Wave.{sample_bytes};
+
+use byteorder::{ByteOrder, LittleEndian};
+use mixer::Player;
+use outputs::{Output, WriteFault};
+use std::io::Write;
+
+/// The frames that are made at a time.
+const MOST_AT_ONCE: usize = 1024;
+
+/// The samples of these frames, left and right in turn.
+const BLOCK: usize = 2048;
+
+/// Sends the next frames, each sample its low byte first, and flushes. A fault tells how many bytes went
+/// out. It takes no memory.
+pub(crate) fn send_frames<P: Write>(
+    player: &mut Player<'_>,
+    count: u32,
+    pcm: &mut P,
+) -> Result<u64, WriteFault>
+    ensures sent { writing.Delivers (P.contents pcm.old) (P.contents pcm.new) (flat_map sample_bytes (block player.old count)) result }
+    ensures played { player.new ≡ after_block player.old count }
+{
+    let mut output = Output::to(pcm);
+    put_frames(player, count, &mut output);
+    output.deliver()
+}
+
+// Puts the next frames, block by block.
+fn put_frames<P: Write>(player: &mut Player<'_>, count: u32, output: &mut Output<'_, P>)
+    ensures put { Puts P.contents output.old output.new (flat_map sample_bytes (block player.old count)) }
+    ensures played { player.new ≡ after_block player.old count }
+{
+    let mut samples = [0; BLOCK];
+    let mut left = count as usize;
+    while left > 0 {
+        let size = left.min(MOST_AT_ONCE);
+        put_block(player, &mut samples[..2 * size], output);
+        left -= size;
+    }
+    // For what it says of a player that gives no frame.
+    player.block(&mut []);
+}
+
+// Puts a block of at most 1,024 frames.
+fn put_block<P: Write>(player: &mut Player<'_>, samples: &mut [i16], output: &mut Output<'_, P>)
+    requires whole { length samples.old % 2 ≡ 0 }
+    requires short { length samples.old ≤ 2048 }
+    ensures put { Puts P.contents output.old output.new (flat_map sample_bytes (block player.old (length samples.old / 2))) }
+    ensures played { player.new ≡ after_block player.old (length samples.old / 2) }
+{
+    player.block(samples);
+    put_samples(samples, output);
+}
+
+// Puts samples, the low byte of each first.
+fn put_samples<P: Write>(samples: &[i16], output: &mut Output<'_, P>)
+    requires { length samples.now ≤ 2048 }
+    ensures { Puts P.contents output.old output.new (flat_map sample_bytes samples.now) }
+{
+    let mut bytes = [0; 2 * BLOCK];
+    let spelled = &mut bytes[..2 * samples.len()];
+    LittleEndian::write_i16_into(samples, spelled);
+    output.put(spelled);
+}

@@ -1,0 +1,107 @@
+//! A session in its course: its bank, its player, and how many frames it gave.
+ghost use Rattle.std.specs.Prelude.{◌≡◌, ◌+◌, length, min};
+ghost use Rattle.mixer.specs.Heard.{fresh};
+ghost use Rattle.live_sessions.specs.Steps.{EditIs, NeutralIs, UndoIs, RedoIs, NoteIs, started_with};
+
+use bank_core::Bank;
+use edit_forms::Edit;
+use edit_sessions::Session;
+use live_lines::Answer;
+use mixer::Player;
+use neutral_edits::is_neutral;
+use note_list::Note;
+use std::alloc::Global;
+use zone_select::matches;
+
+/// A session in its course.
+#[derive(Drop)]
+pub(crate) struct Live<'a> {
+    pub(crate) session: Session<'a>,
+    pub(crate) player: Player<'a>,
+    // The frames that were given.
+    pub(crate) given: u32,
+}
+
+impl<'a> Live<'a> {
+    /// A session that begins with a bank. It takes no memory.
+    pub(crate) fn new(alloc: Global, bank: Bank<'a>) -> Live<'a>
+        ensures { result ≡ started_with bank.entry }
+    {
+        Live {
+            session: Session::new(alloc, bank),
+            player: Player::new(alloc),
+            given: 0,
+        }
+    }
+
+    /// Does an edit, or refuses it and changes nothing.
+    pub(crate) fn edit(&mut self, alloc: Global, edit: Edit<'a>) -> Answer<'static>
+        ensures { EditIs self.old edit.entry result self.new }
+    {
+        match self.session.edit(alloc, edit) {
+            Ok(()) => Answer::Done,
+            Err((why, _edit)) => Answer::Refused(why),
+        }
+    }
+
+    /// The same of neutral edits alone.
+    pub(crate) fn neutral(&mut self, alloc: Global, edit: Edit<'a>) -> Answer<'static>
+        ensures { NeutralIs self.old edit.entry result self.new }
+    {
+        if !is_neutral(&edit) {
+            return Answer::NotNeutral;
+        }
+        self.edit(alloc, edit)
+    }
+
+    /// Goes one bank back.
+    pub(crate) fn undo(&mut self, alloc: Global) -> Answer<'static>
+        ensures { UndoIs self.old result self.new }
+    {
+        match self.session.undo(alloc) {
+            Ok(()) => Answer::Done,
+            Err(why) => Answer::Refused(why),
+        }
+    }
+
+    /// Goes one bank forth.
+    pub(crate) fn redo(&mut self, alloc: Global) -> Answer<'static>
+        ensures { RedoIs self.old result self.new }
+    {
+        match self.session.redo(alloc) {
+            Ok(()) => Answer::Done,
+            Err(why) => Answer::Refused(why),
+        }
+    }
+
+    /// Starts a note at the next frame, on the bank as it is now, and answers how many voices it has.
+    pub(crate) fn note(&mut self, alloc: Global, note: &Note) -> Answer<'static>
+        ensures { NoteIs self.old note.now result self.new }
+    {
+        let bank = self.session.bank();
+        if self.player.start(alloc, bank, note).is_err() {
+            return Answer::OutOfMemory;
+        }
+        Answer::Started(voice_count(bank, note))
+    }
+}
+
+// How many voices a note has: one of each pair of zones that hold it.
+fn voice_count(bank: &Bank<'_>, note: &Note) -> usize
+    ensures { result ≡ min (length (fresh bank.now note.now)) usize.MAX }
+{
+    // For what it says of the bank.
+    let _samples = bank.samples();
+    let mut voices = 0usize;
+    for _pair in matches(bank, note) {
+        voices = one_more(voices);
+    }
+    voices
+}
+
+// One more, as far as a number goes.
+fn one_more(count: usize) -> usize
+    ensures { result ≡ min (count + 1) usize.MAX }
+{
+    if count < usize::MAX { count + 1 } else { count }
+}

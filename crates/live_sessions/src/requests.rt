@@ -1,0 +1,137 @@
+//! One request after the other, done.
+ghost use Rattle.std.specs.Prelude.{◌≡◌, ◌+◌, min, IfOk, IfErr};
+ghost use Rattle.std.specs.List.{flat_map};
+ghost use Rattle.std.specs.Io.KnownBytes.{Appends};
+ghost use Rattle.wave_file.specs.Wave.{sample_bytes};
+ghost use Rattle.live_sessions.specs.Saved.{Adds};
+ghost use Rattle.live_sessions.specs.Steps.{FramesAre, FramesStop, SaveIs, Does, StopsIn, block_if, saves_if};
+ghost use Rattle.live_sessions.specs.Telling.{kind_of, next_of};
+
+use crate::fault::LiveFault;
+use crate::frames::send_frames;
+use crate::live::Live;
+use crate::saving::{SaveFault, Saves};
+use live_lines::{Answer, MOST_FRAMES, Paths, Request};
+use std::alloc::Global;
+use std::io::Write;
+
+/// Whether the session goes on behind a line.
+#[derive(Clone, Copy)]
+pub(crate) enum Next {
+    Line,
+    End,
+}
+
+/// What is told before the answer to a request, and whether the session ends behind it.
+#[derive(Clone, Copy)]
+pub(crate) enum Kind {
+    Plain,
+    /// The bank is told.
+    Show,
+    /// The help is told.
+    Help,
+    /// The session ends.
+    Quit,
+}
+
+/// Of which kind a request is.
+pub(crate) fn kind_of(request: &Request<'_, '_>) -> Kind
+    ensures { result ≡ kind_of request.now }
+{
+    match request {
+        Request::Show => Kind::Show,
+        Request::Help => Kind::Help,
+        Request::Quit => Kind::Quit,
+        _ => Kind::Plain,
+    }
+}
+
+/// Whether the session goes on behind a request of a kind.
+pub(crate) fn next_of(kind: Kind) -> Next
+    ensures { result ≡ next_of kind }
+{
+    match kind {
+        Kind::Quit => Next::End,
+        Kind::Plain | Kind::Show | Kind::Help => Next::Line,
+    }
+}
+
+/// Does a request, all but to tell of it. A fault of the writer of frames leaves the session as it comes.
+pub(crate) fn do_request<'t, 'a, P: Write, S: Saves>(
+    alloc: Global,
+    live: &mut Live<'a>,
+    request: Request<'t, 'a>,
+    pcm: &mut P,
+    host: &mut S,
+) -> Result<Answer<'t>, LiveFault>
+    ensures done { IfOk result (λ a. Does live.old live.new request.entry a (P.contents pcm.old) (P.contents pcm.new) (S.saved host.old) (S.saved host.new)) }
+    ensures stopped { IfErr result (λ fault. StopsIn live.old request.entry (P.contents pcm.old) (P.contents pcm.new) (S.saved host.old) (S.saved host.new) fault) }
+{
+    match request {
+        Request::Edit(edit) => Ok(live.edit(alloc, edit)),
+        Request::Neutral(edit) => Ok(live.neutral(alloc, edit)),
+        Request::Undo => Ok(live.undo(alloc)),
+        Request::Redo => Ok(live.redo(alloc)),
+        Request::Note(note) => Ok(live.note(alloc, &note)),
+        Request::Frames(count) => give_frames(live, count, pcm),
+        Request::Save(paths) => Ok(save(live, paths, host)),
+        Request::Show => Ok(Answer::Done),
+        Request::Help => Ok(Answer::Done),
+        Request::Quit => Ok(Answer::Done),
+    }
+}
+
+// Sends so many frames, as long as the session gives no more than it may.
+fn give_frames<P: Write>(
+    live: &mut Live<'_>,
+    count: u32,
+    pcm: &mut P,
+) -> Result<Answer<'static>, LiveFault>
+    ensures done { IfOk result (λ a. FramesAre live.old count a live.new) }
+    ensures sent { IfOk result (λ a. Appends (P.contents pcm.old) (P.contents pcm.new) (flat_map sample_bytes (block_if live.old count a))) }
+    ensures stopped { IfErr result (λ fault. FramesStop live.old count (P.contents pcm.old) (P.contents pcm.new) fault) }
+{
+    let given = u64::from(live.given) + u64::from(count);
+    if given > u64::from(MOST_FRAMES) {
+        return Ok(Answer::TooManyFrames);
+    }
+    match send_frames(&mut live.player, count, pcm) {
+        Ok(_) => {
+            live.given = given as u32;
+            Ok(Answer::Done)
+        }
+        Err(fault) => {
+            let before = 4 * u64::from(live.given);
+            Err(LiveFault::Pcm(sum(before, fault.written)))
+        }
+    }
+}
+
+// Has the bank saved as it is, and the way back to the first.
+fn save<'t, S: Saves>(live: &Live<'_>, paths: Paths<'t>, host: &mut S) -> Answer<'t>
+    ensures answer { SaveIs live.now paths.entry result live.now }
+    ensures saved { Adds (S.saved host.old) (S.saved host.new) (saves_if live.now result) }
+{
+    let saved = host.save(&paths, live.session.bank(), live.session.undo_list());
+    let Paths { out, undo } = paths;
+    match saved {
+        Ok(()) => Answer::Done,
+        Err(SaveFault::Memory) => Answer::OutOfMemory,
+        Err(SaveFault::Out(written)) => Answer::WriteFault { path: out, written },
+        Err(SaveFault::Undo(written)) => Answer::WriteFault {
+            path: undo,
+            written,
+        },
+    }
+}
+
+// The sum, as far as a number goes.
+fn sum(before: u64, part: u64) -> u64
+    ensures { result ≡ min (before + part) u64.MAX }
+{
+    if part > u64::MAX - before {
+        u64::MAX
+    } else {
+        before + part
+    }
+}

@@ -1,0 +1,172 @@
+//! The run of a session, line by line.
+ghost use Rattle.std.specs.Prelude.{◌≡◌, None, IfOk, IfErr};
+ghost use Rattle.line_tokens.specs.Lines.{lines_of};
+ghost use Rattle.live_lines.specs.Requests.{HasNoFeed};
+ghost use Rattle.live_sessions.specs.Telling.{told_failure};
+ghost use Rattle.live_sessions.specs.Runs.{AnswersOr, Goes, IsFirst, IsRead, IsReadFault, Plays, Runs};
+
+use crate::asking::ask;
+use crate::fault::LiveFault;
+use crate::live::Live;
+use crate::requests::{Kind, Next, do_request, kind_of, next_of};
+use crate::saving::Saves;
+use crate::telling::send_answer;
+use bank_format::Counts;
+use line_tokens::Lines;
+use live_lines::{Answer, RequestFault};
+use sf_base::Failure;
+use sf_reader::read;
+use std::alloc::Global;
+use std::io::{BufRead, Error, ErrorKind, Write};
+
+/// Reads the file, and then lines from `input`, up to one that says `quit` or to the end; each line that
+/// says something is answered by a text that goes to `answers`, whole and flushed, before the next line
+/// is read. The frames that lines ask for go to `pcm`, 16 bits with the low byte first, left and right in
+/// turn, 44,100 frames a second; they are flushed before the line is answered. `host` saves.
+///
+/// The bytes of the literals of all lines stay in memory for good, for edits borrow them.
+///
+/// Where the file has a fault nothing is read of the input, and nothing goes out. Want of memory in a line is
+/// its answer, and the session goes on; for a line that can't be held it ends. A fault of a writer ends it.
+pub fn live_run<R: BufRead, A: Write, P: Write, S: Saves>(
+    alloc: Global,
+    file: &[u8],
+    input: &mut R,
+    answers: &mut A,
+    pcm: &mut P,
+    host: &mut S,
+) -> Result<(), LiveFault>
+    ensures { Runs file.now
+        (record { input = R.remaining input.old; answers = A.contents answers.old; pcm = P.contents pcm.old; saved = S.saved host.old })
+        (record { input = R.remaining input.new; answers = A.contents answers.new; pcm = P.contents pcm.new; saved = S.saved host.new }) result }
+{
+    let (bank, counts) = match read(alloc, file) {
+        Ok(read) => read,
+        Err(Failure::Fault(fault)) => return Err(LiveFault::File(fault)),
+        Err(Failure::OutOfMemory) => return Err(LiveFault::Memory),
+    };
+    let mut live = Live::new(alloc, bank);
+    play(alloc, &mut live, &counts, input, answers, pcm, host)
+}
+
+// The lines up to the end.
+fn play<R: BufRead, A: Write, P: Write, S: Saves>(
+    alloc: Global,
+    live: &mut Live<'_>,
+    counts: &Counts,
+    input: &mut R,
+    answers: &mut A,
+    pcm: &mut P,
+    host: &mut S,
+) -> Result<(), LiveFault>
+    ensures { Plays counts.now live.old
+        (record { input = R.remaining input.old; answers = A.contents answers.old; pcm = P.contents pcm.old; saved = S.saved host.old })
+        (record { input = R.remaining input.new; answers = A.contents answers.new; pcm = P.contents pcm.new; saved = S.saved host.new }) result }
+{
+    let mut line = Vec::new(alloc);
+    for _turn in 0..u64::MAX {
+        match take_line(alloc, live, counts, &mut line, input, answers, pcm, host)? {
+            Next::Line => {}
+            Next::End => return Ok(()),
+        }
+    }
+    Err(LiveFault::Input)
+}
+
+// Reads the next line, if there is one, and answers it. The line's memory is used again and again.
+fn take_line<R: BufRead, A: Write, P: Write, S: Saves>(
+    alloc: Global,
+    live: &mut Live<'_>,
+    counts: &Counts,
+    line: &mut Vec<u8>,
+    input: &mut R,
+    answers: &mut A,
+    pcm: &mut P,
+    host: &mut S,
+) -> Result<Next, LiveFault>
+    ensures { Goes counts.now live.old live.new
+        (record { input = R.remaining input.old; answers = A.contents answers.old; pcm = P.contents pcm.old; saved = S.saved host.old })
+        (record { input = R.remaining input.new; answers = A.contents answers.new; pcm = P.contents pcm.new; saved = S.saved host.new }) result }
+{
+    match read_next(line, input)? {
+        Next::Line => {
+            let line = first_line(line.as_slice());
+            answer_line(alloc, live, counts, line, answers, pcm, host)
+        }
+        Next::End => Ok(Next::End),
+    }
+}
+
+// Reads the next line with its line feed, if it has one. At the end of the input there is none.
+fn read_next<R: BufRead>(line: &mut Vec<u8>, input: &mut R) -> Result<Next, LiveFault>
+    ensures read { IfOk result (λ next. IsRead next (R.remaining input.old) (R.remaining input.new) line.new.items) }
+    ensures fault { IfErr result IsReadFault }
+{
+    line.clear();
+    match input.read_until(b'\n', line) {
+        Ok(0) => Ok(Next::End),
+        Ok(_) => Ok(Next::Line),
+        Err(error) => Err(fault_of(&error)),
+    }
+}
+
+// Why a line could not be read.
+fn fault_of(error: &Error) -> LiveFault
+    ensures { IsReadFault result }
+{
+    match error.kind() {
+        ErrorKind::OutOfMemory => LiveFault::Memory,
+        _ => LiveFault::Input,
+    }
+}
+
+// The first line of a text.
+#[tactic(auto, using(crate::proofs::LineLaws::first_is_bare))]
+fn first_line(text: &[u8]) -> &[u8]
+    ensures first { IsFirst (lines_of text.now) result.now }
+    ensures bare { HasNoFeed result.now }
+{
+    match Lines::of(text).next() {
+        Some(line) => line,
+        None => &[],
+    }
+}
+
+// Answers a line, and does what it asks for.
+fn answer_line<'a, A: Write, P: Write, S: Saves>(
+    alloc: Global,
+    live: &mut Live<'a>,
+    counts: &Counts,
+    line: &[u8],
+    answers: &mut A,
+    pcm: &mut P,
+    host: &mut S,
+) -> Result<Next, LiveFault>
+    requires { HasNoFeed line.now }
+    ensures { AnswersOr counts.now line.now live.old live.new
+        (record { input = None; answers = A.contents answers.old; pcm = P.contents pcm.old; saved = S.saved host.old })
+        (record { input = None; answers = A.contents answers.new; pcm = P.contents pcm.new; saved = S.saved host.new }) result }
+{
+    let request = match ask(alloc, line) {
+        Ok(Some(request)) => request,
+        Ok(None) => return Ok(Next::Line),
+        Err(failure) => {
+            send_answer(live, counts, Kind::Plain, &told(failure), answers)?;
+            return Ok(Next::Line);
+        }
+    };
+    let kind = kind_of(&request);
+    let answer = do_request(alloc, live, request, pcm, host)?;
+    send_answer(live, counts, kind, &answer, answers)?;
+    Ok(next_of(kind))
+}
+
+// The answer to a line that has a fault, or for which memory is wanting.
+fn told(failure: Failure<RequestFault>) -> Answer<'static>
+    ensures { result ≡ told_failure failure }
+{
+    match failure {
+        Failure::Fault(fault) => Answer::Fault(fault),
+        Failure::OutOfMemory => Answer::OutOfMemory,
+    }
+}

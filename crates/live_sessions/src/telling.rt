@@ -1,0 +1,66 @@
+//! The text that answers a line.
+ghost use Rattle.std.specs.Prelude.{◌≡◌, ◌++◌};
+ghost use Rattle.outputs.specs.Output.{Puts};
+ghost use Rattle.live_lines.specs.Answers.{answer_text};
+ghost use Rattle.live_sessions.specs.Telling.{told_text, IsSent, IsTold};
+
+use crate::fault::LiveFault;
+use crate::live::Live;
+use crate::requests::Kind;
+use bank_format::Counts;
+use bank_listing::put_listing;
+use live_lines::{Answer, HELP, put_answer};
+use outputs::{Output, WriteFault};
+use std::io::Write;
+
+/// Sends the text that answers a line, and flushes. It takes no memory.
+#[tactic(auto, using(crate::proofs::Sending::text_is_sent))]
+pub(crate) fn send_answer<A: Write>(
+    live: &Live<'_>,
+    counts: &Counts,
+    kind: Kind,
+    answer: &Answer<'_>,
+    answers: &mut A,
+) -> Result<(), LiveFault>
+    ensures { IsSent (A.contents answers.old) (A.contents answers.new) (told_text counts.now live.now kind ++ answer_text answer.now) result }
+{
+    let mut output = Output::to(answers);
+    put_text(live, counts, kind, answer, &mut output);
+    told(output.deliver())
+}
+
+#[tactic(auto, using(outputs::proofs::OutputLaws::puts_then))]
+fn put_text<A: Write>(
+    live: &Live<'_>,
+    counts: &Counts,
+    kind: Kind,
+    answer: &Answer<'_>,
+    output: &mut Output<'_, A>,
+)
+    ensures { Puts A.contents output.old output.new (told_text counts.now live.now kind ++ answer_text answer.now) }
+{
+    put_told(live, counts, kind, output);
+    put_answer(answer, output);
+}
+
+// Puts what is told before an answer.
+#[tactic(auto, using(crate::proofs::Sending::bank_is_told, outputs::proofs::OutputLaws::puts_nothing))]
+fn put_told<A: Write>(live: &Live<'_>, counts: &Counts, kind: Kind, output: &mut Output<'_, A>)
+    ensures { Puts A.contents output.old output.new (told_text counts.now live.now kind) }
+{
+    match kind {
+        Kind::Show => put_listing(live.session.bank(), counts, output),
+        Kind::Help => output.put(HELP.as_bytes()),
+        Kind::Plain => {}
+        Kind::Quit => {}
+    }
+}
+
+fn told(delivered: Result<u64, WriteFault>) -> Result<(), LiveFault>
+    ensures { IsTold delivered result }
+{
+    match delivered {
+        Ok(_) => Ok(()),
+        Err(fault) => Err(LiveFault::Answers(fault.written)),
+    }
+}
