@@ -1,0 +1,8 @@
+use Rattle.std.proofs.lemmas.Result.{err_from_is_err_and}
+use Rattle.sfbank.proofs.Unsent.{unsent}
+use Rattle.sfbank.proofs.deliver.deliver_details.Goals as goal
+
+pub returns-in_err-put_details : goal.returns-in_err-put_details
+returns-in_err-put_details g c =
+    let p = err_from_is_err_and c.from_residual.result c.from_residual.ensures.1 in
+    rw (p.1, p.2) (unsent g.W.Write.contents _ c.to-output.result c.put_details.new.output c.to-output.ensures c.in_err-put_details.ensures.err)
