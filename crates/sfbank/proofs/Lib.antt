@@ -10,3 +10,4 @@ pub mod Differences
 pub mod Sounds
 pub mod Texts
 pub mod Recordings
+pub mod Unsent
