@@ -72,6 +72,12 @@ fn answers_are_told(rt: HostRuntime) {
 fn write_faults_name_their_path(rt: HostRuntime) {
     if let Some(path) = FilePath::of(b"my bank.sf2") {
         let answer = Answer::WriteFault { path, written: 42 };
-        assert!(rt; is_told(rt.alloc(), &answer, b"write fault my bank.sf2 after 42 bytes\n"));
+        assert!(rt;
+            is_told(
+                rt.alloc(),
+                &answer,
+                b"write fault my bank.sf2 after 42 bytes\n"
+            )
+        );
     }
 }

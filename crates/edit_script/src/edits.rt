@@ -26,10 +26,7 @@ use step_script::{put_operands, step, word_of};
 /// The edit that what is left of a line says, to the line's end; or its first fault from left to right. Want
 /// of memory may come in place of either.
 #[tactic(auto, unfolding(crate::specs::Grammar::edit, line_tokens::specs::Parts::ended))]
-pub fn edit<'p>(
-    alloc: Global,
-    line: &mut Cursor<'_, 'p>,
-) -> Result<Edit<'p>, Failure<LineFault>>
+pub fn edit<'p>(alloc: Global, line: &mut Cursor<'_, 'p>) -> Result<Edit<'p>, Failure<LineFault>>
     ensures reads { ReadsOrWants (λ e. e) edit line.old line.new result }
     ensures done { OnOk result (line.new.said ≡ []) }
 {

@@ -1,7 +1,8 @@
 //! What a musician is told who asks for help.
 
 /// The line that a terminal is shown first.
-pub const GREETING: &str = "# sfbank live: each line is an edit or a command, and `help` lists them\n";
+pub const GREETING: &str =
+    "# sfbank live: each line is an edit or a command, and `help` lists them\n";
 
 /// The text that answers `help`: one screen of lines, each of which can be typed as it stands.
 pub const HELP: &str = "\
