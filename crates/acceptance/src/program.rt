@@ -103,7 +103,14 @@ fn samples_go_out_and_in(rt: HostRuntime) -> Result<(), Fail> {
     let line = "sfbank: refused 22 NoSuchSample\n";
     assert!(rt; ends(&rt, "sfbank wave take/in 1 take/b.wav", 4, line));
     let line = "sfbank: wave fault 53 NotWave\n";
-    assert!(rt; ends(&rt, "sfbank import take/in take/in take/out take/undo", 2, line));
+    assert!(rt;
+        ends(
+            &rt,
+            "sfbank import take/in take/in take/out take/undo",
+            2,
+            line
+        )
+    );
     fs::remove_dir_all(&rt, "take")?;
     Ok(())
 }

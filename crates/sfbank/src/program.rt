@@ -130,6 +130,9 @@ fn put_text<'a, O: Write>(text: &str, out: &mut O) -> Result<(), Fault<'a>> {
     output.put(text.as_bytes());
     match output.deliver() {
         Ok(_) => Ok(()),
-        Err(fault) => at(STANDARD_OUTPUT, Err(RunFault::Write(Which::Out, fault.written))),
+        Err(fault) => at(
+            STANDARD_OUTPUT,
+            Err(RunFault::Write(Which::Out, fault.written)),
+        ),
     }
 }

@@ -22,13 +22,12 @@ pub found_passes : {X : Type 0} (p : X → Bool) (xs : List X) → IfSome (find 
 found_passes p [] = tt
 found_passes p (x ∷ xs) =
     let at : (b : Bool) → p x ≡ b → IfSome (cond b (Some x) (find p xs)) (λ y. p y ≡ true) =
-        λ b. elim b as (λ v. p x ≡ v → IfSome (cond v (Some x) (find p xs)) (λ y. p y ≡ true)) [ true ↦ λ e. e | false ↦ λ e. found_passes p xs ] in
+    λ b. elim b as (λ v. p x ≡ v → IfSome (cond v (Some x) (find p xs)) (λ y. p y ≡ true)) [ true ↦ λ e. e | false ↦ λ e. found_passes p xs ] in
     at (p x) refl
 
 -- one of this number is found
 abbrev pub Found : ℕ → Type 0
 Found n = IsSome (find (λ told. number_of told == n) ALL)
-
 
 of_reading : (it : ReadFault) → Found (number_of (Reading it))
 of_reading read.NotRiff = refl

@@ -79,9 +79,15 @@ static COMMANDS: [Entry; 10] = [
         about: "Adds a recording to a bank as its last sample, or as two for left and right",
         words: &[
             Word::Path("IN", "The bank to add to"),
-            Word::Path("WAVE", "The recording, a WAVE file of 16 bits; its name is the sample's"),
+            Word::Path(
+                "WAVE",
+                "The recording, a WAVE file of 16 bits; its name is the sample's",
+            ),
             Word::Path("OUT", "Where the larger bank is written; may be IN"),
-            Word::Path("UNDO", "Where the script that removes the samples is written"),
+            Word::Path(
+                "UNDO",
+                "Where the script that removes the samples is written",
+            ),
         ],
         example: "Example: sfbank import organ.sf2 flute.wav larger.sf2 undo.txt",
     },
@@ -122,7 +128,10 @@ static COMMANDS: [Entry; 10] = [
         about: "Tells what a bank has, and what was dropped or mended as it was read",
         words: &[
             Word::Flag("zones", "Tells the zones of each preset and instrument too"),
-            Word::Flag("uses", "Tells how many zones use each instrument and sample too"),
+            Word::Flag(
+                "uses",
+                "Tells how many zones use each instrument and sample too",
+            ),
             Word::Path("IN", "The bank to show"),
         ],
         example: "Example: sfbank show --zones organ.sf2",
@@ -144,7 +153,9 @@ pub(crate) fn sfbank_command<'a>(alloc: Global) -> Result<Command<'a>, AllocErro
     let command = Command::new(alloc, NAME)
         .bin_name(NAME)?
         .version("0.1.0")
-        .about("Edits SoundFont 2 banks by scripts, writes the scripts that take the edits back, and plays banks")
+        .about(
+            "Edits SoundFont 2 banks by scripts, writes the scripts that take the edits back, and plays banks",
+        )
         .subcommand_required(true)
         .arg_required_else_help(true);
     with_commands(alloc, command, &COMMANDS)

@@ -191,7 +191,9 @@ fn of_number(all: &[Told], number: u32) -> Option<Told>
     ensures first { result ≡ find (λ told. number_of told == number) all.now }
     ensures passes { IfSome result (λ told. number_of told ≡ number) }
 {
-    all.iter().copied().find(|told| told.number() as u32 == number)
+    all.iter()
+        .copied()
+        .find(|told| told.number() as u32 == number)
 }
 
 /// Writes an explanation, in three lines: the number and the name, the meaning, and what to do.

@@ -175,12 +175,7 @@ fn put_no_member<W: Write>(cause: Cause, output: &mut Output<'_, W>)
 }
 
 // A line that ends with a number and a name.
-fn put_named<'t, W: Write>(
-    start: &'t str,
-    number: u8,
-    name: &'t str,
-    output: &mut Output<'_, W>,
-)
+fn put_named<'t, W: Write>(start: &'t str, number: u8, name: &'t str, output: &mut Output<'_, W>)
     ensures { Puts W.contents output.old output.new (named_line start.now number name.now) }
 {
     let mut digits = Buffer::new();

@@ -1,6 +1,8 @@
 //! The command `explain`.
 use super::endings::at;
-use sfbank_program::{Fault, RunFault, STANDARD_OUTPUT, Which, explain as explained, write_explanation};
+use sfbank_program::{
+    Fault, RunFault, STANDARD_OUTPUT, Which, explain as explained, write_explanation,
+};
 use std::io::Write;
 
 /// Tells on the standard output what the fault or the refusal of a number means.
@@ -10,6 +12,9 @@ pub(crate) fn explain<'a, O: Write>(number: u32, output: &mut O) -> Result<(), F
     };
     match write_explanation(&explanation, output) {
         Ok(_) => Ok(()),
-        Err(fault) => at(STANDARD_OUTPUT, Err(RunFault::Write(Which::Out, fault.written))),
+        Err(fault) => at(
+            STANDARD_OUTPUT,
+            Err(RunFault::Write(Which::Out, fault.written)),
+        ),
     }
 }
