@@ -56,6 +56,8 @@ sent_text old new outcome text (Err (run.Script fault)) e h = absurd h
 sent_text old new outcome text (Err (run.Refused number why)) e h = absurd h
 sent_text old new outcome text (Err (run.NotNeutral number)) e h = absurd h
 sent_text old new outcome text (Err run.OtherVersion) e h = absurd h
+sent_text old new outcome text (Err (run.Recording fault)) e h = absurd h
+sent_text old new outcome text (Err (run.NoMember cause)) e h = absurd h
 sent_text old new outcome text (Err (run.Notes fault)) e h = absurd h
 
 pub canon_text : (file : List ℕ) (b : Parts) (counts : Counts) → ReadsAs file b counts → canon_outcome file ≡ Ok (canon b)

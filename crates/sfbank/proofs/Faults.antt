@@ -83,6 +83,8 @@ at_other U forms b script lines seen (run.ReadSecond fault) e s h = absurd h
 at_other U forms b script lines seen (run.Script fault) e s h = absurd h
 at_other U forms b script lines seen (run.Notes fault) e s h = absurd h
 at_other U forms b script lines seen run.OtherVersion e s h = absurd h
+at_other U forms b script lines seen (run.Recording fault) e s h = absurd h
+at_other U forms b script lines seen (run.NoMember cause) e s h = absurd h
 at_other U forms b script lines seen (run.Write which n) e s h = h
 
 pub at_line : (b : Parts) (script : List ℕ) (lines : List Line) (fault : RunFault) → script_of script ≡ Ok lines
@@ -95,6 +97,8 @@ at_line b script lines (run.ReadSecond fault) e h = absurd h
 at_line b script lines (run.Script fault) e h = absurd h
 at_line b script lines (run.NotNeutral number) e h = absurd h
 at_line b script lines run.OtherVersion e h = absurd h
+at_line b script lines (run.Recording fault) e h = absurd h
+at_line b script lines (run.NoMember cause) e h = absurd h
 at_line b script lines (run.Notes fault) e h = absurd h
 at_line b script lines (run.Write which n) e h = h
 

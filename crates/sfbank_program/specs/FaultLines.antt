@@ -7,6 +7,8 @@ use Rattle.line_tokens.specs.declared.fault.ScriptFault.{ScriptFault}
 use Rattle.line_tokens.specs.Faults as scripts
 use Rattle.note_list.specs.declared.fault.NoteFault.{NoteFault}
 use Rattle.note_list.specs.Faults as notes
+use Rattle.recordings.specs.declared.fault.WaveFault.{WaveFault}
+use Rattle.recordings.specs.FaultNames as recordings
 use Rattle.bank_validity.specs.declared.limits.Limit.{Limit}
 use Rattle.bank_validity.specs.Limits.{word_of}
 use Rattle.edit_refusals.specs.declared.cause.Cause.{Cause}
@@ -14,7 +16,7 @@ use Rattle.edit_refusals.specs.declared.refusal.Refusal.{Refusal}
 use Rattle.edit_refusals.specs.declared.refusal.Refusal.TheVariants.{Of, OutOfMemory, NothingToUndo, NothingToRedo, GroupRefused}
 use Rattle.edit_refusals.specs.CauseNames as causes
 use Rattle.sfbank_program.specs.declared.run_fault.RunFault.{RunFault}
-use Rattle.sfbank_program.specs.declared.run_fault.RunFault.TheVariants.{Read, ReadSecond, Script, Refused, NotNeutral, OtherVersion, Notes, Write, Memory}
+use Rattle.sfbank_program.specs.declared.run_fault.RunFault.TheVariants.{Read, ReadSecond, Script, Refused, NotNeutral, OtherVersion, Notes, Recording, NoMember, Write, Memory}
 
 -- a fault of reading, by its number and its name
 abbrev pub read_text : ReadFault → List ℕ
@@ -66,6 +68,15 @@ refused_line line why = refusal_text line why ++ (detail_text why ++ codes "\n")
 abbrev pub not_neutral_line : ℕ → List ℕ
 not_neutral_line line = concat (codes "sfbank: line " ∷ decimal line ∷ codes ": refused 50 NotNeutral\n" ∷ [])
 
+-- a fault of a WAVE file, by its number and its name
+abbrev pub recording_line : WaveFault → List ℕ
+recording_line fault =
+    concat (codes "sfbank: wave fault " ∷ decimal (recordings.number_of fault) ∷ codes " " ∷ recordings.name_of fault ∷ codes "\n" ∷ [])
+
+-- a member that isn't there, which no line asked for
+abbrev pub no_member_line : Cause → List ℕ
+no_member_line cause = concat (codes "sfbank: refused " ∷ decimal (causes.number_of cause) ∷ codes " " ∷ causes.name_of cause ∷ codes "\n" ∷ [])
+
 abbrev pub write_line : List ℕ → ℕ → List ℕ
 write_line path written = concat (codes "sfbank: write fault " ∷ path ∷ codes " after " ∷ decimal written ∷ codes " bytes\n" ∷ [])
 
@@ -82,6 +93,8 @@ fault_line path (Refused line why) = refused_line line why
 fault_line path (NotNeutral line) = not_neutral_line line
 fault_line path OtherVersion = codes "sfbank: refused 51 OtherVersion\n"
 fault_line path (Notes fault) = notes_line fault
+fault_line path (Recording fault) = recording_line fault
+fault_line path (NoMember cause) = no_member_line cause
 fault_line path (Write which written) = write_line path written
 fault_line path Memory = codes "sfbank: out of memory\n"
 
@@ -94,5 +107,7 @@ status_of (Refused line why) = 4
 status_of (NotNeutral line) = 4
 status_of OtherVersion = 4
 status_of (Notes fault) = 3
+status_of (Recording fault) = 2
+status_of (NoMember cause) = 4
 status_of (Write which written) = 5
 status_of Memory = 6

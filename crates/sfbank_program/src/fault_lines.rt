@@ -3,7 +3,7 @@ ghost use Rattle.std.specs.Prelude.{◌≡◌, IfOk};
 ghost use Rattle.outputs.specs.Output.{Puts};
 ghost use Rattle.outputs.specs.Writing.{Writes};
 ghost use Rattle.sample_view.specs.Pieces.{joined_bytes};
-ghost use Rattle.sfbank_program.specs.FaultLines.{fault_line, status_of, read_line, second_read_line, read_text, text_line, refused_line, not_neutral_line, refusal_text, detail_text, step_text, limit_text, write_line, file_line};
+ghost use Rattle.sfbank_program.specs.FaultLines.{fault_line, status_of, read_line, second_read_line, read_text, text_line, refused_line, not_neutral_line, recording_line, no_member_line, refusal_text, detail_text, step_text, limit_text, write_line, file_line};
 
 use crate::run_fault::RunFault;
 use bank_format::ReadFault;
@@ -11,6 +11,7 @@ use bank_validity::Limit;
 use edit_refusals::{Cause, Refusal};
 use itoa::Buffer;
 use outputs::{Output, WriteFault};
+use recordings::WaveFault;
 use std::io::Write;
 
 /// Writes the line of a run's fault, with its line feed, and gives the exit status that goes with it.
@@ -25,15 +26,19 @@ pub fn fault_text<W: Write>(fault: &RunFault, path: &str, out: &mut W) -> Result
     Ok(exit_status(fault))
 }
 
-/// The exit status of a program whose run ends so: 2 for a fault of a file, 3 of the script or of the
-/// notes, 4 for a refused edit or banks of different versions, 5 for a write fault, and 6 for want of memory.
+/// The exit status of a program whose run ends so: 2 for a fault of a file, a WAVE file included, 3 of the
+/// script or of the notes, 4 for a refused edit, a member that isn't there or banks of different versions, 5 for
+/// a write fault, and 6 for want of memory.
 pub fn exit_status(fault: &RunFault) -> u8
     ensures { result ≡ status_of fault.now }
 {
     match fault {
-        RunFault::Read(_) | RunFault::ReadSecond(_) => 2,
+        RunFault::Read(_) | RunFault::ReadSecond(_) | RunFault::Recording(_) => 2,
         RunFault::Script(_) | RunFault::Notes(_) => 3,
-        RunFault::Refused(_, _) | RunFault::NotNeutral(_) | RunFault::OtherVersion => 4,
+        RunFault::Refused(_, _)
+        | RunFault::NotNeutral(_)
+        | RunFault::OtherVersion
+        | RunFault::NoMember(_) => 4,
         RunFault::Write(_, _) => 5,
         RunFault::Memory => 6,
     }
@@ -55,6 +60,8 @@ fn put_fault<W: Write>(fault: &RunFault, path: &str, output: &mut Output<'_, W>)
         RunFault::Refused(line, why) => put_refused(*line, *why, output),
         RunFault::NotNeutral(line) => put_not_neutral(*line, output),
         RunFault::OtherVersion => put_pieces(&[b"sfbank: refused 51 OtherVersion\n"], output),
+        RunFault::Recording(fault) => put_recording_fault(*fault, output),
+        RunFault::NoMember(cause) => put_no_member(*cause, output),
         RunFault::Write(_, written) => put_write_fault(path, *written, output),
         RunFault::Memory => put_pieces(&[b"sfbank: out of memory\n"], output),
     }
@@ -147,6 +154,40 @@ fn put_not_neutral<W: Write>(line: u64, output: &mut Output<'_, W>)
             b"sfbank: line ",
             digits.format(line).as_bytes(),
             b": refused 50 NotNeutral\n",
+        ],
+        output,
+    );
+}
+
+// A fault of a WAVE file.
+fn put_recording_fault<W: Write>(fault: WaveFault, output: &mut Output<'_, W>)
+    ensures { Puts W.contents output.old output.new (recording_line fault) }
+{
+    let mut number = Buffer::new();
+    put_pieces(
+        &[
+            b"sfbank: wave fault ",
+            number.format(fault.number()).as_bytes(),
+            b" ",
+            fault.name().as_bytes(),
+            b"\n",
+        ],
+        output,
+    );
+}
+
+// A member that isn't there, which no line asked for.
+fn put_no_member<W: Write>(cause: Cause, output: &mut Output<'_, W>)
+    ensures { Puts W.contents output.old output.new (no_member_line cause) }
+{
+    let mut number = Buffer::new();
+    put_pieces(
+        &[
+            b"sfbank: refused ",
+            number.format(cause.number()).as_bytes(),
+            b" ",
+            cause.name().as_bytes(),
+            b"\n",
         ],
         output,
     );

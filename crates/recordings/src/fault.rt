@@ -1,0 +1,83 @@
+//! Why a WAVE file is not read.
+ghost use Rattle.std.specs.Prelude.{◌≡◌};
+ghost use Rattle.recordings.specs.declared.fault.WaveFault.TheVariants as faults;
+ghost use Rattle.recordings.specs.FaultNames.{number_of, name_of};
+
+use riff_chunks::Truncated;
+use thiserror::Error;
+
+/// The first step of reading that a WAVE file breaks.
+#[derive(Clone, Copy, Debug, PartialEq, Eq, Error)]
+pub enum WaveFault {
+    #[error("the file is no RIFF file of the form WAVE")]
+    NotWave,
+    #[error("a chunk passes the end of what holds it")]
+    Truncated,
+    /// What is neither plain whole numbers nor the extensible format of these.
+    #[error("the samples are compressed, or no whole numbers")]
+    Compressed,
+    #[error("there is no format chunk of 16 bytes")]
+    NoFormat,
+    #[error("the samples have not 16 bits")]
+    SampleBits,
+    #[error("there is neither one channel nor two")]
+    ChannelCount,
+    #[error("there is no data chunk")]
+    NoData,
+    #[error("the data are no whole number of frames")]
+    HalfFrame,
+    #[error("the sampler chunk is shorter than its loops")]
+    ShortSampler,
+    #[error("the unity note is above 127")]
+    UnityNote,
+    #[error("the loop is empty or not in the data")]
+    LoopOutside,
+}
+
+impl WaveFault {
+    /// The number by which a fault line tells it.
+    pub fn number(self) -> u8
+        ensures { result ≡ number_of self }
+    {
+        match self {
+            WaveFault::NotWave => 53,
+            WaveFault::Truncated => 54,
+            WaveFault::Compressed => 55,
+            WaveFault::NoFormat => 56,
+            WaveFault::SampleBits => 57,
+            WaveFault::ChannelCount => 58,
+            WaveFault::NoData => 59,
+            WaveFault::HalfFrame => 60,
+            WaveFault::ShortSampler => 61,
+            WaveFault::UnityNote => 62,
+            WaveFault::LoopOutside => 63,
+        }
+    }
+
+    /// The name by which a fault line tells it.
+    pub fn name(self) -> &'static str
+        ensures { result.now ≡ name_of self }
+    {
+        match self {
+            WaveFault::NotWave => "NotWave",
+            WaveFault::Truncated => "Truncated",
+            WaveFault::Compressed => "Compressed",
+            WaveFault::NoFormat => "NoFormat",
+            WaveFault::SampleBits => "SampleBits",
+            WaveFault::ChannelCount => "ChannelCount",
+            WaveFault::NoData => "NoData",
+            WaveFault::HalfFrame => "HalfFrame",
+            WaveFault::ShortSampler => "ShortSampler",
+            WaveFault::UnityNote => "UnityNote",
+            WaveFault::LoopOutside => "LoopOutside",
+        }
+    }
+}
+
+impl From<Truncated> for WaveFault {
+    ghost from_gives = { λ _ fault. fault ≡ faults.Truncated };
+
+    fn from(_error: Truncated) -> WaveFault {
+        WaveFault::Truncated
+    }
+}
