@@ -9,3 +9,4 @@ pub mod BankScripts
 pub mod Differences
 pub mod Sounds
 pub mod Texts
+pub mod Maps

@@ -6,13 +6,14 @@ ghost use Rattle.bank_text.specs.Printed.{bank_script};
 ghost use Rattle.bank_text.specs.Whole.{edits_between};
 ghost use Rattle.bank_listing.specs.Listing.{listing};
 ghost use Rattle.edit_script.specs.Printing.{texts_of};
+ghost use Rattle.zone_map.specs.Picture.{picture};
 ghost use Rattle.wave_file.specs.Wave.{FitsWave, wave};
 ghost use Rattle.sfbank_program.specs.declared.run_fault.Which.TheVariants.{Out};
 ghost use Rattle.sfbank.specs.Written.{Delivers, GoesOut, IsTold};
 ghost use Rattle.sfbank.specs.Plans.{planned};
 
 use crate::plan::Plan;
-use bank_core::Bank;
+use bank_core::{Bank, Owner};
 use bank_format::Counts;
 use bank_listing::put_listing;
 use bank_text::{SamplePoints, put_bank_text, put_replacement};
@@ -23,6 +24,7 @@ use sf_writer::put_bank;
 use sfbank_program::{RunFault, Which};
 use std::io::Write;
 use wave_file::put_wave;
+use zone_map::put_map;
 
 /// The bank's file goes out, and then the undo text. It takes no memory.
 pub(crate) fn deliver<W: Write, V: Write>(
@@ -58,6 +60,20 @@ pub(crate) fn deliver_listing<W: Write>(
 {
     let mut output = Output::to(out);
     put_listing(bank, counts, &mut output);
+    told(Which::Out, output.deliver())
+}
+
+/// The picture of the zones of a preset or an instrument goes out. It takes no memory.
+#[tactic(auto, using(crate::proofs::Texts::text_goes_out))]
+pub(crate) fn deliver_map<W: Write>(
+    bank: &Bank<'_>,
+    owner: Owner,
+    out: &mut W,
+) -> Result<(), RunFault>
+    ensures { GoesOut Out (W.contents out.old) (W.contents out.new) (picture bank.now owner) result }
+{
+    let mut output = Output::to(out);
+    put_map(bank, owner, &mut output);
     told(Which::Out, output.deliver())
 }
 

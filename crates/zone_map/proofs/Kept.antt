@@ -62,11 +62,12 @@ none_kept test h none (j ∷ ks) = filter-append test (as_list (h j)) (flat_map 
 -- two tests at once, or one after the other
 pub any_kept : {X : Type 0} (test also : X → Bool) (xs : List X) → list_any (λ x. test x && also x) xs ≡ list_any also (filter test xs)
 any_kept test also [] = refl
-any_kept {X} test also (x ∷ xs) = from (test x)
+any_kept {X} test also (x ∷ xs) = from (test x) (any_kept test also xs)
   where
-    from : (t : Bool) → ((t && also x) || list_any (λ y. test y && also y) xs) ≡ list_any also (cond t (x ∷ filter test xs) (filter test xs))
-    from true = ap (λ r. also x || r) (any_kept test also xs)
-    from false = any_kept test also xs
+    from : (t : Bool) → list_any (λ y. test y && also y) xs ≡ list_any also (filter test xs)
+        → ((t && also x) || list_any (λ y. test y && also y) xs) ≡ list_any also (cond t (x ∷ filter test xs) (filter test xs))
+    from true e = ap (λ r. also x || r) e
+    from false e = e
 
 pub at_most_one : {X : Type 0} (o : Option X) → length (as_list o) ≤ 1
 at_most_one None = omega arith

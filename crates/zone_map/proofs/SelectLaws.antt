@@ -40,14 +40,22 @@ in_order a b x h = grind (arith, nat_tests)
 
 -- where both parts hold, so do their conditions
 conditions : (s t p q : Bool) → (p ≡ true → s ≡ true) → (q ≡ true → t ≡ true) → ((s && t) && (p && q)) ≡ (p && q)
-conditions s t false q h k = elim s [ true ↦ elim t [ true ↦ refl | false ↦ refl ] | false ↦ refl ]
-conditions s t true false h k = elim s [ true ↦ elim t [ true ↦ refl | false ↦ refl ] | false ↦ refl ]
-conditions s t true true h k = let e = h refl in let f = k refl in rw (e, f) refl
+conditions true true p q h k = refl
+conditions false t false q h k = refl
+conditions false t true q h k = absurd (true≢false (sym (h refl)))
+conditions true false false q h k = refl
+conditions true false true false h k = refl
+conditions true false true true h k = absurd (true≢false (sym (k refl)))
 
 crossed : (p q r s : Bool) → ((p && r) && (q && s)) ≡ ((p && q) && (r && s))
 crossed false q r s = refl
-crossed true false r s = elim r [ true ↦ refl | false ↦ refl ]
 crossed true true r s = refl
+crossed true false true s = refl
+crossed true false false s = refl
+
+either_way : {X : Type 0} (xs : List X) (t : Bool) → xs ≡ cond t xs xs
+either_way xs true = refl
+either_way xs false = refl
 
 -- ---- a rectangle
 
@@ -75,11 +83,11 @@ both_false false = refl
 module _ (b : Parts) (n : Numbers) (outer : Option ℕ) (area : Area) (i l : ℕ) where
   -- it covers a note where the area does and its zone holds it
   pub covered : list_any (covers n) (as_list (rectangle_at b outer area i l)) ≡ (in_area n area && owner_holds b n (owner.Instrument i) l)
+  unfolding holds
   covered = from (slice_get b.instruments i) refl
     where
       zone : (x : WithZones (List ℕ)) (z : Option Zone) → slice_get b.instruments i ≡ Some x → slice_get x.zones l ≡ z
           → list_any (covers n) (as_list (rectangle_at b outer area i l)) ≡ (in_area n area && option_map_or (holds n x.global) z false)
-      unfolding holds
       zone x None e f = rw (e, f) (both_false (in_area n area))
       zone x (Some z) e f =
           let there : Area = area_of b (owner.Instrument i) l in
@@ -96,6 +104,7 @@ module _ (b : Parts) (n : Numbers) (outer : Option ℕ) (area : Area) (i l : ℕ
       from None e = rw e (both_false (in_area n area))
       from (Some x) e = zone x (slice_get x.zones l) e refl
 
+module _ (b : Parts) (outer : Option ℕ) (area : Area) (i l : ℕ) where
   -- there is none of a zone that is not there
   pub not_there : zones_in b (owner.Instrument i) ≤ l → rectangle_at b outer area i l ≡ None
   not_there = from (slice_get b.instruments i) refl
@@ -112,11 +121,11 @@ module _ (b : Parts) (n : Numbers) (outer : Option ℕ) (area : Area) (i l : ℕ
 
     tested : (r : Rectangle) (c : Bool) → test r ≡ t → filter test (as_list (cond c (Some r) None)) ≡ cond t (as_list (cond c (Some r) None)) []
     tested r true e = rw e refl
-    tested r false e = elim t as (λ t. [] ≡ cond t [] []) [ true ↦ refl | false ↦ refl ]
+    tested r false e = either_way [] t
 
     pub kept_at : filter test (as_list (rectangle_at b outer area i l)) ≡ cond t (as_list (rectangle_at b outer area i l)) []
     kept_at = elim (target_of b (owner.Instrument i) l) as (λ (o : Option ℕ). filter test (as_list (of_target o)) ≡ cond t (as_list (of_target o)) []) [
-      | None ↦ elim t as (λ t. [] ≡ cond t [] []) [ true ↦ refl | false ↦ refl ]
+      | None ↦ either_way [] t
       | Some s ↦ tested (record { preset_zone = outer; zone = l; sample = s; area = cut area (area_of b (owner.Instrument i) l); root = root_key b i l s }) (has_notes (cut area (area_of b (owner.Instrument i) l))) (same s (root_key b i l s) (cut area (area_of b (owner.Instrument i) l)))
     ]
 
@@ -234,11 +243,11 @@ module _ (b : Parts) (n : Numbers) where
   module _ (p k l : ℕ) where
     -- a pair of a preset is chosen where its rectangle covers the note
     preset_is : (x : WithZones Head) → slice_get b.presets p ≡ Some x → list_any (covers n) (pair_list b p k l) ≡ is_some (preset_chosen b n (k, l) x)
+    unfolding holds
     preset_is x e = from (slice_get x.zones k) refl
       where
         from : (o : Option Zone) → slice_get x.zones k ≡ o
             → list_any (covers n) (pair_list b p k l) ≡ is_some (option_and_then (zone_chosen b n x.global l) (option_and_then (λ (z : Zone). cond (holds n x.global z) (Some z) None) o))
-        unfolding holds
         from None f = rw (e, f) refl
         from (Some z) f =
             let target : target_of b (owner.Preset p) k ≡ Some z.target = rw (e, f) refl in

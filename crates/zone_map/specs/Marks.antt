@@ -13,7 +13,7 @@ shown b =
     else if nat_le 32 b && nat_le b 126 then b ∷ []
     else codes "&#65533;"
 
-abbrev pub mark_text : Mark → List ℕ
+unfoldable pub mark_text : Mark → List ℕ
 mark_text (Text bytes) = bytes
 mark_text (Number n) = decimal n
 mark_text (Name bytes) = flat_map shown bytes

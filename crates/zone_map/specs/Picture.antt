@@ -1,7 +1,7 @@
 -- A picture of rectangles: an SVG text. Keys go along, 10 units each, and velocities up, 4 units each; key 0 and velocity 127
 -- begin at 60 units from the left and from the top.
 use Rattle.std.specs.Prelude.{ℕ, ◌+◌, ◌-◌, ◌*◌, ◌/◌, ◌%◌, ◌&&◌, nat_le, List, [], ◌∷◌, ◌++◌, Option, Some, None, codes, unwrap_or, slice_get, if◌then◌else◌}
-use Rattle.std.specs.List.{flat_map}
+use Rattle.std.specs.List.{concat, flat_map}
 use Rattle.std.specs.Option.{option_map_or}
 use Rattle.bank_parts.specs.declared.parts.Head.{Head}
 use Rattle.bank_parts.specs.declared.parts.Sample.{Sample}
@@ -19,45 +19,45 @@ use Rattle.zone_map.specs.Rectangles.{rectangles}
 -- ---- what all pictures have
 
 -- colours that colour-blind readers tell apart, on white or on black, and the beginning of the owner's line
-unfoldable pub head : List Mark
-head =
-    Text (codes "<svg xmlns='http://www.w3.org/2000/svg' viewBox='0 0 1400 640' font-family='sans-serif' font-size='11'>\n")
-    ∷ Text (codes "<style>\n")
-    ∷ Text (codes ":root{color:#111;background:#fff}\n")
-    ∷ Text (codes "text{fill:currentColor}\n")
-    ∷ Text (codes ".owner{font-size:20px}\n")
-    ∷ Text (codes ".end{text-anchor:end;dominant-baseline:central}\n")
-    ∷ Text (codes ".lines{stroke:currentColor;stroke-opacity:.15}\n")
-    ∷ Text (codes "g rect{fill:currentColor;fill-opacity:.3;stroke:currentColor;stroke-width:2}\n")
-    ∷ Text (codes "g circle{fill:currentColor;stroke:#111}\n")
-    ∷ Text (codes "g text{fill:#111;font-size:9px;text-anchor:middle;dominant-baseline:central}\n")
-    ∷ Text (codes "g:hover rect{fill-opacity:.7}\n")
-    ∷ Text (codes ".c0{color:#e69f00}.c1{color:#56b4e9}.c2{color:#009e73}.c3{color:#f0e442}\n")
-    ∷ Text (codes ".c4{color:#0072b2}.c5{color:#d55e00}.c6{color:#cc79a7}\n")
-    ∷ Text (codes "@media (prefers-color-scheme:dark){:root{color:#eee;background:#161616}g text{fill:#eee}}\n")
-    ∷ Text (codes "</style>\n")
-    ∷ Text (codes "<text class='owner' x='60' y='36'>")
-    ∷ []
+unfoldable pub head : List ℕ
+head = concat (
+    codes "<svg xmlns='http://www.w3.org/2000/svg' viewBox='0 0 1400 640' font-family='sans-serif' font-size='11'>\n"
+    ∷ codes "<style>\n"
+    ∷ codes ":root{color:#111;background:#fff}\n"
+    ∷ codes "text{fill:currentColor}\n"
+    ∷ codes ".owner{font-size:20px}\n"
+    ∷ codes ".end{text-anchor:end;dominant-baseline:central}\n"
+    ∷ codes ".lines{stroke:currentColor;stroke-opacity:.15}\n"
+    ∷ codes "g rect{fill:currentColor;fill-opacity:.3;stroke:currentColor;stroke-width:2}\n"
+    ∷ codes "g circle{fill:currentColor;stroke:#111}\n"
+    ∷ codes "g text{fill:#111;font-size:9px;text-anchor:middle;dominant-baseline:central}\n"
+    ∷ codes "g:hover rect{fill-opacity:.7}\n"
+    ∷ codes ".c0{color:#e69f00}.c1{color:#56b4e9}.c2{color:#009e73}.c3{color:#f0e442}\n"
+    ∷ codes ".c4{color:#0072b2}.c5{color:#d55e00}.c6{color:#cc79a7}\n"
+    ∷ codes "@media (prefers-color-scheme:dark){:root{color:#eee;background:#161616}g text{fill:#eee}}\n"
+    ∷ codes "</style>\n"
+    ∷ codes "<text class='owner' x='60' y='36'>"
+    ∷ [])
 
 -- lines at octaves and velocities with their numbers, and a keyboard, on which key 60 is C4
-unfoldable pub frame : List Mark
-frame =
-    Text (codes "<path class='lines' d='M60 60H1340M60 188H1340M60 316H1340M60 444H1340M60 572H1340'/>\n")
-    ∷ Text (codes "<path class='lines' d='M60 60V572M180 60V572M300 60V572M420 60V572M540 60V572M660 60V572'/>\n")
-    ∷ Text (codes "<path class='lines' d='M780 60V572M900 60V572M1020 60V572M1140 60V572M1260 60V572M1340 60V572'/>\n")
-    ∷ Text (codes "<text class='end' x='52' y='62'>127</text><text class='end' x='52' y='186'>96</text>\n")
-    ∷ Text (codes "<text class='end' x='52' y='314'>64</text><text class='end' x='52' y='442'>32</text>\n")
-    ∷ Text (codes "<text class='end' x='52' y='570'>0</text>\n")
-    ∷ Text (codes "<pattern id='octave' x='60' y='572' width='120' height='40' patternUnits='userSpaceOnUse'>\n")
-    ∷ Text (codes "<path fill='#fff' d='M0 0H120V40H0z'/>\n")
-    ∷ Text (codes "<path stroke='#888' d='M15 26V40M35 26V40M50 0V40M65 26V40M85 26V40M105 26V40M120 0V40M0 40H120'/>\n")
-    ∷ Text (codes "<path fill='#333' d='M10 0h10v26h-10zM30 0h10v26h-10zM60 0h10v26h-10zM80 0h10v26h-10zM100 0h10v26h-10z'/>\n")
-    ∷ Text (codes "</pattern><path fill='url(#octave)' d='M60 572H1340V612H60z'/>\n")
-    ∷ Text (codes "<text x='62' y='628'>C-1</text><text x='182' y='628'>C0</text><text x='302' y='628'>C1</text>\n")
-    ∷ Text (codes "<text x='422' y='628'>C2</text><text x='542' y='628'>C3</text><text x='662' y='628'>C4</text>\n")
-    ∷ Text (codes "<text x='782' y='628'>C5</text><text x='902' y='628'>C6</text><text x='1022' y='628'>C7</text>\n")
-    ∷ Text (codes "<text x='1142' y='628'>C8</text><text x='1262' y='628'>C9</text>\n")
-    ∷ []
+unfoldable pub frame : List ℕ
+frame = concat (
+    codes "<path class='lines' d='M60 60H1340M60 188H1340M60 316H1340M60 444H1340M60 572H1340'/>\n"
+    ∷ codes "<path class='lines' d='M60 60V572M180 60V572M300 60V572M420 60V572M540 60V572M660 60V572'/>\n"
+    ∷ codes "<path class='lines' d='M780 60V572M900 60V572M1020 60V572M1140 60V572M1260 60V572M1340 60V572'/>\n"
+    ∷ codes "<text class='end' x='52' y='62'>127</text><text class='end' x='52' y='186'>96</text>\n"
+    ∷ codes "<text class='end' x='52' y='314'>64</text><text class='end' x='52' y='442'>32</text>\n"
+    ∷ codes "<text class='end' x='52' y='570'>0</text>\n"
+    ∷ codes "<pattern id='octave' x='60' y='572' width='120' height='40' patternUnits='userSpaceOnUse'>\n"
+    ∷ codes "<path fill='#fff' d='M0 0H120V40H0z'/>\n"
+    ∷ codes "<path stroke='#888' d='M15 26V40M35 26V40M50 0V40M65 26V40M85 26V40M105 26V40M120 0V40M0 40H120'/>\n"
+    ∷ codes "<path fill='#333' d='M10 0h10v26h-10zM30 0h10v26h-10zM60 0h10v26h-10zM80 0h10v26h-10zM100 0h10v26h-10z'/>\n"
+    ∷ codes "</pattern><path fill='url(#octave)' d='M60 572H1340V612H60z'/>\n"
+    ∷ codes "<text x='62' y='628'>C-1</text><text x='182' y='628'>C0</text><text x='302' y='628'>C1</text>\n"
+    ∷ codes "<text x='422' y='628'>C2</text><text x='542' y='628'>C3</text><text x='662' y='628'>C4</text>\n"
+    ∷ codes "<text x='782' y='628'>C5</text><text x='902' y='628'>C6</text><text x='1022' y='628'>C7</text>\n"
+    ∷ codes "<text x='1142' y='628'>C8</text><text x='1262' y='628'>C9</text>\n"
+    ∷ [])
 
 -- ---- the owner
 
@@ -163,8 +163,8 @@ drawn b r =
 
 unfoldable pub picture : Parts → Owner → List ℕ
 picture b o =
-    marks_text head
+    head
     ++ (marks_text (owner_marks b o)
-    ++ (marks_text frame
+    ++ (frame
     ++ (flat_map (drawn b) (rectangles b o)
     ++ codes "</svg>\n")))

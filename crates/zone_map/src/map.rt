@@ -15,6 +15,43 @@ use bank_core::{Bank, Owner};
 use outputs::Output;
 use std::io::Write;
 
+/// What all pictures begin with: their size, and colours that colour-blind readers tell apart, on white or on
+/// black.
+const HEAD: &[u8] = b"<svg xmlns='http://www.w3.org/2000/svg' viewBox='0 0 1400 640' font-family='sans-serif' font-size='11'>
+<style>
+:root{color:#111;background:#fff}
+text{fill:currentColor}
+.owner{font-size:20px}
+.end{text-anchor:end;dominant-baseline:central}
+.lines{stroke:currentColor;stroke-opacity:.15}
+g rect{fill:currentColor;fill-opacity:.3;stroke:currentColor;stroke-width:2}
+g circle{fill:currentColor;stroke:#111}
+g text{fill:#111;font-size:9px;text-anchor:middle;dominant-baseline:central}
+g:hover rect{fill-opacity:.7}
+.c0{color:#e69f00}.c1{color:#56b4e9}.c2{color:#009e73}.c3{color:#f0e442}
+.c4{color:#0072b2}.c5{color:#d55e00}.c6{color:#cc79a7}
+@media (prefers-color-scheme:dark){:root{color:#eee;background:#161616}g text{fill:#eee}}
+</style>
+<text class='owner' x='60' y='36'>";
+
+/// Lines at octaves and velocities with their numbers, and a keyboard, on which key 60 is C4.
+const FRAME: &[u8] = b"<path class='lines' d='M60 60H1340M60 188H1340M60 316H1340M60 444H1340M60 572H1340'/>
+<path class='lines' d='M60 60V572M180 60V572M300 60V572M420 60V572M540 60V572M660 60V572'/>
+<path class='lines' d='M780 60V572M900 60V572M1020 60V572M1140 60V572M1260 60V572M1340 60V572'/>
+<text class='end' x='52' y='62'>127</text><text class='end' x='52' y='186'>96</text>
+<text class='end' x='52' y='314'>64</text><text class='end' x='52' y='442'>32</text>
+<text class='end' x='52' y='570'>0</text>
+<pattern id='octave' x='60' y='572' width='120' height='40' patternUnits='userSpaceOnUse'>
+<path fill='#fff' d='M0 0H120V40H0z'/>
+<path stroke='#888' d='M15 26V40M35 26V40M50 0V40M65 26V40M85 26V40M105 26V40M120 0V40M0 40H120'/>
+<path fill='#333' d='M10 0h10v26h-10zM30 0h10v26h-10zM60 0h10v26h-10zM80 0h10v26h-10zM100 0h10v26h-10z'/>
+</pattern><path fill='url(#octave)' d='M60 572H1340V612H60z'/>
+<text x='62' y='628'>C-1</text><text x='182' y='628'>C0</text><text x='302' y='628'>C1</text>
+<text x='422' y='628'>C2</text><text x='542' y='628'>C3</text><text x='662' y='628'>C4</text>
+<text x='782' y='628'>C5</text><text x='902' y='628'>C6</text><text x='1022' y='628'>C7</text>
+<text x='1142' y='628'>C8</text><text x='1262' y='628'>C9</text>
+";
+
 /// Puts a picture of the keys and velocities in which notes select the zones of a preset or an
 /// instrument, as an SVG text: keys along, over a keyboard on which key 60 is C4, and velocities up. Of
 /// an instrument there is a rectangle for each zone: its own ranges, else its global zone's, else 0 to
@@ -32,53 +69,18 @@ pub fn put_map<W: Write>(bank: &Bank<'_>, owner: Owner, output: &mut Output<'_, 
     output.put(b"</svg>\n");
 }
 
-#[tactic(auto, unfolding(crate::specs::Picture::head))]
+// What all pictures begin with.
 fn put_head<W: Write>(output: &mut Output<'_, W>)
-    ensures { Puts W.contents output.old output.new (marks_text head) }
+    ensures { Puts W.contents output.old output.new head }
 {
-    let marks = [
-        text(b"<svg xmlns='http://www.w3.org/2000/svg' viewBox='0 0 1400 640' font-family='sans-serif' font-size='11'>\n"),
-        text(b"<style>\n"),
-        text(b":root{color:#111;background:#fff}\n"),
-        text(b"text{fill:currentColor}\n"),
-        text(b".owner{font-size:20px}\n"),
-        text(b".end{text-anchor:end;dominant-baseline:central}\n"),
-        text(b".lines{stroke:currentColor;stroke-opacity:.15}\n"),
-        text(b"g rect{fill:currentColor;fill-opacity:.3;stroke:currentColor;stroke-width:2}\n"),
-        text(b"g circle{fill:currentColor;stroke:#111}\n"),
-        text(b"g text{fill:#111;font-size:9px;text-anchor:middle;dominant-baseline:central}\n"),
-        text(b"g:hover rect{fill-opacity:.7}\n"),
-        text(b".c0{color:#e69f00}.c1{color:#56b4e9}.c2{color:#009e73}.c3{color:#f0e442}\n"),
-        text(b".c4{color:#0072b2}.c5{color:#d55e00}.c6{color:#cc79a7}\n"),
-        text(b"@media (prefers-color-scheme:dark){:root{color:#eee;background:#161616}g text{fill:#eee}}\n"),
-        text(b"</style>\n"),
-        text(b"<text class='owner' x='60' y='36'>"),
-    ];
-    put_marks(&marks, output);
+    output.put(HEAD);
 }
 
-#[tactic(auto, unfolding(crate::specs::Picture::frame))]
+// The lines at octaves and velocities, and the keyboard.
 fn put_frame<W: Write>(output: &mut Output<'_, W>)
-    ensures { Puts W.contents output.old output.new (marks_text frame) }
+    ensures { Puts W.contents output.old output.new frame }
 {
-    let marks = [
-        text(b"<path class='lines' d='M60 60H1340M60 188H1340M60 316H1340M60 444H1340M60 572H1340'/>\n"),
-        text(b"<path class='lines' d='M60 60V572M180 60V572M300 60V572M420 60V572M540 60V572M660 60V572'/>\n"),
-        text(b"<path class='lines' d='M780 60V572M900 60V572M1020 60V572M1140 60V572M1260 60V572M1340 60V572'/>\n"),
-        text(b"<text class='end' x='52' y='62'>127</text><text class='end' x='52' y='186'>96</text>\n"),
-        text(b"<text class='end' x='52' y='314'>64</text><text class='end' x='52' y='442'>32</text>\n"),
-        text(b"<text class='end' x='52' y='570'>0</text>\n"),
-        text(b"<pattern id='octave' x='60' y='572' width='120' height='40' patternUnits='userSpaceOnUse'>\n"),
-        text(b"<path fill='#fff' d='M0 0H120V40H0z'/>\n"),
-        text(b"<path stroke='#888' d='M15 26V40M35 26V40M50 0V40M65 26V40M85 26V40M105 26V40M120 0V40M0 40H120'/>\n"),
-        text(b"<path fill='#333' d='M10 0h10v26h-10zM30 0h10v26h-10zM60 0h10v26h-10zM80 0h10v26h-10zM100 0h10v26h-10z'/>\n"),
-        text(b"</pattern><path fill='url(#octave)' d='M60 572H1340V612H60z'/>\n"),
-        text(b"<text x='62' y='628'>C-1</text><text x='182' y='628'>C0</text><text x='302' y='628'>C1</text>\n"),
-        text(b"<text x='422' y='628'>C2</text><text x='542' y='628'>C3</text><text x='662' y='628'>C4</text>\n"),
-        text(b"<text x='782' y='628'>C5</text><text x='902' y='628'>C6</text><text x='1022' y='628'>C7</text>\n"),
-        text(b"<text x='1142' y='628'>C8</text><text x='1262' y='628'>C9</text>\n"),
-    ];
-    put_marks(&marks, output);
+    output.put(FRAME);
 }
 
 // The line of the owner.

@@ -51,6 +51,7 @@ pub(crate) fn put_marks<W: Write>(marks: &[Mark<'_>], output: &mut Output<'_, W>
     }
 }
 
+#[tactic(auto, unfolding(crate::specs::Marks::mark_text))]
 fn put_mark<W: Write>(mark: &Mark<'_>, output: &mut Output<'_, W>)
     ensures { Puts W.contents output.old output.new (mark_text mark.now) }
 {

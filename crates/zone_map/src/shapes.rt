@@ -79,8 +79,17 @@ impl Rectangle {
     }
 }
 
+// The name of its sample.
+fn name_of<'b>(bank: &'b Bank<'_>, rectangle: &Rectangle) -> &'b [u8]
+    ensures { result.now ≡ name_of bank.now rectangle.now }
+{
+    match bank.sample(u32::from(rectangle.sample)) {
+        Some(sample) => sample.name.bytes(),
+        None => b"",
+    }
+}
+
 // The rectangle, with what is told of it where the pointer rests on it.
-#[tactic(auto, unfolding(crate::specs::Picture::drawn))]
 pub(crate) fn put_rectangle<W: Write>(
     bank: &Bank<'_>,
     rectangle: &Rectangle,
@@ -88,10 +97,7 @@ pub(crate) fn put_rectangle<W: Write>(
 )
     ensures { Puts W.contents output.old output.new (drawn bank.now rectangle.now) }
 {
-    let name = match bank.sample(u32::from(rectangle.sample)) {
-        Some(sample) => sample.name.bytes(),
-        None => b"",
-    };
+    let name = name_of(bank, rectangle);
     put_title(name, rectangle, output);
     put_preset_zone(rectangle.preset_zone, output);
     put_ranges(rectangle, output);

@@ -1,15 +1,16 @@
-use Rattle.std.proofs.Common.{◌<◌, ◌≤◌, arith, sym}
+use Rattle.std.proofs.Common.{◌<◌, ◌≤◌, arith, ap, sym}
+use Rattle.std.specs.List.{flat_map}
 use Rattle.bank_changes.specs.declared.members.Owner.TheVariants as owner
-use Rattle.outputs.proofs.OutputLaws.{puts_as, puts_nothing, putting_start, putting_step, putting_last}
+use Rattle.outputs.proofs.OutputLaws.{puts_as, puts_nothing, putting_from, putting_step, putting_last}
 use Rattle.zone_select.specs.Left.{zones_in}
 use Rattle.zone_map.specs.Rectangles.{rectangles, rectangles_of_zone}
 use Rattle.zone_map.specs.Picture.{drawn}
-use Rattle.zone_map.proofs.Rows.{row_on, row_over}
+use Rattle.zone_map.proofs.Rows.{all_from, row_on, row_over}
 use Rattle.zone_map.proofs.map.put_preset.Goals as goal
 
 pub loop-zone-init : goal.loop-zone-init
 unfolding rectangles
-loop-zone-init g c = putting_start _
+loop-zone-init g c = let b = c.args.bank.now in putting_from _ _ (ap (λ ks. flat_map (drawn b) (flat_map (rectangles_of_zone b c.args.preset) ks)) (all_from (zones_in b (owner.Preset c.args.preset))))
 
 pub loop-zone-preserved : goal.loop-zone-preserved
 loop-zone-preserved g c =

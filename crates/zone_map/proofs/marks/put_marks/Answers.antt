@@ -1,7 +1,8 @@
 use Rattle.std.proofs.Common.{◌≡◌, [], drop, ap, sym, subst}
+use Rattle.std.specs.List.{flat_map}
 use Rattle.std.proofs.lemmas.List.{drop_all}
 use Rattle.outputs.specs.Output.{Puts}
-use Rattle.outputs.proofs.OutputLaws.{puts_as, puts_nothing, putting_member, putting_last}
+use Rattle.outputs.proofs.OutputLaws.{puts_as, puts_nothing, putting_start, putting_member, putting_last}
 use Rattle.zone_map.specs.declared.marks.Mark.{Mark}
 use Rattle.zone_map.specs.Marks.{mark_text, marks_text}
 use Rattle.zone_map.proofs.marks.put_marks.Goals as goal
@@ -11,5 +12,5 @@ loop-mark-preserved g c = putting_member mark_text c.args.marks.now c.loop-mark.
 
 pub returns : goal.returns
 returns g c =
-    let end = ap marks_text (drop_all c.loop-mark.mark-index c.args.marks.now c.loop-mark-test.false) in
-    putting_last c.loop-mark.invariant (puts_as [] (marks_text (drop c.loop-mark.mark-index c.args.marks.now)) (sym end) (puts_nothing _))
+    let end = ap (flat_map mark_text) (drop_all c.loop-mark.mark-index c.args.marks.now c.loop-mark-test.false) in
+    putting_last c.loop-mark.invariant (puts_as [] (flat_map mark_text (drop c.loop-mark.mark-index c.args.marks.now)) (sym end) (puts_nothing _))
