@@ -1,6 +1,6 @@
 -- Zones by what a bank tells of them.
-use Rattle.std.proofs.Common.{◌≡◌, ◌≤◌, ◌<◌, ℕ, Fits, w32, List, length, Option, Some, None, IsSomeAnd, slice_get, unwrap_or, refl, sym, ap, ◌∙◌, arith}
-use Rattle.std.specs.Option.{option_map, option_map_or}
+use Rattle.std.proofs.Common.{◌≡◌, ◌≤◌, ◌<◌, ℕ, Fits, w32, List, length, Option, Some, None, IsSomeAnd, slice_get, unwrap_or, refl, sym, ap, arith}
+use Rattle.std.specs.Option.{option_map}
 use Rattle.std.proofs.lemmas.Option.{get_or_from_slice_get, slice_get_within}
 use Rattle.std.proofs.lemmas.List.Sums.{get_or-le-sum_by}
 use Rattle.bank_parts.specs.declared.parts.WithZones.{WithZones}

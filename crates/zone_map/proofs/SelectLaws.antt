@@ -1,13 +1,12 @@
 -- Notes select zones exactly where their rectangles are.
-use Rattle.std.proofs.Common.{◌≡◌, ◌≢◌, ◌≤◌, ◌<◌, ◌↔◌, ℕ, ◌==◌, ◌&&◌, ◌||◌, nat_le, min, max, Bool, true, false, true≢false, cond, List, [], ◌∷◌, map, length, Option, Some, None, IsSome, slice_get, unwrap_or, refl, sym, ap, subst, ◌∙◌, arith}
+use Rattle.std.proofs.Common.{◌≡◌, ◌≢◌, ◌≤◌, ℕ, ◌&&◌, ◌||◌, nat_le, min, max, Bool, true, false, true≢false, cond, List, [], length, Option, Some, None, slice_get, unwrap_or, refl, sym, ap, ◌∙◌, arith}
 use Rattle.std.specs.Prelude.{is_some}
-use Rattle.std.specs.List.{Contains, find, filter, filter_map, flat_map, list_any, range_with_len}
+use Rattle.std.specs.List.{find, filter, list_any}
 use Rattle.std.specs.Option.{option_map, option_map_or, option_and_then}
 use Rattle.std.proofs.lemmas.Bool.{ne_eqb, eq-eqb}
 use Rattle.std.proofs.lemmas.Bool.Decides.{nat_tests}
 use Rattle.std.proofs.lemmas.Option.{slice_get_past}
 use Rattle.note_list.specs.Notes.{Numbers}
-use Rattle.generators.specs.declared.range.Range.{Range}
 use Rattle.bank_parts.specs.declared.parts.Head.{Head}
 use Rattle.bank_parts.specs.declared.parts.GlobalZone.{GlobalZone}
 use Rattle.bank_parts.specs.declared.parts.Zone.{Zone}
@@ -18,12 +17,12 @@ use Rattle.bank_changes.specs.Members.{target_of}
 use Rattle.zone_select.specs.Ranges.{holds}
 use Rattle.zone_select.specs.Taken.{Taken, taken}
 use Rattle.zone_select.specs.Select.{is_called}
-use Rattle.zone_select.specs.Pairs.{holds_at, pairs, chosen_by, preset_chosen, zone_chosen, inner_chosen, zone_held}
+use Rattle.zone_select.specs.Pairs.{holds_at, chosen_by, preset_chosen, zone_chosen, inner_chosen, zone_held}
 use Rattle.zone_select.specs.Left.{zones_in, owner_holds}
 use Rattle.zone_select.proofs.PlayedLaws.{pairs_are_chosen}
 use Rattle.zone_map.specs.declared.rectangle.Area.{Area}
 use Rattle.zone_map.specs.declared.rectangle.Rectangle.{Rectangle}
-use Rattle.zone_map.specs.Rectangles.{range_there, area_of, everything, cut, has_notes, root_key, rectangle_at, zone_numbers, rectangles_in, rectangles_of_zone, rectangles}
+use Rattle.zone_map.specs.Rectangles.{area_of, everything, cut, has_notes, root_key, rectangle_of, with_notes, rectangle_at, zone_numbers, rectangles_in, rectangles_of_zone, rectangles}
 use Rattle.zone_map.specs.Selected.{is_in, covers, is_of_zone, is_of_pair, PairsSelected, PairsOnce, ZonesHold, ZonesOnce}
 use Rattle.zone_map.proofs.Kept.{as_list, options_flat, kept, none_kept, any_kept, at_most_one}
 
@@ -91,10 +90,10 @@ module _ (b : Parts) (n : Numbers) (outer : Option ℕ) (area : Area) (i l : ℕ
       zone x None e f = rw (e, f) (both_false (in_area n area))
       zone x (Some z) e f =
           let there : Area = area_of b (owner.Instrument i) l in
-          let r : Rectangle = record { preset_zone = outer; zone = l; sample = z.target; area = cut area there; root = root_key b i l z.target } in
+          let r = rectangle_of b outer area i l z.target in
           let target : target_of b (owner.Instrument i) l ≡ Some z.target = rw (e, f) refl in
           let held : in_area n there ≡ holds n x.global z = rw (e, f) refl in
-          ap (λ (t : Option ℕ). list_any (covers n) (as_list (option_and_then (λ (s : ℕ). cond (has_notes (cut area there)) (Some (let r : Rectangle = record { preset_zone = outer; zone = l; sample = s; area = cut area there; root = root_key b i l s } in r)) None) t))) target
+          ap (λ (t : Option ℕ). list_any (covers n) (as_list (option_and_then (λ (s : ℕ). with_notes (rectangle_of b outer area i l s)) t))) target
           ∙ if_notes n r (has_notes (cut area there))
           ∙ cut_covers n area there
           ∙ ap (λ t. in_area n area && t) held
@@ -117,7 +116,7 @@ module _ (b : Parts) (outer : Option ℕ) (area : Area) (i l : ℕ) where
   -- what a test that looks at the zones' numbers alone keeps of it
   module _ (test : Rectangle → Bool) (t : Bool) (same : (s root : ℕ) (a : Area) → test (let r : Rectangle = record { preset_zone = outer; zone = l; sample = s; area = a; root = root } in r) ≡ t) where
     abbrev of_target : Option ℕ → Option Rectangle
-    of_target target = option_and_then (λ (s : ℕ). cond (has_notes (cut area (area_of b (owner.Instrument i) l))) (Some (let r : Rectangle = record { preset_zone = outer; zone = l; sample = s; area = cut area (area_of b (owner.Instrument i) l); root = root_key b i l s } in r)) None) target
+    of_target target = option_and_then (λ (s : ℕ). with_notes (rectangle_of b outer area i l s)) target
 
     tested : (r : Rectangle) (c : Bool) → test r ≡ t → filter test (as_list (cond c (Some r) None)) ≡ cond t (as_list (cond c (Some r) None)) []
     tested r true e = rw e refl
@@ -126,7 +125,7 @@ module _ (b : Parts) (outer : Option ℕ) (area : Area) (i l : ℕ) where
     pub kept_at : filter test (as_list (rectangle_at b outer area i l)) ≡ cond t (as_list (rectangle_at b outer area i l)) []
     kept_at = elim (target_of b (owner.Instrument i) l) as (λ (o : Option ℕ). filter test (as_list (of_target o)) ≡ cond t (as_list (of_target o)) []) [
       | None ↦ either_way [] t
-      | Some s ↦ tested (record { preset_zone = outer; zone = l; sample = s; area = cut area (area_of b (owner.Instrument i) l); root = root_key b i l s }) (has_notes (cut area (area_of b (owner.Instrument i) l))) (same s (root_key b i l s) (cut area (area_of b (owner.Instrument i) l)))
+      | Some s ↦ tested (rectangle_of b outer area i l s) (has_notes (cut area (area_of b (owner.Instrument i) l))) (same s (root_key b i l s) (cut area (area_of b (owner.Instrument i) l)))
     ]
 
 -- ---- of an instrument, seen from a preset's zone or from none
@@ -139,7 +138,7 @@ module _ (b : Parts) (outer : Option ℕ) (area : Area) (i l : ℕ) (test : Rect
   of_zone =
       ap (filter test) (options_flat (rectangle_at b outer area i) (zone_numbers b (owner.Instrument i)))
       ∙ kept test (λ m. as_list (rectangle_at b outer area i m)) l (λ m ne. kept_at b outer area i m test false (λ s root a. other m s root a ne)) (zones_in b (owner.Instrument i))
-          (λ past. ap (λ o. filter test (as_list o)) (not_there b outer area i l past))
+      (λ past. ap (λ o. filter test (as_list o)) (not_there b outer area i l past))
       ∙ kept_at b outer area i l test true own
 
 -- none where the preset's zone is another one
@@ -270,6 +269,6 @@ module _ (b : Parts) (n : Numbers) where
 pub pairs_selected : PairsSelected
 pairs_selected b n p k l first =
     let same : list_any (λ r. is_of_pair k l r && covers n r) (rectangles b (owner.Preset p)) ≡ is_some (chosen_by b n (k, l)) =
-        any_kept (is_of_pair k l) (covers n) (rectangles b (owner.Preset p)) ∙ ap (list_any (covers n)) (pair_kept b p k l) ∙ chosen_is b n p k l first in
+    any_kept (is_of_pair k l) (covers n) (rectangles b (owner.Preset p)) ∙ ap (list_any (covers n)) (pair_kept b p k l) ∙ chosen_is b n p k l first in
     let chosen = pairs_are_chosen b n (k, l) in
     (λ c. same ∙ chosen.0 c, λ t. chosen.1 (sym same ∙ t))

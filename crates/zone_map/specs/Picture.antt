@@ -123,9 +123,10 @@ box_marks r =
     ∷ Text (codes "'><rect width='100%' height='100%'/>")
     ∷ []
 
--- how far down its name stands: on one of four lines, so that names of rectangles on one another can be read
+-- how far down its name stands: on one of four lines, so that names can be read where zones lie on one another, as those of the
+-- left and of the right side do
 abbrev pub name_line : Rectangle → ℕ
-name_line r = height r * (1 + (2 * (unwrap_or r.preset_zone 0 % 2) + r.zone % 4) % 4) / 5
+name_line r = height r * (1 + (2 * (r.zone % 2) + (unwrap_or r.preset_zone 0 % 2 + (r.zone / 2) % 2) % 2)) / 5
 
 abbrev pub along_marks : List ℕ → Rectangle → List Mark
 along_marks name r = Text (codes "<text x='50%' y='") ∷ Number (name_line r) ∷ Text (codes "'>") ∷ Name name ∷ Text (codes "</text>") ∷ []
@@ -139,8 +140,8 @@ upward_marks name r =
 -- its name along it if it is wide, else up if it is high, else nowhere
 unfoldable pub name_marks : List ℕ → Rectangle → List Mark
 name_marks name r =
-    if nat_le 120 (width r) && nat_le 16 (height r) then along_marks name r
-    else if nat_le 96 (height r) then upward_marks name r
+    if nat_le 120 (width r) && nat_le 24 (height r) then along_marks name r
+    else if nat_le 160 (height r) then upward_marks name r
     else []
 
 -- a point on the root key, in the rectangle's colour

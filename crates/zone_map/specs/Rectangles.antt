@@ -61,13 +61,18 @@ root_key b i l s =
 
 -- ---- rectangles
 
--- what zone l of an instrument has of an area, seen from a preset's zone or from none; none where they don't meet
+-- what zone l of an instrument, whose sample is s, has of an area, seen from a preset's zone or from none
+abbrev pub rectangle_of : Parts → Option ℕ → Area → ℕ → ℕ → ℕ → Rectangle
+rectangle_of b outer area i l s =
+    record { preset_zone = outer; zone = l; sample = s; area = cut area (area_of b (owner.Instrument i) l); root = root_key b i l s }
+
+-- a rectangle, if there are notes in it
+abbrev pub with_notes : Rectangle → Option Rectangle
+with_notes r = cond (has_notes r.area) (Some r) None
+
+-- none where the zone and the area don't meet
 abbrev pub rectangle_at : Parts → Option ℕ → Area → ℕ → ℕ → Option Rectangle
-rectangle_at b outer area i l =
-    option_and_then (λ (s : ℕ). cond (has_notes (cut area (area_of b (owner.Instrument i) l)))
-        (Some (record { preset_zone = outer; zone = l; sample = s; area = cut area (area_of b (owner.Instrument i) l); root = root_key b i l s }))
-        None)
-    (target_of b (owner.Instrument i) l)
+rectangle_at b outer area i l = option_and_then (λ (s : ℕ). with_notes (rectangle_of b outer area i l s)) (target_of b (owner.Instrument i) l)
 
 -- the numbers of an owner's zones
 abbrev pub zone_numbers : Parts → Owner → List ℕ

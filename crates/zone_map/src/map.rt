@@ -17,7 +17,8 @@ use std::io::Write;
 
 /// What all pictures begin with: their size, and colours that colour-blind readers tell apart, on white or on
 /// black.
-const HEAD: &[u8] = b"<svg xmlns='http://www.w3.org/2000/svg' viewBox='0 0 1400 640' font-family='sans-serif' font-size='11'>
+const HEAD: &[u8] =
+    b"<svg xmlns='http://www.w3.org/2000/svg' viewBox='0 0 1400 640' font-family='sans-serif' font-size='11'>
 <style>
 :root{color:#111;background:#fff}
 text{fill:currentColor}
@@ -35,7 +36,8 @@ g:hover rect{fill-opacity:.7}
 <text class='owner' x='60' y='36'>";
 
 /// Lines at octaves and velocities with their numbers, and a keyboard, on which key 60 is C4.
-const FRAME: &[u8] = b"<path class='lines' d='M60 60H1340M60 188H1340M60 316H1340M60 444H1340M60 572H1340'/>
+const FRAME: &[u8] =
+    b"<path class='lines' d='M60 60H1340M60 188H1340M60 316H1340M60 444H1340M60 572H1340'/>
 <path class='lines' d='M60 60V572M180 60V572M300 60V572M420 60V572M540 60V572M660 60V572'/>
 <path class='lines' d='M780 60V572M900 60V572M1020 60V572M1140 60V572M1260 60V572M1340 60V572'/>
 <text class='end' x='52' y='62'>127</text><text class='end' x='52' y='186'>96</text>
@@ -99,12 +101,7 @@ fn put_owner<W: Write>(bank: &Bank<'_>, owner: Owner, output: &mut Output<'_, W>
     }
 }
 
-fn put_owner_line<W: Write>(
-    level: &[u8],
-    owner: u32,
-    owner_name: &[u8],
-    output: &mut Output<'_, W>,
-)
+fn put_owner_line<W: Write>(level: &[u8], owner: u32, owner_name: &[u8], output: &mut Output<'_, W>)
     ensures { Puts W.contents output.old output.new (marks_text (owner_line level.now owner owner_name.now)) }
 {
     let marks = [

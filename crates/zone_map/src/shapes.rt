@@ -21,12 +21,14 @@ const VELOCITY: u32 = 4;
 /// The units before key 0, and above velocity 127.
 const MARGIN: u32 = 60;
 
-/// The units that a name needs along the line, and across it.
+/// The units that a name needs along its line.
 const NAME_LENGTH: u32 = 120;
-const NAME_HEIGHT: u32 = 16;
+
+/// The units that four lines of names need.
+const NAME_HEIGHT: u32 = 24;
 
 /// The units that a name needs up, where it is turned.
-const TURNED_LENGTH: u32 = 96;
+const TURNED_LENGTH: u32 = 160;
 
 // How many numbers a range has.
 fn count(range: Range) -> u32
@@ -74,7 +76,8 @@ impl Rectangle {
     fn name_line(&self) -> u32
         ensures { result ≡ name_line self.now }
     {
-        let line = (2 * (self.preset_zone.unwrap_or(0) % 2) + self.zone % 4) % 4;
+        let layer = self.preset_zone.unwrap_or(0) % 2;
+        let line = 2 * (self.zone % 2) + (layer + self.zone / 2 % 2) % 2;
         self.height() * (1 + line) / 5
     }
 }

@@ -1,10 +1,8 @@
-use Rattle.std.proofs.Common.{◌≡◌, [], drop, ap, sym, subst}
+use Rattle.std.proofs.Common.{[], drop, ap, sym}
 use Rattle.std.specs.List.{flat_map}
 use Rattle.std.proofs.lemmas.List.{drop_all}
-use Rattle.outputs.specs.Output.{Puts}
-use Rattle.outputs.proofs.OutputLaws.{puts_as, puts_nothing, putting_start, putting_member, putting_last}
-use Rattle.zone_map.specs.declared.marks.Mark.{Mark}
-use Rattle.zone_map.specs.Marks.{mark_text, marks_text}
+use Rattle.outputs.proofs.OutputLaws.{puts_as, puts_nothing, putting_member, putting_last}
+use Rattle.zone_map.specs.Marks.{mark_text}
 use Rattle.zone_map.proofs.marks.put_marks.Goals as goal
 
 pub loop-mark-preserved : goal.loop-mark-preserved

@@ -1,4 +1,4 @@
-use Rattle.std.proofs.Common.{◌≡◌, [], drop, ap, sym}
+use Rattle.std.proofs.Common.{[], drop, ap, sym}
 use Rattle.std.specs.List.{flat_map}
 use Rattle.std.proofs.lemmas.List.{drop_all}
 use Rattle.outputs.proofs.OutputLaws.{puts_as, puts_nothing, putting_member, putting_last}
