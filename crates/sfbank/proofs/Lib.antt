@@ -11,3 +11,4 @@ pub mod Sounds
 pub mod Texts
 pub mod Recordings
 pub mod Unsent
+pub mod Maps

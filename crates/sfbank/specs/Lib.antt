@@ -9,6 +9,7 @@ pub use Rattle.note_list.specs.Notes
 pub use Rattle.mixer.specs.Render
 pub use Rattle.neutral_edits.specs.Neutral
 pub use Rattle.wave_file.specs.Wave
+pub use Rattle.zone_map.specs.Picture
 pub mod Outcome
 pub mod Written
 pub mod Planned
@@ -17,3 +18,4 @@ pub mod NewBanks
 pub mod BankScripts
 pub mod Differences
 pub mod Recordings
+pub mod Maps

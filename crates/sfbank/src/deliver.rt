@@ -9,13 +9,14 @@ ghost use Rattle.bank_listing.specs.Details.{detailed_listing};
 ghost use Rattle.edit_script.specs.Printing.{texts_of};
 ghost use Rattle.sf_base.specs.declared.limits.TheConstants.{POINTS};
 ghost use Rattle.wave_file.specs.SampleWave.{sample_wave};
+ghost use Rattle.zone_map.specs.Picture.{picture};
 ghost use Rattle.wave_file.specs.Wave.{FitsWave, wave};
 ghost use Rattle.sfbank_program.specs.declared.run_fault.Which.TheVariants.{Out};
 ghost use Rattle.sfbank.specs.Written.{Delivers, GoesOut, RunsAlone, IsTold};
 ghost use Rattle.sfbank.specs.Plans.{planned};
 
 use crate::plan::Plan;
-use bank_core::{Bank, Sample};
+use bank_core::{Bank, Owner, Sample};
 use bank_format::Counts;
 use bank_listing::{Details, put_details, put_listing};
 use bank_text::{SamplePoints, put_bank_text, put_replacement};
@@ -27,6 +28,7 @@ use sfbank_program::{RunFault, Which};
 use std::alloc::Global;
 use std::io::Write;
 use wave_file::{put_sample_wave, put_wave};
+use zone_map::put_map;
 
 /// The bank's file goes out, and then the undo text. It takes no memory.
 pub(crate) fn deliver<W: Write, V: Write>(
@@ -77,6 +79,20 @@ pub(crate) fn deliver_details<W: Write>(
 {
     let mut output = Output::to(out);
     put_details(alloc, bank, counts, details, &mut output)?;
+    told(Which::Out, output.deliver())
+}
+
+/// The picture of the zones of a preset or an instrument goes out. It takes no memory.
+#[tactic(auto, using(crate::proofs::Texts::text_goes_out))]
+pub(crate) fn deliver_map<W: Write>(
+    bank: &Bank<'_>,
+    owner: Owner,
+    out: &mut W,
+) -> Result<(), RunFault>
+    ensures { GoesOut Out (W.contents out.old) (W.contents out.new) (picture bank.now owner) result }
+{
+    let mut output = Output::to(out);
+    put_map(bank, owner, &mut output);
     told(Which::Out, output.deliver())
 }
 

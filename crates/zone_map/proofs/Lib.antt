@@ -1,0 +1,4 @@
+pub mod RectangleLaws
+pub mod Rows
+pub mod Kept
+pub mod SelectLaws

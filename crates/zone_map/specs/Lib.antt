@@ -1,0 +1,4 @@
+pub mod Rectangles
+pub mod Marks
+pub mod Picture
+pub mod Selected
