@@ -7,12 +7,12 @@ _sfbank_options() {
     new) echo --minor --help ;;
     script) echo --no-points --help ;;
     show) echo --zones --uses --help ;;
-    canon | diff | explain | import | play | wave) echo --help ;;
+    canon | diff | explain | import | map | play | wave) echo --help ;;
     '') echo --help --version ;;
   esac
 }
 
-# The endings of the files that a command takes, in their order; - is a word that is no file.
+# The endings of the files that a command takes, in their order; - is a word that is no file, preset/inst one of these.
 _sfbank_endings() {
   case $1 in
     apply) echo sf2 txt sf2 txt ;;
@@ -20,6 +20,7 @@ _sfbank_endings() {
     diff) echo sf2 sf2 txt ;;
     explain) echo - ;;
     import) echo sf2 wav sf2 txt ;;
+    map) echo sf2 preset/inst - svg ;;
     new | show) echo sf2 ;;
     play) echo sf2 txt wav ;;
     script) echo sf2 txt ;;
@@ -47,6 +48,9 @@ _sfbank_files() {
   local ending=$1 word=$2
   if [[ $ending == - ]]; then
     return
+  elif [[ $ending == */* ]]; then
+    mapfile -t COMPREPLY < <(compgen -W "${ending//\// }" -- "$word")
+    return
   fi
   compopt -o filenames -o default 2> /dev/null
   mapfile -t COMPREPLY < <(
@@ -58,7 +62,7 @@ _sfbank_files() {
 
 _sfbank() {
   local word=${COMP_WORDS[COMP_CWORD]} before=${COMP_WORDS[COMP_CWORD - 1]}
-  local commands="apply canon diff explain help import new play script show wave" given endings
+  local commands="apply canon diff explain help import map new play script show wave" given endings
   COMPREPLY=()
   mapfile -t given < <(_sfbank_given)
   read -ra endings < <(_sfbank_endings "${given[0]}")

@@ -20,6 +20,7 @@ my @runs = (
     [['show', 'wide'], '-'],
     [['show', '--zones', '--uses', 'wide'], '-'],
     [['explain', '37'], '-'],
+    [['map', 'tone', 'inst', '0', 'out'], 'out'],
     [['wave', 'tone', '0', 'out'], 'out'],
     [['import', 'saw', 'take', 'out', 'undo'], 'out', 'undo'],
 );

@@ -255,6 +255,9 @@ fn words_that_are_no_run(rt: HostRuntime) {
         "sfbank explain Syntax",
         "sfbank explain 256 257",
         "sfbank import a b c",
+        "sfbank map a preset 0",
+        "sfbank map a bank 0 b",
+        "sfbank map a preset -1 b",
         "sfbank wave a b",
         "sfbank wave a 4294967296 b",
     ] {

@@ -7,6 +7,7 @@ mod diff;
 mod endings;
 mod explain;
 mod import;
+mod map;
 mod new;
 mod play;
 mod script;
@@ -20,6 +21,7 @@ use diff::diff;
 use endings::at;
 use explain::explain;
 use import::import;
+use map::map;
 use new::new;
 use outputs::Output;
 use play::play;
@@ -99,6 +101,7 @@ fn serve<'a, R: Files + AllocGlobal, S: AsStr, O: Write>(
         Ok(Request::Diff(paths)) => diff(rt, paths),
         Ok(Request::Explain(number)) => explain(number, output),
         Ok(Request::Import(paths)) => import(rt, paths),
+        Ok(Request::Map(paths)) => map(rt, paths),
         Ok(Request::New(bank)) => new(rt, bank),
         Ok(Request::Play(paths)) => play(rt, paths),
         Ok(Request::Script(paths)) => script(rt, paths),

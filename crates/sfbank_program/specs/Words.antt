@@ -1,16 +1,19 @@
 -- The command and the paths that words give.
-use Rattle.std.specs.Prelude.{◌≡◌, ◌<◌, ◌^◌, ℕ, Bool, List, Option, Some, None, is_some, true, false, codes}
+use Rattle.std.specs.Prelude.{◌≡◌, ◌<◌, ◌^◌, ◌⊎◌, ℕ, Bool, List, Option, Some, None, is_some, true, false, codes}
 use Rattle.std.specs.Str.Parse.{IsNumeral, digits_value, without_leading_plus}
 use Rattle.clap.specs.Words.{first_value, one_text}
 use Rattle.clap.specs.declared.parser.matches.Found.{Found}
+use Rattle.bank_changes.specs.declared.members.Owner.{Owner}
+use Rattle.bank_changes.specs.declared.members.Owner.TheVariants.{Preset, Instrument}
 use Rattle.sfbank_program.specs.declared.words.Request.{Request}
-use Rattle.sfbank_program.specs.declared.words.Request.TheVariants.{Apply, Canon, Diff, Explain, Import, New, Play, Script, Show, Wave}
+use Rattle.sfbank_program.specs.declared.words.Request.TheVariants.{Apply, Canon, Diff, Explain, Import, Map, New, Play, Script, Show, Wave}
 use Rattle.sfbank_program.specs.declared.words.ApplyPaths.{ApplyPaths}
 use Rattle.sfbank_program.specs.declared.words.Forms.{Forms}
 use Rattle.sfbank_program.specs.declared.words.Forms.TheVariants.{Every, Neutral}
 use Rattle.sfbank_program.specs.declared.words.CanonPaths.{CanonPaths}
 use Rattle.sfbank_program.specs.declared.words.DiffPaths.{DiffPaths}
 use Rattle.sfbank_program.specs.declared.words.ImportPaths.{ImportPaths}
+use Rattle.sfbank_program.specs.declared.words.MapPaths.{MapPaths}
 use Rattle.sfbank_program.specs.declared.words.NewBank.{NewBank}
 use Rattle.sfbank_program.specs.declared.words.PlayPaths.{PlayPaths}
 use Rattle.sfbank_program.specs.declared.words.ScriptPaths.{ScriptPaths}
@@ -24,6 +27,7 @@ IsOfCommand used (Canon paths) = used ≡ Some (codes "canon")
 IsOfCommand used (Diff paths) = used ≡ Some (codes "diff")
 IsOfCommand used (Explain n) = used ≡ Some (codes "explain")
 IsOfCommand used (Import paths) = used ≡ Some (codes "import")
+IsOfCommand used (Map paths) = used ≡ Some (codes "map")
 IsOfCommand used (New bank) = used ≡ Some (codes "new")
 IsOfCommand used (Play paths) = used ≡ Some (codes "play")
 IsOfCommand used (Script paths) = used ≡ Some (codes "script")
@@ -66,6 +70,16 @@ NamesForms found forms =
     × (one_text found (codes "neutral") ≡ Some (codes "false") → forms ≡ Every)
     × (one_text found (codes "neutral") ≡ None → forms ≡ Every)
 
+-- whose ranges are drawn: `preset` or `inst`, and a number
+abbrev pub NamesOwner : Found → Owner → Type 0
+NamesOwner found (Preset n) = NamesPath found (codes "LEVEL") (codes "preset") × NamesNumber found (codes "N") n
+NamesOwner found (Instrument n) = NamesPath found (codes "LEVEL") (codes "inst") × NamesNumber found (codes "N") n
+
+abbrev pub HasOwner : Found → Type 0
+HasOwner found =
+    (NamesPath found (codes "LEVEL") (codes "preset") ⊎ NamesPath found (codes "LEVEL") (codes "inst"))
+    × HasNumber found (codes "N") (2 ^ 32)
+
 -- ---- all words of a command: each is the one that has its name, and so they are given where all are there
 
 abbrev pub NamesApplyPaths : Found → ApplyPaths → Type 0
@@ -101,6 +115,13 @@ NamesImportPaths found paths =
 
 abbrev pub HasImportPaths : Found → Type 0
 HasImportPaths found = HasPath found (codes "IN") × HasPath found (codes "WAVE") × HasPath found (codes "OUT") × HasPath found (codes "UNDO")
+
+abbrev pub NamesMapPaths : Found → MapPaths → Type 0
+NamesMapPaths found paths =
+    NamesPath found (codes "IN") paths.input.now × NamesOwner found paths.owner × NamesPath found (codes "OUT") paths.out.now
+
+abbrev pub HasMapPaths : Found → Type 0
+HasMapPaths found = HasPath found (codes "IN") × HasOwner found × HasPath found (codes "OUT")
 
 -- the minor version is the number that `--minor` has
 abbrev pub NamesNew : Found → NewBank → Type 0

@@ -9,6 +9,9 @@ const NAME: &str = "sfbank";
 /// The minor version of an empty bank where none is given.
 const USUAL_MINOR: &str = "4";
 
+/// What says whose ranges are drawn.
+static LEVELS: [&str; 2] = ["preset", "inst"];
+
 /// A command: its name, what it does, its words in their order, and a line that uses it.
 struct Entry {
     name: &'static str,
@@ -24,13 +27,15 @@ enum Word {
     Path(&'static str, &'static str),
     /// A number of 32 bits, which has to be there.
     Number(&'static str, &'static str),
+    /// `preset` or `inst`, one of which has to be there.
+    Level(&'static str, &'static str),
     /// Two hyphens and the name, or nothing.
     Flag(&'static str, &'static str),
     /// Two hyphens, the name and a minor version, or nothing.
     Minor(&'static str, &'static str),
 }
 
-static COMMANDS: [Entry; 10] = [
+static COMMANDS: [Entry; 11] = [
     Entry {
         name: "apply",
         about: "Runs a script of edits on a bank, and writes the script that takes them back",
@@ -90,6 +95,17 @@ static COMMANDS: [Entry; 10] = [
             ),
         ],
         example: "Example: sfbank import organ.sf2 flute.wav larger.sf2 undo.txt",
+    },
+    Entry {
+        name: "map",
+        about: "Draws the key and velocity ranges of a preset or an instrument as an SVG picture",
+        words: &[
+            Word::Path("IN", "The bank to look at"),
+            Word::Level("LEVEL", "What to draw"),
+            Word::Number("N", "The number that `show` lists it by"),
+            Word::Path("OUT", "Where the picture is written"),
+        ],
+        example: "Example: sfbank map organ.sf2 preset 0 organ.svg",
     },
     Entry {
         name: "new",
@@ -187,6 +203,7 @@ fn arg_of<'a>(alloc: Global, word: Word) -> Arg<'a> {
     match word {
         Word::Path(name, help) => given(alloc, name, help),
         Word::Number(name, help) => given(alloc, name, help).value_parser(value_parser!(u32)),
+        Word::Level(name, help) => given(alloc, name, help).value_parser(LEVELS.as_slice()),
         Word::Flag(name, help) => option(alloc, name, help).action(ArgAction::SetTrue),
         Word::Minor(name, help) => option(alloc, name, help)
             .value_name("N")

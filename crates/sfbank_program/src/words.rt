@@ -1,9 +1,10 @@
 //! The words of the program.
 ghost use Rattle.std.specs.Prelude.{◌^◌, IfSome, IsSome};
 ghost use Rattle.clap.specs.Words.{found_of, subcommand_name_of};
-ghost use Rattle.sfbank_program.specs.Words.{IsOfCommand, NamesPath, HasPath, NamesNumber, HasNumber, SaysFlag, NamesForms, NamesApplyPaths, HasApplyPaths, NamesCanonPaths, HasCanonPaths, NamesDiffPaths, HasDiffPaths, NamesImportPaths, HasImportPaths, NamesNew, HasNew, NamesPlayPaths, HasPlayPaths, NamesScriptPaths, HasScriptPaths, NamesShowPaths, HasShowPaths, NamesWavePaths, HasWavePaths};
+ghost use Rattle.sfbank_program.specs.Words.{IsOfCommand, NamesPath, HasPath, NamesNumber, HasNumber, SaysFlag, NamesForms, NamesApplyPaths, HasApplyPaths, NamesCanonPaths, HasCanonPaths, NamesDiffPaths, HasDiffPaths, NamesImportPaths, HasImportPaths, NamesOwner, HasOwner, NamesMapPaths, HasMapPaths, NamesNew, HasNew, NamesPlayPaths, HasPlayPaths, NamesScriptPaths, HasScriptPaths, NamesShowPaths, HasShowPaths, NamesWavePaths, HasWavePaths};
 
 use crate::commands::sfbank_command;
+use bank_changes::Owner;
 use clap::error::ErrorKind;
 use clap::{ArgMatches, Error};
 use std::alloc::Global;
@@ -21,6 +22,8 @@ pub enum Request<'a> {
     Explain(u32),
     /// Add a recording to a bank.
     Import(ImportPaths<'a>),
+    /// Draw the ranges of a preset or an instrument.
+    Map(MapPaths<'a>),
     /// Write an empty bank.
     New(NewBank<'a>),
     /// Play notes on a bank.
@@ -73,6 +76,14 @@ pub struct ImportPaths<'a> {
     pub wave: &'a str,
     pub out: &'a str,
     pub undo: &'a str,
+}
+
+/// The paths of `map`, and whose ranges it draws.
+#[derive(Clone, Copy)]
+pub struct MapPaths<'a> {
+    pub input: &'a str,
+    pub owner: Owner,
+    pub out: &'a str,
 }
 
 /// The path of `new`, and the minor version of the bank.
@@ -171,12 +182,15 @@ fn chosen_for_sound<'a>(matches: &ArgMatches<'a>) -> Option<Request<'a>>
     Some(Request::Wave(wave_paths(wave)?))
 }
 
-/// The commands that tell.
+/// The commands that tell or draw.
 fn chosen_for_looks<'a>(matches: &ArgMatches<'a>) -> Option<Request<'a>>
     ensures { IfSome result (IsOfCommand (subcommand_name_of matches.now)) }
 {
     if let Some(explain) = matches.subcommand_matches("explain") {
         return Some(Request::Explain(number(explain, "N")?));
+    }
+    if let Some(map) = matches.subcommand_matches("map") {
+        return Some(Request::Map(map_paths(map)?));
     }
     let show = matches.subcommand_matches("show")?;
     Some(Request::Show(show_paths(show)?))
@@ -236,6 +250,32 @@ fn import_paths<'a>(matches: &ArgMatches<'a>) -> Option<ImportPaths<'a>>
         out: path(matches, "OUT")?,
         undo: path(matches, "UNDO")?,
     })
+}
+
+fn map_paths<'a>(matches: &ArgMatches<'a>) -> Option<MapPaths<'a>>
+    ensures named { IfSome result (NamesMapPaths (found_of matches.now)) }
+    ensures given { HasMapPaths (found_of matches.now) → IsSome result }
+{
+    Some(MapPaths {
+        input: path(matches, "IN")?,
+        owner: owner(matches)?,
+        out: path(matches, "OUT")?,
+    })
+}
+
+fn owner(matches: &ArgMatches<'_>) -> Option<Owner>
+    ensures named { IfSome result (NamesOwner (found_of matches.now)) }
+    ensures given { HasOwner (found_of matches.now) → IsSome result }
+{
+    let level = path(matches, "LEVEL")?;
+    let number = number(matches, "N")?;
+    if level == "preset" {
+        Some(Owner::Preset(number))
+    } else if level == "inst" {
+        Some(Owner::Instrument(number))
+    } else {
+        None
+    }
 }
 
 fn new_bank<'a>(matches: &ArgMatches<'a>) -> Option<NewBank<'a>>
