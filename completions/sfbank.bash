@@ -7,7 +7,7 @@ _sfbank_options() {
     new) echo --minor --help ;;
     script) echo --no-points --help ;;
     show) echo --zones --uses --help ;;
-    canon | diff | explain | import | map | play | wave) echo --help ;;
+    canon | diff | explain | import | live | map | play | wave) echo --help ;;
     '') echo --help --version ;;
   esac
 }
@@ -20,6 +20,7 @@ _sfbank_endings() {
     diff) echo sf2 sf2 txt ;;
     explain) echo - ;;
     import) echo sf2 wav sf2 txt ;;
+    live) echo sf2 pcm ;;
     map) echo sf2 preset/inst - svg ;;
     new | show) echo sf2 ;;
     play) echo sf2 txt wav ;;
@@ -62,7 +63,7 @@ _sfbank_files() {
 
 _sfbank() {
   local word=${COMP_WORDS[COMP_CWORD]} before=${COMP_WORDS[COMP_CWORD - 1]}
-  local commands="apply canon diff explain help import map new play script show wave" given endings
+  local commands="apply canon diff explain help import live map new play script show wave" given endings
   COMPREPLY=()
   mapfile -t given < <(_sfbank_given)
   read -ra endings < <(_sfbank_endings "${given[0]}")

@@ -40,6 +40,8 @@ function __sfbank_files
             set endings -
         case import
             set endings sf2 wav sf2 txt
+        case live
+            set endings sf2 pcm
         case map
             set endings sf2 preset/inst - svg
         case new show
@@ -62,7 +64,7 @@ function __sfbank_files
     end
 end
 
-set -l commands apply canon diff explain import map new play script show wave
+set -l commands apply canon diff explain import live map new play script show wave
 
 complete -c sfbank -f
 complete -c sfbank -n __sfbank_is_bare -a apply -d 'Run a script of edits on a bank, and write the one that takes them back'
@@ -71,6 +73,7 @@ complete -c sfbank -n __sfbank_is_bare -a diff -d 'Write a script that makes one
 complete -c sfbank -n __sfbank_is_bare -a explain -d 'Tell what a fault or a refusal means, and what to do about it'
 complete -c sfbank -n __sfbank_is_bare -a help -d 'Print the help of the program or of a command'
 complete -c sfbank -n __sfbank_is_bare -a import -d 'Add a recording to a bank as its last sample, or as two'
+complete -c sfbank -n __sfbank_is_bare -a live -d 'Edit and play a bank live, by the lines of the standard input'
 complete -c sfbank -n __sfbank_is_bare -a map -d 'Draw the ranges of a preset or an instrument as an SVG picture'
 complete -c sfbank -n __sfbank_is_bare -a new -d 'Write an empty bank'
 complete -c sfbank -n __sfbank_is_bare -a play -d 'Play notes on a bank, and write the sound as a WAVE file'

@@ -18,7 +18,7 @@ sample 0 \"saw\" 44100 60 0 mono noloop 2
 fn run_on<O: Write, E: Write>(rt: &HostRuntime, words: &str, output: &mut O, errors: &mut E) -> u8 {
     let words: Result<Vec<&str>, AllocError> = words.split_ascii_whitespace().collect(rt.alloc());
     match words {
-        Ok(words) => run(rt, words.as_slice(), output, errors),
+        Ok(words) => run(rt, words.as_slice(), &mut b"".as_slice(), output, errors),
         Err(AllocError) => 255,
     }
 }
@@ -255,6 +255,7 @@ fn words_that_are_no_run(rt: HostRuntime) {
         "sfbank explain Syntax",
         "sfbank explain 256 257",
         "sfbank import a b c",
+        "sfbank live a",
         "sfbank map a preset 0",
         "sfbank map a bank 0 b",
         "sfbank map a preset -1 b",

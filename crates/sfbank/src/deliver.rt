@@ -11,7 +11,8 @@ ghost use Rattle.sf_base.specs.declared.limits.TheConstants.{POINTS};
 ghost use Rattle.wave_file.specs.SampleWave.{sample_wave};
 ghost use Rattle.zone_map.specs.Picture.{picture};
 ghost use Rattle.wave_file.specs.Wave.{FitsWave, wave};
-ghost use Rattle.sfbank_program.specs.declared.run_fault.Which.TheVariants.{Out};
+ghost use Rattle.live_sessions.specs.Saved.{undo_text};
+ghost use Rattle.sfbank_program.specs.declared.run_fault.Which.TheVariants.{Out, Undo};
 ghost use Rattle.sfbank.specs.Written.{Delivers, GoesOut, RunsAlone, IsTold};
 ghost use Rattle.sfbank.specs.Plans.{planned};
 
@@ -22,6 +23,7 @@ use bank_listing::{Details, put_details, put_listing};
 use bank_text::{SamplePoints, put_bank_text, put_replacement};
 use edit_forms::Edit;
 use edit_script::put_edit;
+use live_sessions::put_undo;
 use outputs::{Output, WriteFault};
 use sf_writer::put_bank;
 use sfbank_program::{RunFault, Which};
@@ -159,6 +161,17 @@ pub(crate) fn deliver_edits<W: Write>(
     let mut output = Output::to(out);
     put_edits(edits, &mut output);
     told(which, output.deliver())
+}
+
+/// The script goes out that takes a session's bank back, by the edits that do so, of which the oldest one's comes
+/// first. It takes no memory.
+#[tactic(auto, using(crate::proofs::Texts::text_goes_out))]
+pub(crate) fn deliver_undo<W: Write>(back: &[Edit<'_>], out: &mut W) -> Result<(), RunFault>
+    ensures { GoesOut Undo (W.contents out.old) (W.contents out.new) (undo_text back.now) result }
+{
+    let mut output = Output::to(out);
+    put_undo(back, &mut output);
+    told(Which::Undo, output.deliver())
 }
 
 /// Puts the lines of the edits. It takes no memory.

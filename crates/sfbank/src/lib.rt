@@ -33,6 +33,6 @@ pub use new::new_run;
 pub use play::play_run;
 pub use program::{run, run_with_arguments};
 pub use script::script_run;
-pub use sfbank_program::{RunFault, Which};
+pub use sfbank_program::{Prompted, RunFault, Which};
 pub use show::{show_details_run, show_run};
 pub use wave::wave_run;

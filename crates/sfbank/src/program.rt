@@ -7,6 +7,7 @@ mod diff;
 mod endings;
 mod explain;
 mod import;
+mod live;
 mod map;
 mod new;
 mod play;
@@ -21,6 +22,7 @@ use diff::diff;
 use endings::at;
 use explain::explain;
 use import::import;
+use live::live;
 use map::map;
 use new::new;
 use outputs::Output;
@@ -31,21 +33,22 @@ use show::show;
 use std::alloc::{AllocError, Global};
 use std::convert::AsStr;
 use std::env::Env;
-use std::io::Write;
+use std::io::{Read, Write};
 use std::rt::Files;
 use std::{env, io};
 use wave::wave;
 
 /// Runs the program on the words that it was started with, and answers its exit status.
-pub fn run_with_arguments<R: Env + Files + AllocGlobal, O: Write, E: Write>(
+pub fn run_with_arguments<R: Env + Files + AllocGlobal, I: Read, O: Write, E: Write>(
     rt: &R,
+    input: &mut I,
     output: &mut O,
     errors: &mut E,
 ) -> u8
     ensures { Ends (E.contents errors.old) (E.contents errors.new) result }
 {
     match arguments(rt) {
-        Ok(words) => run(rt, words.as_slice(), output, errors),
+        Ok(words) => run(rt, words.as_slice(), input, output, errors),
         Err(fault) => tell(&fault, errors),
     }
 }
@@ -72,27 +75,30 @@ fn arguments<R: Env + AllocGlobal>(rt: &R) -> Result<Vec<String>, Fault<'static>
 /// | 5 | an input can't be read or is too long, or an output can't be written |
 /// | 6 | want of memory |
 ///
-/// What `show` and `explain` tell, help and the version go to `output`.
+/// The lines of `live` come from `input`. What `show` and `explain` tell, the answers of `live`, help and the version
+/// go to `output`.
 /// Where it is not 0, one line (of clap's text, more) goes to `errors`. If that can't be written, the
 /// status is the same.
-pub fn run<R: Files + AllocGlobal, S: AsStr, O: Write, E: Write>(
+pub fn run<R: Files + AllocGlobal, S: AsStr, I: Read, O: Write, E: Write>(
     rt: &R,
     words: &[S],
+    input: &mut I,
     output: &mut O,
     errors: &mut E,
 ) -> u8
     ensures { Ends (E.contents errors.old) (E.contents errors.new) result }
 {
-    match serve(rt, words, output) {
+    match serve(rt, words, input, output) {
         Ok(()) => 0,
         Err(fault) => tell(&fault, errors),
     }
 }
 
 /// Does what the words ask for.
-fn serve<'a, R: Files + AllocGlobal, S: AsStr, O: Write>(
+fn serve<'a, R: Files + AllocGlobal, S: AsStr, I: Read, O: Write>(
     rt: &'a R,
     words: &'a [S],
+    input: &mut I,
     output: &mut O,
 ) -> Result<(), Fault<'a>> {
     match request_of(rt.alloc(), words) {
@@ -101,6 +107,7 @@ fn serve<'a, R: Files + AllocGlobal, S: AsStr, O: Write>(
         Ok(Request::Diff(paths)) => diff(rt, paths),
         Ok(Request::Explain(number)) => explain(number, output),
         Ok(Request::Import(paths)) => import(rt, paths),
+        Ok(Request::Live(paths)) => live(rt, paths, input, output),
         Ok(Request::Map(paths)) => map(rt, paths),
         Ok(Request::New(bank)) => new(rt, bank),
         Ok(Request::Play(paths)) => play(rt, paths),

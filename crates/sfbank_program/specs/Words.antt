@@ -6,13 +6,14 @@ use Rattle.clap.specs.declared.parser.matches.Found.{Found}
 use Rattle.bank_changes.specs.declared.members.Owner.{Owner}
 use Rattle.bank_changes.specs.declared.members.Owner.TheVariants.{Preset, Instrument}
 use Rattle.sfbank_program.specs.declared.words.Request.{Request}
-use Rattle.sfbank_program.specs.declared.words.Request.TheVariants.{Apply, Canon, Diff, Explain, Import, Map, New, Play, Script, Show, Wave}
+use Rattle.sfbank_program.specs.declared.words.Request.TheVariants.{Apply, Canon, Diff, Explain, Import, Live, Map, New, Play, Script, Show, Wave}
 use Rattle.sfbank_program.specs.declared.words.ApplyPaths.{ApplyPaths}
 use Rattle.sfbank_program.specs.declared.words.Forms.{Forms}
 use Rattle.sfbank_program.specs.declared.words.Forms.TheVariants.{Every, Neutral}
 use Rattle.sfbank_program.specs.declared.words.CanonPaths.{CanonPaths}
 use Rattle.sfbank_program.specs.declared.words.DiffPaths.{DiffPaths}
 use Rattle.sfbank_program.specs.declared.words.ImportPaths.{ImportPaths}
+use Rattle.sfbank_program.specs.declared.words.LivePaths.{LivePaths}
 use Rattle.sfbank_program.specs.declared.words.MapPaths.{MapPaths}
 use Rattle.sfbank_program.specs.declared.words.NewBank.{NewBank}
 use Rattle.sfbank_program.specs.declared.words.PlayPaths.{PlayPaths}
@@ -27,6 +28,7 @@ IsOfCommand used (Canon paths) = used ≡ Some (codes "canon")
 IsOfCommand used (Diff paths) = used ≡ Some (codes "diff")
 IsOfCommand used (Explain n) = used ≡ Some (codes "explain")
 IsOfCommand used (Import paths) = used ≡ Some (codes "import")
+IsOfCommand used (Live paths) = used ≡ Some (codes "live")
 IsOfCommand used (Map paths) = used ≡ Some (codes "map")
 IsOfCommand used (New bank) = used ≡ Some (codes "new")
 IsOfCommand used (Play paths) = used ≡ Some (codes "play")
@@ -115,6 +117,12 @@ NamesImportPaths found paths =
 
 abbrev pub HasImportPaths : Found → Type 0
 HasImportPaths found = HasPath found (codes "IN") × HasPath found (codes "WAVE") × HasPath found (codes "OUT") × HasPath found (codes "UNDO")
+
+abbrev pub NamesLivePaths : Found → LivePaths → Type 0
+NamesLivePaths found paths = NamesPath found (codes "IN") paths.input.now × NamesPath found (codes "PCM") paths.pcm.now
+
+abbrev pub HasLivePaths : Found → Type 0
+HasLivePaths found = HasPath found (codes "IN") × HasPath found (codes "PCM")
 
 abbrev pub NamesMapPaths : Found → MapPaths → Type 0
 NamesMapPaths found paths =

@@ -35,7 +35,7 @@ enum Word {
     Minor(&'static str, &'static str),
 }
 
-static COMMANDS: [Entry; 11] = [
+static COMMANDS: [Entry; 12] = [
     Entry {
         name: "apply",
         about: "Runs a script of edits on a bank, and writes the script that takes them back",
@@ -95,6 +95,18 @@ static COMMANDS: [Entry; 11] = [
             ),
         ],
         example: "Example: sfbank import organ.sf2 flute.wav larger.sf2 undo.txt",
+    },
+    Entry {
+        name: "live",
+        about: "Edits and plays a bank live, by the lines of the standard input",
+        words: &[
+            Word::Path("IN", "The bank to begin with"),
+            Word::Path(
+                "PCM",
+                "Where the frames are sent: 44,100 a second, two channels of 16 bits",
+            ),
+        ],
+        example: "Example: sfbank live organ.sf2 >(aplay -f cd)",
     },
     Entry {
         name: "map",

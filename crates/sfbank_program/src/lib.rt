@@ -28,6 +28,6 @@ pub use prompt::Prompted;
 pub use run_fault::{RunFault, Which};
 pub use telling::tell;
 pub use words::{
-    ApplyPaths, CanonPaths, DiffPaths, Forms, ImportPaths, MapPaths, NewBank, PlayPaths,
+    ApplyPaths, CanonPaths, DiffPaths, Forms, ImportPaths, LivePaths, MapPaths, NewBank, PlayPaths,
     Request, ScriptPaths, ShowPaths, WavePaths, request_of,
 };

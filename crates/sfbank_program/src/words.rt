@@ -1,7 +1,7 @@
 //! The words of the program.
 ghost use Rattle.std.specs.Prelude.{◌^◌, IfSome, IsSome};
 ghost use Rattle.clap.specs.Words.{found_of, subcommand_name_of};
-ghost use Rattle.sfbank_program.specs.Words.{IsOfCommand, NamesPath, HasPath, NamesNumber, HasNumber, SaysFlag, NamesForms, NamesApplyPaths, HasApplyPaths, NamesCanonPaths, HasCanonPaths, NamesDiffPaths, HasDiffPaths, NamesImportPaths, HasImportPaths, NamesOwner, HasOwner, NamesMapPaths, HasMapPaths, NamesNew, HasNew, NamesPlayPaths, HasPlayPaths, NamesScriptPaths, HasScriptPaths, NamesShowPaths, HasShowPaths, NamesWavePaths, HasWavePaths};
+ghost use Rattle.sfbank_program.specs.Words.{IsOfCommand, NamesPath, HasPath, NamesNumber, HasNumber, SaysFlag, NamesForms, NamesApplyPaths, HasApplyPaths, NamesCanonPaths, HasCanonPaths, NamesDiffPaths, HasDiffPaths, NamesImportPaths, HasImportPaths, NamesLivePaths, HasLivePaths, NamesOwner, HasOwner, NamesMapPaths, HasMapPaths, NamesNew, HasNew, NamesPlayPaths, HasPlayPaths, NamesScriptPaths, HasScriptPaths, NamesShowPaths, HasShowPaths, NamesWavePaths, HasWavePaths};
 
 use crate::commands::sfbank_command;
 use bank_changes::Owner;
@@ -22,6 +22,8 @@ pub enum Request<'a> {
     Explain(u32),
     /// Add a recording to a bank.
     Import(ImportPaths<'a>),
+    /// Edit and play a bank live.
+    Live(LivePaths<'a>),
     /// Draw the ranges of a preset or an instrument.
     Map(MapPaths<'a>),
     /// Write an empty bank.
@@ -76,6 +78,13 @@ pub struct ImportPaths<'a> {
     pub wave: &'a str,
     pub out: &'a str,
     pub undo: &'a str,
+}
+
+/// The paths of `live`.
+#[derive(Clone, Copy)]
+pub struct LivePaths<'a> {
+    pub input: &'a str,
+    pub pcm: &'a str,
 }
 
 /// The paths of `map`, and whose ranges it draws.
@@ -175,6 +184,9 @@ fn chosen_for_sound<'a>(matches: &ArgMatches<'a>) -> Option<Request<'a>>
     if let Some(import) = matches.subcommand_matches("import") {
         return Some(Request::Import(import_paths(import)?));
     }
+    if let Some(live) = matches.subcommand_matches("live") {
+        return Some(Request::Live(live_paths(live)?));
+    }
     if let Some(play) = matches.subcommand_matches("play") {
         return Some(Request::Play(play_paths(play)?));
     }
@@ -249,6 +261,16 @@ fn import_paths<'a>(matches: &ArgMatches<'a>) -> Option<ImportPaths<'a>>
         wave: path(matches, "WAVE")?,
         out: path(matches, "OUT")?,
         undo: path(matches, "UNDO")?,
+    })
+}
+
+fn live_paths<'a>(matches: &ArgMatches<'a>) -> Option<LivePaths<'a>>
+    ensures named { IfSome result (NamesLivePaths (found_of matches.now)) }
+    ensures given { HasLivePaths (found_of matches.now) → IsSome result }
+{
+    Some(LivePaths {
+        input: path(matches, "IN")?,
+        pcm: path(matches, "PCM")?,
     })
 }
 
