@@ -78,10 +78,10 @@ impl<R: Files + AllocGlobal> Saves for Host<'_, R> {
         bank: &Bank<'_>,
         back: &[Edit<'_>],
     ) -> Result<(), SaveFault> {
-        let Ok(mut out) = OutputFile::new(self.rt, paths.out.as_str()) else {
+        let Ok(mut out) = OutputFile::new(self.rt, paths.out.text()) else {
             return Err(SaveFault::Memory);
         };
-        let Ok(mut undo) = OutputFile::new(self.rt, paths.undo.as_str()) else {
+        let Ok(mut undo) = OutputFile::new(self.rt, paths.undo.text()) else {
             return Err(SaveFault::Memory);
         };
         let run = deliver_save(bank, back, &mut out, &mut undo);
