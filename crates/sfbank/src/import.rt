@@ -48,10 +48,10 @@ pub fn import_run<W: Write, V: Write>(
 }
 
 // Puts the recording at the end of the bank's samples.
-fn import<W: Write, V: Write>(
+fn import<'a, W: Write, V: Write>(
     alloc: Global,
-    file: &[u8],
-    wave: &[u8],
+    file: &'a [u8],
+    wave: &'a [u8],
     name: &[u8],
     out: &mut W,
     undo: &mut V,

@@ -13,5 +13,5 @@ deliver_sample-requires g c = few_points c.in_ok-bank.bank c.args.sample c.in-So
 pub returns-in-Some : goal.returns-in-Some
 returns-in-Some g c = record { runs = wave_runs _ _ c.args.file.now c.args.sample c.in_ok-bank.bank c.in_ok-bank._counts c.in-Some.found.now c.deliver_sample.result c.in_ok-bank.ensures.ok c.in-Some.ensures c.deliver_sample.ensures }
 
-pub returns-in-None : goal.returns-in-None
-returns-in-None g c = record { runs = no_sample (Unit {0}) (g.W.Write.contents c.args.out.now) c.args.file.now c.args.sample c.in_ok-bank.bank c.in_ok-bank._counts c.in_ok-bank.ensures.ok c.in-None.ensures }
+pub returns : goal.returns
+returns g c = record { runs = no_sample (Unit {0}) (g.W.Write.contents c.args.out.now) c.args.file.now c.args.sample c.in_ok-bank.bank c.in_ok-bank._counts c.in_ok-bank.ensures.ok c.in-None.ensures }
