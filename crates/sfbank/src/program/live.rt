@@ -65,6 +65,7 @@ fn ended(fault: LiveFault, pcm: &str) -> Fault<'_> {
 }
 
 /// Saves a session's bank to files, as `apply` writes them: UNDO first where a file is replaced.
+#[derive(Drop)]
 struct Host<'a, R: Files> {
     rt: &'a R,
 }
