@@ -5,7 +5,6 @@
 #[cfg(test)]
 mod banks;
 #[cfg(test)]
-mod details;
 mod lists;
 #[cfg(test)]
 mod program;

@@ -123,8 +123,6 @@ sends_difference old new a b p text (Ok u) bytes h s g = sent old new a b p text
 sends_difference old new a b p text (Err (run.Write which n)) bytes h s g = sent {U = Unit {0}} old new a b p text (Err (run.Write which n)) bytes h s g
 sends_difference old new a b p text (Err run.Memory) bytes h s g = absurd g
 sends_difference old new a b p text (Err run.OtherVersion) bytes h s g = absurd g
-sends_difference old new a b p text (Err (run.Recording fault)) bytes h s g = absurd g
-sends_difference old new a b p text (Err (run.NoMember cause)) bytes h s g = absurd g
 sends_difference old new a b p text (Err (run.Read fault)) bytes h s g = absurd g
 sends_difference old new a b p text (Err (run.ReadSecond fault)) bytes h s g = absurd g
 sends_difference old new a b p text (Err (run.Script fault)) bytes h s g = absurd g
@@ -146,8 +144,6 @@ pub ends_without : (U X : Type 0) (view : X → Pair) (known : Option (List ℕ)
 ends_without U X view known a b run.Memory h = Keeps-refl known
 ends_without U X view known a b (run.Write which n) h = absurd h
 ends_without U X view known a b run.OtherVersion h = (h, Keeps-refl known)
-ends_without U X view known a b (run.Recording fault) h = (h, Keeps-refl known)
-ends_without U X view known a b (run.NoMember cause) h = (h, Keeps-refl known)
 ends_without U X view known a b (run.Read fault) h = (h, Keeps-refl known)
 ends_without U X view known a b (run.ReadSecond fault) h = (h, Keeps-refl known)
 ends_without U X view known a b (run.Script fault) h = (h, Keeps-refl known)

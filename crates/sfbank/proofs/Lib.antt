@@ -9,6 +9,3 @@ pub mod BankScripts
 pub mod Differences
 pub mod Sounds
 pub mod Texts
-pub mod Recordings
-pub mod Unsent
-pub mod Maps

@@ -4,12 +4,10 @@ pub use Rattle.inverse_edits.specs.Runs
 pub use Rattle.edit_script.specs.Script
 pub use Rattle.edit_script.specs.Printing
 pub use Rattle.bank_listing.specs.Listing
-pub use Rattle.bank_listing.specs.Details
 pub use Rattle.note_list.specs.Notes
 pub use Rattle.mixer.specs.Render
 pub use Rattle.neutral_edits.specs.Neutral
 pub use Rattle.wave_file.specs.Wave
-pub use Rattle.zone_map.specs.Picture
 pub mod Outcome
 pub mod Written
 pub mod Planned
@@ -17,5 +15,3 @@ pub mod Plans
 pub mod NewBanks
 pub mod BankScripts
 pub mod Differences
-pub mod Recordings
-pub mod Maps

@@ -62,8 +62,8 @@ fn all_neutral(lines: &[Line<'_>]) -> Result<(), RunFault>
     Ok(())
 }
 
-/// Applies the edits in order, and gives those that take them back, the last one's first.
-pub(crate) fn apply_all<'a>(
+// Applies the edits in order, and gives those that take them back, the last one's first.
+fn apply_all<'a>(
     alloc: Global,
     bank: &mut Bank<'a>,
     lines: Vec<Line<'a>>,

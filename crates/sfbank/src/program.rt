@@ -4,26 +4,15 @@ ghost use Rattle.sfbank_program.specs.Telling.{Ends};
 mod apply;
 mod canon;
 mod diff;
-mod endings;
-mod explain;
-mod import;
-mod live;
-mod map;
 mod new;
 mod play;
 mod script;
 mod show;
-mod wave;
 
 use apply::apply;
 use canon::canon;
 use clap::error::ErrorKind;
 use diff::diff;
-use endings::at;
-use explain::explain;
-use import::import;
-use live::live;
-use map::map;
 use new::new;
 use outputs::Output;
 use play::play;
@@ -33,22 +22,20 @@ use show::show;
 use std::alloc::{AllocError, Global};
 use std::convert::AsStr;
 use std::env::Env;
-use std::io::{Read, Write};
+use std::io::Write;
 use std::rt::Files;
 use std::{env, io};
-use wave::wave;
 
 /// Runs the program on the words that it was started with, and answers its exit status.
-pub fn run_with_arguments<R: Env + Files + AllocGlobal, I: Read, O: Write, E: Write>(
+pub fn run_with_arguments<R: Env + Files + AllocGlobal, O: Write, E: Write>(
     rt: &R,
-    input: &mut I,
     output: &mut O,
     errors: &mut E,
 ) -> u8
     ensures { Ends (E.contents errors.old) (E.contents errors.new) result }
 {
     match arguments(rt) {
-        Ok(words) => run(rt, words.as_slice(), input, output, errors),
+        Ok(words) => run(rt, words.as_slice(), output, errors),
         Err(fault) => tell(&fault, errors),
     }
 }
@@ -69,51 +56,43 @@ fn arguments<R: Env + AllocGlobal>(rt: &R) -> Result<Vec<String>, Fault<'static>
 /// |---|---|
 /// | 0 | done, or help or the version was asked for |
 /// | 1 | the words are refused |
-/// | 2 | a file is no bank, or no WAVE file that is taken |
+/// | 2 | a file is no bank |
 /// | 3 | the script or the text of notes has a fault |
-/// | 4 | an edit is refused, or there is no such member, or two banks are of different versions |
+/// | 4 | an edit is refused, or two banks are of different versions |
 /// | 5 | an input can't be read or is too long, or an output can't be written |
 /// | 6 | want of memory |
 ///
-/// The lines of `live` come from `input`. What `show` and `explain` tell, the answers of `live`, help and the version
-/// go to `output`.
+/// What `show` tells, help and the version go to `output`.
 /// Where it is not 0, one line (of clap's text, more) goes to `errors`. If that can't be written, the
 /// status is the same.
-pub fn run<R: Files + AllocGlobal, S: AsStr, I: Read, O: Write, E: Write>(
+pub fn run<R: Files + AllocGlobal, S: AsStr, O: Write, E: Write>(
     rt: &R,
     words: &[S],
-    input: &mut I,
     output: &mut O,
     errors: &mut E,
 ) -> u8
     ensures { Ends (E.contents errors.old) (E.contents errors.new) result }
 {
-    match serve(rt, words, input, output) {
+    match serve(rt, words, output) {
         Ok(()) => 0,
         Err(fault) => tell(&fault, errors),
     }
 }
 
 /// Does what the words ask for.
-fn serve<'a, R: Files + AllocGlobal, S: AsStr, I: Read, O: Write>(
+fn serve<'a, R: Files + AllocGlobal, S: AsStr, O: Write>(
     rt: &'a R,
     words: &'a [S],
-    input: &mut I,
     output: &mut O,
 ) -> Result<(), Fault<'a>> {
     match request_of(rt.alloc(), words) {
         Ok(Request::Apply(paths)) => apply(rt, paths),
         Ok(Request::Canon(paths)) => canon(rt, paths),
         Ok(Request::Diff(paths)) => diff(rt, paths),
-        Ok(Request::Explain(number)) => explain(number, output),
-        Ok(Request::Import(paths)) => import(rt, paths),
-        Ok(Request::Live(paths)) => live(rt, paths, input, output),
-        Ok(Request::Map(paths)) => map(rt, paths),
         Ok(Request::New(bank)) => new(rt, bank),
         Ok(Request::Play(paths)) => play(rt, paths),
         Ok(Request::Script(paths)) => script(rt, paths),
-        Ok(Request::Show(paths)) => show(rt, paths, output),
-        Ok(Request::Wave(paths)) => wave(rt, paths),
+        Ok(Request::Show(input)) => show(rt, input, output),
         Err(error) => answer(rt.alloc(), error, output),
     }
 }
@@ -140,9 +119,6 @@ fn put_text<'a, O: Write>(text: &str, out: &mut O) -> Result<(), Fault<'a>> {
     output.put(text.as_bytes());
     match output.deliver() {
         Ok(_) => Ok(()),
-        Err(fault) => at(
-            STANDARD_OUTPUT,
-            Err(RunFault::Write(Which::Out, fault.written)),
-        ),
+        Err(fault) => Err(Fault::Run(RunFault::Write(Which::Out, fault.written), STANDARD_OUTPUT)),
     }
 }

@@ -2,13 +2,9 @@
 //! comes back.
 #![tactic(auto)]
 
-use sfbank::{Prompted, run_with_arguments};
-use std::io::IsTerminal;
+use sfbank::run_with_arguments;
 use std::process::ExitCode;
 
 fn main(rt: HostRuntime) -> ExitCode {
-    let is_terminal = rt.stdin().is_terminal();
-    let mut input = Prompted::new(rt.stdin(), rt.stdout(), is_terminal);
-    let (mut output, mut errors) = (rt.stdout(), rt.stderr());
-    ExitCode::from(run_with_arguments(&rt, &mut input, &mut output, &mut errors))
+    ExitCode::from(run_with_arguments(&rt, &mut rt.stdout(), &mut rt.stderr()))
 }

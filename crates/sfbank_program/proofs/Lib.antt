@@ -1,3 +1,2 @@
-mod AllExplained
 mod ReadInPlace
 mod ToldLines

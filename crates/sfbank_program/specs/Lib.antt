@@ -1,6 +1,4 @@
-pub mod Explanations
 pub mod FaultLines
-pub mod InputFaults
 pub mod Inputs
 pub mod RunFaults
 pub mod Saving

@@ -1,5 +1,4 @@
 //! How a command ends that is not done.
-use crate::input_fault::InputFault;
 use crate::run_fault::RunFault;
 use std::alloc::AllocError;
 
@@ -13,10 +12,8 @@ pub enum Fault<'a> {
     Words(clap::Error),
     /// A word is not text.
     NotText,
-    /// No fault and no refusal has this number.
-    Unexplained(u32),
-    /// An input at this path is not there as a whole, and why.
-    File(&'a str, InputFault),
+    /// An input at this path can't be read, or is too long.
+    File(&'a str),
     /// The run is not done. Where a write failed, it is at this path.
     Run(RunFault, &'a str),
 }

@@ -3,31 +3,21 @@
 //! the crates that the runs stand on.
 #![tactic(auto)]
 
-mod commands;
-mod explanations;
 mod fault;
 mod fault_lines;
 mod input;
-mod input_fault;
-mod names;
 mod output;
-mod prompt;
 mod replacement;
 mod run_fault;
 mod telling;
 mod words;
 
-pub use explanations::{Explanation, Told, explain, write_explanation};
 pub use fault::{Fault, STANDARD_OUTPUT};
 pub use fault_lines::{exit_status, fault_text};
-pub use input::{read_file, read_whole};
-pub use input_fault::InputFault;
-pub use names::recording_name;
+pub use input::{InputFault, read_file, read_whole};
 pub use output::{OutputFile, end_both};
-pub use prompt::Prompted;
 pub use run_fault::{RunFault, Which};
 pub use telling::tell;
 pub use words::{
-    ApplyPaths, CanonPaths, DiffPaths, Forms, ImportPaths, LivePaths, MapPaths, NewBank, PlayPaths,
-    Request, ScriptPaths, ShowPaths, WavePaths, request_of,
+    ApplyPaths, CanonPaths, DiffPaths, Forms, NewBank, PlayPaths, Request, ScriptPaths, request_of,
 };

@@ -1,14 +1,26 @@
 //! The words of the program.
-ghost use Rattle.std.specs.Prelude.{◌^◌, IfSome, IsSome};
+ghost use Rattle.std.specs.Prelude.{IfSome, IsSome};
 ghost use Rattle.clap.specs.Words.{found_of, subcommand_name_of};
-ghost use Rattle.sfbank_program.specs.Words.{IsOfCommand, NamesPath, HasPath, NamesNumber, HasNumber, SaysFlag, NamesForms, NamesApplyPaths, HasApplyPaths, NamesCanonPaths, HasCanonPaths, NamesDiffPaths, HasDiffPaths, NamesImportPaths, HasImportPaths, NamesLivePaths, HasLivePaths, NamesOwner, HasOwner, NamesMapPaths, HasMapPaths, NamesNew, HasNew, NamesPlayPaths, HasPlayPaths, NamesScriptPaths, HasScriptPaths, NamesShowPaths, HasShowPaths, NamesWavePaths, HasWavePaths};
+ghost use Rattle.sfbank_program.specs.Words.{IsOfCommand, NamesForms, NamesApplyPaths, HasApplyPaths, NamesCanonPaths, HasCanonPaths, NamesPlayPaths, HasPlayPaths, NamesInput, HasInput, NamesNew, HasNew, NamesScriptPaths, HasScriptPaths, SaysNoPoints, NamesDiffPaths, HasDiffPaths};
 
-use crate::commands::sfbank_command;
-use bank_changes::Owner;
 use clap::error::ErrorKind;
-use clap::{ArgMatches, Error};
-use std::alloc::Global;
+use clap::{Arg, ArgAction, ArgMatches, Command, Error, value_parser};
+use std::alloc::{AllocError, Global};
 use std::convert::AsStr;
+
+/// The program's name, by whatever path it was started.
+const NAME: &str = "sfbank";
+
+/// The flag of `apply` by which only edits that change no sound are taken.
+const NEUTRAL: &str = "neutral";
+
+/// The option of `new` that has the minor version, and that version where it isn't given.
+const MINOR: &str = "minor";
+
+const USUAL_MINOR: &str = "4";
+
+/// The flag of `script` by which the points of samples are left out.
+const NO_POINTS: &str = "no-points";
 
 /// What the words ask for.
 pub enum Request<'a> {
@@ -18,24 +30,14 @@ pub enum Request<'a> {
     Canon(CanonPaths<'a>),
     /// Write a script that makes one bank of another.
     Diff(DiffPaths<'a>),
-    /// Tell what the fault or the refusal of this number means.
-    Explain(u32),
-    /// Add a recording to a bank.
-    Import(ImportPaths<'a>),
-    /// Edit and play a bank live.
-    Live(LivePaths<'a>),
-    /// Draw the ranges of a preset or an instrument.
-    Map(MapPaths<'a>),
     /// Write an empty bank.
     New(NewBank<'a>),
     /// Play notes on a bank.
     Play(PlayPaths<'a>),
     /// Write the script that makes a bank of the empty one.
     Script(ScriptPaths<'a>),
-    /// Tell what a bank has.
-    Show(ShowPaths<'a>),
-    /// Write a sample as a WAVE file.
-    Wave(WavePaths<'a>),
+    /// Tell what the bank at this path has.
+    Show(&'a str),
 }
 
 /// The forms of edits that `apply` takes.
@@ -71,43 +73,11 @@ pub struct DiffPaths<'a> {
     pub out: &'a str,
 }
 
-/// The paths of `import`.
-#[derive(Clone, Copy)]
-pub struct ImportPaths<'a> {
-    pub input: &'a str,
-    pub wave: &'a str,
-    pub out: &'a str,
-    pub undo: &'a str,
-}
-
-/// The paths of `live`.
-#[derive(Clone, Copy)]
-pub struct LivePaths<'a> {
-    pub input: &'a str,
-    pub pcm: &'a str,
-}
-
-/// The paths of `map`, and whose ranges it draws.
-#[derive(Clone, Copy)]
-pub struct MapPaths<'a> {
-    pub input: &'a str,
-    pub owner: Owner,
-    pub out: &'a str,
-}
-
 /// The path of `new`, and the minor version of the bank.
 #[derive(Clone, Copy)]
 pub struct NewBank<'a> {
     pub out: &'a str,
     pub minor: u16,
-}
-
-/// The paths of `play`.
-#[derive(Clone, Copy)]
-pub struct PlayPaths<'a> {
-    pub input: &'a str,
-    pub notes: &'a str,
-    pub out: &'a str,
 }
 
 /// The paths of `script`, and whether it leaves the points of samples out.
@@ -118,19 +88,11 @@ pub struct ScriptPaths<'a> {
     pub no_points: bool,
 }
 
-/// The path of `show`, and whether it tells the zones, and how many use each member.
+/// The paths of `play`.
 #[derive(Clone, Copy)]
-pub struct ShowPaths<'a> {
+pub struct PlayPaths<'a> {
     pub input: &'a str,
-    pub zones: bool,
-    pub uses: bool,
-}
-
-/// The paths of `wave`, and the number of the sample.
-#[derive(Clone, Copy)]
-pub struct WavePaths<'a> {
-    pub input: &'a str,
-    pub sample: u32,
+    pub notes: &'a str,
     pub out: &'a str,
 }
 
@@ -148,19 +110,6 @@ pub fn request_of<'a, S: AsStr>(alloc: Global, words: &'a [S]) -> Result<Request
 fn chosen<'a>(matches: &ArgMatches<'a>) -> Option<Request<'a>>
     ensures { IfSome result (IsOfCommand (subcommand_name_of matches.now)) }
 {
-    if let Some(script) = chosen_for_scripts(matches) {
-        return Some(script);
-    }
-    if let Some(sound) = chosen_for_sound(matches) {
-        return Some(sound);
-    }
-    chosen_for_looks(matches)
-}
-
-/// The commands whose outputs are banks or scripts.
-fn chosen_for_scripts<'a>(matches: &ArgMatches<'a>) -> Option<Request<'a>>
-    ensures { IfSome result (IsOfCommand (subcommand_name_of matches.now)) }
-{
     if let Some(apply) = matches.subcommand_matches("apply") {
         return Some(Request::Apply(apply_paths(apply)?));
     }
@@ -173,39 +122,14 @@ fn chosen_for_scripts<'a>(matches: &ArgMatches<'a>) -> Option<Request<'a>>
     if let Some(new) = matches.subcommand_matches("new") {
         return Some(Request::New(new_bank(new)?));
     }
-    let script = matches.subcommand_matches("script")?;
-    Some(Request::Script(script_paths(script)?))
-}
-
-/// The commands that take or give sound.
-fn chosen_for_sound<'a>(matches: &ArgMatches<'a>) -> Option<Request<'a>>
-    ensures { IfSome result (IsOfCommand (subcommand_name_of matches.now)) }
-{
-    if let Some(import) = matches.subcommand_matches("import") {
-        return Some(Request::Import(import_paths(import)?));
-    }
-    if let Some(live) = matches.subcommand_matches("live") {
-        return Some(Request::Live(live_paths(live)?));
-    }
     if let Some(play) = matches.subcommand_matches("play") {
         return Some(Request::Play(play_paths(play)?));
     }
-    let wave = matches.subcommand_matches("wave")?;
-    Some(Request::Wave(wave_paths(wave)?))
-}
-
-/// The commands that tell or draw.
-fn chosen_for_looks<'a>(matches: &ArgMatches<'a>) -> Option<Request<'a>>
-    ensures { IfSome result (IsOfCommand (subcommand_name_of matches.now)) }
-{
-    if let Some(explain) = matches.subcommand_matches("explain") {
-        return Some(Request::Explain(number(explain, "N")?));
-    }
-    if let Some(map) = matches.subcommand_matches("map") {
-        return Some(Request::Map(map_paths(map)?));
+    if let Some(script) = matches.subcommand_matches("script") {
+        return Some(Request::Script(script_paths(script)?));
     }
     let show = matches.subcommand_matches("show")?;
-    Some(Request::Show(show_paths(show)?))
+    Some(Request::Show(input_path(show)?))
 }
 
 fn apply_paths<'a>(matches: &ArgMatches<'a>) -> Option<ApplyPaths<'a>>
@@ -213,10 +137,10 @@ fn apply_paths<'a>(matches: &ArgMatches<'a>) -> Option<ApplyPaths<'a>>
     ensures given { HasApplyPaths (found_of matches.now) → IsSome result }
 {
     Some(ApplyPaths {
-        input: path(matches, "IN")?,
-        script: path(matches, "SCRIPT")?,
-        out: path(matches, "OUT")?,
-        undo: path(matches, "UNDO")?,
+        input: input_path(matches)?,
+        script: matches.get_str("SCRIPT")?,
+        out: matches.get_str("OUT")?,
+        undo: matches.get_str("UNDO")?,
         forms: forms_taken(matches),
     })
 }
@@ -224,7 +148,7 @@ fn apply_paths<'a>(matches: &ArgMatches<'a>) -> Option<ApplyPaths<'a>>
 fn forms_taken(matches: &ArgMatches<'_>) -> Forms
     ensures { NamesForms (found_of matches.now) result }
 {
-    if matches.get_flag("neutral") {
+    if matches.get_flag(NEUTRAL) {
         Forms::Neutral
     } else {
         Forms::Every
@@ -236,8 +160,8 @@ fn canon_paths<'a>(matches: &ArgMatches<'a>) -> Option<CanonPaths<'a>>
     ensures given { HasCanonPaths (found_of matches.now) → IsSome result }
 {
     Some(CanonPaths {
-        input: path(matches, "IN")?,
-        out: path(matches, "OUT")?,
+        input: input_path(matches)?,
+        out: matches.get_str("OUT")?,
     })
 }
 
@@ -246,58 +170,10 @@ fn diff_paths<'a>(matches: &ArgMatches<'a>) -> Option<DiffPaths<'a>>
     ensures given { HasDiffPaths (found_of matches.now) → IsSome result }
 {
     Some(DiffPaths {
-        first: path(matches, "A")?,
-        second: path(matches, "B")?,
-        out: path(matches, "OUT")?,
+        first: matches.get_str("A")?,
+        second: matches.get_str("B")?,
+        out: matches.get_str("OUT")?,
     })
-}
-
-fn import_paths<'a>(matches: &ArgMatches<'a>) -> Option<ImportPaths<'a>>
-    ensures named { IfSome result (NamesImportPaths (found_of matches.now)) }
-    ensures given { HasImportPaths (found_of matches.now) → IsSome result }
-{
-    Some(ImportPaths {
-        input: path(matches, "IN")?,
-        wave: path(matches, "WAVE")?,
-        out: path(matches, "OUT")?,
-        undo: path(matches, "UNDO")?,
-    })
-}
-
-fn live_paths<'a>(matches: &ArgMatches<'a>) -> Option<LivePaths<'a>>
-    ensures named { IfSome result (NamesLivePaths (found_of matches.now)) }
-    ensures given { HasLivePaths (found_of matches.now) → IsSome result }
-{
-    Some(LivePaths {
-        input: path(matches, "IN")?,
-        pcm: path(matches, "PCM")?,
-    })
-}
-
-fn map_paths<'a>(matches: &ArgMatches<'a>) -> Option<MapPaths<'a>>
-    ensures named { IfSome result (NamesMapPaths (found_of matches.now)) }
-    ensures given { HasMapPaths (found_of matches.now) → IsSome result }
-{
-    Some(MapPaths {
-        input: path(matches, "IN")?,
-        owner: owner(matches)?,
-        out: path(matches, "OUT")?,
-    })
-}
-
-fn owner(matches: &ArgMatches<'_>) -> Option<Owner>
-    ensures named { IfSome result (NamesOwner (found_of matches.now)) }
-    ensures given { HasOwner (found_of matches.now) → IsSome result }
-{
-    let level = path(matches, "LEVEL")?;
-    let number = number(matches, "N")?;
-    if level == "preset" {
-        Some(Owner::Preset(number))
-    } else if level == "inst" {
-        Some(Owner::Instrument(number))
-    } else {
-        None
-    }
 }
 
 fn new_bank<'a>(matches: &ArgMatches<'a>) -> Option<NewBank<'a>>
@@ -305,19 +181,8 @@ fn new_bank<'a>(matches: &ArgMatches<'a>) -> Option<NewBank<'a>>
     ensures given { HasNew (found_of matches.now) → IsSome result }
 {
     Some(NewBank {
-        out: path(matches, "OUT")?,
-        minor: matches.get_one::<u16>("minor")?,
-    })
-}
-
-fn play_paths<'a>(matches: &ArgMatches<'a>) -> Option<PlayPaths<'a>>
-    ensures named { IfSome result (NamesPlayPaths (found_of matches.now)) }
-    ensures given { HasPlayPaths (found_of matches.now) → IsSome result }
-{
-    Some(PlayPaths {
-        input: path(matches, "IN")?,
-        notes: path(matches, "NOTES")?,
-        out: path(matches, "OUT")?,
+        out: matches.get_str("OUT")?,
+        minor: matches.get_one::<u16>(MINOR)?,
     })
 }
 
@@ -326,50 +191,134 @@ fn script_paths<'a>(matches: &ArgMatches<'a>) -> Option<ScriptPaths<'a>>
     ensures given { HasScriptPaths (found_of matches.now) → IsSome result }
 {
     Some(ScriptPaths {
-        input: path(matches, "IN")?,
-        out: path(matches, "OUT")?,
-        no_points: flag(matches, "no-points"),
+        input: input_path(matches)?,
+        out: matches.get_str("OUT")?,
+        no_points: leaves_points(matches),
     })
 }
 
-fn show_paths<'a>(matches: &ArgMatches<'a>) -> Option<ShowPaths<'a>>
-    ensures named { IfSome result (NamesShowPaths (found_of matches.now)) }
-    ensures given { HasShowPaths (found_of matches.now) → IsSome result }
+fn leaves_points(matches: &ArgMatches<'_>) -> bool
+    ensures { SaysNoPoints (found_of matches.now) result }
 {
-    Some(ShowPaths {
-        input: path(matches, "IN")?,
-        zones: flag(matches, "zones"),
-        uses: flag(matches, "uses"),
+    matches.get_flag(NO_POINTS)
+}
+
+fn play_paths<'a>(matches: &ArgMatches<'a>) -> Option<PlayPaths<'a>>
+    ensures named { IfSome result (NamesPlayPaths (found_of matches.now)) }
+    ensures given { HasPlayPaths (found_of matches.now) → IsSome result }
+{
+    Some(PlayPaths {
+        input: input_path(matches)?,
+        notes: matches.get_str("NOTES")?,
+        out: matches.get_str("OUT")?,
     })
 }
 
-fn wave_paths<'a>(matches: &ArgMatches<'a>) -> Option<WavePaths<'a>>
-    ensures named { IfSome result (NamesWavePaths (found_of matches.now)) }
-    ensures given { HasWavePaths (found_of matches.now) → IsSome result }
+fn input_path<'a>(matches: &ArgMatches<'a>) -> Option<&'a str>
+    ensures named { IfSome result (λ path. NamesInput (found_of matches.now) path.now) }
+    ensures given { HasInput (found_of matches.now) → IsSome result }
 {
-    Some(WavePaths {
-        input: path(matches, "IN")?,
-        sample: number(matches, "S")?,
-        out: path(matches, "OUT")?,
-    })
+    matches.get_str("IN")
 }
 
-fn path<'a>(matches: &ArgMatches<'a>, name: &str) -> Option<&'a str>
-    ensures named { IfSome result (λ path. NamesPath (found_of matches.now) name.now path.now) }
-    ensures given { HasPath (found_of matches.now) name.now → IsSome result }
-{
-    matches.get_str(name)
+fn sfbank_command<'a>(alloc: Global) -> Result<Command<'a>, AllocError> {
+    Command::new(alloc, NAME)
+        .bin_name(NAME)?
+        .version("0.1.0")
+        .about(
+            "Edits SoundFont 2 banks by scripts, writes the scripts that take the edits back, and plays banks",
+        )
+        .subcommand_required(true)
+        .arg_required_else_help(true)
+        .subcommand(apply_command(alloc)?)?
+        .subcommand(canon_command(alloc)?)?
+        .subcommand(diff_command(alloc)?)?
+        .subcommand(new_command(alloc)?)?
+        .subcommand(play_command(alloc)?)?
+        .subcommand(script_command(alloc)?)?
+        .subcommand(show_command(alloc)?)
 }
 
-fn number(matches: &ArgMatches<'_>, name: &str) -> Option<u32>
-    ensures named { IfSome result (NamesNumber (found_of matches.now) name.now) }
-    ensures given { HasNumber (found_of matches.now) name.now (2 ^ 32) → IsSome result }
-{
-    matches.get_one::<u32>(name)
+fn apply_command<'a>(alloc: Global) -> Result<Command<'a>, AllocError> {
+    Command::new(alloc, "apply")
+        .about("Runs a script of edits on a bank, and writes the script that takes them back")
+        .arg(neutral_flag(alloc))?
+        .arg(path(alloc, "IN").help("The bank to edit"))?
+        .arg(path(alloc, "SCRIPT").help("The edits, one a line"))?
+        .arg(path(alloc, "OUT").help("Where the edited bank is written; may be IN"))?
+        .arg(path(alloc, "UNDO").help("Where the script that takes the edits back is written"))
 }
 
-fn flag(matches: &ArgMatches<'_>, name: &str) -> bool
-    ensures { SaysFlag (found_of matches.now) name.now result }
-{
-    matches.get_flag(name)
+fn neutral_flag<'a>(alloc: Global) -> Arg<'a> {
+    Arg::new(alloc, NEUTRAL)
+        .long(NEUTRAL)
+        .action(ArgAction::SetTrue)
+        .help("Refuses a script with an edit that may change the sound of notes")
+}
+
+fn canon_command<'a>(alloc: Global) -> Result<Command<'a>, AllocError> {
+    Command::new(alloc, "canon")
+        .about("Writes a bank in its one spelling")
+        .arg(path(alloc, "IN").help("The bank to spell"))?
+        .arg(path(alloc, "OUT").help("Where its canonical file is written; may be IN"))
+}
+
+fn diff_command<'a>(alloc: Global) -> Result<Command<'a>, AllocError> {
+    Command::new(alloc, "diff")
+        .about("Writes a script that makes the bank B of the bank A")
+        .arg(path(alloc, "A").help("The bank to begin with"))?
+        .arg(path(alloc, "B").help("The bank to come to, of the same minor version"))?
+        .arg(path(alloc, "OUT").help("Where the script is written"))
+}
+
+fn new_command<'a>(alloc: Global) -> Result<Command<'a>, AllocError> {
+    Command::new(alloc, "new")
+        .about("Writes an empty bank")
+        .arg(minor_option(alloc))?
+        .arg(path(alloc, "OUT").help("Where the empty bank is written"))
+}
+
+fn minor_option<'a>(alloc: Global) -> Arg<'a> {
+    Arg::new(alloc, MINOR)
+        .long(MINOR)
+        .value_name("N")
+        .action(ArgAction::Set)
+        .value_parser(value_parser!(u16))
+        .default_value(USUAL_MINOR)
+        .help("The minor version of the format, from 0 to 65,535")
+}
+
+fn script_command<'a>(alloc: Global) -> Result<Command<'a>, AllocError> {
+    Command::new(alloc, "script")
+        .about("Writes the script that makes a bank of the empty one of its minor version")
+        .arg(no_points_flag(alloc))?
+        .arg(path(alloc, "IN").help("The bank to make"))?
+        .arg(path(alloc, "OUT").help("Where the script is written"))
+}
+
+fn no_points_flag<'a>(alloc: Global) -> Arg<'a> {
+    Arg::new(alloc, NO_POINTS)
+        .long(NO_POINTS)
+        .action(ArgAction::SetTrue)
+        .help(
+            "Leaves the points of samples out, so that the script is short and makes silent samples",
+        )
+}
+
+fn play_command<'a>(alloc: Global) -> Result<Command<'a>, AllocError> {
+    Command::new(alloc, "play")
+        .about("Plays notes on a bank, and writes the sound as a WAVE file")
+        .arg(path(alloc, "IN").help("The bank to play on"))?
+        .arg(path(alloc, "NOTES").help("The notes, one a line"))?
+        .arg(path(alloc, "OUT").help("Where the WAVE file is written"))
+}
+
+fn show_command<'a>(alloc: Global) -> Result<Command<'a>, AllocError> {
+    Command::new(alloc, "show")
+        .about("Tells what a bank has, and what was dropped or mended as it was read")
+        .arg(path(alloc, "IN").help("The bank to show"))
+}
+
+fn path<'a>(alloc: Global, name: &'a str) -> Arg<'a> {
+    Arg::new(alloc, name).required(true).action(ArgAction::Set)
 }

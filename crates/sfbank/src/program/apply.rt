@@ -2,9 +2,8 @@
 ghost use Rattle.sfbank.specs.Planned.{outcome_of};
 ghost use Rattle.sfbank.specs.Written.{Runs};
 
-use super::endings::at_either;
 use crate::edit::{edit_run, neutral_run};
-use sfbank_program::{ApplyPaths, Fault, Forms, OutputFile, RunFault, end_both, read_file};
+use sfbank_program::{ApplyPaths, Fault, Forms, OutputFile, RunFault, Which, end_both, read_file};
 use std::alloc::Global;
 use std::io::Write;
 use std::rt::Files;
@@ -27,7 +26,14 @@ pub(crate) fn apply<'a, R: Files + AllocGlobal>(
         &mut out,
         &mut undo,
     );
-    at_either(paths.out, paths.undo, end_both(out, undo, run))
+    match end_both(out, undo, run) {
+        Ok(()) => Ok(()),
+        Err(RunFault::Write(Which::Undo, written)) => Err(Fault::Run(
+            RunFault::Write(Which::Undo, written),
+            paths.undo,
+        )),
+        Err(fault) => Err(Fault::Run(fault, paths.out)),
+    }
 }
 
 /// The run that takes these forms of edits.

@@ -1,5 +1,4 @@
 //! The command `canon`.
-use super::endings::at;
 use crate::canon::canon_run;
 use sfbank_program::{CanonPaths, Fault, OutputFile, Which, read_file};
 use std::rt::Files;
@@ -12,5 +11,8 @@ pub(crate) fn canon<'a, R: Files + AllocGlobal>(
     let file = read_file(rt, paths.input)?;
     let mut out = OutputFile::new(rt, paths.out)?;
     let run = canon_run(rt.alloc(), file.as_slice(), &mut out);
-    at(paths.out, out.end(Which::Out, run))
+    match out.end(Which::Out, run) {
+        Ok(()) => Ok(()),
+        Err(fault) => Err(Fault::Run(fault, paths.out)),
+    }
 }

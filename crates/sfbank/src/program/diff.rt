@@ -1,5 +1,4 @@
 //! The command `diff`.
-use super::endings::at;
 use crate::diff::diff_run;
 use sfbank_program::{DiffPaths, Fault, OutputFile, Which, read_file};
 use std::rt::Files;
@@ -14,5 +13,8 @@ pub(crate) fn diff<'a, R: Files + AllocGlobal>(
     let second = read_file(rt, paths.second)?;
     let mut out = OutputFile::new(rt, paths.out)?;
     let run = diff_run(rt.alloc(), first.as_slice(), second.as_slice(), &mut out);
-    at(paths.out, out.end(Which::Out, run))
+    match out.end(Which::Out, run) {
+        Ok(()) => Ok(()),
+        Err(fault) => Err(Fault::Run(fault, paths.out)),
+    }
 }

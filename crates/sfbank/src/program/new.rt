@@ -1,5 +1,4 @@
 //! The command `new`.
-use super::endings::at;
 use crate::new::new_run;
 use sfbank_program::{Fault, NewBank, OutputFile, Which};
 use std::rt::Files;
@@ -11,5 +10,8 @@ pub(crate) fn new<'a, R: Files + AllocGlobal>(
 ) -> Result<(), Fault<'a>> {
     let mut out = OutputFile::new(rt, bank.out)?;
     let run = new_run(rt.alloc(), bank.minor, &mut out);
-    at(bank.out, out.end(Which::Out, run))
+    match out.end(Which::Out, run) {
+        Ok(()) => Ok(()),
+        Err(fault) => Err(Fault::Run(fault, bank.out)),
+    }
 }

@@ -1,5 +1,4 @@
 //! The command `play`.
-use super::endings::at;
 use crate::play::play_run;
 use sfbank_program::{Fault, OutputFile, PlayPaths, Which, read_file};
 use std::rt::Files;
@@ -13,5 +12,8 @@ pub(crate) fn play<'a, R: Files + AllocGlobal>(
     let notes = read_file(rt, paths.notes)?;
     let mut out = OutputFile::new(rt, paths.out)?;
     let run = play_run(rt.alloc(), file.as_slice(), notes.as_slice(), &mut out);
-    at(paths.out, out.end(Which::Out, run))
+    match out.end(Which::Out, run) {
+        Ok(()) => Ok(()),
+        Err(fault) => Err(Fault::Run(fault, paths.out)),
+    }
 }

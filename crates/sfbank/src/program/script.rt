@@ -2,7 +2,6 @@
 ghost use Rattle.std.specs.Prelude.{◌≡◌, if◌then◌else◌};
 ghost use Rattle.bank_text.specs.declared.samples.SamplePoints.TheVariants.{Kept, LeftOut};
 
-use super::endings::at;
 use crate::script::script_run;
 use bank_text::SamplePoints;
 use sfbank_program::{Fault, OutputFile, ScriptPaths, Which, read_file};
@@ -21,7 +20,10 @@ pub(crate) fn script<'a, R: Files + AllocGlobal>(
         points_of(paths.no_points),
         &mut out,
     );
-    at(paths.out, out.end(Which::Out, run))
+    match out.end(Which::Out, run) {
+        Ok(()) => Ok(()),
+        Err(fault) => Err(Fault::Run(fault, paths.out)),
+    }
 }
 
 fn points_of(left_out: bool) -> SamplePoints

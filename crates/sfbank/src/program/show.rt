@@ -1,26 +1,18 @@
 //! The command `show`.
-use super::endings::at;
-use crate::show::{show_details_run, show_run};
-use bank_listing::Details;
-use sfbank_program::{Fault, STANDARD_OUTPUT, ShowPaths, read_file};
+use crate::show::show_run;
+use sfbank_program::{Fault, STANDARD_OUTPUT, read_file};
 use std::io::Write;
 use std::rt::Files;
 
 /// Tells on the standard output what a bank has.
 pub(crate) fn show<'a, R: Files + AllocGlobal, O: Write>(
     rt: &'a R,
-    paths: ShowPaths<'a>,
+    input: &'a str,
     output: &mut O,
 ) -> Result<(), Fault<'a>> {
-    let file = read_file(rt, paths.input)?;
-    let details = Details {
-        zones: paths.zones,
-        uses: paths.uses,
-    };
-    let run = if paths.zones || paths.uses {
-        show_details_run(rt.alloc(), file.as_slice(), details, output)
-    } else {
-        show_run(rt.alloc(), file.as_slice(), output)
-    };
-    at(STANDARD_OUTPUT, run)
+    let file = read_file(rt, input)?;
+    match show_run(rt.alloc(), file.as_slice(), output) {
+        Ok(()) => Ok(()),
+        Err(fault) => Err(Fault::Run(fault, STANDARD_OUTPUT)),
+    }
 }
