@@ -1,6 +1,7 @@
 //! WAVE files as samples of a bank.
 ghost use Rattle.std.specs.Prelude.{◌≡◌, ◌≤◌, length, Ok, IfOk};
 ghost use Rattle.edit_script.specs.Printing.{numbered};
+ghost use Rattle.recordings.specs.Imports.{import_edits, sides_of};
 ghost use Rattle.sfbank.specs.Outcome.{after_script};
 ghost use Rattle.sfbank.specs.Plans.{planned};
 ghost use Rattle.sfbank.specs.Recordings.{import_outcome, IsScripted, IsImportUndone};
@@ -11,7 +12,7 @@ use crate::plan::{Plan, apply_all};
 use bank_core::Bank;
 use edit_forms::Edit;
 use edit_script::Line;
-use recordings::{Sides, import_edits, read_recording};
+use recordings::{Recording, Sides, import_edits, read_recording};
 use sf_base::OutOfMemory;
 use sf_reader::read;
 use sfbank_program::RunFault;
@@ -62,10 +63,24 @@ fn import<'a, W: Write, V: Write>(
     let (bank, _counts) = read(alloc, file)?;
     let recording = read_recording(alloc, wave)?;
     let sides = Sides::of(alloc, &recording.channels)?;
-    let samples = bank.samples();
-    let edits = import_edits(alloc, samples.len(), name, recording, &sides)?;
-    let plan = plan_of(alloc, bank, edits)?;
+    let plan = plan_of_recording(alloc, bank, recording, &sides, name)?;
     deliver(&plan, out, undo)
+}
+
+// What comes of the edits that put a recording, whose points are parted, at the end of the bank's samples.
+fn plan_of_recording<'a>(
+    alloc: Global,
+    bank: Bank<'a>,
+    recording: Recording<'a>,
+    sides: &'a Sides,
+    name: &[u8],
+) -> Result<Plan<'a>, RunFault>
+    requires { sides.now ≡ sides_of recording.channels }
+    ensures { Plans planned (after_script bank.entry (Ok (numbered 1 (import_edits (length bank.entry.samples) name.now recording.entry)))) result }
+{
+    let count = bank.samples().len();
+    let edits = import_edits(alloc, count, name, recording, sides)?;
+    plan_of(alloc, bank, edits)
 }
 
 // What comes of edits in a row, as lines from 1 on. Nothing goes out.
