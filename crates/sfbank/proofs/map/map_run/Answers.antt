@@ -9,8 +9,8 @@ returns-in_err-bank g c =
 
 pub returns-then-has_owner : goal.returns-then-has_owner
 returns-then-has_owner g c =
-    record { runs = rw c.missing.ensures (map_missing (Unit {0}) (g.W.Write.contents c.args.out.now) c.args.file.now c.args.owner c.in_ok-bank.bank c.in_ok-bank._counts c.has_owner.result c.in_ok-bank.ensures.ok c.has_owner.ensures c.if-has_owner.false) }
+    record { runs = map_runs _ _ c.args.file.now c.args.owner c.in_ok-bank.bank c.in_ok-bank._counts c.has_owner.result c.deliver_map.result c.in_ok-bank.ensures.ok c.has_owner.ensures c.if-has_owner.true c.deliver_map.ensures }
 
 pub returns : goal.returns
 returns g c =
-    record { runs = map_runs _ _ c.args.file.now c.args.owner c.in_ok-bank.bank c.in_ok-bank._counts c.has_owner.result c.deliver_map.result c.in_ok-bank.ensures.ok c.has_owner.ensures c.if-has_owner.true c.deliver_map.ensures }
+    record { runs = rw c.missing.ensures (map_missing (Unit {0}) (g.W.Write.contents c.args.out.now) c.args.file.now c.args.owner c.in_ok-bank.bank c.in_ok-bank._counts c.has_owner.result c.in_ok-bank.ensures.ok c.has_owner.ensures c.if-has_owner.false) }
