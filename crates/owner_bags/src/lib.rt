@@ -1,0 +1,8 @@
+//! The bags of each preset or instrument of a level, in one list of bags, as in the file.
+#![tactic(auto)]
+
+mod bag_changes;
+mod begins;
+mod owned;
+
+pub use owned::OwnerBags;

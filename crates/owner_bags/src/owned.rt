@@ -1,0 +1,113 @@
+//! The bags of the owners of a level.
+ghost use Rattle.std.specs.Prelude.{◌≡◌, ◌≤◌, ◌<◌, length, slice_get, [], IsSome, IfOk, OnOk, IfSome};
+ghost use Rattle.flat_records.specs.Bags.{Bag, gens_in, mods_in};
+ghost use Rattle.flat_records.specs.Stored.{Uses, no_records};
+ghost use Rattle.owner_bags.specs.Owned.{all_bags, bag_at};
+
+use crate::begins::place;
+use flat_records::Bags;
+use modulators::Modulator;
+use std::alloc::{AllocError, Global};
+use std::marker::Model;
+
+/// A list of owners, presets or instruments, each with a list of bags, over the flat lists of records.
+#[derive(Drop)]
+pub struct OwnerBags {
+    // Where each owner's bags begin, and last how many bags there are.
+    pub(crate) begins: Vec<u16>,
+    pub(crate) bags: Bags,
+}
+
+impl Model for OwnerBags {
+    ghost use Rattle.std.specs.Prelude.{◌-◌, vec_len, vec_capacity};
+    ghost use Rattle.owner_bags.specs.Owned.{owners_in, AreRead};
+    ghost use Rattle.owner_bags.specs.Stored.{Stored};
+
+    ghost Value = { Stored };
+
+    ghost view = { λ r. record {
+      owners = owners_in (record { begins = r.begins.items; bags = r.bags.bags });
+      spare = r.bags.spare;
+      spare_owners = vec_capacity r.begins - vec_len r.begins;
+    } };
+
+    ghost invariant = { λ r. AreRead (record { begins = r.begins.items; bags = r.bags.bags }) };
+}
+
+impl OwnerBags {
+    /// No owners: the terminals alone.
+    pub fn new(alloc: Global) -> Result<OwnerBags, AllocError>
+        ensures { IfOk result (λ r. r.owners ≡ []) }
+    {
+        let bags = Bags::new(alloc)?;
+        let mut begins = Vec::new(alloc);
+        begins.push(0)?;
+        Ok(OwnerBags { begins, bags })
+    }
+
+    /// Makes places for so many owners and records. For want of memory the owners stay, and some places may
+    /// be more.
+    pub fn reserve(
+        &mut self,
+        owners: usize,
+        bags: usize,
+        gens: usize,
+        mods: usize,
+    ) -> Result<(), AllocError>
+        ensures owners { self.new.owners ≡ self.old.owners }
+        ensures kept { Uses self.old.spare self.new.spare no_records }
+        ensures kept_owners { self.old.spare_owners ≤ self.new.spare_owners }
+        ensures room { OnOk result (Uses (record { bags = bags; gens = gens; mods = mods }) self.new.spare no_records) }
+        ensures room_for_owners { OnOk result (owners ≤ self.new.spare_owners) }
+    {
+        self.begins.try_reserve(owners)?;
+        self.bags.reserve(bags, gens, mods)?;
+        Ok(())
+    }
+
+    /// How many owners there are.
+    pub fn owner_count(&self) -> usize
+        ensures { result ≡ length self.now.owners }
+    {
+        self.begins.len() - 1
+    }
+
+    /// How many bags owner `i`, which is there, has.
+    pub fn bag_count(&self, i: usize) -> usize
+        requires { i < length self.now.owners }
+        ensures { IfSome (slice_get self.now.owners i) (λ bags. result ≡ length bags) }
+    {
+        (self.begins[i + 1] - self.begins[i]) as usize
+    }
+
+    /// How many bags, generators and modulators all owners have.
+    pub fn record_counts(&self) -> (usize, usize, usize)
+        ensures bags { result.0 ≡ length (all_bags self.now.owners) }
+        ensures gens { result.1 ≡ length (gens_in (all_bags self.now.owners)) }
+        ensures mods { result.2 ≡ length (mods_in (all_bags self.now.owners)) }
+    {
+        (
+            self.bags.bag_count(),
+            self.bags.gen_count(),
+            self.bags.mod_count(),
+        )
+    }
+
+    /// The generators of bag `k` of owner `i`, both of which are there: operators with their amounts.
+    pub fn gens(&self, i: usize, k: usize) -> &[(u16, u16)]
+        requires { IsSome (bag_at self.now.owners i k) }
+        ensures { IfSome (bag_at self.now.owners i k) (λ (b : Bag). result.now ≡ b.gens) }
+    {
+        let at = place(&self.begins, i, k);
+        self.bags.gens(at)
+    }
+
+    /// The modulators of bag `k` of owner `i`, both of which are there.
+    pub fn mods(&self, i: usize, k: usize) -> &[Modulator]
+        requires { IsSome (bag_at self.now.owners i k) }
+        ensures { IfSome (bag_at self.now.owners i k) (λ (b : Bag). result.now ≡ b.mods) }
+    {
+        let at = place(&self.begins, i, k);
+        self.bags.mods(at)
+    }
+}
