@@ -1,2 +1,4 @@
 pub mod Owners
 pub mod Places
+pub mod Turns
+pub mod Comings

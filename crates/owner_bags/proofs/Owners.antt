@@ -45,13 +45,13 @@ begins_size t owners e = ap (λ (t : Flat). length t.begins) e ∙ (length-start
 
 -- ---- one owner among the others
 
-record Among (owners : List (List Bag)) (i : ℕ) (xs : List Bag) : Type 0 where
+pub record Among (owners : List (List Bag)) (i : ℕ) (xs : List Bag) : Type 0 where
   pub front : List (List Bag)
   pub back : List (List Bag)
   pub whole : owners ≡ front ++ xs ∷ back
   pub before : length front ≡ i
 
-among : (owners : List (List Bag)) (i : ℕ) (xs : List Bag) → slice_get owners i ≡ Some xs → Among owners i xs
+pub among : (owners : List (List Bag)) (i : ℕ) (xs : List Bag) → slice_get owners i ≡ Some xs → Among owners i xs
 among [] i xs e = cc
 among (ys ∷ os) zero xs e = record { front = []; back = os; whole = cc; before = refl }
 among (ys ∷ os) (suc i) xs e =

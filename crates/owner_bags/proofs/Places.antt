@@ -14,33 +14,33 @@ use Rattle.owner_bags.proofs.Owners.{Begin, begin, owners-end, bags_kept, bags_p
 
 -- ---- a part in the middle of a list
 
-get-right : (ws ys : List Bag) (k : ℕ) → slice_get (ws ++ ys) (length ws + k) ≡ slice_get ys k
+get-right : {X : Type 0} (ws ys : List X) (k : ℕ) → slice_get (ws ++ ys) (length ws + k) ≡ slice_get ys k
 get-right [] ys k = ap (slice_get ys) (zero-add k)
 get-right (a ∷ ws) ys k = ap (slice_get (a ∷ (ws ++ ys))) (suc-add (length ws) k) ∙ get-right ws ys k
 
-get-left : (xs ys : List Bag) (k : ℕ) (x : Bag) → slice_get xs k ≡ Some x → slice_get (xs ++ ys) k ≡ Some x
+get-left : {X : Type 0} (xs ys : List X) (k : ℕ) (x : X) → slice_get xs k ≡ Some x → slice_get (xs ++ ys) k ≡ Some x
 get-left [] ys k x e = cc
 get-left (z ∷ zs) ys zero x e = e
 get-left (z ∷ zs) ys (suc k) x e = get-left zs ys k x e
 
-module _ (ws xs bs : List Bag) (at k : ℕ) (e : at ≡ length ws) where
-  get_in : (x : Bag) → slice_get xs k ≡ Some x → slice_get (ws ++ (xs ++ bs)) (at + k) ≡ Some x
+module _ {X : Type 0} (ws xs bs : List X) (at k : ℕ) (e : at ≡ length ws) where
+  pub get_in : (x : X) → slice_get xs k ≡ Some x → slice_get (ws ++ (xs ++ bs)) (at + k) ≡ Some x
   get_in x f = ap (λ n. slice_get (ws ++ (xs ++ bs)) (n + k)) e ∙ (get-right ws (xs ++ bs) k ∙ get-left xs bs k x f)
 
   back : (at + k) - length ws ≡ k
   back = omega arith
 
-  set_in : (x : Bag) → k < length xs → set (ws ++ (xs ++ bs)) (at + k) x ≡ ws ++ (set xs k x ++ bs)
+  pub set_in : (x : X) → k < length xs → set (ws ++ (xs ++ bs)) (at + k) x ≡ ws ++ (set xs k x ++ bs)
   set_in x h =
       set-append_right ws (xs ++ bs) (length ws) (at + k) x refl (omega arith)
       ∙ (ap (λ n. ws ++ set (xs ++ bs) n x) back ∙ ap (λ zs. ws ++ zs) (set-append_left xs bs k x h))
 
-  insert_in : (x : Bag) → k ≤ length xs → insert (ws ++ (xs ++ bs)) (at + k) x ≡ ws ++ (insert xs k x ++ bs)
+  pub insert_in : (x : X) → k ≤ length xs → insert (ws ++ (xs ++ bs)) (at + k) x ≡ ws ++ (insert xs k x ++ bs)
   insert_in x h =
       insert-append_right ws (xs ++ bs) (length ws) (at + k) x refl (omega arith)
       ∙ (ap (λ n. ws ++ insert (xs ++ bs) n x) back ∙ ap (λ zs. ws ++ zs) (insert-append_left xs bs k x h))
 
-  remove_in : k < length xs → remove (ws ++ (xs ++ bs)) (at + k) ≡ ws ++ (remove xs k ++ bs)
+  pub remove_in : k < length xs → remove (ws ++ (xs ++ bs)) (at + k) ≡ ws ++ (remove xs k ++ bs)
   remove_in h =
       remove-append_right ws (xs ++ bs) (length ws) (at + k) refl (omega arith)
       ∙ (ap (λ n. ws ++ remove (xs ++ bs) n) back ∙ ap (λ zs. ws ++ zs) (remove-append_left xs bs k h))
@@ -141,7 +141,7 @@ pub record Gap (t : Flat) (owners : List (List Bag)) (i k : ℕ) : Type 0 where
   pub more : i + 1 < length t.begins
   pub inside : get_or t.begins i 0 + k ≤ length t.bags
 
-found_list : (P : List Bag → Type 0) (o : Option (List Bag)) → IsSomeAnd o P → (xs : List Bag) × (o ≡ Some xs) × P xs
+pub found_list : (P : List Bag → Type 0) (o : Option (List Bag)) → IsSomeAnd o P → (xs : List Bag) × (o ≡ Some xs) × P xs
 found_list P None h = absurd h
 found_list P (Some xs) h = (xs, refl, h)
 

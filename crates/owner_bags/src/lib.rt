@@ -4,5 +4,6 @@
 mod bag_changes;
 mod begins;
 mod owned;
+mod owner_changes;
 
 pub use owned::OwnerBags;
