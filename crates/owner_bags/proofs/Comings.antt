@@ -1,5 +1,5 @@
 -- Owners that come without bags and go without bags, and bags that go from the last on.
-use Rattle.std.proofs.Common.{◌≡◌, ℕ, ◌<◌, ◌≤◌, ◌-◌, suc, zero, List, [], ◌∷◌, ◌++◌, length, insert, remove, slice_get, set, Some, true, is_some, refl, sym, subst, ◌∙◌, ap, take, drop, get_or, add-zero, length-take, arith}
+use Rattle.std.proofs.Common.{◌≡◌, ℕ, ◌<◌, ◌≤◌, suc, zero, List, [], ◌∷◌, ◌++◌, length, insert, remove, slice_get, set, Some, is_some, refl, sym, subst, ◌∙◌, ap, take, drop, get_or, add-zero, length-take, arith}
 use Rattle.std.specs.Option.{IfSome, IsSomeAnd, IsSome, option_and_then}
 use Rattle.std.proofs.lemmas.List.{take-append-drop, length-take-le}
 use Rattle.std.proofs.lemmas.List.Edits.{length-remove}
@@ -11,7 +11,7 @@ use Rattle.flat_records.specs.Runs.{starts}
 use Rattle.flat_records.specs.Bags.{Bag}
 use Rattle.flat_records.proofs.Starts.{starts-put, starts-cut}
 use Rattle.owner_bags.specs.Owned.{Flat, past_owner, all_bags, flat_of, bag_at}
-use Rattle.owner_bags.proofs.Owners.{Among, among}
+use Rattle.owner_bags.proofs.Owners.{among}
 use Rattle.owner_bags.proofs.Places.{found_list}
 
 none-among : (front back : List (List Bag)) → all_bags (front ++ [] ∷ back) ≡ all_bags (front ++ back)

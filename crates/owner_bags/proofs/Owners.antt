@@ -1,6 +1,5 @@
 -- The flat lists of owners, read back and changed.
-use Rattle.std.proofs.Common.{◌≡◌, ℕ, ◌<◌, ◌≤◌, ◌+◌, ◌-◌, suc, zero, List, [], ◌∷◌, ◌++◌, length, slice_get, set, Some, refl, sym, ◌∙◌, ap, take, drop, get_or, append-nil, append_assoc, length-append, zero-add, suc-add, arith}
-use Rattle.std.specs.List.{flat_map}
+use Rattle.std.proofs.Common.{◌≡◌, ℕ, ◌<◌, ◌+◌, ◌-◌, suc, zero, List, [], ◌∷◌, ◌++◌, length, slice_get, set, Some, refl, sym, ◌∙◌, ap, get_or, append-nil, append_assoc, length-append, zero-add, arith}
 use Rattle.std.proofs.lemmas.List.{take_at, drop_at, set_at}
 use Rattle.std.proofs.lemmas.List.Concat.{flat_map-append}
 use Rattle.flat_records.specs.Runs.{starts, changed_from}

@@ -10,7 +10,7 @@ use Rattle.flat_records.specs.Runs.{starts, changed_from}
 use Rattle.flat_records.specs.Bags.{Bag}
 use Rattle.flat_records.proofs.Starts.{end, drop-past, All-starts, All-starts_back}
 use Rattle.owner_bags.specs.Owned.{Flat, past_owner, all_bags, flat_of, bag_at, bag_changed}
-use Rattle.owner_bags.proofs.Owners.{Begin, begin, owners-end, bags_kept, bags_put, bags_cut}
+use Rattle.owner_bags.proofs.Owners.{begin, owners-end, bags_kept, bags_put, bags_cut}
 
 -- ---- a part in the middle of a list
 

@@ -8,9 +8,9 @@ use Rattle.numbered_lists.proofs.Lists.{slice_get-found, moved-found, length-mov
 use Rattle.flat_records.specs.Runs.{starts, exchanged, changed_exchanged, AreWindows}
 use Rattle.flat_records.specs.Bags.{Bag}
 use Rattle.flat_records.proofs.Starts.{begins, end, at-starts, end-append, length-begins, length-starts, starts-parts, starts-exchanged, All-begins, All-begins_back}
-use Rattle.flat_records.proofs.Exchanges.{Quarters, quarters, Parts, parts, exchanged-parts}
+use Rattle.flat_records.proofs.Exchanges.{quarters, Parts, parts, exchanged-parts}
 use Rattle.owner_bags.specs.Owned.{Flat, past_owner, all_bags, flat_of}
-use Rattle.owner_bags.proofs.Owners.{Begin, begin, owners-end, bags_kept}
+use Rattle.owner_bags.proofs.Owners.{begin, owners-end, bags_kept}
 use Rattle.owner_bags.proofs.Places.{get_in, remove_in, insert_in, found_list}
 
 -- ---- a move is an exchange of neighbouring parts

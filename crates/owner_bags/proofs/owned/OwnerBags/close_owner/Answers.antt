@@ -1,4 +1,4 @@
-use Rattle.std.proofs.Common.{◌≡◌, remove, [], ◌∙◌, ap, arith}
+use Rattle.std.proofs.Common.{remove, [], ◌∙◌, ap, arith}
 use Rattle.numbered_lists.proofs.Lists.{slice_get-within}
 use Rattle.owner_bags.specs.Owned.{Flat}
 use Rattle.owner_bags.specs.Stored.{Stored}

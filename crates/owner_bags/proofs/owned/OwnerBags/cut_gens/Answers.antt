@@ -1,6 +1,6 @@
-use Rattle.std.proofs.Common.{◌≡◌, ◌≤◌, ◌<◌, ◌+◌, ◌∷◌, [], length, set, get_or, insert, remove, subst, sym, ◌∙◌, ap, arith}
-use Rattle.flat_records.specs.Runs.{put, cut}
-use Rattle.flat_records.specs.Bags.{Bag, with_gens, with_mods}
+use Rattle.std.proofs.Common.{◌≤◌, ◌+◌, length, get_or, subst, sym, ◌∙◌, ap, arith}
+use Rattle.flat_records.specs.Runs.{cut}
+use Rattle.flat_records.specs.Bags.{Bag, with_gens}
 use Rattle.owner_bags.specs.Owned.{Flat, bag_changed}
 use Rattle.owner_bags.specs.Stored.{Stored}
 use Rattle.owner_bags.proofs.Owners.{read, are_read, held}

@@ -1,4 +1,4 @@
-use Rattle.std.proofs.Common.{◌-◌, length, arith}
+use Rattle.std.proofs.Common.{◌-◌, arith}
 use Rattle.owner_bags.proofs.Comings.{cut_last}
 use Rattle.owner_bags.proofs.owned.OwnerBags.cut_owner.Goals as goal
 

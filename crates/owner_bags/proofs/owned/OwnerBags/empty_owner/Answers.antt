@@ -1,5 +1,4 @@
-use Rattle.std.proofs.Common.{◌≡◌, ◌-◌, suc, [], set, take, ◌∙◌, ap, arith}
-use Rattle.numbered_lists.specs.Moved.{changed}
+use Rattle.std.proofs.Common.{◌-◌, arith}
 use Rattle.owner_bags.proofs.Comings.{all_left, one_fewer, last_left, none_left}
 use Rattle.owner_bags.proofs.owned.OwnerBags.empty_owner.Goals as goal
 

@@ -1,4 +1,4 @@
-use Rattle.std.proofs.Common.{◌≡◌, ◌<◌, ◌≤◌, ◌+◌, length, get_or, sym, subst, ◌∙◌, ap, arith}
+use Rattle.std.proofs.Common.{◌<◌, ◌≤◌, ◌+◌, length, get_or, sym, subst, ◌∙◌, ap, arith}
 use Rattle.numbered_lists.specs.Moved.{moved, changed}
 use Rattle.owner_bags.specs.Owned.{Flat}
 use Rattle.owner_bags.specs.Stored.{Stored}

@@ -1,4 +1,4 @@
-use Rattle.std.proofs.Common.{◌≡◌, insert, [], ◌∙◌, ap, arith}
+use Rattle.std.proofs.Common.{insert, [], ◌∙◌, ap, arith}
 use Rattle.std.proofs.lemmas.List.{get_or_default}
 use Rattle.owner_bags.specs.Owned.{Flat}
 use Rattle.owner_bags.specs.Stored.{Stored}

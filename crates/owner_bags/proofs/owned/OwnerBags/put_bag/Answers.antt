@@ -1,6 +1,5 @@
-use Rattle.std.proofs.Common.{◌≡◌, ◌≤◌, ◌+◌, List, length, insert, get_or, subst, sym, ◌∙◌, ap, arith}
+use Rattle.std.proofs.Common.{◌≤◌, ◌+◌, length, insert, get_or, subst, sym, ◌∙◌, ap, arith}
 use Rattle.numbered_lists.specs.Moved.{changed}
-use Rattle.flat_records.specs.Bags.{Bag}
 use Rattle.owner_bags.specs.Owned.{Flat}
 use Rattle.owner_bags.specs.Stored.{Stored}
 use Rattle.owner_bags.proofs.Owners.{read, are_read, held}
