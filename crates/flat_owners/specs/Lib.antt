@@ -1,0 +1,2 @@
+pub mod Bagged
+pub mod Flat

@@ -1,0 +1,110 @@
+//! Presets or instruments, over flat lists.
+ghost use Rattle.std.specs.Prelude.{◌≡◌, ◌<◌, ◌+◌, length, slice_get, [], Some, IfOk, IfSome};
+ghost use Rattle.numbered_lists.specs.Moved.{moved, changed};
+ghost use Rattle.bank_parts.specs.declared.parts.WithZones.{WithZones};
+ghost use Rattle.bank_parts.specs.Owners.{head_at, with_head, zone_count_at};
+ghost use Rattle.flat_owners.specs.Bagged.{global_bags};
+
+use crate::reading::ends_in;
+use bank_parts::OwnerHead;
+use numbered_lists::NumberedList;
+use owner_bags::OwnerBags;
+use sf_base::OutOfMemory;
+use std::alloc::Global;
+use std::marker::Model;
+
+/// The presets of a bank, or its instruments, in order, over flat lists of records.
+#[derive(Drop)]
+pub struct FlatOwners<H: OwnerHead> {
+    pub(crate) heads: NumberedList<H>,
+    pub(crate) bags: OwnerBags,
+}
+
+impl<H: OwnerHead> Model for FlatOwners<H> {
+    ghost use Rattle.std.specs.Prelude.{List};
+    ghost use Rattle.std.specs.Coded.{codes};
+    ghost use Rattle.generators.specs.Levels.{target_operator};
+    ghost use Rattle.generators.specs.contracts.gen_map.GenMap as gens;
+    ghost use Rattle.bank_parts.specs.declared.parts.WithZones.{WithZones};
+    ghost use Rattle.flat_owners.specs.Flat.{owners_in, AreRead};
+
+    ghost Value = { List (WithZones H) };
+
+    ghost coded = { Prim.hlevel (codes, gens.the_row.coded) };
+
+    ghost view = { λ l. owners_in (target_operator H.LEVEL) l.heads l.bags.owners };
+
+    ghost invariant = { λ l. AreRead (target_operator H.LEVEL) l.heads l.bags.owners };
+}
+
+impl<H: OwnerHead> FlatOwners<H> {
+    /// None, with room for so many.
+    pub fn with_capacity(alloc: Global, count: usize) -> Result<FlatOwners<H>, OutOfMemory>
+        ensures { IfOk result (λ owners. owners ≡ []) }
+    {
+        let heads = NumberedList::from_vec(Vec::with_capacity(alloc, count)?);
+        let mut bags = OwnerBags::new(alloc)?;
+        bags.reserve(count, 0, 0, 0)?;
+        Ok(FlatOwners { heads, bags })
+    }
+
+    /// How many there are.
+    pub fn len(&self) -> usize
+        ensures { result ≡ length self.now }
+    {
+        self.heads.len()
+    }
+
+    /// What number `i`, which is there, has besides its zones.
+    pub fn head(&self, i: usize) -> &H
+        requires { i < length self.now }
+        ensures { head_at self.now i ≡ Some result.now }
+    {
+        self.heads.member(i)
+    }
+
+    /// Gives number `i`, which is there, another head, and gives back the one that it had. Takes no
+    /// memory.
+    pub fn replace_head(&mut self, i: usize, head: H) -> H
+        requires { i < length self.old }
+        ensures value { head_at self.old i ≡ Some result }
+        ensures change { self.new ≡ changed self.old i (with_head head) }
+    {
+        self.heads.replace(i, head)
+    }
+
+    /// Makes number `from` number `to`; the others keep their order. Takes no memory.
+    pub fn move_member(&mut self, from: usize, to: usize)
+        requires from { from < length self.old }
+        requires to { to < length self.old }
+        ensures { self.new ≡ moved self.old from to }
+    {
+        self.heads.move_member(from, to);
+        self.bags.move_owner(from, to);
+    }
+
+    /// How many zones number `i`, which is there, has, the global zone not counted.
+    pub fn zone_count(&self, i: usize) -> usize
+        requires { i < length self.now }
+        ensures { zone_count_at self.now i ≡ Some result }
+    {
+        let count = self.bags.bag_count(i);
+        count - self.global_count(i)
+    }
+
+    // How many bags its global zone has: one, or none where it is empty.
+    pub(crate) fn global_count(&self, i: usize) -> usize
+        requires { i < length self.now }
+        ensures { IfSome (slice_get self.now i) (λ (x : WithZones H). result ≡ length (global_bags x.global)) }
+    {
+        let count = self.bags.bag_count(i);
+        if count == 0 {
+            return 0;
+        }
+        let first = self.bags.gens(i, 0);
+        if ends_in(H::LEVEL.target_operator(), first) {
+            return 0;
+        }
+        1
+    }
+}
