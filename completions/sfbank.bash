@@ -6,20 +6,26 @@ _sfbank_options() {
     apply) echo --neutral --help ;;
     new) echo --minor --help ;;
     script) echo --no-points --help ;;
-    canon | diff | play | show) echo --help ;;
+    show) echo --zones --uses --help ;;
+    canon | diff | explain | import | live | map | play | wave) echo --help ;;
     '') echo --help --version ;;
   esac
 }
 
-# The endings of the files that a command takes, in their order.
+# The endings of the files that a command takes, in their order; - is a word that is no file, preset/inst one of these.
 _sfbank_endings() {
   case $1 in
     apply) echo sf2 txt sf2 txt ;;
     canon) echo sf2 sf2 ;;
     diff) echo sf2 sf2 txt ;;
+    explain) echo - ;;
+    import) echo sf2 wav sf2 txt ;;
+    live) echo sf2 pcm ;;
+    map) echo sf2 preset/inst - svg ;;
     new | show) echo sf2 ;;
     play) echo sf2 txt wav ;;
     script) echo sf2 txt ;;
+    wave) echo sf2 - wav ;;
   esac
 }
 
@@ -38,9 +44,15 @@ _sfbank_given() {
   done
 }
 
-# Completes a folder or a file with an ending, or where there is none any file.
+# Completes a folder or a file with an ending, or where there is none any file; or what else is due.
 _sfbank_files() {
   local ending=$1 word=$2
+  if [[ $ending == - ]]; then
+    return
+  elif [[ $ending == */* ]]; then
+    mapfile -t COMPREPLY < <(compgen -W "${ending//\// }" -- "$word")
+    return
+  fi
   compopt -o filenames -o default 2> /dev/null
   mapfile -t COMPREPLY < <(
     compgen -f -X "!*.$ending" -- "$word"
@@ -51,7 +63,7 @@ _sfbank_files() {
 
 _sfbank() {
   local word=${COMP_WORDS[COMP_CWORD]} before=${COMP_WORDS[COMP_CWORD - 1]}
-  local commands="apply canon diff help new play script show" given endings
+  local commands="apply canon diff explain help import live map new play script show wave" given endings
   COMPREPLY=()
   mapfile -t given < <(_sfbank_given)
   read -ra endings < <(_sfbank_endings "${given[0]}")

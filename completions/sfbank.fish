@@ -25,7 +25,7 @@ function __sfbank_is_bare
     test -z "$(__sfbank_given)"
 end
 
-# The files at the cursor, those with the ending that is due there first.
+# The files at the cursor, those with the ending that is due there first, or what else is due.
 function __sfbank_files
     set -l given (__sfbank_given)
     set -l endings
@@ -36,28 +36,50 @@ function __sfbank_files
             set endings sf2 sf2
         case diff
             set endings sf2 sf2 txt
+        case explain
+            set endings -
+        case import
+            set endings sf2 wav sf2 txt
+        case live
+            set endings sf2 pcm
+        case map
+            set endings sf2 preset/inst - svg
         case new show
             set endings sf2
         case play
             set endings sf2 txt wav
         case script
             set endings sf2 txt
+        case wave
+            set endings sf2 - wav
     end
     set -l place (count $given)
-    set -q endings[$place]; and __fish_complete_suffix .$endings[$place]
+    set -q endings[$place]; or return
+    switch $endings[$place]
+        case -
+        case '*/*'
+            string split / $endings[$place]
+        case '*'
+            __fish_complete_suffix .$endings[$place]
+    end
 end
 
-set -l commands apply canon diff new play script show
+set -l commands apply canon diff explain import live map new play script show wave
 
 complete -c sfbank -f
 complete -c sfbank -n __sfbank_is_bare -a apply -d 'Run a script of edits on a bank, and write the one that takes them back'
 complete -c sfbank -n __sfbank_is_bare -a canon -d 'Write a bank in its one spelling'
 complete -c sfbank -n __sfbank_is_bare -a diff -d 'Write a script that makes one bank of another'
+complete -c sfbank -n __sfbank_is_bare -a explain -d 'Tell what a fault or a refusal means, and what to do about it'
 complete -c sfbank -n __sfbank_is_bare -a help -d 'Print the help of the program or of a command'
+complete -c sfbank -n __sfbank_is_bare -a import -d 'Add a recording to a bank as its last sample, or as two'
+complete -c sfbank -n __sfbank_is_bare -a live -d 'Edit and play a bank live, by the lines of the standard input'
+complete -c sfbank -n __sfbank_is_bare -a map -d 'Draw the ranges of a preset or an instrument as an SVG picture'
 complete -c sfbank -n __sfbank_is_bare -a new -d 'Write an empty bank'
 complete -c sfbank -n __sfbank_is_bare -a play -d 'Play notes on a bank, and write the sound as a WAVE file'
 complete -c sfbank -n __sfbank_is_bare -a script -d 'Write the script that makes a bank of the empty one'
 complete -c sfbank -n __sfbank_is_bare -a show -d 'Tell what a bank has, and what was dropped or mended as it was read'
+complete -c sfbank -n __sfbank_is_bare -a wave -d 'Write a sample of a bank as a WAVE file'
 complete -c sfbank -n 'test "$(__sfbank_given)" = help' -a "$commands"
 complete -c sfbank -n "__sfbank_is $commands" -k -a '(__sfbank_files)'
 
@@ -66,3 +88,5 @@ complete -c sfbank -n __sfbank_is_bare -s V -l version -d 'Print version'
 complete -c sfbank -n '__sfbank_is apply' -l neutral -d 'Refuse an edit that may change the sound of notes'
 complete -c sfbank -n '__sfbank_is new' -l minor -x -d 'The minor version, 4 by default'
 complete -c sfbank -n '__sfbank_is script' -l no-points -d 'Leave the points of the samples out'
+complete -c sfbank -n '__sfbank_is show' -l zones -d 'Tell the zones of each preset and instrument too'
+complete -c sfbank -n '__sfbank_is show' -l uses -d 'Tell how many zones use each instrument and sample too'

@@ -1,4 +1,4 @@
-# The tables of files, scripts and lists of notes beside this file, row by row; and that they meet each fault,
+# The tables of files, scripts, lists of notes and recordings beside this file, row by row; and that they meet each fault,
 # each refusal and each count that there is.
 package Rows;
 use strict;
@@ -168,6 +168,21 @@ sub try_long_line {
     tell($name, ends_by(apply_text('tone', $script, 'out', 'undo'), ": $line\n"));
 }
 
+# Imports of the WAVE file of a sample, with changes.
+sub try_recording {
+    my ($changes, $answer) = @_;
+    write_bytes('in.wav', changed(read_bytes('tone.wav'), $changes));
+    my $run = run_command(['import', 'tone', 'in.wav', 'out', 'undo'], 'out', 'undo');
+    tell("a recording with $changes", $answer eq 'done' ? is_done($run) // undone('tone') : ends_by($run, "wave fault $answer\n"));
+}
+
+sub try_recordings {
+    my ($here) = @_;
+    my $wrong = is_done(run_command(['wave', 'tone', '0', 'tone.wav'], 'tone.wav'));
+    return tell('the WAVE file of a sample', $wrong) if defined $wrong;
+    try_recording(@$_) for rows_of("$here/recordings");
+}
+
 # That each fault, refusal and count was met.
 sub try_met {
     for (sort(keys %Runs::FAULTS, grep { /^\d+$/ } keys %Runs::REFUSALS), qw(texts sm24 zones gens ranges loops links)) {
@@ -184,6 +199,7 @@ sub try_rows {
     try_long();
     try_groups($here) if knows_groups();
     try_neutral($here);
+    try_recordings($here);
     try_met();
 }
 

@@ -13,6 +13,8 @@ our %FAULTS = (
     7 => 'RecordSize', 8 => 'NoTerminal', 9 => 'BagOrder', 10 => 'IndexOutside', 11 => 'BadInstrument',
     12 => 'BadSample', 14 => 'SampleRange', 15 => 'SampleType', 16 => 'RomSample', 17 => 'OddSamples', 18 => 'TooMany',
     41 => 'Syntax', 42 => 'Number', 43 => 'Literal', 45 => 'BadNote', 46 => 'TooManyNotes', 47 => 'TooLong',
+    53 => 'NotWave', 54 => 'Truncated', 55 => 'Compressed', 56 => 'NoFormat', 57 => 'SampleBits', 58 => 'ChannelCount',
+    59 => 'NoData', 60 => 'HalfFrame', 61 => 'ShortSampler', 62 => 'UnityNote', 63 => 'LoopOutside',
 );
 our %REFUSALS = (
     20 => 'NoSuchPreset', 21 => 'NoSuchInstrument', 22 => 'NoSuchSample', 23 => 'NoSuchZone', 24 => 'NoSuchModulator',
@@ -68,8 +70,10 @@ sub status_of {
     my ($line) = @_;
     return 0 if $line eq '';
     return $FAULTS{$1} && $FAULTS{$1} eq $2 && $1 <= 18 ? 2 : undef if $line =~ /^sfbank: read fault (\d+) (\w+)\n\z/;
-    return $FAULTS{$1} && $FAULTS{$1} eq $2 && $1 >= 41 ? 3 : undef if $line =~ /^sfbank: line [1-9]\d*: fault (\d+) (\w+)\n\z/;
+    return $FAULTS{$1} && $FAULTS{$1} eq $2 && $1 >= 41 && $1 <= 47 ? 3 : undef if $line =~ /^sfbank: line [1-9]\d*: fault (\d+) (\w+)\n\z/;
+    return $FAULTS{$1} && $FAULTS{$1} eq $2 && $1 >= 53 ? 2 : undef if $line =~ /^sfbank: wave fault (\d+) (\w+)\n\z/;
     return 4 if $line =~ /^sfbank: line [1-9]\d*: refused 50 NotNeutral\n\z/;
+    return is_cause($1) ? 4 : undef if $line =~ /^sfbank: refused (\d+ NoSuch\w+)\n\z/;
     return is_cause($1) ? 4 : undef if $line =~ /^sfbank: line [1-9]\d*: refused (?:48 GroupRefused \d+ )?(.*)\n\z/;
     return 5 if $line =~ /^sfbank: (?:file fault [^\n]*|write fault [^\n]* after \d+ bytes)\n\z/;
     return;

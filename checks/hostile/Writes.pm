@@ -18,6 +18,11 @@ my @runs = (
     [['canon', 'tone', 'out'], 'out'],
     [['play', 'tone', 'note', 'out'], 'out'],
     [['show', 'wide'], '-'],
+    [['show', '--zones', '--uses', 'wide'], '-'],
+    [['explain', '37'], '-'],
+    [['map', 'tone', 'inst', '0', 'out'], 'out'],
+    [['wave', 'tone', '0', 'out'], 'out'],
+    [['import', 'saw', 'take', 'out', 'undo'], 'out', 'undo'],
 );
 
 # How writes go wrong: by an error or by taking nothing, and the most bytes that each call takes before, if any.
@@ -27,6 +32,8 @@ sub make_inputs {
     write_bytes('rename', "rename-sample 0 \"ABCDEFGHIJKLMNOPQRST\"\n");
     write_bytes('remove', "remove-inst 1\n");
     write_bytes('note', "0 8 0 0 67 127\n");
+    my $wave = run(['wave', 'tone', '0', 'take']);
+    tell('a recording', $wave->{status} ? $wave->{line} : undef);
     my $points = '0123456789abcdef' x 5_000;
     my $run = apply_text('layered', "extend 0 x$points x", 'long', 'undo');
     tell('a longer bank', $run->{wrong});

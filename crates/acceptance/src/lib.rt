@@ -5,7 +5,10 @@
 #[cfg(test)]
 mod banks;
 #[cfg(test)]
+mod details;
 mod lists;
+#[cfg(test)]
+mod long_work;
 #[cfg(test)]
 mod program;
 #[cfg(test)]

@@ -1,7 +1,7 @@
 //! The program: its words, its files, the lines of its faults, and its statuses.
 
 use sf_base::{Failure, front_of};
-use sfbank::{RunFault, run};
+use sfbank::{RunFault, Unheard, run};
 use sfbank_program::{InputFault, fault_text, read_whole};
 use std::alloc::AllocError;
 use std::io::{ErrorKind, Read, Write};
@@ -18,7 +18,14 @@ sample 0 \"saw\" 44100 60 0 mono noloop 2
 fn run_on<O: Write, E: Write>(rt: &HostRuntime, words: &str, output: &mut O, errors: &mut E) -> u8 {
     let words: Result<Vec<&str>, AllocError> = words.split_ascii_whitespace().collect(rt.alloc());
     match words {
-        Ok(words) => run(rt, words.as_slice(), output, errors),
+        Ok(words) => run(
+            rt,
+            words.as_slice(),
+            &mut b"".as_slice(),
+            output,
+            errors,
+            &mut Unheard,
+        ),
         Err(AllocError) => 255,
     }
 }
@@ -91,17 +98,41 @@ fn outputs_are_written(rt: HostRuntime) -> Result<(), Fail> {
     Ok(())
 }
 
+#[test]
+fn samples_go_out_and_in(rt: HostRuntime) -> Result<(), Fail> {
+    let one = saw();
+    put_files(&rt, "take", &[("take/in", one.bytes())])?;
+    assert!(rt; ends(&rt, "sfbank wave take/in 0 take/a.wav", 0, ""));
+    let line = "sfbank import take/in take/a.wav take/out take/undo";
+    assert!(rt; ends(&rt, line, 0, "") && holds(&rt, "take/undo", b"remove-sample 1\n"));
+    let line = "sfbank apply take/out take/undo take/back take/again";
+    assert!(rt; ends(&rt, line, 0, "") && holds(&rt, "take/back", one.bytes()));
+    let line = "sfbank: refused 22 NoSuchSample\n";
+    assert!(rt; ends(&rt, "sfbank wave take/in 1 take/b.wav", 4, line));
+    let line = "sfbank: wave fault 53 NotWave\n";
+    assert!(rt;
+        ends(
+            &rt,
+            "sfbank import take/in take/in take/out take/undo",
+            2,
+            line
+        )
+    );
+    fs::remove_dir_all(&rt, "take")?;
+    Ok(())
+}
+
 /// Runs that are refused, each with its status and the line of errors.
 const REFUSED: &str = "\
 sfbank canon no/cut no/out -> 2 sfbank: read fault 3 Truncated
 sfbank show no/cut -> 2 sfbank: read fault 3 Truncated
-sfbank canon no/none no/out -> 5 sfbank: file fault no/none
-sfbank show no/none -> 5 sfbank: file fault no/none
+sfbank canon no/none no/out -> 5 sfbank: file fault no/none: No such file or directory
+sfbank show no/none -> 5 sfbank: file fault no/none: No such file or directory
 sfbank canon no/in no/no/out -> 5 sfbank: write fault no/no/out after 0 bytes
 sfbank canon no/in /dev/full -> 5 sfbank: write fault /dev/full after 0 bytes
-sfbank apply no/none no no/out no/undo -> 5 sfbank: file fault no/none
-sfbank apply no/in no no/out no/undo -> 5 sfbank: file fault no
-sfbank apply no/in no/none no/out no/undo -> 5 sfbank: file fault no/none
+sfbank apply no/none no no/out no/undo -> 5 sfbank: file fault no/none: No such file or directory
+sfbank apply no/in no no/out no/undo -> 5 sfbank: file fault no: Is a directory
+sfbank apply no/in no/none no/out no/undo -> 5 sfbank: file fault no/none: No such file or directory
 sfbank apply no/cut no/frob no/out no/undo -> 2 sfbank: read fault 3 Truncated
 sfbank apply no/in no/frob no/out no/undo -> 3 sfbank: line 2: fault 41 Syntax
 sfbank apply no/in no/other no/out no/undo -> 4 sfbank: line 1: refused 22 NoSuchSample
@@ -112,7 +143,7 @@ sfbank apply --neutral no/in no/other no/out no/undo -> 4 sfbank: line 1: refuse
 sfbank apply no/in no/loud no/out no/undo -> 4 sfbank: line 1: refused 22 NoSuchSample
 sfbank play no/cut no/frob no/out -> 2 sfbank: read fault 3 Truncated
 sfbank play no/in no/frob no/out -> 3 sfbank: line 2: fault 45 BadNote
-sfbank play no/in no/none no/out -> 5 sfbank: file fault no/none
+sfbank play no/in no/none no/out -> 5 sfbank: file fault no/none: No such file or directory
 sfbank play no/in no/notes no/no/out -> 5 sfbank: write fault no/no/out after 0 bytes
 sfbank apply no/in no/rename no/no/out no/undo -> 5 sfbank: write fault no/no/out after 0 bytes
 sfbank apply no/in no/rename /dev/full no/undo -> 5 sfbank: write fault /dev/full after 0 bytes
@@ -181,6 +212,7 @@ fn tells(rt: &HostRuntime, words: &str, text: &[u8]) -> bool {
 fn what_goes_to_the_output(rt: HostRuntime) -> Result<(), Fail> {
     put_files(&rt, "show", &[("show/in", saw().bytes())])?;
     assert!(rt; tells(&rt, "sfbank show show/in", LISTING));
+    assert!(rt; tells(&rt, "sfbank show --zones show/in", LISTING));
     fs::remove_dir_all(&rt, "show")?;
     assert!(rt; tells(&rt, "sfbank --version", b"sfbank 0.1.0\n"));
     assert!(rt; tells(&rt, "sfbank --help", b"Edits SoundFont 2 banks by scripts"));
@@ -201,6 +233,7 @@ fn what_goes_to_the_output(rt: HostRuntime) -> Result<(), Fail> {
     );
     assert!(rt; tells(&rt, "sfbank help play", b"Plays notes on a bank"));
     assert!(rt; tells(&rt, "sfbank show --help", b"Tells what a bank has"));
+    assert!(rt; tells(&rt, "sfbank explain 18", b"18 TooMany\n"));
     Ok(())
 }
 
@@ -225,6 +258,16 @@ fn words_that_are_no_run(rt: HostRuntime) {
         "sfbank play a b",
         "sfbank show",
         "sfbank show a b",
+        "sfbank explain",
+        "sfbank explain Syntax",
+        "sfbank explain 256 257",
+        "sfbank import a b c",
+        "sfbank live a",
+        "sfbank map a preset 0",
+        "sfbank map a bank 0 b",
+        "sfbank map a preset -1 b",
+        "sfbank wave a b",
+        "sfbank wave a 4294967296 b",
     ] {
         assert!(rt; are_refused(&rt, words), "{words}");
     }
@@ -235,6 +278,12 @@ fn want_of_memory_is_told(rt: HostRuntime) {
     let mut line = Vec::new(rt.alloc());
     assert!(rt; fault_text(&RunFault::Memory, "-", &mut line) == Ok(6));
     assert!(rt; line.as_slice() == b"sfbank: out of memory\n".as_slice());
+}
+
+#[test]
+fn a_number_without_an_explanation_is_told(rt: HostRuntime) {
+    let line = "error: no fault and no refusal has the number 13\n";
+    assert!(rt; ends(&rt, "sfbank explain 13", 1, line));
 }
 
 /// Gives its bytes three at a time, and then an error.

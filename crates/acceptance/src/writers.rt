@@ -2,7 +2,7 @@
 
 use outputs::{WriteFault, put_all};
 use sf_base::front_of;
-use sfbank::{RunFault, Which, canon_run, edit_run, show_run};
+use sfbank::{Details, RunFault, Unheard, Which, canon_run, edit_run, show_details_run, show_run};
 use sfbank_program::fault_text;
 use std::alloc::Global;
 use std::test::Fail;
@@ -16,9 +16,15 @@ enum Call {
     PutAll,
     Canon,
     Show,
+    ShowDetails,
     Edit,
     Undo,
 }
+
+const DETAILS: Details = Details {
+    zones: true,
+    uses: true,
+};
 
 const SCRIPT: &[u8] = b"rename-sample 0 \"u\"\n";
 
@@ -29,8 +35,9 @@ fn put(alloc: Global, call: Call, file: &[u8], out: &mut FailingWriter) -> Resul
         Call::PutAll => put_all(out, file).map_err(told),
         Call::Canon => canon_run(alloc, file, out),
         Call::Show => show_run(alloc, file, out),
-        Call::Edit => edit_run(alloc, file, SCRIPT, out, &mut other),
-        Call::Undo => match edit_run(alloc, file, SCRIPT, &mut other, out) {
+        Call::ShowDetails => show_details_run(alloc, file, DETAILS, out),
+        Call::Edit => edit_run(alloc, file, SCRIPT, out, &mut other, &mut Unheard),
+        Call::Undo => match edit_run(alloc, file, SCRIPT, &mut other, out, &mut Unheard) {
             Err(RunFault::Write(Which::Undo, written)) => Err(RunFault::Write(Which::Out, written)),
             answer => answer,
         },
@@ -77,6 +84,7 @@ fn writers_fail_at_each_call(rt: HostRuntime) {
         Call::PutAll,
         Call::Canon,
         Call::Show,
+        Call::ShowDetails,
         Call::Edit,
         Call::Undo,
     ] {
@@ -120,7 +128,7 @@ fn renames(
     out: &mut FailingWriter,
     undo: &mut FailingWriter,
 ) -> Result<(), RunFault> {
-    edit_run(alloc, saw().bytes(), RENAME, out, undo)
+    edit_run(alloc, saw().bytes(), RENAME, out, undo, &mut Unheard)
 }
 
 #[test]

@@ -5,3 +5,5 @@
 mod answers;
 #[cfg(test)]
 mod requests;
+#[cfg(test)]
+mod sessions;

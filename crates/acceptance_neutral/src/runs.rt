@@ -1,6 +1,6 @@
 //! What the run for neutral scripts answers to others.
 
-use sfbank::{RunFault, neutral_run};
+use sfbank::{RunFault, Unheard, neutral_run};
 use std::alloc::Global;
 use worked_files::{is_told, tone};
 
@@ -8,7 +8,7 @@ use worked_files::{is_told, tone};
 fn stops(alloc: Global, file: &[u8], script: &[u8], end: &[u8]) -> bool {
     let mut out = Vec::new(alloc);
     let mut undo = Vec::new(alloc);
-    match neutral_run(alloc, file, script, &mut out, &mut undo) {
+    match neutral_run(alloc, file, script, &mut out, &mut undo, &mut Unheard) {
         Ok(()) => false,
         Err(fault) => out.is_empty() && undo.is_empty() && is_told(alloc, &fault, end),
     }
@@ -80,6 +80,13 @@ fn the_line_of_the_fault(rt: HostRuntime) {
     let script = b"rename-sample 1 \"u\"\nset-tune 0 44100 60 0\n";
     let mut out = Vec::new(rt.alloc());
     let mut undo = Vec::new(rt.alloc());
-    let answer = neutral_run(rt.alloc(), tone().bytes(), script, &mut out, &mut undo);
+    let answer = neutral_run(
+        rt.alloc(),
+        tone().bytes(),
+        script,
+        &mut out,
+        &mut undo,
+        &mut Unheard,
+    );
     assert!(rt; answer == Err(RunFault::NotNeutral(2)));
 }

@@ -1,6 +1,6 @@
 //! That a worked note is heard alike behind neutral scripts.
 
-use sfbank::{edit_run, neutral_run, play_run};
+use sfbank::{Unheard, edit_run, neutral_run, play_run};
 use std::alloc::Global;
 use worked_files::{File, tone};
 
@@ -15,14 +15,22 @@ fn worked_wave() -> File {
 /// Whether the note on the bank of a file gives its WAVE file.
 fn sounds_as_worked(alloc: Global, file: &[u8]) -> bool {
     let mut out = Vec::new(alloc);
-    play_run(alloc, file, b"0 8 0 0 67 127\n", &mut out).is_ok()
+    play_run(alloc, file, b"0 8 0 0 67 127\n", &mut out, &mut Unheard).is_ok()
         && out.as_slice() == worked_wave().bytes()
 }
 
 /// Whether a script is done on T, makes another bank of it, and the note is heard alike.
 fn keeps_the_sound(alloc: Global, script: &[u8]) -> bool {
     let (file, mut out, mut undo) = (tone(), Vec::new(alloc), Vec::new(alloc));
-    edit_run(alloc, file.bytes(), script, &mut out, &mut undo).is_ok()
+    edit_run(
+        alloc,
+        file.bytes(),
+        script,
+        &mut out,
+        &mut undo,
+        &mut Unheard,
+    )
+    .is_ok()
         && out.as_slice() != file.bytes()
         && sounds_as_worked(alloc, out.as_slice())
 }
@@ -32,8 +40,24 @@ fn runs_alike(alloc: Global, script: &[u8]) -> bool {
     let file = tone();
     let (mut out, mut undo) = (Vec::new(alloc), Vec::new(alloc));
     let (mut same_out, mut same_undo) = (Vec::new(alloc), Vec::new(alloc));
-    edit_run(alloc, file.bytes(), script, &mut out, &mut undo).is_ok()
-        && neutral_run(alloc, file.bytes(), script, &mut same_out, &mut same_undo).is_ok()
+    edit_run(
+        alloc,
+        file.bytes(),
+        script,
+        &mut out,
+        &mut undo,
+        &mut Unheard,
+    )
+    .is_ok()
+        && neutral_run(
+            alloc,
+            file.bytes(),
+            script,
+            &mut same_out,
+            &mut same_undo,
+            &mut Unheard,
+        )
+        .is_ok()
         && same_out.as_slice() == out.as_slice()
         && same_undo.as_slice() == undo.as_slice()
 }

@@ -1,6 +1,6 @@
 //! Banks as text, and the differences of banks.
 
-use sfbank::{SamplePoints, diff_run, edit_run, new_run, script_run};
+use sfbank::{SamplePoints, Unheard, diff_run, edit_run, new_run, script_run};
 use std::alloc::Global;
 use worked_files::{edits, empty, is_told, layered, tone};
 
@@ -59,7 +59,7 @@ fn a_bank_is_made_of_its_text(rt: HostRuntime) {
 fn file_behind(alloc: Global, file: &[u8], script: &[u8]) -> Vec<u8> {
     let mut out = Vec::new(alloc);
     let mut undo = Vec::new(alloc);
-    let _ = edit_run(alloc, file, script, &mut out, &mut undo);
+    let _ = edit_run(alloc, file, script, &mut out, &mut undo, &mut Unheard);
     out
 }
 

@@ -1,6 +1,6 @@
 //! Samples that are put in and taken out.
 
-use sfbank::edit_run;
+use sfbank::{Unheard, edit_run};
 use worked_files::{Patch, edits, empty, pair, returns, saw, second_tone, stops, tone};
 
 const ADD_SAW: &[u8] = b"add-sample 0 \"saw\" 44100 60 0 mono noloop x0100feff\n";
@@ -67,7 +67,17 @@ fn a_sample_as_it_is_said_and_as_it_is_printed(rt: HostRuntime) {
     let printed = b"add-sample 0 \"\" 0 0 0 mono noloop x0aff\n";
     let mut out = Vec::new(alloc);
     let mut undo = Vec::new(alloc);
-    assert!(rt; edit_run(alloc, empty.bytes(), said, &mut out, &mut undo).is_ok());
+    assert!(rt;
+        edit_run(
+            alloc,
+            empty.bytes(),
+            said,
+            &mut out,
+            &mut undo,
+            &mut Unheard
+        )
+        .is_ok()
+    );
     assert!(rt; undo.as_slice() == b"remove-sample 0\n".as_slice());
     assert!(rt;
         edits(

@@ -3,7 +3,7 @@
 use edit_forms::{Edit, Step};
 use edit_script::print;
 use sf_base::Name20;
-use sfbank::{edit_run, show_run};
+use sfbank::{Unheard, edit_run, show_run};
 use std::alloc::Global;
 use std::test::Fail;
 use worked_files::{File, RENAME, RENAME_BACK, edits, renamed_saw, saw, stops, tone};
@@ -43,7 +43,15 @@ fn names(alloc: Global, file: &File, script: &[u8], name: &[u8]) -> bool {
     let mut out = Vec::new(alloc);
     let mut undo = Vec::new(alloc);
     let mut listing = Vec::new(alloc);
-    edit_run(alloc, file.bytes(), script, &mut out, &mut undo).is_ok()
+    edit_run(
+        alloc,
+        file.bytes(),
+        script,
+        &mut out,
+        &mut undo,
+        &mut Unheard,
+    )
+    .is_ok()
         && undo.as_slice() == RENAME_BACK
         && show_run(alloc, out.as_slice(), &mut listing).is_ok()
         && listing.as_slice().ends_with(name)

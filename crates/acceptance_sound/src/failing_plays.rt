@@ -3,13 +3,19 @@
 
 use crate::waves::FILE;
 use sf_base::front_of;
-use sfbank::{RunFault, Which, play_run};
+use sfbank::{RunFault, Unheard, Which, play_run};
 use std::alloc::Global;
 use worked_files::{FailingWriter, NEVER, WriteFailure, tone};
 
 /// What a run that plays a note leaves in a writer, and its answer.
 fn played(alloc: Global, mut out: FailingWriter) -> (Vec<u8>, Result<(), RunFault>) {
-    let answer = play_run(alloc, tone().bytes(), b"0 8 0 0 67 127\n", &mut out);
+    let answer = play_run(
+        alloc,
+        tone().bytes(),
+        b"0 8 0 0 67 127\n",
+        &mut out,
+        &mut Unheard,
+    );
     (out.held, answer)
 }
 

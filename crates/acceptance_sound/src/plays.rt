@@ -3,7 +3,7 @@
 use crate::rendered::RELEASED;
 use crate::started_voices::{ONE, file_of};
 use crate::waves::{FILE, SILENCE};
-use sfbank::play_run;
+use sfbank::{Unheard, play_run};
 use std::alloc::Global;
 use std::test::Fail;
 use worked_files::{is_told, tone};
@@ -11,13 +11,13 @@ use worked_files::{is_told, tone};
 /// Whether notes on a bank give this WAVE file.
 fn plays(alloc: Global, file: &[u8], notes: &[u8], wave: &[u8]) -> bool {
     let mut out = Vec::new(alloc);
-    play_run(alloc, file, notes, &mut out).is_ok() && out.as_slice() == wave
+    play_run(alloc, file, notes, &mut out, &mut Unheard).is_ok() && out.as_slice() == wave
 }
 
 /// Whether notes on a bank are refused by a line that ends so, and nothing goes out.
 fn refuses(alloc: Global, file: &[u8], notes: &[u8], end: &[u8]) -> bool {
     let mut out = Vec::new(alloc);
-    match play_run(alloc, file, notes, &mut out) {
+    match play_run(alloc, file, notes, &mut out, &mut Unheard) {
         Ok(()) => false,
         Err(fault) => out.is_empty() && is_told(alloc, &fault, end),
     }
@@ -34,7 +34,16 @@ fn worked_files(rt: HostRuntime) {
 fn files_last_through_the_release(rt: HostRuntime) -> Result<(), Fail> {
     let file = file_of(rt.alloc(), ONE, RELEASED)?;
     let mut out = Vec::new(rt.alloc());
-    assert!(rt; play_run(rt.alloc(), file.as_slice(), b"0 50 0 0 60 127\n", &mut out).is_ok());
+    assert!(rt;
+        play_run(
+            rt.alloc(),
+            file.as_slice(),
+            b"0 50 0 0 60 127\n",
+            &mut out,
+            &mut Unheard
+        )
+        .is_ok()
+    );
     assert!(rt; out.len() == 416);
     Ok(())
 }

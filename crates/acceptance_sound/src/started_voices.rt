@@ -5,7 +5,7 @@ use crate::rendered::RELEASED;
 use note_list::Note;
 use sf_base::Failure;
 use sf_reader::read;
-use sfbank::edit_run;
+use sfbank::{Unheard, edit_run};
 use std::alloc::Global;
 use std::test::Fail;
 use voices::Voice;
@@ -26,7 +26,14 @@ type Frames<'a> = &'a [(i32, i32)];
 pub(crate) fn made(alloc: Global, script: &[u8]) -> Result<Vec<u8>, Fail> {
     let mut out = Vec::new(alloc);
     let mut undo = Vec::new(alloc);
-    edit_run(alloc, empty().bytes(), script, &mut out, &mut undo)?;
+    edit_run(
+        alloc,
+        empty().bytes(),
+        script,
+        &mut out,
+        &mut undo,
+        &mut Unheard,
+    )?;
     Ok(out)
 }
 

@@ -1,6 +1,6 @@
 //! Generators and modulators that are set, changed and taken out.
 
-use sfbank::edit_run;
+use sfbank::{Unheard, edit_run};
 use std::alloc::Global;
 use worked_files::{returns, stops, tone, wide};
 
@@ -152,7 +152,16 @@ const LENGTHS: [(&[u8], usize); 7] = [
 fn writes(alloc: Global, script: &[u8], length: usize) -> bool {
     let mut out = Vec::new(alloc);
     let mut undo = Vec::new(alloc);
-    edit_run(alloc, tone().bytes(), script, &mut out, &mut undo).is_ok() && out.len() == length
+    edit_run(
+        alloc,
+        tone().bytes(),
+        script,
+        &mut out,
+        &mut undo,
+        &mut Unheard,
+    )
+    .is_ok()
+        && out.len() == length
 }
 
 #[test]

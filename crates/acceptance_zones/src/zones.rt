@@ -1,7 +1,7 @@
 //! How zones are read, judged and printed, in instruments and presets that are put into the bank of one
 //! preset, instrument and sample.
 
-use sfbank::edit_run;
+use sfbank::{Unheard, edit_run};
 use std::alloc::Global;
 use worked_files::{edits, stops, tone};
 
@@ -61,7 +61,7 @@ fn prints(alloc: Global, said: &[u8], back: &[u8], printed: &[u8]) -> bool {
     let tone = tone();
     let mut out = Vec::new(alloc);
     let mut undo = Vec::new(alloc);
-    edit_run(alloc, tone.bytes(), said, &mut out, &mut undo).is_ok()
+    edit_run(alloc, tone.bytes(), said, &mut out, &mut undo, &mut Unheard).is_ok()
         && undo.as_slice() == back
         && edits(alloc, out.as_slice(), back, tone.bytes(), printed)
 }

@@ -42,8 +42,7 @@ pub fn insert_instrument(
 }
 
 /// Takes an instrument out; the instruments behind it get the number before each, and what names them
-/// follows. At the end of the list no preset is touched. It takes no memory and never answers want of it,
-/// but another representation may; then the parts stay as they are.
+/// follows. At the end of the list no preset is touched. For want of memory the parts stay as they are.
 pub fn take_instrument(
     parts: &mut Parts<'_>,
     alloc: Global,

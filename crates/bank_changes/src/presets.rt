@@ -18,8 +18,8 @@ pub fn insert_preset(parts: &mut Parts<'_>, number: u32, preset: Preset) -> Resu
     parts.presets.insert(number as usize, preset)
 }
 
-/// Takes a preset out; the presets behind it get the number before each. It takes no memory and never
-/// answers want of it, but another representation may; then the parts stay as they are.
+/// Takes a preset out; the presets behind it get the number before each. For want of memory the parts stay
+/// as they are.
 pub fn take_preset(parts: &mut Parts<'_>, alloc: Global, number: u32) -> Result<Preset, OutOfMemory>
     requires { number < length parts.old.presets }
     ensures value { IfOk result (λ preset. slice_get parts.old.presets number ≡ Some preset) }

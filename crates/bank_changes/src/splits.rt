@@ -61,8 +61,7 @@ pub fn split_zone(
     }
 }
 
-/// Joins a zone and the next. It takes no memory and never answers want of it, but another
-/// representation may; then the parts stay as they are.
+/// Joins a zone and the next. For want of memory the parts stay as they are.
 pub fn join_zone(
     parts: &mut Parts<'_>,
     alloc: Global,

@@ -28,8 +28,8 @@ pub fn insert_zone(parts: &mut Parts<'_>, owner: Owner, at: u32, zone: Zone) -> 
     }
 }
 
-/// Takes a zone out of an owner; the zones behind it get the number before each. It takes no memory and
-/// never answers want of it, but another representation may; then the parts stay as they are.
+/// Takes a zone out of an owner; the zones behind it get the number before each. For want of memory the
+/// parts stay as they are.
 pub fn take_zone(
     parts: &mut Parts<'_>,
     alloc: Global,

@@ -41,8 +41,8 @@ impl<'a> Bank<'a> {
     }
 
     /// Takes an instrument out; the instruments behind it get the number before each, and what names
-    /// them follows. At the end of the list no preset is touched. It takes no memory and never answers
-    /// want of it, but another representation may; then the bank stays as it is.
+    /// them follows. At the end of the list no preset is touched. For want of memory the bank stays as it
+    /// is.
     pub fn remove_instrument(
         &mut self,
         alloc: Global,

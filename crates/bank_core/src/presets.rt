@@ -28,8 +28,8 @@ impl<'a> Bank<'a> {
         Ok(())
     }
 
-    /// Takes a preset out; the presets behind it get the number before each. It takes no memory and
-    /// never answers want of it, but another representation may; then the bank stays as it is.
+    /// Takes a preset out; the presets behind it get the number before each. For want of memory the bank
+    /// stays as it is.
     pub fn remove_preset(&mut self, alloc: Global, number: u32) -> Result<Preset, OutOfMemory>
         requires there { number < length self.old.presets }
         requires sound { IsSound (preset_removed self.old number) }

@@ -89,8 +89,7 @@ impl<'a> Bank<'a> {
         Ok(())
     }
 
-    /// Joins a zone and the next. It takes no memory and never answers want of it, but another
-    /// representation may; then the bank stays as it is.
+    /// Joins a zone and the next. For want of memory the bank stays as it is.
     pub fn join_zone(
         &mut self,
         alloc: Global,

@@ -31,8 +31,8 @@ impl<'a> Bank<'a> {
         Ok(())
     }
 
-    /// Takes a zone out of an owner; the zones behind it get the number before each. It takes no memory
-    /// and never answers want of it, but another representation may; then the bank stays as it is.
+    /// Takes a zone out of an owner; the zones behind it get the number before each. For want of memory the
+    /// bank stays as it is.
     pub fn remove_zone(
         &mut self,
         alloc: Global,

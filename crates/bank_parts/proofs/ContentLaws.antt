@@ -120,18 +120,3 @@ module _ {H : Type 0} (name_of : H → List ℕ) (at : Level) (count : ℕ) (x :
             or_none (sets_bad_range x.global.gens) (list_any bad x.zones) (gens_good at x.global.gens h.zones.global)
             (passes_none bad x.zones (all_weaker (IsZone at count) (λ (z : Zone). bad z ≡ false) (λ z k. gens_good at z.gens k.gens) x.zones zones));
       }
-
-  -- what the code answers
-
-  refuses : (t : Bool) → t ≡ true → (IsOwner name_of at count x → t ≡ false) → IsTrue false ↔ IsOwner name_of at count x
-  refuses t stands none = (λ h. absurd (true≢false (sym h)), λ h. absurd (true≢false (sym stands ∙ none h)))
-
-  pub target_refuses : misses_target count x ≡ true → IsTrue false ↔ IsOwner name_of at count x
-  target_refuses h = refuses (misses_target count x) h (λ o. (tests_from_owner o).targets)
-
-  pub operator_refuses : has_foreign at x ≡ true → IsTrue false ↔ IsOwner name_of at count x
-  operator_refuses h = refuses (has_foreign at x) h (λ o. (tests_from_owner o).operators)
-
-  pub ranges_decide : IsName (name_of x.head) → misses_target count x ≡ false → has_foreign at x ≡ false → (t : Bool) → t ≡ has_bad_range x → IsTrue (not t) ↔ IsOwner name_of at count x
-  ranges_decide named near own true h = refuses (has_bad_range x) (sym h) (λ o. (tests_from_owner o).ranges)
-  ranges_decide named near own false h = (λ t. owner_from_tests named (record { targets = near; operators = own; ranges = sym h }), λ o. refl)

@@ -117,10 +117,3 @@ pub owner_next : (global : GlobalZone) (zones : List Zone) (k j : ℕ) → j ≡
 owner_next global zones k j next z e so_far more total h m t =
     let same : j ≡ suc k = omega (arith, next) in
     rw same (counted_more (records_of global (take k zones)) more (records_of global (take (suc k) zones)) total so_far h t (records_of_zone z) m (owner_more global zones k z e))
-
-pub total_next : {H : Type 0} (xs : List (WithZones H)) (i j : ℕ) → j ≡ i + 1 → (x : WithZones H) → slice_get xs i ≡ Some x → (so_far more total : Records)
-    → so_far ≡ all_counted (records_total records_of_owner (take i xs)) → more ≡ all_counted (records_of_owner x) → total ≡ all_counted (records_sum so_far more)
-    → total ≡ all_counted (records_total records_of_owner (take j xs))
-total_next xs i j next x e so_far more total h m t =
-    let same : j ≡ suc i = omega (arith, next) in
-    rw same (counted_more (records_total records_of_owner (take i xs)) more (records_total records_of_owner (take (suc i) xs)) total so_far h t (records_of_owner x) m (total_more records_of_owner xs i x e))

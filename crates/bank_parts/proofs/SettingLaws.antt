@@ -218,15 +218,3 @@ gens_of_settings owners i (place.Zone k) = seen_in_zone (λ (z : Zone). z.gens) 
 pub mods_of_settings : {H : Type 0} (owners : List (WithZones H)) (i : ℕ) (at : ZonePlace) → mods_at owners i at ≡ option_map (λ (s : Settings). s.mods) (settings_at owners i at)
 mods_of_settings owners i place.Global = seen_in_global (λ (z : Zone). z.mods) (λ (s : Settings). s.mods) (λ z. refl) (slice_get owners i)
 mods_of_settings owners i (place.Zone k) = seen_in_zone (λ (z : Zone). z.mods) (λ (s : Settings). s.mods) (λ z. refl) (slice_get owners i) k
-
--- ---- what was read is put back
-
-pub gens_kept : {H : Type 0} (owners : List (WithZones H)) (i : ℕ) (at : ZonePlace) (gens : Gens) → gens_at owners i at ≡ Some gens → place_changed owners i at (with_gens gens) ≡ owners
-gens_kept owners i at gens e =
-    let s = source (λ (s : Settings). s.gens) (settings_at owners i at) gens (sym (gens_of_settings owners i at) ∙ e) in
-    place_kept owners i at (with_gens gens) s.member s.there (ap (λ gens. with_gens gens s.member) (sym s.seen))
-
-pub mods_kept : {H : Type 0} (owners : List (WithZones H)) (i : ℕ) (at : ZonePlace) (mods : List Modulator) → mods_at owners i at ≡ Some mods → place_changed owners i at (with_mods mods) ≡ owners
-mods_kept owners i at mods e =
-    let s = source (λ (s : Settings). s.mods) (settings_at owners i at) mods (sym (mods_of_settings owners i at) ∙ e) in
-    place_kept owners i at (with_mods mods) s.member s.there (ap (λ mods. with_mods mods s.member) (sym s.seen))

@@ -17,3 +17,8 @@ pub mod Settings
 pub mod ZoneChanges
 pub mod PlaceLaws
 pub mod ChangesUndone
+pub mod Bagged
+pub mod Flat
+pub mod Room
+pub mod Changes
+pub mod Records

@@ -1,14 +1,9 @@
-//! What stands against the zones of a preset or an instrument, and which may stand in a bank.
-ghost use Rattle.std.specs.Prelude.{◌≡◌, ◌↔◌, IsTrue};
-ghost use Rattle.std.specs.Bool.{OnTrue};
-ghost use Rattle.std.specs.List.{AllByRecursion, list_any};
+//! What stands against the zones of a preset or an instrument that comes into a bank.
+ghost use Rattle.std.specs.Prelude.{◌≡◌};
+ghost use Rattle.std.specs.List.{list_any};
 ghost use Rattle.bank_parts.specs.declared.parts.Zone.{Zone};
-ghost use Rattle.bank_parts.specs.Fits.{FitsOwner};
-ghost use Rattle.bank_parts.specs.Valid.{IsOwner};
 ghost use Rattle.bank_parts.specs.Contents.{misses_target, sets_foreign, has_foreign, is_bad_range, sets_bad_range, has_bad_range};
 
-use crate::heads::OwnerHead;
-use crate::owners::Owners;
 use crate::parts::{WithZones, Zone};
 use generators::{GenMap, Level, Range, allowed, is_range_operator};
 
@@ -37,38 +32,6 @@ impl<H> WithZones<H> {
         ensures { result ≡ has_bad_range self.now }
     {
         sets_bad_range(&self.global.gens) || any_sets_bad_range(self.zones.as_slice())
-    }
-}
-
-impl<H: OwnerHead> WithZones<H> {
-    // Whether it may stand in a bank, where a target names one of so many members. Its name needs no
-    // check, and that each number lies in the range of its field is known.
-    fn is_valid(&self, targets: usize) -> bool
-        ensures valid { IsTrue result ↔ IsOwner H.name H.LEVEL targets self.now }
-        ensures fits { FitsOwner H.IsFit self.now }
-    {
-        self.head.fits();
-        self.fits();
-        if self.misses_target(targets) {
-            return false;
-        }
-        if self.has_foreign(H::LEVEL) {
-            return false;
-        }
-        !self.has_bad_range()
-    }
-}
-
-impl<H: OwnerHead> Owners<H> {
-    /// Whether all may stand in a bank, where a target names one of so many members.
-    pub fn are_valid(&self, targets: usize) -> bool
-        ensures valid { IsTrue result ↔ AllByRecursion (IsOwner H.name H.LEVEL targets) self.now }
-        ensures fits { OnTrue result (AllByRecursion (FitsOwner H.IsFit) self.now) }
-    {
-        self.list
-            .as_slice()
-            .iter()
-            .all(|owner| owner.is_valid(targets))
     }
 }
 

@@ -2,16 +2,24 @@
 //! stands against them; and equal parts in memory of their own.
 #![tactic(auto)]
 
+mod bag_changes;
 mod contents;
 mod copying;
 mod counting;
 mod fits;
 mod heads;
 mod laws;
+mod level_contents;
+mod owner_changes;
+mod owner_copies;
 mod owners;
 mod parts;
+mod places;
+mod reading;
 mod renumbering;
+mod room;
 mod setting_changes;
+mod target_numbers;
 mod texts;
 mod zone_changes;
 

@@ -1,7 +1,7 @@
 //! How what names samples by their numbers follows a change of their list.
 ghost use Rattle.std.specs.Prelude.{◌≡◌};
 
-use crate::parts::{Kind, Sample, WithZones, Zone};
+use crate::parts::{Kind, Sample};
 use numbered_lists::{Renumber, Renumbering};
 
 /// A sample holds the number that its link names.
@@ -22,33 +22,5 @@ impl<'a> Renumber for Sample<'a> {
             Kind::Left(link) => Kind::Left(by.number_after(link)),
             Kind::Linked(link) => Kind::Linked(by.number_after(link)),
         };
-    }
-}
-
-/// A zone holds the number of its target.
-impl Renumber for Zone {
-    ghost use Rattle.std.specs.Prelude.{ℕ, ◌<◌, ◌^◌};
-    ghost use Rattle.numbered_lists.specs.Renumbered.{renumbered};
-    ghost use Rattle.bank_parts.specs.Renumbered.{zone_renumbered};
-
-    ghost can_renumber = { λ by z. renumbered by z.target < 2 ^ 16 };
-
-    ghost with_new_numbers = { zone_renumbered };
-
-    fn renumber(&mut self, by: Renumbering) {
-        self.target = by.number_after(self.target);
-    }
-}
-
-/// A preset or an instrument holds the numbers of its zones' targets.
-impl<H> Renumber for WithZones<H> {
-    ghost use Rattle.bank_parts.specs.Renumbered.{owner_renumbered, CanRenumberOwner};
-
-    ghost can_renumber = { CanRenumberOwner };
-
-    ghost with_new_numbers = { owner_renumbered };
-
-    fn renumber(&mut self, by: Renumbering) {
-        self.zones.renumber(by);
     }
 }

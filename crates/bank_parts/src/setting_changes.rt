@@ -1,27 +1,22 @@
 //! Changes of what the places of presets and instruments hold: of their generators and modulators.
-ghost use Rattle.std.specs.Prelude.{◌≡◌, ◌<◌, ◌≤◌, Some, length, IsSome, IsOk, IfSome, IfOk, OnOk, OnErr};
-ghost use Rattle.bank_parts.specs.Owners.{HasPlace, gens_at, mods_at, amount_at, mod_at};
+ghost use Rattle.std.specs.Prelude.{◌≡◌, ◌<◌, ◌≤◌, Some, None, length, IsSome, IsOk, IfSome, IfOk, OnOk, OnErr};
+ghost use Rattle.generators.specs.Levels.{target_operator};
+ghost use Rattle.bank_parts.specs.Owners.{HasPlace, mods_at, amount_at, mod_at};
 ghost use Rattle.bank_parts.specs.ZoneChanges.{gen_set, gen_cleared, mod_added, mod_removed, mod_set};
 
+use crate::bag_changes::{open_bag, take_gen, take_mod};
+use crate::counting::Records;
 use crate::heads::OwnerHead;
 use crate::owners::{Owners, ZonePlace};
-use generators::GenMap;
+use crate::room::make_room;
+use generators::search_entries;
 use modulators::Modulator;
-use numbered_lists::NumberedList;
 use sf_base::OutOfMemory;
 
 impl<H: OwnerHead> Owners<H> {
-    ghost use Rattle.std.specs.Borrow.{Lends, sem};
-    ghost use Rattle.generators.specs.contracts.gen_map.GenMap as gen_map;
-    ghost use Rattle.modulators.specs.contracts.modulator.Modulator as modulator;
-    ghost use Rattle.numbered_lists.specs.contracts.list.NumberedList as list;
-    ghost use Rattle.bank_parts.specs.contracts.owners.Owners as owners;
-    ghost use Rattle.bank_parts.specs.Settings.{place_changed, with_gens, with_mods};
-
     /// Sets an operator at a place of number `i`, both of which are there, and gives the amount that it
     /// had. It needs memory only for an operator that is not set, and changes nothing where that is
     /// refused.
-    #[tactic(auto, using(crate::proofs::SettingLaws::gens_kept))]
     pub fn set_gen(
         &mut self,
         i: usize,
@@ -35,9 +30,35 @@ impl<H: OwnerHead> Owners<H> {
         ensures err { OnErr result (self.new ≡ self.old) }
         ensures needs_no_memory { IsSome (amount_at self.old i place operator) → IsOk result }
     {
-        let gens = self.gens_mut(i, place);
-        let was = gens.set(operator, amount)?;
-        Ok(was)
+        if operator == Self::operator() {
+            self.targets_are_none(i, place);
+            return Err(OutOfMemory);
+        }
+        let Some(at) = self.place_bag(i, place) else {
+            open_bag(&mut self.bags, i, &[(operator, amount)], &[])?;
+            return Ok(None);
+        };
+        let entries = self.entries(i, place);
+        match search_entries(entries, operator) {
+            Ok(j) => {
+                let was = entries[j].1;
+                self.bags.set_gen(i, at, j, (operator, amount));
+                Ok(Some(was))
+            }
+            Err(j) => {
+                make_room(&mut self.bags, 0, ONE_GENERATOR)?;
+                self.bags.put_gens(i, at, j, &[(operator, amount)]);
+                Ok(None)
+            }
+        }
+    }
+
+    // The law that no place has a target among its generators. It does nothing.
+    fn targets_are_none(&self, i: usize, place: ZonePlace)
+        requires { HasPlace self.now i place }
+        ensures { amount_at self.now i place (target_operator H.LEVEL) ≡ None }
+    {
+        let _count = self.bags.owner_count();
     }
 
     /// Clears an operator at a place of number `i`, both of which are there, and gives the amount that
@@ -47,13 +68,22 @@ impl<H: OwnerHead> Owners<H> {
         ensures was { result ≡ amount_at self.old i place operator }
         ensures change { self.new ≡ gen_cleared self.old i place operator }
     {
-        let gens = self.gens_mut(i, place);
-        gens.clear(operator)
+        let Some(at) = self.place_bag(i, place) else {
+            return None;
+        };
+        let entries = self.entries(i, place);
+        match search_entries(entries, operator) {
+            Ok(j) => {
+                let was = entries[j].1;
+                take_gen(&mut self.bags, i, at, j);
+                Some(was)
+            }
+            Err(_) => None,
+        }
     }
 
     /// Makes a modulator number `j` at a place of number `i`, which are there and have so many; those
     /// from there on get the next number each. For want of memory nothing changes.
-    #[tactic(auto, using(crate::proofs::SettingLaws::mods_kept))]
     pub fn insert_mod(
         &mut self,
         i: usize,
@@ -66,8 +96,13 @@ impl<H: OwnerHead> Owners<H> {
         ensures ok { OnOk result (self.new ≡ mod_added self.old i place j modulator) }
         ensures err { OnErr result (self.new ≡ self.old) }
     {
-        let mods = self.mods_mut(i, place);
-        mods.insert(j, modulator).map_err(|_| OutOfMemory)
+        let Some(at) = self.place_bag(i, place) else {
+            open_bag(&mut self.bags, i, &[], &[modulator])?;
+            return Ok(());
+        };
+        make_room(&mut self.bags, 0, ONE_MODULATOR)?;
+        self.bags.put_mods(i, at, j, &[modulator]);
+        Ok(())
     }
 
     /// Takes modulator `j` at a place of number `i` out, all of which are there; those behind it get the
@@ -78,8 +113,12 @@ impl<H: OwnerHead> Owners<H> {
         ensures value { mod_at self.old i place j ≡ Some result }
         ensures change { self.new ≡ mod_removed self.old i place j }
     {
-        let mods = self.mods_mut(i, place);
-        mods.remove(j)
+        let Some(at) = self.place_bag(i, place) else {
+            unreachable!();
+        };
+        let was = self.bags.mods(i, at)[j];
+        take_mod(&mut self.bags, i, at, j);
+        was
     }
 
     /// Puts a modulator in the place of modulator `j` at a place of number `i`, all of which are there,
@@ -96,43 +135,23 @@ impl<H: OwnerHead> Owners<H> {
         ensures value { mod_at self.old i place j ≡ Some result }
         ensures change { self.new ≡ mod_set self.old i place j modulator }
     {
-        let mods = self.mods_mut(i, place);
-        mods.replace(j, modulator)
-    }
-
-    fn gens_mut(&mut self, i: usize, place: ZonePlace) -> &mut GenMap
-        requires { HasPlace self.old i place }
-        ensures* writes_back { sem 𝓛 (Lends (owners.the_row H.row H.OwnerHead) gen_map.the_row self.entry result (λ w. place_changed self.old i place (with_gens w))) }
-        ensures value { gens_at self.old i place ≡ Some result.now }
-    {
-        let member = self.list.member_mut(i);
-        match place {
-            ZonePlace::Global => {
-                let global = &mut member.global;
-                &mut global.gens
-            }
-            ZonePlace::Zone(k) => {
-                let zone = member.zones.member_mut(k);
-                &mut zone.gens
-            }
-        }
-    }
-
-    fn mods_mut(&mut self, i: usize, place: ZonePlace) -> &mut NumberedList<Modulator>
-        requires { HasPlace self.old i place }
-        ensures* writes_back { sem 𝓛 (Lends (owners.the_row H.row H.OwnerHead) (list.the_row modulator.the_row) self.entry result (λ w. place_changed self.old i place (with_mods w))) }
-        ensures value { mods_at self.old i place ≡ Some result.now }
-    {
-        let member = self.list.member_mut(i);
-        match place {
-            ZonePlace::Global => {
-                let global = &mut member.global;
-                &mut global.mods
-            }
-            ZonePlace::Zone(k) => {
-                let zone = member.zones.member_mut(k);
-                &mut zone.mods
-            }
-        }
+        let Some(at) = self.place_bag(i, place) else {
+            unreachable!();
+        };
+        let was = self.bags.mods(i, at)[j];
+        self.bags.set_mod(i, at, j, modulator);
+        was
     }
 }
+
+const ONE_GENERATOR: Records = Records {
+    zones: 0,
+    gens: 1,
+    mods: 0,
+};
+
+const ONE_MODULATOR: Records = Records {
+    zones: 0,
+    gens: 0,
+    mods: 1,
+};

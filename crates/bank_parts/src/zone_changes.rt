@@ -4,37 +4,48 @@ ghost use Rattle.bank_parts.specs.declared.owners.ZonePlace.TheVariants as place
 ghost use Rattle.bank_parts.specs.Owners.{HasPlace, zone_count_at, zone_at, target_at};
 ghost use Rattle.bank_parts.specs.ZoneChanges.{zone_added, zone_removed, zone_moved, target_set};
 
+use crate::bag_changes::put_zone;
 use crate::heads::OwnerHead;
 use crate::owners::Owners;
 use crate::parts::Zone;
+use crate::room::{is_set, make_room};
 use sf_base::OutOfMemory;
 use std::alloc::Global;
 
 impl<H: OwnerHead> Owners<H> {
     /// Makes a zone number `k` of number `i`, which is there and has so many; its zones from there on
     /// get the next number each. For want of memory nothing changes, and the zone comes back.
-    #[tactic(auto, using(numbered_lists::proofs::Lists::slice_set_same))]
     pub fn insert_zone(&mut self, i: usize, k: usize, zone: Zone) -> Result<(), Zone>
         requires { IsSomeAnd (zone_count_at self.old i) (λ count. k ≤ count) }
         ensures ok { OnOk result (self.new ≡ zone_added self.old i k zone) }
         ensures err { OnErr result (self.new ≡ self.old) }
         ensures value_returned { IfErr result (λ back. back ≡ zone) }
     {
-        let member = self.list.member_mut(i);
-        member.zones.insert(k, zone)
+        zone.fits();
+        let operator = Self::operator();
+        if is_set(operator, &zone.gens) {
+            return Err(zone);
+        }
+        let at = self.zone_bag(i, k);
+        let Ok(()) = make_room(&mut self.bags, 0, zone.records()) else {
+            return Err(zone);
+        };
+        put_zone(&mut self.bags, i, at, operator, &zone);
+        Ok(())
     }
 
     /// Takes zone `k` of number `i` out, both of which are there; the zones behind it get the number
-    /// before each. It takes no memory and never answers want of it, but another representation may.
+    /// before each. For want of memory nothing changes.
     pub fn remove_zone(&mut self, alloc: Global, i: usize, k: usize) -> Result<Zone, OutOfMemory>
         requires { HasPlace self.old i (place.Zone k) }
         ensures value { IfOk result (λ zone. zone_at self.old i k ≡ Some zone) }
         ensures change { OnOk result (self.new ≡ zone_removed self.old i k) }
         ensures err { OnErr result (self.new ≡ self.old) }
     {
-        let _ = alloc;
-        let member = self.list.member_mut(i);
-        Ok(member.zones.remove(k))
+        let zone = self.copy_zone(alloc, i, k)?;
+        let at = self.zone_bag(i, k);
+        self.bags.cut_bag(i, at);
+        Ok(zone)
     }
 
     /// Makes zone `from` of number `i` zone `to`, all of which are there; its other zones keep their
@@ -44,8 +55,9 @@ impl<H: OwnerHead> Owners<H> {
         requires to { HasPlace self.old i (place.Zone to) }
         ensures { self.new ≡ zone_moved self.old i from to }
     {
-        let member = self.list.member_mut(i);
-        member.zones.move_member(from, to);
+        let first = self.zone_bag(i, from);
+        let second = self.zone_bag(i, to);
+        self.bags.move_bag(i, first, second);
     }
 
     /// Gives zone `k` of number `i`, both of which are there, another target, and gives back the one
@@ -55,8 +67,11 @@ impl<H: OwnerHead> Owners<H> {
         ensures value { target_at self.old i k ≡ Some result }
         ensures change { self.new ≡ target_set self.old i k target }
     {
-        let member = self.list.member_mut(i);
-        let zone = member.zones.member_mut(k);
-        std::mem::replace(&mut zone.target, target)
+        let was = self.target(i, k);
+        let operator = Self::operator();
+        let at = self.zone_bag(i, k);
+        let last = self.bags.gens(i, at).len() - 1;
+        self.bags.set_gen(i, at, last, (operator, target));
+        was
     }
 }

@@ -81,6 +81,16 @@ impl Bags {
         Ok(())
     }
 
+    /// Equal bags, in memory of their own.
+    pub fn copy(&self, alloc: Global) -> Result<Bags, AllocError>
+        ensures { IfOk result (λ r. r.bags ≡ self.now.bags) }
+    {
+        let bags = Vec::from_slice(alloc, &self.bags)?;
+        let gens = Vec::from_slice(alloc, &self.gens)?;
+        let mods = Vec::from_slice(alloc, &self.mods)?;
+        Ok(Bags { bags, gens, mods })
+    }
+
     /// The generators of a bag: operators with their amounts.
     pub fn gens(&self, k: usize) -> &[(u16, u16)]
         requires { k < length self.now.bags }

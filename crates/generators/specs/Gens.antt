@@ -29,6 +29,10 @@ abbrev pub last_of_each : List (ℕ × ℕ) → List (ℕ × ℕ)
 last_of_each [] = []
 last_of_each (e ∷ es) = if list_any (λ (x : ℕ × ℕ). x.0 == e.0) es then last_of_each es else e ∷ last_of_each es
 
+-- entries in canonical order, with no operator twice
+abbrev pub AreInOrder : List (ℕ × ℕ) → Type 0
+AreInOrder es = IsTrue (is_sorted operator_cmp es)
+
 -- an operator and an amount of 16 bits each
 abbrev pub FitsEntry : ℕ × ℕ → Type 0
 FitsEntry e = (e.0 < 2 ^ 16) × (e.1 < 2 ^ 16)

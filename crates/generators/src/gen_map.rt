@@ -1,7 +1,7 @@
 //! The generators that a zone sets.
 ghost use Rattle.std.specs.Prelude.{◌≡◌, ◌↔◌, ◌≤◌, IsTrue, IsSome, IsOk, IfOk, IfErr, OnOk, OnErr, slice_get};
 ghost use Rattle.std.specs.FinMap as map;
-ghost use Rattle.generators.specs.Gens.{rank, FitGens};
+ghost use Rattle.generators.specs.Gens.{rank, FitGens, AreInOrder, AreGens};
 ghost use Rattle.generators.specs.Places.{IsAt, IsGapFor};
 
 use crate::operators;
@@ -40,6 +40,16 @@ impl GenMap {
         GenMap {
             entries: Vec::new(alloc),
         }
+    }
+
+    /// The map of entries that are in canonical order, with no operator twice, in memory of its own.
+    pub fn from_entries(alloc: Global, entries: &[(u16, u16)]) -> Result<GenMap, OutOfMemory>
+        requires { AreGens entries.now }
+        ensures { IfOk result (λ m. map.entries m ≡ entries.now) }
+    {
+        Ok(GenMap {
+            entries: Vec::from_slice(alloc, entries)?,
+        })
     }
 
     /// The number of operators that are set.
@@ -129,9 +139,18 @@ impl GenMap {
         ensures found { IfOk result (λ at. IsAt (map.entries self.now) operator at) }
         ensures absent { IfErr result (λ at. IsGapFor (map.entries self.now) operator at) }
     {
-        self.entries
-            .binary_search_by_key(&rank(operator), |&(other, _)| rank(other))
+        search_entries(&self.entries, operator)
     }
+}
+
+/// Where an operator stands among entries that are in canonical order, with no operator twice, or where
+/// it would go.
+pub fn search_entries(entries: &[(u16, u16)], operator: u16) -> Result<usize, usize>
+    requires { AreInOrder entries.now }
+    ensures found { IfOk result (λ at. IsAt entries.now operator at) }
+    ensures absent { IfErr result (λ at. IsGapFor entries.now operator at) }
+{
+    entries.binary_search_by_key(&rank(operator), |&(other, _)| rank(other))
 }
 
 // The place of an operator in the canonical order.

@@ -37,18 +37,18 @@ led (suc p) b (d ∷ banks) (e ∷ edits) c f h =
     }
 
 led_back : (banks : List Parts) (edits : List Edit) (place : ℕ) (b c : Parts) → AreLinked banks edits → IsSound b → slice_get banks 0 ≡ Some b → slice_get banks place ≡ Some c
-    → AllTaken c (reverse (back_to banks edits place)) × (after_all c (reverse (back_to banks edits place)) ≡ b)
+    → IsSound c × AllTaken c (reverse (back_to banks edits place)) × (after_all c (reverse (back_to banks edits place)) ≡ b)
 led_back [] edits place b c f sound first here = absurd cc
 led_back (x ∷ banks) edits place b c f sound first here =
     let same : x ≡ b = cc in
     let k : Led x banks edits place c = led place x banks edits c f here in
     let es : List Edit = take place edits in
     let undone : AreUndone x es = all_undone x es (subst IsSound (sym same) sound) k.taken in
-    let T : Parts → Type 0 = λ y. AllTaken y (undo_list x es) × (after_all y (undo_list x es) ≡ b) in
-    let U : List Edit → Type 0 = λ us. AllTaken c us × (after_all c us ≡ b) in
-    subst U (sym k.back) (subst T (sym k.bank) (undone.taken, undone.restored ∙ same))
+    let T : Parts → Type 0 = λ y. IsSound y × AllTaken y (undo_list x es) × (after_all y (undo_list x es) ≡ b) in
+    let U : List Edit → Type 0 = λ us. IsSound c × AllTaken c us × (after_all c us ≡ b) in
+    subst U (sym k.back) (subst T (sym k.bank) (undone.sound, undone.taken, undone.restored ∙ same))
 
 pub ways_lead_back : (b c : Parts) (ts : List Turn) (last : Live) → IsSound b → AreTurns (started_with b) ts last → IsHistory last.session → bank_now last.session ≡ Some c
-    → AllTaken c (reverse (way_back last.session)) × (after_all c (reverse (way_back last.session)) ≡ b)
+    → IsSound c × AllTaken c (reverse (way_back last.session)) × (after_all c (reverse (way_back last.session)) ≡ b)
 ways_lead_back b c ts last sound h is here =
     led_back last.session.banks last.session.edits last.session.place b c is.linked sound (first_stays ts (started_with b) last b refl h) here

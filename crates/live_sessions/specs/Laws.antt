@@ -18,9 +18,9 @@ FramesAreHeard =
     (b : Parts) (ts : List Turn) (last : Live) → AreTurns (started_with b) ts last
     → flat_map bytes_in ts ≡ flat_map sample_bytes (heard b (flat_map events_in ts))
 
--- Where a session stands, as where it saves, its bank takes the edits of the way back, from the last one on, and they give
--- the bank with which it began.
+-- Where a session stands, as where it saves, its bank is sound, and it takes the edits of the way back, from the last one on,
+-- which give the bank with which it began.
 abbrev pub WaysLeadBack : Type 0
 WaysLeadBack =
     (b c : Parts) (ts : List Turn) (last : Live) → IsSound b → AreTurns (started_with b) ts last → IsHistory last.session → bank_now last.session ≡ Some c
-    → AllTaken c (reverse (way_back last.session)) × (after_all c (reverse (way_back last.session)) ≡ b)
+    → IsSound c × AllTaken c (reverse (way_back last.session)) × (after_all c (reverse (way_back last.session)) ≡ b)

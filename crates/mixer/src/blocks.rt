@@ -6,6 +6,7 @@ ghost use Rattle.mixer.specs.Events.{aged, total_at, next_side, block};
 ghost use Rattle.mixer.specs.Young.{AllYounger};
 
 use crate::playing::Playing;
+use progress::Progress;
 
 // The sides that are summed in one pass: those of 1,024 frames.
 const PART: usize = 2048;
@@ -175,8 +176,9 @@ fn mix_part(voices: &mut [Playing], out: &mut [i16])
     }
 }
 
-// A block, part by part. The voices are left as they are then, those that are over among them.
-pub(crate) fn mix(voices: &mut [Playing], out: &mut [i16])
+// A block, part by part, each of which is heard of as it is done. The voices are left as they are then, those
+// that are over among them.
+pub(crate) fn mix<P: Progress>(voices: &mut [Playing], out: &mut [i16], progress: &mut P)
     requires young { AllYounger (2 ^ 33) voices.old }
     requires even { length out.old % 2 ≡ 0 }
     ensures value { out.new ≡ block voices.old (length out.old / 2) }
@@ -186,6 +188,7 @@ pub(crate) fn mix(voices: &mut [Playing], out: &mut [i16])
     while at < out.len() {
         let n = (out.len() - at).min(PART);
         mix_part(voices, &mut out[at..at + n]);
+        progress.advance(n as u64 / 2);
         at += n;
     }
 }

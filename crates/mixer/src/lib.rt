@@ -13,4 +13,4 @@ pub use laws::{
     order_is_free, stops_are_least,
 };
 pub use player::Player;
-pub use rendering::render;
+pub use rendering::{render, render_with_progress};

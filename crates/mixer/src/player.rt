@@ -7,6 +7,7 @@ use crate::blocks::mix;
 use crate::playing::{Playing, drop_over, drop_silenced, fresh};
 use bank_core::Bank;
 use note_list::Note;
+use progress::{Progress, Unheard};
 use sf_base::OutOfMemory;
 use std::alloc::Global;
 use std::marker::Model;
@@ -64,8 +65,18 @@ impl<'a> Player<'a> {
     /// bits. It takes no memory. Its work is that of the voices' own frames, and, for each 1,024 of them or
     /// what is left, to clear eight kilobytes once and six for each voice; where these are at most 64
     /// frames, it clears at most a sixteenth of that. For no frame it does nothing.
-    #[tactic(auto, unfolding(crate::specs::Events::after_block))]
     pub fn block(&mut self, out: &mut [i16])
+        requires { length out.old % 2 ≡ 0 }
+        ensures heard { out.new ≡ block self.old (length out.old / 2) }
+        ensures live { self.new ≡ after_block self.old (length out.old / 2) }
+        ensures none { length out.old ≡ 0 → self.new ≡ self.old }
+    {
+        self.block_with_progress(out, &mut Unheard);
+    }
+
+    // The same, and the frames are told as they are done.
+    #[tactic(auto, unfolding(crate::specs::Events::after_block))]
+    pub(crate) fn block_with_progress<P: Progress>(&mut self, out: &mut [i16], progress: &mut P)
         requires { length out.old % 2 ≡ 0 }
         ensures heard { out.new ≡ block self.old (length out.old / 2) }
         ensures live { self.new ≡ after_block self.old (length out.old / 2) }
@@ -75,7 +86,7 @@ impl<'a> Player<'a> {
         if out.is_empty() {
             return;
         }
-        mix(voices.as_mut_slice(), out);
+        mix(voices.as_mut_slice(), out, progress);
         drop_over(voices);
     }
 }

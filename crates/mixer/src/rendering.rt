@@ -10,6 +10,7 @@ ghost use Rattle.mixer.specs.Order.{IsRising, StartWithin};
 use crate::player::Player;
 use bank_core::Bank;
 use note_list::Note;
+use progress::{Progress, Unheard, Work};
 use sf_base::OutOfMemory;
 use std::alloc::Global;
 use zone_select::{matches, params};
@@ -23,10 +24,23 @@ pub fn render(alloc: Global, bank: &Bank<'_>, notes: &[Note]) -> Result<Vec<i16>
     ensures value { IfOk result (λ sides. sides.items ≡ whole.render bank.now notes.now) }
     ensures fits { IfOk result (λ sides. IsRendered sides.items) }
 {
+    render_with_progress(alloc, bank, notes, &mut Unheard)
+}
+
+/// The same frames; as they are done, it is told how far they are.
+pub fn render_with_progress<P: Progress>(
+    alloc: Global,
+    bank: &Bank<'_>,
+    notes: &[Note],
+    progress: &mut P,
+) -> Result<Vec<i16>, OutOfMemory>
+    ensures value { IfOk result (λ sides. sides.items ≡ whole.render bank.now notes.now) }
+    ensures fits { IfOk result (λ sides. IsRendered sides.items) }
+{
     let sorted = in_order(alloc, notes)?;
     let count = frame_count(bank, notes);
     let mut out = vec![in alloc; 0i16; 2 * count as usize]?;
-    play(alloc, bank, sorted.as_slice(), out.as_mut_slice())?;
+    play(alloc, bank, sorted.as_slice(), out.as_mut_slice(), progress)?;
     Ok(out)
 }
 
@@ -39,12 +53,32 @@ fn in_order(alloc: Global, notes: &[Note]) -> Result<Vec<Note>, OutOfMemory>
     Ok(sorted)
 }
 
-// Plays notes that are in order.
-fn play<'a>(
+// Plays notes that are in order. It is told how far they are.
+fn play<'a, P: Progress>(
     alloc: Global,
     bank: &Bank<'a>,
     notes: &[Note],
     out: &mut [i16],
+    progress: &mut P,
+) -> Result<(), OutOfMemory>
+    requires even { length out.old % 2 ≡ 0 }
+    requires rising { IsRising 0 notes.now }
+    requires within { StartWithin (length out.old / 2) notes.now }
+    ensures { OnOk result (out.new ≡ order.frames_of bank.now notes.now (length out.old / 2)) }
+{
+    progress.begin(Work::Frames, out.len() as u64 / 2);
+    let played = play_each(alloc, bank, notes, out, progress);
+    progress.end();
+    played
+}
+
+// Plays them one after the other, each from its start on.
+fn play_each<'a, P: Progress>(
+    alloc: Global,
+    bank: &Bank<'a>,
+    notes: &[Note],
+    out: &mut [i16],
+    progress: &mut P,
 ) -> Result<(), OutOfMemory>
     requires even { length out.old % 2 ≡ 0 }
     requires rising { IsRising 0 notes.now }
@@ -55,11 +89,11 @@ fn play<'a>(
     let mut now = 0;
     for note in notes {
         let next = 2 * note.start() as usize;
-        player.block(&mut out[now..next]);
+        player.block_with_progress(&mut out[now..next], progress);
         player.start(alloc, bank, note)?;
         now = next;
     }
-    player.block(&mut out[now..]);
+    player.block_with_progress(&mut out[now..], progress);
     Ok(())
 }
 

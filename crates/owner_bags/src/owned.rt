@@ -1,6 +1,6 @@
 //! The bags of the owners of a level.
 ghost use Rattle.std.specs.Prelude.{◌≡◌, ◌≤◌, ◌<◌, length, slice_get, [], IsSome, IfOk, OnOk, IfSome};
-ghost use Rattle.flat_records.specs.Bags.{Bag, gens_in, mods_in};
+ghost use Rattle.flat_records.specs.Bags.{Bag, gens_in, mods_in, tables_of};
 ghost use Rattle.flat_records.specs.Stored.{Uses, no_records};
 ghost use Rattle.owner_bags.specs.Owned.{all_bags, bag_at};
 
@@ -65,6 +65,15 @@ impl OwnerBags {
         Ok(())
     }
 
+    /// Equal owners, in memory of their own.
+    pub fn copy(&self, alloc: Global) -> Result<OwnerBags, AllocError>
+        ensures { IfOk result (λ r. r.owners ≡ self.now.owners) }
+    {
+        let begins = Vec::from_slice(alloc, &self.begins)?;
+        let bags = self.bags.copy(alloc)?;
+        Ok(OwnerBags { begins, bags })
+    }
+
     /// How many owners there are.
     pub fn owner_count(&self) -> usize
         ensures { result ≡ length self.now.owners }
@@ -91,6 +100,20 @@ impl OwnerBags {
             self.bags.gen_count(),
             self.bags.mod_count(),
         )
+    }
+
+    /// The records of the generators of all owners, with the terminal.
+    pub fn gen_records(&self) -> &[(u16, u16)]
+        ensures { result.now ≡ (tables_of (all_bags self.now.owners)).gens }
+    {
+        self.bags.gen_records()
+    }
+
+    /// The records of the modulators of all owners, with the terminal.
+    pub fn mod_records(&self) -> &[Modulator]
+        ensures { result.now ≡ (tables_of (all_bags self.now.owners)).mods }
+    {
+        self.bags.mod_records()
     }
 
     /// The generators of bag `k` of owner `i`, both of which are there: operators with their amounts.

@@ -7,7 +7,7 @@ use edit_refusals::Refusal;
 use edit_script::print;
 use neutral_edits::{apply_neutral, is_neutral};
 use sf_base::Name20;
-use sfbank::{RunFault, neutral_run};
+use sfbank::{RunFault, Unheard, neutral_run};
 use std::alloc::Global;
 
 // Takes the bank for one of two instruments of one zone: the second one's has a range of its own.
@@ -150,10 +150,17 @@ fn edit_of(call: Call) -> Option<Edit<'static>> {
 fn run(alloc: Global, file: &[u8], script: &[u8], edited: &[u8], back: &[u8]) -> Outcome {
     let mut out = fixed_writer();
     let mut undo = fixed_writer();
-    let ran = match neutral_run(alloc, file, script, &mut out, &mut undo) {
+    let ran = match neutral_run(alloc, file, script, &mut out, &mut undo, &mut Unheard) {
         Ok(()) => Outcome::Done,
         Err(RunFault::Memory) if out.has(b"") && undo.has(b"") => {
-            Outcome::refused(neutral_run(alloc, file, script, &mut out, &mut undo).is_ok())
+            Outcome::refused(neutral_run(
+                alloc,
+                file,
+                script,
+                &mut out,
+                &mut undo,
+                &mut Unheard,
+            ).is_ok())
         }
         Err(_) => Outcome::Wrong,
     };

@@ -1,5 +1,5 @@
 -- Runs with one text: the canonical file, the listing, and the sound.
-use Rattle.std.proofs.Common.{◌≡◌, ℕ, List, [], Option, Some, None, Result, Ok, Err, refl, sym, ap, ◌∙◌}
+use Rattle.std.proofs.Common.{◌≡◌, ℕ, List, [], Option, Some, None, Result, Ok, Err, refl, sym, ap, subst, ◌∙◌}
 use Rattle.std.proofs.KnownBytes.{Keeps-refl}
 use Rattle.sf_base.specs.declared.memory.Failure.{Failure}
 use Rattle.sf_base.specs.declared.memory.Failure.TheVariants as failures
@@ -17,11 +17,13 @@ use Rattle.edit_script.specs.declared.parsing.Line.{Line}
 use Rattle.line_tokens.specs.declared.fault.ScriptFault.{ScriptFault}
 use Rattle.edit_script.specs.Script.{script_of}
 use Rattle.edit_script.proofs.LineLaws.{printed_spell}
+use Rattle.bank_listing.specs.declared.listing.Details.{Details}
 use Rattle.bank_listing.specs.Listing.{listing}
+use Rattle.bank_listing.specs.Details.{detailed_listing}
 use Rattle.sfbank_program.specs.declared.run_fault.RunFault.{RunFault}
 use Rattle.sfbank_program.specs.declared.run_fault.RunFault.TheVariants as run
 use Rattle.sfbank_program.specs.declared.run_fault.Which.TheVariants.{Out}
-use Rattle.sfbank.specs.Outcome.{after_script, after_reading, bank_in, counts_in, outcome, canon_outcome, show_outcome, without_undo, IsEmptyEdit, IsFixed}
+use Rattle.sfbank.specs.Outcome.{after_script, after_reading, bank_in, counts_in, outcome, canon_outcome, show_outcome, show_details_outcome, without_undo, IsEmptyEdit, IsFixed}
 use Rattle.sfbank.specs.Written.{GoesOut, RunsAlone}
 use Rattle.sfbank_program.specs.RunFaults.{in_run}
 use Rattle.sfbank.proofs.Restores.{reading_done}
@@ -43,6 +45,11 @@ pub show_not_read : (U : Type 0) (failure : Failure ReadFault) (known : Option (
 unfolding show_outcome
 show_not_read U failure known file h = not_read U failure known (fault_of file) (Ok (listing (bank_in file) (counts_in file))) h
 
+pub details_not_read : (U : Type 0) (failure : Failure ReadFault) (known : Option (List ℕ)) (details : Details) (file : List ℕ) → Fails failure (fault_of file)
+    → RunsAlone {U = U} known known (show_details_outcome details file) (Err (in_run run.Read failure))
+unfolding show_details_outcome
+details_not_read U failure known details file h = not_read U failure known (fault_of file) (Ok (detailed_listing details (bank_in file) (counts_in file))) h
+
 -- ---- a text that goes out
 
 pub sent_text : {U : Type 0} (old new : Option (List ℕ)) (outcome : Result (List ℕ) RunFault) (text : List ℕ) (r : Result U RunFault) → outcome ≡ Ok text → GoesOut Out old new text r
@@ -56,6 +63,8 @@ sent_text old new outcome text (Err (run.Script fault)) e h = absurd h
 sent_text old new outcome text (Err (run.Refused number why)) e h = absurd h
 sent_text old new outcome text (Err (run.NotNeutral number)) e h = absurd h
 sent_text old new outcome text (Err run.OtherVersion) e h = absurd h
+sent_text old new outcome text (Err (run.Recording fault)) e h = absurd h
+sent_text old new outcome text (Err (run.NoMember cause)) e h = absurd h
 sent_text old new outcome text (Err (run.Notes fault)) e h = absurd h
 
 pub canon_text : (file : List ℕ) (b : Parts) (counts : Counts) → ReadsAs file b counts → canon_outcome file ≡ Ok (canon b)
@@ -69,6 +78,16 @@ unfolding show_outcome
 show_text file b counts r =
     ap (λ (o : Option ReadFault). after_reading o (Ok (listing (bank_in file) (counts_in file)))) r.0
     ∙ ap (λ (c : Content). Ok (listing c.bank c.counts)) r.1
+
+details_text : (details : Details) (file : List ℕ) (b : Parts) (counts : Counts) → ReadsAs file b counts → show_details_outcome details file ≡ Ok (detailed_listing details b counts)
+unfolding show_details_outcome
+details_text details file b counts r =
+    ap (λ (o : Option ReadFault). after_reading o (Ok (detailed_listing details (bank_in file) (counts_in file)))) r.0
+    ∙ ap (λ (c : Content). Ok (detailed_listing details c.bank c.counts)) r.1
+
+pub details_run : {U : Type 0} (old new : Option (List ℕ)) (details : Details) (file : List ℕ) (b : Parts) (counts : Counts) (r : Result U RunFault) → ReadsAs file b counts → RunsAlone old new (Ok (detailed_listing details b counts)) r
+    → RunsAlone old new (show_details_outcome details file) r
+details_run old new details file b counts r reads h = subst (λ (o : Result (List ℕ) RunFault). RunsAlone old new o r) (sym (details_text details file b counts reads)) h
 
 pub canon_runs : {U : Type 0} (old new : Option (List ℕ)) (file : List ℕ) (b : Parts) (counts : Counts) (r : Result U RunFault) → ReadsAs file b counts → GoesOut Out old new (canon b) r
     → RunsAlone old new (canon_outcome file) r

@@ -3,6 +3,7 @@ use Rattle.std.proofs.Common.{◌≡◌, ◌==◌, ℕ, Bool, true, false, List,
 use Rattle.std.proofs.lemmas.Bool.{eq-eqb, eqb-true, ne_eqb}
 use Rattle.std.proofs.KnownBytes.{Keeps-refl}
 use Rattle.std.specs.Io.KnownBytes.{Appends}
+use Rattle.std.specs.Result.{IsErrAnd}
 use Rattle.sf_base.specs.declared.memory.Failure.{Failure}
 use Rattle.sf_base.specs.declared.memory.Failure.TheVariants as failures
 use Rattle.bank_parts.specs.declared.parts.Parts.{Parts}
@@ -123,6 +124,8 @@ sends_difference old new a b p text (Ok u) bytes h s g = sent old new a b p text
 sends_difference old new a b p text (Err (run.Write which n)) bytes h s g = sent {U = Unit {0}} old new a b p text (Err (run.Write which n)) bytes h s g
 sends_difference old new a b p text (Err run.Memory) bytes h s g = absurd g
 sends_difference old new a b p text (Err run.OtherVersion) bytes h s g = absurd g
+sends_difference old new a b p text (Err (run.Recording fault)) bytes h s g = absurd g
+sends_difference old new a b p text (Err (run.NoMember cause)) bytes h s g = absurd g
 sends_difference old new a b p text (Err (run.Read fault)) bytes h s g = absurd g
 sends_difference old new a b p text (Err (run.ReadSecond fault)) bytes h s g = absurd g
 sends_difference old new a b p text (Err (run.Script fault)) bytes h s g = absurd g
@@ -139,11 +142,18 @@ writes_nothing old new a b p es (Ok u) h none g = λ e.
     subst (λ (xs : List Edit). Appends old new (texts_of xs)) (none same) g
 writes_nothing old new a b p es (Err fault) h none g = tt
 
+-- want of memory, before a byte went out
+pub ends_in_memory : {U : Type 0} (known : Option (List ℕ)) (a b : List ℕ) (r : Result U RunFault) → IsErrAnd r (λ fault. fault ≡ run.Memory) → RunsDifference known known a b r
+ends_in_memory known a b (Ok u) h = absurd h
+ends_in_memory {U} known a b (Err fault) h = subst (λ fault. RunsDifference {U = U} known known a b (Err fault)) (sym h) (Keeps-refl known)
+
 pub ends_without : (U X : Type 0) (view : X → Pair) (known : Option (List ℕ)) (a b : List ℕ) (fault : RunFault) → Pairs view (pair_of a b) (Err fault)
     → RunsDifference {U = U} known known a b (Err fault)
 ends_without U X view known a b run.Memory h = Keeps-refl known
 ends_without U X view known a b (run.Write which n) h = absurd h
 ends_without U X view known a b run.OtherVersion h = (h, Keeps-refl known)
+ends_without U X view known a b (run.Recording fault) h = (h, Keeps-refl known)
+ends_without U X view known a b (run.NoMember cause) h = (h, Keeps-refl known)
 ends_without U X view known a b (run.Read fault) h = (h, Keeps-refl known)
 ends_without U X view known a b (run.ReadSecond fault) h = (h, Keeps-refl known)
 ends_without U X view known a b (run.Script fault) h = (h, Keeps-refl known)

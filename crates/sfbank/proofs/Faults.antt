@@ -21,8 +21,8 @@ use Rattle.sfbank_program.specs.declared.run_fault.RunFault.TheVariants as run
 use Rattle.sfbank.specs.Outcome.{Done, edits_of, RefusedLine, first_refused, both_texts, unless_refused, first_not_neutral, if_neutral, after_script, after_neutral_script, after_reading, bank_in, outcome}
 use Rattle.sfbank.specs.Written.{FailsBefore}
 use Rattle.sfbank.specs.Planned.{AllApplied, AllOf, StopsAtLine, first_other, after_lines, outcome_of}
-use Rattle.sfbank_program.specs.declared.words.Forms.{Forms}
-use Rattle.sfbank_program.specs.declared.words.Forms.TheVariants.{Every, Neutral}
+use Rattle.command_words.specs.declared.words.Forms.{Forms}
+use Rattle.command_words.specs.declared.words.Forms.TheVariants.{Every, Neutral}
 use Rattle.sfbank_program.specs.RunFaults.{in_run}
 
 -- ---- the file's fault
@@ -83,27 +83,37 @@ at_other U forms b script lines seen (run.ReadSecond fault) e s h = absurd h
 at_other U forms b script lines seen (run.Script fault) e s h = absurd h
 at_other U forms b script lines seen (run.Notes fault) e s h = absurd h
 at_other U forms b script lines seen run.OtherVersion e s h = absurd h
+at_other U forms b script lines seen (run.Recording fault) e s h = absurd h
+at_other U forms b script lines seen (run.NoMember cause) e s h = absurd h
 at_other U forms b script lines seen (run.Write which n) e s h = h
+
+-- lines of which one is refused, or that want memory
+pub stops_at : (b : Parts) (lines : List Line) (fault : RunFault) → StopsAtLine fault (first_refused b lines) → FailsBefore fault (after_script b (Ok lines))
+stops_at b lines (run.Refused number why) h = ap (λ (o : Option RefusedLine). unless_refused o (both_texts b (edits_of lines))) h
+stops_at b lines run.Memory h = tt
+stops_at b lines (run.Read fault) h = absurd h
+stops_at b lines (run.ReadSecond fault) h = absurd h
+stops_at b lines (run.Script fault) h = absurd h
+stops_at b lines (run.NotNeutral number) h = absurd h
+stops_at b lines run.OtherVersion h = absurd h
+stops_at b lines (run.Recording fault) h = absurd h
+stops_at b lines (run.NoMember cause) h = absurd h
+stops_at b lines (run.Notes fault) h = absurd h
+stops_at b lines (run.Write which n) h = h
 
 pub at_line : (b : Parts) (script : List ℕ) (lines : List Line) (fault : RunFault) → script_of script ≡ Ok lines
     → StopsAtLine fault (first_refused b lines) → FailsBefore fault (after_script b (script_of script))
-at_line b script lines (run.Refused number why) e h =
-    ap (after_script b) e ∙ ap (λ (o : Option RefusedLine). unless_refused o (both_texts b (edits_of lines))) h
-at_line b script lines run.Memory e h = tt
-at_line b script lines (run.Read fault) e h = absurd h
-at_line b script lines (run.ReadSecond fault) e h = absurd h
-at_line b script lines (run.Script fault) e h = absurd h
-at_line b script lines (run.NotNeutral number) e h = absurd h
-at_line b script lines run.OtherVersion e h = absurd h
-at_line b script lines (run.Notes fault) e h = absurd h
-at_line b script lines (run.Write which n) e h = h
+at_line b script lines fault e h = rw e (stops_at b lines fault h)
 
 abbrev texts : Parts → List Edit → Done
 texts b undo = record { out = canon b; undo = texts_of undo }
 
+-- lines that were applied
+pub applied_done : (b new : Parts) (lines : List Line) (undo : List Edit) → AllApplied b new lines undo → after_script b (Ok lines) ≡ Ok (texts new undo)
+applied_done b new lines undo a =
+    ap (λ (o : Option RefusedLine). unless_refused o (both_texts b (edits_of lines))) a.accepted
+    ∙ sym (λ i. Ok (texts (a.changed i) (a.taken_back i)))
+
 pub at_done : (b new : Parts) (script : List ℕ) (lines : List Line) (undo : List Edit) → script_of script ≡ Ok lines
     → AllApplied b new lines undo → after_script b (script_of script) ≡ Ok (texts new undo)
-at_done b new script lines undo e a =
-    ap (after_script b) e
-    ∙ ap (λ (o : Option RefusedLine). unless_refused o (both_texts b (edits_of lines))) a.accepted
-    ∙ sym (λ i. Ok (texts (a.changed i) (a.taken_back i)))
+at_done b new script lines undo e a = ap (after_script b) e ∙ applied_done b new lines undo a

@@ -6,6 +6,10 @@ pub mod Neutral
 pub mod Restores
 pub mod NewBanks
 pub mod BankScripts
+pub mod SavedBanks
 pub mod Differences
 pub mod Sounds
 pub mod Texts
+pub mod Recordings
+pub mod Unsent
+pub mod Maps

@@ -22,7 +22,7 @@ use Rattle.mixer.specs.Render.{render}
 use Rattle.neutral_edits.specs.Neutral.{is_neutral}
 use Rattle.neutral_edits.proofs.EventLaws.{neutral_render}
 use Rattle.wave_file.specs.Wave.{wave}
-use Rattle.sfbank_program.specs.declared.words.Forms.TheVariants.{Every, Neutral}
+use Rattle.command_words.specs.declared.words.Forms.TheVariants.{Every, Neutral}
 use Rattle.sfbank.specs.Outcome.{Done, edits_of, unless_neutral, first_not_neutral, if_neutral, after_script, after_neutral_script, after_reading, bank_in, outcome, neutral_outcome, after_notes, play_outcome, IsNeutrallyUndone, SoundsTheSame}
 use Rattle.sfbank.specs.Planned.{outcome_of}
 use Rattle.sfbank.proofs.Restores.{reading_done, all_taken, script_done, restores}

@@ -77,7 +77,7 @@ outcome_canon b script s =
     ∙ ap (λ (c : Content). after_script c.bank (script_of script)) again.1
 
 -- edits that are taken, on lines of their own
-after_numbered : (b : Parts) (es : List Edit) → AllTaken b es → after_script b (Ok (numbered 1 es)) ≡ Ok (both_texts b es)
+pub after_numbered : (b : Parts) (es : List Edit) → AllTaken b es → after_script b (Ok (numbered 1 es)) ≡ Ok (both_texts b es)
 after_numbered b es h =
     ap (λ (o : Option RefusedLine). unless_refused o (both_texts b (edits_of (numbered 1 es)))) (none_refused b 1 es h)
     ∙ ap (λ (xs : List Edit). Ok (both_texts b xs)) (edits_numbered 1 es)

@@ -15,7 +15,9 @@ use Rattle.edit_script.specs.declared.parsing.Line.{Line}
 use Rattle.line_tokens.specs.declared.fault.ScriptFault.{ScriptFault}
 use Rattle.edit_script.specs.Script.{script_of}
 use Rattle.edit_script.specs.Printing.{texts_of}
+use Rattle.bank_listing.specs.declared.listing.Details.{Details}
 use Rattle.bank_listing.specs.Listing.{listing}
+use Rattle.bank_listing.specs.Details.{detailed_listing}
 use Rattle.note_list.specs.declared.fault.NoteFault.{NoteFault}
 use Rattle.note_list.specs.Notes.{Numbers, notes_of}
 use Rattle.mixer.specs.Render.{render}
@@ -107,6 +109,10 @@ canon_outcome file = after_reading (fault_of file) (Ok (canon (bank_in file)))
 -- The first broken step of the file, else the listing of its bank and of the counts of reading it.
 unfoldable pub show_outcome : List ℕ → Result (List ℕ) RunFault
 show_outcome file = after_reading (fault_of file) (Ok (listing (bank_in file) (counts_in file)))
+
+-- The first broken step of the file, else the listing of its bank and of the counts of reading it, with these details.
+unfoldable pub show_details_outcome : Details → List ℕ → Result (List ℕ) RunFault
+show_details_outcome details file = after_reading (fault_of file) (Ok (detailed_listing details (bank_in file) (counts_in file)))
 
 -- the WAVE file of notes that are played on a bank, or their first fault
 abbrev pub after_notes : Parts → Result (List Numbers) NoteFault → Result (List ℕ) RunFault

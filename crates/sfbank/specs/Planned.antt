@@ -9,8 +9,8 @@ use Rattle.sfbank_program.specs.declared.run_fault.RunFault.TheVariants as run
 use Rattle.bank_format.specs.ReadSteps.{fault_of}
 use Rattle.line_tokens.specs.declared.fault.ScriptFault.{ScriptFault}
 use Rattle.edit_script.specs.Script.{script_of}
-use Rattle.sfbank_program.specs.declared.words.Forms.{Forms}
-use Rattle.sfbank_program.specs.declared.words.Forms.TheVariants.{Every, Neutral}
+use Rattle.command_words.specs.declared.words.Forms.{Forms}
+use Rattle.command_words.specs.declared.words.Forms.TheVariants.{Every, Neutral}
 use Rattle.sfbank.specs.Outcome.{Done, edits_of, RefusedLine, first_refused, first_not_neutral, after_script, after_neutral_script, after_reading, bank_in}
 
 -- the first refused line, or want of memory

@@ -1,28 +1,36 @@
 //! Texts go out, each whole and flushed.
-ghost use Rattle.std.specs.Prelude.{◌≡◌};
+ghost use Rattle.std.specs.Prelude.{◌≡◌, ◌≤◌, Ok, length};
 ghost use Rattle.outputs.specs.Output.{Puts};
 ghost use Rattle.bank_format.specs.Canon.{canon};
 ghost use Rattle.bank_text.specs.Printed.{bank_script};
 ghost use Rattle.bank_text.specs.Whole.{edits_between};
 ghost use Rattle.bank_listing.specs.Listing.{listing};
+ghost use Rattle.bank_listing.specs.Details.{detailed_listing};
 ghost use Rattle.edit_script.specs.Printing.{texts_of};
+ghost use Rattle.sf_base.specs.declared.limits.TheConstants.{POINTS};
+ghost use Rattle.wave_file.specs.SampleWave.{sample_wave};
+ghost use Rattle.zone_map.specs.Picture.{picture};
 ghost use Rattle.wave_file.specs.Wave.{FitsWave, wave};
-ghost use Rattle.sfbank_program.specs.declared.run_fault.Which.TheVariants.{Out};
-ghost use Rattle.sfbank.specs.Written.{Delivers, GoesOut, IsTold};
+ghost use Rattle.live_sessions.specs.Saved.{undo_text};
+ghost use Rattle.sfbank_program.specs.declared.run_fault.Which.TheVariants.{Out, Undo};
+ghost use Rattle.sfbank.specs.Written.{Delivers, GoesOut, RunsAlone, IsTold};
 ghost use Rattle.sfbank.specs.Plans.{planned};
 
 use crate::plan::Plan;
-use bank_core::Bank;
+use bank_core::{Bank, Owner, Sample};
 use bank_format::Counts;
-use bank_listing::put_listing;
+use bank_listing::{Details, put_details, put_listing};
 use bank_text::{SamplePoints, put_bank_text, put_replacement};
 use edit_forms::Edit;
 use edit_script::put_edit;
+use live_sessions::put_undo;
 use outputs::{Output, WriteFault};
 use sf_writer::put_bank;
 use sfbank_program::{RunFault, Which};
+use std::alloc::Global;
 use std::io::Write;
-use wave_file::put_wave;
+use wave_file::{put_sample_wave, put_wave};
+use zone_map::put_map;
 
 /// The bank's file goes out, and then the undo text. It takes no memory.
 pub(crate) fn deliver<W: Write, V: Write>(
@@ -61,6 +69,35 @@ pub(crate) fn deliver_listing<W: Write>(
     told(Which::Out, output.deliver())
 }
 
+/// The listing of a bank with details goes out. Where there is no memory to count uses, nothing does.
+pub(crate) fn deliver_details<W: Write>(
+    alloc: Global,
+    bank: &Bank<'_>,
+    counts: &Counts,
+    details: Details,
+    out: &mut W,
+) -> Result<(), RunFault>
+    ensures { RunsAlone (W.contents out.old) (W.contents out.new) (Ok (detailed_listing details bank.now counts.now)) result }
+{
+    let mut output = Output::to(out);
+    put_details(alloc, bank, counts, details, &mut output)?;
+    told(Which::Out, output.deliver())
+}
+
+/// The picture of the zones of a preset or an instrument goes out. It takes no memory.
+#[tactic(auto, using(crate::proofs::Texts::text_goes_out))]
+pub(crate) fn deliver_map<W: Write>(
+    bank: &Bank<'_>,
+    owner: Owner,
+    out: &mut W,
+) -> Result<(), RunFault>
+    ensures { GoesOut Out (W.contents out.old) (W.contents out.new) (picture bank.now owner) result }
+{
+    let mut output = Output::to(out);
+    put_map(bank, owner, &mut output);
+    told(Which::Out, output.deliver())
+}
+
 /// The WAVE file of frames goes out, which are samples of the left and the right side in turn. It takes
 /// no memory.
 #[tactic(auto, using(crate::proofs::Texts::text_goes_out))]
@@ -70,6 +107,17 @@ pub(crate) fn deliver_wave<W: Write>(frames: &[i16], out: &mut W) -> Result<(), 
 {
     let mut output = Output::to(out);
     put_wave(frames, &mut output);
+    told(Which::Out, output.deliver())
+}
+
+/// The WAVE file of a sample goes out. It takes no memory.
+#[tactic(auto, using(crate::proofs::Texts::text_goes_out))]
+pub(crate) fn deliver_sample<W: Write>(sample: &Sample<'_>, out: &mut W) -> Result<(), RunFault>
+    requires { length sample.now.points ≤ POINTS }
+    ensures { GoesOut Out (W.contents out.old) (W.contents out.new) (sample_wave sample.now) result }
+{
+    let mut output = Output::to(out);
+    put_sample_wave(sample, &mut output);
     told(Which::Out, output.deliver())
 }
 
@@ -113,6 +161,17 @@ pub(crate) fn deliver_edits<W: Write>(
     let mut output = Output::to(out);
     put_edits(edits, &mut output);
     told(which, output.deliver())
+}
+
+/// The script goes out that takes a session's bank back, by the edits that do so, of which the oldest one's comes
+/// first. It takes no memory.
+#[tactic(auto, using(crate::proofs::Texts::text_goes_out))]
+pub(crate) fn deliver_undo<W: Write>(back: &[Edit<'_>], out: &mut W) -> Result<(), RunFault>
+    ensures { GoesOut Undo (W.contents out.old) (W.contents out.new) (undo_text back.now) result }
+{
+    let mut output = Output::to(out);
+    put_undo(back, &mut output);
+    told(Which::Undo, output.deliver())
 }
 
 /// Puts the lines of the edits. It takes no memory.

@@ -9,11 +9,13 @@ ghost use Rattle.sfbank.specs.Plans.{planned};
 
 use bank_core::Bank;
 use bank_edits::apply;
+use command_words::Forms;
 use edit_forms::Edit;
 use edit_refusals::Refusal;
 use edit_script::{Line, parse};
 use neutral_edits::is_neutral;
-use sfbank_program::{Forms, RunFault};
+use progress::{Progress, Work};
+use sfbank_program::RunFault;
 use std::alloc::Global;
 
 /// The edited bank, and the edits that take its edits back, the last one's first. They borrow from the
@@ -24,20 +26,22 @@ pub(crate) struct Plan<'a> {
     pub(crate) undo: Vec<Edit<'a>>,
 }
 
-/// Runs a script of edits of these forms on a bank, over the pool of its literals. Nothing goes out.
-pub(crate) fn make_plan<'a>(
+/// Runs a script of edits of these forms on a bank, over the pool of its literals, and tells how far it is.
+/// Nothing goes out.
+pub(crate) fn make_plan<'a, P: Progress>(
     alloc: Global,
     mut bank: Bank<'a>,
     script: &[u8],
     pool: &'a [u8],
     forms: Forms,
+    progress: &mut P,
 ) -> Result<Plan<'a>, RunFault>
     requires pool { pool_bytes script.now ≡ Ok pool.now }
     ensures plans { Plans planned (after_lines forms bank.entry (script_of script.now)) result }
 {
     let lines = parse(alloc, script, pool)?;
     all_of(forms, lines.as_slice())?;
-    let undo = apply_all(alloc, &mut bank, lines)?;
+    let undo = apply_all(alloc, &mut bank, lines, progress)?;
     Ok(Plan { bank, undo })
 }
 
@@ -62,11 +66,29 @@ fn all_neutral(lines: &[Line<'_>]) -> Result<(), RunFault>
     Ok(())
 }
 
-// Applies the edits in order, and gives those that take them back, the last one's first.
-fn apply_all<'a>(
+/// Applies the edits in order, and gives those that take them back, the last one's first. It is told how
+/// far they are.
+pub(crate) fn apply_all<'a, P: Progress>(
     alloc: Global,
     bank: &mut Bank<'a>,
     lines: Vec<Line<'a>>,
+    progress: &mut P,
+) -> Result<Vec<Edit<'a>>, RunFault>
+    ensures applied { MatchResult result (λ undo. AllApplied bank.old bank.new lines.entry.items undo.items)
+        (λ fault. StopsAtLine fault (first_refused bank.old lines.entry.items)) }
+{
+    progress.begin(Work::Lines, lines.len() as u64);
+    let applied = apply_each(alloc, bank, lines, progress);
+    progress.end();
+    applied
+}
+
+// Applies them one after the other.
+fn apply_each<'a, P: Progress>(
+    alloc: Global,
+    bank: &mut Bank<'a>,
+    lines: Vec<Line<'a>>,
+    progress: &mut P,
 ) -> Result<Vec<Edit<'a>>, RunFault>
     ensures applied { MatchResult result (λ undo. AllApplied bank.old bank.new lines.entry.items undo.items)
         (λ fault. StopsAtLine fault (first_refused bank.old lines.entry.items)) }
@@ -78,6 +100,7 @@ fn apply_all<'a>(
             Err((Refusal::OutOfMemory, _edit)) => return Err(RunFault::Memory),
             Err((why, _edit)) => return Err(RunFault::Refused(line.number, why)),
         }
+        progress.advance(1);
     }
     inverses.as_mut_slice().reverse();
     Ok(inverses)

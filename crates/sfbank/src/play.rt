@@ -3,8 +3,9 @@ ghost use Rattle.sfbank.specs.Outcome.{play_outcome, SoundsInCanon};
 ghost use Rattle.sfbank.specs.Written.{RunsAlone};
 
 use crate::deliver::deliver_wave;
-use mixer::render;
+use mixer::render_with_progress;
 use note_list::parse_notes;
+use progress::Progress;
 use sf_reader::read;
 use sfbank_program::RunFault;
 use std::alloc::Global;
@@ -14,12 +15,14 @@ use std::io::Write;
 /// frames to `out`, whole and flushed.
 ///
 /// Where the file has a fault, or the notes have one, not one byte goes to the writer; so it is for want
-/// of memory. A writer's fault, which is of `Which::Out`, tells how many bytes of the file it took.
-pub fn play_run<W: Write>(
+/// of memory. A writer's fault, which is of `Which::Out`, tells how many bytes of the file it took. As the
+/// frames are done, `progress` hears how far they are.
+pub fn play_run<W: Write, P: Progress>(
     alloc: Global,
     file: &[u8],
     notes: &[u8],
     out: &mut W,
+    progress: &mut P,
 ) -> Result<(), RunFault>
     // The outcome of these bytes goes out: the fault of the file, else of the notes, else the WAVE file.
     ensures runs { RunsAlone (W.contents out.old) (W.contents out.new) (play_outcome file.now notes.now) result }
@@ -28,6 +31,6 @@ pub fn play_run<W: Write>(
 {
     let (bank, _counts) = read(alloc, file)?;
     let notes = parse_notes(alloc, notes)?;
-    let frames = render(alloc, &bank, notes.as_slice())?;
+    let frames = render_with_progress(alloc, &bank, notes.as_slice(), progress)?;
     deliver_wave(frames.as_slice(), out)
 }

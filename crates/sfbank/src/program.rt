@@ -4,38 +4,54 @@ ghost use Rattle.sfbank_program.specs.Telling.{Ends};
 mod apply;
 mod canon;
 mod diff;
+mod endings;
+mod explain;
+mod import;
+mod live;
+mod map;
 mod new;
 mod play;
 mod script;
 mod show;
+mod wave;
 
 use apply::apply;
 use canon::canon;
 use clap::error::ErrorKind;
+use command_words::{Request, request_of};
 use diff::diff;
+use endings::at;
+use explain::explain;
+use import::import;
+use live::live;
+use map::map;
 use new::new;
 use outputs::Output;
 use play::play;
+use progress::Progress;
 use script::script;
-use sfbank_program::{Fault, Request, RunFault, STANDARD_OUTPUT, Which, request_of, tell};
+use sfbank_program::{Fault, RunFault, STANDARD_OUTPUT, Which, tell};
 use show::show;
 use std::alloc::{AllocError, Global};
 use std::convert::AsStr;
 use std::env::Env;
-use std::io::Write;
+use std::io::{Read, Write};
 use std::rt::Files;
 use std::{env, io};
+use wave::wave;
 
 /// Runs the program on the words that it was started with, and answers its exit status.
-pub fn run_with_arguments<R: Env + Files + AllocGlobal, O: Write, E: Write>(
+pub fn run_with_arguments<R: Env + Files + AllocGlobal, I: Read, O: Write, E: Write, P: Progress>(
     rt: &R,
+    input: &mut I,
     output: &mut O,
     errors: &mut E,
+    progress: &mut P,
 ) -> u8
     ensures { Ends (E.contents errors.old) (E.contents errors.new) result }
 {
     match arguments(rt) {
-        Ok(words) => run(rt, words.as_slice(), output, errors),
+        Ok(words) => run(rt, words.as_slice(), input, output, errors, progress),
         Err(fault) => tell(&fault, errors),
     }
 }
@@ -56,43 +72,53 @@ fn arguments<R: Env + AllocGlobal>(rt: &R) -> Result<Vec<String>, Fault<'static>
 /// |---|---|
 /// | 0 | done, or help or the version was asked for |
 /// | 1 | the words are refused |
-/// | 2 | a file is no bank |
+/// | 2 | a file is no bank, or no WAVE file that is taken |
 /// | 3 | the script or the text of notes has a fault |
-/// | 4 | an edit is refused, or two banks are of different versions |
+/// | 4 | an edit is refused, or there is no such member, or two banks are of different versions |
 /// | 5 | an input can't be read or is too long, or an output can't be written |
 /// | 6 | want of memory |
 ///
-/// What `show` tells, help and the version go to `output`.
+/// The lines of `live` come from `input`. What `show` and `explain` tell, the answers of `live`, help and the version
+/// go to `output`. `progress` hears how far `apply` and `play` are.
 /// Where it is not 0, one line (of clap's text, more) goes to `errors`. If that can't be written, the
 /// status is the same.
-pub fn run<R: Files + AllocGlobal, S: AsStr, O: Write, E: Write>(
+pub fn run<R: Files + AllocGlobal, S: AsStr, I: Read, O: Write, E: Write, P: Progress>(
     rt: &R,
     words: &[S],
+    input: &mut I,
     output: &mut O,
     errors: &mut E,
+    progress: &mut P,
 ) -> u8
     ensures { Ends (E.contents errors.old) (E.contents errors.new) result }
 {
-    match serve(rt, words, output) {
+    match serve(rt, words, input, output, progress) {
         Ok(()) => 0,
         Err(fault) => tell(&fault, errors),
     }
 }
 
 /// Does what the words ask for.
-fn serve<'a, R: Files + AllocGlobal, S: AsStr, O: Write>(
+fn serve<'a, R: Files + AllocGlobal, S: AsStr, I: Read, O: Write, P: Progress>(
     rt: &'a R,
     words: &'a [S],
+    input: &mut I,
     output: &mut O,
+    progress: &mut P,
 ) -> Result<(), Fault<'a>> {
     match request_of(rt.alloc(), words) {
-        Ok(Request::Apply(paths)) => apply(rt, paths),
+        Ok(Request::Apply(paths)) => apply(rt, paths, progress),
         Ok(Request::Canon(paths)) => canon(rt, paths),
         Ok(Request::Diff(paths)) => diff(rt, paths),
+        Ok(Request::Explain(number)) => explain(number, output),
+        Ok(Request::Import(paths)) => import(rt, paths),
+        Ok(Request::Live(paths)) => live(rt, paths, input, output),
+        Ok(Request::Map(paths)) => map(rt, paths),
         Ok(Request::New(bank)) => new(rt, bank),
-        Ok(Request::Play(paths)) => play(rt, paths),
+        Ok(Request::Play(paths)) => play(rt, paths, progress),
         Ok(Request::Script(paths)) => script(rt, paths),
-        Ok(Request::Show(input)) => show(rt, input, output),
+        Ok(Request::Show(paths)) => show(rt, paths, output),
+        Ok(Request::Wave(paths)) => wave(rt, paths),
         Err(error) => answer(rt.alloc(), error, output),
     }
 }
@@ -119,6 +145,9 @@ fn put_text<'a, O: Write>(text: &str, out: &mut O) -> Result<(), Fault<'a>> {
     output.put(text.as_bytes());
     match output.deliver() {
         Ok(_) => Ok(()),
-        Err(fault) => Err(Fault::Run(RunFault::Write(Which::Out, fault.written), STANDARD_OUTPUT)),
+        Err(fault) => at(
+            STANDARD_OUTPUT,
+            Err(RunFault::Write(Which::Out, fault.written)),
+        ),
     }
 }

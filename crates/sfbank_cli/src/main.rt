@@ -2,9 +2,15 @@
 //! comes back.
 #![tactic(auto)]
 
-use sfbank::run_with_arguments;
+use sfbank::{Meter, Prompted, run_with_arguments};
+use std::io::IsTerminal;
 use std::process::ExitCode;
 
 fn main(rt: HostRuntime) -> ExitCode {
-    ExitCode::from(run_with_arguments(&rt, &mut rt.stdout(), &mut rt.stderr()))
+    let is_typed = rt.stdin().is_terminal();
+    let is_watched = rt.stderr().is_terminal();
+    let mut input = Prompted::new(rt.stdin(), rt.stdout(), is_typed);
+    let (mut output, mut errors) = (rt.stdout(), rt.stderr());
+    let mut meter = Meter::new(&rt, rt.stderr(), is_watched);
+    ExitCode::from(run_with_arguments(&rt, &mut input, &mut output, &mut errors, &mut meter))
 }

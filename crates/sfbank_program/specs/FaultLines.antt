@@ -7,14 +7,18 @@ use Rattle.line_tokens.specs.declared.fault.ScriptFault.{ScriptFault}
 use Rattle.line_tokens.specs.Faults as scripts
 use Rattle.note_list.specs.declared.fault.NoteFault.{NoteFault}
 use Rattle.note_list.specs.Faults as notes
+use Rattle.recordings.specs.declared.fault.WaveFault.{WaveFault}
+use Rattle.recordings.specs.FaultNames as recordings
 use Rattle.bank_validity.specs.declared.limits.Limit.{Limit}
 use Rattle.bank_validity.specs.Limits.{word_of}
 use Rattle.edit_refusals.specs.declared.cause.Cause.{Cause}
 use Rattle.edit_refusals.specs.declared.refusal.Refusal.{Refusal}
 use Rattle.edit_refusals.specs.declared.refusal.Refusal.TheVariants.{Of, OutOfMemory, NothingToUndo, NothingToRedo, GroupRefused}
 use Rattle.edit_refusals.specs.CauseNames as causes
+use Rattle.sfbank_program.specs.declared.input_fault.InputFault.{InputFault}
+use Rattle.sfbank_program.specs.InputFaults.{reason_of}
 use Rattle.sfbank_program.specs.declared.run_fault.RunFault.{RunFault}
-use Rattle.sfbank_program.specs.declared.run_fault.RunFault.TheVariants.{Read, ReadSecond, Script, Refused, NotNeutral, OtherVersion, Notes, Write, Memory}
+use Rattle.sfbank_program.specs.declared.run_fault.RunFault.TheVariants.{Read, ReadSecond, Script, Refused, NotNeutral, OtherVersion, Notes, Recording, NoMember, Write, Memory}
 
 -- a fault of reading, by its number and its name
 abbrev pub read_text : ReadFault → List ℕ
@@ -66,12 +70,31 @@ refused_line line why = refusal_text line why ++ (detail_text why ++ codes "\n")
 abbrev pub not_neutral_line : ℕ → List ℕ
 not_neutral_line line = concat (codes "sfbank: line " ∷ decimal line ∷ codes ": refused 50 NotNeutral\n" ∷ [])
 
+-- a line that ends with a number and a name
+abbrev pub named_line : List ℕ → ℕ → List ℕ → List ℕ
+named_line start number name = concat (start ∷ decimal number ∷ codes " " ∷ name ∷ codes "\n" ∷ [])
+
+-- a fault of a WAVE file, by its number and its name
+abbrev pub recording_line : WaveFault → List ℕ
+recording_line fault = named_line (codes "sfbank: wave fault ") (recordings.number_of fault) (recordings.name_of fault)
+
+-- a member that isn't there, which no line asked for
+abbrev pub no_member_line : Cause → List ℕ
+no_member_line cause = named_line (codes "sfbank: refused ") (causes.number_of cause) (causes.name_of cause)
+
 abbrev pub write_line : List ℕ → ℕ → List ℕ
 write_line path written = concat (codes "sfbank: write fault " ∷ path ∷ codes " after " ∷ decimal written ∷ codes " bytes\n" ∷ [])
 
--- an input at a path that can't be read, or is too long
-abbrev pub file_line : List ℕ → List ℕ
-file_line path = concat (codes "sfbank: file fault " ∷ path ∷ codes "\n" ∷ [])
+-- an input at a path that is not there as a whole, and why
+abbrev pub file_reason_line : List ℕ → List ℕ → List ℕ
+file_reason_line path reason = concat (codes "sfbank: file fault " ∷ path ∷ codes ": " ∷ reason ∷ codes "\n" ∷ [])
+
+abbrev pub file_line : List ℕ → InputFault → List ℕ
+file_line path fault = file_reason_line path (reason_of fault)
+
+-- a number that no fault and no refusal has
+abbrev pub unexplained_line : ℕ → List ℕ
+unexplained_line number = concat (codes "error: no fault and no refusal has the number " ∷ decimal number ∷ codes "\n" ∷ [])
 
 -- the line of a run's fault, with its line feed; a write fault has the path
 unfoldable pub fault_line : List ℕ → RunFault → List ℕ
@@ -82,6 +105,8 @@ fault_line path (Refused line why) = refused_line line why
 fault_line path (NotNeutral line) = not_neutral_line line
 fault_line path OtherVersion = codes "sfbank: refused 51 OtherVersion\n"
 fault_line path (Notes fault) = notes_line fault
+fault_line path (Recording fault) = recording_line fault
+fault_line path (NoMember cause) = no_member_line cause
 fault_line path (Write which written) = write_line path written
 fault_line path Memory = codes "sfbank: out of memory\n"
 
@@ -94,5 +119,7 @@ status_of (Refused line why) = 4
 status_of (NotNeutral line) = 4
 status_of OtherVersion = 4
 status_of (Notes fault) = 3
+status_of (Recording fault) = 2
+status_of (NoMember cause) = 4
 status_of (Write which written) = 5
 status_of Memory = 6

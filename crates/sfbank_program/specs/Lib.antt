@@ -1,6 +1,6 @@
 pub mod FaultLines
+pub mod InputFaults
 pub mod Inputs
 pub mod RunFaults
 pub mod Saving
 pub mod Telling
-pub mod Words

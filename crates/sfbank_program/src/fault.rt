@@ -1,4 +1,5 @@
 //! How a command ends that is not done.
+use crate::input_fault::InputFault;
 use crate::run_fault::RunFault;
 use std::alloc::AllocError;
 
@@ -12,8 +13,10 @@ pub enum Fault<'a> {
     Words(clap::Error),
     /// A word is not text.
     NotText,
-    /// An input at this path can't be read, or is too long.
-    File(&'a str),
+    /// No fault and no refusal has this number.
+    Unexplained(u32),
+    /// An input at this path is not there as a whole, and why.
+    File(&'a str, InputFault),
     /// The run is not done. Where a write failed, it is at this path.
     Run(RunFault, &'a str),
 }

@@ -3,14 +3,16 @@ ghost use Rattle.std.specs.Prelude.{◌≡◌, IfOk};
 ghost use Rattle.outputs.specs.Output.{Puts};
 ghost use Rattle.outputs.specs.Writing.{Writes};
 ghost use Rattle.sample_view.specs.Pieces.{joined_bytes};
-ghost use Rattle.sfbank_program.specs.FaultLines.{fault_line, status_of, read_line, second_read_line, read_text, text_line, refused_line, not_neutral_line, refusal_text, detail_text, step_text, limit_text, write_line, file_line};
+ghost use Rattle.sfbank_program.specs.FaultLines.{fault_line, status_of, read_line, second_read_line, read_text, text_line, refused_line, not_neutral_line, named_line, recording_line, no_member_line, refusal_text, detail_text, step_text, limit_text, write_line, file_line, file_reason_line, unexplained_line};
 
+use crate::input_fault::InputFault;
 use crate::run_fault::RunFault;
 use bank_format::ReadFault;
 use bank_validity::Limit;
 use edit_refusals::{Cause, Refusal};
 use itoa::Buffer;
 use outputs::{Output, WriteFault};
+use recordings::WaveFault;
 use std::io::Write;
 
 /// Writes the line of a run's fault, with its line feed, and gives the exit status that goes with it.
@@ -25,15 +27,19 @@ pub fn fault_text<W: Write>(fault: &RunFault, path: &str, out: &mut W) -> Result
     Ok(exit_status(fault))
 }
 
-/// The exit status of a program whose run ends so: 2 for a fault of a file, 3 of the script or of the
-/// notes, 4 for a refused edit or banks of different versions, 5 for a write fault, and 6 for want of memory.
+/// The exit status of a program whose run ends so: 2 for a fault of a file, a WAVE file included, 3 of the
+/// script or of the notes, 4 for a refused edit, a member that isn't there or banks of different versions, 5 for
+/// a write fault, and 6 for want of memory.
 pub fn exit_status(fault: &RunFault) -> u8
     ensures { result ≡ status_of fault.now }
 {
     match fault {
-        RunFault::Read(_) | RunFault::ReadSecond(_) => 2,
+        RunFault::Read(_) | RunFault::ReadSecond(_) | RunFault::Recording(_) => 2,
         RunFault::Script(_) | RunFault::Notes(_) => 3,
-        RunFault::Refused(_, _) | RunFault::NotNeutral(_) | RunFault::OtherVersion => 4,
+        RunFault::Refused(_, _)
+        | RunFault::NotNeutral(_)
+        | RunFault::OtherVersion
+        | RunFault::NoMember(_) => 4,
         RunFault::Write(_, _) => 5,
         RunFault::Memory => 6,
     }
@@ -55,6 +61,8 @@ fn put_fault<W: Write>(fault: &RunFault, path: &str, output: &mut Output<'_, W>)
         RunFault::Refused(line, why) => put_refused(*line, *why, output),
         RunFault::NotNeutral(line) => put_not_neutral(*line, output),
         RunFault::OtherVersion => put_pieces(&[b"sfbank: refused 51 OtherVersion\n"], output),
+        RunFault::Recording(fault) => put_recording_fault(*fault, output),
+        RunFault::NoMember(cause) => put_no_member(*cause, output),
         RunFault::Write(_, written) => put_write_fault(path, *written, output),
         RunFault::Memory => put_pieces(&[b"sfbank: out of memory\n"], output),
     }
@@ -152,6 +160,37 @@ fn put_not_neutral<W: Write>(line: u64, output: &mut Output<'_, W>)
     );
 }
 
+// A fault of a WAVE file.
+fn put_recording_fault<W: Write>(fault: WaveFault, output: &mut Output<'_, W>)
+    ensures { Puts W.contents output.old output.new (recording_line fault) }
+{
+    put_named("sfbank: wave fault ", fault.number(), fault.name(), output);
+}
+
+// A member that isn't there, which no line asked for.
+fn put_no_member<W: Write>(cause: Cause, output: &mut Output<'_, W>)
+    ensures { Puts W.contents output.old output.new (no_member_line cause) }
+{
+    put_named("sfbank: refused ", cause.number(), cause.name(), output);
+}
+
+// A line that ends with a number and a name.
+fn put_named<'t, W: Write>(start: &'t str, number: u8, name: &'t str, output: &mut Output<'_, W>)
+    ensures { Puts W.contents output.old output.new (named_line start.now number name.now) }
+{
+    let mut digits = Buffer::new();
+    put_pieces(
+        &[
+            start.as_bytes(),
+            digits.format(number).as_bytes(),
+            b" ",
+            name.as_bytes(),
+            b"\n",
+        ],
+        output,
+    );
+}
+
 // What stands behind the name.
 fn put_detail<W: Write>(why: Refusal, output: &mut Output<'_, W>)
     ensures { Puts W.contents output.old output.new (detail_text why) }
@@ -210,23 +249,65 @@ fn put_write_fault<W: Write>(path: &str, written: u64, output: &mut Output<'_, W
     );
 }
 
-/// Writes the line of an input at a path that can't be read, or is too long.
-pub(crate) fn file_fault_text<W: Write>(path: &str, out: &mut W) -> Result<u64, WriteFault>
-    ensures { Writes (W.contents out.old) (W.contents out.new) (file_line path.now) result }
+/// Writes the line of an input at a path that is not there as a whole.
+pub(crate) fn file_fault_text<W: Write>(
+    path: &str,
+    fault: InputFault,
+    out: &mut W,
+) -> Result<u64, WriteFault>
+    ensures { Writes (W.contents out.old) (W.contents out.new) (file_line path.now fault) result }
 {
     let mut output = Output::to(out);
-    put_file_fault(path, &mut output);
+    put_file_fault(path, fault, &mut output);
     output.end()
 }
 
-fn put_file_fault<W: Write>(path: &str, output: &mut Output<'_, W>)
-    ensures { Puts W.contents output.old output.new (file_line path.now) }
+fn put_file_fault<W: Write>(path: &str, fault: InputFault, output: &mut Output<'_, W>)
+    ensures { Puts W.contents output.old output.new (file_line path.now fault) }
 {
-    put_pieces(&[b"sfbank: file fault ", path.as_bytes(), b"\n"], output);
+    put_file_reason(path, fault.reason(), output);
 }
 
-// Puts the pieces one after the other.
-fn put_pieces<W: Write>(pieces: &[&[u8]], output: &mut Output<'_, W>)
+fn put_file_reason<'t, W: Write>(path: &'t str, reason: &'t str, output: &mut Output<'_, W>)
+    ensures { Puts W.contents output.old output.new (file_reason_line path.now reason.now) }
+{
+    put_pieces(
+        &[
+            b"sfbank: file fault ",
+            path.as_bytes(),
+            b": ",
+            reason.as_bytes(),
+            b"\n",
+        ],
+        output,
+    );
+}
+
+/// Writes the line of a number that no fault and no refusal has.
+pub(crate) fn unexplained_text<W: Write>(number: u32, out: &mut W) -> Result<u64, WriteFault>
+    ensures { Writes (W.contents out.old) (W.contents out.new) (unexplained_line number) result }
+{
+    let mut output = Output::to(out);
+    put_unexplained(number, &mut output);
+    output.end()
+}
+
+fn put_unexplained<W: Write>(number: u32, output: &mut Output<'_, W>)
+    ensures { Puts W.contents output.old output.new (unexplained_line number) }
+{
+    let mut digits = Buffer::new();
+    put_pieces(
+        &[
+            b"error: no fault and no refusal has the number ",
+            digits.format(number).as_bytes(),
+            b"\n",
+        ],
+        output,
+    );
+}
+
+/// Puts the pieces one after the other.
+pub(crate) fn put_pieces<W: Write>(pieces: &[&[u8]], output: &mut Output<'_, W>)
     ensures { Puts W.contents output.old output.new (joined_bytes pieces.now) }
 {
     for piece in pieces {

@@ -3,9 +3,10 @@ ghost use Rattle.std.specs.Prelude.{◌≡◌, ◌≢◌, ◌+◌, ◌<◌, ◌�
 ghost use Rattle.std.specs.Io.KnownBytes.{Consumes, IsAtEnd};
 ghost use Rattle.sfbank_program.specs.Inputs.{most_bytes, TakesPiece, TakesAll, TakesMost};
 ghost use Rattle.sf_base.specs.declared.memory.Failure.TheVariants.{Fault as FaultOf};
-ghost use Rattle.sfbank_program.specs.declared.input.InputFault.TheVariants.{TooLong, Unreadable};
+ghost use Rattle.sfbank_program.specs.declared.input_fault.InputFault.TheVariants.{TooLong};
 
 use crate::fault::Fault;
+use crate::input_fault::InputFault;
 use crate::run_fault::RunFault;
 use sf_base::Failure;
 use sf_base::limits::FILE_LENGTH;
@@ -19,23 +20,6 @@ const PIECE: usize = 262_144;
 
 /// The bytes that are read of an input at most: one past the limit shows that it is too long.
 const MOST: usize = FILE_LENGTH as usize + 1;
-
-/// Why an input is not there as a whole.
-#[derive(Clone, Copy, Debug, PartialEq, Eq)]
-pub enum InputFault {
-    /// A read answered an error.
-    Unreadable,
-    /// There are more bytes than a file has at most.
-    TooLong,
-}
-
-impl From<InputFault> for Failure<InputFault> {
-    ghost from_gives = { λ fault failure. failure ≡ FaultOf fault };
-
-    fn from(fault: InputFault) -> Failure<InputFault> {
-        Failure::Fault(fault)
-    }
-}
 
 /// Reads an input to its end, its first read error, or one byte past the limit. Room for `expected`
 /// bytes is taken at once, so an input of that length is held with nothing to spare.
@@ -96,18 +80,19 @@ fn read_at<R: Read>(input: &mut R, buffer: &mut [u8], at: usize) -> Result<usize
     ensures within { IfOk result (λ n. at + n ≤ length buffer.new) }
     ensures taken { IfOk result (λ n. Consumes (R.remaining input.old) (R.remaining input.new) (take n (drop at buffer.new))) }
     ensures end { IfOk result (λ n. n ≡ 0 → IsAtEnd (R.remaining input.new)) }
-    ensures kinds { IfErr result (λ fault. fault ≡ Unreadable) }
+    ensures kinds { IfErr result (λ fault. fault ≢ TooLong) }
 {
     match input.read(&mut buffer[at..]) {
         Ok(count) => Ok(count),
-        Err(_) => Err(InputFault::Unreadable),
+        Err(error) => Err(InputFault::of(error.kind())),
     }
 }
 
 /// Reads the file at a path whole.
 pub fn read_file<'a, R: Files + AllocGlobal>(rt: &R, path: &'a str) -> Result<Vec<u8>, Fault<'a>> {
-    let Ok(mut file) = File::open(rt, path) else {
-        return Err(Fault::File(path));
+    let mut file = match File::open(rt, path) {
+        Ok(file) => file,
+        Err(error) => return Err(Fault::File(path, InputFault::of(error.kind()))),
     };
     let expected = match file.metadata() {
         Ok(metadata) => metadata.len(),
@@ -116,6 +101,6 @@ pub fn read_file<'a, R: Files + AllocGlobal>(rt: &R, path: &'a str) -> Result<Ve
     match read_whole(rt.alloc(), &mut file, expected) {
         Ok(bytes) => Ok(bytes),
         Err(Failure::OutOfMemory) => Err(Fault::Run(RunFault::Memory, path)),
-        Err(Failure::Fault(_)) => Err(Fault::File(path)),
+        Err(Failure::Fault(fault)) => Err(Fault::File(path, fault)),
     }
 }

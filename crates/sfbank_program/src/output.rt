@@ -35,13 +35,32 @@ impl<'a, R: Files + AllocGlobal> OutputFile<'a, R> {
         ensures path { IfOk result (λ output. output.path ≡ path.entry) }
         ensures count { IfOk result (λ output. output.written ≡ 0) }
     {
-        Ok(OutputFile {
+        Ok(OutputFile::closed(rt, path, Replacement::of(rt, path)?))
+    }
+}
+
+impl<'a, R: Files> OutputFile<'a, R> {
+    /// The output at a path that is written as it is, whatever it names, as a pipe. Nothing is created yet.
+    pub fn in_place(rt: &'a R, path: &'a str) -> OutputFile<'a, R>
+        ensures closed { result.file ≡ None }
+        ensures path { result.path ≡ path.entry }
+        ensures count { result.written ≡ 0 }
+    {
+        OutputFile::closed(rt, path, None)
+    }
+
+    fn closed(rt: &'a R, path: &'a str, replacement: Option<Replacement>) -> OutputFile<'a, R>
+        ensures closed { result.file ≡ None }
+        ensures path { result.path ≡ path.entry }
+        ensures count { result.written ≡ 0 }
+    {
+        OutputFile {
             rt,
             path,
-            replacement: Replacement::of(rt, path)?,
+            replacement,
             file: None,
             written: 0,
-        })
+        }
     }
 }
 

@@ -1,12 +1,13 @@
 //! How a run ends that is not done.
 ghost use Rattle.std.specs.Prelude.{◌≡◌};
-ghost use Rattle.sfbank_program.specs.declared.run_fault.RunFault.TheVariants.{Read, ReadSecond, Script, Notes, Memory};
+ghost use Rattle.sfbank_program.specs.declared.run_fault.RunFault.TheVariants.{Read, ReadSecond, Script, Notes, Recording, Memory};
 ghost use Rattle.sfbank_program.specs.RunFaults.{in_run};
 
 use bank_format::ReadFault;
-use edit_refusals::Refusal;
+use edit_refusals::{Cause, Refusal};
 use line_tokens::ScriptFault;
 use note_list::NoteFault;
+use recordings::WaveFault;
 use sf_base::{Failure, OutOfMemory};
 use std::alloc::AllocFailed;
 use thiserror::Error;
@@ -42,6 +43,12 @@ pub enum RunFault {
     /// The first fault of the notes.
     #[error("{0}")]
     Notes(NoteFault),
+    /// The first step of reading that the WAVE file breaks.
+    #[error("{0}")]
+    Recording(WaveFault),
+    /// The bank has no member of the number that is asked for.
+    #[error("{0}")]
+    NoMember(Cause),
     /// A writer took exactly so many bytes of its text, or all of them where its flush failed.
     #[error("write fault after {1} bytes")]
     Write(Which, u64),
@@ -92,6 +99,14 @@ impl From<Failure<NoteFault>> for RunFault {
             Failure::Fault(fault) => RunFault::Notes(fault),
             Failure::OutOfMemory => RunFault::Memory,
         }
+    }
+}
+
+impl From<WaveFault> for RunFault {
+    ghost from_gives = { λ fault told. told ≡ Recording fault };
+
+    fn from(fault: WaveFault) -> RunFault {
+        RunFault::Recording(fault)
     }
 }
 

@@ -3,7 +3,7 @@ ghost use Rattle.std.specs.Prelude.{◌≡◌};
 ghost use Rattle.sfbank_program.specs.Telling.{Tells, status_of};
 
 use crate::fault::Fault;
-use crate::fault_lines::{exit_status, fault_text, file_fault_text};
+use crate::fault_lines::{exit_status, fault_text, file_fault_text, unexplained_text};
 use outputs::put_all;
 use std::io::Write;
 
@@ -23,8 +23,12 @@ pub fn tell<E: Write>(fault: &Fault<'_>, errors: &mut E) -> u8
             let _ = put_all(errors, NOT_TEXT);
             1
         }
-        Fault::File(path) => {
-            let _ = file_fault_text(path, errors);
+        Fault::Unexplained(number) => {
+            let _ = unexplained_text(*number, errors);
+            1
+        }
+        Fault::File(path, why) => {
+            let _ = file_fault_text(path, *why, errors);
             5
         }
         Fault::Run(fault, path) => {

@@ -1,8 +1,7 @@
-pub mod LevelLemmas
+pub mod SideLemmas
+pub mod FineLemmas
 pub mod PlaceLemmas
 pub mod OverLemmas
-pub mod WriteLemmas
 pub mod RunLemmas
 pub mod SliceLemmas
-pub mod PhaseLemmas
 pub mod StartLaws

@@ -5,9 +5,9 @@ use Rattle.std.proofs.lemmas.Bool.Decides.{nat_tests}
 use Rattle.zone_select.specs.declared.parameters.VoiceParameters.{VoiceParameters}
 use Rattle.voices.specs.Place.{place, is_looping, is_loop_left, is_over}
 use Rattle.voices.specs.declared.courses.Course.{Course}
-use Rattle.voices.specs.declared.phases.Level.{Level}
-use Rattle.voices.specs.Envelope.{envelope}
-use Rattle.voices.specs.Course.{IsCourse, IsEven}
+use Rattle.voice_levels.specs.Envelope.{envelope}
+use Rattle.voice_levels.proofs.PhaseLemmas.{even_later}
+use Rattle.voices.specs.Course.{IsCourse}
 use Rattle.zone_select.specs.Playable.{IsPlayable}
 use Rattle.voices.proofs.PlaceLemmas.{place_inside, place_straight}
 
@@ -71,10 +71,6 @@ over_stays v s (suc t) l e = ⊎_elim
 
 pub is_looped_at : (v : VoiceParameters) (t : ℕ) → is_looping v t ≡ true → v.looped ≡ true
 is_looped_at v t e = is_looped v.looped (is_loop_left v t) e
-
--- a level in hand stays in hand
-pub even_later : (f : ℕ → ℕ) (t s : ℕ) (level : Level) → t ≤ s → IsEven f t level → IsEven f s level
-even_later f t s level l h = record { even = λ k le lt. h.even k (omega (arith, l, le)) lt }
 
 -- a course that is over stays right
 pub course_stays : (points : List ℕ) (v : VoiceParameters) (s t : ℕ) (course : Course) → s ≤ t → course.over ≡ true → IsCourse points v s course → IsCourse points v t course

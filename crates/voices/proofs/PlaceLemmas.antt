@@ -16,6 +16,15 @@ pub wrapped_above : (from to x : ℕ) → to ≤ x → wrapped from to x ≡ fro
 wrapped_above from to x h =
     let t : nat_le to x ≡ true = grind (arith, nat_tests) in ap (λ b. cond b (from + (x - from) % (to - from)) x) t
 
+-- a place that went on past a loop's end by less than the loop
+pub wrapped_once : (from to x : ℕ) → from < to → to ≤ x → x - to < to - from → wrapped from to x ≡ x - (to - from)
+wrapped_once from to x h ge lt =
+    let w : ℕ = to - from in
+    let y : ℕ = x - to in
+    let d : x - from ≡ 1 * w + y = omega arith in
+    let m : (x - from) % w ≡ y = ap (λ z. z % w) d ∙ mul-add-mod_self_right 1 w y ∙ mod-eq_of_lt lt in
+    wrapped_above from to x ge ∙ ap (λ z. from + z) m ∙ omega arith
+
 pub wrapped_within : (from to x : ℕ) → from < to → wrapped from to x < to
 wrapped_within from to x h =
     elim (cases_lt x to) [

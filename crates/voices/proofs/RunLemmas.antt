@@ -1,5 +1,5 @@
 -- Stretches of frames, and what they add.
-use Rattle.std.proofs.Common.{◌≡◌, ℕ, zero, suc, ◌+◌, ◌*◌, ◌/◌, ◌%◌, ◌<◌, ◌≤◌, ℤ, pos, negsuc, ◌+ℤ◌, ◌≤ℤ◌, Bool, true, false, cond, not, ◌&&◌, List, get_or, nat_eq, nat_le, refl, sym, ◌∙◌, ap, subst, arith, inl, inr, to_z, of_z, true≢false}
+use Rattle.std.proofs.Common.{◌≡◌, ℕ, zero, suc, ◌+◌, ◌-◌, ◌*◌, ◌/◌, ◌%◌, ◌<◌, ◌≤◌, ℤ, pos, negsuc, ◌+ℤ◌, ◌≤ℤ◌, Bool, true, false, cond, not, ◌&&◌, List, get_or, nat_eq, nat_le, refl, sym, ◌∙◌, ap, subst, arith, inl, inr, to_z, of_z, true≢false}
 use Rattle.std.specs.Int.{w32}
 use Rattle.std.proofs.lemmas.Int.{ints}
 use Rattle.std.proofs.lemmas.Bool.{cases_lt}
@@ -12,7 +12,8 @@ use Rattle.zone_select.specs.Select.{Voice}
 use Rattle.voices.specs.Sound.{snd, sound_at, part_of}
 use Rattle.voices.specs.Within.{IsWithin}
 use Rattle.voices.specs.Runs.{IsAdded, IsStretch, limit, gone_on}
-use Rattle.voices.proofs.PlaceLemmas.{place_more, place_inside, wrapped_below, wrapped_step}
+use Rattle.voices.proofs.PlaceLemmas.{place_more, place_inside, wrapped_above, wrapped_below, wrapped_step}
+use Rattle.std.proofs.lemmas.Nat.{div-add-mod'}
 use Rattle.voices.proofs.OverLemmas.{loop_left_stays, over_stays, place_sounds}
 
 same_end : (l t k : ℕ) → (t < l → t + k < l) → nat_le l (t + k) ≡ nat_le l t
@@ -157,3 +158,29 @@ place_on v t (suc k) true h e same o =
 pub gone_near : (v : VoiceParameters) (looping : Bool) (x : ℕ) → x < 65536 * limit v looping → gone_on v looping x ≡ x
 gone_near v true x h = wrapped_below (65536 * v.loop_start) (65536 * v.loop_end) x h
 gone_near v false x h = refl
+
+-- a remainder by whole points leaves what is behind a point
+whole_part : (y w : ℕ) → y % (65536 * w) % 65536 ≡ y % 65536
+whole_part y w = let d : y / (65536 * w) * (65536 * w) + y % (65536 * w) ≡ y = div-add-mod' y (65536 * w) in omega (arith, d)
+
+-- a loop's end changes nothing of how far a place is behind its point
+pub gone_part : (v : VoiceParameters) (looping : Bool) (x : ℕ) → (looping ≡ true → v.loop_start < v.loop_end) → gone_on v looping x % 65536 ≡ x % 65536
+gone_part v false x h = refl
+gone_part v true x h =
+    let from = 65536 * v.loop_start in
+    let to = 65536 * v.loop_end in
+    let lt : v.loop_start < v.loop_end = h refl in
+    elim (cases_lt x to) [
+      | inl below ↦ ap (λ y. y % 65536) (wrapped_below from to x below)
+      | inr ge ↦
+          let w : to - from ≡ 65536 * (v.loop_end - v.loop_start) = omega arith in
+          let e : wrapped from to x ≡ from + (x - from) % (65536 * (v.loop_end - v.loop_start)) = wrapped_above from to x ge ∙ ap (λ y. from + (x - from) % y) w in
+          let p = whole_part (x - from) (v.loop_end - v.loop_start) in omega (arith, e, p, ge)
+    ]
+
+-- how far behind its point a frame lies, by what is behind points alone
+pub same_part : (x step k : ℕ) → (x % 65536 + k * (step % 65536)) % 65536 ≡ (x + k * step) % 65536
+same_part x step k =
+    let e : step ≡ step / 65536 * 65536 + step % 65536 = omega arith in
+    let f : k * step ≡ k * (step / 65536) * 65536 + k * (step % 65536) = ap (λ y. k * y) e ∙ omega arith in
+    omega (arith, f)

@@ -3,15 +3,11 @@ use Rattle.std.specs.Prelude.{ℕ, ◌+◌, ◌-◌, ◌*◌, ◌≡◌, ◌<◌
 use Rattle.sound_tables.specs.Tables.{gain_of}
 use Rattle.sample_view.specs.Runs.{IsRunAround}
 use Rattle.zone_select.specs.declared.parameters.VoiceParameters.{VoiceParameters}
-use Rattle.voices.specs.declared.phases.Level.{Level}
 use Rattle.voices.specs.declared.slices.Slice.{Slice}
 use Rattle.voices.specs.declared.courses.Course.{Course}
 use Rattle.voices.specs.Place.{place, is_over}
-use Rattle.voices.specs.Envelope.{held, envelope}
-
--- from frame t on a loudness stays at a level, up to the frame that is told with it
-pub record IsEven (loudness : ℕ → ℕ) (t : ℕ) (level : Level) : Type 0 where
-  pub even : (k : ℕ) → t ≤ k → k < level.until → loudness k ≡ level.loud
+use Rattle.voice_levels.specs.Envelope.{held, envelope}
+use Rattle.voice_levels.specs.Even.{IsEven}
 
 -- a slice of these points: it tells of each point that lies in it
 pub record IsInHand (points : List ℕ) (slice : Slice) : Type 0 where

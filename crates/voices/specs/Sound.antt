@@ -4,10 +4,11 @@ use Rattle.sound_tables.specs.Tables.{gain_of}
 use Rattle.sound_tables.specs.Floor.{above_zero}
 use Rattle.zone_select.specs.declared.parameters.VoiceParameters.{VoiceParameters}
 use Rattle.zone_select.specs.Select.{Voice}
-use Rattle.voices.specs.Levels.{scaled_by, side}
+use Rattle.voice_levels.specs.Levels.{scaled_by}
+use Rattle.voices.specs.Levels.{side}
 use Rattle.voices.specs.Place.{place, is_looping, is_over}
 use Rattle.voices.specs.Points.{point_of}
-use Rattle.voices.specs.Envelope.{envelope}
+use Rattle.voice_levels.specs.Envelope.{envelope}
 
 -- a voice, and the number of the frame that comes next
 pub record Live : Type 0 where

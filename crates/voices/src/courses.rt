@@ -1,15 +1,15 @@
 //! What a voice keeps from call to call, so that it is not found anew.
 ghost use Rattle.std.specs.Prelude.{◌≡◌, ◌≤◌, ◌<◌, ℕ, List, true};
 ghost use Rattle.sound_tables.specs.Tables.{gain_of};
-ghost use Rattle.voices.specs.Course.{IsCourse, IsEven, IsInHand};
-ghost use Rattle.voices.specs.Envelope.{held, envelope};
+ghost use Rattle.voice_levels.specs.Even.{IsEven};
+ghost use Rattle.voices.specs.Course.{IsCourse, IsInHand};
+ghost use Rattle.voice_levels.specs.Envelope.{held, envelope};
 ghost use Rattle.voices.specs.Place.{place};
 
-use crate::envelopes::held_at;
-use crate::phases::{Level, NO_LEVEL};
 use crate::places::{is_over_by, place_at};
 use crate::slices::Slice;
 use sound_tables::gain;
+use voice_levels::{Level, held_at};
 use zone_select::VoiceParameters;
 
 // What is kept of the frame that comes next.
@@ -41,7 +41,7 @@ impl<'a> Course<'a> {
         Course {
             over: is_over_by(v, 0, x),
             place: x,
-            level: NO_LEVEL,
+            level: Level::ended(),
             at_end: held_at(v, u64::from(v.length)),
             loudness: gain(i64::from(v.attenuation)),
             slice: Slice::none(),

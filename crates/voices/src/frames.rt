@@ -5,12 +5,12 @@ ghost use Rattle.voices.specs.Points.{point_of};
 ghost use Rattle.zone_select.specs.Playable.{IsPlayable};
 ghost use Rattle.voices.specs.Sound.{sound_at, part_of, snd};
 
-use crate::envelopes::envelope_at;
-use crate::levels::{louder, parted};
 use crate::places::{advanced, is_looping_at};
 use crate::sampled::point_of_place;
+use crate::sides::parted;
 use sample_view::Points;
 use sound_tables::gain;
+use voice_levels::{envelope_at, louder};
 use zone_select::VoiceParameters;
 
 // What the left side gets, of 1000.

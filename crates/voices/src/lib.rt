@@ -4,13 +4,11 @@
 ghost use Rattle.voices.specs.Sound.{OverStaysOver};
 
 mod courses;
-mod envelopes;
 mod frames;
-mod levels;
-mod phases;
 mod places;
 mod runs;
 mod sampled;
+mod sides;
 mod slices;
 mod start;
 mod voice;

@@ -65,8 +65,9 @@ pub(crate) fn is_over_by(v: &VoiceParameters, t: u64, x: u64) -> bool
     !is_looping_at(v, t) && 65536 * u64::from(v.end) <= x
 }
 
-// Where a place has come after some frames.
-#[tactic(auto, using(crate::proofs::PlaceLemmas::wrapped_below, crate::proofs::PlaceLemmas::wrapped_above, crate::proofs::PlaceLemmas::short_way))]
+// Where a place has come after some frames. Mostly a loop's end is passed once, so that is asked before anything is
+// divided.
+#[tactic(auto, using(crate::proofs::PlaceLemmas::wrapped_below, crate::proofs::PlaceLemmas::wrapped_once, crate::proofs::PlaceLemmas::wrapped_above, crate::proofs::PlaceLemmas::short_way))]
 pub(crate) fn advanced(v: &VoiceParameters, looping: bool, x: u64, frames: usize) -> u64
     requires loop_is { looping ≡ true → v.now.loop_start < v.now.loop_end }
     requires steps { v.now.step ≤ 73043661 }
@@ -76,12 +77,14 @@ pub(crate) fn advanced(v: &VoiceParameters, looping: bool, x: u64, frames: usize
 {
     let next = x + frames as u64 * u64::from(v.step);
     let to = 65536 * u64::from(v.loop_end);
-    if looping && to <= next {
-        let from = 65536 * u64::from(v.loop_start);
-        from + (next - from) % (to - from)
-    } else {
-        next
+    if !looping || next < to {
+        return next;
     }
+    let from = 65536 * u64::from(v.loop_start);
+    if next - to < to - from {
+        return next - (to - from);
+    }
+    from + (next - from) % (to - from)
 }
 
 // How many frames, at most `most`, lie before `to`: the first is at `x`, each next one `step` further.

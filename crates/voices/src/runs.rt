@@ -2,10 +2,12 @@
 //! sides of it.
 ghost use Rattle.std.specs.Prelude.{◌≡◌, ℕ, ◌+◌, ◌*◌, ◌/◌, ◌%◌, ◌^◌, ◌≤◌, ◌<◌, ◌≤ℤ◌, ◌+ℤ◌, pos, negsuc, true, false, cond, EachIndex, length, nat_eq, slice_index, slice_index_or};
 ghost use Rattle.sound_tables.specs.Tables.{gain_of};
-ghost use Rattle.voices.specs.Levels.{scaled_by, side, turn_of};
+ghost use Rattle.voice_levels.specs.Levels.{scaled_by};
+ghost use Rattle.voices.specs.Levels.{side, turn_of};
 ghost use Rattle.voices.specs.Place.{is_over, place};
-ghost use Rattle.voices.specs.Course.{IsCourse, IsEven};
-ghost use Rattle.voices.specs.Envelope.{held, envelope};
+ghost use Rattle.voice_levels.specs.Even.{IsEven};
+ghost use Rattle.voices.specs.Course.{IsCourse};
+ghost use Rattle.voice_levels.specs.Envelope.{held, envelope};
 ghost use Rattle.zone_select.specs.Playable.{IsPlayable};
 ghost use Rattle.voices.specs.Sound.{sound_at, snd};
 ghost use Rattle.voices.specs.Within.{AllWithin};
@@ -13,18 +15,18 @@ ghost use Rattle.voices.specs.Runs.{IsAdded, IsStretch};
 
 use crate::courses::Course;
 use crate::frames::{left_part, right_part};
-use crate::levels::{WHOLE, louder, parted};
-use crate::phases::{Level, fill_levels};
 use crate::places::{frames_before, is_looping_at};
+use crate::sides::{HALF, WHOLE, fine_part, finely_parted, halved};
 use crate::slices::fill_points;
 use sample_view::Points;
+use voice_levels::soften;
 use zone_select::VoiceParameters;
 
 // The most frames of a stretch.
 const LONGEST: usize = 1024;
 
-// The most frames of a stretch that has small buffers, and of one that has smaller ones, as in the short
-// blocks of live play: a buffer is cleared before it is used, however little of it is.
+// The most frames of a block that has small buffers, and of one that has smaller ones, as in live play: a
+// buffer is cleared before it is used, however little of it is.
 const SHORT: usize = 64;
 
 const SHORTEST: usize = 32;
@@ -66,32 +68,13 @@ fn frames_ahead(v: &VoiceParameters, t: u64, most: u64) -> u64
     }
 }
 
-// Makes each point as loud as its level and one gain.
-fn quieten(levels: &[u32], loudness: u32, run: &mut [i16])
-    requires long { length levels.now ≡ length run.old }
-    requires most { EachIndex levels.now (λ k. slice_index levels.now k ≤ 65536) }
-    requires gain { loudness ≤ 65536 }
-    ensures { EachIndex run.new (λ k. slice_index_or run.new k (pos 0)
-        ≡ scaled_by (scaled_by (slice_index_or run.old k (pos 0)) (slice_index levels.now k)) loudness) }
-{
-    for i in 0..run.len() {
-        run[i] = louder(louder(i32::from(run[i]), levels[i]), loudness) as i16;
-    }
-}
-
-// Makes each point as loud as one level and one gain.
-fn quieten_evenly(level: u32, loudness: u32, run: &mut [i16])
-    requires most { level ≤ 65536 }
-    requires gain { loudness ≤ 65536 }
-    ensures { EachIndex run.new (λ k. slice_index_or run.new k (pos 0)
-        ≡ scaled_by (scaled_by (slice_index_or run.old k (pos 0)) level) loudness) }
-{
-    for i in 0..run.len() {
-        run[i] = louder(louder(i32::from(run[i]), level), loudness) as i16;
-    }
-}
-
 fn empty_words<const N: usize>() -> [u32; N]
+    ensures { length result ≡ N }
+{
+    [0; N]
+}
+
+fn no_levels<const N: usize>() -> [u16; N]
     ensures { length result ≡ N }
 {
     [0; N]
@@ -103,48 +86,21 @@ fn silent_points<const N: usize>() -> [i16; N]
     [0; N]
 }
 
-// Makes the points of a stretch as loud as the voice is, from the level in hand on; answers the level that is
-// in hand behind it. A level that outlasts the stretch needs no list of levels.
-#[tactic(auto, using(crate::proofs::OverLemmas::even_later))]
-fn soften(
-    v: &VoiceParameters,
-    t: u64,
-    course: Course<'_>,
-    levels: &mut [u32],
-    run: &mut [i16],
-) -> Level
-    requires long { length levels.old ≡ length run.old }
-    requires one_way { IsStretch v.now t (length run.old) }
-    requires in_hand { IsEven (envelope v.now) t course.level }
-    requires at_end { (course.at_end ≡ held v.now v.now.length) × (course.at_end ≤ 65536) }
-    requires loudness { (course.loudness ≡ gain_of v.now.attenuation) × (course.loudness ≤ 65536) }
-    ensures soft { EachIndex run.new (λ k. slice_index_or run.new k (pos 0)
-        ≡ scaled_by (scaled_by (slice_index_or run.old k (pos 0)) (envelope v.now (t + k))) (gain_of v.now.attenuation)) }
-    ensures in_hand { IsEven (envelope v.now) (t + length run.old) result }
-{
-    let even = course.level;
-    let end = t + run.len() as u64;
-    if end < even.until {
-        quieten_evenly(even.loud, course.loudness, run);
-        return even;
-    }
-    let level = fill_levels(v, t, even, course.at_end, levels);
-    quieten(levels, course.loudness, run);
-    level
-}
-
-// The frames of a stretch before they are parted, by way of a word for each: the points around its place
-// first, and then its level. One buffer serves both, for a second would have to be cleared as well. The course
-// of the first frame goes on to that behind the last.
+// The frames of a stretch before they are parted, by way of a word and two levels for each. The course of the first
+// frame goes on to that behind the last.
 fn fill_sounds<'a>(
     points: &Points<'a>,
     v: &VoiceParameters,
     t: u64,
     course: &mut Course<'a>,
     words: &mut [u32],
+    levels: &mut [u16],
+    others: &mut [u16],
     run: &mut [i16],
 )
     requires long { length words.old ≡ length run.old }
+    requires levels { length levels.old ≡ length run.old }
+    requires others { length others.old ≡ length run.old }
     requires playable { IsPlayable (length points.now) v.now }
     requires one_way { IsStretch v.now t (length run.old) }
     requires course { IsCourse points.now v.now t course.old }
@@ -156,7 +112,16 @@ fn fill_sounds<'a>(
 {
     let n = run.len() as u64;
     let (next, slice) = fill_points(points, v, t, course.place, course.slice, words, run);
-    let level = soften(v, t, *course, words, run);
+    let level = soften(
+        v,
+        t,
+        course.level,
+        course.at_end,
+        course.loudness,
+        levels,
+        others,
+        run,
+    );
     course.go_on(v, t + n, next, level, slice);
 }
 
@@ -200,10 +165,27 @@ fn add_both_sides(run: &[i16], left: u32, right: u32, sums: &mut [i32])
         (side (slice_index_or run.now (i / 2) (pos 0)) (cond (nat_eq (i % 2) 0) left right))
         (slice_index_or sums.new i (pos 0))) }
 {
+    let fine_left = fine_part(left);
+    let fine_right = fine_part(right);
     for k in 0..run.len() {
-        let z = i32::from(run[k]);
-        sums[2 * k] += parted(z, left);
-        sums[2 * k + 1] += parted(z, right);
+        let z = run[k];
+        sums[2 * k] += finely_parted(z, fine_left);
+        sums[2 * k + 1] += finely_parted(z, fine_right);
+    }
+}
+
+// Adds half of each frame to the sums of either side.
+fn add_halves(run: &[i16], sums: &mut [i32])
+    requires long { length sums.old ≡ 2 * length run.now }
+    requires room { AllWithin 65534 sums.old }
+    ensures { EachIndex sums.new (λ i. IsAdded (slice_index_or sums.old i (pos 0))
+        (side (slice_index_or run.now (i / 2) (pos 0)) 500)
+        (slice_index_or sums.new i (pos 0))) }
+{
+    for k in 0..run.len() {
+        let half = halved(i32::from(run[k]));
+        sums[2 * k] += half;
+        sums[2 * k + 1] += half;
     }
 }
 
@@ -216,7 +198,9 @@ fn add_sides(run: &[i16], left: u32, right: u32, sums: &mut [i32])
         (side (slice_index_or run.now (i / 2) (pos 0)) (cond (nat_eq (i % 2) 0) left right))
         (slice_index_or sums.new i (pos 0))) }
 {
-    if left == WHOLE && right == 0 {
+    if left == HALF && right == HALF {
+        add_halves(run, sums);
+    } else if left == WHOLE && right == 0 {
         add_one_side(run, Side::Left, sums);
     } else if left == 0 && right == WHOLE {
         add_one_side(run, Side::Right, sums);
@@ -225,7 +209,7 @@ fn add_sides(run: &[i16], left: u32, right: u32, sums: &mut [i32])
     }
 }
 
-// Adds the frames of a stretch, by way of as many words and points. As in all that add a stretch
+// Adds the frames of a stretch, by way of as many words, levels and points. As in all that add a stretch
 // the course of its first frame goes on to that behind the last.
 fn add_sounds<'a>(
     points: &Points<'a>,
@@ -233,12 +217,16 @@ fn add_sounds<'a>(
     t: u64,
     course: &mut Course<'a>,
     words: &mut [u32],
+    levels: &mut [u16],
+    others: &mut [u16],
     run: &mut [i16],
     sums: &mut [i32],
 )
     requires playable { IsPlayable (length points.now) v.now }
     requires long { length sums.old ≡ 2 * length run.old }
     requires words { length words.old ≡ length run.old }
+    requires levels { length levels.old ≡ length run.old }
+    requires others { length others.old ≡ length run.old }
     requires one_way { IsStretch v.now t (length run.old) }
     requires course { IsCourse points.now v.now t course.old }
     requires heard { course.old.over ≡ false }
@@ -249,64 +237,92 @@ fn add_sounds<'a>(
         (slice_index_or sums.new i (pos 0))) }
     ensures course { IsCourse points.now v.now (t + length run.old) course.new }
 {
-    fill_sounds(points, v, t, course, words, run);
+    fill_sounds(points, v, t, course, words, levels, others, run);
     add_sides(run, left_part(v), right_part(v), sums);
 }
 
-// Adds the frames of a stretch, by way of buffers for N frames.
+// Adds the frames from `age` on, stretch by stretch, by way of buffers of as many words, levels and points.
+fn add_stretches<'a>(
+    points: &Points<'a>,
+    v: &VoiceParameters,
+    age: u64,
+    course: &mut Course<'a>,
+    words: &mut [u32],
+    levels: &mut [u16],
+    others: &mut [u16],
+    run: &mut [i16],
+    sums: &mut [i32],
+)
+    requires playable { IsPlayable (length points.now) v.now }
+    requires here { IsCourse points.now v.now age course.old }
+    requires buffers { (0 < length run.old) × (length run.old ≤ 1024) }
+    requires words { length words.old ≡ length run.old }
+    requires levels { length levels.old ≡ length run.old }
+    requires others { length others.old ≡ length run.old }
+    requires even { length sums.old % 2 ≡ 0 }
+    requires young { age + length sums.old < 2 ^ 64 }
+    requires room { AllWithin 65534 sums.old }
+    ensures sums { EachIndex sums.new (λ i. IsAdded (slice_index_or sums.old i (pos 0))
+        (snd (record { points = points.now; parameters = v.now }) (nat_eq (i % 2) 0) (age + i / 2))
+        (slice_index_or sums.new i (pos 0))) }
+    ensures there { IsCourse points.now v.now (age + length sums.old / 2) course.new }
+{
+    let mut at = 0;
+    while at < sums.len() {
+        if course.over {
+            return;
+        }
+        let t = age + at as u64 / 2;
+        let n = stretch(v, t, course.place, ((sums.len() - at) / 2).min(run.len()));
+        add_sounds(
+            points,
+            v,
+            t,
+            course,
+            &mut words[..n],
+            &mut levels[..n],
+            &mut others[..n],
+            &mut run[..n],
+            &mut sums[at..at + 2 * n],
+        );
+        at += 2 * n;
+    }
+}
+
+// Adds the frames from `age` on, by way of buffers for N frames.
 fn add_by_buffers<'a, const N: usize>(
     points: &Points<'a>,
     v: &VoiceParameters,
-    t: u64,
+    age: u64,
     course: &mut Course<'a>,
     sums: &mut [i32],
 )
     requires playable { IsPlayable (length points.now) v.now }
+    requires here { IsCourse points.now v.now age course.old }
+    requires few { (0 < N) × (N ≤ 1024) }
     requires even { length sums.old % 2 ≡ 0 }
-    requires one_way { IsStretch v.now t (length sums.old / 2) }
-    requires course { IsCourse points.now v.now t course.old }
-    requires heard { course.old.over ≡ false }
-    requires few { N ≤ 1024 }
-    requires short { length sums.old ≤ 2 * N }
+    requires young { age + length sums.old < 2 ^ 64 }
     requires room { AllWithin 65534 sums.old }
     ensures sums { EachIndex sums.new (λ i. IsAdded (slice_index_or sums.old i (pos 0))
-        (snd (record { points = points.now; parameters = v.now }) (nat_eq (i % 2) 0) (t + i / 2))
+        (snd (record { points = points.now; parameters = v.now }) (nat_eq (i % 2) 0) (age + i / 2))
         (slice_index_or sums.new i (pos 0))) }
-    ensures course { IsCourse points.now v.now (t + length sums.old / 2) course.new }
+    ensures there { IsCourse points.now v.now (age + length sums.old / 2) course.new }
 {
     let mut words: [u32; N] = empty_words();
+    let mut levels: [u16; N] = no_levels();
+    let mut others: [u16; N] = no_levels();
     let mut run: [i16; N] = silent_points();
-    let n = sums.len() / 2;
-    add_sounds(points, v, t, course, &mut words[..n], &mut run[..n], sums);
-}
-
-// Adds the frames of a stretch.
-fn add_stretch<'a>(
-    points: &Points<'a>,
-    v: &VoiceParameters,
-    t: u64,
-    course: &mut Course<'a>,
-    sums: &mut [i32],
-)
-    requires playable { IsPlayable (length points.now) v.now }
-    requires even { length sums.old % 2 ≡ 0 }
-    requires one_way { IsStretch v.now t (length sums.old / 2) }
-    requires course { IsCourse points.now v.now t course.old }
-    requires heard { course.old.over ≡ false }
-    requires short { length sums.old ≤ 2048 }
-    requires room { AllWithin 65534 sums.old }
-    ensures sums { EachIndex sums.new (λ i. IsAdded (slice_index_or sums.old i (pos 0))
-        (snd (record { points = points.now; parameters = v.now }) (nat_eq (i % 2) 0) (t + i / 2))
-        (slice_index_or sums.new i (pos 0))) }
-    ensures course { IsCourse points.now v.now (t + length sums.old / 2) course.new }
-{
-    if sums.len() <= 2 * SHORTEST {
-        add_by_buffers::<SHORTEST>(points, v, t, course, sums);
-    } else if sums.len() <= 2 * SHORT {
-        add_by_buffers::<SHORT>(points, v, t, course, sums);
-    } else {
-        add_by_buffers::<LONGEST>(points, v, t, course, sums);
-    }
+    add_stretches(
+        points,
+        v,
+        age,
+        course,
+        &mut words,
+        &mut levels,
+        &mut others,
+        &mut run,
+        sums,
+    );
 }
 
 // Adds the frames from `age` on to the sums of both sides, which stand in turn. The course goes on to
@@ -328,14 +344,11 @@ pub(crate) fn add_run<'a>(
         (slice_index_or sums.new i (pos 0))) }
     ensures there { IsCourse points.now v.now (age + length sums.old / 2) course.new }
 {
-    let mut at = 0;
-    while at < sums.len() {
-        if course.over {
-            return;
-        }
-        let t = age + at as u64 / 2;
-        let n = stretch(v, t, course.place, ((sums.len() - at) / 2).min(LONGEST));
-        add_stretch(points, v, t, course, &mut sums[at..at + 2 * n]);
-        at += 2 * n;
+    if sums.len() <= 2 * SHORTEST {
+        add_by_buffers::<SHORTEST>(points, v, age, course, sums);
+    } else if sums.len() <= 2 * SHORT {
+        add_by_buffers::<SHORT>(points, v, age, course, sums);
+    } else {
+        add_by_buffers::<LONGEST>(points, v, age, course, sums);
     }
 }

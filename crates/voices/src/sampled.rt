@@ -1,40 +1,24 @@
 //! What a sample says between its points. What each frame of a run goes through is inlined always: so the
 //! run's loop has no calls, and is done for several frames at once.
-ghost use Rattle.std.specs.Prelude.{◌≡◌, ◌+◌, ◌*◌, ◌/◌, ◌≤◌, ◌<◌, ◌≤ℤ◌, ◌*ℤ◌, pos, negsuc, length, true};
-ghost use Rattle.voices.specs.Points.{between, weighed, point_at, follower, point_of};
+ghost use Rattle.std.specs.Prelude.{◌≡◌, ◌+◌, ◌*◌, ◌/◌, ◌%◌, ◌≤◌, ◌<◌, ◌≤ℤ◌, pos, negsuc, length, true};
+ghost use Rattle.voices.specs.Points.{between, point_at, follower, point_of};
+ghost use Rattle.voices.specs.Runs.{pair_says};
 
 use sample_view::Points;
 use zone_select::VoiceParameters;
 
-// A point times a part of 65536.
+// Between two points, at `part` of 65536. A product of how far they are apart may not fit, but its sum with the
+// first point does: so it is right whatever was lost on the way.
 #[inline(always)]
-fn times(p: i16, part: u32) -> i32
-    requires { part ≤ 65536 }
-    ensures { result ≡ p *ℤ pos part }
-{
-    i32::from(p) * part as i32
-}
-
-// Two points, each times its part of 65536: their sum fits 32 bits.
-#[inline(always)]
-#[tactic(auto, using(crate::proofs::LevelLemmas::weighed_within), unfolding(crate::specs::Points::weighed))]
-fn weighed(p0: i16, p1: i16, part: u32) -> i32
-    requires { part < 65536 }
-    ensures { result ≡ weighed p0 p1 part }
-{
-    times(p0, 65536 - part) + times(p1, part)
-}
-
-// Between two points, at `part` of 65536.
-#[inline(always)]
-#[tactic(auto, using(crate::proofs::LevelLemmas::between_within, crate::proofs::LevelLemmas::weighed_is))]
 pub(crate) fn interpolated(p0: i16, p1: i16, part: u32) -> i32
     requires { part < 65536 }
     ensures value { result ≡ between p0 p1 part }
     ensures low { negsuc 32767 ≤ℤ result }
     ensures high { result ≤ℤ pos 32767 }
 {
-    weighed(p0, p1, part) >> 16
+    let apart = i32::from(p1) - i32::from(p0);
+    let risen = apart.wrapping_mul(part as i32);
+    (i32::from(p0) * 65536).wrapping_add(risen) >> 16
 }
 
 // The point after point `i`.
@@ -70,4 +54,18 @@ pub(crate) fn point_of_place(points: &Points, v: &VoiceParameters, looping: bool
         follower_at(points, v, looping, i),
         (x % 65536) as u32,
     )
+}
+
+// A point and the one after it side by side, as they are around a place before the end.
+#[tactic(auto, unfolding(crate::specs::Points::point_of, crate::specs::Points::point_at))]
+pub(crate) fn pair_of_place(points: &Points, v: &VoiceParameters, looping: bool, x: u64) -> u32
+    requires inside { v.now.end ≤ length points.now }
+    requires loop_inside { looping ≡ true → v.now.loop_start < length points.now }
+    requires near { x < 65536 * v.now.end }
+    ensures { pair_says result (x % 65536) ≡ point_of points.now v.now looping x }
+{
+    let i = (x / 65536) as usize;
+    let here = points.point(i).cast_unsigned();
+    let next = follower_at(points, v, looping, i).cast_unsigned();
+    u32::from(here) + 65536 * u32::from(next)
 }

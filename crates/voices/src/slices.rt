@@ -9,7 +9,7 @@ ghost use Rattle.zone_select.specs.Playable.{IsPlayable};
 ghost use Rattle.voices.specs.Runs.{IsStretch, limit, pair_at, pair_says, straight};
 
 use crate::places::{advanced, frames_before, is_looping_at};
-use crate::sampled::{interpolated, point_of_place};
+use crate::sampled::{interpolated, pair_of_place};
 use sample_view::Points;
 use zone_select::VoiceParameters;
 
@@ -49,17 +49,54 @@ fn read_ahead(bytes: &[u8], x: u32, step: u32, pairs: &mut [u32])
     }
 }
 
+// The points around places of a slice from `x` on, with `step` more for each frame, four frames at a time:
+// so that each place is one sum away from the first of them. Answers how many frames that are.
+fn read_fours(bytes: &[u8], x: u32, step: u32, pairs: &mut [u32]) -> usize
+    requires ends { (k : ℕ) → k < length pairs.old → 2 * ((x + k * step) / 65536) + 3 < length bytes.now }
+    requires near { x + length pairs.old * step < 2 ^ 32 }
+    ensures most { result ≤ length pairs.new }
+    ensures value { (k : ℕ) → k < result → slice_index pairs.new k ≡ pair_at (words bytes.now) ((x + k * step) / 65536) }
+{
+    let mut place = x;
+    let mut k = 0;
+    while 4 <= pairs.len() - k {
+        pairs[k] = pair_in(bytes, (place >> 16) as usize);
+        pairs[k + 1] = pair_in(bytes, ((place + step) >> 16) as usize);
+        pairs[k + 2] = pair_in(bytes, ((place + 2 * step) >> 16) as usize);
+        pairs[k + 3] = pair_in(bytes, ((place + 3 * step) >> 16) as usize);
+        place += 4 * step;
+        k += 4;
+    }
+    k
+}
+
 // The points around each place of a slice from `x` on, with `step` more for each frame.
 fn read_pairs(bytes: &[u8], x: u32, step: u32, pairs: &mut [u32])
+    requires short { length pairs.old ≤ 1024 }
     requires ends { (k : ℕ) → k < length pairs.old → 2 * ((x + k * step) / 65536) + 3 < length bytes.now }
     requires near { x + length pairs.old * step < 2 ^ 32 }
     ensures { EachIndex pairs.new (λ k. slice_index pairs.new k ≡ pair_at (words bytes.now) ((x + k * step) / 65536)) }
 {
-    let mut place = x;
-    for k in 0..pairs.len() {
+    let front = read_fours(bytes, x, step, pairs);
+    let mut place = x + front as u32 * step;
+    for k in front..pairs.len() {
         pairs[k] = pair_in(bytes, (place >> 16) as usize);
         place += step;
     }
+}
+
+// The same, some of them read ahead unless all are near: between the points of each lies what the slice says.
+fn read_straight(bytes: &[u8], near: bool, x: u32, step: u32, pairs: &mut [u32])
+    requires short { length pairs.old ≤ 1024 }
+    requires ends { (k : ℕ) → k < length pairs.old → 2 * ((x + k * step) / 65536) + 3 < length bytes.now }
+    requires near { x + length pairs.old * step < 2 ^ 32 }
+    ensures { EachIndex pairs.new (λ k. pair_says (slice_index pairs.new k) ((x + k * step) % 65536)
+        ≡ straight (words bytes.now) (x + k * step)) }
+{
+    if !near {
+        read_ahead(bytes, x, step, pairs);
+    }
+    read_pairs(bytes, x, step, pairs);
 }
 
 // Between two points that stand side by side, at `part` of 65536.
@@ -86,20 +123,6 @@ fn interpolate(pairs: &[u32], x: u32, step: u32, run: &mut [i16])
         run[k] = between_pair(pairs[k], place & 65535) as i16;
         place += step;
     }
-}
-
-// What a slice says from place `x` on, with `step` more for each frame, by way of as many pairs of
-// points: so the arithmetic is apart from the reading, and is done for several frames at once.
-fn fill_straight(bytes: &[u8], x: u32, step: u32, pairs: &mut [u32], run: &mut [i16])
-    requires long { length pairs.old ≡ length run.old }
-    requires ends { (k : ℕ) → k < length run.old → 2 * ((x + k * step) / 65536) + 3 < length bytes.now }
-    requires near { x + length run.old * step < 2 ^ 32 }
-    requires short { length run.old ≤ 1024 }
-    ensures { EachIndex run.new (λ k. slice_index_or run.new k (pos 0) ≡ straight (words bytes.now) (x + k * step)) }
-{
-    read_ahead(bytes, x, step, pairs);
-    read_pairs(bytes, x, step, pairs);
-    interpolate(pairs, x, step, run);
 }
 
 // The most points of a slice that are read in one go, so that places in it fit 32 bits.
@@ -142,8 +165,18 @@ impl<'a> Slice<'a> {
     }
 }
 
-// Fills the front of a run from place `x` on, as far as the slice goes or the loop; answers how many frames
-// that are, and the slice.
+// The most points of a loop that a cache holds from one time to the next.
+const SHORT_LOOP: u32 = 8192;
+
+// Whether point `i` is in a loop so short that its points are in a cache.
+fn is_near(v: &VoiceParameters, looping: bool, i: usize) -> bool
+    requires { looping ≡ true → v.now.loop_start < v.now.loop_end }
+{
+    looping && v.loop_start as usize <= i && v.loop_end - v.loop_start <= SHORT_LOOP
+}
+
+// Reads the pairs at the front of a run from place `x` on, as far as the slice goes or the loop; answers how many
+// frames that are, and the slice.
 fn fill_front<'a>(
     points: &Points<'a>,
     v: &VoiceParameters,
@@ -151,19 +184,18 @@ fn fill_front<'a>(
     hand: Slice<'a>,
     x: u64,
     pairs: &mut [u32],
-    run: &mut [i16],
 ) -> (usize, Slice<'a>)
     requires playable { IsPlayable (length points.now) v.now }
     requires looped { looping ≡ true → v.now.looped ≡ true }
     requires in_hand { IsInHand points.now hand }
     requires near { x < 65536 * limit v.now looping }
-    requires some { (0 < length run.old) × (length run.old ≤ 1024) }
-    requires long { length run.old ≤ length pairs.old }
+    requires some { (0 < length pairs.old) × (length pairs.old ≤ 1024) }
     ensures near { x < 2 ^ 48 }
-    ensures some { (0 < result.0) × (result.0 ≤ length run.new) }
+    ensures some { (0 < result.0) × (result.0 ≤ length pairs.new) }
     ensures before { (k : ℕ) → k < result.0 → x + k * v.now.step < 65536 * limit v.now looping }
     ensures value { (k : ℕ) → k < result.0
-        → slice_index_or run.new k (pos 0) ≡ point_of points.now v.now looping (x + k * v.now.step) }
+        → pair_says (slice_index pairs.new k) ((x + k * v.now.step) % 65536)
+        ≡ point_of points.now v.now looping (x + k * v.now.step) }
     ensures in_hand { IsInHand points.now result.1 }
 {
     let i = (x / 65536) as usize;
@@ -176,11 +208,11 @@ fn fill_front<'a>(
     if 1 < ends {
         let part = (x % 65536) as u32;
         let to = 65536 * (ends as u64 - 1);
-        let n = frames_before(u64::from(part), u64::from(v.step), to, run.len() as u64) as usize;
-        fill_straight(ahead, part, v.step, &mut pairs[..n], &mut run[..n]);
+        let n = frames_before(u64::from(part), u64::from(v.step), to, pairs.len() as u64) as usize;
+        read_straight(ahead, is_near(v, looping, i), part, v.step, &mut pairs[..n]);
         (n, slice)
     } else {
-        run[0] = point_of_place(points, v, looping, x) as i16;
+        pairs[0] = pair_of_place(points, v, looping, x);
         (1, slice)
     }
 }
@@ -190,6 +222,40 @@ fn limit_of(v: &VoiceParameters, looping: bool) -> u32
     ensures { result ≡ limit v.now looping }
 {
     if looping { v.loop_end } else { v.end }
+}
+
+// The pairs of points around each frame of a stretch, the first of them at place `from`; answers the place of
+// the frame behind them, and the slice that is in hand there. A loop is whole points long: so how far
+// behind its point a frame lies is told from the first place on.
+fn fill_pairs<'a>(
+    points: &Points<'a>,
+    v: &VoiceParameters,
+    t: u64,
+    from: u64,
+    hand: Slice<'a>,
+    pairs: &mut [u32],
+) -> (u64, Slice<'a>)
+    requires playable { IsPlayable (length points.now) v.now }
+    requires one_way { IsStretch v.now t (length pairs.old) }
+    requires here { from ≡ place v.now t }
+    requires in_hand { IsInHand points.now hand }
+    requires short { length pairs.old ≤ 1024 }
+    ensures pairs { EachIndex pairs.new (λ k. pair_says (slice_index pairs.new k) ((from + k * v.now.step) % 65536)
+        ≡ point_of points.now v.now (is_looping v.now (t + k)) (place v.now (t + k))) }
+    ensures there { result.0 ≡ place v.now (t + length pairs.old) }
+    ensures in_hand { IsInHand points.now result.1 }
+{
+    let looping = is_looping_at(v, t);
+    let mut x = from;
+    let mut slice = hand;
+    let mut at = 0;
+    while at < pairs.len() {
+        let (n, next) = fill_front(points, v, looping, slice, x, &mut pairs[at..]);
+        x = advanced(v, looping, x, n);
+        slice = next;
+        at += n;
+    }
+    (x, slice)
 }
 
 // What the sample says at each frame of a stretch, the first of them at place `from`, by way of pairs of
@@ -214,15 +280,7 @@ pub(crate) fn fill_points<'a>(
     ensures there { result.0 ≡ place v.now (t + length run.old) }
     ensures in_hand { IsInHand points.now result.1 }
 {
-    let looping = is_looping_at(v, t);
-    let mut x = from;
-    let mut slice = hand;
-    let mut at = 0;
-    while at < run.len() {
-        let (n, next) = fill_front(points, v, looping, slice, x, pairs, &mut run[at..]);
-        x = advanced(v, looping, x, n);
-        slice = next;
-        at += n;
-    }
-    (x, slice)
+    let behind = fill_pairs(points, v, t, from, hand, pairs);
+    interpolate(pairs, (from % 65536) as u32, v.step % 65536, run);
+    behind
 }

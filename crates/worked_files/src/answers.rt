@@ -1,7 +1,7 @@
 //! What the runs answer.
 
 use crate::files::File;
-use sfbank::{RunFault, canon_run, edit_run, show_run};
+use sfbank::{RunFault, Unheard, canon_run, edit_run, show_run};
 use sfbank_program::fault_text;
 use std::alloc::Global;
 
@@ -41,7 +41,7 @@ pub fn refuses(alloc: Global, file: &[u8], number: u8) -> bool {
 pub fn stops(alloc: Global, file: &[u8], script: &[u8], end: &[u8]) -> bool {
     let mut out = Vec::new(alloc);
     let mut undo = Vec::new(alloc);
-    match edit_run(alloc, file, script, &mut out, &mut undo) {
+    match edit_run(alloc, file, script, &mut out, &mut undo, &mut Unheard) {
         Ok(()) => false,
         Err(fault) => out.is_empty() && undo.is_empty() && is_told(alloc, &fault, end),
     }
@@ -51,7 +51,7 @@ pub fn stops(alloc: Global, file: &[u8], script: &[u8], end: &[u8]) -> bool {
 pub fn edits(alloc: Global, file: &[u8], script: &[u8], edited: &[u8], back: &[u8]) -> bool {
     let mut out = Vec::new(alloc);
     let mut undo = Vec::new(alloc);
-    edit_run(alloc, file, script, &mut out, &mut undo).is_ok()
+    edit_run(alloc, file, script, &mut out, &mut undo, &mut Unheard).is_ok()
         && out.as_slice() == edited
         && undo.as_slice() == back
 }
@@ -61,7 +61,7 @@ pub fn edits(alloc: Global, file: &[u8], script: &[u8], edited: &[u8], back: &[u
 pub fn returns(alloc: Global, file: &[u8], script: &[u8], back: &[u8]) -> bool {
     let mut out = Vec::new(alloc);
     let mut undo = Vec::new(alloc);
-    edit_run(alloc, file, script, &mut out, &mut undo).is_ok()
+    edit_run(alloc, file, script, &mut out, &mut undo, &mut Unheard).is_ok()
         && undo.as_slice() == back
         && edits(alloc, out.as_slice(), back, file, script)
 }

@@ -166,8 +166,7 @@ fn set_back<H: OwnerHead>(
     }
 }
 
-/// Joins zones `k` and `k + 1` of number `i`. It takes no memory, but another representation may; then
-/// nothing changes.
+/// Joins zones `k` and `k + 1` of number `i`. For want of memory nothing changes.
 pub fn join_zones<H: OwnerHead>(
     owners: &mut Owners<H>,
     alloc: Global,

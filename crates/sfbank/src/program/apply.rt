@@ -2,17 +2,21 @@
 ghost use Rattle.sfbank.specs.Planned.{outcome_of};
 ghost use Rattle.sfbank.specs.Written.{Runs};
 
+use super::endings::at_either;
 use crate::edit::{edit_run, neutral_run};
-use sfbank_program::{ApplyPaths, Fault, Forms, OutputFile, RunFault, Which, end_both, read_file};
+use command_words::{ApplyPaths, Forms};
+use progress::Progress;
+use sfbank_program::{Fault, OutputFile, RunFault, end_both, read_file};
 use std::alloc::Global;
 use std::io::Write;
 use std::rt::Files;
 
 /// Runs the script on the bank, if its edits are of the forms that are taken. Both are read whole
 /// first, so an output may be one of them.
-pub(crate) fn apply<'a, R: Files + AllocGlobal>(
+pub(crate) fn apply<'a, R: Files + AllocGlobal, P: Progress>(
     rt: &'a R,
     paths: ApplyPaths<'a>,
+    progress: &mut P,
 ) -> Result<(), Fault<'a>> {
     let file = read_file(rt, paths.input)?;
     let script = read_file(rt, paths.script)?;
@@ -25,32 +29,27 @@ pub(crate) fn apply<'a, R: Files + AllocGlobal>(
         paths.forms,
         &mut out,
         &mut undo,
+        progress,
     );
-    match end_both(out, undo, run) {
-        Ok(()) => Ok(()),
-        Err(RunFault::Write(Which::Undo, written)) => Err(Fault::Run(
-            RunFault::Write(Which::Undo, written),
-            paths.undo,
-        )),
-        Err(fault) => Err(Fault::Run(fault, paths.out)),
-    }
+    at_either(paths.out, paths.undo, end_both(out, undo, run))
 }
 
 /// The run that takes these forms of edits.
 #[tactic(auto, unfolding(crate::specs::Outcome::outcome, crate::specs::Outcome::neutral_outcome))]
-fn run_asked<W: Write, V: Write>(
+fn run_asked<W: Write, V: Write, P: Progress>(
     alloc: Global,
     file: &[u8],
     script: &[u8],
     forms: Forms,
     out: &mut W,
     undo: &mut V,
+    progress: &mut P,
 ) -> Result<(), RunFault>
     ensures { Runs (record { out = W.contents out.old; out_new = W.contents out.new; undo = V.contents undo.old; undo_new = V.contents undo.new })
         (outcome_of forms file.now script.now) result }
 {
     match forms {
-        Forms::Every => edit_run(alloc, file, script, out, undo),
-        Forms::Neutral => neutral_run(alloc, file, script, out, undo),
+        Forms::Every => edit_run(alloc, file, script, out, undo, progress),
+        Forms::Neutral => neutral_run(alloc, file, script, out, undo, progress),
     }
 }

@@ -1,6 +1,8 @@
 //! The command `canon`.
+use super::endings::at;
 use crate::canon::canon_run;
-use sfbank_program::{CanonPaths, Fault, OutputFile, Which, read_file};
+use command_words::CanonPaths;
+use sfbank_program::{Fault, OutputFile, Which, read_file};
 use std::rt::Files;
 
 /// Writes a bank in its one spelling. It is read whole first, so the output may be the input.
@@ -11,8 +13,5 @@ pub(crate) fn canon<'a, R: Files + AllocGlobal>(
     let file = read_file(rt, paths.input)?;
     let mut out = OutputFile::new(rt, paths.out)?;
     let run = canon_run(rt.alloc(), file.as_slice(), &mut out);
-    match out.end(Which::Out, run) {
-        Ok(()) => Ok(()),
-        Err(fault) => Err(Fault::Run(fault, paths.out)),
-    }
+    at(paths.out, out.end(Which::Out, run))
 }

@@ -1,6 +1,8 @@
 //! The command `diff`.
+use super::endings::at;
 use crate::diff::diff_run;
-use sfbank_program::{DiffPaths, Fault, OutputFile, Which, read_file};
+use command_words::DiffPaths;
+use sfbank_program::{Fault, OutputFile, Which, read_file};
 use std::rt::Files;
 
 /// Writes a script that makes the second bank of the first. Both are read whole first, so the output may
@@ -13,8 +15,5 @@ pub(crate) fn diff<'a, R: Files + AllocGlobal>(
     let second = read_file(rt, paths.second)?;
     let mut out = OutputFile::new(rt, paths.out)?;
     let run = diff_run(rt.alloc(), first.as_slice(), second.as_slice(), &mut out);
-    match out.end(Which::Out, run) {
-        Ok(()) => Ok(()),
-        Err(fault) => Err(Fault::Run(fault, paths.out)),
-    }
+    at(paths.out, out.end(Which::Out, run))
 }

@@ -1,6 +1,8 @@
 //! The command `new`.
+use super::endings::at;
 use crate::new::new_run;
-use sfbank_program::{Fault, NewBank, OutputFile, Which};
+use command_words::NewBank;
+use sfbank_program::{Fault, OutputFile, Which};
 use std::rt::Files;
 
 /// Writes an empty bank.
@@ -10,8 +12,5 @@ pub(crate) fn new<'a, R: Files + AllocGlobal>(
 ) -> Result<(), Fault<'a>> {
     let mut out = OutputFile::new(rt, bank.out)?;
     let run = new_run(rt.alloc(), bank.minor, &mut out);
-    match out.end(Which::Out, run) {
-        Ok(()) => Ok(()),
-        Err(fault) => Err(Fault::Run(fault, bank.out)),
-    }
+    at(bank.out, out.end(Which::Out, run))
 }

@@ -2,9 +2,11 @@
 ghost use Rattle.std.specs.Prelude.{◌≡◌, if◌then◌else◌};
 ghost use Rattle.bank_text.specs.declared.samples.SamplePoints.TheVariants.{Kept, LeftOut};
 
+use super::endings::at;
 use crate::script::script_run;
 use bank_text::SamplePoints;
-use sfbank_program::{Fault, OutputFile, ScriptPaths, Which, read_file};
+use command_words::ScriptPaths;
+use sfbank_program::{Fault, OutputFile, Which, read_file};
 use std::rt::Files;
 
 /// Writes the script that makes a bank. The bank is read whole first, so the output may be the input.
@@ -20,10 +22,7 @@ pub(crate) fn script<'a, R: Files + AllocGlobal>(
         points_of(paths.no_points),
         &mut out,
     );
-    match out.end(Which::Out, run) {
-        Ok(()) => Ok(()),
-        Err(fault) => Err(Fault::Run(fault, paths.out)),
-    }
+    at(paths.out, out.end(Which::Out, run))
 }
 
 fn points_of(left_out: bool) -> SamplePoints

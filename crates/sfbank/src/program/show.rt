@@ -1,5 +1,8 @@
 //! The command `show`.
-use crate::show::show_run;
+use super::endings::at;
+use crate::show::{show_details_run, show_run};
+use bank_listing::Details;
+use command_words::ShowPaths;
 use sfbank_program::{Fault, STANDARD_OUTPUT, read_file};
 use std::io::Write;
 use std::rt::Files;
@@ -7,12 +10,18 @@ use std::rt::Files;
 /// Tells on the standard output what a bank has.
 pub(crate) fn show<'a, R: Files + AllocGlobal, O: Write>(
     rt: &'a R,
-    input: &'a str,
+    paths: ShowPaths<'a>,
     output: &mut O,
 ) -> Result<(), Fault<'a>> {
-    let file = read_file(rt, input)?;
-    match show_run(rt.alloc(), file.as_slice(), output) {
-        Ok(()) => Ok(()),
-        Err(fault) => Err(Fault::Run(fault, STANDARD_OUTPUT)),
-    }
+    let file = read_file(rt, paths.input)?;
+    let details = Details {
+        zones: paths.zones,
+        uses: paths.uses,
+    };
+    let run = if paths.zones || paths.uses {
+        show_details_run(rt.alloc(), file.as_slice(), details, output)
+    } else {
+        show_run(rt.alloc(), file.as_slice(), output)
+    };
+    at(STANDARD_OUTPUT, run)
 }

@@ -6,7 +6,7 @@ use Rattle.mixer.proofs.Parts.{aged-none, aged-more, aged_young, part_written, b
 use Rattle.mixer.proofs.blocks.mix.Goals as goal
 
 pub loop-at-init : goal.loop-at-init
-loop-at-init c = record {
+loop-at-init g c = record {
   within = omega arith;
   even = (λ _. 0);
   value = λ k h. absurd (omega (arith, h));
@@ -14,11 +14,11 @@ loop-at-init c = record {
 }
 
 pub mix_part-requires-clause-young : goal.mix_part-requires-clause-young
-mix_part-requires-clause-young c =
+mix_part-requires-clause-young g c =
     aged_young (2 ^ 33) (2 ^ 63 + 2 ^ 34) (c.loop-at.at / 2) c.args.voices.now c.loop-at.voices (omega arith) c.loop-at.invariant.live c.requires.young
 
 pub loop-at-preserved : goal.loop-at-preserved
-loop-at-preserved c =
+loop-at-preserved g c =
     let at = c.loop-at.at in
     let n = c.min-n.result in
     let vs = c.args.voices.now in
@@ -38,4 +38,4 @@ loop-at-preserved c =
     }
 
 pub returns-clause-value : goal.returns-clause-value
-returns-clause-value c = block_written c.loop-at.out c.args.voices.now c.loop-at.at (length c.args.out.now) c.loop-at.auto.out (omega arith) c.requires.even c.loop-at.invariant.value
+returns-clause-value g c = block_written c.loop-at.out c.args.voices.now c.loop-at.at (length c.args.out.now) c.loop-at.auto.out (omega arith) c.requires.even c.loop-at.invariant.value

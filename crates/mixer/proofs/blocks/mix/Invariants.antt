@@ -3,7 +3,7 @@ use Rattle.mixer.specs.Events.{aged, next_side}
 use Rattle.mixer.proofs.blocks.mix.Given as goal
 
 abbrev pub invariant-loop-at : goal.invariant-loop-at
-invariant-loop-at l = record {
+invariant-loop-at g l = record {
   within : l.at ≤ length l.fn.out;
   even : l.at % 2 ≡ 0;
   value : (k : ℕ) → k < l.at → get_or l.out k (pos 0) ≡ next_side l.fn.voices k;
@@ -11,4 +11,4 @@ invariant-loop-at l = record {
 }
 
 abbrev pub decreases-loop-at : goal.decreases-loop-at
-decreases-loop-at l = length l.fn.out - l.at
+decreases-loop-at g l = length l.fn.out - l.at

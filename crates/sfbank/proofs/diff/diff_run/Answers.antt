@@ -2,7 +2,7 @@ use Rattle.std.proofs.Common.{◌≡◌, ◌∙◌, []}
 use Rattle.edit_script.specs.Printing.{texts_of}
 use Rattle.bank_text.specs.Whole.{Leads, edits_between}
 use Rattle.sfbank.specs.Differences.{Pair}
-use Rattle.sfbank.proofs.Differences.{printed_leads, replacement_is, sends_difference, writes_nothing}
+use Rattle.sfbank.proofs.Differences.{printed_leads, replacement_is, sends_difference, writes_nothing, ends_in_memory}
 use Rattle.sfbank.proofs.Restores.{are_bytes}
 use Rattle.sfbank.proofs.diff.diff_run.Goals as goal
 
@@ -38,3 +38,7 @@ returns-clause-nothing g c =
     let edits = edits_between banks.first banks.second in
     let none : banks.first ≡ banks.second → edits ≡ [] = λ same. absurd (rw c.in-None.is at (c.in_ok-edits.ensures.nothing same)) in
     writes_nothing _ _ c.args.first.now c.args.second.now banks edits c.deliver_replacement.result c.in_ok-from.ensures none c.deliver_replacement.ensures
+
+pub returns-in_err-edits-clause-runs : goal.returns-in_err-edits-clause-runs
+returns-in_err-edits-clause-runs g c =
+    ends_in_memory _ c.args.first.now c.args.second.now c.from_residual-in_err-edits.result c.from_residual-in_err-edits.ensures.1

@@ -1,4 +1,4 @@
 use Rattle.sfbank_program.proofs.fault_lines.put_file_fault.Goals as goal
 
 pub returns : goal.returns
-returns g c = rw c.as_bytes.ensures.value at c.put_pieces.ensures
+returns g c = rw c.reason.ensures at c.put_file_reason.ensures

@@ -1,7 +1,7 @@
 use Rattle.std.proofs.Common.{◌+◌, ℤ, arith, ap, ◌∙◌}
 use Rattle.sound_tables.specs.Tables.{gain_of}
-use Rattle.voices.specs.Levels.{scaled_by}
-use Rattle.voices.specs.Envelope.{envelope}
+use Rattle.voice_levels.specs.Levels.{scaled_by}
+use Rattle.voice_levels.specs.Envelope.{envelope}
 use Rattle.voices.specs.Sound.{sound_at}
 use Rattle.voices.proofs.runs.fill_sounds.Goals as goal
 

@@ -1,22 +1,22 @@
-use Rattle.std.proofs.Common.{◌≡◌, ◌+◌, ◌-◌, ◌*◌, ◌/◌, ◌%◌, ◌<◌, ◌≤◌, ℕ, pos, ◌++◌, take, drop, length, get_or, arith, ap, ◌∙◌}
+use Rattle.std.proofs.Common.{◌≡◌, ◌+◌, ◌-◌, ◌*◌, ◌/◌, ◌%◌, ◌<◌, ◌≤◌, ℕ, ◌++◌, take, drop, length, get_or, arith, ap, ◌∙◌}
 use Rattle.std.proofs.lemmas.Grind.{common_steps}
 use Rattle.std.proofs.lemmas.List.{length-drop, take_rest}
 use Rattle.sample_view.specs.Words.{words}
-use Rattle.voices.specs.Runs.{straight}
+use Rattle.voices.specs.Runs.{pair_says, straight}
 use Rattle.voices.proofs.SliceLemmas.{run_from, straight_is}
 use Rattle.voices.proofs.slices.fill_front.Goals as goal
 
-pub fill_straight-requires-clause-near : goal.fill_straight-requires-clause-near
-fill_straight-requires-clause-near c =
+pub read_straight-requires-clause-near : goal.read_straight-requires-clause-near
+read_straight-requires-clause-near c =
     let n = c.frames_before-n.result in
     let step = c.args.v.now.step in
-    let most : n ≤ length c.args.run.now = omega (arith, c.frames_before-n.ensures.most) in
-    let len : length (take n c.args.run.now) ≡ n = grind (arith, common_steps) in
+    let most : n ≤ length c.args.pairs.now = omega (arith, c.frames_before-n.ensures.most) in
+    let len : length (take n c.args.pairs.now) ≡ n = grind (arith, common_steps) in
     let s = c.from-then-ends-gt1.ensures in
     let last = c.frames_before-n.ensures.before (n - 1) (omega (arith, c.frames_before-n.ensures.some)) in
     let before : (n - 1) * c.from-then-ends-gt1.result ≡ (n - 1) * step = ap (λ y. (n - 1) * y) s in
     let count : n ≡ n - 1 + 1 = omega (arith, c.frames_before-n.ensures.some) in
-    let whole : length (take n c.args.run.now) * step ≡ (n - 1) * step + step = ap (λ y. y * step) (len ∙ count) ∙ omega arith in
+    let whole : length (take n c.args.pairs.now) * step ≡ (n - 1) * step + step = ap (λ y. y * step) (len ∙ count) ∙ omega arith in
     let far = c.min-ends.ensures in
     let slow = c.requires.playable.step in
     omega (arith, whole, before, last, far, slow, c.from.ensures)
@@ -25,13 +25,14 @@ pub returns-then-ends-gt1-clause-value : goal.returns-then-ends-gt1-clause-value
 returns-then-ends-gt1-clause-value c k h =
     let n = c.frames_before-n.result in
     let x = c.args.x in
+    let part : ℕ = x % 65536 + k * c.args.v.now.step in
     let bytes = c.around-slice.result.bytes.now in
     let first : ℕ = x / 65536 - c.around-slice.result.first in
     let ahead = drop (2 * first) bytes in
     let run = run_from c.args.points.now bytes (x / 65536) first c.around-slice.ensures.run in
-    let fits : n ≤ length c.args.run.now = omega (arith, c.frames_before-n.ensures.most) in
-    let len : length c.fill_straight.new.run ≡ n = c.fill_straight.auto.run ∙ (let e : length (take n c.args.run.now) ≡ n = grind (arith, common_steps) in e) in
-    let o : get_or (c.fill_straight.new.run ++ drop n c.args.run.now) k (pos 0) ≡ get_or c.fill_straight.new.run k (pos 0) = grind (arith, common_steps) in
+    let fits : n ≤ length c.args.pairs.now = omega (arith, c.frames_before-n.ensures.most) in
+    let len : length c.read_straight.new.pairs ≡ n = c.read_straight.auto.pairs ∙ (let e : length (take n c.args.pairs.now) ≡ n = grind (arith, common_steps) in e) in
+    let o : get_or (c.read_straight.new.pairs ++ drop n c.args.pairs.now) k 0 ≡ get_or c.read_straight.new.pairs k 0 = grind (arith, common_steps) in
     let y : ℕ = x + k * c.args.v.now.step in
     let last = c.frames_before-n.ensures.before k h in
     let step : k * c.from-then-ends-gt1.result ≡ k * c.args.v.now.step = ap (λ s. k * s) c.from-then-ends-gt1.ensures in
@@ -41,7 +42,12 @@ returns-then-ends-gt1-clause-value c k h =
     let m' = c.min.ensures in
     let l = c.limit_of.ensures in
     let long = length-drop (2 * first) bytes in
-    let d : x % 65536 + k * c.args.v.now.step ≡ y - 65536 * (i - 0) = omega arith in
-    o ∙ c.fill_straight.ensures k (omega (arith, h, len)) ∙ ap (λ b. straight (words b) (x % 65536 + k * c.args.v.now.step)) (take_rest bytes (2 * first)) ∙ ap (straight (words ahead)) d
+    let d : part ≡ y - 65536 * (i - 0) = omega arith in
+    let rest : y % 65536 ≡ part % 65536 = omega arith in
+    ap (λ w. pair_says w (y % 65536)) o
+    ∙ ap (pair_says (get_or c.read_straight.new.pairs k 0)) rest
+    ∙ c.read_straight.ensures k (omega (arith, h, len))
+    ∙ ap (λ b. straight (words b) part) (take_rest bytes (2 * first))
+    ∙ ap (straight (words ahead)) d
     ∙ straight_is c.args.points.now ahead c.args.v.now c.args.looping i 0 y run
     (λ g. c.requires.playable.loop_inside (c.requires.looped g)) (omega arith) (omega (arith, near, m, m', l)) (omega (arith, near, m, m', long))

@@ -1,14 +1,9 @@
-use Rattle.std.proofs.Common.{rules}
-use Rattle.std.proofs.lemmas.List.Sorted.{answers_always}
-use Rattle.generators.specs.Gens.{rank}
 use Rattle.generators.proofs.Maps.{entries_held}
-use Rattle.generators.proofs.Search.{searched}
 use Rattle.generators.proofs.gen_map.GenMap.search.Goals as goal
 
--- the closure gives an entry's rank, and the slice is the map's entries
+-- the slice is the map's entries
+pub search_entries-requires : goal.search_entries-requires
+search_entries-requires c = rw c.deref.ensures.value c.self.invariant.sorted
+
 pub returns : goal.returns
-returns c =
-    let facts = c.binary_search_by_key.ensures in
-    let by_rank = facts.position (λ entry. rank entry.0) (answers_always _ _ _ (λ f a r g called. search rules)) in
-    rw (entries_held c.self.invariant c.self.view_is, ← c.deref.ensures.value)
-    (searched c.deref.result.now (rw c.deref.ensures.value c.self.invariant.sorted) c.args.operator c.binary_search_by_key.result facts.bound (rw c.rank.ensures at by_rank))
+returns c = rw (entries_held c.self.invariant c.self.view_is, ← c.deref.ensures.value) c.search_entries.ensures

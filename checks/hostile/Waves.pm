@@ -1,0 +1,83 @@
+# WAVE files: that of a sample comes back as the sample; fronts of one, and ones in which bytes are others, are
+# refused by a line or imported, and an import is undone to the byte.
+package Waves;
+use strict;
+use warnings;
+use Banks;
+use Runs;
+use Exporter 'import';
+our @EXPORT = qw(try_waves);
+
+# How many of the changed files have to be imported at least.
+our $floor = 300;
+
+my $imported = 0;
+
+sub wave { my ($bank, $sample, $out) = @_; return run_command(['wave', $bank, $sample, $out], $out); }
+sub imported { my ($bank, $wave, $out, $undo) = @_; return run_command(['import', $bank, $wave, $out, $undo], $out, $undo); }
+
+# What is wrong with the import of the file `in.wav`, which is done or refused; an import has to be undone.
+sub wrong_of_import {
+    my ($bytes) = @_;
+    write_bytes('in.wav', $bytes);
+    my $run = imported('tone', 'in.wav', 'out', 'undo');
+    return $run->{wrong} if $run->{wrong} || $run->{status};
+    $imported++;
+    return undone('tone');
+}
+
+# What is wrong with a sample that goes out and comes in: its WAVE file is the same again.
+sub wrong_of_sample {
+    my ($bank) = @_;
+    my $first = wave($bank, 0, 'first.wav');
+    return $first->{wrong} // $first->{line} if $first->{wrong} || $first->{status};
+    my $run = imported('empty', 'first.wav', 'out', 'undo');
+    return $run->{wrong} // $run->{line} if $run->{wrong} || $run->{status};
+    my $again = wave('out', 0, 'again.wav');
+    return $again->{wrong} // (!$again->{status} && same('first.wav', 'again.wav') ? undef : 'another WAVE file');
+}
+
+# The numbers of 32 bits that are put over sizes, counts and frames.
+my @lies = (0, 1, 2, 3, 7, 24, 36, 43, 44, 67, 68, 69, 127, 128, 255, 0x7fff_ffff, 0x8000_0000, 0xffff_fffe, 0xffff_ffff);
+
+# Each front of the file, each byte of it changed in some ways, and each number of it that may lie.
+sub try_changes {
+    my ($whole) = @_;
+    for my $length (0 .. length($whole) - 1) {
+        tell("$length bytes of a WAVE file", wrong_of_import(substr $whole, 0, $length));
+        for my $byte (0, 1, 2, 3, 127, 128, 255) {
+            tell("byte $length of a WAVE file is $byte", wrong_of_import(substr($whole, 0, $length) . chr($byte) . substr($whole, $length + 1)));
+        }
+        next if $length % 4 || $length + 4 > length $whole;
+        for my $lie (@lies) {
+            tell("number $length of a WAVE file is $lie", wrong_of_import(substr($whole, 0, $length) . pack('V', $lie) . substr($whole, $length + 4)));
+        }
+    }
+}
+
+# Files by seeds: up to four bytes of the file are others.
+sub try_wave_seeds {
+    my ($whole, $count) = @_;
+    for my $seed (1 .. $count) {
+        srand $seed;
+        my $file = $whole;
+        substr($file, int(rand length $file), 1) = chr int rand 256 for 0 .. rand 4;
+        tell("seed $seed of a WAVE file", wrong_of_import($file));
+    }
+}
+
+# Whether the program has WAVE files of samples.
+sub knows_waves { return !run(['wave', '--help'])->{status}; }
+
+sub try_waves {
+    return if !knows_waves();
+    for my $bank (qw(saw tone)) { tell("sample 0 of $bank", wrong_of_sample($bank)); }
+    my $run = wave('tone', 0, 'tone.wav');
+    my $whole = read_bytes('tone.wav');
+    return tell('the WAVE file of a sample', $run->{wrong} // 'is none') if !defined $whole;
+    try_changes($whole);
+    try_wave_seeds($whole, 3000);
+    tell('WAVE files imported', $imported >= $floor ? undef : "$imported, not $floor");
+}
+
+1;

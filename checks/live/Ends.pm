@@ -1,0 +1,179 @@
+# Inputs that end or are cut anywhere, and outputs that can't be written.
+package Ends;
+use strict;
+use warnings;
+use Banks;
+use Live;
+use Runs;
+use Sessions;
+use Exporter 'import';
+our @EXPORT = qw(try_inputs try_outputs);
+
+# ---- inputs
+
+my $digits = 'e803' x 250_000;
+
+# Inputs on the bank `tone`, and all answers to them.
+my @inputs = (
+    ['', ''],
+    ["\n\n \t\r\n# undo\n", ''],
+    ['undo', "refused 39 NothingToUndo\n"],
+    ["undo\r\nredo\r\n", "refused 39 NothingToUndo\nrefused 40 NothingToRedo\n"],
+    ["rename-sample 0 \"u\"\nundo\nredo\nredo", "ok\nok\nok\nrefused 40 NothingToRedo\n"],
+    ["quit\nundo\n", "ok\n"],
+    ["undo\0\n\0\nundo", "fault 41 Syntax\nfault 41 Syntax\nrefused 39 NothingToUndo\n"],
+    ["rename-sample 0 \"a\0b\"\nrename-sample 0 x6100\n", "fault 43 Literal\nfault 43 Literal\n"],
+    ['rename-sample 0 "u', "fault 43 Literal\n"],
+    ['rename-sample 0 x7', "fault 43 Literal\n"],
+    ["\xff\xfe\nsave \xff undo\nsave xbank undo\n", "fault 41 Syntax\nfault 41 Syntax\nfault 43 Literal\n"],
+    ["extend 0 x$digits x\nundo", "ok\nok\n"],
+    ["extend 0 x${digits}0 x\nundo", "fault 43 Literal\nrefused 39 NothingToUndo\n"],
+    [' ' x 1_000_000, ''],
+    ['#' . 'a' x 1_000_000, ''],
+    ['a' x 1_000_000 . "\nundo\n", "fault 41 Syntax\nrefused 39 NothingToUndo\n"],
+    ['"' x 1_000_000 . "\nundo\n", "fault 43 Literal\nrefused 39 NothingToUndo\n"],
+    ['undo ' x 200_000 . "\nundo\n", "fault 41 Syntax\nrefused 39 NothingToUndo\n"],
+    ["undo\n" x 100_000, "refused 39 NothingToUndo\n" x 100_000],
+    ["note 100 0 0 60 100\nnote 100 0 1 60 100\nframes 0\n", "ok 1\nok 0\nok\n"],
+    ["note 100000000 0 0 60 100\nnote 100000001 0 0 60 100\nnote 1 0 0 128 0\n", "ok 1\nfault 47 TooLong\nfault 45 BadNote\n"],
+    ["neutral rename-sample 0 \"u\"\nneutral trim 0 1 0\nneutral undo\n", "ok\nrefused 50 NotNeutral\nfault 41 Syntax\n"],
+    ["remove-sample 0\ngroup { rename-sample 0 \"u\" } { remove-sample 0 }\n", "refused 26 InUse\nrefused 48 GroupRefused 1 26 InUse\n"],
+);
+
+sub wrong_of_input {
+    my ($lines, $want) = @_;
+    my $run = live('tone', $lines);
+    return is_done($run) // ($run->{answers} eq $want ? undef : 'answered ' . one_line($run->{answers}));
+}
+
+# Runs a line of the shell: the program is `$0`, the lines are the file `lines`. Answers its status.
+sub shell {
+    my ($line, $lines) = @_;
+    unlink qw(pcm answers errors status);
+    write_bytes('lines', $lines) if defined $lines;
+    return system('bash', '-c', "exec 2> errors; $line", program_of_runs()) >> 8;
+}
+
+# A session, whose input comes byte by byte, gives the same.
+sub wrong_of_bytes {
+    my ($seed) = @_;
+    my ($bank, @lines) = session_of($seed);
+    my $lines = join("\n", @lines);
+    my $whole = live($bank, $lines);
+    unlink glob('saved.*'), glob('undo.*');
+    my $status = shell(q(perl -e '$| = 1; binmode STDIN; print while read STDIN, $_, 1 + rand 3' < lines | "$0" live ) . "$bank pcm > answers", $lines);
+    return "status $status" if $status;
+    return read_bytes('answers') eq $whole->{answers} && read_bytes('pcm') eq $whole->{frames} ? undef : 'answered otherwise';
+}
+
+# Bytes by lot, with those that mean something among them: each line that says something has one answer.
+sub wrong_of_noise {
+    my @pieces = ("\n", ' ', '"', 'x', '#', 'undo', 'redo', 'note 1 0 0 60 9', 'frames 9', 'rename-sample 0 "u"', 'save a', '{', '}', 'group', "\0", "\r", '4294967296', '-', "\xc3");
+    my $lines = join '', map { rand() < 0.7 ? $pieces[rand @pieces] : chr rand 256 } 1 .. 200;
+    my $run = live('tone', $lines);
+    my $wrong = is_done($run);
+    my $count = grep { /^[ \t\r]*[^ \t\r#]/ } split /\n/, $lines;
+    my @told = told($run);
+    return $wrong // (@told == $count + 1 ? undef : @told - 1 . " answers to $count lines: " . one_line($lines));
+}
+
+# A session gives 100,000,000 frames at most.
+sub wrong_of_limit {
+    my $status = shell('"$0" live tone /dev/null < lines > answers', "frames 60000000\nframes 40000001\nframes 40000000\nframes 1\nframes 0\nundo\n");
+    my $want = "ok\nrefused 52 TooManyFrames\nok\nrefused 52 TooManyFrames\nok\nrefused 39 NothingToUndo\n";
+    return $status || read_bytes('answers') ne $want ? "status $status, answers " . one_line(read_bytes('answers')) : undef;
+}
+
+# The lines of the help can be typed as they stand.
+sub wrong_of_help {
+    my @told = told(live('tone', "help\n"));
+    splice @told, -2;
+    return 'it has no lines' unless @told > 8;
+    my $run = live('tone', join "\n", grep { !/^(?:save|show|quit)/ } @told);
+    return is_done($run) // ($run->{answers} =~ /^fault/m ? one_line($run->{answers}) : undef);
+}
+
+sub try_inputs {
+    for my $number (0 .. $#inputs) { tell("input $number, " . substr(one_line($inputs[$number][0]), 0, 40), wrong_of_input(@{ $inputs[$number] })); }
+    tell("session $_, in bytes", wrong_of_bytes($_)) for 1 .. 100;
+    srand 1;
+    tell("noise $_", wrong_of_noise()) for 1 .. 300;
+    tell('100,000,000 frames', wrong_of_limit());
+    tell('the help', wrong_of_help());
+    unlink glob('saved.*'), glob('undo.*');
+}
+
+# ---- outputs
+
+my $lines = "rename-sample 0 \"u\"\nnote 4000 0 0 60 100\nframes 3000\nundo\nframes 2000\nframes 0\nredo\n";
+
+# Runs of the shell, with their status and their line of errors, and a test of what they left.
+my @shells = (
+    ['"$0" live tone /dev/full < lines > answers', 5, qr{^sfbank: write fault /dev/full after 0 bytes\n\z}, '[ "$(cat answers)" = "$(printf "ok\nok 1")" ]'],
+    ['"$0" live tone no/pcm < lines > answers', 5, qr{^sfbank: [^\n]*no/pcm[^\n]*\n\z}, '[ ! -e no ]'],
+    ['"$0" live tone pcm < lines > /dev/full', 5, qr{^sfbank: write fault - after 0 bytes\n\z}, 'true'],
+    ['"$0" live tone pcm < lines >&-', 5, qr{^sfbank: write fault - after 0 bytes\n\z}, 'true'],
+    ['{ sleep 0.2; "$0" live tone pcm < lines; echo $? > status; } | true; exit $(cat status)', 5, qr{^sfbank: write fault - after 0 bytes\n\z}, 'true'],
+    # (more frames than a pipe holds, so that none goes out behind the reader's end)
+    ['mkfifo pipe; head -c 400 pipe > /dev/null & { cat lines; echo frames 100000; } | "$0" live tone pipe > answers; s=$?; rm pipe; exit $s', 5, qr{^sfbank: write fault pipe after \d+ bytes\n\z}, 'true'],
+    ['mkfifo pipe; cat pipe > pcm & "$0" live tone pipe < lines > answers; s=$?; wait; rm pipe; exit $s', 0, qr{^\z}, 'cmp -s pcm whole.pcm && cmp -s answers whole.answers'],
+    ['"$0" live none pcm < lines > answers', 5, qr{^sfbank: file fault none\b[^\n]*\n\z}, '[ ! -s answers ] && [ ! -e pcm ]'],
+    ['"$0" live lines pcm < lines > answers', 2, qr{^sfbank: read fault 1 NotRiff\n\z}, '[ ! -s answers ]'],
+);
+
+# A save that fails leaves the session as it is.
+my @saves = (
+    ['save /dev/full undo.1', 'write fault /dev/full after 0 bytes'],
+    ['save no/saved undo.1', 'write fault no/saved after 0 bytes'],
+    ['save saved.1 no/undo', 'write fault no/undo after 0 bytes'],
+    ['save "a folder" undo.1', 'write fault a folder after 0 bytes'],
+    ['save "" undo.1', 'write fault  after 0 bytes'],
+);
+
+sub wrong_of_shell {
+    my ($line, $status, $told, $test) = @_;
+    my $ended = shell($line, $lines);
+    return "status $ended" if $ended != $status;
+    return 'told ' . one_line(read_bytes('errors')) if read_bytes('errors') !~ $told;
+    return system('bash', '-c', $test) ? 'left something else' : undef;
+}
+
+sub wrong_of_save {
+    my ($save, $want) = @_;
+    my $run = live('tone', "rename-sample 0 \"u\"\n$save\nundo\nundo\nsave saved.2 undo.2\n");
+    my $wrong = is_done($run) // ($run->{answers} eq "ok\n$want\nok\nrefused 39 NothingToUndo\nok\n" ? undef : 'answered ' . one_line($run->{answers}));
+    return $wrong // (same('saved.2', 'tone') && read_bytes('undo.2') eq '' ? undef : 'the bank is another');
+}
+
+# Has each write of frames go wrong in turn, until none does: the frames are that front which the fault counts, and all
+# answers before are there.
+sub try_each_write {
+    my ($way, $most) = @_;
+    for my $number (1 .. 10_000) {
+        my $run = live_under({ LD_PRELOAD => './fail.so', FAILED_MARK => 'mark', $way => $number, $most ? (SHORT_WRITES => $most) : () }, 'tone', $lines);
+        my $name = "$way $number, $most bytes a call";
+        return tell($name, is_done($run) // ($run->{frames} eq read_bytes('whole.pcm') ? undef : 'other frames')) if !-e 'mark';
+        my ($written) = $run->{line} =~ /^sfbank: write fault pcm after (\d+) bytes\n\z/;
+        my $right = $run->{status} == 5 && defined $written && $run->{frames} eq substr(read_bytes('whole.pcm'), 0, $written)
+            && $run->{answers} eq substr(read_bytes('whole.answers'), 0, length $run->{answers});
+        tell($name, $right ? undef : "status $run->{status} with '$run->{line}', " . length($run->{frames}) . ' bytes');
+    }
+}
+
+sub try_outputs {
+    my ($hostile) = @_;
+    my $whole = live('tone', $lines);
+    tell('a session', is_done($whole));
+    write_bytes('whole.pcm', $whole->{frames});
+    write_bytes('whole.answers', $whole->{answers});
+    mkdir 'a folder';
+    tell($_->[0], wrong_of_shell(@$_)) for @shells;
+    tell($_->[0], wrong_of_save(@$_)) for @saves;
+    return tell('the shim', 'it is not compiled') if system('cc', '-O2', '-shared', '-fPIC', '-o', 'fail.so', "$hostile/fail_writes.c");
+    my $run = live_under({ LD_PRELOAD => './fail.so', SHORT_WRITES => 1, FAILED_OUTPUT => 1 }, 'tone', $lines);
+    tell('a byte a call', is_done($run) // ($run->{frames} eq $whole->{frames} && $run->{answers} eq $whole->{answers} ? undef : 'gives something else'));
+    for my $way (qw(FAILED_WRITE EMPTY_WRITE)) { try_each_write($way, $_) for 0, 1000; }
+    unlink glob('saved.*'), glob('undo.*');
+}
+
+1;

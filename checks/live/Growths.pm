@@ -1,0 +1,35 @@
+# Each growth refused in turn, until a session asks for no further one: the line at which it was is answered `out of memory`
+# and changes nothing, and the session goes on as if it hadn't been; or the session ends for want of memory.
+package Growths;
+use strict;
+use warnings;
+use Banks;
+use Live;
+use Runs;
+use Sessions;
+use Exporter 'import';
+our @EXPORT = qw(try_growths);
+
+my @lines = (
+    'rename-sample 0 "u"', 'note 4000 0 0 60 20', 'frames 100', 'group { set-gen inst 0 0 17 -300 } { set-loop 0 loop 0 2 }', 'note 4000 0 0 72 20',
+    'frames 300', 'undo', 'neutral rename-inst 0 "v"', 'save saved.1 undo.1', 'redo', 'undo', 'extend 0 x01000200 x0300', 'note 300 0 0 48 20', 'frames 500',
+    'split-zone inst 0 0 key 64', 'save saved.2 "undo.2"', 'show', 'remove-sample 0', 'trim 0 x0', 'frames 50', 'quit',
+);
+
+sub try_growths {
+    my ($growths) = @_;
+    return tell('the shim', 'it is not compiled') if system('cc', '-O2', '-shared', '-fPIC', '-o', 'refuse.so', "$growths/refuse.c");
+    my ($number, $answered) = (0, 0);
+    while (1) {
+        $number++;
+        unlink glob('saved.*'), glob('undo.*');
+        my $run = live_under({ LD_PRELOAD => './refuse.so', REFUSED_GROWTH => $number, REFUSED_MARK => 'mark' }, 'tone', join("\n", @lines) . "\n");
+        last if !-e 'mark';
+        $answered++ if $run->{answers} =~ /^out of memory$/m;
+        tell("growth $number refused", wrong_of_run('tone', $run, 1, @lines));
+    }
+    tell("growths, $number", $number > 20 && $answered > 10 ? undef : "only $answered were answered");
+    print "live: ", $number - 1, " growths refused in turn, $answered of them in a line that is answered so\n";
+}
+
+1;

@@ -1,0 +1,271 @@
+# Sessions by seeds: edits of all kinds, many of them refused, undo and redo, notes, frames, saves and listings by lot. What
+# each line has to be answered is what `apply` says of the same edit on the same bank; what is saved is what `apply` writes,
+# and what is heard is the sum of what `play` makes of the notes of each bank, each from its start on.
+package Sessions;
+use strict;
+use warnings;
+use Banks;
+use Live;
+use Runs;
+use Exporter 'import';
+our @EXPORT = qw(try_sessions try_kinds session_of wrong_of_run);
+
+# How many lines of each kind have to be answered so at least in 3,000 sessions.
+my %floors = (
+    'edit ok' => 5000, 'edit refused' => 3000, 'neutral ok' => 500, 'neutral refused' => 500, 'undo ok' => 1500, 'undo refused' => 500,
+    'redo ok' => 500, 'redo refused' => 500, 'note ok' => 4000, 'frames ok' => 4000, 'save ok' => 1500, 'show ok' => 300, 'fault' => 500,
+    'frames of several banks' => 1000,
+);
+my %count;
+
+my $lot;
+sub below {
+    my ($limit) = @_;
+    $lot = ($lot * 1103515245 + 12345) % 2147483648;
+    return int($lot / 2147483648 * $limit);
+}
+sub one_of { return $_[below(scalar @_)]; }
+
+# ---- the lines of a session
+
+sub owner { return one_of('preset', 'inst') . ' ' . below(3); }
+
+# An edit by lot, of members that may be there.
+sub step {
+    my @forms = (
+        sub { 'rename-sample ' . below(3) . ' "s' . below(100) . '"' },
+        sub { 'rename-inst ' . below(4) . ' "i' . below(100) . '"' },
+        sub { 'set-head ' . below(3) . ' "p" ' . below(2) . ' 0' },
+        sub { 'set-gen ' . owner() . ' ' . one_of('global', 0, 1) . ' ' . one_of('48 ' . below(200), '51 ' . (below(25) - 12), '52 ' . (below(99) - 50)) },
+        sub { 'clear-gen ' . owner() . ' ' . one_of('global', 0, 1) . ' ' . one_of(48, 51, 52) },
+        sub { 'set-gen inst ' . below(3) . ' 0 ' . one_of('17 ' . (below(1000) - 500), '54 ' . below(2), '34 ' . (below(12000) - 12000), '38 ' . (below(9000) - 9000)) },
+        sub { 'add-zone ' . owner() . ' 0 { ' . below(3) . ' g 43 ' . below(64) . '..' . (64 + below(64)) . ' }' },
+        sub { 'remove-zone ' . owner() . ' ' . below(3) },
+        sub { 'move-zone ' . owner() . ' ' . below(3) . ' ' . below(3) },
+        sub { 'split-zone ' . owner() . ' ' . below(2) . ' key ' . below(128) },
+        sub { 'set-target ' . owner() . ' ' . below(2) . ' ' . below(3) },
+        sub { 'trim ' . below(2) . ' ' . below(2) . ' ' . below(2) },
+        sub { 'extend ' . below(2) . ' x' . unpack('H*', pack 'v*', map { below(2000) } 1 .. below(3)) . ' x0100' },
+        sub { 'set-loop ' . below(2) . ' ' . one_of('noloop', 'loop ' . below(4) . ' ' . below(6)) },
+        sub { 'set-tune ' . below(2) . ' ' . one_of(22050, 44100, 48000) . ' ' . (48 + below(24)) . ' ' . (below(21) - 10) },
+        sub { 'move-sample ' . below(2) . ' ' . below(3) },
+        sub { 'add-sample ' . below(2) . ' "n" 44100 60 0 mono noloop x0100feff' },
+        sub { 'remove-sample ' . below(3) },
+        sub { 'set-info ' . one_of('INAM', 'ICMT') . ' "text ' . below(9) . '"' },
+        sub { 'add-mod ' . owner() . ' 0 0 ' . (2 + below(2)) . ' 48 ' . below(900) . ' 0 0' },
+    );
+    return $forms[below(scalar @forms)]->();
+}
+
+# An edit that no note list hears, where its members are there.
+sub unheard_step {
+    my @forms = (
+        sub { 'rename-sample ' . below(2) . ' "s' . below(100) . '"' },
+        sub { 'rename-inst ' . below(3) . ' "i' . below(100) . '"' },
+        sub { 'set-info ' . one_of('INAM', 'ICMT') . ' "text ' . below(9) . '"' },
+        sub { 'move-zone ' . owner() . ' ' . below(2) . ' ' . below(2) },
+        sub { 'split-zone ' . owner() . ' ' . below(2) . ' key ' . below(128) },
+        sub { 'move-sample ' . below(2) . ' ' . below(2) },
+        sub { 'set-kind ' . below(2) . ' mono' },
+    );
+    return $forms[below(scalar @forms)]->();
+}
+
+sub edit { return below(5) ? step() : join ' ', 'group', map { '{ ' . step() . ' }' } 0 .. below(3); }
+
+# A note that is so quiet that some twenty of them together are never cut.
+sub note { return 'note ' . one_of(0, 1, 50 + below(400), 3000) . ' 0 ' . one_of(0, 0, 1, 2) . ' ' . (30 + below(70)) . ' ' . (1 + below(20)); }
+
+my $saves;
+sub line {
+    my @lines = (
+        (\&edit) x 8, sub { 'neutral ' . (below(3) ? unheard_step() : edit()) }, ('undo') x 3, ('redo') x 3, (\&note) x 5,
+        (sub { 'frames ' . one_of(0, 1, below(300), below(3000), 1024) }) x 5,
+        (sub { $saves++; "save saved.$saves " . (below(2) ? "undo.$saves" : "\"undo.$saves\"") }) x 2,
+        'show', sub { one_of('', ' # nothing', 'undo 1', 'rename-sample 0', 'note 1 2', 'frames -1', 'save "a', 'trim 0 x1', 'help me') },
+    );
+    my $line = $lines[below(scalar @lines)];
+    return ref $line ? $line->() : $line;
+}
+
+# ---- what a session is, as far as it was answered
+
+# The script of the edits that lead to the bank as it is.
+sub script_of { my ($s) = @_; return join '', map { "$_\n" } @{ $s->{edits} }[0 .. $s->{at} - 1]; }
+
+# What `apply` says of the bank under these lines behind those that led to it: nothing where it takes them, or the line
+# without the number of its line.
+sub judged {
+    my ($s, $line, @flags) = @_;
+    my $run;
+    if (@flags) {
+        my $made = apply_text($s->{bank}, script_of($s), 'now', 'undo');
+        return $made->{line} if $made->{status};
+        local @Runs::flags = @flags;
+        $run = apply_text('now', "$line\n", 'out', 'undo');
+    } else {
+        $run = apply_text($s->{bank}, script_of($s) . "$line\n", 'out', 'undo');
+    }
+    return $run->{wrong} if $run->{wrong};
+    return $run->{status} ? $run->{line} =~ s/^sfbank: line \d+: //r =~ s/\n\z//r : 'ok';
+}
+
+sub answered {
+    my ($kind, $told, $want) = @_;
+    $count{ "$kind " . ($told =~ /^(ok|refused|fault)/ ? $1 : '') }++;
+    $count{fault}++ if $told =~ /^fault/;
+    return $told eq $want ? undef : "answered '$told', not '$want'";
+}
+
+sub is_edited {
+    my ($s, $told, $line, @flags) = @_;
+    my $wrong = answered(@flags ? 'neutral' : 'edit', $told, judged($s, $line, @flags));
+    return $wrong if $wrong || $told ne 'ok';
+    splice @{ $s->{edits} }, $s->{at};
+    push @{ $s->{edits} }, $line;
+    $s->{at}++;
+    return;
+}
+
+sub is_undone {
+    my ($s, $told) = @_;
+    return answered('undo', $told, 'refused 39 NothingToUndo') unless $s->{at};
+    $s->{at}--;
+    return answered('undo', $told, 'ok');
+}
+
+sub is_redone {
+    my ($s, $told) = @_;
+    return answered('redo', $told, 'refused 40 NothingToRedo') if $s->{at} == @{ $s->{edits} };
+    $s->{at}++;
+    return answered('redo', $told, 'ok');
+}
+
+sub is_saved {
+    my ($s, $told, $out, $undo) = @_;
+    my $wrong = answered('save', $told, 'ok');
+    my $run = apply_text($s->{bank}, script_of($s), 'out', 'undo');
+    return $wrong // $run->{wrong} // ($run->{status} ? $run->{line} : !same($out, 'out') ? "$out is another bank" : same($undo, 'undo') ? undef : "$undo is another way back");
+}
+
+# The lines of the listing of the bank as it is, and `ok`.
+sub is_shown {
+    my ($s, @told) = @_;
+    apply_text($s->{bank}, script_of($s), 'out', 'undo');
+    run(['show', 'out'], 'listing');
+    $count{'show ok'}++;
+    my $want = read_bytes('listing') =~ s/^counts.*\n//mr;
+    my $listed = join('', map { "$_\n" } @told) =~ s/^counts.*\n//mr;
+    return $listed eq "${want}ok\n" ? undef : 'another listing: ' . one_line($listed);
+}
+
+# Takes the lines of an answer to a line off the front of those that are left.
+sub take_answer {
+    my ($line, $left) = @_;
+    return shift @$left unless $line eq 'show' || $line eq 'help';
+    my @told;
+    while (@$left) {
+        push @told, shift @$left;
+        last if $told[-1] eq 'ok';
+    }
+    return @told;
+}
+
+# What is wrong with the answer to a line; the session goes on behind it.
+sub wrong_of_line {
+    my ($s, $line, @told) = @_;
+    my $told = $told[0] // return 'no answer';
+    return $told eq 'ok' ? undef : "answered '$told'" if $line eq 'quit';
+    return is_undone($s, $told) if $line eq 'undo';
+    return is_redone($s, $told) if $line eq 'redo';
+    return is_shown($s, @told) if $line eq 'show';
+    return is_edited($s, $told, $1, '--neutral') if $line =~ /^neutral (.*)/;
+    if ($line =~ /^note (\d+) (\d+) (\d+) (\d+) (\d+)$/) {
+        push @{ $s->{notes}{ script_of($s) } }, "$s->{frame} $1 $2 $3 $4 $5";
+        $count{'note ok'}++;
+        return $told =~ /^ok \d+$/ ? undef : "answered '$told'";
+    }
+    if ($line =~ /^frames (\d+)$/) {
+        $s->{frame} += $1;
+        return answered('frames', $told, 'ok');
+    }
+    return is_saved($s, $told, $1, $2) if $line =~ /^save (saved\.\d+) "?(undo\.\d+)/;
+    return answered('other', $told, $line =~ /^note/ ? 'fault 45 BadNote' : $line =~ /^frames/ ? 'fault 42 Number' : $line =~ /^save/ ? 'fault 43 Literal'
+        : $line =~ /^(?:undo|help) / ? 'fault 41 Syntax' : judged($s, $line)) if $line =~ /^(?:undo |note |frames |save |help )/;
+    return is_edited($s, $told, $line);
+}
+
+# The samples of the frames that a session gave, as `play` makes them: the sum over its banks.
+sub frames_of {
+    my ($s) = @_;
+    my @sum = (0) x (2 * $s->{frame});
+    for my $script (sort keys %{ $s->{notes} }) {
+        my $made = apply_text($s->{bank}, $script, 'out', 'undo');
+        write_bytes('notes', join '', map { "$_\n" } @{ $s->{notes}{$script} });
+        my $run = run_command(['play', 'out', 'notes', 'wave'], 'wave');
+        return (undef, $made->{wrong} // $run->{wrong} // $run->{line}) if $made->{status} || $run->{status} || $run->{wrong};
+        my @samples = unpack 's<*', substr read_bytes('wave'), 44;
+        my $last = @samples < @sum ? $#samples : $#sum;
+        $sum[$_] += $samples[$_] for 0 .. $last;
+    }
+    return (pack('s<*', @sum));
+}
+
+# ---- sessions
+
+# What is wrong with what a run made of these lines on a bank. Where memory may be wanting, a line may be answered so and
+# change nothing, and the run may end so.
+sub wrong_of_run {
+    my ($bank, $run, $may_want, @lines) = @_;
+    my $stopped = $may_want && $run->{status} == 6 && $run->{line} eq "sfbank: out of memory\n";
+    my $wrong = $stopped ? undef : is_done($run);
+    return $wrong if $wrong;
+    my $session = { bank => $bank, edits => [], at => 0, frame => 0, notes => {} };
+    my @left = told($run);
+    pop @left;
+    for my $line (grep { /^[^#]*\w/ && !/^ #/ } @lines) {
+        last if $stopped && !@left;
+        if ($may_want && ($left[0] // '') eq 'out of memory') { shift @left; next; }
+        $wrong = wrong_of_line($session, $line, take_answer($line, \@left));
+        return "'$line': $wrong" if $wrong;
+        last if $line eq 'quit';
+    }
+    return 'answered more: ' . one_line(join "\n", @left) if @left;
+    (my $frames, $wrong) = frames_of($session);
+    $count{'frames of several banks'}++ if keys %{ $session->{notes} } > 1 && $session->{frame};
+    return $wrong // ($frames eq $run->{frames} ? undef : 'other frames: ' . length($run->{frames}) . ' bytes, not ' . length $frames);
+}
+
+# The lines of a session by its seed, with its bank before them.
+sub session_of {
+    my ($seed) = @_;
+    ($lot, $saves) = ($seed, 0);
+    below(2) for 1 .. 3;
+    return ($BANKS[$seed % @BANKS], (map { line() } 1 .. 6 + below(20)), below(2) ? ('quit', 'undo') : ());
+}
+
+sub wrong_of_session {
+    my ($seed) = @_;
+    my ($bank, @lines) = session_of($seed);
+    my $run = live($bank, join("\n", @lines) . (below(2) ? "\n" : ''));
+    return wrong_of_run($bank, $run, 0, @lines);
+}
+
+# Tries so many sessions from a seed on.
+sub try_sessions {
+    my ($first, $count) = @_;
+    for my $seed ($first .. $first + $count - 1) {
+        tell("session $seed", wrong_of_session($seed));
+        unlink glob('saved.*'), glob('undo.*');
+    }
+}
+
+# That there were so many answers of each kind that it says something.
+sub try_kinds {
+    for my $kind (sort keys %floors) {
+        my $there = $count{$kind} // 0;
+        tell("3000 sessions, $kind", $there >= $floors{$kind} ? undef : "$there, not $floors{$kind}");
+    }
+}
+
+1;

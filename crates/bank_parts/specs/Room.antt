@@ -1,0 +1,31 @@
+-- What flat lists can hold.
+use Rattle.std.specs.Prelude.{◌<◌, ◌≤◌, ◌+◌, ◌^◌, ◌||◌, ℕ, Bool, List, length, sum_by, is_some}
+use Rattle.std.specs.List.{list_any}
+use Rattle.std.specs.FinMap.{get, len}
+use Rattle.flat_records.specs.Bags.{Bag, gens_in, mods_in}
+use Rattle.owner_bags.specs.Owned.{all_bags}
+use Rattle.owner_bags.specs.Stored.{Stored}
+use Rattle.bank_parts.specs.declared.counting.Records.{Records}
+use Rattle.bank_parts.specs.declared.parts.Zone.{Zone}
+use Rattle.bank_parts.specs.declared.parts.WithZones.{WithZones}
+
+-- the records of zones
+abbrev pub records_of_zones : List Zone → Records
+records_of_zones zones = record { zones = length zones; gens = sum_by (λ (z : Zone). len z.gens + 1) zones; mods = sum_by (λ (z : Zone). length z.mods) zones }
+
+-- with so many records more, 16 bits count those of each kind
+pub record CanHold (bags : List (List Bag)) (more : Records) : Type 0 where
+  pub zones : length (all_bags bags) + more.zones < 2 ^ 16
+  pub gens : length (gens_in (all_bags bags)) + more.gens < 2 ^ 16
+  pub mods : length (mods_in (all_bags bags)) + more.mods < 2 ^ 16
+
+-- and there is memory for them
+pub record HasRoom (s : Stored) (more : Records) : Type 0 where
+  pub held : CanHold s.owners more
+  pub zones : more.zones ≤ s.spare.bags
+  pub gens : more.gens ≤ s.spare.gens
+  pub mods : more.mods ≤ s.spare.mods
+
+-- a map of a preset or an instrument has the operator
+abbrev pub has_operator : {H : Type 0} → ℕ → WithZones H → Bool
+has_operator op x = is_some (get x.global.gens op) || list_any (λ (z : Zone). is_some (get z.gens op)) x.zones

@@ -1,0 +1,121 @@
+//! Changes of bags: zones and owners that come, and bags of global zones that open and close.
+ghost use Rattle.std.specs.Prelude.{◌≡◌, ◌==◌, ◌≤◌, ◌<◌, ◌++◌, ◌∷◌, [], length, insert, slice_get, map, IfSome, IsSomeAnd, OnOk, OnErr, IsSome};
+ghost use Rattle.numbered_lists.specs.Moved.{changed};
+ghost use Rattle.flat_records.specs.Bags.{Bag};
+ghost use Rattle.owner_bags.specs.Owned.{bag_at};
+ghost use Rattle.bank_parts.specs.declared.counting.Records.{Records};
+ghost use Rattle.bank_parts.specs.Counts.{records_of_global, records_of_zone, records_of_owner, records_sum};
+ghost use Rattle.bank_parts.specs.Bagged.{zone_bag, global_bags, bags_of};
+ghost use Rattle.bank_parts.specs.Room.{HasRoom, records_of_zones};
+ghost use Rattle.bank_parts.specs.Changes.{bag_size, gen_taken, mod_taken};
+
+use crate::counting::Records;
+use crate::parts::{GlobalZone, WithZones, Zone};
+use crate::room::make_room;
+use modulators::Modulator;
+use owner_bags::OwnerBags;
+use sf_base::OutOfMemory;
+
+/// Puts a zone in as bag `k` of owner `i`.
+pub(crate) fn put_zone(bags: &mut OwnerBags, i: usize, k: usize, operator: u16, zone: &Zone)
+    requires place { IsSomeAnd (slice_get bags.old.owners i) (λ own. k ≤ length own) }
+    requires room { HasRoom bags.old (records_of_zone zone.now) }
+    ensures owners { bags.new.owners ≡ changed bags.old.owners i (λ own. insert own k (zone_bag operator zone.now)) }
+    ensures room { (more : Records) → HasRoom bags.old (records_sum (records_of_zone zone.now) more) → HasRoom bags.new more }
+{
+    let gens = zone.gens.entries();
+    bags.put_bag(i, k, gens, zone.mods.as_slice());
+    bags.put_gens(i, k, gens.len(), &[(operator, zone.target)]);
+}
+
+/// Puts a preset or an instrument behind the others.
+pub(crate) fn append_owner<H>(bags: &mut OwnerBags, operator: u16, owner: &WithZones<H>)
+    requires room { HasRoom bags.old (records_of_owner owner.now) }
+    requires owners { 0 < bags.old.spare_owners }
+    ensures { bags.new.owners ≡ bags.old.owners ++ bags_of operator owner.now ∷ [] }
+{
+    let i = bags.owner_count();
+    bags.open_owner(i);
+    append_global(bags, i, &owner.global);
+    append_zones(bags, i, operator, owner.zones.as_slice());
+}
+
+// Puts the bag of a global zone behind the bags of owner i, if it is to have one.
+fn append_global(bags: &mut OwnerBags, i: usize, global: &GlobalZone)
+    requires place { i < length bags.old.owners }
+    requires room { HasRoom bags.old (records_of_global global.now) }
+    ensures owners { bags.new.owners ≡ changed bags.old.owners i (λ own. own ++ global_bags global.now) }
+    ensures room { (more : Records) → HasRoom bags.old (records_sum (records_of_global global.now) more) → HasRoom bags.new more }
+{
+    if global.is_empty() {
+        return;
+    }
+    let count = bags.bag_count(i);
+    bags.put_bag(i, count, global.gens.entries(), global.mods.as_slice());
+}
+
+// Puts the bags of zones behind the bags of owner i.
+fn append_zones(bags: &mut OwnerBags, i: usize, operator: u16, zones: &[Zone])
+    requires place { i < length bags.old.owners }
+    requires room { HasRoom bags.old (records_of_zones zones.now) }
+    ensures { bags.new.owners ≡ changed bags.old.owners i (λ own. own ++ map (zone_bag operator) zones.now) }
+{
+    for zone in zones {
+        let count = bags.bag_count(i);
+        put_zone(bags, i, count, operator, zone);
+    }
+}
+
+/// Opens a bag in front of the others of owner `i`.
+pub(crate) fn open_bag(
+    bags: &mut OwnerBags,
+    i: usize,
+    gens: &[(u16, u16)],
+    mods: &[Modulator],
+) -> Result<(), OutOfMemory>
+    requires { i < length bags.old.owners }
+    ensures ok { OnOk result (bags.new.owners ≡ changed bags.old.owners i (λ own. insert own 0 (record { gens = gens.now; mods = mods.now }))) }
+    ensures err { OnErr result (bags.new.owners ≡ bags.old.owners) }
+{
+    let more = Records {
+        zones: 1,
+        gens: gens.len(),
+        mods: mods.len(),
+    };
+    make_room(bags, 0, more)?;
+    bags.put_bag(i, 0, gens, mods);
+    Ok(())
+}
+
+/// Takes generator `j` of bag `k` of owner `i` out, and with its last record the bag.
+pub(crate) fn take_gen(bags: &mut OwnerBags, i: usize, k: usize, j: usize)
+    requires { IsSomeAnd (bag_at bags.old.owners i k) (λ (b : Bag). j < length b.gens) }
+    ensures { IfSome (bag_at bags.old.owners i k) (λ (b : Bag). bags.new.owners ≡ gen_taken bags.old.owners i k j b) }
+{
+    if has_one_record(bags, i, k) {
+        bags.cut_bag(i, k);
+    } else {
+        bags.cut_gens(i, k, j, 1);
+    }
+}
+
+/// Takes modulator `j` of bag `k` of owner `i` out, and with its last record the bag.
+pub(crate) fn take_mod(bags: &mut OwnerBags, i: usize, k: usize, j: usize)
+    requires { IsSomeAnd (bag_at bags.old.owners i k) (λ (b : Bag). j < length b.mods) }
+    ensures { IfSome (bag_at bags.old.owners i k) (λ (b : Bag). bags.new.owners ≡ mod_taken bags.old.owners i k j b) }
+{
+    if has_one_record(bags, i, k) {
+        bags.cut_bag(i, k);
+    } else {
+        bags.cut_mods(i, k, j, 1);
+    }
+}
+
+fn has_one_record(bags: &OwnerBags, i: usize, k: usize) -> bool
+    requires { IsSome (bag_at bags.now.owners i k) }
+    ensures { IfSome (bag_at bags.now.owners i k) (λ (b : Bag). result ≡ (bag_size b == 1)) }
+{
+    let gens = bags.gens(i, k).len();
+    let mods = bags.mods(i, k).len();
+    gens.saturating_add(mods) == 1
+}

@@ -1,0 +1,63 @@
+//! Presets and instruments that come and go.
+ghost use Rattle.std.specs.Prelude.{◌≡◌, ◌<◌, ◌≤◌, ◌++◌, ◌∷◌, [], Some, length, insert, remove, slice_get, IfOk, IfErr, OnOk, OnErr};
+
+use crate::bag_changes::append_owner;
+use crate::heads::OwnerHead;
+use crate::owners::Owners;
+use crate::parts::WithZones;
+use crate::room::{has_operator, make_room};
+use sf_base::OutOfMemory;
+use std::alloc::Global;
+
+impl<H: OwnerHead> Owners<H> {
+    /// Puts one in as number `i`; those from there on get the next number each. For want of memory the
+    /// list stays as it is, and it comes back.
+    pub fn insert(&mut self, i: usize, owner: WithZones<H>) -> Result<(), WithZones<H>>
+        requires { i ≤ length self.old }
+        ensures ok { OnOk result (self.new ≡ insert self.old i owner) }
+        ensures err { OnErr result (self.new ≡ self.old) }
+        ensures value_returned { IfErr result (λ back. back ≡ owner) }
+    {
+        owner.fits();
+        let operator = Self::operator();
+        if has_operator(operator, &owner) {
+            return Err(owner);
+        }
+        let Ok(()) = make_room(&mut self.bags, 1, owner.records()) else {
+            return Err(owner);
+        };
+        let Ok(()) = self.heads.insert(i, owner.head) else {
+            return Err(owner);
+        };
+        let last = self.bags.owner_count();
+        append_owner(&mut self.bags, operator, &owner);
+        self.bags.move_owner(last, i);
+        Ok(())
+    }
+
+    /// Puts one behind the others. For want of memory the list stays as it is.
+    pub fn push(&mut self, owner: WithZones<H>) -> Result<(), OutOfMemory>
+        ensures ok { OnOk result (self.new ≡ self.old ++ owner ∷ []) }
+        ensures err { OnErr result (self.new ≡ self.old) }
+    {
+        let last = self.len();
+        let Ok(()) = self.insert(last, owner) else {
+            return Err(OutOfMemory);
+        };
+        Ok(())
+    }
+
+    /// Takes number `i`, which is there, out; those behind it get the number before each. For want of
+    /// memory nothing changes.
+    pub fn remove(&mut self, alloc: Global, i: usize) -> Result<WithZones<H>, OutOfMemory>
+        requires { i < length self.old }
+        ensures value { IfOk result (λ owner. slice_get self.old i ≡ Some owner) }
+        ensures change { OnOk result (self.new ≡ remove self.old i) }
+        ensures err { OnErr result (self.new ≡ self.old) }
+    {
+        let owner = self.copy_owner(alloc, i)?;
+        self.heads.remove(i);
+        self.bags.cut_owner(i);
+        Ok(owner)
+    }
+}

@@ -1,0 +1,96 @@
+//! Nested values of what flat lists hold, in memory of their own; and equal flat lists.
+ghost use Rattle.std.specs.Prelude.{◌≡◌, ◌<◌, length, slice_get, Some, IfOk};
+ghost use Rattle.std.specs.Option.{option_map};
+ghost use Rattle.bank_parts.specs.declared.owners.ZonePlace.TheVariants as place;
+ghost use Rattle.bank_parts.specs.declared.parts.WithZones.{WithZones};
+ghost use Rattle.bank_parts.specs.Owners.{HasPlace, zone_at, gens_at, mods_at};
+ghost use Rattle.bank_parts.specs.Settings.{zones_at};
+
+use crate::heads::OwnerHead;
+use crate::owners::{Owners, ZonePlace};
+use crate::parts::{GlobalZone, WithZones, Zone};
+use generators::GenMap;
+use modulators::Modulator;
+use numbered_lists::NumberedList;
+use sf_base::OutOfMemory;
+use std::alloc::Global;
+
+impl<H: OwnerHead> Owners<H> {
+    /// A zone equal to zone `k` of number `i`, both of which are there, in memory of its own.
+    pub fn copy_zone(&self, alloc: Global, i: usize, k: usize) -> Result<Zone, OutOfMemory>
+        requires { HasPlace self.now i (place.Zone k) }
+        ensures { IfOk result (λ zone. zone_at self.now i k ≡ Some zone) }
+    {
+        let target = self.target(i, k);
+        let gens = self.copy_gens(alloc, i, ZonePlace::Zone(k))?;
+        let mods = self.copy_mods(alloc, i, ZonePlace::Zone(k))?;
+        Ok(Zone { target, gens, mods })
+    }
+
+    /// One equal to number `i`, which is there, in memory of its own.
+    pub(crate) fn copy_owner(&self, alloc: Global, i: usize) -> Result<WithZones<H>, OutOfMemory>
+        requires { i < length self.now }
+        ensures { IfOk result (λ owner. slice_get self.now i ≡ Some owner) }
+    {
+        let global = self.copy_global(alloc, i)?;
+        let zones = self.copy_zones(alloc, i)?;
+        Ok(WithZones {
+            head: *self.head(i),
+            global,
+            zones,
+        })
+    }
+
+    fn copy_global(&self, alloc: Global, i: usize) -> Result<GlobalZone, OutOfMemory>
+        requires { i < length self.now }
+        ensures { IfOk result (λ global. option_map (λ (x : WithZones H). x.global) (slice_get self.now i) ≡ Some global) }
+    {
+        let gens = self.copy_gens(alloc, i, ZonePlace::Global)?;
+        let mods = self.copy_mods(alloc, i, ZonePlace::Global)?;
+        Ok(GlobalZone { gens, mods })
+    }
+
+    fn copy_zones(&self, alloc: Global, i: usize) -> Result<NumberedList<Zone>, OutOfMemory>
+        requires { i < length self.now }
+        ensures { IfOk result (λ zones. zones_at self.now i ≡ Some zones) }
+    {
+        let count = self.zone_count(i);
+        let mut zones = Vec::with_capacity(alloc, count)?;
+        for k in 0..count {
+            zones.push(self.copy_zone(alloc, i, k)?)?;
+        }
+        Ok(NumberedList::from_vec(zones))
+    }
+
+    fn copy_gens(&self, alloc: Global, i: usize, place: ZonePlace) -> Result<GenMap, OutOfMemory>
+        requires { HasPlace self.now i place }
+        ensures { IfOk result (λ gens. gens_at self.now i place ≡ Some gens) }
+    {
+        GenMap::from_entries(alloc, self.entries(i, place))
+    }
+
+    fn copy_mods(
+        &self,
+        alloc: Global,
+        i: usize,
+        place: ZonePlace,
+    ) -> Result<NumberedList<Modulator>, OutOfMemory>
+        requires { HasPlace self.now i place }
+        ensures { IfOk result (λ mods. mods_at self.now i place ≡ Some mods) }
+    {
+        let copies = Vec::from_slice(alloc, self.mods(i, place))?;
+        Ok(NumberedList::from_vec(copies))
+    }
+
+    /// Equal ones in memory of their own.
+    pub fn copy(&self, alloc: Global) -> Result<Owners<H>, OutOfMemory>
+        ensures { IfOk result (λ copy. copy ≡ self.now) }
+    {
+        let heads = Vec::from_slice(alloc, self.heads.as_slice())?;
+        let bags = self.bags.copy(alloc)?;
+        Ok(Owners {
+            heads: NumberedList::from_vec(heads),
+            bags,
+        })
+    }
+}

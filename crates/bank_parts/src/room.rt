@@ -1,0 +1,71 @@
+//! What flat lists can hold: so many records of each kind as 16 bits count, and maps that are told from
+//! their targets.
+ghost use Rattle.std.specs.Prelude.{◌≡◌, ◌≤◌, ◌<◌, ◌+◌, ◌^◌, ◌↔◌, IsTrue, OnOk, is_some};
+ghost use Rattle.std.specs.FinMap.{get};
+ghost use Rattle.std.specs.List.{list_any};
+ghost use Rattle.bank_parts.specs.declared.parts.Zone.{Zone};
+ghost use Rattle.bank_parts.specs.Room.{CanHold, HasRoom, has_operator};
+
+use crate::counting::Records;
+use crate::parts::{WithZones, Zone};
+use generators::GenMap;
+use owner_bags::OwnerBags;
+use sf_base::OutOfMemory;
+
+/// Whether flat lists can hold so many records more.
+pub(crate) fn can_hold(bags: &OwnerBags, more: Records) -> bool
+    ensures { IsTrue result ↔ CanHold bags.now.owners more }
+{
+    let (zones, gens, mods) = bags.record_counts();
+    if !fits_index(zones, more.zones) {
+        return false;
+    }
+    if !fits_index(gens, more.gens) {
+        return false;
+    }
+    fits_index(mods, more.mods)
+}
+
+// Whether a sum is in the range of an index.
+fn fits_index(count: usize, more: usize) -> bool
+    ensures { IsTrue result ↔ (count + more < 2 ^ 16) }
+{
+    count.saturating_add(more) < 65536
+}
+
+/// Makes places for so many owners and records; or says that they can't be held. The owners stay.
+pub(crate) fn make_room(
+    bags: &mut OwnerBags,
+    owners: usize,
+    more: Records,
+) -> Result<(), OutOfMemory>
+    ensures kept { bags.new.owners ≡ bags.old.owners }
+    ensures room { OnOk result (HasRoom bags.new more) }
+    ensures room_for_owners { OnOk result (owners ≤ bags.new.spare_owners) }
+{
+    if !can_hold(bags, more) {
+        return Err(OutOfMemory);
+    }
+    bags.reserve(owners, more.zones, more.gens, more.mods)?;
+    Ok(())
+}
+
+/// Whether a map of a preset or an instrument has the operator.
+pub(crate) fn has_operator<H>(operator: u16, owner: &WithZones<H>) -> bool
+    ensures { result ≡ has_operator operator owner.now }
+{
+    is_set(operator, &owner.global.gens) || any_has(operator, owner.zones.as_slice())
+}
+
+fn any_has(operator: u16, zones: &[Zone]) -> bool
+    ensures { result ≡ list_any (λ (z : Zone). is_some (get z.gens operator)) zones.now }
+{
+    zones.iter().any(|zone| is_set(operator, &zone.gens))
+}
+
+/// Whether a map has the operator.
+pub(crate) fn is_set(operator: u16, gens: &GenMap) -> bool
+    ensures { result ≡ is_some (get gens.now operator) }
+{
+    gens.get(operator).is_some()
+}

@@ -1,0 +1,239 @@
+//! The commands of the program, as clap is told of them.
+
+use clap::{Arg, ArgAction, Command, value_parser};
+use std::alloc::{AllocError, Global};
+
+/// The program's name, by whatever path it was started.
+const NAME: &str = "sfbank";
+
+/// The minor version of an empty bank where none is given.
+const USUAL_MINOR: &str = "4";
+
+/// What says whose ranges are drawn.
+static LEVELS: [&str; 2] = ["preset", "inst"];
+
+/// A command: its name, what it does, its words in their order, and a line that uses it.
+struct Entry {
+    name: &'static str,
+    about: &'static str,
+    words: &'static [Word],
+    example: &'static str,
+}
+
+/// A word of a command: its name, and what help says of it.
+#[derive(Clone, Copy)]
+enum Word {
+    /// A path, which has to be there.
+    Path(&'static str, &'static str),
+    /// A number of 32 bits, which has to be there.
+    Number(&'static str, &'static str),
+    /// `preset` or `inst`, one of which has to be there.
+    Level(&'static str, &'static str),
+    /// Two hyphens and the name, or nothing.
+    Flag(&'static str, &'static str),
+    /// Two hyphens, the name and a minor version, or nothing.
+    Minor(&'static str, &'static str),
+}
+
+static COMMANDS: [Entry; 12] = [
+    Entry {
+        name: "apply",
+        about: "Runs a script of edits on a bank, and writes the script that takes them back",
+        words: &[
+            Word::Flag(
+                "neutral",
+                "Refuses a script with an edit that may change the sound of notes",
+            ),
+            Word::Path("IN", "The bank to edit"),
+            Word::Path("SCRIPT", "The edits, one a line"),
+            Word::Path("OUT", "Where the edited bank is written; may be IN"),
+            Word::Path(
+                "UNDO",
+                "Where the script that takes the edits back is written",
+            ),
+        ],
+        example: "Example: sfbank apply organ.sf2 edits.txt edited.sf2 undo.txt",
+    },
+    Entry {
+        name: "canon",
+        about: "Writes a bank in its one spelling",
+        words: &[
+            Word::Path("IN", "The bank to spell"),
+            Word::Path("OUT", "Where its canonical file is written; may be IN"),
+        ],
+        example: "Example: sfbank canon organ.sf2 tidy.sf2",
+    },
+    Entry {
+        name: "diff",
+        about: "Writes a script that makes the bank B of the bank A",
+        words: &[
+            Word::Path("A", "The bank to begin with"),
+            Word::Path("B", "The bank to come to, of the same minor version"),
+            Word::Path("OUT", "Where the script is written"),
+        ],
+        example: "Example: sfbank diff organ.sf2 edited.sf2 edits.txt",
+    },
+    Entry {
+        name: "explain",
+        about: "Tells what a fault or a refusal means, and what to do about it",
+        words: &[Word::Number("N", "Its number, as the line of the fault has it")],
+        example: "Example: sfbank explain 41",
+    },
+    Entry {
+        name: "import",
+        about: "Adds a recording to a bank as its last sample, or as two for left and right",
+        words: &[
+            Word::Path("IN", "The bank to add to"),
+            Word::Path(
+                "WAVE",
+                "The recording, a WAVE file of 16 bits; its name is the sample's",
+            ),
+            Word::Path("OUT", "Where the larger bank is written; may be IN"),
+            Word::Path(
+                "UNDO",
+                "Where the script that removes the samples is written",
+            ),
+        ],
+        example: "Example: sfbank import organ.sf2 flute.wav larger.sf2 undo.txt",
+    },
+    Entry {
+        name: "live",
+        about: "Edits and plays a bank live, by the lines of the standard input",
+        words: &[
+            Word::Path("IN", "The bank to begin with"),
+            Word::Path(
+                "PCM",
+                "Where the frames are sent: 44,100 a second, two channels of 16 bits",
+            ),
+        ],
+        example: "Example: sfbank live organ.sf2 >(aplay -f cd)",
+    },
+    Entry {
+        name: "map",
+        about: "Draws the key and velocity ranges of a preset or an instrument as an SVG picture",
+        words: &[
+            Word::Path("IN", "The bank to look at"),
+            Word::Level("LEVEL", "What to draw"),
+            Word::Number("N", "The number that `show` lists it by"),
+            Word::Path("OUT", "Where the picture is written"),
+        ],
+        example: "Example: sfbank map organ.sf2 preset 0 organ.svg",
+    },
+    Entry {
+        name: "new",
+        about: "Writes an empty bank",
+        words: &[
+            Word::Minor("minor", "The minor version of the format, from 0 to 65,535"),
+            Word::Path("OUT", "Where the empty bank is written"),
+        ],
+        example: "Example: sfbank new empty.sf2",
+    },
+    Entry {
+        name: "play",
+        about: "Plays notes on a bank, and writes the sound as a WAVE file",
+        words: &[
+            Word::Path("IN", "The bank to play on"),
+            Word::Path("NOTES", "The notes, one a line"),
+            Word::Path("OUT", "Where the WAVE file is written"),
+        ],
+        example: "Example: sfbank play organ.sf2 notes.txt notes.wav",
+    },
+    Entry {
+        name: "script",
+        about: "Writes the script that makes a bank of the empty one of its minor version",
+        words: &[
+            Word::Flag(
+                "no-points",
+                "Leaves the points of samples out, so that the script is short and makes silent samples",
+            ),
+            Word::Path("IN", "The bank to make"),
+            Word::Path("OUT", "Where the script is written"),
+        ],
+        example: "Example: sfbank script organ.sf2 organ.txt",
+    },
+    Entry {
+        name: "show",
+        about: "Tells what a bank has, and what was dropped or mended as it was read",
+        words: &[
+            Word::Flag("zones", "Tells the zones of each preset and instrument too"),
+            Word::Flag(
+                "uses",
+                "Tells how many zones use each instrument and sample too",
+            ),
+            Word::Path("IN", "The bank to show"),
+        ],
+        example: "Example: sfbank show --zones organ.sf2",
+    },
+    Entry {
+        name: "wave",
+        about: "Writes a sample of a bank as a WAVE file",
+        words: &[
+            Word::Path("IN", "The bank that has the sample"),
+            Word::Number("S", "The number that `show` lists it by"),
+            Word::Path("OUT", "Where the WAVE file is written"),
+        ],
+        example: "Example: sfbank wave organ.sf2 0 sample.wav",
+    },
+];
+
+/// The program with all its commands.
+pub(crate) fn sfbank_command<'a>(alloc: Global) -> Result<Command<'a>, AllocError> {
+    let command = Command::new(alloc, NAME)
+        .bin_name(NAME)?
+        .version("0.1.0")
+        .about(
+            "Edits SoundFont 2 banks by scripts, writes the scripts that take the edits back, and plays banks",
+        )
+        .subcommand_required(true)
+        .arg_required_else_help(true);
+    with_commands(alloc, command, &COMMANDS)
+}
+
+fn with_commands<'a>(
+    alloc: Global,
+    mut command: Command<'a>,
+    entries: &[Entry],
+) -> Result<Command<'a>, AllocError> {
+    for entry in entries {
+        let subcommand = command_of(alloc, entry)?;
+        command = command.subcommand(subcommand)?;
+    }
+    Ok(command)
+}
+
+fn command_of<'a>(alloc: Global, entry: &Entry) -> Result<Command<'a>, AllocError> {
+    let mut command = Command::new(alloc, entry.name)
+        .about(entry.about)
+        .after_help(entry.example);
+    for word in entry.words {
+        command = command.arg(arg_of(alloc, *word))?;
+    }
+    Ok(command)
+}
+
+fn arg_of<'a>(alloc: Global, word: Word) -> Arg<'a> {
+    match word {
+        Word::Path(name, help) => given(alloc, name, help),
+        Word::Number(name, help) => given(alloc, name, help).value_parser(value_parser!(u32)),
+        Word::Level(name, help) => given(alloc, name, help).value_parser(LEVELS.as_slice()),
+        Word::Flag(name, help) => option(alloc, name, help).action(ArgAction::SetTrue),
+        Word::Minor(name, help) => option(alloc, name, help)
+            .value_name("N")
+            .action(ArgAction::Set)
+            .value_parser(value_parser!(u16))
+            .default_value(USUAL_MINOR),
+    }
+}
+
+/// A word that has to be there.
+fn given<'a>(alloc: Global, name: &'static str, help: &'static str) -> Arg<'a> {
+    Arg::new(alloc, name)
+        .required(true)
+        .action(ArgAction::Set)
+        .help(help)
+}
+
+/// A word behind two hyphens.
+fn option<'a>(alloc: Global, name: &'static str, help: &'static str) -> Arg<'a> {
+    Arg::new(alloc, name).long(name).help(help)
+}

@@ -1,0 +1,43 @@
+-- What has a number and a name, and what is told of it.
+use Rattle.std.specs.Prelude.{◌≡◌, ℕ, List, ◌++◌, codes, decimal}
+use Rattle.bank_format.specs.FaultNames as reading
+use Rattle.line_tokens.specs.Faults as scripts
+use Rattle.note_list.specs.Faults as notes
+use Rattle.recordings.specs.FaultNames as recordings
+use Rattle.edit_refusals.specs.CauseNames as causes
+use Rattle.fault_explanations.specs.declared.explanations.Told.{Told}
+use Rattle.fault_explanations.specs.declared.explanations.Told.TheVariants.{Reading, Script, Notes, Recording, Refused, NotNeutral, OtherVersion, TooManyFrames}
+use Rattle.fault_explanations.specs.declared.explanations.Explanation.{Explanation}
+
+-- the number of each fault and each refusal, by the crate that it is of
+abbrev pub number_of : Told → ℕ
+number_of (Reading fault) = reading.number_of fault
+number_of (Script fault) = scripts.number_of fault
+number_of (Notes fault) = notes.number_of fault
+number_of (Recording fault) = recordings.number_of fault
+number_of (Refused why) = causes.refusal_number why
+number_of NotNeutral = 50
+number_of OtherVersion = 51
+number_of TooManyFrames = 52
+
+abbrev pub name_of : Told → List ℕ
+name_of (Reading fault) = reading.name_of fault
+name_of (Script fault) = scripts.name_of fault
+name_of (Notes fault) = notes.name_of fault
+name_of (Recording fault) = recordings.name_of fault
+name_of (Refused why) = causes.refusal_name why
+name_of NotNeutral = codes "NotNeutral"
+name_of OtherVersion = codes "OtherVersion"
+name_of TooManyFrames = codes "TooManyFrames"
+
+-- one has the number that is asked for, and this number and name are those of it
+abbrev pub IsOfNumber : ℕ → ℕ → List ℕ → Type 0
+IsOfNumber asked number name = (told : Told) × (number_of told ≡ asked) × (number ≡ asked) × (name ≡ name_of told)
+
+-- a text, and a line feed
+abbrev pub line_of : List ℕ → List ℕ
+line_of text = text ++ codes "\n"
+
+-- the number and the name, the meaning, and what to do, a line each
+abbrev pub explanation_text : Explanation → List ℕ
+explanation_text e = decimal e.number ++ (codes " " ++ (line_of e.name.now ++ (line_of e.meaning.now ++ line_of e.way_out.now)))

@@ -1,0 +1,29 @@
+-- An output into which nothing was put.
+use Rattle.std.proofs.Common.{◌≡◌, ◌++◌, ℕ, List, [], ◌∷◌, Option, Some, None, sym, subst, ◌∙◌, arith, append-nil}
+use Rattle.std.specs.Prelude.{MatchOption}
+use Rattle.std.specs.Borrow.{MutBor}
+use Rattle.std.specs.Io.KnownBytes.{Appends, Keeps}
+use Rattle.outputs.specs.declared.writing.WriteFault.{WriteFault}
+use Rattle.outputs.specs.declared.output.Output.{Output}
+use Rattle.outputs.specs.Output.{Begins, IsOnItsWay, StoppedIn}
+
+no_front : (gone held : List ℕ) → [] ≡ gone ++ held → gone ≡ []
+no_front [] held e = cc
+no_front (b ∷ gone) held e = absurd cc
+
+kept : (old new : Option (List ℕ)) → Appends old new [] → Keeps old new
+kept None new h = tt
+kept (Some xs) None h = absurd h
+kept (Some xs) (Some ys) h = h ∙ append-nil xs
+
+-- not one byte went out
+nothing_gone : (start now : Option (List ℕ)) (held : List ℕ) (sent : ℕ) (fault : Option WriteFault) → MatchOption fault (IsOnItsWay start now held sent []) (λ f. StoppedIn start now [] f.written) → Keeps start now
+nothing_gone start now held sent None way =
+    let P : List ℕ → Type 0 = λ gone. Appends start now gone in
+    kept start now (subst P (no_front way.gone held way.parts) way.out)
+nothing_gone start now held sent (Some f) stopped = let h = stopped.within in absurd (omega (arith, h))
+
+pub unsent : {W : Type 0} (contents : W → Option (List ℕ)) (out : MutBor W) (o p : Output W) → Begins contents out o → p ≡ o → Keeps (contents out.now) (contents p.out.now)
+unsent {W} contents out o p begins same =
+    let P : Output W → Type 0 = λ q. Keeps (contents out.now) (contents q.out.now) in
+    subst P (sym same) (nothing_gone (contents out.now) (contents o.out.now) o.held.items o.sent o.fault begins.nothing)

@@ -1,0 +1,24 @@
+-- What a live session saves, as a run.
+use Rattle.std.specs.Prelude.{◌≡◌, List, ℕ, Some, None}
+use Rattle.bank_parts.specs.declared.parts.Parts.{Parts}
+use Rattle.hydra_records.specs.Records.{AreBytes}
+use Rattle.bank_format.specs.Canon.{canon}
+use Rattle.bank_format.specs.ReadSteps.{fault_of}
+use Rattle.edit_sessions.specs.Histories.{IsHistory, bank_now, way_back}
+use Rattle.live_sessions.specs.Saved.{Saved, saved_of}
+use Rattle.live_sessions.specs.Steps.{started_with}
+use Rattle.live_sessions.specs.Turns.{Turn, AreTurns}
+use Rattle.sfbank.specs.Outcome.{bank_in, outcome}
+use Rattle.sfbank.specs.BankScripts.{WritesFile}
+
+-- the script that is saved, run on the file that is saved with it alone, writes this file
+abbrev pub LeadsTo : Saved → List ℕ → Type 0
+LeadsTo saved file = WritesFile (outcome saved.out saved.undo) file
+
+-- Wherever a session on the bank of a file stands, what it saves leads to the canonical file of that bank. (What a session
+-- is then has a type that live_sessions keeps to itself.)
+abbrev pub SavedBanksLeadBack : Type 0
+SavedBanksLeadBack =
+    (file : List ℕ) (ts : List Turn) (last : _) (c : Parts) → AreBytes file → fault_of file ≡ None
+    → AreTurns (started_with (bank_in file)) ts last → IsHistory last.session → bank_now last.session ≡ Some c
+    → LeadsTo (saved_of c (way_back last.session)) (canon (bank_in file))

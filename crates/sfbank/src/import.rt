@@ -1,0 +1,113 @@
+//! WAVE files as samples of a bank.
+ghost use Rattle.std.specs.Prelude.{◌≡◌, ◌≤◌, length, Ok, IfOk};
+ghost use Rattle.edit_script.specs.Printing.{numbered};
+ghost use Rattle.recordings.specs.Imports.{import_edits, sides_of};
+ghost use Rattle.sfbank.specs.Outcome.{after_script};
+ghost use Rattle.sfbank.specs.Plans.{planned};
+ghost use Rattle.sfbank.specs.Recordings.{import_outcome, IsScripted, IsImportUndone};
+ghost use Rattle.sfbank.specs.Written.{Plans, Runs};
+
+use crate::deliver::deliver;
+use crate::plan::{Plan, apply_all};
+use bank_core::Bank;
+use edit_forms::Edit;
+use edit_script::Line;
+use progress::Unheard;
+use recordings::{Recording, Sides, import_edits, read_recording};
+use sf_base::OutOfMemory;
+use sf_reader::read;
+use sfbank_program::RunFault;
+use std::alloc::Global;
+use std::io::Write;
+
+/// Reads the file and the WAVE file, puts the recording at the end of the bank's samples, and writes the edited bank to
+/// `out` and the script that takes the import back to `undo`, each whole and flushed. One channel comes as one sample, two
+/// as a left and a right one, linked with each other.
+///
+/// The name is cut before a zero byte and after 20 bytes; of two channels after 18, and ` L` or ` R` stands behind it.
+///
+/// Where the file or the WAVE file has a fault, or an edit is refused, not one byte goes to either writer; so it is for
+/// want of memory. A refused edit is told by its line in the script of the import. A writer's fault tells how many bytes
+/// of its text it took.
+pub fn import_run<W: Write, V: Write>(
+    alloc: Global,
+    file: &[u8],
+    wave: &[u8],
+    name: &[u8],
+    out: &mut W,
+    undo: &mut V,
+) -> Result<(), RunFault>
+    // The outcome of these bytes goes out: of the file, else of the WAVE file, else of the first refused edit, else both
+    // texts.
+    ensures runs { Runs (record { out = W.contents out.old; out_new = W.contents out.new; undo = V.contents undo.old; undo_new = V.contents undo.new })
+        (import_outcome file.now wave.now name.now) result }
+    // It is what the script of the import's edits comes to.
+    ensures script { IsScripted file.now wave.now name.now }
+    // Run on the written file alone, the undo text writes the canonical file of the first bank.
+    ensures restores { IsImportUndone file.now wave.now name.now }
+{
+    import(alloc, file, wave, name, out, undo)
+}
+
+// Puts the recording at the end of the bank's samples.
+fn import<'a, W: Write, V: Write>(
+    alloc: Global,
+    file: &'a [u8],
+    wave: &'a [u8],
+    name: &[u8],
+    out: &mut W,
+    undo: &mut V,
+) -> Result<(), RunFault>
+    ensures { Runs (record { out = W.contents out.old; out_new = W.contents out.new; undo = V.contents undo.old; undo_new = V.contents undo.new })
+        (import_outcome file.now wave.now name.now) result }
+{
+    let (bank, _counts) = read(alloc, file)?;
+    let recording = read_recording(alloc, wave)?;
+    let sides = Sides::of(alloc, &recording.channels)?;
+    let plan = plan_of_recording(alloc, bank, recording, &sides, name)?;
+    deliver(&plan, out, undo)
+}
+
+// What comes of the edits that put a recording, whose points are parted, at the end of the bank's samples.
+fn plan_of_recording<'a>(
+    alloc: Global,
+    bank: Bank<'a>,
+    recording: Recording<'a>,
+    sides: &'a Sides,
+    name: &[u8],
+) -> Result<Plan<'a>, RunFault>
+    requires { sides.now ≡ sides_of recording.channels }
+    ensures { Plans planned (after_script bank.entry (Ok (numbered 1 (import_edits (length bank.entry.samples) name.now recording.entry)))) result }
+{
+    let count = bank.samples().len();
+    let edits = import_edits(alloc, count, name, recording, sides)?;
+    plan_of(alloc, bank, edits)
+}
+
+// What comes of edits in a row, as lines from 1 on. Nothing goes out.
+fn plan_of<'a>(
+    alloc: Global,
+    mut bank: Bank<'a>,
+    edits: Vec<Edit<'a>>,
+) -> Result<Plan<'a>, RunFault>
+    requires { length edits.items ≤ 3 }
+    ensures { Plans planned (after_script bank.entry (Ok (numbered 1 edits.entry.items))) result }
+{
+    let lines = numbered_lines(alloc, edits)?;
+    let undo = apply_all(alloc, &mut bank, lines, &mut Unheard)?;
+    Ok(Plan { bank, undo })
+}
+
+// Edits on lines in a row, the first on line 1.
+fn numbered_lines<'a>(alloc: Global, edits: Vec<Edit<'a>>) -> Result<Vec<Line<'a>>, OutOfMemory>
+    requires { length edits.items ≤ 3 }
+    ensures { IfOk result (λ lines. lines.items ≡ numbered 1 edits.entry.items) }
+{
+    let mut lines = Vec::new(alloc);
+    let mut number = 1;
+    for edit in edits {
+        lines.push(Line { number, edit })?;
+        number += 1;
+    }
+    Ok(lines)
+}

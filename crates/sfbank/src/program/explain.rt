@@ -1,0 +1,19 @@
+//! The command `explain`.
+use super::endings::at;
+use fault_explanations::{explain as explained, write_explanation};
+use sfbank_program::{Fault, RunFault, STANDARD_OUTPUT, Which};
+use std::io::Write;
+
+/// Tells on the standard output what the fault or the refusal of a number means.
+pub(crate) fn explain<'a, O: Write>(number: u32, output: &mut O) -> Result<(), Fault<'a>> {
+    let Some(explanation) = explained(number) else {
+        return Err(Fault::Unexplained(number));
+    };
+    match write_explanation(&explanation, output) {
+        Ok(_) => Ok(()),
+        Err(fault) => at(
+            STANDARD_OUTPUT,
+            Err(RunFault::Write(Which::Out, fault.written)),
+        ),
+    }
+}

@@ -1,0 +1,70 @@
+//! Why an input is not there as a whole.
+ghost use Rattle.std.specs.Prelude.{◌≡◌, ◌≢◌};
+ghost use Rattle.sf_base.specs.declared.memory.Failure.TheVariants.{Fault as FaultOf};
+ghost use Rattle.sfbank_program.specs.declared.input_fault.InputFault.TheVariants.{TooLong};
+ghost use Rattle.sfbank_program.specs.InputFaults.{reason_of};
+
+use sf_base::Failure;
+use std::io::ErrorKind;
+
+/// Why an input is not there as a whole.
+#[derive(Clone, Copy, Debug, PartialEq, Eq)]
+pub enum InputFault {
+    /// Nothing has its path.
+    NotFound,
+    /// It may not be read, or a folder of its path not be searched.
+    Denied,
+    /// Its path names a folder.
+    IsFolder,
+    /// Its path goes through what is no folder.
+    NotFolder,
+    /// Its path, or a name in it, is too long.
+    LongName,
+    /// Its path goes through too many links.
+    LinkLoop,
+    /// It can't be opened or read, for another reason.
+    Unreadable,
+    /// It has more bytes than a file has at most: 4,294,967,303.
+    TooLong,
+}
+
+impl InputFault {
+    /// The fault of an input that is not opened, or not read on, for an error of this kind.
+    pub fn of(kind: ErrorKind) -> InputFault
+        ensures { result ≢ TooLong }
+    {
+        match kind {
+            ErrorKind::NotFound => InputFault::NotFound,
+            ErrorKind::PermissionDenied => InputFault::Denied,
+            ErrorKind::IsADirectory => InputFault::IsFolder,
+            ErrorKind::NotADirectory => InputFault::NotFolder,
+            ErrorKind::InvalidFilename => InputFault::LongName,
+            ErrorKind::FilesystemLoop => InputFault::LinkLoop,
+            _ => InputFault::Unreadable,
+        }
+    }
+
+    /// The reason, as the system words it, where it is the system's.
+    pub fn reason(self) -> &'static str
+        ensures { result.now ≡ reason_of self }
+    {
+        match self {
+            InputFault::NotFound => "No such file or directory",
+            InputFault::Denied => "Permission denied",
+            InputFault::IsFolder => "Is a directory",
+            InputFault::NotFolder => "Not a directory",
+            InputFault::LongName => "File name too long",
+            InputFault::LinkLoop => "Too many levels of symbolic links",
+            InputFault::Unreadable => "Can't be read",
+            InputFault::TooLong => "Longer than 4294967303 bytes",
+        }
+    }
+}
+
+impl From<InputFault> for Failure<InputFault> {
+    ghost from_gives = { λ fault failure. failure ≡ FaultOf fault };
+
+    fn from(fault: InputFault) -> Failure<InputFault> {
+        Failure::Fault(fault)
+    }
+}

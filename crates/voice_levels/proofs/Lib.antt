@@ -1,0 +1,3 @@
+pub mod LevelLemmas
+pub mod PhaseLemmas
+pub mod WriteLemmas

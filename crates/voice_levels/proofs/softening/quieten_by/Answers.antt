@@ -1,0 +1,9 @@
+use Rattle.std.proofs.Common.{◌≡◌, arith, ap, sym, ◌∙◌}
+use Rattle.voice_levels.specs.Levels.{scaled_by}
+use Rattle.voice_levels.proofs.LevelLemmas.{full_level}
+use Rattle.voice_levels.proofs.softening.quieten_by.Goals as goal
+
+pub returns-else-loudness-lt-FULL : goal.returns-else-loudness-lt-FULL
+returns-else-loudness-lt-FULL c i h =
+    let e : 65536 ≡ c.args.loudness = omega arith in
+    c.quieten.ensures i h ∙ sym (full_level _) ∙ ap (scaled_by _) e

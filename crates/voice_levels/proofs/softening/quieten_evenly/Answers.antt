@@ -1,0 +1,9 @@
+use Rattle.std.proofs.Common.{◌≡◌, arith, ap, sym, ◌∙◌}
+use Rattle.voice_levels.specs.Levels.{scaled_by}
+use Rattle.voice_levels.proofs.LevelLemmas.{full_level}
+use Rattle.voice_levels.proofs.softening.quieten_evenly.Goals as goal
+
+pub returns-else-level-lt-FULL : goal.returns-else-level-lt-FULL
+returns-else-level-lt-FULL c i h =
+    let e : 65536 ≡ c.args.level = omega arith in
+    sym (full_level _) ∙ ap (scaled_by _) e

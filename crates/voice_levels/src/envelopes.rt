@@ -1,0 +1,58 @@
+//! How loud a voice is.
+ghost use Rattle.std.specs.Prelude.{◌≡◌, ◌≤◌, ◌<◌, ◌+◌, ◌^◌};
+ghost use Rattle.voice_levels.specs.Envelope.{decayed, held, envelope};
+
+use sound_tables::gain;
+use zone_select::VoiceParameters;
+
+// The level so many frames into the decay.
+#[tactic(auto, unfolding(crate::specs::Envelope::decayed))]
+fn decayed_at(v: &VoiceParameters, fallen: u64) -> u32
+    requires { fallen < 2 ^ 34 }
+    ensures value { result ≡ decayed v.now fallen }
+    ensures most { result ≤ 65536 }
+{
+    if v.decay == 0 {
+        return gain(i64::from(v.sustain));
+    }
+    gain((960 * fallen / u64::from(v.decay)).min(u64::from(v.sustain)) as i64)
+}
+
+/// The level at frame `t` of the note, before its end, of 65536.
+#[tactic(auto, unfolding(crate::specs::Envelope::held))]
+pub fn held_at(v: &VoiceParameters, t: u64) -> u32
+    requires { t < 2 ^ 34 }
+    ensures value { result ≡ held v.now t }
+    ensures most { result ≤ 65536 }
+{
+    let delay = u64::from(v.delay);
+    let attack = u64::from(v.attack);
+    let hold = u64::from(v.hold);
+    if t < delay {
+        return 0;
+    }
+    let risen = t - delay;
+    if risen < attack {
+        return (65536 * risen / attack) as u32;
+    }
+    let kept = risen - attack;
+    if kept < hold {
+        return 65536;
+    }
+    decayed_at(v, kept - hold)
+}
+
+/// The level at frame `t`, while the voice isn't over, of 65536.
+#[tactic(auto, using(crate::proofs::LevelLemmas::faded), unfolding(crate::specs::Envelope::envelope, crate::specs::Envelope::released))]
+pub fn envelope_at(v: &VoiceParameters, t: u64) -> u32
+    requires { t < v.now.length + v.now.release }
+    ensures value { result ≡ envelope v.now t }
+    ensures most { result ≤ 65536 }
+{
+    let length = u64::from(v.length);
+    if t < length {
+        return held_at(v, t);
+    }
+    let fallen = 960 * (t - length) / u64::from(v.release);
+    (u64::from(held_at(v, length)) * u64::from(gain(fallen as i64)) / 65536) as u32
+}

@@ -1,0 +1,178 @@
+//! How loud a voice is from a frame on, and for how long.
+ghost use Rattle.std.specs.Prelude.{◌≡◌, ℕ, ◌+◌, ◌*◌, ◌/◌, ◌%◌, ◌^◌, ◌≤◌, ◌<◌, EachIndex, length, slice_index};
+ghost use Rattle.sound_tables.specs.Tables.{gain_at};
+ghost use Rattle.voice_levels.specs.Even.{IsEven};
+ghost use Rattle.voice_levels.specs.Envelope.{decayed, held, envelope};
+
+use sound_tables::gain;
+use zone_select::VoiceParameters;
+
+/// A level, and the frame before which it stays so.
+#[derive(Clone, Copy)]
+pub struct Level {
+    pub(crate) loud: u32,
+    pub(crate) until: u64,
+}
+
+// A level that has ended.
+const NO_LEVEL: Level = Level { loud: 0, until: 0 };
+
+impl Level {
+    /// A level that has ended.
+    #[tactic(auto, using(crate::proofs::PhaseLemmas::none_even))]
+    pub fn ended() -> Level
+        ensures { (loudness : ℕ → ℕ) → (t : ℕ) → IsEven loudness t result }
+    {
+        NO_LEVEL
+    }
+}
+
+// No level lasts longer.
+const FOREVER: u64 = 1_099_511_627_776;
+
+// The level so many frames into a fall from `level` by 960 centibels: as long as one centibel lasts.
+#[tactic(auto, using(crate::proofs::PhaseLemmas::lasts_some, crate::proofs::PhaseLemmas::lasts_shortly, crate::proofs::LevelLemmas::faded))]
+fn falling_from(level: u32, over: u64, fallen: u64) -> Level
+    requires most { level ≤ 65536 }
+    requires divisor { (0 < over) × (over < 2 ^ 32) }
+    requires near { fallen < 2 ^ 34 }
+    ensures some { fallen < result.until }
+    ensures near { result.until < 2 ^ 36 }
+    ensures last { 960 * result.until < (960 * fallen / over + 1) * over + 960 }
+    ensures even { IsEven (λ k. level * gain_at (960 * k / over) / 65536) fallen result }
+{
+    let attenuation = 960 * fallen / over;
+    let left = u64::from(level) * u64::from(gain(attenuation as i64)) / 65536;
+    Level {
+        loud: left as u32,
+        until: ((attenuation + 1) * over + 959) / 960,
+    }
+}
+
+// The level so many frames into the decay.
+#[tactic(auto, using(crate::proofs::PhaseLemmas::sustained_even))]
+fn decayed_from(v: &VoiceParameters, fallen: u64) -> Level
+    requires near { fallen < 2 ^ 34 }
+    ensures some { fallen < result.until }
+    ensures near { result.until ≤ 2 ^ 40 }
+    ensures even { IsEven (decayed v.now) fallen result }
+{
+    let decay = u64::from(v.decay);
+    let sustained = u64::from(v.sustain) * decay;
+    if sustained <= 960 * fallen {
+        return Level {
+            loud: gain(i64::from(v.sustain)),
+            until: FOREVER,
+        };
+    }
+    falling_from(65536, decay, fallen)
+}
+
+// The level at frame `t`, if the note lasts so long; one that has ended by then where the voice rises.
+#[tactic(auto, using(crate::proofs::PhaseLemmas::delayed_even, crate::proofs::PhaseLemmas::full_even, crate::proofs::PhaseLemmas::decayed_even, crate::proofs::PhaseLemmas::none_even))]
+fn held_from(v: &VoiceParameters, t: u64) -> Level
+    requires near { t < 2 ^ 33 }
+    ensures rising { result.until ≤ t → (v.now.delay ≤ t) × (t < v.now.delay + v.now.attack) }
+    ensures even { IsEven (held v.now) t result }
+{
+    let delay = u64::from(v.delay);
+    let attack = delay + u64::from(v.attack);
+    let hold = attack + u64::from(v.hold);
+    if t < delay {
+        return Level {
+            loud: 0,
+            until: delay,
+        };
+    }
+    if t < attack {
+        return NO_LEVEL;
+    }
+    if t < hold {
+        return Level {
+            loud: 65536,
+            until: hold,
+        };
+    }
+    let level = decayed_from(v, t - hold);
+    Level {
+        loud: level.loud,
+        until: hold + level.until,
+    }
+}
+
+// The level at frame `t`, of a voice that is as loud as `at_end` at its note's end; one that has ended by then
+// where the voice rises.
+fn level_from(v: &VoiceParameters, t: u64, at_end: u32) -> Level
+    requires unreleased { t < v.now.length + v.now.release }
+    requires at_end { (at_end ≡ held v.now v.now.length) × (at_end ≤ 65536) }
+    ensures rising { result.until ≤ t → (v.now.delay ≤ t) × (t < v.now.delay + v.now.attack) × (t < v.now.length) }
+    ensures even { IsEven (envelope v.now) t result }
+{
+    let length = u64::from(v.length);
+    if t < length {
+        let level = held_from(v, t);
+        return Level {
+            loud: level.loud,
+            until: level.until.min(length),
+        };
+    }
+    let release = u64::from(v.release);
+    let level = falling_from(at_end, release, t - length);
+    Level {
+        loud: level.loud,
+        until: length + level.until,
+    }
+}
+
+// Rising to 65536 in so many frames, from `risen` frames on: no frame divides.
+#[tactic(auto, using(crate::proofs::PhaseLemmas::rising_fits, crate::proofs::PhaseLemmas::step_small))]
+fn fill_rising(over: u64, risen: u64, levels: &mut [u16])
+    requires divisor { (0 < over) × (over < 2 ^ 32) }
+    requires within { risen + length levels.old ≤ over }
+    ensures { EachIndex levels.new (λ k. slice_index levels.new k ≡ 65536 * (risen + k) / over) }
+{
+    let whole_step = 65536 / over;
+    let rest_step = 65536 % over;
+    let mut whole = 65536 * risen / over;
+    let mut rest = 65536 * risen % over;
+    for k in 0..levels.len() {
+        levels[k] = whole as u16;
+        whole += whole_step;
+        rest += rest_step;
+        if rest >= over {
+            rest -= over;
+            whole += 1;
+        }
+    }
+}
+
+// The levels of a stretch from `t` on that begins as the voice rises, as far as that goes; answers how many
+// frames that are.
+pub(crate) fn fill_attack(v: &VoiceParameters, t: u64, levels: &mut [u16]) -> usize
+    requires some { 0 < length levels.old }
+    requires rising { (v.now.delay ≤ t) × (t < v.now.delay + v.now.attack) }
+    requires held { t + length levels.old ≤ v.now.length }
+    ensures some { (0 < result) × (result ≤ length levels.new) }
+    ensures value { (k : ℕ) → k < result → slice_index levels.new k ≡ envelope v.now (t + k) }
+{
+    let attack = u64::from(v.attack);
+    let delay = u64::from(v.delay);
+    let risen = t - delay;
+    let n = (levels.len() as u64).min(attack - risen) as usize;
+    fill_rising(attack, risen, &mut levels[..n]);
+    n
+}
+
+// The level in hand, or else, where it has ended by frame `t`, that which is next.
+pub(crate) fn level_at(v: &VoiceParameters, t: u64, hand: Level, at_end: u32) -> Level
+    requires unreleased { t < v.now.length + v.now.release }
+    requires in_hand { IsEven (envelope v.now) t hand }
+    requires at_end { (at_end ≡ held v.now v.now.length) × (at_end ≤ 65536) }
+    ensures rising { result.until ≤ t → (v.now.delay ≤ t) × (t < v.now.delay + v.now.attack) × (t < v.now.length) }
+    ensures even { IsEven (envelope v.now) t result }
+{
+    if t < hand.until {
+        return hand;
+    }
+    level_from(v, t, at_end)
+}

@@ -1,0 +1,218 @@
+//! Points made as loud as their voice is: level by level, each as long as it lasts.
+ghost use Rattle.std.specs.Prelude.{◌≡◌, ℕ, ◌+◌, ◌*◌, ◌^◌, ◌≤◌, ◌<◌, pos, EachIndex, length, slice_index, slice_index_or};
+ghost use Rattle.sound_tables.specs.Tables.{gain_of};
+ghost use Rattle.voice_levels.specs.Even.{IsEven};
+ghost use Rattle.voice_levels.specs.Envelope.{held, envelope};
+ghost use Rattle.voice_levels.specs.Levels.{scaled_by};
+
+use crate::levels::softer;
+use crate::phases::{Level, fill_attack, level_at};
+use zone_select::VoiceParameters;
+
+// A level that changes nothing.
+const FULL: u32 = 65536;
+
+// One level throughout.
+fn fill_even(level: u16, levels: &mut [u16])
+    ensures { EachIndex levels.new (λ k. slice_index levels.new k ≡ level) }
+{
+    for k in 0..levels.len() {
+        levels[k] = level;
+    }
+}
+
+// Makes each point as loud as its level, each of which is less than the full one.
+fn quieten(levels: &[u16], run: &mut [i16])
+    requires long { length levels.now ≡ length run.old }
+    ensures { EachIndex run.new (λ k. slice_index_or run.new k (pos 0)
+        ≡ scaled_by (slice_index_or run.old k (pos 0)) (slice_index levels.now k)) }
+{
+    for i in 0..run.len() {
+        run[i] = softer(run[i], levels[i]);
+    }
+}
+
+// Makes each point as loud as its level, and then as loud as another: both in one pass over the run.
+fn quieten_twice(levels: &[u16], others: &[u16], run: &mut [i16])
+    requires long { length levels.now ≡ length run.old }
+    requires others { length others.now ≡ length run.old }
+    ensures { EachIndex run.new (λ k. slice_index_or run.new k (pos 0)
+        ≡ scaled_by (scaled_by (slice_index_or run.old k (pos 0)) (slice_index levels.now k)) (slice_index others.now k)) }
+{
+    for i in 0..run.len() {
+        let once = softer(run[i], levels[i]);
+        run[i] = softer(once, others[i]);
+    }
+}
+
+// Makes each point as loud as one level, by way of a list that has it for each: the compiler sees of
+// numbers of a list that they fit 16 bits, and of one that stays the same it doesn't.
+#[tactic(auto, using(crate::proofs::LevelLemmas::full_level))]
+fn quieten_evenly(level: u32, levels: &mut [u16], run: &mut [i16])
+    requires long { length levels.old ≡ length run.old }
+    requires most { level ≤ 65536 }
+    ensures { EachIndex run.new (λ k. slice_index_or run.new k (pos 0)
+        ≡ scaled_by (slice_index_or run.old k (pos 0)) level) }
+{
+    if level < FULL {
+        fill_even(level as u16, levels);
+        quieten(levels, run);
+    }
+}
+
+// Makes each point as loud as its level, and then as loud as one for all.
+fn quieten_by(levels: &[u16], loudness: u32, others: &mut [u16], run: &mut [i16])
+    requires long { length levels.now ≡ length run.old }
+    requires others { length others.old ≡ length run.old }
+    requires most { loudness ≤ 65536 }
+    ensures { EachIndex run.new (λ k. slice_index_or run.new k (pos 0)
+        ≡ scaled_by (scaled_by (slice_index_or run.old k (pos 0)) (slice_index levels.now k)) loudness) }
+{
+    if loudness < FULL {
+        fill_even(loudness as u16, others);
+        quieten_twice(levels, others, run);
+    } else {
+        quieten(levels, run);
+    }
+}
+
+// The front of the levels from `t` on, as far as one goes or the attack; answers how many these are, none where
+// it is the full one, which fits no 16 bits.
+fn fill_level(v: &VoiceParameters, t: u64, level: Level, levels: &mut [u16]) -> usize
+    requires some { 0 < length levels.old }
+    requires held { t < v.now.length → t + length levels.old ≤ v.now.length }
+    requires rising { level.until ≤ t → (v.now.delay ≤ t) × (t < v.now.delay + v.now.attack) × (t < v.now.length) }
+    requires even { IsEven (envelope v.now) t level }
+    ensures most { result ≤ length levels.new }
+    ensures value { (k : ℕ) → k < result → slice_index levels.new k ≡ envelope v.now (t + k) }
+    ensures full { result ≡ 0 → (t < level.until) × (65536 ≤ level.loud) }
+{
+    if level.until <= t {
+        return fill_attack(v, t, levels);
+    }
+    if FULL <= level.loud {
+        return 0;
+    }
+    let n = (levels.len() as u64).min(level.until - t) as usize;
+    fill_even(level.loud as u16, &mut levels[..n]);
+    n
+}
+
+// The levels from `t` on, as far as they are less than the full one; answers how many these are, and the level
+// that is in hand behind them.
+fn fill_levels(
+    v: &VoiceParameters,
+    t: u64,
+    hand: Level,
+    at_end: u32,
+    levels: &mut [u16],
+) -> (usize, Level)
+    requires young { t + length levels.old < 2 ^ 33 }
+    requires unreleased { t + length levels.old ≤ v.now.length + v.now.release }
+    requires held { t < v.now.length → t + length levels.old ≤ v.now.length }
+    requires in_hand { IsEven (envelope v.now) t hand }
+    requires at_end { (at_end ≡ held v.now v.now.length) × (at_end ≤ 65536) }
+    ensures most { result.0 ≤ length levels.new }
+    ensures value { (k : ℕ) → k < result.0 → slice_index levels.new k ≡ envelope v.now (t + k) }
+    ensures in_hand { IsEven (envelope v.now) (t + result.0) result.1 }
+    ensures full { result.0 < length levels.new → (t + result.0 < result.1.until) × (65536 ≤ result.1.loud) }
+{
+    let mut level = hand;
+    let mut at = 0;
+    while at < levels.len() {
+        let from = t + at as u64;
+        level = level_at(v, from, level, at_end);
+        let n = fill_level(v, from, level, &mut levels[at..]);
+        if n == 0 {
+            return (at, level);
+        }
+        at += n;
+    }
+    (at, level)
+}
+
+// Makes the front of a stretch from `t` on as loud as the voice is then, as far as the levels are less than the
+// full one, or else as far as that goes; answers how many frames that are, and the level.
+fn soften_front(
+    v: &VoiceParameters,
+    t: u64,
+    hand: Level,
+    at_end: u32,
+    loudness: u32,
+    levels: &mut [u16],
+    others: &mut [u16],
+    run: &mut [i16],
+) -> (usize, Level)
+    requires some { 0 < length run.old }
+    requires long { length levels.old ≡ length run.old }
+    requires others { length others.old ≡ length run.old }
+    requires young { t + length run.old < 2 ^ 33 }
+    requires unreleased { t + length run.old ≤ v.now.length + v.now.release }
+    requires held { t < v.now.length → t + length run.old ≤ v.now.length }
+    requires in_hand { IsEven (envelope v.now) t hand }
+    requires at_end { (at_end ≡ held v.now v.now.length) × (at_end ≤ 65536) }
+    requires loudness { (loudness ≡ gain_of v.now.attenuation) × (loudness ≤ 65536) }
+    ensures some { (0 < result.0) × (result.0 ≤ length run.new) }
+    ensures value { (k : ℕ) → k < result.0 → slice_index_or run.new k (pos 0)
+        ≡ scaled_by (scaled_by (slice_index_or run.old k (pos 0)) (envelope v.now (t + k))) (gain_of v.now.attenuation) }
+    ensures rest { (k : ℕ) → result.0 ≤ k → slice_index_or run.new k (pos 0) ≡ slice_index_or run.old k (pos 0) }
+    ensures in_hand { IsEven (envelope v.now) (t + result.0) result.1 }
+{
+    let (low, level) = fill_levels(v, t, hand, at_end, levels);
+    if 0 < low {
+        quieten_by(
+            &levels[..low],
+            loudness,
+            &mut others[..low],
+            &mut run[..low],
+        );
+        return (low, level);
+    }
+    let n = (run.len() as u64).min(level.until - t) as usize;
+    quieten_evenly(loudness, &mut others[..n], &mut run[..n]);
+    (n, level)
+}
+
+/// Makes the points of a stretch as loud as the voice is, from the level in hand on, by way of as many levels
+/// twice; answers the level that is in hand behind it. The note's end ends a stretch. The voice is as loud as
+/// `at_end` at it, and its attenuation leaves `loudness` of 65536.
+pub fn soften(
+    v: &VoiceParameters,
+    t: u64,
+    hand: Level,
+    at_end: u32,
+    loudness: u32,
+    levels: &mut [u16],
+    others: &mut [u16],
+    run: &mut [i16],
+) -> Level
+    requires long { length levels.old ≡ length run.old }
+    requires others { length others.old ≡ length run.old }
+    requires young { t + length run.old < 2 ^ 33 }
+    requires unreleased { t + length run.old ≤ v.now.length + v.now.release }
+    requires held { t < v.now.length → t + length run.old ≤ v.now.length }
+    requires in_hand { IsEven (envelope v.now) t hand }
+    requires at_end { (at_end ≡ held v.now v.now.length) × (at_end ≤ 65536) }
+    requires loudness { (loudness ≡ gain_of v.now.attenuation) × (loudness ≤ 65536) }
+    ensures soft { EachIndex run.new (λ k. slice_index_or run.new k (pos 0)
+        ≡ scaled_by (scaled_by (slice_index_or run.old k (pos 0)) (envelope v.now (t + k))) (gain_of v.now.attenuation)) }
+    ensures in_hand { IsEven (envelope v.now) (t + length run.old) result }
+{
+    let mut level = hand;
+    let mut at = 0;
+    while at < run.len() {
+        let (n, next) = soften_front(
+            v,
+            t + at as u64,
+            level,
+            at_end,
+            loudness,
+            &mut levels[at..],
+            &mut others[at..],
+            &mut run[at..],
+        );
+        level = next;
+        at += n;
+    }
+    level
+}

@@ -1,9 +1,0 @@
-use Rattle.std.proofs.Common.{◌≡◌, ℕ, ◌<◌, ◌≤◌, pos, get_or}
-use Rattle.voices.specs.Levels.{scaled_by}
-use Rattle.voices.proofs.runs.quieten_evenly.Given as goal
-
-abbrev pub invariant-loop-i : goal.invariant-loop-i
-invariant-loop-i l = record {
-  done : (k : ℕ) → k < l.i → get_or l.run k (pos 0) ≡ scaled_by (scaled_by (get_or l.fn.run k (pos 0)) l.level) l.loudness;
-  left : (k : ℕ) → l.i ≤ k → get_or l.run k (pos 0) ≡ get_or l.fn.run k (pos 0);
-}

@@ -1,0 +1,82 @@
+//! What each side gets of a frame. Each frame comes here, so the calls are inlined always: a loop over a run then has
+//! none, and is done for several frames at once.
+ghost use Rattle.std.specs.Prelude.{◌≡◌, ℕ, ◌*◌, ◌/◌, ◌%◌, ◌≤◌, ◌≤ℤ◌, pos, negsuc};
+ghost use Rattle.voices.specs.Levels.{fine_of, side};
+
+// The part of a side that gets a frame whole.
+pub(crate) const WHOLE: u32 = 1000;
+
+// `part` of 1000, rounded down: 32768 more keep the division above zero.
+#[inline(always)]
+#[tactic(auto, using(crate::proofs::SideLemmas::part_down_is), unfolding(crate::specs::Levels::side))]
+fn part_down(z: i32, part: u32) -> i32
+    requires low { negsuc 32767 ≤ℤ z }
+    requires high { z ≤ℤ pos 32767 }
+    requires level { part ≤ 1000 }
+    ensures { result ≡ side z part }
+{
+    ((z * part as i32 + 32_768_000) as u32 / WHOLE) as i32 - 32768
+}
+
+// A part of 1000 in 2^28ths, rounded up: the upper 16 bits, and the 14 below. Their products with a frame
+// are of numbers of 16 bits, so many are made at once.
+#[derive(Clone, Copy)]
+pub(crate) struct FinePart {
+    pub(crate) high: i16,
+    pub(crate) low: i16,
+}
+
+// A part of 1000, finely.
+pub(crate) fn fine_part(part: u32) -> FinePart
+    requires { part ≤ 1000 }
+    ensures high { result.high ≡ pos (fine_of part / 16384) }
+    ensures low { result.low ≡ pos (fine_of part % 16384) }
+{
+    let fine = (u64::from(part) * 268_435_456 + 999) / 1000;
+    FinePart {
+        high: (fine / 16384) as i16,
+        low: (fine % 16384) as i16,
+    }
+}
+
+// What a side gets that has a part of 1000, of which it is told finely.
+#[inline(always)]
+pub(crate) fn finely_parted(z: i16, fine: FinePart) -> i32
+    requires high { (pos 0 ≤ℤ fine.high) × (fine.high ≤ℤ pos 16384) }
+    requires low { (pos 0 ≤ℤ fine.low) × (fine.low ≤ℤ pos 16383) }
+    ensures { (part : ℕ) → part ≤ 1000 → fine.high ≡ pos (fine_of part / 16384) → fine.low ≡ pos (fine_of part % 16384) → result ≡ side z part }
+{
+    let frame = i32::from(z);
+    let rest = (frame * i32::from(fine.low) + 32768) >> 14;
+    (frame * i32::from(fine.high) + rest) >> 14
+}
+
+// What a side gets that has `part` of 1000.
+#[inline(always)]
+#[tactic(auto, using(crate::proofs::SideLemmas::side_within))]
+pub(crate) fn parted(z: i32, part: u32) -> i32
+    requires low { negsuc 32767 ≤ℤ z }
+    requires high { z ≤ℤ pos 32767 }
+    requires level { part ≤ 1000 }
+    ensures value { result ≡ side z part }
+    ensures low { negsuc 32767 ≤ℤ result }
+    ensures high { result ≤ℤ pos 32767 }
+{
+    part_down(z, part)
+}
+
+// The part of a side that gets as much of a frame as the other.
+pub(crate) const HALF: u32 = 500;
+
+// What each side gets of a frame in the middle.
+#[inline(always)]
+#[tactic(auto, using(crate::proofs::SideLemmas::side_within, crate::proofs::SideLemmas::half_side))]
+pub(crate) fn halved(z: i32) -> i32
+    requires low { negsuc 32767 ≤ℤ z }
+    requires high { z ≤ℤ pos 32767 }
+    ensures value { result ≡ side z 500 }
+    ensures low { negsuc 32767 ≤ℤ result }
+    ensures high { result ≤ℤ pos 32767 }
+{
+    z >> 1
+}
