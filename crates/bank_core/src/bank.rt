@@ -20,11 +20,20 @@ use std::marker::Model;
 
 /// A bank that is sound: valid, with each number, name and text in the range of its field. It borrows
 /// the bytes of the file, and of the script's pool.
-#[derive(Drop)]
 pub struct Bank<'a> {
     pub(crate) parts: Parts<'a>,
     // Kept beside the parts, so that no edit counts the whole bank.
     pub(crate) totals: Totals,
+}
+
+// A call at each exit of what holds a bank, where a derived drop would be written out.
+impl Drop for Bank<'_> {
+    fn drop(self) {
+        let Bank {
+            parts: _,
+            totals: _,
+        } = self;
+    }
 }
 
 impl<'a> Model for Bank<'a> {

@@ -27,10 +27,17 @@ pub enum ZonePlace {
 ///
 /// What flat lists can't hold is answered as want of memory: more than 65,535 zones, generators or modulators
 /// in all, or a map with the operator of the targets (SoundFont 2.04, sections 7.3 to 7.9).
-#[derive(Drop)]
 pub struct Owners<H: OwnerHead> {
     pub(crate) heads: NumberedList<H>,
     pub(crate) bags: OwnerBags,
+}
+
+// Not derived: a derived drop is written out, list by list, at each exit of whatever holds the value, and proved
+// there; this one is a call.
+impl<H: OwnerHead> Drop for Owners<H> {
+    fn drop(self) {
+        let Owners { heads: _, bags: _ } = self;
+    }
 }
 
 impl<H: OwnerHead> Model for Owners<H> {

@@ -12,11 +12,21 @@ use std::marker::Model;
 /// A list of banks, each but the first made of the one before by an edit, and a place in that list.
 /// Only the bank at the place is kept: the others follow from the edits that take it back, the oldest
 /// first, and from those that come next, the nearest last.
-#[derive(Drop)]
 pub struct Session<'a> {
     bank: Bank<'a>,
     undo: Vec<Edit<'a>>,
     redo: Vec<Edit<'a>>,
+}
+
+// A call at each exit of what holds a session, where a derived drop would be written out.
+impl Drop for Session<'_> {
+    fn drop(self) {
+        let Session {
+            bank: _,
+            undo: _,
+            redo: _,
+        } = self;
+    }
 }
 
 impl<'a> Model for Session<'a> {
