@@ -5,3 +5,4 @@ pub mod OverLemmas
 pub mod RunLemmas
 pub mod SliceLemmas
 pub mod StartLaws
+pub mod AheadLemmas

@@ -5,6 +5,7 @@ ghost use Rattle.voices.specs.Sound.{OverStaysOver};
 
 mod courses;
 mod frames;
+mod lookahead;
 mod places;
 mod runs;
 mod sampled;

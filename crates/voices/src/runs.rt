@@ -25,15 +25,9 @@ use zone_select::VoiceParameters;
 // The most frames of a stretch.
 const LONGEST: usize = 1024;
 
-// The most frames of a block that has small buffers, and of one that has smaller ones, as in live play: a
-// buffer is cleared before it is used, however little of it is.
-const SHORT: usize = 64;
-
-const SHORTEST: usize = 32;
-
 // How many frames from `t` on, at most `most`, are heard in one way: the note's end ends a stretch. The
 // place of the first is `x`.
-fn stretch(v: &VoiceParameters, t: u64, x: u64, most: usize) -> usize
+pub(crate) fn stretch(v: &VoiceParameters, t: u64, x: u64, most: usize) -> usize
     requires loop_is { v.now.looped ≡ true → v.now.loop_start < v.now.loop_end }
     requires steps { v.now.step ≤ 73043661 }
     requires sounds { is_over v.now t ≡ false }
@@ -68,13 +62,13 @@ fn frames_ahead(v: &VoiceParameters, t: u64, most: u64) -> u64
     }
 }
 
-fn empty_words<const N: usize>() -> [u32; N]
+pub(crate) fn empty_words<const N: usize>() -> [u32; N]
     ensures { length result ≡ N }
 {
     [0; N]
 }
 
-fn no_levels<const N: usize>() -> [u16; N]
+pub(crate) fn no_levels<const N: usize>() -> [u16; N]
     ensures { length result ≡ N }
 {
     [0; N]
@@ -88,7 +82,7 @@ fn silent_points<const N: usize>() -> [i16; N]
 
 // The frames of a stretch before they are parted, by way of a word and two levels for each. The course of the first
 // frame goes on to that behind the last.
-fn fill_sounds<'a>(
+pub(crate) fn fill_sounds<'a>(
     points: &Points<'a>,
     v: &VoiceParameters,
     t: u64,
@@ -190,7 +184,7 @@ fn add_halves(run: &[i16], sums: &mut [i32])
 }
 
 // Adds each frame's parts to the sums of both sides.
-fn add_sides(run: &[i16], left: u32, right: u32, sums: &mut [i32])
+pub(crate) fn add_sides(run: &[i16], left: u32, right: u32, sums: &mut [i32])
     requires long { length sums.old ≡ 2 * length run.now }
     requires parts { (left ≤ 1000) × (right ≤ 1000) }
     requires room { AllWithin 65534 sums.old }
@@ -289,8 +283,9 @@ fn add_stretches<'a>(
     }
 }
 
-// Adds the frames from `age` on, by way of buffers for N frames.
-fn add_by_buffers<'a, const N: usize>(
+// Adds the frames from `age` on, by way of buffers for the longest stretch. The course goes on to the frame behind
+// them.
+pub(crate) fn add_by_buffers<'a>(
     points: &Points<'a>,
     v: &VoiceParameters,
     age: u64,
@@ -299,7 +294,6 @@ fn add_by_buffers<'a, const N: usize>(
 )
     requires playable { IsPlayable (length points.now) v.now }
     requires here { IsCourse points.now v.now age course.old }
-    requires few { (0 < N) × (N ≤ 1024) }
     requires even { length sums.old % 2 ≡ 0 }
     requires young { age + length sums.old < 2 ^ 64 }
     requires room { AllWithin 65534 sums.old }
@@ -308,10 +302,10 @@ fn add_by_buffers<'a, const N: usize>(
         (slice_index_or sums.new i (pos 0))) }
     ensures there { IsCourse points.now v.now (age + length sums.old / 2) course.new }
 {
-    let mut words: [u32; N] = empty_words();
-    let mut levels: [u16; N] = no_levels();
-    let mut others: [u16; N] = no_levels();
-    let mut run: [i16; N] = silent_points();
+    let mut words: [u32; LONGEST] = empty_words();
+    let mut levels: [u16; LONGEST] = no_levels();
+    let mut others: [u16; LONGEST] = no_levels();
+    let mut run: [i16; LONGEST] = silent_points();
     add_stretches(
         points,
         v,
@@ -323,32 +317,4 @@ fn add_by_buffers<'a, const N: usize>(
         &mut run,
         sums,
     );
-}
-
-// Adds the frames from `age` on to the sums of both sides, which stand in turn. The course goes on to
-// the frame behind them.
-pub(crate) fn add_run<'a>(
-    points: &Points<'a>,
-    v: &VoiceParameters,
-    age: u64,
-    course: &mut Course<'a>,
-    sums: &mut [i32],
-)
-    requires playable { IsPlayable (length points.now) v.now }
-    requires here { IsCourse points.now v.now age course.old }
-    requires even { length sums.old % 2 ≡ 0 }
-    requires young { age + length sums.old < 2 ^ 64 }
-    requires room { AllWithin 65534 sums.old }
-    ensures sums { EachIndex sums.new (λ i. IsAdded (slice_index_or sums.old i (pos 0))
-        (snd (record { points = points.now; parameters = v.now }) (nat_eq (i % 2) 0) (age + i / 2))
-        (slice_index_or sums.new i (pos 0))) }
-    ensures there { IsCourse points.now v.now (age + length sums.old / 2) course.new }
-{
-    if sums.len() <= 2 * SHORTEST {
-        add_by_buffers::<SHORTEST>(points, v, age, course, sums);
-    } else if sums.len() <= 2 * SHORT {
-        add_by_buffers::<SHORT>(points, v, age, course, sums);
-    } else {
-        add_by_buffers::<LONGEST>(points, v, age, course, sums);
-    }
 }

@@ -8,7 +8,7 @@ ghost use Rattle.voices.specs.Within.{AllWithin};
 
 use crate::courses::Course;
 use crate::frames::{frame, next_place};
-use crate::runs::add_run;
+use crate::lookahead::{Ahead, add_run, next_ahead};
 use sample_view::Points;
 use std::marker::Model;
 use zone_select::VoiceParameters;
@@ -20,12 +20,15 @@ pub struct Voice<'a> {
     points: Points<'a>,
     parameters: VoiceParameters,
     age: u64,
+    // What is kept of the frame behind those that are ahead.
     course: Course<'a>,
+    ahead: Ahead,
 }
 
 impl<'a> Model for Voice<'a> {
-    ghost use Rattle.std.specs.Prelude.{length};
+    ghost use Rattle.std.specs.Prelude.{length, ◌+◌};
     ghost use Rattle.zone_select.specs.Playable.{IsPlayable};
+    ghost use Rattle.voices.specs.Ahead.{IsAhead};
     ghost use Rattle.voices.specs.Course.{IsCourse};
     ghost use Rattle.voices.specs.Sound.{Live};
 
@@ -33,7 +36,9 @@ impl<'a> Model for Voice<'a> {
 
     ghost view = { λ v. record { value = record { points = v.points; parameters = v.parameters }; age = v.age } };
 
-    ghost invariant = { λ v. IsPlayable (length v.points) v.parameters × IsCourse v.points v.parameters v.age v.course };
+    ghost invariant = { λ v. IsPlayable (length v.points) v.parameters
+        × IsAhead (record { points = v.points; parameters = v.parameters }) v.age v.ahead
+        × IsCourse v.points v.parameters (v.age + v.ahead.left) v.course };
 }
 
 impl<'a> Voice<'a> {
@@ -48,6 +53,7 @@ impl<'a> Voice<'a> {
             parameters,
             age: 0,
             course,
+            ahead: Ahead::none(),
         }
     }
 
@@ -56,7 +62,7 @@ impl<'a> Voice<'a> {
         ensures value { result ≡ is_over self.now.value.parameters self.now.age }
         ensures young { OnFalse result (self.now.age < 2 ^ 33) }
     {
-        self.course.over
+        self.ahead.left == 0 && self.course.over
     }
 
     /// The exclusive class of the voice's zones; 0 for none.
@@ -76,6 +82,11 @@ impl<'a> Voice<'a> {
         ensures right_fits { (negsuc 32767 ≤ℤ result.1) × (result.1 ≤ℤ pos 32767) }
         ensures live { self.new ≡ after_frame self.old }
     {
+        if self.ahead.left != 0 {
+            let sides = next_ahead(&self.points, &self.parameters, self.age, &mut self.ahead);
+            self.age += 1;
+            return sides;
+        }
         let course = self.course;
         if course.over {
             return (0, 0);
@@ -103,6 +114,7 @@ impl<'a> Voice<'a> {
             &self.parameters,
             self.age,
             &mut self.course,
+            &mut self.ahead,
             sums,
         );
         self.age += sums.len() as u64 / 2;
