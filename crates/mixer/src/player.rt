@@ -63,8 +63,9 @@ impl<'a> Player<'a> {
 
     /// The next frames, the left and the right side in turn: sums of all voices, each cut once to 16
     /// bits. It takes no memory. Its work is that of the voices' own frames, and, for each 1,024 of them or
-    /// what is left, to clear eight kilobytes once and six for each voice; where these are at most 64
-    /// frames, it clears at most a sixteenth of that. For no frame it does nothing.
+    /// what is left, to clear eight kilobytes once and ten for each voice. In blocks of at most 256 frames a
+    /// voice makes so many at a time, ahead of the blocks that take them, and clears two kilobytes for that; for
+    /// at most 64 frames half a kilobyte is cleared once. For no frame it does nothing.
     pub fn block(&mut self, out: &mut [i16])
         requires { length out.old % 2 ≡ 0 }
         ensures heard { out.new ≡ block self.old (length out.old / 2) }

@@ -12,7 +12,7 @@ use Rattle.voices.specs.Runs.{IsAdded}
 use Rattle.voices.specs.Sound.{sound_at}
 
 -- none are so from any frame on
-pub none_ahead : (v : Voice) (t : ℕ) (ahead : Ahead) → ahead.at ≤ 128 → ahead.left ≡ 0 → IsAhead v t ahead
+pub none_ahead : (v : Voice) (t : ℕ) (ahead : Ahead) → ahead.at ≤ 256 → ahead.left ≡ 0 → IsAhead v t ahead
 none_ahead v t ahead inside e = record {
   inside = omega (arith, inside, e);
   young = λ l. absurd (omega (arith, e, l));

@@ -7,7 +7,7 @@ use Rattle.voices.specs.Sound.{sound_at}
 
 -- those that are left are the frames from t on, in none of which the voice is over
 pub record IsAhead (v : Voice) (t : ℕ) (ahead : Ahead) : Type 0 where
-  pub inside : ahead.at + ahead.left ≤ 128
+  pub inside : ahead.at + ahead.left ≤ 256
   pub young : 0 < ahead.left → t + ahead.left < 2 ^ 33
   pub heard : (k : ℕ) → k < ahead.left → is_over v.parameters (t + k) ≡ false
   pub sounds : (k : ℕ) → k < ahead.left → slice_index_or ahead.sounds (ahead.at + k) (pos 0) ≡ sound_at v (t + k)

@@ -17,7 +17,7 @@ use sample_view::Points;
 use zone_select::VoiceParameters;
 
 // The most frames that are made ahead.
-const MOST: usize = 128;
+const MOST: usize = 256;
 
 // Frames that come next, before they are parted: so many as are left, from `at` on. Short blocks take theirs from
 // them: so what a stretch costs, however short it is, comes once in several blocks.
@@ -171,7 +171,7 @@ fn add_long<'a>(
     requires playable { IsPlayable (length points.now) v.now }
     requires ahead { IsAhead (record { points = points.now; parameters = v.now }) age ahead.old }
     requires course { IsCourse points.now v.now (age + ahead.old.left) course.old }
-    requires long { 256 < length sums.old }
+    requires long { 512 < length sums.old }
     requires even { length sums.old % 2 ≡ 0 }
     requires young { age + length sums.old < 2 ^ 64 }
     requires room { AllWithin 65534 sums.old }
