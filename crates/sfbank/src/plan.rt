@@ -1,5 +1,7 @@
 //! What a run will write, before a byte goes out.
-ghost use Rattle.std.specs.Prelude.{◌≡◌, Ok, MatchResult};
+ghost use Rattle.std.specs.Prelude.{◌≡◌, ◌∷◌, List, reverse, Ok, MatchResult, IfOk, IfErr};
+ghost use Rattle.bank_edits.specs.EditChanges.{IsDone};
+ghost use Rattle.edit_script.specs.declared.parsing.Line.{Line};
 ghost use Rattle.line_tokens.specs.Pool.{pool_bytes};
 ghost use Rattle.edit_script.specs.Script.{script_of};
 ghost use Rattle.sfbank.specs.Outcome.{first_not_neutral, first_refused};
@@ -80,28 +82,38 @@ pub(crate) fn apply_all<'a, P: Progress>(
     progress.begin(Work::Lines, lines.len() as u64);
     let applied = apply_each(alloc, bank, lines, progress);
     progress.end();
-    applied
+    let mut inverses = applied?;
+    inverses.as_mut_slice().reverse();
+    Ok(inverses)
 }
 
-// Applies them one after the other.
+// Applies them one after the other, and gives the edits that take them back in the same order.
 fn apply_each<'a, P: Progress>(
     alloc: Global,
     bank: &mut Bank<'a>,
     lines: Vec<Line<'a>>,
     progress: &mut P,
 ) -> Result<Vec<Edit<'a>>, RunFault>
-    ensures applied { MatchResult result (λ undo. AllApplied bank.old bank.new lines.entry.items undo.items)
+    ensures applied { MatchResult result (λ inverses. AllApplied bank.old bank.new lines.entry.items (reverse inverses.items))
         (λ fault. StopsAtLine fault (first_refused bank.old lines.entry.items)) }
 {
     let mut inverses = Vec::new(alloc);
     for line in lines {
-        match apply(alloc, bank, line.edit) {
-            Ok(inverse) => inverses.push(inverse)?,
-            Err((Refusal::OutOfMemory, _edit)) => return Err(RunFault::Memory),
-            Err((why, _edit)) => return Err(RunFault::Refused(line.number, why)),
-        }
+        inverses.push(apply_line(alloc, bank, line)?)?;
         progress.advance(1);
     }
-    inverses.as_mut_slice().reverse();
     Ok(inverses)
+}
+
+// Applies the edit of a line, and gives the one that takes it back. It is a function of its own, so that the loop
+// drops no edit.
+fn apply_line<'a>(alloc: Global, bank: &mut Bank<'a>, line: Line<'a>) -> Result<Edit<'a>, RunFault>
+    ensures done { IfOk result (λ back. IsDone bank.old bank.new line.entry.edit back) }
+    ensures refused { (rest : List Line) → IfErr result (λ fault. StopsAtLine fault (first_refused bank.old (line.entry ∷ rest))) }
+{
+    match apply(alloc, bank, line.edit) {
+        Ok(back) => Ok(back),
+        Err((Refusal::OutOfMemory, _edit)) => Err(RunFault::Memory),
+        Err((why, _edit)) => Err(RunFault::Refused(line.number, why)),
+    }
 }
