@@ -14,7 +14,7 @@ counts texts 0 sm24 0 zones 0 gens 0 ranges 0 loops 0 links 0
 sample 0 \"saw\" 44100 60 0 mono noloop 2
 ";
 
-/// Runs the program on words, which spaces part, and answers its status.
+/// Runs the program on words, which spaces part, and returns its status.
 fn run_on<O: Write, E: Write>(rt: &HostRuntime, words: &str, output: &mut O, errors: &mut E) -> u8 {
     let words: Result<Vec<&str>, AllocError> = words.split_ascii_whitespace().collect(rt.alloc());
     match words {

@@ -158,7 +158,7 @@ fn has_no_feed(line: &[u8]) -> bool
     line.iter().all(|byte| *byte != b'\n')
 }
 
-/// Puts what a line asks for, or its fault. It puts nothing for want of memory, and where a line feed
+/// Puts what a line asks for, or its fault. It puts nothing when out of memory, and where a line feed
 /// stands in the line.
 fn put_asked<W: Write>(alloc: Global, line: &[u8], output: &mut Output<'_, W>) {
     if !has_no_feed(line) {

@@ -79,7 +79,7 @@ fn a_session_goes_back_and_forth(rt: HostRuntime) -> Result<(), Fail> {
     Ok(())
 }
 
-/// Whether an edit that the bank refuses is handed back, and leaves the edit that was taken back.
+/// Whether an edit that the bank refuses is returned, and leaves the edit that was taken back.
 fn leaves_the_redo(alloc: Global, session: &mut Session<'_>) -> bool {
     let remove = Edit::One(Step::RemoveSample { sample: 1 });
     let refused = match session.edit(alloc, remove) {

@@ -79,7 +79,7 @@ fn plays(voice: &mut Voice, frames: &[(i32, i32)]) -> bool {
 // Whether the voice is over after these frames and no earlier, and silent from then on.
 fn ends_after(voice: &mut Voice, frames: &[(i32, i32)]) -> bool {
     for frame in frames {
-        if voice.done() {
+        if voice.is_over() {
             return false;
         }
         let (left, right) = voice.next_frame();
@@ -87,7 +87,7 @@ fn ends_after(voice: &mut Voice, frames: &[(i32, i32)]) -> bool {
             return false;
         }
     }
-    voice.done() && plays(voice, &[(0, 0), (0, 0)]) && voice.done()
+    voice.is_over() && plays(voice, &[(0, 0), (0, 0)]) && voice.is_over()
 }
 
 // Sums with nothing in them.
@@ -104,7 +104,7 @@ fn add(voice: &mut Voice, sums: &mut [i32])
     requires short { length sums.old ≤ 65536 }
     requires room { AllWithin 65534 sums.old }
 {
-    if !voice.done() {
+    if !voice.is_over() {
         voice.add_frames(sums);
     }
 }
@@ -149,7 +149,7 @@ fn a_run_is_cut_anywhere(rt: HostRuntime) -> Result<(), Fail> {
     let mut back: [i32; 12] = silence();
     add(&mut voice, &mut back);
     assert!(rt; back == [-11, -11, -987, -987, 16, 16, 979, 979, -24, -24, 0, 0]);
-    assert!(rt; voice.done());
+    assert!(rt; voice.is_over());
     Ok(())
 }
 
@@ -164,7 +164,7 @@ fn an_attack_and_a_release_on_the_right(rt: HostRuntime) -> Result<(), Fail> {
     let mut voice = voice_over(rt.alloc(), &THREE[..2], parameters)?.expect(&rt, "a voice");
     let mut sums: [i32; 186] = silence();
     add(&mut voice, &mut sums);
-    assert!(rt; voice.done());
+    assert!(rt; voice.is_over());
     let heard = [0, 1, 42, 43, 50, 71, 92].map(|frame| frame_of(&sums, frame));
     let right = [0, 23, 976, 1000, 1000, 4, 0];
     assert!(rt; heard == right.map(|side| Some((0, side))));
@@ -225,7 +225,7 @@ fn a_voice_over_three_slices(rt: HostRuntime) -> Result<(), Fail> {
     let mut voice = over_three_slices(rt.alloc())?.expect(&rt, "a voice");
     let mut sums: [i32; 24] = silence();
     add(&mut voice, &mut sums);
-    assert!(rt; voice.done() && holds(&sums, &frames));
+    assert!(rt; voice.is_over() && holds(&sums, &frames));
     Ok(())
 }
 
@@ -248,7 +248,7 @@ fn each_phase_of_an_envelope(rt: HostRuntime) -> Result<(), Fail> {
     let mut voice = voice_over(rt.alloc(), &[0x30, 0x75], parameters)?.expect(&rt, "a voice");
     let mut sums: [i32; 48] = silence();
     add(&mut voice, &mut sums);
-    assert!(rt; voice.done());
+    assert!(rt; voice.is_over());
     assert!(rt; holds(&sums, &frames));
     Ok(())
 }

@@ -55,7 +55,7 @@ fn started<'a>(alloc: Global, file: &'a [u8], note: &Note) -> Result<Voice<'a>, 
 fn frames_of(alloc: Global, mut voice: Voice<'_>) -> Result<Vec<(i32, i32)>, Fail> {
     let mut frames = Vec::new(alloc);
     for _ in 0..1000 {
-        if voice.done() {
+        if voice.is_over() {
             return Ok(frames);
         }
         frames.push(voice.next_frame())?;

@@ -11,7 +11,7 @@ use std::alloc::Global;
 // ---- in a bank
 
 /// Takes the first `front` points and the last `back` out of a sample, and gives both. Its loop stays on
-/// its points; no point is copied. For want of memory the parts stay as they are.
+/// its points; no point is copied. When out of memory, the parts stay as they are.
 pub fn trim_sample<'a>(
     parts: &mut Parts<'a>,
     alloc: Global,
@@ -31,7 +31,7 @@ pub fn trim_sample<'a>(
 }
 
 /// Puts points before those of a sample and after them. Its loop stays on its points; no point is
-/// copied. For want of memory the parts stay as they are, and the points come back.
+/// copied. When out of memory, the parts stay as they are, and the points come back.
 pub fn extend_sample<'a>(
     parts: &mut Parts<'a>,
     number: u32,

@@ -7,7 +7,7 @@ use bank_parts::{Head, Parts, Preset};
 use sf_base::{Name20, OutOfMemory};
 use std::alloc::Global;
 
-/// Makes a preset number `number`; the presets from there on get the next number each. For want of memory
+/// Makes a preset number `number`; the presets from there on get the next number each. When out of memory,
 /// the parts stay as they are, and the preset comes back.
 pub fn insert_preset(parts: &mut Parts<'_>, number: u32, preset: Preset) -> Result<(), Preset>
     requires { number ≤ length parts.old.presets }
@@ -18,7 +18,7 @@ pub fn insert_preset(parts: &mut Parts<'_>, number: u32, preset: Preset) -> Resu
     parts.presets.insert(number as usize, preset)
 }
 
-/// Takes a preset out; the presets behind it get the number before each. For want of memory the parts stay
+/// Takes a preset out; the presets behind it get the number before each. When out of memory, the parts stay
 /// as they are.
 pub fn take_preset(parts: &mut Parts<'_>, alloc: Global, number: u32) -> Result<Preset, OutOfMemory>
     requires { number < length parts.old.presets }

@@ -22,7 +22,7 @@ pub fn rename_sample(parts: &mut Parts<'_>, number: u32, name: Name20) -> Name20
 
 /// Makes a sample number `number`; its own link has the numbers that hold afterwards. The samples from
 /// there on get the next number each, and what names them follows. At the end of the list it renumbers
-/// nothing, and does not walk the bank. For want of memory the parts stay as they are, and the sample
+/// nothing, and does not walk the bank. When out of memory, the parts stay as they are, and the sample
 /// comes back.
 pub fn insert_sample<'a>(
     parts: &mut Parts<'a>,

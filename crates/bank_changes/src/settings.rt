@@ -9,7 +9,7 @@ use modulators::Modulator;
 use sf_base::OutOfMemory;
 
 /// Sets an operator at a place, and gives the amount that it had. It needs memory only for an operator
-/// that is not set; for want of it the parts stay as they are.
+/// that is not set; when out of it, the parts stay as they are.
 pub fn set_gen(
     parts: &mut Parts<'_>,
     owner: Owner,
@@ -45,8 +45,8 @@ pub fn clear_gen(parts: &mut Parts<'_>, owner: Owner, place: Place, operator: u1
     }
 }
 
-/// Makes a modulator number `index` at a place; those from there on get the next number each. For want of
-/// memory the parts stay as they are.
+/// Makes a modulator number `index` at a place; those from there on get the next number each. When out of
+/// memory, the parts stay as they are.
 pub fn add_mod(
     parts: &mut Parts<'_>,
     owner: Owner,

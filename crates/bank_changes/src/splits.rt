@@ -37,7 +37,7 @@ pub fn join_records(parts: &Parts<'_>, owner: Owner, zone: u32, keep: Keep) -> R
     }
 }
 
-/// Splits a zone at a key or a velocity, from which on the second of both holds. For want of memory the
+/// Splits a zone at a key or a velocity, from which on the second of both holds. When out of memory, the
 /// parts stay as they are.
 pub fn split_zone(
     parts: &mut Parts<'_>,
@@ -61,7 +61,7 @@ pub fn split_zone(
     }
 }
 
-/// Joins a zone and the next. For want of memory the parts stay as they are.
+/// Joins a zone and the next. When out of memory, the parts stay as they are.
 pub fn join_zone(
     parts: &mut Parts<'_>,
     alloc: Global,

@@ -63,7 +63,7 @@ impl<'a> Bank<'a> {
         Bank { parts, totals }
     }
 
-    /// The bank of these parts, if they are valid. It takes no memory and never answers want of it.
+    /// The bank of these parts, if they are valid. It takes no memory and never runs out of it.
     pub fn from_parts(alloc: Global, parts: Parts<'a>) -> Result<Bank<'a>, Failure<PartsFault>>
         ensures value { IfOk result (λ bank. bank ≡ parts.entry) }
         ensures sound { OnOk result (IsSound parts.entry) }

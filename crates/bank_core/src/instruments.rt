@@ -41,7 +41,7 @@ impl<'a> Bank<'a> {
     }
 
     /// Takes an instrument out; the instruments behind it get the number before each, and what names
-    /// them follows. At the end of the list no preset is touched. For want of memory the bank stays as it
+    /// them follows. At the end of the list no preset is touched. When out of memory, the bank stays as it
     /// is.
     pub fn remove_instrument(
         &mut self,

@@ -16,7 +16,7 @@ use std::alloc::Global;
 
 impl<'a> Bank<'a> {
     /// Takes the first `front` points and the last `back` out of a sample, and gives both. Its loop
-    /// stays on its points. No point is copied, nor walked but by its slices. For want of memory the
+    /// stays on its points. No point is copied, nor walked but by its slices. When out of memory, the
     /// bank stays as it is.
     pub fn trim_sample(
         &mut self,
@@ -39,7 +39,7 @@ impl<'a> Bank<'a> {
     }
 
     /// Puts points before those of a sample and after them. Its loop stays on its points. No point is
-    /// copied. For want of memory the bank stays as it is, and the points come back.
+    /// copied. When out of memory, the bank stays as it is, and the points come back.
     pub fn extend_sample(
         &mut self,
         number: u32,

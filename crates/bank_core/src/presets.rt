@@ -13,7 +13,7 @@ use std::alloc::Global;
 
 impl<'a> Bank<'a> {
     /// Makes a preset number `number`; the presets from there on get the next number each. Nothing names
-    /// a preset, so nothing follows. For want of memory the bank stays as it is, and the preset comes
+    /// a preset, so nothing follows. When out of memory, the bank stays as it is, and the preset comes
     /// back.
     pub fn add_preset(&mut self, number: u32, preset: Preset) -> Result<(), Preset>
         requires place { number ≤ length self.old.presets }
@@ -28,7 +28,7 @@ impl<'a> Bank<'a> {
         Ok(())
     }
 
-    /// Takes a preset out; the presets behind it get the number before each. For want of memory the bank
+    /// Takes a preset out; the presets behind it get the number before each. When out of memory, the bank
     /// stays as it is.
     pub fn remove_preset(&mut self, alloc: Global, number: u32) -> Result<Preset, OutOfMemory>
         requires there { number < length self.old.presets }

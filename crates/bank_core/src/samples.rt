@@ -21,7 +21,7 @@ impl<'a> Bank<'a> {
 
     /// Makes a sample number `number`; its own link has the numbers that hold afterwards. The samples
     /// from there on get the next number each, and what names them follows. At the end of the list
-    /// nothing but the list is touched. For want of memory the bank stays as it is, and the sample
+    /// nothing but the list is touched. When out of memory, the bank stays as it is, and the sample
     /// comes back.
     pub fn add_sample(&mut self, number: u32, sample: Sample<'a>) -> Result<(), Sample<'a>>
         requires place { number ≤ length self.old.samples }

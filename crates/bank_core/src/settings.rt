@@ -22,7 +22,7 @@ use sf_base::OutOfMemory;
 
 impl<'a> Bank<'a> {
     /// Sets an operator at a place, and gives the amount that it had. It needs memory only for an
-    /// operator that is not set; for want of it the bank stays as it is.
+    /// operator that is not set; when out of it, the bank stays as it is.
     pub fn set_gen(
         &mut self,
         owner: Owner,
@@ -59,7 +59,7 @@ impl<'a> Bank<'a> {
     }
 
     /// Makes a modulator number `index` at a place; those from there on get the next number each. For
-    /// want of memory the bank stays as it is.
+    /// out of memory the bank stays as it is.
     pub fn add_mod(
         &mut self,
         owner: Owner,

@@ -67,7 +67,7 @@ impl<'a> Bank<'a> {
         }
     }
 
-    /// Splits a zone at a key or a velocity, from which on the second of both holds. For want of memory
+    /// Splits a zone at a key or a velocity, from which on the second of both holds. When out of memory,
     /// the bank stays as it is.
     pub fn split_zone(
         &mut self,
@@ -89,7 +89,7 @@ impl<'a> Bank<'a> {
         Ok(())
     }
 
-    /// Joins a zone and the next. For want of memory the bank stays as it is.
+    /// Joins a zone and the next. When out of memory, the bank stays as it is.
     pub fn join_zone(
         &mut self,
         alloc: Global,

@@ -31,7 +31,7 @@ impl<'a> Bank<'a> {
         Ok(())
     }
 
-    /// Takes a zone out of an owner; the zones behind it get the number before each. For want of memory the
+    /// Takes a zone out of an owner; the zones behind it get the number before each. When out of memory, the
     /// bank stays as it is.
     pub fn remove_zone(
         &mut self,

@@ -1,4 +1,4 @@
--- What takes an edit back, and what `apply` answers of a change and of a refusal.
+-- What takes an edit back, and what `apply` returns of a change and of a refusal.
 use Rattle.std.specs.Prelude.{◌≡◌, None, Some}
 use Rattle.bank_parts.specs.declared.parts.Parts.{Parts}
 use Rattle.edit_forms.specs.declared.edit.Edit.{Edit}
@@ -31,7 +31,7 @@ abbrev pub MayWant : Parts → Edit → Type 0
 MayWant b (One step) = refusal b (One step) ≡ None
 MayWant b (Group group) = Unit {0}
 
--- why the edit is refused, or want of memory
+-- why the edit is refused, or out of memory
 abbrev pub IsWhy : Parts → Edit → Refusal → Type 0
 IsWhy b e OutOfMemory = MayWant b e
 IsWhy b e why = refusal b e ≡ Some why

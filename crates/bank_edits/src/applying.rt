@@ -12,10 +12,10 @@ use edit_forms::Edit;
 use edit_refusals::Refusal;
 use std::alloc::Global;
 
-/// Does the edit and answers the one that takes it back, into which what one step removed is moved. Or
-/// refuses it, hands it back, and changes nothing. One step is refused by the first cause that stands;
+/// Does the edit and returns the one that takes it back, into which what one step removed is moved. Or
+/// refuses it, returns it, and changes nothing. One step is refused by the first cause that stands;
 /// `OutOfMemory` comes only where none does, and only for what grows the bank. A group is refused by its
-/// first step that is, or for want of memory in any case.
+/// first step that is, or when out of memory in any case.
 pub fn apply<'a>(
     alloc: Global,
     bank: &mut Bank<'a>,

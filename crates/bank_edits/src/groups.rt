@@ -12,7 +12,7 @@ use numbered_lists::NumberedList;
 use std::alloc::Global;
 
 /// Does the steps on a copy of the bank, which takes its place at the end. Where a step is refused, or
-/// memory is wanting, the copy is dropped.
+/// memory is out, the copy is dropped.
 pub(crate) fn apply_group<'a>(
     alloc: Global,
     bank: &mut Bank<'a>,

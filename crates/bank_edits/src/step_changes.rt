@@ -21,8 +21,8 @@ use edit_forms::{Edit, Step};
 use edit_refusals::{Refusal, refuse};
 use std::alloc::Global;
 
-/// Does the step and answers the one that takes it back. Or refuses it by the first cause that stands,
-/// or for want of memory, hands it back, and changes nothing.
+/// Does the step and returns the one that takes it back. Or refuses it by the first cause that stands,
+/// or when out of memory, returns it, and changes nothing.
 pub(crate) fn apply_step<'a>(
     alloc: Global,
     bank: &mut Bank<'a>,
@@ -41,7 +41,7 @@ pub(crate) fn apply_step<'a>(
     }
 }
 
-/// Does the step and answers the one that takes it back, or hands it back for want of memory.
+/// Does the step and returns the one that takes it back, or returns it when out of memory.
 pub(crate) fn change_step<'a>(
     alloc: Global,
     bank: &mut Bank<'a>,

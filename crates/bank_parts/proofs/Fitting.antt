@@ -1,4 +1,4 @@
--- Where `all` answers true.
+-- Where `all` returns true.
 use Rattle.std.proofs.Common.{◌<◌, ◌↔◌, ℕ, Bool, true, false, true≢false, IsTrue, List, length, refl, sym}
 use Rattle.std.specs.Bool.{MatchBool, OnTrue}
 use Rattle.std.specs.List.{AllByRecursion, AllWithin, HoldsAt}

@@ -10,7 +10,7 @@ use std::alloc::Global;
 
 /// What a bank's lists hold, and what changes them.
 pub trait CopyOut: Sized {
-    /// An equal one, in memory of its own; or want of memory. Points and texts stay where they are.
+    /// An equal one, in memory of its own; or out of memory. Points and texts stay where they are.
     fn copy_out(&self, alloc: Global) -> Result<Self, OutOfMemory>
         ensures { IfOk result (λ copy. copy ≡ self.now) };
 }

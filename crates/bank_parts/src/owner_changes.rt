@@ -10,7 +10,7 @@ use sf_base::OutOfMemory;
 use std::alloc::Global;
 
 impl<H: OwnerHead> Owners<H> {
-    /// Puts one in as number `i`; those from there on get the next number each. For want of memory the
+    /// Puts one in as number `i`; those from there on get the next number each. When out of memory, the
     /// list stays as it is, and it comes back.
     pub fn insert(&mut self, i: usize, owner: WithZones<H>) -> Result<(), WithZones<H>>
         requires { i ≤ length self.old }
@@ -35,7 +35,7 @@ impl<H: OwnerHead> Owners<H> {
         Ok(())
     }
 
-    /// Puts one behind the others. For want of memory the list stays as it is.
+    /// Puts one behind the others. When out of memory, the list stays as it is.
     pub fn push(&mut self, owner: WithZones<H>) -> Result<(), OutOfMemory>
         ensures ok { OnOk result (self.new ≡ self.old ++ owner ∷ []) }
         ensures err { OnErr result (self.new ≡ self.old) }
@@ -47,8 +47,8 @@ impl<H: OwnerHead> Owners<H> {
         Ok(())
     }
 
-    /// Takes number `i`, which is there, out; those behind it get the number before each. For want of
-    /// memory nothing changes.
+    /// Takes number `i`, which is there, out; those behind it get the number before each. When out of
+    /// memory, nothing changes.
     pub fn remove(&mut self, alloc: Global, i: usize) -> Result<WithZones<H>, OutOfMemory>
         requires { i < length self.old }
         ensures value { IfOk result (λ owner. slice_get self.old i ≡ Some owner) }

@@ -25,7 +25,7 @@ pub enum ZonePlace {
 /// The presets of a bank, or its instruments, in order. They are kept as a file has them, as heads and flat
 /// lists of records, so it lends no zone, but what one holds.
 ///
-/// What flat lists can't hold is answered as want of memory: more than 65,535 zones, generators or modulators
+/// What flat lists can't hold is answered as out of memory: more than 65,535 zones, generators or modulators
 /// in all, or a map with the operator of the targets (SoundFont 2.04, sections 7.3 to 7.9).
 pub struct Owners<H: OwnerHead> {
     pub(crate) heads: NumberedList<H>,

@@ -83,7 +83,7 @@ impl<H: OwnerHead> Owners<H> {
     }
 
     /// Makes a modulator number `j` at a place of number `i`, which are there and have so many; those
-    /// from there on get the next number each. For want of memory nothing changes.
+    /// from there on get the next number each. When out of memory, nothing changes.
     pub fn insert_mod(
         &mut self,
         i: usize,

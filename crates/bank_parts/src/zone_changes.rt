@@ -14,7 +14,7 @@ use std::alloc::Global;
 
 impl<H: OwnerHead> Owners<H> {
     /// Makes a zone number `k` of number `i`, which is there and has so many; its zones from there on
-    /// get the next number each. For want of memory nothing changes, and the zone comes back.
+    /// get the next number each. When out of memory, nothing changes, and the zone comes back.
     pub fn insert_zone(&mut self, i: usize, k: usize, zone: Zone) -> Result<(), Zone>
         requires { IsSomeAnd (zone_count_at self.old i) (λ count. k ≤ count) }
         ensures ok { OnOk result (self.new ≡ zone_added self.old i k zone) }
@@ -35,7 +35,7 @@ impl<H: OwnerHead> Owners<H> {
     }
 
     /// Takes zone `k` of number `i` out, both of which are there; the zones behind it get the number
-    /// before each. For want of memory nothing changes.
+    /// before each. When out of memory, nothing changes.
     pub fn remove_zone(&mut self, alloc: Global, i: usize, k: usize) -> Result<Zone, OutOfMemory>
         requires { HasPlace self.old i (place.Zone k) }
         ensures value { IfOk result (λ zone. zone_at self.old i k ≡ Some zone) }

@@ -7,7 +7,7 @@ use sf_base::{Lent, OutOfMemory};
 use std::alloc::Global;
 
 impl<'a> Step<'a> {
-    /// An equal step, in memory of its own; or want of memory. Points and texts stay where they are.
+    /// An equal step, in memory of its own; or out of memory. Points and texts stay where they are.
     pub fn copy(&self, alloc: Global) -> Result<Step<'a>, OutOfMemory>
         ensures { IfOk result (λ copy. copy ≡ self.now) }
     {

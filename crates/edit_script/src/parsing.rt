@@ -21,7 +21,7 @@ pub struct Line<'a> {
 }
 
 /// The edits of a text with their lines, over the bytes of its literals; or the first fault from left
-/// to right. Want of memory may come in place of either.
+/// to right. Out of memory may come in place of either.
 pub fn parse<'a>(
     alloc: Global,
     text: &[u8],

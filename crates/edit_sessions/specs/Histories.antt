@@ -61,13 +61,13 @@ pub record IsForth (old new : History) : Type 0 where
   pub next : old.place + 1 < length old.banks
   pub moved : new ≡ record old { place = old.place + 1 }
 
--- there is nothing to undo at the first place; memory is wanting only elsewhere
+-- there is nothing to undo at the first place; memory is out only elsewhere
 abbrev pub IsUndoFailure : History → Refusal → Type 0
 IsUndoFailure h NothingToUndo = h.place ≡ 0
 IsUndoFailure h OutOfMemory = 0 < h.place
 IsUndoFailure h why = ⊥
 
--- there is nothing to redo at the last place; memory is wanting only elsewhere
+-- there is nothing to redo at the last place; memory is out only elsewhere
 abbrev pub IsRedoFailure : History → Refusal → Type 0
 IsRedoFailure h NothingToRedo = h.place + 1 ≡ length h.banks
 IsRedoFailure h OutOfMemory = h.place + 1 < length h.banks

@@ -70,7 +70,7 @@ impl<'a> Session<'a> {
 
     /// Does an edit, after which nothing is there to redo. Or refuses it as the bank at the place does (one
     /// step by the first cause that stands, a group by its first step that is refused) or, in any case, for
-    /// want of memory, hands it back, and changes nothing: what was there to redo is there still.
+    /// out of memory, returns it, and changes nothing: what was there to redo is there still.
     pub fn edit(&mut self, alloc: Global, edit: Edit<'a>) -> Result<(), (Refusal, Edit<'a>)>
         ensures done { OnOk result (IsEdited self.old self.new edit.entry) }
         ensures unchanged { OnErr result (self.new ≡ self.old) }
@@ -86,8 +86,8 @@ impl<'a> Session<'a> {
         }
     }
 
-    /// Goes one bank back. It answers `NothingToUndo` at the first bank, whatever memory there is, and
-    /// else only want of memory; then nothing was changed.
+    /// Goes one bank back. It returns `NothingToUndo` at the first bank, whatever memory there is, and
+    /// else only out of memory; then nothing was changed.
     pub fn undo(&mut self, alloc: Global) -> Result<(), Refusal>
         ensures done { OnOk result (IsForth self.new self.old) }
         ensures unchanged { OnErr result (self.new ≡ self.old) }
@@ -102,8 +102,8 @@ impl<'a> Session<'a> {
         )
     }
 
-    /// Goes one bank forth. It answers `NothingToRedo` at the last bank, whatever memory there is, and
-    /// else only want of memory; then nothing was changed.
+    /// Goes one bank forth. It returns `NothingToRedo` at the last bank, whatever memory there is, and
+    /// else only out of memory; then nothing was changed.
     pub fn redo(&mut self, alloc: Global) -> Result<(), Refusal>
         ensures done { OnOk result (IsForth self.old self.new) }
         ensures unchanged { OnErr result (self.new ≡ self.old) }

@@ -39,7 +39,7 @@ pub(crate) fn do_last<'a>(
     }
 }
 
-/// Does an edit, and puts the one that takes it back behind the list; or hands it back, with nothing
+/// Does an edit, and puts the one that takes it back behind the list; or returns it, with nothing
 /// changed.
 pub(crate) fn do_edit<'a>(
     alloc: Global,

@@ -69,7 +69,7 @@ impl Bags {
         Ok(Bags { bags, gens, mods })
     }
 
-    /// Makes places for so many records. For want of memory the bags stay, and some places may be more.
+    /// Makes places for so many records. When out of memory, the bags stay, and some places may be more.
     pub fn reserve(&mut self, bags: usize, gens: usize, mods: usize) -> Result<(), AllocError>
         ensures bags { self.new.bags ≡ self.old.bags }
         ensures kept { Uses self.old.spare self.new.spare no_records }

@@ -48,7 +48,7 @@ pool_bytes text = gather literals_of 1 (said_lines text) []
 
 -- ---- what calls answer
 
--- the fault, or want of memory, which can come in place of any answer
+-- the fault, or out of memory, which can come in place of any answer
 abbrev pub Fails : {Y F : Type 0} → Failure F → Result Y F → Type 0
 Fails (failures.Fault fault) r = r ≡ Err fault
 Fails failures.OutOfMemory r = Unit {0}

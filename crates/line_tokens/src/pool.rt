@@ -14,7 +14,7 @@ use sf_base::{Failure, rest_from};
 use std::alloc::Global;
 
 /// The bytes of all literals of a text, in their order; or the first that is badly spelled, anywhere
-/// in the text, as `Literal` with its line. Want of memory may come in place of either.
+/// in the text, as `Literal` with its line. Out of memory may come in place of either.
 ///
 /// Only the spelling counts here: a literal may stand where none is due, or have too many bytes.
 pub fn pool_of(alloc: Global, text: &[u8]) -> Result<Vec<u8>, Failure<ScriptFault>>

@@ -38,7 +38,7 @@ reason_pieces why = Number (causes.refusal_number why) ∷ Word (causes.refusal_
 abbrev pub refused_line : Refusal → List ℕ
 refused_line why = line_text (codes "refused") (reason_pieces why)
 
--- want of memory is told in words, whoever tells it
+-- out of memory is told in words, whoever tells it
 abbrev pub no_memory : List ℕ
 no_memory = codes "out of memory\n"
 

@@ -25,7 +25,7 @@ use sf_base::Failure;
 use std::alloc::Global;
 
 /// The bytes of the literals of a line, in their order; or the line's fault, where one of them is badly
-/// spelled. Want of memory may come in place of either. A line without literals takes no memory.
+/// spelled. Out of memory may come in place of either. A line without literals takes no memory.
 pub fn pool_of_line(alloc: Global, line: &[u8]) -> Result<Vec<u8>, Failure<RequestFault>>
     requires { HasNoFeed line.now }
     ensures pool { IfOk result (λ pool. pool_bytes line.now ≡ Ok pool.items) }
@@ -39,7 +39,7 @@ pub fn pool_of_line(alloc: Global, line: &[u8]) -> Result<Vec<u8>, Failure<Reque
 }
 
 /// What a line asks for, over the bytes of its literals; or its first fault from left to right. A line
-/// without tokens asks for nothing. Want of memory may come in place of any answer of an edit.
+/// without tokens asks for nothing. Out of memory may come in place of any answer of an edit.
 pub fn read_line<'t, 'p: 't>(
     alloc: Global,
     line: &'t [u8],

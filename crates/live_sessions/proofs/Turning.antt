@@ -53,7 +53,7 @@ none_asked counts line s o p v e = record {
   ends = ap (λ (x : Asked). ends x None) e;
 }
 
--- ---- a line that has a fault, or for which memory is wanting
+-- ---- a line that has a fault, or for which memory is out
 
 -- what goes out of a line whose answer is this one is this answer alone
 pub record Bare (counts : Counts) (s : Live) (x : Asked) (a : Answer) : Type 0 where
@@ -63,7 +63,7 @@ pub record Bare (counts : Counts) (s : Live) (x : Asked) (a : Answer) : Type 0 w
   pub saves : answered x (Some a) (saves_of s) ≡ []
   pub ends : ends x (Some a) ≡ false
 
--- want of memory, whatever the request
+-- out of memory, whatever the request
 no_told : (counts : Counts) (s : Live) (r : Request) → told_of counts s r answer.OutOfMemory ≡ []
 no_told counts s (asks.Edit e) = refl
 no_told counts s (asks.Neutral e) = refl

@@ -71,7 +71,7 @@ pub record PlaysBank (file : List ℕ) (old new : Around) (r : Result (Unit {0})
 abbrev pub IsUntouched : Around → Around → Type 0
 IsUntouched old new = (new.input ≡ old.input) × OnlyReads old new
 
--- So a session answers. Where its file is no bank, or memory is wanting as that is read, nothing is read of the input and
+-- So a session answers. Where its file is no bank, or memory is out as that is read, nothing is read of the input and
 -- nothing goes out.
 abbrev pub Runs : List ℕ → Around → Around → Result (Unit {0}) LiveFault → Type 0
 Runs file old new (Ok u) = PlaysBank file old new (Ok u)

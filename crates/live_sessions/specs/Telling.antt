@@ -50,7 +50,7 @@ abbrev pub is_last : Next → Bool
 is_last next.Line = false
 is_last next.End = true
 
--- the answer to a line that has a fault, or for which memory is wanting
+-- the answer to a line that has a fault, or for which memory is out
 abbrev pub told_failure : Failure RequestFault → Answer
 told_failure (failures.Fault f) = answer.Fault f
 told_failure failures.OutOfMemory = answer.OutOfMemory

@@ -8,7 +8,7 @@ use live_lines::{Request, RequestFault, pool_of_line, read_line};
 use sf_base::Failure;
 use std::alloc::Global;
 
-/// What a line asks for, or its fault. Want of memory may come in place of either.
+/// What a line asks for, or its fault. Out of memory may come in place of either.
 ///
 /// The bytes of its literals stay in memory, since edits and points borrow them as long as there is a bank: no
 /// more than twice as many bytes as the literals of all lines have. A line without literals leaves nothing.

@@ -26,7 +26,7 @@ use std::io::{BufRead, Error, ErrorKind, Write};
 ///
 /// The bytes of the literals of all lines stay in memory for good, for edits borrow them.
 ///
-/// Where the file has a fault nothing is read of the input, and nothing goes out. Want of memory in a line is
+/// Where the file has a fault nothing is read of the input, and nothing goes out. Out of memory in a line is
 /// its answer, and the session goes on; for a line that can't be held it ends. A fault of a writer ends it.
 pub fn live_run<R: BufRead, A: Write, P: Write, S: Saves>(
     alloc: Global,
@@ -161,7 +161,7 @@ fn answer_line<'a, A: Write, P: Write, S: Saves>(
     Ok(next_of(kind))
 }
 
-// The answer to a line that has a fault, or for which memory is wanting.
+// The answer to a line that has a fault, or for which memory is out.
 fn told(failure: Failure<RequestFault>) -> Answer<'static>
     ensures { result ≡ told_failure failure }
 {

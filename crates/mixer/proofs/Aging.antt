@@ -10,7 +10,7 @@ use Rattle.mixer.specs.declared.playing.Playing.{Playing}
 use Rattle.mixer.specs.Sums.{sum_of}
 use Rattle.mixer.specs.Heard.{is_left}
 use Rattle.mixer.specs.Events.{aged, total_at}
-use Rattle.mixer.specs.Young.{AllYounger}
+use Rattle.mixer.specs.KeptVoices.{AllYounger}
 use Rattle.mixer.proofs.Sums.{sum_of-append, add_z-zero, add_z-assoc}
 
 -- the element that the loop comes to is as it was

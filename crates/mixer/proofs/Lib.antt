@@ -10,7 +10,7 @@ pub mod Orders
 pub mod Schedule
 pub mod Classes
 pub mod Counts
-pub mod Unordered
+pub mod StartOrder
 pub mod Stops
 pub mod Permuted
 pub mod AlikeLaws

@@ -10,7 +10,7 @@ use Rattle.voices.specs.Sound.{snd}
 use Rattle.mixer.specs.declared.playing.Playing.{Playing}
 use Rattle.mixer.specs.Heard.{is_left, cut}
 use Rattle.mixer.specs.Events.{is_sounding, after_block, aged, total_at, next_side, block}
-use Rattle.mixer.specs.Young.{AllYounger, AllSounding}
+use Rattle.mixer.specs.KeptVoices.{AllYounger, AllSounding}
 use Rattle.mixer.proofs.Sums.{sum_of-map, sum_of-same}
 
 aged-zero : (p : Playing) → p ≡ aged 0 p

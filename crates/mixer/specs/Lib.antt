@@ -4,5 +4,5 @@ pub mod Events
 pub mod Render
 pub mod Order
 pub mod Stops
-pub mod Young
+pub mod KeptVoices
 pub mod Alike

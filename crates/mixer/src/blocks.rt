@@ -3,7 +3,7 @@ ghost use Rattle.std.specs.Prelude.{◌≡◌, ℕ, ◌+◌, ◌/◌, ◌%◌, �
 ghost use Rattle.voices.specs.Within.{AllWithin};
 ghost use Rattle.mixer.specs.Heard as heard;
 ghost use Rattle.mixer.specs.Events.{aged, total_at, next_side, block};
-ghost use Rattle.mixer.specs.Young.{AllYounger};
+ghost use Rattle.mixer.specs.KeptVoices.{AllYounger};
 
 use crate::playing::Playing;
 use progress::Progress;

@@ -19,7 +19,7 @@ pub fn cuts_are_free()
 
 /// The law that notes sound the same in the order of their starts, where those that start together keep
 /// theirs. It does nothing.
-#[tactic(auto, using(crate::proofs::Unordered::order_free))]
+#[tactic(auto, using(crate::proofs::StartOrder::order_free))]
 pub fn order_is_free()
     ensures { OrderIsFree }
 {}

@@ -23,7 +23,7 @@ pub struct Player<'a> {
 impl<'a> Model for Player<'a> {
     ghost use Rattle.std.specs.Prelude.{List, ◌^◌};
     ghost use Rattle.mixer.specs.declared.playing.Playing.{Playing};
-    ghost use Rattle.mixer.specs.Young.{AllSounding, AllYounger};
+    ghost use Rattle.mixer.specs.KeptVoices.{AllSounding, AllYounger};
 
     ghost Value = { List Playing };
 
@@ -45,7 +45,7 @@ impl<'a> Player<'a> {
     /// Starts all voices of a note at the frame that comes next; the note's own start isn't looked at.
     /// Before that it silences the voices of earlier starts whose exclusive class one of the new voices
     /// has, if they have the note's bank and preset numbers (SoundFont 2.04, section 8.1.2, generator
-    /// 57; a class of 0 is none). For want of memory nothing is started and nothing silenced.
+    /// 57; a class of 0 is none). When out of memory, nothing is started and nothing silenced.
     pub fn start(&mut self, alloc: Global, bank: &Bank<'a>, note: &Note) -> Result<(), OutOfMemory>
         ensures done { OnOk result (self.new ≡ after_start self.old (heard.fresh bank.now note.now)) }
         ensures refused { OnErr result (self.new ≡ self.old) }

@@ -6,7 +6,7 @@ ghost use Rattle.std.specs.Vec.{vec_capacity};
 ghost use Rattle.zone_select.specs.Pairs.{voice_by, listed};
 ghost use Rattle.mixer.specs.Heard as heard;
 ghost use Rattle.mixer.specs.Events.{is_sounding, unsilenced};
-ghost use Rattle.mixer.specs.Young.{AllSounding, AllYounger};
+ghost use Rattle.mixer.specs.KeptVoices.{AllSounding, AllYounger};
 
 use bank_core::Bank;
 use note_list::Note;
@@ -77,7 +77,7 @@ fn is_sounding(p: &Playing) -> bool
     ensures value { result ≡ is_sounding p.now }
     ensures young { OnTrue result (p.now.voice.age < 2 ^ 33) }
 {
-    !p.voice.done()
+    !p.voice.is_over()
 }
 
 // Drops the voices that are over.

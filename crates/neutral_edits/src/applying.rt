@@ -15,7 +15,7 @@ use edit_forms::Edit;
 use edit_refusals::Refusal;
 use std::alloc::Global;
 
-/// Does a neutral edit, as `apply` does: it answers the edit that takes it back, or refuses it, hands it
+/// Does a neutral edit, as `apply` does: it returns the edit that takes it back, or refuses it, hands it
 /// back, and changes nothing. All notes sound the same in the bank that it leaves: each has the same
 /// voices, in some order. What takes the edit back is neutral too.
 pub fn apply_neutral<'a>(

@@ -14,7 +14,7 @@ use sf_base::Failure;
 use std::alloc::Global;
 
 /// The notes of a text, at most 65,535, in its order; or its first fault from left to right. On one
-/// line `BadNote` comes before `TooLong`, and that before `TooManyNotes`. Want of memory may come in
+/// line `BadNote` comes before `TooLong`, and that before `TooManyNotes`. Out of memory may come in
 /// place of either.
 pub fn parse_notes(alloc: Global, text: &[u8]) -> Result<Vec<Note>, Failure<NoteFault>>
     ensures answers { Answers (λ notes. notes.items) result (notes_of text.now) }

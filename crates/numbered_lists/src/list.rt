@@ -103,7 +103,7 @@ impl<T> NumberedList<T> {
         &mut self.vec[i]
     }
 
-    /// Puts `x` behind the last member. For want of memory the list stays as it is, and `x` comes
+    /// Puts `x` behind the last member. When out of memory, the list stays as it is, and `x` comes
     /// back.
     pub fn push(&mut self, x: T) -> Result<(), T>
         ensures ok { OnOk result (self.new ≡ self.old ++ x ∷ []) }
@@ -113,7 +113,7 @@ impl<T> NumberedList<T> {
         self.vec.push(x).map_err(|AllocFailed { value }| value)
     }
 
-    /// Makes `x` member `i`; the members from there on get the next number each. For want of memory
+    /// Makes `x` member `i`; the members from there on get the next number each. When out of memory,
     /// the list stays as it is, and `x` comes back.
     pub fn insert(&mut self, i: usize, x: T) -> Result<(), T>
         requires { i ≤ length self.old }
@@ -154,7 +154,7 @@ impl<T> NumberedList<T> {
 
 impl<T: Renumber> NumberedList<T> {
     /// Renumbers the members that are there, and makes `x`, which has its new numbers already, member
-    /// `i`. For want of memory neither is done, and `x` comes back.
+    /// `i`. When out of memory, neither is done, and `x` comes back.
     pub fn insert_renumbered(&mut self, by: Renumbering, i: usize, x: T) -> Result<(), T>
         requires place { i ≤ length self.old }
         requires numbers { All (T.can_renumber by) self.old }

@@ -23,7 +23,7 @@ impl<T> Model for WithRoom<T> {
 }
 
 impl<T> NumberedList<T> {
-    /// The same list with the memory for one member more. For want of it the list comes back. Where
+    /// The same list with the memory for one member more. When out of it, the list comes back. Where
     /// it stands in a field, `take` gives it by value.
     pub fn reserve_one(self) -> Result<WithRoom<T>, NumberedList<T>>
         ensures ok { IfOk result (λ list. list ≡ self) }

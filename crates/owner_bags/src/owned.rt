@@ -45,7 +45,7 @@ impl OwnerBags {
         Ok(OwnerBags { begins, bags })
     }
 
-    /// Makes places for so many owners and records. For want of memory the owners stay, and some places may
+    /// Makes places for so many owners and records. When out of memory, the owners stay, and some places may
     /// be more.
     pub fn reserve(
         &mut self,

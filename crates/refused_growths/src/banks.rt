@@ -123,8 +123,8 @@ pub(crate) static EDITS: [(&[u8], &[u8]); 6] = [
     ),
 ];
 
-/// Runs a script, and its undo text on the written file, which gives the bank back and answers the
-/// script. Want of memory leaves no byte at either writer, and the run is made again.
+/// Runs a script, and its undo text on the written file, which gives the bank back and returns the
+/// script. Out of memory leaves no byte at either writer, and the run is made again.
 pub(crate) fn edit_and_return(alloc: Global, script: &[u8], back: &[u8]) -> Outcome {
     let mut out = fixed_writer();
     let mut undo = fixed_writer();
@@ -136,7 +136,7 @@ pub(crate) fn edit_and_return(alloc: Global, script: &[u8], back: &[u8]) -> Outc
     there.and(returned).and(Outcome::done(right))
 }
 
-// Runs a script. Want of memory leaves no byte at either writer, and the run is made again.
+// Runs a script. Out of memory leaves no byte at either writer, and the run is made again.
 pub(crate) fn edited(
     alloc: Global,
     file: &[u8],
@@ -153,7 +153,7 @@ pub(crate) fn edited(
     }
 }
 
-/// Writes the canonical file, which is the file. Want of memory leaves no byte, and the run is made
+/// Writes the canonical file, which is the file. Out of memory leaves no byte, and the run is made
 /// again.
 pub(crate) fn canonical_run(alloc: Global) -> Outcome {
     let mut out = fixed_writer();
@@ -167,7 +167,7 @@ pub(crate) fn canonical_run(alloc: Global) -> Outcome {
     }
 }
 
-/// Lists the bank. Want of memory leaves no byte, and the run is made again.
+/// Lists the bank. Out of memory leaves no byte, and the run is made again.
 pub(crate) fn listing_run(alloc: Global) -> Outcome {
     let mut out = fixed_writer();
     match show_run(alloc, BANK, &mut out) {
@@ -184,7 +184,7 @@ fn is_listing(out: &Fixed) -> bool {
     out.held[..].starts_with(b"bank 4 presets 1 instruments 1 samples 1 points 2\n".as_slice())
 }
 
-/// Plays two frames of a note. Want of memory leaves no byte, and the run is made again.
+/// Plays two frames of a note. Out of memory leaves no byte, and the run is made again.
 pub(crate) fn playing_run(alloc: Global) -> Outcome {
     let notes = b"0 2 0 0 60 127\n";
     let mut out = fixed_writer();

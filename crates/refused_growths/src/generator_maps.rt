@@ -1,4 +1,4 @@
-//! The calls of generators that may want memory.
+//! The calls of generators that may run out of memory.
 use crate::outcome::Outcome;
 use generators::GenMap;
 use std::alloc::Global;

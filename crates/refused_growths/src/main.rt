@@ -1,4 +1,4 @@
-//! Makes each call that may answer want of memory, and compares what it leaves.
+//! Makes each call that may return out of memory, and compares what it leaves.
 //!
 //! A check refuses one growth after the other. After a refusal a case compares every value that the
 //! call could have changed, makes the same call again, which has to succeed now, and compares what

@@ -1,4 +1,4 @@
-//! Neutral edits that may want memory, and the run of a script of such.
+//! Neutral edits that may run out of memory, and the run of a script of such.
 use crate::banks::{BANK, Fixed, bank_of, edited, file_of, fixed_writer};
 use crate::outcome::Outcome;
 use bank_core::{Bank, Owner};
@@ -43,7 +43,7 @@ static CALLS: [(Call, &[u8], &[u8]); 3] = [
     ),
 ];
 
-/// Does neutral edits, and takes them back. For want of memory one leaves the bank and the edit as they
+/// Does neutral edits, and takes them back. When out of memory, one leaves the bank and the edit as they
 /// were, and is made again.
 pub(crate) fn neutral_walk(alloc: Global) -> Outcome {
     let mut file = fixed_writer();
@@ -145,7 +145,7 @@ fn edit_of(call: Call) -> Option<Edit<'static>> {
     }
 }
 
-// Runs a neutral script, which gives this file and this undo text. Want of memory leaves no byte at
+// Runs a neutral script, which gives this file and this undo text. Out of memory leaves no byte at
 // either writer, and the run is made again.
 fn run(alloc: Global, file: &[u8], script: &[u8], edited: &[u8], back: &[u8]) -> Outcome {
     let mut out = fixed_writer();

@@ -1,4 +1,4 @@
-//! The calls of players that may want memory, with edits of the bank between them.
+//! The calls of players that may run out of memory, with edits of the bank between them.
 use crate::banks::{BANK, bank_of, edited, file_of, fixed_writer};
 use crate::outcome::Outcome;
 use bank_core::{Bank, Owner, Place};
@@ -57,7 +57,7 @@ static CALLS: [(Call, i16, i16); 12] = [
     (Call::Absent, 1000, 4000),
 ];
 
-/// Starts notes and edits their bank in turn, and hears a block after each. For want of memory a call
+/// Starts notes and edits their bank in turn, and hears a block after each. When out of memory, a call
 /// leaves the player and the bank as they were, and is made again.
 pub(crate) fn player_walk(alloc: Global) -> Outcome {
     let mut file = fixed_writer();

@@ -1,4 +1,4 @@
-//! The calls of points that may want memory.
+//! The calls of points that may run out of memory.
 use crate::outcome::Outcome;
 use sample_view::Points;
 use std::alloc::Global;

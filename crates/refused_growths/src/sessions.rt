@@ -1,4 +1,4 @@
-//! The calls of sessions that may want memory.
+//! The calls of sessions that may run out of memory.
 use crate::banks::{BANK, Fixed, bank_of, file_of, fixed_writer};
 use crate::outcome::Outcome;
 use bank_core::{InfoId, Owner};
@@ -44,8 +44,8 @@ static CALLS: [(Call, bool, usize); 20] = [
     (Call::Undo, false, 0),
 ];
 
-/// Makes twenty calls of a session, and the same of its twin. They give the first bank back. For want of
-/// memory a call leaves the session as it was, and is made again.
+/// Makes twenty calls of a session, and the same of its twin. They give the first bank back. When out of
+/// memory, a call leaves the session as it was, and is made again.
 pub(crate) fn session_walk(alloc: Global) -> Outcome {
     let Some((bank, read)) = bank_of(alloc, BANK) else {
         return Outcome::Wrong;
@@ -99,7 +99,7 @@ fn are_alike(alloc: Global, one: &mut Session<'_>, other: &mut Session<'_>) -> b
     alike && forth && back
 }
 
-// Goes to the last bank of two sessions. Answers whether both stood alike all the way: no more calls
+// Goes to the last bank of two sessions. Returns whether both stood alike all the way: no more calls
 // were made than this.
 fn go_forth(alloc: Global, one: &mut Session<'_>, other: &mut Session<'_>) -> bool {
     let mut alike = true;
@@ -110,7 +110,7 @@ fn go_forth(alloc: Global, one: &mut Session<'_>, other: &mut Session<'_>) -> bo
     alike
 }
 
-// Goes back to where so many edits are left to undo. Answers whether both stood alike all the way.
+// Goes back to where so many edits are left to undo. Returns whether both stood alike all the way.
 fn go_back(alloc: Global, one: &mut Session<'_>, other: &mut Session<'_>, undos: usize) -> bool {
     let mut alike = true;
     for _ in CALLS {
@@ -136,7 +136,7 @@ fn back_of(session: &Session<'_>) -> Fixed {
     out
 }
 
-// Makes a call, and answers whether it was done.
+// Makes a call, and returns whether it was done.
 fn made(alloc: Global, session: &mut Session<'_>, call: Call) -> Result<bool, OutOfMemory> {
     match call {
         Call::Rename => match Name20::from_bytes(b"u") {

@@ -1,4 +1,4 @@
--- One part behind another, where want of memory can come in place of any answer.
+-- One part behind another, where out of memory can come in place of any answer.
 use Rattle.std.proofs.Common.{◌≡◌, Result, Ok, Err, ap, ◌∙◌}
 use Rattle.sf_base.specs.declared.memory.Failure.{Failure}
 use Rattle.sf_base.specs.declared.memory.Failure.TheVariants.{Fault, OutOfMemory}
@@ -26,7 +26,7 @@ module _ {X Y : Type 0} (p : Part X) (f : X → Part Y) where
   then_reads view old mid new x (Err (Fault d)) e h = first_read old mid x e.0 ∙ h
   then_reads view old mid new x (Err OutOfMemory) e h = tt
 
--- what fails as another part fails, or for want of memory
+-- what fails as another part fails, or when out of memory
 pub wants_too : {X Y V W : Type 0} (p : Part X) (q : Part Y) (view : V → X) (other : W → Y) (at old new : Left) (failure : Failure LineFault) → ((d : LineFault) → p at.said ≡ Err d → q old.said ≡ Err d) → ReadsOrWants view p at new (Err failure)
     → ReadsOrWants other q old new (Err failure)
 wants_too p q view other at old new (Fault d) f h = f d h

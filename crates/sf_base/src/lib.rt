@@ -1,5 +1,5 @@
-//! What every crate of sfbank stands on: names, limits, little-endian numbers, parts of slices, lent
-//! bytes and want of memory.
+//! What every crate of sfbank depends on: names, limits, little-endian numbers, parts of slices, lent
+//! bytes and out of memory.
 #![tactic(auto)]
 
 mod lent;

@@ -1,4 +1,4 @@
-//! Want of memory, alone or beside other faults.
+//! Out of memory, alone or beside other faults.
 ghost use Rattle.std.specs.Prelude.{◌≡◌};
 ghost use Rattle.sf_base.specs.declared.memory.Failure.TheVariants as failures;
 

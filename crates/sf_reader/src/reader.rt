@@ -26,7 +26,7 @@ use sf_base::{Failure, u16_at};
 use std::alloc::Global;
 
 /// The bank of a file, and the counts of what was dropped or mended; or the fault of the first step
-/// of reading that the file breaks. Want of memory may come in place of either, where memory for the
+/// of reading that the file breaks. Out of memory may come in place of either, where memory for the
 /// presets, instruments or samples was refused.
 ///
 /// The bank borrows the file: its texts and the points of its samples are slices of it. No bank

@@ -142,7 +142,7 @@ writes_nothing old new a b p es (Ok u) h none g = λ e.
     subst (λ (xs : List Edit). Appends old new (texts_of xs)) (none same) g
 writes_nothing old new a b p es (Err fault) h none g = tt
 
--- want of memory, before a byte went out
+-- out of memory, before a byte went out
 pub ends_in_memory : {U : Type 0} (known : Option (List ℕ)) (a b : List ℕ) (r : Result U RunFault) → IsErrAnd r (λ fault. fault ≡ run.Memory) → RunsDifference known known a b r
 ends_in_memory known a b (Ok u) h = absurd h
 ends_in_memory {U} known a b (Err fault) h = subst (λ fault. RunsDifference {U = U} known known a b (Err fault)) (sym h) (Keeps-refl known)

@@ -87,7 +87,7 @@ at_other U forms b script lines seen (run.Recording fault) e s h = absurd h
 at_other U forms b script lines seen (run.NoMember cause) e s h = absurd h
 at_other U forms b script lines seen (run.Write which n) e s h = h
 
--- lines of which one is refused, or that want memory
+-- lines of which one is refused, or that run out of memory
 pub stops_at : (b : Parts) (lines : List Line) (fault : RunFault) → StopsAtLine fault (first_refused b lines) → FailsBefore fault (after_script b (Ok lines))
 stops_at b lines (run.Refused number why) h = ap (λ (o : Option RefusedLine). unless_refused o (both_texts b (edits_of lines))) h
 stops_at b lines run.Memory h = tt

@@ -55,7 +55,7 @@ pub record SendsDifference {U : Type 0} (old new : Option (List ℕ)) (a b : Lis
   pub sends : GoesOut Out old new text r
 
 -- Done, or with the writer's fault, a difference went out so far. With any other fault not a byte went to the writer; and
--- want of memory can come in place of any answer before the first byte.
+-- out of memory can come in place of any answer before the first byte.
 abbrev pub RunsDifference : {U : Type 0} → Option (List ℕ) → Option (List ℕ) → List ℕ → List ℕ → Result U RunFault → Type 0
 RunsDifference old new a b (Ok u) = SendsDifference old new a b (Ok u)
 RunsDifference old new a b (Err (run.Write which n)) = SendsDifference {U = Unit {0}} old new a b (Err (run.Write which n))

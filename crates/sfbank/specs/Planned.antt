@@ -13,7 +13,7 @@ use Rattle.command_words.specs.declared.words.Forms.{Forms}
 use Rattle.command_words.specs.declared.words.Forms.TheVariants.{Every, Neutral}
 use Rattle.sfbank.specs.Outcome.{Done, edits_of, RefusedLine, first_refused, first_not_neutral, after_script, after_neutral_script, after_reading, bank_in}
 
--- the first refused line, or want of memory
+-- the first refused line, or out of memory
 abbrev pub StopsAtLine : RunFault → Option RefusedLine → Type 0
 StopsAtLine (run.Refused number why) first = first ≡ Some (record { number = number; why = why })
 StopsAtLine run.Memory first = Unit {0}

@@ -47,7 +47,7 @@ pub record DeliversDone {U : Type 0} (w : Writers) (outcome : Result Done RunFau
   pub delivers : Delivers w done r
 
 -- A run answers the outcome. Done, or with a writer's fault, it delivered the texts so far; with any
--- other fault neither writer got a byte; and want of memory can come in place of any answer before the
+-- other fault neither writer got a byte; and out of memory can come in place of any answer before the
 -- first byte.
 abbrev pub Runs : {U : Type 0} → Writers → Result Done RunFault → Result U RunFault → Type 0
 Runs w outcome (Ok u) = DeliversDone w outcome (Ok u)
@@ -68,7 +68,7 @@ RunsAlone old new outcome (Err (run.Write which n)) = SendsText {U = Unit {0}} o
 RunsAlone old new outcome (Err run.Memory) = Keeps old new
 RunsAlone old new outcome (Err fault) = (outcome ≡ Err fault) × Keeps old new
 
--- The fault of these bytes, or want of memory. No writer was asked.
+-- The fault of these bytes, or out of memory. No writer was asked.
 abbrev pub FailsBefore : {X : Type 0} → RunFault → Result X RunFault → Type 0
 FailsBefore run.Memory outcome = Unit {0}
 FailsBefore (run.Write which n) outcome = ⊥

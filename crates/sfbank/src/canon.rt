@@ -10,7 +10,7 @@ use std::io::Write;
 
 /// Reads the file, and writes the canonical file of its bank to `out`, whole and flushed.
 ///
-/// Where the file has a fault, not one byte goes to the writer; so it is for want of memory. A
+/// Where the file has a fault, not one byte goes to the writer; so it is when out of memory. A
 /// writer's fault, which is of `Which::Out`, tells how many bytes of the text it took.
 pub fn canon_run<W: Write>(alloc: Global, file: &[u8], out: &mut W) -> Result<(), RunFault>
     // The outcome of these bytes goes out: the fault of the file, else the canonical file.

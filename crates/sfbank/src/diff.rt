@@ -12,7 +12,7 @@ use std::io::Write;
 /// Reads both files, and writes a script that makes the bank of the second of that of the first to `out`,
 /// whole and flushed. The banks are of one minor version, which no edit changes.
 ///
-/// Where a file has a fault, or the versions differ, not one byte goes to the writer; so it is for want of
+/// Where a file has a fault, or the versions differ, not one byte goes to the writer; so it is when out of
 /// memory. A writer's fault, which is of `Which::Out`, tells how many bytes of the script it took.
 pub fn diff_run<W: Write>(
     alloc: Global,

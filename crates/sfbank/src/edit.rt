@@ -18,7 +18,7 @@ use std::io::Write;
 /// that takes the edits back to `undo`, each whole and flushed.
 ///
 /// Where the file has a fault, the script has one, or an edit is refused, not one byte goes to either
-/// writer; so it is for want of memory. A writer's fault tells how many bytes of its text it took. As the
+/// writer; so it is when out of memory. A writer's fault tells how many bytes of its text it took. As the
 /// lines are done, `progress` hears how far they are.
 pub fn edit_run<W: Write, V: Write, P: Progress>(
     alloc: Global,

@@ -27,7 +27,7 @@ use std::io::Write;
 /// The name is cut before a zero byte and after 20 bytes; of two channels after 18, and ` L` or ` R` stands behind it.
 ///
 /// Where the file or the WAVE file has a fault, or an edit is refused, not one byte goes to either writer; so it is for
-/// want of memory. A refused edit is told by its line in the script of the import. A writer's fault tells how many bytes
+/// out of memory. A refused edit is told by its line in the script of the import. A writer's fault tells how many bytes
 /// of its text it took.
 pub fn import_run<W: Write, V: Write>(
     alloc: Global,

@@ -15,7 +15,7 @@ use std::io::Write;
 /// whole and flushed: an SVG text of the keys and velocities in which notes select each.
 ///
 /// Where the file has a fault, or no such preset or instrument, not one byte goes to the writer; so it
-/// is for want of memory. A writer's fault, which is of `Which::Out`, tells how many bytes of the text
+/// is when out of memory. A writer's fault, which is of `Which::Out`, tells how many bytes of the text
 /// it took.
 pub fn map_run<W: Write>(
     alloc: Global,

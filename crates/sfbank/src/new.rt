@@ -14,7 +14,7 @@ use std::io::Write;
 
 /// Writes the canonical file of the empty bank of version 2.`minor` to `out`, whole and flushed: 308 bytes.
 ///
-/// Where memory is wanting, not one byte goes to the writer. A writer's fault, which is of `Which::Out`,
+/// Where memory is out, not one byte goes to the writer. A writer's fault, which is of `Which::Out`,
 /// tells how many bytes of the file it took.
 pub fn new_run<W: Write>(alloc: Global, minor: u16, out: &mut W) -> Result<(), RunFault>
     // The canonical file of the empty bank goes out.

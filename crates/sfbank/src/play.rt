@@ -14,7 +14,7 @@ use std::io::Write;
 /// Reads the file and the text of notes, plays the notes on the bank, and writes the WAVE file of their
 /// frames to `out`, whole and flushed.
 ///
-/// Where the file has a fault, or the notes have one, not one byte goes to the writer; so it is for want
+/// Where the file has a fault, or the notes have one, not one byte goes to the writer; so it is when out
 /// of memory. A writer's fault, which is of `Which::Out`, tells how many bytes of the file it took. As the
 /// frames are done, `progress` hears how far they are.
 pub fn play_run<W: Write, P: Progress>(

@@ -40,7 +40,7 @@ use std::rt::Files;
 use std::{env, io};
 use wave::wave;
 
-/// Runs the program on the words that it was started with, and answers its exit status.
+/// Runs the program on the words that it was started with, and returns its exit status.
 pub fn run_with_arguments<R: Env + Files + AllocGlobal, I: Read, O: Write, E: Write, P: Progress>(
     rt: &R,
     input: &mut I,
@@ -66,7 +66,7 @@ fn arguments<R: Env + AllocGlobal>(rt: &R) -> Result<Vec<String>, Fault<'static>
     Ok(words?)
 }
 
-/// Runs the program on its words, of which the first is its own name. Answers the exit status:
+/// Runs the program on its words, of which the first is its own name. Returns the exit status:
 ///
 /// | status | when |
 /// |---|---|
@@ -76,7 +76,7 @@ fn arguments<R: Env + AllocGlobal>(rt: &R) -> Result<Vec<String>, Fault<'static>
 /// | 3 | the script or the text of notes has a fault |
 /// | 4 | an edit is refused, or there is no such member, or two banks are of different versions |
 /// | 5 | an input can't be read or is too long, or an output can't be written |
-/// | 6 | want of memory |
+/// | 6 | out of memory |
 ///
 /// The lines of `live` come from `input`. What `show` and `explain` tell, the answers of `live`, help and the version
 /// go to `output`. `progress` hears how far `apply` and `play` are.

@@ -12,7 +12,7 @@ use std::io::Write;
 /// Reads the file, and writes the script that makes its bank of the empty one of its minor version to
 /// `out`, whole and flushed; with the points of its samples, or without.
 ///
-/// Where the file has a fault, not one byte goes to the writer; so it is for want of memory. A
+/// Where the file has a fault, not one byte goes to the writer; so it is when out of memory. A
 /// writer's fault, which is of `Which::Out`, tells how many bytes of the script it took.
 pub fn script_run<W: Write>(
     alloc: Global,

@@ -12,7 +12,7 @@ use std::io::Write;
 /// Reads the file, and writes the listing of its bank and of the counts of reading it to `out`, whole
 /// and flushed.
 ///
-/// Where the file has a fault, not one byte goes to the writer; so it is for want of memory. A
+/// Where the file has a fault, not one byte goes to the writer; so it is when out of memory. A
 /// writer's fault, which is of `Which::Out`, tells how many bytes of the text it took.
 pub fn show_run<W: Write>(alloc: Global, file: &[u8], out: &mut W) -> Result<(), RunFault>
     // The outcome of these bytes goes out: the fault of the file, else the listing.
@@ -26,7 +26,7 @@ pub fn show_run<W: Write>(alloc: Global, file: &[u8], out: &mut W) -> Result<(),
 /// flushed, with these details: behind the line of each member how often it is named, or its zones, or
 /// both. With neither it is the listing of `show_run`.
 ///
-/// Where the file has a fault, not one byte goes to the writer; so it is for want of memory. A
+/// Where the file has a fault, not one byte goes to the writer; so it is when out of memory. A
 /// writer's fault, which is of `Which::Out`, tells how many bytes of the text it took.
 pub fn show_details_run<W: Write>(
     alloc: Global,

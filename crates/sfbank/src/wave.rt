@@ -12,7 +12,7 @@ use std::io::Write;
 /// Reads the file, and writes sample `sample` of its bank, counted from 0, to `out` as a WAVE file, whole and flushed: one
 /// channel of 16 bits, its points as they are, and a sampler chunk with its key, correction and loop.
 ///
-/// Where the file has a fault, or the bank no such sample, not one byte goes to the writer; so it is for want of memory.
+/// Where the file has a fault, or the bank no such sample, not one byte goes to the writer; so it is when out of memory.
 /// A writer's fault, which is of `Which::Out`, tells how many bytes of the WAVE file it took.
 pub fn wave_run<W: Write>(
     alloc: Global,

@@ -29,7 +29,7 @@ pub fn fault_text<W: Write>(fault: &RunFault, path: &str, out: &mut W) -> Result
 
 /// The exit status of a program whose run ends so: 2 for a fault of a file, a WAVE file included, 3 of the
 /// script or of the notes, 4 for a refused edit, a member that isn't there or banks of different versions, 5 for
-/// a write fault, and 6 for want of memory.
+/// a write fault, and 6 when out of memory.
 pub fn exit_status(fault: &RunFault) -> u8
     ensures { result ≡ status_of fault.now }
 {

@@ -41,7 +41,7 @@ pub fn read_whole<R: Read>(
     Err(Failure::Fault(InputFault::TooLong))
 }
 
-/// Reads the next bytes of an input after those that it gave before, and answers how many.
+/// Reads the next bytes of an input after those that it gave before, and returns how many.
 fn read_piece<R: Read>(input: &mut R, bytes: &mut Vec<u8>) -> Result<usize, Failure<InputFault>>
     requires { vec_len bytes.old < most_bytes }
     ensures within { OnOk result (vec_len bytes.new ≤ most_bytes) }

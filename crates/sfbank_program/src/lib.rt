@@ -1,6 +1,6 @@
 //! What the program has beside its runs: the files that it reads and writes, how a run ends that is not
 //! done, and the lines by which that is told. None of it needs a run, so it is proved beside the crates
-//! that the runs stand on.
+//! that the runs depend on.
 #![tactic(auto)]
 
 mod fault;

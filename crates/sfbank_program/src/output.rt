@@ -29,7 +29,7 @@ pub struct OutputFile<'a, R: Files> {
 }
 
 impl<'a, R: Files + AllocGlobal> OutputFile<'a, R> {
-    /// The output at a path, or want of memory. Nothing is created yet.
+    /// The output at a path, or out of memory. Nothing is created yet.
     pub fn new(rt: &'a R, path: &'a str) -> Result<OutputFile<'a, R>, AllocError>
         ensures closed { IfOk result (λ output. output.file ≡ None) }
         ensures path { IfOk result (λ output. output.path ≡ path.entry) }

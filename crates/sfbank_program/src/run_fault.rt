@@ -31,7 +31,7 @@ pub enum RunFault {
     /// The first fault of the script.
     #[error("{0}")]
     Script(ScriptFault),
-    /// The first refused line, and why it is. Want of memory for an edit is `Memory`.
+    /// The first refused line, and why it is. Out of memory for an edit is `Memory`.
     #[error("line {0}: {1}")]
     Refused(u64, Refusal),
     /// The first line with an edit that is not neutral, where all have to be.

@@ -9,7 +9,7 @@ use std::io::Write;
 
 const NOT_TEXT: &[u8] = b"error: a word is not text\n";
 
-/// Tells a fault, and answers the exit status, which is the same where it could not be told.
+/// Tells a fault, and returns the exit status, which is the same where it could not be told.
 pub fn tell<E: Write>(fault: &Fault<'_>, errors: &mut E) -> u8
     ensures status { result ≡ status_of fault.now }
     ensures told { Tells (E.contents errors.old) (E.contents errors.new) fault.now }

@@ -41,7 +41,7 @@ use std::io::Write;
 // ---- read
 
 /// The step that begins here: the word of a form, and what stands behind it. The first fault from left
-/// to right is answered; want of memory may come in place of either.
+/// to right is answered; out of memory may come in place of either.
 #[tactic(auto, unfolding(crate::specs::Grammar::step))]
 pub fn step<'p>(alloc: Global, line: &mut Cursor<'_, 'p>) -> Result<Step<'p>, Failure<LineFault>>
     ensures { ReadsOrWants (λ s. s) step line.old line.new result }

@@ -15,7 +15,7 @@ pub(crate) const MOST: usize = 1024;
 /// The frames of a voice, if whole blocks have as many.
 pub(crate) const FRAMES: u64 = 65536;
 
-/// Plays a voice in blocks of so many frames, adds these up, and answers a sum over that; 0 where there
+/// Plays a voice in blocks of so many frames, adds these up, and returns a sum over that; 0 where there
 /// is no such voice.
 pub(crate) fn play(
     alloc: Global,

@@ -25,7 +25,7 @@ pub(crate) fn player_of<'a>(alloc: Global, file: &'a [u8], notes: &[u8]) -> io::
     Ok(player)
 }
 
-/// Plays so many blocks, and answers a sum over the last frames of all.
+/// Plays so many blocks, and returns a sum over the last frames of all.
 pub(crate) fn play_blocks(player: &mut Player, block: usize, blocks: u64) -> u64
     requires { block ≤ 1024 }
 {

@@ -7,6 +7,6 @@ mod phases;
 mod softening;
 
 pub use envelopes::{envelope_at, held_at};
-pub use levels::louder;
+pub use levels::attenuated;
 pub use phases::Level;
 pub use softening::soften;

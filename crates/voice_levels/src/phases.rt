@@ -146,7 +146,7 @@ fn fill_rising(over: u64, risen: u64, levels: &mut [u16])
     }
 }
 
-// The levels of a stretch from `t` on that begins as the voice rises, as far as that goes; answers how many
+// The levels of a stretch from `t` on that begins as the voice rises, as far as that goes; returns how many
 // frames that are.
 pub(crate) fn fill_attack(v: &VoiceParameters, t: u64, levels: &mut [u16]) -> usize
     requires some { 0 < length levels.old }

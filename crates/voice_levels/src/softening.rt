@@ -76,7 +76,7 @@ fn quieten_by(levels: &[u16], loudness: u32, others: &mut [u16], run: &mut [i16]
     }
 }
 
-// The front of the levels from `t` on, as far as one goes or the attack; answers how many these are, none where
+// The front of the levels from `t` on, as far as one goes or the attack; returns how many these are, none where
 // it is the full one, which fits no 16 bits.
 fn fill_level(v: &VoiceParameters, t: u64, level: Level, levels: &mut [u16]) -> usize
     requires some { 0 < length levels.old }
@@ -98,7 +98,7 @@ fn fill_level(v: &VoiceParameters, t: u64, level: Level, levels: &mut [u16]) -> 
     n
 }
 
-// The levels from `t` on, as far as they are less than the full one; answers how many these are, and the level
+// The levels from `t` on, as far as they are less than the full one; returns how many these are, and the level
 // that is in hand behind them.
 fn fill_levels(
     v: &VoiceParameters,
@@ -132,7 +132,7 @@ fn fill_levels(
 }
 
 // Makes the front of a stretch from `t` on as loud as the voice is then, as far as the levels are less than the
-// full one, or else as far as that goes; answers how many frames that are, and the level.
+// full one, or else as far as that goes; returns how many frames that are, and the level.
 fn soften_front(
     v: &VoiceParameters,
     t: u64,
@@ -174,7 +174,7 @@ fn soften_front(
 }
 
 /// Makes the points of a stretch as loud as the voice is, from the level in hand on, by way of as many levels
-/// twice; answers the level that is in hand behind it. The note's end ends a stretch. The voice is as loud as
+/// twice; returns the level that is in hand behind it. The note's end ends a stretch. The voice is as loud as
 /// `at_end` at it, and its attenuation leaves `loudness` of 65536.
 pub fn soften(
     v: &VoiceParameters,

@@ -1,4 +1,4 @@
--- Bounds of what is parted and interpolated.
+-- Bounds of what is panned and interpolated.
 use Rattle.std.proofs.Common.{◌≡◌, ℕ, ◌+◌, ◌*◌, ◌/◌, ◌%◌, ◌<◌, ◌≤◌, zero, suc, cond, nat_eq, Bool, true, false, ℤ, pos, negsuc, ◌+ℤ◌, ◌-ℤ◌, ◌*ℤ◌, ◌-◌, ◌≤ℤ◌, neg_ℤ, FitsSigned, sym, ap, arith}
 use Rattle.std.proofs.lemmas.Nat.{mul-le}
 use Rattle.std.proofs.lemmas.Int.{ints}
@@ -120,5 +120,5 @@ by_slope p q f h fp fq =
     omega (arith, ints, slope, whole, first, sum)
 
 -- a part of 1000, read 32768 parts higher
-pub part_down_is : (z : ℤ) (k n m : ℕ) → 0 < n → z +ℤ pos (k * n) ≡ pos m → floor_div z n +ℤ pos k ≡ pos (m / n)
-part_down_is = floor_div_is
+pub share_is : (z : ℤ) (k n m : ℕ) → 0 < n → z +ℤ pos (k * n) ≡ pos m → floor_div z n +ℤ pos k ≡ pos (m / n)
+share_is = floor_div_is

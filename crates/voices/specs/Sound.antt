@@ -19,7 +19,7 @@ pub record Live : Type 0 where
 abbrev pub part_of : VoiceParameters → Bool → ℕ
 part_of v left = above_zero (cond left (pos 500 -ℤ v.pan) (pos 500 +ℤ v.pan))
 
--- frame t before it is parted, of a voice that isn't over
+-- frame t before it is panned, of a voice that isn't over
 unfoldable pub sound_at : Voice → ℕ → ℤ
 sound_at v t =
     scaled_by

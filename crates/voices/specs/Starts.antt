@@ -23,7 +23,7 @@ sample_by b n q = option_and_then (λ (c : Chosen). slice_get b.samples c.sample
 abbrev pub started : Parts → Numbers → ℕ × ℕ → Option Live
 started b n q = option_map fresh (voice_by b n q)
 
--- the pair doesn't hold the note; want of memory is told of pairs that do
+-- the pair doesn't hold the note; out of memory is told of pairs that do
 abbrev pub IsStartFault : Option Live → Failure NoMatch → Type 0
 IsStartFault voice (Fault no_match) = voice ≡ None
 IsStartFault voice OutOfMemory = IsSome voice

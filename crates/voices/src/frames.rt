@@ -7,10 +7,10 @@ ghost use Rattle.voices.specs.Sound.{sound_at, part_of, snd};
 
 use crate::places::{advanced, is_looping_at};
 use crate::sampled::point_of_place;
-use crate::sides::parted;
+use crate::sides::panned;
 use sample_view::Points;
 use sound_tables::gain;
-use voice_levels::{envelope_at, louder};
+use voice_levels::{envelope_at, attenuated};
 use zone_select::VoiceParameters;
 
 // What the left side gets, of 1000.
@@ -44,7 +44,7 @@ fn point_at_frame(points: &Points, v: &VoiceParameters, t: u64, x: u64) -> i32
     point_of_place(points, v, is_looping_at(v, t), x)
 }
 
-// Frame `t` before it is parted, of a voice that isn't over then.
+// Frame `t` before it is panned, of a voice that isn't over then.
 #[tactic(auto, unfolding(crate::specs::Sound::sound_at))]
 fn sound_of(points: &Points, v: &VoiceParameters, t: u64, x: u64) -> i32
     requires playable { IsPlayable (length points.now) v.now }
@@ -56,7 +56,7 @@ fn sound_of(points: &Points, v: &VoiceParameters, t: u64, x: u64) -> i32
     ensures high { result ≤ℤ pos 32767 }
 {
     let p = point_at_frame(points, v, t, x);
-    louder(louder(p, envelope_at(v, t)), gain(i64::from(v.attenuation)))
+    attenuated(attenuated(p, envelope_at(v, t)), gain(i64::from(v.attenuation)))
 }
 
 // Both sides of frame `t`, at which the voice isn't over, and whose place is `x`.
@@ -74,7 +74,7 @@ pub(crate) fn frame(points: &Points, v: &VoiceParameters, t: u64, x: u64) -> (i3
     ensures right_high { result.1 ≤ℤ pos 32767 }
 {
     let z = sound_of(points, v, t, x);
-    (parted(z, left_part(v)), parted(z, right_part(v)))
+    (panned(z, left_part(v)), panned(z, right_part(v)))
 }
 
 // The place of the frame behind frame `t`, whose place is `x`.

@@ -12,14 +12,14 @@ ghost use Rattle.voices.specs.Within.{AllWithin};
 use crate::courses::Course;
 use crate::frames::{left_part, right_part};
 use crate::runs::{add_by_buffers, add_sides, empty_words, fill_sounds, no_levels, stretch};
-use crate::sides::parted;
+use crate::sides::panned;
 use sample_view::Points;
 use zone_select::VoiceParameters;
 
 // The most frames that are made ahead.
 const MOST: usize = 256;
 
-// Frames that come next, before they are parted: so many as are left, from `at` on. Short blocks take theirs from
+// Frames that come next, before they are panned: so many as are left, from `at` on. Short blocks take theirs from
 // them: so what a stretch costs, however short it is, comes once in several blocks.
 #[derive(Drop)]
 pub(crate) struct Ahead {
@@ -96,7 +96,7 @@ fn make_ready<'a>(
     refill(points, v, t, course, ahead);
 }
 
-// Adds as many of the frames from `t` on as there are sums for, and answers how many these are.
+// Adds as many of the frames from `t` on as there are sums for, and returns how many these are.
 fn add_ahead(
     points: &Points,
     v: &VoiceParameters,
@@ -236,5 +236,5 @@ pub(crate) fn next_ahead(
     let z = i32::from(ahead.sounds[ahead.at]);
     ahead.at += 1;
     ahead.left -= 1;
-    (parted(z, left_part(v)), parted(z, right_part(v)))
+    (panned(z, left_part(v)), panned(z, right_part(v)))
 }

@@ -16,7 +16,7 @@ ghost use Rattle.voices.specs.Runs.{IsAdded, IsStretch};
 use crate::courses::Course;
 use crate::frames::{left_part, right_part};
 use crate::places::{frames_before, is_looping_at};
-use crate::sides::{HALF, WHOLE, fine_part, finely_parted, halved};
+use crate::sides::{HALF, WHOLE, fine_part, finely_panned, halved};
 use crate::slices::fill_points;
 use sample_view::Points;
 use voice_levels::soften;
@@ -80,7 +80,7 @@ fn silent_points<const N: usize>() -> [i16; N]
     [0; N]
 }
 
-// The frames of a stretch before they are parted, by way of a word and two levels for each. The course of the first
+// The frames of a stretch before they are panned, by way of a word and two levels for each. The course of the first
 // frame goes on to that behind the last.
 pub(crate) fn fill_sounds<'a>(
     points: &Points<'a>,
@@ -163,13 +163,14 @@ fn add_both_sides(run: &[i16], left: u32, right: u32, sums: &mut [i32])
     let fine_right = fine_part(right);
     for k in 0..run.len() {
         let z = run[k];
-        sums[2 * k] += finely_parted(z, fine_left);
-        sums[2 * k + 1] += finely_parted(z, fine_right);
+        sums[2 * k] += finely_panned(z, fine_left);
+        sums[2 * k + 1] += finely_panned(z, fine_right);
     }
 }
 
 // Adds half of each frame to the sums of either side.
-fn add_halves(run: &[i16], sums: &mut [i32])
+#[inline(always)]
+fn add_each_half(run: &[i16], sums: &mut [i32])
     requires long { length sums.old ≡ 2 * length run.now }
     requires room { AllWithin 65534 sums.old }
     ensures { EachIndex sums.new (λ i. IsAdded (slice_index_or sums.old i (pos 0))
@@ -181,6 +182,43 @@ fn add_halves(run: &[i16], sums: &mut [i32])
         sums[2 * k] += half;
         sums[2 * k + 1] += half;
     }
+}
+
+// The frames whose halves are added in one go.
+const AT_ONCE: usize = 8;
+
+// The same of the frames at the front, eight in one go: where the compiler knows how many they are, it adds to the sums of
+// all of them at once. Returns how many frames that are.
+fn add_eights(run: &[i16], sums: &mut [i32]) -> usize
+    requires long { length sums.old ≡ 2 * length run.now }
+    requires room { AllWithin 65534 sums.old }
+    ensures most { result ≤ length run.now }
+    ensures front { (i : ℕ) → i < 2 * result → IsAdded (slice_index_or sums.old i (pos 0))
+        (side (slice_index_or run.now (i / 2) (pos 0)) 500)
+        (slice_index_or sums.new i (pos 0)) }
+    ensures rest { (i : ℕ) → 2 * result ≤ i → slice_index_or sums.new i (pos 0) ≡ slice_index_or sums.old i (pos 0) }
+{
+    let mut at = 0;
+    while AT_ONCE <= run.len() - at {
+        add_each_half(
+            &run[at..at + AT_ONCE],
+            &mut sums[2 * at..2 * at + 2 * AT_ONCE],
+        );
+        at += AT_ONCE;
+    }
+    at
+}
+
+// Adds half of each frame to the sums of either side, most of them eight in one go.
+fn add_halves(run: &[i16], sums: &mut [i32])
+    requires long { length sums.old ≡ 2 * length run.now }
+    requires room { AllWithin 65534 sums.old }
+    ensures { EachIndex sums.new (λ i. IsAdded (slice_index_or sums.old i (pos 0))
+        (side (slice_index_or run.now (i / 2) (pos 0)) 500)
+        (slice_index_or sums.new i (pos 0))) }
+{
+    let front = add_eights(run, sums);
+    add_each_half(&run[front..], &mut sums[2 * front..]);
 }
 
 // Adds each frame's parts to the sums of both sides.

@@ -8,8 +8,8 @@ pub(crate) const WHOLE: u32 = 1000;
 
 // `part` of 1000, rounded down: 32768 more keep the division above zero.
 #[inline(always)]
-#[tactic(auto, using(crate::proofs::SideLemmas::part_down_is), unfolding(crate::specs::Levels::side))]
-fn part_down(z: i32, part: u32) -> i32
+#[tactic(auto, using(crate::proofs::SideLemmas::share_is), unfolding(crate::specs::Levels::side))]
+fn share_of(z: i32, part: u32) -> i32
     requires low { negsuc 32767 ≤ℤ z }
     requires high { z ≤ℤ pos 32767 }
     requires level { part ≤ 1000 }
@@ -41,7 +41,7 @@ pub(crate) fn fine_part(part: u32) -> FinePart
 
 // What a side gets that has a part of 1000, of which it is told finely.
 #[inline(always)]
-pub(crate) fn finely_parted(z: i16, fine: FinePart) -> i32
+pub(crate) fn finely_panned(z: i16, fine: FinePart) -> i32
     requires high { (pos 0 ≤ℤ fine.high) × (fine.high ≤ℤ pos 16384) }
     requires low { (pos 0 ≤ℤ fine.low) × (fine.low ≤ℤ pos 16383) }
     ensures { (part : ℕ) → part ≤ 1000 → fine.high ≡ pos (fine_of part / 16384) → fine.low ≡ pos (fine_of part % 16384) → result ≡ side z part }
@@ -54,7 +54,7 @@ pub(crate) fn finely_parted(z: i16, fine: FinePart) -> i32
 // What a side gets that has `part` of 1000.
 #[inline(always)]
 #[tactic(auto, using(crate::proofs::SideLemmas::side_within))]
-pub(crate) fn parted(z: i32, part: u32) -> i32
+pub(crate) fn panned(z: i32, part: u32) -> i32
     requires low { negsuc 32767 ≤ℤ z }
     requires high { z ≤ℤ pos 32767 }
     requires level { part ≤ 1000 }
@@ -62,7 +62,7 @@ pub(crate) fn parted(z: i32, part: u32) -> i32
     ensures low { negsuc 32767 ≤ℤ result }
     ensures high { result ≤ℤ pos 32767 }
 {
-    part_down(z, part)
+    share_of(z, part)
 }
 
 // The part of a side that gets as much of a frame as the other.

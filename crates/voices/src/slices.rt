@@ -50,7 +50,7 @@ fn read_ahead(bytes: &[u8], x: u32, step: u32, pairs: &mut [u32])
 }
 
 // The points around places of a slice from `x` on, with `step` more for each frame, four frames at a time:
-// so that each place is one sum away from the first of them. Answers how many frames that are.
+// so that each place is one sum away from the first of them. Returns how many frames that are.
 fn read_fours(bytes: &[u8], x: u32, step: u32, pairs: &mut [u32]) -> usize
     requires ends { (k : ℕ) → k < length pairs.old → 2 * ((x + k * step) / 65536) + 3 < length bytes.now }
     requires near { x + length pairs.old * step < 2 ^ 32 }
@@ -175,7 +175,7 @@ fn is_near(v: &VoiceParameters, looping: bool, i: usize) -> bool
     looping && v.loop_start as usize <= i && v.loop_end - v.loop_start <= SHORT_LOOP
 }
 
-// Reads the pairs at the front of a run from place `x` on, as far as the slice goes or the loop; answers how many
+// Reads the pairs at the front of a run from place `x` on, as far as the slice goes or the loop; returns how many
 // frames that are, and the slice.
 fn fill_front<'a>(
     points: &Points<'a>,
@@ -224,7 +224,7 @@ fn limit_of(v: &VoiceParameters, looping: bool) -> u32
     if looping { v.loop_end } else { v.end }
 }
 
-// The pairs of points around each frame of a stretch, the first of them at place `from`; answers the place of
+// The pairs of points around each frame of a stretch, the first of them at place `from`; returns the place of
 // the frame behind them, and the slice that is in hand there. A loop is whole points long: so how far
 // behind its point a frame lies is told from the first place on.
 fn fill_pairs<'a>(
@@ -259,7 +259,7 @@ fn fill_pairs<'a>(
 }
 
 // What the sample says at each frame of a stretch, the first of them at place `from`, by way of pairs of
-// points; answers the place of the frame behind them, and the slice that is in hand there.
+// points; returns the place of the frame behind them, and the slice that is in hand there.
 pub(crate) fn fill_points<'a>(
     points: &Points<'a>,
     v: &VoiceParameters,

@@ -57,7 +57,7 @@ pub fn edits(alloc: Global, file: &[u8], script: &[u8], edited: &[u8], back: &[u
 }
 
 /// Whether a script on a canonical file answers this undo text, which on the written file gives the
-/// file back and answers the script.
+/// file back and returns the script.
 pub fn returns(alloc: Global, file: &[u8], script: &[u8], back: &[u8]) -> bool {
     let mut out = Vec::new(alloc);
     let mut undo = Vec::new(alloc);

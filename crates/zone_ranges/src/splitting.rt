@@ -119,7 +119,7 @@ pub fn split_zone<H: OwnerHead>(
     Ok(())
 }
 
-// Gives zone `k` this amount, and puts a zone in behind it. For want of memory nothing changes.
+// Gives zone `k` this amount, and puts a zone in behind it. When out of memory, nothing changes.
 fn put_parts<H: OwnerHead>(
     owners: &mut Owners<H>,
     i: u32,
@@ -166,7 +166,7 @@ fn set_back<H: OwnerHead>(
     }
 }
 
-/// Joins zones `k` and `k + 1` of number `i`. For want of memory nothing changes.
+/// Joins zones `k` and `k + 1` of number `i`. When out of memory, nothing changes.
 pub fn join_zones<H: OwnerHead>(
     owners: &mut Owners<H>,
     alloc: Global,

@@ -61,7 +61,7 @@ pub struct VoiceParameters {
 
 /// The numbers that the voice of a pair of zones plays by: those of the first preset with the note's
 /// bank number and number, each zone by its number. None where there are no such zones, or they don't
-/// both hold the note: it answers exactly for the pairs that [`matches`](crate::matches) gives. It takes
+/// both hold the note: there are some exactly for the pairs that [`matches`](crate::matches) gives. It takes
 /// no memory.
 pub fn params(bank: &Bank<'_>, note: &Note, pair: (u32, u32)) -> Option<VoiceParameters>
     ensures value { result ≡ option_map (λ v. v.parameters) (voice_by bank.now note.now pair) }

@@ -5,7 +5,7 @@ use Rattle.mixer.specs.Order as order
 use Rattle.mixer.specs.Order.{IsRising, StartWithin}
 use Rattle.mixer.proofs.Orders.{rising-in_order}
 use Rattle.mixer.proofs.Counts.{within-count, half_of, take_front, rendered_fits}
-use Rattle.mixer.proofs.Unordered.{render_is}
+use Rattle.mixer.proofs.StartOrder.{render_is}
 use Rattle.mixer.proofs.rendering.render_with_progress.Goals as goal
 
 pub play-requires-clause-rising : goal.play-requires-clause-rising

@@ -14,7 +14,7 @@ returns-clause-left c =
     let el : SFits w16 (get_or c.args.ahead.now.sounds c.args.ahead.now.at (pos 0)) = search rules in
     let z : c.from-z.result ≡ get_or c.args.ahead.now.sounds c.args.ahead.now.at (pos 0) = omega (arith, ints) in
     let fits : SFits w32 c.from-z.result = omega (arith, ints) in
-    kept_word _ c.parted.ensures.low c.parted.ensures.high ∙ (simp to_z-of_z at c.parted.ensures.value)
+    kept_word _ c.panned.ensures.low c.panned.ensures.high ∙ (simp to_z-of_z at c.panned.ensures.value)
     ∙ ap (λ (y : ℤ). side y c.left_part.result) (z ∙ first.1)
     ∙ part_is v c.args.t 0 _ _ first.0 c.left_part.ensures.value c.right_part.ensures.value
 
@@ -25,7 +25,7 @@ returns-clause-right c =
     let el : SFits w16 (get_or c.args.ahead.now.sounds c.args.ahead.now.at (pos 0)) = search rules in
     let z : c.from-z.result ≡ get_or c.args.ahead.now.sounds c.args.ahead.now.at (pos 0) = omega (arith, ints) in
     let fits : SFits w32 c.from-z.result = omega (arith, ints) in
-    kept_word _ c.parted-2.ensures.low c.parted-2.ensures.high ∙ (simp to_z-of_z at c.parted-2.ensures.value)
+    kept_word _ c.panned-2.ensures.low c.panned-2.ensures.high ∙ (simp to_z-of_z at c.panned-2.ensures.value)
     ∙ ap (λ (y : ℤ). side y c.right_part.result) (z ∙ first.1)
     ∙ part_is v c.args.t 1 _ _ first.0 c.left_part.ensures.value c.right_part.ensures.value
 

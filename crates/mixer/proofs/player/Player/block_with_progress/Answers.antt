@@ -2,7 +2,7 @@ use Rattle.std.proofs.Common.{◌≡◌, ◌/◌, ◌∙◌, List, length, subst
 use Rattle.std.proofs.lemmas.Grind.{common_steps}
 use Rattle.mixer.specs.declared.playing.Playing.{Playing}
 use Rattle.mixer.specs.Events.{after_block}
-use Rattle.mixer.specs.Young.{AllSounding}
+use Rattle.mixer.specs.KeptVoices.{AllSounding}
 use Rattle.mixer.proofs.Parts.{nothing_after, nothing_heard}
 use Rattle.mixer.proofs.player.Player.block_with_progress.Goals as goal
 

@@ -3,7 +3,7 @@ use Rattle.std.proofs.lemmas.List.Elements.{All-append, All-filter}
 use Rattle.mixer.specs.declared.playing.Playing.{Playing}
 use Rattle.mixer.specs.Heard as heard
 use Rattle.mixer.specs.Events.{after_start, unsilenced, is_sounding}
-use Rattle.mixer.specs.Young.{AllYounger, AllSounding}
+use Rattle.mixer.specs.KeptVoices.{AllYounger, AllSounding}
 use Rattle.mixer.proofs.player.Player.start.Goals as goal
 
 pub invariant_of-self-2 : goal.invariant_of-self-2

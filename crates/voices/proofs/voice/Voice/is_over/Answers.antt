@@ -4,7 +4,7 @@ use Rattle.zone_select.specs.Select.{Voice}
 use Rattle.voices.specs.Place.{is_over}
 use Rattle.voices.specs.Sound.{Live}
 use Rattle.voices.proofs.AheadLemmas.{first_ahead}
-use Rattle.voices.proofs.voice.Voice.done.Goals as goal
+use Rattle.voices.proofs.voice.Voice.is_over.Goals as goal
 
 pub returns-else-self-eq0-clause-value : goal.returns-else-self-eq0-clause-value
 returns-else-self-eq0-clause-value c =
