@@ -169,8 +169,7 @@ fn add_both_sides(run: &[i16], left: u32, right: u32, sums: &mut [i32])
 }
 
 // Adds half of each frame to the sums of either side.
-#[inline(always)]
-fn add_each_half(run: &[i16], sums: &mut [i32])
+fn add_halves(run: &[i16], sums: &mut [i32])
     requires long { length sums.old ≡ 2 * length run.now }
     requires room { AllWithin 65534 sums.old }
     ensures { EachIndex sums.new (λ i. IsAdded (slice_index_or sums.old i (pos 0))
@@ -182,43 +181,6 @@ fn add_each_half(run: &[i16], sums: &mut [i32])
         sums[2 * k] += half;
         sums[2 * k + 1] += half;
     }
-}
-
-// The frames whose halves are added in one go.
-const AT_ONCE: usize = 8;
-
-// The same of the frames at the front, eight in one go: where the compiler knows how many they are, it adds to the sums of
-// all of them at once. Returns how many frames that are.
-fn add_eights(run: &[i16], sums: &mut [i32]) -> usize
-    requires long { length sums.old ≡ 2 * length run.now }
-    requires room { AllWithin 65534 sums.old }
-    ensures most { result ≤ length run.now }
-    ensures front { (i : ℕ) → i < 2 * result → IsAdded (slice_index_or sums.old i (pos 0))
-        (side (slice_index_or run.now (i / 2) (pos 0)) 500)
-        (slice_index_or sums.new i (pos 0)) }
-    ensures rest { (i : ℕ) → 2 * result ≤ i → slice_index_or sums.new i (pos 0) ≡ slice_index_or sums.old i (pos 0) }
-{
-    let mut at = 0;
-    while AT_ONCE <= run.len() - at {
-        add_each_half(
-            &run[at..at + AT_ONCE],
-            &mut sums[2 * at..2 * at + 2 * AT_ONCE],
-        );
-        at += AT_ONCE;
-    }
-    at
-}
-
-// Adds half of each frame to the sums of either side, most of them eight in one go.
-fn add_halves(run: &[i16], sums: &mut [i32])
-    requires long { length sums.old ≡ 2 * length run.now }
-    requires room { AllWithin 65534 sums.old }
-    ensures { EachIndex sums.new (λ i. IsAdded (slice_index_or sums.old i (pos 0))
-        (side (slice_index_or run.now (i / 2) (pos 0)) 500)
-        (slice_index_or sums.new i (pos 0))) }
-{
-    let front = add_eights(run, sums);
-    add_each_half(&run[front..], &mut sums[2 * front..]);
 }
 
 // Adds each frame's parts to the sums of both sides.

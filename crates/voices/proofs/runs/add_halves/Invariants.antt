@@ -1,7 +1,7 @@
 use Rattle.std.proofs.Common.{◌≡◌, ℕ, ◌*◌, ◌/◌, ◌<◌, ◌≤◌, pos, get_or}
 use Rattle.voices.specs.Levels.{side}
 use Rattle.voices.specs.Runs.{IsAdded}
-use Rattle.voices.proofs.runs.add_each_half.Given as goal
+use Rattle.voices.proofs.runs.add_halves.Given as goal
 
 abbrev pub invariant-loop-k : goal.invariant-loop-k
 invariant-loop-k l = record {
