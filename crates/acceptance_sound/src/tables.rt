@@ -28,13 +28,22 @@ fn frames_of_times(rt: HostRuntime) {
         frames_of_timecents(8000),
     ];
     assert!(rt; worked == [0, 43, 22050, 44100, 4_480_284]);
-    let ends = [frames_of_timecents(i64::MIN), frames_of_timecents(8001), frames_of_timecents(i64::MAX)];
+    let ends = [
+        frames_of_timecents(i64::MIN),
+        frames_of_timecents(8001),
+        frames_of_timecents(i64::MAX),
+    ];
     assert!(rt; ends == [0, 4_480_284, 4_480_284]);
 }
 
 #[test]
 fn attenuations_of_velocities(rt: HostRuntime) {
-    let worked = [velocity_attenuation(127), velocity_attenuation(64), velocity_attenuation(0), velocity_attenuation(255)];
+    let worked = [
+        velocity_attenuation(127),
+        velocity_attenuation(64),
+        velocity_attenuation(0),
+        velocity_attenuation(255),
+    ];
     assert!(rt; worked == [0, 119, 960, 0]);
 }
 

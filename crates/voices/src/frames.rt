@@ -10,7 +10,7 @@ use crate::sampled::point_of_place;
 use crate::sides::panned;
 use sample_view::Points;
 use sound_tables::gain;
-use voice_levels::{envelope_at, attenuated};
+use voice_levels::{attenuated, envelope_at};
 use zone_select::VoiceParameters;
 
 // What the left side gets, of 1000.
@@ -56,7 +56,10 @@ fn sound_of(points: &Points, v: &VoiceParameters, t: u64, x: u64) -> i32
     ensures high { result ≤ℤ pos 32767 }
 {
     let p = point_at_frame(points, v, t, x);
-    attenuated(attenuated(p, envelope_at(v, t)), gain(i64::from(v.attenuation)))
+    attenuated(
+        attenuated(p, envelope_at(v, t)),
+        gain(i64::from(v.attenuation)),
+    )
 }
 
 // Both sides of frame `t`, at which the voice isn't over, and whose place is `x`.
