@@ -1,11 +1,11 @@
 //! The calls of banks: what is told of one that is read, and one that is made of parts.
 
 use bank_core::{
-    Bank, GlobalZone, Head, InfoId, Kind, Members, Owner, Owners, Parts, PartsFault, Place, Sample,
-    Texts, WithZones, Zone, is_valid,
+    Bank, GlobalZone, Head, InfoId, Kind, Members, Owner, Owners, Part, Parts, PartsFault, Place,
+    Sample, Texts, WithZones, Zone, is_valid,
 };
 use bank_parts::OwnerHead;
-use generators::GenMap;
+use generators::{GenMap, Level};
 use numbered_lists::NumberedList;
 use sample_view::Points;
 use sf_base::{Failure, Lent, Name20, OutOfMemory};
@@ -60,6 +60,26 @@ fn tells_zones(bank: &Bank<'_>) -> bool {
             .mod_at(Owner::Instrument(0), Place::Zone(0), 1)
             .is_some_and(|modulator| modulator.amount == -2)
         && bank.mod_at(instrument, Place::Zone(1), 0).is_none()
+}
+
+/// What is told of the records of T's instrument: its zone has one bag, and its target is a generator.
+fn tells_records(bank: &Bank<'_>) -> bool {
+    let at = Level::Instrument;
+    let lengths = [Part::Heads, Part::Bags, Part::Gens, Part::Mods].map(|part| bank.rec_len(
+        at, part,
+    ));
+    lengths == [2, 2, 3, 1]
+        && bank.bag_of(at, 1) == Some(1)
+        && bank.bag_of(at, 2).is_none()
+        && bank.bag(at, 1) == Some((2, 0))
+        && bank.bag(at, 2).is_none()
+        && bank.gen_rec(at, 1) == Some((53, 0))
+        && bank.gen_rec(at, 2) == Some((0, 0))
+        && bank.gen_rec(at, 3).is_none()
+        && bank
+            .mod_rec(at, 0)
+            .is_some_and(|modulator| modulator.source == 0)
+        && bank.mod_rec(at, 1).is_none()
 }
 
 /// Whether a bank is written as this file.
@@ -218,7 +238,7 @@ fn a_bank_of_parts(rt: HostRuntime) -> Result<(), Fail> {
     let parts = tone_parts(rt.alloc(), 0)?;
     assert!(rt; is_valid(&parts));
     let written = match Bank::from_parts(rt.alloc(), parts) {
-        Ok(bank) => is_copied(rt.alloc(), &bank, &tone()),
+        Ok(bank) => tells_records(&bank) && is_copied(rt.alloc(), &bank, &tone()),
         Err(_) => false,
     };
     assert!(rt; written);

@@ -28,7 +28,7 @@ fn are_done<'a>(
     back: &mut Vec<u8>,
 ) -> bool {
     for line in lines {
-        if !is_done(alloc, bank, line.edit, back) {
+        if !is_done(alloc, bank, line.into_edit(), back) {
             return false;
         }
     }

@@ -6,6 +6,7 @@ mod fault;
 mod instruments;
 mod points;
 mod presets;
+mod records;
 mod samples;
 mod settings;
 mod splits;
@@ -21,3 +22,4 @@ pub use bank_parts::{
 };
 pub use bank_validity::is_valid;
 pub use fault::PartsFault;
+pub use records::Part;

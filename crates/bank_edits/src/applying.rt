@@ -32,9 +32,9 @@ pub fn apply<'a>(
     // The laws are called for what they say of the bank and of both edits.
     edit.fits();
     let _before = bank.samples();
-    let outcome = match edit {
-        Edit::One(step) => apply_step(alloc, bank, step),
-        Edit::Group(steps) => apply_group(alloc, bank, steps),
+    let outcome = match edit.into_steps() {
+        Ok(step) => apply_step(alloc, bank, step),
+        Err(steps) => apply_group(alloc, bank, steps),
     };
     let _after = bank.samples();
     if let Ok(back) = &outcome {

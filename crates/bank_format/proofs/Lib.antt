@@ -12,6 +12,7 @@ pub mod TableLaws
 pub mod SampleLaws
 pub mod IndexSteps
 pub mod FitLaws
+pub mod FlatLaws
 pub mod IndexLaws
 pub mod BankLaws
 pub mod PdtaLaws

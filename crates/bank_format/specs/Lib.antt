@@ -15,6 +15,7 @@ pub mod Windows
 pub mod Zones
 pub mod Tables
 pub mod Indexes
+pub mod FlatTables
 pub mod Canon
 pub mod Steps
 pub mod Texts

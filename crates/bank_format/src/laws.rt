@@ -6,6 +6,7 @@ ghost use Rattle.bank_parts.specs.Valid.{IsValid};
 ghost use Rattle.bank_parts.specs.Fits.{Fits};
 ghost use Rattle.bank_format.specs.Canon.{canon};
 ghost use Rattle.bank_format.specs.Indexes.{IndexesAreSums};
+ghost use Rattle.bank_format.specs.FlatTables.{TablesAreFlat};
 ghost use Rattle.bank_format.specs.Chunks.{window};
 ghost use Rattle.bank_format.specs.Reading.{content_in, no_counts};
 ghost use Rattle.bank_format.specs.ReadSteps.{fault_of, ReadsAs};
@@ -25,4 +26,9 @@ pub fn read_banks_are_valid()
 /// zones of the headers before it; a bag's, the generators and the modulators of the zones before it.
 pub fn indexes_are_sums()
     ensures { (b : Parts) → IndexesAreSums b }
+{}
+
+/// The tables of a bank are the flat lists of its presets and instruments, record by record.
+pub fn tables_are_flat_lists()
+    ensures { (b : Parts) → TablesAreFlat b }
 {}

@@ -10,5 +10,7 @@ mod names;
 
 pub use fault::{Counts, ReadFault};
 pub use heads::RecordedHead;
-pub use laws::{canonical_files_read_back, indexes_are_sums, read_banks_are_valid};
+pub use laws::{
+    canonical_files_read_back, indexes_are_sums, read_banks_are_valid, tables_are_flat_lists,
+};
 pub use names::{before_zero, name_of};

@@ -16,11 +16,21 @@ use std::io::Write;
 use std::marker::Model;
 
 /// How often each instrument is named by zones, each sample by zones, and each sample by other samples.
-#[derive(Drop)]
 pub(crate) struct Uses {
     instruments: Vec<u64>,
     samples: Vec<u64>,
     links: Vec<u64>,
+}
+
+// Not derived: a derived drop is written out, and proved, wherever a value is dropped; this one is a call.
+impl Drop for Uses {
+    fn drop(self) {
+        let Uses {
+            instruments: _,
+            samples: _,
+            links: _,
+        } = self;
+    }
 }
 
 impl Model for Uses {

@@ -21,3 +21,4 @@ pub mod RenumberLaws
 pub mod BagLaws
 pub mod CopyLaws
 pub mod OwnerLaws
+pub mod FlatListLaws

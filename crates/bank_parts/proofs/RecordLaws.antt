@@ -228,7 +228,7 @@ owner_mod_count op x =
     omega arith
 
 module _ {H : Type 0} (op : ℕ) where
-  all_zones : (owners : List (WithZones H)) → length (all_bags (map (bags_of op) owners)) ≡ sum_by (λ (x : WithZones H). zone_count x.global x.zones) owners
+  pub all_zones : (owners : List (WithZones H)) → length (all_bags (map (bags_of op) owners)) ≡ sum_by (λ (x : WithZones H). zone_count x.global x.zones) owners
   all_zones [] = refl
   all_zones (x ∷ xs) =
       let parts = length-append (bags_of op x) (all_bags (map (bags_of op) xs)) in
@@ -237,7 +237,7 @@ module _ {H : Type 0} (op : ℕ) where
       let sum = sum_by-cons (λ (x : WithZones H). zone_count x.global x.zones) x xs in
       omega arith
 
-  all_gens : (owners : List (WithZones H)) → length (gens_in (all_bags (map (bags_of op) owners))) ≡ sum_by (λ (x : WithZones H). gen_count x.global x.zones) owners
+  pub all_gens : (owners : List (WithZones H)) → length (gens_in (all_bags (map (bags_of op) owners))) ≡ sum_by (λ (x : WithZones H). gen_count x.global x.zones) owners
   all_gens [] = refl
   all_gens (x ∷ xs) =
       let all = ap length (gens_before op x (all_bags (map (bags_of op) xs))) in
@@ -247,7 +247,7 @@ module _ {H : Type 0} (op : ℕ) where
       let sum = sum_by-cons (λ (x : WithZones H). gen_count x.global x.zones) x xs in
       omega arith
 
-  all_mods : (owners : List (WithZones H)) → length (mods_in (all_bags (map (bags_of op) owners))) ≡ sum_by (λ (x : WithZones H). mod_count x.global x.zones) owners
+  pub all_mods : (owners : List (WithZones H)) → length (mods_in (all_bags (map (bags_of op) owners))) ≡ sum_by (λ (x : WithZones H). mod_count x.global x.zones) owners
   all_mods [] = refl
   all_mods (x ∷ xs) =
       let all = ap length (mods_before op x (all_bags (map (bags_of op) xs))) in

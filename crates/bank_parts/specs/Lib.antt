@@ -19,6 +19,7 @@ pub mod PlaceLaws
 pub mod ChangesUndone
 pub mod Bagged
 pub mod Flat
+pub mod FlatLists
 pub mod Room
 pub mod Changes
 pub mod Records

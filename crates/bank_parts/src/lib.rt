@@ -7,6 +7,7 @@ mod contents;
 mod copying;
 mod counting;
 mod fits;
+mod flat_lists;
 mod heads;
 mod laws;
 mod level_contents;

@@ -14,10 +14,26 @@ use sf_base::Failure;
 use std::alloc::Global;
 
 /// An edit of a script, and the number of its line, counted from 1.
-#[derive(Drop)]
 pub struct Line<'a> {
     pub number: u64,
     pub edit: Edit<'a>,
+}
+
+impl<'a> Line<'a> {
+    /// Its edit.
+    pub fn into_edit(self) -> Edit<'a>
+        ensures { result ≡ self.entry.edit }
+    {
+        let Line { number: _, edit } = self;
+        edit
+    }
+}
+
+// Not derived: a derived drop is written out, and proved, wherever a value is dropped; this one is a call.
+impl Drop for Line<'_> {
+    fn drop(self) {
+        let Line { number: _, edit: _ } = self;
+    }
 }
 
 /// The edits of a text with their lines, over the bytes of its literals; or the first fault from left

@@ -20,11 +20,21 @@ pub struct Recs {
 }
 
 /// A list of bags, in flat lists of records.
-#[derive(Drop)]
 pub struct Bags {
     pub(crate) bags: Vec<(u16, u16)>,
     pub(crate) gens: Vec<(u16, u16)>,
     pub(crate) mods: Vec<Modulator>,
+}
+
+// Not derived: a derived drop is written out, and proved, wherever a value is dropped; this one is a call.
+impl Drop for Bags {
+    fn drop(self) {
+        let Bags {
+            bags: _,
+            gens: _,
+            mods: _,
+        } = self;
+    }
 }
 
 impl Model for Bags {

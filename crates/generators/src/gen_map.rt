@@ -12,10 +12,17 @@ use std::marker::Model;
 /// A finite map from operators to amounts, in the canonical order: `keyRange`, then `velRange`, then
 /// the other operators by rising number. In a file the ranges come first, so that it can be written
 /// in this order (SoundFont 2.04, section 8.1.2).
-#[derive(Debug, Drop)]
+#[derive(Debug)]
 pub struct GenMap {
     // In canonical order, with no operator twice.
     entries: Vec<(u16, u16)>,
+}
+
+// Not derived: a derived drop is written out, and proved, wherever a value is dropped; this one is a call.
+impl Drop for GenMap {
+    fn drop(self) {
+        let GenMap { entries: _ } = self;
+    }
 }
 
 impl Model for GenMap {

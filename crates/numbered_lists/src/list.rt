@@ -11,9 +11,16 @@ use std::alloc::{AllocFailed, Global};
 use std::marker::Model;
 
 /// A list whose members go by their numbers, the first by 0.
-#[derive(Debug, Drop)]
+#[derive(Debug)]
 pub struct NumberedList<T> {
     vec: Vec<T>,
+}
+
+// Not derived: a derived drop is written out, and proved, wherever a value is dropped; this one is a call.
+impl<T: Drop> Drop for NumberedList<T> {
+    fn drop(self) {
+        let NumberedList { vec: _ } = self;
+    }
 }
 
 impl<T> Model for NumberedList<T> {

@@ -2,7 +2,7 @@
 ghost use Rattle.std.specs.Prelude.{◌≡◌, ◌≤◌, ◌<◌, length, slice_get, [], IsSome, IfOk, OnOk, IfSome};
 ghost use Rattle.flat_records.specs.Bags.{Bag, gens_in, mods_in, tables_of};
 ghost use Rattle.flat_records.specs.Stored.{Uses, no_records};
-ghost use Rattle.owner_bags.specs.Owned.{all_bags, bag_at};
+ghost use Rattle.owner_bags.specs.Owned.{all_bags, bag_at, flat_of};
 
 use crate::begins::place;
 use flat_records::Bags;
@@ -11,11 +11,17 @@ use std::alloc::{AllocError, Global};
 use std::marker::Model;
 
 /// A list of owners, presets or instruments, each with a list of bags, over the flat lists of records.
-#[derive(Drop)]
 pub struct OwnerBags {
     // Where each owner's bags begin, and last how many bags there are.
     pub(crate) begins: Vec<u16>,
     pub(crate) bags: Bags,
+}
+
+// Not derived: a derived drop is written out, and proved, wherever a value is dropped; this one is a call.
+impl Drop for OwnerBags {
+    fn drop(self) {
+        let OwnerBags { begins: _, bags: _ } = self;
+    }
 }
 
 impl Model for OwnerBags {
@@ -100,6 +106,21 @@ impl OwnerBags {
             self.bags.gen_count(),
             self.bags.mod_count(),
         )
+    }
+
+    /// Where the bags of each owner begin, and last how many bags there are.
+    pub fn begins(&self) -> &[u16]
+        ensures { result.now ≡ (flat_of self.now.owners).begins }
+    {
+        &self.begins
+    }
+
+    /// The records of the bags of all owners: the indexes of each one's first generator and modulator, and the
+    /// terminal.
+    pub fn bag_records(&self) -> &[(u16, u16)]
+        ensures { result.now ≡ (tables_of (all_bags self.now.owners)).bags }
+    {
+        self.bags.bag_records()
     }
 
     /// The records of the generators of all owners, with the terminal.

@@ -112,8 +112,8 @@ fn zone_behind(alloc: Global, line: &mut Cursor<'_, '_>) -> Result<Zone, Failure
     ensures { ReadsOrWants (λ z. z) zone_behind line.old line.new result }
 {
     let target = line.number(u32::from(u16::MAX))? as u16;
-    let GlobalZone { gens, mods } = items(alloc, line)?;
-    Ok(Zone { target, gens, mods })
+    let content = items(alloc, line)?;
+    Ok(content.into_zone(target))
 }
 
 // Whether no zone follows: no token is left, or the next closes what the zones stand in.

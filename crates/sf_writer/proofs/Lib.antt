@@ -1,8 +1,7 @@
 pub mod ChunkLemmas
 pub mod TextLemmas
 pub mod PointLemmas
-pub mod BagLemmas
-pub mod PlaceLemmas
+pub mod FlatLemmas
 pub mod ZoneListLemmas
 pub mod OwnerHeadLemmas
 pub mod RecordLemmas

@@ -1,11 +1,10 @@
 -- The heads of presets and of instruments, and how long they are.
-use Rattle.std.proofs.Common.{◌≡◌, ◌<◌, ◌≤◌, ◌+◌, ◌*◌, ◌%◌, ◌^◌, ℕ, List, [], ◌∷◌, ◌++◌, length, drop, slice_get, Some, refl, ap, sym, ◌∙◌, arith}
-use Rattle.std.specs.Prelude.{IfSome}
-use Rattle.std.specs.Option.{option_map}
+use Rattle.std.proofs.Common.{◌≡◌, ◌<◌, ◌+◌, ◌*◌, ◌%◌, ℕ, zero, suc, List, [], ◌∷◌, ◌++◌, length, get_or, drop, slice_get, Some, refl, ap, sym, ◌∙◌, arith}
 use Rattle.std.specs.List.{flat_map, concat, AllByRecursion}
-use Rattle.std.proofs.lemmas.List.{length-append, append-nil, drop_all}
-use Rattle.std.proofs.lemmas.List.Sums.{sum_by-cons}
+use Rattle.std.proofs.lemmas.List.{length-append, append-nil, at_drop_more, drop_all}
+use Rattle.std.proofs.lemmas.Option.{get_or_from_slice_get}
 use Rattle.byteorder.specs.Endian.{little_bytes}
+use Rattle.generators.specs.declared.level.Level.{Level}
 use Rattle.hydra_records.specs.declared.head.PresetHead.{PresetHead}
 use Rattle.hydra_records.specs.declared.head.InstrumentHead.{InstrumentHead}
 use Rattle.hydra_records.specs.Spelling.{preset_head_bytes, instrument_head_bytes}
@@ -13,63 +12,69 @@ use Rattle.bank_parts.specs.declared.parts.Head.{Head}
 use Rattle.bank_parts.specs.declared.parts.WithZones.{WithZones}
 use Rattle.bank_parts.specs.declared.parts.Parts.{Parts}
 use Rattle.bank_parts.specs.Owners.{head_at}
-use Rattle.bank_parts.specs.Valid.{zone_count, owner_total, IsPreset, IsInstrument, IsValid}
+use Rattle.bank_parts.specs.Valid.{IsPreset, IsInstrument, IsValid}
+use Rattle.bank_parts.specs.FlatLists.{lists_of}
 use Rattle.bank_format.specs.Ids.{EOP, EOI}
 use Rattle.bank_format.specs.Tables.{Headers, heads_from, bags_of, tables_of, presets, preset_written, preset_end, instruments, instrument_written, instrument_end}
+use Rattle.bank_format.specs.FlatTables.{headers_of}
 use Rattle.bank_format.proofs.NameLaws.{length-filled}
-use Rattle.sf_writer.proofs.BagLemmas.{length-bags_written}
-use Rattle.sf_writer.proofs.PlaceLemmas.{there, left_at}
+use Rattle.bank_format.proofs.FlatLaws.{heads-flat}
+
+-- ---- a member and those after it
+
+there : {X : Type 0} (xs : List X) (i : ℕ) → i < length xs → (x : X) × (slice_get xs i ≡ Some x)
+there [] i lt = absurd (omega arith)
+there (x ∷ xs) zero lt = (x, refl)
+there (x ∷ xs) (suc i) lt = there xs i (omega arith)
+
+left_at : {X : Type 0} (xs : List X) (i : ℕ) (x d : X) → i < length xs → x ≡ get_or xs i d → drop i xs ≡ x ∷ drop (i + 1) xs
+left_at xs i x d lt e = at_drop_more (λ ys. ys) xs i d lt ∙ ap (λ y. y ∷ drop (i + 1) xs) (sym e)
 
 -- ---- the heads of any
 
--- the bags from number i on are its own, and those after it
-module _ {H : Type 0} (owners : List (WithZones H)) (i at : ℕ) (lt : i < length owners) (room : at + owner_total zone_count (drop i owners) ≤ 65535) where
-  pub few_own : IfSome (slice_get owners i) (λ x. zone_count x.global x.zones < 2 ^ 16)
-  few_own =
-      let (x, is) = there owners i lt in
-      let left = ap (owner_total zone_count) (left_at owners i x lt is) in
-      let sum = sum_by-cons (λ (y : WithZones H). zone_count y.global y.zones) x (drop (i + 1) owners) in
-      rw is (omega (arith, room, left, sum))
-
-  pub few_after : (count : ℕ) → option_map (λ (x : WithZones H). zone_count x.global x.zones) (slice_get owners i) ≡ Some count → at + count + owner_total zone_count (drop (i + 1) owners) ≤ 65535
-  few_after count e =
-      let (x, is) = there owners i lt in
-      let many : zone_count x.global x.zones ≡ count = cc in
-      let left = ap (owner_total zone_count) (left_at owners i x lt is) in
-      let sum = sum_by-cons (λ (y : WithZones H). zone_count y.global y.zones) x (drop (i + 1) owners) in
-      omega (arith, room, left, sum, many)
-
 module _ {H R : Type 0} (bytes_of : R → List ℕ) (h : Headers H R) where
-  -- the bytes of the heads of these and of the last record, where so many bags stand before theirs
-  abbrev spelled : ℕ → List (WithZones H) → List ℕ
-  spelled at owners = flat_map bytes_of (heads_from h at owners)
+  -- the bytes of the heads of these, with these first bags, and of the last record
+  abbrev spelled : List (WithZones H) → List ℕ → List ℕ
+  spelled owners first_bags = flat_map bytes_of (headers_of h owners first_bags)
+
+  pub heads-start : (at : Level) (owners : List (WithZones H)) (first_bags : List ℕ) → h.level ≡ at → first_bags ≡ (lists_of at owners).first_bags
+      → flat_map bytes_of (heads_from h 0 owners) ≡ spelled owners first_bags
+  heads-start at owners first_bags level e =
+      ap (flat_map bytes_of) (heads-flat h owners)
+      ∙ (ap (λ (l : Level). spelled owners (lists_of l owners).first_bags) level
+      ∙ ap (spelled owners) (sym e))
 
   -- the heads from number i on are its own, and those after it
-  pub heads-next : (owners : List (WithZones H)) (i at count next : ℕ) (head : H) (r : R) (bytes : List ℕ) → i < length owners → head_at owners i ≡ Some head
-      → r ≡ h.written at head → bytes ≡ bytes_of r → option_map (λ (x : WithZones H). zone_count x.global x.zones) (slice_get owners i) ≡ Some count → next ≡ at + count
-      → spelled at (drop i owners) ≡ bytes ++ spelled next (drop (i + 1) owners)
-  heads-next owners i at count next head r bytes lt found made put counted sum =
-      let (x, is) = there owners i lt in
+  pub heads-next : (owners : List (WithZones H)) (first_bags : List ℕ) (i at : ℕ) (head : H) (r : R) (bytes : List ℕ) → i < length owners → i < length first_bags
+      → head_at owners i ≡ Some head → at ≡ get_or first_bags i 0 → r ≡ h.written at head → bytes ≡ bytes_of r
+      → spelled (drop i owners) (drop i first_bags) ≡ bytes ++ spelled (drop (i + 1) owners) (drop (i + 1) first_bags)
+  heads-next owners first_bags i at head r bytes lt within found is made put =
+      let (x, has) = there owners i lt in
       let own : x.head ≡ head = cc in
-      let many : zone_count x.global x.zones ≡ count = cc in
-      let after : at + length (bags_of h.level x) ≡ next = omega (arith, length-bags_written h.level x.global x.zones, many, sum) in
       let record_is : bytes_of (h.written at x.head) ≡ bytes = ap (λ (k : H). bytes_of (h.written at k)) own ∙ ap bytes_of (sym made) ∙ sym put in
-      ap (spelled at) (left_at owners i x lt is) ∙ (λ j. record_is j ++ spelled (after j) (drop (i + 1) owners))
+      (λ j. spelled (left_at owners i x x lt (sym (get_or_from_slice_get owners i x x has)) j) (left_at first_bags i at 0 within is j))
+      ∙ ap (λ (t : List ℕ). t ++ spelled (drop (i + 1) owners) (drop (i + 1) first_bags)) record_is
 
   -- after the last of them the last record is left
-  pub heads-last : (owners : List (WithZones H)) (i at : ℕ) (r : R) (bytes : List ℕ) → length owners ≤ i → r ≡ h.last at → bytes ≡ bytes_of r
-      → spelled at (drop i owners) ≡ bytes
-  heads-last owners i at r bytes le made put = ap (spelled at) (drop_all i owners le) ∙ append-nil (bytes_of (h.last at)) ∙ ap bytes_of (sym made) ∙ sym put
+  pub heads-last : (owners : List (WithZones H)) (first_bags : List ℕ) (n at : ℕ) (r : R) (bytes : List ℕ) → n ≡ length owners → n < length first_bags
+      → at ≡ get_or first_bags n 0 → r ≡ h.last at → bytes ≡ bytes_of r → spelled (drop n owners) (drop n first_bags) ≡ bytes
+  heads-last owners first_bags n at r bytes all within is made put =
+      (λ j. spelled (drop_all n owners (omega (arith, all)) j) (left_at first_bags n at 0 within is j))
+      ∙ append-nil (bytes_of (h.last at)) ∙ ap bytes_of (sym made) ∙ sym put
+
+  -- the bytes of the heads of these and of the last record, where so many bags stand before theirs
+  abbrev spelled_from : ℕ → List (WithZones H) → List ℕ
+  spelled_from at owners = flat_map bytes_of (heads_from h at owners)
 
   -- where each head has one size, and the last record too
   length-heads : (size : ℕ) (Fits : WithZones H → Type 0) → ((at : ℕ) (x : WithZones H) → Fits x → length (bytes_of (h.written at x.head)) ≡ size) → ((at : ℕ) → length (bytes_of (h.last at)) ≡ size)
-      → (at : ℕ) (owners : List (WithZones H)) → AllByRecursion Fits owners → length (spelled at owners) ≡ (length owners + 1) * size
+      → (at : ℕ) (owners : List (WithZones H)) → AllByRecursion Fits owners → length (spelled_from at owners) ≡ (length owners + 1) * size
   length-heads size Fits one end at [] v = omega (arith, length-append (bytes_of (h.last at)) [], end at)
   length-heads size Fits one end at (x ∷ owners) v =
       let next = at + length (bags_of h.level x) in
       omega (
         arith,
-        length-append (bytes_of (h.written at x.head)) (spelled next owners),
+        length-append (bytes_of (h.written at x.head)) (spelled_from next owners),
         one at x v.0,
         length-heads size Fits one end next owners v.1,
       )

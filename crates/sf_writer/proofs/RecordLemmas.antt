@@ -20,7 +20,7 @@ use Rattle.bank_format.specs.Canon.{pdta}
 use Rattle.sf_writer.specs.Lists.{zone_lists}
 use Rattle.sf_writer.proofs.ChunkLemmas.{length-form-even, length-LIST}
 use Rattle.bank_format.proofs.NameLaws.{length-filled}
-use Rattle.sf_writer.proofs.ZoneListLemmas.{length_zone_lists}
+use Rattle.sf_writer.proofs.ZoneListLemmas.{zone_lists-even}
 
 -- ---- the heads of samples
 
@@ -140,9 +140,9 @@ pdta-even b =
       arith,
       length-pdta b,
       length-chunk PHDR (flat_map preset_head_bytes (tables_of b).phdr) refl,
-      length_zone_lists level.Preset (all_bags level.Preset b.presets),
+      zone_lists-even level.Preset (all_bags level.Preset b.presets),
       length-chunk INST (flat_map instrument_head_bytes (tables_of b).inst) refl,
-      length_zone_lists level.Instrument (all_bags level.Instrument b.instruments),
+      zone_lists-even level.Instrument (all_bags level.Instrument b.instruments),
       length-shdr_list b,
     )
 

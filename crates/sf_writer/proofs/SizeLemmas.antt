@@ -15,7 +15,7 @@ use Rattle.bank_validity.specs.Limits.{totals_of}
 use Rattle.bank_parts.specs.Valid.{owner_total, zone_count, gen_count, mod_count, IsValid, IsWithin}
 use Rattle.sf_writer.specs.declared.sizes.ZoneSizes.{ZoneSizes}
 use Rattle.sf_writer.specs.Sizes.{AreZoneSizes}
-use Rattle.sf_writer.proofs.BagLemmas.{bag_records-length, mod_records-length, gen_records-length}
+use Rattle.sf_writer.proofs.FlatLemmas.{bag_records-length, mod_records-length, gen_records-length}
 use Rattle.bank_format.specs.Ids.{SFBK, INFO, SDTA, PDTA, PHDR, INST}
 use Rattle.bank_format.specs.Zones.{Bagged}
 use Rattle.bank_format.specs.Tables.{tables_of, bag_list, mod_list, gen_list, all_points, all_bags}

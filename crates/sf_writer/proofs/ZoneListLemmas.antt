@@ -1,5 +1,5 @@
 -- The three lists of the zones of a level as chunks.
-use Rattle.std.proofs.Common.{◌≡◌, ◌+◌, ◌*◌, ◌%◌, ℕ, List, ◌++◌, length, refl, ap, arith}
+use Rattle.std.proofs.Common.{◌≡◌, ◌+◌, ◌%◌, ℕ, List, ◌++◌, length, refl, ap, arith}
 use Rattle.std.specs.List.{flat_map}
 use Rattle.std.proofs.lemmas.List.{length-append, append-nil}
 use Rattle.generators.specs.declared.level.Level.{Level}
@@ -9,10 +9,9 @@ use Rattle.hydra_records.specs.Spelling.{bag_bytes, modulator_bytes, generator_b
 use Rattle.bank_format.specs.Ids.{PBAG, PMOD, PGEN, IBAG, IMOD, IGEN}
 use Rattle.bank_format.specs.Zones.{Bagged}
 use Rattle.bank_format.specs.Tables.{bag_list, mod_list, gen_list}
-use Rattle.sf_writer.specs.Bags.{all_gens, all_mods}
 use Rattle.sf_writer.specs.Lists.{bag_id, mod_id, gen_id, zone_lists}
 use Rattle.sf_writer.proofs.ChunkLemmas.{length-chunk-even}
-use Rattle.sf_writer.proofs.BagLemmas.{length-bag_list, length-mod_list, length-gen_list}
+use Rattle.sf_writer.proofs.FlatLemmas.{length-bags, length-mods, length-gens}
 
 -- ---- each list
 
@@ -41,13 +40,13 @@ length-gen_id Preset = refl
 length-gen_id Instrument = refl
 
 pub bags-even : (bags : List Bagged) → length (bag_records bags) % 2 ≡ 0
-bags-even bags = omega (arith, length-bag_list bags)
+bags-even bags = omega (arith, length-bags (bag_list bags))
 
 pub mods-even : (bags : List Bagged) → length (mod_records bags) % 2 ≡ 0
-mods-even bags = omega (arith, length-mod_list bags)
+mods-even bags = omega (arith, length-mods (mod_list bags))
 
 pub gens-even : (bags : List Bagged) → length (gen_records bags) % 2 ≡ 0
-gens-even bags = omega (arith, length-gen_list bags)
+gens-even bags = omega (arith, length-gens (gen_list bags))
 
 pub length-bag_chunk : (at : Level) (bags : List Bagged) → length (chunk (bag_id at) (bag_records bags)) ≡ 8 + length (bag_records bags)
 length-bag_chunk at bags = length-chunk-even (bag_id at) (bag_records bags) (length-bag_id at) (bags-even bags)
@@ -73,15 +72,15 @@ length-zone_chunks at bags =
       length-append (chunk (mod_id at) (mod_records bags)) (chunk (gen_id at) (gen_records bags)),
     )
 
-pub length_zone_lists : (at : Level) (bags : List Bagged) → length (spell (zone_lists at bags)) ≡ 24 + 4 * (length bags + 1) + 10 * (length (all_mods bags) + 1) + 4 * (length (all_gens bags) + 1)
-length_zone_lists at bags =
+pub zone_lists-even : (at : Level) (bags : List Bagged) → length (spell (zone_lists at bags)) % 2 ≡ 0
+zone_lists-even at bags =
     omega (
       arith,
       length-zone_chunks at bags,
       length-bag_chunk at bags,
       length-mod_chunk at bags,
       length-gen_chunk at bags,
-      length-bag_list bags,
-      length-mod_list bags,
-      length-gen_list bags,
+      bags-even bags,
+      mods-even bags,
+      gens-even bags,
     )

@@ -1,4 +1,3 @@
 pub mod Info
-pub mod Bags
 pub mod Lists
 pub mod Sizes

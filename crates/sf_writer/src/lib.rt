@@ -5,7 +5,6 @@
 //! the slice of the file that it was read from, and records and short runs of points go out together.
 #![tactic(auto)]
 
-mod bags;
 mod chunks;
 mod file;
 mod info;

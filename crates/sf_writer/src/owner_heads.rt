@@ -1,14 +1,12 @@
 //! The lists `phdr` and `inst`: the heads of presets and of instruments, which own zones (SoundFont
 //! 2.04, sections 7.2 and 7.6).
-ghost use Rattle.std.specs.Prelude.{◌≡◌, ◌<◌, ◌≤◌, ◌^◌, length, flat_map};
+ghost use Rattle.std.specs.Prelude.{◌≡◌, ◌<◌, ◌^◌, length, flat_map, slice_index_or};
 ghost use Rattle.outputs.specs.Output.{Puts};
 ghost use Rattle.hydra_records.specs.Spelling.{preset_head_bytes, instrument_head_bytes};
-ghost use Rattle.bank_parts.specs.Valid.{owner_total, zone_count};
 ghost use Rattle.bank_format.specs.Ids.{PHDR, INST};
 ghost use Rattle.bank_format.specs.Tables.{heads_from, tables_of};
 ghost use Rattle.sf_writer.specs.Lists.{table_bytes};
 
-use crate::bags::bag_count;
 use bank_core::Bank;
 use bank_format::RecordedHead;
 use bank_parts::Owners;
@@ -38,22 +36,26 @@ pub(crate) fn put_inst<W: Write>(output: &mut Output<'_, W>, bank: &Bank<'_>, si
 }
 
 // Each head says how many bags stand before those of its owner, and the last one how many there are.
-#[tactic(auto, using(outputs::proofs::OutputLaws::putting_start))]
 fn put_heads<const N: usize, H: RecordedHead, W: Write>(
     output: &mut Output<'_, W>,
     owners: &Owners<H>,
 )
 where
     H::Record: Spelled<N>,
-    requires few_bytes { N < 2 ^ 16 }
-    requires few_bags { owner_total zone_count owners.now ≤ 65535 }
+    requires { N < 2 ^ 16 }
     ensures { Puts W.contents output.old output.new
         (flat_map H.Record.bytes_of (heads_from H.headers 0 owners.now)) }
 {
-    let mut bag = 0;
+    let first_bags = owners.first_bags();
     for i in 0..owners.len() {
-        output.put(&owners.head(i).record(bag).put());
-        bag += bag_count(owners, i) as u16;
+        output.put(&owners.head(i).record(first_bag(first_bags, i)).put());
     }
-    output.put(&H::last(bag).put());
+    output.put(&H::last(first_bag(first_bags, owners.len())).put());
+}
+
+fn first_bag(first_bags: &[u16], i: usize) -> u16
+    requires { i < length first_bags.now }
+    ensures { result ≡ slice_index_or first_bags.now i 0 }
+{
+    first_bags[i]
 }

@@ -4,15 +4,12 @@ ghost use Rattle.std.specs.Prelude.{◌≡◌, length, map, flat_map};
 ghost use Rattle.outputs.specs.Output.{Puts};
 ghost use Rattle.riff_chunks.specs.Spelling.{spell};
 ghost use Rattle.hydra_records.specs.Spelling.{bag_bytes, modulator_bytes, generator_bytes};
-ghost use Rattle.bank_format.specs.Zones.{generator};
 ghost use Rattle.bank_format.specs.Tables.{bag_list, mod_list, gen_list, all_bags};
-ghost use Rattle.sf_writer.specs.Bags.{AreFew};
+ghost use Rattle.bank_format.specs.FlatTables.{bag_of, generator_of};
 ghost use Rattle.sf_writer.specs.Lists.{bag_id, mod_id, gen_id, table_bytes, zone_lists};
 ghost use Rattle.sf_writer.specs.Sizes.{AreZoneSizes};
 
-use crate::bags::{BagView, Bags};
 use crate::sizes::ZoneSizes;
-use crate::terminals::{generator_end, modulator_end};
 use bank_parts::{OwnerHead, Owners};
 use generators::Level;
 use hydra_records::{Bag, Generator, Spelled};
@@ -27,8 +24,7 @@ pub(crate) fn put_zone_lists<H: OwnerHead, W: Write>(
     owners: &Owners<H>,
     sizes: ZoneSizes,
 )
-    requires few { AreFew (all_bags H.LEVEL owners.now) }
-    requires sizes { AreZoneSizes (all_bags H.LEVEL owners.now) sizes }
+    requires { AreZoneSizes (all_bags H.LEVEL owners.now) sizes }
     ensures { Puts W.contents output.old output.new
         (spell (zone_lists H.LEVEL (all_bags H.LEVEL owners.now))) }
 {
@@ -37,35 +33,25 @@ pub(crate) fn put_zone_lists<H: OwnerHead, W: Write>(
     put_gens(output, owners, sizes.gens);
 }
 
-// ---- bags
-
 // Puts the list of bags, whose records have `size` bytes.
 fn put_bags<H: OwnerHead, W: Write>(output: &mut Output<'_, W>, owners: &Owners<H>, size: u32)
-    requires few { AreFew (all_bags H.LEVEL owners.now) }
-    requires size { size ≡ length (flat_map bag_bytes (bag_list (all_bags H.LEVEL owners.now))) }
+    requires { size ≡ length (flat_map bag_bytes (bag_list (all_bags H.LEVEL owners.now))) }
     ensures { Puts W.contents output.old output.new
         (table_bytes (bag_id H.LEVEL) bag_bytes (bag_list (all_bags H.LEVEL owners.now))) }
 {
     put_head(output, bag_id(H::LEVEL), size);
-    put_bag_records(output, owners);
+    put_bag_records(output, owners.bag_records());
 }
 
 // Each bag says how many generators and modulators stand before its own.
-fn put_bag_records<H: OwnerHead, W: Write>(output: &mut Output<'_, W>, owners: &Owners<H>)
-    requires { AreFew (all_bags H.LEVEL owners.now) }
-    ensures { Puts W.contents output.old output.new (flat_map bag_bytes (bag_list (all_bags H.LEVEL owners.now))) }
+#[tactic(auto, using(outputs::proofs::OutputLaws::putting_start, outputs::proofs::OutputLaws::putting_end))]
+fn put_bag_records<W: Write>(output: &mut Output<'_, W>, bags: &[(u16, u16)])
+    ensures { Puts W.contents output.old output.new (flat_map bag_bytes (map bag_of bags.now)) }
 {
-    let mut gens = 0;
-    let mut mods = 0;
-    for bag in Bags::of(owners) {
+    for &(gens, mods) in bags {
         output.put(&Bag { gens, mods }.put());
-        gens += bag.gen_count() as u16;
-        mods += bag.mods().len() as u16;
     }
-    output.put(&Bag { gens, mods }.put());
 }
-
-// ---- modulators
 
 // Puts the list of modulators, whose records have `size` bytes.
 fn put_mods<H: OwnerHead, W: Write>(output: &mut Output<'_, W>, owners: &Owners<H>, size: u32)
@@ -74,30 +60,17 @@ fn put_mods<H: OwnerHead, W: Write>(output: &mut Output<'_, W>, owners: &Owners<
         (table_bytes (mod_id H.LEVEL) modulator_bytes (mod_list (all_bags H.LEVEL owners.now))) }
 {
     put_head(output, mod_id(H::LEVEL), size);
-    put_mod_records(output, owners);
+    put_mod_records(output, owners.mod_records());
 }
 
-fn put_mod_records<H: OwnerHead, W: Write>(output: &mut Output<'_, W>, owners: &Owners<H>)
-    ensures { Puts W.contents output.old output.new
-        (flat_map modulator_bytes (mod_list (all_bags H.LEVEL owners.now))) }
-{
-    for bag in Bags::of(owners) {
-        put_mods_of(output, bag.mods());
-    }
-    output.put(&modulator_end().put());
-}
-
-// The modulators of one bag.
 #[tactic(auto, using(outputs::proofs::OutputLaws::putting_start, outputs::proofs::OutputLaws::putting_end))]
-fn put_mods_of<W: Write>(output: &mut Output<'_, W>, mods: &[Modulator])
+fn put_mod_records<W: Write>(output: &mut Output<'_, W>, mods: &[Modulator])
     ensures { Puts W.contents output.old output.new (flat_map modulator_bytes mods.now) }
 {
     for modulator in mods {
         output.put(&modulator.put());
     }
 }
-
-// ---- generators
 
 // Puts the list of generators, whose records have `size` bytes.
 fn put_gens<H: OwnerHead, W: Write>(output: &mut Output<'_, W>, owners: &Owners<H>, size: u32)
@@ -106,36 +79,15 @@ fn put_gens<H: OwnerHead, W: Write>(output: &mut Output<'_, W>, owners: &Owners<
         (table_bytes (gen_id H.LEVEL) generator_bytes (gen_list (all_bags H.LEVEL owners.now))) }
 {
     put_head(output, gen_id(H::LEVEL), size);
-    put_gen_records(output, owners);
+    put_gen_records(output, owners.gen_records());
 }
 
-fn put_gen_records<H: OwnerHead, W: Write>(output: &mut Output<'_, W>, owners: &Owners<H>)
-    ensures { Puts W.contents output.old output.new
-        (flat_map generator_bytes (gen_list (all_bags H.LEVEL owners.now))) }
-{
-    for bag in Bags::of(owners) {
-        put_gens_of(output, &bag);
-    }
-    output.put(&generator_end().put());
-}
-
-// The generators of one bag: the target comes last.
-fn put_gens_of<W: Write>(output: &mut Output<'_, W>, bag: &BagView<'_>)
-    ensures { Puts W.contents output.old output.new (flat_map generator_bytes bag.now.gens) }
-{
-    put_entries(output, bag.entries);
-    if let Some(target) = bag.target {
-        output.put(&target.put());
-    }
-}
-
-// Operators and amounts as generators.
+// Each zone's target is the last of its generators.
 #[tactic(auto, using(outputs::proofs::OutputLaws::putting_start, outputs::proofs::OutputLaws::putting_end))]
-fn put_entries<W: Write>(output: &mut Output<'_, W>, entries: &[(u16, u16)])
-    ensures { Puts W.contents output.old output.new
-        (flat_map generator_bytes (map (λ e. generator e.0 e.1) entries.now)) }
+fn put_gen_records<W: Write>(output: &mut Output<'_, W>, gens: &[(u16, u16)])
+    ensures { Puts W.contents output.old output.new (flat_map generator_bytes (map generator_of gens.now)) }
 {
-    for &(operator, amount) in entries {
+    for &(operator, amount) in gens {
         output.put(&Generator { operator, amount }.put());
     }
 }

@@ -22,10 +22,16 @@ use std::alloc::Global;
 
 /// The edited bank, and the edits that take its edits back, the last one's first. They borrow from the
 /// bank's file and from the script's pool.
-#[derive(Drop)]
 pub(crate) struct Plan<'a> {
     pub(crate) bank: Bank<'a>,
     pub(crate) undo: Vec<Edit<'a>>,
+}
+
+// Not derived: a derived drop is written out, and proved, wherever a value is dropped; this one is a call.
+impl Drop for Plan<'_> {
+    fn drop(self) {
+        let Plan { bank: _, undo: _ } = self;
+    }
 }
 
 /// Runs a script of edits of these forms on a bank, over the pool of its literals, and tells how far it is.
@@ -111,9 +117,10 @@ fn apply_line<'a>(alloc: Global, bank: &mut Bank<'a>, line: Line<'a>) -> Result<
     ensures done { IfOk result (λ back. IsDone bank.old bank.new line.entry.edit back) }
     ensures refused { (rest : List Line) → IfErr result (λ fault. StopsAtLine fault (first_refused bank.old (line.entry ∷ rest))) }
 {
-    match apply(alloc, bank, line.edit) {
+    let number = line.number;
+    match apply(alloc, bank, line.into_edit()) {
         Ok(back) => Ok(back),
         Err((Refusal::OutOfMemory, _edit)) => Err(RunFault::Memory),
-        Err((why, _edit)) => Err(RunFault::Refused(line.number, why)),
+        Err((why, _edit)) => Err(RunFault::Refused(number, why)),
     }
 }

@@ -4,15 +4,8 @@ use Rattle.riff_chunks.specs.Spelling.{spell}
 use Rattle.bank_format.specs.Tables.{all_bags}
 use Rattle.outputs.proofs.OutputLaws.{puts_as, puts_row, puts_then}
 use Rattle.sf_writer.specs.Lists.{zone_lists}
-use Rattle.sf_writer.proofs.BagLemmas.{few_preset_bags, few_instrument_bags}
 use Rattle.sf_writer.proofs.RecordLemmas.{pdta-is}
 use Rattle.sf_writer.proofs.records.put_lists.Goals as goal
-
-pub put_zone_lists-requires-clause-few : goal.put_zone_lists-requires-clause-few
-put_zone_lists-requires-clause-few g c = rw c.presets.ensures.value (few_preset_bags _ c.presets.ensures.valid)
-
-pub put_zone_lists-requires-2-clause-few : goal.put_zone_lists-requires-2-clause-few
-put_zone_lists-requires-2-clause-few g c = rw c.instruments.ensures.value (few_instrument_bags _ c.instruments.ensures.valid)
 
 pub returns : goal.returns
 returns g c =

@@ -1,13 +1,6 @@
-use Rattle.std.proofs.Common.{◌∙◌, sym}
-use Rattle.outputs.proofs.OutputLaws.{puts_as, putting_from, putting_step, putting_last}
-use Rattle.sf_writer.proofs.BagLemmas.{mods-start, mods-next, mods-last}
+use Rattle.outputs.proofs.OutputLaws.{putting_step}
+use Rattle.sf_writer.proofs.FlatLemmas.{mods_at}
 use Rattle.sf_writer.proofs.zone_lists.put_mod_records.Goals as goal
 
-pub loop-bag-init : goal.loop-bag-init
-loop-bag-init g c = (tt, tt, putting_from _ _ (mods-start _ _ (c.into_iter-bag-iterator.ensures.into_iter_gives ∙ c.of-bag-items.ensures)))
-
-pub loop-bag-preserved : goal.loop-bag-preserved
-loop-bag-preserved g c = (tt, tt, putting_step _ _ c.loop-bag.invariant.2 (mods-next _ _ _ _ c.in-Some.ensures.steps c.mods.ensures) c.put_mods_of.ensures)
-
-pub returns : goal.returns
-returns g c = putting_last c.loop-bag.invariant.2 (puts_as _ _ (sym (mods-last _ _ _ c.in-None.ensures.steps.0 c.modulator_end.ensures c.put.ensures)) c.put-2.ensures)
+pub loop-modulator-preserved : goal.loop-modulator-preserved
+loop-modulator-preserved g c = putting_step c.put.result _ c.loop-modulator.invariant (mods_at _ c.loop-modulator.modulator-index _ _ c.loop-modulator-test.true c.put.ensures) c.put-in-loop-modulator.ensures

@@ -1,11 +1,8 @@
+use Rattle.std.proofs.Common.{drop}
 use Rattle.std.specs.List.{flat_map}
 use Rattle.hydra_records.specs.Spelling.{modulator_bytes}
-use Rattle.bank_format.specs.Tables.{mod_list, all_bags}
 use Rattle.outputs.proofs.OutputLaws.{Putting}
 use Rattle.sf_writer.proofs.zone_lists.put_mod_records.Given as goal
 
-abbrev pub invariant-loop-bag : goal.invariant-loop-bag
-invariant-loop-bag g l =
-    (goal.iterator-loop-bag g).can_next l.bag-iterator ×
-    (goal.iterator-loop-bag g).is_finite l.bag-iterator ×
-    Putting g.W.Write.contents l.initial.output l.output (flat_map modulator_bytes (mod_list (all_bags g.H.OwnerHead.LEVEL l.fn.owners))) (flat_map modulator_bytes (mod_list l.bag-iterator))
+abbrev pub invariant-loop-modulator : goal.invariant-loop-modulator
+invariant-loop-modulator g l = Putting g.W.Write.contents l.initial.output l.output (flat_map modulator_bytes l.mods) (flat_map modulator_bytes (drop l.modulator-index l.mods))

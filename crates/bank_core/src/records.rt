@@ -1,0 +1,92 @@
+//! The records of a bank's presets and instruments, as a file has them. Nothing here takes memory.
+ghost use Rattle.std.specs.Prelude.{◌≡◌, slice_get};
+ghost use Rattle.bank_parts.specs.FlatLists.{flat_of, lists_of};
+ghost use Rattle.bank_core.specs.Records.{record_count};
+
+use crate::bank::Bank;
+use bank_parts::{OwnerHead, Owners};
+use generators::Level;
+use modulators::Modulator;
+
+/// The lists of records that a file has of presets, and of instruments (SoundFont 2.04, sections 7.2 to 7.9).
+#[derive(Clone, Copy, Debug, PartialEq, Eq)]
+pub enum Part {
+    /// `phdr` or `inst`.
+    Heads,
+    /// `pbag` or `ibag`.
+    Bags,
+    /// `pgen` or `igen`.
+    Gens,
+    /// `pmod` or `imod`.
+    Mods,
+}
+
+impl<'a> Bank<'a> {
+    /// How many records a list has, its terminal counted: 1 up to 65,536.
+    pub fn rec_len(&self, level: Level, part: Part) -> u32
+        ensures { result ≡ record_count (flat_of level self.now) part }
+    {
+        match level {
+            Level::Preset => list_len(self.presets(), part) as u32,
+            Level::Instrument => list_len(self.instruments(), part) as u32,
+        }
+    }
+
+    /// The number of the first bag of preset or instrument `i`, and of the terminal the number of all bags; none
+    /// past it.
+    pub fn bag_of(&self, level: Level, i: u32) -> Option<u16>
+        ensures { result ≡ slice_get (flat_of level self.now).first_bags i }
+    {
+        let first_bags = match level {
+            Level::Preset => self.presets().first_bags(),
+            Level::Instrument => self.instruments().first_bags(),
+        };
+        first_bags.get(i as usize).copied()
+    }
+
+    /// The numbers of the first generator and the first modulator of bag `k`, and of the terminal the numbers of
+    /// all; none past it.
+    pub fn bag(&self, level: Level, k: u32) -> Option<(u16, u16)>
+        ensures { result ≡ slice_get (flat_of level self.now).bags k }
+    {
+        let bags = match level {
+            Level::Preset => self.presets().bag_records(),
+            Level::Instrument => self.instruments().bag_records(),
+        };
+        bags.get(k as usize).copied()
+    }
+
+    /// The operator and the amount of generator `j` of all, of the terminal zeros; none past it. A zone's target
+    /// is its last generator.
+    pub fn gen_rec(&self, level: Level, j: u32) -> Option<(u16, u16)>
+        ensures { result ≡ slice_get (flat_of level self.now).gens j }
+    {
+        let gens = match level {
+            Level::Preset => self.presets().gen_records(),
+            Level::Instrument => self.instruments().gen_records(),
+        };
+        gens.get(j as usize).copied()
+    }
+
+    /// Modulator `j` of all, and the terminal, of zeros; none past it.
+    pub fn mod_rec(&self, level: Level, j: u32) -> Option<Modulator>
+        ensures { result ≡ slice_get (flat_of level self.now).mods j }
+    {
+        let mods = match level {
+            Level::Preset => self.presets().mod_records(),
+            Level::Instrument => self.instruments().mod_records(),
+        };
+        mods.get(j as usize).copied()
+    }
+}
+
+fn list_len<H: OwnerHead>(owners: &Owners<H>, part: Part) -> usize
+    ensures { result ≡ record_count (lists_of H.LEVEL owners.now) part }
+{
+    match part {
+        Part::Heads => owners.first_bags().len(),
+        Part::Bags => owners.bag_records().len(),
+        Part::Gens => owners.gen_records().len(),
+        Part::Mods => owners.mod_records().len(),
+    }
+}

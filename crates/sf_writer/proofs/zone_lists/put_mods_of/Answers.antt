@@ -1,6 +1,0 @@
-use Rattle.outputs.proofs.OutputLaws.{putting_step}
-use Rattle.sf_writer.proofs.BagLemmas.{mods_at}
-use Rattle.sf_writer.proofs.zone_lists.put_mods_of.Goals as goal
-
-pub loop-modulator-preserved : goal.loop-modulator-preserved
-loop-modulator-preserved g c = putting_step c.put.result _ c.loop-modulator.invariant (mods_at _ c.loop-modulator.modulator-index _ _ c.loop-modulator-test.true c.put.ensures) c.put-in-loop-modulator.ensures
