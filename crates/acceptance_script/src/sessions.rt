@@ -82,9 +82,10 @@ fn a_session_goes_back_and_forth(rt: HostRuntime) -> Result<(), Fail> {
 /// Whether an edit that the bank refuses is returned, and leaves the edit that was taken back.
 fn leaves_the_redo(alloc: Global, session: &mut Session<'_>) -> bool {
     let remove = Edit::One(Step::RemoveSample { sample: 1 });
-    let refused = match session.edit(alloc, remove) {
+    let outcome = session.edit(alloc, remove);
+    let refused = match &outcome {
         Err((Refusal::Of(Cause::NoSuchSample), Edit::One(Step::RemoveSample { sample }))) => {
-            sample == 1
+            *sample == 1
         }
         _ => false,
     };
