@@ -83,7 +83,7 @@ fn tells_records(bank: &Bank<'_>) -> bool {
 }
 
 /// Whether a bank is written as this file.
-fn is_written(alloc: Global, bank: &Bank<'_>, file: &File) -> bool {
+pub(crate) fn is_written(alloc: Global, bank: &Bank<'_>, file: &File) -> bool {
     let mut out = Vec::new(alloc);
     encoded_len(bank) == file.bytes().len() as u64
         && write(bank, &mut out).is_ok()
@@ -149,7 +149,7 @@ fn one_zone(
     )
 }
 
-fn one<T: Drop>(alloc: Global, member: T) -> Result<NumberedList<T>, OutOfMemory> {
+pub(crate) fn one<T: Drop>(alloc: Global, member: T) -> Result<NumberedList<T>, OutOfMemory> {
     let mut members = Vec::new(alloc);
     members.push(member)?;
     Ok(NumberedList::from_vec(members))
@@ -170,23 +170,27 @@ fn one_owner<H: OwnerHead>(
     Ok(owners)
 }
 
-fn preset(alloc: Global, name: Name20) -> Result<Owners<Head>, OutOfMemory> {
-    let head = Head {
+/// What a preset of this name has besides its zones.
+pub(crate) fn head(name: Name20) -> Head {
+    Head {
         name,
         number: 0,
         bank: 0,
         library: 0,
         genre: 0,
         morphology: 0,
-    };
-    one_owner(alloc, head, one_zone(alloc, 0, None)?)
+    }
+}
+
+fn preset(alloc: Global, name: Name20) -> Result<Owners<Head>, OutOfMemory> {
+    one_owner(alloc, head(name), one_zone(alloc, 0, None)?)
 }
 
 fn instrument(alloc: Global, name: Name20, target: u16) -> Result<Owners<Name20>, OutOfMemory> {
     one_owner(alloc, name, one_zone(alloc, target, Some(54))?)
 }
 
-fn sample<'a>(
+pub(crate) fn sample<'a>(
     alloc: Global,
     name: Name20,
     points: Points<'a>,
@@ -206,7 +210,7 @@ fn sample<'a>(
 }
 
 /// The texts with the engine EMU8000, the others empty.
-fn texts<'a>() -> Texts<'a> {
+pub(crate) fn texts<'a>() -> Texts<'a> {
     Texts {
         engine: Lent::new(b"EMU8000"),
         name: Lent::new(b""),

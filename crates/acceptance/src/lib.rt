@@ -6,6 +6,8 @@
 mod banks;
 #[cfg(test)]
 mod details;
+#[cfg(test)]
+mod flat_banks;
 mod lists;
 #[cfg(test)]
 mod long_work;

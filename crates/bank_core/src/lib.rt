@@ -3,6 +3,8 @@
 
 mod bank;
 mod fault;
+mod flat;
+mod flat_heads;
 mod instruments;
 mod points;
 mod presets;
@@ -22,4 +24,7 @@ pub use bank_parts::{
 };
 pub use bank_validity::is_valid;
 pub use fault::PartsFault;
+pub use flat::Flat;
+pub use flat_heads::{FlatHeads, HeadRecord};
+pub use flat_records::Recs;
 pub use records::Part;

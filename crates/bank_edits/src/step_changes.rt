@@ -53,91 +53,105 @@ pub(crate) fn change_step<'a>(
     ensures no_memory { GrowsNothing step.entry → IsOk result }
 {
     match step {
-        Step::AddPreset { at, preset } => add_preset(bank, at, preset),
-        Step::RemovePreset { preset } => remove_preset(alloc, bank, preset),
-        Step::MovePreset { from, to } => Ok(move_preset(bank, from, to)),
+        Step::AddPreset { at, .. } => add_preset(bank, at, step.into_preset()),
+        Step::RemovePreset { preset, .. } => remove_preset(alloc, bank, preset),
+        Step::MovePreset { from, to, .. } => Ok(move_preset(bank, from, to)),
         Step::SetHead {
             preset,
-            name,
             number,
             bank: bank_number,
-        } => Ok(set_head(bank, preset, name, number, bank_number)),
-        Step::AddInstrument { at, instrument } => add_instrument(bank, at, instrument),
-        Step::RemoveInstrument { instrument } => remove_instrument(alloc, bank, instrument),
-        Step::RenameInstrument { instrument, name } => {
-            Ok(rename_instrument(bank, instrument, name))
+            ..
+        } => Ok(set_head(bank, preset, step.into_name(), number, bank_number)),
+        Step::AddInstrument { at, .. } => { add_instrument(bank, at, step.into_instrument()) }
+        Step::RemoveInstrument { instrument, .. } => remove_instrument(alloc, bank, instrument),
+        Step::RenameInstrument { instrument, .. } => {
+            Ok(rename_instrument(bank, instrument, step.into_name()))
         }
-        Step::MoveInstrument { from, to } => Ok(move_instrument(bank, from, to)),
-        Step::RenameSample { sample, name } => Ok(rename_sample(bank, sample, name)),
-        Step::AddSample { at, sample } => add_sample(bank, at, sample),
-        Step::RemoveSample { sample } => Ok(remove_sample(bank, sample)),
-        Step::MoveSample { from, to } => Ok(move_sample(bank, from, to)),
+        Step::MoveInstrument { from, to, .. } => Ok(move_instrument(bank, from, to)),
+        Step::RenameSample { sample, .. } => Ok(rename_sample(bank, sample, step.into_name())),
+        Step::AddSample { at, .. } => add_sample(bank, at, step.into_sample()),
+        Step::RemoveSample { sample, .. } => Ok(remove_sample(bank, sample)),
+        Step::MoveSample { from, to, .. } => Ok(move_sample(bank, from, to)),
         Step::Trim {
             sample,
             front,
             back,
+            ..
         } => trim(alloc, bank, sample, front, back),
-        Step::Extend {
-            sample,
-            front,
-            back,
-        } => extend(bank, sample, front, back),
-        Step::SetLoop { sample, looped } => Ok(set_loop(bank, sample, looped)),
-        Step::SetKind { sample, kind } => Ok(set_kind(bank, sample, kind)),
+        Step::Extend { sample, .. } => {
+            let (front, back) = step.into_points();
+            extend(bank, sample, front, back)
+        }
+        Step::SetLoop { sample, looped, .. } => Ok(set_loop(bank, sample, looped)),
+        Step::SetKind { sample, kind, .. } => Ok(set_kind(bank, sample, kind)),
         Step::SetTune {
             sample,
             rate,
             key,
             correction,
+            ..
         } => Ok(set_tune(bank, sample, rate, key, correction)),
-        Step::AddZone { owner, at, zone } => add_zone(bank, owner, at, zone),
-        Step::RemoveZone { owner, zone } => remove_zone(alloc, bank, owner, zone),
-        Step::MoveZone { owner, from, to } => Ok(move_zone(bank, owner, from, to)),
+        Step::AddZone { owner, at, .. } => add_zone(bank, owner, at, step.into_zone()),
+        Step::RemoveZone { owner, zone, .. } => remove_zone(alloc, bank, owner, zone),
+        Step::MoveZone {
+            owner,
+            from,
+            to,
+            ..
+        } => Ok(move_zone(bank, owner, from, to)),
         Step::SplitZone {
             owner,
             zone,
             axis,
             at,
+            ..
         } => split_zone(alloc, bank, owner, zone, axis, at),
         Step::JoinZone {
             owner,
             zone,
             axis,
             keep,
+            ..
         } => join_zone(alloc, bank, owner, zone, axis, keep),
         Step::SetTarget {
             owner,
             zone,
             target,
+            ..
         } => Ok(set_target(bank, owner, zone, target)),
         Step::SetGen {
             owner,
             place,
             operator,
             amount,
+            ..
         } => set_gen(bank, owner, place, operator, amount),
         Step::ClearGen {
             owner,
             place,
             operator,
+            ..
         } => Ok(clear_gen(bank, owner, place, operator)),
         Step::AddMod {
             owner,
             place,
             index,
             modulator,
+            ..
         } => add_mod(bank, owner, place, index, modulator),
         Step::RemoveMod {
             owner,
             place,
             index,
+            ..
         } => Ok(remove_mod(bank, owner, place, index)),
         Step::SetMod {
             owner,
             place,
             index,
             modulator,
+            ..
         } => Ok(set_mod(bank, owner, place, index, modulator)),
-        Step::SetInfo { id, text } => Ok(set_info(bank, id, text)),
+        Step::SetInfo { id, .. } => Ok(set_info(bank, id, step.into_text())),
     }
 }

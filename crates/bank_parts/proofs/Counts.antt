@@ -11,9 +11,8 @@ use Rattle.modulators.specs.declared.modulator.Modulator.{Modulator}
 use Rattle.bank_parts.specs.declared.counting.Records.{Records}
 use Rattle.bank_parts.specs.declared.parts.GlobalZone.{GlobalZone}
 use Rattle.bank_parts.specs.declared.parts.Zone.{Zone}
-use Rattle.bank_parts.specs.declared.parts.WithZones.{WithZones}
 use Rattle.bank_parts.specs.Valid.{global_count}
-use Rattle.bank_parts.specs.Counts.{records_of_zone, records_of_global, records_of, records_of_owner, records_total, records_sum, counted, all_counted}
+use Rattle.bank_parts.specs.Counts.{records_of_zone, records_of_global, records_of, records_total, records_sum, counted, all_counted}
 
 -- nothing is held where both are empty
 pub none_held : (gens : Gens) (mods : List Modulator) → gens ≡ empty → (mods ≡ []) ↔ (len gens + length mods ≡ 0)

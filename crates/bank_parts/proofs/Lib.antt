@@ -22,3 +22,4 @@ pub mod BagLaws
 pub mod CopyLaws
 pub mod OwnerLaws
 pub mod FlatListLaws
+pub mod FromFlatLaws

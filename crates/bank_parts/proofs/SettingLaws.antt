@@ -5,14 +5,12 @@ use Rattle.std.specs.Prelude.{slice_get, slice_set}
 use Rattle.std.specs.Option.{option_map, option_and_then}
 use Rattle.numbered_lists.specs.Moved.{changed}
 use Rattle.numbered_lists.proofs.Lists.{changed-found, changed-back, slice_get-changed, slice_set_same}
-use Rattle.generators.specs.Gens.{Gens}
-use Rattle.modulators.specs.declared.modulator.Modulator.{Modulator}
 use Rattle.bank_parts.specs.declared.owners.ZonePlace.{ZonePlace}
 use Rattle.bank_parts.specs.declared.owners.ZonePlace.TheVariants as place
 use Rattle.bank_parts.specs.declared.parts.Zone.{Zone}
 use Rattle.bank_parts.specs.declared.parts.WithZones.{WithZones}
 use Rattle.bank_parts.specs.Owners.{gens_at, mods_at}
-use Rattle.bank_parts.specs.Settings.{Settings, settings_of_zone, zone_with_settings, settings_in, settings_changed, settings_at, place_changed, with_zones, with_gens, with_mods}
+use Rattle.bank_parts.specs.Settings.{Settings, settings_of_zone, zone_with_settings, settings_in, settings_changed, settings_at, with_zones}
 use Rattle.bank_parts.specs.PlaceLaws.{PlaceRead, ZonesRead, PlaceReturns, ZonesReturn, PlaceKept, ZonesKept, OthersStay, OthersKeepZones, PlacesStay, GlobalStays, HeadsStay, HeadsStayByZones, TargetsStay}
 
 -- ---- options

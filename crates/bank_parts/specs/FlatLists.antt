@@ -1,5 +1,5 @@
 -- The flat lists that a file has of presets, and of instruments.
-use Rattle.std.specs.Prelude.{ℕ, List, map}
+use Rattle.std.specs.Prelude.{◌≡◌, ℕ, List, map}
 use Rattle.generators.specs.Levels.{target_operator}
 use Rattle.generators.specs.declared.level.Level.{Level}
 use Rattle.generators.specs.declared.level.Level.TheVariants as level
@@ -30,6 +30,11 @@ lists_of_bags owners = record {
 
 abbrev pub lists_of : {H : Type 0} → Level → List (WithZones H) → FlatLists
 lists_of at owners = lists_of_bags (map (bags_of (target_operator at)) owners)
+
+-- the heads, and the flat lists, are those of these presets or instruments
+pub record AreFlat {H : Type 0} (at : Level) (hs : List H) (lists : FlatLists) (owners : List (WithZones H)) : Type 0 where
+  pub heads : hs ≡ map (λ x. x.head) owners
+  pub flat : lists ≡ lists_of at owners
 
 -- the presets, or the instruments, of a bank
 abbrev pub flat_of : Level → Parts → FlatLists

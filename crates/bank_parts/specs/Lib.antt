@@ -20,6 +20,7 @@ pub mod ChangesUndone
 pub mod Bagged
 pub mod Flat
 pub mod FlatLists
+pub mod OwnBags
 pub mod Room
 pub mod Changes
 pub mod Records

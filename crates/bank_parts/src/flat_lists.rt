@@ -1,12 +1,43 @@
 //! The flat lists of presets or of instruments, as a file has them.
-ghost use Rattle.std.specs.Prelude.{◌≡◌};
-ghost use Rattle.bank_parts.specs.FlatLists.{lists_of};
+ghost use Rattle.std.specs.Prelude.{◌≡◌, List, MatchOption, IfSome};
+ghost use Rattle.std.specs.List.{AllByRecursion};
+ghost use Rattle.generators.specs.Levels.{target_operator};
+ghost use Rattle.bank_parts.specs.declared.parts.WithZones.{WithZones};
+ghost use Rattle.bank_parts.specs.Bagged.{IsPlainOwner};
+ghost use Rattle.bank_parts.specs.FlatLists.{AreFlat, lists_of};
 
 use crate::heads::OwnerHead;
+use crate::level_contents::gens_fit;
+use crate::own_bags::are_all_bags;
 use crate::owners::Owners;
+use flat_records::Recs;
 use modulators::Modulator;
+use numbered_lists::NumberedList;
+use owner_bags::OwnerBags;
 
 impl<H: OwnerHead> Owners<H> {
+    /// Those that have these heads and flat lists, where there are some, none of whose maps has the operator of
+    /// the targets. Takes no memory.
+    pub fn from_flat(heads: NumberedList<H>, first_bags: Vec<u16>, recs: Recs) -> Option<Owners<H>>
+        ensures lists { MatchOption result
+            ((owners : List (WithZones H)) → AllByRecursion (IsPlainOwner (target_operator H.LEVEL)) owners
+            → ¬ AreFlat H.LEVEL heads (record { first_bags = first_bags.items; bags = recs.bags.items; gens = recs.gens.items; mods = recs.mods.items }) owners)
+            (λ owners. AreFlat H.LEVEL heads (record { first_bags = first_bags.items; bags = recs.bags.items; gens = recs.gens.items; mods = recs.mods.items }) owners) }
+        ensures plain { IfSome result (λ owners. AllByRecursion (IsPlainOwner (target_operator H.LEVEL)) owners) }
+    {
+        let Some(bags) = OwnerBags::from_flat(first_bags, recs) else {
+            return None;
+        };
+        if heads.len() != bags.owner_count() {
+            return None;
+        }
+        if !are_all_bags(&bags, Self::operator()) {
+            return None;
+        }
+        gens_fit(bags.gen_records());
+        Some(Owners { heads, bags })
+    }
+
     /// The number of each one's first bag, and last how many bags there are (SoundFont 2.04, sections 7.2 and
     /// 7.6, `wPresetBagNdx` and `wInstBagNdx`).
     pub fn first_bags(&self) -> &[u16]

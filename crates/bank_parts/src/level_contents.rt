@@ -85,8 +85,8 @@ fn heads_fit<H: OwnerHead>(heads: &[H])
     }
 }
 
-// The law that operators and amounts are in the ranges of their fields. It does nothing.
-fn gens_fit(gens: &[(u16, u16)])
+/// The law that operators and amounts are in the ranges of their fields. It does nothing.
+pub(crate) fn gens_fit(gens: &[(u16, u16)])
     ensures { FitEntries gens.now }
 {
     for entry in gens {

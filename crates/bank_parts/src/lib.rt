@@ -11,6 +11,7 @@ mod flat_lists;
 mod heads;
 mod laws;
 mod level_contents;
+mod own_bags;
 mod owner_changes;
 mod owner_copies;
 mod owners;

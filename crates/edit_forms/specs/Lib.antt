@@ -1,2 +1,3 @@
 pub use Rattle.sf_base.specs.Names
+pub mod Contents
 pub mod Fits

@@ -1,4 +1,6 @@
 //! The steps that change a bank, and that what each carries is in the range of its field.
+ghost use Rattle.std.specs.Prelude.{◌≡◌, Some, IsSome};
+ghost use Rattle.edit_forms.specs.Contents.{preset_in, instrument_in, sample_in, zone_in, points_in, name_in, text_in};
 ghost use Rattle.edit_forms.specs.Fits.{FitsNumberOf, FitsPlace, FitsStep};
 
 use bank_changes::{Owner, Place};
@@ -10,7 +12,6 @@ use zone_ranges::{Axis, Keep};
 
 /// A step that changes a bank: one variant for each form of the edit script. Numbers are counted from
 /// 0. It borrows the points and texts that it carries.
-#[derive(Drop)]
 pub enum Step<'a> {
     // ---- presets
     /// `add-preset P NAME NUMBER BANK LIBRARY GENRE MORPHOLOGY GLOBAL? ZONE*`: the preset is put in as
@@ -195,7 +196,213 @@ pub enum Step<'a> {
     },
 }
 
+// Not derived: a derived drop is written out, and proved, wherever a value is dropped; this one is a call.
+impl Drop for Step<'_> {
+    fn drop(self) {
+        match self {
+            Step::AddPreset { at: _, preset: _ } => {}
+            Step::RemovePreset { preset: _ } => {}
+            Step::MovePreset { from: _, to: _ } => {}
+            Step::SetHead {
+                preset: _,
+                name: _,
+                number: _,
+                bank: _,
+            } => {}
+            Step::AddInstrument {
+                at: _,
+                instrument: _,
+            } => {}
+            Step::RemoveInstrument { instrument: _ } => {}
+            Step::RenameInstrument {
+                instrument: _,
+                name: _,
+            } => {}
+            Step::MoveInstrument { from: _, to: _ } => {}
+            Step::RenameSample { sample: _, name: _ } => {}
+            Step::AddSample { at: _, sample: _ } => {}
+            Step::RemoveSample { sample: _ } => {}
+            Step::MoveSample { from: _, to: _ } => {}
+            Step::Trim {
+                sample: _,
+                front: _,
+                back: _,
+            } => {}
+            Step::Extend {
+                sample: _,
+                front: _,
+                back: _,
+            } => {}
+            Step::SetLoop {
+                sample: _,
+                looped: _,
+            } => {}
+            Step::SetKind { sample: _, kind: _ } => {}
+            Step::SetTune {
+                sample: _,
+                rate: _,
+                key: _,
+                correction: _,
+            } => {}
+            Step::AddZone {
+                owner: _,
+                at: _,
+                zone: _,
+            } => {}
+            Step::RemoveZone { owner: _, zone: _ } => {}
+            Step::MoveZone {
+                owner: _,
+                from: _,
+                to: _,
+            } => {}
+            Step::SplitZone {
+                owner: _,
+                zone: _,
+                axis: _,
+                at: _,
+            } => {}
+            Step::JoinZone {
+                owner: _,
+                zone: _,
+                axis: _,
+                keep: _,
+            } => {}
+            Step::SetTarget {
+                owner: _,
+                zone: _,
+                target: _,
+            } => {}
+            Step::SetGen {
+                owner: _,
+                place: _,
+                operator: _,
+                amount: _,
+            } => {}
+            Step::ClearGen {
+                owner: _,
+                place: _,
+                operator: _,
+            } => {}
+            Step::AddMod {
+                owner: _,
+                place: _,
+                index: _,
+                modulator: _,
+            } => {}
+            Step::RemoveMod {
+                owner: _,
+                place: _,
+                index: _,
+            } => {}
+            Step::SetMod {
+                owner: _,
+                place: _,
+                index: _,
+                modulator: _,
+            } => {}
+            Step::SetInfo { id: _, text: _ } => {}
+        }
+    }
+}
+
 impl<'a> Step<'a> {
+    // ---- what a step brings, for who takes it apart
+
+    /// The preset that it adds.
+    pub fn into_preset(self) -> Preset
+        requires { IsSome (preset_in self) }
+        ensures { preset_in self.entry ≡ Some result }
+    {
+        match self {
+            Step::AddPreset { at: _, preset } => preset,
+            _ => unreachable!(),
+        }
+    }
+
+    /// The instrument that it adds.
+    pub fn into_instrument(self) -> Instrument
+        requires { IsSome (instrument_in self) }
+        ensures { instrument_in self.entry ≡ Some result }
+    {
+        match self {
+            Step::AddInstrument { at: _, instrument } => instrument,
+            _ => unreachable!(),
+        }
+    }
+
+    /// The sample that it adds.
+    pub fn into_sample(self) -> Sample<'a>
+        requires { IsSome (sample_in self) }
+        ensures { sample_in self.entry ≡ Some result }
+    {
+        match self {
+            Step::AddSample { at: _, sample } => sample,
+            _ => unreachable!(),
+        }
+    }
+
+    /// The zone that it adds.
+    pub fn into_zone(self) -> Zone
+        requires { IsSome (zone_in self) }
+        ensures { zone_in self.entry ≡ Some result }
+    {
+        match self {
+            Step::AddZone {
+                owner: _,
+                at: _,
+                zone,
+            } => zone,
+            _ => unreachable!(),
+        }
+    }
+
+    /// The points that it puts before a sample's own and after them.
+    pub fn into_points(self) -> (Points<'a>, Points<'a>)
+        requires { IsSome (points_in self) }
+        ensures { points_in self.entry ≡ Some (result.0, result.1) }
+    {
+        match self {
+            Step::Extend {
+                sample: _,
+                front,
+                back,
+            } => (front, back),
+            _ => unreachable!(),
+        }
+    }
+
+    /// The name that it gives.
+    pub fn into_name(self) -> Name20
+        requires { IsSome (name_in self) }
+        ensures { name_in self.entry ≡ Some result }
+    {
+        match self {
+            Step::SetHead {
+                preset: _,
+                name,
+                number: _,
+                bank: _,
+            }
+            | Step::RenameInstrument {
+                instrument: _,
+                name,
+            }
+            | Step::RenameSample { sample: _, name } => name,
+            _ => unreachable!(),
+        }
+    }
+
+    /// The text that it sets.
+    pub fn into_text(self) -> Lent<'a>
+        requires { IsSome (text_in self) }
+        ensures { text_in self.entry ≡ Some result }
+    {
+        match self {
+            Step::SetInfo { id: _, text } => text,
+            _ => unreachable!(),
+        }
+    }
+
     /// The law that each number, name and text is in the range of its field. It does nothing.
     pub fn fits(&self)
         ensures { FitsStep self.now }

@@ -3,6 +3,7 @@ pub mod MapLaws
 pub mod Entries
 pub mod Maps
 pub mod Search
+pub mod Rising
 pub mod EntryLaws
 pub mod SettingLaws
 pub mod LevelLaws

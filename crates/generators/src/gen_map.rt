@@ -1,8 +1,8 @@
 //! The generators that a zone sets.
-ghost use Rattle.std.specs.Prelude.{◌≡◌, ◌↔◌, ◌≤◌, IsTrue, IsSome, IsOk, IfOk, IfErr, OnOk, OnErr, slice_get};
+ghost use Rattle.std.specs.Prelude.{◌≡◌, ◌↔◌, ◌≤◌, ◌<◌, ◌+◌, ℕ, length, IsTrue, IsSome, IsOk, IfOk, IfErr, OnOk, OnErr, slice_get};
 ghost use Rattle.std.specs.FinMap as map;
 ghost use Rattle.generators.specs.Gens.{rank, FitGens, AreInOrder, AreGens};
-ghost use Rattle.generators.specs.Places.{IsAt, IsGapFor};
+ghost use Rattle.generators.specs.Places.{IsAt, IsGapFor, operator_at};
 
 use crate::operators;
 use sf_base::OutOfMemory;
@@ -158,6 +158,24 @@ pub fn search_entries(entries: &[(u16, u16)], operator: u16) -> Result<usize, us
     ensures absent { IfErr result (λ at. IsGapFor entries.now operator at) }
 {
     entries.binary_search_by_key(&rank(operator), |&(other, _)| rank(other))
+}
+
+/// Whether entries are in canonical order, with no operator twice.
+pub fn are_in_order(entries: &[(u16, u16)]) -> bool
+    ensures { IsTrue result ↔ AreInOrder entries.now }
+{
+    ranks_rise(entries)
+}
+
+fn ranks_rise(entries: &[(u16, u16)]) -> bool
+    ensures { IsTrue result ↔ ((k : ℕ) → k + 1 < length entries.now → rank (operator_at entries.now k) < rank (operator_at entries.now (k + 1))) }
+{
+    for k in 1..entries.len() {
+        if rank(entries[k].0) <= rank(entries[k - 1].0) {
+            return false;
+        }
+    }
+    true
 }
 
 // The place of an operator in the canonical order.

@@ -9,7 +9,7 @@ pub mod operators;
 mod range;
 mod rules;
 
-pub use gen_map::{GenMap, search_entries};
+pub use gen_map::{GenMap, are_in_order, search_entries};
 pub use level::Level;
 pub use range::Range;
 pub use rules::{allowed, default_of, is_range_operator};

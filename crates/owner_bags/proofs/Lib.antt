@@ -2,3 +2,4 @@ pub mod Owners
 pub mod Places
 pub mod Turns
 pub mod Comings
+pub mod Converse

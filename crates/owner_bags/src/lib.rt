@@ -5,5 +5,6 @@ mod bag_changes;
 mod begins;
 mod owned;
 mod owner_changes;
+mod reading;
 
 pub use owned::OwnerBags;

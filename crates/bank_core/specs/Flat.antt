@@ -1,0 +1,14 @@
+-- A bank as the flat lists that a file has.
+use Rattle.std.specs.Prelude.{◌≡◌}
+use Rattle.generators.specs.declared.level.Level.TheVariants as level
+use Rattle.bank_parts.specs.declared.parts.Parts.{Parts}
+use Rattle.bank_core.specs.declared.flat.Flat.{Flat}
+use Rattle.bank_core.specs.Heads.{AreFlatOf}
+
+-- all lists are those of the bank
+pub record IsFlatOf (f : Flat) (b : Parts) : Type 0 where
+  pub minor : f.minor ≡ b.minor
+  pub texts : f.texts ≡ b.texts
+  pub presets : AreFlatOf level.Preset f.preset_heads (record { bags = f.presets.bags.items; gens = f.presets.gens.items; mods = f.presets.mods.items }) b.presets
+  pub instruments : AreFlatOf level.Instrument f.instrument_heads (record { bags = f.instruments.bags.items; gens = f.instruments.gens.items; mods = f.instruments.mods.items }) b.instruments
+  pub samples : f.samples ≡ b.samples
