@@ -1,141 +1,110 @@
--- Targets that are renumbered one after the other.
-use Rattle.std.proofs.Common.{◌≡◌, ℕ, ◌<◌, ◌^◌, zero, suc, List, [], ◌∷◌, ◌++◌, length, map, take, drop, slice_get, set, Option, Some, None, refl, sym, subst, ◌∙◌, ap, arith}
+-- Targets that are renumbered: each generator of their operator, in all bags.
+use Rattle.std.proofs.Common.{if◌then◌else◌, ◌≡◌, ◌<◌, ◌^◌, ◌==◌, ◌+◌, ℕ, Bool, true, false, true≢false, List, [], ◌∷◌, ◌++◌, length, map, refl, sym, subst, ◌∙◌, ap}
 use Rattle.std.specs.Prelude.{All}
-use Rattle.std.specs.Option.{IfSome, IsSomeAnd, option_map, option_and_then}
+use Rattle.std.specs.List.{AllByRecursion}
+use Rattle.std.specs.FinMap.{entries, len}
+use Rattle.std.proofs.lemmas.List.{map-append}
+use Rattle.std.proofs.lemmas.List.Elements.{All-from_recursion, recursion_from_All}
 use Rattle.numbered_lists.specs.declared.renumbering.Renumbering.{Renumbering}
 use Rattle.numbered_lists.specs.Renumbered.{renumbered}
-use Rattle.numbered_lists.specs.Moved.{changed}
-use Rattle.numbered_lists.proofs.Lists.{slice_get-found, slice_get-within, slice_get-changed, changed-found, slice_set_same, All-found}
+use Rattle.flat_records.specs.Bags.{Bag, gens_in}
+use Rattle.flat_records.specs.Renumbered.{gen_renumbered, bag_renumbered, CanRenumber}
+use Rattle.owner_bags.specs.Owned.{all_bags}
+use Rattle.bank_parts.specs.declared.parts.GlobalZone.{GlobalZone}
 use Rattle.bank_parts.specs.declared.parts.Zone.{Zone}
 use Rattle.bank_parts.specs.declared.parts.WithZones.{WithZones}
-use Rattle.bank_parts.specs.declared.owners.ZonePlace.TheVariants as place
-use Rattle.bank_parts.specs.Owners.{HasPlace, zone_count_at, target_at}
-use Rattle.bank_parts.specs.Settings.{with_zones}
-use Rattle.bank_parts.specs.ZoneChanges.{target_set, with_target}
+use Rattle.bank_parts.specs.Bagged.{zone_bag, global_bag, global_bags, bags_of, IsPlain, IsPlainOwner}
+use Rattle.bank_parts.specs.Flat.{AreOf}
 use Rattle.bank_parts.specs.Renumbered.{zone_renumbered, owner_renumbered, CanRenumberOwner}
-use Rattle.bank_parts.proofs.RoomLaws.{changed-twice}
+use Rattle.bank_parts.proofs.RecordLaws.{same_op, others, owner_gens, gens_before}
 
--- ---- the first members sent through f
+all_join : {X : Type 0} (P : X → Type 0) (xs ys : List X) → AllByRecursion P xs → AllByRecursion P ys → AllByRecursion P (xs ++ ys)
+all_join P [] ys p q = q
+all_join P (x ∷ xs) ys p q = (p.0, all_join P xs ys p.1 q)
 
-abbrev pub firsts : {X : Type 0} → (X → X) → List X → ℕ → List X
-firsts f xs k = map f (take k xs) ++ drop k xs
+module _ (op : ℕ) (by : Renumbering) where
+  -- ---- what follows
 
-module _ {X : Type 0} (f : X → X) where
-  pub all_firsts : (xs : List X) (n : ℕ) → n ≡ length xs → firsts f xs n ≡ map f xs
-  all_firsts [] zero e = refl
-  all_firsts [] (suc n) e = absurd (omega arith)
-  all_firsts (x ∷ xs) zero e = absurd (omega arith)
-  all_firsts (x ∷ xs) (suc n) e = ap (λ ys. f x ∷ ys) (all_firsts xs n (omega arith))
+  other_stays : (e : ℕ × ℕ) → (e.0 == op) ≡ false → gen_renumbered op by e ≡ e
+  other_stays e h = rw h refl
 
-  pub first_next : (xs : List X) (k : ℕ) → slice_get (firsts f xs k) k ≡ slice_get xs k
-  first_next [] zero = refl
-  first_next [] (suc k) = refl
-  first_next (x ∷ xs) zero = refl
-  first_next (x ∷ xs) (suc k) = first_next xs k
+  others_stay : (es : List (ℕ × ℕ)) → AllByRecursion (λ e. (e.0 == op) ≡ false) es → map (gen_renumbered op by) es ≡ es
+  others_stay [] h = refl
+  others_stay (e ∷ es) h = λ i. other_stays e h.0 i ∷ others_stay es h.1 i
 
-  -- one more
-  pub next_firsts : (xs : List X) (k : ℕ) (x : X) → slice_get xs k ≡ Some x → set (firsts f xs k) k (f x) ≡ firsts f xs (suc k)
-  next_firsts [] k x e = cc
-  next_firsts (y ∷ ys) zero x e = let same : y ≡ x = cc in ap (λ z. f z ∷ ys) (sym same)
-  next_firsts (y ∷ ys) (suc k) x e = ap (λ zs. f y ∷ zs) (next_firsts ys k x e)
+  target_follows : (target : ℕ) → gen_renumbered op by (op, target) ≡ (op, renumbered by target)
+  target_follows target = rw (same_op op) refl
 
-  pub firsts_size : (xs : List X) (k : ℕ) → length (firsts f xs k) ≡ length xs
-  firsts_size [] zero = refl
-  firsts_size [] (suc k) = refl
-  firsts_size (x ∷ xs) zero = refl
-  firsts_size (x ∷ xs) (suc k) = ap suc (firsts_size xs k)
+  zone_follows : (z : Zone) → IsPlain op z.gens → bag_renumbered op by (zone_bag op z) ≡ zone_bag op (zone_renumbered by z)
+  zone_follows z p =
+      let gens = map-append (gen_renumbered op by) (entries z.gens) ((op, z.target) ∷ [])
+      ∙ (λ i. others_stay (entries z.gens) (others op z.gens p) i ++ target_follows z.target i ∷ []) in
+      λ i. record { gens = gens i; mods = z.mods }
 
--- ---- the zones of one owner
+  zones_follow : (zones : List Zone) → AllByRecursion (λ (z : Zone). IsPlain op z.gens) zones → map (bag_renumbered op by) (map (zone_bag op) zones) ≡ map (zone_bag op) (map (zone_renumbered by) zones)
+  zones_follow [] p = refl
+  zones_follow (z ∷ zs) p = λ i. zone_follows z p.0 i ∷ zones_follow zs p.1 i
 
-abbrev pub owner_firsts : {H : Type 0} → Renumbering → ℕ → WithZones H → WithZones H
-owner_firsts by k x = with_zones (firsts (zone_renumbered by) x.zones k) x
+  global_stays : (c : Bool) (g : GlobalZone) → IsPlain op g.gens → map (bag_renumbered op by) (if c then [] else (global_bag g ∷ [])) ≡ (if c then [] else (global_bag g ∷ []))
+  global_stays true g p = refl
+  global_stays false g p =
+      let gens = others_stay (entries g.gens) (others op g.gens p) in
+      λ i. record { gens = gens i; mods = g.mods } ∷ []
 
-module _ {H : Type 0} (by : Renumbering) (owners : List (WithZones H)) (i : ℕ) where
-  pub none_yet : i < length owners → owners ≡ changed owners i (owner_firsts by 0)
-  none_yet within =
-      let (x, there) = slice_get-found owners i within in
-      sym (changed-found owners i (owner_firsts by 0) x there ∙ slice_set_same owners i x there)
+  module _ {H : Type 0} where
+    owner_follows : (x : WithZones H) → IsPlainOwner op x → map (bag_renumbered op by) (bags_of op x) ≡ bags_of op (owner_renumbered by x)
+    owner_follows x p =
+        map-append (bag_renumbered op by) (global_bags x.global) (map (zone_bag op) x.zones)
+        ∙ (λ i. global_stays (len x.global.gens + length x.global.mods == 0) x.global p.global i ++ zones_follow x.zones p.zones i)
 
--- zone k of owner i, where the zones before it are renumbered
-pub record NextZone {H : Type 0} (by : Renumbering) (owners mid : List (WithZones H)) (i k : ℕ) : Type 0 where
-  pub owner : WithZones H
-  pub zone : Zone
-  pub there : slice_get owners i ≡ Some owner
-  pub seen : slice_get owner.zones k ≡ Some zone
-  pub now : slice_get mid i ≡ Some (owner_firsts by k owner)
-  pub zone_now : slice_get (firsts (zone_renumbered by) owner.zones k) k ≡ Some zone
+    owners_follow : (owners : List (WithZones H)) → AllByRecursion (IsPlainOwner op) owners
+        → map (λ bags. map (bag_renumbered op by) bags) (map (bags_of op) owners) ≡ map (bags_of op) (map (owner_renumbered by) owners)
+    owners_follow [] p = refl
+    owners_follow (x ∷ xs) p = λ i. owner_follows x p.0 i ∷ owners_follow xs p.1 i
 
-counted_owner : {H : Type 0} (o : Option (WithZones H)) (n : ℕ) → option_map (λ (x : WithZones H). length x.zones) o ≡ Some n → (x : WithZones H) × (o ≡ Some x) × (length x.zones ≡ n)
-counted_owner None n e = cc
-counted_owner (Some x) n e = (x, refl, cc)
+    heads_stay : (owners : List (WithZones H)) → map (λ (x : WithZones H). x.head) owners ≡ map (λ (x : WithZones H). x.head) (map (owner_renumbered by) owners)
+    heads_stay [] = refl
+    heads_stay (x ∷ xs) = ap (λ hs. x.head ∷ hs) (heads_stay xs)
 
-pub next_zone : {H : Type 0} (by : Renumbering) (owners mid : List (WithZones H)) (i k n : ℕ) → mid ≡ changed owners i (owner_firsts by k) → zone_count_at owners i ≡ Some n → k < n → NextZone by owners mid i k
-next_zone {H} by owners mid i k n m count within =
-    let f = counted_owner (slice_get owners i) n count in
-    let size : length f.0.zones ≡ n = f.2 in
-    let z : (z : Zone) × (slice_get f.0.zones k ≡ Some z) = slice_get-found f.0.zones k (omega arith) in
-    record {
-      owner = f.0;
-      zone = z.0;
-      there = f.1;
-      seen = z.1;
-      now = ap (λ os. slice_get os i) m ∙ slice_get-changed owners i (owner_firsts by k) f.0 f.1;
-      zone_now = first_next (zone_renumbered by) f.0.zones k ∙ z.1;
-    }
+  zones_plain : (zones : List Zone) → AllByRecursion (λ (z : Zone). IsPlain op z.gens) zones → AllByRecursion (λ (z : Zone). IsPlain op z.gens) (map (zone_renumbered by) zones)
+  zones_plain [] p = tt
+  zones_plain (z ∷ zs) p = (p.0, zones_plain zs p.1)
 
-module _ {H : Type 0} {by : Renumbering} {owners mid : List (WithZones H)} {i k : ℕ} (z : NextZone by owners mid i k) where
-  pub next_place : HasPlace mid i (place.Zone k)
-  next_place =
-      let within = slice_get-within (firsts (zone_renumbered by) z.owner.zones k) k z.zone z.zone_now in
-      subst (λ o. IsSomeAnd (option_map (λ (x : WithZones H). length x.zones) o) (λ n. k < n)) (sym z.now) within
+  owners_plain : {H : Type 0} (owners : List (WithZones H)) → AllByRecursion (IsPlainOwner op) owners → AllByRecursion (IsPlainOwner op) (map (owner_renumbered by) owners)
+  owners_plain [] p = tt
+  owners_plain (x ∷ xs) p = let own = p.0 in (record { global = own.global; zones = zones_plain x.zones own.zones }, owners_plain xs p.1)
 
-  pub next_target : (target : ℕ) → target_at mid i k ≡ Some target → z.zone.target ≡ target
-  next_target target e =
-      let seen : target_at mid i k ≡ Some z.zone.target = ap (λ o. option_map (λ (z : Zone). z.target) (option_and_then (λ (x : WithZones H). slice_get x.zones k) o)) z.now ∙ ap (option_map (λ (z : Zone). z.target)) z.zone_now in
-      cc
+  pub all_follow : {H : Type 0} {heads : List H} {bags : List (List Bag)} {owners : List (WithZones H)} → AreOf op heads bags owners
+      → (new : List (List Bag)) → new ≡ map (λ bags. map (bag_renumbered op by) bags) bags → AreOf op heads new (map (owner_renumbered by) owners)
+  all_follow {owners = owners} a new e = record {
+    heads = a.heads ∙ heads_stay owners;
+    bags = e ∙ (ap (map (λ bags. map (bag_renumbered op by) bags)) a.bags ∙ owners_follow owners a.plain);
+    plain = owners_plain owners a.plain;
+  }
 
-  pub next_fits : (target : ℕ) → target_at mid i k ≡ Some target → IfSome (slice_get owners i) (CanRenumberOwner by) → renumbered by target < 2 ^ 16
-  next_fits target e can =
-      let all = subst (λ o. IfSome o (CanRenumberOwner by)) z.there can in
-      let own = All-found (λ (z : Zone). renumbered by z.target < 2 ^ 16) z.owner.zones k z.zone z.seen all in
-      subst (λ t. renumbered by t < 2 ^ 16) (next_target target e) own
+  -- ---- that it can
 
-  pub next_done : (target new : ℕ) (next : List (WithZones H)) → mid ≡ changed owners i (owner_firsts by k) → target_at mid i k ≡ Some target → new ≡ renumbered by target → next ≡ target_set mid i k new
-      → next ≡ changed owners i (owner_firsts by (suc k))
-  next_done target new next m e is n =
-      let x = z.owner in
-      let f = zone_renumbered by in
-      let same : new ≡ renumbered by z.zone.target = is ∙ ap (renumbered by) (sym (next_target target e)) in
-      n ∙ (ap (λ os. target_set os i k new) m
-      ∙ (changed-twice owners i x (owner_firsts by k) (λ x. with_zones (changed x.zones k (with_target new)) x) z.there
-      ∙ (ap (λ zones. set owners i (with_zones zones x)) (changed-found (firsts f x.zones k) k (with_target new) z.zone z.zone_now
-      ∙ (ap (λ t. set (firsts f x.zones k) k (with_target t z.zone)) same ∙ next_firsts f x.zones k z.zone z.seen))
-      ∙ sym (changed-found owners i (owner_firsts by (suc k)) x z.there))))
+  others_can : (es : List (ℕ × ℕ)) → AllByRecursion (λ e. (e.0 == op) ≡ false) es → AllByRecursion (CanRenumber op by) es
+  others_can [] h = tt
+  others_can (e ∷ es) h = (λ t. absurd (true≢false (sym t ∙ h.0)), others_can es h.1)
 
-pub owner_done : {H : Type 0} (by : Renumbering) (owners new : List (WithZones H)) (i n : ℕ) → new ≡ changed owners i (owner_firsts by n) → zone_count_at owners i ≡ Some n → new ≡ changed owners i (owner_renumbered by)
-owner_done {H} by owners new i n m count =
-    let f = counted_owner (slice_get owners i) n count in
-    let x = f.0 in
-    m ∙ (changed-found owners i (owner_firsts by n) x f.1
-    ∙ (ap (λ zones. set owners i (with_zones zones x)) (all_firsts (zone_renumbered by) x.zones n (sym f.2)) ∙ sym (changed-found owners i (owner_renumbered by) x f.1)))
+  zones_can : (zones : List Zone) → AllByRecursion (λ (z : Zone). IsPlain op z.gens) zones → AllByRecursion (λ (z : Zone). renumbered by z.target < 2 ^ 16) zones → AllByRecursion (CanRenumber op by) (gens_in (map (zone_bag op) zones))
+  zones_can [] p can = tt
+  zones_can (z ∷ zs) p can =
+      let own = all_join (CanRenumber op by) (entries z.gens) ((op, z.target) ∷ []) (others_can (entries z.gens) (others op z.gens p.0)) ((λ t. can.0), tt) in
+      all_join (CanRenumber op by) (entries z.gens ++ (op, z.target) ∷ []) (gens_in (map (zone_bag op) zs)) own (zones_can zs p.1 can.1)
 
--- ---- all owners
+  owners_can : {H : Type 0} (owners : List (WithZones H)) → AllByRecursion (IsPlainOwner op) owners → AllByRecursion (CanRenumberOwner by) owners → AllByRecursion (CanRenumber op by) (gens_in (all_bags (map (bags_of op) owners)))
+  owners_can [] p can = tt
+  owners_can (x ∷ xs) p can =
+      let own = p.0 in
+      let zones = zones_can x.zones own.zones (recursion_from_All (λ (z : Zone). renumbered by z.target < 2 ^ 16) x.zones can.0) in
+      let all = all_join (CanRenumber op by) (entries x.global.gens) (gens_in (map (zone_bag op) x.zones)) (others_can (entries x.global.gens) (others op x.global.gens own.global)) zones in
+      subst (AllByRecursion (CanRenumber op by)) (sym (gens_before op x (all_bags (map (bags_of op) xs))))
+      (all_join (CanRenumber op by) (gens_in (bags_of op x)) (gens_in (all_bags (map (bags_of op) xs))) (subst (AllByRecursion (CanRenumber op by)) (sym (owner_gens op x)) all) (owners_can xs p.1 can.1))
 
-module _ {H : Type 0} (by : Renumbering) (owners mid : List (WithZones H)) (i : ℕ) (m : mid ≡ firsts (owner_renumbered by) owners i) where
-  pub mid_size : length mid ≡ length owners
-  mid_size = ap length m ∙ firsts_size (owner_renumbered by) owners i
-
-  pub mid_can : All (CanRenumberOwner by) owners → IfSome (slice_get mid i) (CanRenumberOwner by)
-  mid_can can =
-      let same : slice_get mid i ≡ slice_get owners i = ap (λ os. slice_get os i) m ∙ first_next (owner_renumbered by) owners i in
-      can_at (slice_get owners i) refl same
-    where
-      can_at : (o : Option (WithZones H)) → slice_get owners i ≡ o → slice_get mid i ≡ slice_get owners i → IfSome (slice_get mid i) (CanRenumberOwner by)
-      can_at None e same = subst (λ o. IfSome o (CanRenumberOwner by)) (sym (same ∙ e)) tt
-      can_at (Some x) e same = subst (λ o. IfSome o (CanRenumberOwner by)) (sym (same ∙ e)) (All-found (CanRenumberOwner by) owners i x e can)
-
-  pub owner_next : (next : List (WithZones H)) → i < length owners → next ≡ changed mid i (owner_renumbered by) → next ≡ firsts (owner_renumbered by) owners (suc i)
-  owner_next next within e =
-      let (x, there) = slice_get-found owners i within in
-      let now : slice_get (firsts (owner_renumbered by) owners i) i ≡ Some x = first_next (owner_renumbered by) owners i ∙ there in
-      e ∙ (ap (λ os. changed os i (owner_renumbered by)) m ∙ (changed-found (firsts (owner_renumbered by) owners i) i (owner_renumbered by) x now ∙ next_firsts (owner_renumbered by) owners i x there))
+  pub can_follow : {H : Type 0} {heads : List H} {bags : List (List Bag)} {owners : List (WithZones H)} → AreOf op heads bags owners
+      → All (CanRenumberOwner by) owners → All (CanRenumber op by) (gens_in (all_bags bags))
+  can_follow {owners = owners} a can =
+      subst (λ bags. All (CanRenumber op by) (gens_in (all_bags bags))) (sym a.bags)
+      (All-from_recursion (CanRenumber op by) (gens_in (all_bags (map (bags_of op) owners))) (owners_can owners a.plain (recursion_from_All (CanRenumberOwner by) owners can)))

@@ -5,3 +5,4 @@ pub mod Spots
 pub mod Wholes
 pub mod Turns
 pub mod Converse
+pub mod RenumberLaws

@@ -3,3 +3,4 @@ pub mod Bags
 pub mod Tables
 pub mod Raised
 pub mod Stored
+pub mod Renumbered

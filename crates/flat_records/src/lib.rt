@@ -6,6 +6,7 @@ mod bags;
 mod pieces;
 mod raising;
 mod reading;
+mod renumbering;
 
 pub use bags::{Bags, Recs};
 pub use reading::tables_of_bags_are_tables;

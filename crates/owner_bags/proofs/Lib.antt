@@ -3,3 +3,4 @@ pub mod Places
 pub mod Turns
 pub mod Comings
 pub mod Converse
+pub mod Following

@@ -6,5 +6,6 @@ mod begins;
 mod owned;
 mod owner_changes;
 mod reading;
+mod renumbering;
 
 pub use owned::OwnerBags;

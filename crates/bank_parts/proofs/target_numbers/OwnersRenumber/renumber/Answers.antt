@@ -1,28 +1,29 @@
-use Rattle.std.proofs.Common.{◌≡◌, length, refl, sym, subst, ◌∙◌, add-one, arith}
-use Rattle.bank_parts.specs.Renumbered.{owner_renumbered}
-use Rattle.bank_parts.proofs.RenumberLaws.{firsts, all_firsts, mid_size, mid_can, owner_next}
+use Rattle.std.proofs.Common.{map, sym, subst, ◌∙◌, ap}
+use Rattle.std.specs.Prelude.{All}
+use Rattle.generators.specs.Levels.{target_operator}
+use Rattle.flat_records.specs.Bags.{gens_in}
+use Rattle.flat_records.specs.Renumbered.{CanRenumber, bag_renumbered}
+use Rattle.owner_bags.specs.Owned.{all_bags}
+use Rattle.bank_parts.proofs.ReadLaws.{read, are_read, held}
+use Rattle.bank_parts.proofs.RenumberLaws.{can_follow, all_follow}
 use Rattle.bank_parts.proofs.target_numbers.OwnersRenumber.renumber.Goals as goal
 
-pub loop-i-init : goal.loop-i-init
-loop-i-init g c = refl
+pub renumber-requires : goal.renumber-requires
+renumber-requires g c =
+    let op = target_operator g.H.OwnerHead.LEVEL in
+    let same = c.target_operator.ensures ∙ ap target_operator c.LEVEL.ensures in
+    subst (λ op. All (CanRenumber op c.args.by) (gens_in (all_bags c.self.inside.bags.owners))) (sym same) (can_follow op c.args.by (held c.self.invariant c.self.view_is) c.requires)
 
-pub renumber_owner-requires : goal.renumber_owner-requires
-renumber_owner-requires g c =
-    let size = mid_size c.args.by c.args.self.now c.loop-i.self c.loop-i.i c.loop-i.invariant in
-    let count = c.len-i-end.ensures in
-    let within = c.loop-i-test.true in
-    record { there = omega arith; numbers = mid_can c.args.by c.args.self.now c.loop-i.self c.loop-i.i c.loop-i.invariant c.requires }
-
-pub loop-i-preserved : goal.loop-i-preserved
-loop-i-preserved g c =
-    let count = c.len-i-end.ensures in
-    let test = c.loop-i-test.true in
-    subst (λ n. c.renumber_owner.new.self ≡ firsts (owner_renumbered c.args.by) c.args.self.now n) (sym (add-one c.loop-i.i))
-    (owner_next c.args.by c.args.self.now c.loop-i.self c.loop-i.i c.loop-i.invariant c.renumber_owner.new.self (omega arith) c.renumber_owner.ensures)
+pub invariant_of-self : goal.invariant_of-self
+invariant_of-self g c =
+    let op = target_operator g.H.OwnerHead.LEVEL in
+    let same = c.target_operator.ensures ∙ ap target_operator c.LEVEL.ensures in
+    let new = c.renumber.ensures.owners ∙ (λ t. map (map (bag_renumbered (same t) c.args.by)) c.self.inside.bags.owners) in
+    are_read (all_follow op c.args.by (held c.self.invariant c.self.view_is) c.renumber.new.self.owners new)
 
 pub returns : goal.returns
 returns g c =
-    let count = c.len-i-end.ensures in
-    let over = c.loop-i-test.false in
-    let last : c.loop-i.i ≡ length c.args.self.now = omega arith in
-    c.loop-i.invariant ∙ all_firsts (owner_renumbered c.args.by) c.args.self.now c.loop-i.i last
+    let op = target_operator g.H.OwnerHead.LEVEL in
+    let same = c.target_operator.ensures ∙ ap target_operator c.LEVEL.ensures in
+    let new = c.renumber.ensures.owners ∙ (λ t. map (map (bag_renumbered (same t) c.args.by)) c.self.inside.bags.owners) in
+    read (all_follow op c.args.by (held c.self.invariant c.self.view_is) c.renumber.new.self.owners new)

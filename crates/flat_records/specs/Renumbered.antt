@@ -1,0 +1,15 @@
+-- Generators of one operator whose amounts are numbers of a list's members, after the list changed.
+use Rattle.std.specs.Prelude.{◌≡◌, ◌<◌, ◌^◌, ◌==◌, ℕ, true, if◌then◌else◌, map}
+use Rattle.numbered_lists.specs.declared.renumbering.Renumbering.{Renumbering}
+use Rattle.numbered_lists.specs.Renumbered.{renumbered}
+use Rattle.flat_records.specs.Bags.{Bag, with_gens}
+
+abbrev pub gen_renumbered : ℕ → Renumbering → ℕ × ℕ → ℕ × ℕ
+gen_renumbered op by e = if e.0 == op then (e.0, renumbered by e.1) else e
+
+abbrev pub bag_renumbered : ℕ → Renumbering → Bag → Bag
+bag_renumbered op by b = with_gens (map (gen_renumbered op by) b.gens) b
+
+-- the amount has 16 bits afterwards
+abbrev pub CanRenumber : ℕ → Renumbering → ℕ × ℕ → Type 0
+CanRenumber op by e = (e.0 == op) ≡ true → renumbered by e.1 < 2 ^ 16

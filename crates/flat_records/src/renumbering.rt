@@ -1,0 +1,55 @@
+//! Amounts that are numbers of a list's members.
+ghost use Rattle.std.specs.Prelude.{◌≡◌, ◌<◌, ◌≤◌, ◌-◌, ◌++◌, length, map, All, take, drop, vec_len, vec_capacity};
+ghost use Rattle.flat_records.specs.Bags.{gens_in};
+ghost use Rattle.flat_records.specs.Renumbered.{gen_renumbered, bag_renumbered, CanRenumber};
+
+use crate::bags::Bags;
+use numbered_lists::Renumbering;
+
+impl Bags {
+    /// Gives all amounts of an operator, which are numbers of a list's members, their new ones. Takes no memory.
+    pub fn renumber(&mut self, operator: u16, by: Renumbering)
+        requires { All (CanRenumber operator by) (gens_in self.old.bags) }
+        ensures bags { self.new.bags ≡ map (bag_renumbered operator by) self.old.bags }
+        ensures spare { self.new.spare ≡ self.old.spare }
+    {
+        renumber_before_last(&mut self.gens, operator, by);
+    }
+}
+
+fn renumber_before_last(gens: &mut Vec<(u16, u16)>, operator: u16, by: Renumbering)
+    requires some { 0 < length gens.old.items }
+    requires numbers { All (CanRenumber operator by) (take (length gens.old.items - 1) gens.old.items) }
+    ensures list { gens.new.items ≡ map (gen_renumbered operator by) (take (length gens.old.items - 1) gens.old.items) ++ drop (length gens.old.items - 1) gens.old.items }
+    ensures len { vec_len gens.new ≡ vec_len gens.old }
+    ensures capacity { vec_capacity gens.new ≡ vec_capacity gens.old }
+{
+    let end = gens.len() - 1;
+    renumber_front(gens.as_mut_slice(), end, operator, by);
+}
+
+fn renumber_front(gens: &mut [(u16, u16)], end: usize, operator: u16, by: Renumbering)
+    requires place { end ≤ length gens.old }
+    requires numbers { All (CanRenumber operator by) (take end gens.old) }
+    ensures { gens.new ≡ map (gen_renumbered operator by) (take end gens.old) ++ drop end gens.old }
+{
+    renumber_all(&mut gens[..end], operator, by);
+}
+
+fn renumber_all(gens: &mut [(u16, u16)], operator: u16, by: Renumbering)
+    requires { All (CanRenumber operator by) gens.old }
+    ensures { gens.new ≡ map (gen_renumbered operator by) gens.old }
+{
+    for entry in gens.iter_mut() {
+        renumber_one(entry, operator, by);
+    }
+}
+
+fn renumber_one(entry: &mut (u16, u16), operator: u16, by: Renumbering)
+    requires { CanRenumber operator by entry.old }
+    ensures { entry.new ≡ gen_renumbered operator by entry.old }
+{
+    if entry.0 == operator {
+        entry.1 = by.number_after(entry.1);
+    }
+}
