@@ -27,19 +27,14 @@ use Rattle.bank_changes.proofs.Changes.{all_changed, sum-changed}
 use Rattle.bank_changes.proofs.Everywhere.{all_insert, all_remove}
 use Rattle.bank_changes.proofs.Moves.{all_moved, sum-moved}
 use Rattle.bank_changes.proofs.OwnerReferences.{OfOwners, owners_always, owners_weaker, owners_both, owners_sent, owners_within, owners_valid, owners_fit, owners_kept, owners_back, removal_keeps, untargeted, not_targeted}
-use Rattle.bank_changes.proofs.TotalsLaws.{totals-instruments_renumbered, total-inserted, total-removed, without_owner_within}
+use Rattle.bank_changes.proofs.TotalsLaws.{totals-instruments_renumbered, level_inserted, level_removed, level_moved, level_headed, without_owner_within}
 
 -- ---- renaming
 
 module _ (b : Parts) (number : ℕ) (name : List ℕ) where
   pub totals-instrument_renamed : totals_of (instrument_renamed b number name) ≡ totals_of b
   unfolding totals_of
-  totals-instrument_renamed = λ k. record (totals_of b) {
-    instruments = length-changed b.instruments number (with_head name) k;
-    instrument_zones = sum-changed (λ (x : WithZones (List ℕ)). zone_count x.global x.zones) (with_head name) (λ x. refl) b.instruments number k;
-    instrument_gens = sum-changed (λ (x : WithZones (List ℕ)). gen_count x.global x.zones) (with_head name) (λ x. refl) b.instruments number k;
-    instrument_mods = sum-changed (λ (x : WithZones (List ℕ)). mod_count x.global x.zones) (with_head name) (λ x. refl) b.instruments number k;
-  }
+  totals-instrument_renamed = λ k. record (totals_of b) { instruments = level_headed b.instruments number (λ _. name) k }
 
   pub instrument_renamed_sound : IsSound b → IsName name → IsSound (instrument_renamed b number name)
   instrument_renamed_sound sound h =
@@ -99,12 +94,7 @@ targets_within b v = owners_within (λ (h : Head). h.name) level.Preset (length 
 module _ (b : Parts) (i : ℕ) (x : WithZones (List ℕ)) where
   pub totals-added_instrument : i ≤ length b.instruments → totals_of (instrument_added b i x) ≡ with_owner level.Instrument (totals_of b) (records_of_owner x)
   unfolding totals_of
-  totals-added_instrument le = totals-instruments_renumbered (Insertion i) (record b { instruments = insert b.instruments i x }) ∙ (λ k. record (totals_of b) {
-    instruments = length-insert b.instruments i x le k;
-    instrument_zones = total-inserted zone_count b.instruments i x k;
-    instrument_gens = total-inserted gen_count b.instruments i x k;
-    instrument_mods = total-inserted mod_count b.instruments i x k;
-  })
+  totals-added_instrument le = totals-instruments_renumbered (Insertion i) (record b { instruments = insert b.instruments i x }) ∙ (λ k. record (totals_of b) { instruments = level_inserted b.instruments i x le k })
 
   pub sound_added_instrument : IsSound b → i ≤ length b.instruments → IsInstrument (length b.samples) x → FitsOwner IsName x → broken_limit (instrument_added b i x) ≡ None → IsSound (instrument_added b i x)
   sound_added_instrument sound le is fits e =
@@ -141,12 +131,7 @@ module _ (b : Parts) (i : ℕ) where
 
   totals-taken_out : (x : WithZones (List ℕ)) → slice_get b.instruments i ≡ Some x → with_owner level.Instrument (totals_of (record b { instruments = remove b.instruments i })) (records_of_owner x) ≡ totals_of b
   unfolding totals_of
-  totals-taken_out x e = λ k. record (totals_of b) {
-    instruments = length-remove b.instruments i (slice_get-within b.instruments i x e) k;
-    instrument_zones = total-removed zone_count b.instruments i x e k;
-    instrument_gens = total-removed gen_count b.instruments i x e k;
-    instrument_mods = total-removed mod_count b.instruments i x e k;
-  }
+  totals-taken_out x e = λ k. record (totals_of b) { instruments = level_removed b.instruments i x e k }
 
   pub totals-removed_instrument : (x : WithZones (List ℕ)) → slice_get b.instruments i ≡ Some x → with_owner level.Instrument (totals_of (instrument_removed b i)) (records_of_owner x) ≡ totals_of b
   totals-removed_instrument x e =
@@ -186,12 +171,7 @@ module _ (b : Parts) (i j : ℕ) (lt : i < length b.instruments) (lu : j < lengt
 
   pub totals-instrument_moved : totals_of (instrument_moved b i j) ≡ totals_of b
   unfolding totals_of
-  totals-instrument_moved = totals-instruments_renumbered (Move i j) (record b { instruments = moved b.instruments i j }) ∙ (λ k. record (totals_of b) {
-    instruments = length-moved b.instruments i j lt lu k;
-    instrument_zones = sum-moved (λ (x : WithZones (List ℕ)). zone_count x.global x.zones) b.instruments i j lt k;
-    instrument_gens = sum-moved (λ (x : WithZones (List ℕ)). gen_count x.global x.zones) b.instruments i j lt k;
-    instrument_mods = sum-moved (λ (x : WithZones (List ℕ)). mod_count x.global x.zones) b.instruments i j lt k;
-  })
+  totals-instrument_moved = totals-instruments_renumbered (Move i j) (record b { instruments = moved b.instruments i j }) ∙ (λ k. record (totals_of b) { instruments = level_moved b.instruments i j lt lu k })
 
   pub instrument_moved_sound : IsSound b → IsSound (instrument_moved b i j)
   instrument_moved_sound sound =

@@ -24,7 +24,9 @@ use Rattle.bank_parts.specs.Settings.{Settings, settings_of_zone, zone_with_sett
 use Rattle.bank_parts.specs.Valid.{IsZone, IsOwner, AreGenerators, zone_count, gen_count, mod_count, owner_total, global_count}
 use Rattle.bank_parts.specs.Fits.{FitsGlobal, FitsZone, FitsOwner, FitsHead}
 use Rattle.bank_parts.specs.Sound.{IsSound}
-use Rattle.bank_validity.specs.Limits.{totals_of, broken, broken_limit}
+use Rattle.bank_validity.specs.declared.totals.LevelTotals.{LevelTotals}
+use Rattle.bank_validity.specs.Limits.{totals_of, level_totals, totals_at, plus_records, broken, broken_limit}
+use Rattle.bank_validity.proofs.LevelLaws.{changed_at}
 use Rattle.bank_validity.proofs.LimitLaws.{limits_of, no_limit_of}
 use Rattle.bank_parts.proofs.SettingLaws.{source, given, place_read}
 use Rattle.bank_changes.specs.declared.members.Owner.{Owner}
@@ -239,21 +241,18 @@ module _ (f : Settings → Settings) where
     mods_recount place.Global e = total_recount (λ (s : Settings). length s.mods) (λ (s : Settings). length s.mods) (sum_by (λ (z : Zone). length z.mods)) f mods_one owners i place.Global s e
     mods_recount (place.Zone k) e = total_recount (λ (s : Settings). length s.mods) (λ (s : Settings). length s.mods) (sum_by (λ (z : Zone). length z.mods)) f mods_one owners i (place.Zone k) s e
 
+    level_recount : (at : ZonePlace) → settings_at owners i at ≡ Some s
+        → plus_records (records_of_place at s) (level_totals (place_changed owners i at f)) ≡ plus_records (records_of_place at (f s)) (level_totals owners)
+    level_recount at e = λ k. record {
+      count = length-changed owners i (settings_changed at f) k;
+      records = record { zones = zones_recount at e k; gens = gens_recount at e k; mods = mods_recount at e k };
+    }
+
 pub totals_place_changed : (b : Parts) (o : Owner) (at : Place) (f : Settings → Settings) (s : Settings) → settings_of b o at ≡ Some s
     → with_records (level_of o) (totals_of (own_place_changed b o at f)) (records_of_place (zone_place at) s) ≡ with_records (level_of o) (totals_of b) (records_of_place (zone_place at) (f s))
 unfolding totals_of
-totals_place_changed b (Preset p) at f s e = λ k. record (totals_of b) {
-  presets = length-changed b.presets p (settings_changed (zone_place at) f) k;
-  preset_zones = zones_recount f b.presets p s (zone_place at) e k;
-  preset_gens = gens_recount f b.presets p s (zone_place at) e k;
-  preset_mods = mods_recount f b.presets p s (zone_place at) e k;
-}
-totals_place_changed b (Instrument i) at f s e = λ k. record (totals_of b) {
-  instruments = length-changed b.instruments i (settings_changed (zone_place at) f) k;
-  instrument_zones = zones_recount f b.instruments i s (zone_place at) e k;
-  instrument_gens = gens_recount f b.instruments i s (zone_place at) e k;
-  instrument_mods = mods_recount f b.instruments i s (zone_place at) e k;
-}
+totals_place_changed b (Preset p) at f s e = λ k. record (totals_of b) { presets = level_recount f b.presets p s (zone_place at) e k }
+totals_place_changed b (Instrument i) at f s e = λ k. record (totals_of b) { instruments = level_recount f b.instruments i s (zone_place at) e k }
 
 -- ---- the records of a place that is there
 
@@ -288,28 +287,20 @@ within : (a b n : ℕ) → a + n ≡ b + 0 → n ≤ b
 within a b n e = omega (arith, e)
 
 pub has_records : (b : Parts) (o : Owner) (at : Place) (s : Settings) → settings_of b o at ≡ Some s → HasRecords (level_of o) (totals_of b) (records_of_place (zone_place at) s)
-has_records b (Preset p) at s e =
-    let less = totals_place_changed b (Preset p) at (λ _. nothing_set) s e in
-    let none : records_of_place (zone_place at) nothing_set ≡ no_records = nothing_counts (zone_place at) in
-    let t : Totals = totals_of (own_place_changed b (Preset p) at (λ _. nothing_set)) in
+has_records b o at s e =
+    let t : Totals = totals_of (own_place_changed b o at (λ _. nothing_set)) in
+    let u : Totals = totals_of b in
     let r : Records = records_of_place (zone_place at) s in
-    let same = less ∙ ap (with_records level.Preset (totals_of b)) none in
-    let u : Totals = totals_of b in (
-      within t.preset_zones u.preset_zones r.zones (ap (λ (t : Totals). t.preset_zones) same),
-      within t.preset_gens u.preset_gens r.gens (ap (λ (t : Totals). t.preset_gens) same),
-      within t.preset_mods u.preset_mods r.mods (ap (λ (t : Totals). t.preset_mods) same),
-    )
-has_records b (Instrument i) at s e =
-    let less = totals_place_changed b (Instrument i) at (λ _. nothing_set) s e in
-    let none : records_of_place (zone_place at) nothing_set ≡ no_records = nothing_counts (zone_place at) in
-    let t : Totals = totals_of (own_place_changed b (Instrument i) at (λ _. nothing_set)) in
-    let r : Records = records_of_place (zone_place at) s in
-    let same = less ∙ ap (with_records level.Instrument (totals_of b)) none in
-    let u : Totals = totals_of b in (
-      within t.instrument_zones u.instrument_zones r.zones (ap (λ (t : Totals). t.instrument_zones) same),
-      within t.instrument_gens u.instrument_gens r.gens (ap (λ (t : Totals). t.instrument_gens) same),
-      within t.instrument_mods u.instrument_mods r.mods (ap (λ (t : Totals). t.instrument_mods) same),
-    )
+    let same = totals_place_changed b o at (λ _. nothing_set) s e ∙ ap (with_records (level_of o) u) (nothing_counts (zone_place at)) in
+    let level = sym (changed_at (level_of o) (plus_records r) t) ∙ (ap (totals_at (level_of o)) same ∙ changed_at (level_of o) (plus_records no_records) u) in
+    let records = ap (λ (l : LevelTotals). l.records) level in
+    let had : Records = (totals_at (level_of o) t).records in
+    let have : Records = (totals_at (level_of o) u).records in
+    record {
+      zones = within had.zones have.zones r.zones (ap (λ (s : Records). s.zones) records);
+      gens = within had.gens have.gens r.gens (ap (λ (s : Records). s.gens) records);
+      mods = within had.mods have.mods r.mods (ap (λ (s : Records). s.mods) records);
+    }
 
 -- ---- what the code keeps
 

@@ -125,16 +125,18 @@ not_over most n h = grind (arith, nat_tests)
 broken_points : (t : Totals) → AreWithin t → (p : ℕ) → broken (let u : Totals = record t { points = p } in u) ≡ (if nat_lt POINTS p then Some limit.Points else None)
 unfolding broken
 broken_points t w p =
+    let presets = w.presets in
+    let instruments = w.instruments in
     rw (
-      not_over PRESETS t.presets w.presets,
-      not_over INSTRUMENTS t.instruments w.instruments,
+      not_over PRESETS t.presets.count presets.count,
+      not_over INSTRUMENTS t.instruments.count instruments.count,
       not_over SAMPLES t.samples w.samples,
-      not_over ZONES t.preset_zones w.preset_zones,
-      not_over ZONES t.instrument_zones w.instrument_zones,
-      not_over GENERATORS t.preset_gens w.preset_gens,
-      not_over GENERATORS t.instrument_gens w.instrument_gens,
-      not_over MODULATORS t.preset_mods w.preset_mods,
-      not_over MODULATORS t.instrument_mods w.instrument_mods,
+      not_over ZONES t.presets.records.zones presets.zones,
+      not_over ZONES t.instruments.records.zones instruments.zones,
+      not_over GENERATORS t.presets.records.gens presets.gens,
+      not_over GENERATORS t.instruments.records.gens instruments.gens,
+      not_over MODULATORS t.presets.records.mods presets.mods,
+      not_over MODULATORS t.instruments.records.mods instruments.mods,
     ) refl
 
 -- ---- points taken off

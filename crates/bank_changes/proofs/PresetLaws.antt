@@ -23,7 +23,7 @@ use Rattle.bank_changes.specs.Presets.{preset_added, preset_removed, preset_move
 use Rattle.bank_changes.proofs.Changes.{all_changed, sum-changed}
 use Rattle.bank_changes.proofs.Everywhere.{all_insert, all_remove}
 use Rattle.bank_changes.proofs.Moves.{all_moved, sum-moved}
-use Rattle.bank_changes.proofs.TotalsLaws.{total-inserted, total-removed, without_owner_within}
+use Rattle.bank_changes.proofs.TotalsLaws.{level_inserted, level_removed, level_moved, level_headed, without_owner_within}
 
 -- the bank with other presets
 abbrev with_presets : Parts → List (WithZones Head) → Parts
@@ -44,12 +44,7 @@ presets_sound b sound presets are fit e =
 module _ (b : Parts) (i : ℕ) (p : WithZones Head) where
   pub totals-added_preset : i ≤ length b.presets → totals_of (preset_added b i p) ≡ with_owner level.Preset (totals_of b) (records_of_owner p)
   unfolding totals_of
-  totals-added_preset le = λ k. record (totals_of b) {
-    presets = length-insert b.presets i p le k;
-    preset_zones = total-inserted zone_count b.presets i p k;
-    preset_gens = total-inserted gen_count b.presets i p k;
-    preset_mods = total-inserted mod_count b.presets i p k;
-  }
+  totals-added_preset le = λ k. record (totals_of b) { presets = level_inserted b.presets i p le k }
 
   pub sound_added_preset : IsSound b → IsPreset (length b.instruments) p → FitsOwner FitsHead p → broken_limit (preset_added b i p) ≡ None → IsSound (preset_added b i p)
   sound_added_preset sound is fits e = presets_sound b sound (insert b.presets i p)
@@ -63,12 +58,7 @@ module _ (b : Parts) (i : ℕ) (p : WithZones Head) where
 module _ (b : Parts) (i : ℕ) (p : WithZones Head) (e : slice_get b.presets i ≡ Some p) where
   pub totals-removed_preset : with_owner level.Preset (totals_of (preset_removed b i)) (records_of_owner p) ≡ totals_of b
   unfolding totals_of
-  totals-removed_preset = λ k. record (totals_of b) {
-    presets = length-remove b.presets i (slice_get-within b.presets i p e) k;
-    preset_zones = total-removed zone_count b.presets i p e k;
-    preset_gens = total-removed gen_count b.presets i p e k;
-    preset_mods = total-removed mod_count b.presets i p e k;
-  }
+  totals-removed_preset = λ k. record (totals_of b) { presets = level_removed b.presets i p e k }
 
   pub restored_removed_preset : preset_added (preset_removed b i) i p ≡ b
   restored_removed_preset = ap (with_presets b) (insert-remove b.presets i p e)
@@ -87,12 +77,7 @@ module _ (b : Parts) (i j : ℕ) (lt : i < length b.presets) (lu : j < length b.
 
   pub totals-preset_moved : totals_of (preset_moved b i j) ≡ totals_of b
   unfolding totals_of
-  totals-preset_moved = λ k. record (totals_of b) {
-    presets = length-moved b.presets i j lt lu k;
-    preset_zones = sum-moved (λ (x : WithZones Head). zone_count x.global x.zones) b.presets i j lt k;
-    preset_gens = sum-moved (λ (x : WithZones Head). gen_count x.global x.zones) b.presets i j lt k;
-    preset_mods = sum-moved (λ (x : WithZones Head). mod_count x.global x.zones) b.presets i j lt k;
-  }
+  totals-preset_moved = λ k. record (totals_of b) { presets = level_moved b.presets i j lt lu k }
 
   pub preset_moved_sound : IsSound b → IsSound (preset_moved b i j)
   preset_moved_sound sound = presets_sound b sound (preset_moved b i j).presets
@@ -113,12 +98,7 @@ module _ (b : Parts) (i : ℕ) (name : List ℕ) (number bank : ℕ) where
 
   pub totals-head_set : totals_of (head_set b i name number bank) ≡ totals_of b
   unfolding totals_of
-  totals-head_set = λ k. record (totals_of b) {
-    presets = length-changed b.presets i called k;
-    preset_zones = sum-changed (λ (x : WithZones Head). zone_count x.global x.zones) called (λ x. refl) b.presets i k;
-    preset_gens = sum-changed (λ (x : WithZones Head). gen_count x.global x.zones) called (λ x. refl) b.presets i k;
-    preset_mods = sum-changed (λ (x : WithZones Head). mod_count x.global x.zones) called (λ x. refl) b.presets i k;
-  }
+  totals-head_set = λ k. record (totals_of b) { presets = level_headed b.presets i (λ (x : WithZones Head). head_called name number bank x.head) k }
 
   fits_called : IsName name → number < 2 ^ 16 → bank < 2 ^ 16 → (h : Head) → FitsHead h → FitsHead (head_called name number bank h)
   fits_called named n m h f = record { name = named; number = n; bank = m; library = f.library; genre = f.genre; morphology = f.morphology }

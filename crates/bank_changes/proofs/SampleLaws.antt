@@ -30,7 +30,7 @@ use Rattle.bank_changes.proofs.References.{fits_refs, OfSampleRefs, link_weaker,
 use Rattle.sf_base.specs.declared.limits.TheConstants.{ZERO_POINTS}
 use Rattle.bank_validity.proofs.LimitLaws.{limits_of, no_limit_of}
 use Rattle.bank_changes.proofs.Changes.{all_changed, sum-changed, sum-removed}
-use Rattle.bank_changes.proofs.TotalsLaws.{without_sample_within, with_sample_same, zones_kept, gens_kept, mods_kept, points_kept}
+use Rattle.bank_changes.proofs.TotalsLaws.{without_sample_within, with_sample_same, level_kept, points_kept}
 
 -- ---- renaming
 
@@ -92,11 +92,8 @@ totals-added b i s le =
     let more = sum_by-insert (λ (t : Sample). length t.points + ZERO_POINTS) (map (sample_renumbered by) b.samples) i s in
     let kept = points_kept by b.samples in omega (arith, more, kept) in
     λ k. record (totals_of b) {
-      instruments = length-map b.instruments (owner_renumbered by) k;
+      instruments = level_kept by b.instruments k;
       samples = samples k;
-      instrument_zones = zones_kept by b.instruments k;
-      instrument_gens = gens_kept by b.instruments k;
-      instrument_mods = mods_kept by b.instruments k;
       points = points k;
     }
 
@@ -171,11 +168,8 @@ totals-removed b i s e =
     let less = sum-removed (λ (t : Sample). length t.points + ZERO_POINTS) b.samples i s e in
     let kept = points_kept by left in omega (arith, less, kept) in
     λ k. record (totals_of b) {
-      instruments = length-map b.instruments (owner_renumbered by) k;
+      instruments = level_kept by b.instruments k;
       samples = samples k;
-      instrument_zones = zones_kept by b.instruments k;
-      instrument_gens = gens_kept by b.instruments k;
-      instrument_mods = mods_kept by b.instruments k;
       points = points k;
     }
 
@@ -263,11 +257,8 @@ module _ (b : Parts) (i j : ℕ) (lt : i < length b.samples) (lu : j < length b.
       let by = Move i j in
       let points = points_kept by (moved b.samples i j) ∙ sum-moved (λ (s : Sample). length s.points + ZERO_POINTS) b.samples i j lt in
       λ k. record (totals_of b) {
-        instruments = length-map b.instruments (owner_renumbered by) k;
+        instruments = level_kept by b.instruments k;
         samples = length-sample_moved k;
-        instrument_zones = zones_kept by b.instruments k;
-        instrument_gens = gens_kept by b.instruments k;
-        instrument_mods = mods_kept by b.instruments k;
         points = points k;
       }
 

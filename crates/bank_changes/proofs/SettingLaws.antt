@@ -26,7 +26,7 @@ use Rattle.bank_parts.specs.Sound.{IsSound}
 use Rattle.bank_parts.specs.Counts.{counted}
 use Rattle.bank_validity.specs.Limits.{totals_of, broken, broken_limit}
 use Rattle.bank_parts.proofs.Counts.{counted_same}
-use Rattle.bank_validity.proofs.LimitLaws.{within_totals, no_limit_of}
+use Rattle.bank_validity.proofs.LimitLaws.{within_at, within_totals, no_limit_of}
 use Rattle.bank_parts.proofs.UndoneLaws.{amount_of_settings}
 use Rattle.bank_changes.specs.declared.members.Owner.{Owner}
 use Rattle.bank_changes.specs.declared.members.Owner.TheVariants.{Preset, Instrument}
@@ -185,8 +185,13 @@ module _ (b : Parts) (o : Owner) (at : Place) (j : ℕ) (s : Settings) (there : 
       ∙ within_no_more b o at (λ s. with_mods (slice_set s.mods j m) s) s there sound (omega arith) (same_length (length (slice_set s.mods j m)) (length s.mods) (length-slice_set s.mods j m))
 
 few_records : (lvl : Level) (t : Totals) (r : Records) → HasRecords lvl t r → broken t ≡ None → (r.gens ≤ GENERATORS) × (r.mods ≤ MODULATORS)
-few_records level.Preset t r h e = let w = within_totals t e in let gens = w.preset_gens in let mods = w.preset_mods in let g = h.1 in let m = h.2 in (omega (arith, gens, g), omega (arith, mods, m))
-few_records level.Instrument t r h e = let w = within_totals t e in let gens = w.instrument_gens in let mods = w.instrument_mods in let g = h.1 in let m = h.2 in (omega (arith, gens, g), omega (arith, mods, m))
+few_records lvl t r h e =
+    let l = within_at lvl t (within_totals t e) in
+    let gens = l.gens in
+    let mods = l.mods in
+    let g = h.gens in
+    let m = h.mods in
+    (omega (arith, gens, g), omega (arith, mods, m))
 
 one_more : (n most : ℕ) → n ≤ most → most < 2 ^ 64 - 1 → counted (n + 1) ≡ n + 1
 one_more n most h small = counted_same (n + 1) (omega (arith, h, small))

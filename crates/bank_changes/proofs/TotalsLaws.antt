@@ -1,13 +1,13 @@
 -- Totals of a bank, and their sums.
-use Rattle.std.proofs.Common.{◌≡◌, ◌≤◌, ◌+◌, ◌-◌, ℕ, List, length, map, insert, remove, slice_get, Some, None, refl, sym, ◌∙◌, ap, subst, arith}
+use Rattle.std.proofs.Common.{◌≡◌, ◌<◌, ◌≤◌, ◌+◌, ◌-◌, ℕ, List, length, map, insert, remove, slice_get, Some, None, refl, sym, ◌∙◌, ap, subst, arith}
 use Rattle.std.specs.FinMap.{len}
 use Rattle.std.proofs.lemmas.List.{length-map}
 use Rattle.std.proofs.lemmas.List.Sums.{sum_by-insert}
 use Rattle.numbered_lists.specs.declared.renumbering.Renumbering.{Renumbering}
 use Rattle.sf_base.specs.declared.limits.TheConstants.{ZONES, GENERATORS, MODULATORS, ZERO_POINTS}
 use Rattle.generators.specs.declared.level.Level.{Level}
-use Rattle.generators.specs.declared.level.Level.TheVariants as level
 use Rattle.bank_parts.specs.declared.counting.Records.{Records}
+use Rattle.bank_validity.specs.declared.totals.LevelTotals.{LevelTotals}
 use Rattle.bank_validity.specs.declared.totals.Totals.{Totals}
 use Rattle.bank_parts.specs.declared.parts.GlobalZone.{GlobalZone}
 use Rattle.bank_parts.specs.declared.parts.Zone.{Zone}
@@ -16,29 +16,28 @@ use Rattle.bank_parts.specs.declared.parts.Sample.{Sample}
 use Rattle.bank_parts.specs.declared.parts.Parts.{Parts}
 use Rattle.bank_parts.specs.Renumbered.{sample_renumbered, zone_renumbered, owner_renumbered, instruments_renumbered}
 use Rattle.bank_parts.specs.Valid.{owner_total, zone_count, gen_count, mod_count, point_total}
-use Rattle.bank_parts.specs.Counts.{all_counted}
-use Rattle.bank_validity.specs.Limits.{totals_of, broken, broken_limit, with_sample, with_owner, HasOwner}
+use Rattle.bank_parts.specs.Counts.{all_counted, records_sum, records_of_owner}
+use Rattle.bank_parts.specs.Owners.{with_head}
+use Rattle.bank_validity.specs.Limits.{totals_of, level_totals, totals_at, plus_owner, broken, broken_limit, with_sample, with_owner, AreCounted, HasOwner}
 use Rattle.bank_parts.proofs.Counts.{counted_same}
-use Rattle.bank_validity.proofs.LimitLaws.{within_totals, none_broken}
-use Rattle.bank_changes.proofs.Changes.{sum-removed}
+use Rattle.bank_validity.proofs.LevelLaws.{changed_at, same_before}
+use Rattle.bank_validity.proofs.LimitLaws.{within_totals, none_broken, level_within, unchanged_within}
+use Rattle.numbered_lists.specs.Moved.{moved, changed}
+use Rattle.numbered_lists.proofs.Lists.{slice_get-within, length-changed, length-moved}
+use Rattle.std.proofs.lemmas.List.Edits.{length-insert, length-remove}
+use Rattle.bank_changes.proofs.Changes.{sum-removed, sum-changed}
+use Rattle.bank_changes.proofs.Moves.{sum-moved}
 use Rattle.bank_changes.proofs.Everywhere.{sum_kept}
 
 -- ---- a sample less
 
 module _ (t : Totals) (n : ℕ) where
   pub without_sample_within : broken (with_sample t n) ≡ None → broken t ≡ None
-  without_sample_within e = let w = within_totals (with_sample t n) e in let few = w.samples in let some = w.points in none_broken t (record {
-    presets = w.presets;
-    instruments = w.instruments;
-    samples = omega (arith, few);
-    preset_zones = w.preset_zones;
-    instrument_zones = w.instrument_zones;
-    preset_gens = w.preset_gens;
-    instrument_gens = w.instrument_gens;
-    preset_mods = w.preset_mods;
-    instrument_mods = w.instrument_mods;
-    points = omega (arith, some);
-  })
+  without_sample_within e =
+      let w = within_totals (with_sample t n) e in
+      let few = w.samples in
+      let some = w.points in
+      none_broken t (record { presets = w.presets; instruments = w.instruments; samples = omega (arith, few); points = omega (arith, some) })
 
 plus_same : (a b n : ℕ) → a + n ≡ b + n → a ≡ b
 plus_same a b n e = omega (arith, e)
@@ -47,18 +46,7 @@ pub with_sample_same : (t u : Totals) (n : ℕ) → with_sample t n ≡ with_sam
 with_sample_same t u n e =
     let samples = plus_same t.samples u.samples 1 (ap (λ (w : Totals). w.samples) e) in
     let points = plus_same t.points u.points (n + ZERO_POINTS) (ap (λ (w : Totals). w.points) e) in
-    λ i. record {
-      presets = let w = e i in w.presets;
-      instruments = let w = e i in w.instruments;
-      samples = samples i;
-      preset_zones = let w = e i in w.preset_zones;
-      preset_gens = let w = e i in w.preset_gens;
-      preset_mods = let w = e i in w.preset_mods;
-      instrument_zones = let w = e i in w.instrument_zones;
-      instrument_gens = let w = e i in w.instrument_gens;
-      instrument_mods = let w = e i in w.instrument_mods;
-      points = points i;
-    }
+    λ i. record { presets = let w = e i in w.presets; instruments = let w = e i in w.instruments; samples = samples i; points = points i }
 
 -- ---- sums that new numbers don't change
 
@@ -77,88 +65,87 @@ mods_kept {H} by = sum_kept (λ (i : WithZones H). mod_count i.global i.zones) (
 pub points_kept : (by : Renumbering) (ss : List Sample) → point_total (map (sample_renumbered by) ss) ≡ point_total ss
 points_kept by = sum_kept (λ (s : Sample). length s.points + ZERO_POINTS) (sample_renumbered by) (λ s. refl)
 
+pub level_kept : {H : Type 0} (by : Renumbering) (owners : List (WithZones H)) → level_totals (map (owner_renumbered by) owners) ≡ level_totals owners
+level_kept by owners = λ k. record {
+  count = length-map owners (owner_renumbered by) k;
+  records = record { zones = zones_kept by owners k; gens = gens_kept by owners k; mods = mods_kept by owners k };
+}
+
 -- where only the presets' targets changed
 pub totals-instruments_renumbered : (by : Renumbering) (b : Parts) → totals_of (instruments_renumbered by b) ≡ totals_of b
 unfolding totals_of
-totals-instruments_renumbered by b = λ k. record (totals_of b) {
-  presets = length-map b.presets (owner_renumbered by) k;
-  preset_zones = zones_kept by b.presets k;
-  preset_gens = gens_kept by b.presets k;
-  preset_mods = mods_kept by b.presets k;
-}
+totals-instruments_renumbered by b = λ k. record (totals_of b) { presets = level_kept by b.presets k }
 
 -- ---- a preset or an instrument more, or less
 
 module _ {H : Type 0} (count : GlobalZone → List Zone → ℕ) (owners : List (WithZones H)) (i : ℕ) (x : WithZones H) where
-  pub total-inserted : owner_total count (insert owners i x) ≡ owner_total count owners + count x.global x.zones
+  total-inserted : owner_total count (insert owners i x) ≡ owner_total count owners + count x.global x.zones
   total-inserted = sum_by-insert (λ (y : WithZones H). count y.global y.zones) owners i x
 
-  pub total-removed : slice_get owners i ≡ Some x → owner_total count (remove owners i) + count x.global x.zones ≡ owner_total count owners
+  total-removed : slice_get owners i ≡ Some x → owner_total count (remove owners i) + count x.global x.zones ≡ owner_total count owners
   total-removed e = sum-removed (λ (y : WithZones H). count y.global y.zones) owners i x e
 
+module _ {H : Type 0} (owners : List (WithZones H)) (i : ℕ) where
+  pub level_inserted : (x : WithZones H) → i ≤ length owners → level_totals (insert owners i x) ≡ plus_owner (records_of_owner x) (level_totals owners)
+  level_inserted x le = λ k. record {
+    count = length-insert owners i x le k;
+    records = record { zones = total-inserted zone_count owners i x k; gens = total-inserted gen_count owners i x k; mods = total-inserted mod_count owners i x k };
+  }
+
+  pub level_removed : (x : WithZones H) → slice_get owners i ≡ Some x → plus_owner (records_of_owner x) (level_totals (remove owners i)) ≡ level_totals owners
+  level_removed x e = λ k. record {
+    count = length-remove owners i (slice_get-within owners i x e) k;
+    records = record { zones = total-removed zone_count owners i x e k; gens = total-removed gen_count owners i x e k; mods = total-removed mod_count owners i x e k };
+  }
+
+  pub level_moved : (j : ℕ) → i < length owners → j < length owners → level_totals (moved owners i j) ≡ level_totals owners
+  level_moved j lt lu = λ k. record {
+    count = length-moved owners i j lt lu k;
+    records = record {
+      zones = sum-moved (λ (x : WithZones H). zone_count x.global x.zones) owners i j lt k;
+      gens = sum-moved (λ (x : WithZones H). gen_count x.global x.zones) owners i j lt k;
+      mods = sum-moved (λ (x : WithZones H). mod_count x.global x.zones) owners i j lt k;
+    };
+  }
+
+  pub level_headed : (f : WithZones H → H) → level_totals (changed owners i (λ x. with_head (f x) x)) ≡ level_totals owners
+  level_headed f = λ k. record {
+    count = length-changed owners i (λ x. with_head (f x) x) k;
+    records = record {
+      zones = sum-changed (λ (x : WithZones H). zone_count x.global x.zones) (λ x. with_head (f x) x) (λ x. refl) owners i k;
+      gens = sum-changed (λ (x : WithZones H). gen_count x.global x.zones) (λ x. with_head (f x) x) (λ x. refl) owners i k;
+      mods = sum-changed (λ (x : WithZones H). mod_count x.global x.zones) (λ x. with_head (f x) x) (λ x. refl) owners i k;
+    };
+  }
+
 pub without_owner_within : (at : Level) (t : Totals) (r : Records) → broken (with_owner at t r) ≡ None → broken t ≡ None
-without_owner_within level.Preset t r e =
-    let w = within_totals (with_owner level.Preset t r) e in
-    let few = w.presets in
-    let zones = w.preset_zones in
-    let gens = w.preset_gens in
-    let mods = w.preset_mods in
-    none_broken t (record {
-      presets = omega (arith, few);
-      instruments = w.instruments;
-      samples = w.samples;
-      preset_zones = omega (arith, zones);
-      instrument_zones = w.instrument_zones;
-      preset_gens = omega (arith, gens);
-      instrument_gens = w.instrument_gens;
-      preset_mods = omega (arith, mods);
-      instrument_mods = w.instrument_mods;
-      points = w.points;
-    })
-without_owner_within level.Instrument t r e =
-    let w = within_totals (with_owner level.Instrument t r) e in
-    let few = w.instruments in
-    let zones = w.instrument_zones in
-    let gens = w.instrument_gens in
-    let mods = w.instrument_mods in
-    none_broken t (record {
-      presets = w.presets;
-      instruments = omega (arith, few);
-      samples = w.samples;
-      preset_zones = w.preset_zones;
-      instrument_zones = omega (arith, zones);
-      preset_gens = w.preset_gens;
-      instrument_gens = omega (arith, gens);
-      preset_mods = w.preset_mods;
-      instrument_mods = omega (arith, mods);
-      points = w.points;
-    })
+without_owner_within at t r e =
+    let w = within_totals (with_owner at t r) e in
+    let l = level_within at (plus_owner r) t w in
+    let count = l.count in
+    let zones = l.zones in
+    let gens = l.gens in
+    let mods = l.mods in
+    none_broken t (unchanged_within at (plus_owner r) t w (record { count = omega (arith, count); zones = omega (arith, zones); gens = omega (arith, gens); mods = omega (arith, mods) }))
 
 -- the totals without what was added
-
-abbrev less_owner : Level → Totals → Records → Totals
-less_owner level.Preset t r = record t { presets = t.presets - 1; preset_zones = t.preset_zones - r.zones; preset_gens = t.preset_gens - r.gens; preset_mods = t.preset_mods - r.mods }
-less_owner level.Instrument t r = record t { instruments = t.instruments - 1; instrument_zones = t.instrument_zones - r.zones; instrument_gens = t.instrument_gens - r.gens; instrument_mods = t.instrument_mods - r.mods }
 
 minus_more : (a n : ℕ) → a + n - n ≡ a
 minus_more a n = omega arith
 
-less_with_owner : (at : Level) (t : Totals) (r : Records) → less_owner at (with_owner at t r) r ≡ t
-less_with_owner level.Preset t r = λ i. record t {
-  presets = minus_more t.presets 1 i;
-  preset_zones = minus_more t.preset_zones r.zones i;
-  preset_gens = minus_more t.preset_gens r.gens i;
-  preset_mods = minus_more t.preset_mods r.mods i;
-}
-less_with_owner level.Instrument t r = λ i. record t {
-  instruments = minus_more t.instruments 1 i;
-  instrument_zones = minus_more t.instrument_zones r.zones i;
-  instrument_gens = minus_more t.instrument_gens r.gens i;
-  instrument_mods = minus_more t.instrument_mods r.mods i;
-}
+pub records_minus : Records → Records → Records
+records_minus a r = record { zones = a.zones - r.zones; gens = a.gens - r.gens; mods = a.mods - r.mods }
+
+pub minus_sum : (a r : Records) → records_minus (records_sum a r) r ≡ a
+unfolding records_minus
+minus_sum a r = λ i. record { zones = minus_more a.zones r.zones i; gens = minus_more a.gens r.gens i; mods = minus_more a.mods r.mods i }
+
+minus_owner : Records → LevelTotals → LevelTotals
+minus_owner r l = record { count = l.count - 1; records = records_minus l.records r }
 
 pub with_owner_same : (at : Level) (t u : Totals) (r : Records) → with_owner at t r ≡ with_owner at u r → t ≡ u
-with_owner_same at t u r e = sym (less_with_owner at t r) ∙ (ap (λ (w : Totals). less_owner at w r) e ∙ less_with_owner at u r)
+unfolding minus_owner
+with_owner_same at t u r e = same_before at (plus_owner r) (minus_owner r) (λ l i. record { count = minus_more l.count 1 i; records = minus_sum l.records r i }) t u e
 
 -- where no limit is broken, the count is the sum
 
@@ -170,22 +157,25 @@ whole r zones gens mods = λ i. record {
 }
 
 whole_records : (at : Level) (t : Totals) (r : Records) → broken (with_owner at t r) ≡ None → all_counted r ≡ r
-whole_records level.Preset t r e =
-    let w = within_totals (with_owner level.Preset t r) e in
-    let zones = w.preset_zones in
-    let gens = w.preset_gens in
-    let mods = w.preset_mods in
-    whole r (omega (arith, zones)) (omega (arith, gens)) (omega (arith, mods))
-whole_records level.Instrument t r e =
-    let w = within_totals (with_owner level.Instrument t r) e in
-    let zones = w.instrument_zones in
-    let gens = w.instrument_gens in
-    let mods = w.instrument_mods in
+whole_records at t r e =
+    let l = level_within at (plus_owner r) t (within_totals (with_owner at t r) e) in
+    let zones = l.zones in
+    let gens = l.gens in
+    let mods = l.mods in
     whole r (omega (arith, zones)) (omega (arith, gens)) (omega (arith, mods))
 
+pub in_sum : (a r : Records) (l : LevelTotals) → l.records ≡ records_sum a r → AreCounted r l
+in_sum a r l e =
+    let zones = ap (λ (s : Records). s.zones) e in
+    let gens = ap (λ (s : Records). s.gens) e in
+    let mods = ap (λ (s : Records). s.mods) e in
+    record { zones = omega arith; gens = omega arith; mods = omega arith }
+
 has_owner : (at : Level) (t : Totals) (r : Records) → HasOwner at (with_owner at t r) r
-has_owner level.Preset t r = (omega arith, omega arith, omega arith, omega arith)
-has_owner level.Instrument t r = (omega arith, omega arith, omega arith, omega arith)
+has_owner at t r =
+    let now = changed_at at (plus_owner r) t in
+    let count = ap (λ (l : LevelTotals). l.count) now in
+    (omega arith, in_sum (totals_at at t).records r (totals_at at (with_owner at t r)) (ap (λ (l : LevelTotals). l.records) now))
 
 -- ---- the totals that the code keeps
 

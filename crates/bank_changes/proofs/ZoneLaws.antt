@@ -20,7 +20,8 @@ use Rattle.bank_parts.specs.Settings.{zones_at, with_zones, zones_changed}
 use Rattle.bank_parts.specs.Valid.{IsZone, IsOwner, IsPreset, IsInstrument, owner_total, global_count, zone_count, gen_count, mod_count}
 use Rattle.bank_parts.specs.Fits.{FitsZone, FitsHead, FitsOwner}
 use Rattle.bank_parts.specs.Sound.{IsSound}
-use Rattle.bank_validity.specs.Limits.{totals_of, broken_limit}
+use Rattle.bank_validity.specs.Limits.{totals_of, level_totals, totals_at, plus_records, broken_limit}
+use Rattle.bank_validity.proofs.LevelLaws.{changed_by, changed_twice}
 use Rattle.bank_validity.proofs.LimitLaws.{limits_of}
 use Rattle.bank_parts.proofs.SettingLaws.{source}
 use Rattle.bank_changes.specs.declared.members.Owner.{Owner}
@@ -176,39 +177,26 @@ module _ {H : Type 0} (owners : List (WithZones H)) (i : ℕ) (zones put : List 
   mods_follow : owner_total mod_count (zones_changed owners i (λ _. put)) + (records_of_zones zones).mods ≡ owner_total mod_count owners + (records_of_zones put).mods
   mods_follow = total_put (λ (g : GlobalZone). length g.mods) (sum_by (λ (z : Zone). length z.mods)) owners i zones put e
 
+  level_follows : plus_records (records_of_zones zones) (level_totals (zones_changed owners i (λ _. put))) ≡ plus_records (records_of_zones put) (level_totals owners)
+  level_follows = λ k. record { count = length-changed owners i (with_zones put) k; records = record { zones = zones_follow k; gens = gens_follow k; mods = mods_follow k } }
+
 pub totals_zones_put : (b : Parts) (o : Owner) (zones put : List Zone) → zones_of b o ≡ Some zones
     → with_records (level_of o) (totals_of (zones_put b o put)) (records_of_zones zones) ≡ with_records (level_of o) (totals_of b) (records_of_zones put)
 unfolding totals_of
-totals_zones_put b (owner.Preset p) zones put e = λ k. record (totals_of b) {
-  presets = length-changed b.presets p (with_zones put) k;
-  preset_zones = zones_follow b.presets p zones put e k;
-  preset_gens = gens_follow b.presets p zones put e k;
-  preset_mods = mods_follow b.presets p zones put e k;
-}
-totals_zones_put b (owner.Instrument i) zones put e = λ k. record (totals_of b) {
-  instruments = length-changed b.instruments i (with_zones put) k;
-  instrument_zones = zones_follow b.instruments i zones put e k;
-  instrument_gens = gens_follow b.instruments i zones put e k;
-  instrument_mods = mods_follow b.instruments i zones put e k;
-}
+totals_zones_put b (owner.Preset p) zones put e = λ k. record (totals_of b) { presets = level_follows b.presets p zones put e k }
+totals_zones_put b (owner.Instrument i) zones put e = λ k. record (totals_of b) { instruments = level_follows b.instruments i zones put e k }
 
 with_records_sum : (at : Level) (t : Totals) (r s : Records) → with_records at t (records_sum r s) ≡ with_records at (with_records at t s) r
-with_records_sum level.Preset t r s = λ k. record t {
-  preset_zones = plus_twice t.preset_zones r.zones s.zones k;
-  preset_gens = plus_twice t.preset_gens r.gens s.gens k;
-  preset_mods = plus_twice t.preset_mods r.mods s.mods k;
-}
+with_records_sum at t r s =
+    let l = totals_at at t in
+    changed_by at (plus_records (records_sum r s)) (λ l. plus_records r (plus_records s l)) t (λ i. record l { records = sum_twice l.records r s i })
+    ∙ sym (changed_twice at (plus_records s) (plus_records r) t)
   where
     plus_twice : (a r s : ℕ) → a + (r + s) ≡ a + s + r
     plus_twice a r s = omega arith
-with_records_sum level.Instrument t r s = λ k. record t {
-  instrument_zones = plus_twice t.instrument_zones r.zones s.zones k;
-  instrument_gens = plus_twice t.instrument_gens r.gens s.gens k;
-  instrument_mods = plus_twice t.instrument_mods r.mods s.mods k;
-}
-  where
-    plus_twice : (a r s : ℕ) → a + (r + s) ≡ a + s + r
-    plus_twice a r s = omega arith
+
+    sum_twice : (a r s : Records) → records_sum a (records_sum r s) ≡ records_sum (records_sum a s) r
+    sum_twice a r s = λ i. record { zones = plus_twice a.zones r.zones s.zones i; gens = plus_twice a.gens r.gens s.gens i; mods = plus_twice a.mods r.mods s.mods i }
 
 module _ (b : Parts) (o : Owner) (zones put : List Zone) (e : zones_of b o ≡ Some zones) where
   pub totals_zones_more : (r : Records) → records_of_zones put ≡ records_sum (records_of_zones zones) r → totals_of (zones_put b o put) ≡ with_records (level_of o) (totals_of b) r

@@ -32,20 +32,7 @@ pub fn without_records(totals: Totals, at: Level, less: Records) -> Totals
     requires { HasRecords at totals less }
     ensures { with_records at result less ≡ totals }
 {
-    match at {
-        Level::Preset => Totals {
-            preset_zones: totals.preset_zones - less.zones,
-            preset_gens: totals.preset_gens - less.gens,
-            preset_mods: totals.preset_mods - less.mods,
-            ..totals
-        },
-        Level::Instrument => Totals {
-            instrument_zones: totals.instrument_zones - less.zones,
-            instrument_gens: totals.instrument_gens - less.gens,
-            instrument_mods: totals.instrument_mods - less.mods,
-            ..totals
-        },
-    }
+    totals.with_level(at, totals.at(at).without(less))
 }
 
 /// The totals where so many records, which are counted, became so many others. A sum that would pass
@@ -63,18 +50,5 @@ pub fn recounted(totals: Totals, at: Level, before: Records, after: Records) -> 
 fn plus_records(totals: Totals, at: Level, more: Records) -> Totals
     ensures { result ≡ with_records_counted at totals more }
 {
-    match at {
-        Level::Preset => Totals {
-            preset_zones: totals.preset_zones.saturating_add(more.zones),
-            preset_gens: totals.preset_gens.saturating_add(more.gens),
-            preset_mods: totals.preset_mods.saturating_add(more.mods),
-            ..totals
-        },
-        Level::Instrument => Totals {
-            instrument_zones: totals.instrument_zones.saturating_add(more.zones),
-            instrument_gens: totals.instrument_gens.saturating_add(more.gens),
-            instrument_mods: totals.instrument_mods.saturating_add(more.mods),
-            ..totals
-        },
-    }
+    totals.with_level(at, totals.at(at).plus(more))
 }

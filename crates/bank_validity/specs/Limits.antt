@@ -4,36 +4,41 @@ use Rattle.sf_base.specs.declared.limits.TheConstants.{PRESETS, INSTRUMENTS, SAM
 use Rattle.generators.specs.declared.level.Level.{Level}
 use Rattle.generators.specs.declared.level.Level.TheVariants as level
 use Rattle.bank_parts.specs.declared.counting.Records.{Records}
+use Rattle.bank_validity.specs.declared.totals.LevelTotals.{LevelTotals}
 use Rattle.bank_validity.specs.declared.totals.Totals.{Totals}
 use Rattle.bank_validity.specs.declared.limits.Limit.{Limit}
 use Rattle.bank_validity.specs.declared.limits.Limit.TheVariants.{Presets, Instruments, Samples, Zones, Generators, Modulators, Points}
+use Rattle.bank_parts.specs.declared.parts.WithZones.{WithZones}
 use Rattle.bank_parts.specs.declared.parts.Parts.{Parts}
-use Rattle.bank_parts.specs.Counts.{counted}
+use Rattle.bank_parts.specs.Counts.{counted, all_counted, records_sum}
 use Rattle.bank_parts.specs.Valid.{owner_total, zone_count, gen_count, mod_count, point_total}
+
+-- how many presets, or instruments, and their records
+abbrev pub level_totals : {H : Type 0} → List (WithZones H) → LevelTotals
+level_totals owners = record {
+  count = length owners;
+  records = record { zones = owner_total zone_count owners; gens = owner_total gen_count owners; mods = owner_total mod_count owners };
+}
 
 unfoldable pub totals_of : Parts → Totals
 totals_of b = record {
-  presets = length b.presets;
-  instruments = length b.instruments;
+  presets = level_totals b.presets;
+  instruments = level_totals b.instruments;
   samples = length b.samples;
-  preset_zones = owner_total zone_count b.presets;
-  preset_gens = owner_total gen_count b.presets;
-  preset_mods = owner_total mod_count b.presets;
-  instrument_zones = owner_total zone_count b.instruments;
-  instrument_gens = owner_total gen_count b.instruments;
-  instrument_mods = owner_total mod_count b.instruments;
   points = point_total b.samples;
 }
 
 -- the first limit that such totals break
 unfoldable pub broken : Totals → Option Limit
 broken t =
-    if nat_lt PRESETS t.presets then Some Presets
-    else if nat_lt INSTRUMENTS t.instruments then Some Instruments
+    let presets = t.presets.records in
+    let instruments = t.instruments.records in
+    if nat_lt PRESETS t.presets.count then Some Presets
+    else if nat_lt INSTRUMENTS t.instruments.count then Some Instruments
     else if nat_lt SAMPLES t.samples then Some Samples
-    else if nat_lt ZONES t.preset_zones || nat_lt ZONES t.instrument_zones then Some Zones
-    else if nat_lt GENERATORS t.preset_gens || nat_lt GENERATORS t.instrument_gens then Some Generators
-    else if nat_lt MODULATORS t.preset_mods || nat_lt MODULATORS t.instrument_mods then Some Modulators
+    else if nat_lt ZONES presets.zones || nat_lt ZONES instruments.zones then Some Zones
+    else if nat_lt GENERATORS presets.gens || nat_lt GENERATORS instruments.gens then Some Generators
+    else if nat_lt MODULATORS presets.mods || nat_lt MODULATORS instruments.mods then Some Modulators
     else if nat_lt POINTS t.points then Some Points
     else None
 
@@ -44,20 +49,44 @@ broken_limit b = broken (totals_of b)
 abbrev pub with_sample : Totals → ℕ → Totals
 with_sample t points = record t { samples = t.samples + 1; points = t.points + (points + ZERO_POINTS) }
 
--- the totals with a preset or an instrument more, that has so many records
-abbrev pub with_owner : Level → Totals → Records → Totals
-with_owner level.Preset t r = record t { presets = t.presets + 1; preset_zones = t.preset_zones + r.zones; preset_gens = t.preset_gens + r.gens; preset_mods = t.preset_mods + r.mods }
-with_owner level.Instrument t r = record t { instruments = t.instruments + 1; instrument_zones = t.instrument_zones + r.zones; instrument_gens = t.instrument_gens + r.gens; instrument_mods = t.instrument_mods + r.mods }
+-- ---- a level of them
 
--- the same, as 64 bits count them
+abbrev pub totals_at : Level → Totals → LevelTotals
+totals_at level.Preset t = t.presets
+totals_at level.Instrument t = t.instruments
+
+-- the level sent through f
+abbrev pub level_changed : Level → (LevelTotals → LevelTotals) → Totals → Totals
+level_changed level.Preset f t = record t { presets = f t.presets }
+level_changed level.Instrument f t = record t { instruments = f t.instruments }
+
+-- so many records more, in those that there are
+abbrev pub plus_records : Records → LevelTotals → LevelTotals
+plus_records r l = record l { records = records_sum l.records r }
+
+-- one more, that has so many records
+abbrev pub plus_owner : Records → LevelTotals → LevelTotals
+plus_owner r l = record { count = l.count + 1; records = records_sum l.records r }
+
+-- as 64 bits count them
+abbrev pub level_counted : LevelTotals → LevelTotals
+level_counted l = record { count = counted l.count; records = all_counted l.records }
+
+abbrev pub with_owner : Level → Totals → Records → Totals
+with_owner at t r = level_changed at (plus_owner r) t
+
 abbrev pub with_owner_counted : Level → Totals → Records → Totals
-with_owner_counted level.Preset t r = record t { presets = counted (t.presets + 1); preset_zones = counted (t.preset_zones + r.zones); preset_gens = counted (t.preset_gens + r.gens); preset_mods = counted (t.preset_mods + r.mods) }
-with_owner_counted level.Instrument t r = record t { instruments = counted (t.instruments + 1); instrument_zones = counted (t.instrument_zones + r.zones); instrument_gens = counted (t.instrument_gens + r.gens); instrument_mods = counted (t.instrument_mods + r.mods) }
+with_owner_counted at t r = level_changed at (λ l. level_counted (plus_owner r l)) t
+
+-- so many records are counted
+pub record AreCounted (r : Records) (l : LevelTotals) : Type 0 where
+  pub zones : r.zones ≤ l.records.zones
+  pub gens : r.gens ≤ l.records.gens
+  pub mods : r.mods ≤ l.records.mods
 
 -- the totals count a preset or an instrument, and so many records
 abbrev pub HasOwner : Level → Totals → Records → Type 0
-HasOwner level.Preset t r = (0 < t.presets) × (r.zones ≤ t.preset_zones) × (r.gens ≤ t.preset_gens) × (r.mods ≤ t.preset_mods)
-HasOwner level.Instrument t r = (0 < t.instruments) × (r.zones ≤ t.instrument_zones) × (r.gens ≤ t.instrument_gens) × (r.mods ≤ t.instrument_mods)
+HasOwner at t r = (0 < (totals_at at t).count) × AreCounted r (totals_at at t)
 
 -- the word by which a limit is told
 abbrev pub word_of : Limit → List ℕ

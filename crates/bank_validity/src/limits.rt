@@ -1,11 +1,11 @@
 //! The limits of a bank, and which of them is broken first.
 ghost use Rattle.std.specs.Prelude.{◌≡◌, ◌<◌, ◌+◌, ◌≤◌, None};
 ghost use Rattle.sf_base.specs.declared.limits.TheConstants.{ZERO_POINTS};
-ghost use Rattle.bank_validity.specs.Limits.{broken, with_sample, with_owner, with_owner_counted, HasOwner, word_of};
-ghost use Rattle.bank_parts.specs.Counts.{all_counted};
+ghost use Rattle.bank_validity.specs.Limits.{broken, with_sample, with_owner, with_owner_counted, plus_records, AreCounted, HasOwner, word_of};
+ghost use Rattle.bank_parts.specs.Counts.{all_counted, records_sum};
 ghost use Rattle.bank_parts.specs.declared.counting.Records.{Records};
 
-use crate::totals::Totals;
+use crate::totals::{LevelTotals, Totals};
 use bank_parts::Records;
 use generators::Level;
 use sf_base::limits::{
@@ -48,17 +48,18 @@ impl Totals {
     pub fn broken(self) -> Option<Limit>
         ensures { result ≡ broken self }
     {
-        if self.presets > PRESETS {
+        let (presets, instruments) = (self.presets.records, self.instruments.records);
+        if self.presets.count > PRESETS {
             Some(Limit::Presets)
-        } else if self.instruments > INSTRUMENTS {
+        } else if self.instruments.count > INSTRUMENTS {
             Some(Limit::Instruments)
         } else if self.samples > SAMPLES {
             Some(Limit::Samples)
-        } else if self.preset_zones > ZONES || self.instrument_zones > ZONES {
+        } else if presets.zones > ZONES || instruments.zones > ZONES {
             Some(Limit::Zones)
-        } else if self.preset_gens > GENERATORS || self.instrument_gens > GENERATORS {
+        } else if presets.gens > GENERATORS || instruments.gens > GENERATORS {
             Some(Limit::Generators)
-        } else if self.preset_mods > MODULATORS || self.instrument_mods > MODULATORS {
+        } else if presets.mods > MODULATORS || instruments.mods > MODULATORS {
             Some(Limit::Modulators)
         } else if self.points > POINTS as usize {
             Some(Limit::Points)
@@ -132,43 +133,54 @@ impl Totals {
         requires { HasOwner at self less }
         ensures { with_owner at result less ≡ self }
     {
-        match at {
-            Level::Preset => Totals {
-                presets: self.presets - 1,
-                preset_zones: self.preset_zones - less.zones,
-                preset_gens: self.preset_gens - less.gens,
-                preset_mods: self.preset_mods - less.mods,
-                ..self
-            },
-            Level::Instrument => Totals {
-                instruments: self.instruments - 1,
-                instrument_zones: self.instrument_zones - less.zones,
-                instrument_gens: self.instrument_gens - less.gens,
-                instrument_mods: self.instrument_mods - less.mods,
-                ..self
-            },
-        }
+        let level = self.at(at);
+        let level = LevelTotals {
+            count: level.count - 1,
+            records: level.without(less).records,
+        };
+        self.with_level(at, level)
     }
 
     // A sum that would pass 2^64 stays below it.
     fn plus_owner(self, at: Level, more: Records) -> Totals
         ensures { result ≡ with_owner_counted at self more }
     {
-        match at {
-            Level::Preset => Totals {
-                presets: self.presets.saturating_add(1),
-                preset_zones: self.preset_zones.saturating_add(more.zones),
-                preset_gens: self.preset_gens.saturating_add(more.gens),
-                preset_mods: self.preset_mods.saturating_add(more.mods),
-                ..self
+        let level = self.at(at);
+        let level = LevelTotals {
+            count: level.count.saturating_add(1),
+            records: level.plus(more).records,
+        };
+        self.with_level(at, level)
+    }
+}
+
+impl LevelTotals {
+    /// The same with so many records more. A sum that would pass 2^64 stays below it.
+    pub fn plus(self, more: Records) -> LevelTotals
+        ensures { result ≡ record self { records = all_counted (records_sum self.records more) } }
+    {
+        LevelTotals {
+            records: Records {
+                zones: self.records.zones.saturating_add(more.zones),
+                gens: self.records.gens.saturating_add(more.gens),
+                mods: self.records.mods.saturating_add(more.mods),
             },
-            Level::Instrument => Totals {
-                instruments: self.instruments.saturating_add(1),
-                instrument_zones: self.instrument_zones.saturating_add(more.zones),
-                instrument_gens: self.instrument_gens.saturating_add(more.gens),
-                instrument_mods: self.instrument_mods.saturating_add(more.mods),
-                ..self
+            ..self
+        }
+    }
+
+    /// The same without so many of the records.
+    pub fn without(self, less: Records) -> LevelTotals
+        requires { AreCounted less self }
+        ensures { plus_records less result ≡ self }
+    {
+        LevelTotals {
+            records: Records {
+                zones: self.records.zones - less.zones,
+                gens: self.records.gens - less.gens,
+                mods: self.records.mods - less.mods,
             },
+            ..self
         }
     }
 }

@@ -1,28 +1,56 @@
 //! How long the lists of a bank are, as a file would hold them.
 ghost use Rattle.std.specs.Prelude.{◌≡◌};
 ghost use Rattle.bank_parts.specs.Valid.{IsWithin, point_total};
-ghost use Rattle.bank_validity.specs.Limits.{totals_of, broken, broken_limit};
+ghost use Rattle.bank_validity.specs.Limits.{totals_of, level_totals, totals_at, level_changed, level_counted, broken, broken_limit};
 ghost use Rattle.bank_parts.specs.Counts.{counted};
 
-use bank_parts::{Parts, Sample};
+use bank_parts::{OwnerHead, Owners, Parts, Records, Sample};
+use generators::Level;
 use sf_base::limits::ZERO_POINTS;
+
+/// How many presets or instruments there are, and how many records they have.
+#[derive(Clone, Copy, Debug, PartialEq, Eq)]
+pub struct LevelTotals {
+    pub count: usize,
+    pub records: Records,
+}
 
 /// How long the lists of a bank are, as a file would hold them: each zone's target is one of its
 /// generators, an empty global zone is none, and 46 zero points follow the points of each sample.
 #[derive(Clone, Copy, Debug, PartialEq, Eq)]
 pub struct Totals {
-    pub presets: usize,
-    pub instruments: usize,
+    pub presets: LevelTotals,
+    pub instruments: LevelTotals,
     pub samples: usize,
-    /// The zones of all presets.
-    pub preset_zones: usize,
-    pub preset_gens: usize,
-    pub preset_mods: usize,
-    /// The zones of all instruments.
-    pub instrument_zones: usize,
-    pub instrument_gens: usize,
-    pub instrument_mods: usize,
     pub points: usize,
+}
+
+impl Totals {
+    /// Those of a level.
+    pub fn at(self, at: Level) -> LevelTotals
+        ensures { result ≡ totals_at at self }
+    {
+        match at {
+            Level::Preset => self.presets,
+            Level::Instrument => self.instruments,
+        }
+    }
+
+    /// The same with these of a level.
+    pub fn with_level(self, at: Level, level: LevelTotals) -> Totals
+        ensures { result ≡ level_changed at (λ _. level) self }
+    {
+        match at {
+            Level::Preset => Totals {
+                presets: level,
+                ..self
+            },
+            Level::Instrument => Totals {
+                instruments: level,
+                ..self
+            },
+        }
+    }
 }
 
 /// Counts all lists, in one pass. A sum that would pass 2^64, far above each limit, stays below it.
@@ -31,19 +59,20 @@ pub fn totals_of(parts: &Parts<'_>) -> Totals
     ensures value { IsWithin parts.now → result ≡ totals_of parts.now }
     ensures limits { broken result ≡ broken_limit parts.now }
 {
-    let presets = parts.presets.records();
-    let instruments = parts.instruments.records();
     Totals {
-        presets: parts.presets.len(),
-        instruments: parts.instruments.len(),
+        presets: level_totals(&parts.presets),
+        instruments: level_totals(&parts.instruments),
         samples: parts.samples.len(),
-        preset_zones: presets.zones,
-        preset_gens: presets.gens,
-        preset_mods: presets.mods,
-        instrument_zones: instruments.zones,
-        instrument_gens: instruments.gens,
-        instrument_mods: instruments.mods,
         points: points_in(parts.samples.as_slice()),
+    }
+}
+
+fn level_totals<H: OwnerHead>(owners: &Owners<H>) -> LevelTotals
+    ensures { result ≡ level_counted (level_totals owners.now) }
+{
+    LevelTotals {
+        count: owners.len(),
+        records: owners.records(),
     }
 }
 
