@@ -66,28 +66,31 @@ pdta_size b v =
 -- ---- totals, and the records of which they are
 
 module _ (b : Parts) (t : Totals) (is : t ≡ totals_of b) (w : IsWithin b) where
-  pub few_members : (t.presets ≤ 65535) × (t.instruments ≤ 65535) × (t.samples ≤ 65535)
+  pub few_members : (t.presets.count ≤ 65535) × (t.instruments.count ≤ 65535) × (t.samples ≤ 65535)
   unfolding totals_of
   few_members = rw is (let p = w.presets in omega (arith, p), let i = w.instruments in omega (arith, i), let s = w.samples in omega (arith, s))
 
-  pub few_preset_records : (t.preset_zones ≤ 65535) × (t.preset_mods ≤ 65535) × (t.preset_gens ≤ 65535)
+  pub few_preset_records : AreFew t.presets.records
   unfolding totals_of
-  few_preset_records = rw is (let z = w.preset_zones in omega (arith, z), let m = w.preset_mods in omega (arith, m), let g = w.preset_gens in omega (arith, g))
+  few_preset_records = rw is (record { zones = let z = w.preset_zones in omega (arith, z); gens = let g = w.preset_gens in omega (arith, g); mods = let m = w.preset_mods in omega (arith, m) })
 
-  pub few_instrument_records : (t.instrument_zones ≤ 65535) × (t.instrument_mods ≤ 65535) × (t.instrument_gens ≤ 65535)
+  pub few_instrument_records : AreFew t.instruments.records
   unfolding totals_of
-  few_instrument_records = rw is (let z = w.instrument_zones in omega (arith, z), let m = w.instrument_mods in omega (arith, m), let g = w.instrument_gens in omega (arith, g))
+  few_instrument_records = rw is (record { zones = let z = w.instrument_zones in omega (arith, z); gens = let g = w.instrument_gens in omega (arith, g); mods = let m = w.instrument_mods in omega (arith, m) })
 
   pub few_points : t.points ≤ 500000000
   unfolding totals_of
   few_points = rw is (let p = w.points in omega (arith, p))
 
 -- the sizes of the three lists of all presets, or of all instruments
-pub zone_sizes : {H : Type 0} (at : Level) (owners : List (WithZones H)) (zones gens mods : ℕ) (sizes : ZoneSizes)
-    → zones ≡ owner_total zone_count owners → gens ≡ owner_total gen_count owners → mods ≡ owner_total mod_count owners
-    → sizes.bags ≡ 4 * (zones + 1) → sizes.mods ≡ 10 * (mods + 1) → sizes.gens ≡ 4 * (gens + 1) → AreZoneSizes (all_bags at owners) sizes
-zone_sizes at owners zones gens mods sizes z g m bags mods_are gens_are = record {
-  bags = omega (arith, bag_records-length at owners, z, bags);
-  mods = omega (arith, mod_records-length at owners, m, mods_are);
-  gens = omega (arith, gen_records-length at owners, g, gens_are);
-}
+pub zone_sizes : {H : Type 0} (at : Level) (owners : List (WithZones H)) (l : LevelTotals) (sizes : ZoneSizes) → l ≡ level_totals owners
+    → sizes.bags ≡ 4 * (l.records.zones + 1) → sizes.mods ≡ 10 * (l.records.mods + 1) → sizes.gens ≡ 4 * (l.records.gens + 1) → AreZoneSizes (all_bags at owners) sizes
+zone_sizes at owners l sizes is bags mods gens =
+    let zones_are = ap (λ (l : LevelTotals). l.records.zones) is in
+    let gens_are = ap (λ (l : LevelTotals). l.records.gens) is in
+    let mods_are = ap (λ (l : LevelTotals). l.records.mods) is in
+    record {
+      bags = omega (arith, bag_records-length at owners, zones_are, bags);
+      mods = omega (arith, mod_records-length at owners, mods_are, mods);
+      gens = omega (arith, gen_records-length at owners, gens_are, gens);
+    }

@@ -3,11 +3,12 @@
 ghost use Rattle.std.specs.Prelude.{◌≡◌, ◌+◌, ◌*◌, ◌<◌, ◌≤◌, ◌^◌};
 ghost use Rattle.bank_validity.specs.Limits.{totals_of};
 ghost use Rattle.bank_parts.specs.Valid.{IsValid};
-ghost use Rattle.sf_writer.specs.Sizes.{AreSizes};
+ghost use Rattle.sf_writer.specs.Sizes.{AreFew, AreSizes};
 
 use crate::chunks::{FORM_SIZE, HEAD_SIZE};
 use crate::info::chunks_size;
 use bank_core::Bank;
+use bank_parts::Records;
 use bank_validity::Totals;
 use hydra_records::{Bag, Generator, InstrumentHead, PresetHead, Record, SampleHead};
 use modulators::Modulator;
@@ -44,14 +45,10 @@ impl Sizes {
         let info = FORM_SIZE + chunks_size(bank);
         let smpl = 2 * totals.points as u32;
         let sdta = FORM_SIZE + HEAD_SIZE + smpl;
-        let phdr = list_size(totals.presets, PresetHead::SIZE);
-        let presets = ZoneSizes::of(totals.preset_zones, totals.preset_mods, totals.preset_gens);
-        let inst = list_size(totals.instruments, InstrumentHead::SIZE);
-        let instruments = ZoneSizes::of(
-            totals.instrument_zones,
-            totals.instrument_mods,
-            totals.instrument_gens,
-        );
+        let phdr = list_size(totals.presets.count, PresetHead::SIZE);
+        let presets = ZoneSizes::of(totals.presets.records);
+        let inst = list_size(totals.instruments.count, InstrumentHead::SIZE);
+        let instruments = ZoneSizes::of(totals.instruments.records);
         let shdr = list_size(totals.samples, SampleHead::SIZE);
         let heads = phdr + inst + shdr;
         let pdta = FORM_SIZE + 9 * HEAD_SIZE + heads + presets.total() + instruments.total();
@@ -71,17 +68,17 @@ impl Sizes {
 }
 
 impl ZoneSizes {
-    // The sizes of the lists of so many bags, modulators and generators.
-    fn of(bags: usize, mods: usize, gens: usize) -> ZoneSizes
-        requires few { (bags ≤ 65535) × (mods ≤ 65535) × (gens ≤ 65535) }
-        ensures bags { result.bags ≡ 4 * (bags + 1) }
-        ensures mods { result.mods ≡ 10 * (mods + 1) }
-        ensures gens { result.gens ≡ 4 * (gens + 1) }
+    // The sizes of the lists of so many records.
+    fn of(records: Records) -> ZoneSizes
+        requires few { AreFew records }
+        ensures bags { result.bags ≡ 4 * (records.zones + 1) }
+        ensures mods { result.mods ≡ 10 * (records.mods + 1) }
+        ensures gens { result.gens ≡ 4 * (records.gens + 1) }
     {
         ZoneSizes {
-            bags: list_size(bags, Bag::SIZE),
-            mods: list_size(mods, Modulator::SIZE),
-            gens: list_size(gens, Generator::SIZE),
+            bags: list_size(records.zones, Bag::SIZE),
+            mods: list_size(records.mods, Modulator::SIZE),
+            gens: list_size(records.gens, Generator::SIZE),
         }
     }
 
@@ -98,9 +95,9 @@ impl ZoneSizes {
 fn file_totals(bank: &Bank<'_>) -> Totals
     ensures value { result ≡ totals_of bank.now }
     ensures valid { IsValid bank.now }
-    ensures members { (result.presets ≤ 65535) × (result.instruments ≤ 65535) × (result.samples ≤ 65535) }
-    ensures presets { (result.preset_zones ≤ 65535) × (result.preset_mods ≤ 65535) × (result.preset_gens ≤ 65535) }
-    ensures instruments { (result.instrument_zones ≤ 65535) × (result.instrument_mods ≤ 65535) × (result.instrument_gens ≤ 65535) }
+    ensures members { (result.presets.count ≤ 65535) × (result.instruments.count ≤ 65535) × (result.samples ≤ 65535) }
+    ensures presets { AreFew result.presets.records }
+    ensures instruments { AreFew result.instruments.records }
     ensures points { result.points ≤ 500000000 }
 {
     bank.totals()
