@@ -10,11 +10,12 @@ use Rattle.riff_chunks.proofs.SpellingLemmas.{length-chunk}
 use Rattle.hydra_records.specs.Spelling.{preset_head_bytes, bag_bytes, modulator_bytes, generator_bytes, instrument_head_bytes, sample_head_bytes}
 use Rattle.bank_parts.specs.declared.parts.Parts.{Parts}
 use Rattle.bank_parts.specs.declared.parts.WithZones.{WithZones}
+use Rattle.bank_validity.specs.declared.totals.LevelTotals.{LevelTotals}
 use Rattle.bank_validity.specs.declared.totals.Totals.{Totals}
-use Rattle.bank_validity.specs.Limits.{totals_of}
+use Rattle.bank_validity.specs.Limits.{totals_of, level_totals}
 use Rattle.bank_parts.specs.Valid.{owner_total, zone_count, gen_count, mod_count, IsValid, IsWithin}
 use Rattle.sf_writer.specs.declared.sizes.ZoneSizes.{ZoneSizes}
-use Rattle.sf_writer.specs.Sizes.{AreZoneSizes}
+use Rattle.sf_writer.specs.Sizes.{AreFew, AreZoneSizes}
 use Rattle.sf_writer.proofs.FlatLemmas.{bag_records-length, mod_records-length, gen_records-length}
 use Rattle.bank_format.specs.Ids.{SFBK, INFO, SDTA, PDTA, PHDR, INST}
 use Rattle.bank_format.specs.Zones.{Bagged}

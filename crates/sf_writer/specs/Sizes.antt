@@ -1,9 +1,10 @@
 -- What the heads of the chunks of a bank's file say: the length of each body.
-use Rattle.std.specs.Prelude.{◌≡◌, List, ◌++◌, length, flat_map}
+use Rattle.std.specs.Prelude.{◌≡◌, ◌≤◌, List, ◌++◌, length, flat_map}
 use Rattle.generators.specs.declared.level.Level.TheVariants as level
 use Rattle.sample_view.specs.Words.{word_bytes}
 use Rattle.riff_chunks.specs.Spelling.{spell}
 use Rattle.hydra_records.specs.Spelling.{preset_head_bytes, bag_bytes, modulator_bytes, generator_bytes, instrument_head_bytes, sample_head_bytes}
+use Rattle.bank_parts.specs.declared.counting.Records.{Records}
 use Rattle.bank_parts.specs.declared.parts.Parts.{Parts}
 use Rattle.bank_format.specs.Ids.{SFBK, INFO, SDTA, PDTA}
 use Rattle.bank_format.specs.Zones.{Bagged}
@@ -11,6 +12,12 @@ use Rattle.bank_format.specs.Tables.{tables_of, bag_list, mod_list, gen_list, al
 use Rattle.bank_format.specs.Canon.{info, sdta, pdta, lists}
 use Rattle.sf_writer.specs.declared.sizes.Sizes.{Sizes}
 use Rattle.sf_writer.specs.declared.sizes.ZoneSizes.{ZoneSizes}
+
+-- as many as an index of 16 bits counts
+pub record AreFew (r : Records) : Type 0 where
+  pub zones : r.zones ≤ 65535
+  pub gens : r.gens ≤ 65535
+  pub mods : r.mods ≤ 65535
 
 -- of the three lists of these bags
 pub record AreZoneSizes (all : List Bagged) (sizes : ZoneSizes) : Type 0 where
