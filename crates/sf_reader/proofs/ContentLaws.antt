@@ -10,7 +10,7 @@ use Rattle.bank_format.specs.Tables.{Tables}
 use Rattle.bank_format.specs.Texts.{texts_read, texts_cut}
 use Rattle.bank_format.specs.Samples.{is_loop_lost, is_link_lost}
 use Rattle.bank_format.specs.Reading.{sm24_dropped}
-use Rattle.zone_reader.specs.declared.zones.ZoneCounts.{ZoneCounts}
+use Rattle.sf_reader.specs.declared.zones.ZoneCounts.{ZoneCounts}
 use Rattle.sf_reader.specs.declared.owners.Members.{Members}
 use Rattle.sf_reader.specs.Lists.{ListChunks}
 use Rattle.sf_reader.specs.Texts.{texts_in, cut_of, cut_count}

@@ -12,7 +12,7 @@ use Rattle.hydra_records.specs.declared.zone.Generator.{Generator}
 use Rattle.bank_format.specs.Windows.{windows, windows_from, together}
 use Rattle.bank_format.specs.Zones.{Bagged, has_target, is_target, before_target, allowed_in, last_of_each, kept, is_mended, dropped, looked_at, ignored, gens_dropped, ranges_mended}
 use Rattle.bank_format.specs.Reading.{bagged, bags_in}
-use Rattle.zone_reader.specs.declared.zones.ZoneCounts.{ZoneCounts}
+use Rattle.sf_reader.specs.declared.zones.ZoneCounts.{ZoneCounts}
 use Rattle.sf_reader.specs.Owners.{AreSmall, added, counts_over}
 use Rattle.sf_reader.proofs.WindowLaws.{length-windows}
 

@@ -10,3 +10,7 @@ pub mod TableLaws
 pub mod ReadLaws
 pub mod ContentLaws
 pub mod ByteLemmas
+pub mod Kept
+pub mod Mending
+pub mod Reading
+pub mod Later

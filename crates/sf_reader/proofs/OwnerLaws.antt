@@ -19,9 +19,9 @@ use Rattle.bank_format.specs.Zones.{Bagged, zones_read, ignored, gens_dropped, r
 use Rattle.bank_format.specs.Tables.{Headers}
 use Rattle.bank_format.specs.Reading.{bags_in, owner_read}
 use Rattle.bank_format.specs.ReadSteps.{target_step}
-use Rattle.zone_reader.specs.declared.zones.ZoneCounts.{ZoneCounts}
-use Rattle.zone_reader.specs.declared.zones.BagsRead.{BagsRead}
-use Rattle.zone_reader.specs.Bags.{counts_read, bags_read}
+use Rattle.sf_reader.specs.declared.zones.ZoneCounts.{ZoneCounts}
+use Rattle.sf_reader.specs.declared.zones.BagsRead.{BagsRead}
+use Rattle.sf_reader.specs.Bags.{counts_read, bags_read}
 use Rattle.sf_reader.specs.declared.hydra.LevelTables.{LevelTables}
 use Rattle.sf_reader.specs.declared.owners.OwnerRead.{OwnerRead}
 use Rattle.sf_reader.specs.Owners.{AreSmall, added, counts_over, owner_with_counts, zone_steps, window_of}

@@ -9,3 +9,6 @@ pub mod Hydra
 pub mod Owners
 pub mod Texts
 pub mod Content
+pub mod Gens
+pub mod Bags
+pub mod Later

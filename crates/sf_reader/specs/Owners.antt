@@ -11,8 +11,8 @@ use Rattle.bank_format.specs.Zones.{Bagged, zones_read, ignored, gens_dropped, r
 use Rattle.bank_format.specs.Tables.{Tables, Headers, presets, instruments}
 use Rattle.bank_format.specs.Reading.{bags_in, preset_windows, instrument_windows, owner_read}
 use Rattle.bank_format.specs.ReadSteps.{target_step}
-use Rattle.zone_reader.specs.declared.zones.ZoneCounts.{ZoneCounts}
-use Rattle.zone_reader.specs.Bags.{counts_read}
+use Rattle.sf_reader.specs.declared.zones.ZoneCounts.{ZoneCounts}
+use Rattle.sf_reader.specs.Bags.{counts_read}
 use Rattle.sf_reader.specs.declared.hydra.LevelTables.{LevelTables}
 use Rattle.sf_reader.specs.declared.owners.OwnerRead.{OwnerRead}
 use Rattle.sf_reader.specs.declared.owners.OwnersRead.{OwnersRead}

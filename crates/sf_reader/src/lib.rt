@@ -3,6 +3,7 @@
 //! bank_format.
 #![tactic(auto)]
 
+mod bag;
 mod frame;
 mod hydra;
 mod indexes;
@@ -10,6 +11,7 @@ mod owners;
 mod reader;
 mod samples;
 mod texts;
+mod zones;
 
 pub use bank_format::{Counts, ReadFault};
 pub use reader::read;

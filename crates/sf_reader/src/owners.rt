@@ -8,11 +8,11 @@ ghost use Rattle.bank_format.specs.ReadSteps.{count_steps, all_index_steps, targ
 ghost use Rattle.sf_reader.specs.Owners.{added, AreSmall, window_of, windows_of, owner_with_counts, owners_with_counts, zone_steps, members_of, member_steps};
 
 use crate::hydra::{LevelTables, Tables, row_count};
+use crate::zones::{BagsRead, ZoneCounts, read_bags};
 use bank_format::{ReadFault, RecordedHead};
 use bank_parts::{Head, OwnerHead, Owners, WithZones, Zone};
 use sf_base::{Failure, Name20};
 use std::alloc::Global;
-use zone_reader::{BagsRead, ZoneCounts, read_bags};
 
 /// A preset or an instrument, and what was dropped or mended in its zones.
 #[derive(Drop)]

@@ -1,5 +1,5 @@
 -- What the heads of the file, of its lists and of their chunks say, by what stands in them.
-use Rattle.std.proofs.Common.{◌*◌, ◌≤◌, ◌≡◌, ◌+◌, ℕ, List, ◌++◌, length, refl, arith}
+use Rattle.std.proofs.Common.{◌*◌, ◌≤◌, ◌≡◌, ◌+◌, ℕ, List, ◌++◌, length, ap, refl, arith}
 use Rattle.std.specs.List.{flat_map}
 use Rattle.std.proofs.lemmas.List.{length-append}
 use Rattle.generators.specs.declared.level.Level.{Level}

@@ -1,7 +1,7 @@
 use Rattle.std.proofs.Common.{◌∙◌, ap, sym}
 use Rattle.sf_base.specs.declared.memory.Failure.TheVariants.{Fault}
 use Rattle.bank_format.specs.Zones.{zones_read}
-use Rattle.zone_reader.specs.declared.zones.BagsRead.{BagsRead}
+use Rattle.sf_reader.specs.declared.zones.BagsRead.{BagsRead}
 use Rattle.sf_reader.specs.Owners.{window_of}
 use Rattle.sf_reader.proofs.OwnerLaws.{read_between, targets_fail, targets_hold}
 use Rattle.sf_reader.proofs.owners.read_owner.Goals as goal

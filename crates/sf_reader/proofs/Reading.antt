@@ -5,10 +5,10 @@ use Rattle.generators.specs.Gens.{Gens, no_gens, set_in_order}
 use Rattle.generators.specs.declared.level.Level.{Level}
 use Rattle.hydra_records.specs.declared.zone.Generator.{Generator}
 use Rattle.bank_format.specs.Zones.{target_of, kept, gens_of, gens_read, allowed_in, before_target, dropped}
-use Rattle.zone_reader.specs.Gens.{entries_in, one_if, mended_at, is_out_of_order, gens_read_of}
-use Rattle.zone_reader.specs.declared.bag.GensRead.{GensRead}
-use Rattle.zone_reader.proofs.Kept.{set_kept, len_kept, length-kept}
-use Rattle.zone_reader.proofs.Mending.{mended_gens, mended_count}
+use Rattle.sf_reader.specs.Gens.{entries_in, one_if, mended_at, is_out_of_order, gens_read_of}
+use Rattle.sf_reader.specs.declared.bag.GensRead.{GensRead}
+use Rattle.sf_reader.proofs.Kept.{set_kept, len_kept, length-kept}
+use Rattle.sf_reader.proofs.Mending.{mended_gens, mended_count}
 
 module _ (at : Level) (rs : List Generator) (raw : Gens) (target : Option ℕ) (raw_is : raw ≡ set_in_order no_gens (entries_in at rs)) (target_is : target ≡ target_of at rs) where
   raw_kept : raw ≡ gens_of (kept at rs)

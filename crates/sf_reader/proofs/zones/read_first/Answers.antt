@@ -1,8 +1,8 @@
 use Rattle.std.proofs.Common.{◌∙◌, ◌++◌, ◌∷◌, [], List, ap}
 use Rattle.bank_parts.specs.declared.parts.Zone.{Zone}
 use Rattle.bank_format.specs.Reading.{bagged}
-use Rattle.zone_reader.proofs.Later.{first_global_as, first_zone_as}
-use Rattle.zone_reader.proofs.zones.read_first.Goals as goal
+use Rattle.sf_reader.proofs.Later.{first_global_as, first_zone_as}
+use Rattle.sf_reader.proofs.zones.read_first.Goals as goal
 
 pub returns-in_default : goal.returns-in_default
 returns-in_default c =

@@ -2,9 +2,9 @@ use Rattle.std.proofs.Common.{◌≡◌, ◌-◌, ◌+◌, ◌∙◌, ap, arith,
 use Rattle.std.proofs.lemmas.Grind.{common_steps}
 use Rattle.std.specs.FinMap.{len}
 use Rattle.generators.specs.Gens.{no_gens, set_in_order}
-use Rattle.zone_reader.specs.Gens.{entries_in, one_if}
-use Rattle.zone_reader.proofs.Reading.{used_fits, all_read}
-use Rattle.zone_reader.proofs.bag.read_gens.Goals as goal
+use Rattle.sf_reader.specs.Gens.{entries_in, one_if}
+use Rattle.sf_reader.proofs.Reading.{used_fits, all_read}
+use Rattle.sf_reader.proofs.bag.read_gens.Goals as goal
 
 pub overflow_sub-dropped : goal.overflow_sub-dropped
 overflow_sub-dropped c =

@@ -2,8 +2,8 @@
 use Rattle.std.specs.Prelude.{List}
 use Rattle.generators.specs.declared.level.Level.{Level}
 use Rattle.bank_format.specs.Zones.{Bagged, global_read, zones_read, ignored, gens_dropped, ranges_mended}
-use Rattle.zone_reader.specs.declared.zones.ZoneCounts.{ZoneCounts}
-use Rattle.zone_reader.specs.declared.zones.BagsRead.{BagsRead}
+use Rattle.sf_reader.specs.declared.zones.ZoneCounts.{ZoneCounts}
+use Rattle.sf_reader.specs.declared.zones.BagsRead.{BagsRead}
 
 abbrev pub counts_read : Level → List Bagged → ZoneCounts
 counts_read at bags = record { zones = ignored at bags; gens = gens_dropped at bags; ranges = ranges_mended at bags }

@@ -15,12 +15,12 @@ use Rattle.bank_parts.specs.declared.parts.Zone.{Zone}
 use Rattle.bank_format.specs.Windows.{windows_from, together}
 use Rattle.bank_format.specs.Reading.{bagged, bags_in}
 use Rattle.bank_format.specs.Zones.{Bagged, target_of, has_target, zone_read, zone_of, zones_read, global_read, gens_read, no_global, looked_at, ignored, dropped, kept, is_mended, gens_dropped, ranges_mended}
-use Rattle.zone_reader.specs.declared.zones.BagsRead.{BagsRead}
-use Rattle.zone_reader.specs.Bags.{bags_read, counts_read}
-use Rattle.zone_reader.specs.Gens.{gens_read_of}
-use Rattle.zone_reader.specs.declared.bag.GensRead.{GensRead}
-use Rattle.zone_reader.specs.Later.{with_later, AreFew}
-use Rattle.zone_reader.proofs.Kept.{length-kept}
+use Rattle.sf_reader.specs.declared.zones.BagsRead.{BagsRead}
+use Rattle.sf_reader.specs.Bags.{bags_read, counts_read}
+use Rattle.sf_reader.specs.Gens.{gens_read_of}
+use Rattle.sf_reader.specs.declared.bag.GensRead.{GensRead}
+use Rattle.sf_reader.specs.Later.{with_later, AreFew}
+use Rattle.sf_reader.proofs.Kept.{length-kept}
 
 abbrev gens_in : Level → Bagged → ℕ
 gens_in at r = dropped at r.gens

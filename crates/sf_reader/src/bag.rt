@@ -2,7 +2,7 @@
 ghost use Rattle.std.specs.Prelude.{◌≡◌, ◌≤◌, ◌+◌, length, IfOk, OnOk};
 ghost use Rattle.bank_format.specs.Zones.{range_mended, target_of};
 ghost use Rattle.generators.specs.Gens.{set_in_order};
-ghost use Rattle.zone_reader.specs.Gens.{entries_in, gens_read_of, is_out_of_order, mended_at, one_if};
+ghost use Rattle.sf_reader.specs.Gens.{entries_in, gens_read_of, is_out_of_order, mended_at, one_if};
 
 use generators::operators::{KEY_RANGE, VEL_RANGE};
 use generators::{GenMap, Level, Range, allowed};

@@ -1,8 +1,8 @@
 use Rattle.std.proofs.Common.{◌≡◌}
 use Rattle.bank_format.specs.Zones.{target_of}
 use Rattle.generators.specs.Gens.{set_in_order}
-use Rattle.zone_reader.specs.Gens.{entries_in}
-use Rattle.zone_reader.proofs.bag.set_gens.Given as goal
+use Rattle.sf_reader.specs.Gens.{entries_in}
+use Rattle.sf_reader.proofs.bag.set_gens.Given as goal
 
 -- the records that are left decide the target, and set what is still to be set
 abbrev pub invariant-loop-record : goal.invariant-loop-record

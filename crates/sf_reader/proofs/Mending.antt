@@ -12,7 +12,7 @@ use Rattle.generators.proofs.Order.{operator_cmp-IsTotalOrder, tied, tied_same, 
 use Rattle.generators.proofs.MapLaws.{same_gens, get-insert_any}
 use Rattle.hydra_records.specs.declared.zone.Generator.{Generator}
 use Rattle.bank_format.specs.Zones.{last_of_each, gens_of, mended, is_mended, range_mended}
-use Rattle.zone_reader.specs.Gens.{entry_of, one_if, is_out_of_order, mended_at}
+use Rattle.sf_reader.specs.Gens.{entry_of, one_if, is_out_of_order, mended_at}
 
 -- ---- the amounts
 

@@ -5,7 +5,7 @@ use Rattle.generators.specs.Gens.{Gens}
 use Rattle.generators.specs.declared.level.Level.{Level}
 use Rattle.hydra_records.specs.declared.zone.Generator.{Generator}
 use Rattle.bank_format.specs.Zones.{before_target, allowed_in, kept, range_mended, is_mended, gens_read, target_of, dropped}
-use Rattle.zone_reader.specs.declared.bag.GensRead.{GensRead}
+use Rattle.sf_reader.specs.declared.bag.GensRead.{GensRead}
 
 abbrev pub gens_read_of : Level → List Generator → GensRead
 gens_read_of at rs = record { gens = gens_read at rs; target = target_of at rs; dropped = dropped at rs; ranges = count_by is_mended (kept at rs) }

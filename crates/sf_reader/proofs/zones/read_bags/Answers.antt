@@ -1,10 +1,10 @@
 use Rattle.std.proofs.Common.{◌≡◌, ◌∙◌, ◌∷◌, [], List, ap, sym}
 use Rattle.bank_format.specs.Reading.{bagged, bags_in}
 use Rattle.hydra_records.specs.declared.zone.Bag.{Bag}
-use Rattle.zone_reader.specs.Bags.{bags_read}
-use Rattle.zone_reader.specs.Later.{with_later}
-use Rattle.zone_reader.proofs.Later.{bags_in-none, bags_in-one, bag_of, first_read, later_read, all_read, few_so_far, few_in_all}
-use Rattle.zone_reader.proofs.zones.read_bags.Goals as goal
+use Rattle.sf_reader.specs.Bags.{bags_read}
+use Rattle.sf_reader.specs.Later.{with_later}
+use Rattle.sf_reader.proofs.Later.{bags_in-none, bags_in-one, bag_of, first_read, later_read, all_read, few_so_far, few_in_all}
+use Rattle.sf_reader.proofs.zones.read_bags.Goals as goal
 
 pub returns-in_default : goal.returns-in_default
 returns-in_default c =

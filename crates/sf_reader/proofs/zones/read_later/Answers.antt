@@ -1,6 +1,6 @@
 use Rattle.bank_format.specs.Reading.{bagged}
-use Rattle.zone_reader.proofs.Later.{later_ignored_as, later_zone_as}
-use Rattle.zone_reader.proofs.zones.read_later.Goals as goal
+use Rattle.sf_reader.proofs.Later.{later_ignored_as, later_zone_as}
+use Rattle.sf_reader.proofs.zones.read_later.Goals as goal
 
 pub returns-in_default : goal.returns-in_default
 returns-in_default c =

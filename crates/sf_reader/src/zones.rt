@@ -4,8 +4,8 @@ ghost use Rattle.sf_base.specs.declared.limits.TheConstants.{RECORDS};
 ghost use Rattle.bank_format.specs.Reading.{bagged, bags_in};
 ghost use Rattle.bank_format.specs.Zones.{no_global};
 ghost use Rattle.generators.specs.declared.level.Level.{Level};
-ghost use Rattle.zone_reader.specs.Bags.{bags_read};
-ghost use Rattle.zone_reader.specs.Later.{AreFew, with_later};
+ghost use Rattle.sf_reader.specs.Bags.{bags_read};
+ghost use Rattle.sf_reader.specs.Later.{AreFew, with_later};
 
 use crate::bag::{GensRead, read_gens, read_mods};
 use bank_parts::{GlobalZone, Zone};
@@ -18,22 +18,22 @@ use std::alloc::Global;
 
 /// What was dropped or mended in the bags of a preset or an instrument, each counted.
 #[derive(Clone, Copy, Debug, PartialEq, Eq)]
-pub struct ZoneCounts {
+pub(crate) struct ZoneCounts {
     /// Zones without a target, the first not among them, that were ignored.
-    pub zones: u64,
+    pub(crate) zones: u64,
     /// Generator records that were dropped.
-    pub gens: u64,
+    pub(crate) gens: u64,
     /// Ranges that were cut or turned.
-    pub ranges: u64,
+    pub(crate) ranges: u64,
 }
 
 /// The zones of a preset or an instrument, as its bags say them.
 #[derive(Drop)]
-pub struct BagsRead {
+pub(crate) struct BagsRead {
     /// The global zone, which is empty where there is none.
-    pub global: GlobalZone,
-    pub zones: NumberedList<Zone>,
-    pub counts: ZoneCounts,
+    pub(crate) global: GlobalZone,
+    pub(crate) zones: NumberedList<Zone>,
+    pub(crate) counts: ZoneCounts,
 }
 
 /// Reads the zones of a preset or an instrument at its level. `bags` are its bags and the bag after
@@ -42,7 +42,7 @@ pub struct BagsRead {
 /// The records up to the first target are kept, of each operator the last, where the level allows the
 /// operator; a range has its ends cut to 127 and put in order. The first bag, where it has no target,
 /// is the global zone; a later one is ignored.
-pub fn read_bags(
+pub(crate) fn read_bags(
     alloc: Global,
     level: Level,
     bags: &Table<'_, Bag>,

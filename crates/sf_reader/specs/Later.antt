@@ -2,8 +2,8 @@
 use Rattle.std.specs.Prelude.{◌+◌, ◌^◌, ◌≤◌, ◌++◌, List, not, filter, count_by, sum_by}
 use Rattle.generators.specs.declared.level.Level.{Level}
 use Rattle.bank_format.specs.Zones.{Bagged, zones_read, has_target, dropped, kept, is_mended}
-use Rattle.zone_reader.specs.declared.zones.ZoneCounts.{ZoneCounts}
-use Rattle.zone_reader.specs.declared.zones.BagsRead.{BagsRead}
+use Rattle.sf_reader.specs.declared.zones.ZoneCounts.{ZoneCounts}
+use Rattle.sf_reader.specs.declared.zones.BagsRead.{BagsRead}
 
 abbrev pub counts_with_later : Level → ZoneCounts → List Bagged → ZoneCounts
 counts_with_later at counts bags = record {

@@ -1,5 +1,5 @@
 use Rattle.std.proofs.Common.{◌≡◌, ◌++◌}
-use Rattle.zone_reader.proofs.bag.read_mods.Given as goal
+use Rattle.sf_reader.proofs.bag.read_mods.Given as goal
 
 -- the modulators so far and those that are left are all
 abbrev pub invariant-loop-modulator : goal.invariant-loop-modulator

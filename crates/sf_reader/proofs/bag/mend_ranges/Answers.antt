@@ -1,8 +1,8 @@
 use Rattle.std.proofs.Common.{◌≡◌, ◌∙◌, ap, arith, rules}
 use Rattle.std.proofs.lemmas.Grind.{common_steps}
-use Rattle.zone_reader.specs.Gens.{is_out_of_order, one_if}
-use Rattle.zone_reader.proofs.Mending.{second_range}
-use Rattle.zone_reader.proofs.bag.mend_ranges.Goals as goal
+use Rattle.sf_reader.specs.Gens.{is_out_of_order, one_if}
+use Rattle.sf_reader.proofs.Mending.{second_range}
+use Rattle.sf_reader.proofs.bag.mend_ranges.Goals as goal
 
 pub returns-clause-count : goal.returns-clause-count
 returns-clause-count c =

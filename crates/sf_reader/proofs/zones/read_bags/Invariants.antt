@@ -1,8 +1,8 @@
 use Rattle.std.proofs.Common.{◌≡◌, ◌∷◌}
 use Rattle.bank_format.specs.Reading.{bags_in}
-use Rattle.zone_reader.specs.Bags.{bags_read}
-use Rattle.zone_reader.specs.Later.{with_later}
-use Rattle.zone_reader.proofs.zones.read_bags.Given as goal
+use Rattle.sf_reader.specs.Bags.{bags_read}
+use Rattle.sf_reader.specs.Later.{with_later}
+use Rattle.sf_reader.proofs.zones.read_bags.Given as goal
 
 -- what was read, gone on with by the bags that are left, is what all say
 abbrev pub invariant-loop-end : goal.invariant-loop-end

@@ -12,7 +12,7 @@ use Rattle.generators.specs.declared.level.Level.{Level}
 use Rattle.generators.proofs.SettingLaws.{last_of_each_count, last_of_each_are_all}
 use Rattle.hydra_records.specs.declared.zone.Generator.{Generator}
 use Rattle.bank_format.specs.Zones.{is_target, target_of, before_target, allowed_in, last_of_each, kept, gens_of}
-use Rattle.zone_reader.specs.Gens.{entry_of, entries_in, one_if}
+use Rattle.sf_reader.specs.Gens.{entry_of, entries_in, one_if}
 
 -- ---- the last of each operator, of records and of entries
 

@@ -1,4 +1,0 @@
-pub mod Kept
-pub mod Mending
-pub mod Reading
-pub mod Later
