@@ -4,8 +4,9 @@ package Runs;
 use strict;
 use warnings;
 use Banks;
+use Cwd 'abs_path';
 use Exporter 'import';
-our @EXPORT = qw(run_in program_of_runs run run_command is_right tell totals canon apply apply_text knows_groups same undone);
+our @EXPORT = qw(program_that_was_built run_in program_of_runs run run_command is_right tell totals canon apply apply_text knows_groups same undone);
 
 # The faults and refusals, by their numbers.
 our %FAULTS = (
@@ -27,7 +28,20 @@ my ($program, $folder);
 our $preloaded;
 # What stands behind `apply` in each run of it.
 our @flags;
+# What stands before each line that is told.
+our $prefix = 'hostile';
 my ($passed, $failed) = (0, 0);
+
+# The program that SFBANK names; else the one that the gate left, which is proved and built where it is older than a
+# source of the folder above all others.
+sub program_that_was_built {
+    my ($top) = @_;
+    return abs_path($ENV{SFBANK}) if $ENV{SFBANK};
+    my $made = "$top/crates/sfbank_cli/out/sfbank_cli";
+    my $newer = -x $made ? `find $top/crates/*/src $top/crates/*/specs -newer $made -print -quit` : 'all';
+    system("cd $top/crates/sfbank_cli && rt run -- --version > /dev/null 2>&1") if $newer;
+    return $made;
+}
 
 # The program that all runs are of, and the folder in which they are.
 sub run_in { ($program, $folder) = @_; chdir $folder or die "$folder: $!\n"; }
@@ -37,7 +51,7 @@ sub program_of_runs { return $program; }
 sub tell {
     my ($name, $wrong) = @_;
     if (!defined $wrong) { $passed++; return; }
-    print "hostile: $name: $wrong\n" if ++$failed <= 20;
+    print "$prefix: $name: $wrong\n" if ++$failed <= 20;
 }
 
 sub totals { return ($passed, $failed); }

@@ -1,25 +1,18 @@
-//! What only a run can show of files: that each call succeeds, that files of the format come out byte
-//! for byte, what is left where a writer fails, and what the program does.
+//! What no run of the program shows of files: what calls tell of banks, banks that are made of parts and of flat lists, the
+//! calls of the lower crates, writers that fail, and what a terminal is told of long work. What a run of the program
+//! shows stands in the tables of `checks/rows`.
 #![tactic(auto)]
 
 #[cfg(test)]
 mod banks;
 #[cfg(test)]
-mod details;
-#[cfg(test)]
 mod flat_banks;
+#[cfg(test)]
+mod imports;
 mod lists;
 #[cfg(test)]
 mod long_work;
 #[cfg(test)]
 mod program;
 #[cfg(test)]
-mod samples;
-#[cfg(test)]
-mod saving;
-#[cfg(test)]
-mod steps;
-#[cfg(test)]
 mod writers;
-#[cfg(test)]
-mod zones;

@@ -1,7 +1,6 @@
 //! The voices of pairs of zones, of banks that scripts build.
 
 use crate::players::{Act, TEN, edits};
-use crate::rendered::RELEASED;
 use note_list::Note;
 use sf_base::Failure;
 use sf_reader::read;
@@ -15,7 +14,10 @@ use zone_select::params;
 /// A sample of the points 1000, 2000, -2000 with a loop from the second on, and one of one point.
 pub(crate) const THREE: &[u8] = b"add-sample 0 \"t\" 44100 60 0 mono loop 1 3 xe803d00730f8\n";
 
-pub(crate) const ONE: &[u8] = b"add-sample 0 \"c\" 44100 60 0 mono loop 0 1 xe803\n";
+const ONE: &[u8] = b"add-sample 0 \"c\" 44100 60 0 mono loop 0 1 xe803\n";
+
+/// An instrument over the sample of one point whose notes have a release of 43 frames.
+const RELEASED: &[u8] = b"add-inst 0 \"i\" { 0 g 17 500 g 34 -11999 g 38 -11999 g 54 1 }\n";
 
 const PRESET: &[u8] = b"add-preset 0 \"p\" 0 0 0 0 0 { 0 }\n";
 

@@ -125,31 +125,8 @@ pub fn empty() -> File {
     )
 }
 
-/// The size field of each list of records of the empty bank's file, and the size of a record.
-pub const LISTS: [(usize, usize); 9] = [
-    (98, 38),
-    (144, 4),
-    (156, 10),
-    (174, 4),
-    (186, 22),
-    (216, 4),
-    (228, 10),
-    (246, 4),
-    (258, 46),
-];
-
-/// The empty bank's file without the one record of a list.
-pub fn without_record(size: usize, record: usize) -> File {
-    let less = (record % 256) as u32;
-    empty()
-        .with(size.saturating_add(4), record, b"")
-        .with(size, 4, &[0; 4])
-        .with(86, 4, &218u32.saturating_sub(less).to_le_bytes())
-        .with(4, 4, &300u32.saturating_sub(less).to_le_bytes())
-}
-
 /// The record of the sample `saw`: rate 44,100, key 60, mono.
-pub fn saw_head() -> File {
+fn saw_head() -> File {
     File::of("'saw *17 00000000 02000000 00000000 00000000 44ac0000 3c 00 0000 0100")
 }
 
@@ -206,43 +183,6 @@ pub fn tone() -> File {
     )
 }
 
-/// T with an empty sample `n` before its own: 670 bytes.
-pub fn second_tone() -> File {
-    file_of(
-        "96020000",
-        "'LIST ca000000 'sdta 'smpl be000000 *92 e803d00730f8 *92
-        'LIST 86010000 'pdta
-        'phdr 4c000000 'p *37 'EOP *21 01 *13
-        'pbag 08000000 *4 01000000
-        'pmod 0a000000 *10
-        'pgen 08000000 29000000 *4
-        'inst 2c000000 'i *21 'EOI *17 0100
-        'ibag 08000000 *4 02000000
-        'imod 0a000000 *10
-        'igen 0c000000 36000100 35000100 *4
-        'shdr 8a000000 'n *43 0100
-        't *19 2e000000 31000000 2f000000 31000000 44ac0000 3c 00 0000 0100 'EOS *43",
-    )
-}
-
-/// The bank of a preset over two of three instruments, which play a sample without points: 594 bytes.
-pub fn layered() -> File {
-    file_of(
-        "4a020000",
-        "'LIST 68000000 'sdta 'smpl 5c000000 *92
-        'LIST 9c010000 'pdta
-        'phdr 4c000000 'p *37 'EOP *21 02 *13
-        'pbag 0c000000 *4 01000000 02000000
-        'pmod 0a000000 *10
-        'pgen 0c000000 29000000 29000200 *4
-        'inst 58000000 'i0 *20 'i1 *18 0100 'i2 *18 0200 'EOI *17 0300
-        'ibag 10000000 *4 01000000 03000000 04000000
-        'imod 0a000000 *10
-        'igen 14000000 35000000 11009cff 35000000 35000000 *4
-        'shdr 5c000000 's *35 44ac0000 3c 00 0000 0100 'EOS *43",
-    )
-}
-
 /// The bank of two presets and three instruments, with global zones, modulators, and an instrument
 /// without zones, over the sample `t`: 720 bytes.
 pub fn wide() -> File {
@@ -260,19 +200,4 @@ pub fn wide() -> File {
         'igen 20000000 36000100 35000000 2b003c7f 2c000140 30000700 35000000 35000000 *4
         'shdr 5c000000 't *23 03000000 01000000 03000000 44ac0000 3c 00 0000 0100 'EOS *43",
     )
-}
-
-/// The empty bank with a left and a right sample, the left one with a loop: 592 bytes.
-pub fn pair() -> File {
-    let points = File::of("c0000000 010002000300 *92 0400 *92");
-    let heads = File::of(
-        "8a000000
-        'L *19 00000000 03000000 01000000 03000000 22560000 ff fb 0100 0400
-        'R *19 31000000 32000000 31000000 31000000 22560000 3c 05 0000 0200",
-    );
-    let sizes = [(4, 0x48), (5, 2), (66, 0xcc), (278, 0x36), (279, 1)];
-    empty()
-        .with(258, 4, heads.bytes())
-        .with(78, 4, points.bytes())
-        .patched(&sizes)
 }

@@ -5,7 +5,7 @@ use sf_base::{front_of, part_of, rest_from};
 use std::alloc::{AllocError, Global};
 
 /// A file with a piece put in at a place, so many times, and these size fields then.
-pub fn grown(
+fn grown(
     alloc: Global,
     file: &[u8],
     at: usize,

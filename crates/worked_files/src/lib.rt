@@ -1,15 +1,10 @@
-//! The files and scripts that the tests try, and what the runs answer on them.
+//! The files that the tests read, and a writer that fails.
 #![tactic(auto)]
 
-mod answers;
 mod failing_writer;
 mod files;
 mod large;
 
-pub use answers::{canons, edits, is_told, refuses, returns, shows, stops};
 pub use failing_writer::{FailingWriter, NEVER, WriteFailure};
-pub use files::{
-    File, LISTS, Patch, RENAME, RENAME_BACK, empty, layered, pair, renamed_saw, saw, saw_head,
-    second_tone, tone, wide, without_record,
-};
-pub use large::{grown, many_points, with_more};
+pub use files::{File, RENAME, RENAME_BACK, empty, renamed_saw, saw, tone, wide};
+pub use large::{many_points, with_more};

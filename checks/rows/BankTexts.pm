@@ -1,0 +1,51 @@
+# The tables `bank_texts` and `differences`: empty banks, banks as texts, and differences of banks.
+package BankTexts;
+use strict;
+use warnings;
+use Banks;
+use Rows;
+use Runs;
+use Scripts;
+use Tables;
+use Worked;
+use Exporter 'import';
+our @EXPORT = qw(try_bank_texts);
+
+# What is wrong with a run of these words, of which `out` is the output: it makes a bank, or writes a text.
+sub wrong_of_done {
+    my ($words, $kind, $due) = @_;
+    my $wrong = Rows::is_done(run_command([split ' ', $words], 'out'));
+    return $wrong // (read_bytes('out') eq ($kind eq 'makes' ? bank_bytes($due) : lines(spelled($due))) ? undef : 'another output');
+}
+
+# What is wrong with a run that has to end by this status and this line, and to make nothing.
+sub wrong_of_refused {
+    my ($words, $status, $line) = @_;
+    unlink 'out';
+    my $run = run([split ' ', $words]);
+    return "status $run->{status} and signal $run->{signal}" if $run->{status} != $status || $run->{signal};
+    return "told '$run->{line}'" if $run->{line} ne "sfbank: $line\n";
+    return -e 'out' || $run->{printed} ? 'made something' : undef;
+}
+
+sub wrong_of_text {
+    my ($words, $answer) = @_;
+    return wrong_of_refused($words, $1, $2) if $answer =~ /^(\d) (.*)/;
+    return $answer =~ /^(makes|writes) (.*)/ ? wrong_of_done($words, $1, $2) : "has the answer '$answer'";
+}
+
+# What is wrong with the difference of a bank and of what a script makes of it, which is the script itself.
+sub wrong_of_difference {
+    my ($bank, $script) = @_;
+    my $wrong = Rows::is_done(apply_text($bank, lines(spelled($script)), 'other', 'undo'));
+    $wrong //= Rows::is_done(run_command(['diff', $bank, 'other', 'difference'], 'difference'));
+    return $wrong // (read_bytes('difference') eq lines(spelled($script)) ? undef : 'another difference: ' . read_bytes('difference'));
+}
+
+sub try_bank_texts {
+    my ($here) = @_;
+    tell("bank_texts, $_->[0]", wrong_of_text(@$_)) for rows_of("$here/bank_texts");
+    tell("differences, $_->[0]: $_->[1]", wrong_of_difference(@$_)) for rows_of("$here/differences");
+}
+
+1;

@@ -1,0 +1,61 @@
+# The table of writes: outputs that can't be written, by the shim of checks/hostile that has writes go wrong.
+package FailedWrites;
+use strict;
+use warnings;
+use Banks;
+use Runs;
+use Tables;
+use Worked;
+use Writes;
+use Exporter 'import';
+our @EXPORT = qw(try_failed_writes);
+
+my %ways = (error => 'FAILED_WRITE', nothing => 'EMPTY_WRITE');
+
+sub put_file {
+    my ($name, $what) = @_;
+    write_bytes($name, $what =~ /^text (.*)/ ? spelled($1) : bank_bytes($what));
+}
+
+# What is wrong with the count of writes that a whole text took.
+sub is_count {
+    my ($count, $sign, $number) = @_;
+    return if !defined $sign;
+    return ($sign eq '=' ? $count == $number : $count < $number) ? undef : "$count writes, not $sign $number";
+}
+
+# Has each write of a run go wrong in turn, until none does.
+sub try_each_write {
+    my ($words, $outputs, $how) = @_;
+    my ($most, $way, $sign, $number) = $how =~ /^(\d+|all) (error|nothing)(?: ([=<])(\d+))?$/ or die "'$how' is no way\n";
+    my @words = split ' ', $words;
+    my @outputs = split ' ', $outputs;
+    my %short = $most eq 'all' ? () : (SHORT_WRITES => $most);
+    Writes::run_under('./fail.so', {}, \@words, @outputs);
+    my %whole = map { $_ => read_bytes(Writes::file_of($_)) // '' } @outputs;
+    for my $call (1 .. 2000) {
+        my $run = Writes::run_under('./fail.so', { $ways{$way} => $call, %short }, \@words, @outputs);
+        if (!-e 'mark') {
+            my ($other) = grep { (read_bytes(Writes::file_of($_)) // '') ne $whole{$_} } @outputs;
+            my $wrong = $run->{status} || $call == 1 ? 'is not done' : defined $other ? "another $other" : is_count($call - 1, $sign, $number);
+            return tell("$words, $how", $wrong);
+        }
+        tell("$words, $how, call $call", Writes::is_front($run, \%whole, @outputs));
+    }
+    tell("$words, $how", 'goes on');
+}
+
+sub try_row {
+    my ($words, $outputs, @ways) = @_;
+    return put_file($1, $outputs) if $words =~ /^file (\S+)$/;
+    try_each_write($words, $outputs, $_) for @ways;
+}
+
+sub try_failed_writes {
+    my ($here) = @_;
+    my $shim = "$here/../hostile/fail_writes.c";
+    return tell('the shim', 'it is not compiled') if system('cc', '-O2', '-shared', '-fPIC', '-o', 'fail.so', $shim);
+    try_row(@$_) for rows_of("$here/writes");
+}
+
+1;

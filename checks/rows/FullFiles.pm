@@ -1,0 +1,30 @@
+# The table `full_files`: what is read of files of as much as a file may have, and of more.
+package FullFiles;
+use strict;
+use warnings;
+use Banks;
+use Files;
+use Runs;
+use Tables;
+use Worked;
+use Exporter 'import';
+our @EXPORT = qw(try_full_files);
+
+# What is wrong with a file that has to be read, with nothing counted.
+sub wrong_of_whole {
+    my ($file) = @_;
+    write_bytes('in', bank_bytes($file));
+    my ($fault, $bank, $counts) = Files::listed('in');
+    return $fault // (($counts // '') eq Files::counts_line('') ? undef : 'something is counted');
+}
+
+sub try_full_files {
+    my ($here) = @_;
+    for my $row (rows_of("$here/full_files")) {
+        my ($file, @answer) = @$row;
+        if ("@answer" eq 'read') { tell($file, wrong_of_whole($file)); }
+        else { Files::try_file($file, @answer); }
+    }
+}
+
+1;

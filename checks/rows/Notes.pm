@@ -1,0 +1,56 @@
+# The table of notes: the WAVE file of each list of notes on its bank, to the byte, or the fault that is told.
+package Notes;
+use strict;
+use warnings;
+use Banks;
+use Rows;
+use Runs;
+use Tables;
+use Exporter 'import';
+our @EXPORT = qw(try_notes wave_of play_notes);
+
+# The WAVE file of frames, which are spelled as in the table.
+sub wave_of {
+    my ($spelled) = @_;
+    return Rows::wave(join '', map { frame_of($_) } split ' ', $spelled);
+}
+
+sub frame_of {
+    my ($word) = @_;
+    my ($left, $right, $times) = $word =~ m{^(-?\d+)(?:/(-?\d+))?(?:\^(\d+))?$} or die "'$word' is no frame\n";
+    return pack('s<2', $left, $right // $left) x ($times // 1);
+}
+
+# Plays notes on the bank of a file, into another one.
+sub play_notes {
+    my ($bank, $notes, $out) = @_;
+    write_bytes('notes', $notes);
+    return run_command(['play', $bank, 'notes', $out], $out);
+}
+
+sub make_bank {
+    my ($name, $script) = @_;
+    my $run = apply_text('empty', spelled($script), "$name.sf2", 'undo');
+    tell("the bank $name", Rows::is_done($run));
+}
+
+sub try_row {
+    my ($bank, $notes, $answer) = @_;
+    return make_bank($bank, $notes) if !defined $answer;
+    write_bytes('in', $bank =~ /^words\b(.*)/ ? bytes_of($1) : read_bytes("$bank.sf2") // read_bytes($bank) // die "there is no bank $bank\n");
+    my $run = play_notes('in', spelled($notes), 'wave');
+    my $wrong = $run->{wrong};
+    if ($answer =~ /^frames(.*)/) {
+        $wrong //= $run->{status} ? $run->{line} : read_bytes('wave') eq wave_of($1) ? undef : 'another WAVE file';
+    } else {
+        $wrong //= $run->{line} eq "sfbank: $answer\n" ? undef : "'$run->{line}' instead of $answer";
+    }
+    tell('the notes ' . substr($notes, 0, 60) . " on $bank", $wrong);
+}
+
+sub try_notes {
+    my ($here) = @_;
+    try_row(@$_) for rows_of("$here/notes");
+}
+
+1;

@@ -1,0 +1,52 @@
+# The table of pictures: what `map` draws of presets and instruments, to the byte, and what it tells of those that are not there.
+package Pictures;
+use strict;
+use warnings;
+use Banks;
+use Listings;
+use Rows;
+use Runs;
+use Tables;
+use Exporter 'import';
+our @EXPORT = qw(try_pictures);
+
+# The lines that all pictures have, before the name of what is drawn and behind it.
+my %common;
+
+sub map_run { my ($bank, $member, $out) = @_; return run_command(['map', $bank, split(' ', $member), $out], $out); }
+
+sub make_bank {
+    my ($script) = @_;
+    my $run = apply_text('empty', spelled($script), 'drawn', 'undo');
+    tell('the bank that is drawn', Rows::is_done($run));
+}
+
+sub try_picture {
+    my ($member, $name, @lines) = @_;
+    my $owner = "<text class='owner' x='60' y='36'>$name</text>";
+    my $want = join '', map { "$_\n" } @{ $common{front} }, $owner, @{ $common{keyboard} }, @lines;
+    my $run = map_run('drawn', $member, 'picture');
+    my $wrong = Rows::is_done($run);
+    tell("the picture of $member", $wrong // other_line(read_bytes('picture'), $want));
+}
+
+sub try_refused {
+    my ($bank, $member, $line) = @_;
+    write_bytes('in', $bank =~ /^words\b(.*)/ ? bytes_of($1) : read_bytes($bank));
+    my $run = map_run('in', $member, 'picture');
+    tell("no picture of $member of $bank", $run->{wrong} // ($run->{line} eq "$line\n" ? undef : $run->{line}));
+}
+
+sub try_row {
+    my ($first, @parts) = @_;
+    return make_bank(@parts) if $first eq 'bank';
+    return $common{$first} = \@parts if $first eq 'front' || $first eq 'keyboard';
+    return $first =~ /^refused (.*)/ ? try_refused($1, @parts) : try_picture($first, @parts);
+}
+
+sub try_pictures {
+    my ($here) = @_;
+    try_row(@$_) for rows_of("$here/pictures");
+}
+
+1;

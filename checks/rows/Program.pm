@@ -1,0 +1,117 @@
+# The tables of outputs, of words and of what is printed: how runs of the program end, and what they leave.
+package Program;
+use strict;
+use warnings;
+use Banks;
+use File::Path 'remove_tree';
+use Runs;
+use Tables;
+use Worked;
+use Exporter 'import';
+our @EXPORT = qw(try_program);
+
+# What holds behind each run in the folder at hand.
+my @always;
+
+# Makes something so that is said of a file.
+sub put {
+    my ($said) = @_;
+    my ($path, $what) = $said =~ /^(\S+) (.*)$/;
+    if ($what =~ /^is text ?(.*)/) { write_bytes($path, spelled($1)); }
+    elsif ($what =~ /^is (.*)/) { write_bytes($path, bank_bytes($1)); }
+    elsif ($what =~ /^has mode (\d+)$/) { chmod oct $1, $path or die "$path: $!\n"; }
+    elsif ($what =~ /^links to (\S+)$/) { symlink $1, $path or die "$path: $!\n"; }
+    else { die "nothing can be made of '$said'\n"; }
+}
+
+# Whether something is so that is said of a file.
+sub is_so {
+    my ($said) = @_;
+    return !-e $1 && !-l $1 if $said =~ /^no (\S+)$/;
+    my ($path, $what) = $said =~ /^(\S+) (.*)$/;
+    return sprintf('%o', (stat $path)[2] & 0777) eq $1 if $what =~ /^has mode (\d+)$/;
+    return (readlink $path // '') eq $1 if $what =~ /^links to (\S+)$/;
+    my $want = $what =~ /^is text ?(.*)/ ? spelled($1) : $what =~ /^is (.*)/ ? bank_bytes($1) : die "'$said' says nothing\n";
+    return (read_bytes($path) // return 0) eq $want;
+}
+
+sub begin {
+    my ($folder, @said) = @_;
+    remove_tree($folder);
+    mkdir $folder or die "$folder: $!\n";
+    put($_) for @said;
+    @always = ();
+}
+
+# What is wrong with a run that has to end by this status and line, and to print nothing.
+sub ends {
+    my ($run, $status, $line) = @_;
+    return "ended by signal $run->{signal}" if $run->{signal};
+    return "status $run->{status} with '$run->{line}'" if $run->{status} != $status || $run->{line} ne $line;
+    return $run->{printed} ? 'printed' : undef;
+}
+
+sub try_output {
+    my ($words, $ends, @said) = @_;
+    return begin($1, $ends, @said) if $words =~ /^begin (\S+)$/;
+    return @always = ($ends, @said) if $words eq 'always';
+    my ($status, $line) = $ends =~ /^(\d) ?(.*)$/ or die "'$ends' is no end\n";
+    my $wrong = ends(run([split ' ', $words]), $status, $line eq '' ? '' : "$line\n");
+    my ($other) = grep { !is_so($_) } @said, @always;
+    tell($words, $wrong // (defined $other ? "it isn't so that $other" : undef));
+}
+
+# Words that are no run, the program's own name first.
+sub try_words {
+    my ($words, $line) = @_;
+    my (undef, @words) = split ' ', $words;
+    my $run = run(\@words);
+    my $wrong = ends($run, 1, defined $line ? "$line\n" : $run->{line});
+    tell($words, $wrong // ($run->{line} eq '' ? 'tells nothing' : undef));
+}
+
+# Runs the program so that each of its files takes seven bytes and no more, and answers its status. A pipe takes all.
+sub run_in_little_room {
+    my ($streams, @words) = @_;
+    my $line = 'trap "" XFSZ; { prlimit --fsize=7 "$0" "$@" > printed; } ' . $streams;
+    return system('bash', '-c', $line, program_of_runs(), @words) >> 8;
+}
+
+sub wrong_of_printed {
+    my ($text, @words) = @_;
+    my $run = run(\@words);
+    return "status $run->{status} with '$run->{line}'" if $run->{status} || $run->{signal} || $run->{line} ne '';
+    return 'prints another text' if substr(read_bytes('printed'), 0, length $text) ne $text;
+    my $front = substr $text, 0, 7;
+    my $status = run_in_little_room('2>&1 | cat > errors; exit ${PIPESTATUS[0]}', @words);
+    my $told = read_bytes('errors');
+    return "status $status with '$told' in little room" if $status != 5 || $told ne "sfbank: write fault - after 7 bytes\n";
+    return 'prints other bytes in little room' if read_bytes('printed') ne $front;
+    $status = run_in_little_room('2> errors', @words);
+    return "status $status where the line has little room" if $status != 5 || read_bytes('errors') ne 'sfbank:';
+    return read_bytes('printed') eq $front ? undef : 'prints other bytes where the line has little room';
+}
+
+sub try_printed {
+    my ($words, @texts) = @_;
+    tell("$words in much room and little", wrong_of_printed(join('', map { spelled($_) } @texts), split ' ', $words));
+}
+
+# Frames for which there is no memory.
+sub try_memory {
+    write_bytes('late', "99999999 1 0 0 60 127\n");
+    unlink 'out', 'errors';
+    my $status = system('bash', '-c', 'ulimit -v 100000; exec "$0" play empty late out 2> errors', program_of_runs()) >> 8;
+    my $told = read_bytes('errors');
+    tell('out of memory', $status == 6 && $told eq "sfbank: out of memory\n" && !-e 'out' ? undef : "status $status with '$told'");
+}
+
+sub try_program {
+    my ($here) = @_;
+    try_output(@$_) for rows_of("$here/outputs");
+    try_words(@$_) for rows_of("$here/words");
+    try_printed(@$_) for rows_of("$here/printed");
+    try_memory();
+}
+
+1;

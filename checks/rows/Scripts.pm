@@ -1,0 +1,83 @@
+# The tables of scripts, row by row: a script on a bank, and what `apply` answers. The last line of a script may end by a
+# line feed or not: each is tried both ways.
+package Scripts;
+use strict;
+use warnings;
+use Banks;
+use Rows;
+use Runs;
+use Tables;
+use Worked;
+use Exporter 'import';
+our @EXPORT = qw(try_scripts wrong_of_line lines);
+
+my @tables = qw(spellings syntax members zones settings splits samples points texts groups limits);
+
+# A text of lines, of which the last ends by a line feed too.
+sub lines { my ($text) = @_; return $text eq '' ? '' : "$text\n"; }
+
+# Text as it is told: a long one is cut.
+sub short { my ($text) = @_; return length $text > 200 ? substr($text, 0, 200) . '..' : $text; }
+
+# What is wrong with a run that has to be refused by a line.
+sub wrong_of_line {
+    my ($run, $due) = @_;
+    my $line = 'sfbank: ' . ($due =~ /^line \d|^read fault/ ? $due : "line 1: $due") . "\n";
+    return $run->{wrong} // ($run->{line} eq $line ? undef : "told '$run->{line}'");
+}
+
+# What is wrong with the written file.
+sub wrong_of_out {
+    my ($due) = @_;
+    return 'another file' if defined $due->{makes} && read_bytes('out') ne bank_bytes($due->{makes});
+    return 'has ' . (-s 'out') . ' bytes' if defined $due->{bytes} && -s 'out' != $due->{bytes};
+    return if !defined $due->{lists};
+    my $run = run(['show', 'out']);
+    my $last = read_bytes('printed') =~ /([^\n]*)\n\z/ ? $1 : '';
+    return is_right($run, -s 'out') // ($last eq spelled($due->{lists}) ? undef : "lists '$last'");
+}
+
+# What is wrong with the text that takes a script back, and with the way back and forth again.
+sub wrong_of_undo {
+    my ($bank, $script, $due) = @_;
+    my $undo = $due->{undo};
+    return 'another undo text: ' . short(read_bytes('undo')) if defined $undo && read_bytes('undo') ne lines(spelled($undo));
+    my $wrong = undone($bank);
+    return $wrong if defined $wrong || !defined $undo;
+    my $printed = defined $due->{printed} ? spelled($due->{printed}) : $script;
+    return read_bytes('again') eq lines($printed) ? undef : 'is printed otherwise: ' . short(read_bytes('again'));
+}
+
+# What is wrong with a script that has to be done, and of which all this has to hold.
+sub wrong_of_done {
+    my ($bank, $script, $due) = @_;
+    my $wrong = Rows::is_done(apply_text($bank, "$script\n", 'out', 'undo')) // wrong_of_out($due) // wrong_of_undo($bank, $script, $due);
+    $wrong //= Rows::is_done(apply_text($bank, $script, 'bare', 'bare.undo'));
+    return $wrong // (same('bare', 'out') && same('bare.undo', 'undo') ? undef : 'another answer without the last line feed');
+}
+
+# What is wrong with a script that has to be refused.
+sub wrong_of_refused {
+    my ($bank, $script, $due) = @_;
+    my $wrong = wrong_of_line(apply_text($bank, "$script\n", 'out', 'undo'), $due);
+    return $wrong // wrong_of_line(apply_text($bank, $script, 'out', 'undo'), $due);
+}
+
+# What is wrong with a row: its answer is a line alone, or parts that begin with a word each.
+sub wrong_of_row {
+    my ($bank, $script, @answers) = @_;
+    my ($file, $text) = (bank_file($bank), spelled($script));
+    return 'has no answer' if !@answers;
+    return wrong_of_refused($file, $text, @answers) if @answers == 1 && $answers[0] =~ /^(?:line \d+: |read )?(?:fault|refused) /;
+    my %due = map { /^(undo|printed|makes|bytes|lists)\b ?(.*)/s ? ($1 => $2) : return "has the answer '$_'" } @answers;
+    return wrong_of_done($file, $text, \%due);
+}
+
+sub try_scripts {
+    my ($here) = @_;
+    for my $table (@tables) {
+        tell("$table, $_->[0]: " . short($_->[1]), wrong_of_row(@$_)) for rows_of("$here/$table");
+    }
+}
+
+1;
