@@ -39,6 +39,9 @@ total_none k = refl
 pub added : (new was first before this : ℤ) → new ≡ was +ℤ this → was ≡ first +ℤ before → new ≡ first +ℤ (before +ℤ this)
 added new was first before this e h = e ∙ ap (λ (z : ℤ). z +ℤ this) h ∙ add_z-assoc first before this
 
+pub added_on : (new was before this : ℤ) → new ≡ was +ℤ this → was ≡ before → new ≡ before +ℤ this
+added_on new was before this e h = e ∙ ap (λ (z : ℤ). z +ℤ this) h
+
 -- after the first i
 front : {X : Type 0} (f : X → X) (xs ys : List X) (i : ℕ) → i ≤ length xs → ys ≡ map f (take i xs) ++ drop i xs → take i ys ≡ map f (take i xs)
 front f xs ys i h e = grind (arith, common_steps)

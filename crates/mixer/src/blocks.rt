@@ -1,5 +1,5 @@
 //! Blocks of frames: the sum of voices, a part of a block at a time, cut once.
-ghost use Rattle.std.specs.Prelude.{◌≡◌, ℕ, ◌+◌, ◌/◌, ◌%◌, ◌<◌, ◌≤◌, ◌^◌, ◌+ℤ◌, pos, EachIndex, length, map, slice_index_or};
+ghost use Rattle.std.specs.Prelude.{◌≡◌, ℕ, ◌+◌, ◌*◌, ◌/◌, ◌%◌, ◌<◌, ◌≤◌, ◌^◌, ◌+ℤ◌, pos, EachIndex, length, map, slice_index_or};
 ghost use Rattle.voices.specs.Within.{AllWithin};
 ghost use Rattle.mixer.specs.Heard as heard;
 ghost use Rattle.mixer.specs.Events.{aged, total_at, next_side, block};
@@ -8,8 +8,14 @@ ghost use Rattle.mixer.specs.KeptVoices.{AllYounger};
 use crate::playing::Playing;
 use progress::Progress;
 
-// The sides that are summed in one pass: those of 1,024 frames.
+// The frames that are summed in one pass.
+const FRAMES: usize = 1024;
+
+// Their sides.
 const PART: usize = 2048;
+
+// The sides of a block whose frames voices make ahead: those of 256 frames.
+const AHEAD: usize = 512;
 
 // The sides of a block that has few sums, as in live play: those of 64 frames. Sums are cleared before they
 // are used, however few of them are.
@@ -17,6 +23,9 @@ const SHORT: usize = 128;
 
 // The most voices whose sum fits 32 bits.
 const GROUP: usize = 65535;
+
+// The most voices of which two sums together fit 32 bits.
+const APART: usize = 32767;
 
 // Adds all voices of a group, and makes each as many frames older.
 fn add_group(voices: &mut [Playing], sums: &mut [i32])
@@ -31,6 +40,35 @@ fn add_group(voices: &mut [Playing], sums: &mut [i32])
 {
     for p in voices.iter_mut() {
         p.voice.add_frames(sums);
+    }
+}
+
+// The same, but those in the middle to sums that both sides get.
+fn add_group_apart(
+    voices: &mut [Playing],
+    words: &mut [u32],
+    levels: &mut [u16],
+    others: &mut [u16],
+    run: &mut [i16],
+    sums: &mut [i32],
+    middle: &mut [i32],
+)
+    requires long { length run.old ≡ length middle.old }
+    requires lists { (length words.old ≡ length middle.old) × (length levels.old ≡ length middle.old) × (length others.old ≡ length middle.old) }
+    requires sums { length sums.old ≡ 2 * length middle.old }
+    requires few { length voices.old ≤ 32767 }
+    requires young { AllYounger (2 ^ 63 + 2 ^ 34) voices.old }
+    requires short { length middle.old ≤ 1024 }
+    requires silent { AllWithin 0 sums.old }
+    requires middle { AllWithin 0 middle.old }
+    ensures value { EachIndex sums.new (λ i. slice_index_or sums.new i (pos 0) +ℤ slice_index_or middle.new (i / 2) (pos 0) ≡ total_at voices.old i) }
+    ensures room { AllWithin 32767 sums.new }
+    ensures middle { AllWithin 32767 middle.new }
+    ensures live { voices.new ≡ map (aged (length sums.old / 2)) voices.old }
+{
+    for p in voices.iter_mut() {
+        p.voice
+            .add_frames_apart(words, levels, others, run, sums, middle);
     }
 }
 
@@ -52,6 +90,21 @@ fn cut_sums(sums: &[i32], out: &mut [i16])
 {
     for i in 0..out.len() {
         out[i] = sums[i].min(32767).max(-32768) as i16;
+    }
+}
+
+// The sum of each side, and of what both sides get, as 16 bits.
+fn cut_both(sums: &[i32], middle: &[i32], out: &mut [i16])
+    requires sums { length sums.now ≡ length out.old }
+    requires middle { length out.old ≡ 2 * length middle.now }
+    requires room { AllWithin 32767 sums.now }
+    requires middle_room { AllWithin 32767 middle.now }
+    ensures { EachIndex out.new (λ i. slice_index_or out.new i (pos 0)
+        ≡ heard.cut (slice_index_or sums.now i (pos 0) +ℤ slice_index_or middle.now (i / 2) (pos 0))) }
+{
+    for i in 0..out.len() {
+        let both = sums[i] + middle[i / 2];
+        out[i] = both.min(32767).max(-32768) as i16;
     }
 }
 
@@ -130,6 +183,35 @@ fn mix_by_sums<const N: usize>(voices: &mut [Playing], out: &mut [i16])
     cut_sums(&sums[..n], out);
 }
 
+// A part of a block of so few voices that those in the middle are added up once for both sides.
+#[tactic(auto, unfolding(crate::specs::Events::next_side))]
+fn mix_apart(voices: &mut [Playing], out: &mut [i16])
+    requires few { length voices.old ≤ 32767 }
+    requires young { AllYounger (2 ^ 63 + 2 ^ 34) voices.old }
+    requires short { length out.old ≤ 2048 }
+    requires even { length out.old % 2 ≡ 0 }
+    ensures value { EachIndex out.new (λ i. slice_index_or out.new i (pos 0) ≡ next_side voices.old i) }
+    ensures live { voices.new ≡ map (aged (length out.old / 2)) voices.old }
+{
+    let mut words: [u32; FRAMES] = [0; FRAMES];
+    let mut levels: [u16; FRAMES] = [0; FRAMES];
+    let mut others: [u16; FRAMES] = [0; FRAMES];
+    let mut run: [i16; FRAMES] = [0; FRAMES];
+    let mut sums: [i32; PART] = silent_sums();
+    let mut middle: [i32; FRAMES] = silent_sums();
+    let n = out.len() / 2;
+    add_group_apart(
+        voices,
+        &mut words[..n],
+        &mut levels[..n],
+        &mut others[..n],
+        &mut run[..n],
+        &mut sums[..2 * n],
+        &mut middle[..n],
+    );
+    cut_both(&sums[..2 * n], &middle[..n], out);
+}
+
 // A part of a block of no more voices than a group has.
 fn mix_group(voices: &mut [Playing], out: &mut [i16])
     requires few { length voices.old ≤ 65535 }
@@ -141,8 +223,10 @@ fn mix_group(voices: &mut [Playing], out: &mut [i16])
 {
     if out.len() <= SHORT {
         mix_by_sums::<SHORT>(voices, out);
-    } else {
+    } else if out.len() <= AHEAD || voices.len() > APART {
         mix_by_sums::<PART>(voices, out);
+    } else {
+        mix_apart(voices, out);
     }
 }
 

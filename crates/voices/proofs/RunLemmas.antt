@@ -1,5 +1,5 @@
 -- Stretches of frames, and what they add.
-use Rattle.std.proofs.Common.{◌≡◌, ℕ, zero, suc, ◌+◌, ◌-◌, ◌*◌, ◌/◌, ◌%◌, ◌<◌, ◌≤◌, ℤ, pos, negsuc, ◌+ℤ◌, ◌≤ℤ◌, Bool, true, false, cond, not, ◌&&◌, List, get_or, nat_eq, nat_le, refl, sym, ◌∙◌, ap, subst, arith, inl, inr, to_z, of_z, true≢false}
+use Rattle.std.proofs.Common.{◌≡◌, ℕ, zero, suc, ◌+◌, ◌-◌, ◌*◌, ◌/◌, ◌%◌, ◌<◌, ◌≤◌, ℤ, pos, negsuc, ◌+ℤ◌, ◌-ℤ◌, ◌≤ℤ◌, Bool, true, false, cond, not, ◌&&◌, List, get_or, nat_eq, nat_le, refl, sym, ◌∙◌, ap, subst, arith, inl, inr, to_z, of_z, true≢false}
 use Rattle.std.specs.Int.{w32}
 use Rattle.std.proofs.lemmas.Int.{ints}
 use Rattle.std.proofs.lemmas.Bool.{cases_lt}
@@ -9,12 +9,14 @@ use Rattle.voices.specs.Levels.{side}
 use Rattle.voices.specs.Place.{wrapped, place, is_looping, is_over}
 use Rattle.zone_select.specs.Playable.{IsPlayable}
 use Rattle.zone_select.specs.Select.{Voice}
-use Rattle.voices.specs.Sound.{snd, sound_at, part_of}
+use Rattle.voices.specs.Sound.{snd, sound_at, heard_at, part_of}
 use Rattle.voices.specs.Within.{IsWithin}
-use Rattle.voices.specs.Runs.{IsAdded, IsStretch, limit, gone_on}
+use Rattle.voices.specs.Runs.{IsAdded, IsShared, IsStretch, limit, gone_on}
 use Rattle.voices.proofs.PlaceLemmas.{place_more, place_inside, wrapped_above, wrapped_below, wrapped_step}
 use Rattle.std.proofs.lemmas.Nat.{div-add-mod'}
 use Rattle.voices.proofs.OverLemmas.{loop_left_stays, over_stays, place_sounds}
+use Rattle.voices.proofs.SideLemmas.{side_of_none}
+use Rattle.sound_tables.specs.Floor.{above_zero}
 
 same_end : (l t k : ℕ) → (t < l → t + k < l) → nat_le l (t + k) ≡ nat_le l t
 same_end l t k h =
@@ -82,6 +84,24 @@ right_side run k left right = λ j. side (get_or run ((let e : (2 * k + 1) / 2 �
 pub is_added : (was s sum r : ℤ) → r ≡ s → sum ≡ was +ℤ r → negsuc 32767 ≤ℤ r → r ≤ℤ pos 32767 → IsAdded was s sum
 is_added was s sum r e f lo hi = record { added = f ∙ ap (λ (x : ℤ). was +ℤ x) e; low = subst (λ (x : ℤ). negsuc 32767 ≤ℤ x) e lo; high = subst (λ (x : ℤ). x ≤ℤ pos 32767) e hi }
 
+-- the sum that was added to has room for one more, and the other is as it was
+pub shared_side : (was m sound sum m' : ℤ) → IsAdded was sound sum → m' ≡ m → IsShared was m sound sum m'
+shared_side was m sound sum m' a e =
+    let added = a.added in
+    let low = a.low in
+    let high = a.high in
+    record {
+      added = omega (arith, ints, added, e);
+      side_room = λ j h. (omega (arith, ints, added, low, high, h.0, h.1), omega (arith, ints, added, low, high, h.0, h.1));
+      middle_room = λ j h. (omega (arith, ints, e, h.0, h.1), omega (arith, ints, e, h.0, h.1));
+    }
+
+pub shared_middle : (was m sound sum m' : ℤ) → sum ≡ was → IsAdded m sound m' → IsShared was m sound sum m'
+shared_middle was m sound sum m' e a =
+    let s = shared_side m was sound m' sum a e in
+    let added = s.added in
+    record { added = omega (arith, ints, added); side_room = s.middle_room; middle_room = s.side_room }
+
 add_nothing : (was : ℤ) → was ≡ was +ℤ pos 0
 add_nothing was = omega (arith, ints)
 
@@ -118,6 +138,42 @@ part_is v t i left right e f g =
         → side (sound_at v t) (cond b left right) ≡ side (sound_at v t) (part_of v.parameters b)
     by_side true v t left right f g = ap (side (sound_at v t)) f
     by_side false v t left right f g = ap (side (sound_at v t)) g
+
+-- what is heard of a frame where the voice isn't over, and where it is
+pub heard_is : (v : Voice) (t : ℕ) → is_over v.parameters t ≡ false → heard_at v t ≡ sound_at v t
+unfolding heard_at
+heard_is v t e = ap (λ b. cond b (pos 0) (sound_at v t)) e
+
+pub heard_over : (v : Voice) (s t : ℕ) → is_over v.parameters s ≡ true → s ≤ t → heard_at v t ≡ pos 0
+unfolding heard_at
+heard_over v s t e l = ap (λ b. cond b (pos 0) (sound_at v t)) (over_stays v.parameters s t l e)
+
+-- what a side gets of what is heard
+heard_side : (v : Voice) (left : Bool) (t : ℕ) → side (heard_at v t) (part_of v.parameters left) ≡ snd v left t
+unfolding heard_at snd
+heard_side v left t = by_case (is_over v.parameters t) (sound_at v t) (part_of v.parameters left)
+  where
+    by_case : (over : Bool) (z : ℤ) (part : ℕ) → side (cond over (pos 0) z) part ≡ cond over (pos 0) (side z part)
+    by_case true z part = side_of_none part
+    by_case false z part = refl
+
+pub heard_added : (v : Voice) (t i left right : ℕ) (z was sum : ℤ) → IsAdded was (side z (cond (nat_eq i 0) left right)) sum
+    → z ≡ heard_at v t → left ≡ part_of v.parameters true → right ≡ part_of v.parameters false → IsAdded was (snd v (nat_eq i 0) t) sum
+heard_added v t i left right z was sum a e f g =
+    subst (λ (s : ℤ). IsAdded was s sum) (ap (λ (y : ℤ). side y (cond (nat_eq i 0) left right)) e ∙ by_side (nat_eq i 0)) a
+  where
+    by_side : (b : Bool) → side (heard_at v t) (cond b left right) ≡ snd v b t
+    by_side true = ap (side (heard_at v t)) f ∙ heard_side v true t
+    by_side false = ap (side (heard_at v t)) g ∙ heard_side v false t
+
+-- what both sides get of a voice in the middle
+pub central_side : (v : Voice) (left : Bool) (t : ℕ) → v.parameters.pan ≡ pos 0 → side (heard_at v t) 500 ≡ snd v left t
+central_side v left t e =
+    ap (side (heard_at v t)) (by_side left ∙ sym (ap (λ p. above_zero (cond left (pos 500 -ℤ p) (pos 500 +ℤ p))) e)) ∙ heard_side v left t
+  where
+    by_side : (b : Bool) → 500 ≡ above_zero (cond b (pos 500 -ℤ pos 0) (pos 500 +ℤ pos 0))
+    by_side true = refl
+    by_side false = refl
 
 pub differ : (b : Bool) → b ≡ true → b ≡ false → ⊥
 differ b e f = true≢false (sym e ∙ f)

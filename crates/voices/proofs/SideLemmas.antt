@@ -29,6 +29,11 @@ pub no_side : (z : ℤ) → side z 0 ≡ pos 0
 unfolding side
 no_side z = let e = floor_div_is (z *ℤ pos 0) 0 1000 0 (omega arith) (omega (arith, ints)) in omega (arith, ints, e)
 
+-- and none of nothing
+pub side_of_none : (part : ℕ) → side (pos 0) part ≡ pos 0
+unfolding side
+side_of_none part = let e = floor_div_is (pos 0 *ℤ pos part) 0 1000 0 (omega arith) (omega (arith, ints)) in omega (arith, ints, e)
+
 -- half of it
 pub half_side : (z : ℤ) → shr_z z 2 ≡ side z 500
 unfolding side

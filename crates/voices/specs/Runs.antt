@@ -4,12 +4,19 @@ use Rattle.std.specs.Int.{cast_signed, w16}
 use Rattle.zone_select.specs.declared.parameters.VoiceParameters.{VoiceParameters}
 use Rattle.voices.specs.Place.{wrapped, is_over, is_looping}
 use Rattle.voices.specs.Points.{between, point_at}
+use Rattle.voices.specs.Within.{IsWithin}
 
 -- a frame was added to a sum
 pub record IsAdded (was sound sum : ℤ) : Type 0 where
   pub added : sum ≡ was +ℤ sound
   pub low : negsuc 32767 ≤ℤ sound
   pub high : sound ≤ℤ pos 32767
+
+-- a frame was added to the sum of a side, or to that which both sides get
+pub record IsShared (was_side was_middle sound side middle : ℤ) : Type 0 where
+  pub added : side +ℤ middle ≡ was_side +ℤ was_middle +ℤ sound
+  pub side_room : (j : ℕ) → IsWithin j was_side → IsWithin (j + 1) side
+  pub middle_room : (j : ℕ) → IsWithin j was_middle → IsWithin (j + 1) middle
 
 -- n frames from t on in which the voice isn't over, none or all before the note's end, and the loop in force throughout or not
 -- at all

@@ -30,6 +30,10 @@ sound_at v t =
 unfoldable pub snd : Voice → Bool → ℕ → ℤ
 snd v left t = cond (is_over v.parameters t) (pos 0) (side (sound_at v t) (part_of v.parameters left))
 
+-- frame t before it is panned, and silence where the voice is over
+unfoldable pub heard_at : Voice → ℕ → ℤ
+heard_at v t = cond (is_over v.parameters t) (pos 0) (sound_at v t)
+
 -- a voice that is over counts no more frames
 abbrev pub after_frame : Live → Live
 after_frame live = cond (is_over live.value.parameters live.age) live (record { value = live.value; age = live.age + 1 })

@@ -11,7 +11,7 @@ ghost use Rattle.voices.specs.Within.{AllWithin};
 
 use crate::courses::Course;
 use crate::frames::{left_part, right_part};
-use crate::runs::{add_by_buffers, add_sides, empty_words, fill_sounds, no_levels, stretch};
+use crate::runs::{add_by_buffers, add_sides, fill_sounds, stretch};
 use crate::sides::panned;
 use sample_view::Points;
 use zone_select::VoiceParameters;
@@ -42,39 +42,6 @@ impl Ahead {
     }
 }
 
-// Makes frames from `t` on, of a voice that has none ahead and isn't over.
-fn refill<'a>(
-    points: &Points<'a>,
-    v: &VoiceParameters,
-    t: u64,
-    course: &mut Course<'a>,
-    ahead: &mut Ahead,
-)
-    requires playable { IsPlayable (length points.now) v.now }
-    requires course { IsCourse points.now v.now t course.old }
-    requires heard { course.old.over ≡ false }
-    ensures some { 0 < ahead.new.left }
-    ensures ahead { IsAhead (record { points = points.now; parameters = v.now }) t ahead.new }
-    ensures course { IsCourse points.now v.now (t + ahead.new.left) course.new }
-{
-    let mut words: [u32; MOST] = empty_words();
-    let mut levels: [u16; MOST] = no_levels();
-    let mut others: [u16; MOST] = no_levels();
-    let n = stretch(v, t, course.place, MOST);
-    fill_sounds(
-        points,
-        v,
-        t,
-        course,
-        &mut words[..n],
-        &mut levels[..n],
-        &mut others[..n],
-        &mut ahead.sounds[..n],
-    );
-    ahead.at = 0;
-    ahead.left = n;
-}
-
 // Makes frames from `t` on, where none are left and the voice isn't over.
 fn make_ready<'a>(
     points: &Points<'a>,
@@ -93,7 +60,22 @@ fn make_ready<'a>(
     if ahead.left != 0 || course.over {
         return;
     }
-    refill(points, v, t, course, ahead);
+    let mut words: [u32; MOST] = [0; MOST];
+    let mut levels: [u16; MOST] = [0; MOST];
+    let mut others: [u16; MOST] = [0; MOST];
+    let n = stretch(v, t, course.place, MOST);
+    fill_sounds(
+        points,
+        v,
+        t,
+        course,
+        &mut words[..n],
+        &mut levels[..n],
+        &mut others[..n],
+        &mut ahead.sounds[..n],
+    );
+    ahead.at = 0;
+    ahead.left = n;
 }
 
 // Adds as many of the frames from `t` on as there are sums for, and returns how many these are.

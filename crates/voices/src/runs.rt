@@ -9,9 +9,9 @@ ghost use Rattle.voice_levels.specs.Even.{IsEven};
 ghost use Rattle.voices.specs.Course.{IsCourse};
 ghost use Rattle.voice_levels.specs.Envelope.{held, envelope};
 ghost use Rattle.zone_select.specs.Playable.{IsPlayable};
-ghost use Rattle.voices.specs.Sound.{sound_at, snd};
+ghost use Rattle.voices.specs.Sound.{sound_at, heard_at, snd};
 ghost use Rattle.voices.specs.Within.{AllWithin};
-ghost use Rattle.voices.specs.Runs.{IsAdded, IsStretch};
+ghost use Rattle.voices.specs.Runs.{IsAdded, IsShared, IsStretch};
 
 use crate::courses::Course;
 use crate::frames::{left_part, right_part};
@@ -60,24 +60,6 @@ fn frames_ahead(v: &VoiceParameters, t: u64, most: u64) -> u64
     } else {
         most.min(length + u64::from(v.release) - t)
     }
-}
-
-pub(crate) fn empty_words<const N: usize>() -> [u32; N]
-    ensures { length result ≡ N }
-{
-    [0; N]
-}
-
-pub(crate) fn no_levels<const N: usize>() -> [u16; N]
-    ensures { length result ≡ N }
-{
-    [0; N]
-}
-
-fn silent_points<const N: usize>() -> [i16; N]
-    ensures { length result ≡ N }
-{
-    [0; N]
 }
 
 // The frames of a stretch before they are panned, by way of a word and two levels for each. The course of the first
@@ -203,40 +185,22 @@ pub(crate) fn add_sides(run: &[i16], left: u32, right: u32, sums: &mut [i32])
     }
 }
 
-// Adds the frames of a stretch, by way of as many words, levels and points. As in all that add a stretch
-// the course of its first frame goes on to that behind the last.
-fn add_sounds<'a>(
-    points: &Points<'a>,
-    v: &VoiceParameters,
-    t: u64,
-    course: &mut Course<'a>,
-    words: &mut [u32],
-    levels: &mut [u16],
-    others: &mut [u16],
-    run: &mut [i16],
-    sums: &mut [i32],
-)
-    requires playable { IsPlayable (length points.now) v.now }
-    requires long { length sums.old ≡ 2 * length run.old }
-    requires words { length words.old ≡ length run.old }
-    requires levels { length levels.old ≡ length run.old }
-    requires others { length others.old ≡ length run.old }
-    requires one_way { IsStretch v.now t (length run.old) }
-    requires course { IsCourse points.now v.now t course.old }
-    requires heard { course.old.over ≡ false }
-    requires short { length run.old ≤ 1024 }
-    requires room { AllWithin 65534 sums.old }
-    ensures sums { EachIndex sums.new (λ i. IsAdded (slice_index_or sums.old i (pos 0))
-        (snd (record { points = points.now; parameters = v.now }) (nat_eq (i % 2) 0) (t + i / 2))
-        (slice_index_or sums.new i (pos 0))) }
-    ensures course { IsCourse points.now v.now (t + length run.old) course.new }
+// Adds half of each frame to a sum that both sides get.
+fn add_halves_once(run: &[i16], middle: &mut [i32])
+    requires long { length middle.old ≡ length run.now }
+    requires room { AllWithin 65534 middle.old }
+    ensures { EachIndex middle.new (λ k. IsAdded (slice_index_or middle.old k (pos 0))
+        (side (slice_index_or run.now k (pos 0)) 500)
+        (slice_index_or middle.new k (pos 0))) }
 {
-    fill_sounds(points, v, t, course, words, levels, others, run);
-    add_sides(run, left_part(v), right_part(v), sums);
+    for k in 0..run.len() {
+        middle[k] += halved(i32::from(run[k]));
+    }
 }
 
-// Adds the frames from `age` on, stretch by stretch, by way of buffers of as many words, levels and points.
-fn add_stretches<'a>(
+// The frames from `age` on before they are panned, stretch by stretch. As in all that goes on from here, the course
+// of the first frame goes on to that behind the last.
+fn fill_run<'a>(
     points: &Points<'a>,
     v: &VoiceParameters,
     age: u64,
@@ -245,30 +209,27 @@ fn add_stretches<'a>(
     levels: &mut [u16],
     others: &mut [u16],
     run: &mut [i16],
-    sums: &mut [i32],
 )
     requires playable { IsPlayable (length points.now) v.now }
     requires here { IsCourse points.now v.now age course.old }
-    requires buffers { (0 < length run.old) × (length run.old ≤ 1024) }
+    requires short { length run.old ≤ 1024 }
     requires words { length words.old ≡ length run.old }
     requires levels { length levels.old ≡ length run.old }
     requires others { length others.old ≡ length run.old }
-    requires even { length sums.old % 2 ≡ 0 }
-    requires young { age + length sums.old < 2 ^ 64 }
-    requires room { AllWithin 65534 sums.old }
-    ensures sums { EachIndex sums.new (λ i. IsAdded (slice_index_or sums.old i (pos 0))
-        (snd (record { points = points.now; parameters = v.now }) (nat_eq (i % 2) 0) (age + i / 2))
-        (slice_index_or sums.new i (pos 0))) }
-    ensures there { IsCourse points.now v.now (age + length sums.old / 2) course.new }
+    requires young { age + length run.old < 2 ^ 64 }
+    ensures heard { EachIndex run.new (λ k. slice_index_or run.new k (pos 0)
+        ≡ heard_at (record { points = points.now; parameters = v.now }) (age + k)) }
+    ensures there { IsCourse points.now v.now (age + length run.old) course.new }
 {
     let mut at = 0;
-    while at < sums.len() {
+    while at < run.len() {
+        let t = age + at as u64;
         if course.over {
+            run[at..].fill(0);
             return;
         }
-        let t = age + at as u64 / 2;
-        let n = stretch(v, t, course.place, ((sums.len() - at) / 2).min(run.len()));
-        add_sounds(
+        let n = stretch(v, t, course.place, run.len() - at);
+        fill_sounds(
             points,
             v,
             t,
@@ -276,15 +237,13 @@ fn add_stretches<'a>(
             &mut words[..n],
             &mut levels[..n],
             &mut others[..n],
-            &mut run[..n],
-            &mut sums[at..at + 2 * n],
+            &mut run[at..at + n],
         );
-        at += 2 * n;
+        at += n;
     }
 }
 
-// Adds the frames from `age` on, by way of buffers for the longest stretch. The course goes on to the frame behind
-// them.
+// Adds the frames from `age` on to the sums of both sides, as many at a time as the lists are long.
 pub(crate) fn add_by_buffers<'a>(
     points: &Points<'a>,
     v: &VoiceParameters,
@@ -302,19 +261,60 @@ pub(crate) fn add_by_buffers<'a>(
         (slice_index_or sums.new i (pos 0))) }
     ensures there { IsCourse points.now v.now (age + length sums.old / 2) course.new }
 {
-    let mut words: [u32; LONGEST] = empty_words();
-    let mut levels: [u16; LONGEST] = no_levels();
-    let mut others: [u16; LONGEST] = no_levels();
-    let mut run: [i16; LONGEST] = silent_points();
-    add_stretches(
-        points,
-        v,
-        age,
-        course,
-        &mut words,
-        &mut levels,
-        &mut others,
-        &mut run,
-        sums,
-    );
+    let mut words: [u32; LONGEST] = [0; LONGEST];
+    let mut levels: [u16; LONGEST] = [0; LONGEST];
+    let mut others: [u16; LONGEST] = [0; LONGEST];
+    let mut run: [i16; LONGEST] = [0; LONGEST];
+    let mut at = 0;
+    while at < sums.len() {
+        let n = ((sums.len() - at) / 2).min(LONGEST);
+        fill_run(
+            points,
+            v,
+            age + at as u64 / 2,
+            course,
+            &mut words[..n],
+            &mut levels[..n],
+            &mut others[..n],
+            &mut run[..n],
+        );
+        let (left, right) = (left_part(v), right_part(v));
+        add_sides(&run[..n], left, right, &mut sums[at..at + 2 * n]);
+        at += 2 * n;
+    }
+}
+
+// Adds the frames from `age` on: of a voice in the middle to sums that both sides get.
+pub(crate) fn add_run_apart<'a>(
+    points: &Points<'a>,
+    v: &VoiceParameters,
+    age: u64,
+    course: &mut Course<'a>,
+    words: &mut [u32],
+    levels: &mut [u16],
+    others: &mut [u16],
+    run: &mut [i16],
+    sums: &mut [i32],
+    middle: &mut [i32],
+)
+    requires long { length run.old ≡ length middle.old }
+    requires lists { (length words.old ≡ length middle.old) × (length levels.old ≡ length middle.old) × (length others.old ≡ length middle.old) }
+    requires sums { length sums.old ≡ 2 * length middle.old }
+    requires playable { IsPlayable (length points.now) v.now }
+    requires here { IsCourse points.now v.now age course.old }
+    requires short { length middle.old ≤ 1024 }
+    requires young { age + length middle.old < 2 ^ 64 }
+    requires room { AllWithin 65534 sums.old }
+    requires middle { AllWithin 65534 middle.old }
+    ensures sums { EachIndex sums.new (λ i. IsShared (slice_index_or sums.old i (pos 0)) (slice_index_or middle.old (i / 2) (pos 0))
+        (snd (record { points = points.now; parameters = v.now }) (nat_eq (i % 2) 0) (age + i / 2))
+        (slice_index_or sums.new i (pos 0)) (slice_index_or middle.new (i / 2) (pos 0))) }
+    ensures there { IsCourse points.now v.now (age + length middle.old) course.new }
+{
+    fill_run(points, v, age, course, words, levels, others, run);
+    if v.pan == 0 {
+        add_halves_once(run, middle);
+    } else {
+        add_sides(run, left_part(v), right_part(v), sums);
+    }
 }

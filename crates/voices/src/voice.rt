@@ -9,6 +9,7 @@ ghost use Rattle.voices.specs.Within.{AllWithin};
 use crate::courses::Course;
 use crate::frames::{frame, next_place};
 use crate::lookahead::{Ahead, add_run, next_ahead};
+use crate::runs::add_run_apart;
 use sample_view::Points;
 use std::marker::Model;
 use zone_select::VoiceParameters;
@@ -118,5 +119,50 @@ impl<'a> Voice<'a> {
             sums,
         );
         self.age += sums.len() as u64 / 2;
+    }
+
+    /// Adds the next frames as `add_frames` does, but those of a voice in the middle, unless some are ahead for shorter
+    /// blocks, to sums that both sides get: a side's sum is its own and that together. It computes in lists of as many
+    /// words, levels and points, whatever stands in these.
+    pub fn add_frames_apart(
+        &mut self,
+        words: &mut [u32],
+        levels: &mut [u16],
+        others: &mut [u16],
+        run: &mut [i16],
+        sums: &mut [i32],
+        middle: &mut [i32],
+    )
+        requires long { length run.old ≡ length middle.old }
+        requires lists { (length words.old ≡ length middle.old) × (length levels.old ≡ length middle.old) × (length others.old ≡ length middle.old) }
+        requires sums { length sums.old ≡ 2 * length middle.old }
+        requires short { length middle.old ≤ 1024 }
+        requires young { self.old.age + length sums.old < 2 ^ 64 }
+        requires room { AllWithin 65534 sums.old }
+        requires middle { AllWithin 65534 middle.old }
+        ensures value { EachIndex sums.new (λ i. slice_index_or sums.new i (pos 0) +ℤ slice_index_or middle.new (i / 2) (pos 0)
+            ≡ slice_index_or sums.old i (pos 0) +ℤ slice_index_or middle.old (i / 2) (pos 0)
+            +ℤ snd self.old.value (nat_eq (i % 2) 0) (self.old.age + i / 2)) }
+        ensures room { (j : ℕ) → AllWithin j sums.old → AllWithin (j + 1) sums.new }
+        ensures middle { (j : ℕ) → AllWithin j middle.old → AllWithin (j + 1) middle.new }
+        ensures live { self.new ≡ record { value = self.old.value; age = self.old.age + length sums.old / 2 } }
+    {
+        if self.ahead.left != 0 {
+            self.add_frames(sums);
+            return;
+        }
+        add_run_apart(
+            &self.points,
+            &self.parameters,
+            self.age,
+            &mut self.course,
+            words,
+            levels,
+            others,
+            run,
+            sums,
+            middle,
+        );
+        self.age += middle.len() as u64;
     }
 }

@@ -1,0 +1,56 @@
+use Rattle.std.proofs.Common.{◌≡◌, ◌+◌, ◌-◌, ◌*◌, ◌/◌, ◌%◌, ◌≤◌, pos, arith, get_or, length, nat_eq, take, drop, refl, subst, ◌∙◌}
+use Rattle.std.proofs.lemmas.Grind.{common_steps}
+use Rattle.zone_select.specs.Select.{Voice}
+use Rattle.voices.specs.Course.{IsCourse}
+use Rattle.voices.specs.Sound.{snd}
+use Rattle.voices.specs.Runs.{IsAdded}
+use Rattle.voice_levels.proofs.WriteLemmas.{below_piece, after_piece, in_piece}
+use Rattle.voices.proofs.RunLemmas.{later_added, heard_added}
+use Rattle.voices.proofs.runs.add_by_buffers.Goals as goal
+
+pub loop-at-init : goal.loop-at-init
+loop-at-init c = record {
+  within = omega arith;
+  even = (λ _. 0);
+  here = subst (λ t. IsCourse c.args.points.now c.args.v.now t c.args.course.now) (let e : c.args.age ≡ c.args.age + 0 / 2 = omega arith in e) c.requires.here;
+  done = λ i h. absurd (omega (arith, h));
+  rest = λ i h. refl;
+}
+
+pub returns-clause-there : goal.returns-clause-there
+returns-clause-there c =
+    let e : c.loop-at.at ≡ length c.args.sums.now = omega (arith, c.loop-at.invariant.within, c.loop-at.auto.sums) in
+    subst (λ n. IsCourse c.args.points.now c.args.v.now (c.args.age + n / 2) c.loop-at.course) e c.loop-at.invariant.here
+
+pub loop-at-preserved : goal.loop-at-preserved
+loop-at-preserved c =
+    let v : Voice = record { points = c.args.points.now; parameters = c.args.v.now } in
+    let at = c.loop-at.at in
+    let n = c.min-n.result in
+    let t = c.args.age + at / 2 in
+    let xs = c.loop-at.sums in
+    let ys = c.args.sums.now in
+    let old = c.loop-at.run in
+    let new = c.fill_run.new.run in
+    let even = c.loop-at.invariant.even in
+    let most : n ≤ (length xs - at) / 2 = omega (arith, c.min-n.ensures) in
+    let fits : n ≤ length old = omega (arith, c.min-n.ensures) in
+    let end : at + 2 * n ≤ length xs = omega (arith, most) in
+    let part : length (take n old) ≡ n = grind (arith, common_steps, fits) in
+    let made : length new ≡ n = c.fill_run.auto.run ∙ part in
+    let long : length (take (at + 2 * n - at) (drop at xs)) ≡ 2 * n = grind (arith, common_steps, end) in
+    let len : length c.add_sides.new.sums ≡ 2 * n = c.add_sides.auto.sums ∙ long in
+    record {
+      within = omega (arith, end, c.loop-at.auto.sums);
+      even = omega (arith, even);
+      here = subst (λ x. IsCourse c.args.points.now c.args.v.now x c.fill_run.new.course) (let e : t + length (take n old) ≡ c.args.age + (at + 2 * n) / 2 = omega (arith, even, part) in e) c.fill_run.ensures.there;
+      done = below_piece (pos 0) (λ i y. IsAdded (get_or ys i (pos 0)) (snd v (nat_eq (i % 2) 0) (c.args.age + i / 2)) y) xs c.add_sides.new.sums at (2 * n) end len
+          c.loop-at.invariant.done
+          (λ k h.
+          let told = c.fill_run.ensures.heard (k / 2) (omega (arith, h, made)) in
+          later_added v c.args.age at k (get_or ys (at + k) (pos 0)) _ _ even
+          (in_piece (pos 0) xs at (2 * n) k end h ∙ c.loop-at.invariant.rest (at + k) (omega arith))
+          (heard_added v (t + k / 2) (k % 2) _ _ _ _ _ (c.add_sides.ensures k (omega (arith, h, len))) (grind (arith, common_steps, made, h, told))
+          c.left_part-left.ensures.value c.right_part-right.ensures.value));
+      rest = after_piece (pos 0) xs ys c.add_sides.new.sums at (2 * n) end len c.loop-at.invariant.rest;
+    }
