@@ -8,10 +8,7 @@ ghost use Rattle.mixer.specs.KeptVoices.{AllYounger};
 use crate::playing::Playing;
 use progress::Progress;
 
-// The frames that are summed in one pass.
-const FRAMES: usize = 1024;
-
-// Their sides.
+// The sides that are summed in one pass: those of 1,024 frames.
 const PART: usize = 2048;
 
 // The sides of a block whose frames voices make ahead: those of 256 frames.
@@ -166,39 +163,41 @@ fn add_all(voices: &mut [Playing], totals: &mut [i128])
     }
 }
 
-// A part of a block of no more voices than a group has, by way of N sums.
+// A part of a block of no more voices than a group has.
 #[tactic(auto, unfolding(crate::specs::Events::next_side))]
-fn mix_by_sums<const N: usize>(voices: &mut [Playing], out: &mut [i16])
+fn mix_by_sums(voices: &mut [Playing], out: &mut [i16])
     requires few { length voices.old ≤ 65535 }
-    requires young { AllYounger (2 ^ 63 + 2 ^ 34) voices.old }
-    requires fits { length out.old ≤ N }
-    requires short { N ≤ 2048 }
-    requires even { length out.old % 2 ≡ 0 }
-    ensures value { EachIndex out.new (λ i. slice_index_or out.new i (pos 0) ≡ next_side voices.old i) }
-    ensures live { voices.new ≡ map (aged (length out.old / 2)) voices.old }
-{
-    let mut sums: [i32; N] = silent_sums();
-    let n = out.len();
-    add_group(voices, &mut sums[..n]);
-    cut_sums(&sums[..n], out);
-}
-
-// A part of a block of so few voices that those in the middle are added up once for both sides.
-#[tactic(auto, unfolding(crate::specs::Events::next_side))]
-fn mix_apart(voices: &mut [Playing], out: &mut [i16])
-    requires few { length voices.old ≤ 32767 }
     requires young { AllYounger (2 ^ 63 + 2 ^ 34) voices.old }
     requires short { length out.old ≤ 2048 }
     requires even { length out.old % 2 ≡ 0 }
     ensures value { EachIndex out.new (λ i. slice_index_or out.new i (pos 0) ≡ next_side voices.old i) }
     ensures live { voices.new ≡ map (aged (length out.old / 2)) voices.old }
 {
-    let mut words: [u32; FRAMES] = [0; FRAMES];
-    let mut levels: [u16; FRAMES] = [0; FRAMES];
-    let mut others: [u16; FRAMES] = [0; FRAMES];
-    let mut run: [i16; FRAMES] = [0; FRAMES];
     let mut sums: [i32; PART] = silent_sums();
-    let mut middle: [i32; FRAMES] = silent_sums();
+    let n = out.len();
+    add_group(voices, &mut sums[..n]);
+    cut_sums(&sums[..n], out);
+}
+
+// A part of a block of so few voices that those in the middle are added up once for both sides, by way of the sums of
+// N frames and of their sides.
+#[tactic(auto, unfolding(crate::specs::Events::next_side))]
+fn mix_apart<const N: usize, const SIDES: usize>(voices: &mut [Playing], out: &mut [i16])
+    requires few { length voices.old ≤ 32767 }
+    requires young { AllYounger (2 ^ 63 + 2 ^ 34) voices.old }
+    requires fits { length out.old ≤ SIDES }
+    requires sides { SIDES ≡ 2 * N }
+    requires short { N ≤ 1024 }
+    requires even { length out.old % 2 ≡ 0 }
+    ensures value { EachIndex out.new (λ i. slice_index_or out.new i (pos 0) ≡ next_side voices.old i) }
+    ensures live { voices.new ≡ map (aged (length out.old / 2)) voices.old }
+{
+    let mut words: [u32; N] = [0; N];
+    let mut levels: [u16; N] = [0; N];
+    let mut others: [u16; N] = [0; N];
+    let mut run: [i16; N] = [0; N];
+    let mut sums: [i32; SIDES] = silent_sums();
+    let mut middle: [i32; N] = silent_sums();
     let n = out.len() / 2;
     add_group_apart(
         voices,
@@ -212,7 +211,7 @@ fn mix_apart(voices: &mut [Playing], out: &mut [i16])
     cut_both(&sums[..2 * n], &middle[..n], out);
 }
 
-// A part of a block of no more voices than a group has.
+// The same in the way that takes the least, by how long the part is.
 fn mix_group(voices: &mut [Playing], out: &mut [i16])
     requires few { length voices.old ≤ 65535 }
     requires young { AllYounger (2 ^ 63 + 2 ^ 34) voices.old }
@@ -221,12 +220,14 @@ fn mix_group(voices: &mut [Playing], out: &mut [i16])
     ensures value { EachIndex out.new (λ i. slice_index_or out.new i (pos 0) ≡ next_side voices.old i) }
     ensures live { voices.new ≡ map (aged (length out.old / 2)) voices.old }
 {
-    if out.len() <= SHORT {
-        mix_by_sums::<SHORT>(voices, out);
-    } else if out.len() <= AHEAD || voices.len() > APART {
-        mix_by_sums::<PART>(voices, out);
+    if voices.len() > APART {
+        mix_by_sums(voices, out);
+    } else if out.len() <= SHORT {
+        mix_apart::<64, SHORT>(voices, out);
+    } else if out.len() <= AHEAD {
+        mix_apart::<256, AHEAD>(voices, out);
     } else {
-        mix_apart(voices, out);
+        mix_apart::<1024, PART>(voices, out);
     }
 }
 

@@ -69,10 +69,10 @@ impl<'a> Player<'a> {
 
     /// The next frames, the left and the right side in turn: sums of all voices, each cut once to 16
     /// bits. It takes no memory. Its work is that of the voices' own frames, and, for each 1,024 of them or
-    /// what is left, to clear 22 kilobytes once. In blocks of at most 256 frames a voice makes so many at a
-    /// time, ahead of the blocks that take them, and clears two kilobytes for that, and eight are cleared once;
-    /// for at most 64 frames that is half a kilobyte. In a longer block a voice clears ten kilobytes where it
-    /// has frames ahead of shorter ones, or where there are more than 32,767 voices. For no frame it does nothing.
+    /// what is left, to clear 22 kilobytes once; six for a block of at most 256 frames, and one and a half for one
+    /// of at most 64. In blocks of at most 256 frames a voice makes so many at a time, ahead of the blocks that take
+    /// them, and clears two kilobytes for that. Where there are more than 32,767 voices eight kilobytes are cleared
+    /// once, and in longer blocks ten for each voice. For no frame it does nothing.
     pub fn block(&mut self, out: &mut [i16])
         requires { length out.old % 2 ≡ 0 }
         ensures heard { out.new ≡ block self.old (length out.old / 2) }

@@ -5,13 +5,13 @@ ghost use Rattle.zone_select.specs.Select.{Voice};
 ghost use Rattle.voices.specs.Ahead.{IsAhead};
 ghost use Rattle.voices.specs.Course.{IsCourse};
 ghost use Rattle.voices.specs.Place.{is_over};
-ghost use Rattle.voices.specs.Runs.{IsAdded};
-ghost use Rattle.voices.specs.Sound.{snd};
+ghost use Rattle.voices.specs.Runs.{IsAdded, IsShared};
+ghost use Rattle.voices.specs.Sound.{heard_at, snd};
 ghost use Rattle.voices.specs.Within.{AllWithin};
 
 use crate::courses::Course;
 use crate::frames::{left_part, right_part};
-use crate::runs::{add_by_buffers, add_sides, fill_sounds, stretch};
+use crate::runs::{add_by_buffers, add_halves_once, add_sides, fill_run, fill_sounds, stretch};
 use crate::sides::panned;
 use sample_view::Points;
 use zone_select::VoiceParameters;
@@ -193,6 +193,192 @@ pub(crate) fn add_run<'a>(
         add_by_ahead(points, v, age, course, ahead, sums);
     } else {
         add_long(points, v, age, course, ahead, sums);
+    }
+}
+
+// Takes as many of the frames from `t` on as the list is long, and returns how many these are.
+fn take_ahead(
+    points: &Points,
+    v: &VoiceParameters,
+    t: u64,
+    ahead: &mut Ahead,
+    run: &mut [i16],
+) -> usize
+    requires ahead { IsAhead (record { points = points.now; parameters = v.now }) t ahead.old }
+    ensures taken { result + ahead.new.left ≡ ahead.old.left }
+    ensures most { result ≤ length run.old }
+    ensures all { 0 < ahead.new.left → result ≡ length run.old }
+    ensures heard { (k : ℕ) → k < result → slice_index_or run.new k (pos 0)
+        ≡ heard_at (record { points = points.now; parameters = v.now }) (t + k) }
+    ensures ahead { IsAhead (record { points = points.now; parameters = v.now }) (t + result) ahead.new }
+{
+    let n = ahead.left.min(run.len());
+    run[..n].copy_from_slice(&ahead.sounds[ahead.at..ahead.at + n]);
+    ahead.at += n;
+    ahead.left -= n;
+    n
+}
+
+// The frames from `age` on before they are panned, by way of those that are ahead and of some that are made so.
+fn fill_by_ahead<'a>(
+    points: &Points<'a>,
+    v: &VoiceParameters,
+    age: u64,
+    course: &mut Course<'a>,
+    ahead: &mut Ahead,
+    run: &mut [i16],
+)
+    requires playable { IsPlayable (length points.now) v.now }
+    requires ahead { IsAhead (record { points = points.now; parameters = v.now }) age ahead.old }
+    requires course { IsCourse points.now v.now (age + ahead.old.left) course.old }
+    requires young { age + length run.old < 2 ^ 64 }
+    ensures heard { EachIndex run.new (λ k. slice_index_or run.new k (pos 0)
+        ≡ heard_at (record { points = points.now; parameters = v.now }) (age + k)) }
+    ensures ahead { IsAhead (record { points = points.now; parameters = v.now }) (age + length run.old) ahead.new }
+    ensures course { IsCourse points.now v.now (age + length run.old + ahead.new.left) course.new }
+{
+    let mut at = 0;
+    while at < run.len() {
+        let t = age + at as u64;
+        make_ready(points, v, t, course, ahead);
+        if ahead.left == 0 {
+            run[at..].fill(0);
+            return;
+        }
+        at += take_ahead(points, v, t, ahead, &mut run[at..]);
+    }
+}
+
+// The same of a list that is longer than all that is ahead: the frames behind those are made stretch by stretch.
+fn fill_long<'a>(
+    points: &Points<'a>,
+    v: &VoiceParameters,
+    age: u64,
+    course: &mut Course<'a>,
+    ahead: &mut Ahead,
+    words: &mut [u32],
+    levels: &mut [u16],
+    others: &mut [u16],
+    run: &mut [i16],
+)
+    requires lists { (length words.old ≡ length run.old) × (length levels.old ≡ length run.old) × (length others.old ≡ length run.old) }
+    requires long { (256 < length run.old) × (length run.old ≤ 1024) }
+    requires playable { IsPlayable (length points.now) v.now }
+    requires ahead { IsAhead (record { points = points.now; parameters = v.now }) age ahead.old }
+    requires course { IsCourse points.now v.now (age + ahead.old.left) course.old }
+    requires young { age + length run.old < 2 ^ 64 }
+    ensures heard { EachIndex run.new (λ k. slice_index_or run.new k (pos 0)
+        ≡ heard_at (record { points = points.now; parameters = v.now }) (age + k)) }
+    ensures ahead { IsAhead (record { points = points.now; parameters = v.now }) (age + length run.old) ahead.new }
+    ensures course { IsCourse points.now v.now (age + length run.old + ahead.new.left) course.new }
+{
+    let n = take_ahead(points, v, age, ahead, run);
+    fill_run(
+        points,
+        v,
+        age + n as u64,
+        course,
+        &mut words[n..],
+        &mut levels[n..],
+        &mut others[n..],
+        &mut run[n..],
+    );
+}
+
+// Adds the frames from `age` on: of a voice in the middle to sums that both sides get.
+pub(crate) fn add_run_apart<'a>(
+    points: &Points<'a>,
+    v: &VoiceParameters,
+    age: u64,
+    course: &mut Course<'a>,
+    ahead: &mut Ahead,
+    words: &mut [u32],
+    levels: &mut [u16],
+    others: &mut [u16],
+    run: &mut [i16],
+    sums: &mut [i32],
+    middle: &mut [i32],
+)
+    requires long { length run.old ≡ length middle.old }
+    requires lists { (length words.old ≡ length middle.old) × (length levels.old ≡ length middle.old) × (length others.old ≡ length middle.old) }
+    requires sums { length sums.old ≡ 2 * length middle.old }
+    requires playable { IsPlayable (length points.now) v.now }
+    requires ahead { IsAhead (record { points = points.now; parameters = v.now }) age ahead.old }
+    requires course { IsCourse points.now v.now (age + ahead.old.left) course.old }
+    requires short { length middle.old ≤ 1024 }
+    requires young { age + length middle.old < 2 ^ 64 }
+    requires room { AllWithin 65534 sums.old }
+    requires middle { AllWithin 65534 middle.old }
+    ensures sums { EachIndex sums.new (λ i. IsShared (slice_index_or sums.old i (pos 0)) (slice_index_or middle.old (i / 2) (pos 0))
+        (snd (record { points = points.now; parameters = v.now }) (nat_eq (i % 2) 0) (age + i / 2))
+        (slice_index_or sums.new i (pos 0)) (slice_index_or middle.new (i / 2) (pos 0))) }
+    ensures ahead { IsAhead (record { points = points.now; parameters = v.now }) (age + length middle.old) ahead.new }
+    ensures course { IsCourse points.now v.now (age + length middle.old + ahead.new.left) course.new }
+{
+    if run.len() <= ahead.left {
+        share_ahead(points, v, age, ahead, sums, middle);
+        return;
+    }
+    if run.len() <= MOST {
+        fill_by_ahead(points, v, age, course, ahead, run);
+    } else {
+        fill_long(points, v, age, course, ahead, words, levels, others, run);
+    }
+    share(points, v, age, run, sums, middle);
+}
+
+// Adds the frames from `t` on, all of which are ahead.
+fn share_ahead(
+    points: &Points,
+    v: &VoiceParameters,
+    t: u64,
+    ahead: &mut Ahead,
+    sums: &mut [i32],
+    middle: &mut [i32],
+)
+    requires enough { length middle.old ≤ ahead.old.left }
+    requires sums { length sums.old ≡ 2 * length middle.old }
+    requires playable { IsPlayable (length points.now) v.now }
+    requires ahead { IsAhead (record { points = points.now; parameters = v.now }) t ahead.old }
+    requires room { AllWithin 65534 sums.old }
+    requires middle { AllWithin 65534 middle.old }
+    ensures sums { EachIndex sums.new (λ i. IsShared (slice_index_or sums.old i (pos 0)) (slice_index_or middle.old (i / 2) (pos 0))
+        (snd (record { points = points.now; parameters = v.now }) (nat_eq (i % 2) 0) (t + i / 2))
+        (slice_index_or sums.new i (pos 0)) (slice_index_or middle.new (i / 2) (pos 0))) }
+    ensures taken { length middle.old + ahead.new.left ≡ ahead.old.left }
+    ensures ahead { IsAhead (record { points = points.now; parameters = v.now }) (t + length middle.old) ahead.new }
+{
+    let n = middle.len();
+    let run = &ahead.sounds[ahead.at..ahead.at + n];
+    share(points, v, t, run, sums, middle);
+    ahead.at += n;
+    ahead.left -= n;
+}
+
+// Adds the frames from `age` on, which were made: of a voice in the middle half of each to sums that both sides get.
+fn share(
+    points: &Points,
+    v: &VoiceParameters,
+    age: u64,
+    run: &[i16],
+    sums: &mut [i32],
+    middle: &mut [i32],
+)
+    requires long { length run.now ≡ length middle.old }
+    requires sums { length sums.old ≡ 2 * length middle.old }
+    requires playable { IsPlayable (length points.now) v.now }
+    requires heard { EachIndex run.now (λ k. slice_index_or run.now k (pos 0)
+        ≡ heard_at (record { points = points.now; parameters = v.now }) (age + k)) }
+    requires room { AllWithin 65534 sums.old }
+    requires middle { AllWithin 65534 middle.old }
+    ensures { EachIndex sums.new (λ i. IsShared (slice_index_or sums.old i (pos 0)) (slice_index_or middle.old (i / 2) (pos 0))
+        (snd (record { points = points.now; parameters = v.now }) (nat_eq (i % 2) 0) (age + i / 2))
+        (slice_index_or sums.new i (pos 0)) (slice_index_or middle.new (i / 2) (pos 0))) }
+{
+    if v.pan == 0 {
+        add_halves_once(run, middle);
+    } else {
+        add_sides(run, left_part(v), right_part(v), sums);
     }
 }
 

@@ -11,7 +11,7 @@ ghost use Rattle.voice_levels.specs.Envelope.{held, envelope};
 ghost use Rattle.zone_select.specs.Playable.{IsPlayable};
 ghost use Rattle.voices.specs.Sound.{sound_at, heard_at, snd};
 ghost use Rattle.voices.specs.Within.{AllWithin};
-ghost use Rattle.voices.specs.Runs.{IsAdded, IsShared, IsStretch};
+ghost use Rattle.voices.specs.Runs.{IsAdded, IsStretch};
 
 use crate::courses::Course;
 use crate::frames::{left_part, right_part};
@@ -186,7 +186,7 @@ pub(crate) fn add_sides(run: &[i16], left: u32, right: u32, sums: &mut [i32])
 }
 
 // Adds half of each frame to a sum that both sides get.
-fn add_halves_once(run: &[i16], middle: &mut [i32])
+pub(crate) fn add_halves_once(run: &[i16], middle: &mut [i32])
     requires long { length middle.old ≡ length run.now }
     requires room { AllWithin 65534 middle.old }
     ensures { EachIndex middle.new (λ k. IsAdded (slice_index_or middle.old k (pos 0))
@@ -200,7 +200,7 @@ fn add_halves_once(run: &[i16], middle: &mut [i32])
 
 // The frames from `age` on before they are panned, stretch by stretch. As in all that goes on from here, the course
 // of the first frame goes on to that behind the last.
-fn fill_run<'a>(
+pub(crate) fn fill_run<'a>(
     points: &Points<'a>,
     v: &VoiceParameters,
     age: u64,
@@ -281,40 +281,5 @@ pub(crate) fn add_by_buffers<'a>(
         let (left, right) = (left_part(v), right_part(v));
         add_sides(&run[..n], left, right, &mut sums[at..at + 2 * n]);
         at += 2 * n;
-    }
-}
-
-// Adds the frames from `age` on: of a voice in the middle to sums that both sides get.
-pub(crate) fn add_run_apart<'a>(
-    points: &Points<'a>,
-    v: &VoiceParameters,
-    age: u64,
-    course: &mut Course<'a>,
-    words: &mut [u32],
-    levels: &mut [u16],
-    others: &mut [u16],
-    run: &mut [i16],
-    sums: &mut [i32],
-    middle: &mut [i32],
-)
-    requires long { length run.old ≡ length middle.old }
-    requires lists { (length words.old ≡ length middle.old) × (length levels.old ≡ length middle.old) × (length others.old ≡ length middle.old) }
-    requires sums { length sums.old ≡ 2 * length middle.old }
-    requires playable { IsPlayable (length points.now) v.now }
-    requires here { IsCourse points.now v.now age course.old }
-    requires short { length middle.old ≤ 1024 }
-    requires young { age + length middle.old < 2 ^ 64 }
-    requires room { AllWithin 65534 sums.old }
-    requires middle { AllWithin 65534 middle.old }
-    ensures sums { EachIndex sums.new (λ i. IsShared (slice_index_or sums.old i (pos 0)) (slice_index_or middle.old (i / 2) (pos 0))
-        (snd (record { points = points.now; parameters = v.now }) (nat_eq (i % 2) 0) (age + i / 2))
-        (slice_index_or sums.new i (pos 0)) (slice_index_or middle.new (i / 2) (pos 0))) }
-    ensures there { IsCourse points.now v.now (age + length middle.old) course.new }
-{
-    fill_run(points, v, age, course, words, levels, others, run);
-    if v.pan == 0 {
-        add_halves_once(run, middle);
-    } else {
-        add_sides(run, left_part(v), right_part(v), sums);
     }
 }

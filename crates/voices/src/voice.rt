@@ -8,8 +8,7 @@ ghost use Rattle.voices.specs.Within.{AllWithin};
 
 use crate::courses::Course;
 use crate::frames::{frame, next_place};
-use crate::lookahead::{Ahead, add_run, next_ahead};
-use crate::runs::add_run_apart;
+use crate::lookahead::{Ahead, add_run, add_run_apart, next_ahead};
 use sample_view::Points;
 use std::marker::Model;
 use zone_select::VoiceParameters;
@@ -147,15 +146,12 @@ impl<'a> Voice<'a> {
         ensures middle { (j : ℕ) → AllWithin j middle.old → AllWithin (j + 1) middle.new }
         ensures live { self.new ≡ record { value = self.old.value; age = self.old.age + length sums.old / 2 } }
     {
-        if self.ahead.left != 0 {
-            self.add_frames(sums);
-            return;
-        }
         add_run_apart(
             &self.points,
             &self.parameters,
             self.age,
             &mut self.course,
+            &mut self.ahead,
             words,
             levels,
             others,

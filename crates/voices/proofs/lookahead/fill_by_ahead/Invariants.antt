@@ -1,0 +1,16 @@
+use Rattle.std.proofs.Common.{◌≡◌, ℕ, ◌+◌, ◌-◌, ◌<◌, ◌≤◌, pos, get_or, length}
+use Rattle.voices.specs.Ahead.{IsAhead}
+use Rattle.voices.specs.Course.{IsCourse}
+use Rattle.voices.specs.Sound.{heard_at}
+use Rattle.voices.proofs.lookahead.fill_by_ahead.Given as goal
+
+abbrev pub invariant-loop-at : goal.invariant-loop-at
+invariant-loop-at l = record {
+  within : l.at ≤ length l.fn.run;
+  ahead : IsAhead (record { points = l.points; parameters = l.v }) (l.age + l.at) l.ahead;
+  here : IsCourse l.points l.v (l.age + l.at + l.ahead.left) l.course;
+  done : (k : ℕ) → k < l.at → get_or l.run k (pos 0) ≡ heard_at (record { points = l.points; parameters = l.v }) (l.age + k);
+}
+
+abbrev pub decreases-loop-at : goal.decreases-loop-at
+decreases-loop-at l = length l.fn.run - l.at
