@@ -1,11 +1,11 @@
 //! Worked frames of single voices.
-ghost use Rattle.std.specs.Prelude.{◌≡◌, ◌≤◌, ◌%◌, length};
+ghost use Rattle.std.specs.Prelude.{◌≡◌, ◌≤◌, ◌*◌, ◌%◌, length};
 ghost use Rattle.voices.specs.Within.{AllWithin};
 
 use sample_view::Points;
 use std::alloc::Global;
 use std::test::Fail;
-use voices::Voice;
+use voices::{Voice, Workspace};
 use zone_select::VoiceParameters;
 
 /// 1000, 2000 and -2000.
@@ -105,7 +105,19 @@ fn add(voice: &mut Voice, sums: &mut [i32])
     requires room { AllWithin 65534 sums.old }
 {
     if !voice.is_over() {
-        voice.add_frames(sums);
+        voice.add_frames(&mut Workspace::new(), sums);
+    }
+}
+
+// The same, of a voice in the middle to sums that both sides get.
+fn add_apart(voice: &mut Voice, sums: &mut [i32], middle: &mut [i32])
+    requires sums { length sums.old ≡ 2 * length middle.old }
+    requires short { length middle.old ≤ 1024 }
+    requires room { AllWithin 65534 sums.old }
+    requires middle { AllWithin 65534 middle.old }
+{
+    if !voice.is_over() {
+        voice.add_frames_apart(&mut Workspace::new(), sums, middle);
     }
 }
 
@@ -150,6 +162,22 @@ fn a_run_is_cut_anywhere(rt: HostRuntime) -> Result<(), Fail> {
     add(&mut voice, &mut back);
     assert!(rt; back == [-11, -11, -987, -987, 16, 16, 979, 979, -24, -24, 0, 0]);
     assert!(rt; voice.is_over());
+    Ok(())
+}
+
+#[test]
+fn a_voice_in_the_middle_is_added_once(rt: HostRuntime) -> Result<(), Fail> {
+    for pan in [0, 500] {
+        let mut parameters = looped();
+        parameters.pan = pan;
+        let mut voice = voice_over(rt.alloc(), &THREE, parameters)?.expect(&rt, "a voice");
+        let mut sums: [i32; 8] = silence();
+        let mut middle: [i32; 4] = silence();
+        add_apart(&mut voice, &mut sums, &mut middle);
+        let once = sums == [0; 8] && middle == [500, 3, 993, -11];
+        let apart = sums == [0, 1000, 0, 6, 0, 1986, 0, -21] && middle == [0; 4];
+        assert!(rt; if pan == 0 { once } else { apart });
+    }
     Ok(())
 }
 

@@ -148,15 +148,6 @@ plays_to counts first last a b c r h e = record { turns = h.turns; last = last; 
 
 -- ---- the whole run
 
-pub runs_of : (file : List ℕ) (bank : Parts) (counts : Counts) (first : Live) (a b : Around) (r : Result (Unit {0}) LiveFault) → ReadsAs file bank counts → first ≡ started_with bank
-    → Plays counts first a b r → Runs file a b r
-runs_of file bank counts first a b (Ok u) is e h = record { bank = bank; counts = counts; reads = is; plays = subst (λ (s : Live). Plays counts s a b (Ok u)) e h }
-runs_of file bank counts first a b (Err (fault.File f)) is e h = absurd h.end
-runs_of file bank counts first a b (Err fault.Memory) is e h = inr (record { bank = bank; counts = counts; reads = is; plays = subst (λ (s : Live). Plays counts s a b (Err fault.Memory)) e h })
-runs_of file bank counts first a b (Err fault.Input) is e h = record { bank = bank; counts = counts; reads = is; plays = subst (λ (s : Live). Plays counts s a b (Err fault.Input)) e h }
-runs_of file bank counts first a b (Err (fault.Answers n)) is e h = record { bank = bank; counts = counts; reads = is; plays = subst (λ (s : Live). Plays counts s a b (Err (fault.Answers n))) e h }
-runs_of file bank counts first a b (Err (fault.Pcm n)) is e h = record { bank = bank; counts = counts; reads = is; plays = subst (λ (s : Live). Plays counts s a b (Err (fault.Pcm n))) e h }
-
 pub goes_on : (counts : Counts) (x : Next) (old new : Live) (a b : Around) → x ≡ next.Line → Goes counts old new a b (Ok x) → GoesOn counts old new a b
 goes_on counts x old new a b e h = subst (λ (y : Next). Goes counts old new a b (Ok y)) e h
 

@@ -15,8 +15,9 @@ use zone_select::matches;
 
 /// A session in its course.
 pub(crate) struct Live<'a> {
-    pub(crate) session: Session<'a>,
+    // In front, for its lists.
     pub(crate) player: Player<'a>,
+    pub(crate) session: Session<'a>,
     // The frames that were given.
     pub(crate) given: u32,
 }
@@ -25,8 +26,8 @@ pub(crate) struct Live<'a> {
 impl Drop for Live<'_> {
     fn drop(self) {
         let Live {
-            session: _,
             player: _,
+            session: _,
             given: _,
         } = self;
     }
@@ -38,8 +39,8 @@ impl<'a> Live<'a> {
         ensures { result ≡ started_with bank.entry }
     {
         Live {
-            session: Session::new(alloc, bank),
             player: Player::new(alloc),
+            session: Session::new(alloc, bank),
             given: 0,
         }
     }

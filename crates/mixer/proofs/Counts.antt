@@ -47,9 +47,6 @@ within-count b (n ∷ ns) =
 pub half_of : (m : ℕ) → 2 * m / 2 ≡ m
 half_of m = omega arith
 
-pub even_of : (m : ℕ) → 2 * m % 2 ≡ 0
-even_of m = omega arith
-
 pub take_front : (k : ℕ) (xs ys : List ℤ) → length xs ≡ k → take k (xs ++ ys) ≡ xs
 take_front k xs ys e = grind (arith, common_steps)
 

@@ -43,9 +43,6 @@ pub record IsPlayed (b : Parts) (ps : List Playing) (ns : List Numbers) (now : �
   pub starts_in : StartWithin (length out / 2) ns
   pub is : take now out ++ blocks b ps (events_from (now / 2) ns (length out / 2)) ≡ all
 
-pub play_first : (b : Parts) (ns : List Numbers) (out : List ℤ) → IsRising 0 ns → StartWithin (length out / 2) ns → IsPlayed b [] ns 0 out (blocks b [] (events_from 0 ns (length out / 2)))
-play_first b ns out r w = record { even = refl; within = omega arith; rising = r; starts_in = w; is = refl }
-
 pub play_step : (b : Parts) (ps qs : List Playing) (n : Numbers) (ns : List Numbers) (now next : ℕ) (out new written all : List ℤ)
     → IsPlayed b ps (n ∷ ns) now out all
     → next ≡ 2 * n.start

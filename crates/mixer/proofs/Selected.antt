@@ -44,9 +44,6 @@ unfolding playing
 started_is n None l bank number e f g = absurd cc
 started_is n (Some v) l bank number e f g = let h : l ≡ starts.fresh v = cc in λ j. record { voice = h j; bank = f j; number = g j } ∷ []
 
-pub none_started : (n : Numbers) (v : Option Voice) (ps : List Playing) → v ≡ None → ps ≡ ps ++ map (playing n) (listed v)
-none_started n v ps e = sym (append-nil ps) ∙ ap (λ o. ps ++ map (playing n) (listed o)) (sym e)
-
 -- ---- their releases
 
 release_both : (vs ws : List Voice) → last_release (vs ++ ws) ≡ max (last_release vs) (last_release ws)

@@ -3,7 +3,7 @@ ghost use Rattle.std.specs.Prelude.{◌≡◌, ◌%◌, ◌/◌, [], OnOk, OnErr
 ghost use Rattle.mixer.specs.Heard as heard;
 ghost use Rattle.mixer.specs.Events.{after_start, after_block, block};
 
-use crate::blocks::mix;
+use crate::blocks::{MixBuffers, mix};
 use crate::playing::{Playing, drop_over, drop_silenced, fresh};
 use bank_core::Bank;
 use note_list::Note;
@@ -16,13 +16,18 @@ use std::marker::Model;
 /// be edited or dropped while its notes play on. Contracts see the list of the voices that are neither
 /// over nor silenced, each with its age in frames and the bank and preset numbers of its note.
 pub struct Player<'a> {
+    // In front, so that their lists lie as the player does: words of several frames are slower across lines of the cache.
+    buffers: MixBuffers,
     voices: Vec<Playing<'a>>,
 }
 
 // Not derived: a derived drop is written out, and proved, wherever a value is dropped; this one is a call.
 impl Drop for Player<'_> {
     fn drop(self) {
-        let Player { voices: _ } = self;
+        let Player {
+            buffers: _,
+            voices: _,
+        } = self;
     }
 }
 
@@ -39,11 +44,12 @@ impl<'a> Model for Player<'a> {
 }
 
 impl<'a> Player<'a> {
-    /// A player of no voices. It takes no memory.
+    /// A player of no voices, with room of its own for the sums of 1,024 frames: 22 kilobytes. It takes no memory.
     pub fn new(alloc: Global) -> Player<'a>
         ensures { result ≡ [] }
     {
         Player {
+            buffers: MixBuffers::new(),
             voices: Vec::new(alloc),
         }
     }
@@ -68,11 +74,10 @@ impl<'a> Player<'a> {
     }
 
     /// The next frames, the left and the right side in turn: sums of all voices, each cut once to 16
-    /// bits. It takes no memory. Its work is that of the voices' own frames, and, for each 1,024 of them or
-    /// what is left, to clear 22 kilobytes once; six for a block of at most 256 frames, and one and a half for one
-    /// of at most 64. In blocks of at most 256 frames a voice makes so many at a time, ahead of the blocks that take
-    /// them, and clears two kilobytes for that. Where there are more than 32,767 voices eight kilobytes are cleared
-    /// once, and in longer blocks ten for each voice. For no frame it does nothing.
+    /// bits. It takes no memory. Its work is that of the voices' own frames, and to clear twelve bytes for each frame. In
+    /// blocks of at most 256 frames a voice makes so many at a time, ahead of the blocks that take them. Where there are
+    /// more than 32,767 voices, 32 kilobytes more are cleared for each 1,024 frames or what is left. For no frame it does
+    /// nothing.
     pub fn block(&mut self, out: &mut [i16])
         requires { length out.old % 2 ≡ 0 }
         ensures heard { out.new ≡ block self.old (length out.old / 2) }
@@ -94,7 +99,7 @@ impl<'a> Player<'a> {
         if out.is_empty() {
             return;
         }
-        mix(voices.as_mut_slice(), out, progress);
+        mix(voices.as_mut_slice(), &mut self.buffers, out, progress);
         drop_over(voices);
     }
 }

@@ -7,7 +7,7 @@ use sample_view::Points;
 use sf_base::OutOfMemory;
 use std::alloc::Global;
 use std::io;
-use voices::Voice;
+use voices::{Voice, Workspace};
 
 /// The most frames of a block.
 pub(crate) const MOST: usize = 1024;
@@ -28,7 +28,13 @@ pub(crate) fn play(
 {
     let mut sums: [i32; 2 * MOST] = silence();
     if let Some(mut voice) = example.voice(points.copy(alloc).map_err(no_memory)?, round) {
-        add_blocks(&mut voice, FRAMES / block as u64, &mut sums[..2 * block]);
+        let mut work = Workspace::new();
+        add_blocks(
+            &mut voice,
+            FRAMES / block as u64,
+            &mut work,
+            &mut sums[..2 * block],
+        );
     }
     Ok(folded(&sums[..2 * block]))
 }
@@ -45,7 +51,7 @@ pub(crate) fn is_as_single_frames(
     let (Some(mut in_block), Some(mut one_by_one)) = (in_block, one_by_one) else {
         return Ok(false);
     };
-    in_block.add_frames(&mut sums);
+    in_block.add_frames(&mut Workspace::new(), &mut sums);
     Ok(plays(&mut one_by_one, &sums))
 }
 
@@ -73,7 +79,7 @@ fn silence<const N: usize>() -> [i32; N]
 }
 
 // Adds so many blocks of a voice to the same sums.
-fn add_blocks(voice: &mut Voice, blocks: u64, sums: &mut [i32])
+fn add_blocks(voice: &mut Voice, blocks: u64, work: &mut Workspace, sums: &mut [i32])
     requires fresh { voice.old.age ≡ 0 }
     requires few { blocks ≤ 65534 }
     requires short { length sums.old ≤ 2048 }
@@ -81,7 +87,7 @@ fn add_blocks(voice: &mut Voice, blocks: u64, sums: &mut [i32])
     requires silent { AllWithin 0 sums.old }
 {
     for _ in 0..blocks {
-        voice.add_frames(sums);
+        voice.add_frames(work, sums);
     }
 }
 

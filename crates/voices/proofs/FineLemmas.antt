@@ -133,9 +133,3 @@ fine_is z h l part most fz eh el =
 pub record InTwo (part : ℕ) (h l : ℤ) : Type 0 where
   pub high : (pos 0 ≤ℤ h) × (h ≤ℤ pos 16384)
   pub low : (pos 0 ≤ℤ l) × (l ≤ℤ pos 16383)
-
-pub two_within : (part : ℕ) (h l : ℤ) → part ≤ 1000 → h ≡ pos (fine_of part / 16384) → l ≡ pos (fine_of part % 16384) → InTwo part h l
-two_within part h l most eh el =
-    let f : fine_of part / 16384 ≤ 16384 = omega (arith, most) in
-    let g : fine_of part % 16384 ≤ 16383 = omega arith in
-    record { high = (omega (arith, ints, eh), omega (arith, ints, eh, f)); low = (omega (arith, ints, el), omega (arith, ints, el, g)) }

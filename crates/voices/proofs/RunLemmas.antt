@@ -113,9 +113,6 @@ pub over_is_silent : (v : Voice) (left : Bool) (t : ℕ) → is_over v.parameter
 unfolding snd
 over_is_silent v left t e = ap (λ b. cond b (pos 0) (side (sound_at v t) (part_of v.parameters left))) e
 
-pub silent_from : (v : Voice) (left : Bool) (s t : ℕ) → is_over v.parameters s ≡ true → s ≤ t → snd v left t ≡ pos 0
-silent_from v left s t e l = over_is_silent v left t (over_stays v.parameters s t l e)
-
 -- what a stretch adds, counted from the run's start
 pub later_added : (v : Voice) (age at k : ℕ) (was was' sum : ℤ) → at % 2 ≡ 0 → was' ≡ was
     → IsAdded was' (snd v (nat_eq (k % 2) 0) (age + at / 2 + k / 2)) sum

@@ -3,6 +3,7 @@
 
 ghost use Rattle.voices.specs.Sound.{OverStaysOver};
 
+mod adding;
 mod courses;
 mod frames;
 mod lookahead;
@@ -13,9 +14,11 @@ mod sides;
 mod slices;
 mod start;
 mod voice;
+mod workspace;
 
 pub use start::NoMatch;
 pub use voice::Voice;
+pub use workspace::Workspace;
 
 /// The law that a voice that is over at a frame is over at each later one. It does nothing.
 #[tactic(auto, using(crate::proofs::OverLemmas::over_stays))]

@@ -9,21 +9,18 @@ ghost use Rattle.voice_levels.specs.Even.{IsEven};
 ghost use Rattle.voices.specs.Course.{IsCourse};
 ghost use Rattle.voice_levels.specs.Envelope.{held, envelope};
 ghost use Rattle.zone_select.specs.Playable.{IsPlayable};
-ghost use Rattle.voices.specs.Sound.{sound_at, heard_at, snd};
+ghost use Rattle.voices.specs.Sound.{sound_at, heard_at};
 ghost use Rattle.voices.specs.Within.{AllWithin};
 ghost use Rattle.voices.specs.Runs.{IsAdded, IsStretch};
 
 use crate::courses::Course;
-use crate::frames::{left_part, right_part};
 use crate::places::{frames_before, is_looping_at};
 use crate::sides::{HALF, WHOLE, fine_part, finely_panned, halved};
 use crate::slices::fill_points;
+use crate::workspace::{LONGEST, Stages};
 use sample_view::Points;
 use voice_levels::soften;
 use zone_select::VoiceParameters;
-
-// The most frames of a stretch.
-const LONGEST: usize = 1024;
 
 // How many frames from `t` on, at most `most`, are heard in one way: the note's end ends a stretch. The
 // place of the first is `x`.
@@ -64,19 +61,16 @@ fn frames_ahead(v: &VoiceParameters, t: u64, most: u64) -> u64
 
 // The frames of a stretch before they are panned, by way of a word and two levels for each. The course of the first
 // frame goes on to that behind the last.
-pub(crate) fn fill_sounds<'a>(
+fn fill_by_stages<'a>(
     points: &Points<'a>,
     v: &VoiceParameters,
     t: u64,
     course: &mut Course<'a>,
-    words: &mut [u32],
-    levels: &mut [u16],
-    others: &mut [u16],
+    words: &mut [u32; LONGEST],
+    levels: &mut [u16; LONGEST],
+    others: &mut [u16; LONGEST],
     run: &mut [i16],
 )
-    requires long { length words.old ≡ length run.old }
-    requires levels { length levels.old ≡ length run.old }
-    requires others { length others.old ≡ length run.old }
     requires playable { IsPlayable (length points.now) v.now }
     requires one_way { IsStretch v.now t (length run.old) }
     requires course { IsCourse points.now v.now t course.old }
@@ -86,7 +80,8 @@ pub(crate) fn fill_sounds<'a>(
         ≡ sound_at (record { points = points.now; parameters = v.now }) (t + k)) }
     ensures course { IsCourse points.now v.now (t + length run.old) course.new }
 {
-    let n = run.len() as u64;
+    let n = run.len();
+    let words = &mut words[..n];
     let (next, slice) = fill_points(points, v, t, course.place, course.slice, words, run);
     let level = soften(
         v,
@@ -94,11 +89,41 @@ pub(crate) fn fill_sounds<'a>(
         course.level,
         course.at_end,
         course.loudness,
-        levels,
-        others,
+        &mut levels[..n],
+        &mut others[..n],
         run,
     );
-    course.go_on(v, t + n, next, level, slice);
+    course.go_on(v, t + n as u64, next, level, slice);
+}
+
+// The same in a workspace.
+pub(crate) fn fill_sounds<'a>(
+    points: &Points<'a>,
+    v: &VoiceParameters,
+    t: u64,
+    course: &mut Course<'a>,
+    stages: &mut Stages,
+    run: &mut [i16],
+)
+    requires playable { IsPlayable (length points.now) v.now }
+    requires one_way { IsStretch v.now t (length run.old) }
+    requires course { IsCourse points.now v.now t course.old }
+    requires heard { course.old.over ≡ false }
+    requires short { length run.old ≤ 1024 }
+    ensures sounds { EachIndex run.new (λ k. slice_index_or run.new k (pos 0)
+        ≡ sound_at (record { points = points.now; parameters = v.now }) (t + k)) }
+    ensures course { IsCourse points.now v.now (t + length run.old) course.new }
+{
+    fill_by_stages(
+        points,
+        v,
+        t,
+        course,
+        &mut stages.words,
+        &mut stages.levels,
+        &mut stages.others,
+        run,
+    );
 }
 
 // The sides of a frame, whose sums stand in turn.
@@ -205,17 +230,12 @@ pub(crate) fn fill_run<'a>(
     v: &VoiceParameters,
     age: u64,
     course: &mut Course<'a>,
-    words: &mut [u32],
-    levels: &mut [u16],
-    others: &mut [u16],
+    stages: &mut Stages,
     run: &mut [i16],
 )
     requires playable { IsPlayable (length points.now) v.now }
     requires here { IsCourse points.now v.now age course.old }
     requires short { length run.old ≤ 1024 }
-    requires words { length words.old ≡ length run.old }
-    requires levels { length levels.old ≡ length run.old }
-    requires others { length others.old ≡ length run.old }
     requires young { age + length run.old < 2 ^ 64 }
     ensures heard { EachIndex run.new (λ k. slice_index_or run.new k (pos 0)
         ≡ heard_at (record { points = points.now; parameters = v.now }) (age + k)) }
@@ -229,57 +249,7 @@ pub(crate) fn fill_run<'a>(
             return;
         }
         let n = stretch(v, t, course.place, run.len() - at);
-        fill_sounds(
-            points,
-            v,
-            t,
-            course,
-            &mut words[..n],
-            &mut levels[..n],
-            &mut others[..n],
-            &mut run[at..at + n],
-        );
+        fill_sounds(points, v, t, course, stages, &mut run[at..at + n]);
         at += n;
-    }
-}
-
-// Adds the frames from `age` on to the sums of both sides, as many at a time as the lists are long.
-pub(crate) fn add_by_buffers<'a>(
-    points: &Points<'a>,
-    v: &VoiceParameters,
-    age: u64,
-    course: &mut Course<'a>,
-    sums: &mut [i32],
-)
-    requires playable { IsPlayable (length points.now) v.now }
-    requires here { IsCourse points.now v.now age course.old }
-    requires even { length sums.old % 2 ≡ 0 }
-    requires young { age + length sums.old < 2 ^ 64 }
-    requires room { AllWithin 65534 sums.old }
-    ensures sums { EachIndex sums.new (λ i. IsAdded (slice_index_or sums.old i (pos 0))
-        (snd (record { points = points.now; parameters = v.now }) (nat_eq (i % 2) 0) (age + i / 2))
-        (slice_index_or sums.new i (pos 0))) }
-    ensures there { IsCourse points.now v.now (age + length sums.old / 2) course.new }
-{
-    let mut words: [u32; LONGEST] = [0; LONGEST];
-    let mut levels: [u16; LONGEST] = [0; LONGEST];
-    let mut others: [u16; LONGEST] = [0; LONGEST];
-    let mut run: [i16; LONGEST] = [0; LONGEST];
-    let mut at = 0;
-    while at < sums.len() {
-        let n = ((sums.len() - at) / 2).min(LONGEST);
-        fill_run(
-            points,
-            v,
-            age + at as u64 / 2,
-            course,
-            &mut words[..n],
-            &mut levels[..n],
-            &mut others[..n],
-            &mut run[..n],
-        );
-        let (left, right) = (left_part(v), right_part(v));
-        add_sides(&run[..n], left, right, &mut sums[at..at + 2 * n]);
-        at += 2 * n;
     }
 }

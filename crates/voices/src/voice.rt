@@ -6,9 +6,11 @@ ghost use Rattle.zone_select.specs.Playable.{IsPlayable};
 ghost use Rattle.voices.specs.Sound.{snd, after_frame};
 ghost use Rattle.voices.specs.Within.{AllWithin};
 
+use crate::adding::{add_run, add_run_apart};
 use crate::courses::Course;
 use crate::frames::{frame, next_place};
-use crate::lookahead::{Ahead, add_run, add_run_apart, next_ahead};
+use crate::lookahead::{Ahead, next_ahead};
+use crate::workspace::Workspace;
 use sample_view::Points;
 use std::marker::Model;
 use zone_select::VoiceParameters;
@@ -100,7 +102,7 @@ impl<'a> Voice<'a> {
 
     /// Adds the next frames to sums of both sides, left and right in turn. Each sum has room for one
     /// more voice: none is further from zero than 65534 voices reach.
-    pub fn add_frames(&mut self, sums: &mut [i32])
+    pub fn add_frames(&mut self, work: &mut Workspace, sums: &mut [i32])
         requires even { length sums.old % 2 ≡ 0 }
         requires young { self.old.age + length sums.old < 2 ^ 64 }
         requires room { AllWithin 65534 sums.old }
@@ -115,25 +117,16 @@ impl<'a> Voice<'a> {
             self.age,
             &mut self.course,
             &mut self.ahead,
+            &mut work.stages,
+            &mut work.run,
             sums,
         );
         self.age += sums.len() as u64 / 2;
     }
 
-    /// Adds the next frames as `add_frames` does, but those of a voice in the middle, unless some are ahead for shorter
-    /// blocks, to sums that both sides get: a side's sum is its own and that together. It computes in lists of as many
-    /// words, levels and points, whatever stands in these.
-    pub fn add_frames_apart(
-        &mut self,
-        words: &mut [u32],
-        levels: &mut [u16],
-        others: &mut [u16],
-        run: &mut [i16],
-        sums: &mut [i32],
-        middle: &mut [i32],
-    )
-        requires long { length run.old ≡ length middle.old }
-        requires lists { (length words.old ≡ length middle.old) × (length levels.old ≡ length middle.old) × (length others.old ≡ length middle.old) }
+    /// Adds the next frames as `add_frames` does, but those of a voice in the middle to sums that both sides get: a
+    /// side's sum is its own and that together.
+    pub fn add_frames_apart(&mut self, work: &mut Workspace, sums: &mut [i32], middle: &mut [i32])
         requires sums { length sums.old ≡ 2 * length middle.old }
         requires short { length middle.old ≤ 1024 }
         requires young { self.old.age + length sums.old < 2 ^ 64 }
@@ -152,10 +145,8 @@ impl<'a> Voice<'a> {
             self.age,
             &mut self.course,
             &mut self.ahead,
-            words,
-            levels,
-            others,
-            run,
+            &mut work.stages,
+            &mut work.run,
             sums,
             middle,
         );

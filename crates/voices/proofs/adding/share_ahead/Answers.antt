@@ -4,7 +4,7 @@ use Rattle.zone_select.specs.Select.{Voice}
 use Rattle.voice_levels.proofs.WriteLemmas.{in_piece}
 use Rattle.voices.proofs.RunLemmas.{heard_is}
 use Rattle.voices.proofs.AheadLemmas.{later_ahead}
-use Rattle.voices.proofs.lookahead.share_ahead.Goals as goal
+use Rattle.voices.proofs.adding.share_ahead.Goals as goal
 
 pub share-requires-clause-heard : goal.share-requires-clause-heard
 share-requires-clause-heard c k h =

@@ -3,7 +3,7 @@ use Rattle.voices.specs.Ahead.{IsAhead}
 use Rattle.voices.specs.Course.{IsCourse}
 use Rattle.voices.specs.Sound.{snd}
 use Rattle.voices.specs.Runs.{IsAdded}
-use Rattle.voices.proofs.lookahead.add_by_ahead.Given as goal
+use Rattle.voices.proofs.adding.add_run.Given as goal
 
 abbrev pub invariant-loop-at : goal.invariant-loop-at
 invariant-loop-at l = record {

@@ -3,7 +3,7 @@ use Rattle.sound_tables.specs.Tables.{gain_of}
 use Rattle.voice_levels.specs.Levels.{scaled_by}
 use Rattle.voice_levels.specs.Envelope.{envelope}
 use Rattle.voices.specs.Sound.{sound_at}
-use Rattle.voices.proofs.runs.fill_sounds.Goals as goal
+use Rattle.voices.proofs.runs.fill_by_stages.Goals as goal
 
 pub returns-clause-sounds : goal.returns-clause-sounds
 unfolding sound_at
