@@ -1,8 +1,9 @@
 -- What holds of each member of a list.
-use Rattle.std.proofs.Common.{◌≡◌, ℕ, zero, suc, List, [], ◌∷◌, map, insert, remove, refl, arith}
+use Rattle.std.proofs.Common.{◌≡◌, ℕ, List, [], ◌∷◌, map, refl, arith}
 use Rattle.std.specs.Prelude.{sum_by}
 use Rattle.std.specs.List.{AllByRecursion}
 use Rattle.std.proofs.lemmas.List.Sums.{sum_by-cons}
+pub use Rattle.bank_parts.proofs.ListLaws.{everywhere-insert as all_insert, everywhere-remove as all_remove}
 pub use Rattle.bank_parts.proofs.Everywhere.{all_weaker, all_both, or_left, or_right, or_none, none_passes, passes_none}
 
 pub all_always : {X : Type 0} (P : X → Type 0) → ((x : X) → P x) → (xs : List X) → AllByRecursion P xs
@@ -17,18 +18,6 @@ all_map P R Q f to (x ∷ xs) v w = (to x v.0 w.0, all_map P R Q f to xs v.1 w.1
 pub all_sent : {X Y : Type 0} (P : X → Type 0) (Q : Y → Type 0) (f : X → Y) → ((x : X) → P x → Q (f x)) → (xs : List X) → AllByRecursion P xs → AllByRecursion Q (map f xs)
 all_sent P Q f to [] v = tt
 all_sent P Q f to (x ∷ xs) v = (to x v.0, all_sent P Q f to xs v.1)
-
-pub all_insert : {X : Type 0} (P : X → Type 0) (xs : List X) (i : ℕ) (x : X) → P x → AllByRecursion P xs → AllByRecursion P (insert xs i x)
-all_insert P [] zero x h v = (h, tt)
-all_insert P [] (suc i) x h v = (h, tt)
-all_insert P (y ∷ ys) zero x h v = (h, v)
-all_insert P (y ∷ ys) (suc i) x h v = (v.0, all_insert P ys i x h v.1)
-
-pub all_remove : {X : Type 0} (P : X → Type 0) (xs : List X) (i : ℕ) → AllByRecursion P xs → AllByRecursion P (remove xs i)
-all_remove P [] zero v = v
-all_remove P [] (suc i) v = v
-all_remove P (y ∷ ys) zero v = v.1
-all_remove P (y ∷ ys) (suc i) v = (v.0, all_remove P ys i v.1)
 
 pub map_kept : {X : Type 0} (f : X → X) (xs : List X) → AllByRecursion (λ x. f x ≡ x) xs → map f xs ≡ xs
 map_kept f [] v = refl

@@ -1,5 +1,5 @@
 -- The raw changes of instruments: each keeps a bank sound, and is taken back.
-use Rattle.std.proofs.Common.{◌≡◌, ◌<◌, ◌≤◌, ◌==◌, ℕ, false, List, length, insert, remove, slice_get, Some, None, refl, sym, ◌∙◌, ap, arith}
+use Rattle.std.proofs.Common.{◌≡◌, ◌<◌, ◌≤◌, ◌==◌, ℕ, false, List, length, insert, remove, slice_get, Some, None, sym, ◌∙◌, ap, arith}
 use Rattle.std.specs.List.{AllByRecursion}
 use Rattle.std.proofs.lemmas.List.Edits.{length-insert, length-remove}
 use Rattle.sf_base.specs.Names.{IsName}
@@ -7,7 +7,7 @@ use Rattle.numbered_lists.specs.declared.renumbering.Renumbering.{Renumbering}
 use Rattle.numbered_lists.specs.declared.renumbering.Renumbering.TheVariants.{Insertion, Removal, Move}
 use Rattle.numbered_lists.specs.Renumbered.{renumbered}
 use Rattle.numbered_lists.specs.Moved.{moved}
-use Rattle.numbered_lists.proofs.Lists.{slice_get-found, slice_get-within, length-changed, length-moved, moved-back, insert-remove, remove-insert}
+use Rattle.numbered_lists.proofs.Lists.{slice_get-found, length-changed, length-moved, moved-back, insert-remove, remove-insert}
 use Rattle.numbered_lists.proofs.Numbers.{insertion_returned, removal_returned_by_test, insertion_below, removal_below_by_test, insertion_keeps, insertion_misses_by_test, move_below, move_returned}
 use Rattle.generators.specs.declared.level.Level.TheVariants as level
 use Rattle.bank_validity.specs.declared.totals.Totals.{Totals}
@@ -17,17 +17,17 @@ use Rattle.bank_parts.specs.declared.parts.Parts.{Parts}
 use Rattle.bank_parts.specs.Counts.{records_of_owner}
 use Rattle.bank_parts.specs.Owners.{with_head}
 use Rattle.bank_parts.specs.Renumbered.{instruments_renumbered}
-use Rattle.bank_parts.specs.Valid.{IsInstrument, IsValid, zone_count, gen_count, mod_count}
+use Rattle.bank_parts.specs.Valid.{IsInstrument, IsValid}
 use Rattle.bank_parts.specs.Fits.{FitsHead, FitsOwner}
 use Rattle.bank_parts.specs.Sound.{IsSound}
 use Rattle.bank_validity.specs.Limits.{totals_of, broken, broken_limit, with_owner}
 use Rattle.bank_validity.proofs.LimitLaws.{limits_of, no_limit_of}
 use Rattle.bank_changes.specs.Instruments.{instrument_renamed, instrument_added, instrument_removed, instrument_moved, instrument_in_use}
-use Rattle.bank_changes.proofs.Changes.{all_changed, sum-changed}
+use Rattle.bank_changes.proofs.Changes.{all_changed}
 use Rattle.bank_changes.proofs.Everywhere.{all_insert, all_remove}
-use Rattle.bank_changes.proofs.Moves.{all_moved, sum-moved}
+use Rattle.bank_changes.proofs.Moves.{all_moved}
 use Rattle.bank_changes.proofs.OwnerReferences.{OfOwners, owners_always, owners_weaker, owners_both, owners_sent, owners_within, owners_valid, owners_fit, owners_kept, owners_back, removal_keeps, untargeted, not_targeted}
-use Rattle.bank_changes.proofs.TotalsLaws.{totals-instruments_renumbered, level_inserted, level_removed, level_moved, level_headed, without_owner_within}
+use Rattle.bank_changes.proofs.TotalsLaws.{totals-instruments_renumbered, level_inserted, level_removed, level_moved, level_headed, owners_grow}
 
 -- ---- renaming
 
@@ -147,7 +147,7 @@ module _ (b : Parts) (i : ℕ) where
       (λ t h. let below = h.1 in removal_below_by_test i t (length (remove b.instruments i)) h.0 (omega (arith, less, lt)) (omega (arith, less, below)))
       (owners_both (λ t. (t == i) ≡ false) (λ t. t < n) b.presets (unused_instrument free) (targets_within b sound.valid))
       (all_remove (IsInstrument (length b.samples)) b.instruments i sound.valid.instruments) (all_remove (FitsOwner IsName) b.instruments i sound.fits.instruments)
-      (without_owner_within level.Instrument (totals_of (instrument_removed b i)) (records_of_owner x) (ap broken (totals-removed_instrument x e) ∙ no_limit_of b sound.valid.limits))
+      ((owners_grow level.Instrument).within (totals_of (instrument_removed b i)) (records_of_owner x) (ap broken (totals-removed_instrument x e) ∙ no_limit_of b sound.valid.limits))
 
   pub restored_removed_instrument : (x : WithZones (List ℕ)) → slice_get b.instruments i ≡ Some x → instrument_in_use b i ≡ false → instrument_added (instrument_removed b i) i x ≡ b
   restored_removed_instrument x e free =

@@ -1,15 +1,11 @@
 -- A list with one member moved.
 use Rattle.std.proofs.Common.{◌≡◌, ◌<◌, ℕ, List, length, map, remove, sym, ◌∙◌, ap, arith}
 use Rattle.std.specs.Prelude.{sum_by}
-use Rattle.std.specs.List.{AllByRecursion}
 use Rattle.std.proofs.lemmas.List.Sums.{sum_by-insert}
 use Rattle.numbered_lists.specs.Moved.{moved}
 use Rattle.numbered_lists.proofs.Lists.{slice_get-found, length-moved, map-moved, moved-back}
-use Rattle.bank_changes.proofs.Everywhere.{all_insert, all_remove}
-use Rattle.bank_changes.proofs.Changes.{all_found, sum-removed}
-
-pub all_moved : {X : Type 0} (P : X → Type 0) (xs : List X) (i j : ℕ) → i < length xs → AllByRecursion P xs → AllByRecursion P (moved xs i j)
-all_moved P xs i j lt all = let (x, e) = slice_get-found xs i lt in rw e (all_insert P (remove xs i) j x (all_found P xs i x e all) (all_remove P xs i all))
+pub use Rattle.bank_parts.proofs.ListLaws.{everywhere-moved as all_moved}
+use Rattle.bank_changes.proofs.Changes.{sum-removed}
 
 pub sum-moved : {X : Type 0} (measure : X → ℕ) (xs : List X) (i j : ℕ) → i < length xs → sum_by measure (moved xs i j) ≡ sum_by measure xs
 sum-moved measure xs i j lt =

@@ -1,9 +1,8 @@
 -- A change of one place, wherever it is: what it keeps, and what becomes of the totals.
-use Rattle.std.proofs.Common.{◌≡◌, false, ◌≤◌, ◌+◌, ℕ, zero, suc, List, [], ◌∷◌, length, Option, Some, None, IsSome, refl, sym, ◌∙◌, ap, subst, arith}
-use Rattle.std.specs.Prelude.{slice_get, slice_set, sum_by, if◌then◌else◌, ◌==◌}
+use Rattle.std.proofs.Common.{◌≡◌, false, ◌≤◌, ◌+◌, ℕ, List, [], length, Option, Some, None, IsSome, refl, sym, ◌∙◌, ap, subst, arith}
+use Rattle.std.specs.Prelude.{slice_get, sum_by, if◌then◌else◌, ◌==◌}
 use Rattle.std.specs.Option.{is_some, option_map, option_map_or}
 use Rattle.std.specs.FinMap.{len, len-empty}
-use Rattle.std.proofs.lemmas.List.Sums.{sum_by-cons}
 use Rattle.std.proofs.lemmas.Bool.Decides.{nat_tests}
 use Rattle.sf_base.specs.Names.{IsName}
 use Rattle.numbered_lists.specs.Moved.{changed}
@@ -35,7 +34,7 @@ use Rattle.bank_changes.specs.declared.members.Place.{Place}
 use Rattle.bank_changes.specs.Members.{zone_place, settings_of, level_of}
 use Rattle.bank_changes.specs.Settings.{own_place_changed, records_of_place, no_records, records_there}
 use Rattle.bank_changes.specs.Totals.{with_records, HasRecords}
-use Rattle.bank_changes.proofs.Changes.{all_changed, all_found}
+use Rattle.bank_changes.proofs.Changes.{all_changed, all_found, sum-exchanged}
 use Rattle.bank_changes.proofs.RecountLaws.{AreNoMore, no_more_within}
 
 -- ---- a place that is there
@@ -166,23 +165,8 @@ settings_fit b (Instrument i) at s sound e =
 
 -- ---- totals
 
--- a sum with another member in the place of one
-sum-put : {X : Type 0} (measure : X → ℕ) (xs : List X) (i : ℕ) (x y : X) → slice_get xs i ≡ Some x → sum_by measure (slice_set xs i y) + measure x ≡ sum_by measure xs + measure y
-sum-put measure [] i x y e = cc
-sum-put measure (z ∷ zs) zero x y e =
-    let here : z ≡ x = cc in
-    let old = sum_by-cons measure z zs in
-    let new = sum_by-cons measure y zs in
-    let old_is : measure z ≡ measure x = ap measure here in
-    omega (arith, old, new, old_is)
-sum-put measure (z ∷ zs) (suc i) x y e =
-    let rest = sum-put measure zs i x y e in
-    let old = sum_by-cons measure z zs in
-    let new = sum_by-cons measure z (slice_set zs i y) in
-    omega (arith, rest, old, new)
-
 pub sum-changed_there : {X : Type 0} (measure : X → ℕ) (f : X → X) (xs : List X) (i : ℕ) (x : X) → slice_get xs i ≡ Some x → sum_by measure (changed xs i f) + measure x ≡ sum_by measure xs + measure (f x)
-sum-changed_there measure f xs i x e = ap (λ ys. sum_by measure ys + measure x) (changed-found xs i f x e) ∙ sum-put measure xs i x (f x) e
+sum-changed_there measure f xs i x e = ap (λ ys. sum_by measure ys + measure x) (changed-found xs i f x e) ∙ sum-exchanged measure xs i x (f x) e
 
 -- a count of the zones of a member is that of the global zone and that of the others
 module _ (global_part zone_part : Settings → ℕ) (others : List Zone → ℕ) (f : Settings → Settings)
@@ -311,9 +295,6 @@ found_there (Some x) h = (x, refl)
 pub not_some : {X : Type 0} (o : Option X) → is_some o ≡ false → o ≡ None
 not_some None h = refl
 not_some (Some x) h = cc
-
-pub no_limit_in : (b : Parts) (t : Totals) → IsSound b → t ≡ totals_of b → broken t ≡ None
-no_limit_in b t sound e = ap broken e ∙ no_limit_of b sound.valid.limits
 
 module _ (b : Parts) (o : Owner) (at : Place) (there : IsSome (settings_of b o at)) (t : Totals) (counts : t ≡ totals_of b) (lvl : Level) (is_level : lvl ≡ level_of o) (before : Records) (had : before ≡ records_there b o at) where
   pub counted_there : HasRecords lvl t before

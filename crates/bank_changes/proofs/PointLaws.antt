@@ -1,6 +1,6 @@
 -- The raw changes of one sample: each keeps a bank sound where the sample is, and is taken back.
 use Rattle.std.proofs.Common.{◌≡◌, ◌<◌, ◌≤◌, ◌+◌, ◌-◌, ◌++◌, ◌^◌, ℕ, nat_lt, true, false, List, [], ◌∷◌, zero, suc, length, take, drop, Option, Some, None, Result, Ok, Err, OnErr, if◌then◌else◌, refl, sym, ◌∙◌, ap, arith}
-use Rattle.std.specs.Prelude.{slice_get, slice_set, slice_range, sum_by, IfSome}
+use Rattle.std.specs.Prelude.{slice_get, slice_set, slice_range, IfSome}
 use Rattle.std.specs.Option.{option_map}
 use Rattle.std.proofs.lemmas.Bool.Decides.{nat_tests}
 use Rattle.std.proofs.lemmas.List.{length-append, length-take, length-take-le, length-drop, take-append-drop, append_assoc, take_at, drop_at}
@@ -22,30 +22,13 @@ use Rattle.bank_validity.specs.declared.limits.Limit.TheVariants as limit
 use Rattle.bank_validity.specs.Limits.{totals_of, broken, broken_limit}
 use Rattle.bank_validity.proofs.LimitLaws.{AreWithin, within_totals, limits_of, no_limit_of}
 use Rattle.bank_changes.specs.Points.{points_of, trimmed, extended, sample_changed, sample_trimmed, sample_extended}
-use Rattle.bank_changes.proofs.Changes.{all_set, all_found}
+use Rattle.bank_changes.proofs.Changes.{all_set, all_found, sum-exchanged}
 
 -- what was to be changed and stayed
 pub stays : {A B : Type 0} (b : Parts) (i : ℕ) (r : Result A B) (s new : Sample) → slice_get b.samples i ≡ Some s → OnErr r (new ≡ s)
     → OnErr r ((let t : Parts = record b { samples = slice_set b.samples i new } in t) ≡ b)
 stays b i (Ok x) s new e h = h
 stays b i (Err x) s new e h = ap (λ (ss : List Sample). record b { samples = ss }) (rw h (slice_set_same b.samples i s e))
-
--- ---- one member for another in a sum
-
-pub sum-exchanged : {X : Type 0} (measure : X → ℕ) (xs : List X) (i : ℕ) (x y : X) → slice_get xs i ≡ Some x
-    → sum_by measure (slice_set xs i y) + measure x ≡ sum_by measure xs + measure y
-sum-exchanged measure [] i x y e = cc
-sum-exchanged measure (z ∷ zs) zero x y e =
-    let here : z ≡ x = cc in
-    let old = sum_by-cons measure z zs in
-    let new = sum_by-cons measure y zs in
-    let same : measure z ≡ measure x = ap measure here in
-    omega (arith, old, new, same)
-sum-exchanged measure (z ∷ zs) (suc i) x y e =
-    let rest = sum-exchanged measure zs i x y e in
-    let old = sum_by-cons measure z zs in
-    let new = sum_by-cons measure z (slice_set zs i y) in
-    omega (arith, rest, old, new)
 
 -- a sample that is there has no more points than all have
 pub among : (samples : List Sample) (i : ℕ) (s : Sample) → slice_get samples i ≡ Some s → length s.points ≤ point_total samples
@@ -156,15 +139,11 @@ all_between points from to h =
 
 loop_trimmed : (n m front back : ℕ) (l : Option (ℕ × ℕ)) → m + (front + back) ≡ n → OutsideLoop n front back l → IsLoop n l → IsLoop m (option_map (λ (ends : ℕ × ℕ). (ends.0 - front, ends.1 - front)) l)
 loop_trimmed n m front back None size out is = tt
-loop_trimmed n m front back (Some ends) size out is =
-    let low = out.0 in
-    let high = out.1 in
-    let order = is.0 in
-    (omega (arith, low, order), omega (arith, size, high, low, order))
+loop_trimmed n m front back (Some ends) size out is = (omega arith, omega arith)
 
 loop_trimmed_fits : (front : ℕ) (l : Option (ℕ × ℕ)) → FitsLoop l → FitsLoop (option_map (λ (ends : ℕ × ℕ). (ends.0 - front, ends.1 - front)) l)
 loop_trimmed_fits front None h = tt
-loop_trimmed_fits front (Some ends) h = let low = h.0 in let high = h.1 in (omega (arith, low), omega (arith, high))
+loop_trimmed_fits front (Some ends) h = (omega arith, omega arith)
 
 module _ (b : Parts) (i front back : ℕ) (s : Sample) (e : slice_get b.samples i ≡ Some s) (le : front + back ≤ length s.points) where
   pub totals-trimmed : totals_of (sample_trimmed b i front back) ≡ (let t : Totals = record (totals_of b) { points = point_total b.samples - (front + back) } in t)
@@ -177,8 +156,7 @@ module _ (b : Parts) (i front back : ℕ) (s : Sample) (e : slice_get b.samples 
   unfolding totals_of
   within_trimmed sound =
       let w = within_totals (totals_of b) (no_limit_of b sound.valid.limits) in
-      let few = w.points in
-      ap broken totals-trimmed ∙ (broken_points (totals_of b) w (point_total b.samples - (front + back)) ∙ rw (not_over POINTS (point_total b.samples - (front + back)) (omega (arith, few))) refl)
+      ap broken totals-trimmed ∙ (broken_points (totals_of b) w (point_total b.samples - (front + back)) ∙ rw (not_over POINTS (point_total b.samples - (front + back)) (omega arith)) refl)
 
   pub trimmed_sound : IsSound b → OutsideLoop (length s.points) front back s.looped → IsSound (sample_trimmed b i front back)
   trimmed_sound sound out =
@@ -321,10 +299,8 @@ loop_returned : (n front back : ℕ) (l : Option (ℕ × ℕ)) → OutsideLoop n
     → option_map (λ (ends : ℕ × ℕ). (ends.0 + front, ends.1 + front)) (option_map (λ (ends : ℕ × ℕ). (ends.0 - front, ends.1 - front)) l) ≡ l
 loop_returned n front back None out is = refl
 loop_returned n front back (Some ends) out is =
-    let low = out.0 in
-    let order = is.0 in
-    let first : ends.0 - front + front ≡ ends.0 = omega (arith, low) in
-    let last : ends.1 - front + front ≡ ends.1 = omega (arith, low, order) in
+    let first : ends.0 - front + front ≡ ends.0 = omega arith in
+    let last : ends.1 - front + front ≡ ends.1 = omega arith in
     λ k. Some (first k, last k)
 
 loop_back : (by : ℕ) (l : Option (ℕ × ℕ)) → option_map (λ (ends : ℕ × ℕ). (ends.0 - by, ends.1 - by)) (option_map (λ (ends : ℕ × ℕ). (ends.0 + by, ends.1 + by)) l) ≡ l

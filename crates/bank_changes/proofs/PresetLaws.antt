@@ -2,17 +2,16 @@
 use Rattle.std.proofs.Common.{◌≡◌, ◌<◌, ◌≤◌, ◌^◌, ℕ, List, length, insert, remove, slice_get, slice_set, Some, None, refl, sym, ◌∙◌, ap}
 use Rattle.std.specs.List.{AllByRecursion}
 use Rattle.std.specs.Option.{option_map}
-use Rattle.std.proofs.lemmas.List.Edits.{length-insert, length-remove}
 use Rattle.sf_base.specs.Names.{IsName}
 use Rattle.numbered_lists.specs.Moved.{changed}
-use Rattle.numbered_lists.proofs.Lists.{slice_get-found, slice_get-within, length-changed, changed-found, changed-back, slice_get-changed, length-moved, moved-back, insert-remove, remove-insert}
+use Rattle.numbered_lists.proofs.Lists.{slice_get-found, length-changed, changed-found, changed-back, slice_get-changed, length-moved, moved-back, insert-remove, remove-insert}
 use Rattle.generators.specs.declared.level.Level.TheVariants as level
 use Rattle.bank_parts.specs.declared.parts.Head.{Head}
 use Rattle.bank_parts.specs.declared.parts.WithZones.{WithZones}
 use Rattle.bank_parts.specs.declared.parts.Parts.{Parts}
 use Rattle.bank_parts.specs.Counts.{records_of_owner}
 use Rattle.bank_parts.specs.Owners.{head_at, with_head}
-use Rattle.bank_parts.specs.Valid.{IsPreset, zone_count, gen_count, mod_count}
+use Rattle.bank_parts.specs.Valid.{IsPreset}
 use Rattle.bank_parts.specs.Fits.{FitsHead, FitsOwner}
 use Rattle.bank_parts.specs.Sound.{IsSound}
 use Rattle.bank_validity.specs.Limits.{totals_of, broken, broken_limit, with_owner}
@@ -20,10 +19,10 @@ use Rattle.bank_validity.proofs.LimitLaws.{limits_of, no_limit_of}
 use Rattle.bank_parts.proofs.SettingLaws.{source}
 use Rattle.bank_changes.specs.Members.{head_of}
 use Rattle.bank_changes.specs.Presets.{preset_added, preset_removed, preset_moved, head_called, head_set}
-use Rattle.bank_changes.proofs.Changes.{all_changed, sum-changed}
+use Rattle.bank_changes.proofs.Changes.{all_changed}
 use Rattle.bank_changes.proofs.Everywhere.{all_insert, all_remove}
-use Rattle.bank_changes.proofs.Moves.{all_moved, sum-moved}
-use Rattle.bank_changes.proofs.TotalsLaws.{level_inserted, level_removed, level_moved, level_headed, without_owner_within}
+use Rattle.bank_changes.proofs.Moves.{all_moved}
+use Rattle.bank_changes.proofs.TotalsLaws.{level_inserted, level_removed, level_moved, level_headed, owners_grow}
 
 -- the bank with other presets
 abbrev with_presets : Parts → List (WithZones Head) → Parts
@@ -67,7 +66,7 @@ pub sound_removed_preset : (b : Parts) (i : ℕ) → IsSound b → i < length b.
 sound_removed_preset b i sound lt =
     let (p, e) = slice_get-found b.presets i lt in
     presets_sound b sound (remove b.presets i) (all_remove (IsPreset (length b.instruments)) b.presets i sound.valid.presets) (all_remove (FitsOwner FitsHead) b.presets i sound.fits.presets)
-    (without_owner_within level.Preset (totals_of (preset_removed b i)) (records_of_owner p) (ap broken (totals-removed_preset b i p e) ∙ no_limit_of b sound.valid.limits))
+    ((owners_grow level.Preset).within (totals_of (preset_removed b i)) (records_of_owner p) (ap broken (totals-removed_preset b i p e) ∙ no_limit_of b sound.valid.limits))
 
 -- ---- moving
 

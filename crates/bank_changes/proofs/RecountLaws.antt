@@ -10,7 +10,8 @@ use Rattle.bank_validity.specs.Limits.{totals_at, level_changed, plus_records, b
 use Rattle.bank_validity.proofs.LevelLaws.{changed_by, changed_at, changed_twice, same_beside}
 use Rattle.bank_validity.proofs.LimitLaws.{LevelWithin, most_at, within_totals, none_broken, within_at, put_within}
 use Rattle.bank_changes.specs.Totals.{with_records, with_records_counted}
-use Rattle.bank_changes.proofs.RecordLaws.{with_records_same, without_records_within, records_broken, records_within}
+use Rattle.bank_changes.proofs.TotalsLaws.{records_grow}
+use Rattle.bank_changes.proofs.RecordLaws.{records_broken, records_within}
 
 plus_swapped : (a m n : ℕ) → a + m + n ≡ a + n + m
 plus_swapped a m n = omega arith
@@ -29,14 +30,14 @@ swapped at t r s =
 module _ (at : Level) (totals fewer now : Totals) (before after : Records) (taken : with_records at fewer before ≡ totals) (became : with_records at now before ≡ with_records at totals after) where
   pub recounted_is : now ≡ with_records at fewer after
   recounted_is =
-      with_records_same at now (with_records at fewer after) before
+      (records_grow at).same now (with_records at fewer after) before
       (became ∙ (ap (λ (t : Totals). with_records at t after) (sym taken) ∙ swapped at fewer before after))
 
   pub recounted_value : broken now ≡ None → with_records_counted at fewer after ≡ now
   recounted_value e = records_within at fewer after (sym (ap broken recounted_is) ∙ e) ∙ sym recounted_is
 
   pub recounted_limit : broken totals ≡ None → after ≡ all_counted after → broken (with_records_counted at fewer after) ≡ broken now
-  recounted_limit e count = records_broken at fewer after after (without_records_within at fewer before (ap broken taken ∙ e)) count ∙ sym (ap broken recounted_is)
+  recounted_limit e count = records_broken at fewer after after ((records_grow at).within fewer before (ap broken taken ∙ e)) count ∙ sym (ap broken recounted_is)
 
 -- ---- no more records than before
 

@@ -10,7 +10,7 @@ use Rattle.sf_base.specs.Names.{IsName}
 use Rattle.numbered_lists.specs.declared.renumbering.Renumbering.{Renumbering}
 use Rattle.numbered_lists.specs.declared.renumbering.Renumbering.TheVariants.{Insertion, Removal, Move}
 use Rattle.numbered_lists.specs.Renumbered.{renumbered}
-use Rattle.numbered_lists.specs.Moved.{changed, moved}
+use Rattle.numbered_lists.specs.Moved.{moved}
 use Rattle.numbered_lists.proofs.Lists.{slice_get-found, slice_get-within, length-changed, length-moved, insert-remove, remove-insert}
 use Rattle.numbered_lists.proofs.Numbers.{insertion_returned, removal_returned_by_test, insertion_below, removal_below_by_test, insertion_keeps, insertion_misses_by_test, removal_no_more, move_below, move_returned}
 use Rattle.bank_parts.specs.declared.parts.Sample.{Sample}
@@ -34,32 +34,21 @@ use Rattle.bank_changes.proofs.TotalsLaws.{without_sample_within, with_sample_sa
 
 -- ---- renaming
 
-point_total-renamed : (samples : List Sample) (number : ℕ) (name : List ℕ) → point_total (changed samples number (named name)) ≡ point_total samples
-point_total-renamed samples number name = sum-changed (λ (s : Sample). length s.points + ZERO_POINTS) (named name) (λ s. refl) samples number
+pub totals-renamed : (b : Parts) (i : ℕ) (name : List ℕ) → totals_of (sample_renamed b i name) ≡ totals_of b
+unfolding totals_of
+totals-renamed b i name =
+    let points = sum-changed (λ (s : Sample). length s.points + ZERO_POINTS) (named name) (λ s. refl) b.samples i in
+    λ k. record (totals_of b) { samples = length-changed b.samples i (named name) k; points = points k }
 
 renamed_valid : (b : Parts) (number : ℕ) (name : List ℕ) → IsValid b → IsName name → IsValid (sample_renamed b number name)
 renamed_valid b number name v h =
     let n = length-changed b.samples number (named name) in
-    let few = v.limits.samples in
-    let points = point_total-renamed b.samples number name in
-    let within = v.limits.points in
     record {
       texts = v.texts;
       presets = v.presets;
       instruments = rw n v.instruments;
       samples = rw n (all_changed (named name) (IsSample (length b.samples)) (λ s is. record { name = h; looped = is.looped; kind = is.kind }) b.samples number v.samples);
-      limits = record {
-        presets = v.limits.presets;
-        instruments = v.limits.instruments;
-        samples = omega (arith, n, few);
-        preset_zones = v.limits.preset_zones;
-        preset_gens = v.limits.preset_gens;
-        preset_mods = v.limits.preset_mods;
-        instrument_zones = v.limits.instrument_zones;
-        instrument_gens = v.limits.instrument_gens;
-        instrument_mods = v.limits.instrument_mods;
-        points = omega (arith, points, within);
-      };
+      limits = limits_of (sample_renamed b number name) (ap broken (totals-renamed b number name) ∙ no_limit_of b v.limits);
     }
 
 renamed_fits : (b : Parts) (number : ℕ) (name : List ℕ) → Fits b → IsName name → Fits (sample_renamed b number name)
@@ -74,10 +63,6 @@ renamed_fits b number name f h = record {
 
 pub renamed_sound : (b : Parts) (number : ℕ) (name : List ℕ) → IsSound b → IsName name → IsSound (sample_renamed b number name)
 renamed_sound b number name s h = record { valid = renamed_valid b number name s.valid h; fits = renamed_fits b number name s.fits h }
-
-pub totals-renamed : (b : Parts) (i : ℕ) (name : List ℕ) → totals_of (sample_renamed b i name) ≡ totals_of b
-unfolding totals_of
-totals-renamed b i name = λ k. record (totals_of b) { samples = length-changed b.samples i (named name) k; points = point_total-renamed b.samples i name k }
 
 -- ---- adding
 
@@ -117,8 +102,7 @@ added_valid b i s v le h e =
 added_fits : (b : Parts) (i : ℕ) (s : Sample) → IsValid b → Fits b → FitsSample s → Fits (sample_added b i s)
 added_fits b i s v f g =
     let n : ℕ = length b.samples in
-    let few = v.limits.samples in
-    let r = fits_refs (Insertion i) n (λ x lt. let h = insertion_below i x n lt in omega (arith, h, few)) b f (refs_within b v) in
+    let r = fits_refs (Insertion i) n (λ x lt. let h = insertion_below i x n lt in omega arith) b f (refs_within b v) in
     record { minor = r.minor; texts = r.texts; presets = r.presets; instruments = r.instruments; samples = all_insert FitsSample (map (sample_renumbered (Insertion i)) b.samples) i s g r.samples }
 
 pub added_sound : (b : Parts) (i : ℕ) (s : Sample) → IsSound b → i ≤ length b.samples → IsSample (length b.samples + 1) s → FitsSample s → broken_limit (sample_added b i s) ≡ None → IsSound (sample_added b i s)
@@ -152,8 +136,7 @@ links_fit by n to ss within =
 
 pub links_fit-removed : (b : Parts) (i : ℕ) → IsValid b → All (λ (s : Sample). OfLink (λ x. renumbered (Removal i) x < 2 ^ 16) s.kind) (remove b.samples i)
 links_fit-removed b i v =
-    let few = v.limits.samples in
-    links_fit (Removal i) (length b.samples) (λ x lt. let h = removal_no_more i x in omega (arith, h, lt, few)) (remove b.samples i)
+    links_fit (Removal i) (length b.samples) (λ x lt. let h = removal_no_more i x in omega arith) (remove b.samples i)
     (all_remove (λ (s : Sample). OfLink (λ x. x < length b.samples) s.kind) b.samples i (refs_within b v).links)
 
 pub totals-removed : (b : Parts) (i : ℕ) (s : Sample) → slice_get b.samples i ≡ Some s → with_sample (totals_of (sample_removed b i)) (length s.points) ≡ totals_of b
@@ -199,10 +182,9 @@ removed_valid b i v lt free =
 removed_fits : (b : Parts) (i : ℕ) → IsValid b → Fits b → Fits (sample_removed b i)
 removed_fits b i v f =
     let n : ℕ = length b.samples in
-    let few = v.limits.samples in
     let left : Parts = record b { samples = remove b.samples i } in
     let within = refs_within b v in
-    fits_refs (Removal i) n (λ x lt. let h = removal_no_more i x in omega (arith, h, lt, few)) left
+    fits_refs (Removal i) n (λ x lt. let h = removal_no_more i x in omega arith) left
     (record { minor = f.minor; texts = f.texts; presets = f.presets; instruments = f.instruments; samples = all_remove FitsSample b.samples i f.samples })
     (record { links = all_remove (λ (t : Sample). OfLink (λ x. x < n) t.kind) b.samples i within.links; targets = within.targets })
 
@@ -280,16 +262,14 @@ module _ (b : Parts) (i j : ℕ) (lt : i < length b.samples) (lu : j < length b.
   moved_fits : IsValid b → Fits b → Fits (sample_moved b i j)
   moved_fits v f =
       let n : ℕ = length b.samples in
-      let few = v.limits.samples in
       let within = refs_within b v in
-      fits_refs (Move i j) n (λ x h. let below = move_below i j x n lt lu h in omega (arith, below, few)) (record b { samples = moved b.samples i j })
+      fits_refs (Move i j) n (λ x h. let below = move_below i j x n lt lu h in omega arith) (record b { samples = moved b.samples i j })
       (record { minor = f.minor; texts = f.texts; presets = f.presets; instruments = f.instruments; samples = all_moved FitsSample b.samples i j lt f.samples })
       (record { links = all_moved (λ (s : Sample). OfLink (λ x. x < n) s.kind) b.samples i j lt within.links; targets = within.targets })
 
   pub links_fit-moved : IsValid b → All (λ (s : Sample). OfLink (λ x. renumbered (Move i j) x < 2 ^ 16) s.kind) (moved b.samples i j)
   links_fit-moved v =
-      let few = v.limits.samples in
-      links_fit (Move i j) (length b.samples) (λ x h. let below = move_below i j x (length b.samples) lt lu h in omega (arith, below, few)) (moved b.samples i j)
+      links_fit (Move i j) (length b.samples) (λ x h. let below = move_below i j x (length b.samples) lt lu h in omega arith) (moved b.samples i j)
       (all_moved (λ (s : Sample). OfLink (λ x. x < length b.samples) s.kind) b.samples i j lt (refs_within b v).links)
 
   pub moved_sound : IsSound b → IsSound (sample_moved b i j)

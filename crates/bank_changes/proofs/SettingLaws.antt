@@ -12,7 +12,6 @@ use Rattle.std.proofs.lemmas.List.Edits.{length-remove}
 use Rattle.numbered_lists.proofs.Lists.{length-slice_set}
 use Rattle.generators.specs.Gens.{FitsEntry}
 use Rattle.generators.specs.declared.level.Level.{Level}
-use Rattle.generators.specs.declared.level.Level.TheVariants as level
 use Rattle.generators.proofs.EntryLaws as entries
 use Rattle.generators.proofs.MapLaws as gens
 use Rattle.modulators.specs.declared.modulator.Modulator.{Modulator}
@@ -187,11 +186,7 @@ module _ (b : Parts) (o : Owner) (at : Place) (j : ℕ) (s : Settings) (there : 
 few_records : (lvl : Level) (t : Totals) (r : Records) → HasRecords lvl t r → broken t ≡ None → (r.gens ≤ GENERATORS) × (r.mods ≤ MODULATORS)
 few_records lvl t r h e =
     let l = within_at lvl t (within_totals t e) in
-    let gens = l.gens in
-    let mods = l.mods in
-    let g = h.gens in
-    let m = h.mods in
-    (omega (arith, gens, g), omega (arith, mods, m))
+    (omega arith, omega arith)
 
 one_more : (n most : ℕ) → n ≤ most → most < 2 ^ 64 - 1 → counted (n + 1) ≡ n + 1
 one_more n most h small = counted_same (n + 1) (omega (arith, h, small))

@@ -32,9 +32,9 @@ use Rattle.bank_changes.specs.declared.members.Owner.TheVariants as owner
 use Rattle.bank_changes.specs.Members.{own_zone_count, zones_of, zone_of, level_of, target_count}
 use Rattle.bank_changes.specs.Totals.{with_records}
 use Rattle.bank_changes.specs.Zones.{zone_split, zone_joined, can_split, can_join}
-use Rattle.bank_changes.proofs.Changes.{all_found, sum-removed}
-use Rattle.bank_changes.proofs.RecordLaws.{without_records_within}
-use Rattle.bank_changes.proofs.ZoneLaws.{zones_put, sum_set, sound_zones_put, zones_valid, zones_fit, records_of_zones, totals_zones_more, totals_zones_less}
+use Rattle.bank_changes.proofs.Changes.{all_found, sum-removed, sum-exchanged}
+use Rattle.bank_changes.proofs.TotalsLaws.{records_grow}
+use Rattle.bank_changes.proofs.ZoneLaws.{zones_put, sound_zones_put, zones_valid, zones_fit, records_of_zones, totals_zones_more, totals_zones_less}
 
 -- ---- what is there
 
@@ -136,13 +136,13 @@ module _ (measure : Zone → ℕ) (zones : List Zone) (k : ℕ) (z : Zone) (at :
   sum_parted lower upper =
       let is = ap (sum_by measure) (parted_at zones k lower upper (slice_get-within zones k z at)) in
       let sum = sum_by-insert measure (slice_set zones k lower) (k + 1) upper in
-      let set = sum_set measure zones k z lower at in
+      let set = sum-exchanged measure zones k z lower at in
       omega (arith, is, sum, set)
 
   sum_merged : (second one : Zone) → slice_get zones (k + 1) ≡ Some second → sum_by measure (merged zones k one) + measure z + measure second ≡ sum_by measure zones + measure one
   sum_merged second one next =
       let left : slice_get (remove zones (k + 1)) k ≡ Some z = rw add-one (left_first zones k z second at next) in
-      let set = sum_set measure (remove zones (k + 1)) k z one left in
+      let set = sum-exchanged measure (remove zones (k + 1)) k z one left in
       let less = sum-removed measure zones (k + 1) second next in
       omega (arith, set, less)
 
@@ -267,7 +267,7 @@ module _ (b : Parts) (o : Owner) (k : ℕ) (axis : Axis) (keep : Keep) (can : ca
       let f = all_at FitsZone s.zones k s.first s.at fit in
       let one = joined axis keep s.first s.second in
       let r = joined_range axis s.global s.first s.second keep s.joinable (own_holds (level_of o) axis s.first v.gens) (own_holds (level_of o) axis s.second w.gens) in
-      let within = without_records_within (level_of o) (totals_of (zone_joined b o k axis keep)) (join_records keep s.second) (ap broken totals-zone_joined ∙ no_limit_of b sound.valid.limits) in
+      let within = (records_grow (level_of o)).within (totals_of (zone_joined b o k axis keep)) (join_records keep s.second) (ap broken totals-zone_joined ∙ no_limit_of b sound.valid.limits) in
       rw s.put
       (sound_zones_put b o (merged s.zones k one) sound
       (all_merged (IsZone (level_of o) (target_count b o)) s.zones k one (valid_joined axis s.global s.first s.second (level_of o) (target_count b o) keep v r) valid)

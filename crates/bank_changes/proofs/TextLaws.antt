@@ -1,5 +1,5 @@
 -- A text set.
-use Rattle.std.proofs.Common.{◌≡◌, ◌<◌, ℕ, true, List, length, refl}
+use Rattle.std.proofs.Common.{◌≡◌, ◌<◌, ℕ, true, List, length, refl, ◌∙◌, ap}
 use Rattle.sf_base.specs.Names.{IsText, IsTextByte}
 use Rattle.bank_parts.specs.declared.texts.Texts.{Texts}
 use Rattle.bank_parts.specs.declared.texts.InfoId.{InfoId}
@@ -10,7 +10,8 @@ use Rattle.bank_changes.specs.Texts.{text_set, info_set}
 use Rattle.bank_parts.specs.Valid.{AreTexts, IsValid}
 use Rattle.bank_parts.specs.Fits.{FitsText, FitTexts}
 use Rattle.bank_parts.specs.Sound.{IsSound}
-use Rattle.bank_validity.specs.Limits.{totals_of}
+use Rattle.bank_validity.specs.Limits.{totals_of, broken}
+use Rattle.bank_validity.proofs.LimitLaws.{limits_of, no_limit_of}
 use Rattle.bank_changes.proofs.Everywhere.{all_weaker}
 
 -- what a text of an id is
@@ -56,24 +57,17 @@ texts_fit texts v = record {
   software = text_fits texts.software v.software;
 }
 
+pub totals-info : (b : Parts) (id : InfoId) (text : List ℕ) → totals_of (info_set b id text) ≡ totals_of b
+unfolding totals_of
+totals-info b id text = refl
+
 info_valid : (b : Parts) (id : InfoId) (text : List ℕ) → IsValid b → IsInfo id text → IsValid (info_set b id text)
 info_valid b id text v h = record {
   texts = texts_set b.texts id text h v.texts;
   presets = v.presets;
   instruments = v.instruments;
   samples = v.samples;
-  limits = record {
-    presets = v.limits.presets;
-    instruments = v.limits.instruments;
-    samples = v.limits.samples;
-    preset_zones = v.limits.preset_zones;
-    preset_gens = v.limits.preset_gens;
-    preset_mods = v.limits.preset_mods;
-    instrument_zones = v.limits.instrument_zones;
-    instrument_gens = v.limits.instrument_gens;
-    instrument_mods = v.limits.instrument_mods;
-    points = v.limits.points;
-  };
+  limits = limits_of (info_set b id text) (ap broken (totals-info b id text) ∙ no_limit_of b v.limits);
 }
 
 pub info_sound : (b : Parts) (id : InfoId) (text : List ℕ) → IsSound b → IsInfo id text → IsSound (info_set b id text)
@@ -85,28 +79,12 @@ info_sound b id text s h =
       fits = record { minor = f.minor; texts = texts_fit (text_set b.texts id text) v.texts; presets = f.presets; instruments = f.instruments; samples = f.samples };
     }
 
-pub totals-info : (b : Parts) (id : InfoId) (text : List ℕ) → totals_of (info_set b id text) ≡ totals_of b
-unfolding totals_of
-totals-info b id text = refl
-
--- ---- there and back
+-- ---- there and back (each id is looked at alone)
 
 pub text_of-set : (texts : Texts) (id : InfoId) (text : List ℕ) → text_of (text_set texts id text) id ≡ text
 text_of-set texts Engine text = refl
-text_of-set texts Name text = refl
-text_of-set texts Date text = refl
-text_of-set texts Engineers text = refl
-text_of-set texts Product text = refl
-text_of-set texts Copyright text = refl
-text_of-set texts Comment text = refl
-text_of-set texts Software text = refl
+text_of-set texts id text = refl
 
 pub text_set-back : (texts : Texts) (id : InfoId) (text : List ℕ) → text_set (text_set texts id text) id (text_of texts id) ≡ texts
 text_set-back texts Engine text = refl
-text_set-back texts Name text = refl
-text_set-back texts Date text = refl
-text_set-back texts Engineers text = refl
-text_set-back texts Product text = refl
-text_set-back texts Copyright text = refl
-text_set-back texts Comment text = refl
-text_set-back texts Software text = refl
+text_set-back texts id text = refl

@@ -1,5 +1,5 @@
 -- Totals of a bank, and their sums.
-use Rattle.std.proofs.Common.{◌≡◌, ◌<◌, ◌≤◌, ◌+◌, ◌-◌, ℕ, List, length, map, insert, remove, slice_get, Some, None, refl, sym, ◌∙◌, ap, subst, arith}
+use Rattle.std.proofs.Common.{◌≡◌, ◌<◌, ◌≤◌, ◌+◌, ◌-◌, ℕ, List, length, map, insert, remove, slice_get, Some, None, refl, ap, arith}
 use Rattle.std.specs.FinMap.{len}
 use Rattle.std.proofs.lemmas.List.{length-map}
 use Rattle.std.proofs.lemmas.List.Sums.{sum_by-insert}
@@ -18,7 +18,8 @@ use Rattle.bank_parts.specs.Renumbered.{sample_renumbered, zone_renumbered, owne
 use Rattle.bank_parts.specs.Valid.{owner_total, zone_count, gen_count, mod_count, point_total}
 use Rattle.bank_parts.specs.Counts.{all_counted, records_sum, records_of_owner}
 use Rattle.bank_parts.specs.Owners.{with_head}
-use Rattle.bank_validity.specs.Limits.{totals_of, level_totals, totals_at, plus_owner, broken, broken_limit, with_sample, with_owner, AreCounted, HasOwner}
+use Rattle.bank_validity.specs.Limits.{totals_of, level_totals, totals_at, level_changed, plus_owner, broken, with_sample, with_owner, AreCounted, HasOwner}
+use Rattle.bank_changes.specs.Totals.{with_records, HasRecords}
 use Rattle.bank_parts.proofs.Counts.{counted_same}
 use Rattle.bank_validity.proofs.LevelLaws.{changed_at, same_before}
 use Rattle.bank_validity.proofs.LimitLaws.{within_totals, none_broken, level_within, unchanged_within}
@@ -35,9 +36,7 @@ module _ (t : Totals) (n : ℕ) where
   pub without_sample_within : broken (with_sample t n) ≡ None → broken t ≡ None
   without_sample_within e =
       let w = within_totals (with_sample t n) e in
-      let few = w.samples in
-      let some = w.points in
-      none_broken t (record { presets = w.presets; instruments = w.instruments; samples = omega (arith, few); points = omega (arith, some) })
+      none_broken t (record { presets = w.presets; instruments = w.instruments; samples = omega arith; points = omega arith })
 
 plus_same : (a b n : ℕ) → a + n ≡ b + n → a ≡ b
 plus_same a b n e = omega (arith, e)
@@ -118,80 +117,68 @@ module _ {H : Type 0} (owners : List (WithZones H)) (i : ℕ) where
     };
   }
 
-pub without_owner_within : (at : Level) (t : Totals) (r : Records) → broken (with_owner at t r) ≡ None → broken t ≡ None
-without_owner_within at t r e =
-    let w = within_totals (with_owner at t r) e in
-    let l = level_within at (plus_owner r) t w in
-    let count = l.count in
-    let zones = l.zones in
-    let gens = l.gens in
-    let mods = l.mods in
-    none_broken t (unchanged_within at (plus_owner r) t w (record { count = omega (arith, count); zones = omega (arith, zones); gens = omega (arith, gens); mods = omega (arith, mods) }))
-
--- the totals without what was added
-
-minus_more : (a n : ℕ) → a + n - n ≡ a
-minus_more a n = omega arith
-
-pub records_minus : Records → Records → Records
-records_minus a r = record { zones = a.zones - r.zones; gens = a.gens - r.gens; mods = a.mods - r.mods }
-
-pub minus_sum : (a r : Records) → records_minus (records_sum a r) r ≡ a
-unfolding records_minus
-minus_sum a r = λ i. record { zones = minus_more a.zones r.zones i; gens = minus_more a.gens r.gens i; mods = minus_more a.mods r.mods i }
-
-minus_owner : Records → LevelTotals → LevelTotals
-minus_owner r l = record { count = l.count - 1; records = records_minus l.records r }
-
-pub with_owner_same : (at : Level) (t u : Totals) (r : Records) → with_owner at t r ≡ with_owner at u r → t ≡ u
-unfolding minus_owner
-with_owner_same at t u r e = same_before at (plus_owner r) (minus_owner r) (λ l i. record { count = minus_more l.count 1 i; records = minus_sum l.records r i }) t u e
+-- ---- more, in any way of counting the owners
 
 -- where no limit is broken, the count is the sum
-
-pub whole : (r : Records) → r.zones ≤ ZONES → r.gens ≤ GENERATORS → r.mods ≤ MODULATORS → all_counted r ≡ r
-whole r zones gens mods = λ i. record {
+few_counted : (r : Records) → r.zones ≤ ZONES → r.gens ≤ GENERATORS → r.mods ≤ MODULATORS → all_counted r ≡ r
+few_counted r zones gens mods = λ i. record {
   zones = counted_same r.zones (omega arith) i;
   gens = counted_same r.gens (omega arith) i;
   mods = counted_same r.mods (omega arith) i;
 }
 
-whole_records : (at : Level) (t : Totals) (r : Records) → broken (with_owner at t r) ≡ None → all_counted r ≡ r
-whole_records at t r e =
-    let l = level_within at (plus_owner r) t (within_totals (with_owner at t r) e) in
-    let zones = l.zones in
-    let gens = l.gens in
-    let mods = l.mods in
-    whole r (omega (arith, zones)) (omega (arith, gens)) (omega (arith, mods))
+minus_more : (a n : ℕ) → a + n - n ≡ a
+minus_more a n = omega arith
 
-pub in_sum : (a r : Records) (l : LevelTotals) → l.records ≡ records_sum a r → AreCounted r l
+records_minus : Records → Records → Records
+records_minus a r = record { zones = a.zones - r.zones; gens = a.gens - r.gens; mods = a.mods - r.mods }
+
+minus_sum : (a r : Records) → records_minus (records_sum a r) r ≡ a
+unfolding records_minus
+minus_sum a r = λ i. record { zones = minus_more a.zones r.zones i; gens = minus_more a.gens r.gens i; mods = minus_more a.mods r.mods i }
+
+in_sum : (a r : Records) (l : LevelTotals) → l.records ≡ records_sum a r → AreCounted r l
 in_sum a r l e =
     let zones = ap (λ (s : Records). s.zones) e in
     let gens = ap (λ (s : Records). s.gens) e in
     let mods = ap (λ (s : Records). s.mods) e in
     record { zones = omega arith; gens = omega arith; mods = omega arith }
 
-has_owner : (at : Level) (t : Totals) (r : Records) → HasOwner at (with_owner at t r) r
-has_owner at t r =
-    let now = changed_at at (plus_owner r) t in
-    let count = ap (λ (l : LevelTotals). l.count) now in
-    (omega arith, in_sum (totals_at at t).records r (totals_at at (with_owner at t r)) (ap (λ (l : LevelTotals). l.records) now))
+-- the totals with so many records more, and what they count then
+pub record Grow (plus : Totals → Records → Totals) (Has : Totals → Records → Type 0) : Type 0 where
+  pub within : (t : Totals) (r : Records) → broken (plus t r) ≡ None → broken t ≡ None
+  pub whole : (t : Totals) (r : Records) → broken (plus t r) ≡ None → all_counted r ≡ r
+  pub same : (t u : Totals) (r : Records) → plus t r ≡ plus u r → t ≡ u
+  pub has : (t : Totals) (r : Records) → Has (plus t r) r
 
--- ---- the totals that the code keeps
+-- the owners become as many as count says, which are no fewer, and back takes that back
+module _ (count back : ℕ → ℕ) (returns : (n : ℕ) → back (count n) ≡ n) (rises : (n : ℕ) → n ≤ count n) (at : Level) where
+  abbrev plus : Records → LevelTotals → LevelTotals
+  plus r l = record { count = count l.count; records = records_sum l.records r }
 
--- one bank has an owner more than the other, and t are the totals of the one that is edited
-module _ (at : Level) (less more : Parts) (r counted : Records) (one_more : totals_of more ≡ with_owner at (totals_of less) r) (within : broken_limit more ≡ None) (count : counted ≡ all_counted r) where
-  sums : counted ≡ r
-  sums = count ∙ whole_records at (totals_of less) r (sym (ap broken one_more) ∙ within)
+  grow : (Has : Totals → Records → Type 0) → ((t : Totals) (r : Records) → AreCounted r (totals_at at (level_changed at (plus r) t)) → Has (level_changed at (plus r) t) r) → Grow (λ t r. level_changed at (plus r) t) Has
+  grow Has has = record {
+    within = λ t r e.
+        let w = within_totals (level_changed at (plus r) t) e in
+        let l = level_within at (plus r) t w in
+        let more = rises (totals_at at t).count in
+        none_broken t (unchanged_within at (plus r) t w (record { count = omega arith; zones = omega arith; gens = omega arith; mods = omega arith }));
+    whole = λ t r e.
+        let l = level_within at (plus r) t (within_totals (level_changed at (plus r) t) e) in
+        few_counted r (omega arith) (omega arith) (omega arith);
+    same = λ t u r e.
+        same_before at (plus r) (λ l. record { count = back l.count; records = records_minus l.records r }) (λ l i. record { count = returns l.count i; records = minus_sum l.records r i }) t u e;
+    has = λ t r.
+        has t r (in_sum (totals_at at t).records r (totals_at at (level_changed at (plus r) t)) (ap (λ (l : LevelTotals). l.records) (changed_at at (plus r) t)));
+  }
 
-  pub totals_with : (t : Totals) → t ≡ totals_of less → with_owner at t counted ≡ totals_of more
-  totals_with t e = (λ i. with_owner at (e i) (sums i)) ∙ sym one_more
+-- an owner more
+one_there : (at : Level) (t : Totals) (r : Records) → 0 < (totals_at at (with_owner at t r)).count
+one_there at t r = let count = ap (λ (l : LevelTotals). l.count) (changed_at at (plus_owner r) t) in omega arith
 
-  pub room_with : (t : Totals) → t ≡ totals_of less → broken (with_owner at t counted) ≡ None
-  room_with t e = ap broken (totals_with t e) ∙ within
+pub owners_grow : (at : Level) → Grow (with_owner at) (HasOwner at)
+owners_grow at = grow (λ n. n + 1) (λ n. n - 1) (λ n. minus_more n 1) (λ n. omega arith) at (HasOwner at) (λ t r counted. (one_there at t r, counted))
 
-  pub has_one : (t : Totals) → t ≡ totals_of more → HasOwner at t counted
-  has_one t e = subst (λ (u : Totals). HasOwner at u counted) (sym (e ∙ sym (totals_with (totals_of less) refl))) (has_owner at (totals_of less) counted)
-
-  pub totals_without : (t u : Totals) → t ≡ totals_of more → with_owner at u counted ≡ t → u ≡ totals_of less
-  totals_without t u e again = with_owner_same at u (totals_of less) counted (again ∙ (e ∙ sym (totals_with (totals_of less) refl)))
+-- no owner more
+pub records_grow : (at : Level) → Grow (with_records at) (HasRecords at)
+records_grow at = grow (λ n. n) (λ n. n) (λ n. refl) (λ n. omega arith) at (HasRecords at) (λ t r counted. counted)

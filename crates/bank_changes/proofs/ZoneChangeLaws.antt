@@ -27,7 +27,7 @@ use Rattle.bank_changes.specs.Zones.{zone_added, zone_removed, zone_moved, targe
 use Rattle.bank_changes.proofs.Changes.{all_changed, sum-changed, sum-removed}
 use Rattle.bank_changes.proofs.Everywhere.{all_insert, all_remove}
 use Rattle.bank_changes.proofs.Moves.{all_moved, sum-moved}
-use Rattle.bank_changes.proofs.RecordLaws.{without_records_within}
+use Rattle.bank_changes.proofs.TotalsLaws.{records_grow}
 use Rattle.bank_changes.proofs.ZoneLaws.{zones_put, zones_put_is, sound_zones_put, zones_valid, zones_fit, records_of_zones, totals_zones_more, totals_zones_less, totals_zones_same}
 
 -- ---- what is there
@@ -131,7 +131,7 @@ sound_zone_removed b o k h sound =
     let (zone, e) = zone_found b o k h in
     let t = zone_there b o k zone e in
     let same = removed_put k b o t.member t.there in
-    let within = without_records_within (level_of o) (totals_of (zone_removed b o k)) (records_of_zone zone) (ap broken (totals-zone_removed b o k zone e) ∙ no_limit_of b sound.valid.limits) in
+    let within = (records_grow (level_of o)).within (totals_of (zone_removed b o k)) (records_of_zone zone) (ap broken (totals-zone_removed b o k zone e) ∙ no_limit_of b sound.valid.limits) in
     rw same
     (sound_zones_put b o (remove t.member k) sound (all_remove (IsZone (level_of o) (target_count b o)) t.member k (zones_valid b o t.member sound t.there))
     (all_remove FitsZone t.member k (zones_fit b o t.member sound t.there)) (rw same at within))

@@ -1,5 +1,5 @@
 -- The zones of an owner put in the place of those that it had: the bank stays sound, and the totals follow.
-use Rattle.std.proofs.Common.{◌≡◌, ◌+◌, ℕ, zero, suc, List, [], ◌∷◌, length, slice_get, Some, None, refl, sym, ap, subst, ◌∙◌, arith}
+use Rattle.std.proofs.Common.{◌≡◌, ◌+◌, ℕ, List, [], ◌∷◌, length, slice_get, Some, None, refl, sym, ap, subst, ◌∙◌, arith}
 use Rattle.std.specs.Prelude.{sum_by, slice_set}
 use Rattle.std.specs.List.{AllByRecursion}
 use Rattle.std.specs.FinMap.{len}
@@ -30,8 +30,8 @@ use Rattle.bank_changes.specs.Members.{zones_of, level_of, target_count}
 use Rattle.bank_changes.specs.Totals.{with_records}
 use Rattle.bank_changes.specs.Zones.{own_zones_changed}
 use Rattle.bank_changes.proofs.Everywhere.{all_weaker}
-use Rattle.bank_changes.proofs.Changes.{all_found, all_changed}
-use Rattle.bank_changes.proofs.RecordLaws.{with_records_same}
+use Rattle.bank_changes.proofs.Changes.{all_found, all_changed, sum-exchanged}
+use Rattle.bank_changes.proofs.TotalsLaws.{records_grow}
 
 -- ---- a list of members of which one has other zones
 
@@ -51,19 +51,6 @@ module _ {H : Type 0} (owners : List (WithZones H)) (i : ℕ) (zones : List Zone
       let h = source (λ (x : WithZones H). x.zones) (slice_get owners i) zones e in
       subst P h.seen (all_found (λ (x : WithZones H). P x.zones) owners i h.member h.there all)
 
-pub sum_set : {X : Type 0} (measure : X → ℕ) (xs : List X) (i : ℕ) (x y : X) → slice_get xs i ≡ Some x → sum_by measure (slice_set xs i y) + measure x ≡ sum_by measure xs + measure y
-sum_set measure [] i x y e = absurd cc
-sum_set measure (z ∷ zs) zero x y e =
-    let old = sum_by-cons measure z zs in
-    let new = sum_by-cons measure y zs in
-    let same : measure z ≡ measure x = ap measure cc in
-    omega (arith, old, new, same)
-sum_set measure (z ∷ zs) (suc i) x y e =
-    let rest = sum_set measure zs i x y e in
-    let old = sum_by-cons measure z zs in
-    let new = sum_by-cons measure z (slice_set zs i y) in
-    omega (arith, rest, old, new)
-
 -- a count of the global zone and of the others: it changes by that of the others
 total_put : {H : Type 0} (shared : GlobalZone → ℕ) (own : List Zone → ℕ) (owners : List (WithZones H)) (i : ℕ) (zones put : List Zone) → zones_at owners i ≡ Some zones
     → owner_total (λ g zs. shared g + own zs) (zones_changed owners i (λ _. put)) + own zones ≡ owner_total (λ g zs. shared g + own zs) owners + own put
@@ -73,7 +60,7 @@ total_put {H} shared own owners i zones put e =
     let y : WithZones H = with_zones put x in
     let count : WithZones H → ℕ = λ (x : WithZones H). shared x.global + own x.zones in
     let is : sum_by count (zones_changed owners i (λ _. put)) ≡ sum_by count (slice_set owners i y) = ap (sum_by count) (changed-found owners i (with_zones put) x h.there) in
-    let sum : sum_by count (slice_set owners i y) + (shared x.global + own x.zones) ≡ sum_by count owners + (shared x.global + own put) = sum_set count owners i x y h.there in
+    let sum : sum_by count (slice_set owners i y) + (shared x.global + own x.zones) ≡ sum_by count owners + (shared x.global + own put) = sum-exchanged count owners i x y h.there in
     let same : own x.zones ≡ own zones = ap own h.seen in
     omega (arith, is, sum, same)
 
@@ -146,10 +133,6 @@ zones_fit b (owner.Preset p) zones sound e =
 zones_fit b (owner.Instrument i) zones sound e =
     found_zones b.instruments i zones e (AllByRecursion FitsZone) (all_weaker (FitsOwner IsName) (λ (x : WithZones (List ℕ)). AllByRecursion FitsZone x.zones) (λ x v. v.zones) b.instruments sound.fits.instruments)
 
-pub zones_of_sound : (b : Parts) (o : Owner) (zones : List Zone) → IsSound b → zones_of b o ≡ Some zones
-    → AllByRecursion (IsZone (level_of o) (target_count b o)) zones × AllByRecursion FitsZone zones
-zones_of_sound b o zones sound e = (zones_valid b o zones sound e, zones_fit b o zones sound e)
-
 -- ---- totals
 
 -- the records of zones alone
@@ -201,16 +184,16 @@ with_records_sum at t r s =
 module _ (b : Parts) (o : Owner) (zones put : List Zone) (e : zones_of b o ≡ Some zones) where
   pub totals_zones_more : (r : Records) → records_of_zones put ≡ records_sum (records_of_zones zones) r → totals_of (zones_put b o put) ≡ with_records (level_of o) (totals_of b) r
   totals_zones_more r more =
-      with_records_same (level_of o) (totals_of (zones_put b o put)) (with_records (level_of o) (totals_of b) r) (records_of_zones zones)
+      (records_grow (level_of o)).same (totals_of (zones_put b o put)) (with_records (level_of o) (totals_of b) r) (records_of_zones zones)
       (totals_zones_put b o zones put e ∙ (ap (with_records (level_of o) (totals_of b)) more ∙ with_records_sum (level_of o) (totals_of b) (records_of_zones zones) r))
 
   pub totals_zones_less : (r : Records) → records_of_zones zones ≡ records_sum (records_of_zones put) r → with_records (level_of o) (totals_of (zones_put b o put)) r ≡ totals_of b
   totals_zones_less r less =
-      with_records_same (level_of o) (with_records (level_of o) (totals_of (zones_put b o put)) r) (totals_of b) (records_of_zones put)
+      (records_grow (level_of o)).same (with_records (level_of o) (totals_of (zones_put b o put)) r) (totals_of b) (records_of_zones put)
       (sym (with_records_sum (level_of o) (totals_of (zones_put b o put)) (records_of_zones put) r)
       ∙ (ap (with_records (level_of o) (totals_of (zones_put b o put))) (sym less) ∙ totals_zones_put b o zones put e))
 
   pub totals_zones_same : records_of_zones put ≡ records_of_zones zones → totals_of (zones_put b o put) ≡ totals_of b
   totals_zones_same same =
-      with_records_same (level_of o) (totals_of (zones_put b o put)) (totals_of b) (records_of_zones zones)
+      (records_grow (level_of o)).same (totals_of (zones_put b o put)) (totals_of b) (records_of_zones zones)
       (totals_zones_put b o zones put e ∙ ap (with_records (level_of o) (totals_of b)) same)

@@ -16,7 +16,3 @@ line_parts w a b c =
     ∙ ap (λ (t : List ℕ). (w ++ t) ++ 10 ∷ []) (flat_map-append spaced a (b ++ c) ∙ ap (λ (t : List ℕ). x ++ t) (flat_map-append spaced b c))
     ∙ append_assoc w (x ++ (y ++ z)) (10 ∷ [])
     ∙ ap (λ (t : List ℕ). w ++ t) (append_assoc x (y ++ z) (10 ∷ []) ∙ ap (λ (t : List ℕ). x ++ t) (append_assoc y z (10 ∷ [])))
-
--- pieces in three parts, with no word before them and nothing behind
-pub pieces_parts : (a b c : List Piece) → flat_map spaced (a ++ (b ++ c)) ≡ flat_map spaced a ++ (flat_map spaced b ++ flat_map spaced c)
-pieces_parts a b c = flat_map-append spaced a (b ++ c) ∙ ap (λ (t : List ℕ). flat_map spaced a ++ t) (flat_map-append spaced b c)

@@ -205,9 +205,6 @@ appended_within owners s i op k zones within h =
 pub zone_needs : (s : Stored) (k : ℕ) (zones : List Zone) (z : Zone) → slice_get zones k ≡ Some z → HasRoom s (records_of_zones (drop k zones)) → HasRoom s (records_sum (records_of_zone z) (records_of_zones (drop (suc k) zones)))
 zone_needs s k zones z there h =
     let r = rest_next zones k z there in
-    let zs = r.zones in
-    let gs = r.gens in
-    let ms = r.mods in
     room_at_most s (records_of_zones (drop k zones)) (records_sum (records_of_zone z) (records_of_zones (drop (suc k) zones))) (omega arith) (omega arith) (omega arith) h
 
 pub zone_alone : (s : Stored) (z : Zone) (more : Records) → HasRoom s (records_sum (records_of_zone z) more) → HasRoom s (records_of_zone z)

@@ -1,5 +1,5 @@
 -- What the code finds of one bag, and what becomes of the owners where a record of it goes.
-use Rattle.std.proofs.Common.{if◌then◌else◌, ◌≡◌, ℕ, ◌<◌, ◌≤◌, ◌+◌, ◌-◌, ◌^◌, ◌==◌, Bool, true, false, List, length, remove, slice_get, Option, Some, None, refl, sym, subst, ◌∙◌, ap, arith}
+use Rattle.std.proofs.Common.{if◌then◌else◌, ◌≡◌, ℕ, ◌<◌, ◌≤◌, ◌+◌, ◌-◌, ◌^◌, ◌==◌, Bool, List, length, remove, slice_get, Option, Some, None, refl, sym, subst, ◌∙◌, ap, arith}
 use Rattle.std.specs.Prelude.{min}
 use Rattle.std.specs.Option.{IfSome, IsSome, IsSomeAnd}
 use Rattle.std.proofs.lemmas.Bool.Decides.{nat_tests}
@@ -7,7 +7,7 @@ use Rattle.numbered_lists.specs.Moved.{changed}
 use Rattle.numbered_lists.proofs.Lists.{slice_get-found}
 use Rattle.modulators.specs.declared.modulator.Modulator.{Modulator}
 use Rattle.flat_records.specs.Bags.{Bag}
-use Rattle.owner_bags.specs.Owned.{bag_changed}
+use Rattle.owner_bags.specs.Owned.{bag_at, bag_changed}
 use Rattle.bank_parts.specs.Changes.{bag_size, record_taken}
 
 pub some_of : {X : Type 0} (P : X → Type 0) (o : Option X) → IsSomeAnd o P → IsSome o
@@ -29,11 +29,11 @@ pub one_counted : (o : Option Bag) (gens : List (ℕ × ℕ)) (mods : List Modul
 one_counted None gens mods r g m e = tt
 one_counted (Some b) gens mods r g m e = e ∙ (one_more (length gens + length mods) ∙ (λ t. length (g t) + length (m t) == 1))
 
-module _ (owners new : List (List Bag)) (i k : ℕ) (F : Bag → Bag) where
-  pub bag_taken : (o : Option Bag) (r : Bool) → IfSome o (λ (b : Bag). r ≡ (bag_size b == 1)) → r ≡ true → new ≡ changed owners i (λ own. remove own k) → IfSome o (λ (b : Bag). new ≡ record_taken owners i k F b)
-  bag_taken None r h is e = tt
-  bag_taken (Some b) r h is e = e ∙ ap (λ c. if c then changed owners i (λ own. remove own k) else bag_changed owners i k F) (sym is ∙ h)
-
-  pub one_taken : (o : Option Bag) (r : Bool) → IfSome o (λ (b : Bag). r ≡ (bag_size b == 1)) → r ≡ false → new ≡ bag_changed owners i k F → IfSome o (λ (b : Bag). new ≡ record_taken owners i k F b)
-  one_taken None r h is e = tt
-  one_taken (Some b) r h is e = e ∙ ap (λ c. if c then changed owners i (λ own. remove own k) else bag_changed owners i k F) (sym is ∙ h)
+-- a record taken out of the bag, and with the last one the bag
+pub record_goes : (owners : List (List Bag)) (i k : ℕ) (F : Bag → Bag) (one : Bool) {new : List (List Bag)} {r : Bool} → IfSome (bag_at owners i k) (λ (b : Bag). r ≡ (bag_size b == 1)) → r ≡ one
+    → new ≡ (if one then changed owners i (λ own. remove own k) else bag_changed owners i k F) → IfSome (bag_at owners i k) (λ (b : Bag). new ≡ record_taken owners i k F b)
+record_goes owners i k F one {new} {r} h is e =
+    (elim (bag_at owners i k) as (λ o. IfSome o (λ (b : Bag). r ≡ (bag_size b == 1)) → IfSome o (λ (b : Bag). new ≡ record_taken owners i k F b)) [
+      | None ↦ λ h. tt
+      | Some b ↦ λ h. e ∙ ap (λ c. if c then changed owners i (λ own. remove own k) else bag_changed owners i k F) (sym is ∙ h)
+    ]) h

@@ -12,7 +12,7 @@ use Rattle.bank_parts.specs.declared.counting.Records.{Records}
 use Rattle.bank_parts.specs.declared.parts.GlobalZone.{GlobalZone}
 use Rattle.bank_parts.specs.declared.parts.Zone.{Zone}
 use Rattle.bank_parts.specs.Valid.{global_count}
-use Rattle.bank_parts.specs.Counts.{records_of_zone, records_of_global, records_of, records_total, records_sum, counted, all_counted}
+use Rattle.bank_parts.specs.Counts.{records_of_zone, records_of_global, records_total, records_sum, counted, all_counted}
 
 -- nothing is held where both are empty
 pub none_held : (gens : Gens) (mods : List Modulator) → gens ≡ empty → (mods ≡ []) ↔ (len gens + length mods ≡ 0)
@@ -59,35 +59,10 @@ total_more f xs i x e = λ k. record {
   mods = taken_more (λ y. (f y).mods) xs i x e k;
 }
 
-pub owner_more : (global : GlobalZone) (zones : List Zone) (k : ℕ) (z : Zone) → slice_get zones k ≡ Some z
-    → records_sum (records_of global (take k zones)) (records_of_zone z) ≡ records_of global (take (suc k) zones)
-owner_more global zones k z e =
-    let count = count_more zones k z e in
-    let gens = taken_more (λ (y : Zone). len y.gens + 1) zones k z e in
-    let mods = taken_more (λ (y : Zone). length y.mods) zones k z e in
-    let c : global_count global + length (take k zones) + 1 ≡ global_count global + length (take (suc k) zones) = omega (arith, count) in
-    let g : len global.gens + sum_by (λ (y : Zone). len y.gens + 1) (take k zones) + (len z.gens + 1) ≡ len global.gens + sum_by (λ (y : Zone). len y.gens + 1) (take (suc k) zones) = omega (arith, gens) in
-    let m : length global.mods + sum_by (λ (y : Zone). length y.mods) (take k zones) + length z.mods ≡ length global.mods + sum_by (λ (y : Zone). length y.mods) (take (suc k) zones) = omega (arith, mods) in
-    λ i. record { zones = c i; gens = g i; mods = m i }
-
 -- ---- sums that stop at the largest number
-
-counted_sum : (a b : ℕ) → counted (counted a + counted b) ≡ counted (a + b)
-counted_sum a b = grind (arith)
-
-pub all_counted_sum : (r s : Records) → all_counted (records_sum (all_counted r) (all_counted s)) ≡ all_counted (records_sum r s)
-all_counted_sum r s = λ i. record {
-  zones = counted_sum r.zones s.zones i;
-  gens = counted_sum r.gens s.gens i;
-  mods = counted_sum r.mods s.mods i;
-}
 
 pub counted_same : (n : ℕ) → n < 2 ^ 64 → counted n ≡ n
 counted_same n h = min-eq_left (omega (arith, h))
-
--- one more, as 64 bits count them
-pub counted_more : (before more after total counted_so_far : Records) → counted_so_far ≡ all_counted before → total ≡ all_counted (records_sum counted_so_far more) → (whole : Records) → more ≡ all_counted whole → records_sum before whole ≡ after → total ≡ all_counted after
-counted_more before more after total so_far s t whole m e = t ∙ (λ i. all_counted (records_sum (s i) (m i))) ∙ all_counted_sum before whole ∙ ap all_counted e
 
 -- ---- what is counted of a place
 
@@ -109,10 +84,3 @@ global_is x g m gens mods small few =
     λ i. record { zones = zones i; gens = gens_are i; mods = mods_are i }
 
 -- ---- one more of what is there
-
-pub owner_next : (global : GlobalZone) (zones : List Zone) (k j : ℕ) → j ≡ k + 1 → (z : Zone) → slice_get zones k ≡ Some z → (so_far more total : Records)
-    → so_far ≡ all_counted (records_of global (take k zones)) → more ≡ all_counted (records_of_zone z) → total ≡ all_counted (records_sum so_far more)
-    → total ≡ all_counted (records_of global (take j zones))
-owner_next global zones k j next z e so_far more total h m t =
-    let same : j ≡ suc k = omega (arith, next) in
-    rw same (counted_more (records_of global (take k zones)) more (records_of global (take (suc k) zones)) total so_far h t (records_of_zone z) m (owner_more global zones k z e))

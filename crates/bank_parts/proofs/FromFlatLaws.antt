@@ -180,6 +180,12 @@ module _ {H : Type 0} where
       let a = owners_read op heads rest (omega arith) (λ i k b e. are (suc i) k b e) (all-back FitsEntry (gens_in own) (gens_in (all_bags rest)) fits) in
       record { heads = λ i. sym o.named i ∷ a.heads i; bags = λ i. o.same i ∷ a.bags i; plain = (o.plain, a.plain) }
 
+  -- as the code tests them
+  pub owners_tested : (op : ℕ) (heads : List H) (bags : List (List Bag)) {o n m : ℕ} {es : List (ℕ × ℕ)} → n ≡ length heads → m ≡ length bags → n ≡ m → o ≡ op → AreAllBags o bags
+      → es ≡ gens_in (all_bags bags) ++ (0, 0) ∷ [] → FitEntries es → AreRead op heads bags
+  owners_tested op heads bags many owners same is are records fit =
+      owners_read op heads bags (sym many ∙ (same ∙ owners)) (subst (λ o. AreAllBags o bags) is are) (all-front FitsEntry (gens_in (all_bags bags)) ((0, 0) ∷ []) (subst FitEntries records fit))
+
 -- ---- the bags of presets or instruments
 
 zone_own : (op : ℕ) (f : Bool) (z : Zone) → IsPlain op z.gens → is_own_bag op f (zone_bag op z) ≡ true

@@ -55,20 +55,15 @@ room_counted s r more e h =
     let zones = below r.zones (length (all_bags s.owners)) k.held.zones in
     let gens = below r.gens (length (gens_in (all_bags s.owners))) k.held.gens in
     let mods = below r.mods (length (mods_in (all_bags s.owners))) k.held.mods in
-    let held_zones = k.held.zones in
-    let held_gens = k.held.gens in
-    let held_mods = k.held.mods in
-    let spare_zones = k.zones in
-    let spare_gens = k.gens in
-    let spare_mods = k.mods in
     record { held = record { zones = omega arith; gens = omega arith; mods = omega arith }; zones = omega arith; gens = omega arith; mods = omega arith }
 
--- ---- the last one moved into place
+-- ---- the last one moved into place, where room was made for it and the bags stayed
 
-pub owner_put : {H : Type 0} {op : ℕ} {heads : List H} {bags : List (List Bag)} {owners : List (WithZones H)} (a : AreOf op heads bags owners) (i last : ℕ) (x : WithZones H) (hs : List H) (first bs : List (List Bag))
-    → IsPlainOwner op x → hs ≡ insert heads i x.head → last ≡ length bags → first ≡ bags ++ bags_of op x ∷ [] → bs ≡ moved first last i → AreOf op hs bs (insert owners i x)
-owner_put {H} {op} {heads} {bags} {owners} a i last x hs first bs plain h l f e =
-    member_put a i x hs bs plain h (e ∙ ((λ t. moved (f t) (l t) i) ∙ moved-last bags (bags_of op x) i))
+pub owner_put : {H : Type 0} {op : ℕ} {heads : List H} {bags : List (List Bag)} {owners : List (WithZones H)} (a : AreOf op heads bags owners) (i last : ℕ) (x : WithZones H) (hs : List H) (first bs : List (List Bag)) {o : ℕ} {room : List (List Bag)}
+    → o ≡ op → IsPlainOwner o x → hs ≡ insert heads i x.head → room ≡ bags → last ≡ length room → first ≡ room ++ bags_of o x ∷ [] → bs ≡ moved first last i → AreOf op hs bs (insert owners i x)
+owner_put {H} {op} {heads} {bags} {owners} a i last x hs first bs is plain h kept l f e =
+    member_put a i x hs bs (subst (λ op. IsPlainOwner op x) is plain) h
+    (e ∙ ((λ t. moved (f t) (l t) i) ∙ ((λ t. moved (kept t ++ bags_of (is t) x ∷ []) (length (kept t)) i) ∙ moved-last bags (bags_of op x) i)))
 
 pub last_within : (bags first : List (List Bag)) (own : List Bag) (last : ℕ) → last ≡ length bags → first ≡ bags ++ own ∷ [] → last < length first
 last_within bags first own last l f = let size = ap length f ∙ length-append bags (own ∷ []) in omega arith

@@ -7,19 +7,20 @@ use Rattle.std.proofs.lemmas.Bool.Decides.{nat_tests}
 use Rattle.numbered_lists.specs.Moved.{changed}
 use Rattle.numbered_lists.proofs.Lists.{slice_get-found}
 use Rattle.generators.specs.Gens.{Gens, FitGens, AreInOrder}
+use Rattle.generators.specs.Places.{IsAt, IsGapFor}
 use Rattle.modulators.specs.declared.modulator.Modulator.{Modulator}
 use Rattle.flat_records.specs.Bags.{Bag}
 use Rattle.owner_bags.specs.Owned.{bag_at, bag_changed}
 use Rattle.bank_parts.specs.declared.parts.WithZones.{WithZones}
 use Rattle.bank_parts.specs.declared.owners.ZonePlace.{ZonePlace}
-use Rattle.bank_parts.specs.Owners.{gens_at, entries_at, mods_at, amount_at, mod_at}
+use Rattle.bank_parts.specs.Owners.{HasPlace, gens_at, entries_at, mods_at, amount_at, mod_at}
 use Rattle.bank_parts.specs.Settings.{Settings, settings_changed, place_changed}
 use Rattle.bank_parts.specs.Bagged.{bags_of, bag_number, without_target, IsPlain}
 use Rattle.bank_parts.specs.Changes.{bag_size, record_taken}
 use Rattle.bank_parts.specs.Flat.{AreOf}
 use Rattle.bank_parts.proofs.MemberLaws.{sent}
 use Rattle.bank_parts.proofs.PlaceLaws.{of_some, to_some}
-use Rattle.bank_parts.proofs.BagSettings.{PlaceAt, BagAt, NoBag, bag_there, no_bag_there, settings_kept, changed_kept, head_stays, plain_after}
+use Rattle.bank_parts.proofs.BagSettings.{PlaceAt, BagAt, NoBag, place_there, bag_there, no_bag_there, settings_kept, changed_kept, head_stays, plain_after}
 use Rattle.bank_parts.proofs.GenLaws.{in_order}
 
 -- ---- what a place has
@@ -32,21 +33,43 @@ pub ordered : (o : Option Gens) (es : List (ℕ × ℕ)) → option_map entries 
 ordered None es e = cc
 ordered (Some m) es e = let same : entries m ≡ es = cc in in_order m es same
 
+-- ---- a place that has a bag, and one that has none
+
+pub record BagPlace {H : Type 0} (op : ℕ) (heads : List H) (bags : List (List Bag)) (owners : List (WithZones H)) (i : ℕ) (at : ZonePlace) (n : ℕ) : Type 0 where
+  pub held : AreOf op heads bags owners
+  pub place : PlaceAt op bags owners i at
+  pub own : BagAt op at place.found.owner place.settings n
+
+pub record BarePlace {H : Type 0} (op : ℕ) (heads : List H) (bags : List (List Bag)) (owners : List (WithZones H)) (i : ℕ) (at : ZonePlace) : Type 0 where
+  pub held : AreOf op heads bags owners
+  pub place : PlaceAt op bags owners i at
+  pub none : NoBag op at place.found.owner place.settings
+
+module _ {H : Type 0} {op : ℕ} {heads : List H} {bags : List (List Bag)} {owners : List (WithZones H)} (a : AreOf op heads bags owners) (i : ℕ) (at : ZonePlace) (h : HasPlace owners i at) where
+  pub bag_place : (n : ℕ) → IfSome (slice_get owners i) (λ (x : WithZones H). Some n ≡ bag_number at x) → BagPlace op heads bags owners i at n
+  bag_place n is =
+      let p = place_there a i at h in
+      let number = sym (of_some (λ (x : WithZones H). Some n ≡ bag_number at x) p.found.there is) in
+      record { held = a; place = p; own = bag_there op at p.found.owner p.settings n p.has p.plain number }
+
+  pub bare_place : IfSome (slice_get owners i) (λ (x : WithZones H). None ≡ bag_number at x) → BarePlace op heads bags owners i at
+  bare_place is =
+      let p = place_there a i at h in
+      let number = sym (of_some (λ (x : WithZones H). None ≡ bag_number at x) p.found.there is) in
+      record { held = a; place = p; none = no_bag_there op at p.found.owner p.settings p.has number }
+
 module _ {H : Type 0} {op : ℕ} {bags : List (List Bag)} {owners : List (WithZones H)} {i : ℕ} {at : ZonePlace} (p : PlaceAt op bags owners i at) where
-  pub place_bag_there : (n : ℕ) → IfSome (slice_get owners i) (λ (x : WithZones H). Some n ≡ bag_number at x) → BagAt op at p.found.owner p.settings n
-  place_bag_there n h = bag_there op at p.found.owner p.settings n p.has p.plain (sym (of_some (λ (x : WithZones H). Some n ≡ bag_number at x) p.found.there h))
+  pub entries_are : {es : List (ℕ × ℕ)} → entries_at owners i at ≡ Some es → entries p.settings.gens ≡ es
+  entries_are {es} e = same_Some (entries p.settings.gens) es (sym (ap (option_map entries) p.gens) ∙ e)
 
-  pub place_no_bag : IfSome (slice_get owners i) (λ (x : WithZones H). None ≡ bag_number at x) → NoBag op at p.found.owner p.settings
-  place_no_bag h = no_bag_there op at p.found.owner p.settings p.has (sym (of_some (λ (x : WithZones H). None ≡ bag_number at x) p.found.there h))
+  pub place_at : {es : List (ℕ × ℕ)} {o j : ℕ} → entries_at owners i at ≡ Some es → IsAt es o j → IsAt (entries p.settings.gens) o j
+  place_at {es} {o} {j} e = subst (λ es. IsAt es o j) (sym (entries_are e))
 
-  pub entries_are : (es : List (ℕ × ℕ)) → entries_at owners i at ≡ Some es → entries p.settings.gens ≡ es
-  entries_are es e = same_Some (entries p.settings.gens) es (sym (ap (option_map entries) p.gens) ∙ e)
+  pub place_gap : {es : List (ℕ × ℕ)} {o j : ℕ} → entries_at owners i at ≡ Some es → IsGapFor es o j → IsGapFor (entries p.settings.gens) o j
+  place_gap {es} {o} {j} e = subst (λ es. IsGapFor es o j) (sym (entries_are e))
 
-  pub amount_is : (op' : ℕ) → amount_at owners i at op' ≡ get p.settings.gens op'
-  amount_is op' = ap (option_and_then (λ (gens : Gens). get gens op')) p.gens
-
-  pub mod_is : (j : ℕ) → mod_at owners i at j ≡ slice_get p.settings.mods j
-  mod_is j = ap (option_and_then (λ (mods : List Modulator). slice_get mods j)) p.mods
+  pub amount_is : (o : ℕ) → amount_at owners i at o ≡ get p.settings.gens o
+  amount_is o = ap (option_and_then (λ (gens : Gens). get gens o)) p.gens
 
   pub gens_fit : IfSome (gens_at owners i at) FitGens
   gens_fit = to_some FitGens p.gens p.plain.fit
@@ -54,51 +77,70 @@ module _ {H : Type 0} {op : ℕ} {bags : List (List Bag)} {owners : List (WithZo
   pub of_mods : (P : List Modulator → Type 0) → IfSome (mods_at owners i at) P → P p.settings.mods
   of_mods P q = of_some P p.mods q
 
-  pub no_entries : NoBag op at p.found.owner p.settings → entries_at owners i at ≡ Some []
-  no_entries b = ap (option_map entries) p.gens ∙ ap Some b.gens
+  bag_found : {n : ℕ} (b : BagAt op at p.found.owner p.settings n) → bag_at bags i n ≡ Some b.bag
+  bag_found {n} b = ap (option_and_then (λ (own : List Bag). slice_get own n)) p.found.own ∙ b.found
 
-  pub no_mods : NoBag op at p.found.owner p.settings → mods_at owners i at ≡ Some []
-  no_mods b = p.mods ∙ ap Some b.mods
+module _ {H : Type 0} {op : ℕ} {heads : List H} {bags : List (List Bag)} {owners : List (WithZones H)} {i : ℕ} {at : ZonePlace} (b : BarePlace op heads bags owners i at) where
+  pub no_entries : entries_at owners i at ≡ Some []
+  no_entries = ap (option_map entries) b.place.gens ∙ ap Some b.none.gens
 
-module _ {H : Type 0} {op : ℕ} {bags : List (List Bag)} {owners : List (WithZones H)} {i : ℕ} {at : ZonePlace} (p : PlaceAt op bags owners i at) {n : ℕ} (b : BagAt op at p.found.owner p.settings n) where
-  pub bag_found : bag_at bags i n ≡ Some b.bag
-  bag_found = ap (option_and_then (λ (own : List Bag). slice_get own n)) p.found.own ∙ b.found
+  pub no_mods : mods_at owners i at ≡ Some []
+  no_mods = b.place.mods ∙ ap Some b.none.mods
+
+module _ {H : Type 0} {op : ℕ} {heads : List H} {bags : List (List Bag)} {owners : List (WithZones H)} {i : ℕ} {at : ZonePlace} {n : ℕ} (b : BagPlace op heads bags owners i at n) where
+  own_found : {bs : List (List Bag)} → bs ≡ bags → bag_at bs i n ≡ Some b.own.bag
+  own_found kept = ap (λ bags. bag_at bags i n) kept ∙ bag_found b.place b.own
 
   pub bag_is_found : IsSome (bag_at bags i n)
-  bag_is_found = subst IsSome (sym bag_found) refl
+  bag_is_found = subst IsSome (sym (own_found refl)) refl
 
   pub entries_read : (gens result : List (ℕ × ℕ)) → IfSome (bag_at bags i n) (λ (b : Bag). gens ≡ b.gens) → result ≡ without_target op gens → entries_at owners i at ≡ Some result
   entries_read gens result h e =
-      ap (option_map entries) p.gens
-      ∙ ap Some (sym (e ∙ (ap (without_target op) (of_some (λ (b : Bag). gens ≡ b.gens) bag_found h) ∙ b.entries_held)))
+      ap (option_map entries) b.place.gens
+      ∙ ap Some (sym (e ∙ (ap (without_target op) (of_some (λ (b : Bag). gens ≡ b.gens) (own_found refl) h) ∙ b.own.entries_held)))
 
   pub mods_read : (mods : List Modulator) → IfSome (bag_at bags i n) (λ (b : Bag). mods ≡ b.mods) → mods_at owners i at ≡ Some mods
-  mods_read mods h = p.mods ∙ ap Some (sym (of_some (λ (b : Bag). mods ≡ b.mods) bag_found h ∙ b.mods))
+  mods_read mods h = b.place.mods ∙ ap Some (sym (of_some (λ (b : Bag). mods ≡ b.mods) (own_found refl) h ∙ b.own.mods))
 
-  pub mods_held : (mods : List Modulator) → IfSome (bag_at bags i n) (λ (b : Bag). mods ≡ b.mods) → mods ≡ p.settings.mods
-  mods_held mods h = of_some (λ (b : Bag). mods ≡ b.mods) bag_found h ∙ b.mods
+  pub gens_size : length b.own.bag.gens ≡ length (entries b.place.settings.gens) + length b.own.last
+  gens_size = ap length b.own.gens ∙ length-append (entries b.place.settings.gens) b.own.last
 
-  -- a modulator that the code reads
-  pub mod_read : (j : ℕ) (mods : List Modulator) (d : Modulator) → IfSome (bag_at bags i n) (λ (b : Bag). mods ≡ b.mods) → j < length mods → mod_at owners i at j ≡ Some (get_or mods j d)
-  mod_read j mods d h within =
-      let (m, there) = slice_get-found mods j within in
-      mod_is p j ∙ (ap (λ mods. slice_get mods j) (sym (mods_held mods h)) ∙ (there ∙ ap Some (sym (get_or_from_slice_get mods j m d there))))
+  -- a number of one of its generators, and one that a generator may get where the bags stay
+  pub gen_within : {es : List (ℕ × ℕ)} {o j : ℕ} → entries_at owners i at ≡ Some es → IsAt es o j → IsSomeAnd (bag_at bags i n) (λ (b : Bag). j < length b.gens)
+  gen_within {es} {o} {j} e is =
+      let within = (place_at b.place e is).within in
+      let size = gens_size in
+      subst (λ o. IsSomeAnd o (λ (b : Bag). j < length b.gens)) (sym (own_found refl)) (omega arith)
 
-  pub gens_size : length b.bag.gens ≡ length (entries p.settings.gens) + length b.last
-  gens_size = ap length b.gens ∙ length-append (entries p.settings.gens) b.last
+  pub gen_place : {es : List (ℕ × ℕ)} {o j : ℕ} {bs : List (List Bag)} → entries_at owners i at ≡ Some es → IsGapFor es o j → bs ≡ bags → IsSomeAnd (bag_at bs i n) (λ (b : Bag). j ≤ length b.gens)
+  gen_place {es} {o} {j} e gap kept =
+      let within = (place_gap b.place e gap).within in
+      let size = gens_size in
+      subst (λ o. IsSomeAnd o (λ (b : Bag). j ≤ length b.gens)) (sym (own_found kept)) (omega arith)
 
-  -- a number of one of its generators, or of its modulators
-  pub gen_within : (j : ℕ) → j < length (entries p.settings.gens) → IsSomeAnd (bag_at bags i n) (λ (b : Bag). j < length b.gens)
-  gen_within j h = let size = gens_size in subst (λ o. IsSomeAnd o (λ (b : Bag). j < length b.gens)) (sym bag_found) (omega arith)
+  -- the same of its modulators
+  module _ (j : ℕ) where
+    pub mod_within : IfSome (mods_at owners i at) (λ (mods : List Modulator). j < length mods) → IsSomeAnd (bag_at bags i n) (λ (b : Bag). j < length b.mods)
+    mod_within h =
+        let within = of_mods b.place (λ (mods : List Modulator). j < length mods) h in
+        let size = ap length b.own.mods in
+        subst (λ o. IsSomeAnd o (λ (b : Bag). j < length b.mods)) (sym (own_found refl)) (omega arith)
 
-  pub gen_place : (j : ℕ) → j ≤ length (entries p.settings.gens) → IsSomeAnd (bag_at bags i n) (λ (b : Bag). j ≤ length b.gens)
-  gen_place j h = let size = gens_size in subst (λ o. IsSomeAnd o (λ (b : Bag). j ≤ length b.gens)) (sym bag_found) (omega arith)
+    pub mod_place : {bs : List (List Bag)} → IfSome (mods_at owners i at) (λ (mods : List Modulator). j ≤ length mods) → bs ≡ bags → IsSomeAnd (bag_at bs i n) (λ (b : Bag). j ≤ length b.mods)
+    mod_place h kept =
+        let within = of_mods b.place (λ (mods : List Modulator). j ≤ length mods) h in
+        let size = ap length b.own.mods in
+        subst (λ o. IsSomeAnd o (λ (b : Bag). j ≤ length b.mods)) (sym (own_found kept)) (omega arith)
 
-  pub mod_within : (j : ℕ) → j < length p.settings.mods → IsSomeAnd (bag_at bags i n) (λ (b : Bag). j < length b.mods)
-  mod_within j h = let size = ap length b.mods in subst (λ o. IsSomeAnd o (λ (b : Bag). j < length b.mods)) (sym bag_found) (omega arith)
+    -- a modulator that the code reads
+    module _ (mods : List Modulator) (h : IfSome (mods_at owners i at) (λ (mods : List Modulator). j < length mods)) (e : IfSome (bag_at bags i n) (λ (b : Bag). mods ≡ b.mods)) where
+      pub mod_inside : j < length mods
+      mod_inside = of_some (λ (mods : List Modulator). j < length mods) (mods_read mods e) h
 
-  pub mod_place : (j : ℕ) → j ≤ length p.settings.mods → IsSomeAnd (bag_at bags i n) (λ (b : Bag). j ≤ length b.mods)
-  mod_place j h = let size = ap length b.mods in subst (λ o. IsSomeAnd o (λ (b : Bag). j ≤ length b.mods)) (sym bag_found) (omega arith)
+      pub mod_read : (d : Modulator) → mod_at owners i at j ≡ Some (get_or mods j d)
+      mod_read d =
+          let (m, there) = slice_get-found mods j mod_inside in
+          ap (option_and_then (λ (mods : List Modulator). slice_get mods j)) (mods_read mods e) ∙ (there ∙ ap Some (sym (get_or_from_slice_get mods j m d there)))
 
 -- ---- a place changes
 

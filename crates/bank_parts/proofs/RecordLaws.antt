@@ -86,6 +86,9 @@ module _ {X : Type 0} (f : Bag → List X) where
   split_bags : (bs cs : List Bag) → flat_map f (bs ++ cs) ≡ flat_map f bs ++ flat_map f cs
   split_bags bs cs = flat_map-append f bs cs
 
+  records_of_both : (bs cs : List Bag) → length (flat_map f (bs ++ cs)) ≡ length (flat_map f bs) + length (flat_map f cs)
+  records_of_both bs cs = ap length (split_bags bs cs) ∙ length-append (flat_map f bs) (flat_map f cs)
+
 global_gens_by : (g : GlobalZone) (c : Bool) → (len g.gens + length g.mods == 0) ≡ c → gens_in (if c then [] else (global_bag g ∷ [])) ≡ entries g.gens
 global_gens_by g true e =
     let none = is_none (len g.gens + length g.mods) e in
@@ -227,35 +230,26 @@ owner_mod_count op x =
     let zones = zones_mods op x.zones in
     omega arith
 
+-- what is counted of the bags of all, where it is counted bag by bag, is the sum of what each has
+all_of : {H : Type 0} (op : ℕ) (size : List Bag → ℕ) (count : WithZones H → ℕ) → size [] ≡ 0 → ((bs cs : List Bag) → size (bs ++ cs) ≡ size bs + size cs) → ((x : WithZones H) → size (bags_of op x) ≡ count x)
+    → (owners : List (WithZones H)) → size (all_bags (map (bags_of op) owners)) ≡ sum_by count owners
+all_of op size count none both each [] = none
+all_of op size count none both each (x ∷ xs) =
+    let parts = both (bags_of op x) (all_bags (map (bags_of op) xs)) in
+    let own = each x in
+    let rest = all_of op size count none both each xs in
+    let sum = sum_by-cons count x xs in
+    omega arith
+
 module _ {H : Type 0} (op : ℕ) where
   pub all_zones : (owners : List (WithZones H)) → length (all_bags (map (bags_of op) owners)) ≡ sum_by (λ (x : WithZones H). zone_count x.global x.zones) owners
-  all_zones [] = refl
-  all_zones (x ∷ xs) =
-      let parts = length-append (bags_of op x) (all_bags (map (bags_of op) xs)) in
-      let own = owner_zones op x in
-      let rest = all_zones xs in
-      let sum = sum_by-cons (λ (x : WithZones H). zone_count x.global x.zones) x xs in
-      omega arith
+  all_zones = all_of op (λ bs. length bs) (λ (x : WithZones H). zone_count x.global x.zones) refl length-append (owner_zones op)
 
   pub all_gens : (owners : List (WithZones H)) → length (gens_in (all_bags (map (bags_of op) owners))) ≡ sum_by (λ (x : WithZones H). gen_count x.global x.zones) owners
-  all_gens [] = refl
-  all_gens (x ∷ xs) =
-      let all = ap length (gens_before op x (all_bags (map (bags_of op) xs))) in
-      let parts = length-append (gens_in (bags_of op x)) (gens_in (all_bags (map (bags_of op) xs))) in
-      let own = owner_gen_count op x in
-      let rest = all_gens xs in
-      let sum = sum_by-cons (λ (x : WithZones H). gen_count x.global x.zones) x xs in
-      omega arith
+  all_gens = all_of op (λ bs. length (gens_in bs)) (λ (x : WithZones H). gen_count x.global x.zones) refl (records_of_both (λ (b : Bag). b.gens)) (owner_gen_count op)
 
   pub all_mods : (owners : List (WithZones H)) → length (mods_in (all_bags (map (bags_of op) owners))) ≡ sum_by (λ (x : WithZones H). mod_count x.global x.zones) owners
-  all_mods [] = refl
-  all_mods (x ∷ xs) =
-      let all = ap length (mods_before op x (all_bags (map (bags_of op) xs))) in
-      let parts = length-append (mods_in (bags_of op x)) (mods_in (all_bags (map (bags_of op) xs))) in
-      let own = owner_mod_count op x in
-      let rest = all_mods xs in
-      let sum = sum_by-cons (λ (x : WithZones H). mod_count x.global x.zones) x xs in
-      omega arith
+  all_mods = all_of op (λ bs. length (mods_in bs)) (λ (x : WithZones H). mod_count x.global x.zones) refl (records_of_both (λ (b : Bag). b.mods)) (owner_mod_count op)
 
 module _ {H : Type 0} {op : ℕ} {heads : List H} {bags : List (List Bag)} {owners : List (WithZones H)} (a : AreOf op heads bags owners) where
   pub zones_in_all : length (all_bags bags) ≡ sum_by (λ (x : WithZones H). zone_count x.global x.zones) owners

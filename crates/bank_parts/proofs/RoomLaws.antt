@@ -56,27 +56,13 @@ one_each (b ∷ bs) = ap suc (one_each bs)
 -- ---- room
 
 pub room_at_most : (s : Stored) (more less : Records) → less.zones ≤ more.zones → less.gens ≤ more.gens → less.mods ≤ more.mods → HasRoom s more → HasRoom s less
-room_at_most s more less z g m h =
-    let zones = h.held.zones in
-    let gens = h.held.gens in
-    let mods = h.held.mods in
-    let spare_zones = h.zones in
-    let spare_gens = h.gens in
-    let spare_mods = h.mods in
-    record { held = record { zones = omega arith; gens = omega arith; mods = omega arith }; zones = omega arith; gens = omega arith; mods = omega arith }
+room_at_most s more less z g m h = record { held = record { zones = omega arith; gens = omega arith; mods = omega arith }; zones = omega arith; gens = omega arith; mods = omega arith }
 
 -- with as many records and no less spare
 pub room_same : (s t : Stored) (more : Records) → length (all_bags t.owners) ≡ length (all_bags s.owners) → length (gens_in (all_bags t.owners)) ≡ length (gens_in (all_bags s.owners))
     → length (mods_in (all_bags t.owners)) ≡ length (mods_in (all_bags s.owners)) → s.spare.bags ≤ t.spare.bags → s.spare.gens ≤ t.spare.gens → s.spare.mods ≤ t.spare.mods
     → HasRoom s more → HasRoom t more
-room_same s t more zs gs ms z g m h =
-    let zones = h.held.zones in
-    let gens = h.held.gens in
-    let mods = h.held.mods in
-    let spare_zones = h.zones in
-    let spare_gens = h.gens in
-    let spare_mods = h.mods in
-    record { held = record { zones = omega arith; gens = omega arith; mods = omega arith }; zones = omega arith; gens = omega arith; mods = omega arith }
+room_same s t more zs gs ms z g m h = record { held = record { zones = omega arith; gens = omega arith; mods = omega arith }; zones = omega arith; gens = omega arith; mods = omega arith }
 
 -- after a bag came
 pub room_left : (s t : Stored) (used more : Records) (i k : ℕ) (own : List Bag) (b : Bag) → slice_get s.owners i ≡ Some own → k ≤ length own
@@ -84,12 +70,6 @@ pub room_left : (s t : Stored) (used more : Records) (i k : ℕ) (own : List Bag
     → s.spare.bags ≤ t.spare.bags + 1 → s.spare.gens ≤ t.spare.gens + length b.gens → s.spare.mods ≤ t.spare.mods + length b.mods
     → HasRoom s (records_sum used more) → HasRoom t more
 room_left s t used more i k own b there within e uz ug um sz sg sm h =
-    let zones = h.held.zones in
-    let gens = h.held.gens in
-    let mods = h.held.mods in
-    let spare_zones = h.zones in
-    let spare_gens = h.gens in
-    let spare_mods = h.mods in
     let bags_to = ap (λ os. length (all_bags os)) e in
     let bags_were = one_each (all_bags s.owners) in
     let bags_are = one_each (all_bags (changed s.owners i (λ own. insert own k b))) in

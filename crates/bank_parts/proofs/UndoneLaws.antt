@@ -14,8 +14,8 @@ use Rattle.bank_parts.specs.declared.owners.ZonePlace.TheVariants as place
 use Rattle.bank_parts.specs.declared.parts.Zone.{Zone}
 use Rattle.bank_parts.specs.declared.parts.WithZones.{WithZones}
 use Rattle.bank_parts.specs.Owners.{HasPlace, zone_count_at, zone_at, mods_at, amount_at, mod_at}
-use Rattle.bank_parts.specs.Settings.{Settings, settings_of_zone, settings_in, settings_at, zones_at, with_gens, with_mods}
-use Rattle.bank_parts.specs.ZoneChanges.{with_target, zone_added, zone_moved, target_set, gen_set, gen_cleared, mod_added, mod_set}
+use Rattle.bank_parts.specs.Settings.{Settings, settings_of_zone, settings_in, settings_at, place_changed, zones_at, zones_changed, with_gens, with_mods}
+use Rattle.bank_parts.specs.ZoneChanges.{with_target, gen_cleared}
 use Rattle.bank_parts.specs.ChangesUndone.{ZoneAddedUndone, ZoneRemovedUndone, ZoneMovedUndone, TargetSetBack, GenSetBack, GenSetCleared, GenClearedUndone, ModAddedUndone, ModRemovedUndone, ModSetBack, ZoneAddedRead, ZoneMovedRead, TargetSetRead, GenSetRead, GenClearedRead, ModAddedRead, ModSetRead}
 use Rattle.bank_parts.proofs.SettingLaws.{source, Given, given, read_changed, place_read, place_returns, zones_read, zones_return, gens_of_settings, mods_of_settings}
 
@@ -171,49 +171,44 @@ set_is_read m op amount = gens.get-insert_any m op amount op ∙ ap (λ b. cond 
 cleared_is_read : (m : Gens) (op : ℕ) → map.get (map.remove m op) op ≡ None
 cleared_is_read m op = gens.get-remove_any m op op ∙ ap (λ b. cond b None (map.get m op)) (tied_same op)
 
--- what zones, or settings, give after a change, where they are there
-zones_give : {H Y : Type 0} (owners : List (WithZones H)) (i : ℕ) (f : List Zone → List Zone) (g : List Zone → Option Y) (zones : List Zone) → zones_at owners i ≡ Some zones
-    → option_and_then g (option_map f (zones_at owners i)) ≡ g (f zones)
-zones_give owners i f g zones e = ap (λ o. option_and_then g (option_map f o)) e
+-- what is there after a change of what is there
+module _ {H : Type 0} (owners : List (WithZones H)) (i : ℕ) where
+  zone_then : (f : List Zone → List Zone) (zones : List Zone) → zones_at owners i ≡ Some zones → (k : ℕ) → zone_at (zones_changed owners i f) i k ≡ slice_get (f zones) k
+  zone_then f zones e k = zone_of_zones (zones_changed owners i f) i k ∙ ap (option_and_then (λ (zs : List Zone). slice_get zs k)) (zones_read owners i f ∙ ap (option_map f) e)
 
-settings_give : {Y : Type 0} (o : Option Settings) (f : Settings → Settings) (g : Settings → Option Y) (s : Settings) → o ≡ Some s → option_and_then g (option_map f o) ≡ g (f s)
-settings_give o f g s e = ap (λ o. option_and_then g (option_map f o)) e
+  module _ (at : ZonePlace) (f : Settings → Settings) (s : Settings) (e : settings_at owners i at ≡ Some s) where
+    settings_then : settings_at (place_changed owners i at f) i at ≡ Some (f s)
+    settings_then = place_read owners i at f ∙ ap (option_map f) e
+
+    amount_then : (op : ℕ) → amount_at (place_changed owners i at f) i at op ≡ map.get (f s).gens op
+    amount_then op = amount_of_settings (place_changed owners i at f) i at op ∙ ap (option_and_then (λ (s : Settings). map.get s.gens op)) settings_then
+
+    mod_then : (j : ℕ) → mod_at (place_changed owners i at f) i at j ≡ slice_get (f s).mods j
+    mod_then j = mod_of_settings (place_changed owners i at f) i at j ∙ ap (option_and_then (λ (s : Settings). slice_get s.mods j)) settings_then
 
 pub zone_added_read : {H : Type 0} → ZoneAddedRead H
 zone_added_read owners i k zone h =
     let t = zones_there owners i (λ count. k ≤ count) h in
-    let zones = t.member in
-    zone_of_zones (zone_added owners i k zone) i k
-    ∙ (ap (option_and_then (λ (zs : List Zone). slice_get zs k)) (zones_read owners i (λ zs. insert zs k zone))
-    ∙ (zones_give owners i (λ zs. insert zs k zone) (λ (zs : List Zone). slice_get zs k) zones t.there ∙ slice_get-insert zones k zone t.holds))
+    zone_then owners i (λ zs. insert zs k zone) t.member t.there k ∙ slice_get-insert t.member k zone t.holds
 
 pub zone_moved_read : {H : Type 0} → ZoneMovedRead H
 zone_moved_read owners i from to h l =
     let t = both_there owners i from to h l in
-    let zones = t.member in
-    zone_of_zones (zone_moved owners i from to) i to
-    ∙ (ap (option_and_then (λ (zs : List Zone). slice_get zs to)) (zones_read owners i (λ zs. moved zs from to))
-    ∙ (zones_give owners i (λ zs. moved zs from to) (λ (zs : List Zone). slice_get zs to) zones t.there
-    ∙ (slice_get-moved zones from to t.holds.0 t.holds.1
-    ∙ (sym (ap (option_and_then (λ (zs : List Zone). slice_get zs from)) t.there) ∙ sym (zone_of_zones owners i from)))))
+    zone_then owners i (λ zs. moved zs from to) t.member t.there to
+    ∙ (slice_get-moved t.member from to t.holds.0 t.holds.1
+    ∙ (sym (ap (option_and_then (λ (zs : List Zone). slice_get zs from)) t.there) ∙ sym (zone_of_zones owners i from)))
 
 pub target_set_read : {H : Type 0} → TargetSetRead H
 target_set_read owners i k target h =
     let t = zones_there owners i (λ count. k < count) h in
-    let zones = t.member in
-    let (zone, e) = slice_get-found zones k t.holds in
+    let (zone, e) = slice_get-found t.member k t.holds in
     ap (option_map (λ (z : Zone). z.target))
-    (zone_of_zones (target_set owners i k target) i k
-    ∙ (ap (option_and_then (λ (zs : List Zone). slice_get zs k)) (zones_read owners i (λ zs. changed zs k (with_target target)))
-    ∙ (zones_give owners i (λ zs. changed zs k (with_target target)) (λ (zs : List Zone). slice_get zs k) zones t.there
-    ∙ (read_changed zones k (with_target target) ∙ ap (option_map (with_target target)) e))))
+    (zone_then owners i (λ zs. changed zs k (with_target target)) t.member t.there k ∙ (read_changed t.member k (with_target target) ∙ ap (option_map (with_target target)) e))
 
 pub gen_set_read : {H : Type 0} → GenSetRead H
 gen_set_read owners i at op amount h =
     let (s, there) = settings_there owners i at h in
-    amount_of_settings (gen_set owners i at op amount) i at op
-    ∙ (ap (option_and_then (λ (s : Settings). map.get s.gens op)) (place_read owners i at (λ (s : Settings). with_gens (map.insert s.gens op amount) s))
-    ∙ (settings_give (settings_at owners i at) (λ (s : Settings). with_gens (map.insert s.gens op amount) s) (λ (s : Settings). map.get s.gens op) s there ∙ set_is_read s.gens op amount))
+    amount_then owners i at (λ s. with_gens (map.insert s.gens op amount) s) s there op ∙ set_is_read s.gens op amount
 
 pub gen_cleared_read : {H : Type 0} → GenClearedRead H
 gen_cleared_read owners i at op =
@@ -227,16 +222,10 @@ gen_cleared_read owners i at op =
 pub mod_added_read : {H : Type 0} → ModAddedRead H
 mod_added_read owners i at j m h =
     let t = mods_there owners i at (λ mods. j ≤ length mods) h in
-    let s = t.member in
-    mod_of_settings (mod_added owners i at j m) i at j
-    ∙ (ap (option_and_then (λ (s : Settings). slice_get s.mods j)) (place_read owners i at (λ (s : Settings). with_mods (insert s.mods j m) s))
-    ∙ (settings_give (settings_at owners i at) (λ (s : Settings). with_mods (insert s.mods j m) s) (λ (s : Settings). slice_get s.mods j) s t.there ∙ slice_get-insert s.mods j m t.holds))
+    mod_then owners i at (λ s. with_mods (insert s.mods j m) s) t.member t.there j ∙ slice_get-insert t.member.mods j m t.holds
 
 pub mod_set_read : {H : Type 0} → ModSetRead H
 mod_set_read owners i at j m h =
     let (was, is) = some_there (mod_at owners i at j) h in
     let s = mod_in owners i at j was is in
-    mod_of_settings (mod_set owners i at j m) i at j
-    ∙ (ap (option_and_then (λ (s : Settings). slice_get s.mods j)) (place_read owners i at (λ (s : Settings). with_mods (slice_set s.mods j m) s))
-    ∙ (settings_give (settings_at owners i at) (λ (s : Settings). with_mods (slice_set s.mods j m) s) (λ (s : Settings). slice_get s.mods j) s.member s.there
-    ∙ slice_get-slice_set s.member.mods j m (slice_get-within s.member.mods j was s.gives)))
+    mod_then owners i at (λ s. with_mods (slice_set s.mods j m) s) s.member s.there j ∙ slice_get-slice_set s.member.mods j m (slice_get-within s.member.mods j was s.gives)

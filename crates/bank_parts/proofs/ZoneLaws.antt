@@ -172,26 +172,26 @@ module _ {H : Type 0} {op : ℕ} {heads : List H} {bags : List (List Bag)} {owne
       ∙ (remove-right gs (map (zone_bag op) x.zones) k ∙ ap (λ bs. gs ++ bs) (sym (map-remove (zone_bag op) x.zones k))))
       e
 
--- a zone that comes
+-- a zone that comes, where room was made for it and the bags stayed
 module _ {H : Type 0} {op : ℕ} {heads : List H} {bags : List (List Bag)} {owners : List (WithZones H)} (a : AreOf op heads bags owners) {i k : ℕ} (s : ZonesAt op bags owners i (λ n. k ≤ n)) where
-  pub new_place : (n : ℕ) → IfSome (slice_get owners i) (λ (x : WithZones H). n ≡ length (global_bags x.global) + k) → IsSomeAnd (slice_get bags i) (λ (own : List Bag). n ≤ length own)
-  new_place n h =
+  pub new_place : (n : ℕ) {room : List (List Bag)} → IfSome (slice_get owners i) (λ (x : WithZones H). n ≡ length (global_bags x.global) + k) → room ≡ bags → IsSomeAnd (slice_get room i) (λ (own : List Bag). n ≤ length own)
+  new_place n h kept =
       let at = of_some (λ (x : WithZones H). n ≡ length (global_bags x.global) + k) s.found.there h in
       let size = s.found.size in
       let fits = s.fits in
-      subst (λ o. IsSomeAnd o (λ (own : List Bag). n ≤ length own)) (sym s.found.own) (omega arith)
+      subst (λ o. IsSomeAnd o (λ (own : List Bag). n ≤ length own)) (sym (ap (λ bags. slice_get bags i) kept ∙ s.found.own)) (omega arith)
 
-  pub zone_put : (n : ℕ) (zone : Zone) (bs : List (List Bag)) → IfSome (slice_get owners i) (λ (x : WithZones H). n ≡ length (global_bags x.global) + k)
-      → IsPlain op zone.gens → bs ≡ changed bags i (λ own. insert own n (zone_bag op zone)) → AreOf op heads bs (zone_added owners i k zone)
-  zone_put n zone bs h plain e =
+  pub zone_put : (n : ℕ) (zone : Zone) (bs : List (List Bag)) {o : ℕ} {room : List (List Bag)} → IfSome (slice_get owners i) (λ (x : WithZones H). n ≡ length (global_bags x.global) + k)
+      → o ≡ op → IsPlain o zone.gens → room ≡ bags → bs ≡ changed room i (λ own. insert own n (zone_bag o zone)) → AreOf op heads bs (zone_added owners i k zone)
+  zone_put n zone bs h is plain kept e =
       let x = s.found.owner in
       let gs = global_bags x.global in
       let at = of_some (λ (x : WithZones H). n ≡ length (global_bags x.global) + k) s.found.there h in
       sent a i x (λ x. with_zones (insert x.zones k zone) x) (λ own. insert own n (zone_bag op zone)) bs s.found.there refl
-      (record { global = s.found.plain.global; zones = everywhere-insert (λ (z : Zone). IsPlain op z.gens) x.zones k zone plain s.found.plain.zones })
+      (record { global = s.found.plain.global; zones = everywhere-insert (λ (z : Zone). IsPlain op z.gens) x.zones k zone (subst (λ op. IsPlain op zone.gens) is plain) s.found.plain.zones })
       (ap (λ n. insert (bags_of op x) n (zone_bag op zone)) at
       ∙ (insert-right gs (map (zone_bag op) x.zones) k (zone_bag op zone) ∙ ap (λ bs. gs ++ bs) (sym (map-insert (zone_bag op) x.zones k zone))))
-      e
+      (e ∙ (λ t. changed (kept t) i (λ own. insert own n (zone_bag (is t) zone))))
 
 module _ {H : Type 0} {op : ℕ} {bags : List (List Bag)} {owners : List (WithZones H)} {i k : ℕ} (s : ZonesAt op bags owners i (λ n. k ≤ n)) where
   -- the place is within all its bags

@@ -1,5 +1,5 @@
 -- Each fault and each refusal has its explanation.
-use Rattle.std.proofs.Common.{◌≡◌, ℕ, Bool, true, false, cond, List, [], ◌∷◌, ◌==◌, Option, IfSome, Some, IsSome, find, subst, refl}
+use Rattle.std.proofs.Common.{◌≡◌, ℕ, ◌==◌, IsSome, find, subst, refl}
 use Rattle.bank_format.specs.declared.fault.ReadFault.{ReadFault}
 use Rattle.bank_format.specs.declared.fault.ReadFault.TheVariants as read
 use Rattle.line_tokens.specs.declared.fault.ScriptFault.{ScriptFault}
@@ -16,14 +16,6 @@ use Rattle.fault_explanations.specs.declared.explanations.Told.{Told}
 use Rattle.fault_explanations.specs.declared.explanations.Told.TheVariants.{Reading, Script, Notes, Recording, Refused, NotNeutral, OtherVersion, TooManyFrames}
 use Rattle.fault_explanations.specs.declared.explanations.TheConstants.{ALL}
 use Rattle.fault_explanations.specs.Explanations.{number_of}
-
--- what is found passes the test
-pub found_passes : {X : Type 0} (p : X → Bool) (xs : List X) → IfSome (find p xs) (λ x. p x ≡ true)
-found_passes p [] = tt
-found_passes p (x ∷ xs) =
-    let at : (b : Bool) → p x ≡ b → IfSome (cond b (Some x) (find p xs)) (λ y. p y ≡ true) =
-    λ b. elim b as (λ v. p x ≡ v → IfSome (cond v (Some x) (find p xs)) (λ y. p y ≡ true)) [ true ↦ λ e. e | false ↦ λ e. found_passes p xs ] in
-    at (p x) refl
 
 -- one of this number is found
 abbrev pub Found : ℕ → Type 0

@@ -1,21 +1,15 @@
 -- Records that are tables are those of the bags that are read of them, and the records of bags are tables.
-use Rattle.std.proofs.Common.{◌≡◌, ℕ, ◌<◌, ◌≤◌, ◌+◌, ◌-◌, suc, zero, List, [], ◌∷◌, ◌++◌, length, slice_get, Some, refl, subst, sym, ◌∙◌, ap, take, drop, get_or, append_assoc, length-append, length-take, length-drop, zero-add, arith}
-use Rattle.std.proofs.lemmas.List.{take-append-drop, length-take-le}
-use Rattle.std.proofs.Math.Seq.{take-add}
+use Rattle.std.proofs.Common.{◌≡◌, ℕ, ◌<◌, ◌≤◌, ◌+◌, ◌-◌, suc, zero, List, [], ◌∷◌, ◌++◌, length, slice_get, Some, refl, subst, sym, ◌∙◌, ap, take, drop, get_or, length-append, length-take, length-drop, arith}
 use Rattle.modulators.specs.declared.modulator.Modulator.{Modulator}
 use Rattle.flat_records.specs.Runs.{starts}
 use Rattle.flat_records.specs.Bags.{Bag, past_bag, gens_in, mods_in, no_modulator, Tables, tables_of, bags_from, bags_of_records, bags_in, AreRead}
 use Rattle.numbered_lists.proofs.Lists.{slice_get-within}
-use Rattle.flat_records.proofs.Starts.{end, length-starts}
+use Rattle.flat_records.proofs.Starts.{end, length-starts, starts-first, starts-end}
+use Rattle.flat_records.proofs.Ends.{last_of, last-found, some-first, joined}
 use Rattle.flat_records.proofs.TableLaws.{gens-end, mods-end}
 use Rattle.flat_records.specs.Tables.{Rises, EndsIn, AreTables}
 
 -- ---- the bags of records that are tables
-
--- the last index
-abbrev last_of : ℕ × ℕ → List (ℕ × ℕ) → ℕ × ℕ
-last_of at [] = at
-last_of at (next ∷ rest) = last_of next rest
 
 -- what the bags from `at` on need of the records
 record From (at : ℕ × ℕ) (rest : List (ℕ × ℕ)) (gens : List (ℕ × ℕ)) (mods : List Modulator) : Type 0 where
@@ -61,11 +55,6 @@ starts-from at (next ∷ rest) gens mods f =
     (λ i. at ∷ starts past_bag (n1 i, n2 i) bags)
     ∙ ap (λ ms. at ∷ ms) (starts-from next rest (drop (next.0 - at.0) gens) (drop (next.1 - at.1) mods) (next_from at next rest gens mods f))
 
-joined : {X : Type 0} (xs : List X) (a b c : ℕ) → a ≤ b → b ≤ c → take (b - a) xs ++ take (c - b) (drop (b - a) xs) ≡ take (c - a) xs
-joined xs a b c h1 h2 =
-    let n : (b - a) + (c - b) ≡ c - a = omega arith in
-    sym (take-add (b - a) (c - b) xs) ∙ ap (λ n. take n xs) n
-
 gens-from : (at : ℕ × ℕ) (rest : List (ℕ × ℕ)) (gens : List (ℕ × ℕ)) (mods : List Modulator) → From at rest gens mods → gens_in (bags_from at rest gens mods) ≡ take ((last_of at rest).0 - at.0) gens
 gens-from at [] gens mods f = let n : at.0 - at.0 ≡ 0 = omega arith in ap (λ n. take n gens) (sym n)
 gens-from at (next ∷ rest) gens mods f =
@@ -89,19 +78,9 @@ ended (y ∷ []) zero x h e = cc
 ended (y ∷ (z ∷ zs)) zero x h e = absurd (omega arith)
 ended (y ∷ ys) (suc n) x h e = ap (λ zs. y ∷ zs) (ended ys n x (omega arith) e)
 
-last-found : (at : ℕ × ℕ) (rest : List (ℕ × ℕ)) (n : ℕ) (m : ℕ × ℕ) → length rest ≡ n → slice_get (at ∷ rest) n ≡ Some m → last_of at rest ≡ m
-last-found at [] zero m h e = cc
-last-found at [] (suc n) m h e = absurd (omega arith)
-last-found at (next ∷ rest) zero m h e = absurd (omega arith)
-last-found at (next ∷ rest) (suc n) m h e = last-found next rest n m (omega arith) e
-
-some-first : (bags : List (ℕ × ℕ)) → slice_get bags 0 ≡ Some (0, 0) → (rest : List (ℕ × ℕ)) × (bags ≡ (0, 0) ∷ rest)
-some-first [] e = cc
-some-first (b ∷ bs) e = let same : b ≡ (0, 0) = cc in (bs, ap (λ b. b ∷ bs) same)
-
 pub tables_read : (t : Tables) → AreTables t → AreRead t
 tables_read t are =
-    let s = some-first t.bags are.first in
+    let s = some-first t.bags (0, 0) are.first in
     let rest = s.0 in
     let split : t.bags ≡ (0, 0) ∷ rest = s.1 in
     let some_gens = slice_get-within t.gens (length t.gens - 1) (0, 0) are.gens in
@@ -128,6 +107,13 @@ tables_read t are =
     let mods : t.mods ≡ mods_in (bags_in t) ++ no_modulator ∷ [] = ended t.mods (length t.mods - 1) no_modulator (omega arith) are.mods ∙ ap (λ xs. xs ++ no_modulator ∷ []) (sym mods_are) in
     λ i. record { bags = bags i; gens = gens i; mods = mods i }
 
+-- the same of equal lists
+pub same_read : {bags index gens others : List (ℕ × ℕ)} {mods more : List Modulator} → AreTables (record { bags = bags; gens = gens; mods = mods }) → bags ≡ index → gens ≡ others → mods ≡ more
+    → AreRead (record { bags = index; gens = others; mods = more })
+same_read {bags} {index} {gens} {others} {mods} {more} are e f g =
+    let same : record { bags = bags; gens = gens; mods = mods } ≡ record { bags = index; gens = others; mods = more } = λ i. record { bags = e i; gens = f i; mods = g i } in
+    tables_read (record { bags = index; gens = others; mods = more }) (subst AreTables same are)
+
 -- ---- the records of bags
 
 ends-behind : {X : Type 0} (xs : List X) (x : X) → slice_get (xs ++ x ∷ []) (length xs) ≡ Some x
@@ -139,10 +125,6 @@ ends-in xs x =
     let n : length (xs ++ x ∷ []) - 1 ≡ length xs = omega (arith, length-append xs (x ∷ [])) in
     ap (slice_get (xs ++ x ∷ [])) n ∙ ends-behind xs x
 
-starts-end : (at : ℕ × ℕ) (bags : List Bag) → slice_get (starts past_bag at bags) (length bags) ≡ Some (end past_bag at bags)
-starts-end at [] = refl
-starts-end at (b ∷ bs) = starts-end (past_bag at b) bs
-
 starts-rise : (at : ℕ × ℕ) (bags : List Bag) (k : ℕ) → k + 1 < length (starts past_bag at bags) → Rises (starts past_bag at bags) k
 starts-rise at [] k h = absurd (omega arith)
 starts-rise at (b ∷ []) zero h = (omega arith, omega arith)
@@ -153,19 +135,15 @@ starts-rise at (b ∷ bs) (suc k) h =
     subst (λ n. ((get_or rest k (0, 0)).0 ≤ (get_or (at ∷ rest) n (0, 0)).0) × ((get_or rest k (0, 0)).1 ≤ (get_or (at ∷ rest) n (0, 0)).1)) n
     (starts-rise (past_bag at b) bs k (omega arith))
 
-starts-first : (bags : List Bag) → slice_get (starts past_bag (0, 0) bags) 0 ≡ Some (0, 0)
-starts-first [] = refl
-starts-first (b ∷ bs) = refl
-
 pub bags_tables : (bags : List Bag) → AreTables (tables_of bags)
 bags_tables bags =
     let n : length (starts past_bag (0, 0) bags) - 1 ≡ length bags = omega (arith, length-starts past_bag (0, 0) bags) in
     let g : (end past_bag (0, 0) bags).0 ≡ length (gens_in bags ++ (0, 0) ∷ []) - 1 = omega (arith, gens-end (0, 0) bags, length-append (gens_in bags) ((0, 0) ∷ [])) in
     let m : (end past_bag (0, 0) bags).1 ≡ length (mods_in bags ++ no_modulator ∷ []) - 1 = omega (arith, mods-end (0, 0) bags, length-append (mods_in bags) (no_modulator ∷ [])) in
     record {
-      first = starts-first bags;
+      first = starts-first past_bag (0, 0) bags;
       rising = starts-rise (0, 0) bags;
-      last = ap (slice_get (starts past_bag (0, 0) bags)) n ∙ (starts-end (0, 0) bags ∙ (λ i. Some (g i, m i)));
+      last = ap (slice_get (starts past_bag (0, 0) bags)) n ∙ (starts-end past_bag (0, 0) bags ∙ (λ i. Some (g i, m i)));
       gens = ends-in (gens_in bags) (0, 0);
       mods = ends-in (mods_in bags) no_modulator;
     }

@@ -1,8 +1,10 @@
 pub mod Starts
 pub mod Exchanges
+pub mod FourRuns
 pub mod TableLaws
 pub mod Spots
 pub mod Wholes
 pub mod Turns
+pub mod Ends
 pub mod Converse
 pub mod RenumberLaws

@@ -3,8 +3,9 @@ use Rattle.std.proofs.Common.{◌≡◌, ℕ, ◌+◌, ◌-◌, List, [], ◌∷
 use Rattle.std.proofs.lemmas.List.{length-append, length-map, map-append, take_at, drop_at}
 use Rattle.numbered_lists.specs.declared.renumbering.Renumbering.{Renumbering}
 use Rattle.flat_records.specs.Runs.{starts}
-use Rattle.flat_records.specs.Bags.{Bag, past_bag, gens_in, mods_in, no_modulator, Tables, tables_of}
+use Rattle.flat_records.specs.Bags.{Bag, past_bag, gens_in, mods_in, no_modulator, Tables}
 use Rattle.flat_records.specs.Renumbered.{gen_renumbered, bag_renumbered}
+use Rattle.flat_records.proofs.TableLaws.{AreOf}
 
 module _ (op : ℕ) (by : Renumbering) where
   starts_stay : (at : ℕ × ℕ) (bags : List Bag) → starts past_bag at (map (bag_renumbered op by) bags) ≡ starts past_bag at bags
@@ -32,13 +33,12 @@ module _ (op : ℕ) (by : Renumbering) where
       let n : length (gens_in bags) ≡ length gens - 1 = omega (arith, ap (λ (es : List (ℕ × ℕ)). length es) e, length-append (gens_in bags) ((0, 0) ∷ [])) in
       ap (λ es. drop (length gens - 1) es) e ∙ drop_at (gens_in bags) ((0, 0) ∷ []) (length gens - 1) n
 
-  pub renumbered_tables : (t : Tables) (bags : List Bag) (new : List (ℕ × ℕ)) → t ≡ tables_of bags
-      → new ≡ map (gen_renumbered op by) (take (length t.gens - 1) t.gens) ++ drop (length t.gens - 1) t.gens
-      → record { bags = t.bags; gens = new; mods = t.mods } ≡ tables_of (map (bag_renumbered op by) bags)
-  renumbered_tables t bags new e n =
-      let own : t.gens ≡ gens_in bags ++ (0, 0) ∷ [] = ap (λ (t : Tables). t.gens) e in
-      let indexes : t.bags ≡ starts past_bag (0, 0) (map (bag_renumbered op by) bags) = ap (λ (t : Tables). t.bags) e ∙ sym (starts_stay (0, 0) bags) in
+  pub renumbered_tables : {t : Tables} {bags : List Bag} → AreOf t bags → {new : List (ℕ × ℕ)} → new ≡ map (gen_renumbered op by) (take (length t.gens - 1) t.gens) ++ drop (length t.gens - 1) t.gens
+      → AreOf (record { bags = t.bags; gens = new; mods = t.mods }) (map (bag_renumbered op by) bags)
+  renumbered_tables {t} {bags} a {new} n =
+      let own : t.gens ≡ gens_in bags ++ (0, 0) ∷ [] = ap (λ (t : Tables). t.gens) a.same in
+      let indexes : t.bags ≡ starts past_bag (0, 0) (map (bag_renumbered op by) bags) = ap (λ (t : Tables). t.bags) a.same ∙ sym (starts_stay (0, 0) bags) in
       let gens : new ≡ gens_in (map (bag_renumbered op by) bags) ++ (0, 0) ∷ [] =
       n ∙ ((λ i. map (gen_renumbered op by) (before_last t.gens bags own i) ++ last t.gens bags own i) ∙ ap (λ es. es ++ (0, 0) ∷ []) (sym (gens_follow bags))) in
-      let mods = ap (λ (t : Tables). t.mods) e ∙ ap (λ ms. ms ++ no_modulator ∷ []) (sym (mods_stay bags)) in
-      λ i. record { bags = indexes i; gens = gens i; mods = mods i }
+      let mods = ap (λ (t : Tables). t.mods) a.same ∙ ap (λ ms. ms ++ no_modulator ∷ []) (sym (mods_stay bags)) in
+      record { same = λ i. record { bags = indexes i; gens = gens i; mods = mods i } }

@@ -1,9 +1,9 @@
 -- Where the members of a list begin that stand one after the other.
-use Rattle.std.proofs.Common.{◌≡◌, ℕ, ◌<◌, ◌≤◌, ◌+◌, suc, zero, List, [], ◌∷◌, ◌++◌, length, map, All, insert, remove, refl, sym, ◌∙◌, ap, take, drop, get_or, ◌-◌, set, append_assoc, length-append, length-take, length-drop, zero-add, suc-add, arith}
+use Rattle.std.proofs.Common.{◌≡◌, ℕ, ◌<◌, ◌≤◌, ◌+◌, suc, zero, List, [], ◌∷◌, ◌++◌, length, map, All, insert, remove, slice_get, Some, refl, sym, ◌∙◌, ap, take, drop, get_or, ◌-◌, set, append_assoc, length-append, length-take, length-drop, zero-add, suc-add, arith}
 use Rattle.std.specs.List.{flat_map}
 use Rattle.std.proofs.lemmas.List.Concat.{flat_map-append}
 use Rattle.std.proofs.lemmas.List.Elements.{All-cons, All-nil}
-use Rattle.std.proofs.lemmas.List.{drop_at, drop-append-le, set-append_right, set-append_left}
+use Rattle.std.proofs.lemmas.List.{drop-append-le, set-append_right, set-append_left}
 use Rattle.flat_records.specs.Runs.{starts, changed_from, put, cut}
 
 map_undone : {X : Type 0} (f g : X → X) → ((x : X) → f (g x) ≡ x) → (xs : List X) → map f (map g xs) ≡ xs
@@ -32,11 +32,6 @@ pub put-left : {X : Type 0} (xs ys : List X) (j : ℕ) (zs : List X) → j ≤ l
 put-left xs ys zero zs h = sym (append_assoc zs xs ys)
 put-left [] ys (suc j) zs h = absurd (omega arith)
 put-left (x ∷ xs) ys (suc j) zs h = ap (λ ws. x ∷ ws) (put-left xs ys j zs (omega arith))
-
-pub cut-put : {X : Type 0} (xs : List X) (j : ℕ) (zs : List X) (n : ℕ) → j ≤ length xs → n ≡ length zs → cut (put xs j zs) j n ≡ xs
-cut-put xs zero zs n h e = rw (e, zero-add (length zs)) (drop_at zs xs (length zs) refl)
-cut-put [] (suc j) zs n h e = absurd (omega arith)
-cut-put (x ∷ xs) (suc j) zs n h e = rw (suc-add j n) (ap (λ ws. x ∷ ws) (cut-put xs j zs n (omega arith) e))
 
 pub cut-right : {X : Type 0} (xs ys : List X) (j n : ℕ) → cut (xs ++ ys) (length xs + j) n ≡ xs ++ cut ys j n
 cut-right [] ys j n = rw (zero-add j) refl
@@ -160,6 +155,14 @@ module _ {X M : Type 0} (past : M → X → M) where
   pub drop-past : (at : M) (front : List X) (x : X) (back : List X) → drop (suc (length front)) (starts past at (front ++ x ∷ back)) ≡ starts past (past (end at front) x) back
   drop-past at [] x back = refl
   drop-past at (z ∷ zs) x back = drop-past (past at z) zs x back
+
+  pub starts-first : (at : M) (xs : List X) → slice_get (starts past at xs) 0 ≡ Some at
+  starts-first at [] = refl
+  starts-first at (x ∷ xs) = refl
+
+  pub starts-end : (at : M) (xs : List X) → slice_get (starts past at xs) (length xs) ≡ Some (end at xs)
+  starts-end at [] = refl
+  starts-end at (x ∷ xs) = starts-end (past at x) xs
 
   -- what each step keeps holds of all places
   pub All-starts : (P : M → Type 0) → ((m : M) (x : X) → P m → P (past m x)) → (at : M) (xs : List X) → P at → All P (starts past at xs)

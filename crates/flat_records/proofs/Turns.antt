@@ -5,11 +5,12 @@ use Rattle.std.proofs.lemmas.List.{get_or_default}
 use Rattle.std.proofs.lemmas.List.Concat.{flat_map-append}
 use Rattle.modulators.specs.declared.modulator.Modulator.{Modulator}
 use Rattle.flat_records.specs.Runs.{starts, exchanged, changed_exchanged, AreWindows}
-use Rattle.flat_records.specs.Bags.{Bag, past_bag, gens_in, mods_in, no_modulator, Tables, tables_of, bags_in, AreRead}
+use Rattle.flat_records.specs.Bags.{Bag, past_bag, gens_in, mods_in, no_modulator, Tables, tables_of}
 use Rattle.flat_records.specs.Raised.{raised, lowered, CanRaise, CanLower}
-use Rattle.flat_records.proofs.Starts.{begins, end, at-starts, end-append, length-begins, length-starts, starts-parts, starts-exchanged, All-begins, All-begins_back}
-use Rattle.flat_records.proofs.Exchanges.{Quarters, quarters, Parts, parts, exchanged-parts}
-use Rattle.flat_records.proofs.TableLaws.{gens-end, mods-end, more, undone}
+use Rattle.flat_records.proofs.Starts.{end, length-starts, starts-exchanged, All-begins, All-begins_back}
+use Rattle.flat_records.proofs.FourRuns.{four_runs}
+use Rattle.flat_records.proofs.Exchanges.{quarters, exchanged-parts}
+use Rattle.flat_records.proofs.TableLaws.{AreOf, gens-end, mods-end, bags_size, more, undone}
 
 -- lists of four runs of bags
 module _ {X : Type 0} (part : Bag → List X) where
@@ -40,11 +41,11 @@ past_all : (at : ℕ × ℕ) (bags : List Bag) → end past_bag at bags ≡ rais
 past_all at bags = λ i. (gens-end at bags i, mods-end at bags i)
 
 -- bags a up to b, which begin at `start`, and bags b up to c, which begin at `middle`
-pub record Turn (t : Tables) (a b c : ℕ) (start middle stop : ℕ × ℕ) : Type 0 where
+pub record Turn (t : Tables) (bags : List Bag) (a b c : ℕ) (start middle stop : ℕ × ℕ) : Type 0 where
   pub last : c < length t.bags
   pub gens_rise : (start.0 ≤ middle.0) × (middle.0 ≤ stop.0)
   pub mods_rise : (start.1 ≤ middle.1) × (middle.1 ≤ stop.1)
-  pub bags : AreWindows a b c (length t.bags)
+  pub windows : AreWindows a b c (length t.bags)
   pub gens : AreWindows start.0 middle.0 stop.0 (length t.gens)
   pub mods : AreWindows start.1 middle.1 stop.1 (length t.mods)
   pub lower : All (CanLower (middle.0 - start.0, middle.1 - start.1)) (drop b (take c t.bags))
@@ -54,7 +55,7 @@ pub record Turn (t : Tables) (a b c : ℕ) (start middle stop : ℕ × ℕ) : Ty
         bags = changed_exchanged a b c (lowered (middle.0 - start.0, middle.1 - start.1)) (raised (stop.0 - middle.0, stop.1 - middle.1)) t.bags;
         gens = exchanged t.gens start.0 middle.0 stop.0;
         mods = exchanged t.mods start.1 middle.1 stop.1;
-      } ≡ tables_of (exchanged (bags_in t) a b c)
+      } ≡ tables_of (exchanged bags a b c)
 
 -- the same over the four runs themselves
 record Facts (t : Tables) (ws xs ys zs : List Bag) (a b c : ℕ) : Type 0 where
@@ -63,66 +64,24 @@ record Facts (t : Tables) (ws xs ys zs : List Bag) (a b c : ℕ) : Type 0 where
   pub second : b ≡ length ws + length xs
   pub third : c ≡ length ws + (length xs + length ys)
 
-module _ (t : Tables) (ws xs ys zs : List Bag) (a b c : ℕ) (f : Facts t ws xs ys zs a b c) where
-  abbrev m1 : ℕ × ℕ
-  m1 = end past_bag (0, 0) ws
-
-  abbrev m2 : ℕ × ℕ
-  m2 = end past_bag m1 xs
-
-  abbrev m3 : ℕ × ℕ
-  m3 = end past_bag m2 ys
-
-  index : Parts t.bags (begins past_bag (0, 0) ws) (begins past_bag m1 xs) (begins past_bag m2 ys) (starts past_bag m3 zs) a b c
-  index =
-      let l1 = length-begins past_bag (0, 0) ws in
-      let l2 = length-begins past_bag m1 xs in
-      let l3 = length-begins past_bag m2 ys in
-      let e1 = f.first in
-      let e2 = f.second in
-      let e3 = f.third in
-      subst (λ bags. Parts bags (begins past_bag (0, 0) ws) (begins past_bag m1 xs) (begins past_bag m2 ys) (starts past_bag m3 zs) a b c)
-      (sym (ap (λ (t : Tables). t.bags) f.same ∙ starts-parts past_bag (0, 0) ws xs ys zs))
-      (parts (begins past_bag (0, 0) ws) (begins past_bag m1 xs) (begins past_bag m2 ys) (starts past_bag m3 zs) a b c (omega arith) (omega arith) (omega arith))
-
-  at_first : get_or t.bags a (0, 0) ≡ m1
-  at_first =
-      ap (λ n. get_or t.bags n (0, 0)) f.first
-      ∙ (ap (λ (t : Tables). get_or t.bags (length ws) (0, 0)) f.same ∙ at-starts past_bag (0, 0) (0, 0) ws (xs ++ (ys ++ zs)))
-
-  at_second : get_or t.bags b (0, 0) ≡ m2
-  at_second =
-      ap (λ n. get_or t.bags n (0, 0)) (f.second ∙ sym (length-append ws xs))
-      ∙ (ap (λ (t : Tables). get_or t.bags (length (ws ++ xs)) (0, 0)) f.same
-      ∙ (ap (λ bags. get_or (starts past_bag (0, 0) bags) (length (ws ++ xs)) (0, 0)) (sym (append_assoc ws xs (ys ++ zs)))
-      ∙ (at-starts past_bag (0, 0) (0, 0) (ws ++ xs) (ys ++ zs) ∙ end-append past_bag (0, 0) ws xs)))
-
-  at_third : get_or t.bags c (0, 0) ≡ m3
-  at_third =
-      let size : c ≡ length ((ws ++ xs) ++ ys) = f.third ∙ omega (arith, length-append (ws ++ xs) ys, length-append ws xs) in
-      ap (λ n. get_or t.bags n (0, 0)) size
-      ∙ (ap (λ (t : Tables). get_or t.bags (length ((ws ++ xs) ++ ys)) (0, 0)) f.same
-      ∙ (ap (λ bags. get_or (starts past_bag (0, 0) bags) (length ((ws ++ xs) ++ ys)) (0, 0)) (sym (append_assoc (ws ++ xs) ys zs ∙ append_assoc ws xs (ys ++ zs)))
-      ∙ (at-starts past_bag (0, 0) (0, 0) ((ws ++ xs) ++ ys) zs
-      ∙ (end-append past_bag (0, 0) (ws ++ xs) ys ∙ ap (λ m. end past_bag m ys) (end-append past_bag (0, 0) ws xs)))))
-
 swap : (x y at : ℕ × ℕ) → raised x (raised y at) ≡ raised y (raised x at)
 swap x y at =
     let gens : (at.0 + y.0) + x.0 ≡ (at.0 + x.0) + y.0 = omega arith in
     let mods : (at.1 + y.1) + x.1 ≡ (at.1 + x.1) + y.1 = omega arith in
     λ i. (gens i, mods i)
 
-turn_of : (t : Tables) (ws xs ys zs : List Bag) (a b c : ℕ) → Facts t ws xs ys zs a b c
-    → exchanged (bags_in t) a b c ≡ ws ++ (ys ++ (xs ++ zs))
+turn_of : (t : Tables) (bags ws xs ys zs : List Bag) (a b c : ℕ) → Facts t ws xs ys zs a b c
+    → exchanged bags a b c ≡ ws ++ (ys ++ (xs ++ zs))
     → (start middle stop : ℕ × ℕ) → start ≡ get_or t.bags a (0, 0) → middle ≡ get_or t.bags b (0, 0) → stop ≡ get_or t.bags c (0, 0)
-    → Turn t a b c start middle stop
-turn_of t ws xs ys zs a b c f whole start middle stop e1 e2 e3 =
-    let i = index t ws xs ys zs a b c f in
-    let w1 = m1 t ws xs ys zs a b c f in
-    let w2 = m2 t ws xs ys zs a b c f in
-    let n1 : start ≡ w1 = e1 ∙ at_first t ws xs ys zs a b c f in
-    let n2 : middle ≡ w2 = e2 ∙ at_second t ws xs ys zs a b c f in
-    let n3 : stop ≡ m3 t ws xs ys zs a b c f = e3 ∙ at_third t ws xs ys zs a b c f in
+    → Turn t bags a b c start middle stop
+turn_of t bags ws xs ys zs a b c f whole start middle stop e1 e2 e3 =
+    let r = four_runs past_bag (0, 0) (0, 0) ws xs ys zs (ap (λ (t : Tables). t.bags) f.same) f.first f.second f.third in
+    let i = r.runs in
+    let w1 = end past_bag (0, 0) ws in
+    let w2 = end past_bag w1 xs in
+    let n1 : start ≡ w1 = e1 ∙ r.first in
+    let n2 : middle ≡ w2 = e2 ∙ r.second in
+    let n3 : stop ≡ end past_bag w2 ys = e3 ∙ r.third in
     let g1 : start.0 ≡ length (gens_in ws) = ap (λ (m : ℕ × ℕ). m.0) n1 ∙ (gens-end (0, 0) ws ∙ zero-add (length (gens_in ws))) in
     let d1 : start.1 ≡ length (mods_in ws) = ap (λ (m : ℕ × ℕ). m.1) n1 ∙ (mods-end (0, 0) ws ∙ zero-add (length (mods_in ws))) in
     let g2 : middle.0 ≡ start.0 + length (gens_in xs) = ap (λ (m : ℕ × ℕ). m.0) n2 ∙ (gens-end w1 xs ∙ ap (λ (m : ℕ × ℕ). m.0 + length (gens_in xs)) (sym n1)) in
@@ -160,7 +119,7 @@ turn_of t ws xs ys zs a b c f whole start middle stop e1 e2 e3 =
       last = omega arith;
       gens_rise = (omega arith, omega arith);
       mods_rise = (omega arith, omega arith);
-      bags = record { first = omega arith; second = omega arith; within = omega arith };
+      windows = record { first = omega arith; second = omega arith; within = omega arith };
       gens = record { first = omega arith; second = omega arith; within = omega arith };
       mods = record { first = omega arith; second = omega arith; within = omega arith };
       lower =
@@ -174,18 +133,23 @@ turn_of t ws xs ys zs a b c f whole start middle stop e1 e2 e3 =
       turned = new ∙ ap tables_of (sym whole);
     }
 
-pub turn : (t : Tables) (bags : List Bag) (a b c : ℕ) → AreRead t → bags_in t ≡ bags → a ≤ b → b ≤ c → c ≤ length bags
-    → (start middle stop : ℕ × ℕ) → start ≡ get_or t.bags a start → middle ≡ get_or t.bags b middle → stop ≡ get_or t.bags c stop
-    → Turn t a b c start middle stop
-turn t bags a b c are seen h1 h2 h3 start middle stop e1 e2 e3 =
-    let held = ap length seen in
-    let q = quarters (bags_in t) a b c h1 h2 (omega arith) in
-    let ws = take a (bags_in t) in
-    let xs = drop a (take b (bags_in t)) in
-    let ys = drop b (take c (bags_in t)) in
-    let zs = drop c (bags_in t) in
-    let size = ap (λ (t : Tables). length t.bags) are ∙ length-starts past_bag (0, 0) (bags_in t) in
-    turn_of t ws xs ys zs a b c (record { same = are ∙ ap tables_of q.whole; first = q.first; second = q.second; third = q.third }) refl start middle stop
+pub turn : {t : Tables} {bags : List Bag} {a b c : ℕ} → AreOf t bags → a ≤ b → b ≤ c → c ≤ length bags
+    → {start middle stop : ℕ × ℕ} → start ≡ get_or t.bags a start → middle ≡ get_or t.bags b middle → stop ≡ get_or t.bags c stop
+    → Turn t bags a b c start middle stop
+turn {t} {bags} {a} {b} {c} are h1 h2 h3 {start} {middle} {stop} e1 e2 e3 =
+    let q = quarters bags a b c h1 h2 h3 in
+    let ws = take a bags in
+    let xs = drop a (take b bags) in
+    let ys = drop b (take c bags) in
+    let zs = drop c bags in
+    let size = bags_size are in
+    turn_of t bags ws xs ys zs a b c (record { same = are.same ∙ ap tables_of q.whole; first = q.first; second = q.second; third = q.third }) refl start middle stop
     (e1 ∙ get_or_default t.bags a start (0, 0) (omega arith))
     (e2 ∙ get_or_default t.bags b middle (0, 0) (omega arith))
     (e3 ∙ get_or_default t.bags c stop (0, 0) (omega arith))
+
+pub bags_turned : {t : Tables} {bags : List Bag} {a b c : ℕ} {start middle stop : ℕ × ℕ} → Turn t bags a b c start middle stop → {index gens : List (ℕ × ℕ)} {mods : List Modulator}
+    → index ≡ changed_exchanged a b c (lowered (middle.0 - start.0, middle.1 - start.1)) (raised (stop.0 - middle.0, stop.1 - middle.1)) t.bags
+    → gens ≡ exchanged t.gens start.0 middle.0 stop.0 → mods ≡ exchanged t.mods start.1 middle.1 stop.1
+    → AreOf (record { bags = index; gens = gens; mods = mods }) (exchanged bags a b c)
+bags_turned r index gens mods = record { same = (λ i. record { bags = index i; gens = gens i; mods = mods i }) ∙ r.turned }

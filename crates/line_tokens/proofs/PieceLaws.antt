@@ -1,6 +1,6 @@
 -- The pieces of printed lines say what they were made of.
 use Rattle.std.proofs.Common.{◌≤◌, ◌≡◌, ◌<◌, ◌^◌, ◌+◌, ◌*◌, ◌-◌, ℕ, ℤ, pos, negsuc, zero, suc, Bool, true, false, List, [], ◌∷◌, ◌++◌, length, map, decimal, refl, ap, subst, ◌∙◌, append_assoc, rules, arith, inl, inr}
-use Rattle.std.specs.Prelude.{nat_le, fold, ◌&&◌, ◌||◌, ◌==◌}
+use Rattle.std.specs.Prelude.{fold, ◌||◌, ◌==◌}
 use Rattle.std.specs.Fmt.{signed_decimal}
 use Rattle.std.specs.List.{list_all, flat_map, AllByRecursion}
 use Rattle.std.proofs.lemmas.Bool.{and_parts, and_from}
@@ -38,9 +38,6 @@ word_of p x y z c q h (b ∷ w) l e =
     let hex = differs p 120 b h g.0 in
     let rest = list_all_weaker p not_blank (not_blank_of p x y z) w g.1 in
     rw (comment, quote, hex, blank, rest) refl
-
-abbrev pub is_letter : ℕ → Bool
-is_letter b = b == 45 || (nat_le 97 b && nat_le b 119)
 
 -- ---- numbers
 

@@ -1,27 +1,18 @@
 -- One request done.
-use Rattle.std.proofs.Common.{◌≡◌, ◌≤◌, ◌+◌, ◌-◌, ◌*◌, ◌^◌, ℕ, ℤ, min, List, [], ◌∷◌, ◌++◌, Option, Some, None, Result, Ok, Err, IfOk, IfErr, sym, ap, subst, append-nil, append_assoc, ◌∙◌}
+use Rattle.std.proofs.Common.{◌≡◌, ◌+◌, ◌-◌, ℕ, ℤ, List, [], ◌++◌, Option, Some, None, sym, ap, subst, append-nil, append_assoc, ◌∙◌}
 use Rattle.std.specs.List.{flat_map}
-use Rattle.std.specs.Option.{option_map_or}
 use Rattle.std.specs.Io.KnownBytes.{Appends}
 use Rattle.std.proofs.KnownBytes.{Appends-nil}
-use Rattle.bank_parts.specs.declared.parts.Parts.{Parts}
-use Rattle.edit_forms.specs.declared.edit.Edit.{Edit}
-use Rattle.edit_sessions.specs.Histories.{bank_now, way_back}
-use Rattle.mixer.specs.declared.playing.Playing.{Playing}
-use Rattle.mixer.specs.Events.{after_block, block}
 use Rattle.outputs.specs.Writing as writing
 use Rattle.wave_file.specs.Wave.{sample_bytes}
 use Rattle.live_lines.specs.declared.answer.Answer.{Answer}
 use Rattle.live_lines.specs.declared.answer.Answer.TheVariants as answer
-use Rattle.live_lines.specs.declared.paths.Paths.{Paths}
 use Rattle.live_lines.specs.declared.request.Request.{Request}
 use Rattle.live_lines.specs.declared.request.Request.TheVariants as asks
-use Rattle.live_lines.specs.declared.request.TheConstants.{MOST_FRAMES}
 use Rattle.live_sessions.specs.declared.live.Live.{Live}
-use Rattle.live_sessions.specs.declared.fault.LiveFault.{LiveFault}
 use Rattle.live_sessions.specs.declared.fault.LiveFault.TheVariants as fault
-use Rattle.live_sessions.specs.Saved.{Saved, Adds, saved_of}
-use Rattle.live_sessions.specs.Steps.{RequestIs, FramesAre, FramesStop, SaveIs, StopsIn, Does, after_frames, block_if, frames_of, saves_of, saves_if}
+use Rattle.live_sessions.specs.Saved.{Saved, Adds}
+use Rattle.live_sessions.specs.Steps.{RequestIs, Does, frames_of, saves_of}
 
 pub adds_nothing : (saved : Option (List Saved)) → Adds saved saved []
 adds_nothing None = tt

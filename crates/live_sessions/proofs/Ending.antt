@@ -6,18 +6,15 @@ use Rattle.std.proofs.KnownBytes.{Appends-nil, Appends-trans}
 use Rattle.std.proofs.lemmas.Grind.{flat_map-append}
 use Rattle.std.proofs.lemmas.List.{map-append}
 use Rattle.line_tokens.specs.Lines.{lines_of}
-use Rattle.bank_parts.specs.declared.parts.Parts.{Parts}
 use Rattle.bank_format.specs.declared.fault.Counts.{Counts}
-use Rattle.bank_format.specs.ReadSteps.{ReadsAs}
 use Rattle.live_sessions.specs.declared.live.Live.{Live}
 use Rattle.live_sessions.specs.declared.requests.Next.{Next}
 use Rattle.live_sessions.specs.declared.requests.Next.TheVariants as next
 use Rattle.live_sessions.specs.declared.fault.LiveFault.{LiveFault}
 use Rattle.live_sessions.specs.declared.fault.LiveFault.TheVariants as fault
 use Rattle.live_sessions.specs.Saved.{Saved, Adds}
-use Rattle.live_sessions.specs.Steps.{started_with}
 use Rattle.live_sessions.specs.Turns.{LineIs, Turn, Around, asked, text_in, bytes_in, saves_in, ends_in, AreTurns, Reads, Passes, Passed}
-use Rattle.live_sessions.specs.Runs.{OnlyReads, EndsWell, EndsBy, Plays, Runs, AnswersOr, GoesOn, Goes, IsReadFault}
+use Rattle.live_sessions.specs.Runs.{OnlyReads, EndsWell, EndsBy, Plays, AnswersOr, GoesOn, Goes, IsReadFault}
 use Rattle.live_sessions.proofs.Doing.{adds_nothing, adds_then}
 use Rattle.live_sessions.proofs.Turning.{around}
 

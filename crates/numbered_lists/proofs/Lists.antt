@@ -1,5 +1,5 @@
 -- One list: an insertion, a removal, a move, an exchange, a change, and what takes each back.
-use Rattle.std.proofs.Common.{◌≡◌, ℕ, ◌<◌, ◌≤◌, suc, zero, List, [], ◌∷◌, length, map, insert, remove, slice_get, slice_set, All, Some, None, refl, sym, ◌∙◌, ap, subst, take, drop, arith}
+use Rattle.std.proofs.Common.{◌≡◌, ℕ, ◌<◌, ◌≤◌, suc, zero, List, [], ◌∷◌, length, map, insert, remove, slice_get, slice_set, All, Some, None, refl, sym, ◌∙◌, ap, take, drop, arith}
 use Rattle.std.proofs.lemmas.List.{length-map}
 use Rattle.std.proofs.lemmas.List.Edits.{length-insert, length-remove}
 use Rattle.std.proofs.lemmas.List.Elements.{All-append, All-take, All-drop, All-head, All-tail, All-cons}
@@ -156,10 +156,6 @@ map-slice_set f [] i x = refl
 map-slice_set f (y ∷ ys) zero x = refl
 map-slice_set f (y ∷ ys) (suc i) x = ap (λ zs. f y ∷ zs) (map-slice_set f ys i x)
 
-pub map-same : {X : Type 0} (f : X → X) (xs : List X) → All (λ x. f x ≡ x) xs → map f xs ≡ xs
-map-same f [] h = refl
-map-same f (x ∷ xs) h = λ i. All-head (λ x. f x ≡ x) x xs h i ∷ map-same f xs (All-tail (λ x. f x ≡ x) x xs h) i
-
 pub map-undone : {X : Type 0} (f g : X → X) (xs : List X) → All (λ x. g (f x) ≡ x) xs → map g (map f xs) ≡ xs
 map-undone f g [] h = refl
 map-undone f g (x ∷ xs) h = λ i. All-head (λ x. g (f x) ≡ x) x xs h i ∷ map-undone f g xs (All-tail (λ x. g (f x) ≡ x) x xs h) i
@@ -180,11 +176,6 @@ moved-back-numbered xs i j f g h k same =
     ap (map g) (sym (map-moved f (moved xs i j) j i (omega arith)) ∙ ap (map f) (moved-back xs i j h k)) ∙ map-undone f g xs same
 
 -- What holds of every member
-
-pub All-found : {X : Type 0} (P : X → Type 0) (xs : List X) (i : ℕ) (x : X) → slice_get xs i ≡ Some x → All P xs → P x
-All-found P [] i x e a = cc
-All-found P (y ∷ ys) zero x e a = let same : y ≡ x = cc in subst P same (All-head P y ys a)
-All-found P (y ∷ ys) (suc i) x e a = All-found P ys i x e (All-tail P y ys a)
 
 pub All-insert : {X : Type 0} (P : X → Type 0) (xs : List X) (i : ℕ) (x : X) → P x → All P xs → All P (insert xs i x)
 All-insert P xs i x h a = All-append P (take i xs) (x ∷ drop i xs) (All-take P i xs a) (All-cons P x (drop i xs) h (All-drop P i xs a))

@@ -9,44 +9,42 @@ use Rattle.numbered_lists.specs.Moved.{moved, changed}
 use Rattle.numbered_lists.proofs.Lists.{moved-found, remove-insert, slice_get-found, slice_get-changed, changed-found, slice_set_same}
 use Rattle.flat_records.specs.Runs.{starts}
 use Rattle.flat_records.specs.Bags.{Bag}
+use Rattle.flat_records.proofs.Spots.{found}
 use Rattle.flat_records.proofs.Starts.{starts-put, starts-cut}
+use Rattle.flat_records.proofs.TableLaws.{among, removed}
 use Rattle.owner_bags.specs.Owned.{Flat, past_owner, all_bags, flat_of, bag_at}
-use Rattle.owner_bags.proofs.Owners.{among}
-use Rattle.owner_bags.proofs.Places.{found_list}
+use Rattle.owner_bags.proofs.Owners.{AreOf, begin_read}
 
 none-among : (front back : List (List Bag)) → all_bags (front ++ [] ∷ back) ≡ all_bags (front ++ back)
 none-among front back = flat_map-append (λ (bags : List Bag). bags) front ([] ∷ back) ∙ sym (flat_map-append (λ (bags : List Bag). bags) front back)
 
-pub owner_put : (t : Flat) (owners : List (List Bag)) (i : ℕ) → t ≡ flat_of owners → i ≤ length owners
-    → record { begins = insert t.begins i (get_or t.begins i 0); bags = t.bags } ≡ flat_of (insert owners i [])
-owner_put t owners i e h =
+pub owner_put : {t : Flat} {owners : List (List Bag)} → AreOf t owners → (i : ℕ) → i ≤ length owners → {at : ℕ} {new : List ℕ} → at ≡ get_or t.begins i at → new ≡ insert t.begins i at
+    → AreOf (record { begins = new; bags = t.bags }) (insert owners i [])
+owner_put {t} {owners} are i h {at} {new} e f =
     let front = take i owners in
     let back = drop i owners in
-    let same : t ≡ flat_of (front ++ back) = e ∙ ap flat_of (sym (take-append-drop i owners)) in
+    let same : t ≡ flat_of (front ++ back) = are.same ∙ ap flat_of (sym (take-append-drop i owners)) in
     let before : i ≡ length front = sym (length-take-le i owners h) in
-    let begins : insert t.begins i (get_or t.begins i 0) ≡ starts past_owner 0 (front ++ [] ∷ back) =
-    ap (λ (t : Flat). insert t.begins i (get_or t.begins i 0)) same
+    let begins : new ≡ starts past_owner 0 (front ++ [] ∷ back) =
+    f ∙ (ap (insert t.begins i) (begin_read are i h e)
+    ∙ (ap (λ (t : Flat). insert t.begins i (get_or t.begins i 0)) same
     ∙ (ap (λ n. insert (starts past_owner 0 (front ++ back)) n (get_or (starts past_owner 0 (front ++ back)) n 0)) before
-    ∙ starts-put past_owner 0 0 front [] back (λ m. add-zero m)) in
+    ∙ starts-put past_owner 0 0 front [] back (λ m. add-zero m)))) in
     let bags : t.bags ≡ all_bags (front ++ [] ∷ back) = ap (λ (t : Flat). t.bags) same ∙ sym (none-among front back) in
-    λ k. record { begins = begins k; bags = bags k }
+    record { same = λ k. record { begins = begins k; bags = bags k } }
 
-removed : (front : List (List Bag)) (xs : List Bag) (back : List (List Bag)) → remove (front ++ xs ∷ back) (length front) ≡ front ++ back
-removed [] xs back = refl
-removed (ys ∷ os) xs back = ap (λ zs. ys ∷ zs) (removed os xs back)
-
-pub owner_cut : (t : Flat) (owners : List (List Bag)) (i : ℕ) → t ≡ flat_of owners → slice_get owners i ≡ Some []
-    → record { begins = remove t.begins i; bags = t.bags } ≡ flat_of (remove owners i)
-owner_cut t owners i e there =
+pub owner_cut : {t : Flat} {owners : List (List Bag)} → AreOf t owners → (i : ℕ) → slice_get owners i ≡ Some [] → {new : List ℕ} → new ≡ remove t.begins i
+    → AreOf (record { begins = new; bags = t.bags }) (remove owners i)
+owner_cut {t} {owners} are i there {new} f =
     let a = among owners i [] there in
-    let same : t ≡ flat_of (a.front ++ [] ∷ a.back) = e ∙ ap flat_of a.whole in
-    let begins : remove t.begins i ≡ starts past_owner 0 (a.front ++ a.back) =
-    ap (λ (t : Flat). remove t.begins i) same
+    let same : t ≡ flat_of (a.front ++ [] ∷ a.back) = are.same ∙ ap flat_of a.whole in
+    let begins : new ≡ starts past_owner 0 (a.front ++ a.back) =
+    f ∙ (ap (λ (t : Flat). remove t.begins i) same
     ∙ (ap (λ n. remove (starts past_owner 0 (a.front ++ [] ∷ a.back)) n) (sym a.before)
-    ∙ starts-cut past_owner 0 a.front [] a.back (λ m. add-zero m)) in
+    ∙ starts-cut past_owner 0 a.front [] a.back (λ m. add-zero m))) in
     let bags : t.bags ≡ all_bags (a.front ++ a.back) = ap (λ (t : Flat). t.bags) same ∙ none-among a.front a.back in
     let without : remove owners i ≡ a.front ++ a.back = ap (λ os. remove os i) a.whole ∙ (ap (remove (a.front ++ [] ∷ a.back)) (sym a.before) ∙ removed a.front [] a.back) in
-    (λ k. record { begins = begins k; bags = bags k }) ∙ ap flat_of (sym without)
+    record { same = (λ k. record { begins = begins k; bags = bags k }) ∙ ap flat_of (sym without) }
 
 -- ---- the bags of one owner, the last one first
 
@@ -76,7 +74,7 @@ all_left owners i n h e =
 
 pub one_fewer : (owners new next : List (List Bag)) (i n m : ℕ) → IsLeft owners new i n → n ≡ suc m → next ≡ changed new i (λ bags. remove bags m) → IsLeft owners next i m
 one_fewer owners new next i n m l e f =
-    let (xs, there, within) = found_list (λ (bags : List Bag). n ≤ length bags) (slice_get owners i) l.within in
+    let (xs, there, within) = found (λ (bags : List Bag). n ≤ length bags) (slice_get owners i) l.within in
     let now : slice_get new i ≡ Some (take n xs) = ap (λ os. slice_get os i) l.gone ∙ slice_get-changed owners i (λ bags. take n bags) xs there in
     let kept : remove (take n xs) m ≡ take m xs = ap (λ n. remove (take n xs) m) e ∙ remove-take xs m (omega arith) in
     record {
@@ -91,7 +89,7 @@ one_fewer owners new next i n m l e f =
 
 pub last_left : (owners new : List (List Bag)) (i n m : ℕ) → IsLeft owners new i n → n ≡ suc m → IsSome (bag_at new i m)
 last_left owners new i n m l e =
-    let (xs, there, within) = found_list (λ (bags : List Bag). n ≤ length bags) (slice_get owners i) l.within in
+    let (xs, there, within) = found (λ (bags : List Bag). n ≤ length bags) (slice_get owners i) l.within in
     let now : slice_get new i ≡ Some (take n xs) = ap (λ os. slice_get os i) l.gone ∙ slice_get-changed owners i (λ bags. take n bags) xs there in
     let (b, found) = slice_get-found (take n xs) m (omega (arith, length-take n xs)) in
     ap (λ o. is_some (option_and_then (λ (bags : List Bag). slice_get bags m) o)) now ∙ ap is_some found

@@ -1,11 +1,12 @@
 -- Places that begin at 0 and rise up to the number of bags are those of the owners that are read of them, and the
 -- places of owners are such.
 use Rattle.std.proofs.Common.{◌≡◌, ℕ, ◌<◌, ◌≤◌, ◌+◌, ◌-◌, suc, zero, List, [], ◌∷◌, ◌++◌, length, slice_get, Some, refl, subst, sym, ◌∙◌, ap, take, drop, get_or, length-take, length-drop, zero-add, arith}
-use Rattle.std.proofs.Math.Seq.{take-add, take-length}
+use Rattle.std.proofs.Math.Seq.{take-length}
 use Rattle.flat_records.specs.Runs.{starts}
 use Rattle.flat_records.specs.Bags.{Bag, Tables, tables_of}
 use Rattle.flat_records.specs.Tables.{AreTables}
-use Rattle.flat_records.proofs.Starts.{end, length-starts}
+use Rattle.flat_records.proofs.Starts.{end, length-starts, starts-first, starts-end}
+use Rattle.flat_records.proofs.Ends.{last_of, last-found, some-first, joined}
 use Rattle.flat_records.proofs.Converse.{bags_tables}
 use Rattle.flat_records.proofs.TableLaws as tables
 use Rattle.owner_bags.specs.Owned.{Flat, past_owner, all_bags, flat_of, owners_from, owners_of_records, owners_in, AreRead}
@@ -13,10 +14,6 @@ use Rattle.owner_bags.specs.Begins.{AreFlat, Rises, AreBegins}
 use Rattle.owner_bags.proofs.Owners.{owners-back, owners-end}
 
 -- ---- the owners of places that rise
-
-abbrev last_of : ℕ → List ℕ → ℕ
-last_of at [] = at
-last_of at (next ∷ rest) = last_of next rest
 
 -- what the owners from `at` on need of the bags
 record From (at : ℕ) (rest : List ℕ) (bags : List Bag) : Type 0 where
@@ -55,11 +52,6 @@ starts-from at (next ∷ rest) bags f =
     (λ i. at ∷ starts past_owner (n i) (owners_from next rest (drop (next - at) bags)))
     ∙ ap (λ ms. at ∷ ms) (starts-from next rest (drop (next - at) bags) (next_from at next rest bags f))
 
-joined : {X : Type 0} (xs : List X) (a b c : ℕ) → a ≤ b → b ≤ c → take (b - a) xs ++ take (c - b) (drop (b - a) xs) ≡ take (c - a) xs
-joined xs a b c h1 h2 =
-    let n : (b - a) + (c - b) ≡ c - a = omega arith in
-    sym (take-add (b - a) (c - b) xs) ∙ ap (λ n. take n xs) n
-
 bags-from : (at : ℕ) (rest : List ℕ) (bags : List Bag) → From at rest bags → all_bags (owners_from at rest bags) ≡ take (last_of at rest - at) bags
 bags-from at [] bags f = let n : at - at ≡ 0 = omega arith in ap (λ n. take n bags) (sym n)
 bags-from at (next ∷ rest) bags f =
@@ -68,19 +60,9 @@ bags-from at (next ∷ rest) bags f =
     ap (λ xs. take (next - at) bags ++ xs) (bags-from next rest (drop (next - at) bags) (next_from at next rest bags f))
     ∙ joined bags at next (last_of next rest) first more
 
-last-found : (at : ℕ) (rest : List ℕ) (n m : ℕ) → length rest ≡ n → slice_get (at ∷ rest) n ≡ Some m → last_of at rest ≡ m
-last-found at [] zero m h e = cc
-last-found at [] (suc n) m h e = absurd (omega arith)
-last-found at (next ∷ rest) zero m h e = absurd (omega arith)
-last-found at (next ∷ rest) (suc n) m h e = last-found next rest n m (omega arith) e
-
-some-first : (places : List ℕ) → slice_get places 0 ≡ Some 0 → (rest : List ℕ) × (places ≡ 0 ∷ rest)
-some-first [] e = cc
-some-first (p ∷ ps) e = let same : p ≡ 0 = cc in (ps, ap (λ p. p ∷ ps) same)
-
 pub begins_read : (places : List ℕ) (bags : List Bag) → AreBegins places (length bags) → AreRead (record { begins = places; bags = bags })
 begins_read places bags are =
-    let s = some-first places are.first in
+    let s = some-first places 0 are.first in
     let rest = s.0 in
     let split : places ≡ 0 ∷ rest = s.1 in
     let size : length places ≡ suc (length rest) = ap length split in
@@ -100,10 +82,6 @@ begins_read places bags are =
 
 -- ---- the places of owners
 
-starts-end : (at : ℕ) (owners : List (List Bag)) → slice_get (starts past_owner at owners) (length owners) ≡ Some (end past_owner at owners)
-starts-end at [] = refl
-starts-end at (xs ∷ os) = starts-end (past_owner at xs) os
-
 starts-rise : (at : ℕ) (owners : List (List Bag)) (k : ℕ) → k + 1 < length (starts past_owner at owners) → Rises (starts past_owner at owners) k
 starts-rise at [] k h = absurd (omega arith)
 starts-rise at (xs ∷ []) zero h = omega arith
@@ -113,18 +91,14 @@ starts-rise at (xs ∷ os) (suc k) h =
     let rest = starts past_owner (past_owner at xs) os in
     subst (λ n. get_or rest k 0 ≤ get_or (at ∷ rest) n 0) n (starts-rise (past_owner at xs) os k (omega arith))
 
-starts-first : (owners : List (List Bag)) → slice_get (starts past_owner 0 owners) 0 ≡ Some 0
-starts-first [] = refl
-starts-first (xs ∷ os) = refl
-
 pub owners_begin : (owners : List (List Bag)) → AreBegins (starts past_owner 0 owners) (length (all_bags owners))
 owners_begin owners =
     let n : length (starts past_owner 0 owners) - 1 ≡ length owners = omega (arith, length-starts past_owner 0 owners) in
     let last : end past_owner 0 owners ≡ length (all_bags owners) = owners-end 0 owners ∙ zero-add (length (all_bags owners)) in
     record {
-      first = starts-first owners;
+      first = starts-first past_owner 0 owners;
       rising = starts-rise 0 owners;
-      last = ap (slice_get (starts past_owner 0 owners)) n ∙ (starts-end 0 owners ∙ ap Some last);
+      last = ap (slice_get (starts past_owner 0 owners)) n ∙ (starts-end past_owner 0 owners ∙ ap Some last);
     }
 
 -- ---- both lists

@@ -3,7 +3,8 @@ use Rattle.std.proofs.Common.{◌≡◌, ℕ, ◌+◌, List, [], ◌∷◌, ◌+
 use Rattle.std.proofs.lemmas.List.{length-map, map-append}
 use Rattle.flat_records.specs.Runs.{starts}
 use Rattle.flat_records.specs.Bags.{Bag}
-use Rattle.owner_bags.specs.Owned.{Flat, past_owner, all_bags, flat_of}
+use Rattle.owner_bags.specs.Owned.{Flat, past_owner, all_bags}
+use Rattle.owner_bags.proofs.Owners.{AreOf}
 
 module _ (f : Bag → Bag) where
   starts_stay : (at : ℕ) (owners : List (List Bag)) → starts past_owner at (map (map f) owners) ≡ starts past_owner at owners
@@ -14,8 +15,8 @@ module _ (f : Bag → Bag) where
   bags_follow [] = refl
   bags_follow (xs ∷ os) = ap (λ bs. map f xs ++ bs) (bags_follow os) ∙ sym (map-append f xs (all_bags os))
 
-  pub each_sent : (t : Flat) (owners : List (List Bag)) (new : List Bag) → t ≡ flat_of owners → new ≡ map f t.bags → record { begins = t.begins; bags = new } ≡ flat_of (map (map f) owners)
-  each_sent t owners new e n =
-      let begins = ap (λ (t : Flat). t.begins) e ∙ sym (starts_stay 0 owners) in
-      let bags = n ∙ (ap (λ (t : Flat). map f t.bags) e ∙ sym (bags_follow owners)) in
-      λ i. record { begins = begins i; bags = bags i }
+  pub each_sent : {t : Flat} {owners : List (List Bag)} → AreOf t owners → {new : List Bag} → new ≡ map f t.bags → AreOf (record { begins = t.begins; bags = new }) (map (map f) owners)
+  each_sent {t} {owners} are n =
+      let begins = ap (λ (t : Flat). t.begins) are.same ∙ sym (starts_stay 0 owners) in
+      let bags = n ∙ (ap (λ (t : Flat). map f t.bags) are.same ∙ sym (bags_follow owners)) in
+      record { same = λ i. record { begins = begins i; bags = bags i } }

@@ -1,11 +1,17 @@
 -- The flat lists of owners, read back and changed.
-use Rattle.std.proofs.Common.{◌≡◌, ℕ, ◌<◌, ◌+◌, ◌-◌, suc, zero, List, [], ◌∷◌, ◌++◌, length, slice_get, set, Some, refl, sym, ◌∙◌, ap, get_or, append-nil, append_assoc, length-append, zero-add, arith}
-use Rattle.std.proofs.lemmas.List.{take_at, drop_at, set_at}
+use Rattle.std.proofs.Common.{◌≡◌, ℕ, ◌<◌, ◌≤◌, ◌+◌, ◌-◌, suc, List, [], ◌∷◌, ◌++◌, length, slice_get, set, Some, refl, sym, subst, ◌∙◌, ap, get_or, append-nil, append_assoc, length-append, zero-add, arith}
+use Rattle.std.specs.Option.{IfSome}
+use Rattle.std.proofs.lemmas.List.{take_at, drop_at, set_at, get_or_default}
 use Rattle.std.proofs.lemmas.List.Concat.{flat_map-append}
+use Rattle.numbered_lists.specs.Moved.{changed}
+use Rattle.numbered_lists.proofs.Lists.{slice_get-found, changed-found}
 use Rattle.flat_records.specs.Runs.{starts, changed_from}
 use Rattle.flat_records.specs.Bags.{Bag}
+use Rattle.flat_records.specs.Stored.{Counts}
 use Rattle.flat_records.proofs.Starts.{end, at-starts, next-starts, length-starts, starts-replaced, starts-same, changed_from-undone}
+use Rattle.flat_records.proofs.TableLaws.{among}
 use Rattle.owner_bags.specs.Owned.{Flat, past_owner, all_bags, flat_of, owners_from, owners_of_records, owners_in, AreRead}
+use Rattle.owner_bags.specs.Stored.{Stored}
 
 -- ---- read back
 
@@ -24,14 +30,19 @@ back-from at (xs ∷ (ys ∷ zs)) rest =
 pub owners-back : (owners : List (List Bag)) → owners_in (flat_of owners) ≡ owners
 owners-back owners = ap (owners_of_records (starts past_owner 0 owners)) (sym (append-nil (all_bags owners))) ∙ back-from 0 owners []
 
-pub read : (t : Flat) (owners : List (List Bag)) → t ≡ flat_of owners → owners_in t ≡ owners
-read t owners e = ap owners_in e ∙ owners-back owners
+-- the lists are those of these owners
+pub record AreOf (t : Flat) (owners : List (List Bag)) : Type 0 where
+  pub same : t ≡ flat_of owners
 
-pub are_read : (t : Flat) (owners : List (List Bag)) → t ≡ flat_of owners → AreRead t
-are_read t owners e = e ∙ ap flat_of (sym (read t owners e))
+pub read : {t : Flat} {owners : List (List Bag)} → AreOf t owners → owners_in t ≡ owners
+read {t} {owners} a = ap owners_in a.same ∙ owners-back owners
 
-pub held : (t : Flat) (owners : List (List Bag)) → AreRead t → owners_in t ≡ owners → t ≡ flat_of owners
-held t owners are seen = are ∙ ap flat_of seen
+pub are_read : {t : Flat} {owners : List (List Bag)} → AreOf t owners → AreRead t
+are_read a = a.same ∙ ap flat_of (sym (read a))
+
+-- so the fields of `self` are of the owners of its value
+pub held : {t : Flat} {spare : Counts} {count : ℕ} {s : Stored} → AreRead t → record { owners = owners_in t; spare = spare; spare_owners = count } ≡ s → AreOf t s.owners
+held are seen = record { same = are ∙ ap (λ (s : Stored). flat_of s.owners) seen }
 
 -- ---- sizes
 
@@ -39,23 +50,10 @@ pub owners-end : (at : ℕ) (owners : List (List Bag)) → end past_owner at own
 owners-end at [] = omega arith
 owners-end at (xs ∷ os) = let h = owners-end (past_owner at xs) os in let e = length-append xs (all_bags os) in omega arith
 
-pub begins_size : (t : Flat) (owners : List (List Bag)) → t ≡ flat_of owners → length t.begins ≡ length owners + 1
-begins_size t owners e = ap (λ (t : Flat). length t.begins) e ∙ (length-starts past_owner 0 owners ∙ omega arith)
+pub begins_size : {t : Flat} {owners : List (List Bag)} → AreOf t owners → length t.begins ≡ length owners + 1
+begins_size {t} {owners} a = ap (λ (t : Flat). length t.begins) a.same ∙ (length-starts past_owner 0 owners ∙ omega arith)
 
 -- ---- one owner among the others
-
-pub record Among (owners : List (List Bag)) (i : ℕ) (xs : List Bag) : Type 0 where
-  pub front : List (List Bag)
-  pub back : List (List Bag)
-  pub whole : owners ≡ front ++ xs ∷ back
-  pub before : length front ≡ i
-
-pub among : (owners : List (List Bag)) (i : ℕ) (xs : List Bag) → slice_get owners i ≡ Some xs → Among owners i xs
-among [] i xs e = cc
-among (ys ∷ os) zero xs e = record { front = []; back = os; whole = cc; before = refl }
-among (ys ∷ os) (suc i) xs e =
-    let a = among os i xs e in
-    record { front = ys ∷ a.front; back = a.back; whole = ap (λ zs. ys ∷ zs) a.whole; before = ap suc a.before }
 
 -- where the bags of owner i stand
 pub record Begin (t : Flat) (owners : List (List Bag)) (i : ℕ) (xs : List Bag) : Type 0 where
@@ -67,12 +65,12 @@ pub record Begin (t : Flat) (owners : List (List Bag)) (i : ℕ) (xs : List Bag)
   pub next : get_or t.begins (i + 1) 0 ≡ length (all_bags front) + length xs
   pub more : i + 1 < length t.begins
   pub bags : t.bags ≡ all_bags front ++ (xs ++ all_bags back)
-  pub changed : (ys : List Bag) → set owners i ys ≡ front ++ ys ∷ back
+  pub sent : (f : List Bag → List Bag) → changed owners i f ≡ front ++ f xs ∷ back
 
-pub begin : (t : Flat) (owners : List (List Bag)) (i : ℕ) (xs : List Bag) → t ≡ flat_of owners → slice_get owners i ≡ Some xs → Begin t owners i xs
-begin t owners i xs e there =
+pub begin : {t : Flat} {owners : List (List Bag)} {xs : List Bag} → AreOf t owners → (i : ℕ) → slice_get owners i ≡ Some xs → Begin t owners i xs
+begin {t} {owners} {xs} are i there =
     let a = among owners i xs there in
-    let same : t ≡ flat_of (a.front ++ xs ∷ a.back) = e ∙ ap flat_of a.whole in
+    let same : t ≡ flat_of (a.front ++ xs ∷ a.back) = are.same ∙ ap flat_of a.whole in
     let place : i + 1 ≡ suc (length a.front) = let before = a.before in omega arith in
     let size : length t.begins ≡ suc (length (a.front ++ xs ∷ a.back)) = ap (λ (t : Flat). length t.begins) same ∙ length-starts past_owner 0 (a.front ++ xs ∷ a.back) in
     let sizes = length-append a.front (xs ∷ a.back) in
@@ -93,42 +91,57 @@ begin t owners i xs e there =
           ∙ (next-starts past_owner 0 0 a.front xs a.back ∙ ap (λ n. n + length xs) last));
       more = omega arith;
       bags = ap (λ (t : Flat). t.bags) same ∙ flat_map-append (λ (bags : List Bag). bags) a.front (xs ∷ a.back);
-      changed = λ ys. ap (λ owners. set owners i ys) a.whole ∙ set_at a.front xs a.back ys i a.before;
+      sent = λ f. changed-found owners i f xs there ∙ (ap (λ owners. set owners i (f xs)) a.whole ∙ set_at a.front xs a.back (f xs) i a.before);
     }
 
--- ---- the bags of one owner changed
+-- ---- what indexing of the places asks and gives
 
-module _ (t : Flat) (owners : List (List Bag)) (i : ℕ) (xs : List Bag) (b : Begin t owners i xs) (ys new : List Bag) (whole : new ≡ all_bags b.front ++ (ys ++ all_bags b.back)) where
-  new_bags : new ≡ all_bags (b.front ++ ys ∷ b.back)
-  new_bags = whole ∙ sym (flat_map-append (λ (bags : List Bag). bags) b.front (ys ∷ b.back))
+pub begin_there : {t : Flat} {owners : List (List Bag)} → AreOf t owners → {i n : ℕ} → i ≤ length owners → n ≡ length t.begins → i < n
+begin_there a h e = let size = begins_size a in omega arith
+
+pub begin_read : {t : Flat} {owners : List (List Bag)} → AreOf t owners → (i : ℕ) → i ≤ length owners → {at : ℕ} → at ≡ get_or t.begins i at → at ≡ get_or t.begins i 0
+begin_read {t} a i h {at} e = let size = begins_size a in e ∙ get_or_default t.begins i at 0 (omega arith)
+
+pub bags_between : {t : Flat} {owners : List (List Bag)} → AreOf t owners → (i : ℕ) → i < length owners → {first next : ℕ} → first ≡ get_or t.begins i first → next ≡ get_or t.begins (i + 1) next
+    → (first ≤ next) × IfSome (slice_get owners i) (λ (bags : List Bag). next - first ≡ length bags)
+bags_between {t} {owners} a i h {first} {next} e f =
+    let (xs, there) = slice_get-found owners i h in
+    let b = begin a i there in
+    let at = begin_read a i (omega arith) e ∙ b.at in
+    let past = begin_read a (i + 1) (omega arith) f ∙ b.next in
+    let size : next - first ≡ length xs = omega arith in
+    (omega arith, subst (λ o. IfSome o (λ (bags : List Bag). next - first ≡ length bags)) (sym there) size)
+
+-- ---- the bags of one owner sent through f
+
+module _ {t : Flat} {owners : List (List Bag)} {i : ℕ} {xs : List Bag} (b : Begin t owners i xs) (f : List Bag → List Bag) {new : List Bag} (whole : new ≡ all_bags b.front ++ (f xs ++ all_bags b.back)) where
+  rebuilt : {begins : List ℕ} → begins ≡ starts past_owner 0 (b.front ++ f xs ∷ b.back) → AreOf (record { begins = begins; bags = new }) (changed owners i f)
+  rebuilt e =
+      let bags = whole ∙ sym (flat_map-append (λ (bags : List Bag). bags) b.front (f xs ∷ b.back)) in
+      record { same = (λ j. record { begins = e j; bags = bags j }) ∙ ap flat_of (sym (b.sent f)) }
 
   place : i + 1 ≡ suc (length b.front)
   place = let before = b.before in omega arith
 
   -- as many
-  pub bags_kept : length xs ≡ length ys → record { begins = t.begins; bags = new } ≡ flat_of (set owners i ys)
-  bags_kept size =
-      let begins : t.begins ≡ starts past_owner 0 (b.front ++ ys ∷ b.back) =
-      ap (λ (t : Flat). t.begins) b.same ∙ starts-same past_owner 0 b.front xs ys b.back (λ m. ap (λ n. m + n) size) in
-      (λ j. record { begins = begins j; bags = new_bags j }) ∙ ap flat_of (sym (b.changed ys))
+  pub bags_kept : length (f xs) ≡ length xs → AreOf (record { begins = t.begins; bags = new }) (changed owners i f)
+  bags_kept size = rebuilt (ap (λ (t : Flat). t.begins) b.same ∙ starts-same past_owner 0 b.front xs (f xs) b.back (λ m. ap (λ n. m + n) (sym size)))
 
   -- n more
-  pub bags_put : (n : ℕ) → length ys ≡ length xs + n → record { begins = changed_from (i + 1) (λ at. at + n) t.begins; bags = new } ≡ flat_of (set owners i ys)
-  bags_put n size =
-      let begins : changed_from (i + 1) (λ at. at + n) t.begins ≡ starts past_owner 0 (b.front ++ ys ∷ b.back) =
-      ap (λ p. changed_from p (λ at. at + n) t.begins) place
+  pub bags_put : (n : ℕ) → length (f xs) ≡ length xs + n → {begins : List ℕ} → begins ≡ changed_from (i + 1) (λ at. at + n) t.begins → AreOf (record { begins = begins; bags = new }) (changed owners i f)
+  bags_put n size e =
+      rebuilt
+      (e ∙ (ap (λ p. changed_from p (λ at. at + n) t.begins) place
       ∙ (ap (λ (t : Flat). changed_from (suc (length b.front)) (λ at. at + n) t.begins) b.same
-      ∙ starts-replaced past_owner (λ at. at + n) (λ m x. omega arith) 0 b.front xs ys b.back (λ m. omega arith)) in
-      (λ j. record { begins = begins j; bags = new_bags j }) ∙ ap flat_of (sym (b.changed ys))
+      ∙ starts-replaced past_owner (λ at. at + n) (λ m x. omega arith) 0 b.front xs (f xs) b.back (λ m. omega arith))))
 
   -- n fewer
-  pub bags_cut : (n : ℕ) → length xs ≡ length ys + n → record { begins = changed_from (i + 1) (λ at. at - n) t.begins; bags = new } ≡ flat_of (set owners i ys)
-  bags_cut n size =
-      let back : starts past_owner 0 (b.front ++ xs ∷ b.back) ≡ changed_from (suc (length b.front)) (λ at. at + n) (starts past_owner 0 (b.front ++ ys ∷ b.back)) =
-      sym (starts-replaced past_owner (λ at. at + n) (λ m x. omega arith) 0 b.front ys xs b.back (λ m. omega arith)) in
-      let begins : changed_from (i + 1) (λ at. at - n) t.begins ≡ starts past_owner 0 (b.front ++ ys ∷ b.back) =
-      ap (λ p. changed_from p (λ at. at - n) t.begins) place
+  pub bags_cut : (n : ℕ) → length xs ≡ length (f xs) + n → {begins : List ℕ} → begins ≡ changed_from (i + 1) (λ at. at - n) t.begins → AreOf (record { begins = begins; bags = new }) (changed owners i f)
+  bags_cut n size e =
+      let back : starts past_owner 0 (b.front ++ xs ∷ b.back) ≡ changed_from (suc (length b.front)) (λ at. at + n) (starts past_owner 0 (b.front ++ f xs ∷ b.back)) =
+      sym (starts-replaced past_owner (λ at. at + n) (λ m x. omega arith) 0 b.front (f xs) xs b.back (λ m. omega arith)) in
+      rebuilt
+      (e ∙ (ap (λ p. changed_from p (λ at. at - n) t.begins) place
       ∙ (ap (λ (t : Flat). changed_from (suc (length b.front)) (λ at. at - n) t.begins) b.same
       ∙ (ap (changed_from (suc (length b.front)) (λ at. at - n)) back
-      ∙ changed_from-undone (λ at. at + n) (λ at. at - n) (λ m. omega arith) (suc (length b.front)) (starts past_owner 0 (b.front ++ ys ∷ b.back)))) in
-      (λ j. record { begins = begins j; bags = new_bags j }) ∙ ap flat_of (sym (b.changed ys))
+      ∙ changed_from-undone (λ at. at + n) (λ at. at - n) (λ m. omega arith) (suc (length b.front)) (starts past_owner 0 (b.front ++ f xs ∷ b.back))))))

@@ -1,17 +1,19 @@
 -- Owners that change places, and bags of one owner that do.
-use Rattle.std.proofs.Common.{◌≡◌, ℕ, ◌<◌, ◌≤◌, ◌+◌, ◌-◌, ◌^◌, suc, List, [], ◌∷◌, ◌++◌, length, map, All, insert, remove, slice_get, Some, refl, sym, subst, ◌∙◌, ap, take, drop, get_or, append_assoc, length-append, zero-add, add-one, zero, arith}
+use Rattle.std.proofs.Common.{◌≡◌, ℕ, ◌<◌, ◌≤◌, ◌+◌, ◌-◌, ◌^◌, suc, List, [], ◌∷◌, ◌++◌, length, map, All, insert, remove, slice_get, Some, refl, sym, subst, ◌∙◌, ap, take, drop, get_or, length-append, zero-add, add-one, zero, arith}
 use Rattle.std.specs.Option.{IsSomeAnd}
 use Rattle.std.proofs.lemmas.List.Concat.{flat_map-append}
 use Rattle.std.proofs.lemmas.List.Edits.{length-remove}
 use Rattle.numbered_lists.specs.Moved.{moved, changed}
-use Rattle.numbered_lists.proofs.Lists.{slice_get-found, moved-found, length-moved, changed-found}
+use Rattle.numbered_lists.proofs.Lists.{slice_get-found, moved-found, length-moved}
 use Rattle.flat_records.specs.Runs.{starts, exchanged, changed_exchanged, AreWindows}
 use Rattle.flat_records.specs.Bags.{Bag}
-use Rattle.flat_records.proofs.Starts.{begins, end, at-starts, end-append, length-begins, length-starts, starts-parts, starts-exchanged, All-begins, All-begins_back}
-use Rattle.flat_records.proofs.Exchanges.{quarters, Parts, parts, exchanged-parts}
+use Rattle.flat_records.proofs.Spots.{found}
+use Rattle.flat_records.proofs.Starts.{end, length-starts, starts-exchanged, All-begins, All-begins_back}
+use Rattle.flat_records.proofs.FourRuns.{four_runs}
+use Rattle.flat_records.proofs.Exchanges.{quarters, exchanged-parts}
 use Rattle.owner_bags.specs.Owned.{Flat, past_owner, all_bags, flat_of}
-use Rattle.owner_bags.proofs.Owners.{begin, owners-end, bags_kept}
-use Rattle.owner_bags.proofs.Places.{get_in, remove_in, insert_in, found_list}
+use Rattle.owner_bags.proofs.Owners.{AreOf, begin, owners-end, bags_kept, begin_read}
+use Rattle.owner_bags.proofs.Places.{get_in, remove_in, insert_in}
 
 -- ---- a move is an exchange of neighbouring parts
 
@@ -80,60 +82,18 @@ record Facts (t : Flat) (ws xs ys zs : List (List Bag)) (a b c : ℕ) : Type 0 w
   pub second : b ≡ length ws + length xs
   pub third : c ≡ length ws + (length xs + length ys)
 
-module _ (t : Flat) (ws xs ys zs : List (List Bag)) (a b c : ℕ) (f : Facts t ws xs ys zs a b c) where
-  abbrev m1 : ℕ
-  m1 = end past_owner 0 ws
-
-  abbrev m2 : ℕ
-  m2 = end past_owner m1 xs
-
-  abbrev m3 : ℕ
-  m3 = end past_owner m2 ys
-
-  index : Parts t.begins (begins past_owner 0 ws) (begins past_owner m1 xs) (begins past_owner m2 ys) (starts past_owner m3 zs) a b c
-  index =
-      let l1 = length-begins past_owner 0 ws in
-      let l2 = length-begins past_owner m1 xs in
-      let l3 = length-begins past_owner m2 ys in
-      let e1 = f.first in
-      let e2 = f.second in
-      let e3 = f.third in
-      subst (λ begin. Parts begin (begins past_owner 0 ws) (begins past_owner m1 xs) (begins past_owner m2 ys) (starts past_owner m3 zs) a b c)
-      (sym (ap (λ (t : Flat). t.begins) f.same ∙ starts-parts past_owner 0 ws xs ys zs))
-      (parts (begins past_owner 0 ws) (begins past_owner m1 xs) (begins past_owner m2 ys) (starts past_owner m3 zs) a b c (omega arith) (omega arith) (omega arith))
-
-  at_first : get_or t.begins a 0 ≡ m1
-  at_first =
-      ap (λ n. get_or t.begins n 0) f.first
-      ∙ (ap (λ (t : Flat). get_or t.begins (length ws) 0) f.same ∙ at-starts past_owner 0 0 ws (xs ++ (ys ++ zs)))
-
-  at_second : get_or t.begins b 0 ≡ m2
-  at_second =
-      ap (λ n. get_or t.begins n 0) (f.second ∙ sym (length-append ws xs))
-      ∙ (ap (λ (t : Flat). get_or t.begins (length (ws ++ xs)) 0) f.same
-      ∙ (ap (λ os. get_or (starts past_owner 0 os) (length (ws ++ xs)) 0) (sym (append_assoc ws xs (ys ++ zs)))
-      ∙ (at-starts past_owner 0 0 (ws ++ xs) (ys ++ zs) ∙ end-append past_owner 0 ws xs)))
-
-  at_third : get_or t.begins c 0 ≡ m3
-  at_third =
-      let size : c ≡ length ((ws ++ xs) ++ ys) = f.third ∙ omega (arith, length-append (ws ++ xs) ys, length-append ws xs) in
-      ap (λ n. get_or t.begins n 0) size
-      ∙ (ap (λ (t : Flat). get_or t.begins (length ((ws ++ xs) ++ ys)) 0) f.same
-      ∙ (ap (λ os. get_or (starts past_owner 0 os) (length ((ws ++ xs) ++ ys)) 0) (sym (append_assoc (ws ++ xs) ys zs ∙ append_assoc ws xs (ys ++ zs)))
-      ∙ (at-starts past_owner 0 0 ((ws ++ xs) ++ ys) zs
-      ∙ (end-append past_owner 0 (ws ++ xs) ys ∙ ap (λ m. end past_owner m ys) (end-append past_owner 0 ws xs)))))
-
 turn_of : (t : Flat) (owners ws xs ys zs : List (List Bag)) (a b c : ℕ) → Facts t ws xs ys zs a b c
     → exchanged owners a b c ≡ ws ++ (ys ++ (xs ++ zs))
     → (start middle stop : ℕ) → start ≡ get_or t.begins a 0 → middle ≡ get_or t.begins b 0 → stop ≡ get_or t.begins c 0
     → Turn t owners a b c start middle stop
 turn_of t owners ws xs ys zs a b c f whole start middle stop e1 e2 e3 =
-    let i = index t ws xs ys zs a b c f in
-    let w1 = m1 t ws xs ys zs a b c f in
-    let w2 = m2 t ws xs ys zs a b c f in
-    let n1 : start ≡ w1 = e1 ∙ at_first t ws xs ys zs a b c f in
-    let n2 : middle ≡ w2 = e2 ∙ at_second t ws xs ys zs a b c f in
-    let n3 : stop ≡ m3 t ws xs ys zs a b c f = e3 ∙ at_third t ws xs ys zs a b c f in
+    let r = four_runs past_owner 0 0 ws xs ys zs (ap (λ (t : Flat). t.begins) f.same) f.first f.second f.third in
+    let i = r.runs in
+    let w1 = end past_owner 0 ws in
+    let w2 = end past_owner w1 xs in
+    let n1 : start ≡ w1 = e1 ∙ r.first in
+    let n2 : middle ≡ w2 = e2 ∙ r.second in
+    let n3 : stop ≡ end past_owner w2 ys = e3 ∙ r.third in
     let g1 : start ≡ length (all_bags ws) = n1 ∙ (owners-end 0 ws ∙ zero-add (length (all_bags ws))) in
     let g2 : middle ≡ start + length (all_bags xs) = n2 ∙ (owners-end w1 xs ∙ ap (λ m. m + length (all_bags xs)) (sym n1)) in
     let g3 : stop ≡ middle + length (all_bags ys) = n3 ∙ (owners-end w2 ys ∙ ap (λ m. m + length (all_bags ys)) (sym n2)) in
@@ -166,42 +126,33 @@ turn_of t owners ws xs ys zs a b c f whole start middle stop e1 e2 e3 =
       turned = (λ k. record { begins = index k; bags = bags k }) ∙ ap flat_of (sym whole);
     }
 
-pub turn : (t : Flat) (owners : List (List Bag)) (a b c : ℕ) → t ≡ flat_of owners → a ≤ b → b ≤ c → c ≤ length owners
-    → (start middle stop : ℕ) → start ≡ get_or t.begins a 0 → middle ≡ get_or t.begins b 0 → stop ≡ get_or t.begins c 0
+pub turn : {t : Flat} {owners : List (List Bag)} {a b c : ℕ} → AreOf t owners → a ≤ b → b ≤ c → c ≤ length owners
+    → {start middle stop : ℕ} → start ≡ get_or t.begins a start → middle ≡ get_or t.begins b middle → stop ≡ get_or t.begins c stop
     → Turn t owners a b c start middle stop
-turn t owners a b c e h1 h2 h3 start middle stop e1 e2 e3 =
+turn {t} {owners} {a} {b} {c} are h1 h2 h3 {start} {middle} {stop} e1 e2 e3 =
     let q = quarters owners a b c h1 h2 h3 in
     let ws = take a owners in
     let xs = drop a (take b owners) in
     let ys = drop b (take c owners) in
     let zs = drop c owners in
-    turn_of t owners ws xs ys zs a b c (record { same = e ∙ ap flat_of q.whole; first = q.first; second = q.second; third = q.third }) refl start middle stop e1 e2 e3
+    turn_of t owners ws xs ys zs a b c (record { same = are.same ∙ ap flat_of q.whole; first = q.first; second = q.second; third = q.third }) refl start middle stop
+    (begin_read are a (omega arith) e1) (begin_read are b (omega arith) e2) (begin_read are c h3 e3)
+
+pub owners_turned : {t : Flat} {owners : List (List Bag)} {a b c start middle stop : ℕ} → Turn t owners a b c start middle stop
+    → {new : List ℕ} {bags : List Bag} → new ≡ changed_exchanged a b c (λ at. at - (middle - start)) (λ at. at + (stop - middle)) t.begins → bags ≡ exchanged t.bags start middle stop
+    → AreOf (record { begins = new; bags = bags }) (exchanged owners a b c)
+owners_turned r e f = record { same = (λ k. record { begins = e k; bags = f k }) ∙ r.turned }
 
 -- ---- a bag of one owner that moves
 
-pub record Member (t : Flat) (i k : ℕ) : Type 0 where
-  pub more : i + 1 < length t.begins
-  pub fits : get_or t.begins i 0 + k ≤ get_or t.begins (i + 1) 0
-  pub inside : get_or t.begins i 0 + k < length t.bags
-
-pub member : (t : Flat) (owners : List (List Bag)) (i k : ℕ) → t ≡ flat_of owners → IsSomeAnd (slice_get owners i) (λ (bags : List Bag). k < length bags) → Member t i k
-member t owners i k e h =
-    let f = found_list (λ (bags : List Bag). k < length bags) (slice_get owners i) h in
-    let b = begin t owners i f.0 e f.1 in
-    let at = b.at in
-    let next = b.next in
-    let within = f.2 in
-    let size : length t.bags ≡ length (all_bags b.front) + (length f.0 + length (all_bags b.back)) = ap length b.bags ∙ simp length-append refl in
-    record { more = b.more; fits = omega arith; inside = omega arith }
-
-pub bag_moved : (t : Flat) (owners : List (List Bag)) (i from to first second : ℕ) (new : List Bag) → t ≡ flat_of owners
+pub bag_moved : {t : Flat} {owners : List (List Bag)} → AreOf t owners → (i from to : ℕ)
     → IsSomeAnd (slice_get owners i) (λ (bags : List Bag). from < length bags) → IsSomeAnd (slice_get owners i) (λ (bags : List Bag). to < length bags)
-    → first ≡ get_or t.begins i 0 + from → second ≡ get_or t.begins i 0 + to → new ≡ moved t.bags first second
-    → record { begins = t.begins; bags = new } ≡ flat_of (changed owners i (λ bags. moved bags from to))
-bag_moved t owners i from to first second new e h1 h2 f g is =
-    let (xs, there, within) = found_list (λ (bags : List Bag). from < length bags) (slice_get owners i) h1 in
+    → {begins others : List ℕ} → begins ≡ t.begins → others ≡ t.begins → {first second : ℕ} → first ≡ get_or begins i 0 + from → second ≡ get_or others i 0 + to
+    → {new : List Bag} → new ≡ moved t.bags first second → AreOf (record { begins = t.begins; bags = new }) (changed owners i (λ bags. moved bags from to))
+bag_moved {t} {owners} a i from to h1 h2 same same2 f g {new} is =
+    let (xs, there, within) = found (λ (bags : List Bag). from < length bags) (slice_get owners i) h1 in
     let also : to < length xs = subst (λ o. IsSomeAnd o (λ (bags : List Bag). to < length bags)) there h2 in
-    let b = begin t owners i xs e there in
+    let b = begin a i there in
     let at = get_or t.begins i 0 in
     let ws = all_bags b.front in
     let bs = all_bags b.back in
@@ -209,10 +160,9 @@ bag_moved t owners i from to first second new e h1 h2 f g is =
     let size = length-remove xs from within in
     let whole : new ≡ ws ++ (moved xs from to ++ bs) =
     is
-    ∙ ((λ k. moved (b.bags k) (f k) (g k))
+    ∙ ((λ k. moved (b.bags k) ((f ∙ ap (λ begins. get_or begins i 0 + from) same) k) ((g ∙ ap (λ begins. get_or begins i 0 + to) same2) k))
     ∙ (moved-found (ws ++ (xs ++ bs)) (at + from) (at + to) x (get_in ws xs bs at from b.at x found)
     ∙ (ap (λ zs. insert zs (at + to) x) (remove_in ws xs bs at from b.at within)
     ∙ (insert_in ws (remove xs from) bs at to b.at x (omega arith)
     ∙ ap (λ zs. ws ++ (zs ++ bs)) (sym (moved-found xs from to x found)))))) in
-    bags_kept t owners i xs b (moved xs from to) new whole (sym (length-moved xs from to within also))
-    ∙ ap flat_of (sym (changed-found owners i (λ bags. moved bags from to) xs there))
+    bags_kept b (λ bags. moved bags from to) whole (length-moved xs from to within also)

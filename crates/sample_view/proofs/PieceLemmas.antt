@@ -1,14 +1,14 @@
 -- Points over several slices.
-use Rattle.std.proofs.Common.{◌≡◌, ℕ, ◌+◌, ◌<◌, ◌≤◌, List, [], ◌∷◌, ◌++◌, length, get_or, take, drop, refl, ap, sym, ◌∙◌, arith, length-append, append-nil, append_assoc, take-append-drop}
+use Rattle.std.proofs.Common.{◌≡◌, ℕ, ◌+◌, ◌<◌, List, [], ◌∷◌, ◌++◌, length, get_or, take, drop, refl, ap, sym, ◌∙◌, append-nil, append_assoc, take-append-drop}
 use Rattle.std.specs.Prelude.{All}
 use Rattle.std.specs.List.{flat_map}
 use Rattle.std.specs.Borrow.{Bor}
-use Rattle.std.proofs.lemmas.List.{take_more, at_drop_more}
+use Rattle.std.proofs.lemmas.List.{take_more}
 use Rattle.std.proofs.lemmas.List.Concat.{flat_map-append}
 use Rattle.std.proofs.lemmas.List.Elements.{All-head, All-tail}
 use Rattle.sample_view.specs.Words.{words, word_bytes, AreWords}
 use Rattle.sample_view.specs.Pieces.{joined, joined_bytes, IsPiece}
-use Rattle.sample_view.proofs.WordLemmas.{length-words, bytes_of_words, AreWords-words, AreWords-append}
+use Rattle.sample_view.proofs.WordLemmas.{bytes_of_words, AreWords-words, AreWords-append}
 
 -- one slice more at the end
 pub joined-push : (ps : List (Bor (List ℕ))) (p : Bor (List ℕ)) → joined (ps ++ p ∷ []) ≡ joined ps ++ words p.now
@@ -27,11 +27,6 @@ joined-split ps i d h =
     ∙ ap (λ t. t ++ joined (drop (i + 1) ps)) (joined-more ps i d h)
     ∙ append_assoc (joined (take i ps)) (words (get_or ps i d).now) (joined (drop (i + 1) ps))
 
--- the bytes of the slices from one on are its own, and then those of the slices after it
-pub joined_bytes-rest : (ps : List (Bor (List ℕ))) (i : ℕ) (d : Bor (List ℕ)) → i < length ps
-    → joined_bytes (drop i ps) ≡ (get_or ps i d).now ++ joined_bytes (drop (i + 1) ps)
-joined_bytes-rest ps i d h = at_drop_more joined_bytes ps i d h
-
 -- the points of slices fit 16 bits
 pub AreWords-joined : (ps : List (Bor (List ℕ))) → All IsPiece ps → AreWords (joined ps)
 AreWords-joined [] a = tt
@@ -48,13 +43,3 @@ joined_bytes_is (p ∷ ps) a =
     sym (flat_map-append word_bytes (words p.now) (joined ps)
     ∙ ap (λ t. t ++ flat_map word_bytes (joined ps)) (bytes_of_words p.now first.bytes first.even)
     ∙ ap (λ t. p.now ++ t) (sym rest))
-
--- each slice holds a point
-pub length-le-joined : (ps : List (Bor (List ℕ))) → All IsPiece ps → length ps ≤ length (joined ps)
-length-le-joined [] a = omega arith
-length-le-joined (p ∷ ps) a =
-    let first = All-head IsPiece p ps a in
-    let rest = length-le-joined ps (All-tail IsPiece p ps a) in
-    let filled = first.filled in
-    let even = first.even in
-    omega (arith, length-append (words p.now) (joined ps), length-words p.now, rest)

@@ -1,7 +1,7 @@
 -- The numbers that bytes spell.
-use Rattle.std.proofs.Common.{◌≡◌, ℕ, zero, suc, ◌+◌, ◌*◌, ◌/◌, ◌%◌, ◌<◌, List, [], ◌∷◌, ◌++◌, length, get_or, take, drop, replicate, refl, ap, arith}
+use Rattle.std.proofs.Common.{◌≡◌, ℕ, zero, suc, ◌+◌, ◌*◌, ◌/◌, ◌%◌, ◌<◌, List, [], ◌∷◌, ◌++◌, length, get_or, take, drop, refl, ap, arith}
 use Rattle.std.specs.Prelude.{All}
-use Rattle.std.specs.List.{AllByRecursion, flat_map}
+use Rattle.std.specs.List.{flat_map}
 use native.Mathlib.Numerals.{unary_clauses}
 use Rattle.sample_view.specs.Words.{words, word_bytes, AreWords}
 
@@ -71,14 +71,6 @@ unfolding words
 words-empty [] e = refl
 words-empty (x ∷ xs) e = absurd (omega arith)
 
--- whole numbers and then others
-pub words-append : (xs ys : List ℕ) → length xs % 2 ≡ 0 → words (xs ++ ys) ≡ words xs ++ words ys
-unfolding words
-words-append [] ys e = refl
-words-append (low ∷ []) ys e = absurd (omega arith)
-words-append (low ∷ high ∷ rest) ys e =
-    let e' : length rest % 2 ≡ 0 = omega arith in ap (λ ws. (low + 256 * high) ∷ ws) (words-append rest ys e')
-
 -- numbers are read back from the bytes that spell them
 pub words_of_bytes : (ws : List ℕ) → words (flat_map word_bytes ws) ≡ ws
 unfolding words word_bytes
@@ -86,14 +78,6 @@ words_of_bytes [] = refl
 words_of_bytes (w ∷ ws) =
     let e : w % 256 + 256 * (w / 256) ≡ w = omega arith in
     rw e (ap (λ t. w ∷ t) (words_of_bytes ws))
-
--- zeros are spelled by zeros
-pub word_bytes-zeros : (n : ℕ) → flat_map word_bytes (replicate n 0) ≡ replicate (2 * n) 0
-unfolding word_bytes
-word_bytes-zeros zero = refl
-word_bytes-zeros (suc n) =
-    let e : 2 * suc n ≡ suc (suc (2 * n)) = omega arith in
-    rw e (ap (λ t. 0 ∷ 0 ∷ t) (word_bytes-zeros n))
 
 -- each number takes two bytes
 pub length-word_bytes : (ws : List ℕ) → length (flat_map word_bytes ws) ≡ 2 * length ws
@@ -110,12 +94,6 @@ AreWords-words (low ∷ high ∷ rest) a =
     let low_fits : low < 256 = a 0 0 (omega arith) in
     let high_fits : high < 256 = a 1 0 (omega arith) in
     (omega arith, AreWords-words rest (λ j d h. a (suc (suc j)) d (omega arith)))
-
--- numbers of 16 bits are spelled by bytes
-pub word_bytes-fit : (ws : List ℕ) → AreWords ws → AllByRecursion (λ b. b < 256) (flat_map word_bytes ws)
-unfolding word_bytes
-word_bytes-fit [] a = tt
-word_bytes-fit (w ∷ ws) a = let fits = a.0 in (omega arith, (omega arith, word_bytes-fit ws a.1))
 
 -- the numbers of a list and of another
 pub AreWords-append : (ws vs : List ℕ) → AreWords ws → AreWords vs → AreWords (ws ++ vs)

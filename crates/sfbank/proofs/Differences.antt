@@ -146,17 +146,3 @@ writes_nothing old new a b p es (Err fault) h none g = tt
 pub ends_in_memory : {U : Type 0} (known : Option (List ℕ)) (a b : List ℕ) (r : Result U RunFault) → IsErrAnd r (λ fault. fault ≡ run.Memory) → RunsDifference known known a b r
 ends_in_memory known a b (Ok u) h = absurd h
 ends_in_memory {U} known a b (Err fault) h = subst (λ fault. RunsDifference {U = U} known known a b (Err fault)) (sym h) (Keeps-refl known)
-
-pub ends_without : (U X : Type 0) (view : X → Pair) (known : Option (List ℕ)) (a b : List ℕ) (fault : RunFault) → Pairs view (pair_of a b) (Err fault)
-    → RunsDifference {U = U} known known a b (Err fault)
-ends_without U X view known a b run.Memory h = Keeps-refl known
-ends_without U X view known a b (run.Write which n) h = absurd h
-ends_without U X view known a b run.OtherVersion h = (h, Keeps-refl known)
-ends_without U X view known a b (run.Recording fault) h = (h, Keeps-refl known)
-ends_without U X view known a b (run.NoMember cause) h = (h, Keeps-refl known)
-ends_without U X view known a b (run.Read fault) h = (h, Keeps-refl known)
-ends_without U X view known a b (run.ReadSecond fault) h = (h, Keeps-refl known)
-ends_without U X view known a b (run.Script fault) h = (h, Keeps-refl known)
-ends_without U X view known a b (run.Refused number why) h = (h, Keeps-refl known)
-ends_without U X view known a b (run.NotNeutral number) h = (h, Keeps-refl known)
-ends_without U X view known a b (run.Notes fault) h = (h, Keeps-refl known)

@@ -1,6 +1,5 @@
 -- Frames that are ahead.
-use Rattle.std.proofs.Common.{◌≡◌, ℕ, ◌+◌, ◌<◌, ◌≤◌, ◌^◌, ℤ, pos, negsuc, ◌≤ℤ◌, to_z, of_z, false, List, length, ◌++◌, get_or, take, drop, ◌-◌, inl, inr, ◌∙◌, ap, subst, arith}
-use Rattle.std.proofs.lemmas.Bool.{cases_lt}
+use Rattle.std.proofs.Common.{◌≡◌, ℕ, ◌+◌, ◌<◌, ◌≤◌, ◌^◌, ℤ, pos, negsuc, ◌≤ℤ◌, to_z, of_z, false, List, length, ◌++◌, get_or, ◌-◌, ◌∙◌, ap, subst, arith}
 use Rattle.std.specs.Int.{w32}
 use Rattle.std.proofs.lemmas.Int.{ints}
 use Rattle.std.proofs.lemmas.Grind.{common_steps}
@@ -8,7 +7,6 @@ use Rattle.zone_select.specs.Select.{Voice}
 use Rattle.voices.specs.declared.lookahead.Ahead.{Ahead}
 use Rattle.voices.specs.Ahead.{IsAhead}
 use Rattle.voices.specs.Place.{is_over}
-use Rattle.voices.specs.Runs.{IsAdded}
 use Rattle.voices.specs.Sound.{sound_at}
 
 -- those that are left once some are taken

@@ -10,22 +10,11 @@ use Rattle.bank_parts.specs.Sound.{IsSound}
 use Rattle.bank_changes.specs.declared.members.Owner.{Owner}
 use Rattle.bank_changes.specs.declared.members.Owner.TheVariants as owner
 use Rattle.bank_changes.specs.Members.{own_zone_count}
-use Rattle.generators.specs.declared.range.Range.{Range}
-use Rattle.zone_ranges.specs.Ranges.{low_end, high_end, whole_range}
-use Rattle.zone_map.specs.Rectangles.{ends}
 
 -- a zone that is there
 pub counted : (o : Option ℕ) (k : ℕ) → k < unwrap_or o 0 → IsSomeAnd o (λ count. k < count)
 counted None k h = absurd (omega (arith, h))
 counted (Some n) k h = h
-
--- a range by its two ends
-pub ends_told : (o : Option ℕ) (r : Range) → option_map low_end o ≡ Some r.low → option_map high_end o ≡ Some r.high → r ≡ ends (unwrap_or o whole_range)
-ends_told None r l h = cc
-ends_told (Some n) r l h =
-    let low : r.low ≡ low_end n = cc in
-    let high : r.high ≡ high_end n = cc in
-    λ i. record { low = low i; high = high i }
 
 -- ---- an owner has no more zones than all of its level together
 

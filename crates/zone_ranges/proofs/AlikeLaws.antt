@@ -1,5 +1,5 @@
 -- Zones that agree in all but their own ranges: as the tests say it, and as the code finds it.
-use Rattle.std.proofs.Common.{◌≡◌, ◌≢◌, ◌↔◌, ◌==◌, ◌&&◌, ℕ, suc, Bool, true, false, IsTrue, cond, arith, List, [], ◌∷◌, Some, None, refl, sym, ap, subst, ◌∙◌}
+use Rattle.std.proofs.Common.{◌≡◌, ◌≢◌, ◌↔◌, ◌==◌, ◌&&◌, ℕ, suc, Bool, true, false, IsTrue, cond, List, [], ◌∷◌, Some, None, refl, sym, ap, subst, ◌∙◌}
 use Rattle.std.specs.Prelude.{slice_get}
 use Rattle.std.specs.List.{AllByRecursion}
 use Rattle.std.specs.FinMap as map
@@ -8,7 +8,7 @@ use Rattle.generators.proofs.Order.{tied, tied_same, untied}
 use Rattle.generators.proofs.MapLaws.{same_gens, get-remove_any}
 use Rattle.generators.proofs.EntryLaws as entries
 use Rattle.std.specs.Ordering.{int_eq}
-use Rattle.std.proofs.lemmas.Bool.Decides.{nat_tests, Decides-int_eq, Decides-eqb}
+use Rattle.std.proofs.lemmas.Bool.Decides.{Decides-int_eq, Decides-eqb}
 use Rattle.modulators.specs.declared.modulator.Modulator.{Modulator}
 use Rattle.zone_ranges.specs.declared.axes.Axis.{Axis}
 use Rattle.bank_parts.specs.declared.parts.Zone.{Zone}
@@ -52,9 +52,6 @@ pub removed_agreeing : (m n : Gens) (op : ℕ) → map.remove m op ≡ map.remov
 removed_agreeing m n op same =
     all_by_place (AgreesBut m op) (map.entries n) (λ j e at. λ differ.
     sym (get-remove_other m op e.0 differ) ∙ ap (λ x. map.get x e.0) same ∙ get-remove_other n op e.0 differ ∙ entries.entries_are_set n j e.0 e.1 at)
-
-pub alike_gens : (m n : Gens) (op : ℕ) → (AgreeBut m op n × AgreeBut n op m) ↔ (map.remove m op ≡ map.remove n op)
-alike_gens m n op = (λ h. agreeing_removed m n op h.0 h.1, λ same. (removed_agreeing m n op same, removed_agreeing n m op (sym same)))
 
 pub alike_zones : (axis : Axis) (y z : Zone) → ((y.target ≡ z.target) × (map.remove y.gens (range_operator axis) ≡ map.remove z.gens (range_operator axis)) × (y.mods ≡ z.mods)) ↔ (without_range axis y ≡ without_range axis z)
 alike_zones axis y z = (

@@ -1,5 +1,5 @@
 -- The pairs that are left, one after the other.
-use Rattle.std.proofs.Common.{◌≡◌, ◌≤◌, ◌==◌, ◌&&◌, length, ℕ, ◌+◌, false, List, [], ◌∷◌, ◌++◌, map, MatchOption, Option, Some, None, slice_get, refl, sym, ap, ◌∙◌, arith}
+use Rattle.std.proofs.Common.{◌≡◌, ◌==◌, ◌&&◌, ℕ, ◌+◌, false, List, [], ◌∷◌, ◌++◌, map, MatchOption, Option, Some, None, slice_get, refl, sym, ap, ◌∙◌}
 use Rattle.std.proofs.lemmas.Bool.{eq-eqb, ne_eqb}
 use Rattle.std.specs.List.{flat_map, find}
 use Rattle.std.specs.Option.{option_map_or, option_map, option_and_then}
@@ -8,7 +8,6 @@ use Rattle.bank_parts.specs.declared.parts.Head.{Head}
 use Rattle.bank_parts.specs.declared.parts.Zone.{Zone}
 use Rattle.bank_parts.specs.declared.parts.WithZones.{WithZones}
 use Rattle.bank_parts.specs.declared.parts.Parts.{Parts}
-use Rattle.bank_parts.specs.Sound.{IsSound}
 use Rattle.bank_changes.specs.declared.members.Owner.TheVariants as owner
 use Rattle.zone_select.specs.Select.{is_called}
 use Rattle.zone_select.specs.Pairs.{held, held_inside, pairs_at, pairs}
@@ -48,13 +47,6 @@ pub begun : (b : Parts) (n : Numbers) (p : ℕ) (o : Option ℕ) (ks : List ℕ)
 begun b n p None ks e = sym (ap (pairs_from b n p) e ∙ nothing_from b n p)
 begun b n p (Some k) ks e = parts_of b n p k 0 ∙ sym (from_zone b n p k (owner_held b n (owner.Preset p) (k + 1))) ∙ sym (ap (pairs_from b n p) e)
 
--- a pair is found
-pub found_pair : (b : Parts) (n : Numbers) (p k l m : ℕ) → inside_held b n p k l ≡ m ∷ inside_held b n p k (m + 1) → pairs_left b n p (Some k) l ≡ (k, m) ∷ pairs_left b n p (Some k) (m + 1)
-found_pair b n p k l m e =
-    parts_of b n p k l
-    ∙ ap (λ (ls : List ℕ). paired k ls ++ pairs_from b n p (owner_held b n (owner.Preset p) (k + 1))) e
-    ∙ ap (λ (qs : List (ℕ × ℕ)). (k, m) ∷ qs) (sym (parts_of b n p k (m + 1)))
-
 -- no more pair of the zone: the later zones' are left
 pub no_more : (b : Parts) (n : Numbers) (p k l : ℕ) (o : Option ℕ) → inside_held b n p k l ≡ [] → IsFirst (owner_held b n (owner.Preset p) (k + 1)) (owner_held b n (owner.Preset p)) o
     → pairs_left b n p o 0 ≡ pairs_left b n p (Some k) l
@@ -91,6 +83,3 @@ called_else n o h bank b e t = let f = ne_eqb h.bank bank t in sym (called_is n 
 pub not_there : (n : Numbers) (o : Option (WithZones Head)) → option_map (λ (x : WithZones Head). x.head) o ≡ None → option_map_or (is_called n) o false ≡ false
 not_there n None e = refl
 not_there n (Some x) e = cc
-
-pub presets_few : (b : Parts) → IsSound b → length b.presets ≤ 65535
-presets_few b s = let h = s.valid.limits.presets in omega (arith, h)

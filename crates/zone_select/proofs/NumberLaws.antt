@@ -20,12 +20,6 @@ numbers_miss test a c h t = let e : c - a ≡ suc (c - (a + 1)) = omega (arith, 
 
 -- ---- the first member that passes
 
-pub first_end : {X : Type 0} (test : X → Bool) (xs : List X) (k : ℕ) → length xs ≤ k → find test (drop k xs) ≡ None
-first_end test [] zero h = refl
-first_end test [] (suc k) h = refl
-first_end test (x ∷ xs) zero h = absurd (omega (arith, h))
-first_end test (x ∷ xs) (suc k) h = first_end test xs k (omega (arith, h))
-
 pub first_at : {X : Type 0} (test : X → Bool) (xs : List X) (k : ℕ) (x : X) → slice_get xs k ≡ Some x → find test (drop k xs) ≡ cond (test x) (Some x) (find test (drop (suc k) xs))
 first_at test [] k x e = cc
 first_at test (y ∷ ys) zero x e = let same : y ≡ x = cc in rw same refl

@@ -26,9 +26,6 @@ some_of : {X : Type 0} (o : Option X) → IsSome o → (x : X) × (o ≡ Some x)
 some_of None h = absurd (true≢false (sym h))
 some_of (Some x) h = (x, refl)
 
-none_is : {X : Type 0} {A : Type 0} (o : Option X) → o ≡ None → IsSome o → A
-none_is o e h = absurd (true≢false (sym h ∙ ap is_some e))
-
 -- ---- a zone that holds the note
 
 record Held (n : Numbers) (global : GlobalZone) (zones : List Zone) (k : ℕ) : Type 0 where

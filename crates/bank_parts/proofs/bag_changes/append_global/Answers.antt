@@ -21,12 +21,6 @@ pub put_bag-requires : goal.put_bag-requires
 put_bag-requires c =
     let g = c.args.global.now in
     let room = global_needs g c.is_empty.result c.is_empty.ensures c.args.bags.now c.if-is_empty.false c.requires.room in
-    let zones = room.held.zones in
-    let gens_held = room.held.gens in
-    let mods_held = room.held.mods in
-    let spare_zones = room.zones in
-    let spare_gens = room.gens in
-    let spare_mods = room.mods in
     let gens = ap length c.entries.ensures.all in
     let size = len-entries g.gens in
     let mods = ap length c.as_slice.ensures in
@@ -45,10 +39,6 @@ returns c =
     let g = c.args.global.now in
     let b : Bag = record { gens = c.entries.result.now; mods = c.as_slice.result.now } in
     let same : b ≡ global_bag g = λ t. record { gens = c.entries.ensures.all t; mods = c.as_slice.ensures t } in
-    let used = c.put_bag.ensures.spare in
-    let used_bags = used.bags in
-    let used_gens = used.gens in
-    let used_mods = used.mods in
     record {
       owners =
           global_is_put c.args.bags.now.owners c.put_bag.new.self.owners c.args.i c.bag_count-count.result b g c.requires.place c.bag_count-count.ensures same

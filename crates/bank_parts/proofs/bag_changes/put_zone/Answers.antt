@@ -6,13 +6,6 @@ use Rattle.bank_parts.proofs.bag_changes.put_zone.Goals as goal
 
 pub put_bag-requires : goal.put_bag-requires
 put_bag-requires c =
-    let room = c.requires.room in
-    let zones = room.held.zones in
-    let gens_held = room.held.gens in
-    let mods_held = room.held.mods in
-    let spare_zones = room.zones in
-    let spare_gens = room.gens in
-    let spare_mods = room.mods in
     let gens = ap length c.entries-gens.ensures.all in
     let size = len-entries c.args.zone.now.gens in
     let mods = ap length c.as_slice.ensures in
@@ -21,12 +14,8 @@ put_bag-requires c =
 pub put_gens-requires : goal.put_gens-requires
 put_gens-requires c =
     let b : Bag = record { gens = c.entries-gens.result.now; mods = c.as_slice.result.now } in
-    let room = c.requires.room in
-    let gens_held = room.held.gens in
-    let spare_gens = room.gens in
     let gens = ap length c.entries-gens.ensures.all in
     let size = len-entries c.args.zone.now.gens in
-    let used = c.put_bag.ensures.spare.gens in
     let more = gens_put c.args.bags.now.owners c.put_bag.new.self.owners c.args.i c.args.k b c.requires.place c.put_bag.ensures.owners in
     record {
       place = bag_put_there c.args.bags.now.owners c.put_bag.new.self.owners c.args.i c.args.k b c.requires.place c.put_bag.ensures.owners (length c.entries-gens.result.now) (omega arith);
@@ -43,14 +32,6 @@ returns-clause-owners c =
 pub returns-clause-room : goal.returns-clause-room
 returns-clause-room c = λ more h.
     let b : Bag = record { gens = c.entries-gens.result.now; mods = c.as_slice.result.now } in
-    let first = c.put_bag.ensures.spare in
-    let second = c.put_gens.ensures.spare in
-    let bags_first = first.bags in
-    let gens_first = first.gens in
-    let mods_first = first.mods in
-    let bags_second = second.bags in
-    let gens_second = second.gens in
-    let mods_second = second.mods in
     let gens = ap length c.entries-gens.ensures.all in
     let size = len-entries c.args.zone.now.gens in
     let mods = ap length c.as_slice.ensures in

@@ -1,8 +1,8 @@
-use Rattle.std.proofs.Common.{◌<◌, length}
+use Rattle.std.proofs.Common.{◌<◌, true, false, length}
 use Rattle.flat_records.specs.Runs.{cut}
 use Rattle.flat_records.specs.Bags.{Bag, with_gens}
 use Rattle.owner_bags.specs.Owned.{bag_at}
-use Rattle.bank_parts.proofs.BagLaws.{some_of, next_of, bag_taken, one_taken}
+use Rattle.bank_parts.proofs.BagLaws.{some_of, next_of, record_goes}
 use Rattle.bank_parts.proofs.bag_changes.take_gen.Goals as goal
 
 pub has_one_record-requires : goal.has_one_record-requires
@@ -16,10 +16,8 @@ cut_gens-requires c = next_of (λ (b : Bag). length b.gens) c.args.j (bag_at c.a
 
 pub returns-then-has_one_record : goal.returns-then-has_one_record
 returns-then-has_one_record c =
-    bag_taken c.args.bags.now.owners c.cut_bag.new.self.owners c.args.i c.args.k (λ (b : Bag). with_gens (cut b.gens c.args.j 1) b) (bag_at c.args.bags.now.owners c.args.i c.args.k)
-    c.has_one_record.result c.has_one_record.ensures c.if-has_one_record.true c.cut_bag.ensures.owners
+    record_goes c.args.bags.now.owners c.args.i c.args.k (λ (b : Bag). with_gens (cut b.gens c.args.j 1) b) true c.has_one_record.ensures c.if-has_one_record.true c.cut_bag.ensures.owners
 
 pub returns-else-has_one_record : goal.returns-else-has_one_record
 returns-else-has_one_record c =
-    one_taken c.args.bags.now.owners c.cut_gens.new.self.owners c.args.i c.args.k (λ (b : Bag). with_gens (cut b.gens c.args.j 1) b) (bag_at c.args.bags.now.owners c.args.i c.args.k)
-    c.has_one_record.result c.has_one_record.ensures c.if-has_one_record.false c.cut_gens.ensures.owners
+    record_goes c.args.bags.now.owners c.args.i c.args.k (λ (b : Bag). with_gens (cut b.gens c.args.j 1) b) false c.has_one_record.ensures c.if-has_one_record.false c.cut_gens.ensures.owners

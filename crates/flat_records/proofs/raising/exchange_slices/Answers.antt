@@ -1,4 +1,4 @@
-use Rattle.std.proofs.Common.{◌≡◌, All, take, drop, sym, subst, ◌∙◌, ap}
+use Rattle.std.proofs.Common.{All, take, drop, sym, subst, ◌∙◌, ap}
 use Rattle.flat_records.specs.Raised.{raised, lowered, CanLower}
 use Rattle.flat_records.proofs.Exchanges.{changed-exchanged, second_stays}
 use Rattle.flat_records.proofs.raising.exchange_slices.Goals as goal

@@ -1,5 +1,3 @@
-use Rattle.std.proofs.Common.{◌≡◌}
-use Rattle.std.proofs.lemmas.List.Elements.{All-drop}
 use Rattle.flat_records.specs.Raised.{raised}
 use Rattle.flat_records.proofs.Exchanges.{within_of}
 use Rattle.flat_records.proofs.raising.raise_within.Goals as goal

@@ -5,8 +5,9 @@ use Rattle.bank_validity.specs.Limits.{totals_of}
 use Rattle.bank_parts.specs.Settings.{with_gens}
 use Rattle.bank_changes.specs.Members.{settings_of}
 use Rattle.bank_changes.specs.Settings.{gen_set}
-use Rattle.bank_changes.proofs.PlaceLaws.{found_there, not_some, no_limit_in, counted_there, became}
+use Rattle.bank_changes.proofs.PlaceLaws.{found_there, not_some, became}
 use Rattle.bank_changes.proofs.SettingLaws.{amount_found, gen_set_is, within_gen_replaced, gen_records}
+use Rattle.bank_core.proofs.KeptTotals.{no_limit_before, has_before}
 use Rattle.bank_core.proofs.bank.Bank.broken_with_gen.Goals as goal
 
 pub returns-then-is_some : goal.returns-then-is_some
@@ -16,13 +17,11 @@ returns-then-is_some c = λ amount.
     let set = subst IsSome (c.gen_of.ensures ∙ amount_found b c.args.owner c.args.place c.args.operator s e) (sym c.is_some.ensures ∙ c.if-is_some.true) in
     sym (within_gen_replaced b c.args.owner c.args.place c.args.operator s e (rw c.self.view_is at c.self.invariant.0) amount set)
 
-pub recounted-requires-clause-within : goal.recounted-requires-clause-within
-recounted-requires-clause-within c = no_limit_in c.args.self.now c.self.inside.totals (rw c.self.view_is at c.self.invariant.0) (rw c.self.view_is at c.self.invariant.1)
-
-pub recounted-requires-clause-counted : goal.recounted-requires-clause-counted
-recounted-requires-clause-counted c =
-    counted_there c.args.self.now c.args.owner c.args.place c.requires c.self.inside.totals (rw c.self.view_is at c.self.invariant.1) c.level.result c.level.ensures
-    c.records_there-before.result (rw c.self.view_is at c.records_there-before.ensures)
+pub recounted-requires : goal.recounted-requires
+recounted-requires c = record {
+  within = no_limit_before c.self.view_is c.self.invariant;
+  counted = has_before c.self.view_is c.self.invariant c.args.owner c.args.place c.requires c.level.ensures c.records_there-before.ensures;
+}
 
 pub returns : goal.returns
 returns c = λ amount.

@@ -3,17 +3,16 @@ use Rattle.bank_validity.specs.Limits.{totals_of}
 use Rattle.bank_parts.specs.Settings.{with_mods}
 use Rattle.bank_changes.specs.Members.{settings_of}
 use Rattle.bank_changes.specs.Settings.{mod_added}
-use Rattle.bank_changes.proofs.PlaceLaws.{found_there, no_limit_in, counted_there, became}
+use Rattle.bank_changes.proofs.PlaceLaws.{found_there, became}
 use Rattle.bank_changes.proofs.SettingLaws.{mod_added_is, mod_records}
+use Rattle.bank_core.proofs.KeptTotals.{no_limit_before, has_before}
 use Rattle.bank_core.proofs.bank.Bank.broken_with_mod.Goals as goal
 
-pub recounted-requires-clause-within : goal.recounted-requires-clause-within
-recounted-requires-clause-within c = no_limit_in c.args.self.now c.self.inside.totals (rw c.self.view_is at c.self.invariant.0) (rw c.self.view_is at c.self.invariant.1)
-
-pub recounted-requires-clause-counted : goal.recounted-requires-clause-counted
-recounted-requires-clause-counted c =
-    counted_there c.args.self.now c.args.owner c.args.place c.requires c.self.inside.totals (rw c.self.view_is at c.self.invariant.1) c.level.result c.level.ensures
-    c.records_there-before.result (rw c.self.view_is at c.records_there-before.ensures)
+pub recounted-requires : goal.recounted-requires
+recounted-requires c = record {
+  within = no_limit_before c.self.view_is c.self.invariant;
+  counted = has_before c.self.view_is c.self.invariant c.args.owner c.args.place c.requires c.level.ensures c.records_there-before.ensures;
+}
 
 pub returns : goal.returns
 returns c = λ index modulator.

@@ -11,5 +11,4 @@ returns-then-more-room c = λ i front back lt many.
 
 pub returns : goal.returns
 returns c = λ i front back lt many.
-    let room = c.if-more-room.false in
-    points_fit c.args.self.now (rw c.self.view_is at c.self.invariant.0) c.self.inside.totals (rw c.self.view_is at c.self.invariant.1) c.args.more i front back lt many (omega (arith, room))
+    points_fit c.args.self.now (rw c.self.view_is at c.self.invariant.0) c.self.inside.totals (rw c.self.view_is at c.self.invariant.1) c.args.more i front back lt many (omega arith)

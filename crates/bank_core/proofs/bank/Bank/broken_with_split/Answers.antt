@@ -1,15 +1,13 @@
 use Rattle.std.proofs.Common.{◌≡◌, ◌∙◌, sym, ap}
 use Rattle.bank_parts.specs.Counts.{all_counted}
 use Rattle.bank_validity.specs.Limits.{broken}
-use Rattle.bank_validity.proofs.LimitLaws.{no_limit_of}
 use Rattle.zone_ranges.specs.Splits.{split_records}
 use Rattle.bank_changes.proofs.SplitLaws.{split, totals-zone_split}
+use Rattle.bank_core.proofs.KeptTotals.{no_limit_before}
 use Rattle.bank_core.proofs.bank.Bank.broken_with_split.Goals as goal
 
 pub broken_with_records-requires : goal.broken_with_records-requires
-broken_with_records-requires c =
-    let now = c.args.self.now in
-    ap broken (rw c.self.view_is at c.self.invariant.1) ∙ no_limit_of now (rw c.self.view_is at c.self.invariant.0).valid.limits
+broken_with_records-requires c = no_limit_before c.self.view_is c.self.invariant
 
 pub returns : goal.returns
 returns c = λ at can.

@@ -5,9 +5,7 @@ use Rattle.bank_core.proofs.bank.Bank.extend_sample.Goals as goal
 pub overflow_add-more : goal.overflow_add-more
 overflow_add-more c =
     let few = few_then c.args.self.now c.args.number c.args.front c.args.back c.requires.there c.requires.sound in
-    let front = c.len.ensures.value in
-    let back = c.len-2.ensures.value in
-    omega (arith, few, front, back)
+    omega (arith, few)
 
 pub extend_sample-requires-clause-points : goal.extend_sample-requires-clause-points
 extend_sample-requires-clause-points c =
@@ -20,9 +18,7 @@ extend_sample-requires-clause-looped c = rw c.self.view_is (loop_then c.args.sel
 pub overflow_add-self : goal.overflow_add-self
 overflow_add-self c =
     let room = room_then c.args.self.now c.args.number c.args.front c.args.back c.requires.there c.requires.sound c.self.inside.totals (rw c.self.view_is at c.self.invariant.1) in
-    let front = c.len.ensures.value in
-    let back = c.len-2.ensures.value in
-    omega (arith, room, front, back)
+    omega (arith, room)
 
 pub invariant_of-self-2 : goal.invariant_of-self-2
 invariant_of-self-2 c =

@@ -1,13 +1,10 @@
 use Rattle.bank_changes.proofs.SampleLaws.{had_sample, totals_shrunk}
 use Rattle.bank_core.proofs.bank.Bank.remove_sample.Goals as goal
 
-pub without_sample-self-inside-requires-clause-samples : goal.without_sample-self-inside-requires-clause-samples
-without_sample-self-inside-requires-clause-samples c =
-    (had_sample c.args.self.now c.self.inside.totals c.args.number c.take_sample-sample.result c.len.result (rw c.self.view_is at c.self.invariant.1) c.len.ensures.value (rw c.self.view_is at c.take_sample-sample.ensures.value)).0
-
-pub without_sample-self-inside-requires-clause-points : goal.without_sample-self-inside-requires-clause-points
-without_sample-self-inside-requires-clause-points c =
-    (had_sample c.args.self.now c.self.inside.totals c.args.number c.take_sample-sample.result c.len.result (rw c.self.view_is at c.self.invariant.1) c.len.ensures.value (rw c.self.view_is at c.take_sample-sample.ensures.value)).1
+pub without_sample-self-inside-requires : goal.without_sample-self-inside-requires
+without_sample-self-inside-requires c =
+    let had = had_sample c.args.self.now c.self.inside.totals c.args.number c.take_sample-sample.result c.len.result (rw c.self.view_is at c.self.invariant.1) c.len.ensures.value (rw c.self.view_is at c.take_sample-sample.ensures.value) in
+    record { samples = had.0; points = had.1 }
 
 pub invariant_of-self : goal.invariant_of-self
 invariant_of-self c =

@@ -1,14 +1,11 @@
-use Rattle.std.proofs.Common.{◌≡◌, ◌∷◌, [], length, true≢false, refl, sym, subst, ◌∙◌, ap, arith}
+use Rattle.std.proofs.Common.{◌≡◌, length, true≢false, refl, sym, subst, ◌∙◌, ap, arith}
 use Rattle.std.proofs.lemmas.List.{length-map}
-use Rattle.generators.specs.Gens.{FitsEntry, FitEntries}
 use Rattle.generators.specs.Levels.{target_operator}
-use Rattle.flat_records.specs.Bags.{Tables, gens_in}
-use Rattle.owner_bags.specs.Owned.{all_bags}
+use Rattle.flat_records.specs.Bags.{Tables}
 use Rattle.bank_parts.specs.Bagged.{bags_of}
 use Rattle.bank_parts.specs.Flat.{owners_in}
 use Rattle.bank_parts.specs.OwnBags.{AreAllBags}
-use Rattle.bank_parts.proofs.FromFlatLaws.{owners_read, owners_own, flat_by, bags_by}
-use Rattle.bank_parts.proofs.ValidLaws.{all-front}
+use Rattle.bank_parts.proofs.FromFlatLaws.{owners_tested, owners_own, flat_by, bags_by}
 use Rattle.bank_parts.proofs.owners.Owners.from_flat.Goals as goal
 
 pub returns-then-len-owner_count-clause-lists : goal.returns-then-len-owner_count-clause-lists
@@ -34,14 +31,8 @@ returns-then-not-are_all_bags-clause-lists g c owners plain are =
 
 pub invariant_of-result : goal.invariant_of-result
 invariant_of-result g c =
-    let op = target_operator g.H.OwnerHead.LEVEL in
-    let bags = c.in-Some.bags.owners in
-    let n = c.len.ensures in
-    let m = c.owner_count.ensures in
-    let same = c.if-len-owner_count.false in
-    let all = subst (λ o. AreAllBags o bags) c.operator.ensures (c.if-not-are_all_bags.ensures.0 refl) in
-    let fit = all-front FitsEntry (gens_in (all_bags bags)) ((0, 0) ∷ []) (subst FitEntries c.gen_records.ensures c.gens_fit.ensures) in
-    owners_read op c.args.heads bags (omega arith) all fit
+    owners_tested (target_operator g.H.OwnerHead.LEVEL) c.args.heads c.in-Some.bags.owners
+    c.len.ensures c.owner_count.ensures c.if-len-owner_count.false c.operator.ensures (c.if-not-are_all_bags.ensures.0 refl) c.gen_records.ensures c.gens_fit.ensures
 
 pub returns-clause-lists : goal.returns-clause-lists
 returns-clause-lists g c =
@@ -49,21 +40,12 @@ returns-clause-lists g c =
     let op = target_operator at in
     let bags = c.in-Some.bags.owners in
     let t : Tables = record { bags = c.args.recs.bags.items; gens = c.args.recs.gens.items; mods = c.args.recs.mods.items } in
-    let n = c.len.ensures in
-    let m = c.owner_count.ensures in
-    let same = c.if-len-owner_count.false in
-    let all = subst (λ o. AreAllBags o bags) c.operator.ensures (c.if-not-are_all_bags.ensures.0 refl) in
-    let fit = all-front FitsEntry (gens_in (all_bags bags)) ((0, 0) ∷ []) (subst FitEntries c.gen_records.ensures c.gens_fit.ensures) in
-    flat_by at c.args.heads c.args.first_bags.items t bags (owners_in op c.args.heads bags) c.in-Some.ensures (owners_read op c.args.heads bags (omega arith) all fit)
+    flat_by at c.args.heads c.args.first_bags.items t bags (owners_in op c.args.heads bags) c.in-Some.ensures
+    (owners_tested op c.args.heads bags c.len.ensures c.owner_count.ensures c.if-len-owner_count.false c.operator.ensures (c.if-not-are_all_bags.ensures.0 refl) c.gen_records.ensures c.gens_fit.ensures)
 
 pub returns-clause-plain : goal.returns-clause-plain
 returns-clause-plain g c =
-    let op = target_operator g.H.OwnerHead.LEVEL in
-    let bags = c.in-Some.bags.owners in
-    let n = c.len.ensures in
-    let m = c.owner_count.ensures in
-    let same = c.if-len-owner_count.false in
-    let all = subst (λ o. AreAllBags o bags) c.operator.ensures (c.if-not-are_all_bags.ensures.0 refl) in
-    let fit = all-front FitsEntry (gens_in (all_bags bags)) ((0, 0) ∷ []) (subst FitEntries c.gen_records.ensures c.gens_fit.ensures) in
-    let read = owners_read op c.args.heads bags (omega arith) all fit in
+    let read =
+    owners_tested (target_operator g.H.OwnerHead.LEVEL) c.args.heads c.in-Some.bags.owners
+    c.len.ensures c.owner_count.ensures c.if-len-owner_count.false c.operator.ensures (c.if-not-are_all_bags.ensures.0 refl) c.gen_records.ensures c.gens_fit.ensures in
     read.plain

@@ -1,6 +1,6 @@
-use Rattle.std.proofs.Common.{◌++◌, ◌∷◌, [], length, subst, ◌∙◌, ap, arith}
+use Rattle.std.proofs.Common.{length, ap, arith}
 use Rattle.bank_parts.specs.Counts.{records_of_owner}
-use Rattle.bank_parts.specs.Bagged.{bags_of, IsPlainOwner}
+use Rattle.bank_parts.specs.Bagged.{bags_of}
 use Rattle.bank_parts.proofs.ReadLaws.{read, are_read, held}
 use Rattle.bank_parts.proofs.MemberLaws.{heads_size, bags_size}
 use Rattle.bank_parts.proofs.OwnerLaws.{owner_plain, room_counted, owner_put, last_within}
@@ -27,17 +27,13 @@ move_owner-requires g c =
 pub invariant_of-self-2 : goal.invariant_of-self-2
 invariant_of-self-2 g c =
     let a = held c.self.invariant c.self.view_is in
-    let op = c.operator-operator.ensures in
-    let plain = subst (λ op. IsPlainOwner op c.args.owner) op (owner_plain g.H.OwnerHead.IsFit c.operator-operator.result c.args.owner c.has_operator.result c.has_operator.ensures c.if-has_operator.false c.fits.ensures) in
-    are_read (owner_put a c.args.i c.owner_count-last.result c.args.owner c.insert.new.self c.append_owner.new.bags.owners c.move_owner.new.self.owners plain c.in-Ok-insert.ensures.ok
-    (c.owner_count-last.ensures ∙ ap length c.make_room.ensures.kept)
-    (c.append_owner.ensures ∙ (λ t. c.make_room.ensures.kept t ++ bags_of (op t) c.args.owner ∷ [])) c.move_owner.ensures.owners)
+    let plain = owner_plain g.H.OwnerHead.IsFit c.operator-operator.result c.args.owner c.has_operator.result c.has_operator.ensures c.if-has_operator.false c.fits.ensures in
+    are_read (owner_put a c.args.i c.owner_count-last.result c.args.owner c.insert.new.self c.append_owner.new.bags.owners c.move_owner.new.self.owners
+    c.operator-operator.ensures plain c.in-Ok-insert.ensures.ok c.make_room.ensures.kept c.owner_count-last.ensures c.append_owner.ensures c.move_owner.ensures.owners)
 
 pub returns-clause-ok : goal.returns-clause-ok
 returns-clause-ok g c =
     let a = held c.self.invariant c.self.view_is in
-    let op = c.operator-operator.ensures in
-    let plain = subst (λ op. IsPlainOwner op c.args.owner) op (owner_plain g.H.OwnerHead.IsFit c.operator-operator.result c.args.owner c.has_operator.result c.has_operator.ensures c.if-has_operator.false c.fits.ensures) in
-    read (owner_put a c.args.i c.owner_count-last.result c.args.owner c.insert.new.self c.append_owner.new.bags.owners c.move_owner.new.self.owners plain c.in-Ok-insert.ensures.ok
-    (c.owner_count-last.ensures ∙ ap length c.make_room.ensures.kept)
-    (c.append_owner.ensures ∙ (λ t. c.make_room.ensures.kept t ++ bags_of (op t) c.args.owner ∷ [])) c.move_owner.ensures.owners)
+    let plain = owner_plain g.H.OwnerHead.IsFit c.operator-operator.result c.args.owner c.has_operator.result c.has_operator.ensures c.if-has_operator.false c.fits.ensures in
+    read (owner_put a c.args.i c.owner_count-last.result c.args.owner c.insert.new.self c.append_owner.new.bags.owners c.move_owner.new.self.owners
+    c.operator-operator.ensures plain c.in-Ok-insert.ensures.ok c.make_room.ensures.kept c.owner_count-last.ensures c.append_owner.ensures c.move_owner.ensures.owners)

@@ -1,67 +1,38 @@
-use Rattle.std.proofs.Common.{◌<◌, length, List, ap, rules, arith}
-use Rattle.modulators.specs.declared.modulator.Modulator.{Modulator}
+use Rattle.std.proofs.Common.{rules}
 use Rattle.bank_parts.proofs.ReadLaws.{read, are_read, held}
-use Rattle.bank_parts.proofs.BagSettings.{place_there}
-use Rattle.bank_parts.proofs.PlaceChanges.{place_bag_there, bag_is_found, of_mods, mod_within, mods_held, mod_read}
+use Rattle.bank_parts.proofs.PlaceChanges.{bag_place, bag_is_found, mod_within, mod_inside, mod_read}
 use Rattle.bank_parts.proofs.GenChanges.{mod_is_set}
 use Rattle.bank_parts.proofs.owners.Owners.set_mod.Goals as goal
 
 pub mods-requires : goal.mods-requires
-mods-requires g c =
-    let a = held c.self.invariant c.self.view_is in
-    let p = place_there a c.args.i c.args.place c.requires.there in
-    let b = place_bag_there p c.in-Some.at c.in-Some.ensures in
-    bag_is_found p b
+mods-requires g c = bag_is_found (bag_place (held c.self.invariant c.self.view_is) c.args.i c.args.place c.requires.there c.in-Some.at c.in-Some.ensures)
 
 pub offset_bounds-mods-j : goal.offset_bounds-mods-j
 offset_bounds-mods-j g c =
-    let a = held c.self.invariant c.self.view_is in
-    let p = place_there a c.args.i c.args.place c.requires.there in
-    let b = place_bag_there p c.in-Some.at c.in-Some.ensures in
-    let within = of_mods p (λ (mods : List Modulator). c.args.j < length mods) c.requires.index in
-    let same = ap length (mods_held p b c.mods.result.now c.mods.ensures) in
-    let inside : c.args.j < length c.mods.result.now = omega arith in
+    let b = bag_place (held c.self.invariant c.self.view_is) c.args.i c.args.place c.requires.there c.in-Some.at c.in-Some.ensures in
+    let inside = mod_inside b c.args.j c.mods.result.now c.requires.index c.mods.ensures in
     search rules
 
 pub bounds-mods-j : goal.bounds-mods-j
 bounds-mods-j g c =
-    let a = held c.self.invariant c.self.view_is in
-    let p = place_there a c.args.i c.args.place c.requires.there in
-    let b = place_bag_there p c.in-Some.at c.in-Some.ensures in
-    let within = of_mods p (λ (mods : List Modulator). c.args.j < length mods) c.requires.index in
-    let same = ap length (mods_held p b c.mods.result.now c.mods.ensures) in
-    omega arith
+    let b = bag_place (held c.self.invariant c.self.view_is) c.args.i c.args.place c.requires.there c.in-Some.at c.in-Some.ensures in
+    mod_inside b c.args.j c.mods.result.now c.requires.index c.mods.ensures
 
 pub set_mod-requires : goal.set_mod-requires
 set_mod-requires g c =
-    let a = held c.self.invariant c.self.view_is in
-    let p = place_there a c.args.i c.args.place c.requires.there in
-    let b = place_bag_there p c.in-Some.at c.in-Some.ensures in
-    let within = of_mods p (λ (mods : List Modulator). c.args.j < length mods) c.requires.index in
-    mod_within p b c.args.j within
+    mod_within (bag_place (held c.self.invariant c.self.view_is) c.args.i c.args.place c.requires.there c.in-Some.at c.in-Some.ensures) c.args.j c.requires.index
 
 pub invariant_of-self : goal.invariant_of-self
 invariant_of-self g c =
-    let a = held c.self.invariant c.self.view_is in
-    let p = place_there a c.args.i c.args.place c.requires.there in
-    let b = place_bag_there p c.in-Some.at c.in-Some.ensures in
-    let within = of_mods p (λ (mods : List Modulator). c.args.j < length mods) c.requires.index in
-    are_read (mod_is_set a p b c.args.j c.args.modulator c.set_mod.new.self.owners within c.set_mod.ensures.owners)
+    let b = bag_place (held c.self.invariant c.self.view_is) c.args.i c.args.place c.requires.there c.in-Some.at c.in-Some.ensures in
+    are_read (mod_is_set b c.args.j c.args.modulator c.set_mod.new.self.owners c.requires.index c.set_mod.ensures.owners)
 
 pub returns-clause-value : goal.returns-clause-value
 returns-clause-value g c =
-    let a = held c.self.invariant c.self.view_is in
-    let p = place_there a c.args.i c.args.place c.requires.there in
-    let b = place_bag_there p c.in-Some.at c.in-Some.ensures in
-    let within = of_mods p (λ (mods : List Modulator). c.args.j < length mods) c.requires.index in
-    let same = ap length (mods_held p b c.mods.result.now c.mods.ensures) in
-    let inside : c.args.j < length c.mods.result.now = omega arith in
-    mod_read p b c.args.j c.mods.result.now _ c.mods.ensures inside
+    let b = bag_place (held c.self.invariant c.self.view_is) c.args.i c.args.place c.requires.there c.in-Some.at c.in-Some.ensures in
+    mod_read b c.args.j c.mods.result.now c.requires.index c.mods.ensures _
 
 pub returns-clause-change : goal.returns-clause-change
 returns-clause-change g c =
-    let a = held c.self.invariant c.self.view_is in
-    let p = place_there a c.args.i c.args.place c.requires.there in
-    let b = place_bag_there p c.in-Some.at c.in-Some.ensures in
-    let within = of_mods p (λ (mods : List Modulator). c.args.j < length mods) c.requires.index in
-    read (mod_is_set a p b c.args.j c.args.modulator c.set_mod.new.self.owners within c.set_mod.ensures.owners)
+    let b = bag_place (held c.self.invariant c.self.view_is) c.args.i c.args.place c.requires.there c.in-Some.at c.in-Some.ensures in
+    read (mod_is_set b c.args.j c.args.modulator c.set_mod.new.self.owners c.requires.index c.set_mod.ensures.owners)

@@ -1,4 +1,4 @@
-use Rattle.std.proofs.Common.{◌≡◌, ◌∙◌}
+use Rattle.std.proofs.Common.{◌∙◌}
 use Rattle.flat_records.proofs.Wholes.{all-cut}
 use Rattle.flat_records.proofs.bags.Bags.empty_bag.Goals as goal
 

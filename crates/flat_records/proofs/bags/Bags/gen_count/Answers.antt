@@ -1,16 +1,9 @@
-use Rattle.std.proofs.Common.{◌≡◌, ap, arith}
-use Rattle.flat_records.specs.Stored.{Stored}
-use Rattle.flat_records.proofs.Spots.{gens_size}
+use Rattle.std.proofs.Common.{◌∙◌}
+use Rattle.flat_records.proofs.TableLaws.{held, gens_size, without_last}
 use Rattle.flat_records.proofs.bags.Bags.gen_count.Goals as goal
 
 pub overflow_sub-result : goal.overflow_sub-result
-overflow_sub-result c =
-    let size = gens_size (record { bags = c.self.inside.bags.items; gens = c.self.inside.gens.items; mods = c.self.inside.mods.items }) c.args.self.now.bags c.self.invariant (ap (λ (s : Stored). s.bags) c.self.view_is) in
-    let ok = c.self.inside.gens.ok in
-    omega (arith, ok.0)
+overflow_sub-result c = (without_last (gens_size (held c.self.invariant c.self.view_is)) (c.len.ensures ∙ c.self.inside.gens.ok.0)).0
 
 pub returns : goal.returns
-returns c =
-    let size = gens_size (record { bags = c.self.inside.bags.items; gens = c.self.inside.gens.items; mods = c.self.inside.mods.items }) c.args.self.now.bags c.self.invariant (ap (λ (s : Stored). s.bags) c.self.view_is) in
-    let ok = c.self.inside.gens.ok in
-    omega (arith, ok.0)
+returns c = (without_last (gens_size (held c.self.invariant c.self.view_is)) (c.len.ensures ∙ c.self.inside.gens.ok.0)).1

@@ -1,45 +1,24 @@
-use Rattle.std.proofs.Common.{◌≡◌, ◌-◌, ◌≤◌, ℕ, length, take, drop, ◌∙◌, ap, arith}
+use Rattle.std.proofs.Common.{◌≡◌, ℕ, ap, arith}
 use Rattle.flat_records.specs.Bags.{Bag}
-use Rattle.flat_records.specs.Stored.{Stored}
-use Rattle.flat_records.proofs.Spots.{within_bags, spot, place_read, next_read, mods_read, at_value}
+use Rattle.flat_records.proofs.TableLaws.{held, bags_size, index_there}
+use Rattle.flat_records.proofs.Spots.{any_bag, between, part_read, past_read, mods_part, at_value}
 use Rattle.flat_records.proofs.bags.Bags.mods.Goals as goal
 
 pub index-requires : goal.index-requires
-index-requires c =
-    let s = spot (record { bags = c.self.inside.bags.items; gens = c.self.inside.gens.items; mods = c.self.inside.mods.items }) c.args.self.now.bags c.args.k (λ (b : Bag). 0 ≤ length b.gens) c.self.invariant (ap (λ (s : Stored). s.bags) c.self.view_is) (within_bags c.args.self.now.bags c.args.k c.requires) in
-    let i = s.index in let bags_ok = c.self.inside.bags.ok in omega (arith, bags_ok.0)
+index-requires c = index_there (held c.self.invariant c.self.view_is) (omega arith) c.self.inside.bags.ok.0
 
 pub overflow_add-k : goal.overflow_add-k
-overflow_add-k c =
-    let s = spot (record { bags = c.self.inside.bags.items; gens = c.self.inside.gens.items; mods = c.self.inside.mods.items }) c.args.self.now.bags c.args.k (λ (b : Bag). 0 ≤ length b.gens) c.self.invariant (ap (λ (s : Stored). s.bags) c.self.view_is) (within_bags c.args.self.now.bags c.args.k c.requires) in
-    let more = s.more in let bags_ok = c.self.inside.bags.ok in omega (arith, bags_ok.0, bags_ok.1)
+overflow_add-k c = let size = bags_size (held c.self.invariant c.self.view_is) in let ok = c.self.inside.bags.ok in omega (arith, ok.0, ok.1)
 
 pub index-requires-2 : goal.index-requires-2
-index-requires-2 c =
-    let s = spot (record { bags = c.self.inside.bags.items; gens = c.self.inside.gens.items; mods = c.self.inside.mods.items }) c.args.self.now.bags c.args.k (λ (b : Bag). 0 ≤ length b.gens) c.self.invariant (ap (λ (s : Stored). s.bags) c.self.view_is) (within_bags c.args.self.now.bags c.args.k c.requires) in
-    let more = s.more in let bags_ok = c.self.inside.bags.ok in omega (arith, bags_ok.0, bags_ok.1)
+index-requires-2 c = index_there (held c.self.invariant c.self.view_is) (omega arith) c.self.inside.bags.ok.0
 
-pub part-requires-clause-start : goal.part-requires-clause-start
-part-requires-clause-start c =
-    let s = spot (record { bags = c.self.inside.bags.items; gens = c.self.inside.gens.items; mods = c.self.inside.mods.items }) c.args.self.now.bags c.args.k (λ (b : Bag). 0 ≤ length b.gens) c.self.invariant (ap (λ (s : Stored). s.bags) c.self.view_is) (within_bags c.args.self.now.bags c.args.k c.requires) in
-    let at = place_read (record { bags = c.self.inside.bags.items; gens = c.self.inside.gens.items; mods = c.self.inside.mods.items }) c.args.self.now.bags c.args.k (λ (b : Bag). 0 ≤ length b.gens) s c.index.result.now c.index.ensures in
-    let next = next_read (record { bags = c.self.inside.bags.items; gens = c.self.inside.gens.items; mods = c.self.inside.mods.items }) c.args.self.now.bags c.args.k (λ (b : Bag). 0 ≤ length b.gens) s c.index-2.result.now c.index-2.ensures in
-    let first = ap (λ (m : ℕ × ℕ). m.1) at in let last = ap (λ (m : ℕ × ℕ). m.1) next in let within = s.mods in let i = s.index in let more = s.more in let list_ok = c.self.inside.mods.ok in let bags_ok = c.self.inside.bags.ok in
-    omega (arith, list_ok.0, list_ok.1, bags_ok.0, bags_ok.1)
-
-pub part-requires-clause-end : goal.part-requires-clause-end
-part-requires-clause-end c =
-    let s = spot (record { bags = c.self.inside.bags.items; gens = c.self.inside.gens.items; mods = c.self.inside.mods.items }) c.args.self.now.bags c.args.k (λ (b : Bag). 0 ≤ length b.gens) c.self.invariant (ap (λ (s : Stored). s.bags) c.self.view_is) (within_bags c.args.self.now.bags c.args.k c.requires) in
-    let at = place_read (record { bags = c.self.inside.bags.items; gens = c.self.inside.gens.items; mods = c.self.inside.mods.items }) c.args.self.now.bags c.args.k (λ (b : Bag). 0 ≤ length b.gens) s c.index.result.now c.index.ensures in
-    let next = next_read (record { bags = c.self.inside.bags.items; gens = c.self.inside.gens.items; mods = c.self.inside.mods.items }) c.args.self.now.bags c.args.k (λ (b : Bag). 0 ≤ length b.gens) s c.index-2.result.now c.index-2.ensures in
-    let first = ap (λ (m : ℕ × ℕ). m.1) at in let last = ap (λ (m : ℕ × ℕ). m.1) next in let within = s.mods in let i = s.index in let more = s.more in let list_ok = c.self.inside.mods.ok in let bags_ok = c.self.inside.bags.ok in
-    omega (arith, list_ok.0, list_ok.1, bags_ok.0, bags_ok.1)
+pub part-requires : goal.part-requires
+part-requires c =
+    let s = any_bag (held c.self.invariant c.self.view_is) c.args.k c.requires in
+    between (mods_part s c.index.ensures) (ap (λ (m : ℕ × ℕ). m.1) (past_read s c.index.ensures c.index-2.ensures)) c.deref.ensures.value
 
 pub returns : goal.returns
 returns c =
-    let s = spot (record { bags = c.self.inside.bags.items; gens = c.self.inside.gens.items; mods = c.self.inside.mods.items }) c.args.self.now.bags c.args.k (λ (b : Bag). 0 ≤ length b.gens) c.self.invariant (ap (λ (s : Stored). s.bags) c.self.view_is) (within_bags c.args.self.now.bags c.args.k c.requires) in
-    let at = place_read (record { bags = c.self.inside.bags.items; gens = c.self.inside.gens.items; mods = c.self.inside.mods.items }) c.args.self.now.bags c.args.k (λ (b : Bag). 0 ≤ length b.gens) s c.index.result.now c.index.ensures in
-    let next = next_read (record { bags = c.self.inside.bags.items; gens = c.self.inside.gens.items; mods = c.self.inside.mods.items }) c.args.self.now.bags c.args.k (λ (b : Bag). 0 ≤ length b.gens) s c.index-2.result.now c.index-2.ensures in
-    let list : take (c.index-2.result.now.1 - c.index.result.now.1) (drop c.index.result.now.1 c.deref.result.now) ≡ s.bag.mods =
-    mods_read (record { bags = c.self.inside.bags.items; gens = c.self.inside.gens.items; mods = c.self.inside.mods.items }) c.args.self.now.bags c.args.k (λ (b : Bag). 0 ≤ length b.gens) s c.index.result.now c.index-2.result.now c.deref.result.now at next c.deref.ensures.value in
-    at_value (record { bags = c.self.inside.bags.items; gens = c.self.inside.gens.items; mods = c.self.inside.mods.items }) c.args.self.now.bags c.args.k (λ (b : Bag). 0 ≤ length b.gens) s (λ (b : Bag). c.part.result.now ≡ b.mods) (c.part.ensures ∙ list)
+    let s = any_bag (held c.self.invariant c.self.view_is) c.args.k c.requires in
+    at_value s (λ (b : Bag). c.part.result.now ≡ b.mods) (part_read (mods_part s c.index.ensures) (ap (λ (m : ℕ × ℕ). m.1) (past_read s c.index.ensures c.index-2.ensures)) c.deref.ensures.value c.part.ensures)

@@ -1,4 +1,4 @@
-use Rattle.std.proofs.Common.{◌≡◌, ◌≤◌, [], length, insert, refl, ◌∙◌, ap, append-nil, arith}
+use Rattle.std.proofs.Common.{length, insert, refl, ◌∙◌, ap, append-nil, arith}
 use Rattle.flat_records.specs.Runs.{put}
 use Rattle.flat_records.specs.Bags.{Bag, no_bag}
 use Rattle.flat_records.proofs.Wholes.{changed_inserted, flat-inserted}

@@ -1,84 +1,41 @@
-use Rattle.std.proofs.Common.{◌≡◌, ◌<◌, length, get_or, ◌∙◌, ap, arith}
-use Rattle.flat_records.specs.Runs.{exchanged}
-use Rattle.flat_records.specs.Bags.{Tables, tables_of}
-use Rattle.flat_records.specs.Stored.{Stored}
-use Rattle.flat_records.proofs.Spots.{size_of}
-use Rattle.flat_records.proofs.TableLaws.{read, are_tables}
-use Rattle.flat_records.proofs.Turns.{turn}
+use Rattle.std.proofs.Common.{length, get_or, ◌∙◌, ap, arith}
+use Rattle.flat_records.proofs.TableLaws.{bags_read, are_read, held, index_there}
+use Rattle.flat_records.proofs.Turns.{Turn, turn, bags_turned}
+use Rattle.flat_records.proofs.bags.Bags.rotate.Goals.{After-index-stop}
 use Rattle.flat_records.proofs.bags.Bags.rotate.Goals as goal
 
+-- what the three indexes say of the bags
+turned : (c : After-index-stop) → Turn (record { bags = c.self.inside.bags.items; gens = c.self.inside.gens.items; mods = c.self.inside.mods.items }) c.args.self.now.bags c.args.a c.args.b c.args.c c.index-start.result c.index-middle.result c.index-stop.result
+turned c =
+    turn (held c.self.invariant c.self.view_is) c.requires.first c.requires.second c.requires.last
+    (c.index-start.ensures.index ∙ ap (λ bags. get_or bags c.args.a c.index-start.result) c.deref.ensures.value)
+    (c.index-middle.ensures.index ∙ ap (λ bags. get_or bags c.args.b c.index-middle.result) c.deref-2.ensures.value)
+    (c.index-stop.ensures.index ∙ ap (λ bags. get_or bags c.args.c c.index-stop.result) c.deref-3.ensures.value)
+
 pub index-start-requires : goal.index-start-requires
-index-start-requires c =
-    let size = size_of (record { bags = c.self.inside.bags.items; gens = c.self.inside.gens.items; mods = c.self.inside.mods.items }) c.args.self.now.bags c.self.invariant (ap (λ (s : Stored). s.bags) c.self.view_is) in
-    let same = ap length c.deref.ensures.value in
-    let first = c.requires.first in
-    let second = c.requires.second in
-    let last = c.requires.last in
-    omega arith
+index-start-requires c = index_there (held c.self.invariant c.self.view_is) (omega arith) (ap length c.deref.ensures.value)
 
 pub index-middle-requires : goal.index-middle-requires
-index-middle-requires c =
-    let size = size_of (record { bags = c.self.inside.bags.items; gens = c.self.inside.gens.items; mods = c.self.inside.mods.items }) c.args.self.now.bags c.self.invariant (ap (λ (s : Stored). s.bags) c.self.view_is) in
-    let same = ap length c.deref-2.ensures.value in
-    let first = c.requires.first in
-    let second = c.requires.second in
-    let last = c.requires.last in
-    omega arith
+index-middle-requires c = index_there (held c.self.invariant c.self.view_is) (omega arith) (ap length c.deref-2.ensures.value)
 
 pub index-stop-requires : goal.index-stop-requires
-index-stop-requires c =
-    let size = size_of (record { bags = c.self.inside.bags.items; gens = c.self.inside.gens.items; mods = c.self.inside.mods.items }) c.args.self.now.bags c.self.invariant (ap (λ (s : Stored). s.bags) c.self.view_is) in
-    let same = ap length c.deref-3.ensures.value in
-    let first = c.requires.first in
-    let second = c.requires.second in
-    let last = c.requires.last in
-    omega arith
+index-stop-requires c = index_there (held c.self.invariant c.self.view_is) c.requires.last (ap length c.deref-3.ensures.value)
 
 pub exchange_within-requires : goal.exchange_within-requires
-exchange_within-requires c =
-    let t = turn (record { bags = c.self.inside.bags.items; gens = c.self.inside.gens.items; mods = c.self.inside.mods.items }) c.args.self.now.bags c.args.a c.args.b c.args.c c.self.invariant (ap (λ (s : Stored). s.bags) c.self.view_is) c.requires.first c.requires.second c.requires.last
-    c.index-start.result c.index-middle.result c.index-stop.result
-    (c.index-start.ensures.index ∙ ap (λ bags. get_or bags c.args.a c.index-start.result) c.deref.ensures.value)
-    (c.index-middle.ensures.index ∙ ap (λ bags. get_or bags c.args.b c.index-middle.result) c.deref-2.ensures.value)
-    (c.index-stop.ensures.index ∙ ap (λ bags. get_or bags c.args.c c.index-stop.result) c.deref-3.ensures.value) in
-    t.gens
+exchange_within-requires c = (turned (goal.at.exchange_within-requires c).After-index-stop).gens
 
 pub exchange_within-requires-2 : goal.exchange_within-requires-2
-exchange_within-requires-2 c =
-    let t = turn (record { bags = c.self.inside.bags.items; gens = c.self.inside.gens.items; mods = c.self.inside.mods.items }) c.args.self.now.bags c.args.a c.args.b c.args.c c.self.invariant (ap (λ (s : Stored). s.bags) c.self.view_is) c.requires.first c.requires.second c.requires.last
-    c.index-start.result c.index-middle.result c.index-stop.result
-    (c.index-start.ensures.index ∙ ap (λ bags. get_or bags c.args.a c.index-start.result) c.deref.ensures.value)
-    (c.index-middle.ensures.index ∙ ap (λ bags. get_or bags c.args.b c.index-middle.result) c.deref-2.ensures.value)
-    (c.index-stop.ensures.index ∙ ap (λ bags. get_or bags c.args.c c.index-stop.result) c.deref-3.ensures.value) in
-    t.mods
+exchange_within-requires-2 c = (turned (goal.at.exchange_within-requires-2 c).After-index-stop).mods
 
 pub exchange_indexes-requires : goal.exchange_indexes-requires
 exchange_indexes-requires c =
-    let t = turn (record { bags = c.self.inside.bags.items; gens = c.self.inside.gens.items; mods = c.self.inside.mods.items }) c.args.self.now.bags c.args.a c.args.b c.args.c c.self.invariant (ap (λ (s : Stored). s.bags) c.self.view_is) c.requires.first c.requires.second c.requires.last
-    c.index-start.result c.index-middle.result c.index-stop.result
-    (c.index-start.ensures.index ∙ ap (λ bags. get_or bags c.args.a c.index-start.result) c.deref.ensures.value)
-    (c.index-middle.ensures.index ∙ ap (λ bags. get_or bags c.args.b c.index-middle.result) c.deref-2.ensures.value)
-    (c.index-stop.ensures.index ∙ ap (λ bags. get_or bags c.args.c c.index-stop.result) c.deref-3.ensures.value) in
-    record { places = t.bags; gens = t.gens_rise; mods = t.mods_rise; lower = t.lower; raise = t.raise c.index-stop.ensures.fits.0 c.index-stop.ensures.fits.1 }
+    let t = turned (goal.at.exchange_indexes-requires c).After-index-stop in
+    record { places = t.windows; gens = t.gens_rise; mods = t.mods_rise; lower = t.lower; raise = t.raise c.index-stop.ensures.fits.0 c.index-stop.ensures.fits.1 }
 
 pub invariant_of-self : goal.invariant_of-self
 invariant_of-self c =
-    let t = turn (record { bags = c.self.inside.bags.items; gens = c.self.inside.gens.items; mods = c.self.inside.mods.items }) c.args.self.now.bags c.args.a c.args.b c.args.c c.self.invariant (ap (λ (s : Stored). s.bags) c.self.view_is) c.requires.first c.requires.second c.requires.last
-    c.index-start.result c.index-middle.result c.index-stop.result
-    (c.index-start.ensures.index ∙ ap (λ bags. get_or bags c.args.a c.index-start.result) c.deref.ensures.value)
-    (c.index-middle.ensures.index ∙ ap (λ bags. get_or bags c.args.b c.index-middle.result) c.deref-2.ensures.value)
-    (c.index-stop.ensures.index ∙ ap (λ bags. get_or bags c.args.c c.index-stop.result) c.deref-3.ensures.value) in
-    let new : Tables = record { bags = c.exchange_indexes.new.bags.items; gens = c.exchange_within.new.list.items; mods = c.exchange_within-2.new.list.items } in
-    let same = (λ i. record { bags = c.exchange_indexes.ensures.list i; gens = c.exchange_within.ensures.list i; mods = c.exchange_within-2.ensures.list i }) ∙ (t.turned ∙ ap (λ bags. tables_of (exchanged bags c.args.a c.args.b c.args.c)) (ap (λ (s : Stored). s.bags) c.self.view_is)) in
-    are_tables new (exchanged c.args.self.now.bags c.args.a c.args.b c.args.c) same
+    are_read (bags_turned (turned (goal.at.invariant_of-self c).After-index-stop) c.exchange_indexes.ensures.list c.exchange_within.ensures.list c.exchange_within-2.ensures.list)
 
 pub returns-clause-bags : goal.returns-clause-bags
 returns-clause-bags c =
-    let t = turn (record { bags = c.self.inside.bags.items; gens = c.self.inside.gens.items; mods = c.self.inside.mods.items }) c.args.self.now.bags c.args.a c.args.b c.args.c c.self.invariant (ap (λ (s : Stored). s.bags) c.self.view_is) c.requires.first c.requires.second c.requires.last
-    c.index-start.result c.index-middle.result c.index-stop.result
-    (c.index-start.ensures.index ∙ ap (λ bags. get_or bags c.args.a c.index-start.result) c.deref.ensures.value)
-    (c.index-middle.ensures.index ∙ ap (λ bags. get_or bags c.args.b c.index-middle.result) c.deref-2.ensures.value)
-    (c.index-stop.ensures.index ∙ ap (λ bags. get_or bags c.args.c c.index-stop.result) c.deref-3.ensures.value) in
-    let new : Tables = record { bags = c.exchange_indexes.new.bags.items; gens = c.exchange_within.new.list.items; mods = c.exchange_within-2.new.list.items } in
-    let same = (λ i. record { bags = c.exchange_indexes.ensures.list i; gens = c.exchange_within.ensures.list i; mods = c.exchange_within-2.ensures.list i }) ∙ (t.turned ∙ ap (λ bags. tables_of (exchanged bags c.args.a c.args.b c.args.c)) (ap (λ (s : Stored). s.bags) c.self.view_is)) in
-    read new (exchanged c.args.self.now.bags c.args.a c.args.b c.args.c) same
+    bags_read (bags_turned (turned (goal.at.returns-clause-bags c).After-index-stop) c.exchange_indexes.ensures.list c.exchange_within.ensures.list c.exchange_within-2.ensures.list)

@@ -1,51 +1,18 @@
-use Rattle.std.proofs.Common.{◌≤◌, ◌+◌, length, get_or, subst, sym, ◌∙◌, ap, arith}
+use Rattle.std.proofs.Common.{◌≤◌, ◌+◌, length}
 use Rattle.flat_records.specs.Runs.{cut}
 use Rattle.flat_records.specs.Bags.{Bag, with_gens}
-use Rattle.owner_bags.specs.Owned.{Flat, bag_changed}
-use Rattle.owner_bags.specs.Stored.{Stored}
 use Rattle.owner_bags.proofs.Owners.{read, are_read, held}
-use Rattle.owner_bags.proofs.Places.{spot, at_place, changed_to}
+use Rattle.owner_bags.proofs.Places.{spot, place_there, bag_there, bag_sent}
 use Rattle.owner_bags.proofs.owned.OwnerBags.cut_gens.Goals as goal
 
-pub place-at-requires-clause-owner : goal.place-at-requires-clause-owner
-place-at-requires-clause-owner c =
-    let t : Flat = record { begins = c.self.inside.begins.items; bags = c.self.inside.bags.bags } in
-    let e = held t c.args.self.now.owners c.self.invariant (ap (λ (s : Stored). s.owners) c.self.view_is) in
-    let s = spot t c.args.self.now.owners c.args.i c.args.k (λ (b : Bag). c.args.j + c.args.n ≤ length b.gens) e c.requires in
-    let more = s.more in
-    let same = ap length c.deref.ensures.value in
-    omega arith
-
-pub place-at-requires-clause-bag : goal.place-at-requires-clause-bag
-place-at-requires-clause-bag c =
-    let t : Flat = record { begins = c.self.inside.begins.items; bags = c.self.inside.bags.bags } in
-    let e = held t c.args.self.now.owners c.self.invariant (ap (λ (s : Stored). s.owners) c.self.view_is) in
-    let s = spot t c.args.self.now.owners c.args.i c.args.k (λ (b : Bag). c.args.j + c.args.n ≤ length b.gens) e c.requires in
-    let fits = s.fits in
-    subst (λ begins. get_or begins c.args.i 0 + c.args.k ≤ get_or begins (c.args.i + 1) 0) (sym c.deref.ensures.value) (omega arith)
+pub place-at-requires : goal.place-at-requires
+place-at-requires c = place_there (spot (held c.self.invariant c.self.view_is) c.args.i c.args.k (λ (b : Bag). c.args.j + c.args.n ≤ length b.gens) c.requires).gap c.deref.ensures.value
 
 pub cut_gens-requires : goal.cut_gens-requires
-cut_gens-requires c =
-    let t : Flat = record { begins = c.self.inside.begins.items; bags = c.self.inside.bags.bags } in
-    let e = held t c.args.self.now.owners c.self.invariant (ap (λ (s : Stored). s.owners) c.self.view_is) in
-    let s = spot t c.args.self.now.owners c.args.i c.args.k (λ (b : Bag). c.args.j + c.args.n ≤ length b.gens) e c.requires in
-    let at = c.place-at.ensures ∙ ap (λ begins. get_or begins c.args.i 0 + c.args.k) c.deref.ensures.value in
-    at_place t c.args.self.now.owners c.args.i c.args.k (λ (b : Bag). c.args.j + c.args.n ≤ length b.gens) s c.place-at.result at (λ (b : Bag). c.args.j + c.args.n ≤ length b.gens) (λ h. h)
+cut_gens-requires c = bag_there (spot (held c.self.invariant c.self.view_is) c.args.i c.args.k (λ (b : Bag). c.args.j + c.args.n ≤ length b.gens) c.requires) c.deref.ensures.value c.place-at.ensures
 
 pub invariant_of-self : goal.invariant_of-self
-invariant_of-self c =
-    let t : Flat = record { begins = c.self.inside.begins.items; bags = c.self.inside.bags.bags } in
-    let e = held t c.args.self.now.owners c.self.invariant (ap (λ (s : Stored). s.owners) c.self.view_is) in
-    let s = spot t c.args.self.now.owners c.args.i c.args.k (λ (b : Bag). c.args.j + c.args.n ≤ length b.gens) e c.requires in
-    let at = c.place-at.ensures ∙ ap (λ begins. get_or begins c.args.i 0 + c.args.k) c.deref.ensures.value in
-    let new : Flat = record { begins = c.self.inside.begins.items; bags = c.cut_gens.new.self.bags } in
-    are_read new (bag_changed c.args.self.now.owners c.args.i c.args.k (λ (b : Bag). with_gens (cut b.gens c.args.j c.args.n) b)) (changed_to t c.args.self.now.owners c.args.i c.args.k (λ (b : Bag). c.args.j + c.args.n ≤ length b.gens) s c.place-at.result at (λ (b : Bag). with_gens (cut b.gens c.args.j c.args.n) b) c.cut_gens.new.self.bags c.cut_gens.ensures.bags)
+invariant_of-self c = are_read (bag_sent (spot (held c.self.invariant c.self.view_is) c.args.i c.args.k (λ (b : Bag). c.args.j + c.args.n ≤ length b.gens) c.requires) c.deref.ensures.value c.place-at.ensures (λ (b : Bag). with_gens (cut b.gens c.args.j c.args.n) b) c.cut_gens.ensures.bags)
 
 pub returns-clause-owners : goal.returns-clause-owners
-returns-clause-owners c =
-    let t : Flat = record { begins = c.self.inside.begins.items; bags = c.self.inside.bags.bags } in
-    let e = held t c.args.self.now.owners c.self.invariant (ap (λ (s : Stored). s.owners) c.self.view_is) in
-    let s = spot t c.args.self.now.owners c.args.i c.args.k (λ (b : Bag). c.args.j + c.args.n ≤ length b.gens) e c.requires in
-    let at = c.place-at.ensures ∙ ap (λ begins. get_or begins c.args.i 0 + c.args.k) c.deref.ensures.value in
-    let new : Flat = record { begins = c.self.inside.begins.items; bags = c.cut_gens.new.self.bags } in
-    read new (bag_changed c.args.self.now.owners c.args.i c.args.k (λ (b : Bag). with_gens (cut b.gens c.args.j c.args.n) b)) (changed_to t c.args.self.now.owners c.args.i c.args.k (λ (b : Bag). c.args.j + c.args.n ≤ length b.gens) s c.place-at.result at (λ (b : Bag). with_gens (cut b.gens c.args.j c.args.n) b) c.cut_gens.new.self.bags c.cut_gens.ensures.bags)
+returns-clause-owners c = read (bag_sent (spot (held c.self.invariant c.self.view_is) c.args.i c.args.k (λ (b : Bag). c.args.j + c.args.n ≤ length b.gens) c.requires) c.deref.ensures.value c.place-at.ensures (λ (b : Bag). with_gens (cut b.gens c.args.j c.args.n) b) c.cut_gens.ensures.bags)

@@ -1,50 +1,17 @@
-use Rattle.std.proofs.Common.{◌≤◌, ◌<◌, ◌+◌, length, set, get_or, subst, sym, ◌∙◌, ap, arith}
+use Rattle.std.proofs.Common.{◌<◌, length, set}
 use Rattle.flat_records.specs.Bags.{Bag, with_mods}
-use Rattle.owner_bags.specs.Owned.{Flat, bag_changed}
-use Rattle.owner_bags.specs.Stored.{Stored}
 use Rattle.owner_bags.proofs.Owners.{read, are_read, held}
-use Rattle.owner_bags.proofs.Places.{spot, at_place, changed_to}
+use Rattle.owner_bags.proofs.Places.{spot, place_there, bag_there, bag_sent}
 use Rattle.owner_bags.proofs.owned.OwnerBags.set_mod.Goals as goal
 
-pub place-at-requires-clause-owner : goal.place-at-requires-clause-owner
-place-at-requires-clause-owner c =
-    let t : Flat = record { begins = c.self.inside.begins.items; bags = c.self.inside.bags.bags } in
-    let e = held t c.args.self.now.owners c.self.invariant (ap (λ (s : Stored). s.owners) c.self.view_is) in
-    let s = spot t c.args.self.now.owners c.args.i c.args.k (λ (b : Bag). c.args.j < length b.mods) e c.requires in
-    let more = s.more in
-    let same = ap length c.deref.ensures.value in
-    omega arith
-
-pub place-at-requires-clause-bag : goal.place-at-requires-clause-bag
-place-at-requires-clause-bag c =
-    let t : Flat = record { begins = c.self.inside.begins.items; bags = c.self.inside.bags.bags } in
-    let e = held t c.args.self.now.owners c.self.invariant (ap (λ (s : Stored). s.owners) c.self.view_is) in
-    let s = spot t c.args.self.now.owners c.args.i c.args.k (λ (b : Bag). c.args.j < length b.mods) e c.requires in
-    let fits = s.fits in
-    subst (λ begins. get_or begins c.args.i 0 + c.args.k ≤ get_or begins (c.args.i + 1) 0) (sym c.deref.ensures.value) (omega arith)
+pub place-at-requires : goal.place-at-requires
+place-at-requires c = place_there (spot (held c.self.invariant c.self.view_is) c.args.i c.args.k (λ (b : Bag). c.args.j < length b.mods) c.requires).gap c.deref.ensures.value
 
 pub set_mod-requires : goal.set_mod-requires
-set_mod-requires c =
-    let t : Flat = record { begins = c.self.inside.begins.items; bags = c.self.inside.bags.bags } in
-    let e = held t c.args.self.now.owners c.self.invariant (ap (λ (s : Stored). s.owners) c.self.view_is) in
-    let s = spot t c.args.self.now.owners c.args.i c.args.k (λ (b : Bag). c.args.j < length b.mods) e c.requires in
-    let at = c.place-at.ensures ∙ ap (λ begins. get_or begins c.args.i 0 + c.args.k) c.deref.ensures.value in
-    record { place = at_place t c.args.self.now.owners c.args.i c.args.k (λ (b : Bag). c.args.j < length b.mods) s c.place-at.result at (λ (b : Bag). c.args.j < length b.mods) (λ h. h) }
+set_mod-requires c = record { place = bag_there (spot (held c.self.invariant c.self.view_is) c.args.i c.args.k (λ (b : Bag). c.args.j < length b.mods) c.requires) c.deref.ensures.value c.place-at.ensures }
 
 pub invariant_of-self : goal.invariant_of-self
-invariant_of-self c =
-    let t : Flat = record { begins = c.self.inside.begins.items; bags = c.self.inside.bags.bags } in
-    let e = held t c.args.self.now.owners c.self.invariant (ap (λ (s : Stored). s.owners) c.self.view_is) in
-    let s = spot t c.args.self.now.owners c.args.i c.args.k (λ (b : Bag). c.args.j < length b.mods) e c.requires in
-    let at = c.place-at.ensures ∙ ap (λ begins. get_or begins c.args.i 0 + c.args.k) c.deref.ensures.value in
-    let new : Flat = record { begins = c.self.inside.begins.items; bags = c.set_mod.new.self.bags } in
-    are_read new (bag_changed c.args.self.now.owners c.args.i c.args.k (λ (b : Bag). with_mods (set b.mods c.args.j c.args.modulator) b)) (changed_to t c.args.self.now.owners c.args.i c.args.k (λ (b : Bag). c.args.j < length b.mods) s c.place-at.result at (λ (b : Bag). with_mods (set b.mods c.args.j c.args.modulator) b) c.set_mod.new.self.bags c.set_mod.ensures.bags)
+invariant_of-self c = are_read (bag_sent (spot (held c.self.invariant c.self.view_is) c.args.i c.args.k (λ (b : Bag). c.args.j < length b.mods) c.requires) c.deref.ensures.value c.place-at.ensures (λ (b : Bag). with_mods (set b.mods c.args.j c.args.modulator) b) c.set_mod.ensures.bags)
 
 pub returns-clause-owners : goal.returns-clause-owners
-returns-clause-owners c =
-    let t : Flat = record { begins = c.self.inside.begins.items; bags = c.self.inside.bags.bags } in
-    let e = held t c.args.self.now.owners c.self.invariant (ap (λ (s : Stored). s.owners) c.self.view_is) in
-    let s = spot t c.args.self.now.owners c.args.i c.args.k (λ (b : Bag). c.args.j < length b.mods) e c.requires in
-    let at = c.place-at.ensures ∙ ap (λ begins. get_or begins c.args.i 0 + c.args.k) c.deref.ensures.value in
-    let new : Flat = record { begins = c.self.inside.begins.items; bags = c.set_mod.new.self.bags } in
-    read new (bag_changed c.args.self.now.owners c.args.i c.args.k (λ (b : Bag). with_mods (set b.mods c.args.j c.args.modulator) b)) (changed_to t c.args.self.now.owners c.args.i c.args.k (λ (b : Bag). c.args.j < length b.mods) s c.place-at.result at (λ (b : Bag). with_mods (set b.mods c.args.j c.args.modulator) b) c.set_mod.new.self.bags c.set_mod.ensures.bags)
+returns-clause-owners c = read (bag_sent (spot (held c.self.invariant c.self.view_is) c.args.i c.args.k (λ (b : Bag). c.args.j < length b.mods) c.requires) c.deref.ensures.value c.place-at.ensures (λ (b : Bag). with_mods (set b.mods c.args.j c.args.modulator) b) c.set_mod.ensures.bags)
