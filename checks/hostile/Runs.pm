@@ -5,6 +5,7 @@ use strict;
 use warnings;
 use Banks;
 use Cwd 'abs_path';
+use Starter;
 use Exporter 'import';
 our @EXPORT = qw(program_that_was_built run_in program_of_runs run run_command is_right tell totals canon apply apply_text knows_groups same undone);
 
@@ -25,7 +26,8 @@ our %REFUSALS = (
 );
 
 my ($program, $folder);
-our $preloaded;
+# What each run has in its environment beside what the check has there.
+our %settings;
 # What stands behind `apply` in each run of it.
 our @flags;
 # What stands before each line that is told.
@@ -44,7 +46,12 @@ sub program_that_was_built {
 }
 
 # The program that all runs are of, and the folder in which they are.
-sub run_in { ($program, $folder) = @_; chdir $folder or die "$folder: $!\n"; }
+sub run_in {
+    ($program, $folder) = @_;
+    chdir $folder or die "$folder: $!\n";
+    begin_starts($folder);
+}
+
 sub program_of_runs { return $program; }
 
 # Counts what was tried, and shows what went wrong with it: the first twenty.
@@ -60,22 +67,10 @@ sub totals { return ($passed, $failed); }
 # run was: its words, its status, the signal that ended it, the seconds that it computed, its line of errors.
 sub run {
     my ($words, $output) = @_;
-    my $before = (times)[2] + (times)[3];
-    my $child = fork // die;
-    if (!$child) {
-        $ENV{LD_PRELOAD} = $preloaded if $preloaded;
-        open STDOUT, '>', $output // 'printed' or die;
-        open STDERR, '>', 'errors' or die;
-        exec { $program } 'sfbank', @$words or die;
-    }
-    local $SIG{ALRM} = sub { kill 'KILL', $child };
-    alarm 120;
-    waitpid $child, 0;
-    my $status = $?;
-    alarm 0;
+    my ($status, $seconds) = started($program, $words, \%settings, '/dev/null', $output // 'printed', 'errors');
     return {
         words => join(' ', @$words), status => $status >> 8, signal => $status & 127,
-        seconds => (times)[2] + (times)[3] - $before, line => read_bytes('errors'), printed => -s 'printed',
+        seconds => $seconds, line => read_bytes('errors'), printed => -s 'printed',
     };
 }
 

@@ -46,9 +46,8 @@ sub file_of { my ($output) = @_; return $output eq '-' ? 'printed' : $output; }
 sub run_under {
     my ($shim, $settings, $words, @outputs) = @_;
     unlink 'mark', map { file_of($_) } @outputs;
-    local @ENV{ 'FAILED_MARK', keys %$settings } = ('mark', values %$settings);
-    local $ENV{FAILED_OUTPUT} = 1 if $outputs[0] eq '-';
-    local $Runs::preloaded = $shim;
+    my @output = $outputs[0] eq '-' ? (FAILED_OUTPUT => 1) : ();
+    local %Runs::settings = (LD_PRELOAD => $shim, FAILED_MARK => 'mark', @output, %$settings);
     return run($words);
 }
 

@@ -4,6 +4,7 @@ use strict;
 use warnings;
 use Banks;
 use Runs;
+use Starter;
 use Exporter 'import';
 our @EXPORT = qw(make_banks @BANKS live live_under told is_done one_line);
 
@@ -39,19 +40,7 @@ sub live_under {
     my ($settings, $bank, $lines) = @_;
     unlink qw(pcm answers errors mark);
     write_bytes('lines', $lines);
-    my $child = fork // die;
-    if (!$child) {
-        @ENV{ keys %$settings } = values %$settings;
-        open STDIN, '<', 'lines' or die;
-        open STDOUT, '>', 'answers' or die;
-        open STDERR, '>', 'errors' or die;
-        exec { program_of_runs() } 'sfbank', 'live', $bank, 'pcm' or die;
-    }
-    local $SIG{ALRM} = sub { kill 'KILL', $child };
-    alarm 120;
-    waitpid $child, 0;
-    my $status = $?;
-    alarm 0;
+    my ($status) = started(program_of_runs(), ['live', $bank, 'pcm'], $settings, qw(lines answers errors));
     return {
         status => $status >> 8, signal => $status & 127, line => read_bytes('errors'),
         answers => read_bytes('answers'), frames => read_bytes('pcm') // '',

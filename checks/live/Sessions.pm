@@ -93,18 +93,32 @@ sub line {
 # The script of the edits that lead to the bank as it is.
 sub script_of { my ($s) = @_; return join '', map { "$_\n" } @{ $s->{edits} }[0 .. $s->{at} - 1]; }
 
+# What `apply` makes of the bank under a script: its run, with the bytes of both outputs. A session comes back to a bank
+# again and again, which is made once.
+sub made_by {
+    my ($s, $script) = @_;
+    return $s->{made}{$script} //= made_anew($s->{bank}, $script);
+}
+
+sub made_anew {
+    my ($bank, $script) = @_;
+    my $run = apply_text($bank, $script, 'out', 'undo');
+    return { %$run, out => read_bytes('out'), undo => read_bytes('undo') };
+}
+
 # What `apply` says of the bank under these lines behind those that led to it: nothing where it takes them, or the line
 # without the number of its line.
 sub judged {
     my ($s, $line, @flags) = @_;
     my $run;
     if (@flags) {
-        my $made = apply_text($s->{bank}, script_of($s), 'now', 'undo');
+        my $made = made_by($s, script_of($s));
         return $made->{line} if $made->{status};
+        write_bytes('now', $made->{out});
         local @Runs::flags = @flags;
         $run = apply_text('now', "$line\n", 'out', 'undo');
     } else {
-        $run = apply_text($s->{bank}, script_of($s) . "$line\n", 'out', 'undo');
+        $run = made_by($s, script_of($s) . "$line\n");
     }
     return $run->{wrong} if $run->{wrong};
     return $run->{status} ? $run->{line} =~ s/^sfbank: line \d+: //r =~ s/\n\z//r : 'ok';
@@ -144,14 +158,15 @@ sub is_redone {
 sub is_saved {
     my ($s, $told, $out, $undo) = @_;
     my $wrong = answered('save', $told, 'ok');
-    my $run = apply_text($s->{bank}, script_of($s), 'out', 'undo');
-    return $wrong // $run->{wrong} // ($run->{status} ? $run->{line} : !same($out, 'out') ? "$out is another bank" : same($undo, 'undo') ? undef : "$undo is another way back");
+    my $run = made_by($s, script_of($s));
+    $wrong //= $run->{wrong} // ($run->{status} ? $run->{line} : undef);
+    return $wrong // (read_bytes($out) ne $run->{out} ? "$out is another bank" : read_bytes($undo) eq $run->{undo} ? undef : "$undo is another way back");
 }
 
 # The lines of the listing of the bank as it is, and `ok`.
 sub is_shown {
     my ($s, @told) = @_;
-    apply_text($s->{bank}, script_of($s), 'out', 'undo');
+    write_bytes('out', made_by($s, script_of($s))->{out});
     run(['show', 'out'], 'listing');
     $count{'show ok'}++;
     my $want = read_bytes('listing') =~ s/^counts.*\n//mr;
@@ -200,10 +215,12 @@ sub frames_of {
     my ($s) = @_;
     my @sum = (0) x (2 * $s->{frame});
     for my $script (sort keys %{ $s->{notes} }) {
-        my $made = apply_text($s->{bank}, $script, 'out', 'undo');
+        my $made = made_by($s, $script);
+        return (undef, $made->{wrong} // $made->{line}) if $made->{wrong} || $made->{status};
+        write_bytes('out', $made->{out});
         write_bytes('notes', join '', map { "$_\n" } @{ $s->{notes}{$script} });
         my $run = run_command(['play', 'out', 'notes', 'wave'], 'wave');
-        return (undef, $made->{wrong} // $run->{wrong} // $run->{line}) if $made->{status} || $run->{status} || $run->{wrong};
+        return (undef, $run->{wrong} // $run->{line}) if $run->{status} || $run->{wrong};
         my @samples = unpack 's<*', substr read_bytes('wave'), 44;
         my $last = @samples < @sum ? $#samples : $#sum;
         $sum[$_] += $samples[$_] for 0 .. $last;
@@ -220,7 +237,7 @@ sub wrong_of_run {
     my $stopped = $may_want && $run->{status} == 6 && $run->{line} eq "sfbank: out of memory\n";
     my $wrong = $stopped ? undef : is_done($run);
     return $wrong if $wrong;
-    my $session = { bank => $bank, edits => [], at => 0, frame => 0, notes => {} };
+    my $session = { bank => $bank, edits => [], at => 0, frame => 0, notes => {}, made => {} };
     my @left = told($run);
     pop @left;
     for my $line (grep { /^[^#]*\w/ && !/^ #/ } @lines) {

@@ -16,6 +16,26 @@ use crate::workspace::{LONGEST, Stages};
 use sample_view::Points;
 use zone_select::VoiceParameters;
 
+// Adds the frames from `t` on, all of which are ahead.
+fn add_ahead(points: &Points, v: &VoiceParameters, t: u64, ahead: &mut Ahead, sums: &mut [i32])
+    requires enough { length sums.old ≤ 2 * ahead.old.left }
+    requires even { length sums.old % 2 ≡ 0 }
+    requires playable { IsPlayable (length points.now) v.now }
+    requires ahead { IsAhead (record { points = points.now; parameters = v.now }) t ahead.old }
+    requires room { AllWithin 65534 sums.old }
+    ensures sums { EachIndex sums.new (λ i. IsAdded (slice_index_or sums.old i (pos 0))
+        (snd (record { points = points.now; parameters = v.now }) (nat_eq (i % 2) 0) (t + i / 2))
+        (slice_index_or sums.new i (pos 0))) }
+    ensures taken { length sums.old / 2 + ahead.new.left ≡ ahead.old.left }
+    ensures ahead { IsAhead (record { points = points.now; parameters = v.now }) (t + length sums.old / 2) ahead.new }
+{
+    let n = sums.len() / 2;
+    let run = &ahead.sounds[ahead.at..ahead.at + n];
+    add_sides(run, left_part(v), right_part(v), sums);
+    ahead.at += n;
+    ahead.left -= n;
+}
+
 // Adds the frames from `age` on, no more than a workspace has room for.
 fn add_part<'a>(
     points: &Points<'a>,
@@ -40,6 +60,10 @@ fn add_part<'a>(
     ensures ahead { IsAhead (record { points = points.now; parameters = v.now }) (age + length sums.old / 2) ahead.new }
     ensures course { IsCourse points.now v.now (age + length sums.old / 2 + ahead.new.left) course.new }
 {
+    if sums.len() / 2 <= ahead.left {
+        add_ahead(points, v, age, ahead, sums);
+        return;
+    }
     let run = &mut run[..sums.len() / 2];
     fill_next(points, v, age, course, ahead, stages, run);
     add_sides(run, left_part(v), right_part(v), sums);
