@@ -6,6 +6,7 @@ use bank_core::{
 };
 use bank_parts::OwnerHead;
 use generators::{GenMap, Level};
+use linked_members::LinkedMembers;
 use numbered_lists::NumberedList;
 use sample_view::Points;
 use sf_base::{Failure, Lent, Name20, OutOfMemory};
@@ -194,8 +195,8 @@ pub(crate) fn sample<'a>(
     alloc: Global,
     name: Name20,
     points: Points<'a>,
-) -> Result<NumberedList<Sample<'a>>, OutOfMemory> {
-    one(
+) -> Result<LinkedMembers<Sample<'a>>, OutOfMemory> {
+    let members = one(
         alloc,
         Sample {
             name,
@@ -206,7 +207,8 @@ pub(crate) fn sample<'a>(
             correction: 0,
             kind: Kind::Mono,
         },
-    )
+    )?;
+    Ok(LinkedMembers::from_vec(members.into_vec()))
 }
 
 /// The texts with the engine EMU8000, the others empty.

@@ -13,7 +13,8 @@ use Rattle.bank_parts.specs.declared.parts.Parts.{Parts}
 use Rattle.bank_parts.specs.Links.{OfLink}
 use Rattle.bank_parts.specs.Renumbered.{kind_renumbered, sample_renumbered, owner_renumbered, samples_renumbered}
 use Rattle.bank_parts.specs.Owners.{targets}
-use Rattle.bank_changes.specs.Samples.{links_to, sample_in_use}
+use Rattle.bank_parts.specs.Links.{links_to}
+use Rattle.bank_changes.specs.Samples.{sample_in_use}
 use Rattle.bank_parts.specs.Valid.{IsInstrument, IsSample, IsValid}
 use Rattle.bank_parts.specs.Fits.{Fits, FitsSample}
 use Rattle.bank_changes.proofs.OwnerReferences.{OfOwners, owners_always, owners_weaker, owners_both, owners_sent, owners_within, owners_valid, owners_fit, owners_kept, owners_back, untargeted, not_targeted}

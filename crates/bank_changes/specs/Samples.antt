@@ -1,12 +1,11 @@
 -- The raw changes of samples, and who names a sample.
-use Rattle.std.specs.Prelude.{ℕ, Bool, false, ◌==◌, ◌||◌, List, insert, remove}
+use Rattle.std.specs.Prelude.{ℕ, Bool, ◌||◌, List, insert, remove}
 use Rattle.std.specs.List.{list_any}
 use Rattle.numbered_lists.specs.declared.renumbering.Renumbering.TheVariants.{Insertion, Removal, Move}
 use Rattle.numbered_lists.specs.Moved.{changed, moved}
-use Rattle.bank_parts.specs.declared.parts.Kind.{Kind}
-use Rattle.bank_parts.specs.declared.parts.Kind.TheVariants.{Mono, Right, Left, Linked}
 use Rattle.bank_parts.specs.declared.parts.Sample.{Sample}
 use Rattle.bank_parts.specs.declared.parts.Parts.{Parts}
+use Rattle.bank_parts.specs.Links.{links_to}
 use Rattle.bank_parts.specs.Owners.{targets}
 use Rattle.bank_parts.specs.Renumbered.{samples_renumbered}
 
@@ -29,12 +28,6 @@ sample_removed b i = samples_renumbered (Removal i) (record b { samples = remove
 -- the sample of number i is number j, and the others keep their order
 abbrev pub sample_moved : Parts → ℕ → ℕ → Parts
 sample_moved b i j = samples_renumbered (Move i j) (record b { samples = moved b.samples i j })
-
-abbrev pub links_to : ℕ → Kind → Bool
-links_to number Mono = false
-links_to number (Right link) = link == number
-links_to number (Left link) = link == number
-links_to number (Linked link) = link == number
 
 -- a zone targets the sample, or another sample links to it
 unfoldable pub sample_in_use : Parts → ℕ → Bool

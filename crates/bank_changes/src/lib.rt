@@ -18,7 +18,7 @@ pub use laws::renaming_keeps_sound;
 pub use members::{Members, Owner, Place, place_of};
 pub use points::{extend_sample, set_kind, set_loop, set_tune, trim_sample};
 pub use presets::{insert_preset, move_preset, set_head, take_preset};
-pub use samples::{insert_sample, move_sample, others_link_to, rename_sample, take_sample};
+pub use samples::{insert_sample, move_sample, rename_sample, take_sample};
 pub use settings::{add_mod, clear_gen, records_there, remove_mod, set_gen, set_mod};
 pub use splits::{join_records, join_zone, split_records, split_zone};
 pub use texts::replace_text;

@@ -1,12 +1,9 @@
-//! The raw changes of a bank's samples, and who links to a sample.
-ghost use Rattle.std.specs.Prelude.{◌≡◌, ◌<◌, ◌≤◌, Some, length, slice_get, remove, IfSome, OnOk, OnErr, IfErr};
-ghost use Rattle.std.specs.List.{list_any};
-ghost use Rattle.bank_parts.specs.declared.parts.Sample.{Sample};
+//! The raw changes of a bank's samples.
+ghost use Rattle.std.specs.Prelude.{◌≡◌, ◌<◌, ◌≤◌, Some, length, slice_get, IfSome, OnOk, OnErr, IfErr};
 ghost use Rattle.bank_parts.specs.Valid.{IsValid};
 ghost use Rattle.bank_changes.specs.Samples.{sample_renamed, sample_added, sample_removed, sample_moved};
-ghost use Rattle.bank_changes.specs.Samples as uses;
 
-use bank_parts::{Kind, Parts, Sample};
+use bank_parts::{Parts, Sample};
 use numbered_lists::{Renumber, Renumbering};
 use sf_base::Name20;
 
@@ -75,32 +72,4 @@ pub fn move_sample(parts: &mut Parts<'_>, from: u32, to: u32)
     parts.samples.move_member(from as usize, to as usize);
     parts.samples.renumber(by);
     parts.instruments.renumber(by);
-}
-
-// ---- who links to a sample
-
-fn links_to(number: u32, kind: Kind) -> bool
-    ensures { result ≡ uses.links_to number kind }
-{
-    match kind {
-        Kind::Mono => false,
-        Kind::Right(link) | Kind::Left(link) | Kind::Linked(link) => u32::from(link) == number,
-    }
-}
-
-fn any_links_to(number: u32, samples: &[Sample<'_>]) -> bool
-    ensures { result ≡ list_any (λ (s : Sample). uses.links_to number s.kind) samples.now }
-{
-    samples.iter().any(|s| links_to(number, s.kind))
-}
-
-/// Whether a sample other than that of the number links to it.
-pub fn others_link_to(number: u32, samples: &[Sample<'_>]) -> bool
-    requires { number < length samples.now }
-    ensures { result ≡ list_any (λ (s : Sample). uses.links_to number s.kind) (remove samples.now number) }
-{
-    let at = number as usize;
-    let before = any_links_to(number, &samples[..at]);
-    let after = any_links_to(number, &samples[at + 1..]);
-    before || after
 }

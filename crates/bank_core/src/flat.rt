@@ -14,7 +14,7 @@ use crate::flat_heads::FlatHeads;
 use bank_parts::{Head, OwnerHead, Owners, Parts, Sample, Texts};
 use bank_validity::is_valid;
 use flat_records::Recs;
-use numbered_lists::NumberedList;
+use linked_members::LinkedMembers;
 use sf_base::Name20;
 
 /// The lists of a bank as a file has them (SoundFont 2.04, sections 7.2 to 7.10), each with its terminal; its
@@ -28,7 +28,7 @@ pub struct Flat<'a> {
     pub presets: Recs,
     pub instrument_heads: FlatHeads<Name20>,
     pub instruments: Recs,
-    pub samples: NumberedList<Sample<'a>>,
+    pub samples: LinkedMembers<Sample<'a>>,
 }
 
 impl<'a> Bank<'a> {

@@ -4,7 +4,7 @@ ghost use Rattle.bank_parts.specs.Sound.{IsSound};
 ghost use Rattle.bank_changes.specs.Samples.{sample_renamed, sample_added, sample_removed, sample_moved, sample_in_use};
 
 use crate::bank::Bank;
-use bank_changes::{insert_sample, move_sample, others_link_to, rename_sample, take_sample};
+use bank_changes::{insert_sample, move_sample, rename_sample, take_sample};
 use bank_parts::Sample;
 use sf_base::Name20;
 
@@ -67,6 +67,6 @@ impl<'a> Bank<'a> {
         ensures { result ≡ sample_in_use self.now number }
     {
         self.parts.instruments.any_targets(number)
-            || others_link_to(number, self.parts.samples.as_slice())
+            || self.parts.samples.others_link_to(number)
     }
 }

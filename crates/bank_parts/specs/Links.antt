@@ -1,5 +1,5 @@
 -- The link of a sample to another one.
-use Rattle.std.specs.Prelude.{ℕ}
+use Rattle.std.specs.Prelude.{◌≡◌, ℕ, ◌==◌, Bool, true, false, refl}
 use Rattle.bank_parts.specs.declared.parts.Kind.{Kind}
 use Rattle.bank_parts.specs.declared.parts.Kind.TheVariants.{Mono, Right, Left, Linked}
 
@@ -9,3 +9,23 @@ OfLink P Mono = Unit {0}
 OfLink P (Right link) = P link
 OfLink P (Left link) = P link
 OfLink P (Linked link) = P link
+
+-- there is one
+abbrev pub has_link : Kind → Bool
+has_link Mono = false
+has_link (Right link) = true
+has_link (Left link) = true
+has_link (Linked link) = true
+
+-- it names the sample of a number
+abbrev pub links_to : ℕ → Kind → Bool
+links_to number Mono = false
+links_to number (Right link) = link == number
+links_to number (Left link) = link == number
+links_to number (Linked link) = link == number
+
+pub unlinked_links_nowhere : (number : ℕ) (kind : Kind) → has_link kind ≡ false → links_to number kind ≡ false
+unlinked_links_nowhere number Mono unlinked = refl
+unlinked_links_nowhere number (Right link) unlinked = cc
+unlinked_links_nowhere number (Left link) unlinked = cc
+unlinked_links_nowhere number (Linked link) unlinked = cc

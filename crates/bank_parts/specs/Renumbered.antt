@@ -1,5 +1,5 @@
 -- What names the members of a list by their numbers, with the numbers that hold after the list changed.
-use Rattle.std.specs.Prelude.{◌<◌, ◌^◌, map, All}
+use Rattle.std.specs.Prelude.{◌≡◌, ◌<◌, ◌^◌, false, map, All, refl}
 use Rattle.numbered_lists.specs.declared.renumbering.Renumbering.{Renumbering}
 use Rattle.numbered_lists.specs.Renumbered.{renumbered}
 use Rattle.bank_parts.specs.declared.parts.Kind.{Kind}
@@ -8,6 +8,7 @@ use Rattle.bank_parts.specs.declared.parts.Zone.{Zone}
 use Rattle.bank_parts.specs.declared.parts.WithZones.{WithZones}
 use Rattle.bank_parts.specs.declared.parts.Sample.{Sample}
 use Rattle.bank_parts.specs.declared.parts.Parts.{Parts}
+use Rattle.bank_parts.specs.Links.{has_link}
 
 abbrev pub kind_renumbered : Renumbering → Kind → Kind
 kind_renumbered by Mono = Mono
@@ -17,6 +18,16 @@ kind_renumbered by (Linked link) = Linked (renumbered by link)
 
 abbrev pub sample_renumbered : Renumbering → Sample → Sample
 sample_renumbered by s = record s { kind = kind_renumbered by s.kind }
+
+-- a sample without a link stays as it is
+kind_stays : (by : Renumbering) (kind : Kind) → has_link kind ≡ false → kind_renumbered by kind ≡ kind
+kind_stays by Mono unlinked = refl
+kind_stays by (Right link) unlinked = cc
+kind_stays by (Left link) unlinked = cc
+kind_stays by (Linked link) unlinked = cc
+
+pub unlinked_stays : (by : Renumbering) (s : Sample) → has_link s.kind ≡ false → sample_renumbered by s ≡ s
+unlinked_stays by s unlinked = λ i. record s { kind = kind_stays by s.kind unlinked i }
 
 abbrev pub zone_renumbered : Renumbering → Zone → Zone
 zone_renumbered by z = record z { target = renumbered by z.target }

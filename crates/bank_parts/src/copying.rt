@@ -3,6 +3,7 @@ ghost use Rattle.std.specs.Prelude.{◌≡◌, IfOk};
 
 use crate::parts::{GlobalZone, Parts, Sample, WithZones, Zone};
 use crate::texts::Texts;
+use linked_members::LinkedMembers;
 use modulators::Modulator;
 use numbered_lists::NumberedList;
 use sf_base::{Lent, OutOfMemory};
@@ -58,7 +59,7 @@ pub fn copy_parts<'a>(alloc: Global, parts: &Parts<'a>) -> Result<Parts<'a>, Out
         texts: copy_texts(&parts.texts),
         presets: parts.presets.copy(alloc)?,
         instruments: parts.instruments.copy(alloc)?,
-        samples: copy_list(alloc, &parts.samples)?,
+        samples: LinkedMembers::from_vec(copy_members(alloc, parts.samples.as_slice())?),
     })
 }
 
@@ -84,11 +85,17 @@ pub(crate) fn copy_list<T: CopyOut + Drop>(
 ) -> Result<NumberedList<T>, OutOfMemory>
     ensures { IfOk result (λ copy. copy ≡ list.now) }
 {
-    let mut copies = Vec::with_capacity(alloc, list.len())?;
-    for member in list.as_slice() {
+    Ok(NumberedList::from_vec(copy_members(alloc, list.as_slice())?))
+}
+
+fn copy_members<T: CopyOut + Drop>(alloc: Global, members: &[T]) -> Result<Vec<T>, OutOfMemory>
+    ensures { IfOk result (λ copies. copies.items ≡ members.now) }
+{
+    let mut copies = Vec::with_capacity(alloc, members.len())?;
+    for member in members {
         copies.push(member.copy_out(alloc)?)?;
     }
-    Ok(NumberedList::from_vec(copies))
+    Ok(copies)
 }
 
 fn copy_global(alloc: Global, global: &GlobalZone) -> Result<GlobalZone, OutOfMemory>

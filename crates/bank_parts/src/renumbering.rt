@@ -1,8 +1,12 @@
 //! How what names samples by their numbers follows a change of their list.
-ghost use Rattle.std.specs.Prelude.{◌≡◌};
+ghost use Rattle.std.specs.Prelude.{◌≡◌, []};
 
 use crate::parts::{Kind, Sample};
+use linked_members::Linked;
 use numbered_lists::{Renumber, Renumbering};
+use sample_view::Points;
+use sf_base::Name20;
+use std::alloc::Global;
 
 /// A sample holds the number that its link names.
 impl<'a> Renumber for Sample<'a> {
@@ -22,5 +26,54 @@ impl<'a> Renumber for Sample<'a> {
             Kind::Left(link) => Kind::Left(by.number_after(link)),
             Kind::Linked(link) => Kind::Linked(by.number_after(link)),
         };
+    }
+}
+
+/// A sample may link to another one.
+impl<'a> Linked for Sample<'a> {
+    ghost use Rattle.bank_parts.specs.Links.{has_link, links_to, unlinked_links_nowhere};
+    ghost use Rattle.bank_parts.specs.Renumbered.{unlinked_stays};
+
+    ghost has_link = { λ s. has_link s.kind };
+
+    ghost links_to = { λ number s. links_to number s.kind };
+
+    ghost links_nowhere = { λ number s unlinked. unlinked_links_nowhere number s.kind unlinked };
+
+    ghost stays = { unlinked_stays };
+
+    fn has_link(&self) -> bool {
+        match self.kind {
+            Kind::Mono => false,
+            Kind::Right(_) | Kind::Left(_) | Kind::Linked(_) => true,
+        }
+    }
+
+    fn links_to(&self, number: u32) -> bool {
+        match self.kind {
+            Kind::Mono => false,
+            Kind::Right(link) | Kind::Left(link) | Kind::Linked(link) => u32::from(link) == number,
+        }
+    }
+
+    fn blank(alloc: Global) -> Sample<'a> {
+        Sample {
+            name: no_name(),
+            points: Points::empty(alloc),
+            looped: None,
+            rate: 0,
+            key: 0,
+            correction: 0,
+            kind: Kind::Mono,
+        }
+    }
+}
+
+fn no_name() -> Name20
+    ensures { result ≡ [] }
+{
+    match Name20::from_bytes(&[]) {
+        Ok(name) => name,
+        Err(_) => unreachable!(),
     }
 }

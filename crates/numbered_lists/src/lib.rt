@@ -11,6 +11,6 @@ pub use laws::{
     exchange_undone, insertion_undone, lengths_follow, move_undone, numbers_follow, numbers_return,
     numbers_stay_below, removal_undone, renumbering_undone,
 };
-pub use list::NumberedList;
-pub use renumbering::{Renumber, Renumbering};
-pub use room::WithRoom;
+pub use list::{NumberedList, move_within};
+pub use renumbering::{Renumber, Renumbering, renumber_all};
+pub use room::{WithRoom, insert_within};

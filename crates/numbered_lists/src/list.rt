@@ -190,8 +190,8 @@ impl<T: Renumber> Renumber for NumberedList<T> {
     }
 }
 
-// Only what lies between the two places moves.
-fn move_within<T>(members: &mut [T], from: usize, to: usize)
+/// Makes member `from` member `to`; the others keep their order. Only what lies between the two places moves.
+pub fn move_within<T>(members: &mut [T], from: usize, to: usize)
     requires from { from < length members.old }
     requires to { to < length members.old }
     ensures { members.new ≡ moved members.old from to }

@@ -61,7 +61,7 @@ impl Renumber for u16 {
 
 /// Renumbers each member of a slice.
 #[tactic(auto, using(std::proofs::lemmas::List::Edits::map_over_more))]
-pub(crate) fn renumber_all<T: Renumber>(members: &mut [T], by: Renumbering)
+pub fn renumber_all<T: Renumber>(members: &mut [T], by: Renumbering)
     requires { All (T.can_renumber by) members.old }
     ensures { members.new ≡ map (T.with_new_numbers by) members.old }
 {

@@ -90,7 +90,7 @@ impl<T: Renumber> Renumber for WithRoom<T> {
 }
 
 /// Puts `x` at place `i` of what has the memory for it.
-pub(crate) fn insert_within<T>(vec: &mut Vec<T>, i: usize, x: T)
+pub fn insert_within<T>(vec: &mut Vec<T>, i: usize, x: T)
     requires place { i ≤ length vec.old.items }
     requires room { vec_len vec.old < vec_capacity vec.old }
     ensures { vec.new.items ≡ insert vec.old.items i x }

@@ -20,7 +20,7 @@ use crate::samples::{
 use crate::texts::{count_cut, cut_texts, texts_of};
 use bank_core::{Bank, Parts, Sample};
 use bank_format::{Counts, ReadFault, read_banks_are_valid};
-use numbered_lists::NumberedList;
+use linked_members::LinkedMembers;
 use riff_chunks::FirstChunks;
 use sf_base::{Failure, u16_at};
 use std::alloc::Global;
@@ -116,7 +116,7 @@ fn content_of<'a>(
     lists: &Lists<'a>,
     tables: &Tables,
     members: Members,
-    samples: NumberedList<Sample<'a>>,
+    samples: LinkedMembers<Sample<'a>>,
 ) -> (Parts<'a>, Counts)
     requires { AreSmall (added members.presets.counts members.instruments.counts) }
     ensures { record { bank = result.0; counts = result.1 }

@@ -12,7 +12,7 @@ use crate::hydra::row_count;
 use bank_core::{Kind, Sample};
 use bank_format::{ReadFault, name_of};
 use hydra_records::{Records, SampleHead, Table};
-use numbered_lists::NumberedList;
+use linked_members::LinkedMembers;
 use sample_view::Points;
 use sf_base::limits::{POINTS, ZERO_POINTS};
 use sf_base::{OutOfMemory, part_of};
@@ -98,7 +98,7 @@ pub(crate) fn read_samples<'a>(
     alloc: Global,
     heads: &Table<SampleHead>,
     smpl: &'a [u8],
-) -> Result<NumberedList<Sample<'a>>, OutOfMemory>
+) -> Result<LinkedMembers<Sample<'a>>, OutOfMemory>
     requires { length smpl.now % 2 ≡ 0 }
     ensures { IfOk result (λ samples. samples ≡ samples_read (words smpl.now) (rows heads.now)) }
 {
@@ -107,7 +107,7 @@ pub(crate) fn read_samples<'a>(
     for head in rows(heads) {
         samples.push(read_sample(alloc, &head, count, smpl))?;
     }
-    Ok(NumberedList::from_vec(samples))
+    Ok(LinkedMembers::from_vec(samples))
 }
 
 // One sample of `count`.

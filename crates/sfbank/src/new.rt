@@ -6,7 +6,7 @@ ghost use Rattle.sfbank.specs.Written.{RunsAlone};
 
 use crate::deliver::deliver_bank;
 use bank_core::{Bank, Owners, Parts, Texts};
-use numbered_lists::NumberedList;
+use linked_members::LinkedMembers;
 use sf_base::{Lent, OutOfMemory};
 use sfbank_program::RunFault;
 use std::alloc::Global;
@@ -34,7 +34,7 @@ fn empty_bank(alloc: Global, minor: u16) -> Result<Bank<'static>, OutOfMemory>
         texts: empty_texts(),
         presets: Owners::with_capacity(alloc, 0)?,
         instruments: Owners::with_capacity(alloc, 0)?,
-        samples: NumberedList::new(alloc),
+        samples: LinkedMembers::new(alloc),
     };
     Ok(Bank::from_sound_parts(parts))
 }

@@ -1,5 +1,0 @@
-use Rattle.std.proofs.Common.{◌≡◌, take}
-use Rattle.bank_parts.proofs.copying.copy_list.Given as goal
-
-abbrev pub invariant-loop-member : goal.invariant-loop-member
-invariant-loop-member g l = l.copies.items ≡ take l.member-index l.member-items

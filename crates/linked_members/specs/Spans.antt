@@ -1,0 +1,12 @@
+-- Between which numbers the members lie that have a link.
+use Rattle.std.specs.Prelude.{◌≡◌, ◌≤◌, ◌<◌, ◌⊎◌, ℕ, Bool, false, List, length, slice_get, IfSome}
+use Rattle.linked_members.specs.declared.span.Span.{Span}
+
+abbrev pub IsOutside : Span → ℕ → Type 0
+IsOutside span i = (i < span.start) ⊎ (span.end ≤ i)
+
+-- of a list, no member outside of the span has a link
+pub record IsSpan {X : Type 0} (has_link : X → Bool) (xs : List X) (span : Span) : Type 0 where
+  pub order : span.start ≤ span.end
+  pub within : span.end ≤ length xs
+  pub outside : (i : ℕ) → IsOutside span i → IfSome (slice_get xs i) (λ x. has_link x ≡ false)

@@ -1,0 +1,30 @@
+//! Members that may link to others of their list.
+use numbered_lists::Renumber;
+use std::alloc::Global;
+
+/// A member of a list that may link to a member by its number.
+pub trait Linked: Renumber + Drop + Sized {
+    ghost use Rattle.std.specs.Prelude.{◌≡◌, ℕ, Bool, false};
+    ghost use Rattle.numbered_lists.specs.declared.renumbering.Renumbering.{Renumbering};
+
+    /// Whether it links to a member.
+    ghost has_link: { Self → Bool };
+
+    /// Whether it links to the member of this number.
+    ghost links_to: { ℕ → Self → Bool };
+
+    /// Whether it links to a member.
+    fn has_link(&self) -> bool
+        ensures { result ≡ has_link self.now };
+
+    /// Whether it links to the member of this number.
+    fn links_to(&self, number: u32) -> bool
+        ensures { result ≡ links_to number self.now };
+
+    /// One that only keeps a place. Takes no memory.
+    fn blank(alloc: Global) -> Self;
+
+    ghost links_nowhere: { (number : ℕ) (x : Self) → has_link x ≡ false → links_to number x ≡ false };
+
+    ghost stays: { (by : Renumbering) (x : Self) → has_link x ≡ false → Self.with_new_numbers by x ≡ x };
+}

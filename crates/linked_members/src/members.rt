@@ -1,0 +1,181 @@
+//! A list of numbered members that may link to one another.
+ghost use Rattle.std.specs.Prelude.{◌≡◌, ◌≢◌, ◌<◌, ◌≤◌, ◌++◌, ◌∷◌, [], true, false, IfSome, length, map, insert, remove, slice_get, slice_set, Some, IfErr, OnOk, OnErr, All};
+ghost use Rattle.std.specs.List.{list_any};
+ghost use Rattle.std.specs.Option.{option_copied};
+ghost use Rattle.std.specs.Borrow.{Lends, sem};
+ghost use Rattle.linked_members.specs.contracts.members.LinkedMembers.{the_row};
+ghost use Rattle.numbered_lists.specs.Moved.{moved};
+
+use crate::ended::EndedList;
+use crate::linked::Linked;
+use crate::span::Span;
+use numbered_lists::{Renumber, Renumbering};
+use std::alloc::Global;
+use std::marker::Model;
+
+/// A list whose members go by their numbers, the first by 0, and may link to one another by them. A change moves the
+/// members on its shorter side, and looks at no link outside of those numbers between which some members have one.
+pub struct LinkedMembers<T: Linked> {
+    list: EndedList<T>,
+    // Between which numbers there may be links.
+    span: Span,
+}
+
+impl<T: Linked> Drop for LinkedMembers<T> {
+    fn drop(self) {
+        let LinkedMembers { list: _, span: _ } = self;
+    }
+}
+
+impl<T: Linked> Model for LinkedMembers<T> {
+    ghost use Rattle.std.specs.Prelude.{List};
+    ghost use Rattle.linked_members.specs.Spans.{IsSpan};
+
+    ghost Value = { List T };
+
+    ghost view = { λ l. l.list };
+
+    ghost invariant = { λ l. IsSpan T.has_link l.list l.span };
+}
+
+impl<T: Linked> LinkedMembers<T> {
+    /// The empty list. Takes no memory.
+    pub fn new(alloc: Global) -> LinkedMembers<T>
+        ensures { result ≡ [] }
+    {
+        LinkedMembers::from_vec(Vec::new(alloc))
+    }
+
+    /// The elements of a `Vec` as members. Takes no memory.
+    pub fn from_vec(vec: Vec<T>) -> LinkedMembers<T>
+        ensures { result ≡ vec.items }
+    {
+        let all = Span {
+            start: 0,
+            end: vec.len(),
+        };
+        let span = all.tight(&vec);
+        LinkedMembers {
+            list: EndedList::from_vec(vec),
+            span,
+        }
+    }
+
+    /// How many members there are.
+    pub fn len(&self) -> usize
+        ensures { result ≡ length self.now }
+    {
+        self.list.len()
+    }
+
+    /// The members in their order.
+    pub fn as_slice(&self) -> &[T]
+        ensures { result.now ≡ self.now }
+    {
+        self.list.as_slice()
+    }
+
+    /// Member `i`, or `None` where none has that number.
+    pub fn get(&self, i: usize) -> Option<&T>
+        ensures { option_copied result ≡ slice_get self.now i }
+    {
+        self.list.as_slice().get(i)
+    }
+
+    /// Member `i`, which is there, to be changed in its place.
+    pub fn member_mut(&mut self, i: usize) -> &mut T
+        requires { i < length self.old }
+        ensures* writes_back { sem 𝓛 (Lends (the_row T.row (record { has_link = T.has_link; links_to = T.links_to }) (record { can_renumber = T.can_renumber; with_new_numbers = T.with_new_numbers })) T.row self.entry result (λ w. slice_set self.old i w)) }
+        ensures value { slice_get self.old i ≡ Some result.now }
+    {
+        self.span = self.span.with(i, self.list.len());
+        self.list.member_mut(i)
+    }
+
+    /// Puts `x` behind the last member. When out of memory, the list stays as it is, and `x` comes back.
+    pub fn push(&mut self, x: T) -> Result<(), T>
+        ensures ok { OnOk result (self.new ≡ self.old ++ x ∷ []) }
+        ensures err { OnErr result (self.new ≡ self.old) }
+        ensures value_returned { IfErr result (λ y. y ≡ x) }
+    {
+        let at = self.list.len();
+        let has_link = x.has_link();
+        self.list.push(x)?;
+        if has_link {
+            self.span = self.span.with(at, self.list.len());
+        }
+        Ok(())
+    }
+
+    /// Renumbers the members that are there, and makes `x`, which has its new numbers already, member
+    /// `i`. When out of memory, neither is done, and `x` comes back.
+    pub fn insert_renumbered(&mut self, by: Renumbering, i: usize, x: T) -> Result<(), T>
+        requires place { i ≤ length self.old }
+        requires numbers { All (T.can_renumber by) self.old }
+        ensures ok { OnOk result (self.new ≡ insert (map (T.with_new_numbers by) self.old) i x) }
+        ensures err { OnErr result (self.new ≡ self.old) }
+        ensures value_returned { IfErr result (λ y. y ≡ x) }
+    {
+        let has_link = x.has_link();
+        self.list.insert_renumbered(by, self.span, i, x)?;
+        self.span = self.span.after_insertion(i, self.list.len(), has_link);
+        Ok(())
+    }
+
+    /// Takes member `i` out; the members behind it get the number before each. Takes no memory.
+    pub fn remove(&mut self, i: usize) -> T
+        requires { i < length self.old }
+        ensures value { slice_get self.old i ≡ Some result }
+        ensures list { self.new ≡ remove self.old i }
+    {
+        let x = self.list.remove(i);
+        self.span = self.span.after_removal(i).tight(self.list.as_slice());
+        x
+    }
+
+    /// Makes member `from` member `to`; the others keep their order. Takes no memory.
+    pub fn move_member(&mut self, from: usize, to: usize)
+        requires from { from < length self.old }
+        requires to { to < length self.old }
+        ensures { self.new ≡ moved self.old from to }
+    {
+        self.list.move_member(from, to);
+        let members = self.list.as_slice();
+        let count = members.len();
+        self.span = self.span.with(from, count).with(to, count).tight(members);
+    }
+
+    /// Whether a member other than that of the number links to it.
+    pub fn others_link_to(&self, number: u32) -> bool
+        requires { number < length self.now }
+        ensures { result ≡ list_any (T.links_to number) (remove self.now number) }
+    {
+        let members = self.list.as_slice();
+        for i in self.span.start..self.span.end {
+            if is_other_link(members, i, number) {
+                return true;
+            }
+        }
+        false
+    }
+}
+
+// Whether member `i` is not that of the number, and links to it.
+fn is_other_link<T: Linked>(members: &[T], i: usize, number: u32) -> bool
+    requires { i < length members.now }
+    ensures yes { result ≡ true → (i ≢ number) × IfSome (slice_get members.now i) (λ x. T.links_to number x ≡ true) }
+    ensures no { result ≡ false → i ≢ number → IfSome (slice_get members.now i) (λ x. T.links_to number x ≡ false) }
+{
+    i != number as usize && members[i].links_to(number)
+}
+
+/// A list holds the numbers that its members hold.
+impl<T: Linked> Renumber for LinkedMembers<T> {
+    ghost can_renumber = { λ by list. All (T.can_renumber by) list };
+
+    ghost with_new_numbers = { λ by list. map (T.with_new_numbers by) list };
+
+    fn renumber(&mut self, by: Renumbering) {
+        self.list.renumber_part(by, self.span);
+    }
+}

@@ -1,0 +1,135 @@
+//! Between which numbers the members of a list lie that have a link.
+ghost use Rattle.std.specs.Prelude.{◌≡◌, ◌<◌, ◌≤◌, ◌+◌, ◌^◌, ◌∷◌, [], ◌++◌, List, false, true, length, insert, remove, drop, slice_get, IfSome, ℕ};
+ghost use Rattle.numbered_lists.specs.Moved.{moved};
+ghost use Rattle.linked_members.specs.Spans.{IsSpan, IsOutside};
+
+use crate::linked::Linked;
+
+/// The numbers from `start` up to `end`: no member outside of them has a link.
+#[derive(Clone, Copy)]
+pub(crate) struct Span {
+    pub(crate) start: usize,
+    pub(crate) end: usize,
+}
+
+impl Span {
+    // The same, with the number of one of so many members in it.
+    pub(crate) fn with(self, number: usize, count: usize) -> Span
+        requires { number < count }
+        ensures start { (result.start ≤ self.start) × (result.start ≤ number) }
+        ensures end { (self.end ≤ result.end) × (number < result.end) }
+        ensures within { self.end ≤ count → result.end ≤ count }
+    {
+        Span {
+            start: self.start.min(number),
+            end: self.end.max(number + 1),
+        }
+    }
+
+    // What it is once a member was put in as number `at`, with a link or without; there are so many members then.
+    pub(crate) fn after_insertion(self, at: usize, count: usize, has_link: bool) -> Span
+        requires order { self.start ≤ self.end }
+        requires fits { self.end < count }
+        requires place { at < count }
+        ensures order { result.start ≤ result.end }
+        ensures within { result.end ≤ count }
+        ensures below { (i : ℕ) → IsOutside result i → i < at → IsOutside self i }
+        ensures above { (i : ℕ) → IsOutside result (i + 1) → at ≤ i → IsOutside self i }
+        ensures own { IsOutside result at → has_link ≡ false }
+    {
+        let shifted = self.shifted(at, count);
+        if has_link {
+            shifted.with(at, count)
+        } else {
+            shifted
+        }
+    }
+
+    // The same without a link.
+    fn shifted(self, at: usize, count: usize) -> Span
+        requires order { self.start ≤ self.end }
+        requires fits { self.end < count }
+        requires place { at < count }
+        ensures order { result.start ≤ result.end }
+        ensures within { result.end ≤ count }
+        ensures below { (i : ℕ) → IsOutside result i → i < at → IsOutside self i }
+        ensures above { (i : ℕ) → IsOutside result (i + 1) → at ≤ i → IsOutside self i }
+    {
+        if at <= self.start {
+            Span {
+                start: self.start + 1,
+                end: self.end + 1,
+            }
+        } else if at < self.end {
+            Span {
+                start: self.start,
+                end: self.end + 1,
+            }
+        } else {
+            self
+        }
+    }
+
+    // What it is once member `at` was taken out.
+    pub(crate) fn after_removal(self, at: usize) -> Span
+        requires order { self.start ≤ self.end }
+        ensures order { result.start ≤ result.end }
+        ensures below { (i : ℕ) → IsOutside result i → i < at → IsOutside self i }
+        ensures above { (i : ℕ) → IsOutside result i → at ≤ i → IsOutside self (i + 1) }
+        ensures within { (count : ℕ) → self.end ≤ count + 1 → at < count + 1 → result.end ≤ count }
+    {
+        if at < self.start {
+            Span {
+                start: self.start - 1,
+                end: self.end - 1,
+            }
+        } else if at < self.end {
+            Span {
+                start: self.start,
+                end: self.end - 1,
+            }
+        } else {
+            self
+        }
+    }
+
+    // From the first of its members that has a link up to the last one.
+    pub(crate) fn tight<T: Linked>(self, members: &[T]) -> Span
+        requires { IsSpan T.has_link members.now self }
+        ensures { IsSpan T.has_link members.now result }
+    {
+        let start = first_linked(members, self);
+        let end = last_linked(
+            members,
+            Span {
+                start,
+                end: self.end,
+            },
+        );
+        Span { start, end }
+    }
+}
+
+// The number of the first member in the span that has a link, or the span's end.
+fn first_linked<T: Linked>(members: &[T], span: Span) -> usize
+    requires { IsSpan T.has_link members.now span }
+    ensures { IsSpan T.has_link members.now (record { start = result; end = span.end }) }
+{
+    let mut start = span.start;
+    while start < span.end && !members[start].has_link() {
+        start += 1;
+    }
+    start
+}
+
+// The number behind the last member in the span that has a link, or the span's start.
+fn last_linked<T: Linked>(members: &[T], span: Span) -> usize
+    requires { IsSpan T.has_link members.now span }
+    ensures { IsSpan T.has_link members.now (record { start = span.start; end = result }) }
+{
+    let mut end = span.end;
+    while span.start < end && !members[end - 1].has_link() {
+        end -= 1;
+    }
+    end
+}
