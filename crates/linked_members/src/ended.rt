@@ -129,6 +129,19 @@ impl<T: Linked> EndedList<T> {
         ensures value { slice_get self.old i ≡ Some result }
         ensures list { self.new ≡ remove self.old i }
     {
+        let x = self.take_out(i);
+        if self.blanks > self.len() {
+            self.drop_blanks();
+        }
+        x
+    }
+
+    // The same. In the front half it leaves a blank.
+    fn take_out(&mut self, i: usize) -> T
+        requires { i < length self.old }
+        ensures value { slice_get self.old i ≡ Some result }
+        ensures list { self.new ≡ remove self.old i }
+    {
         if i < self.len() / 2 {
             let blank = T::blank(*self.places.allocator());
             let x = take_to_front(&mut self.places[self.blanks..], i, blank);
@@ -146,6 +159,17 @@ impl<T: Linked> EndedList<T> {
         ensures { self.new ≡ changed_within span.start span.end (T.with_new_numbers by) self.old }
     {
         renumber_part(&mut self.places[self.blanks..], by, span);
+    }
+
+    // Drops the blanks. They are dropped when there are more of them than members, so that these move once in so many
+    // changes.
+    fn drop_blanks(&mut self)
+        ensures { self.new ≡ self.old }
+    {
+        let count = self.places.len() - self.blanks;
+        self.places.rotate_left(self.blanks);
+        self.places.truncate(count);
+        self.blanks = 0;
     }
 
     // Makes as many blanks in front as there are members, where there are none: so all members move once in so many

@@ -1,6 +1,6 @@
 use Rattle.std.proofs.Common.{◌≡◌, ◌∙◌, ◌+◌, ap, drop, remove, refl, rules}
 use Rattle.linked_members.proofs.Parts.{written_behind, lent_behind, drop-remove, found_behind}
-use Rattle.linked_members.proofs.ended.EndedList.remove.Goals as goal
+use Rattle.linked_members.proofs.ended.EndedList.take_out.Goals as goal
 
 pub returns-then-i-len-clause-list : goal.returns-then-i-len-clause-list
 returns-then-i-len-clause-list g c =
