@@ -66,7 +66,6 @@ impl<'a> Bank<'a> {
         requires { number < length self.now.samples }
         ensures { result ≡ sample_in_use self.now number }
     {
-        self.parts.instruments.any_targets(number)
-            || self.parts.samples.others_link_to(number)
+        self.parts.instruments.any_targets(number) || self.parts.samples.others_link_to(number)
     }
 }
