@@ -1,12 +1,14 @@
 pub mod StepLaws
 pub mod WindowLaws
 pub mod CountLaws
+pub mod Adding
 pub mod OwnerLaws
 pub mod MemberLaws
 pub mod HydraLaws
 pub mod RowLemmas
 pub mod SampleLemmas
 pub mod TableLaws
+pub mod FlatLaws
 pub mod ReadLaws
 pub mod ContentLaws
 pub mod ByteLemmas

@@ -9,6 +9,8 @@ pub mod Hydra
 pub mod Owners
 pub mod Texts
 pub mod Content
+pub mod FlatContent
+pub mod Records
 pub mod Gens
 pub mod Bags
 pub mod Later

@@ -1,4 +1,4 @@
-//! The generators and the modulators of one bag.
+//! The generators of one bag.
 ghost use Rattle.std.specs.Prelude.{◌≡◌, ◌≤◌, ◌+◌, length, IfOk, OnOk};
 ghost use Rattle.bank_format.specs.Zones.{range_mended, target_of};
 ghost use Rattle.generators.specs.Gens.{set_in_order};
@@ -7,8 +7,6 @@ ghost use Rattle.sf_reader.specs.Gens.{entries_in, gens_read_of, is_out_of_order
 use generators::operators::{KEY_RANGE, VEL_RANGE};
 use generators::{GenMap, Level, Range, allowed};
 use hydra_records::{Generator, Table};
-use modulators::Modulator;
-use numbered_lists::NumberedList;
 use sf_base::OutOfMemory;
 use std::alloc::Global;
 
@@ -109,18 +107,4 @@ fn mended_amount(amount: u16) -> u16
         }
     };
     range.to_amount()
-}
-
-/// The modulators of a bag, in memory of just their size.
-pub(crate) fn read_mods(
-    alloc: Global,
-    records: &Table<'_, Modulator>,
-) -> Result<NumberedList<Modulator>, OutOfMemory>
-    ensures { IfOk result (λ mods. mods ≡ records.now) }
-{
-    let mut mods = Vec::with_capacity(alloc, records.len())?;
-    for modulator in records.iter() {
-        mods.push(modulator)?;
-    }
-    Ok(NumberedList::from_vec(mods))
 }

@@ -2,6 +2,7 @@ use Rattle.std.proofs.Common.{◌∙◌, ap}
 use Rattle.bank_format.specs.Reading.{sm24_dropped}
 use Rattle.sf_reader.specs.Lists.{ListChunks}
 use Rattle.sf_reader.specs.Texts.{texts_in}
+use Rattle.sf_reader.specs.Owners.{members_seen}
 use Rattle.sf_reader.proofs.ContentLaws.{found_content}
 use Rattle.sf_reader.proofs.reader.content_of.Goals as goal
 
@@ -9,7 +10,7 @@ pub returns : goal.returns
 returns c =
     let info = ap (λ (w : ListChunks). w.info) c.lists.view_is in
     let sdta = ap (λ (w : ListChunks). w.sdta) c.lists.view_is in
-    found_content c.args.minor c.args.lists.now c.args.tables.now c.args.members c.args.samples c.texts_of-texts.result c.cut_texts.result
+    found_content c.args.minor c.args.lists.now c.args.tables.now (members_seen c.args.members) c.args.samples c.texts_of-texts.result c.cut_texts.result
     c.count_cut.result c.count_sm24.result c.add-zone_counts.result c.count_lost_loops.result c.count_lost_links.result
     (record {
       texts_are = c.texts_of-texts.ensures ∙ ap texts_in info;
