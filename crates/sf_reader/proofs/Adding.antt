@@ -1,18 +1,29 @@
 -- Bags that are put behind others in flat lists of records.
-use Rattle.std.proofs.Common.{◌≡◌, ℕ, ◌+◌, ◌-◌, List, [], ◌∷◌, ◌++◌, length, refl, sym, ap, subst, ◌∙◌, append_assoc, append-nil, arith}
-use Rattle.std.specs.List.{flat_map}
+use Rattle.std.proofs.Common.{◌≡◌, ◌≢◌, ◌==◌, false, ℕ, ◌+◌, ◌-◌, List, [], ◌∷◌, ◌++◌, length, refl, sym, ap, subst, ◌∙◌, append_assoc, append-nil, arith}
+use Rattle.std.specs.FinMap.{entries, len, len-entries}
+use Rattle.std.proofs.lemmas.Bool.{ne_eqb}
 use Rattle.std.proofs.lemmas.List.{length-append, flat_map_more}
 use Rattle.modulators.specs.declared.modulator.Modulator.{Modulator}
+use Rattle.bank_parts.specs.declared.parts.GlobalZone.{GlobalZone}
+use Rattle.bank_parts.specs.Bagged.{global_bag, global_bags}
 use Rattle.flat_records.specs.declared.bags.Recs.{Recs}
 use Rattle.flat_records.specs.Runs.{starts}
 use Rattle.flat_records.specs.Bags.{Bag, past_bag, gens_in, mods_in, no_modulator, tables_of}
 use Rattle.flat_records.proofs.Starts.{length-starts}
-use Rattle.sf_reader.specs.Records.{AreSoFar, Adds, tables_in}
+use Rattle.sf_reader.specs.Records.{AreSoFar, Adds, HoldsGens, EndsBag, tables_in}
+
+no_members : {X : Type 0} (xs : List X) → length xs ≡ 0 → xs ≡ []
+no_members [] e = refl
+no_members (x ∷ xs) e = absurd (omega (arith, e))
 
 -- ---- none, and some after others
 
 pub adds_none : (r : Recs) → Adds r r []
 adds_none r = λ all a. subst (AreSoFar r) (sym (append-nil all)) a
+
+-- all stay
+pub adds_same : (a b : Recs) → b.bags.items ≡ a.bags.items → b.gens.items ≡ a.gens.items → b.mods.items ≡ a.mods.items → Adds a b []
+adds_same a b bags gens mods = λ all h. adds_none b all (record { bags = bags ∙ h.bags; gens = gens ∙ h.gens; mods = mods ∙ h.mods })
 
 pub adds_both : (a b c : Recs) (xs ys : List Bag) → Adds a b xs → Adds b c ys → Adds a c (xs ++ ys)
 adds_both a b c xs ys first second = λ all h. subst (AreSoFar c) (append_assoc all xs ys) (second (all ++ xs) (first all h))
@@ -53,6 +64,36 @@ module _ (old new : Recs) (b : Bag) (gens : new.gens.items ≡ old.gens.items ++
         gens = gens_are;
         mods = mods_are;
       }
+
+-- the generators were put behind the others before
+pub adds_held : (before mid new : Recs) (gens more : List (ℕ × ℕ)) (mods : List Modulator) → HoldsGens before mid gens → EndsBag mid new more mods → Adds before new (record { gens = gens ++ more; mods = mods } ∷ [])
+adds_held before mid new gens more mods h e =
+    adds_bag before new (record { gens = gens ++ more; mods = mods })
+    (e.gens_grow ∙ ap (λ gs. gs ++ more) h.gens_grow ∙ append_assoc before.gens.items gens more)
+    (e.mods_grow ∙ ap (λ ms. ms ++ mods) h.mods_stay)
+    (e.bags_grow ∙ ap (λ is. is ++ (length new.gens.items, length new.mods.items) ∷ []) h.bags_stay)
+
+-- ---- the bag of a global zone, where it holds something
+
+module _ (before now : Recs) (g : GlobalZone) (start n mods : ℕ) (h : HoldsGens before now (entries g.gens)) (from : start ≡ length before.gens.items)
+  (count : n ≡ length now.gens.items) (mods_are : mods ≡ length g.mods) where
+  held_count : (n - start) + mods ≡ len g.gens + length g.mods
+  held_count = omega (arith, from, count, mods_are, len-entries g.gens, ap length h.gens_grow, length-append before.gens.items (entries g.gens))
+
+  pub global_none : (n - start) + mods ≡ 0 → Adds before now (global_bags g)
+  global_none zero =
+      let none : len g.gens + length g.mods ≡ 0 = sym held_count ∙ zero in
+      let bags : global_bags g ≡ [] = rw none refl in
+      let gens : now.gens.items ≡ before.gens.items = h.gens_grow ∙ ap (λ gs. before.gens.items ++ gs) (no_members (entries g.gens) (omega (arith, none, len-entries g.gens))) ∙ append-nil before.gens.items in
+      adds_as before now [] (global_bags g) (sym bags) (adds_same before now h.bags_stay gens h.mods_stay)
+
+  pub global_some : (new : Recs) → (n - start) + mods ≢ 0 → EndsBag now new [] g.mods → Adds before new (global_bags g)
+  global_some new some ends =
+      let there : (len g.gens + length g.mods == 0) ≡ false = ne_eqb _ _ (λ z. some (held_count ∙ z)) in
+      let bags : global_bags g ≡ global_bag g ∷ [] = rw there refl in
+      let same : record { gens = entries g.gens ++ []; mods = g.mods } ≡ global_bag g = λ i. record { gens = append-nil (entries g.gens) i; mods = g.mods } in
+      adds_as before new (record { gens = entries g.gens ++ []; mods = g.mods } ∷ []) (global_bags g) (ap (λ (b : Bag). b ∷ []) same ∙ sym bags)
+      (adds_held before now new (entries g.gens) [] g.mods h ends)
 
 -- ---- the terminals
 

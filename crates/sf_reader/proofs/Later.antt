@@ -7,6 +7,7 @@ use Rattle.std.specs.Result.{IsErrAnd}
 use Rattle.std.proofs.lemmas.List.{append-nil, length-take, length-drop, length-map, map-append}
 use Rattle.std.proofs.lemmas.List.Elements.{filter_map-append, filter-append}
 use Rattle.std.proofs.lemmas.List.Sums.{sum_by-cons, sum_by-append, count_by-le-length}
+use Rattle.std.specs.FinMap.{entries}
 use Rattle.generators.specs.Levels.{target_operator}
 use Rattle.generators.specs.declared.level.Level.{Level}
 use Rattle.modulators.specs.declared.modulator.Modulator.{Modulator}
@@ -148,10 +149,6 @@ module _ (at : Level) (r : Bagged) (g : GensRead) (is : g ≡ gens_read_of at r.
   target_as : (o : Option ℕ) → g.target ≡ o → target_of at r.gens ≡ o
   target_as o e = sym (ap (λ (x : GensRead). x.target) is) ∙ e
 
-  -- the zone that is put behind the others
-  zone_as : (t : ℕ) → ◌≡◌ {A = Zone} (record { target = t; gens = g.gens; mods = r.mods }) (zone_of at r t)
-  zone_as t = λ i. record { target = t; gens = (is i).gens; mods = r.mods }
-
   pub steps_none : (n : ℕ) (missing : ReadFault) → g.target ≡ None → steps_of_bags at n missing (r ∷ []) ≡ []
   steps_none n missing none = ap (map (target_step n missing)) (no_zone at r (target_as None none))
 
@@ -166,20 +163,17 @@ module _ (at : Level) (r : Bagged) (g : GensRead) (is : g ≡ gens_read_of at r.
   pub bags_none : g.target ≡ None → [] ≡ zone_bags at (r ∷ [])
   bags_none none = sym (ap (map (zone_bag (target_operator at))) (no_zone at r (target_as None none)))
 
-  pub bags_one : (t : ℕ) → g.target ≡ Some t → zone_bag (target_operator at) (record { target = t; gens = g.gens; mods = r.mods }) ∷ [] ≡ zone_bags at (r ∷ [])
-  bags_one t some =
-      ap (λ (z : Zone). zone_bag (target_operator at) z ∷ []) (zone_as t)
-      ∙ sym (ap (map (zone_bag (target_operator at))) (the_zone at r t (target_as (Some t) some)))
+  pub bags_one : (t : ℕ) → g.target ≡ Some t → record { gens = entries (gens_read at r.gens) ++ (target_operator at, t) ∷ []; mods = r.mods } ∷ [] ≡ zone_bags at (r ∷ [])
+  bags_one t some = sym (ap (map (zone_bag (target_operator at))) (the_zone at r t (target_as (Some t) some)))
 
   -- the first bag is the global zone
-  pub own_global : g.target ≡ None → global_bags (record { gens = g.gens; mods = r.mods }) ≡ own_bags at (r ∷ [])
+  pub own_global : g.target ≡ None → global_bags (record { gens = gens_read at r.gens; mods = r.mods }) ≡ own_bags at (r ∷ [])
   own_global none =
-      let here : record { gens = g.gens; mods = r.mods } ≡ global_read at (r ∷ []) = (λ i. record { gens = (is i).gens; mods = r.mods }) ∙ sym (global_by at r None (target_as None none)) in
-      let global = ap global_bags here in
-      sym (append-nil (global_bags (record { gens = g.gens; mods = r.mods }))) ∙ (λ i. global i ++ bags_none none i)
+      let global = ap global_bags (sym (global_by at r None (target_as None none))) in
+      sym (append-nil (global_bags (record { gens = gens_read at r.gens; mods = r.mods }))) ∙ (λ i. global i ++ bags_none none i)
 
   -- or a zone
-  pub own_zone : (t : ℕ) → g.target ≡ Some t → zone_bag (target_operator at) (record { target = t; gens = g.gens; mods = r.mods }) ∷ [] ≡ own_bags at (r ∷ [])
+  pub own_zone : (t : ℕ) → g.target ≡ Some t → record { gens = entries (gens_read at r.gens) ++ (target_operator at, t) ∷ []; mods = r.mods } ∷ [] ≡ own_bags at (r ∷ [])
   own_zone t some =
       let global : [] ≡ global_bags (global_read at (r ∷ [])) = sym (ap global_bags (global_by at r (Some t) (target_as (Some t) some)) ∙ no_global_bags at r) in
       λ i. global i ++ bags_one t some i

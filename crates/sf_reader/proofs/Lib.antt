@@ -13,6 +13,7 @@ pub mod ReadLaws
 pub mod ContentLaws
 pub mod ByteLemmas
 pub mod Kept
+pub mod EntryLaws
 pub mod Mending
 pub mod Reading
 pub mod Later

@@ -11,6 +11,7 @@ pub mod Texts
 pub mod Content
 pub mod FlatContent
 pub mod Records
+pub mod Entries
 pub mod Gens
 pub mod Bags
 pub mod Later

@@ -108,7 +108,7 @@ fn read_owners<H: RecordedHead>(
         return Ok(ended(read)?);
     };
     for next in heads {
-        read_owner(alloc, level, &head, &next, targets, &mut read)?;
+        read_owner(level, &head, &next, targets, &mut read)?;
         head = next;
     }
     Ok(ended(read)?)
@@ -140,7 +140,6 @@ fn no_owners<H: RecordedHead>(
 
 // One more of them. Its bags end where those of the next one begin.
 fn read_owner<H: RecordedHead>(
-    alloc: Global,
     level: &LevelTables<H::Record>,
     head: &H::Record,
     next: &H::Record,
@@ -158,7 +157,6 @@ fn read_owner<H: RecordedHead>(
 {
     let bags = level.bags.part(H::first_bag(head) as usize, H::first_bag(next) as usize + 1);
     let counts = read_bags(
-        alloc,
         H::LEVEL,
         &bags,
         &level.generators,

@@ -1,11 +1,13 @@
 //! The flat lists of records of a level, which grow at their ends.
-ghost use Rattle.std.specs.Prelude.{◌≡◌, ◌-◌, ◌++◌, ◌∷◌, [], List, length, IfOk, OnOk};
+ghost use Rattle.std.specs.Prelude.{◌≡◌, ◌≤◌, ◌-◌, ◌++◌, ◌∷◌, [], List, length, IfOk, OnOk};
+ghost use Rattle.std.specs.FinMap.{entries};
+ghost use Rattle.flat_records.specs.declared.bags.Recs.{Recs};
 ghost use Rattle.flat_records.specs.Bags.{Bag, tables_of};
-ghost use Rattle.bank_parts.specs.Bagged.{zone_bag, global_bags};
-ghost use Rattle.sf_reader.specs.Records.{AreSoFar, Adds, tables_in};
+ghost use Rattle.bank_parts.specs.declared.parts.GlobalZone.{GlobalZone};
+ghost use Rattle.bank_parts.specs.Bagged.{global_bags};
+ghost use Rattle.sf_reader.specs.Records.{AreSoFar, Adds, HoldsGens, EndsBag, tables_in};
 
 use bank_core::Recs;
-use generators::GenMap;
 use hydra_records::Table;
 use modulators::Modulator;
 use sf_base::OutOfMemory;
@@ -37,36 +39,45 @@ pub(crate) fn no_records(
     Ok(Recs { bags, gens, mods })
 }
 
-/// Puts the bag of a zone behind the others. Its target, the amount of an operator, is its last generator.
-pub(crate) fn push_zone(
+/// Ends a zone's bag, whose generators stand behind the others already, with its target, the amount of an
+/// operator, and its modulators.
+pub(crate) fn end_zone(
     records: &mut Recs,
-    operator: u16,
-    target: u16,
-    gens: &GenMap,
+    target: (u16, u16),
     modulators: &Table<'_, Modulator>,
 ) -> Result<(), OutOfMemory>
-    ensures { OnOk result (Adds records.old records.new (zone_bag operator (record { target = target; gens = gens.now; mods = modulators.now }) ∷ [])) }
+    ensures { OnOk result (EndsBag records.old records.new (target ∷ []) modulators.now) }
 {
-    records.gens.extend_from_slice(gens.entries())?;
-    records.gens.push((operator, target))?;
-    push_mods(&mut records.mods, modulators)?;
-    close_bag(records)
+    records.gens.push(target)?;
+    end_bag(records, modulators)
 }
 
-/// Puts the bag of a global zone behind the others, where the zone holds something.
-pub(crate) fn push_global(
+/// Ends the bag of a global zone, whose generators stand behind the others from `start` on, where the zone holds
+/// something.
+pub(crate) fn end_global(
     records: &mut Recs,
-    gens: &GenMap,
+    start: usize,
     modulators: &Table<'_, Modulator>,
 ) -> Result<(), OutOfMemory>
-    ensures { OnOk result (Adds records.old records.new (global_bags (record { gens = gens.now; mods = modulators.now }))) }
+    requires { start ≤ length records.old.gens.items }
+    ensures { OnOk result ((before : Recs) (g : GlobalZone) → HoldsGens before records.old (entries g.gens) → start ≡ length before.gens.items
+        → g.mods ≡ modulators.now → Adds before records.new (global_bags g)) }
 {
-    if gens.len() + modulators.len() == 0 {
+    if records.gens.len() - start + modulators.len() == 0 {
         return Ok(());
     }
-    records.gens.extend_from_slice(gens.entries())?;
+    end_bag(records, modulators)
+}
+
+// Ends a bag, whose generators stand behind the others already, with its modulators.
+fn end_bag(records: &mut Recs, modulators: &Table<'_, Modulator>) -> Result<(), OutOfMemory>
+    ensures { OnOk result (EndsBag records.old records.new [] modulators.now) }
+{
     push_mods(&mut records.mods, modulators)?;
-    close_bag(records)
+    let gens = index(records.gens.len())?;
+    let mods = index(records.mods.len())?;
+    records.bags.push((gens, mods))?;
+    Ok(())
 }
 
 // Puts modulators behind the others.
@@ -79,18 +90,6 @@ fn push_mods(
     for modulator in modulators.iter() {
         mods.push(modulator)?;
     }
-    Ok(())
-}
-
-// Says where the next bag begins: what was put behind the others since the last call is one bag.
-fn close_bag(records: &mut Recs) -> Result<(), OutOfMemory>
-    ensures bags { OnOk result (records.new.bags.items ≡ records.old.bags.items ++ (length records.old.gens.items, length records.old.mods.items) ∷ []) }
-    ensures gens { records.new.gens ≡ records.old.gens }
-    ensures mods { records.new.mods ≡ records.old.mods }
-{
-    let gens = index(records.gens.len())?;
-    let mods = index(records.mods.len())?;
-    records.bags.push((gens, mods))?;
     Ok(())
 }
 

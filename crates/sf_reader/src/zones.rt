@@ -8,14 +8,13 @@ ghost use Rattle.sf_reader.specs.Later.{AreFew, counts_with_later};
 ghost use Rattle.sf_reader.specs.Records.{Adds};
 
 use crate::bag::{GensRead, read_gens};
-use crate::records::{push_global, push_zone};
+use crate::records::{end_global, end_zone};
 use bank_core::Recs;
 use bank_format::ReadFault;
 use generators::Level;
 use hydra_records::{Bag, Generator, Table};
 use modulators::Modulator;
 use sf_base::Failure;
-use std::alloc::Global;
 
 /// What was dropped or mended in the bags of a preset or an instrument, each counted.
 #[derive(Clone, Copy, Debug, PartialEq, Eq)]
@@ -53,7 +52,6 @@ pub(crate) const NO_COUNTS: ZoneCounts = ZoneCounts {
 /// operator; a range has its ends cut to 127 and put in order. The first bag, where it has no target,
 /// is the global zone; a later one is ignored. Each target has to be there.
 pub(crate) fn read_bags(
-    alloc: Global,
     level: Level,
     bags: &Table<'_, Bag>,
     generators: &Table<'_, Generator>,
@@ -76,11 +74,11 @@ pub(crate) fn read_bags(
         return Ok(NO_COUNTS);
     };
     let (gens, mods) = bag_between(&first, &second, generators, modulators);
-    let mut counts = read_first(alloc, level, &gens, &mods, targets, records)?;
+    let mut counts = read_first(level, &gens, &mods, targets, records)?;
     let mut start = second;
     for end in rest {
         let (gens, mods) = bag_between(&start, &end, generators, modulators);
-        counts = read_later(alloc, level, &gens, &mods, targets, counts, records)?;
+        counts = read_later(level, &gens, &mods, targets, counts, records)?;
         start = end;
     }
     Ok(counts)
@@ -103,7 +101,6 @@ fn bag_between<'g, 'm>(
 
 // Reads the first bag, which is the global zone where it has no target.
 fn read_first(
-    alloc: Global,
     level: Level,
     generators: &Table<'_, Generator>,
     modulators: &Table<'_, Modulator>,
@@ -115,29 +112,28 @@ fn read_first(
         (counts_read level (bagged generators.now modulators.now ∷ [])) }
     ensures records { OnOk result (Adds records.old records.new (own_bags level (bagged generators.now modulators.now ∷ []))) }
 {
+    let start = records.gens.len();
     let GensRead {
-        gens,
         target,
         dropped,
         ranges,
-    } = read_gens(alloc, level, generators)?;
+    } = read_gens(&mut records.gens, level, generators)?;
     let counts = ZoneCounts {
         zones: 0,
         gens: dropped,
         ranges,
     };
     let Some(target) = target else {
-        push_global(records, &gens, modulators)?;
+        end_global(records, start, modulators)?;
         return Ok(counts);
     };
     check_target(target, targets)?;
-    push_zone(records, level.target_operator(), target, &gens, modulators)?;
+    end_zone(records, (level.target_operator(), target), modulators)?;
     Ok(counts)
 }
 
 // Reads a later bag, which is ignored where it has no target, and counts on.
 fn read_later(
-    alloc: Global,
     level: Level,
     generators: &Table<'_, Generator>,
     modulators: &Table<'_, Modulator>,
@@ -152,20 +148,21 @@ fn read_later(
         (counts_with_later level counts (bagged generators.now modulators.now ∷ [])) }
     ensures records { OnOk result (Adds records.old records.new (zone_bags level (bagged generators.now modulators.now ∷ []))) }
 {
+    let start = records.gens.len();
     let GensRead {
-        gens,
         target,
         dropped,
         ranges,
-    } = read_gens(alloc, level, generators)?;
+    } = read_gens(&mut records.gens, level, generators)?;
     let Some(target) = target else {
+        records.gens.truncate(start);
         return Ok(ZoneCounts {
             zones: counts.zones + 1,
             ..counts
         });
     };
     check_target(target, targets)?;
-    push_zone(records, level.target_operator(), target, &gens, modulators)?;
+    end_zone(records, (level.target_operator(), target), modulators)?;
     Ok(ZoneCounts {
         zones: counts.zones,
         gens: counts.gens + dropped,
