@@ -1,11 +1,11 @@
 -- Maps of generators as the last entries of a list.
-use Rattle.std.proofs.Common.{◌≡◌, ◌<◌, ◌≤◌, ◌+◌, ◌^◌, ℕ, zero, suc, List, [], ◌∷◌, ◌++◌, length, take, drop, set, get_or, insert, Some, None, not, ◌==◌, false, refl, sym, ap, subst, ◌∙◌, zero-add, suc-add, arith}
+use Rattle.std.proofs.Common.{◌≡◌, ◌<◌, ◌≤◌, ◌+◌, ◌-◌, ◌^◌, ℕ, zero, suc, List, [], ◌∷◌, ◌++◌, length, take, drop, set, get_or, insert, Some, None, not, ◌==◌, false, refl, sym, ap, subst, ◌∙◌, zero-add, suc-add, arith}
 use Rattle.std.proofs.lemmas.List.{take-set-le, drop-set-add, length-drop, length-set}
 use Rattle.std.proofs.lemmas.List.Edits.{length-insert}
 use Rattle.std.specs.FinMap as map
-use Rattle.generators.specs.Gens.{Gens, AreGens}
+use Rattle.generators.specs.Gens.{Gens, AreGens, no_gens}
 use Rattle.generators.specs.Places.{IsAt, IsGapFor}
-use Rattle.generators.proofs.Maps.{entries_held, get_at, AreGens-set, set_is_insert, get_gap, AreGens-insert, inserted_is_insert}
+use Rattle.generators.proofs.Maps.{entries_held, len_held, from_sorted-nil, get_at, AreGens-set, set_is_insert, get_gap, AreGens-insert, inserted_is_insert}
 use Rattle.bank_format.specs.Zones.{range_mended}
 use Rattle.sf_reader.specs.Entries.{EndsInMap, map_from}
 use Rattle.sf_reader.specs.Gens.{is_out_of_order, mended_at}
@@ -46,6 +46,20 @@ ends_in_none es start e = record {
   within = omega (arith, e);
   own = subst (λ (l : List (ℕ × ℕ)). AreGens l) (sym (ap (λ n. drop n es) e ∙ drop-all es)) (record { sorted = refl; fit = tt });
 }
+
+pub none_from : (es : List (ℕ × ℕ)) (start : ℕ) → start ≡ length es → map_from start es ≡ no_gens
+none_from es start e = from_sorted-nil (drop start es) (ap (λ n. drop n es) e ∙ drop-all es)
+
+pub map_len : (es : List (ℕ × ℕ)) (start : ℕ) → EndsInMap start es → map.len (map_from start es) ≡ length es - start
+map_len es start m = len_held m.own refl ∙ length-drop start es
+
+-- the last entries of a list are those of their map
+pub entries_behind : (old es new : List (ℕ × ℕ)) (start : ℕ) (m : Gens) → start ≡ length old → take start es ≡ take start old → new ≡ take start es ++ drop start new
+    → AreGens (drop start new) → map_from start new ≡ m → new ≡ old ++ map.entries m
+entries_behind old es new start m from front parts own is =
+    let first : take start es ≡ old = front ∙ ap (λ n. take n old) from ∙ take-all old in
+    let rest = sym (entries_held own is) in
+    parts ∙ (λ i. first i ++ rest i)
 
 -- ---- one more is set
 

@@ -25,10 +25,15 @@ pub(crate) fn set_from(
     ensures set { OnOk result (map_from start entries.new.items ≡ insert (map_from start entries.old.items) operator amount) }
 {
     match search_entries(&entries[start..], operator) {
-        Ok(at) => entries[start + at] = (operator, amount),
-        Err(at) => entries.insert(start + at, (operator, amount))?,
+        Ok(at) => {
+            entries[start + at] = (operator, amount);
+            Ok(())
+        }
+        Err(at) => {
+            entries.insert(start + at, (operator, amount))?;
+            Ok(())
+        }
     }
-    Ok(())
 }
 
 /// Mends the range of an operator, and says whether it changed.
