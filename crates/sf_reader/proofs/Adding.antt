@@ -1,5 +1,5 @@
 -- Bags that are put behind others in flat lists of records.
-use Rattle.std.proofs.Common.{◌≡◌, ◌≢◌, ◌==◌, false, ℕ, ◌+◌, ◌-◌, List, [], ◌∷◌, ◌++◌, length, refl, sym, ap, subst, ◌∙◌, append_assoc, append-nil, arith}
+use Rattle.std.proofs.Common.{◌≡◌, ◌≢◌, ◌==◌, false, ℕ, ◌+◌, ◌-◌, List, [], ◌∷◌, ◌++◌, length, refl, sym, ap, subst, ◌∙◌, append_assoc, append-nil, ◌⊎◌, inl, inr, arith}
 use Rattle.std.specs.FinMap.{entries, len, len-entries}
 use Rattle.std.proofs.lemmas.Bool.{ne_eqb}
 use Rattle.std.proofs.lemmas.List.{length-append, flat_map_more}
@@ -75,21 +75,25 @@ adds_held before mid new gens more mods h e =
 
 -- ---- the bag of a global zone, where it holds something
 
-module _ (before now : Recs) (g : GlobalZone) (start n mods : ℕ) (h : HoldsGens before now (entries g.gens)) (from : start ≡ length before.gens.items)
-  (count : n ≡ length now.gens.items) (mods_are : mods ≡ length g.mods) where
-  held_count : (n - start) + mods ≡ len g.gens + length g.mods
-  held_count = omega (arith, from, count, mods_are, len-entries g.gens, ap length h.gens_grow, length-append before.gens.items (entries g.gens))
+module _ (before now : Recs) (g : GlobalZone) (gens mods : ℕ) (h : HoldsGens before now (entries g.gens)) (gens_are : gens ≡ length now.gens.items - length before.gens.items)
+  (mods_are : mods ≡ length g.mods) where
+  held_count : gens ≡ len g.gens
+  held_count = omega (arith, gens_are, len-entries g.gens, ap length h.gens_grow, length-append before.gens.items (entries g.gens))
 
-  pub global_none : (n - start) + mods ≡ 0 → Adds before now (global_bags g)
-  global_none zero =
-      let none : len g.gens + length g.mods ≡ 0 = sym held_count ∙ zero in
+  pub global_none : gens ≡ 0 → mods ≡ 0 → Adds before now (global_bags g)
+  global_none zero zero_too =
+      let none : len g.gens + length g.mods ≡ 0 = omega (arith, held_count, mods_are, zero, zero_too) in
       let bags : global_bags g ≡ [] = rw none refl in
       let gens : now.gens.items ≡ before.gens.items = h.gens_grow ∙ ap (λ gs. before.gens.items ++ gs) (no_members (entries g.gens) (omega (arith, none, len-entries g.gens))) ∙ append-nil before.gens.items in
       adds_as before now [] (global_bags g) (sym bags) (adds_same before now h.bags_stay gens h.mods_stay)
 
-  pub global_some : (new : Recs) → (n - start) + mods ≢ 0 → EndsBag now new [] g.mods → Adds before new (global_bags g)
+  pub global_some : (new : Recs) → ((gens ≡ 0) × (mods ≢ 0)) ⊎ (gens ≢ 0) → EndsBag now new [] g.mods → Adds before new (global_bags g)
   global_some new some ends =
-      let there : (len g.gens + length g.mods == 0) ≡ false = ne_eqb _ _ (λ z. some (held_count ∙ z)) in
+      let more : len g.gens + length g.mods ≢ 0 = λ z. elim some as (λ s. ⊥) [
+        | inl b ↦ b.1 (omega (arith, mods_are, z))
+        | inr n ↦ n (omega (arith, held_count, z))
+      ] in
+      let there : (len g.gens + length g.mods == 0) ≡ false = ne_eqb _ _ more in
       let bags : global_bags g ≡ global_bag g ∷ [] = rw there refl in
       let same : record { gens = entries g.gens ++ []; mods = g.mods } ≡ global_bag g = λ i. record { gens = append-nil (entries g.gens) i; mods = g.mods } in
       adds_as before new (record { gens = entries g.gens ++ []; mods = g.mods } ∷ []) (global_bags g) (ap (λ (b : Bag). b ∷ []) same ∙ sym bags)

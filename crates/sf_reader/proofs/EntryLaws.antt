@@ -1,6 +1,6 @@
 -- Maps of generators as the last entries of a list.
-use Rattle.std.proofs.Common.{◌≡◌, ◌<◌, ◌≤◌, ◌+◌, ◌-◌, ◌^◌, ℕ, zero, suc, List, [], ◌∷◌, ◌++◌, length, take, drop, set, get_or, insert, Some, None, not, ◌==◌, false, refl, sym, ap, subst, ◌∙◌, zero-add, suc-add, arith}
-use Rattle.std.proofs.lemmas.List.{take-set-le, drop-set-add, length-drop, length-set}
+use Rattle.std.proofs.Common.{◌≡◌, ◌<◌, ◌≤◌, ◌+◌, ◌-◌, ◌^◌, ℕ, zero, suc, List, [], ◌∷◌, ◌++◌, length, take, drop, set, get_or, insert, Option, Some, None, Bool, not, ◌==◌, false, refl, sym, ap, subst, ◌∙◌, zero-add, suc-add, arith}
+use Rattle.std.proofs.lemmas.List.{get_or-drop, take-set-le, drop-set-add, length-drop, length-set}
 use Rattle.std.proofs.lemmas.List.Edits.{length-insert}
 use Rattle.std.specs.FinMap as map
 use Rattle.generators.specs.Gens.{Gens, AreGens, no_gens}
@@ -39,6 +39,10 @@ pub take-all : {X : Type 0} (xs : List X) → take (length xs) xs ≡ xs
 take-all [] = refl
 take-all (x ∷ xs) = ap (λ ys. x ∷ ys) (take-all xs)
 
+-- those from a place to the end
+pub rest_is : {X : Type 0} (n : ℕ) (xs : List X) → take (length xs - n) (drop n xs) ≡ drop n xs
+rest_is n xs = ap (λ k. take k (drop n xs)) (sym (length-drop n xs)) ∙ take-all (drop n xs)
+
 -- ---- nothing from the end on
 
 pub ends_in_none : (es : List (ℕ × ℕ)) (start : ℕ) → start ≡ length es → EndsInMap start es
@@ -54,12 +58,11 @@ pub map_len : (es : List (ℕ × ℕ)) (start : ℕ) → EndsInMap start es → 
 map_len es start m = len_held m.own refl ∙ length-drop start es
 
 -- the last entries of a list are those of their map
-pub entries_behind : (old es new : List (ℕ × ℕ)) (start : ℕ) (m : Gens) → start ≡ length old → take start es ≡ take start old → new ≡ take start es ++ drop start new
-    → AreGens (drop start new) → map_from start new ≡ m → new ≡ old ++ map.entries m
-entries_behind old es new start m from front parts own is =
-    let first : take start es ≡ old = front ∙ ap (λ n. take n old) from ∙ take-all old in
-    let rest = sym (entries_held own is) in
-    parts ∙ (λ i. first i ++ rest i)
+pub entries_behind : (old new : List (ℕ × ℕ)) (start : ℕ) (m : Gens) → start ≡ length old → take start new ≡ take start old → EndsInMap start new → map_from start new ≡ m → new ≡ old ++ map.entries m
+entries_behind old new start m from front ends is =
+    let first : take start new ≡ old = front ∙ ap (λ n. take n old) from ∙ take-all old in
+    let rest = sym (entries_held ends.own is) in
+    front-and-rest start new ∙ (λ i. first i ++ rest i)
 
 -- ---- one more is set
 
@@ -104,33 +107,31 @@ module _ (start : ℕ) (es : List (ℕ × ℕ)) (m : EndsInMap start es) (op w :
 
 -- ---- a range is mended
 
-module _ (es : List (ℕ × ℕ)) (h : AreGens es) (op : ℕ) where
-  abbrev all : Gens
-  all = map.from_sorted es
+module _ (start : ℕ) (es : List (ℕ × ℕ)) (m : EndsInMap start es) (op : ℕ) where
+  abbrev changes : Option ℕ → Bool
+  changes o = elim o [ None ↦ false | Some w ↦ not (range_mended w == w) ]
 
-  module _ (i w : ℕ) (at : IsAt es op i) (d : ℕ × ℕ) (w_is : w ≡ (get_or es i d).1) where
-    at_held : IsAt (map.entries all) op i
-    at_held = subst (λ xs. IsAt xs op i) (sym (entries_held h refl)) at
+  abbrev mend : Option ℕ → Gens
+  mend o = elim o [ None ↦ map_from start es | Some w ↦ map.insert (map_from start es) op (range_mended w) ]
 
-    amount_is : map.get all op ≡ Some w
-    amount_is = get_at h refl at_held d ∙ ap Some (sym w_is)
+  module _ (i v : ℕ) (entry : ℕ × ℕ) (at : IsAt (drop start es) op i) (is : entry ≡ get_or es (start + i) entry) (v_is : v ≡ range_mended entry.1) where
+    amount_is : map.get (map_from start es) op ≡ Some entry.1
+    amount_is =
+        get_at m.own refl (subst (λ xs. IsAt xs op i) (sym (entries_held m.own refl)) at) entry
+        ∙ ap (λ (e : ℕ × ℕ). Some e.1) (get_or-drop start es i entry ∙ sym is)
 
-    pub out_of_order : not (range_mended w == w) ≡ is_out_of_order op all
-    out_of_order = rw amount_is refl
+    pub out_of_order : not (v == entry.1) ≡ is_out_of_order op (map_from start es)
+    out_of_order = ap (λ x. not (x == entry.1)) v_is ∙ sym (ap changes amount_is)
 
-    module _ (fits : op < 2 ^ 16) (fits_too : range_mended w < 2 ^ 16) where
-      pub mended_map : AreGens (set es i (op, range_mended w))
-      mended_map = AreGens-set h refl at_held (range_mended w) fits fits_too
+    pub mended_is : (fits : op < 2 ^ 16) (fits_too : v < 2 ^ 16) → map_from start (set es (start + i) (op, v)) ≡ mended_at op (map_from start es)
+    mended_is fits fits_too = set-set start es m op v fits fits_too i at ∙ ap (map.insert (map_from start es) op) v_is ∙ sym (ap mend amount_is)
 
-      pub mended_is : map.from_sorted (set es i (op, range_mended w)) ≡ mended_at op all
-      mended_is = set_is_insert h refl at_held (range_mended w) fits fits_too ∙ sym (rw amount_is refl)
+  module _ (i : ℕ) (gap : IsGapFor (drop start es) op i) where
+    none_there : map.get (map_from start es) op ≡ None
+    none_there = get_gap m.own refl (subst (λ xs. IsGapFor xs op i) (sym (entries_held m.own refl)) gap)
 
-  module _ (i : ℕ) (gap : IsGapFor es op i) where
-    none_there : map.get all op ≡ None
-    none_there = get_gap h refl (subst (λ xs. IsGapFor xs op i) (sym (entries_held h refl)) gap)
+    pub none_out_of_order : false ≡ is_out_of_order op (map_from start es)
+    none_out_of_order = sym (ap changes none_there)
 
-    pub none_out_of_order : false ≡ is_out_of_order op all
-    none_out_of_order = rw none_there refl
-
-    pub none_mended : all ≡ mended_at op all
-    none_mended = rw none_there refl
+    pub none_mended : map_from start es ≡ mended_at op (map_from start es)
+    none_mended = sym (ap mend none_there)

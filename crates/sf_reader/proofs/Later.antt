@@ -1,5 +1,5 @@
 -- Bags that are read one after the other.
-use Rattle.std.proofs.Common.{◌≡◌, ◌≤◌, ◌+◌, ◌-◌, ◌*◌, ℕ, Bool, true, false, cond, List, [], ◌∷◌, ◌++◌, length, map, drop, filter, is_some, Option, Some, None, Result, refl, sym, ap, subst, ◌∙◌, append_assoc, arith}
+use Rattle.std.proofs.Common.{◌≡◌, ◌≤◌, ◌+◌, ◌-◌, ◌*◌, ◌==◌, ℕ, Bool, true, false, cond, List, [], ◌∷◌, ◌++◌, length, map, drop, filter, is_some, Option, Some, None, Result, refl, sym, ap, subst, ◌∙◌, append_assoc, arith}
 use Rattle.std.specs.Prelude.{count_by, sum_by, not, nat_lt}
 use Rattle.std.specs.List.{AllByRecursion, slice_range, cons_option}
 use Rattle.std.specs.Option.{option_map}
@@ -7,7 +7,8 @@ use Rattle.std.specs.Result.{IsErrAnd}
 use Rattle.std.proofs.lemmas.List.{append-nil, length-take, length-drop, length-map, map-append}
 use Rattle.std.proofs.lemmas.List.Elements.{filter_map-append, filter-append}
 use Rattle.std.proofs.lemmas.List.Sums.{sum_by-cons, sum_by-append, count_by-le-length}
-use Rattle.std.specs.FinMap.{entries}
+use Rattle.std.specs.FinMap.{entries, len, len-empty}
+use Rattle.generators.specs.Gens.{operator_cmp}
 use Rattle.generators.specs.Levels.{target_operator}
 use Rattle.generators.specs.declared.level.Level.{Level}
 use Rattle.modulators.specs.declared.modulator.Modulator.{Modulator}
@@ -18,7 +19,7 @@ use Rattle.flat_records.specs.declared.bags.Recs.{Recs}
 use Rattle.sf_base.specs.declared.memory.Failure.{Failure}
 use Rattle.bank_parts.specs.declared.parts.GlobalZone.{GlobalZone}
 use Rattle.bank_parts.specs.declared.parts.Zone.{Zone}
-use Rattle.bank_parts.specs.Bagged.{zone_bag, global_bags}
+use Rattle.bank_parts.specs.Bagged.{zone_bag, global_bag, global_bags}
 use Rattle.bank_format.specs.declared.fault.ReadFault.{ReadFault}
 use Rattle.bank_format.specs.Steps.{Step, step, first_broken, Fails, PassesGivenMemory}
 use Rattle.bank_format.specs.Windows.{windows_from, together}
@@ -102,9 +103,18 @@ no_zone_bags : (at : Level) → [] ≡ zone_bags at []
 unfolding zones_read
 no_zone_bags at = refl
 
-no_bags_added : (at : Level) (r : Recs) → Adds r r (own_bags at [])
+-- an empty global zone has no bag
+no_global_bags : global_bags no_global ≡ []
+no_global_bags =
+    let none : len no_global.gens ≡ 0 = len-empty operator_cmp ℕ in
+    ap (λ (n : ℕ). cond (n + 0 == 0) [] (global_bag no_global ∷ [])) none
+
+no_own_bags : (at : Level) → own_bags at [] ≡ []
 unfolding zones_read global_read
-no_bags_added at r = adds_none r
+no_own_bags at = ap (λ (bs : List flat.Bag). bs ++ []) no_global_bags
+
+no_bags_added : (at : Level) (r : Recs) → Adds r r (own_bags at [])
+no_bags_added at r = adds_as r r [] (own_bags at []) (sym (no_own_bags at)) (adds_none r)
 
 -- where all are none
 module _ (at : Level) (n : ℕ) (missing : ReadFault) (all : List Bagged) (is : all ≡ []) where
@@ -140,9 +150,6 @@ module _ (at : Level) (r : Bagged) where
   unfolding global_read
   global_by o e = ap (λ (p : Option ℕ). global_is (is_some p)) e
 
-  no_global_bags : global_bags (global_is true) ≡ []
-  no_global_bags = refl
-
 -- ---- the same of what was read of its records
 
 module _ (at : Level) (r : Bagged) (g : GensRead) (is : g ≡ gens_read_of at r.gens) where
@@ -175,7 +182,7 @@ module _ (at : Level) (r : Bagged) (g : GensRead) (is : g ≡ gens_read_of at r.
   -- or a zone
   pub own_zone : (t : ℕ) → g.target ≡ Some t → record { gens = entries (gens_read at r.gens) ++ (target_operator at, t) ∷ []; mods = r.mods } ∷ [] ≡ own_bags at (r ∷ [])
   own_zone t some =
-      let global : [] ≡ global_bags (global_read at (r ∷ [])) = sym (ap global_bags (global_by at r (Some t) (target_as (Some t) some)) ∙ no_global_bags at r) in
+      let global : [] ≡ global_bags (global_read at (r ∷ [])) = sym (ap global_bags (global_by at r (Some t) (target_as (Some t) some)) ∙ no_global_bags) in
       λ i. global i ++ bags_one t some i
 
   pub first_counts : ◌≡◌ {A = ZoneCounts} (record { zones = 0; gens = g.dropped; ranges = g.ranges }) (counts_read at (r ∷ []))

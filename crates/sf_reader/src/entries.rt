@@ -1,7 +1,6 @@
 //! A map of generators as the last entries of a list.
-ghost use Rattle.std.specs.Prelude.{◌≡◌, take, drop, OnOk};
-ghost use Rattle.std.specs.FinMap.{insert, from_sorted};
-ghost use Rattle.generators.specs.Gens.{AreGens};
+ghost use Rattle.std.specs.Prelude.{◌≡◌, take, OnOk};
+ghost use Rattle.std.specs.FinMap.{insert};
 ghost use Rattle.sf_reader.specs.Entries.{EndsInMap, map_from};
 ghost use Rattle.sf_reader.specs.Gens.{mended_at, is_out_of_order};
 ghost use Rattle.bank_format.specs.Zones.{range_mended};
@@ -36,19 +35,20 @@ pub(crate) fn set_from(
     }
 }
 
-/// Mends the range of an operator, and says whether it changed.
-pub(crate) fn mend_range(entries: &mut [(u16, u16)], operator: u16) -> bool
-    requires { AreGens entries.old }
-    ensures map { AreGens entries.new }
-    ensures changed { result ≡ is_out_of_order operator (from_sorted entries.old) }
-    ensures mended { from_sorted entries.new ≡ mended_at operator (from_sorted entries.old) }
+/// Mends the range of an operator in that map, and says whether it changed.
+pub(crate) fn mend_from(entries: &mut Vec<(u16, u16)>, start: usize, operator: u16) -> bool
+    requires { EndsInMap start entries.old.items }
+    ensures front { take start entries.new.items ≡ take start entries.old.items }
+    ensures map { EndsInMap start entries.new.items }
+    ensures changed { result ≡ is_out_of_order operator (map_from start entries.old.items) }
+    ensures mended { map_from start entries.new.items ≡ mended_at operator (map_from start entries.old.items) }
 {
-    let Ok(at) = search_entries(entries, operator) else {
+    let Ok(at) = search_entries(&entries[start..], operator) else {
         return false;
     };
-    let amount = entries[at].1;
+    let amount = entries[start + at].1;
     let mended = mended_amount(amount);
-    entries[at] = (operator, mended);
+    entries[start + at] = (operator, mended);
     mended != amount
 }
 

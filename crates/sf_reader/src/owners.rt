@@ -42,6 +42,28 @@ impl<H: Drop> Drop for OwnersSoFar<H> {
     }
 }
 
+impl<H: Drop> OwnersSoFar<H> {
+    // All of them, with their terminals.
+    fn ended(self) -> Result<OwnersRead<H>, OutOfMemory>
+        requires { length self.first_bags.items ≡ length self.heads.items + 1 }
+        ensures { IfOk result (λ read. AreEnded self read) }
+    {
+        let OwnersSoFar {
+            heads,
+            first_bags,
+            mut records,
+            counts,
+        } = self;
+        end_records(&mut records)?;
+        let heads = FlatHeads::new(NumberedList::from_vec(heads), first_bags).unwrap();
+        Ok(OwnersRead {
+            heads,
+            records,
+            counts,
+        })
+    }
+}
+
 /// The presets or the instruments of a file in flat lists, and what was dropped or mended in their zones.
 pub(crate) struct OwnersRead<H> {
     pub(crate) heads: FlatHeads<H>,
@@ -57,6 +79,21 @@ impl<H: Drop> Drop for OwnersRead<H> {
             records: _,
             counts: _,
         } = self;
+    }
+}
+
+impl<H: Drop> OwnersRead<H> {
+    /// Their heads, and their records.
+    pub(crate) fn into_lists(self) -> (FlatHeads<H>, Recs)
+        ensures heads { result.0 ≡ self.heads }
+        ensures records { result.1 ≡ self.records }
+    {
+        let OwnersRead {
+            heads,
+            records,
+            counts: _,
+        } = self;
+        (heads, records)
     }
 }
 
@@ -105,13 +142,13 @@ fn read_owners<H: RecordedHead>(
     let mut read = no_owners(alloc, level)?;
     let mut heads = level.heads.iter();
     let Some(mut head) = heads.next() else {
-        return Ok(ended(read)?);
+        return Ok(read.ended()?);
     };
     for next in heads {
         read_owner(level, &head, &next, targets, &mut read)?;
         head = next;
     }
-    Ok(ended(read)?)
+    Ok(read.ended()?)
 }
 
 // None yet, with room for what the tables hold.
@@ -169,26 +206,6 @@ fn read_owner<H: RecordedHead>(
     read.first_bags.push(past)?;
     read.counts = add(read.counts, counts);
     Ok(())
-}
-
-// All of them, with their terminals.
-fn ended<H: RecordedHead>(read: OwnersSoFar<H>) -> Result<OwnersRead<H>, OutOfMemory>
-    requires { length read.first_bags.items ≡ length read.heads.items + 1 }
-    ensures { IfOk result (λ r. AreEnded read r) }
-{
-    let OwnersSoFar {
-        heads,
-        first_bags,
-        mut records,
-        counts,
-    } = read;
-    end_records(&mut records)?;
-    let heads = FlatHeads::new(NumberedList::from_vec(heads), first_bags).unwrap();
-    Ok(OwnersRead {
-        heads,
-        records,
-        counts,
-    })
 }
 
 /// Both counts together.

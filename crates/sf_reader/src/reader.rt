@@ -14,7 +14,7 @@ ghost use Rattle.sf_reader.specs.FlatContent.{content_seen};
 
 use crate::frame::{Lists, lists_of, window_of};
 use crate::hydra::{HydraChunks, Tables, needed_body};
-use crate::owners::{Members, OwnersRead, add, read_members};
+use crate::owners::{Members, add, read_members};
 use crate::samples::{
     check_samples, check_total, count_lost_links, count_lost_loops, read_samples,
 };
@@ -140,16 +140,8 @@ fn content_of<'a>(
         presets,
         instruments,
     } = members;
-    let OwnersRead {
-        heads: preset_heads,
-        records: presets,
-        counts: _,
-    } = presets;
-    let OwnersRead {
-        heads: instrument_heads,
-        records: instruments,
-        counts: _,
-    } = instruments;
+    let (preset_heads, presets) = presets.into_lists();
+    let (instrument_heads, instruments) = instruments.into_lists();
     let flat = Flat {
         minor,
         texts: cut_texts(&texts),

@@ -63,7 +63,9 @@ pub(crate) fn end_global(
     ensures { OnOk result ((before : Recs) (g : GlobalZone) → HoldsGens before records.old (entries g.gens) → start ≡ length before.gens.items
         → g.mods ≡ modulators.now → Adds before records.new (global_bags g)) }
 {
-    if records.gens.len() - start + modulators.len() == 0 {
+    let gens = records.gens.len() - start;
+    let mods = modulators.len();
+    if gens == 0 && mods == 0 {
         return Ok(());
     }
     end_bag(records, modulators)

@@ -22,7 +22,7 @@ returns-in_default-clause-records c =
     let g = c.in_ok-target.field-0 in
     adds_as c.args.records.now c.end_global.new.records _ _ (own_global c.args.level r g c.in_ok-target.ensures.all c.in_default.is)
     (c.in_ok-end_global.ensures c.args.records.now (record { gens = gens_read c.args.level c.args.generators.now; mods = c.args.modulators.now })
-    (record { bags_stay = refl; mods_stay = refl; gens_grow = c.in_ok-target.ensures.gens }) c.len-start.ensures refl)
+    (record { bags_stay = refl; mods_stay = refl; gens_grow = c.in_ok-target.ensures.gens }) (c.len-start.ensures ∙ c.args.records.now.gens.ok.0) refl)
 
 pub returns-in_err-check_target-clause-passes : goal.returns-in_err-check_target-clause-passes
 returns-in_err-check_target-clause-passes c =

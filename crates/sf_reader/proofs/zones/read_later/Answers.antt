@@ -21,7 +21,7 @@ pub returns-in_default-clause-records : goal.returns-in_default-clause-records
 returns-in_default-clause-records c =
     let r = bagged c.args.generators.now c.args.modulators.now in
     let g = c.in_ok-target.field-0 in
-    let gens = c.truncate.ensures.items ∙ (λ i. take (c.len-start.ensures i) (c.in_ok-target.ensures.gens i)) ∙ take-front c.args.records.now.gens.items (entries (gens_read c.args.level c.args.generators.now)) in
+    let gens = c.truncate.ensures.items ∙ (λ i. take ((c.len-start.ensures ∙ c.args.records.now.gens.ok.0) i) (c.in_ok-target.ensures.gens i)) ∙ take-front c.args.records.now.gens.items (entries (gens_read c.args.level c.args.generators.now)) in
     adds_as c.args.records.now _ _ _ (bags_none c.args.level r g c.in_ok-target.ensures.all c.in_default.is)
     (adds_same c.args.records.now _ refl gens refl)
 

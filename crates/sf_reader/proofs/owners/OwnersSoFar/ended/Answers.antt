@@ -1,5 +1,5 @@
 use Rattle.sf_reader.proofs.OwnerLaws.{found, found_that}
-use Rattle.sf_reader.proofs.owners.ended.Goals as goal
+use Rattle.sf_reader.proofs.owners.OwnersSoFar.ended.Goals as goal
 
 pub unwrap-heads-requires : goal.unwrap-heads-requires
 unwrap-heads-requires g c = ?
