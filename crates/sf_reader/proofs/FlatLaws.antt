@@ -90,7 +90,7 @@ is_flat f b e = record {
 -- where a sound bank has them, one is found
 pub is_there : (f : Flat) (o : Option Parts) → MatchOption o ((b : Parts) → IsSound b → IsFlatOf f b → ⊥) (λ b. IsFlatOf f b) → (b : Parts) → IsSound b → IsFlatOf f b → IsSome o
 is_there f None h b sound are = absurd (h b sound are)
-is_there f (Some c) h b sound are = tt
+is_there f (Some c) h b sound are = refl
 
 pub has_lists : (f : Flat) (o : Option Parts) (c : Parts) → MatchOption o ((b : Parts) → IsSound b → IsFlatOf f b → ⊥) (λ b. IsFlatOf f b) → o ≡ Some c → IsFlatOf f c
 has_lists f o c h e = subst (λ p. MatchOption p ((b : Parts) → IsSound b → IsFlatOf f b → ⊥) (λ b. IsFlatOf f b)) e h

@@ -121,7 +121,7 @@ are_as r hs names bs owners b c heads bags counts are = record {
 -- either side of an answer that is there
 pub found : {X : Type 0} (P : Type 0) (Q : X → Type 0) (o : Option X) → MatchOption o (P → ⊥) Q → P → IsSome o
 found P Q None h p = absurd (h p)
-found P Q (Some x) h p = tt
+found P Q (Some x) h p = refl
 
 pub found_that : {X : Type 0} (P : Type 0) (Q : X → Type 0) (o : Option X) (x : X) → MatchOption o (P → ⊥) Q → o ≡ Some x → Q x
 found_that P Q o x h e = subst (λ p. MatchOption p (P → ⊥) Q) e h

@@ -19,8 +19,8 @@ returns-in_err-counts-clause-passes g c =
     (between_as (λ at bags. Fails e (first_broken (steps_of_bags at n missing bags))) h.first_bag l c.args.head.now c.args.next.now h.level c.LEVEL.result c.part-bags.result c.first_bag.result c.first_bag-2.result
     (c.LEVEL.ensures ∙ sym g.met.H.RecordedHead.same_level) c.part-bags.ensures c.first_bag.ensures c.first_bag-2.ensures c.in_err-counts.ensures.passes)
 
-pub add-requires : goal.add-requires
-add-requires g c =
+pub add-read-requires : goal.add-read-requires
+add-read-requires g c =
     let l = c.args.level.now in
     let h = g.H.RecordedHead.headers in
     let counts = between_as (λ at bags. c.in_ok-counts.counts ≡ counts_read at bags) h.first_bag l c.args.head.now c.args.next.now h.level c.LEVEL.result c.part-bags.result c.first_bag.result c.first_bag-2.result
@@ -45,10 +45,10 @@ returns-clause-read g c =
     let counts = between_as (λ at bags. c.in_ok-counts.counts ≡ counts_read at bags) h.first_bag l c.args.head.now c.args.next.now h.level c.LEVEL.result c.part-bags.result c.first_bag.result c.first_bag-2.result
     (c.LEVEL.ensures ∙ sym g.met.H.RecordedHead.same_level) c.part-bags.ensures c.first_bag.ensures c.first_bag-2.ensures c.in_ok-counts.ensures.passes.1 in
     record {
-      heads_grow = c.push.ensures.items ∙ ap (λ (x : _). c.args.read.now.heads.items ++ x ∷ []) c.of_record.ensures;
-      first_bags_grow = c.push-2.ensures.items ∙ ap (λ (n : _). c.args.read.now.first_bags.items ++ n ∷ []) c.in_ok-past.ensures;
+      heads_grow = c.in_ok-push.ensures.items ∙ ap (λ (x : _). c.args.read.now.heads.items ++ x ∷ []) c.of_record.ensures;
+      first_bags_grow = c.in_ok-push-2.ensures.items ∙ ap (λ (n : _). c.args.read.now.first_bags.items ++ n ∷ []) c.in_ok-past.ensures;
       records_grow =
-          between_as (λ at bags. Adds c.args.read.now.records c.read_bags-counts.new.records (own_bags at bags)) h.first_bag l c.args.head.now c.args.next.now h.level c.LEVEL.result c.part-bags.result c.first_bag.result c.first_bag-2.result
+          between_as (λ at bags. Adds c.args.read.now.records c.read_bags.new.records (own_bags at bags)) h.first_bag l c.args.head.now c.args.next.now h.level c.LEVEL.result c.part-bags.result c.first_bag.result c.first_bag-2.result
               (c.LEVEL.ensures ∙ sym g.met.H.RecordedHead.same_level) c.part-bags.ensures c.first_bag.ensures c.first_bag-2.ensures c.in_ok-counts.ensures.records;
-      counts_grow = c.add.ensures ∙ ap (added c.args.read.now.counts) counts;
+      counts_grow = c.add-read.ensures ∙ ap (added c.args.read.now.counts) counts;
     }

@@ -5,8 +5,8 @@ use Rattle.sf_reader.proofs.CountLaws.{counts-few}
 use Rattle.sf_reader.proofs.OwnerLaws.{none_left, left_next, left_fails, left_small, none_read, all_read, can_end, all_ended}
 use Rattle.sf_reader.proofs.owners.read_owners.Goals as goal
 
-pub ended-requires-in_default : goal.ended-requires-in_default
-ended-requires-in_default g c =
+pub ended-requires : goal.ended-requires
+ended-requires g c =
     let l = c.args.level.now in
     let h = g.H.RecordedHead.headers in
     let table = bags_in l.bags l.generators l.modulators in
@@ -62,8 +62,8 @@ loop-next-preserved g c =
           c.read_owner.new.read c.in_ok-read_owner.ensures.passes.0 c.in_ok-read_owner.ensures.read,
     )
 
-pub ended-requires : goal.ended-requires
-ended-requires g c =
+pub ended-requires-2 : goal.ended-requires-2
+ended-requires-2 g c =
     let l = c.args.level.now in
     let h = g.H.RecordedHead.headers in
     let table = bags_in l.bags l.generators l.modulators in
@@ -77,4 +77,4 @@ returns g c =
     let table = bags_in l.bags l.generators l.modulators in
     all_ended h c.args.targets.count c.args.targets.missing table l.heads c.loop-next.read
     (all_read h c.args.targets.count c.args.targets.missing table l.heads c.loop-next.read c.loop-next.head c.loop-next.next-iterator c.in-None.ensures.steps.0 c.loop-next.invariant.2)
-    c.in_ok-ended.field-0 c.in_ok-ended.ensures
+    c.in_ok-ended-2.field-0 c.in_ok-ended-2.ensures

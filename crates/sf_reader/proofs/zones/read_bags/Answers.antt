@@ -51,7 +51,7 @@ loop-end-init c =
     let all = ap (λ (bs : List Bag). bags_in bs gens mods) bags ∙ next_bag gens mods c.in-Some.first c.in-Some-next.second _ c.into_iter-end-iterator.result bag.0 bag.1 refl c.bag_between-gens.ensures.gens c.bag_between-gens.ensures.mods in (
       tt,
       tt,
-      first_left c.args.level c.args.targets.count c.args.targets.missing c.args.records.now c.read_first-counts.new.records c.in_ok-counts.counts (bagged bag.0 bag.1) _ _ all
+      first_left c.args.level c.args.targets.count c.args.targets.missing c.args.records.now c.read_first.new.records c.in_ok-counts.counts (bagged bag.0 bag.1) _ _ all
           c.in_ok-counts.ensures.passes.0 c.in_ok-counts.ensures.passes.1 c.in_ok-counts.ensures.records,
     )
 
@@ -63,15 +63,15 @@ read_later-requires-clause-few c =
     few_so_far c.args.level c.loop-end.counts (bags_in (c.loop-end.start ∷ c.loop-end.end-iterator) gens mods) (bags_in c.args.bags.now gens mods) left.counts_are
     (few_in_all c.args.level c.args.bags.now gens mods c.requires.bags c.requires.generators)
 
-pub returns-in_err-read_later-clause-passes : goal.returns-in_err-read_later-clause-passes
-returns-in_err-read_later-clause-passes c =
+pub returns-in_err-counts-2-clause-passes : goal.returns-in_err-counts-2-clause-passes
+returns-in_err-counts-2-clause-passes c =
     let gens = c.args.generators.now in
     let mods = c.args.modulators.now in
     let bag = c.bag_between-gens-in-loop-end.result in
     let next = next_bag gens mods c.loop-end.start c.in-Some-end.end c.loop-end.end-iterator _ bag.0 bag.1 c.in-Some-end.ensures.steps c.bag_between-gens-in-loop-end.ensures.gens c.bag_between-gens-in-loop-end.ensures.mods in
-    let e = c.in_err-read_later.field-0.0 in
-    given_by (λ c. c) _ c.from_residual-in_err-read_later.result e (steps_of_bags c.args.level c.args.targets.count c.args.targets.missing (bags_in c.args.bags.now gens mods)) c.from_residual-in_err-read_later.ensures.1
-    (later_fails c.args.level c.args.targets.count c.args.targets.missing c.args.records.now c.loop-end.records c.loop-end.counts (bagged bag.0 bag.1) _ _ _ next c.loop-end.invariant.2 e c.in_err-read_later.ensures.passes)
+    let e = c.in_err-counts-2.field-0.0 in
+    given_by (λ c. c) _ c.from_residual-in_err-counts-2.result e (steps_of_bags c.args.level c.args.targets.count c.args.targets.missing (bags_in c.args.bags.now gens mods)) c.from_residual-in_err-counts-2.ensures.1
+    (later_fails c.args.level c.args.targets.count c.args.targets.missing c.args.records.now c.loop-end.records c.loop-end.counts (bagged bag.0 bag.1) _ _ _ next c.loop-end.invariant.2 e c.in_err-counts-2.ensures.passes)
 
 pub loop-end-preserved : goal.loop-end-preserved
 loop-end-preserved c =
@@ -82,7 +82,7 @@ loop-end-preserved c =
       tt,
       tt,
       later_left c.args.level c.args.targets.count c.args.targets.missing c.args.records.now c.loop-end.records c.loop-end.counts (bagged bag.0 bag.1) _ _ _ next c.loop-end.invariant.2
-          c.read_later.new.records c.in_ok-read_later.field-0 c.in_ok-read_later.ensures.passes.0 c.in_ok-read_later.ensures.passes.1 c.in_ok-read_later.ensures.records,
+          c.read_later.new.records c.in_ok-counts-2.counts c.in_ok-counts-2.ensures.passes.0 c.in_ok-counts-2.ensures.passes.1 c.in_ok-counts-2.ensures.records,
     )
 
 pub returns : goal.returns
