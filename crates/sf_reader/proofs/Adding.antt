@@ -50,7 +50,7 @@ starts-last at (x ∷ xs) b =
     ∙ (λ i. at ∷ (starts past_bag (past_bag at x) xs ++ (gens i, mods i) ∷ []))
 
 module _ (old new : Recs) (b : Bag) (gens : new.gens.items ≡ old.gens.items ++ b.gens) (mods : new.mods.items ≡ old.mods.items ++ b.mods)
-  (bags : new.bags.items ≡ old.bags.items ++ (length new.gens.items, length new.mods.items) ∷ []) where
+    (bags : new.bags.items ≡ old.bags.items ++ (length new.gens.items, length new.mods.items) ∷ []) where
   pub adds_bag : Adds old new (b ∷ [])
   adds_bag = λ all h.
       let gens_are : new.gens.items ≡ gens_in (all ++ b ∷ []) = gens ∙ ap (λ gs. gs ++ b.gens) h.gens ∙ flat_map_more (λ (x : Bag). x.gens) [] all b in
@@ -76,7 +76,7 @@ adds_held before mid new gens more mods h e =
 -- ---- the bag of a global zone, where it holds something
 
 module _ (before now : Recs) (g : GlobalZone) (gens mods : ℕ) (h : HoldsGens before now (entries g.gens)) (gens_are : gens ≡ length now.gens.items - length before.gens.items)
-  (mods_are : mods ≡ length g.mods) where
+    (mods_are : mods ≡ length g.mods) where
   held_count : gens ≡ len g.gens
   held_count = omega (arith, gens_are, len-entries g.gens, ap length h.gens_grow, length-append before.gens.items (entries g.gens))
 

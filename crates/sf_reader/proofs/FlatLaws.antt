@@ -1,9 +1,8 @@
 -- What is read of tables, in flat lists.
-use Rattle.std.proofs.Common.{◌≡◌, ◌∙◌, ℕ, List, [], ◌∷◌, length, map, Option, Some, None, IsSome, refl, ap, subst, arith}
+use Rattle.std.proofs.Common.{◌≡◌, List, [], ◌∷◌, length, map, Option, Some, None, IsSome, refl, ap, subst, arith}
 use Rattle.std.specs.Prelude.{MatchOption}
 use Rattle.sf_base.specs.Fields.{field_at}
 use Rattle.generators.specs.Levels.{target_operator}
-use Rattle.generators.specs.declared.level.Level.TheVariants as level
 use Rattle.flat_records.specs.Bags as flat
 use Rattle.owner_bags.specs.Owned.{all_bags, flat_of}
 use Rattle.bank_parts.specs.declared.parts.WithZones.{WithZones}
@@ -17,7 +16,7 @@ use Rattle.bank_core.proofs.FlatLaws.{presets_plain, instruments_plain, same_ban
 use Rattle.hydra_records.specs.declared.head.PresetHead.{PresetHead}
 use Rattle.hydra_records.specs.declared.head.InstrumentHead.{InstrumentHead}
 use Rattle.bank_format.specs.Ids.{IFIL}
-use Rattle.bank_format.specs.Windows.{windows, together, rows}
+use Rattle.bank_format.specs.Windows.{together, rows}
 use Rattle.bank_format.specs.Zones.{Bagged}
 use Rattle.bank_format.specs.Tables.{Tables, Headers, presets, instruments}
 use Rattle.bank_format.specs.Chunks.{body_in, points_in}

@@ -1,5 +1,5 @@
 -- The presets or the instruments, one head after the other.
-use Rattle.std.proofs.Common.{◌≡◌, ◌+◌, ◌-◌, ◌∙◌, ℕ, suc, true, false, List, [], ◌∷◌, ◌++◌, length, map, Some, None, Option, Result, IsSome, refl, sym, ap, subst, append_assoc, append-nil, arith}
+use Rattle.std.proofs.Common.{◌≡◌, ◌+◌, ◌-◌, ◌∙◌, ℕ, suc, List, [], ◌∷◌, ◌++◌, length, map, Some, None, Option, Result, IsSome, refl, sym, ap, subst, append_assoc, append-nil, arith}
 use Rattle.std.specs.Prelude.{flat_map, MatchOption}
 use Rattle.std.specs.List.{slice_range}
 use Rattle.std.specs.Result.{IsErrAnd}
@@ -11,12 +11,9 @@ use Rattle.hydra_records.specs.declared.zone.Bag.{Bag}
 use Rattle.hydra_records.specs.declared.zone.Generator.{Generator}
 use Rattle.flat_records.specs.Runs.{starts}
 use Rattle.flat_records.specs.Bags as flat
-use Rattle.flat_records.specs.declared.bags.Recs.{Recs}
 use Rattle.flat_records.proofs.Starts.{length-starts}
 use Rattle.owner_bags.specs.Owned.{past_owner, all_bags}
-use Rattle.bank_parts.specs.declared.parts.Zone.{Zone}
 use Rattle.sf_base.specs.declared.memory.Failure.{Failure}
-use Rattle.bank_core.specs.declared.flat_heads.HeadRecord.{HeadRecord}
 use Rattle.bank_core.specs.Heads.{head_records}
 use Rattle.bank_format.specs.declared.fault.ReadFault.{ReadFault}
 use Rattle.bank_format.specs.Steps.{first_broken, Fails, PassesGivenMemory}
@@ -29,10 +26,10 @@ use Rattle.sf_reader.specs.declared.zones.ZoneCounts.{ZoneCounts}
 use Rattle.sf_reader.specs.declared.owners.OwnersSoFar.{OwnersSoFar}
 use Rattle.sf_reader.specs.declared.owners.OwnersRead.{OwnersRead}
 use Rattle.sf_reader.specs.Bags.{counts_read, own_bags, steps_of_bags}
-use Rattle.sf_reader.specs.Records.{AreSoFar, Adds, tables_in}
+use Rattle.sf_reader.specs.Records.{AreSoFar}
 use Rattle.sf_reader.specs.declared.hydra.LevelTables.{LevelTables}
 use Rattle.sf_reader.specs.Owners.{AreSmall, added, counts_over, AreOwnersSoFar, AddsOwner, AreEnded, FlatOwners, owners_seen, owners_with_counts, zone_steps, window_of}
-use Rattle.sf_reader.proofs.Adding.{adds_as, bags_so_far}
+use Rattle.sf_reader.proofs.Adding.{bags_so_far}
 use Rattle.sf_reader.proofs.StepLaws.{first_broken-append, fails_front, given_by}
 use Rattle.sf_reader.proofs.CountLaws.{AreFew, part-small}
 use Rattle.sf_reader.proofs.WindowLaws.{slice-bags_in, length-rows, length-windows}

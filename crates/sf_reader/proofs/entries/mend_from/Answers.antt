@@ -1,4 +1,4 @@
-use Rattle.std.proofs.Common.{◌≡◌, ◌∙◌, ◌^◌, ◌<◌, ◌+◌, ℕ, List, drop, get_or, ap, subst, sym, refl, arith}
+use Rattle.std.proofs.Common.{◌∙◌, ◌^◌, ◌<◌, ℕ, List, drop, ap, subst, arith}
 use Rattle.generators.specs.Places.{IsAt, IsGapFor}
 use Rattle.sf_reader.proofs.EntryLaws.{rest_is, set-front, set-map, out_of_order, mended_is, none_out_of_order, none_mended}
 use Rattle.sf_reader.proofs.entries.mend_from.Goals as goal

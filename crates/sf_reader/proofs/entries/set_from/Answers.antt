@@ -1,6 +1,6 @@
-use Rattle.std.proofs.Common.{◌≡◌, ◌∙◌, ℕ, List, drop, ap, subst, arith, rules}
+use Rattle.std.proofs.Common.{◌∙◌, ℕ, List, drop, ap, subst, arith}
 use Rattle.generators.specs.Places.{IsAt, IsGapFor}
-use Rattle.sf_reader.proofs.EntryLaws.{rest_is, set-within, set-front, set-map, set-set, insert-within, insert-front, insert-map, insert-set}
+use Rattle.sf_reader.proofs.EntryLaws.{rest_is, set-front, set-map, set-set, insert-front, insert-map, insert-set}
 use Rattle.sf_reader.proofs.entries.set_from.Goals as goal
 
 pub returns-in-Ok : goal.returns-in-Ok

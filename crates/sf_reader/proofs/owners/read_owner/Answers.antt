@@ -49,6 +49,6 @@ returns-clause-read g c =
       first_bags_grow = c.in_ok-push-2.ensures.items ∙ ap (λ (n : _). c.args.read.now.first_bags.items ++ n ∷ []) c.in_ok-past.ensures;
       records_grow =
           between_as (λ at bags. Adds c.args.read.now.records c.read_bags.new.records (own_bags at bags)) h.first_bag l c.args.head.now c.args.next.now h.level c.LEVEL.result c.part-bags.result c.first_bag.result c.first_bag-2.result
-              (c.LEVEL.ensures ∙ sym g.met.H.RecordedHead.same_level) c.part-bags.ensures c.first_bag.ensures c.first_bag-2.ensures c.in_ok-counts.ensures.records;
+          (c.LEVEL.ensures ∙ sym g.met.H.RecordedHead.same_level) c.part-bags.ensures c.first_bag.ensures c.first_bag-2.ensures c.in_ok-counts.ensures.records;
       counts_grow = c.add-read.ensures ∙ ap (added c.args.read.now.counts) counts;
     }

@@ -1,7 +1,4 @@
-use Rattle.std.proofs.Common.{◌≡◌, ◌∙◌, ◌-◌, ℕ, length, Result, Ok, Err, ap, sym, subst, arith}
-use Rattle.std.specs.Result.{OnOk}
-use Rattle.flat_records.specs.declared.bags.Recs.{Recs}
-use Rattle.bank_parts.specs.declared.parts.GlobalZone.{GlobalZone}
+use Rattle.std.proofs.Common.{◌≡◌, ◌∙◌, ◌-◌, length, ap, sym, arith}
 use Rattle.sf_reader.proofs.StepLaws.{on_ok}
 use Rattle.sf_reader.proofs.Adding.{global_none, global_some}
 use Rattle.sf_reader.proofs.records.end_global.Goals as goal

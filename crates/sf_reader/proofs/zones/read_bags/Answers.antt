@@ -1,5 +1,4 @@
 use Rattle.std.proofs.Common.{◌≡◌, ◌∙◌, ◌∷◌, [], List, ap, sym, refl}
-use Rattle.sf_base.specs.declared.memory.Failure.TheVariants.{Fault}
 use Rattle.bank_format.specs.Reading.{bagged, bags_in}
 use Rattle.hydra_records.specs.declared.zone.Bag.{Bag}
 use Rattle.sf_reader.specs.Bags.{steps_of_bags}

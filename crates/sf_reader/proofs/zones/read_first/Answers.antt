@@ -1,4 +1,4 @@
-use Rattle.std.proofs.Common.{◌≡◌, ◌∙◌, ◌++◌, ◌∷◌, [], None, ap, sym, refl}
+use Rattle.std.proofs.Common.{◌∙◌, ap, sym, refl}
 use Rattle.std.specs.FinMap.{entries}
 use Rattle.sf_base.specs.declared.memory.Failure.TheVariants.{Fault}
 use Rattle.bank_format.specs.Steps.{first_broken}

@@ -1,4 +1,4 @@
-use Rattle.std.proofs.Common.{◌≡◌, ◌∙◌, ◌++◌, ◌∷◌, [], None, take, ap, sym, refl}
+use Rattle.std.proofs.Common.{◌∙◌, take, ap, sym, refl}
 use Rattle.std.specs.FinMap.{entries}
 use Rattle.sf_base.specs.declared.memory.Failure.TheVariants.{Fault}
 use Rattle.bank_format.specs.Steps.{first_broken}

@@ -1,5 +1,4 @@
-use Rattle.std.proofs.Common.{◌≡◌, ◌∙◌, ◌+◌, List, length, ap, sym, refl}
-use Rattle.bank_core.specs.declared.flat_heads.HeadRecord.{HeadRecord}
+use Rattle.std.proofs.Common.{◌≡◌, ◌∙◌, ◌+◌, length, ap, sym, refl}
 use Rattle.bank_core.specs.Heads.{head_records}
 use Rattle.sf_reader.proofs.OwnerLaws.{found, found_that}
 use Rattle.sf_reader.proofs.owners.OwnersSoFar.ended.Goals as goal
