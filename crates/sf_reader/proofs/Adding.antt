@@ -31,9 +31,6 @@ adds_both a b c xs ys first second = λ all h. subst (AreSoFar c) (append_assoc 
 pub adds_as : (a b : Recs) (xs ys : List Bag) → xs ≡ ys → Adds a b xs → Adds a b ys
 adds_as a b xs ys same h = subst (Adds a b) same h
 
-pub none_so_far : (r : Recs) → r.bags.items ≡ (0, 0) ∷ [] → r.gens.items ≡ [] → r.mods.items ≡ [] → AreSoFar r []
-none_so_far r bags gens mods = record { bags = bags; gens = gens; mods = mods }
-
 -- ---- one bag more
 
 -- the index past all of them is behind the others
@@ -51,7 +48,7 @@ starts-last at (x ∷ xs) b =
 
 module _ (old new : Recs) (b : Bag) (gens : new.gens.items ≡ old.gens.items ++ b.gens) (mods : new.mods.items ≡ old.mods.items ++ b.mods)
     (bags : new.bags.items ≡ old.bags.items ++ (length new.gens.items, length new.mods.items) ∷ []) where
-  pub adds_bag : Adds old new (b ∷ [])
+  adds_bag : Adds old new (b ∷ [])
   adds_bag = λ all h.
       let gens_are : new.gens.items ≡ gens_in (all ++ b ∷ []) = gens ∙ ap (λ gs. gs ++ b.gens) h.gens ∙ flat_map_more (λ (x : Bag). x.gens) [] all b in
       let mods_are : new.mods.items ≡ mods_in (all ++ b ∷ []) = mods ∙ ap (λ ms. ms ++ b.mods) h.mods ∙ flat_map_more (λ (x : Bag). x.mods) [] all b in

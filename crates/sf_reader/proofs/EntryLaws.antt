@@ -71,9 +71,6 @@ module _ (start : ℕ) (es : List (ℕ × ℕ)) (m : EndsInMap start es) (op w :
     held : IsAt (map.entries (map_from start es)) op i
     held = subst (λ xs. IsAt xs op i) (sym (entries_held m.own refl)) at
 
-    pub set-within : start + i < length es
-    set-within = omega (arith, at.within, m.within, length-drop start es)
-
     pub set-front : take start (set es (start + i) (op, w)) ≡ take start es
     set-front = take-set-le start es (start + i) (op, w) (omega arith)
 
@@ -90,7 +87,7 @@ module _ (start : ℕ) (es : List (ℕ × ℕ)) (m : EndsInMap start es) (op w :
     gap_held : IsGapFor (map.entries (map_from start es)) op i
     gap_held = subst (λ xs. IsGapFor xs op i) (sym (entries_held m.own refl)) gap
 
-    pub insert-within : start + i ≤ length es
+    insert-within : start + i ≤ length es
     insert-within = omega (arith, gap.within, m.within, length-drop start es)
 
     pub insert-front : take start (insert es (start + i) (op, w)) ≡ take start es

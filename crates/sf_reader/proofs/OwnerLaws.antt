@@ -81,6 +81,9 @@ zone_steps-next at targets missing w ws = map-append (target_step targets missin
 
 -- ---- one more of them
 
+pub pushed_as : {X : Type 0} (old new : List X) (x y : X) → new ≡ old ++ x ∷ [] → x ≡ y → new ≡ old ++ y ∷ []
+pushed_as old new x y e is = e ∙ ap (λ z. old ++ z ∷ []) is
+
 -- where the bags of the next one begin
 begins-last : (at : ℕ) (owners : List (List flat.Bag)) (own : List flat.Bag)
     → starts past_owner at (owners ++ own ∷ []) ≡ starts past_owner at owners ++ (at + length (all_bags (owners ++ own ∷ []))) ∷ []

@@ -1,11 +1,11 @@
-use Rattle.std.proofs.Common.{◌≡◌, ◌∙◌, ◌++◌, ◌∷◌, [], None, refl, ap, sym, subst}
+use Rattle.std.proofs.Common.{length, ◌-◌, ◌≡◌, ◌∙◌, None, refl, ap, sym, subst}
 use Rattle.bank_format.specs.Steps.{first_broken, Fails}
 use Rattle.sf_reader.specs.declared.zones.ZoneCounts.{ZoneCounts}
 use Rattle.sf_reader.specs.Bags.{counts_read, own_bags, steps_of_bags}
 use Rattle.sf_reader.specs.Records.{Adds}
 use Rattle.sf_reader.specs.Owners.{AreSmall, added, window_of}
 use Rattle.sf_reader.proofs.StepLaws.{given_by}
-use Rattle.sf_reader.proofs.OwnerLaws.{between_as}
+use Rattle.sf_reader.proofs.OwnerLaws.{between_as, pushed_as}
 use Rattle.sf_reader.proofs.owners.read_owner.Goals as goal
 
 pub returns-in_err-counts-clause-passes : goal.returns-in_err-counts-clause-passes
@@ -45,8 +45,8 @@ returns-clause-read g c =
     let counts = between_as (λ at bags. c.in_ok-counts.counts ≡ counts_read at bags) h.first_bag l c.args.head.now c.args.next.now h.level c.LEVEL.result c.part-bags.result c.first_bag.result c.first_bag-2.result
     (c.LEVEL.ensures ∙ sym g.met.H.RecordedHead.same_level) c.part-bags.ensures c.first_bag.ensures c.first_bag-2.ensures c.in_ok-counts.ensures.passes.1 in
     record {
-      heads_grow = c.in_ok-push.ensures.items ∙ ap (λ (x : _). c.args.read.now.heads.items ++ x ∷ []) c.of_record.ensures;
-      first_bags_grow = c.in_ok-push-2.ensures.items ∙ ap (λ (n : _). c.args.read.now.first_bags.items ++ n ∷ []) c.in_ok-past.ensures;
+      heads_grow = pushed_as c.args.read.now.heads.items c.push.new.self.items c.of_record.result (h.read c.args.head.now) c.in_ok-push.ensures.items c.of_record.ensures;
+      first_bags_grow = pushed_as c.args.read.now.first_bags.items c.push-2.new.self.items c.in_ok-past.past (length c.read_bags.new.records.bags.items - 1) c.in_ok-push-2.ensures.items c.in_ok-past.ensures;
       records_grow =
           between_as (λ at bags. Adds c.args.read.now.records c.read_bags.new.records (own_bags at bags)) h.first_bag l c.args.head.now c.args.next.now h.level c.LEVEL.result c.part-bags.result c.first_bag.result c.first_bag-2.result
           (c.LEVEL.ensures ∙ sym g.met.H.RecordedHead.same_level) c.part-bags.ensures c.first_bag.ensures c.first_bag-2.ensures c.in_ok-counts.ensures.records;
