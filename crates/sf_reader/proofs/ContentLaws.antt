@@ -11,10 +11,10 @@ use Rattle.bank_format.specs.Texts.{texts_read, texts_cut}
 use Rattle.bank_format.specs.Samples.{is_loop_lost, is_link_lost}
 use Rattle.bank_format.specs.Reading.{sm24_dropped}
 use Rattle.sf_reader.specs.declared.zones.ZoneCounts.{ZoneCounts}
-use Rattle.sf_reader.specs.declared.owners.Members.{Members}
 use Rattle.sf_reader.specs.Lists.{ListChunks}
 use Rattle.sf_reader.specs.Texts.{texts_in, cut_of, cut_count}
-use Rattle.sf_reader.specs.Owners.{added}
+use Rattle.sf_reader.specs.Owners.{FlatMembers, added}
+use Rattle.sf_reader.specs.FlatContent.{FlatContent}
 use Rattle.sf_reader.specs.Content.{content_with}
 
 -- the texts, cut after they were found
@@ -27,7 +27,7 @@ unfolding texts_in cut_count texts_cut
 cut_count_is info = refl
 
 -- what was found of lists and tables
-pub record Found (w : ListChunks) (heads : List SampleHead) (members : Members) (texts cut : Texts) (cut_texts sm24 : ℕ) (zone_counts : ZoneCounts) (loops links : ℕ) : Type 0 where
+pub record Found (w : ListChunks) (heads : List SampleHead) (members : FlatMembers) (texts cut : Texts) (cut_texts sm24 : ℕ) (zone_counts : ZoneCounts) (loops links : ℕ) : Type 0 where
   pub texts_are : texts ≡ texts_in w.info
   pub cut_are : cut ≡ cut_of texts
   pub counted : cut_texts ≡ cut_count texts
@@ -36,18 +36,34 @@ pub record Found (w : ListChunks) (heads : List SampleHead) (members : Members) 
   pub loops_are : loops ≡ count_by is_loop_lost (rows heads)
   pub links_are : links ≡ count_by (is_link_lost (length (rows heads))) (rows heads)
 
-pub found_content : (minor : ℕ) (w : ListChunks) (t : Tables) (members : Members) (samples : List Sample) (texts cut : Texts) (cut_texts sm24 : ℕ) (zone_counts : ZoneCounts) (loops links : ℕ)
+pub found_content : (minor : ℕ) (w : ListChunks) (t : Tables) (members : FlatMembers) (samples : List Sample) (texts cut : Texts) (cut_texts sm24 : ℕ) (zone_counts : ZoneCounts) (loops links : ℕ)
     → Found w t.shdr members texts cut cut_texts sm24 zone_counts loops links
-    → record {
-      bank = record { minor = minor; texts = cut; presets = members.presets.owners; instruments = members.instruments.owners; samples = samples };
+    → ◌≡◌ {A = FlatContent} (record {
+      bank = record {
+        minor = minor;
+        texts = cut;
+        preset_heads = members.presets.heads;
+        presets = members.presets.records;
+        instrument_heads = members.instruments.heads;
+        instruments = members.instruments.records;
+        samples = samples;
+      };
       counts = record { texts = cut_texts; sm24 = sm24; zones = zone_counts.zones; gens = zone_counts.gens; ranges = zone_counts.ranges; loops = loops; links = links };
-    } ≡ content_with minor w t members samples
+    }) (content_with minor w t members samples)
 unfolding content_with
 found_content minor w t members samples texts cut cut_texts sm24 zone_counts loops links f =
     let text = f.cut_are ∙ ap cut_of f.texts_are ∙ cut_is w.info in
     let count = f.counted ∙ ap cut_count f.texts_are ∙ cut_count_is w.info in
     λ i. record {
-      bank = record { minor = minor; texts = text i; presets = members.presets.owners; instruments = members.instruments.owners; samples = samples };
+      bank = record {
+        minor = minor;
+        texts = text i;
+        preset_heads = members.presets.heads;
+        presets = members.presets.records;
+        instrument_heads = members.instruments.heads;
+        instruments = members.instruments.records;
+        samples = samples;
+      };
       counts = record {
         texts = count i;
         sm24 = f.sm24_is i;

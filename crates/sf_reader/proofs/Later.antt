@@ -1,26 +1,40 @@
 -- Bags that are read one after the other.
-use Rattle.std.proofs.Common.{◌≡◌, ◌≤◌, ◌+◌, ◌-◌, ◌*◌, ℕ, Bool, true, false, cond, List, [], ◌∷◌, ◌++◌, length, map, drop, filter, is_some, Option, Some, None, refl, sym, ap, ◌∙◌, append_assoc, arith}
-use Rattle.std.specs.Prelude.{count_by, sum_by, not}
+use Rattle.std.proofs.Common.{◌≡◌, ◌≤◌, ◌+◌, ◌-◌, ◌*◌, ◌==◌, ℕ, Bool, true, false, cond, List, [], ◌∷◌, ◌++◌, length, map, drop, filter, is_some, Option, Some, None, Result, refl, sym, ap, subst, ◌∙◌, append_assoc, arith}
+use Rattle.std.specs.Prelude.{count_by, sum_by, not, nat_lt}
 use Rattle.std.specs.List.{AllByRecursion, slice_range, cons_option}
 use Rattle.std.specs.Option.{option_map}
-use Rattle.std.proofs.lemmas.List.{append-nil, length-take, length-drop, length-map}
+use Rattle.std.specs.Result.{IsErrAnd}
+use Rattle.std.proofs.lemmas.List.{append-nil, length-take, length-drop, length-map, map-append}
 use Rattle.std.proofs.lemmas.List.Elements.{filter_map-append, filter-append}
 use Rattle.std.proofs.lemmas.List.Sums.{sum_by-cons, sum_by-append, count_by-le-length}
+use Rattle.std.specs.FinMap.{entries, len, len-empty}
+use Rattle.generators.specs.Gens.{operator_cmp}
+use Rattle.generators.specs.Levels.{target_operator}
 use Rattle.generators.specs.declared.level.Level.{Level}
 use Rattle.modulators.specs.declared.modulator.Modulator.{Modulator}
 use Rattle.hydra_records.specs.declared.zone.Bag.{Bag}
 use Rattle.hydra_records.specs.declared.zone.Generator.{Generator}
+use Rattle.flat_records.specs.Bags as flat
+use Rattle.flat_records.specs.declared.bags.Recs.{Recs}
+use Rattle.sf_base.specs.declared.memory.Failure.{Failure}
 use Rattle.bank_parts.specs.declared.parts.GlobalZone.{GlobalZone}
 use Rattle.bank_parts.specs.declared.parts.Zone.{Zone}
+use Rattle.bank_parts.specs.Bagged.{zone_bag, global_bag, global_bags}
+use Rattle.bank_format.specs.declared.fault.ReadFault.{ReadFault}
+use Rattle.bank_format.specs.Steps.{Step, step, first_broken, Fails, PassesGivenMemory}
 use Rattle.bank_format.specs.Windows.{windows_from, together}
 use Rattle.bank_format.specs.Reading.{bagged, bags_in}
+use Rattle.bank_format.specs.ReadSteps.{target_step}
 use Rattle.bank_format.specs.Zones.{Bagged, target_of, has_target, zone_read, zone_of, zones_read, global_read, gens_read, no_global, looked_at, ignored, dropped, kept, is_mended, gens_dropped, ranges_mended}
-use Rattle.sf_reader.specs.declared.zones.BagsRead.{BagsRead}
-use Rattle.sf_reader.specs.Bags.{bags_read, counts_read}
+use Rattle.sf_reader.specs.declared.zones.ZoneCounts.{ZoneCounts}
+use Rattle.sf_reader.specs.Bags.{counts_read, steps_of_bags, zone_bags, own_bags}
 use Rattle.sf_reader.specs.Gens.{gens_read_of}
 use Rattle.sf_reader.specs.declared.bag.GensRead.{GensRead}
-use Rattle.sf_reader.specs.Later.{with_later, AreFew}
+use Rattle.sf_reader.specs.Later.{counts_with_later, AreFew}
+use Rattle.sf_reader.specs.Records.{Adds}
 use Rattle.sf_reader.proofs.Kept.{length-kept}
+use Rattle.sf_reader.proofs.Adding.{adds_none, adds_both, adds_as}
+use Rattle.sf_reader.proofs.StepLaws.{first_broken-append, fails_front, given_by}
 
 abbrev gens_in : Level → Bagged → ℕ
 gens_in at r = dropped at r.gens
@@ -28,7 +42,7 @@ gens_in at r = dropped at r.gens
 abbrev ranges_in : Level → Bagged → ℕ
 ranges_in at r = count_by is_mended (kept at r.gens)
 
--- ---- one bag and others
+-- ---- some bags and others
 
 module _ (at : Level) where
   more : (f : Bagged → ℕ) (n : ℕ) (xs ys : List Bagged) → n + sum_by f (xs ++ ys) ≡ n + sum_by f xs + sum_by f ys
@@ -37,32 +51,81 @@ module _ (at : Level) where
   more_filtered : (f : Bagged → ℕ) (n : ℕ) (xs ys : List Bagged) → n + sum_by f (filter (has_target at) (xs ++ ys)) ≡ n + sum_by f (filter (has_target at) xs) + sum_by f (filter (has_target at) ys)
   more_filtered f n xs ys = ap (λ (zs : List Bagged). n + sum_by f zs) (filter-append (has_target at) xs ys) ∙ more f n (filter (has_target at) xs) (filter (has_target at) ys)
 
-  pub with_later-append : (read : BagsRead) (xs ys : List Bagged) → with_later at read (xs ++ ys) ≡ with_later at (with_later at read xs) ys
-  unfolding zones_read
-  with_later-append read xs ys =
-      let zones = ap (λ (zs : List Zone). read.zones ++ zs) (filter_map-append (zone_read at) xs ys) ∙ sym (append_assoc read.zones (zones_read at xs) (zones_read at ys)) in
-      let targetless = more (λ x. cond (not (has_target at x)) 1 0) read.counts.zones xs ys in
-      let gens = more_filtered (gens_in at) read.counts.gens xs ys in
-      let ranges = more_filtered (ranges_in at) read.counts.ranges xs ys in
-      λ i. record { global = read.global; zones = zones i; counts = record { zones = targetless i; gens = gens i; ranges = ranges i } }
+  counts-append : (c : ZoneCounts) (xs ys : List Bagged) → counts_with_later at c (xs ++ ys) ≡ counts_with_later at (counts_with_later at c xs) ys
+  counts-append c xs ys =
+      let targetless = more (λ x. cond (not (has_target at x)) 1 0) c.zones xs ys in
+      let gens = more_filtered (gens_in at) c.gens xs ys in
+      let ranges = more_filtered (ranges_in at) c.ranges xs ys in
+      λ i. record { zones = targetless i; gens = gens i; ranges = ranges i }
 
-  pub with_later-none : (read : BagsRead) → with_later at read [] ≡ read
-  unfolding zones_read
-  with_later-none read =
-      let zones = append-nil read.zones in
-      let targetless : read.counts.zones + 0 ≡ read.counts.zones = omega arith in
-      let gens : read.counts.gens + 0 ≡ read.counts.gens = omega arith in
-      let ranges : read.counts.ranges + 0 ≡ read.counts.ranges = omega arith in
-      λ i. record { global = read.global; zones = zones i; counts = record { zones = targetless i; gens = gens i; ranges = ranges i } }
+  counts-none : (c : ZoneCounts) → counts_with_later at c [] ≡ c
+  counts-none c =
+      let targetless : c.zones + 0 ≡ c.zones = omega arith in
+      let gens : c.gens + 0 ≡ c.gens = omega arith in
+      let ranges : c.ranges + 0 ≡ c.ranges = omega arith in
+      λ i. record { zones = targetless i; gens = gens i; ranges = ranges i }
 
-  pub with_later-first : (r : Bagged) (bags : List Bagged) → with_later at (bags_read at (r ∷ [])) bags ≡ bags_read at (r ∷ bags)
-  unfolding zones_read global_read looked_at ignored gens_dropped ranges_mended
-  with_later-first r bags =
-      let zones = sym (filter_map-append (zone_read at) (r ∷ []) bags) in
+  counts-first : (r : Bagged) (bags : List Bagged) → counts_with_later at (counts_read at (r ∷ [])) bags ≡ counts_read at (r ∷ bags)
+  unfolding looked_at ignored gens_dropped ranges_mended
+  counts-first r bags =
       let targetless : 0 + count_by (λ x. not (has_target at x)) bags ≡ count_by (λ x. not (has_target at x)) bags = omega arith in
       let gens = sym (sum_by-append (gens_in at) (r ∷ []) (filter (has_target at) bags)) in
       let ranges = sym (sum_by-append (ranges_in at) (r ∷ []) (filter (has_target at) bags)) in
-      λ i. record { global = global_read at (r ∷ []); zones = zones i; counts = record { zones = targetless i; gens = gens i; ranges = ranges i } }
+      λ i. record { zones = targetless i; gens = gens i; ranges = ranges i }
+
+  zones-append : (xs ys : List Bagged) → zones_read at (xs ++ ys) ≡ zones_read at xs ++ zones_read at ys
+  unfolding zones_read
+  zones-append xs ys = filter_map-append (zone_read at) xs ys
+
+  bags-append : (xs ys : List Bagged) → zone_bags at (xs ++ ys) ≡ zone_bags at xs ++ zone_bags at ys
+  bags-append xs ys = ap (map (zone_bag (target_operator at))) (zones-append xs ys) ∙ map-append (zone_bag (target_operator at)) (zones_read at xs) (zones_read at ys)
+
+  own-first : (r : Bagged) (bags : List Bagged) → own_bags at (r ∷ bags) ≡ own_bags at (r ∷ []) ++ zone_bags at bags
+  unfolding global_read
+  own-first r bags =
+      let global = global_bags (global_read at (r ∷ [])) in
+      ap (λ (bs : List flat.Bag). global ++ bs) (bags-append (r ∷ []) bags) ∙ sym (append_assoc global (zone_bags at (r ∷ [])) (zone_bags at bags))
+
+  steps-append : (n : ℕ) (missing : ReadFault) (xs ys : List Bagged) → steps_of_bags at n missing (xs ++ ys) ≡ steps_of_bags at n missing xs ++ steps_of_bags at n missing ys
+  steps-append n missing xs ys = ap (map (target_step n missing)) (zones-append xs ys) ∙ map-append (target_step n missing) (zones_read at xs) (zones_read at ys)
+
+-- ---- where there are none
+
+no_counts : (at : Level) → ◌≡◌ {A = ZoneCounts} (record { zones = 0; gens = 0; ranges = 0 }) (counts_read at [])
+unfolding looked_at ignored gens_dropped ranges_mended
+no_counts at = refl
+
+no_steps : (at : Level) (n : ℕ) (missing : ReadFault) → first_broken (steps_of_bags at n missing []) ≡ None
+unfolding zones_read
+no_steps at n missing = refl
+
+no_zone_bags : (at : Level) → [] ≡ zone_bags at []
+unfolding zones_read
+no_zone_bags at = refl
+
+-- an empty global zone has no bag
+no_global_bags : global_bags no_global ≡ []
+no_global_bags =
+    let none : len no_global.gens ≡ 0 = len-empty operator_cmp ℕ in
+    ap (λ (n : ℕ). cond (n + 0 == 0) [] (global_bag no_global ∷ [])) none
+
+no_own_bags : (at : Level) → own_bags at [] ≡ []
+unfolding zones_read global_read
+no_own_bags at = ap (λ (bs : List flat.Bag). bs ++ []) no_global_bags
+
+no_bags_added : (at : Level) (r : Recs) → Adds r r (own_bags at [])
+no_bags_added at r = adds_as r r [] (own_bags at []) (sym (no_own_bags at)) (adds_none r)
+
+-- where all are none
+module _ (at : Level) (n : ℕ) (missing : ReadFault) (all : List Bagged) (is : all ≡ []) where
+  pub none_counted : (c : ZoneCounts) → c ≡ record { zones = 0; gens = 0; ranges = 0 } → (first_broken (steps_of_bags at n missing all) ≡ None) × (c ≡ counts_read at all)
+  none_counted c zero = (
+    ap (λ (bs : List Bagged). first_broken (steps_of_bags at n missing bs)) is ∙ no_steps at n missing,
+    zero ∙ no_counts at ∙ ap (counts_read at) (sym is),
+  )
+
+  pub none_put : (r : Recs) → Adds r r (own_bags at all)
+  none_put r = adds_as r r (own_bags at []) (own_bags at all) (ap (own_bags at) (sym is)) (no_bags_added at r)
 
 -- ---- one bag, by its target
 
@@ -74,91 +137,80 @@ module _ (at : Level) (r : Bagged) where
   unfolding zones_read
   one_zone = refl
 
-  pub later_ignored : (read : BagsRead) (zones : ℕ) → target_of at r.gens ≡ None → zones ≡ read.counts.zones + 1
-      → ◌≡◌ {A = BagsRead} (record { global = read.global; zones = read.zones; counts = record { zones = zones; gens = read.counts.gens; ranges = read.counts.ranges } }) (with_later at read (r ∷ []))
-  later_ignored read zones none more =
-      let targetless : has_target at r ≡ false = ap is_some none in
-      let zone : zones_read at (r ∷ []) ≡ [] = one_zone ∙ ap (λ (o : Option ℕ). zone_is (option_map (zone_of at r) o)) none in
-      let all : read.zones ≡ read.zones ++ zones_read at (r ∷ []) = sym (ap (λ (zs : List Zone). read.zones ++ zs) zone ∙ append-nil read.zones) in
-      let one : count_by (λ x. not (has_target at x)) (r ∷ []) ≡ 1 = rw targetless refl in
-      let none_of : (f : Bagged → ℕ) → sum_by f (filter (has_target at) (r ∷ [])) ≡ 0 = λ f. rw targetless refl in
-      let counted : zones ≡ read.counts.zones + count_by (λ x. not (has_target at x)) (r ∷ []) = omega (arith, more, one) in
-      let gens : read.counts.gens ≡ read.counts.gens + sum_by (gens_in at) (filter (has_target at) (r ∷ [])) = omega (arith, none_of (gens_in at)) in
-      let ranges : read.counts.ranges ≡ read.counts.ranges + sum_by (ranges_in at) (filter (has_target at) (r ∷ [])) = omega (arith, none_of (ranges_in at)) in
-      λ i. record { global = read.global; zones = all i; counts = record { zones = counted i; gens = gens i; ranges = ranges i } }
+  no_zone : target_of at r.gens ≡ None → zones_read at (r ∷ []) ≡ []
+  no_zone none = one_zone ∙ ap (λ (o : Option ℕ). zone_is (option_map (zone_of at r) o)) none
 
-  pub later_zone : (read : BagsRead) (t gens ranges : ℕ) (zones : List Zone) → target_of at r.gens ≡ Some t → zones ≡ read.zones ++ zone_of at r t ∷ []
-      → gens ≡ read.counts.gens + gens_in at r → ranges ≡ read.counts.ranges + ranges_in at r
-      → ◌≡◌ {A = BagsRead} (record { global = read.global; zones = zones; counts = record { zones = read.counts.zones; gens = gens; ranges = ranges } }) (with_later at read (r ∷ []))
-  later_zone read t gens ranges zones some pushed more_gens more_ranges =
-      let targeted : has_target at r ≡ true = ap is_some some in
-      let zone : zones_read at (r ∷ []) ≡ zone_of at r t ∷ [] = one_zone ∙ ap (λ (o : Option ℕ). zone_is (option_map (zone_of at r) o)) some in
-      let all : zones ≡ read.zones ++ zones_read at (r ∷ []) = pushed ∙ sym (ap (λ (zs : List Zone). read.zones ++ zs) zone) in
-      let none : count_by (λ x. not (has_target at x)) (r ∷ []) ≡ 0 = rw targeted refl in
-      let one_of_it : (f : Bagged → ℕ) → sum_by f (filter (has_target at) (r ∷ [])) ≡ f r + 0 = λ f. rw targeted (sum_by-cons f r []) in
-      let counted : read.counts.zones ≡ read.counts.zones + count_by (λ x. not (has_target at x)) (r ∷ []) = omega (arith, none) in
-      let gens_are : gens ≡ read.counts.gens + sum_by (gens_in at) (filter (has_target at) (r ∷ [])) = omega (arith, more_gens, one_of_it (gens_in at)) in
-      let ranges_are : ranges ≡ read.counts.ranges + sum_by (ranges_in at) (filter (has_target at) (r ∷ [])) = omega (arith, more_ranges, one_of_it (ranges_in at)) in
-      λ i. record { global = read.global; zones = all i; counts = record { zones = counted i; gens = gens_are i; ranges = ranges_are i } }
+  the_zone : (t : ℕ) → target_of at r.gens ≡ Some t → zones_read at (r ∷ []) ≡ zone_of at r t ∷ []
+  the_zone t some = one_zone ∙ ap (λ (o : Option ℕ). zone_is (option_map (zone_of at r) o)) some
 
   abbrev global_is : Bool → GlobalZone
   global_is b = cond b no_global (record { gens = gens_read at r.gens; mods = r.mods })
 
-  -- the first bag is the global zone
-  pub first_global : target_of at r.gens ≡ None
-      → ◌≡◌ {A = BagsRead} (record { global = record { gens = gens_read at r.gens; mods = r.mods }; zones = []; counts = record { zones = 0; gens = gens_in at r; ranges = ranges_in at r } }) (bags_read at (r ∷ []))
-  unfolding global_read looked_at ignored gens_dropped ranges_mended
-  first_global none =
-      let global : record { gens = gens_read at r.gens; mods = r.mods } ≡ global_read at (r ∷ []) = sym (ap (λ (o : Option ℕ). global_is (is_some o)) none) in
-      let zones : [] ≡ zones_read at (r ∷ []) = sym (one_zone ∙ ap (λ (o : Option ℕ). zone_is (option_map (zone_of at r) o)) none) in
-      let gens : gens_in at r ≡ gens_dropped at (r ∷ []) = omega (arith, sum_by-cons (gens_in at) r []) in
-      let ranges : ranges_in at r ≡ ranges_mended at (r ∷ []) = omega (arith, sum_by-cons (ranges_in at) r []) in
-      λ i. record { global = global i; zones = zones i; counts = record { zones = 0; gens = gens i; ranges = ranges i } }
-
-  -- or a zone
-  pub first_zone : (t : ℕ) (zones : List Zone) → target_of at r.gens ≡ Some t → zones ≡ zone_of at r t ∷ []
-      → ◌≡◌ {A = BagsRead} (record { global = no_global; zones = zones; counts = record { zones = 0; gens = gens_in at r; ranges = ranges_in at r } }) (bags_read at (r ∷ []))
-  unfolding global_read looked_at ignored gens_dropped ranges_mended
-  first_zone t zones some pushed =
-      let global : no_global ≡ global_read at (r ∷ []) = sym (ap (λ (o : Option ℕ). global_is (is_some o)) some) in
-      let all : zones ≡ zones_read at (r ∷ []) = pushed ∙ sym (one_zone ∙ ap (λ (o : Option ℕ). zone_is (option_map (zone_of at r) o)) some) in
-      let gens : gens_in at r ≡ gens_dropped at (r ∷ []) = omega (arith, sum_by-cons (gens_in at) r []) in
-      let ranges : ranges_in at r ≡ ranges_mended at (r ∷ []) = omega (arith, sum_by-cons (ranges_in at) r []) in
-      λ i. record { global = global i; zones = all i; counts = record { zones = 0; gens = gens i; ranges = ranges i } }
+  global_by : (o : Option ℕ) → target_of at r.gens ≡ o → global_read at (r ∷ []) ≡ global_is (is_some o)
+  unfolding global_read
+  global_by o e = ap (λ (p : Option ℕ). global_is (is_some p)) e
 
 -- ---- the same of what was read of its records
 
 module _ (at : Level) (r : Bagged) (g : GensRead) (is : g ≡ gens_read_of at r.gens) where
-  pub later_ignored_as : (read : BagsRead) → g.target ≡ None
-      → ◌≡◌ {A = BagsRead} (record { global = read.global; zones = read.zones; counts = record { zones = read.counts.zones + 1; gens = read.counts.gens; ranges = read.counts.ranges } }) (with_later at read (r ∷ []))
-  later_ignored_as read none = later_ignored at r read (read.counts.zones + 1) (sym (ap (λ (x : GensRead). x.target) is) ∙ none) refl
+  target_as : (o : Option ℕ) → g.target ≡ o → target_of at r.gens ≡ o
+  target_as o e = sym (ap (λ (x : GensRead). x.target) is) ∙ e
 
-  module _ (mods : List Modulator) (mods_are : mods ≡ r.mods) (zones : List Zone) where
-    -- the zone that is pushed
-    zone_as : (t : ℕ) → ◌≡◌ {A = Zone} (record { target = t; gens = g.gens; mods = mods }) (zone_of at r t)
-    zone_as t = λ i. record { target = t; gens = (is i).gens; mods = mods_are i }
+  pub steps_none : (n : ℕ) (missing : ReadFault) → g.target ≡ None → steps_of_bags at n missing (r ∷ []) ≡ []
+  steps_none n missing none = ap (map (target_step n missing)) (no_zone at r (target_as None none))
 
-    target_as : (o : Option ℕ) → g.target ≡ o → target_of at r.gens ≡ o
-    target_as o e = sym (ap (λ (x : GensRead). x.target) is) ∙ e
+  pub steps_one : (n : ℕ) (missing : ReadFault) (t : ℕ) → g.target ≡ Some t → step (nat_lt t n) missing ∷ [] ≡ steps_of_bags at n missing (r ∷ [])
+  steps_one n missing t some = sym (ap (map (target_step n missing)) (the_zone at r t (target_as (Some t) some)))
 
-    pub later_zone_as : (read : BagsRead) (t : ℕ) → g.target ≡ Some t → zones ≡ read.zones ++ record { target = t; gens = g.gens; mods = mods } ∷ []
-        → ◌≡◌ {A = BagsRead} (record { global = read.global; zones = zones; counts = record { zones = read.counts.zones; gens = read.counts.gens + g.dropped; ranges = read.counts.ranges + g.ranges } }) (with_later at read (r ∷ []))
-    later_zone_as read t some pushed =
-        later_zone at r read t (read.counts.gens + g.dropped) (read.counts.ranges + g.ranges) zones (target_as (Some t) some)
-        (pushed ∙ ap (λ (z : Zone). read.zones ++ z ∷ []) (zone_as t))
-        (ap (λ (x : GensRead). read.counts.gens + x.dropped) is) (ap (λ (x : GensRead). read.counts.ranges + x.ranges) is)
+  pub target_fails : (n : ℕ) (missing : ReadFault) (t : ℕ) → g.target ≡ Some t → {Y Z : Type 0} (view : Y → Z) (value : Z) (res : Result Y (Failure ReadFault)) (e : Failure ReadFault)
+      → IsErrAnd res (λ d. d ≡ e) → Fails e (first_broken (step (nat_lt t n) missing ∷ [])) → PassesGivenMemory view res (steps_of_bags at n missing (r ∷ [])) value
+  target_fails n missing t some view value res e err h =
+      given_by view value res e (steps_of_bags at n missing (r ∷ [])) err (subst (λ (l : List Step). Fails e (first_broken l)) (steps_one n missing t some) h)
 
-    pub first_global_as : g.target ≡ None → zones ≡ []
-        → ◌≡◌ {A = BagsRead} (record { global = record { gens = g.gens; mods = mods }; zones = zones; counts = record { zones = 0; gens = g.dropped; ranges = g.ranges } }) (bags_read at (r ∷ []))
-    first_global_as none empty =
-        (λ i. record { global = record { gens = (is i).gens; mods = mods_are i }; zones = empty i; counts = record { zones = 0; gens = (is i).dropped; ranges = (is i).ranges } })
-        ∙ first_global at r (target_as None none)
+  pub bags_none : g.target ≡ None → [] ≡ zone_bags at (r ∷ [])
+  bags_none none = sym (ap (map (zone_bag (target_operator at))) (no_zone at r (target_as None none)))
 
-    pub first_zone_as : (t : ℕ) (global : GlobalZone) → g.target ≡ Some t → global ≡ no_global → zones ≡ record { target = t; gens = g.gens; mods = mods } ∷ []
-        → ◌≡◌ {A = BagsRead} (record { global = global; zones = zones; counts = record { zones = 0; gens = g.dropped; ranges = g.ranges } }) (bags_read at (r ∷ []))
-    first_zone_as t global some none pushed =
-        (λ i. record { global = none i; zones = zones; counts = record { zones = 0; gens = (is i).dropped; ranges = (is i).ranges } })
-        ∙ first_zone at r t zones (target_as (Some t) some) (pushed ∙ ap (λ (z : Zone). z ∷ []) (zone_as t))
+  pub bags_one : (t : ℕ) → g.target ≡ Some t → record { gens = entries (gens_read at r.gens) ++ (target_operator at, t) ∷ []; mods = r.mods } ∷ [] ≡ zone_bags at (r ∷ [])
+  bags_one t some = sym (ap (map (zone_bag (target_operator at))) (the_zone at r t (target_as (Some t) some)))
+
+  -- the first bag is the global zone
+  pub own_global : g.target ≡ None → global_bags (record { gens = gens_read at r.gens; mods = r.mods }) ≡ own_bags at (r ∷ [])
+  own_global none =
+      let global = ap global_bags (sym (global_by at r None (target_as None none))) in
+      sym (append-nil (global_bags (record { gens = gens_read at r.gens; mods = r.mods }))) ∙ (λ i. global i ++ bags_none none i)
+
+  -- or a zone
+  pub own_zone : (t : ℕ) → g.target ≡ Some t → record { gens = entries (gens_read at r.gens) ++ (target_operator at, t) ∷ []; mods = r.mods } ∷ [] ≡ own_bags at (r ∷ [])
+  own_zone t some =
+      let global : [] ≡ global_bags (global_read at (r ∷ [])) = sym (ap global_bags (global_by at r (Some t) (target_as (Some t) some)) ∙ no_global_bags) in
+      λ i. global i ++ bags_one t some i
+
+  pub first_counts : ◌≡◌ {A = ZoneCounts} (record { zones = 0; gens = g.dropped; ranges = g.ranges }) (counts_read at (r ∷ []))
+  unfolding looked_at ignored gens_dropped ranges_mended
+  first_counts =
+      let gens : g.dropped ≡ gens_dropped at (r ∷ []) = omega (arith, sum_by-cons (gens_in at) r [], ap (λ (x : GensRead). x.dropped) is) in
+      let ranges : g.ranges ≡ ranges_mended at (r ∷ []) = omega (arith, sum_by-cons (ranges_in at) r [], ap (λ (x : GensRead). x.ranges) is) in
+      λ i. record { zones = 0; gens = gens i; ranges = ranges i }
+
+  pub ignored_counts : (c : ZoneCounts) → g.target ≡ None → ◌≡◌ {A = ZoneCounts} (record { zones = c.zones + 1; gens = c.gens; ranges = c.ranges }) (counts_with_later at c (r ∷ []))
+  ignored_counts c none =
+      let targetless : has_target at r ≡ false = ap is_some (target_as None none) in
+      let one : count_by (λ x. not (has_target at x)) (r ∷ []) ≡ 1 = rw targetless refl in
+      let none_of : (f : Bagged → ℕ) → sum_by f (filter (has_target at) (r ∷ [])) ≡ 0 = λ f. rw targetless refl in
+      let zones : c.zones + 1 ≡ c.zones + count_by (λ x. not (has_target at x)) (r ∷ []) = omega (arith, one) in
+      let gens : c.gens ≡ c.gens + sum_by (gens_in at) (filter (has_target at) (r ∷ [])) = omega (arith, none_of (gens_in at)) in
+      let ranges : c.ranges ≡ c.ranges + sum_by (ranges_in at) (filter (has_target at) (r ∷ [])) = omega (arith, none_of (ranges_in at)) in
+      λ i. record { zones = zones i; gens = gens i; ranges = ranges i }
+
+  pub zone_counts : (c : ZoneCounts) (t : ℕ) → g.target ≡ Some t → ◌≡◌ {A = ZoneCounts} (record { zones = c.zones; gens = c.gens + g.dropped; ranges = c.ranges + g.ranges }) (counts_with_later at c (r ∷ []))
+  zone_counts c t some =
+      let targeted : has_target at r ≡ true = ap is_some (target_as (Some t) some) in
+      let none : count_by (λ x. not (has_target at x)) (r ∷ []) ≡ 0 = rw targeted refl in
+      let one_of_it : (f : Bagged → ℕ) → sum_by f (filter (has_target at) (r ∷ [])) ≡ f r + 0 = λ f. rw targeted (sum_by-cons f r []) in
+      let zones : c.zones ≡ c.zones + count_by (λ x. not (has_target at x)) (r ∷ []) = omega (arith, none) in
+      let gens : c.gens + g.dropped ≡ c.gens + sum_by (gens_in at) (filter (has_target at) (r ∷ [])) = omega (arith, ap (λ (x : GensRead). x.dropped) is, one_of_it (gens_in at)) in
+      let ranges : c.ranges + g.ranges ≡ c.ranges + sum_by (ranges_in at) (filter (has_target at) (r ∷ [])) = omega (arith, ap (λ (x : GensRead). x.ranges) is, one_of_it (ranges_in at)) in
+      λ i. record { zones = zones i; gens = gens i; ranges = ranges i }
 
 -- ---- few bags with few records
 
@@ -228,14 +280,6 @@ few_in_all at bags gens mods few_bags few_gens =
       ranges = omega (arith, sum_looked_at (ranges_in at) (ranges_within at) (length gens) few_gens at all short, n, few_bags);
     }
 
--- the counts so far are among all
-pub few_so_far : (at : Level) (read : BagsRead) (left all : List Bagged) → with_later at read left ≡ bags_read at all → AreFew (counts_read at all) → AreFew read.counts
-few_so_far at read left all so_far few =
-    let zones = ap (λ (b : BagsRead). b.counts.zones) so_far in
-    let dropped = ap (λ (b : BagsRead). b.counts.gens) so_far in
-    let ranges = ap (λ (b : BagsRead). b.counts.ranges) so_far in
-    record { zones = omega (arith, zones, few.zones); gens = omega (arith, dropped, few.gens); ranges = omega (arith, ranges, few.ranges) }
-
 -- ---- the bags of a table
 
 module _ (gens : List Generator) (mods : List Modulator) where
@@ -243,7 +287,7 @@ module _ (gens : List Generator) (mods : List Modulator) where
   abbrev pub bag_of : Bag → Bag → Bagged
   bag_of start end = bagged (slice_range gens start.gens end.gens) (slice_range mods start.mods end.mods)
 
-  bags_in-cons : (start end : Bag) (others : List Bag) → bags_in (start ∷ end ∷ others) gens mods ≡ bag_of start end ∷ bags_in (end ∷ others) gens mods
+  pub bags_in-cons : (start end : Bag) (others : List Bag) → bags_in (start ∷ end ∷ others) gens mods ≡ bag_of start end ∷ bags_in (end ∷ others) gens mods
   unfolding bags_in
   bags_in-cons start end others = refl
 
@@ -255,28 +299,79 @@ module _ (gens : List Generator) (mods : List Modulator) where
   unfolding bags_in
   bags_in-none = refl
 
-  -- ---- the loop
+  -- the next of them
+  pub next_bag : (start end : Bag) (left others : List Bag) (g : List Generator) (m : List Modulator) → left ≡ end ∷ others
+      → g ≡ slice_range gens start.gens end.gens → m ≡ slice_range mods start.mods end.mods
+      → bags_in (start ∷ left) gens mods ≡ bagged g m ∷ bags_in (end ∷ others) gens mods
+  next_bag start end left others g m is gs ms =
+      ap (λ (bs : List Bag). bags_in (start ∷ bs) gens mods) is ∙ bags_in-cons start end others
+      ∙ (λ i. bagged (sym gs i) (sym ms i) ∷ bags_in (end ∷ others) gens mods)
 
-  module _ (at : Level) where
-    -- the first bag was read
-    pub first_read : (read : BagsRead) (start end : Bag) (others all : List Bag) → all ≡ start ∷ end ∷ others → read ≡ bags_read at (bag_of start end ∷ [])
-        → with_later at read (bags_in (end ∷ others) gens mods) ≡ bags_read at (bags_in all gens mods)
-    first_read read start end others all is was =
-        ap (λ (b : BagsRead). with_later at b (bags_in (end ∷ others) gens mods)) was
-        ∙ with_later-first at (bag_of start end) (bags_in (end ∷ others) gens mods)
-        ∙ sym (ap (λ (bs : List Bag). bags_read at (bags_in bs gens mods)) is ∙ ap (bags_read at) (bags_in-cons start end others))
+-- ---- bag after bag
+
+module _ (at : Level) (targets : ℕ) (missing : ReadFault) where
+  abbrev steps : List Bagged → List Step
+  steps = steps_of_bags at targets missing
+
+  -- what was counted and put behind the others, with the bags that are left, is what all bags say, and the targets
+  -- that are left decide
+  pub record Left (old now : Recs) (counts : ZoneCounts) (left all : List Bagged) : Type 0 where
+    pub counts_are : counts_with_later at counts left ≡ counts_read at all
+    pub steps_are : first_broken (steps left) ≡ first_broken (steps all)
+    pub bags_are : (end : Recs) → Adds now end (zone_bags at left) → Adds old end (own_bags at all)
+
+  -- the first bag was read
+  pub first_left : (old now : Recs) (counts : ZoneCounts) (r : Bagged) (left all : List Bagged) → all ≡ r ∷ left
+      → first_broken (steps (r ∷ [])) ≡ None → counts ≡ counts_read at (r ∷ []) → Adds old now (own_bags at (r ∷ [])) → Left old now counts left all
+  first_left old now counts r left all is holds counted put = record {
+    counts_are = ap (λ (c : ZoneCounts). counts_with_later at c left) counted ∙ counts-first at r left ∙ ap (counts_read at) (sym is);
+    steps_are =
+        sym (first_broken-append (steps (r ∷ [])) (steps left) holds) ∙ ap first_broken (sym (steps-append at targets missing (r ∷ []) left))
+        ∙ ap (λ (bs : List Bagged). first_broken (steps bs)) (sym is);
+    bags_are = λ end rest. adds_as old end (own_bags at (r ∷ []) ++ zone_bags at left) (own_bags at all) (sym (own-first at r left) ∙ ap (own_bags at) (sym is))
+        (adds_both old now end (own_bags at (r ∷ [])) (zone_bags at left) put rest);
+  }
+
+  -- its steps are the first of all
+  pub first_fails : (e : Failure ReadFault) (r : Bagged) (left all : List Bagged) → all ≡ r ∷ left → Fails e (first_broken (steps (r ∷ []))) → Fails e (first_broken (steps all))
+  first_fails e r left all is h =
+      subst (λ (l : List Step). Fails e (first_broken l)) (sym (steps-append at targets missing (r ∷ []) left) ∙ ap steps (sym is))
+      (fails_front e (steps (r ∷ [])) (steps left) h)
+
+  module _ (old now : Recs) (counts : ZoneCounts) (r : Bagged) (rest left all : List Bagged) (is : left ≡ r ∷ rest) (so_far : Left old now counts left all) where
+    steps-next : first_broken (steps (r ∷ []) ++ steps rest) ≡ first_broken (steps all)
+    steps-next = ap first_broken (sym (steps-append at targets missing (r ∷ []) rest)) ∙ ap (λ (bs : List Bagged). first_broken (steps bs)) (sym is) ∙ so_far.steps_are
 
     -- a later one was
-    pub later_read : (read new : BagsRead) (start end : Bag) (left others : List Bag) (all : BagsRead) → left ≡ end ∷ others → new ≡ with_later at read (bag_of start end ∷ [])
-        → with_later at read (bags_in (start ∷ left) gens mods) ≡ all → with_later at new (bags_in (end ∷ others) gens mods) ≡ all
-    later_read read new start end left others all is was so_far =
-        ap (λ (b : BagsRead). with_later at b (bags_in (end ∷ others) gens mods)) was
-        ∙ sym (with_later-append at read (bag_of start end ∷ []) (bags_in (end ∷ others) gens mods))
-        ∙ sym (ap (λ (bs : List Bag). with_later at read (bags_in (start ∷ bs) gens mods)) is ∙ ap (with_later at read) (bags_in-cons start end others))
-        ∙ so_far
+    pub later_left : (new : Recs) (more : ZoneCounts) → first_broken (steps (r ∷ [])) ≡ None → more ≡ counts_with_later at counts (r ∷ []) → Adds now new (zone_bags at (r ∷ [])) → Left old new more rest all
+    later_left new more holds counted put = record {
+      counts_are =
+          ap (λ (c : ZoneCounts). counts_with_later at c rest) counted ∙ sym (counts-append at counts (r ∷ []) rest)
+          ∙ ap (counts_with_later at counts) (sym is) ∙ so_far.counts_are;
+      steps_are = sym (first_broken-append (steps (r ∷ [])) (steps rest) holds) ∙ steps-next;
+      bags_are = λ end others. so_far.bags_are end
+          (adds_as now end (zone_bags at (r ∷ []) ++ zone_bags at rest) (zone_bags at left) (sym (bags-append at (r ∷ []) rest) ∙ ap (zone_bags at) (sym is))
+          (adds_both now new end (zone_bags at (r ∷ [])) (zone_bags at rest) put others));
+    }
 
-    -- all were
-    pub all_read : (read : BagsRead) (start : Bag) (left : List Bag) (all : BagsRead) → left ≡ [] → with_later at read (bags_in (start ∷ left) gens mods) ≡ all → read ≡ all
-    all_read read start left all is so_far =
-        sym (with_later-none at read) ∙ ap (with_later at read) (sym (bags_in-one start))
-        ∙ ap (λ (bs : List Bag). with_later at read (bags_in (start ∷ bs) gens mods)) (sym is) ∙ so_far
+    pub later_fails : (e : Failure ReadFault) → Fails e (first_broken (steps (r ∷ []))) → Fails e (first_broken (steps all))
+    later_fails e h = subst (Fails e) steps-next (fails_front e (steps (r ∷ [])) (steps rest) h)
+
+  -- all were
+  module _ (old now : Recs) (counts : ZoneCounts) (left all : List Bagged) (is : left ≡ []) (so_far : Left old now counts left all) where
+    pub all_counted : counts ≡ counts_read at all
+    all_counted = sym (counts-none at counts) ∙ ap (counts_with_later at counts) (sym is) ∙ so_far.counts_are
+
+    pub all_hold : first_broken (steps all) ≡ None
+    all_hold = sym so_far.steps_are ∙ ap (λ (bs : List Bagged). first_broken (steps bs)) is ∙ no_steps at targets missing
+
+    pub all_put : Adds old now (own_bags at all)
+    all_put = so_far.bags_are now (adds_as now now [] (zone_bags at left) (no_zone_bags at ∙ ap (zone_bags at) (sym is)) (adds_none now))
+
+-- the counts so far are among all
+pub few_so_far : (at : Level) (counts : ZoneCounts) (left all : List Bagged) → counts_with_later at counts left ≡ counts_read at all → AreFew (counts_read at all) → AreFew counts
+few_so_far at counts left all so_far few =
+    let zones = ap (λ (c : ZoneCounts). c.zones) so_far in
+    let dropped = ap (λ (c : ZoneCounts). c.gens) so_far in
+    let ranges = ap (λ (c : ZoneCounts). c.ranges) so_far in
+    record { zones = omega (arith, zones, few.zones); gens = omega (arith, dropped, few.gens); ranges = omega (arith, ranges, few.ranges) }

@@ -19,10 +19,9 @@ use Rattle.bank_format.specs.Tables.{Tables, Headers}
 use Rattle.bank_format.specs.Reading.{bags_in, preset_windows, instrument_windows}
 use Rattle.bank_format.specs.ReadSteps.{count_steps}
 use Rattle.sf_reader.specs.declared.hydra.LevelTables.{LevelTables}
-use Rattle.sf_reader.specs.declared.owners.OwnersRead.{OwnersRead}
 use Rattle.sf_reader.specs.declared.owners.Members.{Members}
 use Rattle.sf_reader.specs.Hydra.{AreLists}
-use Rattle.sf_reader.specs.Owners.{AreSmall, added, windows_of, owners_with_counts, zone_steps, members_of, member_steps}
+use Rattle.sf_reader.specs.Owners.{AreSmall, added, windows_of, FlatOwners, FlatMembers, members_seen, owners_with_counts, zone_steps, members_of, member_steps}
 use Rattle.sf_reader.proofs.StepLaws.{given_by, given_front, given_after, none_after}
 use Rattle.sf_reader.proofs.HydraLaws.{ModsInside, few_records, windows_are}
 use Rattle.sf_reader.proofs.CountLaws.{counts-few, both-small}
@@ -42,7 +41,7 @@ abbrev pub steps_of : {H R : Type 0} → Headers H R → ReadFault → LevelTabl
 steps_of h missing l targets = zone_steps h.level targets missing (windows_of h.first_bag l)
 
 -- what they hold
-abbrev pub read_of : {H R : Type 0} → Headers H R → LevelTables R → OwnersRead H
+abbrev pub read_of : {H R : Type 0} → Headers H R → LevelTables R → FlatOwners H
 read_of h l = owners_with_counts h l.heads (windows_of h.first_bag l)
 
 -- where they are these four of the nine lists
@@ -95,18 +94,18 @@ module _ (t : Tables) (p : LevelTables PresetHead) (i : LevelTables InstrumentHe
   instruments_value = same_value format.instruments i t.inst t.ibag t.igen t.imod l.instruments_are l.mods.1
 
   module _ (r : Result Members (Failure ReadFault)) (e : Failure ReadFault) (is : IsErrAnd r (λ d. d ≡ e)) where
-    pub presets_fail : Fails e (first_broken (preset_steps p instruments)) → PassesGivenMemory (λ (m : Members). m) r (member_steps t) (members_of t)
+    pub presets_fail : Fails e (first_broken (preset_steps p instruments)) → PassesGivenMemory members_seen r (member_steps t) (members_of t)
     presets_fail h =
-        given_front (λ (m : Members). m) (members_of t) r e (preset_part t) (instrument_part t) is (subst (λ (s : List Step). Fails e (first_broken s)) preset_steps_are h)
+        given_front members_seen (members_of t) r e (preset_part t) (instrument_part t) is (subst (λ (s : List Step). Fails e (first_broken s)) preset_steps_are h)
 
-    pub instruments_fail : first_broken (preset_steps p instruments) ≡ None → Fails e (first_broken (instrument_steps i samples)) → PassesGivenMemory (λ (m : Members). m) r (member_steps t) (members_of t)
+    pub instruments_fail : first_broken (preset_steps p instruments) ≡ None → Fails e (first_broken (instrument_steps i samples)) → PassesGivenMemory members_seen r (member_steps t) (members_of t)
     instruments_fail none h =
-        given_after (λ (m : Members). m) (members_of t) r (preset_part t) (instrument_part t) (sym (ap first_broken preset_steps_are) ∙ none)
-        (given_by (λ (m : Members). m) (members_of t) r e (instrument_part t) is (subst (λ (s : List Step). Fails e (first_broken s)) instrument_steps_are h))
+        given_after members_seen (members_of t) r (preset_part t) (instrument_part t) (sym (ap first_broken preset_steps_are) ∙ none)
+        (given_by members_seen (members_of t) r e (instrument_part t) is (subst (λ (s : List Step). Fails e (first_broken s)) instrument_steps_are h))
 
-  pub members_hold : (presets : OwnersRead Head) (of_instruments : OwnersRead (List ℕ)) → first_broken (preset_steps p instruments) ≡ None → presets ≡ read_of format.presets p
+  pub members_hold : (presets : FlatOwners Head) (of_instruments : FlatOwners (List ℕ)) → first_broken (preset_steps p instruments) ≡ None → presets ≡ read_of format.presets p
       → first_broken (instrument_steps i samples) ≡ None → of_instruments ≡ read_of format.instruments i
-      → (first_broken (member_steps t) ≡ None) × (record { presets = presets; instruments = of_instruments } ≡ members_of t)
+      → (first_broken (member_steps t) ≡ None) × (◌≡◌ {A = FlatMembers} (record { presets = presets; instruments = of_instruments }) (members_of t))
   members_hold presets of_instruments none presets_are none_too instruments_are =
       let first = presets_are ∙ presets_value in
       let second = instruments_are ∙ instruments_value in (

@@ -1,43 +1,38 @@
 -- The presets or the instruments, one head after the other.
-use Rattle.std.proofs.Common.{◌≡◌, ◌+◌, ◌-◌, ◌∙◌, ℕ, suc, true, false, List, [], ◌∷◌, ◌++◌, length, map, Some, None, Option, Result, refl, sym, ap, subst, append_assoc, arith}
-use Rattle.std.specs.Prelude.{flat_map, nat_lt}
-use Rattle.std.specs.List.{slice_range, list_all}
+use Rattle.std.proofs.Common.{◌≡◌, ◌+◌, ◌-◌, ◌∙◌, ℕ, suc, List, [], ◌∷◌, ◌++◌, length, map, Some, None, Option, Result, IsSome, refl, sym, ap, subst, append_assoc, append-nil, arith}
+use Rattle.std.specs.Prelude.{flat_map, MatchOption}
+use Rattle.std.specs.List.{slice_range}
 use Rattle.std.specs.Result.{IsErrAnd}
-use Rattle.std.proofs.lemmas.List.{map-append}
+use Rattle.std.proofs.lemmas.List.{map-append, length-append, length-map, flat_map_more}
 use Rattle.std.proofs.lemmas.List.Sums.{sum_by-cons}
 use Rattle.generators.specs.declared.level.Level.{Level}
 use Rattle.modulators.specs.declared.modulator.Modulator.{Modulator}
 use Rattle.hydra_records.specs.declared.zone.Bag.{Bag}
 use Rattle.hydra_records.specs.declared.zone.Generator.{Generator}
-use Rattle.bank_parts.specs.declared.parts.WithZones.{WithZones}
-use Rattle.bank_parts.specs.declared.parts.Zone.{Zone}
+use Rattle.flat_records.specs.Runs.{starts}
+use Rattle.flat_records.specs.Bags as flat
+use Rattle.flat_records.proofs.Starts.{length-starts}
+use Rattle.owner_bags.specs.Owned.{past_owner, all_bags}
 use Rattle.sf_base.specs.declared.memory.Failure.{Failure}
+use Rattle.bank_core.specs.Heads.{head_records}
 use Rattle.bank_format.specs.declared.fault.ReadFault.{ReadFault}
 use Rattle.bank_format.specs.Steps.{first_broken, Fails, PassesGivenMemory}
-use Rattle.bank_format.specs.Windows.{windows, together, rows}
+use Rattle.bank_format.specs.Windows.{windows, rows}
 use Rattle.bank_format.specs.Zones.{Bagged, zones_read, ignored, gens_dropped, ranges_mended}
 use Rattle.bank_format.specs.Tables.{Headers}
-use Rattle.bank_format.specs.Reading.{bags_in, owner_read}
+use Rattle.bank_format.specs.Reading.{bags_in}
 use Rattle.bank_format.specs.ReadSteps.{target_step}
 use Rattle.sf_reader.specs.declared.zones.ZoneCounts.{ZoneCounts}
-use Rattle.sf_reader.specs.declared.zones.BagsRead.{BagsRead}
-use Rattle.sf_reader.specs.Bags.{counts_read, bags_read}
+use Rattle.sf_reader.specs.declared.owners.OwnersSoFar.{OwnersSoFar}
+use Rattle.sf_reader.specs.declared.owners.OwnersRead.{OwnersRead}
+use Rattle.sf_reader.specs.Bags.{counts_read, own_bags, steps_of_bags}
+use Rattle.sf_reader.specs.Records.{AreSoFar}
 use Rattle.sf_reader.specs.declared.hydra.LevelTables.{LevelTables}
-use Rattle.sf_reader.specs.declared.owners.OwnerRead.{OwnerRead}
-use Rattle.sf_reader.specs.Owners.{AreSmall, added, counts_over, owner_with_counts, zone_steps, window_of}
-use Rattle.sf_reader.proofs.StepLaws.{first_broken-append, fails_front, given_by, same_fault}
+use Rattle.sf_reader.specs.Owners.{AreSmall, added, counts_over, AreOwnersSoFar, AddsOwner, AreEnded, FlatOwners, owners_seen, owners_with_counts, zone_steps, window_of}
+use Rattle.sf_reader.proofs.Adding.{bags_so_far}
+use Rattle.sf_reader.proofs.StepLaws.{first_broken-append, fails_front, given_by}
 use Rattle.sf_reader.proofs.CountLaws.{AreFew, part-small}
-use Rattle.sf_reader.proofs.WindowLaws.{slice-bags_in}
-
--- ---- the targets of zones
-
-pub targets_there : (targets : ℕ) (missing : ReadFault) (zones : List Zone) → list_all (λ (z : Zone). nat_lt z.target targets) zones ≡ true
-    → first_broken (map (target_step targets missing) zones) ≡ None
-targets_there targets missing zones all = rw (same_fault (λ (z : Zone). nat_lt z.target targets) missing zones, all) refl
-
-pub target_missing : (targets : ℕ) (missing : ReadFault) (zones : List Zone) → list_all (λ (z : Zone). nat_lt z.target targets) zones ≡ false
-    → first_broken (map (target_step targets missing) zones) ≡ Some missing
-target_missing targets missing zones none = rw (same_fault (λ (z : Zone). nat_lt z.target targets) missing zones, none) refl
+use Rattle.sf_reader.proofs.WindowLaws.{slice-bags_in, length-rows, length-windows}
 
 -- ---- counts
 
@@ -55,6 +50,23 @@ added-assoc a b c =
     let ranges : a.ranges + b.ranges + c.ranges ≡ a.ranges + (b.ranges + c.ranges) = omega arith in
     λ i. record { zones = zones i; gens = gens i; ranges = ranges i }
 
+abbrev pub no_counts : ZoneCounts
+no_counts = record { zones = 0; gens = 0; ranges = 0 }
+
+none-added : (c : ZoneCounts) → added no_counts c ≡ c
+none-added c =
+    let zones : 0 + c.zones ≡ c.zones = omega arith in
+    let gens : 0 + c.gens ≡ c.gens = omega arith in
+    let ranges : 0 + c.ranges ≡ c.ranges = omega arith in
+    λ i. record { zones = zones i; gens = gens i; ranges = ranges i }
+
+added-none : (c : ZoneCounts) → added c no_counts ≡ c
+added-none c =
+    let zones : c.zones + 0 ≡ c.zones = omega arith in
+    let gens : c.gens + 0 ≡ c.gens = omega arith in
+    let ranges : c.ranges + 0 ≡ c.ranges = omega arith in
+    λ i. record { zones = zones i; gens = gens i; ranges = ranges i }
+
 -- ---- lists
 
 rows-next : {H : Type 0} (h n : H) (ns : List H) → rows (h ∷ n ∷ ns) ≡ h ∷ rows (n ∷ ns)
@@ -67,6 +79,66 @@ zone_steps-next : (at : Level) (targets : ℕ) (missing : ReadFault) (w : List B
     → zone_steps at targets missing (w ∷ ws) ≡ map (target_step targets missing) (zones_read at w) ++ zone_steps at targets missing ws
 zone_steps-next at targets missing w ws = map-append (target_step targets missing) (zones_read at w) (flat_map (zones_read at) ws)
 
+-- ---- one more of them
+
+pub pushed_as : {X : Type 0} (old new : List X) (x y : X) → new ≡ old ++ x ∷ [] → x ≡ y → new ≡ old ++ y ∷ []
+pushed_as old new x y e is = e ∙ ap (λ z. old ++ z ∷ []) is
+
+-- where the bags of the next one begin
+begins-last : (at : ℕ) (owners : List (List flat.Bag)) (own : List flat.Bag)
+    → starts past_owner at (owners ++ own ∷ []) ≡ starts past_owner at owners ++ (at + length (all_bags (owners ++ own ∷ []))) ∷ []
+begins-last at [] own =
+    let here : at + length own ≡ at + length (own ++ []) = ap (λ bs. at + length bs) (sym (append-nil own)) in
+    λ i. at ∷ here i ∷ []
+begins-last at (x ∷ xs) own =
+    let past : (at + length x) + length (all_bags (xs ++ own ∷ [])) ≡ at + length (x ++ all_bags (xs ++ own ∷ [])) = omega (arith, length-append x (all_bags (xs ++ own ∷ []))) in
+    ap (λ ns. at ∷ ns) (begins-last (past_owner at x) xs own)
+    ∙ (λ i. at ∷ (starts past_owner (past_owner at x) xs ++ past i ∷ []))
+
+pub one_more : {H : Type 0} (old new : OwnersSoFar H) (hs : List H) (owners : List (List flat.Bag)) (c : ZoneCounts) (head : H) (own : List flat.Bag) (more : ZoneCounts)
+    → AreOwnersSoFar old hs owners c → AddsOwner old new head own more → AreOwnersSoFar new (hs ++ head ∷ []) (owners ++ own ∷ []) (added c more)
+one_more old new hs owners c head own more are adds =
+    let all : all_bags owners ++ own ≡ all_bags (owners ++ own ∷ []) = flat_map_more (λ (bs : List flat.Bag). bs) [] owners own in
+    let records = subst (AreSoFar new.records) all (adds.records_grow (all_bags owners) are.records_are) in
+    let count : length new.records.bags.items - 1 ≡ 0 + length (all_bags (owners ++ own ∷ [])) = omega (arith, bags_so_far new.records (all_bags (owners ++ own ∷ [])) records) in
+    record {
+      heads_are = adds.heads_grow ∙ ap (λ xs. xs ++ head ∷ []) are.heads_are;
+      first_bags_are = adds.first_bags_grow ∙ (λ i. are.first_bags_are i ++ count i ∷ []) ∙ sym (begins-last 0 owners own);
+      records_are = records;
+      counts_are = adds.counts_grow ∙ ap (λ (d : ZoneCounts). added d more) are.counts_are;
+    }
+
+are_as : {H : Type 0} (r : OwnersSoFar H) (hs names : List H) (bs owners : List (List flat.Bag)) (b c : ZoneCounts) → hs ≡ names → bs ≡ owners → b ≡ c → AreOwnersSoFar r hs bs b → AreOwnersSoFar r names owners c
+are_as r hs names bs owners b c heads bags counts are = record {
+  heads_are = are.heads_are ∙ heads;
+  first_bags_are = are.first_bags_are ∙ ap (starts past_owner 0) bags;
+  records_are = subst (λ (l : List (List flat.Bag)). AreSoFar r.records (all_bags l)) bags are.records_are;
+  counts_are = are.counts_are ∙ counts;
+}
+
+-- ---- all of them
+
+-- either side of an answer that is there
+pub found : {X : Type 0} (P : Type 0) (Q : X → Type 0) (o : Option X) → MatchOption o (P → ⊥) Q → P → IsSome o
+found P Q None h p = absurd (h p)
+found P Q (Some x) h p = refl
+
+pub found_that : {X : Type 0} (P : Type 0) (Q : X → Type 0) (o : Option X) (x : X) → MatchOption o (P → ⊥) Q → o ≡ Some x → Q x
+found_that P Q o x h e = subst (λ p. MatchOption p (P → ⊥) Q) e h
+
+-- there is one place more than heads
+pub places : {H : Type 0} (r : OwnersSoFar H) (hs : List H) (owners : List (List flat.Bag)) (c : ZoneCounts) → AreOwnersSoFar r hs owners c → length owners ≡ length hs
+    → length r.first_bags.items ≡ length r.heads.items + 1
+places r hs owners c are same = omega (arith, ap length are.first_bags_are, length-starts past_owner 0 owners, ap length are.heads_are, same)
+
+pub ended_as : {H : Type 0} (r : OwnersSoFar H) (e : OwnersRead H) (hs : List H) (owners : List (List flat.Bag)) (c : ZoneCounts) → AreOwnersSoFar r hs owners c → AreEnded r e
+    → ◌≡◌ {A = FlatOwners H} (owners_seen e) (record { heads = head_records hs (starts past_owner 0 owners); records = flat.tables_of (all_bags owners); counts = c })
+ended_as r e hs owners c are ended =
+    let heads = ended.heads_are ∙ (λ i. head_records (are.heads_are i) (are.first_bags_are i)) in
+    let records = ended.records_are (all_bags owners) are.records_are in
+    let counts = ended.counts_are ∙ are.counts_are in
+    λ i. record { heads = heads i; records = records i; counts = counts i }
+
 -- ---- head after head
 
 module _ {O H : Type 0} (k : Headers O H) (targets : ℕ) (missing : ReadFault) (table : List Bagged) (heads : List H) where
@@ -74,53 +146,115 @@ module _ {O H : Type 0} (k : Headers O H) (targets : ℕ) (missing : ReadFault) 
   all = windows table (map k.first_bag heads)
 
   -- those so far and those of head h and the heads after it are all, and the zones that are left decide
-  pub record Left (owners : List (WithZones O)) (counts : ZoneCounts) (h : H) (hs : List H) : Type 0 where
-    pub owners_are : owners ++ together (owner_read k) (rows (h ∷ hs)) (windows table (map k.first_bag (h ∷ hs))) ≡ together (owner_read k) (rows heads) all
+  pub record Left (read : OwnersSoFar O) (h : H) (hs : List H) : Type 0 where
+    pub names : List O
+    pub owners : List (List flat.Bag)
+    pub counts : ZoneCounts
+    pub so_far : AreOwnersSoFar read names owners counts
+    pub names_are : names ++ map k.read (rows (h ∷ hs)) ≡ map k.read (rows heads)
+    pub owners_are : owners ++ map (own_bags k.level) (windows table (map k.first_bag (h ∷ hs))) ≡ map (own_bags k.level) all
     pub counts_are : added counts (counts_over k.level (windows table (map k.first_bag (h ∷ hs)))) ≡ counts_over k.level all
     pub steps_are : first_broken (zone_steps k.level targets missing (windows table (map k.first_bag (h ∷ hs)))) ≡ first_broken (zone_steps k.level targets missing all)
+
+  -- none so far
+  pub none_left : (read : OwnersSoFar O) (h : H) (hs : List H) → heads ≡ h ∷ hs → AreOwnersSoFar read [] [] no_counts → Left read h hs
+  none_left read h hs is so_far =
+      let ws : windows table (map k.first_bag (h ∷ hs)) ≡ all = ap (λ (l : List H). windows table (map k.first_bag l)) (sym is) in
+      record {
+        names = [];
+        owners = [];
+        counts = no_counts;
+        so_far = so_far;
+        names_are = ap (λ (l : List H). map k.read (rows l)) (sym is);
+        owners_are = ap (map (own_bags k.level)) ws;
+        counts_are = none-added (counts_over k.level (windows table (map k.first_bag (h ∷ hs)))) ∙ ap (counts_over k.level) ws;
+        steps_are = ap (λ (l : List (List Bagged)). first_broken (zone_steps k.level targets missing l)) ws;
+      }
 
   -- the bags of head h end where those of the next one begin
   abbrev between : H → H → List Bagged
   between h n = slice_range table (k.first_bag h) (k.first_bag n)
 
-  module _ (owners : List (WithZones O)) (counts : ZoneCounts) (h n : H) (ns : List H) (left : Left owners counts h (n ∷ ns)) where
+  module _ (read : OwnersSoFar O) (h n : H) (ns : List H) (left : Left read h (n ∷ ns)) where
     -- one more
-    pub left_next : (read : OwnerRead O) (more : ZoneCounts) (pushed : List (WithZones O))
-        → first_broken (map (target_step targets missing) (zones_read k.level (between h n))) ≡ None
-        → read ≡ owner_with_counts k h (between h n) → more ≡ added counts read.counts → pushed ≡ owners ++ read.owner ∷ [] → Left pushed more n ns
-    left_next read more pushed holds is counted put =
+    pub left_next : (new : OwnersSoFar O)
+        → first_broken (steps_of_bags k.level targets missing (between h n)) ≡ None
+        → AddsOwner read new (k.read h) (own_bags k.level (between h n)) (counts_read k.level (between h n)) → Left new n ns
+    left_next new holds adds =
         let rest = windows table (map k.first_bag (n ∷ ns)) in record {
-          owners_are =
-              ap (λ (l : List (WithZones O)). l ++ together (owner_read k) (rows (n ∷ ns)) rest) (put ∙ ap (λ (r : OwnerRead O). owners ++ r.owner ∷ []) is)
-              ∙ append_assoc owners (owner_read k h (between h n) ∷ []) (together (owner_read k) (rows (n ∷ ns)) rest)
-              ∙ ap (λ (l : List H). owners ++ together (owner_read k) l (between h n ∷ rest)) (sym (rows-next h n ns))
-              ∙ left.owners_are;
+          names = left.names ++ k.read h ∷ [];
+          owners = left.owners ++ own_bags k.level (between h n) ∷ [];
+          counts = added left.counts (counts_read k.level (between h n));
+          so_far = one_more read new left.names left.owners left.counts (k.read h) (own_bags k.level (between h n)) (counts_read k.level (between h n)) left.so_far adds;
+          names_are =
+              append_assoc left.names (k.read h ∷ []) (map k.read (rows (n ∷ ns)))
+              ∙ ap (λ (l : List H). left.names ++ map k.read l) (sym (rows-next h n ns))
+              ∙ left.names_are;
+          owners_are = append_assoc left.owners (own_bags k.level (between h n) ∷ []) (map (own_bags k.level) rest) ∙ left.owners_are;
           counts_are =
-              ap (λ (c : ZoneCounts). added c (counts_over k.level rest)) (counted ∙ ap (λ (r : OwnerRead O). added counts r.counts) is)
-              ∙ added-assoc counts (counts_read k.level (between h n)) (counts_over k.level rest)
-              ∙ ap (added counts) (sym (counts_over-next k.level (between h n) rest))
+              added-assoc left.counts (counts_read k.level (between h n)) (counts_over k.level rest)
+              ∙ ap (added left.counts) (sym (counts_over-next k.level (between h n) rest))
               ∙ left.counts_are;
           steps_are =
-              sym (first_broken-append (map (target_step targets missing) (zones_read k.level (between h n))) (zone_steps k.level targets missing rest) holds)
+              sym (first_broken-append (steps_of_bags k.level targets missing (between h n)) (zone_steps k.level targets missing rest) holds)
               ∙ ap first_broken (sym (zone_steps-next k.level targets missing (between h n) rest))
               ∙ left.steps_are;
         }
 
     -- one of its zones names no target
     pub left_fails : {Y Z : Type 0} (view : Y → Z) (value : Z) (r : Result Y (Failure ReadFault)) (e : Failure ReadFault) → IsErrAnd r (λ d. d ≡ e)
-        → Fails e (first_broken (map (target_step targets missing) (zones_read k.level (between h n)))) → PassesGivenMemory view r (zone_steps k.level targets missing all) value
+        → Fails e (first_broken (steps_of_bags k.level targets missing (between h n))) → PassesGivenMemory view r (zone_steps k.level targets missing all) value
     left_fails view value r e is h_fails =
         let rest = windows table (map k.first_bag (n ∷ ns)) in
-        let here = fails_front e (map (target_step targets missing) (zones_read k.level (between h n))) (zone_steps k.level targets missing rest) h_fails in
+        let here = fails_front e (steps_of_bags k.level targets missing (between h n)) (zone_steps k.level targets missing rest) h_fails in
         given_by view value r e (zone_steps k.level targets missing all) is
         (subst (λ (b : Option ReadFault). Fails e b) (ap first_broken (sym (zone_steps-next k.level targets missing (between h n) rest)) ∙ left.steps_are) here)
 
     -- its counts can be added
-    pub left_small : (read : OwnerRead O) → read ≡ owner_with_counts k h (between h n) → AreFew (counts_over k.level all) → AreSmall (added counts read.counts)
-    left_small read is few =
+    pub left_small : AreFew (counts_over k.level all) → AreSmall (added read.counts (counts_read k.level (between h n)))
+    left_small few =
         let rest = windows table (map k.first_bag (n ∷ ns)) in
-        part-small counts read.counts (counts_over k.level rest) (counts_over k.level all)
-        (ap (λ (r : OwnerRead O). added counts (added r.counts (counts_over k.level rest))) is ∙ ap (added counts) (sym (counts_over-next k.level (between h n) rest)) ∙ left.counts_are) few
+        let so_far = left.so_far in
+        part-small read.counts (counts_read k.level (between h n)) (counts_over k.level rest) (counts_over k.level all)
+        (ap (λ (c : ZoneCounts). added c (added (counts_read k.level (between h n)) (counts_over k.level rest))) so_far.counts_are
+        ∙ ap (added left.counts) (sym (counts_over-next k.level (between h n) rest)) ∙ left.counts_are) few
+
+  -- how many there are
+  pub as_many : length (map (own_bags k.level) all) ≡ length (map k.read (rows heads))
+  as_many = omega (arith, length-map all (own_bags k.level), length-map (rows heads) k.read, length-windows table (map k.first_bag heads), length-map heads k.first_bag, length-rows heads)
+
+  -- all of them were read
+  pub record AllRead (read : OwnersSoFar O) : Type 0 where
+    pub are : AreOwnersSoFar read (map k.read (rows heads)) (map (own_bags k.level) all) (counts_over k.level all)
+    pub hold : first_broken (zone_steps k.level targets missing all) ≡ None
+
+  pub none_read : (read : OwnersSoFar O) → heads ≡ [] → AreOwnersSoFar read [] [] no_counts → AllRead read
+  none_read read is so_far =
+      let ws : [] ≡ all = ap (λ (l : List H). windows table (map k.first_bag l)) (sym is) in
+      let names : [] ≡ map k.read (rows heads) = ap (λ (l : List H). map k.read (rows l)) (sym is) in
+      record {
+        are = are_as read [] (map k.read (rows heads)) [] (map (own_bags k.level) all) no_counts (counts_over k.level all) names (ap (map (own_bags k.level)) ws) (ap (counts_over k.level) ws) so_far;
+        hold = ap (λ (l : List (List Bagged)). first_broken (zone_steps k.level targets missing l)) (sym ws);
+      }
+
+  pub all_read : (read : OwnersSoFar O) (h : H) (hs : List H) → hs ≡ [] → Left read h hs → AllRead read
+  all_read read h hs is left =
+      let ws : [] ≡ windows table (map k.first_bag (h ∷ hs)) = ap (λ (l : List H). windows table (map k.first_bag (h ∷ l))) (sym is) in
+      let no_rows : [] ≡ rows (h ∷ hs) = ap (λ (l : List H). rows (h ∷ l)) (sym is) in
+      let names = sym (append-nil left.names) ∙ ap (λ (l : List H). left.names ++ map k.read l) no_rows ∙ left.names_are in
+      let owners = sym (append-nil left.owners) ∙ ap (λ (l : List (List Bagged)). left.owners ++ map (own_bags k.level) l) ws ∙ left.owners_are in
+      let counts = sym (added-none left.counts) ∙ ap (λ (l : List (List Bagged)). added left.counts (counts_over k.level l)) ws ∙ left.counts_are in
+      record {
+        are = are_as read left.names (map k.read (rows heads)) left.owners (map (own_bags k.level) all) left.counts (counts_over k.level all) names owners counts left.so_far;
+        hold = sym left.steps_are ∙ ap (λ (l : List (List Bagged)). first_broken (zone_steps k.level targets missing l)) (sym ws);
+      }
+
+  module _ (read : OwnersSoFar O) (all_are : AllRead read) where
+    pub can_end : length read.first_bags.items ≡ length read.heads.items + 1
+    can_end = places read (map k.read (rows heads)) (map (own_bags k.level) all) (counts_over k.level all) all_are.are as_many
+
+    pub all_ended : (e : OwnersRead O) → AreEnded read e → (first_broken (zone_steps k.level targets missing all) ≡ None) × (owners_seen e ≡ owners_with_counts k heads all)
+    all_ended e ended = (all_are.hold, ended_as read e (map k.read (rows heads)) (map (own_bags k.level) all) (counts_over k.level all) all_are.are ended)
 
 -- ---- one head
 
@@ -131,21 +265,9 @@ bags_between bags part gens mods i j from to is first next =
     ap (λ (l : List Bag). bags_in l gens mods) (is ∙ ap (λ (n : ℕ). slice_range bags n (j + 1)) first ∙ ap (λ (n : ℕ). slice_range bags from (n + 1)) next)
     ∙ sym (slice-bags_in bags gens mods from to)
 
--- what those records say is what the bags of the head say
-pub read_between : {H : Type 0} (first_bag : H → ℕ) (l : LevelTables H) (h n : H) (at found : Level) (part : List Bag) (i j : ℕ) (read : BagsRead)
-    → found ≡ at → part ≡ slice_range l.bags i (j + 1) → i ≡ first_bag h → j ≡ first_bag n → read ≡ bags_read found (bags_in part l.generators l.modulators)
-    → read ≡ bags_read at (window_of first_bag l h n)
-read_between first_bag l h n at found part i j read same is first next said =
-    said
-    ∙ ap (bags_read found) (bags_between l.bags part l.generators l.modulators i j (first_bag h) (first_bag n) is first next)
-    ∙ ap (λ (a : Level). bags_read a (window_of first_bag l h n)) same
-
-pub targets_fail : {Y Z : Type 0} (view : Y → Z) (value : Z) (r : Result Y (Failure ReadFault)) (e : Failure ReadFault) (targets : ℕ) (missing : ReadFault) (found zones : List Zone)
-    → found ≡ zones → IsErrAnd r (λ d. d ≡ e) → Fails e (first_broken (map (target_step targets missing) found)) → PassesGivenMemory view r (map (target_step targets missing) zones) value
-targets_fail view value r e targets missing found zones is err h =
-    given_by view value r e (map (target_step targets missing) zones) err
-    (subst (λ (l : List Zone). Fails e (first_broken (map (target_step targets missing) l))) is h)
-
-pub targets_hold : (targets : ℕ) (missing : ReadFault) (found zones : List Zone)
-    → found ≡ zones → first_broken (map (target_step targets missing) found) ≡ None → first_broken (map (target_step targets missing) zones) ≡ None
-targets_hold targets missing found zones is h = sym (ap (λ (l : List Zone). first_broken (map (target_step targets missing) l)) is) ∙ h
+-- what is said of those records is said of the bags of the head
+pub between_as : {H : Type 0} (P : Level → List Bagged → Type 0) (first_bag : H → ℕ) (l : LevelTables H) (h n : H) (at found : Level) (part : List Bag) (i j : ℕ)
+    → found ≡ at → part ≡ slice_range l.bags i (j + 1) → i ≡ first_bag h → j ≡ first_bag n → P found (bags_in part l.generators l.modulators) → P at (window_of first_bag l h n)
+between_as P first_bag l h n at found part i j same is first next said =
+    let bags = bags_between l.bags part l.generators l.modulators i j (first_bag h) (first_bag n) is first next in
+    subst (λ (a : Level). P a (window_of first_bag l h n)) same (subst (P found) bags said)

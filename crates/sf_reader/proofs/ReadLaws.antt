@@ -7,13 +7,15 @@ use Rattle.bank_format.specs.Ids.{IFIL, SMPL}
 use Rattle.bank_format.specs.Steps.{Step, first_broken, Fails, PassesGivenMemory}
 use Rattle.bank_format.specs.Tables.{Tables}
 use Rattle.bank_format.specs.Chunks.{window, body_in, tables_in, points_in}
-use Rattle.bank_format.specs.Reading.{Content, bank_of, counts_of, content_in}
+use Rattle.bank_format.specs.Reading.{content_in}
 use Rattle.bank_format.specs.ReadSteps.{frame_steps, list_steps, chunk_step, nine, chunk_steps, size_steps, point_steps, content_steps, window_steps, steps, fault_of}
 use Rattle.sf_reader.specs.Lists.{ListChunks, chunks_in_lists}
 use Rattle.sf_reader.specs.Hydra.{Bodies, bodies_in, whole_steps, tables_from}
-use Rattle.sf_reader.specs.Content.{list_content_steps, list_content, version_steps, table_steps, table_content, content_with}
+use Rattle.sf_reader.specs.FlatContent.{FlatContent, flat_content}
+use Rattle.sf_reader.specs.Content.{list_content_steps, list_content, version_steps, table_steps, table_content}
 use Rattle.sf_reader.proofs.StepLaws.{fails_front, fails_after, none_after}
 use Rattle.sf_reader.proofs.TableLaws.{from_counts_are}
+use Rattle.sf_reader.proofs.FlatLaws.{content_flat}
 
 -- ---- of the three lists, where the parts were found
 
@@ -49,8 +51,8 @@ lists_in_parts w =
     (from_counts_are w.info w.sdta (tables_from (nine_in w)) (smpl_in w))
 
 pub content_in_parts : (w : ListChunks) → list_content w ≡ table_content (field_at 2 2 (ifil_in w)) w (tables_from (nine_in w)) (smpl_in w)
-unfolding bank_of counts_of points_in tables_in bodies_in tables_from content_with
-content_in_parts w = refl
+unfolding points_in tables_in bodies_in tables_from
+content_in_parts w = content_flat w (tables_from (nine_in w))
 
 -- ---- what the reader has found of the lists before it looks at the records
 
@@ -125,7 +127,7 @@ lists_hold w version bodies minor t smpl k none =
     )
 
 -- the tables pass, and so do the lists
-pub tables_pass : {X : Type 0} (seen : X → Content) (r : Result X (Failure ReadFault)) (w : ListChunks) (version : List ℕ) (bodies : Bodies) (minor : ℕ) (t : Tables) (smpl : List ℕ)
+pub tables_pass : {X : Type 0} (seen : X → FlatContent) (r : Result X (Failure ReadFault)) (w : ListChunks) (version : List ℕ) (bodies : Bodies) (minor : ℕ) (t : Tables) (smpl : List ℕ)
     → Cut w version bodies minor t smpl → PassesGivenMemory seen r (table_steps t smpl) (table_content minor w t smpl) → PassesGivenMemory seen r (list_content_steps w) (list_content w)
 tables_pass seen (Ok x) w version bodies minor t smpl k h =
     let hold = lists_hold w version bodies minor t smpl k h.0 in
@@ -138,14 +140,14 @@ pub file_in_parts : (file : List ℕ) → steps file ≡ frame_steps file ++ (li
 unfolding steps window_steps chunks_in_lists
 file_in_parts file = refl
 
-pub content_is : (file : List ℕ) → content_in (window file) ≡ list_content (chunks_in_lists (window file))
+pub content_is : (file : List ℕ) → flat_content (content_in (window file)) ≡ list_content (chunks_in_lists (window file))
 unfolding content_in chunks_in_lists
 content_is file = refl
 
 -- the file holds, and says what its lists do
 pub file_holds : (file w : List ℕ) (v : ListChunks) → w ≡ window file → v ≡ chunks_in_lists w
     → first_broken (frame_steps file) ≡ None → first_broken (list_steps w) ≡ None → first_broken (list_content_steps v) ≡ None
-    → (fault_of file ≡ None) × (list_content v ≡ content_in (window file))
+    → (fault_of file ≡ None) × (list_content v ≡ flat_content (content_in (window file)))
 file_holds file w v ew ev frame lists inside =
     let vw : v ≡ chunks_in_lists (window file) = ev ∙ ap chunks_in_lists ew in
     let there : first_broken (list_steps (window file)) ≡ None = ap (λ (l : List ℕ). first_broken (list_steps l)) (sym ew) ∙ lists in

@@ -23,10 +23,12 @@ module _ (at : Level) (rs : List Generator) (raw : Gens) (target : Option ℕ) (
   pub used_fits : len raw + one_if (is_some target) ≤ length rs
   used_fits = omega (arith, used_is, length-kept at rs)
 
-  pub all_read : (new : Gens) (left ranges : ℕ) → new ≡ mended_at 44 (mended_at 43 raw) → left ≡ length rs - (len raw + one_if (is_some target)) → ranges ≡ one_if (is_out_of_order 43 raw) + one_if (is_out_of_order 44 raw)
-      → ◌≡◌ {A = GensRead} (record { gens = new; target = target; dropped = left; ranges = ranges }) (gens_read_of at rs)
-  all_read new left ranges new_is left_is ranges_is =
-      let gens : new ≡ gens_read at rs = new_is ∙ ap (λ (m : Gens). mended_at 44 (mended_at 43 m)) raw_kept ∙ mended_gens (kept at rs) in
+  pub gens_are : (new : Gens) → new ≡ mended_at 44 (mended_at 43 raw) → new ≡ gens_read at rs
+  gens_are new is = is ∙ ap (λ (m : Gens). mended_at 44 (mended_at 43 m)) raw_kept ∙ mended_gens (kept at rs)
+
+  pub all_read : (left ranges : ℕ) → left ≡ length rs - (len raw + one_if (is_some target)) → ranges ≡ one_if (is_out_of_order 43 raw) + one_if (is_out_of_order 44 raw)
+      → ◌≡◌ {A = GensRead} (record { target = target; dropped = left; ranges = ranges }) (gens_read_of at rs)
+  all_read left ranges left_is ranges_is =
       let drops : left ≡ dropped at rs = left_is ∙ ap (λ (n : ℕ). length rs - n) used_is in
       let counted = ranges_is ∙ ap (λ (m : Gens). one_if (is_out_of_order 43 m) + one_if (is_out_of_order 44 m)) raw_kept ∙ mended_count (allowed_in at (before_target at rs)) in
-      λ i. record { gens = gens i; target = target_is i; dropped = drops i; ranges = counted i }
+      λ i. record { target = target_is i; dropped = drops i; ranges = counted i }

@@ -1,6 +1,6 @@
 -- Steps one after the other.
 use Rattle.std.proofs.Common.{◌≡◌, ◌&&◌, Bool, true, false, cond, List, [], ◌∷◌, ◌++◌, map, Option, Some, None, Result, Ok, Err, refl, sym, ap, subst, ◌∙◌}
-use Rattle.std.specs.Result.{IsErrAnd, IfErr}
+use Rattle.std.specs.Result.{IsErrAnd, IfErr, OnOk}
 use Rattle.std.specs.List.{list_all}
 use Rattle.sf_base.specs.declared.memory.Failure.{Failure}
 use Rattle.sf_base.specs.declared.memory.Failure.TheVariants.{Fault, OutOfMemory}
@@ -90,3 +90,8 @@ hold_on false c x w h = refl
 pub same_fault : {X : Type 0} (p : X → Bool) (fault : ReadFault) (xs : List X) → first_broken (map (λ x. step (p x) fault) xs) ≡ cond (list_all p xs) None (Some fault)
 same_fault p fault [] = refl
 same_fault p fault (x ∷ xs) = hold_on (p x) (list_all p xs) (first_broken (map (λ y. step (p y) fault) xs)) fault (same_fault p fault xs)
+
+-- what follows where it went well
+pub on_ok : {X E : Type 0} (r : Result X E) (P Q : Type 0) → (P → Q) → OnOk r P → OnOk r Q
+on_ok (Ok x) P Q f p = f p
+on_ok (Err e) P Q f p = tt

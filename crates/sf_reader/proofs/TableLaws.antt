@@ -96,7 +96,7 @@ zones_together f zones read same (h ∷ hs) (w ∷ ws) e =
     ap (λ (l : List Zone). l ++ flat_map zones (together f hs ws)) (same h w)
     ∙ ap (λ (l : List Zone). read w ++ l) (zones_together f zones read same hs ws (omega (arith, e)))
 
-rows_windows : {H X : Type 0} (table : List X) (index : H → ℕ) (heads : List H) → length (rows heads) ≡ length (windows table (map index heads))
+pub rows_windows : {H X : Type 0} (table : List X) (index : H → ℕ) (heads : List H) → length (rows heads) ≡ length (windows table (map index heads))
 rows_windows table index heads = omega (arith, length-rows heads, length-windows table (map index heads), length-map heads index)
 
 pub targets_are : (info sdta : List Chunk) (t : Tables) → target_steps (bank_of info sdta t) ≡ member_steps t

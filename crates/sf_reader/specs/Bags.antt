@@ -1,12 +1,28 @@
 -- What the bags of a preset or of an instrument say.
-use Rattle.std.specs.Prelude.{List}
+use Rattle.std.specs.Prelude.{ℕ, List, ◌++◌, map}
+use Rattle.generators.specs.Levels.{target_operator}
 use Rattle.generators.specs.declared.level.Level.{Level}
+use Rattle.flat_records.specs.Bags.{Bag}
+use Rattle.bank_parts.specs.Bagged.{zone_bag, global_bags}
+use Rattle.bank_format.specs.declared.fault.ReadFault.{ReadFault}
+use Rattle.bank_format.specs.Steps.{Step}
 use Rattle.bank_format.specs.Zones.{Bagged, global_read, zones_read, ignored, gens_dropped, ranges_mended}
+use Rattle.bank_format.specs.ReadSteps.{target_step}
 use Rattle.sf_reader.specs.declared.zones.ZoneCounts.{ZoneCounts}
-use Rattle.sf_reader.specs.declared.zones.BagsRead.{BagsRead}
 
 abbrev pub counts_read : Level → List Bagged → ZoneCounts
 counts_read at bags = record { zones = ignored at bags; gens = gens_dropped at bags; ranges = ranges_mended at bags }
 
-abbrev pub bags_read : Level → List Bagged → BagsRead
-bags_read at bags = record { global = global_read at bags; zones = zones_read at bags; counts = counts_read at bags }
+-- the target of each zone that they say
+abbrev pub steps_of_bags : Level → ℕ → ReadFault → List Bagged → List Step
+steps_of_bags at targets missing bags = map (target_step targets missing) (zones_read at bags)
+
+-- ---- as a bank has them
+
+-- the bags of the zones that they say
+abbrev pub zone_bags : Level → List Bagged → List Bag
+zone_bags at bags = map (zone_bag (target_operator at)) (zones_read at bags)
+
+-- and that of the global zone before them, where it holds something
+abbrev pub own_bags : Level → List Bagged → List Bag
+own_bags at bags = global_bags (global_read at bags) ++ zone_bags at bags

@@ -10,19 +10,19 @@ use Rattle.bank_format.specs.Tables.{Tables}
 use Rattle.bank_format.specs.Texts.{texts_read, texts_cut}
 use Rattle.bank_format.specs.Samples.{is_loop_lost, is_link_lost}
 use Rattle.bank_format.specs.Chunks.{tables_in}
-use Rattle.bank_format.specs.Reading.{Content, samples_read, sm24_dropped, content_of}
+use Rattle.bank_format.specs.Reading.{samples_read, sm24_dropped, content_of}
 use Rattle.bank_format.specs.ReadSteps.{count_steps, all_index_steps, sample_step, total_steps, content_steps}
 use Rattle.sf_reader.specs.Lists.{ListChunks}
-use Rattle.sf_reader.specs.declared.owners.Members.{Members}
-use Rattle.sf_reader.specs.Owners.{members_of, member_steps}
+use Rattle.sf_reader.specs.Owners.{FlatMembers, members_of, member_steps}
+use Rattle.sf_reader.specs.FlatContent.{FlatContent, flat_content}
 
 -- ---- of the three lists
 
 abbrev pub list_content_steps : ListChunks → List Step
 list_content_steps w = content_steps w.info w.sdta w.pdta (tables_in w.pdta)
 
-abbrev pub list_content : ListChunks → Content
-list_content w = content_of w.info w.sdta (tables_in w.pdta)
+abbrev pub list_content : ListChunks → FlatContent
+list_content w = flat_content (content_of w.info w.sdta (tables_in w.pdta))
 
 -- ---- of a version, tables and points
 
@@ -47,13 +47,15 @@ abbrev pub table_steps : Tables → List ℕ → List Step
 table_steps t smpl = checked_steps t smpl ++ (member_steps t ++ total_steps (rows t.shdr))
 
 -- the bank and the counts, of presets, instruments and samples
-unfoldable pub content_with : ℕ → ListChunks → Tables → Members → List Sample → Content
+unfoldable pub content_with : ℕ → ListChunks → Tables → FlatMembers → List Sample → FlatContent
 content_with minor w t members samples = record {
   bank = record {
     minor = minor;
     texts = texts_read w.info;
-    presets = members.presets.owners;
-    instruments = members.instruments.owners;
+    preset_heads = members.presets.heads;
+    presets = members.presets.records;
+    instrument_heads = members.instruments.heads;
+    instruments = members.instruments.records;
     samples = samples;
   };
   counts = record {
@@ -68,5 +70,5 @@ content_with minor w t members samples = record {
 }
 
 -- of a minor version, tables and points
-abbrev pub table_content : ℕ → ListChunks → Tables → List ℕ → Content
+abbrev pub table_content : ℕ → ListChunks → Tables → List ℕ → FlatContent
 table_content minor w t smpl = content_with minor w t (members_of t) (samples_read (words smpl) (rows t.shdr))

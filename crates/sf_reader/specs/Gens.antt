@@ -1,14 +1,14 @@
--- What the generator records of one bag say.
+-- What the generator records of one bag say besides the generators that are kept.
 use Rattle.std.specs.Prelude.{ℕ, Bool, false, List, map, not, ◌==◌, count_by, Some, None, if◌then◌else◌}
 use Rattle.std.specs.FinMap.{get, insert}
 use Rattle.generators.specs.Gens.{Gens}
 use Rattle.generators.specs.declared.level.Level.{Level}
 use Rattle.hydra_records.specs.declared.zone.Generator.{Generator}
-use Rattle.bank_format.specs.Zones.{before_target, allowed_in, kept, range_mended, is_mended, gens_read, target_of, dropped}
+use Rattle.bank_format.specs.Zones.{before_target, allowed_in, kept, range_mended, is_mended, target_of, dropped}
 use Rattle.sf_reader.specs.declared.bag.GensRead.{GensRead}
 
 abbrev pub gens_read_of : Level → List Generator → GensRead
-gens_read_of at rs = record { gens = gens_read at rs; target = target_of at rs; dropped = dropped at rs; ranges = count_by is_mended (kept at rs) }
+gens_read_of at rs = record { target = target_of at rs; dropped = dropped at rs; ranges = count_by is_mended (kept at rs) }
 
 -- ---- the way there
 

@@ -1,9 +1,8 @@
--- What was read of the first bags, gone on with by later ones.
-use Rattle.std.specs.Prelude.{◌+◌, ◌^◌, ◌≤◌, ◌++◌, List, not, filter, count_by, sum_by}
+-- What was counted in the first bags, gone on with by later ones.
+use Rattle.std.specs.Prelude.{◌+◌, ◌^◌, ◌≤◌, List, not, filter, count_by, sum_by}
 use Rattle.generators.specs.declared.level.Level.{Level}
-use Rattle.bank_format.specs.Zones.{Bagged, zones_read, has_target, dropped, kept, is_mended}
+use Rattle.bank_format.specs.Zones.{Bagged, has_target, dropped, kept, is_mended}
 use Rattle.sf_reader.specs.declared.zones.ZoneCounts.{ZoneCounts}
-use Rattle.sf_reader.specs.declared.zones.BagsRead.{BagsRead}
 
 abbrev pub counts_with_later : Level → ZoneCounts → List Bagged → ZoneCounts
 counts_with_later at counts bags = record {
@@ -11,9 +10,6 @@ counts_with_later at counts bags = record {
   gens = counts.gens + sum_by (λ (r : Bagged). dropped at r.gens) (filter (has_target at) bags);
   ranges = counts.ranges + sum_by (λ (r : Bagged). count_by is_mended (kept at r.gens)) (filter (has_target at) bags);
 }
-
-abbrev pub with_later : Level → BagsRead → List Bagged → BagsRead
-with_later at read bags = record { global = read.global; zones = read.zones ++ zones_read at bags; counts = counts_with_later at read.counts bags }
 
 -- far below 64 bits
 pub record AreFew (counts : ZoneCounts) : Type 0 where

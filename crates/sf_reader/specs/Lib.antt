@@ -9,6 +9,9 @@ pub mod Hydra
 pub mod Owners
 pub mod Texts
 pub mod Content
+pub mod FlatContent
+pub mod Records
+pub mod Entries
 pub mod Gens
 pub mod Bags
 pub mod Later

@@ -1,20 +1,28 @@
 -- Presets and instruments with their zones, as the reader goes through them.
-use Rattle.std.specs.Prelude.{◌+◌, ◌++◌, ◌<◌, ◌^◌, ℕ, List, length, map, flat_map, sum_by}
+use Rattle.std.specs.Prelude.{◌≡◌, ◌+◌, ◌-◌, ◌++◌, ◌∷◌, [], ◌<◌, ◌^◌, ℕ, List, length, map, flat_map, sum_by}
 use Rattle.std.specs.List.{slice_range}
 use Rattle.generators.specs.declared.level.Level.{Level}
 use Rattle.generators.specs.declared.level.Level.TheVariants as level
+use Rattle.flat_records.specs.Runs.{starts}
+use Rattle.flat_records.specs.Bags.{Bag, tables_of}
+use Rattle.flat_records.specs.Bags as flat
+use Rattle.owner_bags.specs.Owned.{past_owner, all_bags, flat_of}
+use Rattle.bank_parts.specs.declared.parts.Head.{Head}
+use Rattle.bank_core.specs.declared.flat_heads.HeadRecord.{HeadRecord}
+use Rattle.bank_core.specs.Heads.{head_records}
 use Rattle.bank_format.specs.declared.fault.ReadFault.{ReadFault}
 use Rattle.bank_format.specs.declared.fault.ReadFault.TheVariants.{BadInstrument, BadSample}
 use Rattle.bank_format.specs.Steps.{Step}
-use Rattle.bank_format.specs.Windows.{windows, together, rows}
+use Rattle.bank_format.specs.Windows.{windows, rows}
 use Rattle.bank_format.specs.Zones.{Bagged, zones_read, ignored, gens_dropped, ranges_mended}
 use Rattle.bank_format.specs.Tables.{Tables, Headers, presets, instruments}
-use Rattle.bank_format.specs.Reading.{bags_in, preset_windows, instrument_windows, owner_read}
+use Rattle.bank_format.specs.Reading.{bags_in, preset_windows, instrument_windows}
 use Rattle.bank_format.specs.ReadSteps.{target_step}
 use Rattle.sf_reader.specs.declared.zones.ZoneCounts.{ZoneCounts}
-use Rattle.sf_reader.specs.Bags.{counts_read}
+use Rattle.sf_reader.specs.Bags.{own_bags}
+use Rattle.sf_reader.specs.Records.{AreSoFar, Adds, tables_in}
 use Rattle.sf_reader.specs.declared.hydra.LevelTables.{LevelTables}
-use Rattle.sf_reader.specs.declared.owners.OwnerRead.{OwnerRead}
+use Rattle.sf_reader.specs.declared.owners.OwnersSoFar.{OwnersSoFar}
 use Rattle.sf_reader.specs.declared.owners.OwnersRead.{OwnersRead}
 use Rattle.sf_reader.specs.declared.owners.Members.{Members}
 
@@ -33,6 +41,28 @@ pub record AreSmall (c : ZoneCounts) : Type 0 where
 abbrev pub counts_over : Level → List (List Bagged) → ZoneCounts
 counts_over at ws = record { zones = sum_by (ignored at) ws; gens = sum_by (gens_dropped at) ws; ranges = sum_by (ranges_mended at) ws }
 
+-- ---- lists that grow
+
+-- those with these heads, each with its bags
+pub record AreOwnersSoFar {H : Type 0} (r : OwnersSoFar H) (hs : List H) (owners : List (List Bag)) (c : ZoneCounts) : Type 0 where
+  pub heads_are : r.heads.items ≡ hs
+  pub first_bags_are : r.first_bags.items ≡ starts past_owner 0 owners
+  pub records_are : AreSoFar r.records (all_bags owners)
+  pub counts_are : r.counts ≡ c
+
+-- one more was put behind the others, with this head and these bags, in which so much was dropped or mended
+pub record AddsOwner {H : Type 0} (old new : OwnersSoFar H) (head : H) (own : List Bag) (more : ZoneCounts) : Type 0 where
+  pub heads_grow : new.heads.items ≡ old.heads.items ++ head ∷ []
+  pub first_bags_grow : new.first_bags.items ≡ old.first_bags.items ++ (length new.records.bags.items - 1) ∷ []
+  pub records_grow : Adds old.records new.records own
+  pub counts_grow : new.counts ≡ added old.counts more
+
+-- and the terminals behind all of them
+pub record AreEnded {H : Type 0} (r : OwnersSoFar H) (e : OwnersRead H) : Type 0 where
+  pub heads_are : e.heads ≡ head_records r.heads.items r.first_bags.items
+  pub records_are : (all : List Bag) → AreSoFar r.records all → tables_in e.records ≡ tables_of all
+  pub counts_are : e.counts ≡ r.counts
+
 -- ---- the presets, or the instruments
 
 -- the bags from one head's first to the next one's
@@ -43,13 +73,21 @@ window_of first_bag l h next = slice_range (bags_in l.bags l.generators l.modula
 abbrev pub windows_of : {H : Type 0} → (H → ℕ) → LevelTables H → List (List Bagged)
 windows_of first_bag l = windows (bags_in l.bags l.generators l.modulators) (map first_bag l.heads)
 
--- one of them, and what was dropped or mended in its bags
-abbrev pub owner_with_counts : {H R : Type 0} → Headers H R → R → List Bagged → OwnerRead H
-owner_with_counts h r bags = record { owner = owner_read h r bags; counts = counts_read h.level bags }
+-- all of them in flat lists, and what was dropped or mended in their zones
+pub record FlatOwners (H : Type 0) : Type 0 where
+  pub heads : List (HeadRecord H)
+  pub records : flat.Tables
+  pub counts : ZoneCounts
 
--- all of them, and what was dropped or mended in all bags
-abbrev pub owners_with_counts : {H R : Type 0} → Headers H R → List R → List (List Bagged) → OwnersRead H
-owners_with_counts h rs ws = record { owners = together (owner_read h) (rows rs) ws; counts = counts_over h.level ws }
+abbrev pub owners_seen : {H : Type 0} → OwnersRead H → FlatOwners H
+owners_seen r = record { heads = r.heads; records = tables_in r.records; counts = r.counts }
+
+-- those with these heads and bags
+abbrev pub flat_owners : {H : Type 0} → List H → List (List Bag) → ZoneCounts → FlatOwners H
+flat_owners hs owners counts = record { heads = head_records hs (flat_of owners).begins; records = tables_of (all_bags owners); counts = counts }
+
+abbrev pub owners_with_counts : {H R : Type 0} → Headers H R → List R → List (List Bagged) → FlatOwners H
+owners_with_counts h rs ws = flat_owners (map h.read (rows rs)) (map (own_bags h.level) ws) (counts_over h.level ws)
 
 -- the target of each zone that their bags say
 abbrev pub zone_steps : Level → ℕ → ReadFault → List (List Bagged) → List Step
@@ -57,7 +95,14 @@ zone_steps at targets missing ws = map (target_step targets missing) (flat_map (
 
 -- ---- both
 
-abbrev pub members_of : Tables → Members
+pub record FlatMembers : Type 0 where
+  pub presets : FlatOwners Head
+  pub instruments : FlatOwners (List ℕ)
+
+abbrev pub members_seen : Members → FlatMembers
+members_seen m = record { presets = owners_seen m.presets; instruments = owners_seen m.instruments }
+
+abbrev pub members_of : Tables → FlatMembers
 members_of t = record {
   presets = owners_with_counts presets t.phdr (preset_windows t);
   instruments = owners_with_counts instruments t.inst (instrument_windows t);

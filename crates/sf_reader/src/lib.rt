@@ -4,11 +4,13 @@
 #![tactic(auto)]
 
 mod bag;
+mod entries;
 mod frame;
 mod hydra;
 mod indexes;
 mod owners;
 mod reader;
+mod records;
 mod samples;
 mod texts;
 mod zones;

@@ -1,34 +1,100 @@
 //! The presets and the instruments of a file, with their zones (SoundFont 2.04, sections 7.2 to 7.9).
-ghost use Rattle.std.specs.Prelude.{◌≡◌, ◌≤◌, None, length, map, nat_lt};
-ghost use Rattle.std.specs.List.{list_all};
+ghost use Rattle.std.specs.Prelude.{◌≡◌, ◌≤◌, ◌+◌, None, [], length, IfOk, OnOk};
 ghost use Rattle.sf_base.specs.declared.limits.TheConstants.{RECORDS};
-ghost use Rattle.bank_format.specs.Steps.{Passes, PassesGivenMemory, first_broken};
-ghost use Rattle.bank_format.specs.Zones.{zones_read};
-ghost use Rattle.bank_format.specs.ReadSteps.{count_steps, all_index_steps, target_step};
-ghost use Rattle.sf_reader.specs.Owners.{added, AreSmall, window_of, windows_of, owner_with_counts, owners_with_counts, zone_steps, members_of, member_steps};
+ghost use Rattle.bank_format.specs.Steps.{PassesGivenMemory, first_broken};
+ghost use Rattle.bank_format.specs.ReadSteps.{count_steps, all_index_steps};
+ghost use Rattle.sf_reader.specs.Bags.{counts_read, own_bags, steps_of_bags};
+ghost use Rattle.sf_reader.specs.Owners.{added, AreSmall, AreOwnersSoFar, AddsOwner, AreEnded, window_of, windows_of, owners_seen, owners_with_counts, zone_steps, members_seen, members_of, member_steps};
 
 use crate::hydra::{LevelTables, Tables, row_count};
-use crate::zones::{BagsRead, ZoneCounts, read_bags};
+use crate::records::{bag_count, end_records, no_records};
+use crate::zones::{NO_COUNTS, Targets, ZoneCounts, read_bags};
+use bank_core::{FlatHeads, Recs};
 use bank_format::{ReadFault, RecordedHead};
-use bank_parts::{Head, OwnerHead, Owners, WithZones, Zone};
-use sf_base::{Failure, Name20};
+use bank_parts::Head;
+use numbered_lists::NumberedList;
+use sf_base::{Failure, Name20, OutOfMemory};
 use std::alloc::Global;
 
-/// A preset or an instrument, and what was dropped or mended in its zones.
-#[derive(Drop)]
-pub(crate) struct OwnerRead<H> {
-    owner: WithZones<H>,
+/// The presets or the instruments of a file so far, in lists that grow at their ends.
+pub(crate) struct OwnersSoFar<H> {
+    heads: Vec<H>,
+
+    // Where the bags of each begin, and last how many bags there are.
+    first_bags: Vec<u16>,
+
+    // Without the terminals of generators and modulators.
+    records: Recs,
+
+    // What was dropped or mended in their zones.
     counts: ZoneCounts,
 }
 
-/// The presets or the instruments of a file, and what was dropped or mended in their zones.
-#[derive(Drop)]
-pub(crate) struct OwnersRead<H: OwnerHead> {
-    /// Each in its order.
-    pub(crate) owners: Owners<H>,
+// Not derived: a derived drop is written out, and proved, wherever a value is dropped; this one is a call.
+impl<H: Drop> Drop for OwnersSoFar<H> {
+    fn drop(self) {
+        let OwnersSoFar {
+            heads: _,
+            first_bags: _,
+            records: _,
+            counts: _,
+        } = self;
+    }
+}
 
-    /// What was dropped or mended in all of them.
+impl<H: Drop> OwnersSoFar<H> {
+    // All of them, with their terminals.
+    fn ended(self) -> Result<OwnersRead<H>, OutOfMemory>
+        requires { length self.first_bags.items ≡ length self.heads.items + 1 }
+        ensures { IfOk result (λ read. AreEnded self read) }
+    {
+        let OwnersSoFar {
+            heads,
+            first_bags,
+            mut records,
+            counts,
+        } = self;
+        end_records(&mut records)?;
+        let heads = FlatHeads::new(NumberedList::from_vec(heads), first_bags).unwrap();
+        Ok(OwnersRead {
+            heads,
+            records,
+            counts,
+        })
+    }
+}
+
+/// The presets or the instruments of a file in flat lists, and what was dropped or mended in their zones.
+pub(crate) struct OwnersRead<H> {
+    pub(crate) heads: FlatHeads<H>,
+    pub(crate) records: Recs,
     pub(crate) counts: ZoneCounts,
+}
+
+// Not derived, for the same reason.
+impl<H: Drop> Drop for OwnersRead<H> {
+    fn drop(self) {
+        let OwnersRead {
+            heads: _,
+            records: _,
+            counts: _,
+        } = self;
+    }
+}
+
+impl<H: Drop> OwnersRead<H> {
+    /// Their heads, and their records.
+    pub(crate) fn into_lists(self) -> (FlatHeads<H>, Recs)
+        ensures heads { result.0 ≡ self.heads }
+        ensures records { result.1 ≡ self.records }
+    {
+        let OwnersRead {
+            heads,
+            records,
+            counts: _,
+        } = self;
+        (heads, records)
+    }
 }
 
 /// The presets and the instruments of a file.
@@ -38,21 +104,11 @@ pub(crate) struct Members {
     pub(crate) instruments: OwnersRead<Name20>,
 }
 
-// What the zones of a level name.
-#[derive(Clone, Copy)]
-struct Targets {
-    // How many there are.
-    count: usize,
-
-    // The fault of a zone that names none of them.
-    missing: ReadFault,
-}
-
 /// The presets and the instruments, each zone of which names a target that is there.
 pub(crate) fn read_members(alloc: Global, tables: &Tables) -> Result<Members, Failure<ReadFault>>
     requires counts { first_broken (count_steps tables.now) ≡ None }
     requires indexes { first_broken (all_index_steps tables.now) ≡ None }
-    ensures { PassesGivenMemory (λ members. members) result (member_steps tables.now) (members_of tables.now) }
+    ensures { PassesGivenMemory members_seen result (member_steps tables.now) (members_of tables.now) }
 {
     let instruments = Targets {
         count: row_count(&tables.instruments().heads),
@@ -79,76 +135,77 @@ fn read_owners<H: RecordedHead>(
     requires heads { length level.now.heads ≤ RECORDS }
     requires bags { length level.now.bags ≤ RECORDS }
     requires generators { length level.now.generators ≤ RECORDS }
-    ensures { PassesGivenMemory (λ read. read) result
+    ensures { PassesGivenMemory owners_seen result
         (zone_steps H.headers.level targets.count targets.missing (windows_of H.headers.first_bag level.now))
         (owners_with_counts H.headers level.now.heads (windows_of H.headers.first_bag level.now)) }
 {
-    let mut counts = ZoneCounts {
-        zones: 0,
-        gens: 0,
-        ranges: 0,
-    };
-    let mut owners = Owners::with_capacity(alloc, row_count(&level.heads))?;
+    let mut read = no_owners(alloc, level)?;
     let mut heads = level.heads.iter();
     let Some(mut head) = heads.next() else {
-        return Ok(OwnersRead { owners, counts });
+        return Ok(read.ended()?);
     };
     for next in heads {
-        let read = read_owner(alloc, level, &head, &next, targets)?;
-        counts = add(counts, read.counts);
-        owners.push(read.owner)?;
+        read_owner(level, &head, &next, targets, &mut read)?;
         head = next;
     }
-    Ok(OwnersRead { owners, counts })
+    Ok(read.ended()?)
 }
 
-// One of them. Its bags end where those of the next one begin.
-fn read_owner<H: RecordedHead>(
+// None yet, with room for what the tables hold.
+fn no_owners<H: RecordedHead>(
     alloc: Global,
+    level: &LevelTables<H::Record>,
+) -> Result<OwnersSoFar<H>, OutOfMemory>
+    ensures { IfOk result (λ read. AreOwnersSoFar read [] [] NO_COUNTS) }
+{
+    let heads = Vec::with_capacity(alloc, row_count(&level.heads))?;
+    let mut first_bags = Vec::with_capacity(alloc, level.heads.len())?;
+    first_bags.push(0)?;
+    let records = no_records(
+        alloc,
+        level.bags.len(),
+        level.generators.len(),
+        level.modulators.len(),
+    )?;
+    Ok(OwnersSoFar {
+        heads,
+        first_bags,
+        records,
+        counts: NO_COUNTS,
+    })
+}
+
+// One more of them. Its bags end where those of the next one begin.
+fn read_owner<H: RecordedHead>(
     level: &LevelTables<H::Record>,
     head: &H::Record,
     next: &H::Record,
     targets: Targets,
-) -> Result<OwnerRead<H>, Failure<ReadFault>>
+    read: &mut OwnersSoFar<H>,
+) -> Result<(), Failure<ReadFault>>
     requires bags { length level.now.bags ≤ RECORDS }
     requires generators { length level.now.generators ≤ RECORDS }
-    ensures { PassesGivenMemory (λ read. read) result
-        (map (target_step targets.count targets.missing) (zones_read H.headers.level (window_of H.headers.first_bag level.now head.now next.now)))
-        (owner_with_counts H.headers head.now (window_of H.headers.first_bag level.now head.now next.now)) }
+    requires counts { AreSmall (added read.old.counts (counts_read H.headers.level (window_of H.headers.first_bag level.now head.now next.now))) }
+    ensures passes { PassesGivenMemory (λ u. u) result
+        (steps_of_bags H.headers.level targets.count targets.missing (window_of H.headers.first_bag level.now head.now next.now)) tt }
+    ensures read { OnOk result (AddsOwner read.old read.new (H.headers.read head.now)
+        (own_bags H.headers.level (window_of H.headers.first_bag level.now head.now next.now))
+        (counts_read H.headers.level (window_of H.headers.first_bag level.now head.now next.now))) }
 {
     let bags = level.bags.part(H::first_bag(head) as usize, H::first_bag(next) as usize + 1);
-    let BagsRead {
-        global,
-        zones,
-        counts,
-    } = read_bags(alloc, H::LEVEL, &bags, &level.generators, &level.modulators)?;
-    check_targets(zones.as_slice(), targets)?;
-    Ok(OwnerRead {
-        owner: WithZones {
-            head: H::of_record(head),
-            global,
-            zones,
-        },
-        counts,
-    })
-}
-
-// The target of each zone is one of these.
-#[tactic(auto, using(crate::proofs::OwnerLaws::targets_there, crate::proofs::OwnerLaws::target_missing))]
-fn check_targets(zones: &[Zone], targets: Targets) -> Result<(), ReadFault>
-    ensures { Passes (λ u. u) result (map (target_step targets.count targets.missing) zones.now) tt }
-{
-    if !all_below(targets.count, zones) {
-        return Err(targets.missing);
-    }
+    let counts = read_bags(
+        H::LEVEL,
+        &bags,
+        &level.generators,
+        &level.modulators,
+        targets,
+        &mut read.records,
+    )?;
+    read.heads.push(H::of_record(head))?;
+    let past = bag_count(&read.records)?;
+    read.first_bags.push(past)?;
+    read.counts = add(read.counts, counts);
     Ok(())
-}
-
-// Whether the target of each zone is one of so many.
-fn all_below(count: usize, zones: &[Zone]) -> bool
-    ensures { result ≡ list_all (λ zone. nat_lt zone.target count) zones.now }
-{
-    zones.iter().all(|zone| (zone.target as usize) < count)
 }
 
 /// Both counts together.

@@ -9,7 +9,8 @@ ghost use Rattle.bank_format.specs.Chunks.{body_in};
 ghost use Rattle.bank_format.specs.Reading.{sm24_dropped};
 ghost use Rattle.bank_format.specs.ReadSteps.{ReadsAs, fault_of};
 ghost use Rattle.sf_reader.specs.Content.{list_content_steps, list_content, version_steps, checked_steps, table_steps, table_content, content_with};
-ghost use Rattle.sf_reader.specs.Owners.{added, AreSmall};
+ghost use Rattle.sf_reader.specs.Owners.{added, AreSmall, members_seen};
+ghost use Rattle.sf_reader.specs.FlatContent.{content_seen};
 
 use crate::frame::{Lists, lists_of, window_of};
 use crate::hydra::{HydraChunks, Tables, needed_body};
@@ -18,7 +19,7 @@ use crate::samples::{
     check_samples, check_total, count_lost_links, count_lost_loops, read_samples,
 };
 use crate::texts::{count_cut, cut_texts, texts_of};
-use bank_core::{Bank, Parts, Sample};
+use bank_core::{Bank, Flat, Sample};
 use bank_format::{Counts, ReadFault, read_banks_are_valid};
 use linked_members::LinkedMembers;
 use riff_chunks::FirstChunks;
@@ -39,17 +40,20 @@ pub fn read<'a>(alloc: Global, file: &'a [u8]) -> Result<(Bank<'a>, Counts), Fai
 {
     let window = window_of(file)?;
     let lists = lists_of(window)?;
-    let (parts, counts) = read_lists(alloc, &lists)?;
+    let (flat, counts) = read_lists(alloc, &lists)?;
     read_banks_are_valid();
-    Ok((Bank::from_sound_parts(parts), counts))
+    let bank = Bank::from_flat(flat).unwrap();
+    // What lends a part of a bank says that it is sound, and only one sound bank has these lists.
+    let _presets = bank.presets();
+    Ok((bank, counts))
 }
 
 // What the three lists hold.
 fn read_lists<'a>(
     alloc: Global,
     lists: &Lists<'a>,
-) -> Result<(Parts<'a>, Counts), Failure<ReadFault>>
-    ensures { PassesGivenMemory (λ r. record { bank = r.0; counts = r.1 }) result (list_content_steps lists.now)
+) -> Result<(Flat<'a>, Counts), Failure<ReadFault>>
+    ensures { PassesGivenMemory content_seen result (list_content_steps lists.now)
         (list_content lists.now) }
 {
     let version = needed_body(&lists.info, *b"ifil")?;
@@ -85,8 +89,8 @@ fn read_tables<'a>(
     lists: &Lists<'a>,
     tables: &Tables,
     smpl: &'a [u8],
-) -> Result<(Parts<'a>, Counts), Failure<ReadFault>>
-    ensures { PassesGivenMemory (λ r. record { bank = r.0; counts = r.1 }) result (table_steps tables.now smpl.now)
+) -> Result<(Flat<'a>, Counts), Failure<ReadFault>>
+    ensures { PassesGivenMemory content_seen result (table_steps tables.now smpl.now)
         (table_content minor lists.now tables.now smpl.now) }
 {
     check_tables(tables, smpl)?;
@@ -110,17 +114,16 @@ fn check_tables(tables: &Tables, smpl: &[u8]) -> Result<(), ReadFault>
     check_samples(tables.samples(), smpl.len() / 2)
 }
 
-// The bank of these members, and the counts.
+// The lists of these members, and the counts.
 fn content_of<'a>(
     minor: u16,
     lists: &Lists<'a>,
     tables: &Tables,
     members: Members,
     samples: LinkedMembers<Sample<'a>>,
-) -> (Parts<'a>, Counts)
+) -> (Flat<'a>, Counts)
     requires { AreSmall (added members.presets.counts members.instruments.counts) }
-    ensures { record { bank = result.0; counts = result.1 }
-        ≡ content_with minor lists.now tables.now members samples.entry }
+    ensures { content_seen result ≡ content_with minor lists.now tables.now (members_seen members) samples.entry }
 {
     let texts = texts_of(&lists.info);
     let zone_counts = add(members.presets.counts, members.instruments.counts);
@@ -133,14 +136,22 @@ fn content_of<'a>(
         loops: count_lost_loops(tables.samples()),
         links: count_lost_links(tables.samples()),
     };
-    let parts = Parts {
+    let Members {
+        presets,
+        instruments,
+    } = members;
+    let (preset_heads, presets) = presets.into_lists();
+    let (instrument_heads, instruments) = instruments.into_lists();
+    let flat = Flat {
         minor,
         texts: cut_texts(&texts),
-        presets: members.presets.owners,
-        instruments: members.instruments.owners,
+        preset_heads,
+        presets,
+        instrument_heads,
+        instruments,
         samples,
     };
-    (parts, counts)
+    (flat, counts)
 }
 
 // One where there is a chunk of the eight further bits of each point.

@@ -1,20 +1,20 @@
-//! The zones that bags say.
-ghost use Rattle.std.specs.Prelude.{◌≡◌, ◌≤◌, ◌++◌, ◌∷◌, [], length, slice_range, IfOk, OnOk};
+//! The zones that bags say, put behind those of a level.
+ghost use Rattle.std.specs.Prelude.{◌≡◌, ◌≤◌, ◌∷◌, [], length, nat_lt, slice_range, OnOk};
 ghost use Rattle.sf_base.specs.declared.limits.TheConstants.{RECORDS};
+ghost use Rattle.bank_format.specs.Steps.{Passes, PassesGivenMemory, step};
 ghost use Rattle.bank_format.specs.Reading.{bagged, bags_in};
-ghost use Rattle.bank_format.specs.Zones.{no_global};
-ghost use Rattle.generators.specs.declared.level.Level.{Level};
-ghost use Rattle.sf_reader.specs.Bags.{bags_read};
-ghost use Rattle.sf_reader.specs.Later.{AreFew, with_later};
+ghost use Rattle.sf_reader.specs.Bags.{counts_read, own_bags, zone_bags, steps_of_bags};
+ghost use Rattle.sf_reader.specs.Later.{AreFew, counts_with_later};
+ghost use Rattle.sf_reader.specs.Records.{Adds};
 
-use crate::bag::{GensRead, read_gens, read_mods};
-use bank_parts::{GlobalZone, Zone};
-use generators::{GenMap, Level};
+use crate::bag::{GensRead, read_gens};
+use crate::records::{end_global, end_zone};
+use bank_core::Recs;
+use bank_format::ReadFault;
+use generators::Level;
 use hydra_records::{Bag, Generator, Table};
 use modulators::Modulator;
-use numbered_lists::NumberedList;
-use sf_base::OutOfMemory;
-use std::alloc::Global;
+use sf_base::Failure;
 
 /// What was dropped or mended in the bags of a preset or an instrument, each counted.
 #[derive(Clone, Copy, Debug, PartialEq, Eq)]
@@ -27,48 +27,61 @@ pub(crate) struct ZoneCounts {
     pub(crate) ranges: u64,
 }
 
-/// The zones of a preset or an instrument, as its bags say them.
-#[derive(Drop)]
-pub(crate) struct BagsRead {
-    /// The global zone, which is empty where there is none.
-    pub(crate) global: GlobalZone,
-    pub(crate) zones: NumberedList<Zone>,
-    pub(crate) counts: ZoneCounts,
+/// What the zones of a level name.
+#[derive(Clone, Copy)]
+pub(crate) struct Targets {
+    /// How many there are.
+    pub(crate) count: usize,
+
+    /// The fault of a zone that names none of them.
+    pub(crate) missing: ReadFault,
 }
 
-/// Reads the zones of a preset or an instrument at its level. `bags` are its bags and the bag after
-/// them, which says where the last one's generators and modulators end.
+/// Nothing was dropped or mended.
+pub(crate) const NO_COUNTS: ZoneCounts = ZoneCounts {
+    zones: 0,
+    gens: 0,
+    ranges: 0,
+};
+
+/// Reads the zones of a preset or an instrument at its level, and puts their records behind those of the
+/// others. `bags` are its bags and the bag after them, which says where the last one's generators and
+/// modulators end.
 ///
 /// The records up to the first target are kept, of each operator the last, where the level allows the
 /// operator; a range has its ends cut to 127 and put in order. The first bag, where it has no target,
-/// is the global zone; a later one is ignored.
+/// is the global zone; a later one is ignored. Each target has to be there.
 pub(crate) fn read_bags(
-    alloc: Global,
     level: Level,
     bags: &Table<'_, Bag>,
     generators: &Table<'_, Generator>,
     modulators: &Table<'_, Modulator>,
-) -> Result<BagsRead, OutOfMemory>
+    targets: Targets,
+    records: &mut Recs,
+) -> Result<ZoneCounts, Failure<ReadFault>>
     requires bags { length bags.now ≤ RECORDS }
     requires generators { length generators.now ≤ RECORDS }
-    ensures { IfOk result (λ read. read ≡ bags_read level (bags_in bags.now generators.now modulators.now)) }
+    ensures passes { PassesGivenMemory (λ counts. counts) result
+        (steps_of_bags level targets.count targets.missing (bags_in bags.now generators.now modulators.now))
+        (counts_read level (bags_in bags.now generators.now modulators.now)) }
+    ensures records { OnOk result (Adds records.old records.new (own_bags level (bags_in bags.now generators.now modulators.now))) }
 {
     let mut rest = bags.iter();
     let Some(first) = rest.next() else {
-        return Ok(no_zones(alloc));
+        return Ok(NO_COUNTS);
     };
     let Some(second) = rest.next() else {
-        return Ok(no_zones(alloc));
+        return Ok(NO_COUNTS);
     };
     let (gens, mods) = bag_between(&first, &second, generators, modulators);
-    let mut read = read_first(alloc, level, &gens, &mods)?;
+    let mut counts = read_first(level, &gens, &mods, targets, records)?;
     let mut start = second;
     for end in rest {
         let (gens, mods) = bag_between(&start, &end, generators, modulators);
-        read_later(alloc, level, &gens, &mods, &mut read)?;
+        counts = read_later(level, &gens, &mods, targets, counts, records)?;
         start = end;
     }
-    Ok(read)
+    Ok(counts)
 }
 
 // The generators and the modulators of a bag, which end where those of the next one begin.
@@ -86,102 +99,83 @@ fn bag_between<'g, 'm>(
     (gens, mods)
 }
 
-// Where there are no bags.
-#[tactic(auto, unfolding(bank_format::specs::Zones::zones_read, bank_format::specs::Zones::global_read, bank_format::specs::Zones::ignored, bank_format::specs::Zones::looked_at, bank_format::specs::Zones::gens_dropped, bank_format::specs::Zones::ranges_mended))]
-fn no_zones(alloc: Global) -> BagsRead
-    ensures { (at : Level) → result ≡ bags_read at [] }
-{
-    BagsRead {
-        global: no_global(alloc),
-        zones: NumberedList::new(alloc),
-        counts: ZoneCounts {
-            zones: 0,
-            gens: 0,
-            ranges: 0,
-        },
-    }
-}
-
-// The global zone that stands for none.
-fn no_global(alloc: Global) -> GlobalZone
-    ensures { result ≡ no_global }
-{
-    GlobalZone {
-        gens: GenMap::new(alloc),
-        mods: NumberedList::new(alloc),
-    }
-}
-
 // Reads the first bag, which is the global zone where it has no target.
 fn read_first(
-    alloc: Global,
     level: Level,
     generators: &Table<'_, Generator>,
     modulators: &Table<'_, Modulator>,
-) -> Result<BagsRead, OutOfMemory>
-    ensures { IfOk result (λ read. read ≡ bags_read level (bagged generators.now modulators.now ∷ [])) }
+    targets: Targets,
+    records: &mut Recs,
+) -> Result<ZoneCounts, Failure<ReadFault>>
+    ensures passes { PassesGivenMemory (λ counts. counts) result
+        (steps_of_bags level targets.count targets.missing (bagged generators.now modulators.now ∷ []))
+        (counts_read level (bagged generators.now modulators.now ∷ [])) }
+    ensures records { OnOk result (Adds records.old records.new (own_bags level (bagged generators.now modulators.now ∷ []))) }
 {
+    let start = records.gens.len();
     let GensRead {
-        gens,
         target,
         dropped,
         ranges,
-    } = read_gens(alloc, level, generators)?;
-    let mods = read_mods(alloc, modulators)?;
+    } = read_gens(&mut records.gens, level, generators)?;
     let counts = ZoneCounts {
         zones: 0,
         gens: dropped,
         ranges,
     };
-    let mut zones = NumberedList::new(alloc);
     let Some(target) = target else {
-        let global = GlobalZone { gens, mods };
-        return Ok(BagsRead {
-            global,
-            zones,
-            counts,
-        });
+        end_global(records, start, modulators)?;
+        return Ok(counts);
     };
-    push_zone(&mut zones, Zone { target, gens, mods })?;
-    Ok(BagsRead {
-        global: no_global(alloc),
-        zones,
-        counts,
-    })
+    check_target(target, targets)?;
+    end_zone(records, (level.target_operator(), target), modulators)?;
+    Ok(counts)
 }
 
-// Reads a later bag, which is ignored where it has no target.
+// Reads a later bag, which is ignored where it has no target, and counts on.
 fn read_later(
-    alloc: Global,
     level: Level,
     generators: &Table<'_, Generator>,
     modulators: &Table<'_, Modulator>,
-    read: &mut BagsRead,
-) -> Result<(), OutOfMemory>
-    requires few { AreFew read.old.counts }
+    targets: Targets,
+    counts: ZoneCounts,
+    records: &mut Recs,
+) -> Result<ZoneCounts, Failure<ReadFault>>
+    requires few { AreFew counts }
     requires generators { length generators.now ≤ RECORDS }
-    ensures { OnOk result (read.new ≡ with_later level read.old (bagged generators.now modulators.now ∷ [])) }
+    ensures passes { PassesGivenMemory (λ counts. counts) result
+        (steps_of_bags level targets.count targets.missing (bagged generators.now modulators.now ∷ []))
+        (counts_with_later level counts (bagged generators.now modulators.now ∷ [])) }
+    ensures records { OnOk result (Adds records.old records.new (zone_bags level (bagged generators.now modulators.now ∷ []))) }
 {
+    let start = records.gens.len();
     let GensRead {
-        gens,
         target,
         dropped,
         ranges,
-    } = read_gens(alloc, level, generators)?;
+    } = read_gens(&mut records.gens, level, generators)?;
     let Some(target) = target else {
-        read.counts.zones += 1;
-        return Ok(());
+        records.gens.truncate(start);
+        return Ok(ZoneCounts {
+            zones: counts.zones + 1,
+            ..counts
+        });
     };
-    let mods = read_mods(alloc, modulators)?;
-    push_zone(&mut read.zones, Zone { target, gens, mods })?;
-    read.counts.gens += dropped;
-    read.counts.ranges += ranges;
-    Ok(())
+    check_target(target, targets)?;
+    end_zone(records, (level.target_operator(), target), modulators)?;
+    Ok(ZoneCounts {
+        zones: counts.zones,
+        gens: counts.gens + dropped,
+        ranges: counts.ranges + ranges,
+    })
 }
 
-// Puts a zone behind the others.
-fn push_zone(zones: &mut NumberedList<Zone>, zone: Zone) -> Result<(), OutOfMemory>
-    ensures { OnOk result (zones.new ≡ zones.old ++ zone ∷ []) }
+// The target is one of these.
+fn check_target(target: u16, targets: Targets) -> Result<(), ReadFault>
+    ensures { Passes (λ u. u) result (step (nat_lt target targets.count) targets.missing ∷ []) tt }
 {
-    zones.push(zone).map_err(|_| OutOfMemory)
+    if target as usize >= targets.count {
+        return Err(targets.missing);
+    }
+    Ok(())
 }

@@ -1,6 +1,7 @@
 use Rattle.std.proofs.Common.{◌∙◌, ap, refl}
 use Rattle.std.specs.Prelude.{length}
 use Rattle.bank_format.specs.Windows.{rows}
+use Rattle.sf_reader.specs.Owners.{owners_seen}
 use Rattle.sf_reader.proofs.HydraLaws.{few_records, all_mods_inside}
 use Rattle.sf_reader.proofs.MemberLaws.{Levels, presets_fail, instruments_fail, members_hold}
 use Rattle.sf_reader.proofs.owners.read_members.Goals as goal
@@ -69,4 +70,4 @@ returns c =
       instruments_count = c.row_count.ensures ∙ ap (λ hs. length (rows hs)) c.instruments.ensures.heads_are;
       samples_count = c.row_count-2.ensures ∙ ap (λ hs. length (rows hs)) c.samples.ensures;
     } in
-    members_hold t p i n m levels c.in_ok-presets.presets c.in_ok-instruments.instruments c.in_ok-presets.ensures.0 c.in_ok-presets.ensures.1 c.in_ok-instruments.ensures.0 c.in_ok-instruments.ensures.1
+    members_hold t p i n m levels (owners_seen c.in_ok-presets.presets) (owners_seen c.in_ok-instruments.instruments) c.in_ok-presets.ensures.0 c.in_ok-presets.ensures.1 c.in_ok-instruments.ensures.0 c.in_ok-instruments.ensures.1

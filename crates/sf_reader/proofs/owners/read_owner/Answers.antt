@@ -1,29 +1,54 @@
-use Rattle.std.proofs.Common.{◌∙◌, ap, sym}
-use Rattle.sf_base.specs.declared.memory.Failure.TheVariants.{Fault}
-use Rattle.bank_format.specs.Zones.{zones_read}
-use Rattle.sf_reader.specs.declared.zones.BagsRead.{BagsRead}
-use Rattle.sf_reader.specs.Owners.{window_of}
-use Rattle.sf_reader.proofs.OwnerLaws.{read_between, targets_fail, targets_hold}
+use Rattle.std.proofs.Common.{length, ◌-◌, ◌≡◌, ◌∙◌, None, refl, ap, sym, subst}
+use Rattle.bank_format.specs.Steps.{first_broken, Fails}
+use Rattle.sf_reader.specs.declared.zones.ZoneCounts.{ZoneCounts}
+use Rattle.sf_reader.specs.Bags.{counts_read, own_bags, steps_of_bags}
+use Rattle.sf_reader.specs.Records.{Adds}
+use Rattle.sf_reader.specs.Owners.{AreSmall, added, window_of}
+use Rattle.sf_reader.proofs.StepLaws.{given_by}
+use Rattle.sf_reader.proofs.OwnerLaws.{between_as, pushed_as}
 use Rattle.sf_reader.proofs.owners.read_owner.Goals as goal
 
-pub returns-in_err-check_targets : goal.returns-in_err-check_targets
-returns-in_err-check_targets g c =
+pub returns-in_err-counts-clause-passes : goal.returns-in_err-counts-clause-passes
+returns-in_err-counts-clause-passes g c =
     let l = c.args.level.now in
     let h = g.H.RecordedHead.headers in
-    let read = read_between h.first_bag l c.args.head.now c.args.next.now h.level c.LEVEL.result c.part-bags.result c.first_bag.result c.first_bag-2.result _
-    (c.LEVEL.ensures ∙ sym g.met.H.RecordedHead.same_level) c.part-bags.ensures c.first_bag.ensures c.first_bag-2.ensures c.in_ok-global.ensures in
-    targets_fail (λ r. r) _ c.from_residual-in_err-check_targets.result (Fault c.in_err-check_targets.field-0.0) c.args.targets.count c.args.targets.missing c.as_slice.result.now
-    (zones_read h.level (window_of h.first_bag l c.args.head.now c.args.next.now))
-    (c.as_slice.ensures ∙ ap (λ (r : BagsRead). r.zones) read) c.from_residual-in_err-check_targets.ensures.1 c.in_err-check_targets.ensures
+    let n = c.args.targets.count in
+    let missing = c.args.targets.missing in
+    let e = c.in_err-counts.field-0.0 in
+    given_by (λ u. u) tt c.from_residual.result e (steps_of_bags h.level n missing (window_of h.first_bag l c.args.head.now c.args.next.now)) c.from_residual.ensures.1
+    (between_as (λ at bags. Fails e (first_broken (steps_of_bags at n missing bags))) h.first_bag l c.args.head.now c.args.next.now h.level c.LEVEL.result c.part-bags.result c.first_bag.result c.first_bag-2.result
+    (c.LEVEL.ensures ∙ sym g.met.H.RecordedHead.same_level) c.part-bags.ensures c.first_bag.ensures c.first_bag-2.ensures c.in_err-counts.ensures.passes)
 
-pub returns : goal.returns
-returns g c =
+pub add-read-requires : goal.add-read-requires
+add-read-requires g c =
     let l = c.args.level.now in
     let h = g.H.RecordedHead.headers in
-    let read = read_between h.first_bag l c.args.head.now c.args.next.now h.level c.LEVEL.result c.part-bags.result c.first_bag.result c.first_bag-2.result _
-    (c.LEVEL.ensures ∙ sym g.met.H.RecordedHead.same_level) c.part-bags.ensures c.first_bag.ensures c.first_bag-2.ensures c.in_ok-global.ensures in
-    let zones = c.as_slice.ensures ∙ ap (λ (r : BagsRead). r.zones) read in
-    let heads = c.of_record.ensures in (
-      targets_hold c.args.targets.count c.args.targets.missing c.as_slice.result.now (zones_read h.level (window_of h.first_bag l c.args.head.now c.args.next.now)) zones c.in_ok-check_targets.ensures.0,
-      λ i. record { owner = record { head = heads i; global = (read i).global; zones = (read i).zones }; counts = (read i).counts },
+    let counts = between_as (λ at bags. c.in_ok-counts.counts ≡ counts_read at bags) h.first_bag l c.args.head.now c.args.next.now h.level c.LEVEL.result c.part-bags.result c.first_bag.result c.first_bag-2.result
+    (c.LEVEL.ensures ∙ sym g.met.H.RecordedHead.same_level) c.part-bags.ensures c.first_bag.ensures c.first_bag-2.ensures c.in_ok-counts.ensures.passes.1 in
+    subst (λ (d : ZoneCounts). AreSmall (added c.args.read.now.counts d)) (sym counts) c.requires.counts
+
+pub returns-clause-passes : goal.returns-clause-passes
+returns-clause-passes g c =
+    let l = c.args.level.now in
+    let h = g.H.RecordedHead.headers in
+    let n = c.args.targets.count in
+    let missing = c.args.targets.missing in (
+      between_as (λ at bags. first_broken (steps_of_bags at n missing bags) ≡ None) h.first_bag l c.args.head.now c.args.next.now h.level c.LEVEL.result c.part-bags.result c.first_bag.result c.first_bag-2.result
+          (c.LEVEL.ensures ∙ sym g.met.H.RecordedHead.same_level) c.part-bags.ensures c.first_bag.ensures c.first_bag-2.ensures c.in_ok-counts.ensures.passes.0,
+      refl,
     )
+
+pub returns-clause-read : goal.returns-clause-read
+returns-clause-read g c =
+    let l = c.args.level.now in
+    let h = g.H.RecordedHead.headers in
+    let counts = between_as (λ at bags. c.in_ok-counts.counts ≡ counts_read at bags) h.first_bag l c.args.head.now c.args.next.now h.level c.LEVEL.result c.part-bags.result c.first_bag.result c.first_bag-2.result
+    (c.LEVEL.ensures ∙ sym g.met.H.RecordedHead.same_level) c.part-bags.ensures c.first_bag.ensures c.first_bag-2.ensures c.in_ok-counts.ensures.passes.1 in
+    record {
+      heads_grow = pushed_as c.args.read.now.heads.items c.push.new.self.items c.of_record.result (h.read c.args.head.now) c.in_ok-push.ensures.items c.of_record.ensures;
+      first_bags_grow = pushed_as c.args.read.now.first_bags.items c.push-2.new.self.items c.in_ok-past.past (length c.read_bags.new.records.bags.items - 1) c.in_ok-push-2.ensures.items c.in_ok-past.ensures;
+      records_grow =
+          between_as (λ at bags. Adds c.args.read.now.records c.read_bags.new.records (own_bags at bags)) h.first_bag l c.args.head.now c.args.next.now h.level c.LEVEL.result c.part-bags.result c.first_bag.result c.first_bag-2.result
+          (c.LEVEL.ensures ∙ sym g.met.H.RecordedHead.same_level) c.part-bags.ensures c.first_bag.ensures c.first_bag-2.ensures c.in_ok-counts.ensures.records;
+      counts_grow = c.add-read.ensures ∙ ap (added c.args.read.now.counts) counts;
+    }

@@ -2,6 +2,8 @@ use Rattle.std.proofs.Common.{◌∙◌, ap}
 use Rattle.bank_format.specs.Reading.{sm24_dropped}
 use Rattle.sf_reader.specs.Lists.{ListChunks}
 use Rattle.sf_reader.specs.Texts.{texts_in}
+use Rattle.sf_reader.specs.Records.{tables_in}
+use Rattle.sf_reader.specs.Owners.{members_seen}
 use Rattle.sf_reader.proofs.ContentLaws.{found_content}
 use Rattle.sf_reader.proofs.reader.content_of.Goals as goal
 
@@ -9,7 +11,29 @@ pub returns : goal.returns
 returns c =
     let info = ap (λ (w : ListChunks). w.info) c.lists.view_is in
     let sdta = ap (λ (w : ListChunks). w.sdta) c.lists.view_is in
-    found_content c.args.minor c.args.lists.now c.args.tables.now c.args.members c.args.samples c.texts_of-texts.result c.cut_texts.result
+    let presets = c.into_lists-preset_heads.ensures in
+    let instruments = c.into_lists-instrument_heads.ensures in
+    (λ i. record {
+      bank = record {
+        minor = c.args.minor;
+        texts = c.cut_texts.result;
+        preset_heads = presets.heads i;
+        presets = tables_in (presets.records i);
+        instrument_heads = instruments.heads i;
+        instruments = tables_in (instruments.records i);
+        samples = c.args.samples;
+      };
+      counts = record {
+        texts = c.count_cut.result;
+        sm24 = c.count_sm24.result;
+        zones = c.add-zone_counts.result.zones;
+        gens = c.add-zone_counts.result.gens;
+        ranges = c.add-zone_counts.result.ranges;
+        loops = c.count_lost_loops.result;
+        links = c.count_lost_links.result;
+      };
+    })
+    ∙ found_content c.args.minor c.args.lists.now c.args.tables.now (members_seen c.args.members) c.args.samples c.texts_of-texts.result c.cut_texts.result
     c.count_cut.result c.count_sm24.result c.add-zone_counts.result c.count_lost_loops.result c.count_lost_links.result
     (record {
       texts_are = c.texts_of-texts.ensures ∙ ap texts_in info;

@@ -3,30 +3,26 @@ use Rattle.std.specs.Result.{IsErrAnd}
 use Rattle.riff_chunks.specs.Walk.{Chunk}
 use Rattle.sf_base.specs.declared.memory.Failure.{Failure}
 use Rattle.sf_base.specs.declared.memory.Failure.TheVariants.{Fault}
-use Rattle.bank_parts.specs.declared.parts.Parts.{Parts}
+use Rattle.bank_core.specs.declared.flat.Flat.{Flat}
 use Rattle.bank_format.specs.declared.fault.Counts.{Counts}
 use Rattle.bank_format.specs.declared.fault.ReadFault.{ReadFault}
 use Rattle.bank_format.specs.Ids.{IFIL}
 use Rattle.bank_format.specs.Steps.{first_broken, Fails, PassesGivenMemory}
-use Rattle.bank_format.specs.Reading.{Content}
 use Rattle.sf_reader.specs.Lists.{ListChunks}
+use Rattle.sf_reader.specs.FlatContent.{content_seen}
 use Rattle.sf_reader.specs.Content.{list_content_steps, list_content, table_steps, table_content}
 use Rattle.sf_reader.proofs.StepLaws.{given_by}
 use Rattle.sf_reader.proofs.ReadLaws.{Opened, Cut, in_there, in_nine, in_version, in_whole, tables_pass}
 use Rattle.sf_reader.proofs.reader.read_lists.Goals as goal
 
--- the pair that the reader gives, as the definition has it
-abbrev seen : Parts × Counts → Content
-seen r = record { bank = r.0; counts = r.1 }
-
 abbrev three : List Chunk → List Chunk → List Chunk → ListChunks
 three info sdta pdta = record { info = info; sdta = sdta; pdta = pdta }
 
 -- a fault of the chunks v, which are those of the lists
-stops : (r : Result (Parts × Counts) (Failure ReadFault)) (e : Failure ReadFault) (v w : ListChunks) → v ≡ w → IsErrAnd r (λ d. d ≡ e) → Fails e (first_broken (list_content_steps v))
-    → PassesGivenMemory seen r (list_content_steps w) (list_content w)
+stops : (r : Result (Flat × Counts) (Failure ReadFault)) (e : Failure ReadFault) (v w : ListChunks) → v ≡ w → IsErrAnd r (λ d. d ≡ e) → Fails e (first_broken (list_content_steps v))
+    → PassesGivenMemory content_seen r (list_content_steps w) (list_content w)
 stops r e v w same is h =
-    given_by seen (list_content w) r e (list_content_steps w) is (subst (λ (u : ListChunks). Fails e (first_broken (list_content_steps u))) same h)
+    given_by content_seen (list_content w) r e (list_content_steps w) is (subst (λ (u : ListChunks). Fails e (first_broken (list_content_steps u))) same h)
 
 pub returns-in_err-version : goal.returns-in_err-version
 unfolding IFIL
@@ -99,6 +95,6 @@ returns c =
       smpl_is = c.smpl_of-smpl.ensures;
     } in
     let same = c.lists.view_is in
-    subst (λ (u : ListChunks). PassesGivenMemory seen r (list_content_steps u) (list_content u)) same
-    (tables_pass seen r w c.in_ok-version.version.now c.in_ok-bodies.bodies minor t smpl found
-    (subst (λ (u : ListChunks). PassesGivenMemory seen r (table_steps t smpl) (table_content minor u t smpl)) (sym same) c.read_tables.ensures))
+    subst (λ (u : ListChunks). PassesGivenMemory content_seen r (list_content_steps u) (list_content u)) same
+    (tables_pass content_seen r w c.in_ok-version.version.now c.in_ok-bodies.bodies minor t smpl found
+    (subst (λ (u : ListChunks). PassesGivenMemory content_seen r (table_steps t smpl) (table_content minor u t smpl)) (sym same) c.read_tables.ensures))

@@ -1,29 +1,23 @@
 use Rattle.std.proofs.Common.{◌≡◌, ◌++◌, ◌∙◌, ap, sym, subst, None}
 use Rattle.sf_base.specs.declared.memory.Failure.TheVariants.{Fault}
-use Rattle.bank_parts.specs.declared.parts.Parts.{Parts}
 use Rattle.sample_view.specs.Words.{words}
-use Rattle.bank_format.specs.declared.fault.Counts.{Counts}
 use Rattle.bank_format.specs.Steps.{first_broken}
 use Rattle.bank_format.specs.Windows.{rows}
-use Rattle.bank_format.specs.Reading.{Content, samples_read}
+use Rattle.bank_format.specs.Reading.{samples_read}
 use Rattle.bank_format.specs.ReadSteps.{total_steps}
-use Rattle.sf_reader.specs.declared.owners.Members.{Members}
-use Rattle.sf_reader.specs.Owners.{AreSmall, added, members_of, member_steps}
+use Rattle.sf_reader.specs.Owners.{AreSmall, FlatMembers, added, members_of, member_steps}
+use Rattle.sf_reader.specs.FlatContent.{content_seen}
 use Rattle.sf_reader.specs.Content.{checked_steps, table_content, content_with}
 use Rattle.sf_reader.proofs.StepLaws.{given_by, given_front, given_after, none_after}
 use Rattle.sf_reader.proofs.TableLaws.{checked}
 use Rattle.sf_reader.proofs.MemberLaws.{members_small}
 use Rattle.sf_reader.proofs.reader.read_tables.Goals as goal
 
--- the pair that the reader gives, as the definition has it
-abbrev seen : Parts × Counts → Content
-seen r = record { bank = r.0; counts = r.1 }
-
 pub returns-in_err-check_tables : goal.returns-in_err-check_tables
 returns-in_err-check_tables c =
     let t = c.args.tables.now in
     let s = c.args.smpl.now in
-    given_front seen (table_content c.args.minor c.args.lists.now t s) c.from_residual.result (Fault c.in_err-check_tables.field-0.0)
+    given_front content_seen (table_content c.args.minor c.args.lists.now t s) c.from_residual.result (Fault c.in_err-check_tables.field-0.0)
     (checked_steps t s) (member_steps t ++ total_steps (rows t.shdr)) c.from_residual.ensures.1 c.in_err-check_tables.ensures.passes
 
 pub read_members-requires-clause-counts : goal.read_members-requires-clause-counts
@@ -38,8 +32,8 @@ returns-in_err-members c =
     let s = c.args.smpl.now in
     let r = c.from_residual-in_err-members.result in
     let value = table_content c.args.minor c.args.lists.now t s in
-    given_after seen value r (checked_steps t s) (member_steps t ++ total_steps (rows t.shdr)) c.in_ok-check_tables.ensures.passes.0
-    (given_front seen value r c.in_err-members.field-0.0 (member_steps t) (total_steps (rows t.shdr)) c.from_residual-in_err-members.ensures.1 c.in_err-members.ensures)
+    given_after content_seen value r (checked_steps t s) (member_steps t ++ total_steps (rows t.shdr)) c.in_ok-check_tables.ensures.passes.0
+    (given_front content_seen value r c.in_err-members.field-0.0 (member_steps t) (total_steps (rows t.shdr)) c.from_residual-in_err-members.ensures.1 c.in_err-members.ensures)
 
 pub returns-in_err-check_total : goal.returns-in_err-check_total
 returns-in_err-check_total c =
@@ -47,15 +41,15 @@ returns-in_err-check_total c =
     let s = c.args.smpl.now in
     let r = c.from_residual-in_err-check_total.result in
     let value = table_content c.args.minor c.args.lists.now t s in
-    given_after seen value r (checked_steps t s) (member_steps t ++ total_steps (rows t.shdr)) c.in_ok-check_tables.ensures.passes.0
-    (given_after seen value r (member_steps t) (total_steps (rows t.shdr)) c.in_ok-members.ensures.0
-    (given_by seen value r (Fault c.in_err-check_total.field-0.0) (total_steps (rows t.shdr)) c.from_residual-in_err-check_total.ensures.1 (rw c.samples.ensures at c.in_err-check_total.ensures)))
+    given_after content_seen value r (checked_steps t s) (member_steps t ++ total_steps (rows t.shdr)) c.in_ok-check_tables.ensures.passes.0
+    (given_after content_seen value r (member_steps t) (total_steps (rows t.shdr)) c.in_ok-members.ensures.0
+    (given_by content_seen value r (Fault c.in_err-check_total.field-0.0) (total_steps (rows t.shdr)) c.from_residual-in_err-check_total.ensures.1 (rw c.samples.ensures at c.in_err-check_total.ensures)))
 
 pub content_of-requires : goal.content_of-requires
 content_of-requires c =
     let t = c.args.tables.now in
     let counts = (checked t c.args.smpl.now c.in_ok-check_tables.ensures.passes.0).counts in
-    subst (λ (m : Members). AreSmall (added m.presets.counts m.instruments.counts)) (sym c.in_ok-members.ensures.1) (members_small t counts)
+    subst (λ (m : FlatMembers). AreSmall (added m.presets.counts m.instruments.counts)) (sym c.in_ok-members.ensures.1) (members_small t counts)
 
 pub returns : goal.returns
 returns c =
@@ -67,6 +61,6 @@ returns c =
       none_after (checked_steps t s) (member_steps t ++ total_steps (rows t.shdr)) c.in_ok-check_tables.ensures.passes.0
           (none_after (member_steps t) (total_steps (rows t.shdr)) c.in_ok-members.ensures.0 total),
       c.content_of.ensures
-          ∙ ap (λ (m : Members). content_with c.args.minor w t m c.in_ok-samples.samples) c.in_ok-members.ensures.1
+          ∙ ap (λ (m : FlatMembers). content_with c.args.minor w t m c.in_ok-samples.samples) c.in_ok-members.ensures.1
           ∙ ap (content_with c.args.minor w t (members_of t)) samples,
     )

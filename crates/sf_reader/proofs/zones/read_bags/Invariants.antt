@@ -1,7 +1,6 @@
-use Rattle.std.proofs.Common.{◌≡◌, ◌∷◌}
+use Rattle.std.proofs.Common.{◌∷◌}
 use Rattle.bank_format.specs.Reading.{bags_in}
-use Rattle.sf_reader.specs.Bags.{bags_read}
-use Rattle.sf_reader.specs.Later.{with_later}
+use Rattle.sf_reader.proofs.Later.{Left}
 use Rattle.sf_reader.proofs.zones.read_bags.Given as goal
 
 -- what was read, gone on with by the bags that are left, is what all say
@@ -9,4 +8,4 @@ abbrev pub invariant-loop-end : goal.invariant-loop-end
 invariant-loop-end l =
     (goal.iterator-loop-end).can_next l.end-iterator
     × (goal.iterator-loop-end).is_finite l.end-iterator
-    × (with_later l.level l.read (bags_in (l.start ∷ l.end-iterator) l.generators l.modulators) ≡ bags_read l.level (bags_in l.bags l.generators l.modulators))
+    × Left l.level l.targets.count l.targets.missing l.fn.records l.records l.counts (bags_in (l.start ∷ l.end-iterator) l.generators l.modulators) (bags_in l.bags l.generators l.modulators)

@@ -1,13 +1,49 @@
+use Rattle.std.proofs.Common.{◌∙◌, take, ap, sym, refl}
+use Rattle.std.specs.FinMap.{entries}
+use Rattle.sf_base.specs.declared.memory.Failure.TheVariants.{Fault}
+use Rattle.bank_format.specs.Steps.{first_broken}
 use Rattle.bank_format.specs.Reading.{bagged}
-use Rattle.sf_reader.proofs.Later.{later_ignored_as, later_zone_as}
+use Rattle.bank_format.specs.Zones.{gens_read}
+use Rattle.sf_reader.proofs.Adding.{adds_as, adds_same, adds_held}
+use Rattle.sf_reader.proofs.EntryLaws.{take-front}
+use Rattle.sf_reader.proofs.Later.{steps_none, steps_one, bags_none, bags_one, ignored_counts, zone_counts, target_fails}
 use Rattle.sf_reader.proofs.zones.read_later.Goals as goal
 
-pub returns-in_default : goal.returns-in_default
-returns-in_default c =
-    later_ignored_as c.args.level (bagged c.args.generators.now c.args.modulators.now) c.in_ok-gens.field-0 c.in_ok-gens.ensures.all
-    c.args.read.now c.in_default.is
+pub returns-in_default-clause-passes : goal.returns-in_default-clause-passes
+returns-in_default-clause-passes c =
+    let r = bagged c.args.generators.now c.args.modulators.now in
+    let g = c.in_ok-target.field-0 in (
+      ap first_broken (steps_none c.args.level r g c.in_ok-target.ensures.all c.args.targets.count c.args.targets.missing c.in_default.is),
+      ignored_counts c.args.level r g c.in_ok-target.ensures.all c.args.counts c.in_default.is,
+    )
 
-pub returns : goal.returns
-returns c =
-    later_zone_as c.args.level (bagged c.args.generators.now c.args.modulators.now) c.in_ok-gens.field-0 c.in_ok-gens.ensures.all
-    c.in_ok-mods.mods c.in_ok-mods.ensures c.push_zone.new.zones c.args.read.now c.in-Some.target c.in-Some.is c.in_ok-push_zone.ensures
+pub returns-in_default-clause-records : goal.returns-in_default-clause-records
+returns-in_default-clause-records c =
+    let r = bagged c.args.generators.now c.args.modulators.now in
+    let g = c.in_ok-target.field-0 in
+    let gens = c.truncate.ensures.items ∙ (λ i. take ((c.len-start.ensures ∙ c.args.records.now.gens.ok.0) i) (c.in_ok-target.ensures.gens i)) ∙ take-front c.args.records.now.gens.items (entries (gens_read c.args.level c.args.generators.now)) in
+    adds_as c.args.records.now _ _ _ (bags_none c.args.level r g c.in_ok-target.ensures.all c.in_default.is)
+    (adds_same c.args.records.now _ refl gens refl)
+
+pub returns-in_err-check_target-clause-passes : goal.returns-in_err-check_target-clause-passes
+returns-in_err-check_target-clause-passes c =
+    let r = bagged c.args.generators.now c.args.modulators.now in
+    let g = c.in_ok-target.field-0 in
+    target_fails c.args.level r g c.in_ok-target.ensures.all c.args.targets.count c.args.targets.missing c.in-Some.target c.in-Some.is (λ c. c) _
+    c.from_residual-in_err-check_target.result (Fault c.in_err-check_target.field-0.0) c.from_residual-in_err-check_target.ensures.1 c.in_err-check_target.ensures
+
+pub returns-clause-passes : goal.returns-clause-passes
+returns-clause-passes c =
+    let r = bagged c.args.generators.now c.args.modulators.now in
+    let g = c.in_ok-target.field-0 in (
+      ap first_broken (sym (steps_one c.args.level r g c.in_ok-target.ensures.all c.args.targets.count c.args.targets.missing c.in-Some.target c.in-Some.is)) ∙ c.in_ok-check_target.ensures.0,
+      zone_counts c.args.level r g c.in_ok-target.ensures.all c.args.counts c.in-Some.target c.in-Some.is,
+    )
+
+pub returns-clause-records : goal.returns-clause-records
+returns-clause-records c =
+    let r = bagged c.args.generators.now c.args.modulators.now in
+    let g = c.in_ok-target.field-0 in
+    let ends = rw c.target_operator.ensures at c.in_ok-end_zone.ensures in
+    adds_as c.args.records.now c.end_zone.new.records _ _ (bags_one c.args.level r g c.in_ok-target.ensures.all c.in-Some.target c.in-Some.is)
+    (adds_held c.args.records.now _ c.end_zone.new.records (entries (gens_read c.args.level c.args.generators.now)) _ c.args.modulators.now (record { bags_stay = refl; mods_stay = refl; gens_grow = c.in_ok-target.ensures.gens }) ends)

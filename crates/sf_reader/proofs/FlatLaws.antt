@@ -1,0 +1,99 @@
+-- What is read of tables, in flat lists.
+use Rattle.std.proofs.Common.{◌≡◌, List, [], ◌∷◌, length, map, Option, Some, None, IsSome, refl, ap, subst, arith}
+use Rattle.std.specs.Prelude.{MatchOption}
+use Rattle.sf_base.specs.Fields.{field_at}
+use Rattle.generators.specs.Levels.{target_operator}
+use Rattle.flat_records.specs.Bags as flat
+use Rattle.owner_bags.specs.Owned.{all_bags, flat_of}
+use Rattle.bank_parts.specs.declared.parts.WithZones.{WithZones}
+use Rattle.bank_parts.specs.declared.parts.Parts.{Parts}
+use Rattle.bank_parts.specs.Bagged.{bags_of}
+use Rattle.bank_parts.specs.Sound.{IsSound}
+use Rattle.bank_core.specs.declared.flat.Flat.{Flat}
+use Rattle.bank_core.specs.Heads.{head_records}
+use Rattle.bank_core.specs.Flat.{IsFlatOf}
+use Rattle.bank_core.proofs.FlatLaws.{presets_plain, instruments_plain, same_bank}
+use Rattle.hydra_records.specs.declared.head.PresetHead.{PresetHead}
+use Rattle.hydra_records.specs.declared.head.InstrumentHead.{InstrumentHead}
+use Rattle.bank_format.specs.Ids.{IFIL}
+use Rattle.bank_format.specs.Windows.{together, rows}
+use Rattle.bank_format.specs.Zones.{Bagged}
+use Rattle.bank_format.specs.Tables.{Tables, Headers, presets, instruments}
+use Rattle.bank_format.specs.Chunks.{body_in, points_in}
+use Rattle.bank_format.specs.Reading.{bags_in, preset_windows, instrument_windows, owner_read, samples_read, bank_of, counts_of, content_of}
+use Rattle.sf_reader.specs.Lists.{ListChunks}
+use Rattle.sf_reader.specs.Bags.{own_bags}
+use Rattle.sf_reader.specs.Owners.{members_of}
+use Rattle.sf_reader.specs.FlatContent.{FlatBank, heads_of, tables_at, flat_bank, flat_content, bank_seen}
+use Rattle.sf_reader.specs.Content.{content_with}
+use Rattle.sf_reader.proofs.TableLaws.{rows_windows}
+
+-- ---- of one level
+
+module _ {H R : Type 0} (h : Headers H R) where
+  heads_together : (rs : List R) (ws : List (List Bagged)) → length rs ≡ length ws → map (λ (x : WithZones H). x.head) (together (owner_read h) rs ws) ≡ map h.read rs
+  heads_together [] ws e = refl
+  heads_together (r ∷ rs) [] e = absurd (omega (arith, e))
+  heads_together (r ∷ rs) (w ∷ ws) e = ap (λ xs. h.read r ∷ xs) (heads_together rs ws (omega (arith, e)))
+
+  bags_together : (rs : List R) (ws : List (List Bagged)) → length rs ≡ length ws → map (bags_of (target_operator h.level)) (together (owner_read h) rs ws) ≡ map (own_bags h.level) ws
+  bags_together [] [] e = refl
+  bags_together [] (w ∷ ws) e = absurd (omega (arith, e))
+  bags_together (r ∷ rs) [] e = absurd (omega (arith, e))
+  bags_together (r ∷ rs) (w ∷ ws) e = ap (λ bs. own_bags h.level w ∷ bs) (bags_together rs ws (omega (arith, e)))
+
+  module _ (rs : List R) (ws : List (List Bagged)) (e : length rs ≡ length ws) where
+    heads_flat : heads_of h.level (together (owner_read h) rs ws) ≡ head_records (map h.read rs) (flat_of (map (own_bags h.level) ws)).begins
+    heads_flat = λ i. head_records (heads_together rs ws e i) (flat_of (bags_together rs ws e i)).begins
+
+    records_flat : tables_at h.level (together (owner_read h) rs ws) ≡ flat.tables_of (all_bags (map (own_bags h.level) ws))
+    records_flat = ap (λ bs. flat.tables_of (all_bags bs)) (bags_together rs ws e)
+
+-- ---- of all nine lists
+
+pub content_flat : (w : ListChunks) (t : Tables)
+    → flat_content (content_of w.info w.sdta t) ≡ content_with (field_at 2 2 (body_in IFIL w.info)) w t (members_of t) (samples_read (points_in w.sdta) (rows t.shdr))
+unfolding bank_of counts_of content_with preset_windows instrument_windows
+content_flat w t =
+    let of_presets = rows_windows (bags_in t.pbag t.pgen t.pmod) (λ (h : PresetHead). h.bag) t.phdr in
+    let of_instruments = rows_windows (bags_in t.ibag t.igen t.imod) (λ (h : InstrumentHead). h.bag) t.inst in
+    let preset_heads = heads_flat presets (rows t.phdr) (preset_windows t) of_presets in
+    let preset_records = records_flat presets (rows t.phdr) (preset_windows t) of_presets in
+    let instrument_heads = heads_flat instruments (rows t.inst) (instrument_windows t) of_instruments in
+    let instrument_records = records_flat instruments (rows t.inst) (instrument_windows t) of_instruments in
+    let all = content_with (field_at 2 2 (body_in IFIL w.info)) w t (members_of t) (samples_read (points_in w.sdta) (rows t.shdr)) in
+    λ i. record {
+      bank = record {
+        minor = all.bank.minor;
+        texts = all.bank.texts;
+        preset_heads = preset_heads i;
+        presets = preset_records i;
+        instrument_heads = instrument_heads i;
+        instruments = instrument_records i;
+        samples = all.bank.samples;
+      };
+      counts = all.counts;
+    }
+
+-- ---- the bank of flat lists
+
+pub is_flat : (f : Flat) (b : Parts) → bank_seen f ≡ flat_bank b → IsFlatOf f b
+is_flat f b e = record {
+  minor = ap (λ (x : FlatBank). x.minor) e;
+  texts = ap (λ (x : FlatBank). x.texts) e;
+  presets = record { heads = ap (λ (x : FlatBank). x.preset_heads) e; records = ap (λ (x : FlatBank). x.presets) e };
+  instruments = record { heads = ap (λ (x : FlatBank). x.instrument_heads) e; records = ap (λ (x : FlatBank). x.instruments) e };
+  samples = ap (λ (x : FlatBank). x.samples) e;
+}
+
+-- where a sound bank has them, one is found
+pub is_there : (f : Flat) (o : Option Parts) → MatchOption o ((b : Parts) → IsSound b → IsFlatOf f b → ⊥) (λ b. IsFlatOf f b) → (b : Parts) → IsSound b → IsFlatOf f b → IsSome o
+is_there f None h b sound are = absurd (h b sound are)
+is_there f (Some c) h b sound are = refl
+
+pub has_lists : (f : Flat) (o : Option Parts) (c : Parts) → MatchOption o ((b : Parts) → IsSound b → IsFlatOf f b → ⊥) (λ b. IsFlatOf f b) → o ≡ Some c → IsFlatOf f c
+has_lists f o c h e = subst (λ p. MatchOption p ((b : Parts) → IsSound b → IsFlatOf f b → ⊥) (λ b. IsFlatOf f b)) e h
+
+-- it is the only one
+pub bank_is : (f : Flat) (b c : Parts) → IsSound b → IsSound c → IsFlatOf f b → IsFlatOf f c → b ≡ c
+bank_is f b c sound sound_too are are_too = same_bank f b c sound (presets_plain c sound_too) (instruments_plain c sound_too) are are_too

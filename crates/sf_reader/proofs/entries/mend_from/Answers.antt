@@ -1,0 +1,33 @@
+use Rattle.std.proofs.Common.{◌∙◌, ◌^◌, ◌<◌, ℕ, List, drop, ap, subst, arith}
+use Rattle.generators.specs.Places.{IsAt, IsGapFor}
+use Rattle.sf_reader.proofs.EntryLaws.{rest_is, set-front, set-map, out_of_order, mended_is, none_out_of_order, none_mended}
+use Rattle.sf_reader.proofs.entries.mend_from.Goals as goal
+
+pub returns-in_default-clause-changed : goal.returns-in_default-clause-changed
+returns-in_default-clause-changed c =
+    let rest = rest_is c.args.start c.deref.result.now ∙ ap (drop c.args.start) c.deref.ensures.value in
+    let absent = subst (λ (l : List (ℕ × ℕ)). IsGapFor l c.args.operator c.in_default.field-0) rest c.in_default.ensures.absent in
+    none_out_of_order c.args.start c.args.entries.now.items c.requires c.args.operator c.in_default.field-0 absent
+
+pub returns-in_default-clause-mended : goal.returns-in_default-clause-mended
+returns-in_default-clause-mended c =
+    let rest = rest_is c.args.start c.deref.result.now ∙ ap (drop c.args.start) c.deref.ensures.value in
+    let absent = subst (λ (l : List (ℕ × ℕ)). IsGapFor l c.args.operator c.in_default.field-0) rest c.in_default.ensures.absent in
+    none_mended c.args.start c.args.entries.now.items c.requires c.args.operator c.in_default.field-0 absent
+
+pub returns : goal.returns
+returns c =
+    let start = c.args.start in
+    let es = c.args.entries.now.items in
+    let at = c.in-Ok.at in
+    let rest = rest_is start c.deref.result.now ∙ ap (drop start) c.deref.ensures.value in
+    let found = subst (λ (l : List (ℕ × ℕ)). IsAt l c.args.operator at) rest c.in-Ok.ensures.found in
+    let v = c.mended_amount-mended.result in
+    let v_is = c.mended_amount-mended.ensures in
+    let fits : v < 2 ^ 16 = omega (arith, c.mended_amount-mended.type_inv) in
+    record {
+      front = set-front start es c.requires c.args.operator v (omega arith) fits at found;
+      map = set-map start es c.requires c.args.operator v (omega arith) fits at found;
+      changed = out_of_order start es c.requires c.args.operator at v c.index.result.now found c.index.ensures v_is;
+      mended = mended_is start es c.requires c.args.operator at v c.index.result.now found c.index.ensures v_is (omega arith) fits;
+    }

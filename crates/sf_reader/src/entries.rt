@@ -1,0 +1,70 @@
+//! A map of generators as the last entries of a list.
+ghost use Rattle.std.specs.Prelude.{◌≡◌, take, OnOk};
+ghost use Rattle.std.specs.FinMap.{insert};
+ghost use Rattle.sf_reader.specs.Entries.{EndsInMap, map_from};
+ghost use Rattle.sf_reader.specs.Gens.{mended_at, is_out_of_order};
+ghost use Rattle.bank_format.specs.Zones.{range_mended};
+
+use generators::{Range, search_entries};
+use sf_base::OutOfMemory;
+
+/// The highest key and the highest velocity.
+const HIGHEST: u8 = 127;
+
+/// Sets an operator in the map of the entries from `start` on.
+pub(crate) fn set_from(
+    entries: &mut Vec<(u16, u16)>,
+    start: usize,
+    operator: u16,
+    amount: u16,
+) -> Result<(), OutOfMemory>
+    requires { EndsInMap start entries.old.items }
+    ensures front { take start entries.new.items ≡ take start entries.old.items }
+    ensures map { EndsInMap start entries.new.items }
+    ensures set { OnOk result (map_from start entries.new.items ≡ insert (map_from start entries.old.items) operator amount) }
+{
+    match search_entries(&entries[start..], operator) {
+        Ok(at) => {
+            entries[start + at] = (operator, amount);
+            Ok(())
+        }
+        Err(at) => {
+            entries.insert(start + at, (operator, amount))?;
+            Ok(())
+        }
+    }
+}
+
+/// Mends the range of an operator in that map, and says whether it changed.
+pub(crate) fn mend_from(entries: &mut Vec<(u16, u16)>, start: usize, operator: u16) -> bool
+    requires { EndsInMap start entries.old.items }
+    ensures front { take start entries.new.items ≡ take start entries.old.items }
+    ensures map { EndsInMap start entries.new.items }
+    ensures changed { result ≡ is_out_of_order operator (map_from start entries.old.items) }
+    ensures mended { map_from start entries.new.items ≡ mended_at operator (map_from start entries.old.items) }
+{
+    let Ok(at) = search_entries(&entries[start..], operator) else {
+        return false;
+    };
+    let amount = entries[start + at].1;
+    let mended = mended_amount(amount);
+    entries[start + at] = (operator, mended);
+    mended != amount
+}
+
+// A range whose ends are cut to the highest and put in order.
+fn mended_amount(amount: u16) -> u16
+    ensures { result ≡ range_mended amount }
+{
+    let Range { low, high } = Range::of_amount(amount);
+    let (low, high) = (low.min(HIGHEST), high.min(HIGHEST));
+    let range = if low <= high {
+        Range { low, high }
+    } else {
+        Range {
+            low: high,
+            high: low,
+        }
+    };
+    range.to_amount()
+}

@@ -1,0 +1,122 @@
+//! The flat lists of records of a level, which grow at their ends.
+ghost use Rattle.std.specs.Prelude.{◌≡◌, ◌≤◌, ◌-◌, ◌++◌, ◌∷◌, [], List, length, IfOk, OnOk};
+ghost use Rattle.std.specs.FinMap.{entries};
+ghost use Rattle.flat_records.specs.declared.bags.Recs.{Recs};
+ghost use Rattle.flat_records.specs.Bags.{Bag, tables_of};
+ghost use Rattle.bank_parts.specs.declared.parts.GlobalZone.{GlobalZone};
+ghost use Rattle.bank_parts.specs.Bagged.{global_bags};
+ghost use Rattle.sf_reader.specs.Records.{AreSoFar, Adds, HoldsGens, EndsBag, tables_in};
+
+use bank_core::Recs;
+use hydra_records::Table;
+use modulators::Modulator;
+use sf_base::OutOfMemory;
+use std::alloc::Global;
+
+/// The modulator that ends a list of modulators.
+const LAST_MODULATOR: Modulator = Modulator {
+    source: 0,
+    dest: 0,
+    amount: 0,
+    amount_source: 0,
+    transform: 0,
+};
+
+/// The lists of no bags, with room for so many records. Generators and modulators have their terminals only
+/// after `end_records`.
+pub(crate) fn no_records(
+    alloc: Global,
+    bags: usize,
+    gens: usize,
+    mods: usize,
+) -> Result<Recs, OutOfMemory>
+    ensures { IfOk result (λ records. AreSoFar records []) }
+{
+    let mut bags = Vec::with_capacity(alloc, bags)?;
+    bags.push((0, 0))?;
+    let gens = Vec::with_capacity(alloc, gens)?;
+    let mods = Vec::with_capacity(alloc, mods)?;
+    Ok(Recs { bags, gens, mods })
+}
+
+/// Ends a zone's bag, whose generators stand behind the others already, with its target, the amount of an
+/// operator, and its modulators.
+pub(crate) fn end_zone(
+    records: &mut Recs,
+    target: (u16, u16),
+    modulators: &Table<'_, Modulator>,
+) -> Result<(), OutOfMemory>
+    ensures { OnOk result (EndsBag records.old records.new (target ∷ []) modulators.now) }
+{
+    records.gens.push(target)?;
+    end_bag(records, modulators)
+}
+
+/// Ends the bag of a global zone, whose generators stand behind the others from `start` on, where the zone holds
+/// something.
+pub(crate) fn end_global(
+    records: &mut Recs,
+    start: usize,
+    modulators: &Table<'_, Modulator>,
+) -> Result<(), OutOfMemory>
+    requires { start ≤ length records.old.gens.items }
+    ensures { OnOk result ((before : Recs) (g : GlobalZone) → HoldsGens before records.old (entries g.gens) → start ≡ length before.gens.items
+        → g.mods ≡ modulators.now → Adds before records.new (global_bags g)) }
+{
+    let gens = records.gens.len() - start;
+    let mods = modulators.len();
+    if gens == 0 && mods == 0 {
+        return Ok(());
+    }
+    end_bag(records, modulators)
+}
+
+// Ends a bag, whose generators stand behind the others already, with its modulators.
+fn end_bag(records: &mut Recs, modulators: &Table<'_, Modulator>) -> Result<(), OutOfMemory>
+    ensures { OnOk result (EndsBag records.old records.new [] modulators.now) }
+{
+    push_mods(&mut records.mods, modulators)?;
+    let gens = index(records.gens.len())?;
+    let mods = index(records.mods.len())?;
+    records.bags.push((gens, mods))?;
+    Ok(())
+}
+
+// Puts modulators behind the others.
+fn push_mods(
+    mods: &mut Vec<Modulator>,
+    modulators: &Table<'_, Modulator>,
+) -> Result<(), OutOfMemory>
+    ensures { OnOk result (mods.new.items ≡ mods.old.items ++ modulators.now) }
+{
+    for modulator in modulators.iter() {
+        mods.push(modulator)?;
+    }
+    Ok(())
+}
+
+/// How many bags there are, as an index.
+pub(crate) fn bag_count(records: &Recs) -> Result<u16, OutOfMemory>
+    ensures { IfOk result (λ count. count ≡ length records.now.bags.items - 1) }
+{
+    index(records.bags.len().saturating_sub(1))
+}
+
+// A count as an index, which has 16 bits. No table of a file that is read has more records.
+fn index(count: usize) -> Result<u16, OutOfMemory>
+    ensures { IfOk result (λ index. index ≡ count) }
+{
+    if count > u16::MAX as usize {
+        return Err(OutOfMemory);
+    }
+    Ok(count as u16)
+}
+
+/// Puts the terminals behind the generators and the modulators.
+pub(crate) fn end_records(records: &mut Recs) -> Result<(), OutOfMemory>
+    ensures { OnOk result ((all : List Bag) → AreSoFar records.old all → tables_in records.new ≡ tables_of all) }
+{
+    records.gens.push((0, 0))?;
+    records.mods.push(LAST_MODULATOR)?;
+    Ok(())
+}
