@@ -24,6 +24,7 @@ pub trait Linked: Renumber + Drop + Sized {
     /// One that only keeps a place. Takes no memory.
     fn blank(alloc: Global) -> Self;
 
+    // What has no link links to no member, and stays as it is when members get new numbers.
     ghost links_nowhere: { (number : ℕ) (x : Self) → has_link x ≡ false → links_to number x ≡ false };
 
     ghost stays: { (by : Renumbering) (x : Self) → has_link x ≡ false → Self.with_new_numbers by x ≡ x };

@@ -1,4 +1,4 @@
-use Rattle.std.proofs.Common.{◌≡◌, ◌<◌, ◌≤◌, ◌∙◌, ◌+◌, ◌-◌, ap, insert, length, sym, subst, refl, arith}
+use Rattle.std.proofs.Common.{◌≡◌, ◌≤◌, ◌∙◌, ap, length, sym, subst, arith}
 use Rattle.linked_members.specs.Within.{changed_within}
 use Rattle.linked_members.proofs.Parts.{one_put, one_inserted, lent_behind}
 use Rattle.linked_members.proofs.ended.EndedList.insert_renumbered.Goals as goal

@@ -1,4 +1,4 @@
-use Rattle.std.proofs.Common.{◌≡◌, ◌<◌, ◌≤◌, ◌∙◌, ◌+◌, length, remove, subst, sym, arith}
+use Rattle.std.proofs.Common.{◌≡◌, ◌<◌, ◌≤◌, ◌∙◌, length, remove, subst, sym, arith}
 use Rattle.std.proofs.lemmas.List.Edits.{length-remove}
 use Rattle.linked_members.proofs.Spans.{IsSpanOf, span_removed}
 use Rattle.linked_members.proofs.members.LinkedMembers.remove.Goals as goal
