@@ -65,27 +65,25 @@ module _ {X Y : Type 0} {p : Part X} {q : Part Y} {o : X → List Operand} {r : 
     fit = λ a h. both_fit (o a.0) (r a.1) (l.fit a.0 h.0) (m.fit a.1 h.1);
   }
 
+-- the same parts, in another order of reading
+pub regrouped : {X Y Z : Type 0} (s : Result (Took X) LineFault) (f : X → Part Y) (g : Y → Part Z) → and_then (and_then s f) g ≡ and_then s (λ x. f x >>= g)
+regrouped (Err e) f g = refl
+regrouped (Ok t) f g = refl
+
+pub same_behind : {X Z : Type 0} {f g : X → Part Z} (s : Result (Took X) LineFault) → ((x : X) (line : List Said) → f x line ≡ g x line) → and_then s f ≡ and_then s g
+same_behind (Err e) h = refl
+same_behind (Ok t) h = h t.value t.rest
+
 -- what is made of one part's value and then of another's is made of the pair's
 module _ {X Y Z : Type 0} (p : Part X) (q : Part Y) (make : X → Y → Z) where
   pub of_two : (line : List Said) → (p >>= λ x. q >>= λ y. pure (make x y)) line ≡ (pair_part p q >>= λ a. pure (make a.0 a.1)) line
-  of_two line = from (p line)
-    where
-      behind_first : (x : X) (s : Result (Took Y) LineFault) → and_then s (λ y. pure (make x y)) ≡ and_then {X = X × Y} (and_then s (λ y. pure (x, y))) (λ a. pure (make a.0 a.1))
-      behind_first x (Err e) = refl
-      behind_first x (Ok u) = refl
-
-      from : (s : Result (Took X) LineFault) → and_then s (λ x. q >>= λ y. pure (make x y)) ≡ and_then {X = X × Y} (and_then s (λ x. q >>= λ y. pure (x, y))) (λ a. pure (make a.0 a.1))
-      from (Err e) = refl
-      from (Ok t) = behind_first t.value (q t.rest)
+  of_two line =
+      sym (regrouped (p line) (λ x. q >>= λ y. pure (x, y)) (λ a. pure (make a.0 a.1)) ∙ same_behind (p line) (λ x line. regrouped (q line) (λ y. pure (x, y)) (λ a. pure (make a.0 a.1))))
 
 -- the same, where the other is a pair itself, with laws of its own
 module _ {X Y Z : Type 0} (p : Part X) {q : Part Y} {r : Y → List Operand} {G : Y → Type 0} where
   pub of_more : IsLawful q r G → (make : X → Y → Z) → {f : X → Part Z} → ((x : X) (line : List Said) → f x line ≡ (q >>= λ y. pure (make x y)) line) → (line : List Said) → (p >>= f) line ≡ (pair_part p q >>= λ a. pure (make a.0 a.1)) line
-  of_more m make {f} h line = from (p line) ∙ of_two p q make line
-    where
-      from : (s : Result (Took X) LineFault) → and_then s f ≡ and_then s (λ x. q >>= λ y. pure (make x y))
-      from (Err e) = refl
-      from (Ok t) = h t.value t.rest
+  of_more m make h line = same_behind (p line) h ∙ of_two p q make line
 
 -- a value that is made of another, where each is made so
 module _ {X Y : Type 0} {p : Part X} {o : X → List Operand} {F : X → Type 0} (l : IsLawful p o F) {q : Part Y} {r : Y → List Operand} {G : Y → Type 0} (make : X → Y) (back : Y → X) where
@@ -110,27 +108,15 @@ module _ {X Y : Type 0} {p : Part X} {o : X → List Operand} {F : X → Type 0}
 number_lawful : (limit : ℕ) (F : ℕ → Type 0) → ((n : ℕ) → n ≤ limit → F n) → ((n : ℕ) → F n → (n ≤ limit) × (limit < 2 ^ 32)) → IsLawful (number limit) (λ n. Number limit n ∷ []) F
 number_lawful limit F within fit = record { gives = gives_number limit; fronts = number_front limit; keeps = number_keeps limit; fits = λ n h. within n h.0; fit = λ n h. (fit n h, tt) }
 
-below32 : (n : ℕ) → n ≤ 4294967295 → n < 2 ^ 32
-below32 n h = omega (arith, h)
-
-below16 : (n : ℕ) → n ≤ 65535 → n < 2 ^ 16
-below16 n h = omega (arith, h)
-
-below8 : (n : ℕ) → n ≤ 255 → n < 2 ^ 8
-below8 n h = omega (arith, h)
-
-word8 : (n : ℕ) → n < 2 ^ 8 → (n ≤ 255) × (255 < 2 ^ 32)
-word8 n h = (omega (arith, h), lit< tt)
-
 -- a number of a list, or as large
 pub index : IsLawful (number 4294967295) (λ n. place n ∷ []) (λ n. n < 2 ^ 32)
-index = number_lawful 4294967295 _ below32 word32
+index = number_lawful 4294967295 _ (λ n h. omega (arith, h)) word32
 
 pub number16 : IsLawful (number 65535) (λ n. Number 65535 n ∷ []) (λ n. n < 2 ^ 16)
-number16 = number_lawful 65535 _ below16 word16
+number16 = number_lawful 65535 _ (λ n h. omega (arith, h)) word16
 
 pub number8 : IsLawful (number 255) (λ n. Number 255 n ∷ []) (λ n. n < 2 ^ 8)
-number8 = number_lawful 255 _ below8 word8
+number8 = number_lawful 255 _ (λ n h. omega (arith, h)) (λ n h. (omega (arith, h), lit< tt))
 
 -- ---- words
 

@@ -1,5 +1,5 @@
 -- The laws of a part of a line that can be written in several ways, as zones can, where what follows ends them.
-use Rattle.std.proofs.Common.{◌≡◌, ◌<◌, ◌^◌, ◌∙◌, ap, append_assoc, subst, refl, ℕ, List, ◌∷◌, ◌++◌, Result, Ok, Err}
+use Rattle.std.proofs.Common.{◌≡◌, ◌<◌, ◌^◌, ◌∙◌, ap, append_assoc, subst, refl, ℕ, List, ◌∷◌, ◌++◌}
 use Rattle.std.proofs.lemmas.List.{append-nil}
 use Rattle.std.specs.List.{AllByRecursion}
 use Rattle.bank_parts.specs.declared.parts.GlobalZone.{GlobalZone}
@@ -8,8 +8,7 @@ use Rattle.bank_parts.specs.declared.parts.WithZones.{WithZones}
 use Rattle.bank_parts.specs.Fits.{FitsGlobal, FitsZone, FitsOwner}
 use Rattle.edit_forms.specs.Fits.{FitsNumberOf}
 use Rattle.line_tokens.specs.declared.cursor.Said.{Said}
-use Rattle.line_tokens.specs.declared.fault.LineFault.{LineFault}
-use Rattle.line_tokens.specs.Parts.{Part, Took, ◌>>=◌, pure, and_then}
+use Rattle.line_tokens.specs.Parts.{Part, ◌>>=◌, pure, and_then}
 use Rattle.script_grammar.specs.Operands.{Operand, AllSay}
 use Rattle.script_grammar.specs.Zones.{Written, WrittenZone, zone_operands, written_operands, written_zone, written_of, zone_in, zones_in, zone, zones}
 use Rattle.script_grammar.proofs.SpellLaws as spell
@@ -27,7 +26,7 @@ use Rattle.step_script.specs.Members.{place, printed_owner, SaysOwner, owner_of,
 use Rattle.step_script.specs.Owners.{of_zone, owner_zone}
 use Rattle.step_script.specs.Zones.{printed_zone, SaysZone}
 use Rattle.step_script.proofs.SaidLaws.{IsSaid, behind, behind_said, none, said_as}
-use Rattle.step_script.proofs.Lawful.{IsLawful, pair_part}
+use Rattle.step_script.proofs.Lawful.{IsLawful, pair_part, of_two, regrouped, same_behind}
 use Rattle.step_script.proofs.OwnerLaws.{owner_zones}
 
 -- what it has to keep to, if it is printed so
@@ -135,14 +134,7 @@ module _ {H : Type 0} {p : Part (ℕ × H)} {o : H → List Operand} {F : H → 
 module _ {H : Type 0} (p : Part (ℕ × H)) where
   pub owner_parts : {Y : Type 0} (make : ℕ → WithZones H → Y) (line : List Said) → (owner p >>= λ a. pure (make a.0 a.1)) line ≡ (pair_part p zones >>= λ a. pure (make a.0.0 (added a))) line
   unfolding zones_of
-  owner_parts {Y} make line = from (p line)
-    where
-      behind_head : (h : ℕ × H) (s : Result (Took (GlobalZone × List Zone)) LineFault)
-          → and_then {X = ℕ × WithZones H} (and_then {X = WithZones H} (and_then s (λ z. pure (owner_of h.1 z))) (λ x. pure (h.0, x))) (λ a. pure (make a.0 a.1)) ≡ and_then {X = (ℕ × H) × (GlobalZone × List Zone)} (and_then s (λ z. pure (h, z))) (λ a. pure (make a.0.0 (added a)))
-      behind_head h (Err e) = refl
-      behind_head h (Ok u) = refl
-
-      from : (s : Result (Took (ℕ × H)) LineFault)
-          → and_then {X = ℕ × WithZones H} (and_then s (λ h. zones_of h.1 >>= λ x. pure (h.0, x))) (λ a. pure (make a.0 a.1)) ≡ and_then {X = (ℕ × H) × (GlobalZone × List Zone)} (and_then s (λ h. zones >>= λ z. pure (h, z))) (λ a. pure (make a.0.0 (added a)))
-      from (Err e) = refl
-      from (Ok t) = behind_head t.value (zones t.rest)
+  owner_parts make line =
+      regrouped (p line) (λ h. zones_of h.1 >>= λ x. pure (h.0, x)) (λ a. pure (make a.0 a.1))
+      ∙ same_behind (p line) (λ h line. regrouped (and_then (zones line) (λ z. pure (owner_of h.1 z))) (λ x. pure (h.0, x)) (λ a. pure (make a.0 a.1)) ∙ regrouped (zones line) (λ z. pure (owner_of h.1 z)) (λ x. pure (make h.0 x)))
+      ∙ of_two p zones (λ h z. make h.0 (owner_of h.1 z)) line
