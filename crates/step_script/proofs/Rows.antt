@@ -27,6 +27,7 @@ use Rattle.step_script.proofs.Spelt.{IsSpelt, in_one_way, adds_zone, added, adds
 abbrev pub IsOf : Form → Step → (List Operand → Type 0) → List Operand → Type 0 → Type 1
 IsOf f s Says printed Fits = (form_of s ≡ f) × (SaysStep s ≡ Says) × (operands s ≡ printed) × (Fits → FitsStep s) × (FitsStep s → Fits)
 
+-- what a form says: its word is no other's, a part of the line with its laws stands behind it, and a step is made of what is read there
 pub record Row (f : Form) : Type 1 where
   pub word : named form_word forms (form_word f) ≡ Some f
   pub Value : Type 0
@@ -39,11 +40,12 @@ pub record Row (f : Form) : Type 1 where
   pub reads : (line : List Said) → operands_read f line ≡ (part >>= λ x. pure (make x)) line
   pub is : (x : Value) → IsOf f (make x) (Says x) (printed x) (Fits x)
 
+-- a row of a part that can be written in several ways
 abbrev spelt : {f : Form} {X : Type 0} {p : Part X} {S : X → List Operand → Type 0} {o : X → List Operand} {F : X → Type 0} → IsSpelt p S o F → (make : X → Step) → named form_word forms (form_word f) ≡ Some f
     → ((line : List Said) → operands_read f line ≡ (p >>= λ x. pure (make x)) line) → ((x : X) → IsOf f (make x) (S x) (o x) (F x)) → Row f
 spelt {p = p} {S} {o} {F} l make word reads is = record { word = word; Value = _; part = p; Says = S; printed = o; Fits = F; lawful = l; make = make; reads = reads; is = is }
 
--- of one part that is written in one way, of two, and of three
+-- of one part that is written in one way, of two, and of three, as the form reads them
 abbrev one : {f : Form} {X : Type 0} {p : Part X} {o : X → List Operand} {F : X → Type 0} → IsLawful p o F → (make : X → Step) → named form_word forms (form_word f) ≡ Some f
     → operands_read f ≡ (p >>= λ x. pure (make x)) → ((x : X) → IsOf f (make x) (λ os. os ≡ o x) (o x) (F x)) → Row f
 one l make word reads is = spelt (in_one_way l) make word (λ line. ap (λ (p : Part Step). p line) reads) is
@@ -58,6 +60,7 @@ abbrev three : {f : Form} {X Y Z : Type 0} {p : Part X} {q : Part Y} {t : Part Z
 three {p = p} {q} {t} l m n make word reads is =
     spelt (in_one_way (l & m & n)) (λ a. make a.0 a.1.0 a.1.1) word (λ line. ap (λ (p : Part Step). p line) reads ∙ of_more p (m & n) (λ x b. make x b.0 b.1) (λ x. of_two q t (make x)) line) (λ a. is a.0 a.1.0 a.1.1)
 
+-- the laws of the parts, the step of their values, that the word is the form's, that it is read so, and what the step is
 abbrev pub row : (f : Form) → Row f
 unfolding added_preset added_instrument set_head trim extend set_loop set_kind set_tune add_zone remove_zone move_zone split_zone join_zone set_target set_gen clear_gen add_mod remove_mod set_mod
 row form.AddPreset = spelt (adds_owner heads) (λ a. AddPreset a.0.0 (added a)) refl (owner_parts placed_head AddPreset) (λ a. (refl, refl, refl, λ h. h, λ h. h))

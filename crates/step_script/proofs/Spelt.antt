@@ -29,7 +29,7 @@ use Rattle.step_script.proofs.SaidLaws.{IsSaid, behind, behind_said, none, said_
 use Rattle.step_script.proofs.Lawful.{IsLawful, pair_part, of_two, regrouped, same_behind}
 use Rattle.step_script.proofs.OwnerLaws.{owner_zones}
 
--- what it has to keep to, if it is printed so
+-- what such a part has to keep to, if these operands say its values, and it is printed by those
 pub record IsSpelt {X : Type 0} (part : Part X) (Says : X → List Operand → Type 0) (printed : X → List Operand) (Fits : X → Type 0) : Type 0 where
   pub gives : (x : X) (os more : List Operand) → EndsZones more → Says x os → (line : List Said) → AllSay line (os ++ more) → Gives part x line more
   pub said : IsSaid X part Says
