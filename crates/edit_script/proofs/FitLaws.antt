@@ -14,7 +14,7 @@ use Rattle.line_tokens.specs.Pool.{Answers}
 use Rattle.script_grammar.specs.Operands.{Operand, Fixed}
 use Rattle.script_grammar.proofs.FitLaws.{AllRanged, all_ranged, behind}
 use Rattle.step_script.specs.Spelling.{SaysWhole}
-use Rattle.step_script.proofs.FitLaws.{step_fits}
+use Rattle.step_script.proofs.StepLaws.{step_fits}
 use Rattle.edit_script.specs.declared.parsing.Line.{Line}
 use Rattle.edit_script.specs.Grammar.{in_braces, SaysSteps, SaysAll}
 use Rattle.edit_script.specs.Script.{script_of}

@@ -14,7 +14,8 @@ use Rattle.script_grammar.proofs.ReadLaws.{Fronts, then, made, fixed_front}
 use Rattle.script_grammar.proofs.RepeatedLaws.{within_ends, within_goes_on}
 use Rattle.step_script.specs.Grammar.{step}
 use Rattle.step_script.specs.Spelling.{SaysWhole}
-use Rattle.step_script.proofs.FormReadLaws.{SaidFront, IsSaid, behind, behind_said, none, step_said}
+use Rattle.step_script.proofs.SaidLaws.{SaidFront, IsSaid, behind, behind_said, none}
+use Rattle.step_script.proofs.StepLaws.{step_said}
 use Rattle.edit_script.specs.Grammar.{in_braces, SaysSteps, SaysAll, braced_step, is_over, with_step, steps_left, group, one, one_or_group}
 use Rattle.edit_script.proofs.StepsLaws.{group_first, one_first}
 

@@ -11,7 +11,7 @@ use Rattle.script_grammar.proofs.SpellLaws.{Gives, then, gives_pure, gives_fixed
 use Rattle.script_grammar.proofs.ZoneSpellLaws.{next_word, nothing_ends, brace_ends, as_other}
 use Rattle.step_script.specs.Grammar.{form_word, form_of}
 use Rattle.step_script.specs.Spelling.{SaysWhole}
-use Rattle.step_script.proofs.FormSpellLaws.{gives_step, not_group}
+use Rattle.step_script.proofs.StepLaws.{gives_step, not_group}
 use Rattle.edit_script.specs.Grammar.{in_braces, SaysSteps, SaysGroup, SaysAll, braced_step, is_over, with_step, steps_left, group, one, one_or_group}
 use Rattle.edit_script.proofs.StepsLaws.{steps_end, steps_go_on, group_first, one_first}
 

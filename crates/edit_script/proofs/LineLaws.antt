@@ -17,7 +17,7 @@ use Rattle.script_grammar.proofs.OperandLaws as operand
 use Rattle.script_grammar.proofs.OperandLaws.{IsFixed, all_spoken, all_say, both_fit}
 use Rattle.step_script.specs.Grammar.{form_word, form_of, operands, step_operands}
 use Rattle.step_script.specs.Spelling.{SaysWhole}
-use Rattle.step_script.proofs.FitLaws.{form_fixed, operands_fit, step_printed}
+use Rattle.step_script.proofs.StepLaws.{form_fixed, operands_fit, step_printed}
 use Rattle.edit_script.specs.Grammar.{braced, SaysSteps, SaysAll}
 use Rattle.edit_script.specs.declared.parsing.Line.{Line}
 use Rattle.edit_script.specs.Script.{script_of}

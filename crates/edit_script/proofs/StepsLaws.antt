@@ -8,7 +8,7 @@ use Rattle.script_grammar.specs.Names.{fixed}
 use Rattle.script_grammar.proofs.RepeatedLaws.{Shortens, shortens_keeps, pure_keeps, then_keeps, then_shortens, repeated_ends, repeated_goes_on, repeated_fails}
 use Rattle.script_grammar.proofs.ItemLaws.{fixed_shortens}
 use Rattle.step_script.specs.Grammar.{step}
-use Rattle.step_script.proofs.KeepLaws.{step_keeps}
+use Rattle.step_script.proofs.StepLaws.{step_keeps}
 use Rattle.edit_script.specs.Grammar.{braced_step, is_over, with_step, steps_left, group, one, one_or_group}
 
 pub braced_shortens : Shortens braced_step

@@ -1,6 +1,7 @@
-pub mod NameLaws
 pub mod PutLaws
-pub mod FormSpellLaws
-pub mod FormReadLaws
-pub mod KeepLaws
-pub mod FitLaws
+pub mod SaidLaws
+pub mod Lawful
+pub mod OwnerLaws
+pub mod Spelt
+pub mod Rows
+pub mod StepLaws

@@ -69,6 +69,7 @@ fn added_instrument(
 
 // ---- printed
 
+#[tactic(auto, using(crate::proofs::PutLaws::puts_owner))]
 pub(crate) fn put_add_instrument<W: Write>(
     at: u32,
     instrument: &Instrument,

@@ -96,6 +96,7 @@ pub(crate) fn put_trim<W: Write>(sample: u32, front: u32, back: u32, output: &mu
     put_pieces(&[sample, front, back], output);
 }
 
+#[tactic(auto, using(script_grammar::proofs::PutLaws::puts_both))]
 pub(crate) fn put_extend<W: Write>(
     sample: u32,
     front: &Points<'_>,
@@ -109,6 +110,7 @@ pub(crate) fn put_extend<W: Write>(
     put_points(back, output);
 }
 
+#[tactic(auto, using(script_grammar::proofs::PutLaws::puts_both))]
 pub(crate) fn put_set_loop<W: Write>(
     sample: u32,
     looped: Option<(u32, u32)>,
@@ -120,6 +122,7 @@ pub(crate) fn put_set_loop<W: Write>(
     put_loop(looped, output);
 }
 
+#[tactic(auto, using(script_grammar::proofs::PutLaws::puts_both))]
 pub(crate) fn put_set_kind<W: Write>(sample: u32, kind: Kind, output: &mut Output<'_, W>)
     ensures { Puts W.contents output.old output.new (flat_map spaced (pieces_of (kind_of_operands sample kind))) }
 {
@@ -127,6 +130,7 @@ pub(crate) fn put_set_kind<W: Write>(sample: u32, kind: Kind, output: &mut Outpu
     put_kind(kind, output);
 }
 
+#[tactic(auto, using(script_grammar::proofs::PutLaws::puts_both))]
 pub(crate) fn put_set_tune<W: Write>(
     sample: u32,
     rate: u32,

@@ -109,6 +109,7 @@ fn head(line: &mut Cursor<'_, '_>) -> Result<Head, LineFault>
 
 // ---- printed
 
+#[tactic(auto, using(crate::proofs::PutLaws::puts_owner))]
 pub(crate) fn put_add_preset<W: Write>(at: u32, preset: &Preset, output: &mut Output<'_, W>)
     ensures { Puts W.contents output.old output.new (flat_map spaced (pieces_of (printed_owner head_operands at preset.now))) }
 {

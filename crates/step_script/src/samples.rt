@@ -58,6 +58,7 @@ pub(crate) fn move_sample<'p>(line: &mut Cursor<'_, 'p>) -> Result<Step<'p>, Lin
 // ---- printed
 
 // `S BODY`, each token behind a space
+#[tactic(auto, using(crate::proofs::PutLaws::puts_added))]
 pub(crate) fn put_add_sample<W: Write>(at: u32, sample: &Sample<'_>, output: &mut Output<'_, W>)
     ensures { Puts W.contents output.old output.new (flat_map spaced (pieces_of (place at ∷ body_operands sample.now))) }
 {

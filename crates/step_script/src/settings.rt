@@ -96,6 +96,7 @@ pub(crate) fn set_mod<'p>(line: &mut Cursor<'_, 'p>) -> Result<Step<'p>, LineFau
 
 // ---- printed
 
+#[tactic(auto, using(script_grammar::proofs::PutLaws::puts_both))]
 pub(crate) fn put_set_gen<W: Write>(
     owner: Owner,
     place: Place,
@@ -136,6 +137,7 @@ pub(crate) fn put_clear_gen<W: Write>(
 }
 
 // `OWNER PLACE J MOD`, each token behind a space
+#[tactic(auto, using(script_grammar::proofs::PutLaws::puts_both))]
 pub(crate) fn put_modulator_at<W: Write>(
     owner: Owner,
     place: Place,

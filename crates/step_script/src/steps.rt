@@ -109,6 +109,7 @@ pub fn word_of(step: &Step<'_>) -> &'static [u8]
 }
 
 /// Puts what stands behind the word of a step's form, each token behind a space. It takes no memory.
+#[tactic(auto, using(crate::proofs::PutLaws::puts_same))]
 pub fn put_operands<W: Write>(step: &Step<'_>, output: &mut Output<'_, W>)
     ensures { Puts W.contents output.old output.new (flat_map spaced (pieces_of (operands step.now))) }
 {

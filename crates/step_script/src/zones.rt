@@ -103,6 +103,7 @@ pub(crate) fn set_target<'p>(line: &mut Cursor<'_, 'p>) -> Result<Step<'p>, Line
 
 // ---- printed
 
+#[tactic(auto, using(script_grammar::proofs::PutLaws::puts_both))]
 pub(crate) fn put_add_zone<W: Write>(owner: Owner, at: u32, zone: &Zone, output: &mut Output<'_, W>)
     ensures { Puts W.contents output.old output.new (flat_map spaced (pieces_of (printed_zone owner at zone.now))) }
 {
