@@ -17,7 +17,7 @@ use Rattle.mixer.proofs.Ranges.{map_range-same, map_range-split}
 use Rattle.mixer.proofs.Sums.{zero-add_z, add_z-zero, add_z-assoc, sum_of-append, sum_of-same, sum_of-map, sum_of-kept}
 
 -- over stays over, so that a voice that is over is silent from then on
-over_is_silent : (p : Playing) (left : Bool) (u : ℕ) → is_sounding p ≡ false → snd p.voice.value left (p.voice.age + u) ≡ pos 0
+pub over_is_silent : (p : Playing) (left : Bool) (u : ℕ) → is_sounding p ≡ false → snd p.voice.value left (p.voice.age + u) ≡ pos 0
 unfolding is_sounding snd
 over_is_silent p left u h =
     let v : VoiceParameters = p.voice.value.parameters in

@@ -6,6 +6,8 @@ pub mod Releases
 pub mod Aging
 pub mod Silent
 pub mod Parts
+pub mod Rewinding
+pub mod AheadLaws
 pub mod Orders
 pub mod Schedule
 pub mod Classes

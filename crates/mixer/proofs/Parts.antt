@@ -37,7 +37,7 @@ aged_young a b m xs ys h e young =
     let y : Playing → Type 0 = λ p. p.voice.age < b in
     subst P (sym e) (All-map y (aged m) xs (λ k d l. let g : (get_or xs k d).voice.age < a = young k d l in omega (arith, g)))
 
-side_later : (at j : ℕ) (ps : List Playing) → at % 2 ≡ 0 → next_side (map (aged (at / 2)) ps) j ≡ next_side ps (at + j)
+pub side_later : (at j : ℕ) (ps : List Playing) → at % 2 ≡ 0 → next_side (map (aged (at / 2)) ps) j ≡ next_side ps (at + j)
 unfolding next_side total_at aged
 side_later at j ps even =
     ap cut (sum_of-map (λ p. snd p.voice.value (is_left j) (p.voice.age + j / 2)) (aged (at / 2)) ps
@@ -63,14 +63,14 @@ block_written out ps at n len le even done =
     fill_by_all (next_side ps) out n (pos 0) len (λ k h. done k (omega arith))
     ∙ ap (λ m. map (next_side ps) (range_with_len 0 m)) (let e : n ≡ 2 * (n / 2) = omega arith in e)
 
-filter_all : (ps : List Playing) → AllSounding ps → filter is_sounding ps ≡ ps
+pub filter_all : (ps : List Playing) → AllSounding ps → filter is_sounding ps ≡ ps
 filter_all [] all = refl
 filter_all (p ∷ ps) all =
     ap (λ b. cond b (p ∷ filter is_sounding ps) (filter is_sounding ps)) (all 0 p (omega arith))
     ∙ ap (λ l. p ∷ l) (filter_all ps (λ k d h. all (suc k) d (omega (arith, h))))
 
 -- where all sound, a block of no frames changes nothing
-nothing_given : (ps : List Playing) → AllSounding ps → after_block ps 0 ≡ ps
+pub nothing_given : (ps : List Playing) → AllSounding ps → after_block ps 0 ≡ ps
 unfolding after_block
 nothing_given ps all = ap (filter is_sounding) (sym (aged-none ps)) ∙ filter_all ps all
 

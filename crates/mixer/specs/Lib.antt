@@ -5,4 +5,5 @@ pub mod Render
 pub mod Order
 pub mod Stops
 pub mod KeptVoices
+pub mod Ahead
 pub mod Alike

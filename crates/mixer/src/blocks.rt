@@ -2,7 +2,7 @@
 ghost use Rattle.std.specs.Prelude.{◌≡◌, ℕ, ◌+◌, ◌*◌, ◌/◌, ◌%◌, ◌<◌, ◌≤◌, ◌^◌, ◌+ℤ◌, pos, EachIndex, length, map, slice_index_or};
 ghost use Rattle.voices.specs.Within.{AllWithin};
 ghost use Rattle.mixer.specs.Heard as heard;
-ghost use Rattle.mixer.specs.Events.{aged, total_at, next_side, block};
+ghost use Rattle.mixer.specs.Events.{aged, total_at, next_side};
 ghost use Rattle.mixer.specs.KeptVoices.{AllYounger};
 
 use crate::playing::Playing;
@@ -16,13 +16,13 @@ const PART: usize = 1024;
 const SIDES: usize = 2 * PART;
 
 // The most voices of which two sums together fit 32 bits.
-const GROUP: usize = 32767;
+pub(crate) const GROUP: usize = 32767;
 
 // What the frames of a part are computed in, whatever stands there: what voices compute in, the sums of the sides, and
 // the sums that both sides get.
 #[derive(Drop)]
 pub(crate) struct MixBuffers {
-    work: Workspace,
+    pub(crate) work: Workspace,
     sides: [i32; SIDES],
     middle: [i32; PART],
 }
@@ -37,8 +37,32 @@ impl MixBuffers {
     }
 }
 
-// The sums of all voices of a group, in two parts: of those in the middle in sums that both sides get, and of the
-// others. Each voice gets as many frames older.
+// Adds the next frames of all voices to sums in two parts: of those in the middle to sums that both sides get, and of the
+// others to those of the sides. Each voice gets as many frames older.
+pub(crate) fn add_voices(
+    voices: &mut [Playing],
+    work: &mut Workspace,
+    sides: &mut [i32],
+    middle: &mut [i32],
+)
+    requires sides { length sides.old ≡ 2 * length middle.old }
+    requires few { length voices.old ≤ 32767 }
+    requires young { AllYounger (2 ^ 63 + 2 ^ 34) voices.old }
+    requires short { length middle.old ≤ 1024 }
+    requires room { AllWithin 32767 sides.old }
+    requires middle { AllWithin 32767 middle.old }
+    ensures value { EachIndex sides.new (λ i. slice_index_or sides.new i (pos 0) +ℤ slice_index_or middle.new (i / 2) (pos 0)
+        ≡ slice_index_or sides.old i (pos 0) +ℤ slice_index_or middle.old (i / 2) (pos 0) +ℤ total_at voices.old i) }
+    ensures room { (j : ℕ) → AllWithin j sides.old → AllWithin (j + length voices.old) sides.new }
+    ensures middle { (j : ℕ) → AllWithin j middle.old → AllWithin (j + length voices.old) middle.new }
+    ensures live { voices.new ≡ map (aged (length sides.old / 2)) voices.old }
+{
+    for p in voices.iter_mut() {
+        p.voice.add_frames_apart(work, sides, middle);
+    }
+}
+
+// The sums of all voices of a group.
 fn sum_group(voices: &mut [Playing], work: &mut Workspace, sides: &mut [i32], middle: &mut [i32])
     requires sides { length sides.old ≡ 2 * length middle.old }
     requires few { length voices.old ≤ 32767 }
@@ -51,9 +75,7 @@ fn sum_group(voices: &mut [Playing], work: &mut Workspace, sides: &mut [i32], mi
 {
     sides.fill(0);
     middle.fill(0);
-    for p in voices.iter_mut() {
-        p.voice.add_frames_apart(work, sides, middle);
-    }
+    add_voices(voices, work, sides, middle);
 }
 
 // Adds the sums of a group to totals.
@@ -72,7 +94,7 @@ fn widen(sides: &[i32], middle: &[i32], totals: &mut [i128])
 }
 
 // The sum of each side, and of what both sides get, as 16 bits.
-fn cut_both(sums: &[i32], middle: &[i32], out: &mut [i16])
+pub(crate) fn cut_both(sums: &[i32], middle: &[i32], out: &mut [i16])
     requires sums { length sums.now ≡ length out.old }
     requires middle { length out.old ≡ 2 * length middle.now }
     requires room { AllWithin 32767 sums.now }
@@ -219,7 +241,7 @@ pub(crate) fn mix<P: Progress>(
 )
     requires young { AllYounger (2 ^ 33) voices.old }
     requires even { length out.old % 2 ≡ 0 }
-    ensures value { out.new ≡ block voices.old (length out.old / 2) }
+    ensures value { EachIndex out.new (λ i. slice_index_or out.new i (pos 0) ≡ next_side voices.old i) }
     ensures live { voices.new ≡ map (aged (length out.old / 2)) voices.old }
 {
     let mut at = 0;

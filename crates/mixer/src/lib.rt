@@ -2,6 +2,7 @@
 //! give samples of 16 bits of the left and the right side in turn, 44,100 frames a second.
 #![tactic(auto)]
 
+mod ahead;
 mod blocks;
 mod laws;
 mod player;

@@ -1,10 +1,11 @@
 //! A player of notes.
-ghost use Rattle.std.specs.Prelude.{◌≡◌, ◌%◌, ◌/◌, [], OnOk, OnErr, length};
+ghost use Rattle.std.specs.Prelude.{◌≡◌, ◌%◌, ◌/◌, ◌<◌, ◌≤◌, ℕ, [], pos, OnOk, OnErr, length, slice_index_or};
 ghost use Rattle.mixer.specs.Heard as heard;
-ghost use Rattle.mixer.specs.Events.{after_start, after_block, block};
+ghost use Rattle.mixer.specs.Events.{after_start, after_block, block, next_side};
 
+use crate::ahead::{Ahead, make_way, sum_ahead};
 use crate::blocks::{MixBuffers, mix};
-use crate::playing::{Playing, drop_over, drop_silenced, fresh};
+use crate::playing::{Playing, drop_over, fresh};
 use bank_core::Bank;
 use note_list::Note;
 use progress::{Progress, Unheard};
@@ -18,6 +19,8 @@ use std::marker::Model;
 pub struct Player<'a> {
     // In front, so that their lists lie as the player does: words of several frames are slower across lines of the cache.
     buffers: MixBuffers,
+    ahead: Ahead,
+    // Behind the frames that are ahead.
     voices: Vec<Playing<'a>>,
 }
 
@@ -26,30 +29,32 @@ impl Drop for Player<'_> {
     fn drop(self) {
         let Player {
             buffers: _,
+            ahead: _,
             voices: _,
         } = self;
     }
 }
 
 impl<'a> Model for Player<'a> {
-    ghost use Rattle.std.specs.Prelude.{List, ◌^◌};
+    ghost use Rattle.std.specs.Prelude.{List};
     ghost use Rattle.mixer.specs.declared.playing.Playing.{Playing};
-    ghost use Rattle.mixer.specs.KeptVoices.{AllSounding, AllYounger};
+    ghost use Rattle.mixer.specs.Ahead.{IsAhead, playing_now};
 
     ghost Value = { List Playing };
 
-    ghost view = { λ p. p.voices.items };
+    ghost view = { λ p. playing_now p.ahead p.voices.items };
 
-    ghost invariant = { λ p. AllYounger (2 ^ 33) p.voices.items × AllSounding p.voices.items };
+    ghost invariant = { λ p. IsAhead p.ahead p.voices.items };
 }
 
 impl<'a> Player<'a> {
-    /// A player of no voices, with room of its own for the sums of 1,024 frames: 22 kilobytes. It takes no memory.
+    /// A player of no voices, with room of its own for the sums of 1,024 frames and of 256 ahead: 25 kilobytes. It takes no memory.
     pub fn new(alloc: Global) -> Player<'a>
         ensures { result ≡ [] }
     {
         Player {
             buffers: MixBuffers::new(),
+            ahead: Ahead::none(),
             voices: Vec::new(alloc),
         }
     }
@@ -65,8 +70,9 @@ impl<'a> Player<'a> {
         let mut new = fresh(alloc, bank, note)?;
         self.voices.try_reserve(new.len())?;
         // Nothing is refused from here on.
-        drop_silenced(&mut self.voices, new.as_slice());
+        make_way(&mut self.voices, &mut self.ahead, new.as_slice());
         drop_over(&mut new);
+        self.ahead.join(new.as_mut_slice(), &mut self.buffers.work);
         match self.voices.append(&mut new) {
             Ok(()) => Ok(()),
             Err(_) => unreachable!(),
@@ -74,10 +80,10 @@ impl<'a> Player<'a> {
     }
 
     /// The next frames, the left and the right side in turn: sums of all voices, each cut once to 16
-    /// bits. It takes no memory. Its work is that of the voices' own frames, and to clear twelve bytes for each frame. In
-    /// blocks of at most 256 frames a voice makes so many at a time, ahead of the blocks that take them. Where there are
-    /// more than 32,767 voices, 32 kilobytes more are cleared for each 1,024 frames or what is left. For no frame it does
-    /// nothing.
+    /// bits. It takes no memory. Its work is that of the voices' own frames, and to clear twelve bytes for each frame. For a
+    /// block of fewer than 256 frames up to so many are summed, and the blocks that follow take theirs from these; a start that
+    /// silences voices makes those that are left in vain, and then fewer are summed ahead at first. Where there are more than
+    /// 32,767 voices, 32 kilobytes more are cleared for each 1,024 frames or what is left. For no frame it does nothing.
     pub fn block(&mut self, out: &mut [i16])
         requires { length out.old % 2 ≡ 0 }
         ensures heard { out.new ≡ block self.old (length out.old / 2) }
@@ -88,18 +94,46 @@ impl<'a> Player<'a> {
     }
 
     // The same, and the frames are told as they are done.
-    #[tactic(auto, unfolding(crate::specs::Events::after_block))]
     pub(crate) fn block_with_progress<P: Progress>(&mut self, out: &mut [i16], progress: &mut P)
         requires { length out.old % 2 ≡ 0 }
         ensures heard { out.new ≡ block self.old (length out.old / 2) }
         ensures live { self.new ≡ after_block self.old (length out.old / 2) }
         ensures none { length out.old ≡ 0 → self.new ≡ self.old }
     {
-        let voices = &mut self.voices;
-        if out.is_empty() {
-            return;
+        // (They sound, and so they are left as they are by a block of no frame.)
+        let _voices = &self.voices;
+        let mut at = 0;
+        while at < out.len() {
+            at += self.give_part(&mut out[at..], progress);
         }
-        mix(voices.as_mut_slice(), &mut self.buffers, out, progress);
-        drop_over(voices);
+    }
+
+    // Gives the first of the frames that are asked for, and returns how many numbers these have: such as are ahead, or
+    // else all of a long block.
+    fn give_part<P: Progress>(&mut self, out: &mut [i16], progress: &mut P) -> usize
+        requires even { length out.old % 2 ≡ 0 }
+        requires some { 0 < length out.old }
+        ensures some { 0 < result }
+        ensures most { result ≤ length out.old }
+        ensures even { result % 2 ≡ 0 }
+        ensures heard { (k : ℕ) → k < result → slice_index_or out.new k (pos 0) ≡ next_side self.old k }
+        ensures live { self.new ≡ after_block self.old (result / 2) }
+    {
+        let asked = out.len() / 2;
+        sum_ahead(
+            &mut self.voices,
+            &mut self.ahead,
+            &mut self.buffers.work,
+            asked,
+        );
+        if self.ahead.left == 0 {
+            mix(self.voices.as_mut_slice(), &mut self.buffers, out, progress);
+            drop_over(&mut self.voices);
+            return out.len();
+        }
+        let n = out.len().min(2 * self.ahead.left);
+        self.ahead.give(&mut out[..n]);
+        progress.advance(n as u64 / 2);
+        n
     }
 }

@@ -1,11 +1,12 @@
 //! Voices that play, and which of them an exclusive class silences.
-ghost use Rattle.std.specs.Prelude.{◌≡◌, ◌≤◌, ◌^◌, ◌<◌, ◌++◌, filter, map, IfOk, OnOk, vec_len};
+ghost use Rattle.std.specs.Prelude.{◌≡◌, ◌≤◌, ◌^◌, ◌<◌, ◌++◌, All, filter, map, IfOk, OnOk, vec_len};
 ghost use Rattle.std.specs.Bool.{OnTrue};
 ghost use Rattle.std.specs.List.{list_any};
 ghost use Rattle.std.specs.Vec.{vec_capacity};
 ghost use Rattle.zone_select.specs.Pairs.{voice_by, listed};
 ghost use Rattle.mixer.specs.Heard as heard;
 ghost use Rattle.mixer.specs.Events.{is_sounding, unsilenced};
+ghost use Rattle.mixer.specs.Ahead.{rewound};
 ghost use Rattle.mixer.specs.KeptVoices.{AllSounding, AllYounger};
 
 use bank_core::Bank;
@@ -54,10 +55,20 @@ fn silences(new: &[Playing], old: &Playing) -> bool
 }
 
 // Whether one of the voices has an exclusive class.
-fn have_class(voices: &[Playing]) -> bool
+pub(crate) fn have_class(voices: &[Playing]) -> bool
     ensures { result ≡ list_any heard.has_class voices.now }
 {
     voices.iter().any(|p| p.has_class())
+}
+
+// Makes all voices so many frames younger, which they have given.
+pub(crate) fn go_back(voices: &mut [Playing], frames: usize)
+    requires given { All (λ p. frames ≤ p.voice.age) voices.old }
+    ensures live { voices.new ≡ map (rewound frames) voices.old }
+{
+    for p in voices.iter_mut() {
+        p.voice.go_back(frames as u64);
+    }
 }
 
 // Drops the voices that new ones silence. New voices without a class look at no other.

@@ -5,4 +5,3 @@ pub mod OverLemmas
 pub mod RunLemmas
 pub mod SliceLemmas
 pub mod StartLaws
-pub mod AheadLemmas

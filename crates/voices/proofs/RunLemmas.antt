@@ -124,18 +124,6 @@ later_added v age at k was was' sum even e a =
     (subst (λ x. IsAdded was' (snd v (nat_eq x 0) (age + (at + k) / 2)) sum) p
     (subst (λ x. IsAdded was' (snd v (nat_eq (k % 2) 0) x) sum) q a))
 
--- a frame that is heard, from its parts
-pub part_is : (v : Voice) (t : ℕ) (i left right : ℕ) → is_over v.parameters t ≡ false → left ≡ part_of v.parameters true → right ≡ part_of v.parameters false
-    → side (sound_at v t) (cond (nat_eq i 0) left right) ≡ snd v (nat_eq i 0) t
-unfolding snd
-part_is v t i left right e f g =
-    by_side (nat_eq i 0) v t left right f g ∙ sym (ap (λ b. cond b (pos 0) (side (sound_at v t) (part_of v.parameters (nat_eq i 0)))) e)
-  where
-    by_side : (b : Bool) (v : Voice) (t left right : ℕ) → left ≡ part_of v.parameters true → right ≡ part_of v.parameters false
-        → side (sound_at v t) (cond b left right) ≡ side (sound_at v t) (part_of v.parameters b)
-    by_side true v t left right f g = ap (side (sound_at v t)) f
-    by_side false v t left right f g = ap (side (sound_at v t)) g
-
 -- what is heard of a frame where the voice isn't over, and where it is
 pub heard_is : (v : Voice) (t : ℕ) → is_over v.parameters t ≡ false → heard_at v t ≡ sound_at v t
 unfolding heard_at

@@ -5,5 +5,4 @@ pub mod Sound
 pub mod Within
 pub mod Runs
 pub mod Course
-pub mod Ahead
 pub mod Starts

@@ -1,5 +1,5 @@
 //! What a voice keeps from call to call, so that it is not found anew.
-ghost use Rattle.std.specs.Prelude.{◌≡◌, ◌≤◌, ◌<◌, ℕ, List, true};
+ghost use Rattle.std.specs.Prelude.{◌≡◌, ◌+◌, ◌≤◌, ◌<◌, ℕ, List, true};
 ghost use Rattle.sound_tables.specs.Tables.{gain_of};
 ghost use Rattle.voice_levels.specs.Even.{IsEven};
 ghost use Rattle.voices.specs.Course.{IsCourse, IsInHand};
@@ -48,7 +48,7 @@ impl<'a> Course<'a> {
         }
     }
 
-    // Goes on to a later frame `t`, whose place is `x`.
+    // Goes on to a frame `t`, whose place is `x` unless the release is over by then.
     pub(crate) fn go_on(
         &mut self,
         v: &VoiceParameters,
@@ -57,7 +57,7 @@ impl<'a> Course<'a> {
         level: Level,
         slice: Slice<'a>,
     )
-        requires here { x ≡ place v.now t }
+        requires here { t < v.now.length + v.now.release → x ≡ place v.now t }
         requires level { IsEven (envelope v.now) t level }
         requires at_end { (self.old.at_end ≡ held v.now v.now.length) × (self.old.at_end ≤ 65536) }
         requires loudness { (self.old.loudness ≡ gain_of v.now.attenuation) × (self.old.loudness ≤ 65536) }
@@ -67,5 +67,20 @@ impl<'a> Course<'a> {
         self.place = x;
         self.level = level;
         self.slice = slice;
+    }
+
+    // Goes to any frame `t`, an earlier one too. Its level is found once it is asked for.
+    pub(crate) fn go_to(&mut self, v: &VoiceParameters, t: u64)
+        requires loop_is { v.now.looped ≡ true → v.now.loop_start < v.now.loop_end }
+        requires steps { v.now.step ≤ 73043661 }
+        requires at_end { (self.old.at_end ≡ held v.now v.now.length) × (self.old.at_end ≤ 65536) }
+        requires loudness { (self.old.loudness ≡ gain_of v.now.attenuation) × (self.old.loudness ≤ 65536) }
+        ensures { (points : List ℕ) → IsInHand points self.old.slice → IsCourse points v.now t self.new }
+    {
+        // Behind the release the voice is over, wherever its place is.
+        let release_end = u64::from(v.length) + u64::from(v.release);
+        let x = place_at(v, t.min(release_end));
+        let slice = self.slice;
+        self.go_on(v, t, x, Level::ended(), slice);
     }
 }

@@ -6,7 +6,6 @@ ghost use Rattle.voices.specs.Sound.{OverStaysOver};
 mod adding;
 mod courses;
 mod frames;
-mod lookahead;
 mod places;
 mod runs;
 mod sampled;

@@ -52,9 +52,9 @@ pub(crate) fn place_at(v: &VoiceParameters, t: u64) -> u64
     }
 }
 
-// Whether the voice is over at frame `t`, whose place is `x`.
+// Whether the voice is over at frame `t`, whose place is `x` unless the release is over by then.
 pub(crate) fn is_over_by(v: &VoiceParameters, t: u64, x: u64) -> bool
-    requires here { x ≡ place v.now t }
+    requires here { t < v.now.length + v.now.release → x ≡ place v.now t }
     ensures value { result ≡ is_over v.now t }
     ensures young { result ≡ false → t + 1 < 2 ^ 33 }
     ensures sounds { result ≡ false → t < v.now.length + v.now.release }

@@ -24,7 +24,7 @@ use zone_select::VoiceParameters;
 
 // How many frames from `t` on, at most `most`, are heard in one way: the note's end ends a stretch. The
 // place of the first is `x`.
-pub(crate) fn stretch(v: &VoiceParameters, t: u64, x: u64, most: usize) -> usize
+fn stretch(v: &VoiceParameters, t: u64, x: u64, most: usize) -> usize
     requires loop_is { v.now.looped ≡ true → v.now.loop_start < v.now.loop_end }
     requires steps { v.now.step ≤ 73043661 }
     requires sounds { is_over v.now t ≡ false }
@@ -97,7 +97,7 @@ fn fill_by_stages<'a>(
 }
 
 // The same in a workspace.
-pub(crate) fn fill_sounds<'a>(
+fn fill_sounds<'a>(
     points: &Points<'a>,
     v: &VoiceParameters,
     t: u64,

@@ -1,5 +1,5 @@
 //! A voice.
-ghost use Rattle.std.specs.Prelude.{◌≡◌, ℕ, ◌+◌, ◌*◌, ◌/◌, ◌%◌, ◌^◌, ◌≤◌, ◌<◌, ◌+ℤ◌, ◌≤ℤ◌, pos, negsuc, true, false, EachIndex, length, nat_eq, slice_index_or};
+ghost use Rattle.std.specs.Prelude.{◌≡◌, ℕ, ◌+◌, ◌-◌, ◌*◌, ◌/◌, ◌%◌, ◌^◌, ◌≤◌, ◌<◌, ◌+ℤ◌, ◌≤ℤ◌, pos, negsuc, true, false, EachIndex, length, nat_eq, slice_index_or};
 ghost use Rattle.std.specs.Bool.{OnFalse};
 ghost use Rattle.voices.specs.Place.{is_over};
 ghost use Rattle.zone_select.specs.Playable.{IsPlayable};
@@ -9,7 +9,6 @@ ghost use Rattle.voices.specs.Within.{AllWithin};
 use crate::adding::{add_run, add_run_apart};
 use crate::courses::Course;
 use crate::frames::{frame, next_place};
-use crate::lookahead::{Ahead, next_ahead};
 use crate::workspace::Workspace;
 use sample_view::Points;
 use std::marker::Model;
@@ -22,15 +21,12 @@ pub struct Voice<'a> {
     points: Points<'a>,
     parameters: VoiceParameters,
     age: u64,
-    // What is kept of the frame behind those that are ahead.
     course: Course<'a>,
-    ahead: Ahead,
 }
 
 impl<'a> Model for Voice<'a> {
-    ghost use Rattle.std.specs.Prelude.{length, ◌+◌};
+    ghost use Rattle.std.specs.Prelude.{length};
     ghost use Rattle.zone_select.specs.Playable.{IsPlayable};
-    ghost use Rattle.voices.specs.Ahead.{IsAhead};
     ghost use Rattle.voices.specs.Course.{IsCourse};
     ghost use Rattle.voices.specs.Sound.{Live};
 
@@ -38,9 +34,7 @@ impl<'a> Model for Voice<'a> {
 
     ghost view = { λ v. record { value = record { points = v.points; parameters = v.parameters }; age = v.age } };
 
-    ghost invariant = { λ v. IsPlayable (length v.points) v.parameters
-        × IsAhead (record { points = v.points; parameters = v.parameters }) v.age v.ahead
-        × IsCourse v.points v.parameters (v.age + v.ahead.left) v.course };
+    ghost invariant = { λ v. IsPlayable (length v.points) v.parameters × IsCourse v.points v.parameters v.age v.course };
 }
 
 impl<'a> Voice<'a> {
@@ -55,7 +49,6 @@ impl<'a> Voice<'a> {
             parameters,
             age: 0,
             course,
-            ahead: Ahead::none(),
         }
     }
 
@@ -64,7 +57,7 @@ impl<'a> Voice<'a> {
         ensures value { result ≡ is_over self.now.value.parameters self.now.age }
         ensures young { OnFalse result (self.now.age < 2 ^ 33) }
     {
-        self.ahead.left == 0 && self.course.over
+        self.course.over
     }
 
     /// The exclusive class of the voice's zones; 0 for none.
@@ -84,11 +77,6 @@ impl<'a> Voice<'a> {
         ensures right_fits { (negsuc 32767 ≤ℤ result.1) × (result.1 ≤ℤ pos 32767) }
         ensures live { self.new ≡ after_frame self.old }
     {
-        if self.ahead.left != 0 {
-            let sides = next_ahead(&self.points, &self.parameters, self.age, &mut self.ahead);
-            self.age += 1;
-            return sides;
-        }
         let course = self.course;
         if course.over {
             return (0, 0);
@@ -116,7 +104,6 @@ impl<'a> Voice<'a> {
             &self.parameters,
             self.age,
             &mut self.course,
-            &mut self.ahead,
             &mut work.stages,
             &mut work.run,
             sums,
@@ -144,12 +131,20 @@ impl<'a> Voice<'a> {
             &self.parameters,
             self.age,
             &mut self.course,
-            &mut self.ahead,
             &mut work.stages,
             &mut work.run,
             sums,
             middle,
         );
         self.age += middle.len() as u64;
+    }
+
+    /// Goes back by so many frames, as if they had not been given. It takes as long whatever their number.
+    pub fn go_back(&mut self, frames: u64)
+        requires { frames ≤ self.old.age }
+        ensures { self.new ≡ record { value = self.old.value; age = self.old.age - frames } }
+    {
+        self.age -= frames;
+        self.course.go_to(&self.parameters, self.age);
     }
 }

@@ -2,7 +2,7 @@ use Rattle.std.proofs.Common.{◌≡◌, ℕ, ◌+◌, ◌-◌, ◌/◌, ◌^◌
 use Rattle.std.proofs.lemmas.Grind.{common_steps}
 use Rattle.mixer.specs.declared.playing.Playing.{Playing}
 use Rattle.mixer.specs.Events.{aged, next_side}
-use Rattle.mixer.proofs.Parts.{aged-none, aged-more, aged_young, part_written, block_written}
+use Rattle.mixer.proofs.Parts.{aged-none, aged-more, aged_young, part_written}
 use Rattle.mixer.proofs.blocks.mix.Goals as goal
 
 pub loop-at-init : goal.loop-at-init
@@ -36,6 +36,3 @@ loop-at-preserved g c =
           ∙ aged-more (at / 2) (n / 2) vs
           ∙ ap (λ (m : ℕ). map (aged m) vs) (let e : at / 2 + n / 2 ≡ (at + n) / 2 = omega (arith, even) in e);
     }
-
-pub returns-clause-value : goal.returns-clause-value
-returns-clause-value g c = block_written c.loop-at.out c.args.voices.now c.loop-at.at (length c.args.out.now) c.loop-at.auto.out (omega arith) c.requires.even c.loop-at.invariant.value

@@ -1,35 +1,27 @@
-use Rattle.std.proofs.Common.{◌≡◌, ◌+◌, ◌-◌, ◌*◌, ◌/◌, ◌%◌, ◌≤◌, pos, arith, get_or, length, nat_eq, take, drop, refl, subst, ◌∙◌}
+use Rattle.std.proofs.Common.{◌≡◌, ◌+◌, ◌-◌, ◌*◌, ◌/◌, ◌%◌, ◌≤◌, ◌<◌, pos, arith, get_or, length, nat_eq, take, drop, refl, subst, ◌∙◌}
 use Rattle.std.proofs.lemmas.Grind.{common_steps}
 use Rattle.zone_select.specs.Select.{Voice}
-use Rattle.voices.specs.Ahead.{IsAhead}
 use Rattle.voices.specs.Course.{IsCourse}
 use Rattle.voices.specs.Sound.{snd}
 use Rattle.voices.specs.Runs.{IsAdded}
 use Rattle.voice_levels.proofs.WriteLemmas.{below_piece, after_piece, in_piece}
-use Rattle.voices.proofs.RunLemmas.{later_added}
+use Rattle.voices.proofs.RunLemmas.{heard_added, later_added}
 use Rattle.voices.proofs.adding.add_run.Goals as goal
 
 pub loop-at-init : goal.loop-at-init
-loop-at-init c =
-    let e : c.args.age ≡ c.args.age + 0 / 2 = omega arith in
-    record {
-      within = omega arith;
-      even = (λ _. 0);
-      ahead = subst (λ t. IsAhead (record { points = c.args.points.now; parameters = c.args.v.now }) t c.args.ahead.now) e c.requires.ahead;
-      here = subst (λ t. IsCourse c.args.points.now c.args.v.now (t + c.args.ahead.now.left) c.args.course.now) e c.requires.course;
-      done = λ i h. absurd (omega (arith, h));
-      rest = λ i h. refl;
-    }
-
-pub returns-clause-ahead : goal.returns-clause-ahead
-returns-clause-ahead c =
-    let e : c.loop-at.at ≡ length c.args.sums.now = omega (arith, c.loop-at.invariant.within, c.loop-at.auto.sums) in
-    subst (λ n. IsAhead (record { points = c.args.points.now; parameters = c.args.v.now }) (c.args.age + n / 2) c.loop-at.ahead) e c.loop-at.invariant.ahead
+loop-at-init c = record {
+  within = omega arith;
+  even = (λ _. 0);
+  here = subst (λ t. IsCourse c.args.points.now c.args.v.now t c.args.course.now) (let e : c.args.age ≡ c.args.age + 0 / 2 = omega arith in e) c.requires.course;
+  done = λ i h. absurd (omega (arith, h));
+  rest = λ i h. refl;
+  room = refl;
+}
 
 pub returns-clause-course : goal.returns-clause-course
 returns-clause-course c =
     let e : c.loop-at.at ≡ length c.args.sums.now = omega (arith, c.loop-at.invariant.within, c.loop-at.auto.sums) in
-    subst (λ n. IsCourse c.args.points.now c.args.v.now (c.args.age + n / 2 + c.loop-at.ahead.left) c.loop-at.course) e c.loop-at.invariant.here
+    subst (λ n. IsCourse c.args.points.now c.args.v.now (c.args.age + n / 2) c.loop-at.course) e c.loop-at.invariant.here
 
 pub loop-at-preserved : goal.loop-at-preserved
 loop-at-preserved c =
@@ -43,17 +35,23 @@ loop-at-preserved c =
     let most : n ≤ (length xs - at) / 2 = omega (arith, c.min-n.ensures) in
     let end : at + 2 * n ≤ length xs = omega (arith, most) in
     let long : length (take (at + 2 * n - at) (drop at xs)) ≡ 2 * n = grind (arith, common_steps, end) in
-    let len : length c.add_part.new.sums ≡ 2 * n = c.add_part.auto.sums ∙ long in
-    let later : t + length (take (at + 2 * n - at) (drop at xs)) / 2 ≡ c.args.age + (at + 2 * n) / 2 = omega (arith, even, long) in
+    let len : length c.add_sides.new.sums ≡ 2 * n = c.add_sides.auto.sums ∙ long in
+    let fits : n ≤ length c.loop-at.run = omega (arith, c.min-n.ensures, c.loop-at.invariant.room) in
+    let part : length (take n c.loop-at.run) ≡ n = grind (arith, common_steps, fits) in
+    let made : length c.fill_run.new.run ≡ n = c.fill_run.auto.run ∙ part in
+    let later : t + length (take n c.loop-at.run) ≡ c.args.age + (at + 2 * n) / 2 = omega (arith, even, part) in
     record {
       within = omega (arith, end, c.loop-at.auto.sums);
       even = omega (arith, even);
-      ahead = subst (λ x. IsAhead v x c.add_part.new.ahead) later c.add_part.ensures.ahead;
-      here = subst (λ x. IsCourse c.args.points.now c.args.v.now (x + c.add_part.new.ahead.left) c.add_part.new.course) later c.add_part.ensures.course;
-      done = below_piece (pos 0) (λ i y. IsAdded (get_or ys i (pos 0)) (snd v (nat_eq (i % 2) 0) (c.args.age + i / 2)) y) xs c.add_part.new.sums at (2 * n) end len
+      here = subst (λ x. IsCourse c.args.points.now c.args.v.now x c.fill_run.new.course) later c.fill_run.ensures.there;
+      done = below_piece (pos 0) (λ i y. IsAdded (get_or ys i (pos 0)) (snd v (nat_eq (i % 2) 0) (c.args.age + i / 2)) y) xs c.add_sides.new.sums at (2 * n) end len
           c.loop-at.invariant.done
-          (λ k h. later_added v c.args.age at k (get_or ys (at + k) (pos 0)) _ _ even
+          (λ k h.
+          let there : k / 2 < length c.fill_run.new.run = omega (arith, h, made) in
+          later_added v c.args.age at k (get_or ys (at + k) (pos 0)) _ _ even
           (in_piece (pos 0) xs at (2 * n) k end h ∙ c.loop-at.invariant.rest (at + k) (omega arith))
-          (c.add_part.ensures.sums k (omega (arith, h, len))));
-      rest = after_piece (pos 0) xs ys c.add_part.new.sums at (2 * n) end len c.loop-at.invariant.rest;
+          (heard_added v (t + k / 2) (k % 2) _ _ _ _ _ (c.add_sides.ensures k (omega (arith, h, len))) (c.fill_run.ensures.heard (k / 2) there)
+          c.left_part.ensures.value c.right_part.ensures.value));
+      rest = after_piece (pos 0) xs ys c.add_sides.new.sums at (2 * n) end len c.loop-at.invariant.rest;
+      room = grind (arith, common_steps, fits, made, c.loop-at.invariant.room);
     }

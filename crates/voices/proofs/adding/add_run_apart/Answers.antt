@@ -1,19 +1,11 @@
 use Rattle.std.proofs.Common.{◌≡◌, ◌+◌, ◌≤◌, arith, length, take, subst}
 use Rattle.std.proofs.lemmas.Grind.{common_steps}
-use Rattle.voices.specs.Ahead.{IsAhead}
 use Rattle.voices.specs.Course.{IsCourse}
 use Rattle.voices.proofs.adding.add_run_apart.Goals as goal
-
-pub returns-clause-ahead : goal.returns-clause-ahead
-returns-clause-ahead c =
-    let n = length c.args.middle.now in
-    let fits : n ≤ length c.args.run.now = omega (arith, c.requires.short) in
-    let part : length (take n c.args.run.now) ≡ n = grind (arith, common_steps, fits) in
-    subst (λ m. IsAhead (record { points = c.args.points.now; parameters = c.args.v.now }) (c.args.age + m) c.fill_next.new.ahead) part c.fill_next.ensures.ahead
 
 pub returns-clause-course : goal.returns-clause-course
 returns-clause-course c =
     let n = length c.args.middle.now in
     let fits : n ≤ length c.args.run.now = omega (arith, c.requires.short) in
     let part : length (take n c.args.run.now) ≡ n = grind (arith, common_steps, fits) in
-    subst (λ m. IsCourse c.args.points.now c.args.v.now (c.args.age + m + c.fill_next.new.ahead.left) c.fill_next.new.course) part c.fill_next.ensures.course
+    subst (λ m. IsCourse c.args.points.now c.args.v.now (c.args.age + m) c.fill_run.new.course) part c.fill_run.ensures.there

@@ -1,0 +1,182 @@
+//! Frames that are summed ahead of short blocks.
+ghost use Rattle.std.specs.Prelude.{◌≡◌, ℕ, ◌+◌, ◌*◌, ◌/◌, ◌%◌, ◌<◌, ◌≤◌, ◌^◌, ◌++◌, ◌+ℤ◌, List, [], false, pos, EachIndex, length, map, slice_index_or, vec_len};
+ghost use Rattle.std.specs.List.{list_any};
+ghost use Rattle.std.specs.Vec.{vec_capacity};
+ghost use Rattle.mixer.specs.declared.playing.Playing.{Playing};
+ghost use Rattle.voices.specs.Within.{IsWithin};
+ghost use Rattle.mixer.specs.Heard as heard;
+ghost use Rattle.mixer.specs.Ahead.{AreSums, AreWithin, IsAhead, playing_now};
+ghost use Rattle.mixer.specs.Events.{aged, next_side, unsilenced};
+ghost use Rattle.mixer.specs.KeptVoices.{AllSounding, AllYounger};
+
+use crate::blocks::{GROUP, add_voices, cut_both};
+use crate::playing::{Playing, drop_over, drop_silenced, go_back, have_class};
+use voices::Workspace;
+
+// The most frames that are summed ahead.
+const MOST: usize = 256;
+
+// The sides of these.
+const SIDES: usize = 2 * MOST;
+
+// The sums of the frames that come next, so many as are left, at the end of each list. Short blocks take theirs from them: so
+// what it costs to call all voices comes once in several blocks.
+#[derive(Drop)]
+pub(crate) struct Ahead {
+    sides: [i32; SIDES],
+    middle: [i32; MOST],
+    pub(crate) left: usize,
+    // How many are summed next where fewer are asked for: twice as many as before, for they may have been in vain.
+    reach: usize,
+}
+
+impl Ahead {
+    // No frames.
+    pub(crate) fn none() -> Ahead
+        ensures { result.left ≡ 0 }
+    {
+        Ahead {
+            sides: [0; SIDES],
+            middle: [0; MOST],
+            left: 0,
+            reach: 0,
+        }
+    }
+
+    // So many frames in which nothing sounds.
+    fn clear(&mut self, count: usize)
+        requires { count ≤ 256 }
+        ensures left { self.new.left ≡ count }
+        ensures silent { AreSums self.new [] }
+    {
+        let first = MOST - count;
+        self.sides[2 * first..].fill(0);
+        self.middle[first..].fill(0);
+        self.left = count;
+    }
+
+    // Adds the frames of further voices to those that are left. Each voice gets as many frames older.
+    pub(crate) fn join(&mut self, voices: &mut [Playing], work: &mut Workspace)
+        requires few { 0 < self.old.left → length voices.old ≤ 32767 }
+        requires young { AllYounger (2 ^ 63 + 2 ^ 34) voices.old }
+        requires room { AreWithin 32767 self.old }
+        ensures left { self.new.left ≡ self.old.left }
+        ensures sums { (ps : List Playing) → AreSums self.old ps → AreSums self.new (ps ++ voices.old) }
+        ensures live { voices.new ≡ map (aged self.old.left) voices.old }
+    {
+        if self.left == 0 {
+            return;
+        }
+        let first = MOST - self.left;
+        add_voices(
+            voices,
+            work,
+            &mut self.sides[2 * first..],
+            &mut self.middle[first..],
+        );
+    }
+
+    // Sums frames of all voices, where none are left: so many as are asked for, or more.
+    pub(crate) fn fill(&mut self, asked: usize, voices: &mut [Playing], work: &mut Workspace)
+        requires some { 0 < asked }
+        requires few { length voices.old ≤ 32767 }
+        requires young { AllYounger (2 ^ 63 + 2 ^ 34) voices.old }
+        ensures some { (0 < self.new.left) × (self.new.left ≤ 256) }
+        ensures sums { AreSums self.new voices.old }
+        ensures live { voices.new ≡ map (aged self.new.left) voices.old }
+    {
+        let count = self.reach.max(asked).min(MOST);
+        self.reach = 2 * count;
+        self.clear(count);
+        self.join(voices, work);
+    }
+
+    // Gives the frames that come next, all of which are left.
+    pub(crate) fn give(&mut self, out: &mut [i16])
+        requires even { length out.old % 2 ≡ 0 }
+        requires enough { length out.old ≤ 2 * self.old.left }
+        requires room { AreWithin 32767 self.old }
+        ensures left { self.new.left + length out.old / 2 ≡ self.old.left }
+        ensures heard { (ps : List Playing) → AreSums self.old ps
+            → EachIndex out.new (λ i. slice_index_or out.new i (pos 0) ≡ next_side ps i) }
+        ensures sums { (ps : List Playing) → AreSums self.old ps → AreSums self.new (map (aged (length out.old / 2)) ps) }
+    {
+        let first = MOST - self.left;
+        cut_from(&self.sides, &self.middle, first, out);
+        self.left -= out.len() / 2;
+    }
+}
+
+// The sums from a frame on, as 16 bits.
+fn cut_from(sides: &[i32], middle: &[i32], first: usize, out: &mut [i16])
+    requires even { length out.old % 2 ≡ 0 }
+    requires sides { 2 * first + length out.old ≤ length sides.now }
+    requires middle { first + length out.old / 2 ≤ length middle.now }
+    requires room { (i : ℕ) → i < length out.old → IsWithin 32767 (slice_index_or sides.now (2 * first + i) (pos 0)) }
+    requires middle_room { (k : ℕ) → k < length out.old / 2 → IsWithin 32767 (slice_index_or middle.now (first + k) (pos 0)) }
+    ensures { EachIndex out.new (λ i. slice_index_or out.new i (pos 0)
+        ≡ heard.cut (slice_index_or sides.now (2 * first + i) (pos 0) +ℤ slice_index_or middle.now (first + i / 2) (pos 0))) }
+{
+    let n = out.len();
+    cut_both(
+        &sides[2 * first..2 * first + n],
+        &middle[first..first + n / 2],
+        out,
+    );
+}
+
+// Sums frames of all voices ahead of a block that asks for few, unless some are left. Where none are left then, the voices
+// are those that sound.
+pub(crate) fn sum_ahead<'a>(
+    voices: &mut Vec<Playing<'a>>,
+    ahead: &mut Ahead,
+    work: &mut Workspace,
+    asked: usize,
+)
+    requires ahead { IsAhead ahead.old voices.old.items }
+    requires some { 0 < asked }
+    ensures ahead { IsAhead ahead.new voices.new.items }
+    ensures same { playing_now ahead.new voices.new.items ≡ playing_now ahead.old voices.old.items }
+    ensures sounding { ahead.new.left ≡ 0 → AllSounding voices.new.items }
+    ensures young { ahead.new.left ≡ 0 → AllYounger (2 ^ 33) voices.new.items }
+{
+    if ahead.left != 0 {
+        return;
+    }
+    drop_over(voices);
+    if asked < MOST && voices.len() <= GROUP {
+        ahead.fill(asked, voices.as_mut_slice(), work);
+    }
+}
+
+// Drops the frames that are left where they don't hold beside new voices: where these may silence others, which were
+// summed, or where the sums have no room for them. The voices go back by as many.
+fn drop_ahead<'a>(voices: &mut Vec<Playing<'a>>, ahead: &mut Ahead, new: &[Playing<'a>])
+    requires { IsAhead ahead.old voices.old.items }
+    ensures ahead { IsAhead ahead.new voices.new.items }
+    ensures same { playing_now ahead.new voices.new.items ≡ playing_now ahead.old voices.old.items }
+    ensures alone { 0 < ahead.new.left → list_any heard.has_class new.now ≡ false }
+    ensures few { 0 < ahead.new.left → length voices.new.items + length new.now ≤ 32767 }
+    ensures bound { vec_len voices.new ≤ vec_len voices.old }
+    ensures capacity { vec_capacity voices.new ≡ vec_capacity voices.old }
+{
+    if ahead.left == 0 || !have_class(new) && voices.len() + new.len() <= GROUP {
+        return;
+    }
+    go_back(voices.as_mut_slice(), ahead.left);
+    ahead.left = 0;
+    ahead.reach = 0;
+}
+
+// Drops the voices that new ones silence.
+pub(crate) fn make_way<'a>(voices: &mut Vec<Playing<'a>>, ahead: &mut Ahead, new: &[Playing<'a>])
+    requires { IsAhead ahead.old voices.old.items }
+    ensures ahead { IsAhead ahead.new voices.new.items }
+    ensures unsilenced { playing_now ahead.new voices.new.items ≡ unsilenced new.now (playing_now ahead.old voices.old.items) }
+    ensures few { 0 < ahead.new.left → length voices.new.items + length new.now ≤ 32767 }
+    ensures bound { vec_len voices.new ≤ vec_len voices.old }
+    ensures capacity { vec_capacity voices.new ≡ vec_capacity voices.old }
+{
+    drop_ahead(voices, ahead, new);
+    drop_silenced(voices, new);
+}
