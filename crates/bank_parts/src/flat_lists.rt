@@ -11,6 +11,7 @@ use crate::level_contents::gens_fit;
 use crate::own_bags::are_all_bags;
 use crate::owners::Owners;
 use flat_records::Recs;
+use linked_members::EndedList;
 use modulators::Modulator;
 use numbered_lists::NumberedList;
 use owner_bags::OwnerBags;
@@ -35,6 +36,7 @@ impl<H: OwnerHead> Owners<H> {
             return None;
         }
         gens_fit(bags.gen_records());
+        let heads = EndedList::from_vec(heads.into_vec());
         Some(Owners { heads, bags })
     }
 

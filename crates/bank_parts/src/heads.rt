@@ -4,10 +4,10 @@ ghost use Rattle.generators.specs.declared.level.Level.{Level};
 
 use crate::parts::Head;
 use generators::Level;
-use sf_base::Name20;
+use sf_base::{Blank, Name20};
 
 /// What a preset has besides its zones, or an instrument.
-pub trait OwnerHead: Copy {
+pub trait OwnerHead: Copy + Blank {
     ghost use Rattle.std.specs.Prelude.{ℕ, List};
 
     /// Whose zones they are.

@@ -3,6 +3,7 @@
 #![tactic(auto)]
 
 mod bag_changes;
+mod blanks;
 mod contents;
 mod copying;
 mod counting;

@@ -10,6 +10,7 @@ use crate::heads::OwnerHead;
 use crate::owners::{Owners, ZonePlace};
 use crate::parts::{GlobalZone, WithZones, Zone};
 use generators::GenMap;
+use linked_members::EndedList;
 use modulators::Modulator;
 use numbered_lists::NumberedList;
 use sf_base::OutOfMemory;
@@ -89,7 +90,7 @@ impl<H: OwnerHead> Owners<H> {
         let heads = Vec::from_slice(alloc, self.heads.as_slice())?;
         let bags = self.bags.copy(alloc)?;
         Ok(Owners {
-            heads: NumberedList::from_vec(heads),
+            heads: EndedList::from_vec(heads),
             bags,
         })
     }

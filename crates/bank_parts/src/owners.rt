@@ -8,7 +8,7 @@ ghost use Rattle.bank_parts.specs.Bagged.{global_bags};
 
 use crate::heads::OwnerHead;
 use crate::reading::ends_in;
-use numbered_lists::NumberedList;
+use linked_members::EndedList;
 use owner_bags::OwnerBags;
 use sf_base::OutOfMemory;
 use std::alloc::Global;
@@ -28,7 +28,7 @@ pub enum ZonePlace {
 /// What flat lists can't hold is answered as out of memory: more than 65,535 zones, generators or modulators
 /// in all, or a map with the operator of the targets (SoundFont 2.04, sections 7.3 to 7.9).
 pub struct Owners<H: OwnerHead> {
-    pub(crate) heads: NumberedList<H>,
+    pub(crate) heads: EndedList<H>,
     pub(crate) bags: OwnerBags,
 }
 
@@ -62,7 +62,7 @@ impl<H: OwnerHead> Owners<H> {
     pub fn with_capacity(alloc: Global, count: usize) -> Result<Owners<H>, OutOfMemory>
         ensures { IfOk result (λ owners. owners ≡ []) }
     {
-        let heads = NumberedList::from_vec(Vec::with_capacity(alloc, count)?);
+        let heads = EndedList::from_vec(Vec::with_capacity(alloc, count)?);
         let mut bags = OwnerBags::new(alloc)?;
         bags.reserve(count, 0, 0, 0)?;
         Ok(Owners { heads, bags })

@@ -1,12 +1,7 @@
 //! How what names samples by their numbers follows a change of their list.
-ghost use Rattle.std.specs.Prelude.{◌≡◌, []};
-
 use crate::parts::{Kind, Sample};
 use linked_members::Linked;
 use numbered_lists::{Renumber, Renumbering};
-use sample_view::Points;
-use sf_base::Name20;
-use std::alloc::Global;
 
 /// A sample holds the number that its link names.
 impl<'a> Renumber for Sample<'a> {
@@ -54,26 +49,5 @@ impl<'a> Linked for Sample<'a> {
             Kind::Mono => false,
             Kind::Right(link) | Kind::Left(link) | Kind::Linked(link) => u32::from(link) == number,
         }
-    }
-
-    fn blank(alloc: Global) -> Sample<'a> {
-        Sample {
-            name: no_name(),
-            points: Points::empty(alloc),
-            looped: None,
-            rate: 0,
-            key: 0,
-            correction: 0,
-            kind: Kind::Mono,
-        }
-    }
-}
-
-fn no_name() -> Name20
-    ensures { result ≡ [] }
-{
-    match Name20::from_bytes(&[]) {
-        Ok(name) => name,
-        Err(_) => unreachable!(),
     }
 }

@@ -67,7 +67,19 @@ all_written v xs ys n is size h long =
 pub lent_behind : {X : Type 0} (n : ℕ) (xs items zs : List X) → xs ≡ items → drop n items ≡ zs → mid_of n (length xs - n) xs ≡ zs
 lent_behind n xs items zs is view = take_rest xs n ∙ (ap (drop n) is ∙ view)
 
--- all of those behind the first b are written, and then one more is put in place of the last of the first b
+-- one more is put in place of the last of the first b
+pub put_behind : {X : Type 0} (v : Vec X) (xs later : List X) (b i : ℕ) (x : X) (whole : List X) → 0 < b → b ≤ length v.items
+    → xs ≡ v.items → length xs ≡ vec_len v → drop b v.items ≡ whole
+    → length later ≡ length (mid_of (b - 1) (length xs - (b - 1)) xs) → later ≡ insert (drop 1 (mid_of (b - 1) (length xs - (b - 1)) xs)) i x
+    → drop (b - 1) (with_items v (put_mid (b - 1) (length xs - (b - 1)) xs later)).items ≡ insert whole i x
+put_behind v xs later b i x whole some h is size view long put =
+    let one : b - 1 + 1 ≡ b = omega arith in
+    let within : b - 1 ≤ length v.items = omega arith in
+    let rest : drop 1 (mid_of (b - 1) (length xs - (b - 1)) xs) ≡ whole =
+    ap (drop 1) (take_rest xs (b - 1)) ∙ (drop-drop 1 (b - 1) xs ∙ (ap (λ k. drop k xs) one ∙ (ap (drop b) is ∙ view))) in
+    all_written v xs later (b - 1) is size within long ∙ (put ∙ ap (λ zs. insert zs i x) rest)
+
+-- all of those behind the first b are written before
 pub one_put : {X : Type 0} (v : Vec X) (xs new all : List X) (b i : ℕ) (x : X) (later whole : List X) → 0 < b → b ≤ length v.items
     → xs ≡ v.items → length xs ≡ vec_len v → length new ≡ length (mid_of b (length xs - b) xs) → new ≡ whole
     → all ≡ (with_items v (put_mid b (length xs - b) xs new)).items → length all ≡ vec_len (with_items v (put_mid b (length xs - b) xs new))
@@ -77,13 +89,13 @@ one_put v xs new all b i x later whole some h is size long written all_is all_si
     let v1 = with_items v (put_mid b (length xs - b) xs new) in
     let same = written_size v xs new b size long in
     let whole_size = ap length is in
-    let within : b - 1 ≤ length v1.items = omega arith in
-    let one : b - 1 + 1 ≡ b = omega arith in
-    let rest : drop 1 (mid_of (b - 1) (length all - (b - 1)) all) ≡ whole =
-    ap (drop 1) (take_rest all (b - 1)) ∙ (drop-drop 1 (b - 1) all ∙ (ap (λ k. drop k all) one ∙ (ap (drop b) all_is ∙ (all_written v xs new b is size h long ∙ written)))) in
-    all_written v1 all later (b - 1) all_is all_size within all_long ∙ (put ∙ ap (λ zs. insert zs i x) rest)
+    put_behind v1 all later b i x whole some (omega arith) all_is all_size (all_written v xs new b is size h long ∙ written) all_long put
 
--- all of those behind the first b are written, and then one more is put in among them
+-- one more is put in among those behind the first b
+pub inserted_behind : {X : Type 0} (xs items : List X) (b i : ℕ) (x : X) (whole : List X) → b ≤ length xs → drop b xs ≡ whole → items ≡ insert xs (b + i) x → drop b items ≡ insert whole i x
+inserted_behind xs items b i x whole h view put = ap (drop b) put ∙ (drop-insert b xs i (b + i) x refl h ∙ ap (λ zs. insert zs i x) view)
+
+-- all of them are written before
 pub one_inserted : {X : Type 0} (v : Vec X) (xs new items : List X) (b i : ℕ) (x : X) (whole : List X) → b ≤ length v.items
     → xs ≡ v.items → length xs ≡ vec_len v → length new ≡ length (mid_of b (length xs - b) xs) → new ≡ whole
     → items ≡ insert (with_items v (put_mid b (length xs - b) xs new)).items (b + i) x
@@ -92,7 +104,7 @@ one_inserted v xs new items b i x whole h is size long written put =
     let v1 = with_items v (put_mid b (length xs - b) xs new) in
     let same = written_size v xs new b size long in
     let whole_size = ap length is in
-    ap (drop b) put ∙ (drop-insert b v1.items i (b + i) x refl (omega arith) ∙ ap (λ zs. insert zs i x) (all_written v xs new b is size h long ∙ written))
+    inserted_behind v1.items items b i x whole (omega arith) (all_written v xs new b is size h long ∙ written) put
 
 -- what stands there
 pub found_behind : {X : Type 0} (n : ℕ) (xs zs : List X) (i : ℕ) (x : X) → drop n xs ≡ zs → n ≤ length xs → i < length zs → x ≡ get_or xs (n + i) x → slice_get zs i ≡ Some x

@@ -8,11 +8,13 @@ ghost use Rattle.linked_members.specs.Within.{changed_within};
 use crate::linked::Linked;
 use crate::span::Span;
 use numbered_lists::{Renumbering, insert_within, move_within, renumber_all};
+use sf_base::Blank;
 use std::alloc::{AllocError, AllocFailed, Global};
 use std::marker::Model;
 
-// Members one behind the other, of which a change moves those on its shorter side.
-pub(crate) struct EndedList<T> {
+/// A list whose members go by their numbers, the first by 0. A change of their order or number moves the members on
+/// its shorter side.
+pub struct EndedList<T> {
     // The members stand behind blanks, which are room for more of them.
     places: Vec<T>,
     blanks: usize,
@@ -39,29 +41,37 @@ impl<T> Model for EndedList<T> {
 }
 
 impl<T> EndedList<T> {
-    // The elements of a `Vec`.
-    pub(crate) fn from_vec(places: Vec<T>) -> EndedList<T>
+    /// The elements of a `Vec` as members. Takes no memory.
+    pub fn from_vec(places: Vec<T>) -> EndedList<T>
         ensures { result ≡ places.items }
     {
         EndedList { places, blanks: 0 }
     }
 
-    // How many members there are.
-    pub(crate) fn len(&self) -> usize
+    /// How many members there are.
+    pub fn len(&self) -> usize
         ensures { result ≡ length self.now }
     {
         self.places.len() - self.blanks
     }
 
-    // The members in their order.
-    pub(crate) fn as_slice(&self) -> &[T]
+    /// The members in their order.
+    pub fn as_slice(&self) -> &[T]
         ensures { result.now ≡ self.now }
     {
         &self.places[self.blanks..]
     }
 
-    // Member `i`, to be changed in its place.
-    pub(crate) fn member_mut(&mut self, i: usize) -> &mut T
+    /// Member `i`, which is there.
+    pub fn member(&self, i: usize) -> &T
+        requires { i < length self.now }
+        ensures { slice_get self.now i ≡ Some result.now }
+    {
+        &self.as_slice()[i]
+    }
+
+    /// Member `i`, which is there, to be changed in its place.
+    pub fn member_mut(&mut self, i: usize) -> &mut T
         requires { i < length self.old }
         ensures* writes_back { sem 𝓛 (Lends (the_row T.row) T.row self.entry result (λ w. slice_set self.old i w)) }
         ensures value { slice_get self.old i ≡ Some result.now }
@@ -69,8 +79,17 @@ impl<T> EndedList<T> {
         &mut self.places[self.blanks + i]
     }
 
-    // Puts `x` behind the last member. When out of memory, the list stays as it is, and `x` comes back.
-    pub(crate) fn push(&mut self, x: T) -> Result<(), T>
+    /// Makes `x` member `i`, and gives back the member that it replaces. Takes no memory.
+    pub fn replace(&mut self, i: usize, x: T) -> T
+        requires { i < length self.old }
+        ensures value { slice_get self.old i ≡ Some result }
+        ensures list { self.new ≡ slice_set self.old i x }
+    {
+        std::mem::replace(self.member_mut(i), x)
+    }
+
+    /// Puts `x` behind the last member. When out of memory, the list stays as it is, and `x` comes back.
+    pub fn push(&mut self, x: T) -> Result<(), T>
         ensures ok { OnOk result (self.new ≡ self.old ++ x ∷ []) }
         ensures err { OnErr result (self.new ≡ self.old) }
         ensures value_returned { IfErr result (λ y. y ≡ x) }
@@ -78,13 +97,96 @@ impl<T> EndedList<T> {
         self.places.push(x).map_err(|AllocFailed { value }| value)
     }
 
-    // Makes member `from` member `to`; the others keep their order.
-    pub(crate) fn move_member(&mut self, from: usize, to: usize)
+    /// Makes member `from` member `to`; the others keep their order. Takes no memory.
+    pub fn move_member(&mut self, from: usize, to: usize)
         requires from { from < length self.old }
         requires to { to < length self.old }
         ensures { self.new ≡ moved self.old from to }
     {
         move_within(&mut self.places[self.blanks..], from, to);
+    }
+}
+
+impl<T: Blank> EndedList<T> {
+    /// Makes `x` member `i`; the members from there on get the next number each. When out of memory,
+    /// the list stays as it is, and `x` comes back.
+    pub fn insert(&mut self, i: usize, x: T) -> Result<(), T>
+        requires { i ≤ length self.old }
+        ensures ok { OnOk result (self.new ≡ insert self.old i x) }
+        ensures err { OnErr result (self.new ≡ self.old) }
+        ensures value_returned { IfErr result (λ y. y ≡ x) }
+    {
+        if i < self.len() / 2 {
+            self.make_blanks();
+            if self.blanks != 0 {
+                self.blanks -= 1;
+                put_in_front(&mut self.places[self.blanks..], i, x);
+                return Ok(());
+            }
+        }
+        if self.places.try_reserve(1).is_err() {
+            return Err(x);
+        }
+        insert_within(&mut self.places, self.blanks + i, x);
+        Ok(())
+    }
+
+    /// Takes member `i` out; the members behind it get the number before each. Takes no memory.
+    pub fn remove(&mut self, i: usize) -> T
+        requires { i < length self.old }
+        ensures value { slice_get self.old i ≡ Some result }
+        ensures list { self.new ≡ remove self.old i }
+    {
+        let x = self.take_out(i);
+        if self.blanks > self.len() {
+            self.drop_blanks();
+        }
+        x
+    }
+
+    // The same. In the front half it leaves a blank.
+    fn take_out(&mut self, i: usize) -> T
+        requires { i < length self.old }
+        ensures value { slice_get self.old i ≡ Some result }
+        ensures list { self.new ≡ remove self.old i }
+    {
+        if i < self.len() / 2 {
+            let blank = T::blank(*self.places.allocator());
+            let x = take_to_front(&mut self.places[self.blanks..], i, blank);
+            self.blanks += 1;
+            return x;
+        }
+        self.places.remove(self.blanks + i)
+    }
+
+    // Drops the blanks. They are dropped when there are more of them than members, so that these move once in so many
+    // changes.
+    fn drop_blanks(&mut self)
+        ensures { self.new ≡ self.old }
+    {
+        let count = self.places.len() - self.blanks;
+        self.places.rotate_left(self.blanks);
+        self.places.truncate(count);
+        self.blanks = 0;
+    }
+
+    // Makes as many blanks in front as there are members, where there are none: so all members move once in so many
+    // changes. When out of memory, there are none.
+    fn make_blanks(&mut self)
+        ensures { self.new ≡ self.old }
+    {
+        if self.blanks != 0 {
+            return;
+        }
+        let alloc = *self.places.allocator();
+        let Ok(mut places) = blanks(alloc, self.places.len()) else {
+            return;
+        };
+        let front = places.len();
+        if places.append(&mut self.places).is_ok() {
+            self.places = places;
+            self.blanks = front;
+        }
     }
 }
 
@@ -123,34 +225,6 @@ impl<T: Linked> EndedList<T> {
         Ok(())
     }
 
-    // Takes member `i` out.
-    pub(crate) fn remove(&mut self, i: usize) -> T
-        requires { i < length self.old }
-        ensures value { slice_get self.old i ≡ Some result }
-        ensures list { self.new ≡ remove self.old i }
-    {
-        let x = self.take_out(i);
-        if self.blanks > self.len() {
-            self.drop_blanks();
-        }
-        x
-    }
-
-    // The same. In the front half it leaves a blank.
-    fn take_out(&mut self, i: usize) -> T
-        requires { i < length self.old }
-        ensures value { slice_get self.old i ≡ Some result }
-        ensures list { self.new ≡ remove self.old i }
-    {
-        if i < self.len() / 2 {
-            let blank = T::blank(*self.places.allocator());
-            let x = take_to_front(&mut self.places[self.blanks..], i, blank);
-            self.blanks += 1;
-            return x;
-        }
-        self.places.remove(self.blanks + i)
-    }
-
     // Renumbers the members of the span.
     pub(crate) fn renumber_part(&mut self, by: Renumbering, span: Span)
         requires order { span.start ≤ span.end }
@@ -159,36 +233,6 @@ impl<T: Linked> EndedList<T> {
         ensures { self.new ≡ changed_within span.start span.end (T.with_new_numbers by) self.old }
     {
         renumber_part(&mut self.places[self.blanks..], by, span);
-    }
-
-    // Drops the blanks. They are dropped when there are more of them than members, so that these move once in so many
-    // changes.
-    fn drop_blanks(&mut self)
-        ensures { self.new ≡ self.old }
-    {
-        let count = self.places.len() - self.blanks;
-        self.places.rotate_left(self.blanks);
-        self.places.truncate(count);
-        self.blanks = 0;
-    }
-
-    // Makes as many blanks in front as there are members, where there are none: so all members move once in so many
-    // changes. When out of memory, there are none.
-    fn make_blanks(&mut self)
-        ensures { self.new ≡ self.old }
-    {
-        if self.blanks != 0 {
-            return;
-        }
-        let alloc = *self.places.allocator();
-        let Ok(mut places) = blanks(alloc, self.places.len()) else {
-            return;
-        };
-        let front = places.len();
-        if places.append(&mut self.places).is_ok() {
-            self.places = places;
-            self.blanks = front;
-        }
     }
 }
 
@@ -202,7 +246,7 @@ fn renumber_part<T: Linked>(members: &mut [T], by: Renumbering, span: Span)
     renumber_all(&mut members[span.start..span.end], by);
 }
 
-fn blanks<T: Linked>(alloc: Global, count: usize) -> Result<Vec<T>, AllocError> {
+fn blanks<T: Blank>(alloc: Global, count: usize) -> Result<Vec<T>, AllocError> {
     let mut blanks = Vec::new(alloc);
     for _ in 0..count {
         blanks.push(T::blank(alloc))?;

@@ -1,4 +1,5 @@
-//! Lists of numbered members that may link to one another: at either end, a change takes as long as what is near it.
+//! Lists of numbered members with room at both ends, where a change takes as long as what is near it; and lists of those
+//! that may link to one another.
 #![tactic(auto)]
 
 mod ended;
@@ -6,5 +7,6 @@ mod linked;
 mod members;
 mod span;
 
+pub use ended::EndedList;
 pub use linked::Linked;
 pub use members::LinkedMembers;

@@ -1,9 +1,9 @@
 //! Members that may link to others of their list.
 use numbered_lists::Renumber;
-use std::alloc::Global;
+use sf_base::Blank;
 
 /// A member of a list that may link to a member by its number.
-pub trait Linked: Renumber + Drop + Sized {
+pub trait Linked: Renumber + Blank {
     ghost use Rattle.std.specs.Prelude.{◌≡◌, ℕ, Bool, false};
     ghost use Rattle.numbered_lists.specs.declared.renumbering.Renumbering.{Renumbering};
 
@@ -20,9 +20,6 @@ pub trait Linked: Renumber + Drop + Sized {
     /// Whether it links to the member of this number.
     fn links_to(&self, number: u32) -> bool
         ensures { result ≡ links_to number self.now };
-
-    /// One that only keeps a place. Takes no memory.
-    fn blank(alloc: Global) -> Self;
 
     // What has no link links to no member, and stays as it is when members get new numbers.
     ghost links_nowhere: { (number : ℕ) (x : Self) → has_link x ≡ false → links_to number x ≡ false };

@@ -1,7 +1,8 @@
 //! What every crate of sfbank depends on: names, limits, little-endian numbers, parts of slices, lent
-//! bytes and out of memory.
+//! bytes, blanks and out of memory.
 #![tactic(auto)]
 
+mod blank;
 mod lent;
 pub mod limits;
 mod memory;
@@ -9,6 +10,7 @@ mod name;
 mod numbers;
 mod slices;
 
+pub use blank::Blank;
 pub use lent::Lent;
 pub use memory::{Failure, OutOfMemory};
 pub use name::{Name20, NameFault};

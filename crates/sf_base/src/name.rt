@@ -2,7 +2,9 @@
 ghost use Rattle.std.specs.Prelude.{◌≡◌, ◌<◌, ◌≤◌, ◌↔◌, ℕ, List, length, Contains, IfOk};
 ghost use Rattle.sf_base.specs.Names.{IsName, filled};
 
+use crate::blank::Blank;
 use crate::limits::NAME_LENGTH;
+use std::alloc::Global;
 use std::marker::Model;
 use thiserror::Error;
 
@@ -36,6 +38,16 @@ impl Model for Name20 {
     ghost inverse = { λ text. record { bytes = filled text; len = length text } };
 
     ghost inverse_ok = { λ n h. filled-take (λ bytes len. record { bytes = bytes; len = len }) n.bytes n.len h };
+}
+
+/// The empty name.
+impl Blank for Name20 {
+    fn blank(_alloc: Global) -> Name20 {
+        Name20 {
+            bytes: [0; 20],
+            len: 0,
+        }
+    }
 }
 
 impl Name20 {

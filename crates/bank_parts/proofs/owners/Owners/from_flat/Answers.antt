@@ -3,7 +3,8 @@ use Rattle.std.proofs.lemmas.List.{length-map}
 use Rattle.generators.specs.Levels.{target_operator}
 use Rattle.flat_records.specs.Bags.{Tables}
 use Rattle.bank_parts.specs.Bagged.{bags_of}
-use Rattle.bank_parts.specs.Flat.{owners_in}
+use Rattle.bank_parts.specs.Flat.{owners_in, AreRead}
+use Rattle.bank_parts.specs.FlatLists.{AreFlat}
 use Rattle.bank_parts.specs.OwnBags.{AreAllBags}
 use Rattle.bank_parts.proofs.FromFlatLaws.{owners_tested, owners_own, flat_by, bags_by}
 use Rattle.bank_parts.proofs.owners.Owners.from_flat.Goals as goal
@@ -31,8 +32,11 @@ returns-then-not-are_all_bags-clause-lists g c owners plain are =
 
 pub invariant_of-result : goal.invariant_of-result
 invariant_of-result g c =
-    owners_tested (target_operator g.H.OwnerHead.LEVEL) c.args.heads c.in-Some.bags.owners
-    c.len.ensures c.owner_count.ensures c.if-len-owner_count.false c.operator.ensures (c.if-not-are_all_bags.ensures.0 refl) c.gen_records.ensures c.gens_fit.ensures
+    let op = target_operator g.H.OwnerHead.LEVEL in
+    let bags = c.in-Some.bags.owners in
+    let is : c.from_vec-heads.result ≡ c.args.heads = c.from_vec-heads.ensures ∙ c.into_vec.ensures in
+    subst (λ hs. AreRead op hs bags) (sym is)
+    (owners_tested op c.args.heads bags c.len.ensures c.owner_count.ensures c.if-len-owner_count.false c.operator.ensures (c.if-not-are_all_bags.ensures.0 refl) c.gen_records.ensures c.gens_fit.ensures)
 
 pub returns-clause-lists : goal.returns-clause-lists
 returns-clause-lists g c =
@@ -40,12 +44,12 @@ returns-clause-lists g c =
     let op = target_operator at in
     let bags = c.in-Some.bags.owners in
     let t : Tables = record { bags = c.args.recs.bags.items; gens = c.args.recs.gens.items; mods = c.args.recs.mods.items } in
-    flat_by at c.args.heads c.args.first_bags.items t bags (owners_in op c.args.heads bags) c.in-Some.ensures
-    (owners_tested op c.args.heads bags c.len.ensures c.owner_count.ensures c.if-len-owner_count.false c.operator.ensures (c.if-not-are_all_bags.ensures.0 refl) c.gen_records.ensures c.gens_fit.ensures)
+    let is : c.from_vec-heads.result ≡ c.args.heads = c.from_vec-heads.ensures ∙ c.into_vec.ensures in
+    let read = subst (λ hs. AreRead op hs bags) is (invariant_of-result g c) in
+    subst (λ hs. AreFlat at c.args.heads (record { first_bags = c.args.first_bags.items; bags = t.bags; gens = t.gens; mods = t.mods }) (owners_in op hs bags)) (sym is)
+    (flat_by at c.args.heads c.args.first_bags.items t bags (owners_in op c.args.heads bags) c.in-Some.ensures read)
 
 pub returns-clause-plain : goal.returns-clause-plain
 returns-clause-plain g c =
-    let read =
-    owners_tested (target_operator g.H.OwnerHead.LEVEL) c.args.heads c.in-Some.bags.owners
-    c.len.ensures c.owner_count.ensures c.if-len-owner_count.false c.operator.ensures (c.if-not-are_all_bags.ensures.0 refl) c.gen_records.ensures c.gens_fit.ensures in
+    let read = invariant_of-result g c in
     read.plain
