@@ -1,6 +1,8 @@
 //! Changes of what the places of presets and instruments hold: of their generators and modulators.
-ghost use Rattle.std.specs.Prelude.{◌≡◌, ◌<◌, ◌≤◌, Some, None, length, IsSome, IsOk, IfSome, IfOk, OnOk, OnErr};
+ghost use Rattle.std.specs.Prelude.{◌≡◌, ◌<◌, ◌≤◌, Some, None, length, slice_get, IsSome, IsOk, IfSome, IfOk, OnOk, OnErr};
 ghost use Rattle.generators.specs.Levels.{target_operator};
+ghost use Rattle.bank_parts.specs.declared.parts.WithZones.{WithZones};
+ghost use Rattle.bank_parts.specs.Bagged.{bag_number};
 ghost use Rattle.bank_parts.specs.Owners.{HasPlace, mods_at, amount_at, mod_at};
 ghost use Rattle.bank_parts.specs.ZoneChanges.{gen_set, gen_cleared, mod_added, mod_removed, mod_set};
 
@@ -113,10 +115,7 @@ impl<H: OwnerHead> Owners<H> {
         ensures value { mod_at self.old i place j ≡ Some result }
         ensures change { self.new ≡ mod_removed self.old i place j }
     {
-        let Some(at) = self.place_bag(i, place) else {
-            unreachable!();
-        };
-        let was = self.bags.mods(i, at)[j];
+        let (at, was) = self.bag_and_mod(i, place, j);
         take_mod(&mut self.bags, i, at, j);
         was
     }
@@ -135,12 +134,22 @@ impl<H: OwnerHead> Owners<H> {
         ensures value { mod_at self.old i place j ≡ Some result }
         ensures change { self.new ≡ mod_set self.old i place j modulator }
     {
+        let (at, was) = self.bag_and_mod(i, place, j);
+        self.bags.set_mod(i, at, j, modulator);
+        was
+    }
+
+    // Where the bag of a place stands among the bags of number `i`, and modulator `j` of it.
+    fn bag_and_mod(&self, i: usize, place: ZonePlace, j: usize) -> (usize, Modulator)
+        requires there { HasPlace self.now i place }
+        requires index { IfSome (mods_at self.now i place) (λ mods. j < length mods) }
+        ensures bag { IfSome (slice_get self.now i) (λ (x : WithZones H). Some result.0 ≡ bag_number place x) }
+        ensures value { mod_at self.now i place j ≡ Some result.1 }
+    {
         let Some(at) = self.place_bag(i, place) else {
             unreachable!();
         };
-        let was = self.bags.mods(i, at)[j];
-        self.bags.set_mod(i, at, j, modulator);
-        was
+        (at, self.bags.mods(i, at)[j])
     }
 }
 

@@ -1,7 +1,8 @@
 -- Neighbouring parts of a list that change places.
 use Rattle.std.proofs.Common.{◌≡◌, ℕ, ◌≤◌, ◌+◌, ◌-◌, List, ◌++◌, length, sym, ◌∙◌, ap, take, drop, map, append_assoc, length-append, length-take, length-drop, arith}
 use Rattle.std.proofs.lemmas.List.{take_at, drop_at, take-take, drop-take, drop-drop, take-append-drop, length-take-le, length-map}
-use Rattle.flat_records.specs.Runs.{exchanged, changed_within, changed_exchanged}
+use Rattle.numbered_lists.specs.Moved.{changed_within}
+use Rattle.flat_records.specs.Runs.{exchanged, changed_exchanged}
 
 module _ {X : Type 0} (xs : List X) where
   window : (a c : ℕ) → a ≤ c → take (c - a) (drop a xs) ≡ drop a (take c xs)

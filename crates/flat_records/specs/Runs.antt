@@ -10,10 +10,6 @@ starts past at (x ∷ xs) = at ∷ starts past (past at x) xs
 abbrev pub changed_from : {X : Type 0} → ℕ → (X → X) → List X → List X
 changed_from k f xs = take k xs ++ map f (drop k xs)
 
--- those from a up to b
-abbrev pub changed_within : {X : Type 0} → ℕ → ℕ → (X → X) → List X → List X
-changed_within a b f xs = take a xs ++ (map f (drop a (take b xs)) ++ drop b xs)
-
 -- members put in at a place, and so many taken out at a place
 abbrev pub put : {X : Type 0} → List X → ℕ → List X → List X
 put xs i ys = take i xs ++ (ys ++ drop i xs)

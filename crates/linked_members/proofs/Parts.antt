@@ -9,7 +9,7 @@ use Rattle.std.specs.Global.{Vec}
 use Rattle.std.proofs.Math.Seq.{drop-append-add}
 use borrow.Rule.Slice.PartMut.{mid_of, post_of, put_mid, same_len_mid}
 use Rattle.std.specs.Prelude.{IfSome}
-use Rattle.linked_members.specs.Within.{changed_within}
+use Rattle.numbered_lists.specs.Moved.{changed_within}
 
 -- a change behind the first n
 pub drop-insert : {X : Type 0} (n : ℕ) (xs : List X) (i k : ℕ) (x : X) → k ≡ n + i → n ≤ length xs → drop n (insert xs k x) ≡ insert (drop n xs) i x

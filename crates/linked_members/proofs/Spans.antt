@@ -7,9 +7,8 @@ use Rattle.std.proofs.lemmas.List.Folds.{list_any_at}
 use Rattle.std.proofs.lemmas.Option.{get_or_from_slice_get, slice_get_within}
 use Rattle.std.specs.Prelude.{IfSome}
 use Rattle.std.specs.List.{list_any}
-use Rattle.numbered_lists.specs.Moved.{moved}
+use Rattle.numbered_lists.specs.Moved.{moved, changed_within}
 use Rattle.numbered_lists.proofs.Lists.{slice_get-found, slice_get-insert, slice_get-insert_below, slice_get-insert_above, slice_get-remove_below, slice_get-remove_above, moved-found, length-moved}
-use Rattle.linked_members.specs.Within.{changed_within}
 use Rattle.linked_members.specs.declared.span.Span.{Span}
 use Rattle.linked_members.specs.Spans.{IsSpan, IsOutside}
 use Rattle.linked_members.proofs.Parts.{all_changed}

@@ -2,8 +2,7 @@
 ghost use Rattle.std.specs.Prelude.{◌≡◌, ◌<◌, ◌≤◌, ◌++◌, ◌∷◌, [], length, insert, remove, drop, slice_get, slice_set, Some, IfErr, OnOk, OnErr, All};
 ghost use Rattle.std.specs.Borrow.{Lends, sem};
 ghost use Rattle.linked_members.specs.contracts.ended.EndedList.{the_row};
-ghost use Rattle.numbered_lists.specs.Moved.{moved};
-ghost use Rattle.linked_members.specs.Within.{changed_within};
+ghost use Rattle.numbered_lists.specs.Moved.{moved, changed_within};
 
 use crate::linked::Linked;
 use crate::span::Span;

@@ -1,6 +1,7 @@
 //! The places at which the bags of owners begin.
 ghost use Rattle.std.specs.Prelude.{◌≡◌, ◌≤◌, ◌<◌, ◌+◌, ◌-◌, ◌^◌, length, slice_index, map, All, take, drop, vec_len, vec_capacity, insert};
-ghost use Rattle.flat_records.specs.Runs.{changed_from, changed_within, changed_exchanged, exchanged, AreWindows};
+ghost use Rattle.numbered_lists.specs.Moved.{changed_within};
+ghost use Rattle.flat_records.specs.Runs.{changed_from, changed_exchanged, exchanged, AreWindows};
 
 /// Where bag k of owner i stands among all bags.
 pub(crate) fn place(begins: &[u16], i: usize, k: usize) -> usize

@@ -1,5 +1,5 @@
 use Rattle.std.proofs.Common.{◌≡◌, ◌≤◌, ◌∙◌, ap, length, sym, subst, arith}
-use Rattle.linked_members.specs.Within.{changed_within}
+use Rattle.numbered_lists.specs.Moved.{changed_within}
 use Rattle.linked_members.proofs.Parts.{one_put, one_inserted, lent_behind}
 use Rattle.linked_members.proofs.ended.EndedList.insert_renumbered.Goals as goal
 use Rattle.linked_members.proofs.ended.EndedList.insert_renumbered.Goals.{then-i-len+else-self-ne0, else-i-len}
