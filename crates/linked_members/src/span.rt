@@ -1,7 +1,7 @@
 //! Between which numbers the members of a list lie that have a link.
 ghost use Rattle.std.specs.Prelude.{◌≡◌, ◌<◌, ◌≤◌, ◌+◌, ◌^◌, ◌∷◌, [], ◌++◌, List, false, true, length, insert, remove, drop, slice_get, IfSome, ℕ};
 ghost use Rattle.numbered_lists.specs.Moved.{moved};
-ghost use Rattle.linked_members.specs.Spans.{IsSpan, IsOutside};
+ghost use Rattle.linked_members.specs.Spans.{IsSpan, IsOutside, IsShifted};
 
 use crate::linked::Linked;
 
@@ -33,8 +33,7 @@ impl Span {
         requires place { at < count }
         ensures order { result.start ≤ result.end }
         ensures within { result.end ≤ count }
-        ensures below { (i : ℕ) → IsOutside result i → i < at → IsOutside self i }
-        ensures above { (i : ℕ) → IsOutside result (i + 1) → at ≤ i → IsOutside self i }
+        ensures outside { IsShifted self result at }
         ensures own { IsOutside result at → has_link ≡ false }
     {
         let shifted = self.shifted(at, count);
@@ -52,8 +51,7 @@ impl Span {
         requires place { at < count }
         ensures order { result.start ≤ result.end }
         ensures within { result.end ≤ count }
-        ensures below { (i : ℕ) → IsOutside result i → i < at → IsOutside self i }
-        ensures above { (i : ℕ) → IsOutside result (i + 1) → at ≤ i → IsOutside self i }
+        ensures outside { IsShifted self result at }
     {
         if at <= self.start {
             Span {

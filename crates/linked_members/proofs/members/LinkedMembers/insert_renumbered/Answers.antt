@@ -17,7 +17,7 @@ invariant_of-self-2 g c =
     let within : after.result.end ≤ length (insert (map f list) c.args.i c.args.x) = subst (λ xs. after.result.end ≤ length xs) is (subst (λ n. after.result.end ≤ n) c.len.ensures after.ensures.within) in
     subst (IsSpanOf h after.result) (sym is)
     (span_inserted h (map f list) c.args.i c.args.x span after.result (span_changed h f stays list span c.self.invariant) place after.ensures.order within
-    after.ensures.below after.ensures.above (λ o. sym c.has_link-has_link.ensures ∙ after.ensures.own o))
+    after.ensures.outside.below after.ensures.outside.above (λ o. sym c.has_link-has_link.ensures ∙ after.ensures.own o))
 
 pub returns-clause-ok : goal.returns-clause-ok
 returns-clause-ok g c =
