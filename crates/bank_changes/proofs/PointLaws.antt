@@ -7,7 +7,7 @@ use Rattle.std.proofs.lemmas.List.{length-append, length-take, length-take-le, l
 use Rattle.std.proofs.lemmas.List.Folds.{drop_split}
 use Rattle.std.proofs.lemmas.List.Sums.{sum_by-cons}
 use Rattle.std.proofs.lemmas.List.Elements.{All-append, All-take, All-drop, All-from_recursion, recursion_from_All}
-use Rattle.sf_base.specs.declared.limits.TheConstants.{PRESETS, INSTRUMENTS, SAMPLES, ZONES, GENERATORS, MODULATORS, POINTS, ZERO_POINTS}
+use Rattle.sf_base.specs.declared.limits.TheConstants.{POINTS, ZERO_POINTS}
 use Rattle.sample_view.specs.Words.{AreWords}
 use Rattle.numbered_lists.specs.Moved.{changed}
 use Rattle.numbered_lists.proofs.Lists.{slice_get-found, slice_get-changed, slice_set_same, length-slice_set, changed-found}
@@ -20,7 +20,7 @@ use Rattle.bank_parts.specs.Sound.{IsSound}
 use Rattle.bank_validity.specs.declared.totals.Totals.{Totals}
 use Rattle.bank_validity.specs.declared.limits.Limit.TheVariants as limit
 use Rattle.bank_validity.specs.Limits.{totals_of, broken, broken_limit}
-use Rattle.bank_validity.proofs.LimitLaws.{AreWithin, within_totals, limits_of, no_limit_of}
+use Rattle.bank_validity.proofs.LimitLaws.{AreWithin, within_totals, not_over, broken_points, limits_of, no_limit_of}
 use Rattle.bank_changes.specs.Points.{points_of, trimmed, extended, sample_changed, sample_trimmed, sample_extended}
 use Rattle.bank_changes.proofs.Changes.{all_set, all_found, sum-exchanged}
 
@@ -99,28 +99,6 @@ module _ (b : Parts) (i : ℕ) (f : Sample → Sample) (s : Sample) (e : slice_g
 pub totals_stay : (b : Parts) (i : ℕ) (f : Sample → Sample) → i < length b.samples → ((s : Sample) → length (f s).points ≡ length s.points)
     → (t : Totals) → t ≡ totals_of b → t ≡ totals_of (sample_changed b i f)
 totals_stay b i f lt same t counted = let (s, e) = slice_get-found b.samples i lt in counted ∙ sym (totals-kept b i f s e (same s))
-
--- ---- the limit of points
-
-not_over : (most n : ℕ) → n ≤ most → nat_lt most n ≡ false
-not_over most n h = grind (arith, nat_tests)
-
-broken_points : (t : Totals) → AreWithin t → (p : ℕ) → broken (let u : Totals = record t { points = p } in u) ≡ (if nat_lt POINTS p then Some limit.Points else None)
-unfolding broken
-broken_points t w p =
-    let presets = w.presets in
-    let instruments = w.instruments in
-    rw (
-      not_over PRESETS t.presets.count presets.count,
-      not_over INSTRUMENTS t.instruments.count instruments.count,
-      not_over SAMPLES t.samples w.samples,
-      not_over ZONES t.presets.records.zones presets.zones,
-      not_over ZONES t.instruments.records.zones instruments.zones,
-      not_over GENERATORS t.presets.records.gens presets.gens,
-      not_over GENERATORS t.instruments.records.gens instruments.gens,
-      not_over MODULATORS t.presets.records.mods presets.mods,
-      not_over MODULATORS t.instruments.records.mods instruments.mods,
-    ) refl
 
 -- ---- points taken off
 

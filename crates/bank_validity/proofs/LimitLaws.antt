@@ -1,5 +1,5 @@
 -- Totals and limits.
-use Rattle.std.proofs.Common.{◌≡◌, ◌+◌, ◌-◌, ◌<◌, ◌≤◌, ◌^◌, ℕ, nat_lt, true, false, Some, None, refl, ap, sym, ◌∙◌, arith}
+use Rattle.std.proofs.Common.{◌≡◌, ◌+◌, ◌-◌, ◌<◌, ◌≤◌, ◌^◌, ℕ, nat_lt, if◌then◌else◌, true, false, Some, None, refl, ap, sym, ◌∙◌, arith}
 use Rattle.std.proofs.lemmas.Bool.Decides.{nat_tests}
 use Rattle.sf_base.specs.declared.limits.TheConstants.{PRESETS, INSTRUMENTS, SAMPLES, ZONES, GENERATORS, MODULATORS, POINTS, ZERO_POINTS}
 use Rattle.generators.specs.declared.level.Level.{Level}
@@ -9,10 +9,10 @@ use Rattle.bank_validity.specs.declared.totals.LevelTotals.{LevelTotals}
 use Rattle.bank_validity.specs.declared.totals.Totals.{Totals}
 use Rattle.bank_validity.specs.declared.limits.Limit.TheVariants as limit
 use Rattle.bank_parts.specs.declared.parts.Parts.{Parts}
-use Rattle.bank_parts.specs.Valid.{IsWithin, point_total}
+use Rattle.bank_parts.specs.Valid.{IsWithin}
 use Rattle.bank_parts.specs.Counts.{counted, all_counted, records_sum}
 use Rattle.bank_parts.proofs.Counts.{counted_same}
-use Rattle.bank_validity.specs.Limits.{totals_of, level_totals, totals_at, level_changed, level_counted, plus_owner, broken, broken_limit, with_sample, with_owner, with_owner_counted}
+use Rattle.bank_validity.specs.Limits.{totals_of, totals_at, level_changed, level_counted, plus_owner, broken, broken_limit, with_sample, with_owner, with_owner_counted}
 
 -- ---- no limit is broken
 
@@ -37,12 +37,13 @@ within_totals t e = record {
   points = grind (arith, nat_tests);
 }
 
-not_over : (most n : ℕ) → n ≤ most → nat_lt most n ≡ false
+pub not_over : (most n : ℕ) → n ≤ most → nat_lt most n ≡ false
 not_over most n h = grind (arith, nat_tests)
 
-pub none_broken : (t : Totals) → AreWithin t → broken t ≡ None
+-- with so many points, that may be over their limit
+pub broken_points : (t : Totals) → AreWithin t → (p : ℕ) → broken (let u : Totals = record t { points = p } in u) ≡ (if nat_lt POINTS p then Some limit.Points else None)
 unfolding broken
-none_broken t w =
+broken_points t w p =
     let presets = w.presets in
     let instruments = w.instruments in
     rw (
@@ -55,8 +56,10 @@ none_broken t w =
       not_over GENERATORS t.instruments.records.gens instruments.gens,
       not_over MODULATORS t.presets.records.mods presets.mods,
       not_over MODULATORS t.instruments.records.mods instruments.mods,
-      not_over POINTS t.points w.points,
     ) refl
+
+pub none_broken : (t : Totals) → AreWithin t → broken t ≡ None
+none_broken t w = broken_points t w t.points ∙ rw (not_over POINTS t.points w.points) refl
 
 pub limits_of : (b : Parts) → broken_limit b ≡ None → IsWithin b
 unfolding totals_of
@@ -177,23 +180,11 @@ module _ (t : Totals) (n : ℕ) where
       rw (not_over PRESETS t.presets.count presets.count, not_over INSTRUMENTS t.instruments.count instruments.count, over) refl
 
   pub points_broken : AreWithin t → t.samples < SAMPLES → POINTS < t.points + (n + ZERO_POINTS) → broken (with_sample t n) ≡ Some limit.Points
-  unfolding broken
   points_broken w few h =
-      let presets = w.presets in
-      let instruments = w.instruments in
+      let one_more : Totals = record t { samples = t.samples + 1 } in
+      let within : AreWithin one_more = record { presets = w.presets; instruments = w.instruments; samples = omega arith; points = w.points } in
       let over : nat_lt POINTS (t.points + (n + ZERO_POINTS)) ≡ true = grind (arith, nat_tests) in
-      rw (
-        not_over PRESETS t.presets.count presets.count,
-        not_over INSTRUMENTS t.instruments.count instruments.count,
-        not_over SAMPLES (t.samples + 1) (omega arith),
-        not_over ZONES t.presets.records.zones presets.zones,
-        not_over ZONES t.instruments.records.zones instruments.zones,
-        not_over GENERATORS t.presets.records.gens presets.gens,
-        not_over GENERATORS t.instruments.records.gens instruments.gens,
-        not_over MODULATORS t.presets.records.mods presets.mods,
-        not_over MODULATORS t.instruments.records.mods instruments.mods,
-        over,
-      ) refl
+      broken_points one_more within (t.points + (n + ZERO_POINTS)) ∙ rw over refl
 
   pub with_sample_within : AreWithin t → t.samples < SAMPLES → t.points + (n + ZERO_POINTS) ≤ POINTS → broken (with_sample t n) ≡ None
   with_sample_within w few h = none_broken (with_sample t n) (record { presets = w.presets; instruments = w.instruments; samples = omega arith; points = h })
