@@ -6,10 +6,8 @@ use Rattle.std.specs.FinMap.{len}
 use Rattle.std.proofs.lemmas.List.Sums.{sum_by-insert}
 use Rattle.numbered_lists.proofs.Lists.{slice_get-within}
 use Rattle.generators.proofs.MapLaws.{len-insert_absent, len-insert_present, len-remove_present}
-use Rattle.bank_parts.specs.declared.parts.Head.{Head}
 use Rattle.bank_parts.specs.declared.parts.GlobalZone.{GlobalZone}
 use Rattle.bank_parts.specs.declared.parts.Zone.{Zone}
-use Rattle.bank_parts.specs.declared.parts.WithZones.{WithZones}
 use Rattle.bank_parts.specs.declared.parts.Parts.{Parts}
 use Rattle.bank_parts.specs.Counts.{records_sum}
 use Rattle.bank_parts.specs.Valid.{IsZone, IsPreset, IsInstrument, AreGenerators}
@@ -25,7 +23,7 @@ use Rattle.zone_ranges.specs.Splits.{is_inside, lower_part, upper_part, parted, 
 use Rattle.zone_ranges.specs.Undone.{own_amount}
 use Rattle.zone_ranges.proofs.Parting.{parted_at, all_parted, all_merged, all_at, left_first}
 use Rattle.zone_ranges.proofs.SplitLaws.{split_at, joined_at}
-use Rattle.zone_ranges.proofs.There.{split_there, join_there, zone_is, zone_within, place_there, zones_there, split_is_put, join_is_put}
+use Rattle.zone_ranges.proofs.There.{ZoneThere, split_there, join_there, zones_there, split_is_put, join_is_put}
 use Rattle.zone_ranges.proofs.PartLaws.{valid_with, fits_with, range_holds, own_holds, lower_is_range, upper_is_range, joined_range, valid_joined, fits_joined}
 use Rattle.bank_changes.specs.declared.members.Owner.{Owner}
 use Rattle.bank_changes.specs.declared.members.Owner.TheVariants as owner
@@ -34,100 +32,69 @@ use Rattle.bank_changes.specs.Totals.{with_records}
 use Rattle.bank_changes.specs.Zones.{zone_split, zone_joined, can_split, can_join}
 use Rattle.bank_changes.proofs.Changes.{all_found, sum-removed, sum-exchanged}
 use Rattle.bank_changes.proofs.TotalsLaws.{records_grow}
+use Rattle.bank_changes.proofs.ZoneChangeLaws.{own_count, zone_is, with_presets, with_instruments}
 use Rattle.bank_changes.proofs.ZoneLaws.{zones_put, sound_zones_put, zones_valid, zones_fit, records_of_zones, totals_zones_more, totals_zones_less}
 
 -- ---- what is there
 
-pub record Split (b : Parts) (o : Owner) (k : ℕ) (axis : Axis) (m : ℕ) : Type 0 where
+-- zone k of an owner
+pub record OwnZone (b : Parts) (o : Owner) (k : ℕ) : Type 0 where
   pub global : GlobalZone
   pub valid : IsSound b → AreGenerators (level_of o) global.gens
   pub zones : List Zone
   pub there : zones_of b o ≡ Some zones
   pub zone : Zone
   pub at : slice_get zones k ≡ Some zone
-  pub zone_is : zone_of b o k ≡ Some zone
-  pub counted : IsSomeAnd (own_zone_count b o) (λ count. k < count)
-  pub inside : is_inside axis m global zone ≡ true
-  pub put : zone_split b o k axis m ≡ zones_put b o (parted zones k (lower_part axis m global zone) (upper_part axis m global zone))
+
+abbrev of_preset : (b : Parts) (p k : ℕ) → ZoneThere b.presets p k → OwnZone b (owner.Preset p) k
+of_preset b p k t = record {
+  global = t.member.global;
+  valid = λ sound. (all_found (IsPreset (length b.instruments)) b.presets p t.member t.there sound.valid.presets).zones.global;
+  zones = t.member.zones;
+  there = zones_there b.presets p k t;
+  zone = t.zone;
+  at = t.zone_there;
+}
+
+abbrev of_instrument : (b : Parts) (i k : ℕ) → ZoneThere b.instruments i k → OwnZone b (owner.Instrument i) k
+of_instrument b i k t = record {
+  global = t.member.global;
+  valid = λ sound. (all_found (IsInstrument (length b.samples)) b.instruments i t.member t.there sound.valid.instruments).zones.global;
+  zones = t.member.zones;
+  there = zones_there b.instruments i k t;
+  zone = t.zone;
+  at = t.zone_there;
+}
+
+pub record Split (b : Parts) (o : Owner) (k : ℕ) (axis : Axis) (m : ℕ) : Type 0 where
+  pub own : OwnZone b o k
+  pub inside : is_inside axis m own.global own.zone ≡ true
+  pub put : zone_split b o k axis m ≡ zones_put b o (parted own.zones k (lower_part axis m own.global own.zone) (upper_part axis m own.global own.zone))
 
 pub split : (b : Parts) (o : Owner) (k : ℕ) (axis : Axis) (m : ℕ) → can_split b o k axis m ≡ true → Split b o k axis m
 split b (owner.Preset p) k axis m h =
     let s = split_there axis m b.presets p k h in
-    let t = s.at in
-    record {
-      global = t.member.global;
-      valid = λ sound. (all_found (IsPreset (length b.instruments)) b.presets p t.member t.there sound.valid.presets).zones.global;
-      zones = t.member.zones;
-      there = zones_there b.presets p k t;
-      zone = t.zone;
-      at = t.zone_there;
-      zone_is = zone_is t;
-      counted = place_there t k (zone_within t);
-      inside = s.inside;
-      put = ap (λ (presets : List (WithZones Head)). let r : Parts = record b { presets = presets } in r) (split_is_put b.presets p k t axis m);
-    }
+    record { own = of_preset b p k s.at; inside = s.inside; put = ap (with_presets b) (split_is_put b.presets p k s.at axis m) }
 split b (owner.Instrument i) k axis m h =
     let s = split_there axis m b.instruments i k h in
-    let t = s.at in
-    record {
-      global = t.member.global;
-      valid = λ sound. (all_found (IsInstrument (length b.samples)) b.instruments i t.member t.there sound.valid.instruments).zones.global;
-      zones = t.member.zones;
-      there = zones_there b.instruments i k t;
-      zone = t.zone;
-      at = t.zone_there;
-      zone_is = zone_is t;
-      counted = place_there t k (zone_within t);
-      inside = s.inside;
-      put = ap (λ (instruments : List (WithZones (List ℕ))). let r : Parts = record b { instruments = instruments } in r) (split_is_put b.instruments i k t axis m);
-    }
+    record { own = of_instrument b i k s.at; inside = s.inside; put = ap (with_instruments b) (split_is_put b.instruments i k s.at axis m) }
 
 pub record Join (b : Parts) (o : Owner) (k : ℕ) (axis : Axis) (keep : Keep) : Type 0 where
-  pub global : GlobalZone
-  pub zones : List Zone
-  pub there : zones_of b o ≡ Some zones
-  pub first : Zone
-  pub at : slice_get zones k ≡ Some first
+  pub own : OwnZone b o k
   pub second : Zone
-  pub next : slice_get zones (k + 1) ≡ Some second
-  pub second_is : zone_of b o (k + 1) ≡ Some second
-  pub counted : IsSomeAnd (own_zone_count b o) (λ count. k + 1 < count)
-  pub joinable : are_joinable axis keep global first second ≡ true
-  pub put : zone_joined b o k axis keep ≡ zones_put b o (merged zones k (joined axis keep first second))
+  pub next : slice_get own.zones (k + 1) ≡ Some second
+  pub joinable : are_joinable axis keep own.global own.zone second ≡ true
+  pub put : zone_joined b o k axis keep ≡ zones_put b o (merged own.zones k (joined axis keep own.zone second))
 
 pub join : (b : Parts) (o : Owner) (k : ℕ) (axis : Axis) (keep : Keep) → can_join b o k axis keep ≡ true → Join b o k axis keep
 join b (owner.Preset p) k axis keep h =
     let s = join_there axis keep b.presets p k h in
-    let t = s.at in
-    record {
-      global = t.member.global;
-      zones = t.member.zones;
-      there = zones_there b.presets p k t;
-      first = t.zone;
-      at = t.zone_there;
-      second = s.second;
-      next = s.next;
-      second_is = rw t.there s.next;
-      counted = place_there t (k + 1) (slice_get-within t.member.zones (k + 1) s.second s.next);
-      joinable = s.joinable;
-      put = ap (λ (presets : List (WithZones Head)). let r : Parts = record b { presets = presets } in r) (join_is_put b.presets p k t axis keep s.second s.next);
-    }
+    let put = ap (with_presets b) (join_is_put b.presets p k s.at axis keep s.second s.next) in
+    record { own = of_preset b p k s.at; second = s.second; next = s.next; joinable = s.joinable; put = put }
 join b (owner.Instrument i) k axis keep h =
     let s = join_there axis keep b.instruments i k h in
-    let t = s.at in
-    record {
-      global = t.member.global;
-      zones = t.member.zones;
-      there = zones_there b.instruments i k t;
-      first = t.zone;
-      at = t.zone_there;
-      second = s.second;
-      next = s.next;
-      second_is = rw t.there s.next;
-      counted = place_there t (k + 1) (slice_get-within t.member.zones (k + 1) s.second s.next);
-      joinable = s.joinable;
-      put = ap (λ (instruments : List (WithZones (List ℕ))). let r : Parts = record b { instruments = instruments } in r) (join_is_put b.instruments i k t axis keep s.second s.next);
-    }
+    let put = ap (with_instruments b) (join_is_put b.instruments i k s.at axis keep s.second s.next) in
+    record { own = of_instrument b i k s.at; second = s.second; next = s.next; joinable = s.joinable; put = put }
 
 -- ---- records
 
@@ -219,56 +186,71 @@ module _ (axis : Axis) (global : GlobalZone) (zones : List Zone) (k : ℕ) (y z 
 -- ---- a split
 
 module _ (b : Parts) (o : Owner) (k : ℕ) (axis : Axis) (m : ℕ) (can : can_split b o k axis m ≡ true) where
-  pub totals-zone_split : totals_of (zone_split b o k axis m) ≡ with_records (level_of o) (totals_of b) (split_records axis (split b o k axis m can).zone)
+  pub split_zone_is : zone_of b o k ≡ Some (split b o k axis m can).own.zone
+  split_zone_is = let own = (split b o k axis m can).own in zone_is b o k own.zones own.zone own.there own.at
+
+  pub totals-zone_split : totals_of (zone_split b o k axis m) ≡ with_records (level_of o) (totals_of b) (split_records axis (split b o k axis m can).own.zone)
   totals-zone_split =
       let s = split b o k axis m can in
+      let own = s.own in
       ap totals_of s.put
-      ∙ totals_zones_more b o s.zones (parted s.zones k (lower_part axis m s.global s.zone) (upper_part axis m s.global s.zone)) s.there (split_records axis s.zone)
-      (records-parted axis m s.global s.zones k s.zone s.at)
+      ∙ totals_zones_more b o own.zones (parted own.zones k (lower_part axis m own.global own.zone) (upper_part axis m own.global own.zone)) own.there (split_records axis own.zone)
+      (records-parted axis m own.global own.zones k own.zone own.at)
 
   pub sound_zone_split : IsSound b → broken_limit (zone_split b o k axis m) ≡ None → IsSound (zone_split b o k axis m)
   sound_zone_split sound e =
       let s = split b o k axis m can in
-      let valid = zones_valid b o s.zones sound s.there in
-      let fit = zones_fit b o s.zones sound s.there in
-      let v = all_at (IsZone (level_of o) (target_count b o)) s.zones k s.zone s.at valid in
-      let f = all_at FitsZone s.zones k s.zone s.at fit in
-      let r = range_holds (level_of o) axis s.global s.zone (s.valid sound) v.gens in
-      let inside = split_at axis m s.global s.zone s.inside in
-      let low = lower_is_range axis m s.global s.zone inside r in
-      let high = upper_is_range axis m s.global s.zone inside r in
-      let lower = lower_part axis m s.global s.zone in
-      let upper = upper_part axis m s.global s.zone in
+      let own = s.own in
+      let valid = zones_valid b o own.zones sound own.there in
+      let fit = zones_fit b o own.zones sound own.there in
+      let v = all_at (IsZone (level_of o) (target_count b o)) own.zones k own.zone own.at valid in
+      let f = all_at FitsZone own.zones k own.zone own.at fit in
+      let r = range_holds (level_of o) axis own.global own.zone (own.valid sound) v.gens in
+      let inside = split_at axis m own.global own.zone s.inside in
+      let low = lower_is_range axis m own.global own.zone inside r in
+      let high = upper_is_range axis m own.global own.zone inside r in
+      let lower = lower_part axis m own.global own.zone in
+      let upper = upper_part axis m own.global own.zone in
       rw s.put
-      (sound_zones_put b o (parted s.zones k lower upper) sound
-      (all_parted (IsZone (level_of o) (target_count b o)) s.zones k lower upper (valid_with (level_of o) (target_count b o) axis s.zone v (range_from (low_end (range_of axis s.global s.zone)) (m - 1)) low)
-      (valid_with (level_of o) (target_count b o) axis s.zone v (range_from m (high_end (range_of axis s.global s.zone))) high) valid)
-      (all_parted FitsZone s.zones k lower upper (fits_with axis s.zone f (range_from (low_end (range_of axis s.global s.zone)) (m - 1)) low)
-      (fits_with axis s.zone f (range_from m (high_end (range_of axis s.global s.zone))) high) fit)
+      (sound_zones_put b o (parted own.zones k lower upper) sound
+      (all_parted (IsZone (level_of o) (target_count b o)) own.zones k lower upper (valid_with (level_of o) (target_count b o) axis own.zone v (range_from (low_end (range_of axis own.global own.zone)) (m - 1)) low)
+      (valid_with (level_of o) (target_count b o) axis own.zone v (range_from m (high_end (range_of axis own.global own.zone))) high) valid)
+      (all_parted FitsZone own.zones k lower upper (fits_with axis own.zone f (range_from (low_end (range_of axis own.global own.zone)) (m - 1)) low)
+      (fits_with axis own.zone f (range_from m (high_end (range_of axis own.global own.zone))) high) fit)
       (rw s.put at e))
 
 -- ---- a join
 
 module _ (b : Parts) (o : Owner) (k : ℕ) (axis : Axis) (keep : Keep) (can : can_join b o k axis keep ≡ true) where
+  pub next_zone_is : zone_of b o (k + 1) ≡ Some (join b o k axis keep can).second
+  next_zone_is = let s = join b o k axis keep can in zone_is b o (k + 1) s.own.zones s.second s.own.there s.next
+
+  pub next_is_there : IsSomeAnd (own_zone_count b o) (λ count. k + 1 < count)
+  next_is_there =
+      let s = join b o k axis keep can in
+      own_count b o s.own.zones (λ count. k + 1 < count) s.own.there (slice_get-within s.own.zones (k + 1) s.second s.next)
+
   pub totals-zone_joined : with_records (level_of o) (totals_of (zone_joined b o k axis keep)) (join_records keep (join b o k axis keep can).second) ≡ totals_of b
   totals-zone_joined =
       let s = join b o k axis keep can in
+      let own = s.own in
       ap (λ (now : Parts). with_records (level_of o) (totals_of now) (join_records keep s.second)) s.put
-      ∙ totals_zones_less b o s.zones (merged s.zones k (joined axis keep s.first s.second)) s.there (join_records keep s.second)
-      (records-merged axis s.global s.zones k s.first s.second s.at s.next keep s.joinable)
+      ∙ totals_zones_less b o own.zones (merged own.zones k (joined axis keep own.zone s.second)) own.there (join_records keep s.second)
+      (records-merged axis own.global own.zones k own.zone s.second own.at s.next keep s.joinable)
 
   pub sound_zone_joined : IsSound b → IsSound (zone_joined b o k axis keep)
   sound_zone_joined sound =
       let s = join b o k axis keep can in
-      let valid = zones_valid b o s.zones sound s.there in
-      let fit = zones_fit b o s.zones sound s.there in
-      let v = all_at (IsZone (level_of o) (target_count b o)) s.zones k s.first s.at valid in
-      let w = all_at (IsZone (level_of o) (target_count b o)) s.zones (k + 1) s.second s.next valid in
-      let f = all_at FitsZone s.zones k s.first s.at fit in
-      let one = joined axis keep s.first s.second in
-      let r = joined_range axis s.global s.first s.second keep s.joinable (own_holds (level_of o) axis s.first v.gens) (own_holds (level_of o) axis s.second w.gens) in
+      let own = s.own in
+      let valid = zones_valid b o own.zones sound own.there in
+      let fit = zones_fit b o own.zones sound own.there in
+      let v = all_at (IsZone (level_of o) (target_count b o)) own.zones k own.zone own.at valid in
+      let w = all_at (IsZone (level_of o) (target_count b o)) own.zones (k + 1) s.second s.next valid in
+      let f = all_at FitsZone own.zones k own.zone own.at fit in
+      let one = joined axis keep own.zone s.second in
+      let r = joined_range axis own.global own.zone s.second keep s.joinable (own_holds (level_of o) axis own.zone v.gens) (own_holds (level_of o) axis s.second w.gens) in
       let within = (records_grow (level_of o)).within (totals_of (zone_joined b o k axis keep)) (join_records keep s.second) (ap broken totals-zone_joined ∙ no_limit_of b sound.valid.limits) in
       rw s.put
-      (sound_zones_put b o (merged s.zones k one) sound
-      (all_merged (IsZone (level_of o) (target_count b o)) s.zones k one (valid_joined axis s.global s.first s.second (level_of o) (target_count b o) keep v r) valid)
-      (all_merged FitsZone s.zones k one (fits_joined axis s.global s.first s.second keep f r) fit) (rw s.put at within))
+      (sound_zones_put b o (merged own.zones k one) sound
+      (all_merged (IsZone (level_of o) (target_count b o)) own.zones k one (valid_joined axis own.global own.zone s.second (level_of o) (target_count b o) keep v r) valid)
+      (all_merged FitsZone own.zones k one (fits_joined axis own.global own.zone s.second keep f r) fit) (rw s.put at within))

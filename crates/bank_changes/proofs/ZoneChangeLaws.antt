@@ -1,7 +1,6 @@
 -- The raw changes of zones: each keeps a bank sound, and is taken back.
-use Rattle.std.proofs.Common.{◌≡◌, ◌+◌, ◌≤◌, ◌<◌, ◌^◌, ℕ, List, length, insert, remove, slice_get, Option, Some, None, refl, sym, ap, ◌∙◌}
+use Rattle.std.proofs.Common.{◌≡◌, ◌+◌, ◌≤◌, ◌<◌, ◌^◌, ℕ, List, length, insert, remove, slice_get, Some, None, refl, sym, ap, ◌∙◌}
 use Rattle.std.specs.Prelude.{IsSomeAnd}
-use Rattle.std.specs.Option.{option_and_then}
 use Rattle.std.specs.FinMap.{len}
 use Rattle.std.proofs.lemmas.List.Sums.{sum_by-insert}
 use Rattle.numbered_lists.specs.Moved.{changed, moved}
@@ -17,6 +16,7 @@ use Rattle.bank_parts.specs.Fits.{FitsZone}
 use Rattle.bank_parts.specs.Sound.{IsSound}
 use Rattle.bank_validity.specs.Limits.{totals_of, broken, broken_limit}
 use Rattle.bank_validity.proofs.LimitLaws.{no_limit_of}
+use Rattle.bank_parts.proofs.SettingLaws.{source}
 use Rattle.bank_parts.proofs.UndoneLaws as list
 use Rattle.bank_parts.proofs.UndoneLaws.{There}
 use Rattle.bank_changes.specs.declared.members.Owner.{Owner}
@@ -36,6 +36,16 @@ use Rattle.bank_changes.proofs.ZoneLaws.{zones_put, zones_put_is, sound_zones_pu
 pub own_zones_there : (b : Parts) (o : Owner) (P : ℕ → Type 0) → IsSomeAnd (own_zone_count b o) P → There (zones_of b o) (λ zones. P (length zones))
 own_zones_there b (owner.Preset p) P h = list.zones_there b.presets p P h
 own_zones_there b (owner.Instrument i) P h = list.zones_there b.instruments i P h
+
+-- an owner with these zones has as many
+pub own_count : (b : Parts) (o : Owner) (zones : List Zone) (P : ℕ → Type 0) → zones_of b o ≡ Some zones → P (length zones) → IsSomeAnd (own_zone_count b o) P
+own_count b (owner.Preset p) zones P e h = let x = source (λ (x : WithZones Head). x.zones) (slice_get b.presets p) zones e in rw (x.there, x.seen) h
+own_count b (owner.Instrument i) zones P e h = let x = source (λ (x : WithZones (List ℕ)). x.zones) (slice_get b.instruments i) zones e in rw (x.there, x.seen) h
+
+-- and each of them
+pub zone_is : (b : Parts) (o : Owner) (k : ℕ) (zones : List Zone) (zone : Zone) → zones_of b o ≡ Some zones → slice_get zones k ≡ Some zone → zone_of b o k ≡ Some zone
+zone_is b (owner.Preset p) k zones zone there at = list.zone_of_zones b.presets p k ∙ rw there at
+zone_is b (owner.Instrument i) k zones zone there at = list.zone_of_zones b.instruments i k ∙ rw there at
 
 -- ---- the changes as zones that are put there
 
@@ -117,14 +127,10 @@ totals-zone_removed b o k zone e =
     ∙ totals_zones_less b o t.member (remove t.member k) t.there (records_of_zone zone) (records-removed t.member k zone t.holds)
 
 pub zone_found : (b : Parts) (o : Owner) (k : ℕ) → IsSomeAnd (own_zone_count b o) (λ count. k < count) → (zone : Zone) × (zone_of b o k ≡ Some zone)
-zone_found b (owner.Preset p) k h =
-    let t = list.zones_there b.presets p (λ count. k < count) h in
+zone_found b o k h =
+    let t = own_zones_there b o (λ count. k < count) h in
     let (zone, e) = slice_get-found t.member k t.holds in
-    (zone, list.zone_of_zones b.presets p k ∙ (ap (λ (o : Option (List Zone)). option_and_then (λ (zs : List Zone). slice_get zs k) o) t.there ∙ e))
-zone_found b (owner.Instrument i) k h =
-    let t = list.zones_there b.instruments i (λ count. k < count) h in
-    let (zone, e) = slice_get-found t.member k t.holds in
-    (zone, list.zone_of_zones b.instruments i k ∙ (ap (λ (o : Option (List Zone)). option_and_then (λ (zs : List Zone). slice_get zs k) o) t.there ∙ e))
+    (zone, zone_is b o k t.member zone t.there e)
 
 pub sound_zone_removed : (b : Parts) (o : Owner) (k : ℕ) → IsSomeAnd (own_zone_count b o) (λ count. k < count) → IsSound b → IsSound (zone_removed b o k)
 sound_zone_removed b o k h sound =
@@ -175,10 +181,10 @@ module _ (b : Parts) (o : Owner) (k target : ℕ) (there : IsSomeAnd (own_zone_c
 
 -- ---- each is taken back
 
-abbrev with_presets : Parts → List (WithZones Head) → Parts
+abbrev pub with_presets : Parts → List (WithZones Head) → Parts
 with_presets b presets = record b { presets = presets }
 
-abbrev with_instruments : Parts → List (WithZones (List ℕ)) → Parts
+abbrev pub with_instruments : Parts → List (WithZones (List ℕ)) → Parts
 with_instruments b instruments = record b { instruments = instruments }
 
 pub restored_zone_added : (b : Parts) (o : Owner) (k : ℕ) (zone : Zone) → IsSomeAnd (own_zone_count b o) (λ count. k ≤ count) → zone_removed (zone_added b o k zone) o k ≡ b

@@ -2,7 +2,7 @@ use Rattle.std.proofs.Common.{◌≡◌, ◌∙◌, sym, ap}
 use Rattle.bank_parts.specs.Counts.{all_counted}
 use Rattle.bank_validity.specs.Limits.{broken}
 use Rattle.zone_ranges.specs.Splits.{split_records}
-use Rattle.bank_changes.proofs.SplitLaws.{split, totals-zone_split}
+use Rattle.bank_changes.proofs.SplitLaws.{split, split_zone_is, totals-zone_split}
 use Rattle.bank_core.proofs.KeptTotals.{no_limit_before}
 use Rattle.bank_core.proofs.bank.Bank.broken_with_split.Goals as goal
 
@@ -13,7 +13,7 @@ pub returns : goal.returns
 returns c = λ at can.
     let now = c.args.self.now in
     let o = c.args.owner in
-    let s = split now o c.args.zone c.args.axis at can in
-    let count : c.split_records-more.result ≡ all_counted (split_records c.args.axis s.zone) = rw (c.self.view_is, s.zone_is) at c.split_records-more.ensures in
-    rw (c.level.ensures, rw c.self.view_is at c.self.invariant.1) at c.broken_with_records.ensures (split_records c.args.axis s.zone) count
+    let zone = (split now o c.args.zone c.args.axis at can).own.zone in
+    let count : c.split_records-more.result ≡ all_counted (split_records c.args.axis zone) = rw (c.self.view_is, split_zone_is now o c.args.zone c.args.axis at can) at c.split_records-more.ensures in
+    rw (c.level.ensures, rw c.self.view_is at c.self.invariant.1) at c.broken_with_records.ensures (split_records c.args.axis zone) count
     ∙ sym (ap broken (totals-zone_split now o c.args.zone c.args.axis at can))
