@@ -16,7 +16,7 @@ use Rattle.bank_changes.proofs.Changes.{all_set, all_found}
 use Rattle.bank_changes.proofs.Everywhere.{all_insert, all_remove, or_left, or_right, or_none, none_passes, passes_none}
 use Rattle.bank_changes.proofs.SettingLaws.{sound_mod_added, sound_mod_removed, sound_mod_set, within_mod_removed, within_mod_set}
 use Rattle.edit_forms.specs.declared.step.Step.TheVariants.{AddMod, RemoveMod, SetMod}
-use Rattle.edit_refusals.specs.Causes.{no_such_owner, no_such_zone_at}
+use Rattle.edit_refusals.specs.Causes.{no_such_owner, no_such_zone_at, mods_there, linked_place, linked_modulator}
 use Rattle.edit_refusals.specs.Steps.{refusal, causes}
 use Rattle.edit_refusals.proofs.Accepted.{NoneStands, accepted, below, not_below, up_to, not_above}
 use Rattle.edit_refusals.proofs.PlaceLaws.{place_found, mods_there_are, owner_stays_there, place_stays_there, settings_after}
@@ -42,6 +42,26 @@ module _ (b : Parts) (o : Owner) (at : Place) (f : List Modulator → List Modul
         there = settings_after b o at (mods_sent f) s h.there;
         free = free;
       })
+
+-- such a place, and what its modulators are
+record FreePlace (b : Parts) (o : Owner) (at : Place) : Type 0 where
+  settings : Settings
+  holds : HoldsNoLink b o at settings
+  are : mods_there b o at ≡ settings.mods
+
+free_place : (b : Parts) (o : Owner) (at : Place) → (no_such_owner b o).stands ≡ false → (no_such_zone_at b o at).stands ≡ false → (linked_place b o at).stands ≡ false → FreePlace b o at
+free_place b o at owner zone free =
+    let (s, e) = place_found b o at owner zone in
+    let are = mods_there_are b o at s e in
+    record { settings = s; holds = record { owner = owner; zone = zone; there = e; free = rw are at free }; are = are }
+
+-- the tests of a place and of a link, where the place has none and the modulator is none
+module _ (b : Parts) (o : Owner) (at : Place) (m : Modulator) where
+  no_link_before : (linked_modulator b o at m).stands ≡ false → (linked_place b o at).stands ≡ false
+  no_link_before link = or_left (list_any is_link (mods_there b o at)) (is_link m) link
+
+  no_link_comes : (linked_modulator b o at m).stands ≡ false → is_link m ≡ false
+  no_link_comes link = or_right (list_any is_link (mods_there b o at)) (is_link m) link
 
 -- ---- links
 
@@ -71,15 +91,8 @@ module _ (b : Parts) (o : Owner) (at : Place) (j : ℕ) (m : Modulator) where
 
   pub mod_goes : NoneStands (causes b (AddMod o at j m)) → ModGoes
   mod_goes (owner, (zone, (place, (link, end)))) =
-      let (s, e) = place_found b o at owner zone in
-      let are = mods_there_are b o at s e in
-      let link = rw are at link in
-      record {
-        settings = s;
-        holds = record { owner = owner; zone = zone; there = e; free = or_left (list_any is_link s.mods) (is_link m) link };
-        place = up_to (length s.mods) j (rw are at place);
-        plain = or_right (list_any is_link s.mods) (is_link m) link;
-      }
+      let p = free_place b o at owner zone (no_link_before b o at m link) in
+      record { settings = p.settings; holds = p.holds; place = up_to (length p.settings.mods) j (rw p.are at place); plain = no_link_comes b o at m link }
 
   pub tests_add_mod : ModGoes → NoneStands (causes b (AddMod o at j m))
   tests_add_mod g =
@@ -100,13 +113,8 @@ module _ (b : Parts) (o : Owner) (at : Place) (j : ℕ) where
 
   pub mod_comes : NoneStands (causes b (RemoveMod o at j)) → ModComes
   mod_comes (owner, (zone, (index, (link, end)))) =
-      let (s, e) = place_found b o at owner zone in
-      let are = mods_there_are b o at s e in
-      record {
-        settings = s;
-        holds = record { owner = owner; zone = zone; there = e; free = rw are at link };
-        index = below (length s.mods) j (rw are at index);
-      }
+      let p = free_place b o at owner zone link in
+      record { settings = p.settings; holds = p.holds; index = below (length p.settings.mods) j (rw p.are at index) }
 
   pub tests_remove_mod : ModComes → NoneStands (causes b (RemoveMod o at j))
   tests_remove_mod c =
@@ -131,15 +139,8 @@ module _ (b : Parts) (o : Owner) (at : Place) (j : ℕ) (m : Modulator) where
 
   pub mod_changes : NoneStands (causes b (SetMod o at j m)) → ModChanges
   mod_changes (owner, (zone, (index, (link, end)))) =
-      let (s, e) = place_found b o at owner zone in
-      let are = mods_there_are b o at s e in
-      let link = rw are at link in
-      record {
-        settings = s;
-        holds = record { owner = owner; zone = zone; there = e; free = or_left (list_any is_link s.mods) (is_link m) link };
-        index = below (length s.mods) j (rw are at index);
-        plain = or_right (list_any is_link s.mods) (is_link m) link;
-      }
+      let p = free_place b o at owner zone (no_link_before b o at m link) in
+      record { settings = p.settings; holds = p.holds; index = below (length p.settings.mods) j (rw p.are at index); plain = no_link_comes b o at m link }
 
   pub tests_set_mod : ModChanges → NoneStands (causes b (SetMod o at j m))
   tests_set_mod c =

@@ -1,7 +1,6 @@
 -- The forms that split zones and join them: what acceptance says of each.
-use Rattle.std.proofs.Common.{◌≡◌, ◌<◌, ◌≤◌, ◌+◌, ◌^◌, ℕ, Bool, true, false, not, List, length, Option, Some, None, refl, sym, subst, arith}
-use Rattle.std.specs.Prelude.{IsSomeAnd, slice_get}
-use Rattle.std.specs.Option.{option_map}
+use Rattle.std.proofs.Common.{◌≡◌, ◌<◌, ◌≤◌, ◌+◌, ◌^◌, ℕ, Bool, true, false, not, List, length, Some, None, refl, subst, arith}
+use Rattle.std.specs.Prelude.{slice_get}
 use Rattle.sf_base.specs.declared.limits.TheConstants.{ZONES}
 use Rattle.numbered_lists.proofs.Lists.{slice_get-within}
 use Rattle.bank_parts.specs.declared.parts.Head.{Head}
@@ -20,7 +19,8 @@ use Rattle.bank_changes.specs.declared.members.Owner.TheVariants as owner
 use Rattle.bank_changes.specs.Members.{own_zone_count, zones_of}
 use Rattle.bank_changes.specs.Zones.{zone_split, zone_joined, can_split, can_join}
 use Rattle.bank_changes.proofs.Changes.{sum-removed}
-use Rattle.bank_changes.proofs.SplitLaws.{split, join, sound_zone_split, sound_zone_joined}
+use Rattle.bank_changes.proofs.ZoneChangeLaws.{own_count}
+use Rattle.bank_changes.proofs.SplitLaws.{split, join, next_is_there, sound_zone_split, sound_zone_joined}
 use Rattle.edit_forms.specs.declared.step.Step.TheVariants.{SplitZone, JoinZone}
 use Rattle.edit_refusals.specs.Causes.{zone_total}
 use Rattle.edit_refusals.specs.Steps.{refusal, causes}
@@ -36,15 +36,6 @@ is_true false h = cc
 is_not : (t : Bool) → t ≡ true → not t ≡ false
 is_not true h = refl
 is_not false h = cc
-
--- an owner with these zones has as many
-counted : (b : Parts) (o : Owner) (zones : List Zone) (P : ℕ → Type 0) → zones_of b o ≡ Some zones → P (length zones) → IsSomeAnd (own_zone_count b o) P
-counted b (owner.Preset p) zones P e h =
-    let x = source (λ (x : WithZones Head). x.zones) (slice_get b.presets p) zones e in
-    subst (λ (o : Option (WithZones Head)). IsSomeAnd (option_map (λ (x : WithZones Head). length x.zones) o) P) (sym x.there) (subst (λ (zs : List Zone). P (length zs)) (sym x.seen) h)
-counted b (owner.Instrument i) zones P e h =
-    let x = source (λ (x : WithZones (List ℕ)). x.zones) (slice_get b.instruments i) zones e in
-    subst (λ (o : Option (WithZones (List ℕ))). IsSomeAnd (option_map (λ (x : WithZones (List ℕ)). length x.zones) o) P) (sym x.there) (subst (λ (zs : List Zone). P (length zs)) (sym x.seen) h)
 
 few_zones : {H : Type 0} (owners : List (WithZones H)) (i : ℕ) (x : WithZones H) → slice_get owners i ≡ Some x → owner_total zone_count owners ≤ ZONES → length x.zones < 2 ^ 32
 few_zones {H} owners i x e within =
@@ -68,7 +59,7 @@ module _ (b : Parts) (o : Owner) (k : ℕ) (axis : Axis) (m : ℕ) where
   pub tests_split_zone : can_split b o k axis m ≡ true → NoneStands (causes b (SplitZone o k axis m))
   tests_split_zone can =
       let s = split b o k axis m can in
-      let zone = counted b o s.zones (λ count. k < count) s.there (slice_get-within s.zones k s.zone s.at) in (
+      let zone = own_count b o s.own.zones (λ count. k < count) s.own.there (slice_get-within s.own.zones k s.own.zone s.own.at) in (
         owner_is_there b o (λ count. k < count) zone,
         (not_below (zone_total b o) k (total_is (own_zone_count b o) (λ count. k < count) zone), (is_not (can_split b o k axis m) can, tt)),
       )
@@ -88,7 +79,7 @@ module _ (b : Parts) (o : Owner) (k : ℕ) (axis : Axis) (keep : Keep) where
   pub tests_join_zone : can_join b o k axis keep ≡ true → NoneStands (causes b (JoinZone o k axis keep))
   tests_join_zone can =
       let s = join b o k axis keep can in
-      let next = counted b o s.zones (λ count. k + 1 < count) s.there (slice_get-within s.zones (k + 1) s.second s.next) in (
+      let next = next_is_there b o k axis keep can in (
         owner_is_there b o (λ count. k + 1 < count) next,
         (not_below (zone_total b o) (k + 1) (total_is (own_zone_count b o) (λ count. k + 1 < count) next), (is_not (can_join b o k axis keep) can, tt)),
       )
@@ -106,6 +97,6 @@ module _ (b : Parts) (o : Owner) (k : ℕ) (axis : Axis) (keep : Keep) where
   pub next_of_join_zone : IsSound b → refusal b (JoinZone o k axis keep) ≡ None → k + 1 < 2 ^ 32
   next_of_join_zone sound h =
       let s = join b o k axis keep (can_of_join_zone h) in
-      let lt : k + 1 < length s.zones = slice_get-within s.zones (k + 1) s.second s.next in
-      let few : length s.zones < 2 ^ 32 = few_there b o s.zones sound s.there in
+      let lt : k + 1 < length s.own.zones = slice_get-within s.own.zones (k + 1) s.second s.next in
+      let few : length s.own.zones < 2 ^ 32 = few_there b o s.own.zones sound s.own.there in
       omega (arith, lt, few)

@@ -1,4 +1,5 @@
 //! Why each form that edits instruments is refused.
+ghost use Rattle.std.specs.Prelude.{ℕ, List};
 ghost use Rattle.bank_parts.specs.Sound.{IsSound};
 ghost use Rattle.edit_forms.specs.declared.step.Step.TheVariants as step;
 ghost use Rattle.edit_refusals.specs.Answers.{Judges};
@@ -12,7 +13,6 @@ use crate::causes::{
 use bank_core::{Bank, Members};
 use bank_parts::Instrument;
 use generators::Level;
-use sf_base::Name20;
 
 // ---- add-inst
 
@@ -50,13 +50,9 @@ pub(crate) fn refuse_remove_instrument(bank: &Bank<'_>, instrument: u32) -> Resu
 
 // ---- rename-inst
 
-pub(crate) fn refuse_rename_instrument(
-    bank: &Bank<'_>,
-    instrument: u32,
-    _name: Name20,
-) -> Result<(), Cause>
+pub(crate) fn refuse_rename_instrument(bank: &Bank<'_>, instrument: u32) -> Result<(), Cause>
     requires { IsSound bank.now }
-    ensures { Judges (refusal bank.now (step.RenameInstrument instrument _name)) result }
+    ensures { (name : List ℕ) → Judges (refusal bank.now (step.RenameInstrument instrument name)) result }
 {
     no_such_instrument(bank, instrument)
 }

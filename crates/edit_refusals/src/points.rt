@@ -1,4 +1,5 @@
 //! Why each form that edits one sample's points, loop, kind or pitch is refused.
+ghost use Rattle.std.specs.Prelude.{ℕ, ℤ};
 ghost use Rattle.bank_parts.specs.Sound.{IsSound};
 ghost use Rattle.edit_forms.specs.declared.step.Step.TheVariants as step;
 ghost use Rattle.edit_refusals.specs.Answers.{Judges};
@@ -54,15 +55,9 @@ pub(crate) fn refuse_set_kind(bank: &Bank<'_>, sample: u32, kind: Kind) -> Resul
     no_such_link_among(bank, kind)
 }
 
-pub(crate) fn refuse_set_tune(
-    bank: &Bank<'_>,
-    sample: u32,
-    _rate: u32,
-    _key: u8,
-    _correction: i8,
-) -> Result<(), Cause>
+pub(crate) fn refuse_set_tune(bank: &Bank<'_>, sample: u32) -> Result<(), Cause>
     requires { IsSound bank.now }
-    ensures { Judges (refusal bank.now (step.SetTune sample _rate _key _correction)) result }
+    ensures { (rate key : ℕ) → (correction : ℤ) → Judges (refusal bank.now (step.SetTune sample rate key correction)) result }
 {
     no_such_sample(bank, sample)
 }

@@ -1,4 +1,5 @@
 //! Why each form that edits presets is refused.
+ghost use Rattle.std.specs.Prelude.{ℕ, List};
 ghost use Rattle.bank_parts.specs.Sound.{IsSound};
 ghost use Rattle.edit_forms.specs.declared.step.Step.TheVariants as step;
 ghost use Rattle.edit_refusals.specs.Answers.{Judges};
@@ -11,7 +12,6 @@ use crate::causes::{
 use bank_core::{Bank, Members};
 use bank_parts::Preset;
 use generators::Level;
-use sf_base::Name20;
 
 // ---- add-preset
 
@@ -54,15 +54,9 @@ pub(crate) fn refuse_move_preset(bank: &Bank<'_>, from: u32, to: u32) -> Result<
 
 // ---- set-head
 
-pub(crate) fn refuse_set_head(
-    bank: &Bank<'_>,
-    preset: u32,
-    _name: Name20,
-    _number: u16,
-    _bank_number: u16,
-) -> Result<(), Cause>
+pub(crate) fn refuse_set_head(bank: &Bank<'_>, preset: u32) -> Result<(), Cause>
     requires { IsSound bank.now }
-    ensures { Judges (refusal bank.now (step.SetHead preset _name _number _bank_number)) result }
+    ensures { (name : List ℕ) → (number bank_number : ℕ) → Judges (refusal bank.now (step.SetHead preset name number bank_number)) result }
 {
     no_such_preset(bank, preset)
 }

@@ -45,19 +45,12 @@ fn refuse_step(bank: &Bank<'_>, step: &Step<'_>) -> Result<(), Cause>
         Step::AddPreset { at, preset } => refuse_add_preset(bank, *at, preset),
         Step::RemovePreset { preset } => refuse_remove_preset(bank, *preset),
         Step::MovePreset { from, to } => refuse_move_preset(bank, *from, *to),
-        Step::SetHead {
-            preset,
-            name,
-            number,
-            bank: bank_number,
-        } => refuse_set_head(bank, *preset, *name, *number, *bank_number),
+        Step::SetHead { preset, .. } => refuse_set_head(bank, *preset),
         Step::AddInstrument { at, instrument } => refuse_add_instrument(bank, *at, instrument),
         Step::RemoveInstrument { instrument } => refuse_remove_instrument(bank, *instrument),
-        Step::RenameInstrument { instrument, name } => {
-            refuse_rename_instrument(bank, *instrument, *name)
-        }
+        Step::RenameInstrument { instrument, .. } => refuse_rename_instrument(bank, *instrument),
         Step::MoveInstrument { from, to } => refuse_move_instrument(bank, *from, *to),
-        Step::RenameSample { sample, name } => refuse_rename_sample(bank, *sample, *name),
+        Step::RenameSample { sample, .. } => refuse_rename_sample(bank, *sample),
         Step::AddSample { at, sample } => refuse_add_sample(bank, *at, sample),
         Step::RemoveSample { sample } => refuse_remove_sample(bank, *sample),
         Step::MoveSample { from, to } => refuse_move_sample(bank, *from, *to),
@@ -73,12 +66,7 @@ fn refuse_step(bank: &Bank<'_>, step: &Step<'_>) -> Result<(), Cause>
         } => refuse_extend(bank, *sample, front, back),
         Step::SetLoop { sample, looped } => refuse_set_loop(bank, *sample, *looped),
         Step::SetKind { sample, kind } => refuse_set_kind(bank, *sample, *kind),
-        Step::SetTune {
-            sample,
-            rate,
-            key,
-            correction,
-        } => refuse_set_tune(bank, *sample, *rate, *key, *correction),
+        Step::SetTune { sample, .. } => refuse_set_tune(bank, *sample),
         Step::AddZone { owner, at, zone } => refuse_add_zone(bank, *owner, *at, zone),
         Step::RemoveZone { owner, zone } => refuse_remove_zone(bank, *owner, *zone),
         Step::MoveZone { owner, from, to } => refuse_move_zone(bank, *owner, *from, *to),

@@ -1,4 +1,5 @@
 //! Why each form that edits samples is refused.
+ghost use Rattle.std.specs.Prelude.{ℕ, List};
 ghost use Rattle.bank_parts.specs.Sound.{IsSound};
 ghost use Rattle.edit_forms.specs.declared.step.Step.TheVariants as step;
 ghost use Rattle.edit_refusals.specs.Answers.{Judges};
@@ -10,13 +11,12 @@ use crate::causes::{
 };
 use bank_core::{Bank, Members};
 use bank_parts::Sample;
-use sf_base::Name20;
 
 // ---- rename-sample
 
-pub(crate) fn refuse_rename_sample(bank: &Bank<'_>, sample: u32, _name: Name20) -> Result<(), Cause>
+pub(crate) fn refuse_rename_sample(bank: &Bank<'_>, sample: u32) -> Result<(), Cause>
     requires { IsSound bank.now }
-    ensures { Judges (refusal bank.now (step.RenameSample sample _name)) result }
+    ensures { (name : List ℕ) → Judges (refusal bank.now (step.RenameSample sample name)) result }
 {
     no_such_sample(bank, sample)
 }

@@ -8,7 +8,7 @@ use Rattle.edit_refusals.proofs.InstrumentLaws.{within_rename_instrument}
 use Rattle.edit_refusals.proofs.instruments.refuse_rename_instrument.Goals as goal
 
 pub returns : goal.returns
-returns c =
+returns c = λ name.
     let b = c.args.bank.now in
-    by_last [] (no_such_instrument b c.args.instrument) (broken_limit (raw b (RenameInstrument c.args.instrument c.args._name))) c.no_such_instrument.result tt c.no_such_instrument.ensures
-    (λ h. within_rename_instrument b c.args.instrument c.args._name c.requires.valid)
+    by_last [] (no_such_instrument b c.args.instrument) (broken_limit (raw b (RenameInstrument c.args.instrument name))) c.no_such_instrument.result tt c.no_such_instrument.ensures
+    (λ h. within_rename_instrument b c.args.instrument name c.requires.valid)

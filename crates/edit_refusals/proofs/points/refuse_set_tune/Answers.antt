@@ -9,11 +9,8 @@ use Rattle.edit_refusals.proofs.PointLaws.{within_change}
 use Rattle.edit_refusals.proofs.points.refuse_set_tune.Goals as goal
 
 pub returns : goal.returns
-returns c =
+returns c = λ rate key correction.
     let b = c.args.bank.now in
     let i = c.args.sample in
-    let rate = c.args._rate in
-    let key = c.args._key in
-    let correction = c.args._correction in
     by_last [] (no_such_sample b i) (broken_limit (raw b (SetTune i rate key correction))) c.no_such_sample.result tt c.no_such_sample.ensures
     (λ h. within_change b i (tuned rate key correction) c.requires (below _ i h) (λ s. refl))

@@ -8,7 +8,7 @@ use Rattle.edit_refusals.proofs.PresetLaws.{within_set_head}
 use Rattle.edit_refusals.proofs.presets.refuse_set_head.Goals as goal
 
 pub returns : goal.returns
-returns c =
+returns c = λ name number bank_number.
     let b = c.args.bank.now in
-    by_last [] (no_such_preset b c.args.preset) (broken_limit (raw b (SetHead c.args.preset c.args._name c.args._number c.args._bank_number))) c.no_such_preset.result tt c.no_such_preset.ensures
-    (λ h. within_set_head b c.args.preset c.args._name c.args._number c.args._bank_number c.requires.valid)
+    by_last [] (no_such_preset b c.args.preset) (broken_limit (raw b (SetHead c.args.preset name number bank_number))) c.no_such_preset.result tt c.no_such_preset.ensures
+    (λ h. within_set_head b c.args.preset name number bank_number c.requires.valid)

@@ -8,7 +8,7 @@ use Rattle.edit_refusals.proofs.SampleLaws.{within_rename}
 use Rattle.edit_refusals.proofs.samples.refuse_rename_sample.Goals as goal
 
 pub returns : goal.returns
-returns c =
+returns c = λ name.
     let b = c.args.bank.now in
-    by_last [] (no_such_sample b c.args.sample) (broken_limit (raw b (RenameSample c.args.sample c.args._name))) c.no_such_sample.result tt c.no_such_sample.ensures
-    (λ h. within_rename b c.args.sample c.args._name c.requires.valid)
+    by_last [] (no_such_sample b c.args.sample) (broken_limit (raw b (RenameSample c.args.sample name))) c.no_such_sample.result tt c.no_such_sample.ensures
+    (λ h. within_rename b c.args.sample name c.requires.valid)
