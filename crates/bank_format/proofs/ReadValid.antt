@@ -16,7 +16,8 @@ use Rattle.hydra_records.specs.declared.head.InstrumentHead.{InstrumentHead}
 use Rattle.hydra_records.specs.declared.head.SampleHead.{SampleHead}
 use Rattle.hydra_records.specs.Fits.{FitsGenerator}
 use Rattle.hydra_records.specs.Records.{AreBytes}
-use Rattle.hydra_records.proofs.KindLaws.{field_at-lt, generator_lawful, modulator_lawful}
+use Rattle.hydra_records.proofs.Fields.{field_at-lt}
+use Rattle.hydra_records.proofs.KindLaws.{generator_lawful, modulator_lawful}
 use Rattle.bank_format.specs.Ids.{INFO, SDTA, PDTA, IFIL, SMPL, PHDR, PMOD, PGEN, INST, IMOD, IGEN, SHDR}
 use Rattle.bank_format.specs.declared.fault.ReadFault.TheVariants as fault
 use Rattle.bank_format.specs.Windows.{rows}

@@ -1,6 +1,8 @@
 //! The heads of presets, instruments and samples.
 ghost use Rattle.std.specs.Prelude.{◌≡◌, ◌+◌, ◌≤◌, length, take};
 ghost use Rattle.sf_base.specs.Fields.{field_at};
+ghost use Rattle.hydra_records.specs.Spelling.{instrument_head_bytes, instrument_head_of, preset_head_bytes, preset_head_of, sample_head_bytes, sample_head_of};
+ghost use Rattle.std.proofs.Common.{lit<};
 
 use crate::spelling::Spelling;
 use crate::table::{Record, Spelled};
@@ -76,9 +78,6 @@ pub struct SampleHead {
 }
 
 impl Record for PresetHead {
-    ghost use Rattle.hydra_records.specs.Spelling.{preset_head_of};
-    ghost use Rattle.std.proofs.Common.{lit<};
-
     ghost SIZE = { 38 };
 
     ghost of_bytes = { preset_head_of };
@@ -102,8 +101,6 @@ impl Record for PresetHead {
 }
 
 impl Spelled<38> for PresetHead {
-    ghost use Rattle.hydra_records.specs.Spelling.{preset_head_bytes};
-
     ghost bytes_of = { preset_head_bytes };
 
     #[tactic(auto, unfolding(crate::specs::Spelling::preset_head_bytes))]
@@ -121,9 +118,6 @@ impl Spelled<38> for PresetHead {
 }
 
 impl Record for InstrumentHead {
-    ghost use Rattle.hydra_records.specs.Spelling.{instrument_head_of};
-    ghost use Rattle.std.proofs.Common.{lit<};
-
     ghost SIZE = { 22 };
 
     ghost of_bytes = { instrument_head_of };
@@ -142,8 +136,6 @@ impl Record for InstrumentHead {
 }
 
 impl Spelled<22> for InstrumentHead {
-    ghost use Rattle.hydra_records.specs.Spelling.{instrument_head_bytes};
-
     ghost bytes_of = { instrument_head_bytes };
 
     #[tactic(auto, unfolding(crate::specs::Spelling::instrument_head_bytes))]
@@ -156,9 +148,6 @@ impl Spelled<22> for InstrumentHead {
 }
 
 impl Record for SampleHead {
-    ghost use Rattle.hydra_records.specs.Spelling.{sample_head_of};
-    ghost use Rattle.std.proofs.Common.{lit<};
-
     ghost SIZE = { 46 };
 
     ghost of_bytes = { sample_head_of };
@@ -185,8 +174,6 @@ impl Record for SampleHead {
 }
 
 impl Spelled<46> for SampleHead {
-    ghost use Rattle.hydra_records.specs.Spelling.{sample_head_bytes};
-
     ghost bytes_of = { sample_head_bytes };
 
     #[tactic(auto, unfolding(crate::specs::Spelling::sample_head_bytes))]
@@ -199,7 +186,7 @@ impl Spelled<46> for SampleHead {
             .with_u32(self.loop_end)
             .with_u32(self.rate)
             .with_u8(self.key)
-            .with_i8(self.correction)
+            .with_u8(self.correction.cast_unsigned())
             .with_u16(self.link)
             .with_u16(self.kind)
             .whole()

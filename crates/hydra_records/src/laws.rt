@@ -6,6 +6,7 @@ ghost use Rattle.modulators.specs.Modulators.{FitsModulator};
 
 /// The law that each kind of record reads back from the bytes that spell it, one record as well as
 /// a whole table of them, and that what bytes hold fits. It does nothing.
+#[tactic(auto, using(crate::proofs::KindLaws::kinds_lawful))]
 pub fn records_law()
     ensures preset_heads { IsLawful 38 preset_head_of preset_head_bytes FitsPresetHead }
     ensures bags { IsLawful 4 bag_of bag_bytes FitsBag }

@@ -1,6 +1,5 @@
 //! The bytes of a record, field by field.
 ghost use Rattle.std.specs.Prelude.{◌≡◌, ◌+◌, ◌≤◌, ◌++◌, ℕ, List, [], length};
-ghost use Rattle.std.specs.Int.{w8, w16, cast_unsigned};
 ghost use Rattle.byteorder.specs.Endian.{little_bytes};
 
 use std::marker::Model;
@@ -54,28 +53,12 @@ impl<const N: usize> Spelling<N> {
         self.with_bytes(&[byte])
     }
 
-    pub(crate) fn with_i8(self, number: i8) -> Spelling<N>
-        requires { length self + 1 ≤ N }
-        ensures value { result ≡ self.entry ++ little_bytes 1 (cast_unsigned w8 number) }
-        ensures len { length result ≡ length self.entry + 1 }
-    {
-        self.with_u8(number.cast_unsigned())
-    }
-
     pub(crate) fn with_u16(self, word: u16) -> Spelling<N>
         requires { length self + 2 ≤ N }
         ensures value { result ≡ self.entry ++ little_bytes 2 word }
         ensures len { length result ≡ length self.entry + 2 }
     {
         self.with_bytes(&word.to_le_bytes())
-    }
-
-    pub(crate) fn with_i16(self, number: i16) -> Spelling<N>
-        requires { length self + 2 ≤ N }
-        ensures value { result ≡ self.entry ++ little_bytes 2 (cast_unsigned w16 number) }
-        ensures len { length result ≡ length self.entry + 2 }
-    {
-        self.with_u16(number.cast_unsigned())
     }
 
     pub(crate) fn with_u32(self, dword: u32) -> Spelling<N>

@@ -1,5 +1,7 @@
 //! What zones are made of: bags, generators and modulators.
 ghost use Rattle.std.specs.Prelude.{◌≡◌};
+ghost use Rattle.hydra_records.specs.Spelling.{bag_bytes, bag_of, generator_bytes, generator_of, modulator_bytes, modulator_of};
+ghost use Rattle.std.proofs.Common.{lit<};
 
 use crate::spelling::Spelling;
 use crate::table::{Record, Spelled};
@@ -18,9 +20,6 @@ pub struct Bag {
 }
 
 impl Record for Bag {
-    ghost use Rattle.hydra_records.specs.Spelling.{bag_of};
-    ghost use Rattle.std.proofs.Common.{lit<};
-
     ghost SIZE = { 4 };
 
     ghost of_bytes = { bag_of };
@@ -39,8 +38,6 @@ impl Record for Bag {
 }
 
 impl Spelled<4> for Bag {
-    ghost use Rattle.hydra_records.specs.Spelling.{bag_bytes};
-
     ghost bytes_of = { bag_bytes };
 
     #[tactic(auto, unfolding(crate::specs::Spelling::bag_bytes))]
@@ -65,9 +62,6 @@ pub struct Generator {
 }
 
 impl Record for Generator {
-    ghost use Rattle.hydra_records.specs.Spelling.{generator_of};
-    ghost use Rattle.std.proofs.Common.{lit<};
-
     ghost SIZE = { 4 };
 
     ghost of_bytes = { generator_of };
@@ -86,8 +80,6 @@ impl Record for Generator {
 }
 
 impl Spelled<4> for Generator {
-    ghost use Rattle.hydra_records.specs.Spelling.{generator_bytes};
-
     ghost bytes_of = { generator_bytes };
 
     #[tactic(auto, unfolding(crate::specs::Spelling::generator_bytes))]
@@ -102,9 +94,6 @@ impl Spelled<4> for Generator {
 /// A record of `pmod` (SoundFont 2.04, section 7.4, `sfModList`) or of `imod` (section 7.8,
 /// `sfInstModList`).
 impl Record for Modulator {
-    ghost use Rattle.hydra_records.specs.Spelling.{modulator_of};
-    ghost use Rattle.std.proofs.Common.{lit<};
-
     ghost SIZE = { 10 };
 
     ghost of_bytes = { modulator_of };
@@ -126,8 +115,6 @@ impl Record for Modulator {
 }
 
 impl Spelled<10> for Modulator {
-    ghost use Rattle.hydra_records.specs.Spelling.{modulator_bytes};
-
     ghost bytes_of = { modulator_bytes };
 
     #[tactic(auto, unfolding(crate::specs::Spelling::modulator_bytes))]
@@ -135,7 +122,7 @@ impl Spelled<10> for Modulator {
         Spelling::new()
             .with_u16(self.source)
             .with_u16(self.dest)
-            .with_i16(self.amount)
+            .with_u16(self.amount.cast_unsigned())
             .with_u16(self.amount_source)
             .with_u16(self.transform)
             .whole()

@@ -15,7 +15,7 @@ use Rattle.sample_view.proofs.WordLemmas.{AreWords-words}
 use Rattle.riff_chunks.specs.Walk.{Chunk, walk}
 use Rattle.riff_chunks.specs.Finding.{chunks_in, first_body}
 use Rattle.hydra_records.specs.Records.{records, AreBytes, ReadFits}
-use Rattle.hydra_records.proofs.KindLaws.{field_at-lt}
+use Rattle.hydra_records.proofs.Fields.{field_at-lt}
 use Rattle.hydra_records.proofs.RecordLaws.{records-fit}
 use Rattle.bank_parts.specs.declared.parts.Kind.{Kind}
 use Rattle.bank_parts.specs.declared.parts.Kind.TheVariants as kind

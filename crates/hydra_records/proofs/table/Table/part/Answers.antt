@@ -1,4 +1,4 @@
-use Rattle.std.proofs.Common.{◌≡◌, ◌*◌, ◌-◌, ◌/◌, ◌%◌, ◌∙◌, length, ap, sym, arith}
+use Rattle.std.proofs.Common.{◌≡◌, ◌-◌, ◌/◌, ◌∙◌, length, ap, sym, arith}
 use Rattle.std.proofs.Math.Nat.{mul-mod_left}
 use Rattle.std.specs.Prelude.{min}
 use Rattle.hydra_records.proofs.TableLemmas.{Within, cut_within, length-records, records-part, length-part, range_within}
