@@ -98,10 +98,10 @@ f & g = record {
 
 -- ---- a record that is made of fields
 
-pub lawful : {R : Type 0} (f : Field) (fits : R → Type 0) (of_value : f.Value → R) (value_of : R → f.Value)
-    → ((r : R) → fits r → f.Fits (value_of r)) → ((v : f.Value) → f.Fits v → fits (of_value v)) → ((r : R) → of_value (value_of r) ≡ r) → 0 < f.size
-    → IsLawful f.size (λ b. of_value (f.read 0 b)) (λ r. f.spelled (value_of r)) fits
-lawful f fits of_value value_of value_fits record_fits same some =
+pub lawful : {R : Type 0} (f : Field) (fits : R → Type 0) → 0 < f.size
+    → (of_value : f.Value → R) (value_of : R → f.Value) → ((v : f.Value) → f.Fits v → fits (of_value v)) → ((r : R) → fits r → f.Fits (value_of r))
+    → ((r : R) → of_value (value_of r) ≡ r) → IsLawful f.size (λ b. of_value (f.read 0 b)) (λ r. f.spelled (value_of r)) fits
+lawful f fits some of_value value_of record_fits value_fits same =
     is_lawful f.size (λ b. of_value (f.read 0 b)) (λ r. f.spelled (value_of r)) fits some
     (λ r h. f.has_size (value_of r) (value_fits r h))
     (λ r h. ap of_value (f.reads_back (value_of r) (value_fits r h) 0 [] (f.spelled (value_of r)) (sym (append-nil (f.spelled (value_of r))))) ∙ same r)
