@@ -1,4 +1,4 @@
-use Rattle.std.proofs.Common.{◌≡◌, ℤ, ◌+ℤ◌, ◌-ℤ◌, ◌*ℤ◌, pos, SFits, to_z, of_z, refl, ap, ◌∙◌, rules, arith}
+use Rattle.std.proofs.Common.{◌≡◌, ℤ, ◌-ℤ◌, ◌*ℤ◌, pos, SFits, to_z, of_z, refl, ap, ◌∙◌, rules, arith}
 use Rattle.std.specs.Int.{w8, w32}
 use Rattle.std.proofs.lemmas.Int.{ints, to_z-of_z}
 use Rattle.zone_select.specs.At.{inner_at, outer_at}
@@ -24,17 +24,8 @@ overflow_add-result-3 c =
     let a = c.amount-2.ensures.within in
     let m = c.moved.ensures.within in
     let s : SFits w8 c.args.sample.now.correction = search rules in
-    let correction : c.from.result ≡ c.args.sample.now.correction = simp to_z-of_z at c.from.ensures in
-    let fr : SFits w8 c.from.result = rw correction s in
-    let fi : SFits w32 c.interval.result = search rules in
-    let fa : SFits w32 c.amount-2.result = search rules in
-    let fm : SFits w32 c.moved.result = search rules in
-    let fc : SFits w32 c.from.result = omega (arith, ints, fr) in
-    let f1 : SFits w32 (pos 100 *ℤ c.amount-2.result) = omega (arith, ints, a.0, a.1) in
-    let f2 : SFits w32 (c.interval.result +ℤ pos 100 *ℤ c.amount-2.result) = omega (arith, ints, i.0, i.1, a.0, a.1) in
-    let f3 : SFits w32 (c.interval.result +ℤ pos 100 *ℤ c.amount-2.result +ℤ c.moved.result) = omega (arith, ints, i.0, i.1, a.0, a.1, m.0, m.1) in
-    let f4 : SFits w32 (c.interval.result +ℤ pos 100 *ℤ c.amount-2.result +ℤ c.moved.result +ℤ c.from.result) = omega (arith, ints, i.0, i.1, a.0, a.1, m.0, m.1, fr) in
-    simp to_z-of_z f4
+    let e = c.from.ensures in
+    omega (arith, ints, i.0, i.1, a.0, a.1, m.0, m.1, s, e)
 
 pub returns : goal.returns
 returns c =
@@ -44,21 +35,11 @@ returns c =
     let a = c.amount-2.ensures.within in
     let m = c.moved.ensures.within in
     let s : SFits w8 c.args.sample.now.correction = search rules in
-    let correction : c.from.result ≡ c.args.sample.now.correction = simp to_z-of_z at c.from.ensures in
-    let fr : SFits w8 c.from.result = rw correction s in
-    let fi : SFits w32 c.interval.result = search rules in
-    let fa : SFits w32 c.amount-2.result = search rules in
-    let fm : SFits w32 c.moved.result = search rules in
-    let fc : SFits w32 c.from.result = omega (arith, ints, fr) in
-    let f1 : SFits w32 (pos 100 *ℤ c.amount-2.result) = omega (arith, ints, a.0, a.1) in
-    let f2 : SFits w32 (c.interval.result +ℤ pos 100 *ℤ c.amount-2.result) = omega (arith, ints, i.0, i.1, a.0, a.1) in
-    let f3 : SFits w32 (c.interval.result +ℤ pos 100 *ℤ c.amount-2.result +ℤ c.moved.result) = omega (arith, ints, i.0, i.1, a.0, a.1, m.0, m.1) in
-    let f4 : SFits w32 (c.interval.result +ℤ pos 100 *ℤ c.amount-2.result +ℤ c.moved.result +ℤ c.from.result) = omega (arith, ints, i.0, i.1, a.0, a.1, m.0, m.1, fr) in
+    let e = c.from.ensures in
     let f : SFits w32 c.amount.result = search rules in
     let product : c.interval.result ≡ to_z w32 (of_z w32 c.amount.result) *ℤ (pos c.key-key.result -ℤ pos c.root-root.result) = c.interval.ensures.value in
     let scaled : c.interval.result ≡ c.amount.result *ℤ (pos c.key-key.result -ℤ pos c.root-root.result) = product ∙ ap (λ (z : ℤ). z *ℤ (pos c.key-key.result -ℤ pos c.root-root.result)) (to_z-of_z w32 c.amount.result f) in
-    simp to_z-of_z
-    (ap (λ (z : ℤ). c.interval.result +ℤ pos 100 *ℤ c.amount-2.result +ℤ c.moved.result +ℤ z) correction
-    ∙ cents_is c.args.note.now v u c.args.sample.now c.key-key.result c.root-root.result (pos c.key-key.result -ℤ pos c.root-root.result)
-    c.amount.result c.interval.result c.amount-2.result c.moved.result
-    c.key-key.ensures.value c.root-root.ensures.value refl c.amount.ensures.value scaled c.amount-2.ensures.value c.moved.ensures.value)
+    let is = cents_is c.args.note.now v u c.args.sample.now c.key-key.result c.root-root.result (pos c.key-key.result -ℤ pos c.root-root.result)
+      c.amount.result c.interval.result c.amount-2.result c.moved.result
+      c.key-key.ensures.value c.root-root.ensures.value refl c.amount.ensures.value scaled c.amount-2.ensures.value c.moved.ensures.value in
+    omega (arith, ints, i.0, i.1, a.0, a.1, m.0, m.1, s, e, is)
