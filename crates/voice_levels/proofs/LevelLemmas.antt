@@ -3,6 +3,7 @@ use Rattle.std.proofs.Common.{◌≡◌, ℕ, ◌+◌, ◌*◌, ◌/◌, ◌<◌
 use Rattle.std.proofs.lemmas.Nat.{div_below, mul-le}
 use Rattle.std.proofs.lemmas.Int.{ints}
 use Rattle.std.proofs.Math.Facts.{to_z-neg}
+use Rattle.std.proofs.Math.Nat.{mul-div_cancel, zero-div}
 use Rattle.std.specs.Int.{w16, w32}
 use Rattle.std.specs.Int.Signed.{shr_z}
 use Rattle.std.proofs.Common.{refl, SFits, to_z, of_z, ◌∙◌}
@@ -47,19 +48,27 @@ pub record Within (z : ℤ) : Type 0 where
   pub low : negsuc 32767 ≤ℤ z
   pub high : z ≤ℤ pos 32767
 
+pub part_within : (z : ℤ) (f n : ℕ) → 0 < n → f ≤ n → negsuc 32767 ≤ℤ z → z ≤ℤ pos 32767 → (negsuc 32767 ≤ℤ floor_div (z *ℤ pos f) n) × (floor_div (z *ℤ pos f) n ≤ℤ pos 32767)
+part_within z f n p h lo hi =
+    cases_sign z
+    (λ s. let b = part_up z f n p h s in (omega (arith, ints, b.0), omega (arith, ints, b.1)))
+    (λ s. let b = part_down z f n p h s in (omega (arith, ints, b.0), omega (arith, ints, b.1)))
+
+-- and all of it is the number
+pub whole_part : (z : ℤ) (n : ℕ) → 0 < n → floor_div (z *ℤ pos n) n ≡ z
+whole_part (pos a) n p = ap pos (mul-div_cancel a p)
+whole_part (negsuc a) n p =
+    let e = floor_div_is (negsuc a *ℤ pos n) (suc a) n 0 p (omega (arith, ints)) in
+    let none : 0 / n ≡ 0 = zero-div n in omega (arith, ints, e, none)
+
 pub scaled_within : (p : ℤ) (gain : ℕ) → gain ≤ 65536 → negsuc 32767 ≤ℤ p → p ≤ℤ pos 32767 → (negsuc 32767 ≤ℤ scaled_by p gain) × (scaled_by p gain ≤ℤ pos 32767)
 unfolding scaled_by
-scaled_within p gain h lo hi =
-    cases_sign p
-    (λ s. let b = part_up p gain 65536 (omega arith) h s in (omega (arith, ints, b.0), omega (arith, ints, b.1)))
-    (λ s. let b = part_down p gain 65536 (omega arith) h s in (omega (arith, ints, b.0), omega (arith, ints, b.1)))
+scaled_within p gain h lo hi = part_within p gain 65536 (omega arith) h lo hi
 
 -- a level that changes nothing
 pub full_level : (z : ℤ) → scaled_by z 65536 ≡ z
 unfolding scaled_by
-full_level (pos a) = let e : a * 65536 / 65536 ≡ a = omega arith in omega (arith, ints)
-full_level (negsuc a) =
-    let e = floor_div_is (negsuc a *ℤ pos 65536) (suc a) 65536 0 (omega arith) (omega (arith, ints)) in omega (arith, ints, e)
+full_level z = whole_part z 65536 (omega arith)
 
 -- a product, read b parts higher
 pub times_more : (z : ℤ) (a b f : ℕ) → z +ℤ pos b ≡ pos a → z *ℤ pos f +ℤ pos (b * f) ≡ pos (a * f)

@@ -128,8 +128,3 @@ fine_is z h l part most fz eh el =
     ∙ ap (λ (v : ℤ). shr_z (z *ℤ pos m +ℤ v) 16384) (shifted_down (z *ℤ pos n +ℤ pos 32768) 16384)
     ∙ shifted_down (z *ℤ pos m +ℤ floor_div (z *ℤ pos n +ℤ pos 32768) 16384) 16384
     ∙ fine_side z part m n (omega arith) fz
-
--- the two numbers of a part of 1000
-pub record InTwo (part : ℕ) (h l : ℤ) : Type 0 where
-  pub high : (pos 0 ≤ℤ h) × (h ≤ℤ pos 16384)
-  pub low : (pos 0 ≤ℤ l) × (l ≤ℤ pos 16383)

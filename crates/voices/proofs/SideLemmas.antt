@@ -7,23 +7,18 @@ use Rattle.std.specs.Int.Signed.{shr_z}
 use Rattle.std.proofs.Common.{SFits, ◌∙◌}
 use Rattle.sound_tables.specs.Floor.{floor_div, above_zero}
 use Rattle.sound_tables.proofs.FloorLemmas.{floor_div_is}
-use Rattle.voice_levels.proofs.LevelLemmas.{part_up, part_down, cases_sign, times_more, from_zero}
+use Rattle.voice_levels.proofs.LevelLemmas.{part_within, whole_part, part_up, part_down, cases_sign, times_more, from_zero}
 use Rattle.voices.specs.Levels.{side}
 use Rattle.voices.specs.Points.{between, weighed}
 
 pub side_within : (p : ℤ) (gain : ℕ) → gain ≤ 1000 → negsuc 32767 ≤ℤ p → p ≤ℤ pos 32767 → (negsuc 32767 ≤ℤ side p gain) × (side p gain ≤ℤ pos 32767)
 unfolding side
-side_within p gain h lo hi =
-    cases_sign p
-    (λ s. let b = part_up p gain 1000 (omega arith) h s in (omega (arith, ints, b.0), omega (arith, ints, b.1)))
-    (λ s. let b = part_down p gain 1000 (omega arith) h s in (omega (arith, ints, b.0), omega (arith, ints, b.1)))
+side_within p gain h lo hi = part_within p gain 1000 (omega arith) h lo hi
 
 -- all of it, and none of it
 pub whole_side : (z : ℤ) → side z 1000 ≡ z
 unfolding side
-whole_side (pos a) = let e : a * 1000 / 1000 ≡ a = omega arith in omega (arith, ints)
-whole_side (negsuc a) =
-    let e = floor_div_is (negsuc a *ℤ pos 1000) (suc a) 1000 0 (omega arith) (omega (arith, ints)) in omega (arith, ints, e)
+whole_side z = whole_part z 1000 (omega arith)
 
 pub no_side : (z : ℤ) → side z 0 ≡ pos 0
 unfolding side
