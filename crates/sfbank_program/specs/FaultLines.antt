@@ -20,9 +20,13 @@ use Rattle.sfbank_program.specs.InputFaults.{reason_of}
 use Rattle.sfbank_program.specs.declared.run_fault.RunFault.{RunFault}
 use Rattle.sfbank_program.specs.declared.run_fault.RunFault.TheVariants.{Read, ReadSecond, Script, Refused, NotNeutral, OtherVersion, Notes, Recording, NoMember, Write, Memory}
 
+-- a line that ends with a number and a name
+abbrev pub named_line : List ℕ → ℕ → List ℕ → List ℕ
+named_line start number name = concat (start ∷ decimal number ∷ codes " " ∷ name ∷ codes "\n" ∷ [])
+
 -- a fault of reading, by its number and its name
 abbrev pub read_text : ReadFault → List ℕ
-read_text fault = concat (codes "read fault " ∷ decimal (reading.number_of fault) ∷ codes " " ∷ reading.name_of fault ∷ codes "\n" ∷ [])
+read_text fault = named_line (codes "read fault ") (reading.number_of fault) (reading.name_of fault)
 
 abbrev pub read_line : ReadFault → List ℕ
 read_line fault = codes "sfbank: " ++ read_text fault
@@ -69,10 +73,6 @@ refused_line line why = refusal_text line why ++ (detail_text why ++ codes "\n")
 -- a line whose edit is not neutral, where all have to be
 abbrev pub not_neutral_line : ℕ → List ℕ
 not_neutral_line line = concat (codes "sfbank: line " ∷ decimal line ∷ codes ": refused 50 NotNeutral\n" ∷ [])
-
--- a line that ends with a number and a name
-abbrev pub named_line : List ℕ → ℕ → List ℕ → List ℕ
-named_line start number name = concat (start ∷ decimal number ∷ codes " " ∷ name ∷ codes "\n" ∷ [])
 
 -- a fault of a WAVE file, by its number and its name
 abbrev pub recording_line : WaveFault → List ℕ

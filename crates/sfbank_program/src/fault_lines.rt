@@ -86,17 +86,7 @@ fn put_second_read_fault<W: Write>(fault: ReadFault, output: &mut Output<'_, W>)
 fn put_read_text<W: Write>(fault: ReadFault, output: &mut Output<'_, W>)
     ensures { Puts W.contents output.old output.new (read_text fault) }
 {
-    let mut number = Buffer::new();
-    put_pieces(
-        &[
-            b"read fault ",
-            number.format(fault.number()).as_bytes(),
-            b" ",
-            fault.name().as_bytes(),
-            b"\n",
-        ],
-        output,
-    );
+    put_named("read fault ", fault.number(), fault.name(), output);
 }
 
 // A fault on a line of a text, by its number and its name.
