@@ -1,10 +1,12 @@
 -- Frames that a player has summed before they are asked for.
-use Rattle.std.specs.Prelude.{◌≡◌, ℕ, ◌+◌, ◌-◌, ◌*◌, ◌/◌, ◌<◌, ◌≤◌, ◌^◌, ℤ, pos, ◌+ℤ◌, List, All, filter, length, map, slice_index_or}
+use Rattle.std.specs.Prelude.{◌≡◌, ℕ, ◌+◌, ◌-◌, ◌*◌, ◌/◌, ◌<◌, ◌≤◌, ℤ, pos, ◌+ℤ◌, List, All, filter, length, map, slice_index_or}
 use Rattle.voices.specs.Within.{IsWithin}
 use Rattle.mixer.specs.declared.ahead.Ahead.{Ahead}
+use Rattle.mixer.specs.declared.ahead.TheConstants.{MOST_AHEAD, SIDES}
+use Rattle.mixer.specs.declared.blocks.TheConstants.{GROUP}
 use Rattle.mixer.specs.declared.playing.Playing.{Playing}
 use Rattle.mixer.specs.Events.{is_sounding, total_at}
-use Rattle.mixer.specs.KeptVoices.{AllYounger}
+use Rattle.mixer.specs.KeptVoices.{AllYounger, lifetime}
 
 -- n frames younger
 unfoldable pub rewound : ℕ → Playing → Playing
@@ -14,15 +16,15 @@ rewound n p = record p { voice = record { value = p.voice.value; age = p.voice.a
 
 -- number i of the sides that are left
 abbrev pub side_left : Ahead → ℕ → ℤ
-side_left a i = slice_index_or a.sides (512 - 2 * a.left + i) (pos 0)
+side_left a i = slice_index_or a.sides (SIDES - 2 * a.left + i) (pos 0)
 
 -- what both sides get at frame k of those that are left
 abbrev pub middle_left : Ahead → ℕ → ℤ
-middle_left a k = slice_index_or a.middle (256 - a.left + k) (pos 0)
+middle_left a k = slice_index_or a.middle (MOST_AHEAD - a.left + k) (pos 0)
 
 -- the sums that are left are of n voices at most
 pub record AreWithin (n : ℕ) (a : Ahead) : Type 0 where
-  pub most : a.left ≤ 256
+  pub most : a.left ≤ MOST_AHEAD
   pub sides : (i : ℕ) → i < 2 * a.left → IsWithin n (side_left a i)
   pub middle : (k : ℕ) → k < a.left → IsWithin n (middle_left a k)
 
@@ -36,8 +38,8 @@ pub record AreSums (a : Ahead) (ps : List Playing) : Type 0 where
 pub record IsAhead (a : Ahead) (ps : List Playing) : Type 0 where
   pub sums : AreSums a (map (rewound a.left) ps)
   pub given : All (λ p. a.left ≤ p.voice.age) ps
-  pub young : AllYounger (2 ^ 33 + 256) ps
-  pub few : 0 < a.left → length ps ≤ 32767
+  pub young : AllYounger (lifetime + MOST_AHEAD) ps
+  pub few : 0 < a.left → length ps ≤ GROUP
 
 -- those that sound at the frame that comes next, as they are then
 unfoldable pub playing_now : Ahead → List Playing → List Playing

@@ -1,7 +1,11 @@
 -- What holds of all voices that a player keeps.
-use Rattle.std.specs.Prelude.{◌≡◌, ℕ, ◌<◌, true, List, All}
+use Rattle.std.specs.Prelude.{◌≡◌, ℕ, ◌<◌, ◌^◌, true, List, All}
 use Rattle.mixer.specs.declared.playing.Playing.{Playing}
 use Rattle.mixer.specs.Events.{is_sounding}
+
+-- a voice that has given so many frames is over, whatever its numbers
+abbrev pub lifetime : ℕ
+lifetime = 2 ^ 33
 
 -- no voice has given n frames
 abbrev pub AllYounger : ℕ → List Playing → Type 0

@@ -7,24 +7,24 @@ ghost use Rattle.voices.specs.Within.{IsWithin};
 ghost use Rattle.mixer.specs.Heard as heard;
 ghost use Rattle.mixer.specs.Ahead.{AreSums, AreWithin, IsAhead, playing_now};
 ghost use Rattle.mixer.specs.Events.{aged, next_side, unsilenced};
-ghost use Rattle.mixer.specs.KeptVoices.{AllSounding, AllYounger};
+ghost use Rattle.mixer.specs.KeptVoices.{AllSounding, AllYounger, lifetime};
 
 use crate::blocks::{GROUP, add_voices, cut_both};
 use crate::playing::{Playing, drop_over, drop_silenced, go_back, have_class};
 use voices::Workspace;
 
 // The most frames that are summed ahead.
-const MOST: usize = 256;
+const MOST_AHEAD: usize = 256;
 
 // The sides of these.
-const SIDES: usize = 2 * MOST;
+const SIDES: usize = 2 * MOST_AHEAD;
 
 // The sums of the frames that come next, so many as are left, at the end of each list. Short blocks take theirs from them: so
 // what it costs to call all voices comes once in several blocks.
 #[derive(Drop)]
 pub(crate) struct Ahead {
     sides: [i32; SIDES],
-    middle: [i32; MOST],
+    middle: [i32; MOST_AHEAD],
     pub(crate) left: usize,
     // How many are summed next where fewer are asked for: twice as many as before, for they may have been in vain.
     reach: usize,
@@ -37,7 +37,7 @@ impl Ahead {
     {
         Ahead {
             sides: [0; SIDES],
-            middle: [0; MOST],
+            middle: [0; MOST_AHEAD],
             left: 0,
             reach: 0,
         }
@@ -45,11 +45,11 @@ impl Ahead {
 
     // So many frames in which nothing sounds.
     fn clear(&mut self, count: usize)
-        requires { count ≤ 256 }
+        requires { count ≤ MOST_AHEAD }
         ensures left { self.new.left ≡ count }
         ensures silent { AreSums self.new [] }
     {
-        let first = MOST - count;
+        let first = MOST_AHEAD - count;
         self.sides[2 * first..].fill(0);
         self.middle[first..].fill(0);
         self.left = count;
@@ -57,9 +57,9 @@ impl Ahead {
 
     // Adds the frames of further voices to those that are left. Each voice gets as many frames older.
     pub(crate) fn join(&mut self, voices: &mut [Playing], work: &mut Workspace)
-        requires few { 0 < self.old.left → length voices.old ≤ 32767 }
+        requires few { 0 < self.old.left → length voices.old ≤ GROUP }
         requires young { AllYounger (2 ^ 63 + 2 ^ 34) voices.old }
-        requires room { AreWithin 32767 self.old }
+        requires room { AreWithin GROUP self.old }
         ensures left { self.new.left ≡ self.old.left }
         ensures sums { (ps : List Playing) → AreSums self.old ps → AreSums self.new (ps ++ voices.old) }
         ensures live { voices.new ≡ map (aged self.old.left) voices.old }
@@ -67,7 +67,7 @@ impl Ahead {
         if self.left == 0 {
             return;
         }
-        let first = MOST - self.left;
+        let first = MOST_AHEAD - self.left;
         add_voices(
             voices,
             work,
@@ -79,13 +79,13 @@ impl Ahead {
     // Sums frames of all voices, where none are left: so many as are asked for, or more.
     pub(crate) fn fill(&mut self, asked: usize, voices: &mut [Playing], work: &mut Workspace)
         requires some { 0 < asked }
-        requires few { length voices.old ≤ 32767 }
+        requires few { length voices.old ≤ GROUP }
         requires young { AllYounger (2 ^ 63 + 2 ^ 34) voices.old }
-        ensures some { (0 < self.new.left) × (self.new.left ≤ 256) }
+        ensures some { (0 < self.new.left) × (self.new.left ≤ MOST_AHEAD) }
         ensures sums { AreSums self.new voices.old }
         ensures live { voices.new ≡ map (aged self.new.left) voices.old }
     {
-        let count = self.reach.max(asked).min(MOST);
+        let count = self.reach.max(asked).min(MOST_AHEAD);
         self.reach = 2 * count;
         self.clear(count);
         self.join(voices, work);
@@ -95,13 +95,13 @@ impl Ahead {
     pub(crate) fn give(&mut self, out: &mut [i16])
         requires even { length out.old % 2 ≡ 0 }
         requires enough { length out.old ≤ 2 * self.old.left }
-        requires room { AreWithin 32767 self.old }
+        requires room { AreWithin GROUP self.old }
         ensures left { self.new.left + length out.old / 2 ≡ self.old.left }
         ensures heard { (ps : List Playing) → AreSums self.old ps
             → EachIndex out.new (λ i. slice_index_or out.new i (pos 0) ≡ next_side ps i) }
         ensures sums { (ps : List Playing) → AreSums self.old ps → AreSums self.new (map (aged (length out.old / 2)) ps) }
     {
-        let first = MOST - self.left;
+        let first = MOST_AHEAD - self.left;
         cut_from(&self.sides, &self.middle, first, out);
         self.left -= out.len() / 2;
     }
@@ -112,8 +112,8 @@ fn cut_from(sides: &[i32], middle: &[i32], first: usize, out: &mut [i16])
     requires even { length out.old % 2 ≡ 0 }
     requires sides { 2 * first + length out.old ≤ length sides.now }
     requires middle { first + length out.old / 2 ≤ length middle.now }
-    requires room { (i : ℕ) → i < length out.old → IsWithin 32767 (slice_index_or sides.now (2 * first + i) (pos 0)) }
-    requires middle_room { (k : ℕ) → k < length out.old / 2 → IsWithin 32767 (slice_index_or middle.now (first + k) (pos 0)) }
+    requires room { (i : ℕ) → i < length out.old → IsWithin GROUP (slice_index_or sides.now (2 * first + i) (pos 0)) }
+    requires middle_room { (k : ℕ) → k < length out.old / 2 → IsWithin GROUP (slice_index_or middle.now (first + k) (pos 0)) }
     ensures { EachIndex out.new (λ i. slice_index_or out.new i (pos 0)
         ≡ heard.cut (slice_index_or sides.now (2 * first + i) (pos 0) +ℤ slice_index_or middle.now (first + i / 2) (pos 0))) }
 {
@@ -138,13 +138,13 @@ pub(crate) fn sum_ahead<'a>(
     ensures ahead { IsAhead ahead.new voices.new.items }
     ensures same { playing_now ahead.new voices.new.items ≡ playing_now ahead.old voices.old.items }
     ensures sounding { ahead.new.left ≡ 0 → AllSounding voices.new.items }
-    ensures young { ahead.new.left ≡ 0 → AllYounger (2 ^ 33) voices.new.items }
+    ensures young { ahead.new.left ≡ 0 → AllYounger lifetime voices.new.items }
 {
     if ahead.left != 0 {
         return;
     }
     drop_over(voices);
-    if asked < MOST && voices.len() <= GROUP {
+    if asked < MOST_AHEAD && voices.len() <= GROUP {
         ahead.fill(asked, voices.as_mut_slice(), work);
     }
 }
@@ -156,7 +156,7 @@ fn drop_ahead<'a>(voices: &mut Vec<Playing<'a>>, ahead: &mut Ahead, new: &[Playi
     ensures ahead { IsAhead ahead.new voices.new.items }
     ensures same { playing_now ahead.new voices.new.items ≡ playing_now ahead.old voices.old.items }
     ensures alone { 0 < ahead.new.left → list_any heard.has_class new.now ≡ false }
-    ensures few { 0 < ahead.new.left → length voices.new.items + length new.now ≤ 32767 }
+    ensures few { 0 < ahead.new.left → length voices.new.items + length new.now ≤ GROUP }
     ensures bound { vec_len voices.new ≤ vec_len voices.old }
     ensures capacity { vec_capacity voices.new ≡ vec_capacity voices.old }
 {
@@ -173,7 +173,7 @@ pub(crate) fn make_way<'a>(voices: &mut Vec<Playing<'a>>, ahead: &mut Ahead, new
     requires { IsAhead ahead.old voices.old.items }
     ensures ahead { IsAhead ahead.new voices.new.items }
     ensures unsilenced { playing_now ahead.new voices.new.items ≡ unsilenced new.now (playing_now ahead.old voices.old.items) }
-    ensures few { 0 < ahead.new.left → length voices.new.items + length new.now ≤ 32767 }
+    ensures few { 0 < ahead.new.left → length voices.new.items + length new.now ≤ GROUP }
     ensures bound { vec_len voices.new ≤ vec_len voices.old }
     ensures capacity { vec_capacity voices.new ≡ vec_capacity voices.old }
 {

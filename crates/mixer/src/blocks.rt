@@ -3,7 +3,7 @@ ghost use Rattle.std.specs.Prelude.{◌≡◌, ℕ, ◌+◌, ◌*◌, ◌/◌, �
 ghost use Rattle.voices.specs.Within.{AllWithin};
 ghost use Rattle.mixer.specs.Heard as heard;
 ghost use Rattle.mixer.specs.Events.{aged, total_at, next_side};
-ghost use Rattle.mixer.specs.KeptVoices.{AllYounger};
+ghost use Rattle.mixer.specs.KeptVoices.{AllYounger, lifetime};
 
 use crate::playing::Playing;
 use progress::Progress;
@@ -46,11 +46,11 @@ pub(crate) fn add_voices(
     middle: &mut [i32],
 )
     requires sides { length sides.old ≡ 2 * length middle.old }
-    requires few { length voices.old ≤ 32767 }
+    requires few { length voices.old ≤ GROUP }
     requires young { AllYounger (2 ^ 63 + 2 ^ 34) voices.old }
     requires short { length middle.old ≤ 1024 }
-    requires room { AllWithin 32767 sides.old }
-    requires middle { AllWithin 32767 middle.old }
+    requires room { AllWithin GROUP sides.old }
+    requires middle { AllWithin GROUP middle.old }
     ensures value { EachIndex sides.new (λ i. slice_index_or sides.new i (pos 0) +ℤ slice_index_or middle.new (i / 2) (pos 0)
         ≡ slice_index_or sides.old i (pos 0) +ℤ slice_index_or middle.old (i / 2) (pos 0) +ℤ total_at voices.old i) }
     ensures room { (j : ℕ) → AllWithin j sides.old → AllWithin (j + length voices.old) sides.new }
@@ -65,7 +65,7 @@ pub(crate) fn add_voices(
 // The sums of all voices of a group.
 fn sum_group(voices: &mut [Playing], work: &mut Workspace, sides: &mut [i32], middle: &mut [i32])
     requires sides { length sides.old ≡ 2 * length middle.old }
-    requires few { length voices.old ≤ 32767 }
+    requires few { length voices.old ≤ GROUP }
     requires young { AllYounger (2 ^ 63 + 2 ^ 34) voices.old }
     requires short { length middle.old ≤ 1024 }
     ensures value { EachIndex sides.new (λ i. slice_index_or sides.new i (pos 0) +ℤ slice_index_or middle.new (i / 2) (pos 0) ≡ total_at voices.old i) }
@@ -97,8 +97,8 @@ fn widen(sides: &[i32], middle: &[i32], totals: &mut [i128])
 pub(crate) fn cut_both(sums: &[i32], middle: &[i32], out: &mut [i16])
     requires sums { length sums.now ≡ length out.old }
     requires middle { length out.old ≡ 2 * length middle.now }
-    requires room { AllWithin 32767 sums.now }
-    requires middle_room { AllWithin 32767 middle.now }
+    requires room { AllWithin GROUP sums.now }
+    requires middle_room { AllWithin GROUP middle.now }
     ensures { EachIndex out.new (λ i. slice_index_or out.new i (pos 0)
         ≡ heard.cut (slice_index_or sums.now i (pos 0) +ℤ slice_index_or middle.now (i / 2) (pos 0))) }
 {
@@ -133,7 +133,7 @@ fn add_group(
     middle: &mut [i32; PART],
     totals: &mut [i128],
 )
-    requires few { length voices.old ≤ 32767 }
+    requires few { length voices.old ≤ GROUP }
     requires young { AllYounger (2 ^ 63 + 2 ^ 34) voices.old }
     requires short { length totals.old ≤ 2048 }
     requires even { length totals.old % 2 ≡ 0 }
@@ -181,7 +181,7 @@ fn mix_group(
     middle: &mut [i32; PART],
     out: &mut [i16],
 )
-    requires few { length voices.old ≤ 32767 }
+    requires few { length voices.old ≤ GROUP }
     requires young { AllYounger (2 ^ 63 + 2 ^ 34) voices.old }
     requires short { length out.old ≤ 2048 }
     requires even { length out.old % 2 ≡ 0 }
@@ -239,7 +239,7 @@ pub(crate) fn mix<P: Progress>(
     out: &mut [i16],
     progress: &mut P,
 )
-    requires young { AllYounger (2 ^ 33) voices.old }
+    requires young { AllYounger lifetime voices.old }
     requires even { length out.old % 2 ≡ 0 }
     ensures value { EachIndex out.new (λ i. slice_index_or out.new i (pos 0) ≡ next_side voices.old i) }
     ensures live { voices.new ≡ map (aged (length out.old / 2)) voices.old }

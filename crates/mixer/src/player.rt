@@ -81,9 +81,10 @@ impl<'a> Player<'a> {
 
     /// The next frames, the left and the right side in turn: sums of all voices, each cut once to 16
     /// bits. It takes no memory. Its work is that of the voices' own frames, and to clear twelve bytes for each frame. For a
-    /// block of fewer than 256 frames up to so many are summed, and the blocks that follow take theirs from these; a start that
-    /// silences voices makes those that are left in vain, and then fewer are summed ahead at first. Where there are more than
-    /// 32,767 voices, 32 kilobytes more are cleared for each 1,024 frames or what is left. For no frame it does nothing.
+    /// block of fewer than 256 frames up to so many are summed, and the blocks that follow take theirs from these; a start of
+    /// a voice with an exclusive class, whether or not it silences one, makes those that are left in vain, and then fewer are
+    /// summed ahead at first. Where there are more than 32,767 voices, 32 kilobytes more are cleared for each 1,024 frames or
+    /// what is left. For no frame it does nothing.
     pub fn block(&mut self, out: &mut [i16])
         requires { length out.old % 2 ≡ 0 }
         ensures heard { out.new ≡ block self.old (length out.old / 2) }

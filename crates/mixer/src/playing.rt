@@ -1,5 +1,5 @@
 //! Voices that play, and which of them an exclusive class silences.
-ghost use Rattle.std.specs.Prelude.{◌≡◌, ◌≤◌, ◌^◌, ◌<◌, ◌++◌, All, filter, map, IfOk, OnOk, vec_len};
+ghost use Rattle.std.specs.Prelude.{◌≡◌, ◌≤◌, ◌<◌, ◌++◌, All, filter, map, IfOk, OnOk, vec_len};
 ghost use Rattle.std.specs.Bool.{OnTrue};
 ghost use Rattle.std.specs.List.{list_any};
 ghost use Rattle.std.specs.Vec.{vec_capacity};
@@ -7,7 +7,7 @@ ghost use Rattle.zone_select.specs.Pairs.{voice_by, listed};
 ghost use Rattle.mixer.specs.Heard as heard;
 ghost use Rattle.mixer.specs.Events.{is_sounding, unsilenced};
 ghost use Rattle.mixer.specs.Ahead.{rewound};
-ghost use Rattle.mixer.specs.KeptVoices.{AllSounding, AllYounger};
+ghost use Rattle.mixer.specs.KeptVoices.{AllSounding, AllYounger, lifetime};
 
 use bank_core::Bank;
 use note_list::Note;
@@ -86,7 +86,7 @@ pub(crate) fn drop_silenced<'a>(voices: &mut Vec<Playing<'a>>, new: &[Playing<'a
 #[tactic(auto, unfolding(crate::specs::Events::is_sounding))]
 fn is_sounding(p: &Playing) -> bool
     ensures value { result ≡ is_sounding p.now }
-    ensures young { OnTrue result (p.now.voice.age < 2 ^ 33) }
+    ensures young { OnTrue result (p.now.voice.age < lifetime) }
 {
     !p.voice.is_over()
 }
@@ -94,7 +94,7 @@ fn is_sounding(p: &Playing) -> bool
 // Drops the voices that are over.
 pub(crate) fn drop_over<'a>(voices: &mut Vec<Playing<'a>>)
     ensures items { voices.new.items ≡ filter is_sounding voices.old.items }
-    ensures young { AllYounger (2 ^ 33) voices.new.items }
+    ensures young { AllYounger lifetime voices.new.items }
     ensures sounding { AllSounding voices.new.items }
     ensures bound { vec_len voices.new ≤ vec_len voices.old }
     ensures capacity { vec_capacity voices.new ≡ vec_capacity voices.old }

@@ -40,7 +40,10 @@ pub fn render_with_progress<P: Progress>(
     let sorted = in_order(alloc, notes)?;
     let count = frame_count(bank, notes);
     let mut out = vec![in alloc; 0i16; 2 * count as usize]?;
-    play(alloc, bank, sorted.as_slice(), out.as_mut_slice(), progress)?;
+    progress.begin(Work::Frames, u64::from(count));
+    let played = play(alloc, bank, sorted.as_slice(), out.as_mut_slice(), progress);
+    progress.end();
+    played?;
     Ok(out)
 }
 
@@ -53,27 +56,8 @@ fn in_order(alloc: Global, notes: &[Note]) -> Result<Vec<Note>, OutOfMemory>
     Ok(sorted)
 }
 
-// Plays notes that are in order. It is told how far they are.
+// Plays notes that are in order, one after the other, each from its start on.
 fn play<'a, P: Progress>(
-    alloc: Global,
-    bank: &Bank<'a>,
-    notes: &[Note],
-    out: &mut [i16],
-    progress: &mut P,
-) -> Result<(), OutOfMemory>
-    requires even { length out.old % 2 ≡ 0 }
-    requires rising { IsRising 0 notes.now }
-    requires within { StartWithin (length out.old / 2) notes.now }
-    ensures { OnOk result (out.new ≡ order.frames_of bank.now notes.now (length out.old / 2)) }
-{
-    progress.begin(Work::Frames, out.len() as u64 / 2);
-    let played = play_each(alloc, bank, notes, out, progress);
-    progress.end();
-    played
-}
-
-// Plays them one after the other, each from its start on.
-fn play_each<'a, P: Progress>(
     alloc: Global,
     bank: &Bank<'a>,
     notes: &[Note],

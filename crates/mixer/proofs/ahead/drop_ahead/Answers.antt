@@ -3,19 +3,15 @@ use Rattle.std.proofs.lemmas.Grind.{common_steps}
 use Rattle.mixer.specs.Ahead.{rewound, IsAhead, playing_now}
 use Rattle.mixer.proofs.AheadLaws.{gone_back_ahead, gone_back_playing}
 use Rattle.mixer.proofs.ahead.drop_ahead.Goals as goal
+use Rattle.mixer.proofs.ahead.drop_ahead.Goals.{After-go_back}
+
+all_back : (c : After-go_back) → take c.args.voices.now.len (c.go_back.new.voices ++ drop (length c.go_back.new.voices) c.args.voices.now.items) ≡ map (rewound c.args.ahead.now.left) c.args.voices.now.items
+all_back c = grind (arith, common_steps)
 
 pub returns-clause-ahead : goal.returns-clause-ahead
 returns-clause-ahead c =
-    let a = c.args.ahead.now in
-    let vs = c.args.voices.now.items in
-    let back = c.go_back.new.voices in
-    let e : take c.args.voices.now.len (back ++ drop (length back) vs) ≡ map (rewound a.left) vs = grind (arith, common_steps) in
-    subst (IsAhead _) (sym e) (gone_back_ahead a _ vs refl c.requires)
+    subst (IsAhead _) (sym (all_back (goal.at.returns-clause-ahead c).After-go_back)) (gone_back_ahead c.args.ahead.now _ c.args.voices.now.items refl c.requires)
 
 pub returns-clause-same : goal.returns-clause-same
 returns-clause-same c =
-    let a = c.args.ahead.now in
-    let vs = c.args.voices.now.items in
-    let back = c.go_back.new.voices in
-    let e : take c.args.voices.now.len (back ++ drop (length back) vs) ≡ map (rewound a.left) vs = grind (arith, common_steps) in
-    ap (playing_now _) e ∙ gone_back_playing a _ vs refl
+    ap (playing_now _) (all_back (goal.at.returns-clause-same c).After-go_back) ∙ gone_back_playing c.args.ahead.now _ c.args.voices.now.items refl

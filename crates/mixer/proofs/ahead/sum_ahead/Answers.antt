@@ -22,7 +22,7 @@ returns-then-len-le-GROUP-clause-same c =
     let e : take c.drop_over.new.voices.len (c.fill.new.voices ++ drop (length c.fill.new.voices) vs) ≡ map (aged a.left) vs = grind (arith, common_steps) in
     ap (playing_now a) e ∙ filled_playing a vs c.drop_over.ensures.sounding ∙ c.drop_over.ensures.items ∙ sym (none_playing c.args.ahead.now c.args.voices.now.items none)
 
-pub returns-else-asked-lt-MOST-clause-same : goal.returns-else-asked-lt-MOST-clause-same
-returns-else-asked-lt-MOST-clause-same c =
+pub returns-else-asked-lt-MOST_AHEAD-clause-same : goal.returns-else-asked-lt-MOST_AHEAD-clause-same
+returns-else-asked-lt-MOST_AHEAD-clause-same c =
     let none : c.args.ahead.now.left ≡ 0 = omega arith in
     ap (playing_now c.args.ahead.now) c.drop_over.ensures.items ∙ dropped_playing c.args.ahead.now c.args.voices.now.items none

@@ -1,5 +1,5 @@
-use Rattle.std.proofs.Common.{rules, ◌≡◌, ◌+ℤ◌, ◌/◌, ℤ, pos, arith, get_or, ◌∙◌, to_z, of_z, SFits}
-use Rattle.std.proofs.lemmas.Int.{ints, to_z-of_z}
+use Rattle.std.proofs.Common.{rules, ◌≡◌, ◌+ℤ◌, ◌/◌, ℤ, pos, arith, get_or, to_z, of_z, SFits}
+use Rattle.std.proofs.lemmas.Int.{ints}
 use Rattle.std.specs.Int.{w32, w128}
 use Rattle.voice_levels.proofs.WriteLemmas.{below_set, after_set}
 use Rattle.mixer.proofs.blocks.widen.Goals as goal
@@ -13,9 +13,7 @@ overflow_add-totals-in-loop-i c =
     let room = c.requires.room i (omega arith) in
     let fits-a : SFits w32 a = search rules in
     let fits-b : SFits w32 b = search rules in
-    let e : c.from-side.result ≡ a = c.from-side.ensures ∙ to_z-of_z w32 a fits-a in
-    let f : c.from-both.result ≡ b = c.from-both.ensures ∙ to_z-of_z w32 b fits-b in
-    omega (arith, ints, was, room.0, room.1, e, f, fits-a, fits-b)
+    omega (arith, ints, was, room.0, room.1, c.from-side.ensures, c.from-both.ensures, fits-a, fits-b)
 
 pub loop-i-preserved : goal.loop-i-preserved
 loop-i-preserved c =
@@ -26,10 +24,8 @@ loop-i-preserved c =
     let room = c.requires.room i (omega arith) in
     let fits-a : SFits w32 a = search rules in
     let fits-b : SFits w32 b = search rules in
-    let e : c.from-side.result ≡ a = c.from-side.ensures ∙ to_z-of_z w32 a fits-a in
-    let f : c.from-both.result ≡ b = c.from-both.ensures ∙ to_z-of_z w32 b fits-b in
     let here : to_z w128 (of_z w128 (to_z w128 (of_z w128 (get_or c.loop-i.totals i (pos 0))) +ℤ to_z w128 (of_z w128 (to_z w128 (of_z w128 c.from-side.result) +ℤ to_z w128 (of_z w128 c.from-both.result))))) ≡ get_or c.args.totals.now i (pos 0) +ℤ (a +ℤ b) =
-    omega (arith, ints, was, room.0, room.1, e, f, fits-a, fits-b) in
+    omega (arith, ints, was, room.0, room.1, c.from-side.ensures, c.from-both.ensures, fits-a, fits-b) in
     record {
       done = below_set (pos 0) (λ k y. y ≡ get_or c.args.totals.now k (pos 0) +ℤ (get_or c.args.sides.now k (pos 0) +ℤ get_or c.args.middle.now (k / 2) (pos 0))) c.loop-i.totals i _ (omega arith) c.loop-i.invariant.done here;
       left = after_set (pos 0) c.loop-i.totals c.args.totals.now i _ c.loop-i.invariant.left;

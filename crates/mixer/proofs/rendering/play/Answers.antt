@@ -4,7 +4,7 @@ use Rattle.mixer.specs.declared.playing.Playing.{Playing}
 use Rattle.mixer.specs.Heard as heard
 use Rattle.mixer.specs.Events.{after_start, after_block, block}
 use Rattle.mixer.proofs.Schedule.{play_step, play_last, played_next, played_end, scheduled, part_len, put_len, last_put}
-use Rattle.mixer.proofs.rendering.play_each.Goals as goal
+use Rattle.mixer.proofs.rendering.play.Goals as goal
 
 pub loop-note-preserved : goal.loop-note-preserved
 loop-note-preserved g c =
