@@ -21,7 +21,7 @@ pub fn rename_instrument(parts: &mut Parts<'_>, number: u32, name: Name20) -> Na
 /// Makes an instrument number `number`. The instruments from there on get the next number each, and what
 /// names them follows; at the end of the list nothing does, and no preset is touched. When out of memory,
 /// the parts stay as they are, and the instrument comes back.
-pub fn insert_instrument(
+pub fn add_instrument(
     parts: &mut Parts<'_>,
     number: u32,
     instrument: Instrument,
@@ -43,7 +43,7 @@ pub fn insert_instrument(
 
 /// Takes an instrument out; the instruments behind it get the number before each, and what names them
 /// follows. At the end of the list no preset is touched. When out of memory, the parts stay as they are.
-pub fn take_instrument(
+pub fn remove_instrument(
     parts: &mut Parts<'_>,
     alloc: Global,
     number: u32,

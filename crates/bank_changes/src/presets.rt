@@ -9,7 +9,7 @@ use std::alloc::Global;
 
 /// Makes a preset number `number`; the presets from there on get the next number each. When out of memory,
 /// the parts stay as they are, and the preset comes back.
-pub fn insert_preset(parts: &mut Parts<'_>, number: u32, preset: Preset) -> Result<(), Preset>
+pub fn add_preset(parts: &mut Parts<'_>, number: u32, preset: Preset) -> Result<(), Preset>
     requires { number ≤ length parts.old.presets }
     ensures ok { OnOk result (parts.new ≡ preset_added parts.old number preset) }
     ensures err { OnErr result (parts.new ≡ parts.old) }
@@ -20,7 +20,11 @@ pub fn insert_preset(parts: &mut Parts<'_>, number: u32, preset: Preset) -> Resu
 
 /// Takes a preset out; the presets behind it get the number before each. When out of memory, the parts stay
 /// as they are.
-pub fn take_preset(parts: &mut Parts<'_>, alloc: Global, number: u32) -> Result<Preset, OutOfMemory>
+pub fn remove_preset(
+    parts: &mut Parts<'_>,
+    alloc: Global,
+    number: u32,
+) -> Result<Preset, OutOfMemory>
     requires { number < length parts.old.presets }
     ensures value { IfOk result (λ preset. slice_get parts.old.presets number ≡ Some preset) }
     ensures change { OnOk result (parts.new ≡ preset_removed parts.old number) }

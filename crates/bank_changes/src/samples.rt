@@ -21,7 +21,7 @@ pub fn rename_sample(parts: &mut Parts<'_>, number: u32, name: Name20) -> Name20
 /// there on get the next number each, and what names them follows. At the end of the list it renumbers
 /// nothing, and does not walk the bank. When out of memory, the parts stay as they are, and the sample
 /// comes back.
-pub fn insert_sample<'a>(
+pub fn add_sample<'a>(
     parts: &mut Parts<'a>,
     number: u32,
     sample: Sample<'a>,
@@ -45,7 +45,7 @@ pub fn insert_sample<'a>(
 
 /// Takes a sample out; the samples behind it get the number before each, and what names them follows.
 /// At the end of the list it renumbers nothing, and does not walk the bank. Takes no memory.
-pub fn take_sample<'a>(parts: &mut Parts<'a>, number: u32) -> Sample<'a>
+pub fn remove_sample<'a>(parts: &mut Parts<'a>, number: u32) -> Sample<'a>
     requires valid { IsValid parts.old }
     requires there { number < length parts.old.samples }
     ensures value { slice_get parts.old.samples number ≡ Some result }

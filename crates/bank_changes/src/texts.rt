@@ -7,7 +7,7 @@ use bank_parts::{InfoId, Texts};
 use sf_base::Lent;
 
 /// Sets the text of this kind, and gives back the one that was there. Takes no memory.
-pub fn replace_text<'a>(texts: &mut Texts<'a>, id: InfoId, text: Lent<'a>) -> Lent<'a>
+pub fn set_info<'a>(texts: &mut Texts<'a>, id: InfoId, text: Lent<'a>) -> Lent<'a>
     ensures value { result ≡ text_of texts.old id }
     ensures change { texts.new ≡ text_set texts.old id text.entry }
 {

@@ -10,7 +10,7 @@ use std::alloc::Global;
 
 /// Makes a zone number `at` of an owner; its zones from there on get the next number each. When out of
 /// memory, the parts stay as they are, and the zone comes back.
-pub fn insert_zone(parts: &mut Parts<'_>, owner: Owner, at: u32, zone: Zone) -> Result<(), Zone>
+pub fn add_zone(parts: &mut Parts<'_>, owner: Owner, at: u32, zone: Zone) -> Result<(), Zone>
     requires { IsSomeAnd (own_zone_count parts.old owner) (λ count. at ≤ count) }
     ensures ok { OnOk result (parts.new ≡ zone_added parts.old owner at zone) }
     ensures err { OnErr result (parts.new ≡ parts.old) }
@@ -30,7 +30,7 @@ pub fn insert_zone(parts: &mut Parts<'_>, owner: Owner, at: u32, zone: Zone) -> 
 
 /// Takes a zone out of an owner; the zones behind it get the number before each. When out of memory, the
 /// parts stay as they are.
-pub fn take_zone(
+pub fn remove_zone(
     parts: &mut Parts<'_>,
     alloc: Global,
     owner: Owner,

@@ -5,7 +5,7 @@ ghost use Rattle.bank_changes.specs.Members.{instrument_name_of};
 ghost use Rattle.bank_changes.specs.Instruments.{instrument_renamed, instrument_added, instrument_removed, instrument_moved, instrument_in_use};
 
 use crate::bank::Bank;
-use bank_changes::{insert_instrument, move_instrument, rename_instrument, take_instrument};
+use bank_changes::{add_instrument, move_instrument, remove_instrument, rename_instrument};
 use bank_parts::Instrument;
 use generators::Level;
 use sf_base::{Name20, OutOfMemory};
@@ -35,7 +35,7 @@ impl<'a> Bank<'a> {
         let totals = self
             .totals
             .with_owner(Level::Instrument, instrument.records());
-        insert_instrument(&mut self.parts, number, instrument)?;
+        add_instrument(&mut self.parts, number, instrument)?;
         self.totals = totals;
         Ok(())
     }
@@ -54,7 +54,7 @@ impl<'a> Bank<'a> {
         ensures change { OnOk result (self.new ≡ instrument_removed self.old number) }
         ensures err { OnErr result (self.new ≡ self.old) }
     {
-        let instrument = take_instrument(&mut self.parts, alloc, number)?;
+        let instrument = remove_instrument(&mut self.parts, alloc, number)?;
         self.totals = self
             .totals
             .without_owner(Level::Instrument, instrument.records());

@@ -5,7 +5,7 @@ ghost use Rattle.bank_changes.specs.Members.{head_of};
 ghost use Rattle.bank_changes.specs.Presets.{preset_added, preset_removed, preset_moved, head_set};
 
 use crate::bank::Bank;
-use bank_changes::{insert_preset, move_preset, set_head, take_preset};
+use bank_changes::{add_preset, move_preset, remove_preset, set_head};
 use bank_parts::{Head, Preset};
 use generators::Level;
 use sf_base::{Name20, OutOfMemory};
@@ -23,7 +23,7 @@ impl<'a> Bank<'a> {
         ensures value_returned { IfErr result (λ back. back ≡ preset) }
     {
         let totals = self.totals.with_owner(Level::Preset, preset.records());
-        insert_preset(&mut self.parts, number, preset)?;
+        add_preset(&mut self.parts, number, preset)?;
         self.totals = totals;
         Ok(())
     }
@@ -37,7 +37,7 @@ impl<'a> Bank<'a> {
         ensures change { OnOk result (self.new ≡ preset_removed self.old number) }
         ensures err { OnErr result (self.new ≡ self.old) }
     {
-        let preset = take_preset(&mut self.parts, alloc, number)?;
+        let preset = remove_preset(&mut self.parts, alloc, number)?;
         self.totals = self.totals.without_owner(Level::Preset, preset.records());
         Ok(preset)
     }

@@ -4,7 +4,7 @@ ghost use Rattle.bank_parts.specs.Sound.{IsSound};
 ghost use Rattle.bank_changes.specs.Samples.{sample_renamed, sample_added, sample_removed, sample_moved, sample_in_use};
 
 use crate::bank::Bank;
-use bank_changes::{insert_sample, move_sample, rename_sample, take_sample};
+use bank_changes::{add_sample, move_sample, remove_sample, rename_sample};
 use bank_parts::Sample;
 use sf_base::Name20;
 
@@ -31,7 +31,7 @@ impl<'a> Bank<'a> {
         ensures value_returned { IfErr result (λ back. back ≡ sample.entry) }
     {
         let totals = self.totals.with_sample(sample.points.len());
-        insert_sample(&mut self.parts, number, sample)?;
+        add_sample(&mut self.parts, number, sample)?;
         self.totals = totals;
         Ok(())
     }
@@ -44,7 +44,7 @@ impl<'a> Bank<'a> {
         ensures value { slice_get self.old.samples number ≡ Some result }
         ensures change { self.new ≡ sample_removed self.old number }
     {
-        let sample = take_sample(&mut self.parts, number);
+        let sample = remove_sample(&mut self.parts, number);
         self.totals = self.totals.without_sample(sample.points.len());
         sample
     }

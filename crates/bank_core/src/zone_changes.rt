@@ -7,7 +7,7 @@ ghost use Rattle.bank_changes.specs.Zones.{zone_added, zone_removed, zone_moved,
 
 use crate::bank::Bank;
 use bank_changes::{
-    Owner, broken_with_records, insert_zone, move_zone, set_target, take_zone, with_records,
+    Owner, add_zone, broken_with_records, move_zone, remove_zone, set_target, with_records,
     without_records,
 };
 use bank_parts::Zone;
@@ -26,7 +26,7 @@ impl<'a> Bank<'a> {
         ensures value_returned { IfErr result (λ back. back ≡ zone) }
     {
         let totals = with_records(self.totals, owner.level(), zone.records());
-        insert_zone(&mut self.parts, owner, at, zone)?;
+        add_zone(&mut self.parts, owner, at, zone)?;
         self.totals = totals;
         Ok(())
     }
@@ -45,7 +45,7 @@ impl<'a> Bank<'a> {
         ensures change { OnOk result (self.new ≡ zone_removed self.old owner zone) }
         ensures err { OnErr result (self.new ≡ self.old) }
     {
-        let removed = take_zone(&mut self.parts, alloc, owner, zone)?;
+        let removed = remove_zone(&mut self.parts, alloc, owner, zone)?;
         self.totals = without_records(self.totals, owner.level(), removed.records());
         Ok(removed)
     }

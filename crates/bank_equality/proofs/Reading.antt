@@ -6,7 +6,7 @@ use Rattle.std.specs.Borrow.{Bor}
 use Rattle.sample_view.specs.Pieces.{joined_bytes}
 use Rattle.std.specs.List.{flat_map}
 use Rattle.sample_view.specs.Words.{words, word_bytes}
-use Rattle.sample_view.proofs.WordLemmas.{words_of_bytes}
+use Rattle.sample_view.proofs.WordLaws.{words_of_bytes}
 use Rattle.std.proofs.lemmas.List.{append_assoc, take_at, drop-append-le}
 
 -- a front of two lists that lies in the first

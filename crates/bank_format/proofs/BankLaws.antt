@@ -3,7 +3,7 @@ use Rattle.std.proofs.Common.{◌≡◌, ◌+◌, ℕ, List, [], ◌∷◌, leng
 use Rattle.std.specs.Prelude.{flat_map, count_by}
 use Rattle.std.proofs.lemmas.List.{length-append}
 use Rattle.std.proofs.lemmas.List.Sums.{sum_by-cons}
-use Rattle.sample_view.proofs.WordLemmas.{words_of_bytes}
+use Rattle.sample_view.proofs.WordLaws.{words_of_bytes}
 use Rattle.riff_chunks.specs.Finding.{first_body}
 use Rattle.bank_parts.specs.Valid.{IsValid, point_total}
 use Rattle.bank_parts.specs.Fits.{Fits}
@@ -17,7 +17,7 @@ use Rattle.bank_format.specs.Samples.{sample_read, is_loop_lost, is_link_lost}
 use Rattle.bank_format.specs.Canon.{info, sdta}
 use Rattle.bank_format.specs.Chunks.{points_in}
 use Rattle.bank_format.specs.Reading.{samples_read, bank_of, counts_of, no_counts, Content, content_of}
-use Rattle.bank_format.proofs.CountLemmas.{one_if}
+use Rattle.bank_format.proofs.CountLaws.{one_if}
 use Rattle.bank_format.proofs.TextLaws.{texts-again, texts_counted, minor-again}
 use Rattle.bank_format.proofs.WindowLaws.{rows-push}
 use Rattle.bank_format.proofs.TableLaws.{all_presets-again, all_instruments-again, zones_counted, gens_counted, ranges_counted}

@@ -5,10 +5,10 @@ use Rattle.std.specs.List.{AllByRecursion}
 use Rattle.std.proofs.lemmas.Bool.{eq-eqb}
 use Rattle.std.proofs.lemmas.List.{length-append, length-replicate}
 use Rattle.sample_view.specs.Words.{word_bytes}
-use Rattle.sample_view.proofs.WordLemmas.{length-word_bytes}
+use Rattle.sample_view.proofs.WordLaws.{length-word_bytes}
 use Rattle.riff_chunks.specs.Walk.{Chunk}
 use Rattle.riff_chunks.specs.Spelling.{chunk, spell, FitsChunk}
-use Rattle.riff_chunks.proofs.SpellingLemmas.{length-chunk}
+use Rattle.riff_chunks.proofs.SpellingLaws.{length-chunk}
 use Rattle.bank_parts.specs.Valid.{IsValid, point_total}
 use Rattle.bank_parts.specs.Fits.{Fits}
 use Rattle.bank_parts.specs.declared.parts.Parts.{Parts}
@@ -23,7 +23,7 @@ use Rattle.bank_format.specs.Canon.{made, text_chunk_if, version, info, sdta, pd
 use Rattle.bank_format.specs.Chunks.{points_in}
 use Rattle.bank_format.specs.Reading.{bank_of}
 use Rattle.bank_format.specs.ReadSteps.{chunk_steps, size_steps, count_steps, point_steps, all_index_steps, sample_step, target_steps, total_steps, content_steps}
-use Rattle.bank_format.proofs.StepLemmas.{then_none}
+use Rattle.bank_format.proofs.StepLaws.{then_none}
 use Rattle.bank_format.proofs.SampleLaws.{sample_steps_hold, total_steps_hold}
 use Rattle.bank_format.proofs.IndexSteps.{index_steps_hold, target_steps_hold}
 use Rattle.bank_format.proofs.BankLaws.{points-again, length-all_points, rows-shdr, bank-again}

@@ -26,7 +26,7 @@ use Rattle.bank_format.specs.Ids.{EOP, EOI, EOS}
 use Rattle.bank_format.specs.Windows.{ends, starts, together}
 use Rattle.bank_format.specs.Zones.{Bagged, bags_written, generator, gens_written, zone_written}
 use Rattle.bank_format.specs.Tables.{bag, bag_list, gen_list, mod_list, bags_of, Headers, presets, instruments, heads_from, preset_end, instrument_end, sample_end, sample_heads_from, kind_word, link_word, loop_start_at, loop_end_at}
-use Rattle.bank_format.proofs.AllLemmas.{all-append, all-flat_map}
+use Rattle.bank_format.proofs.AllLaws.{all-append, all-flat_map}
 use Rattle.bank_format.proofs.NameLaws.{length-filled}
 use Rattle.bank_format.proofs.WindowLaws.{sizes, total}
 use Rattle.bank_format.proofs.ZoneLaws.{Entries, spelled}

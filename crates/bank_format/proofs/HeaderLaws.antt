@@ -11,7 +11,7 @@ use Rattle.bank_parts.specs.Valid.{AreGenerators, IsZone, AreZones}
 use Rattle.bank_parts.specs.declared.parts.GlobalZone.{GlobalZone}
 use Rattle.bank_parts.specs.declared.parts.Zone.{Zone}
 use Rattle.bank_format.specs.Zones.{Bagged, gens_written, zone_written, bags_written, kept, is_mended, gens_of, zone_read, zones_read, no_global, global_read, has_target, dropped, looked_at, ignored, gens_dropped, ranges_mended}
-use Rattle.bank_format.proofs.CountLemmas.{sum-none, count-none}
+use Rattle.bank_format.proofs.CountLaws.{sum-none, count-none}
 use Rattle.bank_format.proofs.ZoneLaws.{Entries, spelled, gens_of-again, gens_read-global, zone_read-again, has_target-zone, has_target-global, dropped-zone, dropped-global, mended-zone, mended-global, target_of-none}
 
 abbrev made_global : Gens → List Modulator → GlobalZone

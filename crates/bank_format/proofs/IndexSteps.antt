@@ -21,8 +21,8 @@ use Rattle.bank_format.specs.Windows.{ends, starts}
 use Rattle.bank_format.specs.Zones.{Bagged}
 use Rattle.bank_format.specs.Tables.{bag, bag_list, gen_list, mod_list, generator_end, modulator_end, bags_of, all_bags, heads_from, presets, instruments, tables_of}
 use Rattle.bank_format.specs.ReadSteps.{is_rising_from, index_steps, bag_steps, all_index_steps, target_step, targets_of, target_steps}
-use Rattle.bank_format.proofs.AllLemmas.{all-flat_map}
-use Rattle.bank_format.proofs.StepLemmas.{then_none}
+use Rattle.bank_format.proofs.AllLaws.{all-flat_map}
+use Rattle.bank_format.proofs.StepLaws.{then_none}
 use Rattle.bank_format.proofs.WindowLaws.{sizes, total, length-flat, length-starts, length-together}
 use Rattle.bank_format.proofs.TableLaws.{gens_in_bag, mods_in_bag, gen_indexes, mod_indexes, head_indexes}
 

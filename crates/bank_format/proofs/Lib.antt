@@ -1,9 +1,9 @@
-pub mod StepLemmas
-pub mod AllLemmas
-pub mod CountLemmas
+pub mod StepLaws
+pub mod AllLaws
+pub mod CountLaws
 pub mod NameLaws
-pub mod ZeroLemmas
-pub mod NameLemmas
+pub mod ZeroLaws
+pub mod FieldNameLaws
 pub mod TextLaws
 pub mod WindowLaws
 pub mod ZoneLaws

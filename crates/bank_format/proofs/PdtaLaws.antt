@@ -23,7 +23,7 @@ use Rattle.bank_format.specs.Tables.{Tables, tables_of, bag_list, gen_list, mod_
 use Rattle.bank_format.specs.Canon.{pdta}
 use Rattle.bank_format.specs.Chunks.{or_zero, tables_in}
 use Rattle.bank_format.specs.ReadSteps.{size_steps, count_steps}
-use Rattle.bank_format.proofs.AllLemmas.{all-flat_map}
+use Rattle.bank_format.proofs.AllLaws.{all-flat_map}
 use Rattle.bank_format.proofs.WindowLaws.{sizes, total, length-flat}
 use Rattle.bank_format.proofs.TableLaws.{gens_in_bag, mods_in_bag, length-heads}
 use Rattle.bank_format.proofs.SampleLaws.{length-sample_heads}

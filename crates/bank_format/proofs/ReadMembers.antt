@@ -23,7 +23,7 @@ use Rattle.bank_format.specs.Zones.{Bagged}
 use Rattle.bank_format.specs.Tables.{Headers, presets}
 use Rattle.bank_format.specs.Reading.{owner_read}
 use Rattle.bank_format.specs.ReadSteps.{target_step, targets_of}
-use Rattle.bank_format.proofs.StepLemmas.{split_none}
+use Rattle.bank_format.proofs.StepLaws.{split_none}
 use Rattle.bank_format.proofs.ReadBytes.{take_bytes}
 use Rattle.bank_format.proofs.ReadTexts.{name_valid}
 use Rattle.bank_format.proofs.ReadWindows.{all_together, sum-right}

@@ -6,7 +6,7 @@ use Rattle.std.proofs.lemmas.Bool.{ltb-true, leb-true, and_parts}
 use Rattle.std.proofs.lemmas.List.{length-take, length-drop}
 use Rattle.std.proofs.lemmas.List.Sums.{sum_by-cons}
 use Rattle.sample_view.specs.Words.{AreWords}
-use Rattle.sample_view.proofs.WordLemmas.{AreWords-take, AreWords-drop}
+use Rattle.sample_view.proofs.WordLaws.{AreWords-take, AreWords-drop}
 use Rattle.bank_parts.specs.Valid.{IsSample, IsLoop, IsLink, point_total}
 use Rattle.bank_parts.specs.Fits.{FitsLoop, FitsKind, FitsSample}
 use Rattle.bank_parts.specs.declared.parts.Kind.{Kind}
@@ -21,7 +21,7 @@ use Rattle.hydra_records.proofs.RecordLaws.{records-fit}
 use Rattle.bank_format.specs.Steps.{first_broken}
 use Rattle.bank_format.specs.Samples.{has_loop, loop_read, link_read, kind_read, sample_read}
 use Rattle.bank_format.specs.ReadSteps.{sample_step, total_steps}
-use Rattle.bank_format.proofs.StepLemmas.{split_none}
+use Rattle.bank_format.proofs.StepLaws.{split_none}
 use Rattle.bank_format.proofs.ReadBytes.{take_bytes}
 use Rattle.bank_format.proofs.ReadTexts.{name_valid}
 

@@ -13,7 +13,7 @@ use Rattle.bank_format.specs.Windows.{windows}
 use Rattle.bank_format.specs.Zones.{Bagged}
 use Rattle.bank_format.specs.Reading.{bagged, bags_in}
 use Rattle.bank_format.specs.ReadSteps.{index_steps, bag_steps}
-use Rattle.bank_format.proofs.StepLemmas.{both_none}
+use Rattle.bank_format.proofs.StepLaws.{both_none}
 use Rattle.bank_format.proofs.ReadWindows.{AreIndexes, indexes_held, all_windows, lengths_within, sums_within, all_together, sum-left, sum-right}
 use Rattle.bank_format.proofs.ReadHeaders.{FitsBagged, gens_in, mods_in}
 

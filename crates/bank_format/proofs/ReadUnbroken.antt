@@ -18,7 +18,7 @@ use Rattle.bank_format.specs.Tables.{Tables}
 use Rattle.bank_format.specs.Chunks.{window, chunks_of, tables_in, points_in}
 use Rattle.bank_format.specs.Reading.{preset_windows, instrument_windows, bank_of}
 use Rattle.bank_format.specs.ReadSteps.{frame_steps, list_steps, chunk_steps, size_steps, count_steps, record_counts, point_steps, index_steps, bag_steps, all_index_steps, sample_step, target_steps, total_steps, content_steps, window_steps, steps, fault_of}
-use Rattle.bank_format.proofs.StepLemmas.{split_none, both_none}
+use Rattle.bank_format.proofs.StepLaws.{split_none, both_none}
 use Rattle.bank_format.proofs.ReadSamples.{GoodHead, good_head}
 use Rattle.bank_format.proofs.ReadWindows.{indexes_held}
 use Rattle.bank_format.proofs.ReadTables.{AreFew, AreWithin, windows_within}

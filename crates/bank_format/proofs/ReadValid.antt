@@ -4,7 +4,7 @@ use Rattle.std.specs.List.{AllByRecursion}
 use Rattle.std.proofs.lemmas.List.{length-map}
 use Rattle.sf_base.specs.Names.{IsName}
 use Rattle.sample_view.specs.Words.{AreWords}
-use Rattle.sample_view.proofs.WordLemmas.{AreWords-words}
+use Rattle.sample_view.proofs.WordLaws.{AreWords-words}
 use Rattle.riff_chunks.specs.Walk.{Chunk}
 use Rattle.modulators.specs.declared.modulator.Modulator.{Modulator}
 use Rattle.modulators.specs.Modulators.{FitsModulator}
@@ -27,7 +27,7 @@ use Rattle.bank_format.specs.Samples.{sample_read}
 use Rattle.bank_format.specs.Chunks.{window, chunks_of, body_in, or_zero, tables_in, points_in}
 use Rattle.bank_format.specs.Reading.{preset_windows, instrument_windows, owner_read, bank_of, content_in}
 use Rattle.bank_format.specs.ReadSteps.{sample_step, targets_of, target_steps, fault_of}
-use Rattle.bank_format.proofs.StepLemmas.{both_none, all_none}
+use Rattle.bank_format.proofs.StepLaws.{both_none, all_none}
 use Rattle.bank_format.proofs.ReadBytes.{OfBytes, body_bytes, chunk_bytes, window_bytes}
 use Rattle.bank_format.proofs.ReadSamples.{ReadHead, heads_read, GoodHead, samples_valid, samples_fit, point_total-read, total_small}
 use Rattle.bank_format.proofs.ReadTexts.{texts_valid, texts_fit}

@@ -8,7 +8,7 @@ use Rattle.std.proofs.lemmas.List.Sums.{sum_by-cons, sum_by-take-drop}
 use Rattle.bank_format.specs.Steps.{first_broken}
 use Rattle.bank_format.specs.Windows.{windows_from, windows, together}
 use Rattle.bank_format.specs.ReadSteps.{is_rising_from, is_rising, index_steps}
-use Rattle.bank_format.proofs.StepLemmas.{split_none}
+use Rattle.bank_format.proofs.StepLaws.{split_none}
 
 -- ---- indexes that rise, none above the last place
 

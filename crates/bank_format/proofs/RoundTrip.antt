@@ -7,7 +7,7 @@ use Rattle.std.proofs.lemmas.Slice.Eq.{bytes_eq-Decides}
 use Rattle.riff_chunks.specs.Walk.{Chunk, LIST, walk}
 use Rattle.riff_chunks.specs.Finding.{chunks_in, is_whole, first_list}
 use Rattle.riff_chunks.specs.Spelling.{chunk_head, pad, spell}
-use Rattle.riff_chunks.proofs.SpellingLemmas.{length-pad, length-chunk_head, Headed, chunk_head-Headed, chunks_in-spell, is_whole-spell}
+use Rattle.riff_chunks.proofs.SpellingLaws.{length-pad, length-chunk_head, Headed, chunk_head-Headed, chunks_in-spell, is_whole-spell}
 use Rattle.bank_parts.specs.Valid.{IsValid}
 use Rattle.bank_parts.specs.Fits.{Fits}
 use Rattle.bank_parts.specs.declared.parts.Parts.{Parts}
@@ -18,7 +18,7 @@ use Rattle.bank_format.specs.Canon.{list_of, info, sdta, pdta, lists, canon}
 use Rattle.bank_format.specs.Chunks.{riff_size, window, list_window, chunks_of, tables_in}
 use Rattle.bank_format.specs.Reading.{content_of, content_in, no_counts}
 use Rattle.bank_format.specs.ReadSteps.{frame_steps, list_steps, content_steps, window_steps, steps, fault_of, ReadsAs}
-use Rattle.bank_format.proofs.StepLemmas.{then_none}
+use Rattle.bank_format.proofs.StepLaws.{then_none}
 use Rattle.bank_format.proofs.BankLaws.{content, content-again}
 use Rattle.bank_format.proofs.PdtaLaws.{measured, tables_fit, tables_count, tables-again}
 use Rattle.bank_format.proofs.FileLaws.{Small, small_cons, small_none, info_small, sdta_small, pdta_small, content_steps_hold}

@@ -15,8 +15,8 @@ use Rattle.bank_format.specs.Steps.{first_broken}
 use Rattle.bank_format.specs.Tables.{sample_head, sample_heads_from, points_written, loop_start_at, loop_end_at, kind_word, link_word}
 use Rattle.bank_format.specs.Samples.{loop_read, is_loop_lost, kind_read, is_link_lost, sample_read}
 use Rattle.bank_format.specs.ReadSteps.{sample_step, total_steps}
-use Rattle.bank_format.proofs.CountLemmas.{count-none}
-use Rattle.bank_format.proofs.StepLemmas.{then_none}
+use Rattle.bank_format.proofs.CountLaws.{count-none}
+use Rattle.bank_format.proofs.StepLaws.{then_none}
 use Rattle.bank_format.proofs.NameLaws.{before_zero-filled}
 use Rattle.bank_format.proofs.WindowLaws.{window-again}
 

@@ -19,7 +19,7 @@ use Rattle.bank_format.specs.Windows.{ends, starts, windows, together, rows}
 use Rattle.bank_format.specs.Zones.{Bagged, bags_written, ignored, gens_dropped, ranges_mended}
 use Rattle.bank_format.specs.Tables.{bag, bag_list, gen_list, mod_list, generator_end, modulator_end, bags_of, all_bags, Headers, presets, instruments, heads_from, tables_of}
 use Rattle.bank_format.specs.Reading.{bagged, bags_in, preset_windows, instrument_windows, owner_read}
-use Rattle.bank_format.proofs.CountLemmas.{sum-none_by}
+use Rattle.bank_format.proofs.CountLaws.{sum-none_by}
 use Rattle.bank_format.proofs.NameLaws.{before_zero-filled}
 use Rattle.bank_format.proofs.WindowLaws.{sizes, windows-again, windows-all, length-starts, map-together_left, map-together_right, together-maps, together-take}
 use Rattle.bank_format.proofs.HeaderLaws.{Again, header-again}

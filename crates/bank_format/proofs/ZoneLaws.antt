@@ -21,7 +21,7 @@ use Rattle.bank_parts.specs.Valid.{IsGenerator, AreGenerators, IsZone}
 use Rattle.bank_parts.specs.declared.parts.Zone.{Zone}
 use Rattle.hydra_records.specs.declared.zone.Generator.{Generator}
 use Rattle.bank_format.specs.Zones.{generator, gens_written, zone_written, target_of, before_target, allowed_in, last_of_each, kept, mended, is_mended, is_range, range_mended, gens_of, gens_read, zone_read, has_target, dropped}
-use Rattle.bank_format.proofs.CountLemmas.{one_if, count-none}
+use Rattle.bank_format.proofs.CountLaws.{one_if, count-none}
 
 abbrev pub Entries : Type 0
 Entries = List (ℕ × ℕ)

@@ -1,4 +1,4 @@
 pub mod Fields
 pub mod KindLaws
 pub mod RecordLaws
-pub mod TableLemmas
+pub mod TableLaws

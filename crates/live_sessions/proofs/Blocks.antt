@@ -5,7 +5,7 @@ use Rattle.std.proofs.lemmas.Bool.{not-false}
 use Rattle.bank_parts.specs.declared.parts.Parts.{Parts}
 use Rattle.bank_parts.specs.declared.texts.Texts.{Texts}
 use Rattle.voices.specs.Place.{is_over}
-use Rattle.voices.proofs.OverLemmas.{over_stays}
+use Rattle.voices.proofs.OverLaws.{over_stays}
 use Rattle.zone_select.specs.declared.parameters.VoiceParameters.{VoiceParameters}
 use Rattle.mixer.specs.declared.playing.Playing.{Playing}
 use Rattle.mixer.specs.Heard.{frames}

@@ -6,7 +6,7 @@ use Rattle.std.proofs.lemmas.Bool.Decides.{nat_tests}
 use Rattle.voices.specs.Sound.{snd, sound_at, part_of}
 use Rattle.voices.specs.Levels.{side}
 use Rattle.voices.specs.Place.{is_over}
-use Rattle.voices.proofs.OverLemmas.{over_stays}
+use Rattle.voices.proofs.OverLaws.{over_stays}
 use Rattle.bank_parts.specs.declared.parts.Parts.{Parts}
 use Rattle.zone_select.specs.declared.parameters.VoiceParameters.{VoiceParameters}
 use Rattle.mixer.specs.declared.playing.Playing.{Playing}

@@ -7,8 +7,8 @@ use Rattle.std.proofs.lemmas.Int.{ints, clamps}
 use Rattle.std.proofs.lemmas.Nat.{mod_below, div-add-mod'}
 use Rattle.sound_tables.specs.Floor.{floor_div, floor_mod}
 use Rattle.sound_tables.specs.Tables.{frames_at, frames_of}
-use Rattle.sound_tables.proofs.FloorLemmas.{floor_div_is, floor_mod_is}
-use Rattle.sound_tables.proofs.OctaveLemmas.{frames_case, frames_bound}
+use Rattle.sound_tables.proofs.FloorLaws.{floor_div_is, floor_mod_is}
+use Rattle.sound_tables.proofs.OctaveLaws.{frames_case, frames_bound}
 use Rattle.bank_parts.specs.declared.parts.Sample.{Sample}
 use Rattle.bank_parts.specs.declared.parts.Parts.{Parts}
 use Rattle.note_list.specs.Notes.{Numbers}

@@ -5,7 +5,7 @@ use Rattle.std.proofs.lemmas.Bool.{cases_lt, not-false}
 use Rattle.std.proofs.lemmas.Grind.{common_steps}
 use Rattle.voices.specs.Sound.{Live, snd}
 use Rattle.voices.specs.Place.{is_over}
-use Rattle.voices.proofs.OverLemmas.{over_stays}
+use Rattle.voices.proofs.OverLaws.{over_stays}
 use Rattle.mixer.specs.declared.playing.Playing.{Playing}
 use Rattle.mixer.specs.Heard.{excludes, silences, is_left, cut}
 use Rattle.mixer.specs.Events.{is_sounding, unsilenced, aged, after_block, total_at, next_side}

@@ -1,1 +1,1 @@
-pub mod LinearLemmas
+pub mod LinearLaws

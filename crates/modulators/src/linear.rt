@@ -25,7 +25,7 @@ const BIPOLAR: u32 = 9;
 /// section 8.2.1, along a straight line, with amount source 0, to pan, to the attack, decay, sustain or
 /// release of the volume envelope, to the attenuation or to the fine tune. A key and a velocity up to 127
 /// give -128 to 127.
-#[tactic(auto, using(crate::proofs::LinearLemmas::linear_is, crate::proofs::LinearLemmas::linear_is_not))]
+#[tactic(auto, using(crate::proofs::LinearLaws::linear_is, crate::proofs::LinearLaws::linear_is_not))]
 pub fn linear_value(modulator: &Modulator, key: u8, velocity: u8) -> Option<i16>
     ensures value { result ≡ linear_value modulator.now key velocity }
     ensures played { MatchOption result (¬ IsLinear modulator.now) (λ x. IsLinear modulator.now) }

@@ -11,11 +11,11 @@ use Rattle.std.proofs.lemmas.Slice.Eq.{bytes_eq-Decides}
 use Rattle.byteorder.specs.Numbers.{little_number-reads_back}
 use Rattle.sf_base.specs.declared.limits.TheConstants.{POINTS}
 use Rattle.sample_view.specs.Words.{words, word_bytes}
-use Rattle.sample_view.proofs.WordLemmas.{words_of_bytes, length-word_bytes}
+use Rattle.sample_view.proofs.WordLaws.{words_of_bytes, length-word_bytes}
 use Rattle.riff_chunks.specs.Walk.{Chunk, walk}
 use Rattle.riff_chunks.specs.Finding.{chunks_in, is_whole, first_body}
 use Rattle.riff_chunks.specs.Spelling.{chunk_head, pad, spell, FitsChunk}
-use Rattle.riff_chunks.proofs.SpellingLemmas.{length-pad, length-chunk_head, Headed, chunk_head-Headed, chunks_in-spell, is_whole-spell}
+use Rattle.riff_chunks.proofs.SpellingLaws.{length-pad, length-chunk_head, Headed, chunk_head-Headed, chunks_in-spell, is_whole-spell}
 use Rattle.bank_parts.specs.declared.parts.Sample.{Sample}
 use Rattle.bank_parts.specs.Valid.{IsLoop}
 use Rattle.bank_parts.specs.Fits.{FitsSample, FitsLoop}
@@ -23,7 +23,7 @@ use Rattle.bank_format.specs.Chunks.{riff_size, window, body_in}
 use Rattle.wave_file.specs.Wave.{RIFF, WAVE, FORMAT, DATA}
 use Rattle.wave_file.specs.Pitch.{played_key, pitch, unity_note, pitch_fraction}
 use Rattle.wave_file.specs.SampleWave.{SAMPLER, numbers, mono_format, frame_time, loop_count, sampler_head, loop_bytes, held_pitch, sampler, sample_chunks, sample_wave}
-use Rattle.wave_file.proofs.SampleLemmas.{length-ids, length-mono_format, length-sampler, length-content}
+use Rattle.wave_file.proofs.SampleLaws.{length-ids, length-mono_format, length-sampler, length-content}
 use Rattle.recordings.specs.declared.frames.SamplerLoop.{SamplerLoop}
 use Rattle.recordings.specs.declared.recording.Layout.{Layout}
 use Rattle.recordings.specs.declared.recording.Layout.TheVariants as layout

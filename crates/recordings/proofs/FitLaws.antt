@@ -11,7 +11,7 @@ use borrow.Author.Gap.{read_sfits}
 use Rattle.sf_base.specs.declared.limits.TheConstants.{SAMPLES}
 use Rattle.sf_base.specs.Names.{before_zero, IsTextByte, IsName}
 use Rattle.sample_view.specs.Words.{words, AreWords}
-use Rattle.sample_view.proofs.WordLemmas.{AreWords-words}
+use Rattle.sample_view.proofs.WordLaws.{AreWords-words}
 use Rattle.riff_chunks.specs.Walk.{Chunk, walk}
 use Rattle.riff_chunks.specs.Finding.{chunks_in, first_body}
 use Rattle.hydra_records.specs.Records.{records, AreBytes, ReadFits}
@@ -22,7 +22,7 @@ use Rattle.bank_parts.specs.declared.parts.Kind.TheVariants as kind
 use Rattle.bank_parts.specs.declared.parts.Sample.{Sample}
 use Rattle.bank_parts.specs.Fits.{FitsSample, FitsKind, FitsLoop}
 use Rattle.bank_format.specs.Chunks.{window, body_in}
-use Rattle.bank_format.proofs.StepLemmas.{split_none}
+use Rattle.bank_format.proofs.StepLaws.{split_none}
 use Rattle.bank_format.proofs.ReadBytes.{OfBytes, take_bytes, drop_bytes, walk_bytes, body_bytes, window_bytes}
 use Rattle.edit_forms.specs.declared.edit.Edit.{Edit}
 use Rattle.edit_forms.specs.declared.edit.Edit.TheVariants.{One}
@@ -44,7 +44,7 @@ use Rattle.recordings.specs.Steps.{Step, first_broken, unless_broken}
 use Rattle.recordings.specs.Recordings.{channel_count_in, layout_in, frame_of, channels_in, frame_count, forward_loop, ends_of, unity_note_in, fraction_in, data_in, pitch_held, is_held, held_in, cents_in, nearest, pitch_of, sampler_in}
 use Rattle.recordings.specs.ReadSteps.{riff_steps, format_steps, frame_steps, data_steps, has_loops, is_inside, loop_steps, chunk_steps, sampler_steps, content_steps, content_in, window_steps, steps, recording_in}
 use Rattle.recordings.specs.Imports.{left_points, right_points, mono_name, side_name, sample_of, add_edit, pair_edits, channel_edits, import_edits}
-use Rattle.recordings.proofs.ImportLemmas.{cut_text, side_named}
+use Rattle.recordings.proofs.ImportLaws.{cut_text, side_named}
 
 pub record FitsPitch (p : Pitch) : Type 0 where
   pub key : p.key < 2 ^ 8

@@ -1,5 +1,5 @@
 pub mod StepLaws
 pub mod ReadLaws
-pub mod ImportLemmas
+pub mod ImportLaws
 pub mod FitLaws
 pub mod BackLaws

@@ -1,3 +1,3 @@
 pub mod FirstLaws
-pub mod WalkLemmas
-pub mod SpellingLemmas
+pub mod WalkLaws
+pub mod SpellingLaws

@@ -1,5 +1,5 @@
-pub mod WordLemmas
-pub mod RunLemmas
-pub mod PieceLemmas
-mod PlaceLemmas
-mod CutLemmas
+pub mod WordLaws
+pub mod RunLaws
+pub mod PieceLaws
+mod PlaceLaws
+mod CutLaws

@@ -7,7 +7,7 @@ use Rattle.std.proofs.lemmas.Int.{of_z-to_z}
 use Rattle.std.specs.Fmt.{signed_decimal}
 use Rattle.sf_base.specs.Names.{IsName}
 use Rattle.sample_view.specs.Words.{word_bytes}
-use Rattle.sample_view.proofs.WordLemmas.{words_of_bytes}
+use Rattle.sample_view.proofs.WordLaws.{words_of_bytes}
 use Rattle.bank_parts.specs.Fits.{FitsText}
 use Rattle.line_tokens.specs.Spelling.{is_word, IsWithin}
 use Rattle.line_tokens.proofs.TestLaws.{not_feed}

@@ -21,7 +21,7 @@ use Rattle.bank_format.specs.ReadSteps.{record_counts, count_steps, is_rising, i
 use Rattle.sf_reader.specs.declared.hydra.LevelTables.{LevelTables}
 use Rattle.sf_reader.specs.Hydra.{level_index_steps, AreLists}
 use Rattle.sf_reader.specs.Owners.{windows_of}
-use Rattle.bank_format.proofs.StepLemmas.{split_none, both_none}
+use Rattle.bank_format.proofs.StepLaws.{split_none, both_none}
 use Rattle.sf_reader.proofs.StepLaws.{passes_front, passes_after}
 use Rattle.sf_reader.proofs.WindowLaws.{or_zero-bags}
 

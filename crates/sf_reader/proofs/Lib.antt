@@ -5,13 +5,13 @@ pub mod Adding
 pub mod OwnerLaws
 pub mod MemberLaws
 pub mod HydraLaws
-pub mod RowLemmas
-pub mod SampleLemmas
+pub mod RowLaws
+pub mod SampleLaws
 pub mod TableLaws
 pub mod FlatLaws
 pub mod ReadLaws
 pub mod ContentLaws
-pub mod ByteLemmas
+pub mod ByteLaws
 pub mod Kept
 pub mod EntryLaws
 pub mod Mending

@@ -6,7 +6,7 @@ use Rattle.sf_base.specs.declared.memory.Failure.{Failure}
 use Rattle.sf_base.specs.declared.memory.Failure.TheVariants.{Fault, OutOfMemory}
 use Rattle.bank_format.specs.declared.fault.ReadFault.{ReadFault}
 use Rattle.bank_format.specs.Steps.{Step, step, first_broken, Passes, Fails, PassesGivenMemory}
-use Rattle.bank_format.proofs.StepLemmas.{split_none}
+use Rattle.bank_format.proofs.StepLaws.{split_none}
 
 -- the steps after those that hold
 pub first_broken-append : (xs ys : List Step) → first_broken xs ≡ None → first_broken (xs ++ ys) ≡ first_broken ys

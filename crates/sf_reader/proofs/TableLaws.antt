@@ -9,7 +9,7 @@ use Rattle.bank_parts.specs.declared.parts.Zone.{Zone}
 use Rattle.bank_parts.specs.declared.parts.Head.{Head}
 use Rattle.bank_parts.specs.declared.parts.WithZones.{WithZones}
 use Rattle.sample_view.specs.Words.{words}
-use Rattle.sample_view.proofs.WordLemmas.{length-words}
+use Rattle.sample_view.proofs.WordLaws.{length-words}
 use Rattle.hydra_records.specs.declared.head.PresetHead.{PresetHead}
 use Rattle.hydra_records.specs.declared.head.InstrumentHead.{InstrumentHead}
 use Rattle.hydra_records.specs.declared.head.SampleHead.{SampleHead}
@@ -26,7 +26,7 @@ use Rattle.bank_format.specs.Reading.{bags_in, preset_windows, instrument_window
 use Rattle.bank_format.specs.ReadSteps.{count_steps, all_index_steps, sample_step, target_step, target_steps, total_steps}
 use Rattle.sf_reader.specs.Owners.{member_steps}
 use Rattle.sf_reader.specs.Content.{even_steps, checked_steps, table_steps}
-use Rattle.bank_format.proofs.StepLemmas.{both_none}
+use Rattle.bank_format.proofs.StepLaws.{both_none}
 use Rattle.sf_reader.proofs.StepLaws.{passes_after}
 use Rattle.sf_reader.proofs.WindowLaws.{length-windows, length-rows, length-together}
 use Rattle.sf_reader.proofs.MemberLaws.{preset_part, instrument_part}

@@ -28,7 +28,7 @@ pub(crate) fn put_form_head<W: Write>(
 }
 
 // Puts a chunk of even size.
-#[tactic(auto, using(crate::proofs::ChunkLemmas::put_even))]
+#[tactic(auto, using(crate::proofs::ChunkLaws::put_even))]
 pub(crate) fn put_chunk<W: Write>(output: &mut Output<'_, W>, id: [u8; 4], body: &[u8])
     requires size { length body.now < 2 ^ 32 }
     requires even { length body.now % 2 ≡ 0 }

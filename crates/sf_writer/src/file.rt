@@ -42,7 +42,7 @@ pub fn write<W: Write>(bank: &Bank<'_>, out: &mut W) -> Result<(), WriteFault>
 }
 
 /// The length of the bank's canonical file in bytes. Takes no memory.
-#[tactic(auto, using(crate::proofs::FileLemmas::file_size))]
+#[tactic(auto, using(crate::proofs::FileLaws::file_size))]
 pub fn encoded_len(bank: &Bank<'_>) -> u64
     ensures { result ≡ length (canon bank.now) }
 {

@@ -28,7 +28,7 @@ const OPTIONAL_TEXTS: [InfoId; 6] = [
 ];
 
 // How many bytes the chunks in the list have.
-#[tactic(auto, using(crate::proofs::TextLemmas::info_size))]
+#[tactic(auto, using(crate::proofs::TextLaws::info_size))]
 pub(crate) fn chunks_size(bank: &Bank<'_>) -> u32
     ensures value { result ≡ length (spell (info bank.now)) }
     ensures small { result < 2 ^ 21 }
@@ -51,7 +51,7 @@ fn texts_size(bank: &Bank<'_>, texts: &[InfoId]) -> u32
 }
 
 // How many bytes a text has as a chunk, and none if it is empty.
-#[tactic(auto, using(crate::proofs::TextLemmas::texts))]
+#[tactic(auto, using(crate::proofs::TextLaws::texts))]
 fn optional_text_size(bank: &Bank<'_>, which: InfoId) -> u32
     ensures value { result ≡ length (spell (optional_chunk bank.now which)) }
     ensures small { result < 2 ^ 17 }
@@ -63,7 +63,7 @@ fn optional_text_size(bank: &Bank<'_>, which: InfoId) -> u32
 }
 
 // How many bytes a text has as a chunk.
-#[tactic(auto, using(crate::proofs::TextLemmas::texts))]
+#[tactic(auto, using(crate::proofs::TextLaws::texts))]
 fn text_size(bank: &Bank<'_>, which: InfoId) -> u32
     ensures value { result ≡ length (text_bytes bank.now which) }
     ensures small { result < 2 ^ 17 }
@@ -155,7 +155,7 @@ fn put_texts<W: Write>(output: &mut Output<'_, W>, bank: &Bank<'_>, texts: &[Inf
 }
 
 // Puts a text as a chunk, and nothing if it is empty.
-#[tactic(auto, using(crate::proofs::TextLemmas::texts, outputs::proofs::OutputLaws::puts_nothing))]
+#[tactic(auto, using(crate::proofs::TextLaws::texts, outputs::proofs::OutputLaws::puts_nothing))]
 fn put_optional_text<W: Write>(output: &mut Output<'_, W>, bank: &Bank<'_>, which: InfoId)
     ensures { Puts W.contents output.old output.new (spell (optional_chunk bank.now which)) }
 {

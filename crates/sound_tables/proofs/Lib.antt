@@ -1,6 +1,6 @@
 pub mod Rising
-pub mod RatioLemmas
-pub mod GainLemmas
-pub mod VelocityLemmas
-pub mod FloorLemmas
-pub mod OctaveLemmas
+pub mod RatioLaws
+pub mod GainLaws
+pub mod VelocityLaws
+pub mod FloorLaws
+pub mod OctaveLaws

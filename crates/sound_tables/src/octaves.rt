@@ -13,7 +13,7 @@ const TWELVE_OCTAVES: u64 = 4096;
 
 /// The frames of a time in timecents, at 44,100 a second: those of a second at 0, twice as many at each
 /// 1200 more. None up to -12000, and above 8000 as many as there, 4,480,284.
-#[tactic(auto, using(crate::proofs::OctaveLemmas::frames_case, crate::proofs::OctaveLemmas::frames_bound))]
+#[tactic(auto, using(crate::proofs::OctaveLaws::frames_case, crate::proofs::OctaveLaws::frames_bound))]
 pub fn frames_of_timecents(timecents: i64) -> u32
     ensures value { result ≡ frames_of timecents }
     ensures most { result ≤ 4480284 }
@@ -27,7 +27,7 @@ pub fn frames_of_timecents(timecents: i64) -> u32
 
 /// How far a sample of `rate` points a second goes on in a frame, `cents` above its own pitch: in
 /// 65536ths of a point. The interval is cut to -14400..=9600, and the rate to 400..=192000.
-#[tactic(auto, using(crate::proofs::OctaveLemmas::step_case, crate::proofs::OctaveLemmas::step_bound))]
+#[tactic(auto, using(crate::proofs::OctaveLaws::step_case, crate::proofs::OctaveLaws::step_bound))]
 pub fn step(cents: i64, rate: u32) -> u32
     ensures value { result ≡ step_of cents rate }
     ensures most { result ≤ 73043661 }
@@ -43,7 +43,7 @@ pub fn step(cents: i64, rate: u32) -> u32
 
 // The whole octaves of an interval, counted from twelve below zero, and the cents that are left above
 // them.
-#[tactic(auto, using(crate::proofs::FloorLemmas::floor_div_is, crate::proofs::FloorLemmas::floor_mod_is))]
+#[tactic(auto, using(crate::proofs::FloorLaws::floor_div_is, crate::proofs::FloorLaws::floor_mod_is))]
 fn octaves_of(cents: i64) -> (u32, u32)
     requires low { negsuc 14399 ≤ℤ cents }
     requires high { cents ≤ℤ pos 9600 }
@@ -58,7 +58,7 @@ fn octaves_of(cents: i64) -> (u32, u32)
 
 // `amount` times two to the power of `octaves`, counted from twelve below zero, over `divisor`; rounded
 // down once.
-#[tactic(auto, using(crate::proofs::OctaveLemmas::shifted, crate::proofs::OctaveLemmas::scaled_fits))]
+#[tactic(auto, using(crate::proofs::OctaveLaws::shifted, crate::proofs::OctaveLaws::scaled_fits))]
 fn scaled(amount: u64, octaves: u32, divisor: u64) -> u32
     requires small { amount < divisor * 16777216 }
     requires divides { (0 < divisor) × (divisor ≤ 65536) }

@@ -19,7 +19,7 @@ pub fn pitch(cents: i64) -> u32
 }
 
 // The ratio of an interval of an octave at most.
-#[tactic(auto, using(crate::proofs::RatioLemmas::ratio_least, crate::proofs::RatioLemmas::ratio_most), unfolding(crate::specs::Tables::ratio))]
+#[tactic(auto, using(crate::proofs::RatioLaws::ratio_least, crate::proofs::RatioLaws::ratio_most), unfolding(crate::specs::Tables::ratio))]
 pub(crate) fn ratio_at(cents: u32) -> u32
     requires { cents ≤ 1200 }
     ensures value { result ≡ ratio cents }

@@ -1,3 +1,3 @@
-pub mod LevelLemmas
-pub mod PhaseLemmas
-pub mod WriteLemmas
+pub mod LevelLaws
+pub mod PhaseLaws
+pub mod WriteLaws

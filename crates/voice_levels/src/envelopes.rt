@@ -43,7 +43,7 @@ pub fn held_at(v: &VoiceParameters, t: u64) -> u32
 }
 
 /// The level at frame `t`, while the voice isn't over, of 65536.
-#[tactic(auto, using(crate::proofs::LevelLemmas::faded), unfolding(crate::specs::Envelope::envelope, crate::specs::Envelope::released))]
+#[tactic(auto, using(crate::proofs::LevelLaws::faded), unfolding(crate::specs::Envelope::envelope, crate::specs::Envelope::released))]
 pub fn envelope_at(v: &VoiceParameters, t: u64) -> u32
     requires { t < v.now.length + v.now.release }
     ensures value { result ≡ envelope v.now t }

@@ -5,7 +5,7 @@ ghost use Rattle.voice_levels.specs.Levels.{scaled_by};
 
 /// A point as loud as `gain` of 65536.
 #[inline(always)]
-#[tactic(auto, using(crate::proofs::LevelLemmas::scaled_within), unfolding(crate::specs::Levels::scaled_by))]
+#[tactic(auto, using(crate::proofs::LevelLaws::scaled_within), unfolding(crate::specs::Levels::scaled_by))]
 pub fn attenuated(p: i32, gain: u32) -> i32
     requires low { negsuc 32767 ≤ℤ p }
     requires high { p ≤ℤ pos 32767 }

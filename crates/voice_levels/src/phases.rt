@@ -19,7 +19,7 @@ const NO_LEVEL: Level = Level { loud: 0, until: 0 };
 
 impl Level {
     /// A level that has ended.
-    #[tactic(auto, using(crate::proofs::PhaseLemmas::none_even))]
+    #[tactic(auto, using(crate::proofs::PhaseLaws::none_even))]
     pub fn ended() -> Level
         ensures { (loudness : ℕ → ℕ) → (t : ℕ) → IsEven loudness t result }
     {
@@ -31,7 +31,7 @@ impl Level {
 const FOREVER: u64 = 1_099_511_627_776;
 
 // The level so many frames into a fall from `level` by 960 centibels: as long as one centibel lasts.
-#[tactic(auto, using(crate::proofs::PhaseLemmas::lasts_some, crate::proofs::PhaseLemmas::lasts_shortly, crate::proofs::LevelLemmas::faded))]
+#[tactic(auto, using(crate::proofs::PhaseLaws::lasts_some, crate::proofs::PhaseLaws::lasts_shortly, crate::proofs::LevelLaws::faded))]
 fn falling_from(level: u32, over: u64, fallen: u64) -> Level
     requires most { level ≤ 65536 }
     requires divisor { (0 < over) × (over < 2 ^ 32) }
@@ -50,7 +50,7 @@ fn falling_from(level: u32, over: u64, fallen: u64) -> Level
 }
 
 // The level so many frames into the decay.
-#[tactic(auto, using(crate::proofs::PhaseLemmas::sustained_even))]
+#[tactic(auto, using(crate::proofs::PhaseLaws::sustained_even))]
 fn decayed_from(v: &VoiceParameters, fallen: u64) -> Level
     requires near { fallen < 2 ^ 34 }
     ensures some { fallen < result.until }
@@ -69,7 +69,7 @@ fn decayed_from(v: &VoiceParameters, fallen: u64) -> Level
 }
 
 // The level at frame `t`, if the note lasts so long; one that has ended by then where the voice rises.
-#[tactic(auto, using(crate::proofs::PhaseLemmas::delayed_even, crate::proofs::PhaseLemmas::full_even, crate::proofs::PhaseLemmas::decayed_even, crate::proofs::PhaseLemmas::none_even))]
+#[tactic(auto, using(crate::proofs::PhaseLaws::delayed_even, crate::proofs::PhaseLaws::full_even, crate::proofs::PhaseLaws::decayed_even, crate::proofs::PhaseLaws::none_even))]
 fn held_from(v: &VoiceParameters, t: u64) -> Level
     requires near { t < 2 ^ 33 }
     ensures rising { result.until ≤ t → (v.now.delay ≤ t) × (t < v.now.delay + v.now.attack) }
@@ -125,7 +125,7 @@ fn level_from(v: &VoiceParameters, t: u64, at_end: u32) -> Level
 }
 
 // Rising to 65536 in so many frames, from `risen` frames on: no frame divides.
-#[tactic(auto, using(crate::proofs::PhaseLemmas::rising_fits, crate::proofs::PhaseLemmas::step_small))]
+#[tactic(auto, using(crate::proofs::PhaseLaws::rising_fits, crate::proofs::PhaseLaws::step_small))]
 fn fill_rising(over: u64, risen: u64, levels: &mut [u16])
     requires divisor { (0 < over) × (over < 2 ^ 32) }
     requires within { risen + length levels.old ≤ over }

@@ -47,7 +47,7 @@ fn quieten_twice(levels: &[u16], others: &[u16], run: &mut [i16])
 
 // Makes each point as loud as one level, by way of a list that has it for each: the compiler sees of
 // numbers of a list that they fit 16 bits, and of one that stays the same it doesn't.
-#[tactic(auto, using(crate::proofs::LevelLemmas::full_level))]
+#[tactic(auto, using(crate::proofs::LevelLaws::full_level))]
 fn quieten_evenly(level: u32, levels: &mut [u16], run: &mut [i16])
     requires long { length levels.old ≡ length run.old }
     requires most { level ≤ 65536 }

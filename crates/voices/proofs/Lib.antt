@@ -1,7 +1,7 @@
-pub mod SideLemmas
-pub mod FineLemmas
-pub mod PlaceLemmas
-pub mod OverLemmas
-pub mod RunLemmas
-pub mod SliceLemmas
+pub mod SideLaws
+pub mod FineLaws
+pub mod PlaceLaws
+pub mod OverLaws
+pub mod RunLaws
+pub mod SliceLaws
 pub mod StartLaws

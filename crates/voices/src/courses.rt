@@ -31,7 +31,7 @@ pub(crate) struct Course<'a> {
 
 impl<'a> Course<'a> {
     // That of a voice at its first frame.
-    #[tactic(auto, using(crate::proofs::SliceLemmas::none_in_hand))]
+    #[tactic(auto, using(crate::proofs::SliceLaws::none_in_hand))]
     pub(crate) fn start(v: &VoiceParameters) -> Course<'a>
         requires loop_is { v.now.looped ≡ true → v.now.loop_start < v.now.loop_end }
         requires steps { v.now.step ≤ 73043661 }

@@ -32,7 +32,7 @@ pub(crate) fn right_part(v: &VoiceParameters) -> u32
 }
 
 // What the sample says at frame `t`, at which the voice isn't over, and whose place is `x`.
-#[tactic(auto, using(crate::proofs::OverLemmas::loop_start_inside))]
+#[tactic(auto, using(crate::proofs::OverLaws::loop_start_inside))]
 fn point_at_frame(points: &Points, v: &VoiceParameters, t: u64, x: u64) -> i32
     requires playable { IsPlayable (length points.now) v.now }
     requires sounds { is_over v.now t ≡ false }
@@ -81,7 +81,7 @@ pub(crate) fn frame(points: &Points, v: &VoiceParameters, t: u64, x: u64) -> (i3
 }
 
 // The place of the frame behind frame `t`, whose place is `x`.
-#[tactic(auto, using(crate::proofs::OverLemmas::place_sounds))]
+#[tactic(auto, using(crate::proofs::OverLaws::place_sounds))]
 pub(crate) fn next_place(points: &Points, v: &VoiceParameters, t: u64, x: u64) -> u64
     requires playable { IsPlayable (length points.now) v.now }
     requires sounds { is_over v.now t ≡ false }

@@ -20,7 +20,7 @@ pub use voice::Voice;
 pub use workspace::Workspace;
 
 /// The law that a voice that is over at a frame is over at each later one. It does nothing.
-#[tactic(auto, using(crate::proofs::OverLemmas::over_stays))]
+#[tactic(auto, using(crate::proofs::OverLaws::over_stays))]
 pub fn over_law()
     ensures { OverStaysOver }
 {}

@@ -6,7 +6,7 @@ ghost use Rattle.voices.specs.Runs.{gone_on};
 use zone_select::VoiceParameters;
 
 // The place while the loop, if there is one, is in force.
-#[tactic(auto, using(crate::proofs::PlaceLemmas::wrapped_below, crate::proofs::PlaceLemmas::wrapped_above, crate::proofs::PlaceLemmas::far_place), unfolding(crate::specs::Place::looped_place))]
+#[tactic(auto, using(crate::proofs::PlaceLaws::wrapped_below, crate::proofs::PlaceLaws::wrapped_above, crate::proofs::PlaceLaws::far_place), unfolding(crate::specs::Place::looped_place))]
 fn looped_place_at(v: &VoiceParameters, t: u64) -> u64
     requires loop_is { v.now.looped ≡ true → v.now.loop_start < v.now.loop_end }
     requires steps { v.now.step ≤ 73043661 }
@@ -36,7 +36,7 @@ pub(crate) fn is_looping_at(v: &VoiceParameters, t: u64) -> bool
 }
 
 // The place at frame `t`.
-#[tactic(auto, using(crate::proofs::PlaceLemmas::far_rest), unfolding(crate::specs::Place::place))]
+#[tactic(auto, using(crate::proofs::PlaceLaws::far_rest), unfolding(crate::specs::Place::place))]
 pub(crate) fn place_at(v: &VoiceParameters, t: u64) -> u64
     requires loop_is { v.now.looped ≡ true → v.now.loop_start < v.now.loop_end }
     requires steps { v.now.step ≤ 73043661 }
@@ -67,7 +67,7 @@ pub(crate) fn is_over_by(v: &VoiceParameters, t: u64, x: u64) -> bool
 
 // Where a place has come after some frames. Mostly a loop's end is passed once, so that is asked before anything is
 // divided.
-#[tactic(auto, using(crate::proofs::PlaceLemmas::wrapped_below, crate::proofs::PlaceLemmas::wrapped_once, crate::proofs::PlaceLemmas::wrapped_above, crate::proofs::PlaceLemmas::short_way))]
+#[tactic(auto, using(crate::proofs::PlaceLaws::wrapped_below, crate::proofs::PlaceLaws::wrapped_once, crate::proofs::PlaceLaws::wrapped_above, crate::proofs::PlaceLaws::short_way))]
 pub(crate) fn advanced(v: &VoiceParameters, looping: bool, x: u64, frames: usize) -> u64
     requires loop_is { looping ≡ true → v.now.loop_start < v.now.loop_end }
     requires steps { v.now.step ≤ 73043661 }
@@ -89,7 +89,7 @@ pub(crate) fn advanced(v: &VoiceParameters, looping: bool, x: u64, frames: usize
 
 // How many frames, at most `most`, lie before `to`: the first is at `x`, each next one `step` further.
 // Mostly all do, so that is asked before anything is divided.
-#[tactic(auto, using(crate::proofs::PlaceLemmas::all_before, crate::proofs::PlaceLemmas::run_stays, crate::proofs::PlaceLemmas::fewer, crate::proofs::PlaceLemmas::moves_on, crate::proofs::PlaceLemmas::one_less))]
+#[tactic(auto, using(crate::proofs::PlaceLaws::all_before, crate::proofs::PlaceLaws::run_stays, crate::proofs::PlaceLaws::fewer, crate::proofs::PlaceLaws::moves_on, crate::proofs::PlaceLaws::one_less))]
 pub(crate) fn frames_before(x: u64, step: u64, to: u64, most: u64) -> u64
     requires before { x < to }
     requires some { 0 < most }

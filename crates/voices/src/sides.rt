@@ -8,7 +8,7 @@ pub(crate) const WHOLE: u32 = 1000;
 
 // `part` of 1000, rounded down: 32768 more keep the division above zero.
 #[inline(always)]
-#[tactic(auto, using(crate::proofs::SideLemmas::share_is), unfolding(crate::specs::Levels::side))]
+#[tactic(auto, using(crate::proofs::SideLaws::share_is), unfolding(crate::specs::Levels::side))]
 fn share_of(z: i32, part: u32) -> i32
     requires low { negsuc 32767 ≤ℤ z }
     requires high { z ≤ℤ pos 32767 }
@@ -53,7 +53,7 @@ pub(crate) fn finely_panned(z: i16, fine: FinePart) -> i32
 
 // What a side gets that has `part` of 1000.
 #[inline(always)]
-#[tactic(auto, using(crate::proofs::SideLemmas::side_within))]
+#[tactic(auto, using(crate::proofs::SideLaws::side_within))]
 pub(crate) fn panned(z: i32, part: u32) -> i32
     requires low { negsuc 32767 ≤ℤ z }
     requires high { z ≤ℤ pos 32767 }
@@ -70,7 +70,7 @@ pub(crate) const HALF: u32 = 500;
 
 // What each side gets of a frame in the middle.
 #[inline(always)]
-#[tactic(auto, using(crate::proofs::SideLemmas::side_within, crate::proofs::SideLemmas::half_side))]
+#[tactic(auto, using(crate::proofs::SideLaws::side_within, crate::proofs::SideLaws::half_side))]
 pub(crate) fn halved(z: i32) -> i32
     requires low { negsuc 32767 ≤ℤ z }
     requires high { z ≤ℤ pos 32767 }

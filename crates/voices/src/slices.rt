@@ -16,7 +16,7 @@ use zone_select::VoiceParameters;
 // Point `i` of a slice and the next one, as they stand there: both are read at once, and stay one word, for
 // a struct of two points takes more instructions where several frames are computed at once.
 #[inline(always)]
-#[tactic(auto, using(crate::proofs::SliceLemmas::pair_is))]
+#[tactic(auto, using(crate::proofs::SliceLaws::pair_is))]
 fn pair_in(bytes: &[u8], i: usize) -> u32
     requires { 2 * i + 3 < length bytes.now }
     ensures { result ≡ pair_at (words bytes.now) i }
@@ -35,7 +35,7 @@ const APART: usize = 16;
 // Reads some of the points before all of them: so memory fetches the parts of a slice side by side, and
 // not each as the run comes to it. All that is read ahead is written again when all are read; it is only
 // written at all so that the compiler keeps the reads, on which the gain rests.
-#[tactic(auto, using(crate::proofs::PlaceLemmas::less_far))]
+#[tactic(auto, using(crate::proofs::PlaceLaws::less_far))]
 fn read_ahead(bytes: &[u8], x: u32, step: u32, pairs: &mut [u32])
     requires short { length pairs.old ≤ 1024 }
     requires ends { (k : ℕ) → k < length pairs.old → 2 * ((x + k * step) / 65536) + 3 < length bytes.now }

@@ -69,7 +69,7 @@ impl<'a> Voice<'a> {
 
     /// The next frame, left and right, each from -32768 to 32767. A voice that is over gives silence
     /// and counts no more.
-    #[tactic(auto, using(voice_levels::proofs::PhaseLemmas::even_later))]
+    #[tactic(auto, using(voice_levels::proofs::PhaseLaws::even_later))]
     pub fn next_frame(&mut self) -> (i32, i32)
         ensures left { result.0 ≡ snd self.old.value true self.old.age }
         ensures right { result.1 ≡ snd self.old.value false self.old.age }

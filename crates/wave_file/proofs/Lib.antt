@@ -1,2 +1,2 @@
-pub mod PieceLemmas
-pub mod SampleLemmas
+pub mod PieceLaws
+pub mod SampleLaws

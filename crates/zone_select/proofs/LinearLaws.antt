@@ -11,7 +11,7 @@ use Rattle.std.proofs.lemmas.Nat.{mul-le, div_below}
 use Rattle.generators.specs.Defaults.{default_of}
 use Rattle.generators.specs.Levels.{is_allowed}
 use Rattle.sound_tables.specs.Floor.{floor_div, floor_mod}
-use Rattle.sound_tables.proofs.FloorLemmas.{floor_div_is}
+use Rattle.sound_tables.proofs.FloorLaws.{floor_div_is}
 use Rattle.note_list.specs.Notes.{Numbers}
 use Rattle.bank_parts.specs.declared.parts.Sample.{Sample}
 use Rattle.zone_select.specs.Taken.{Taken}

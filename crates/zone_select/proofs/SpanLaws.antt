@@ -14,8 +14,8 @@ use Rattle.bank_parts.specs.declared.parts.Parts.{Parts}
 use Rattle.bank_parts.specs.Sound.{IsSound}
 use Rattle.sound_tables.specs.Floor.{above_zero}
 use Rattle.sound_tables.specs.Tables.{step_at, step_of}
-use Rattle.sound_tables.proofs.FloorLemmas.{floor_div_is, floor_mod_is}
-use Rattle.sound_tables.proofs.OctaveLemmas.{step_case, step_bound}
+use Rattle.sound_tables.proofs.FloorLaws.{floor_div_is, floor_mod_is}
+use Rattle.sound_tables.proofs.OctaveLaws.{step_case, step_bound}
 use Rattle.zone_select.specs.Taken.{Taken}
 use Rattle.zone_select.specs.Amounts.{cut, start_of, end_of, offset, asks_for_loop, loop_start_of, loop_end_of, is_looped, loop_of, cents_of, parameters_of}
 use Rattle.zone_select.specs.Select.{voice_of}

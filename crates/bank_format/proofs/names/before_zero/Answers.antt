@@ -1,7 +1,7 @@
 use Rattle.std.proofs.Common.{◌==◌, ◌∙◌, rules, tests}
 use Rattle.std.proofs.lemmas.Iterator.{YieldsList-from_slice}
 use Rattle.std.proofs.lemmas.Iterator.Search.{position_from_yields_List}
-use Rattle.bank_format.proofs.ZeroLemmas.{before_found}
+use Rattle.bank_format.proofs.ZeroLaws.{before_found}
 use Rattle.bank_format.proofs.names.before_zero.Goals as goal
 
 pub returns : goal.returns

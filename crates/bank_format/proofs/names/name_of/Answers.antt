@@ -1,5 +1,5 @@
 use Rattle.std.proofs.Common.{◌≡◌, length, rules}
-use Rattle.bank_format.proofs.NameLemmas.{field_names}
+use Rattle.bank_format.proofs.FieldNameLaws.{field_names}
 use Rattle.bank_format.proofs.names.name_of.Goals as goal
 
 pub unwrap-requires : goal.unwrap-requires

@@ -1,4 +1,4 @@
-use Rattle.recordings.proofs.ImportLemmas.{are_bytes, cut_text}
+use Rattle.recordings.proofs.ImportLaws.{are_bytes, cut_text}
 use Rattle.recordings.proofs.importing.mono_name.Goals as goal
 
 pub name_of-requires : goal.name_of-requires

@@ -1,4 +1,4 @@
-use Rattle.recordings.proofs.ImportLemmas.{name_ok}
+use Rattle.recordings.proofs.ImportLaws.{name_ok}
 use Rattle.recordings.proofs.importing.name_of.Goals as goal
 
 pub unwrap-requires : goal.unwrap-requires

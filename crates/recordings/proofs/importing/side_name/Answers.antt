@@ -1,6 +1,6 @@
 use Rattle.std.proofs.Common.{◌≡◌, ◌++◌, length, ap, ◌∙◌, List, ℕ, rules, arith}
 use Rattle.sf_base.specs.Names.{before_zero}
-use Rattle.recordings.proofs.ImportLemmas.{are_bytes, own_short, side_named}
+use Rattle.recordings.proofs.ImportLaws.{are_bytes, own_short, side_named}
 use Rattle.recordings.proofs.importing.side_name.Goals as goal
 
 pub unwrap-requires : goal.unwrap-requires

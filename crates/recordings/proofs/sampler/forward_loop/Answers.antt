@@ -1,4 +1,4 @@
-use Rattle.recordings.proofs.ImportLemmas.{is_there, loops_whole}
+use Rattle.recordings.proofs.ImportLaws.{is_there, loops_whole}
 use Rattle.recordings.proofs.sampler.forward_loop.Goals as goal
 
 pub unwrap-table-requires : goal.unwrap-table-requires

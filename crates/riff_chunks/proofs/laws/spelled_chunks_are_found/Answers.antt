@@ -1,4 +1,4 @@
-use Rattle.riff_chunks.proofs.SpellingLemmas.{walk-spell-append, chunks_in-spell, is_whole-spell}
+use Rattle.riff_chunks.proofs.SpellingLaws.{walk-spell-append, chunks_in-spell, is_whole-spell}
 use Rattle.riff_chunks.proofs.laws.spelled_chunks_are_found.Goals as goal
 
 pub returns : goal.returns

@@ -1,4 +1,4 @@
-use Rattle.riff_chunks.proofs.WalkLemmas.{walk_is_one}
+use Rattle.riff_chunks.proofs.WalkLaws.{walk_is_one}
 use Rattle.riff_chunks.proofs.laws.walk_is_the_one_list.Goals as goal
 
 pub returns : goal.returns

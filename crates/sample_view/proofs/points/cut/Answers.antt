@@ -1,4 +1,4 @@
-use Rattle.sample_view.proofs.CutLemmas.{cut_turn}
+use Rattle.sample_view.proofs.CutLaws.{cut_turn}
 use Rattle.sample_view.proofs.points.cut.Goals as goal
 
 pub loop-piece-preserved : goal.loop-piece-preserved

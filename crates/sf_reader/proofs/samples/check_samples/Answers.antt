@@ -1,7 +1,7 @@
 use Rattle.std.specs.Prelude.{flat_map}
 use Rattle.bank_format.specs.Windows.{rows}
 use Rattle.bank_format.specs.ReadSteps.{sample_step}
-use Rattle.sf_reader.proofs.RowLemmas.{steps_hold, steps_fail}
+use Rattle.sf_reader.proofs.RowLaws.{steps_hold, steps_fail}
 use Rattle.sf_reader.proofs.samples.check_samples.Goals as goal
 
 pub loop-head-preserved : goal.loop-head-preserved

@@ -1,6 +1,6 @@
 use Rattle.std.proofs.Common.{◌≡◌, ◌+◌, ◌-◌, arith, rules}
 use Rattle.bank_format.specs.Windows.{rows}
-use Rattle.sf_reader.proofs.RowLemmas.{sum_more, total_breaks}
+use Rattle.sf_reader.proofs.RowLaws.{sum_more, total_breaks}
 use Rattle.sf_reader.proofs.samples.check_total.Goals as goal
 
 pub loop-head-preserved : goal.loop-head-preserved

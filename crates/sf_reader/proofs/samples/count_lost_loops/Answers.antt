@@ -3,7 +3,7 @@ use Rattle.std.proofs.lemmas.Iterator.Consumers.{YieldsList-at, YieldsList-from_
 use Rattle.std.proofs.lemmas.List.Sums.{length-filter}
 use Rattle.bank_format.specs.Windows.{rows}
 use Rattle.bank_format.specs.Samples.{is_loop_lost}
-use Rattle.sf_reader.proofs.RowLemmas.{rows_yield}
+use Rattle.sf_reader.proofs.RowLaws.{rows_yield}
 use Rattle.sf_reader.proofs.samples.count_lost_loops.Goals as goal
 
 pub returns : goal.returns

@@ -1,4 +1,4 @@
-use Rattle.sf_reader.proofs.SampleLemmas.{bit_4}
+use Rattle.sf_reader.proofs.SampleLaws.{bit_4}
 use Rattle.sf_reader.proofs.samples.is_packed.Goals as goal
 
 pub returns : goal.returns

@@ -1,6 +1,6 @@
 use Rattle.std.proofs.Common.{◌≡◌, ◌∙◌, ap, rules}
 use Rattle.sample_view.specs.Words.{words}
-use Rattle.sf_reader.proofs.SampleLemmas.{points_cut}
+use Rattle.sf_reader.proofs.SampleLaws.{points_cut}
 use Rattle.sf_reader.proofs.samples.points_of.Goals as goal
 
 pub returns : goal.returns

@@ -1,6 +1,6 @@
 use Rattle.sample_view.specs.Words.{words}
 use Rattle.bank_format.specs.Samples.{sample_read}
-use Rattle.sf_reader.proofs.RowLemmas.{map_more}
+use Rattle.sf_reader.proofs.RowLaws.{map_more}
 use Rattle.sf_reader.proofs.samples.read_samples.Goals as goal
 
 pub loop-head-preserved : goal.loop-head-preserved

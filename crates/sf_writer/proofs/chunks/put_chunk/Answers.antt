@@ -1,5 +1,5 @@
 use Rattle.std.proofs.Common.{refl}
-use Rattle.sf_writer.proofs.ChunkLemmas.{put_even}
+use Rattle.sf_writer.proofs.ChunkLaws.{put_even}
 use Rattle.sf_writer.proofs.chunks.put_chunk.Goals as goal
 
 pub returns : goal.returns

@@ -1,7 +1,7 @@
 use Rattle.bank_format.specs.Ids.{RIFF, SFBK}
 use Rattle.bank_format.specs.Canon.{canon}
-use Rattle.sf_writer.proofs.ChunkLemmas.{put_form}
-use Rattle.sf_writer.proofs.FileLemmas.{length-SFBK, lists-even}
+use Rattle.sf_writer.proofs.ChunkLaws.{put_form}
+use Rattle.sf_writer.proofs.FileLaws.{length-SFBK, lists-even}
 use Rattle.sf_writer.proofs.file.put_bank.Goals as goal
 
 pub returns : goal.returns

@@ -1,5 +1,5 @@
 use Rattle.outputs.proofs.OutputLaws.{puts_row, puts_then}
-use Rattle.sf_writer.proofs.FileLemmas.{lists-is}
+use Rattle.sf_writer.proofs.FileLaws.{lists-is}
 use Rattle.sf_writer.proofs.file.put_lists.Goals as goal
 
 pub returns : goal.returns

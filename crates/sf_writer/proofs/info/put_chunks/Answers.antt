@@ -1,5 +1,5 @@
 use Rattle.outputs.proofs.OutputLaws.{puts_row, puts_then}
-use Rattle.sf_writer.proofs.TextLemmas.{info-parts}
+use Rattle.sf_writer.proofs.TextLaws.{info-parts}
 use Rattle.sf_writer.proofs.info.put_chunks.Goals as goal
 
 pub returns : goal.returns

@@ -1,7 +1,7 @@
 use Rattle.bank_format.specs.Ids.{INFO}
 use Rattle.riff_chunks.specs.Walk.{LIST}
-use Rattle.sf_writer.proofs.ChunkLemmas.{put_form}
-use Rattle.sf_writer.proofs.TextLemmas.{length-INFO, info-even}
+use Rattle.sf_writer.proofs.ChunkLaws.{put_form}
+use Rattle.sf_writer.proofs.TextLaws.{length-INFO, info-even}
 use Rattle.sf_writer.proofs.info.put_info.Goals as goal
 
 pub returns : goal.returns

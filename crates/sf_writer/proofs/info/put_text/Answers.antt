@@ -3,8 +3,8 @@ use Rattle.riff_chunks.specs.Spelling.{chunk}
 use Rattle.bank_format.specs.Texts.{text_body}
 use Rattle.outputs.proofs.OutputLaws.{puts_as, puts_then}
 use Rattle.sf_writer.specs.Info.{text_id}
-use Rattle.sf_writer.proofs.ChunkLemmas.{put_even}
-use Rattle.sf_writer.proofs.TextLemmas.{text_body-even}
+use Rattle.sf_writer.proofs.ChunkLaws.{put_even}
+use Rattle.sf_writer.proofs.TextLaws.{text_body-even}
 use Rattle.sf_writer.proofs.info.put_text.Goals as goal
 
 pub returns : goal.returns

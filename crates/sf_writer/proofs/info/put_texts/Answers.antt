@@ -1,5 +1,5 @@
 use Rattle.outputs.proofs.OutputLaws.{putting_step}
-use Rattle.sf_writer.proofs.ChunkLemmas.{spelled-next}
+use Rattle.sf_writer.proofs.ChunkLaws.{spelled-next}
 use Rattle.sf_writer.proofs.info.put_texts.Goals as goal
 
 pub loop-which-preserved : goal.loop-which-preserved

@@ -1,7 +1,7 @@
 use Rattle.std.proofs.Common.{◌≡◌, ◌∙◌, ◌+◌, length, sym, ap, arith}
 use Rattle.bank_parts.proofs.FlatListLaws.{first_bags_size}
 use Rattle.outputs.proofs.OutputLaws.{puts_as, putting_from, putting_step, putting_last}
-use Rattle.sf_writer.proofs.OwnerHeadLemmas.{heads-start, heads-next, heads-last}
+use Rattle.sf_writer.proofs.OwnerHeadLaws.{heads-start, heads-next, heads-last}
 use Rattle.sf_writer.proofs.owner_heads.put_heads.Goals as goal
 
 pub loop-i-init : goal.loop-i-init

@@ -1,5 +1,5 @@
 use Rattle.outputs.proofs.OutputLaws.{putting_step}
-use Rattle.sf_writer.proofs.ChunkLemmas.{flat_map-next}
+use Rattle.sf_writer.proofs.ChunkLaws.{flat_map-next}
 use Rattle.sf_writer.proofs.points.put_points.Goals as goal
 
 pub loop-piece-preserved : goal.loop-piece-preserved

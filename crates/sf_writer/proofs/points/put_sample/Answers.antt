@@ -1,5 +1,5 @@
 use Rattle.outputs.proofs.OutputLaws.{puts_row}
-use Rattle.sf_writer.proofs.PointLemmas.{sample-parts}
+use Rattle.sf_writer.proofs.PointLaws.{sample-parts}
 use Rattle.sf_writer.proofs.points.put_sample.Goals as goal
 
 pub returns : goal.returns

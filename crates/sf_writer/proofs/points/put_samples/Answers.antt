@@ -1,5 +1,5 @@
 use Rattle.outputs.proofs.OutputLaws.{putting_step}
-use Rattle.sf_writer.proofs.ChunkLemmas.{spelled-read}
+use Rattle.sf_writer.proofs.ChunkLaws.{spelled-read}
 use Rattle.sf_writer.proofs.points.put_samples.Goals as goal
 
 pub loop-sample-preserved : goal.loop-sample-preserved

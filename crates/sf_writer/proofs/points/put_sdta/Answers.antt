@@ -1,7 +1,7 @@
 use Rattle.bank_format.specs.Ids.{SDTA}
 use Rattle.riff_chunks.specs.Walk.{LIST}
-use Rattle.sf_writer.proofs.ChunkLemmas.{put_form}
-use Rattle.sf_writer.proofs.PointLemmas.{length-SDTA, sdta-even}
+use Rattle.sf_writer.proofs.ChunkLaws.{put_form}
+use Rattle.sf_writer.proofs.PointLaws.{length-SDTA, sdta-even}
 use Rattle.sf_writer.proofs.points.put_sdta.Goals as goal
 
 pub returns : goal.returns

@@ -1,7 +1,7 @@
 use Rattle.bank_format.specs.Ids.{PDTA}
 use Rattle.riff_chunks.specs.Walk.{LIST}
-use Rattle.sf_writer.proofs.ChunkLemmas.{put_form}
-use Rattle.sf_writer.proofs.RecordLemmas.{length-PDTA, pdta-even}
+use Rattle.sf_writer.proofs.ChunkLaws.{put_form}
+use Rattle.sf_writer.proofs.RecordLaws.{length-PDTA, pdta-even}
 use Rattle.sf_writer.proofs.records.put_pdta.Goals as goal
 
 pub returns : goal.returns

@@ -4,7 +4,7 @@ use Rattle.hydra_records.specs.Spelling.{sample_head_bytes}
 use Rattle.bank_parts.specs.Valid.{point_total}
 use Rattle.bank_format.specs.Tables.{tables_of}
 use Rattle.outputs.proofs.OutputLaws.{Putting}
-use Rattle.sf_writer.proofs.RecordLemmas.{heads_left}
+use Rattle.sf_writer.proofs.RecordLaws.{heads_left}
 use Rattle.sf_writer.proofs.sample_heads.put_heads.Given as goal
 
 abbrev pub invariant-loop-sample : goal.invariant-loop-sample

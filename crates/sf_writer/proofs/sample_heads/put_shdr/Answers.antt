@@ -1,7 +1,7 @@
 use Rattle.std.proofs.Common.{refl}
 use Rattle.bank_format.specs.Ids.{SHDR}
-use Rattle.sf_writer.proofs.ChunkLemmas.{put_even}
-use Rattle.sf_writer.proofs.RecordLemmas.{shdr-even}
+use Rattle.sf_writer.proofs.ChunkLaws.{put_even}
+use Rattle.sf_writer.proofs.RecordLaws.{shdr-even}
 use Rattle.sf_writer.proofs.sample_heads.put_shdr.Goals as goal
 
 pub returns : goal.returns

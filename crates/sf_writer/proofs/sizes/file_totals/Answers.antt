@@ -1,4 +1,4 @@
-use Rattle.sf_writer.proofs.SizeLemmas.{few_members, few_preset_records, few_instrument_records, few_points}
+use Rattle.sf_writer.proofs.SizeLaws.{few_members, few_preset_records, few_instrument_records, few_points}
 use Rattle.sf_writer.proofs.sizes.file_totals.Goals as goal
 
 pub returns-clause-members : goal.returns-clause-members

@@ -1,9 +1,9 @@
 use Rattle.std.proofs.Common.{◌∙◌, ap}
 use Rattle.outputs.proofs.OutputLaws.{puts_as}
 use Rattle.sf_writer.specs.Lists.{bag_id}
-use Rattle.sf_writer.proofs.ChunkLemmas.{put_even}
-use Rattle.sf_writer.proofs.FlatLemmas.{bags-lent}
-use Rattle.sf_writer.proofs.ZoneListLemmas.{bags-even}
+use Rattle.sf_writer.proofs.ChunkLaws.{put_even}
+use Rattle.sf_writer.proofs.FlatLaws.{bags-lent}
+use Rattle.sf_writer.proofs.ZoneListLaws.{bags-even}
 use Rattle.sf_writer.proofs.zone_lists.put_bags.Goals as goal
 
 pub returns : goal.returns

@@ -1,9 +1,9 @@
 use Rattle.std.proofs.Common.{◌∙◌, ap}
 use Rattle.outputs.proofs.OutputLaws.{puts_as}
 use Rattle.sf_writer.specs.Lists.{gen_id}
-use Rattle.sf_writer.proofs.ChunkLemmas.{put_even}
-use Rattle.sf_writer.proofs.FlatLemmas.{gens-lent}
-use Rattle.sf_writer.proofs.ZoneListLemmas.{gens-even}
+use Rattle.sf_writer.proofs.ChunkLaws.{put_even}
+use Rattle.sf_writer.proofs.FlatLaws.{gens-lent}
+use Rattle.sf_writer.proofs.ZoneListLaws.{gens-even}
 use Rattle.sf_writer.proofs.zone_lists.put_gens.Goals as goal
 
 pub returns : goal.returns

@@ -1,5 +1,5 @@
 use Rattle.outputs.proofs.OutputLaws.{putting_step}
-use Rattle.sf_writer.proofs.FlatLemmas.{mods_at}
+use Rattle.sf_writer.proofs.FlatLaws.{mods_at}
 use Rattle.sf_writer.proofs.zone_lists.put_mod_records.Goals as goal
 
 pub loop-modulator-preserved : goal.loop-modulator-preserved

@@ -1,9 +1,9 @@
 use Rattle.std.proofs.Common.{◌∙◌, ap}
 use Rattle.outputs.proofs.OutputLaws.{puts_as}
 use Rattle.sf_writer.specs.Lists.{mod_id}
-use Rattle.sf_writer.proofs.ChunkLemmas.{put_even}
-use Rattle.sf_writer.proofs.FlatLemmas.{mods-lent}
-use Rattle.sf_writer.proofs.ZoneListLemmas.{mods-even}
+use Rattle.sf_writer.proofs.ChunkLaws.{put_even}
+use Rattle.sf_writer.proofs.FlatLaws.{mods-lent}
+use Rattle.sf_writer.proofs.ZoneListLaws.{mods-even}
 use Rattle.sf_writer.proofs.zone_lists.put_mods.Goals as goal
 
 pub returns : goal.returns

@@ -1,5 +1,5 @@
 use Rattle.outputs.proofs.OutputLaws.{puts_row, puts_then}
-use Rattle.sf_writer.proofs.ZoneListLemmas.{zone_lists-is}
+use Rattle.sf_writer.proofs.ZoneListLaws.{zone_lists-is}
 use Rattle.sf_writer.proofs.zone_lists.put_zone_lists.Goals as goal
 
 pub returns : goal.returns

@@ -1,5 +1,5 @@
 use Rattle.std.proofs.Common.{◌+◌, ◌/◌, arith}
-use Rattle.sound_tables.proofs.VelocityLemmas.{all_between, louder}
+use Rattle.sound_tables.proofs.VelocityLaws.{all_between, louder}
 use Rattle.sound_tables.proofs.loudness.velocity_attenuation.Goals as goal
 
 pub loop-low-init : goal.loop-low-init

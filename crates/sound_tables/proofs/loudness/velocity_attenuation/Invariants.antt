@@ -1,5 +1,5 @@
 use Rattle.std.proofs.Common.{◌-◌, ◌*◌, min}
-use Rattle.sound_tables.proofs.VelocityLemmas.{IsBetween}
+use Rattle.sound_tables.proofs.VelocityLaws.{IsBetween}
 use Rattle.sound_tables.proofs.loudness.velocity_attenuation.Given as goal
 
 abbrev pub invariant-loop-low : goal.invariant-loop-low

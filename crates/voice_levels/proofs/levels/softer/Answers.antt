@@ -3,7 +3,7 @@ use Rattle.std.proofs.lemmas.Int.{ints}
 use Rattle.std.specs.Int.{w16, w32}
 use Rattle.std.specs.Int.Signed.{shr_z}
 use Rattle.voice_levels.specs.Levels.{scaled_by}
-use Rattle.voice_levels.proofs.LevelLemmas.{Within, scaled_within, low_product, wrapped_upper, high_signed, upper}
+use Rattle.voice_levels.proofs.LevelLaws.{Within, scaled_within, low_product, wrapped_upper, high_signed, upper}
 use Rattle.voice_levels.proofs.levels.softer.Goals as goal
 use Rattle.voice_levels.proofs.levels.softer.Goals.{Joined-gain-lt32768, then-gain-lt32768, else-gain-lt32768}
 

@@ -1,7 +1,7 @@
 use Rattle.std.proofs.Common.{◌≡◌, zero, suc, ◌*◌, ◌/◌, ◌<◌, ℕ, arith, ap, subst, sym, ◌∙◌}
 use Rattle.sound_tables.specs.Tables.{gain_at}
 use Rattle.voice_levels.specs.Envelope.{decayed}
-use Rattle.voice_levels.proofs.PhaseLemmas.{before_sustain, decaying, left_of_all}
+use Rattle.voice_levels.proofs.PhaseLaws.{before_sustain, decaying, left_of_all}
 use Rattle.voice_levels.proofs.phases.decayed_from.Goals as goal
 
 some : (s d u : ℕ) → 960 * u < s * d → 0 < d

@@ -3,7 +3,7 @@ use Rattle.std.proofs.lemmas.Int.{to_z_pos}
 use Rattle.std.proofs.Math.Nat.{div-le_self}
 use Rattle.std.specs.Int.{w64}
 use Rattle.sound_tables.specs.Tables.{gain_at, gain_of}
-use Rattle.voice_levels.proofs.PhaseLemmas.{lasts_some, lasts_shortly, same_centibel}
+use Rattle.voice_levels.proofs.PhaseLaws.{lasts_some, lasts_shortly, same_centibel}
 use Rattle.voice_levels.proofs.phases.falling_from.Goals as goal
 
 pub returns-clause-some : goal.returns-clause-some

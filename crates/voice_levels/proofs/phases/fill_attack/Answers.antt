@@ -1,6 +1,6 @@
 use Rattle.std.proofs.Common.{◌≡◌, ◌≤◌, ◌++◌, take, drop, length, get_or, arith, ◌∙◌}
 use Rattle.std.proofs.lemmas.Grind.{common_steps}
-use Rattle.voice_levels.proofs.PhaseLemmas.{attack_is}
+use Rattle.voice_levels.proofs.PhaseLaws.{attack_is}
 use Rattle.voice_levels.proofs.phases.fill_attack.Goals as goal
 
 pub returns-clause-value : goal.returns-clause-value

@@ -1,7 +1,7 @@
 use Rattle.std.proofs.Common.{◌≡◌, ◌+◌, ◌*◌, ◌/◌, ◌%◌, ◌<◌, arith, ap, ◌∙◌}
 use Rattle.std.proofs.lemmas.Nat.{mod_below}
-use Rattle.voice_levels.proofs.WriteLemmas.{below_set}
-use Rattle.voice_levels.proofs.PhaseLemmas.{rising_more, line_whole, rising_fits}
+use Rattle.voice_levels.proofs.WriteLaws.{below_set}
+use Rattle.voice_levels.proofs.PhaseLaws.{rising_more, line_whole, rising_fits}
 use Rattle.voice_levels.proofs.phases.fill_rising.Goals as goal
 use Rattle.voice_levels.proofs.phases.fill_rising.Goals.{then-rest-over, else-rest-over}
 

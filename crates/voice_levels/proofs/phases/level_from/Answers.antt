@@ -1,5 +1,5 @@
 use Rattle.std.proofs.Common.{◌-◌, arith, sym, ◌∙◌}
-use Rattle.voice_levels.proofs.PhaseLemmas.{envelope_held, released_is}
+use Rattle.voice_levels.proofs.PhaseLaws.{envelope_held, released_is}
 use Rattle.voice_levels.proofs.phases.level_from.Goals as goal
 
 pub returns-then-t-length-clause-even : goal.returns-then-t-length-clause-even

@@ -2,7 +2,7 @@ use Rattle.std.proofs.Common.{rules, ◌≡◌, pos, arith, get_or, ap, ◌∙�
 use Rattle.std.proofs.lemmas.Int.{ints, to_z-of_z}
 use Rattle.std.specs.Int.{w16}
 use Rattle.voice_levels.specs.Levels.{scaled_by}
-use Rattle.voice_levels.proofs.WriteLemmas.{below_set, after_set}
+use Rattle.voice_levels.proofs.WriteLaws.{below_set, after_set}
 use Rattle.voice_levels.proofs.softening.quieten.Goals as goal
 
 pub loop-i-preserved : goal.loop-i-preserved

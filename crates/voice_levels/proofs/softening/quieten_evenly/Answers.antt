@@ -1,6 +1,6 @@
 use Rattle.std.proofs.Common.{◌≡◌, arith, ap, sym, ◌∙◌}
 use Rattle.voice_levels.specs.Levels.{scaled_by}
-use Rattle.voice_levels.proofs.LevelLemmas.{full_level}
+use Rattle.voice_levels.proofs.LevelLaws.{full_level}
 use Rattle.voice_levels.proofs.softening.quieten_evenly.Goals as goal
 
 pub returns-else-level-lt-FULL : goal.returns-else-level-lt-FULL

@@ -2,8 +2,8 @@ use Rattle.std.proofs.Common.{◌≡◌, ◌+◌, ◌≤◌, ◌++◌, ℤ, pos,
 use Rattle.std.proofs.lemmas.Grind.{common_steps}
 use Rattle.voice_levels.specs.Envelope.{envelope}
 use Rattle.voice_levels.specs.Levels.{scaled_by}
-use Rattle.voice_levels.proofs.LevelLemmas.{full_level}
-use Rattle.voice_levels.proofs.PhaseLemmas.{envelope_within}
+use Rattle.voice_levels.proofs.LevelLaws.{full_level}
+use Rattle.voice_levels.proofs.PhaseLaws.{envelope_within}
 use Rattle.voice_levels.proofs.softening.soften_front.Goals as goal
 
 pub returns-clause-value : goal.returns-clause-value

@@ -3,7 +3,7 @@ use Rattle.std.proofs.lemmas.Int.{ints}
 use Rattle.zone_select.specs.Select.{Voice}
 use Rattle.voices.specs.Levels.{side}
 use Rattle.voices.specs.Runs.{IsAdded}
-use Rattle.voices.proofs.RunLemmas.{central_side, heard_added, shared_side, shared_middle}
+use Rattle.voices.proofs.RunLaws.{central_side, heard_added, shared_side, shared_middle}
 use Rattle.voices.proofs.adding.share.Goals as goal
 
 pub returns-then-v-eq0 : goal.returns-then-v-eq0

@@ -1,8 +1,8 @@
 use Rattle.std.proofs.Common.{◌≡◌, ℕ, ◌+◌, ◌*◌, ◌<◌, length, arith, ap, sym, ◌∙◌}
 use Rattle.voices.specs.Place.{is_looping}
 use Rattle.voices.specs.Runs.{gone_on}
-use Rattle.voices.proofs.OverLemmas.{place_sounds, is_looped_at}
-use Rattle.voices.proofs.RunLemmas.{place_on}
+use Rattle.voices.proofs.OverLaws.{place_sounds, is_looped_at}
+use Rattle.voices.proofs.RunLaws.{place_on}
 use Rattle.voices.proofs.frames.next_place.Goals as goal
 
 pub advanced-requires-clause-loop_is : goal.advanced-requires-clause-loop_is

@@ -1,6 +1,6 @@
 use Rattle.std.proofs.Common.{◌≡◌, length, arith}
 use Rattle.voices.specs.Place.{place}
-use Rattle.voices.proofs.OverLemmas.{place_sounds}
+use Rattle.voices.proofs.OverLaws.{place_sounds}
 use Rattle.voices.proofs.frames.point_at_frame.Goals as goal
 
 pub point_of_place-requires-clause-near : goal.point_of_place-requires-clause-near

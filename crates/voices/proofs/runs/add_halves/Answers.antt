@@ -4,8 +4,8 @@ use Rattle.std.specs.Int.{w16, w32}
 use Rattle.std.proofs.lemmas.Grind.{common_steps}
 use Rattle.voices.specs.Levels.{side}
 use Rattle.voices.specs.Runs.{IsAdded}
-use Rattle.voice_levels.proofs.WriteLemmas.{below_set, after_set}
-use Rattle.voices.proofs.RunLemmas.{added, is_added}
+use Rattle.voice_levels.proofs.WriteLaws.{below_set, after_set}
+use Rattle.voices.proofs.RunLaws.{added, is_added}
 use Rattle.voices.proofs.runs.add_halves.Goals as goal
 
 pub overflow_add-sums-in-loop-k-2 : goal.overflow_add-sums-in-loop-k-2

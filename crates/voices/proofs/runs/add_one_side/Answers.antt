@@ -4,8 +4,8 @@ use Rattle.std.proofs.lemmas.Bool.{cases_lt}
 use Rattle.std.proofs.lemmas.Bool.Decides.{nat_tests}
 use Rattle.std.specs.Int.{w16}
 use Rattle.voices.specs.Runs.{IsAdded}
-use Rattle.voice_levels.proofs.WriteLemmas.{after_set}
-use Rattle.voices.proofs.RunLemmas.{added, is_added, silent_added}
+use Rattle.voice_levels.proofs.WriteLaws.{after_set}
+use Rattle.voices.proofs.RunLaws.{added, is_added, silent_added}
 use Rattle.voices.proofs.runs.add_one_side.Goals as goal
 
 -- what the side gets of frame k, and the other side nothing

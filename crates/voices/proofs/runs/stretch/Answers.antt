@@ -1,5 +1,5 @@
 use Rattle.std.proofs.Common.{arith, sym, ◌∙◌}
-use Rattle.voices.proofs.RunLemmas.{stretch_is, differ, near_is}
+use Rattle.voices.proofs.RunLaws.{stretch_is, differ, near_is}
 use Rattle.voices.proofs.runs.stretch.Goals as goal
 
 pub returns-then-is_looping_at-clause-one_way : goal.returns-then-is_looping_at-clause-one_way

@@ -4,8 +4,8 @@ use Rattle.std.proofs.lemmas.Nat.{mod_below}
 use Rattle.std.specs.Int.{w16, w32, int_wrap}
 use Rattle.std.specs.Int.Signed.{shr_z}
 use Rattle.voices.specs.Points.{between, weighed}
-use Rattle.voice_levels.proofs.LevelLemmas.{shifted_down}
-use Rattle.voices.proofs.SideLemmas.{weighed_is, weighed_within, between_within, by_slope}
+use Rattle.voice_levels.proofs.LevelLaws.{shifted_down}
+use Rattle.voices.proofs.SideLaws.{weighed_is, weighed_within, between_within, by_slope}
 use Rattle.voices.proofs.sampled.interpolated.Goals as goal
 
 -- what was lost of a product is lost of the sum as well, which fits

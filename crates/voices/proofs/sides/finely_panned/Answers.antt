@@ -1,7 +1,7 @@
 use Rattle.std.proofs.Common.{◌≡◌, arith, ◌∙◌, SFits}
 use Rattle.std.proofs.lemmas.Int.{ints}
 use Rattle.std.specs.Int.{w16}
-use Rattle.voices.proofs.FineLemmas.{computed, fine_is}
+use Rattle.voices.proofs.FineLaws.{computed, fine_is}
 use Rattle.voices.proofs.sides.finely_panned.Goals as goal
 
 pub overflow_add-result : goal.overflow_add-result

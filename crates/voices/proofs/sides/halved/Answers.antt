@@ -3,7 +3,7 @@ use Rattle.std.proofs.lemmas.Int.{ints, to_z-of_z}
 use Rattle.std.specs.Int.{w32}
 use Rattle.std.specs.Int.Signed.{shr_z}
 use Rattle.voices.specs.Levels.{side}
-use Rattle.voices.proofs.SideLemmas.{half_side, side_within}
+use Rattle.voices.proofs.SideLaws.{half_side, side_within}
 use Rattle.voices.proofs.sides.halved.Goals as goal
 
 pub returns-clause-value : goal.returns-clause-value

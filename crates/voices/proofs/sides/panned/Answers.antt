@@ -2,7 +2,7 @@ use Rattle.std.proofs.Common.{◌≡◌, arith, SFits}
 use Rattle.std.proofs.lemmas.Int.{ints, to_z-of_z}
 use Rattle.std.specs.Int.{w32}
 use Rattle.voices.specs.Levels.{side}
-use Rattle.voices.proofs.SideLemmas.{side_within}
+use Rattle.voices.proofs.SideLaws.{side_within}
 use Rattle.voices.proofs.sides.panned.Goals as goal
 
 pub returns-clause-low : goal.returns-clause-low

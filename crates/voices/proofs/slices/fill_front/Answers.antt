@@ -3,7 +3,7 @@ use Rattle.std.proofs.lemmas.Grind.{common_steps}
 use Rattle.std.proofs.lemmas.List.{length-drop, take_rest}
 use Rattle.sample_view.specs.Words.{words}
 use Rattle.voices.specs.Runs.{pair_says, straight}
-use Rattle.voices.proofs.SliceLemmas.{run_from, straight_is}
+use Rattle.voices.proofs.SliceLaws.{run_from, straight_is}
 use Rattle.voices.proofs.slices.fill_front.Goals as goal
 
 pub read_straight-requires-clause-near : goal.read_straight-requires-clause-near

@@ -2,7 +2,7 @@ use Rattle.std.proofs.Common.{◌+◌, ◌*◌, ◌%◌, ◌≤◌, length, arit
 use Rattle.std.proofs.lemmas.Nat.{mul-le}
 use Rattle.voices.specs.Place.{place}
 use Rattle.voices.specs.Runs.{IsStretch, pair_says}
-use Rattle.voices.proofs.RunLemmas.{same_part}
+use Rattle.voices.proofs.RunLaws.{same_part}
 use Rattle.voices.proofs.slices.fill_points.Goals as goal
 
 pub fill_pairs-behind-requires-clause-one_way : goal.fill_pairs-behind-requires-clause-one_way

@@ -1,6 +1,6 @@
 use Rattle.std.proofs.Common.{◌+◌, ◌*◌, ◌%◌, arith, ap, ◌∙◌}
 use Rattle.voices.specs.Runs.{pair_says}
-use Rattle.voices.proofs.SliceLemmas.{pair_straight}
+use Rattle.voices.proofs.SliceLaws.{pair_straight}
 use Rattle.voices.proofs.slices.read_straight.Goals as goal
 
 pub returns : goal.returns

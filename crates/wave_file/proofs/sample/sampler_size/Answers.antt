@@ -1,5 +1,5 @@
 use Rattle.std.proofs.Common.{arith}
-use Rattle.wave_file.proofs.SampleLemmas.{length-sampler}
+use Rattle.wave_file.proofs.SampleLaws.{length-sampler}
 use Rattle.wave_file.proofs.sample.sampler_size.Goals as goal
 
 pub returns-clause-value : goal.returns-clause-value

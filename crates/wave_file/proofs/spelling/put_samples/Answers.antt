@@ -1,6 +1,6 @@
 use Rattle.std.proofs.Common.{ap, ◌∙◌, flat_map}
 use Rattle.wave_file.specs.Wave.{sample_bytes}
-use Rattle.wave_file.proofs.PieceLemmas.{putting_piece}
+use Rattle.wave_file.proofs.PieceLaws.{putting_piece}
 use Rattle.wave_file.proofs.spelling.put_samples.Goals as goal
 
 pub loop-rest-preserved : goal.loop-rest-preserved

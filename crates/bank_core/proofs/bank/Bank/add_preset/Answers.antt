@@ -12,4 +12,4 @@ with_owner-totals-requires c =
 pub invariant_of-self-2 : goal.invariant_of-self-2
 invariant_of-self-2 c =
     kept_with c.self.view_is c.self.invariant (owners_grow level.Preset) c.requires.sound (records_of_owner c.args.preset) (totals-added_preset c.args.self.now c.args.number c.args.preset c.requires.place) c.records.ensures
-    (rw c.self.view_is at c.in_ok-insert_preset.ensures.ok) c.with_owner-totals.ensures
+    (rw c.self.view_is at c.in_ok-add_preset.ensures.ok) c.with_owner-totals.ensures

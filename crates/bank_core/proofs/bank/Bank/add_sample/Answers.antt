@@ -8,7 +8,7 @@ with_sample-totals-requires c =
 
 pub invariant_of-self-2 : goal.invariant_of-self-2
 invariant_of-self-2 c =
-    rw (c.in_ok-insert_sample.ensures.ok, c.self.view_is) (
+    rw (c.in_ok-add_sample.ensures.ok, c.self.view_is) (
       c.requires.sound,
       c.with_sample-totals.ensures
           ∙ totals_grown c.args.self.now c.self.inside.totals c.args.number c.args.sample c.len.result (rw c.self.view_is at c.self.invariant.1) c.len.ensures.value c.requires.place,

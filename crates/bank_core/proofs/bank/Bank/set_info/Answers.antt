@@ -4,5 +4,5 @@ use Rattle.bank_core.proofs.bank.Bank.set_info.Goals as goal
 
 pub invariant_of-self : goal.invariant_of-self
 invariant_of-self c =
-    rw (c.replace_text.ensures.change, c.self.view_is)
+    rw (c.set_info.ensures.change, c.self.view_is)
     (c.requires, rw c.self.view_is at c.self.invariant.1 ∙ sym (totals-info c.args.self.now c.args.id c.args.text))

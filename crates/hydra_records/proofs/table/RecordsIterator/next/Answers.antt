@@ -1,5 +1,5 @@
 use Rattle.std.proofs.Common.{◌∙◌, ◌≤◌, ◌<◌, length, ap, sym, arith}
-use Rattle.hydra_records.proofs.TableLemmas.{records-short, records-next}
+use Rattle.hydra_records.proofs.TableLaws.{records-short, records-next}
 use Rattle.hydra_records.proofs.table.RecordsIterator.next.Goals as goal
 
 pub returns-then-rest-SIZE-clause-steps : goal.returns-then-rest-SIZE-clause-steps

@@ -1,6 +1,6 @@
 use Rattle.std.proofs.Common.{◌<◌, ◌/◌, length, ap, sym, arith}
 use Rattle.std.proofs.lemmas.Option.{slice_get_past}
-use Rattle.hydra_records.proofs.TableLemmas.{length-records, slice_get-records, record_within, length-record}
+use Rattle.hydra_records.proofs.TableLaws.{length-records, slice_get-records, record_within, length-record}
 use Rattle.hydra_records.proofs.table.Table.get.Goals as goal
 use Rattle.hydra_records.proofs.table.Table.get.Goals.{After-SIZE}
 

@@ -1,5 +1,5 @@
 use Rattle.std.proofs.Common.{◌/◌, ◌∙◌, ℕ, length, ap, sym}
-use Rattle.hydra_records.proofs.TableLemmas.{length-records}
+use Rattle.hydra_records.proofs.TableLaws.{length-records}
 use Rattle.hydra_records.proofs.table.Table.len.Goals as goal
 
 pub returns : goal.returns

@@ -1,7 +1,7 @@
 use Rattle.std.proofs.Common.{◌≡◌, ◌-◌, ◌/◌, ◌∙◌, length, ap, sym, arith}
 use Rattle.std.proofs.Math.Nat.{mul-mod_left}
 use Rattle.std.specs.Prelude.{min}
-use Rattle.hydra_records.proofs.TableLemmas.{Within, cut_within, length-records, records-part, length-part, range_within}
+use Rattle.hydra_records.proofs.TableLaws.{Within, cut_within, length-records, records-part, length-part, range_within}
 use Rattle.hydra_records.proofs.table.Table.part.Goals as goal
 use Rattle.hydra_records.proofs.table.Table.part.Goals.{After-SIZE}
 

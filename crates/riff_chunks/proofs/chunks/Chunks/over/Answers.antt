@@ -1,4 +1,4 @@
-use Rattle.riff_chunks.proofs.WalkLemmas.{Walks-walk}
+use Rattle.riff_chunks.proofs.WalkLaws.{Walks-walk}
 use Rattle.riff_chunks.proofs.chunks.Chunks.over.Goals as goal
 
 pub returns-clause-walks : goal.returns-clause-walks

@@ -1,5 +1,5 @@
 use Rattle.std.proofs.Common.{◌∙◌, [], sym, arith}
-use Rattle.riff_chunks.proofs.WalkLemmas.{walk-short, walk-cut, walk-next, fewer}
+use Rattle.riff_chunks.proofs.WalkLaws.{walk-short, walk-cut, walk-next, fewer}
 use Rattle.riff_chunks.proofs.chunks.ChunksIterator.next.Goals as goal
 
 pub returns-then-window-lt-HEAD_LENGTH-clause-steps : goal.returns-then-window-lt-HEAD_LENGTH-clause-steps

@@ -1,4 +1,4 @@
-use Rattle.sample_view.proofs.PieceLemmas.{AreWords-joined}
+use Rattle.sample_view.proofs.PieceLaws.{AreWords-joined}
 use Rattle.sample_view.proofs.points.Points.len.Goals as goal
 
 pub returns-clause-fits : goal.returns-clause-fits

@@ -4,8 +4,8 @@ use Rattle.std.specs.Borrow.{Bor}
 use Rattle.std.proofs.lemmas.List.Elements.{All-push, All-nil, All-from_get_or}
 use Rattle.sample_view.specs.Words.{words}
 use Rattle.sample_view.specs.Pieces.{joined, IsPiece}
-use Rattle.sample_view.proofs.WordLemmas.{length-words, words-empty}
-use Rattle.sample_view.proofs.PieceLemmas.{AreWords-joined}
+use Rattle.sample_view.proofs.WordLaws.{length-words, words-empty}
+use Rattle.sample_view.proofs.PieceLaws.{AreWords-joined}
 use Rattle.sample_view.proofs.points.Points.of_slice.Goals as goal
 
 -- a slice of bytes holds bytes

@@ -1,4 +1,4 @@
-use Rattle.sample_view.proofs.PieceLemmas.{joined_bytes_is}
+use Rattle.sample_view.proofs.PieceLaws.{joined_bytes_is}
 use Rattle.sample_view.proofs.points.Points.pieces.Goals as goal
 
 pub returns-clause-bytes : goal.returns-clause-bytes

@@ -1,5 +1,5 @@
-use Rattle.sample_view.proofs.PlaceLemmas.{place-next, run-found}
-use Rattle.sample_view.proofs.RunLemmas.{get_or-run_here}
+use Rattle.sample_view.proofs.PlaceLaws.{place-next, run-found}
+use Rattle.sample_view.proofs.RunLaws.{get_or-run_here}
 use Rattle.sample_view.proofs.points.Points.slice_at.Goals as goal
 
 pub returns-then-place-count-clause-run : goal.returns-then-place-count-clause-run

@@ -2,10 +2,10 @@ use Rattle.std.proofs.Common.{◌≡◌, ap, arith, length}
 use Rattle.generators.specs.declared.level.Level.TheVariants as level
 use Rattle.bank_validity.specs.Limits.{totals_of}
 use Rattle.bank_parts.specs.Valid.{point_total}
-use Rattle.sf_writer.proofs.PointLemmas.{length_all_points}
-use Rattle.sf_writer.proofs.OwnerHeadLemmas.{length_phdr, length_inst}
-use Rattle.sf_writer.proofs.RecordLemmas.{length_shdr}
-use Rattle.sf_writer.proofs.SizeLemmas.{file_size, info_size, sdta_size, pdta_size, zone_sizes}
+use Rattle.sf_writer.proofs.PointLaws.{length_all_points}
+use Rattle.sf_writer.proofs.OwnerHeadLaws.{length_phdr, length_inst}
+use Rattle.sf_writer.proofs.RecordLaws.{length_shdr}
+use Rattle.sf_writer.proofs.SizeLaws.{file_size, info_size, sdta_size, pdta_size, zone_sizes}
 use Rattle.sf_writer.proofs.sizes.Sizes.of.Goals as goal
 
 pub returns : goal.returns

@@ -1,5 +1,5 @@
 use Rattle.std.proofs.Common.{◌-◌}
-use Rattle.voices.proofs.SliceLemmas.{in_hand}
+use Rattle.voices.proofs.SliceLaws.{in_hand}
 use Rattle.voices.proofs.slices.Slice.around.Goals as goal
 
 pub returns-clause-in_hand : goal.returns-clause-in_hand

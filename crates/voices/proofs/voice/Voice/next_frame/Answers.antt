@@ -1,7 +1,7 @@
 use Rattle.std.proofs.Common.{◌≡◌, true, false, pos, sym, subst, ◌∙◌}
 use Rattle.voices.specs.Place.{is_over}
 use Rattle.voices.specs.Sound.{Live, snd}
-use Rattle.voices.proofs.RunLemmas.{over_is_silent}
+use Rattle.voices.proofs.RunLaws.{over_is_silent}
 use Rattle.voices.proofs.voice.Voice.next_frame.Goals as goal
 
 pub returns-then-course-clause-left : goal.returns-then-course-clause-left

@@ -1,0 +1,23 @@
+-- What a slice tells of the points around one.
+use Rattle.std.proofs.Common.{◌≡◌, ℕ, ◌+◌, ◌-◌, ◌*◌, ◌<◌, List, length, get_or, drop, ap, sym, refl, ◌∙◌, arith, get_or-take, get_or-drop}
+use Rattle.sample_view.specs.Words.{words}
+use Rattle.sample_view.specs.Runs.{IsRunAround}
+use Rattle.sample_view.proofs.WordLaws.{length-words, get_or-words}
+
+-- the point at another place of the slice is as far from the first in the list
+pub get_or-run : (points bytes : List ℕ) (index place k : ℕ) → IsRunAround points index bytes place → 2 * k + 1 < length bytes
+    → get_or (words bytes) k 0 ≡ get_or points (index - place + k) 0
+get_or-run points bytes index place k run h =
+    let n = length (words bytes) in
+    let first = index - place in
+    let in_words : k < n = omega (arith, length-words bytes) in
+    ap (λ t. get_or t k 0) run.run ∙ get_or-take n (drop first points) k 0 in_words ∙ get_or-drop first points k 0
+
+-- the point itself is at its place
+pub get_or-run_here : (points bytes : List ℕ) (index place : ℕ) → IsRunAround points index bytes place
+    → get_or points index 0 ≡ get_or bytes (2 * place) 0 + 256 * get_or bytes (2 * place + 1) 0
+get_or-run_here points bytes index place run =
+    let begins = run.begins in
+    let here : index - place + place ≡ index = omega (arith, begins) in
+    sym (get_or-run points bytes index place place run run.inside ∙ ap (λ k. get_or points k 0) here)
+    ∙ get_or-words (2 * place) place bytes refl run.inside
