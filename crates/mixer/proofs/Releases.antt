@@ -51,12 +51,12 @@ frames_most (negsuc a) =
     at (leb 11999 a) refl
 
 of_sample : (n : Numbers) (c : Chosen) (p : VoiceParameters) (o : Option Sample)
-    → Some p ≡ option_map (λ (v : Voice). v.parameters) (option_map (voice_of n c.inner c.outer) o) → p.release ≤ 4480284
+    → Some p ≡ option_map (λ (v : Voice). v.parameters) (option_map (voice_of n c.instrument_zone c.preset_zone) o) → p.release ≤ 4480284
 unfolding voice_of parameters_of
 of_sample n c p None e = absurd cc
 of_sample n c p (Some s) e =
-    let h : p.release ≡ frames_of (moved n c.inner c.outer 38) = cc in
-    subst (λ (k : ℕ). k ≤ 4480284) (sym h) (frames_most (moved n c.inner c.outer 38))
+    let h : p.release ≡ frames_of (moved n c.instrument_zone c.preset_zone 38) = cc in
+    subst (λ (k : ℕ). k ≤ 4480284) (sym h) (frames_most (moved n c.instrument_zone c.preset_zone 38))
 
 of_chosen : (b : Parts) (n : Numbers) (p : VoiceParameters) (o : Option Chosen)
     → Some p ≡ option_map (λ (v : Voice). v.parameters) (option_and_then (chosen_voice b n) o) → p.release ≤ 4480284

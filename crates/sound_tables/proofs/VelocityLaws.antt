@@ -4,7 +4,7 @@ use Rattle.std.specs.List.{position_or_len, range_with_len}
 use Rattle.std.proofs.lemmas.Bool.Decides.{nat_tests}
 use Rattle.std.proofs.lemmas.List.FromFn.{get_or-range_with_len, length-range_with_len}
 use Rattle.std.proofs.lemmas.List.Sums.{position_or_len_is}
-use Rattle.sound_tables.specs.Tables.{gain_at, is_as_quiet, velatt_of, IsVelatt}
+use Rattle.sound_tables.specs.Tables.{gain_at, is_as_quiet, velocity_attenuation_of, IsVelocityAttenuation}
 use Rattle.sound_tables.proofs.GainLaws.{gain_falls, gain_at_end}
 
 -- the bound below has none as quiet before it, the bound above is as quiet
@@ -40,7 +40,7 @@ louder square low middle high h l u q = record {
   least = λ b k. let w = h.within in let f : gain_at middle ≤ gain_at b = gain_falls b middle (omega arith) (omega arith) in omega arith;
 }
 
-pub found : (part low high : ℕ) → IsBetween (part * part * 65536) low high → high ≤ low → IsVelatt part low
+pub found : (part low high : ℕ) → IsBetween (part * part * 65536) low high → high ≤ low → IsVelocityAttenuation part low
 found part low high h u =
     let o = h.ordered in
     let e : high ≡ low = omega arith in
@@ -59,7 +59,7 @@ is_loud part a h = grind (arith, nat_tests)
 is_quiet : (part a : ℕ) → gain_at a * 16129 ≤ part * part * 65536 → is_as_quiet part a ≡ true
 is_quiet part a h = grind (arith, nat_tests)
 
-first_is : (part a : ℕ) → IsVelatt part a → position_or_len (is_as_quiet part) (range_with_len 0 960) ≡ a
+first_is : (part a : ℕ) → IsVelocityAttenuation part a → position_or_len (is_as_quiet part) (range_with_len 0 960) ≡ a
 first_is part a h =
     let w = h.within in
     let n : length (range_with_len 0 960) ≡ 960 = length-range_with_len 0 960 in
@@ -67,6 +67,6 @@ first_is part a h =
     (λ b k. at_number part b (omega (arith, w)) ∙ is_loud part b (h.least b k))
     (λ k. at_number part a (omega (arith, n)) ∙ is_quiet part a h.quiet)
 
-pub velatt_is : (velocity a : ℕ) → IsVelatt (min velocity 127) a → a ≡ velatt_of velocity
-unfolding velatt_of
-velatt_is velocity a h = sym (first_is (min velocity 127) a h)
+pub velocity_attenuation_is : (velocity a : ℕ) → IsVelocityAttenuation (min velocity 127) a → a ≡ velocity_attenuation_of velocity
+unfolding velocity_attenuation_of
+velocity_attenuation_is velocity a h = sym (first_is (min velocity 127) a h)

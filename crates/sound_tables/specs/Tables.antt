@@ -48,11 +48,11 @@ abbrev pub is_as_quiet : ℕ → ℕ → Bool
 is_as_quiet velocity a = nat_le (gain_at a * (127 * 127)) (velocity * velocity * 65536)
 
 -- the least attenuation that is as quiet as a velocity
-unfoldable pub velatt_of : ℕ → ℕ
-velatt_of velocity = position_or_len (is_as_quiet (min velocity 127)) (range_with_len 0 960)
+unfoldable pub velocity_attenuation_of : ℕ → ℕ
+velocity_attenuation_of velocity = position_or_len (is_as_quiet (min velocity 127)) (range_with_len 0 960)
 
 -- that it is so
-pub record IsVelatt (velocity a : ℕ) : Type 0 where
+pub record IsVelocityAttenuation (velocity a : ℕ) : Type 0 where
   pub within : a ≤ 960
   pub quiet : IsAsQuiet velocity a
   pub least : (b : ℕ) → b < a → velocity * velocity * 65536 < gain_at b * (127 * 127)

@@ -1,6 +1,6 @@
 //! What attenuations leave of the loudness, and the attenuations that velocities stand for.
 ghost use Rattle.std.specs.Prelude.{◌≡◌, ◌≤◌, min};
-ghost use Rattle.sound_tables.specs.Tables.{gain_of, velatt_of, IsVelatt};
+ghost use Rattle.sound_tables.specs.Tables.{gain_of, velocity_attenuation_of, IsVelocityAttenuation};
 
 use crate::ratios::ratio_at;
 
@@ -23,10 +23,10 @@ pub fn gain(attenuation: i64) -> u32
 
 /// The attenuation of a velocity in centibels, up to 960: the least one at which the gain is at most
 /// the square of the velocity, taken as a part of 127. A velocity above 127 counts as 127.
-#[tactic(auto, using(crate::proofs::VelocityLaws::all_between, crate::proofs::VelocityLaws::quieter, crate::proofs::VelocityLaws::louder, crate::proofs::VelocityLaws::found, crate::proofs::VelocityLaws::velatt_is))]
+#[tactic(auto, using(crate::proofs::VelocityLaws::all_between, crate::proofs::VelocityLaws::quieter, crate::proofs::VelocityLaws::louder, crate::proofs::VelocityLaws::found, crate::proofs::VelocityLaws::velocity_attenuation_is))]
 pub fn velocity_attenuation(velocity: u8) -> u32
-    ensures value { result ≡ velatt_of velocity }
-    ensures least { IsVelatt (min velocity 127) result }
+    ensures value { result ≡ velocity_attenuation_of velocity }
+    ensures least { IsVelocityAttenuation (min velocity 127) result }
 {
     let part = u32::from(velocity.min(127));
     let square = part * part * 65536;

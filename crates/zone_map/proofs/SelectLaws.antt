@@ -17,7 +17,7 @@ use Rattle.bank_changes.specs.Members.{target_of}
 use Rattle.zone_select.specs.Ranges.{holds}
 use Rattle.zone_select.specs.Taken.{Taken, taken}
 use Rattle.zone_select.specs.Select.{is_called}
-use Rattle.zone_select.specs.Pairs.{holds_at, chosen_by, preset_chosen, zone_chosen, inner_chosen, zone_held}
+use Rattle.zone_select.specs.Pairs.{holds_at, chosen_by, preset_chosen, zone_chosen, instrument_zone_chosen, zone_held}
 use Rattle.zone_select.specs.Left.{zones_in, owner_holds}
 use Rattle.zone_select.proofs.PlayedLaws.{pairs_are_chosen}
 use Rattle.zone_map.specs.declared.rectangle.Area.{Area}
@@ -229,12 +229,12 @@ module _ (b : Parts) (n : Numbers) where
     | Some z ↦ elim (holds n global z) as (λ t. is_some (cond t (Some z) None) ≡ t) [ true ↦ refl | false ↦ refl ]
   ]
 
-  inner_is : (u : Taken) (l : ℕ) (i : WithZones (List ℕ)) → is_some (inner_chosen n u l i) ≡ holds_at n i.global i.zones l
+  inner_is : (u : Taken) (l : ℕ) (i : WithZones (List ℕ)) → is_some (instrument_zone_chosen n u l i) ≡ holds_at n i.global i.zones l
   inner_is u l i = mapped _ (zone_held n i.global i.zones l) ∙ held_is i.global i.zones l
 
   -- the zone of the instrument is chosen where it is there and holds the note
   zone_is : (global : GlobalZone) (l : ℕ) (z : Zone) → is_some (zone_chosen b n global l z) ≡ owner_holds b n (owner.Instrument z.target) l
-  zone_is global l z = elim (slice_get b.instruments z.target) as (λ (o : Option (WithZones (List ℕ))). is_some (option_and_then (inner_chosen n (taken global z) l) o) ≡ option_map_or (λ (i : WithZones (List ℕ)). holds_at n i.global i.zones l) o false) [
+  zone_is global l z = elim (slice_get b.instruments z.target) as (λ (o : Option (WithZones (List ℕ))). is_some (option_and_then (instrument_zone_chosen n (taken global z) l) o) ≡ option_map_or (λ (i : WithZones (List ℕ)). holds_at n i.global i.zones l) o false) [
     | None ↦ refl
     | Some i ↦ inner_is (taken global z) l i
   ]

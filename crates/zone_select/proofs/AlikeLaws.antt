@@ -23,7 +23,7 @@ use Rattle.zone_select.specs.Taken.{Taken}
 use Rattle.zone_select.specs.Select.{voice_of, voices_of, sample_voices, instrument_voices, number_voices, preset_voices, is_called, selected}
 use Rattle.zone_select.specs.Alike.{AreAlike}
 use Rattle.zone_select.proofs.Matched.{Matched, MatchedOption, matched-get, matched-find, matched-or, matched-map, matched-same, matched-changed, matched-option_same}
-use Rattle.zone_select.proofs.ZoneVoices.{Inner, voices_of-renumbered, voices_of-same}
+use Rattle.zone_select.proofs.ZoneVoices.{Inside, voices_of-renumbered, voices_of-same}
 
 abbrev Instrument : Type 0
 Instrument = WithZones (List ℕ)
@@ -122,7 +122,7 @@ OfOwner b (owner.Preset k) P = (x : Preset) → slice_get b.presets k ≡ Some x
 OfOwner b (owner.Instrument k) P = (x : Instrument) → slice_get b.instruments k ≡ Some x → P x.global x.zones
 
 pub owner_changed-alike : (b : Parts) (o : Owner) (f : GlobalZone → List Zone → List Zone)
-    → OfOwner b o (λ global zones. (inner : Inner) (n : Numbers) → IsPermutation (voices_of inner n global zones) (voices_of inner n global (f global zones)))
+    → OfOwner b o (λ global zones. (inside : Inside) (n : Numbers) → IsPermutation (voices_of inside n global zones) (voices_of inside n global (f global zones)))
     → AreAlike b (owner_changed b o f)
 unfolding preset_voices number_voices instrument_voices sample_voices
 owner_changed-alike b (owner.Preset k) f h =

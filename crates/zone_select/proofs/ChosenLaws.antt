@@ -15,7 +15,7 @@ use Rattle.bank_changes.specs.declared.members.Owner.TheVariants as owner
 use Rattle.zone_select.specs.Ranges.{holds}
 use Rattle.zone_select.specs.Taken.{Taken, taken, setting}
 use Rattle.zone_select.specs.Select.{is_called}
-use Rattle.zone_select.specs.Pairs.{Chosen, inner_chosen, preset_chosen, chosen_by}
+use Rattle.zone_select.specs.Pairs.{Chosen, instrument_zone_chosen, preset_chosen, chosen_by}
 use Rattle.zone_select.specs.At.{taken_at, target_held, chosen_at}
 
 -- what is taken of a zone, if it is there
@@ -39,25 +39,25 @@ unfolding taken setting
 taken_there owners i k x z e f = ap (taken_by k) e ∙ ap (taken_with x.global) f
 
 -- by a zone of an instrument
-abbrev inner_of : Parts → Taken → ℕ → ℕ → ℕ → Chosen
-inner_of b u i l s = record { inner = taken_at b (owner.Instrument i) l; outer = u; sample = s }
+abbrev chosen_inside : Parts → Taken → ℕ → ℕ → ℕ → Chosen
+chosen_inside b u i l s = record { instrument_zone = taken_at b (owner.Instrument i) l; preset_zone = u; sample = s }
 
 inside : (b : Parts) (n : Numbers) (u : Taken) (i l : ℕ) (o : Option (WithZones (List ℕ))) → slice_get b.instruments i ≡ o
-    → option_and_then (inner_chosen n u l) o ≡ option_map (inner_of b u i l) (target_held b n (owner.Instrument i) l)
+    → option_and_then (instrument_zone_chosen n u l) o ≡ option_map (chosen_inside b u i l) (target_held b n (owner.Instrument i) l)
 inside b n u i l None e = rw e refl
 inside b n u i l (Some x) e = zone (slice_get x.zones l) refl
   where
-    zone : (z : Option Zone) → slice_get x.zones l ≡ z → option_and_then (inner_chosen n u l) (Some x) ≡ option_map (inner_of b u i l) (target_held b n (owner.Instrument i) l)
+    zone : (z : Option Zone) → slice_get x.zones l ≡ z → option_and_then (instrument_zone_chosen n u l) (Some x) ≡ option_map (chosen_inside b u i l) (target_held b n (owner.Instrument i) l)
     zone None f = rw (e, f) refl
     zone (Some z) f = held (holds n x.global z) refl
       where
-        held : (t : Bool) → holds n x.global z ≡ t → option_and_then (inner_chosen n u l) (Some x) ≡ option_map (inner_of b u i l) (target_held b n (owner.Instrument i) l)
-        held true h = rw (e, f, h) (ap (λ (t : Taken). let r : Chosen = record { inner = t; outer = u; sample = z.target } in Some r) (sym (taken_there b.instruments i l x z e f)))
+        held : (t : Bool) → holds n x.global z ≡ t → option_and_then (instrument_zone_chosen n u l) (Some x) ≡ option_map (chosen_inside b u i l) (target_held b n (owner.Instrument i) l)
+        held true h = rw (e, f, h) (ap (λ (t : Taken). let r : Chosen = record { instrument_zone = t; preset_zone = u; sample = z.target } in Some r) (sym (taken_there b.instruments i l x z e f)))
         held false h = rw (e, f, h) refl
 
 -- by a zone of a preset, whose target is an instrument
 abbrev through : Parts → Numbers → ℕ → ℕ × ℕ → ℕ → Option Chosen
-through b n p q i = option_and_then (inner_chosen n (taken_at b (owner.Preset p) q.0) q.1) (slice_get b.instruments i)
+through b n p q i = option_and_then (instrument_zone_chosen n (taken_at b (owner.Preset p) q.0) q.1) (slice_get b.instruments i)
 
 outside : (b : Parts) (n : Numbers) (p : ℕ) (q : ℕ × ℕ) (o : Option (WithZones Head)) → slice_get b.presets p ≡ o
     → option_and_then (preset_chosen b n q) o ≡ option_and_then (through b n p q) (target_held b n (owner.Preset p) q.0)
@@ -69,12 +69,12 @@ outside b n p q (Some x) e = zone (slice_get x.zones q.0) refl
     zone (Some z) f = held (holds n x.global z) refl
       where
         held : (t : Bool) → holds n x.global z ≡ t → option_and_then (preset_chosen b n q) (Some x) ≡ option_and_then (through b n p q) (target_held b n (owner.Preset p) q.0)
-        held true h = rw (e, f, h) (ap (λ (t : Taken). option_and_then (inner_chosen n t q.1) (slice_get b.instruments z.target)) (sym (taken_there b.presets p q.0 x z e f)))
+        held true h = rw (e, f, h) (ap (λ (t : Taken). option_and_then (instrument_zone_chosen n t q.1) (slice_get b.instruments z.target)) (sym (taken_there b.presets p q.0 x z e f)))
         held false h = rw (e, f, h) refl
 
 -- by the numbers of all four
 abbrev numbered : Parts → ℕ → ℕ × ℕ → ℕ → ℕ → Chosen
-numbered b p q i s = chosen_at b (record { zones = record { preset = p; outer = q.0; instrument = i; inner = q.1 }; sample = s })
+numbered b p q i s = chosen_at b (record { zones = record { preset = p; preset_zone = q.0; instrument = i; instrument_zone = q.1 }; sample = s })
 
 by_preset : (b : Parts) (n : Numbers) (p : ℕ) (q : ℕ × ℕ) → find (is_called n) b.presets ≡ slice_get b.presets p
     → chosen_by b n q ≡ option_and_then (through b n p q) (target_held b n (owner.Preset p) q.0)

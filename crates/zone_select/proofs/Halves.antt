@@ -78,13 +78,13 @@ halves-hold n global z Velocity m h small =
     (halved_second (within w n.velocity) (within lower n.velocity) (within upper n.velocity) (within (range_of Key global z) n.key) (halved w m n.velocity h.above h.within small))
 
 -- what the zone's target gives, the one half gives and the other doesn't
-pub halves-give : (inner : Taken → ℕ → List Voice) (n : Numbers) (global : GlobalZone) (z : Zone) (axis : Axis) (m : ℕ)
+pub halves-give : (inside : Taken → ℕ → List Voice) (n : Numbers) (global : GlobalZone) (z : Zone) (axis : Axis) (m : ℕ)
     → IsSplitAt axis m global z → m < 256
-    → (let give : Zone → List Voice = λ y. cond (holds n global y) (inner (taken global y) y.target) [] in give z ≡ give (lower_part axis m global z) ++ give (upper_part axis m global z))
-halves-give inner n global z axis m h small =
+    → (let give : Zone → List Voice = λ y. cond (holds n global y) (inside (taken global y) y.target) [] in give z ≡ give (lower_part axis m global z) ++ give (upper_part axis m global z))
+halves-give inside n global z axis m h small =
     let lower : Zone = lower_part axis m global z in
     let upper : Zone = upper_part axis m global z in
     let w : ℕ = range_of axis global z in
-    chosen (holds n global z) (holds n global lower) (holds n global upper) (inner (taken global z) z.target) (halves-hold n global z axis m h small)
-    ∙ (λ i. cond (holds n global lower) (inner (taken-with global z axis (range_from (low_end w) (m - 1)) i) z.target) []
-    ++ cond (holds n global upper) (inner (taken-with global z axis (range_from m (high_end w)) i) z.target) [])
+    chosen (holds n global z) (holds n global lower) (holds n global upper) (inside (taken global z) z.target) (halves-hold n global z axis m h small)
+    ∙ (λ i. cond (holds n global lower) (inside (taken-with global z axis (range_from (low_end w) (m - 1)) i) z.target) []
+    ++ cond (holds n global upper) (inside (taken-with global z axis (range_from m (high_end w)) i) z.target) [])

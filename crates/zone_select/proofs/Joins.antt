@@ -99,11 +99,11 @@ joined_holds n global y z Velocity keep h =
     (λ i. let r : ℕ × ℕ = (sym e i, same_other Velocity keep global y z h Key (omega arith) i) in r)
     (halved_second (within (range_of Velocity global x) n.velocity) (within (range_of Velocity global y) n.velocity) (within (range_of Velocity global z) n.velocity) (within (range_of Key global y) n.key) (axis_halved Velocity keep global y z h n.velocity))
 
-pub joined_gives : (inner : Taken → ℕ → List Voice) (n : Numbers) (global : GlobalZone) (y z : Zone) (axis : Axis) (keep : Keep)
+pub joined_gives : (inside : Taken → ℕ → List Voice) (n : Numbers) (global : GlobalZone) (y z : Zone) (axis : Axis) (keep : Keep)
     → AreJoinedInOrder axis keep global y z
-    → (let give : Zone → List Voice = λ x. cond (holds n global x) (inner (taken global x) x.target) [] in give (joined axis keep y z) ≡ give y ++ give z)
-joined_gives inner n global y z axis keep h =
+    → (let give : Zone → List Voice = λ x. cond (holds n global x) (inside (taken global x) x.target) [] in give (joined axis keep y z) ≡ give y ++ give z)
+joined_gives inside n global y z axis keep h =
     let x : Zone = joined axis keep y z in
-    (λ i. cond (holds n global x) (inner (sym (taken_of_joined global y z axis keep) i) (sym (target_of_joined y z axis keep) i)) [])
-    ∙ chosen (holds n global x) (holds n global y) (holds n global z) (inner (taken global y) y.target) (joined_holds n global y z axis keep h)
-    ∙ (λ i. cond (holds n global y) (inner (taken global y) y.target) [] ++ cond (holds n global z) (inner (same_taken axis keep global y z h i) (same_target axis keep global y z h i)) [])
+    (λ i. cond (holds n global x) (inside (sym (taken_of_joined global y z axis keep) i) (sym (target_of_joined y z axis keep) i)) [])
+    ∙ chosen (holds n global x) (holds n global y) (holds n global z) (inside (taken global y) y.target) (joined_holds n global y z axis keep h)
+    ∙ (λ i. cond (holds n global y) (inside (taken global y) y.target) [] ++ cond (holds n global z) (inside (same_taken axis keep global y z h i) (same_target axis keep global y z h i)) [])

@@ -110,8 +110,8 @@ instrument_removed_alike b i h =
 -- ---- zones
 
 pub zone_moved_alike : ZoneMovedAlike
-zone_moved_alike b (owner.Preset p) i j = owner_changed-alike b (owner.Preset p) (λ global zones. moved zones i j) (λ x e inner n. voices_of-moved inner n x.global x.zones i j)
-zone_moved_alike b (owner.Instrument k) i j = owner_changed-alike b (owner.Instrument k) (λ global zones. moved zones i j) (λ x e inner n. voices_of-moved inner n x.global x.zones i j)
+zone_moved_alike b (owner.Preset p) i j = owner_changed-alike b (owner.Preset p) (λ global zones. moved zones i j) (λ x e inside n. voices_of-moved inside n x.global x.zones i j)
+zone_moved_alike b (owner.Instrument k) i j = owner_changed-alike b (owner.Instrument k) (λ global zones. moved zones i j) (λ x e inside n. voices_of-moved inside n x.global x.zones i j)
 
 can_split_there : {H : Type 0} (owners : List (WithZones H)) (i k : ℕ) (axis : Axis) (m : ℕ) (x : WithZones H)
     → splits_at axis m owners i k ≡ true → slice_get owners i ≡ Some x → CanSplit axis m x.global x.zones k
@@ -120,10 +120,10 @@ can_split_there owners i k axis m x h e z f = split_at axis m x.global z (sym (t
 pub zone_split_alike : ZoneSplitAlike
 zone_split_alike b (owner.Preset p) k axis m small h =
     owner_changed-alike b (owner.Preset p) (λ global zones. zones_split axis m global zones k)
-    (λ x e inner n. voices_of-split inner n axis m x.global x.zones k small (can_split_there b.presets p k axis m x h e))
+    (λ x e inside n. voices_of-split inside n axis m x.global x.zones k small (can_split_there b.presets p k axis m x h e))
 zone_split_alike b (owner.Instrument i) k axis m small h =
     owner_changed-alike b (owner.Instrument i) (λ global zones. zones_split axis m global zones k)
-    (λ x e inner n. voices_of-split inner n axis m x.global x.zones k small (can_split_there b.instruments i k axis m x h e))
+    (λ x e inside n. voices_of-split inside n axis m x.global x.zones k small (can_split_there b.instruments i k axis m x h e))
 
 -- the own range of a valid zone, where it has one, is in order
 rises : (at : Level) (axis : Axis) (z : Zone) (w : ℕ) → AreGenerators at z.gens → own_range axis z ≡ Some w
@@ -144,11 +144,11 @@ can_join_there name_of at targets owners i k axis keep x v h e y z f g =
 pub zone_joined_alike : ZoneJoinedAlike
 zone_joined_alike b (owner.Preset p) k axis keep v h =
     owner_changed-alike b (owner.Preset p) (λ global zones. zones_joined axis keep zones k)
-    (λ x e inner n. voices_of-joined inner n axis keep x.global x.zones k
+    (λ x e inside n. voices_of-joined inside n axis keep x.global x.zones k
     (can_join_there (λ (h : Head). h.name) level.Preset (length b.instruments) b.presets p k axis keep x (all_found (IsPreset (length b.instruments)) b.presets p x e v.presets) h e))
 zone_joined_alike b (owner.Instrument i) k axis keep v h =
     owner_changed-alike b (owner.Instrument i) (λ global zones. zones_joined axis keep zones k)
-    (λ x e inner n. voices_of-joined inner n axis keep x.global x.zones k
+    (λ x e inside n. voices_of-joined inside n axis keep x.global x.zones k
     (can_join_there (λ name. name) level.Instrument (length b.samples) b.instruments i k axis keep x (all_found (IsInstrument (length b.samples)) b.instruments i x e v.instruments) h e))
 
 -- ---- texts

@@ -13,7 +13,7 @@ use Rattle.bank_parts.specs.declared.parts.Parts.{Parts}
 use Rattle.zone_select.specs.Ranges.{holds}
 use Rattle.zone_select.specs.Taken.{Taken, taken}
 use Rattle.zone_select.specs.Select.{Voice, voice_of, voices_of, sample_voices, instrument_voices, number_voices, preset_voices, is_called, selected}
-use Rattle.zone_select.specs.Pairs.{holds_at, held, held_inside, pairs_at, pairs, Chosen, zone_held, inner_chosen, zone_chosen, preset_chosen, chosen_by, chosen_voice, voice_by, listed}
+use Rattle.zone_select.specs.Pairs.{holds_at, held, held_inside, pairs_at, pairs, Chosen, zone_held, instrument_zone_chosen, zone_chosen, preset_chosen, chosen_by, chosen_voice, voice_by, listed}
 use Rattle.zone_select.proofs.NumberLaws.{by_number, flat_map-flat_map}
 
 -- the voices of a pair
@@ -33,23 +33,23 @@ held_by_number g h n global zones e =
 is_held : (n : Numbers) (global : GlobalZone) (zones : List Zone) (k : ℕ) (z : Zone) → slice_get zones k ≡ Some z → holds n global z ≡ true → zone_held n global zones k ≡ Some z
 is_held n global zones k z e p = rw (e, p) refl
 
-sample_is : (b : Parts) (n : Numbers) (u v : Taken) (number : ℕ) → of_chosen b n (Some (record { inner = v; outer = u; sample = number })) ≡ sample_voices b n u v number
+sample_is : (b : Parts) (n : Numbers) (u v : Taken) (number : ℕ) → of_chosen b n (Some (record { instrument_zone = v; preset_zone = u; sample = number })) ≡ sample_voices b n u v number
 unfolding sample_voices
 sample_is b n u v number =
     elim (slice_get b.samples number) as (λ (o : Option Sample). listed (option_map (voice_of n v u) o) ≡ option_map_or (λ (s : Sample). voice_of n v u s ∷ []) o []) [ None ↦ refl | Some s ↦ refl ]
 
-instrument_is : (b : Parts) (n : Numbers) (u : Taken) (i : WithZones (List ℕ)) → flat_map (λ l. of_chosen b n (inner_chosen n u l i)) (held n i.global i.zones 0) ≡ instrument_voices b n u i
+instrument_is : (b : Parts) (n : Numbers) (u : Taken) (i : WithZones (List ℕ)) → flat_map (λ l. of_chosen b n (instrument_zone_chosen n u l i)) (held n i.global i.zones 0) ≡ instrument_voices b n u i
 unfolding instrument_voices voices_of
 instrument_is b n u i =
-    held_by_number (λ l. of_chosen b n (inner_chosen n u l i)) (λ (y : Zone). sample_voices b n u (taken i.global y) y.target) n i.global i.zones
-    (λ l y e p. ap (λ (o : Option Zone). of_chosen b n (option_map (λ (y : Zone). record { inner = taken i.global y; outer = u; sample = y.target }) o)) (is_held n i.global i.zones l y e p)
+    held_by_number (λ l. of_chosen b n (instrument_zone_chosen n u l i)) (λ (y : Zone). sample_voices b n u (taken i.global y) y.target) n i.global i.zones
+    (λ l y e p. ap (λ (o : Option Zone). of_chosen b n (option_map (λ (y : Zone). record { instrument_zone = taken i.global y; preset_zone = u; sample = y.target }) o)) (is_held n i.global i.zones l y e p)
     ∙ sample_is b n u (taken i.global y) y.target)
 
 zone_is : (b : Parts) (n : Numbers) (global : GlobalZone) (z : Zone) → flat_map (λ l. of_chosen b n (zone_chosen b n global l z)) (held_inside b n z.target 0) ≡ number_voices b n (taken global z) z.target
 unfolding number_voices
 zone_is b n global z =
     let u : Taken = taken global z in
-    elim (slice_get b.instruments z.target) as (λ (o : Option (WithZones (List ℕ))). flat_map (λ l. of_chosen b n (option_and_then (inner_chosen n u l) o)) (option_map_or (λ (i : WithZones (List ℕ)). held n i.global i.zones 0) o []) ≡ option_map_or (instrument_voices b n u) o []) [
+    elim (slice_get b.instruments z.target) as (λ (o : Option (WithZones (List ℕ))). flat_map (λ l. of_chosen b n (option_and_then (instrument_zone_chosen n u l) o)) (option_map_or (λ (i : WithZones (List ℕ)). held n i.global i.zones 0) o []) ≡ option_map_or (instrument_voices b n u) o []) [
       | None ↦ refl
       | Some i ↦ instrument_is b n u i
     ]

@@ -16,7 +16,7 @@ use Rattle.bank_changes.proofs.Changes.{all_found}
 use Rattle.zone_select.specs.Ranges.{holds}
 use Rattle.zone_select.specs.Taken.{Taken, taken}
 use Rattle.zone_select.specs.Select.{is_called}
-use Rattle.zone_select.specs.Pairs.{holds_at, held, held_inside, pairs_at, pairs, Chosen, zone_held, inner_chosen, zone_chosen, preset_chosen, chosen_by, chosen_voice}
+use Rattle.zone_select.specs.Pairs.{holds_at, held, held_inside, pairs_at, pairs, Chosen, zone_held, instrument_zone_chosen, zone_chosen, preset_chosen, chosen_by, chosen_voice}
 use Rattle.zone_select.specs.Played.{PairsAreChosen, PairsHaveVoices}
 use Rattle.zone_select.proofs.Listed.{IsIn, in_of_contains, contains_of_in, in_filter, filter_in, in_row, in_flat_map, flat_map_in, in_map, map_in}
 
@@ -73,28 +73,28 @@ module _ (n : Numbers) (global : GlobalZone) (zones : List Zone) (k : ℕ) where
 -- ---- zones of an instrument
 
 module _ (n : Numbers) (u : Taken) (l : ℕ) (i : WithZones (List ℕ)) where
-  inner_some : IsIn l (held n i.global i.zones 0) → IsSome (inner_chosen n u l i)
-  inner_some h = let z = in_held n i.global i.zones l h in let e = is_held n i.global i.zones l z in rw e refl
+  some_inside : IsIn l (held n i.global i.zones 0) → IsSome (instrument_zone_chosen n u l i)
+  some_inside h = let z = in_held n i.global i.zones l h in let e = is_held n i.global i.zones l z in rw e refl
 
-  inner_in : IsSome (inner_chosen n u l i) → IsIn l (held n i.global i.zones 0)
-  inner_in = from (zone_held n i.global i.zones l) refl
+  found_inside : IsSome (instrument_zone_chosen n u l i) → IsIn l (held n i.global i.zones 0)
+  found_inside = from (zone_held n i.global i.zones l) refl
     where
-      from : (o : Option Zone) → zone_held n i.global i.zones l ≡ o → IsSome (option_map (λ (y : Zone). let c : Chosen = record { inner = taken i.global y; outer = u; sample = y.target } in c) o) → IsIn l (held n i.global i.zones 0)
+      from : (o : Option Zone) → zone_held n i.global i.zones l ≡ o → IsSome (option_map (λ (y : Zone). let c : Chosen = record { instrument_zone = taken i.global y; preset_zone = u; sample = y.target } in c) o) → IsIn l (held n i.global i.zones 0)
       from None e h = absurd (true≢false (sym h))
       from (Some z) e h = held_in n i.global i.zones l (held_some n i.global i.zones l (ap is_some e))
 
 -- those of the instrument of a preset's zone
 module _ (b : Parts) (n : Numbers) (global : GlobalZone) (l : ℕ) (z : Zone) where
   zone_some : IsIn l (held_inside b n z.target 0) → IsSome (zone_chosen b n global l z)
-  zone_some = elim (slice_get b.instruments z.target) as (λ (o : Option (WithZones (List ℕ))). IsIn l (option_map_or (λ (i : WithZones (List ℕ)). held n i.global i.zones 0) o []) → IsSome (option_and_then (inner_chosen n (taken global z) l) o)) [
+  zone_some = elim (slice_get b.instruments z.target) as (λ (o : Option (WithZones (List ℕ))). IsIn l (option_map_or (λ (i : WithZones (List ℕ)). held n i.global i.zones 0) o []) → IsSome (option_and_then (instrument_zone_chosen n (taken global z) l) o)) [
     | None ↦ λ h. absurd h
-    | Some i ↦ inner_some n (taken global z) l i
+    | Some i ↦ some_inside n (taken global z) l i
   ]
 
   zone_in : IsSome (zone_chosen b n global l z) → IsIn l (held_inside b n z.target 0)
-  zone_in = elim (slice_get b.instruments z.target) as (λ (o : Option (WithZones (List ℕ))). IsSome (option_and_then (inner_chosen n (taken global z) l) o) → IsIn l (option_map_or (λ (i : WithZones (List ℕ)). held n i.global i.zones 0) o [])) [
+  zone_in = elim (slice_get b.instruments z.target) as (λ (o : Option (WithZones (List ℕ))). IsSome (option_and_then (instrument_zone_chosen n (taken global z) l) o) → IsIn l (option_map_or (λ (i : WithZones (List ℕ)). held n i.global i.zones 0) o [])) [
     | None ↦ λ h. absurd (true≢false (sym h))
-    | Some i ↦ inner_in n (taken global z) l i
+    | Some i ↦ found_inside n (taken global z) l i
   ]
 
 -- ---- the pairs of a preset
@@ -155,11 +155,11 @@ module _ (b : Parts) (n : Numbers) (v : IsValid b) where
   abbrev Named : Option Chosen → Type 0
   Named o = (c : Chosen) → o ≡ Some c → c.sample < length b.samples
 
-  inner_named : (u : Taken) (l j : ℕ) (i : WithZones (List ℕ)) → slice_get b.instruments j ≡ Some i
-      → Named (inner_chosen n u l i)
-  inner_named u l j i e = from (zone_held n i.global i.zones l) refl
+  named_inside : (u : Taken) (l j : ℕ) (i : WithZones (List ℕ)) → slice_get b.instruments j ≡ Some i
+      → Named (instrument_zone_chosen n u l i)
+  named_inside u l j i e = from (zone_held n i.global i.zones l) refl
     where
-      from : (o : Option Zone) → zone_held n i.global i.zones l ≡ o → Named (option_map (λ (y : Zone). let c : Chosen = record { inner = taken i.global y; outer = u; sample = y.target } in c) o)
+      from : (o : Option Zone) → zone_held n i.global i.zones l ≡ o → Named (option_map (λ (y : Zone). let c : Chosen = record { instrument_zone = taken i.global y; preset_zone = u; sample = y.target } in c) o)
       from None f c h = cc
       from (Some y) f c h =
           let at = held_zone n i.global i.zones l y f in
@@ -172,9 +172,9 @@ module _ (b : Parts) (n : Numbers) (v : IsValid b) where
   zone_named global l z = from (slice_get b.instruments z.target) refl
     where
       from : (o : Option (WithZones (List ℕ))) → slice_get b.instruments z.target ≡ o
-          → Named (option_and_then (inner_chosen n (taken global z) l) o)
+          → Named (option_and_then (instrument_zone_chosen n (taken global z) l) o)
       from None e c h = cc
-      from (Some i) e c h = inner_named (taken global z) l z.target i e c h
+      from (Some i) e c h = named_inside (taken global z) l z.target i e c h
 
   preset_named : (q : ℕ × ℕ) (p : WithZones Head) → Named (preset_chosen b n q p)
   preset_named q p = elim (zone_held n p.global p.zones q.0) as (λ (o : Option Zone). Named (option_and_then (zone_chosen b n p.global q.1) o)) [

@@ -136,11 +136,11 @@ unfolding voice_of
 voices_playable b n q =
     elim (chosen_by b n q) as (λ (o : Option Chosen). IfSome (option_and_then (chosen_voice b n) o) (λ v. IsPlayable (length v.points) v.parameters)) [
       | None ↦ tt
-      | Some c ↦ elim (slice_get b.samples c.sample) as (λ (o : Option Sample). IfSome (option_map (voice_of n c.inner c.outer) o) (λ v. IsPlayable (length v.points) v.parameters)) [ None ↦ tt | Some s ↦ playable n c.inner c.outer s ]
+      | Some c ↦ elim (slice_get b.samples c.sample) as (λ (o : Option Sample). IfSome (option_map (voice_of n c.instrument_zone c.preset_zone) o) (λ v. IsPlayable (length v.points) v.parameters)) [ None ↦ tt | Some s ↦ playable n c.instrument_zone c.preset_zone s ]
     ]
 
 pub parameters_by : (b : Parts) (n : Numbers) (q : ℕ × ℕ) (c : Chosen) (s : Sample) → chosen_by b n q ≡ Some c → slice_get b.samples c.sample ≡ Some s
-    → Some (parameters_of n c.inner c.outer s) ≡ option_map (λ v. v.parameters) (voice_by b n q)
+    → Some (parameters_of n c.instrument_zone c.preset_zone s) ≡ option_map (λ v. v.parameters) (voice_by b n q)
 unfolding voice_of
 parameters_by b n q c s e f = rw (e, f) refl
 

@@ -11,7 +11,7 @@ use Rattle.modulators.specs.declared.modulator.Modulator.{Modulator}
 use Rattle.modulators.specs.Modulators.{same_identity, default_velocity}
 use Rattle.modulators.specs.Linear.{linear_value}
 use Rattle.sound_tables.specs.Floor.{floor_div, floor_mod, above_zero}
-use Rattle.sound_tables.specs.Tables.{frames_of, velatt_of, step_of}
+use Rattle.sound_tables.specs.Tables.{frames_of, velocity_attenuation_of, step_of}
 use Rattle.note_list.specs.Notes.{Numbers}
 use Rattle.bank_parts.specs.declared.parts.Sample.{Sample}
 use Rattle.zone_select.specs.declared.parameters.VoiceParameters.{VoiceParameters}
@@ -105,7 +105,7 @@ cents_of n v u s =
 
 -- the generator's, and that of the velocity by its default modulator
 abbrev pub attenuation_of : Numbers → Taken → Taken → ℤ
-attenuation_of n v u = moved n v u 48 +ℤ floor_div (modulator_amount default_velocity v u (pos 960) *ℤ pos (velatt_of (velocity_of n v u))) 960
+attenuation_of n v u = moved n v u 48 +ℤ floor_div (modulator_amount default_velocity v u (pos 960) *ℤ pos (velocity_attenuation_of (velocity_of n v u))) 960
 
 abbrev pub start_of : Taken → Taken → Sample → ℕ
 start_of v u s = cut 0 (length s.points) (offset v u 0 4)

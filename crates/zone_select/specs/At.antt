@@ -28,11 +28,11 @@ taken_at b o k = record {
   inherited = mods_at b o place.Global;
 }
 
-abbrev pub inner_at : Parts → PairAt → Taken
-inner_at b at = taken_at b (owner.Instrument at.instrument) at.inner
+abbrev pub instrument_zone_at : Parts → PairAt → Taken
+instrument_zone_at b at = taken_at b (owner.Instrument at.instrument) at.instrument_zone
 
-abbrev pub outer_at : Parts → PairAt → Taken
-outer_at b at = taken_at b (owner.Preset at.preset) at.outer
+abbrev pub preset_zone_at : Parts → PairAt → Taken
+preset_zone_at b at = taken_at b (owner.Preset at.preset) at.preset_zone
 
 -- ---- a pair
 
@@ -42,4 +42,4 @@ target_held b n o k = cond (owner_holds b n o k) (target_of b o k) None
 
 -- what is taken of both zones, and the sample's number
 abbrev pub chosen_at : Parts → ChosenAt → Chosen
-chosen_at b c = record { inner = inner_at b c.zones; outer = outer_at b c.zones; sample = c.sample }
+chosen_at b c = record { instrument_zone = instrument_zone_at b c.zones; preset_zone = preset_zone_at b c.zones; sample = c.sample }

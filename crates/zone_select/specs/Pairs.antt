@@ -38,19 +38,19 @@ pairs b n = option_map_or (λ (p : WithZones Head). flat_map (pairs_at b n p.zon
 
 -- what is taken of its two zones, and the number of its sample
 pub record Chosen : Type 0 where
-  pub inner : Taken
-  pub outer : Taken
+  pub instrument_zone : Taken
+  pub preset_zone : Taken
   pub sample : ℕ
 
 -- zone k, if it holds the note
 abbrev pub zone_held : Numbers → GlobalZone → List Zone → ℕ → Option Zone
 zone_held n global zones k = option_and_then (λ (z : Zone). cond (holds n global z) (Some z) None) (slice_get zones k)
 
-abbrev pub inner_chosen : Numbers → Taken → ℕ → WithZones (List ℕ) → Option Chosen
-inner_chosen n u l i = option_map (λ (y : Zone). record { inner = taken i.global y; outer = u; sample = y.target }) (zone_held n i.global i.zones l)
+abbrev pub instrument_zone_chosen : Numbers → Taken → ℕ → WithZones (List ℕ) → Option Chosen
+instrument_zone_chosen n u l i = option_map (λ (y : Zone). record { instrument_zone = taken i.global y; preset_zone = u; sample = y.target }) (zone_held n i.global i.zones l)
 
 abbrev pub zone_chosen : Parts → Numbers → GlobalZone → ℕ → Zone → Option Chosen
-zone_chosen b n global l z = option_and_then (inner_chosen n (taken global z) l) (slice_get b.instruments z.target)
+zone_chosen b n global l z = option_and_then (instrument_zone_chosen n (taken global z) l) (slice_get b.instruments z.target)
 
 abbrev pub preset_chosen : Parts → Numbers → ℕ × ℕ → WithZones Head → Option Chosen
 preset_chosen b n q p = option_and_then (zone_chosen b n p.global q.1) (zone_held n p.global p.zones q.0)
@@ -61,7 +61,7 @@ chosen_by b n q = option_and_then (preset_chosen b n q) (find (is_called n) b.pr
 
 -- the voice of a pair
 abbrev pub chosen_voice : Parts → Numbers → Chosen → Option Voice
-chosen_voice b n c = option_map (voice_of n c.inner c.outer) (slice_get b.samples c.sample)
+chosen_voice b n c = option_map (voice_of n c.instrument_zone c.preset_zone) (slice_get b.samples c.sample)
 
 abbrev pub voice_by : Parts → Numbers → ℕ × ℕ → Option Voice
 voice_by b n q = option_and_then (chosen_voice b n) (chosen_by b n q)

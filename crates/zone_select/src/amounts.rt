@@ -5,7 +5,7 @@ ghost use Rattle.generators.specs.Ranges.{is_range_operator};
 ghost use Rattle.bank_changes.specs.declared.members.Place.TheVariants as place;
 ghost use Rattle.bank_changes.specs.Members.{amount_of};
 ghost use Rattle.zone_select.specs.Amounts.{amount, last_like, modulator_like, modulator_amount};
-ghost use Rattle.zone_select.specs.At.{mods_at, taken_at, inner_at, outer_at};
+ghost use Rattle.zone_select.specs.At.{mods_at, taken_at, instrument_zone_at, preset_zone_at};
 
 use bank_core::{Bank, Owner, Place};
 use generators::operators::EXCLUSIVE_CLASS;
@@ -16,9 +16,9 @@ use modulators::Modulator;
 #[derive(Debug, Clone, Copy, PartialEq, Eq)]
 pub(crate) struct PairAt {
     pub(crate) preset: u32,
-    pub(crate) outer: u32,
+    pub(crate) preset_zone: u32,
     pub(crate) instrument: u32,
-    pub(crate) inner: u32,
+    pub(crate) instrument_zone: u32,
 }
 
 // The amount of an operator that holds for a zone: its own, else its global zone's.
@@ -36,32 +36,37 @@ fn amount_at(bank: &Bank<'_>, owner: Owner, zone: u32, operator: u16) -> Option<
 #[tactic(auto, unfolding(crate::specs::Amounts::amount))]
 pub(crate) fn amount(bank: &Bank<'_>, at: &PairAt, operator: u16) -> i32
     requires { is_range_operator operator ≡ false }
-    ensures value { result ≡ amount (inner_at bank.now at.now) (outer_at bank.now at.now) operator }
+    ensures value { result ≡ amount (instrument_zone_at bank.now at.now) (preset_zone_at bank.now at.now) operator }
     ensures within { (negsuc 65535 ≤ℤ result) × (result ≤ℤ pos 65534) }
 {
-    let inner = match amount_at(bank, Owner::Instrument(at.instrument), at.inner, operator) {
+    let of_instrument = match amount_at(
+        bank,
+        Owner::Instrument(at.instrument),
+        at.instrument_zone,
+        operator,
+    ) {
         Some(amount) => amount.cast_signed(),
         None => default_of(operator).unwrap_or(0),
     };
-    let outer = if allowed(operator, Level::Preset) {
-        amount_at(bank, Owner::Preset(at.preset), at.outer, operator)
+    let of_preset = if allowed(operator, Level::Preset) {
+        amount_at(bank, Owner::Preset(at.preset), at.preset_zone, operator)
             .unwrap_or(0)
             .cast_signed()
     } else {
         0
     };
-    i32::from(inner) + i32::from(outer)
+    i32::from(of_instrument) + i32::from(of_preset)
 }
 
 // The exclusive class, which is the instrument's alone.
 #[tactic(auto, using(crate::proofs::LinearLaws::class_is))]
 pub(crate) fn class(bank: &Bank<'_>, at: &PairAt) -> i16
-    ensures { result ≡ amount (inner_at bank.now at.now) (outer_at bank.now at.now) 57 }
+    ensures { result ≡ amount (instrument_zone_at bank.now at.now) (preset_zone_at bank.now at.now) 57 }
 {
     match amount_at(
         bank,
         Owner::Instrument(at.instrument),
-        at.inner,
+        at.instrument_zone,
         EXCLUSIVE_CLASS,
     ) {
         Some(amount) => amount.cast_signed(),
@@ -99,12 +104,16 @@ fn amount_like(bank: &Bank<'_>, owner: Owner, zone: u32, like: &Modulator) -> Op
 // The instrument's and the preset's together.
 #[tactic(auto, unfolding(crate::specs::Amounts::modulator_amount))]
 pub(crate) fn modulator_amount(bank: &Bank<'_>, at: &PairAt, like: &Modulator, default: i16) -> i32
-    ensures value { result ≡ modulator_amount like.now (inner_at bank.now at.now) (outer_at bank.now at.now) default }
+    ensures value { result ≡ modulator_amount like.now (instrument_zone_at bank.now at.now) (preset_zone_at bank.now at.now) default }
     ensures within { (negsuc 65535 ≤ℤ result) × (result ≤ℤ pos 65534) }
 {
-    let inner = amount_like(bank, Owner::Instrument(at.instrument), at.inner, like).unwrap_or(
-        default,
-    );
-    let outer = amount_like(bank, Owner::Preset(at.preset), at.outer, like).unwrap_or(0);
-    i32::from(inner) + i32::from(outer)
+    let of_instrument = amount_like(
+        bank,
+        Owner::Instrument(at.instrument),
+        at.instrument_zone,
+        like,
+    )
+    .unwrap_or(default);
+    let of_preset = amount_like(bank, Owner::Preset(at.preset), at.preset_zone, like).unwrap_or(0);
+    i32::from(of_instrument) + i32::from(of_preset)
 }

@@ -21,15 +21,15 @@ pub(crate) struct ChosenAt {
 pub(crate) fn chosen(bank: &Bank<'_>, note: &Note, pair: (u32, u32)) -> Option<ChosenAt>
     ensures { option_map (chosen_at bank.now) result ≡ chosen_by bank.now note.now pair }
 {
-    let (outer, inner) = pair;
+    let (preset_zone, instrument_zone) = pair;
     let preset = first_called(bank, note)?;
-    let instrument = held_target(bank, note, Owner::Preset(preset), outer)?;
-    let sample = held_target(bank, note, Owner::Instrument(instrument), inner)?;
+    let instrument = held_target(bank, note, Owner::Preset(preset), preset_zone)?;
+    let sample = held_target(bank, note, Owner::Instrument(instrument), instrument_zone)?;
     let zones = PairAt {
         preset,
-        outer,
+        preset_zone,
         instrument,
-        inner,
+        instrument_zone,
     };
     Some(ChosenAt { zones, sample })
 }

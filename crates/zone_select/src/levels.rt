@@ -4,7 +4,7 @@ ghost use Rattle.std.specs.Int.{int_max, int_min};
 ghost use Rattle.generators.specs.Ranges.{is_range_operator};
 ghost use Rattle.sound_tables.specs.Tables.{frames_of};
 ghost use Rattle.zone_select.specs.Amounts.{amount, moved, cut, attenuation_of};
-ghost use Rattle.zone_select.specs.At.{inner_at, outer_at};
+ghost use Rattle.zone_select.specs.At.{instrument_zone_at, preset_zone_at};
 
 use crate::amounts::{PairAt, amount, modulator_amount};
 use crate::linear::{moved, part_of};
@@ -17,7 +17,7 @@ use sound_tables::{frames_of_timecents, velocity_attenuation};
 
 // How much quieter the voice is, in centibels: as its zones say, and as its velocity does.
 pub(crate) fn attenuation(bank: &Bank<'_>, note: &Note, at: &PairAt) -> i32
-    ensures { result ≡ attenuation_of note.now (inner_at bank.now at.now) (outer_at bank.now at.now) }
+    ensures { result ≡ attenuation_of note.now (instrument_zone_at bank.now at.now) (preset_zone_at bank.now at.now) }
 {
     let quieter = velocity_attenuation(velocity(bank, note, at)) as i32;
     let most = modulator_amount(bank, at, &DEFAULT_VELOCITY, DEFAULT_VELOCITY.amount);
@@ -26,14 +26,14 @@ pub(crate) fn attenuation(bank: &Bank<'_>, note: &Note, at: &PairAt) -> i32
 
 // From -500, all to the left, to 500, all to the right.
 pub(crate) fn pan(bank: &Bank<'_>, note: &Note, at: &PairAt) -> i32
-    ensures { result ≡ int_min (int_max (moved note.now (inner_at bank.now at.now) (outer_at bank.now at.now) 17) (negsuc 499)) (pos 500) }
+    ensures { result ≡ int_min (int_max (moved note.now (instrument_zone_at bank.now at.now) (preset_zone_at bank.now at.now) 17) (negsuc 499)) (pos 500) }
 {
     moved(bank, note, at, PAN).max(-500).min(500)
 }
 
 // How far the decay falls, in centibels.
 pub(crate) fn sustain(bank: &Bank<'_>, note: &Note, at: &PairAt) -> u32
-    ensures { result ≡ cut 0 960 (moved note.now (inner_at bank.now at.now) (outer_at bank.now at.now) 37) }
+    ensures { result ≡ cut 0 960 (moved note.now (instrument_zone_at bank.now at.now) (preset_zone_at bank.now at.now) 37) }
 {
     moved(bank, note, at, SUSTAIN_VOL_ENV).max(0).min(960) as u32
 }
@@ -41,7 +41,7 @@ pub(crate) fn sustain(bank: &Bank<'_>, note: &Note, at: &PairAt) -> u32
 // The frames of a time that no modulator moves.
 pub(crate) fn time(bank: &Bank<'_>, at: &PairAt, operator: u16) -> u32
     requires { is_range_operator operator ≡ false }
-    ensures { result ≡ frames_of (amount (inner_at bank.now at.now) (outer_at bank.now at.now) operator) }
+    ensures { result ≡ frames_of (amount (instrument_zone_at bank.now at.now) (preset_zone_at bank.now at.now) operator) }
 {
     frames_of_timecents(i64::from(amount(bank, at, operator)))
 }
@@ -49,7 +49,7 @@ pub(crate) fn time(bank: &Bank<'_>, at: &PairAt, operator: u16) -> u32
 // The frames of a time that linear modulators may move.
 pub(crate) fn moved_time(bank: &Bank<'_>, note: &Note, at: &PairAt, operator: u16) -> u32
     requires { is_range_operator operator ≡ false }
-    ensures { result ≡ frames_of (moved note.now (inner_at bank.now at.now) (outer_at bank.now at.now) operator) }
+    ensures { result ≡ frames_of (moved note.now (instrument_zone_at bank.now at.now) (preset_zone_at bank.now at.now) operator) }
 {
     frames_of_timecents(i64::from(moved(bank, note, at, operator)))
 }

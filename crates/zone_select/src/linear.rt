@@ -3,7 +3,7 @@ ghost use Rattle.std.specs.Prelude.{◌≡◌, ◌<◌, ◌≤◌, ◌≤ℤ◌,
 ghost use Rattle.generators.specs.Ranges.{is_range_operator};
 ghost use Rattle.sound_tables.specs.Floor.{floor_div};
 ghost use Rattle.zone_select.specs.Amounts.{linear_part, linear_sources, sum_of, moved};
-ghost use Rattle.zone_select.specs.At.{inner_at, outer_at};
+ghost use Rattle.zone_select.specs.At.{instrument_zone_at, preset_zone_at};
 
 use crate::amounts::{PairAt, amount, modulator_amount};
 use crate::pitches::{key, velocity};
@@ -36,7 +36,7 @@ fn linear_part(
 ) -> i32
     requires key { key ≤ 127 }
     requires velocity { velocity ≤ 127 }
-    ensures value { result ≡ linear_part key velocity (inner_at bank.now at.now) (outer_at bank.now at.now) operator source }
+    ensures value { result ≡ linear_part key velocity (instrument_zone_at bank.now at.now) (preset_zone_at bank.now at.now) operator source }
     ensures within { (negsuc 65535 ≤ℤ result) × (result ≤ℤ pos 65536) }
 {
     let modulator = Modulator {
@@ -59,7 +59,7 @@ fn linear_part(
 fn linear_parts(bank: &Bank<'_>, at: &PairAt, key: u8, velocity: u8, operator: u16) -> i32
     requires key { key ≤ 127 }
     requires velocity { velocity ≤ 127 }
-    ensures value { result ≡ sum_of (map (linear_part key velocity (inner_at bank.now at.now) (outer_at bank.now at.now) operator) linear_sources) }
+    ensures value { result ≡ sum_of (map (linear_part key velocity (instrument_zone_at bank.now at.now) (preset_zone_at bank.now at.now) operator) linear_sources) }
     ensures within { (negsuc 524287 ≤ℤ result) × (result ≤ℤ pos 524288) }
 {
     let mut sum = 0;
@@ -73,7 +73,7 @@ fn linear_parts(bank: &Bank<'_>, at: &PairAt, key: u8, velocity: u8, operator: u
 #[tactic(auto, unfolding(crate::specs::Amounts::moved_amount))]
 pub(crate) fn moved(bank: &Bank<'_>, note: &Note, at: &PairAt, operator: u16) -> i32
     requires { is_range_operator operator ≡ false }
-    ensures value { result ≡ moved note.now (inner_at bank.now at.now) (outer_at bank.now at.now) operator }
+    ensures value { result ≡ moved note.now (instrument_zone_at bank.now at.now) (preset_zone_at bank.now at.now) operator }
     ensures within { (negsuc 589823 ≤ℤ result) × (result ≤ℤ pos 589824) }
 {
     let key = key(bank, note, at);

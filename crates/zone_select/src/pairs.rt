@@ -21,7 +21,7 @@ pub struct ZonePairs<'b, 'a> {
     preset: u32,
     // The preset's zone of the pairs that come next, and from where to look in its instrument.
     zone: Option<u32>,
-    inner: u32,
+    instrument_zone: u32,
 }
 
 impl<'b, 'a> Model for ZonePairs<'b, 'a> {
@@ -30,7 +30,7 @@ impl<'b, 'a> Model for ZonePairs<'b, 'a> {
 
     ghost Value = { List (ℕ × ℕ) };
 
-    ghost view = { λ m. pairs_left m.bank.now m.note m.preset m.zone m.inner };
+    ghost view = { λ m. pairs_left m.bank.now m.note m.preset m.zone m.instrument_zone };
 
     ghost invariant = { λ m. IfSome m.zone (λ k. k < 65535) };
 }
@@ -43,10 +43,16 @@ impl<'b, 'a> Iterator for ZonePairs<'b, 'a> {
     ghost remaining = { item_count (λ rest. rest) };
 
     fn next(&mut self) -> Option<(u32, u32)> {
-        let (zone, inner) = next_pair(self.bank, &self.note, self.preset, self.zone, self.inner)?;
+        let (zone, instrument_zone) = next_pair(
+            self.bank,
+            &self.note,
+            self.preset,
+            self.zone,
+            self.instrument_zone,
+        )?;
         self.zone = Some(zone);
-        self.inner = inner + 1;
-        Some((zone, inner))
+        self.instrument_zone = instrument_zone + 1;
+        Some((zone, instrument_zone))
     }
 }
 
@@ -62,7 +68,7 @@ pub fn matches<'b, 'a>(bank: &'b Bank<'a>, note: &Note) -> ZonePairs<'b, 'a>
             note: *note,
             preset: 0,
             zone: None,
-            inner: 0,
+            instrument_zone: 0,
         };
     };
     ZonePairs {
@@ -70,7 +76,7 @@ pub fn matches<'b, 'a>(bank: &'b Bank<'a>, note: &Note) -> ZonePairs<'b, 'a>
         note: *note,
         preset,
         zone: next_held(bank, note, Owner::Preset(preset), 0),
-        inner: 0,
+        instrument_zone: 0,
     }
 }
 
@@ -123,13 +129,13 @@ fn next_pair(
     ensures within { IfSome result (λ q. (q.0 < 65535) × (q.1 < 65535)) }
 {
     let mut next = first;
-    let mut inner = from;
+    let mut instrument_zone = from;
     while let Some(zone) = next {
-        if let Some(found) = next_inside(bank, note, preset, zone, inner) {
+        if let Some(found) = next_inside(bank, note, preset, zone, instrument_zone) {
             return Some((zone, found));
         }
         next = next_held(bank, note, Owner::Preset(preset), zone + 1);
-        inner = 0;
+        instrument_zone = 0;
     }
     None
 }

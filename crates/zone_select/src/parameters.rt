@@ -3,7 +3,7 @@ ghost use Rattle.std.specs.Prelude.{◌≡◌, ◌<◌, ◌^◌, ◌↔◌, leng
 ghost use Rattle.std.specs.List.{Contains};
 ghost use Rattle.std.specs.Option.{option_map};
 ghost use Rattle.zone_select.specs.Amounts.{parameters_of};
-ghost use Rattle.zone_select.specs.At.{inner_at, outer_at};
+ghost use Rattle.zone_select.specs.At.{instrument_zone_at, preset_zone_at};
 ghost use Rattle.zone_select.specs.Pairs.{pairs, chosen_by, voice_by};
 ghost use Rattle.zone_select.specs.Playable.{IsPlayable};
 
@@ -86,7 +86,7 @@ pub fn sample_of(bank: &Bank<'_>, note: &Note, pair: (u32, u32)) -> Option<u32>
 #[tactic(auto, using(crate::proofs::SpanLaws::loop_there, crate::proofs::SpanLaws::loop_start_is, crate::proofs::SpanLaws::loop_end_is), unfolding(crate::specs::Amounts::parameters_of))]
 fn parameters_of(bank: &Bank<'_>, note: &Note, at: &PairAt, sample: &Sample<'_>) -> VoiceParameters
     requires { length sample.now.points < 2 ^ 32 }
-    ensures { result ≡ parameters_of note.now (inner_at bank.now at.now) (outer_at bank.now at.now) sample.now }
+    ensures { result ≡ parameters_of note.now (instrument_zone_at bank.now at.now) (preset_zone_at bank.now at.now) sample.now }
 {
     let span = span_of(bank, at, sample);
     let looped = loop_within(bank, at, sample, &span);

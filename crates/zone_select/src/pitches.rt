@@ -2,7 +2,7 @@
 ghost use Rattle.std.specs.Prelude.{◌≡◌, ◌≤◌, ◌≤ℤ◌, ◌+ℤ◌, ◌-ℤ◌, ◌*ℤ◌, pos, negsuc};
 ghost use Rattle.sound_tables.specs.Tables.{step_of};
 ghost use Rattle.zone_select.specs.Amounts.{chosen, key_of, velocity_of, root_of, cents_of};
-ghost use Rattle.zone_select.specs.At.{inner_at, outer_at};
+ghost use Rattle.zone_select.specs.At.{instrument_zone_at, preset_zone_at};
 
 use crate::amounts::{PairAt, amount};
 use crate::linear::moved;
@@ -31,7 +31,7 @@ fn up_to_127(number: i32, other: u8) -> u8
 
 // The key that the voice plays: the zones' own, else the note's.
 pub(crate) fn key(bank: &Bank<'_>, note: &Note, at: &PairAt) -> u8
-    ensures value { result ≡ key_of note.now (inner_at bank.now at.now) (outer_at bank.now at.now) }
+    ensures value { result ≡ key_of note.now (instrument_zone_at bank.now at.now) (preset_zone_at bank.now at.now) }
     ensures within { result ≤ 127 }
 {
     up_to_127(amount(bank, at, KEYNUM), note.key())
@@ -39,7 +39,7 @@ pub(crate) fn key(bank: &Bank<'_>, note: &Note, at: &PairAt) -> u8
 
 // The velocity that the voice has: the zones' own, else the note's.
 pub(crate) fn velocity(bank: &Bank<'_>, note: &Note, at: &PairAt) -> u8
-    ensures value { result ≡ velocity_of note.now (inner_at bank.now at.now) (outer_at bank.now at.now) }
+    ensures value { result ≡ velocity_of note.now (instrument_zone_at bank.now at.now) (preset_zone_at bank.now at.now) }
     ensures within { result ≤ 127 }
 {
     up_to_127(amount(bank, at, VELOCITY), note.velocity())
@@ -47,7 +47,7 @@ pub(crate) fn velocity(bank: &Bank<'_>, note: &Note, at: &PairAt) -> u8
 
 // The key at which the sample sounds as recorded.
 fn root(bank: &Bank<'_>, at: &PairAt, sample: &Sample<'_>) -> u8
-    ensures value { result ≡ root_of (inner_at bank.now at.now) (outer_at bank.now at.now) sample.now }
+    ensures value { result ≡ root_of (instrument_zone_at bank.now at.now) (preset_zone_at bank.now at.now) sample.now }
     ensures within { result ≤ 127 }
 {
     let own = if sample.key <= 127 {
@@ -60,7 +60,7 @@ fn root(bank: &Bank<'_>, at: &PairAt, sample: &Sample<'_>) -> u8
 
 // How far the voice goes through its sample in a frame, in 65536ths of a point.
 pub(crate) fn step_through(bank: &Bank<'_>, note: &Note, at: &PairAt, sample: &Sample<'_>) -> u32
-    ensures { result ≡ step_of (cents_of note.now (inner_at bank.now at.now) (outer_at bank.now at.now) sample.now) sample.now.rate }
+    ensures { result ≡ step_of (cents_of note.now (instrument_zone_at bank.now at.now) (preset_zone_at bank.now at.now) sample.now) sample.now.rate }
 {
     step(i64::from(cents(bank, note, at, sample)), sample.rate)
 }
@@ -88,7 +88,7 @@ fn interval(tuning: i32, key: u8, root: u8) -> i32
 
 // The interval above the sample's own pitch, in cents.
 fn cents(bank: &Bank<'_>, note: &Note, at: &PairAt, sample: &Sample<'_>) -> i32
-    ensures { result ≡ cents_of note.now (inner_at bank.now at.now) (outer_at bank.now at.now) sample.now }
+    ensures { result ≡ cents_of note.now (instrument_zone_at bank.now at.now) (preset_zone_at bank.now at.now) sample.now }
 {
     let key = key(bank, note, at);
     let root = root(bank, at, sample);

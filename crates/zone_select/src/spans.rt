@@ -3,7 +3,7 @@ ghost use Rattle.std.specs.Prelude.{◌≡◌, ◌≤◌, ◌<◌, ◌^◌, ◌�
 ghost use Rattle.generators.specs.Ranges.{is_range_operator};
 ghost use Rattle.sound_tables.specs.Floor.{above_zero};
 ghost use Rattle.zone_select.specs.Amounts.{offset, cut, start_of, end_of, mode_of, asks_for_loop, loop_of};
-ghost use Rattle.zone_select.specs.At.{inner_at, outer_at};
+ghost use Rattle.zone_select.specs.At.{instrument_zone_at, preset_zone_at};
 
 use crate::amounts::{PairAt, amount};
 use bank_core::Bank;
@@ -34,7 +34,7 @@ pub(crate) struct Span {
 fn offset(bank: &Bank<'_>, at: &PairAt, fine: u16, coarse: u16) -> i64
     requires fine { is_range_operator fine ≡ false }
     requires coarse { is_range_operator coarse ≡ false }
-    ensures value { result ≡ offset (inner_at bank.now at.now) (outer_at bank.now at.now) fine coarse }
+    ensures value { result ≡ offset (instrument_zone_at bank.now at.now) (preset_zone_at bank.now at.now) fine coarse }
     ensures within { (negsuc 2147549183 ≤ℤ result) × (result ≤ℤ pos 2147549184) }
 {
     i64::from(amount(bank, at, fine)) + COARSE * i64::from(amount(bank, at, coarse))
@@ -51,8 +51,8 @@ fn cut(number: i64, low: u32, high: u32) -> u32
 // The points of a sample that the zones take.
 pub(crate) fn span_of(bank: &Bank<'_>, at: &PairAt, sample: &Sample<'_>) -> Span
     requires { length sample.now.points < 2 ^ 32 }
-    ensures start { result.start ≡ start_of (inner_at bank.now at.now) (outer_at bank.now at.now) sample.now }
-    ensures end { result.end ≡ end_of (inner_at bank.now at.now) (outer_at bank.now at.now) sample.now }
+    ensures start { result.start ≡ start_of (instrument_zone_at bank.now at.now) (preset_zone_at bank.now at.now) sample.now }
+    ensures end { result.end ≡ end_of (instrument_zone_at bank.now at.now) (preset_zone_at bank.now at.now) sample.now }
 {
     let count = sample.points.len() as u32;
     let from = offset(bank, at, START_ADDRS_OFFSET, START_ADDRS_COARSE_OFFSET);
@@ -65,7 +65,7 @@ pub(crate) fn span_of(bank: &Bank<'_>, at: &PairAt, sample: &Sample<'_>) -> Span
 // The low two bits of the mode that the zones ask for.
 #[tactic(auto, using(crate::proofs::LinearLaws::euclid_is_mod))]
 pub(crate) fn mode(bank: &Bank<'_>, at: &PairAt) -> u8
-    ensures value { result ≡ mode_of (inner_at bank.now at.now) (outer_at bank.now at.now) }
+    ensures value { result ≡ mode_of (instrument_zone_at bank.now at.now) (preset_zone_at bank.now at.now) }
     ensures within { result < 4 }
 {
     amount(bank, at, SAMPLE_MODES).rem_euclid(4) as u8
@@ -73,7 +73,7 @@ pub(crate) fn mode(bank: &Bank<'_>, at: &PairAt) -> u8
 
 // Whether the zones ask for a loop.
 fn asks_for_loop(bank: &Bank<'_>, at: &PairAt) -> bool
-    ensures { result ≡ asks_for_loop (inner_at bank.now at.now) (outer_at bank.now at.now) }
+    ensures { result ≡ asks_for_loop (instrument_zone_at bank.now at.now) (preset_zone_at bank.now at.now) }
 {
     matches!(mode(bank, at), LOOPED | UNTIL_RELEASE)
 }
@@ -86,9 +86,9 @@ pub(crate) fn loop_within(
     sample: &Sample<'_>,
     span: &Span,
 ) -> Option<(u32, u32)>
-    requires start { span.now.start ≡ start_of (inner_at bank.now at.now) (outer_at bank.now at.now) sample.now }
-    requires end { span.now.end ≡ end_of (inner_at bank.now at.now) (outer_at bank.now at.now) sample.now }
-    ensures { result ≡ loop_of (inner_at bank.now at.now) (outer_at bank.now at.now) sample.now }
+    requires start { span.now.start ≡ start_of (instrument_zone_at bank.now at.now) (preset_zone_at bank.now at.now) sample.now }
+    requires end { span.now.end ≡ end_of (instrument_zone_at bank.now at.now) (preset_zone_at bank.now at.now) sample.now }
+    ensures { result ≡ loop_of (instrument_zone_at bank.now at.now) (preset_zone_at bank.now at.now) sample.now }
 {
     let (first, after) = sample.looped?;
     if !asks_for_loop(bank, at) {

@@ -3,15 +3,15 @@ use Rattle.std.specs.Int.{w16, w32}
 use Rattle.std.specs.Option.{is_some}
 use Rattle.std.proofs.lemmas.Int.{to_z-of_z}
 use Rattle.zone_select.specs.Amounts.{parameters_of}
-use Rattle.zone_select.specs.At.{inner_at, outer_at}
+use Rattle.zone_select.specs.At.{instrument_zone_at, preset_zone_at}
 use Rattle.zone_select.proofs.SpanLaws.{loop_there, loop_start_is, loop_end_is}
 use Rattle.zone_select.proofs.parameters.parameters_of.Goals as goal
 
 pub returns : goal.returns
 unfolding parameters_of
 returns c =
-    let v = inner_at c.args.bank.now c.args.at.now in
-    let u = outer_at c.args.bank.now c.args.at.now in
+    let v = instrument_zone_at c.args.bank.now c.args.at.now in
+    let u = preset_zone_at c.args.bank.now c.args.at.now in
     let s = c.args.sample.now in
     let ends = c.unwrap_or-loop_start.ensures ∙ ap (λ (o : Option (ℕ × ℕ)). unwrap_or o (0, 0)) c.loop_within-looped.ensures in
     let first = ap (λ (p : ℕ × ℕ). p.0) ends ∙ loop_start_is v u s in

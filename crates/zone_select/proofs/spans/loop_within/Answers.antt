@@ -1,22 +1,22 @@
 use Rattle.std.proofs.Common.{rules, ◌≡◌, ℤ, ◌+ℤ◌, pos, to_z, of_z, sym, ap, ◌∙◌, arith}
 use Rattle.std.specs.Int.{w64}
 use Rattle.std.proofs.lemmas.Int.{ints}
-use Rattle.zone_select.specs.At.{inner_at, outer_at}
+use Rattle.zone_select.specs.At.{instrument_zone_at, preset_zone_at}
 use Rattle.zone_select.proofs.SpanLaws.{no_loop, not_asked, loop_by}
 use Rattle.zone_select.proofs.spans.loop_within.Goals as goal
 
 pub returns-in_err-first : goal.returns-in_err-first
 returns-in_err-first c =
-    rw (sym (no_loop (inner_at c.args.bank.now c.args.at.now) (outer_at c.args.bank.now c.args.at.now) c.args.sample.now c.in_err-first.was)) (search rules)
+    rw (sym (no_loop (instrument_zone_at c.args.bank.now c.args.at.now) (preset_zone_at c.args.bank.now c.args.at.now) c.args.sample.now c.in_err-first.was)) (search rules)
 
 pub returns-then-not-asks_for_loop : goal.returns-then-not-asks_for_loop
 returns-then-not-asks_for_loop c =
-    not_asked (inner_at c.args.bank.now c.args.at.now) (outer_at c.args.bank.now c.args.at.now) c.args.sample.now (sym c.asks_for_loop.ensures ∙ c.if-not-asks_for_loop.true)
+    not_asked (instrument_zone_at c.args.bank.now c.args.at.now) (preset_zone_at c.args.bank.now c.args.at.now) c.args.sample.now (sym c.asks_for_loop.ensures ∙ c.if-not-asks_for_loop.true)
 
 pub returns : goal.returns
 returns c =
-    let v = inner_at c.args.bank.now c.args.at.now in
-    let u = outer_at c.args.bank.now c.args.at.now in
+    let v = instrument_zone_at c.args.bank.now c.args.at.now in
+    let u = preset_zone_at c.args.bank.now c.args.at.now in
     let later = c.offset-later.ensures.within in
     let longer = c.offset-longer.ensures.within in
     let x : to_z w64 (of_z w64 (to_z w64 (of_z w64 c.from.result) +ℤ to_z w64 (of_z w64 c.offset-later.result))) ≡ pos c.in_ok-first.first +ℤ c.offset-later.result = omega (arith, ints, c.from.ensures, later.0, later.1) in
