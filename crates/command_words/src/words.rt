@@ -148,64 +148,22 @@ pub fn request_of<'a, S: AsStr>(alloc: Global, words: &'a [S]) -> Result<Request
 fn chosen<'a>(matches: &ArgMatches<'a>) -> Option<Request<'a>>
     ensures { IfSome result (IsOfCommand (subcommand_name_of matches.now)) }
 {
-    if let Some(script) = chosen_for_scripts(matches) {
-        return Some(script);
-    }
-    if let Some(sound) = chosen_for_sound(matches) {
-        return Some(sound);
-    }
-    chosen_for_looks(matches)
-}
-
-/// The commands whose outputs are banks or scripts.
-fn chosen_for_scripts<'a>(matches: &ArgMatches<'a>) -> Option<Request<'a>>
-    ensures { IfSome result (IsOfCommand (subcommand_name_of matches.now)) }
-{
-    if let Some(apply) = matches.subcommand_matches("apply") {
-        return Some(Request::Apply(apply_paths(apply)?));
-    }
-    if let Some(canon) = matches.subcommand_matches("canon") {
-        return Some(Request::Canon(canon_paths(canon)?));
-    }
-    if let Some(diff) = matches.subcommand_matches("diff") {
-        return Some(Request::Diff(diff_paths(diff)?));
-    }
-    if let Some(new) = matches.subcommand_matches("new") {
-        return Some(Request::New(new_bank(new)?));
-    }
-    let script = matches.subcommand_matches("script")?;
-    Some(Request::Script(script_paths(script)?))
-}
-
-/// The commands that take or give sound.
-fn chosen_for_sound<'a>(matches: &ArgMatches<'a>) -> Option<Request<'a>>
-    ensures { IfSome result (IsOfCommand (subcommand_name_of matches.now)) }
-{
-    if let Some(import) = matches.subcommand_matches("import") {
-        return Some(Request::Import(import_paths(import)?));
-    }
-    if let Some(live) = matches.subcommand_matches("live") {
-        return Some(Request::Live(live_paths(live)?));
-    }
-    if let Some(play) = matches.subcommand_matches("play") {
-        return Some(Request::Play(play_paths(play)?));
-    }
-    let wave = matches.subcommand_matches("wave")?;
-    Some(Request::Wave(wave_paths(wave)?))
-}
-
-/// The commands that tell or draw.
-fn chosen_for_looks<'a>(matches: &ArgMatches<'a>) -> Option<Request<'a>>
-    ensures { IfSome result (IsOfCommand (subcommand_name_of matches.now)) }
-{
-    if let Some(explain) = matches.subcommand_matches("explain") {
-        return Some(Request::Explain(number(explain, "N")?));
-    }
-    if let Some(map) = matches.subcommand_matches("map") {
-        return Some(Request::Map(map_paths(map)?));
-    }
-    let show = matches.subcommand_matches("show")?;
-    Some(Request::Show(show_paths(show)?))
+    let (name, words) = matches.subcommand()?;
+    Some(match name {
+        "apply" => Request::Apply(apply_paths(words)?),
+        "canon" => Request::Canon(canon_paths(words)?),
+        "diff" => Request::Diff(diff_paths(words)?),
+        "explain" => Request::Explain(number(words, "N")?),
+        "import" => Request::Import(import_paths(words)?),
+        "live" => Request::Live(live_paths(words)?),
+        "map" => Request::Map(map_paths(words)?),
+        "new" => Request::New(new_bank(words)?),
+        "play" => Request::Play(play_paths(words)?),
+        "script" => Request::Script(script_paths(words)?),
+        "show" => Request::Show(show_paths(words)?),
+        "wave" => Request::Wave(wave_paths(words)?),
+        _ => return None,
+    })
 }
 
 fn apply_paths<'a>(matches: &ArgMatches<'a>) -> Option<ApplyPaths<'a>>

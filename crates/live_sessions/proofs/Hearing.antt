@@ -22,7 +22,7 @@ use Rattle.live_lines.specs.declared.paths.Paths.{Paths}
 use Rattle.live_sessions.specs.declared.live.Live.{Live}
 use Rattle.live_sessions.specs.Steps.{RequestIs, EditIs, NeutralIs, UndoIs, RedoIs, NoteIs, FramesAre, SaveIs, TellIs, OnlyTheBank, StartsVoices, events_of, frames_of, if_edited, if_started, if_given, block_if, after_frames, started_with}
 use Rattle.live_sessions.specs.Turns.{Asked, LineIs, Turn, answered, events_in, frames_in, bytes_in, AreTurns}
-use Rattle.live_sessions.proofs.Turning.{no_frames}
+use Rattle.live_sessions.proofs.Turning.{nothing_done}
 
 -- ---- one request
 
@@ -219,18 +219,6 @@ request_heard old new b asks.Quit a here h = tell_heard old new b a here h
 
 -- ---- one line
 
-no_events : (r : Request) (new : Live) → events_of r answer.OutOfMemory new ≡ []
-no_events (asks.Edit e) new = refl
-no_events (asks.Neutral e) new = refl
-no_events asks.Undo new = refl
-no_events asks.Redo new = refl
-no_events (asks.Note n) new = refl
-no_events (asks.Frames n) new = refl
-no_events (asks.Save paths) new = refl
-no_events asks.Show new = refl
-no_events asks.Help new = refl
-no_events asks.Quit new = refl
-
 hears_as : (old new : Live) (b : Parts) (events more : List Event) (frames others : List ℤ) → more ≡ events → others ≡ frames → Hears old new b events frames → Hears old new b more others
 hears_as old new b events more frames others e f h =
     subst (λ (xs : List Event). Hears old new b xs others) (sym e) (subst (λ (ys : List ℤ). Hears old new b events ys) (sym f) h)
@@ -240,7 +228,8 @@ LineHears x old oa new b = Hears old new b (answered x oa (λ r a. events_of r a
 
 memory_heard : (x : Asked) (old new : Live) (b : Parts) → bank_now old.session ≡ Some b → new ≡ old → LineHears x old (Some answer.OutOfMemory) new b
 memory_heard (Ok None) old new b here e = hears_nothing old new b here e
-memory_heard (Ok (Some r)) old new b here e = hears_as old new b [] _ [] _ (no_events r new) (no_frames old r) (hears_nothing old new b here e)
+memory_heard (Ok (Some r)) old new b here e =
+    let none = nothing_done old r new in hears_as old new b [] _ [] _ none.3 none.1 (hears_nothing old new b here e)
 memory_heard (Err f) old new b here e = hears_nothing old new b here e
 
 line_heard : (x : Asked) (old new : Live) (oa : Option Answer) (b : Parts) → bank_now old.session ≡ Some b → LineIs x old oa new → LineHears x old oa new b

@@ -23,7 +23,7 @@ use Rattle.live_sessions.specs.declared.fault.LiveFault.{LiveFault}
 use Rattle.live_sessions.specs.declared.fault.LiveFault.TheVariants as fault
 use Rattle.live_sessions.specs.Saved.{Saved, Adds}
 use Rattle.live_sessions.specs.Telling.{kind_of, bank_told, told_text, next_of, is_last, told_failure, IsSent}
-use Rattle.live_sessions.specs.Steps.{RequestIs, StopsIn, FramesStop, Does, frames_of, saves_of, told_of, is_end}
+use Rattle.live_sessions.specs.Steps.{RequestIs, StopsIn, FramesStop, Does, frames_of, saves_of, told_of, events_of, is_end}
 use Rattle.live_sessions.specs.Turns.{Asked, LineIs, Turn, Around, answered, ends}
 use Rattle.live_sessions.specs.Runs.{Answers, StopsLine}
 use Rattle.live_sessions.proofs.Doing.{adds_nothing}
@@ -63,58 +63,28 @@ pub record Bare (counts : Counts) (s : Live) (x : Asked) (a : Answer) : Type 0 w
   pub saves : answered x (Some a) (saves_of s) ≡ []
   pub ends : ends x (Some a) ≡ false
 
--- out of memory, whatever the request
-no_told : (counts : Counts) (s : Live) (r : Request) → told_of counts s r answer.OutOfMemory ≡ []
-no_told counts s (asks.Edit e) = refl
-no_told counts s (asks.Neutral e) = refl
-no_told counts s asks.Undo = refl
-no_told counts s asks.Redo = refl
-no_told counts s (asks.Note n) = refl
-no_told counts s (asks.Frames n) = refl
-no_told counts s (asks.Save paths) = refl
-no_told counts s asks.Show = refl
-no_told counts s asks.Help = refl
-no_told counts s asks.Quit = refl
+-- out of memory nothing is told, given, saved or done to voices, and no session ends
+abbrev pub NothingDone : Live → Request → Live → Type 0
+NothingDone old r new =
+    ((counts : Counts) → told_of counts old r answer.OutOfMemory ≡ []) × (frames_of old r answer.OutOfMemory ≡ []) × (saves_of old r answer.OutOfMemory ≡ [])
+    × (events_of r answer.OutOfMemory new ≡ []) × (is_end r answer.OutOfMemory ≡ false)
 
-pub no_frames : (s : Live) (r : Request) → frames_of s r answer.OutOfMemory ≡ []
-no_frames s (asks.Edit e) = refl
-no_frames s (asks.Neutral e) = refl
-no_frames s asks.Undo = refl
-no_frames s asks.Redo = refl
-no_frames s (asks.Note n) = refl
-no_frames s (asks.Frames n) = refl
-no_frames s (asks.Save paths) = refl
-no_frames s asks.Show = refl
-no_frames s asks.Help = refl
-no_frames s asks.Quit = refl
-
-no_saves : (s : Live) (r : Request) → saves_of s r answer.OutOfMemory ≡ []
-no_saves s (asks.Edit e) = refl
-no_saves s (asks.Neutral e) = refl
-no_saves s asks.Undo = refl
-no_saves s asks.Redo = refl
-no_saves s (asks.Note n) = refl
-no_saves s (asks.Frames n) = refl
-no_saves s (asks.Save paths) = refl
-no_saves s asks.Show = refl
-no_saves s asks.Help = refl
-no_saves s asks.Quit = refl
-
-no_end : (r : Request) → is_end r answer.OutOfMemory ≡ false
-no_end (asks.Edit e) = refl
-no_end (asks.Neutral e) = refl
-no_end asks.Undo = refl
-no_end asks.Redo = refl
-no_end (asks.Note n) = refl
-no_end (asks.Frames n) = refl
-no_end (asks.Save paths) = refl
-no_end asks.Show = refl
-no_end asks.Help = refl
-no_end asks.Quit = refl
+pub nothing_done : (old : Live) (r : Request) (new : Live) → NothingDone old r new
+nothing_done old (asks.Edit e) new = ((λ counts. refl), refl, refl, refl, refl)
+nothing_done old (asks.Neutral e) new = ((λ counts. refl), refl, refl, refl, refl)
+nothing_done old asks.Undo new = ((λ counts. refl), refl, refl, refl, refl)
+nothing_done old asks.Redo new = ((λ counts. refl), refl, refl, refl, refl)
+nothing_done old (asks.Note n) new = ((λ counts. refl), refl, refl, refl, refl)
+nothing_done old (asks.Frames n) new = ((λ counts. refl), refl, refl, refl, refl)
+nothing_done old (asks.Save paths) new = ((λ counts. refl), refl, refl, refl, refl)
+nothing_done old asks.Show new = ((λ counts. refl), refl, refl, refl, refl)
+nothing_done old asks.Help new = ((λ counts. refl), refl, refl, refl, refl)
+nothing_done old asks.Quit new = ((λ counts. refl), refl, refl, refl, refl)
 
 memory_bare : (counts : Counts) (s : Live) (x : Asked) → Bare counts s x answer.OutOfMemory
 memory_bare counts s (Ok None) = record { is = inr (refl, refl); told = refl; frames = refl; saves = refl; ends = refl }
-memory_bare counts s (Ok (Some r)) = record { is = inr (refl, refl); told = no_told counts s r; frames = no_frames s r; saves = no_saves s r; ends = no_end r }
+memory_bare counts s (Ok (Some r)) =
+    let none = nothing_done s r s in record { is = inr (refl, refl); told = none.0 counts; frames = none.1; saves = none.2; ends = none.4 }
 memory_bare counts s (Err f) = record { is = inr (refl, refl); told = refl; frames = refl; saves = refl; ends = refl }
 
 fault_bare : (counts : Counts) (s : Live) (x : Asked) (f : RequestFault) → x ≡ Err f → Bare counts s x (answer.Fault f)

@@ -96,36 +96,6 @@ fn fill_by_stages<'a>(
     course.go_on(v, t + n as u64, next, level, slice);
 }
 
-// The same in a workspace.
-fn fill_sounds<'a>(
-    points: &Points<'a>,
-    v: &VoiceParameters,
-    t: u64,
-    course: &mut Course<'a>,
-    stages: &mut Stages,
-    run: &mut [i16],
-)
-    requires playable { IsPlayable (length points.now) v.now }
-    requires one_way { IsStretch v.now t (length run.old) }
-    requires course { IsCourse points.now v.now t course.old }
-    requires heard { course.old.over ≡ false }
-    requires short { length run.old ≤ 1024 }
-    ensures sounds { EachIndex run.new (λ k. slice_index_or run.new k (pos 0)
-        ≡ sound_at (record { points = points.now; parameters = v.now }) (t + k)) }
-    ensures course { IsCourse points.now v.now (t + length run.old) course.new }
-{
-    fill_by_stages(
-        points,
-        v,
-        t,
-        course,
-        &mut stages.words,
-        &mut stages.levels,
-        &mut stages.others,
-        run,
-    );
-}
-
 // The sides of a frame, whose sums stand in turn.
 enum Side {
     Left,
@@ -249,7 +219,16 @@ pub(crate) fn fill_run<'a>(
             return;
         }
         let n = stretch(v, t, course.place, run.len() - at);
-        fill_sounds(points, v, t, course, stages, &mut run[at..at + n]);
+        fill_by_stages(
+            points,
+            v,
+            t,
+            course,
+            &mut stages.words,
+            &mut stages.levels,
+            &mut stages.others,
+            &mut run[at..at + n],
+        );
         at += n;
     }
 }

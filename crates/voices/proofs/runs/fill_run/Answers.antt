@@ -48,16 +48,16 @@ loop-at-preserved c =
     let at = c.loop-at.at in
     let n = c.stretch-n.result in
     let xs = c.loop-at.run in
-    let new = c.fill_sounds.new.run in
+    let new = c.fill_by_stages.new.run in
     let end : at + n ≤ length xs = omega (arith, c.stretch-n.ensures.some.1) in
     let long : length (take (at + n - at) (drop at xs)) ≡ n = grind (arith, common_steps, end) in
-    let len : length new ≡ n = c.fill_sounds.auto.run ∙ long in
+    let len : length new ≡ n = c.fill_by_stages.auto.run ∙ long in
     record {
       within = omega (arith, end, c.loop-at.auto.run);
-      here = subst (λ t. IsCourse c.args.points.now c.args.v.now t c.fill_sounds.new.course)
-          (ap (λ m. c.args.age + at + m) long ∙ (let e : c.args.age + at + n ≡ c.args.age + (at + n) = omega arith in e)) c.fill_sounds.ensures.course;
+      here = subst (λ t. IsCourse c.args.points.now c.args.v.now t c.fill_by_stages.new.course)
+          (ap (λ m. c.args.age + at + m) long ∙ (let e : c.args.age + at + n ≡ c.args.age + (at + n) = omega arith in e)) c.fill_by_stages.ensures.course;
       done = below_piece (pos 0) (λ k y. y ≡ heard_at v (c.args.age + k)) xs new at n end len c.loop-at.invariant.done
-          (λ k h. c.fill_sounds.ensures.sounds k (omega (arith, h, len))
+          (λ k h. c.fill_by_stages.ensures.sounds k (omega (arith, h, len))
           ∙ sym (heard_is v (c.args.age + at + k) (c.stretch-n.ensures.one_way.sounds k h))
           ∙ ap (heard_at v) (let e : c.args.age + at + k ≡ c.args.age + (at + k) = omega arith in e));
     }
