@@ -1,4 +1,5 @@
 pub mod StepLaws
+pub mod FormLaws
 pub mod AllLaws
 pub mod CountLaws
 pub mod NameLaws

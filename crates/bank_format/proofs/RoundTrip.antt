@@ -1,24 +1,25 @@
 -- A canonical file reads as its bank, with no counts: the frame, the lists, and all together.
-use Rattle.std.proofs.Common.{◌≡◌, ◌≤◌, ◌<◌, ◌+◌, ◌%◌, ◌^◌, ℕ, true, false, leb, List, [], ◌∷◌, ◌++◌, length, take, drop, Option, Some, None, refl, sym, ap, ◌∙◌, append_assoc, arith, is_some}
+use Rattle.std.proofs.Common.{◌≡◌, ◌≤◌, ◌<◌, ◌+◌, ◌^◌, ℕ, true, false, leb, List, [], ◌∷◌, ◌++◌, length, take, Option, Some, None, refl, ap, ◌∙◌, arith, is_some}
 use Rattle.std.specs.Prelude.{unwrap_or, bytes_eq}
 use Rattle.std.proofs.lemmas.Bool.{le-leb}
 use Rattle.std.proofs.lemmas.List.{length-append, take_at, drop_at}
-use Rattle.std.proofs.lemmas.Slice.Eq.{bytes_eq-Decides}
 use Rattle.riff_chunks.specs.Walk.{Chunk, LIST, walk}
 use Rattle.riff_chunks.specs.Finding.{chunks_in, is_whole, first_list}
-use Rattle.riff_chunks.specs.Spelling.{chunk_head, pad, spell}
-use Rattle.riff_chunks.proofs.SpellingLaws.{length-pad, length-chunk_head, Headed, chunk_head-Headed, chunks_in-spell, is_whole-spell}
+use Rattle.riff_chunks.specs.Spelling.{chunk, spell}
+use Rattle.riff_chunks.proofs.SpellingLaws.{chunks_in-spell, is_whole-spell}
 use Rattle.bank_parts.specs.Valid.{IsValid}
 use Rattle.bank_parts.specs.Fits.{Fits}
 use Rattle.bank_parts.specs.declared.parts.Parts.{Parts}
+use Rattle.bank_format.specs.declared.fault.ReadFault.TheVariants.{NotRiff, Truncated, NotSfbk}
 use Rattle.bank_format.specs.Ids.{RIFF, SFBK, INFO, SDTA, PDTA}
 use Rattle.bank_format.specs.Steps.{first_broken}
 use Rattle.bank_format.specs.Tables.{Tables, tables_of}
 use Rattle.bank_format.specs.Canon.{list_of, info, sdta, pdta, lists, canon}
-use Rattle.bank_format.specs.Chunks.{riff_size, window, list_window, chunks_of, tables_in}
+use Rattle.bank_format.specs.Chunks.{window, list_window, chunks_of, tables_in}
 use Rattle.bank_format.specs.Reading.{content_of, content_in, no_counts}
 use Rattle.bank_format.specs.ReadSteps.{frame_steps, list_steps, content_steps, window_steps, steps, fault_of, ReadsAs}
 use Rattle.bank_format.proofs.StepLaws.{then_none}
+use Rattle.bank_format.proofs.FormLaws.{same_bytes, form_window, form_holds}
 use Rattle.bank_format.proofs.BankLaws.{content, content-again}
 use Rattle.bank_format.proofs.PdtaLaws.{measured, tables_fit, tables_count, tables-again}
 use Rattle.bank_format.proofs.FileLaws.{Small, small_cons, small_none, info_small, sdta_small, pdta_small, content_steps_hold}
@@ -26,9 +27,6 @@ use Rattle.bank_format.proofs.FileLaws.{Small, small_cons, small_none, info_smal
 ids : (length RIFF ≡ 4) × (length SFBK ≡ 4) × (length INFO ≡ 4) × (length SDTA ≡ 4) × (length PDTA ≡ 4) × (length LIST ≡ 4)
 unfolding RIFF SFBK INFO SDTA PDTA LIST
 ids = (refl, refl, refl, refl, refl, refl)
-
-same_bytes : (xs ys : List ℕ) → xs ≡ ys → bytes_eq xs ys ≡ true
-same_bytes xs ys e = (bytes_eq-Decides xs ys).1 e
 
 -- ---- the lists
 
@@ -87,33 +85,15 @@ module _ (b : Parts) (v : IsValid b) (f : Fits b) where
 
   -- ---- the window of the file
 
-  abbrev form : List ℕ
-  form = SFBK ++ spell (lists b)
-
-  form_small : length form < 2 ^ 32
+  form_small : length (SFBK ++ spell (lists b)) < 2 ^ 32
   form_small = let s = lists_small.small_enough in let a = length-append SFBK (spell (lists b)) in let i = ids.1 in omega (arith, a, s, i)
 
-  canon_is : canon b ≡ chunk_head RIFF (length form) ++ (form ++ pad (length form))
+  canon_is : canon b ≡ chunk RIFF (SFBK ++ spell (lists b))
   unfolding canon
   canon_is = refl
 
-  headed : Headed (chunk_head RIFF (length form) ++ (form ++ pad (length form))) RIFF (length form) (form ++ pad (length form))
-  headed = chunk_head-Headed RIFF (length form) (form ++ pad (length form)) ids.0 form_small
-
-  size_is : riff_size (canon b) ≡ length form
-  size_is = ap riff_size canon_is ∙ sym headed.sized
-
   window_is : window (canon b) ≡ spell (lists b)
-  unfolding window
-  window_is =
-      let n = length form in
-      let h = chunk_head RIFF n in
-      let lh = length-chunk_head RIFF n ids.0 in
-      let front : take (8 + n) (canon b) ≡ h ++ form =
-      ap (take (8 + n)) (canon_is ∙ sym (append_assoc h form (pad n))) ∙ take_at (h ++ form) (pad n) (8 + n) (let a = length-append h form in omega (arith, a, lh)) in
-      let rest : drop 12 (h ++ form) ≡ spell (lists b) =
-      ap (drop 12) (sym (append_assoc h SFBK (spell (lists b)))) ∙ drop_at (h ++ SFBK) (spell (lists b)) 12 (let a = length-append h SFBK in let i = ids.1 in omega (arith, a, lh, i)) in
-      ap (λ (k : ℕ). drop 12 (take (8 + k) (canon b))) size_is ∙ ap (drop 12) front ∙ rest
+  window_is = ap window canon_is ∙ form_window SFBK (spell (lists b)) ids.1 form_small
 
   lists_are : chunks_in (walk (spell (lists b))) ≡ lists b
   lists_are = chunks_in-spell (lists b) lists_small.fits
@@ -145,20 +125,7 @@ module _ (b : Parts) (v : IsValid b) (f : Fits b) where
   -- ---- the steps
 
   frame_holds : first_broken (frame_steps (canon b)) ≡ None
-  unfolding frame_steps
-  frame_holds =
-      let n = length form in
-      let size = size_is in
-      let four : 4 ≤ n = (let a = length-append SFBK (spell (lists b)) in let i = ids.1 in omega (arith, a, i)) in
-      let len : length (canon b) ≡ 8 + n + n % 2 =
-      ap length canon_is ∙ (let a = length-append (chunk_head RIFF n) (form ++ pad n) in let c = length-append form (pad n) in let d = length-pad n in let h = length-chunk_head RIFF n ids.0 in omega (arith, a, c, d, h)) in
-      let past : drop 8 (canon b) ≡ SFBK ++ (spell (lists b) ++ pad n) = ap (drop 8) canon_is ∙ drop_at (chunk_head RIFF n) (form ++ pad n) 8 (length-chunk_head RIFF n ids.0) ∙ append_assoc SFBK (spell (lists b)) (pad n) in
-      let t1 : bytes_eq (take 4 (canon b)) RIFF ≡ true = same_bytes _ _ (ap (take 4) canon_is ∙ sym headed.named) in
-      let t2 : leb 12 (length (canon b)) ≡ true = le-leb _ _ (omega (arith, len, four)) in
-      let t3 : leb 4 (riff_size (canon b)) ≡ true = le-leb _ _ (omega (arith, size, four)) in
-      let t4 : leb (8 + riff_size (canon b)) (length (canon b) + 1) ≡ true = le-leb _ _ (omega (arith, size, len)) in
-      let t5 : bytes_eq (take 4 (drop 8 (canon b))) SFBK ≡ true = same_bytes _ _ (ap (take 4) past ∙ take_at SFBK (spell (lists b) ++ pad n) 4 ids.1) in
-      rw (t1, t2, t3, t4, t5) refl
+  frame_holds = ap (λ (file : List ℕ). first_broken (frame_steps file)) canon_is ∙ form_holds SFBK (spell (lists b)) ids.1 form_small NotRiff Truncated NotSfbk
 
   lists_hold : first_broken (list_steps (spell (lists b))) ≡ None
   unfolding list_steps

@@ -1,27 +1,64 @@
 -- Steps one after the other.
-use Rattle.std.proofs.Common.{◌≡◌, Bool, true, false, cond, List, [], ◌∷◌, ◌++◌, Option, Some, None, refl}
+use Rattle.std.proofs.Common.{◌≡◌, Bool, true, false, cond, List, [], ◌∷◌, ◌++◌, Option, Some, None, Result, Ok, Err, refl, sym, ap, ◌∙◌}
 use Rattle.std.specs.List.{AllByRecursion}
 use Rattle.std.specs.Prelude.{flat_map}
-use Rattle.bank_format.specs.Steps.{Step, first_broken}
+use Rattle.std.specs.Result.{IsErrAnd}
+use Rattle.bank_format.specs.Steps.{Step, first_broken, Passes}
 
 -- where nothing is broken, a step holds and the rest isn't broken
 pub split_none : {A : Type 0} (b : Bool) (rest : Option A) (fault : A) → cond b rest (Some fault) ≡ None → (b ≡ true) × (rest ≡ None)
 split_none true rest fault h = (refl, h)
 split_none false rest fault h = absurd cc
 
-pub then_none : (xs ys : List Step) → first_broken xs ≡ None → first_broken ys ≡ None → first_broken (xs ++ ys) ≡ None
-then_none [] ys h k = k
-then_none (x ∷ xs) ys h k = let both = split_none x.holds (first_broken xs) x.fault h in rw both.0 (then_none xs ys both.1 k)
+fault_either : {A : Type 0} (b : Bool) (x y : Option A) (w f : A) → (x ≡ Some f → y ≡ Some f) → cond b x (Some w) ≡ Some f → cond b y (Some w) ≡ Some f
+fault_either true x y w f g h = g h
+fault_either false x y w f g h = h
 
--- both parts hold where the whole does
-pub both_none : (xs ys : List Step) → first_broken (xs ++ ys) ≡ None → (first_broken xs ≡ None) × (first_broken ys ≡ None)
-both_none [] ys h = (refl, h)
-both_none (x ∷ xs) ys h =
-    let both = split_none x.holds (first_broken (xs ++ ys)) x.fault h in
-    let rest = both_none xs ys both.1 in
-    (rw both.0 rest.0, rest.1)
+module _ {F : Type 0} where
+  -- the steps after those that hold
+  pub first_broken-append : (xs ys : List (Step F)) → first_broken xs ≡ None → first_broken (xs ++ ys) ≡ first_broken ys
+  first_broken-append [] ys h = refl
+  first_broken-append (x ∷ xs) ys h =
+      let both = split_none x.holds (first_broken xs) x.fault h in
+      rw both.0 (first_broken-append xs ys both.1)
 
--- all lists of steps of a flat map hold where the whole does
-pub all_none : {X : Type 0} (f : X → List Step) (xs : List X) → first_broken (flat_map f xs) ≡ None → AllByRecursion (λ x. first_broken (f x) ≡ None) xs
-all_none f [] h = tt
-all_none f (x ∷ xs) h = let both = both_none (f x) (flat_map f xs) h in (both.0, all_none f xs both.1)
+  pub then_none : (xs ys : List (Step F)) → first_broken xs ≡ None → first_broken ys ≡ None → first_broken (xs ++ ys) ≡ None
+  then_none xs ys h k = first_broken-append xs ys h ∙ k
+
+  -- the fault of a step is that of all
+  pub first_broken-front : (xs ys : List (Step F)) (f : F) → first_broken xs ≡ Some f → first_broken (xs ++ ys) ≡ Some f
+  first_broken-front [] ys f h = absurd cc
+  first_broken-front (x ∷ xs) ys f h =
+      fault_either x.holds (first_broken xs) (first_broken (xs ++ ys)) x.fault f (λ e. first_broken-front xs ys f e) h
+
+  -- both parts hold where the whole does
+  pub both_none : (xs ys : List (Step F)) → first_broken (xs ++ ys) ≡ None → (first_broken xs ≡ None) × (first_broken ys ≡ None)
+  both_none [] ys h = (refl, h)
+  both_none (x ∷ xs) ys h =
+      let both = split_none x.holds (first_broken (xs ++ ys)) x.fault h in
+      let rest = both_none xs ys both.1 in
+      (rw both.0 rest.0, rest.1)
+
+  -- all lists of steps of a flat map hold where the whole does
+  pub all_none : {X : Type 0} (f : X → List (Step F)) (xs : List X) → first_broken (flat_map f xs) ≡ None → AllByRecursion (λ x. first_broken (f x) ≡ None) xs
+  all_none f [] h = tt
+  all_none f (x ∷ xs) h = let both = both_none (f x) (flat_map f xs) h in (both.0, all_none f xs both.1)
+
+  -- ---- parts of a reader, one after the other
+
+  -- a fault that is passed on
+  pub passes_by : {X Y : Type 0} (view : X → Y) (value : Y) (r : Result X F) (f : F) (xs : List (Step F))
+      → IsErrAnd r (λ e. e ≡ f) → first_broken xs ≡ Some f → Passes view r xs value
+  passes_by view value (Ok x) f xs is h = absurd is
+  passes_by view value (Err e) f xs is h = h ∙ ap Some (sym is)
+
+  -- a part that fails, first of all
+  pub passes_front : {X Y : Type 0} (view : X → Y) (value : Y) (r : Result X F) (f : F) (xs ys : List (Step F))
+      → IsErrAnd r (λ e. e ≡ f) → first_broken xs ≡ Some f → Passes view r (xs ++ ys) value
+  passes_front view value r f xs ys is h = passes_by view value r f (xs ++ ys) is (first_broken-front xs ys f h)
+
+  -- a part after one that went through
+  pub passes_after : {X Y : Type 0} (view : X → Y) (value : Y) (r : Result X F) (xs ys : List (Step F))
+      → first_broken xs ≡ None → Passes view r ys value → Passes view r (xs ++ ys) value
+  passes_after view value (Ok x) xs ys h k = (then_none xs ys h k.0, k.1)
+  passes_after view value (Err e) xs ys h k = first_broken-append xs ys h ∙ k

@@ -24,24 +24,28 @@ use Rattle.bank_format.specs.Reading.{bank_of, content_in}
 
 -- ---- the frame of the file
 
-unfoldable pub frame_steps : List ℕ → List Step
-frame_steps file =
-    step (bytes_eq (take 4 file) id.RIFF) fault.NotRiff
-    ∷ step (nat_le 12 (length file)) fault.Truncated
-    ∷ step (nat_le 4 (riff_size file)) fault.Truncated
-    ∷ step (nat_le (8 + riff_size file) (length file + 1)) fault.Truncated
-    ∷ step (bytes_eq (take 4 (drop 8 file)) id.SFBK) fault.NotSfbk
+-- a RIFF file of a form, with the faults of one that is no RIFF file, that is cut, and that has another form
+unfoldable pub form_steps : {F : Type 0} → List ℕ → F → F → F → List ℕ → List (Step F)
+form_steps form not_riff truncated other_form file =
+    step (bytes_eq (take 4 file) id.RIFF) not_riff
+    ∷ step (nat_le 12 (length file)) truncated
+    ∷ step (nat_le 4 (riff_size file)) truncated
+    ∷ step (nat_le (8 + riff_size file) (length file + 1)) truncated
+    ∷ step (bytes_eq (take 4 (drop 8 file)) form) other_form
     ∷ []
+
+abbrev pub frame_steps : List ℕ → List (Step ReadFault)
+frame_steps file = form_steps id.SFBK fault.NotRiff fault.Truncated fault.NotSfbk file
 
 -- ---- the three lists: the window is walked, each list is there, and each is walked
 
-abbrev pub list_step : List ℕ → List ℕ → Step
+abbrev pub list_step : List ℕ → List ℕ → Step ReadFault
 list_step form w = step (is_some (first_list form (chunks_in (walk w)))) fault.MissingList
 
-abbrev pub walk_step : List ℕ → Step
+abbrev pub walk_step : List ℕ → Step ReadFault
 walk_step w = step (is_whole (walk w)) fault.Truncated
 
-unfoldable pub list_steps : List ℕ → List Step
+unfoldable pub list_steps : List ℕ → List (Step ReadFault)
 list_steps w =
     walk_step w
     ∷ list_step id.INFO w ∷ list_step id.SDTA w ∷ list_step id.PDTA w
@@ -50,13 +54,13 @@ list_steps w =
 
 -- ---- the chunks that have to be there, and the version
 
-abbrev pub chunk_step : List Chunk → List ℕ → Step
+abbrev pub chunk_step : List Chunk → List ℕ → Step ReadFault
 chunk_step chunks name = step (is_some (first_body name chunks)) fault.MissingChunk
 
 abbrev pub nine : List (List ℕ)
 nine = id.PHDR ∷ id.PBAG ∷ id.PMOD ∷ id.PGEN ∷ id.INST ∷ id.IBAG ∷ id.IMOD ∷ id.IGEN ∷ id.SHDR ∷ []
 
-unfoldable pub chunk_steps : List Chunk → List Chunk → List Step
+unfoldable pub chunk_steps : List Chunk → List Chunk → List (Step ReadFault)
 chunk_steps info pdta =
     chunk_step info id.IFIL
     ∷ (map (chunk_step pdta) nine
@@ -64,10 +68,10 @@ chunk_steps info pdta =
 
 -- ---- each of the nine lists is whole records long
 
-abbrev pub size_step : List Chunk → List ℕ → ℕ → Step
+abbrev pub size_step : List Chunk → List ℕ → ℕ → Step ReadFault
 size_step pdta name size = step (length (body_in name pdta) % size == 0) fault.RecordSize
 
-unfoldable pub size_steps : List Chunk → List Step
+unfoldable pub size_steps : List Chunk → List (Step ReadFault)
 size_steps pdta =
     size_step pdta id.PHDR 38 ∷ size_step pdta id.PBAG 4 ∷ size_step pdta id.PMOD 10 ∷ size_step pdta id.PGEN 4
     ∷ size_step pdta id.INST 22 ∷ size_step pdta id.IBAG 4 ∷ size_step pdta id.IMOD 10 ∷ size_step pdta id.IGEN 4
@@ -79,14 +83,14 @@ size_steps pdta =
 abbrev pub record_counts : Tables → List ℕ
 record_counts t = length t.phdr ∷ length t.pbag ∷ length t.pmod ∷ length t.pgen ∷ length t.inst ∷ length t.ibag ∷ length t.imod ∷ length t.igen ∷ length t.shdr ∷ []
 
-unfoldable pub count_steps : Tables → List Step
+unfoldable pub count_steps : Tables → List (Step ReadFault)
 count_steps t =
     map (λ n. step (nat_le 1 n) fault.NoTerminal) (record_counts t)
     ++ map (λ n. step (nat_le n RECORDS) fault.TooMany) (record_counts t)
 
 -- ---- points of whole words
 
-unfoldable pub point_steps : List Chunk → List Step
+unfoldable pub point_steps : List Chunk → List (Step ReadFault)
 point_steps sdta = step (length (body_in id.SMPL sdta) % 2 == 0) fault.OddSamples ∷ []
 
 -- ---- the indexes of a list that point into one of n records: none falls, none passes the last record
@@ -98,13 +102,13 @@ is_rising_from at (i ∷ is) = nat_le at i && is_rising_from i is
 abbrev pub is_rising : List ℕ → Bool
 is_rising is = is_rising_from 0 is
 
-unfoldable pub index_steps : List ℕ → ℕ → List Step
+unfoldable pub index_steps : List ℕ → ℕ → List (Step ReadFault)
 index_steps is n = step (is_rising is) fault.BagOrder ∷ step (list_all (λ i. nat_le i (n - 1)) is) fault.IndexOutside ∷ []
 
-abbrev pub bag_steps : List Bag → ℕ → ℕ → List Step
+abbrev pub bag_steps : List Bag → ℕ → ℕ → List (Step ReadFault)
 bag_steps bags gens mods = index_steps (map (λ (r : Bag). r.gens) bags) gens ++ index_steps (map (λ (r : Bag). r.mods) bags) mods
 
-unfoldable pub all_index_steps : Tables → List Step
+unfoldable pub all_index_steps : Tables → List (Step ReadFault)
 all_index_steps t =
     index_steps (map (λ (h : PresetHead). h.bag) t.phdr) (length t.pbag)
     ++ (bag_steps t.pbag (length t.pgen) (length t.pmod)
@@ -113,7 +117,7 @@ all_index_steps t =
 
 -- ---- each sample in order: the bit 0x0010 of its type, the bit 0x8000, and the range of its points
 
-unfoldable pub sample_step : ℕ → SampleHead → List Step
+unfoldable pub sample_step : ℕ → SampleHead → List (Step ReadFault)
 sample_step points h =
     step (h.kind / 16 % 2 == 0) fault.SampleType
     ∷ step (h.kind / 32768 % 2 == 0) fault.RomSample
@@ -122,24 +126,24 @@ sample_step points h =
 
 -- ---- the target of each zone that is kept: an instrument in a preset, a sample in an instrument
 
-abbrev pub target_step : ℕ → ReadFault → Zone → Step
+abbrev pub target_step : ℕ → ReadFault → Zone → Step ReadFault
 target_step targets missing z = step (nat_lt z.target targets) missing
 
-abbrev pub targets_of : {H : Type 0} → ℕ → ReadFault → List (WithZones H) → List Step
+abbrev pub targets_of : {H : Type 0} → ℕ → ReadFault → List (WithZones H) → List (Step ReadFault)
 targets_of targets missing owners = map (target_step targets missing) (flat_map (λ x. x.zones) owners)
 
-unfoldable pub target_steps : Parts → List Step
+unfoldable pub target_steps : Parts → List (Step ReadFault)
 target_steps b = targets_of (length b.instruments) fault.BadInstrument b.presets ++ targets_of (length b.samples) fault.BadSample b.instruments
 
 -- ---- the points of all samples, each sample's with the zero points that follow them
 
-unfoldable pub total_steps : List SampleHead → List Step
+unfoldable pub total_steps : List SampleHead → List (Step ReadFault)
 total_steps heads = step (nat_le (sum_by (λ (h : SampleHead). h.end - h.start + ZERO_POINTS) heads) POINTS) fault.TooMany ∷ []
 
 -- ---- together
 
 -- the chunks of the three lists
-unfoldable pub content_steps : List Chunk → List Chunk → List Chunk → Tables → List Step
+unfoldable pub content_steps : List Chunk → List Chunk → List Chunk → Tables → List (Step ReadFault)
 content_steps info sdta pdta t =
     chunk_steps info pdta
     ++ (size_steps pdta
@@ -150,10 +154,10 @@ content_steps info sdta pdta t =
     ++ (target_steps (bank_of info sdta t)
     ++ total_steps (rows t.shdr)))))))
 
-unfoldable pub window_steps : List ℕ → List Step
+unfoldable pub window_steps : List ℕ → List (Step ReadFault)
 window_steps w = list_steps w ++ content_steps (chunks_of id.INFO w) (chunks_of id.SDTA w) (chunks_of id.PDTA w) (tables_in (chunks_of id.PDTA w))
 
-unfoldable pub steps : List ℕ → List Step
+unfoldable pub steps : List ℕ → List (Step ReadFault)
 steps file = frame_steps file ++ window_steps (window file)
 
 -- The first broken step of a file gives its fault.

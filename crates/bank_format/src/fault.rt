@@ -12,39 +12,39 @@ use thiserror::Error;
 #[derive(Clone, Copy, Debug, PartialEq, Eq, Error)]
 pub enum ReadFault {
     #[error("the file does not begin with RIFF")]
-    NotRiff,
+    NotRiff = 1,
     #[error("the RIFF form is not sfbk")]
-    NotSfbk,
+    NotSfbk = 2,
     #[error("a chunk passes the end of what holds it")]
-    Truncated,
+    Truncated = 3,
     #[error("a list of INFO, sdta and pdta is missing")]
-    MissingList,
+    MissingList = 4,
     #[error("ifil or a list of pdta is missing")]
-    MissingChunk,
+    MissingChunk = 5,
     #[error("the version is not 2")]
-    Version,
+    Version = 6,
     #[error("a list of pdta is not whole records long")]
-    RecordSize,
+    RecordSize = 7,
     #[error("a list of pdta has no terminal record")]
-    NoTerminal,
+    NoTerminal = 8,
     #[error("an index falls below the one before it")]
-    BagOrder,
+    BagOrder = 9,
     #[error("an index passes the list that it points into")]
-    IndexOutside,
+    IndexOutside = 10,
     #[error("a zone of a preset names no instrument")]
-    BadInstrument,
+    BadInstrument = 11,
     #[error("a zone of an instrument names no sample")]
-    BadSample,
+    BadSample = 12,
     #[error("a sample's range is not in the points")]
-    SampleRange,
+    SampleRange = 14,
     #[error("a sample is packed")]
-    SampleType,
+    SampleType = 15,
     #[error("a sample is in ROM")]
-    RomSample,
+    RomSample = 16,
     #[error("the points are an odd number of bytes")]
-    OddSamples,
+    OddSamples = 17,
     #[error("there are more records or points than a bank can have")]
-    TooMany,
+    TooMany = 18,
 }
 
 impl ReadFault {
@@ -52,25 +52,7 @@ impl ReadFault {
     pub fn number(self) -> u8
         ensures { result ≡ number_of self }
     {
-        match self {
-            ReadFault::NotRiff => 1,
-            ReadFault::NotSfbk => 2,
-            ReadFault::Truncated => 3,
-            ReadFault::MissingList => 4,
-            ReadFault::MissingChunk => 5,
-            ReadFault::Version => 6,
-            ReadFault::RecordSize => 7,
-            ReadFault::NoTerminal => 8,
-            ReadFault::BagOrder => 9,
-            ReadFault::IndexOutside => 10,
-            ReadFault::BadInstrument => 11,
-            ReadFault::BadSample => 12,
-            ReadFault::SampleRange => 14,
-            ReadFault::SampleType => 15,
-            ReadFault::RomSample => 16,
-            ReadFault::OddSamples => 17,
-            ReadFault::TooMany => 18,
-        }
+        self as u8
     }
 
     /// The name by which a fault line tells it.

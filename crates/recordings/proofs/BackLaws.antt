@@ -1,46 +1,41 @@
 -- The WAVE file of a sample reads as the sample.
-use Rattle.std.proofs.Common.{◌≡◌, ◌≤◌, ◌<◌, ◌+◌, ◌-◌, ◌*◌, ◌/◌, ◌%◌, ◌^◌, ℕ, ℤ, pos, negsuc, Bool, true, false, cond, leb, ltb, eqb, ◌&&◌, min, List, [], ◌∷◌, ◌++◌, length, take, drop, get_or, codes, Option, Some, None, Result, Ok, FitsSigned, refl, sym, ap, ◌∙◌, append_assoc, arith}
+use Rattle.std.proofs.Common.{◌≡◌, ◌≤◌, ◌<◌, ◌+◌, ◌-◌, ◌%◌, ◌^◌, ℕ, ℤ, pos, negsuc, true, cond, leb, ltb, eqb, ◌&&◌, min, List, [], ◌∷◌, ◌++◌, length, drop, codes, Option, Some, None, Ok, FitsSigned, refl, ap, ◌∙◌, arith}
 use Rattle.std.specs.Prelude.{bytes_eq, unwrap_or}
 use Rattle.std.specs.Option.{option_map}
-use Rattle.std.specs.Int.{w8, cast_signed, cast_unsigned}
+use Rattle.std.specs.Int.{w8, cast_unsigned}
 use Rattle.std.specs.List.{AllByRecursion, flat_map}
 use Rattle.std.proofs.lemmas.Bool.{eq-eqb, le-leb, lt-ltb}
 use Rattle.std.proofs.lemmas.Int.{to_z-of_z}
-use Rattle.std.proofs.lemmas.List.{length-append, take_at, drop_at}
-use Rattle.std.proofs.lemmas.Slice.Eq.{bytes_eq-Decides}
 use Rattle.byteorder.specs.Numbers.{little_number-reads_back}
 use Rattle.sf_base.specs.declared.limits.TheConstants.{POINTS}
-use Rattle.sample_view.specs.Words.{words, word_bytes}
+use Rattle.sample_view.specs.Words.{word_bytes}
 use Rattle.sample_view.proofs.WordLaws.{words_of_bytes, length-word_bytes}
 use Rattle.riff_chunks.specs.Walk.{Chunk, walk}
 use Rattle.riff_chunks.specs.Finding.{chunks_in, is_whole, first_body}
-use Rattle.riff_chunks.specs.Spelling.{chunk_head, pad, spell, FitsChunk}
-use Rattle.riff_chunks.proofs.SpellingLaws.{length-pad, length-chunk_head, Headed, chunk_head-Headed, chunks_in-spell, is_whole-spell}
+use Rattle.riff_chunks.specs.Spelling.{chunk, spell, FitsChunk}
+use Rattle.riff_chunks.proofs.SpellingLaws.{chunks_in-spell, is_whole-spell}
 use Rattle.bank_parts.specs.declared.parts.Sample.{Sample}
 use Rattle.bank_parts.specs.Valid.{IsLoop}
 use Rattle.bank_parts.specs.Fits.{FitsSample, FitsLoop}
-use Rattle.bank_format.specs.Chunks.{riff_size, window, body_in}
-use Rattle.wave_file.specs.Wave.{RIFF, WAVE, FORMAT, DATA}
-use Rattle.wave_file.specs.Pitch.{played_key, pitch, unity_note, pitch_fraction}
+use Rattle.bank_format.specs.Chunks.{window, body_in}
+use Rattle.bank_format.specs.Ids.{RIFF}
+use Rattle.wave_file.specs.Wave as wave
+use Rattle.wave_file.specs.Wave.{WAVE, FORMAT, DATA}
+use Rattle.wave_file.specs.Pitch.{pitch, unity_note, pitch_fraction}
 use Rattle.wave_file.specs.SampleWave.{SAMPLER, numbers, mono_format, frame_time, loop_count, sampler_head, loop_bytes, held_pitch, sampler, sample_chunks, sample_wave}
 use Rattle.wave_file.proofs.SampleLaws.{length-ids, length-mono_format, length-sampler, length-content}
 use Rattle.recordings.specs.declared.frames.SamplerLoop.{SamplerLoop}
-use Rattle.recordings.specs.declared.recording.Layout.{Layout}
 use Rattle.recordings.specs.declared.recording.Layout.TheVariants as layout
 use Rattle.recordings.specs.declared.recording.Format.{Format}
-use Rattle.recordings.specs.declared.recording.Channels.{Channels}
 use Rattle.recordings.specs.declared.recording.Channels.TheVariants.{Mono}
 use Rattle.recordings.specs.declared.recording.Pitch.{Pitch}
-use Rattle.recordings.specs.declared.recording.Sampler.{Sampler}
-use Rattle.recordings.specs.declared.recording.Recording.{Recording}
-use Rattle.recordings.specs.Steps.{first_broken, unless_broken}
+use Rattle.bank_format.specs.Steps.{first_broken}
 use Rattle.recordings.specs.Recordings.{layout_in, format_in, channels_in, frame_count, forward_loop, ends_of, unity_note_in, fraction_in, data_in, pitch_held, is_held, held_in, pitch_of, sampler_in}
-use Rattle.recordings.specs.ReadSteps.{riff_steps, format_steps, frame_steps, data_steps, has_loops, is_inside, loop_steps, chunk_steps, sampler_steps, content_steps, content_in, window_steps, steps, recording_in}
+use Rattle.recordings.specs.ReadSteps.{riff_steps, format_steps, frame_steps, data_steps, has_loops, loop_steps, chunk_steps, sampler_steps, content_steps, content_in, window_steps, steps, unless_broken, recording_in}
 use Rattle.recordings.specs.Laws.{recorded, WavesReadBack}
-use Rattle.recordings.proofs.StepLaws.{none_after}
-
-same_bytes : (xs ys : List ℕ) → xs ≡ ys → bytes_eq xs ys ≡ true
-same_bytes xs ys e = (bytes_eq-Decides xs ys).1 e
+use Rattle.bank_format.proofs.StepLaws.{then_none}
+use Rattle.bank_format.proofs.FormLaws.{same_bytes, form_window, form_holds}
+use Rattle.recordings.specs.declared.fault.WaveFault.TheVariants.{NotWave, Truncated}
 
 -- ---- the sampler chunk
 
@@ -173,10 +168,7 @@ unfolding mono_format
 mono_layout rate = refl
 
 module _ (s : Sample) (f : FitsSample s) (l : IsLoop (length s.points) s.looped) (most : length s.points ≤ POINTS) where
-  abbrev form : List ℕ
-  form = WAVE ++ spell (sample_chunks s)
-
-  form_small : length form < 2 ^ 32
+  form_small : length (WAVE ++ spell (sample_chunks s)) < 2 ^ 32
   form_small = let a = length-content s in let b = length-sampler s in let c = loop_count_small s.looped in omega (arith, a, b, c, most)
 
   chunks_fit : AllByRecursion FitsChunk (sample_chunks s)
@@ -189,49 +181,18 @@ module _ (s : Sample) (f : FitsSample s) (l : IsLoop (length s.points) s.looped)
       let d = length-word_bytes s.points in
       (record { id = ids.2; body = omega (arith, a) }, (record { id = ids.3; body = omega (arith, b, c) }, (record { id = ids.4; body = omega (arith, d, most) }, tt)))
 
-  wave_is : sample_wave s ≡ chunk_head RIFF (length form) ++ (form ++ pad (length form))
-  unfolding sample_wave
+  wave_is : sample_wave s ≡ chunk RIFF (WAVE ++ spell (sample_chunks s))
+  unfolding sample_wave RIFF wave.RIFF
   wave_is = refl
 
-  headed : Headed (chunk_head RIFF (length form) ++ (form ++ pad (length form))) RIFF (length form) (form ++ pad (length form))
-  headed = chunk_head-Headed RIFF (length form) (form ++ pad (length form)) length-ids.0 form_small
-
-  size_is : riff_size (sample_wave s) ≡ length form
-  size_is = ap riff_size wave_is ∙ sym headed.sized
-
   window_is : window (sample_wave s) ≡ spell (sample_chunks s)
-  unfolding window
-  window_is =
-      let n = length form in
-      let h = chunk_head RIFF n in
-      let ids = length-ids in
-      let lh = length-chunk_head RIFF n ids.0 in
-      let front : take (8 + n) (sample_wave s) ≡ h ++ form =
-      ap (take (8 + n)) (wave_is ∙ sym (append_assoc h form (pad n))) ∙ take_at (h ++ form) (pad n) (8 + n) (let a = length-append h form in omega (arith, a, lh)) in
-      let rest : drop 12 (h ++ form) ≡ spell (sample_chunks s) =
-      ap (drop 12) (sym (append_assoc h WAVE (spell (sample_chunks s)))) ∙ drop_at (h ++ WAVE) (spell (sample_chunks s)) 12 (let a = length-append h WAVE in let i = ids.1 in omega (arith, a, lh, i)) in
-      ap (λ (k : ℕ). drop 12 (take (8 + k) (sample_wave s))) size_is ∙ ap (drop 12) front ∙ rest
+  window_is = ap window wave_is ∙ form_window WAVE (spell (sample_chunks s)) length-ids.1 form_small
 
   chunks_are : chunks_in (walk (spell (sample_chunks s))) ≡ sample_chunks s
   chunks_are = chunks_in-spell (sample_chunks s) chunks_fit
 
   riff_holds : first_broken (riff_steps (sample_wave s)) ≡ None
-  unfolding riff_steps
-  riff_holds =
-      let n = length form in
-      let size = size_is in
-      let ids = length-ids in
-      let i = ids.1 in
-      let four : 4 ≤ n = (let a = length-append WAVE (spell (sample_chunks s)) in omega (arith, a, i)) in
-      let len : length (sample_wave s) ≡ 8 + n + n % 2 =
-      ap length wave_is ∙ (let a = length-append (chunk_head RIFF n) (form ++ pad n) in let c = length-append form (pad n) in let d = length-pad n in let h = length-chunk_head RIFF n ids.0 in omega (arith, a, c, d, h)) in
-      let past : drop 8 (sample_wave s) ≡ WAVE ++ (spell (sample_chunks s) ++ pad n) = ap (drop 8) wave_is ∙ drop_at (chunk_head RIFF n) (form ++ pad n) 8 (length-chunk_head RIFF n ids.0) ∙ append_assoc WAVE (spell (sample_chunks s)) (pad n) in
-      let t1 : bytes_eq (take 4 (sample_wave s)) RIFF ≡ true = same_bytes _ _ (ap (take 4) wave_is ∙ sym headed.named) in
-      let t2 : leb 12 (length (sample_wave s)) ≡ true = le-leb _ _ (omega (arith, len, four)) in
-      let t3 : leb 4 (riff_size (sample_wave s)) ≡ true = le-leb _ _ (omega (arith, size, four)) in
-      let t4 : leb (8 + riff_size (sample_wave s)) (length (sample_wave s) + 1) ≡ true = le-leb _ _ (omega (arith, size, len)) in
-      let t5 : bytes_eq (take 4 (drop 8 (sample_wave s))) WAVE ≡ true = same_bytes _ _ (ap (take 4) past ∙ take_at WAVE (spell (sample_chunks s) ++ pad n) 4 i) in
-      rw (t1, t2, t3, t4, t5) refl
+  riff_holds = ap (λ (file : List ℕ). first_broken (riff_steps file)) wave_is ∙ form_holds WAVE (spell (sample_chunks s)) length-ids.1 form_small NotWave Truncated NotWave
 
   -- ---- its chunks
 
@@ -271,8 +232,8 @@ module _ (s : Sample) (f : FitsSample s) (l : IsLoop (length s.points) s.looped)
   unfolding content_steps
   content_holds =
       let counted : frame_count (channels_in (layout_in (body_in FORMAT (sample_chunks s))) (body_in DATA (sample_chunks s))) ≡ length s.points = ap frame_count channels_are in
-      none_after (format_steps (body_in FORMAT (sample_chunks s))) _ (ap (λ (x : List ℕ). first_broken (format_steps x)) format_found ∙ format_holds s.rate)
-      (none_after (data_steps (layout_in (body_in FORMAT (sample_chunks s))) (first_body DATA (sample_chunks s))) _ ((λ i. first_broken (data_steps (layout_is i) (data_found i))) ∙ data_holds)
+      then_none (format_steps (body_in FORMAT (sample_chunks s))) _ (ap (λ (x : List ℕ). first_broken (format_steps x)) format_found ∙ format_holds s.rate)
+      (then_none (data_steps (layout_in (body_in FORMAT (sample_chunks s))) (first_body DATA (sample_chunks s))) _ ((λ i. first_broken (data_steps (layout_is i) (data_found i))) ∙ data_holds)
       ((λ i. first_broken (sampler_steps (counted i) (sampler_found i))) ∙ says.holds))
 
   content_is : content_in (sample_chunks s) ≡ recorded s
@@ -294,7 +255,7 @@ module _ (s : Sample) (f : FitsSample s) (l : IsLoop (length s.points) s.looped)
   unfolding recording_in steps
   reads_back =
       let holds : first_broken (steps (sample_wave s)) ≡ None =
-      none_after (riff_steps (sample_wave s)) (window_steps (window (sample_wave s))) riff_holds (ap (λ (w : List ℕ). first_broken (window_steps w)) window_is ∙ window_holds) in
+      then_none (riff_steps (sample_wave s)) (window_steps (window (sample_wave s))) riff_holds (ap (λ (w : List ℕ). first_broken (window_steps w)) window_is ∙ window_holds) in
       let is : content_in (chunks_in (walk (window (sample_wave s)))) ≡ recorded s =
       ap (λ (w : List ℕ). content_in (chunks_in (walk w))) window_is ∙ ap content_in chunks_are ∙ content_is in
       (λ i. unless_broken (holds i) (is i))

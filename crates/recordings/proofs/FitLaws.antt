@@ -1,16 +1,16 @@
 -- A recording of bytes is in the ranges of its fields, and so are the edits of its import.
-use Rattle.std.proofs.Common.{◌≡◌, ◌≤◌, ◌<◌, ◌+◌, ◌-◌, ◌*◌, ◌/◌, ◌^◌, ℕ, zero, suc, ℤ, pos, negsuc, neg_ℤ, Bool, true, false, cond, leb, ltb, eqb, ◌&&◌, ◌||◌, List, [], ◌∷◌, ◌++◌, length, take, drop, get_or, codes, Option, Some, None, Result, Ok, Err, FitsSigned, refl, sym, ap, ◌∙◌, inl, inr, arith}
+use Rattle.std.proofs.Common.{◌≡◌, ◌≤◌, ◌<◌, ◌+◌, ◌-◌, ◌^◌, ℕ, zero, suc, pos, neg_ℤ, Bool, true, false, cond, leb, ltb, eqb, ◌&&◌, ◌||◌, List, [], ◌∷◌, length, take, drop, get_or, codes, Option, Some, None, Ok, FitsSigned, refl, inl, inr, arith}
 use Rattle.std.specs.Prelude.{unwrap_or}
 use Rattle.std.specs.Option.{option_map}
-use Rattle.std.specs.Int.{w8, cast_signed}
-use Rattle.std.specs.List.{AllByRecursion, All, flat_map}
+use Rattle.std.specs.Int.{w8}
+use Rattle.std.specs.List.{AllByRecursion, flat_map}
 use Rattle.std.proofs.lemmas.Bool.{cases_lt, leb-true, ltb-true, and_parts}
 use Rattle.std.proofs.lemmas.List.{get_or_past}
 use Rattle.std.proofs.lemmas.List.Elements.{All-nil, All-append}
 use borrow.Author.Gap.{read_sfits}
 use Rattle.sf_base.specs.declared.limits.TheConstants.{SAMPLES}
 use Rattle.sf_base.specs.Names.{before_zero, IsTextByte, IsName}
-use Rattle.sample_view.specs.Words.{words, AreWords}
+use Rattle.sample_view.specs.Words.{AreWords}
 use Rattle.sample_view.proofs.WordLaws.{AreWords-words}
 use Rattle.riff_chunks.specs.Walk.{Chunk, walk}
 use Rattle.riff_chunks.specs.Finding.{chunks_in, first_body}
@@ -22,9 +22,8 @@ use Rattle.bank_parts.specs.declared.parts.Kind.TheVariants as kind
 use Rattle.bank_parts.specs.declared.parts.Sample.{Sample}
 use Rattle.bank_parts.specs.Fits.{FitsSample, FitsKind, FitsLoop}
 use Rattle.bank_format.specs.Chunks.{window, body_in}
-use Rattle.bank_format.proofs.StepLaws.{split_none}
+use Rattle.bank_format.proofs.StepLaws.{split_none, both_none}
 use Rattle.bank_format.proofs.ReadBytes.{OfBytes, take_bytes, drop_bytes, walk_bytes, body_bytes, window_bytes}
-use Rattle.edit_forms.specs.declared.edit.Edit.{Edit}
 use Rattle.edit_forms.specs.declared.edit.Edit.TheVariants.{One}
 use Rattle.edit_forms.specs.declared.step.Step.TheVariants.{SetKind}
 use Rattle.edit_forms.specs.Fits.{FitsEdit}
@@ -40,9 +39,9 @@ use Rattle.recordings.specs.declared.recording.Channels.TheVariants.{Mono, Stere
 use Rattle.recordings.specs.declared.recording.Pitch.{Pitch}
 use Rattle.recordings.specs.declared.recording.Sampler.{Sampler}
 use Rattle.recordings.specs.declared.recording.Recording.{Recording}
-use Rattle.recordings.specs.Steps.{Step, first_broken, unless_broken}
-use Rattle.recordings.specs.Recordings.{channel_count_in, layout_in, frame_of, channels_in, frame_count, forward_loop, ends_of, unity_note_in, fraction_in, data_in, pitch_held, is_held, held_in, cents_in, nearest, pitch_of, sampler_in}
-use Rattle.recordings.specs.ReadSteps.{riff_steps, format_steps, frame_steps, data_steps, has_loops, is_inside, loop_steps, chunk_steps, sampler_steps, content_steps, content_in, window_steps, steps, recording_in}
+use Rattle.bank_format.specs.Steps.{first_broken}
+use Rattle.recordings.specs.Recordings.{layout_in, frame_of, channels_in, forward_loop, ends_of, unity_note_in, fraction_in, data_in, pitch_held, is_held, held_in, cents_in, nearest, pitch_of, sampler_in}
+use Rattle.recordings.specs.ReadSteps.{riff_steps, format_steps, data_steps, has_loops, is_inside, loop_steps, chunk_steps, sampler_steps, content_steps, content_in, window_steps, steps, unless_broken, recording_in}
 use Rattle.recordings.specs.Imports.{left_points, right_points, mono_name, side_name, sample_of, add_edit, pair_edits, channel_edits, import_edits}
 use Rattle.recordings.proofs.ImportLaws.{cut_text, side_named}
 
@@ -135,13 +134,6 @@ sampler_fits n (Some s) b h =
     record { pitch = pitch_fits s b (leb-true _ _ note.0); looped = loop_fits n (forward_loop s) note.1 }
 
 -- ---- together
-
-both_none : (xs ys : List Step) → first_broken (xs ++ ys) ≡ None → (first_broken xs ≡ None) × (first_broken ys ≡ None)
-both_none [] ys h = (refl, h)
-both_none (x ∷ xs) ys h =
-    let here = split_none x.holds _ _ h in
-    let rest = both_none xs ys here.1 in
-    (rw here.0 rest.0, rest.1)
 
 content_fits : (chunks : List Chunk) → AllByRecursion OfBytes chunks → first_broken (content_steps chunks) ≡ None → FitsRecording (content_in chunks)
 unfolding content_steps content_in

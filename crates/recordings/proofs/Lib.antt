@@ -1,4 +1,3 @@
-pub mod StepLaws
 pub mod ReadLaws
 pub mod ImportLaws
 pub mod FitLaws

@@ -1,5 +1,5 @@
 -- What the parts of the reader say of the whole file.
-use Rattle.std.proofs.Common.{◌≡◌, ℕ, List, [], ◌++◌, Option, Some, None, Result, Ok, Err, refl, sym, ap, ◌∙◌}
+use Rattle.std.proofs.Common.{◌≡◌, ℕ, List, [], ◌++◌, Option, Some, None, Result, Ok, Err, sym, ap, ◌∙◌}
 use Rattle.std.specs.Prelude.{unwrap_or}
 use Rattle.std.specs.Result.{IsErrAnd}
 use Rattle.riff_chunks.specs.Walk.{Chunk, walk}
@@ -13,10 +13,10 @@ use Rattle.recordings.specs.declared.recording.Format.{Format}
 use Rattle.recordings.specs.declared.recording.Channels.{Channels}
 use Rattle.recordings.specs.declared.recording.Sampler.{Sampler}
 use Rattle.recordings.specs.declared.recording.Recording.{Recording}
-use Rattle.recordings.specs.Steps.{Step, first_broken, unless_broken, Passes}
+use Rattle.bank_format.specs.Steps.{Step, first_broken, Passes}
 use Rattle.recordings.specs.Recordings.{layout_in, format_in, channels_in, frame_count, sampler_in}
-use Rattle.recordings.specs.ReadSteps.{riff_steps, format_steps, data_steps, sampler_steps, content_steps, window_steps, content_in, steps, recording_in}
-use Rattle.recordings.proofs.StepLaws.{first_broken-append, first_broken-front, passes_by, passes_front, passes_after}
+use Rattle.recordings.specs.ReadSteps.{riff_steps, format_steps, data_steps, sampler_steps, content_steps, window_steps, content_in, steps, unless_broken, recording_in}
+use Rattle.bank_format.proofs.StepLaws.{first_broken-append, first_broken-front, passes_by, passes_front, passes_after}
 
 abbrev said : List ℕ → Recording
 said w = content_in (chunks_in (walk w))
@@ -66,7 +66,7 @@ module _ (chunks : List Chunk) (r : Result Recording WaveFault) where
   abbrev f : List ℕ
   f = body_in FORMAT chunks
 
-  abbrev last_steps : List Step
+  abbrev last_steps : List (Step WaveFault)
   last_steps = sampler_steps (frame_count (channels_in (layout_in f) (body_in DATA chunks))) (first_body SAMPLER chunks)
 
   abbrev Reads : Type 0

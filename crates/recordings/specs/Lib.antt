@@ -1,5 +1,4 @@
 pub mod FaultNames
-pub mod Steps
 pub mod Recordings
 pub mod ReadSteps
 pub mod Imports

@@ -1,32 +1,27 @@
 -- The steps of reading a WAVE file, in their order. The first that a file breaks gives its fault.
-use Rattle.std.specs.Prelude.{◌+◌, ◌-◌, ◌*◌, ◌%◌, ◌^◌, ◌==◌, ◌&&◌, ◌||◌, ℕ, Bool, min, nat_le, nat_lt, List, [], ◌∷◌, ◌++◌, length, take, drop, bytes_eq, Option, Some, None, is_some, unwrap_or, Result}
+use Rattle.std.specs.Prelude.{◌+◌, ◌-◌, ◌*◌, ◌%◌, ◌^◌, ◌==◌, ◌&&◌, ◌||◌, ℕ, Bool, min, nat_le, nat_lt, List, [], ◌∷◌, ◌++◌, length, Option, Some, None, is_some, unwrap_or, Result, Ok, Err}
 use Rattle.riff_chunks.specs.Walk.{Chunk, walk}
 use Rattle.riff_chunks.specs.Finding.{chunks_in, is_whole, first_body}
-use Rattle.bank_format.specs.Chunks.{riff_size, window, body_in}
-use Rattle.wave_file.specs.Wave.{RIFF, WAVE, FORMAT, DATA}
+use Rattle.bank_format.specs.Chunks.{window, body_in}
+use Rattle.wave_file.specs.Wave.{WAVE, FORMAT, DATA}
 use Rattle.wave_file.specs.SampleWave.{SAMPLER}
 use Rattle.recordings.specs.declared.fault.WaveFault.{WaveFault}
 use Rattle.recordings.specs.declared.fault.WaveFault.TheVariants as fault
 use Rattle.recordings.specs.declared.frames.SamplerLoop.{SamplerLoop}
 use Rattle.recordings.specs.declared.recording.Layout.{Layout}
 use Rattle.recordings.specs.declared.recording.Recording.{Recording}
-use Rattle.recordings.specs.Steps.{Step, step, first_broken, unless_broken}
+use Rattle.bank_format.specs.Steps.{Step, step, first_broken}
+use Rattle.bank_format.specs.ReadSteps.{form_steps}
 use Rattle.recordings.specs.Recordings.{channel_count_in, bits_in, is_plain, layout_in, format_in, frame_size, channels_in, frame_count, loop_count_in, forward_loop, unity_note_in, sampler_in}
 
 -- ---- the RIFF chunk, whose form is WAVE
 
-unfoldable pub riff_steps : List ℕ → List Step
-riff_steps file =
-    step (bytes_eq (take 4 file) RIFF) fault.NotWave
-    ∷ step (nat_le 12 (length file)) fault.Truncated
-    ∷ step (nat_le 4 (riff_size file)) fault.Truncated
-    ∷ step (nat_le (8 + riff_size file) (length file + 1)) fault.Truncated
-    ∷ step (bytes_eq (take 4 (drop 8 file)) WAVE) fault.NotWave
-    ∷ []
+abbrev pub riff_steps : List ℕ → List (Step WaveFault)
+riff_steps file = form_steps WAVE fault.NotWave fault.Truncated fault.NotWave file
 
 -- ---- the format chunk
 
-unfoldable pub format_steps : List ℕ → List Step
+unfoldable pub format_steps : List ℕ → List (Step WaveFault)
 format_steps f =
     step (nat_le 16 (length f)) fault.NoFormat
     ∷ step (is_plain f) fault.Compressed
@@ -36,10 +31,10 @@ format_steps f =
 
 -- ---- the data chunk, of whole frames
 
-unfoldable pub frame_steps : Layout → List ℕ → List Step
+unfoldable pub frame_steps : Layout → List ℕ → List (Step WaveFault)
 frame_steps layout bytes = step (length bytes % frame_size layout == 0) fault.HalfFrame ∷ []
 
-unfoldable pub data_steps : Layout → Option (List ℕ) → List Step
+unfoldable pub data_steps : Layout → Option (List ℕ) → List (Step WaveFault)
 data_steps layout body = step (is_some body) fault.NoData ∷ frame_steps layout (unwrap_or body [])
 
 -- ---- the sampler chunk, if there is one
@@ -52,24 +47,24 @@ has_loops s = nat_le 36 (length s) && nat_le (36 + 24 * loop_count_in s) (length
 abbrev pub is_inside : ℕ → SamplerLoop → Bool
 is_inside frames l = nat_le l.first l.last && nat_lt l.last (min frames (2 ^ 32 - 1))
 
-abbrev pub loop_steps : ℕ → Option SamplerLoop → List Step
+abbrev pub loop_steps : ℕ → Option SamplerLoop → List (Step WaveFault)
 loop_steps frames None = []
 loop_steps frames (Some l) = step (is_inside frames l) fault.LoopOutside ∷ []
 
-unfoldable pub chunk_steps : ℕ → List ℕ → List Step
+unfoldable pub chunk_steps : ℕ → List ℕ → List (Step WaveFault)
 chunk_steps frames s =
     step (has_loops s) fault.ShortSampler
     ∷ step (nat_le (unity_note_in s) 127) fault.UnityNote
     ∷ loop_steps frames (forward_loop s)
 
-abbrev pub sampler_steps : ℕ → Option (List ℕ) → List Step
+abbrev pub sampler_steps : ℕ → Option (List ℕ) → List (Step WaveFault)
 sampler_steps frames None = []
 sampler_steps frames (Some s) = chunk_steps frames s
 
 -- ---- together
 
 -- what the first chunk of each id says
-unfoldable pub content_steps : List Chunk → List Step
+unfoldable pub content_steps : List Chunk → List (Step WaveFault)
 content_steps chunks =
     let f = body_in FORMAT chunks in
     let body = body_in DATA chunks in
@@ -86,11 +81,16 @@ content_in chunks =
       sampler = sampler_in (first_body SAMPLER chunks);
     }
 
-unfoldable pub window_steps : List ℕ → List Step
+unfoldable pub window_steps : List ℕ → List (Step WaveFault)
 window_steps w = step (is_whole (walk w)) fault.Truncated ∷ content_steps (chunks_in (walk w))
 
-unfoldable pub steps : List ℕ → List Step
+unfoldable pub steps : List ℕ → List (Step WaveFault)
 steps file = riff_steps file ++ window_steps (window file)
+
+-- a value, or the fault
+abbrev pub unless_broken : {X : Type 0} → Option WaveFault → X → Result X WaveFault
+unless_broken None value = Ok value
+unless_broken (Some fault) value = Err fault
 
 -- The recording that a WAVE file says, or the fault of the first step that it breaks.
 unfoldable pub recording_in : List ℕ → Result Recording WaveFault

@@ -10,28 +10,28 @@ use thiserror::Error;
 #[derive(Clone, Copy, Debug, PartialEq, Eq, Error)]
 pub enum WaveFault {
     #[error("the file is no RIFF file of the form WAVE")]
-    NotWave,
+    NotWave = 53,
     #[error("a chunk passes the end of what holds it")]
-    Truncated,
+    Truncated = 54,
     /// What is neither plain whole numbers nor the extensible format of these.
     #[error("the samples are compressed, or no whole numbers")]
-    Compressed,
+    Compressed = 55,
     #[error("there is no format chunk of 16 bytes")]
-    NoFormat,
+    NoFormat = 56,
     #[error("the samples have not 16 bits")]
-    SampleBits,
+    SampleBits = 57,
     #[error("there is neither one channel nor two")]
-    ChannelCount,
+    ChannelCount = 58,
     #[error("there is no data chunk")]
-    NoData,
+    NoData = 59,
     #[error("the data are no whole number of frames")]
-    HalfFrame,
+    HalfFrame = 60,
     #[error("the sampler chunk is shorter than its loops")]
-    ShortSampler,
+    ShortSampler = 61,
     #[error("the unity note is above 127")]
-    UnityNote,
+    UnityNote = 62,
     #[error("the loop is empty or not in the data")]
-    LoopOutside,
+    LoopOutside = 63,
 }
 
 impl WaveFault {
@@ -39,19 +39,7 @@ impl WaveFault {
     pub fn number(self) -> u8
         ensures { result ≡ number_of self }
     {
-        match self {
-            WaveFault::NotWave => 53,
-            WaveFault::Truncated => 54,
-            WaveFault::Compressed => 55,
-            WaveFault::NoFormat => 56,
-            WaveFault::SampleBits => 57,
-            WaveFault::ChannelCount => 58,
-            WaveFault::NoData => 59,
-            WaveFault::HalfFrame => 60,
-            WaveFault::ShortSampler => 61,
-            WaveFault::UnityNote => 62,
-            WaveFault::LoopOutside => 63,
-        }
+        self as u8
     }
 
     /// The name by which a fault line tells it.

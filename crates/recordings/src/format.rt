@@ -1,7 +1,7 @@
 //! The format chunk and the data chunk of a WAVE file.
 ghost use Rattle.std.specs.Prelude.{◌≡◌, ◌≤◌, [], length, unwrap_or};
 ghost use Rattle.std.specs.Option.{option_copied};
-ghost use Rattle.recordings.specs.Steps.{Passes};
+ghost use Rattle.bank_format.specs.Steps.{Passes};
 ghost use Rattle.recordings.specs.Recordings.{format_in, is_plain, channels_in};
 ghost use Rattle.recordings.specs.ReadSteps.{format_steps, data_steps, frame_steps};
 

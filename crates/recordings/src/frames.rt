@@ -1,5 +1,7 @@
 //! The records of a WAVE file: frames of two channels, and the loops of a sampler chunk.
 ghost use Rattle.std.specs.Prelude.{◌≡◌, ◌≤◌, length, take};
+ghost use Rattle.std.proofs.Common.{lit<};
+ghost use Rattle.recordings.specs.Recordings.{frame_of, sampler_loop_of};
 
 use hydra_records::Record;
 use sf_base::{rest_from, u32_at};
@@ -12,9 +14,6 @@ pub struct Frame {
 }
 
 impl Record for Frame {
-    ghost use Rattle.recordings.specs.Recordings.{frame_of};
-    ghost use Rattle.std.proofs.Common.{lit<};
-
     ghost SIZE = { 4 };
 
     ghost of_bytes = { frame_of };
@@ -45,9 +44,6 @@ pub struct SamplerLoop {
 }
 
 impl Record for SamplerLoop {
-    ghost use Rattle.recordings.specs.Recordings.{sampler_loop_of};
-    ghost use Rattle.std.proofs.Common.{lit<};
-
     ghost SIZE = { 24 };
 
     ghost of_bytes = { sampler_loop_of };

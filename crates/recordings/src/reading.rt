@@ -1,25 +1,19 @@
 //! Reading a WAVE file.
 ghost use Rattle.std.specs.Prelude.{◌≡◌};
-ghost use Rattle.bank_format.specs.Chunks.{window, body_in};
+ghost use Rattle.bank_format.specs.Chunks.{body_in};
 ghost use Rattle.wave_file.specs.Wave.{FORMAT};
 ghost use Rattle.riff_chunks.specs.Walk.{walk};
 ghost use Rattle.riff_chunks.specs.Finding.{chunks_in};
-ghost use Rattle.recordings.specs.Steps.{Passes};
-ghost use Rattle.recordings.specs.ReadSteps.{riff_steps, window_steps, content_steps, content_in, recording_in};
+ghost use Rattle.bank_format.specs.Steps.{Passes};
+ghost use Rattle.recordings.specs.ReadSteps.{window_steps, content_steps, content_in, recording_in};
 
 use crate::fault::WaveFault;
 use crate::format::{read_data, read_format};
 use crate::recording::Recording;
 use crate::sampler::read_sampler;
+use bank_format::window_of;
 use riff_chunks::FirstChunks;
-use sf_base::{front_of, part_of, rest_from, u32_at};
 use std::alloc::Global;
-
-/// The bytes of the RIFF chunk's id and size.
-const HEAD_LENGTH: usize = 8;
-
-/// The bytes of the form after them.
-const FORM_LENGTH: usize = 4;
 
 /// The chunks that are read.
 const IDS: &[[u8; 4]] = &[*b"fmt ", *b"data", *b"smpl"];
@@ -32,33 +26,14 @@ const IDS: &[[u8; 4]] = &[*b"fmt ", *b"data", *b"smpl"];
 pub fn read_recording<'a>(alloc: Global, file: &'a [u8]) -> Result<Recording<'a>, WaveFault>
     ensures { result ≡ recording_in file.now }
 {
-    let window = window_of(file)?;
+    let window = window_of(
+        file,
+        *b"WAVE",
+        WaveFault::NotWave,
+        WaveFault::Truncated,
+        WaveFault::NotWave,
+    )?;
     read_window(alloc, window)
-}
-
-// What follows the form in the RIFF chunk of a file. The chunk may lack its last pad byte, and what follows it is
-// ignored.
-#[tactic(auto, unfolding(crate::specs::ReadSteps::riff_steps, bank_format::specs::Chunks::window, wave_file::specs::Wave::RIFF, wave_file::specs::Wave::WAVE))]
-fn window_of(file: &[u8]) -> Result<&[u8], WaveFault>
-    ensures { Passes (λ w. w.now) result (riff_steps file.now) (window file.now) }
-{
-    if front_of(file, 4) != b"RIFF".as_slice() {
-        return Err(WaveFault::NotWave);
-    }
-    if file.len() < HEAD_LENGTH + FORM_LENGTH {
-        return Err(WaveFault::Truncated);
-    }
-    let size = u32_at(file, 4) as usize;
-    if size < FORM_LENGTH || file.len() + 1 < HEAD_LENGTH + size {
-        return Err(WaveFault::Truncated);
-    }
-    if part_of(file, HEAD_LENGTH, FORM_LENGTH) != b"WAVE".as_slice() {
-        return Err(WaveFault::NotWave);
-    }
-    Ok(rest_from(
-        front_of(file, HEAD_LENGTH + size),
-        HEAD_LENGTH + FORM_LENGTH,
-    ))
 }
 
 // What the chunks of the window say, which is walked to its end.

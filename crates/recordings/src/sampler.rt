@@ -1,7 +1,7 @@
 //! The sampler chunk of a WAVE file: its loop and its pitch.
 ghost use Rattle.std.specs.Prelude.{◌≡◌, ◌+◌, ◌*◌, ◌≤◌, length};
 ghost use Rattle.std.specs.Option.{option_copied, option_map};
-ghost use Rattle.recordings.specs.Steps.{Passes};
+ghost use Rattle.bank_format.specs.Steps.{Passes};
 ghost use Rattle.recordings.specs.Recordings.{loop_count_in, forward_loop, ends_of, unity_note_in, data_in, is_held, held_in, cents_in, nearest, pitch_in, sampler_in};
 ghost use Rattle.recordings.specs.ReadSteps.{has_loops, loop_steps, chunk_steps, sampler_steps};
 

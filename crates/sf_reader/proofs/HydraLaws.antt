@@ -21,8 +21,7 @@ use Rattle.bank_format.specs.ReadSteps.{record_counts, count_steps, is_rising, i
 use Rattle.sf_reader.specs.declared.hydra.LevelTables.{LevelTables}
 use Rattle.sf_reader.specs.Hydra.{level_index_steps, AreLists}
 use Rattle.sf_reader.specs.Owners.{windows_of}
-use Rattle.bank_format.proofs.StepLaws.{split_none, both_none}
-use Rattle.sf_reader.proofs.StepLaws.{passes_front, passes_after}
+use Rattle.bank_format.proofs.StepLaws.{split_none, both_none, passes_front, passes_after}
 use Rattle.sf_reader.proofs.WindowLaws.{or_zero-bags}
 
 -- the nine lists of these
@@ -40,10 +39,10 @@ seen p i s = record {
 }
 
 -- the steps of the presets' indexes, and those of the instruments'
-abbrev preset_indexes : LevelTables PresetHead → List Step
+abbrev preset_indexes : LevelTables PresetHead → List (Step ReadFault)
 preset_indexes p = level_index_steps (map (λ (h : PresetHead). h.bag) p.heads) p
 
-abbrev instrument_indexes : LevelTables InstrumentHead → List Step
+abbrev instrument_indexes : LevelTables InstrumentHead → List (Step ReadFault)
 instrument_indexes i = level_index_steps (map (λ (h : InstrumentHead). h.bag) i.heads) i
 
 index_parts : (p : LevelTables PresetHead) (i : LevelTables InstrumentHead) (s : List SampleHead) → all_index_steps (seen p i s) ≡ preset_indexes p ++ instrument_indexes i

@@ -34,7 +34,8 @@ use Rattle.sf_reader.specs.Later.{counts_with_later, AreFew}
 use Rattle.sf_reader.specs.Records.{Adds}
 use Rattle.sf_reader.proofs.Kept.{length-kept}
 use Rattle.sf_reader.proofs.Adding.{adds_none, adds_both, adds_as}
-use Rattle.sf_reader.proofs.StepLaws.{first_broken-append, fails_front, given_by}
+use Rattle.bank_format.proofs.StepLaws.{first_broken-append}
+use Rattle.sf_reader.proofs.StepLaws.{fails_front, given_by}
 
 abbrev gens_in : Level → Bagged → ℕ
 gens_in at r = dropped at r.gens
@@ -165,7 +166,7 @@ module _ (at : Level) (r : Bagged) (g : GensRead) (is : g ≡ gens_read_of at r.
   pub target_fails : (n : ℕ) (missing : ReadFault) (t : ℕ) → g.target ≡ Some t → {Y Z : Type 0} (view : Y → Z) (value : Z) (res : Result Y (Failure ReadFault)) (e : Failure ReadFault)
       → IsErrAnd res (λ d. d ≡ e) → Fails e (first_broken (step (nat_lt t n) missing ∷ [])) → PassesGivenMemory view res (steps_of_bags at n missing (r ∷ [])) value
   target_fails n missing t some view value res e err h =
-      given_by view value res e (steps_of_bags at n missing (r ∷ [])) err (subst (λ (l : List Step). Fails e (first_broken l)) (steps_one n missing t some) h)
+      given_by view value res e (steps_of_bags at n missing (r ∷ [])) err (subst (λ (l : List (Step ReadFault)). Fails e (first_broken l)) (steps_one n missing t some) h)
 
   pub bags_none : g.target ≡ None → [] ≡ zone_bags at (r ∷ [])
   bags_none none = sym (ap (map (zone_bag (target_operator at))) (no_zone at r (target_as None none)))
@@ -310,7 +311,7 @@ module _ (gens : List Generator) (mods : List Modulator) where
 -- ---- bag after bag
 
 module _ (at : Level) (targets : ℕ) (missing : ReadFault) where
-  abbrev steps : List Bagged → List Step
+  abbrev steps : List Bagged → List (Step ReadFault)
   steps = steps_of_bags at targets missing
 
   -- what was counted and put behind the others, with the bags that are left, is what all bags say, and the targets
@@ -335,7 +336,7 @@ module _ (at : Level) (targets : ℕ) (missing : ReadFault) where
   -- its steps are the first of all
   pub first_fails : (e : Failure ReadFault) (r : Bagged) (left all : List Bagged) → all ≡ r ∷ left → Fails e (first_broken (steps (r ∷ []))) → Fails e (first_broken (steps all))
   first_fails e r left all is h =
-      subst (λ (l : List Step). Fails e (first_broken l)) (sym (steps-append at targets missing (r ∷ []) left) ∙ ap steps (sym is))
+      subst (λ (l : List (Step ReadFault)). Fails e (first_broken l)) (sym (steps-append at targets missing (r ∷ []) left) ∙ ap steps (sym is))
       (fails_front e (steps (r ∷ [])) (steps left) h)
 
   module _ (old now : Recs) (counts : ZoneCounts) (r : Bagged) (rest left all : List Bagged) (is : left ≡ r ∷ rest) (so_far : Left old now counts left all) where

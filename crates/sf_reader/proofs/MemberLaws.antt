@@ -22,22 +22,23 @@ use Rattle.sf_reader.specs.declared.hydra.LevelTables.{LevelTables}
 use Rattle.sf_reader.specs.declared.owners.Members.{Members}
 use Rattle.sf_reader.specs.Hydra.{AreLists}
 use Rattle.sf_reader.specs.Owners.{AreSmall, added, windows_of, FlatOwners, FlatMembers, members_seen, owners_with_counts, zone_steps, members_of, member_steps}
-use Rattle.sf_reader.proofs.StepLaws.{given_by, given_front, given_after, none_after}
+use Rattle.bank_format.proofs.StepLaws.{then_none}
+use Rattle.sf_reader.proofs.StepLaws.{given_by, given_front, given_after}
 use Rattle.sf_reader.proofs.HydraLaws.{ModsInside, few_records, windows_are}
 use Rattle.sf_reader.proofs.CountLaws.{counts-few, both-small}
 
 -- ---- of the nine lists
 
-abbrev pub preset_part : Tables → List Step
+abbrev pub preset_part : Tables → List (Step ReadFault)
 preset_part t = zone_steps level.Preset (length (rows t.inst)) BadInstrument (preset_windows t)
 
-abbrev pub instrument_part : Tables → List Step
+abbrev pub instrument_part : Tables → List (Step ReadFault)
 instrument_part t = zone_steps level.Instrument (length (rows t.shdr)) BadSample (instrument_windows t)
 
 -- ---- of four lists, of either level
 
 -- the zones that they say, where the targets are among so many
-abbrev pub steps_of : {H R : Type 0} → Headers H R → ReadFault → LevelTables R → ℕ → List Step
+abbrev pub steps_of : {H R : Type 0} → Headers H R → ReadFault → LevelTables R → ℕ → List (Step ReadFault)
 steps_of h missing l targets = zone_steps h.level targets missing (windows_of h.first_bag l)
 
 -- what they hold
@@ -62,10 +63,10 @@ module _ {H R : Type 0} (h : Headers H R) (l : LevelTables R) (heads : List R) (
 
 -- ---- of both levels
 
-abbrev pub preset_steps : LevelTables PresetHead → ℕ → List Step
+abbrev pub preset_steps : LevelTables PresetHead → ℕ → List (Step ReadFault)
 preset_steps = steps_of format.presets BadInstrument
 
-abbrev pub instrument_steps : LevelTables InstrumentHead → ℕ → List Step
+abbrev pub instrument_steps : LevelTables InstrumentHead → ℕ → List (Step ReadFault)
 instrument_steps = steps_of format.instruments BadSample
 
 -- the four lists of the presets, those of the instruments, and the numbers of their targets
@@ -96,12 +97,12 @@ module _ (t : Tables) (p : LevelTables PresetHead) (i : LevelTables InstrumentHe
   module _ (r : Result Members (Failure ReadFault)) (e : Failure ReadFault) (is : IsErrAnd r (λ d. d ≡ e)) where
     pub presets_fail : Fails e (first_broken (preset_steps p instruments)) → PassesGivenMemory members_seen r (member_steps t) (members_of t)
     presets_fail h =
-        given_front members_seen (members_of t) r e (preset_part t) (instrument_part t) is (subst (λ (s : List Step). Fails e (first_broken s)) preset_steps_are h)
+        given_front members_seen (members_of t) r e (preset_part t) (instrument_part t) is (subst (λ (s : List (Step ReadFault)). Fails e (first_broken s)) preset_steps_are h)
 
     pub instruments_fail : first_broken (preset_steps p instruments) ≡ None → Fails e (first_broken (instrument_steps i samples)) → PassesGivenMemory members_seen r (member_steps t) (members_of t)
     instruments_fail none h =
         given_after members_seen (members_of t) r (preset_part t) (instrument_part t) (sym (ap first_broken preset_steps_are) ∙ none)
-        (given_by members_seen (members_of t) r e (instrument_part t) is (subst (λ (s : List Step). Fails e (first_broken s)) instrument_steps_are h))
+        (given_by members_seen (members_of t) r e (instrument_part t) is (subst (λ (s : List (Step ReadFault)). Fails e (first_broken s)) instrument_steps_are h))
 
   pub members_hold : (presets : FlatOwners Head) (of_instruments : FlatOwners (List ℕ)) → first_broken (preset_steps p instruments) ≡ None → presets ≡ read_of format.presets p
       → first_broken (instrument_steps i samples) ≡ None → of_instruments ≡ read_of format.instruments i
@@ -109,7 +110,7 @@ module _ (t : Tables) (p : LevelTables PresetHead) (i : LevelTables InstrumentHe
   members_hold presets of_instruments none presets_are none_too instruments_are =
       let first = presets_are ∙ presets_value in
       let second = instruments_are ∙ instruments_value in (
-        none_after (preset_part t) (instrument_part t) (sym (ap first_broken preset_steps_are) ∙ none) (sym (ap first_broken instrument_steps_are) ∙ none_too),
+        then_none (preset_part t) (instrument_part t) (sym (ap first_broken preset_steps_are) ∙ none) (sym (ap first_broken instrument_steps_are) ∙ none_too),
         λ k. record { presets = first k; instruments = second k },
       )
 

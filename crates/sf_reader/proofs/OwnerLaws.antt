@@ -30,7 +30,8 @@ use Rattle.sf_reader.specs.Records.{AreSoFar}
 use Rattle.sf_reader.specs.declared.hydra.LevelTables.{LevelTables}
 use Rattle.sf_reader.specs.Owners.{AreSmall, added, counts_over, AreOwnersSoFar, AddsOwner, AreEnded, FlatOwners, owners_seen, owners_with_counts, zone_steps, window_of}
 use Rattle.sf_reader.proofs.Adding.{bags_so_far}
-use Rattle.sf_reader.proofs.StepLaws.{first_broken-append, fails_front, given_by}
+use Rattle.bank_format.proofs.StepLaws.{first_broken-append}
+use Rattle.sf_reader.proofs.StepLaws.{fails_front, given_by}
 use Rattle.sf_reader.proofs.CountLaws.{AreFew, part-small}
 use Rattle.sf_reader.proofs.WindowLaws.{slice-bags_in, length-rows, length-windows}
 

@@ -13,7 +13,8 @@ use Rattle.sf_reader.specs.Lists.{ListChunks, chunks_in_lists}
 use Rattle.sf_reader.specs.Hydra.{Bodies, bodies_in, whole_steps, tables_from}
 use Rattle.sf_reader.specs.FlatContent.{FlatContent, flat_content}
 use Rattle.sf_reader.specs.Content.{list_content_steps, list_content, version_steps, table_steps, table_content}
-use Rattle.sf_reader.proofs.StepLaws.{fails_front, fails_after, none_after}
+use Rattle.bank_format.proofs.StepLaws.{then_none}
+use Rattle.sf_reader.proofs.StepLaws.{fails_front, fails_after}
 use Rattle.sf_reader.proofs.TableLaws.{from_counts_are}
 use Rattle.sf_reader.proofs.FlatLaws.{content_flat}
 
@@ -28,26 +29,26 @@ smpl_in w = body_in SMPL w.sdta
 abbrev pub nine_in : ListChunks → Bodies
 nine_in w = bodies_in w.pdta
 
-abbrev pub version_there : ListChunks → List Step
+abbrev pub version_there : ListChunks → List (Step ReadFault)
 version_there w = chunk_step w.info IFIL ∷ []
 
-abbrev pub nine_there : ListChunks → List Step
+abbrev pub nine_there : ListChunks → List (Step ReadFault)
 nine_there w = map (chunk_step w.pdta) nine
 
 -- the steps from a part on
-abbrev pub from_whole : ListChunks → List Step
+abbrev pub from_whole : ListChunks → List (Step ReadFault)
 from_whole w = whole_steps (nine_in w) ++ table_steps (tables_from (nine_in w)) (smpl_in w)
 
-abbrev pub from_version : ListChunks → List Step
+abbrev pub from_version : ListChunks → List (Step ReadFault)
 from_version w = version_steps (ifil_in w) ++ from_whole w
 
-abbrev pub from_nine : ListChunks → List Step
+abbrev pub from_nine : ListChunks → List (Step ReadFault)
 from_nine w = nine_there w ++ from_version w
 
 pub lists_in_parts : (w : ListChunks) → list_content_steps w ≡ version_there w ++ from_nine w
 unfolding content_steps chunk_steps size_steps point_steps points_in tables_in bodies_in whole_steps tables_from
 lists_in_parts w =
-    ap (λ (l : List Step). version_there w ++ (nine_there w ++ (version_steps (ifil_in w) ++ (whole_steps (nine_in w) ++ l))))
+    ap (λ (l : List (Step ReadFault)). version_there w ++ (nine_there w ++ (version_steps (ifil_in w) ++ (whole_steps (nine_in w) ++ l))))
     (from_counts_are w.info w.sdta (tables_from (nine_in w)) (smpl_in w))
 
 pub content_in_parts : (w : ListChunks) → list_content w ≡ table_content (field_at 2 2 (ifil_in w)) w (tables_from (nine_in w)) (smpl_in w)
@@ -117,8 +118,8 @@ lists_hold w version bodies minor t smpl k none =
     let whole : first_broken (whole_steps (nine_in w)) ≡ None = rw (← o.bodies_are) k.whole in
     let holds : first_broken (version_steps (ifil_in w)) ≡ None = rw (← o.version_is) k.version_holds in
     let all =
-    none_after (version_there w) (from_nine w) o.there (none_after (nine_there w) (from_version w) o.nine
-    (none_after (version_steps (ifil_in w)) (from_whole w) holds (none_after (whole_steps (nine_in w)) (table_steps (tables_from (nine_in w)) (smpl_in w)) whole tables))) in (
+    then_none (version_there w) (from_nine w) o.there (then_none (nine_there w) (from_version w) o.nine
+    (then_none (version_steps (ifil_in w)) (from_whole w) holds (then_none (whole_steps (nine_in w)) (table_steps (tables_from (nine_in w)) (smpl_in w)) whole tables))) in (
       rw lists_in_parts all,
       ap (λ (n : ℕ). table_content n w t smpl) (k.minor_is ∙ ap (field_at 2 2) o.version_is)
           ∙ ap (λ (u : Tables). table_content (field_at 2 2 (ifil_in w)) w u smpl) (k.tables_are ∙ ap tables_from o.bodies_are)
@@ -152,15 +153,15 @@ file_holds file w v ew ev frame lists inside =
     let vw : v ≡ chunks_in_lists (window file) = ev ∙ ap chunks_in_lists ew in
     let there : first_broken (list_steps (window file)) ≡ None = ap (λ (l : List ℕ). first_broken (list_steps l)) (sym ew) ∙ lists in
     let held : first_broken (list_content_steps (chunks_in_lists (window file))) ≡ None = ap (λ (u : ListChunks). first_broken (list_content_steps u)) (sym vw) ∙ inside in (
-      rw file_in_parts (none_after (frame_steps file) (list_steps (window file) ++ list_content_steps (chunks_in_lists (window file))) frame
-          (none_after (list_steps (window file)) (list_content_steps (chunks_in_lists (window file))) there held)),
+      rw file_in_parts (then_none (frame_steps file) (list_steps (window file) ++ list_content_steps (chunks_in_lists (window file))) frame
+          (then_none (list_steps (window file)) (list_content_steps (chunks_in_lists (window file))) there held)),
       ap list_content vw ∙ sym (content_is file),
     )
 
 -- ---- a fault of a part is that of the file
 
 module _ (file : List ℕ) (e : Failure ReadFault) where
-  abbrev rest : List Step
+  abbrev rest : List (Step ReadFault)
   rest = list_steps (window file) ++ list_content_steps (chunks_in_lists (window file))
 
   pub in_frame : Fails e (first_broken (frame_steps file)) → Fails e (fault_of file)

@@ -14,7 +14,7 @@ use Rattle.bank_format.specs.declared.fault.ReadFault.{ReadFault}
 use Rattle.bank_format.specs.declared.fault.ReadFault.TheVariants.{TooMany}
 use Rattle.bank_format.specs.Steps.{Step, first_broken, Passes}
 use Rattle.bank_format.specs.ReadSteps.{total_steps}
-use Rattle.sf_reader.proofs.StepLaws.{first_broken-append, first_broken-front, passes_by}
+use Rattle.bank_format.proofs.StepLaws.{first_broken-append, first_broken-front, passes_by}
 
 -- the next of at most n is x, and at most m of the others come after it
 module _ {X : Type 0} (n m : ℕ) (xs ys : List X) (x : X) (next : xs ≡ x ∷ ys) (fewer : m + 1 ≡ n) where
@@ -22,13 +22,13 @@ module _ {X : Type 0} (n m : ℕ) (xs ys : List X) (x : X) (next : xs ≡ x ∷ 
   take-next = let e : n ≡ suc m = omega (arith, fewer) in rw (e, next) refl
 
   -- its steps hold, so that those of the others decide
-  pub steps_hold : (f : X → List Step) (whole : Option ReadFault) → first_broken (f x) ≡ None
+  pub steps_hold : (f : X → List (Step ReadFault)) (whole : Option ReadFault) → first_broken (f x) ≡ None
       → first_broken (flat_map f (take n xs)) ≡ whole → first_broken (flat_map f (take m ys)) ≡ whole
   steps_hold f whole holds so_far =
       sym (first_broken-append (f x) (flat_map f (take m ys)) holds) ∙ sym (ap (λ (l : List X). first_broken (flat_map f l)) take-next) ∙ so_far
 
   -- one of its steps is broken
-  pub steps_fail : {Y : Type 0} (view : Y → Unit {0}) (f : X → List Step) (r : Result Y ReadFault) (e : ReadFault) (whole : List Step)
+  pub steps_fail : {Y : Type 0} (view : Y → Unit {0}) (f : X → List (Step ReadFault)) (r : Result Y ReadFault) (e : ReadFault) (whole : List (Step ReadFault))
       → IsErrAnd r (λ d. d ≡ e) → first_broken (f x) ≡ Some e → first_broken (flat_map f (take n xs)) ≡ first_broken whole → Passes view r whole tt
   steps_fail view f r e whole is h so_far =
       let all = ap (λ (l : List X). first_broken (flat_map f l)) take-next in

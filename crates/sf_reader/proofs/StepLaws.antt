@@ -1,61 +1,20 @@
--- Steps one after the other.
-use Rattle.std.proofs.Common.{◌≡◌, ◌&&◌, Bool, true, false, cond, List, [], ◌∷◌, ◌++◌, map, Option, Some, None, Result, Ok, Err, refl, sym, ap, subst, ◌∙◌}
+-- Parts of the reader that take memory, one after the other; and steps of one fault.
+use Rattle.std.proofs.Common.{◌≡◌, ◌&&◌, Bool, true, false, cond, List, [], ◌∷◌, ◌++◌, map, Option, Some, None, Result, Ok, Err, refl, sym, subst, ◌∙◌}
 use Rattle.std.specs.Result.{IsErrAnd, IfErr, OnOk}
 use Rattle.std.specs.List.{list_all}
 use Rattle.sf_base.specs.declared.memory.Failure.{Failure}
 use Rattle.sf_base.specs.declared.memory.Failure.TheVariants.{Fault, OutOfMemory}
 use Rattle.bank_format.specs.declared.fault.ReadFault.{ReadFault}
-use Rattle.bank_format.specs.Steps.{Step, step, first_broken, Passes, Fails, PassesGivenMemory}
-use Rattle.bank_format.proofs.StepLaws.{split_none}
+use Rattle.bank_format.specs.Steps.{Step, step, first_broken, Fails, PassesGivenMemory}
+use Rattle.bank_format.proofs.StepLaws.{first_broken-append, first_broken-front, then_none}
 
--- the steps after those that hold
-pub first_broken-append : (xs ys : List Step) → first_broken xs ≡ None → first_broken (xs ++ ys) ≡ first_broken ys
-first_broken-append [] ys h = refl
-first_broken-append (x ∷ xs) ys h =
-    let both = split_none x.holds (first_broken xs) x.fault h in
-    rw both.0 (first_broken-append xs ys both.1)
-
-fault_either : {A : Type 0} (b : Bool) (x y : Option A) (w f : A) → (x ≡ Some f → y ≡ Some f) → cond b x (Some w) ≡ Some f → cond b y (Some w) ≡ Some f
-fault_either true x y w f g h = g h
-fault_either false x y w f g h = h
-
--- the fault of a step is that of all
-pub first_broken-front : (xs ys : List Step) (f : ReadFault) → first_broken xs ≡ Some f → first_broken (xs ++ ys) ≡ Some f
-first_broken-front [] ys f h = absurd cc
-first_broken-front (x ∷ xs) ys f h =
-    fault_either x.holds (first_broken xs) (first_broken (xs ++ ys)) x.fault f (λ e. first_broken-front xs ys f e) h
-
-pub none_after : (xs ys : List Step) → first_broken xs ≡ None → first_broken ys ≡ None → first_broken (xs ++ ys) ≡ None
-none_after xs ys h k = first_broken-append xs ys h ∙ k
-
-pub fails_front : (e : Failure ReadFault) (xs ys : List Step) → Fails e (first_broken xs) → Fails e (first_broken (xs ++ ys))
+pub fails_front : (e : Failure ReadFault) (xs ys : List (Step ReadFault)) → Fails e (first_broken xs) → Fails e (first_broken (xs ++ ys))
 fails_front OutOfMemory xs ys h = tt
 fails_front (Fault f) xs ys h = first_broken-front xs ys f h
 
-pub fails_after : (e : Failure ReadFault) (xs ys : List Step) → first_broken xs ≡ None → Fails e (first_broken ys) → Fails e (first_broken (xs ++ ys))
+pub fails_after : (e : Failure ReadFault) (xs ys : List (Step ReadFault)) → first_broken xs ≡ None → Fails e (first_broken ys) → Fails e (first_broken (xs ++ ys))
 fails_after OutOfMemory xs ys h k = tt
 fails_after (Fault f) xs ys h k = first_broken-append xs ys h ∙ k
-
--- ---- parts of a reader, one after the other
-
--- a fault that is passed on
-pub passes_by : {X Y : Type 0} (view : X → Y) (value : Y) (r : Result X ReadFault) (f : ReadFault) (xs : List Step)
-    → IsErrAnd r (λ e. e ≡ f) → first_broken xs ≡ Some f → Passes view r xs value
-passes_by view value (Ok x) f xs is h = absurd is
-passes_by view value (Err e) f xs is h = h ∙ ap Some (sym is)
-
--- a part that fails, first of all
-pub passes_front : {X Y : Type 0} (view : X → Y) (value : Y) (r : Result X ReadFault) (f : ReadFault) (xs ys : List Step)
-    → IsErrAnd r (λ e. e ≡ f) → first_broken xs ≡ Some f → Passes view r (xs ++ ys) value
-passes_front view value r f xs ys is h = passes_by view value r f (xs ++ ys) is (first_broken-front xs ys f h)
-
--- a part after one that went through
-pub passes_after : {X Y : Type 0} (view : X → Y) (value : Y) (r : Result X ReadFault) (xs ys : List Step)
-    → first_broken xs ≡ None → Passes view r ys value → Passes view r (xs ++ ys) value
-passes_after view value (Ok x) xs ys h k = (none_after xs ys h k.0, k.1)
-passes_after view value (Err e) xs ys h k = first_broken-append xs ys h ∙ k
-
--- ---- parts that take memory
 
 -- a failure that is passed on
 pub fails_by : {X : Type 0} (r : Result X (Failure ReadFault)) (e : Failure ReadFault) (broken : Option ReadFault)
@@ -64,20 +23,20 @@ fails_by (Ok x) e broken is h = tt
 fails_by (Err d) e broken is h = subst (λ (c : Failure ReadFault). Fails c broken) (sym is) h
 
 -- the same, where the caller says more of it
-pub given_by : {X Y : Type 0} (view : X → Y) (value : Y) (r : Result X (Failure ReadFault)) (e : Failure ReadFault) (xs : List Step)
+pub given_by : {X Y : Type 0} (view : X → Y) (value : Y) (r : Result X (Failure ReadFault)) (e : Failure ReadFault) (xs : List (Step ReadFault))
     → IsErrAnd r (λ d. d ≡ e) → Fails e (first_broken xs) → PassesGivenMemory view r xs value
 given_by view value (Ok x) e xs is h = absurd is
 given_by view value (Err d) e xs is h = subst (λ (c : Failure ReadFault). Fails c (first_broken xs)) (sym is) h
 
 -- a part that fails, first of all
-pub given_front : {X Y : Type 0} (view : X → Y) (value : Y) (r : Result X (Failure ReadFault)) (e : Failure ReadFault) (xs ys : List Step)
+pub given_front : {X Y : Type 0} (view : X → Y) (value : Y) (r : Result X (Failure ReadFault)) (e : Failure ReadFault) (xs ys : List (Step ReadFault))
     → IsErrAnd r (λ d. d ≡ e) → Fails e (first_broken xs) → PassesGivenMemory view r (xs ++ ys) value
 given_front view value r e xs ys is h = given_by view value r e (xs ++ ys) is (fails_front e xs ys h)
 
 -- a part after one that went through
-pub given_after : {X Y : Type 0} (view : X → Y) (value : Y) (r : Result X (Failure ReadFault)) (xs ys : List Step)
+pub given_after : {X Y : Type 0} (view : X → Y) (value : Y) (r : Result X (Failure ReadFault)) (xs ys : List (Step ReadFault))
     → first_broken xs ≡ None → PassesGivenMemory view r ys value → PassesGivenMemory view r (xs ++ ys) value
-given_after view value (Ok x) xs ys h k = (none_after xs ys h k.0, k.1)
+given_after view value (Ok x) xs ys h k = (then_none xs ys h k.0, k.1)
 given_after view value (Err e) xs ys h k = fails_after e xs ys h k
 
 -- ---- steps of one fault

@@ -26,25 +26,24 @@ use Rattle.bank_format.specs.Reading.{bags_in, preset_windows, instrument_window
 use Rattle.bank_format.specs.ReadSteps.{count_steps, all_index_steps, sample_step, target_step, target_steps, total_steps}
 use Rattle.sf_reader.specs.Owners.{member_steps}
 use Rattle.sf_reader.specs.Content.{even_steps, checked_steps, table_steps}
-use Rattle.bank_format.proofs.StepLaws.{both_none}
-use Rattle.sf_reader.proofs.StepLaws.{passes_after}
+use Rattle.bank_format.proofs.StepLaws.{both_none, passes_after}
 use Rattle.sf_reader.proofs.WindowLaws.{length-windows, length-rows, length-together}
 use Rattle.sf_reader.proofs.MemberLaws.{preset_part, instrument_part}
 
 -- ---- the steps from a part on
 
-abbrev pub each_sample : Tables → List ℕ → List Step
+abbrev pub each_sample : Tables → List ℕ → List (Step ReadFault)
 each_sample t smpl = flat_map (sample_step (length (words smpl))) (rows t.shdr)
 
-abbrev pub from_indexes : Tables → List ℕ → List Step
+abbrev pub from_indexes : Tables → List ℕ → List (Step ReadFault)
 from_indexes t smpl = all_index_steps t ++ each_sample t smpl
 
-abbrev pub from_even : Tables → List ℕ → List Step
+abbrev pub from_even : Tables → List ℕ → List (Step ReadFault)
 from_even t smpl = even_steps smpl ++ from_indexes t smpl
 
 -- ---- past the parts that hold
 
-abbrev Checks : Result (Unit {0}) ReadFault → List Step → Type 0
+abbrev Checks : Result (Unit {0}) ReadFault → List (Step ReadFault) → Type 0
 Checks r steps = Passes (λ (u : Unit {0}). u) r steps tt
 
 module _ (t : Tables) (smpl : List ℕ) (r : Result (Unit {0}) ReadFault) where
@@ -117,11 +116,11 @@ targets_are info sdta t =
     let second : map (target_step (length samples) BadSample) (flat_map (λ (i : WithZones (List ℕ)). i.zones) instruments) ≡ instrument_part t =
     ap (λ (n : ℕ). map (target_step n BadSample) (flat_map (λ (i : WithZones (List ℕ)). i.zones) instruments)) sample_count
     ∙ ap (map (target_step (length (rows t.shdr)) BadSample)) instrument_zones in
-    ap (λ (l : List Step). l ++ map (target_step (length samples) BadSample) (flat_map (λ (i : WithZones (List ℕ)). i.zones) instruments)) first
-    ∙ ap (λ (l : List Step). preset_part t ++ l) second
+    ap (λ (l : List (Step ReadFault)). l ++ map (target_step (length samples) BadSample) (flat_map (λ (i : WithZones (List ℕ)). i.zones) instruments)) first
+    ∙ ap (λ (l : List (Step ReadFault)). preset_part t ++ l) second
 
 -- the steps from the counts on, as a file's steps have them
-abbrev pub from_counts : List Chunk → List Chunk → Tables → List ℕ → List Step
+abbrev pub from_counts : List Chunk → List Chunk → Tables → List ℕ → List (Step ReadFault)
 from_counts info sdta t smpl =
     count_steps t
     ++ (even_steps smpl
@@ -134,7 +133,7 @@ pub from_counts_are : (info sdta : List Chunk) (t : Tables) (smpl : List ℕ) �
 unfolding checked_steps
 from_counts_are info sdta t smpl =
     let last = member_steps t ++ total_steps (rows t.shdr) in
-    ap (λ (l : List Step). count_steps t ++ (even_steps smpl ++ (all_index_steps t ++ (each_sample t smpl ++ (l ++ total_steps (rows t.shdr)))))) (targets_are info sdta t)
-    ∙ ap (λ (l : List Step). count_steps t ++ (even_steps smpl ++ l)) (sym (append_assoc (all_index_steps t) (each_sample t smpl) last))
-    ∙ ap (λ (l : List Step). count_steps t ++ l) (sym (append_assoc (even_steps smpl) (from_indexes t smpl) last))
+    ap (λ (l : List (Step ReadFault)). count_steps t ++ (even_steps smpl ++ (all_index_steps t ++ (each_sample t smpl ++ (l ++ total_steps (rows t.shdr)))))) (targets_are info sdta t)
+    ∙ ap (λ (l : List (Step ReadFault)). count_steps t ++ (even_steps smpl ++ l)) (sym (append_assoc (all_index_steps t) (each_sample t smpl) last))
+    ∙ ap (λ (l : List (Step ReadFault)). count_steps t ++ l) (sym (append_assoc (even_steps smpl) (from_indexes t smpl) last))
     ∙ sym (append_assoc (count_steps t) (from_even t smpl) last)

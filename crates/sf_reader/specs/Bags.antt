@@ -14,7 +14,7 @@ abbrev pub counts_read : Level → List Bagged → ZoneCounts
 counts_read at bags = record { zones = ignored at bags; gens = gens_dropped at bags; ranges = ranges_mended at bags }
 
 -- the target of each zone that they say
-abbrev pub steps_of_bags : Level → ℕ → ReadFault → List Bagged → List Step
+abbrev pub steps_of_bags : Level → ℕ → ReadFault → List Bagged → List (Step ReadFault)
 steps_of_bags at targets missing bags = map (target_step targets missing) (zones_read at bags)
 
 -- ---- as a bank has them

@@ -3,6 +3,7 @@ use Rattle.std.specs.Prelude.{◌==◌, ◌&&◌, ◌+◌, ◌%◌, ◌++◌, �
 use Rattle.bank_parts.specs.declared.parts.Sample.{Sample}
 use Rattle.sf_base.specs.Fields.{field_at}
 use Rattle.sample_view.specs.Words.{words}
+use Rattle.bank_format.specs.declared.fault.ReadFault.{ReadFault}
 use Rattle.bank_format.specs.declared.fault.ReadFault.TheVariants.{Version, OddSamples}
 use Rattle.bank_format.specs.Steps.{Step, step}
 use Rattle.bank_format.specs.Windows.{rows}
@@ -18,7 +19,7 @@ use Rattle.sf_reader.specs.FlatContent.{FlatContent, flat_content}
 
 -- ---- of the three lists
 
-abbrev pub list_content_steps : ListChunks → List Step
+abbrev pub list_content_steps : ListChunks → List (Step ReadFault)
 list_content_steps w = content_steps w.info w.sdta w.pdta (tables_in w.pdta)
 
 abbrev pub list_content : ListChunks → FlatContent
@@ -27,15 +28,15 @@ list_content w = flat_content (content_of w.info w.sdta (tables_in w.pdta))
 -- ---- of a version, tables and points
 
 -- the version is of four bytes, and 2
-abbrev pub version_steps : List ℕ → List Step
+abbrev pub version_steps : List ℕ → List (Step ReadFault)
 version_steps ifil = step (length ifil == 4 && field_at 0 2 ifil == 2) Version ∷ []
 
 -- points are whole words
-abbrev pub even_steps : List ℕ → List Step
+abbrev pub even_steps : List ℕ → List (Step ReadFault)
 even_steps smpl = step (length smpl % 2 == 0) OddSamples ∷ []
 
 -- what is asked of the nine lists and the points before presets and instruments are read
-unfoldable pub checked_steps : Tables → List ℕ → List Step
+unfoldable pub checked_steps : Tables → List ℕ → List (Step ReadFault)
 checked_steps t smpl =
     count_steps t
     ++ (even_steps smpl
@@ -43,7 +44,7 @@ checked_steps t smpl =
     ++ flat_map (sample_step (length (words smpl))) (rows t.shdr)))
 
 -- and with what is asked then
-abbrev pub table_steps : Tables → List ℕ → List Step
+abbrev pub table_steps : Tables → List ℕ → List (Step ReadFault)
 table_steps t smpl = checked_steps t smpl ++ (member_steps t ++ total_steps (rows t.shdr))
 
 -- the bank and the counts, of presets, instruments and samples

@@ -6,6 +6,7 @@ use Rattle.hydra_records.specs.declared.zone.Bag.{Bag}
 use Rattle.hydra_records.specs.declared.zone.Generator.{Generator}
 use Rattle.hydra_records.specs.Records.{records}
 use Rattle.hydra_records.specs.Spelling.{preset_head_of, bag_of, modulator_of, generator_of, instrument_head_of, sample_head_of}
+use Rattle.bank_format.specs.declared.fault.ReadFault.{ReadFault}
 use Rattle.bank_format.specs.declared.fault.ReadFault.TheVariants.{RecordSize}
 use Rattle.bank_format.specs.Ids as id
 use Rattle.bank_format.specs.Steps.{Step, step}
@@ -46,11 +47,11 @@ bodies_in pdta = record {
 -- ---- records
 
 -- a body is whole records of a size long
-abbrev pub whole_step : ℕ → List ℕ → Step
+abbrev pub whole_step : ℕ → List ℕ → Step ReadFault
 whole_step size body = step (length body % size == 0) RecordSize
 
 -- each of the nine is
-unfoldable pub whole_steps : Bodies → List Step
+unfoldable pub whole_steps : Bodies → List (Step ReadFault)
 whole_steps b =
     whole_step 38 b.phdr ∷ whole_step 4 b.pbag ∷ whole_step 10 b.pmod ∷ whole_step 4 b.pgen
     ∷ whole_step 22 b.inst ∷ whole_step 4 b.ibag ∷ whole_step 10 b.imod ∷ whole_step 4 b.igen
@@ -74,7 +75,7 @@ tables_from b = record {
 -- ---- presets, or instruments
 
 -- each of the four bodies is whole records long, where a head has a size
-abbrev pub level_whole_steps : ℕ → LevelChunks → List Step
+abbrev pub level_whole_steps : ℕ → LevelChunks → List (Step ReadFault)
 level_whole_steps size c = whole_step size c.heads.now ∷ whole_step 4 c.bags.now ∷ whole_step 10 c.modulators.now ∷ whole_step 4 c.generators.now ∷ []
 
 -- the four lists in those bytes
@@ -87,7 +88,7 @@ level_of size of_bytes c = record {
 }
 
 -- where the first bags of the heads, and the generators and modulators of the bags, may lie
-abbrev pub level_index_steps : {H : Type 0} → List ℕ → LevelTables H → List Step
+abbrev pub level_index_steps : {H : Type 0} → List ℕ → LevelTables H → List (Step ReadFault)
 level_index_steps first_bags l = index_steps first_bags (length l.bags) ++ bag_steps l.bags (length l.generators) (length (or_zero l.modulators))
 
 -- the four lists are these, where a list of no modulators is seen as one zero record

@@ -90,7 +90,7 @@ abbrev pub owners_with_counts : {H R : Type 0} → Headers H R → List R → Li
 owners_with_counts h rs ws = flat_owners (map h.read (rows rs)) (map (own_bags h.level) ws) (counts_over h.level ws)
 
 -- the target of each zone that their bags say
-abbrev pub zone_steps : Level → ℕ → ReadFault → List (List Bagged) → List Step
+abbrev pub zone_steps : Level → ℕ → ReadFault → List (List Bagged) → List (Step ReadFault)
 zone_steps at targets missing ws = map (target_step targets missing) (flat_map (zones_read at) ws)
 
 -- ---- both
@@ -109,7 +109,7 @@ members_of t = record {
 }
 
 -- the presets' zones first
-abbrev pub member_steps : Tables → List Step
+abbrev pub member_steps : Tables → List (Step ReadFault)
 member_steps t =
     zone_steps level.Preset (length (rows t.inst)) BadInstrument (preset_windows t)
     ++ zone_steps level.Instrument (length (rows t.shdr)) BadSample (instrument_windows t)

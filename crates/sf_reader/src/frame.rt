@@ -1,45 +1,12 @@
-//! The frame of a file: its RIFF chunk, and the three lists in it.
+//! The three lists in the RIFF chunk of a file.
 ghost use Rattle.std.specs.Prelude.{◌≡◌};
 ghost use Rattle.bank_format.specs.Steps.{Passes};
-ghost use Rattle.bank_format.specs.Chunks.{window};
-ghost use Rattle.bank_format.specs.ReadSteps.{frame_steps, list_steps};
+ghost use Rattle.bank_format.specs.ReadSteps.{list_steps};
 ghost use Rattle.sf_reader.specs.Lists.{chunks_in_lists};
 
 use bank_format::ReadFault;
 use riff_chunks::{FirstChunks, is_whole, list_of};
-use sf_base::{front_of, part_of, rest_from, u32_at};
 use std::marker::Model;
-
-/// The bytes of the RIFF chunk's id and size.
-const HEAD_LENGTH: usize = 8;
-
-/// The bytes of the form after them.
-const FORM_LENGTH: usize = 4;
-
-/// What follows the form in the RIFF chunk of a file. The chunk may lack its last pad byte, and what
-/// follows it is ignored.
-#[tactic(auto, unfolding(bank_format::specs::ReadSteps::frame_steps, bank_format::specs::Chunks::window, bank_format::specs::Ids::RIFF, bank_format::specs::Ids::SFBK))]
-pub(crate) fn window_of(file: &[u8]) -> Result<&[u8], ReadFault>
-    ensures { Passes (λ w. w.now) result (frame_steps file.now) (window file.now) }
-{
-    if front_of(file, 4) != b"RIFF".as_slice() {
-        return Err(ReadFault::NotRiff);
-    }
-    if file.len() < HEAD_LENGTH + FORM_LENGTH {
-        return Err(ReadFault::Truncated);
-    }
-    let size = u32_at(file, 4) as usize;
-    if size < FORM_LENGTH || file.len() + 1 < HEAD_LENGTH + size {
-        return Err(ReadFault::Truncated);
-    }
-    if part_of(file, HEAD_LENGTH, FORM_LENGTH) != b"sfbk".as_slice() {
-        return Err(ReadFault::NotSfbk);
-    }
-    Ok(rest_from(
-        front_of(file, HEAD_LENGTH + size),
-        HEAD_LENGTH + FORM_LENGTH,
-    ))
-}
 
 /// The chunks of `INFO` that are read: the version, and the eight texts.
 const INFO_IDS: &[[u8; 4]] = &[

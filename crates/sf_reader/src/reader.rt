@@ -12,7 +12,7 @@ ghost use Rattle.sf_reader.specs.Content.{list_content_steps, list_content, vers
 ghost use Rattle.sf_reader.specs.Owners.{added, AreSmall, members_seen};
 ghost use Rattle.sf_reader.specs.FlatContent.{content_seen};
 
-use crate::frame::{Lists, lists_of, window_of};
+use crate::frame::{Lists, lists_of};
 use crate::hydra::{HydraChunks, Tables, needed_body};
 use crate::owners::{Members, add, read_members};
 use crate::samples::{
@@ -20,7 +20,7 @@ use crate::samples::{
 };
 use crate::texts::{count_cut, cut_texts, texts_of};
 use bank_core::{Bank, Flat, Sample};
-use bank_format::{Counts, ReadFault, read_banks_are_valid};
+use bank_format::{Counts, ReadFault, read_banks_are_valid, window_of};
 use linked_members::LinkedMembers;
 use riff_chunks::FirstChunks;
 use sf_base::{Failure, u16_at};
@@ -38,7 +38,13 @@ pub fn read<'a>(alloc: Global, file: &'a [u8]) -> Result<(Bank<'a>, Counts), Fai
     ensures valid { IfOk result (λ r. IsValid r.0) }
     ensures fits { IfOk result (λ r. Fits r.0) }
 {
-    let window = window_of(file)?;
+    let window = window_of(
+        file,
+        *b"sfbk",
+        ReadFault::NotRiff,
+        ReadFault::Truncated,
+        ReadFault::NotSfbk,
+    )?;
     let lists = lists_of(window)?;
     let (flat, counts) = read_lists(alloc, &lists)?;
     read_banks_are_valid();

@@ -13,7 +13,7 @@ use Rattle.bank_parts.specs.declared.parts.WithZones.{WithZones}
 use Rattle.bank_validity.specs.declared.totals.LevelTotals.{LevelTotals}
 use Rattle.bank_validity.specs.declared.totals.Totals.{Totals}
 use Rattle.bank_validity.specs.Limits.{totals_of, level_totals}
-use Rattle.bank_parts.specs.Valid.{owner_total, zone_count, gen_count, mod_count, IsValid, IsWithin}
+use Rattle.bank_parts.specs.Valid.{IsValid, IsWithin}
 use Rattle.sf_writer.specs.declared.sizes.ZoneSizes.{ZoneSizes}
 use Rattle.sf_writer.specs.Sizes.{AreFew, AreZoneSizes}
 use Rattle.sf_writer.proofs.FlatLaws.{bag_records-length, mod_records-length, gen_records-length}

@@ -4,9 +4,9 @@ ghost use Rattle.std.specs.Prelude.{◌≡◌, length, map, flat_map};
 ghost use Rattle.outputs.specs.Output.{Puts};
 ghost use Rattle.riff_chunks.specs.Spelling.{spell};
 ghost use Rattle.hydra_records.specs.Spelling.{bag_bytes, modulator_bytes, generator_bytes};
-ghost use Rattle.bank_format.specs.Tables.{bag_list, mod_list, gen_list, all_bags};
+ghost use Rattle.bank_format.specs.Tables.{all_bags};
 ghost use Rattle.bank_format.specs.FlatTables.{bag_of, generator_of};
-ghost use Rattle.sf_writer.specs.Lists.{bag_id, mod_id, gen_id, table_bytes, zone_lists};
+ghost use Rattle.sf_writer.specs.Lists.{bag_id, mod_id, gen_id, zone_lists};
 ghost use Rattle.sf_writer.specs.Sizes.{AreZoneSizes};
 
 use crate::sizes::ZoneSizes;
@@ -28,19 +28,12 @@ pub(crate) fn put_zone_lists<H: OwnerHead, W: Write>(
     ensures { Puts W.contents output.old output.new
         (spell (zone_lists H.LEVEL (all_bags H.LEVEL owners.now))) }
 {
-    put_bags(output, owners, sizes.bags);
-    put_mods(output, owners, sizes.mods);
-    put_gens(output, owners, sizes.gens);
-}
-
-// Puts the list of bags, whose records have `size` bytes.
-fn put_bags<H: OwnerHead, W: Write>(output: &mut Output<'_, W>, owners: &Owners<H>, size: u32)
-    requires { size ≡ length (flat_map bag_bytes (bag_list (all_bags H.LEVEL owners.now))) }
-    ensures { Puts W.contents output.old output.new
-        (table_bytes (bag_id H.LEVEL) bag_bytes (bag_list (all_bags H.LEVEL owners.now))) }
-{
-    put_head(output, bag_id(H::LEVEL), size);
+    put_head(output, bag_id(H::LEVEL), sizes.bags);
     put_bag_records(output, owners.bag_records());
+    put_head(output, mod_id(H::LEVEL), sizes.mods);
+    put_mod_records(output, owners.mod_records());
+    put_head(output, gen_id(H::LEVEL), sizes.gens);
+    put_gen_records(output, owners.gen_records());
 }
 
 // Each bag says how many generators and modulators stand before its own.
@@ -53,16 +46,6 @@ fn put_bag_records<W: Write>(output: &mut Output<'_, W>, bags: &[(u16, u16)])
     }
 }
 
-// Puts the list of modulators, whose records have `size` bytes.
-fn put_mods<H: OwnerHead, W: Write>(output: &mut Output<'_, W>, owners: &Owners<H>, size: u32)
-    requires { size ≡ length (flat_map modulator_bytes (mod_list (all_bags H.LEVEL owners.now))) }
-    ensures { Puts W.contents output.old output.new
-        (table_bytes (mod_id H.LEVEL) modulator_bytes (mod_list (all_bags H.LEVEL owners.now))) }
-{
-    put_head(output, mod_id(H::LEVEL), size);
-    put_mod_records(output, owners.mod_records());
-}
-
 #[tactic(auto, using(outputs::proofs::OutputLaws::putting_start, outputs::proofs::OutputLaws::putting_end))]
 fn put_mod_records<W: Write>(output: &mut Output<'_, W>, mods: &[Modulator])
     ensures { Puts W.contents output.old output.new (flat_map modulator_bytes mods.now) }
@@ -70,16 +53,6 @@ fn put_mod_records<W: Write>(output: &mut Output<'_, W>, mods: &[Modulator])
     for modulator in mods {
         output.put(&modulator.put());
     }
-}
-
-// Puts the list of generators, whose records have `size` bytes.
-fn put_gens<H: OwnerHead, W: Write>(output: &mut Output<'_, W>, owners: &Owners<H>, size: u32)
-    requires { size ≡ length (flat_map generator_bytes (gen_list (all_bags H.LEVEL owners.now))) }
-    ensures { Puts W.contents output.old output.new
-        (table_bytes (gen_id H.LEVEL) generator_bytes (gen_list (all_bags H.LEVEL owners.now))) }
-{
-    put_head(output, gen_id(H::LEVEL), size);
-    put_gen_records(output, owners.gen_records());
 }
 
 // Each zone's target is the last of its generators.

@@ -1,4 +1,4 @@
-use Rattle.wave_file.specs.Wave.{FORMAT, DATA}
+use Rattle.wave_file.specs.Wave.{DATA}
 use Rattle.wave_file.specs.SampleWave.{SAMPLER}
 use Rattle.recordings.proofs.ReadLaws.{has_format, has_data, format_fails, data_fails, sampler_fails, content_reads}
 use Rattle.recordings.proofs.reading.read_content.Goals as goal

@@ -5,6 +5,7 @@ use Rattle.sf_reader.specs.Owners.{owners_seen}
 use Rattle.sf_reader.proofs.HydraLaws.{few_records, all_mods_inside}
 use Rattle.sf_reader.proofs.MemberLaws.{Levels, presets_fail, instruments_fail, members_hold}
 use Rattle.sf_reader.proofs.owners.read_members.Goals as goal
+use Rattle.sf_reader.proofs.owners.read_members.Goals.{After-read_owners-2}
 
 pub read_owners-requires-clause-heads : goal.read_owners-requires-clause-heads
 read_owners-requires-clause-heads c = rw c.presets.ensures.heads_are (few_records c.args.tables.now c.requires.counts).phdr
@@ -39,35 +40,21 @@ read_owners-requires-2-clause-bags c = rw c.instruments-2.ensures.bags_are (few_
 pub read_owners-requires-2-clause-generators : goal.read_owners-requires-2-clause-generators
 read_owners-requires-2-clause-generators c = rw c.instruments-2.ensures.generators_are (few_records c.args.tables.now c.requires.counts).igen
 
+-- the levels, once the presets are read
+levels : (c : After-read_owners-2) → Levels c.args.tables.now c.presets.result.now c.instruments-2.result.now c.row_count.result c.row_count-2.result
+levels c = record {
+  presets_are = c.presets.ensures;
+  instruments_are = c.instruments-2.ensures;
+  mods = all_mods_inside c.args.tables.now c.requires.indexes;
+  instruments_count = c.row_count.ensures ∙ ap (λ hs. length (rows hs)) c.instruments.ensures.heads_are;
+  samples_count = c.row_count-2.ensures ∙ ap (λ hs. length (rows hs)) c.samples.ensures;
+}
+
 pub returns-in_err-instruments : goal.returns-in_err-instruments
 returns-in_err-instruments c =
-    let t = c.args.tables.now in
-    let p = c.presets.result.now in
-    let i = c.instruments-2.result.now in
-    let n = c.row_count.result in
-    let m = c.row_count-2.result in
-    let levels : Levels t p i n m = record {
-      presets_are = c.presets.ensures;
-      instruments_are = c.instruments-2.ensures;
-      mods = all_mods_inside t c.requires.indexes;
-      instruments_count = c.row_count.ensures ∙ ap (λ hs. length (rows hs)) c.instruments.ensures.heads_are;
-      samples_count = c.row_count-2.ensures ∙ ap (λ hs. length (rows hs)) c.samples.ensures;
-    } in
-    instruments_fail t p i n m levels c.from_residual-in_err-instruments.result c.in_err-instruments.field-0.0 c.from_residual-in_err-instruments.ensures.1
+    instruments_fail _ _ _ _ _ (levels (goal.at.returns-in_err-instruments c).After-read_owners-2) c.from_residual-in_err-instruments.result c.in_err-instruments.field-0.0 c.from_residual-in_err-instruments.ensures.1
     c.in_ok-presets.ensures.0 c.in_err-instruments.ensures
 
 pub returns : goal.returns
 returns c =
-    let t = c.args.tables.now in
-    let p = c.presets.result.now in
-    let i = c.instruments-2.result.now in
-    let n = c.row_count.result in
-    let m = c.row_count-2.result in
-    let levels : Levels t p i n m = record {
-      presets_are = c.presets.ensures;
-      instruments_are = c.instruments-2.ensures;
-      mods = all_mods_inside t c.requires.indexes;
-      instruments_count = c.row_count.ensures ∙ ap (λ hs. length (rows hs)) c.instruments.ensures.heads_are;
-      samples_count = c.row_count-2.ensures ∙ ap (λ hs. length (rows hs)) c.samples.ensures;
-    } in
-    members_hold t p i n m levels (owners_seen c.in_ok-presets.presets) (owners_seen c.in_ok-instruments.instruments) c.in_ok-presets.ensures.0 c.in_ok-presets.ensures.1 c.in_ok-instruments.ensures.0 c.in_ok-instruments.ensures.1
+    members_hold _ _ _ _ _ (levels (goal.at.returns c).After-read_owners-2) (owners_seen c.in_ok-presets.presets) (owners_seen c.in_ok-instruments.instruments) c.in_ok-presets.ensures.0 c.in_ok-presets.ensures.1 c.in_ok-instruments.ensures.0 c.in_ok-instruments.ensures.1

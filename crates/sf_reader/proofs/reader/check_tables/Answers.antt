@@ -1,8 +1,9 @@
 use Rattle.std.proofs.Common.{◌∙◌, List, subst}
+use Rattle.bank_format.specs.declared.fault.ReadFault.{ReadFault}
 use Rattle.bank_format.specs.Steps.{Step, Passes}
 use Rattle.bank_format.specs.ReadSteps.{count_steps, all_index_steps}
 use Rattle.sf_reader.specs.Content.{checked_steps}
-use Rattle.sf_reader.proofs.StepLaws.{first_broken-append, passes_front}
+use Rattle.bank_format.proofs.StepLaws.{first_broken-append, passes_front}
 use Rattle.sf_reader.proofs.TableLaws.{each_sample, from_even, past_counts, past_even, past_indexes, odd_fails, samples_are}
 use Rattle.sf_reader.proofs.reader.check_tables.Goals as goal
 
@@ -34,4 +35,4 @@ returns-clause-passes c =
     let s = c.args.smpl.now in
     let r = c.check_samples.result in
     past_counts t s r c.in_ok-check_counts.ensures.0 (past_even t s r c.if-smpl-ne0.false (past_indexes t s r c.in_ok-check_indexes.ensures.0
-    (subst (λ (l : List Step). Passes (λ (u : Unit {0}). u) r l tt) (samples_are t s c.samples.result.now c.samples.ensures) c.check_samples.ensures)))
+    (subst (λ (l : List (Step ReadFault)). Passes (λ (u : Unit {0}). u) r l tt) (samples_are t s c.samples.result.now c.samples.ensures) c.check_samples.ensures)))

@@ -1,6 +1,7 @@
 use Rattle.std.proofs.Common.{◌∙◌, ap, sym}
 use Rattle.sf_base.specs.declared.memory.Failure.TheVariants.{Fault}
 use Rattle.bank_parts.specs.Sound.{IsSound}
+use Rattle.bank_format.specs.Ids.{SFBK}
 use Rattle.bank_format.specs.Chunks.{window}
 use Rattle.bank_format.specs.Reading.{content_in}
 use Rattle.bank_format.specs.ReadSteps.{fault_of}
@@ -12,12 +13,14 @@ use Rattle.sf_reader.proofs.FlatLaws.{is_there, is_flat, has_lists, bank_is}
 use Rattle.sf_reader.proofs.reader.read.Goals as goal
 
 pub returns-in_err-window-clause-err : goal.returns-in_err-window-clause-err
+unfolding SFBK
 returns-in_err-window-clause-err c =
     let file = c.args.file.now in
     let e = Fault c.in_err-window.field-0.0 in
     fails_by c.from_residual.result e (fault_of file) c.from_residual.ensures.1 (in_frame file e c.in_err-window.ensures)
 
 pub returns-in_err-lists-clause-err : goal.returns-in_err-lists-clause-err
+unfolding SFBK
 returns-in_err-lists-clause-err c =
     let file = c.args.file.now in
     let e = Fault c.in_err-lists.field-0.0 in
@@ -25,6 +28,7 @@ returns-in_err-lists-clause-err c =
     (in_lists file e c.in_ok-window.window.now c.in_ok-window.ensures.1 c.in_ok-window.ensures.0 c.in_err-lists.ensures)
 
 pub returns-in_err-flat-clause-err : goal.returns-in_err-flat-clause-err
+unfolding SFBK
 returns-in_err-flat-clause-err c =
     let file = c.args.file.now in
     let e = c.in_err-flat.field-0.0 in
@@ -32,6 +36,7 @@ returns-in_err-flat-clause-err c =
     (in_content file e c.in_ok-window.window.now c.in_ok-lists.lists c.in_ok-window.ensures.1 c.in_ok-lists.ensures.1 c.in_ok-window.ensures.0 c.in_ok-lists.ensures.0 c.in_err-flat.ensures)
 
 pub unwrap-bank-requires : goal.unwrap-bank-requires
+unfolding SFBK
 unwrap-bank-requires c =
     let file = c.args.file.now in
     let bytes = are_bytes file c.type_inv.file in
@@ -42,6 +47,7 @@ unwrap-bank-requires c =
     is_there c.in_ok-flat.flat c.from_flat.result c.from_flat.ensures b sound (is_flat c.in_ok-flat.flat b (ap (λ (k : FlatContent). k.bank) content))
 
 pub returns-clause-ok : goal.returns-clause-ok
+unfolding SFBK
 returns-clause-ok c =
     let file = c.args.file.now in
     let bytes = are_bytes file c.type_inv.file in

@@ -8,7 +8,8 @@ use Rattle.bank_format.specs.ReadSteps.{total_steps}
 use Rattle.sf_reader.specs.Owners.{AreSmall, FlatMembers, added, members_of, member_steps}
 use Rattle.sf_reader.specs.FlatContent.{content_seen}
 use Rattle.sf_reader.specs.Content.{checked_steps, table_content, content_with}
-use Rattle.sf_reader.proofs.StepLaws.{given_by, given_front, given_after, none_after}
+use Rattle.bank_format.proofs.StepLaws.{then_none}
+use Rattle.sf_reader.proofs.StepLaws.{given_by, given_front, given_after}
 use Rattle.sf_reader.proofs.TableLaws.{checked}
 use Rattle.sf_reader.proofs.MemberLaws.{members_small}
 use Rattle.sf_reader.proofs.reader.read_tables.Goals as goal
@@ -58,8 +59,8 @@ returns c =
     let w = c.args.lists.now in
     let total : first_broken (total_steps (rows t.shdr)) ≡ None = rw c.samples.ensures at c.in_ok-check_total.ensures.0 in
     let samples : c.in_ok-samples.samples ≡ samples_read (words s) (rows t.shdr) = rw c.samples-2.ensures at c.in_ok-samples.ensures in (
-      none_after (checked_steps t s) (member_steps t ++ total_steps (rows t.shdr)) c.in_ok-check_tables.ensures.passes.0
-          (none_after (member_steps t) (total_steps (rows t.shdr)) c.in_ok-members.ensures.0 total),
+      then_none (checked_steps t s) (member_steps t ++ total_steps (rows t.shdr)) c.in_ok-check_tables.ensures.passes.0
+          (then_none (member_steps t) (total_steps (rows t.shdr)) c.in_ok-members.ensures.0 total),
       c.content_of.ensures
           ∙ ap (λ (m : FlatMembers). content_with c.args.minor w t m c.in_ok-samples.samples) c.in_ok-members.ensures.1
           ∙ ap (content_with c.args.minor w t (members_of t)) samples,

@@ -1,0 +1,45 @@
+//! The RIFF chunk of a file.
+ghost use Rattle.std.specs.Prelude.{◌≡◌};
+ghost use Rattle.bank_format.specs.Steps.{Passes};
+ghost use Rattle.bank_format.specs.Chunks.{window};
+ghost use Rattle.bank_format.specs.ReadSteps.{form_steps};
+
+use sf_base::{front_of, part_of, rest_from, u32_at};
+
+/// The bytes of the RIFF chunk's id and size.
+const HEAD_LENGTH: usize = 8;
+
+/// The bytes of the form after them.
+const FORM_LENGTH: usize = 4;
+
+/// What follows the form in the RIFF chunk of a file, or the fault of one that is no RIFF file, that
+/// is cut, or that has another form. The chunk may lack its last pad byte, and what follows it is
+/// ignored.
+#[tactic(auto, unfolding(crate::specs::ReadSteps::form_steps, crate::specs::Chunks::window, crate::specs::Ids::RIFF))]
+pub fn window_of<F: Copy>(
+    file: &[u8],
+    form: [u8; 4],
+    not_riff: F,
+    truncated: F,
+    other_form: F,
+) -> Result<&[u8], F>
+    ensures { Passes (λ w. w.now) result (form_steps form not_riff truncated other_form file.now) (window file.now) }
+{
+    if front_of(file, 4) != b"RIFF".as_slice() {
+        return Err(not_riff);
+    }
+    if file.len() < HEAD_LENGTH + FORM_LENGTH {
+        return Err(truncated);
+    }
+    let size = u32_at(file, 4) as usize;
+    if size < FORM_LENGTH || file.len() + 1 < HEAD_LENGTH + size {
+        return Err(truncated);
+    }
+    if part_of(file, HEAD_LENGTH, FORM_LENGTH) != form.as_slice() {
+        return Err(other_form);
+    }
+    Ok(rest_from(
+        front_of(file, HEAD_LENGTH + size),
+        HEAD_LENGTH + FORM_LENGTH,
+    ))
+}
