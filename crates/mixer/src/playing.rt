@@ -28,7 +28,7 @@ impl<'a> Playing<'a> {
     fn has_class(&self) -> bool
         ensures { result ≡ heard.has_class self.now }
     {
-        self.voice.class() != 0
+        self.voice.exclusive_class().is_some()
     }
 }
 
@@ -37,10 +37,11 @@ impl<'a> Playing<'a> {
 fn excludes(new: &Playing, old: &Playing) -> bool
     ensures { result ≡ heard.excludes new.now old.now }
 {
-    new.has_class()
-        && new.voice.class() == old.voice.class()
-        && new.bank == old.bank
-        && new.number == old.number
+    let classes = (new.voice.exclusive_class(), old.voice.exclusive_class());
+    let (Some(class), Some(other)) = classes else {
+        return false;
+    };
+    class == other && new.bank == old.bank && new.number == old.number
 }
 
 // Whether one of the voices that start silences another. A voice without a class asks none of them.

@@ -1,3 +1,4 @@
+pub mod Classes
 pub mod Levels
 pub mod Place
 pub mod Points

@@ -1,6 +1,7 @@
 //! A voice.
 ghost use Rattle.std.specs.Prelude.{◌≡◌, ℕ, ◌+◌, ◌-◌, ◌*◌, ◌/◌, ◌%◌, ◌^◌, ◌≤◌, ◌<◌, ◌+ℤ◌, ◌≤ℤ◌, pos, negsuc, true, false, EachIndex, length, nat_eq, slice_index_or};
 ghost use Rattle.std.specs.Bool.{OnFalse};
+ghost use Rattle.voices.specs.Classes.{exclusive_class};
 ghost use Rattle.voices.specs.Place.{is_over};
 ghost use Rattle.zone_select.specs.Playable.{IsPlayable};
 ghost use Rattle.voices.specs.Sound.{snd, after_frame};
@@ -60,11 +61,14 @@ impl<'a> Voice<'a> {
         self.course.over
     }
 
-    /// The exclusive class of the voice's zones; 0 for none.
-    pub fn class(&self) -> i16
-        ensures { result ≡ self.now.value.parameters.class }
+    /// The exclusive class of the voice's zones, where they have one (SoundFont 2.04, section 8.1.2, generator 57).
+    pub fn exclusive_class(&self) -> Option<i16>
+        ensures { result ≡ exclusive_class self.now.value.parameters }
     {
-        self.parameters.class
+        if self.parameters.class == 0 {
+            return None;
+        }
+        Some(self.parameters.class)
     }
 
     /// The next frame, left and right, each from -32768 to 32767. A voice that is over gives silence
