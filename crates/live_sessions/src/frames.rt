@@ -51,7 +51,7 @@ fn put_frames<P: Write>(player: &mut Player<'_>, count: u32, output: &mut Output
 // Puts a block of at most 1,024 frames.
 fn put_block<P: Write>(player: &mut Player<'_>, samples: &mut [i16], output: &mut Output<'_, P>)
     requires whole { length samples.old % 2 ≡ 0 }
-    requires short { length samples.old ≤ 2048 }
+    requires short { length samples.old ≤ BLOCK }
     ensures put { Puts P.contents output.old output.new (flat_map sample_bytes (block player.old (length samples.old / 2))) }
     ensures played { player.new ≡ after_block player.old (length samples.old / 2) }
 {
@@ -61,7 +61,7 @@ fn put_block<P: Write>(player: &mut Player<'_>, samples: &mut [i16], output: &mu
 
 // Puts samples, the low byte of each first.
 fn put_samples<P: Write>(samples: &[i16], output: &mut Output<'_, P>)
-    requires { length samples.now ≤ 2048 }
+    requires { length samples.now ≤ BLOCK }
     ensures { Puts P.contents output.old output.new (flat_map sample_bytes samples.now) }
 {
     let mut bytes = [0; 2 * BLOCK];

@@ -48,7 +48,7 @@ pub(crate) fn add_voices(
     requires sides { length sides.old ≡ 2 * length middle.old }
     requires few { length voices.old ≤ GROUP }
     requires young { AllYounger (2 ^ 63 + 2 ^ 34) voices.old }
-    requires short { length middle.old ≤ 1024 }
+    requires short { length middle.old ≤ PART }
     requires room { AllWithin GROUP sides.old }
     requires middle { AllWithin GROUP middle.old }
     ensures value { EachIndex sides.new (λ i. slice_index_or sides.new i (pos 0) +ℤ slice_index_or middle.new (i / 2) (pos 0)
@@ -67,7 +67,7 @@ fn sum_group(voices: &mut [Playing], work: &mut Workspace, sides: &mut [i32], mi
     requires sides { length sides.old ≡ 2 * length middle.old }
     requires few { length voices.old ≤ GROUP }
     requires young { AllYounger (2 ^ 63 + 2 ^ 34) voices.old }
-    requires short { length middle.old ≤ 1024 }
+    requires short { length middle.old ≤ PART }
     ensures value { EachIndex sides.new (λ i. slice_index_or sides.new i (pos 0) +ℤ slice_index_or middle.new (i / 2) (pos 0) ≡ total_at voices.old i) }
     ensures room { AllWithin (length voices.old) sides.new }
     ensures middle { AllWithin (length voices.old) middle.new }
@@ -120,7 +120,7 @@ fn cut_totals(totals: &[i128], out: &mut [i16])
 
 fn silent_totals() -> [i128; SIDES]
     ensures silent { (k : ℕ) → slice_index_or result k (pos 0) ≡ pos 0 }
-    ensures long { length result ≡ 2048 }
+    ensures long { length result ≡ 2 * PART }
 {
     [0; SIDES]
 }
@@ -135,7 +135,7 @@ fn add_group(
 )
     requires few { length voices.old ≤ GROUP }
     requires young { AllYounger (2 ^ 63 + 2 ^ 34) voices.old }
-    requires short { length totals.old ≤ 2048 }
+    requires short { length totals.old ≤ 2 * PART }
     requires even { length totals.old % 2 ≡ 0 }
     requires room { AllWithin (2 ^ 65) totals.old }
     ensures value { EachIndex totals.new (λ i. slice_index_or totals.new i (pos 0) ≡ slice_index_or totals.old i (pos 0) +ℤ total_at voices.old i) }
@@ -152,7 +152,7 @@ fn add_group(
 // Adds all voices to totals, group by group.
 fn add_all(voices: &mut [Playing], buffers: &mut MixBuffers, totals: &mut [i128])
     requires young { AllYounger (2 ^ 63 + 2 ^ 34) voices.old }
-    requires short { length totals.old ≤ 2048 }
+    requires short { length totals.old ≤ 2 * PART }
     requires even { length totals.old % 2 ≡ 0 }
     requires silent { AllWithin 0 totals.old }
     ensures value { EachIndex totals.new (λ i. slice_index_or totals.new i (pos 0) ≡ slice_index_or totals.old i (pos 0) +ℤ total_at voices.old i) }
@@ -183,7 +183,7 @@ fn mix_group(
 )
     requires few { length voices.old ≤ GROUP }
     requires young { AllYounger (2 ^ 63 + 2 ^ 34) voices.old }
-    requires short { length out.old ≤ 2048 }
+    requires short { length out.old ≤ 2 * PART }
     requires even { length out.old % 2 ≡ 0 }
     ensures value { EachIndex out.new (λ i. slice_index_or out.new i (pos 0) ≡ next_side voices.old i) }
     ensures live { voices.new ≡ map (aged (length out.old / 2)) voices.old }
@@ -199,7 +199,7 @@ fn mix_group(
 #[tactic(auto, unfolding(crate::specs::Events::next_side))]
 fn mix_groups(voices: &mut [Playing], buffers: &mut MixBuffers, out: &mut [i16])
     requires young { AllYounger (2 ^ 63 + 2 ^ 34) voices.old }
-    requires short { length out.old ≤ 2048 }
+    requires short { length out.old ≤ 2 * PART }
     requires even { length out.old % 2 ≡ 0 }
     ensures value { EachIndex out.new (λ i. slice_index_or out.new i (pos 0) ≡ next_side voices.old i) }
     ensures live { voices.new ≡ map (aged (length out.old / 2)) voices.old }
@@ -213,7 +213,7 @@ fn mix_groups(voices: &mut [Playing], buffers: &mut MixBuffers, out: &mut [i16])
 // A part of a block.
 fn mix_part(voices: &mut [Playing], buffers: &mut MixBuffers, out: &mut [i16])
     requires young { AllYounger (2 ^ 63 + 2 ^ 34) voices.old }
-    requires short { length out.old ≤ 2048 }
+    requires short { length out.old ≤ 2 * PART }
     requires even { length out.old % 2 ≡ 0 }
     ensures value { EachIndex out.new (λ i. slice_index_or out.new i (pos 0) ≡ next_side voices.old i) }
     ensures live { voices.new ≡ map (aged (length out.old / 2)) voices.old }

@@ -24,7 +24,7 @@ pub(crate) fn play(
     round: u32,
     block: usize,
 ) -> io::Result<u64>
-    requires { (16 ≤ block) × (block ≤ 1024) }
+    requires { (16 ≤ block) × (block ≤ MOST) }
 {
     let mut sums: [i32; 2 * MOST] = silence();
     if let Some(mut voice) = example.voice(points.copy(alloc).map_err(no_memory)?, round) {
@@ -82,7 +82,7 @@ fn silence<const N: usize>() -> [i32; N]
 fn add_blocks(voice: &mut Voice, blocks: u64, work: &mut Workspace, sums: &mut [i32])
     requires fresh { voice.old.age ≡ 0 }
     requires few { blocks ≤ 65534 }
-    requires short { length sums.old ≤ 2048 }
+    requires short { length sums.old ≤ 2 * MOST }
     requires even { length sums.old % 2 ≡ 0 }
     requires silent { AllWithin 0 sums.old }
 {

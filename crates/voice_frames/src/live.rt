@@ -27,7 +27,7 @@ pub(crate) fn player_of<'a>(alloc: Global, file: &'a [u8], notes: &[u8]) -> io::
 
 /// Plays so many blocks, and returns a sum over the last frames of all.
 pub(crate) fn play_blocks(player: &mut Player, block: usize, blocks: u64) -> u64
-    requires { block ≤ 1024 }
+    requires { block ≤ MOST }
 {
     let mut out = [0i16; 2 * MOST];
     let mut sum: u64 = 0;

@@ -56,7 +56,7 @@ fn main(rt: HostRuntime) -> io::Result<()> {
 
 // The frames of a block that a word tells.
 fn frames_of(word: &str) -> usize
-    ensures { (16 ≤ result) × (result ≤ 1024) }
+    ensures { (16 ≤ result) × (result ≤ MOST) }
 {
     word.parse::<usize>().unwrap_or(USUAL).max(LEAST).min(MOST)
 }
@@ -69,7 +69,7 @@ fn count(rt: &HostRuntime, bank: &str, notes: &str) -> io::Result<()> {
 }
 
 fn measure_live(rt: &HostRuntime, bank: &str, notes: &str, block: usize) -> io::Result<()>
-    requires { (16 ≤ block) × (block ≤ 1024) }
+    requires { (16 ≤ block) × (block ≤ MOST) }
 {
     let bank = fs::read(rt, bank)?;
     let notes = fs::read(rt, notes)?;
@@ -105,7 +105,7 @@ fn compare(rt: &HostRuntime, points: &Points, example: Example) -> io::Result<()
 }
 
 fn measure_all(rt: &HostRuntime, rounds: &str, block: usize) -> io::Result<()>
-    requires { (16 ≤ block) × (block ≤ 1024) }
+    requires { (16 ≤ block) × (block ≤ MOST) }
 {
     let Ok(rounds) = rounds.parse() else {
         return Err(io::Error::from(io::ErrorKind::InvalidInput));
@@ -129,7 +129,7 @@ fn measure(
     rounds: u32,
     block: usize,
 ) -> io::Result<()>
-    requires { (16 ≤ block) × (block ≤ 1024) }
+    requires { (16 ≤ block) × (block ≤ MOST) }
 {
     let started = Instant::now(rt)?;
     let mut sum: u64 = 0;

@@ -58,7 +58,7 @@ pub(crate) fn add_run_apart<'a>(
     requires sums { length sums.old ≡ 2 * length middle.old }
     requires playable { IsPlayable (length points.now) v.now }
     requires course { IsCourse points.now v.now age course.old }
-    requires short { length middle.old ≤ 1024 }
+    requires short { length middle.old ≤ LONGEST }
     requires young { age + length middle.old < 2 ^ 64 }
     requires room { AllWithin 65534 sums.old }
     requires middle { AllWithin 65534 middle.old }

@@ -3,6 +3,7 @@ ghost use Rattle.std.specs.Prelude.{◌≡◌, ◌+◌, ◌≤◌, ◌<◌, ◌^
 ghost use Rattle.voices.specs.Place.{looped_place, place, is_looping, is_over};
 ghost use Rattle.voices.specs.Runs.{gone_on};
 
+use crate::workspace::LONGEST;
 use zone_select::VoiceParameters;
 
 // The place while the loop, if there is one, is in force.
@@ -72,7 +73,7 @@ pub(crate) fn advanced(v: &VoiceParameters, looping: bool, x: u64, frames: usize
     requires loop_is { looping ≡ true → v.now.loop_start < v.now.loop_end }
     requires steps { v.now.step ≤ 73043661 }
     requires near { x < 2 ^ 48 }
-    requires few { frames ≤ 1024 }
+    requires few { frames ≤ LONGEST }
     ensures { result ≡ gone_on v.now looping (x + frames * v.now.step) }
 {
     let next = x + frames as u64 * u64::from(v.step);

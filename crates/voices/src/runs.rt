@@ -30,7 +30,7 @@ fn stretch(v: &VoiceParameters, t: u64, x: u64, most: usize) -> usize
     requires sounds { is_over v.now t ≡ false }
     requires here { x ≡ place v.now t }
     requires young { (t < 2 ^ 33) × (t < v.now.length + v.now.release) }
-    requires more { (0 < most) × (most ≤ 1024) }
+    requires more { (0 < most) × (most ≤ LONGEST) }
     ensures some { (0 < result) × (result ≤ most) }
     ensures one_way { IsStretch v.now t result }
 {
@@ -75,7 +75,7 @@ fn fill_by_stages<'a>(
     requires one_way { IsStretch v.now t (length run.old) }
     requires course { IsCourse points.now v.now t course.old }
     requires heard { course.old.over ≡ false }
-    requires short { length run.old ≤ 1024 }
+    requires short { length run.old ≤ LONGEST }
     ensures sounds { EachIndex run.new (λ k. slice_index_or run.new k (pos 0)
         ≡ sound_at (record { points = points.now; parameters = v.now }) (t + k)) }
     ensures course { IsCourse points.now v.now (t + length run.old) course.new }
@@ -205,7 +205,7 @@ pub(crate) fn fill_run<'a>(
 )
     requires playable { IsPlayable (length points.now) v.now }
     requires here { IsCourse points.now v.now age course.old }
-    requires short { length run.old ≤ 1024 }
+    requires short { length run.old ≤ LONGEST }
     requires young { age + length run.old < 2 ^ 64 }
     ensures heard { EachIndex run.new (λ k. slice_index_or run.new k (pos 0)
         ≡ heard_at (record { points = points.now; parameters = v.now }) (age + k)) }

@@ -10,6 +10,7 @@ ghost use Rattle.voices.specs.Runs.{IsStretch, limit, pair_at, pair_says, straig
 
 use crate::places::{advanced, frames_before, is_looping_at};
 use crate::sampled::{interpolated, pair_of_place};
+use crate::workspace::LONGEST;
 use sample_view::Points;
 use zone_select::VoiceParameters;
 
@@ -37,7 +38,7 @@ const APART: usize = 16;
 // written at all so that the compiler keeps the reads, on which the gain rests.
 #[tactic(auto, using(crate::proofs::PlaceLaws::less_far))]
 fn read_ahead(bytes: &[u8], x: u32, step: u32, pairs: &mut [u32])
-    requires short { length pairs.old ≤ 1024 }
+    requires short { length pairs.old ≤ LONGEST }
     requires ends { (k : ℕ) → k < length pairs.old → 2 * ((x + k * step) / 65536) + 3 < length bytes.now }
     requires near { x + length pairs.old * step < 2 ^ 32 }
 {
@@ -72,7 +73,7 @@ fn read_fours(bytes: &[u8], x: u32, step: u32, pairs: &mut [u32]) -> usize
 
 // The points around each place of a slice from `x` on, with `step` more for each frame.
 fn read_pairs(bytes: &[u8], x: u32, step: u32, pairs: &mut [u32])
-    requires short { length pairs.old ≤ 1024 }
+    requires short { length pairs.old ≤ LONGEST }
     requires ends { (k : ℕ) → k < length pairs.old → 2 * ((x + k * step) / 65536) + 3 < length bytes.now }
     requires near { x + length pairs.old * step < 2 ^ 32 }
     ensures { EachIndex pairs.new (λ k. slice_index pairs.new k ≡ pair_at (words bytes.now) ((x + k * step) / 65536)) }
@@ -87,7 +88,7 @@ fn read_pairs(bytes: &[u8], x: u32, step: u32, pairs: &mut [u32])
 
 // The same, some of them read ahead unless all are near: between the points of each lies what the slice says.
 fn read_straight(bytes: &[u8], near: bool, x: u32, step: u32, pairs: &mut [u32])
-    requires short { length pairs.old ≤ 1024 }
+    requires short { length pairs.old ≤ LONGEST }
     requires ends { (k : ℕ) → k < length pairs.old → 2 * ((x + k * step) / 65536) + 3 < length bytes.now }
     requires near { x + length pairs.old * step < 2 ^ 32 }
     ensures { EachIndex pairs.new (λ k. pair_says (slice_index pairs.new k) ((x + k * step) % 65536)
@@ -189,7 +190,7 @@ fn fill_front<'a>(
     requires looped { looping ≡ true → v.now.looped ≡ true }
     requires in_hand { IsInHand points.now hand }
     requires near { x < 65536 * limit v.now looping }
-    requires some { (0 < length pairs.old) × (length pairs.old ≤ 1024) }
+    requires some { (0 < length pairs.old) × (length pairs.old ≤ LONGEST) }
     ensures near { x < 2 ^ 48 }
     ensures some { (0 < result.0) × (result.0 ≤ length pairs.new) }
     ensures before { (k : ℕ) → k < result.0 → x + k * v.now.step < 65536 * limit v.now looping }
@@ -239,7 +240,7 @@ fn fill_pairs<'a>(
     requires one_way { IsStretch v.now t (length pairs.old) }
     requires here { from ≡ place v.now t }
     requires in_hand { IsInHand points.now hand }
-    requires short { length pairs.old ≤ 1024 }
+    requires short { length pairs.old ≤ LONGEST }
     ensures pairs { EachIndex pairs.new (λ k. pair_says (slice_index pairs.new k) ((from + k * v.now.step) % 65536)
         ≡ point_of points.now v.now (is_looping v.now (t + k)) (place v.now (t + k))) }
     ensures there { result.0 ≡ place v.now (t + length pairs.old) }
@@ -273,7 +274,7 @@ pub(crate) fn fill_points<'a>(
     requires one_way { IsStretch v.now t (length run.old) }
     requires here { from ≡ place v.now t }
     requires in_hand { IsInHand points.now hand }
-    requires short { length run.old ≤ 1024 }
+    requires short { length run.old ≤ LONGEST }
     requires long { length pairs.old ≡ length run.old }
     ensures points { EachIndex run.new (λ k. slice_index_or run.new k (pos 0)
         ≡ point_of points.now v.now (is_looping v.now (t + k)) (place v.now (t + k))) }

@@ -10,7 +10,7 @@ ghost use Rattle.voices.specs.Within.{AllWithin};
 use crate::adding::{add_run, add_run_apart};
 use crate::courses::Course;
 use crate::frames::{frame, next_place};
-use crate::workspace::Workspace;
+use crate::workspace::{LONGEST, Workspace};
 use sample_view::Points;
 use std::marker::Model;
 use zone_select::VoiceParameters;
@@ -119,7 +119,7 @@ impl<'a> Voice<'a> {
     /// side's sum is its own and that together.
     pub fn add_frames_apart(&mut self, work: &mut Workspace, sums: &mut [i32], middle: &mut [i32])
         requires sums { length sums.old ≡ 2 * length middle.old }
-        requires short { length middle.old ≤ 1024 }
+        requires short { length middle.old ≤ LONGEST }
         requires young { self.old.age + length sums.old < 2 ^ 64 }
         requires room { AllWithin 65534 sums.old }
         requires middle { AllWithin 65534 middle.old }
