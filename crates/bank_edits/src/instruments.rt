@@ -5,6 +5,7 @@ ghost use Rattle.edit_forms.specs.declared.step.Step.TheVariants as step;
 ghost use Rattle.edit_refusals.specs.Steps.{refusal};
 ghost use Rattle.bank_edits.specs.StepChanges.{IsStepChange};
 
+use crate::step_changes::Back;
 use bank_core::Bank;
 use bank_parts::Instrument;
 use edit_forms::Step;
@@ -13,11 +14,7 @@ use std::alloc::Global;
 
 // ---- add-inst
 
-pub(crate) fn add_instrument<'a>(
-    bank: &mut Bank<'a>,
-    at: u32,
-    instrument: Instrument,
-) -> Result<Step<'a>, Step<'a>>
+pub(crate) fn add_instrument<'a>(bank: &mut Bank<'a>, at: u32, instrument: Instrument) -> Back<'a>
     requires sound { IsSound bank.old }
     requires accepted { refusal bank.old (step.AddInstrument at instrument) ≡ None }
     ensures { IsStepChange bank.old bank.new (step.AddInstrument at instrument) result }
@@ -31,11 +28,7 @@ pub(crate) fn add_instrument<'a>(
 
 // ---- remove-inst
 
-pub(crate) fn remove_instrument<'a>(
-    alloc: Global,
-    bank: &mut Bank<'a>,
-    instrument: u32,
-) -> Result<Step<'a>, Step<'a>>
+pub(crate) fn remove_instrument<'a>(alloc: Global, bank: &mut Bank<'a>, instrument: u32) -> Back<'a>
     requires sound { IsSound bank.old }
     requires accepted { refusal bank.old (step.RemoveInstrument instrument) ≡ None }
     ensures { IsStepChange bank.old bank.new (step.RemoveInstrument instrument) result }

@@ -5,6 +5,7 @@ ghost use Rattle.edit_forms.specs.declared.step.Step.TheVariants as step;
 ghost use Rattle.edit_refusals.specs.Steps.{refusal};
 ghost use Rattle.bank_edits.specs.StepChanges.{IsStepChange};
 
+use crate::step_changes::Back;
 use bank_core::{Bank, Owner, Place};
 use bank_parts::modulator_fits;
 use edit_forms::Step;
@@ -18,7 +19,7 @@ pub(crate) fn add_mod<'a>(
     place: Place,
     index: u32,
     modulator: Modulator,
-) -> Result<Step<'a>, Step<'a>>
+) -> Back<'a>
     requires sound { IsSound bank.old }
     requires accepted { refusal bank.old (step.AddMod owner place index modulator) ≡ None }
     ensures { IsStepChange bank.old bank.new (step.AddMod owner place index modulator) result }

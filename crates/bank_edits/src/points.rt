@@ -5,6 +5,7 @@ ghost use Rattle.edit_forms.specs.declared.step.Step.TheVariants as step;
 ghost use Rattle.edit_refusals.specs.Steps.{refusal};
 ghost use Rattle.bank_edits.specs.StepChanges.{IsStepChange};
 
+use crate::step_changes::Back;
 use bank_core::Bank;
 use bank_parts::Kind;
 use edit_forms::Step;
@@ -19,7 +20,7 @@ pub(crate) fn trim<'a>(
     sample: u32,
     front: u32,
     back: u32,
-) -> Result<Step<'a>, Step<'a>>
+) -> Back<'a>
     requires sound { IsSound bank.old }
     requires accepted { refusal bank.old (step.Trim sample front back) ≡ None }
     ensures { IsStepChange bank.old bank.new (step.Trim sample front back) result }
@@ -45,7 +46,7 @@ pub(crate) fn extend<'a>(
     sample: u32,
     front: Points<'a>,
     back: Points<'a>,
-) -> Result<Step<'a>, Step<'a>>
+) -> Back<'a>
     requires sound { IsSound bank.old }
     requires accepted { refusal bank.old (step.Extend sample front back) ≡ None }
     ensures { IsStepChange bank.old bank.new (step.Extend sample front.entry back.entry) result }

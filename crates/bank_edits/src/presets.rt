@@ -5,6 +5,7 @@ ghost use Rattle.edit_forms.specs.declared.step.Step.TheVariants as step;
 ghost use Rattle.edit_refusals.specs.Steps.{refusal};
 ghost use Rattle.bank_edits.specs.StepChanges.{IsStepChange};
 
+use crate::step_changes::Back;
 use bank_core::Bank;
 use bank_parts::Preset;
 use edit_forms::Step;
@@ -13,11 +14,7 @@ use std::alloc::Global;
 
 // ---- add-preset
 
-pub(crate) fn add_preset<'a>(
-    bank: &mut Bank<'a>,
-    at: u32,
-    preset: Preset,
-) -> Result<Step<'a>, Step<'a>>
+pub(crate) fn add_preset<'a>(bank: &mut Bank<'a>, at: u32, preset: Preset) -> Back<'a>
     requires sound { IsSound bank.old }
     requires accepted { refusal bank.old (step.AddPreset at preset) ≡ None }
     ensures { IsStepChange bank.old bank.new (step.AddPreset at preset) result }
@@ -31,11 +28,7 @@ pub(crate) fn add_preset<'a>(
 
 // ---- remove-preset
 
-pub(crate) fn remove_preset<'a>(
-    alloc: Global,
-    bank: &mut Bank<'a>,
-    preset: u32,
-) -> Result<Step<'a>, Step<'a>>
+pub(crate) fn remove_preset<'a>(alloc: Global, bank: &mut Bank<'a>, preset: u32) -> Back<'a>
     requires sound { IsSound bank.old }
     requires accepted { refusal bank.old (step.RemovePreset preset) ≡ None }
     ensures { IsStepChange bank.old bank.new (step.RemovePreset preset) result }

@@ -5,6 +5,7 @@ ghost use Rattle.edit_forms.specs.declared.step.Step.TheVariants as step;
 ghost use Rattle.edit_refusals.specs.Steps.{refusal};
 ghost use Rattle.bank_edits.specs.StepChanges.{IsStepChange};
 
+use crate::step_changes::Back;
 use bank_core::Bank;
 use bank_parts::Sample;
 use edit_forms::Step;
@@ -24,11 +25,7 @@ pub(crate) fn rename_sample<'a>(bank: &mut Bank<'a>, sample: u32, name: Name20) 
 
 // ---- add-sample
 
-pub(crate) fn add_sample<'a>(
-    bank: &mut Bank<'a>,
-    at: u32,
-    sample: Sample<'a>,
-) -> Result<Step<'a>, Step<'a>>
+pub(crate) fn add_sample<'a>(bank: &mut Bank<'a>, at: u32, sample: Sample<'a>) -> Back<'a>
     requires sound { IsSound bank.old }
     requires accepted { refusal bank.old (step.AddSample at sample) ≡ None }
     ensures { IsStepChange bank.old bank.new (step.AddSample at sample.entry) result }

@@ -5,6 +5,7 @@ ghost use Rattle.edit_forms.specs.declared.step.Step.TheVariants as step;
 ghost use Rattle.edit_refusals.specs.Steps.{refusal};
 ghost use Rattle.bank_edits.specs.StepChanges.{IsStepChange};
 
+use crate::step_changes::Back;
 use bank_core::{Bank, Owner, Place};
 use edit_forms::Step;
 
@@ -16,7 +17,7 @@ pub(crate) fn set_gen<'a>(
     place: Place,
     operator: u16,
     amount: u16,
-) -> Result<Step<'a>, Step<'a>>
+) -> Back<'a>
     requires sound { IsSound bank.old }
     requires accepted { refusal bank.old (step.SetGen owner place operator amount) ≡ None }
     ensures { IsStepChange bank.old bank.new (step.SetGen owner place operator amount) result }

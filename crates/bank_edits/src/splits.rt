@@ -10,6 +10,7 @@ ghost use Rattle.edit_forms.specs.declared.step.Step.TheVariants as step;
 ghost use Rattle.edit_refusals.specs.Steps.{refusal};
 ghost use Rattle.bank_edits.specs.StepChanges.{IsStepChange};
 
+use crate::step_changes::Back;
 use bank_core::{Bank, Owner, Place};
 use edit_forms::Step;
 use generators::Range;
@@ -25,7 +26,7 @@ pub(crate) fn split_zone<'a>(
     zone: u32,
     axis: Axis,
     at: u8,
-) -> Result<Step<'a>, Step<'a>>
+) -> Back<'a>
     requires sound { IsSound bank.old }
     requires accepted { refusal bank.old (step.SplitZone owner zone axis at) ≡ None }
     ensures { IsStepChange bank.old bank.new (step.SplitZone owner zone axis at) result }
@@ -56,7 +57,7 @@ pub(crate) fn join_zone<'a>(
     zone: u32,
     axis: Axis,
     keep: Keep,
-) -> Result<Step<'a>, Step<'a>>
+) -> Back<'a>
     requires sound { IsSound bank.old }
     requires accepted { refusal bank.old (step.JoinZone owner zone axis keep) ≡ None }
     ensures { IsStepChange bank.old bank.new (step.JoinZone owner zone axis keep) result }

@@ -21,6 +21,9 @@ use edit_forms::{Edit, Step};
 use edit_refusals::{Refusal, refuse};
 use std::alloc::Global;
 
+/// The step that takes a step back; or when out of memory, the step itself.
+pub(crate) type Back<'a> = Result<Step<'a>, Step<'a>>;
+
 /// Does the step and returns the one that takes it back. Or refuses it by the first cause that stands,
 /// or when out of memory, returns it, and changes nothing.
 pub(crate) fn apply_step<'a>(
@@ -42,11 +45,7 @@ pub(crate) fn apply_step<'a>(
 }
 
 /// Does the step and returns the one that takes it back, or returns it when out of memory.
-pub(crate) fn change_step<'a>(
-    alloc: Global,
-    bank: &mut Bank<'a>,
-    step: Step<'a>,
-) -> Result<Step<'a>, Step<'a>>
+pub(crate) fn change_step<'a>(alloc: Global, bank: &mut Bank<'a>, step: Step<'a>) -> Back<'a>
     requires sound { IsSound bank.old }
     requires accepted { refusal bank.old step ≡ None }
     ensures outcome { IsStepChange bank.old bank.new step.entry result }

@@ -5,6 +5,7 @@ ghost use Rattle.edit_forms.specs.declared.step.Step.TheVariants as step;
 ghost use Rattle.edit_refusals.specs.Steps.{refusal};
 ghost use Rattle.bank_edits.specs.StepChanges.{IsStepChange};
 
+use crate::step_changes::Back;
 use bank_core::{Bank, Owner};
 use bank_parts::Zone;
 use edit_forms::Step;
@@ -12,12 +13,7 @@ use std::alloc::Global;
 
 // ---- add-zone
 
-pub(crate) fn add_zone<'a>(
-    bank: &mut Bank<'a>,
-    owner: Owner,
-    at: u32,
-    zone: Zone,
-) -> Result<Step<'a>, Step<'a>>
+pub(crate) fn add_zone<'a>(bank: &mut Bank<'a>, owner: Owner, at: u32, zone: Zone) -> Back<'a>
     requires sound { IsSound bank.old }
     requires accepted { refusal bank.old (step.AddZone owner at zone) ≡ None }
     ensures { IsStepChange bank.old bank.new (step.AddZone owner at zone) result }
@@ -36,7 +32,7 @@ pub(crate) fn remove_zone<'a>(
     bank: &mut Bank<'a>,
     owner: Owner,
     zone: u32,
-) -> Result<Step<'a>, Step<'a>>
+) -> Back<'a>
     requires sound { IsSound bank.old }
     requires accepted { refusal bank.old (step.RemoveZone owner zone) ≡ None }
     ensures { IsStepChange bank.old bank.new (step.RemoveZone owner zone) result }

@@ -19,7 +19,7 @@ use Rattle.line_tokens.specs.Printing.{line_text}
 use Rattle.edit_script.specs.Printing as printed
 use Rattle.edit_script.specs.Printing.{texts_of}
 use Rattle.bank_text.specs.TakenDown.{in_reverse, removals, unlink_edits, reset_edits, resets, taken_down, removal_lines}
-use Rattle.bank_text.proofs.TextLaws.{both_texts, then_texts}
+use Rattle.bank_text.proofs.TextLaws.{both_texts, then_texts, row_lines}
 
 -- ---- members that are removed
 
@@ -92,16 +92,9 @@ puts_reset_line t id text e h = puts_as (texts_of (reset_edits id text)) (reset_
 
 pub resets_lines : (t : Texts) → flat_map (reset_lines t) last_first ≡ texts_of (resets t)
 resets_lines t =
-    let e0 = reset_edits Software t.software in
-    let e1 = reset_edits Comment t.comment in
-    let e2 = reset_edits Copyright t.copyright in
-    let e3 = reset_edits Product t.product in
-    let e4 = reset_edits Engineers t.engineers in
-    let e5 = reset_edits Date t.date in
-    let e6 = reset_edits Name t.name in
-    let e7 = reset_edits Engine t.engine in
-    ap (λ (r : List ℕ). texts_of e0 ++ (texts_of e1 ++ (texts_of e2 ++ (texts_of e3 ++ (texts_of e4 ++ (texts_of e5 ++ (texts_of e6 ++ r))))))) (append-nil (texts_of e7))
-    ∙ sym (then_texts e0 _ _ (then_texts e1 _ _ (then_texts e2 _ _ (then_texts e3 _ _ (then_texts e4 _ _ (then_texts e5 _ _ (then_texts e6 e7 (texts_of e7) refl)))))))
+    let es : InfoId → List Edit = λ id. reset_edits id (text_of t id) in
+    row_lines es last_first
+    ∙ ap (λ (last : List Edit). texts_of (es Software ++ (es Comment ++ (es Copyright ++ (es Product ++ (es Engineers ++ (es Date ++ (es Name ++ last)))))))) (append-nil (es Engine))
 
 -- ---- all of them
 

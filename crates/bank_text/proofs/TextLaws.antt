@@ -78,18 +78,16 @@ text_lines t id = texts_of (text_edits id (text_of t id))
 pub puts_text_line : {W : Type 0} {c : W → Option (List ℕ)} {o p : Output W} (t : Texts) (id : InfoId) (text : List ℕ) → text ≡ text_of t id → Puts c o p (texts_of (text_edits id text)) → Puts c o p (text_lines t id)
 puts_text_line t id text e h = puts_as (texts_of (text_edits id text)) (text_lines t id) (ap (λ (text : List ℕ). texts_of (text_edits id text)) e) h
 
+-- those of a row of texts
+pub row_lines : (edits : InfoId → List Edit) (ids : List InfoId) → flat_map (λ (id : InfoId). texts_of (edits id)) ids ≡ texts_of (flat_map edits ids)
+row_lines edits [] = refl
+row_lines edits (id ∷ ids) = sym (then_texts (edits id) (flat_map edits ids) (flat_map (λ (id : InfoId). texts_of (edits id)) ids) (sym (row_lines edits ids)))
+
 pub texts_lines : (t : Texts) → flat_map (text_lines t) ids ≡ texts_of (texts_edits t)
 texts_lines t =
-    let e0 = text_edits Engine t.engine in
-    let e1 = text_edits Name t.name in
-    let e2 = text_edits Date t.date in
-    let e3 = text_edits Engineers t.engineers in
-    let e4 = text_edits Product t.product in
-    let e5 = text_edits Copyright t.copyright in
-    let e6 = text_edits Comment t.comment in
-    let e7 = text_edits Software t.software in
-    ap (λ (r : List ℕ). texts_of e0 ++ (texts_of e1 ++ (texts_of e2 ++ (texts_of e3 ++ (texts_of e4 ++ (texts_of e5 ++ (texts_of e6 ++ r))))))) (append-nil (texts_of e7))
-    ∙ sym (then_texts e0 _ _ (then_texts e1 _ _ (then_texts e2 _ _ (then_texts e3 _ _ (then_texts e4 _ _ (then_texts e5 _ _ (then_texts e6 e7 (texts_of e7) refl)))))))
+    let es : InfoId → List Edit = λ id. text_edits id (text_of t id) in
+    row_lines es ids
+    ∙ ap (λ (last : List Edit). texts_of (es Engine ++ (es Name ++ (es Date ++ (es Engineers ++ (es Product ++ (es Copyright ++ (es Comment ++ last)))))))) (append-nil (es Software))
 
 -- ---- points
 

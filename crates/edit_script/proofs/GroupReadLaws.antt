@@ -9,9 +9,8 @@ use Rattle.line_tokens.specs.Parts.{Took, pure, is_next}
 use Rattle.line_tokens.proofs.ReadLaws.{AllHoldBytes, both}
 use Rattle.script_grammar.specs.Names.{fixed}
 use Rattle.script_grammar.specs.Operands.{Operand, Fixed}
-use Rattle.script_grammar.specs.Repeated.{repeated_within}
 use Rattle.script_grammar.proofs.ReadLaws.{Fronts, then, made, fixed_front}
-use Rattle.script_grammar.proofs.RepeatedLaws.{within_ends, within_goes_on}
+use Rattle.script_grammar.proofs.RepeatedLaws.{repeated_reads}
 use Rattle.step_script.specs.Grammar.{step}
 use Rattle.step_script.specs.Spelling.{SaysWhole}
 use Rattle.step_script.proofs.SaidLaws.{SaidFront, IsSaid, behind, behind_said, none}
@@ -54,21 +53,11 @@ more_steps ss line x t b s = record {
   stands = sym (append_assoc ss (x.value ∷ []) s.steps) ∙ s.stands;
 }
 
-left_within_front : (n : ℕ) (ss : List Step) (line : List Said) (t : Took (List Step)) → AllHoldBytes line → repeated_within is_over pure braced_step with_step n ss line ≡ Ok t → SaidSteps ss line t
-unfolding repeated_within
-left_within_front zero ss line t h e = cc
-left_within_front (suc n) ss line t h e = from (λ s. left_within_front n (with_step ss s)) (is_over line) refl
-  where
-    from : ((s : Step) (rest : List Said) (u : Took (List Step)) → AllHoldBytes rest → repeated_within is_over pure braced_step with_step n (with_step ss s) rest ≡ Ok u → SaidSteps (with_step ss s) rest u) → (b : Bool) → is_over line ≡ b → SaidSteps ss line t
-    from on true k = no_more ss line t h (sym (within_ends is_over pure braced_step with_step n ss line k) ∙ e)
-    from on false k =
-        let x = both (braced_step line) (λ s. repeated_within is_over pure braced_step with_step n (with_step ss s)) t (sym (within_goes_on is_over pure braced_step with_step n ss line k) ∙ e) in
-        let f = braced_said line x.first h x.is in
-        more_steps ss line x.first t f (on x.first.value x.first.rest t f.fronts.holds x.second)
-
 left_front : (ss : List Step) (line : List Said) (t : Took (List Step)) → AllHoldBytes line → steps_left ss line ≡ Ok t → SaidSteps ss line t
 unfolding steps_left
-left_front ss line t h e = left_within_front (suc (length line)) ss line t h e
+left_front ss line t h e =
+    repeated_reads is_over pure braced_step with_step SaidSteps (λ ss line t h over e. no_more ss line t h e)
+    (λ ss line x t h e on. let f = braced_said line x h e in more_steps ss line x t f (on f.fronts.holds)) ss line t h e
 
 steps_said : IsSaid (List Step) (steps_left []) SaysSteps
 steps_said line t h e =

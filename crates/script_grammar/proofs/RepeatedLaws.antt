@@ -4,7 +4,7 @@ use Rattle.line_tokens.specs.declared.cursor.Said.{Said}
 use Rattle.line_tokens.specs.declared.cursor.Said.TheVariants.{Word}
 use Rattle.line_tokens.specs.declared.fault.LineFault.{LineFault}
 use Rattle.line_tokens.specs.Parts.{Took, Part, and_then, ◌>>=◌, pure, or_fault, word, number, signed, range}
-use Rattle.line_tokens.proofs.ReadLaws.{both, or_fault_is, word_is, number_is, signed_is, range_is}
+use Rattle.line_tokens.proofs.ReadLaws.{AllHoldBytes, both, or_fault_is, word_is, number_is, signed_is, range_is}
 use Rattle.script_grammar.specs.Repeated.{repeated_within, repeated}
 
 -- ---- tokens taken
@@ -112,3 +112,20 @@ module _ {X Y : Type 0} (ends : List Said → Bool) (last : Y → Part Y) (part 
 
   pub repeated_keeps : ((y : Y) → Keeps (last y)) → Keeps part → (y : Y) → Keeps (repeated ends last part with y)
   repeated_keeps h k y line t e = within_keeps h k (suc (length line)) y line t e
+
+  -- what holds where nothing more comes, and holds with each that comes before, holds of all that is read
+  module _ (Reads : Y → List Said → Took Y → Type 0) (over : (y : Y) (line : List Said) (t : Took Y) → AllHoldBytes line → ends line ≡ true → last y line ≡ Ok t → Reads y line t)
+      (more : (y : Y) (line : List Said) (x : Took X) (t : Took Y) → AllHoldBytes line → part line ≡ Ok x → (AllHoldBytes x.rest → Reads (with y x.value) x.rest t) → Reads y line t) where
+    within_reads : (n : ℕ) (y : Y) (line : List Said) (t : Took Y) → AllHoldBytes line → repeated_within ends last part with n y line ≡ Ok t → Reads y line t
+    unfolding repeated_within
+    within_reads zero y line t h e = cc
+    within_reads (suc n) y line t h e = from (λ x. within_reads n (with y x)) (ends line) refl
+      where
+        from : ((x : X) (rest : List Said) (u : Took Y) → AllHoldBytes rest → repeated_within ends last part with n (with y x) rest ≡ Ok u → Reads (with y x) rest u) → (b : Bool) → ends line ≡ b → Reads y line t
+        from on true i = over y line t h i (sym (within_ends n y line i) ∙ e)
+        from on false i =
+            let x = both (part line) (λ x. repeated_within ends last part with n (with y x)) t (sym (within_goes_on n y line i) ∙ e) in
+            more y line x.first t h x.is (λ holds. on x.first.value x.first.rest t holds x.second)
+
+    pub repeated_reads : (y : Y) (line : List Said) (t : Took Y) → AllHoldBytes line → repeated ends last part with y line ≡ Ok t → Reads y line t
+    repeated_reads y line t h e = within_reads (suc (length line)) y line t h e

@@ -1,5 +1,5 @@
 -- What is read as zones, the line says.
-use Rattle.std.proofs.Common.{◌≡◌, ◌≤◌, ◌+◌, ◌*◌, ◌/◌, ◌%◌, ℕ, zero, suc, Bool, true, false, cond, List, [], ◌∷◌, ◌++◌, length, map, codes, Some, None, Ok, refl, sym, ap, subst, append_assoc, ◌∙◌, arith}
+use Rattle.std.proofs.Common.{◌≡◌, ◌≤◌, ◌+◌, ◌*◌, ◌/◌, ◌%◌, ℕ, Bool, true, false, cond, List, [], ◌∷◌, ◌++◌, map, codes, Some, None, Ok, refl, sym, ap, subst, append_assoc, ◌∙◌, arith}
 use Rattle.std.specs.Int.{w16, cast_unsigned}
 use Rattle.std.specs.List.{flat_map}
 use Rattle.std.specs.Str.{bytes_eq}
@@ -17,11 +17,10 @@ use Rattle.line_tokens.proofs.ReadLaws.{AllHoldBytes, both, word_is, signed_is, 
 use Rattle.script_grammar.specs.declared.items.Item.{Item}
 use Rattle.script_grammar.specs.declared.items.Item.TheVariants as item
 use Rattle.script_grammar.specs.Operands.{Operand, Fixed, Number, Signed, Amount, Range}
-use Rattle.script_grammar.specs.Repeated.{repeated_within}
 use Rattle.script_grammar.specs.Items.{amount_operand, generator_operands, modulator_operands, item_operands, items_operands, no_content, with_item, with_items, amount, generator, modulator_of, modulator, item_behind, an_item, closed, items_on, items}
 use Rattle.script_grammar.specs.Zones.{Written, WrittenZone, zone_operands, written_operands, zone_of, zone_in, zones_in, opened, zone_behind, zone, is_end, with_zone, zones_left, global_zones, global_behind, first_behind, zones_behind, zones}
 use Rattle.script_grammar.proofs.ReadLaws.{Fronts, front, then, made, word_front, fixed_front, number_front, signed_front}
-use Rattle.script_grammar.proofs.RepeatedLaws.{within_ends, within_goes_on}
+use Rattle.script_grammar.proofs.RepeatedLaws.{repeated_reads}
 use Rattle.script_grammar.proofs.ItemLaws.{global_first, zone_first, none_said, some_said}
 
 -- ---- an amount
@@ -145,22 +144,11 @@ more_items content line x t f s = record {
   stands = s.stands;
 }
 
-items_within_front : (n : ℕ) (content : GlobalZone) (line : List Said) (t : Took GlobalZone) → AllHoldBytes line → repeated_within (is_next (codes "}")) closed an_item with_item n content line ≡ Ok t → SaidItems content line t
-unfolding repeated_within
-items_within_front zero content line t h e = cc
-items_within_front (suc n) content line t h e = from (λ x. items_within_front n (with_item content x)) (is_next (codes "}") line) refl
-  where
-    from : ((x : Item) (rest : List Said) (u : Took GlobalZone) → AllHoldBytes rest → repeated_within (is_next (codes "}")) closed an_item with_item n (with_item content x) rest ≡ Ok u → SaidItems (with_item content x) rest u) → (b : Bool) → is_next (codes "}") line ≡ b
-        → SaidItems content line t
-    from on true k = closed_front content line t h k (sym (within_ends (is_next (codes "}")) closed an_item with_item n content line k) ∙ e)
-    from on false k =
-        let x = both (an_item line) (λ i. repeated_within (is_next (codes "}")) closed an_item with_item n (with_item content i)) t (sym (within_goes_on (is_next (codes "}")) closed an_item with_item n content line k) ∙ e) in
-        let f = item_front line x.first h x.is in
-        more_items content line x.first t f (on x.first.value x.first.rest t f.holds x.second)
-
 pub items_front : (line : List Said) (t : Took GlobalZone) → AllHoldBytes line → items line ≡ Ok t → SaidItems no_content line t
 unfolding items items_on
-items_front line t h e = items_within_front (suc (length line)) no_content line t h e
+items_front line t h e =
+    repeated_reads (is_next (codes "}")) closed an_item with_item SaidItems closed_front
+    (λ content line x t h e on. let f = item_front line x h e in more_items content line x t f (on f.holds)) no_content line t h e
 
 -- ---- zones
 
@@ -216,21 +204,11 @@ more_zones zs line x t z s = record {
   stands = ap (λ (y : Zone). zs ++ (y ∷ map zone_in s.said)) z.stands ∙ sym (append_assoc zs (x.value ∷ []) (map zone_in s.said)) ∙ s.stands;
 }
 
-left_within_front : (n : ℕ) (zs : List Zone) (line : List Said) (t : Took (List Zone)) → AllHoldBytes line → repeated_within is_end pure zone with_zone n zs line ≡ Ok t → SaidLeft zs line t
-unfolding repeated_within
-left_within_front zero zs line t h e = cc
-left_within_front (suc n) zs line t h e = from (λ z. left_within_front n (with_zone zs z)) (is_end line) refl
-  where
-    from : ((z : Zone) (rest : List Said) (u : Took (List Zone)) → AllHoldBytes rest → repeated_within is_end pure zone with_zone n (with_zone zs z) rest ≡ Ok u → SaidLeft (with_zone zs z) rest u) → (b : Bool) → is_end line ≡ b → SaidLeft zs line t
-    from on true k = no_more zs line t h (sym (within_ends is_end pure zone with_zone n zs line k) ∙ e)
-    from on false k =
-        let x = both (zone line) (λ z. repeated_within is_end pure zone with_zone n (with_zone zs z)) t (sym (within_goes_on is_end pure zone with_zone n zs line k) ∙ e) in
-        let f = zone_front line x.first h x.is in
-        more_zones zs line x.first t f (on x.first.value x.first.rest t f.fronts.holds x.second)
-
 left_front : (zs : List Zone) (line : List Said) (t : Took (List Zone)) → AllHoldBytes line → zones_left zs line ≡ Ok t → SaidLeft zs line t
 unfolding zones_left
-left_front zs line t h e = left_within_front (suc (length line)) zs line t h e
+left_front zs line t h e =
+    repeated_reads is_end pure zone with_zone SaidLeft (λ zs line t h over e. no_more zs line t h e)
+    (λ zs line x t h e on. let f = zone_front line x h e in more_zones zs line x t f (on f.fronts.holds)) zs line t h e
 
 -- ---- all of them
 

@@ -1,5 +1,5 @@
 //! Voices in blocks, and frame by frame.
-ghost use Rattle.std.specs.Prelude.{◌≡◌, ◌≤◌, ◌%◌, length};
+ghost use Rattle.std.specs.Prelude.{◌≡◌, ◌*◌, ◌≤◌, ◌%◌, length};
 ghost use Rattle.voices.specs.Within.{AllWithin};
 
 use crate::examples::Example;
