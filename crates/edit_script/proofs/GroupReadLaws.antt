@@ -1,12 +1,12 @@
 -- What is read as a step or as a group of steps, the line says.
-use Rattle.std.proofs.Common.{◌≡◌, ℕ, zero, suc, Bool, true, false, List, [], ◌∷◌, ◌++◌, length, codes, Ok, refl, sym, ap, subst, append_assoc, ◌∙◌}
+use Rattle.std.proofs.Common.{◌≡◌, Bool, true, false, List, [], ◌∷◌, ◌++◌, codes, Ok, refl, sym, ap, subst, append_assoc, ◌∙◌}
 use Rattle.std.proofs.lemmas.List.{append-nil}
 use Rattle.edit_forms.specs.declared.step.Step.{Step}
 use Rattle.edit_forms.specs.declared.edit.Edit.{Edit}
 use Rattle.edit_forms.specs.declared.edit.Edit.TheVariants.{One, Group}
 use Rattle.line_tokens.specs.declared.cursor.Said.{Said}
 use Rattle.line_tokens.specs.Parts.{Took, pure, is_next}
-use Rattle.line_tokens.proofs.ReadLaws.{AllHoldBytes, both}
+use Rattle.line_tokens.proofs.ReadLaws.{AllHoldBytes}
 use Rattle.script_grammar.specs.Names.{fixed}
 use Rattle.script_grammar.specs.Operands.{Operand, Fixed}
 use Rattle.script_grammar.proofs.ReadLaws.{Fronts, then, made, fixed_front}
