@@ -51,10 +51,15 @@ impl<H: OwnerHead> Owners<H> {
     }
 }
 
+// Goes over all of them, for a step without a branch lets the compiler do several at once.
 fn any_is_target(operator: u16, number: u32, gens: &[(u16, u16)]) -> bool
     ensures { result ≡ list_any (is_target operator number) gens.now }
 {
-    gens.iter().any(|&(other, amount)| other == operator && u32::from(amount) == number)
+    let mut found = false;
+    for &(other, amount) in gens {
+        found = found | ((other == operator) & (u32::from(amount) == number));
+    }
+    found
 }
 
 fn are_valid_records(level: Level, targets: usize, gens: &[(u16, u16)]) -> bool

@@ -17,11 +17,10 @@ changed_from-undone f g h zero (x ∷ xs) = λ i. h x i ∷ changed_from-undone 
 changed_from-undone f g h (suc k) [] = refl
 changed_from-undone f g h (suc k) (x ∷ xs) = ap (λ zs. x ∷ zs) (changed_from-undone f g h k xs)
 
-pub unchanged_from : {X : Type 0} (f : X → X) → ((x : X) → f x ≡ x) → (k : ℕ) (xs : List X) → xs ≡ changed_from k f xs
-unchanged_from f h zero [] = refl
-unchanged_from f h zero (x ∷ xs) = λ i. sym (h x) i ∷ unchanged_from f h zero xs i
-unchanged_from f h (suc k) [] = refl
-unchanged_from f h (suc k) (x ∷ xs) = ap (λ zs. x ∷ zs) (unchanged_from f h k xs)
+-- what changes no member changes no list
+pub unchanged : {X : Type 0} (f : X → X) → ((x : X) → f x ≡ x) → (xs : List X) → xs ≡ map f xs
+unchanged f h [] = refl
+unchanged f h (x ∷ xs) = λ i. sym (h x) i ∷ unchanged f h xs i
 
 -- what is put into or taken out of one of several lists that are joined
 pub put-right : {X : Type 0} (xs ys : List X) (j : ℕ) (zs : List X) → put (xs ++ ys) (length xs + j) zs ≡ xs ++ put ys j zs

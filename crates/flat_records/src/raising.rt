@@ -29,8 +29,10 @@ pub(crate) fn raise_all(bags: &mut [(u16, u16)], by: (usize, usize))
     requires { All (CanRaise by) bags.old }
     ensures { bags.new ≡ map (raised by) bags.old }
 {
-    for bag in bags.iter_mut() {
-        raise_one(bag, by);
+    if by.0 > 0 || by.1 > 0 {
+        for bag in bags.iter_mut() {
+            raise_one(bag, by);
+        }
     }
 }
 
@@ -39,8 +41,10 @@ pub(crate) fn lower_all(bags: &mut [(u16, u16)], by: (usize, usize))
     requires { All (CanLower by) bags.old }
     ensures { bags.new ≡ map (lowered by) bags.old }
 {
-    for bag in bags.iter_mut() {
-        lower_one(bag, by);
+    if by.0 > 0 || by.1 > 0 {
+        for bag in bags.iter_mut() {
+            lower_one(bag, by);
+        }
     }
 }
 
@@ -52,9 +56,7 @@ pub(crate) fn raise_from(bags: &mut Vec<(u16, u16)>, k: usize, by: (usize, usize
     ensures len { vec_len bags.new ≡ vec_len bags.old }
     ensures capacity { vec_capacity bags.new ≡ vec_capacity bags.old }
 {
-    if by.0 > 0 || by.1 > 0 {
-        raise_all(&mut bags[k..], by);
-    }
+    raise_all(&mut bags[k..], by);
 }
 
 /// Takes off the indexes of bag k and of all later ones.
@@ -65,9 +67,7 @@ pub(crate) fn lower_from(bags: &mut Vec<(u16, u16)>, k: usize, by: (usize, usize
     ensures len { vec_len bags.new ≡ vec_len bags.old }
     ensures capacity { vec_capacity bags.new ≡ vec_capacity bags.old }
 {
-    if by.0 > 0 || by.1 > 0 {
-        lower_all(&mut bags[k..], by);
-    }
+    lower_all(&mut bags[k..], by);
 }
 
 // Adds to the indexes of bags a up to b.

@@ -45,11 +45,15 @@ fn renumber_all(gens: &mut [(u16, u16)], operator: u16, by: Renumbering)
     }
 }
 
+// Writes the amount in any case: with no branch around a write the compiler does several records at once.
 fn renumber_one(entry: &mut (u16, u16), operator: u16, by: Renumbering)
     requires { CanRenumber operator by entry.old }
     ensures { entry.new ≡ gen_renumbered operator by entry.old }
 {
-    if entry.0 == operator {
-        entry.1 = by.number_after(entry.1);
-    }
+    let (other, number) = *entry;
+    entry.1 = if other == operator {
+        by.number_after(number)
+    } else {
+        number
+    };
 }

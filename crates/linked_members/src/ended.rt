@@ -11,8 +11,8 @@ use sf_base::Blank;
 use std::alloc::{AllocError, AllocFailed, Global};
 use std::marker::Model;
 
-/// A list whose members go by their numbers, the first by 0. A change of their order or number moves the members on
-/// its shorter side.
+/// A list whose members go by their numbers, the first by 0. What is put in or taken out moves the members on its
+/// shorter side, a move those between the two places.
 pub struct EndedList<T> {
     // The members stand behind blanks, which are room for more of them.
     places: Vec<T>,

@@ -17,8 +17,10 @@ fn raise_all(begins: &mut [u16], by: u16)
     requires { All (λ at. at + by < 2 ^ 16) begins.old }
     ensures { begins.new ≡ map (λ at. at + by) begins.old }
 {
-    for begin in begins.iter_mut() {
-        *begin += by;
+    if by > 0 {
+        for begin in begins.iter_mut() {
+            *begin += by;
+        }
     }
 }
 
@@ -26,8 +28,10 @@ fn lower_all(begins: &mut [u16], by: u16)
     requires { All (λ at. by ≤ at) begins.old }
     ensures { begins.new ≡ map (λ at. at - by) begins.old }
 {
-    for begin in begins.iter_mut() {
-        *begin -= by;
+    if by > 0 {
+        for begin in begins.iter_mut() {
+            *begin -= by;
+        }
     }
 }
 
