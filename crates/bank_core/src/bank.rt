@@ -156,6 +156,13 @@ impl<'a> Bank<'a> {
         self.totals
     }
 
+    /// The law that a bank is sound, and so within the limits. It does nothing.
+    pub fn soundness(&self)
+        ensures { IsSound self.now }
+    {
+        let _totals = self.totals;
+    }
+
     /// The preset of this number without its zones, if there is one.
     pub fn head(&self, preset: u32) -> Option<Head>
         ensures { result ≡ head_of self.now preset }

@@ -31,12 +31,12 @@ pub fn apply<'a>(
 {
     // The laws are called for what they say of the bank and of both edits.
     edit.fits();
-    let _before = bank.samples();
+    bank.soundness();
     let outcome = match edit.into_steps() {
         Ok(step) => apply_step(alloc, bank, step),
         Err(steps) => apply_group(alloc, bank, steps),
     };
-    let _after = bank.samples();
+    bank.soundness();
     if let Ok(back) = &outcome {
         back.fits();
     }

@@ -31,8 +31,7 @@ pub fn refuse(bank: &Bank<'_>, step: &Step<'_>) -> Result<(), Cause>
     ensures refusal { Judges (refusal bank.now step.now) result }
     ensures sound { IsSound bank.now }
 {
-    // For what it says of the bank.
-    let _samples = bank.samples();
+    bank.soundness();
     refuse_step(bank, step)
 }
 

@@ -51,8 +51,7 @@ impl<'a> Session<'a> {
     pub fn new(alloc: Global, bank: Bank<'a>) -> Session<'a>
         ensures { result ≡ begun bank.entry }
     {
-        // For what it says of the bank.
-        let _samples = bank.samples();
+        bank.soundness();
         Session {
             bank,
             undo: Vec::new(alloc),

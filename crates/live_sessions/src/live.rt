@@ -101,8 +101,7 @@ impl<'a> Live<'a> {
 fn voice_count(bank: &Bank<'_>, note: &Note) -> usize
     ensures { result ≡ min (length (fresh bank.now note.now)) usize.MAX }
 {
-    // For what it says of the bank.
-    let _samples = bank.samples();
+    bank.soundness();
     let mut voices = 0usize;
     for _pair in matches(bank, note) {
         voices = one_more(voices);

@@ -49,8 +49,8 @@ pub fn read<'a>(alloc: Global, file: &'a [u8]) -> Result<(Bank<'a>, Counts), Fai
     let (flat, counts) = read_lists(alloc, &lists)?;
     read_banks_are_valid();
     let bank = Bank::from_flat(flat).unwrap();
-    // What lends a part of a bank says that it is sound, and only one sound bank has these lists.
-    let _presets = bank.presets();
+    // Only one sound bank has these lists.
+    bank.soundness();
     Ok((bank, counts))
 }
 

@@ -60,7 +60,7 @@ pub(crate) fn amount(bank: &Bank<'_>, at: &PairAt, operator: u16) -> i32
 
 // The exclusive class, which is the instrument's alone.
 #[tactic(auto, using(crate::proofs::LinearLaws::class_is))]
-pub(crate) fn class(bank: &Bank<'_>, at: &PairAt) -> i16
+pub(crate) fn exclusive_class(bank: &Bank<'_>, at: &PairAt) -> i16
     ensures { result ≡ amount (instrument_zone_at bank.now at.now) (preset_zone_at bank.now at.now) 57 }
 {
     match amount_at(
@@ -78,8 +78,7 @@ pub(crate) fn class(bank: &Bank<'_>, at: &PairAt) -> i16
 fn last_like(bank: &Bank<'_>, owner: Owner, place: Place, like: &Modulator) -> Option<Modulator>
     ensures { result ≡ last_like like.now (mods_at bank.now owner place) }
 {
-    // What the bank tells of its totals is that it keeps within the limits.
-    let _ = bank.totals();
+    bank.soundness();
     let mut found = None;
     let mut index = 0;
     while let Some(modulator) = bank.mod_at(owner, place, index) {

@@ -85,8 +85,7 @@ fn preset_count(bank: &Bank<'_>) -> u32
     ensures count { result ≡ length bank.now.presets }
     ensures few { result ≤ 65535 }
 {
-    // What the bank tells of its totals is that it keeps within the limits.
-    let _ = bank.totals();
+    bank.soundness();
     bank.count(Members::Presets) as u32
 }
 

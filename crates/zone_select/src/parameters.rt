@@ -7,7 +7,7 @@ ghost use Rattle.zone_select.specs.At.{instrument_zone_at, preset_zone_at};
 ghost use Rattle.zone_select.specs.Pairs.{pairs, chosen_by, voice_by};
 ghost use Rattle.zone_select.specs.Playable.{IsPlayable};
 
-use crate::amounts::{PairAt, class};
+use crate::amounts::{PairAt, exclusive_class};
 use crate::chosen::chosen;
 use crate::levels::{attenuation, moved_time, pan, sustain, time};
 use crate::pitches::step_through;
@@ -68,8 +68,7 @@ pub fn params(bank: &Bank<'_>, note: &Note, pair: (u32, u32)) -> Option<VoicePar
     ensures there { IsSome result ↔ Contains (pairs bank.now note.now) pair }
     ensures playable { IfSome (voice_by bank.now note.now pair) (λ v. IsPlayable (length v.points) v.parameters) }
 {
-    // What the bank tells of its totals is that it keeps within the limits.
-    let _ = bank.totals();
+    bank.soundness();
     let chosen = chosen(bank, note, pair)?;
     let sample = bank.sample(chosen.sample)?;
     Some(parameters_of(bank, note, &chosen.zones, sample))
@@ -108,6 +107,6 @@ fn parameters_of(bank: &Bank<'_>, note: &Note, at: &PairAt, sample: &Sample<'_>)
         attenuation: attenuation(bank, note, at),
         pan: pan(bank, note, at),
         length: note.length(),
-        class: class(bank, at),
+        class: exclusive_class(bank, at),
     }
 }

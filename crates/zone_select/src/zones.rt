@@ -12,8 +12,7 @@ fn zones_in(bank: &Bank<'_>, owner: Owner) -> u32
     ensures count { result ≡ zones_in bank.now owner }
     ensures few { result ≤ 65535 }
 {
-    // What the bank tells of its totals is that it keeps within the limits.
-    let _ = bank.totals();
+    bank.soundness();
     match bank.zone_count(owner) {
         Some(count) => count as u32,
         None => 0,

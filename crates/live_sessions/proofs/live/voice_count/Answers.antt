@@ -5,7 +5,7 @@ use Rattle.live_sessions.proofs.live.voice_count.Goals as goal
 
 pub loop-pair-init : goal.loop-pair-init
 loop-pair-init c =
-    let f = count_first c.args.bank.now c.args.note.now _ 0 c.samples-samples.ensures.valid refl (c.into_iter-pair-iterator.ensures.into_iter_gives ∙ c.matches-pair-items.ensures) in
+    let f = count_first c.args.bank.now c.args.note.now _ 0 c.soundness.ensures.valid refl (c.into_iter-pair-iterator.ensures.into_iter_gives ∙ c.matches-pair-items.ensures) in
     record { can_next = tt; is_finite = tt; left = f.0; counted = f.1 }
 
 pub loop-pair-preserved : goal.loop-pair-preserved

@@ -56,7 +56,7 @@ returns-clause-ok c =
     let holds = file_holds file c.in_ok-window.window.now c.in_ok-lists.lists c.in_ok-window.ensures.1 c.in_ok-lists.ensures.1 c.in_ok-window.ensures.0 c.in_ok-lists.ensures.0 c.in_ok-flat.ensures.0 in
     let content = c.in_ok-flat.ensures.1 ∙ holds.1 in
     let sound : IsSound b = record { valid = c.read_banks_are_valid.ensures.valid file bytes holds.0; fits = c.read_banks_are_valid.ensures.fits file bytes } in
-    let sound_too : IsSound bank = record { valid = c.presets-presets.ensures.valid; fits = c.presets-presets.ensures.fits } in
+    let sound_too : IsSound bank = c.soundness.ensures in
     let same = bank_is c.in_ok-flat.flat b bank sound sound_too (is_flat c.in_ok-flat.flat b (ap (λ (k : FlatContent). k.bank) content)) (has_lists c.in_ok-flat.flat c.from_flat.result bank c.from_flat.ensures c.unwrap-bank.ensures) in
     let counts = sym (ap (λ (k : FlatContent). k.counts) content) in
     (holds.0, λ i. record { bank = same i; counts = counts i })

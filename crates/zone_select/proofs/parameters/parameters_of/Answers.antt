@@ -19,8 +19,8 @@ returns c =
     let there = c.is_some.ensures ∙ ap (λ (o : Option (ℕ × ℕ)). is_some o) c.loop_within-looped.ensures ∙ loop_there v u s in
     let fa : SFits w32 c.attenuation.result = search rules in
     let fp : SFits w32 c.pan.result = search rules in
-    let fc : SFits w16 c.class.result = search rules in
+    let fc : SFits w16 c.exclusive_class.result = search rules in
     let attenuation = to_z-of_z w32 c.attenuation.result fa ∙ c.attenuation.ensures in
     let pan = to_z-of_z w32 c.pan.result fp ∙ c.pan.ensures in
-    let class = to_z-of_z w16 c.class.result fc ∙ c.class.ensures in
+    let class = to_z-of_z w16 c.exclusive_class.result fc ∙ c.exclusive_class.ensures in
     rw (c.span_of-span.ensures.start, c.span_of-span.ensures.end, first, after, there, c.mode.ensures.value, c.step_through.ensures, c.time.ensures, c.moved_time.ensures, c.time-2.ensures, c.moved_time-2.ensures, c.moved_time-3.ensures, c.sustain.ensures, attenuation, pan, c.length.ensures.value, class) refl
