@@ -87,6 +87,14 @@ numeral f = do
   w ← number_word
   or_fault faults.Number (f w)
 
+-- the largest WORD, of 16 bits
+abbrev pub most_word : ℕ
+most_word = 65535
+
+-- the largest DWORD, of 32 bits
+abbrev pub most_double_word : ℕ
+most_double_word = 4294967295
+
 -- a number within the limit
 unfoldable pub number : ℕ → Part ℕ
 number limit = numeral (number_of limit)

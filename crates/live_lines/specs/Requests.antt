@@ -5,7 +5,7 @@ use Rattle.line_tokens.specs.declared.cursor.Said.{Said}
 use Rattle.line_tokens.specs.declared.cursor.Said.TheVariants.{Word, Literal, Bad}
 use Rattle.line_tokens.specs.declared.fault.LineFault.{LineFault}
 use Rattle.line_tokens.specs.Lines.{is_feed}
-use Rattle.line_tokens.specs.Parts.{Took, Part, ◌>>=◌, pure, number, ended}
+use Rattle.line_tokens.specs.Parts.{Took, Part, ◌>>=◌, pure, most_word, most_double_word, number, ended}
 use Rattle.script_grammar.specs.Names.{next_named}
 use Rattle.edit_script.specs.Grammar.{edit}
 use Rattle.note_list.specs.declared.limits.TheConstants.{HIGHEST_KEY, HIGHEST_VELOCITY}
@@ -53,9 +53,9 @@ told f (Err e) = Err (of_line e)
 -- the numbers of a note that starts now, to the line's end: a note, or none where it is too long
 unfoldable pub note_now : Part (Option Numbers)
 note_now = do
-  l ← number 4294967295
-  b ← number 65535
-  n ← number 65535
+  l ← number most_double_word
+  b ← number most_word
+  n ← number most_word
   k ← number HIGHEST_KEY
   v ← number HIGHEST_VELOCITY
   u ← ended (tt {0})

@@ -9,6 +9,7 @@ use Rattle.line_tokens.specs.declared.fault.LineFault.{LineFault}
 use Rattle.line_tokens.specs.declared.fault.LineFault.TheVariants as faults
 use Rattle.line_tokens.specs.Said.{is_plain, is_hex, decoded, said, size_of, said_over, all_said_over}
 use Rattle.line_tokens.specs.Parts.{Took, Part, and_then, pure, or_fault, number_word, number_of, number, ended}
+use Rattle.line_tokens.specs.Parts.{most_word, most_double_word}
 use Rattle.note_list.specs.declared.limits.TheConstants.{HIGHEST_KEY, HIGHEST_VELOCITY}
 use Rattle.note_list.specs.Notes.{Numbers, note, note_of, judged}
 
@@ -108,10 +109,10 @@ pure_alike x xs ys h = (refl, h)
 note_alike : ReadsAlike note
 unfolding note
 note_alike xs ys h =
-    then_alike _ _ _ (number_alike 4294967295 xs ys h) (λ s xs ys h.
-    then_alike _ _ _ (number_alike 4294967295 xs ys h) (λ l xs ys h.
-    then_alike _ _ _ (number_alike 65535 xs ys h) (λ b xs ys h.
-    then_alike _ _ _ (number_alike 65535 xs ys h) (λ n xs ys h.
+    then_alike _ _ _ (number_alike most_double_word xs ys h) (λ s xs ys h.
+    then_alike _ _ _ (number_alike most_double_word xs ys h) (λ l xs ys h.
+    then_alike _ _ _ (number_alike most_word xs ys h) (λ b xs ys h.
+    then_alike _ _ _ (number_alike most_word xs ys h) (λ n xs ys h.
     then_alike _ _ _ (number_alike HIGHEST_KEY xs ys h) (λ k xs ys h.
     then_alike _ _ _ (number_alike HIGHEST_VELOCITY xs ys h) (λ v xs ys h.
     then_alike _ _ _ (ended_alike (tt {0}) xs ys h) (λ u.

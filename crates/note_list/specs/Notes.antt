@@ -3,7 +3,7 @@ use Rattle.std.specs.Prelude.{◌≤◌, ℕ, suc, ◌+◌, List, [], ◌∷◌,
 use Rattle.line_tokens.specs.declared.cursor.Said.{Said}
 use Rattle.line_tokens.specs.declared.fault.LineFault.{LineFault}
 use Rattle.line_tokens.specs.Said.{said_lines}
-use Rattle.line_tokens.specs.Parts.{Took, Part, ◌>>=◌, pure, number, ended}
+use Rattle.line_tokens.specs.Parts.{Took, Part, ◌>>=◌, pure, most_word, most_double_word, number, ended}
 use Rattle.line_tokens.specs.Pool.{and_then}
 use Rattle.note_list.specs.declared.limits.TheConstants.{MOST_NOTES, LAST_FRAME, HIGHEST_KEY, HIGHEST_VELOCITY}
 use Rattle.note_list.specs.declared.fault.NoteFault.{NoteFault}
@@ -39,10 +39,10 @@ OrFault X = Result X NoteFault
 -- six numbers and the line's end: a note, or none where it ends too late
 unfoldable pub note : Part (Option Numbers)
 note = do
-  s ← number 4294967295
-  l ← number 4294967295
-  b ← number 65535
-  n ← number 65535
+  s ← number most_double_word
+  l ← number most_double_word
+  b ← number most_word
+  n ← number most_word
   k ← number HIGHEST_KEY
   v ← number HIGHEST_VELOCITY
   u ← ended (tt {0})

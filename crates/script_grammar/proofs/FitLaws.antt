@@ -15,6 +15,7 @@ use Rattle.zone_ranges.specs.declared.axes.Axis.TheVariants as axis
 use Rattle.zone_ranges.specs.declared.axes.Keep.{Keep}
 use Rattle.zone_ranges.specs.declared.axes.Keep.TheVariants as keep
 use Rattle.line_tokens.specs.declared.cursor.Said.{Said}
+use Rattle.line_tokens.specs.Parts.{most_word, most_double_word}
 use Rattle.line_tokens.specs.Spelling.{WritesSigned, IsWithin}
 use Rattle.script_grammar.specs.Operands.{Operand, Fixed, Number, Signed, Amount, Range, Name, Text, Points, Says, AllSay}
 use Rattle.script_grammar.specs.Samples.{kind_operands, loop_operands, tune_operands, head_operands, body_operands}
@@ -112,10 +113,10 @@ sample_fits s h =
 
 -- ---- what fits can be said
 
-pub word32 : (n : ℕ) → n < 2 ^ 32 → (n ≤ 4294967295) × (4294967295 < 2 ^ 32)
+pub word32 : (n : ℕ) → n < 2 ^ 32 → (n ≤ most_double_word) × (most_double_word < 2 ^ 32)
 word32 n h = (omega (arith, h), lit< tt)
 
-pub word16 : (n : ℕ) → n < 2 ^ 16 → (n ≤ 65535) × (65535 < 2 ^ 32)
+pub word16 : (n : ℕ) → n < 2 ^ 16 → (n ≤ most_word) × (most_word < 2 ^ 32)
 word16 n h = (omega (arith, h), lit< tt)
 
 pub kind_fit : (k : Kind) → FitsKind k → AllFit (kind_operands k)

@@ -7,7 +7,7 @@ use Rattle.bank_parts.specs.declared.parts.Zone.{Zone}
 use Rattle.line_tokens.specs.declared.cursor.Said.{Said}
 use Rattle.line_tokens.specs.declared.fault.LineFault.{LineFault}
 use Rattle.line_tokens.specs.declared.fault.LineFault.TheVariants as faults
-use Rattle.line_tokens.specs.Parts.{Took, ◌>>=◌, pure, or_fault, is_next, word, number, signed, range}
+use Rattle.line_tokens.specs.Parts.{Took, ◌>>=◌, pure, or_fault, is_next, word, most_word, number, signed, range}
 use Rattle.script_grammar.specs.declared.items.Item.{Item}
 use Rattle.script_grammar.specs.Names.{fixed_by, fixed}
 use Rattle.script_grammar.specs.Items.{amount, generator, modulator, item_behind, an_item, closed, with_item, items_on, items, no_content}
@@ -30,16 +30,16 @@ amount_keeps operator =
 
 pub generator_keeps : Keeps generator
 unfolding generator
-generator_keeps = then_keeps (number 65535) _ (number_keeps 65535) (λ operator. then_keeps (amount operator) _ (amount_keeps operator) (λ a. pure_keeps _))
+generator_keeps = then_keeps (number most_word) _ (number_keeps most_word) (λ operator. then_keeps (amount operator) _ (amount_keeps operator) (λ a. pure_keeps _))
 
 pub modulator_keeps : Keeps modulator
 unfolding modulator
 modulator_keeps =
-    then_keeps (number 65535) _ (number_keeps 65535) (λ source.
-    then_keeps (number 65535) _ (number_keeps 65535) (λ dest.
+    then_keeps (number most_word) _ (number_keeps most_word) (λ source.
+    then_keeps (number most_word) _ (number_keeps most_word) (λ dest.
     then_keeps (signed 32767) _ (signed_keeps 32767) (λ a.
-    then_keeps (number 65535) _ (number_keeps 65535) (λ amount_source.
-    then_keeps (number 65535) _ (number_keeps 65535) (λ transform. pure_keeps _)))))
+    then_keeps (number most_word) _ (number_keeps most_word) (λ amount_source.
+    then_keeps (number most_word) _ (number_keeps most_word) (λ transform. pure_keeps _)))))
 
 behind_keeps : (w : List ℕ) → Keeps (item_behind w)
 unfolding item_behind
@@ -65,7 +65,7 @@ fixed_shortens text = then_shortens word (fixed_by text) word_shortens (λ w. ei
 
 pub zone_behind_keeps : Keeps zone_behind
 unfolding zone_behind
-zone_behind_keeps = then_keeps (number 65535) _ (number_keeps 65535) (λ target. then_keeps items _ items_keeps (λ content. pure_keeps _))
+zone_behind_keeps = then_keeps (number most_word) _ (number_keeps most_word) (λ target. then_keeps items _ items_keeps (λ content. pure_keeps _))
 
 pub zone_shortens : Shortens zone
 unfolding zone

@@ -3,7 +3,7 @@ use Rattle.std.proofs.Common.{◌≡◌, ◌≤◌, ℕ, Bool, true, false, List
 use Rattle.std.specs.Str.{bytes_eq}
 use Rattle.bank_parts.specs.declared.parts.Zone.{Zone}
 use Rattle.line_tokens.specs.declared.fault.LineFault.TheVariants as faults
-use Rattle.line_tokens.specs.Parts.{◌>>=◌, pure, is_next, word, literal, name}
+use Rattle.line_tokens.specs.Parts.{◌>>=◌, pure, is_next, word, literal, most_word, most_double_word, name}
 use Rattle.line_tokens.proofs.ReadLaws.{literal_is}
 use Rattle.script_grammar.specs.Names.{next_named}
 use Rattle.script_grammar.specs.Samples.{kind_behind, kind, loop_behind, looped, points, tune, body}
@@ -37,9 +37,9 @@ kind_behind_keeps : (w : List ℕ) → Keeps (kind_behind w)
 unfolding kind_behind
 kind_behind_keeps w =
     either_keeps (bytes_eq w (codes "mono")) _ _ (pure_keeps _)
-    (either_keeps (bytes_eq w (codes "right")) _ _ (then_keeps _ _ (number_keeps 65535) (λ link. pure_keeps _))
-    (either_keeps (bytes_eq w (codes "left")) _ _ (then_keeps _ _ (number_keeps 65535) (λ link. pure_keeps _))
-    (either_keeps (bytes_eq w (codes "linked")) _ _ (then_keeps _ _ (number_keeps 65535) (λ link. pure_keeps _)) (fault_keeps faults.Syntax None))))
+    (either_keeps (bytes_eq w (codes "right")) _ _ (then_keeps _ _ (number_keeps most_word) (λ link. pure_keeps _))
+    (either_keeps (bytes_eq w (codes "left")) _ _ (then_keeps _ _ (number_keeps most_word) (λ link. pure_keeps _))
+    (either_keeps (bytes_eq w (codes "linked")) _ _ (then_keeps _ _ (number_keeps most_word) (λ link. pure_keeps _)) (fault_keeps faults.Syntax None))))
 
 pub kind_keeps : Keeps kind
 unfolding kind
@@ -49,7 +49,7 @@ loop_behind_keeps : (w : List ℕ) → Keeps (loop_behind w)
 unfolding loop_behind
 loop_behind_keeps w =
     either_keeps (bytes_eq w (codes "noloop")) _ _ (pure_keeps _)
-    (either_keeps (bytes_eq w (codes "loop")) _ _ (then_keeps _ _ (number_keeps 4294967295) (λ a. then_keeps _ _ (number_keeps 4294967295) (λ b. pure_keeps _))) (fault_keeps faults.Syntax None))
+    (either_keeps (bytes_eq w (codes "loop")) _ _ (then_keeps _ _ (number_keeps most_double_word) (λ a. then_keeps _ _ (number_keeps most_double_word) (λ b. pure_keeps _))) (fault_keeps faults.Syntax None))
 
 pub looped_keeps : Keeps looped
 unfolding looped
@@ -57,7 +57,7 @@ looped_keeps = then_keeps word loop_behind word_keeps loop_behind_keeps
 
 pub tune_keeps : Keeps tune
 unfolding tune
-tune_keeps = then_keeps _ _ (number_keeps 4294967295) (λ rate. then_keeps _ _ (number_keeps 255) (λ key. then_keeps _ _ (signed_keeps 127) (λ correction. pure_keeps _)))
+tune_keeps = then_keeps _ _ (number_keeps most_double_word) (λ rate. then_keeps _ _ (number_keeps 255) (λ key. then_keeps _ _ (signed_keeps 127) (λ correction. pure_keeps _)))
 
 pub body_keeps : Keeps body
 unfolding body

@@ -11,6 +11,7 @@ use Rattle.line_tokens.specs.declared.cursor.Said.{Said}
 use Rattle.line_tokens.specs.declared.cursor.Said.TheVariants.{Word, Literal}
 use Rattle.line_tokens.specs.declared.fault.LineFault.TheVariants as faults
 use Rattle.line_tokens.specs.Parts.{Took, ◌>>=◌, pure, or_fault, word, literal, number, signed, name}
+use Rattle.line_tokens.specs.Parts.{most_word, most_double_word}
 use Rattle.line_tokens.proofs.PieceLaws.{bytes_are}
 use Rattle.line_tokens.proofs.ReadLaws.{AllHoldBytes, both, or_fault_is, word_is, literal_is, number_is, signed_is, name_is}
 use Rattle.script_grammar.specs.Operands.{Operand, Fixed, Number, Signed, Name, Text, Points, Says, AllSay}
@@ -99,13 +100,13 @@ made x line t e = cc
 
 -- ---- samples
 
-link_front : (w : List ℕ) (f : ℕ → Kind) (line : List Said) (t : Took Kind) → ((n : ℕ) → kind_operands (f n) ≡ Fixed w ∷ Number 65535 n ∷ []) → AllHoldBytes line → (number 65535 >>= λ n. pure (f n)) line ≡ Ok t
+link_front : (w : List ℕ) (f : ℕ → Kind) (line : List Said) (t : Took Kind) → ((n : ℕ) → kind_operands (f n) ≡ Fixed w ∷ Number most_word n ∷ []) → AllHoldBytes line → (number most_word >>= λ n. pure (f n)) line ≡ Ok t
     → (before : List Said) → Fronts before line (Fixed w ∷ []) → Fronts before t.rest (kind_operands t.value)
 link_front w f line t is h e before g =
-    let n = both (number 65535 line) (λ n. pure (f n)) t e in
+    let n = both (number most_word line) (λ n. pure (f n)) t e in
     let k : record { value = f n.first.value; rest = n.first.rest } ≡ t = made _ n.first.rest t n.second in
     subst (λ (u : Took Kind). Fronts before u.rest (kind_operands u.value)) k
-    (subst (Fronts before n.first.rest) (sym (is n.first.value)) (then (Fixed w ∷ []) (Number 65535 n.first.value ∷ []) g (number_front 65535 line n.first h n.is)))
+    (subst (Fronts before n.first.rest) (sym (is n.first.value)) (then (Fixed w ∷ []) (Number most_word n.first.value ∷ []) g (number_front most_word line n.first h n.is)))
 
 pub kind_front : (line : List Said) (t : Took Kind) → AllHoldBytes line → kind line ≡ Ok t → Fronts line t.rest (kind_operands t.value)
 unfolding kind kind_behind
@@ -118,7 +119,7 @@ kind_front line t h e =
     at v c rest g k = subst (λ (x : List ℕ). Fronts line rest (Fixed x ∷ [])) ((bytes_eq-Decides v c).0 k) g
 
     from : (v : List ℕ) (rest : List Said) → Fronts line rest (Fixed v ∷ []) → (a b c d : Bool) → bytes_eq v (codes "mono") ≡ a → bytes_eq v (codes "right") ≡ b → bytes_eq v (codes "left") ≡ c → bytes_eq v (codes "linked") ≡ d
-        → cond a (pure Mono) (cond b (number 65535 >>= λ n. pure (Right n)) (cond c (number 65535 >>= λ n. pure (Left n)) (cond d (number 65535 >>= λ n. pure (Linked n)) (or_fault faults.Syntax None)))) rest ≡ Ok t → Fronts line t.rest (kind_operands t.value)
+        → cond a (pure Mono) (cond b (number most_word >>= λ n. pure (Right n)) (cond c (number most_word >>= λ n. pure (Left n)) (cond d (number most_word >>= λ n. pure (Linked n)) (or_fault faults.Syntax None)))) rest ≡ Ok t → Fronts line t.rest (kind_operands t.value)
     from v rest g true b c d p q r s k = let same : record { value = Mono; rest = rest } ≡ t = cc in subst (λ (u : Took Kind). Fronts line u.rest (kind_operands u.value)) same (at v (codes "mono") rest g p)
     from v rest g false true c d p q r s k = link_front (codes "right") (λ n. Right n) rest t (λ n. refl) g.holds k line (at v (codes "right") rest g q)
     from v rest g false false true d p q r s k = link_front (codes "left") (λ n. Left n) rest t (λ n. refl) g.holds k line (at v (codes "left") rest g r)
@@ -135,18 +136,18 @@ loop_front line t h e =
     at : (v c : List ℕ) (rest : List Said) → Fronts line rest (Fixed v ∷ []) → bytes_eq v c ≡ true → Fronts line rest (Fixed c ∷ [])
     at v c rest g k = subst (λ (x : List ℕ). Fronts line rest (Fixed x ∷ [])) ((bytes_eq-Decides v c).0 k) g
 
-    ends : (rest : List Said) → Fronts line rest (Fixed (codes "loop") ∷ []) → (number 4294967295 >>= λ a. number 4294967295 >>= λ b. pure (Some (a, b))) rest ≡ Ok t → Fronts line t.rest (loop_operands t.value)
+    ends : (rest : List Said) → Fronts line rest (Fixed (codes "loop") ∷ []) → (number most_double_word >>= λ a. number most_double_word >>= λ b. pure (Some (a, b))) rest ≡ Ok t → Fronts line t.rest (loop_operands t.value)
     ends rest g k =
-        let a = both (number 4294967295 rest) (λ a. number 4294967295 >>= λ b. pure (Some (a, b))) t k in
-        let f = number_front 4294967295 rest a.first g.holds a.is in
-        let b = both (number 4294967295 a.first.rest) (λ b. pure (Some (a.first.value, b))) t a.second in
-        let k = number_front 4294967295 a.first.rest b.first f.holds b.is in
+        let a = both (number most_double_word rest) (λ a. number most_double_word >>= λ b. pure (Some (a, b))) t k in
+        let f = number_front most_double_word rest a.first g.holds a.is in
+        let b = both (number most_double_word a.first.rest) (λ b. pure (Some (a.first.value, b))) t a.second in
+        let k = number_front most_double_word a.first.rest b.first f.holds b.is in
         let same : record { value = Some (a.first.value, b.first.value); rest = b.first.rest } ≡ t = made _ b.first.rest t b.second in
         subst (λ (u : Took (Option (ℕ × ℕ))). Fronts line u.rest (loop_operands u.value)) same
-        (then (Fixed (codes "loop") ∷ []) (Number 4294967295 a.first.value ∷ Number 4294967295 b.first.value ∷ []) g (then (Number 4294967295 a.first.value ∷ []) (Number 4294967295 b.first.value ∷ []) f k))
+        (then (Fixed (codes "loop") ∷ []) (Number most_double_word a.first.value ∷ Number most_double_word b.first.value ∷ []) g (then (Number most_double_word a.first.value ∷ []) (Number most_double_word b.first.value ∷ []) f k))
 
     from : (v : List ℕ) (rest : List Said) → Fronts line rest (Fixed v ∷ []) → (a b : Bool) → bytes_eq v (codes "noloop") ≡ a → bytes_eq v (codes "loop") ≡ b
-        → cond a (pure None) (cond b (number 4294967295 >>= λ a. number 4294967295 >>= λ b. pure (Some (a, b))) (or_fault faults.Syntax None)) rest ≡ Ok t → Fronts line t.rest (loop_operands t.value)
+        → cond a (pure None) (cond b (number most_double_word >>= λ a. number most_double_word >>= λ b. pure (Some (a, b))) (or_fault faults.Syntax None)) rest ≡ Ok t → Fronts line t.rest (loop_operands t.value)
     from v rest g true b p q k = let same : record { value = None; rest = rest } ≡ t = cc in subst (λ (u : Took (Option (ℕ × ℕ))). Fronts line u.rest (loop_operands u.value)) same (at v (codes "noloop") rest g p)
     from v rest g false true p q k = ends rest (at v (codes "loop") rest g q) k
     from v rest g false false p q k = cc
@@ -154,15 +155,15 @@ loop_front line t h e =
 pub tune_front : (line : List Said) (t : Took (ℕ × ℕ × ℤ)) → AllHoldBytes line → tune line ≡ Ok t → Fronts line t.rest (tune_operands t.value.0 t.value.1 t.value.2)
 unfolding tune
 tune_front line t h e =
-    let r = both (number 4294967295 line) (λ r. number 255 >>= λ y. signed 127 >>= λ c. pure (r, y, c)) t e in
-    let rf = number_front 4294967295 line r.first h r.is in
+    let r = both (number most_double_word line) (λ r. number 255 >>= λ y. signed 127 >>= λ c. pure (r, y, c)) t e in
+    let rf = number_front most_double_word line r.first h r.is in
     let y = both (number 255 r.first.rest) (λ y. signed 127 >>= λ c. pure (r.first.value, y, c)) t r.second in
     let yf = number_front 255 r.first.rest y.first rf.holds y.is in
     let c = both (signed 127 y.first.rest) (λ c. pure (r.first.value, y.first.value, c)) t y.second in
     let cf = signed_front 127 y.first.rest c.first yf.holds c.is in
     let cs : List Operand = Signed 127 c.first.value ∷ [] in
     let ys : List Operand = Number 255 y.first.value ∷ [] in
-    let rs : List Operand = Number 4294967295 r.first.value ∷ [] in
+    let rs : List Operand = Number most_double_word r.first.value ∷ [] in
     let same : record { value = (r.first.value, y.first.value, c.first.value); rest = c.first.rest } ≡ t = made _ c.first.rest t c.second in
     subst (λ (u : Took (ℕ × ℕ × ℤ)). Fronts line u.rest (tune_operands u.value.0 u.value.1 u.value.2)) same
     (then rs (ys ++ cs) rf (then ys cs yf cf))

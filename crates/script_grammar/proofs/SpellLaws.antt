@@ -11,6 +11,7 @@ use Rattle.line_tokens.specs.declared.cursor.Said.{Said}
 use Rattle.line_tokens.specs.declared.cursor.Said.TheVariants.{Literal}
 use Rattle.line_tokens.specs.declared.fault.LineFault.TheVariants as faults
 use Rattle.line_tokens.specs.Parts.{Part, and_then, ◌>>=◌, pure, or_fault, word, literal, number, signed, name}
+use Rattle.line_tokens.specs.Parts.{most_word, most_double_word}
 use Rattle.line_tokens.proofs.SpellLaws as tokens
 use Rattle.script_grammar.specs.Operands.{Operand, Fixed, Number, Signed, Name, Text, Points, AllSay}
 use Rattle.script_grammar.specs.Names.{named, next_named, fixed_by, fixed}
@@ -80,22 +81,23 @@ gives_points ps (s ∷ line) more h = record { rest = line; is = ap (λ (t : Sai
 pub gives_kind : (k : Kind) (line : List Said) (more : List Operand) → AllSay line (kind_operands k ++ more) → Gives kind k line more
 unfolding kind kind_behind
 gives_kind Mono line more h = then _ (gives_word (codes "mono") line more h) (λ rest k. gives_pure Mono rest more k)
-gives_kind (Right n) line more h = then _ (gives_word (codes "right") line (Number 65535 n ∷ more) h) (λ rest k. then _ (gives_number 65535 n rest more k) (λ rest k. gives_pure (Right n) rest more k))
-gives_kind (Left n) line more h = then _ (gives_word (codes "left") line (Number 65535 n ∷ more) h) (λ rest k. then _ (gives_number 65535 n rest more k) (λ rest k. gives_pure (Left n) rest more k))
-gives_kind (Linked n) line more h = then _ (gives_word (codes "linked") line (Number 65535 n ∷ more) h) (λ rest k. then _ (gives_number 65535 n rest more k) (λ rest k. gives_pure (Linked n) rest more k))
+gives_kind (Right n) line more h = then _ (gives_word (codes "right") line (Number most_word n ∷ more) h) (λ rest k. then _ (gives_number most_word n rest more k) (λ rest k. gives_pure (Right n) rest more k))
+gives_kind (Left n) line more h = then _ (gives_word (codes "left") line (Number most_word n ∷ more) h) (λ rest k. then _ (gives_number most_word n rest more k) (λ rest k. gives_pure (Left n) rest more k))
+gives_kind (Linked n) line more h = then _ (gives_word (codes "linked") line (Number most_word n ∷ more) h) (λ rest k. then _ (gives_number most_word n rest more k) (λ rest k. gives_pure (Linked n) rest more k))
 
 pub gives_loop : (l : Option (ℕ × ℕ)) (line : List Said) (more : List Operand) → AllSay line (loop_operands l ++ more) → Gives looped l line more
 unfolding looped loop_behind
 gives_loop None line more h = then _ (gives_word (codes "noloop") line more h) (λ rest k. gives_pure None rest more k)
 gives_loop (Some l) line more h =
-    then _ (gives_word (codes "loop") line (Number 4294967295 l.0 ∷ Number 4294967295 l.1 ∷ more) h) (λ rest k.
-    then _ (gives_number 4294967295 l.0 rest (Number 4294967295 l.1 ∷ more) k) (λ rest k.
-    then _ (gives_number 4294967295 l.1 rest more k) (λ rest k. gives_pure (Some l) rest more k)))
+    then _
+    (gives_word (codes "loop") line (Number most_double_word l.0 ∷ Number most_double_word l.1 ∷ more) h) (λ rest k.
+    then _ (gives_number most_double_word l.0 rest (Number most_double_word l.1 ∷ more) k) (λ rest k.
+    then _ (gives_number most_double_word l.1 rest more k) (λ rest k. gives_pure (Some l) rest more k)))
 
 pub gives_tune : (rate key : ℕ) (correction : ℤ) (line : List Said) (more : List Operand) → AllSay line (tune_operands rate key correction ++ more) → Gives tune (rate, key, correction) line more
 unfolding tune
 gives_tune rate key correction line more h =
-    then _ (gives_number 4294967295 rate line (Number 255 key ∷ Signed 127 correction ∷ more) h) (λ rest k.
+    then _ (gives_number most_double_word rate line (Number 255 key ∷ Signed 127 correction ∷ more) h) (λ rest k.
     then _ (gives_number 255 key rest (Signed 127 correction ∷ more) k) (λ rest k.
     then _ (gives_signed 127 correction rest more k) (λ rest k. gives_pure (rate, key, correction) rest more k)))
 

@@ -20,6 +20,7 @@ use Rattle.modulators.specs.Modulators.{FitsModulator}
 use Rattle.bank_parts.specs.declared.parts.GlobalZone.{GlobalZone}
 use Rattle.bank_parts.specs.declared.parts.Zone.{Zone}
 use Rattle.bank_parts.specs.Fits.{FitsGlobal, FitsZone}
+use Rattle.line_tokens.specs.Parts.{most_word}
 use Rattle.line_tokens.specs.Spelling.{IsWithin}
 use Rattle.script_grammar.specs.declared.items.Item.{Item}
 use Rattle.script_grammar.specs.declared.items.Item.TheVariants as item
@@ -102,7 +103,7 @@ zones_stand g zs = ap (λ (x : GlobalZone). (x, map zone_in (map written_zone zs
 
 -- ---- what is said fits
 
-word_low : (n : ℕ) → n ≤ 65535 → n < 2 ^ 16
+word_low : (n : ℕ) → n ≤ most_word → n < 2 ^ 16
 word_low n h = omega (arith, h)
 
 amount_fits : (operator a : ℕ) → Ranged (amount_operand operator a) → a < 2 ^ 16

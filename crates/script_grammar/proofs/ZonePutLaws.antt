@@ -9,6 +9,7 @@ use Rattle.outputs.proofs.OutputLaws.{puts_as, Putting, putting_member}
 use Rattle.modulators.specs.declared.modulator.Modulator.{Modulator}
 use Rattle.bank_parts.specs.declared.parts.GlobalZone.{GlobalZone}
 use Rattle.bank_parts.specs.declared.parts.Zone.{Zone}
+use Rattle.line_tokens.specs.Parts.{most_word}
 use Rattle.script_grammar.specs.declared.items.Item.{Item}
 use Rattle.script_grammar.specs.declared.items.Item.TheVariants as item
 use Rattle.script_grammar.specs.Operands.{Operand, Fixed, Number}
@@ -56,8 +57,8 @@ module _ {W : Type 0} {c : W → Option (List ℕ)} where
       let both : Puts c o q (spaced_out (flat_map item_operands (gs ++ ms))) = puts_as _ _ (ap spaced_out (sym (both_lists gs ms))) (puts_both (flat_map item_operands gs) (flat_map item_operands ms) first second) in
       puts_both (flat_map item_operands (gs ++ ms)) (Fixed (codes "}") ∷ []) both l
 
-  pub puts_zone : {o p q : Output W} (z : Zone) → Puts c o p (spaced_out (Fixed (codes "{") ∷ Number 65535 z.target ∷ [])) → Puts c p q (spaced_out (items_operands (items_of z.gens z.mods))) → Puts c o q (zone_text z)
-  puts_zone z h k = puts_both (Fixed (codes "{") ∷ Number 65535 z.target ∷ []) (items_operands (items_of z.gens z.mods)) h k
+  pub puts_zone : {o p q : Output W} (z : Zone) → Puts c o p (spaced_out (Fixed (codes "{") ∷ Number most_word z.target ∷ [])) → Puts c p q (spaced_out (items_operands (items_of z.gens z.mods))) → Puts c o q (zone_text z)
+  puts_zone z h k = puts_both (Fixed (codes "{") ∷ Number most_word z.target ∷ []) (items_operands (items_of z.gens z.mods)) h k
 
   pub puts_global : {o p q : Output W} (g : GlobalZone) → (len g.gens + length g.mods == 0) ≡ false → Puts c o p (spaced_out (Fixed (codes "{") ∷ Fixed (codes "global") ∷ [])) → Puts c p q (spaced_out (items_operands (items_of g.gens g.mods)))
       → Puts c o q (spaced_out (global_operands (global_of g)))

@@ -12,7 +12,7 @@ use Rattle.bank_parts.specs.declared.parts.Zone.{Zone}
 use Rattle.line_tokens.specs.declared.cursor.Said.{Said}
 use Rattle.line_tokens.specs.declared.cursor.Said.TheVariants.{Word}
 use Rattle.line_tokens.specs.declared.fault.LineFault.TheVariants as faults
-use Rattle.line_tokens.specs.Parts.{Took, ◌>>=◌, pure, or_fault, is_next, word, number, signed, range}
+use Rattle.line_tokens.specs.Parts.{Took, ◌>>=◌, pure, or_fault, is_next, word, most_word, number, signed, range}
 use Rattle.line_tokens.proofs.ReadLaws.{AllHoldBytes, both, word_is, signed_is, range_is}
 use Rattle.script_grammar.specs.declared.items.Item.{Item}
 use Rattle.script_grammar.specs.declared.items.Item.TheVariants as item
@@ -59,32 +59,32 @@ amount_front operator line t h e = from (is_range_operator operator) e
 pub generator_front : (line : List Said) (t : Took (ℕ × ℕ)) → AllHoldBytes line → generator line ≡ Ok t → Fronts line t.rest (generator_operands t.value.0 t.value.1)
 unfolding generator
 generator_front line t h e =
-    let o = both (number 65535 line) (λ operator. amount operator >>= λ a. pure (operator, a)) t e in
-    let f = number_front 65535 line o.first h o.is in
+    let o = both (number most_word line) (λ operator. amount operator >>= λ a. pure (operator, a)) t e in
+    let f = number_front most_word line o.first h o.is in
     let a = both (amount o.first.value o.first.rest) (λ a. pure (o.first.value, a)) t o.second in
     let g = amount_front o.first.value o.first.rest a.first f.holds a.is in
     let same : record { value = (o.first.value, a.first.value); rest = a.first.rest } ≡ t = made _ a.first.rest t a.second in
     subst (λ (u : Took (ℕ × ℕ)). Fronts line u.rest (generator_operands u.value.0 u.value.1)) same
-    (then (Number 65535 o.first.value ∷ []) (amount_operand o.first.value a.first.value ∷ []) f g)
+    (then (Number most_word o.first.value ∷ []) (amount_operand o.first.value a.first.value ∷ []) f g)
 
 pub modulator_front : (line : List Said) (t : Took Modulator) → AllHoldBytes line → modulator line ≡ Ok t → Fronts line t.rest (modulator_operands t.value)
 unfolding modulator
 modulator_front line t h e =
-    let s = both (number 65535 line) (λ s. number 65535 >>= λ d. signed 32767 >>= λ a. number 65535 >>= λ x. number 65535 >>= λ y. pure (modulator_of s d a x y)) t e in
-    let sf = number_front 65535 line s.first h s.is in
-    let d = both (number 65535 s.first.rest) (λ d. signed 32767 >>= λ a. number 65535 >>= λ x. number 65535 >>= λ y. pure (modulator_of s.first.value d a x y)) t s.second in
-    let df = number_front 65535 s.first.rest d.first sf.holds d.is in
-    let a = both (signed 32767 d.first.rest) (λ a. number 65535 >>= λ x. number 65535 >>= λ y. pure (modulator_of s.first.value d.first.value a x y)) t d.second in
+    let s = both (number most_word line) (λ s. number most_word >>= λ d. signed 32767 >>= λ a. number most_word >>= λ x. number most_word >>= λ y. pure (modulator_of s d a x y)) t e in
+    let sf = number_front most_word line s.first h s.is in
+    let d = both (number most_word s.first.rest) (λ d. signed 32767 >>= λ a. number most_word >>= λ x. number most_word >>= λ y. pure (modulator_of s.first.value d a x y)) t s.second in
+    let df = number_front most_word s.first.rest d.first sf.holds d.is in
+    let a = both (signed 32767 d.first.rest) (λ a. number most_word >>= λ x. number most_word >>= λ y. pure (modulator_of s.first.value d.first.value a x y)) t d.second in
     let af = signed_front 32767 d.first.rest a.first df.holds a.is in
-    let x = both (number 65535 a.first.rest) (λ x. number 65535 >>= λ y. pure (modulator_of s.first.value d.first.value a.first.value x y)) t a.second in
-    let xf = number_front 65535 a.first.rest x.first af.holds x.is in
-    let y = both (number 65535 x.first.rest) (λ y. pure (modulator_of s.first.value d.first.value a.first.value x.first.value y)) t x.second in
-    let yf = number_front 65535 x.first.rest y.first xf.holds y.is in
-    let ss : List Operand = Number 65535 s.first.value ∷ [] in
-    let ds : List Operand = Number 65535 d.first.value ∷ [] in
+    let x = both (number most_word a.first.rest) (λ x. number most_word >>= λ y. pure (modulator_of s.first.value d.first.value a.first.value x y)) t a.second in
+    let xf = number_front most_word a.first.rest x.first af.holds x.is in
+    let y = both (number most_word x.first.rest) (λ y. pure (modulator_of s.first.value d.first.value a.first.value x.first.value y)) t x.second in
+    let yf = number_front most_word x.first.rest y.first xf.holds y.is in
+    let ss : List Operand = Number most_word s.first.value ∷ [] in
+    let ds : List Operand = Number most_word d.first.value ∷ [] in
     let ms : List Operand = Signed 32767 a.first.value ∷ [] in
-    let xs : List Operand = Number 65535 x.first.value ∷ [] in
-    let ys : List Operand = Number 65535 y.first.value ∷ [] in
+    let xs : List Operand = Number most_word x.first.value ∷ [] in
+    let ys : List Operand = Number most_word y.first.value ∷ [] in
     let same : record { value = modulator_of s.first.value d.first.value a.first.value x.first.value y.first.value; rest = y.first.rest } ≡ t = made _ y.first.rest t y.second in
     subst (λ (u : Took Modulator). Fronts line u.rest (modulator_operands u.value)) same
     (then ss (ds ++ (ms ++ (xs ++ ys))) sf (then ds (ms ++ (xs ++ ys)) df (then ms (xs ++ ys) af (then xs ys xf yf))))
@@ -155,7 +155,7 @@ items_front line t h e =
 -- a zone that a line says, behind its brace
 record SaidBehind (line : List Said) (t : Took Zone) : Type 0 where
   pub said : WrittenZone
-  pub fronts : Fronts line t.rest (Number 65535 said.target ∷ items_operands said.items)
+  pub fronts : Fronts line t.rest (Number most_word said.target ∷ items_operands said.items)
   pub stands : zone_in said ≡ t.value
 
 -- a zone that a line says
@@ -167,14 +167,14 @@ pub record SaidZone (line : List Said) (t : Took Zone) : Type 0 where
 zone_behind_front : (line : List Said) (t : Took Zone) → AllHoldBytes line → zone_behind line ≡ Ok t → SaidBehind line t
 unfolding zone_behind
 zone_behind_front line t h e =
-    let n = both (number 65535 line) (λ target. items >>= λ content. pure (zone_of target content)) t e in
-    let f = number_front 65535 line n.first h n.is in
+    let n = both (number most_word line) (λ target. items >>= λ content. pure (zone_of target content)) t e in
+    let f = number_front most_word line n.first h n.is in
     let c = both (items n.first.rest) (λ content. pure (zone_of n.first.value content)) t n.second in
     let s = items_front n.first.rest c.first f.holds c.is in
     let same : record { value = zone_of n.first.value c.first.value; rest = c.first.rest } ≡ t = made _ c.first.rest t c.second in
     subst (SaidBehind line) same (record {
       said = record { target = n.first.value; items = s.said };
-      fronts = then (Number 65535 n.first.value ∷ []) (items_operands s.said) f s.fronts;
+      fronts = then (Number most_word n.first.value ∷ []) (items_operands s.said) f s.fronts;
       stands = ap (zone_of n.first.value) s.stands;
     })
 
@@ -184,7 +184,7 @@ zone_front line t h e =
     let o = both (opened line) (λ o. zone_behind) t e in
     let f = fixed_front (codes "{") line o.first h o.is in
     let s = zone_behind_front o.first.rest t f.holds o.second in
-    record { said = s.said; fronts = then (Fixed (codes "{") ∷ []) (Number 65535 s.said.target ∷ items_operands s.said.items) f s.fronts; stands = s.stands }
+    record { said = s.said; fronts = then (Fixed (codes "{") ∷ []) (Number most_word s.said.target ∷ items_operands s.said.items) f s.fronts; stands = s.stands }
 
 -- the zones that are left
 record SaidLeft (zs : List Zone) (line : List Said) (t : Took (List Zone)) : Type 0 where
@@ -255,9 +255,9 @@ first_front line t h e =
     let same : record { value = (no_content, z.first.value); rest = z.first.rest } ≡ t = made _ z.first.rest t z.second in
     subst (SaidAfter line) same (record {
       written = record { global = None; zones = xs.said ∷ zs.said };
-      after = (Number 65535 xs.said.target ∷ items_operands xs.said.items) ++ flat_map zone_operands zs.said;
+      after = (Number most_word xs.said.target ∷ items_operands xs.said.items) ++ flat_map zone_operands zs.said;
       parts = refl;
-      fronts = then (Number 65535 xs.said.target ∷ items_operands xs.said.items) (flat_map zone_operands zs.said) xs.fronts zs.fronts;
+      fronts = then (Number most_word xs.said.target ∷ items_operands xs.said.items) (flat_map zone_operands zs.said) xs.fronts zs.fronts;
       stands = ap (λ (ys : List Zone). (no_content, ys)) (ap (λ (y : Zone). y ∷ map zone_in zs.said) xs.stands ∙ zs.stands);
     })
 

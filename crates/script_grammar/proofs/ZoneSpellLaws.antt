@@ -10,7 +10,7 @@ use Rattle.modulators.specs.declared.modulator.Modulator.{Modulator}
 use Rattle.bank_parts.specs.declared.parts.GlobalZone.{GlobalZone}
 use Rattle.bank_parts.specs.declared.parts.Zone.{Zone}
 use Rattle.line_tokens.specs.declared.cursor.Said.{Said}
-use Rattle.line_tokens.specs.Parts.{Part, and_then, ◌>>=◌, pure, is_next, is_digit, signed, range}
+use Rattle.line_tokens.specs.Parts.{Part, and_then, ◌>>=◌, pure, is_next, is_digit, most_word, signed, range}
 use Rattle.line_tokens.specs.Spelling.{Writes}
 use Rattle.line_tokens.proofs.SpellLaws as tokens
 use Rattle.script_grammar.specs.declared.items.Item.{Item}
@@ -55,17 +55,17 @@ gives_amount operator a line more h = from (is_range_operator operator) h
 pub gives_generator : (operator a : ℕ) (line : List Said) (more : List Operand) → AllSay line (generator_operands operator a ++ more) → Gives generator (operator, a) line more
 unfolding generator
 gives_generator operator a line more h =
-    then _ (gives_number 65535 operator line (amount_operand operator a ∷ more) h) (λ rest k.
+    then _ (gives_number most_word operator line (amount_operand operator a ∷ more) h) (λ rest k.
     then _ (gives_amount operator a rest more k) (λ rest k. gives_pure (operator, a) rest more k))
 
 pub gives_modulator : (m : Modulator) (line : List Said) (more : List Operand) → AllSay line (modulator_operands m ++ more) → Gives modulator m line more
 unfolding modulator
 gives_modulator m line more h =
-    then _ (gives_number 65535 m.source line (Number 65535 m.dest ∷ Signed 32767 m.amount ∷ Number 65535 m.amount_source ∷ Number 65535 m.transform ∷ more) h) (λ rest k.
-    then _ (gives_number 65535 m.dest rest (Signed 32767 m.amount ∷ Number 65535 m.amount_source ∷ Number 65535 m.transform ∷ more) k) (λ rest k.
-    then _ (gives_signed 32767 m.amount rest (Number 65535 m.amount_source ∷ Number 65535 m.transform ∷ more) k) (λ rest k.
-    then _ (gives_number 65535 m.amount_source rest (Number 65535 m.transform ∷ more) k) (λ rest k.
-    then _ (gives_number 65535 m.transform rest more k) (λ rest k. gives_pure m rest more k)))))
+    then _ (gives_number most_word m.source line (Number most_word m.dest ∷ Signed 32767 m.amount ∷ Number most_word m.amount_source ∷ Number most_word m.transform ∷ more) h) (λ rest k.
+    then _ (gives_number most_word m.dest rest (Signed 32767 m.amount ∷ Number most_word m.amount_source ∷ Number most_word m.transform ∷ more) k) (λ rest k.
+    then _ (gives_signed 32767 m.amount rest (Number most_word m.amount_source ∷ Number most_word m.transform ∷ more) k) (λ rest k.
+    then _ (gives_number most_word m.amount_source rest (Number most_word m.transform ∷ more) k) (λ rest k.
+    then _ (gives_number most_word m.transform rest more k) (λ rest k. gives_pure m rest more k)))))
 
 pub gives_item : (i : Item) (line : List Said) (more : List Operand) → AllSay line (item_operands i ++ more) → Gives an_item i line more
 unfolding an_item item_behind
@@ -106,12 +106,12 @@ gives_items is line more h = gives_items_on is no_content line more (subst (AllS
 -- ---- zones
 
 abbrev behind_brace : WrittenZone → List Operand
-behind_brace z = Number 65535 z.target ∷ items_operands z.items
+behind_brace z = Number most_word z.target ∷ items_operands z.items
 
 pub gives_zone_behind : (z : WrittenZone) (line : List Said) (more : List Operand) → AllSay line (behind_brace z ++ more) → Gives zone_behind (zone_in z) line more
 unfolding zone_behind
 gives_zone_behind z line more h =
-    then _ (gives_number 65535 z.target line (items_operands z.items ++ more) h) (λ rest k.
+    then _ (gives_number most_word z.target line (items_operands z.items ++ more) h) (λ rest k.
     then _ (gives_items z.items rest more k) (λ rest k. gives_pure (zone_in z) rest more k))
 
 pub gives_zone : (z : WrittenZone) (line : List Said) (more : List Operand) → AllSay line (zone_operands z ++ more) → Gives zone (zone_in z) line more
@@ -186,7 +186,7 @@ module _ (more : List Operand) (end : EndsZones more) where
       let says : AllSay line (zone_operands w ++ (flat_map zone_operands ws ++ more)) = subst (AllSay line) (append_assoc (zone_operands w) (flat_map zone_operands ws) more) h in
       as_other (opened >>= λ o. zones_behind) zones (no_content, map zone_in (w ∷ ws)) line more (some_said line (not_end line (behind_brace w ++ (flat_map zone_operands ws ++ more)) says))
       (then _ (gives_fixed (codes "{") line (behind_brace w ++ (flat_map zone_operands ws ++ more)) says) (λ rest k.
-      as_other first_behind zones_behind (no_content, map zone_in (w ∷ ws)) rest more (zone_first rest (not_global 65535 w.target rest (items_operands w.items ++ (flat_map zone_operands ws ++ more)) k)) (gives_first_behind w ws rest more end k)))
+      as_other first_behind zones_behind (no_content, map zone_in (w ∷ ws)) rest more (zone_first rest (not_global most_word w.target rest (items_operands w.items ++ (flat_map zone_operands ws ++ more)) k)) (gives_first_behind w ws rest more end k)))
   gives_parts (Some is) ws line h =
       as_other (opened >>= λ o. zones_behind) zones (content_of is, map zone_in ws) line more (some_said line (not_end line (Fixed (codes "global") ∷ items_operands is ++ (flat_map zone_operands ws ++ more)) h))
       (then _ (gives_fixed (codes "{") line (Fixed (codes "global") ∷ items_operands is ++ (flat_map zone_operands ws ++ more)) h) (λ rest k.

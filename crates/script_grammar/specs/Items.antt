@@ -9,7 +9,7 @@ use Rattle.generators.specs.Ranges.{is_range_operator}
 use Rattle.modulators.specs.declared.modulator.Modulator.{Modulator}
 use Rattle.bank_parts.specs.declared.parts.GlobalZone.{GlobalZone}
 use Rattle.line_tokens.specs.declared.fault.LineFault.TheVariants as faults
-use Rattle.line_tokens.specs.Parts.{Part, ◌>>=◌, pure, or_fault, is_next, word, number, signed, range}
+use Rattle.line_tokens.specs.Parts.{Part, ◌>>=◌, pure, or_fault, is_next, word, most_word, number, signed, range}
 use Rattle.script_grammar.specs.declared.items.Item.{Item}
 use Rattle.script_grammar.specs.declared.items.Item.TheVariants as item
 use Rattle.script_grammar.specs.Repeated.{repeated}
@@ -23,11 +23,11 @@ amount_operand operator amount = if is_range_operator operator then Range (amoun
 
 -- `OPERATOR AMOUNT`
 abbrev pub generator_operands : ℕ → ℕ → List Operand
-generator_operands operator amount = Number 65535 operator ∷ amount_operand operator amount ∷ []
+generator_operands operator amount = Number most_word operator ∷ amount_operand operator amount ∷ []
 
 -- `SOURCE DEST AMOUNT ASOURCE TRANSFORM`
 abbrev pub modulator_operands : Modulator → List Operand
-modulator_operands m = Number 65535 m.source ∷ Number 65535 m.dest ∷ Signed 32767 m.amount ∷ Number 65535 m.amount_source ∷ Number 65535 m.transform ∷ []
+modulator_operands m = Number most_word m.source ∷ Number most_word m.dest ∷ Signed 32767 m.amount ∷ Number most_word m.amount_source ∷ Number most_word m.transform ∷ []
 
 -- `g OPERATOR AMOUNT` or `m MOD`
 abbrev pub item_operands : Item → List Operand
@@ -68,7 +68,7 @@ amount operator =
 -- `OPERATOR AMOUNT`
 unfoldable pub generator : Part (ℕ × ℕ)
 generator = do
-  operator ← number 65535
+  operator ← number most_word
   a ← amount operator
   pure (operator, a)
 
@@ -79,11 +79,11 @@ modulator_of source dest amount amount_source transform =
 -- `SOURCE DEST AMOUNT ASOURCE TRANSFORM`
 unfoldable pub modulator : Part Modulator
 modulator = do
-  source ← number 65535
-  dest ← number 65535
+  source ← number most_word
+  dest ← number most_word
   amount ← signed 32767
-  amount_source ← number 65535
-  transform ← number 65535
+  amount_source ← number most_word
+  transform ← number most_word
   pure (modulator_of source dest amount amount_source transform)
 
 unfoldable pub item_behind : List ℕ → Part Item

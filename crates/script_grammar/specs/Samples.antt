@@ -7,6 +7,7 @@ use Rattle.bank_parts.specs.declared.parts.Kind.TheVariants.{Mono, Right, Left, 
 use Rattle.bank_parts.specs.declared.parts.Sample.{Sample}
 use Rattle.line_tokens.specs.declared.fault.LineFault.TheVariants as faults
 use Rattle.line_tokens.specs.Parts.{Part, ◌>>=◌, pure, or_fault, word, literal, number, signed, name}
+use Rattle.line_tokens.specs.Parts.{most_word, most_double_word}
 use Rattle.script_grammar.specs.Operands.{Operand, Fixed, Number, Signed, Name, Points}
 
 -- ---- what stands on the line
@@ -14,18 +15,19 @@ use Rattle.script_grammar.specs.Operands.{Operand, Fixed, Number, Signed, Name, 
 -- `mono`, `right N`, `left N` or `linked N`
 abbrev pub kind_operands : Kind → List Operand
 kind_operands Mono = Fixed (codes "mono") ∷ []
-kind_operands (Right link) = Fixed (codes "right") ∷ Number 65535 link ∷ []
-kind_operands (Left link) = Fixed (codes "left") ∷ Number 65535 link ∷ []
-kind_operands (Linked link) = Fixed (codes "linked") ∷ Number 65535 link ∷ []
+kind_operands (Right link) = Fixed (codes "right") ∷ Number most_word link ∷ []
+kind_operands (Left link) = Fixed (codes "left") ∷ Number most_word link ∷ []
+kind_operands (Linked link) = Fixed (codes "linked") ∷ Number most_word link ∷ []
 
 -- `noloop` or `loop A B`
 abbrev pub loop_operands : Option (ℕ × ℕ) → List Operand
 loop_operands None = Fixed (codes "noloop") ∷ []
-loop_operands (Some looped) = Fixed (codes "loop") ∷ Number 4294967295 looped.0 ∷ Number 4294967295 looped.1 ∷ []
+loop_operands (Some looped) =
+    Fixed (codes "loop") ∷ Number most_double_word looped.0 ∷ Number most_double_word looped.1 ∷ []
 
 -- `RATE KEY CORR`
 abbrev pub tune_operands : ℕ → ℕ → ℤ → List Operand
-tune_operands rate key correction = Number 4294967295 rate ∷ Number 255 key ∷ Signed 127 correction ∷ []
+tune_operands rate key correction = Number most_double_word rate ∷ Number 255 key ∷ Signed 127 correction ∷ []
 
 -- all that a sample has but its points: `NAME RATE KEY CORR KIND LOOP`
 abbrev pub head_operands : Sample → List Operand
@@ -39,9 +41,9 @@ body_operands s = head_operands s ++ Points s.points ∷ []
 unfoldable pub kind_behind : List ℕ → Part Kind
 kind_behind w =
     if bytes_eq w (codes "mono") then pure Mono
-    else if bytes_eq w (codes "right") then (number 65535 >>= λ link. pure (Right link))
-    else if bytes_eq w (codes "left") then (number 65535 >>= λ link. pure (Left link))
-    else if bytes_eq w (codes "linked") then (number 65535 >>= λ link. pure (Linked link))
+    else if bytes_eq w (codes "right") then (number most_word >>= λ link. pure (Right link))
+    else if bytes_eq w (codes "left") then (number most_word >>= λ link. pure (Left link))
+    else if bytes_eq w (codes "linked") then (number most_word >>= λ link. pure (Linked link))
     else or_fault faults.Syntax None
 
 unfoldable pub kind : Part Kind
@@ -50,7 +52,8 @@ kind = word >>= kind_behind
 unfoldable pub loop_behind : List ℕ → Part (Option (ℕ × ℕ))
 loop_behind w =
     if bytes_eq w (codes "noloop") then pure None
-    else if bytes_eq w (codes "loop") then (number 4294967295 >>= λ a. number 4294967295 >>= λ b. pure (Some (a, b)))
+    else if bytes_eq w (codes "loop")
+    then (number most_double_word >>= λ a. number most_double_word >>= λ b. pure (Some (a, b)))
     else or_fault faults.Syntax None
 
 unfoldable pub looped : Part (Option (ℕ × ℕ))
@@ -68,7 +71,7 @@ points = do
 -- `RATE KEY CORR`
 unfoldable pub tune : Part (ℕ × ℕ × ℤ)
 tune = do
-  rate ← number 4294967295
+  rate ← number most_double_word
   key ← number 255
   correction ← signed 127
   pure (rate, key, correction)

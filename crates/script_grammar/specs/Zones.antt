@@ -7,7 +7,7 @@ use Rattle.generators.specs.Gens.{Gens}
 use Rattle.bank_parts.specs.declared.parts.GlobalZone.{GlobalZone}
 use Rattle.bank_parts.specs.declared.parts.Zone.{Zone}
 use Rattle.line_tokens.specs.declared.cursor.Said.{Said}
-use Rattle.line_tokens.specs.Parts.{Part, ◌>>=◌, pure, is_next, word, number}
+use Rattle.line_tokens.specs.Parts.{Part, ◌>>=◌, pure, is_next, word, most_word, number}
 use Rattle.script_grammar.specs.declared.items.Item.{Item}
 use Rattle.script_grammar.specs.declared.items.Item.TheVariants as item
 use Rattle.script_grammar.specs.Repeated.{repeated}
@@ -28,7 +28,7 @@ pub record Written : Type 0 where
 
 -- `{ TARGET ITEM* }`
 abbrev pub zone_operands : WrittenZone → List Operand
-zone_operands z = Fixed (codes "{") ∷ Number 65535 z.target ∷ items_operands z.items
+zone_operands z = Fixed (codes "{") ∷ Number most_word z.target ∷ items_operands z.items
 
 -- `{ global ITEM* }`, or nothing
 abbrev pub global_operands : Option (List Item) → List Operand
@@ -83,7 +83,7 @@ opened = fixed (codes "{")
 -- `TARGET ITEM* }`
 unfoldable pub zone_behind : Part Zone
 zone_behind = do
-  target ← number 65535
+  target ← number most_word
   content ← items
   pure (zone_of target content)
 

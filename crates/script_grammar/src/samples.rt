@@ -2,7 +2,7 @@
 ghost use Rattle.std.specs.Prelude.{◌≡◌, ◌∷◌, []};
 ghost use Rattle.std.specs.List.{flat_map};
 ghost use Rattle.outputs.specs.Output.{Puts};
-ghost use Rattle.line_tokens.specs.Parts.{Reads};
+ghost use Rattle.line_tokens.specs.Parts.{most_word, Reads};
 ghost use Rattle.line_tokens.specs.Printing.{spaced};
 ghost use Rattle.script_grammar.specs.Operands as operand;
 ghost use Rattle.script_grammar.specs.Operands.{pieces_of};
@@ -151,7 +151,7 @@ pub fn put_kind<W: Write>(kind: Kind, output: &mut Output<'_, W>)
 }
 
 fn put_link<W: Write>(word: &[u8], link: u16, output: &mut Output<'_, W>)
-    ensures { Puts W.contents output.old output.new (flat_map spaced (pieces_of (operand.Fixed word.now ∷ operand.Number 65535 link ∷ []))) }
+    ensures { Puts W.contents output.old output.new (flat_map spaced (pieces_of (operand.Fixed word.now ∷ operand.Number most_word link ∷ []))) }
 {
     let link = Piece::Number(u64::from(link));
     put_pieces(&[Piece::Word(Lent::new(word)), link], output);

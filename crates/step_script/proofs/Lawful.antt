@@ -8,6 +8,7 @@ use Rattle.bank_parts.specs.Fits.{FitsKind, FitsLoop, FitsSample, FitsText}
 use Rattle.line_tokens.specs.declared.cursor.Said.{Said}
 use Rattle.line_tokens.specs.declared.fault.LineFault.{LineFault}
 use Rattle.line_tokens.specs.Parts.{Part, Took, ◌>>=◌, pure, and_then, literal, number, name}
+use Rattle.line_tokens.specs.Parts.{most_word, most_double_word}
 use Rattle.line_tokens.proofs.ReadLaws.{AllHoldBytes, both}
 use Rattle.script_grammar.specs.Operands.{Operand, Fixed, Number, Name, Text, Points, AllSay}
 use Rattle.script_grammar.specs.Names.{named, next_named}
@@ -109,11 +110,11 @@ number_lawful : (limit : ℕ) (F : ℕ → Type 0) → ((n : ℕ) → n ≤ limi
 number_lawful limit F within fit = record { gives = gives_number limit; fronts = number_front limit; keeps = number_keeps limit; fits = λ n h. within n h.0; fit = λ n h. (fit n h, tt) }
 
 -- a number of a list, or as large
-pub index : IsLawful (number 4294967295) (λ n. place n ∷ []) (λ n. n < 2 ^ 32)
-index = number_lawful 4294967295 _ (λ n h. omega (arith, h)) word32
+pub index : IsLawful (number most_double_word) (λ n. place n ∷ []) (λ n. n < 2 ^ 32)
+index = number_lawful most_double_word _ (λ n h. omega (arith, h)) word32
 
-pub number16 : IsLawful (number 65535) (λ n. Number 65535 n ∷ []) (λ n. n < 2 ^ 16)
-number16 = number_lawful 65535 _ (λ n h. omega (arith, h)) word16
+pub number16 : IsLawful (number most_word) (λ n. Number most_word n ∷ []) (λ n. n < 2 ^ 16)
+number16 = number_lawful most_word _ (λ n h. omega (arith, h)) word16
 
 pub number8 : IsLawful (number 255) (λ n. Number 255 n ∷ []) (λ n. n < 2 ^ 8)
 number8 = number_lawful 255 _ (λ n h. omega (arith, h)) (λ n h. (omega (arith, h), lit< tt))

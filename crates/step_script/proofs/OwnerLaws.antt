@@ -8,7 +8,7 @@ use Rattle.bank_changes.specs.declared.members.Place.{Place}
 use Rattle.bank_changes.specs.declared.members.Place.TheVariants as there
 use Rattle.edit_forms.specs.Fits.{FitsNumberOf, FitsPlace}
 use Rattle.line_tokens.specs.declared.cursor.Said.{Said}
-use Rattle.line_tokens.specs.Parts.{Part, Took, ◌>>=◌, pure, is_next, word, number, name}
+use Rattle.line_tokens.specs.Parts.{Part, Took, ◌>>=◌, pure, is_next, word, most_word, most_double_word, number, name}
 use Rattle.line_tokens.proofs.ReadLaws.{AllHoldBytes, both}
 use Rattle.script_grammar.specs.Operands.{Operand, Fixed, Text, AllSay}
 use Rattle.script_grammar.specs.Names.{named, next_named}
@@ -57,10 +57,10 @@ unfolding head
 a_head =
     made_lawful (a_name & number16 & number16 & index & index & index) (λ a. head_of a.0 a.1.0 a.1.1.0 a.1.1.1.0 a.1.1.1.1.0 a.1.1.1.1.1) (λ h. (h.name, (h.number, (h.bank, (h.library, (h.genre, h.morphology))))))
     (of_more name (number16 & number16 & index & index & index) _ (λ n.
-    of_more (number 65535) (number16 & index & index & index) _ (λ p.
-    of_more (number 65535) (index & index & index) _ (λ b.
-    of_more (number 4294967295) (index & index) _ (λ l.
-    of_two (number 4294967295) (number 4294967295) _)))))
+    of_more (number most_word) (number16 & index & index & index) _ (λ p.
+    of_more (number most_word) (index & index & index) _ (λ b.
+    of_more (number most_double_word) (index & index) _ (λ l.
+    of_two (number most_double_word) (number most_double_word) _)))))
     (λ h. refl)
     (λ a. refl)
     (λ a. (
@@ -97,7 +97,7 @@ owner_fits kind.Instrument n = (λ h. h.1, λ h. (tt, h))
 pub owners : IsLawful an_owner of_owner FitsNumberOf
 unfolding an_owner
 owners =
-    made_lawful (named_lawful kind_word kinds kind_named kind_fixed & index) (λ a. owner_with a.0 a.1) (λ o. (kind_of o, number_in o)) (of_two (next_named kind_word kinds) (number 4294967295) owner_with) owner_is (λ a. owner_said a.0 a.1) (λ a. owner_fits a.0 a.1)
+    made_lawful (named_lawful kind_word kinds kind_named kind_fixed & index) (λ a. owner_with a.0 a.1) (λ o. (kind_of o, number_in o)) (of_two (next_named kind_word kinds) (number most_double_word) owner_with) owner_is (λ a. owner_said a.0 a.1) (λ a. owner_fits a.0 a.1)
 
 -- ---- a place in an owner
 
@@ -105,7 +105,7 @@ global : Part Place
 global = word >>= λ w. pure there.Global
 
 zone : Part Place
-zone = number 4294967295 >>= λ k. pure (there.Zone k)
+zone = number most_double_word >>= λ k. pure (there.Zone k)
 
 pub places : IsLawful a_place (λ p. at_place p ∷ []) FitsPlace
 unfolding a_place global zone
@@ -116,8 +116,8 @@ places = record { gives = gives; fronts = λ line t h e. fronts line t h (is_nex
         as_other global a_place there.Global line more (rw (next_word (codes "global") (codes "global") line more h) refl)
         (spell.then _ (gives_word (codes "global") line more h) (λ rest k. gives_pure there.Global rest more k))
     gives (there.Zone z) line more h =
-        as_other zone a_place (there.Zone z) line more (rw (not_global 4294967295 z line more h) refl)
-        (spell.then _ (gives_number 4294967295 z line more h) (λ rest k. gives_pure (there.Zone z) rest more k))
+        as_other zone a_place (there.Zone z) line more (rw (not_global most_double_word z line more h) refl)
+        (spell.then _ (gives_number most_double_word z line more h) (λ rest k. gives_pure (there.Zone z) rest more k))
 
     fronts : (line : List Said) (t : Took Place) → AllHoldBytes line → (b : Bool) → is_next (codes "global") line ≡ b → cond b (global line) (zone line) ≡ Ok t → Fronts line t.rest (at_place t.value ∷ [])
     fronts line t h true k e =
@@ -125,12 +125,12 @@ places = record { gives = gives; fronts = λ line t h e. fronts line t h (is_nex
         subst (λ (t : Took Place). Fronts line t.rest (at_place t.value ∷ [])) (made there.Global w.first.rest t w.second)
         (subst (λ (v : List ℕ). Fronts line w.first.rest (Fixed v ∷ [])) (next_is (codes "global") line w.first w.is k) (word_front line w.first h w.is))
     fronts line t h false k e =
-        let n = both (number 4294967295 line) (λ k. pure (there.Zone k)) t e in
-        subst (λ (t : Took Place). Fronts line t.rest (at_place t.value ∷ [])) (made (there.Zone n.first.value) n.first.rest t n.second) (number_front 4294967295 line n.first h n.is)
+        let n = both (number most_double_word line) (λ k. pure (there.Zone k)) t e in
+        subst (λ (t : Took Place). Fronts line t.rest (at_place t.value ∷ [])) (made (there.Zone n.first.value) n.first.rest t n.second) (number_front most_double_word line n.first h n.is)
 
     keeps : (line : List Said) (t : Took Place) → (b : Bool) → cond b (global line) (zone line) ≡ Ok t → length t.rest ≤ length line
     keeps line t true e = then_keeps word _ (shortens_keeps word word_shortens) (λ w. pure_keeps there.Global) line t e
-    keeps line t false e = then_keeps (number 4294967295) _ (number_keeps 4294967295) (λ k. pure_keeps (there.Zone k)) line t e
+    keeps line t false e = then_keeps (number most_double_word) _ (number_keeps most_double_word) (λ k. pure_keeps (there.Zone k)) line t e
 
     fits : (p : Place) → AllRanged (at_place p ∷ []) → FitsPlace p
     fits there.Global h = tt

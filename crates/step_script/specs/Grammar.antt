@@ -3,7 +3,7 @@
 use Rattle.std.specs.Prelude.{◌≡◌, ℕ, List, [], ◌∷◌, codes}
 use Rattle.edit_forms.specs.declared.step.Step.{Step}
 use Rattle.edit_forms.specs.declared.step.Step.TheVariants.{AddPreset, RemovePreset, MovePreset, SetHead, AddInstrument, RemoveInstrument, RenameInstrument, MoveInstrument, RenameSample, AddSample, RemoveSample, MoveSample, Trim, Extend, SetLoop, SetKind, SetTune, AddZone, RemoveZone, MoveZone, SplitZone, JoinZone, SetTarget, SetGen, ClearGen, AddMod, RemoveMod, SetMod, SetInfo}
-use Rattle.line_tokens.specs.Parts.{Part, ◌>>=◌, pure, number}
+use Rattle.line_tokens.specs.Parts.{Part, ◌>>=◌, pure, most_double_word, number}
 use Rattle.step_script.specs.declared.forms.Form.{Form}
 use Rattle.step_script.specs.declared.forms.Form.TheVariants as form
 use Rattle.script_grammar.specs.Operands.{Operand, Fixed, Text}
@@ -143,16 +143,16 @@ SaysStep step os = os ≡ operands step
 -- how it is read
 abbrev pub operands_read : Form → Part Step
 operands_read form.AddPreset = added_preset >>= λ a. pure (AddPreset a.0 a.1)
-operands_read form.RemovePreset = number 4294967295 >>= λ p. pure (RemovePreset p)
+operands_read form.RemovePreset = number most_double_word >>= λ p. pure (RemovePreset p)
 operands_read form.MovePreset = moving >>= λ m. pure (MovePreset m.0 m.1)
 operands_read form.SetHead = set_head
 operands_read form.AddInstrument = added_instrument >>= λ a. pure (AddInstrument a.0 a.1)
-operands_read form.RemoveInstrument = number 4294967295 >>= λ i. pure (RemoveInstrument i)
+operands_read form.RemoveInstrument = number most_double_word >>= λ i. pure (RemoveInstrument i)
 operands_read form.RenameInstrument = naming >>= λ n. pure (RenameInstrument n.0 n.1)
 operands_read form.MoveInstrument = moving >>= λ m. pure (MoveInstrument m.0 m.1)
 operands_read form.RenameSample = naming >>= λ n. pure (RenameSample n.0 n.1)
 operands_read form.AddSample = added_sample >>= λ a. pure (AddSample a.0 a.1)
-operands_read form.RemoveSample = number 4294967295 >>= λ s. pure (RemoveSample s)
+operands_read form.RemoveSample = number most_double_word >>= λ s. pure (RemoveSample s)
 operands_read form.MoveSample = moving >>= λ m. pure (MoveSample m.0 m.1)
 operands_read form.Trim = trim
 operands_read form.Extend = extend

@@ -4,7 +4,7 @@ use Rattle.std.specs.Prelude.{◌≡◌, ℕ, List, [], ◌∷◌, ◌++◌}
 use Rattle.bank_parts.specs.declared.parts.GlobalZone.{GlobalZone}
 use Rattle.bank_parts.specs.declared.parts.Zone.{Zone}
 use Rattle.bank_parts.specs.declared.parts.WithZones.{WithZones}
-use Rattle.line_tokens.specs.Parts.{Part, ◌>>=◌, pure, number, name}
+use Rattle.line_tokens.specs.Parts.{Part, ◌>>=◌, pure, most_double_word, number, name}
 use Rattle.script_grammar.specs.Operands.{Operand, Number, Name}
 use Rattle.script_grammar.specs.Zones.{Written, written_operands, written_of, zones_in, zones}
 
@@ -12,7 +12,7 @@ use Rattle.script_grammar.specs.Zones.{Written, written_operands, written_of, zo
 
 -- a number of a list
 abbrev pub place : ℕ → Operand
-place i = Number 4294967295 i
+place i = Number most_double_word i
 
 -- `I NAME`
 abbrev pub named_operands : ℕ → List ℕ → List Operand
@@ -42,7 +42,7 @@ pub record SaysOwner {H : Type 0} (head : H → List Operand) (at : ℕ) (x : Wi
 -- a number, and what follows it
 abbrev pub placed : {X : Type 0} → Part X → Part (ℕ × X)
 placed part = do
-  i ← number 4294967295
+  i ← number most_double_word
   x ← part
   pure (i, x)
 
@@ -52,7 +52,7 @@ naming = placed name
 
 -- `I J`
 unfoldable pub moving : Part (ℕ × ℕ)
-moving = placed (number 4294967295)
+moving = placed (number most_double_word)
 
 abbrev pub owner_of : {H : Type 0} → H → GlobalZone × List Zone → WithZones H
 owner_of head z = record { head = head; global = z.0; zones = z.1 }

@@ -5,7 +5,7 @@ use Rattle.bank_changes.specs.declared.members.Owner.{Owner}
 use Rattle.bank_changes.specs.declared.members.Owner.TheVariants as owner
 use Rattle.bank_changes.specs.declared.members.Place.{Place}
 use Rattle.bank_changes.specs.declared.members.Place.TheVariants as there
-use Rattle.line_tokens.specs.Parts.{Part, ◌>>=◌, pure, is_next, word, number}
+use Rattle.line_tokens.specs.Parts.{Part, ◌>>=◌, pure, is_next, word, most_double_word, number}
 use Rattle.step_script.specs.declared.owners.OwnerKind.{OwnerKind}
 use Rattle.step_script.specs.declared.owners.OwnerKind.TheVariants as kind
 use Rattle.script_grammar.specs.Operands.{Operand, Fixed}
@@ -55,20 +55,20 @@ owner_with kind.Instrument n = owner.Instrument n
 unfoldable pub an_owner : Part Owner
 an_owner = do
   k ← next_named kind_word kinds
-  n ← number 4294967295
+  n ← number most_double_word
   pure (owner_with k n)
 
 -- any token but `global` is read as a number
 unfoldable pub a_place : Part Place
 a_place line =
     if is_next (codes "global") line then (word >>= λ w. pure there.Global) line
-    else (number 4294967295 >>= λ k. pure (there.Zone k)) line
+    else (number most_double_word >>= λ k. pure (there.Zone k)) line
 
 -- `OWNER K`
 unfoldable pub owner_zone : Part (Owner × ℕ)
 owner_zone = do
   o ← an_owner
-  k ← number 4294967295
+  k ← number most_double_word
   pure (o, k)
 
 -- `OWNER PLACE`

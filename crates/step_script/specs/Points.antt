@@ -4,7 +4,7 @@ use Rattle.std.specs.Prelude.{ℕ, ℤ, List, [], ◌∷◌, Option}
 use Rattle.bank_parts.specs.declared.parts.Kind.{Kind}
 use Rattle.edit_forms.specs.declared.step.Step.{Step}
 use Rattle.edit_forms.specs.declared.step.Step.TheVariants.{Trim, Extend, SetLoop, SetKind, SetTune}
-use Rattle.line_tokens.specs.Parts.{Part, ◌>>=◌, pure, number}
+use Rattle.line_tokens.specs.Parts.{Part, ◌>>=◌, pure, most_double_word, number}
 use Rattle.script_grammar.specs.Operands.{Operand, Number, Points}
 use Rattle.script_grammar.specs.Samples.{kind_operands, loop_operands, tune_operands, kind, looped, points, tune}
 use Rattle.step_script.specs.Members.{place}
@@ -13,7 +13,7 @@ use Rattle.step_script.specs.Members.{place}
 
 -- `S F B`
 abbrev pub cut_operands : ℕ → ℕ → ℕ → List Operand
-cut_operands s front back = place s ∷ Number 4294967295 front ∷ Number 4294967295 back ∷ []
+cut_operands s front back = place s ∷ Number most_double_word front ∷ Number most_double_word back ∷ []
 
 -- `S POINTS POINTS`
 abbrev pub both_ends_operands : ℕ → List ℕ → List ℕ → List Operand
@@ -35,32 +35,32 @@ tune_of_operands s rate key correction = place s ∷ tune_operands rate key corr
 
 unfoldable pub trim : Part Step
 trim = do
-  s ← number 4294967295
-  front ← number 4294967295
-  back ← number 4294967295
+  s ← number most_double_word
+  front ← number most_double_word
+  back ← number most_double_word
   pure (Trim s front back)
 
 unfoldable pub extend : Part Step
 extend = do
-  s ← number 4294967295
+  s ← number most_double_word
   front ← points
   back ← points
   pure (Extend s front back)
 
 unfoldable pub set_loop : Part Step
 set_loop = do
-  s ← number 4294967295
+  s ← number most_double_word
   l ← looped
   pure (SetLoop s l)
 
 unfoldable pub set_kind : Part Step
 set_kind = do
-  s ← number 4294967295
+  s ← number most_double_word
   k ← kind
   pure (SetKind s k)
 
 unfoldable pub set_tune : Part Step
 set_tune = do
-  s ← number 4294967295
+  s ← number most_double_word
   t ← tune
   pure (SetTune s t.0 t.1 t.2)

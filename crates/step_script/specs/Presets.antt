@@ -2,7 +2,7 @@
 use Rattle.std.specs.Prelude.{ℕ, List, [], ◌∷◌, ◌++◌}
 use Rattle.bank_parts.specs.declared.parts.Head.{Head}
 use Rattle.bank_parts.specs.declared.parts.WithZones.{WithZones}
-use Rattle.line_tokens.specs.Parts.{Part, ◌>>=◌, pure, number, name}
+use Rattle.line_tokens.specs.Parts.{Part, ◌>>=◌, pure, most_word, most_double_word, number, name}
 use Rattle.script_grammar.specs.Operands.{Operand, Number, Name}
 use Rattle.edit_forms.specs.declared.step.Step.{Step}
 use Rattle.edit_forms.specs.declared.step.Step.TheVariants.{SetHead}
@@ -11,8 +11,8 @@ use Rattle.step_script.specs.Members.{named_operands, naming, placed, owner}
 -- `NAME NUMBER BANK LIBRARY GENRE MORPHOLOGY`
 abbrev pub head_operands : Head → List Operand
 head_operands h =
-    Name h.name ∷ Number 65535 h.number ∷ Number 65535 h.bank ∷ Number 4294967295 h.library ∷ Number 4294967295 h.genre
-    ∷ Number 4294967295 h.morphology ∷ []
+    Name h.name ∷ Number most_word h.number ∷ Number most_word h.bank ∷ Number most_double_word h.library
+    ∷ Number most_double_word h.genre ∷ Number most_double_word h.morphology ∷ []
 
 abbrev pub head_of : List ℕ → ℕ → ℕ → ℕ → ℕ → ℕ → Head
 head_of name number bank library genre morphology =
@@ -21,11 +21,11 @@ head_of name number bank library genre morphology =
 unfoldable pub head : Part Head
 head = do
   n ← name
-  program ← number 65535
-  bank ← number 65535
-  library ← number 4294967295
-  genre ← number 4294967295
-  morphology ← number 4294967295
+  program ← number most_word
+  bank ← number most_word
+  library ← number most_double_word
+  genre ← number most_double_word
+  morphology ← number most_double_word
   pure (head_of n program bank library genre morphology)
 
 -- `P NAME NUMBER BANK LIBRARY GENRE MORPHOLOGY`
@@ -38,11 +38,11 @@ added_preset = owner placed_head
 
 -- `P NAME NUMBER BANK`
 abbrev pub new_head_operands : ℕ → List ℕ → ℕ → ℕ → List Operand
-new_head_operands p name number bank = named_operands p name ++ Number 65535 number ∷ Number 65535 bank ∷ []
+new_head_operands p name number bank = named_operands p name ++ Number most_word number ∷ Number most_word bank ∷ []
 
 unfoldable pub set_head : Part Step
 set_head = do
   n ← naming
-  program ← number 65535
-  bank ← number 65535
+  program ← number most_word
+  bank ← number most_word
   pure (SetHead n.0 n.1 program bank)

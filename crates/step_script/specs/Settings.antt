@@ -5,7 +5,7 @@ use Rattle.bank_changes.specs.declared.members.Owner.{Owner}
 use Rattle.bank_changes.specs.declared.members.Place.{Place}
 use Rattle.edit_forms.specs.declared.step.Step.{Step}
 use Rattle.edit_forms.specs.declared.step.Step.TheVariants.{SetGen, ClearGen, AddMod, RemoveMod, SetMod}
-use Rattle.line_tokens.specs.Parts.{Part, ◌>>=◌, pure, number}
+use Rattle.line_tokens.specs.Parts.{Part, ◌>>=◌, pure, most_word, most_double_word, number}
 use Rattle.script_grammar.specs.Operands.{Operand, Number}
 use Rattle.script_grammar.specs.Items.{generator_operands, modulator_operands, generator, modulator}
 use Rattle.step_script.specs.Members.{place}
@@ -19,7 +19,7 @@ generator_at_operands o p operator amount = of_place o p ++ generator_operands o
 
 -- `OWNER PLACE OPERATOR`
 abbrev pub operator_operands : Owner → Place → ℕ → List Operand
-operator_operands o p operator = of_place o p ++ Number 65535 operator ∷ []
+operator_operands o p operator = of_place o p ++ Number most_word operator ∷ []
 
 -- `OWNER PLACE J`
 abbrev pub index_operands : Owner → Place → ℕ → List Operand
@@ -40,25 +40,25 @@ set_gen = do
 unfoldable pub clear_gen : Part Step
 clear_gen = do
   p ← owner_place
-  operator ← number 65535
+  operator ← number most_word
   pure (ClearGen p.0 p.1 operator)
 
 unfoldable pub add_mod : Part Step
 add_mod = do
   p ← owner_place
-  j ← number 4294967295
+  j ← number most_double_word
   m ← modulator
   pure (AddMod p.0 p.1 j m)
 
 unfoldable pub remove_mod : Part Step
 remove_mod = do
   p ← owner_place
-  j ← number 4294967295
+  j ← number most_double_word
   pure (RemoveMod p.0 p.1 j)
 
 unfoldable pub set_mod : Part Step
 set_mod = do
   p ← owner_place
-  j ← number 4294967295
+  j ← number most_double_word
   m ← modulator
   pure (SetMod p.0 p.1 j m)

@@ -6,7 +6,7 @@ use Rattle.zone_ranges.specs.declared.axes.Axis.{Axis}
 use Rattle.zone_ranges.specs.declared.axes.Keep.{Keep}
 use Rattle.edit_forms.specs.declared.step.Step.{Step}
 use Rattle.edit_forms.specs.declared.step.Step.TheVariants.{AddZone, RemoveZone, MoveZone, SplitZone, JoinZone, SetTarget}
-use Rattle.line_tokens.specs.Parts.{Part, ◌>>=◌, pure, number}
+use Rattle.line_tokens.specs.Parts.{Part, ◌>>=◌, pure, most_word, most_double_word, number}
 use Rattle.script_grammar.specs.Operands.{Operand, Fixed, Number}
 use Rattle.script_grammar.specs.Names.{next_named}
 use Rattle.script_grammar.specs.Ranges.{axis_word, axes, keep_word, keeps}
@@ -44,7 +44,7 @@ joined_operands o k axis keep = of_zone o k ++ Fixed (axis_word axis) ∷ Fixed 
 
 -- `OWNER K TARGET`
 abbrev pub target_operands : Owner → ℕ → ℕ → List Operand
-target_operands o k target = of_zone o k ++ Number 65535 target ∷ []
+target_operands o k target = of_zone o k ++ Number most_word target ∷ []
 
 -- ---- how it is read
 
@@ -62,7 +62,7 @@ remove_zone = do
 unfoldable pub move_zone : Part Step
 move_zone = do
   z ← owner_zone
-  to ← number 4294967295
+  to ← number most_double_word
   pure (MoveZone z.0 z.1 to)
 
 unfoldable pub split_zone : Part Step
@@ -82,5 +82,5 @@ join_zone = do
 unfoldable pub set_target : Part Step
 set_target = do
   z ← owner_zone
-  target ← number 65535
+  target ← number most_word
   pure (SetTarget z.0 z.1 target)
