@@ -16,15 +16,9 @@ use Rattle.zone_select.specs.declared.parameters.VoiceParameters.{VoiceParameter
 use Rattle.zone_select.specs.Amounts.{moved, parameters_of}
 use Rattle.zone_select.specs.Select.{Voice, voice_of}
 use Rattle.zone_select.specs.Pairs.{Chosen, chosen_by, chosen_voice, voice_by, listed}
+use Rattle.zone_select.proofs.LinearLaws.{above_least}
 use Rattle.mixer.specs.Render.{last_release}
 use Rattle.mixer.proofs.Selected.{release_alone}
-
-above_least : (z : ℤ) (k : ℕ) → pos 0 ≤ℤ (z +ℤ pos k) → (m : ℕ) × (z +ℤ pos k ≡ pos m)
-above_least z k h = from (z +ℤ pos k) refl h
-  where
-    from : (y : ℤ) → z +ℤ pos k ≡ y → pos 0 ≤ℤ y → (m : ℕ) × (z +ℤ pos k ≡ pos m)
-    from (pos m) e h = (m, e)
-    from (negsuc m) e h = absurd (omega (arith, ints, h))
 
 most_at : (y : ℤ) → pos 0 ≤ℤ (y +ℤ pos 14400) → y ≤ℤ pos 8000 → frames_at y ≤ 4480284
 most_at y low high =

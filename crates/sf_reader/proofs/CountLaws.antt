@@ -15,6 +15,7 @@ use Rattle.bank_format.specs.Reading.{bagged, bags_in}
 use Rattle.sf_reader.specs.declared.zones.ZoneCounts.{ZoneCounts}
 use Rattle.sf_reader.specs.Owners.{AreSmall, added, counts_over}
 use Rattle.sf_reader.proofs.WindowLaws.{length-windows}
+use Rattle.sf_reader.proofs.Kept.{length-kept}
 
 -- ---- sums
 
@@ -41,29 +42,6 @@ all_left P (suc n) [] h = tt
 all_left P (suc n) (x ∷ xs) h = all_left P n xs h.1
 
 -- ---- of one bag
-
-kept_if : (b : Bool) (r : Generator) (rs : List Generator) (n : ℕ) → length rs ≤ n → length (cond b rs (r ∷ rs)) ≤ suc n
-kept_if true r rs n h = omega (arith, h)
-kept_if false r rs n h = omega (arith, h)
-
-up_to : (b : Bool) (r : Generator) (rs : List Generator) (n : ℕ) → length rs ≤ n → length (cond b [] (r ∷ rs)) ≤ suc n
-up_to true r rs n h = omega arith
-up_to false r rs n h = omega (arith, h)
-
-length-before_target : (at : Level) (rs : List Generator) → length (before_target at rs) ≤ length rs
-length-before_target at [] = omega arith
-length-before_target at (r ∷ rs) = up_to (is_target at r) r (before_target at rs) (length rs) (length-before_target at rs)
-
-length-last_of_each : (rs : List Generator) → length (last_of_each rs) ≤ length rs
-length-last_of_each [] = omega arith
-length-last_of_each (r ∷ rs) = kept_if (list_any (λ (x : Generator). x.operator == r.operator) rs) r (last_of_each rs) (length rs) (length-last_of_each rs)
-
-length-filtered : {X : Type 0} (p : X → Bool) (xs : List X) → length (filter p xs) ≤ length xs
-length-filtered p xs = omega (arith, length-filter p xs, count_by-le-length p xs)
-
-length-kept : (at : Level) (rs : List Generator) → length (kept at rs) ≤ length rs
-length-kept at rs =
-    omega (arith, length-last_of_each (allowed_in at (before_target at rs)), length-filtered (λ (r : Generator). is_allowed at r.operator) (before_target at rs), length-before_target at rs)
 
 -- no more generators than a list has records
 abbrev IsShort : Bagged → Type 0
@@ -93,7 +71,7 @@ all_looked_at at (r ∷ bags) h = (h.0, all_passed IsShort (has_target at) bags 
 length-looked_at : (at : Level) (bags : List Bagged) → length (looked_at at bags) ≤ length bags
 unfolding looked_at
 length-looked_at at [] = omega arith
-length-looked_at at (r ∷ bags) = omega (arith, length-filtered (has_target at) bags)
+length-looked_at at (r ∷ bags) = omega (arith, length-filter (has_target at) bags, count_by-le-length (has_target at) bags)
 
 -- no more bags than a list has records, and each short
 record IsFew (bags : List Bagged) : Type 0 where

@@ -27,7 +27,8 @@ use Rattle.bank_format.specs.ReadSteps.{count_steps, all_index_steps, sample_ste
 use Rattle.sf_reader.specs.Owners.{member_steps}
 use Rattle.sf_reader.specs.Content.{even_steps, checked_steps, table_steps}
 use Rattle.bank_format.proofs.StepLaws.{both_none, passes_after}
-use Rattle.sf_reader.proofs.WindowLaws.{length-windows, length-rows, length-together}
+use Rattle.bank_format.proofs.WindowLaws.{length-together}
+use Rattle.sf_reader.proofs.WindowLaws.{length-windows, length-rows}
 use Rattle.sf_reader.proofs.MemberLaws.{preset_part, instrument_part}
 
 -- ---- the steps from a part on

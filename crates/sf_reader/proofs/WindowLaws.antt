@@ -138,8 +138,3 @@ length-windows table (i ∷ is) = let h = length-windows_from table i is in omeg
 
 pub length-rows : {X : Type 0} (xs : List X) → length (rows xs) ≡ length xs - 1
 length-rows xs = length-take-le (length xs - 1) xs (omega arith)
-
-pub length-together : {X Y Z : Type 0} (f : X → Y → Z) (xs : List X) (ys : List Y) → length xs ≡ length ys → length (together f xs ys) ≡ length xs
-length-together f [] ys h = refl
-length-together f (x ∷ xs) [] h = absurd (omega (arith, h))
-length-together f (x ∷ xs) (y ∷ ys) h = ap suc (length-together f xs ys (omega (arith, h)))

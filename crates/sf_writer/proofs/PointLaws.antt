@@ -7,20 +7,17 @@ use Rattle.std.proofs.lemmas.List.Sums.{sum_by-cons}
 use Rattle.riff_chunks.specs.Walk.{LIST}
 use Rattle.riff_chunks.specs.Spelling.{chunk, spell}
 use Rattle.sample_view.specs.Words.{word_bytes}
+use Rattle.sample_view.proofs.WordLaws.{length-word_bytes}
 use Rattle.bank_parts.specs.declared.parts.Sample.{Sample}
 use Rattle.bank_parts.specs.declared.parts.Parts.{Parts}
 use Rattle.bank_parts.specs.Valid.{point_total}
 use Rattle.bank_format.specs.Ids.{SDTA, SMPL}
 use Rattle.bank_format.specs.Tables.{all_points, points_written}
 use Rattle.bank_format.specs.Canon.{sdta}
+use Rattle.bank_format.proofs.BankLaws.{length-all_points}
 use Rattle.sf_writer.proofs.ChunkLaws.{length-chunk-even, length-form-even, length-LIST}
 
 -- ---- one sample
-
-length-word_bytes : (ws : List ℕ) → length (flat_map word_bytes ws) ≡ 2 * length ws
-unfolding word_bytes
-length-word_bytes [] = refl
-length-word_bytes (w ∷ ws) = let e = length-word_bytes ws in omega arith
 
 zero_bytes : flat_map word_bytes (replicate 46 0) ≡ replicate 92 0
 unfolding word_bytes
@@ -40,20 +37,8 @@ point_total-next samples i s lt is =
     ∙ ap (λ (x : Sample). point_total (x ∷ drop (i + 1) samples)) (sym is)
     ∙ sum_by-cons (λ (x : Sample). length x.points + 46) s (drop (i + 1) samples)
 
-length-points_written : (samples : List Sample) → length (flat_map points_written samples) ≡ point_total samples
-length-points_written [] = refl
-length-points_written (s ∷ samples) =
-    omega (
-      arith,
-      length-append (points_written s) (flat_map points_written samples),
-      length-append s.points (replicate 46 0),
-      length-points_written samples,
-      sum_by-cons (λ (x : Sample). length x.points + 46) s samples,
-    )
-
 pub length_all_points : (b : Parts) → length (flat_map word_bytes (all_points b)) ≡ 2 * point_total b.samples
-unfolding all_points
-length_all_points b = omega (arith, length-word_bytes (flat_map points_written b.samples), length-points_written b.samples)
+length_all_points b = omega (arith, length-word_bytes (all_points b), length-all_points b)
 
 pub all_points-even : (b : Parts) → length (flat_map word_bytes (all_points b)) % 2 ≡ 0
 all_points-even b = omega (arith, length_all_points b)

@@ -1,5 +1,5 @@
 //! The picture of the zones of a preset or an instrument.
-ghost use Rattle.std.specs.Prelude.{◌≡◌, ◌≤◌, ◌<◌, []};
+ghost use Rattle.std.specs.Prelude.{◌≡◌, ◌<◌, []};
 ghost use Rattle.std.specs.List.{flat_map, cons_option};
 ghost use Rattle.outputs.specs.Output.{Puts};
 ghost use Rattle.bank_changes.specs.declared.members.Owner.TheVariants as owner;
@@ -14,6 +14,7 @@ use crate::shapes::put_rectangle;
 use bank_core::{Bank, Owner};
 use outputs::Output;
 use std::io::Write;
+use zone_select::zones_in;
 
 /// What all pictures begin with: their size, and colours that colour-blind readers tell apart, on white or on
 /// black.
@@ -112,19 +113,6 @@ fn put_owner_line<W: Write>(level: &[u8], owner: u32, owner_name: &[u8], output:
         text(b"</text>\n"),
     ];
     put_marks(&marks, output);
-}
-
-// How many zones an owner has; none where there is no such owner.
-#[tactic(auto, using(crate::proofs::RectangleLaws::zones_fit, crate::proofs::RectangleLaws::zones_few))]
-fn zones_in(bank: &Bank<'_>, owner: Owner) -> u32
-    ensures count { result ≡ zones_in bank.now owner }
-    ensures few { result ≤ 65535 }
-{
-    bank.soundness();
-    match bank.zone_count(owner) {
-        Some(count) => count as u32,
-        None => 0,
-    }
 }
 
 #[tactic(auto, unfolding(crate::specs::Rectangles::rectangles))]

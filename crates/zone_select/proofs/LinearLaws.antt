@@ -49,7 +49,7 @@ product_fits a x w h al ah xl xh =
     let q : unsigned_abs x ≤ w = abs_below x w xl xh in
     fits_signed_mul w32 a x 65536 1000 p (omega (arith, q, h)) (lit< tt)
 
-above_least : (z : ℤ) (k : ℕ) → pos 0 ≤ℤ (z +ℤ pos k) → (m : ℕ) × (z +ℤ pos k ≡ pos m)
+pub above_least : (z : ℤ) (k : ℕ) → pos 0 ≤ℤ (z +ℤ pos k) → (m : ℕ) × (z +ℤ pos k ≡ pos m)
 above_least (pos a) k h = (a + k, refl)
 above_least (negsuc a) k h = (k - suc a, omega (arith, ints, h))
 

@@ -21,6 +21,7 @@ use Rattle.zone_select.specs.Amounts.{cut, start_of, end_of, offset, asks_for_lo
 use Rattle.zone_select.specs.Select.{voice_of}
 use Rattle.zone_select.specs.Pairs.{Chosen, chosen_by, chosen_voice, voice_by}
 use Rattle.zone_select.specs.Playable.{IsPlayable}
+use Rattle.zone_select.proofs.LinearLaws.{above_least}
 
 -- ---- the loop
 
@@ -98,13 +99,6 @@ loop_lies v u s e =
     let middle = both _ _ last.0 in
     let first = both _ _ middle.0 in
     in_order (start_of v u s) (end_of v u s) (loop_start_of v u s) (loop_end_of v u s) first.1 middle.1 last.1
-
-above_least : (z : ℤ) (k : ℕ) → pos 0 ≤ℤ (z +ℤ pos k) → (m : ℕ) × (z +ℤ pos k ≡ pos m)
-above_least z k h = from (z +ℤ pos k) refl h
-  where
-    from : (y : ℤ) → z +ℤ pos k ≡ y → pos 0 ≤ℤ y → (m : ℕ) × (z +ℤ pos k ≡ pos m)
-    from (pos m) e h = (m, e)
-    from (negsuc m) e h = absurd (omega (arith, ints, h))
 
 step_most : (cents : ℤ) (rate : ℕ) → step_of cents rate ≤ 73043661
 step_most cents rate = at (int_min (int_max cents (negsuc 14399)) (pos 9600)) (min (max rate 400) 192000) (omega (arith, ints, clamps)) (omega (arith, ints, clamps)) (omega arith)

@@ -20,3 +20,4 @@ pub use neutral::{
 };
 pub use pairs::{ZonePairs, matches};
 pub use parameters::{VoiceParameters, params, sample_of};
+pub use zones::zones_in;

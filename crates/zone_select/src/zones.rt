@@ -7,8 +7,8 @@ use bank_core::{Bank, Owner};
 use note_list::Note;
 use zone_ranges::Axis;
 
-// How many zones an owner has; none where there is no such owner.
-fn zones_in(bank: &Bank<'_>, owner: Owner) -> u32
+/// How many zones a preset or an instrument has; none where there is no such one.
+pub fn zones_in(bank: &Bank<'_>, owner: Owner) -> u32
     ensures count { result ≡ zones_in bank.now owner }
     ensures few { result ≤ 65535 }
 {
