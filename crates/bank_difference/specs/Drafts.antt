@@ -5,7 +5,7 @@ use Rattle.edit_forms.specs.declared.step.Step.{Step}
 use Rattle.edit_forms.specs.declared.edit.Edit.{Edit}
 use Rattle.edit_forms.specs.declared.edit.Edit.TheVariants.{One}
 use Rattle.edit_refusals.specs.Edits.{raw}
-use Rattle.inverse_edits.specs.Undone.{IsTaken}
+use Rattle.bank_edits.specs.Undone.{IsTaken}
 
 -- a first bank, edits, and the bank that they lead to
 pub record Drafted : Type 0 where

@@ -1,7 +1,7 @@
 //! One step of a bank in the making.
 ghost use Rattle.std.specs.Prelude.{◌≡◌, ◌<◌, ◌++◌, ◌∷◌, [], vec_len, vec_capacity, MatchResult};
 ghost use Rattle.edit_refusals.specs.Edits.{raw};
-ghost use Rattle.inverse_edits.specs.Undone.{IsTaken};
+ghost use Rattle.bank_edits.specs.Undone.{IsTaken};
 ghost use Rattle.bank_difference.specs.Drafts.{IsTry};
 
 use bank_core::Bank;

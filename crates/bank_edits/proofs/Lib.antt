@@ -1,2 +1,16 @@
 pub mod InverseLaws
 pub mod GroupLaws
+pub mod UndoneBy
+pub mod PresetLaws
+pub mod InstrumentLaws
+pub mod SampleLaws
+pub mod PointLaws
+pub mod TextLaws
+pub mod ZoneLaws
+pub mod ModulatorLaws
+pub mod SettingLaws
+pub mod SplitLaws
+pub mod StepLaw
+pub mod SequenceLaw
+pub mod Law
+pub mod RunLaw

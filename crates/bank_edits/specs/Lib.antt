@@ -17,3 +17,6 @@ pub use Rattle.edit_refusals.specs.Answers
 pub mod StepChanges
 pub mod EditChanges
 pub mod GroupChanges
+pub mod Undoing
+pub mod Undone
+pub mod Runs

@@ -10,7 +10,7 @@ use Rattle.bank_parts.specs.declared.texts.InfoId.TheVariants.{Engine, Name, Dat
 use Rattle.bank_parts.specs.declared.parts.Parts.{Parts}
 use Rattle.bank_parts.specs.Texts.{text_of}
 use Rattle.bank_changes.specs.Texts.{text_set, info_set}
-use Rattle.inverse_edits.specs.Runs.{after_all}
+use Rattle.bank_edits.specs.Runs.{after_all}
 use Rattle.bank_text.specs.Listed.{empty, empty_texts, in_turn, text_edits, texts_edits, sample_edits, link_edits, instrument_edits, preset_edits, edits_of_bank}
 use Rattle.bank_text.proofs.Turns.{after-then, after_turns}
 use Rattle.bank_text.proofs.Stages.{bank_of, with_samples, with_links, with_instruments, with_presets, sample_added_last, link_set_next, instrument_added_last, preset_added_last}

@@ -3,8 +3,8 @@ use Rattle.std.proofs.Common.{◌≡◌, List, sym, subst, ◌∙◌, ap}
 use Rattle.bank_parts.specs.declared.parts.Parts.{Parts}
 use Rattle.bank_parts.specs.Sound.{IsSound}
 use Rattle.edit_forms.specs.declared.edit.Edit.{Edit}
-use Rattle.inverse_edits.specs.Runs.{AllTaken, after_all, undo_list}
-use Rattle.inverse_edits.proofs.RunLaw.{all_undone}
+use Rattle.bank_edits.specs.Runs.{AllTaken, after_all, undo_list}
+use Rattle.bank_edits.proofs.RunLaw.{all_undone}
 use Rattle.bank_text.specs.Listed.{empty, edits_of_bank}
 use Rattle.bank_text.specs.Whole.{Leads, GivesBank, LeadsAnywhere}
 use Rattle.bank_text.proofs.Turns.{after-then, taken-then}

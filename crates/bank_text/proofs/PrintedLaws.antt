@@ -5,7 +5,7 @@ use Rattle.bank_parts.specs.declared.parts.Parts.{Parts}
 use Rattle.bank_parts.specs.Sound.{IsSound}
 use Rattle.edit_forms.specs.declared.edit.Edit.{Edit}
 use Rattle.edit_refusals.specs.Edits.{raw}
-use Rattle.inverse_edits.specs.Runs.{AllTaken, after_all}
+use Rattle.bank_edits.specs.Runs.{AllTaken, after_all}
 use Rattle.line_tokens.specs.declared.fault.ScriptFault.{ScriptFault}
 use Rattle.line_tokens.specs.declared.printing.Piece.TheVariants.{Number}
 use Rattle.line_tokens.specs.Lines.{lines_of}

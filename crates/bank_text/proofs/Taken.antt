@@ -31,8 +31,8 @@ use Rattle.edit_refusals.proofs.TextLaws.{not_bad}
 use Rattle.edit_refusals.proofs.SampleLaws as sample
 use Rattle.edit_refusals.proofs.PointLaws as point
 use Rattle.edit_refusals.proofs.OwnerLaws as owner
-use Rattle.inverse_edits.specs.Runs.{AllTaken}
-use Rattle.inverse_edits.specs.Undone.{IsTaken}
+use Rattle.bank_edits.specs.Runs.{AllTaken}
+use Rattle.bank_edits.specs.Undone.{IsTaken}
 use Rattle.bank_text.specs.Listed.{empty, empty_texts, in_turn, text_edits, texts_edits, sample_edits, kind_edits, link_edits, instrument_edits, preset_edits, edits_of_bank}
 use Rattle.bank_text.proofs.Turns.{taken-then, after_turns, taken_turns}
 use Rattle.bank_text.proofs.Fronts.{all_front, all_rest, length_front}

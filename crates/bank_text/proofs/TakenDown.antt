@@ -15,7 +15,7 @@ use Rattle.edit_forms.specs.declared.step.Step.{Step}
 use Rattle.edit_forms.specs.declared.step.Step.TheVariants.{RemovePreset, RemoveInstrument, RemoveSample, SetInfo}
 use Rattle.edit_forms.specs.declared.edit.Edit.{Edit}
 use Rattle.edit_forms.specs.declared.edit.Edit.TheVariants.{One}
-use Rattle.inverse_edits.specs.Runs.{undo_list}
+use Rattle.bank_edits.specs.Runs.{undo_list}
 use Rattle.bank_text.specs.Listed.{empty, empty_texts, in_turn, text_edits, texts_edits, sample_edits, kind_edits, link_edits, instrument_edits, preset_edits, edits_of_bank}
 use Rattle.bank_text.specs.TakenDown.{in_reverse, removals, mono_edits, unlink_edits, reset_edits, resets, taken_down}
 use Rattle.bank_text.proofs.Turns.{undo-then, undo-past, after_turns, undo_turns}

@@ -8,7 +8,7 @@ use Rattle.bank_parts.specs.declared.parts.Sample.{Sample}
 use Rattle.bank_parts.specs.declared.parts.Parts.{Parts}
 use Rattle.edit_forms.specs.declared.step.Step.TheVariants.{AddSample, SetKind, SetInfo}
 use Rattle.edit_forms.specs.declared.edit.Edit.TheVariants.{One}
-use Rattle.inverse_edits.specs.Runs.{after_all}
+use Rattle.bank_edits.specs.Runs.{after_all}
 use Rattle.bank_text.specs.Listed.{empty, edits_of_bank}
 
 abbrev side : ℤ → List ℕ → Kind → Sample

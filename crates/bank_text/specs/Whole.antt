@@ -3,7 +3,7 @@ use Rattle.std.specs.Prelude.{◌≡◌, ◌++◌, List}
 use Rattle.bank_parts.specs.declared.parts.Parts.{Parts}
 use Rattle.bank_parts.specs.Sound.{IsSound}
 use Rattle.edit_forms.specs.declared.edit.Edit.{Edit}
-use Rattle.inverse_edits.specs.Runs.{AllTaken, after_all, undo_list}
+use Rattle.bank_edits.specs.Runs.{AllTaken, after_all, undo_list}
 use Rattle.bank_text.specs.Listed.{empty, edits_of_bank}
 
 -- the bank takes each of the edits in its turn, and they give the other

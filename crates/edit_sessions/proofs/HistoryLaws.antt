@@ -8,8 +8,8 @@ use Rattle.bank_parts.specs.Sound.{IsSound}
 use Rattle.edit_forms.specs.declared.edit.Edit.{Edit}
 use Rattle.edit_refusals.specs.Edits.{raw}
 use Rattle.bank_edits.specs.EditChanges.{inverse}
-use Rattle.inverse_edits.specs.Runs.{AllTaken, undo_list}
-use Rattle.inverse_edits.proofs.Law.{undone}
+use Rattle.bank_edits.specs.Runs.{AllTaken, undo_list}
+use Rattle.bank_edits.proofs.Law.{undone}
 use Rattle.edit_sessions.specs.Histories.{IsHistory, AreLinked, Follow, IsForth, bank_now, edited, way_back, banks_before, banks_after, history_of}
 use Rattle.edit_sessions.proofs.ListLaws.{get_seam, take_past_seam, take_zip, map_zip_push, reverse_cons}
 

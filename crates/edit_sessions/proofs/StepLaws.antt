@@ -9,9 +9,9 @@ use Rattle.edit_refusals.specs.declared.refusal.Refusal.{Refusal}
 use Rattle.edit_refusals.specs.declared.refusal.Refusal.TheVariants.{Of, OutOfMemory, NothingToUndo, NothingToRedo, GroupRefused}
 use Rattle.edit_refusals.specs.Edits.{raw}
 use Rattle.bank_edits.specs.EditChanges.{inverse}
-use Rattle.inverse_edits.specs.Undone.{IsUndone}
-use Rattle.inverse_edits.specs.Runs.{AllTaken}
-use Rattle.inverse_edits.proofs.Law.{undone}
+use Rattle.bank_edits.specs.Undone.{IsUndone}
+use Rattle.bank_edits.specs.Runs.{AllTaken}
+use Rattle.bank_edits.proofs.Law.{undone}
 use Rattle.edit_sessions.specs.Steps.{IsStep, IsDoneStep, IsDoneEdit, IsWhy}
 use Rattle.edit_sessions.specs.Histories.{history_of, IsForth, IsUndoFailure, IsRedoFailure, IsEdited, IsRefusalNow}
 use Rattle.edit_sessions.proofs.ListLaws.{reverse_push}

@@ -6,8 +6,8 @@ use Rattle.edit_refusals.specs.declared.refusal.Refusal.{Refusal}
 use Rattle.edit_refusals.specs.declared.refusal.Refusal.TheVariants.{OutOfMemory, NothingToUndo, NothingToRedo}
 use Rattle.edit_refusals.specs.Edits.{raw, refusal}
 use Rattle.bank_edits.specs.EditChanges.{inverse}
-use Rattle.inverse_edits.specs.Undone.{IsTaken}
-use Rattle.inverse_edits.specs.Runs.{undo_list}
+use Rattle.bank_edits.specs.Undone.{IsTaken}
+use Rattle.bank_edits.specs.Runs.{undo_list}
 
 pub record History : Type 0 where
   pub banks : List Parts

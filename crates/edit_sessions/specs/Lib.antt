@@ -1,6 +1,6 @@
 pub use Rattle.bank_parts.specs.Sound
 pub use Rattle.edit_refusals.specs.Edits
-pub use Rattle.inverse_edits.specs.Undone
-pub use Rattle.inverse_edits.specs.Runs
+pub use Rattle.bank_edits.specs.Undone
+pub use Rattle.bank_edits.specs.Runs
 pub mod Histories
 pub mod Steps

@@ -32,7 +32,7 @@ impl Drop for Session<'_> {
 impl<'a> Model for Session<'a> {
     ghost use Rattle.std.specs.Prelude.{reverse};
     ghost use Rattle.bank_parts.specs.Sound.{IsSound};
-    ghost use Rattle.inverse_edits.specs.Runs.{AllTaken};
+    ghost use Rattle.bank_edits.specs.Runs.{AllTaken};
     ghost use Rattle.edit_sessions.specs.Histories.{History, history_of};
     ghost use Rattle.generators.specs.contracts.gen_map.GenMap as gens;
     ghost use Rattle.std.specs.Coded.{codes};

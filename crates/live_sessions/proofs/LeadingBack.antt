@@ -5,8 +5,8 @@ use Rattle.bank_parts.specs.declared.parts.Parts.{Parts}
 use Rattle.bank_parts.specs.Sound.{IsSound}
 use Rattle.edit_forms.specs.declared.edit.Edit.{Edit}
 use Rattle.bank_edits.specs.EditChanges.{inverse}
-use Rattle.inverse_edits.specs.Runs.{AllTaken, after_all, undo_list, AreUndone}
-use Rattle.inverse_edits.proofs.RunLaw.{all_undone}
+use Rattle.bank_edits.specs.Runs.{AllTaken, after_all, undo_list, AreUndone}
+use Rattle.bank_edits.proofs.RunLaw.{all_undone}
 use Rattle.edit_sessions.specs.Histories.{Follow, AreLinked, IsHistory, bank_now, way_back}
 use Rattle.edit_sessions.proofs.ListLaws.{reverse_cons}
 use Rattle.live_sessions.specs.declared.live.Live.{Live}

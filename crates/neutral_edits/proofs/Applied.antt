@@ -8,7 +8,7 @@ use Rattle.edit_forms.specs.declared.edit.Edit.{Edit}
 use Rattle.edit_forms.specs.Fits.{FitsEdit}
 use Rattle.edit_refusals.specs.declared.refusal.Refusal.{Refusal}
 use Rattle.bank_edits.specs.EditChanges.{IsDone, IsRefused}
-use Rattle.inverse_edits.specs.Undone.{IsTaken}
+use Rattle.bank_edits.specs.Undone.{IsTaken}
 use Rattle.zone_select.specs.Alike.{AreAlike}
 use Rattle.mixer.specs.Render.{render}
 use Rattle.neutral_edits.specs.Neutral.{is_neutral}

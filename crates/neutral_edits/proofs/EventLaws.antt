@@ -5,8 +5,8 @@ use Rattle.bank_parts.specs.Sound.{IsSound}
 use Rattle.note_list.specs.Notes.{Numbers}
 use Rattle.edit_forms.specs.declared.edit.Edit.{Edit}
 use Rattle.edit_refusals.specs.Edits.{raw}
-use Rattle.inverse_edits.specs.Undone.{IsTaken}
-use Rattle.inverse_edits.proofs.Law.{undone}
+use Rattle.bank_edits.specs.Undone.{IsTaken}
+use Rattle.bank_edits.proofs.Law.{undone}
 use Rattle.mixer.specs.declared.playing.Playing.{Playing}
 use Rattle.mixer.specs.Events.{heard, blocks}
 use Rattle.mixer.specs.Render.{render}

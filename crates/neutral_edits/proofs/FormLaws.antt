@@ -21,7 +21,7 @@ use Rattle.edit_refusals.proofs.Accepted.{accepted}
 use Rattle.edit_refusals.proofs.SampleLaws.{goes_in, comes_out, moves_sample}
 use Rattle.edit_refusals.proofs.InstrumentLaws.{instrument_goes, instrument_comes, moves_instrument}
 use Rattle.edit_refusals.proofs.SplitLaws.{can_of_split_zone, can_of_join_zone}
-use Rattle.inverse_edits.specs.Undone.{IsTaken}
+use Rattle.bank_edits.specs.Undone.{IsTaken}
 use Rattle.zone_select.specs.Alike.{AreAlike}
 use Rattle.zone_select.proofs.NeutralLaws.{sample_added_alike, sample_removed_alike, sample_moved_alike, sample_renamed_alike, kind_set_alike, instrument_added_alike, instrument_removed_alike, instrument_moved_alike, instrument_renamed_alike, zone_moved_alike, zone_split_alike, zone_joined_alike, info_set_alike}
 use Rattle.neutral_edits.specs.Neutral.{is_neutral, is_neutral_step}

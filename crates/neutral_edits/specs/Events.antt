@@ -5,7 +5,7 @@ use Rattle.bank_parts.specs.Sound.{IsSound}
 use Rattle.note_list.specs.Notes.{Numbers}
 use Rattle.edit_forms.specs.declared.edit.Edit.{Edit}
 use Rattle.edit_refusals.specs.Edits.{raw}
-use Rattle.inverse_edits.specs.Undone.{IsTaken}
+use Rattle.bank_edits.specs.Undone.{IsTaken}
 use Rattle.mixer.specs.declared.playing.Playing.{Playing}
 use Rattle.mixer.specs.Events as player
 use Rattle.mixer.specs.Events.{heard, blocks}

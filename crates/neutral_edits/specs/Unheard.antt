@@ -6,7 +6,7 @@ use Rattle.note_list.specs.Notes.{Numbers}
 use Rattle.edit_forms.specs.declared.edit.Edit.{Edit}
 use Rattle.edit_refusals.specs.Edits.{raw}
 use Rattle.bank_edits.specs.EditChanges.{inverse}
-use Rattle.inverse_edits.specs.Undone.{IsTaken}
+use Rattle.bank_edits.specs.Undone.{IsTaken}
 use Rattle.zone_select.specs.Alike.{AreAlike}
 use Rattle.mixer.specs.Render.{render}
 use Rattle.neutral_edits.specs.Neutral.{is_neutral}

@@ -13,7 +13,7 @@ use Rattle.bank_format.specs.ReadSteps.{fault_of, ReadsAs}
 use Rattle.bank_format.proofs.RoundTrip.{reads-again}
 use Rattle.bank_format.proofs.ReadValid.{read_valid, read_fits}
 use Rattle.edit_refusals.specs.Edits.{raw}
-use Rattle.inverse_edits.specs.Runs.{AllTaken, undo_list}
+use Rattle.bank_edits.specs.Runs.{AllTaken, undo_list}
 use Rattle.edit_script.specs.declared.parsing.Line.{Line}
 use Rattle.edit_script.specs.Script.{script_of}
 use Rattle.edit_script.specs.Printing.{texts_of}

@@ -14,7 +14,7 @@ use Rattle.bank_format.specs.Canon.{canon}
 use Rattle.bank_format.specs.Steps.{Fails}
 use Rattle.bank_format.specs.ReadSteps.{fault_of, ReadsAs}
 use Rattle.edit_forms.specs.declared.edit.Edit.{Edit}
-use Rattle.inverse_edits.specs.Runs.{undo_list}
+use Rattle.bank_edits.specs.Runs.{undo_list}
 use Rattle.edit_script.specs.Script.{script_of}
 use Rattle.edit_script.specs.Printing.{texts_of, numbered}
 use Rattle.edit_script.proofs.LineLaws.{printed_spell}

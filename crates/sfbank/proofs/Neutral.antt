@@ -9,9 +9,9 @@ use Rattle.bank_format.specs.ReadSteps.{fault_of}
 use Rattle.bank_format.proofs.RoundTrip.{reads-again}
 use Rattle.bank_format.proofs.ReadValid.{read_valid, read_fits}
 use Rattle.edit_refusals.specs.Edits.{raw}
-use Rattle.inverse_edits.specs.Runs.{AllTaken, after_all}
-use Rattle.inverse_edits.proofs.Law.{undone}
-use Rattle.inverse_edits.proofs.RunLaw.{all_undone}
+use Rattle.bank_edits.specs.Runs.{AllTaken, after_all}
+use Rattle.bank_edits.proofs.Law.{undone}
+use Rattle.bank_edits.proofs.RunLaw.{all_undone}
 use Rattle.line_tokens.specs.declared.fault.ScriptFault.{ScriptFault}
 use Rattle.edit_script.specs.declared.parsing.Line.{Line}
 use Rattle.edit_script.specs.Script.{script_of}

@@ -13,8 +13,8 @@ use Rattle.bank_format.proofs.ReadValid.{read_valid, read_fits}
 use Rattle.edit_forms.specs.declared.edit.Edit.{Edit}
 use Rattle.edit_refusals.specs.declared.refusal.Refusal.{Refusal}
 use Rattle.edit_refusals.specs.Edits.{raw, refusal}
-use Rattle.inverse_edits.specs.Runs.{AllTaken, after_all, undo_list}
-use Rattle.inverse_edits.proofs.RunLaw.{all_undone}
+use Rattle.bank_edits.specs.Runs.{AllTaken, after_all, undo_list}
+use Rattle.bank_edits.proofs.RunLaw.{all_undone}
 use Rattle.edit_script.specs.declared.parsing.Line.{Line}
 use Rattle.edit_script.specs.Script.{script_of}
 use Rattle.edit_script.specs.Printing.{texts_of, numbered, AllFit, LinesFit}

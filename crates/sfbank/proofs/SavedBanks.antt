@@ -5,7 +5,7 @@ use Rattle.bank_parts.specs.Sound.{IsSound}
 use Rattle.bank_format.specs.Canon.{canon}
 use Rattle.bank_format.proofs.ReadValid.{read_valid, read_fits}
 use Rattle.edit_forms.specs.declared.edit.Edit.{Edit}
-use Rattle.inverse_edits.specs.Runs.{AllTaken, after_all, undo_list}
+use Rattle.bank_edits.specs.Runs.{AllTaken, after_all, undo_list}
 use Rattle.edit_script.specs.Printing.{texts_of}
 use Rattle.edit_script.proofs.LineLaws.{printed_spell}
 use Rattle.edit_sessions.specs.Histories.{way_back}

@@ -1,6 +1,6 @@
 pub use Rattle.bank_format.specs.Canon
 pub use Rattle.bank_format.specs.ReadSteps
-pub use Rattle.inverse_edits.specs.Runs
+pub use Rattle.bank_edits.specs.Runs
 pub use Rattle.edit_script.specs.Script
 pub use Rattle.edit_script.specs.Printing
 pub use Rattle.bank_listing.specs.Listing

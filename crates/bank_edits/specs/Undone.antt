@@ -6,7 +6,7 @@ use Rattle.edit_forms.specs.declared.edit.Edit.{Edit}
 use Rattle.edit_forms.specs.Fits.{FitsEdit}
 use Rattle.edit_refusals.specs.Edits.{raw, refusal}
 use Rattle.bank_edits.specs.EditChanges.{inverse}
-use Rattle.inverse_edits.specs.Undoing.{IsUndoneBy}
+use Rattle.bank_edits.specs.Undoing.{IsUndoneBy}
 
 -- its numbers, names and texts are in the ranges of their fields, and it is not refused
 pub record IsTaken (b : Parts) (e : Edit) : Type 0 where

@@ -22,7 +22,7 @@ use Rattle.edit_forms.specs.declared.step.Step.TheVariants.{SetGen, ClearGen}
 use Rattle.edit_refusals.proofs.Accepted.{accepted}
 use Rattle.edit_refusals.proofs.PlaceLaws.{some_settings, owner_stays_there, place_stays_there}
 use Rattle.edit_refusals.proofs.SettingLaws.{AllowsThere, settings_allowed, GenGoes, gen_goes, tests_set_gen, sound_set_gen, gen_comes, tests_clear_gen, sound_clear_gen}
-use Rattle.inverse_edits.proofs.UndoneBy.{IsTaken, IsUndone, undone_by}
+use Rattle.bank_edits.proofs.UndoneBy.{IsTaken, IsUndone, undone_by}
 
 -- ---- an amount of a sound bank
 

@@ -24,7 +24,7 @@ use Rattle.edit_forms.specs.declared.step.Step.TheVariants.{AddMod, RemoveMod, S
 use Rattle.edit_refusals.proofs.Accepted.{accepted}
 use Rattle.edit_refusals.proofs.PlaceLaws.{mods_found}
 use Rattle.edit_refusals.proofs.ModulatorLaws.{mods_sent, still_no_link, none_inserted, none_left, none_exchanged, plain_found, mod_goes, sound_add_mod, tests_add_mod, mod_comes, sound_remove_mod, tests_remove_mod, mod_changes, sound_set_mod, tests_set_mod}
-use Rattle.inverse_edits.proofs.UndoneBy.{IsTaken, IsUndone, undone_by}
+use Rattle.bank_edits.proofs.UndoneBy.{IsTaken, IsUndone, undone_by}
 
 -- ---- the modulators of a place
 

@@ -12,11 +12,11 @@ use Rattle.edit_refusals.specs.declared.refusal.Refusal.TheVariants.{Of}
 use Rattle.edit_refusals.specs.Steps.{raw, refusal}
 use Rattle.edit_refusals.specs.Edits.{or_later, first_refused}
 use Rattle.bank_edits.specs.StepChanges.{inverse}
-use Rattle.inverse_edits.specs.Undoing.{AllTakenBy}
-use Rattle.inverse_edits.specs.Undone as edits
-use Rattle.inverse_edits.proofs.UndoneBy.{IsTaken}
-use Rattle.inverse_edits.proofs.StepLaw.{undone_step}
-use Rattle.inverse_edits.proofs.SequenceLaw.{row_undone}
+use Rattle.bank_edits.specs.Undoing.{AllTakenBy}
+use Rattle.bank_edits.specs.Undone as edits
+use Rattle.bank_edits.proofs.UndoneBy.{IsTaken}
+use Rattle.bank_edits.proofs.StepLaw.{undone_step}
+use Rattle.bank_edits.proofs.SequenceLaw.{row_undone}
 
 -- ---- one step
 

@@ -7,7 +7,7 @@ use Rattle.edit_forms.specs.Fits.{FitsStep}
 use Rattle.edit_refusals.specs.Steps.{raw, causes, refusal}
 use Rattle.bank_edits.specs.StepChanges.{inverse}
 use Rattle.edit_refusals.proofs.Accepted.{NoneStands, accepted_by}
-use Rattle.inverse_edits.specs.Undoing.{IsUndoneBy}
+use Rattle.bank_edits.specs.Undoing.{IsUndoneBy}
 
 -- the bank takes the step
 pub record IsTaken (b : Parts) (s : Step) : Type 0 where

@@ -26,7 +26,7 @@ use Rattle.bank_changes.proofs.ZoneChangeLaws.{own_zones_there, zone_there, zone
 use Rattle.edit_forms.specs.declared.step.Step.TheVariants.{AddZone, RemoveZone, MoveZone, SetTarget}
 use Rattle.edit_refusals.proofs.Accepted.{accepted}
 use Rattle.edit_refusals.proofs.ZoneLaws.{zone_goes, tests_add_zone, sound_add_zone, comes_of_remove_zone, tests_remove_zone, sound_remove_zone, moves_of_move_zone, tests_move_zone, sound_move_zone, goes_of_set_target, tests_set_target, sound_set_target}
-use Rattle.inverse_edits.proofs.UndoneBy.{IsTaken, IsUndone, undone_by}
+use Rattle.bank_edits.proofs.UndoneBy.{IsTaken, IsUndone, undone_by}
 
 -- ---- what is there after a change
 

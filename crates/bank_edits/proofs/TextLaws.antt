@@ -8,7 +8,7 @@ use Rattle.bank_parts.specs.Sound.{IsSound}
 use Rattle.bank_changes.proofs.TextLaws.{info_of, text_fits, text_of-set, text_set-back}
 use Rattle.edit_forms.specs.declared.step.Step.TheVariants.{SetInfo}
 use Rattle.edit_refusals.proofs.TextLaws.{sound_set_info, not_bad}
-use Rattle.inverse_edits.proofs.UndoneBy.{IsTaken, IsUndone, undone_by}
+use Rattle.bank_edits.proofs.UndoneBy.{IsTaken, IsUndone, undone_by}
 
 -- ---- set-info
 

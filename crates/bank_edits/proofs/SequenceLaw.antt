@@ -3,7 +3,7 @@ use Rattle.std.proofs.Common.{◌≡◌, List, [], ◌∷◌, ◌++◌, refl, sy
 use Rattle.bank_parts.specs.declared.parts.Parts.{Parts}
 use Rattle.bank_parts.specs.Sound.{IsSound}
 use Rattle.edit_refusals.specs.Sequences.{after_all, undo_list}
-use Rattle.inverse_edits.specs.Undoing.{IsUndoneBy, AllTakenBy}
+use Rattle.bank_edits.specs.Undoing.{IsUndoneBy, AllTakenBy}
 
 module _ {X : Type 0} (change : Parts → X → Parts) (inverse : Parts → X → X) (Takes : Parts → X → Type 0) where
   after_all-push : (b : Parts) (xs : List X) (x : X) → after_all change b (xs ++ x ∷ []) ≡ change (after_all change b xs) x

@@ -19,7 +19,7 @@ use Rattle.edit_refusals.proofs.Accepted.{accepted, not_below}
 use Rattle.edit_refusals.proofs.SampleLaws.{there_of_rename, goes_in, tests_add, sound_add, comes_out, sound_remove, moves_sample, sound_move_sample}
 use Rattle.edit_refusals.specs.declared.cause.Cause.TheVariants.{NoSuchSample}
 use Rattle.edit_refusals.proofs.Moves.{tests_move, moves_back}
-use Rattle.inverse_edits.proofs.UndoneBy.{IsTaken, IsUndone, undone_by}
+use Rattle.bank_edits.proofs.UndoneBy.{IsTaken, IsUndone, undone_by}
 
 -- ---- rename-sample
 

@@ -6,8 +6,8 @@ use Rattle.edit_forms.specs.declared.edit.Edit.{Edit}
 use Rattle.edit_refusals.specs.Sequences as row
 use Rattle.edit_refusals.specs.Edits.{raw}
 use Rattle.bank_edits.specs.EditChanges.{inverse}
-use Rattle.inverse_edits.specs.Undoing.{IsUndoneBy, AllTakenBy}
-use Rattle.inverse_edits.specs.Undone.{IsTaken}
+use Rattle.bank_edits.specs.Undoing.{IsUndoneBy, AllTakenBy}
+use Rattle.bank_edits.specs.Undone.{IsTaken}
 
 -- each edit is taken in its turn
 abbrev pub AllTaken : Parts → List Edit → Type 0

@@ -3,16 +3,16 @@ use Rattle.bank_parts.specs.declared.parts.Parts.{Parts}
 use Rattle.bank_parts.specs.Sound.{IsSound}
 use Rattle.edit_forms.specs.declared.step.Step.{Step}
 use Rattle.edit_forms.specs.declared.step.Step.TheVariants.{AddPreset, RemovePreset, MovePreset, SetHead, AddInstrument, RemoveInstrument, RenameInstrument, MoveInstrument, RenameSample, AddSample, RemoveSample, MoveSample, Trim, Extend, SetLoop, SetKind, SetTune, AddZone, RemoveZone, MoveZone, SplitZone, JoinZone, SetTarget, SetGen, ClearGen, AddMod, RemoveMod, SetMod, SetInfo}
-use Rattle.inverse_edits.proofs.UndoneBy.{IsTaken, IsUndone}
-use Rattle.inverse_edits.proofs.PresetLaws.{undone_add_preset, undone_remove_preset, undone_move_preset, undone_set_head}
-use Rattle.inverse_edits.proofs.InstrumentLaws.{undone_add_instrument, undone_remove_instrument, undone_rename_instrument, undone_move_instrument}
-use Rattle.inverse_edits.proofs.ModulatorLaws.{undone_add_mod, undone_remove_mod, undone_set_mod}
-use Rattle.inverse_edits.proofs.SampleLaws.{undone_rename, undone_add, undone_remove, undone_move_sample}
-use Rattle.inverse_edits.proofs.PointLaws.{undone_trim, undone_extend, undone_set_loop, undone_set_kind, undone_set_tune}
-use Rattle.inverse_edits.proofs.SettingLaws.{undone_set_gen, undone_clear_gen}
-use Rattle.inverse_edits.proofs.TextLaws.{undone_set_info}
-use Rattle.inverse_edits.proofs.ZoneLaws.{undone_add_zone, undone_remove_zone, undone_move_zone, undone_set_target}
-use Rattle.inverse_edits.proofs.SplitLaws.{undone_split_zone, undone_join_zone}
+use Rattle.bank_edits.proofs.UndoneBy.{IsTaken, IsUndone}
+use Rattle.bank_edits.proofs.PresetLaws.{undone_add_preset, undone_remove_preset, undone_move_preset, undone_set_head}
+use Rattle.bank_edits.proofs.InstrumentLaws.{undone_add_instrument, undone_remove_instrument, undone_rename_instrument, undone_move_instrument}
+use Rattle.bank_edits.proofs.ModulatorLaws.{undone_add_mod, undone_remove_mod, undone_set_mod}
+use Rattle.bank_edits.proofs.SampleLaws.{undone_rename, undone_add, undone_remove, undone_move_sample}
+use Rattle.bank_edits.proofs.PointLaws.{undone_trim, undone_extend, undone_set_loop, undone_set_kind, undone_set_tune}
+use Rattle.bank_edits.proofs.SettingLaws.{undone_set_gen, undone_clear_gen}
+use Rattle.bank_edits.proofs.TextLaws.{undone_set_info}
+use Rattle.bank_edits.proofs.ZoneLaws.{undone_add_zone, undone_remove_zone, undone_move_zone, undone_set_target}
+use Rattle.bank_edits.proofs.SplitLaws.{undone_split_zone, undone_join_zone}
 
 pub undone_step : (b : Parts) (s : Step) → IsSound b → IsTaken b s → IsUndone b s
 undone_step b (AddPreset i p) = undone_add_preset b i p

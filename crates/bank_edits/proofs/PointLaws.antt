@@ -12,7 +12,7 @@ use Rattle.bank_changes.proofs.PointLaws.{OutsideLoop, there_valid, there_fits, 
 use Rattle.edit_forms.specs.declared.step.Step.TheVariants.{Trim, Extend, SetLoop, SetKind, SetTune}
 use Rattle.edit_refusals.proofs.Accepted.{accepted, not_below}
 use Rattle.edit_refusals.proofs.PointLaws.{trims, tests_trim, sound_trim, there_of_extend, sound_extend, loops, tests_loop, sound_loop, links, tests_kind, sound_kind, there_of_tune, sound_tune}
-use Rattle.inverse_edits.proofs.UndoneBy.{IsTaken, IsUndone, undone_by}
+use Rattle.bank_edits.proofs.UndoneBy.{IsTaken, IsUndone, undone_by}
 
 -- ---- trim
 

@@ -27,7 +27,7 @@ use Rattle.bank_changes.specs.Zones.{zone_split, zone_joined, can_split, can_joi
 use Rattle.bank_changes.proofs.ZoneLaws.{zones_valid}
 use Rattle.edit_forms.specs.declared.step.Step.TheVariants.{SplitZone, JoinZone}
 use Rattle.edit_refusals.proofs.SplitLaws.{can_of_split_zone, tests_split_zone, sound_split_zone, can_of_join_zone, tests_join_zone, sound_join_zone}
-use Rattle.inverse_edits.proofs.UndoneBy.{IsTaken, IsUndone, undone_by}
+use Rattle.bank_edits.proofs.UndoneBy.{IsTaken, IsUndone, undone_by}
 
 -- ---- zones of a list of members
 

@@ -19,7 +19,7 @@ use Rattle.edit_refusals.proofs.Accepted.{not_below}
 use Rattle.edit_refusals.proofs.Moves.{tests_move, moves_back}
 use Rattle.edit_refusals.proofs.OwnerLaws.{tests_add}
 use Rattle.edit_refusals.proofs.PresetLaws.{preset_goes, sound_add_preset, there_of_remove_preset, sound_remove_preset, moves_preset, sound_move_preset, there_of_set_head}
-use Rattle.inverse_edits.proofs.UndoneBy.{IsTaken, IsUndone, undone_by}
+use Rattle.bank_edits.proofs.UndoneBy.{IsTaken, IsUndone, undone_by}
 
 -- ---- add-preset
 

@@ -1,8 +1,6 @@
 //! Undo restores: laws over banks and edits as data.
-#![tactic(auto)]
-
-ghost use Rattle.inverse_edits.specs.Undone.{UndoRestores};
-ghost use Rattle.inverse_edits.specs.Runs.{UndoRestoresAll};
+ghost use Rattle.bank_edits.specs.Undone.{UndoRestores};
+ghost use Rattle.bank_edits.specs.Runs.{UndoRestoresAll};
 
 /// Where a bank is sound and takes an edit, one step or a group of them, the changed bank is sound, it
 /// takes the edit's inverse, which gives the bank back, and the inverse of that is the edit.

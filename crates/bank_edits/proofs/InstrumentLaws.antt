@@ -20,7 +20,7 @@ use Rattle.edit_refusals.specs.declared.cause.Cause.TheVariants.{NoSuchInstrumen
 use Rattle.edit_refusals.proofs.Moves.{tests_move, moves_back}
 use Rattle.edit_refusals.proofs.OwnerLaws.{tests_add}
 use Rattle.edit_refusals.proofs.InstrumentLaws.{instrument_goes, sound_add_instrument, instrument_comes, sound_remove_instrument, there_of_rename_instrument, moves_instrument, sound_move_instrument}
-use Rattle.inverse_edits.proofs.UndoneBy.{IsTaken, IsUndone, undone_by}
+use Rattle.bank_edits.proofs.UndoneBy.{IsTaken, IsUndone, undone_by}
 
 -- ---- add-inst
 
