@@ -1,7 +1,7 @@
 //! Sessions on T: edits and a group that are taken back, and brought forth again.
 
 use bank_core::{InfoId, Owner};
-use edit_forms::{Edit, Step};
+use edit_forms::{Edit, SampleStep, Step, TextStep, ZoneStep};
 use edit_refusals::{Cause, Refusal};
 use edit_script::print;
 use edit_sessions::Session;
@@ -67,12 +67,12 @@ fn a_session_goes_back_and_forth(rt: HostRuntime) -> Result<(), Fail> {
     let (bank, _counts) = read(alloc, file.bytes())?;
     let mut session = Session::new(alloc, bank);
     let name = Name20::from_bytes(b"u")?;
-    let rename = Edit::One(Step::RenameSample { sample: 0, name });
+    let rename = Edit::One(Step::Sample(SampleStep::RenameSample { sample: 0, name }));
     assert!(rt; goes_back_and_forth(alloc, &mut session, rename));
     let (id, text) = (InfoId::Name, Lent::new(b"x"));
     assert!(rt;
         session
-            .edit(alloc, Edit::One(Step::SetInfo { id, text }))
+            .edit(alloc, Edit::One(Step::Text(TextStep::SetInfo { id, text })))
             .is_ok()
     );
     assert!(rt; is_last(alloc, &mut session));
@@ -82,12 +82,15 @@ fn a_session_goes_back_and_forth(rt: HostRuntime) -> Result<(), Fail> {
 
 /// Whether an edit that the bank refuses is returned, and leaves the edit that was taken back.
 fn leaves_the_redo(alloc: Global, session: &mut Session<'_>) -> bool {
-    let remove = Edit::One(Step::RemoveSample { sample: 1 });
+    let remove = Edit::One(Step::Sample(SampleStep::RemoveSample { sample: 1 }));
     let outcome = session.edit(alloc, remove);
     let refused = match &outcome {
-        Err((Refusal::Of(Cause::NoSuchSample), Edit::One(Step::RemoveSample { sample }))) => {
-            *sample == 1
-        }
+        Err(
+            (
+                Refusal::Of(Cause::NoSuchSample),
+                Edit::One(Step::Sample(SampleStep::RemoveSample { sample })),
+            ),
+        ) => { *sample == 1 }
         _ => false,
     };
     refused && stands(alloc, session, &tone(), b"") && session.redo(alloc).is_ok()
@@ -99,7 +102,7 @@ fn a_refused_edit_leaves_what_is_to_redo(rt: HostRuntime) -> Result<(), Fail> {
     let (bank, _counts) = read(alloc, file.bytes())?;
     let mut session = Session::new(alloc, bank);
     let name = Name20::from_bytes(b"u")?;
-    let rename = Edit::One(Step::RenameSample { sample: 0, name });
+    let rename = Edit::One(Step::Sample(SampleStep::RenameSample { sample: 0, name }));
     assert!(rt; session.edit(alloc, rename).is_ok());
     assert!(rt; session.undo(alloc).is_ok());
     assert!(rt; leaves_the_redo(alloc, &mut session));
@@ -142,11 +145,8 @@ fn silent() -> File {
 /// The edits that take T's zone and sample out.
 fn removals(alloc: Global) -> Result<Edit<'static>, OutOfMemory> {
     let mut steps = Vec::new(alloc);
-    steps.push(Step::RemoveZone {
-        owner: Owner::Instrument(0),
-        zone: 0,
-    })?;
-    steps.push(Step::RemoveSample { sample: 0 })?;
+    steps.push(Step::Zone(Owner::Instrument(0), ZoneStep::RemoveZone { zone: 0 }))?;
+    steps.push(Step::Sample(SampleStep::RemoveSample { sample: 0 }))?;
     Ok(Edit::Group(NumberedList::from_vec(steps)))
 }
 

@@ -1,6 +1,6 @@
 //! Edits that are printed, and copies of their steps.
 
-use edit_forms::{Edit, Step};
+use edit_forms::{Edit, SampleStep, Step};
 use edit_script::{parse, pool_of, print};
 use sf_base::Name20;
 use std::alloc::Global;
@@ -30,7 +30,7 @@ fn edits_are_printed_and_copied(rt: HostRuntime) -> Result<(), Fail> {
     let alloc = rt.alloc();
     let name = Name20::from_bytes(b"say \"a\"")?;
     let sample = u32::MAX;
-    let rename = Edit::One(Step::RenameSample { sample, name });
+    let rename = Edit::One(Step::Sample(SampleStep::RenameSample { sample, name }));
     assert!(rt;
         is_printed(
             alloc,

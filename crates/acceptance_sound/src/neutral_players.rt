@@ -2,7 +2,7 @@
 ghost use Rattle.std.specs.Prelude.{◌≡◌, ◌%◌};
 
 use bank_core::{Bank, Owner};
-use edit_forms::{Axis, Edit, Step};
+use edit_forms::{Axis, Edit, Step, ZoneStep};
 use mixer::Player;
 use neutral_edits::{apply_neutral, is_neutral};
 use note_list::Note;
@@ -32,17 +32,15 @@ fn is_done<'a>(alloc: Global, bank: &mut Bank<'a>, step: Step<'a>) -> bool {
 // Splits the one zone of the instrument, and turns the halves around.
 fn is_split_and_turned(alloc: Global, bank: &mut Bank<'_>) -> bool {
     let owner = Owner::Instrument(0);
-    let split = Step::SplitZone {
+    let split = Step::Zone(
         owner,
-        zone: 0,
-        axis: Axis::Key,
-        at: 60,
-    };
-    let turn = Step::MoveZone {
-        owner,
-        from: 0,
-        to: 1,
-    };
+        ZoneStep::SplitZone {
+            zone: 0,
+            axis: Axis::Key,
+            at: 60,
+        },
+    );
+    let turn = Step::Zone(owner, ZoneStep::MoveZone { from: 0, to: 1 });
     is_done(alloc, bank, split) && is_done(alloc, bank, turn)
 }
 

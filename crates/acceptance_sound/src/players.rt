@@ -2,7 +2,7 @@
 
 use crate::started_voices::{THREE, file_of};
 use bank_core::{Bank, Owner, Place};
-use bank_edits::{Edit, Step, apply};
+use bank_edits::{Edit, PointStep, SettingStep, Step, ZoneStep, apply};
 use mixer::Player;
 use note_list::Note;
 use sample_view::Points;
@@ -33,29 +33,21 @@ fn step_of<'a>(alloc: Global, act: Act) -> Result<Option<Step<'a>>, Fail> {
     let owner = Owner::Instrument(0);
     Ok(match act {
         Act::Start(_, _) | Act::Block(_) => None,
-        Act::Trim => Some(Step::Trim {
-            sample: 0,
-            front: 1,
-            back: 0,
-        }),
+        Act::Trim => Some(Step::Points(0, PointStep::Trim { front: 1, back: 0 })),
         Act::Extend => Some(extension(alloc)?),
-        Act::RemoveZone => Some(Step::RemoveZone { owner, zone: 0 }),
-        Act::ClearClass => Some(Step::ClearGen {
+        Act::RemoveZone => Some(Step::Zone(owner, ZoneStep::RemoveZone { zone: 0 })),
+        Act::ClearClass => Some(Step::Setting(
             owner,
-            place: Place::Zone(0),
-            operator: 57,
-        }),
+            Place::Zone(0),
+            SettingStep::ClearGen { operator: 57 },
+        )),
     })
 }
 
 fn extension<'a>(alloc: Global) -> Result<Step<'a>, Fail> {
     let front = Points::of_slice(alloc, &[11, 0])?;
     let back = Points::of_slice(alloc, &[12, 0])?;
-    Ok(Step::Extend {
-        sample: 0,
-        front,
-        back,
-    })
+    Ok(Step::Points(0, PointStep::Extend { front, back }))
 }
 
 /// Whether the act's edit is done, if it makes one.

@@ -8,7 +8,6 @@ mod points;
 mod presets;
 mod samples;
 mod settings;
-mod splits;
 mod texts;
 mod totals;
 mod zones;
@@ -20,7 +19,9 @@ pub use points::{extend_sample, set_kind, set_loop, set_tune, trim_sample};
 pub use presets::{add_preset, move_preset, remove_preset, set_head};
 pub use samples::{add_sample, move_sample, remove_sample, rename_sample};
 pub use settings::{add_mod, clear_gen, records_there, remove_mod, set_gen, set_mod};
-pub use splits::{join_records, join_zone, split_records, split_zone};
 pub use texts::set_info;
 pub use totals::{broken_with_records, recounted, with_records, without_records};
-pub use zones::{add_zone, move_zone, remove_zone, set_target};
+pub use zones::{
+    add_zone, join_records, join_zone, move_zone, remove_zone, set_target, split_records,
+    split_zone,
+};

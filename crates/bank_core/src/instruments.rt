@@ -23,8 +23,8 @@ impl<'a> Bank<'a> {
     }
 
     /// Makes an instrument number `number`. The instruments from there on get the next number each, and
-    /// what names them follows; at the end of the list nothing does, and no preset is touched. For want
-    /// of memory the bank stays as it is, and the instrument comes back.
+    /// what names them follows; at the end of the list nothing does, and no preset is touched. When out of
+    /// memory, the bank stays as it is, and the instrument comes back.
     pub fn add_instrument(&mut self, number: u32, instrument: Instrument) -> Result<(), Instrument>
         requires place { number ≤ length self.old.instruments }
         requires sound { IsSound (instrument_added self.old number instrument) }

@@ -11,7 +11,6 @@ mod presets;
 mod records;
 mod samples;
 mod settings;
-mod splits;
 mod texts;
 mod zone_changes;
 mod zones;

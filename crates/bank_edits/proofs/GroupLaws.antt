@@ -3,10 +3,10 @@ use Rattle.std.proofs.Common.{◌≡◌, ◌<◌, ◌+◌, ℕ, suc, List, [], �
 use Rattle.std.proofs.lemmas.List.{reverse-append}
 use Rattle.bank_parts.specs.declared.parts.Parts.{Parts}
 use Rattle.edit_forms.specs.declared.step.Step.{Step}
-use Rattle.edit_refusals.specs.Steps.{raw, refusal}
+use Rattle.edit_forms.specs.Steps.{raw, refusal}
 use Rattle.edit_refusals.specs.Sequences.{after_all, undo_list}
 use Rattle.edit_refusals.specs.Edits.{first_refused}
-use Rattle.bank_edits.specs.StepChanges.{inverse}
+use Rattle.edit_forms.specs.Steps.{inverse}
 use Rattle.bank_edits.specs.GroupChanges.{IsStepDone}
 
 -- What the steps make of the first bank is what those that are left, the first of which is number `n`,

@@ -6,12 +6,12 @@ use Rattle.bank_parts.specs.declared.parts.Parts.{Parts}
 use Rattle.edit_forms.specs.declared.step.Step.{Step}
 use Rattle.edit_forms.specs.declared.edit.Edit.TheVariants.{One, Group}
 use Rattle.edit_forms.specs.Fits.{FitsStep}
-use Rattle.edit_refusals.specs.declared.cause.Cause.{Cause}
+use Rattle.edit_forms.specs.declared.cause.Cause.{Cause}
 use Rattle.edit_refusals.specs.declared.refusal.Refusal.{Refusal}
 use Rattle.edit_refusals.specs.declared.refusal.Refusal.TheVariants.{Of}
-use Rattle.edit_refusals.specs.Steps.{raw, refusal}
+use Rattle.edit_forms.specs.Steps.{raw, refusal}
 use Rattle.edit_refusals.specs.Edits.{or_later, first_refused}
-use Rattle.bank_edits.specs.StepChanges.{inverse}
+use Rattle.edit_forms.specs.Steps.{inverse}
 use Rattle.bank_edits.specs.Undoing.{AllTakenBy}
 use Rattle.bank_edits.specs.Undone as edits
 use Rattle.bank_edits.proofs.UndoneBy.{IsTaken}

@@ -1,4 +1,3 @@
-pub mod InverseLaws
 pub mod GroupLaws
 pub mod UndoneBy
 pub mod PresetLaws
@@ -7,9 +6,7 @@ pub mod SampleLaws
 pub mod PointLaws
 pub mod TextLaws
 pub mod ZoneLaws
-pub mod ModulatorLaws
 pub mod SettingLaws
-pub mod SplitLaws
 pub mod StepLaw
 pub mod SequenceLaw
 pub mod Law

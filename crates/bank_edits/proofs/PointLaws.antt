@@ -1,5 +1,5 @@
 -- Undo restores, for the forms that edit one sample's points, loop, kind or pitch.
-use Rattle.std.proofs.Common.{◌≡◌, ◌<◌, ◌≤◌, ◌+◌, ◌-◌, ◌^◌, ℕ, ℤ, List, length, take, drop, slice_get, Option, Some, refl, ap, arith}
+use Rattle.std.proofs.Common.{◌≡◌, ◌<◌, ◌≤◌, ◌+◌, ◌-◌, ◌^◌, ℕ, ℤ, List, length, take, drop, slice_get, Option, Some, refl, ap, arith, FitsSigned, w8}
 use Rattle.std.proofs.lemmas.List.Elements.{All-take, All-drop, All-from_recursion, recursion_from_All}
 use Rattle.sample_view.specs.Words.{AreWords}
 use Rattle.numbered_lists.proofs.Lists.{slice_get-found, slice_get-changed, changed-back}
@@ -9,10 +9,46 @@ use Rattle.bank_parts.specs.declared.parts.Parts.{Parts}
 use Rattle.bank_parts.specs.Sound.{IsSound}
 use Rattle.bank_changes.specs.Points.{points_of, loop_of, trimmed, extended, looped_as, of_kind, tuned, sample_trimmed, sample_extended, loop_set, kind_set, tune_set}
 use Rattle.bank_changes.proofs.PointLaws.{OutsideLoop, there_valid, there_fits, length-sample_changed, length-extended, few_points, length-front, length-back, trim_returned, front_cut, back_cut, extension_returned, extension_outside}
-use Rattle.edit_forms.specs.declared.step.Step.TheVariants.{Trim, Extend, SetLoop, SetKind, SetTune}
+use Rattle.edit_forms.specs.declared.points.PointStep.TheVariants.{Trim, Extend, SetLoop, SetKind, SetTune}
+use Rattle.edit_forms.specs.declared.step.Step.TheVariants as steps
 use Rattle.edit_refusals.proofs.Accepted.{accepted, not_below}
 use Rattle.edit_refusals.proofs.PointLaws.{trims, tests_trim, sound_trim, there_of_extend, sound_extend, loops, tests_loop, sound_loop, links, tests_kind, sound_kind, there_of_tune, sound_tune}
 use Rattle.bank_edits.proofs.UndoneBy.{IsTaken, IsUndone, undone_by}
+use Rattle.edit_forms.specs.declared.points.PointStep.{PointStep}
+use Rattle.std.specs.Prelude.{slice_get, IfSome}
+use Rattle.edit_forms.specs.Steps.{inverse}
+
+-- ---- what the bank returns of what it replaced or took out makes the step that takes the change back
+
+module _ (b : Parts) (i : ℕ) (lt : i < length b.samples) where
+  pub inverse_of_set_loop : (looped old : Option (ℕ × ℕ)) → IfSome (slice_get b.samples i) (λ (s : Sample). old ≡ s.looped) → steps.Points i (SetLoop old) ≡ inverse b (steps.Points i (SetLoop looped))
+  inverse_of_set_loop looped old h =
+      let (s, e) = slice_get-found b.samples i lt in
+      let same : old ≡ s.looped = rw e at h in
+      rw e (ap (λ (l : Option (ℕ × ℕ)). steps.Points i (SetLoop l)) same)
+
+  pub inverse_of_set_kind : (kind old : Kind) → IfSome (slice_get b.samples i) (λ (s : Sample). old ≡ s.kind) → steps.Points i (SetKind old) ≡ inverse b (steps.Points i (SetKind kind))
+  inverse_of_set_kind kind old h =
+      let (s, e) = slice_get-found b.samples i lt in
+      let same : old ≡ s.kind = rw e at h in
+      rw e (ap (λ (k : Kind). steps.Points i (SetKind k)) same)
+
+  pub correction_fits : IsSound b → (old : ℤ) → IfSome (slice_get b.samples i) (λ (s : Sample). old ≡ s.correction) → FitsSigned w8 old
+  correction_fits sound old h =
+      let (s, e) = slice_get-found b.samples i lt in
+      let same : old ≡ s.correction = rw e at h in
+      let fits = there_fits b i s e sound in
+      rw same fits.correction
+
+  pub inverse_of_set_tune : (rate key : ℕ) (correction : ℤ) (old_rate old_key : ℕ) (old_correction : ℤ) → IfSome (slice_get b.samples i) (λ (s : Sample). old_rate ≡ s.rate)
+      → IfSome (slice_get b.samples i) (λ (s : Sample). old_key ≡ s.key) → IfSome (slice_get b.samples i) (λ (s : Sample). old_correction ≡ s.correction)
+      → steps.Points i (SetTune old_rate old_key old_correction) ≡ inverse b (steps.Points i (SetTune rate key correction))
+  inverse_of_set_tune rate key correction old_rate old_key old_correction r k c =
+      let (s, e) = slice_get-found b.samples i lt in
+      let same_rate : old_rate ≡ s.rate = rw e at r in
+      let same_key : old_key ≡ s.key = rw e at k in
+      let same_correction : old_correction ≡ s.correction = rw e at c in
+      rw e (λ i2. steps.Points i (SetTune (same_rate i2) (same_key i2) (same_correction i2)))
 
 -- ---- trim
 
@@ -24,9 +60,9 @@ last_fit : (points : List ℕ) (n : ℕ) → AreWords points → AreWords (drop 
 last_fit points n h =
     let P : ℕ → Type 0 = λ p. p < 2 ^ 16 in recursion_from_All P (drop n points) (All-drop P n points (All-from_recursion P points h))
 
-pub undone_trim : (b : Parts) (i front back : ℕ) → IsSound b → IsTaken b (Trim i front back) → IsUndone b (Trim i front back)
+pub undone_trim : (b : Parts) (i front back : ℕ) → IsSound b → IsTaken b (steps.Points i (Trim front back)) → IsUndone b (steps.Points i (Trim front back))
 undone_trim b i front back s t =
-    let c = trims b i front back (accepted b (Trim i front back) t.accepted).tests in
+    let c = trims b i front back (accepted b (steps.Points i (Trim front back)) t.accepted).tests in
     let lt = c.there in
     let (x, e) = slice_get-found b.samples i lt in
     let inside : front + back ≤ length x.points = rw e at c.inside in
@@ -34,52 +70,52 @@ undone_trim b i front back s t =
     let size = length-sample_changed b i (trimmed front back) x e in
     let v = there_valid b i x e s in
     let g = there_fits b i x e s in
-    undone_by b (Trim i front back) (Extend i (take front x.points) (drop (length x.points - back) x.points)) s (record {
+    undone_by b (steps.Points i (Trim front back)) (steps.Points i (Extend (take front x.points) (drop (length x.points - back) x.points))) s (record {
       is = rw e refl;
       sound = sound_trim b i front back s c;
-      fits = (t.fits.0, first_fit x.points front g.points, last_fit x.points (length x.points - back) g.points);
+      fits = (t.fits.0, (first_fit x.points front g.points, last_fit x.points (length x.points - back) g.points));
       tests = (not_below (length (sample_trimmed b i front back).samples) i (omega (arith, size, lt)), tt);
       restored = ap (λ (samples : List Sample). record b { samples = samples })
           (changed-back b.samples i (trimmed front back) (extended (take front x.points) (drop (length x.points - back) x.points)) x e (trim_returned front back x inside outside v.looped));
-      redone = λ k. Trim i (length-front front back x inside k) (length-back front back x inside k);
+      redone = λ k. steps.Points i (Trim (length-front front back x inside k) (length-back front back x inside k));
     })
 
 -- ---- extend
 
-pub undone_extend : (b : Parts) (i : ℕ) (front back : List ℕ) → IsSound b → IsTaken b (Extend i front back) → IsUndone b (Extend i front back)
+pub undone_extend : (b : Parts) (i : ℕ) (front back : List ℕ) → IsSound b → IsTaken b (steps.Points i (Extend front back)) → IsUndone b (steps.Points i (Extend front back))
 undone_extend b i front back s t =
     let lt = there_of_extend b i front back t.accepted in
     let (x, e) = slice_get-found b.samples i lt in
     let then_is : slice_get (sample_extended b i front back).samples i ≡ Some (extended front back x) = slice_get-changed b.samples i (extended front back) x e in
     let size = length-sample_changed b i (extended front back) x e in
     let more = length-extended front back x in
-    let few = few_points b i front back x e (accepted b (Extend i front back) t.accepted).limits in
+    let few = few_points b i front back x e (accepted b (steps.Points i (Extend front back)) t.accepted).limits in
     let v = there_valid b i x e s in
     let inside : length front + length back ≤ length (points_of (sample_extended b i front back) i) = rw then_is (omega (arith, more)) in
     let outside : OutsideLoop (length (points_of (sample_extended b i front back) i)) (length front) (length back) (loop_of (sample_extended b i front back) i) =
     rw then_is (extension_outside front back x v.looped) in
-    undone_by b (Extend i front back) (Trim i (length front) (length back)) s (record {
+    undone_by b (steps.Points i (Extend front back)) (steps.Points i (Trim (length front) (length back))) s (record {
       is = refl;
-      sound = sound_extend b i front back s t.fits.1 t.fits.2 t.accepted;
-      fits = (t.fits.0, omega (arith, few, more), omega (arith, few, more));
+      sound = sound_extend b i front back s t.fits.1.0 t.fits.1.1 t.accepted;
+      fits = (t.fits.0, (omega (arith, few, more), omega (arith, few, more)));
       tests = tests_trim (sample_extended b i front back) i (length front) (length back) (record { there = omega (arith, size, lt); inside = inside; outside = outside });
       restored = ap (λ (samples : List Sample). record b { samples = samples })
           (changed-back b.samples i (extended front back) (trimmed (length front) (length back)) x e (extension_returned front back x));
-      redone = rw then_is (λ k. Extend i (front_cut front back x k) (back_cut front back x k));
+      redone = rw then_is (λ k. steps.Points i (Extend (front_cut front back x k) (back_cut front back x k)));
     })
 
 -- ---- set-loop
 
-pub undone_set_loop : (b : Parts) (i : ℕ) (looped : Option (ℕ × ℕ)) → IsSound b → IsTaken b (SetLoop i looped) → IsUndone b (SetLoop i looped)
+pub undone_set_loop : (b : Parts) (i : ℕ) (looped : Option (ℕ × ℕ)) → IsSound b → IsTaken b (steps.Points i (SetLoop looped)) → IsUndone b (steps.Points i (SetLoop looped))
 undone_set_loop b i looped s t =
-    let l = loops b i looped (accepted b (SetLoop i looped) t.accepted).tests in
+    let l = loops b i looped (accepted b (steps.Points i (SetLoop looped)) t.accepted).tests in
     let lt = l.there in
     let (x, e) = slice_get-found b.samples i lt in
     let then_is = slice_get-changed b.samples i (looped_as looped) x e in
     let size = length-sample_changed b i (looped_as looped) x e in
     let v = there_valid b i x e s in
     let g = there_fits b i x e s in
-    undone_by b (SetLoop i looped) (SetLoop i x.looped) s (record {
+    undone_by b (steps.Points i (SetLoop looped)) (steps.Points i (SetLoop x.looped)) s (record {
       is = rw e refl;
       sound = sound_loop b i looped s l;
       fits = (t.fits.0, g.looped);
@@ -90,16 +126,16 @@ undone_set_loop b i looped s t =
 
 -- ---- set-kind
 
-pub undone_set_kind : (b : Parts) (i : ℕ) (kind : Kind) → IsSound b → IsTaken b (SetKind i kind) → IsUndone b (SetKind i kind)
+pub undone_set_kind : (b : Parts) (i : ℕ) (kind : Kind) → IsSound b → IsTaken b (steps.Points i (SetKind kind)) → IsUndone b (steps.Points i (SetKind kind))
 undone_set_kind b i kind s t =
-    let l = links b i kind (accepted b (SetKind i kind) t.accepted).tests in
+    let l = links b i kind (accepted b (steps.Points i (SetKind kind)) t.accepted).tests in
     let lt = l.there in
     let (x, e) = slice_get-found b.samples i lt in
     let then_is = slice_get-changed b.samples i (of_kind kind) x e in
     let size = length-sample_changed b i (of_kind kind) x e in
     let v = there_valid b i x e s in
     let g = there_fits b i x e s in
-    undone_by b (SetKind i kind) (SetKind i x.kind) s (record {
+    undone_by b (steps.Points i (SetKind kind)) (steps.Points i (SetKind x.kind)) s (record {
       is = rw e refl;
       sound = sound_kind b i kind s l;
       fits = (t.fits.0, g.kind);
@@ -110,18 +146,27 @@ undone_set_kind b i kind s t =
 
 -- ---- set-tune
 
-pub undone_set_tune : (b : Parts) (i rate key : ℕ) (correction : ℤ) → IsSound b → IsTaken b (SetTune i rate key correction) → IsUndone b (SetTune i rate key correction)
+pub undone_set_tune : (b : Parts) (i rate key : ℕ) (correction : ℤ) → IsSound b → IsTaken b (steps.Points i (SetTune rate key correction)) → IsUndone b (steps.Points i (SetTune rate key correction))
 undone_set_tune b i rate key correction s t =
     let lt = there_of_tune b i rate key correction t.accepted in
     let (x, e) = slice_get-found b.samples i lt in
     let then_is = slice_get-changed b.samples i (tuned rate key correction) x e in
     let size = length-sample_changed b i (tuned rate key correction) x e in
     let g = there_fits b i x e s in
-    undone_by b (SetTune i rate key correction) (SetTune i x.rate x.key x.correction) s (record {
+    undone_by b (steps.Points i (SetTune rate key correction)) (steps.Points i (SetTune x.rate x.key x.correction)) s (record {
       is = rw e refl;
-      sound = sound_tune b i rate key correction s t.fits.1 t.fits.2 t.fits.3 lt;
-      fits = (t.fits.0, g.rate, g.key, g.correction);
+      sound = sound_tune b i rate key correction s t.fits.1.0 t.fits.1.1 t.fits.1.2 lt;
+      fits = (t.fits.0, (g.rate, g.key, g.correction));
       tests = (not_below (length (tune_set b i rate key correction).samples) i (omega (arith, size, lt)), tt);
       restored = ap (λ (samples : List Sample). record b { samples = samples }) (changed-back b.samples i (tuned rate key correction) (tuned x.rate x.key x.correction) x e refl);
       redone = rw then_is refl;
     })
+
+-- ---- all of them
+
+pub undone_points : (b : Parts) (i : ℕ) (s : PointStep) → IsSound b → IsTaken b (steps.Points i s) → IsUndone b (steps.Points i s)
+undone_points b i (Trim front back) = undone_trim b i front back
+undone_points b i (Extend front back) = undone_extend b i front back
+undone_points b i (SetLoop looped) = undone_set_loop b i looped
+undone_points b i (SetKind kind) = undone_set_kind b i kind
+undone_points b i (SetTune rate key correction) = undone_set_tune b i rate key correction

@@ -13,22 +13,32 @@ use Rattle.bank_parts.specs.Sound.{IsSound}
 use Rattle.bank_changes.specs.Presets.{preset_added, preset_removed, head_set}
 use Rattle.bank_changes.proofs.Changes.{all_found}
 use Rattle.bank_changes.proofs.PresetLaws.{length-preset_moved, length-head_set, head_set_sound, read_head_set, restored_added_preset, restored_removed_preset, restored_preset_moved, restored_head_set}
-use Rattle.edit_forms.specs.declared.step.Step.TheVariants.{AddPreset, RemovePreset, MovePreset, SetHead}
-use Rattle.edit_refusals.specs.declared.cause.Cause.TheVariants.{NoSuchPreset, NoSuchInstrument}
+use Rattle.edit_forms.specs.declared.presets.PresetStep.TheVariants.{AddPreset, RemovePreset, MovePreset, SetHead}
+use Rattle.edit_forms.specs.declared.step.Step.TheVariants as steps
+use Rattle.edit_forms.specs.declared.cause.Cause.TheVariants.{NoSuchPreset, NoSuchInstrument}
 use Rattle.edit_refusals.proofs.Accepted.{not_below}
 use Rattle.edit_refusals.proofs.Moves.{tests_move, moves_back}
 use Rattle.edit_refusals.proofs.OwnerLaws.{tests_add}
 use Rattle.edit_refusals.proofs.PresetLaws.{preset_goes, sound_add_preset, there_of_remove_preset, sound_remove_preset, moves_preset, sound_move_preset, there_of_set_head}
 use Rattle.bank_edits.proofs.UndoneBy.{IsTaken, IsUndone, undone_by}
+use Rattle.edit_forms.specs.declared.presets.PresetStep.{PresetStep}
+use Rattle.bank_parts.specs.Owners.{head_at}
+use Rattle.edit_forms.specs.Steps.{inverse}
+
+-- ---- what the bank returns of what it replaced or took out makes the step that takes the change back
+
+pub inverse_of_set_head : (b : Parts) (i : ℕ) (name : List ℕ) (number bank : ℕ) (old : Head) → head_at b.presets i ≡ Some old
+    → steps.Preset (SetHead i old.name old.number old.bank) ≡ inverse b (steps.Preset (SetHead i name number bank))
+inverse_of_set_head b i name number bank old e = rw e refl
 
 -- ---- add-preset
 
-pub undone_add_preset : (b : Parts) (i : ℕ) (p : WithZones Head) → IsSound b → IsTaken b (AddPreset i p) → IsUndone b (AddPreset i p)
+pub undone_add_preset : (b : Parts) (i : ℕ) (p : WithZones Head) → IsSound b → IsTaken b (steps.Preset (AddPreset i p)) → IsUndone b (steps.Preset (AddPreset i p))
 undone_add_preset b i p s t =
     let le = (preset_goes b i p t.fits.1 t.accepted).place in
     let size = length-insert b.presets i p le in
     let there : slice_get (preset_added b i p).presets i ≡ Some p = slice_get-insert b.presets i p le in
-    undone_by b (AddPreset i p) (RemovePreset i) s (record {
+    undone_by b (steps.Preset (AddPreset i p)) (steps.Preset (RemovePreset i)) s (record {
       is = refl;
       sound = sound_add_preset b i p s t.fits.1 t.accepted;
       fits = t.fits.0;
@@ -39,13 +49,13 @@ undone_add_preset b i p s t =
 
 -- ---- remove-preset
 
-pub undone_remove_preset : (b : Parts) (i : ℕ) → IsSound b → IsTaken b (RemovePreset i) → IsUndone b (RemovePreset i)
+pub undone_remove_preset : (b : Parts) (i : ℕ) → IsSound b → IsTaken b (steps.Preset (RemovePreset i)) → IsUndone b (steps.Preset (RemovePreset i))
 undone_remove_preset b i s t =
     let lt = there_of_remove_preset b i t.accepted in
     let (p, e) = slice_get-found b.presets i lt in
     let less = length-remove b.presets i lt in
     let is = all_found (IsPreset (length b.instruments)) b.presets i p e s.valid.presets in
-    undone_by b (RemovePreset i) (AddPreset i p) s (record {
+    undone_by b (steps.Preset (RemovePreset i)) (steps.Preset (AddPreset i p)) s (record {
       is = rw e refl;
       sound = sound_remove_preset b i s t.accepted;
       fits = (t.fits, all_found (FitsOwner FitsHead) b.presets i p e s.fits.presets);
@@ -56,11 +66,11 @@ undone_remove_preset b i s t =
 
 -- ---- move-preset
 
-pub undone_move_preset : (b : Parts) (i j : ℕ) → IsSound b → IsTaken b (MovePreset i j) → IsUndone b (MovePreset i j)
+pub undone_move_preset : (b : Parts) (i j : ℕ) → IsSound b → IsTaken b (steps.Preset (MovePreset i j)) → IsUndone b (steps.Preset (MovePreset i j))
 undone_move_preset b i j s t =
     let m = moves_preset b i j t.accepted in
     let back = moves_back m (sym (length-preset_moved b i j m.there m.place)) in
-    undone_by b (MovePreset i j) (MovePreset j i) s (record {
+    undone_by b (steps.Preset (MovePreset i j)) (steps.Preset (MovePreset j i)) s (record {
       is = refl;
       sound = sound_move_preset b i j s t.accepted;
       fits = (t.fits.1, t.fits.0);
@@ -71,13 +81,13 @@ undone_move_preset b i j s t =
 
 -- ---- set-head
 
-pub undone_set_head : (b : Parts) (i : ℕ) (name : List ℕ) (number bank : ℕ) → IsSound b → IsTaken b (SetHead i name number bank) → IsUndone b (SetHead i name number bank)
+pub undone_set_head : (b : Parts) (i : ℕ) (name : List ℕ) (number bank : ℕ) → IsSound b → IsTaken b (steps.Preset (SetHead i name number bank)) → IsUndone b (steps.Preset (SetHead i name number bank))
 undone_set_head b i name number bank s t =
     let lt = there_of_set_head b i name number bank t.accepted in
     let (x, e) = slice_get-found b.presets i lt in
     let same = length-head_set b i name number bank in
     let was = (all_found (FitsOwner FitsHead) b.presets i x e s.fits.presets).head in
-    undone_by b (SetHead i name number bank) (SetHead i x.head.name x.head.number x.head.bank) s (record {
+    undone_by b (steps.Preset (SetHead i name number bank)) (steps.Preset (SetHead i x.head.name x.head.number x.head.bank)) s (record {
       is = rw e refl;
       sound = head_set_sound b i name number bank s t.fits.1 t.fits.2 t.fits.3;
       fits = (t.fits.0, was.name, was.number, was.bank);
@@ -85,3 +95,11 @@ undone_set_head b i name number bank s t =
       restored = restored_head_set b i name number bank x e;
       redone = let now = read_head_set b i name number bank x e in rw now refl;
     })
+
+-- ---- all of them
+
+pub undone_preset : (b : Parts) (s : PresetStep) → IsSound b → IsTaken b (steps.Preset s) → IsUndone b (steps.Preset s)
+undone_preset b (AddPreset i p) = undone_add_preset b i p
+undone_preset b (RemovePreset i) = undone_remove_preset b i
+undone_preset b (MovePreset i j) = undone_move_preset b i j
+undone_preset b (SetHead p name number bank) = undone_set_head b p name number bank

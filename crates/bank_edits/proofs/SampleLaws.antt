@@ -1,8 +1,8 @@
 -- Undo restores, for the forms that edit samples.
-use Rattle.std.proofs.Common.{◌≡◌, ◌≤◌, ◌+◌, ℕ, List, length, map, remove, Some, refl, sym, ap, arith}
+use Rattle.std.proofs.Common.{◌≡◌, ◌≤◌, ◌+◌, ℕ, List, length, map, remove, Some, refl, sym, ap, arith, ◌<◌}
 use Rattle.std.proofs.lemmas.List.{length-map}
 use Rattle.std.proofs.lemmas.List.Edits.{length-insert, length-remove}
-use Rattle.std.specs.Prelude.{slice_get}
+use Rattle.std.specs.Prelude.{slice_get, IfSome}
 use Rattle.numbered_lists.specs.declared.renumbering.Renumbering.TheVariants.{Insertion, Removal}
 use Rattle.numbered_lists.proofs.Lists.{slice_get-found, slice_get-insert, slice_get-changed, length-changed, changed-back}
 use Rattle.bank_parts.specs.declared.parts.Sample.{Sample}
@@ -14,21 +14,33 @@ use Rattle.bank_parts.specs.Sound.{IsSound}
 use Rattle.bank_changes.specs.Samples.{named, sample_renamed, sample_added, sample_removed}
 use Rattle.bank_changes.proofs.Changes.{all_found}
 use Rattle.bank_changes.proofs.SampleLaws.{renamed_sound, restored_added, restored_removed, restored_moved, added_unused, length-sample_moved}
-use Rattle.edit_forms.specs.declared.step.Step.TheVariants.{RenameSample, AddSample, RemoveSample, MoveSample}
+use Rattle.edit_forms.specs.declared.samples.SampleStep.TheVariants.{RenameSample, AddSample, RemoveSample, MoveSample}
+use Rattle.edit_forms.specs.declared.step.Step.TheVariants as steps
 use Rattle.edit_refusals.proofs.Accepted.{accepted, not_below}
 use Rattle.edit_refusals.proofs.SampleLaws.{there_of_rename, goes_in, tests_add, sound_add, comes_out, sound_remove, moves_sample, sound_move_sample}
-use Rattle.edit_refusals.specs.declared.cause.Cause.TheVariants.{NoSuchSample}
+use Rattle.edit_forms.specs.declared.cause.Cause.TheVariants.{NoSuchSample}
 use Rattle.edit_refusals.proofs.Moves.{tests_move, moves_back}
 use Rattle.bank_edits.proofs.UndoneBy.{IsTaken, IsUndone, undone_by}
+use Rattle.edit_forms.specs.declared.samples.SampleStep.{SampleStep}
+use Rattle.edit_forms.specs.Steps.{inverse}
+
+-- ---- what the bank returns of what it replaced or took out makes the step that takes the change back
+
+pub inverse_of_rename : (b : Parts) (i : ℕ) (name old : List ℕ) → i < length b.samples → IfSome (slice_get b.samples i) (λ (s : Sample). old ≡ s.name)
+    → steps.Sample (RenameSample i old) ≡ inverse b (steps.Sample (RenameSample i name))
+inverse_of_rename b i name old lt h =
+    let (s, e) = slice_get-found b.samples i lt in
+    let same : old ≡ s.name = rw e at h in
+    rw e (ap (λ (n : List ℕ). steps.Sample (RenameSample i n)) same)
 
 -- ---- rename-sample
 
-pub undone_rename : (b : Parts) (i : ℕ) (name : List ℕ) → IsSound b → IsTaken b (RenameSample i name) → IsUndone b (RenameSample i name)
+pub undone_rename : (b : Parts) (i : ℕ) (name : List ℕ) → IsSound b → IsTaken b (steps.Sample (RenameSample i name)) → IsUndone b (steps.Sample (RenameSample i name))
 undone_rename b i name s t =
     let lt = there_of_rename b i name t.accepted in
     let (x, e) = slice_get-found b.samples i lt in
     let same = length-changed b.samples i (named name) in
-    undone_by b (RenameSample i name) (RenameSample i x.name) s (record {
+    undone_by b (steps.Sample (RenameSample i name)) (steps.Sample (RenameSample i x.name)) s (record {
       is = rw e refl;
       sound = renamed_sound b i name s t.fits.1;
       fits = (t.fits.0, (all_found FitsSample b.samples i x e s.fits.samples).name);
@@ -39,16 +51,16 @@ undone_rename b i name s t =
 
 -- ---- add-sample
 
-pub undone_add : (b : Parts) (i : ℕ) (x : Sample) → IsSound b → IsTaken b (AddSample i x) → IsUndone b (AddSample i x)
+pub undone_add : (b : Parts) (i : ℕ) (x : Sample) → IsSound b → IsTaken b (steps.Sample (AddSample i x)) → IsUndone b (steps.Sample (AddSample i x))
 undone_add b i x s t =
-    let g = goes_in b i x (accepted b (AddSample i x) t.accepted).tests in
+    let g = goes_in b i x (accepted b (steps.Sample (AddSample i x)) t.accepted).tests in
     let le = g.place in
     let others = map (sample_renumbered (Insertion i)) b.samples in
     let same = length-map b.samples (sample_renumbered (Insertion i)) in
     let inside : i ≤ length others = omega (arith, same, le) in
     let size = length-insert others i x inside in
     let there : slice_get (sample_added b i x).samples i ≡ Some x = slice_get-insert others i x inside in
-    undone_by b (AddSample i x) (RemoveSample i) s (record {
+    undone_by b (steps.Sample (AddSample i x)) (steps.Sample (RemoveSample i)) s (record {
       is = refl;
       sound = sound_add b i x s t.fits.1 t.accepted;
       fits = t.fits.0;
@@ -59,9 +71,9 @@ undone_add b i x s t =
 
 -- ---- remove-sample
 
-pub undone_remove : (b : Parts) (i : ℕ) → IsSound b → IsTaken b (RemoveSample i) → IsUndone b (RemoveSample i)
+pub undone_remove : (b : Parts) (i : ℕ) → IsSound b → IsTaken b (steps.Sample (RemoveSample i)) → IsUndone b (steps.Sample (RemoveSample i))
 undone_remove b i s t =
-    let c = comes_out b i (accepted b (RemoveSample i) t.accepted).tests in
+    let c = comes_out b i (accepted b (steps.Sample (RemoveSample i)) t.accepted).tests in
     let lt = c.there in
     let (x, e) = slice_get-found b.samples i lt in
     let less = length-remove b.samples i lt in
@@ -69,7 +81,7 @@ undone_remove b i s t =
     let one_less : length b.samples ≡ length (sample_removed b i).samples + 1 = omega (arith, less, same) in
     let is = all_found (IsSample (length b.samples)) b.samples i x e s.valid.samples in
     let is_then : IsSample (length (sample_removed b i).samples + 1) x = rw one_less at is in
-    undone_by b (RemoveSample i) (AddSample i x) s (record {
+    undone_by b (steps.Sample (RemoveSample i)) (steps.Sample (AddSample i x)) s (record {
       is = rw e refl;
       sound = sound_remove b i s t.accepted;
       fits = (t.fits, all_found FitsSample b.samples i x e s.fits.samples);
@@ -80,11 +92,11 @@ undone_remove b i s t =
 
 -- ---- move-sample
 
-pub undone_move_sample : (b : Parts) (i j : ℕ) → IsSound b → IsTaken b (MoveSample i j) → IsUndone b (MoveSample i j)
+pub undone_move_sample : (b : Parts) (i j : ℕ) → IsSound b → IsTaken b (steps.Sample (MoveSample i j)) → IsUndone b (steps.Sample (MoveSample i j))
 undone_move_sample b i j s t =
     let m = moves_sample b i j t.accepted in
     let back = moves_back m (sym (length-sample_moved b i j m.there m.place)) in
-    undone_by b (MoveSample i j) (MoveSample j i) s (record {
+    undone_by b (steps.Sample (MoveSample i j)) (steps.Sample (MoveSample j i)) s (record {
       is = refl;
       sound = sound_move_sample b i j s t.accepted;
       fits = (t.fits.1, t.fits.0);
@@ -92,3 +104,11 @@ undone_move_sample b i j s t =
       restored = restored_moved b i j m.there m.place;
       redone = refl;
     })
+
+-- ---- all of them
+
+pub undone_sample : (b : Parts) (s : SampleStep) → IsSound b → IsTaken b (steps.Sample s) → IsUndone b (steps.Sample s)
+undone_sample b (RenameSample i name) = undone_rename b i name
+undone_sample b (AddSample i s) = undone_add b i s
+undone_sample b (RemoveSample i) = undone_remove b i
+undone_sample b (MoveSample i j) = undone_move_sample b i j

@@ -4,8 +4,8 @@ use Rattle.bank_parts.specs.declared.parts.Parts.{Parts}
 use Rattle.bank_parts.specs.Sound.{IsSound}
 use Rattle.edit_forms.specs.declared.step.Step.{Step}
 use Rattle.edit_forms.specs.Fits.{FitsStep}
-use Rattle.edit_refusals.specs.Steps.{raw, causes, refusal}
-use Rattle.bank_edits.specs.StepChanges.{inverse}
+use Rattle.edit_forms.specs.Steps.{raw, causes, refusal}
+use Rattle.edit_forms.specs.Steps.{inverse}
 use Rattle.edit_refusals.proofs.Accepted.{NoneStands, accepted_by}
 use Rattle.bank_edits.specs.Undoing.{IsUndoneBy}
 

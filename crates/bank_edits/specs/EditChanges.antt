@@ -5,15 +5,14 @@ use Rattle.edit_forms.specs.declared.edit.Edit.{Edit}
 use Rattle.edit_forms.specs.declared.edit.Edit.TheVariants.{One, Group}
 use Rattle.edit_refusals.specs.declared.refusal.Refusal.{Refusal}
 use Rattle.edit_refusals.specs.declared.refusal.Refusal.TheVariants.{OutOfMemory}
-use Rattle.edit_refusals.specs.Steps as refusals
+use Rattle.edit_forms.specs.Steps as steps
 use Rattle.edit_refusals.specs.Sequences.{undo_list}
 use Rattle.edit_refusals.specs.Edits.{raw, refusal}
-use Rattle.bank_edits.specs.StepChanges as steps
 
 -- the edit that takes it back, read on the bank before
 abbrev pub inverse : Parts → Edit → Edit
 inverse b (One step) = One (steps.inverse b step)
-inverse b (Group group) = Group (undo_list refusals.raw steps.inverse b group)
+inverse b (Group group) = Group (undo_list steps.raw steps.inverse b group)
 
 -- the edit grows nothing
 abbrev pub NeedsNoMemory : Edit → Type 0

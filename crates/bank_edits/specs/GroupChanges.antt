@@ -4,8 +4,8 @@ use Rattle.bank_parts.specs.declared.parts.Parts.{Parts}
 use Rattle.edit_forms.specs.declared.step.Step.{Step}
 use Rattle.edit_refusals.specs.declared.refusal.Refusal.{Refusal}
 use Rattle.edit_refusals.specs.declared.refusal.Refusal.TheVariants.{Of, OutOfMemory, NothingToUndo, NothingToRedo, GroupRefused}
-use Rattle.edit_refusals.specs.Steps.{raw, refusal}
-use Rattle.bank_edits.specs.StepChanges.{inverse}
+use Rattle.edit_forms.specs.Steps.{raw, refusal}
+use Rattle.edit_forms.specs.Steps.{inverse}
 
 -- the step was done, and `back` takes it back
 pub record IsStepDone (old new : Parts) (s back : Step) : Type 0 where

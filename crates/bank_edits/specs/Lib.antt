@@ -9,9 +9,9 @@ pub use Rattle.bank_changes.specs.Presets
 pub use Rattle.bank_changes.specs.Zones
 pub use Rattle.bank_changes.specs.Settings
 pub use Rattle.sf_base.specs.Names
-pub use Rattle.edit_refusals.specs.CauseNames
-pub use Rattle.edit_refusals.specs.Causes
-pub use Rattle.edit_refusals.specs.Steps
+pub use Rattle.edit_forms.specs.CauseNames
+pub use Rattle.edit_forms.specs.Causes
+pub use Rattle.edit_forms.specs.Steps
 pub use Rattle.edit_refusals.specs.Edits
 pub use Rattle.edit_refusals.specs.Answers
 pub mod StepChanges

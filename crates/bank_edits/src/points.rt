@@ -1,115 +1,122 @@
-//! What each form that edits one sample's points, loop, kind or pitch does.
-ghost use Rattle.std.specs.Prelude.{◌≡◌, None, Ok};
+//! What each form that edits what one sample holds does.
+ghost use Rattle.std.specs.Prelude.{◌≡◌, None, Ok, IsOk};
 ghost use Rattle.bank_parts.specs.Sound.{IsSound};
-ghost use Rattle.edit_forms.specs.declared.step.Step.TheVariants as step;
-ghost use Rattle.edit_refusals.specs.Steps.{refusal};
+ghost use Rattle.edit_forms.specs.declared.points.PointStep.TheVariants as form;
+ghost use Rattle.edit_forms.specs.declared.step.Step.TheVariants as steps;
+ghost use Rattle.edit_forms.specs.Steps.{refusal, GrowsNothing};
 ghost use Rattle.bank_edits.specs.StepChanges.{IsStepChange};
 
 use crate::step_changes::Back;
 use bank_core::Bank;
 use bank_parts::Kind;
-use edit_forms::Step;
+use edit_forms::{PointStep, Step};
 use sample_view::Points;
 use std::alloc::Global;
 
-// ---- trim
-
-pub(crate) fn trim<'a>(
+pub(crate) fn change_points<'a>(
     alloc: Global,
     bank: &mut Bank<'a>,
     sample: u32,
-    front: u32,
-    back: u32,
+    step: PointStep<'a>,
 ) -> Back<'a>
     requires sound { IsSound bank.old }
-    requires accepted { refusal bank.old (step.Trim sample front back) ≡ None }
-    ensures { IsStepChange bank.old bank.new (step.Trim sample front back) result }
+    requires accepted { refusal bank.old (steps.Points sample step) ≡ None }
+    ensures outcome { IsStepChange bank.old bank.new (steps.Points sample step.entry) result }
+    ensures no_memory { GrowsNothing (steps.Points sample step.entry) → IsOk result }
+{
+    match step {
+        PointStep::Trim { front, back, .. } => trim(alloc, bank, sample, front, back),
+        PointStep::Extend { .. } => {
+            let (front, back) = step.into_points();
+            extend(bank, sample, front, back)
+        }
+        PointStep::SetLoop { looped, .. } => Ok(set_loop(bank, sample, looped)),
+        PointStep::SetKind { kind, .. } => Ok(set_kind(bank, sample, kind)),
+        PointStep::SetTune {
+            rate,
+            key,
+            correction,
+            ..
+        } => Ok(set_tune(bank, sample, rate, key, correction)),
+    }
+}
+
+// ---- trim
+
+fn trim<'a>(alloc: Global, bank: &mut Bank<'a>, sample: u32, front: u32, back: u32) -> Back<'a>
+    requires sound { IsSound bank.old }
+    requires accepted { refusal bank.old (steps.Points sample (form.Trim front back)) ≡ None }
+    ensures { IsStepChange bank.old bank.new (steps.Points sample (form.Trim front back)) result }
 {
     match bank.trim_sample(alloc, sample, front, back) {
-        Ok((first, last)) => Ok(Step::Extend {
+        Ok((first, last)) => Ok(Step::Points(
             sample,
-            front: first,
-            back: last,
-        }),
-        Err(_) => Err(Step::Trim {
-            sample,
-            front,
-            back,
-        }),
+            PointStep::Extend {
+                front: first,
+                back: last,
+            },
+        )),
+        Err(_) => Err(Step::Points(sample, PointStep::Trim { front, back })),
     }
 }
 
 // ---- extend
 
-pub(crate) fn extend<'a>(
-    bank: &mut Bank<'a>,
-    sample: u32,
-    front: Points<'a>,
-    back: Points<'a>,
-) -> Back<'a>
+fn extend<'a>(bank: &mut Bank<'a>, sample: u32, front: Points<'a>, back: Points<'a>) -> Back<'a>
     requires sound { IsSound bank.old }
-    requires accepted { refusal bank.old (step.Extend sample front back) ≡ None }
-    ensures { IsStepChange bank.old bank.new (step.Extend sample front.entry back.entry) result }
+    requires accepted { refusal bank.old (steps.Points sample (form.Extend front back)) ≡ None }
+    ensures { IsStepChange bank.old bank.new (steps.Points sample (form.Extend front.entry back.entry)) result }
 {
     let first = front.len();
     let last = back.len();
     match bank.extend_sample(sample, front, back) {
-        Ok(()) => Ok(Step::Trim {
+        Ok(()) => Ok(Step::Points(
             sample,
-            front: first as u32,
-            back: last as u32,
-        }),
-        Err((front, back)) => Err(Step::Extend {
-            sample,
-            front,
-            back,
-        }),
+            PointStep::Trim {
+                front: first as u32,
+                back: last as u32,
+            },
+        )),
+        Err((front, back)) => Err(Step::Points(sample, PointStep::Extend { front, back })),
     }
 }
 
 // ---- set-loop
 
-pub(crate) fn set_loop<'a>(bank: &mut Bank<'a>, sample: u32, looped: Option<(u32, u32)>) -> Step<'a>
+fn set_loop<'a>(bank: &mut Bank<'a>, sample: u32, looped: Option<(u32, u32)>) -> Step<'a>
     requires sound { IsSound bank.old }
-    requires accepted { refusal bank.old (step.SetLoop sample looped) ≡ None }
-    ensures { IsStepChange bank.old bank.new (step.SetLoop sample looped) (Ok result) }
+    requires accepted { refusal bank.old (steps.Points sample (form.SetLoop looped)) ≡ None }
+    ensures { IsStepChange bank.old bank.new (steps.Points sample (form.SetLoop looped)) (Ok result) }
 {
     let old = bank.set_loop(sample, looped);
-    Step::SetLoop {
-        sample,
-        looped: old,
-    }
+    Step::Points(sample, PointStep::SetLoop { looped: old })
 }
 
 // ---- set-kind
 
-pub(crate) fn set_kind<'a>(bank: &mut Bank<'a>, sample: u32, kind: Kind) -> Step<'a>
+fn set_kind<'a>(bank: &mut Bank<'a>, sample: u32, kind: Kind) -> Step<'a>
     requires sound { IsSound bank.old }
-    requires accepted { refusal bank.old (step.SetKind sample kind) ≡ None }
-    ensures { IsStepChange bank.old bank.new (step.SetKind sample kind) (Ok result) }
+    requires accepted { refusal bank.old (steps.Points sample (form.SetKind kind)) ≡ None }
+    ensures { IsStepChange bank.old bank.new (steps.Points sample (form.SetKind kind)) (Ok result) }
 {
     let old = bank.set_kind(sample, kind);
-    Step::SetKind { sample, kind: old }
+    Step::Points(sample, PointStep::SetKind { kind: old })
 }
 
 // ---- set-tune
 
-pub(crate) fn set_tune<'a>(
-    bank: &mut Bank<'a>,
-    sample: u32,
-    rate: u32,
-    key: u8,
-    correction: i8,
-) -> Step<'a>
+fn set_tune<'a>(bank: &mut Bank<'a>, sample: u32, rate: u32, key: u8, correction: i8) -> Step<'a>
     requires sound { IsSound bank.old }
-    requires accepted { refusal bank.old (step.SetTune sample rate key correction) ≡ None }
-    ensures { IsStepChange bank.old bank.new (step.SetTune sample rate key correction) (Ok result) }
+    requires accepted { refusal bank.old (steps.Points sample (form.SetTune rate key correction)) ≡ None }
+    ensures { IsStepChange bank.old bank.new (steps.Points sample (form.SetTune rate key correction)) (Ok result) }
 {
     let (old_rate, old_key, old_correction) = bank.set_tune(sample, rate, key, correction);
-    Step::SetTune {
+    Step::Points(
         sample,
-        rate: old_rate,
-        key: old_key,
-        correction: old_correction,
-    }
+        PointStep::SetTune {
+            rate: old_rate,
+            key: old_key,
+            correction: old_correction,
+        },
+    )
 }

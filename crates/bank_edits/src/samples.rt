@@ -1,63 +1,82 @@
-//! What each form that edits samples does.
-ghost use Rattle.std.specs.Prelude.{◌≡◌, None, Ok};
+//! What each form that edits the list of samples does.
+ghost use Rattle.std.specs.Prelude.{◌≡◌, None, Ok, IsOk};
 ghost use Rattle.bank_parts.specs.Sound.{IsSound};
-ghost use Rattle.edit_forms.specs.declared.step.Step.TheVariants as step;
-ghost use Rattle.edit_refusals.specs.Steps.{refusal};
+ghost use Rattle.edit_forms.specs.declared.samples.SampleStep.TheVariants as form;
+ghost use Rattle.edit_forms.specs.declared.step.Step.TheVariants as steps;
+ghost use Rattle.edit_forms.specs.Steps.{refusal, GrowsNothing};
 ghost use Rattle.bank_edits.specs.StepChanges.{IsStepChange};
 
 use crate::step_changes::Back;
 use bank_core::Bank;
 use bank_parts::Sample;
-use edit_forms::Step;
+use edit_forms::{SampleStep, Step};
 use sf_base::Name20;
+
+pub(crate) fn change_sample<'a>(bank: &mut Bank<'a>, step: SampleStep<'a>) -> Back<'a>
+    requires sound { IsSound bank.old }
+    requires accepted { refusal bank.old (steps.Sample step) ≡ None }
+    ensures outcome { IsStepChange bank.old bank.new (steps.Sample step.entry) result }
+    ensures no_memory { GrowsNothing (steps.Sample step.entry) → IsOk result }
+{
+    match step {
+        SampleStep::RenameSample { sample, .. } => Ok(rename_sample(
+            bank,
+            sample,
+            step.into_name(),
+        )),
+        SampleStep::AddSample { at, .. } => add_sample(bank, at, step.into_sample()),
+        SampleStep::RemoveSample { sample, .. } => Ok(remove_sample(bank, sample)),
+        SampleStep::MoveSample { from, to, .. } => Ok(move_sample(bank, from, to)),
+    }
+}
 
 // ---- rename-sample
 
-pub(crate) fn rename_sample<'a>(bank: &mut Bank<'a>, sample: u32, name: Name20) -> Step<'a>
+fn rename_sample<'a>(bank: &mut Bank<'a>, sample: u32, name: Name20) -> Step<'a>
     requires sound { IsSound bank.old }
-    requires accepted { refusal bank.old (step.RenameSample sample name) ≡ None }
-    ensures { IsStepChange bank.old bank.new (step.RenameSample sample name) (Ok result) }
+    requires accepted { refusal bank.old (steps.Sample (form.RenameSample sample name)) ≡ None }
+    ensures { IsStepChange bank.old bank.new (steps.Sample (form.RenameSample sample name)) (Ok result) }
 {
     let _bytes = name.bytes();
     let old = bank.rename_sample(sample, name);
-    Step::RenameSample { sample, name: old }
+    Step::Sample(SampleStep::RenameSample { sample, name: old })
 }
 
 // ---- add-sample
 
-pub(crate) fn add_sample<'a>(bank: &mut Bank<'a>, at: u32, sample: Sample<'a>) -> Back<'a>
+fn add_sample<'a>(bank: &mut Bank<'a>, at: u32, sample: Sample<'a>) -> Back<'a>
     requires sound { IsSound bank.old }
-    requires accepted { refusal bank.old (step.AddSample at sample) ≡ None }
-    ensures { IsStepChange bank.old bank.new (step.AddSample at sample.entry) result }
+    requires accepted { refusal bank.old (steps.Sample (form.AddSample at sample)) ≡ None }
+    ensures { IsStepChange bank.old bank.new (steps.Sample (form.AddSample at sample.entry)) result }
 {
     sample.fits();
     match bank.add_sample(at, sample) {
-        Ok(()) => Ok(Step::RemoveSample { sample: at }),
-        Err(sample) => Err(Step::AddSample { at, sample }),
+        Ok(()) => Ok(Step::Sample(SampleStep::RemoveSample { sample: at })),
+        Err(sample) => Err(Step::Sample(SampleStep::AddSample { at, sample })),
     }
 }
 
 // ---- remove-sample
 
-pub(crate) fn remove_sample<'a>(bank: &mut Bank<'a>, sample: u32) -> Step<'a>
+fn remove_sample<'a>(bank: &mut Bank<'a>, sample: u32) -> Step<'a>
     requires sound { IsSound bank.old }
-    requires accepted { refusal bank.old (step.RemoveSample sample) ≡ None }
-    ensures { IsStepChange bank.old bank.new (step.RemoveSample sample) (Ok result) }
+    requires accepted { refusal bank.old (steps.Sample (form.RemoveSample sample)) ≡ None }
+    ensures { IsStepChange bank.old bank.new (steps.Sample (form.RemoveSample sample)) (Ok result) }
 {
     let removed = bank.remove_sample(sample);
-    Step::AddSample {
+    Step::Sample(SampleStep::AddSample {
         at: sample,
         sample: removed,
-    }
+    })
 }
 
 // ---- move-sample
 
-pub(crate) fn move_sample<'a>(bank: &mut Bank<'a>, from: u32, to: u32) -> Step<'a>
+fn move_sample<'a>(bank: &mut Bank<'a>, from: u32, to: u32) -> Step<'a>
     requires sound { IsSound bank.old }
-    requires accepted { refusal bank.old (step.MoveSample from to) ≡ None }
-    ensures { IsStepChange bank.old bank.new (step.MoveSample from to) (Ok result) }
+    requires accepted { refusal bank.old (steps.Sample (form.MoveSample from to)) ≡ None }
+    ensures { IsStepChange bank.old bank.new (steps.Sample (form.MoveSample from to)) (Ok result) }
 {
     bank.move_sample(from, to);
-    Step::MoveSample { from: to, to: from }
+    Step::Sample(SampleStep::MoveSample { from: to, to: from })
 }

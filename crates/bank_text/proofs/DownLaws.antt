@@ -12,28 +12,27 @@ use Rattle.bank_parts.specs.declared.texts.InfoId.{InfoId}
 use Rattle.bank_parts.specs.declared.texts.InfoId.TheVariants.{Engine, Name, Date, Engineers, Product, Copyright, Comment, Software}
 use Rattle.bank_parts.specs.declared.parts.Parts.{Parts}
 use Rattle.bank_parts.specs.Texts.{text_of}
-use Rattle.edit_forms.specs.declared.step.Step.TheVariants.{RemovePreset, RemoveInstrument, RemoveSample}
 use Rattle.edit_forms.specs.declared.edit.Edit.{Edit}
 use Rattle.line_tokens.specs.declared.printing.Piece.TheVariants.{Number}
 use Rattle.line_tokens.specs.Printing.{line_text}
 use Rattle.edit_script.specs.Printing as printed
 use Rattle.edit_script.specs.Printing.{texts_of}
-use Rattle.bank_text.specs.TakenDown.{in_reverse, removals, unlink_edits, reset_edits, resets, taken_down, removal_lines}
+use Rattle.bank_text.specs.TakenDown.{in_reverse, removals, unlink_edits, reset_edits, resets, taken_down, removal_lines, remove_preset, remove_instrument, remove_sample}
 use Rattle.bank_text.proofs.TextLaws.{both_texts, then_texts, row_lines}
 
 -- ---- members that are removed
 
-presets_away : (n : ℕ) → removal_lines (codes "remove-preset") n ≡ texts_of (removals RemovePreset n)
+presets_away : (n : ℕ) → removal_lines (codes "remove-preset") n ≡ texts_of (removals remove_preset n)
 unfolding printed.text_of
 presets_away zero = refl
 presets_away (suc n) = ap (λ (t : List ℕ). line_text (codes "remove-preset") (Number n ∷ []) ++ t) (presets_away n)
 
-instruments_away : (n : ℕ) → removal_lines (codes "remove-inst") n ≡ texts_of (removals RemoveInstrument n)
+instruments_away : (n : ℕ) → removal_lines (codes "remove-inst") n ≡ texts_of (removals remove_instrument n)
 unfolding printed.text_of
 instruments_away zero = refl
 instruments_away (suc n) = ap (λ (t : List ℕ). line_text (codes "remove-inst") (Number n ∷ []) ++ t) (instruments_away n)
 
-samples_away : (n : ℕ) → removal_lines (codes "remove-sample") n ≡ texts_of (removals RemoveSample n)
+samples_away : (n : ℕ) → removal_lines (codes "remove-sample") n ≡ texts_of (removals remove_sample n)
 unfolding printed.text_of
 samples_away zero = refl
 samples_away (suc n) = ap (λ (t : List ℕ). line_text (codes "remove-sample") (Number n ∷ []) ++ t) (samples_away n)
@@ -106,10 +105,10 @@ pub down_lines : (b : Parts)
     ++ texts_of (resets b.texts))))
     ≡ texts_of (taken_down b)
 down_lines b =
-    let es0 = removals RemovePreset (length b.presets) in
-    let es1 = removals RemoveInstrument (length b.instruments) in
+    let es0 = removals remove_preset (length b.presets) in
+    let es1 = removals remove_instrument (length b.instruments) in
     let es2 = in_reverse unlink_edits 0 b.samples in
-    let es3 = removals RemoveSample (length b.samples) in
+    let es3 = removals remove_sample (length b.samples) in
     let es4 = resets b.texts in
     (λ i. presets_away (length b.presets) i ++ (instruments_away (length b.instruments) i ++ (texts_of es2 ++ (samples_away (length b.samples) i ++ texts_of es4))))
     ∙ sym (then_texts es0 (es1 ++ (es2 ++ (es3 ++ es4))) _ (then_texts es1 (es2 ++ (es3 ++ es4)) _ (then_texts es2 (es3 ++ es4) _ (both_texts es3 es4))))

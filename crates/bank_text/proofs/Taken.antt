@@ -19,13 +19,18 @@ use Rattle.bank_parts.specs.Sound.{IsSound}
 use Rattle.bank_changes.specs.Texts.{info_set}
 use Rattle.bank_changes.proofs.TextLaws.{IsInfo, info_of, info_sound, text_fits}
 use Rattle.edit_forms.specs.declared.step.Step.{Step}
-use Rattle.edit_forms.specs.declared.step.Step.TheVariants.{AddPreset, AddInstrument, AddSample, SetKind, SetInfo}
+use Rattle.edit_forms.specs.declared.presets.PresetStep.TheVariants.{AddPreset}
+use Rattle.edit_forms.specs.declared.instruments.InstrumentStep.TheVariants.{AddInstrument}
+use Rattle.edit_forms.specs.declared.samples.SampleStep.TheVariants.{AddSample}
+use Rattle.edit_forms.specs.declared.points.PointStep.TheVariants.{SetKind}
+use Rattle.edit_forms.specs.declared.texts.TextStep.TheVariants.{SetInfo}
+use Rattle.edit_forms.specs.declared.step.Step.TheVariants as steps
 use Rattle.edit_forms.specs.declared.edit.Edit.{Edit}
 use Rattle.edit_forms.specs.declared.edit.Edit.TheVariants.{One}
 use Rattle.edit_forms.specs.Fits.{FitsStep}
-use Rattle.edit_refusals.specs.declared.cause.Cause.TheVariants.{NoSuchInstrument, NoSuchSample}
+use Rattle.edit_forms.specs.declared.cause.Cause.TheVariants.{NoSuchInstrument, NoSuchSample}
 use Rattle.edit_refusals.specs.declared.refusal.Refusal.TheVariants.{Of}
-use Rattle.edit_refusals.specs.Steps as steps
+use Rattle.edit_forms.specs.Steps as table
 use Rattle.edit_refusals.proofs.Accepted.{NoneStands, accepted_by}
 use Rattle.edit_refusals.proofs.TextLaws.{not_bad}
 use Rattle.edit_refusals.proofs.SampleLaws as sample
@@ -41,7 +46,7 @@ use Rattle.bank_text.proofs.StageSound.{AreGood, all_good, unlinked_good, half_g
 use Rattle.bank_text.proofs.Given.{with_texts, texts0, texts1, texts2, texts3, texts4, texts5, texts6, texts7, given0, given1, given2, given3, given4, given5, given6, edits1, edits2, edits3, edits4, edits5, edits6, edits7, texts_given, links_given}
 
 -- one step, where no test stands and it leads to a sound bank
-one_taken : (b c : Parts) (s : Step) → FitsStep s → NoneStands (steps.causes b s) → steps.raw b s ≡ c → IsSound c → IsTaken b (One s)
+one_taken : (b c : Parts) (s : Step) → FitsStep s → NoneStands (table.causes b s) → table.raw b s ≡ c → IsSound c → IsTaken b (One s)
 one_taken b c s fits tests to sound = record { fits = fits; accepted = ap (option_map Of) (accepted_by b s tests (subst IsSound (sym to) sound)) }
 
 -- ---- texts
@@ -49,7 +54,7 @@ one_taken b c s fits tests to sound = record { fits = fits; accepted = ap (optio
 text_taken : (b : Parts) (id : InfoId) (text : List ℕ) → IsSound b → IsInfo id text → AllTaken b (text_edits id text)
 text_taken b id [] s h = tt
 text_taken b id (byte ∷ text) s h =
-    (one_taken b (info_set b id (byte ∷ text)) (SetInfo id (byte ∷ text)) (text_fits (byte ∷ text) h.fits) (not_bad id (byte ∷ text) h, tt) refl (info_sound b id (byte ∷ text) s h), tt)
+    (one_taken b (info_set b id (byte ∷ text)) (steps.Text (SetInfo id (byte ∷ text))) (text_fits (byte ∷ text) h.fits) (not_bad id (byte ∷ text) h, tt) refl (info_sound b id (byte ∷ text) s h), tt)
 
 pub empty_are : AreTexts empty_texts
 empty_are = record {
@@ -142,7 +147,7 @@ module _ (b : Parts) (s : IsSound b) where
       let same = length-map done mono in
       let is = (all_rest done (x ∷ rest) b.samples e (IsSample (length b.samples)) s.valid.samples).0 in
       let fit = (all_rest done (x ∷ rest) b.samples e FitsSample s.fits.samples).0 in (
-        one_taken here (with_samples m t (done ++ x ∷ []) rest) (AddSample (length done) (mono x))
+        one_taken here (with_samples m t (done ++ x ∷ []) rest) (steps.Sample (AddSample (length done) (mono x)))
             (omega (arith, n, few), mono_fits x fit)
             (sample.tests_add here (length done) (mono x) (record { link = tt; place = omega (arith, same); looped = is.looped }))
             (sample_added_last m t done x rest)
@@ -150,7 +155,7 @@ module _ (b : Parts) (s : IsSound b) where
         tt,
       )
 
-  kind_taken : (done : List Sample) (x : Sample) (rest : List Sample) (kind : Kind) → x.kind ≡ kind → done ++ x ∷ rest ≡ b.samples → IsTaken (with_links m t done (x ∷ rest)) (One (SetKind (length done) kind))
+  kind_taken : (done : List Sample) (x : Sample) (rest : List Sample) (kind : Kind) → x.kind ≡ kind → done ++ x ∷ rest ≡ b.samples → IsTaken (with_links m t done (x ∷ rest)) (One (steps.Points (length done) (SetKind kind)))
   kind_taken done x rest kind k e =
       let here = with_links m t done (x ∷ rest) in
       let n = length_front done (x ∷ rest) b.samples e in
@@ -158,7 +163,7 @@ module _ (b : Parts) (s : IsSound b) where
       let size = half_length done (x ∷ rest) b.samples e (all_good b s) in
       let is = (all_rest done (x ∷ rest) b.samples e (IsSample (length b.samples)) s.valid.samples).0 in
       let fit = (all_rest done (x ∷ rest) b.samples e FitsSample s.fits.samples).0 in
-      one_taken here (with_links m t (done ++ x ∷ []) rest) (SetKind (length done) kind)
+      one_taken here (with_links m t (done ++ x ∷ []) rest) (steps.Points (length done) (SetKind kind))
       (omega (arith, n, few), subst FitsKind k fit.kind)
       (point.tests_kind here (length done) kind (record { there = omega (arith, size, n); link = subst (λ (c : ℕ). IsLink c kind) (sym size) (subst (IsLink (length b.samples)) k is.kind) }))
       (ap (λ (ss : List Sample). bank_of m t [] [] ss) (linked m t done x rest kind k))
@@ -190,7 +195,7 @@ module _ (b : Parts) (s : IsSound b) where
       let few = s.valid.limits.instruments in
       let is = (all_rest done (x ∷ rest) b.instruments e (IsInstrument (length b.samples)) s.valid.instruments).0 in
       let fit = (all_rest done (x ∷ rest) b.instruments e (FitsOwner IsName) s.fits.instruments).0 in (
-        one_taken here (with_instruments m t b.samples (done ++ x ∷ []) rest) (AddInstrument (length done) x)
+        one_taken here (with_instruments m t b.samples (done ++ x ∷ []) rest) (steps.Instrument (AddInstrument (length done) x))
             (omega (arith, n, few), fit)
             (owner.tests_add (λ name. name) level.Instrument (length b.samples) (length done) (length done) x NoSuchSample (record { place = omega arith; is = is }))
             (instrument_added_last m t b.samples done x rest)
@@ -206,7 +211,7 @@ module _ (b : Parts) (s : IsSound b) where
       let few = s.valid.limits.presets in
       let is = (all_rest done (x ∷ rest) b.presets e (IsPreset (length b.instruments)) s.valid.presets).0 in
       let fit = (all_rest done (x ∷ rest) b.presets e (FitsOwner FitsHead) s.fits.presets).0 in (
-        one_taken here (with_presets m t b.samples b.instruments (done ++ x ∷ []) rest) (AddPreset (length done) x)
+        one_taken here (with_presets m t b.samples b.instruments (done ++ x ∷ []) rest) (steps.Preset (AddPreset (length done) x))
             (omega (arith, n, few), fit)
             (owner.tests_add (λ (h : Head). h.name) level.Preset (length b.instruments) (length done) (length done) x NoSuchInstrument (record { place = omega arith; is = is }))
             (preset_added_last m t b.samples b.instruments done x rest)

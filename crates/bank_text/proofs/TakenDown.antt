@@ -12,12 +12,16 @@ use Rattle.bank_parts.specs.declared.parts.Sample.{Sample}
 use Rattle.bank_parts.specs.declared.parts.Parts.{Parts}
 use Rattle.bank_parts.specs.Texts.{text_of}
 use Rattle.edit_forms.specs.declared.step.Step.{Step}
-use Rattle.edit_forms.specs.declared.step.Step.TheVariants.{RemovePreset, RemoveInstrument, RemoveSample, SetInfo}
+use Rattle.edit_forms.specs.declared.presets.PresetStep.TheVariants.{RemovePreset}
+use Rattle.edit_forms.specs.declared.instruments.InstrumentStep.TheVariants.{RemoveInstrument}
+use Rattle.edit_forms.specs.declared.samples.SampleStep.TheVariants.{RemoveSample}
+use Rattle.edit_forms.specs.declared.texts.TextStep.TheVariants.{SetInfo}
+use Rattle.edit_forms.specs.declared.step.Step.TheVariants as steps
 use Rattle.edit_forms.specs.declared.edit.Edit.{Edit}
 use Rattle.edit_forms.specs.declared.edit.Edit.TheVariants.{One}
 use Rattle.bank_edits.specs.Runs.{undo_list}
 use Rattle.bank_text.specs.Listed.{empty, empty_texts, in_turn, text_edits, texts_edits, sample_edits, kind_edits, link_edits, instrument_edits, preset_edits, edits_of_bank}
-use Rattle.bank_text.specs.TakenDown.{in_reverse, removals, mono_edits, unlink_edits, reset_edits, resets, taken_down}
+use Rattle.bank_text.specs.TakenDown.{in_reverse, removals, mono_edits, unlink_edits, reset_edits, resets, taken_down, remove_preset, remove_instrument, remove_sample}
 use Rattle.bank_text.proofs.Turns.{undo-then, undo-past, after_turns, undo_turns}
 use Rattle.bank_text.proofs.Stages.{mono, reads_next, with_samples, with_links, with_instruments, with_presets, sample_added_last, link_set_next, instrument_added_last, preset_added_last}
 use Rattle.bank_text.proofs.Given.{with_texts, texts0, texts1, texts2, texts3, texts4, texts5, texts6, texts7, given0, given1, given2, given3, given4, given5, given6, edits1, edits2, edits3, edits4, edits5, edits6, edits7, texts_given, links_given}
@@ -26,7 +30,7 @@ use Rattle.bank_text.proofs.Given.{with_texts, texts0, texts1, texts2, texts3, t
 
 text_undone : (b : Parts) (id : InfoId) (text : List ℕ) → text_of b.texts id ≡ text_of empty_texts id → undo_list b (text_edits id text) ≡ reset_edits id text
 text_undone b id [] e = refl
-text_undone b id (byte ∷ text) e = ap (λ (old : List ℕ). One (SetInfo id old) ∷ []) e
+text_undone b id (byte ∷ text) e = ap (λ (old : List ℕ). One (steps.Text (SetInfo id old)) ∷ []) e
 
 module _ (m : ℕ) (t : Texts) where
   abbrev down0 : List Edit
@@ -97,18 +101,18 @@ taken_back b h =
     let es2 : List Edit = in_turn link_edits 0 ss ++ es3 in
     let es1 : List Edit = in_turn sample_edits 0 ss ++ es2 in
     let us0 : List Edit = resets t in
-    let us1 : List Edit = removals RemoveSample (length ss) ++ us0 in
+    let us1 : List Edit = removals remove_sample (length ss) ++ us0 in
     let us2 : List Edit = in_reverse unlink_edits 0 ss ++ us1 in
-    let us3 : List Edit = removals RemoveInstrument (length is) ++ us2 in
+    let us3 : List Edit = removals remove_instrument (length is) ++ us2 in
     undo-then (empty m) (with_texts m t t) (texts_edits t) es1 us0 (texts_given m t h) (texts_undone m t h)
-    ∙ undo-past (with_samples m t [] ss) (with_samples m t ss []) (in_turn sample_edits 0 ss) es2 (removals RemoveSample (length ss)) us0 (taken_down b)
+    ∙ undo-past (with_samples m t [] ss) (with_samples m t ss []) (in_turn sample_edits 0 ss) es2 (removals remove_sample (length ss)) us0 (taken_down b)
     (after_turns (with_samples m t) sample_edits (sample_added_last m t) [] ss)
-    (undo_turns (with_samples m t) sample_edits (sample_added_last m t) (λ (i : ℕ) (x : Sample). One (RemoveSample i) ∷ []) (λ done x rest. refl) [] ss ∙ all_removed RemoveSample ss)
+    (undo_turns (with_samples m t) sample_edits (sample_added_last m t) (λ (i : ℕ) (x : Sample). One (steps.Sample (RemoveSample i)) ∷ []) (λ done x rest. refl) [] ss ∙ all_removed remove_sample ss)
     (undo-past (with_links m t [] ss) (with_instruments m t ss [] is) (in_turn link_edits 0 ss) es3 (in_reverse unlink_edits 0 ss) us1 (taken_down b)
     (links_given m t ss is)
     (undo_turns (with_links m t) link_edits (link_set_next m t) unlink_edits (λ done x rest. kind_undone m t done x rest x.kind) [] ss)
-    (undo-past (with_instruments m t ss [] is) (with_instruments m t ss is []) (in_turn instrument_edits 0 is) es4 (removals RemoveInstrument (length is)) us2 (taken_down b)
+    (undo-past (with_instruments m t ss [] is) (with_instruments m t ss is []) (in_turn instrument_edits 0 is) es4 (removals remove_instrument (length is)) us2 (taken_down b)
     (after_turns (with_instruments m t ss) instrument_edits (instrument_added_last m t ss) [] is)
-    (undo_turns (with_instruments m t ss) instrument_edits (instrument_added_last m t ss) (λ (i : ℕ) (x : WithZones (List ℕ)). One (RemoveInstrument i) ∷ []) (λ done x rest. refl) [] is ∙ all_removed RemoveInstrument is)
+    (undo_turns (with_instruments m t ss) instrument_edits (instrument_added_last m t ss) (λ (i : ℕ) (x : WithZones (List ℕ)). One (steps.Instrument (RemoveInstrument i)) ∷ []) (λ done x rest. refl) [] is ∙ all_removed remove_instrument is)
     (ap (λ (l : List Edit). l ++ us3)
-    (undo_turns (with_presets m t ss is) preset_edits (preset_added_last m t ss is) (λ (i : ℕ) (x : WithZones Head). One (RemovePreset i) ∷ []) (λ done x rest. refl) [] ps ∙ all_removed RemovePreset ps))))
+    (undo_turns (with_presets m t ss is) preset_edits (preset_added_last m t ss is) (λ (i : ℕ) (x : WithZones Head). One (steps.Preset (RemovePreset i)) ∷ []) (λ done x rest. refl) [] ps ∙ all_removed remove_preset ps))))

@@ -6,7 +6,10 @@ use Rattle.bank_parts.specs.declared.parts.Kind.{Kind}
 use Rattle.bank_parts.specs.declared.parts.Kind.TheVariants.{Mono, Right, Left}
 use Rattle.bank_parts.specs.declared.parts.Sample.{Sample}
 use Rattle.bank_parts.specs.declared.parts.Parts.{Parts}
-use Rattle.edit_forms.specs.declared.step.Step.TheVariants.{AddSample, SetKind, SetInfo}
+use Rattle.edit_forms.specs.declared.samples.SampleStep.TheVariants.{AddSample}
+use Rattle.edit_forms.specs.declared.points.PointStep.TheVariants.{SetKind}
+use Rattle.edit_forms.specs.declared.texts.TextStep.TheVariants.{SetInfo}
+use Rattle.edit_forms.specs.declared.step.Step.TheVariants as steps
 use Rattle.edit_forms.specs.declared.edit.Edit.TheVariants.{One}
 use Rattle.bank_edits.specs.Runs.{after_all}
 use Rattle.bank_text.specs.Listed.{empty, edits_of_bank}
@@ -25,9 +28,9 @@ tiny c = record {
 }
 
 tiny_edits : (c : ℤ) → edits_of_bank (tiny c) ≡
-    One (SetInfo Engine (codes "X")) ∷ One (SetInfo Comment (codes "c"))
-    ∷ One (AddSample 0 (side c (codes "L") Mono)) ∷ One (AddSample 1 (side c (codes "R") Mono)) ∷ One (AddSample 2 (side c (codes "M") Mono))
-    ∷ One (SetKind 0 (Left 1)) ∷ One (SetKind 1 (Right 0)) ∷ []
+    One (steps.Text (SetInfo Engine (codes "X"))) ∷ One (steps.Text (SetInfo Comment (codes "c")))
+    ∷ One (steps.Sample (AddSample 0 (side c (codes "L") Mono))) ∷ One (steps.Sample (AddSample 1 (side c (codes "R") Mono))) ∷ One (steps.Sample (AddSample 2 (side c (codes "M") Mono)))
+    ∷ One (steps.Points 0 (SetKind (Left 1))) ∷ One (steps.Points 1 (SetKind (Right 0))) ∷ []
 tiny_edits c = refl
 
 tiny_back : (c : ℤ) → after_all (empty 1) (edits_of_bank (tiny c)) ≡ tiny c

@@ -10,7 +10,12 @@ use Rattle.bank_parts.specs.declared.parts.WithZones.{WithZones}
 use Rattle.bank_parts.specs.declared.parts.Sample.{Sample}
 use Rattle.bank_parts.specs.declared.parts.Parts.{Parts}
 use Rattle.bank_changes.specs.Points.{of_kind}
-use Rattle.edit_forms.specs.declared.step.Step.TheVariants.{AddPreset, AddInstrument, AddSample, SetKind, SetInfo}
+use Rattle.edit_forms.specs.declared.presets.PresetStep.TheVariants.{AddPreset}
+use Rattle.edit_forms.specs.declared.instruments.InstrumentStep.TheVariants.{AddInstrument}
+use Rattle.edit_forms.specs.declared.samples.SampleStep.TheVariants.{AddSample}
+use Rattle.edit_forms.specs.declared.points.PointStep.TheVariants.{SetKind}
+use Rattle.edit_forms.specs.declared.texts.TextStep.TheVariants.{SetInfo}
+use Rattle.edit_forms.specs.declared.step.Step.TheVariants as steps
 use Rattle.edit_forms.specs.declared.edit.Edit.{Edit}
 use Rattle.edit_forms.specs.declared.edit.Edit.TheVariants.{One}
 
@@ -31,7 +36,7 @@ in_turn edits n (x ∷ xs) = edits n x ++ in_turn edits (suc n) xs
 -- a text that is not empty
 abbrev pub text_edits : InfoId → List ℕ → List Edit
 text_edits id [] = []
-text_edits id (byte ∷ text) = One (SetInfo id (byte ∷ text)) ∷ []
+text_edits id (byte ∷ text) = One (steps.Text (SetInfo id (byte ∷ text))) ∷ []
 
 abbrev pub texts_edits : Texts → List Edit
 texts_edits t =
@@ -46,23 +51,23 @@ texts_edits t =
 
 -- a sample without its link, as the sample that it links to may not be there yet
 abbrev pub sample_edits : ℕ → Sample → List Edit
-sample_edits i s = One (AddSample i (of_kind Mono s)) ∷ []
+sample_edits i s = One (steps.Sample (AddSample i (of_kind Mono s))) ∷ []
 
 -- the kind of a sample that is there
 abbrev pub kind_edits : ℕ → Kind → List Edit
 kind_edits i Mono = []
-kind_edits i (Right link) = One (SetKind i (Right link)) ∷ []
-kind_edits i (Left link) = One (SetKind i (Left link)) ∷ []
-kind_edits i (Linked link) = One (SetKind i (Linked link)) ∷ []
+kind_edits i (Right link) = One (steps.Points i (SetKind (Right link))) ∷ []
+kind_edits i (Left link) = One (steps.Points i (SetKind (Left link))) ∷ []
+kind_edits i (Linked link) = One (steps.Points i (SetKind (Linked link))) ∷ []
 
 abbrev pub link_edits : ℕ → Sample → List Edit
 link_edits i s = kind_edits i s.kind
 
 abbrev pub instrument_edits : ℕ → WithZones (List ℕ) → List Edit
-instrument_edits i x = One (AddInstrument i x) ∷ []
+instrument_edits i x = One (steps.Instrument (AddInstrument i x)) ∷ []
 
 abbrev pub preset_edits : ℕ → WithZones Head → List Edit
-preset_edits i x = One (AddPreset i x) ∷ []
+preset_edits i x = One (steps.Preset (AddPreset i x)) ∷ []
 
 -- ---- the bank
 

@@ -10,7 +10,12 @@ use Rattle.bank_parts.specs.declared.parts.Sample.{Sample}
 use Rattle.bank_parts.specs.declared.parts.Parts.{Parts}
 use Rattle.bank_parts.specs.Texts.{text_of}
 use Rattle.edit_forms.specs.declared.step.Step.{Step}
-use Rattle.edit_forms.specs.declared.step.Step.TheVariants.{RemovePreset, RemoveInstrument, RemoveSample, SetKind, SetInfo}
+use Rattle.edit_forms.specs.declared.presets.PresetStep.TheVariants.{RemovePreset}
+use Rattle.edit_forms.specs.declared.instruments.InstrumentStep.TheVariants.{RemoveInstrument}
+use Rattle.edit_forms.specs.declared.samples.SampleStep.TheVariants.{RemoveSample}
+use Rattle.edit_forms.specs.declared.points.PointStep.TheVariants.{SetKind}
+use Rattle.edit_forms.specs.declared.texts.TextStep.TheVariants.{SetInfo}
+use Rattle.edit_forms.specs.declared.step.Step.TheVariants as steps
 use Rattle.edit_forms.specs.declared.edit.Edit.{Edit}
 use Rattle.edit_forms.specs.declared.edit.Edit.TheVariants.{One}
 use Rattle.line_tokens.specs.declared.printing.Piece.TheVariants.{Number}
@@ -30,9 +35,9 @@ removals remove (suc n) = One (remove n) ∷ removals remove n
 -- a sample that has a link becomes mono
 abbrev pub mono_edits : ℕ → Kind → List Edit
 mono_edits i Mono = []
-mono_edits i (Right link) = One (SetKind i Mono) ∷ []
-mono_edits i (Left link) = One (SetKind i Mono) ∷ []
-mono_edits i (Linked link) = One (SetKind i Mono) ∷ []
+mono_edits i (Right link) = One (steps.Points i (SetKind Mono)) ∷ []
+mono_edits i (Left link) = One (steps.Points i (SetKind Mono)) ∷ []
+mono_edits i (Linked link) = One (steps.Points i (SetKind Mono)) ∷ []
 
 abbrev pub unlink_edits : ℕ → Sample → List Edit
 unlink_edits i s = mono_edits i s.kind
@@ -40,7 +45,7 @@ unlink_edits i s = mono_edits i s.kind
 -- a text that is not empty becomes what it is in a file that has none
 abbrev pub reset_edits : InfoId → List ℕ → List Edit
 reset_edits id [] = []
-reset_edits id (byte ∷ text) = One (SetInfo id (text_of empty_texts id)) ∷ []
+reset_edits id (byte ∷ text) = One (steps.Text (SetInfo id (text_of empty_texts id))) ∷ []
 
 abbrev pub resets : Texts → List Edit
 resets t =
@@ -53,12 +58,21 @@ resets t =
     ++ (reset_edits id.Name t.name
     ++ reset_edits id.Engine t.engine))))))
 
+abbrev pub remove_preset : ℕ → Step
+remove_preset n = steps.Preset (RemovePreset n)
+
+abbrev pub remove_instrument : ℕ → Step
+remove_instrument n = steps.Instrument (RemoveInstrument n)
+
+abbrev pub remove_sample : ℕ → Step
+remove_sample n = steps.Sample (RemoveSample n)
+
 abbrev pub taken_down : Parts → List Edit
 taken_down b =
-    removals RemovePreset (length b.presets)
-    ++ (removals RemoveInstrument (length b.instruments)
+    removals remove_preset (length b.presets)
+    ++ (removals remove_instrument (length b.instruments)
     ++ (in_reverse unlink_edits 0 b.samples
-    ++ (removals RemoveSample (length b.samples)
+    ++ (removals remove_sample (length b.samples)
     ++ resets b.texts)))
 
 -- ---- its lines

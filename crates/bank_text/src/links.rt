@@ -1,7 +1,8 @@
 //! The lines that set the links of samples.
 ghost use Rattle.std.specs.Prelude.{◌≡◌};
 ghost use Rattle.outputs.specs.Output.{Puts};
-ghost use Rattle.edit_forms.specs.declared.step.Step.TheVariants.{SetKind};
+ghost use Rattle.edit_forms.specs.declared.points.PointStep.TheVariants.{SetKind};
+ghost use Rattle.edit_forms.specs.declared.step.Step.TheVariants as steps;
 ghost use Rattle.edit_forms.specs.declared.edit.Edit.TheVariants.{One};
 ghost use Rattle.edit_script.specs.Printing.{text_of, texts_of};
 ghost use Rattle.bank_text.specs.Listed.{in_turn, kind_edits, link_edits};
@@ -34,7 +35,7 @@ fn put_link<W: Write>(number: u64, kind: Kind, output: &mut Output<'_, W>)
 
 // The line that sets a sample's kind.
 pub(crate) fn put_set_kind<W: Write>(number: u64, kind: Kind, output: &mut Output<'_, W>)
-    ensures { Puts W.contents output.old output.new (text_of (One (SetKind number kind))) }
+    ensures { Puts W.contents output.old output.new (text_of (One (steps.Points number (SetKind kind)))) }
 {
     output.put(b"set-kind");
     put_pieces(&[Piece::Number(number)], output);

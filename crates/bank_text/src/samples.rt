@@ -4,7 +4,8 @@ ghost use Rattle.std.specs.List.{flat_map};
 ghost use Rattle.outputs.specs.Output.{Puts};
 ghost use Rattle.bank_parts.specs.declared.parts.Kind.TheVariants.{Mono};
 ghost use Rattle.bank_changes.specs.Points.{of_kind};
-ghost use Rattle.edit_forms.specs.declared.step.Step.TheVariants.{AddSample};
+ghost use Rattle.edit_forms.specs.declared.samples.SampleStep.TheVariants.{AddSample};
+ghost use Rattle.edit_forms.specs.declared.step.Step.TheVariants as steps;
 ghost use Rattle.edit_forms.specs.declared.edit.Edit.TheVariants.{One};
 ghost use Rattle.line_tokens.specs.Printing.{spaced};
 ghost use Rattle.script_grammar.specs.Operands as operand;
@@ -51,7 +52,7 @@ fn put_sample<W: Write>(
     points: SamplePoints,
     output: &mut Output<'_, W>,
 )
-    ensures { Puts W.contents output.old output.new (text_of (One (AddSample number (of_kind Mono (told_sample points sample.now))))) }
+    ensures { Puts W.contents output.old output.new (text_of (One (steps.Sample (AddSample number (of_kind Mono (told_sample points sample.now)))))) }
 {
     output.put(b"add-sample");
     put_pieces(&[Piece::Number(number)], output);

@@ -4,7 +4,8 @@ ghost use Rattle.std.specs.List.{flat_map};
 ghost use Rattle.outputs.specs.Output.{Puts};
 ghost use Rattle.bank_parts.specs.declared.texts.InfoId.{InfoId};
 ghost use Rattle.bank_parts.specs.Texts as info;
-ghost use Rattle.edit_forms.specs.declared.step.Step.TheVariants.{SetInfo};
+ghost use Rattle.edit_forms.specs.declared.texts.TextStep.TheVariants.{SetInfo};
+ghost use Rattle.edit_forms.specs.declared.step.Step.TheVariants as steps;
 ghost use Rattle.edit_forms.specs.declared.edit.Edit.TheVariants.{One};
 ghost use Rattle.edit_script.specs.Printing.{text_of, texts_of};
 ghost use Rattle.bank_text.specs.Listed.{text_edits, texts_edits};
@@ -45,7 +46,7 @@ fn put_text<W: Write>(id: InfoId, text: &[u8], output: &mut Output<'_, W>)
 // The line that sets a text.
 #[tactic(auto, unfolding(edit_script::specs::Printing::text_of))]
 pub(crate) fn put_set_info<W: Write>(id: InfoId, text: &[u8], output: &mut Output<'_, W>)
-    ensures { Puts W.contents output.old output.new (text_of (One (SetInfo id text.now))) }
+    ensures { Puts W.contents output.old output.new (text_of (One (steps.Text (SetInfo id text.now)))) }
 {
     let id = Piece::Word(Lent::new(id.word()));
     put_line(b"set-info", &[id, Piece::Name(Lent::new(text))], output);

@@ -1,3 +1,14 @@
 pub use Rattle.sf_base.specs.Names
-pub mod Contents
+pub use Rattle.bank_validity.specs.Limits
+pub use Rattle.bank_parts.specs.Contents
+pub mod CauseNames
+pub mod Causes
+pub mod Presets
+pub mod Instruments
+pub mod Samples
+pub mod Points
+pub mod Zones
+pub mod Settings
+pub mod Texts
+pub mod Steps
 pub mod Fits

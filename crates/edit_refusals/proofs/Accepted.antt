@@ -8,10 +8,10 @@ use Rattle.bank_parts.specs.Sound.{IsSound}
 use Rattle.bank_validity.specs.Limits.{broken_limit}
 use Rattle.bank_validity.proofs.LimitLaws.{no_limit_of}
 use Rattle.edit_forms.specs.declared.step.Step.{Step}
-use Rattle.edit_refusals.specs.declared.cause.Cause.{Cause}
-use Rattle.edit_refusals.specs.declared.cause.Cause.TheVariants.{Full}
-use Rattle.edit_refusals.specs.Causes.{Test, first_cause}
-use Rattle.edit_refusals.specs.Steps.{raw, refusal, causes}
+use Rattle.edit_forms.specs.declared.cause.Cause.{Cause}
+use Rattle.edit_forms.specs.declared.cause.Cause.TheVariants.{Full}
+use Rattle.edit_forms.specs.Causes.{Test, first_cause}
+use Rattle.edit_forms.specs.Steps.{raw, refusal, causes}
 use Rattle.edit_refusals.specs.Answers.{Passes, Judges}
 
 abbrev pub NoneStands : List Test → Type 0

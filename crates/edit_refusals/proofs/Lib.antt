@@ -1,5 +1,5 @@
 pub mod Accepted
-pub mod OrderLaws
+pub mod Rises
 pub mod Moves
 pub mod OwnerLaws
 pub mod InstrumentLaws
@@ -9,6 +9,5 @@ pub mod PointLaws
 pub mod TextLaws
 pub mod ZoneLaws
 pub mod PlaceLaws
-pub mod ModulatorLaws
 pub mod SettingLaws
-pub mod SplitLaws
+pub mod OrderLaws

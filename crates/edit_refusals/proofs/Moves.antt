@@ -1,7 +1,7 @@
 -- What acceptance says of a move: both are numbers of members.
 use Rattle.std.proofs.Common.{◌≡◌, ◌<◌, ℕ, nat_le, [], ◌∷◌, subst}
-use Rattle.edit_refusals.specs.declared.cause.Cause.{Cause}
-use Rattle.edit_refusals.specs.Causes.{test, no_such_place}
+use Rattle.edit_forms.specs.declared.cause.Cause.{Cause}
+use Rattle.edit_forms.specs.Causes.{test, no_such_place}
 use Rattle.edit_refusals.proofs.Accepted.{NoneStands, below, not_below}
 
 -- a move among so many, from one place to another

@@ -7,73 +7,33 @@ use Rattle.std.proofs.lemmas.Bool.Decides.{nat_tests}
 use Rattle.bank_parts.specs.declared.parts.Parts.{Parts}
 use Rattle.bank_validity.specs.declared.limits.Limit.{Limit}
 use Rattle.bank_validity.specs.Limits.{broken_limit}
-use Rattle.bank_changes.specs.declared.members.Owner.TheVariants as owner
-use Rattle.bank_changes.specs.declared.members.Place.TheVariants as place
 use Rattle.edit_forms.specs.declared.step.Step.{Step}
-use Rattle.edit_forms.specs.declared.step.Step.TheVariants.{AddPreset, RemovePreset, MovePreset, SetHead, AddInstrument, RemoveInstrument, RenameInstrument, MoveInstrument, RenameSample, AddSample, RemoveSample, MoveSample, Trim, Extend, SetLoop, SetKind, SetTune, AddZone, RemoveZone, MoveZone, SplitZone, JoinZone, SetTarget, SetGen, ClearGen, AddMod, RemoveMod, SetMod, SetInfo}
-use Rattle.edit_refusals.specs.declared.cause.Cause.{Cause}
-use Rattle.edit_refusals.specs.declared.cause.Cause.TheVariants.{NoSuchPreset, NoSuchInstrument, NoSuchSample, NoSuchZone, NoSuchModulator, BadPlace, InUse, BadGenerator, NotSet, BadRange, SplitOutside, NotJoinable, LinkedModulator, TooShort, LoopCut, BadLoop, BadText, Full}
-use Rattle.edit_refusals.specs.CauseNames.{number_of}
-use Rattle.edit_refusals.specs.Causes.{Test, first_cause}
-use Rattle.edit_refusals.specs.Steps.{raw, causes, refusal}
+use Rattle.edit_forms.specs.declared.cause.Cause.{Cause}
+use Rattle.edit_forms.specs.declared.cause.Cause.TheVariants.{NoSuchPreset, NoSuchInstrument, NoSuchSample, NoSuchZone, NoSuchModulator, BadPlace, InUse, BadGenerator, NotSet, BadRange, SplitOutside, NotJoinable, LinkedModulator, TooShort, LoopCut, BadLoop, BadText, Full}
+use Rattle.edit_forms.specs.CauseNames.{number_of}
+use Rattle.edit_forms.specs.Causes.{Test, first_cause, no_such_zone_at}
+use Rattle.edit_forms.specs.Steps.{raw, causes, refusal}
 use Rattle.edit_refusals.specs.Order.{NumbersNeverFall, Stands, IsLowest, LowestIsTold}
-
--- none is below n, nor below one before it
-abbrev rises : ℕ → List Test → Bool
-rises n [] = true
-rises n (t ∷ ts) = nat_le n (number_of t.cause) && rises (number_of t.cause) ts
+use Rattle.edit_forms.specs.declared.step.Step.TheVariants.{Preset, Instrument, Sample, Points, Zone, Setting, Text}
+use Rattle.edit_forms.specs.Zones as zones
+use Rattle.edit_forms.specs.Settings as settings
+use Rattle.edit_refusals.proofs.Rises.{rises, behind_owner, behind_place}
+use Rattle.edit_refusals.proofs.PresetLaws.{preset_rises}
+use Rattle.edit_refusals.proofs.InstrumentLaws.{instrument_rises}
+use Rattle.edit_refusals.proofs.SampleLaws.{sample_rises}
+use Rattle.edit_refusals.proofs.PointLaws.{points_rises}
+use Rattle.edit_refusals.proofs.ZoneLaws.{zone_rises}
+use Rattle.edit_refusals.proofs.SettingLaws.{setting_rises}
+use Rattle.edit_refusals.proofs.TextLaws.{text_rises}
 
 each_rises : (b : Parts) (s : Step) → rises 0 (causes b s) ≡ true
-each_rises b (AddPreset at preset) = refl
-each_rises b (RemovePreset preset) = refl
-each_rises b (MovePreset from to) = refl
-each_rises b (SetHead preset name number bank) = refl
-each_rises b (AddInstrument at instrument) = refl
-each_rises b (RemoveInstrument instrument) = refl
-each_rises b (RenameInstrument instrument name) = refl
-each_rises b (MoveInstrument from to) = refl
-each_rises b (RenameSample sample name) = refl
-each_rises b (AddSample at sample) = refl
-each_rises b (RemoveSample sample) = refl
-each_rises b (MoveSample from to) = refl
-each_rises b (Trim sample front back) = refl
-each_rises b (Extend sample front back) = refl
-each_rises b (SetLoop sample looped) = refl
-each_rises b (SetKind sample kind) = refl
-each_rises b (SetTune sample rate key correction) = refl
-each_rises b (AddZone (owner.Preset p) at zone) = refl
-each_rises b (AddZone (owner.Instrument i) at zone) = refl
-each_rises b (RemoveZone (owner.Preset p) zone) = refl
-each_rises b (RemoveZone (owner.Instrument i) zone) = refl
-each_rises b (MoveZone (owner.Preset p) from to) = refl
-each_rises b (MoveZone (owner.Instrument i) from to) = refl
-each_rises b (SplitZone (owner.Preset p) zone axis at) = refl
-each_rises b (SplitZone (owner.Instrument i) zone axis at) = refl
-each_rises b (JoinZone (owner.Preset p) zone axis kept) = refl
-each_rises b (JoinZone (owner.Instrument i) zone axis kept) = refl
-each_rises b (SetTarget (owner.Preset p) zone target) = refl
-each_rises b (SetTarget (owner.Instrument i) zone target) = refl
-each_rises b (SetGen (owner.Preset p) place.Global operator amount) = refl
-each_rises b (SetGen (owner.Preset p) (place.Zone k) operator amount) = refl
-each_rises b (SetGen (owner.Instrument i) place.Global operator amount) = refl
-each_rises b (SetGen (owner.Instrument i) (place.Zone k) operator amount) = refl
-each_rises b (ClearGen (owner.Preset p) place.Global operator) = refl
-each_rises b (ClearGen (owner.Preset p) (place.Zone k) operator) = refl
-each_rises b (ClearGen (owner.Instrument i) place.Global operator) = refl
-each_rises b (ClearGen (owner.Instrument i) (place.Zone k) operator) = refl
-each_rises b (AddMod (owner.Preset p) place.Global index modulator) = refl
-each_rises b (AddMod (owner.Preset p) (place.Zone k) index modulator) = refl
-each_rises b (AddMod (owner.Instrument i) place.Global index modulator) = refl
-each_rises b (AddMod (owner.Instrument i) (place.Zone k) index modulator) = refl
-each_rises b (RemoveMod (owner.Preset p) place.Global index) = refl
-each_rises b (RemoveMod (owner.Preset p) (place.Zone k) index) = refl
-each_rises b (RemoveMod (owner.Instrument i) place.Global index) = refl
-each_rises b (RemoveMod (owner.Instrument i) (place.Zone k) index) = refl
-each_rises b (SetMod (owner.Preset p) place.Global index modulator) = refl
-each_rises b (SetMod (owner.Preset p) (place.Zone k) index modulator) = refl
-each_rises b (SetMod (owner.Instrument i) place.Global index modulator) = refl
-each_rises b (SetMod (owner.Instrument i) (place.Zone k) index modulator) = refl
-each_rises b (SetInfo id text) = refl
+each_rises b (Preset s) = preset_rises b s
+each_rises b (Instrument s) = instrument_rises b s
+each_rises b (Sample s) = sample_rises b s
+each_rises b (Points i s) = points_rises b i s
+each_rises b (Zone o s) = behind_owner b o (zones.causes b o s) (zone_rises b o s)
+each_rises b (Setting o at s) = behind_owner b o (no_such_zone_at b o at ∷ settings.causes b o at s) (behind_place b o at (settings.causes b o at s) (setting_rises b o at s))
+each_rises b (Text s) = text_rises b s
 
 both : (x y : Bool) → (x && y) ≡ true → (x ≡ true) × (y ≡ true)
 both true y h = (refl, h)

@@ -14,10 +14,10 @@ use Rattle.bank_parts.specs.Counts.{records_of_owner, all_counted}
 use Rattle.bank_validity.specs.Limits.{totals_of, broken, broken_limit, with_owner}
 use Rattle.bank_parts.proofs.ContentLaws.{owner_from_tests, tests_from_owner}
 use Rattle.edit_forms.specs.declared.step.Step.{Step}
-use Rattle.edit_refusals.specs.declared.cause.Cause.{Cause}
-use Rattle.edit_refusals.specs.declared.cause.Cause.TheVariants.{Full}
-use Rattle.edit_refusals.specs.Causes.{Test, no_such_target, bad_place, bad_generator, bad_range}
-use Rattle.edit_refusals.specs.Steps.{raw, causes, refusal}
+use Rattle.edit_forms.specs.declared.cause.Cause.{Cause}
+use Rattle.edit_forms.specs.declared.cause.Cause.TheVariants.{Full}
+use Rattle.edit_forms.specs.Causes.{Test, no_such_target, bad_place, bad_generator, bad_range}
+use Rattle.edit_forms.specs.Steps.{raw, causes, refusal}
 use Rattle.edit_refusals.specs.Answers.{Judges}
 use Rattle.edit_refusals.proofs.Accepted.{NoneStands, by_limit, up_to, not_above}
 

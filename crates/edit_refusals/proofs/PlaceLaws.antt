@@ -20,7 +20,7 @@ use Rattle.bank_changes.specs.declared.members.Place.TheVariants as place
 use Rattle.bank_changes.specs.Members.{zone_place, settings_of, mods_of}
 use Rattle.bank_changes.specs.Settings.{own_place_changed}
 use Rattle.bank_changes.proofs.PlaceLaws.{settings_read}
-use Rattle.edit_refusals.specs.Causes.{no_such_owner, no_such_zone_at, zone_total, mods_there}
+use Rattle.edit_forms.specs.Causes.{no_such_owner, no_such_zone_at, zone_total, mods_there}
 use Rattle.edit_refusals.proofs.Accepted.{below}
 
 -- ---- a place that is there

@@ -1,5 +1,5 @@
 -- The forms that edit one sample's points, loop, kind or pitch: what acceptance says of each.
-use Rattle.std.proofs.Common.{◌≡◌, ◌<◌, ◌≤◌, ◌+◌, ◌^◌, ℕ, ℤ, nat_lt, FitsSigned, w8, false, List, length, Option, Some, None, refl, sym, ◌∙◌, ap, arith}
+use Rattle.std.proofs.Common.{◌≡◌, ◌<◌, ◌≤◌, ◌+◌, ◌^◌, ℕ, ℤ, nat_lt, FitsSigned, w8, false, List, length, Option, Some, None, Ok, refl, sym, ◌∙◌, ap, arith, true}
 use Rattle.sample_view.specs.Words.{AreWords}
 use Rattle.numbered_lists.proofs.Lists.{slice_get-found}
 use Rattle.bank_parts.specs.declared.parts.Kind.{Kind}
@@ -14,11 +14,15 @@ use Rattle.bank_changes.specs.Points.{points_of, loop_of, looped_as, of_kind, tu
 use Rattle.bank_changes.proofs.Everywhere.{or_left, or_right, or_none}
 use Rattle.bank_changes.proofs.References.{link_weaker}
 use Rattle.bank_changes.proofs.PointLaws.{OutsideLoop, there_valid, there_fits, among, changed_sound, totals_stay, within_trimmed, trimmed_sound, extended_sound, loop_fits}
-use Rattle.edit_forms.specs.declared.step.Step.TheVariants.{Trim, Extend, SetLoop, SetKind, SetTune}
-use Rattle.edit_refusals.specs.Causes.{cuts_loop}
-use Rattle.edit_refusals.specs.Steps.{refusal, causes}
-use Rattle.edit_refusals.proofs.Accepted.{NoneStands, accepted, below, not_below, up_to, not_above}
+use Rattle.edit_forms.specs.declared.points.PointStep.TheVariants.{Trim, Extend, SetLoop, SetKind, SetTune}
+use Rattle.edit_forms.specs.declared.step.Step.TheVariants as steps
+use Rattle.edit_forms.specs.Causes.{cuts_loop, no_such_sample}
+use Rattle.edit_forms.specs.Steps.{refusal, causes}
+use Rattle.edit_refusals.proofs.Accepted.{NoneStands, accepted, by_limit, below, not_below, up_to, not_above}
 use Rattle.edit_refusals.proofs.SampleLaws.{link_hits, hit_link, loop_hits, hit_loop}
+use Rattle.edit_forms.specs.declared.points.PointStep.{PointStep}
+use Rattle.edit_forms.specs.Points as points
+use Rattle.edit_refusals.proofs.Rises.{rises}
 
 -- ---- a change that keeps the number of points breaks no limit
 
@@ -43,14 +47,14 @@ module _ (b : Parts) (i front back : ℕ) where
     pub inside : front + back ≤ length (points_of b i)
     pub outside : OutsideLoop (length (points_of b i)) front back (loop_of b i)
 
-  pub trims : NoneStands (causes b (Trim i front back)) → Trims
+  pub trims : NoneStands (causes b (steps.Points i (Trim front back))) → Trims
   trims (there, (inside, (outside, end))) = record {
     there = below (length b.samples) i there;
     inside = up_to (length (points_of b i)) (front + back) inside;
     outside = outside_loop (length (points_of b i)) front back (loop_of b i) outside;
   }
 
-  pub tests_trim : Trims → NoneStands (causes b (Trim i front back))
+  pub tests_trim : Trims → NoneStands (causes b (steps.Points i (Trim front back)))
   tests_trim t =
       (not_below (length b.samples) i t.there, (not_above (length (points_of b i)) (front + back) t.inside, (no_cut (length (points_of b i)) front back (loop_of b i) t.outside, tt)))
 
@@ -67,13 +71,13 @@ module _ (b : Parts) (i front back : ℕ) where
 -- ---- extend
 
 module _ (b : Parts) (i : ℕ) (front back : List ℕ) where
-  pub there_of_extend : refusal b (Extend i front back) ≡ None → i < length b.samples
-  there_of_extend h = below (length b.samples) i (accepted b (Extend i front back) h).tests.0
+  pub there_of_extend : refusal b (steps.Points i (Extend front back)) ≡ None → i < length b.samples
+  there_of_extend h = below (length b.samples) i (accepted b (steps.Points i (Extend front back)) h).tests.0
 
-  pub sound_extend : IsSound b → AreWords front → AreWords back → refusal b (Extend i front back) ≡ None → IsSound (sample_extended b i front back)
+  pub sound_extend : IsSound b → AreWords front → AreWords back → refusal b (steps.Points i (Extend front back)) ≡ None → IsSound (sample_extended b i front back)
   sound_extend sound f k h =
       let (s, e) = slice_get-found b.samples i (there_of_extend h) in
-      extended_sound b i front back s e sound f k (accepted b (Extend i front back) h).limits
+      extended_sound b i front back s e sound f k (accepted b (steps.Points i (Extend front back)) h).limits
 
 -- ---- set-loop
 
@@ -82,10 +86,10 @@ module _ (b : Parts) (i : ℕ) (looped : Option (ℕ × ℕ)) where
     pub there : i < length b.samples
     pub inside : IsLoop (length (points_of b i)) looped
 
-  pub loops : NoneStands (causes b (SetLoop i looped)) → Loops
+  pub loops : NoneStands (causes b (steps.Points i (SetLoop looped))) → Loops
   loops (there, (inside, end)) = record { there = below (length b.samples) i there; inside = loop_hits (length (points_of b i)) looped inside }
 
-  pub tests_loop : Loops → NoneStands (causes b (SetLoop i looped))
+  pub tests_loop : Loops → NoneStands (causes b (steps.Points i (SetLoop looped)))
   tests_loop l = (not_below (length b.samples) i l.there, (hit_loop (length (points_of b i)) looped l.inside, tt))
 
   pub sound_loop : IsSound b → Loops → IsSound (loop_set b i looped)
@@ -108,10 +112,10 @@ module _ (b : Parts) (i : ℕ) (kind : Kind) where
     pub there : i < length b.samples
     pub link : IsLink (length b.samples) kind
 
-  pub links : NoneStands (causes b (SetKind i kind)) → Links
+  pub links : NoneStands (causes b (steps.Points i (SetKind kind))) → Links
   links (there, (link, end)) = record { there = below (length b.samples) i there; link = link_hits (length b.samples) kind link }
 
-  pub tests_kind : Links → NoneStands (causes b (SetKind i kind))
+  pub tests_kind : Links → NoneStands (causes b (steps.Points i (SetKind kind)))
   tests_kind l = (not_below (length b.samples) i l.there, (hit_link (length b.samples) kind l.link, tt))
 
   pub sound_kind : IsSound b → Links → IsSound (kind_set b i kind)
@@ -129,8 +133,14 @@ module _ (b : Parts) (i : ℕ) (kind : Kind) where
 -- ---- set-tune
 
 module _ (b : Parts) (i rate key : ℕ) (correction : ℤ) where
-  pub there_of_tune : refusal b (SetTune i rate key correction) ≡ None → i < length b.samples
-  there_of_tune h = below (length b.samples) i (accepted b (SetTune i rate key correction) h).tests.0
+  pub there_of_tune : refusal b (steps.Points i (SetTune rate key correction)) ≡ None → i < length b.samples
+  there_of_tune h = below (length b.samples) i (accepted b (steps.Points i (SetTune rate key correction)) h).tests.0
+
+  -- a sample that is there takes any
+  pub takes_tune : IsSound b → (no_such_sample b i).stands ≡ false → refusal b (steps.Points i (SetTune rate key correction)) ≡ None
+  takes_tune sound there =
+      by_limit b (steps.Points i (SetTune rate key correction)) None (Ok tt) (there, tt)
+      (within_change b i (tuned rate key correction) sound (below (length b.samples) i there) (λ s. refl)) refl
 
   pub sound_tune : IsSound b → (rate < 2 ^ 32) → (key < 2 ^ 8) → FitsSigned w8 correction → i < length b.samples → IsSound (tune_set b i rate key correction)
   sound_tune sound r k c lt =
@@ -141,3 +151,12 @@ module _ (b : Parts) (i rate key : ℕ) (correction : ℤ) where
       (record { name = v.name; looped = v.looped; kind = v.kind })
       (record { name = g.name; points = g.points; looped = g.looped; rate = r; key = k; correction = c; kind = g.kind })
       (within_change b i (tuned rate key correction) sound lt (λ s. refl))
+
+-- ---- the order of their causes
+
+pub points_rises : (b : Parts) (i : ℕ) (s : PointStep) → rises 22 (points.causes b i s) ≡ true
+points_rises b i (Trim front back) = refl
+points_rises b i (Extend front back) = refl
+points_rises b i (SetLoop looped) = refl
+points_rises b i (SetKind kind) = refl
+points_rises b i (SetTune rate key correction) = refl

@@ -1,5 +1,5 @@
 -- The forms that edit presets: what acceptance says of each.
-use Rattle.std.proofs.Common.{◌≡◌, ◌<◌, ◌≤◌, ℕ, List, length, None, ◌∙◌, ap}
+use Rattle.std.proofs.Common.{◌≡◌, ◌<◌, ◌≤◌, ℕ, List, length, None, ◌∙◌, ap, true, refl}
 use Rattle.generators.specs.declared.level.Level.TheVariants as level
 use Rattle.bank_parts.specs.declared.parts.Head.{Head}
 use Rattle.bank_parts.specs.declared.parts.WithZones.{WithZones}
@@ -12,12 +12,16 @@ use Rattle.bank_validity.specs.Limits.{totals_of, broken, broken_limit, with_own
 use Rattle.bank_validity.proofs.LimitLaws.{no_limit_of}
 use Rattle.bank_changes.specs.Presets.{preset_added, preset_removed, preset_moved, head_set}
 use Rattle.bank_changes.proofs.PresetLaws.{totals-added_preset, totals-preset_moved, totals-head_set, sound_added_preset, sound_removed_preset, preset_moved_sound}
-use Rattle.edit_forms.specs.declared.step.Step.TheVariants.{AddPreset, RemovePreset, MovePreset, SetHead}
-use Rattle.edit_refusals.specs.declared.cause.Cause.TheVariants.{NoSuchPreset, NoSuchInstrument}
-use Rattle.edit_refusals.specs.Steps.{refusal}
+use Rattle.edit_forms.specs.declared.presets.PresetStep.TheVariants.{AddPreset, RemovePreset, MovePreset, SetHead}
+use Rattle.edit_forms.specs.declared.step.Step.TheVariants as steps
+use Rattle.edit_forms.specs.declared.cause.Cause.TheVariants.{NoSuchPreset, NoSuchInstrument}
+use Rattle.edit_forms.specs.Steps.{refusal}
 use Rattle.edit_refusals.proofs.Accepted.{accepted, below}
 use Rattle.edit_refusals.proofs.Moves.{Moves, moves}
 use Rattle.edit_refusals.proofs.OwnerLaws.{GoesIn, goes_in}
+use Rattle.edit_forms.specs.declared.presets.PresetStep.{PresetStep}
+use Rattle.edit_forms.specs.Presets as presets
+use Rattle.edit_refusals.proofs.Rises.{rises}
 
 -- ---- add-preset
 
@@ -25,12 +29,12 @@ module _ (b : Parts) (i : ℕ) (p : WithZones Head) where
   abbrev pub PresetGoes : Type 0
   PresetGoes = GoesIn (λ (h : Head). h.name) level.Preset (length b.instruments) (length b.presets) i p
 
-  pub preset_goes : FitsOwner FitsHead p → refusal b (AddPreset i p) ≡ None → PresetGoes
+  pub preset_goes : FitsOwner FitsHead p → refusal b (steps.Preset (AddPreset i p)) ≡ None → PresetGoes
   preset_goes fits h =
-      goes_in (λ (h : Head). h.name) level.Preset (length b.instruments) (length b.presets) i p NoSuchInstrument fits.head.name (accepted b (AddPreset i p) h).tests
+      goes_in (λ (h : Head). h.name) level.Preset (length b.instruments) (length b.presets) i p NoSuchInstrument fits.head.name (accepted b (steps.Preset (AddPreset i p)) h).tests
 
-  pub sound_add_preset : IsSound b → FitsOwner FitsHead p → refusal b (AddPreset i p) ≡ None → IsSound (preset_added b i p)
-  sound_add_preset sound fits h = let g = preset_goes fits h in sound_added_preset b i p sound g.is fits (accepted b (AddPreset i p) h).limits
+  pub sound_add_preset : IsSound b → FitsOwner FitsHead p → refusal b (steps.Preset (AddPreset i p)) ≡ None → IsSound (preset_added b i p)
+  sound_add_preset sound fits h = let g = preset_goes fits h in sound_added_preset b i p sound g.is fits (accepted b (steps.Preset (AddPreset i p)) h).limits
 
   -- the limit that the sums tell
   pub limit_add_preset : i ≤ length b.presets → broken_limit (preset_added b i p) ≡ broken (with_owner level.Preset (totals_of b) (records_of_owner p))
@@ -39,10 +43,10 @@ module _ (b : Parts) (i : ℕ) (p : WithZones Head) where
 -- ---- remove-preset
 
 module _ (b : Parts) (i : ℕ) where
-  pub there_of_remove_preset : refusal b (RemovePreset i) ≡ None → i < length b.presets
-  there_of_remove_preset h = below (length b.presets) i (accepted b (RemovePreset i) h).tests.0
+  pub there_of_remove_preset : refusal b (steps.Preset (RemovePreset i)) ≡ None → i < length b.presets
+  there_of_remove_preset h = below (length b.presets) i (accepted b (steps.Preset (RemovePreset i)) h).tests.0
 
-  pub sound_remove_preset : IsSound b → refusal b (RemovePreset i) ≡ None → IsSound (preset_removed b i)
+  pub sound_remove_preset : IsSound b → refusal b (steps.Preset (RemovePreset i)) ≡ None → IsSound (preset_removed b i)
   sound_remove_preset sound h = sound_removed_preset b i sound (there_of_remove_preset h)
 
   pub within_remove_preset : IsSound b → i < length b.presets → broken_limit (preset_removed b i) ≡ None
@@ -51,10 +55,10 @@ module _ (b : Parts) (i : ℕ) where
 -- ---- move-preset
 
 module _ (b : Parts) (i j : ℕ) where
-  pub moves_preset : refusal b (MovePreset i j) ≡ None → Moves (length b.presets) i j
-  moves_preset h = moves (length b.presets) i j NoSuchPreset (accepted b (MovePreset i j) h).tests
+  pub moves_preset : refusal b (steps.Preset (MovePreset i j)) ≡ None → Moves (length b.presets) i j
+  moves_preset h = moves (length b.presets) i j NoSuchPreset (accepted b (steps.Preset (MovePreset i j)) h).tests
 
-  pub sound_move_preset : IsSound b → refusal b (MovePreset i j) ≡ None → IsSound (preset_moved b i j)
+  pub sound_move_preset : IsSound b → refusal b (steps.Preset (MovePreset i j)) ≡ None → IsSound (preset_moved b i j)
   sound_move_preset sound h = let m = moves_preset h in preset_moved_sound b i j m.there m.place sound
 
   pub within_move_preset : IsValid b → i < length b.presets → j < length b.presets → broken_limit (preset_moved b i j) ≡ None
@@ -63,8 +67,16 @@ module _ (b : Parts) (i j : ℕ) where
 -- ---- set-head
 
 module _ (b : Parts) (i : ℕ) (name : List ℕ) (number bank : ℕ) where
-  pub there_of_set_head : refusal b (SetHead i name number bank) ≡ None → i < length b.presets
-  there_of_set_head h = below (length b.presets) i (accepted b (SetHead i name number bank) h).tests.0
+  pub there_of_set_head : refusal b (steps.Preset (SetHead i name number bank)) ≡ None → i < length b.presets
+  there_of_set_head h = below (length b.presets) i (accepted b (steps.Preset (SetHead i name number bank)) h).tests.0
 
   pub within_set_head : IsValid b → broken_limit (head_set b i name number bank) ≡ None
   within_set_head v = ap broken (totals-head_set b i name number bank) ∙ no_limit_of b v.limits
+
+-- ---- the order of their causes
+
+pub preset_rises : (b : Parts) (s : PresetStep) → rises 0 (presets.causes b s) ≡ true
+preset_rises b (AddPreset at preset) = refl
+preset_rises b (RemovePreset preset) = refl
+preset_rises b (MovePreset from to) = refl
+preset_rises b (SetHead preset name number bank) = refl

@@ -1,5 +1,5 @@
 -- The forms that edit samples: what acceptance says of each.
-use Rattle.std.proofs.Common.{◌≡◌, ◌<◌, ◌≤◌, ◌+◌, ℕ, nat_le, nat_lt, false, List, length, Option, Some, None, refl, ◌∙◌, ap}
+use Rattle.std.proofs.Common.{◌≡◌, ◌<◌, ◌≤◌, ◌+◌, ℕ, nat_le, nat_lt, false, List, length, Option, Some, None, refl, ◌∙◌, ap, true}
 use Rattle.bank_parts.specs.declared.parts.Kind.{Kind}
 use Rattle.bank_parts.specs.declared.parts.Kind.TheVariants.{Mono, Right, Left, Linked}
 use Rattle.bank_parts.specs.declared.parts.Sample.{Sample}
@@ -12,12 +12,16 @@ use Rattle.bank_validity.proofs.LimitLaws.{no_limit_of}
 use Rattle.bank_changes.specs.Samples.{sample_in_use, sample_renamed, sample_added, sample_removed, sample_moved}
 use Rattle.bank_changes.proofs.Everywhere.{or_left, or_right, or_none}
 use Rattle.bank_changes.proofs.SampleLaws.{totals-renamed, totals-added, totals-moved, added_sound, removed_sound, moved_sound}
-use Rattle.edit_forms.specs.declared.step.Step.TheVariants.{RenameSample, AddSample, RemoveSample, MoveSample}
-use Rattle.edit_refusals.specs.declared.cause.Cause.TheVariants.{NoSuchSample}
-use Rattle.edit_refusals.specs.Causes.{link_misses, loop_misses}
-use Rattle.edit_refusals.specs.Steps.{refusal, causes}
+use Rattle.edit_forms.specs.declared.samples.SampleStep.TheVariants.{RenameSample, AddSample, RemoveSample, MoveSample}
+use Rattle.edit_forms.specs.declared.step.Step.TheVariants as steps
+use Rattle.edit_forms.specs.declared.cause.Cause.TheVariants.{NoSuchSample}
+use Rattle.edit_forms.specs.Causes.{link_misses, loop_misses}
+use Rattle.edit_forms.specs.Steps.{refusal, causes}
 use Rattle.edit_refusals.proofs.Accepted.{NoneStands, accepted, below, not_below, up_to, not_above}
 use Rattle.edit_refusals.proofs.Moves.{Moves, moves}
+use Rattle.edit_forms.specs.declared.samples.SampleStep.{SampleStep}
+use Rattle.edit_forms.specs.Samples as samples
+use Rattle.edit_refusals.proofs.Rises.{rises}
 
 -- ---- the tests of contents
 
@@ -44,8 +48,8 @@ hit_loop n (Some l) h = or_none (nat_le l.1 l.0) (nat_lt n l.1) (not_below l.1 l
 -- ---- rename-sample
 
 module _ (b : Parts) (i : ℕ) (name : List ℕ) where
-  pub there_of_rename : refusal b (RenameSample i name) ≡ None → i < length b.samples
-  there_of_rename h = below (length b.samples) i (accepted b (RenameSample i name) h).tests.0
+  pub there_of_rename : refusal b (steps.Sample (RenameSample i name)) ≡ None → i < length b.samples
+  there_of_rename h = below (length b.samples) i (accepted b (steps.Sample (RenameSample i name)) h).tests.0
 
   pub within_rename : IsValid b → broken_limit (sample_renamed b i name) ≡ None
   within_rename v = ap broken (totals-renamed b i name) ∙ no_limit_of b v.limits
@@ -58,15 +62,15 @@ module _ (b : Parts) (i : ℕ) (s : Sample) where
     pub place : i ≤ length b.samples
     pub looped : IsLoop (length s.points) s.looped
 
-  pub goes_in : NoneStands (causes b (AddSample i s)) → Goes
+  pub goes_in : NoneStands (causes b (steps.Sample (AddSample i s))) → Goes
   goes_in (link, (place, (looped, end))) = record { link = link_hits (length b.samples + 1) s.kind link; place = up_to (length b.samples) i place; looped = loop_hits (length s.points) s.looped looped }
 
-  pub tests_add : Goes → NoneStands (causes b (AddSample i s))
+  pub tests_add : Goes → NoneStands (causes b (steps.Sample (AddSample i s)))
   tests_add g = (hit_link (length b.samples + 1) s.kind g.link, (not_above (length b.samples) i g.place, (hit_loop (length s.points) s.looped g.looped, tt)))
 
-  pub sound_add : IsSound b → FitsSample s → refusal b (AddSample i s) ≡ None → IsSound (sample_added b i s)
+  pub sound_add : IsSound b → FitsSample s → refusal b (steps.Sample (AddSample i s)) ≡ None → IsSound (sample_added b i s)
   sound_add sound fits h =
-      let a = accepted b (AddSample i s) h in
+      let a = accepted b (steps.Sample (AddSample i s)) h in
       let g = goes_in a.tests in
       added_sound b i s sound g.place (record { name = fits.name; looped = g.looped; kind = g.link }) fits a.limits
 
@@ -81,11 +85,11 @@ module _ (b : Parts) (i : ℕ) where
     pub there : i < length b.samples
     pub free : sample_in_use b i ≡ false
 
-  pub comes_out : NoneStands (causes b (RemoveSample i)) → Comes
+  pub comes_out : NoneStands (causes b (steps.Sample (RemoveSample i))) → Comes
   comes_out (there, (free, end)) = record { there = below (length b.samples) i there; free = free }
 
-  pub sound_remove : IsSound b → refusal b (RemoveSample i) ≡ None → IsSound (sample_removed b i)
-  sound_remove sound h = let c = comes_out (accepted b (RemoveSample i) h).tests in removed_sound b i sound c.there c.free
+  pub sound_remove : IsSound b → refusal b (steps.Sample (RemoveSample i)) ≡ None → IsSound (sample_removed b i)
+  sound_remove sound h = let c = comes_out (accepted b (steps.Sample (RemoveSample i)) h).tests in removed_sound b i sound c.there c.free
 
   pub within_remove : IsSound b → i < length b.samples → sample_in_use b i ≡ false → broken_limit (sample_removed b i) ≡ None
   within_remove sound lt free = no_limit_of (sample_removed b i) (removed_sound b i sound lt free).valid.limits
@@ -93,11 +97,19 @@ module _ (b : Parts) (i : ℕ) where
 -- ---- move-sample
 
 module _ (b : Parts) (i j : ℕ) where
-  pub moves_sample : refusal b (MoveSample i j) ≡ None → Moves (length b.samples) i j
-  moves_sample h = moves (length b.samples) i j NoSuchSample (accepted b (MoveSample i j) h).tests
+  pub moves_sample : refusal b (steps.Sample (MoveSample i j)) ≡ None → Moves (length b.samples) i j
+  moves_sample h = moves (length b.samples) i j NoSuchSample (accepted b (steps.Sample (MoveSample i j)) h).tests
 
-  pub sound_move_sample : IsSound b → refusal b (MoveSample i j) ≡ None → IsSound (sample_moved b i j)
+  pub sound_move_sample : IsSound b → refusal b (steps.Sample (MoveSample i j)) ≡ None → IsSound (sample_moved b i j)
   sound_move_sample sound h = let m = moves_sample h in moved_sound b i j m.there m.place sound
 
   pub within_move_sample : IsValid b → i < length b.samples → j < length b.samples → broken_limit (sample_moved b i j) ≡ None
   within_move_sample v lt lu = ap broken (totals-moved b i j lt lu) ∙ no_limit_of b v.limits
+
+-- ---- the order of their causes
+
+pub sample_rises : (b : Parts) (s : SampleStep) → rises 0 (samples.causes b s) ≡ true
+sample_rises b (RenameSample sample name) = refl
+sample_rises b (AddSample at sample) = refl
+sample_rises b (RemoveSample sample) = refl
+sample_rises b (MoveSample from to) = refl

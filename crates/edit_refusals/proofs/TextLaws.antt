@@ -14,10 +14,14 @@ use Rattle.bank_validity.proofs.LimitLaws.{no_limit_of}
 use Rattle.bank_changes.specs.Texts.{info_set}
 use Rattle.bank_changes.proofs.Everywhere.{all_weaker, all_both, none_passes, passes_none, or_left, or_right, or_none}
 use Rattle.bank_changes.proofs.TextLaws.{IsInfo, info_sound, totals-info}
-use Rattle.edit_forms.specs.declared.step.Step.TheVariants.{SetInfo}
-use Rattle.edit_refusals.specs.Causes.{bad_text}
-use Rattle.edit_refusals.specs.Steps.{refusal}
+use Rattle.edit_forms.specs.declared.texts.TextStep.TheVariants.{SetInfo}
+use Rattle.edit_forms.specs.declared.step.Step.TheVariants as steps
+use Rattle.edit_forms.specs.Causes.{bad_text}
+use Rattle.edit_forms.specs.Steps.{refusal}
 use Rattle.edit_refusals.proofs.Accepted.{accepted, up_to, not_above}
+use Rattle.edit_forms.specs.declared.texts.TextStep.{TextStep}
+use Rattle.edit_forms.specs.Texts as texts
+use Rattle.edit_refusals.proofs.Rises.{rises}
 
 -- ---- the test of a text
 
@@ -69,8 +73,13 @@ module _ (id : InfoId) (text : List ℕ) where
 -- ---- set-info
 
 module _ (b : Parts) (id : InfoId) (text : List ℕ) where
-  pub sound_set_info : IsSound b → FitsText text → refusal b (SetInfo id text) ≡ None → IsSound (info_set b id text)
-  sound_set_info sound fits h = info_sound b id text sound (good_text id text fits (accepted b (SetInfo id text) h).tests.0)
+  pub sound_set_info : IsSound b → FitsText text → refusal b (steps.Text (SetInfo id text)) ≡ None → IsSound (info_set b id text)
+  sound_set_info sound fits h = info_sound b id text sound (good_text id text fits (accepted b (steps.Text (SetInfo id text)) h).tests.0)
 
   pub within_set_info : IsValid b → broken_limit (info_set b id text) ≡ None
   within_set_info v = ap broken (totals-info b id text) ∙ no_limit_of b v.limits
+
+-- ---- the order of their causes
+
+pub text_rises : (b : Parts) (s : TextStep) → rises 0 (texts.causes b s) ≡ true
+text_rises b (SetInfo id text) = refl

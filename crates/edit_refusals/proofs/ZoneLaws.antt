@@ -1,5 +1,5 @@
 -- The forms that edit zones: what acceptance says of each.
-use Rattle.std.proofs.Common.{◌≡◌, ◌<◌, ◌≤◌, ◌^◌, ◌||◌, ℕ, false, nat_le, List, [], ◌∷◌, length, Option, Some, None, unwrap_or, refl, ◌∙◌, ap, arith}
+use Rattle.std.proofs.Common.{◌≡◌, ◌<◌, ◌≤◌, ◌^◌, ◌||◌, ℕ, false, nat_le, List, [], ◌∷◌, length, Option, Some, None, unwrap_or, refl, ◌∙◌, ap, arith, ◌+◌, Bool, true, not, subst}
 use Rattle.std.specs.Prelude.{IsSomeAnd, slice_get}
 use Rattle.sf_base.specs.Names.{IsName}
 use Rattle.numbered_lists.proofs.Lists.{slice_get-found, slice_get-within}
@@ -9,7 +9,7 @@ use Rattle.bank_parts.specs.declared.parts.WithZones.{WithZones}
 use Rattle.bank_parts.specs.declared.parts.Parts.{Parts}
 use Rattle.bank_parts.specs.Contents.{sets_foreign, sets_bad_range}
 use Rattle.bank_parts.specs.Settings.{settings_of_zone}
-use Rattle.bank_parts.specs.Valid.{IsZone, IsOwner}
+use Rattle.bank_parts.specs.Valid.{IsZone, IsOwner, owner_total, zone_count, global_count}
 use Rattle.bank_parts.specs.Fits.{FitsZone}
 use Rattle.bank_parts.specs.Sound.{IsSound}
 use Rattle.bank_validity.specs.Limits.{broken, broken_limit}
@@ -20,13 +20,23 @@ use Rattle.bank_parts.proofs.SettingLaws.{source}
 use Rattle.bank_parts.proofs.UndoneLaws.{zones_there}
 use Rattle.bank_changes.specs.declared.members.Owner.{Owner}
 use Rattle.bank_changes.specs.declared.members.Owner.TheVariants as owner
-use Rattle.bank_changes.specs.Members.{own_zone_count, level_of, target_count}
-use Rattle.bank_changes.specs.Zones.{zone_added, zone_removed, zone_moved, target_set}
-use Rattle.bank_changes.proofs.ZoneChangeLaws.{sound_zone_added, sound_zone_removed, sound_zone_moved, sound_target_set, totals-zone_moved, totals-target_set}
-use Rattle.edit_forms.specs.declared.step.Step.TheVariants.{AddZone, RemoveZone, MoveZone, SetTarget}
-use Rattle.edit_refusals.specs.Causes.{zone_total, no_such_owner}
-use Rattle.edit_refusals.specs.Steps.{refusal, causes}
+use Rattle.bank_changes.specs.Members.{own_zone_count, level_of, target_count, zones_of}
+use Rattle.bank_changes.specs.Zones.{zone_added, zone_removed, zone_moved, target_set, zone_split, zone_joined, can_split, can_join}
+use Rattle.bank_changes.proofs.ZoneChangeLaws.{sound_zone_added, sound_zone_removed, sound_zone_moved, sound_target_set, totals-zone_moved, totals-target_set, own_count}
+use Rattle.edit_forms.specs.declared.zones.ZoneStep.TheVariants.{AddZone, RemoveZone, MoveZone, SetTarget, SplitZone, JoinZone}
+use Rattle.edit_forms.specs.declared.step.Step.TheVariants as steps
+use Rattle.edit_forms.specs.Causes.{zone_total, no_such_owner}
+use Rattle.edit_forms.specs.Steps.{refusal, causes}
 use Rattle.edit_refusals.proofs.Accepted.{NoneStands, accepted, below, not_below, up_to, not_above}
+use Rattle.sf_base.specs.declared.limits.TheConstants.{ZONES}
+use Rattle.bank_parts.specs.declared.parts.Head.{Head}
+use Rattle.zone_ranges.specs.declared.axes.Axis.{Axis}
+use Rattle.zone_ranges.specs.declared.axes.Keep.{Keep}
+use Rattle.bank_changes.proofs.Changes.{sum-removed}
+use Rattle.bank_changes.proofs.SplitLaws.{split, join, next_is_there, sound_zone_split, sound_zone_joined}
+use Rattle.edit_forms.specs.declared.zones.ZoneStep.{ZoneStep}
+use Rattle.edit_forms.specs.Zones as zones
+use Rattle.edit_refusals.proofs.Rises.{rises}
 
 -- ---- owners and their zones
 
@@ -88,40 +98,40 @@ module _ (b : Parts) (o : Owner) (at : ℕ) (zone : Zone) where
     pub place : IsSomeAnd (own_zone_count b o) (λ count. at ≤ count)
     pub is : IsZone (level_of o) (target_count b o) zone
 
-  pub zone_goes : NoneStands (causes b (AddZone o at zone)) → ZoneGoes
+  pub zone_goes : NoneStands (causes b (steps.Zone o (AddZone at zone))) → ZoneGoes
   zone_goes (there, (target, (place, (operators, (ranges, end))))) = record {
     place = total_there b o (λ count. at ≤ count) there (up_to (zone_total b o) at place);
     is = zone_from_tests (level_of o) (target_count b o) zone target operators ranges;
   }
 
-  pub tests_add_zone : ZoneGoes → NoneStands (causes b (AddZone o at zone))
+  pub tests_add_zone : ZoneGoes → NoneStands (causes b (steps.Zone o (AddZone at zone)))
   tests_add_zone g =
       let t = tests_from_zone (level_of o) (target_count b o) zone g.is in
       let place = total_is (own_zone_count b o) (λ count. at ≤ count) g.place in
       (owner_is_there b o (λ count. at ≤ count) g.place, (t.target, (not_above (zone_total b o) at place, (t.operators, (t.ranges, tt)))))
 
-  pub sound_add_zone : IsSound b → FitsZone zone → refusal b (AddZone o at zone) ≡ None → IsSound (zone_added b o at zone)
+  pub sound_add_zone : IsSound b → FitsZone zone → refusal b (steps.Zone o (AddZone at zone)) ≡ None → IsSound (zone_added b o at zone)
   sound_add_zone sound fits h =
-      let a = accepted b (AddZone o at zone) h in
+      let a = accepted b (steps.Zone o (AddZone at zone)) h in
       let g = zone_goes a.tests in
       sound_zone_added b o at zone g.place sound g.is fits a.limits
 
 -- ---- remove-zone
 
 module _ (b : Parts) (o : Owner) (k : ℕ) where
-  pub zone_comes : NoneStands (causes b (RemoveZone o k)) → IsSomeAnd (own_zone_count b o) (λ count. k < count)
+  pub zone_comes : NoneStands (causes b (steps.Zone o (RemoveZone k))) → IsSomeAnd (own_zone_count b o) (λ count. k < count)
   zone_comes (there, (zone, end)) = total_there b o (λ count. k < count) there (below (zone_total b o) k zone)
 
-  pub tests_remove_zone : IsSomeAnd (own_zone_count b o) (λ count. k < count) → NoneStands (causes b (RemoveZone o k))
+  pub tests_remove_zone : IsSomeAnd (own_zone_count b o) (λ count. k < count) → NoneStands (causes b (steps.Zone o (RemoveZone k)))
   tests_remove_zone h = (owner_is_there b o (λ count. k < count) h, (not_below (zone_total b o) k (total_is (own_zone_count b o) (λ count. k < count) h), tt))
 
-  pub comes_of_remove_zone : refusal b (RemoveZone o k) ≡ None → IsSomeAnd (own_zone_count b o) (λ count. k < count)
-  comes_of_remove_zone h = zone_comes (accepted b (RemoveZone o k) h).tests
+  pub comes_of_remove_zone : refusal b (steps.Zone o (RemoveZone k)) ≡ None → IsSomeAnd (own_zone_count b o) (λ count. k < count)
+  comes_of_remove_zone h = zone_comes (accepted b (steps.Zone o (RemoveZone k)) h).tests
 
-  pub sound_remove_zone : IsSound b → refusal b (RemoveZone o k) ≡ None → IsSound (zone_removed b o k)
+  pub sound_remove_zone : IsSound b → refusal b (steps.Zone o (RemoveZone k)) ≡ None → IsSound (zone_removed b o k)
   sound_remove_zone sound h = sound_zone_removed b o k (comes_of_remove_zone h) sound
 
-  pub within_remove_zone : IsSound b → NoneStands (causes b (RemoveZone o k)) → broken_limit (zone_removed b o k) ≡ None
+  pub within_remove_zone : IsSound b → NoneStands (causes b (steps.Zone o (RemoveZone k))) → broken_limit (zone_removed b o k) ≡ None
   within_remove_zone sound h = no_limit_of (zone_removed b o k) (sound_zone_removed b o k (zone_comes h) sound).valid.limits
 
 -- ---- move-zone
@@ -131,13 +141,13 @@ module _ (b : Parts) (o : Owner) (from to : ℕ) where
     pub there : IsSomeAnd (own_zone_count b o) (λ count. from < count)
     pub place : IsSomeAnd (own_zone_count b o) (λ count. to < count)
 
-  pub zone_moves : NoneStands (causes b (MoveZone o from to)) → ZoneMoves
+  pub zone_moves : NoneStands (causes b (steps.Zone o (MoveZone from to))) → ZoneMoves
   zone_moves (there, (zone, (place, end))) = record {
     there = total_there b o (λ count. from < count) there (below (zone_total b o) from zone);
     place = total_there b o (λ count. to < count) there (below (zone_total b o) to place);
   }
 
-  pub tests_move_zone : ZoneMoves → NoneStands (causes b (MoveZone o from to))
+  pub tests_move_zone : ZoneMoves → NoneStands (causes b (steps.Zone o (MoveZone from to)))
   tests_move_zone m = (
     owner_is_there b o (λ count. from < count) m.there,
     (
@@ -146,13 +156,13 @@ module _ (b : Parts) (o : Owner) (from to : ℕ) where
     ),
   )
 
-  pub moves_of_move_zone : refusal b (MoveZone o from to) ≡ None → ZoneMoves
-  moves_of_move_zone h = zone_moves (accepted b (MoveZone o from to) h).tests
+  pub moves_of_move_zone : refusal b (steps.Zone o (MoveZone from to)) ≡ None → ZoneMoves
+  moves_of_move_zone h = zone_moves (accepted b (steps.Zone o (MoveZone from to)) h).tests
 
-  pub sound_move_zone : IsSound b → refusal b (MoveZone o from to) ≡ None → IsSound (zone_moved b o from to)
+  pub sound_move_zone : IsSound b → refusal b (steps.Zone o (MoveZone from to)) ≡ None → IsSound (zone_moved b o from to)
   sound_move_zone sound h = sound_zone_moved b o from to (moves_of_move_zone h).there sound
 
-  pub within_move_zone : IsSound b → NoneStands (causes b (MoveZone o from to)) → broken_limit (zone_moved b o from to) ≡ None
+  pub within_move_zone : IsSound b → NoneStands (causes b (steps.Zone o (MoveZone from to))) → broken_limit (zone_moved b o from to) ≡ None
   within_move_zone sound h = ap broken (totals-zone_moved b o from to (zone_moves h).there) ∙ no_limit_of b sound.valid.limits
 
 -- ---- set-target
@@ -162,13 +172,13 @@ module _ (b : Parts) (o : Owner) (k target : ℕ) where
     pub there : IsSomeAnd (own_zone_count b o) (λ count. k < count)
     pub target_is : target < target_count b o
 
-  pub target_goes : NoneStands (causes b (SetTarget o k target)) → TargetGoes
+  pub target_goes : NoneStands (causes b (steps.Zone o (SetTarget k target))) → TargetGoes
   target_goes (there, (names, (zone, end))) = record {
     there = total_there b o (λ count. k < count) there (below (zone_total b o) k zone);
     target_is = below (target_count b o) target names;
   }
 
-  pub tests_set_target : TargetGoes → NoneStands (causes b (SetTarget o k target))
+  pub tests_set_target : TargetGoes → NoneStands (causes b (steps.Zone o (SetTarget k target)))
   tests_set_target g = (
     owner_is_there b o (λ count. k < count) g.there,
     (
@@ -177,11 +187,97 @@ module _ (b : Parts) (o : Owner) (k target : ℕ) where
     ),
   )
 
-  pub goes_of_set_target : refusal b (SetTarget o k target) ≡ None → TargetGoes
-  goes_of_set_target h = target_goes (accepted b (SetTarget o k target) h).tests
+  pub goes_of_set_target : refusal b (steps.Zone o (SetTarget k target)) ≡ None → TargetGoes
+  goes_of_set_target h = target_goes (accepted b (steps.Zone o (SetTarget k target)) h).tests
 
-  pub sound_set_target : IsSound b → target < 2 ^ 16 → refusal b (SetTarget o k target) ≡ None → IsSound (target_set b o k target)
+  pub sound_set_target : IsSound b → target < 2 ^ 16 → refusal b (steps.Zone o (SetTarget k target)) ≡ None → IsSound (target_set b o k target)
   sound_set_target sound fits h = let g = goes_of_set_target h in sound_target_set b o k target g.there sound g.target_is fits
 
-  pub within_set_target : IsSound b → NoneStands (causes b (SetTarget o k target)) → broken_limit (target_set b o k target) ≡ None
+  pub within_set_target : IsSound b → NoneStands (causes b (steps.Zone o (SetTarget k target))) → broken_limit (target_set b o k target) ≡ None
   within_set_target sound h = ap broken (totals-target_set b o k target (target_goes h).there) ∙ no_limit_of b sound.valid.limits
+
+-- ---- what is there
+
+is_true : (t : Bool) → not t ≡ false → t ≡ true
+is_true true h = refl
+is_true false h = cc
+
+is_not : (t : Bool) → t ≡ true → not t ≡ false
+is_not true h = refl
+is_not false h = cc
+
+few_zones : {H : Type 0} (owners : List (WithZones H)) (i : ℕ) (x : WithZones H) → slice_get owners i ≡ Some x → owner_total zone_count owners ≤ ZONES → length x.zones < 2 ^ 32
+few_zones {H} owners i x e within =
+    let sum = sum-removed (λ (x : WithZones H). global_count x.global + length x.zones) owners i x e in
+    omega (arith, sum, within)
+
+few_there : (b : Parts) (o : Owner) (zones : List Zone) → IsSound b → zones_of b o ≡ Some zones → length zones < 2 ^ 32
+few_there b (owner.Preset p) zones sound e =
+    let x = source (λ (x : WithZones Head). x.zones) (slice_get b.presets p) zones e in
+    subst (λ (zs : List Zone). length zs < 2 ^ 32) x.seen (few_zones b.presets p x.member x.there sound.valid.limits.preset_zones)
+few_there b (owner.Instrument i) zones sound e =
+    let x = source (λ (x : WithZones (List ℕ)). x.zones) (slice_get b.instruments i) zones e in
+    subst (λ (zs : List Zone). length zs < 2 ^ 32) x.seen (few_zones b.instruments i x.member x.there sound.valid.limits.instrument_zones)
+
+-- ---- split-zone
+
+module _ (b : Parts) (o : Owner) (k : ℕ) (axis : Axis) (m : ℕ) where
+  pub can_of_split : NoneStands (causes b (steps.Zone o (SplitZone k axis m))) → can_split b o k axis m ≡ true
+  can_of_split (there, (zone, (inside, end))) = is_true (can_split b o k axis m) inside
+
+  pub tests_split_zone : can_split b o k axis m ≡ true → NoneStands (causes b (steps.Zone o (SplitZone k axis m)))
+  tests_split_zone can =
+      let s = split b o k axis m can in
+      let zone = own_count b o s.own.zones (λ count. k < count) s.own.there (slice_get-within s.own.zones k s.own.zone s.own.at) in (
+        owner_is_there b o (λ count. k < count) zone,
+        (not_below (zone_total b o) k (total_is (own_zone_count b o) (λ count. k < count) zone), (is_not (can_split b o k axis m) can, tt)),
+      )
+
+  pub can_of_split_zone : refusal b (steps.Zone o (SplitZone k axis m)) ≡ None → can_split b o k axis m ≡ true
+  can_of_split_zone h = can_of_split (accepted b (steps.Zone o (SplitZone k axis m)) h).tests
+
+  pub sound_split_zone : IsSound b → refusal b (steps.Zone o (SplitZone k axis m)) ≡ None → IsSound (zone_split b o k axis m)
+  sound_split_zone sound h = let a = accepted b (steps.Zone o (SplitZone k axis m)) h in sound_zone_split b o k axis m (can_of_split a.tests) sound a.limits
+
+-- ---- join-zone
+
+module _ (b : Parts) (o : Owner) (k : ℕ) (axis : Axis) (keep : Keep) where
+  pub can_of_join : NoneStands (causes b (steps.Zone o (JoinZone k axis keep))) → can_join b o k axis keep ≡ true
+  can_of_join (there, (zone, (joinable, end))) = is_true (can_join b o k axis keep) joinable
+
+  pub tests_join_zone : can_join b o k axis keep ≡ true → NoneStands (causes b (steps.Zone o (JoinZone k axis keep)))
+  tests_join_zone can =
+      let s = join b o k axis keep can in
+      let next = next_is_there b o k axis keep can in (
+        owner_is_there b o (λ count. k + 1 < count) next,
+        (not_below (zone_total b o) (k + 1) (total_is (own_zone_count b o) (λ count. k + 1 < count) next), (is_not (can_join b o k axis keep) can, tt)),
+      )
+
+  pub can_of_join_zone : refusal b (steps.Zone o (JoinZone k axis keep)) ≡ None → can_join b o k axis keep ≡ true
+  can_of_join_zone h = can_of_join (accepted b (steps.Zone o (JoinZone k axis keep)) h).tests
+
+  pub sound_join_zone : IsSound b → refusal b (steps.Zone o (JoinZone k axis keep)) ≡ None → IsSound (zone_joined b o k axis keep)
+  sound_join_zone sound h = sound_zone_joined b o k axis keep (can_of_join_zone h) sound
+
+  pub within_join_zone : IsSound b → NoneStands (causes b (steps.Zone o (JoinZone k axis keep))) → broken_limit (zone_joined b o k axis keep) ≡ None
+  within_join_zone sound h = no_limit_of (zone_joined b o k axis keep) (sound_zone_joined b o k axis keep (can_of_join h) sound).valid.limits
+
+  -- the second zone's number is one of 32 bits
+  pub next_of_join_zone : IsSound b → refusal b (steps.Zone o (JoinZone k axis keep)) ≡ None → k + 1 < 2 ^ 32
+  next_of_join_zone sound h =
+      let s = join b o k axis keep (can_of_join_zone h) in
+      let lt : k + 1 < length s.own.zones = slice_get-within s.own.zones (k + 1) s.second s.next in
+      let few : length s.own.zones < 2 ^ 32 = few_there b o s.own.zones sound s.own.there in
+      omega (arith, lt, few)
+
+-- ---- the order of their causes
+
+pub zone_rises : (b : Parts) (o : Owner) (s : ZoneStep) → rises 21 (zones.causes b o s) ≡ true
+zone_rises b (owner.Preset p) (AddZone at zone) = refl
+zone_rises b (owner.Instrument i) (AddZone at zone) = refl
+zone_rises b o (RemoveZone zone) = refl
+zone_rises b o (MoveZone from to) = refl
+zone_rises b o (SplitZone zone axis at) = refl
+zone_rises b o (JoinZone zone axis kept) = refl
+zone_rises b (owner.Preset p) (SetTarget zone target) = refl
+zone_rises b (owner.Instrument i) (SetTarget zone target) = refl

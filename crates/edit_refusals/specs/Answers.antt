@@ -1,7 +1,7 @@
 -- What a test answers, and what a refusal.
 use Rattle.std.specs.Prelude.{◌≡◌, true, false, Option, Some, None, Result, Ok, Err}
-use Rattle.edit_refusals.specs.declared.cause.Cause.{Cause}
-use Rattle.edit_refusals.specs.Causes.{Test}
+use Rattle.edit_forms.specs.declared.cause.Cause.{Cause}
+use Rattle.edit_forms.specs.Causes.{Test}
 
 -- the test does not stand, or its cause is told
 abbrev pub Passes : Test → Result (Unit {0}) Cause → Type 0

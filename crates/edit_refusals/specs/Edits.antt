@@ -5,10 +5,10 @@ use Rattle.bank_parts.specs.declared.parts.Parts.{Parts}
 use Rattle.edit_forms.specs.declared.step.Step.{Step}
 use Rattle.edit_forms.specs.declared.edit.Edit.{Edit}
 use Rattle.edit_forms.specs.declared.edit.Edit.TheVariants.{One, Group}
-use Rattle.edit_refusals.specs.declared.cause.Cause.{Cause}
+use Rattle.edit_forms.specs.declared.cause.Cause.{Cause}
 use Rattle.edit_refusals.specs.declared.refusal.Refusal.{Refusal}
 use Rattle.edit_refusals.specs.declared.refusal.Refusal.TheVariants.{Of, GroupRefused}
-use Rattle.edit_refusals.specs.Steps as steps
+use Rattle.edit_forms.specs.Steps as steps
 use Rattle.edit_refusals.specs.Sequences.{after_all}
 
 -- the bank after the edit, where it is not refused

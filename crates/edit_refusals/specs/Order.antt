@@ -6,11 +6,11 @@ use Rattle.std.specs.List.Sorted.{IsNonDecreasingBy}
 use Rattle.bank_parts.specs.declared.parts.Parts.{Parts}
 use Rattle.bank_validity.specs.Limits.{broken_limit}
 use Rattle.edit_forms.specs.declared.step.Step.{Step}
-use Rattle.edit_refusals.specs.declared.cause.Cause.{Cause}
-use Rattle.edit_refusals.specs.declared.cause.Cause.TheVariants.{Full}
-use Rattle.edit_refusals.specs.CauseNames.{number_of}
-use Rattle.edit_refusals.specs.Causes.{Test}
-use Rattle.edit_refusals.specs.Steps.{raw, causes, refusal}
+use Rattle.edit_forms.specs.declared.cause.Cause.{Cause}
+use Rattle.edit_forms.specs.declared.cause.Cause.TheVariants.{Full}
+use Rattle.edit_forms.specs.CauseNames.{number_of}
+use Rattle.edit_forms.specs.Causes.{Test}
+use Rattle.edit_forms.specs.Steps.{raw, causes, refusal}
 
 -- along the tests of a step no number is below one before it
 abbrev pub NumbersNeverFall : Type 0

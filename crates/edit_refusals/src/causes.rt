@@ -2,16 +2,16 @@
 ghost use Rattle.std.specs.Prelude.{◌≡◌, ◌<◌, ◌+◌, length};
 ghost use Rattle.std.specs.Option.{option_map};
 ghost use Rattle.bank_parts.specs.Texts as texts;
-ghost use Rattle.edit_refusals.specs.declared.cause.Cause.TheVariants as cause;
+ghost use Rattle.edit_forms.specs.declared.cause.Cause.TheVariants as cause;
 ghost use Rattle.edit_refusals.specs.Answers.{Passes, Judges};
-ghost use Rattle.edit_refusals.specs.Causes as causes;
+ghost use Rattle.edit_forms.specs.Causes as causes;
 
-use crate::cause::Cause;
 use bank_core::{Bank, Owner, Place};
 use bank_parts::{
     InfoId, Kind, Sample, WithZones, Zone, is_bad_range, sets_bad_range, sets_foreign,
 };
 use bank_validity::Limit;
+use edit_forms::Cause;
 use generators::{Level, allowed};
 use modulators::Modulator;
 use sf_base::Lent;

@@ -1,28 +1,43 @@
 //! Why each form that edits instruments is refused.
 ghost use Rattle.std.specs.Prelude.{ℕ, List};
 ghost use Rattle.bank_parts.specs.Sound.{IsSound};
-ghost use Rattle.edit_forms.specs.declared.step.Step.TheVariants as step;
+ghost use Rattle.edit_forms.specs.declared.instruments.InstrumentStep.TheVariants as form;
+ghost use Rattle.edit_forms.specs.declared.step.Step.TheVariants as steps;
+ghost use Rattle.edit_forms.specs.Steps.{refusal};
 ghost use Rattle.edit_refusals.specs.Answers.{Judges};
-ghost use Rattle.edit_refusals.specs.Steps.{refusal};
 
-use crate::cause::Cause;
 use crate::causes::{
     bad_generator, bad_place, bad_range, full, no_such_instrument, no_such_place, no_such_target,
     used_instrument,
 };
 use bank_core::{Bank, Members};
 use bank_parts::Instrument;
+use edit_forms::{Cause, InstrumentStep};
 use generators::Level;
+
+pub(crate) fn refuse_instrument_step(bank: &Bank<'_>, step: &InstrumentStep) -> Result<(), Cause>
+    requires { IsSound bank.now }
+    ensures { Judges (refusal bank.now (steps.Instrument step.now)) result }
+{
+    match step {
+        InstrumentStep::AddInstrument { at, instrument } => {
+            refuse_add_instrument(bank, *at, instrument)
+        }
+        InstrumentStep::RemoveInstrument { instrument } => {
+            refuse_remove_instrument(bank, *instrument)
+        }
+        InstrumentStep::RenameInstrument { instrument, .. } => {
+            refuse_rename_instrument(bank, *instrument)
+        }
+        InstrumentStep::MoveInstrument { from, to } => refuse_move_instrument(bank, *from, *to),
+    }
+}
 
 // ---- add-inst
 
-pub(crate) fn refuse_add_instrument(
-    bank: &Bank<'_>,
-    at: u32,
-    instrument: &Instrument,
-) -> Result<(), Cause>
+fn refuse_add_instrument(bank: &Bank<'_>, at: u32, instrument: &Instrument) -> Result<(), Cause>
     requires { IsSound bank.now }
-    ensures { Judges (refusal bank.now (step.AddInstrument at instrument.now)) result }
+    ensures { Judges (refusal bank.now (steps.Instrument (form.AddInstrument at instrument.now))) result }
 {
     no_such_target(
         bank.count(Members::Samples),
@@ -40,9 +55,9 @@ pub(crate) fn refuse_add_instrument(
 
 // ---- remove-inst
 
-pub(crate) fn refuse_remove_instrument(bank: &Bank<'_>, instrument: u32) -> Result<(), Cause>
+fn refuse_remove_instrument(bank: &Bank<'_>, instrument: u32) -> Result<(), Cause>
     requires { IsSound bank.now }
-    ensures { Judges (refusal bank.now (step.RemoveInstrument instrument)) result }
+    ensures { Judges (refusal bank.now (steps.Instrument (form.RemoveInstrument instrument))) result }
 {
     no_such_instrument(bank, instrument)?;
     used_instrument(bank, instrument)
@@ -50,18 +65,18 @@ pub(crate) fn refuse_remove_instrument(bank: &Bank<'_>, instrument: u32) -> Resu
 
 // ---- rename-inst
 
-pub(crate) fn refuse_rename_instrument(bank: &Bank<'_>, instrument: u32) -> Result<(), Cause>
+fn refuse_rename_instrument(bank: &Bank<'_>, instrument: u32) -> Result<(), Cause>
     requires { IsSound bank.now }
-    ensures { (name : List ℕ) → Judges (refusal bank.now (step.RenameInstrument instrument name)) result }
+    ensures { (name : List ℕ) → Judges (refusal bank.now (steps.Instrument (form.RenameInstrument instrument name))) result }
 {
     no_such_instrument(bank, instrument)
 }
 
 // ---- move-inst
 
-pub(crate) fn refuse_move_instrument(bank: &Bank<'_>, from: u32, to: u32) -> Result<(), Cause>
+fn refuse_move_instrument(bank: &Bank<'_>, from: u32, to: u32) -> Result<(), Cause>
     requires { IsSound bank.now }
-    ensures { Judges (refusal bank.now (step.MoveInstrument from to)) result }
+    ensures { Judges (refusal bank.now (steps.Instrument (form.MoveInstrument from to))) result }
 {
     no_such_instrument(bank, from)?;
     no_such_place(bank.count(Members::Instruments), to)

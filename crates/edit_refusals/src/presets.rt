@@ -1,23 +1,36 @@
 //! Why each form that edits presets is refused.
 ghost use Rattle.std.specs.Prelude.{ℕ, List};
 ghost use Rattle.bank_parts.specs.Sound.{IsSound};
-ghost use Rattle.edit_forms.specs.declared.step.Step.TheVariants as step;
+ghost use Rattle.edit_forms.specs.declared.presets.PresetStep.TheVariants as form;
+ghost use Rattle.edit_forms.specs.declared.step.Step.TheVariants as steps;
+ghost use Rattle.edit_forms.specs.Steps.{refusal};
 ghost use Rattle.edit_refusals.specs.Answers.{Judges};
-ghost use Rattle.edit_refusals.specs.Steps.{refusal};
 
-use crate::cause::Cause;
 use crate::causes::{
     bad_generator, bad_place, bad_range, full, no_such_place, no_such_preset, no_such_target,
 };
 use bank_core::{Bank, Members};
 use bank_parts::Preset;
+use edit_forms::{Cause, PresetStep};
 use generators::Level;
+
+pub(crate) fn refuse_preset_step(bank: &Bank<'_>, step: &PresetStep) -> Result<(), Cause>
+    requires { IsSound bank.now }
+    ensures { Judges (refusal bank.now (steps.Preset step.now)) result }
+{
+    match step {
+        PresetStep::AddPreset { at, preset } => refuse_add_preset(bank, *at, preset),
+        PresetStep::RemovePreset { preset } => refuse_remove_preset(bank, *preset),
+        PresetStep::MovePreset { from, to } => refuse_move_preset(bank, *from, *to),
+        PresetStep::SetHead { preset, .. } => refuse_set_head(bank, *preset),
+    }
+}
 
 // ---- add-preset
 
-pub(crate) fn refuse_add_preset(bank: &Bank<'_>, at: u32, preset: &Preset) -> Result<(), Cause>
+fn refuse_add_preset(bank: &Bank<'_>, at: u32, preset: &Preset) -> Result<(), Cause>
     requires { IsSound bank.now }
-    ensures { Judges (refusal bank.now (step.AddPreset at preset.now)) result }
+    ensures { Judges (refusal bank.now (steps.Preset (form.AddPreset at preset.now))) result }
 {
     no_such_target(
         bank.count(Members::Instruments),
@@ -35,18 +48,18 @@ pub(crate) fn refuse_add_preset(bank: &Bank<'_>, at: u32, preset: &Preset) -> Re
 
 // ---- remove-preset
 
-pub(crate) fn refuse_remove_preset(bank: &Bank<'_>, preset: u32) -> Result<(), Cause>
+fn refuse_remove_preset(bank: &Bank<'_>, preset: u32) -> Result<(), Cause>
     requires { IsSound bank.now }
-    ensures { Judges (refusal bank.now (step.RemovePreset preset)) result }
+    ensures { Judges (refusal bank.now (steps.Preset (form.RemovePreset preset))) result }
 {
     no_such_preset(bank, preset)
 }
 
 // ---- move-preset
 
-pub(crate) fn refuse_move_preset(bank: &Bank<'_>, from: u32, to: u32) -> Result<(), Cause>
+fn refuse_move_preset(bank: &Bank<'_>, from: u32, to: u32) -> Result<(), Cause>
     requires { IsSound bank.now }
-    ensures { Judges (refusal bank.now (step.MovePreset from to)) result }
+    ensures { Judges (refusal bank.now (steps.Preset (form.MovePreset from to))) result }
 {
     no_such_preset(bank, from)?;
     no_such_place(bank.count(Members::Presets), to)
@@ -54,9 +67,9 @@ pub(crate) fn refuse_move_preset(bank: &Bank<'_>, from: u32, to: u32) -> Result<
 
 // ---- set-head
 
-pub(crate) fn refuse_set_head(bank: &Bank<'_>, preset: u32) -> Result<(), Cause>
+fn refuse_set_head(bank: &Bank<'_>, preset: u32) -> Result<(), Cause>
     requires { IsSound bank.now }
-    ensures { (name : List ℕ) → (number bank_number : ℕ) → Judges (refusal bank.now (step.SetHead preset name number bank_number)) result }
+    ensures { (name : List ℕ) → (number bank_number : ℕ) → Judges (refusal bank.now (steps.Preset (form.SetHead preset name number bank_number))) result }
 {
     no_such_preset(bank, preset)
 }

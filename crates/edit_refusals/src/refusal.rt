@@ -1,8 +1,8 @@
 //! Why an edit is refused, or a session can't go back or forth.
 ghost use Rattle.std.specs.Prelude.{◌≡◌};
-ghost use Rattle.edit_refusals.specs.CauseNames.{refusal_number, refusal_name};
+ghost use Rattle.edit_refusals.specs.RefusalNames.{refusal_number, refusal_name};
 
-use crate::cause::Cause;
+use edit_forms::Cause;
 use thiserror::Error;
 
 /// Why an edit is refused, or a session can't go back or forth.

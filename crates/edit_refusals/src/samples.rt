@@ -1,31 +1,44 @@
-//! Why each form that edits samples is refused.
+//! Why each form that edits the list of samples is refused.
 ghost use Rattle.std.specs.Prelude.{ℕ, List};
 ghost use Rattle.bank_parts.specs.Sound.{IsSound};
-ghost use Rattle.edit_forms.specs.declared.step.Step.TheVariants as step;
+ghost use Rattle.edit_forms.specs.declared.samples.SampleStep.TheVariants as form;
+ghost use Rattle.edit_forms.specs.declared.step.Step.TheVariants as steps;
+ghost use Rattle.edit_forms.specs.Steps.{refusal};
 ghost use Rattle.edit_refusals.specs.Answers.{Judges};
-ghost use Rattle.edit_refusals.specs.Steps.{refusal};
 
-use crate::cause::Cause;
 use crate::causes::{
     bad_loop, bad_place, full, no_such_link, no_such_place, no_such_sample, used_sample,
 };
 use bank_core::{Bank, Members};
 use bank_parts::Sample;
+use edit_forms::{Cause, SampleStep};
+
+pub(crate) fn refuse_sample_step(bank: &Bank<'_>, step: &SampleStep<'_>) -> Result<(), Cause>
+    requires { IsSound bank.now }
+    ensures { Judges (refusal bank.now (steps.Sample step.now)) result }
+{
+    match step {
+        SampleStep::RenameSample { sample, .. } => refuse_rename_sample(bank, *sample),
+        SampleStep::AddSample { at, sample } => refuse_add_sample(bank, *at, sample),
+        SampleStep::RemoveSample { sample } => refuse_remove_sample(bank, *sample),
+        SampleStep::MoveSample { from, to } => refuse_move_sample(bank, *from, *to),
+    }
+}
 
 // ---- rename-sample
 
-pub(crate) fn refuse_rename_sample(bank: &Bank<'_>, sample: u32) -> Result<(), Cause>
+fn refuse_rename_sample(bank: &Bank<'_>, sample: u32) -> Result<(), Cause>
     requires { IsSound bank.now }
-    ensures { (name : List ℕ) → Judges (refusal bank.now (step.RenameSample sample name)) result }
+    ensures { (name : List ℕ) → Judges (refusal bank.now (steps.Sample (form.RenameSample sample name))) result }
 {
     no_such_sample(bank, sample)
 }
 
 // ---- add-sample
 
-pub(crate) fn refuse_add_sample(bank: &Bank<'_>, at: u32, sample: &Sample<'_>) -> Result<(), Cause>
+fn refuse_add_sample(bank: &Bank<'_>, at: u32, sample: &Sample<'_>) -> Result<(), Cause>
     requires { IsSound bank.now }
-    ensures { Judges (refusal bank.now (step.AddSample at sample.now)) result }
+    ensures { Judges (refusal bank.now (steps.Sample (form.AddSample at sample.now))) result }
 {
     no_such_link(bank, sample.kind)?;
     bad_place(bank.samples().len(), at)?;
@@ -35,9 +48,9 @@ pub(crate) fn refuse_add_sample(bank: &Bank<'_>, at: u32, sample: &Sample<'_>) -
 
 // ---- remove-sample
 
-pub(crate) fn refuse_remove_sample(bank: &Bank<'_>, sample: u32) -> Result<(), Cause>
+fn refuse_remove_sample(bank: &Bank<'_>, sample: u32) -> Result<(), Cause>
     requires { IsSound bank.now }
-    ensures { Judges (refusal bank.now (step.RemoveSample sample)) result }
+    ensures { Judges (refusal bank.now (steps.Sample (form.RemoveSample sample))) result }
 {
     no_such_sample(bank, sample)?;
     used_sample(bank, sample)
@@ -45,9 +58,9 @@ pub(crate) fn refuse_remove_sample(bank: &Bank<'_>, sample: u32) -> Result<(), C
 
 // ---- move-sample
 
-pub(crate) fn refuse_move_sample(bank: &Bank<'_>, from: u32, to: u32) -> Result<(), Cause>
+fn refuse_move_sample(bank: &Bank<'_>, from: u32, to: u32) -> Result<(), Cause>
     requires { IsSound bank.now }
-    ensures { Judges (refusal bank.now (step.MoveSample from to)) result }
+    ensures { Judges (refusal bank.now (steps.Sample (form.MoveSample from to))) result }
 {
     no_such_sample(bank, from)?;
     no_such_place(bank.count(Members::Samples), to)

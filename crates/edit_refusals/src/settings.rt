@@ -1,27 +1,60 @@
-//! Why each form that edits generators is refused.
+//! Why each form that edits generators or modulators is refused.
+ghost use Rattle.std.specs.Prelude.{◌≡◌, false};
 ghost use Rattle.bank_parts.specs.Sound.{IsSound};
-ghost use Rattle.edit_forms.specs.declared.step.Step.TheVariants as step;
+ghost use Rattle.edit_forms.specs.declared.settings.SettingStep.TheVariants as form;
+ghost use Rattle.edit_forms.specs.declared.step.Step.TheVariants as steps;
+ghost use Rattle.edit_forms.specs.Causes as tests;
+ghost use Rattle.edit_forms.specs.Steps.{refusal};
 ghost use Rattle.edit_refusals.specs.Answers.{Judges};
-ghost use Rattle.edit_refusals.specs.Steps.{refusal};
 
-use crate::cause::Cause;
-use crate::causes::{bad_amount, foreign_operator, full, no_such_owner, no_such_zone_at, not_set};
+use crate::causes::{
+    bad_amount, bad_place, foreign_operator, full, linked_modulator, linked_place, mods_there,
+    no_such_modulator, no_such_owner, no_such_zone_at, not_set,
+};
 use bank_core::{Bank, Owner, Place};
+use edit_forms::{Cause, SettingStep};
+use modulators::Modulator;
+
+pub(crate) fn refuse_setting_step(
+    bank: &Bank<'_>,
+    owner: Owner,
+    place: Place,
+    step: SettingStep,
+) -> Result<(), Cause>
+    requires { IsSound bank.now }
+    ensures { Judges (refusal bank.now (steps.Setting owner place step)) result }
+{
+    no_such_owner(bank, owner)?;
+    no_such_zone_at(bank, owner, place)?;
+    match step {
+        SettingStep::SetGen { operator, amount } => {
+            refuse_set_gen(bank, owner, place, operator, amount)
+        }
+        SettingStep::ClearGen { operator } => refuse_clear_gen(bank, owner, place, operator),
+        SettingStep::AddMod { index, modulator } => {
+            refuse_add_mod(bank, owner, place, index, modulator)
+        }
+        SettingStep::RemoveMod { index } => refuse_remove_mod(bank, owner, place, index),
+        SettingStep::SetMod { index, modulator } => {
+            refuse_set_mod(bank, owner, place, index, modulator)
+        }
+    }
+}
 
 // ---- set-gen
 
-pub(crate) fn refuse_set_gen(
+fn refuse_set_gen(
     bank: &Bank<'_>,
     owner: Owner,
     place: Place,
     operator: u16,
     amount: u16,
 ) -> Result<(), Cause>
-    requires { IsSound bank.now }
-    ensures { Judges (refusal bank.now (step.SetGen owner place operator amount)) result }
+    requires sound { IsSound bank.now }
+    requires owner { (tests.no_such_owner bank.now owner).stands ≡ false }
+    requires zone { (tests.no_such_zone_at bank.now owner place).stands ≡ false }
+    ensures { Judges (refusal bank.now (steps.Setting owner place (form.SetGen operator amount))) result }
 {
-    no_such_owner(bank, owner)?;
-    no_such_zone_at(bank, owner, place)?;
     foreign_operator(owner.level(), operator)?;
     bad_amount(operator, amount)?;
     full(bank.broken_with_gen(owner, place, operator))
@@ -29,17 +62,61 @@ pub(crate) fn refuse_set_gen(
 
 // ---- clear-gen
 
-pub(crate) fn refuse_clear_gen(
+fn refuse_clear_gen(bank: &Bank<'_>, owner: Owner, place: Place, operator: u16) -> Result<(), Cause>
+    requires sound { IsSound bank.now }
+    requires owner { (tests.no_such_owner bank.now owner).stands ≡ false }
+    requires zone { (tests.no_such_zone_at bank.now owner place).stands ≡ false }
+    ensures { Judges (refusal bank.now (steps.Setting owner place (form.ClearGen operator))) result }
+{
+    foreign_operator(owner.level(), operator)?;
+    not_set(bank, owner, place, operator)
+}
+
+// ---- add-mod
+
+fn refuse_add_mod(
     bank: &Bank<'_>,
     owner: Owner,
     place: Place,
-    operator: u16,
+    index: u32,
+    modulator: Modulator,
 ) -> Result<(), Cause>
-    requires { IsSound bank.now }
-    ensures { Judges (refusal bank.now (step.ClearGen owner place operator)) result }
+    requires sound { IsSound bank.now }
+    requires owner { (tests.no_such_owner bank.now owner).stands ≡ false }
+    requires zone { (tests.no_such_zone_at bank.now owner place).stands ≡ false }
+    ensures { Judges (refusal bank.now (steps.Setting owner place (form.AddMod index modulator))) result }
 {
-    no_such_owner(bank, owner)?;
-    no_such_zone_at(bank, owner, place)?;
-    foreign_operator(owner.level(), operator)?;
-    not_set(bank, owner, place, operator)
+    bad_place(mods_there(bank, owner, place), index)?;
+    linked_modulator(bank, owner, place, modulator)?;
+    full(bank.broken_with_mod(owner, place))
+}
+
+// ---- remove-mod
+
+fn refuse_remove_mod(bank: &Bank<'_>, owner: Owner, place: Place, index: u32) -> Result<(), Cause>
+    requires sound { IsSound bank.now }
+    requires owner { (tests.no_such_owner bank.now owner).stands ≡ false }
+    requires zone { (tests.no_such_zone_at bank.now owner place).stands ≡ false }
+    ensures { Judges (refusal bank.now (steps.Setting owner place (form.RemoveMod index))) result }
+{
+    no_such_modulator(bank, owner, place, index)?;
+    linked_place(bank, owner, place)
+}
+
+// ---- set-mod
+
+fn refuse_set_mod(
+    bank: &Bank<'_>,
+    owner: Owner,
+    place: Place,
+    index: u32,
+    modulator: Modulator,
+) -> Result<(), Cause>
+    requires sound { IsSound bank.now }
+    requires owner { (tests.no_such_owner bank.now owner).stands ≡ false }
+    requires zone { (tests.no_such_zone_at bank.now owner place).stands ≡ false }
+    ensures { Judges (refusal bank.now (steps.Setting owner place (form.SetMod index modulator))) result }
+{
+    no_such_modulator(bank, owner, place, index)?;
+    linked_modulator(bank, owner, place, modulator)
 }

@@ -1,29 +1,45 @@
 //! Why each form that edits the zones of presets and instruments is refused.
+ghost use Rattle.std.specs.Prelude.{◌≡◌, false};
 ghost use Rattle.bank_parts.specs.Sound.{IsSound};
-ghost use Rattle.edit_forms.specs.declared.step.Step.TheVariants as step;
+ghost use Rattle.edit_forms.specs.declared.zones.ZoneStep.TheVariants as form;
+ghost use Rattle.edit_forms.specs.declared.step.Step.TheVariants as steps;
+ghost use Rattle.edit_forms.specs.Causes as tests;
+ghost use Rattle.edit_forms.specs.Steps.{refusal};
 ghost use Rattle.edit_refusals.specs.Answers.{Judges};
-ghost use Rattle.edit_refusals.specs.Steps.{refusal};
 
-use crate::cause::Cause;
 use crate::causes::{
-    bad_generators, bad_place, bad_ranges, full, no_such_owner, no_such_place, no_such_target_of,
-    no_such_zone, zone_total,
+    bad_generators, bad_place, bad_ranges, full, no_next_zone, no_such_owner, no_such_place,
+    no_such_target_of, no_such_zone, not_joinable, split_outside, zone_total,
 };
 use bank_core::{Bank, Owner};
 use bank_parts::Zone;
+use edit_forms::{Cause, ZoneStep};
+use zone_ranges::{Axis, Keep};
+
+pub(crate) fn refuse_zone_step(bank: &Bank<'_>, owner: Owner, step: &ZoneStep) -> Result<(), Cause>
+    requires { IsSound bank.now }
+    ensures { Judges (refusal bank.now (steps.Zone owner step.now)) result }
+{
+    no_such_owner(bank, owner)?;
+    match step {
+        ZoneStep::AddZone { at, zone } => refuse_add_zone(bank, owner, *at, zone),
+        ZoneStep::RemoveZone { zone } => refuse_remove_zone(bank, owner, *zone),
+        ZoneStep::MoveZone { from, to } => refuse_move_zone(bank, owner, *from, *to),
+        ZoneStep::SplitZone { zone, axis, at } => refuse_split_zone(bank, owner, *zone, *axis, *at),
+        ZoneStep::JoinZone { zone, axis, keep } => {
+            refuse_join_zone(bank, owner, *zone, *axis, *keep)
+        }
+        ZoneStep::SetTarget { zone, target } => refuse_set_target(bank, owner, *zone, *target),
+    }
+}
 
 // ---- add-zone
 
-pub(crate) fn refuse_add_zone(
-    bank: &Bank<'_>,
-    owner: Owner,
-    at: u32,
-    zone: &Zone,
-) -> Result<(), Cause>
-    requires { IsSound bank.now }
-    ensures { Judges (refusal bank.now (step.AddZone owner at zone.now)) result }
+fn refuse_add_zone(bank: &Bank<'_>, owner: Owner, at: u32, zone: &Zone) -> Result<(), Cause>
+    requires sound { IsSound bank.now }
+    requires owner { (tests.no_such_owner bank.now owner).stands ≡ false }
+    ensures { Judges (refusal bank.now (steps.Zone owner (form.AddZone at zone.now))) result }
 {
-    no_such_owner(bank, owner)?;
     no_such_target_of(bank, owner, zone.target)?;
     bad_place(zone_total(bank, owner), at)?;
     bad_generators(owner.level(), zone)?;
@@ -33,42 +49,67 @@ pub(crate) fn refuse_add_zone(
 
 // ---- remove-zone
 
-pub(crate) fn refuse_remove_zone(bank: &Bank<'_>, owner: Owner, zone: u32) -> Result<(), Cause>
-    requires { IsSound bank.now }
-    ensures { Judges (refusal bank.now (step.RemoveZone owner zone)) result }
+fn refuse_remove_zone(bank: &Bank<'_>, owner: Owner, zone: u32) -> Result<(), Cause>
+    requires sound { IsSound bank.now }
+    requires owner { (tests.no_such_owner bank.now owner).stands ≡ false }
+    ensures { Judges (refusal bank.now (steps.Zone owner (form.RemoveZone zone))) result }
 {
-    no_such_owner(bank, owner)?;
     no_such_zone(bank, owner, zone)
 }
 
 // ---- move-zone
 
-pub(crate) fn refuse_move_zone(
-    bank: &Bank<'_>,
-    owner: Owner,
-    from: u32,
-    to: u32,
-) -> Result<(), Cause>
-    requires { IsSound bank.now }
-    ensures { Judges (refusal bank.now (step.MoveZone owner from to)) result }
+fn refuse_move_zone(bank: &Bank<'_>, owner: Owner, from: u32, to: u32) -> Result<(), Cause>
+    requires sound { IsSound bank.now }
+    requires owner { (tests.no_such_owner bank.now owner).stands ≡ false }
+    ensures { Judges (refusal bank.now (steps.Zone owner (form.MoveZone from to))) result }
 {
-    no_such_owner(bank, owner)?;
     no_such_zone(bank, owner, from)?;
     no_such_place(zone_total(bank, owner), to)
 }
 
 // ---- set-target
 
-pub(crate) fn refuse_set_target(
+fn refuse_set_target(bank: &Bank<'_>, owner: Owner, zone: u32, target: u16) -> Result<(), Cause>
+    requires sound { IsSound bank.now }
+    requires owner { (tests.no_such_owner bank.now owner).stands ≡ false }
+    ensures { Judges (refusal bank.now (steps.Zone owner (form.SetTarget zone target))) result }
+{
+    no_such_target_of(bank, owner, target)?;
+    no_such_zone(bank, owner, zone)
+}
+
+// ---- split-zone
+
+fn refuse_split_zone(
     bank: &Bank<'_>,
     owner: Owner,
     zone: u32,
-    target: u16,
+    axis: Axis,
+    at: u8,
 ) -> Result<(), Cause>
-    requires { IsSound bank.now }
-    ensures { Judges (refusal bank.now (step.SetTarget owner zone target)) result }
+    requires sound { IsSound bank.now }
+    requires owner { (tests.no_such_owner bank.now owner).stands ≡ false }
+    ensures { Judges (refusal bank.now (steps.Zone owner (form.SplitZone zone axis at))) result }
 {
-    no_such_owner(bank, owner)?;
-    no_such_target_of(bank, owner, target)?;
-    no_such_zone(bank, owner, zone)
+    no_such_zone(bank, owner, zone)?;
+    split_outside(bank, owner, zone, axis, at)?;
+    full(bank.broken_with_split(owner, zone, axis))
+}
+
+// ---- join-zone
+
+fn refuse_join_zone(
+    bank: &Bank<'_>,
+    owner: Owner,
+    zone: u32,
+    axis: Axis,
+    keep: Keep,
+) -> Result<(), Cause>
+    requires sound { IsSound bank.now }
+    requires owner { (tests.no_such_owner bank.now owner).stands ≡ false }
+    ensures { Judges (refusal bank.now (steps.Zone owner (form.JoinZone zone axis keep))) result }
+{
+    no_next_zone(bank, owner, zone)?;
+    not_joinable(bank, owner, zone, axis, keep)
 }

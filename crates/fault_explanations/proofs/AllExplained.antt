@@ -8,8 +8,8 @@ use Rattle.note_list.specs.declared.fault.NoteFault.{NoteFault}
 use Rattle.note_list.specs.declared.fault.NoteFault.TheVariants as note
 use Rattle.recordings.specs.declared.fault.WaveFault.{WaveFault}
 use Rattle.recordings.specs.declared.fault.WaveFault.TheVariants as wave
-use Rattle.edit_refusals.specs.declared.cause.Cause.{Cause}
-use Rattle.edit_refusals.specs.declared.cause.Cause.TheVariants as cause
+use Rattle.edit_forms.specs.declared.cause.Cause.{Cause}
+use Rattle.edit_forms.specs.declared.cause.Cause.TheVariants as cause
 use Rattle.edit_refusals.specs.declared.refusal.Refusal.{Refusal}
 use Rattle.edit_refusals.specs.declared.refusal.Refusal.TheVariants as refusal
 use Rattle.fault_explanations.specs.declared.explanations.Told.{Told}

@@ -2,10 +2,11 @@
 use Rattle.std.specs.Prelude.{ℕ, List, [], ◌∷◌, ◌++◌, codes, Option, Some, None}
 use Rattle.bank_validity.specs.declared.limits.Limit.{Limit}
 use Rattle.bank_validity.specs.Limits.{word_of}
-use Rattle.edit_refusals.specs.declared.cause.Cause.{Cause}
+use Rattle.edit_forms.specs.declared.cause.Cause.{Cause}
 use Rattle.edit_refusals.specs.declared.refusal.Refusal.{Refusal}
 use Rattle.edit_refusals.specs.declared.refusal.Refusal.TheVariants.{Of, OutOfMemory, NothingToUndo, NothingToRedo, GroupRefused}
-use Rattle.edit_refusals.specs.CauseNames as causes
+use Rattle.edit_forms.specs.CauseNames as causes
+use Rattle.edit_refusals.specs.RefusalNames as refusals
 use Rattle.line_tokens.specs.declared.printing.Piece.{Piece}
 use Rattle.line_tokens.specs.declared.printing.Piece.TheVariants.{Number, Word}
 use Rattle.line_tokens.specs.Printing.{line_text}
@@ -33,7 +34,7 @@ detail_pieces NothingToRedo = []
 
 -- why an edit is refused, or a session can't go back or forth, by its number and its name
 abbrev pub reason_pieces : Refusal → List Piece
-reason_pieces why = Number (causes.refusal_number why) ∷ Word (causes.refusal_name why) ∷ detail_pieces why
+reason_pieces why = Number (refusals.refusal_number why) ∷ Word (refusals.refusal_name why) ∷ detail_pieces why
 
 abbrev pub refused_line : Refusal → List ℕ
 refused_line why = line_text (codes "refused") (reason_pieces why)

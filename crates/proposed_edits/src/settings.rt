@@ -1,7 +1,7 @@
 //! The generators and modulators of a place that differ.
 use crate::numbers::member_number;
 use bank_core::{Owner, Place};
-use edit_forms::Step;
+use edit_forms::{SettingStep, Step};
 use list_orders::{before, behind, common_back, common_front};
 use modulators::Modulator;
 use sf_base::OutOfMemory;
@@ -17,12 +17,7 @@ pub(crate) fn gen_steps<'a>(
     clear_steps(steps, owner, place, had, wanted)?;
     for &(operator, amount) in wanted {
         if !had.contains(&(operator, amount)) {
-            steps.push(Step::SetGen {
-                owner,
-                place,
-                operator,
-                amount,
-            })?;
+            steps.push(Step::Setting(owner, place, SettingStep::SetGen { operator, amount }))?;
         }
     }
     Ok(())
@@ -37,11 +32,7 @@ fn clear_steps<'a>(
 ) -> Result<(), OutOfMemory> {
     for &(operator, _) in had {
         if !wanted.iter().any(|&(other, _)| other == operator) {
-            steps.push(Step::ClearGen {
-                owner,
-                place,
-                operator,
-            })?;
+            steps.push(Step::Setting(owner, place, SettingStep::ClearGen { operator }))?;
         }
     }
     Ok(())
@@ -69,13 +60,10 @@ pub(crate) fn mod_steps<'a>(
     let last = common_back(had, wanted);
     let had = before(had, had.len().saturating_sub(last));
     let wanted = before(wanted, wanted.len().saturating_sub(last));
-    for (index, (modulator, _)) in wanted.iter().zip(had).enumerate() {
-        steps.push(Step::SetMod {
-            owner,
-            place,
-            index: member_number(first.saturating_add(index)),
-            modulator: *modulator,
-        })?;
+    for (index, (&modulator, _)) in wanted.iter().zip(had).enumerate() {
+        let index = member_number(first.saturating_add(index));
+        let step = SettingStep::SetMod { index, modulator };
+        steps.push(Step::Setting(owner, place, step))?;
     }
     let both = first.saturating_add(wanted.len().min(had.len()));
     remove_steps(steps, owner, place, both, behind(had, wanted.len()))?;
@@ -89,12 +77,9 @@ fn remove_steps<'a>(
     first: usize,
     mods: &[Modulator],
 ) -> Result<(), OutOfMemory> {
+    let index = member_number(first);
     for _ in mods {
-        steps.push(Step::RemoveMod {
-            owner,
-            place,
-            index: member_number(first),
-        })?;
+        steps.push(Step::Setting(owner, place, SettingStep::RemoveMod { index }))?;
     }
     Ok(())
 }
@@ -106,13 +91,10 @@ fn add_steps<'a>(
     first: usize,
     mods: &[Modulator],
 ) -> Result<(), OutOfMemory> {
-    for (index, modulator) in mods.iter().enumerate() {
-        steps.push(Step::AddMod {
-            owner,
-            place,
-            index: member_number(first.saturating_add(index)),
-            modulator: *modulator,
-        })?;
+    for (index, &modulator) in mods.iter().enumerate() {
+        let index = member_number(first.saturating_add(index));
+        let step = SettingStep::AddMod { index, modulator };
+        steps.push(Step::Setting(owner, place, step))?;
     }
     Ok(())
 }

@@ -3,7 +3,7 @@ use crate::numbers::member_number;
 use crate::zones::Pair;
 use bank_core::ZonePlace;
 use bank_parts::OwnerHead;
-use edit_forms::{Axis, Step};
+use edit_forms::{Axis, Step, ZoneStep};
 use generators::Range;
 use sf_base::OutOfMemory;
 use zone_ranges::range_operator;
@@ -15,12 +15,12 @@ impl<'s, H: OwnerHead> Pair<'s, H> {
         for zone in 0..self.had.zone_count(self.i) {
             let wanted = splits.saturating_add(zone);
             if let Some((axis, at)) = self.split_of(zone, wanted) {
-                steps.push(Step::SplitZone {
-                    owner: self.owner,
+                let step = ZoneStep::SplitZone {
                     zone: member_number(wanted),
                     axis,
                     at,
-                })?;
+                };
+                steps.push(Step::Zone(self.owner, step))?;
                 splits = splits.saturating_add(1);
             }
         }

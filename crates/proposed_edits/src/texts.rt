@@ -1,6 +1,6 @@
 //! The texts that differ.
 use bank_core::{Bank, InfoId};
-use edit_forms::Step;
+use edit_forms::{Step, TextStep};
 use sf_base::{Lent, OutOfMemory};
 use std::alloc::Global;
 
@@ -25,10 +25,8 @@ pub fn text_steps<'a>(
     for id in IDS {
         let text = to.info(id);
         if now.info(id) != text {
-            steps.push(Step::SetInfo {
-                id,
-                text: Lent::new(text),
-            })?;
+            let text = Lent::new(text);
+            steps.push(Step::Text(TextStep::SetInfo { id, text }))?;
         }
     }
     Ok(steps)

@@ -25,7 +25,8 @@ use Rattle.bank_format.specs.Chunks.{window, body_in}
 use Rattle.bank_format.proofs.StepLaws.{split_none, both_none}
 use Rattle.bank_format.proofs.ReadBytes.{OfBytes, take_bytes, drop_bytes, walk_bytes, body_bytes, window_bytes}
 use Rattle.edit_forms.specs.declared.edit.Edit.TheVariants.{One}
-use Rattle.edit_forms.specs.declared.step.Step.TheVariants.{SetKind}
+use Rattle.edit_forms.specs.declared.points.PointStep.TheVariants.{SetKind}
+use Rattle.edit_forms.specs.declared.step.Step.TheVariants.{Points}
 use Rattle.edit_forms.specs.Fits.{FitsEdit}
 use Rattle.wave_file.specs.Wave.{FORMAT, DATA}
 use Rattle.wave_file.specs.SampleWave.{SAMPLER}
@@ -186,7 +187,7 @@ pair_fits : (n : ℕ) (left right : Sample) → n ≤ SAMPLES → FitsSample lef
 pair_fits n left right most l r = by_test (ltb n SAMPLES) refl
   where
     by_test : (b : Bool) → ltb n SAMPLES ≡ b
-        → AllByRecursion FitsEdit (cond b (add_edit n left ∷ add_edit (n + 1) right ∷ One (SetKind n (kind.Left (n + 1))) ∷ []) (add_edit n left ∷ []))
+        → AllByRecursion FitsEdit (cond b (add_edit n left ∷ add_edit (n + 1) right ∷ One (Points n (SetKind (kind.Left (n + 1)))) ∷ []) (add_edit n left ∷ []))
     by_test true e =
         let lt = ltb-true n SAMPLES e in
         ((omega (arith, most), l), ((omega (arith, most), r), ((omega (arith, most), omega (arith, lt)), tt)))

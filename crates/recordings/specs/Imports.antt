@@ -9,7 +9,9 @@ use Rattle.bank_parts.specs.declared.parts.Kind.TheVariants as kind
 use Rattle.bank_parts.specs.declared.parts.Sample.{Sample}
 use Rattle.edit_forms.specs.declared.edit.Edit.{Edit}
 use Rattle.edit_forms.specs.declared.edit.Edit.TheVariants.{One}
-use Rattle.edit_forms.specs.declared.step.Step.TheVariants.{AddSample, SetKind}
+use Rattle.edit_forms.specs.declared.points.PointStep.TheVariants.{SetKind}
+use Rattle.edit_forms.specs.declared.samples.SampleStep.TheVariants.{AddSample}
+use Rattle.edit_forms.specs.declared.step.Step.TheVariants as steps
 use Rattle.recordings.specs.declared.frames.Frame.{Frame}
 use Rattle.recordings.specs.declared.recording.Channels.{Channels}
 use Rattle.recordings.specs.declared.recording.Channels.TheVariants.{Mono, Stereo}
@@ -56,13 +58,13 @@ sample_of rate sampler name points kind = record {
 }
 
 abbrev pub add_edit : ℕ → Sample → Edit
-add_edit at sample = One (AddSample at sample)
+add_edit at sample = One (steps.Sample (AddSample at sample))
 
 -- Two samples come as samples n and n + 1, and the first is linked with the second. A full bank refuses the first edit, and
 -- the others can't be said of it.
 abbrev pub pair_edits : ℕ → Sample → Sample → List Edit
 pair_edits n left right =
-    if nat_lt n SAMPLES then add_edit n left ∷ add_edit (n + 1) right ∷ One (SetKind n (kind.Left (n + 1))) ∷ []
+    if nat_lt n SAMPLES then add_edit n left ∷ add_edit (n + 1) right ∷ One (steps.Points n (SetKind (kind.Left (n + 1)))) ∷ []
     else add_edit n left ∷ []
 
 -- one channel comes as one sample, and two as a left and a right one

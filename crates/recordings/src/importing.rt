@@ -10,7 +10,7 @@ use crate::sides::Sides;
 use arrayvec::ArrayVec;
 use bank_format::before_zero;
 use bank_parts::{Kind, Sample};
-use edit_forms::{Edit, Step};
+use edit_forms::{Edit, PointStep, SampleStep, Step};
 use sample_view::Points;
 use sf_base::limits::{NAME_LENGTH, SAMPLES};
 use sf_base::{Name20, OutOfMemory, front_of};
@@ -116,7 +116,7 @@ fn sample_of<'a>(
 fn add_edit(at: u32, sample: Sample<'_>) -> Edit<'_>
     ensures { result ≡ add_edit at sample.entry }
 {
-    Edit::One(Step::AddSample { at, sample })
+    Edit::One(Step::Sample(SampleStep::AddSample { at, sample }))
 }
 
 // The edit that puts a sample behind `samples` others.
@@ -150,9 +150,7 @@ fn pair_edits<'a>(
     }
     let at = samples as u32;
     edits.push(add_edit(at + 1, right))?;
-    edits.push(Edit::One(Step::SetKind {
-        sample: at,
-        kind: Kind::Left(samples as u16 + 1),
-    }))?;
+    let kind = Kind::Left(samples as u16 + 1);
+    edits.push(Edit::One(Step::Points(at, PointStep::SetKind { kind })))?;
     Ok(edits)
 }

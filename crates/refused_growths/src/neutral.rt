@@ -2,7 +2,7 @@
 use crate::banks::{BANK, Fixed, bank_of, edited, file_of, fixed_writer};
 use crate::outcome::Outcome;
 use bank_core::{Bank, Owner};
-use edit_forms::{Axis, Edit, Step};
+use edit_forms::{Axis, Edit, SampleStep, Step, ZoneStep};
 use edit_refusals::Refusal;
 use edit_script::print;
 use neutral_edits::{apply_neutral, is_neutral};
@@ -133,15 +133,17 @@ fn line_of(edit: &Edit<'_>) -> Fixed {
 fn edit_of(call: Call) -> Option<Edit<'static>> {
     match call {
         Call::Rename => match Name20::from_bytes(b"ABCDEFGHIJKLMNOPQRST") {
-            Ok(name) => Some(Edit::One(Step::RenameSample { sample: 0, name })),
+            Ok(name) => Some(Edit::One(Step::Sample(SampleStep::RenameSample { sample: 0, name }))),
             Err(_) => None,
         },
-        Call::Split(number) => Some(Edit::One(Step::SplitZone {
-            owner: Owner::Instrument(number),
-            zone: 0,
-            axis: Axis::Key,
-            at: 60,
-        })),
+        Call::Split(number) => Some(Edit::One(Step::Zone(
+            Owner::Instrument(number),
+            ZoneStep::SplitZone {
+                zone: 0,
+                axis: Axis::Key,
+                at: 60,
+            },
+        ))),
     }
 }
 

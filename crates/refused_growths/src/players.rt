@@ -3,7 +3,7 @@ use crate::banks::{BANK, bank_of, edited, file_of, fixed_writer};
 use crate::outcome::Outcome;
 use bank_core::{Bank, Owner, Place};
 use bank_edits::apply;
-use edit_forms::{Edit, Step};
+use edit_forms::{Edit, PointStep, SettingStep, Step, ZoneStep};
 use edit_refusals::Refusal;
 use mixer::Player;
 use note_list::Note;
@@ -152,22 +152,22 @@ fn step_of(alloc: Global, call: Call) -> Option<Step<'static>> {
     let owner = Owner::Instrument(0);
     match call {
         Call::Start | Call::Outside | Call::Absent => None,
-        Call::Left => Some(Step::SetGen {
+        Call::Left => Some(Step::Setting(
             owner,
-            place: Place::Zone(0),
-            operator: 17,
-            amount: (-500i16).cast_unsigned(),
-        }),
-        Call::Longer => Some(Step::Extend {
-            sample: 0,
-            front: Points::of_slice(alloc, &POINT).ok()?,
-            back: Points::of_slice(alloc, &POINT).ok()?,
-        }),
-        Call::Shorter => Some(Step::Trim {
-            sample: 0,
-            front: 2,
-            back: 2,
-        }),
-        Call::Fewer => Some(Step::RemoveZone { owner, zone: 0 }),
+            Place::Zone(0),
+            SettingStep::SetGen {
+                operator: 17,
+                amount: (-500i16).cast_unsigned(),
+            },
+        )),
+        Call::Longer => Some(Step::Points(
+            0,
+            PointStep::Extend {
+                front: Points::of_slice(alloc, &POINT).ok()?,
+                back: Points::of_slice(alloc, &POINT).ok()?,
+            },
+        )),
+        Call::Shorter => Some(Step::Points(0, PointStep::Trim { front: 2, back: 2 })),
+        Call::Fewer => Some(Step::Zone(owner, ZoneStep::RemoveZone { zone: 0 })),
     }
 }

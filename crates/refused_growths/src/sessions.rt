@@ -2,7 +2,7 @@
 use crate::banks::{BANK, Fixed, bank_of, file_of, fixed_writer};
 use crate::outcome::Outcome;
 use bank_core::{InfoId, Owner};
-use edit_forms::{Edit, Step};
+use edit_forms::{Edit, PresetStep, SampleStep, Step, TextStep, ZoneStep};
 use edit_refusals::Refusal;
 use edit_script::print;
 use edit_sessions::Session;
@@ -142,18 +142,21 @@ fn made(alloc: Global, session: &mut Session<'_>, call: Call) -> Result<bool, Ou
         Call::Rename => match Name20::from_bytes(b"u") {
             Ok(name) => edited(session.edit(
                 alloc,
-                Edit::One(Step::RenameSample { sample: 0, name }),
+                Edit::One(Step::Sample(SampleStep::RenameSample { sample: 0, name })),
             )),
             Err(_) => Ok(false),
         },
         Call::Title => edited(session.edit(
             alloc,
-            Edit::One(Step::SetInfo {
+            Edit::One(Step::Text(TextStep::SetInfo {
                 id: InfoId::Name,
                 text: Lent::new(b"x"),
-            }),
+            })),
         )),
-        Call::Remove => edited(session.edit(alloc, Edit::One(Step::RemovePreset { preset: 0 }))),
+        Call::Remove => edited(session.edit(
+            alloc,
+            Edit::One(Step::Preset(PresetStep::RemovePreset { preset: 0 })),
+        )),
         Call::Empty => emptied(alloc, session),
         Call::Undo => moved(session.undo(alloc)),
         Call::Redo => moved(session.redo(alloc)),
@@ -170,11 +173,8 @@ fn emptied(alloc: Global, session: &mut Session<'_>) -> Result<bool, OutOfMemory
 // A group that takes out the zone of the instrument, and then the sample that it plays.
 fn emptying(alloc: Global) -> Result<Edit<'static>, OutOfMemory> {
     let mut steps = Vec::new(alloc);
-    steps.push(Step::RemoveZone {
-        owner: Owner::Instrument(0),
-        zone: 0,
-    })?;
-    steps.push(Step::RemoveSample { sample: 0 })?;
+    steps.push(Step::Zone(Owner::Instrument(0), ZoneStep::RemoveZone { zone: 0 }))?;
+    steps.push(Step::Sample(SampleStep::RemoveSample { sample: 0 }))?;
     Ok(Edit::Group(NumberedList::from_vec(steps)))
 }
 

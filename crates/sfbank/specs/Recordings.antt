@@ -5,7 +5,7 @@ use Rattle.bank_parts.specs.declared.parts.Sample.{Sample}
 use Rattle.bank_format.specs.Canon.{canon}
 use Rattle.bank_format.specs.ReadSteps.{fault_of}
 use Rattle.edit_forms.specs.declared.edit.Edit.{Edit}
-use Rattle.edit_refusals.specs.declared.cause.Cause.TheVariants.{NoSuchSample}
+use Rattle.edit_forms.specs.declared.cause.Cause.TheVariants.{NoSuchSample}
 use Rattle.edit_script.specs.Printing.{texts_of, numbered}
 use Rattle.wave_file.specs.SampleWave.{sample_wave}
 use Rattle.recordings.specs.declared.fault.WaveFault.{WaveFault}

@@ -11,10 +11,11 @@ use Rattle.recordings.specs.declared.fault.WaveFault.{WaveFault}
 use Rattle.recordings.specs.FaultNames as recordings
 use Rattle.bank_validity.specs.declared.limits.Limit.{Limit}
 use Rattle.bank_validity.specs.Limits.{word_of}
-use Rattle.edit_refusals.specs.declared.cause.Cause.{Cause}
+use Rattle.edit_forms.specs.declared.cause.Cause.{Cause}
 use Rattle.edit_refusals.specs.declared.refusal.Refusal.{Refusal}
 use Rattle.edit_refusals.specs.declared.refusal.Refusal.TheVariants.{Of, OutOfMemory, NothingToUndo, NothingToRedo, GroupRefused}
-use Rattle.edit_refusals.specs.CauseNames as causes
+use Rattle.edit_forms.specs.CauseNames as causes
+use Rattle.edit_refusals.specs.RefusalNames as refusals
 use Rattle.sfbank_program.specs.declared.input_fault.InputFault.{InputFault}
 use Rattle.sfbank_program.specs.InputFaults.{reason_of}
 use Rattle.sfbank_program.specs.declared.run_fault.RunFault.{RunFault}
@@ -53,7 +54,7 @@ limit_text None = []
 -- the line and why it is refused, by its number and its name
 abbrev pub refusal_text : ℕ → Refusal → List ℕ
 refusal_text line why =
-    concat (codes "sfbank: line " ∷ decimal line ∷ codes ": refused " ∷ decimal (causes.refusal_number why) ∷ codes " " ∷ causes.refusal_name why ∷ [])
+    concat (codes "sfbank: line " ∷ decimal line ∷ codes ": refused " ∷ decimal (refusals.refusal_number why) ∷ codes " " ∷ refusals.refusal_name why ∷ [])
 
 -- the step of a group, counted from 0, and the cause that stands against it
 abbrev pub step_text : ℕ → Cause → List ℕ

@@ -1,16 +1,14 @@
 -- What is put piece by piece is a line.
-use Rattle.std.proofs.Common.{◌≡◌, subst, ℕ, List, [], ◌∷◌, Option, sym}
+use Rattle.std.proofs.Common.{ℕ, List, [], ◌∷◌, Option}
 use Rattle.outputs.specs.declared.output.Output.{Output}
 use Rattle.outputs.specs.Output.{Puts}
 use Rattle.bank_parts.specs.declared.parts.Sample.{Sample}
 use Rattle.bank_parts.specs.declared.parts.WithZones.{WithZones}
-use Rattle.edit_forms.specs.declared.step.Step.{Step}
 use Rattle.script_grammar.specs.Operands.{Operand}
 use Rattle.script_grammar.specs.Zones.{written_operands, written_of}
 use Rattle.script_grammar.specs.Samples.{body_operands}
 use Rattle.script_grammar.proofs.PutLaws.{spaced_out, puts_both}
 use Rattle.step_script.specs.Members.{place, printed_owner}
-use Rattle.step_script.specs.Grammar.{operands}
 
 module _ {W : Type 0} {c : W → Option (List ℕ)} where
   pub puts_added : {o p q : Output W} (n : ℕ) (s : Sample) → Puts c o p (spaced_out (place n ∷ [])) → Puts c p q (spaced_out (body_operands s)) → Puts c o q (spaced_out (place n ∷ body_operands s))
@@ -18,7 +16,3 @@ module _ {W : Type 0} {c : W → Option (List ℕ)} where
 
   pub puts_owner : {o p q : Output W} {H : Type 0} (head : H → List Operand) (n : ℕ) (x : WithZones H) → Puts c o p (spaced_out (place n ∷ head x.head)) → Puts c p q (spaced_out (written_operands (written_of x.global x.zones))) → Puts c o q (spaced_out (printed_owner head n x))
   puts_owner head n x h k = puts_both (place n ∷ head x.head) (written_operands (written_of x.global x.zones)) h k
-
-  -- the operands of a step, by another name of the step
-  pub puts_same : {o p : Output W} (s t : Step) → s ≡ t → Puts c o p (spaced_out (operands t)) → Puts c o p (spaced_out (operands s))
-  puts_same {o} {p} s t e h = subst (λ (u : Step). Puts c o p (spaced_out (operands u))) (sym e) h

@@ -109,13 +109,13 @@ some_zones = record {
 
 -- ---- what has zones, and where it goes in
 
-pub adds_zone : IsSpelt (pair_part owner_zone zone) (λ a. SaysZone a.0.0 a.0.1 a.1) (λ a. printed_zone a.0.0 a.0.1 a.1) (λ a. FitsNumberOf a.0.0 × (a.0.1 < 2 ^ 32) × FitsZone a.1)
+pub adds_zone : IsSpelt (pair_part owner_zone zone) (λ a. SaysZone a.0.0 a.0.1 a.1) (λ a. printed_zone a.0.0 a.0.1 a.1) (λ a. FitsNumberOf a.0.0 × ((a.0.1 < 2 ^ 32) × FitsZone a.1))
 adds_zone =
     spelt_as (behind_spelt owner_zones a_zone)
     (λ a os s. record { written = s.says.0; operands = s.parts ∙ ap (λ (os : List Operand). of_zone a.0.0 a.0.1 ++ os) s.says.1; stands = s.says.2 })
     (λ a os s. record { behind = zone_operands s.written; parts = s.operands; says = (s.written, refl, s.stands) })
-    (λ a h. (h.0.0, h.0.1, h.1))
-    (λ a h. ((h.0, h.1), h.2))
+    (λ a h. (h.0.0, (h.0.1, h.1)))
+    (λ a h. ((h.0, h.1.0), h.1.1))
 
 -- a preset or an instrument, by its number, its head and its zones
 abbrev pub added : {H : Type 0} → (ℕ × H) × (GlobalZone × List Zone) → WithZones H

@@ -2,22 +2,33 @@
 -- from left to right, up to the first fault.
 use Rattle.std.specs.Prelude.{◌≡◌, ℕ, List, [], ◌∷◌, codes}
 use Rattle.edit_forms.specs.declared.step.Step.{Step}
-use Rattle.edit_forms.specs.declared.step.Step.TheVariants.{AddPreset, RemovePreset, MovePreset, SetHead, AddInstrument, RemoveInstrument, RenameInstrument, MoveInstrument, RenameSample, AddSample, RemoveSample, MoveSample, Trim, Extend, SetLoop, SetKind, SetTune, AddZone, RemoveZone, MoveZone, SplitZone, JoinZone, SetTarget, SetGen, ClearGen, AddMod, RemoveMod, SetMod, SetInfo}
+use Rattle.edit_forms.specs.declared.presets.PresetStep.TheVariants.{AddPreset, RemovePreset, MovePreset, SetHead}
+use Rattle.edit_forms.specs.declared.instruments.InstrumentStep.TheVariants.{AddInstrument, RemoveInstrument, RenameInstrument, MoveInstrument}
+use Rattle.edit_forms.specs.declared.samples.SampleStep.TheVariants.{RenameSample, AddSample, RemoveSample, MoveSample}
+use Rattle.edit_forms.specs.declared.points.PointStep.TheVariants.{Trim, Extend, SetLoop, SetKind, SetTune}
+use Rattle.edit_forms.specs.declared.zones.ZoneStep.TheVariants.{AddZone, RemoveZone, MoveZone, SplitZone, JoinZone, SetTarget}
+use Rattle.edit_forms.specs.declared.settings.SettingStep.TheVariants.{SetGen, ClearGen, AddMod, RemoveMod, SetMod}
+use Rattle.edit_forms.specs.declared.texts.TextStep.TheVariants.{SetInfo}
+use Rattle.edit_forms.specs.declared.step.Step.TheVariants as steps
 use Rattle.line_tokens.specs.Parts.{Part, ◌>>=◌, pure, most_double_word, number}
 use Rattle.step_script.specs.declared.forms.Form.{Form}
 use Rattle.step_script.specs.declared.forms.Form.TheVariants as form
-use Rattle.script_grammar.specs.Operands.{Operand, Fixed, Text}
+use Rattle.script_grammar.specs.Operands.{Operand, Fixed}
 use Rattle.script_grammar.specs.Names.{next_named}
-use Rattle.script_grammar.specs.Samples.{body_operands}
-use Rattle.script_grammar.specs.Texts.{id_word}
-use Rattle.step_script.specs.Members.{place, named_operands, moved_operands, printed_owner, SaysOwner, naming, moving}
-use Rattle.step_script.specs.Presets.{head_operands, new_head_operands, added_preset, set_head}
+use Rattle.step_script.specs.Members.{SaysOwner, naming, moving}
+use Rattle.step_script.specs.Presets as presets
+use Rattle.step_script.specs.Presets.{head_operands, added_preset, set_head}
+use Rattle.step_script.specs.Instruments as instruments
 use Rattle.step_script.specs.Instruments.{name_operands, added_instrument}
+use Rattle.step_script.specs.Samples as samples
 use Rattle.step_script.specs.Samples.{added_sample}
-use Rattle.step_script.specs.Points.{cut_operands, both_ends_operands, loop_of_operands, kind_of_operands, tune_of_operands, trim, extend, set_loop, set_kind, set_tune}
-use Rattle.step_script.specs.Owners.{of_zone}
-use Rattle.step_script.specs.Zones.{printed_zone, SaysZone, moved_zone_operands, split_operands, joined_operands, target_operands, add_zone, remove_zone, move_zone, split_zone, join_zone, set_target}
-use Rattle.step_script.specs.Settings.{generator_at_operands, operator_operands, index_operands, modulator_at_operands, set_gen, clear_gen, add_mod, remove_mod, set_mod}
+use Rattle.step_script.specs.Points as points
+use Rattle.step_script.specs.Points.{trim, extend, set_loop, set_kind, set_tune}
+use Rattle.step_script.specs.Zones as zones
+use Rattle.step_script.specs.Zones.{SaysZone, add_zone, remove_zone, move_zone, split_zone, join_zone, set_target}
+use Rattle.step_script.specs.Settings as settings
+use Rattle.step_script.specs.Settings.{set_gen, clear_gen, add_mod, remove_mod, set_mod}
+use Rattle.step_script.specs.Texts as texts
 use Rattle.step_script.specs.Texts.{id_and_text}
 
 -- ---- the forms, one line each
@@ -71,89 +82,67 @@ forms =
 
 -- the form of a step
 abbrev pub form_of : Step → Form
-form_of (AddPreset at preset) = form.AddPreset
-form_of (RemovePreset preset) = form.RemovePreset
-form_of (MovePreset from to) = form.MovePreset
-form_of (SetHead preset name number bank) = form.SetHead
-form_of (AddInstrument at instrument) = form.AddInstrument
-form_of (RemoveInstrument instrument) = form.RemoveInstrument
-form_of (RenameInstrument instrument name) = form.RenameInstrument
-form_of (MoveInstrument from to) = form.MoveInstrument
-form_of (RenameSample sample name) = form.RenameSample
-form_of (AddSample at sample) = form.AddSample
-form_of (RemoveSample sample) = form.RemoveSample
-form_of (MoveSample from to) = form.MoveSample
-form_of (Trim sample front back) = form.Trim
-form_of (Extend sample front back) = form.Extend
-form_of (SetLoop sample looped) = form.SetLoop
-form_of (SetKind sample kind) = form.SetKind
-form_of (SetTune sample rate key correction) = form.SetTune
-form_of (AddZone o at zone) = form.AddZone
-form_of (RemoveZone o zone) = form.RemoveZone
-form_of (MoveZone o from to) = form.MoveZone
-form_of (SplitZone o zone axis at) = form.SplitZone
-form_of (JoinZone o zone axis kept) = form.JoinZone
-form_of (SetTarget o zone target) = form.SetTarget
-form_of (SetGen o at operator amount) = form.SetGen
-form_of (ClearGen o at operator) = form.ClearGen
-form_of (AddMod o at index modulator) = form.AddMod
-form_of (RemoveMod o at index) = form.RemoveMod
-form_of (SetMod o at index modulator) = form.SetMod
-form_of (SetInfo id text) = form.SetInfo
+form_of (steps.Preset (AddPreset at preset)) = form.AddPreset
+form_of (steps.Preset (RemovePreset preset)) = form.RemovePreset
+form_of (steps.Preset (MovePreset from to)) = form.MovePreset
+form_of (steps.Preset (SetHead preset name number bank)) = form.SetHead
+form_of (steps.Instrument (AddInstrument at instrument)) = form.AddInstrument
+form_of (steps.Instrument (RemoveInstrument instrument)) = form.RemoveInstrument
+form_of (steps.Instrument (RenameInstrument instrument name)) = form.RenameInstrument
+form_of (steps.Instrument (MoveInstrument from to)) = form.MoveInstrument
+form_of (steps.Sample (RenameSample sample name)) = form.RenameSample
+form_of (steps.Sample (AddSample at sample)) = form.AddSample
+form_of (steps.Sample (RemoveSample sample)) = form.RemoveSample
+form_of (steps.Sample (MoveSample from to)) = form.MoveSample
+form_of (steps.Points sample (Trim front back)) = form.Trim
+form_of (steps.Points sample (Extend front back)) = form.Extend
+form_of (steps.Points sample (SetLoop looped)) = form.SetLoop
+form_of (steps.Points sample (SetKind kind)) = form.SetKind
+form_of (steps.Points sample (SetTune rate key correction)) = form.SetTune
+form_of (steps.Zone o (AddZone at zone)) = form.AddZone
+form_of (steps.Zone o (RemoveZone zone)) = form.RemoveZone
+form_of (steps.Zone o (MoveZone from to)) = form.MoveZone
+form_of (steps.Zone o (SplitZone zone axis at)) = form.SplitZone
+form_of (steps.Zone o (JoinZone zone axis kept)) = form.JoinZone
+form_of (steps.Zone o (SetTarget zone target)) = form.SetTarget
+form_of (steps.Setting o at (SetGen operator amount)) = form.SetGen
+form_of (steps.Setting o at (ClearGen operator)) = form.ClearGen
+form_of (steps.Setting o at (AddMod index modulator)) = form.AddMod
+form_of (steps.Setting o at (RemoveMod index)) = form.RemoveMod
+form_of (steps.Setting o at (SetMod index modulator)) = form.SetMod
+form_of (steps.Text (SetInfo id text)) = form.SetInfo
 
--- what stands behind the word, as it is printed
+-- what stands behind the word, as it is printed, by what the step edits
 abbrev pub operands : Step → List Operand
-operands (AddPreset at preset) = printed_owner head_operands at preset
-operands (RemovePreset preset) = place preset ∷ []
-operands (MovePreset from to) = moved_operands from to
-operands (SetHead preset name number bank) = new_head_operands preset name number bank
-operands (AddInstrument at instrument) = printed_owner name_operands at instrument
-operands (RemoveInstrument instrument) = place instrument ∷ []
-operands (RenameInstrument instrument name) = named_operands instrument name
-operands (MoveInstrument from to) = moved_operands from to
-operands (RenameSample sample name) = named_operands sample name
-operands (AddSample at sample) = place at ∷ body_operands sample
-operands (RemoveSample sample) = place sample ∷ []
-operands (MoveSample from to) = moved_operands from to
-operands (Trim sample front back) = cut_operands sample front back
-operands (Extend sample front back) = both_ends_operands sample front back
-operands (SetLoop sample looped) = loop_of_operands sample looped
-operands (SetKind sample kind) = kind_of_operands sample kind
-operands (SetTune sample rate key correction) = tune_of_operands sample rate key correction
-operands (AddZone o at zone) = printed_zone o at zone
-operands (RemoveZone o zone) = of_zone o zone
-operands (MoveZone o from to) = moved_zone_operands o from to
-operands (SplitZone o zone axis at) = split_operands o zone axis at
-operands (JoinZone o zone axis kept) = joined_operands o zone axis kept
-operands (SetTarget o zone target) = target_operands o zone target
-operands (SetGen o at operator amount) = generator_at_operands o at operator amount
-operands (ClearGen o at operator) = operator_operands o at operator
-operands (AddMod o at index modulator) = modulator_at_operands o at index modulator
-operands (RemoveMod o at index) = index_operands o at index
-operands (SetMod o at index modulator) = modulator_at_operands o at index modulator
-operands (SetInfo id text) = Fixed (id_word id) ∷ Text text ∷ []
+operands (steps.Preset s) = presets.operands s
+operands (steps.Instrument s) = instruments.operands s
+operands (steps.Sample s) = samples.operands s
+operands (steps.Points i s) = points.operands i s
+operands (steps.Zone o s) = zones.operands o s
+operands (steps.Setting o at s) = settings.operands o at s
+operands (steps.Text s) = texts.operands s
 
 -- what can stand there: zones can be written in several ways, and all else in one
 abbrev pub SaysStep : Step → List Operand → Type 0
-SaysStep (AddPreset at preset) os = SaysOwner head_operands at preset os
-SaysStep (AddInstrument at instrument) os = SaysOwner name_operands at instrument os
-SaysStep (AddZone o at zone) os = SaysZone o at zone os
+SaysStep (steps.Preset (AddPreset at preset)) os = SaysOwner head_operands at preset os
+SaysStep (steps.Instrument (AddInstrument at instrument)) os = SaysOwner name_operands at instrument os
+SaysStep (steps.Zone o (AddZone at zone)) os = SaysZone o at zone os
 SaysStep step os = os ≡ operands step
 
 -- how it is read
 abbrev pub operands_read : Form → Part Step
-operands_read form.AddPreset = added_preset >>= λ a. pure (AddPreset a.0 a.1)
-operands_read form.RemovePreset = number most_double_word >>= λ p. pure (RemovePreset p)
-operands_read form.MovePreset = moving >>= λ m. pure (MovePreset m.0 m.1)
+operands_read form.AddPreset = added_preset >>= λ a. pure (steps.Preset (AddPreset a.0 a.1))
+operands_read form.RemovePreset = number most_double_word >>= λ p. pure (steps.Preset (RemovePreset p))
+operands_read form.MovePreset = moving >>= λ m. pure (steps.Preset (MovePreset m.0 m.1))
 operands_read form.SetHead = set_head
-operands_read form.AddInstrument = added_instrument >>= λ a. pure (AddInstrument a.0 a.1)
-operands_read form.RemoveInstrument = number most_double_word >>= λ i. pure (RemoveInstrument i)
-operands_read form.RenameInstrument = naming >>= λ n. pure (RenameInstrument n.0 n.1)
-operands_read form.MoveInstrument = moving >>= λ m. pure (MoveInstrument m.0 m.1)
-operands_read form.RenameSample = naming >>= λ n. pure (RenameSample n.0 n.1)
-operands_read form.AddSample = added_sample >>= λ a. pure (AddSample a.0 a.1)
-operands_read form.RemoveSample = number most_double_word >>= λ s. pure (RemoveSample s)
-operands_read form.MoveSample = moving >>= λ m. pure (MoveSample m.0 m.1)
+operands_read form.AddInstrument = added_instrument >>= λ a. pure (steps.Instrument (AddInstrument a.0 a.1))
+operands_read form.RemoveInstrument = number most_double_word >>= λ i. pure (steps.Instrument (RemoveInstrument i))
+operands_read form.RenameInstrument = naming >>= λ n. pure (steps.Instrument (RenameInstrument n.0 n.1))
+operands_read form.MoveInstrument = moving >>= λ m. pure (steps.Instrument (MoveInstrument m.0 m.1))
+operands_read form.RenameSample = naming >>= λ n. pure (steps.Sample (RenameSample n.0 n.1))
+operands_read form.AddSample = added_sample >>= λ a. pure (steps.Sample (AddSample a.0 a.1))
+operands_read form.RemoveSample = number most_double_word >>= λ s. pure (steps.Sample (RemoveSample s))
+operands_read form.MoveSample = moving >>= λ m. pure (steps.Sample (MoveSample m.0 m.1))
 operands_read form.Trim = trim
 operands_read form.Extend = extend
 operands_read form.SetLoop = set_loop
@@ -170,7 +159,7 @@ operands_read form.ClearGen = clear_gen
 operands_read form.AddMod = add_mod
 operands_read form.RemoveMod = remove_mod
 operands_read form.SetMod = set_mod
-operands_read form.SetInfo = id_and_text >>= λ t. pure (SetInfo t.0 t.1)
+operands_read form.SetInfo = id_and_text >>= λ t. pure (steps.Text (SetInfo t.0 t.1))
 
 -- ---- a step
 

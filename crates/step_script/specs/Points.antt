@@ -3,7 +3,9 @@
 use Rattle.std.specs.Prelude.{ℕ, ℤ, List, [], ◌∷◌, Option}
 use Rattle.bank_parts.specs.declared.parts.Kind.{Kind}
 use Rattle.edit_forms.specs.declared.step.Step.{Step}
-use Rattle.edit_forms.specs.declared.step.Step.TheVariants.{Trim, Extend, SetLoop, SetKind, SetTune}
+use Rattle.edit_forms.specs.declared.points.PointStep.{PointStep}
+use Rattle.edit_forms.specs.declared.points.PointStep.TheVariants.{Trim, Extend, SetLoop, SetKind, SetTune}
+use Rattle.edit_forms.specs.declared.step.Step.TheVariants as steps
 use Rattle.line_tokens.specs.Parts.{Part, ◌>>=◌, pure, most_double_word, number}
 use Rattle.script_grammar.specs.Operands.{Operand, Number, Points}
 use Rattle.script_grammar.specs.Samples.{kind_operands, loop_operands, tune_operands, kind, looped, points, tune}
@@ -31,6 +33,14 @@ kind_of_operands s kind = place s ∷ kind_operands kind
 abbrev pub tune_of_operands : ℕ → ℕ → ℕ → ℤ → List Operand
 tune_of_operands s rate key correction = place s ∷ tune_operands rate key correction
 
+-- what stands behind the word of a form that edits the sample, as it is printed
+abbrev pub operands : ℕ → PointStep → List Operand
+operands sample (Trim front back) = cut_operands sample front back
+operands sample (Extend front back) = both_ends_operands sample front back
+operands sample (SetLoop looped) = loop_of_operands sample looped
+operands sample (SetKind kind) = kind_of_operands sample kind
+operands sample (SetTune rate key correction) = tune_of_operands sample rate key correction
+
 -- ---- how it is read
 
 unfoldable pub trim : Part Step
@@ -38,29 +48,29 @@ trim = do
   s ← number most_double_word
   front ← number most_double_word
   back ← number most_double_word
-  pure (Trim s front back)
+  pure (steps.Points s (Trim front back))
 
 unfoldable pub extend : Part Step
 extend = do
   s ← number most_double_word
   front ← points
   back ← points
-  pure (Extend s front back)
+  pure (steps.Points s (Extend front back))
 
 unfoldable pub set_loop : Part Step
 set_loop = do
   s ← number most_double_word
   l ← looped
-  pure (SetLoop s l)
+  pure (steps.Points s (SetLoop l))
 
 unfoldable pub set_kind : Part Step
 set_kind = do
   s ← number most_double_word
   k ← kind
-  pure (SetKind s k)
+  pure (steps.Points s (SetKind k))
 
 unfoldable pub set_tune : Part Step
 set_tune = do
   s ← number most_double_word
   t ← tune
-  pure (SetTune s t.0 t.1 t.2)
+  pure (steps.Points s (SetTune t.0 t.1 t.2))

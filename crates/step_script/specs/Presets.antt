@@ -1,12 +1,14 @@
--- The forms that put a preset in and change its head: what stands behind their words, and how it is read.
+-- The forms that edit presets: what stands behind their words, and how presets and heads are read.
 use Rattle.std.specs.Prelude.{ℕ, List, [], ◌∷◌, ◌++◌}
 use Rattle.bank_parts.specs.declared.parts.Head.{Head}
 use Rattle.bank_parts.specs.declared.parts.WithZones.{WithZones}
 use Rattle.line_tokens.specs.Parts.{Part, ◌>>=◌, pure, most_word, most_double_word, number, name}
 use Rattle.script_grammar.specs.Operands.{Operand, Number, Name}
 use Rattle.edit_forms.specs.declared.step.Step.{Step}
-use Rattle.edit_forms.specs.declared.step.Step.TheVariants.{SetHead}
-use Rattle.step_script.specs.Members.{named_operands, naming, placed, owner}
+use Rattle.edit_forms.specs.declared.presets.PresetStep.{PresetStep}
+use Rattle.edit_forms.specs.declared.presets.PresetStep.TheVariants.{AddPreset, RemovePreset, MovePreset, SetHead}
+use Rattle.edit_forms.specs.declared.step.Step.TheVariants as steps
+use Rattle.step_script.specs.Members.{place, named_operands, moved_operands, printed_owner, naming, placed, owner}
 
 -- `NAME NUMBER BANK LIBRARY GENRE MORPHOLOGY`
 abbrev pub head_operands : Head → List Operand
@@ -45,4 +47,11 @@ set_head = do
   n ← naming
   program ← number most_word
   bank ← number most_word
-  pure (SetHead n.0 n.1 program bank)
+  pure (steps.Preset (SetHead n.0 n.1 program bank))
+
+-- what stands behind the word, as it is printed
+abbrev pub operands : PresetStep → List Operand
+operands (AddPreset at preset) = printed_owner head_operands at preset
+operands (RemovePreset preset) = place preset ∷ []
+operands (MovePreset from to) = moved_operands from to
+operands (SetHead preset name number bank) = new_head_operands preset name number bank

@@ -5,7 +5,9 @@ use Rattle.bank_parts.specs.declared.parts.Zone.{Zone}
 use Rattle.zone_ranges.specs.declared.axes.Axis.{Axis}
 use Rattle.zone_ranges.specs.declared.axes.Keep.{Keep}
 use Rattle.edit_forms.specs.declared.step.Step.{Step}
-use Rattle.edit_forms.specs.declared.step.Step.TheVariants.{AddZone, RemoveZone, MoveZone, SplitZone, JoinZone, SetTarget}
+use Rattle.edit_forms.specs.declared.zones.ZoneStep.{ZoneStep}
+use Rattle.edit_forms.specs.declared.zones.ZoneStep.TheVariants.{AddZone, RemoveZone, MoveZone, SplitZone, JoinZone, SetTarget}
+use Rattle.edit_forms.specs.declared.step.Step.TheVariants as steps
 use Rattle.line_tokens.specs.Parts.{Part, ◌>>=◌, pure, most_word, most_double_word, number}
 use Rattle.script_grammar.specs.Operands.{Operand, Fixed, Number}
 use Rattle.script_grammar.specs.Names.{next_named}
@@ -46,41 +48,50 @@ joined_operands o k axis keep = of_zone o k ++ Fixed (axis_word axis) ∷ Fixed 
 abbrev pub target_operands : Owner → ℕ → ℕ → List Operand
 target_operands o k target = of_zone o k ++ Number most_word target ∷ []
 
+-- what stands behind the word of a form that edits the owner's zones, as it is printed
+abbrev pub operands : Owner → ZoneStep → List Operand
+operands o (AddZone at zone) = printed_zone o at zone
+operands o (RemoveZone zone) = of_zone o zone
+operands o (MoveZone from to) = moved_zone_operands o from to
+operands o (SplitZone zone axis at) = split_operands o zone axis at
+operands o (JoinZone zone axis kept) = joined_operands o zone axis kept
+operands o (SetTarget zone target) = target_operands o zone target
+
 -- ---- how it is read
 
 unfoldable pub add_zone : Part Step
 add_zone = do
   z ← owner_zone
   content ← zone
-  pure (AddZone z.0 z.1 content)
+  pure (steps.Zone z.0 (AddZone z.1 content))
 
 unfoldable pub remove_zone : Part Step
 remove_zone = do
   z ← owner_zone
-  pure (RemoveZone z.0 z.1)
+  pure (steps.Zone z.0 (RemoveZone z.1))
 
 unfoldable pub move_zone : Part Step
 move_zone = do
   z ← owner_zone
   to ← number most_double_word
-  pure (MoveZone z.0 z.1 to)
+  pure (steps.Zone z.0 (MoveZone z.1 to))
 
 unfoldable pub split_zone : Part Step
 split_zone = do
   z ← owner_zone
   axis ← next_named axis_word axes
   at ← number 255
-  pure (SplitZone z.0 z.1 axis at)
+  pure (steps.Zone z.0 (SplitZone z.1 axis at))
 
 unfoldable pub join_zone : Part Step
 join_zone = do
   z ← owner_zone
   axis ← next_named axis_word axes
   keep ← next_named keep_word keeps
-  pure (JoinZone z.0 z.1 axis keep)
+  pure (steps.Zone z.0 (JoinZone z.1 axis keep))
 
 unfoldable pub set_target : Part Step
 set_target = do
   z ← owner_zone
   target ← number most_word
-  pure (SetTarget z.0 z.1 target)
+  pure (steps.Zone z.0 (SetTarget z.1 target))

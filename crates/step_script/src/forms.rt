@@ -1,9 +1,22 @@
-//! The forms of edits.
+//! The forms of edits: their words, and what each reads behind its word.
 ghost use Rattle.std.specs.Prelude.{◌≡◌};
-ghost use Rattle.step_script.specs.Grammar.{form_word, forms, form_of};
+ghost use Rattle.script_grammar.specs.Memory.{ReadsOrWants};
+ghost use Rattle.step_script.specs.Grammar.{form_word, forms, form_of, operands_read};
 
-use edit_forms::Step;
+use crate::instruments::{add_instrument, move_instrument, remove_instrument, rename_instrument};
+use crate::points::{extend, set_kind, set_loop, set_tune, trim};
+use crate::presets::{add_preset, move_preset, remove_preset, set_head};
+use crate::samples::{add_sample, move_sample, remove_sample, rename_sample};
+use crate::settings::{add_mod, clear_gen, remove_mod, set_gen, set_mod};
+use crate::texts::set_info;
+use crate::zones::{add_zone, join_zone, move_zone, remove_zone, set_target, split_zone};
+use edit_forms::{
+    InstrumentStep, PointStep, PresetStep, SampleStep, SettingStep, Step, TextStep, ZoneStep,
+};
+use line_tokens::{Cursor, LineFault};
 use script_grammar::HasWord;
+use sf_base::Failure;
+use std::alloc::Global;
 
 /// A form of edits: one for each kind of step.
 #[derive(Debug, Clone, Copy)]
@@ -127,40 +140,81 @@ impl HasWord for Form {
 }
 
 impl Form {
+    /// The step of the form, read from what stands behind the form's word.
+    pub(crate) fn read<'p>(
+        self,
+        alloc: Global,
+        line: &mut Cursor<'_, 'p>,
+    ) -> Result<Step<'p>, Failure<LineFault>>
+        ensures { ReadsOrWants (λ s. s) (operands_read self) line.old line.new result }
+    {
+        match self {
+            Form::AddPreset => add_preset(alloc, line),
+            Form::RemovePreset => Ok(remove_preset(line)?),
+            Form::MovePreset => Ok(move_preset(line)?),
+            Form::SetHead => Ok(set_head(line)?),
+            Form::AddInstrument => add_instrument(alloc, line),
+            Form::RemoveInstrument => Ok(remove_instrument(line)?),
+            Form::RenameInstrument => Ok(rename_instrument(line)?),
+            Form::MoveInstrument => Ok(move_instrument(line)?),
+            Form::RenameSample => Ok(rename_sample(line)?),
+            Form::AddSample => Ok(add_sample(alloc, line)?),
+            Form::RemoveSample => Ok(remove_sample(line)?),
+            Form::MoveSample => Ok(move_sample(line)?),
+            Form::Trim => Ok(trim(line)?),
+            Form::Extend => Ok(extend(alloc, line)?),
+            Form::SetLoop => Ok(set_loop(line)?),
+            Form::SetKind => Ok(set_kind(line)?),
+            Form::SetTune => Ok(set_tune(line)?),
+            Form::AddZone => add_zone(alloc, line),
+            Form::RemoveZone => Ok(remove_zone(line)?),
+            Form::MoveZone => Ok(move_zone(line)?),
+            Form::SplitZone => Ok(split_zone(line)?),
+            Form::JoinZone => Ok(join_zone(line)?),
+            Form::SetTarget => Ok(set_target(line)?),
+            Form::SetGen => Ok(set_gen(line)?),
+            Form::ClearGen => Ok(clear_gen(line)?),
+            Form::AddMod => Ok(add_mod(line)?),
+            Form::RemoveMod => Ok(remove_mod(line)?),
+            Form::SetMod => Ok(set_mod(line)?),
+            Form::SetInfo => Ok(set_info(line)?),
+        }
+    }
+
     /// The form of a step.
     pub(crate) fn of(step: &Step<'_>) -> Form
         ensures { result ≡ form_of step.now }
     {
         match step {
-            Step::AddPreset { .. } => Form::AddPreset,
-            Step::RemovePreset { .. } => Form::RemovePreset,
-            Step::MovePreset { .. } => Form::MovePreset,
-            Step::SetHead { .. } => Form::SetHead,
-            Step::AddInstrument { .. } => Form::AddInstrument,
-            Step::RemoveInstrument { .. } => Form::RemoveInstrument,
-            Step::RenameInstrument { .. } => Form::RenameInstrument,
-            Step::MoveInstrument { .. } => Form::MoveInstrument,
-            Step::RenameSample { .. } => Form::RenameSample,
-            Step::AddSample { .. } => Form::AddSample,
-            Step::RemoveSample { .. } => Form::RemoveSample,
-            Step::MoveSample { .. } => Form::MoveSample,
-            Step::Trim { .. } => Form::Trim,
-            Step::Extend { .. } => Form::Extend,
-            Step::SetLoop { .. } => Form::SetLoop,
-            Step::SetKind { .. } => Form::SetKind,
-            Step::SetTune { .. } => Form::SetTune,
-            Step::AddZone { .. } => Form::AddZone,
-            Step::RemoveZone { .. } => Form::RemoveZone,
-            Step::MoveZone { .. } => Form::MoveZone,
-            Step::SplitZone { .. } => Form::SplitZone,
-            Step::JoinZone { .. } => Form::JoinZone,
-            Step::SetTarget { .. } => Form::SetTarget,
-            Step::SetGen { .. } => Form::SetGen,
-            Step::ClearGen { .. } => Form::ClearGen,
-            Step::AddMod { .. } => Form::AddMod,
-            Step::RemoveMod { .. } => Form::RemoveMod,
-            Step::SetMod { .. } => Form::SetMod,
-            Step::SetInfo { .. } => Form::SetInfo,
+            Step::Preset(PresetStep::AddPreset { .. }) => Form::AddPreset,
+            Step::Preset(PresetStep::RemovePreset { .. }) => Form::RemovePreset,
+            Step::Preset(PresetStep::MovePreset { .. }) => Form::MovePreset,
+            Step::Preset(PresetStep::SetHead { .. }) => Form::SetHead,
+            Step::Instrument(InstrumentStep::AddInstrument { .. }) => Form::AddInstrument,
+            Step::Instrument(InstrumentStep::RemoveInstrument { .. }) => Form::RemoveInstrument,
+            Step::Instrument(InstrumentStep::RenameInstrument { .. }) => Form::RenameInstrument,
+            Step::Instrument(InstrumentStep::MoveInstrument { .. }) => Form::MoveInstrument,
+            Step::Sample(SampleStep::RenameSample { .. }) => Form::RenameSample,
+            Step::Sample(SampleStep::AddSample { .. }) => Form::AddSample,
+            Step::Sample(SampleStep::RemoveSample { .. }) => Form::RemoveSample,
+            Step::Sample(SampleStep::MoveSample { .. }) => Form::MoveSample,
+            Step::Points(_, PointStep::Trim { .. }) => Form::Trim,
+            Step::Points(_, PointStep::Extend { .. }) => Form::Extend,
+            Step::Points(_, PointStep::SetLoop { .. }) => Form::SetLoop,
+            Step::Points(_, PointStep::SetKind { .. }) => Form::SetKind,
+            Step::Points(_, PointStep::SetTune { .. }) => Form::SetTune,
+            Step::Zone(_, ZoneStep::AddZone { .. }) => Form::AddZone,
+            Step::Zone(_, ZoneStep::RemoveZone { .. }) => Form::RemoveZone,
+            Step::Zone(_, ZoneStep::MoveZone { .. }) => Form::MoveZone,
+            Step::Zone(_, ZoneStep::SplitZone { .. }) => Form::SplitZone,
+            Step::Zone(_, ZoneStep::JoinZone { .. }) => Form::JoinZone,
+            Step::Zone(_, ZoneStep::SetTarget { .. }) => Form::SetTarget,
+            Step::Setting(_, _, SettingStep::SetGen { .. }) => Form::SetGen,
+            Step::Setting(_, _, SettingStep::ClearGen { .. }) => Form::ClearGen,
+            Step::Setting(_, _, SettingStep::AddMod { .. }) => Form::AddMod,
+            Step::Setting(_, _, SettingStep::RemoveMod { .. }) => Form::RemoveMod,
+            Step::Setting(_, _, SettingStep::SetMod { .. }) => Form::SetMod,
+            Step::Text(TextStep::SetInfo { .. }) => Form::SetInfo,
         }
     }
 }

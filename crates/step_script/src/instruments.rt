@@ -9,11 +9,11 @@ ghost use Rattle.script_grammar.specs.Memory.{ReadsOrWants};
 ghost use Rattle.step_script.specs.declared.forms.Form.TheVariants as form;
 ghost use Rattle.step_script.specs.Grammar.{operands_read};
 ghost use Rattle.step_script.specs.Members.{place, printed_owner};
-ghost use Rattle.step_script.specs.Instruments.{name_operands, added_instrument};
+ghost use Rattle.step_script.specs.Instruments.{operands, name_operands, added_instrument};
 
-use crate::members::{moving, naming, zones_of};
+use crate::members::{moving, naming, put_moving, put_naming, put_number, zones_of};
 use bank_parts::Instrument;
-use edit_forms::Step;
+use edit_forms::{InstrumentStep, Step};
 use line_tokens::{Cursor, LineFault, Piece, put_pieces};
 use outputs::Output;
 use script_grammar::put_zones;
@@ -30,28 +30,28 @@ pub(crate) fn add_instrument<'p>(
     ensures { ReadsOrWants (λ s. s) (operands_read form.AddInstrument) line.old line.new result }
 {
     let (at, instrument) = added_instrument(alloc, line)?;
-    Ok(Step::AddInstrument { at, instrument })
+    Ok(Step::Instrument(InstrumentStep::AddInstrument { at, instrument }))
 }
 
 pub(crate) fn remove_instrument<'p>(line: &mut Cursor<'_, 'p>) -> Result<Step<'p>, LineFault>
     ensures { Reads (λ s. s) (operands_read form.RemoveInstrument) line.old line.new result }
 {
     let instrument = line.number(u32::MAX)?;
-    Ok(Step::RemoveInstrument { instrument })
+    Ok(Step::Instrument(InstrumentStep::RemoveInstrument { instrument }))
 }
 
 pub(crate) fn rename_instrument<'p>(line: &mut Cursor<'_, 'p>) -> Result<Step<'p>, LineFault>
     ensures { Reads (λ s. s) (operands_read form.RenameInstrument) line.old line.new result }
 {
     let (instrument, name) = naming(line)?;
-    Ok(Step::RenameInstrument { instrument, name })
+    Ok(Step::Instrument(InstrumentStep::RenameInstrument { instrument, name }))
 }
 
 pub(crate) fn move_instrument<'p>(line: &mut Cursor<'_, 'p>) -> Result<Step<'p>, LineFault>
     ensures { Reads (λ s. s) (operands_read form.MoveInstrument) line.old line.new result }
 {
     let (from, to) = moving(line)?;
-    Ok(Step::MoveInstrument { from, to })
+    Ok(Step::Instrument(InstrumentStep::MoveInstrument { from, to }))
 }
 
 // `I NAME GLOBAL? ZONE*`
@@ -69,12 +69,25 @@ fn added_instrument(
 
 // ---- printed
 
+pub(crate) fn put_instrument_step<W: Write>(step: &InstrumentStep, output: &mut Output<'_, W>)
+    ensures { Puts W.contents output.old output.new (flat_map spaced (pieces_of (operands step.now))) }
+{
+    match step {
+        InstrumentStep::AddInstrument { at, instrument } => put_add_instrument(
+            *at, instrument, output,
+        ),
+        InstrumentStep::RemoveInstrument { instrument } => put_number(*instrument, output),
+        InstrumentStep::RenameInstrument { instrument, name } => put_naming(
+            *instrument,
+            name,
+            output,
+        ),
+        InstrumentStep::MoveInstrument { from, to } => put_moving(*from, *to, output),
+    }
+}
+
 #[tactic(auto, using(crate::proofs::PutLaws::puts_owner))]
-pub(crate) fn put_add_instrument<W: Write>(
-    at: u32,
-    instrument: &Instrument,
-    output: &mut Output<'_, W>,
-)
+fn put_add_instrument<W: Write>(at: u32, instrument: &Instrument, output: &mut Output<'_, W>)
     ensures { Puts W.contents output.old output.new (flat_map spaced (pieces_of (printed_owner name_operands at instrument.now))) }
 {
     put_placed_name(at, &instrument.head, output);

@@ -6,11 +6,11 @@ ghost use Rattle.line_tokens.specs.Parts.{Reads};
 ghost use Rattle.line_tokens.specs.Printing.{spaced};
 ghost use Rattle.script_grammar.specs.Operands.{pieces_of};
 ghost use Rattle.step_script.specs.Members.{place};
-ghost use Rattle.step_script.specs.Points.{cut_operands, both_ends_operands, loop_of_operands, kind_of_operands, tune_of_operands, trim, extend, set_loop, set_kind, set_tune};
+ghost use Rattle.step_script.specs.Points.{operands, cut_operands, both_ends_operands, loop_of_operands, kind_of_operands, tune_of_operands, trim, extend, set_loop, set_kind, set_tune};
 
 use crate::members::put_number;
 use bank_parts::Kind;
-use edit_forms::Step;
+use edit_forms::{PointStep, Step};
 use line_tokens::{Cursor, LineFault, Piece, put_pieces};
 use outputs::Output;
 use sample_view::Points;
@@ -28,11 +28,7 @@ pub(crate) fn trim<'p>(line: &mut Cursor<'_, 'p>) -> Result<Step<'p>, LineFault>
     let sample = line.number(u32::MAX)?;
     let front = line.number(u32::MAX)?;
     let back = line.number(u32::MAX)?;
-    Ok(Step::Trim {
-        sample,
-        front,
-        back,
-    })
+    Ok(Step::Points(sample, PointStep::Trim { front, back }))
 }
 
 // `S POINTS POINTS`
@@ -43,11 +39,7 @@ pub(crate) fn extend<'p>(alloc: Global, line: &mut Cursor<'_, 'p>) -> Result<Ste
     let sample = line.number(u32::MAX)?;
     let front = points(alloc, line)?;
     let back = points(alloc, line)?;
-    Ok(Step::Extend {
-        sample,
-        front,
-        back,
-    })
+    Ok(Step::Points(sample, PointStep::Extend { front, back }))
 }
 
 // `S LOOP`
@@ -57,7 +49,7 @@ pub(crate) fn set_loop<'p>(line: &mut Cursor<'_, 'p>) -> Result<Step<'p>, LineFa
 {
     let sample = line.number(u32::MAX)?;
     let looped = looped(line)?;
-    Ok(Step::SetLoop { sample, looped })
+    Ok(Step::Points(sample, PointStep::SetLoop { looped }))
 }
 
 // `S KIND`
@@ -67,7 +59,7 @@ pub(crate) fn set_kind<'p>(line: &mut Cursor<'_, 'p>) -> Result<Step<'p>, LineFa
 {
     let sample = line.number(u32::MAX)?;
     let kind = kind(line)?;
-    Ok(Step::SetKind { sample, kind })
+    Ok(Step::Points(sample, PointStep::SetKind { kind }))
 }
 
 // `S RATE KEY CORR`
@@ -77,17 +69,39 @@ pub(crate) fn set_tune<'p>(line: &mut Cursor<'_, 'p>) -> Result<Step<'p>, LineFa
 {
     let sample = line.number(u32::MAX)?;
     let (rate, key, correction) = tune(line)?;
-    Ok(Step::SetTune {
+    Ok(Step::Points(
         sample,
-        rate,
-        key,
-        correction,
-    })
+        PointStep::SetTune {
+            rate,
+            key,
+            correction,
+        },
+    ))
 }
 
 // ---- printed
 
-pub(crate) fn put_trim<W: Write>(sample: u32, front: u32, back: u32, output: &mut Output<'_, W>)
+pub(crate) fn put_point_step<W: Write>(
+    sample: u32,
+    step: &PointStep<'_>,
+    output: &mut Output<'_, W>,
+)
+    ensures { Puts W.contents output.old output.new (flat_map spaced (pieces_of (operands sample step.now))) }
+{
+    match step {
+        PointStep::Trim { front, back } => put_trim(sample, *front, *back, output),
+        PointStep::Extend { front, back } => put_extend(sample, front, back, output),
+        PointStep::SetLoop { looped } => put_set_loop(sample, *looped, output),
+        PointStep::SetKind { kind } => put_set_kind(sample, *kind, output),
+        PointStep::SetTune {
+            rate,
+            key,
+            correction,
+        } => put_set_tune(sample, *rate, *key, *correction, output),
+    }
+}
+
+fn put_trim<W: Write>(sample: u32, front: u32, back: u32, output: &mut Output<'_, W>)
     ensures { Puts W.contents output.old output.new (flat_map spaced (pieces_of (cut_operands sample front back))) }
 {
     let sample = Piece::Number(u64::from(sample));
@@ -97,7 +111,7 @@ pub(crate) fn put_trim<W: Write>(sample: u32, front: u32, back: u32, output: &mu
 }
 
 #[tactic(auto, using(script_grammar::proofs::PutLaws::puts_both))]
-pub(crate) fn put_extend<W: Write>(
+fn put_extend<W: Write>(
     sample: u32,
     front: &Points<'_>,
     back: &Points<'_>,
@@ -111,11 +125,7 @@ pub(crate) fn put_extend<W: Write>(
 }
 
 #[tactic(auto, using(script_grammar::proofs::PutLaws::puts_both))]
-pub(crate) fn put_set_loop<W: Write>(
-    sample: u32,
-    looped: Option<(u32, u32)>,
-    output: &mut Output<'_, W>,
-)
+fn put_set_loop<W: Write>(sample: u32, looped: Option<(u32, u32)>, output: &mut Output<'_, W>)
     ensures { Puts W.contents output.old output.new (flat_map spaced (pieces_of (loop_of_operands sample looped))) }
 {
     put_number(sample, output);
@@ -123,7 +133,7 @@ pub(crate) fn put_set_loop<W: Write>(
 }
 
 #[tactic(auto, using(script_grammar::proofs::PutLaws::puts_both))]
-pub(crate) fn put_set_kind<W: Write>(sample: u32, kind: Kind, output: &mut Output<'_, W>)
+fn put_set_kind<W: Write>(sample: u32, kind: Kind, output: &mut Output<'_, W>)
     ensures { Puts W.contents output.old output.new (flat_map spaced (pieces_of (kind_of_operands sample kind))) }
 {
     put_number(sample, output);
@@ -131,7 +141,7 @@ pub(crate) fn put_set_kind<W: Write>(sample: u32, kind: Kind, output: &mut Outpu
 }
 
 #[tactic(auto, using(script_grammar::proofs::PutLaws::puts_both))]
-pub(crate) fn put_set_tune<W: Write>(
+fn put_set_tune<W: Write>(
     sample: u32,
     rate: u32,
     key: u8,

@@ -9,11 +9,11 @@ ghost use Rattle.script_grammar.specs.Memory.{ReadsOrWants};
 ghost use Rattle.step_script.specs.declared.forms.Form.TheVariants as form;
 ghost use Rattle.step_script.specs.Grammar.{operands_read};
 ghost use Rattle.step_script.specs.Members.{place, printed_owner};
-ghost use Rattle.step_script.specs.Presets.{head_operands, new_head_operands, head, placed_head, added_preset, set_head};
+ghost use Rattle.step_script.specs.Presets.{operands, head_operands, new_head_operands, head, placed_head, added_preset, set_head};
 
-use crate::members::{moving, naming, zones_of};
+use crate::members::{moving, naming, put_moving, put_number, zones_of};
 use bank_parts::{Head, Preset};
-use edit_forms::Step;
+use edit_forms::{PresetStep, Step};
 use line_tokens::{Cursor, LineFault, Piece, put_pieces};
 use outputs::Output;
 use script_grammar::put_zones;
@@ -30,21 +30,21 @@ pub(crate) fn add_preset<'p>(
     ensures { ReadsOrWants (λ s. s) (operands_read form.AddPreset) line.old line.new result }
 {
     let (at, preset) = added_preset(alloc, line)?;
-    Ok(Step::AddPreset { at, preset })
+    Ok(Step::Preset(PresetStep::AddPreset { at, preset }))
 }
 
 pub(crate) fn remove_preset<'p>(line: &mut Cursor<'_, 'p>) -> Result<Step<'p>, LineFault>
     ensures { Reads (λ s. s) (operands_read form.RemovePreset) line.old line.new result }
 {
     let preset = line.number(u32::MAX)?;
-    Ok(Step::RemovePreset { preset })
+    Ok(Step::Preset(PresetStep::RemovePreset { preset }))
 }
 
 pub(crate) fn move_preset<'p>(line: &mut Cursor<'_, 'p>) -> Result<Step<'p>, LineFault>
     ensures { Reads (λ s. s) (operands_read form.MovePreset) line.old line.new result }
 {
     let (from, to) = moving(line)?;
-    Ok(Step::MovePreset { from, to })
+    Ok(Step::Preset(PresetStep::MovePreset { from, to }))
 }
 
 // `P NAME NUMBER BANK`
@@ -55,12 +55,12 @@ pub(crate) fn set_head<'p>(line: &mut Cursor<'_, 'p>) -> Result<Step<'p>, LineFa
     let (preset, name) = naming(line)?;
     let number = line.number(u32::from(u16::MAX))? as u16;
     let bank = line.number(u32::from(u16::MAX))? as u16;
-    Ok(Step::SetHead {
+    Ok(Step::Preset(PresetStep::SetHead {
         preset,
         name,
         number,
         bank,
-    })
+    }))
 }
 
 // `P NAME NUMBER BANK LIBRARY GENRE MORPHOLOGY GLOBAL? ZONE*`
@@ -109,8 +109,24 @@ fn head(line: &mut Cursor<'_, '_>) -> Result<Head, LineFault>
 
 // ---- printed
 
+pub(crate) fn put_preset_step<W: Write>(step: &PresetStep, output: &mut Output<'_, W>)
+    ensures { Puts W.contents output.old output.new (flat_map spaced (pieces_of (operands step.now))) }
+{
+    match step {
+        PresetStep::AddPreset { at, preset } => put_add_preset(*at, preset, output),
+        PresetStep::RemovePreset { preset } => put_number(*preset, output),
+        PresetStep::MovePreset { from, to } => put_moving(*from, *to, output),
+        PresetStep::SetHead {
+            preset,
+            name,
+            number,
+            bank,
+        } => put_set_head(*preset, name, *number, *bank, output),
+    }
+}
+
 #[tactic(auto, using(crate::proofs::PutLaws::puts_owner))]
-pub(crate) fn put_add_preset<W: Write>(at: u32, preset: &Preset, output: &mut Output<'_, W>)
+fn put_add_preset<W: Write>(at: u32, preset: &Preset, output: &mut Output<'_, W>)
     ensures { Puts W.contents output.old output.new (flat_map spaced (pieces_of (printed_owner head_operands at preset.now))) }
 {
     put_placed_head(at, &preset.head, output);
@@ -134,7 +150,7 @@ fn put_placed_head<W: Write>(at: u32, head: &Head, output: &mut Output<'_, W>)
     );
 }
 
-pub(crate) fn put_set_head<W: Write>(
+fn put_set_head<W: Write>(
     preset: u32,
     name: &Name20,
     number: u16,

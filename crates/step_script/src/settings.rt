@@ -6,11 +6,11 @@ ghost use Rattle.line_tokens.specs.Parts.{Reads};
 ghost use Rattle.line_tokens.specs.Printing.{spaced};
 ghost use Rattle.script_grammar.specs.Operands.{pieces_of};
 ghost use Rattle.step_script.specs.Owners.{of_place};
-ghost use Rattle.step_script.specs.Settings.{generator_at_operands, operator_operands, index_operands, modulator_at_operands, set_gen, clear_gen, add_mod, remove_mod, set_mod};
+ghost use Rattle.step_script.specs.Settings.{operands, generator_at_operands, operator_operands, index_operands, modulator_at_operands, set_gen, clear_gen, add_mod, remove_mod, set_mod};
 
 use crate::owners::{kind_piece, number_piece, owner_place, place_piece};
 use bank_changes::{Owner, Place};
-use edit_forms::Step;
+use edit_forms::{SettingStep, Step};
 use line_tokens::{Cursor, LineFault, Piece, put_pieces};
 use modulators::Modulator;
 use outputs::Output;
@@ -26,12 +26,7 @@ pub(crate) fn set_gen<'p>(line: &mut Cursor<'_, 'p>) -> Result<Step<'p>, LineFau
 {
     let (owner, place) = owner_place(line)?;
     let (operator, amount) = generator(line)?;
-    Ok(Step::SetGen {
-        owner,
-        place,
-        operator,
-        amount,
-    })
+    Ok(Step::Setting(owner, place, SettingStep::SetGen { operator, amount }))
 }
 
 // `OWNER PLACE OPERATOR`
@@ -41,11 +36,7 @@ pub(crate) fn clear_gen<'p>(line: &mut Cursor<'_, 'p>) -> Result<Step<'p>, LineF
 {
     let (owner, place) = owner_place(line)?;
     let operator = line.number(u32::from(u16::MAX))? as u16;
-    Ok(Step::ClearGen {
-        owner,
-        place,
-        operator,
-    })
+    Ok(Step::Setting(owner, place, SettingStep::ClearGen { operator }))
 }
 
 // `OWNER PLACE J MOD`
@@ -56,12 +47,7 @@ pub(crate) fn add_mod<'p>(line: &mut Cursor<'_, 'p>) -> Result<Step<'p>, LineFau
     let (owner, place) = owner_place(line)?;
     let index = line.number(u32::MAX)?;
     let modulator = modulator(line)?;
-    Ok(Step::AddMod {
-        owner,
-        place,
-        index,
-        modulator,
-    })
+    Ok(Step::Setting(owner, place, SettingStep::AddMod { index, modulator }))
 }
 
 // `OWNER PLACE J`
@@ -71,11 +57,7 @@ pub(crate) fn remove_mod<'p>(line: &mut Cursor<'_, 'p>) -> Result<Step<'p>, Line
 {
     let (owner, place) = owner_place(line)?;
     let index = line.number(u32::MAX)?;
-    Ok(Step::RemoveMod {
-        owner,
-        place,
-        index,
-    })
+    Ok(Step::Setting(owner, place, SettingStep::RemoveMod { index }))
 }
 
 // `OWNER PLACE J MOD`
@@ -86,18 +68,36 @@ pub(crate) fn set_mod<'p>(line: &mut Cursor<'_, 'p>) -> Result<Step<'p>, LineFau
     let (owner, place) = owner_place(line)?;
     let index = line.number(u32::MAX)?;
     let modulator = modulator(line)?;
-    Ok(Step::SetMod {
-        owner,
-        place,
-        index,
-        modulator,
-    })
+    Ok(Step::Setting(owner, place, SettingStep::SetMod { index, modulator }))
 }
 
 // ---- printed
 
+pub(crate) fn put_setting_step<W: Write>(
+    owner: Owner,
+    place: Place,
+    step: &SettingStep,
+    output: &mut Output<'_, W>,
+)
+    ensures { Puts W.contents output.old output.new (flat_map spaced (pieces_of (operands owner place step.now))) }
+{
+    match step {
+        SettingStep::SetGen { operator, amount } => put_set_gen(
+            owner, place, *operator, *amount, output,
+        ),
+        SettingStep::ClearGen { operator } => put_clear_gen(owner, place, *operator, output),
+        SettingStep::AddMod { index, modulator } => put_modulator_at(
+            owner, place, *index, modulator, output,
+        ),
+        SettingStep::RemoveMod { index } => put_index(owner, place, *index, output),
+        SettingStep::SetMod { index, modulator } => put_modulator_at(
+            owner, place, *index, modulator, output,
+        ),
+    }
+}
+
 #[tactic(auto, using(script_grammar::proofs::PutLaws::puts_both))]
-pub(crate) fn put_set_gen<W: Write>(
+fn put_set_gen<W: Write>(
     owner: Owner,
     place: Place,
     operator: u16,
@@ -120,12 +120,7 @@ fn put_owner_place<W: Write>(owner: Owner, place: Place, output: &mut Output<'_,
     );
 }
 
-pub(crate) fn put_clear_gen<W: Write>(
-    owner: Owner,
-    place: Place,
-    operator: u16,
-    output: &mut Output<'_, W>,
-)
+fn put_clear_gen<W: Write>(owner: Owner, place: Place, operator: u16, output: &mut Output<'_, W>)
     ensures { Puts W.contents output.old output.new (flat_map spaced (pieces_of (operator_operands owner place operator))) }
 {
     let place = place_piece(place);
@@ -138,7 +133,7 @@ pub(crate) fn put_clear_gen<W: Write>(
 
 // `OWNER PLACE J MOD`, each token behind a space
 #[tactic(auto, using(script_grammar::proofs::PutLaws::puts_both))]
-pub(crate) fn put_modulator_at<W: Write>(
+fn put_modulator_at<W: Write>(
     owner: Owner,
     place: Place,
     index: u32,
@@ -152,12 +147,7 @@ pub(crate) fn put_modulator_at<W: Write>(
 }
 
 // `OWNER PLACE J`, each behind a space
-pub(crate) fn put_index<W: Write>(
-    owner: Owner,
-    place: Place,
-    index: u32,
-    output: &mut Output<'_, W>,
-)
+fn put_index<W: Write>(owner: Owner, place: Place, index: u32, output: &mut Output<'_, W>)
     ensures { Puts W.contents output.old output.new (flat_map spaced (pieces_of (index_operands owner place index))) }
 {
     let place = place_piece(place);

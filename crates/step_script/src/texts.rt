@@ -9,9 +9,10 @@ ghost use Rattle.line_tokens.specs.Parts.{Reads};
 ghost use Rattle.script_grammar.specs.Texts.{id_word};
 ghost use Rattle.step_script.specs.declared.forms.Form.TheVariants as form;
 ghost use Rattle.step_script.specs.Grammar.{operands_read};
+ghost use Rattle.step_script.specs.Texts.{operands};
 
 use bank_parts::InfoId;
-use edit_forms::Step;
+use edit_forms::{Step, TextStep};
 use line_tokens::{Cursor, LineFault, Piece, put_pieces};
 use outputs::Output;
 use script_grammar::{HasWord, info_id};
@@ -25,10 +26,18 @@ pub(crate) fn set_info<'p>(line: &mut Cursor<'_, 'p>) -> Result<Step<'p>, LineFa
 {
     let id = info_id(line)?;
     let text = Lent::new(line.literal()?);
-    Ok(Step::SetInfo { id, text })
+    Ok(Step::Text(TextStep::SetInfo { id, text }))
 }
 
-pub(crate) fn put_set_info<W: Write>(id: InfoId, text: &Lent<'_>, output: &mut Output<'_, W>)
+pub(crate) fn put_text_step<W: Write>(step: &TextStep<'_>, output: &mut Output<'_, W>)
+    ensures { Puts W.contents output.old output.new (flat_map spaced (pieces_of (operands step.now))) }
+{
+    match step {
+        TextStep::SetInfo { id, text } => put_set_info(*id, text, output),
+    }
+}
+
+fn put_set_info<W: Write>(id: InfoId, text: &Lent<'_>, output: &mut Output<'_, W>)
     ensures { Puts W.contents output.old output.new (flat_map spaced (pieces_of (operand.Fixed (id_word id) ∷ operand.Text text.now ∷ []))) }
 {
     let id = Piece::Word(Lent::new(id.word()));

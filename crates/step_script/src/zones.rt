@@ -7,12 +7,12 @@ ghost use Rattle.line_tokens.specs.Printing.{spaced};
 ghost use Rattle.script_grammar.specs.Operands.{pieces_of};
 ghost use Rattle.script_grammar.specs.Memory.{ReadsOrWants};
 ghost use Rattle.step_script.specs.Owners.{of_zone};
-ghost use Rattle.step_script.specs.Zones.{printed_zone, moved_zone_operands, split_operands, joined_operands, target_operands, add_zone, remove_zone, move_zone, split_zone, join_zone, set_target};
+ghost use Rattle.step_script.specs.Zones.{operands, printed_zone, moved_zone_operands, split_operands, joined_operands, target_operands, add_zone, remove_zone, move_zone, split_zone, join_zone, set_target};
 
 use crate::owners::{kind_piece, number_piece, owner_zone};
 use bank_changes::Owner;
 use bank_parts::Zone;
-use edit_forms::Step;
+use edit_forms::{Step, ZoneStep};
 use line_tokens::{Cursor, LineFault, Piece, put_pieces};
 use outputs::Output;
 use script_grammar::{HasWord, next_named, put_zone, zone};
@@ -33,7 +33,7 @@ pub(crate) fn add_zone<'p>(
 {
     let (owner, at) = owner_zone(line)?;
     let zone = zone(alloc, line)?;
-    Ok(Step::AddZone { owner, at, zone })
+    Ok(Step::Zone(owner, ZoneStep::AddZone { at, zone }))
 }
 
 // `OWNER K`
@@ -42,7 +42,7 @@ pub(crate) fn remove_zone<'p>(line: &mut Cursor<'_, 'p>) -> Result<Step<'p>, Lin
     ensures { Reads (λ s. s) remove_zone line.old line.new result }
 {
     let (owner, zone) = owner_zone(line)?;
-    Ok(Step::RemoveZone { owner, zone })
+    Ok(Step::Zone(owner, ZoneStep::RemoveZone { zone }))
 }
 
 // `OWNER I J`
@@ -52,7 +52,7 @@ pub(crate) fn move_zone<'p>(line: &mut Cursor<'_, 'p>) -> Result<Step<'p>, LineF
 {
     let (owner, from) = owner_zone(line)?;
     let to = line.number(u32::MAX)?;
-    Ok(Step::MoveZone { owner, from, to })
+    Ok(Step::Zone(owner, ZoneStep::MoveZone { from, to }))
 }
 
 // `OWNER K key|vel M`
@@ -63,12 +63,7 @@ pub(crate) fn split_zone<'p>(line: &mut Cursor<'_, 'p>) -> Result<Step<'p>, Line
     let (owner, zone) = owner_zone(line)?;
     let axis = next_named(line)?;
     let at = line.number(u32::from(u8::MAX))? as u8;
-    Ok(Step::SplitZone {
-        owner,
-        zone,
-        axis,
-        at,
-    })
+    Ok(Step::Zone(owner, ZoneStep::SplitZone { zone, axis, at }))
 }
 
 // `OWNER K key|vel keep|bare`
@@ -79,12 +74,7 @@ pub(crate) fn join_zone<'p>(line: &mut Cursor<'_, 'p>) -> Result<Step<'p>, LineF
     let (owner, zone) = owner_zone(line)?;
     let axis = next_named(line)?;
     let keep = next_named(line)?;
-    Ok(Step::JoinZone {
-        owner,
-        zone,
-        axis,
-        keep,
-    })
+    Ok(Step::Zone(owner, ZoneStep::JoinZone { zone, axis, keep }))
 }
 
 // `OWNER K TARGET`
@@ -94,17 +84,28 @@ pub(crate) fn set_target<'p>(line: &mut Cursor<'_, 'p>) -> Result<Step<'p>, Line
 {
     let (owner, zone) = owner_zone(line)?;
     let target = line.number(u32::from(u16::MAX))? as u16;
-    Ok(Step::SetTarget {
-        owner,
-        zone,
-        target,
-    })
+    Ok(Step::Zone(owner, ZoneStep::SetTarget { zone, target }))
 }
 
 // ---- printed
 
+pub(crate) fn put_zone_step<W: Write>(owner: Owner, step: &ZoneStep, output: &mut Output<'_, W>)
+    ensures { Puts W.contents output.old output.new (flat_map spaced (pieces_of (operands owner step.now))) }
+{
+    match step {
+        ZoneStep::AddZone { at, zone } => put_add_zone(owner, *at, zone, output),
+        ZoneStep::RemoveZone { zone } => put_owner_zone(owner, *zone, output),
+        ZoneStep::MoveZone { from, to } => put_move_zone(owner, *from, *to, output),
+        ZoneStep::SplitZone { zone, axis, at } => put_split_zone(owner, *zone, *axis, *at, output),
+        ZoneStep::JoinZone { zone, axis, keep } => put_join_zone(
+            owner, *zone, *axis, *keep, output,
+        ),
+        ZoneStep::SetTarget { zone, target } => put_set_target(owner, *zone, *target, output),
+    }
+}
+
 #[tactic(auto, using(script_grammar::proofs::PutLaws::puts_both))]
-pub(crate) fn put_add_zone<W: Write>(owner: Owner, at: u32, zone: &Zone, output: &mut Output<'_, W>)
+fn put_add_zone<W: Write>(owner: Owner, at: u32, zone: &Zone, output: &mut Output<'_, W>)
     ensures { Puts W.contents output.old output.new (flat_map spaced (pieces_of (printed_zone owner at zone.now))) }
 {
     put_owner_zone(owner, at, output);
@@ -112,14 +113,14 @@ pub(crate) fn put_add_zone<W: Write>(owner: Owner, at: u32, zone: &Zone, output:
 }
 
 // `OWNER K`, each behind a space
-pub(crate) fn put_owner_zone<W: Write>(owner: Owner, zone: u32, output: &mut Output<'_, W>)
+fn put_owner_zone<W: Write>(owner: Owner, zone: u32, output: &mut Output<'_, W>)
     ensures { Puts W.contents output.old output.new (flat_map spaced (pieces_of (of_zone owner zone))) }
 {
     let zone = Piece::Number(u64::from(zone));
     put_pieces(&[kind_piece(owner), number_piece(owner), zone], output);
 }
 
-pub(crate) fn put_move_zone<W: Write>(owner: Owner, from: u32, to: u32, output: &mut Output<'_, W>)
+fn put_move_zone<W: Write>(owner: Owner, from: u32, to: u32, output: &mut Output<'_, W>)
     ensures { Puts W.contents output.old output.new (flat_map spaced (pieces_of (moved_zone_operands owner from to))) }
 {
     let from = Piece::Number(u64::from(from));
@@ -127,13 +128,7 @@ pub(crate) fn put_move_zone<W: Write>(owner: Owner, from: u32, to: u32, output: 
     put_pieces(&[kind_piece(owner), number_piece(owner), from, to], output);
 }
 
-pub(crate) fn put_split_zone<W: Write>(
-    owner: Owner,
-    zone: u32,
-    axis: Axis,
-    at: u8,
-    output: &mut Output<'_, W>,
-)
+fn put_split_zone<W: Write>(owner: Owner, zone: u32, axis: Axis, at: u8, output: &mut Output<'_, W>)
     ensures { Puts W.contents output.old output.new (flat_map spaced (pieces_of (split_operands owner zone axis at))) }
 {
     let zone = Piece::Number(u64::from(zone));
@@ -145,7 +140,7 @@ pub(crate) fn put_split_zone<W: Write>(
     );
 }
 
-pub(crate) fn put_join_zone<W: Write>(
+fn put_join_zone<W: Write>(
     owner: Owner,
     zone: u32,
     axis: Axis,
@@ -163,12 +158,7 @@ pub(crate) fn put_join_zone<W: Write>(
     );
 }
 
-pub(crate) fn put_set_target<W: Write>(
-    owner: Owner,
-    zone: u32,
-    target: u16,
-    output: &mut Output<'_, W>,
-)
+fn put_set_target<W: Write>(owner: Owner, zone: u32, target: u16, output: &mut Output<'_, W>)
     ensures { Puts W.contents output.old output.new (flat_map spaced (pieces_of (target_operands owner zone target))) }
 {
     let zone = Piece::Number(u64::from(zone));

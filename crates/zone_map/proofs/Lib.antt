@@ -1,4 +1,3 @@
-pub mod RectangleLaws
 pub mod Rows
 pub mod Kept
 pub mod SelectLaws

@@ -1,5 +1,5 @@
 -- The zones that a split or a join leaves may stand where the zones before might.
-use Rattle.std.proofs.Common.{◌≡◌, ◌<◌, ◌≤◌, ◌^◌, ◌+◌, ◌-◌, ℕ, true, Option, Some, None, unwrap_or, refl, sym, ap, ◌∙◌, arith}
+use Rattle.std.proofs.Common.{◌≡◌, ◌<◌, ◌^◌, ◌+◌, ◌-◌, ℕ, true, Option, Some, None, unwrap_or, refl, sym, ap, ◌∙◌, arith}
 use Rattle.std.specs.FinMap as map
 use Rattle.generators.specs.Gens.{Gens, FitsEntry}
 use Rattle.generators.specs.Ranges.{is_range_operator, IsRange}
@@ -15,10 +15,10 @@ use Rattle.zone_ranges.specs.declared.axes.Axis.TheVariants.{Key, Velocity}
 use Rattle.zone_ranges.specs.declared.axes.Keep.{Keep}
 use Rattle.zone_ranges.specs.declared.axes.Keep.TheVariants as keeping
 use Rattle.zone_ranges.specs.Ranges.{range_operator, low_end, high_end, range_from, whole_range, own_range, inherited_range, range_of, with_range, without_range}
-use Rattle.zone_ranges.specs.Splits.{lower_part, upper_part, joint_range, joined, are_joinable}
+use Rattle.zone_ranges.specs.Splits.{joint_range, joined, are_joinable}
 use Rattle.zone_ranges.specs.Undone.{own_amount}
 use Rattle.zone_ranges.proofs.Parting.{all_at}
-use Rattle.zone_ranges.proofs.SplitLaws.{IsSplitAt, AreJoined, joined_at, low_of_range, high_of_range, low_is_small}
+use Rattle.zone_ranges.proofs.SplitLaws.{IsSplitAt, joined_at, low_of_range, high_of_range, low_is_small}
 
 is_range : (axis : Axis) → is_range_operator (range_operator axis) ≡ true
 is_range Key = refl

@@ -1,10 +1,9 @@
 -- Zones split and joined: what takes each back, and when that can be done.
-use Rattle.std.proofs.Common.{◌≡◌, ℕ, Bool, true, false, ◌<◌, ◌≤◌, ◌^◌, ◌+◌, ◌-◌, ◌==◌, ◌&&◌, nat_le, nat_lt, List, length, Option, Some, None, IsSome, cond, unwrap_or, refl, sym, ap, ◌∙◌, arith}
+use Rattle.std.proofs.Common.{◌≡◌, ℕ, Bool, true, false, ◌<◌, ◌≤◌, ◌+◌, ◌-◌, ◌==◌, nat_le, nat_lt, List, Option, Some, None, cond, unwrap_or, refl, sym, ap, ◌∙◌, arith}
 use Rattle.std.proofs.lemmas.Bool.Decides.{nat_tests}
 use Rattle.std.specs.Prelude.{slice_get, slice_set}
-use Rattle.std.specs.Option.{option_map_or, option_and_then}
-use Rattle.numbered_lists.specs.Moved.{changed}
-use Rattle.numbered_lists.proofs.Lists.{slice_get-within, slice_set_same, slice_get-changed}
+use Rattle.std.specs.Option.{option_map_or}
+use Rattle.numbered_lists.proofs.Lists.{slice_get-within, slice_set_same}
 use Rattle.generators.specs.Gens.{Gens}
 use Rattle.generators.specs.Ranges.{IsRange}
 use Rattle.generators.proofs.MapLaws as gens
@@ -13,13 +12,12 @@ use Rattle.std.specs.FinMap as map
 use Rattle.bank_parts.specs.declared.parts.GlobalZone.{GlobalZone}
 use Rattle.bank_parts.specs.declared.parts.Zone.{Zone}
 use Rattle.bank_parts.specs.declared.parts.WithZones.{WithZones}
-use Rattle.bank_parts.specs.Owners.{zone_at}
 use Rattle.bank_parts.specs.Settings.{with_zones}
 use Rattle.zone_ranges.specs.declared.axes.Axis.{Axis}
 use Rattle.zone_ranges.specs.declared.axes.Keep.{Keep}
 use Rattle.zone_ranges.specs.declared.axes.Keep.TheVariants as keeping
 use Rattle.zone_ranges.specs.Ranges.{range_operator, low_end, high_end, range_from, whole_range, own_range, inherited_range, range_of, with_range, without_range}
-use Rattle.zone_ranges.specs.Splits.{is_inside, lower_part, upper_part, parted, zones_split, zone_split, are_alike, joint_range, are_neighbours, have_neighbours, are_joinable, joined, merged, zones_joined, zone_joined, splits, joins, keep_for}
+use Rattle.zone_ranges.specs.Splits.{is_inside, lower_part, upper_part, parted, zones_split, are_alike, joint_range, are_neighbours, have_neighbours, are_joinable, joined, merged, zones_joined, keep_for}
 use Rattle.zone_ranges.specs.Undone.{own_low, own_amount, SplitUndone, JoinUndone, SplitIsJoinable, JoinIsSplittable}
 use Rattle.zone_ranges.proofs.AlikeLaws.{both_left, both_right, both, equal, alike_is, is_alike}
 use Rattle.zone_ranges.proofs.Parting.{first_parted, second_parted, merged_parted, first_merged, parted_merged, changed_back}

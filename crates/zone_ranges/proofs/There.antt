@@ -1,12 +1,11 @@
 -- Members and zones that are there, and what the code leaves of them.
-use Rattle.std.proofs.Common.{◌≡◌, ◌↔◌, Bool, true≢false, ◌<◌, ◌≤◌, ◌+◌, ◌-◌, ℕ, suc, true, false, List, length, insert, remove, Option, Some, None, IsSome, IsTrue, refl, sym, ap, subst, ◌∙◌, arith, add-one}
+use Rattle.std.proofs.Common.{◌≡◌, ◌↔◌, Bool, true≢false, ◌<◌, ◌≤◌, ◌+◌, ◌-◌, ℕ, true, false, List, length, insert, remove, Option, Some, None, IsTrue, refl, sym, ap, subst, ◌∙◌, arith, add-one}
 use Rattle.std.specs.Prelude.{slice_get, slice_set, IsSomeAnd, IfSome}
 use Rattle.std.specs.Option.{option_map, option_map_or, option_and_then}
 use Rattle.std.specs.FinMap as map
 use Rattle.numbered_lists.specs.Moved.{changed}
 use Rattle.numbered_lists.proofs.Lists.{slice_get-found, slice_get-within, changed-found, length-changed, slice_get-changed}
 use Rattle.bank_parts.specs.declared.owners.ZonePlace.TheVariants as place
-use Rattle.bank_parts.specs.declared.parts.GlobalZone.{GlobalZone}
 use Rattle.bank_parts.specs.declared.parts.Zone.{Zone}
 use Rattle.bank_parts.specs.declared.parts.WithZones.{WithZones}
 use Rattle.bank_parts.specs.Owners.{HasPlace, zone_count_at, zone_at, gens_at, entries_at, amount_at}
@@ -16,7 +15,7 @@ use Rattle.bank_parts.proofs.UndoneLaws.{gen_set_back, gen_set_cleared}
 use Rattle.zone_ranges.specs.declared.axes.Axis.{Axis}
 use Rattle.zone_ranges.specs.declared.axes.Keep.{Keep}
 use Rattle.zone_ranges.specs.declared.axes.Keep.TheVariants as keeping
-use Rattle.zone_ranges.specs.Ranges.{range_operator, range_of, with_range, without_range, own_range, low_end, range_from}
+use Rattle.zone_ranges.specs.Ranges.{range_operator, range_of, own_range, low_end, range_from}
 use Rattle.zone_ranges.specs.Splits.{parted, merged, lower_part, upper_part, zones_split, zone_split, zones_joined, zone_joined, joint_range, joined, splits, joins, splits_at, joins_at, is_inside, are_alike, are_joinable}
 use Rattle.zone_ranges.specs.Undone.{own_amount}
 use Rattle.zone_ranges.proofs.Parting.{parted_at, changed_twice, left_first}

@@ -1,6 +1,6 @@
 -- A zone split in two at a key or a velocity, and two neighbours joined; and when each can be done.
 use Rattle.std.specs.Prelude.{ℕ, ◌+◌, ◌-◌, ◌==◌, ◌&&◌, nat_le, nat_lt, Bool, true, false, List, [], ◌∷◌, insert, remove, slice_get, slice_set, length, unwrap_or}
-use Rattle.std.specs.Option.{option_map_or, is_some}
+use Rattle.std.specs.Option.{option_map_or}
 use Rattle.std.specs.FinMap.{entries, len}
 use Rattle.std.specs.Ordering.{int_eq}
 use Rattle.numbered_lists.specs.Moved.{changed}

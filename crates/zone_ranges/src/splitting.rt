@@ -89,8 +89,8 @@ fn joint_range(first: u16, second: u16) -> u16
     Range { low, high }.to_amount()
 }
 
-/// Splits zone `k` of number `i` at a key or a velocity, from which on the second zone holds. For want
-/// of memory nothing changes.
+/// Splits zone `k` of number `i` at a key or a velocity, from which on the second zone holds. When out of
+/// memory, nothing changes.
 pub fn split_zone<H: OwnerHead>(
     owners: &mut Owners<H>,
     alloc: Global,

@@ -1,5 +1,5 @@
 use Rattle.bank_changes.proofs.InstrumentLaws.{instrument_renamed_sound}
-use Rattle.bank_edits.proofs.InverseLaws.{inverse_of_rename_instrument}
+use Rattle.bank_edits.proofs.InstrumentLaws.{inverse_of_rename_instrument}
 use Rattle.bank_edits.proofs.instruments.rename_instrument.Goals as goal
 
 pub rename_instrument-old-requires-clause-sound : goal.rename_instrument-old-requires-clause-sound

@@ -1,7 +1,7 @@
 use Rattle.std.proofs.Common.{w8}
 use Rattle.std.proofs.lemmas.Int.{to_z-of_z}
 use Rattle.edit_refusals.proofs.PointLaws.{there_of_tune, sound_tune}
-use Rattle.bank_edits.proofs.InverseLaws.{correction_fits, inverse_of_set_tune}
+use Rattle.bank_edits.proofs.PointLaws.{correction_fits, inverse_of_set_tune}
 use Rattle.bank_edits.proofs.points.set_tune.Goals as goal
 
 pub set_tune-old_rate-requires-clause-sound : goal.set_tune-old_rate-requires-clause-sound

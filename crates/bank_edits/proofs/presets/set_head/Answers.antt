@@ -1,7 +1,7 @@
 use Rattle.std.proofs.Math.Facts.{Fits-lt-pow}
 use Rattle.bank_changes.proofs.PresetLaws.{head_set_sound}
 use Rattle.edit_refusals.proofs.PresetLaws.{there_of_set_head}
-use Rattle.bank_edits.proofs.InverseLaws.{inverse_of_set_head}
+use Rattle.bank_edits.proofs.PresetLaws.{inverse_of_set_head}
 use Rattle.bank_edits.proofs.presets.set_head.Goals as goal
 
 pub set_head-old-requires-clause-there : goal.set_head-old-requires-clause-there

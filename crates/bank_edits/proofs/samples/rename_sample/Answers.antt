@@ -1,6 +1,6 @@
 use Rattle.bank_changes.proofs.SampleLaws.{renamed_sound}
 use Rattle.edit_refusals.proofs.SampleLaws.{there_of_rename}
-use Rattle.bank_edits.proofs.InverseLaws.{inverse_of_rename}
+use Rattle.bank_edits.proofs.SampleLaws.{inverse_of_rename}
 use Rattle.bank_edits.proofs.samples.rename_sample.Goals as goal
 
 pub rename_sample-old-requires-clause-sound : goal.rename_sample-old-requires-clause-sound

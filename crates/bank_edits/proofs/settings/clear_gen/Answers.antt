@@ -1,4 +1,5 @@
-use Rattle.edit_forms.specs.declared.step.Step.TheVariants.{ClearGen}
+use Rattle.edit_forms.specs.declared.settings.SettingStep.TheVariants.{ClearGen}
+use Rattle.edit_forms.specs.declared.step.Step.TheVariants as steps
 use Rattle.edit_refusals.proofs.Accepted.{accepted}
 use Rattle.edit_refusals.proofs.PlaceLaws.{there_found}
 use Rattle.edit_refusals.proofs.SettingLaws.{gen_comes, sound_clear_gen}
@@ -7,7 +8,7 @@ use Rattle.bank_edits.proofs.settings.clear_gen.Goals as goal
 pub clear_gen-requires-clause-there : goal.clear_gen-requires-clause-there
 clear_gen-requires-clause-there c =
     let b = c.args.bank.now in
-    let g = gen_comes b c.args.owner c.args.place c.args.operator (accepted b (ClearGen c.args.owner c.args.place c.args.operator) c.requires.accepted).tests in
+    let g = gen_comes b c.args.owner c.args.place c.args.operator (accepted b (steps.Setting c.args.owner c.args.place (ClearGen c.args.operator)) c.requires.accepted).tests in
     there_found b c.args.owner c.args.place g.allows.owner g.allows.zone
 
 pub clear_gen-requires-clause-sound : goal.clear_gen-requires-clause-sound

@@ -1,4 +1,5 @@
-use Rattle.edit_forms.specs.declared.step.Step.TheVariants.{SetGen}
+use Rattle.edit_forms.specs.declared.settings.SettingStep.TheVariants.{SetGen}
+use Rattle.edit_forms.specs.declared.step.Step.TheVariants as steps
 use Rattle.edit_refusals.proofs.Accepted.{accepted}
 use Rattle.edit_refusals.proofs.PlaceLaws.{there_found}
 use Rattle.edit_refusals.proofs.SettingLaws.{gen_goes, sound_set_gen}
@@ -7,7 +8,7 @@ use Rattle.bank_edits.proofs.settings.set_gen.Goals as goal
 pub set_gen-requires-clause-there : goal.set_gen-requires-clause-there
 set_gen-requires-clause-there c =
     let b = c.args.bank.now in
-    let g = gen_goes b c.args.owner c.args.place c.args.operator c.args.amount (accepted b (SetGen c.args.owner c.args.place c.args.operator c.args.amount) c.requires.accepted).tests in
+    let g = gen_goes b c.args.owner c.args.place c.args.operator c.args.amount (accepted b (steps.Setting c.args.owner c.args.place (SetGen c.args.operator c.args.amount)) c.requires.accepted).tests in
     there_found b c.args.owner c.args.place g.allows.owner g.allows.zone
 
 pub set_gen-requires-clause-sound : goal.set_gen-requires-clause-sound

@@ -1,5 +1,5 @@
 use Rattle.edit_refusals.proofs.ZoneLaws.{goes_of_set_target, sound_set_target}
-use Rattle.bank_edits.proofs.InverseLaws.{inverse_of_set_target}
+use Rattle.bank_edits.proofs.ZoneLaws.{inverse_of_set_target}
 use Rattle.bank_edits.proofs.zones.set_target.Goals as goal
 
 pub set_target-was-requires-clause-there : goal.set_target-was-requires-clause-there

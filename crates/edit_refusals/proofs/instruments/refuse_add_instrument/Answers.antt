@@ -2,7 +2,8 @@ use Rattle.std.proofs.Common.{◌∙◌, ap}
 use Rattle.generators.specs.declared.level.Level.TheVariants as level
 use Rattle.bank_validity.specs.Limits.{broken}
 use Rattle.bank_validity.proofs.LimitLaws.{no_limit_of}
-use Rattle.edit_forms.specs.declared.step.Step.TheVariants.{AddInstrument}
+use Rattle.edit_forms.specs.declared.instruments.InstrumentStep.TheVariants.{AddInstrument}
+use Rattle.edit_forms.specs.declared.step.Step.TheVariants as steps
 use Rattle.edit_refusals.proofs.Accepted.{up_to}
 use Rattle.edit_refusals.proofs.OwnerLaws.{by_records}
 use Rattle.edit_refusals.proofs.InstrumentLaws.{limit_add_instrument}
@@ -17,6 +18,6 @@ returns c =
     let x = c.args.instrument.now in
     let target = rw c.count.ensures at c.in_ok-no_such_target.ensures in
     let place = rw c.count-2.ensures at c.in_ok-bad_place.ensures in
-    by_records b (AddInstrument c.args.at x) level.Instrument x c.totals.result c.records.result c.broken_with_owner.result c.full.result
+    by_records b (steps.Instrument (AddInstrument c.args.at x)) level.Instrument x c.totals.result c.records.result c.broken_with_owner.result c.full.result
     (target, (place, (c.in_ok-bad_generator.ensures, (c.in_ok-bad_range.ensures, tt)))) (limit_add_instrument b c.args.at x (up_to _ c.args.at place))
     c.totals.ensures.value c.records.ensures c.broken_with_owner.ensures c.full.ensures

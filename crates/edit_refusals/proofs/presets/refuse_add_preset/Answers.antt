@@ -2,7 +2,8 @@ use Rattle.std.proofs.Common.{◌∙◌, ap}
 use Rattle.generators.specs.declared.level.Level.TheVariants as level
 use Rattle.bank_validity.specs.Limits.{broken}
 use Rattle.bank_validity.proofs.LimitLaws.{no_limit_of}
-use Rattle.edit_forms.specs.declared.step.Step.TheVariants.{AddPreset}
+use Rattle.edit_forms.specs.declared.presets.PresetStep.TheVariants.{AddPreset}
+use Rattle.edit_forms.specs.declared.step.Step.TheVariants as steps
 use Rattle.edit_refusals.proofs.Accepted.{up_to}
 use Rattle.edit_refusals.proofs.OwnerLaws.{by_records}
 use Rattle.edit_refusals.proofs.PresetLaws.{limit_add_preset}
@@ -17,6 +18,6 @@ returns c =
     let x = c.args.preset.now in
     let target = rw c.count.ensures at c.in_ok-no_such_target.ensures in
     let place = rw c.count-2.ensures at c.in_ok-bad_place.ensures in
-    by_records b (AddPreset c.args.at x) level.Preset x c.totals.result c.records.result c.broken_with_owner.result c.full.result
+    by_records b (steps.Preset (AddPreset c.args.at x)) level.Preset x c.totals.result c.records.result c.broken_with_owner.result c.full.result
     (target, (place, (c.in_ok-bad_generator.ensures, (c.in_ok-bad_range.ensures, tt)))) (limit_add_preset b c.args.at x (up_to _ c.args.at place))
     c.totals.ensures.value c.records.ensures c.broken_with_owner.ensures c.full.ensures

@@ -1,8 +1,9 @@
 use Rattle.std.proofs.Common.{[], ◌∷◌, length}
 use Rattle.bank_validity.specs.Limits.{broken_limit}
-use Rattle.edit_forms.specs.declared.step.Step.TheVariants.{MoveSample}
-use Rattle.edit_refusals.specs.Causes.{no_such_sample, no_such_place}
-use Rattle.edit_refusals.specs.Steps.{raw}
+use Rattle.edit_forms.specs.declared.samples.SampleStep.TheVariants.{MoveSample}
+use Rattle.edit_forms.specs.declared.step.Step.TheVariants as steps
+use Rattle.edit_forms.specs.Causes.{no_such_sample, no_such_place}
+use Rattle.edit_forms.specs.Steps.{raw}
 use Rattle.edit_refusals.proofs.Accepted.{by_last, below}
 use Rattle.edit_refusals.proofs.SampleLaws.{within_move_sample}
 use Rattle.edit_refusals.proofs.samples.refuse_move_sample.Goals as goal
@@ -13,5 +14,5 @@ returns c =
     let i = c.args.from in
     let j = c.args.to in
     let there = c.in_ok-no_such_sample.ensures in
-    by_last (no_such_sample b i ∷ []) (no_such_place (length b.samples) j) (broken_limit (raw b (MoveSample i j))) c.no_such_place.result (there, tt) (rw c.count.ensures at c.no_such_place.ensures)
+    by_last (no_such_sample b i ∷ []) (no_such_place (length b.samples) j) (broken_limit (raw b (steps.Sample (MoveSample i j)))) c.no_such_place.result (there, tt) (rw c.count.ensures at c.no_such_place.ensures)
     (λ place. within_move_sample b i j c.requires.valid (below _ i there) (below _ j place))

@@ -1,9 +1,10 @@
 use Rattle.std.proofs.Common.{[], ◌∷◌}
 use Rattle.bank_validity.specs.Limits.{broken_limit}
 use Rattle.bank_changes.specs.Members.{level_of}
-use Rattle.edit_forms.specs.declared.step.Step.TheVariants.{ClearGen}
-use Rattle.edit_refusals.specs.Causes.{no_such_owner, no_such_zone_at, foreign_operator, not_set}
-use Rattle.edit_refusals.specs.Steps.{raw}
+use Rattle.edit_forms.specs.declared.settings.SettingStep.TheVariants.{ClearGen}
+use Rattle.edit_forms.specs.declared.step.Step.TheVariants as steps
+use Rattle.edit_forms.specs.Causes.{no_such_owner, no_such_zone_at, foreign_operator, not_set}
+use Rattle.edit_forms.specs.Steps.{raw}
 use Rattle.edit_refusals.proofs.Accepted.{by_last}
 use Rattle.edit_refusals.proofs.SettingLaws.{gen_comes, within_clear_gen}
 use Rattle.edit_refusals.proofs.settings.refuse_clear_gen.Goals as goal
@@ -14,9 +15,9 @@ returns c =
     let o = c.args.owner in
     let at = c.args.place in
     let op = c.args.operator in
-    let owner = c.in_ok-no_such_owner.ensures in
-    let zone = c.in_ok-no_such_zone_at.ensures in
+    let owner = c.requires.owner in
+    let zone = c.requires.zone in
     let own = rw c.level.ensures at c.in_ok-foreign_operator.ensures in
-    by_last (no_such_owner b o ∷ no_such_zone_at b o at ∷ foreign_operator (level_of o) op ∷ []) (not_set b o at op) (broken_limit (raw b (ClearGen o at op))) c.not_set.result
+    by_last (no_such_owner b o ∷ no_such_zone_at b o at ∷ foreign_operator (level_of o) op ∷ []) (not_set b o at op) (broken_limit (raw b (steps.Setting o at (ClearGen op)))) c.not_set.result
     (owner, (zone, (own, tt))) c.not_set.ensures
-    (λ set. within_clear_gen b o at op c.requires (gen_comes b o at op (owner, (zone, (own, (set, tt))))))
+    (λ set. within_clear_gen b o at op c.requires.sound (gen_comes b o at op (owner, (zone, (own, (set, tt))))))

@@ -1,6 +1,7 @@
 use Rattle.std.proofs.Common.{sym}
-use Rattle.edit_forms.specs.declared.step.Step.TheVariants.{AddZone}
-use Rattle.edit_refusals.specs.Steps.{causes}
+use Rattle.edit_forms.specs.declared.zones.ZoneStep.TheVariants.{AddZone}
+use Rattle.edit_forms.specs.declared.step.Step.TheVariants as steps
+use Rattle.edit_forms.specs.Steps.{causes}
 use Rattle.edit_refusals.proofs.Accepted.{NoneStands, by_limit}
 use Rattle.edit_refusals.proofs.ZoneLaws.{zone_goes}
 use Rattle.edit_refusals.proofs.zones.refuse_add_zone.Goals as goal
@@ -12,6 +13,6 @@ returns c =
     let zone = c.args.zone.now in
     let place = rw c.zone_total.ensures at c.in_ok-bad_place.ensures in
     let operators = rw c.level.ensures at c.in_ok-bad_generators.ensures in
-    let tests : NoneStands (causes b (AddZone o c.args.at zone)) =
-    (c.in_ok-no_such_owner.ensures, (c.in_ok-no_such_target_of.ensures, (place, (operators, (c.in_ok-bad_ranges.ensures, tt))))) in
-    by_limit b (AddZone o c.args.at zone) c.broken_with_zone.result c.full.result tests (sym (c.broken_with_zone.ensures c.args.at (zone_goes b o c.args.at zone tests).place)) c.full.ensures
+    let tests : NoneStands (causes b (steps.Zone o (AddZone c.args.at zone))) =
+    (c.requires.owner, (c.in_ok-no_such_target_of.ensures, (place, (operators, (c.in_ok-bad_ranges.ensures, tt))))) in
+    by_limit b (steps.Zone o (AddZone c.args.at zone)) c.broken_with_zone.result c.full.result tests (sym (c.broken_with_zone.ensures c.args.at (zone_goes b o c.args.at zone tests).place)) c.full.ensures

@@ -1,4 +1,4 @@
-use Rattle.std.proofs.Common.{◌≡◌, ◌↔◌, IsTrue, Some, sym, ◌∙◌, ap}
+use Rattle.std.proofs.Common.{◌≡◌, ◌↔◌, IsTrue, Some}
 use Rattle.std.specs.FinMap.{remove}
 use Rattle.zone_ranges.specs.Ranges.{range_operator}
 use Rattle.zone_ranges.proofs.There.{zone_is_there, beside, not_alike, are_alike_by_mods}

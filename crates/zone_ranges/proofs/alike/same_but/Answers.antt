@@ -1,4 +1,3 @@
-use Rattle.std.proofs.Common.{◌∙◌}
 use Rattle.zone_ranges.proofs.There.{zone_is_there, beside, says_at, both_say, one_says}
 use Rattle.zone_ranges.proofs.alike.same_but.Goals as goal
 

@@ -1,0 +1,115 @@
+//! The steps that edit the zones of a preset or an instrument.
+ghost use Rattle.std.specs.Prelude.{◌≡◌, Some, IsSome, IfOk};
+ghost use Rattle.edit_forms.specs.Zones.{Fits, is_neutral, zone_in};
+
+use bank_parts::{CopyOut, Zone};
+use sf_base::OutOfMemory;
+use std::alloc::Global;
+use zone_ranges::{Axis, Keep};
+
+/// A step that edits the zones of a preset or an instrument. Numbers are counted from 0, the global zone
+/// apart.
+pub enum ZoneStep {
+    /// `add-zone OWNER K ZONE`: the zone is put in as number `at`.
+    AddZone { at: u32, zone: Zone },
+    /// `remove-zone OWNER K`: the zone is taken out.
+    RemoveZone { zone: u32 },
+    /// `move-zone OWNER I J`: zone `from` is zone `to`.
+    MoveZone { from: u32, to: u32 },
+    /// `split-zone OWNER K key|vel M`: the zone has its range up to below `at`, and a copy behind it the
+    /// rest.
+    SplitZone { zone: u32, axis: Axis, at: u8 },
+    /// `join-zone OWNER K key|vel keep|bare`: the zone and the next are one, with both ranges together.
+    JoinZone { zone: u32, axis: Axis, keep: Keep },
+    /// `set-target OWNER K TARGET`: the zone has the target.
+    SetTarget { zone: u32, target: u16 },
+}
+
+// Not derived: a derived drop is written out, and proved, wherever a value is dropped; this one is a call.
+impl Drop for ZoneStep {
+    fn drop(self) {
+        match self {
+            ZoneStep::AddZone { at: _, zone: _ } => {}
+            ZoneStep::RemoveZone { zone: _ } => {}
+            ZoneStep::MoveZone { from: _, to: _ } => {}
+            ZoneStep::SplitZone {
+                zone: _,
+                axis: _,
+                at: _,
+            } => {}
+            ZoneStep::JoinZone {
+                zone: _,
+                axis: _,
+                keep: _,
+            } => {}
+            ZoneStep::SetTarget { zone: _, target: _ } => {}
+        }
+    }
+}
+
+impl ZoneStep {
+    /// The zone that it adds.
+    pub fn into_zone(self) -> Zone
+        requires { IsSome (zone_in self) }
+        ensures { zone_in self ≡ Some result }
+    {
+        match self {
+            ZoneStep::AddZone { at: _, zone } => zone,
+            _ => unreachable!(),
+        }
+    }
+
+    /// The law that each number is in the range of its field. It does nothing.
+    pub fn fits(&self)
+        ensures { Fits self.now }
+    {
+        match self {
+            ZoneStep::AddZone { at, zone } => {
+                let _at = *at;
+                zone.fits();
+            }
+            ZoneStep::RemoveZone { zone } | ZoneStep::JoinZone { zone, .. } => {
+                let _zone = *zone;
+            }
+            ZoneStep::MoveZone { from, to } => {
+                let _from = *from;
+                let _to = *to;
+            }
+            ZoneStep::SplitZone { zone, at, .. } => {
+                let _zone = *zone;
+                let _at = *at;
+            }
+            ZoneStep::SetTarget { zone, target } => {
+                let _zone = *zone;
+                let _target = *target;
+            }
+        }
+    }
+
+    /// Whether it is of a form that changes no sound, whatever the bank.
+    pub fn is_neutral(&self) -> bool
+        ensures { result ≡ is_neutral self.now }
+    {
+        matches!(
+            self,
+            ZoneStep::MoveZone { .. } | ZoneStep::SplitZone { .. } | ZoneStep::JoinZone { .. }
+        )
+    }
+
+    /// An equal step, in memory of its own; or out of memory.
+    pub fn copy(&self, alloc: Global) -> Result<ZoneStep, OutOfMemory>
+        ensures { IfOk result (λ copy. copy ≡ self.now) }
+    {
+        Ok(match *self {
+            ZoneStep::AddZone { at, ref zone } => ZoneStep::AddZone {
+                at,
+                zone: zone.copy_out(alloc)?,
+            },
+            ZoneStep::RemoveZone { zone } => ZoneStep::RemoveZone { zone },
+            ZoneStep::MoveZone { from, to } => ZoneStep::MoveZone { from, to },
+            ZoneStep::SplitZone { zone, axis, at } => ZoneStep::SplitZone { zone, axis, at },
+            ZoneStep::JoinZone { zone, axis, keep } => ZoneStep::JoinZone { zone, axis, keep },
+            ZoneStep::SetTarget { zone, target } => ZoneStep::SetTarget { zone, target },
+        })
+    }
+}

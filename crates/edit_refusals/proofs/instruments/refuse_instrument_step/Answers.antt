@@ -1,0 +1,4 @@
+use Rattle.edit_refusals.proofs.instruments.refuse_instrument_step.Goals as goal
+
+pub returns-in-RenameInstrument : goal.returns-in-RenameInstrument
+returns-in-RenameInstrument c = rw c.in-RenameInstrument.is (c.refuse_rename_instrument.ensures _)
