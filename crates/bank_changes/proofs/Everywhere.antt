@@ -11,11 +11,13 @@ all_always P h [] = tt
 all_always P h (x ∷ xs) = (h x, all_always P h xs)
 
 -- two facts of each give one of its image
-pub all_map : {X Y : Type 0} (P R : X → Type 0) (Q : Y → Type 0) (f : X → Y) → ((x : X) → P x → R x → Q (f x)) → (xs : List X) → AllByRecursion P xs → AllByRecursion R xs → AllByRecursion Q (map f xs)
+pub all_map : {X Y : Type 0} (P R : X → Type 0) (Q : Y → Type 0) (f : X → Y) → ((x : X) → P x → R x → Q (f x))
+    → (xs : List X) → AllByRecursion P xs → AllByRecursion R xs → AllByRecursion Q (map f xs)
 all_map P R Q f to [] v w = tt
 all_map P R Q f to (x ∷ xs) v w = (to x v.0 w.0, all_map P R Q f to xs v.1 w.1)
 
-pub all_sent : {X Y : Type 0} (P : X → Type 0) (Q : Y → Type 0) (f : X → Y) → ((x : X) → P x → Q (f x)) → (xs : List X) → AllByRecursion P xs → AllByRecursion Q (map f xs)
+pub all_sent : {X Y : Type 0} (P : X → Type 0) (Q : Y → Type 0) (f : X → Y) → ((x : X) → P x → Q (f x))
+    → (xs : List X) → AllByRecursion P xs → AllByRecursion Q (map f xs)
 all_sent P Q f to [] v = tt
 all_sent P Q f to (x ∷ xs) v = (to x v.0, all_sent P Q f to xs v.1)
 
@@ -27,7 +29,8 @@ pub map_back : {X : Type 0} (f g : X → X) (xs : List X) → AllByRecursion (λ
 map_back f g [] v = refl
 map_back f g (x ∷ xs) v = λ i. v.0 i ∷ map_back f g xs v.1 i
 
-pub sum_kept : {X : Type 0} (measure : X → ℕ) (f : X → X) → ((x : X) → measure (f x) ≡ measure x) → (xs : List X) → sum_by measure (map f xs) ≡ sum_by measure xs
+pub sum_kept : {X : Type 0} (measure : X → ℕ) (f : X → X) → ((x : X) → measure (f x) ≡ measure x) → (xs : List X)
+    → sum_by measure (map f xs) ≡ sum_by measure xs
 sum_kept measure f same [] = refl
 sum_kept measure f same (x ∷ xs) =
     let rest = sum_kept measure f same xs in

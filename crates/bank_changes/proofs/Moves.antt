@@ -7,7 +7,8 @@ use Rattle.numbered_lists.proofs.Lists.{slice_get-found, length-moved, map-moved
 pub use Rattle.bank_parts.proofs.ListLaws.{everywhere-moved as all_moved}
 use Rattle.bank_changes.proofs.Changes.{sum-removed}
 
-pub sum-moved : {X : Type 0} (measure : X → ℕ) (xs : List X) (i j : ℕ) → i < length xs → sum_by measure (moved xs i j) ≡ sum_by measure xs
+pub sum-moved : {X : Type 0} (measure : X → ℕ) (xs : List X) (i j : ℕ) → i < length xs
+    → sum_by measure (moved xs i j) ≡ sum_by measure xs
 sum-moved measure xs i j lt =
     let (x, e) = slice_get-found xs i lt in
     let less = sum-removed measure xs i x e in
@@ -15,7 +16,8 @@ sum-moved measure xs i j lt =
     rw e (omega (arith, less, more))
 
 -- moved back, with each member sent through f in between
-pub moved_back-sent : {X : Type 0} (f : X → X) (xs : List X) (i j : ℕ) → i < length xs → j < length xs → moved (map f (moved xs i j)) j i ≡ map f xs
+pub moved_back-sent : {X : Type 0} (f : X → X) (xs : List X) (i j : ℕ) → i < length xs → j < length xs
+    → moved (map f (moved xs i j)) j i ≡ map f xs
 moved_back-sent f xs i j lt lu =
     let size = length-moved xs i j lt lu in
     sym (map-moved f (moved xs i j) j i (omega (arith, size, lu))) ∙ ap (map f) (moved-back xs i j lt lu)

@@ -1,5 +1,6 @@
 -- A change of one place, wherever it is: what it keeps, and what becomes of the totals.
-use Rattle.std.proofs.Common.{◌≡◌, false, ◌≤◌, ◌+◌, ℕ, List, [], length, Option, Some, None, IsSome, refl, sym, ◌∙◌, ap, subst, arith}
+use Rattle.std.proofs.Common.{◌≡◌, false, ◌≤◌, ◌+◌, ℕ, List, [], length, Option, Some, None, IsSome, refl, sym, ◌∙◌}
+use Rattle.std.proofs.Common.{ap, subst, arith}
 use Rattle.std.specs.Prelude.{slice_get, sum_by, if◌then◌else◌, ◌==◌}
 use Rattle.std.specs.Option.{is_some, option_map, option_map_or}
 use Rattle.std.specs.FinMap.{len, len-empty}
@@ -19,8 +20,10 @@ use Rattle.bank_parts.specs.declared.parts.Zone.{Zone}
 use Rattle.bank_parts.specs.declared.parts.WithZones.{WithZones}
 use Rattle.bank_parts.specs.declared.parts.Parts.{Parts}
 use Rattle.bank_parts.specs.Owners.{HasPlace}
-use Rattle.bank_parts.specs.Settings.{Settings, settings_of_zone, zone_with_settings, settings_in, settings_changed, settings_at, place_changed}
-use Rattle.bank_parts.specs.Valid.{IsZone, IsOwner, AreGenerators, zone_count, gen_count, mod_count, owner_total, global_count}
+use Rattle.bank_parts.specs.Settings.{Settings, settings_of_zone, zone_with_settings, settings_in, settings_changed}
+use Rattle.bank_parts.specs.Settings.{settings_at, place_changed}
+use Rattle.bank_parts.specs.Valid.{IsZone, IsOwner, AreGenerators, zone_count, gen_count, mod_count, owner_total}
+use Rattle.bank_parts.specs.Valid.{global_count}
 use Rattle.bank_parts.specs.Fits.{FitsGlobal, FitsZone, FitsOwner, FitsHead}
 use Rattle.bank_parts.specs.Sound.{IsSound}
 use Rattle.bank_validity.specs.declared.totals.LevelTotals.{LevelTotals}
@@ -39,14 +42,18 @@ use Rattle.bank_changes.proofs.RecountLaws.{AreNoMore, no_more_within}
 
 -- ---- a place that is there
 
-pub place_there : {H : Type 0} (owners : List (WithZones H)) (i : ℕ) (at : ZonePlace) → IsSome (settings_at owners i at) → HasPlace owners i at
-place_there {H} owners i at h = (elim (settings_at owners i at) as (λ o. settings_at owners i at ≡ o → IsSome o → HasPlace owners i at) [
-  | None ↦ λ e k. cc
-  | Some s ↦ λ e k. found at s e
-]) refl h
+pub place_there : {H : Type 0} (owners : List (WithZones H)) (i : ℕ) (at : ZonePlace)
+    → IsSome (settings_at owners i at) → HasPlace owners i at
+place_there {H} owners i at
+    h = (elim (settings_at owners i at) as (λ o. settings_at owners i at ≡ o → IsSome o → HasPlace owners i at) [
+      | None ↦ λ e k. cc
+      | Some s ↦ λ e k. found at s e
+    ]) refl h
   where
     found : (at : ZonePlace) (s : Settings) → settings_at owners i at ≡ Some s → HasPlace owners i at
-    found place.Global s e = let x = given (settings_in place.Global) (slice_get owners i) s e in slice_get-within owners i x.member x.there
+    found place.Global s e =
+        let x = given (settings_in place.Global) (slice_get owners i) s e in
+        slice_get-within owners i x.member x.there
     found (place.Zone k) s e =
         let x = given (settings_in (place.Zone k)) (slice_get owners i) s e in
         let z = source settings_of_zone (slice_get x.member.zones k) s x.gives in
@@ -55,8 +62,10 @@ place_there {H} owners i at h = (elim (settings_at owners i at) as (λ o. settin
 
 -- ---- what holds of the settings of all places, and still of those that are changed
 
-module _ (lvl : Level) (targets : ℕ) (f : Settings → Settings) (keeps : (s : Settings) → AreGenerators lvl s.gens → AreGenerators lvl (f s).gens) where
-  pub owner_stays : {H : Type 0} (name_of : H → List ℕ) (at : ZonePlace) (x : WithZones H) → IsOwner name_of lvl targets x → IsOwner name_of lvl targets (settings_changed at f x)
+module _ (lvl : Level) (targets : ℕ) (f : Settings → Settings)
+    (keeps : (s : Settings) → AreGenerators lvl s.gens → AreGenerators lvl (f s).gens) where
+  pub owner_stays : {H : Type 0} (name_of : H → List ℕ) (at : ZonePlace) (x : WithZones H)
+      → IsOwner name_of lvl targets x → IsOwner name_of lvl targets (settings_changed at f x)
   owner_stays name_of place.Global x is = record {
     name = is.name;
     zones = record { global = keeps x.global is.zones.global; zones = is.zones.zones };
@@ -65,13 +74,18 @@ module _ (lvl : Level) (targets : ℕ) (f : Settings → Settings) (keeps : (s :
     name = is.name;
     zones = record {
       global = is.zones.global;
-      zones = all_changed (λ (z : Zone). zone_with_settings (f (settings_of_zone z)) z) (IsZone lvl targets) (λ z was. record { target = was.target; gens = keeps (settings_of_zone z) was.gens }) x.zones k is.zones.zones;
+      zones =
+          all_changed (λ (z : Zone). zone_with_settings (f (settings_of_zone z)) z) (IsZone lvl targets)
+          (λ z was. record { target = was.target; gens = keeps (settings_of_zone z) was.gens }) x.zones k
+          is.zones.zones;
     };
   }
 
 module _ (f : Settings → Settings) (keeps : (s : Settings) → FitsGlobal s → FitsGlobal (f s)) where
-  pub owner_fits_still : {H : Type 0} (IsFit : H → Type 0) (at : ZonePlace) (x : WithZones H) → FitsOwner IsFit x → FitsOwner IsFit (settings_changed at f x)
-  owner_fits_still IsFit place.Global x fits = record { head = fits.head; global = keeps x.global fits.global; zones = fits.zones }
+  pub owner_fits_still : {H : Type 0} (IsFit : H → Type 0) (at : ZonePlace) (x : WithZones H) → FitsOwner IsFit x
+      → FitsOwner IsFit (settings_changed at f x)
+  owner_fits_still IsFit place.Global x fits =
+      record { head = fits.head; global = keeps x.global fits.global; zones = fits.zones }
   owner_fits_still IsFit (place.Zone k) x fits = record {
     head = fits.head;
     global = fits.global;
@@ -87,7 +101,8 @@ pub record Keeps (lvl : Level) (f : Settings → Settings) : Type 0 where
   pub valid : (s : Settings) → AreGenerators lvl s.gens → AreGenerators lvl (f s).gens
   pub fits : (s : Settings) → FitsGlobal s → FitsGlobal (f s)
 
-pub sound_place_changed : (b : Parts) (o : Owner) (at : Place) (f : Settings → Settings) → IsSound b → Keeps (level_of o) f → broken_limit (own_place_changed b o at f) ≡ None
+pub sound_place_changed : (b : Parts) (o : Owner) (at : Place) (f : Settings → Settings) → IsSound b
+    → Keeps (level_of o) f → broken_limit (own_place_changed b o at f) ≡ None
     → IsSound (own_place_changed b o at f)
 sound_place_changed b (Preset p) at f sound keeps within =
     let v = sound.valid in
@@ -96,7 +111,10 @@ sound_place_changed b (Preset p) at f sound keeps within =
     record {
       valid = record {
         texts = v.texts;
-        presets = all_changed change (IsOwner (λ (h : Head). h.name) level.Preset (length b.instruments)) (owner_stays level.Preset (length b.instruments) f keeps.valid (λ (h : Head). h.name) (zone_place at)) b.presets p v.presets;
+        presets =
+            all_changed change (IsOwner (λ (h : Head). h.name) level.Preset (length b.instruments))
+            (owner_stays level.Preset (length b.instruments) f keeps.valid (λ (h : Head). h.name) (zone_place at))
+            b.presets p v.presets;
         instruments = v.instruments;
         samples = v.samples;
         limits = limits_of (own_place_changed b (Preset p) at f) within;
@@ -104,7 +122,9 @@ sound_place_changed b (Preset p) at f sound keeps within =
       fits = record {
         minor = t.minor;
         texts = t.texts;
-        presets = all_changed change (FitsOwner FitsHead) (owner_fits_still f keeps.fits FitsHead (zone_place at)) b.presets p t.presets;
+        presets =
+            all_changed change (FitsOwner FitsHead) (owner_fits_still f keeps.fits FitsHead (zone_place at))
+            b.presets p t.presets;
         instruments = t.instruments;
         samples = t.samples;
       };
@@ -117,7 +137,11 @@ sound_place_changed b (Instrument i) at f sound keeps within =
       valid = record {
         texts = v.texts;
         presets = rw (length-changed b.instruments i change) v.presets;
-        instruments = all_changed change (IsOwner (λ (name : List ℕ). name) level.Instrument (length b.samples)) (owner_stays level.Instrument (length b.samples) f keeps.valid (λ (name : List ℕ). name) (zone_place at)) b.instruments i v.instruments;
+        instruments =
+            all_changed change (IsOwner (λ (name : List ℕ). name) level.Instrument (length b.samples))
+            (owner_stays level.Instrument (length b.samples) f keeps.valid (λ (name : List ℕ). name)
+            (zone_place at))
+            b.instruments i v.instruments;
         samples = v.samples;
         limits = limits_of (own_place_changed b (Instrument i) at f) within;
       };
@@ -125,53 +149,69 @@ sound_place_changed b (Instrument i) at f sound keeps within =
         minor = t.minor;
         texts = t.texts;
         presets = t.presets;
-        instruments = all_changed change (FitsOwner IsName) (owner_fits_still f keeps.fits IsName (zone_place at)) b.instruments i t.instruments;
+        instruments =
+            all_changed change (FitsOwner IsName) (owner_fits_still f keeps.fits IsName (zone_place at))
+            b.instruments i t.instruments;
         samples = t.samples;
       };
     }
 
 -- the settings of a sound bank
 
-member_gens : {H : Type 0} (name_of : H → List ℕ) (lvl : Level) (targets : ℕ) (at : ZonePlace) (x : WithZones H) (s : Settings) → settings_in at x ≡ Some s → IsOwner name_of lvl targets x → AreGenerators lvl s.gens
-member_gens name_of lvl targets place.Global x s e is = let same : x.global ≡ s = cc in subst (λ (s : Settings). AreGenerators lvl s.gens) same is.zones.global
+member_gens : {H : Type 0} (name_of : H → List ℕ) (lvl : Level) (targets : ℕ) (at : ZonePlace) (x : WithZones H)
+    (s : Settings)
+    → settings_in at x ≡ Some s → IsOwner name_of lvl targets x → AreGenerators lvl s.gens
+member_gens name_of lvl targets place.Global x s e is =
+    let same : x.global ≡ s = cc in subst (λ (s : Settings). AreGenerators lvl s.gens) same is.zones.global
 member_gens name_of lvl targets (place.Zone k) x s e is =
     let z = source settings_of_zone (slice_get x.zones k) s e in
-    subst (λ (s : Settings). AreGenerators lvl s.gens) z.seen (all_found (IsZone lvl targets) x.zones k z.member z.there is.zones.zones).gens
+    subst (λ (s : Settings). AreGenerators lvl s.gens) z.seen
+    (all_found (IsZone lvl targets) x.zones k z.member z.there is.zones.zones).gens
 
-member_fits : {H : Type 0} (IsFit : H → Type 0) (at : ZonePlace) (x : WithZones H) (s : Settings) → settings_in at x ≡ Some s → FitsOwner IsFit x → FitsGlobal s
+member_fits : {H : Type 0} (IsFit : H → Type 0) (at : ZonePlace) (x : WithZones H) (s : Settings)
+    → settings_in at x ≡ Some s → FitsOwner IsFit x → FitsGlobal s
 member_fits IsFit place.Global x s e fits = let same : x.global ≡ s = cc in subst FitsGlobal same fits.global
 member_fits IsFit (place.Zone k) x s e fits =
     let z = source settings_of_zone (slice_get x.zones k) s e in
     let was = all_found FitsZone x.zones k z.member z.there fits.zones in
     subst FitsGlobal z.seen (record { gens = was.gens; mods = was.mods })
 
-pub gens_of_sound : (b : Parts) (o : Owner) (at : Place) (s : Settings) → IsSound b → settings_of b o at ≡ Some s → AreGenerators (level_of o) s.gens
+pub gens_of_sound : (b : Parts) (o : Owner) (at : Place) (s : Settings) → IsSound b → settings_of b o at ≡ Some s
+    → AreGenerators (level_of o) s.gens
 gens_of_sound b (Preset p) at s sound e =
     let x = given (settings_in (zone_place at)) (slice_get b.presets p) s e in
     member_gens (λ (h : Head). h.name) level.Preset (length b.instruments) (zone_place at) x.member s x.gives
-    (all_found (IsOwner (λ (h : Head). h.name) level.Preset (length b.instruments)) b.presets p x.member x.there sound.valid.presets)
+    (all_found (IsOwner (λ (h : Head). h.name) level.Preset (length b.instruments)) b.presets p x.member x.there
+    sound.valid.presets)
 gens_of_sound b (Instrument i) at s sound e =
     let x = given (settings_in (zone_place at)) (slice_get b.instruments i) s e in
     member_gens (λ (name : List ℕ). name) level.Instrument (length b.samples) (zone_place at) x.member s x.gives
-    (all_found (IsOwner (λ (name : List ℕ). name) level.Instrument (length b.samples)) b.instruments i x.member x.there sound.valid.instruments)
+    (all_found (IsOwner (λ (name : List ℕ). name) level.Instrument (length b.samples)) b.instruments i x.member
+    x.there sound.valid.instruments)
 
-pub settings_fit : (b : Parts) (o : Owner) (at : Place) (s : Settings) → IsSound b → settings_of b o at ≡ Some s → FitsGlobal s
+pub settings_fit : (b : Parts) (o : Owner) (at : Place) (s : Settings) → IsSound b → settings_of b o at ≡ Some s
+    → FitsGlobal s
 settings_fit b (Preset p) at s sound e =
     let x = given (settings_in (zone_place at)) (slice_get b.presets p) s e in
-    member_fits FitsHead (zone_place at) x.member s x.gives (all_found (FitsOwner FitsHead) b.presets p x.member x.there sound.fits.presets)
+    member_fits FitsHead (zone_place at) x.member s x.gives
+    (all_found (FitsOwner FitsHead) b.presets p x.member x.there sound.fits.presets)
 settings_fit b (Instrument i) at s sound e =
     let x = given (settings_in (zone_place at)) (slice_get b.instruments i) s e in
-    member_fits IsName (zone_place at) x.member s x.gives (all_found (FitsOwner IsName) b.instruments i x.member x.there sound.fits.instruments)
+    member_fits IsName (zone_place at) x.member s x.gives
+    (all_found (FitsOwner IsName) b.instruments i x.member x.there sound.fits.instruments)
 
 -- ---- totals
 
-pub sum-changed_there : {X : Type 0} (measure : X → ℕ) (f : X → X) (xs : List X) (i : ℕ) (x : X) → slice_get xs i ≡ Some x → sum_by measure (changed xs i f) + measure x ≡ sum_by measure xs + measure (f x)
-sum-changed_there measure f xs i x e = ap (λ ys. sum_by measure ys + measure x) (changed-found xs i f x e) ∙ sum-exchanged measure xs i x (f x) e
+pub sum-changed_there : {X : Type 0} (measure : X → ℕ) (f : X → X) (xs : List X) (i : ℕ) (x : X)
+    → slice_get xs i ≡ Some x → sum_by measure (changed xs i f) + measure x ≡ sum_by measure xs + measure (f x)
+sum-changed_there measure f xs i x e =
+    ap (λ ys. sum_by measure ys + measure x) (changed-found xs i f x e) ∙ sum-exchanged measure xs i x (f x) e
 
 -- a count of the zones of a member is that of the global zone and that of the others
 module _ (global_part zone_part : Settings → ℕ) (others : List Zone → ℕ) (f : Settings → Settings)
     (one : (zones : List Zone) (k : ℕ) (z : Zone) → slice_get zones k ≡ Some z
-    → others (changed zones k (λ (z : Zone). zone_with_settings (f (settings_of_zone z)) z)) + zone_part (settings_of_zone z) ≡ others zones + zone_part (f (settings_of_zone z))) where
+    → others (changed zones k (λ (z : Zone). zone_with_settings (f (settings_of_zone z)) z))
+    + zone_part (settings_of_zone z) ≡ others zones + zone_part (f (settings_of_zone z))) where
   abbrev part : ZonePlace → Settings → ℕ
   part place.Global s = global_part s
   part (place.Zone k) s = zone_part s
@@ -179,84 +219,132 @@ module _ (global_part zone_part : Settings → ℕ) (others : List Zone → ℕ)
   abbrev all_of : {H : Type 0} → WithZones H → ℕ
   all_of x = global_part x.global + others x.zones
 
-  member_recount : {H : Type 0} (at : ZonePlace) (x : WithZones H) (s : Settings) → settings_in at x ≡ Some s → all_of (settings_changed at f x) + part at s ≡ all_of x + part at (f s)
+  member_recount : {H : Type 0} (at : ZonePlace) (x : WithZones H) (s : Settings) → settings_in at x ≡ Some s
+      → all_of (settings_changed at f x) + part at s ≡ all_of x + part at (f s)
   member_recount place.Global x s e =
       let same : x.global ≡ s = cc in
-      subst (λ (s : Settings). global_part (f x.global) + others x.zones + global_part s ≡ global_part x.global + others x.zones + global_part (f s)) same (omega arith)
+      subst
+      (λ (s : Settings).
+      global_part (f x.global) + others x.zones + global_part s
+      ≡ global_part x.global + others x.zones + global_part (f s))
+      same (omega arith)
   member_recount (place.Zone k) x s e =
       let z = source settings_of_zone (slice_get x.zones k) s e in
       let more = one x.zones k z.member z.there in
-      subst (λ (s : Settings). all_of (settings_changed (place.Zone k) f x) + zone_part s ≡ all_of x + zone_part (f s)) z.seen (omega (arith, more))
+      subst
+      (λ (s : Settings). all_of (settings_changed (place.Zone k) f x) + zone_part s ≡ all_of x + zone_part (f s))
+      z.seen (omega (arith, more))
 
-  total_recount : {H : Type 0} (owners : List (WithZones H)) (i : ℕ) (at : ZonePlace) (s : Settings) → settings_at owners i at ≡ Some s
-      → sum_by (λ (x : WithZones H). global_part x.global + others x.zones) (place_changed owners i at f) + part at s ≡ sum_by (λ (x : WithZones H). global_part x.global + others x.zones) owners + part at (f s)
+  total_recount : {H : Type 0} (owners : List (WithZones H)) (i : ℕ) (at : ZonePlace) (s : Settings)
+      → settings_at owners i at ≡ Some s
+      → sum_by (λ (x : WithZones H). global_part x.global + others x.zones) (place_changed owners i at f) + part at s
+      ≡ sum_by (λ (x : WithZones H). global_part x.global + others x.zones) owners + part at (f s)
   total_recount {H} owners i at s e =
       let x = given (settings_in at) (slice_get owners i) s e in
       let more = member_recount at x.member s x.gives in
-      let all = sum-changed_there (λ (x : WithZones H). global_part x.global + others x.zones) (settings_changed at f) owners i x.member x.there in
+      let all =
+      sum-changed_there (λ (x : WithZones H). global_part x.global + others x.zones) (settings_changed at f)
+      owners i x.member x.there in
       omega (arith, more, all)
 
 module _ (f : Settings → Settings) where
   gens_one : (zones : List Zone) (k : ℕ) (z : Zone) → slice_get zones k ≡ Some z
-      → sum_by (λ (z : Zone). len z.gens + 1) (changed zones k (λ (z : Zone). zone_with_settings (f (settings_of_zone z)) z)) + len z.gens ≡ sum_by (λ (z : Zone). len z.gens + 1) zones + len (f (settings_of_zone z)).gens
-  gens_one zones k z e = let all = sum-changed_there (λ (z : Zone). len z.gens + 1) (λ (z : Zone). zone_with_settings (f (settings_of_zone z)) z) zones k z e in omega (arith, all)
+      → sum_by (λ (z : Zone). len z.gens + 1)
+      (changed zones k (λ (z : Zone). zone_with_settings (f (settings_of_zone z)) z))
+      + len z.gens
+      ≡ sum_by (λ (z : Zone). len z.gens + 1) zones + len (f (settings_of_zone z)).gens
+  gens_one zones k z e =
+      let all =
+      sum-changed_there (λ (z : Zone). len z.gens + 1)
+      (λ (z : Zone). zone_with_settings (f (settings_of_zone z)) z) zones k z e in
+      omega (arith, all)
 
   zones_one : (zones : List Zone) (k : ℕ) (z : Zone) → slice_get zones k ≡ Some z
       → length (changed zones k (λ (z : Zone). zone_with_settings (f (settings_of_zone z)) z)) + 0 ≡ length zones + 0
-  zones_one zones k z e = ap (λ n. n + 0) (length-changed zones k (λ (z : Zone). zone_with_settings (f (settings_of_zone z)) z))
+  zones_one zones k z e =
+      ap (λ n. n + 0) (length-changed zones k (λ (z : Zone). zone_with_settings (f (settings_of_zone z)) z))
 
   mods_one : (zones : List Zone) (k : ℕ) (z : Zone) → slice_get zones k ≡ Some z
-      → sum_by (λ (z : Zone). length z.mods) (changed zones k (λ (z : Zone). zone_with_settings (f (settings_of_zone z)) z)) + length z.mods ≡ sum_by (λ (z : Zone). length z.mods) zones + length (f (settings_of_zone z)).mods
-  mods_one zones k z e = sum-changed_there (λ (z : Zone). length z.mods) (λ (z : Zone). zone_with_settings (f (settings_of_zone z)) z) zones k z e
+      → sum_by (λ (z : Zone). length z.mods)
+      (changed zones k (λ (z : Zone). zone_with_settings (f (settings_of_zone z)) z))
+      + length z.mods
+      ≡ sum_by (λ (z : Zone). length z.mods) zones + length (f (settings_of_zone z)).mods
+  mods_one zones k z e =
+      sum-changed_there (λ (z : Zone). length z.mods) (λ (z : Zone). zone_with_settings (f (settings_of_zone z)) z)
+      zones k z e
 
   module _ {H : Type 0} (owners : List (WithZones H)) (i : ℕ) (s : Settings) where
     zones_recount : (at : ZonePlace) → settings_at owners i at ≡ Some s
-        → owner_total zone_count (place_changed owners i at f) + (records_of_place at s).zones ≡ owner_total zone_count owners + (records_of_place at (f s)).zones
+        → owner_total zone_count (place_changed owners i at f) + (records_of_place at s).zones
+        ≡ owner_total zone_count owners + (records_of_place at (f s)).zones
     zones_recount place.Global e = total_recount global_count (λ s. 0) length f zones_one owners i place.Global s e
     zones_recount (place.Zone k) e = total_recount global_count (λ s. 0) length f zones_one owners i (place.Zone k) s e
 
     gens_recount : (at : ZonePlace) → settings_at owners i at ≡ Some s
-        → owner_total gen_count (place_changed owners i at f) + (records_of_place at s).gens ≡ owner_total gen_count owners + (records_of_place at (f s)).gens
-    gens_recount place.Global e = total_recount (λ (s : Settings). len s.gens) (λ (s : Settings). len s.gens) (sum_by (λ (z : Zone). len z.gens + 1)) f gens_one owners i place.Global s e
-    gens_recount (place.Zone k) e = total_recount (λ (s : Settings). len s.gens) (λ (s : Settings). len s.gens) (sum_by (λ (z : Zone). len z.gens + 1)) f gens_one owners i (place.Zone k) s e
+        → owner_total gen_count (place_changed owners i at f) + (records_of_place at s).gens
+        ≡ owner_total gen_count owners + (records_of_place at (f s)).gens
+    gens_recount place.Global e =
+        total_recount (λ (s : Settings). len s.gens) (λ (s : Settings). len s.gens)
+        (sum_by (λ (z : Zone). len z.gens + 1)) f gens_one owners i place.Global s e
+    gens_recount (place.Zone k) e =
+        total_recount (λ (s : Settings). len s.gens) (λ (s : Settings). len s.gens)
+        (sum_by (λ (z : Zone). len z.gens + 1)) f gens_one owners i (place.Zone k) s e
 
     mods_recount : (at : ZonePlace) → settings_at owners i at ≡ Some s
-        → owner_total mod_count (place_changed owners i at f) + (records_of_place at s).mods ≡ owner_total mod_count owners + (records_of_place at (f s)).mods
-    mods_recount place.Global e = total_recount (λ (s : Settings). length s.mods) (λ (s : Settings). length s.mods) (sum_by (λ (z : Zone). length z.mods)) f mods_one owners i place.Global s e
-    mods_recount (place.Zone k) e = total_recount (λ (s : Settings). length s.mods) (λ (s : Settings). length s.mods) (sum_by (λ (z : Zone). length z.mods)) f mods_one owners i (place.Zone k) s e
+        → owner_total mod_count (place_changed owners i at f) + (records_of_place at s).mods
+        ≡ owner_total mod_count owners + (records_of_place at (f s)).mods
+    mods_recount place.Global e =
+        total_recount (λ (s : Settings). length s.mods) (λ (s : Settings). length s.mods)
+        (sum_by (λ (z : Zone). length z.mods)) f mods_one owners i place.Global s e
+    mods_recount (place.Zone k) e =
+        total_recount (λ (s : Settings). length s.mods) (λ (s : Settings). length s.mods)
+        (sum_by (λ (z : Zone). length z.mods)) f mods_one owners i (place.Zone k) s e
 
     level_recount : (at : ZonePlace) → settings_at owners i at ≡ Some s
-        → plus_records (records_of_place at s) (level_totals (place_changed owners i at f)) ≡ plus_records (records_of_place at (f s)) (level_totals owners)
+        → plus_records (records_of_place at s) (level_totals (place_changed owners i at f))
+        ≡ plus_records (records_of_place at (f s)) (level_totals owners)
     level_recount at e = λ k. record {
       count = length-changed owners i (settings_changed at f) k;
       records = record { zones = zones_recount at e k; gens = gens_recount at e k; mods = mods_recount at e k };
     }
 
-pub totals_place_changed : (b : Parts) (o : Owner) (at : Place) (f : Settings → Settings) (s : Settings) → settings_of b o at ≡ Some s
-    → with_records (level_of o) (totals_of (own_place_changed b o at f)) (records_of_place (zone_place at) s) ≡ with_records (level_of o) (totals_of b) (records_of_place (zone_place at) (f s))
+pub totals_place_changed : (b : Parts) (o : Owner) (at : Place) (f : Settings → Settings) (s : Settings)
+    → settings_of b o at ≡ Some s
+    → with_records (level_of o) (totals_of (own_place_changed b o at f)) (records_of_place (zone_place at) s)
+    ≡ with_records (level_of o) (totals_of b) (records_of_place (zone_place at) (f s))
 unfolding totals_of
-totals_place_changed b (Preset p) at f s e = λ k. record (totals_of b) { presets = level_recount f b.presets p s (zone_place at) e k }
-totals_place_changed b (Instrument i) at f s e = λ k. record (totals_of b) { instruments = level_recount f b.instruments i s (zone_place at) e k }
+totals_place_changed b (Preset p) at f s e =
+    λ k. record (totals_of b) { presets = level_recount f b.presets p s (zone_place at) e k }
+totals_place_changed b (Instrument i) at f s e =
+    λ k. record (totals_of b) { instruments = level_recount f b.instruments i s (zone_place at) e k }
 
 -- ---- the records of a place that is there
 
-pub records_found : (b : Parts) (o : Owner) (at : Place) (s : Settings) → settings_of b o at ≡ Some s → records_there b o at ≡ records_of_place (zone_place at) s
+pub records_found : (b : Parts) (o : Owner) (at : Place) (s : Settings) → settings_of b o at ≡ Some s
+    → records_there b o at ≡ records_of_place (zone_place at) s
 records_found b (Preset p) at s e = ap (λ found. option_map_or (records_of_place (zone_place at)) found no_records) e
-records_found b (Instrument i) at s e = ap (λ found. option_map_or (records_of_place (zone_place at)) found no_records) e
+records_found b (Instrument i) at s e =
+    ap (λ found. option_map_or (records_of_place (zone_place at)) found no_records) e
 
-pub settings_read : (b : Parts) (o : Owner) (at : Place) (f : Settings → Settings) → settings_of (own_place_changed b o at f) o at ≡ option_map f (settings_of b o at)
+pub settings_read : (b : Parts) (o : Owner) (at : Place) (f : Settings → Settings)
+    → settings_of (own_place_changed b o at f) o at ≡ option_map f (settings_of b o at)
 settings_read b (Preset p) at f = place_read b.presets p (zone_place at) f
 settings_read b (Instrument i) at f = place_read b.instruments i (zone_place at) f
 
-module _ (b : Parts) (o : Owner) (at : Place) (f : Settings → Settings) (s : Settings) (there : settings_of b o at ≡ Some s) where
+module _ (b : Parts) (o : Owner) (at : Place) (f : Settings → Settings) (s : Settings)
+    (there : settings_of b o at ≡ Some s) where
   pub changed_there : settings_of (own_place_changed b o at f) o at ≡ Some (f s)
   changed_there = settings_read b o at f ∙ ap (option_map f) there
 
   -- so many records became so many others
-  pub recount : with_records (level_of o) (totals_of (own_place_changed b o at f)) (records_there b o at) ≡ with_records (level_of o) (totals_of b) (records_there (own_place_changed b o at f) o at)
+  pub recount : with_records (level_of o) (totals_of (own_place_changed b o at f)) (records_there b o at)
+      ≡ with_records (level_of o) (totals_of b) (records_there (own_place_changed b o at f) o at)
   recount =
       ap (with_records (level_of o) (totals_of (own_place_changed b o at f))) (records_found b o at s there)
-      ∙ (totals_place_changed b o at f s there ∙ ap (with_records (level_of o) (totals_of b)) (sym (records_found (own_place_changed b o at f) o at (f s) changed_there)))
+      ∙
+      (totals_place_changed b o at f s there
+      ∙ ap (with_records (level_of o) (totals_of b))
+      (sym (records_found (own_place_changed b o at f) o at (f s) changed_there)))
 
 abbrev nothing_set : Settings
 nothing_set = record { gens = no_gens; mods = [] }
@@ -264,19 +352,32 @@ nothing_set = record { gens = no_gens; mods = [] }
 nothing_counts : (at : ZonePlace) → records_of_place at nothing_set ≡ no_records
 nothing_counts place.Global =
     let none = len-empty operator_cmp ℕ in
-    λ k. record { zones = ap (λ (n : ℕ). let counted : ℕ = if n + 0 == 0 then 0 else 1 in counted) none k; gens = none k; mods = 0 }
-nothing_counts (place.Zone k) = let none = len-empty operator_cmp ℕ in λ k. record { zones = 0; gens = none k; mods = 0 }
+    λ k.
+    record {
+      zones =
+          ap (λ (n : ℕ). let counted : ℕ = if n + 0 == 0 then 0 else 1 in counted) none k;
+      gens =
+          none k;
+      mods = 0;
+    }
+nothing_counts (place.Zone k) =
+    let none = len-empty operator_cmp ℕ in λ k. record { zones = 0; gens = none k; mods = 0 }
 
 within : (a b n : ℕ) → a + n ≡ b + 0 → n ≤ b
 within a b n e = omega (arith, e)
 
-pub has_records : (b : Parts) (o : Owner) (at : Place) (s : Settings) → settings_of b o at ≡ Some s → HasRecords (level_of o) (totals_of b) (records_of_place (zone_place at) s)
+pub has_records : (b : Parts) (o : Owner) (at : Place) (s : Settings) → settings_of b o at ≡ Some s
+    → HasRecords (level_of o) (totals_of b) (records_of_place (zone_place at) s)
 has_records b o at s e =
     let t : Totals = totals_of (own_place_changed b o at (λ _. nothing_set)) in
     let u : Totals = totals_of b in
     let r : Records = records_of_place (zone_place at) s in
-    let same = totals_place_changed b o at (λ _. nothing_set) s e ∙ ap (with_records (level_of o) u) (nothing_counts (zone_place at)) in
-    let level = sym (changed_at (level_of o) (plus_records r) t) ∙ (ap (totals_at (level_of o)) same ∙ changed_at (level_of o) (plus_records no_records) u) in
+    let same =
+    totals_place_changed b o at (λ _. nothing_set) s e
+    ∙ ap (with_records (level_of o) u) (nothing_counts (zone_place at)) in
+    let level =
+    sym (changed_at (level_of o) (plus_records r) t)
+    ∙ (ap (totals_at (level_of o)) same ∙ changed_at (level_of o) (plus_records no_records) u) in
     let records = ap (λ (l : LevelTotals). l.records) level in
     let had : Records = (totals_at (level_of o) t).records in
     let have : Records = (totals_at (level_of o) u).records in
@@ -296,21 +397,32 @@ pub not_some : {X : Type 0} (o : Option X) → is_some o ≡ false → o ≡ Non
 not_some None h = refl
 not_some (Some x) h = cc
 
-module _ (b : Parts) (o : Owner) (at : Place) (there : IsSome (settings_of b o at)) (t : Totals) (counts : t ≡ totals_of b) (lvl : Level) (is_level : lvl ≡ level_of o) (before : Records) (had : before ≡ records_there b o at) where
+module _ (b : Parts) (o : Owner) (at : Place) (there : IsSome (settings_of b o at)) (t : Totals)
+    (counts : t ≡ totals_of b) (lvl : Level) (is_level : lvl ≡ level_of o) (before : Records)
+    (had : before ≡ records_there b o at) where
   pub counted_there : HasRecords lvl t before
   counted_there =
       let (s, e) = found_there (settings_of b o at) there in
       subst (λ (r : Records). HasRecords lvl t r) (sym (had ∙ records_found b o at s e))
-      (subst (λ (l : Level). HasRecords l t (records_of_place (zone_place at) s)) (sym is_level) (subst (λ (u : Totals). HasRecords (level_of o) u (records_of_place (zone_place at) s)) (sym counts) (has_records b o at s e)))
+      (subst (λ (l : Level). HasRecords l t (records_of_place (zone_place at) s)) (sym is_level)
+      (subst (λ (u : Totals). HasRecords (level_of o) u (records_of_place (zone_place at) s)) (sym counts)
+      (has_records b o at s e)))
 
-  module _ (f : Settings → Settings) (new : Parts) (is : new ≡ own_place_changed b o at f) (after : Records) (has : after ≡ records_there new o at) where
+  module _ (f : Settings → Settings) (new : Parts) (is : new ≡ own_place_changed b o at f) (after : Records)
+      (has : after ≡ records_there new o at) where
     pub became : with_records lvl (totals_of new) before ≡ with_records lvl t after
     became =
         let (s, e) = found_there (settings_of b o at) there in
         (λ k. with_records (is_level k) (totals_of (is k)) (had k))
-        ∙ (recount b o at f s e ∙ sym (λ k. with_records (is_level k) (counts k) ((has ∙ ap (λ (c : Parts). records_there c o at) is) k)))
+        ∙
+        (recount b o at f s e
+        ∙ sym (λ k. with_records (is_level k) (counts k) ((has ∙ ap (λ (c : Parts). records_there c o at) is) k)))
 
-    pub kept_totals : IsSound new → (result : Totals) → ((now : Totals) → broken now ≡ None → with_records lvl now before ≡ with_records lvl t after → result ≡ now) → result ≡ totals_of new
+    pub kept_totals : IsSound new → (result : Totals)
+        →
+        ((now : Totals) → broken now ≡ None → with_records lvl now before ≡ with_records lvl t after
+        → result ≡ now)
+        → result ≡ totals_of new
     kept_totals sound result value = value (totals_of new) (no_limit_of new sound.valid.limits) became
 
 -- ---- a change that leaves no more there
@@ -318,12 +430,22 @@ module _ (b : Parts) (o : Owner) (at : Place) (there : IsSome (settings_of b o a
 fewer_count : (n m k l : ℕ) → k ≤ n → l ≤ m → (if k + l == 0 then 0 else 1) ≤ (if n + m == 0 then 0 else 1)
 fewer_count n m k l h j = grind (arith, nat_tests)
 
-no_more_there : (at : ZonePlace) (s u : Settings) → len u.gens ≤ len s.gens → length u.mods ≤ length s.mods → AreNoMore (records_of_place at u) (records_of_place at s)
-no_more_there place.Global s u gens mods = record { zones = fewer_count (len s.gens) (length s.mods) (len u.gens) (length u.mods) gens mods; gens = gens; mods = mods }
+no_more_there : (at : ZonePlace) (s u : Settings) → len u.gens ≤ len s.gens → length u.mods ≤ length s.mods
+    → AreNoMore (records_of_place at u) (records_of_place at s)
+no_more_there place.Global s u gens mods =
+    record {
+      zones =
+          fewer_count (len s.gens) (length s.mods) (len u.gens) (length u.mods) gens mods;
+      gens = gens;
+      mods = mods;
+    }
 no_more_there (place.Zone k) s u gens mods = record { zones = omega arith; gens = gens; mods = mods }
 
-pub within_no_more : (b : Parts) (o : Owner) (at : Place) (f : Settings → Settings) (s : Settings) → settings_of b o at ≡ Some s → IsSound b
+pub within_no_more : (b : Parts) (o : Owner) (at : Place) (f : Settings → Settings) (s : Settings)
+    → settings_of b o at ≡ Some s → IsSound b
     → len (f s).gens ≤ len s.gens → length (f s).mods ≤ length s.mods → broken_limit (own_place_changed b o at f) ≡ None
 within_no_more b o at f s e sound gens mods =
-    no_more_within (level_of o) (totals_of b) (totals_of (own_place_changed b o at f)) (records_of_place (zone_place at) s) (records_of_place (zone_place at) (f s))
-    (totals_place_changed b o at f s e) (no_more_there (zone_place at) s (f s) gens mods) (no_limit_of b sound.valid.limits)
+    no_more_within (level_of o) (totals_of b) (totals_of (own_place_changed b o at f))
+    (records_of_place (zone_place at) s) (records_of_place (zone_place at) (f s))
+    (totals_place_changed b o at f s e) (no_more_there (zone_place at) s (f s) gens mods)
+    (no_limit_of b sound.valid.limits)

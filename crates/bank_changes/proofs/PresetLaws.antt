@@ -1,10 +1,12 @@
 -- The raw changes of presets: each keeps a bank sound, and is taken back.
-use Rattle.std.proofs.Common.{◌≡◌, ◌<◌, ◌≤◌, ◌^◌, ℕ, List, length, insert, remove, slice_get, slice_set, Some, None, refl, sym, ◌∙◌, ap}
+use Rattle.std.proofs.Common.{◌≡◌, ◌<◌, ◌≤◌, ◌^◌, ℕ, List, length, insert, remove, slice_get, slice_set, Some, None}
+use Rattle.std.proofs.Common.{refl, sym, ◌∙◌, ap}
 use Rattle.std.specs.List.{AllByRecursion}
 use Rattle.std.specs.Option.{option_map}
 use Rattle.sf_base.specs.Names.{IsName}
 use Rattle.numbered_lists.specs.Moved.{changed}
-use Rattle.numbered_lists.proofs.Lists.{slice_get-found, length-changed, changed-found, changed-back, slice_get-changed, length-moved, moved-back, insert-remove, remove-insert}
+use Rattle.numbered_lists.proofs.Lists.{slice_get-found, length-changed, changed-found, changed-back}
+use Rattle.numbered_lists.proofs.Lists.{slice_get-changed, length-moved, moved-back, insert-remove, remove-insert}
 use Rattle.generators.specs.declared.level.Level.TheVariants as level
 use Rattle.bank_parts.specs.declared.parts.Head.{Head}
 use Rattle.bank_parts.specs.declared.parts.WithZones.{WithZones}
@@ -28,26 +30,42 @@ use Rattle.bank_changes.proofs.TotalsLaws.{level_inserted, level_removed, level_
 abbrev with_presets : Parts → List (WithZones Head) → Parts
 with_presets b presets = record b { presets = presets }
 
-presets_sound : (b : Parts) → IsSound b → (presets : List (WithZones Head)) → AllByRecursion (IsPreset (length b.instruments)) presets → AllByRecursion (FitsOwner FitsHead) presets
+presets_sound : (b : Parts) → IsSound b → (presets : List (WithZones Head))
+    → AllByRecursion (IsPreset (length b.instruments)) presets → AllByRecursion (FitsOwner FitsHead) presets
     → broken_limit (with_presets b presets) ≡ None → IsSound (with_presets b presets)
 presets_sound b sound presets are fit e =
     let v = sound.valid in
     let f = sound.fits in
     record {
-      valid = record { texts = v.texts; presets = are; instruments = v.instruments; samples = v.samples; limits = limits_of (with_presets b presets) e };
-      fits = record { minor = f.minor; texts = f.texts; presets = fit; instruments = f.instruments; samples = f.samples };
+      valid =
+          record {
+            texts =
+                v.texts;
+            presets =
+                are;
+            instruments =
+                v.instruments;
+            samples = v.samples;
+            limits = limits_of (with_presets b presets) e;
+          };
+      fits =
+          record
+          { minor = f.minor; texts = f.texts; presets = fit; instruments = f.instruments; samples = f.samples };
     }
 
 -- ---- adding
 
 module _ (b : Parts) (i : ℕ) (p : WithZones Head) where
-  pub totals-added_preset : i ≤ length b.presets → totals_of (preset_added b i p) ≡ with_owner level.Preset (totals_of b) (records_of_owner p)
+  pub totals-added_preset : i ≤ length b.presets
+      → totals_of (preset_added b i p) ≡ with_owner level.Preset (totals_of b) (records_of_owner p)
   unfolding totals_of
   totals-added_preset le = λ k. record (totals_of b) { presets = level_inserted b.presets i p le k }
 
-  pub sound_added_preset : IsSound b → IsPreset (length b.instruments) p → FitsOwner FitsHead p → broken_limit (preset_added b i p) ≡ None → IsSound (preset_added b i p)
+  pub sound_added_preset : IsSound b → IsPreset (length b.instruments) p → FitsOwner FitsHead p
+      → broken_limit (preset_added b i p) ≡ None → IsSound (preset_added b i p)
   sound_added_preset sound is fits e = presets_sound b sound (insert b.presets i p)
-      (all_insert (IsPreset (length b.instruments)) b.presets i p is sound.valid.presets) (all_insert (FitsOwner FitsHead) b.presets i p fits sound.fits.presets) e
+      (all_insert (IsPreset (length b.instruments)) b.presets i p is sound.valid.presets)
+      (all_insert (FitsOwner FitsHead) b.presets i p fits sound.fits.presets) e
 
   pub restored_added_preset : i ≤ length b.presets → preset_removed (preset_added b i p) i ≡ b
   restored_added_preset le = ap (with_presets b) (remove-insert b.presets i p le)
@@ -55,7 +73,8 @@ module _ (b : Parts) (i : ℕ) (p : WithZones Head) where
 -- ---- removing
 
 module _ (b : Parts) (i : ℕ) (p : WithZones Head) (e : slice_get b.presets i ≡ Some p) where
-  pub totals-removed_preset : with_owner level.Preset (totals_of (preset_removed b i)) (records_of_owner p) ≡ totals_of b
+  pub totals-removed_preset : with_owner level.Preset (totals_of (preset_removed b i)) (records_of_owner p)
+      ≡ totals_of b
   unfolding totals_of
   totals-removed_preset = λ k. record (totals_of b) { presets = level_removed b.presets i p e k }
 
@@ -65,8 +84,11 @@ module _ (b : Parts) (i : ℕ) (p : WithZones Head) (e : slice_get b.presets i �
 pub sound_removed_preset : (b : Parts) (i : ℕ) → IsSound b → i < length b.presets → IsSound (preset_removed b i)
 sound_removed_preset b i sound lt =
     let (p, e) = slice_get-found b.presets i lt in
-    presets_sound b sound (remove b.presets i) (all_remove (IsPreset (length b.instruments)) b.presets i sound.valid.presets) (all_remove (FitsOwner FitsHead) b.presets i sound.fits.presets)
-    ((owners_grow level.Preset).within (totals_of (preset_removed b i)) (records_of_owner p) (ap broken (totals-removed_preset b i p e) ∙ no_limit_of b sound.valid.limits))
+    presets_sound b sound (remove b.presets i)
+    (all_remove (IsPreset (length b.instruments)) b.presets i sound.valid.presets)
+    (all_remove (FitsOwner FitsHead) b.presets i sound.fits.presets)
+    ((owners_grow level.Preset).within (totals_of (preset_removed b i)) (records_of_owner p)
+    (ap broken (totals-removed_preset b i p e) ∙ no_limit_of b sound.valid.limits))
 
 -- ---- moving
 
@@ -80,7 +102,8 @@ module _ (b : Parts) (i j : ℕ) (lt : i < length b.presets) (lu : j < length b.
 
   pub preset_moved_sound : IsSound b → IsSound (preset_moved b i j)
   preset_moved_sound sound = presets_sound b sound (preset_moved b i j).presets
-      (all_moved (IsPreset (length b.instruments)) b.presets i j lt sound.valid.presets) (all_moved (FitsOwner FitsHead) b.presets i j lt sound.fits.presets)
+      (all_moved (IsPreset (length b.instruments)) b.presets i j lt sound.valid.presets)
+      (all_moved (FitsOwner FitsHead) b.presets i j lt sound.fits.presets)
       (ap broken totals-preset_moved ∙ no_limit_of b sound.valid.limits)
 
   pub restored_preset_moved : preset_moved (preset_moved b i j) j i ≡ b
@@ -97,27 +120,44 @@ module _ (b : Parts) (i : ℕ) (name : List ℕ) (number bank : ℕ) where
 
   pub totals-head_set : totals_of (head_set b i name number bank) ≡ totals_of b
   unfolding totals_of
-  totals-head_set = λ k. record (totals_of b) { presets = level_headed b.presets i (λ (x : WithZones Head). head_called name number bank x.head) k }
+  totals-head_set =
+      λ k.
+      record (totals_of b)
+      { presets = level_headed b.presets i (λ (x : WithZones Head). head_called name number bank x.head) k }
 
-  fits_called : IsName name → number < 2 ^ 16 → bank < 2 ^ 16 → (h : Head) → FitsHead h → FitsHead (head_called name number bank h)
-  fits_called named n m h f = record { name = named; number = n; bank = m; library = f.library; genre = f.genre; morphology = f.morphology }
+  fits_called : IsName name → number < 2 ^ 16 → bank < 2 ^ 16 → (h : Head) → FitsHead h
+      → FitsHead (head_called name number bank h)
+  fits_called named n m h f =
+      record { name = named; number = n; bank = m; library = f.library; genre = f.genre; morphology = f.morphology }
 
-  pub head_set_sound : IsSound b → IsName name → number < 2 ^ 16 → bank < 2 ^ 16 → IsSound (head_set b i name number bank)
+  pub head_set_sound : IsSound b → IsName name → number < 2 ^ 16 → bank < 2 ^ 16
+      → IsSound (head_set b i name number bank)
   head_set_sound sound named n m = presets_sound b sound (head_set b i name number bank).presets
-      (all_changed called (IsPreset (length b.instruments)) (λ x is. record { name = named; zones = is.zones }) b.presets i sound.valid.presets)
-      (all_changed called (FitsOwner FitsHead) (λ x fits. record { head = fits_called named n m x.head fits.head; global = fits.global; zones = fits.zones }) b.presets i sound.fits.presets)
+      (all_changed called (IsPreset (length b.instruments)) (λ x is. record { name = named; zones = is.zones })
+      b.presets i sound.valid.presets)
+      (all_changed called (FitsOwner FitsHead)
+      (λ x fits.
+      record { head = fits_called named n m x.head fits.head; global = fits.global; zones = fits.zones })
+      b.presets i sound.fits.presets)
       (ap broken totals-head_set ∙ no_limit_of b sound.valid.limits)
 
   -- the head that it had is put back
-  pub restored_head_set : (x : WithZones Head) → slice_get b.presets i ≡ Some x → head_set (head_set b i name number bank) i x.head.name x.head.number x.head.bank ≡ b
+  pub restored_head_set : (x : WithZones Head) → slice_get b.presets i ≡ Some x
+      → head_set (head_set b i name number bank) i x.head.name x.head.number x.head.bank ≡ b
   restored_head_set x e =
-      ap (with_presets b) (changed-back b.presets i called (λ (y : WithZones Head). with_head (head_called x.head.name x.head.number x.head.bank y.head) y) x e refl)
+      ap (with_presets b)
+      (changed-back b.presets i called
+      (λ (y : WithZones Head). with_head (head_called x.head.name x.head.number x.head.bank y.head) y) x e
+      refl)
 
-  pub read_head_set : (x : WithZones Head) → slice_get b.presets i ≡ Some x → head_of (head_set b i name number bank) i ≡ Some (head_called name number bank x.head)
+  pub read_head_set : (x : WithZones Head) → slice_get b.presets i ≡ Some x
+      → head_of (head_set b i name number bank) i ≡ Some (head_called name number bank x.head)
   read_head_set x e = ap (option_map (λ (y : WithZones Head). y.head)) (slice_get-changed b.presets i called x e)
 
   -- a head that is made of the one that is there
-  pub head_replaced : (old : Head) → head_at b.presets i ≡ Some old → with_presets b (changed b.presets i (with_head (head_called name number bank old))) ≡ head_set b i name number bank
+  pub head_replaced : (old : Head) → head_at b.presets i ≡ Some old
+      → with_presets b (changed b.presets i (with_head (head_called name number bank old)))
+      ≡ head_set b i name number bank
   head_replaced old e =
       let h = source (λ (x : WithZones Head). x.head) (slice_get b.presets i) old e in
       ap (with_presets b)

@@ -3,7 +3,8 @@ use Rattle.std.proofs.Common.{◌≡◌, ◌<◌, ℕ, true, List, length, refl,
 use Rattle.sf_base.specs.Names.{IsText, IsTextByte}
 use Rattle.bank_parts.specs.declared.texts.Texts.{Texts}
 use Rattle.bank_parts.specs.declared.texts.InfoId.{InfoId}
-use Rattle.bank_parts.specs.declared.texts.InfoId.TheVariants.{Engine, Name, Date, Engineers, Product, Copyright, Comment, Software}
+use Rattle.bank_parts.specs.declared.texts.InfoId.TheVariants.{Engine, Name, Date, Engineers, Product, Copyright}
+use Rattle.bank_parts.specs.declared.texts.InfoId.TheVariants.{Comment, Software}
 use Rattle.bank_parts.specs.declared.parts.Parts.{Parts}
 use Rattle.bank_parts.specs.Texts.{text_of, most_bytes, is_engine}
 use Rattle.bank_changes.specs.Texts.{text_set, info_set}
@@ -30,15 +31,152 @@ info_of texts Copyright v = record { fits = v.copyright; there = λ e. absurd cc
 info_of texts Comment v = record { fits = v.comment; there = λ e. absurd cc }
 info_of texts Software v = record { fits = v.software; there = λ e. absurd cc }
 
-texts_set : (texts : Texts) (id : InfoId) (text : List ℕ) → IsInfo id text → AreTexts texts → AreTexts (text_set texts id text)
-texts_set texts Engine text h v = record { engine = h.fits; engine_there = h.there refl; name = v.name; date = v.date; engineers = v.engineers; product = v.product; copyright = v.copyright; comment = v.comment; software = v.software }
-texts_set texts Name text h v = record { engine = v.engine; engine_there = v.engine_there; name = h.fits; date = v.date; engineers = v.engineers; product = v.product; copyright = v.copyright; comment = v.comment; software = v.software }
-texts_set texts Date text h v = record { engine = v.engine; engine_there = v.engine_there; name = v.name; date = h.fits; engineers = v.engineers; product = v.product; copyright = v.copyright; comment = v.comment; software = v.software }
-texts_set texts Engineers text h v = record { engine = v.engine; engine_there = v.engine_there; name = v.name; date = v.date; engineers = h.fits; product = v.product; copyright = v.copyright; comment = v.comment; software = v.software }
-texts_set texts Product text h v = record { engine = v.engine; engine_there = v.engine_there; name = v.name; date = v.date; engineers = v.engineers; product = h.fits; copyright = v.copyright; comment = v.comment; software = v.software }
-texts_set texts Copyright text h v = record { engine = v.engine; engine_there = v.engine_there; name = v.name; date = v.date; engineers = v.engineers; product = v.product; copyright = h.fits; comment = v.comment; software = v.software }
-texts_set texts Comment text h v = record { engine = v.engine; engine_there = v.engine_there; name = v.name; date = v.date; engineers = v.engineers; product = v.product; copyright = v.copyright; comment = h.fits; software = v.software }
-texts_set texts Software text h v = record { engine = v.engine; engine_there = v.engine_there; name = v.name; date = v.date; engineers = v.engineers; product = v.product; copyright = v.copyright; comment = v.comment; software = h.fits }
+texts_set : (texts : Texts) (id : InfoId) (text : List ℕ) → IsInfo id text → AreTexts texts
+    → AreTexts (text_set texts id text)
+texts_set texts Engine text h v =
+    record {
+      engine =
+          h.fits;
+      engine_there =
+          h.there refl;
+      name =
+          v.name;
+      date =
+          v.date;
+      engineers =
+          v.engineers;
+      product =
+          v.product;
+      copyright = v.copyright;
+      comment = v.comment;
+      software = v.software;
+    }
+texts_set texts Name text h v =
+    record {
+      engine =
+          v.engine;
+      engine_there =
+          v.engine_there;
+      name =
+          h.fits;
+      date =
+          v.date;
+      engineers =
+          v.engineers;
+      product =
+          v.product;
+      copyright = v.copyright;
+      comment = v.comment;
+      software = v.software;
+    }
+texts_set texts Date text h v =
+    record {
+      engine =
+          v.engine;
+      engine_there =
+          v.engine_there;
+      name =
+          v.name;
+      date =
+          h.fits;
+      engineers =
+          v.engineers;
+      product =
+          v.product;
+      copyright = v.copyright;
+      comment = v.comment;
+      software = v.software;
+    }
+texts_set texts Engineers text h v =
+    record {
+      engine =
+          v.engine;
+      engine_there =
+          v.engine_there;
+      name =
+          v.name;
+      date =
+          v.date;
+      engineers =
+          h.fits;
+      product =
+          v.product;
+      copyright = v.copyright;
+      comment = v.comment;
+      software = v.software;
+    }
+texts_set texts Product text h v =
+    record {
+      engine =
+          v.engine;
+      engine_there =
+          v.engine_there;
+      name =
+          v.name;
+      date =
+          v.date;
+      engineers =
+          v.engineers;
+      product =
+          h.fits;
+      copyright = v.copyright;
+      comment = v.comment;
+      software = v.software;
+    }
+texts_set texts Copyright text h v =
+    record {
+      engine =
+          v.engine;
+      engine_there =
+          v.engine_there;
+      name =
+          v.name;
+      date =
+          v.date;
+      engineers =
+          v.engineers;
+      product =
+          v.product;
+      copyright = h.fits;
+      comment = v.comment;
+      software = v.software;
+    }
+texts_set texts Comment text h v =
+    record {
+      engine =
+          v.engine;
+      engine_there =
+          v.engine_there;
+      name =
+          v.name;
+      date =
+          v.date;
+      engineers =
+          v.engineers;
+      product =
+          v.product;
+      copyright = v.copyright;
+      comment = h.fits;
+      software = v.software;
+    }
+texts_set texts Software text h v =
+    record {
+      engine =
+          v.engine;
+      engine_there =
+          v.engine_there;
+      name =
+          v.name;
+      date =
+          v.date;
+      engineers =
+          v.engineers;
+      product =
+          v.product;
+      copyright = v.copyright;
+      comment = v.comment;
+      software = h.fits;
+    }
 
 -- ---- in the ranges of the fields
 
@@ -76,7 +214,17 @@ info_sound b id text s h =
     let v = info_valid b id text s.valid h in
     record {
       valid = v;
-      fits = record { minor = f.minor; texts = texts_fit (text_set b.texts id text) v.texts; presets = f.presets; instruments = f.instruments; samples = f.samples };
+      fits =
+          record {
+            minor =
+                f.minor;
+            texts =
+                texts_fit (text_set b.texts id text) v.texts;
+            presets =
+                f.presets;
+            instruments = f.instruments;
+            samples = f.samples;
+          };
     }
 
 -- ---- there and back (each id is looked at alone)
@@ -85,6 +233,7 @@ pub text_of-set : (texts : Texts) (id : InfoId) (text : List ℕ) → text_of (t
 text_of-set texts Engine text = refl
 text_of-set texts id text = refl
 
-pub text_set-back : (texts : Texts) (id : InfoId) (text : List ℕ) → text_set (text_set texts id text) id (text_of texts id) ≡ texts
+pub text_set-back : (texts : Texts) (id : InfoId) (text : List ℕ)
+    → text_set (text_set texts id text) id (text_of texts id) ≡ texts
 text_set-back texts Engine text = refl
 text_set-back texts id text = refl

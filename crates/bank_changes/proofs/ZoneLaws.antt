@@ -1,5 +1,6 @@
 -- The zones of an owner put in the place of those that it had: the bank stays sound, and the totals follow.
-use Rattle.std.proofs.Common.{◌≡◌, ◌+◌, ℕ, List, [], ◌∷◌, length, slice_get, Some, None, refl, sym, ap, subst, ◌∙◌, arith}
+use Rattle.std.proofs.Common.{◌≡◌, ◌+◌, ℕ, List, [], ◌∷◌, length, slice_get, Some, None, refl, sym, ap, subst, ◌∙◌}
+use Rattle.std.proofs.Common.{arith}
 use Rattle.std.specs.Prelude.{sum_by, slice_set}
 use Rattle.std.specs.List.{AllByRecursion}
 use Rattle.std.specs.FinMap.{len}
@@ -17,7 +18,8 @@ use Rattle.bank_parts.specs.declared.parts.WithZones.{WithZones}
 use Rattle.bank_parts.specs.declared.parts.Parts.{Parts}
 use Rattle.bank_parts.specs.Counts.{records_of_zone, records_total, records_sum}
 use Rattle.bank_parts.specs.Settings.{zones_at, with_zones, zones_changed}
-use Rattle.bank_parts.specs.Valid.{IsZone, IsOwner, IsPreset, IsInstrument, owner_total, global_count, zone_count, gen_count, mod_count}
+use Rattle.bank_parts.specs.Valid.{IsZone, IsOwner, IsPreset, IsInstrument, owner_total, global_count, zone_count}
+use Rattle.bank_parts.specs.Valid.{gen_count, mod_count}
 use Rattle.bank_parts.specs.Fits.{FitsZone, FitsHead, FitsOwner}
 use Rattle.bank_parts.specs.Sound.{IsSound}
 use Rattle.bank_validity.specs.Limits.{totals_of, level_totals, totals_at, plus_records, broken_limit}
@@ -35,32 +37,40 @@ use Rattle.bank_changes.proofs.TotalsLaws.{records_grow}
 
 -- ---- a list of members of which one has other zones
 
-module _ {H : Type 0} (owners : List (WithZones H)) (i : ℕ) (zones : List Zone) (e : zones_at owners i ≡ Some zones) where
-  -- two changes that agree on what is there
-  changed_alike : (f g : List Zone → List Zone) → f zones ≡ g zones → zones_changed owners i f ≡ zones_changed owners i g
-  changed_alike f g same =
-      let h = source (λ (x : WithZones H). x.zones) (slice_get owners i) zones e in
-      let x : WithZones H = h.member in
-      changed-found owners i (λ (x : WithZones H). with_zones (f x.zones) x) x h.there
-      ∙ (ap (λ (zs : List Zone). slice_set owners i (with_zones zs x)) (ap f h.seen ∙ (same ∙ sym (ap g h.seen)))
-      ∙ sym (changed-found owners i (λ (x : WithZones H). with_zones (g x.zones) x) x h.there))
+module _ {H : Type 0} (owners : List (WithZones H)) (i : ℕ) (zones : List Zone) (e : zones_at owners i ≡ Some zones)
+  where
+    -- two changes that agree on what is there
+    changed_alike : (f g : List Zone → List Zone) → f zones ≡ g zones
+        → zones_changed owners i f ≡ zones_changed owners i g
+    changed_alike f g same =
+        let h = source (λ (x : WithZones H). x.zones) (slice_get owners i) zones e in
+        let x : WithZones H = h.member in
+        changed-found owners i (λ (x : WithZones H). with_zones (f x.zones) x) x h.there
+        ∙ (ap (λ (zs : List Zone). slice_set owners i (with_zones zs x)) (ap f h.seen ∙ (same ∙ sym (ap g h.seen)))
+        ∙ sym (changed-found owners i (λ (x : WithZones H). with_zones (g x.zones) x) x h.there))
 
-  -- what holds of the zones of each member
-  found_zones : (P : List Zone → Type 0) → AllByRecursion (λ (x : WithZones H). P x.zones) owners → P zones
-  found_zones P all =
-      let h = source (λ (x : WithZones H). x.zones) (slice_get owners i) zones e in
-      subst P h.seen (all_found (λ (x : WithZones H). P x.zones) owners i h.member h.there all)
+    -- what holds of the zones of each member
+    found_zones : (P : List Zone → Type 0) → AllByRecursion (λ (x : WithZones H). P x.zones) owners → P zones
+    found_zones P all =
+        let h = source (λ (x : WithZones H). x.zones) (slice_get owners i) zones e in
+        subst P h.seen (all_found (λ (x : WithZones H). P x.zones) owners i h.member h.there all)
 
 -- a count of the global zone and of the others: it changes by that of the others
-total_put : {H : Type 0} (shared : GlobalZone → ℕ) (own : List Zone → ℕ) (owners : List (WithZones H)) (i : ℕ) (zones put : List Zone) → zones_at owners i ≡ Some zones
-    → owner_total (λ g zs. shared g + own zs) (zones_changed owners i (λ _. put)) + own zones ≡ owner_total (λ g zs. shared g + own zs) owners + own put
+total_put : {H : Type 0} (shared : GlobalZone → ℕ) (own : List Zone → ℕ) (owners : List (WithZones H)) (i : ℕ)
+    (zones put : List Zone)
+    → zones_at owners i ≡ Some zones
+    → owner_total (λ g zs. shared g + own zs) (zones_changed owners i (λ _. put)) + own zones
+    ≡ owner_total (λ g zs. shared g + own zs) owners + own put
 total_put {H} shared own owners i zones put e =
     let h = source (λ (x : WithZones H). x.zones) (slice_get owners i) zones e in
     let x : WithZones H = h.member in
     let y : WithZones H = with_zones put x in
     let count : WithZones H → ℕ = λ (x : WithZones H). shared x.global + own x.zones in
-    let is : sum_by count (zones_changed owners i (λ _. put)) ≡ sum_by count (slice_set owners i y) = ap (sum_by count) (changed-found owners i (with_zones put) x h.there) in
-    let sum : sum_by count (slice_set owners i y) + (shared x.global + own x.zones) ≡ sum_by count owners + (shared x.global + own put) = sum-exchanged count owners i x y h.there in
+    let is : sum_by count (zones_changed owners i (λ _. put)) ≡ sum_by count (slice_set owners i y) =
+    ap (sum_by count) (changed-found owners i (with_zones put) x h.there) in
+    let sum : sum_by count (slice_set owners i y) + (shared x.global + own x.zones)
+    ≡ sum_by count owners + (shared x.global + own put) =
+    sum-exchanged count owners i x y h.there in
     let same : own x.zones ≡ own zones = ap own h.seen in
     omega (arith, is, sum, same)
 
@@ -70,25 +80,36 @@ total_put {H} shared own owners i zones put e =
 abbrev pub zones_put : Parts → Owner → List Zone → Parts
 zones_put b o zones = own_zones_changed b o (λ _. zones)
 
-pub zones_put_is : (b : Parts) (o : Owner) (f : List Zone → List Zone) (zones : List Zone) → zones_of b o ≡ Some zones → own_zones_changed b o f ≡ zones_put b o (f zones)
+pub zones_put_is : (b : Parts) (o : Owner) (f : List Zone → List Zone) (zones : List Zone)
+    → zones_of b o ≡ Some zones → own_zones_changed b o f ≡ zones_put b o (f zones)
 zones_put_is b (owner.Preset p) f zones e =
-    ap (λ (presets : List (WithZones Head)). let r : Parts = record b { presets = presets } in r) (changed_alike b.presets p zones e f (λ _. f zones) refl)
+    ap (λ (presets : List (WithZones Head)). let r : Parts = record b { presets = presets } in r)
+    (changed_alike b.presets p zones e f (λ _. f zones) refl)
 zones_put_is b (owner.Instrument i) f zones e =
-    ap (λ (instruments : List (WithZones (List ℕ))). let r : Parts = record b { instruments = instruments } in r) (changed_alike b.instruments i zones e f (λ _. f zones) refl)
+    ap (λ (instruments : List (WithZones (List ℕ))). let r : Parts = record b { instruments = instruments } in r)
+    (changed_alike b.instruments i zones e f (λ _. f zones) refl)
 
 -- ---- soundness
 
-pub valid_with_zones : {H : Type 0} (name_of : H → List ℕ) (at : Level) (targets : ℕ) (owners : List (WithZones H)) (i : ℕ) (zones : List Zone) → AllByRecursion (IsZone at targets) zones
-    → AllByRecursion (IsOwner name_of at targets) owners → AllByRecursion (IsOwner name_of at targets) (zones_changed owners i (λ _. zones))
+pub valid_with_zones : {H : Type 0} (name_of : H → List ℕ) (at : Level) (targets : ℕ) (owners : List (WithZones H))
+    (i : ℕ) (zones : List Zone)
+    → AllByRecursion (IsZone at targets) zones
+    → AllByRecursion (IsOwner name_of at targets) owners
+    → AllByRecursion (IsOwner name_of at targets) (zones_changed owners i (λ _. zones))
 valid_with_zones {H} name_of at targets owners i zones are all =
-    all_changed (with_zones zones) (IsOwner name_of at targets) (λ (x : WithZones H) v. record { name = v.name; zones = record { global = v.zones.global; zones = are } }) owners i all
+    all_changed (with_zones zones) (IsOwner name_of at targets)
+    (λ (x : WithZones H) v. record { name = v.name; zones = record { global = v.zones.global; zones = are } })
+    owners i all
 
-pub fit_with_zones : {H : Type 0} (IsFit : H → Type 0) (owners : List (WithZones H)) (i : ℕ) (zones : List Zone) → AllByRecursion FitsZone zones
+pub fit_with_zones : {H : Type 0} (IsFit : H → Type 0) (owners : List (WithZones H)) (i : ℕ) (zones : List Zone)
+    → AllByRecursion FitsZone zones
     → AllByRecursion (FitsOwner IsFit) owners → AllByRecursion (FitsOwner IsFit) (zones_changed owners i (λ _. zones))
 fit_with_zones {H} IsFit owners i zones fit all =
-    all_changed (with_zones zones) (FitsOwner IsFit) (λ (x : WithZones H) v. record { head = v.head; global = v.global; zones = fit }) owners i all
+    all_changed (with_zones zones) (FitsOwner IsFit)
+    (λ (x : WithZones H) v. record { head = v.head; global = v.global; zones = fit }) owners i all
 
-pub sound_zones_put : (b : Parts) (o : Owner) (zones : List Zone) → IsSound b → AllByRecursion (IsZone (level_of o) (target_count b o)) zones → AllByRecursion FitsZone zones
+pub sound_zones_put : (b : Parts) (o : Owner) (zones : List Zone) → IsSound b
+    → AllByRecursion (IsZone (level_of o) (target_count b o)) zones → AllByRecursion FitsZone zones
     → broken_limit (zones_put b o zones) ≡ None → IsSound (zones_put b o zones)
 sound_zones_put b (owner.Preset p) zones sound are fit e =
     let v = sound.valid in
@@ -96,12 +117,25 @@ sound_zones_put b (owner.Preset p) zones sound are fit e =
     record {
       valid = record {
         texts = v.texts;
-        presets = valid_with_zones (λ (h : Head). h.name) level.Preset (length b.instruments) b.presets p zones are v.presets;
+        presets =
+            valid_with_zones (λ (h : Head). h.name) level.Preset (length b.instruments) b.presets p zones are
+            v.presets;
         instruments = v.instruments;
         samples = v.samples;
         limits = limits_of (zones_put b (owner.Preset p) zones) e;
       };
-      fits = record { minor = f.minor; texts = f.texts; presets = fit_with_zones FitsHead b.presets p zones fit f.presets; instruments = f.instruments; samples = f.samples };
+      fits =
+          record {
+            minor =
+                f.minor;
+            texts =
+                f.texts;
+            presets =
+                fit_with_zones FitsHead b.presets p zones fit f.presets;
+            instruments =
+                f.instruments;
+            samples = f.samples;
+          };
     }
 sound_zones_put b (owner.Instrument i) zones sound are fit e =
     let v = sound.valid in
@@ -111,27 +145,50 @@ sound_zones_put b (owner.Instrument i) zones sound are fit e =
       valid = record {
         texts = v.texts;
         presets = subst (λ n. AllByRecursion (IsPreset n) b.presets) (sym count) v.presets;
-        instruments = valid_with_zones (λ (name : List ℕ). name) level.Instrument (length b.samples) b.instruments i zones are v.instruments;
+        instruments =
+            valid_with_zones (λ (name : List ℕ). name) level.Instrument (length b.samples) b.instruments i zones are
+            v.instruments;
         samples = v.samples;
         limits = limits_of (zones_put b (owner.Instrument i) zones) e;
       };
-      fits = record { minor = f.minor; texts = f.texts; presets = f.presets; instruments = fit_with_zones IsName b.instruments i zones fit f.instruments; samples = f.samples };
+      fits =
+          record {
+            minor =
+                f.minor;
+            texts =
+                f.texts;
+            presets =
+                f.presets;
+            instruments =
+                fit_with_zones IsName b.instruments i zones fit f.instruments;
+            samples = f.samples;
+          };
     }
 
 -- the zones of a sound bank
-pub zones_valid : (b : Parts) (o : Owner) (zones : List Zone) → IsSound b → zones_of b o ≡ Some zones → AllByRecursion (IsZone (level_of o) (target_count b o)) zones
+pub zones_valid : (b : Parts) (o : Owner) (zones : List Zone) → IsSound b → zones_of b o ≡ Some zones
+    → AllByRecursion (IsZone (level_of o) (target_count b o)) zones
 zones_valid b (owner.Preset p) zones sound e =
     found_zones b.presets p zones e (AllByRecursion (IsZone level.Preset (length b.instruments)))
-    (all_weaker (IsPreset (length b.instruments)) (λ (x : WithZones Head). AllByRecursion (IsZone level.Preset (length b.instruments)) x.zones) (λ x v. v.zones.zones) b.presets sound.valid.presets)
+    (all_weaker (IsPreset (length b.instruments))
+    (λ (x : WithZones Head). AllByRecursion (IsZone level.Preset (length b.instruments)) x.zones)
+    (λ x v. v.zones.zones) b.presets sound.valid.presets)
 zones_valid b (owner.Instrument i) zones sound e =
     found_zones b.instruments i zones e (AllByRecursion (IsZone level.Instrument (length b.samples)))
-    (all_weaker (IsInstrument (length b.samples)) (λ (x : WithZones (List ℕ)). AllByRecursion (IsZone level.Instrument (length b.samples)) x.zones) (λ x v. v.zones.zones) b.instruments sound.valid.instruments)
+    (all_weaker (IsInstrument (length b.samples))
+    (λ (x : WithZones (List ℕ)). AllByRecursion (IsZone level.Instrument (length b.samples)) x.zones)
+    (λ x v. v.zones.zones) b.instruments sound.valid.instruments)
 
-pub zones_fit : (b : Parts) (o : Owner) (zones : List Zone) → IsSound b → zones_of b o ≡ Some zones → AllByRecursion FitsZone zones
+pub zones_fit : (b : Parts) (o : Owner) (zones : List Zone) → IsSound b → zones_of b o ≡ Some zones
+    → AllByRecursion FitsZone zones
 zones_fit b (owner.Preset p) zones sound e =
-    found_zones b.presets p zones e (AllByRecursion FitsZone) (all_weaker (FitsOwner FitsHead) (λ (x : WithZones Head). AllByRecursion FitsZone x.zones) (λ x v. v.zones) b.presets sound.fits.presets)
+    found_zones b.presets p zones e (AllByRecursion FitsZone)
+    (all_weaker (FitsOwner FitsHead) (λ (x : WithZones Head). AllByRecursion FitsZone x.zones) (λ x v. v.zones)
+    b.presets sound.fits.presets)
 zones_fit b (owner.Instrument i) zones sound e =
-    found_zones b.instruments i zones e (AllByRecursion FitsZone) (all_weaker (FitsOwner IsName) (λ (x : WithZones (List ℕ)). AllByRecursion FitsZone x.zones) (λ x v. v.zones) b.instruments sound.fits.instruments)
+    found_zones b.instruments i zones e (AllByRecursion FitsZone)
+    (all_weaker (FitsOwner IsName) (λ (x : WithZones (List ℕ)). AllByRecursion FitsZone x.zones) (λ x v. v.zones)
+    b.instruments sound.fits.instruments)
 
 -- ---- totals
 
@@ -146,50 +203,83 @@ ones {X} (x ∷ xs) =
     let sum = sum_by-cons (λ (_ : X). 1) x xs in
     omega (arith, rest, sum)
 
-module _ {H : Type 0} (owners : List (WithZones H)) (i : ℕ) (zones put : List Zone) (e : zones_at owners i ≡ Some zones) where
-  zones_follow : owner_total zone_count (zones_changed owners i (λ _. put)) + (records_of_zones zones).zones ≡ owner_total zone_count owners + (records_of_zones put).zones
+module _ {H : Type 0} (owners : List (WithZones H)) (i : ℕ) (zones put : List Zone)
+    (e : zones_at owners i ≡ Some zones) where
+  zones_follow : owner_total zone_count (zones_changed owners i (λ _. put)) + (records_of_zones zones).zones
+      ≡ owner_total zone_count owners + (records_of_zones put).zones
   zones_follow =
       let sum = total_put global_count (λ (zs : List Zone). length zs) owners i zones put e in
       let was = ones zones in
       let now = ones put in
       omega (arith, sum, was, now)
 
-  gens_follow : owner_total gen_count (zones_changed owners i (λ _. put)) + (records_of_zones zones).gens ≡ owner_total gen_count owners + (records_of_zones put).gens
+  gens_follow : owner_total gen_count (zones_changed owners i (λ _. put)) + (records_of_zones zones).gens
+      ≡ owner_total gen_count owners + (records_of_zones put).gens
   gens_follow = total_put (λ (g : GlobalZone). len g.gens) (sum_by (λ (z : Zone). len z.gens + 1)) owners i zones put e
 
-  mods_follow : owner_total mod_count (zones_changed owners i (λ _. put)) + (records_of_zones zones).mods ≡ owner_total mod_count owners + (records_of_zones put).mods
-  mods_follow = total_put (λ (g : GlobalZone). length g.mods) (sum_by (λ (z : Zone). length z.mods)) owners i zones put e
+  mods_follow : owner_total mod_count (zones_changed owners i (λ _. put)) + (records_of_zones zones).mods
+      ≡ owner_total mod_count owners + (records_of_zones put).mods
+  mods_follow =
+      total_put (λ (g : GlobalZone). length g.mods) (sum_by (λ (z : Zone). length z.mods)) owners i zones put e
 
-  level_follows : plus_records (records_of_zones zones) (level_totals (zones_changed owners i (λ _. put))) ≡ plus_records (records_of_zones put) (level_totals owners)
-  level_follows = λ k. record { count = length-changed owners i (with_zones put) k; records = record { zones = zones_follow k; gens = gens_follow k; mods = mods_follow k } }
+  level_follows : plus_records (records_of_zones zones) (level_totals (zones_changed owners i (λ _. put)))
+      ≡ plus_records (records_of_zones put) (level_totals owners)
+  level_follows =
+      λ k.
+      record {
+        count =
+            length-changed owners i (with_zones put) k;
+        records =
+            record { zones = zones_follow k; gens = gens_follow k; mods = mods_follow k };
+      }
 
 pub totals_zones_put : (b : Parts) (o : Owner) (zones put : List Zone) → zones_of b o ≡ Some zones
-    → with_records (level_of o) (totals_of (zones_put b o put)) (records_of_zones zones) ≡ with_records (level_of o) (totals_of b) (records_of_zones put)
+    → with_records (level_of o) (totals_of (zones_put b o put)) (records_of_zones zones)
+    ≡ with_records (level_of o) (totals_of b) (records_of_zones put)
 unfolding totals_of
-totals_zones_put b (owner.Preset p) zones put e = λ k. record (totals_of b) { presets = level_follows b.presets p zones put e k }
-totals_zones_put b (owner.Instrument i) zones put e = λ k. record (totals_of b) { instruments = level_follows b.instruments i zones put e k }
+totals_zones_put b (owner.Preset p) zones put e =
+    λ k. record (totals_of b) { presets = level_follows b.presets p zones put e k }
+totals_zones_put b (owner.Instrument i) zones put e =
+    λ k. record (totals_of b) { instruments = level_follows b.instruments i zones put e k }
 
-with_records_sum : (at : Level) (t : Totals) (r s : Records) → with_records at t (records_sum r s) ≡ with_records at (with_records at t s) r
+with_records_sum : (at : Level) (t : Totals) (r s : Records)
+    → with_records at t (records_sum r s) ≡ with_records at (with_records at t s) r
 with_records_sum at t r s =
     let l = totals_at at t in
-    changed_by at (plus_records (records_sum r s)) (λ l. plus_records r (plus_records s l)) t (λ i. record l { records = sum_twice l.records r s i })
+    changed_by at (plus_records (records_sum r s)) (λ l. plus_records r (plus_records s l)) t
+    (λ i. record l { records = sum_twice l.records r s i })
     ∙ sym (changed_twice at (plus_records s) (plus_records r) t)
   where
     plus_twice : (a r s : ℕ) → a + (r + s) ≡ a + s + r
     plus_twice a r s = omega arith
 
     sum_twice : (a r s : Records) → records_sum a (records_sum r s) ≡ records_sum (records_sum a s) r
-    sum_twice a r s = λ i. record { zones = plus_twice a.zones r.zones s.zones i; gens = plus_twice a.gens r.gens s.gens i; mods = plus_twice a.mods r.mods s.mods i }
+    sum_twice a r s =
+        λ i.
+        record {
+          zones =
+              plus_twice a.zones r.zones s.zones i;
+          gens =
+              plus_twice a.gens r.gens s.gens i;
+          mods = plus_twice a.mods r.mods s.mods i;
+        }
 
 module _ (b : Parts) (o : Owner) (zones put : List Zone) (e : zones_of b o ≡ Some zones) where
-  pub totals_zones_more : (r : Records) → records_of_zones put ≡ records_sum (records_of_zones zones) r → totals_of (zones_put b o put) ≡ with_records (level_of o) (totals_of b) r
+  pub totals_zones_more : (r : Records) → records_of_zones put ≡ records_sum (records_of_zones zones) r
+      → totals_of (zones_put b o put) ≡ with_records (level_of o) (totals_of b) r
   totals_zones_more r more =
-      (records_grow (level_of o)).same (totals_of (zones_put b o put)) (with_records (level_of o) (totals_of b) r) (records_of_zones zones)
-      (totals_zones_put b o zones put e ∙ (ap (with_records (level_of o) (totals_of b)) more ∙ with_records_sum (level_of o) (totals_of b) (records_of_zones zones) r))
+      (records_grow (level_of o)).same (totals_of (zones_put b o put)) (with_records (level_of o) (totals_of b) r)
+      (records_of_zones zones)
+      (totals_zones_put b o zones put e
+      ∙
+      (ap (with_records (level_of o) (totals_of b)) more
+      ∙ with_records_sum (level_of o) (totals_of b) (records_of_zones zones) r))
 
-  pub totals_zones_less : (r : Records) → records_of_zones zones ≡ records_sum (records_of_zones put) r → with_records (level_of o) (totals_of (zones_put b o put)) r ≡ totals_of b
+  pub totals_zones_less : (r : Records) → records_of_zones zones ≡ records_sum (records_of_zones put) r
+      → with_records (level_of o) (totals_of (zones_put b o put)) r ≡ totals_of b
   totals_zones_less r less =
-      (records_grow (level_of o)).same (with_records (level_of o) (totals_of (zones_put b o put)) r) (totals_of b) (records_of_zones put)
+      (records_grow (level_of o)).same (with_records (level_of o) (totals_of (zones_put b o put)) r) (totals_of b)
+      (records_of_zones put)
       (sym (with_records_sum (level_of o) (totals_of (zones_put b o put)) (records_of_zones put) r)
       ∙ (ap (with_records (level_of o) (totals_of (zones_put b o put))) (sym less) ∙ totals_zones_put b o zones put e))
 

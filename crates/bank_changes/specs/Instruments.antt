@@ -14,7 +14,8 @@ instrument_renamed b number name = record b { instruments = changed b.instrument
 
 -- the instrument goes in as number i, and what targets those from there on follows
 abbrev pub instrument_added : Parts → ℕ → WithZones (List ℕ) → Parts
-instrument_added b i x = let r = instruments_renumbered (Insertion i) b in record r { instruments = insert r.instruments i x }
+instrument_added b i x =
+    let r = instruments_renumbered (Insertion i) b in record r { instruments = insert r.instruments i x }
 
 -- the instrument of a number is gone
 abbrev pub instrument_removed : Parts → ℕ → Parts

@@ -24,4 +24,5 @@ head_called name number bank h = record h { name = name; number = number; bank =
 
 -- the preset of a number has the name and the numbers, and all else stays
 abbrev pub head_set : Parts → ℕ → List ℕ → ℕ → ℕ → Parts
-head_set b p name number bank = record b { presets = changed b.presets p (λ x. with_head (head_called name number bank x.head) x) }
+head_set b p name number bank =
+    record b { presets = changed b.presets p (λ x. with_head (head_called name number bank x.head) x) }

@@ -32,4 +32,5 @@ sample_moved b i j = samples_renumbered (Move i j) (record b { samples = moved b
 -- a zone targets the sample, or another sample links to it
 unfoldable pub sample_in_use : Parts → ℕ → Bool
 sample_in_use b number =
-    list_any (targets number) b.instruments || list_any (λ (s : Sample). links_to number s.kind) (remove b.samples number)
+    list_any (targets number) b.instruments
+    || list_any (λ (s : Sample). links_to number s.kind) (remove b.samples number)

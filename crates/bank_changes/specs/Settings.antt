@@ -27,7 +27,8 @@ own_place_changed b (Instrument i) at f = record b { instruments = place_changed
 -- the operator has the amount
 abbrev pub gen_set : Parts → Owner → Place → ℕ → ℕ → Parts
 gen_set b (Preset p) at op amount = record b { presets = list.gen_set b.presets p (zone_place at) op amount }
-gen_set b (Instrument i) at op amount = record b { instruments = list.gen_set b.instruments i (zone_place at) op amount }
+gen_set b (Instrument i) at op amount =
+    record b { instruments = list.gen_set b.instruments i (zone_place at) op amount }
 
 -- the operator is not set
 abbrev pub gen_cleared : Parts → Owner → Place → ℕ → Parts

@@ -12,7 +12,8 @@ with_records at t r = level_changed at (plus_records r) t
 
 -- the same, as 64 bits count them
 abbrev pub with_records_counted : Level → Totals → Records → Totals
-with_records_counted at t r = level_changed at (λ (l : LevelTotals). record l { records = all_counted (records_sum l.records r) }) t
+with_records_counted at t r =
+    level_changed at (λ (l : LevelTotals). record l { records = all_counted (records_sum l.records r) }) t
 
 -- the totals count so many records
 abbrev pub HasRecords : Level → Totals → Records → Type 0

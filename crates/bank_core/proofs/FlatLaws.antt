@@ -1,5 +1,6 @@
 -- Which presets and instruments have flat lists, and that no others have the same.
-use Rattle.std.proofs.Common.{◌≡◌, ℕ, ◌≤◌, ◌+◌, List, [], ◌∷◌, length, map, Option, Some, None, refl, sym, subst, ◌∙◌, ap, arith}
+use Rattle.std.proofs.Common.{◌≡◌, ℕ, ◌≤◌, ◌+◌, List, [], ◌∷◌, length, map, Option, Some, None, refl, sym, subst}
+use Rattle.std.proofs.Common.{◌∙◌, ap, arith}
 use Rattle.std.specs.Prelude.{MatchOption}
 use Rattle.std.proofs.lemmas.List.{length-map}
 use Rattle.std.specs.List.{AllByRecursion}
@@ -61,21 +62,43 @@ module _ {H : Type 0} where
 
   -- ---- their records and lists
 
-  heads_within : (at : Level) (owners : List (WithZones H)) → length (map (λ (x : WithZones H). x.head) owners) ≤ length (lists_of at owners).first_bags
+  heads_within : (at : Level) (owners : List (WithZones H))
+      → length (map (λ (x : WithZones H). x.head) owners) ≤ length (lists_of at owners).first_bags
   heads_within at owners = omega (arith, length-map owners (λ (x : WithZones H). x.head), first_bags_size at owners)
 
-  pub lists_by : (at : Level) (hs : List H) (ns : List ℕ) (t : Tables) (owners : List (WithZones H)) → length ns ≡ length hs + 1
-      → AreFlatOf at (head_records hs ns) t owners → AreFlat at hs (record { first_bags = ns; bags = t.bags; gens = t.gens; mods = t.mods }) owners
+  pub lists_by : (at : Level) (hs : List H) (ns : List ℕ) (t : Tables) (owners : List (WithZones H))
+      → length ns ≡ length hs + 1
+      → AreFlatOf at (head_records hs ns) t owners
+      → AreFlat at hs (record { first_bags = ns; bags = t.bags; gens = t.gens; mods = t.mods }) owners
   lists_by at hs ns t owners size are =
       let records = are.records in
-      let first_bags = sym (numbers-back hs ns) ∙ (ap numbers_of are.heads ∙ numbers-back (map (λ (x : WithZones H). x.head) owners) (lists_of at owners).first_bags) in
+      let first_bags =
+      sym (numbers-back hs ns)
+      ∙
+      (ap numbers_of are.heads
+      ∙ numbers-back (map (λ (x : WithZones H). x.head) owners) (lists_of at owners).first_bags)
+      in
       record {
-        heads = sym (heads-back hs ns (omega arith)) ∙ (ap heads_of are.heads ∙ heads-back (map (λ (x : WithZones H). x.head) owners) (lists_of at owners).first_bags (heads_within at owners));
-        flat = λ i. record { first_bags = first_bags i; bags = (records i).bags; gens = (records i).gens; mods = (records i).mods };
+        heads =
+            sym (heads-back hs ns (omega arith))
+            ∙
+            (ap heads_of are.heads
+            ∙ heads-back (map (λ (x : WithZones H). x.head) owners) (lists_of at owners).first_bags
+            (heads_within at owners));
+        flat =
+            λ i.
+            record {
+              first_bags =
+                  first_bags i;
+              bags = (records i).bags;
+              gens = (records i).gens;
+              mods = (records i).mods;
+            };
       }
 
   pub records_by : (at : Level) (hs : List H) (ns : List ℕ) (t : Tables) (owners : List (WithZones H))
-      → AreFlat at hs (record { first_bags = ns; bags = t.bags; gens = t.gens; mods = t.mods }) owners → AreFlatOf at (head_records hs ns) t owners
+      → AreFlat at hs (record { first_bags = ns; bags = t.bags; gens = t.gens; mods = t.mods }) owners
+      → AreFlatOf at (head_records hs ns) t owners
   records_by at hs ns t owners are =
       let heads = are.heads in
       let flat = are.flat in
@@ -85,16 +108,27 @@ module _ {H : Type 0} where
       }
 
   -- either side of the answer
-  pub answered : (at : Level) (given : List (HeadRecord H)) (hs : List H) (ns : List ℕ) (t : Tables) (r : Option (List (WithZones H))) → given ≡ head_records hs ns → length ns ≡ length hs + 1
-      → MatchOption r ((owners : List (WithZones H)) → AllByRecursion (IsPlainOwner (target_operator at)) owners → AreFlat at hs (record { first_bags = ns; bags = t.bags; gens = t.gens; mods = t.mods }) owners → ⊥)
+  pub answered : (at : Level) (given : List (HeadRecord H)) (hs : List H) (ns : List ℕ) (t : Tables)
+      (r : Option (List (WithZones H)))
+      → given ≡ head_records hs ns → length ns ≡ length hs + 1
+      → MatchOption r
+      ((owners : List (WithZones H)) → AllByRecursion (IsPlainOwner (target_operator at)) owners
+      → AreFlat at hs (record { first_bags = ns; bags = t.bags; gens = t.gens; mods = t.mods }) owners → ⊥)
       (λ owners. AreFlat at hs (record { first_bags = ns; bags = t.bags; gens = t.gens; mods = t.mods }) owners)
-      → MatchOption r ((owners : List (WithZones H)) → AllByRecursion (IsPlainOwner (target_operator at)) owners → AreFlatOf at given t owners → ⊥) (λ owners. AreFlatOf at given t owners)
-  answered at given hs ns t None e size none = λ owners plain are. none owners plain (lists_by at hs ns t owners size (subst (λ rs. AreFlatOf at rs t owners) e are))
-  answered at given hs ns t (Some owners) e size are = subst (λ rs. AreFlatOf at rs t owners) (sym e) (records_by at hs ns t owners are)
+      → MatchOption r
+      ((owners : List (WithZones H)) → AllByRecursion (IsPlainOwner (target_operator at)) owners
+      → AreFlatOf at given t owners → ⊥)
+      (λ owners. AreFlatOf at given t owners)
+  answered at given hs ns t None e size none =
+      λ owners plain are.
+      none owners plain (lists_by at hs ns t owners size (subst (λ rs. AreFlatOf at rs t owners) e are))
+  answered at given hs ns t (Some owners) e size are =
+      subst (λ rs. AreFlatOf at rs t owners) (sym e) (records_by at hs ns t owners are)
 
   -- no others have the same
   pub same_flat : (at : Level) (hs : List (HeadRecord H)) (t : Tables) (owners others : List (WithZones H))
-      → AllByRecursion (IsPlainOwner (target_operator at)) owners → AllByRecursion (IsPlainOwner (target_operator at)) others
+      → AllByRecursion (IsPlainOwner (target_operator at)) owners
+      → AllByRecursion (IsPlainOwner (target_operator at)) others
       → AreFlatOf at hs t owners → AreFlatOf at hs t others → owners ≡ others
   same_flat at hs t owners others plain plain_too are are_too =
       let op = target_operator at in
@@ -103,13 +137,18 @@ module _ {H : Type 0} where
       let numbers = (lists_of at owners).first_bags in
       let numbers_too = (lists_of at others).first_bags in
       let records = sym are.heads ∙ are_too.heads in
-      let heads : names ≡ names_too = sym (heads-back names numbers (heads_within at owners)) ∙ (ap heads_of records ∙ heads-back names_too numbers_too (heads_within at others)) in
-      let first_bags : numbers ≡ numbers_too = sym (numbers-back names numbers) ∙ (ap numbers_of records ∙ numbers-back names_too numbers_too) in
+      let heads : names ≡ names_too =
+      sym (heads-back names numbers (heads_within at owners))
+      ∙ (ap heads_of records ∙ heads-back names_too numbers_too (heads_within at others)) in
+      let first_bags : numbers ≡ numbers_too =
+      sym (numbers-back names numbers) ∙ (ap numbers_of records ∙ numbers-back names_too numbers_too) in
       let own : owned.AreFlat numbers t (map (bags_of op) owners) = record { begins = refl; records = are.records } in
-      let own_too : owned.AreFlat numbers t (map (bags_of op) others) = record { begins = first_bags; records = are_too.records } in
+      let own_too : owned.AreFlat numbers t (map (bags_of op) others) =
+      record { begins = first_bags; records = are_too.records } in
       let bags = same_owners numbers t (map (bags_of op) owners) (map (bags_of op) others) own own_too in
       let a : AreOf op names (map (bags_of op) owners) owners = record { heads = refl; bags = refl; plain = plain } in
-      let b : AreOf op names_too (map (bags_of op) others) others = record { heads = refl; bags = refl; plain = plain_too } in
+      let b : AreOf op names_too (map (bags_of op) others) others =
+      record { heads = refl; bags = refl; plain = plain_too } in
       sym (read a) ∙ ((λ i. owners_in op (heads i) (bags i)) ∙ read b)
 
 -- ---- what a level allows is never a target
@@ -125,15 +164,18 @@ unset_where at m are =
           absurd (allowed-≢-target at at op v.allowed refl)
     ] refl
 
-zones_plain : (at : Level) (count : ℕ) (zones : List Zone) → AllByRecursion (IsZone at count) zones → AllByRecursion FitsZone zones → AllByRecursion (λ (z : Zone). IsPlain (target_operator at) z.gens) zones
+zones_plain : (at : Level) (count : ℕ) (zones : List Zone) → AllByRecursion (IsZone at count) zones
+    → AllByRecursion FitsZone zones → AllByRecursion (λ (z : Zone). IsPlain (target_operator at) z.gens) zones
 zones_plain at count [] v f = tt
 zones_plain at count (z ∷ zs) v f =
     let own = v.0 in
     let fit = f.0 in
     (record { unset = unset_where at z.gens own.gens; fit = fit.gens }, zones_plain at count zs v.1 f.1)
 
-pub owners_plain : {H : Type 0} (name_of : H → List ℕ) (IsFit : H → Type 0) (at : Level) (count : ℕ) (owners : List (WithZones H))
-    → AllByRecursion (IsOwner name_of at count) owners → AllByRecursion (FitsOwner IsFit) owners → AllByRecursion (IsPlainOwner (target_operator at)) owners
+pub owners_plain : {H : Type 0} (name_of : H → List ℕ) (IsFit : H → Type 0) (at : Level) (count : ℕ)
+    (owners : List (WithZones H))
+    → AllByRecursion (IsOwner name_of at count) owners → AllByRecursion (FitsOwner IsFit) owners
+    → AllByRecursion (IsPlainOwner (target_operator at)) owners
 owners_plain name_of IsFit at count [] v f = tt
 owners_plain name_of IsFit at count (x ∷ xs) v f =
     let zones = v.0.zones in
@@ -152,21 +194,31 @@ pub presets_plain : (b : Parts) → IsSound b → AllByRecursion (IsPlainOwner (
 presets_plain b s =
     let valid = s.valid in
     let fits = s.fits in
-    owners_plain (λ (h : Head). h.name) FitsHead level.Preset (length b.instruments) b.presets valid.presets fits.presets
+    owners_plain (λ (h : Head). h.name) FitsHead level.Preset (length b.instruments) b.presets valid.presets
+    fits.presets
 
-pub instruments_plain : (b : Parts) → IsSound b → AllByRecursion (IsPlainOwner (target_operator level.Instrument)) b.instruments
+pub instruments_plain : (b : Parts) → IsSound b
+    → AllByRecursion (IsPlainOwner (target_operator level.Instrument)) b.instruments
 instruments_plain b s =
     let valid = s.valid in
     let fits = s.fits in
-    owners_plain (λ name. name) IsName level.Instrument (length b.samples) b.instruments valid.instruments fits.instruments
+    owners_plain (λ name. name) IsName level.Instrument (length b.samples) b.instruments valid.instruments
+    fits.instruments
 
 -- no other bank has the same lists
-pub same_bank : (f : Flat) (b c : Parts) → IsSound b → AllByRecursion (IsPlainOwner (target_operator level.Preset)) c.presets → AllByRecursion (IsPlainOwner (target_operator level.Instrument)) c.instruments
+pub same_bank : (f : Flat) (b c : Parts) → IsSound b
+    → AllByRecursion (IsPlainOwner (target_operator level.Preset)) c.presets
+    → AllByRecursion (IsPlainOwner (target_operator level.Instrument)) c.instruments
     → IsFlatOf f b → IsFlatOf f c → b ≡ c
 same_bank f b c s presets_too instruments_too are are_too =
     let minor = sym are.minor ∙ are_too.minor in
     let texts = sym are.texts ∙ are_too.texts in
-    let presets = same_flat level.Preset _ _ b.presets c.presets (presets_plain b s) presets_too are.presets are_too.presets in
-    let instruments = same_flat level.Instrument _ _ b.instruments c.instruments (instruments_plain b s) instruments_too are.instruments are_too.instruments in
+    let presets =
+    same_flat level.Preset _ _ b.presets c.presets (presets_plain b s) presets_too are.presets are_too.presets in
+    let instruments =
+    same_flat level.Instrument _ _ b.instruments c.instruments (instruments_plain b s) instruments_too
+    are.instruments are_too.instruments in
     let samples = sym are.samples ∙ are_too.samples in
-    λ i. record { minor = minor i; texts = texts i; presets = presets i; instruments = instruments i; samples = samples i }
+    λ i.
+    record
+    { minor = minor i; texts = texts i; presets = presets i; instruments = instruments i; samples = samples i }

@@ -27,7 +27,8 @@ module _ {b inside : Parts} {t : Totals} (view : inside ≡ b) (kept : IsSound i
   pub no_limit_before : broken t ≡ None
   no_limit_before = ap broken totals_before ∙ no_limit_of b sound_before.valid.limits
 
-  module _ {plus : Totals → Records → Totals} {Has : Totals → Records → Type 0} (grow : Grow plus Has) {now : Parts} (sound : IsSound now) (r : Records) where
+  module _ {plus : Totals → Records → Totals} {Has : Totals → Records → Type 0} (grow : Grow plus Has) {now : Parts}
+      (sound : IsSound now) (r : Records) where
     -- where more comes in
     module _ (grew : totals_of now ≡ plus (totals_of b) r) {counted : Records} (count : counted ≡ all_counted r) where
       totals_are : plus t counted ≡ totals_of now
@@ -52,18 +53,29 @@ module _ {b inside : Parts} {t : Totals} (view : inside ≡ b) (kept : IsSound i
       had_it = subst (λ u. Has u counted) totals_were (grow.has (totals_of now) counted)
 
       pub kept_without : {new : Parts} (u : Totals) → new ≡ now → plus u counted ≡ t → IsSound new × (u ≡ totals_of new)
-      kept_without u is e = (subst IsSound (sym is) sound, grow.same u (totals_of now) counted (e ∙ sym totals_were) ∙ ap totals_of (sym is))
+      kept_without u is e = (
+        subst IsSound (sym is) sound,
+        grow.same u (totals_of now) counted (e ∙ sym totals_were)
+            ∙ ap totals_of (sym is),
+      )
 
   -- where one place changes, and is counted again
-  module _ (o : Owner) (at : Place) (there : IsSome (settings_of b o at)) {lvl : Level} (is_level : lvl ≡ level_of o) {before : Records} (had : before ≡ records_there inside o at) where
+  module _ (o : Owner) (at : Place) (there : IsSome (settings_of b o at)) {lvl : Level} (is_level : lvl ≡ level_of o)
+      {before : Records} (had : before ≡ records_there inside o at) where
     had_before : before ≡ records_there b o at
     had_before = had ∙ ap (λ b. records_there b o at) view
 
     pub has_before : HasRecords lvl t before
     has_before = counted_there b o at there t totals_before lvl is_level before had_before
 
-    pub kept_there : (f : Settings → Settings) {new now : Parts} → new ≡ now → now ≡ own_place_changed b o at f → IsSound now → {after : Records} → after ≡ records_there new o at
-        → {u : Totals} → ((now : Totals) → broken now ≡ None → with_records lvl now before ≡ with_records lvl t after → u ≡ now) → IsSound new × (u ≡ totals_of new)
+    pub kept_there : (f : Settings → Settings) {new now : Parts} → new ≡ now → now ≡ own_place_changed b o at f
+        → IsSound now → {after : Records} → after ≡ records_there new o at
+        → {u : Totals}
+        → ((now : Totals) → broken now ≡ None → with_records lvl now before ≡ with_records lvl t after → u ≡ now)
+        → IsSound new × (u ≡ totals_of new)
     kept_there f {new} {now} is change sound {after} has {u} value =
-        let still = subst IsSound (sym is) sound in
-        (still, kept_totals b o at there t totals_before lvl is_level before had_before f new (is ∙ change) after has still u value)
+        let still = subst IsSound (sym is) sound in (
+          still,
+          kept_totals b o at there t totals_before lvl is_level before had_before f new (is ∙ change) after has still u
+              value,
+        )

@@ -13,6 +13,9 @@ head_records [] (n ∷ ns) = record { head = None; first_bag = n } ∷ head_reco
 head_records (h ∷ hs) (n ∷ ns) = record { head = Some h; first_bag = n } ∷ head_records hs ns
 
 -- the heads and the records are those of these presets or instruments
-pub record AreFlatOf {H : Type 0} (at : Level) (hs : List (HeadRecord H)) (t : Tables) (owners : List (WithZones H)) : Type 0 where
+pub record AreFlatOf {H : Type 0} (at : Level) (hs : List (HeadRecord H)) (t : Tables)
+    (owners : List (WithZones H)) : Type 0 where
   pub heads : hs ≡ head_records (map (λ x. x.head) owners) (lists_of at owners).first_bags
-  pub records : t ≡ record { bags = (lists_of at owners).bags; gens = (lists_of at owners).gens; mods = (lists_of at owners).mods }
+  pub records : t
+      ≡ record
+      { bags = (lists_of at owners).bags; gens = (lists_of at owners).gens; mods = (lists_of at owners).mods }

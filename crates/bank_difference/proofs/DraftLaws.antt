@@ -17,6 +17,8 @@ leads_on first old new was now s (Ok done) d l =
       taken = taken-then first old was (One s ∷ []) l.given l.taken (d.taken, tt);
       given = after-then first old (raw old (One s)) was (One s ∷ []) l.given refl;
     } in
-    subst (λ (b : Parts). Leads first now b) (sym d.changed) (subst (λ (es : List Edit). Leads first es (raw old (One s))) (sym d.listed) more)
+    subst (λ (b : Parts). Leads first now b) (sym d.changed)
+    (subst (λ (es : List Edit). Leads first es (raw old (One s))) (sym d.listed) more)
 leads_on first old new was now s (Err why) d l =
-    subst (λ (b : Parts). Leads first now b) (sym d.bank) (subst (λ (es : List Edit). Leads first es old) (sym d.list) l)
+    subst (λ (b : Parts). Leads first now b) (sym d.bank)
+    (subst (λ (es : List Edit). Leads first es old) (sym d.list) l)

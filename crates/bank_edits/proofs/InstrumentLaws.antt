@@ -3,7 +3,8 @@ use Rattle.std.proofs.Common.{◌≡◌, ℕ, List, length, Some, refl, sym, ap,
 use Rattle.std.proofs.lemmas.List.Edits.{length-insert, length-remove}
 use Rattle.std.specs.Prelude.{slice_get}
 use Rattle.sf_base.specs.Names.{IsName}
-use Rattle.numbered_lists.proofs.Lists.{slice_get-found, slice_get-insert, slice_get-changed, length-changed, changed-back}
+use Rattle.numbered_lists.proofs.Lists.{slice_get-found, slice_get-insert, slice_get-changed, length-changed}
+use Rattle.numbered_lists.proofs.Lists.{changed-back}
 use Rattle.generators.specs.declared.level.Level.TheVariants as level
 use Rattle.bank_parts.specs.declared.parts.WithZones.{WithZones}
 use Rattle.bank_parts.specs.declared.parts.Parts.{Parts}
@@ -13,14 +14,19 @@ use Rattle.bank_parts.specs.Fits.{FitsOwner}
 use Rattle.bank_parts.specs.Sound.{IsSound}
 use Rattle.bank_changes.specs.Instruments.{instrument_added, instrument_removed, instrument_renamed}
 use Rattle.bank_changes.proofs.Changes.{all_found}
-use Rattle.bank_changes.proofs.InstrumentLaws.{restored_added_instrument, added_instrument_unused, restored_removed_instrument, instrument_renamed_sound, length-instrument_moved, restored_instrument_moved}
-use Rattle.edit_forms.specs.declared.instruments.InstrumentStep.TheVariants.{AddInstrument, RemoveInstrument, RenameInstrument, MoveInstrument}
+use Rattle.bank_changes.proofs.InstrumentLaws.{restored_added_instrument, added_instrument_unused}
+use Rattle.bank_changes.proofs.InstrumentLaws.{restored_removed_instrument, instrument_renamed_sound}
+use Rattle.bank_changes.proofs.InstrumentLaws.{length-instrument_moved, restored_instrument_moved}
+use Rattle.edit_forms.specs.declared.instruments.InstrumentStep.TheVariants.{AddInstrument, RemoveInstrument}
+use Rattle.edit_forms.specs.declared.instruments.InstrumentStep.TheVariants.{RenameInstrument, MoveInstrument}
 use Rattle.edit_forms.specs.declared.step.Step.TheVariants as steps
 use Rattle.edit_refusals.proofs.Accepted.{accepted, not_below}
 use Rattle.edit_forms.specs.declared.cause.Cause.TheVariants.{NoSuchInstrument, NoSuchSample}
 use Rattle.edit_refusals.proofs.Moves.{tests_move, moves_back}
 use Rattle.edit_refusals.proofs.OwnerLaws.{tests_add}
-use Rattle.edit_refusals.proofs.InstrumentLaws.{instrument_goes, sound_add_instrument, instrument_comes, sound_remove_instrument, there_of_rename_instrument, moves_instrument, sound_move_instrument}
+use Rattle.edit_refusals.proofs.InstrumentLaws.{instrument_goes, sound_add_instrument, instrument_comes}
+use Rattle.edit_refusals.proofs.InstrumentLaws.{sound_remove_instrument, there_of_rename_instrument}
+use Rattle.edit_refusals.proofs.InstrumentLaws.{moves_instrument, sound_move_instrument}
 use Rattle.bank_edits.proofs.UndoneBy.{IsTaken, IsUndone, undone_by}
 use Rattle.edit_forms.specs.declared.instruments.InstrumentStep.{InstrumentStep}
 use Rattle.edit_forms.specs.Steps.{inverse}
@@ -33,7 +39,8 @@ inverse_of_rename_instrument b i name old e = rw e refl
 
 -- ---- add-inst
 
-pub undone_add_instrument : (b : Parts) (i : ℕ) (x : WithZones (List ℕ)) → IsSound b → IsTaken b (steps.Instrument (AddInstrument i x)) → IsUndone b (steps.Instrument (AddInstrument i x))
+pub undone_add_instrument : (b : Parts) (i : ℕ) (x : WithZones (List ℕ)) → IsSound b
+    → IsTaken b (steps.Instrument (AddInstrument i x)) → IsUndone b (steps.Instrument (AddInstrument i x))
 undone_add_instrument b i x s t =
     let le = (instrument_goes b i x t.fits.1 t.accepted).place in
     let size = length-insert b.instruments i x le in
@@ -42,14 +49,18 @@ undone_add_instrument b i x s t =
       is = refl;
       sound = sound_add_instrument b i x s t.fits.1 t.accepted;
       fits = t.fits.0;
-      tests = (not_below (length (instrument_added b i x).instruments) i (omega (arith, size, le)), (added_instrument_unused b i x, tt));
+      tests = (
+        not_below (length (instrument_added b i x).instruments) i (omega (arith, size, le)),
+        (added_instrument_unused b i x, tt),
+      );
       restored = restored_added_instrument b i x le;
       redone = rw there refl;
     })
 
 -- ---- remove-inst
 
-pub undone_remove_instrument : (b : Parts) (i : ℕ) → IsSound b → IsTaken b (steps.Instrument (RemoveInstrument i)) → IsUndone b (steps.Instrument (RemoveInstrument i))
+pub undone_remove_instrument : (b : Parts) (i : ℕ) → IsSound b → IsTaken b (steps.Instrument (RemoveInstrument i))
+    → IsUndone b (steps.Instrument (RemoveInstrument i))
 undone_remove_instrument b i s t =
     let c = instrument_comes b i (accepted b (steps.Instrument (RemoveInstrument i)) t.accepted).tests in
     let lt = c.there in
@@ -60,14 +71,18 @@ undone_remove_instrument b i s t =
       is = rw e refl;
       sound = sound_remove_instrument b i s t.accepted;
       fits = (t.fits, all_found (FitsOwner IsName) b.instruments i x e s.fits.instruments);
-      tests = tests_add (λ name. name) level.Instrument (length b.samples) (length (instrument_removed b i).instruments) i x NoSuchSample (record { place = omega (arith, less, lt); is = is });
+      tests =
+          tests_add (λ name. name) level.Instrument (length b.samples) (length (instrument_removed b i).instruments)
+          i x NoSuchSample (record { place = omega (arith, less, lt); is = is });
       restored = restored_removed_instrument b i x e c.free;
       redone = refl;
     })
 
 -- ---- rename-inst
 
-pub undone_rename_instrument : (b : Parts) (i : ℕ) (name : List ℕ) → IsSound b → IsTaken b (steps.Instrument (RenameInstrument i name)) → IsUndone b (steps.Instrument (RenameInstrument i name))
+pub undone_rename_instrument : (b : Parts) (i : ℕ) (name : List ℕ) → IsSound b
+    → IsTaken b (steps.Instrument (RenameInstrument i name))
+    → IsUndone b (steps.Instrument (RenameInstrument i name))
 undone_rename_instrument b i name s t =
     let lt = there_of_rename_instrument b i name t.accepted in
     let (x, e) = slice_get-found b.instruments i lt in
@@ -77,13 +92,16 @@ undone_rename_instrument b i name s t =
       sound = instrument_renamed_sound b i name s t.fits.1;
       fits = (t.fits.0, (all_found (FitsOwner IsName) b.instruments i x e s.fits.instruments).head);
       tests = (not_below (length (instrument_renamed b i name).instruments) i (omega (arith, same, lt)), tt);
-      restored = ap (λ (instruments : List (WithZones (List ℕ))). record b { instruments = instruments }) (changed-back b.instruments i (with_head name) (with_head x.head) x e refl);
+      restored =
+          ap (λ (instruments : List (WithZones (List ℕ))). record b { instruments = instruments })
+          (changed-back b.instruments i (with_head name) (with_head x.head) x e refl);
       redone = let now = slice_get-changed b.instruments i (with_head name) x e in rw now refl;
     })
 
 -- ---- move-inst
 
-pub undone_move_instrument : (b : Parts) (i j : ℕ) → IsSound b → IsTaken b (steps.Instrument (MoveInstrument i j)) → IsUndone b (steps.Instrument (MoveInstrument i j))
+pub undone_move_instrument : (b : Parts) (i j : ℕ) → IsSound b → IsTaken b (steps.Instrument (MoveInstrument i j))
+    → IsUndone b (steps.Instrument (MoveInstrument i j))
 undone_move_instrument b i j s t =
     let m = moves_instrument b i j t.accepted in
     let back = moves_back m (sym (length-instrument_moved b i j m.there m.place)) in
@@ -98,7 +116,8 @@ undone_move_instrument b i j s t =
 
 -- ---- all of them
 
-pub undone_instrument : (b : Parts) (s : InstrumentStep) → IsSound b → IsTaken b (steps.Instrument s) → IsUndone b (steps.Instrument s)
+pub undone_instrument : (b : Parts) (s : InstrumentStep) → IsSound b → IsTaken b (steps.Instrument s)
+    → IsUndone b (steps.Instrument s)
 undone_instrument b (AddInstrument i x) = undone_add_instrument b i x
 undone_instrument b (RemoveInstrument i) = undone_remove_instrument b i
 undone_instrument b (RenameInstrument i name) = undone_rename_instrument b i name

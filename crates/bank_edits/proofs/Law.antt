@@ -29,11 +29,13 @@ no_cause (Some cause) h = cc
 abbrev StepsTaken : Parts → List Step → Type 0
 StepsTaken = AllTakenBy raw IsTaken
 
-none_of_both : (n : ℕ) (c : Option Cause) (later : Option Refusal) → or_later n c later ≡ None → (c ≡ None) × (later ≡ None)
+none_of_both : (n : ℕ) (c : Option Cause) (later : Option Refusal) → or_later n c later ≡ None
+    → (c ≡ None) × (later ≡ None)
 none_of_both n None later h = (refl, h)
 none_of_both n (Some cause) later h = cc
 
-steps_taken : (n : ℕ) (b : Parts) (group : List Step) → AllByRecursion FitsStep group → first_refused n b group ≡ None → StepsTaken b group
+steps_taken : (n : ℕ) (b : Parts) (group : List Step) → AllByRecursion FitsStep group
+    → first_refused n b group ≡ None → StepsTaken b group
 steps_taken n b [] fits accepted = tt
 steps_taken n b (s ∷ group) fits accepted =
     let none = none_of_both n (refusal b s) (first_refused (suc n) (raw b s) group) accepted in

@@ -12,14 +12,17 @@ use Rattle.bank_parts.specs.Fits.{FitsHead, FitsOwner}
 use Rattle.bank_parts.specs.Sound.{IsSound}
 use Rattle.bank_changes.specs.Presets.{preset_added, preset_removed, head_set}
 use Rattle.bank_changes.proofs.Changes.{all_found}
-use Rattle.bank_changes.proofs.PresetLaws.{length-preset_moved, length-head_set, head_set_sound, read_head_set, restored_added_preset, restored_removed_preset, restored_preset_moved, restored_head_set}
+use Rattle.bank_changes.proofs.PresetLaws.{length-preset_moved, length-head_set, head_set_sound, read_head_set}
+use Rattle.bank_changes.proofs.PresetLaws.{restored_added_preset, restored_removed_preset, restored_preset_moved}
+use Rattle.bank_changes.proofs.PresetLaws.{restored_head_set}
 use Rattle.edit_forms.specs.declared.presets.PresetStep.TheVariants.{AddPreset, RemovePreset, MovePreset, SetHead}
 use Rattle.edit_forms.specs.declared.step.Step.TheVariants as steps
 use Rattle.edit_forms.specs.declared.cause.Cause.TheVariants.{NoSuchPreset, NoSuchInstrument}
 use Rattle.edit_refusals.proofs.Accepted.{not_below}
 use Rattle.edit_refusals.proofs.Moves.{tests_move, moves_back}
 use Rattle.edit_refusals.proofs.OwnerLaws.{tests_add}
-use Rattle.edit_refusals.proofs.PresetLaws.{preset_goes, sound_add_preset, there_of_remove_preset, sound_remove_preset, moves_preset, sound_move_preset, there_of_set_head}
+use Rattle.edit_refusals.proofs.PresetLaws.{preset_goes, sound_add_preset, there_of_remove_preset}
+use Rattle.edit_refusals.proofs.PresetLaws.{sound_remove_preset, moves_preset, sound_move_preset, there_of_set_head}
 use Rattle.bank_edits.proofs.UndoneBy.{IsTaken, IsUndone, undone_by}
 use Rattle.edit_forms.specs.declared.presets.PresetStep.{PresetStep}
 use Rattle.bank_parts.specs.Owners.{head_at}
@@ -27,13 +30,15 @@ use Rattle.edit_forms.specs.Steps.{inverse}
 
 -- ---- what the bank returns of what it replaced or took out makes the step that takes the change back
 
-pub inverse_of_set_head : (b : Parts) (i : ℕ) (name : List ℕ) (number bank : ℕ) (old : Head) → head_at b.presets i ≡ Some old
+pub inverse_of_set_head : (b : Parts) (i : ℕ) (name : List ℕ) (number bank : ℕ) (old : Head)
+    → head_at b.presets i ≡ Some old
     → steps.Preset (SetHead i old.name old.number old.bank) ≡ inverse b (steps.Preset (SetHead i name number bank))
 inverse_of_set_head b i name number bank old e = rw e refl
 
 -- ---- add-preset
 
-pub undone_add_preset : (b : Parts) (i : ℕ) (p : WithZones Head) → IsSound b → IsTaken b (steps.Preset (AddPreset i p)) → IsUndone b (steps.Preset (AddPreset i p))
+pub undone_add_preset : (b : Parts) (i : ℕ) (p : WithZones Head) → IsSound b
+    → IsTaken b (steps.Preset (AddPreset i p)) → IsUndone b (steps.Preset (AddPreset i p))
 undone_add_preset b i p s t =
     let le = (preset_goes b i p t.fits.1 t.accepted).place in
     let size = length-insert b.presets i p le in
@@ -49,7 +54,8 @@ undone_add_preset b i p s t =
 
 -- ---- remove-preset
 
-pub undone_remove_preset : (b : Parts) (i : ℕ) → IsSound b → IsTaken b (steps.Preset (RemovePreset i)) → IsUndone b (steps.Preset (RemovePreset i))
+pub undone_remove_preset : (b : Parts) (i : ℕ) → IsSound b → IsTaken b (steps.Preset (RemovePreset i))
+    → IsUndone b (steps.Preset (RemovePreset i))
 undone_remove_preset b i s t =
     let lt = there_of_remove_preset b i t.accepted in
     let (p, e) = slice_get-found b.presets i lt in
@@ -59,14 +65,17 @@ undone_remove_preset b i s t =
       is = rw e refl;
       sound = sound_remove_preset b i s t.accepted;
       fits = (t.fits, all_found (FitsOwner FitsHead) b.presets i p e s.fits.presets);
-      tests = tests_add (λ (h : Head). h.name) level.Preset (length b.instruments) (length (preset_removed b i).presets) i p NoSuchInstrument (record { place = omega (arith, less, lt); is = is });
+      tests =
+          tests_add (λ (h : Head). h.name) level.Preset (length b.instruments) (length (preset_removed b i).presets)
+          i p NoSuchInstrument (record { place = omega (arith, less, lt); is = is });
       restored = restored_removed_preset b i p e;
       redone = refl;
     })
 
 -- ---- move-preset
 
-pub undone_move_preset : (b : Parts) (i j : ℕ) → IsSound b → IsTaken b (steps.Preset (MovePreset i j)) → IsUndone b (steps.Preset (MovePreset i j))
+pub undone_move_preset : (b : Parts) (i j : ℕ) → IsSound b → IsTaken b (steps.Preset (MovePreset i j))
+    → IsUndone b (steps.Preset (MovePreset i j))
 undone_move_preset b i j s t =
     let m = moves_preset b i j t.accepted in
     let back = moves_back m (sym (length-preset_moved b i j m.there m.place)) in
@@ -81,13 +90,15 @@ undone_move_preset b i j s t =
 
 -- ---- set-head
 
-pub undone_set_head : (b : Parts) (i : ℕ) (name : List ℕ) (number bank : ℕ) → IsSound b → IsTaken b (steps.Preset (SetHead i name number bank)) → IsUndone b (steps.Preset (SetHead i name number bank))
+pub undone_set_head : (b : Parts) (i : ℕ) (name : List ℕ) (number bank : ℕ) → IsSound b
+    → IsTaken b (steps.Preset (SetHead i name number bank)) → IsUndone b (steps.Preset (SetHead i name number bank))
 undone_set_head b i name number bank s t =
     let lt = there_of_set_head b i name number bank t.accepted in
     let (x, e) = slice_get-found b.presets i lt in
     let same = length-head_set b i name number bank in
     let was = (all_found (FitsOwner FitsHead) b.presets i x e s.fits.presets).head in
-    undone_by b (steps.Preset (SetHead i name number bank)) (steps.Preset (SetHead i x.head.name x.head.number x.head.bank)) s (record {
+    undone_by b (steps.Preset (SetHead i name number bank))
+    (steps.Preset (SetHead i x.head.name x.head.number x.head.bank)) s (record {
       is = rw e refl;
       sound = head_set_sound b i name number bank s t.fits.1 t.fits.2 t.fits.3;
       fits = (t.fits.0, was.name, was.number, was.bank);

@@ -4,7 +4,8 @@ use Rattle.std.proofs.lemmas.List.{length-map}
 use Rattle.std.proofs.lemmas.List.Edits.{length-insert, length-remove}
 use Rattle.std.specs.Prelude.{slice_get, IfSome}
 use Rattle.numbered_lists.specs.declared.renumbering.Renumbering.TheVariants.{Insertion, Removal}
-use Rattle.numbered_lists.proofs.Lists.{slice_get-found, slice_get-insert, slice_get-changed, length-changed, changed-back}
+use Rattle.numbered_lists.proofs.Lists.{slice_get-found, slice_get-insert, slice_get-changed, length-changed}
+use Rattle.numbered_lists.proofs.Lists.{changed-back}
 use Rattle.bank_parts.specs.declared.parts.Sample.{Sample}
 use Rattle.bank_parts.specs.declared.parts.Parts.{Parts}
 use Rattle.bank_parts.specs.Renumbered.{sample_renumbered}
@@ -13,11 +14,13 @@ use Rattle.bank_parts.specs.Fits.{FitsSample}
 use Rattle.bank_parts.specs.Sound.{IsSound}
 use Rattle.bank_changes.specs.Samples.{named, sample_renamed, sample_added, sample_removed}
 use Rattle.bank_changes.proofs.Changes.{all_found}
-use Rattle.bank_changes.proofs.SampleLaws.{renamed_sound, restored_added, restored_removed, restored_moved, added_unused, length-sample_moved}
+use Rattle.bank_changes.proofs.SampleLaws.{renamed_sound, restored_added, restored_removed, restored_moved}
+use Rattle.bank_changes.proofs.SampleLaws.{added_unused, length-sample_moved}
 use Rattle.edit_forms.specs.declared.samples.SampleStep.TheVariants.{RenameSample, AddSample, RemoveSample, MoveSample}
 use Rattle.edit_forms.specs.declared.step.Step.TheVariants as steps
 use Rattle.edit_refusals.proofs.Accepted.{accepted, not_below}
-use Rattle.edit_refusals.proofs.SampleLaws.{there_of_rename, goes_in, tests_add, sound_add, comes_out, sound_remove, moves_sample, sound_move_sample}
+use Rattle.edit_refusals.proofs.SampleLaws.{there_of_rename, goes_in, tests_add, sound_add, comes_out, sound_remove}
+use Rattle.edit_refusals.proofs.SampleLaws.{moves_sample, sound_move_sample}
 use Rattle.edit_forms.specs.declared.cause.Cause.TheVariants.{NoSuchSample}
 use Rattle.edit_refusals.proofs.Moves.{tests_move, moves_back}
 use Rattle.bank_edits.proofs.UndoneBy.{IsTaken, IsUndone, undone_by}
@@ -26,7 +29,8 @@ use Rattle.edit_forms.specs.Steps.{inverse}
 
 -- ---- what the bank returns of what it replaced or took out makes the step that takes the change back
 
-pub inverse_of_rename : (b : Parts) (i : ℕ) (name old : List ℕ) → i < length b.samples → IfSome (slice_get b.samples i) (λ (s : Sample). old ≡ s.name)
+pub inverse_of_rename : (b : Parts) (i : ℕ) (name old : List ℕ) → i < length b.samples
+    → IfSome (slice_get b.samples i) (λ (s : Sample). old ≡ s.name)
     → steps.Sample (RenameSample i old) ≡ inverse b (steps.Sample (RenameSample i name))
 inverse_of_rename b i name old lt h =
     let (s, e) = slice_get-found b.samples i lt in
@@ -35,7 +39,8 @@ inverse_of_rename b i name old lt h =
 
 -- ---- rename-sample
 
-pub undone_rename : (b : Parts) (i : ℕ) (name : List ℕ) → IsSound b → IsTaken b (steps.Sample (RenameSample i name)) → IsUndone b (steps.Sample (RenameSample i name))
+pub undone_rename : (b : Parts) (i : ℕ) (name : List ℕ) → IsSound b → IsTaken b (steps.Sample (RenameSample i name))
+    → IsUndone b (steps.Sample (RenameSample i name))
 undone_rename b i name s t =
     let lt = there_of_rename b i name t.accepted in
     let (x, e) = slice_get-found b.samples i lt in
@@ -45,13 +50,16 @@ undone_rename b i name s t =
       sound = renamed_sound b i name s t.fits.1;
       fits = (t.fits.0, (all_found FitsSample b.samples i x e s.fits.samples).name);
       tests = (not_below (length (sample_renamed b i name).samples) i (omega (arith, same, lt)), tt);
-      restored = ap (λ (samples : List Sample). record b { samples = samples }) (changed-back b.samples i (named name) (named x.name) x e refl);
+      restored =
+          ap (λ (samples : List Sample). record b { samples = samples })
+          (changed-back b.samples i (named name) (named x.name) x e refl);
       redone = let now = slice_get-changed b.samples i (named name) x e in rw now refl;
     })
 
 -- ---- add-sample
 
-pub undone_add : (b : Parts) (i : ℕ) (x : Sample) → IsSound b → IsTaken b (steps.Sample (AddSample i x)) → IsUndone b (steps.Sample (AddSample i x))
+pub undone_add : (b : Parts) (i : ℕ) (x : Sample) → IsSound b → IsTaken b (steps.Sample (AddSample i x))
+    → IsUndone b (steps.Sample (AddSample i x))
 undone_add b i x s t =
     let g = goes_in b i x (accepted b (steps.Sample (AddSample i x)) t.accepted).tests in
     let le = g.place in
@@ -64,14 +72,18 @@ undone_add b i x s t =
       is = refl;
       sound = sound_add b i x s t.fits.1 t.accepted;
       fits = t.fits.0;
-      tests = (not_below (length (sample_added b i x).samples) i (omega (arith, size, inside)), (added_unused b i x le, tt));
+      tests = (
+        not_below (length (sample_added b i x).samples) i (omega (arith, size, inside)),
+        (added_unused b i x le, tt),
+      );
       restored = restored_added b i x le;
       redone = rw there refl;
     })
 
 -- ---- remove-sample
 
-pub undone_remove : (b : Parts) (i : ℕ) → IsSound b → IsTaken b (steps.Sample (RemoveSample i)) → IsUndone b (steps.Sample (RemoveSample i))
+pub undone_remove : (b : Parts) (i : ℕ) → IsSound b → IsTaken b (steps.Sample (RemoveSample i))
+    → IsUndone b (steps.Sample (RemoveSample i))
 undone_remove b i s t =
     let c = comes_out b i (accepted b (steps.Sample (RemoveSample i)) t.accepted).tests in
     let lt = c.there in
@@ -85,14 +97,17 @@ undone_remove b i s t =
       is = rw e refl;
       sound = sound_remove b i s t.accepted;
       fits = (t.fits, all_found FitsSample b.samples i x e s.fits.samples);
-      tests = tests_add (sample_removed b i) i x (record { link = is_then.kind; place = omega (arith, one_less, lt); looped = is.looped });
+      tests =
+          tests_add (sample_removed b i) i x
+          (record { link = is_then.kind; place = omega (arith, one_less, lt); looped = is.looped });
       restored = restored_removed b i x e c.free;
       redone = refl;
     })
 
 -- ---- move-sample
 
-pub undone_move_sample : (b : Parts) (i j : ℕ) → IsSound b → IsTaken b (steps.Sample (MoveSample i j)) → IsUndone b (steps.Sample (MoveSample i j))
+pub undone_move_sample : (b : Parts) (i j : ℕ) → IsSound b → IsTaken b (steps.Sample (MoveSample i j))
+    → IsUndone b (steps.Sample (MoveSample i j))
 undone_move_sample b i j s t =
     let m = moves_sample b i j t.accepted in
     let back = moves_back m (sym (length-sample_moved b i j m.there m.place)) in

@@ -6,15 +6,18 @@ use Rattle.edit_refusals.specs.Sequences.{after_all, undo_list}
 use Rattle.bank_edits.specs.Undoing.{IsUndoneBy, AllTakenBy}
 
 module _ {X : Type 0} (change : Parts → X → Parts) (inverse : Parts → X → X) (Takes : Parts → X → Type 0) where
-  after_all-push : (b : Parts) (xs : List X) (x : X) → after_all change b (xs ++ x ∷ []) ≡ change (after_all change b xs) x
+  after_all-push : (b : Parts) (xs : List X) (x : X)
+      → after_all change b (xs ++ x ∷ []) ≡ change (after_all change b xs) x
   after_all-push b [] x = refl
   after_all-push b (y ∷ xs) x = after_all-push (change b y) xs x
 
-  taken-push : (b : Parts) (xs : List X) (x : X) → AllTakenBy change Takes b xs → Takes (after_all change b xs) x → AllTakenBy change Takes b (xs ++ x ∷ [])
+  taken-push : (b : Parts) (xs : List X) (x : X) → AllTakenBy change Takes b xs → Takes (after_all change b xs) x
+      → AllTakenBy change Takes b (xs ++ x ∷ [])
   taken-push b [] x h k = (k, tt)
   taken-push b (y ∷ xs) x h k = (h.0, taken-push (change b y) xs x h.1 k)
 
-  undo_list-push : (b : Parts) (xs : List X) (x : X) → undo_list change inverse b (xs ++ x ∷ []) ≡ inverse (after_all change b xs) x ∷ undo_list change inverse b xs
+  undo_list-push : (b : Parts) (xs : List X) (x : X)
+      → undo_list change inverse b (xs ++ x ∷ []) ≡ inverse (after_all change b xs) x ∷ undo_list change inverse b xs
   undo_list-push b [] x = refl
   undo_list-push b (y ∷ xs) x = ap (λ (l : List X). l ++ inverse b y ∷ []) (undo_list-push (change b y) xs x)
 

@@ -14,7 +14,8 @@ use Rattle.edit_forms.specs.declared.texts.TextStep.{TextStep}
 
 -- ---- set-info
 
-pub undone_set_info : (b : Parts) (id : InfoId) (text : List ℕ) → IsSound b → IsTaken b (steps.Text (SetInfo id text)) → IsUndone b (steps.Text (SetInfo id text))
+pub undone_set_info : (b : Parts) (id : InfoId) (text : List ℕ) → IsSound b
+    → IsTaken b (steps.Text (SetInfo id text)) → IsUndone b (steps.Text (SetInfo id text))
 undone_set_info b id text s t =
     let was = info_of b.texts id s.valid.texts in
     undone_by b (steps.Text (SetInfo id text)) (steps.Text (SetInfo id (text_of b.texts id))) s (record {

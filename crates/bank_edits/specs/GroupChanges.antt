@@ -3,7 +3,8 @@ use Rattle.std.specs.Prelude.{◌≡◌, ℕ, None, Some}
 use Rattle.bank_parts.specs.declared.parts.Parts.{Parts}
 use Rattle.edit_forms.specs.declared.step.Step.{Step}
 use Rattle.edit_refusals.specs.declared.refusal.Refusal.{Refusal}
-use Rattle.edit_refusals.specs.declared.refusal.Refusal.TheVariants.{Of, OutOfMemory, NothingToUndo, NothingToRedo, GroupRefused}
+use Rattle.edit_refusals.specs.declared.refusal.Refusal.TheVariants.{Of, OutOfMemory, NothingToUndo, NothingToRedo}
+use Rattle.edit_refusals.specs.declared.refusal.Refusal.TheVariants.{GroupRefused}
 use Rattle.edit_forms.specs.Steps.{raw, refusal}
 use Rattle.edit_forms.specs.Steps.{inverse}
 

@@ -5,7 +5,8 @@ use Rattle.bank_parts.specs.Sound.{IsSound}
 
 -- The changed bank is sound. It takes the inverse of x, which gives the bank back, and the inverse of
 -- that is x.
-pub record IsUndoneBy {X : Type 0} (change : Parts → X → Parts) (inverse : Parts → X → X) (Takes : Parts → X → Type 0) (b : Parts) (x : X) : Type 0 where
+pub record IsUndoneBy {X : Type 0} (change : Parts → X → Parts) (inverse : Parts → X → X)
+    (Takes : Parts → X → Type 0) (b : Parts) (x : X) : Type 0 where
   pub sound : IsSound (change b x)
   pub taken : Takes (change b x) (inverse b x)
   pub restored : change (change b x) (inverse b x) ≡ b

@@ -1,5 +1,6 @@
 -- Lists and parts that are the same where all that is lent of them is.
-use Rattle.std.proofs.Common.{◌≡◌, ◌↔◌, ℕ, zero, suc, ◌<◌, Bool, IsTrue, List, [], ◌∷◌, length, Option, Some, None, slice_get, refl, ap, sym, ◌∙◌, arith}
+use Rattle.std.proofs.Common.{◌≡◌, ◌↔◌, ℕ, zero, suc, ◌<◌, Bool, IsTrue, List, [], ◌∷◌, length, Option, Some, None}
+use Rattle.std.proofs.Common.{slice_get, refl, ap, sym, ◌∙◌, arith}
 use Rattle.std.specs.Option.{option_map, option_and_then}
 use Rattle.std.specs.FinMap.{entries, from_entries}
 use Rattle.generators.specs.Gens.{Gens}
@@ -16,7 +17,8 @@ some_same : {X : Type 0} (x y : X) → Some x ≡ Some y → x ≡ y
 some_same x y e = cc
 
 -- lists with the same members
-pub same_members : {X : Type 0} (xs ys : List X) → length xs ≡ length ys → ((m : ℕ) → m < length xs → slice_get xs m ≡ slice_get ys m) → xs ≡ ys
+pub same_members : {X : Type 0} (xs ys : List X) → length xs ≡ length ys
+    → ((m : ℕ) → m < length xs → slice_get xs m ≡ slice_get ys m) → xs ≡ ys
 same_members [] [] e h = refl
 same_members [] (y ∷ ys) e h = absurd (omega arith)
 same_members (x ∷ xs) [] e h = absurd (omega arith)
@@ -33,7 +35,8 @@ pub same_lent_zones : {H K : Type 0} (o : Option (WithZones H)) (p : Option (Wit
 same_lent_zones (Some x) (Some y) n k e a b h =
     let first = some_same (length x.zones) n a in
     let second = some_same (length y.zones) k b in
-    ap (λ (zones : List Zone). Some zones) (same_members x.zones y.zones (first ∙ e ∙ sym second) (λ m lt. h m (omega arith)))
+    ap (λ (zones : List Zone). Some zones)
+    (same_members x.zones y.zones (first ∙ e ∙ sym second) (λ m lt. h m (omega arith)))
 same_lent_zones None None n k e a b h = refl
 same_lent_zones None (Some y) n k e a b h = cc
 same_lent_zones (Some x) None n k e a b h = cc
@@ -41,23 +44,27 @@ same_lent_zones (Some x) None n k e a b h = cc
 -- what a place lends is what its settings have
 module _ {H : Type 0} (owners : List (WithZones H)) (i : ℕ) where
   in_zone : {Y : Type 0} (f : Settings → Y) (k : ℕ) (o : Option (WithZones H))
-      → option_map f (option_and_then (settings_in (place.Zone k)) o) ≡ option_map (λ (z : Zone). f (settings_of_zone z)) (option_and_then (λ x. slice_get x.zones k) o)
+      → option_map f (option_and_then (settings_in (place.Zone k)) o)
+      ≡ option_map (λ (z : Zone). f (settings_of_zone z)) (option_and_then (λ x. slice_get x.zones k) o)
   in_zone f k None = refl
-  in_zone f k (Some x) = (elim (slice_get x.zones k) as (λ o. option_map f (option_map settings_of_zone o) ≡ option_map (λ (z : Zone). f (settings_of_zone z)) o) [
-    | None ↦ refl
-    | Some z ↦ refl
-  ])
+  in_zone f k (Some x) = (elim (slice_get x.zones k) as
+      (λ o. option_map f (option_map settings_of_zone o) ≡ option_map (λ (z : Zone). f (settings_of_zone z)) o) [
+        | None ↦ refl
+        | Some z ↦ refl
+      ])
 
   in_global : {Y : Type 0} (f : Settings → Y) (o : Option (WithZones H))
       → option_map f (option_and_then (settings_in place.Global) o) ≡ option_map (λ x. f x.global) o
   in_global f None = refl
   in_global f (Some x) = refl
 
-  pub gens_lent : (at : ZonePlace) → gens_at owners i at ≡ option_map (λ (s : Settings). s.gens) (settings_at owners i at)
+  pub gens_lent : (at : ZonePlace)
+      → gens_at owners i at ≡ option_map (λ (s : Settings). s.gens) (settings_at owners i at)
   gens_lent place.Global = sym (in_global (λ (s : Settings). s.gens) (slice_get owners i))
   gens_lent (place.Zone k) = sym (in_zone (λ (s : Settings). s.gens) k (slice_get owners i))
 
-  pub mods_lent : (at : ZonePlace) → mods_at owners i at ≡ option_map (λ (s : Settings). s.mods) (settings_at owners i at)
+  pub mods_lent : (at : ZonePlace)
+      → mods_at owners i at ≡ option_map (λ (s : Settings). s.mods) (settings_at owners i at)
   mods_lent place.Global = sym (in_global (λ (s : Settings). s.mods) (slice_get owners i))
   mods_lent (place.Zone k) = sym (in_zone (λ (s : Settings). s.mods) k (slice_get owners i))
 
@@ -66,23 +73,28 @@ gens_of_entries m n e = sym (laws.from_entries-entries m) ∙ ap from_entries e 
 
 -- settings whose generators and modulators are the same
 same_lent : (o p : Option Settings) (es : List (ℕ × ℕ)) (ms : List Modulator)
-    → option_map entries (option_map (λ (s : Settings). s.gens) o) ≡ Some es → option_map entries (option_map (λ (s : Settings). s.gens) p) ≡ Some es
+    → option_map entries (option_map (λ (s : Settings). s.gens) o) ≡ Some es
+    → option_map entries (option_map (λ (s : Settings). s.gens) p) ≡ Some es
     → option_map (λ (s : Settings). s.mods) o ≡ Some ms → option_map (λ (s : Settings). s.mods) p ≡ Some ms → o ≡ p
 same_lent None p es ms a b c d = cc
 same_lent (Some x) None es ms a b c d = cc
 same_lent (Some x) (Some y) es ms a b c d =
-    let gens = gens_of_entries x.gens y.gens (some_same (entries x.gens) es a ∙ sym (some_same (entries y.gens) es b)) in
+    let gens =
+    gens_of_entries x.gens y.gens (some_same (entries x.gens) es a ∙ sym (some_same (entries y.gens) es b)) in
     let mods : x.mods ≡ y.mods = some_same x.mods ms c ∙ sym (some_same y.mods ms d) in
     λ i. let s : Settings = record { gens = gens i; mods = mods i } in Some s
 
 -- two places with the same generators have the same settings exactly where their modulators are the same
-pub same_by_mods : {H K : Type 0} (xs : List (WithZones H)) (i : ℕ) (at : ZonePlace) (ys : List (WithZones K)) (j : ℕ) (other : ZonePlace)
+pub same_by_mods : {H K : Type 0} (xs : List (WithZones H)) (i : ℕ) (at : ZonePlace) (ys : List (WithZones K))
+    (j : ℕ) (other : ZonePlace)
     → (es fs : List (ℕ × ℕ)) (ms ns : List Modulator) (r : Bool)
-    → entries_at xs i at ≡ Some es → entries_at ys j other ≡ Some fs → es ≡ fs → mods_at xs i at ≡ Some ms → mods_at ys j other ≡ Some ns
+    → entries_at xs i at ≡ Some es → entries_at ys j other ≡ Some fs → es ≡ fs → mods_at xs i at ≡ Some ms
+    → mods_at ys j other ≡ Some ns
     → (IsTrue r ↔ (ms ≡ ns)) → (IsTrue r ↔ (settings_at xs i at ≡ settings_at ys j other))
 same_by_mods xs i at ys j other es fs ms ns r a b same c d h =
     let first = ap (option_map entries) (sym (gens_lent xs i at)) ∙ a in
-    let second = ap (option_map entries) (sym (gens_lent ys j other)) ∙ b ∙ ap (λ (gs : List (ℕ × ℕ)). Some gs) (sym same) in
+    let second =
+    ap (option_map entries) (sym (gens_lent ys j other)) ∙ b ∙ ap (λ (gs : List (ℕ × ℕ)). Some gs) (sym same) in
     let third = sym (mods_lent xs i at) ∙ c in
     let fourth = sym (mods_lent ys j other) ∙ d in (
       λ t. same_lent (settings_at xs i at) (settings_at ys j other) es ms first second third

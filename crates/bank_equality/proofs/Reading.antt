@@ -1,5 +1,6 @@
 -- Two lists of bytes that are read side by side.
-use Rattle.std.proofs.Common.{◌≡◌, ◌≢◌, ℕ, ◌≤◌, min, List, ◌++◌, ◌↔◌, length, take, drop, ap, sym, ◌∙◌, arith, length-take, append-nil, take-append-drop}
+use Rattle.std.proofs.Common.{◌≡◌, ◌≢◌, ℕ, ◌≤◌, min, List, ◌++◌, ◌↔◌, length, take, drop, ap, sym, ◌∙◌, arith}
+use Rattle.std.proofs.Common.{length-take, append-nil, take-append-drop}
 use Rattle.std.specs.Prelude.{Bool, IsTrue, [], ◌∷◌}
 use Rattle.std.specs.Bool.{Decides}
 use Rattle.std.specs.Borrow.{Bor}
@@ -36,7 +37,8 @@ module _ (a b : List ℕ) (n : ℕ) (within : n ≡ min (length a) (length b)) w
       apart (sym (take-front n a xs in_a) ∙ ap (λ t. take n t) e ∙ take-front n b ys in_b)
 
 -- points are the same exactly where their bytes are
-pub same_by_bytes : (ps qs : List ℕ) (xs ys : List ℕ) (r : Bool) → xs ≡ flat_map word_bytes ps → ys ≡ flat_map word_bytes qs
+pub same_by_bytes : (ps qs : List ℕ) (xs ys : List ℕ) (r : Bool) → xs ≡ flat_map word_bytes ps
+    → ys ≡ flat_map word_bytes qs
     → (IsTrue r ↔ (xs ≡ ys)) → (IsTrue r ↔ (ps ≡ qs))
 same_by_bytes ps qs xs ys r p q h = (
   λ t. sym (words_of_bytes ps) ∙ ap words (sym p ∙ h.0 t ∙ q) ∙ words_of_bytes qs,
@@ -44,8 +46,10 @@ same_by_bytes ps qs xs ys r p q h = (
 )
 
 -- where no slice is left, all is the same exactly where what is left of both is
-pub same_at_end : (first second xs ys : List ℕ) (others more : List (Bor (List ℕ))) (r : Bool) → length others ≡ 0 → length more ≡ 0
-    → ((xs ≡ ys) ↔ (first ++ joined_bytes others ≡ second ++ joined_bytes more)) → Decides r (first ≡ second) → (IsTrue r ↔ (xs ≡ ys))
+pub same_at_end : (first second xs ys : List ℕ) (others more : List (Bor (List ℕ))) (r : Bool) → length others ≡ 0
+    → length more ≡ 0
+    → ((xs ≡ ys) ↔ (first ++ joined_bytes others ≡ second ++ joined_bytes more)) → Decides r (first ≡ second)
+    → (IsTrue r ↔ (xs ≡ ys))
 same_at_end first second xs ys [] [] r p q h d = (
   λ t. h.1 (append-nil first ∙ d.0 t ∙ sym (append-nil second)),
   λ e. d.1 (sym (append-nil first) ∙ h.0 e ∙ append-nil second),

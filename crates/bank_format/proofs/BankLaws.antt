@@ -20,8 +20,10 @@ use Rattle.bank_format.specs.Reading.{samples_read, bank_of, counts_of, no_count
 use Rattle.bank_format.proofs.CountLaws.{one_if}
 use Rattle.bank_format.proofs.TextLaws.{texts-again, texts_counted, minor-again}
 use Rattle.bank_format.proofs.WindowLaws.{rows-push}
-use Rattle.bank_format.proofs.TableLaws.{all_presets-again, all_instruments-again, zones_counted, gens_counted, ranges_counted}
-use Rattle.bank_format.proofs.SampleLaws.{length-sample_heads, length-points_written, samples-again, loops_counted, links_counted}
+use Rattle.bank_format.proofs.TableLaws.{all_presets-again, all_instruments-again, zones_counted, gens_counted}
+use Rattle.bank_format.proofs.TableLaws.{ranges_counted}
+use Rattle.bank_format.proofs.SampleLaws.{length-sample_heads, length-points_written, samples-again, loops_counted}
+use Rattle.bank_format.proofs.SampleLaws.{links_counted}
 
 -- ---- points
 
@@ -64,7 +66,9 @@ bank-again b v f =
     let presets = all_presets-again b v in
     let instruments = all_instruments-again b v in
     let samples = samples_are b v in
-    λ i. record { minor = minor i; texts = texts i; presets = presets i; instruments = instruments i; samples = samples i }
+    λ i.
+    record
+    { minor = minor i; texts = texts i; presets = presets i; instruments = instruments i; samples = samples i }
 
 no_sm24 : (b : Parts) → first_body SM24 (sdta b) ≡ None
 unfolding sdta SMPL SM24
@@ -73,16 +77,30 @@ no_sm24 b = refl
 counts-again : (b : Parts) → IsValid b → counts_of (info b) (sdta b) (tables_of b) ≡ no_counts
 unfolding counts_of
 counts-again b v =
-    let n : length (rows (tables_of b).shdr) ≡ length b.samples = ap length (rows-shdr b) ∙ length-sample_heads 0 b.samples in
+    let n : length (rows (tables_of b).shdr) ≡ length b.samples =
+    ap length (rows-shdr b) ∙ length-sample_heads 0 b.samples in
     let texts = texts_counted b v.texts in
     let sm24 = ap (λ (o : Option (List ℕ)). one_if (is_some o)) (no_sm24 b) in
     let zones = zones_counted b v in
     let gens = gens_counted b v in
     let ranges = ranges_counted b v in
-    let loops = ap (λ (hs : List SampleHead). count_by is_loop_lost hs) (rows-shdr b) ∙ loops_counted (length b.samples) 0 b.samples v.samples in
+    let loops =
+    ap (λ (hs : List SampleHead). count_by is_loop_lost hs) (rows-shdr b)
+    ∙ loops_counted (length b.samples) 0 b.samples v.samples in
     let links : count_by (is_link_lost (length (rows (tables_of b).shdr))) (rows (tables_of b).shdr) ≡ 0 =
     (λ i. count_by (is_link_lost (n i)) (rows-shdr b i)) ∙ links_counted (length b.samples) 0 b.samples v.samples in
-    λ i. record { texts = texts i; sm24 = sm24 i; zones = zones i; gens = gens i; ranges = ranges i; loops = loops i; links = links i }
+    λ i.
+    record {
+      texts =
+          texts i;
+      sm24 =
+          sm24 i;
+      zones = zones i;
+      gens = gens i;
+      ranges = ranges i;
+      loops = loops i;
+      links = links i;
+    }
 
 abbrev pub content : Parts → Content
 content b = record { bank = b; counts = no_counts }

@@ -1,5 +1,6 @@
 -- What stands before the first zero of a field is a name.
-use Rattle.std.proofs.Common.{◌≡◌, ◌≤◌, ◌<◌, ◌↔◌, ℕ, zero, suc, List, [], ◌∷◌, length, get_or, Result, Ok, Err, refl, arith}
+use Rattle.std.proofs.Common.{◌≡◌, ◌≤◌, ◌<◌, ◌↔◌, ℕ, zero, suc, List, [], ◌∷◌, length, get_or, Result, Ok, Err, refl}
+use Rattle.std.proofs.Common.{arith}
 use Rattle.std.specs.List.{Contains}
 use Rattle.std.specs.Result.{IsOk}
 use Rattle.sf_base.specs.declared.name.NameFault.{NameFault}
@@ -23,6 +24,8 @@ is_ok (Err TooLong) text short clean long none = absurd (let h = long refl in om
 is_ok (Err ZeroByte) text short clean long none = absurd (clean (none refl).1)
 
 pub field_names : (field : List ℕ) (r : Result (List ℕ) NameFault) → length field ≡ 20
-    → ((r ≡ Err TooLong) ↔ (20 < length (before_zero field))) → ((r ≡ Err ZeroByte) ↔ ((length (before_zero field) ≤ 20) × Contains (before_zero field) 0)) → IsOk r
+    → ((r ≡ Err TooLong) ↔ (20 < length (before_zero field)))
+    → ((r ≡ Err ZeroByte) ↔ ((length (before_zero field) ≤ 20) × Contains (before_zero field) 0)) → IsOk r
 field_names field r size long none =
-    is_ok r (before_zero field) (let h = length-before_zero field in omega (arith, size, h)) (no_zero field) long.0 none.0
+    is_ok r (before_zero field) (let h = length-before_zero field in omega (arith, size, h)) (no_zero field) long.0
+    none.0

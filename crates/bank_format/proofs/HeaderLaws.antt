@@ -1,5 +1,6 @@
 -- The bags that were written of a global zone and zones give them back, and nothing is counted.
-use Rattle.std.proofs.Common.{◌≡◌, ◌+◌, ℕ, true, false, not, eqb, List, [], ◌∷◌, length, map, filter, refl, sym, ap, subst, ◌∙◌, arith, inl, inr}
+use Rattle.std.proofs.Common.{◌≡◌, ◌+◌, ℕ, true, false, not, eqb, List, [], ◌∷◌, length, map, filter, refl, sym, ap}
+use Rattle.std.proofs.Common.{subst, ◌∙◌, arith, inl, inr}
 use Rattle.std.specs.Prelude.{count_by, sum_by, filter_map}
 use Rattle.std.specs.List.{AllByRecursion}
 use Rattle.std.specs.FinMap.{entries, len, len-entries}
@@ -10,9 +11,13 @@ use Rattle.modulators.specs.declared.modulator.Modulator.{Modulator}
 use Rattle.bank_parts.specs.Valid.{AreGenerators, IsZone, AreZones}
 use Rattle.bank_parts.specs.declared.parts.GlobalZone.{GlobalZone}
 use Rattle.bank_parts.specs.declared.parts.Zone.{Zone}
-use Rattle.bank_format.specs.Zones.{Bagged, gens_written, zone_written, bags_written, kept, is_mended, gens_of, zone_read, zones_read, no_global, global_read, has_target, dropped, looked_at, ignored, gens_dropped, ranges_mended}
+use Rattle.bank_format.specs.Zones.{Bagged, gens_written, zone_written, bags_written, kept, is_mended, gens_of}
+use Rattle.bank_format.specs.Zones.{zone_read, zones_read, no_global, global_read, has_target, dropped, looked_at}
+use Rattle.bank_format.specs.Zones.{ignored, gens_dropped, ranges_mended}
 use Rattle.bank_format.proofs.CountLaws.{sum-none, count-none}
-use Rattle.bank_format.proofs.ZoneLaws.{Entries, spelled, gens_of-again, gens_read-global, zone_read-again, has_target-zone, has_target-global, dropped-zone, dropped-global, mended-zone, mended-global, target_of-none}
+use Rattle.bank_format.proofs.ZoneLaws.{Entries, spelled, gens_of-again, gens_read-global, zone_read-again}
+use Rattle.bank_format.proofs.ZoneLaws.{has_target-zone, has_target-global, dropped-zone, dropped-global}
+use Rattle.bank_format.proofs.ZoneLaws.{mended-zone, mended-global, target_of-none}
 
 abbrev made_global : Gens → List Modulator → GlobalZone
 made_global gs ms = record { gens = gs; mods = ms }
@@ -39,19 +44,27 @@ module _ (at : Level) (n : ℕ) where
 
   all_targets : (zs : List Zone) → Zones zs → filter (has_target at) (written zs) ≡ written zs
   all_targets [] v = refl
-  all_targets (x ∷ zs) v = rw (has_target-zone at n x v.0) (ap (λ (ys : List Bagged). zone_written at x ∷ ys) (all_targets zs v.1))
+  all_targets (x ∷ zs) v =
+      rw (has_target-zone at n x v.0) (ap (λ (ys : List Bagged). zone_written at x ∷ ys) (all_targets zs v.1))
 
   none_ignored : (zs : List Zone) → Zones zs → count_by (λ r. not (has_target at r)) (written zs) ≡ 0
   none_ignored [] v = refl
-  none_ignored (x ∷ zs) v = count-none (λ r. not (has_target at r)) (zone_written at x) (written zs) (ap not (has_target-zone at n x v.0)) (none_ignored zs v.1)
+  none_ignored (x ∷ zs) v =
+      count-none (λ r. not (has_target at r)) (zone_written at x) (written zs) (ap not (has_target-zone at n x v.0))
+      (none_ignored zs v.1)
 
   none_dropped : (zs : List Zone) → Zones zs → sum_by (λ (r : Bagged). dropped at r.gens) (written zs) ≡ 0
   none_dropped [] v = refl
-  none_dropped (x ∷ zs) v = sum-none (λ (r : Bagged). dropped at r.gens) (zone_written at x) (written zs) (dropped-zone at x.gens x.target v.0.gens) (none_dropped zs v.1)
+  none_dropped (x ∷ zs) v =
+      sum-none (λ (r : Bagged). dropped at r.gens) (zone_written at x) (written zs)
+      (dropped-zone at x.gens x.target v.0.gens) (none_dropped zs v.1)
 
-  none_mended : (zs : List Zone) → Zones zs → sum_by (λ (r : Bagged). count_by is_mended (kept at r.gens)) (written zs) ≡ 0
+  none_mended : (zs : List Zone) → Zones zs
+      → sum_by (λ (r : Bagged). count_by is_mended (kept at r.gens)) (written zs) ≡ 0
   none_mended [] v = refl
-  none_mended (x ∷ zs) v = sum-none (λ (r : Bagged). count_by is_mended (kept at r.gens)) (zone_written at x) (written zs) (mended-zone at x.gens x.target v.0.gens) (none_mended zs v.1)
+  none_mended (x ∷ zs) v =
+      sum-none (λ (r : Bagged). count_by is_mended (kept at r.gens)) (zone_written at x) (written zs)
+      (mended-zone at x.gens x.target v.0.gens) (none_mended zs v.1)
 
   -- ---- with the global zone
 
@@ -77,7 +90,8 @@ module _ (at : Level) (n : ℕ) where
         mended = rw first (none_mended (x ∷ zs) v);
       }
 
-  with_bag : (gs : Gens) (ms : List Modulator) (zs : List Zone) → AreGenerators at gs → Zones zs → Again (global_bag gs ms ∷ written zs) (made_global gs ms) zs
+  with_bag : (gs : Gens) (ms : List Modulator) (zs : List Zone) → AreGenerators at gs → Zones zs
+      → Again (global_bag gs ms ∷ written zs) (made_global gs ms) zs
   unfolding global_read zones_read ignored gens_dropped ranges_mended looked_at
   with_bag gs ms zs g v =
       let first = all_targets zs v in
@@ -85,15 +99,23 @@ module _ (at : Level) (n : ℕ) where
         global = rw (has_target-global at gs ms g) (ap (λ (x : Gens). made_global x ms) (gens_read-global at gs g));
         zones = rw (target_of-none at (entries gs) g) (zones-again zs v);
         ignored = none_ignored zs v;
-        dropped = rw first (sum-none (λ (r : Bagged). dropped at r.gens) (global_bag gs ms) (written zs) (dropped-global at gs g) (none_dropped zs v));
-        mended = rw first (sum-none (λ (r : Bagged). count_by is_mended (kept at r.gens)) (global_bag gs ms) (written zs) (mended-global at gs g) (none_mended zs v));
+        dropped =
+            rw first
+            (sum-none (λ (r : Bagged). dropped at r.gens) (global_bag gs ms) (written zs)
+            (dropped-global at gs g) (none_dropped zs v));
+        mended =
+            rw first
+            (sum-none (λ (r : Bagged). count_by is_mended (kept at r.gens)) (global_bag gs ms) (written zs)
+            (mended-global at gs g) (none_mended zs v));
       }
 
   -- an empty global zone is none
   empty_global : (g : GlobalZone) → len g.gens + length g.mods ≡ 0 → no_global ≡ g
   empty_global g e =
       let l = len-entries g.gens in
-      let gens : gens_of [] ≡ g.gens = ap (λ (es : Entries). gens_of (spelled es)) (sym (no_elements (entries g.gens) (omega (arith, e, l)))) ∙ gens_of-again g.gens in
+      let gens : gens_of [] ≡ g.gens =
+      ap (λ (es : Entries). gens_of (spelled es)) (sym (no_elements (entries g.gens) (omega (arith, e, l))))
+      ∙ gens_of-again g.gens in
       let mods : [] ≡ g.mods = sym (no_elements g.mods (omega (arith, e))) in
       λ i. record { gens = gens i; mods = mods i }
 
@@ -104,5 +126,7 @@ module _ (at : Level) (n : ℕ) where
       elim (cases_eq (len g.gens + length g.mods) 0) [
         | inl none ↦ (let test : eqb (len g.gens + length g.mods) 0 ≡ true = eq-eqb _ _ none in
             rw test (subst (λ (x : GlobalZone). Again (written zs) x zs) (empty_global g none) (without zs v.zones)))
-        | inr some ↦ (let test : eqb (len g.gens + length g.mods) 0 ≡ false = ne_eqb _ _ some in rw test (with_bag g.gens g.mods zs v.global v.zones))
+        | inr some ↦
+            (let test : eqb (len g.gens + length g.mods) 0 ≡ false =
+            ne_eqb _ _ some in rw test (with_bag g.gens g.mods zs v.global v.zones))
       ]

@@ -1,5 +1,6 @@
 -- What stands before the first zero, and a text that zeros follow.
-use Rattle.std.proofs.Common.{◌≡◌, ◌≤◌, ◌<◌, ◌-◌, ℕ, zero, suc, List, [], ◌∷◌, ◌++◌, length, replicate, refl, ap, ◌∙◌, arith}
+use Rattle.std.proofs.Common.{◌≡◌, ◌≤◌, ◌<◌, ◌-◌, ℕ, zero, suc, List, [], ◌∷◌, ◌++◌, length, replicate, refl, ap}
+use Rattle.std.proofs.Common.{◌∙◌, arith}
 use Rattle.std.specs.List.{AllByRecursion}
 use Rattle.std.proofs.lemmas.List.{append-nil, length-append, length-replicate}
 use Rattle.sf_base.specs.Names.{before_zero, IsTextByte, IsName, filled}
@@ -10,7 +11,8 @@ before_zero-byte (suc b) bs h = refl
 
 before_zero-then : (n rest : List ℕ) → AllByRecursion IsTextByte n → before_zero (n ++ 0 ∷ rest) ≡ n
 before_zero-then [] rest h = refl
-before_zero-then (b ∷ n) rest h = before_zero-byte b (n ++ 0 ∷ rest) h.0.0 ∙ ap (λ (x : List ℕ). b ∷ x) (before_zero-then n rest h.1)
+before_zero-then (b ∷ n) rest h =
+    before_zero-byte b (n ++ 0 ∷ rest) h.0.0 ∙ ap (λ (x : List ℕ). b ∷ x) (before_zero-then n rest h.1)
 
 before_zero-whole : (n : List ℕ) → AllByRecursion IsTextByte n → before_zero n ≡ n
 before_zero-whole [] h = refl
@@ -25,7 +27,8 @@ pub before_zero-filled : (n : List ℕ) → IsName n → before_zero (filled n) 
 before_zero-filled n h = before_zero-zeros n (20 - length n) h.1
 
 pub length-filled : (n : List ℕ) → length n ≤ 20 → length (filled n) ≡ 20
-length-filled n le = omega (arith, length-append n (replicate (20 - length n) 0), length-replicate {A = ℕ} (20 - length n) 0)
+length-filled n le =
+    omega (arith, length-append n (replicate (20 - length n) 0), length-replicate {A = ℕ} (20 - length n) 0)
 
 -- what stands before the first zero of bytes has no zero
 pub before_zero-bytes : (bs : List ℕ) → AllByRecursion (λ b. b < 256) bs → AllByRecursion IsTextByte (before_zero bs)

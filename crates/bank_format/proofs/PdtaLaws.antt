@@ -14,12 +14,15 @@ use Rattle.bank_parts.specs.Fits.{Fits, FitsHead, FitsOwner}
 use Rattle.bank_parts.specs.declared.parts.WithZones.{WithZones}
 use Rattle.bank_parts.specs.declared.parts.Parts.{Parts}
 use Rattle.hydra_records.specs.Fits.{FitsBag, FitsGenerator, FitsPresetHead, FitsInstrumentHead, FitsSampleHead}
-use Rattle.hydra_records.specs.Spelling.{preset_head_bytes, bag_bytes, modulator_bytes, generator_bytes, instrument_head_bytes, sample_head_bytes}
-use Rattle.hydra_records.proofs.KindLaws.{preset_head_lawful, bag_lawful, modulator_lawful, generator_lawful, instrument_head_lawful, sample_head_lawful}
+use Rattle.hydra_records.specs.Spelling.{preset_head_bytes, bag_bytes, modulator_bytes, generator_bytes}
+use Rattle.hydra_records.specs.Spelling.{instrument_head_bytes, sample_head_bytes}
+use Rattle.hydra_records.proofs.KindLaws.{preset_head_lawful, bag_lawful, modulator_lawful, generator_lawful}
+use Rattle.hydra_records.proofs.KindLaws.{instrument_head_lawful, sample_head_lawful}
 use Rattle.bank_format.specs.Ids.{PHDR, PBAG, PMOD, PGEN, INST, IBAG, IMOD, IGEN, SHDR}
 use Rattle.bank_format.specs.Steps.{first_broken}
 use Rattle.bank_format.specs.Zones.{Bagged}
-use Rattle.bank_format.specs.Tables.{Tables, tables_of, bag_list, gen_list, mod_list, generator_end, modulator_end, sample_end, presets, instruments, bags_of, all_bags, sample_heads_from}
+use Rattle.bank_format.specs.Tables.{Tables, tables_of, bag_list, gen_list, mod_list, generator_end, modulator_end}
+use Rattle.bank_format.specs.Tables.{sample_end, presets, instruments, bags_of, all_bags, sample_heads_from}
 use Rattle.bank_format.specs.Canon.{pdta}
 use Rattle.bank_format.specs.Chunks.{or_zero, tables_in}
 use Rattle.bank_format.specs.ReadSteps.{size_steps, count_steps}
@@ -28,7 +31,8 @@ use Rattle.bank_format.proofs.WindowLaws.{sizes, total, length-flat}
 use Rattle.bank_format.proofs.TableLaws.{gens_in_bag, mods_in_bag, length-heads}
 use Rattle.bank_format.proofs.SampleLaws.{length-sample_heads}
 use Rattle.bank_format.proofs.IndexSteps.{length-bag_list}
-use Rattle.bank_format.proofs.FitLaws.{total-by, length-by, holds, bags_fit, FitsBagged, written_fit, gen_list_fit, mod_list_fit, preset_heads_fit, instrument_heads_fit, sample_heads_fit}
+use Rattle.bank_format.proofs.FitLaws.{total-by, length-by, holds, bags_fit, FitsBagged, written_fit, gen_list_fit}
+use Rattle.bank_format.proofs.FitLaws.{mod_list_fit, preset_heads_fit, instrument_heads_fit, sample_heads_fit}
 
 pub record TablesFit (t : Tables) : Type 0 where
   pub phdr : AllByRecursion FitsPresetHead t.phdr
@@ -71,7 +75,22 @@ tables-again t v c =
     let imod = ap or_zero (modulator_lawful.records_read_back t.imod v.imod) ∙ or_zero-again t.imod c.imod.0 in
     let igen = generator_lawful.records_read_back t.igen v.igen in
     let shdr = sample_head_lawful.records_read_back t.shdr v.shdr in
-    λ i. record { phdr = phdr i; pbag = pbag i; pmod = pmod i; pgen = pgen i; inst = inst i; ibag = ibag i; imod = imod i; igen = igen i; shdr = shdr i }
+    λ i.
+    record {
+      phdr =
+          phdr i;
+      pbag =
+          pbag i;
+      pmod =
+          pmod i;
+      pgen =
+          pgen i;
+      inst = inst i;
+      ibag = ibag i;
+      imod = imod i;
+      igen = igen i;
+      shdr = shdr i;
+    }
 
 -- ---- the tables of a bank
 
@@ -79,16 +98,25 @@ module _ (b : Parts) (v : IsValid b) where
   -- the bags of one level
   module _ {H : Type 0} (at : Level) (xs : List (WithZones H)) where
     gens_are : total (sizes gens_in_bag (all_bags at xs)) ≡ owner_total gen_count xs
-    gens_are = total-by gens_in_bag (bags_of at) (λ (x : WithZones H). gen_count x.global x.zones) (λ x. (holds at x.global x.zones).gens_are) xs
+    gens_are =
+        total-by gens_in_bag (bags_of at) (λ (x : WithZones H). gen_count x.global x.zones)
+        (λ x. (holds at x.global x.zones).gens_are) xs
 
     mods_are : total (sizes mods_in_bag (all_bags at xs)) ≡ owner_total mod_count xs
-    mods_are = total-by mods_in_bag (bags_of at) (λ (x : WithZones H). mod_count x.global x.zones) (λ x. (holds at x.global x.zones).mods_are) xs
+    mods_are =
+        total-by mods_in_bag (bags_of at) (λ (x : WithZones H). mod_count x.global x.zones)
+        (λ x. (holds at x.global x.zones).mods_are) xs
 
     zones_are : length (all_bags at xs) ≡ owner_total zone_count xs
-    zones_are = length-by (bags_of at) (λ (x : WithZones H). zone_count x.global x.zones) (λ x. (holds at x.global x.zones).zones_are) xs
+    zones_are =
+        length-by (bags_of at) (λ (x : WithZones H). zone_count x.global x.zones)
+        (λ x. (holds at x.global x.zones).zones_are) xs
 
-    all_bags_fit : (IsFit : H → Type 0) → AllByRecursion (FitsOwner IsFit) xs → AllByRecursion FitsBagged (all_bags at xs)
-    all_bags_fit IsFit f = all-flat_map FitsBagged (FitsOwner IsFit) (bags_of at) (λ x q. written_fit at x.global x.zones q.global q.zones) xs f
+    all_bags_fit : (IsFit : H → Type 0) → AllByRecursion (FitsOwner IsFit) xs
+        → AllByRecursion FitsBagged (all_bags at xs)
+    all_bags_fit IsFit f =
+        all-flat_map FitsBagged (FitsOwner IsFit) (bags_of at)
+        (λ x q. written_fit at x.global x.zones q.global q.zones) xs f
 
   pub tables_fit : Fits b → TablesFit (tables_of b)
   unfolding tables_of
@@ -117,11 +145,15 @@ module _ (b : Parts) (v : IsValid b) where
 
   gens_counted : (bags : List Bagged) → total (sizes gens_in_bag bags) ≤ 65535 → IsCount (length (gen_list bags))
   unfolding gen_list
-  gens_counted bags le = let l = length-append (flat_map gens_in_bag bags) (generator_end ∷ []) in let t = length-flat gens_in_bag bags in (omega (arith, l), omega (arith, l, t, le))
+  gens_counted bags le =
+      let l = length-append (flat_map gens_in_bag bags) (generator_end ∷ []) in
+      let t = length-flat gens_in_bag bags in (omega (arith, l), omega (arith, l, t, le))
 
   mods_counted : (bags : List Bagged) → total (sizes mods_in_bag bags) ≤ 65535 → IsCount (length (mod_list bags))
   unfolding mod_list
-  mods_counted bags le = let l = length-append (flat_map mods_in_bag bags) (modulator_end ∷ []) in let t = length-flat mods_in_bag bags in (omega (arith, l), omega (arith, l, t, le))
+  mods_counted bags le =
+      let l = length-append (flat_map mods_in_bag bags) (modulator_end ∷ []) in
+      let t = length-flat mods_in_bag bags in (omega (arith, l), omega (arith, l, t, le))
 
   pub tables_count : TablesCount (tables_of b)
   unfolding tables_of
@@ -130,8 +162,10 @@ module _ (b : Parts) (v : IsValid b) where
       let np = w.presets in let ni = w.instruments in let ns = w.samples in
       let pg = w.preset_gens in let pm = w.preset_mods in let pz = w.preset_zones in
       let ig = w.instrument_gens in let im = w.instrument_mods in let iz = w.instrument_zones in
-      let eg = gens_are level.Preset b.presets in let em = mods_are level.Preset b.presets in let ez = zones_are level.Preset b.presets in
-      let fg = gens_are level.Instrument b.instruments in let fm = mods_are level.Instrument b.instruments in let fz = zones_are level.Instrument b.instruments in
+      let eg = gens_are level.Preset b.presets in
+      let em = mods_are level.Preset b.presets in let ez = zones_are level.Preset b.presets in
+      let fg = gens_are level.Instrument b.instruments in
+      let fm = mods_are level.Instrument b.instruments in let fz = zones_are level.Instrument b.instruments in
       let lp = length-heads presets 0 b.presets in
       let li = length-heads instruments 0 b.instruments in
       let ls = length-append (sample_heads_from 0 b.samples) (sample_end ∷ []) in
@@ -155,8 +189,29 @@ unfolding count_steps
 count_steps_hold t c =
     let least : (n : ℕ) → IsCount n → leb 1 n ≡ true = λ n i. le-leb _ _ i.0 in
     let most : (n : ℕ) → IsCount n → leb n 65536 ≡ true = λ n i. le-leb _ _ i.1 in
-    rw (least _ c.phdr, least _ c.pbag, least _ c.pmod, least _ c.pgen, least _ c.inst, least _ c.ibag, least _ c.imod, least _ c.igen, least _ c.shdr)
-    (rw (most _ c.phdr, most _ c.pbag, most _ c.pmod, most _ c.pgen, most _ c.inst, most _ c.ibag, most _ c.imod, most _ c.igen, most _ c.shdr) refl)
+    rw (
+      least _ c.phdr,
+      least _ c.pbag,
+      least _ c.pmod,
+      least _ c.pgen,
+      least _ c.inst,
+      least _ c.ibag,
+      least _ c.imod,
+      least _ c.igen,
+      least _ c.shdr,
+    )
+    (rw (
+      most _ c.phdr,
+      most _ c.pbag,
+      most _ c.pmod,
+      most _ c.pgen,
+      most _ c.inst,
+      most _ c.ibag,
+      most _ c.imod,
+      most _ c.igen,
+      most _ c.shdr,
+    )
+    refl)
 
 -- what the bodies measure
 pub record Measured (t : Tables) : Type 0 where
@@ -186,13 +241,20 @@ measured t v = record {
 pub size_steps_hold : (t : Tables) → Measured t → first_broken (size_steps (pdta t)) ≡ None
 unfolding size_steps pdta PHDR PBAG PMOD PGEN INST IBAG IMOD IGEN SHDR
 size_steps_hold t m =
-    let s1 : eqb (length (flat_map preset_head_bytes t.phdr) % 38) 0 ≡ true = eq-eqb _ _ (let e = m.phdr in omega (arith, e)) in
+    let s1 : eqb (length (flat_map preset_head_bytes t.phdr) % 38) 0 ≡ true =
+    eq-eqb _ _ (let e = m.phdr in omega (arith, e)) in
     let s2 : eqb (length (flat_map bag_bytes t.pbag) % 4) 0 ≡ true = eq-eqb _ _ (let e = m.pbag in omega (arith, e)) in
-    let s3 : eqb (length (flat_map modulator_bytes t.pmod) % 10) 0 ≡ true = eq-eqb _ _ (let e = m.pmod in omega (arith, e)) in
-    let s4 : eqb (length (flat_map generator_bytes t.pgen) % 4) 0 ≡ true = eq-eqb _ _ (let e = m.pgen in omega (arith, e)) in
-    let s5 : eqb (length (flat_map instrument_head_bytes t.inst) % 22) 0 ≡ true = eq-eqb _ _ (let e = m.inst in omega (arith, e)) in
+    let s3 : eqb (length (flat_map modulator_bytes t.pmod) % 10) 0 ≡ true =
+    eq-eqb _ _ (let e = m.pmod in omega (arith, e)) in
+    let s4 : eqb (length (flat_map generator_bytes t.pgen) % 4) 0 ≡ true =
+    eq-eqb _ _ (let e = m.pgen in omega (arith, e)) in
+    let s5 : eqb (length (flat_map instrument_head_bytes t.inst) % 22) 0 ≡ true =
+    eq-eqb _ _ (let e = m.inst in omega (arith, e)) in
     let s6 : eqb (length (flat_map bag_bytes t.ibag) % 4) 0 ≡ true = eq-eqb _ _ (let e = m.ibag in omega (arith, e)) in
-    let s7 : eqb (length (flat_map modulator_bytes t.imod) % 10) 0 ≡ true = eq-eqb _ _ (let e = m.imod in omega (arith, e)) in
-    let s8 : eqb (length (flat_map generator_bytes t.igen) % 4) 0 ≡ true = eq-eqb _ _ (let e = m.igen in omega (arith, e)) in
-    let s9 : eqb (length (flat_map sample_head_bytes t.shdr) % 46) 0 ≡ true = eq-eqb _ _ (let e = m.shdr in omega (arith, e)) in
+    let s7 : eqb (length (flat_map modulator_bytes t.imod) % 10) 0 ≡ true =
+    eq-eqb _ _ (let e = m.imod in omega (arith, e)) in
+    let s8 : eqb (length (flat_map generator_bytes t.igen) % 4) 0 ≡ true =
+    eq-eqb _ _ (let e = m.igen in omega (arith, e)) in
+    let s9 : eqb (length (flat_map sample_head_bytes t.shdr) % 46) 0 ≡ true =
+    eq-eqb _ _ (let e = m.shdr in omega (arith, e)) in
     rw (s1, s2, s3, s4, s5, s6, s7, s8, s9) refl

@@ -1,5 +1,6 @@
 -- All that stands in a window of bytes is bytes.
-use Rattle.std.proofs.Common.{◌<◌, ◌+◌, ◌%◌, ℕ, zero, suc, Bool, true, false, cond, ltb, List, [], ◌∷◌, length, take, drop, Option, Some, Ok, Err}
+use Rattle.std.proofs.Common.{◌<◌, ◌+◌, ◌%◌, ℕ, zero, suc, Bool, true, false, cond, ltb, List, [], ◌∷◌, length, take}
+use Rattle.std.proofs.Common.{drop, Option, Some, Ok, Err}
 use Rattle.std.specs.Prelude.{unwrap_or, find, bytes_eq}
 use Rattle.std.specs.Option.{option_map}
 use Rattle.std.specs.List.{AllByRecursion}
@@ -42,7 +43,8 @@ unfolding walk_for
 walked zero w h = tt
 walked (suc n) w h =
     turn_bytes (ltb (length w) 8) (body_fits w) (chunk_at w) (walk_for n (after w))
-    (take_bytes (size_at w) (drop 8 w) (drop_bytes 8 w h)) (walked n (after w) (drop_bytes (8 + size_at w + size_at w % 2) w h))
+    (take_bytes (size_at w) (drop 8 w) (drop_bytes 8 w h))
+    (walked n (after w) (drop_bytes (8 + size_at w + size_at w % 2) w h))
 
 pub walk_bytes : (w : List ℕ) → AreBytes w → AllByRecursion OfBytes (chunks_in (walk w))
 unfolding walk
@@ -52,11 +54,13 @@ walk_bytes w h = walked (length w) w h
 abbrev found_body : ℕ → Option Chunk → List ℕ
 found_body n o = unwrap_or (option_map (λ (c : Chunk). drop n c.body) o) []
 
-one_found : (n : ℕ) (b : Bool) (c : Chunk) (rest : Option Chunk) → OfBytes c → AreBytes (found_body n rest) → AreBytes (found_body n (cond b (Some c) rest))
+one_found : (n : ℕ) (b : Bool) (c : Chunk) (rest : Option Chunk) → OfBytes c → AreBytes (found_body n rest)
+    → AreBytes (found_body n (cond b (Some c) rest))
 one_found n true c rest one h = drop_bytes n c.body one
 one_found n false c rest one h = h
 
-found : (n : ℕ) (test : Chunk → Bool) (cs : List Chunk) → AllByRecursion OfBytes cs → AreBytes (found_body n (find test cs))
+found : (n : ℕ) (test : Chunk → Bool) (cs : List Chunk) → AllByRecursion OfBytes cs
+    → AreBytes (found_body n (find test cs))
 found n test [] h = no_bytes
 found n test (c ∷ cs) h = one_found n (test c) c (find test cs) h.0 (found n test cs h.1)
 

@@ -1,6 +1,7 @@
 -- What is read of the bags of a preset or an instrument: a global zone and zones, which are valid but for
 -- the zones' targets, fit, and count no more than the bags hold.
-use Rattle.std.proofs.Common.{◌≡◌, ◌≤◌, ◌<◌, ◌+◌, ◌^◌, ℕ, Bool, true, false, cond, eqb, List, [], ◌∷◌, length, Some, None, refl, ap, subst, arith}
+use Rattle.std.proofs.Common.{◌≡◌, ◌≤◌, ◌<◌, ◌+◌, ◌^◌, ℕ, Bool, true, false, cond, eqb, List, [], ◌∷◌, length, Some}
+use Rattle.std.proofs.Common.{None, refl, ap, subst, arith}
 use Rattle.std.specs.Prelude.{is_some, sum_by, filter_map}
 use Rattle.std.specs.List.{AllByRecursion, cons_option, find}
 use Rattle.std.specs.Option.{option_map}
@@ -14,7 +15,8 @@ use Rattle.bank_parts.specs.Valid.{AreGenerators, global_count, zone_count, gen_
 use Rattle.bank_parts.specs.Fits.{FitsGlobal, FitsZone}
 use Rattle.hydra_records.specs.declared.zone.Generator.{Generator}
 use Rattle.hydra_records.specs.Fits.{FitsGenerator}
-use Rattle.bank_format.specs.Zones.{Bagged, is_target, target_of, gens_read, zone_of, zone_read, zones_read, no_global, has_target, global_read}
+use Rattle.bank_format.specs.Zones.{Bagged, is_target, target_of, gens_read, zone_of, zone_read, zones_read}
+use Rattle.bank_format.specs.Zones.{no_global, has_target, global_read}
 use Rattle.bank_format.proofs.ReadZones.{gens_valid, gens_fit, len-gens_read, len-none, one_for}
 
 -- a bag of records that bytes hold
@@ -51,25 +53,32 @@ module _ (at : Level) where
   pub zones_hold : (bags : List Bagged) → AllByRecursion HasGenerators (zones_read at bags)
   unfolding zones_read
   zones_hold [] = tt
-  zones_hold (r ∷ bags) = elim (target_of at r.gens) as (λ o. AllByRecursion HasGenerators (cons_option (option_map (zone_of at r) o) (later_zones bags))) [
-    | None ↦ zones_hold bags
-    | Some t ↦ (gens_valid at r.gens, zones_hold bags)
-  ]
+  zones_hold (r ∷ bags) =
+      elim (target_of at r.gens) as
+      (λ o. AllByRecursion HasGenerators (cons_option (option_map (zone_of at r) o) (later_zones bags))) [
+        | None ↦ zones_hold bags
+        | Some t ↦ (gens_valid at r.gens, zones_hold bags)
+      ]
 
   pub global_holds : (bags : List Bagged) → AreGenerators at (global_read at bags).gens
   unfolding global_read
   global_holds [] = gens_valid at []
-  global_holds (r ∷ bags) = elim (has_target at r) as (λ b. AreGenerators at (cond b no_global (made_global at r)).gens) [
-    | true ↦ gens_valid at []
-    | false ↦ gens_valid at r.gens
-  ]
+  global_holds (r ∷ bags) =
+      elim (has_target at r) as (λ b. AreGenerators at (cond b no_global (made_global at r)).gens) [
+        | true ↦ gens_valid at []
+        | false ↦ gens_valid at r.gens
+      ]
 
   -- ---- numbers that fit
 
-  target_fits : (rs : List Generator) → AllByRecursion FitsGenerator rs → (t : ℕ) → target_of at rs ≡ Some t → t < 2 ^ 16
+  target_fits : (rs : List Generator) → AllByRecursion FitsGenerator rs → (t : ℕ) → target_of at rs ≡ Some t
+      → t < 2 ^ 16
   target_fits [] v t e = absurd cc
   target_fits (r ∷ rs) v t e =
-      elim (is_target at r) as (λ b. option_map (λ (x : Generator). x.amount) (cond b (Some r) (find (is_target at) rs)) ≡ Some t → t < 2 ^ 16) [
+      elim (is_target at r) as
+      (λ b.
+      option_map (λ (x : Generator). x.amount) (cond b (Some r) (find (is_target at) rs)) ≡ Some t
+      → t < 2 ^ 16) [
         | true ↦ λ h. (let same : r.amount ≡ t = cc in let f = v.0.amount in omega (arith, same, f))
         | false ↦ λ h. target_fits rs v.1 t h
       ] e
@@ -78,9 +87,14 @@ module _ (at : Level) where
   unfolding zones_read
   zones_fit [] v = tt
   zones_fit (r ∷ bags) v =
-      (elim (target_of at r.gens) as (λ o. target_of at r.gens ≡ o → AllByRecursion FitsZone (cons_option (option_map (zone_of at r) o) (later_zones bags))) [
+      (elim (target_of at r.gens) as (λ o. target_of at r.gens ≡ o
+      → AllByRecursion FitsZone (cons_option (option_map (zone_of at r) o) (later_zones bags))) [
         | None ↦ λ e. zones_fit bags v.1
-        | Some t ↦ λ e. (record { target = target_fits r.gens v.0.gens t e; gens = gens_fit at r.gens v.0.gens; mods = v.0.mods }, zones_fit bags v.1)
+        | Some t ↦ λ e. (
+          record
+              { target = target_fits r.gens v.0.gens t e; gens = gens_fit at r.gens v.0.gens; mods = v.0.mods },
+          zones_fit bags v.1,
+        )
       ]) refl
 
   none_fit : FitsGlobal no_global
@@ -118,14 +132,20 @@ module _ (at : Level) where
       let gs = sum_by-cons gens_in r bags in
       let ms = sum_by-cons mods_in r bags in
       let own = len-gens_read at r.gens in
-      (elim (target_of at r.gens) as (λ o. target_of at r.gens ≡ o → HaveFew (r ∷ bags) (cons_option (option_map (zone_of at r) o) zs)) [
+      (elim (target_of at r.gens) as
+      (λ o. target_of at r.gens ≡ o → HaveFew (r ∷ bags) (cons_option (option_map (zone_of at r) o) zs)) [
         | None ↦ λ e. record { zones = omega (arith, rz); gens = omega (arith, rg, gs); mods = omega (arith, rm, ms) }
         | Some t ↦ λ e.
             let z = zone_of at r t in
             let one : one_for (target_of at r.gens) ≡ 1 = ap one_for e in
             let zg = sum_by-cons zone_gens z zs in
             let zm = sum_by-cons zone_mods z zs in
-            record { zones = omega (arith, rz); gens = omega (arith, rg, gs, own, one, zg); mods = omega (arith, rm, ms, zm) }
+            record {
+              zones =
+                  omega (arith, rz);
+              gens = omega (arith, rg, gs, own, one, zg);
+              mods = omega (arith, rm, ms, zm);
+            }
       ]) refl
 
   -- an empty global zone counts nothing, any other one
@@ -150,12 +170,25 @@ module _ (at : Level) where
       let own = len-gens_read at r.gens in
       let few_global = one_at_most (eqb (len (gens_read at r.gens) + length r.mods) 0) in
       let zs = later_zones bags in
-      (elim (target_of at r.gens) as (λ o. target_of at r.gens ≡ o → AreCounted (r ∷ bags) (cond (is_some o) no_global (made_global at r)) (cons_option (option_map (zone_of at r) o) zs)) [
-        | None ↦ λ e. record { zones = omega (arith, rz, few_global); gens = omega (arith, rg, gs, own); mods = omega (arith, rm, ms) }
+      (elim (target_of at r.gens) as (λ o. target_of at r.gens ≡ o → AreCounted (r ∷ bags)
+      (cond (is_some o) no_global (made_global at r)) (cons_option (option_map (zone_of at r) o) zs)) [
+        | None ↦ λ e.
+            record {
+              zones =
+                  omega (arith, rz, few_global);
+              gens = omega (arith, rg, gs, own);
+              mods = omega (arith, rm, ms);
+            }
         | Some t ↦ λ e.
-            let all : HaveFew (r ∷ bags) (zone_of at r t ∷ zs) = subst (λ o. HaveFew (r ∷ bags) (cons_option (option_map (zone_of at r) o) zs)) e few in
+            let all : HaveFew (r ∷ bags) (zone_of at r t ∷ zs) =
+            subst (λ o. HaveFew (r ∷ bags) (cons_option (option_map (zone_of at r) o) zs)) e few in
             let az = all.zones in
             let ag = all.gens in
             let am = all.mods in
-            record { zones = omega (arith, no_global_count, az); gens = omega (arith, len-none, ag); mods = omega (arith, am) }
+            record {
+              zones =
+                  omega (arith, no_global_count, az);
+              gens = omega (arith, len-none, ag);
+              mods = omega (arith, am);
+            }
       ]) refl

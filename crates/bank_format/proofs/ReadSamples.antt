@@ -1,5 +1,6 @@
 -- What is read of a sample's head is valid, and fits.
-use Rattle.std.proofs.Common.{◌≡◌, ◌≤◌, ◌<◌, ◌+◌, ◌-◌, ◌/◌, ◌%◌, ℕ, Bool, true, false, cond, eqb, leb, ltb, ◌&&◌, List, [], ◌∷◌, length, drop, map, Option, Some, None, refl, arith}
+use Rattle.std.proofs.Common.{◌≡◌, ◌≤◌, ◌<◌, ◌+◌, ◌-◌, ◌/◌, ◌%◌, ℕ, Bool, true, false, cond, eqb, leb, ltb, ◌&&◌}
+use Rattle.std.proofs.Common.{List, [], ◌∷◌, length, drop, map, Option, Some, None, refl, arith}
 use Rattle.std.specs.Prelude.{sum_by}
 use Rattle.std.specs.List.{AllByRecursion, slice_range}
 use Rattle.std.proofs.lemmas.Bool.{ltb-true, leb-true, and_parts}
@@ -75,7 +76,8 @@ loop_valid n h e = loop_has (IsLoop n) h tt (λ t.
     (omega (arith, p, q), omega (arith, p, q, r, e)))
 
 loop_fits : (h : SampleHead) → FitsSampleHead h → FitsLoop (loop_read h)
-loop_fits h f = let s = f.loop_start in let e = f.loop_end in loop_has FitsLoop h tt (λ t. (omega (arith, s), omega (arith, e)))
+loop_fits h f =
+    let s = f.loop_start in let e = f.loop_end in loop_has FitsLoop h tt (λ t. (omega (arith, s), omega (arith, e)))
 
 module _ (P : Kind → Type 0) (mono : P Mono) (n : ℕ) where
   link_has : (kind : ℕ → Kind) (link : ℕ) → (link < n → P (kind link)) → P (link_read n kind link)
@@ -89,7 +91,8 @@ module _ (P : Kind → Type 0) (mono : P Mono) (n : ℕ) where
   choose true x y p q = p
   choose false x y p q = q
 
-  kind_has : (h : SampleHead) → (h.link < n → P (Right h.link)) → (h.link < n → P (Left h.link)) → (h.link < n → P (Linked h.link)) → P (kind_read n h)
+  kind_has : (h : SampleHead) → (h.link < n → P (Right h.link)) → (h.link < n → P (Left h.link))
+      → (h.link < n → P (Linked h.link)) → P (kind_read n h)
   unfolding kind_read
   kind_has h right left linked =
       choose (eqb h.kind 2) _ _ (link_has Right h.link right)
@@ -98,7 +101,8 @@ module _ (P : Kind → Type 0) (mono : P Mono) (n : ℕ) where
 
 -- ---- the sample
 
-pub sample_valid : (n : ℕ) (points : List ℕ) (h : SampleHead) → ReadHead h → GoodHead (length points) h → IsSample n (sample_read n points h)
+pub sample_valid : (n : ℕ) (points : List ℕ) (h : SampleHead) → ReadHead h → GoodHead (length points) h
+    → IsSample n (sample_read n points h)
 unfolding sample_read
 sample_valid n points h r g =
     let len = length-range points h.start h.end g.order g.inside in
@@ -108,7 +112,8 @@ sample_valid n points h r g =
       kind = kind_has (IsLink n) tt n h (λ p. p) (λ p. p) (λ p. p);
     }
 
-pub sample_fits : (n : ℕ) (points : List ℕ) (h : SampleHead) → AreWords points → ReadHead h → FitsSample (sample_read n points h)
+pub sample_fits : (n : ℕ) (points : List ℕ) (h : SampleHead) → AreWords points → ReadHead h
+    → FitsSample (sample_read n points h)
 unfolding sample_read
 sample_fits n points h w r = record {
   name = name_valid h.name r.name r.fits.name;
@@ -122,12 +127,14 @@ sample_fits n points h w r = record {
 
 -- ---- all samples
 
-pub samples_valid : (n : ℕ) (points : List ℕ) (hs : List SampleHead) → AllByRecursion ReadHead hs → AllByRecursion (GoodHead (length points)) hs
+pub samples_valid : (n : ℕ) (points : List ℕ) (hs : List SampleHead) → AllByRecursion ReadHead hs
+    → AllByRecursion (GoodHead (length points)) hs
     → AllByRecursion (IsSample n) (map (sample_read n points) hs)
 samples_valid n points [] r g = tt
 samples_valid n points (h ∷ hs) r g = (sample_valid n points h r.0 g.0, samples_valid n points hs r.1 g.1)
 
-pub samples_fit : (n : ℕ) (points : List ℕ) (hs : List SampleHead) → AreWords points → AllByRecursion ReadHead hs → AllByRecursion FitsSample (map (sample_read n points) hs)
+pub samples_fit : (n : ℕ) (points : List ℕ) (hs : List SampleHead) → AreWords points → AllByRecursion ReadHead hs
+    → AllByRecursion FitsSample (map (sample_read n points) hs)
 samples_fit n points [] w r = tt
 samples_fit n points (h ∷ hs) w r = (sample_fits n points h w r.0, samples_fit n points hs w r.1)
 
@@ -142,7 +149,9 @@ point_total-read n points (h ∷ hs) g =
     let len = length-range points h.start h.end g.0.order g.0.inside in
     let rest = point_total-read n points hs g.1 in
     let old = sum_by-cons head_size h hs in
-    let new = sum_by-cons (λ (s : Sample). length s.points + 46) (sample_read n points h) (map (sample_read n points) hs) in
+    let new =
+    sum_by-cons (λ (s : Sample). length s.points + 46) (sample_read n points h) (map (sample_read n points) hs)
+    in
     omega (arith, len, rest, old, new)
 
 pub total_small : (hs : List SampleHead) → first_broken (total_steps hs) ≡ None → sum_by head_size hs ≤ 500000000

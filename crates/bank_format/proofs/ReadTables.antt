@@ -14,7 +14,8 @@ use Rattle.bank_format.specs.Zones.{Bagged}
 use Rattle.bank_format.specs.Reading.{bagged, bags_in}
 use Rattle.bank_format.specs.ReadSteps.{index_steps, bag_steps}
 use Rattle.bank_format.proofs.StepLaws.{both_none}
-use Rattle.bank_format.proofs.ReadWindows.{AreIndexes, indexes_held, all_windows, lengths_within, sums_within, all_together, sum-left, sum-right}
+use Rattle.bank_format.proofs.ReadWindows.{AreIndexes, indexes_held, all_windows, lengths_within, sums_within}
+use Rattle.bank_format.proofs.ReadWindows.{all_together, sum-left, sum-right}
 use Rattle.bank_format.proofs.ReadHeaders.{FitsBagged, gens_in, mods_in}
 
 abbrev pub AllFit : List Bagged → Type 0
@@ -42,25 +43,37 @@ module _ (bags : List Bag) (gens : List Generator) (mods : List Modulator) where
   bags_fit : AllByRecursion FitsGenerator gens → AllByRecursion FitsModulator mods → AllFit (bags_in bags gens mods)
   unfolding bags_in
   bags_fit g m =
-      all_together bagged (AllByRecursion FitsGenerator) (AllByRecursion FitsModulator) FitsBagged (λ x y p q. record { gens = p; mods = q })
-      (windows gens gen_indexes) (windows mods mod_indexes) (all_windows FitsGenerator gens gen_indexes g) (all_windows FitsModulator mods mod_indexes m)
+      all_together bagged (AllByRecursion FitsGenerator) (AllByRecursion FitsModulator) FitsBagged
+      (λ x y p q. record { gens = p; mods = q })
+      (windows gens gen_indexes) (windows mods mod_indexes) (all_windows FitsGenerator gens gen_indexes g)
+      (all_windows FitsModulator mods mod_indexes m)
 
-  pub windows_fit : (is : List ℕ) → AllByRecursion FitsGenerator gens → AllByRecursion FitsModulator mods → AllByRecursion AllFit (windows (bags_in bags gens mods) is)
+  pub windows_fit : (is : List ℕ) → AllByRecursion FitsGenerator gens → AllByRecursion FitsModulator mods
+      → AllByRecursion AllFit (windows (bags_in bags gens mods) is)
   windows_fit is g m = all_windows FitsBagged (bags_in bags gens mods) is (bags_fit g m)
 
   gens_within : AreIndexes gen_indexes (length gens - 1) → sum_by gens_in (bags_in bags gens mods) ≤ length gens - 1
   unfolding bags_in
   gens_within v =
       let whole = lengths_within gens (length gens - 1) gen_indexes v in
-      omega (arith, whole, sum-left bagged gens_in length (λ x y. omega arith) (windows gens gen_indexes) (windows mods mod_indexes))
+      omega (
+        arith,
+        whole,
+        sum-left bagged gens_in length (λ x y. omega arith) (windows gens gen_indexes) (windows mods mod_indexes),
+      )
 
   mods_within : AreIndexes mod_indexes (length mods - 1) → sum_by mods_in (bags_in bags gens mods) ≤ length mods - 1
   unfolding bags_in
   mods_within v =
       let whole = lengths_within mods (length mods - 1) mod_indexes v in
-      omega (arith, whole, sum-right bagged mods_in length (λ x y. omega arith) (windows gens gen_indexes) (windows mods mod_indexes))
+      omega (
+        arith,
+        whole,
+        sum-right bagged mods_in length (λ x y. omega arith) (windows gens gen_indexes) (windows mods mod_indexes),
+      )
 
-  pub windows_within : (is : List ℕ) → AreFew bags gens mods → AreIndexes is (length bags - 1) → first_broken (bag_steps bags (length gens) (length mods)) ≡ None
+  pub windows_within : (is : List ℕ) → AreFew bags gens mods → AreIndexes is (length bags - 1)
+      → first_broken (bag_steps bags (length gens) (length mods)) ≡ None
       → AreWithin (windows (bags_in bags gens mods) is)
   windows_within is few v e =
       let both = both_none (index_steps gen_indexes (length gens)) (index_steps mod_indexes (length mods)) e in

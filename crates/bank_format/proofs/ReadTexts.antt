@@ -18,14 +18,35 @@ use Rattle.bank_format.proofs.ReadWindows.{all_taken}
 pub name_valid : (name : List ℕ) → AreBytes name → length name ≡ 20 → IsName (before_zero name)
 name_valid name b e = (omega (arith, e, length-before_zero name), before_zero-bytes name (in_turn name b))
 
-text_valid : (n : ℕ) (name : List ℕ) (info : List Chunk) → AllByRecursion OfBytes info → IsText n (take n (text_in name info))
+text_valid : (n : ℕ) (name : List ℕ) (info : List Chunk) → AllByRecursion OfBytes info
+    → IsText n (take n (text_in name info))
 text_valid n name info h =
-    let bytes = in_turn (body_in name info) (body_bytes name info h) in
-    (omega (arith, length-take n (text_in name info)), all_taken IsTextByte n (text_in name info) (before_zero-bytes (body_in name info) bytes))
+    let bytes = in_turn (body_in name info) (body_bytes name info h) in (
+      omega (arith, length-take n (text_in name info)),
+      all_taken IsTextByte n (text_in name info) (before_zero-bytes (body_in name info) bytes),
+    )
 
 engine_valid : (text : List ℕ) → IsText 255 text → IsText 255 (engine_read text) × (0 < length (engine_read text))
 unfolding EMU8000
-engine_valid [] h = ((omega arith, ((omega arith, omega arith), ((omega arith, omega arith), ((omega arith, omega arith), ((omega arith, omega arith), ((omega arith, omega arith), ((omega arith, omega arith), ((omega arith, omega arith), tt)))))))), omega arith)
+engine_valid [] h = (
+  (
+    omega arith,
+    (
+      (omega arith, omega arith),
+      (
+        (omega arith, omega arith),
+        (
+          (omega arith, omega arith),
+          (
+            (omega arith, omega arith),
+            ((omega arith, omega arith), ((omega arith, omega arith), ((omega arith, omega arith), tt))),
+          ),
+        ),
+      ),
+    ),
+  ),
+  omega arith,
+)
 engine_valid (c ∷ text) h = (h, omega arith)
 
 pub texts_valid : (info : List Chunk) → AllByRecursion OfBytes info → AreTexts (texts_read info)

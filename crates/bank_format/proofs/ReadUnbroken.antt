@@ -17,7 +17,9 @@ use Rattle.bank_format.specs.Windows.{rows}
 use Rattle.bank_format.specs.Tables.{Tables}
 use Rattle.bank_format.specs.Chunks.{window, chunks_of, tables_in, points_in}
 use Rattle.bank_format.specs.Reading.{preset_windows, instrument_windows, bank_of}
-use Rattle.bank_format.specs.ReadSteps.{frame_steps, list_steps, chunk_steps, size_steps, count_steps, record_counts, point_steps, index_steps, bag_steps, all_index_steps, sample_step, target_steps, total_steps, content_steps, window_steps, steps, fault_of}
+use Rattle.bank_format.specs.ReadSteps.{frame_steps, list_steps, chunk_steps, size_steps, count_steps, record_counts}
+use Rattle.bank_format.specs.ReadSteps.{point_steps, index_steps, bag_steps, all_index_steps, sample_step}
+use Rattle.bank_format.specs.ReadSteps.{target_steps, total_steps, content_steps, window_steps, steps, fault_of}
 use Rattle.bank_format.proofs.StepLaws.{split_none, both_none}
 use Rattle.bank_format.proofs.ReadSamples.{GoodHead, good_head}
 use Rattle.bank_format.proofs.ReadWindows.{indexes_held}
@@ -31,7 +33,8 @@ pub record Unbroken (info sdta : List Chunk) (t : Tables) : Type 0 where
   pub targets : first_broken (target_steps (bank_of info sdta t)) ≡ None
   pub total : first_broken (total_steps (rows t.shdr)) ≡ None
 
-content_unbroken : (info sdta pdta : List Chunk) (t : Tables) → first_broken (content_steps info sdta pdta t) ≡ None → Unbroken info sdta t
+content_unbroken : (info sdta pdta : List Chunk) (t : Tables) → first_broken (content_steps info sdta pdta t) ≡ None
+    → Unbroken info sdta t
 unfolding content_steps
 content_unbroken info sdta pdta t e =
     let chunks = both_none (chunk_steps info pdta) _ e in
@@ -49,11 +52,15 @@ unfolding steps window_steps
 file_unbroken file e =
     let frame = both_none (frame_steps file) _ e in
     let lists = both_none (list_steps (window file)) _ frame.1 in
-    content_unbroken (chunks_of INFO (window file)) (chunks_of SDTA (window file)) (chunks_of PDTA (window file)) (tables_in (chunks_of PDTA (window file))) lists.1
+    content_unbroken (chunks_of INFO (window file)) (chunks_of SDTA (window file)) (chunks_of PDTA (window file))
+    (tables_in (chunks_of PDTA (window file))) lists.1
 
-held : (test : ℕ → Bool) (f : ReadFault) (ns : List ℕ) → first_broken (map (λ n. step (test n) f) ns) ≡ None → AllByRecursion (λ n. test n ≡ true) ns
+held : (test : ℕ → Bool) (f : ReadFault) (ns : List ℕ) → first_broken (map (λ n. step (test n) f) ns) ≡ None
+    → AllByRecursion (λ n. test n ≡ true) ns
 held test f [] e = tt
-held test f (n ∷ ns) e = let both = split_none (test n) (first_broken (map (λ n. step (test n) f) ns)) f e in (both.0, held test f ns both.1)
+held test f (n ∷ ns) e =
+    let both = split_none (test n) (first_broken (map (λ n. step (test n) f) ns)) f e in
+    (both.0, held test f ns both.1)
 
 -- how many records the lists have at most
 pub record FewRecords (t : Tables) : Type 0 where
@@ -67,19 +74,24 @@ pub few_records : (t : Tables) → first_broken (count_steps t) ≡ None → Few
 unfolding count_steps
 few_records t e =
     let counts = record_counts t in
-    let most = both_none (map (λ n. step (leb 1 n) fault.NoTerminal) counts) (map (λ n. step (leb n 65536) fault.TooMany) counts) e in
+    let most =
+    both_none (map (λ n. step (leb 1 n) fault.NoTerminal) counts)
+    (map (λ n. step (leb n 65536) fault.TooMany) counts) e in
     let all = held (λ n. leb n 65536) fault.TooMany counts most.1 in
     let later = all.1.1.1.1 in
     record {
       phdr = leb-true _ _ all.0;
       presets = record { bags = leb-true _ _ all.1.0; gens = leb-true _ _ all.1.1.1.0; mods = leb-true _ _ all.1.1.0 };
       inst = leb-true _ _ later.0;
-      instruments = record { bags = leb-true _ _ later.1.0; gens = leb-true _ _ later.1.1.1.0; mods = leb-true _ _ later.1.1.0 };
+      instruments =
+          record
+          { bags = leb-true _ _ later.1.0; gens = leb-true _ _ later.1.1.1.0; mods = leb-true _ _ later.1.1.0 };
       shdr = leb-true _ _ later.1.1.1.1.0;
     }
 
 -- the zones, generators and modulators of each level
-pub few_in_windows : (t : Tables) → FewRecords t → first_broken (all_index_steps t) ≡ None → AreWithin (preset_windows t) × AreWithin (instrument_windows t)
+pub few_in_windows : (t : Tables) → FewRecords t → first_broken (all_index_steps t) ≡ None
+    → AreWithin (preset_windows t) × AreWithin (instrument_windows t)
 unfolding all_index_steps preset_windows instrument_windows
 few_in_windows t few e =
     let preset_indexes = map (λ (h : PresetHead). h.bag) t.phdr in
@@ -87,13 +99,16 @@ few_in_windows t few e =
     let presets = both_none (index_steps preset_indexes (length t.pbag)) _ e in
     let preset_bags = both_none (bag_steps t.pbag (length t.pgen) (length t.pmod)) _ presets.1 in
     let instruments = both_none (index_steps instrument_indexes (length t.ibag)) _ preset_bags.1 in (
-      windows_within t.pbag t.pgen t.pmod preset_indexes few.presets (indexes_held preset_indexes (length t.pbag) presets.0) preset_bags.0,
-      windows_within t.ibag t.igen t.imod instrument_indexes few.instruments (indexes_held instrument_indexes (length t.ibag) instruments.0) instruments.1,
+      windows_within t.pbag t.pgen t.pmod preset_indexes few.presets
+          (indexes_held preset_indexes (length t.pbag) presets.0) preset_bags.0,
+      windows_within t.ibag t.igen t.imod instrument_indexes few.instruments
+          (indexes_held instrument_indexes (length t.ibag) instruments.0) instruments.1,
     )
 
 pub length-rows : {X : Type 0} (xs : List X) → length (rows xs) ≤ length xs - 1
 length-rows xs = omega (arith, length-take (length xs - 1) xs)
 
-pub good_heads : (points : ℕ) (hs : List SampleHead) → AllByRecursion (λ h. first_broken (sample_step points h) ≡ None) hs → AllByRecursion (GoodHead points) hs
+pub good_heads : (points : ℕ) (hs : List SampleHead)
+    → AllByRecursion (λ h. first_broken (sample_step points h) ≡ None) hs → AllByRecursion (GoodHead points) hs
 good_heads points [] v = tt
 good_heads points (h ∷ hs) v = (good_head points h v.0, good_heads points hs v.1)

@@ -29,12 +29,16 @@ use Rattle.bank_format.specs.Reading.{preset_windows, instrument_windows, owner_
 use Rattle.bank_format.specs.ReadSteps.{sample_step, targets_of, target_steps, fault_of}
 use Rattle.bank_format.proofs.StepLaws.{both_none, all_none}
 use Rattle.bank_format.proofs.ReadBytes.{OfBytes, body_bytes, chunk_bytes, window_bytes}
-use Rattle.bank_format.proofs.ReadSamples.{ReadHead, heads_read, GoodHead, samples_valid, samples_fit, point_total-read, total_small}
+use Rattle.bank_format.proofs.ReadSamples.{ReadHead, heads_read, GoodHead, samples_valid, samples_fit}
+use Rattle.bank_format.proofs.ReadSamples.{point_total-read, total_small}
 use Rattle.bank_format.proofs.ReadTexts.{texts_valid, texts_fit}
 use Rattle.bank_format.proofs.ReadWindows.{all_taken, length-together-le}
 use Rattle.bank_format.proofs.ReadTables.{windows_fit}
-use Rattle.bank_format.proofs.ReadMembers.{ReadPresetHead, ReadInstrumentHead, preset_heads_read, instrument_heads_read, owners_valid, owners_fit, owners_within, preset_named, preset_fits, instrument_named}
-use Rattle.bank_format.proofs.ReadUnbroken.{Unbroken, file_unbroken, few_records, few_in_windows, length-rows, good_heads}
+use Rattle.bank_format.proofs.ReadMembers.{ReadPresetHead, ReadInstrumentHead, preset_heads_read}
+use Rattle.bank_format.proofs.ReadMembers.{instrument_heads_read, owners_valid, owners_fit, owners_within}
+use Rattle.bank_format.proofs.ReadMembers.{preset_named, preset_fits, instrument_named}
+use Rattle.bank_format.proofs.ReadUnbroken.{Unbroken, file_unbroken, few_records, few_in_windows, length-rows}
+use Rattle.bank_format.proofs.ReadUnbroken.{good_heads}
 
 -- ---- tables of bytes
 
@@ -48,7 +52,19 @@ pub record AreRead (t : Tables) : Type 0 where
   pub shdr : AllByRecursion ReadHead (rows t.shdr)
 
 or_zero_fit : (ms : List Modulator) → AllByRecursion FitsModulator ms → AllByRecursion FitsModulator (or_zero ms)
-or_zero_fit [] v = (record { source = omega arith; dest = omega arith; amount = record { sfits = omega arith }; amount_source = omega arith; transform = omega arith }, tt)
+or_zero_fit [] v = (
+  record {
+    source =
+        omega arith;
+    dest =
+        omega arith;
+    amount =
+        record { sfits = omega arith };
+    amount_source = omega arith;
+    transform = omega arith;
+  },
+  tt,
+)
 or_zero_fit (m ∷ ms) v = v
 
 rows_hold : {X : Type 0} (P : X → Type 0) (xs : List X) → AllByRecursion P xs → AllByRecursion P (rows xs)
@@ -68,7 +84,8 @@ tables_read pdta h = record {
 
 -- ---- the bank of chunks of bytes
 
-module _ (info sdta : List Chunk) (t : Tables) (hi : AllByRecursion OfBytes info) (hs : AllByRecursion OfBytes sdta) (r : AreRead t) where
+module _ (info sdta : List Chunk) (t : Tables) (hi : AllByRecursion OfBytes info) (hs : AllByRecursion OfBytes sdta)
+    (r : AreRead t) where
   abbrev heads : List SampleHead
   heads = rows t.shdr
 
@@ -76,7 +93,8 @@ module _ (info sdta : List Chunk) (t : Tables) (hi : AllByRecursion OfBytes info
   unfolding points_in
   points_words = AreWords-words (body_in SMPL sdta) (body_bytes SMPL sdta hs)
 
-  within : Unbroken info sdta t → AllByRecursion (GoodHead (length (points_in sdta))) heads → IsWithin (bank_of info sdta t)
+  within : Unbroken info sdta t → AllByRecursion (GoodHead (length (points_in sdta))) heads
+      → IsWithin (bank_of info sdta t)
   unfolding bank_of
   within u good =
       let few = few_records t u.counts in
@@ -89,8 +107,20 @@ module _ (info sdta : List Chunk) (t : Tables) (hi : AllByRecursion OfBytes info
       let total = point_total-read (length heads) (points_in sdta) heads good in
       let small = total_small heads u.total in
       record {
-        presets = omega (arith, fp, length-rows t.phdr, length-together-le (owner_read presets) (rows t.phdr) (preset_windows t));
-        instruments = omega (arith, fi, length-rows t.inst, length-together-le (owner_read instruments) (rows t.inst) (instrument_windows t));
+        presets =
+            omega (
+              arith,
+              fp,
+              length-rows t.phdr,
+              length-together-le (owner_read presets) (rows t.phdr) (preset_windows t),
+            );
+        instruments =
+            omega (
+              arith,
+              fi,
+              length-rows t.inst,
+              length-together-le (owner_read instruments) (rows t.inst) (instrument_windows t),
+            );
         samples = omega (arith, fs, length-rows t.shdr, length-map heads (sample_read (length heads) (points_in sdta)));
         preset_zones = p.zones;
         preset_gens = p.gens;
@@ -112,8 +142,12 @@ module _ (info sdta : List Chunk) (t : Tables) (hi : AllByRecursion OfBytes info
       let targets = both_none (targets_of (length bank.instruments) fault.BadInstrument bank.presets) _ u.targets in
       record {
         texts = texts_valid info hi;
-        presets = owners_valid presets (rows t.phdr) (preset_windows t) ReadPresetHead (λ (x : Head). x.name) preset_named (length bank.instruments) fault.BadInstrument r.phdr targets.0;
-        instruments = owners_valid instruments (rows t.inst) (instrument_windows t) ReadInstrumentHead (λ name. name) instrument_named (length bank.samples) fault.BadSample r.inst targets.1;
+        presets =
+            owners_valid presets (rows t.phdr) (preset_windows t) ReadPresetHead (λ (x : Head). x.name) preset_named
+            (length bank.instruments) fault.BadInstrument r.phdr targets.0;
+        instruments =
+            owners_valid instruments (rows t.inst) (instrument_windows t) ReadInstrumentHead (λ name. name)
+            instrument_named (length bank.samples) fault.BadSample r.inst targets.1;
         samples = rw count (samples_valid n points heads r.shdr good);
         limits = within u good;
       }
@@ -123,8 +157,12 @@ module _ (info sdta : List Chunk) (t : Tables) (hi : AllByRecursion OfBytes info
   bank_fits = record {
     minor = field_at-lt 2 2 (body_in IFIL info) (body_bytes IFIL info hi);
     texts = texts_fit (texts_read info) (texts_valid info hi);
-    presets = owners_fit presets (rows t.phdr) (preset_windows t) ReadPresetHead FitsHead preset_fits r.phdr (windows_fit t.pbag t.pgen t.pmod (map (λ (h : PresetHead). h.bag) t.phdr) r.pgen r.pmod);
-    instruments = owners_fit instruments (rows t.inst) (instrument_windows t) ReadInstrumentHead IsName instrument_named r.inst (windows_fit t.ibag t.igen t.imod (map (λ (h : InstrumentHead). h.bag) t.inst) r.igen r.imod);
+    presets =
+        owners_fit presets (rows t.phdr) (preset_windows t) ReadPresetHead FitsHead preset_fits r.phdr
+        (windows_fit t.pbag t.pgen t.pmod (map (λ (h : PresetHead). h.bag) t.phdr) r.pgen r.pmod);
+    instruments =
+        owners_fit instruments (rows t.inst) (instrument_windows t) ReadInstrumentHead IsName instrument_named r.inst
+        (windows_fit t.ibag t.igen t.imod (map (λ (h : InstrumentHead). h.bag) t.inst) r.igen r.imod);
     samples = samples_fit (length heads) (points_in sdta) heads points_words r.shdr;
   }
 
@@ -135,11 +173,13 @@ unfolding content_in
 read_valid file h e =
     let w = window_bytes file h in
     bank_valid (chunks_of INFO (window file)) (chunks_of SDTA (window file)) (tables_in (chunks_of PDTA (window file)))
-    (chunk_bytes INFO (window file) w) (chunk_bytes SDTA (window file) w) (tables_read (chunks_of PDTA (window file)) (chunk_bytes PDTA (window file) w)) (file_unbroken file e)
+    (chunk_bytes INFO (window file) w) (chunk_bytes SDTA (window file) w)
+    (tables_read (chunks_of PDTA (window file)) (chunk_bytes PDTA (window file) w)) (file_unbroken file e)
 
 pub read_fits : (file : List ℕ) → AreBytes file → Fits (content_in (window file)).bank
 unfolding content_in
 read_fits file h =
     let w = window_bytes file h in
     bank_fits (chunks_of INFO (window file)) (chunks_of SDTA (window file)) (tables_in (chunks_of PDTA (window file)))
-    (chunk_bytes INFO (window file) w) (chunk_bytes SDTA (window file) w) (tables_read (chunks_of PDTA (window file)) (chunk_bytes PDTA (window file) w))
+    (chunk_bytes INFO (window file) w) (chunk_bytes SDTA (window file) w)
+    (tables_read (chunks_of PDTA (window file)) (chunk_bytes PDTA (window file) w))

@@ -1,5 +1,6 @@
 -- What stands in the windows of a table: the elements of the table, each at most once.
-use Rattle.std.proofs.Common.{◌≡◌, ◌≤◌, ◌+◌, ◌-◌, ℕ, zero, suc, true, leb, List, [], ◌∷◌, length, take, drop, None, ap, ◌∙◌, arith}
+use Rattle.std.proofs.Common.{◌≡◌, ◌≤◌, ◌+◌, ◌-◌, ℕ, zero, suc, true, leb, List, [], ◌∷◌, length, take, drop, None}
+use Rattle.std.proofs.Common.{ap, ◌∙◌, arith}
 use Rattle.std.specs.Prelude.{sum_by, nat_le}
 use Rattle.std.specs.List.{AllByRecursion, slice_range, list_all}
 use Rattle.std.proofs.lemmas.Bool.{leb-true, and_parts}
@@ -50,7 +51,8 @@ module _ {X : Type 0} (P : X → Type 0) where
 -- ---- how many elements the windows have together
 
 module _ {X : Type 0} (table : List X) (last : ℕ) where
-  lengths_from : (at : ℕ) (is : List ℕ) → at ≤ last → is_rising_from at is ≡ true → list_all (λ i. nat_le i last) is ≡ true → sum_by length (windows_from table at is) + at ≤ last
+  lengths_from : (at : ℕ) (is : List ℕ) → at ≤ last → is_rising_from at is ≡ true
+      → list_all (λ i. nat_le i last) is ≡ true → sum_by length (windows_from table at is) + at ≤ last
   lengths_from at [] le rising inside = omega (arith, le)
   lengths_from at (i ∷ is) le rising inside =
       let order = and_parts (leb at i) (is_rising_from i is) rising in
@@ -75,13 +77,15 @@ module _ {X : Type 0} (measure : X → ℕ) (table : List X) where
   abbrev measured : List X → ℕ
   measured xs = sum_by measure xs
 
-  sums_from : (at : ℕ) (is : List ℕ) → is_rising_from at is ≡ true → sum_by measured (windows_from table at is) ≤ measured (drop at table)
+  sums_from : (at : ℕ) (is : List ℕ) → is_rising_from at is ≡ true
+      → sum_by measured (windows_from table at is) ≤ measured (drop at table)
   sums_from at [] rising = omega arith
   sums_from at (i ∷ is) rising =
       let order = and_parts (leb at i) (is_rising_from i is) rising in
       let up = leb-true _ _ order.0 in
       let on : at + (i - at) ≡ i = omega (arith, up) in
-      let moved : measured (drop (i - at) (drop at table)) ≡ measured (drop i table) = ap measured (drop-drop (i - at) at table ∙ ap (λ n. drop n table) on) in
+      let moved : measured (drop (i - at) (drop at table)) ≡ measured (drop i table) =
+      ap measured (drop-drop (i - at) at table ∙ ap (λ n. drop n table) on) in
       let parts = sum_by-take-drop measure (drop at table) (i - at) in
       let later = sums_from i is order.1 in
       let whole = sum_by-cons measured (slice_range table at i) (windows_from table i is) in
@@ -110,7 +114,8 @@ module _ {X Y Z : Type 0} (f : X → Y → Z) where
   length-together-le (x ∷ xs) (y ∷ ys) = let h = length-together-le xs ys in omega (arith, h)
 
   -- a sum is at most that of either list
-  pub sum-left : (g : Z → ℕ) (k : X → ℕ) → ((x : X) (y : Y) → g (f x y) ≤ k x) → (xs : List X) (ys : List Y) → sum_by g (together f xs ys) ≤ sum_by k xs
+  pub sum-left : (g : Z → ℕ) (k : X → ℕ) → ((x : X) (y : Y) → g (f x y) ≤ k x) → (xs : List X) (ys : List Y)
+      → sum_by g (together f xs ys) ≤ sum_by k xs
   sum-left g k h [] ys = omega arith
   sum-left g k h (x ∷ xs) [] = omega arith
   sum-left g k h (x ∷ xs) (y ∷ ys) =
@@ -120,7 +125,8 @@ module _ {X Y Z : Type 0} (f : X → Y → Z) where
       let new = sum_by-cons g (f x y) (together f xs ys) in
       omega (arith, one, rest, old, new)
 
-  pub sum-right : (g : Z → ℕ) (k : Y → ℕ) → ((x : X) (y : Y) → g (f x y) ≤ k y) → (xs : List X) (ys : List Y) → sum_by g (together f xs ys) ≤ sum_by k ys
+  pub sum-right : (g : Z → ℕ) (k : Y → ℕ) → ((x : X) (y : Y) → g (f x y) ≤ k y) → (xs : List X) (ys : List Y)
+      → sum_by g (together f xs ys) ≤ sum_by k ys
   sum-right g k h [] ys = omega arith
   sum-right g k h (x ∷ xs) [] = omega arith
   sum-right g k h (x ∷ xs) (y ∷ ys) =

@@ -1,6 +1,7 @@
 -- What is read of a zone's records: generators that the level allows, with ranges in order, and no more
 -- of them than there are records.
-use Rattle.std.proofs.Common.{◌≡◌, ◌≤◌, ◌<◌, ◌+◌, ◌^◌, ℕ, suc, Bool, true, false, cond, eqb, List, [], ◌∷◌, length, map, filter, Option, Some, refl, sym, ◌∙◌, arith}
+use Rattle.std.proofs.Common.{◌≡◌, ◌≤◌, ◌<◌, ◌+◌, ◌^◌, ℕ, suc, Bool, true, false, cond, eqb, List, [], ◌∷◌, length}
+use Rattle.std.proofs.Common.{map, filter, Option, Some, refl, sym, ◌∙◌, arith}
 use Rattle.std.specs.Prelude.{is_some}
 use Rattle.std.specs.List.{AllByRecursion, list_any, find}
 use Rattle.std.specs.Option.{option_map}
@@ -17,14 +18,16 @@ use Rattle.generators.proofs.EntryLaws.{All-insert, All-no_gens}
 use Rattle.bank_parts.specs.Valid.{IsGenerator, AreGenerators}
 use Rattle.hydra_records.specs.declared.zone.Generator.{Generator}
 use Rattle.hydra_records.specs.Fits.{FitsGenerator}
-use Rattle.bank_format.specs.Zones.{is_target, target_of, before_target, allowed_in, last_of_each, kept, is_range, range_mended, mended, gens_of, gens_read}
+use Rattle.bank_format.specs.Zones.{is_target, target_of, before_target, allowed_in, last_of_each, kept, is_range}
+use Rattle.bank_format.specs.Zones.{range_mended, mended, gens_of, gens_read}
 
 -- ---- a map of entries
 
 abbrev pub Entries : Type 0
 Entries = List (ℕ × ℕ)
 
-All-from : (P : ℕ × ℕ → Type 0) (es : Entries) → AllByRecursion P es → AllByRecursion P (entries (from_entries {R = operator_cmp} es))
+All-from : (P : ℕ × ℕ → Type 0) (es : Entries) → AllByRecursion P es
+    → AllByRecursion P (entries (from_entries {R = operator_cmp} es))
 All-from P [] v = All-no_gens P
 All-from P (e ∷ es) v = All-insert P (from_entries es) e.0 e.1 v.0 (All-from P es v.1)
 
@@ -55,22 +58,30 @@ module _ (at : Level) where
   module _ (P : Generator → Type 0) where
     all_before : (rs : List Generator) → AllByRecursion P rs → AllByRecursion P (before_target at rs)
     all_before [] v = tt
-    all_before (r ∷ rs) v = elim (is_target at r) as (λ b. AllByRecursion P (cond b [] (r ∷ before_target at rs))) [ true ↦ tt | false ↦ (v.0, all_before rs v.1) ]
+    all_before (r ∷ rs) v =
+        elim (is_target at r) as (λ b. AllByRecursion P (cond b [] (r ∷ before_target at rs)))
+        [ true ↦ tt | false ↦ (v.0, all_before rs v.1) ]
 
-    all_filtered : (test : Generator → Bool) (rs : List Generator) → AllByRecursion P rs → AllByRecursion P (filter test rs)
+    all_filtered : (test : Generator → Bool) (rs : List Generator) → AllByRecursion P rs
+        → AllByRecursion P (filter test rs)
     all_filtered test [] v = tt
-    all_filtered test (r ∷ rs) v = elim (test r) as (λ b. AllByRecursion P (cond b (r ∷ filter test rs) (filter test rs))) [ true ↦ (v.0, all_filtered test rs v.1) | false ↦ all_filtered test rs v.1 ]
+    all_filtered test (r ∷ rs) v =
+        elim (test r) as (λ b. AllByRecursion P (cond b (r ∷ filter test rs) (filter test rs)))
+        [ true ↦ (v.0, all_filtered test rs v.1) | false ↦ all_filtered test rs v.1 ]
 
     all_last : (rs : List Generator) → AllByRecursion P rs → AllByRecursion P (last_of_each rs)
     all_last [] v = tt
     all_last (r ∷ rs) v =
-        elim (list_any (λ (x : Generator). eqb x.operator r.operator) rs) as (λ b. AllByRecursion P (cond b (last_of_each rs) (r ∷ last_of_each rs))) [
+        elim (list_any (λ (x : Generator). eqb x.operator r.operator) rs) as
+        (λ b. AllByRecursion P (cond b (last_of_each rs) (r ∷ last_of_each rs))) [
           | true ↦ all_last rs v.1
           | false ↦ (v.0, all_last rs v.1)
         ]
 
     all_kept : (rs : List Generator) → AllByRecursion P rs → AllByRecursion P (kept at rs)
-    all_kept rs v = all_last (allowed_in at (before_target at rs)) (all_filtered (λ (r : Generator). is_allowed at r.operator) (before_target at rs) (all_before rs v))
+    all_kept rs v =
+        all_last (allowed_in at (before_target at rs))
+        (all_filtered (λ (r : Generator). is_allowed at r.operator) (before_target at rs) (all_before rs v))
 
   -- each is allowed
   abbrev IsAllowed : Generator → Type 0
@@ -79,7 +90,8 @@ module _ (at : Level) where
   filtered_allowed : (rs : List Generator) → AllByRecursion IsAllowed (allowed_in at rs)
   filtered_allowed [] = tt
   filtered_allowed (r ∷ rs) =
-      (elim (is_allowed at r.operator) as (λ b. is_allowed at r.operator ≡ b → AllByRecursion IsAllowed (cond b (r ∷ allowed_in at rs) (allowed_in at rs))) [
+      (elim (is_allowed at r.operator) as (λ b. is_allowed at r.operator ≡ b
+      → AllByRecursion IsAllowed (cond b (r ∷ allowed_in at rs) (allowed_in at rs))) [
         | true ↦ λ e. (e, filtered_allowed rs)
         | false ↦ λ e. filtered_allowed rs
       ]) refl
@@ -91,7 +103,8 @@ module _ (at : Level) where
 
   mended_is : (r : Generator) → IsAllowed r → IsGenerator at (entry_of (mended r))
   mended_is r a =
-      (elim (is_range r) as (λ b. is_range r ≡ b → IsGenerator at (entry_of (cond b (record { operator = r.operator; amount = range_mended r.amount }) r))) [
+      (elim (is_range r) as (λ b. is_range r ≡ b → IsGenerator at
+      (entry_of (cond b (record { operator = r.operator; amount = range_mended r.amount }) r))) [
         | true ↦ λ e. record { allowed = a; range = λ t. range_in_order r.amount }
         | false ↦ λ e. record { allowed = a; range = λ t. absurd (true_not_false (sym t ∙ e)) }
       ]) refl
@@ -102,30 +115,37 @@ module _ (at : Level) where
       range_in_order : (w : ℕ) → IsRange (range_mended w)
       range_in_order w = Prim.grind (arith, nat_tests)
 
-  all_mended : (rs : List Generator) → AllByRecursion IsAllowed rs → AllByRecursion (IsGenerator at) (map entry_of (map mended rs))
+  all_mended : (rs : List Generator) → AllByRecursion IsAllowed rs
+      → AllByRecursion (IsGenerator at) (map entry_of (map mended rs))
   all_mended [] v = tt
   all_mended (r ∷ rs) v = (mended_is r v.0, all_mended rs v.1)
 
   pub gens_valid : (rs : List Generator) → AreGenerators at (gens_read at rs)
-  gens_valid rs = All-from (IsGenerator at) (map entry_of (map mended (kept at rs))) (all_mended (kept at rs) (kept_allowed rs))
+  gens_valid rs =
+      All-from (IsGenerator at) (map entry_of (map mended (kept at rs))) (all_mended (kept at rs) (kept_allowed rs))
 
   -- ---- numbers that fit
 
   mended_fits : (r : Generator) → FitsGenerator r → FitsEntry (entry_of (mended r))
-  mended_fits r f = elim (is_range r) as (λ b. FitsEntry (entry_of (cond b (record { operator = r.operator; amount = range_mended r.amount }) r))) [
-    | true ↦ (f.operator, small r.amount)
-    | false ↦ (f.operator, f.amount)
-  ]
+  mended_fits r f =
+      elim (is_range r) as
+      (λ b. FitsEntry (entry_of (cond b (record { operator = r.operator; amount = range_mended r.amount }) r))) [
+        | true ↦ (f.operator, small r.amount)
+        | false ↦ (f.operator, f.amount)
+      ]
     where
       small : (w : ℕ) → range_mended w < 2 ^ 16
       small w = Prim.grind (arith, nat_tests)
 
-  all_fit : (rs : List Generator) → AllByRecursion FitsGenerator rs → AllByRecursion FitsEntry (map entry_of (map mended rs))
+  all_fit : (rs : List Generator) → AllByRecursion FitsGenerator rs
+      → AllByRecursion FitsEntry (map entry_of (map mended rs))
   all_fit [] v = tt
   all_fit (r ∷ rs) v = (mended_fits r v.0, all_fit rs v.1)
 
   pub gens_fit : (rs : List Generator) → AllByRecursion FitsGenerator rs → FitGens (gens_read at rs)
-  gens_fit rs v = All-from FitsEntry (map entry_of (map mended (kept at rs))) (all_fit (kept at rs) (all_kept FitsGenerator rs v))
+  gens_fit rs v =
+      All-from FitsEntry (map entry_of (map mended (kept at rs)))
+      (all_fit (kept at rs) (all_kept FitsGenerator rs v))
 
   -- ---- how many there are
 
@@ -134,7 +154,11 @@ module _ (at : Level) where
   length-before [] = omega arith
   length-before (r ∷ rs) =
       let rest = length-before rs in
-      elim (is_target at r) as (λ b. length (cond b [] (r ∷ before_target at rs)) + one_for (option_map (λ (x : Generator). x.amount) (cond b (Some r) (find (is_target at) rs))) ≤ suc (length rs)) [
+      elim (is_target at r) as
+      (λ b.
+      length (cond b [] (r ∷ before_target at rs))
+      + one_for (option_map (λ (x : Generator). x.amount) (cond b (Some r) (find (is_target at) rs)))
+      ≤ suc (length rs)) [
         | true ↦ omega arith
         | false ↦ omega (arith, rest)
       ]
@@ -146,7 +170,8 @@ module _ (at : Level) where
   length-last [] = omega arith
   length-last (r ∷ rs) =
       let rest = length-last rs in
-      elim (list_any (λ (x : Generator). eqb x.operator r.operator) rs) as (λ b. length (cond b (last_of_each rs) (r ∷ last_of_each rs)) ≤ suc (length rs)) [
+      elim (list_any (λ (x : Generator). eqb x.operator r.operator) rs) as
+      (λ b. length (cond b (last_of_each rs) (r ∷ last_of_each rs)) ≤ suc (length rs)) [
         | true ↦ omega (arith, rest)
         | false ↦ omega (arith, rest)
       ]
@@ -156,4 +181,12 @@ module _ (at : Level) where
   len-gens_read rs =
       let before = before_target at rs in
       let records = map mended (kept at rs) in
-      omega (arith, len-from (map entry_of records), length-map records entry_of, length-map (kept at rs) mended, length-last (allowed_in at before), length-filtered (λ (r : Generator). is_allowed at r.operator) before, length-before rs)
+      omega (
+        arith,
+        len-from (map entry_of records),
+        length-map records entry_of,
+        length-map (kept at rs) mended,
+        length-last (allowed_in at before),
+        length-filtered (λ (r : Generator). is_allowed at r.operator) before,
+        length-before rs,
+      )

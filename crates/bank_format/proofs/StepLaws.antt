@@ -1,16 +1,19 @@
 -- Steps one after the other.
-use Rattle.std.proofs.Common.{◌≡◌, Bool, true, false, cond, List, [], ◌∷◌, ◌++◌, Option, Some, None, Result, Ok, Err, refl, sym, ap, ◌∙◌}
+use Rattle.std.proofs.Common.{◌≡◌, Bool, true, false, cond, List, [], ◌∷◌, ◌++◌, Option, Some, None, Result, Ok, Err}
+use Rattle.std.proofs.Common.{refl, sym, ap, ◌∙◌}
 use Rattle.std.specs.List.{AllByRecursion}
 use Rattle.std.specs.Prelude.{flat_map}
 use Rattle.std.specs.Result.{IsErrAnd}
 use Rattle.bank_format.specs.Steps.{Step, first_broken, Passes}
 
 -- where nothing is broken, a step holds and the rest isn't broken
-pub split_none : {A : Type 0} (b : Bool) (rest : Option A) (fault : A) → cond b rest (Some fault) ≡ None → (b ≡ true) × (rest ≡ None)
+pub split_none : {A : Type 0} (b : Bool) (rest : Option A) (fault : A) → cond b rest (Some fault) ≡ None
+    → (b ≡ true) × (rest ≡ None)
 split_none true rest fault h = (refl, h)
 split_none false rest fault h = absurd cc
 
-fault_either : {A : Type 0} (b : Bool) (x y : Option A) (w f : A) → (x ≡ Some f → y ≡ Some f) → cond b x (Some w) ≡ Some f → cond b y (Some w) ≡ Some f
+fault_either : {A : Type 0} (b : Bool) (x y : Option A) (w f : A) → (x ≡ Some f → y ≡ Some f)
+    → cond b x (Some w) ≡ Some f → cond b y (Some w) ≡ Some f
 fault_either true x y w f g h = g h
 fault_either false x y w f g h = h
 
@@ -22,7 +25,8 @@ module _ {F : Type 0} where
       let both = split_none x.holds (first_broken xs) x.fault h in
       rw both.0 (first_broken-append xs ys both.1)
 
-  pub then_none : (xs ys : List (Step F)) → first_broken xs ≡ None → first_broken ys ≡ None → first_broken (xs ++ ys) ≡ None
+  pub then_none : (xs ys : List (Step F)) → first_broken xs ≡ None → first_broken ys ≡ None
+      → first_broken (xs ++ ys) ≡ None
   then_none xs ys h k = first_broken-append xs ys h ∙ k
 
   -- the fault of a step is that of all
@@ -32,7 +36,8 @@ module _ {F : Type 0} where
       fault_either x.holds (first_broken xs) (first_broken (xs ++ ys)) x.fault f (λ e. first_broken-front xs ys f e) h
 
   -- both parts hold where the whole does
-  pub both_none : (xs ys : List (Step F)) → first_broken (xs ++ ys) ≡ None → (first_broken xs ≡ None) × (first_broken ys ≡ None)
+  pub both_none : (xs ys : List (Step F)) → first_broken (xs ++ ys) ≡ None
+      → (first_broken xs ≡ None) × (first_broken ys ≡ None)
   both_none [] ys h = (refl, h)
   both_none (x ∷ xs) ys h =
       let both = split_none x.holds (first_broken (xs ++ ys)) x.fault h in
@@ -40,7 +45,8 @@ module _ {F : Type 0} where
       (rw both.0 rest.0, rest.1)
 
   -- all lists of steps of a flat map hold where the whole does
-  pub all_none : {X : Type 0} (f : X → List (Step F)) (xs : List X) → first_broken (flat_map f xs) ≡ None → AllByRecursion (λ x. first_broken (f x) ≡ None) xs
+  pub all_none : {X : Type 0} (f : X → List (Step F)) (xs : List X) → first_broken (flat_map f xs) ≡ None
+      → AllByRecursion (λ x. first_broken (f x) ≡ None) xs
   all_none f [] h = tt
   all_none f (x ∷ xs) h = let both = both_none (f x) (flat_map f xs) h in (both.0, all_none f xs both.1)
 

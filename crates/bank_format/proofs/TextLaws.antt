@@ -1,5 +1,6 @@
 -- The texts that were written are read again, and none is cut.
-use Rattle.std.proofs.Common.{◌≡◌, ◌≤◌, ◌<◌, ◌+◌, ◌^◌, ℕ, true, false, ltb, List, [], ◌∷◌, ◌++◌, length, take, drop, Option, Some, None, refl, ap, ◌∙◌, arith}
+use Rattle.std.proofs.Common.{◌≡◌, ◌≤◌, ◌<◌, ◌+◌, ◌^◌, ℕ, true, false, ltb, List, [], ◌∷◌, ◌++◌, length, take, drop}
+use Rattle.std.proofs.Common.{Option, Some, None, refl, ap, ◌∙◌, arith}
 use Rattle.std.specs.Prelude.{unwrap_or}
 use Rattle.std.specs.List.{AllByRecursion}
 use Rattle.std.specs.Str.{bytes_eq}
@@ -22,11 +23,13 @@ use Rattle.bank_format.proofs.NameLaws.{before_zero-zeros}
 before_zero-body : (t : List ℕ) → AllByRecursion IsTextByte t → before_zero (text_body t) ≡ t
 before_zero-body t h = before_zero-zeros t _ h
 
-skip : (other name t : List ℕ) (rest : List Chunk) → bytes_eq other name ≡ false → first_body name (text_chunk_if other t ++ rest) ≡ first_body name rest
+skip : (other name t : List ℕ) (rest : List Chunk) → bytes_eq other name ≡ false
+    → first_body name (text_chunk_if other t ++ rest) ≡ first_body name rest
 skip other name [] rest e = refl
 skip other name (c ∷ t) rest e = rw e refl
 
-found : (name t : List ℕ) (rest : List Chunk) → bytes_eq name name ≡ true → first_body name rest ≡ None → AllByRecursion IsTextByte t → before_zero (unwrap_or (first_body name (text_chunk_if name t ++ rest)) []) ≡ t
+found : (name t : List ℕ) (rest : List Chunk) → bytes_eq name name ≡ true → first_body name rest ≡ None
+    → AllByRecursion IsTextByte t → before_zero (unwrap_or (first_body name (text_chunk_if name t ++ rest)) []) ≡ t
 found name [] rest e n h = rw n refl
 found name (c ∷ t) rest e n h = rw e (before_zero-body (c ∷ t) h)
 
@@ -59,27 +62,66 @@ module _ (b : Parts) (v : AreTexts b.texts) where
 
   pub date_in : text_in ICRD (info b) ≡ b.texts.date
   unfolding info IFIL ISNG INAM ICRD IENG IPRD ICOP ICMT ISFT
-  date_in = found ICRD b.texts.date r2 refl (skip IENG ICRD b.texts.engineers r3 refl ∙ (skip IPRD ICRD b.texts.product r4 refl ∙ (skip ICOP ICRD b.texts.copyright r5 refl ∙ (skip ICMT ICRD b.texts.comment r6 refl ∙ skip ISFT ICRD b.texts.software [] refl)))) v.date.1
+  date_in =
+      found ICRD b.texts.date r2 refl
+      (skip IENG ICRD b.texts.engineers r3 refl
+      ∙
+      (skip IPRD ICRD b.texts.product r4 refl
+      ∙
+      (skip ICOP ICRD b.texts.copyright r5 refl
+      ∙ (skip ICMT ICRD b.texts.comment r6 refl ∙ skip ISFT ICRD b.texts.software [] refl))))
+      v.date.1
 
   pub engineers_in : text_in IENG (info b) ≡ b.texts.engineers
   unfolding info IFIL ISNG INAM ICRD IENG IPRD ICOP ICMT ISFT
-  engineers_in = ap text_of (skip ICRD IENG b.texts.date r2 refl) ∙ found IENG b.texts.engineers r3 refl (skip IPRD IENG b.texts.product r4 refl ∙ (skip ICOP IENG b.texts.copyright r5 refl ∙ (skip ICMT IENG b.texts.comment r6 refl ∙ skip ISFT IENG b.texts.software [] refl))) v.engineers.1
+  engineers_in =
+      ap text_of (skip ICRD IENG b.texts.date r2 refl)
+      ∙ found IENG b.texts.engineers r3 refl
+      (skip IPRD IENG b.texts.product r4 refl
+      ∙
+      (skip ICOP IENG b.texts.copyright r5 refl
+      ∙ (skip ICMT IENG b.texts.comment r6 refl ∙ skip ISFT IENG b.texts.software [] refl)))
+      v.engineers.1
 
   pub product_in : text_in IPRD (info b) ≡ b.texts.product
   unfolding info IFIL ISNG INAM ICRD IENG IPRD ICOP ICMT ISFT
-  product_in = ap text_of (skip ICRD IPRD b.texts.date r2 refl ∙ skip IENG IPRD b.texts.engineers r3 refl) ∙ found IPRD b.texts.product r4 refl (skip ICOP IPRD b.texts.copyright r5 refl ∙ (skip ICMT IPRD b.texts.comment r6 refl ∙ skip ISFT IPRD b.texts.software [] refl)) v.product.1
+  product_in =
+      ap text_of (skip ICRD IPRD b.texts.date r2 refl ∙ skip IENG IPRD b.texts.engineers r3 refl)
+      ∙ found IPRD b.texts.product r4 refl
+      (skip ICOP IPRD b.texts.copyright r5 refl
+      ∙ (skip ICMT IPRD b.texts.comment r6 refl ∙ skip ISFT IPRD b.texts.software [] refl))
+      v.product.1
 
   pub copyright_in : text_in ICOP (info b) ≡ b.texts.copyright
   unfolding info IFIL ISNG INAM ICRD IENG IPRD ICOP ICMT ISFT
-  copyright_in = ap text_of (skip ICRD ICOP b.texts.date r2 refl ∙ (skip IENG ICOP b.texts.engineers r3 refl ∙ skip IPRD ICOP b.texts.product r4 refl)) ∙ found ICOP b.texts.copyright r5 refl (skip ICMT ICOP b.texts.comment r6 refl ∙ skip ISFT ICOP b.texts.software [] refl) v.copyright.1
+  copyright_in =
+      ap text_of
+      (skip ICRD ICOP b.texts.date r2 refl
+      ∙ (skip IENG ICOP b.texts.engineers r3 refl ∙ skip IPRD ICOP b.texts.product r4 refl))
+      ∙ found ICOP b.texts.copyright r5 refl
+      (skip ICMT ICOP b.texts.comment r6 refl ∙ skip ISFT ICOP b.texts.software [] refl) v.copyright.1
 
   pub comment_in : text_in ICMT (info b) ≡ b.texts.comment
   unfolding info IFIL ISNG INAM ICRD IENG IPRD ICOP ICMT ISFT
-  comment_in = ap text_of (skip ICRD ICMT b.texts.date r2 refl ∙ (skip IENG ICMT b.texts.engineers r3 refl ∙ (skip IPRD ICMT b.texts.product r4 refl ∙ skip ICOP ICMT b.texts.copyright r5 refl))) ∙ found ICMT b.texts.comment r6 refl (skip ISFT ICMT b.texts.software [] refl) v.comment.1
+  comment_in =
+      ap text_of
+      (skip ICRD ICMT b.texts.date r2 refl
+      ∙
+      (skip IENG ICMT b.texts.engineers r3 refl
+      ∙ (skip IPRD ICMT b.texts.product r4 refl ∙ skip ICOP ICMT b.texts.copyright r5 refl)))
+      ∙ found ICMT b.texts.comment r6 refl (skip ISFT ICMT b.texts.software [] refl) v.comment.1
 
   pub software_in : text_in ISFT (info b) ≡ b.texts.software
   unfolding info IFIL ISNG INAM ICRD IENG IPRD ICOP ICMT ISFT
-  software_in = ap text_of (skip ICRD ISFT b.texts.date r2 refl ∙ (skip IENG ISFT b.texts.engineers r3 refl ∙ (skip IPRD ISFT b.texts.product r4 refl ∙ (skip ICOP ISFT b.texts.copyright r5 refl ∙ skip ICMT ISFT b.texts.comment r6 refl)))) ∙ found ISFT b.texts.software [] refl refl v.software.1
+  software_in =
+      ap text_of
+      (skip ICRD ISFT b.texts.date r2 refl
+      ∙
+      (skip IENG ISFT b.texts.engineers r3 refl
+      ∙
+      (skip IPRD ISFT b.texts.product r4 refl
+      ∙ (skip ICOP ISFT b.texts.copyright r5 refl ∙ skip ICMT ISFT b.texts.comment r6 refl))))
+      ∙ found ISFT b.texts.software [] refl refl v.software.1
 
   read_whole : (n : ℕ) (x t : List ℕ) → x ≡ t → length t ≤ n → take n x ≡ t
   read_whole n x t e le = ap (take n) e ∙ take_all n t le
@@ -91,7 +133,9 @@ module _ (b : Parts) (v : AreTexts b.texts) where
   pub texts-again : texts_read (info b) ≡ b.texts
   unfolding texts_read
   texts-again =
-      let engine = ap engine_read (read_whole 255 (text_in ISNG (info b)) b.texts.engine engine_in v.engine.0) ∙ engine_again b.texts.engine v.engine_there in
+      let engine =
+      ap engine_read (read_whole 255 (text_in ISNG (info b)) b.texts.engine engine_in v.engine.0)
+      ∙ engine_again b.texts.engine v.engine_there in
       λ i. record {
         engine = engine i;
         name = read_whole 255 (text_in INAM (info b)) b.texts.name name_in v.name.0 i;
@@ -124,4 +168,6 @@ module _ (b : Parts) (v : AreTexts b.texts) where
   version_in = refl
 
   pub minor-again : b.minor < 2 ^ 16 → field_at 2 2 (body_in IFIL (info b)) ≡ b.minor
-  minor-again lt = ap (λ (o : Option (List ℕ)). little_number 2 (drop 2 (unwrap_or o []))) version_in ∙ little_number-reads_back 2 b.minor [] lt
+  minor-again lt =
+      ap (λ (o : Option (List ℕ)). little_number 2 (drop 2 (unwrap_or o []))) version_in
+      ∙ little_number-reads_back 2 b.minor [] lt

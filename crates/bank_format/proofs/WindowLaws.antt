@@ -1,11 +1,13 @@
 -- Lists that were written one after the other are the windows of their table.
-use Rattle.std.proofs.Common.{◌≡◌, ◌≤◌, ◌+◌, ◌-◌, ℕ, zero, suc, List, [], ◌∷◌, ◌++◌, length, take, map, refl, sym, ap, ◌∙◌, append_assoc, arith}
+use Rattle.std.proofs.Common.{◌≡◌, ◌≤◌, ◌+◌, ◌-◌, ℕ, zero, suc, List, [], ◌∷◌, ◌++◌, length, take, map, refl, sym}
+use Rattle.std.proofs.Common.{ap, ◌∙◌, append_assoc, arith}
 use Rattle.std.specs.List.{flat_map, slice_range}
 use Rattle.std.proofs.lemmas.List.{length-append, length-map, append-nil, take_at, drop_at}
 use Rattle.bank_format.specs.Windows.{ends, starts, windows_from, windows, together, rows}
 
 -- one list behind others and before a rest
-pub window-again : {X : Type 0} (before xs rest : List X) (a b : ℕ) → a ≡ length before → b ≡ length before + length xs → slice_range (before ++ (xs ++ rest)) a b ≡ xs
+pub window-again : {X : Type 0} (before xs rest : List X) (a b : ℕ) → a ≡ length before
+    → b ≡ length before + length xs → slice_range (before ++ (xs ++ rest)) a b ≡ xs
 window-again before xs rest a b ea eb =
     ap (take (b - a)) (drop_at before (xs ++ rest) a (sym ea)) ∙ take_at xs rest (b - a) (omega (arith, ea, eb))
 
@@ -16,15 +18,22 @@ module _ {X Y : Type 0} (f : Y → List X) where
   abbrev pub sizes : List Y → List ℕ
   sizes ys = map (λ y. length (f y)) ys
 
-  windows_from-again : (before rest : List X) (ys : List Y) (at : ℕ) → at ≡ length before → windows_from (before ++ (flat_map f ys ++ rest)) at (ends at (sizes ys)) ≡ map f ys
+  windows_from-again : (before rest : List X) (ys : List Y) (at : ℕ) → at ≡ length before
+      → windows_from (before ++ (flat_map f ys ++ rest)) at (ends at (sizes ys)) ≡ map f ys
   windows_from-again before rest [] at e = refl
   windows_from-again before rest (y ∷ ys) at e =
       let later = flat_map f ys ++ rest in
-      let grouped : before ++ ((f y ++ flat_map f ys) ++ rest) ≡ before ++ (f y ++ later) = ap (λ (t : List X). before ++ t) (append_assoc (f y) (flat_map f ys) rest) in
+      let grouped : before ++ ((f y ++ flat_map f ys) ++ rest) ≡ before ++ (f y ++ later) =
+      ap (λ (t : List X). before ++ t) (append_assoc (f y) (flat_map f ys) rest) in
       let moved : before ++ (f y ++ later) ≡ (before ++ f y) ++ later = sym (append_assoc before (f y) later) in
-      let next = windows_from-again (before ++ f y) rest ys (at + length (f y)) (omega (arith, e, length-append before (f y))) in
+      let next =
+      windows_from-again (before ++ f y) rest ys (at + length (f y))
+      (omega (arith, e, length-append before (f y))) in
       ap (λ (t : List X). windows_from t at (ends at (sizes (y ∷ ys)))) grouped
-      ∙ ap (λ (x : List X). x ∷ windows_from (before ++ (f y ++ later)) (at + length (f y)) (ends (at + length (f y)) (sizes ys))) (window-again before (f y) later at (at + length (f y)) e (omega (arith, e)))
+      ∙ ap
+      (λ (x : List X).
+      x ∷ windows_from (before ++ (f y ++ later)) (at + length (f y)) (ends (at + length (f y)) (sizes ys)))
+      (window-again before (f y) later at (at + length (f y)) e (omega (arith, e)))
       ∙ ap (λ (t : List X). f y ∷ windows_from t (at + length (f y)) (ends (at + length (f y)) (sizes ys))) moved
       ∙ ap (λ (xs : List (List X)). f y ∷ xs) next
 
@@ -34,7 +43,8 @@ module _ {X Y : Type 0} (f : Y → List X) where
 
   -- the same where nothing follows
   pub windows-all : (ys : List Y) → windows (flat_map f ys) (starts (sizes ys)) ≡ map f ys
-  windows-all ys = ap (λ (t : List X). windows t (starts (sizes ys))) (sym (append-nil (flat_map f ys))) ∙ windows-again ys []
+  windows-all ys =
+      ap (λ (t : List X). windows t (starts (sizes ys))) (sym (append-nil (flat_map f ys))) ∙ windows-again ys []
 
 -- ---- where lists begin
 
@@ -52,37 +62,44 @@ length-ends at [] = refl
 length-ends at (n ∷ ns) = ap suc (length-ends (at + n) ns)
 
 pub length-starts : {X Y : Type 0} (f : Y → List X) (ys : List Y) → length (starts (sizes f ys)) ≡ suc (length ys)
-length-starts f ys = let a = length-ends 0 (sizes f ys) in let b = length-map ys (λ y. length (f y)) in omega (arith, a, b)
+length-starts f ys =
+    let a = length-ends 0 (sizes f ys) in let b = length-map ys (λ y. length (f y)) in omega (arith, a, b)
 
 -- ---- side by side
 
 -- what was put side by side, taken apart
-pub map-together_left : {X Y Z : Type 0} (f : X → Y → Z) (g : Z → X) → ((x : X) (y : Y) → g (f x y) ≡ x) → (xs : List X) (ys : List Y) → length xs ≤ length ys → map g (together f xs ys) ≡ xs
+pub map-together_left : {X Y Z : Type 0} (f : X → Y → Z) (g : Z → X) → ((x : X) (y : Y) → g (f x y) ≡ x)
+    → (xs : List X) (ys : List Y) → length xs ≤ length ys → map g (together f xs ys) ≡ xs
 map-together_left f g same [] ys le = refl
 map-together_left f g same (x ∷ xs) [] le = absurd (omega arith)
 map-together_left f g same (x ∷ xs) (y ∷ ys) le = λ i. same x y i ∷ map-together_left f g same xs ys (omega arith) i
 
-pub map-together_right : {X Y Z : Type 0} (f : X → Y → Z) (g : Z → Y) → ((x : X) (y : Y) → g (f x y) ≡ y) → (xs : List X) (ys : List Y) → length ys ≤ length xs → map g (together f xs ys) ≡ ys
+pub map-together_right : {X Y Z : Type 0} (f : X → Y → Z) (g : Z → Y) → ((x : X) (y : Y) → g (f x y) ≡ y)
+    → (xs : List X) (ys : List Y) → length ys ≤ length xs → map g (together f xs ys) ≡ ys
 map-together_right f g same [] [] le = refl
 map-together_right f g same [] (y ∷ ys) le = absurd (omega arith)
 map-together_right f g same (x ∷ xs) [] le = refl
 map-together_right f g same (x ∷ xs) (y ∷ ys) le = λ i. same x y i ∷ map-together_right f g same xs ys (omega arith) i
 
 -- both parts of the elements of one list, put side by side
-pub together-maps : {X Y Z W : Type 0} (f : X → Y → Z) (g : W → X) (h : W → Y) (ws : List W) → together f (map g ws) (map h ws) ≡ map (λ w. f (g w) (h w)) ws
+pub together-maps : {X Y Z W : Type 0} (f : X → Y → Z) (g : W → X) (h : W → Y) (ws : List W)
+    → together f (map g ws) (map h ws) ≡ map (λ w. f (g w) (h w)) ws
 together-maps f g h [] = refl
 together-maps {Z = Z} f g h (w ∷ ws) = ap (λ (zs : List Z). f (g w) (h w) ∷ zs) (together-maps f g h ws)
 
 -- elements past the shorter list's end don't count
-pub together-take : {X Y Z : Type 0} (f : X → Y → Z) (n : ℕ) (xs : List X) (ys : List Y) → length ys ≤ n → together f (take n xs) ys ≡ together f xs ys
+pub together-take : {X Y Z : Type 0} (f : X → Y → Z) (n : ℕ) (xs : List X) (ys : List Y) → length ys ≤ n
+    → together f (take n xs) ys ≡ together f xs ys
 together-take f zero [] ys le = refl
 together-take f (suc n) [] ys le = refl
 together-take f zero (x ∷ xs) [] le = refl
 together-take f zero (x ∷ xs) (y ∷ ys) le = absurd (omega arith)
 together-take f (suc n) (x ∷ xs) [] le = refl
-together-take {Z = Z} f (suc n) (x ∷ xs) (y ∷ ys) le = ap (λ (zs : List Z). f x y ∷ zs) (together-take f n xs ys (omega arith))
+together-take {Z = Z} f (suc n) (x ∷ xs) (y ∷ ys) le =
+    ap (λ (zs : List Z). f x y ∷ zs) (together-take f n xs ys (omega arith))
 
-pub length-together : {X Y Z : Type 0} (f : X → Y → Z) (xs : List X) (ys : List Y) → length xs ≡ length ys → length (together f xs ys) ≡ length xs
+pub length-together : {X Y Z : Type 0} (f : X → Y → Z) (xs : List X) (ys : List Y) → length xs ≡ length ys
+    → length (together f xs ys) ≡ length xs
 length-together f [] ys e = refl
 length-together f (x ∷ xs) [] e = absurd (omega (arith, e))
 length-together f (x ∷ xs) (y ∷ ys) e = ap suc (length-together f xs ys (omega (arith, e)))

@@ -1,5 +1,6 @@
 -- The bytes before the first zero.
-use Rattle.std.proofs.Common.{◌≡◌, ◌≤◌, ◌==◌, ◌+◌, ◌∙◌, ℕ, zero, suc, false, not, cond, eqb, ltb, List, [], ◌∷◌, length, take, Option, Some, None, unwrap_or, refl, ap, inl, inr, arith}
+use Rattle.std.proofs.Common.{◌≡◌, ◌≤◌, ◌==◌, ◌+◌, ◌∙◌, ℕ, zero, suc, false, not, cond, eqb, ltb, List, [], ◌∷◌}
+use Rattle.std.proofs.Common.{length, take, Option, Some, None, unwrap_or, refl, ap, inl, inr, arith}
 use Rattle.std.proofs.lemmas.Bool.{ne_eqb, cases_lt, lt-ltb, le-ltb}
 use Rattle.std.proofs.lemmas.List.Sums.{prefix_len-le-length}
 use Rattle.std.specs.List.{position_or_len, prefix_len}
@@ -17,11 +18,15 @@ take_position (suc b ∷ bytes) =
 
 -- as a search finds it
 pub before_found : (bytes : List ℕ) (found : Option ℕ) (end : ℕ)
-    → found ≡ cond (ltb (position_or_len (λ b. b == 0) bytes) (length bytes)) (Some (position_or_len (λ b. b == 0) bytes)) None
+    → found
+    ≡ cond (ltb (position_or_len (λ b. b == 0) bytes) (length bytes)) (Some (position_or_len (λ b. b == 0) bytes))
+    None
     → end ≡ unwrap_or found (length bytes) → take end bytes ≡ before_zero bytes
 before_found bytes found end is at =
     let within : position_or_len (λ b. b == 0) bytes ≤ length bytes = prefix_len-le-length (λ b. not (b == 0)) bytes in
-    let e : end ≡ position_or_len (λ b. b == 0) bytes = at ∙ ap (λ (o : Option ℕ). unwrap_or o (length bytes)) is ∙ either (position_or_len (λ b. b == 0) bytes) (length bytes) within in
+    let e : end ≡ position_or_len (λ b. b == 0) bytes =
+    at ∙ ap (λ (o : Option ℕ). unwrap_or o (length bytes)) is
+    ∙ either (position_or_len (λ b. b == 0) bytes) (length bytes) within in
     ap (λ (n : ℕ). take n bytes) e ∙ take_position bytes
   where
     either : (p n : ℕ) → p ≤ n → unwrap_or (cond (ltb p n) (Some p) None) n ≡ p

@@ -1,5 +1,6 @@
 -- What was written of a zone is read again, and nothing is counted.
-use Rattle.std.proofs.Common.{◌≡◌, ℕ, true, false, cond, not, ◌==◌, ◌&&◌, eqb, List, [], ◌∷◌, ◌++◌, length, map, Option, Some, None, refl, ap, ◌∙◌, arith, inl, inr, is_some}
+use Rattle.std.proofs.Common.{◌≡◌, ℕ, true, false, cond, not, ◌==◌, ◌&&◌, eqb, List, [], ◌∷◌, ◌++◌, length, map}
+use Rattle.std.proofs.Common.{Option, Some, None, refl, ap, ◌∙◌, arith, inl, inr, is_some}
 use Rattle.std.specs.Prelude.{count_by, IsTrue}
 use Rattle.std.specs.List.{AllByRecursion, list_any}
 use Rattle.std.specs.Ordering.{is_lt}
@@ -20,7 +21,9 @@ use Rattle.modulators.specs.declared.modulator.Modulator.{Modulator}
 use Rattle.bank_parts.specs.Valid.{IsGenerator, AreGenerators, IsZone}
 use Rattle.bank_parts.specs.declared.parts.Zone.{Zone}
 use Rattle.hydra_records.specs.declared.zone.Generator.{Generator}
-use Rattle.bank_format.specs.Zones.{generator, gens_written, zone_written, target_of, before_target, allowed_in, last_of_each, kept, mended, is_mended, is_range, range_mended, gens_of, gens_read, zone_read, has_target, dropped}
+use Rattle.bank_format.specs.Zones.{generator, gens_written, zone_written, target_of, before_target, allowed_in}
+use Rattle.bank_format.specs.Zones.{last_of_each, kept, mended, is_mended, is_range, range_mended, gens_of}
+use Rattle.bank_format.specs.Zones.{gens_read, zone_read, has_target, dropped}
 use Rattle.bank_format.proofs.CountLaws.{one_if, count-none}
 
 abbrev pub Entries : Type 0
@@ -40,18 +43,24 @@ module _ (at : Level) where
   target_self = eq-eqb _ _ refl
 
   -- up to the target, and the target itself
-  before_target-again : (es : Entries) (t : ℕ) → AllByRecursion (IsGenerator at) es → before_target at (spelled es ++ generator (target_operator at) t ∷ []) ≡ spelled es
+  before_target-again : (es : Entries) (t : ℕ) → AllByRecursion (IsGenerator at) es
+      → before_target at (spelled es ++ generator (target_operator at) t ∷ []) ≡ spelled es
   before_target-again [] t v = rw target_self refl
-  before_target-again (e ∷ es) t v = rw (no_target e.0 v.0.allowed) (ap (λ (rs : List Generator). generator e.0 e.1 ∷ rs) (before_target-again es t v.1))
+  before_target-again (e ∷ es) t v =
+      rw (no_target e.0 v.0.allowed)
+      (ap (λ (rs : List Generator). generator e.0 e.1 ∷ rs) (before_target-again es t v.1))
 
-  target_of-again : (es : Entries) (t : ℕ) → AllByRecursion (IsGenerator at) es → target_of at (spelled es ++ generator (target_operator at) t ∷ []) ≡ Some t
+  target_of-again : (es : Entries) (t : ℕ) → AllByRecursion (IsGenerator at) es
+      → target_of at (spelled es ++ generator (target_operator at) t ∷ []) ≡ Some t
   target_of-again [] t v = rw target_self refl
   target_of-again (e ∷ es) t v = rw (no_target e.0 v.0.allowed) (target_of-again es t v.1)
 
   -- the same of a global zone, which has none
   before_target-none : (es : Entries) → AllByRecursion (IsGenerator at) es → before_target at (spelled es) ≡ spelled es
   before_target-none [] v = refl
-  before_target-none (e ∷ es) v = rw (no_target e.0 v.0.allowed) (ap (λ (rs : List Generator). generator e.0 e.1 ∷ rs) (before_target-none es v.1))
+  before_target-none (e ∷ es) v =
+      rw (no_target e.0 v.0.allowed)
+      (ap (λ (rs : List Generator). generator e.0 e.1 ∷ rs) (before_target-none es v.1))
 
   pub target_of-none : (es : Entries) → AllByRecursion (IsGenerator at) es → target_of at (spelled es) ≡ None
   target_of-none [] v = refl
@@ -59,7 +68,8 @@ module _ (at : Level) where
 
   allowed_in-again : (es : Entries) → AllByRecursion (IsGenerator at) es → allowed_in at (spelled es) ≡ spelled es
   allowed_in-again [] v = refl
-  allowed_in-again (e ∷ es) v = rw v.0.allowed (ap (λ (rs : List Generator). generator e.0 e.1 ∷ rs) (allowed_in-again es v.1))
+  allowed_in-again (e ∷ es) v =
+      rw v.0.allowed (ap (λ (rs : List Generator). generator e.0 e.1 ∷ rs) (allowed_in-again es v.1))
 
 -- ---- in order no operator stands twice
 
@@ -69,7 +79,8 @@ less_other op x h = elim (cases_eq x op) [
   | inr n ↦ ne_eqb x op n
 ]
 
-none_same : (op : ℕ) (es : Entries) → IsTrue (below_all operator_cmp op es) → list_any (λ (x : Generator). x.operator == op) (spelled es) ≡ false
+none_same : (op : ℕ) (es : Entries) → IsTrue (below_all operator_cmp op es)
+    → list_any (λ (x : Generator). x.operator == op) (spelled es) ≡ false
 none_same op [] h = refl
 none_same op (e ∷ es) h =
     let both = both_true (is_lt (operator_cmp op e.0)) (below_all operator_cmp op es) h in
@@ -88,16 +99,19 @@ range-again w r = grind (arith, nat_tests)
 
 module _ (at : Level) where
   mended-again : (e : ℕ × ℕ) → IsGenerator at e → mended (generator e.0 e.1) ≡ generator e.0 e.1
-  mended-again e v = (elim (is_range (generator e.0 e.1)) as (λ b. is_range (generator e.0 e.1) ≡ b → cond b (generator e.0 (range_mended e.1)) (generator e.0 e.1) ≡ generator e.0 e.1) [
-    | true ↦ λ t. ap (generator e.0) (range-again e.1 (v.range t))
-    | false ↦ λ t. refl
-  ]) refl
+  mended-again e v = (elim (is_range (generator e.0 e.1)) as (λ b. is_range (generator e.0 e.1) ≡ b
+      → cond b (generator e.0 (range_mended e.1)) (generator e.0 e.1) ≡ generator e.0 e.1) [
+        | true ↦ λ t. ap (generator e.0) (range-again e.1 (v.range t))
+        | false ↦ λ t. refl
+      ]) refl
 
   not_mended : (e : ℕ × ℕ) → IsGenerator at e → is_mended (generator e.0 e.1) ≡ false
-  not_mended e v = (elim (is_range (generator e.0 e.1)) as (λ b. is_range (generator e.0 e.1) ≡ b → (b && not (eqb (range_mended e.1) e.1)) ≡ false) [
-    | true ↦ λ t. (let same : eqb (range_mended e.1) e.1 ≡ true = eq-eqb _ _ (range-again e.1 (v.range t)) in rw same refl)
-    | false ↦ λ t. refl
-  ]) refl
+  not_mended e v = (elim (is_range (generator e.0 e.1)) as
+      (λ b. is_range (generator e.0 e.1) ≡ b → (b && not (eqb (range_mended e.1) e.1)) ≡ false) [
+        | true ↦ λ t.
+            (let same : eqb (range_mended e.1) e.1 ≡ true = eq-eqb _ _ (range-again e.1 (v.range t)) in rw same refl)
+        | false ↦ λ t. refl
+      ]) refl
 
   map-mended-again : (es : Entries) → AllByRecursion (IsGenerator at) es → map mended (spelled es) ≡ spelled es
   map-mended-again [] v = refl
@@ -154,21 +168,27 @@ module _ (at : Level) where
   pub has_target-zone : (n : ℕ) (x : Zone) → IsZone at n x → has_target at (zone_written at x) ≡ true
   has_target-zone n x v = ap is_some (target_of-again at (entries x.gens) x.target v.gens)
 
-  pub has_target-global : (gs : Gens) (ms : List Modulator) → AreGenerators at gs → has_target at (record { gens = gens_written gs; mods = ms }) ≡ false
+  pub has_target-global : (gs : Gens) (ms : List Modulator) → AreGenerators at gs
+      → has_target at (record { gens = gens_written gs; mods = ms }) ≡ false
   has_target-global gs ms v = ap is_some (target_of-none at (entries gs) v)
 
   pub dropped-zone : (gs : Gens) (t : ℕ) → AreGenerators at gs → dropped at (zone_gens gs t) ≡ 0
   dropped-zone gs t v =
       let k : length (kept at (zone_gens gs t)) ≡ length (gens_written gs) = ap length (kept-zone gs t v) in
-      let some : one_if (is_some (target_of at (zone_gens gs t))) ≡ 1 = ap (λ (o : Option ℕ). one_if (is_some o)) (target_of-again at (entries gs) t v) in
+      let some : one_if (is_some (target_of at (zone_gens gs t))) ≡ 1 =
+      ap (λ (o : Option ℕ). one_if (is_some o)) (target_of-again at (entries gs) t v) in
       let whole = length-append (gens_written gs) (generator (target_operator at) t ∷ []) in
       omega (arith, k, some, whole)
 
   pub dropped-global : (gs : Gens) → AreGenerators at gs → dropped at (gens_written gs) ≡ 0
-  dropped-global gs v = let k : length (kept at (gens_written gs)) ≡ length (gens_written gs) = ap length (kept-global gs v) in omega (arith, k)
+  dropped-global gs v =
+      let k : length (kept at (gens_written gs)) ≡ length (gens_written gs) = ap length (kept-global gs v) in
+      omega (arith, k)
 
   pub mended-zone : (gs : Gens) (t : ℕ) → AreGenerators at gs → count_by is_mended (kept at (zone_gens gs t)) ≡ 0
-  mended-zone gs t v = ap (λ (rs : List Generator). count_by is_mended rs) (kept-zone gs t v) ∙ none_mended at (entries gs) v
+  mended-zone gs t v =
+      ap (λ (rs : List Generator). count_by is_mended rs) (kept-zone gs t v) ∙ none_mended at (entries gs) v
 
   pub mended-global : (gs : Gens) → AreGenerators at gs → count_by is_mended (kept at (gens_written gs)) ≡ 0
-  mended-global gs v = ap (λ (rs : List Generator). count_by is_mended rs) (kept-global gs v) ∙ none_mended at (entries gs) v
+  mended-global gs v =
+      ap (λ (rs : List Generator). count_by is_mended rs) (kept-global gs v) ∙ none_mended at (entries gs) v

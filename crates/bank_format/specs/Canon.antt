@@ -4,7 +4,8 @@ use Rattle.byteorder.specs.Endian.{little_bytes}
 use Rattle.sample_view.specs.Words.{word_bytes}
 use Rattle.riff_chunks.specs.Walk.{Chunk, LIST}
 use Rattle.riff_chunks.specs.Spelling.{chunk, spell}
-use Rattle.hydra_records.specs.Spelling.{preset_head_bytes, bag_bytes, modulator_bytes, generator_bytes, instrument_head_bytes, sample_head_bytes}
+use Rattle.hydra_records.specs.Spelling.{preset_head_bytes, bag_bytes, modulator_bytes, generator_bytes}
+use Rattle.hydra_records.specs.Spelling.{instrument_head_bytes, sample_head_bytes}
 use Rattle.bank_parts.specs.declared.parts.Parts.{Parts}
 use Rattle.bank_format.specs.Ids as id
 use Rattle.bank_format.specs.Texts.{text_body}

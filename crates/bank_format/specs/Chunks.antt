@@ -6,7 +6,8 @@ use Rattle.riff_chunks.specs.Walk.{Chunk, walk}
 use Rattle.riff_chunks.specs.Finding.{chunks_in, first_body, first_list}
 use Rattle.modulators.specs.declared.modulator.Modulator.{Modulator}
 use Rattle.hydra_records.specs.Records.{records}
-use Rattle.hydra_records.specs.Spelling.{preset_head_of, bag_of, modulator_of, generator_of, instrument_head_of, sample_head_of}
+use Rattle.hydra_records.specs.Spelling.{preset_head_of, bag_of, modulator_of, generator_of, instrument_head_of}
+use Rattle.hydra_records.specs.Spelling.{sample_head_of}
 use Rattle.bank_format.specs.Ids as id
 use Rattle.bank_format.specs.Tables.{Tables, modulator_end}
 

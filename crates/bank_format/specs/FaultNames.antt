@@ -1,7 +1,11 @@
 -- The number and the name by which each fault of reading is told.
 use Rattle.std.specs.Prelude.{ℕ, List, codes}
 use Rattle.bank_format.specs.declared.fault.ReadFault.{ReadFault}
-use Rattle.bank_format.specs.declared.fault.ReadFault.TheVariants.{NotRiff, NotSfbk, Truncated, MissingList, MissingChunk, Version, RecordSize, NoTerminal, BagOrder, IndexOutside, BadInstrument, BadSample, SampleRange, SampleType, RomSample, OddSamples, TooMany}
+use Rattle.bank_format.specs.declared.fault.ReadFault.TheVariants.{NotRiff, NotSfbk, Truncated, MissingList}
+use Rattle.bank_format.specs.declared.fault.ReadFault.TheVariants.{MissingChunk, Version, RecordSize, NoTerminal}
+use Rattle.bank_format.specs.declared.fault.ReadFault.TheVariants.{BagOrder, IndexOutside, BadInstrument, BadSample}
+use Rattle.bank_format.specs.declared.fault.ReadFault.TheVariants.{SampleRange, SampleType, RomSample, OddSamples}
+use Rattle.bank_format.specs.declared.fault.ReadFault.TheVariants.{TooMany}
 
 abbrev pub number_of : ReadFault → ℕ
 number_of NotRiff = 1

@@ -22,12 +22,16 @@ abbrev pub generator_of : ℕ × ℕ → Generator
 generator_of e = generator e.0 e.1
 
 -- the four tables of presets, or of instruments
-pub record AreOfLists {H R : Type 0} (h : Headers H R) (owners : List (WithZones H)) (l : FlatLists) (heads : List R) (bags : List Bag) (mods : List Modulator) (gens : List Generator) : Type 0 where
+pub record AreOfLists {H R : Type 0} (h : Headers H R) (owners : List (WithZones H)) (l : FlatLists) (heads : List R)
+    (bags : List Bag) (mods : List Modulator) (gens : List Generator) : Type 0 where
   pub heads_are : heads ≡ headers_of h owners l.first_bags
   pub bags_are : bags ≡ map bag_of l.bags
   pub mods_are : mods ≡ l.mods
   pub gens_are : gens ≡ map generator_of l.gens
 
 pub record TablesAreFlat (b : Parts) : Type 0 where
-  pub of_presets : let t = tables_of b in AreOfLists presets b.presets (lists_of presets.level b.presets) t.phdr t.pbag t.pmod t.pgen
-  pub of_instruments : let t = tables_of b in AreOfLists instruments b.instruments (lists_of instruments.level b.instruments) t.inst t.ibag t.imod t.igen
+  pub of_presets : let t =
+      tables_of b in AreOfLists presets b.presets (lists_of presets.level b.presets) t.phdr t.pbag t.pmod t.pgen
+  pub of_instruments : let t =
+      tables_of b in AreOfLists instruments b.instruments (lists_of instruments.level b.instruments) t.inst t.ibag
+      t.imod t.igen

@@ -29,7 +29,8 @@ pub record AreSums {H : Type 0} (owners : List (WithZones H)) (first_bags : List
   -- the first bag of number i counts what stands before number i; the terminal, all
   pub at_start : (i : ℕ) → i ≤ length owners → BagCounts bags (λ count. owner_total count (take i owners))
   -- the bag of zone j of number i counts that, and what stands before zone j in number i
-  pub at_zone : (i j : ℕ) (o : WithZones H) → slice_get owners i ≡ Some o → j < length o.zones → BagCounts bags (λ count. owner_total count (take i owners) + count o.global (take j o.zones))
+  pub at_zone : (i j : ℕ) (o : WithZones H) → slice_get owners i ≡ Some o → j < length o.zones
+      → BagCounts bags (λ count. owner_total count (take i owners) + count o.global (take j o.zones))
 
 pub record IndexesAreSums (b : Parts) : Type 0 where
   pub presets : AreSums b.presets (map (λ (h : PresetHead). h.bag) (tables_of b).phdr) (tables_of b).pbag

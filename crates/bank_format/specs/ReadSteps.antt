@@ -1,5 +1,6 @@
 -- The steps of reading, in their order. The first that a file breaks gives its fault.
-use Rattle.std.specs.Prelude.{◌≡◌, ◌+◌, ◌-◌, ◌%◌, ◌/◌, ℕ, List, [], ◌∷◌, ◌++◌, length, take, drop, map, flat_map, sum_by, Option, None, is_some, Bool, true, nat_le, nat_lt, ◌==◌, ◌&&◌, bytes_eq}
+use Rattle.std.specs.Prelude.{◌≡◌, ◌+◌, ◌-◌, ◌%◌, ◌/◌, ℕ, List, [], ◌∷◌, ◌++◌, length, take, drop, map, flat_map}
+use Rattle.std.specs.Prelude.{sum_by, Option, None, is_some, Bool, true, nat_le, nat_lt, ◌==◌, ◌&&◌, bytes_eq}
 use Rattle.std.specs.List.{list_all}
 use Rattle.sf_base.specs.Fields.{field_at}
 use Rattle.sf_base.specs.declared.limits.TheConstants.{RECORDS, POINTS, ZERO_POINTS}
@@ -81,7 +82,9 @@ size_steps pdta =
 -- ---- how many records each has
 
 abbrev pub record_counts : Tables → List ℕ
-record_counts t = length t.phdr ∷ length t.pbag ∷ length t.pmod ∷ length t.pgen ∷ length t.inst ∷ length t.ibag ∷ length t.imod ∷ length t.igen ∷ length t.shdr ∷ []
+record_counts t =
+    length t.phdr ∷ length t.pbag ∷ length t.pmod ∷ length t.pgen ∷ length t.inst ∷ length t.ibag ∷ length t.imod
+    ∷ length t.igen ∷ length t.shdr ∷ []
 
 unfoldable pub count_steps : Tables → List (Step ReadFault)
 count_steps t =
@@ -103,10 +106,12 @@ abbrev pub is_rising : List ℕ → Bool
 is_rising is = is_rising_from 0 is
 
 unfoldable pub index_steps : List ℕ → ℕ → List (Step ReadFault)
-index_steps is n = step (is_rising is) fault.BagOrder ∷ step (list_all (λ i. nat_le i (n - 1)) is) fault.IndexOutside ∷ []
+index_steps is n =
+    step (is_rising is) fault.BagOrder ∷ step (list_all (λ i. nat_le i (n - 1)) is) fault.IndexOutside ∷ []
 
 abbrev pub bag_steps : List Bag → ℕ → ℕ → List (Step ReadFault)
-bag_steps bags gens mods = index_steps (map (λ (r : Bag). r.gens) bags) gens ++ index_steps (map (λ (r : Bag). r.mods) bags) mods
+bag_steps bags gens mods =
+    index_steps (map (λ (r : Bag). r.gens) bags) gens ++ index_steps (map (λ (r : Bag). r.mods) bags) mods
 
 unfoldable pub all_index_steps : Tables → List (Step ReadFault)
 all_index_steps t =
@@ -133,12 +138,15 @@ abbrev pub targets_of : {H : Type 0} → ℕ → ReadFault → List (WithZones H
 targets_of targets missing owners = map (target_step targets missing) (flat_map (λ x. x.zones) owners)
 
 unfoldable pub target_steps : Parts → List (Step ReadFault)
-target_steps b = targets_of (length b.instruments) fault.BadInstrument b.presets ++ targets_of (length b.samples) fault.BadSample b.instruments
+target_steps b =
+    targets_of (length b.instruments) fault.BadInstrument b.presets
+    ++ targets_of (length b.samples) fault.BadSample b.instruments
 
 -- ---- the points of all samples, each sample's with the zero points that follow them
 
 unfoldable pub total_steps : List SampleHead → List (Step ReadFault)
-total_steps heads = step (nat_le (sum_by (λ (h : SampleHead). h.end - h.start + ZERO_POINTS) heads) POINTS) fault.TooMany ∷ []
+total_steps heads =
+    step (nat_le (sum_by (λ (h : SampleHead). h.end - h.start + ZERO_POINTS) heads) POINTS) fault.TooMany ∷ []
 
 -- ---- together
 
@@ -155,7 +163,10 @@ content_steps info sdta pdta t =
     ++ total_steps (rows t.shdr)))))))
 
 unfoldable pub window_steps : List ℕ → List (Step ReadFault)
-window_steps w = list_steps w ++ content_steps (chunks_of id.INFO w) (chunks_of id.SDTA w) (chunks_of id.PDTA w) (tables_in (chunks_of id.PDTA w))
+window_steps w =
+    list_steps w
+    ++ content_steps (chunks_of id.INFO w) (chunks_of id.SDTA w) (chunks_of id.PDTA w)
+    (tables_in (chunks_of id.PDTA w))
 
 unfoldable pub steps : List ℕ → List (Step ReadFault)
 steps file = frame_steps file ++ window_steps (window file)

@@ -29,7 +29,8 @@ bagged gens mods = record { gens = gens; mods = mods }
 
 -- Each bag is a window over the generators and one over the modulators.
 unfoldable pub bags_in : List Bag → List Generator → List Modulator → List Bagged
-bags_in bags gens mods = together bagged (windows gens (map (λ (r : Bag). r.gens) bags)) (windows mods (map (λ (r : Bag). r.mods) bags))
+bags_in bags gens mods =
+    together bagged (windows gens (map (λ (r : Bag). r.gens) bags)) (windows mods (map (λ (r : Bag). r.mods) bags))
 
 -- The bags of each header are a window over the bags.
 unfoldable pub preset_windows : Tables → List (List Bagged)
@@ -68,8 +69,12 @@ counts_of info sdta t = record {
   texts = texts_cut info;
   sm24 = sm24_dropped sdta;
   zones = sum_by (ignored level.Preset) (preset_windows t) + sum_by (ignored level.Instrument) (instrument_windows t);
-  gens = sum_by (gens_dropped level.Preset) (preset_windows t) + sum_by (gens_dropped level.Instrument) (instrument_windows t);
-  ranges = sum_by (ranges_mended level.Preset) (preset_windows t) + sum_by (ranges_mended level.Instrument) (instrument_windows t);
+  gens =
+      sum_by (gens_dropped level.Preset) (preset_windows t)
+      + sum_by (gens_dropped level.Instrument) (instrument_windows t);
+  ranges =
+      sum_by (ranges_mended level.Preset) (preset_windows t)
+      + sum_by (ranges_mended level.Instrument) (instrument_windows t);
   loops = count_by is_loop_lost (rows t.shdr);
   links = count_by (is_link_lost (length (rows t.shdr))) (rows t.shdr);
 }

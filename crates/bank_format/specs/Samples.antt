@@ -1,5 +1,6 @@
 -- What is read of a sample.
-use Rattle.std.specs.Prelude.{◌-◌, ◌==◌, ℕ, List, Option, Some, None, Bool, nat_le, nat_lt, ◌&&◌, ◌||◌, not, if◌then◌else◌}
+use Rattle.std.specs.Prelude.{◌-◌, ◌==◌, ℕ, List, Option, Some, None, Bool, nat_le, nat_lt, ◌&&◌, ◌||◌, not}
+use Rattle.std.specs.Prelude.{if◌then◌else◌}
 use Rattle.std.specs.List.{slice_range}
 use Rattle.sf_base.specs.Names.{before_zero}
 use Rattle.bank_parts.specs.declared.parts.Kind.{Kind}

@@ -47,7 +47,21 @@ abbrev pub generator_end : Generator
 generator_end = record { operator = 0; amount = 0 }
 
 abbrev pub sample_end : SampleHead
-sample_end = record { name = filled EOS; start = 0; end = 0; loop_start = 0; loop_end = 0; rate = 0; key = 0; correction = pos 0; link = 0; kind = 0 }
+sample_end =
+    record {
+      name =
+          filled EOS;
+      start =
+          0;
+      end = 0;
+      loop_start = 0;
+      loop_end = 0;
+      rate = 0;
+      key = 0;
+      correction = pos 0;
+      link = 0;
+      kind = 0;
+    }
 
 -- ---- the bags of one level, in three lists
 
@@ -56,7 +70,9 @@ bag gens mods = record { gens = gens; mods = mods }
 
 -- each bag's indexes are the numbers of generators and modulators before it; the last has the totals
 unfoldable pub bag_list : List Bagged → List Bag
-bag_list bags = together bag (starts (map (λ (r : Bagged). length r.gens) bags)) (starts (map (λ (r : Bagged). length r.mods) bags))
+bag_list bags =
+    together bag (starts (map (λ (r : Bagged). length r.gens) bags))
+    (starts (map (λ (r : Bagged). length r.mods) bags))
 
 unfoldable pub mod_list : List Bagged → List Modulator
 mod_list bags = flat_map (λ (r : Bagged). r.mods) bags ++ modulator_end ∷ []
@@ -75,13 +91,43 @@ pub record Headers (H R : Type 0) : Type 0 where
   pub read : R → H
 
 abbrev pub preset_written : ℕ → Head → PresetHead
-preset_written at h = record { name = filled h.name; number = h.number; bank = h.bank; bag = at; library = h.library; genre = h.genre; morphology = h.morphology }
+preset_written at h =
+    record {
+      name =
+          filled h.name;
+      number =
+          h.number;
+      bank = h.bank;
+      bag = at;
+      library = h.library;
+      genre = h.genre;
+      morphology = h.morphology;
+    }
 
 abbrev pub preset_head : PresetHead → Head
-preset_head r = record { name = before_zero r.name; number = r.number; bank = r.bank; library = r.library; genre = r.genre; morphology = r.morphology }
+preset_head r =
+    record {
+      name =
+          before_zero r.name;
+      number =
+          r.number;
+      bank = r.bank;
+      library = r.library;
+      genre = r.genre;
+      morphology = r.morphology;
+    }
 
 abbrev pub presets : Headers Head PresetHead
-presets = record { level = level.Preset; written = preset_written; last = preset_end; first_bag = λ (r : PresetHead). r.bag; read = preset_head }
+presets =
+    record {
+      level =
+          level.Preset;
+      written =
+          preset_written;
+      last = preset_end;
+      first_bag = λ (r : PresetHead). r.bag;
+      read = preset_head;
+    }
 
 abbrev pub instrument_written : ℕ → List ℕ → InstrumentHead
 instrument_written at name = record { name = filled name; bag = at }
@@ -90,7 +136,17 @@ abbrev pub instrument_head : InstrumentHead → List ℕ
 instrument_head r = before_zero r.name
 
 abbrev pub instruments : Headers (List ℕ) InstrumentHead
-instruments = record { level = level.Instrument; written = instrument_written; last = instrument_end; first_bag = λ (r : InstrumentHead). r.bag; read = instrument_head }
+instruments =
+    record {
+      level =
+          level.Instrument;
+      written =
+          instrument_written;
+      last =
+          instrument_end;
+      first_bag = λ (r : InstrumentHead). r.bag;
+      read = instrument_head;
+    }
 
 -- the bags of a preset or an instrument
 abbrev pub bags_of : {H : Type 0} → Level → WithZones H → List Bagged
@@ -145,7 +201,8 @@ points_written s = s.points ++ replicate ZERO_POINTS 0
 -- the heads of samples: each begins where those before it end, with their zero points
 abbrev pub sample_heads_from : ℕ → List Sample → List SampleHead
 sample_heads_from start [] = []
-sample_heads_from start (s ∷ samples) = sample_head start s ∷ sample_heads_from (start + length s.points + ZERO_POINTS) samples
+sample_heads_from start (s ∷ samples) =
+    sample_head start s ∷ sample_heads_from (start + length s.points + ZERO_POINTS) samples
 
 -- ---- a bank
 

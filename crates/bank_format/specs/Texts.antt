@@ -1,5 +1,6 @@
 -- How texts are written, and what is read of them.
-use Rattle.std.specs.Prelude.{◌+◌, ◌%◌, ◌==◌, ℕ, List, [], ◌∷◌, ◌++◌, length, take, replicate, unwrap_or, nat_lt, if◌then◌else◌}
+use Rattle.std.specs.Prelude.{◌+◌, ◌%◌, ◌==◌, ℕ, List, [], ◌∷◌, ◌++◌, length, take, replicate, unwrap_or, nat_lt}
+use Rattle.std.specs.Prelude.{if◌then◌else◌}
 use Rattle.sf_base.specs.Names.{before_zero}
 use Rattle.sf_base.specs.declared.limits.TheConstants.{TEXT_LENGTH, COMMENT_LENGTH}
 use Rattle.riff_chunks.specs.Walk.{Chunk}

@@ -1,6 +1,7 @@
 -- A zone as the tables hold it: generator records and modulators. How it is written, and what is
 -- read of it.
-use Rattle.std.specs.Prelude.{◌+◌, ◌-◌, ◌*◌, ◌/◌, ◌%◌, ◌==◌, ◌&&◌, ℕ, List, [], ◌∷◌, ◌++◌, length, map, filter, filter_map, count_by, sum_by, min, Option, Bool, is_some, not, nat_le, if◌then◌else◌}
+use Rattle.std.specs.Prelude.{◌+◌, ◌-◌, ◌*◌, ◌/◌, ◌%◌, ◌==◌, ◌&&◌, ℕ, List, [], ◌∷◌, ◌++◌, length, map, filter}
+use Rattle.std.specs.Prelude.{filter_map, count_by, sum_by, min, Option, Bool, is_some, not, nat_le, if◌then◌else◌}
 use Rattle.std.specs.List.{list_any, find}
 use Rattle.std.specs.Option.{option_map}
 use Rattle.std.specs.FinMap.{entries, len, from_entries}
@@ -32,7 +33,8 @@ zone_written at z = record { gens = gens_written z.gens ++ generator (target_ope
 
 -- an empty global zone is none, and has no bag
 abbrev pub global_written : GlobalZone → List Bagged
-global_written g = if len g.gens + length g.mods == 0 then [] else record { gens = gens_written g.gens; mods = g.mods } ∷ []
+global_written g =
+    if len g.gens + length g.mods == 0 then [] else record { gens = gens_written g.gens; mods = g.mods } ∷ []
 
 -- the bags of a preset or an instrument: its global zone first, then its zones in order
 unfoldable pub bags_written : Level → GlobalZone → List Zone → List Bagged
@@ -59,7 +61,8 @@ allowed_in at rs = filter (λ (r : Generator). is_allowed at r.operator) rs
 -- the last record of each operator
 abbrev pub last_of_each : List Generator → List Generator
 last_of_each [] = []
-last_of_each (r ∷ rs) = if list_any (λ (x : Generator). x.operator == r.operator) rs then last_of_each rs else r ∷ last_of_each rs
+last_of_each (r ∷ rs) =
+    if list_any (λ (x : Generator). x.operator == r.operator) rs then last_of_each rs else r ∷ last_of_each rs
 
 -- the records that are kept
 abbrev pub kept : Level → List Generator → List Generator

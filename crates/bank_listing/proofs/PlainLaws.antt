@@ -5,16 +5,20 @@ use Rattle.bank_parts.specs.declared.parts.Sample.{Sample}
 use Rattle.bank_parts.specs.declared.parts.WithZones.{WithZones}
 use Rattle.bank_parts.specs.declared.parts.Parts.{Parts}
 use Rattle.bank_format.specs.declared.fault.Counts.{Counts}
-use Rattle.bank_listing.specs.Listing.{listing, bank_line, counts_line, preset_line, instrument_line, sample_line, lines_from, owner_line}
+use Rattle.bank_listing.specs.Listing.{listing, bank_line, counts_line, preset_line, instrument_line, sample_line}
+use Rattle.bank_listing.specs.Listing.{lines_from, owner_line}
 use Rattle.bank_listing.specs.Details.{owner_lines, sample_lines, listing_with}
 
 -- lines that are the same member by member
-same_lines : {X : Type 0} (line other : ℕ → X → List ℕ) → ((n : ℕ) (x : X) → line n x ≡ other n x) → (n : ℕ) (xs : List X) → lines_from line n xs ≡ lines_from other n xs
+same_lines : {X : Type 0} (line other : ℕ → X → List ℕ) → ((n : ℕ) (x : X) → line n x ≡ other n x)
+    → (n : ℕ) (xs : List X) → lines_from line n xs ≡ lines_from other n xs
 same_lines line other same n [] = refl
 same_lines line other same n (x ∷ xs) = (λ i. same n x i ++ same_lines line other same (suc n) xs i)
 
-plain_owners : {H : Type 0} (line : ℕ → H → ℕ → List ℕ) (member : List ℕ) (xs : List (WithZones H)) → lines_from (owner_lines line member None false) 0 xs ≡ lines_from (owner_line line) 0 xs
-plain_owners line member xs = same_lines (owner_lines line member None false) (owner_line line) (λ n x. append-nil (owner_line line n x)) 0 xs
+plain_owners : {H : Type 0} (line : ℕ → H → ℕ → List ℕ) (member : List ℕ) (xs : List (WithZones H))
+    → lines_from (owner_lines line member None false) 0 xs ≡ lines_from (owner_line line) 0 xs
+plain_owners line member xs =
+    same_lines (owner_lines line member None false) (owner_line line) (λ n x. append-nil (owner_line line n x)) 0 xs
 
 plain_samples : (xs : List Sample) → lines_from (sample_lines None) 0 xs ≡ lines_from sample_line 0 xs
 plain_samples xs = same_lines (sample_lines None) sample_line (λ n s. append-nil (sample_line n s)) 0 xs

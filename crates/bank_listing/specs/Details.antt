@@ -12,7 +12,8 @@ use Rattle.script_grammar.specs.declared.items.Item.{Item}
 use Rattle.script_grammar.specs.Operands.{pieces_of}
 use Rattle.script_grammar.specs.Zones.{zone_operands, written_zone, global_operands, global_of}
 use Rattle.bank_listing.specs.declared.listing.Details.{Details}
-use Rattle.bank_listing.specs.Listing.{bank_line, counts_line, preset_line, instrument_line, sample_line, lines_from, owner_line}
+use Rattle.bank_listing.specs.Listing.{bank_line, counts_line, preset_line, instrument_line, sample_line, lines_from}
+use Rattle.bank_listing.specs.Listing.{owner_line}
 use Rattle.bank_listing.specs.Uses.{Named, named_in}
 
 -- ---- how often a member is named
@@ -20,7 +21,8 @@ use Rattle.bank_listing.specs.Uses.{Named, named_in}
 -- how many zones name member n of a list, by the counts of all members; nothing where there are none
 abbrev pub uses_line : List ℕ → ℕ → Option (List ℕ) → List ℕ
 uses_line member n None = []
-uses_line member n (Some counts) = line_text (codes "uses") (Word member ∷ Number n ∷ Word (codes "zones") ∷ Number (slice_index counts n) ∷ [])
+uses_line member n (Some counts) =
+    line_text (codes "uses") (Word member ∷ Number n ∷ Word (codes "zones") ∷ Number (slice_index counts n) ∷ [])
 
 -- and how many other samples are linked with sample n
 abbrev pub sample_uses_line : ℕ → Option Named → List ℕ
@@ -35,12 +37,15 @@ sample_uses_line n (Some named) = line_text (codes "uses") (
 
 -- zone k of member n of a list
 abbrev pub zone_line : List ℕ → ℕ → ℕ → Zone → List ℕ
-zone_line member n k z = line_text (codes "zone") (Word member ∷ Number n ∷ Number k ∷ pieces_of (zone_operands (written_zone z)))
+zone_line member n k z =
+    line_text (codes "zone") (Word member ∷ Number n ∷ Number k ∷ pieces_of (zone_operands (written_zone z)))
 
 -- the global zone, and nothing where it is empty
 abbrev pub global_line : List ℕ → ℕ → Option (List Item) → List ℕ
 global_line member n None = []
-global_line member n (Some items) = line_text (codes "zone") (Word member ∷ Number n ∷ Word (codes "global") ∷ pieces_of (global_operands (Some items)))
+global_line member n (Some items) =
+    line_text (codes "zone")
+    (Word member ∷ Number n ∷ Word (codes "global") ∷ pieces_of (global_operands (Some items)))
 
 -- all zones of a member
 abbrev pub zone_lines : {H : Type 0} → List ℕ → ℕ → WithZones H → List ℕ
@@ -48,8 +53,10 @@ zone_lines member n x = global_line member n (global_of x.global) ++ lines_from 
 
 -- ---- a member with what is told behind its line
 
-abbrev pub owner_lines : {H : Type 0} → (ℕ → H → ℕ → List ℕ) → List ℕ → Option (List ℕ) → Bool → ℕ → WithZones H → List ℕ
-owner_lines line member uses zones n x = owner_line line n x ++ (uses_line member n uses ++ (if zones then zone_lines member n x else []))
+abbrev pub owner_lines : {H : Type 0} → (ℕ → H → ℕ → List ℕ) → List ℕ → Option (List ℕ) → Bool → ℕ → WithZones H
+    → List ℕ
+owner_lines line member uses zones n x =
+    owner_line line n x ++ (uses_line member n uses ++ (if zones then zone_lines member n x else []))
 
 abbrev pub sample_lines : Option Named → ℕ → Sample → List ℕ
 sample_lines uses n s = sample_line n s ++ sample_uses_line n uses
@@ -62,8 +69,11 @@ listing_with zones uses b counts =
     bank_line b
     ++ (counts_line counts
     ++ (lines_from (owner_lines preset_line (codes "preset") None zones) 0 b.presets
-    ++ (lines_from (owner_lines instrument_line (codes "inst") (option_map (λ (u : Named). u.instruments) uses) zones) 0 b.instruments
+    ++ (lines_from
+    (owner_lines instrument_line (codes "inst") (option_map (λ (u : Named). u.instruments) uses) zones) 0
+    b.instruments
     ++ lines_from (sample_lines uses) 0 b.samples)))
 
 abbrev pub detailed_listing : Details → Parts → Counts → List ℕ
-detailed_listing details b counts = listing_with details.zones (if details.uses then Some (named_in b) else None) b counts
+detailed_listing details b counts =
+    listing_with details.zones (if details.uses then Some (named_in b) else None) b counts

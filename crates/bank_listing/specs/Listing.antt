@@ -40,7 +40,8 @@ counts_line counts = line_text (codes "counts") (
 
 -- what a preset has besides its zones, and how many they are
 unfoldable pub preset_line : ℕ → Head → ℕ → List ℕ
-preset_line n p zones = line_text (codes "preset") (Number n ∷ Name p.name ∷ Number p.number ∷ Number p.bank ∷ Number zones ∷ [])
+preset_line n p zones =
+    line_text (codes "preset") (Number n ∷ Name p.name ∷ Number p.number ∷ Number p.bank ∷ Number zones ∷ [])
 
 -- an instrument by its name, and how many zones it has
 unfoldable pub instrument_line : ℕ → List ℕ → ℕ → List ℕ

@@ -1,5 +1,5 @@
--- How often instruments and samples are named: by the zones whose target they are, and samples by other samples that are linked
--- with them.
+-- How often instruments and samples are named: by the zones whose target they are, and samples by other samples that
+-- are linked with them.
 use Rattle.std.specs.Prelude.{ℕ, ◌==◌, List, length, map, filter, Option, Some, None, if◌then◌else◌}
 use Rattle.std.specs.List.{flat_map, filter_map, enumerate_from, range_with_len}
 use Rattle.bank_parts.specs.declared.parts.Kind.{Kind}

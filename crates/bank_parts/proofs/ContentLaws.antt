@@ -12,7 +12,8 @@ use Rattle.generators.specs.declared.level.Level.{Level}
 use Rattle.bank_parts.specs.declared.parts.Zone.{Zone}
 use Rattle.bank_parts.specs.declared.parts.WithZones.{WithZones}
 use Rattle.bank_parts.specs.Valid.{IsGenerator, AreGenerators, IsZone, IsOwner}
-use Rattle.bank_parts.specs.Contents.{misses_target, sets_foreign, has_foreign, is_bad_range, sets_bad_range, has_bad_range}
+use Rattle.bank_parts.specs.Contents.{misses_target, sets_foreign, has_foreign, is_bad_range, sets_bad_range}
+use Rattle.bank_parts.specs.Contents.{has_bad_range}
 use Rattle.bank_parts.proofs.Everywhere.{all_weaker, all_both, or_left, or_right, or_none, none_passes, passes_none}
 
 -- ---- tests of numbers
@@ -51,24 +52,32 @@ module _ (at : Level) where
   generator_from : (e : ℕ × ℕ) → not (is_allowed at e.0) ≡ false → is_bad_range e ≡ false → IsGenerator at e
   generator_from e own good = record {
     allowed = held (is_allowed at e.0) own;
-    range = λ asks. ends_are (e.1 % 256) (e.1 / 256) (asked (is_range_operator e.0) (nat_le (e.1 % 256) (e.1 / 256) && nat_le (e.1 / 256) 127) good asks);
+    range =
+        λ asks.
+        ends_are (e.1 % 256) (e.1 / 256)
+        (asked (is_range_operator e.0) (nat_le (e.1 % 256) (e.1 / 256) && nat_le (e.1 / 256) 127) good asks);
   }
 
   gens_from : (gens : Gens) → sets_foreign at gens ≡ false → sets_bad_range gens ≡ false → AreGenerators at gens
   gens_from gens own good =
-      all_both (λ (e : ℕ × ℕ). not (is_allowed at e.0) ≡ false) (λ (e : ℕ × ℕ). is_bad_range e ≡ false) (IsGenerator at) generator_from (entries gens)
-      (none_passes (λ (e : ℕ × ℕ). not (is_allowed at e.0)) (entries gens) own) (none_passes is_bad_range (entries gens) good)
+      all_both (λ (e : ℕ × ℕ). not (is_allowed at e.0) ≡ false) (λ (e : ℕ × ℕ). is_bad_range e ≡ false)
+      (IsGenerator at) generator_from (entries gens)
+      (none_passes (λ (e : ℕ × ℕ). not (is_allowed at e.0)) (entries gens) own)
+      (none_passes is_bad_range (entries gens) good)
 
   gens_own : (gens : Gens) → AreGenerators at gens → sets_foreign at gens ≡ false
   gens_own gens h =
       passes_none (λ (e : ℕ × ℕ). not (is_allowed at e.0)) (entries gens)
-      (all_weaker (IsGenerator at) (λ (e : ℕ × ℕ). not (is_allowed at e.0) ≡ false) (λ e g. not_held (is_allowed at e.0) g.allowed) (entries gens) h)
+      (all_weaker (IsGenerator at) (λ (e : ℕ × ℕ). not (is_allowed at e.0) ≡ false)
+      (λ e g. not_held (is_allowed at e.0) g.allowed) (entries gens) h)
 
   gens_good : (gens : Gens) → AreGenerators at gens → sets_bad_range gens ≡ false
   gens_good gens h =
       passes_none is_bad_range (entries gens)
       (all_weaker (IsGenerator at) (λ (e : ℕ × ℕ). is_bad_range e ≡ false)
-      (λ e g. answers (is_range_operator e.0) (nat_le (e.1 % 256) (e.1 / 256) && nat_le (e.1 / 256) 127) (λ asks. let r = g.range asks in are_ends (e.1 % 256) (e.1 / 256) r.0 r.1))
+      (λ e g.
+      answers (is_range_operator e.0) (nat_le (e.1 % 256) (e.1 / 256) && nat_le (e.1 / 256) 127)
+      (λ asks. let r = g.range asks in are_ends (e.1 % 256) (e.1 / 256) r.0 r.1))
       (entries gens) h)
 
 -- ---- a preset or an instrument
@@ -95,14 +104,19 @@ module _ {H : Type 0} (name_of : H → List ℕ) (at : Level) (count : ℕ) (x :
       let own = or_right (sets_foreign at x.global.gens) (list_any foreign x.zones) h.operators in
       let good = or_right (sets_bad_range x.global.gens) (list_any bad x.zones) h.ranges in
       let gens : AllByRecursion (λ (z : Zone). AreGenerators at z.gens) x.zones =
-      all_both (λ (z : Zone). foreign z ≡ false) (λ (z : Zone). bad z ≡ false) (λ (z : Zone). AreGenerators at z.gens) (λ z own good. gens_from at z.gens own good) x.zones
+      all_both (λ (z : Zone). foreign z ≡ false) (λ (z : Zone). bad z ≡ false)
+      (λ (z : Zone). AreGenerators at z.gens) (λ z own good. gens_from at z.gens own good) x.zones
       (none_passes foreign x.zones own) (none_passes bad x.zones good) in
       record {
         name = named;
         zones = record {
-          global = gens_from at x.global.gens (or_left (sets_foreign at x.global.gens) (list_any foreign x.zones) h.operators) (or_left (sets_bad_range x.global.gens) (list_any bad x.zones) h.ranges);
+          global =
+              gens_from at x.global.gens
+              (or_left (sets_foreign at x.global.gens) (list_any foreign x.zones) h.operators)
+              (or_left (sets_bad_range x.global.gens) (list_any bad x.zones) h.ranges);
           zones =
-              all_both (λ (z : Zone). misses z ≡ false) (λ (z : Zone). AreGenerators at z.gens) (IsZone at count) (λ z near gens. record { target = in_reach count z.target near; gens = gens }) x.zones
+              all_both (λ (z : Zone). misses z ≡ false) (λ (z : Zone). AreGenerators at z.gens) (IsZone at count)
+              (λ z near gens. record { target = in_reach count z.target near; gens = gens }) x.zones
               (none_passes misses x.zones h.targets) gens;
         };
       }
@@ -112,11 +126,19 @@ module _ {H : Type 0} (name_of : H → List ℕ) (at : Level) (count : ℕ) (x :
   tests_from_owner h =
       let zones = h.zones.zones in
       record {
-        targets = passes_none misses x.zones (all_weaker (IsZone at count) (λ (z : Zone). misses z ≡ false) (λ z k. reached count z.target k.target) x.zones zones);
+        targets =
+            passes_none misses x.zones
+            (all_weaker (IsZone at count) (λ (z : Zone). misses z ≡ false)
+            (λ z k. reached count z.target k.target) x.zones zones);
         operators =
-            or_none (sets_foreign at x.global.gens) (list_any foreign x.zones) (gens_own at x.global.gens h.zones.global)
-            (passes_none foreign x.zones (all_weaker (IsZone at count) (λ (z : Zone). foreign z ≡ false) (λ z k. gens_own at z.gens k.gens) x.zones zones));
+            or_none (sets_foreign at x.global.gens) (list_any foreign x.zones)
+            (gens_own at x.global.gens h.zones.global)
+            (passes_none foreign x.zones
+            (all_weaker (IsZone at count) (λ (z : Zone). foreign z ≡ false) (λ z k. gens_own at z.gens k.gens)
+            x.zones zones));
         ranges =
             or_none (sets_bad_range x.global.gens) (list_any bad x.zones) (gens_good at x.global.gens h.zones.global)
-            (passes_none bad x.zones (all_weaker (IsZone at count) (λ (z : Zone). bad z ≡ false) (λ z k. gens_good at z.gens k.gens) x.zones zones));
+            (passes_none bad x.zones
+            (all_weaker (IsZone at count) (λ (z : Zone). bad z ≡ false) (λ z k. gens_good at z.gens k.gens)
+            x.zones zones));
       }

@@ -1,5 +1,6 @@
 -- A map of generators as its entries, and its changes as changes of these.
-use Rattle.std.proofs.Common.{◌≡◌, ◌≢◌, ◌<◌, ◌^◌, ℕ, Bool, true, false, cond, List, [], length, get_or, set, Option, Some, None, refl, sym, subst, ◌∙◌, ap, arith}
+use Rattle.std.proofs.Common.{◌≡◌, ◌≢◌, ◌<◌, ◌^◌, ℕ, Bool, true, false, cond, List, [], length, get_or, set, Option}
+use Rattle.std.proofs.Common.{Some, None, refl, sym, subst, ◌∙◌, ap, arith}
 use Rattle.std.specs.List as list
 use Rattle.std.specs.FinMap as map
 use Rattle.std.specs.Option.{IfSome, option_map}
@@ -9,7 +10,9 @@ use Rattle.generators.specs.Places.{IsAt, IsGapFor}
 use Rattle.generators.proofs.Order.{tied, untied}
 use Rattle.generators.proofs.MapLaws.{get-insert_any, get-remove_any}
 use Rattle.generators.proofs.EntryLaws.{All-insert, All-remove}
-use Rattle.generators.proofs.Maps.{entries_rise, entries_held, get_at, get_gap, remove_gap, AreGens-set, set_is_insert, AreGens-insert, inserted_is_insert, AreGens-remove, removed_is_remove}
+use Rattle.generators.proofs.Maps.{entries_rise, entries_held, get_at, get_gap, remove_gap, AreGens-set}
+use Rattle.generators.proofs.Maps.{set_is_insert, AreGens-insert, inserted_is_insert, AreGens-remove}
+use Rattle.generators.proofs.Maps.{removed_is_remove}
 use Rattle.bank_parts.specs.Bagged.{IsPlain}
 use Rattle.bank_parts.proofs.ReadLaws.{gens-back}
 
@@ -26,10 +29,14 @@ module _ (m : Gens) (fit : FitGens m) (op j : ℕ) (at : IsAt (entries m) op j) 
   found_amount d = get_at (are_gens m fit) (gens-back m) at d
 
   pub entries-set : (w : ℕ) → op < 2 ^ 16 → w < 2 ^ 16 → entries (map.insert m op w) ≡ set (entries m) j (op, w)
-  entries-set w p q = entries_held (AreGens-set (are_gens m fit) (gens-back m) at w p q) (set_is_insert (are_gens m fit) (gens-back m) at w p q)
+  entries-set w p q =
+      entries_held (AreGens-set (are_gens m fit) (gens-back m) at w p q)
+      (set_is_insert (are_gens m fit) (gens-back m) at w p q)
 
   pub entries-removed : entries (map.remove m op) ≡ list.remove (entries m) j
-  entries-removed = entries_held (AreGens-remove (are_gens m fit) (gens-back m) at) (removed_is_remove (are_gens m fit) (gens-back m) at)
+  entries-removed =
+      entries_held (AreGens-remove (are_gens m fit) (gens-back m) at)
+      (removed_is_remove (are_gens m fit) (gens-back m) at)
 
 -- ---- an operator that would go to a place
 
@@ -40,8 +47,11 @@ module _ (m : Gens) (fit : FitGens m) (op j : ℕ) (gap : IsGapFor (entries m) o
   pub nothing_removed : map.remove m op ≡ m
   nothing_removed = remove_gap (are_gens m fit) (gens-back m) gap
 
-  pub entries-inserted : (w : ℕ) → op < 2 ^ 16 → w < 2 ^ 16 → entries (map.insert m op w) ≡ list.insert (entries m) j (op, w)
-  entries-inserted w p q = entries_held (AreGens-insert (are_gens m fit) (gens-back m) gap w p q) (inserted_is_insert (are_gens m fit) (gens-back m) gap w p q)
+  pub entries-inserted : (w : ℕ) → op < 2 ^ 16 → w < 2 ^ 16
+      → entries (map.insert m op w) ≡ list.insert (entries m) j (op, w)
+  entries-inserted w p q =
+      entries_held (AreGens-insert (are_gens m fit) (gens-back m) gap w p q)
+      (inserted_is_insert (are_gens m fit) (gens-back m) gap w p q)
 
 -- no operator is set
 pub empty_gap : (es : List (ℕ × ℕ)) (op : ℕ) → es ≡ [] → IsGapFor es op 0
@@ -55,7 +65,8 @@ asked_none : (b : Bool) → ◌≡◌ {A = Option ℕ} (cond b None None) None
 asked_none true = refl
 asked_none false = refl
 
-pub plain-insert : (t : ℕ) (m : Gens) (op w : ℕ) → t ≢ op → op < 2 ^ 16 → w < 2 ^ 16 → IsPlain t m → IsPlain t (map.insert m op w)
+pub plain-insert : (t : ℕ) (m : Gens) (op w : ℕ) → t ≢ op → op < 2 ^ 16 → w < 2 ^ 16 → IsPlain t m
+    → IsPlain t (map.insert m op w)
 plain-insert t m op w other p q plain = record {
   unset = get-insert_any m op w t ∙ (ap (λ b. cond b (Some w) (map.get m t)) (untied t op other) ∙ plain.unset);
   fit = All-insert FitsEntry m op w (p, q) plain.fit;
@@ -69,7 +80,8 @@ plain-remove t m op plain = record {
 
 -- ---- a map that may be there, by its entries
 
-pub amount_found : (o : Option Gens) (es : List (ℕ × ℕ)) (op j : ℕ) (d : ℕ × ℕ) → option_map entries o ≡ Some es → IfSome o FitGens → IsAt es op j
+pub amount_found : (o : Option Gens) (es : List (ℕ × ℕ)) (op j : ℕ) (d : ℕ × ℕ) → option_map entries o ≡ Some es
+    → IfSome o FitGens → IsAt es op j
     → IfSome o (λ (m : Gens). Some (get_or es j d).1 ≡ map.get m op)
 amount_found None es op j d e fit at = tt
 amount_found (Some m) es op j d e fit at =
@@ -77,7 +89,8 @@ amount_found (Some m) es op j d e fit at =
     let was = found_amount m fit op j (subst (λ es. IsAt es op j) (sym same) at) d in
     ap (λ es. Some (get_or es j d).1) (sym same) ∙ sym was
 
-pub amount_missing : (o : Option Gens) (es : List (ℕ × ℕ)) (op j : ℕ) → option_map entries o ≡ Some es → IfSome o FitGens → IsGapFor es op j → IfSome o (λ (m : Gens). None ≡ map.get m op)
+pub amount_missing : (o : Option Gens) (es : List (ℕ × ℕ)) (op j : ℕ) → option_map entries o ≡ Some es
+    → IfSome o FitGens → IsGapFor es op j → IfSome o (λ (m : Gens). None ≡ map.get m op)
 amount_missing None es op j e fit gap = tt
 amount_missing (Some m) es op j e fit gap =
     let same : entries m ≡ es = cc in

@@ -1,5 +1,6 @@
 -- Lists changed past a front, and what holds of each member.
-use Rattle.std.proofs.Common.{◌≡◌, ℕ, ◌<◌, ◌≤◌, ◌+◌, suc, zero, List, [], ◌∷◌, ◌++◌, length, insert, remove, slice_get, set, take, drop, Some, refl, sym, subst, ◌∙◌, ap, zero-add, suc-add, arith}
+use Rattle.std.proofs.Common.{◌≡◌, ℕ, ◌<◌, ◌≤◌, ◌+◌, suc, zero, List, [], ◌∷◌, ◌++◌, length, insert, remove}
+use Rattle.std.proofs.Common.{slice_get, set, take, drop, Some, refl, sym, subst, ◌∙◌, ap, zero-add, suc-add, arith}
 use Rattle.std.specs.List.{AllByRecursion}
 use Rattle.numbered_lists.specs.Moved.{moved, changed}
 use Rattle.numbered_lists.proofs.Lists.{slice_get-found, moved-found, changed-found}
@@ -32,10 +33,13 @@ module _ {X : Type 0} (P : X → Type 0) where
   pub everywhere-moved : (xs : List X) (i j : ℕ) → i < length xs → AllByRecursion P xs → AllByRecursion P (moved xs i j)
   everywhere-moved xs i j h p =
       let (x, e) = slice_get-found xs i h in
-      subst (AllByRecursion P) (sym (moved-found xs i j x e)) (everywhere-insert (remove xs i) j x (everywhere-found xs i x e p) (everywhere-remove xs i p))
+      subst (AllByRecursion P) (sym (moved-found xs i j x e))
+      (everywhere-insert (remove xs i) j x (everywhere-found xs i x e p) (everywhere-remove xs i p))
 
-  pub everywhere-changed : (xs : List X) (i : ℕ) (f : X → X) (x : X) → slice_get xs i ≡ Some x → P (f x) → AllByRecursion P xs → AllByRecursion P (changed xs i f)
-  everywhere-changed xs i f x e q p = subst (AllByRecursion P) (sym (changed-found xs i f x e)) (everywhere-set xs i (f x) q p)
+  pub everywhere-changed : (xs : List X) (i : ℕ) (f : X → X) (x : X) → slice_get xs i ≡ Some x → P (f x)
+      → AllByRecursion P xs → AllByRecursion P (changed xs i f)
+  everywhere-changed xs i f x e q p =
+      subst (AllByRecursion P) (sym (changed-found xs i f x e)) (everywhere-set xs i (f x) q p)
 
 -- ---- past a front
 
@@ -46,26 +50,32 @@ module _ {X : Type 0} where
 
   pub set-right : (ws ys : List X) (k : ℕ) (x : X) → set (ws ++ ys) (length ws + k) x ≡ ws ++ set ys k x
   set-right [] ys k x = ap (λ n. set ys n x) (zero-add k)
-  set-right (w ∷ ws) ys k x = ap (λ n. set (w ∷ (ws ++ ys)) n x) (suc-add (length ws) k) ∙ ap (λ zs. w ∷ zs) (set-right ws ys k x)
+  set-right (w ∷ ws) ys k x =
+      ap (λ n. set (w ∷ (ws ++ ys)) n x) (suc-add (length ws) k) ∙ ap (λ zs. w ∷ zs) (set-right ws ys k x)
 
   pub insert-right : (ws ys : List X) (k : ℕ) (x : X) → insert (ws ++ ys) (length ws + k) x ≡ ws ++ insert ys k x
   insert-right [] ys k x = ap (λ n. insert ys n x) (zero-add k)
-  insert-right (w ∷ ws) ys k x = ap (λ n. insert (w ∷ (ws ++ ys)) n x) (suc-add (length ws) k) ∙ ap (λ zs. w ∷ zs) (insert-right ws ys k x)
+  insert-right (w ∷ ws) ys k x =
+      ap (λ n. insert (w ∷ (ws ++ ys)) n x) (suc-add (length ws) k) ∙ ap (λ zs. w ∷ zs) (insert-right ws ys k x)
 
   pub remove-right : (ws ys : List X) (k : ℕ) → remove (ws ++ ys) (length ws + k) ≡ ws ++ remove ys k
   remove-right [] ys k = ap (remove ys) (zero-add k)
-  remove-right (w ∷ ws) ys k = ap (remove (w ∷ (ws ++ ys))) (suc-add (length ws) k) ∙ ap (λ zs. w ∷ zs) (remove-right ws ys k)
+  remove-right (w ∷ ws) ys k =
+      ap (remove (w ∷ (ws ++ ys))) (suc-add (length ws) k) ∙ ap (λ zs. w ∷ zs) (remove-right ws ys k)
 
-  pub moved-right : (ws ys : List X) (i j : ℕ) → i < length ys → moved (ws ++ ys) (length ws + i) (length ws + j) ≡ ws ++ moved ys i j
+  pub moved-right : (ws ys : List X) (i j : ℕ) → i < length ys
+      → moved (ws ++ ys) (length ws + i) (length ws + j) ≡ ws ++ moved ys i j
   moved-right ws ys i j h =
       let (y, there) = slice_get-found ys i h in
       moved-found (ws ++ ys) (length ws + i) (length ws + j) y (get-right ws ys i ∙ there)
       ∙ (ap (λ zs. insert zs (length ws + j) y) (remove-right ws ys i)
       ∙ (insert-right ws (remove ys i) j y ∙ ap (λ zs. ws ++ zs) (sym (moved-found ys i j y there))))
 
-  pub changed-right : (ws ys : List X) (k : ℕ) (f : X → X) (y : X) → slice_get ys k ≡ Some y → changed (ws ++ ys) (length ws + k) f ≡ ws ++ changed ys k f
+  pub changed-right : (ws ys : List X) (k : ℕ) (f : X → X) (y : X) → slice_get ys k ≡ Some y
+      → changed (ws ++ ys) (length ws + k) f ≡ ws ++ changed ys k f
   changed-right ws ys k f y there =
-      changed-found (ws ++ ys) (length ws + k) f y (get-right ws ys k ∙ there) ∙ (set-right ws ys k (f y) ∙ ap (λ zs. ws ++ zs) (sym (changed-found ys k f y there)))
+      changed-found (ws ++ ys) (length ws + k) f y (get-right ws ys k ∙ there)
+      ∙ (set-right ws ys k (f y) ∙ ap (λ zs. ws ++ zs) (sym (changed-found ys k f y there)))
 
   pub get-last : (xs : List X) (x : X) → slice_get (xs ++ x ∷ []) (length xs) ≡ Some x
   get-last [] x = refl
@@ -77,7 +87,8 @@ module _ {X : Type 0} where
 
   -- the last one moved into place
   pub moved-last : (xs : List X) (x : X) (i : ℕ) → moved (xs ++ x ∷ []) (length xs) i ≡ insert xs i x
-  moved-last xs x i = moved-found (xs ++ x ∷ []) (length xs) i x (get-last xs x) ∙ ap (λ zs. insert zs i x) (remove-last xs x)
+  moved-last xs x i =
+      moved-found (xs ++ x ∷ []) (length xs) i x (get-last xs x) ∙ ap (λ zs. insert zs i x) (remove-last xs x)
 
   pub insert-last : (xs : List X) (x : X) → insert xs (length xs) x ≡ xs ++ x ∷ []
   insert-last [] x = refl
@@ -107,7 +118,9 @@ module _ {X : Type 0} where
   pub cut-left : (ws ys : List X) (k : ℕ) → k < length ws → cut (ws ++ ys) k 1 ≡ remove ws k ++ ys
   cut-left [] ys k h = absurd (omega arith)
   cut-left (w ∷ ws) ys zero h = refl
-  cut-left (w ∷ ws) ys (suc k) h = ap (λ n. take (suc k) (w ∷ (ws ++ ys)) ++ drop n (w ∷ (ws ++ ys))) (suc-add k 1) ∙ ap (λ zs. w ∷ zs) (cut-left ws ys k (omega arith))
+  cut-left (w ∷ ws) ys (suc k) h =
+      ap (λ n. take (suc k) (w ∷ (ws ++ ys)) ++ drop n (w ∷ (ws ++ ys))) (suc-add k 1)
+      ∙ ap (λ zs. w ∷ zs) (cut-left ws ys k (omega arith))
 
   pub put-one : (xs : List X) (k : ℕ) (x : X) → put xs k (x ∷ []) ≡ insert xs k x
   put-one xs k x = refl
@@ -115,7 +128,9 @@ module _ {X : Type 0} where
   pub cut-one : (xs : List X) (k : ℕ) → k < length xs → cut xs k 1 ≡ remove xs k
   cut-one [] k h = absurd (omega arith)
   cut-one (x ∷ xs) zero h = refl
-  cut-one (x ∷ xs) (suc k) h = ap (λ n. take (suc k) (x ∷ xs) ++ drop n (x ∷ xs)) (suc-add k 1) ∙ ap (λ zs. x ∷ zs) (cut-one xs k (omega arith))
+  cut-one (x ∷ xs) (suc k) h =
+      ap (λ n. take (suc k) (x ∷ xs) ++ drop n (x ∷ xs)) (suc-add k 1)
+      ∙ ap (λ zs. x ∷ zs) (cut-one xs k (omega arith))
 
   pub length-insert : (xs : List X) (k : ℕ) (x : X) → k ≤ length xs → length (insert xs k x) ≡ suc (length xs)
   length-insert xs zero x h = refl

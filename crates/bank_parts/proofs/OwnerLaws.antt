@@ -1,5 +1,6 @@
 -- Presets, instruments and zones that come in from outside: which are plain, and that there is room for them.
-use Rattle.std.proofs.Common.{◌≡◌, ℕ, ◌<◌, ◌+◌, ◌^◌, ◌||◌, Bool, true, false, List, [], ◌∷◌, ◌++◌, length, insert, Option, Some, None, refl, sym, subst, ◌∙◌, ap, length-append, arith}
+use Rattle.std.proofs.Common.{◌≡◌, ℕ, ◌<◌, ◌+◌, ◌^◌, ◌||◌, Bool, true, false, List, [], ◌∷◌, ◌++◌, length, insert}
+use Rattle.std.proofs.Common.{Option, Some, None, refl, sym, subst, ◌∙◌, ap, length-append, arith}
 use Rattle.std.specs.Prelude.{is_some}
 use Rattle.std.specs.List.{AllByRecursion, list_any}
 use Rattle.std.specs.FinMap.{get}
@@ -24,25 +25,35 @@ none_of_test : {X : Type 0} (o : Option X) → is_some o ≡ false → o ≡ Non
 none_of_test None e = refl
 none_of_test (Some x) e = cc
 
-pub zone_plain : (op : ℕ) (z : Zone) (r : Bool) → r ≡ is_some (get z.gens op) → r ≡ false → FitsZone z → IsPlain op z.gens
+pub zone_plain : (op : ℕ) (z : Zone) (r : Bool) → r ≡ is_some (get z.gens op) → r ≡ false → FitsZone z
+    → IsPlain op z.gens
 zone_plain op z r e is fits = record { unset = none_of_test (get z.gens op) (sym e ∙ is); fit = fits.gens }
 
 either : (a b : Bool) → (a || b) ≡ false → (a ≡ false) × (b ≡ false)
 either true b e = cc
 either false b e = (refl, e)
 
-zones_plain : (op : ℕ) (zones : List Zone) → list_any (λ (z : Zone). is_some (get z.gens op)) zones ≡ false → AllByRecursion FitsZone zones → AllByRecursion (λ (z : Zone). IsPlain op z.gens) zones
+zones_plain : (op : ℕ) (zones : List Zone) → list_any (λ (z : Zone). is_some (get z.gens op)) zones ≡ false
+    → AllByRecursion FitsZone zones → AllByRecursion (λ (z : Zone). IsPlain op z.gens) zones
 zones_plain op [] e fits = tt
 zones_plain op (z ∷ zs) e fits =
     let both = either (is_some (get z.gens op)) (list_any (λ (z : Zone). is_some (get z.gens op)) zs) e in
     let own = fits.0 in
     (record { unset = none_of_test (get z.gens op) both.0; fit = own.gens }, zones_plain op zs both.1 fits.1)
 
-pub owner_plain : {H : Type 0} (IsFit : H → Type 0) (op : ℕ) (x : WithZones H) (r : Bool) → r ≡ has_operator op x → r ≡ false → FitsOwner IsFit x → IsPlainOwner op x
+pub owner_plain : {H : Type 0} (IsFit : H → Type 0) (op : ℕ) (x : WithZones H) (r : Bool) → r ≡ has_operator op x
+    → r ≡ false → FitsOwner IsFit x → IsPlainOwner op x
 owner_plain IsFit op x r e is fits =
-    let both = either (is_some (get x.global.gens op)) (list_any (λ (z : Zone). is_some (get z.gens op)) x.zones) (sym e ∙ is) in
+    let both =
+    either (is_some (get x.global.gens op)) (list_any (λ (z : Zone). is_some (get z.gens op)) x.zones)
+    (sym e ∙ is) in
     let global = fits.global in
-    record { global = record { unset = none_of_test (get x.global.gens op) both.0; fit = global.gens }; zones = zones_plain op x.zones both.1 fits.zones }
+    record {
+      global =
+          record { unset = none_of_test (get x.global.gens op) both.0; fit = global.gens };
+      zones =
+          zones_plain op x.zones both.1 fits.zones;
+    }
 
 -- ---- room
 
@@ -55,15 +66,31 @@ room_counted s r more e h =
     let zones = below r.zones (length (all_bags s.owners)) k.held.zones in
     let gens = below r.gens (length (gens_in (all_bags s.owners))) k.held.gens in
     let mods = below r.mods (length (mods_in (all_bags s.owners))) k.held.mods in
-    record { held = record { zones = omega arith; gens = omega arith; mods = omega arith }; zones = omega arith; gens = omega arith; mods = omega arith }
+    record {
+      held =
+          record { zones = omega arith; gens = omega arith; mods = omega arith };
+      zones =
+          omega arith;
+      gens = omega arith;
+      mods = omega arith;
+    }
 
 -- ---- the last one moved into place, where room was made for it and the bags stayed
 
-pub owner_put : {H : Type 0} {op : ℕ} {heads : List H} {bags : List (List Bag)} {owners : List (WithZones H)} (a : AreOf op heads bags owners) (i last : ℕ) (x : WithZones H) (hs : List H) (first bs : List (List Bag)) {o : ℕ} {room : List (List Bag)}
-    → o ≡ op → IsPlainOwner o x → hs ≡ insert heads i x.head → room ≡ bags → last ≡ length room → first ≡ room ++ bags_of o x ∷ [] → bs ≡ moved first last i → AreOf op hs bs (insert owners i x)
+pub owner_put : {H : Type 0} {op : ℕ} {heads : List H} {bags : List (List Bag)} {owners : List (WithZones H)}
+    (a : AreOf op heads bags owners) (i last : ℕ) (x : WithZones H) (hs : List H) (first bs : List (List Bag))
+    {o : ℕ} {room : List (List Bag)}
+    → o ≡ op → IsPlainOwner o x → hs ≡ insert heads i x.head → room ≡ bags → last ≡ length room
+    → first ≡ room ++ bags_of o x ∷ [] → bs ≡ moved first last i → AreOf op hs bs (insert owners i x)
 owner_put {H} {op} {heads} {bags} {owners} a i last x hs first bs is plain h kept l f e =
     member_put a i x hs bs (subst (λ op. IsPlainOwner op x) is plain) h
-    (e ∙ ((λ t. moved (f t) (l t) i) ∙ ((λ t. moved (kept t ++ bags_of (is t) x ∷ []) (length (kept t)) i) ∙ moved-last bags (bags_of op x) i)))
+    (e
+    ∙
+    ((λ t. moved (f t) (l t) i)
+    ∙
+    ((λ t. moved (kept t ++ bags_of (is t) x ∷ []) (length (kept t)) i)
+    ∙ moved-last bags (bags_of op x) i)))
 
-pub last_within : (bags first : List (List Bag)) (own : List Bag) (last : ℕ) → last ≡ length bags → first ≡ bags ++ own ∷ [] → last < length first
+pub last_within : (bags first : List (List Bag)) (own : List Bag) (last : ℕ) → last ≡ length bags
+    → first ≡ bags ++ own ∷ [] → last < length first
 last_within bags first own last l f = let size = ap length f ∙ length-append bags (own ∷ []) in omega arith

@@ -1,5 +1,7 @@
 -- The bag of a place among those of its owner, and what becomes of the owner where the bag changes.
-use Rattle.std.proofs.Common.{if◌then◌else◌, ◌≡◌, ℕ, ◌<◌, ◌≤◌, ◌+◌, ◌-◌, ◌==◌, Bool, true, false, List, [], ◌∷◌, ◌++◌, length, map, slice_get, Option, Some, None, refl, sym, subst, ◌∙◌, ap, length-append, arith}
+use Rattle.std.proofs.Common.{if◌then◌else◌, ◌≡◌, ℕ, ◌<◌, ◌≤◌, ◌+◌, ◌-◌, ◌==◌, Bool, true, false, List, [], ◌∷◌}
+use Rattle.std.proofs.Common.{◌++◌, length, map, slice_get, Option, Some, None, refl, sym, subst, ◌∙◌, ap}
+use Rattle.std.proofs.Common.{length-append, arith}
 use Rattle.std.specs.FinMap.{len}
 use Rattle.std.specs.Option.{IfSome, IsSome, option_map, option_and_then}
 use Rattle.std.proofs.lemmas.List.{length-map}
@@ -13,7 +15,8 @@ use Rattle.bank_parts.specs.declared.parts.WithZones.{WithZones}
 use Rattle.bank_parts.specs.declared.owners.ZonePlace.{ZonePlace}
 use Rattle.bank_parts.specs.declared.owners.ZonePlace.TheVariants as place
 use Rattle.bank_parts.specs.Owners.{zone_count_at}
-use Rattle.bank_parts.specs.Bagged.{zone_bag, global_bag, global_bags, bags_of, bag_number, ends_in, IsPlain, IsPlainOwner}
+use Rattle.bank_parts.specs.Bagged.{zone_bag, global_bag, global_bags, bags_of, bag_number, ends_in, IsPlain}
+use Rattle.bank_parts.specs.Bagged.{IsPlainOwner}
 use Rattle.bank_parts.specs.Flat.{AreOf}
 use Rattle.bank_parts.proofs.ReadLaws.{zone-ends, plain-ends}
 use Rattle.bank_parts.proofs.MemberLaws.{bags_at, plain_at}
@@ -38,16 +41,22 @@ first_own : (op : ℕ) (g : GlobalZone) (zones : List Zone) (c : Bool) (b : Bag)
 first_own op g [] true b p e = cc
 first_own op g (z ∷ zs) true b p e =
     let same : zone_bag op z ≡ b = cc in
-    sym (ap (λ (b : Bag). if ends_in op b.gens then 0 else 1) (sym same) ∙ ap (λ c. if c then 0 else 1) (zone-ends op z))
+    sym
+    (ap (λ (b : Bag). if ends_in op b.gens then 0 else 1) (sym same)
+    ∙ ap (λ c. if c then 0 else 1) (zone-ends op z))
 first_own op g zones false b p e =
     let same : global_bag g ≡ b = cc in
-    sym (ap (λ (b : Bag). if ends_in op b.gens then 0 else 1) (sym same) ∙ ap (λ c. if c then 0 else 1) (plain-ends op g.gens p.unset))
+    sym
+    (ap (λ (b : Bag). if ends_in op b.gens then 0 else 1) (sym same)
+    ∙ ap (λ c. if c then 0 else 1) (plain-ends op g.gens p.unset))
 
-none_numbered : (c : Bool) (g : GlobalZone) → 0 ≡ length (if c then [] else (global_bag g ∷ [])) → ◌≡◌ {A = Option ℕ} None (if c then None else Some 0)
+none_numbered : (c : Bool) (g : GlobalZone) → 0 ≡ length (if c then [] else (global_bag g ∷ []))
+    → ◌≡◌ {A = Option ℕ} None (if c then None else Some 0)
 none_numbered true g e = refl
 none_numbered false g e = absurd (omega arith)
 
-one_numbered : (c : Bool) (g : GlobalZone) → 0 < length (if c then [] else (global_bag g ∷ [])) → ◌≡◌ {A = Option ℕ} (Some 0) (if c then None else Some 0)
+one_numbered : (c : Bool) (g : GlobalZone) → 0 < length (if c then [] else (global_bag g ∷ []))
+    → ◌≡◌ {A = Option ℕ} (Some 0) (if c then None else Some 0)
 one_numbered true g h = absurd (omega arith)
 one_numbered false g h = refl
 
@@ -73,10 +82,14 @@ pub record OwnerAt {H : Type 0} (op : ℕ) (bags : List (List Bag)) (owners : Li
   pub plain : IsPlainOwner op owner
   pub size : length (bags_of op owner) ≡ length (global_bags owner.global) + length owner.zones
 
-own_size : {H : Type 0} (op : ℕ) (x : WithZones H) → length (bags_of op x) ≡ length (global_bags x.global) + length x.zones
-own_size op x = length-append (global_bags x.global) (map (zone_bag op) x.zones) ∙ ap (λ n. length (global_bags x.global) + n) (length-map x.zones (zone_bag op))
+own_size : {H : Type 0} (op : ℕ) (x : WithZones H)
+    → length (bags_of op x) ≡ length (global_bags x.global) + length x.zones
+own_size op x =
+    length-append (global_bags x.global) (map (zone_bag op) x.zones)
+    ∙ ap (λ n. length (global_bags x.global) + n) (length-map x.zones (zone_bag op))
 
-module _ {H : Type 0} {op : ℕ} {heads : List H} {bags : List (List Bag)} {owners : List (WithZones H)} (a : AreOf op heads bags owners) (i : ℕ) where
+module _ {H : Type 0} {op : ℕ} {heads : List H} {bags : List (List Bag)} {owners : List (WithZones H)}
+    (a : AreOf op heads bags owners) (i : ℕ) where
   pub owner_found : (x : WithZones H) → slice_get owners i ≡ Some x → OwnerAt op bags owners i
   owner_found x there = record {
     owner = x;
@@ -90,38 +103,52 @@ module _ {H : Type 0} {op : ℕ} {heads : List H} {bags : List (List Bag)} {owne
   pub owner_there : i < length owners → OwnerAt op bags owners i
   owner_there within = let (x, there) = slice_get-found owners i within in owner_found x there
 
-module _ {H : Type 0} {op : ℕ} {bags : List (List Bag)} {owners : List (WithZones H)} {i : ℕ} (o : OwnerAt op bags owners i) where
+module _ {H : Type 0} {op : ℕ} {bags : List (List Bag)} {owners : List (WithZones H)} {i : ℕ}
+    (o : OwnerAt op bags owners i) where
   -- the number of its bags, as the code reads it
-  pub bags_counted : (n : ℕ) → IfSome (slice_get bags i) (λ (own : List Bag). n ≡ length own) → n ≡ length (global_bags o.owner.global) + length o.owner.zones
+  pub bags_counted : (n : ℕ) → IfSome (slice_get bags i) (λ (own : List Bag). n ≡ length own)
+      → n ≡ length (global_bags o.owner.global) + length o.owner.zones
   bags_counted n h = of_some (λ (own : List Bag). n ≡ length own) o.own h ∙ o.size
 
-  pub global_counted : (n : ℕ) → IfSome (slice_get owners i) (λ (x : WithZones H). n ≡ length (global_bags x.global)) → n ≡ length (global_bags o.owner.global)
+  pub global_counted : (n : ℕ) → IfSome (slice_get owners i) (λ (x : WithZones H). n ≡ length (global_bags x.global))
+      → n ≡ length (global_bags o.owner.global)
   global_counted n h = of_some (λ (x : WithZones H). n ≡ length (global_bags x.global)) o.there h
 
-  pub bag_there : (k : ℕ) → k < length (global_bags o.owner.global) + length o.owner.zones → (b : Bag) × (slice_get (bags_of op o.owner) k ≡ Some b) × (bag_at bags i k ≡ Some b)
+  pub bag_there : (k : ℕ) → k < length (global_bags o.owner.global) + length o.owner.zones
+      → (b : Bag) × (slice_get (bags_of op o.owner) k ≡ Some b) × (bag_at bags i k ≡ Some b)
   bag_there k within =
       let size = o.size in
       let (b, found) = slice_get-found (bags_of op o.owner) k (omega arith) in
       (b, found, ap (option_and_then (λ (own : List Bag). slice_get own k)) o.own ∙ found)
 
-  pub no_bags : (n : ℕ) → IfSome (slice_get bags i) (λ (own : List Bag). n ≡ length own) → n ≡ 0 → IfSome (slice_get owners i) (λ (x : WithZones H). 0 ≡ length (global_bags x.global))
-  no_bags n h e = let all = bags_counted n h in to_some (λ (x : WithZones H). 0 ≡ length (global_bags x.global)) o.there (omega arith)
+  pub no_bags : (n : ℕ) → IfSome (slice_get bags i) (λ (own : List Bag). n ≡ length own) → n ≡ 0
+      → IfSome (slice_get owners i) (λ (x : WithZones H). 0 ≡ length (global_bags x.global))
+  no_bags n h e =
+      let all = bags_counted n h in
+      to_some (λ (x : WithZones H). 0 ≡ length (global_bags x.global)) o.there (omega arith)
 
-  pub bag_is_there : (n k : ℕ) → IfSome (slice_get bags i) (λ (own : List Bag). n ≡ length own) → k < n → IsSome (bag_at bags i k)
-  bag_is_there n k h within = let all = bags_counted n h in let b = bag_there k (omega arith) in subst IsSome (sym b.2) refl
+  pub bag_is_there : (n k : ℕ) → IfSome (slice_get bags i) (λ (own : List Bag). n ≡ length own) → k < n
+      → IsSome (bag_at bags i k)
+  bag_is_there n k h within =
+      let all = bags_counted n h in let b = bag_there k (omega arith) in subst IsSome (sym b.2) refl
 
-  pub first_bag : (gens : List (ℕ × ℕ)) (c : Bool) (n : ℕ) → IsSome (bag_at bags i 0) → IfSome (bag_at bags i 0) (λ (b : Bag). gens ≡ b.gens) → c ≡ ends_in op gens → n ≡ (if c then 0 else 1)
+  pub first_bag : (gens : List (ℕ × ℕ)) (c : Bool) (n : ℕ) → IsSome (bag_at bags i 0)
+      → IfSome (bag_at bags i 0) (λ (b : Bag). gens ≡ b.gens) → c ≡ ends_in op gens → n ≡ (if c then 0 else 1)
       → IfSome (slice_get owners i) (λ (x : WithZones H). n ≡ length (global_bags x.global))
   first_bag gens c n some first e count =
-      let (b, found) = is_there (slice_get (bags_of op o.owner) 0) (subst IsSome (ap (option_and_then (λ (own : List Bag). slice_get own 0)) o.own) some) in
+      let (b, found) =
+      is_there (slice_get (bags_of op o.owner) 0)
+      (subst IsSome (ap (option_and_then (λ (own : List Bag). slice_get own 0)) o.own) some) in
       let at : bag_at bags i 0 ≡ Some b = ap (option_and_then (λ (own : List Bag). slice_get own 0)) o.own ∙ found in
       let same : gens ≡ b.gens = of_some (λ (b : Bag). gens ≡ b.gens) at first in
       let global = o.plain.global in
       to_some (λ (x : WithZones H). n ≡ length (global_bags x.global)) o.there
       (count ∙ (ap (λ c. if c then 0 else 1) (e ∙ ap (ends_in op) same)
-      ∙ sym (first_own op o.owner.global o.owner.zones (len o.owner.global.gens + length o.owner.global.mods == 0) b global found)))
+      ∙ sym (first_own op o.owner.global o.owner.zones (len o.owner.global.gens + length o.owner.global.mods == 0) b
+      global found)))
 
-  pub zones_counted : (n m : ℕ) → IfSome (slice_get bags i) (λ (own : List Bag). n ≡ length own) → IfSome (slice_get owners i) (λ (x : WithZones H). m ≡ length (global_bags x.global))
+  pub zones_counted : (n m : ℕ) → IfSome (slice_get bags i) (λ (own : List Bag). n ≡ length own)
+      → IfSome (slice_get owners i) (λ (x : WithZones H). m ≡ length (global_bags x.global))
       → zone_count_at owners i ≡ Some (n - m)
   zones_counted n m h g =
       let all = bags_counted n h in
@@ -129,7 +156,8 @@ module _ {H : Type 0} {op : ℕ} {bags : List (List Bag)} {owners : List (WithZo
       let count : length o.owner.zones ≡ n - m = omega arith in
       ap (option_map (λ (x : WithZones H). length x.zones)) o.there ∙ ap Some count
 
-  pub zones_fewer : (n m : ℕ) → IfSome (slice_get bags i) (λ (own : List Bag). n ≡ length own) → IfSome (slice_get owners i) (λ (x : WithZones H). m ≡ length (global_bags x.global)) → m ≤ n
+  pub zones_fewer : (n m : ℕ) → IfSome (slice_get bags i) (λ (own : List Bag). n ≡ length own)
+      → IfSome (slice_get owners i) (λ (x : WithZones H). m ≡ length (global_bags x.global)) → m ≤ n
   zones_fewer n m h g = let all = bags_counted n h in let first = global_counted m g in omega arith
 
 -- ---- the number of the bag of a place
@@ -139,19 +167,27 @@ some_weaker P Q f None h = h
 some_weaker P Q f (Some x) h = f x h
 
 module _ {H : Type 0} (o : Option (WithZones H)) (n : ℕ) (at : ZonePlace) where
-  pub no_global_numbered : at ≡ place.Global → IfSome o (λ (x : WithZones H). n ≡ length (global_bags x.global)) → n ≡ 0 → IfSome o (λ (x : WithZones H). None ≡ bag_number at x)
+  pub no_global_numbered : at ≡ place.Global → IfSome o (λ (x : WithZones H). n ≡ length (global_bags x.global))
+      → n ≡ 0 → IfSome o (λ (x : WithZones H). None ≡ bag_number at x)
   no_global_numbered is h e =
       subst (λ at. IfSome o (λ (x : WithZones H). None ≡ bag_number at x)) (sym is)
-      (some_weaker (λ (x : WithZones H). n ≡ length (global_bags x.global)) (λ (x : WithZones H). None ≡ bag_number place.Global x)
+      (some_weaker (λ (x : WithZones H). n ≡ length (global_bags x.global))
+      (λ (x : WithZones H). None ≡ bag_number place.Global x)
       (λ x count. none_numbered (len x.global.gens + length x.global.mods == 0) x.global (sym e ∙ count)) o h)
 
-  pub global_numbered : at ≡ place.Global → IfSome o (λ (x : WithZones H). n ≡ length (global_bags x.global)) → 0 < n → IfSome o (λ (x : WithZones H). Some 0 ≡ bag_number at x)
+  pub global_numbered : at ≡ place.Global → IfSome o (λ (x : WithZones H). n ≡ length (global_bags x.global)) → 0 < n
+      → IfSome o (λ (x : WithZones H). Some 0 ≡ bag_number at x)
   global_numbered is h e =
       subst (λ at. IfSome o (λ (x : WithZones H). Some 0 ≡ bag_number at x)) (sym is)
-      (some_weaker (λ (x : WithZones H). n ≡ length (global_bags x.global)) (λ (x : WithZones H). Some 0 ≡ bag_number place.Global x)
-      (λ x count. one_numbered (len x.global.gens + length x.global.mods == 0) x.global (subst (λ n. 0 < n) count e)) o h)
+      (some_weaker (λ (x : WithZones H). n ≡ length (global_bags x.global))
+      (λ (x : WithZones H). Some 0 ≡ bag_number place.Global x)
+      (λ x count. one_numbered (len x.global.gens + length x.global.mods == 0) x.global
+      (subst (λ n. 0 < n) count e)) o h)
 
-  pub zone_numbered : (k : ℕ) → at ≡ place.Zone k → IfSome o (λ (x : WithZones H). n ≡ length (global_bags x.global) + k) → IfSome o (λ (x : WithZones H). Some n ≡ bag_number at x)
+  pub zone_numbered : (k : ℕ) → at ≡ place.Zone k
+      → IfSome o (λ (x : WithZones H). n ≡ length (global_bags x.global) + k)
+      → IfSome o (λ (x : WithZones H). Some n ≡ bag_number at x)
   zone_numbered k is h =
       subst (λ at. IfSome o (λ (x : WithZones H). Some n ≡ bag_number at x)) (sym is)
-      (some_weaker (λ (x : WithZones H). n ≡ length (global_bags x.global) + k) (λ (x : WithZones H). Some n ≡ bag_number (place.Zone k) x) (λ x at. ap Some at) o h)
+      (some_weaker (λ (x : WithZones H). n ≡ length (global_bags x.global) + k)
+      (λ (x : WithZones H). Some n ≡ bag_number (place.Zone k) x) (λ x at. ap Some at) o h)

@@ -1,7 +1,9 @@
 -- The bags of presets or instruments, read back.
-use Rattle.std.proofs.Common.{if◌then◌else◌, ◌≡◌, ℕ, ◌<◌, ◌+◌, ◌==◌, Bool, true, false, suc, zero, List, [], ◌∷◌, ◌++◌, length, map, take, slice_get, Some, None, refl, sym, subst, ◌∙◌, ap, arith}
+use Rattle.std.proofs.Common.{if◌then◌else◌, ◌≡◌, ℕ, ◌<◌, ◌+◌, ◌==◌, Bool, true, false, suc, zero, List, [], ◌∷◌}
+use Rattle.std.proofs.Common.{◌++◌, length, map, take, slice_get, Some, None, refl, sym, subst, ◌∙◌, ap, arith}
 use Rattle.std.specs.List.{AllByRecursion}
-use Rattle.std.specs.FinMap.{entries, from_sorted, len, get, entries_sorted, entries-from_sorted, same_entries_map, empty_of_len}
+use Rattle.std.specs.FinMap.{entries, from_sorted, len, get, entries_sorted, entries-from_sorted, same_entries_map}
+use Rattle.std.specs.FinMap.{empty_of_len}
 use Rattle.std.proofs.lemmas.Bool.Decides.{nat_tests}
 use Rattle.std.proofs.lemmas.List.{nil_from_length}
 use Rattle.generators.specs.Gens.{Gens, operator_cmp}
@@ -10,7 +12,8 @@ use Rattle.flat_records.specs.Bags.{Bag}
 use Rattle.bank_parts.specs.declared.parts.GlobalZone.{GlobalZone}
 use Rattle.bank_parts.specs.declared.parts.Zone.{Zone}
 use Rattle.bank_parts.specs.declared.parts.WithZones.{WithZones}
-use Rattle.bank_parts.specs.Bagged.{zone_bag, global_bag, bags_of, ends_in, without_last, last_amount, zone_in, no_global, owner_in, IsPlain, IsPlainOwner}
+use Rattle.bank_parts.specs.Bagged.{zone_bag, global_bag, bags_of, ends_in, without_last, last_amount, zone_in}
+use Rattle.bank_parts.specs.Bagged.{no_global, owner_in, IsPlain, IsPlainOwner}
 use Rattle.bank_parts.specs.Flat.{owners_in, AreOf, AreRead}
 
 -- ---- zones
@@ -37,7 +40,9 @@ amount-last op (e ∷ []) amount = refl
 amount-last op (e ∷ (f ∷ es)) amount = amount-last op (f ∷ es) amount
 
 pub gens-back : (gens : Gens) → from_sorted (entries gens) ≡ gens
-gens-back gens = same_entries_map (from_sorted (entries gens)) gens (entries-from_sorted operator_cmp (entries gens) (entries_sorted gens))
+gens-back gens =
+    same_entries_map (from_sorted (entries gens)) gens
+    (entries-from_sorted operator_cmp (entries gens) (entries_sorted gens))
 
 pub zone-back : (op : ℕ) (z : Zone) → zone_in (zone_bag op z) ≡ z
 zone-back op z =
@@ -62,20 +67,23 @@ last_stands op (e ∷ (f ∷ es)) h = let s = last_stands op (f ∷ es) h in (su
 
 pub plain-ends : (op : ℕ) (gens : Gens) → get gens op ≡ None → ends_in op (entries gens) ≡ false
 plain-ends op gens unset = elim (ends_in op (entries gens)) as (λ b. ends_in op (entries gens) ≡ b → b ≡ false) [
-  | true ↦ λ h. let s = last_stands op (entries gens) h in let there = entries_are_set gens s.0 op s.1 s.2 in cc (there, unset)
+  | true ↦ λ h. let s =
+      last_stands op (entries gens) h in let there = entries_are_set gens s.0 op s.1 s.2 in cc (there, unset)
   | false ↦ λ h. refl
 ] refl
 
 -- ---- the last one, at its place
 
-pub ends-at : (op n : ℕ) (es : List (ℕ × ℕ)) (e : ℕ × ℕ) → length es ≡ suc n → slice_get es n ≡ Some e → ends_in op es ≡ (e.0 == op)
+pub ends-at : (op n : ℕ) (es : List (ℕ × ℕ)) (e : ℕ × ℕ) → length es ≡ suc n → slice_get es n ≡ Some e
+    → ends_in op es ≡ (e.0 == op)
 ends-at op n [] e size there = cc
 ends-at op zero (x ∷ []) e size there = let same : x ≡ e = cc in ap (λ (x : ℕ × ℕ). x.0 == op) same
 ends-at op (suc n) (x ∷ []) e size there = absurd (omega arith)
 ends-at op zero (x ∷ (y ∷ ys)) e size there = absurd (omega arith)
 ends-at op (suc n) (x ∷ (y ∷ ys)) e size there = ends-at op n (y ∷ ys) e (omega arith) there
 
-pub amount-at : (n : ℕ) (es : List (ℕ × ℕ)) (e : ℕ × ℕ) → length es ≡ suc n → slice_get es n ≡ Some e → last_amount es ≡ e.1
+pub amount-at : (n : ℕ) (es : List (ℕ × ℕ)) (e : ℕ × ℕ) → length es ≡ suc n → slice_get es n ≡ Some e
+    → last_amount es ≡ e.1
 amount-at n [] e size there = cc
 amount-at zero (x ∷ []) e size there = let same : x ≡ e = cc in ap (λ (x : ℕ × ℕ). x.1) same
 amount-at (suc n) (x ∷ []) e size there = absurd (omega arith)
@@ -104,17 +112,32 @@ none-back g e =
     λ i. record { gens = h i; mods = m i }
 
 module _ {H : Type 0} where
-  own-zones : (op : ℕ) (head : H) (zones : List Zone) → owner_in op head (map (zone_bag op) zones) ≡ record { head = head; global = no_global; zones = zones }
+  own-zones : (op : ℕ) (head : H) (zones : List Zone)
+      → owner_in op head (map (zone_bag op) zones) ≡ record { head = head; global = no_global; zones = zones }
   own-zones op head [] = refl
   own-zones op head (z ∷ zs) =
       rw (zone-ends op z) (λ i. record { head = head; global = no_global; zones = zones-back op (z ∷ zs) i })
 
-  global-cases : (op : ℕ) (x : WithZones H) (b : Bool) → (len x.global.gens + length x.global.mods == 0) ≡ b → IsPlain op x.global.gens
+  global-cases : (op : ℕ) (x : WithZones H) (b : Bool) → (len x.global.gens + length x.global.mods == 0) ≡ b
+      → IsPlain op x.global.gens
       → owner_in op x.head ((if b then [] else (global_bag x.global ∷ [])) ++ map (zone_bag op) x.zones) ≡ x
   global-cases op x true e p =
-      own-zones op x.head x.zones ∙ (let g = none-back x.global (is-op (len x.global.gens + length x.global.mods) 0 e) in λ i. record { head = x.head; global = g i; zones = x.zones })
+      own-zones op x.head x.zones
+      ∙
+      (let g =
+      none-back x.global (is-op (len x.global.gens + length x.global.mods) 0 e) in λ i.
+      record { head = x.head; global = g i; zones = x.zones })
   global-cases op x false e p =
-      rw (plain-ends op x.global.gens p.unset) (λ i. record { head = x.head; global = record { gens = gens-back x.global.gens i; mods = x.global.mods }; zones = zones-back op x.zones i })
+      rw (plain-ends op x.global.gens p.unset)
+      (λ i.
+      record {
+        head =
+            x.head;
+        global =
+            record { gens = gens-back x.global.gens i; mods = x.global.mods };
+        zones =
+            zones-back op x.zones i;
+      })
 
   pub owner-back : (op : ℕ) (x : WithZones H) → IsPlainOwner op x → owner_in op x.head (bags_of op x) ≡ x
   owner-back op x p = global-cases op x (len x.global.gens + length x.global.mods == 0) refl p.global
@@ -124,11 +147,14 @@ module _ {H : Type 0} where
   owners-back op [] p = refl
   owners-back op (x ∷ xs) p = λ i. owner-back op x p.0 i ∷ owners-back op xs p.1 i
 
-  pub read : {op : ℕ} {heads : List H} {bags : List (List Bag)} {owners : List (WithZones H)} → AreOf op heads bags owners → owners_in op heads bags ≡ owners
+  pub read : {op : ℕ} {heads : List H} {bags : List (List Bag)} {owners : List (WithZones H)}
+      → AreOf op heads bags owners → owners_in op heads bags ≡ owners
   read {op} {heads} {bags} {owners} a = (λ i. owners_in op (a.heads i) (a.bags i)) ∙ owners-back op owners a.plain
 
-  pub are_read : {op : ℕ} {heads : List H} {bags : List (List Bag)} {owners : List (WithZones H)} → AreOf op heads bags owners → AreRead op heads bags
+  pub are_read : {op : ℕ} {heads : List H} {bags : List (List Bag)} {owners : List (WithZones H)}
+      → AreOf op heads bags owners → AreRead op heads bags
   are_read {op} {heads} {bags} {owners} a = subst (AreOf op heads bags) (sym (read a)) a
 
-  pub held : {op : ℕ} {heads : List H} {bags : List (List Bag)} {owners : List (WithZones H)} → AreOf op heads bags (owners_in op heads bags) → owners_in op heads bags ≡ owners → AreOf op heads bags owners
+  pub held : {op : ℕ} {heads : List H} {bags : List (List Bag)} {owners : List (WithZones H)}
+      → AreOf op heads bags (owners_in op heads bags) → owners_in op heads bags ≡ owners → AreOf op heads bags owners
   held {op} {heads} {bags} {owners} a e = subst (AreOf op heads bags) e a

@@ -1,5 +1,7 @@
 -- What the records of generators say of presets or instruments.
-use Rattle.std.proofs.Common.{if◌then◌else◌, ◌≡◌, ℕ, ◌<◌, ◌+◌, ◌^◌, ◌==◌, ◌&&◌, ◌||◌, not, suc, Bool, true, false, List, [], ◌∷◌, ◌++◌, length, map, slice_get, Some, refl, sym, ◌∙◌, ap, length-append, append-nil, arith}
+use Rattle.std.proofs.Common.{if◌then◌else◌, ◌≡◌, ℕ, ◌<◌, ◌+◌, ◌^◌, ◌==◌, ◌&&◌, ◌||◌, not, suc, Bool, true, false}
+use Rattle.std.proofs.Common.{List, [], ◌∷◌, ◌++◌, length, map, slice_get, Some, refl, sym, ◌∙◌, ap, length-append}
+use Rattle.std.proofs.Common.{append-nil, arith}
 use Rattle.std.specs.Prelude.{sum_by}
 use Rattle.std.specs.List.{AllByRecursion, flat_map, list_any, list_all}
 use Rattle.std.specs.FinMap.{entries, len, len-entries}
@@ -86,18 +88,22 @@ module _ {X : Type 0} (f : Bag → List X) where
   split_bags : (bs cs : List Bag) → flat_map f (bs ++ cs) ≡ flat_map f bs ++ flat_map f cs
   split_bags bs cs = flat_map-append f bs cs
 
-  records_of_both : (bs cs : List Bag) → length (flat_map f (bs ++ cs)) ≡ length (flat_map f bs) + length (flat_map f cs)
+  records_of_both : (bs cs : List Bag)
+      → length (flat_map f (bs ++ cs)) ≡ length (flat_map f bs) + length (flat_map f cs)
   records_of_both bs cs = ap length (split_bags bs cs) ∙ length-append (flat_map f bs) (flat_map f cs)
 
-global_gens_by : (g : GlobalZone) (c : Bool) → (len g.gens + length g.mods == 0) ≡ c → gens_in (if c then [] else (global_bag g ∷ [])) ≡ entries g.gens
+global_gens_by : (g : GlobalZone) (c : Bool) → (len g.gens + length g.mods == 0) ≡ c
+    → gens_in (if c then [] else (global_bag g ∷ [])) ≡ entries g.gens
 global_gens_by g true e =
     let none = is_none (len g.gens + length g.mods) e in
     let count = len-entries g.gens in
     sym (nil_from_length (entries g.gens) (omega arith))
 global_gens_by g false e = append-nil (entries g.gens)
 
-global_mods_by : (g : GlobalZone) (c : Bool) → (len g.gens + length g.mods == 0) ≡ c → mods_in (if c then [] else (global_bag g ∷ [])) ≡ g.mods
-global_mods_by g true e = let none = is_none (len g.gens + length g.mods) e in sym (nil_from_length g.mods (omega arith))
+global_mods_by : (g : GlobalZone) (c : Bool) → (len g.gens + length g.mods == 0) ≡ c
+    → mods_in (if c then [] else (global_bag g ∷ [])) ≡ g.mods
+global_mods_by g true e =
+    let none = is_none (len g.gens + length g.mods) e in sym (nil_from_length g.mods (omega arith))
 global_mods_by g false e = append-nil g.mods
 
 global_gens : (g : GlobalZone) → gens_in (global_bags g) ≡ entries g.gens
@@ -106,21 +112,30 @@ global_gens g = global_gens_by g (len g.gens + length g.mods == 0) refl
 global_mods : (g : GlobalZone) → mods_in (global_bags g) ≡ g.mods
 global_mods g = global_mods_by g (len g.gens + length g.mods == 0) refl
 
-pub owner_gens : {H : Type 0} (op : ℕ) (x : WithZones H) → gens_in (bags_of op x) ≡ entries x.global.gens ++ gens_in (map (zone_bag op) x.zones)
-owner_gens op x = split_bags (λ (b : Bag). b.gens) (global_bags x.global) (map (zone_bag op) x.zones) ∙ ap (λ es. es ++ gens_in (map (zone_bag op) x.zones)) (global_gens x.global)
+pub owner_gens : {H : Type 0} (op : ℕ) (x : WithZones H)
+    → gens_in (bags_of op x) ≡ entries x.global.gens ++ gens_in (map (zone_bag op) x.zones)
+owner_gens op x =
+    split_bags (λ (b : Bag). b.gens) (global_bags x.global) (map (zone_bag op) x.zones)
+    ∙ ap (λ es. es ++ gens_in (map (zone_bag op) x.zones)) (global_gens x.global)
 
-pub owner_mods : {H : Type 0} (op : ℕ) (x : WithZones H) → mods_in (bags_of op x) ≡ x.global.mods ++ mods_in (map (zone_bag op) x.zones)
-owner_mods op x = split_bags (λ (b : Bag). b.mods) (global_bags x.global) (map (zone_bag op) x.zones) ∙ ap (λ es. es ++ mods_in (map (zone_bag op) x.zones)) (global_mods x.global)
+pub owner_mods : {H : Type 0} (op : ℕ) (x : WithZones H)
+    → mods_in (bags_of op x) ≡ x.global.mods ++ mods_in (map (zone_bag op) x.zones)
+owner_mods op x =
+    split_bags (λ (b : Bag). b.mods) (global_bags x.global) (map (zone_bag op) x.zones)
+    ∙ ap (λ es. es ++ mods_in (map (zone_bag op) x.zones)) (global_mods x.global)
 
-pub gens_before : {H : Type 0} (op : ℕ) (x : WithZones H) (rest : List Bag) → gens_in (bags_of op x ++ rest) ≡ gens_in (bags_of op x) ++ gens_in rest
+pub gens_before : {H : Type 0} (op : ℕ) (x : WithZones H) (rest : List Bag)
+    → gens_in (bags_of op x ++ rest) ≡ gens_in (bags_of op x) ++ gens_in rest
 gens_before op x rest = split_bags (λ (b : Bag). b.gens) (bags_of op x) rest
 
-pub mods_before : {H : Type 0} (op : ℕ) (x : WithZones H) (rest : List Bag) → mods_in (bags_of op x ++ rest) ≡ mods_in (bags_of op x) ++ mods_in rest
+pub mods_before : {H : Type 0} (op : ℕ) (x : WithZones H) (rest : List Bag)
+    → mods_in (bags_of op x ++ rest) ≡ mods_in (bags_of op x) ++ mods_in rest
 mods_before op x rest = split_bags (λ (b : Bag). b.mods) (bags_of op x) rest
 
 -- ---- no entry of a plain map is a target
 
-others_by : (op : ℕ) (es : List (ℕ × ℕ)) → ((j w : ℕ) → slice_get es j ≡ Some (op, w) → ⊥) → AllByRecursion (λ e. (e.0 == op) ≡ false) es
+others_by : (op : ℕ) (es : List (ℕ × ℕ)) → ((j w : ℕ) → slice_get es j ≡ Some (op, w) → ⊥)
+    → AllByRecursion (λ e. (e.0 == op) ≡ false) es
 others_by op [] none = tt
 others_by op (e ∷ es) none = (
   elim (e.0 == op) as (λ b. (e.0 == op) ≡ b → b ≡ false) [
@@ -131,33 +146,41 @@ others_by op (e ∷ es) none = (
 )
 
 pub others : (op : ℕ) (m : Gens) → IsPlain op m → AllByRecursion (λ e. (e.0 == op) ≡ false) (entries m)
-others op m plain = others_by op (entries m) (λ j w there. let set = entries_are_set m j op w there in cc (set, plain.unset))
+others op m plain =
+    others_by op (entries m) (λ j w there. let set = entries_are_set m j op w there in cc (set, plain.unset))
 
 -- ---- which targets there are
 
 module _ (op number : ℕ) where
-  none_targets : (es : List (ℕ × ℕ)) → AllByRecursion (λ e. (e.0 == op) ≡ false) es → list_any (is_target op number) es ≡ false
+  none_targets : (es : List (ℕ × ℕ)) → AllByRecursion (λ e. (e.0 == op) ≡ false) es
+      → list_any (is_target op number) es ≡ false
   none_targets [] h = refl
-  none_targets (e ∷ es) h = ap (λ b. (b && (e.1 == number)) || list_any (is_target op number) es) h.0 ∙ none_targets es h.1
+  none_targets (e ∷ es) h =
+      ap (λ b. (b && (e.1 == number)) || list_any (is_target op number) es) h.0 ∙ none_targets es h.1
 
-  zone_targets : (z : Zone) → IsPlain op z.gens → list_any (is_target op number) (entries z.gens ++ (op, z.target) ∷ []) ≡ (z.target == number)
+  zone_targets : (z : Zone) → IsPlain op z.gens
+      → list_any (is_target op number) (entries z.gens ++ (op, z.target) ∷ []) ≡ (z.target == number)
   zone_targets z plain =
       any-append (is_target op number) (entries z.gens) ((op, z.target) ∷ [])
-      ∙ (ap (λ b. b || (((op == op) && (z.target == number)) || false)) (none_targets (entries z.gens) (others op z.gens plain))
+      ∙ (ap (λ b. b || (((op == op) && (z.target == number)) || false))
+      (none_targets (entries z.gens) (others op z.gens plain))
       ∙ (or_false ((op == op) && (z.target == number)) ∙ ap (λ b. b && (z.target == number)) (same_op op)))
 
   zones_target : (zones : List Zone) → AllByRecursion (λ (z : Zone). IsPlain op z.gens) zones
-      → list_any (is_target op number) (gens_in (map (zone_bag op) zones)) ≡ list_any (λ (z : Zone). z.target == number) zones
+      → list_any (is_target op number) (gens_in (map (zone_bag op) zones))
+      ≡ list_any (λ (z : Zone). z.target == number) zones
   zones_target [] h = refl
   zones_target (z ∷ zs) h =
       any-append (is_target op number) (entries z.gens ++ (op, z.target) ∷ []) (gens_in (map (zone_bag op) zs))
       ∙ (λ i. zone_targets z h.0 i || zones_target zs h.1 i)
 
-  owner_targets : {H : Type 0} (x : WithZones H) → IsPlainOwner op x → list_any (is_target op number) (gens_in (bags_of op x)) ≡ targets number x
+  owner_targets : {H : Type 0} (x : WithZones H) → IsPlainOwner op x
+      → list_any (is_target op number) (gens_in (bags_of op x)) ≡ targets number x
   owner_targets x plain =
       ap (list_any (is_target op number)) (owner_gens op x)
       ∙ (any-append (is_target op number) (entries x.global.gens) (gens_in (map (zone_bag op) x.zones))
-      ∙ (λ i. none_targets (entries x.global.gens) (others op x.global.gens plain.global) i || zones_target x.zones plain.zones i))
+      ∙ (λ i. none_targets (entries x.global.gens) (others op x.global.gens plain.global) i
+      || zones_target x.zones plain.zones i))
 
   owners_target : {H : Type 0} (owners : List (WithZones H)) → AllByRecursion (IsPlainOwner op) owners
       → list_any (is_target op number) (gens_in (all_bags (map (bags_of op) owners))) ≡ list_any (targets number) owners
@@ -172,14 +195,19 @@ no_target_zero level.Preset = refl
 no_target_zero level.Instrument = refl
 
 -- the terminal is no target
-pub any_target : {H : Type 0} (at : Level) (number : ℕ) {heads : List H} {bags : List (List Bag)} {owners : List (WithZones H)} → AreOf (target_operator at) heads bags owners
-    → list_any (is_target (target_operator at) number) (gens_in (all_bags bags) ++ (0, 0) ∷ []) ≡ list_any (targets number) owners
+pub any_target : {H : Type 0} (at : Level) (number : ℕ) {heads : List H} {bags : List (List Bag)}
+    {owners : List (WithZones H)}
+    → AreOf (target_operator at) heads bags owners
+    → list_any (is_target (target_operator at) number) (gens_in (all_bags bags) ++ (0, 0) ∷ [])
+    ≡ list_any (targets number) owners
 any_target {H} at number {heads} {bags} {owners} a =
     let op = target_operator at in
     any-append (is_target op number) (gens_in (all_bags bags)) ((0, 0) ∷ [])
-    ∙ (ap (λ b. list_any (is_target op number) (gens_in (all_bags bags)) || ((b && (0 == number)) || false)) (no_target_zero at)
+    ∙ (ap (λ b. list_any (is_target op number) (gens_in (all_bags bags)) || ((b && (0 == number)) || false))
+    (no_target_zero at)
     ∙ (or_false (list_any (is_target op number) (gens_in (all_bags bags)))
-    ∙ (ap (λ bs. list_any (is_target op number) (gens_in (all_bags bs))) a.bags ∙ owners_target op number owners a.plain)))
+    ∙ (ap (λ bs. list_any (is_target op number) (gens_in (all_bags bs))) a.bags
+    ∙ owners_target op number owners a.plain)))
 
 -- ---- how many records there are
 
@@ -197,7 +225,8 @@ owner_zones op x =
     let global = counted_global x.global in
     omega arith
 
-zones_gens : (op : ℕ) (zones : List Zone) → length (gens_in (map (zone_bag op) zones)) ≡ sum_by (λ (z : Zone). len z.gens + 1) zones
+zones_gens : (op : ℕ) (zones : List Zone)
+    → length (gens_in (map (zone_bag op) zones)) ≡ sum_by (λ (z : Zone). len z.gens + 1) zones
 zones_gens op [] = refl
 zones_gens op (z ∷ zs) =
     let parts = length-append (entries z.gens ++ (op, z.target) ∷ []) (gens_in (map (zone_bag op) zs)) in
@@ -207,7 +236,8 @@ zones_gens op (z ∷ zs) =
     let sum = sum_by-cons (λ (z : Zone). len z.gens + 1) z zs in
     omega arith
 
-zones_mods : (op : ℕ) (zones : List Zone) → length (mods_in (map (zone_bag op) zones)) ≡ sum_by (λ (z : Zone). length z.mods) zones
+zones_mods : (op : ℕ) (zones : List Zone)
+    → length (mods_in (map (zone_bag op) zones)) ≡ sum_by (λ (z : Zone). length z.mods) zones
 zones_mods op [] = refl
 zones_mods op (z ∷ zs) =
     let parts = length-append z.mods (mods_in (map (zone_bag op) zs)) in
@@ -231,7 +261,9 @@ owner_mod_count op x =
     omega arith
 
 -- what is counted of the bags of all, where it is counted bag by bag, is the sum of what each has
-all_of : {H : Type 0} (op : ℕ) (size : List Bag → ℕ) (count : WithZones H → ℕ) → size [] ≡ 0 → ((bs cs : List Bag) → size (bs ++ cs) ≡ size bs + size cs) → ((x : WithZones H) → size (bags_of op x) ≡ count x)
+all_of : {H : Type 0} (op : ℕ) (size : List Bag → ℕ) (count : WithZones H → ℕ) → size [] ≡ 0
+    → ((bs cs : List Bag) → size (bs ++ cs) ≡ size bs + size cs)
+    → ((x : WithZones H) → size (bags_of op x) ≡ count x)
     → (owners : List (WithZones H)) → size (all_bags (map (bags_of op) owners)) ≡ sum_by count owners
 all_of op size count none both each [] = none
 all_of op size count none both each (x ∷ xs) =
@@ -242,16 +274,29 @@ all_of op size count none both each (x ∷ xs) =
     omega arith
 
 module _ {H : Type 0} (op : ℕ) where
-  pub all_zones : (owners : List (WithZones H)) → length (all_bags (map (bags_of op) owners)) ≡ sum_by (λ (x : WithZones H). zone_count x.global x.zones) owners
-  all_zones = all_of op (λ bs. length bs) (λ (x : WithZones H). zone_count x.global x.zones) refl length-append (owner_zones op)
+  pub all_zones : (owners : List (WithZones H))
+      → length (all_bags (map (bags_of op) owners))
+      ≡ sum_by (λ (x : WithZones H). zone_count x.global x.zones) owners
+  all_zones =
+      all_of op (λ bs. length bs) (λ (x : WithZones H). zone_count x.global x.zones) refl length-append
+      (owner_zones op)
 
-  pub all_gens : (owners : List (WithZones H)) → length (gens_in (all_bags (map (bags_of op) owners))) ≡ sum_by (λ (x : WithZones H). gen_count x.global x.zones) owners
-  all_gens = all_of op (λ bs. length (gens_in bs)) (λ (x : WithZones H). gen_count x.global x.zones) refl (records_of_both (λ (b : Bag). b.gens)) (owner_gen_count op)
+  pub all_gens : (owners : List (WithZones H))
+      → length (gens_in (all_bags (map (bags_of op) owners)))
+      ≡ sum_by (λ (x : WithZones H). gen_count x.global x.zones) owners
+  all_gens =
+      all_of op (λ bs. length (gens_in bs)) (λ (x : WithZones H). gen_count x.global x.zones) refl
+      (records_of_both (λ (b : Bag). b.gens)) (owner_gen_count op)
 
-  pub all_mods : (owners : List (WithZones H)) → length (mods_in (all_bags (map (bags_of op) owners))) ≡ sum_by (λ (x : WithZones H). mod_count x.global x.zones) owners
-  all_mods = all_of op (λ bs. length (mods_in bs)) (λ (x : WithZones H). mod_count x.global x.zones) refl (records_of_both (λ (b : Bag). b.mods)) (owner_mod_count op)
+  pub all_mods : (owners : List (WithZones H))
+      → length (mods_in (all_bags (map (bags_of op) owners)))
+      ≡ sum_by (λ (x : WithZones H). mod_count x.global x.zones) owners
+  all_mods =
+      all_of op (λ bs. length (mods_in bs)) (λ (x : WithZones H). mod_count x.global x.zones) refl
+      (records_of_both (λ (b : Bag). b.mods)) (owner_mod_count op)
 
-module _ {H : Type 0} {op : ℕ} {heads : List H} {bags : List (List Bag)} {owners : List (WithZones H)} (a : AreOf op heads bags owners) where
+module _ {H : Type 0} {op : ℕ} {heads : List H} {bags : List (List Bag)} {owners : List (WithZones H)}
+    (a : AreOf op heads bags owners) where
   pub zones_in_all : length (all_bags bags) ≡ sum_by (λ (x : WithZones H). zone_count x.global x.zones) owners
   zones_in_all = ap (λ bs. length (all_bags bs)) a.bags ∙ all_zones op owners
 

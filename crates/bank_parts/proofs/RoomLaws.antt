@@ -1,5 +1,6 @@
 -- How many records there are where bags come, and that there is room for the rest.
-use Rattle.std.proofs.Common.{◌≡◌, ℕ, ◌≤◌, ◌+◌, zero, suc, List, [], ◌∷◌, length, insert, slice_get, set, Some, refl, sym, ◌∙◌, ap, length-append, arith}
+use Rattle.std.proofs.Common.{◌≡◌, ℕ, ◌≤◌, ◌+◌, zero, suc, List, [], ◌∷◌, length, insert, slice_get, set, Some, refl}
+use Rattle.std.proofs.Common.{sym, ◌∙◌, ap, length-append, arith}
 use Rattle.std.specs.List.{flat_map}
 use Rattle.std.proofs.lemmas.List.Concat.{flat_map-append}
 use Rattle.numbered_lists.specs.Moved.{changed}
@@ -14,7 +15,8 @@ use Rattle.bank_parts.specs.Room.{HasRoom}
 -- ---- so many of a kind
 
 module _ {X : Type 0} (f : Bag → List X) where
-  more_in : (own : List Bag) (k : ℕ) (b : Bag) → k ≤ length own → length (flat_map f (insert own k b)) ≡ length (flat_map f own) + length (f b)
+  more_in : (own : List Bag) (k : ℕ) (b : Bag) → k ≤ length own
+      → length (flat_map f (insert own k b)) ≡ length (flat_map f own) + length (f b)
   more_in own zero b h = let sizes = length-append (f b) (flat_map f own) in omega arith
   more_in [] (suc k) b h = absurd (omega arith)
   more_in (c ∷ cs) (suc k) b h =
@@ -23,11 +25,14 @@ module _ {X : Type 0} (f : Bag → List X) where
       let after = length-append (f c) (flat_map f (insert cs k b)) in
       omega arith
 
-  flat_count : (xs : List Bag) (os : List (List Bag)) → length (flat_map f (all_bags (xs ∷ os))) ≡ length (flat_map f xs) + length (flat_map f (all_bags os))
-  flat_count xs os = ap length (flat_map-append f xs (all_bags os)) ∙ length-append (flat_map f xs) (flat_map f (all_bags os))
+  flat_count : (xs : List Bag) (os : List (List Bag))
+      → length (flat_map f (all_bags (xs ∷ os))) ≡ length (flat_map f xs) + length (flat_map f (all_bags os))
+  flat_count xs os =
+      ap length (flat_map-append f xs (all_bags os)) ∙ length-append (flat_map f xs) (flat_map f (all_bags os))
 
   set_count : (owners : List (List Bag)) (i : ℕ) (own new : List Bag) → slice_get owners i ≡ Some own
-      → length (flat_map f (all_bags (set owners i new))) + length (flat_map f own) ≡ length (flat_map f (all_bags owners)) + length (flat_map f new)
+      → length (flat_map f (all_bags (set owners i new))) + length (flat_map f own)
+      ≡ length (flat_map f (all_bags owners)) + length (flat_map f new)
   set_count [] i own new e = cc
   set_count (xs ∷ os) zero own new e =
       let same : xs ≡ own = cc in
@@ -41,12 +46,15 @@ module _ {X : Type 0} (f : Bag → List X) where
       let after = flat_count xs (set os i new) in
       omega arith
 
-  pub grows : (owners : List (List Bag)) (i k : ℕ) (own : List Bag) (b : Bag) → slice_get owners i ≡ Some own → k ≤ length own
-      → length (flat_map f (all_bags (changed owners i (λ own. insert own k b)))) ≡ length (flat_map f (all_bags owners)) + length (f b)
+  pub grows : (owners : List (List Bag)) (i k : ℕ) (own : List Bag) (b : Bag) → slice_get owners i ≡ Some own
+      → k ≤ length own
+      → length (flat_map f (all_bags (changed owners i (λ own. insert own k b))))
+      ≡ length (flat_map f (all_bags owners)) + length (f b)
   grows owners i k own b there h =
       let count = set_count owners i own (insert own k b) there in
       let more = more_in own k b h in
-      let to = ap (λ os. length (flat_map f (all_bags os))) (changed-found owners i (λ own. insert own k b) own there) in
+      let to =
+      ap (λ os. length (flat_map f (all_bags os))) (changed-found owners i (λ own. insert own k b) own there) in
       omega arith
 
 one_each : (bags : List Bag) → length (flat_map (λ (b : Bag). b ∷ []) bags) ≡ length bags
@@ -55,19 +63,41 @@ one_each (b ∷ bs) = ap suc (one_each bs)
 
 -- ---- room
 
-pub room_at_most : (s : Stored) (more less : Records) → less.zones ≤ more.zones → less.gens ≤ more.gens → less.mods ≤ more.mods → HasRoom s more → HasRoom s less
-room_at_most s more less z g m h = record { held = record { zones = omega arith; gens = omega arith; mods = omega arith }; zones = omega arith; gens = omega arith; mods = omega arith }
+pub room_at_most : (s : Stored) (more less : Records) → less.zones ≤ more.zones → less.gens ≤ more.gens
+    → less.mods ≤ more.mods → HasRoom s more → HasRoom s less
+room_at_most s more less z g m h =
+    record {
+      held =
+          record { zones = omega arith; gens = omega arith; mods = omega arith };
+      zones =
+          omega arith;
+      gens = omega arith;
+      mods = omega arith;
+    }
 
 -- with as many records and no less spare
-pub room_same : (s t : Stored) (more : Records) → length (all_bags t.owners) ≡ length (all_bags s.owners) → length (gens_in (all_bags t.owners)) ≡ length (gens_in (all_bags s.owners))
-    → length (mods_in (all_bags t.owners)) ≡ length (mods_in (all_bags s.owners)) → s.spare.bags ≤ t.spare.bags → s.spare.gens ≤ t.spare.gens → s.spare.mods ≤ t.spare.mods
+pub room_same : (s t : Stored) (more : Records) → length (all_bags t.owners) ≡ length (all_bags s.owners)
+    → length (gens_in (all_bags t.owners)) ≡ length (gens_in (all_bags s.owners))
+    → length (mods_in (all_bags t.owners)) ≡ length (mods_in (all_bags s.owners)) → s.spare.bags ≤ t.spare.bags
+    → s.spare.gens ≤ t.spare.gens → s.spare.mods ≤ t.spare.mods
     → HasRoom s more → HasRoom t more
-room_same s t more zs gs ms z g m h = record { held = record { zones = omega arith; gens = omega arith; mods = omega arith }; zones = omega arith; gens = omega arith; mods = omega arith }
+room_same s t more zs gs ms z g m h =
+    record {
+      held =
+          record { zones = omega arith; gens = omega arith; mods = omega arith };
+      zones =
+          omega arith;
+      gens = omega arith;
+      mods = omega arith;
+    }
 
 -- after a bag came
-pub room_left : (s t : Stored) (used more : Records) (i k : ℕ) (own : List Bag) (b : Bag) → slice_get s.owners i ≡ Some own → k ≤ length own
-    → t.owners ≡ changed s.owners i (λ own. insert own k b) → used.zones ≡ 1 → used.gens ≡ length b.gens → used.mods ≡ length b.mods
-    → s.spare.bags ≤ t.spare.bags + 1 → s.spare.gens ≤ t.spare.gens + length b.gens → s.spare.mods ≤ t.spare.mods + length b.mods
+pub room_left : (s t : Stored) (used more : Records) (i k : ℕ) (own : List Bag) (b : Bag)
+    → slice_get s.owners i ≡ Some own → k ≤ length own
+    → t.owners ≡ changed s.owners i (λ own. insert own k b) → used.zones ≡ 1 → used.gens ≡ length b.gens
+    → used.mods ≡ length b.mods
+    → s.spare.bags ≤ t.spare.bags + 1 → s.spare.gens ≤ t.spare.gens + length b.gens
+    → s.spare.mods ≤ t.spare.mods + length b.mods
     → HasRoom s (records_sum used more) → HasRoom t more
 room_left s t used more i k own b there within e uz ug um sz sg sm h =
     let bags_to = ap (λ os. length (all_bags os)) e in
@@ -78,7 +108,14 @@ room_left s t used more i k own b there within e uz ug um sz sg sm h =
     let gens_grow = grows (λ (b : Bag). b.gens) s.owners i k own b there within in
     let mods_to = ap (λ os. length (mods_in (all_bags os))) e in
     let mods_grow = grows (λ (b : Bag). b.mods) s.owners i k own b there within in
-    record { held = record { zones = omega arith; gens = omega arith; mods = omega arith }; zones = omega arith; gens = omega arith; mods = omega arith }
+    record {
+      held =
+          record { zones = omega arith; gens = omega arith; mods = omega arith };
+      zones =
+          omega arith;
+      gens = omega arith;
+      mods = omega arith;
+    }
 
 -- ---- lists
 
@@ -88,7 +125,8 @@ set-twice (z ∷ zs) zero x y = refl
 set-twice (z ∷ zs) (suc i) x y = ap (λ ws. z ∷ ws) (set-twice zs i x y)
 
 -- two changes of one member
-pub changed-twice : {X : Type 0} (xs : List X) (i : ℕ) (x : X) (f g : X → X) → slice_get xs i ≡ Some x → changed (changed xs i f) i g ≡ set xs i (g (f x))
+pub changed-twice : {X : Type 0} (xs : List X) (i : ℕ) (x : X) (f g : X → X) → slice_get xs i ≡ Some x
+    → changed (changed xs i f) i g ≡ set xs i (g (f x))
 changed-twice xs i x f g e =
     changed-found (changed xs i f) i g (f x) (slice_get-changed xs i f x e)
     ∙ (ap (λ ys. set ys i (g (f x))) (changed-found xs i f x e) ∙ set-twice xs i (f x) (g (f x)))
@@ -104,9 +142,11 @@ get-insert [] (suc k) x h = absurd (omega arith)
 get-insert (z ∷ zs) (suc k) x h = get-insert zs k x (omega arith)
 
 -- a bag put in, and sent through F
-pub put_and_changed : (owners : List (List Bag)) (i k : ℕ) (own : List Bag) (b : Bag) (F : Bag → Bag) → slice_get owners i ≡ Some own → k ≤ length own
+pub put_and_changed : (owners : List (List Bag)) (i k : ℕ) (own : List Bag) (b : Bag) (F : Bag → Bag)
+    → slice_get owners i ≡ Some own → k ≤ length own
     → bag_changed (changed owners i (λ own. insert own k b)) i k F ≡ changed owners i (λ own. insert own k (F b))
 put_and_changed owners i k own b F there within =
     changed-twice owners i own (λ own. insert own k b) (λ own. changed own k F) there
-    ∙ (ap (set owners i) (changed-found (insert own k b) k F b (get-insert own k b within) ∙ set-insert own k b (F b) within)
+    ∙ (ap (set owners i)
+    (changed-found (insert own k b) k F b (get-insert own k b within) ∙ set-insert own k b (F b) within)
     ∙ sym (changed-found owners i (λ own. insert own k (F b)) own there))

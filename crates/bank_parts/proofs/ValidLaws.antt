@@ -1,6 +1,8 @@
 -- Which records of generators are those of presets or instruments that may stand in a bank, and that all
 -- numbers lie in the ranges of their fields.
-use Rattle.std.proofs.Common.{if◌then◌else◌, ◌≡◌, ◌↔◌, ℕ, ◌<◌, ◌-◌, ◌==◌, ◌&&◌, ◌||◌, not, nat_lt, nat_le, Bool, true, false, IsTrue, List, [], ◌∷◌, ◌++◌, length, map, take, refl, sym, subst, ◌∙◌, ap, length-append, arith}
+use Rattle.std.proofs.Common.{if◌then◌else◌, ◌≡◌, ◌↔◌, ℕ, ◌<◌, ◌-◌, ◌==◌, ◌&&◌, ◌||◌, not, nat_lt, nat_le, Bool}
+use Rattle.std.proofs.Common.{true, false, IsTrue, List, [], ◌∷◌, ◌++◌, length, map, take, refl, sym, subst, ◌∙◌, ap}
+use Rattle.std.proofs.Common.{length-append, arith}
 use Rattle.std.specs.Bool.{OnTrue}
 use Rattle.std.specs.List.{AllByRecursion, list_any, list_all}
 use Rattle.std.specs.FinMap.{entries}
@@ -16,16 +18,19 @@ use Rattle.bank_parts.specs.declared.parts.Zone.{Zone}
 use Rattle.bank_parts.specs.declared.parts.WithZones.{WithZones}
 use Rattle.bank_parts.specs.Fits.{FitsOwner, FitsZone}
 use Rattle.bank_parts.specs.Valid.{IsOwner}
-use Rattle.bank_parts.specs.Contents.{misses_target, sets_foreign, has_foreign, is_bad_range, sets_bad_range, has_bad_range}
+use Rattle.bank_parts.specs.Contents.{misses_target, sets_foreign, has_foreign, is_bad_range, sets_bad_range}
+use Rattle.bank_parts.specs.Contents.{has_bad_range}
 use Rattle.bank_parts.proofs.ContentLaws.{owner_from_tests, tests_from_owner}
 use Rattle.bank_parts.specs.Bagged.{zone_bag, bags_of, IsPlain, IsPlainOwner}
 use Rattle.bank_parts.specs.Records.{is_valid_record}
 use Rattle.bank_parts.specs.Flat.{AreOf}
-use Rattle.bank_parts.proofs.RecordLaws.{and_true, not_or, six, five, same_op, all-append, others, owner_gens, owner_mods, gens_before, mods_before}
+use Rattle.bank_parts.proofs.RecordLaws.{and_true, not_or, six, five, same_op, all-append, others, owner_gens}
+use Rattle.bank_parts.proofs.RecordLaws.{owner_mods, gens_before, mods_before}
 
 -- ---- records of generators that may stand
 
-mixed : (allowed bad foreign range : Bool) → ((allowed && not bad) && (not foreign && not range)) ≡ (not (not allowed || foreign) && not (bad || range))
+mixed : (allowed bad foreign range : Bool)
+    → ((allowed && not bad) && (not foreign && not range)) ≡ (not (not allowed || foreign) && not (bad || range))
 mixed true false foreign range = refl
 mixed true true true range = refl
 mixed true true false range = refl
@@ -45,28 +50,40 @@ module _ (at : Level) (count : ℕ) where
   bad z = sets_bad_range z.gens
 
   valid_entries : (es : List (ℕ × ℕ)) → AllByRecursion (λ e. (e.0 == target_operator at) ≡ false) es
-      → list_all (is_valid_record at count) es ≡ (not (list_any (λ (e : ℕ × ℕ). not (is_allowed at e.0)) es) && not (list_any is_bad_range es))
+      → list_all (is_valid_record at count) es
+      ≡ (not (list_any (λ (e : ℕ × ℕ). not (is_allowed at e.0)) es) && not (list_any is_bad_range es))
   valid_entries [] h = refl
   valid_entries (e ∷ es) h =
-      ap (λ b. (if b then nat_lt e.1 count else (is_allowed at e.0 && not (is_bad_range e))) && list_all (is_valid_record at count) es) h.0
+      ap
+      (λ b.
+      (if b then nat_lt e.1 count else (is_allowed at e.0 && not (is_bad_range e)))
+      && list_all (is_valid_record at count) es)
+      h.0
       ∙ (ap (λ b. (is_allowed at e.0 && not (is_bad_range e)) && b) (valid_entries es h.1)
-      ∙ mixed (is_allowed at e.0) (is_bad_range e) (list_any (λ (e : ℕ × ℕ). not (is_allowed at e.0)) es) (list_any is_bad_range es))
+      ∙ mixed (is_allowed at e.0) (is_bad_range e) (list_any (λ (e : ℕ × ℕ). not (is_allowed at e.0)) es)
+      (list_any is_bad_range es))
 
-  target_valid : (z : Zone) → list_all (is_valid_record at count) ((target_operator at, z.target) ∷ []) ≡ not (nat_le count z.target)
+  target_valid : (z : Zone)
+      → list_all (is_valid_record at count) ((target_operator at, z.target) ∷ []) ≡ not (nat_le count z.target)
   target_valid z =
       let op = target_operator at in
       and_true (is_valid_record at count (op, z.target))
-      ∙ (ap (λ b. if b then nat_lt z.target count else (is_allowed at op && not (is_bad_range (op, z.target)))) (same_op op) ∙ below_not z.target count)
+      ∙
+      (ap (λ b. if b then nat_lt z.target count else (is_allowed at op && not (is_bad_range (op, z.target))))
+      (same_op op)
+      ∙ below_not z.target count)
 
   valid_zone : (z : Zone) → IsPlain (target_operator at) z.gens
-      → list_all (is_valid_record at count) (entries z.gens ++ (target_operator at, z.target) ∷ []) ≡ ((not (sets_foreign at z.gens) && not (sets_bad_range z.gens)) && not (nat_le count z.target))
+      → list_all (is_valid_record at count) (entries z.gens ++ (target_operator at, z.target) ∷ [])
+      ≡ ((not (sets_foreign at z.gens) && not (sets_bad_range z.gens)) && not (nat_le count z.target))
   valid_zone z plain =
       let op = target_operator at in
       all-append (is_valid_record at count) (entries z.gens) ((op, z.target) ∷ [])
       ∙ (λ i. valid_entries (entries z.gens) (others op z.gens plain) i && target_valid z i)
 
   valid_zones : (zones : List Zone) → AllByRecursion (λ (z : Zone). IsPlain (target_operator at) z.gens) zones
-      → list_all (is_valid_record at count) (gens_in (map (zone_bag (target_operator at)) zones)) ≡ (not (list_any misses zones) && (not (list_any foreign zones) && not (list_any bad zones)))
+      → list_all (is_valid_record at count) (gens_in (map (zone_bag (target_operator at)) zones))
+      ≡ (not (list_any misses zones) && (not (list_any foreign zones) && not (list_any bad zones)))
   unfolding misses foreign bad
   valid_zones [] h = refl
   valid_zones (z ∷ zs) h =
@@ -77,10 +94,12 @@ module _ (at : Level) (count : ℕ) where
       all-append (is_valid_record at count) (entries z.gens ++ (op, z.target) ∷ []) (gens_in (map (zone_bag op) zs))
       ∙ ((λ i. valid_zone z h.0 i && valid_zones zs h.1 i)
       ∙ (six (not f) (not b) (not m) (not (list_any misses zs)) (not (list_any foreign zs)) (not (list_any bad zs))
-      ∙ (λ i. sym (not_or m (list_any misses zs)) i && (sym (not_or f (list_any foreign zs)) i && sym (not_or b (list_any bad zs)) i))))
+      ∙ (λ i. sym (not_or m (list_any misses zs)) i
+      && (sym (not_or f (list_any foreign zs)) i && sym (not_or b (list_any bad zs)) i))))
 
   valid_owner : {H : Type 0} (x : WithZones H) → IsPlainOwner (target_operator at) x
-      → list_all (is_valid_record at count) (gens_in (bags_of (target_operator at) x)) ≡ (not (misses_target count x) && (not (has_foreign at x) && not (has_bad_range x)))
+      → list_all (is_valid_record at count) (gens_in (bags_of (target_operator at) x))
+      ≡ (not (misses_target count x) && (not (has_foreign at x) && not (has_bad_range x)))
   unfolding misses foreign bad
   valid_owner x plain =
       let op = target_operator at in
@@ -88,9 +107,12 @@ module _ (at : Level) (count : ℕ) where
       let b = sets_bad_range x.global.gens in
       ap (list_all (is_valid_record at count)) (owner_gens op x)
       ∙ (all-append (is_valid_record at count) (entries x.global.gens) (gens_in (map (zone_bag op) x.zones))
-      ∙ ((λ i. valid_entries (entries x.global.gens) (others op x.global.gens plain.global) i && valid_zones x.zones plain.zones i)
-      ∙ (five (not f) (not b) (not (list_any misses x.zones)) (not (list_any foreign x.zones)) (not (list_any bad x.zones))
-      ∙ (λ i. not (list_any misses x.zones) && (sym (not_or f (list_any foreign x.zones)) i && sym (not_or b (list_any bad x.zones)) i)))))
+      ∙ ((λ i. valid_entries (entries x.global.gens) (others op x.global.gens plain.global) i
+      && valid_zones x.zones plain.zones i)
+      ∙ (five (not f) (not b) (not (list_any misses x.zones)) (not (list_any foreign x.zones))
+      (not (list_any bad x.zones))
+      ∙ (λ i. not (list_any misses x.zones)
+      && (sym (not_or f (list_any foreign x.zones)) i && sym (not_or b (list_any bad x.zones)) i)))))
 
 -- ---- owners
 
@@ -106,22 +128,35 @@ both_parts true false e = cc
 both_parts false b e = cc
 
 module _ {H : Type 0} (name_of : H → List ℕ) (at : Level) (count : ℕ) where
-  owners_valid : (owners : List (WithZones H)) → AllByRecursion (IsPlainOwner (target_operator at)) owners → AllByRecursion (λ h. IsName (name_of h)) (map (λ (x : WithZones H). x.head) owners)
-      → list_all (is_valid_record at count) (gens_in (all_bags (map (bags_of (target_operator at)) owners))) ≡ true → AllByRecursion (IsOwner name_of at count) owners
+  owners_valid : (owners : List (WithZones H)) → AllByRecursion (IsPlainOwner (target_operator at)) owners
+      → AllByRecursion (λ h. IsName (name_of h)) (map (λ (x : WithZones H). x.head) owners)
+      → list_all (is_valid_record at count) (gens_in (all_bags (map (bags_of (target_operator at)) owners))) ≡ true
+      → AllByRecursion (IsOwner name_of at count) owners
   owners_valid [] plain named e = tt
   owners_valid (x ∷ xs) plain named e =
       let op = target_operator at in
       let rest = all_bags (map (bags_of op) xs) in
-      let split = ap (list_all (is_valid_record at count)) (gens_before op x rest) ∙ all-append (is_valid_record at count) (gens_in (bags_of op x)) (gens_in rest) in
-      let parts = both_parts (list_all (is_valid_record at count) (gens_in (bags_of op x))) (list_all (is_valid_record at count) (gens_in rest)) (sym split ∙ e) in
-      let tests = none_of (misses_target count x) (has_foreign at x) (has_bad_range x) (sym (valid_owner at count x plain.0) ∙ parts.0) in
-      (owner_from_tests name_of at count x named.0 (record { targets = tests.0; operators = tests.1; ranges = tests.2 }), owners_valid xs plain.1 named.1 parts.1)
+      let split =
+      ap (list_all (is_valid_record at count)) (gens_before op x rest)
+      ∙ all-append (is_valid_record at count) (gens_in (bags_of op x)) (gens_in rest) in
+      let parts =
+      both_parts (list_all (is_valid_record at count) (gens_in (bags_of op x)))
+      (list_all (is_valid_record at count) (gens_in rest)) (sym split ∙ e) in
+      let tests =
+      none_of (misses_target count x) (has_foreign at x) (has_bad_range x)
+      (sym (valid_owner at count x plain.0) ∙ parts.0) in (
+        owner_from_tests name_of at count x named.0
+            (record { targets = tests.0; operators = tests.1; ranges = tests.2 }),
+        owners_valid xs plain.1 named.1 parts.1,
+      )
 
-  own_valid : (x : WithZones H) → IsPlainOwner (target_operator at) x → misses_target count x ≡ false → has_foreign at x ≡ false → has_bad_range x ≡ false
+  own_valid : (x : WithZones H) → IsPlainOwner (target_operator at) x → misses_target count x ≡ false
+      → has_foreign at x ≡ false → has_bad_range x ≡ false
       → list_all (is_valid_record at count) (gens_in (bags_of (target_operator at) x)) ≡ true
   own_valid x plain m f b = valid_owner at count x plain ∙ (λ i. not (m i) && (not (f i) && not (b i)))
 
-  records_valid : (owners : List (WithZones H)) → AllByRecursion (IsPlainOwner (target_operator at)) owners → AllByRecursion (IsOwner name_of at count) owners
+  records_valid : (owners : List (WithZones H)) → AllByRecursion (IsPlainOwner (target_operator at)) owners
+      → AllByRecursion (IsOwner name_of at count) owners
       → list_all (is_valid_record at count) (gens_in (all_bags (map (bags_of (target_operator at)) owners))) ≡ true
   records_valid [] plain h = refl
   records_valid (x ∷ xs) plain h =
@@ -132,11 +167,17 @@ module _ {H : Type 0} (name_of : H → List ℕ) (at : Level) (count : ℕ) wher
       ∙ (all-append (is_valid_record at count) (gens_in (bags_of op x)) (gens_in rest)
       ∙ (λ i. own_valid x plain.0 tests.targets tests.operators tests.ranges i && records_valid xs plain.1 h.1 i))
 
-  pub valid_exactly : {heads : List H} {bags : List (List Bag)} {owners : List (WithZones H)} → AreOf (target_operator at) heads bags owners → AllByRecursion (λ h. IsName (name_of h)) heads
-      → (r : Bool) → r ≡ list_all (is_valid_record at count) (gens_in (all_bags bags)) → IsTrue r ↔ AllByRecursion (IsOwner name_of at count) owners
+  pub valid_exactly : {heads : List H} {bags : List (List Bag)} {owners : List (WithZones H)}
+      → AreOf (target_operator at) heads bags owners → AllByRecursion (λ h. IsName (name_of h)) heads
+      → (r : Bool) → r ≡ list_all (is_valid_record at count) (gens_in (all_bags bags))
+      → IsTrue r ↔ AllByRecursion (IsOwner name_of at count) owners
   valid_exactly {heads} {bags} {owners} a named r e =
-      let same = e ∙ ap (λ bs. list_all (is_valid_record at count) (gens_in (all_bags bs))) a.bags in
-      (λ t. owners_valid owners a.plain (subst (AllByRecursion (λ h. IsName (name_of h))) a.heads named) (sym same ∙ t), λ all. same ∙ records_valid owners a.plain all)
+      let same = e ∙ ap (λ bs. list_all (is_valid_record at count) (gens_in (all_bags bs))) a.bags in (
+        λ t.
+            owners_valid owners a.plain (subst (AllByRecursion (λ h. IsName (name_of h))) a.heads named)
+            (sym same ∙ t),
+        λ all. same ∙ records_valid owners a.plain all,
+      )
 
 -- ---- numbers within their fields
 
@@ -149,40 +190,64 @@ module _ {X : Type 0} (P : X → Type 0) where
   all-back [] ys p = p
   all-back (x ∷ xs) ys p = all-back xs ys p.1
 
-zones_fit : (op : ℕ) (zones : List Zone) → AllByRecursion (λ (z : Zone). IsPlain op z.gens) zones → FitEntries (gens_in (map (zone_bag op) zones))
+zones_fit : (op : ℕ) (zones : List Zone) → AllByRecursion (λ (z : Zone). IsPlain op z.gens) zones
+    → FitEntries (gens_in (map (zone_bag op) zones))
     → AllByRecursion FitsModulator (mods_in (map (zone_bag op) zones)) → AllByRecursion FitsZone zones
 zones_fit op [] plain gens mods = tt
 zones_fit op (z ∷ zs) plain gens mods =
     let own = all-front FitsEntry (entries z.gens ++ (op, z.target) ∷ []) (gens_in (map (zone_bag op) zs)) gens in
     let target = all-back FitsEntry (entries z.gens) ((op, z.target) ∷ []) own in (
-      record { target = target.0.1; gens = plain.0.fit; mods = all-front FitsModulator z.mods (mods_in (map (zone_bag op) zs)) mods },
-      zones_fit op zs plain.1 (all-back FitsEntry (entries z.gens ++ (op, z.target) ∷ []) (gens_in (map (zone_bag op) zs)) gens) (all-back FitsModulator z.mods (mods_in (map (zone_bag op) zs)) mods),
+      record {
+        target =
+            target.0.1;
+        gens =
+            plain.0.fit;
+        mods = all-front FitsModulator z.mods (mods_in (map (zone_bag op) zs)) mods;
+      },
+      zones_fit op zs plain.1
+          (all-back FitsEntry (entries z.gens ++ (op, z.target) ∷ []) (gens_in (map (zone_bag op) zs)) gens)
+          (all-back FitsModulator z.mods (mods_in (map (zone_bag op) zs)) mods),
     )
 
 module _ {H : Type 0} (IsFit : H → Type 0) (op : ℕ) where
-  owners_fit : (owners : List (WithZones H)) → AllByRecursion (IsPlainOwner op) owners → AllByRecursion IsFit (map (λ (x : WithZones H). x.head) owners)
-      → FitEntries (gens_in (all_bags (map (bags_of op) owners))) → AllByRecursion FitsModulator (mods_in (all_bags (map (bags_of op) owners))) → AllByRecursion (FitsOwner IsFit) owners
+  owners_fit : (owners : List (WithZones H)) → AllByRecursion (IsPlainOwner op) owners
+      → AllByRecursion IsFit (map (λ (x : WithZones H). x.head) owners)
+      → FitEntries (gens_in (all_bags (map (bags_of op) owners)))
+      → AllByRecursion FitsModulator (mods_in (all_bags (map (bags_of op) owners)))
+      → AllByRecursion (FitsOwner IsFit) owners
   owners_fit [] plain heads gens mods = tt
   owners_fit (x ∷ xs) plain heads gens mods =
       let rest = all_bags (map (bags_of op) xs) in
       let zones = map (zone_bag op) x.zones in
       let all_gens = subst FitEntries (gens_before op x rest) gens in
       let all_mods = subst (AllByRecursion FitsModulator) (mods_before op x rest) mods in
-      let own_gens = subst FitEntries (owner_gens op x) (all-front FitsEntry (gens_in (bags_of op x)) (gens_in rest) all_gens) in
-      let own_mods = subst (AllByRecursion FitsModulator) (owner_mods op x) (all-front FitsModulator (mods_in (bags_of op x)) (mods_in rest) all_mods) in
+      let own_gens =
+      subst FitEntries (owner_gens op x) (all-front FitsEntry (gens_in (bags_of op x)) (gens_in rest) all_gens)
+      in
+      let own_mods =
+      subst (AllByRecursion FitsModulator) (owner_mods op x)
+      (all-front FitsModulator (mods_in (bags_of op x)) (mods_in rest) all_mods) in
       let p = plain.0 in (
         record {
           head = heads.0;
-          global = record { gens = p.global.fit; mods = all-front FitsModulator x.global.mods (mods_in zones) own_mods };
-          zones = zones_fit op x.zones p.zones (all-back FitsEntry (entries x.global.gens) (gens_in zones) own_gens) (all-back FitsModulator x.global.mods (mods_in zones) own_mods);
+          global =
+              record { gens = p.global.fit; mods = all-front FitsModulator x.global.mods (mods_in zones) own_mods };
+          zones =
+              zones_fit op x.zones p.zones (all-back FitsEntry (entries x.global.gens) (gens_in zones) own_gens)
+              (all-back FitsModulator x.global.mods (mods_in zones) own_mods);
         },
-        owners_fit xs plain.1 heads.1 (all-back FitsEntry (gens_in (bags_of op x)) (gens_in rest) all_gens) (all-back FitsModulator (mods_in (bags_of op x)) (mods_in rest) all_mods),
+        owners_fit xs plain.1 heads.1 (all-back FitsEntry (gens_in (bags_of op x)) (gens_in rest) all_gens)
+            (all-back FitsModulator (mods_in (bags_of op x)) (mods_in rest) all_mods),
       )
 
-  pub all_fit : {heads : List H} {bags : List (List Bag)} {owners : List (WithZones H)} → AreOf op heads bags owners → AllByRecursion IsFit heads
-      → FitEntries (gens_in (all_bags bags)) → AllByRecursion FitsModulator (mods_in (all_bags bags)) → AllByRecursion (FitsOwner IsFit) owners
+  pub all_fit : {heads : List H} {bags : List (List Bag)} {owners : List (WithZones H)} → AreOf op heads bags owners
+      → AllByRecursion IsFit heads
+      → FitEntries (gens_in (all_bags bags)) → AllByRecursion FitsModulator (mods_in (all_bags bags))
+      → AllByRecursion (FitsOwner IsFit) owners
   all_fit {heads} {bags} {owners} a fit gens mods =
-      owners_fit owners a.plain (subst (AllByRecursion IsFit) a.heads fit) (subst (λ bs. FitEntries (gens_in (all_bags bs))) a.bags gens) (subst (λ bs. AllByRecursion FitsModulator (mods_in (all_bags bs))) a.bags mods)
+      owners_fit owners a.plain (subst (AllByRecursion IsFit) a.heads fit)
+      (subst (λ bs. FitEntries (gens_in (all_bags bs))) a.bags gens)
+      (subst (λ bs. AllByRecursion FitsModulator (mods_in (all_bags bs))) a.bags mods)
 
 -- ---- a list and its terminal
 

@@ -17,14 +17,22 @@ records_of_global global = record { zones = global_count global; gens = len glob
 
 -- the records of a preset or an instrument
 abbrev pub records_of : GlobalZone → List Zone → Records
-records_of global zones = record { zones = zone_count global zones; gens = gen_count global zones; mods = mod_count global zones }
+records_of global zones =
+    record { zones = zone_count global zones; gens = gen_count global zones; mods = mod_count global zones }
 
 abbrev pub records_of_owner : {H : Type 0} → WithZones H → Records
 records_of_owner x = records_of x.global x.zones
 
 -- the records of all
 abbrev pub records_total : {X : Type 0} → (X → Records) → List X → Records
-records_total count xs = record { zones = sum_by (λ x. (count x).zones) xs; gens = sum_by (λ x. (count x).gens) xs; mods = sum_by (λ x. (count x).mods) xs }
+records_total count xs =
+    record {
+      zones =
+          sum_by (λ x. (count x).zones) xs;
+      gens =
+          sum_by (λ x. (count x).gens) xs;
+      mods = sum_by (λ x. (count x).mods) xs;
+    }
 
 abbrev pub records_sum : Records → Records → Records
 records_sum r s = record { zones = r.zones + s.zones; gens = r.gens + s.gens; mods = r.mods + s.mods }

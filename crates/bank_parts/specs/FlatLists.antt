@@ -32,9 +32,10 @@ abbrev pub lists_of : {H : Type 0} → Level → List (WithZones H) → FlatList
 lists_of at owners = lists_of_bags (map (bags_of (target_operator at)) owners)
 
 -- the heads, and the flat lists, are those of these presets or instruments
-pub record AreFlat {H : Type 0} (at : Level) (hs : List H) (lists : FlatLists) (owners : List (WithZones H)) : Type 0 where
-  pub heads : hs ≡ map (λ x. x.head) owners
-  pub flat : lists ≡ lists_of at owners
+pub record AreFlat {H : Type 0} (at : Level) (hs : List H) (lists : FlatLists) (owners : List (WithZones H)) : Type 0
+  where
+    pub heads : hs ≡ map (λ x. x.head) owners
+    pub flat : lists ≡ lists_of at owners
 
 -- the presets, or the instruments, of a bank
 abbrev pub flat_of : Level → Parts → FlatLists

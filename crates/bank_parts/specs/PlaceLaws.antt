@@ -21,21 +21,29 @@ ZonesRead H = (owners : List (WithZones H)) (i : ℕ) (f : List Zone → List Zo
 -- ---- a change, and one that takes it back
 
 abbrev pub PlaceReturns : Type 0 → Type 0
-PlaceReturns H = (owners : List (WithZones H)) (i : ℕ) (at : ZonePlace) (f g : Settings → Settings) (s : Settings) → settings_at owners i at ≡ Some s → g (f s) ≡ s
+PlaceReturns H =
+    (owners : List (WithZones H)) (i : ℕ) (at : ZonePlace) (f g : Settings → Settings) (s : Settings)
+    → settings_at owners i at ≡ Some s → g (f s) ≡ s
     → place_changed (place_changed owners i at f) i at g ≡ owners
 
 abbrev pub ZonesReturn : Type 0 → Type 0
-ZonesReturn H = (owners : List (WithZones H)) (i : ℕ) (f g : List Zone → List Zone) (zones : List Zone) → zones_at owners i ≡ Some zones → g (f zones) ≡ zones
+ZonesReturn H =
+    (owners : List (WithZones H)) (i : ℕ) (f g : List Zone → List Zone) (zones : List Zone)
+    → zones_at owners i ≡ Some zones → g (f zones) ≡ zones
     → zones_changed (zones_changed owners i f) i g ≡ owners
 
 -- ---- a change that leaves what is there as it is
 
 abbrev pub PlaceKept : Type 0 → Type 0
-PlaceKept H = (owners : List (WithZones H)) (i : ℕ) (at : ZonePlace) (f : Settings → Settings) (s : Settings) → settings_at owners i at ≡ Some s → f s ≡ s
+PlaceKept H =
+    (owners : List (WithZones H)) (i : ℕ) (at : ZonePlace) (f : Settings → Settings) (s : Settings)
+    → settings_at owners i at ≡ Some s → f s ≡ s
     → place_changed owners i at f ≡ owners
 
 abbrev pub ZonesKept : Type 0 → Type 0
-ZonesKept H = (owners : List (WithZones H)) (i : ℕ) (f : List Zone → List Zone) (zones : List Zone) → zones_at owners i ≡ Some zones → f zones ≡ zones
+ZonesKept H =
+    (owners : List (WithZones H)) (i : ℕ) (f : List Zone → List Zone) (zones : List Zone)
+    → zones_at owners i ≡ Some zones → f zones ≡ zones
     → zones_changed owners i f ≡ owners
 
 -- ---- what a change leaves

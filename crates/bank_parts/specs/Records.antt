@@ -10,4 +10,5 @@ is_target op number e = e.0 == op && e.1 == number
 
 -- a target is below so many members; another generator is allowed at the level, and no bad range
 abbrev pub is_valid_record : Level → ℕ → ℕ × ℕ → Bool
-is_valid_record at targets e = if e.0 == target_operator at then nat_lt e.1 targets else is_allowed at e.0 && not (is_bad_range e)
+is_valid_record at targets e =
+    if e.0 == target_operator at then nat_lt e.1 targets else is_allowed at e.0 && not (is_bad_range e)

@@ -45,4 +45,6 @@ instruments_renumbered by b = record b { presets = map (owner_renumbered by) b.p
 
 -- the bank with every target and link into its samples renumbered
 abbrev pub samples_renumbered : Renumbering → Parts → Parts
-samples_renumbered by b = record b { samples = map (sample_renumbered by) b.samples; instruments = map (owner_renumbered by) b.instruments }
+samples_renumbered by b =
+    record b
+    { samples = map (sample_renumbered by) b.samples; instruments = map (owner_renumbered by) b.instruments }

@@ -11,7 +11,14 @@ use Rattle.bank_parts.specs.declared.parts.WithZones.{WithZones}
 
 -- the records of zones
 abbrev pub records_of_zones : List Zone → Records
-records_of_zones zones = record { zones = length zones; gens = sum_by (λ (z : Zone). len z.gens + 1) zones; mods = sum_by (λ (z : Zone). length z.mods) zones }
+records_of_zones zones =
+    record {
+      zones =
+          length zones;
+      gens =
+          sum_by (λ (z : Zone). len z.gens + 1) zones;
+      mods = sum_by (λ (z : Zone). length z.mods) zones;
+    }
 
 -- with so many records more, 16 bits count those of each kind
 pub record CanHold (bags : List (List Bag)) (more : Records) : Type 0 where

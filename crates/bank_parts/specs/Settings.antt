@@ -30,13 +30,15 @@ settings_in (place.Zone k) x = option_map settings_of_zone (slice_get x.zones k)
 -- they are sent through f, and all else stays
 abbrev pub settings_changed : {H : Type 0} → ZonePlace → (Settings → Settings) → WithZones H → WithZones H
 settings_changed place.Global f x = record x { global = f x.global }
-settings_changed (place.Zone k) f x = record x { zones = changed x.zones k (λ (z : Zone). zone_with_settings (f (settings_of_zone z)) z) }
+settings_changed (place.Zone k) f x =
+    record x { zones = changed x.zones k (λ (z : Zone). zone_with_settings (f (settings_of_zone z)) z) }
 
 -- those of a member
 abbrev pub settings_at : {H : Type 0} → List (WithZones H) → ℕ → ZonePlace → Option Settings
 settings_at owners i at = option_and_then (settings_in at) (slice_get owners i)
 
-abbrev pub place_changed : {H : Type 0} → List (WithZones H) → ℕ → ZonePlace → (Settings → Settings) → List (WithZones H)
+abbrev pub place_changed : {H : Type 0} → List (WithZones H) → ℕ → ZonePlace → (Settings → Settings)
+    → List (WithZones H)
 place_changed owners i at f = changed owners i (settings_changed at f)
 
 -- ---- the zones of a member

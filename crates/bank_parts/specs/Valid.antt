@@ -1,9 +1,11 @@
 -- Which banks are valid.
-use Rattle.std.specs.Prelude.{◌≡◌, ◌≤◌, ◌<◌, ◌+◌, ◌==◌, if◌then◌else◌, ℕ, List, length, sum_by, Option, Some, None, true}
+use Rattle.std.specs.Prelude.{◌≡◌, ◌≤◌, ◌<◌, ◌+◌, ◌==◌, if◌then◌else◌, ℕ, List, length, sum_by, Option, Some, None}
+use Rattle.std.specs.Prelude.{true}
 use Rattle.std.specs.List.{AllByRecursion}
 use Rattle.std.specs.FinMap.{entries, len}
 use Rattle.sf_base.specs.Names.{IsName, IsText}
-use Rattle.sf_base.specs.declared.limits.TheConstants.{PRESETS, INSTRUMENTS, SAMPLES, ZONES, GENERATORS, MODULATORS, POINTS, ZERO_POINTS, TEXT_LENGTH, COMMENT_LENGTH}
+use Rattle.sf_base.specs.declared.limits.TheConstants.{PRESETS, INSTRUMENTS, SAMPLES, ZONES, GENERATORS, MODULATORS}
+use Rattle.sf_base.specs.declared.limits.TheConstants.{POINTS, ZERO_POINTS, TEXT_LENGTH, COMMENT_LENGTH}
 use Rattle.generators.specs.Gens.{Gens}
 use Rattle.generators.specs.Levels.{is_allowed}
 use Rattle.generators.specs.Ranges.{is_range_operator, IsRange}

@@ -6,14 +6,17 @@ use Rattle.bank_parts.specs.declared.parts.Sample.{Sample}
 use Rattle.edit_forms.specs.declared.edit.Edit.{Edit}
 use Rattle.bank_parts.specs.declared.texts.Texts.{Texts}
 use Rattle.bank_parts.specs.declared.texts.InfoId.{InfoId}
-use Rattle.bank_parts.specs.declared.texts.InfoId.TheVariants.{Engine, Name, Date, Engineers, Product, Copyright, Comment, Software}
+use Rattle.bank_parts.specs.declared.texts.InfoId.TheVariants.{Engine, Name, Date, Engineers, Product, Copyright}
+use Rattle.bank_parts.specs.declared.texts.InfoId.TheVariants.{Comment, Software}
 use Rattle.bank_parts.specs.declared.parts.Parts.{Parts}
 use Rattle.bank_parts.specs.Texts.{text_of}
 use Rattle.bank_changes.specs.Texts.{text_set, info_set}
 use Rattle.bank_edits.specs.Runs.{after_all}
-use Rattle.bank_text.specs.Listed.{empty, empty_texts, in_turn, text_edits, texts_edits, sample_edits, link_edits, instrument_edits, preset_edits, edits_of_bank}
+use Rattle.bank_text.specs.Listed.{empty, empty_texts, in_turn, text_edits, texts_edits, sample_edits, link_edits}
+use Rattle.bank_text.specs.Listed.{instrument_edits, preset_edits, edits_of_bank}
 use Rattle.bank_text.proofs.Turns.{after-then, after_turns}
-use Rattle.bank_text.proofs.Stages.{bank_of, with_samples, with_links, with_instruments, with_presets, sample_added_last, link_set_next, instrument_added_last, preset_added_last}
+use Rattle.bank_text.proofs.Stages.{bank_of, with_samples, with_links, with_instruments, with_presets}
+use Rattle.bank_text.proofs.Stages.{sample_added_last, link_set_next, instrument_added_last, preset_added_last}
 
 -- ---- one text
 
@@ -28,8 +31,12 @@ text_set_same t Comment = refl
 text_set_same t Software = refl
 
 -- where the text that is there is empty, or the text is not
-pub text_given : (b : Parts) (id : InfoId) (text : List ℕ) → (text ≡ [] → text_of b.texts id ≡ []) → after_all b (text_edits id text) ≡ info_set b id text
-text_given b id [] h = sym (ap (λ (t : Texts). record b { texts = t }) (ap (λ (text : List ℕ). text_set b.texts id text) (sym (h refl)) ∙ text_set_same b.texts id))
+pub text_given : (b : Parts) (id : InfoId) (text : List ℕ) → (text ≡ [] → text_of b.texts id ≡ [])
+    → after_all b (text_edits id text) ≡ info_set b id text
+text_given b id [] h =
+    sym
+    (ap (λ (t : Texts). record b { texts = t })
+    (ap (λ (text : List ℕ). text_set b.texts id text) (sym (h refl)) ∙ text_set_same b.texts id))
 text_given b id (byte ∷ text) h = refl
 
 not_empty : (text : List ℕ) (P : Type 0) → 0 < length text → text ≡ [] → P
@@ -58,13 +65,38 @@ module _ (minor : ℕ) (t : Texts) where
   texts4 = record empty_texts { engine = t.engine; name = t.name; date = t.date; engineers = t.engineers }
 
   abbrev pub texts5 : Texts
-  texts5 = record empty_texts { engine = t.engine; name = t.name; date = t.date; engineers = t.engineers; product = t.product }
+  texts5 =
+      record empty_texts
+      { engine = t.engine; name = t.name; date = t.date; engineers = t.engineers; product = t.product }
 
   abbrev pub texts6 : Texts
-  texts6 = record empty_texts { engine = t.engine; name = t.name; date = t.date; engineers = t.engineers; product = t.product; copyright = t.copyright }
+  texts6 =
+      record empty_texts {
+        engine =
+            t.engine;
+        name =
+            t.name;
+        date = t.date;
+        engineers = t.engineers;
+        product = t.product;
+        copyright = t.copyright;
+      }
 
   abbrev pub texts7 : Texts
-  texts7 = record empty_texts { engine = t.engine; name = t.name; date = t.date; engineers = t.engineers; product = t.product; copyright = t.copyright; comment = t.comment }
+  texts7 =
+      record empty_texts {
+        engine =
+            t.engine;
+        name =
+            t.name;
+        date =
+            t.date;
+        engineers =
+            t.engineers;
+        product = t.product;
+        copyright = t.copyright;
+        comment = t.comment;
+      }
 
   abbrev pub texts8 : Texts
   texts8 = t
@@ -121,16 +153,21 @@ module _ (minor : ℕ) (t : Texts) where
       after-then (with_texts texts0) (with_texts texts1) (with_texts t) (text_edits Engine t.engine) edits1 (given0 h) (
       after-then (with_texts texts1) (with_texts texts2) (with_texts t) (text_edits Name t.name) edits2 (given1) (
       after-then (with_texts texts2) (with_texts texts3) (with_texts t) (text_edits Date t.date) edits3 (given2) (
-      after-then (with_texts texts3) (with_texts texts4) (with_texts t) (text_edits Engineers t.engineers) edits4 (given3) (
+      after-then (with_texts texts3) (with_texts texts4) (with_texts t) (text_edits Engineers t.engineers) edits4
+      (given3) (
       after-then (with_texts texts4) (with_texts texts5) (with_texts t) (text_edits Product t.product) edits5 (given4) (
-      after-then (with_texts texts5) (with_texts texts6) (with_texts t) (text_edits Copyright t.copyright) edits6 (given5) (
+      after-then (with_texts texts5) (with_texts texts6) (with_texts t) (text_edits Copyright t.copyright) edits6
+      (given5) (
       after-then (with_texts texts6) (with_texts texts7) (with_texts t) (text_edits Comment t.comment) edits7 (given6) (
       given7)))))))
 
 -- ---- the bank
 
-pub links_given : (m : ℕ) (t : Texts) (ss : List Sample) (is : List (WithZones (List ℕ))) → after_all (with_links m t [] ss) (in_turn link_edits 0 ss) ≡ with_instruments m t ss [] is
-links_given m t ss is = after_turns (with_links m t) link_edits (link_set_next m t) [] ss ∙ ap (λ (samples : List Sample). bank_of m t [] [] samples) (append-nil ss)
+pub links_given : (m : ℕ) (t : Texts) (ss : List Sample) (is : List (WithZones (List ℕ)))
+    → after_all (with_links m t [] ss) (in_turn link_edits 0 ss) ≡ with_instruments m t ss [] is
+links_given m t ss is =
+    after_turns (with_links m t) link_edits (link_set_next m t) [] ss
+    ∙ ap (λ (samples : List Sample). bank_of m t [] [] samples) (append-nil ss)
 
 pub given : (b : Parts) → 0 < length b.texts.engine → after_all (empty b.minor) (edits_of_bank b) ≡ b
 given b h =
@@ -143,7 +180,10 @@ given b h =
     let es2 : List Edit = in_turn link_edits 0 ss ++ es3 in
     let es1 : List Edit = in_turn sample_edits 0 ss ++ es2 in
     after-then (empty m) (with_texts m t t) b (texts_edits t) es1 (texts_given m t h)
-    (after-then (with_samples m t [] ss) (with_samples m t ss []) b (in_turn sample_edits 0 ss) es2 (after_turns (with_samples m t) sample_edits (sample_added_last m t) [] ss)
-    (after-then (with_links m t [] ss) (with_instruments m t ss [] is) b (in_turn link_edits 0 ss) es3 (links_given m t ss is)
-    (after-then (with_instruments m t ss [] is) (with_instruments m t ss is []) b (in_turn instrument_edits 0 is) es4 (after_turns (with_instruments m t ss) instrument_edits (instrument_added_last m t ss) [] is)
+    (after-then (with_samples m t [] ss) (with_samples m t ss []) b (in_turn sample_edits 0 ss) es2
+    (after_turns (with_samples m t) sample_edits (sample_added_last m t) [] ss)
+    (after-then (with_links m t [] ss) (with_instruments m t ss [] is) b (in_turn link_edits 0 ss) es3
+    (links_given m t ss is)
+    (after-then (with_instruments m t ss [] is) (with_instruments m t ss is []) b (in_turn instrument_edits 0
+    is) es4 (after_turns (with_instruments m t ss) instrument_edits (instrument_added_last m t ss) [] is)
     (after_turns (with_presets m t ss is) preset_edits (preset_added_last m t ss is) [] b.presets))))

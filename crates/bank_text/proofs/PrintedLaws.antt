@@ -1,5 +1,6 @@
 -- A bank's text is read as the edits that list it.
-use Rattle.std.proofs.Common.{◌≡◌, ◌<◌, ◌^◌, ℕ, List, [], ◌∷◌, map, codes, decimal, drop, Result, Ok, Err, refl, sym, subst, ◌∙◌, ap, arith}
+use Rattle.std.proofs.Common.{◌≡◌, ◌<◌, ◌^◌, ℕ, List, [], ◌∷◌, map, codes, decimal, drop, Result, Ok, Err, refl, sym}
+use Rattle.std.proofs.Common.{subst, ◌∙◌, ap, arith}
 use Rattle.std.proofs.lemmas.List.{append-nil}
 use Rattle.bank_parts.specs.declared.parts.Parts.{Parts}
 use Rattle.bank_parts.specs.Sound.{IsSound}
@@ -34,7 +35,8 @@ small b s = let h = s.fits.minor in omega (arith, h)
 pub text_read : (b : Parts) → IsSound b → script_of (bank_script Kept b) ≡ Ok (numbered 2 (edits_of_bank b))
 unfolding bank_script first_line
 text_read b s =
-    printed_behind (drop 1 (codes "# sfbank new --minor")) (Number b.minor ∷ []) (edits_of_bank b) refl (spoken_number b.minor (small b s), tt)
+    printed_behind (drop 1 (codes "# sfbank new --minor")) (Number b.minor ∷ []) (edits_of_bank b) refl
+    (spoken_number b.minor (small b s), tt)
     (taken_fit (empty b.minor) (edits_of_bank b) (whole b s).taken)
 
 pub text_gives : TextGivesBank
@@ -55,7 +57,9 @@ edits_read text = map (λ (l : Line). l.edit) (lines_or (script_of text))
 
 edits_of_text : (b : Parts) → IsSound b → edits_read (bank_script Kept b) ≡ edits_of_bank b
 unfolding edits_read lines_or
-edits_of_text b s = ap (λ (r : Result (List Line) ScriptFault). map (λ (l : Line). l.edit) (lines_or r)) (text_read b s) ∙ edits_numbered 2 (edits_of_bank b)
+edits_of_text b s =
+    ap (λ (r : Result (List Line) ScriptFault). map (λ (l : Line). l.edit) (lines_or r)) (text_read b s)
+    ∙ edits_numbered 2 (edits_of_bank b)
 
 -- ---- its version
 
@@ -72,7 +76,8 @@ minor_of_text : (b : Parts) → IsSound b → minor_read (bank_script Kept b) �
 unfolding minor_read first_or bank_script first_line spelled
 minor_of_text b s =
     ap (λ (ls : List (List ℕ)). digits_value (drop 21 (first_or ls)))
-    (line_first (codes "# sfbank new --minor") (Number b.minor ∷ []) (texts_of (edits_of_bank b)) refl (spoken_number b.minor (small b s), tt))
+    (line_first (codes "# sfbank new --minor") (Number b.minor ∷ []) (texts_of (edits_of_bank b)) refl
+    (spoken_number b.minor (small b s), tt))
     ∙ (ap digits_value (append-nil (decimal b.minor))
     ∙ (let h = s.fits.minor in writes 65535 b.minor (omega (arith, h)) (omega arith)).value)
 

@@ -15,13 +15,35 @@ use Rattle.bank_edits.specs.Runs.{after_all}
 use Rattle.bank_text.specs.Listed.{empty, edits_of_bank}
 
 abbrev side : ℤ → List ℕ → Kind → Sample
-side correction name kind = record { name = name; points = 1 ∷ 2 ∷ []; looped = None; rate = 44100; key = 60; correction = correction; kind = kind }
+side correction name kind =
+    record {
+      name =
+          name;
+      points = 1 ∷ 2 ∷ [];
+      looped = None;
+      rate = 44100;
+      key = 60;
+      correction = correction;
+      kind = kind;
+    }
 
 -- two samples that link to each other, a third, and a comment
 abbrev tiny : ℤ → Parts
 tiny c = record {
   minor = 1;
-  texts = record { engine = codes "X"; name = []; date = []; engineers = []; product = []; copyright = []; comment = codes "c"; software = [] };
+  texts =
+      record {
+        engine =
+            codes "X";
+        name =
+            [];
+        date = [];
+        engineers = [];
+        product = [];
+        copyright = [];
+        comment = codes "c";
+        software = [];
+      };
   presets = [];
   instruments = [];
   samples = side c (codes "L") (Left 1) ∷ side c (codes "R") (Right 0) ∷ side c (codes "M") Mono ∷ [];
@@ -29,7 +51,9 @@ tiny c = record {
 
 tiny_edits : (c : ℤ) → edits_of_bank (tiny c) ≡
     One (steps.Text (SetInfo Engine (codes "X"))) ∷ One (steps.Text (SetInfo Comment (codes "c")))
-    ∷ One (steps.Sample (AddSample 0 (side c (codes "L") Mono))) ∷ One (steps.Sample (AddSample 1 (side c (codes "R") Mono))) ∷ One (steps.Sample (AddSample 2 (side c (codes "M") Mono)))
+    ∷ One (steps.Sample (AddSample 0 (side c (codes "L") Mono)))
+    ∷ One (steps.Sample (AddSample 1 (side c (codes "R") Mono)))
+    ∷ One (steps.Sample (AddSample 2 (side c (codes "M") Mono)))
     ∷ One (steps.Points 0 (SetKind (Left 1))) ∷ One (steps.Points 1 (SetKind (Right 0))) ∷ []
 tiny_edits c = refl
 

@@ -21,7 +21,19 @@ use Rattle.edit_forms.specs.declared.edit.Edit.TheVariants.{One}
 
 -- the texts of a file that has none
 abbrev pub empty_texts : Texts
-empty_texts = record { engine = codes "EMU8000"; name = []; date = []; engineers = []; product = []; copyright = []; comment = []; software = [] }
+empty_texts =
+    record {
+      engine =
+          codes "EMU8000";
+      name =
+          [];
+      date = [];
+      engineers = [];
+      product = [];
+      copyright = [];
+      comment = [];
+      software = [];
+    }
 
 abbrev pub empty : ℕ → Parts
 empty minor = record { minor = minor; texts = empty_texts; presets = []; instruments = []; samples = [] }

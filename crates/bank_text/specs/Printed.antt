@@ -35,7 +35,9 @@ with_points LeftOut b = record b { samples = map (told_sample LeftOut) b.samples
 -- the command that makes the empty bank, as a comment
 unfoldable pub first_line : SamplePoints → ℕ → List ℕ
 first_line Kept minor = line_text (codes "# sfbank new --minor") (Number minor ∷ [])
-first_line LeftOut minor = line_text (codes "# sfbank new --minor") (Number minor ∷ Word (codes "without points: to read and compare alone") ∷ [])
+first_line LeftOut minor =
+    line_text (codes "# sfbank new --minor")
+    (Number minor ∷ Word (codes "without points: to read and compare alone") ∷ [])
 
 -- the script that gives a bank from the empty one
 unfoldable pub bank_script : SamplePoints → Parts → List ℕ
@@ -58,4 +60,5 @@ TextTellsBank = (a b : Parts) → IsSound a → IsSound b → bank_script Kept a
 
 -- what replaces a bank by another of its version is a script
 abbrev pub ReplacementLeads : Type 0
-ReplacementLeads = (a b : Parts) → IsSound a → IsSound b → a.minor ≡ b.minor → IsScript a (texts_of (edits_between a b)) b
+ReplacementLeads =
+    (a b : Parts) → IsSound a → IsSound b → a.minor ≡ b.minor → IsScript a (texts_of (edits_between a b)) b

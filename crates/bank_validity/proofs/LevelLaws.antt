@@ -6,19 +6,23 @@ use Rattle.bank_validity.specs.declared.totals.LevelTotals.{LevelTotals}
 use Rattle.bank_validity.specs.declared.totals.Totals.{Totals}
 use Rattle.bank_validity.specs.Limits.{totals_at, level_changed}
 
-pub changed_by : (at : Level) (f g : LevelTotals → LevelTotals) (t : Totals) → f (totals_at at t) ≡ g (totals_at at t) → level_changed at f t ≡ level_changed at g t
+pub changed_by : (at : Level) (f g : LevelTotals → LevelTotals) (t : Totals)
+    → f (totals_at at t) ≡ g (totals_at at t) → level_changed at f t ≡ level_changed at g t
 changed_by level.Preset f g t e = λ i. record t { presets = e i }
 changed_by level.Instrument f g t e = λ i. record t { instruments = e i }
 
 -- one that is put in the place of the level
-pub put_at : (at : Level) (f : LevelTotals → LevelTotals) (t : Totals) (l : LevelTotals) → l ≡ f (totals_at at t) → level_changed at (λ _. l) t ≡ level_changed at f t
+pub put_at : (at : Level) (f : LevelTotals → LevelTotals) (t : Totals) (l : LevelTotals) → l ≡ f (totals_at at t)
+    → level_changed at (λ _. l) t ≡ level_changed at f t
 put_at at f t l e = changed_by at (λ _. l) f t e
 
-pub changed_at : (at : Level) (f : LevelTotals → LevelTotals) (t : Totals) → totals_at at (level_changed at f t) ≡ f (totals_at at t)
+pub changed_at : (at : Level) (f : LevelTotals → LevelTotals) (t : Totals)
+    → totals_at at (level_changed at f t) ≡ f (totals_at at t)
 changed_at level.Preset f t = refl
 changed_at level.Instrument f t = refl
 
-pub changed_twice : (at : Level) (f g : LevelTotals → LevelTotals) (t : Totals) → level_changed at g (level_changed at f t) ≡ level_changed at (λ l. g (f l)) t
+pub changed_twice : (at : Level) (f g : LevelTotals → LevelTotals) (t : Totals)
+    → level_changed at g (level_changed at f t) ≡ level_changed at (λ l. g (f l)) t
 changed_twice level.Preset f g t = refl
 changed_twice level.Instrument f g t = refl
 
@@ -27,14 +31,18 @@ unchanged level.Preset t = refl
 unchanged level.Instrument t = refl
 
 -- a change that g takes back
-pub taken_back : (at : Level) (f g : LevelTotals → LevelTotals) → ((l : LevelTotals) → g (f l) ≡ l) → (t : Totals) → level_changed at g (level_changed at f t) ≡ t
-taken_back at f g back t = changed_twice at f g t ∙ (changed_by at (λ l. g (f l)) (λ l. l) t (back (totals_at at t)) ∙ unchanged at t)
+pub taken_back : (at : Level) (f g : LevelTotals → LevelTotals) → ((l : LevelTotals) → g (f l) ≡ l) → (t : Totals)
+    → level_changed at g (level_changed at f t) ≡ t
+taken_back at f g back t =
+    changed_twice at f g t ∙ (changed_by at (λ l. g (f l)) (λ l. l) t (back (totals_at at t)) ∙ unchanged at t)
 
 -- was made of the same
-pub same_before : (at : Level) (f g : LevelTotals → LevelTotals) → ((l : LevelTotals) → g (f l) ≡ l) → (t u : Totals) → level_changed at f t ≡ level_changed at f u → t ≡ u
+pub same_before : (at : Level) (f g : LevelTotals → LevelTotals) → ((l : LevelTotals) → g (f l) ≡ l) → (t u : Totals)
+    → level_changed at f t ≡ level_changed at f u → t ≡ u
 same_before at f g back t u e = sym (taken_back at f g back t) ∙ (ap (level_changed at g) e ∙ taken_back at f g back u)
 
 -- where both are the same after a change of one level, only that level was another
-pub same_beside : (at : Level) (f g : LevelTotals → LevelTotals) (t u : Totals) → level_changed at f t ≡ level_changed at g u → t ≡ level_changed at (λ _. totals_at at t) u
+pub same_beside : (at : Level) (f g : LevelTotals → LevelTotals) (t u : Totals)
+    → level_changed at f t ≡ level_changed at g u → t ≡ level_changed at (λ _. totals_at at t) u
 same_beside level.Preset f g t u e = ap (level_changed level.Preset (λ _. t.presets)) e
 same_beside level.Instrument f g t u e = ap (level_changed level.Instrument (λ _. t.instruments)) e

@@ -1,7 +1,9 @@
 -- Totals and limits.
-use Rattle.std.proofs.Common.{◌≡◌, ◌+◌, ◌-◌, ◌<◌, ◌≤◌, ◌^◌, ℕ, nat_lt, if◌then◌else◌, true, false, Some, None, refl, ap, sym, ◌∙◌, arith}
+use Rattle.std.proofs.Common.{◌≡◌, ◌+◌, ◌-◌, ◌<◌, ◌≤◌, ◌^◌, ℕ, nat_lt, if◌then◌else◌, true, false, Some, None, refl}
+use Rattle.std.proofs.Common.{ap, sym, ◌∙◌, arith}
 use Rattle.std.proofs.lemmas.Bool.Decides.{nat_tests}
-use Rattle.sf_base.specs.declared.limits.TheConstants.{PRESETS, INSTRUMENTS, SAMPLES, ZONES, GENERATORS, MODULATORS, POINTS, ZERO_POINTS}
+use Rattle.sf_base.specs.declared.limits.TheConstants.{PRESETS, INSTRUMENTS, SAMPLES, ZONES, GENERATORS, MODULATORS}
+use Rattle.sf_base.specs.declared.limits.TheConstants.{POINTS, ZERO_POINTS}
 use Rattle.generators.specs.declared.level.Level.{Level}
 use Rattle.generators.specs.declared.level.Level.TheVariants as level
 use Rattle.bank_parts.specs.declared.counting.Records.{Records}
@@ -12,7 +14,8 @@ use Rattle.bank_parts.specs.declared.parts.Parts.{Parts}
 use Rattle.bank_parts.specs.Valid.{IsWithin}
 use Rattle.bank_parts.specs.Counts.{counted, all_counted, records_sum}
 use Rattle.bank_parts.proofs.Counts.{counted_same}
-use Rattle.bank_validity.specs.Limits.{totals_of, totals_at, level_changed, level_counted, plus_owner, broken, broken_limit, with_sample, with_owner, with_owner_counted}
+use Rattle.bank_validity.specs.Limits.{totals_of, totals_at, level_changed, level_counted, plus_owner, broken}
+use Rattle.bank_validity.specs.Limits.{broken_limit, with_sample, with_owner, with_owner_counted}
 
 -- ---- no limit is broken
 
@@ -31,8 +34,24 @@ pub record AreWithin (t : Totals) : Type 0 where
 pub within_totals : (t : Totals) → broken t ≡ None → AreWithin t
 unfolding broken
 within_totals t e = record {
-  presets = record { count = grind (arith, nat_tests); zones = grind (arith, nat_tests); gens = grind (arith, nat_tests); mods = grind (arith, nat_tests) };
-  instruments = record { count = grind (arith, nat_tests); zones = grind (arith, nat_tests); gens = grind (arith, nat_tests); mods = grind (arith, nat_tests) };
+  presets =
+      record {
+        count =
+            grind (arith, nat_tests);
+        zones =
+            grind (arith, nat_tests);
+        gens = grind (arith, nat_tests);
+        mods = grind (arith, nat_tests);
+      };
+  instruments =
+      record {
+        count =
+            grind (arith, nat_tests);
+        zones =
+            grind (arith, nat_tests);
+        gens = grind (arith, nat_tests);
+        mods = grind (arith, nat_tests);
+      };
   samples = grind (arith, nat_tests);
   points = grind (arith, nat_tests);
 }
@@ -41,7 +60,8 @@ pub not_over : (most n : ℕ) → n ≤ most → nat_lt most n ≡ false
 not_over most n h = grind (arith, nat_tests)
 
 -- with so many points, that may be over their limit
-pub broken_points : (t : Totals) → AreWithin t → (p : ℕ) → broken (let u : Totals = record t { points = p } in u) ≡ (if nat_lt POINTS p then Some limit.Points else None)
+pub broken_points : (t : Totals) → AreWithin t → (p : ℕ)
+    → broken (let u : Totals = record t { points = p } in u) ≡ (if nat_lt POINTS p then Some limit.Points else None)
 unfolding broken
 broken_points t w p =
     let presets = w.presets in
@@ -84,7 +104,9 @@ of_parts : (b : Parts) → IsWithin b → AreWithin (totals_of b)
 unfolding totals_of
 of_parts b w = record {
   presets = record { count = w.presets; zones = w.preset_zones; gens = w.preset_gens; mods = w.preset_mods };
-  instruments = record { count = w.instruments; zones = w.instrument_zones; gens = w.instrument_gens; mods = w.instrument_mods };
+  instruments =
+      record
+      { count = w.instruments; zones = w.instrument_zones; gens = w.instrument_gens; mods = w.instrument_mods };
   samples = w.samples;
   points = w.points;
 }
@@ -103,23 +125,32 @@ within_at level.Preset t w = w.presets
 within_at level.Instrument t w = w.instruments
 
 -- the level that is changed
-pub level_within : (at : Level) (f : LevelTotals → LevelTotals) (t : Totals) → AreWithin (level_changed at f t) → LevelWithin (most_at at) (f (totals_at at t))
+pub level_within : (at : Level) (f : LevelTotals → LevelTotals) (t : Totals) → AreWithin (level_changed at f t)
+    → LevelWithin (most_at at) (f (totals_at at t))
 level_within level.Preset f t w = w.presets
 level_within level.Instrument f t w = w.instruments
 
-pub put_within : (at : Level) (l : LevelTotals) (t : Totals) → AreWithin t → LevelWithin (most_at at) l → AreWithin (level_changed at (λ _. l) t)
-put_within level.Preset l t w own = record { presets = own; instruments = w.instruments; samples = w.samples; points = w.points }
-put_within level.Instrument l t w own = record { presets = w.presets; instruments = own; samples = w.samples; points = w.points }
+pub put_within : (at : Level) (l : LevelTotals) (t : Totals) → AreWithin t → LevelWithin (most_at at) l
+    → AreWithin (level_changed at (λ _. l) t)
+put_within level.Preset l t w own =
+    record { presets = own; instruments = w.instruments; samples = w.samples; points = w.points }
+put_within level.Instrument l t w own =
+    record { presets = w.presets; instruments = own; samples = w.samples; points = w.points }
 
 -- what the other level says stays
-pub unchanged_within : (at : Level) (f : LevelTotals → LevelTotals) (t : Totals) → AreWithin (level_changed at f t) → LevelWithin (most_at at) (totals_at at t) → AreWithin t
-unchanged_within level.Preset f t w l = record { presets = l; instruments = w.instruments; samples = w.samples; points = w.points }
-unchanged_within level.Instrument f t w l = record { presets = w.presets; instruments = l; samples = w.samples; points = w.points }
+pub unchanged_within : (at : Level) (f : LevelTotals → LevelTotals) (t : Totals) → AreWithin (level_changed at f t)
+    → LevelWithin (most_at at) (totals_at at t) → AreWithin t
+unchanged_within level.Preset f t w l =
+    record { presets = l; instruments = w.instruments; samples = w.samples; points = w.points }
+unchanged_within level.Instrument f t w l =
+    record { presets = w.presets; instruments = l; samples = w.samples; points = w.points }
 
 -- ---- totals as 64 bits count them
 
 abbrev pub totals_counted : Totals → Totals
-totals_counted t = record t { presets = level_counted t.presets; instruments = level_counted t.instruments; points = counted t.points }
+totals_counted t =
+    record t
+    { presets = level_counted t.presets; instruments = level_counted t.instruments; points = counted t.points }
 
 -- a limit that 64 bits hold is told by such a count
 counted_test : (most n : ℕ) → most < 2 ^ 64 - 1 → nat_lt most (counted n) ≡ nat_lt most n
@@ -177,22 +208,34 @@ module _ (t : Totals) (n : ℕ) where
       let presets = w.presets in
       let instruments = w.instruments in
       let over : nat_lt SAMPLES (t.samples + 1) ≡ true = grind (arith, nat_tests) in
-      rw (not_over PRESETS t.presets.count presets.count, not_over INSTRUMENTS t.instruments.count instruments.count, over) refl
+      rw (
+        not_over PRESETS t.presets.count presets.count,
+        not_over INSTRUMENTS t.instruments.count instruments.count,
+        over,
+      )
+      refl
 
-  pub points_broken : AreWithin t → t.samples < SAMPLES → POINTS < t.points + (n + ZERO_POINTS) → broken (with_sample t n) ≡ Some limit.Points
+  pub points_broken : AreWithin t → t.samples < SAMPLES → POINTS < t.points + (n + ZERO_POINTS)
+      → broken (with_sample t n) ≡ Some limit.Points
   points_broken w few h =
       let one_more : Totals = record t { samples = t.samples + 1 } in
-      let within : AreWithin one_more = record { presets = w.presets; instruments = w.instruments; samples = omega arith; points = w.points } in
+      let within : AreWithin one_more =
+      record { presets = w.presets; instruments = w.instruments; samples = omega arith; points = w.points } in
       let over : nat_lt POINTS (t.points + (n + ZERO_POINTS)) ≡ true = grind (arith, nat_tests) in
       broken_points one_more within (t.points + (n + ZERO_POINTS)) ∙ rw over refl
 
-  pub with_sample_within : AreWithin t → t.samples < SAMPLES → t.points + (n + ZERO_POINTS) ≤ POINTS → broken (with_sample t n) ≡ None
-  with_sample_within w few h = none_broken (with_sample t n) (record { presets = w.presets; instruments = w.instruments; samples = omega arith; points = h })
+  pub with_sample_within : AreWithin t → t.samples < SAMPLES → t.points + (n + ZERO_POINTS) ≤ POINTS
+      → broken (with_sample t n) ≡ None
+  with_sample_within w few h =
+      none_broken (with_sample t n)
+      (record { presets = w.presets; instruments = w.instruments; samples = omega arith; points = h })
 
 -- ---- a level with more
 
 -- a count that stops at the largest number tells the same limit
-counted_changed : (at : Level) (f g : LevelTotals → LevelTotals) (t : Totals) → AreWithin t → f (totals_at at t) ≡ level_counted (g (totals_at at t)) → level_changed at f t ≡ totals_counted (level_changed at g t)
+counted_changed : (at : Level) (f g : LevelTotals → LevelTotals) (t : Totals) → AreWithin t
+    → f (totals_at at t) ≡ level_counted (g (totals_at at t))
+    → level_changed at f t ≡ totals_counted (level_changed at g t)
 counted_changed level.Preset f g t w e = λ i. record t {
   presets = e i;
   instruments = sym (level_same INSTRUMENTS t.instruments w.instruments (omega arith)) i;
@@ -204,11 +247,15 @@ counted_changed level.Instrument f g t w e = λ i. record t {
   points = sym (few POINTS t.points w.points (omega arith)) i;
 }
 
-pub changed_broken : (at : Level) (f g : LevelTotals → LevelTotals) (t : Totals) → broken t ≡ None → f (totals_at at t) ≡ level_counted (g (totals_at at t)) → broken (level_changed at f t) ≡ broken (level_changed at g t)
-changed_broken at f g t e same = ap broken (counted_changed at f g t (within_totals t e) same) ∙ broken_counted (level_changed at g t)
+pub changed_broken : (at : Level) (f g : LevelTotals → LevelTotals) (t : Totals) → broken t ≡ None
+    → f (totals_at at t) ≡ level_counted (g (totals_at at t))
+    → broken (level_changed at f t) ≡ broken (level_changed at g t)
+changed_broken at f g t e same =
+    ap broken (counted_changed at f g t (within_totals t e) same) ∙ broken_counted (level_changed at g t)
 
 -- where no limit is broken then, the counts are the sums
-pub changed_same : (at : Level) (g : LevelTotals → LevelTotals) (t : Totals) → broken (level_changed at g t) ≡ None → level_changed at (λ l. level_counted (g l)) t ≡ level_changed at g t
+pub changed_same : (at : Level) (g : LevelTotals → LevelTotals) (t : Totals) → broken (level_changed at g t) ≡ None
+    → level_changed at (λ l. level_counted (g l)) t ≡ level_changed at g t
 changed_same level.Preset g t e =
     let w = within_totals (level_changed level.Preset g t) e in
     λ i. record t { presets = level_same PRESETS (g t.presets) w.presets (omega arith) i }
@@ -219,17 +266,21 @@ changed_same level.Instrument g t e =
 counted_plus : (a more b : ℕ) → more ≡ counted b → counted (a + more) ≡ counted (a + b)
 counted_plus a more b e = grind (arith)
 
-pub records_plus : (l more r : Records) → more ≡ all_counted r → all_counted (records_sum l more) ≡ all_counted (records_sum l r)
+pub records_plus : (l more r : Records) → more ≡ all_counted r
+    → all_counted (records_sum l more) ≡ all_counted (records_sum l r)
 records_plus l more r m = λ i. record {
   zones = counted_plus l.zones more.zones r.zones (ap (λ (s : Records). s.zones) m) i;
   gens = counted_plus l.gens more.gens r.gens (ap (λ (s : Records). s.gens) m) i;
   mods = counted_plus l.mods more.mods r.mods (ap (λ (s : Records). s.mods) m) i;
 }
 
-pub owner_broken : (at : Level) (t : Totals) (more r : Records) → broken t ≡ None → more ≡ all_counted r → broken (with_owner_counted at t more) ≡ broken (with_owner at t r)
+pub owner_broken : (at : Level) (t : Totals) (more r : Records) → broken t ≡ None → more ≡ all_counted r
+    → broken (with_owner_counted at t more) ≡ broken (with_owner at t r)
 owner_broken at t more r e m =
     let l = totals_at at t in
-    changed_broken at (λ l. level_counted (plus_owner more l)) (plus_owner r) t e (λ i. record { count = counted (l.count + 1); records = records_plus l.records more r m i })
+    changed_broken at (λ l. level_counted (plus_owner more l)) (plus_owner r) t e
+    (λ i. record { count = counted (l.count + 1); records = records_plus l.records more r m i })
 
-pub owner_within : (at : Level) (t : Totals) (r : Records) → broken (with_owner at t r) ≡ None → with_owner_counted at t r ≡ with_owner at t r
+pub owner_within : (at : Level) (t : Totals) (r : Records) → broken (with_owner at t r) ≡ None
+    → with_owner_counted at t r ≡ with_owner at t r
 owner_within at t r e = changed_same at (plus_owner r) t e

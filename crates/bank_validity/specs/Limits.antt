@@ -1,13 +1,15 @@
 -- How long the lists of a bank are, and the first limit that it breaks.
 use Rattle.std.specs.Prelude.{ℕ, ◌+◌, ◌<◌, ◌≤◌, ◌||◌, nat_lt, if◌then◌else◌, Option, Some, None, List, length, codes}
-use Rattle.sf_base.specs.declared.limits.TheConstants.{PRESETS, INSTRUMENTS, SAMPLES, ZONES, GENERATORS, MODULATORS, POINTS, ZERO_POINTS}
+use Rattle.sf_base.specs.declared.limits.TheConstants.{PRESETS, INSTRUMENTS, SAMPLES, ZONES, GENERATORS, MODULATORS}
+use Rattle.sf_base.specs.declared.limits.TheConstants.{POINTS, ZERO_POINTS}
 use Rattle.generators.specs.declared.level.Level.{Level}
 use Rattle.generators.specs.declared.level.Level.TheVariants as level
 use Rattle.bank_parts.specs.declared.counting.Records.{Records}
 use Rattle.bank_validity.specs.declared.totals.LevelTotals.{LevelTotals}
 use Rattle.bank_validity.specs.declared.totals.Totals.{Totals}
 use Rattle.bank_validity.specs.declared.limits.Limit.{Limit}
-use Rattle.bank_validity.specs.declared.limits.Limit.TheVariants.{Presets, Instruments, Samples, Zones, Generators, Modulators, Points}
+use Rattle.bank_validity.specs.declared.limits.Limit.TheVariants.{Presets, Instruments, Samples, Zones, Generators}
+use Rattle.bank_validity.specs.declared.limits.Limit.TheVariants.{Modulators, Points}
 use Rattle.bank_parts.specs.declared.parts.WithZones.{WithZones}
 use Rattle.bank_parts.specs.declared.parts.Parts.{Parts}
 use Rattle.bank_parts.specs.Counts.{counted, all_counted, records_sum}
@@ -17,7 +19,13 @@ use Rattle.bank_parts.specs.Valid.{owner_total, zone_count, gen_count, mod_count
 abbrev pub level_totals : {H : Type 0} → List (WithZones H) → LevelTotals
 level_totals owners = record {
   count = length owners;
-  records = record { zones = owner_total zone_count owners; gens = owner_total gen_count owners; mods = owner_total mod_count owners };
+  records =
+      record {
+        zones =
+            owner_total zone_count owners;
+        gens = owner_total gen_count owners;
+        mods = owner_total mod_count owners;
+      };
 }
 
 unfoldable pub totals_of : Parts → Totals

@@ -6,7 +6,8 @@ use Rattle.clap.specs.declared.parser.matches.Found.{Found}
 use Rattle.bank_changes.specs.declared.members.Owner.{Owner}
 use Rattle.bank_changes.specs.declared.members.Owner.TheVariants.{Preset, Instrument}
 use Rattle.command_words.specs.declared.words.Request.{Request}
-use Rattle.command_words.specs.declared.words.Request.TheVariants.{Apply, Canon, Diff, Explain, Import, Live, Map, New, Play, Script, Show, Wave}
+use Rattle.command_words.specs.declared.words.Request.TheVariants.{Apply, Canon, Diff, Explain, Import, Live, Map}
+use Rattle.command_words.specs.declared.words.Request.TheVariants.{New, Play, Script, Show, Wave}
 use Rattle.command_words.specs.declared.words.ApplyPaths.{ApplyPaths}
 use Rattle.command_words.specs.declared.words.Forms.{Forms}
 use Rattle.command_words.specs.declared.words.Forms.TheVariants.{Every, Neutral}
@@ -56,7 +57,8 @@ NamesNumber found name n = (text : List ℕ) → one_text found name ≡ Some te
 
 -- a number below a bound is there
 abbrev pub HasNumber : Found → List ℕ → ℕ → Type 0
-HasNumber found name bound = (text : List ℕ) × (n : ℕ) × (one_text found name ≡ Some text) × IsNumber text n × (n < bound)
+HasNumber found name bound =
+    (text : List ℕ) × (n : ℕ) × (one_text found name ≡ Some text) × IsNumber text n × (n < bound)
 
 -- whether a flag was given, which reads as true
 abbrev pub SaysFlag : Found → List ℕ → Bool → Type 0
@@ -93,7 +95,9 @@ NamesApplyPaths found paths =
     × NamesForms found paths.forms
 
 abbrev pub HasApplyPaths : Found → Type 0
-HasApplyPaths found = HasPath found (codes "IN") × HasPath found (codes "SCRIPT") × HasPath found (codes "OUT") × HasPath found (codes "UNDO")
+HasApplyPaths found =
+    HasPath found (codes "IN") × HasPath found (codes "SCRIPT") × HasPath found (codes "OUT")
+    × HasPath found (codes "UNDO")
 
 abbrev pub NamesCanonPaths : Found → CanonPaths → Type 0
 NamesCanonPaths found paths = NamesPath found (codes "IN") paths.input.now × NamesPath found (codes "OUT") paths.out.now
@@ -103,7 +107,8 @@ HasCanonPaths found = HasPath found (codes "IN") × HasPath found (codes "OUT")
 
 abbrev pub NamesDiffPaths : Found → DiffPaths → Type 0
 NamesDiffPaths found paths =
-    NamesPath found (codes "A") paths.first.now × NamesPath found (codes "B") paths.second.now × NamesPath found (codes "OUT") paths.out.now
+    NamesPath found (codes "A") paths.first.now × NamesPath found (codes "B") paths.second.now
+    × NamesPath found (codes "OUT") paths.out.now
 
 abbrev pub HasDiffPaths : Found → Type 0
 HasDiffPaths found = HasPath found (codes "A") × HasPath found (codes "B") × HasPath found (codes "OUT")
@@ -116,7 +121,9 @@ NamesImportPaths found paths =
     × NamesPath found (codes "UNDO") paths.undo.now
 
 abbrev pub HasImportPaths : Found → Type 0
-HasImportPaths found = HasPath found (codes "IN") × HasPath found (codes "WAVE") × HasPath found (codes "OUT") × HasPath found (codes "UNDO")
+HasImportPaths found =
+    HasPath found (codes "IN") × HasPath found (codes "WAVE") × HasPath found (codes "OUT")
+    × HasPath found (codes "UNDO")
 
 abbrev pub NamesLivePaths : Found → LivePaths → Type 0
 NamesLivePaths found paths = NamesPath found (codes "IN") paths.input.now × NamesPath found (codes "PCM") paths.pcm.now
@@ -126,7 +133,8 @@ HasLivePaths found = HasPath found (codes "IN") × HasPath found (codes "PCM")
 
 abbrev pub NamesMapPaths : Found → MapPaths → Type 0
 NamesMapPaths found paths =
-    NamesPath found (codes "IN") paths.input.now × NamesOwner found paths.owner × NamesPath found (codes "OUT") paths.out.now
+    NamesPath found (codes "IN") paths.input.now × NamesOwner found paths.owner
+    × NamesPath found (codes "OUT") paths.out.now
 
 abbrev pub HasMapPaths : Found → Type 0
 HasMapPaths found = HasPath found (codes "IN") × HasOwner found × HasPath found (codes "OUT")
@@ -141,28 +149,32 @@ HasNew found = HasPath found (codes "OUT") × HasNumber found (codes "minor") (2
 
 abbrev pub NamesPlayPaths : Found → PlayPaths → Type 0
 NamesPlayPaths found paths =
-    NamesPath found (codes "IN") paths.input.now × NamesPath found (codes "NOTES") paths.notes.now × NamesPath found (codes "OUT") paths.out.now
+    NamesPath found (codes "IN") paths.input.now × NamesPath found (codes "NOTES") paths.notes.now
+    × NamesPath found (codes "OUT") paths.out.now
 
 abbrev pub HasPlayPaths : Found → Type 0
 HasPlayPaths found = HasPath found (codes "IN") × HasPath found (codes "NOTES") × HasPath found (codes "OUT")
 
 abbrev pub NamesScriptPaths : Found → ScriptPaths → Type 0
 NamesScriptPaths found paths =
-    NamesPath found (codes "IN") paths.input.now × NamesPath found (codes "OUT") paths.out.now × SaysFlag found (codes "no-points") paths.no_points
+    NamesPath found (codes "IN") paths.input.now × NamesPath found (codes "OUT") paths.out.now
+    × SaysFlag found (codes "no-points") paths.no_points
 
 abbrev pub HasScriptPaths : Found → Type 0
 HasScriptPaths found = HasPath found (codes "IN") × HasPath found (codes "OUT")
 
 abbrev pub NamesShowPaths : Found → ShowPaths → Type 0
 NamesShowPaths found paths =
-    NamesPath found (codes "IN") paths.input.now × SaysFlag found (codes "zones") paths.zones × SaysFlag found (codes "uses") paths.uses
+    NamesPath found (codes "IN") paths.input.now × SaysFlag found (codes "zones") paths.zones
+    × SaysFlag found (codes "uses") paths.uses
 
 abbrev pub HasShowPaths : Found → Type 0
 HasShowPaths found = HasPath found (codes "IN")
 
 abbrev pub NamesWavePaths : Found → WavePaths → Type 0
 NamesWavePaths found paths =
-    NamesPath found (codes "IN") paths.input.now × NamesNumber found (codes "S") paths.sample × NamesPath found (codes "OUT") paths.out.now
+    NamesPath found (codes "IN") paths.input.now × NamesNumber found (codes "S") paths.sample
+    × NamesPath found (codes "OUT") paths.out.now
 
 abbrev pub HasWavePaths : Found → Type 0
 HasWavePaths found = HasPath found (codes "IN") × HasNumber found (codes "S") (2 ^ 32) × HasPath found (codes "OUT")

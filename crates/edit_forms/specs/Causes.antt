@@ -1,5 +1,6 @@
 -- The tests that refuse an edit, each with the cause that it tells.
-use Rattle.std.specs.Prelude.{ℕ, ◌+◌, ◌==◌, ◌||◌, ◌&&◌, nat_le, nat_lt, not, Bool, false, Option, Some, None, List, [], ◌∷◌, length, unwrap_or, if◌then◌else◌}
+use Rattle.std.specs.Prelude.{ℕ, ◌+◌, ◌==◌, ◌||◌, ◌&&◌, nat_le, nat_lt, not, Bool, false, Option, Some, None, List}
+use Rattle.std.specs.Prelude.{[], ◌∷◌, length, unwrap_or, if◌then◌else◌}
 use Rattle.std.specs.List.{list_any}
 use Rattle.std.specs.Option.{is_some}
 use Rattle.generators.specs.declared.level.Level.{Level}
@@ -14,7 +15,8 @@ use Rattle.bank_parts.specs.declared.parts.WithZones.{WithZones}
 use Rattle.bank_parts.specs.declared.parts.Sample.{Sample}
 use Rattle.bank_parts.specs.declared.parts.Parts.{Parts}
 use Rattle.bank_parts.specs.Texts.{most_bytes, is_engine}
-use Rattle.bank_parts.specs.Contents.{misses_target, sets_foreign, has_foreign, is_bad_range, sets_bad_range, has_bad_range}
+use Rattle.bank_parts.specs.Contents.{misses_target, sets_foreign, has_foreign, is_bad_range, sets_bad_range}
+use Rattle.bank_parts.specs.Contents.{has_bad_range}
 use Rattle.zone_ranges.specs.declared.axes.Axis.{Axis}
 use Rattle.zone_ranges.specs.declared.axes.Keep.{Keep}
 use Rattle.bank_changes.specs.declared.members.Owner.{Owner}
@@ -27,7 +29,11 @@ use Rattle.bank_changes.specs.Instruments.{instrument_in_use}
 use Rattle.bank_changes.specs.Samples.{sample_in_use}
 use Rattle.bank_changes.specs.Points.{points_of, loop_of}
 use Rattle.edit_forms.specs.declared.cause.Cause.{Cause}
-use Rattle.edit_forms.specs.declared.cause.Cause.TheVariants.{NoSuchPreset, NoSuchInstrument, NoSuchSample, NoSuchZone, NoSuchModulator, BadPlace, InUse, BadGenerator, NotSet, BadRange, SplitOutside, NotJoinable, LinkedModulator, TooShort, LoopCut, BadLoop, BadText}
+use Rattle.edit_forms.specs.declared.cause.Cause.TheVariants.{NoSuchPreset, NoSuchInstrument, NoSuchSample}
+use Rattle.edit_forms.specs.declared.cause.Cause.TheVariants.{NoSuchZone, NoSuchModulator, BadPlace, InUse}
+use Rattle.edit_forms.specs.declared.cause.Cause.TheVariants.{BadGenerator, NotSet, BadRange, SplitOutside}
+use Rattle.edit_forms.specs.declared.cause.Cause.TheVariants.{NotJoinable, LinkedModulator, TooShort, LoopCut}
+use Rattle.edit_forms.specs.declared.cause.Cause.TheVariants.{BadLoop, BadText}
 
 -- a cause of refusal, and whether it stands
 pub record Test : Type 0 where

@@ -10,8 +10,10 @@ use Rattle.bank_changes.specs.Members.{instrument_name_of}
 use Rattle.bank_changes.specs.Instruments.{instrument_added, instrument_removed, instrument_renamed, instrument_moved}
 use Rattle.edit_forms.specs.declared.cause.Cause.TheVariants.{NoSuchSample}
 use Rattle.edit_forms.specs.declared.instruments.InstrumentStep.{InstrumentStep}
-use Rattle.edit_forms.specs.declared.instruments.InstrumentStep.TheVariants.{AddInstrument, RemoveInstrument, RenameInstrument, MoveInstrument}
-use Rattle.edit_forms.specs.Causes.{Test, no_such_instrument, used_instrument, no_such_target, no_such_place, bad_place, bad_generator, bad_range}
+use Rattle.edit_forms.specs.declared.instruments.InstrumentStep.TheVariants.{AddInstrument, RemoveInstrument}
+use Rattle.edit_forms.specs.declared.instruments.InstrumentStep.TheVariants.{RenameInstrument, MoveInstrument}
+use Rattle.edit_forms.specs.Causes.{Test, no_such_instrument, used_instrument, no_such_target, no_such_place}
+use Rattle.edit_forms.specs.Causes.{bad_place, bad_generator, bad_range}
 
 -- each number, name and text in the range of its field
 abbrev pub Fits : InstrumentStep → Type 0
@@ -43,9 +45,11 @@ causes b (MoveInstrument from to) = no_such_instrument b from ∷ no_such_place 
 abbrev pub inverse : Parts → InstrumentStep → InstrumentStep
 inverse b (AddInstrument at instrument) = RemoveInstrument at
 inverse b (RemoveInstrument instrument) =
-    option_map_or (λ (i : WithZones (List ℕ)). AddInstrument instrument i) (slice_get b.instruments instrument) (RemoveInstrument instrument)
+    option_map_or (λ (i : WithZones (List ℕ)). AddInstrument instrument i) (slice_get b.instruments instrument)
+    (RemoveInstrument instrument)
 inverse b (RenameInstrument instrument name) =
-    option_map_or (λ (old : List ℕ). RenameInstrument instrument old) (instrument_name_of b instrument) (RenameInstrument instrument name)
+    option_map_or (λ (old : List ℕ). RenameInstrument instrument old) (instrument_name_of b instrument)
+    (RenameInstrument instrument name)
 inverse b (MoveInstrument from to) = MoveInstrument to from
 
 -- it grows nothing

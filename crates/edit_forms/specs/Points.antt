@@ -1,5 +1,6 @@
 -- Steps that edit what one sample holds: what each says, what it does, when it is refused, and what takes it back.
-use Rattle.std.specs.Prelude.{◌<◌, ◌^◌, ◌-◌, ℕ, Bool, true, false, List, [], ◌∷◌, length, take, drop, slice_get, Option, Some, None, FitsSigned}
+use Rattle.std.specs.Prelude.{◌<◌, ◌^◌, ◌-◌, ℕ, Bool, true, false, List, [], ◌∷◌, length, take, drop, slice_get}
+use Rattle.std.specs.Prelude.{Option, Some, None, FitsSigned}
 use Rattle.std.specs.Option.{option_map_or}
 use Rattle.std.specs.Int.{w8}
 use Rattle.sample_view.specs.Words.{AreWords}
@@ -37,12 +38,16 @@ causes b sample (SetTune rate key correction) = []
 
 -- the step that takes it back, read on the bank before
 abbrev pub inverse : Parts → ℕ → PointStep → PointStep
-inverse b sample (Trim front back) = Extend (take front (points_of b sample)) (drop (length (points_of b sample) - back) (points_of b sample))
+inverse b sample (Trim front back) =
+    Extend (take front (points_of b sample)) (drop (length (points_of b sample) - back) (points_of b sample))
 inverse b sample (Extend front back) = Trim (length front) (length back)
-inverse b sample (SetLoop looped) = option_map_or (λ (s : Sample). SetLoop s.looped) (slice_get b.samples sample) (SetLoop looped)
-inverse b sample (SetKind kind) = option_map_or (λ (s : Sample). SetKind s.kind) (slice_get b.samples sample) (SetKind kind)
+inverse b sample (SetLoop looped) =
+    option_map_or (λ (s : Sample). SetLoop s.looped) (slice_get b.samples sample) (SetLoop looped)
+inverse b sample (SetKind kind) =
+    option_map_or (λ (s : Sample). SetKind s.kind) (slice_get b.samples sample) (SetKind kind)
 inverse b sample (SetTune rate key correction) =
-    option_map_or (λ (s : Sample). SetTune s.rate s.key s.correction) (slice_get b.samples sample) (SetTune rate key correction)
+    option_map_or (λ (s : Sample). SetTune s.rate s.key s.correction) (slice_get b.samples sample)
+    (SetTune rate key correction)
 
 -- it grows nothing
 abbrev pub GrowsNothing : PointStep → Type 0

@@ -12,7 +12,8 @@ use Rattle.bank_changes.specs.Presets.{preset_added, preset_removed, preset_move
 use Rattle.edit_forms.specs.declared.cause.Cause.TheVariants.{NoSuchInstrument}
 use Rattle.edit_forms.specs.declared.presets.PresetStep.{PresetStep}
 use Rattle.edit_forms.specs.declared.presets.PresetStep.TheVariants.{AddPreset, RemovePreset, MovePreset, SetHead}
-use Rattle.edit_forms.specs.Causes.{Test, no_such_preset, no_such_target, no_such_place, bad_place, bad_generator, bad_range}
+use Rattle.edit_forms.specs.Causes.{Test, no_such_preset, no_such_target, no_such_place, bad_place, bad_generator}
+use Rattle.edit_forms.specs.Causes.{bad_range}
 
 -- each number, name and text in the range of its field
 abbrev pub Fits : PresetStep → Type 0
@@ -47,7 +48,8 @@ inverse b (RemovePreset preset) =
     option_map_or (λ (p : WithZones Head). AddPreset preset p) (slice_get b.presets preset) (RemovePreset preset)
 inverse b (MovePreset from to) = MovePreset to from
 inverse b (SetHead preset name number bank) =
-    option_map_or (λ (h : Head). SetHead preset h.name h.number h.bank) (head_of b preset) (SetHead preset name number bank)
+    option_map_or (λ (h : Head). SetHead preset h.name h.number h.bank) (head_of b preset)
+    (SetHead preset name number bank)
 
 -- it grows nothing
 abbrev pub GrowsNothing : PresetStep → Type 0

@@ -36,7 +36,8 @@ abbrev pub inverse : Parts → SampleStep → SampleStep
 inverse b (RenameSample sample name) =
     option_map_or (λ (s : Sample). RenameSample sample s.name) (slice_get b.samples sample) (RenameSample sample name)
 inverse b (AddSample at sample) = RemoveSample at
-inverse b (RemoveSample sample) = option_map_or (λ (s : Sample). AddSample sample s) (slice_get b.samples sample) (RemoveSample sample)
+inverse b (RemoveSample sample) =
+    option_map_or (λ (s : Sample). AddSample sample s) (slice_get b.samples sample) (RemoveSample sample)
 inverse b (MoveSample from to) = MoveSample to from
 
 -- it grows nothing

@@ -1,5 +1,5 @@
--- Steps that edit the generators and modulators of a place, a global zone or a zone: what each says, what it does, when it is
--- refused, and what takes it back.
+-- Steps that edit the generators and modulators of a place, a global zone or a zone: what each says, what it does,
+-- when it is refused, and what takes it back.
 use Rattle.std.specs.Prelude.{◌<◌, ◌^◌, ℕ, Bool, false, List, [], ◌∷◌, length}
 use Rattle.std.specs.Option.{option_map_or}
 use Rattle.modulators.specs.declared.modulator.Modulator.{Modulator}
@@ -11,7 +11,8 @@ use Rattle.bank_changes.specs.Members.{level_of, amount_of, mod_at}
 use Rattle.bank_changes.specs.Settings.{gen_set, gen_cleared, mod_added, mod_removed, mod_set}
 use Rattle.edit_forms.specs.declared.settings.SettingStep.{SettingStep}
 use Rattle.edit_forms.specs.declared.settings.SettingStep.TheVariants.{SetGen, ClearGen, AddMod, RemoveMod, SetMod}
-use Rattle.edit_forms.specs.Causes.{Test, bad_place, mods_there, no_such_modulator, linked_place, linked_modulator, foreign_operator, bad_amount, not_set}
+use Rattle.edit_forms.specs.Causes.{Test, bad_place, mods_there, no_such_modulator, linked_place, linked_modulator}
+use Rattle.edit_forms.specs.Causes.{foreign_operator, bad_amount, not_set}
 
 -- each number, name and text in the range of its field
 abbrev pub Fits : SettingStep → Type 0
@@ -33,17 +34,22 @@ raw b o at (SetMod index modulator) = mod_set b o at index modulator
 abbrev pub causes : Parts → Owner → Place → SettingStep → List Test
 causes b o at (SetGen operator amount) = foreign_operator (level_of o) operator ∷ bad_amount operator amount ∷ []
 causes b o at (ClearGen operator) = foreign_operator (level_of o) operator ∷ not_set b o at operator ∷ []
-causes b o at (AddMod index modulator) = bad_place (length (mods_there b o at)) index ∷ linked_modulator b o at modulator ∷ []
+causes b o at (AddMod index modulator) =
+    bad_place (length (mods_there b o at)) index ∷ linked_modulator b o at modulator ∷ []
 causes b o at (RemoveMod index) = no_such_modulator b o at index ∷ linked_place b o at ∷ []
 causes b o at (SetMod index modulator) = no_such_modulator b o at index ∷ linked_modulator b o at modulator ∷ []
 
 -- the step that takes it back, read on the bank before
 abbrev pub inverse : Parts → Owner → Place → SettingStep → SettingStep
-inverse b o at (SetGen operator amount) = option_map_or (λ (was : ℕ). SetGen operator was) (amount_of b o at operator) (ClearGen operator)
-inverse b o at (ClearGen operator) = option_map_or (λ (was : ℕ). SetGen operator was) (amount_of b o at operator) (ClearGen operator)
+inverse b o at (SetGen operator amount) =
+    option_map_or (λ (was : ℕ). SetGen operator was) (amount_of b o at operator) (ClearGen operator)
+inverse b o at (ClearGen operator) =
+    option_map_or (λ (was : ℕ). SetGen operator was) (amount_of b o at operator) (ClearGen operator)
 inverse b o at (AddMod index modulator) = RemoveMod index
-inverse b o at (RemoveMod index) = option_map_or (λ (m : Modulator). AddMod index m) (mod_at b o at index) (RemoveMod index)
-inverse b o at (SetMod index modulator) = option_map_or (λ (m : Modulator). SetMod index m) (mod_at b o at index) (SetMod index modulator)
+inverse b o at (RemoveMod index) =
+    option_map_or (λ (m : Modulator). AddMod index m) (mod_at b o at index) (RemoveMod index)
+inverse b o at (SetMod index modulator) =
+    option_map_or (λ (m : Modulator). SetMod index m) (mod_at b o at index) (SetMod index modulator)
 
 -- it grows nothing
 abbrev pub GrowsNothing : SettingStep → Type 0

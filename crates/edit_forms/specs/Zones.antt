@@ -1,5 +1,5 @@
--- Steps that edit the zones of a preset or an instrument: what each says, what it does, when it is refused, and what takes
--- it back.
+-- Steps that edit the zones of a preset or an instrument: what each says, what it does, when it is refused, and what
+-- takes it back.
 use Rattle.std.specs.Prelude.{◌<◌, ◌^◌, ◌+◌, ℕ, Bool, true, false, List, [], ◌∷◌, unwrap_or, Option, Some, None}
 use Rattle.std.specs.Option.{option_map_or}
 use Rattle.bank_parts.specs.declared.parts.Zone.{Zone}
@@ -11,8 +11,10 @@ use Rattle.bank_changes.specs.declared.members.Owner.{Owner}
 use Rattle.bank_changes.specs.Members.{level_of, zone_of, target_of}
 use Rattle.bank_changes.specs.Zones.{zone_added, zone_removed, zone_moved, zone_split, zone_joined, target_set}
 use Rattle.edit_forms.specs.declared.zones.ZoneStep.{ZoneStep}
-use Rattle.edit_forms.specs.declared.zones.ZoneStep.TheVariants.{AddZone, RemoveZone, MoveZone, SplitZone, JoinZone, SetTarget}
-use Rattle.edit_forms.specs.Causes.{Test, zone_total, no_such_zone, no_such_target_of, no_such_place, bad_place, bad_generators, bad_ranges, split_outside, not_joinable}
+use Rattle.edit_forms.specs.declared.zones.ZoneStep.TheVariants.{AddZone, RemoveZone, MoveZone, SplitZone, JoinZone}
+use Rattle.edit_forms.specs.declared.zones.ZoneStep.TheVariants.{SetTarget}
+use Rattle.edit_forms.specs.Causes.{Test, zone_total, no_such_zone, no_such_target_of, no_such_place, bad_place}
+use Rattle.edit_forms.specs.Causes.{bad_generators, bad_ranges, split_outside, not_joinable}
 
 -- each number, name and text in the range of its field
 abbrev pub Fits : ZoneStep → Type 0
@@ -51,10 +53,13 @@ abbrev pub inverse : Parts → Owner → ZoneStep → ZoneStep
 inverse b o (AddZone at zone) = RemoveZone at
 inverse b o (RemoveZone zone) = option_map_or (λ (z : Zone). AddZone zone z) (zone_of b o zone) (RemoveZone zone)
 inverse b o (MoveZone from to) = MoveZone to from
-inverse b o (SplitZone zone axis at) = option_map_or (λ (z : Zone). JoinZone zone axis (keep_for axis z)) (zone_of b o zone) (SplitZone zone axis at)
+inverse b o (SplitZone zone axis at) =
+    option_map_or (λ (z : Zone). JoinZone zone axis (keep_for axis z)) (zone_of b o zone) (SplitZone zone axis at)
 inverse b o (JoinZone zone axis kept) =
-    option_map_or (λ (z : Zone). SplitZone zone axis (low_end (unwrap_or (own_range axis z) whole_range))) (zone_of b o (zone + 1)) (JoinZone zone axis kept)
-inverse b o (SetTarget zone target) = option_map_or (λ (was : ℕ). SetTarget zone was) (target_of b o zone) (SetTarget zone target)
+    option_map_or (λ (z : Zone). SplitZone zone axis (low_end (unwrap_or (own_range axis z) whole_range)))
+    (zone_of b o (zone + 1)) (JoinZone zone axis kept)
+inverse b o (SetTarget zone target) =
+    option_map_or (λ (was : ℕ). SetTarget zone was) (target_of b o zone) (SetTarget zone target)
 
 -- it grows nothing
 abbrev pub GrowsNothing : ZoneStep → Type 0

@@ -1,5 +1,6 @@
 -- What acceptance says: no test stands, and no limit is broken.
-use Rattle.std.proofs.Common.{◌≡◌, ◌<◌, ◌≤◌, ◌++◌, ℕ, nat_le, nat_lt, Bool, true, false, cond, Option, Some, None, Result, Ok, Err, List, [], ◌∷◌, refl, ◌∙◌, ap, arith}
+use Rattle.std.proofs.Common.{◌≡◌, ◌<◌, ◌≤◌, ◌++◌, ℕ, nat_le, nat_lt, Bool, true, false, cond, Option, Some, None}
+use Rattle.std.proofs.Common.{Result, Ok, Err, List, [], ◌∷◌, refl, ◌∙◌, ap, arith}
 use Rattle.std.proofs.lemmas.Bool.Decides.{nat_tests}
 use Rattle.std.specs.Option.{option_map}
 use Rattle.bank_validity.specs.declared.limits.Limit.{Limit}
@@ -26,12 +27,14 @@ not_full : (l : Option Limit) → option_map Full l ≡ None → l ≡ None
 not_full None h = refl
 not_full (Some x) h = cc
 
-passes : (t : Bool) (cause : Cause) (rest : Option Cause) → cond t (Some cause) rest ≡ None → (t ≡ false) × (rest ≡ None)
+passes : (t : Bool) (cause : Cause) (rest : Option Cause) → cond t (Some cause) rest ≡ None
+    → (t ≡ false) × (rest ≡ None)
 passes true cause rest h = cc
 passes false cause rest h = (refl, h)
 
 -- a list of tests and a limit, none of which stands
-first_none : (ts : List Test) (l : Option Limit) → first_cause ts (option_map Full l) ≡ None → NoneStands ts × (l ≡ None)
+first_none : (ts : List Test) (l : Option Limit) → first_cause ts (option_map Full l) ≡ None
+    → NoneStands ts × (l ≡ None)
 first_none [] l h = (tt, not_full l h)
 first_none (t ∷ ts) l h =
     let here = passes t.stands t.cause (first_cause ts (option_map Full l)) h in
@@ -47,7 +50,9 @@ last_word (t ∷ ts) last h = let here = h.0 in rw here (last_word ts last h.1)
 
 -- where no test stands and the changed bank is sound
 pub accepted_by : (b : Parts) (s : Step) → NoneStands (causes b s) → IsSound (raw b s) → refusal b s ≡ None
-accepted_by b s tests sound = last_word (causes b s) (option_map Full (broken_limit (raw b s))) tests ∙ ap (option_map Full) (no_limit_of (raw b s) sound.valid.limits)
+accepted_by b s tests sound =
+    last_word (causes b s) (option_map Full (broken_limit (raw b s))) tests
+    ∙ ap (option_map Full) (no_limit_of (raw b s) sound.valid.limits)
 
 -- ---- what the code answers
 
@@ -56,21 +61,28 @@ judged why last (Ok done) e h = e ∙ h
 judged why last (Err cause) e h = e ∙ h
 
 -- where no test stands, the limit is told
-pub by_limit : (b : Parts) (s : Step) (l : Option Limit) (r : Result (Unit {0}) Cause) → NoneStands (causes b s) → broken_limit (raw b s) ≡ l
+pub by_limit : (b : Parts) (s : Step) (l : Option Limit) (r : Result (Unit {0}) Cause) → NoneStands (causes b s)
+    → broken_limit (raw b s) ≡ l
     → Judges (option_map Full l) r → Judges (refusal b s) r
-by_limit b s l r tests is = judged (refusal b s) (option_map Full l) r (last_word (causes b s) (option_map Full (broken_limit (raw b s))) tests ∙ ap (option_map Full) is)
+by_limit b s l r tests is =
+    judged (refusal b s) (option_map Full l) r
+    (last_word (causes b s) (option_map Full (broken_limit (raw b s))) tests ∙ ap (option_map Full) is)
 
-told : (stands : Bool) (cause : Cause) (last : Option Cause) → stands ≡ true → cond stands (Some cause) last ≡ Some cause
+told : (stands : Bool) (cause : Cause) (last : Option Cause) → stands ≡ true
+    → cond stands (Some cause) last ≡ Some cause
 told true cause last h = refl
 told false cause last h = cc
 
 -- where none of the others stands, the last test is told; where it doesn't either, no limit is broken
-pub by_last : (ts : List Test) (t : Test) (l : Option Limit) (r : Result (Unit {0}) Cause) → NoneStands ts → Passes t r → (t.stands ≡ false → l ≡ None)
+pub by_last : (ts : List Test) (t : Test) (l : Option Limit) (r : Result (Unit {0}) Cause) → NoneStands ts
+    → Passes t r → (t.stands ≡ false → l ≡ None)
     → Judges (first_cause (ts ++ t ∷ []) (option_map Full l)) r
-by_last [] t l (Ok done) none h within = last_word (t ∷ []) (option_map Full l) (h, tt) ∙ ap (option_map Full) (within h)
+by_last [] t l (Ok done) none h within =
+    last_word (t ∷ []) (option_map Full l) (h, tt) ∙ ap (option_map Full) (within h)
 by_last [] t l (Err cause) none h within = told t.stands t.cause (option_map Full l) h.0 ∙ ap Some (rw h.1 refl)
 by_last (x ∷ ts) t l (Ok done) none h within = let here = none.0 in rw here (by_last ts t l (Ok done) none.1 h within)
-by_last (x ∷ ts) t l (Err cause) none h within = let here = none.0 in rw here (by_last ts t l (Err cause) none.1 h within)
+by_last (x ∷ ts) t l (Err cause) none h within =
+    let here = none.0 in rw here (by_last ts t l (Err cause) none.1 h within)
 
 -- ---- numbers
 

@@ -1,5 +1,6 @@
 -- The causes of each form stand in the order of their numbers.
-use Rattle.std.proofs.Common.{◌≡◌, ◌≤◌, ◌<◌, ℕ, zero, suc, nat_le, ◌&&◌, Bool, true, false, cond, Option, Some, None, List, [], ◌∷◌, length, refl, sym, ap, ◌∙◌, ◌⊎◌, inl, inr, arith}
+use Rattle.std.proofs.Common.{◌≡◌, ◌≤◌, ◌<◌, ℕ, zero, suc, nat_le, ◌&&◌, Bool, true, false, cond, Option, Some, None}
+use Rattle.std.proofs.Common.{List, [], ◌∷◌, length, refl, sym, ap, ◌∙◌, ◌⊎◌, inl, inr, arith}
 use Rattle.std.specs.Prelude.{MatchOption}
 use Rattle.std.specs.List.{Any, slice_index_or}
 use Rattle.std.specs.Option.{option_map}
@@ -9,7 +10,11 @@ use Rattle.bank_validity.specs.declared.limits.Limit.{Limit}
 use Rattle.bank_validity.specs.Limits.{broken_limit}
 use Rattle.edit_forms.specs.declared.step.Step.{Step}
 use Rattle.edit_forms.specs.declared.cause.Cause.{Cause}
-use Rattle.edit_forms.specs.declared.cause.Cause.TheVariants.{NoSuchPreset, NoSuchInstrument, NoSuchSample, NoSuchZone, NoSuchModulator, BadPlace, InUse, BadGenerator, NotSet, BadRange, SplitOutside, NotJoinable, LinkedModulator, TooShort, LoopCut, BadLoop, BadText, Full}
+use Rattle.edit_forms.specs.declared.cause.Cause.TheVariants.{NoSuchPreset, NoSuchInstrument, NoSuchSample}
+use Rattle.edit_forms.specs.declared.cause.Cause.TheVariants.{NoSuchZone, NoSuchModulator, BadPlace, InUse}
+use Rattle.edit_forms.specs.declared.cause.Cause.TheVariants.{BadGenerator, NotSet, BadRange, SplitOutside}
+use Rattle.edit_forms.specs.declared.cause.Cause.TheVariants.{NotJoinable, LinkedModulator, TooShort, LoopCut}
+use Rattle.edit_forms.specs.declared.cause.Cause.TheVariants.{BadLoop, BadText, Full}
 use Rattle.edit_forms.specs.CauseNames.{number_of}
 use Rattle.edit_forms.specs.Causes.{Test, first_cause, no_such_zone_at}
 use Rattle.edit_forms.specs.Steps.{raw, causes, refusal}
@@ -32,7 +37,9 @@ each_rises b (Instrument s) = instrument_rises b s
 each_rises b (Sample s) = sample_rises b s
 each_rises b (Points i s) = points_rises b i s
 each_rises b (Zone o s) = behind_owner b o (zones.causes b o s) (zone_rises b o s)
-each_rises b (Setting o at s) = behind_owner b o (no_such_zone_at b o at ∷ settings.causes b o at s) (behind_place b o at (settings.causes b o at s) (setting_rises b o at s))
+each_rises b (Setting o at s) =
+    behind_owner b o (no_such_zone_at b o at ∷ settings.causes b o at s)
+    (behind_place b o at (settings.causes b o at s) (setting_rises b o at s))
 each_rises b (Text s) = text_rises b s
 
 both : (x y : Bool) → (x && y) ≡ true → (x ≡ true) × (y ≡ true)
@@ -42,9 +49,11 @@ both false y h = cc
 up_from : (n m : ℕ) → nat_le n m ≡ true → n ≤ m
 up_from n m h = grind (arith, nat_tests)
 
-at_least : (n : ℕ) (ts : List Test) → rises n ts ≡ true → (k : ℕ) (d : Test) → k < length ts → n ≤ number_of (slice_index_or ts k d).cause
+at_least : (n : ℕ) (ts : List Test) → rises n ts ≡ true → (k : ℕ) (d : Test) → k < length ts
+    → n ≤ number_of (slice_index_or ts k d).cause
 at_least n [] h k d lt = omega (arith, lt)
-at_least n (t ∷ ts) h zero d lt = up_from n (number_of t.cause) (both (nat_le n (number_of t.cause)) (rises (number_of t.cause) ts) h).0
+at_least n (t ∷ ts) h zero d lt =
+    up_from n (number_of t.cause) (both (nat_le n (number_of t.cause)) (rises (number_of t.cause) ts) h).0
 at_least n (t ∷ ts) h (suc k) d lt =
     let p = both (nat_le n (number_of t.cause)) (rises (number_of t.cause) ts) h in
     let first = up_from n (number_of t.cause) p.0 in
@@ -56,9 +65,11 @@ never_falls n [] h i j d le lt = omega (arith, lt)
 never_falls n (t ∷ ts) h zero zero d le lt = omega arith
 never_falls n (t ∷ ts) h (suc i) zero d le lt = omega (arith, le)
 never_falls n (t ∷ ts) h zero (suc j) d le lt =
-    at_least (number_of t.cause) ts (both (nat_le n (number_of t.cause)) (rises (number_of t.cause) ts) h).1 j d (omega (arith, lt))
+    at_least (number_of t.cause) ts (both (nat_le n (number_of t.cause)) (rises (number_of t.cause) ts) h).1 j d
+    (omega (arith, lt))
 never_falls n (t ∷ ts) h (suc i) (suc j) d le lt =
-    never_falls (number_of t.cause) ts (both (nat_le n (number_of t.cause)) (rises (number_of t.cause) ts) h).1 i j d (omega (arith, le)) (omega (arith, lt))
+    never_falls (number_of t.cause) ts (both (nat_le n (number_of t.cause)) (rises (number_of t.cause) ts) h).1 i j d
+    (omega (arith, le)) (omega (arith, lt))
 
 pub numbers_never_fall : NumbersNeverFall
 numbers_never_fall b s = never_falls 0 (causes b s) (each_rises b s)
@@ -93,26 +104,32 @@ no_higher BadText = omega arith
 no_higher (Full limit) = omega arith
 
 -- a limit has the highest number
-up_to_limit : (cause : Cause) (l : Option Limit) (other : Cause) → option_map Full l ≡ Some other → number_of cause ≤ number_of other
+up_to_limit : (cause : Cause) (l : Option Limit) (other : Cause) → option_map Full l ≡ Some other
+    → number_of cause ≤ number_of other
 up_to_limit cause None other h = cc
 up_to_limit cause (Some limit) other h = let e : Full limit ≡ other = cc in rw (sym e) (no_higher cause)
 
 -- of the tests of which the first stands
-first_is : (n : ℕ) (t : Test) (ts : List Test) (l : Option Limit) (other : Cause) → rises n (t ∷ ts) ≡ true → StandsIn (t ∷ ts) l other → number_of t.cause ≤ number_of other
+first_is : (n : ℕ) (t : Test) (ts : List Test) (l : Option Limit) (other : Cause) → rises n (t ∷ ts) ≡ true
+    → StandsIn (t ∷ ts) l other → number_of t.cause ≤ number_of other
 first_is n t ts l other up (inl (k, x, lt, at, is)) =
     let least = never_falls n (t ∷ ts) up 0 k x (omega arith) lt in
-    let here : number_of (slice_index_or (t ∷ ts) k x).cause ≡ number_of other = ap (λ (y : Test). number_of y.cause) at ∙ ap number_of is.1 in
+    let here : number_of (slice_index_or (t ∷ ts) k x).cause ≡ number_of other =
+    ap (λ (y : Test). number_of y.cause) at ∙ ap number_of is.1 in
     omega (arith, least, here)
 first_is n t ts l other up (inr e) = up_to_limit t.cause l other e
 
 -- what stands of tests of which the first does not stands behind it
-later : (t : Test) (ts : List Test) (l : Option Limit) (other : Cause) → t.stands ≡ false → StandsIn (t ∷ ts) l other → StandsIn ts l other
-later t ts l other off (inl (zero, x, lt, at, is)) = let e : t.stands ≡ x.stands = ap (λ (y : Test). y.stands) at in let on = is.0 in cc
+later : (t : Test) (ts : List Test) (l : Option Limit) (other : Cause) → t.stands ≡ false → StandsIn (t ∷ ts) l other
+    → StandsIn ts l other
+later t ts l other off (inl (zero, x, lt, at, is)) =
+    let e : t.stands ≡ x.stands = ap (λ (y : Test). y.stands) at in let on = is.0 in cc
 later t ts l other off (inl (suc k, x, lt, at, is)) = inl (k, x, omega (arith, lt), at, is)
 later t ts l other off (inr e) = inr e
 
 -- what stands behind a test
-behind : (t : Test) (ts : List Test) (l : Option Limit) (cause : Cause) → StandsIn ts l cause → StandsIn (t ∷ ts) l cause
+behind : (t : Test) (ts : List Test) (l : Option Limit) (cause : Cause) → StandsIn ts l cause
+    → StandsIn (t ∷ ts) l cause
 behind t ts l cause (inl (k, x, lt, at, is)) = inl (suc k, x, omega (arith, lt), at, is)
 behind t ts l cause (inr e) = inr e
 
@@ -122,7 +139,8 @@ none_is_there other l (inr e) = e
 
 -- the first stands, or the others tell the cause, which is the lowest of them
 lowest_of : (n : ℕ) (t : Test) (ts : List Test) (l : Option Limit) (cause : Cause) → rises n (t ∷ ts) ≡ true
-    → ((t.stands ≡ true) × (t.cause ≡ cause)) ⊎ ((t.stands ≡ false) × IsLowestIn ts l cause) → IsLowestIn (t ∷ ts) l cause
+    → ((t.stands ≡ true) × (t.cause ≡ cause)) ⊎ ((t.stands ≡ false) × IsLowestIn ts l cause)
+    → IsLowestIn (t ∷ ts) l cause
 lowest_of n t ts l cause up (inl is) = record {
   stands = inl (0, t, omega arith, refl, is);
   lowest = λ other s. let e = is.1 in rw (sym (ap number_of e)) (first_is n t ts l other up s);
@@ -133,34 +151,43 @@ lowest_of n t ts l cause up (inr rest) = record {
 }
 
 -- a test and others behind it, of which this one stands or the others tell the cause
-told : (t : Test) (stands : Bool) (rest : Option Cause) (cause : Cause) (L : Type 0) → (rest ≡ Some cause → L) → cond stands (Some t.cause) rest ≡ Some cause
+told : (t : Test) (stands : Bool) (rest : Option Cause) (cause : Cause) (L : Type 0) → (rest ≡ Some cause → L)
+    → cond stands (Some t.cause) rest ≡ Some cause
     → ((stands ≡ true) × (t.cause ≡ cause)) ⊎ ((stands ≡ false) × L)
 told t true rest cause L go h = inl (refl, cc)
 told t false rest cause L go h = inr (refl, go h)
 
-lowest_in : (n : ℕ) (ts : List Test) (l : Option Limit) (cause : Cause) → rises n ts ≡ true → first_cause ts (option_map Full l) ≡ Some cause → IsLowestIn ts l cause
+lowest_in : (n : ℕ) (ts : List Test) (l : Option Limit) (cause : Cause) → rises n ts ≡ true
+    → first_cause ts (option_map Full l) ≡ Some cause → IsLowestIn ts l cause
 lowest_in n [] l cause up h = record {
   stands = inr h;
   lowest = λ other is. up_to_limit cause l other (none_is_there other l is);
 }
 lowest_in n (t ∷ ts) l cause up h =
     let above = (both (nat_le n (number_of t.cause)) (rises (number_of t.cause) ts) up).1 in
-    lowest_of n t ts l cause up (told t t.stands (first_cause ts (option_map Full l)) cause (IsLowestIn ts l cause) (lowest_in (number_of t.cause) ts l cause above) h)
+    lowest_of n t ts l cause up
+    (told t t.stands (first_cause ts (option_map Full l)) cause (IsLowestIn ts l cause)
+    (lowest_in (number_of t.cause) ts l cause above) h)
 
 -- where none is told none stands
-none_told : (stands : Bool) (cause : Cause) (rest : Option Cause) → cond stands (Some cause) rest ≡ None → (stands ≡ false) × (rest ≡ None)
+none_told : (stands : Bool) (cause : Cause) (rest : Option Cause) → cond stands (Some cause) rest ≡ None
+    → (stands ≡ false) × (rest ≡ None)
 none_told true cause rest h = cc
 none_told false cause rest h = (refl, h)
 
-none_in : (ts : List Test) (l : Option Limit) → first_cause ts (option_map Full l) ≡ None → (other : Cause) → StandsIn ts l other → ⊥
+none_in : (ts : List Test) (l : Option Limit) → first_cause ts (option_map Full l) ≡ None → (other : Cause)
+    → StandsIn ts l other → ⊥
 none_in [] l h other s = let e = none_is_there other l s in cc
 none_in (t ∷ ts) l h other s =
-    let n = none_told t.stands t.cause (first_cause ts (option_map Full l)) h in none_in ts l n.1 other (later t ts l other n.0 s)
+    let n = none_told t.stands t.cause (first_cause ts (option_map Full l)) h in
+    none_in ts l n.1 other (later t ts l other n.0 s)
 
-by_answer : (b : Parts) (s : Step) (answer : Option Cause) → refusal b s ≡ answer → MatchOption answer ((other : Cause) → Stands b s other → ⊥) (IsLowest b s)
+by_answer : (b : Parts) (s : Step) (answer : Option Cause) → refusal b s ≡ answer
+    → MatchOption answer ((other : Cause) → Stands b s other → ⊥) (IsLowest b s)
 by_answer b s None h = none_in (causes b s) (broken_limit (raw b s)) h
 by_answer b s (Some cause) h =
-    let lowest = lowest_in 0 (causes b s) (broken_limit (raw b s)) cause (each_rises b s) h in record { stands = lowest.stands; lowest = lowest.lowest }
+    let lowest = lowest_in 0 (causes b s) (broken_limit (raw b s)) cause (each_rises b s) h in
+    record { stands = lowest.stands; lowest = lowest.lowest }
 
 pub lowest_is_told : LowestIsTold
 lowest_is_told b s = by_answer b s (refusal b s) refl

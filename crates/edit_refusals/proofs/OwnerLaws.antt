@@ -33,7 +33,9 @@ module _ {H : Type 0} (name_of : H → List ℕ) (at : Level) (targets count i :
     pub goes_in : IsName (name_of x.head) → NoneStands tests_of → GoesIn
     goes_in named (target, (place, (generator, (range, end)))) = record {
       place = up_to count i place;
-      is = owner_from_tests name_of at targets x named (record { targets = target; operators = generator; ranges = range });
+      is =
+          owner_from_tests name_of at targets x named
+          (record { targets = target; operators = generator; ranges = range });
     }
 
     pub tests_add : GoesIn → NoneStands tests_of
@@ -42,8 +44,16 @@ module _ {H : Type 0} (name_of : H → List ℕ) (at : Level) (targets count i :
         (t.targets, (not_above count i g.place, (t.operators, (t.ranges, tt))))
 
 -- where no test stands, the limit is told that the counted records break
-pub by_records : {H : Type 0} (b : Parts) (s : Step) (at : Level) (x : WithZones H) (t : Totals) (more : Records) (found : Option Limit) (r : Result (Unit {0}) Cause)
-    → NoneStands (causes b s) → broken_limit (raw b s) ≡ broken (with_owner at (totals_of b) (records_of_owner x)) → t ≡ totals_of b → more ≡ all_counted (records_of_owner x)
-    → ((n : Records) → more ≡ all_counted n → found ≡ broken (with_owner at t n)) → Judges (option_map Full found) r → Judges (refusal b s) r
+pub by_records : {H : Type 0} (b : Parts) (s : Step) (at : Level) (x : WithZones H) (t : Totals) (more : Records)
+    (found : Option Limit) (r : Result (Unit {0}) Cause)
+    → NoneStands (causes b s) → broken_limit (raw b s) ≡ broken (with_owner at (totals_of b) (records_of_owner x))
+    → t ≡ totals_of b → more ≡ all_counted (records_of_owner x)
+    → ((n : Records) → more ≡ all_counted n → found ≡ broken (with_owner at t n)) → Judges (option_map Full found) r
+    → Judges (refusal b s) r
 by_records b s at x t more found r tests limit same counted sums h =
-    by_limit b s found r tests (limit ∙ sym (sums (records_of_owner x) counted ∙ ap (λ (u : Totals). broken (with_owner at u (records_of_owner x))) same)) h
+    by_limit b s found r tests
+    (limit
+    ∙ sym
+    (sums (records_of_owner x) counted
+    ∙ ap (λ (u : Totals). broken (with_owner at u (records_of_owner x))) same))
+    h

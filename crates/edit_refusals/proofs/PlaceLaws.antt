@@ -30,51 +30,75 @@ counted None k h = let none = below 0 k h in absurd (omega (arith, none))
 counted (Some n) k h = below n k h
 
 -- what a place holds that no test refuses
-pub place_found : (b : Parts) (o : Owner) (at : Place) → (no_such_owner b o).stands ≡ false → (no_such_zone_at b o at).stands ≡ false → (s : Settings) × (settings_of b o at ≡ Some s)
-place_found b (Preset p) place.Global owner zone = settings_there b.presets p there.Global (below (length b.presets) p owner)
-place_found b (Preset p) (place.Zone k) owner zone = settings_there b.presets p (there.Zone k) (counted (zone_count_at b.presets p) k zone)
-place_found b (Instrument i) place.Global owner zone = settings_there b.instruments i there.Global (below (length b.instruments) i owner)
-place_found b (Instrument i) (place.Zone k) owner zone = settings_there b.instruments i (there.Zone k) (counted (zone_count_at b.instruments i) k zone)
+pub place_found : (b : Parts) (o : Owner) (at : Place) → (no_such_owner b o).stands ≡ false
+    → (no_such_zone_at b o at).stands ≡ false → (s : Settings) × (settings_of b o at ≡ Some s)
+place_found b (Preset p) place.Global owner zone =
+    settings_there b.presets p there.Global (below (length b.presets) p owner)
+place_found b (Preset p) (place.Zone k) owner zone =
+    settings_there b.presets p (there.Zone k) (counted (zone_count_at b.presets p) k zone)
+place_found b (Instrument i) place.Global owner zone =
+    settings_there b.instruments i there.Global (below (length b.instruments) i owner)
+place_found b (Instrument i) (place.Zone k) owner zone =
+    settings_there b.instruments i (there.Zone k) (counted (zone_count_at b.instruments i) k zone)
 
-pub mods_found : (b : Parts) (o : Owner) (at : Place) (s : Settings) → settings_of b o at ≡ Some s → mods_of b o at ≡ Some s.mods
-mods_found b (Preset p) at s e = mods_of_settings b.presets p (zone_place at) ∙ ap (option_map (λ (s : Settings). s.mods)) e
-mods_found b (Instrument i) at s e = mods_of_settings b.instruments i (zone_place at) ∙ ap (option_map (λ (s : Settings). s.mods)) e
+pub mods_found : (b : Parts) (o : Owner) (at : Place) (s : Settings) → settings_of b o at ≡ Some s
+    → mods_of b o at ≡ Some s.mods
+mods_found b (Preset p) at s e =
+    mods_of_settings b.presets p (zone_place at) ∙ ap (option_map (λ (s : Settings). s.mods)) e
+mods_found b (Instrument i) at s e =
+    mods_of_settings b.instruments i (zone_place at) ∙ ap (option_map (λ (s : Settings). s.mods)) e
 
-pub mods_there_are : (b : Parts) (o : Owner) (at : Place) (s : Settings) → settings_of b o at ≡ Some s → mods_there b o at ≡ s.mods
+pub mods_there_are : (b : Parts) (o : Owner) (at : Place) (s : Settings) → settings_of b o at ≡ Some s
+    → mods_there b o at ≡ s.mods
 mods_there_are b o at s e = ap (λ (mods : Option (List Modulator)). unwrap_or mods []) (mods_found b o at s e)
 
 -- as the methods of a bank ask it
 
-pub some_settings : (b : Parts) (o : Owner) (at : Place) (s : Settings) → settings_of b o at ≡ Some s → IsSome (settings_of b o at)
+pub some_settings : (b : Parts) (o : Owner) (at : Place) (s : Settings) → settings_of b o at ≡ Some s
+    → IsSome (settings_of b o at)
 some_settings b o at s e = rw e refl
 
-pub there_found : (b : Parts) (o : Owner) (at : Place) → (no_such_owner b o).stands ≡ false → (no_such_zone_at b o at).stands ≡ false → IsSome (settings_of b o at)
+pub there_found : (b : Parts) (o : Owner) (at : Place) → (no_such_owner b o).stands ≡ false
+    → (no_such_zone_at b o at).stands ≡ false → IsSome (settings_of b o at)
 there_found b o at owner zone = let (s, e) = place_found b o at owner zone in some_settings b o at s e
 
-pub mods_hold : (b : Parts) (o : Owner) (at : Place) (s : Settings) → settings_of b o at ≡ Some s → (P : List Modulator → Type 0) → P s.mods → IfSome (mods_of b o at) P
+pub mods_hold : (b : Parts) (o : Owner) (at : Place) (s : Settings) → settings_of b o at ≡ Some s
+    → (P : List Modulator → Type 0) → P s.mods → IfSome (mods_of b o at) P
 mods_hold b o at s e P h = rw (mods_found b o at s e) h
 
 -- ---- after a change of the place
 
-as_many : {H : Type 0} (at : ZonePlace) (f : Settings → Settings) (x : WithZones H) → length (settings_changed at f x).zones ≡ length x.zones
+as_many : {H : Type 0} (at : ZonePlace) (f : Settings → Settings) (x : WithZones H)
+    → length (settings_changed at f x).zones ≡ length x.zones
 as_many there.Global f x = refl
 as_many (there.Zone k) f x = length-changed x.zones k (λ (z : Zone). zone_with_settings (f (settings_of_zone z)) z)
 
-zone_counts_stay : {H : Type 0} (owners : List (WithZones H)) (i : ℕ) (at : ZonePlace) (f : Settings → Settings) → zone_count_at (place_changed owners i at f) i ≡ zone_count_at owners i
-zone_counts_stay {H} owners i at f = changed_unseen (option_map (λ (x : WithZones H). length x.zones)) owners i i (settings_changed at f) (λ (x : WithZones H). ap Some (as_many at f x))
+zone_counts_stay : {H : Type 0} (owners : List (WithZones H)) (i : ℕ) (at : ZonePlace) (f : Settings → Settings)
+    → zone_count_at (place_changed owners i at f) i ≡ zone_count_at owners i
+zone_counts_stay {H} owners i at f =
+    changed_unseen (option_map (λ (x : WithZones H). length x.zones)) owners i i (settings_changed at f)
+    (λ (x : WithZones H). ap Some (as_many at f x))
 
-pub zone_total_stays : (b : Parts) (o : Owner) (at : Place) (f : Settings → Settings) → zone_total (own_place_changed b o at f) o ≡ zone_total b o
-zone_total_stays b (Preset p) at f = ap (λ (n : Option ℕ). unwrap_or n 0) (zone_counts_stay b.presets p (zone_place at) f)
-zone_total_stays b (Instrument i) at f = ap (λ (n : Option ℕ). unwrap_or n 0) (zone_counts_stay b.instruments i (zone_place at) f)
+pub zone_total_stays : (b : Parts) (o : Owner) (at : Place) (f : Settings → Settings)
+    → zone_total (own_place_changed b o at f) o ≡ zone_total b o
+zone_total_stays b (Preset p) at f =
+    ap (λ (n : Option ℕ). unwrap_or n 0) (zone_counts_stay b.presets p (zone_place at) f)
+zone_total_stays b (Instrument i) at f =
+    ap (λ (n : Option ℕ). unwrap_or n 0) (zone_counts_stay b.instruments i (zone_place at) f)
 
-pub owner_stays_there : (b : Parts) (o : Owner) (at : Place) (f : Settings → Settings) → (no_such_owner b o).stands ≡ false → (no_such_owner (own_place_changed b o at f) o).stands ≡ false
-owner_stays_there b (Preset p) at f h = ap (λ n. nat_le n p) (length-changed b.presets p (settings_changed (zone_place at) f)) ∙ h
-owner_stays_there b (Instrument i) at f h = ap (λ n. nat_le n i) (length-changed b.instruments i (settings_changed (zone_place at) f)) ∙ h
+pub owner_stays_there : (b : Parts) (o : Owner) (at : Place) (f : Settings → Settings)
+    → (no_such_owner b o).stands ≡ false → (no_such_owner (own_place_changed b o at f) o).stands ≡ false
+owner_stays_there b (Preset p) at f h =
+    ap (λ n. nat_le n p) (length-changed b.presets p (settings_changed (zone_place at) f)) ∙ h
+owner_stays_there b (Instrument i) at f h =
+    ap (λ n. nat_le n i) (length-changed b.instruments i (settings_changed (zone_place at) f)) ∙ h
 
-pub place_stays_there : (b : Parts) (o : Owner) (at : Place) (f : Settings → Settings) → (no_such_zone_at b o at).stands ≡ false → (no_such_zone_at (own_place_changed b o at f) o at).stands ≡ false
+pub place_stays_there : (b : Parts) (o : Owner) (at : Place) (f : Settings → Settings)
+    → (no_such_zone_at b o at).stands ≡ false → (no_such_zone_at (own_place_changed b o at f) o at).stands ≡ false
 place_stays_there b o place.Global f h = refl
 place_stays_there b o (place.Zone k) f h = ap (λ n. nat_le n k) (zone_total_stays b o (place.Zone k) f) ∙ h
 
 -- what the place holds then
-pub settings_after : (b : Parts) (o : Owner) (at : Place) (f : Settings → Settings) (s : Settings) → settings_of b o at ≡ Some s → settings_of (own_place_changed b o at f) o at ≡ Some (f s)
+pub settings_after : (b : Parts) (o : Owner) (at : Place) (f : Settings → Settings) (s : Settings)
+    → settings_of b o at ≡ Some s → settings_of (own_place_changed b o at f) o at ≡ Some (f s)
 settings_after b o at f s e = settings_read b o at f ∙ ap (option_map f) e

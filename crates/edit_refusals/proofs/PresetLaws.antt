@@ -11,7 +11,8 @@ use Rattle.bank_parts.specs.Counts.{records_of_owner}
 use Rattle.bank_validity.specs.Limits.{totals_of, broken, broken_limit, with_owner}
 use Rattle.bank_validity.proofs.LimitLaws.{no_limit_of}
 use Rattle.bank_changes.specs.Presets.{preset_added, preset_removed, preset_moved, head_set}
-use Rattle.bank_changes.proofs.PresetLaws.{totals-added_preset, totals-preset_moved, totals-head_set, sound_added_preset, sound_removed_preset, preset_moved_sound}
+use Rattle.bank_changes.proofs.PresetLaws.{totals-added_preset, totals-preset_moved, totals-head_set}
+use Rattle.bank_changes.proofs.PresetLaws.{sound_added_preset, sound_removed_preset, preset_moved_sound}
 use Rattle.edit_forms.specs.declared.presets.PresetStep.TheVariants.{AddPreset, RemovePreset, MovePreset, SetHead}
 use Rattle.edit_forms.specs.declared.step.Step.TheVariants as steps
 use Rattle.edit_forms.specs.declared.cause.Cause.TheVariants.{NoSuchPreset, NoSuchInstrument}
@@ -31,13 +32,18 @@ module _ (b : Parts) (i : ℕ) (p : WithZones Head) where
 
   pub preset_goes : FitsOwner FitsHead p → refusal b (steps.Preset (AddPreset i p)) ≡ None → PresetGoes
   preset_goes fits h =
-      goes_in (λ (h : Head). h.name) level.Preset (length b.instruments) (length b.presets) i p NoSuchInstrument fits.head.name (accepted b (steps.Preset (AddPreset i p)) h).tests
+      goes_in (λ (h : Head). h.name) level.Preset (length b.instruments) (length b.presets) i p NoSuchInstrument
+      fits.head.name (accepted b (steps.Preset (AddPreset i p)) h).tests
 
-  pub sound_add_preset : IsSound b → FitsOwner FitsHead p → refusal b (steps.Preset (AddPreset i p)) ≡ None → IsSound (preset_added b i p)
-  sound_add_preset sound fits h = let g = preset_goes fits h in sound_added_preset b i p sound g.is fits (accepted b (steps.Preset (AddPreset i p)) h).limits
+  pub sound_add_preset : IsSound b → FitsOwner FitsHead p → refusal b (steps.Preset (AddPreset i p)) ≡ None
+      → IsSound (preset_added b i p)
+  sound_add_preset sound fits h =
+      let g = preset_goes fits h in
+      sound_added_preset b i p sound g.is fits (accepted b (steps.Preset (AddPreset i p)) h).limits
 
   -- the limit that the sums tell
-  pub limit_add_preset : i ≤ length b.presets → broken_limit (preset_added b i p) ≡ broken (with_owner level.Preset (totals_of b) (records_of_owner p))
+  pub limit_add_preset : i ≤ length b.presets
+      → broken_limit (preset_added b i p) ≡ broken (with_owner level.Preset (totals_of b) (records_of_owner p))
   limit_add_preset le = ap broken (totals-added_preset b i p le)
 
 -- ---- remove-preset
@@ -61,7 +67,8 @@ module _ (b : Parts) (i j : ℕ) where
   pub sound_move_preset : IsSound b → refusal b (steps.Preset (MovePreset i j)) ≡ None → IsSound (preset_moved b i j)
   sound_move_preset sound h = let m = moves_preset h in preset_moved_sound b i j m.there m.place sound
 
-  pub within_move_preset : IsValid b → i < length b.presets → j < length b.presets → broken_limit (preset_moved b i j) ≡ None
+  pub within_move_preset : IsValid b → i < length b.presets → j < length b.presets
+      → broken_limit (preset_moved b i j) ≡ None
   within_move_preset v lt lu = ap broken (totals-preset_moved b i j lt lu) ∙ no_limit_of b v.limits
 
 -- ---- set-head

@@ -1,5 +1,6 @@
 -- The forms that edit samples: what acceptance says of each.
-use Rattle.std.proofs.Common.{◌≡◌, ◌<◌, ◌≤◌, ◌+◌, ℕ, nat_le, nat_lt, false, List, length, Option, Some, None, refl, ◌∙◌, ap, true}
+use Rattle.std.proofs.Common.{◌≡◌, ◌<◌, ◌≤◌, ◌+◌, ℕ, nat_le, nat_lt, false, List, length, Option, Some, None, refl}
+use Rattle.std.proofs.Common.{◌∙◌, ap, true}
 use Rattle.bank_parts.specs.declared.parts.Kind.{Kind}
 use Rattle.bank_parts.specs.declared.parts.Kind.TheVariants.{Mono, Right, Left, Linked}
 use Rattle.bank_parts.specs.declared.parts.Sample.{Sample}
@@ -11,7 +12,8 @@ use Rattle.bank_validity.specs.Limits.{totals_of, broken, broken_limit, with_sam
 use Rattle.bank_validity.proofs.LimitLaws.{no_limit_of}
 use Rattle.bank_changes.specs.Samples.{sample_in_use, sample_renamed, sample_added, sample_removed, sample_moved}
 use Rattle.bank_changes.proofs.Everywhere.{or_left, or_right, or_none}
-use Rattle.bank_changes.proofs.SampleLaws.{totals-renamed, totals-added, totals-moved, added_sound, removed_sound, moved_sound}
+use Rattle.bank_changes.proofs.SampleLaws.{totals-renamed, totals-added, totals-moved, added_sound, removed_sound}
+use Rattle.bank_changes.proofs.SampleLaws.{moved_sound}
 use Rattle.edit_forms.specs.declared.samples.SampleStep.TheVariants.{RenameSample, AddSample, RemoveSample, MoveSample}
 use Rattle.edit_forms.specs.declared.step.Step.TheVariants as steps
 use Rattle.edit_forms.specs.declared.cause.Cause.TheVariants.{NoSuchSample}
@@ -39,7 +41,10 @@ hit_link n (Linked x) h = not_below n x h
 
 pub loop_hits : (n : ℕ) (l : Option (ℕ × ℕ)) → loop_misses n l ≡ false → IsLoop n l
 loop_hits n None h = tt
-loop_hits n (Some l) h = (below l.1 l.0 (or_left (nat_le l.1 l.0) (nat_lt n l.1) h), up_to n l.1 (or_right (nat_le l.1 l.0) (nat_lt n l.1) h))
+loop_hits n (Some l) h = (
+  below l.1 l.0 (or_left (nat_le l.1 l.0) (nat_lt n l.1) h),
+  up_to n l.1 (or_right (nat_le l.1 l.0) (nat_lt n l.1) h),
+)
 
 pub hit_loop : (n : ℕ) (l : Option (ℕ × ℕ)) → IsLoop n l → loop_misses n l ≡ false
 hit_loop n None h = refl
@@ -63,19 +68,31 @@ module _ (b : Parts) (i : ℕ) (s : Sample) where
     pub looped : IsLoop (length s.points) s.looped
 
   pub goes_in : NoneStands (causes b (steps.Sample (AddSample i s))) → Goes
-  goes_in (link, (place, (looped, end))) = record { link = link_hits (length b.samples + 1) s.kind link; place = up_to (length b.samples) i place; looped = loop_hits (length s.points) s.looped looped }
+  goes_in (link, (place, (looped, end))) =
+      record {
+        link =
+            link_hits (length b.samples + 1) s.kind link;
+        place =
+            up_to (length b.samples) i place;
+        looped = loop_hits (length s.points) s.looped looped;
+      }
 
   pub tests_add : Goes → NoneStands (causes b (steps.Sample (AddSample i s)))
-  tests_add g = (hit_link (length b.samples + 1) s.kind g.link, (not_above (length b.samples) i g.place, (hit_loop (length s.points) s.looped g.looped, tt)))
+  tests_add g = (
+    hit_link (length b.samples + 1) s.kind g.link,
+    (not_above (length b.samples) i g.place, (hit_loop (length s.points) s.looped g.looped, tt)),
+  )
 
-  pub sound_add : IsSound b → FitsSample s → refusal b (steps.Sample (AddSample i s)) ≡ None → IsSound (sample_added b i s)
+  pub sound_add : IsSound b → FitsSample s → refusal b (steps.Sample (AddSample i s)) ≡ None
+      → IsSound (sample_added b i s)
   sound_add sound fits h =
       let a = accepted b (steps.Sample (AddSample i s)) h in
       let g = goes_in a.tests in
       added_sound b i s sound g.place (record { name = fits.name; looped = g.looped; kind = g.link }) fits a.limits
 
   -- the limit that the sums tell
-  pub limit_add : i ≤ length b.samples → broken_limit (sample_added b i s) ≡ broken (with_sample (totals_of b) (length s.points))
+  pub limit_add : i ≤ length b.samples
+      → broken_limit (sample_added b i s) ≡ broken (with_sample (totals_of b) (length s.points))
   limit_add le = ap broken (totals-added b i s le)
 
 -- ---- remove-sample
@@ -89,9 +106,12 @@ module _ (b : Parts) (i : ℕ) where
   comes_out (there, (free, end)) = record { there = below (length b.samples) i there; free = free }
 
   pub sound_remove : IsSound b → refusal b (steps.Sample (RemoveSample i)) ≡ None → IsSound (sample_removed b i)
-  sound_remove sound h = let c = comes_out (accepted b (steps.Sample (RemoveSample i)) h).tests in removed_sound b i sound c.there c.free
+  sound_remove sound h =
+      let c = comes_out (accepted b (steps.Sample (RemoveSample i)) h).tests in
+      removed_sound b i sound c.there c.free
 
-  pub within_remove : IsSound b → i < length b.samples → sample_in_use b i ≡ false → broken_limit (sample_removed b i) ≡ None
+  pub within_remove : IsSound b → i < length b.samples → sample_in_use b i ≡ false
+      → broken_limit (sample_removed b i) ≡ None
   within_remove sound lt free = no_limit_of (sample_removed b i) (removed_sound b i sound lt free).valid.limits
 
 -- ---- move-sample
@@ -103,7 +123,8 @@ module _ (b : Parts) (i j : ℕ) where
   pub sound_move_sample : IsSound b → refusal b (steps.Sample (MoveSample i j)) ≡ None → IsSound (sample_moved b i j)
   sound_move_sample sound h = let m = moves_sample h in moved_sound b i j m.there m.place sound
 
-  pub within_move_sample : IsValid b → i < length b.samples → j < length b.samples → broken_limit (sample_moved b i j) ≡ None
+  pub within_move_sample : IsValid b → i < length b.samples → j < length b.samples
+      → broken_limit (sample_moved b i j) ≡ None
   within_move_sample v lt lu = ap broken (totals-moved b i j lt lu) ∙ no_limit_of b v.limits
 
 -- ---- the order of their causes

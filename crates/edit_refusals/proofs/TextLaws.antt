@@ -1,5 +1,6 @@
 -- The form that edits a text: what acceptance says of it.
-use Rattle.std.proofs.Common.{◌≡◌, ◌<◌, ◌==◌, ◌&&◌, ◌||◌, ℕ, Bool, true, false, nat_lt, List, length, None, refl, ◌∙◌, ap, arith}
+use Rattle.std.proofs.Common.{◌≡◌, ◌<◌, ◌==◌, ◌&&◌, ◌||◌, ℕ, Bool, true, false, nat_lt, List, length, None, refl}
+use Rattle.std.proofs.Common.{◌∙◌, ap, arith}
 use Rattle.std.proofs.lemmas.Bool.Decides.{nat_tests}
 use Rattle.std.specs.List.{list_any}
 use Rattle.sf_base.specs.Names.{IsTextByte}
@@ -56,7 +57,9 @@ module _ (id : InfoId) (text : List ℕ) where
       record {
         fits = (
           up_to (most_bytes id) (length text) (or_left too_long (has_zero || is_empty) h),
-          all_both (λ byte. byte < 256) (λ byte. (byte == 0) ≡ false) IsTextByte (λ byte lt ne. (not_zero byte ne, lt)) text f (none_passes (λ byte. byte == 0) text (or_left has_zero is_empty rest)),
+          all_both (λ byte. byte < 256) (λ byte. (byte == 0) ≡ false) IsTextByte
+              (λ byte lt ne. (not_zero byte ne, lt)) text f
+              (none_passes (λ byte. byte == 0) text (or_left has_zero is_empty rest)),
         );
         there = zero_there (is_engine id) (or_right has_zero is_empty rest);
       }
@@ -67,14 +70,17 @@ module _ (id : InfoId) (text : List ℕ) where
       or_none too_long (has_zero || is_empty)
       (not_above (most_bytes id) (length text) h.fits.0)
       (or_none has_zero is_empty
-      (passes_none (λ byte. byte == 0) text (all_weaker IsTextByte (λ byte. (byte == 0) ≡ false) (λ byte k. over_zero byte k.0) text h.fits.1))
+      (passes_none (λ byte. byte == 0) text
+      (all_weaker IsTextByte (λ byte. (byte == 0) ≡ false) (λ byte k. over_zero byte k.0) text h.fits.1))
       (there_zero (is_engine id) h.there))
 
 -- ---- set-info
 
 module _ (b : Parts) (id : InfoId) (text : List ℕ) where
-  pub sound_set_info : IsSound b → FitsText text → refusal b (steps.Text (SetInfo id text)) ≡ None → IsSound (info_set b id text)
-  sound_set_info sound fits h = info_sound b id text sound (good_text id text fits (accepted b (steps.Text (SetInfo id text)) h).tests.0)
+  pub sound_set_info : IsSound b → FitsText text → refusal b (steps.Text (SetInfo id text)) ≡ None
+      → IsSound (info_set b id text)
+  sound_set_info sound fits h =
+      info_sound b id text sound (good_text id text fits (accepted b (steps.Text (SetInfo id text)) h).tests.0)
 
   pub within_set_info : IsValid b → broken_limit (info_set b id text) ≡ None
   within_set_info v = ap broken (totals-info b id text) ∙ no_limit_of b v.limits

@@ -1,5 +1,6 @@
 -- The forms that edit zones: what acceptance says of each.
-use Rattle.std.proofs.Common.{◌≡◌, ◌<◌, ◌≤◌, ◌^◌, ◌||◌, ℕ, false, nat_le, List, [], ◌∷◌, length, Option, Some, None, unwrap_or, refl, ◌∙◌, ap, arith, ◌+◌, Bool, true, not, subst}
+use Rattle.std.proofs.Common.{◌≡◌, ◌<◌, ◌≤◌, ◌^◌, ◌||◌, ℕ, false, nat_le, List, [], ◌∷◌, length, Option, Some, None}
+use Rattle.std.proofs.Common.{unwrap_or, refl, ◌∙◌, ap, arith, ◌+◌, Bool, true, not, subst}
 use Rattle.std.specs.Prelude.{IsSomeAnd, slice_get}
 use Rattle.sf_base.specs.Names.{IsName}
 use Rattle.numbered_lists.proofs.Lists.{slice_get-found, slice_get-within}
@@ -21,9 +22,12 @@ use Rattle.bank_parts.proofs.UndoneLaws.{zones_there}
 use Rattle.bank_changes.specs.declared.members.Owner.{Owner}
 use Rattle.bank_changes.specs.declared.members.Owner.TheVariants as owner
 use Rattle.bank_changes.specs.Members.{own_zone_count, level_of, target_count, zones_of}
-use Rattle.bank_changes.specs.Zones.{zone_added, zone_removed, zone_moved, target_set, zone_split, zone_joined, can_split, can_join}
-use Rattle.bank_changes.proofs.ZoneChangeLaws.{sound_zone_added, sound_zone_removed, sound_zone_moved, sound_target_set, totals-zone_moved, totals-target_set, own_count}
-use Rattle.edit_forms.specs.declared.zones.ZoneStep.TheVariants.{AddZone, RemoveZone, MoveZone, SetTarget, SplitZone, JoinZone}
+use Rattle.bank_changes.specs.Zones.{zone_added, zone_removed, zone_moved, target_set, zone_split, zone_joined}
+use Rattle.bank_changes.specs.Zones.{can_split, can_join}
+use Rattle.bank_changes.proofs.ZoneChangeLaws.{sound_zone_added, sound_zone_removed, sound_zone_moved}
+use Rattle.bank_changes.proofs.ZoneChangeLaws.{sound_target_set, totals-zone_moved, totals-target_set, own_count}
+use Rattle.edit_forms.specs.declared.zones.ZoneStep.TheVariants.{AddZone, RemoveZone, MoveZone, SetTarget, SplitZone}
+use Rattle.edit_forms.specs.declared.zones.ZoneStep.TheVariants.{JoinZone}
 use Rattle.edit_forms.specs.declared.step.Step.TheVariants as steps
 use Rattle.edit_forms.specs.Causes.{zone_total, no_such_owner}
 use Rattle.edit_forms.specs.Steps.{refusal, causes}
@@ -41,15 +45,19 @@ use Rattle.edit_refusals.proofs.Rises.{rises}
 -- ---- owners and their zones
 
 -- an owner that is there has so many zones
-pub total_there : (b : Parts) (o : Owner) (P : ℕ → Type 0) → (no_such_owner b o).stands ≡ false → P (zone_total b o) → IsSomeAnd (own_zone_count b o) P
-total_there b (owner.Preset p) P h k = let (x, e) = slice_get-found b.presets p (below (length b.presets) p h) in rw e (rw e at k)
-total_there b (owner.Instrument i) P h k = let (x, e) = slice_get-found b.instruments i (below (length b.instruments) i h) in rw e (rw e at k)
+pub total_there : (b : Parts) (o : Owner) (P : ℕ → Type 0) → (no_such_owner b o).stands ≡ false → P (zone_total b o)
+    → IsSomeAnd (own_zone_count b o) P
+total_there b (owner.Preset p) P h k =
+    let (x, e) = slice_get-found b.presets p (below (length b.presets) p h) in rw e (rw e at k)
+total_there b (owner.Instrument i) P h k =
+    let (x, e) = slice_get-found b.instruments i (below (length b.instruments) i h) in rw e (rw e at k)
 
 pub total_is : (o : Option ℕ) (P : ℕ → Type 0) → IsSomeAnd o P → P (unwrap_or o 0)
 total_is None P h = absurd h
 total_is (Some n) P h = h
 
-pub owner_is_there : (b : Parts) (o : Owner) (P : ℕ → Type 0) → IsSomeAnd (own_zone_count b o) P → (no_such_owner b o).stands ≡ false
+pub owner_is_there : (b : Parts) (o : Owner) (P : ℕ → Type 0) → IsSomeAnd (own_zone_count b o) P
+    → (no_such_owner b o).stands ≡ false
 owner_is_there b (owner.Preset p) P h =
     let t = zones_there b.presets p P h in
     let x = source (λ x. x.zones) (slice_get b.presets p) t.member t.there in
@@ -68,12 +76,17 @@ module _ (at : Level) (count : ℕ) (zone : Zone) where
   abbrev alone : WithZones (List ℕ)
   alone = record { head = []; global = settings_of_zone zone; zones = zone ∷ [] }
 
-  pub zone_from_tests : nat_le count zone.target ≡ false → sets_foreign at zone.gens ≡ false → sets_bad_range zone.gens ≡ false → IsZone at count zone
+  pub zone_from_tests : nat_le count zone.target ≡ false → sets_foreign at zone.gens ≡ false
+      → sets_bad_range zone.gens ≡ false → IsZone at count zone
   zone_from_tests target operators ranges =
       let is : IsOwner (λ name. name) at count alone = owner_from_tests (λ name. name) at count alone no_name (record {
         targets = or_none (nat_le count zone.target) false target refl;
-        operators = or_none (sets_foreign at zone.gens) (sets_foreign at zone.gens || false) operators (or_none (sets_foreign at zone.gens) false operators refl);
-        ranges = or_none (sets_bad_range zone.gens) (sets_bad_range zone.gens || false) ranges (or_none (sets_bad_range zone.gens) false ranges refl);
+        operators =
+            or_none (sets_foreign at zone.gens) (sets_foreign at zone.gens || false) operators
+            (or_none (sets_foreign at zone.gens) false operators refl);
+        ranges =
+            or_none (sets_bad_range zone.gens) (sets_bad_range zone.gens || false) ranges
+            (or_none (sets_bad_range zone.gens) false ranges refl);
       }) in
       is.zones.zones.0
 
@@ -84,7 +97,9 @@ module _ (at : Level) (count : ℕ) (zone : Zone) where
 
   pub tests_from_zone : IsZone at count zone → ZonePasses
   tests_from_zone is =
-      let t = tests_from_owner (λ name. name) at count alone (record { name = no_name; zones = record { global = is.gens; zones = (is, tt) } }) in
+      let t =
+      tests_from_owner (λ name. name) at count alone
+      (record { name = no_name; zones = record { global = is.gens; zones = (is, tt) } }) in
       record {
         target = or_left (nat_le count zone.target) false t.targets;
         operators = or_left (sets_foreign at zone.gens) (sets_foreign at zone.gens || false) t.operators;
@@ -107,10 +122,13 @@ module _ (b : Parts) (o : Owner) (at : ℕ) (zone : Zone) where
   pub tests_add_zone : ZoneGoes → NoneStands (causes b (steps.Zone o (AddZone at zone)))
   tests_add_zone g =
       let t = tests_from_zone (level_of o) (target_count b o) zone g.is in
-      let place = total_is (own_zone_count b o) (λ count. at ≤ count) g.place in
-      (owner_is_there b o (λ count. at ≤ count) g.place, (t.target, (not_above (zone_total b o) at place, (t.operators, (t.ranges, tt)))))
+      let place = total_is (own_zone_count b o) (λ count. at ≤ count) g.place in (
+        owner_is_there b o (λ count. at ≤ count) g.place,
+        (t.target, (not_above (zone_total b o) at place, (t.operators, (t.ranges, tt)))),
+      )
 
-  pub sound_add_zone : IsSound b → FitsZone zone → refusal b (steps.Zone o (AddZone at zone)) ≡ None → IsSound (zone_added b o at zone)
+  pub sound_add_zone : IsSound b → FitsZone zone → refusal b (steps.Zone o (AddZone at zone)) ≡ None
+      → IsSound (zone_added b o at zone)
   sound_add_zone sound fits h =
       let a = accepted b (steps.Zone o (AddZone at zone)) h in
       let g = zone_goes a.tests in
@@ -119,20 +137,28 @@ module _ (b : Parts) (o : Owner) (at : ℕ) (zone : Zone) where
 -- ---- remove-zone
 
 module _ (b : Parts) (o : Owner) (k : ℕ) where
-  pub zone_comes : NoneStands (causes b (steps.Zone o (RemoveZone k))) → IsSomeAnd (own_zone_count b o) (λ count. k < count)
+  pub zone_comes : NoneStands (causes b (steps.Zone o (RemoveZone k)))
+      → IsSomeAnd (own_zone_count b o) (λ count. k < count)
   zone_comes (there, (zone, end)) = total_there b o (λ count. k < count) there (below (zone_total b o) k zone)
 
-  pub tests_remove_zone : IsSomeAnd (own_zone_count b o) (λ count. k < count) → NoneStands (causes b (steps.Zone o (RemoveZone k)))
-  tests_remove_zone h = (owner_is_there b o (λ count. k < count) h, (not_below (zone_total b o) k (total_is (own_zone_count b o) (λ count. k < count) h), tt))
+  pub tests_remove_zone : IsSomeAnd (own_zone_count b o) (λ count. k < count)
+      → NoneStands (causes b (steps.Zone o (RemoveZone k)))
+  tests_remove_zone h = (
+    owner_is_there b o (λ count. k < count) h,
+    (not_below (zone_total b o) k (total_is (own_zone_count b o) (λ count. k < count) h), tt),
+  )
 
-  pub comes_of_remove_zone : refusal b (steps.Zone o (RemoveZone k)) ≡ None → IsSomeAnd (own_zone_count b o) (λ count. k < count)
+  pub comes_of_remove_zone : refusal b (steps.Zone o (RemoveZone k)) ≡ None
+      → IsSomeAnd (own_zone_count b o) (λ count. k < count)
   comes_of_remove_zone h = zone_comes (accepted b (steps.Zone o (RemoveZone k)) h).tests
 
   pub sound_remove_zone : IsSound b → refusal b (steps.Zone o (RemoveZone k)) ≡ None → IsSound (zone_removed b o k)
   sound_remove_zone sound h = sound_zone_removed b o k (comes_of_remove_zone h) sound
 
-  pub within_remove_zone : IsSound b → NoneStands (causes b (steps.Zone o (RemoveZone k))) → broken_limit (zone_removed b o k) ≡ None
-  within_remove_zone sound h = no_limit_of (zone_removed b o k) (sound_zone_removed b o k (zone_comes h) sound).valid.limits
+  pub within_remove_zone : IsSound b → NoneStands (causes b (steps.Zone o (RemoveZone k)))
+      → broken_limit (zone_removed b o k) ≡ None
+  within_remove_zone sound h =
+      no_limit_of (zone_removed b o k) (sound_zone_removed b o k (zone_comes h) sound).valid.limits
 
 -- ---- move-zone
 
@@ -159,11 +185,14 @@ module _ (b : Parts) (o : Owner) (from to : ℕ) where
   pub moves_of_move_zone : refusal b (steps.Zone o (MoveZone from to)) ≡ None → ZoneMoves
   moves_of_move_zone h = zone_moves (accepted b (steps.Zone o (MoveZone from to)) h).tests
 
-  pub sound_move_zone : IsSound b → refusal b (steps.Zone o (MoveZone from to)) ≡ None → IsSound (zone_moved b o from to)
+  pub sound_move_zone : IsSound b → refusal b (steps.Zone o (MoveZone from to)) ≡ None
+      → IsSound (zone_moved b o from to)
   sound_move_zone sound h = sound_zone_moved b o from to (moves_of_move_zone h).there sound
 
-  pub within_move_zone : IsSound b → NoneStands (causes b (steps.Zone o (MoveZone from to))) → broken_limit (zone_moved b o from to) ≡ None
-  within_move_zone sound h = ap broken (totals-zone_moved b o from to (zone_moves h).there) ∙ no_limit_of b sound.valid.limits
+  pub within_move_zone : IsSound b → NoneStands (causes b (steps.Zone o (MoveZone from to)))
+      → broken_limit (zone_moved b o from to) ≡ None
+  within_move_zone sound h =
+      ap broken (totals-zone_moved b o from to (zone_moves h).there) ∙ no_limit_of b sound.valid.limits
 
 -- ---- set-target
 
@@ -190,11 +219,15 @@ module _ (b : Parts) (o : Owner) (k target : ℕ) where
   pub goes_of_set_target : refusal b (steps.Zone o (SetTarget k target)) ≡ None → TargetGoes
   goes_of_set_target h = target_goes (accepted b (steps.Zone o (SetTarget k target)) h).tests
 
-  pub sound_set_target : IsSound b → target < 2 ^ 16 → refusal b (steps.Zone o (SetTarget k target)) ≡ None → IsSound (target_set b o k target)
-  sound_set_target sound fits h = let g = goes_of_set_target h in sound_target_set b o k target g.there sound g.target_is fits
+  pub sound_set_target : IsSound b → target < 2 ^ 16 → refusal b (steps.Zone o (SetTarget k target)) ≡ None
+      → IsSound (target_set b o k target)
+  sound_set_target sound fits h =
+      let g = goes_of_set_target h in sound_target_set b o k target g.there sound g.target_is fits
 
-  pub within_set_target : IsSound b → NoneStands (causes b (steps.Zone o (SetTarget k target))) → broken_limit (target_set b o k target) ≡ None
-  within_set_target sound h = ap broken (totals-target_set b o k target (target_goes h).there) ∙ no_limit_of b sound.valid.limits
+  pub within_set_target : IsSound b → NoneStands (causes b (steps.Zone o (SetTarget k target)))
+      → broken_limit (target_set b o k target) ≡ None
+  within_set_target sound h =
+      ap broken (totals-target_set b o k target (target_goes h).there) ∙ no_limit_of b sound.valid.limits
 
 -- ---- what is there
 
@@ -206,7 +239,8 @@ is_not : (t : Bool) → t ≡ true → not t ≡ false
 is_not true h = refl
 is_not false h = cc
 
-few_zones : {H : Type 0} (owners : List (WithZones H)) (i : ℕ) (x : WithZones H) → slice_get owners i ≡ Some x → owner_total zone_count owners ≤ ZONES → length x.zones < 2 ^ 32
+few_zones : {H : Type 0} (owners : List (WithZones H)) (i : ℕ) (x : WithZones H) → slice_get owners i ≡ Some x
+    → owner_total zone_count owners ≤ ZONES → length x.zones < 2 ^ 32
 few_zones {H} owners i x e within =
     let sum = sum-removed (λ (x : WithZones H). global_count x.global + length x.zones) owners i x e in
     omega (arith, sum, within)
@@ -214,10 +248,12 @@ few_zones {H} owners i x e within =
 few_there : (b : Parts) (o : Owner) (zones : List Zone) → IsSound b → zones_of b o ≡ Some zones → length zones < 2 ^ 32
 few_there b (owner.Preset p) zones sound e =
     let x = source (λ (x : WithZones Head). x.zones) (slice_get b.presets p) zones e in
-    subst (λ (zs : List Zone). length zs < 2 ^ 32) x.seen (few_zones b.presets p x.member x.there sound.valid.limits.preset_zones)
+    subst (λ (zs : List Zone). length zs < 2 ^ 32) x.seen
+    (few_zones b.presets p x.member x.there sound.valid.limits.preset_zones)
 few_there b (owner.Instrument i) zones sound e =
     let x = source (λ (x : WithZones (List ℕ)). x.zones) (slice_get b.instruments i) zones e in
-    subst (λ (zs : List Zone). length zs < 2 ^ 32) x.seen (few_zones b.instruments i x.member x.there sound.valid.limits.instrument_zones)
+    subst (λ (zs : List Zone). length zs < 2 ^ 32) x.seen
+    (few_zones b.instruments i x.member x.there sound.valid.limits.instrument_zones)
 
 -- ---- split-zone
 
@@ -228,16 +264,24 @@ module _ (b : Parts) (o : Owner) (k : ℕ) (axis : Axis) (m : ℕ) where
   pub tests_split_zone : can_split b o k axis m ≡ true → NoneStands (causes b (steps.Zone o (SplitZone k axis m)))
   tests_split_zone can =
       let s = split b o k axis m can in
-      let zone = own_count b o s.own.zones (λ count. k < count) s.own.there (slice_get-within s.own.zones k s.own.zone s.own.at) in (
+      let zone =
+      own_count b o s.own.zones (λ count. k < count) s.own.there
+      (slice_get-within s.own.zones k s.own.zone s.own.at) in (
         owner_is_there b o (λ count. k < count) zone,
-        (not_below (zone_total b o) k (total_is (own_zone_count b o) (λ count. k < count) zone), (is_not (can_split b o k axis m) can, tt)),
+        (
+          not_below (zone_total b o) k (total_is (own_zone_count b o) (λ count. k < count) zone),
+          (is_not (can_split b o k axis m) can, tt),
+        ),
       )
 
   pub can_of_split_zone : refusal b (steps.Zone o (SplitZone k axis m)) ≡ None → can_split b o k axis m ≡ true
   can_of_split_zone h = can_of_split (accepted b (steps.Zone o (SplitZone k axis m)) h).tests
 
-  pub sound_split_zone : IsSound b → refusal b (steps.Zone o (SplitZone k axis m)) ≡ None → IsSound (zone_split b o k axis m)
-  sound_split_zone sound h = let a = accepted b (steps.Zone o (SplitZone k axis m)) h in sound_zone_split b o k axis m (can_of_split a.tests) sound a.limits
+  pub sound_split_zone : IsSound b → refusal b (steps.Zone o (SplitZone k axis m)) ≡ None
+      → IsSound (zone_split b o k axis m)
+  sound_split_zone sound h =
+      let a = accepted b (steps.Zone o (SplitZone k axis m)) h in
+      sound_zone_split b o k axis m (can_of_split a.tests) sound a.limits
 
 -- ---- join-zone
 
@@ -250,17 +294,24 @@ module _ (b : Parts) (o : Owner) (k : ℕ) (axis : Axis) (keep : Keep) where
       let s = join b o k axis keep can in
       let next = next_is_there b o k axis keep can in (
         owner_is_there b o (λ count. k + 1 < count) next,
-        (not_below (zone_total b o) (k + 1) (total_is (own_zone_count b o) (λ count. k + 1 < count) next), (is_not (can_join b o k axis keep) can, tt)),
+        (
+          not_below (zone_total b o) (k + 1) (total_is (own_zone_count b o) (λ count. k + 1 < count) next),
+          (is_not (can_join b o k axis keep) can, tt),
+        ),
       )
 
   pub can_of_join_zone : refusal b (steps.Zone o (JoinZone k axis keep)) ≡ None → can_join b o k axis keep ≡ true
   can_of_join_zone h = can_of_join (accepted b (steps.Zone o (JoinZone k axis keep)) h).tests
 
-  pub sound_join_zone : IsSound b → refusal b (steps.Zone o (JoinZone k axis keep)) ≡ None → IsSound (zone_joined b o k axis keep)
+  pub sound_join_zone : IsSound b → refusal b (steps.Zone o (JoinZone k axis keep)) ≡ None
+      → IsSound (zone_joined b o k axis keep)
   sound_join_zone sound h = sound_zone_joined b o k axis keep (can_of_join_zone h) sound
 
-  pub within_join_zone : IsSound b → NoneStands (causes b (steps.Zone o (JoinZone k axis keep))) → broken_limit (zone_joined b o k axis keep) ≡ None
-  within_join_zone sound h = no_limit_of (zone_joined b o k axis keep) (sound_zone_joined b o k axis keep (can_of_join h) sound).valid.limits
+  pub within_join_zone : IsSound b → NoneStands (causes b (steps.Zone o (JoinZone k axis keep)))
+      → broken_limit (zone_joined b o k axis keep) ≡ None
+  within_join_zone sound h =
+      no_limit_of (zone_joined b o k axis keep)
+      (sound_zone_joined b o k axis keep (can_of_join h) sound).valid.limits
 
   -- the second zone's number is one of 32 bits
   pub next_of_join_zone : IsSound b → refusal b (steps.Zone o (JoinZone k axis keep)) ≡ None → k + 1 < 2 ^ 32

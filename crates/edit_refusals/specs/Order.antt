@@ -18,7 +18,9 @@ NumbersNeverFall = (b : Parts) (s : Step) → IsNonDecreasingBy (λ (t : Test). 
 
 -- a test of the step that stands has the cause, or it is the first limit that the changed bank would break
 abbrev pub Stands : Parts → Step → Cause → Type 0
-Stands b s cause = Any (λ (t : Test). (t.stands ≡ true) × (t.cause ≡ cause)) (causes b s) ⊎ (option_map Full (broken_limit (raw b s)) ≡ Some cause)
+Stands b s cause =
+    Any (λ (t : Test). (t.stands ≡ true) × (t.cause ≡ cause)) (causes b s)
+    ⊎ (option_map Full (broken_limit (raw b s)) ≡ Some cause)
 
 -- it stands, and none that stands has a lower number
 pub record IsLowest (b : Parts) (s : Step) (cause : Cause) : Type 0 where
@@ -27,4 +29,5 @@ pub record IsLowest (b : Parts) (s : Step) (cause : Cause) : Type 0 where
 
 -- a cause is told that is the lowest, and none only where none stands
 abbrev pub LowestIsTold : Type 0
-LowestIsTold = (b : Parts) (s : Step) → MatchOption (refusal b s) ((other : Cause) → Stands b s other → ⊥) (IsLowest b s)
+LowestIsTold =
+    (b : Parts) (s : Step) → MatchOption (refusal b s) ((other : Cause) → Stands b s other → ⊥) (IsLowest b s)

@@ -2,7 +2,8 @@
 use Rattle.std.specs.Prelude.{ℕ, List, codes}
 use Rattle.edit_forms.specs.CauseNames.{number_of, name_of}
 use Rattle.edit_refusals.specs.declared.refusal.Refusal.{Refusal}
-use Rattle.edit_refusals.specs.declared.refusal.Refusal.TheVariants.{Of, OutOfMemory, NothingToUndo, NothingToRedo, GroupRefused}
+use Rattle.edit_refusals.specs.declared.refusal.Refusal.TheVariants.{Of, OutOfMemory, NothingToUndo, NothingToRedo}
+use Rattle.edit_refusals.specs.declared.refusal.Refusal.TheVariants.{GroupRefused}
 
 abbrev pub refusal_number : Refusal → ℕ
 refusal_number (Of cause) = number_of cause

@@ -42,7 +42,8 @@ edit_fits said e h = all_fit e h.operands h.says (all_ranged said h.operands h.t
 lines_fit : (n : ℕ) (ls : List (List ℕ)) (edits : List Line) → LinesSay n ls edits → LinesFit edits
 lines_fit n [] edits h = subst LinesFit (sym h) tt
 lines_fit n (l ∷ ls) edits (inl h) = lines_fit (suc n) ls edits h.1
-lines_fit n (l ∷ ls) edits (inr h) = subst LinesFit (sym h.parts) (edit_fits h.said h.edit h.form, lines_fit (suc n) ls h.more h.follow)
+lines_fit n (l ∷ ls) edits (inr h) =
+    subst LinesFit (sym h.parts) (edit_fits h.said h.edit h.form, lines_fit (suc n) ls h.more h.follow)
 
 pub spelled_fit : (text : List ℕ) (edits : List Line) → Spells text edits → LinesFit edits
 spelled_fit text edits h = lines_fit 1 (lines_of text) edits h
@@ -51,6 +52,7 @@ pub script_fits : (text : List ℕ) (lines : List Line) → script_of text ≡ O
 script_fits text lines e = spelled_fit text lines (read_spelled text lines e)
 
 -- so does what a call answers
-pub answers_fit : {X : Type 0} (text : List ℕ) (view : X → List Line) (r : Result X (Failure ScriptFault)) → Answers view r (script_of text) → IfOk r (λ x. LinesFit (view x))
+pub answers_fit : {X : Type 0} (text : List ℕ) (view : X → List Line) (r : Result X (Failure ScriptFault))
+    → Answers view r (script_of text) → IfOk r (λ x. LinesFit (view x))
 answers_fit text view (Ok x) h = script_fits text (view x) h
 answers_fit text view (Err failure) h = tt

@@ -1,5 +1,6 @@
 -- What is read as a step or as a group of steps, the line says.
-use Rattle.std.proofs.Common.{◌≡◌, Bool, true, false, List, [], ◌∷◌, ◌++◌, codes, Ok, refl, sym, ap, subst, append_assoc, ◌∙◌}
+use Rattle.std.proofs.Common.{◌≡◌, Bool, true, false, List, [], ◌∷◌, ◌++◌, codes, Ok, refl, sym, ap, subst}
+use Rattle.std.proofs.Common.{append_assoc, ◌∙◌}
 use Rattle.std.proofs.lemmas.List.{append-nil}
 use Rattle.edit_forms.specs.declared.step.Step.{Step}
 use Rattle.edit_forms.specs.declared.edit.Edit.{Edit}
@@ -15,7 +16,8 @@ use Rattle.step_script.specs.Grammar.{step}
 use Rattle.step_script.specs.Spelling.{SaysWhole}
 use Rattle.step_script.proofs.SaidLaws.{SaidFront, IsSaid, behind, behind_said, none}
 use Rattle.step_script.proofs.StepLaws.{step_said}
-use Rattle.edit_script.specs.Grammar.{in_braces, SaysSteps, SaysAll, braced_step, is_over, with_step, steps_left, group, one, one_or_group}
+use Rattle.edit_script.specs.Grammar.{in_braces, SaysSteps, SaysAll, braced_step, is_over, with_step, steps_left}
+use Rattle.edit_script.specs.Grammar.{group, one, one_or_group}
 use Rattle.edit_script.proofs.StepsLaws.{group_first, one_first}
 
 -- `{ STEP }`
@@ -27,7 +29,8 @@ unfolding braced_step
 braced_said =
     behind (fixed (codes "{")) _ IsBraced (λ o. Fixed (codes "{") ∷ []) (fixed_front (codes "{")) (λ o.
     behind_said step _ (λ s os. IsBraced s (Fixed (codes "{") ∷ os)) {S = SaysWhole} step_said (λ s w h.
-    behind (fixed (codes "}")) _ (λ x os. IsBraced x (Fixed (codes "{") ∷ (w ++ os))) (λ c. Fixed (codes "}") ∷ []) (fixed_front (codes "}")) (λ c.
+    behind (fixed (codes "}")) _ (λ x os. IsBraced x (Fixed (codes "{") ∷ (w ++ os))) (λ c. Fixed (codes "}")
+    ∷ []) (fixed_front (codes "}")) (λ c.
     none s (λ x more. IsBraced x (Fixed (codes "{") ∷ (w ++ (Fixed (codes "}") ∷ more)))) (w, refl, h))))
 
 -- ---- the steps that are left
@@ -39,21 +42,43 @@ record SaidSteps (ss : List Step) (line : List Said) (t : Took (List Step)) : Ty
   pub fronts : Fronts line t.rest operands
   pub stands : ss ++ steps ≡ t.value
 
-no_more : (ss : List Step) (line : List Said) (t : Took (List Step)) → AllHoldBytes line → pure ss line ≡ Ok t → SaidSteps ss line t
+no_more : (ss : List Step) (line : List Said) (t : Took (List Step)) → AllHoldBytes line → pure ss line ≡ Ok t
+    → SaidSteps ss line t
 no_more ss line t h e =
     let same : record { value = ss; rest = line } ≡ t = made ss line t e in
-    subst (SaidSteps ss line) same (record { steps = []; operands = []; says = refl; fronts = record { says = λ more k. k; holds = h }; stands = append-nil ss })
+    subst (SaidSteps ss line) same
+    (record {
+      steps =
+          [];
+      operands =
+          [];
+      says = refl;
+      fronts = record { says = λ more k. k; holds = h };
+      stands = append-nil ss;
+    })
 
-more_steps : (ss : List Step) (line : List Said) (x : Took Step) (t : Took (List Step)) → SaidFront IsBraced line x → SaidSteps (with_step ss x.value) x.rest t → SaidSteps ss line t
+more_steps : (ss : List Step) (line : List Said) (x : Took Step) (t : Took (List Step)) → SaidFront IsBraced line x
+    → SaidSteps (with_step ss x.value) x.rest t → SaidSteps ss line t
 more_steps ss line x t b s = record {
   steps = x.value ∷ s.steps;
   operands = b.operands ++ s.operands;
-  says = record { operands = b.says.0; more = s.operands; parts = ap (λ (os : List Operand). os ++ s.operands) b.says.1; says = b.says.2; follow = s.says };
+  says =
+      record {
+        operands =
+            b.says.0;
+        more =
+            s.operands;
+        parts =
+            ap (λ (os : List Operand). os ++ s.operands) b.says.1;
+        says = b.says.2;
+        follow = s.says;
+      };
   fronts = then b.operands s.operands b.fronts s.fronts;
   stands = sym (append_assoc ss (x.value ∷ []) s.steps) ∙ s.stands;
 }
 
-left_front : (ss : List Step) (line : List Said) (t : Took (List Step)) → AllHoldBytes line → steps_left ss line ≡ Ok t → SaidSteps ss line t
+left_front : (ss : List Step) (line : List Said) (t : Took (List Step)) → AllHoldBytes line
+    → steps_left ss line ≡ Ok t → SaidSteps ss line t
 unfolding steps_left
 left_front ss line t h e =
     repeated_reads is_over pure braced_step with_step SaidSteps (λ ss line t h over e. no_more ss line t h e)
@@ -62,7 +87,12 @@ left_front ss line t h e =
 steps_said : IsSaid (List Step) (steps_left []) SaysSteps
 steps_said line t h e =
     let s = left_front [] line t h e in
-    record { operands = s.operands; says = subst (λ (ss : List Step). SaysSteps ss s.operands) s.stands s.says; fronts = s.fronts }
+    record {
+      operands =
+          s.operands;
+      says = subst (λ (ss : List Step). SaysSteps ss s.operands) s.stands s.says;
+      fronts = s.fronts;
+    }
 
 -- ---- an edit
 
@@ -70,13 +100,16 @@ group_said : IsSaid Edit group SaysAll
 unfolding group
 group_said =
     behind (fixed (codes "group")) _ SaysAll (λ w. Fixed (codes "group") ∷ []) (fixed_front (codes "group")) (λ w.
-    behind_said (steps_left []) _ (λ e os. SaysAll e (Fixed (codes "group") ∷ os)) {S = SaysSteps} steps_said (λ ss os h.
+    behind_said (steps_left []) _ (λ e os. SaysAll e (Fixed (codes "group") ∷ os)) {S = SaysSteps} steps_said
+    (λ ss os h.
     none (Group ss) (λ e more. SaysAll e (Fixed (codes "group") ∷ (os ++ more)))
     (record { braces = os ++ []; parts = refl; says = subst (SaysSteps ss) (sym (append-nil os)) h })))
 
 one_said : IsSaid Edit one SaysAll
 unfolding one
-one_said = behind_said step _ SaysAll {S = SaysWhole} step_said (λ s os h. none (One s) (λ e more. SaysAll e (os ++ more)) (subst (SaysWhole s) (sym (append-nil os)) h))
+one_said =
+    behind_said step _ SaysAll {S = SaysWhole} step_said
+    (λ s os h. none (One s) (λ e more. SaysAll e (os ++ more)) (subst (SaysWhole s) (sym (append-nil os)) h))
 
 pub edit_said : IsSaid Edit one_or_group SaysAll
 edit_said line t h e = from (is_next (codes "group") line) refl

@@ -12,13 +12,17 @@ use Rattle.script_grammar.proofs.ZoneSpellLaws.{next_word, nothing_ends, brace_e
 use Rattle.step_script.specs.Grammar.{form_word, form_of}
 use Rattle.step_script.specs.Spelling.{SaysWhole}
 use Rattle.step_script.proofs.StepLaws.{gives_step, not_group}
-use Rattle.edit_script.specs.Grammar.{in_braces, SaysSteps, SaysGroup, SaysAll, braced_step, is_over, with_step, steps_left, group, one, one_or_group}
+use Rattle.edit_script.specs.Grammar.{in_braces, SaysSteps, SaysGroup, SaysAll, braced_step, is_over, with_step}
+use Rattle.edit_script.specs.Grammar.{steps_left, group, one, one_or_group}
 use Rattle.edit_script.proofs.StepsLaws.{steps_end, steps_go_on, group_first, one_first}
 
-gives_braced : (s : Step) (os more : List Operand) → SaysWhole s os → (line : List Said) → AllSay line (in_braces os ++ more) → Gives braced_step s line more
+gives_braced : (s : Step) (os more : List Operand) → SaysWhole s os → (line : List Said)
+    → AllSay line (in_braces os ++ more) → Gives braced_step s line more
 unfolding braced_step
 gives_braced s os more h line k =
-    let says : AllSay line (Fixed (codes "{") ∷ (os ++ Fixed (codes "}") ∷ more)) = subst (λ (all : List Operand). AllSay line (Fixed (codes "{") ∷ all)) (append_assoc os (Fixed (codes "}") ∷ []) more) k in
+    let says : AllSay line (Fixed (codes "{") ∷ (os ++ Fixed (codes "}") ∷ more)) =
+    subst (λ (all : List Operand). AllSay line (Fixed (codes "{") ∷ all))
+    (append_assoc os (Fixed (codes "}") ∷ []) more) k in
     then _ (gives_fixed (codes "{") line (os ++ Fixed (codes "}") ∷ more) says) (λ rest k.
     then _ (gives_step s os (Fixed (codes "}") ∷ more) (brace_ends more) h rest k) (λ rest k.
     then _ (gives_fixed (codes "}") rest more k) (λ rest k. gives_pure s rest more k)))
@@ -31,34 +35,58 @@ some_left : (line : List Said) (o : Operand) (more : List Operand) → AllSay li
 some_left [] o more h = absurd h
 some_left (s ∷ line) o more h = refl
 
-gives_steps_left : (ms : List Step) (os : List Operand) (ss : List Step) → SaysSteps ms os → (line : List Said) → AllSay line os → Gives (steps_left ss) (ss ++ ms) line []
+gives_steps_left : (ms : List Step) (os : List Operand) (ss : List Step) → SaysSteps ms os → (line : List Said)
+    → AllSay line os → Gives (steps_left ss) (ss ++ ms) line []
 gives_steps_left [] os ss h line k =
     let says : AllSay line [] = subst (AllSay line) h k in
-    record { rest = line; is = steps_end ss line (none_left line says) ∙ ap (λ (all : List Step). Ok (record { value = all; rest = line })) (sym (append-nil ss)); says = says }
+    record {
+      rest =
+          line;
+      is =
+          steps_end ss line (none_left line says)
+          ∙ ap (λ (all : List Step). Ok (record { value = all; rest = line })) (sym (append-nil ss));
+      says =
+          says;
+    }
 gives_steps_left (m ∷ ms) os ss h line k =
     let says : AllSay line (in_braces h.operands ++ h.more) = subst (AllSay line) h.parts k in
     let g = gives_braced m h.operands h.more h.says line says in
     let l = gives_steps_left ms h.more (with_step ss m) h.follow g.rest g.says in
     record {
       rest = l.rest;
-      is = steps_go_on ss line _ (some_left line (Fixed (codes "{")) ((h.operands ++ Fixed (codes "}") ∷ []) ++ h.more) says) g.is ∙ l.is ∙ ap (λ (all : List Step). Ok (record { value = all; rest = l.rest })) (append_assoc ss (m ∷ []) ms);
+      is =
+          steps_go_on ss line _
+          (some_left line (Fixed (codes "{")) ((h.operands ++ Fixed (codes "}") ∷ []) ++ h.more) says) g.is
+          ∙ l.is
+          ∙ ap (λ (all : List Step). Ok (record { value = all; rest = l.rest })) (append_assoc ss (m ∷ []) ms);
       says = l.says;
     }
 
-gives_group : (ss : List Step) (os : List Operand) → SaysGroup ss os → (line : List Said) → AllSay line os → Gives group (Group ss) line []
+gives_group : (ss : List Step) (os : List Operand) → SaysGroup ss os → (line : List Said) → AllSay line os
+    → Gives group (Group ss) line []
 unfolding group
 gives_group ss os h line k =
     then _ (gives_fixed (codes "group") line h.braces (subst (AllSay line) h.parts k)) (λ rest k.
     then _ (gives_steps_left ss h.braces [] h.says rest k) (λ rest k. gives_pure (Group ss) rest [] k))
 
-gives_one : (s : Step) (os : List Operand) → SaysWhole s os → (line : List Said) → AllSay line os → Gives one (One s) line []
+gives_one : (s : Step) (os : List Operand) → SaysWhole s os → (line : List Said) → AllSay line os
+    → Gives one (One s) line []
 unfolding one
-gives_one s os h line k = then _ (gives_step s os [] nothing_ends h line (subst (AllSay line) (sym (append-nil os)) k)) (λ rest k. gives_pure (One s) rest [] k)
+gives_one s os h line k =
+    then _ (gives_step s os [] nothing_ends h line (subst (AllSay line) (sym (append-nil os)) k))
+    (λ rest k. gives_pure (One s) rest [] k)
 
-no_group : (s : Step) (os : List Operand) → SaysWhole s os → (line : List Said) → AllSay line os → is_next (codes "group") line ≡ false
-no_group s os h line k = next_word (form_word (form_of s)) (codes "group") line h.operands (subst (AllSay line) h.parts k) ∙ not_group (form_of s)
+no_group : (s : Step) (os : List Operand) → SaysWhole s os → (line : List Said) → AllSay line os
+    → is_next (codes "group") line ≡ false
+no_group s os h line k =
+    next_word (form_word (form_of s)) (codes "group") line h.operands (subst (AllSay line) h.parts k)
+    ∙ not_group (form_of s)
 
-pub gives_edit : (e : Edit) (os : List Operand) → SaysAll e os → (line : List Said) → AllSay line os → Gives one_or_group e line []
-gives_edit (One s) os h line k = as_other one one_or_group (One s) line [] (one_first line (no_group s os h line k)) (gives_one s os h line k)
+pub gives_edit : (e : Edit) (os : List Operand) → SaysAll e os → (line : List Said) → AllSay line os
+    → Gives one_or_group e line []
+gives_edit (One s) os h line k =
+    as_other one one_or_group (One s) line [] (one_first line (no_group s os h line k)) (gives_one s os h line k)
 gives_edit (Group ss) os h line k =
-    as_other group one_or_group (Group ss) line [] (group_first line (next_word (codes "group") (codes "group") line h.braces (subst (AllSay line) h.parts k))) (gives_group ss os h line k)
+    as_other group one_or_group (Group ss) line []
+    (group_first line (next_word (codes "group") (codes "group") line h.braces (subst (AllSay line) h.parts k)))
+    (gives_group ss os h line k)

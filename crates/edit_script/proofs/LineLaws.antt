@@ -1,5 +1,6 @@
 -- The printed lines of edits spell those edits.
-use Rattle.std.proofs.Common.{◌≡◌, ◌++◌, ℕ, suc, true, List, [], ◌∷◌, map, codes, Ok, refl, sym, ap, subst, inl, inr, ◌∙◌}
+use Rattle.std.proofs.Common.{◌≡◌, ◌++◌, ℕ, suc, true, List, [], ◌∷◌, map, codes, Ok, refl, sym, ap, subst, inl, inr}
+use Rattle.std.proofs.Common.{◌∙◌}
 use Rattle.std.specs.List.{flat_map, list_all, AllByRecursion}
 use Rattle.edit_forms.specs.declared.step.Step.{Step}
 use Rattle.edit_forms.specs.declared.edit.Edit.{Edit}
@@ -47,7 +48,8 @@ word_fixed (Group ss) = (refl, refl)
 -- ---- what fits can be said
 
 braced_fit : (s : Step) → FitsStep s → operand.AllFit (braced s)
-braced_fit s h = ((refl, refl), both_fit (step_operands s) (Fixed (codes "}") ∷ []) (form_fixed (form_of s), operands_fit s h) ((refl, refl), tt))
+braced_fit s h =
+    ((refl, refl), both_fit (step_operands s) (Fixed (codes "}") ∷ []) (form_fixed (form_of s), operands_fit s h) ((refl, refl), tt))
 
 all_braced_fit : (ss : List Step) → AllByRecursion FitsStep ss → operand.AllFit (flat_map braced ss)
 all_braced_fit [] h = tt
@@ -64,7 +66,16 @@ whole_printed s = record { operands = operands s; parts = refl; says = step_prin
 
 steps_printed : (ss : List Step) → SaysSteps ss (flat_map braced ss)
 steps_printed [] = refl
-steps_printed (s ∷ ss) = record { operands = step_operands s; more = flat_map braced ss; parts = refl; says = whole_printed s; follow = steps_printed ss }
+steps_printed (s ∷ ss) =
+    record {
+      operands =
+          step_operands s;
+      more =
+          flat_map braced ss;
+      parts = refl;
+      says = whole_printed s;
+      follow = steps_printed ss;
+    }
 
 edit_printed : (e : Edit) → SaysAll e (Fixed (word e) ∷ behind e)
 edit_printed (One s) = whole_printed s
@@ -72,8 +83,11 @@ edit_printed (Group ss) = record { braces = flat_map braced ss; parts = refl; sa
 
 -- ---- lines
 
-edit_lines : (e : Edit) (rest : List ℕ) → FitsEdit e → lines_of (text_of e ++ rest) ≡ line (word e) (pieces_of (behind e)) ∷ lines_of rest
-edit_lines e rest h = ap (λ (t : List ℕ). lines_of (t ++ rest)) (text_is e) ∙ line_first (word e) (pieces_of (behind e)) rest (word_fixed e).1 (all_spoken (behind e) (behind_fit e h))
+edit_lines : (e : Edit) (rest : List ℕ) → FitsEdit e
+    → lines_of (text_of e ++ rest) ≡ line (word e) (pieces_of (behind e)) ∷ lines_of rest
+edit_lines e rest h =
+    ap (λ (t : List ℕ). lines_of (t ++ rest)) (text_is e)
+    ∙ line_first (word e) (pieces_of (behind e)) rest (word_fixed e).1 (all_spoken (behind e) (behind_fit e h))
 
 texts_say : (n : ℕ) (es : List Edit) → AllFit es → LinesSay n (lines_of (texts_of es)) (numbered n es)
 texts_say n [] h = subst (λ (ls : List (List ℕ)). LinesSay n ls []) (sym lines_none) refl
@@ -86,7 +100,9 @@ texts_say n (e ∷ es) h =
       more = numbered (suc n) es;
       parts = refl;
       tokens = line_says (word e) (pieces_of (behind e)) (word_fixed e).0 (all_spoken (behind e) fit);
-      form = record { operands = Fixed (word e) ∷ behind e; says = edit_printed e; tokens = (refl, all_say (behind e) fit) };
+      form =
+          record
+          { operands = Fixed (word e) ∷ behind e; says = edit_printed e; tokens = (refl, all_say (behind e) fit) };
       follow = texts_say (suc n) es h.1;
     }))
 
@@ -99,12 +115,14 @@ printed_spell es h = spelled_read (texts_of es) (numbered 1 es) (printed es h)
 -- ---- behind a comment, and without their numbers
 
 -- behind a line that is a comment they stand on line 2 and on
-pub printed_behind : (comment : List ℕ) (ps : List Piece) (es : List Edit) → list_all not_feed (35 ∷ comment) ≡ true → AllSpoken ps → AllFit es
+pub printed_behind : (comment : List ℕ) (ps : List Piece) (es : List Edit) → list_all not_feed (35 ∷ comment) ≡ true
+    → AllSpoken ps → AllFit es
     → script_of (line_text (35 ∷ comment) ps ++ texts_of es) ≡ Ok (numbered 2 es)
 printed_behind comment ps es f s h =
     let first = line (35 ∷ comment) ps in
     spelled_read (line_text (35 ∷ comment) ps ++ texts_of es) (numbered 2 es)
-    (subst (λ (ls : List (List ℕ)). LinesSay 1 ls (numbered 2 es)) (sym (line_first (35 ∷ comment) ps (texts_of es) f s))
+    (subst (λ (ls : List (List ℕ)). LinesSay 1 ls (numbered 2 es))
+    (sym (line_first (35 ∷ comment) ps (texts_of es) f s))
     (inl (record { blanks = []; rest = first; parts = refl; blank = refl; silent = refl }, texts_say 2 es h)))
 
 pub edits_numbered : (n : ℕ) (es : List Edit) → map (λ (l : Line). l.edit) (numbered n es) ≡ es

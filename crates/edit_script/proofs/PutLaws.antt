@@ -15,12 +15,18 @@ braced_text s = spaced_out (braced s)
 
 all_braced : (ss : List Step) → flat_map braced_text ss ≡ spaced_out (flat_map braced ss)
 all_braced [] = refl
-all_braced (s ∷ ss) = ap (λ (t : List ℕ). braced_text s ++ t) (all_braced ss) ∙ sym (spaced_both (braced s) (flat_map braced ss))
+all_braced (s ∷ ss) =
+    ap (λ (t : List ℕ). braced_text s ++ t) (all_braced ss) ∙ sym (spaced_both (braced s) (flat_map braced ss))
 
 module _ {W : Type 0} {c : W → Option (List ℕ)} where
-  pub puts_braced : {o p q r : Output W} (s : Step) → Puts c o p (spaced_out (Fixed (codes "{") ∷ Fixed (form_word (form_of s)) ∷ [])) → Puts c p q (spaced_out (operands s)) → Puts c q r (spaced_out (Fixed (codes "}") ∷ [])) → Puts c o r (braced_text s)
+  pub puts_braced : {o p q r : Output W} (s : Step)
+      → Puts c o p (spaced_out (Fixed (codes "{") ∷ Fixed (form_word (form_of s)) ∷ []))
+      → Puts c p q (spaced_out (operands s)) → Puts c q r (spaced_out (Fixed (codes "}") ∷ []))
+      → Puts c o r (braced_text s)
   puts_braced s h k l =
-      puts_both (Fixed (codes "{") ∷ step_operands s) (Fixed (codes "}") ∷ []) (puts_both (Fixed (codes "{") ∷ Fixed (form_word (form_of s)) ∷ []) (operands s) h k) l
+      puts_both (Fixed (codes "{") ∷ step_operands s) (Fixed (codes "}") ∷ [])
+      (puts_both (Fixed (codes "{") ∷ Fixed (form_word (form_of s)) ∷ []) (operands s) h k) l
 
-  pub puts_all_braced : {o p : Output W} (ss : List Step) → Puts c o p (flat_map braced_text ss) → Puts c o p (spaced_out (flat_map braced ss))
+  pub puts_all_braced : {o p : Output W} (ss : List Step) → Puts c o p (flat_map braced_text ss)
+      → Puts c o p (spaced_out (flat_map braced ss))
   puts_all_braced ss h = puts_as (flat_map braced_text ss) (spaced_out (flat_map braced ss)) (all_braced ss) h

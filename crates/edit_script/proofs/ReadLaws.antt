@@ -1,5 +1,6 @@
 -- What is read from a text, the text spells.
-use Rattle.std.proofs.Common.{◌≡◌, ℕ, suc, List, [], ◌∷◌, ◌++◌, map, Result, Ok, Err, refl, sym, ap, subst, ◌∙◌, append_assoc, inl, inr, ◌⊎◌}
+use Rattle.std.proofs.Common.{◌≡◌, ℕ, suc, List, [], ◌∷◌, ◌++◌, map, Result, Ok, Err, refl, sym, ap, subst, ◌∙◌}
+use Rattle.std.proofs.Common.{append_assoc, inl, inr, ◌⊎◌}
 use Rattle.std.specs.List.{AllByRecursion}
 use Rattle.std.specs.Result.{result_and}
 use Rattle.std.proofs.lemmas.List.{append-nil}
@@ -31,7 +32,9 @@ edit_says line t h e =
     subst (SaysEdit line) {x = s.first.value} c.1 (record {
       operands = g.operands;
       says = g.says;
-      tokens = subst (AllSay line) (append-nil g.operands) (g.fronts.says [] (subst (λ (r : List Said). AllSay r []) (sym c.0) tt));
+      tokens =
+          subst (AllSay line) (append-nil g.operands)
+          (g.fronts.says [] (subst (λ (r : List Said). AllSay r []) (sym c.0) tt));
     })
 
 -- ---- the lines
@@ -45,14 +48,20 @@ pub record Adds (n : ℕ) (said : List Said) (before after : List Line) : Type 0
 abbrev LineMakes : ℕ → List Said → List Line → List Line → Type 0
 LineMakes n said before after = ((said ≡ []) × (after ≡ before)) ⊎ Adds n said before after
 
-with_edit_makes : (n : ℕ) (said : List Said) (r : Result (Took Edit) LineFault) (before after : List Line) → ((t : Took Edit) → r ≡ Ok t → SaysEdit said t.value) → with_edit n before r ≡ Ok after → LineMakes n said before after
-with_edit_makes n said (Ok t) before after f e = let k : before ++ record { number = n; edit = t.value } ∷ [] ≡ after = cc in inr (record { edit = t.value; parts = sym k; form = f t refl })
+with_edit_makes : (n : ℕ) (said : List Said) (r : Result (Took Edit) LineFault) (before after : List Line)
+    → ((t : Took Edit) → r ≡ Ok t → SaysEdit said t.value) → with_edit n before r ≡ Ok after
+    → LineMakes n said before after
+with_edit_makes n said (Ok t) before after f e =
+    let k : before ++ record { number = n; edit = t.value } ∷ [] ≡ after = cc in
+    inr (record { edit = t.value; parts = sym k; form = f t refl })
 with_edit_makes n said (Err d) before after f e = cc
 
-line_makes : (n : ℕ) (said : List Said) (before after : List Line) → AllHoldBytes said → edit_of n said before ≡ Ok after → LineMakes n said before after
+line_makes : (n : ℕ) (said : List Said) (before after : List Line) → AllHoldBytes said
+    → edit_of n said before ≡ Ok after → LineMakes n said before after
 unfolding edit_of
 line_makes n [] before after h e = let k : before ≡ after = cc in inl (refl, sym k)
-line_makes n (s ∷ said) before after h e = with_edit_makes n (s ∷ said) (edit (s ∷ said)) before after (λ t k. edit_says (s ∷ said) t h k) e
+line_makes n (s ∷ said) before after h e =
+    with_edit_makes n (s ∷ said) (edit (s ∷ said)) before after (λ t k. edit_says (s ∷ said) t h k) e
 
 -- what lines make of the edits before them
 record LinesMake (n : ℕ) (ls : List (List ℕ)) (before after : List Line) : Type 0 where
@@ -60,7 +69,8 @@ record LinesMake (n : ℕ) (ls : List (List ℕ)) (before after : List Line) : T
   pub parts : after ≡ before ++ more
   pub say : LinesSay n ls more
 
-step_makes : (n : ℕ) (l : List ℕ) (ls : List (List ℕ)) (before between after : List Line) → LineSays l (said_in l) → LineMakes n (said_in l) before between → LinesMake (suc n) ls between after → LinesMake n (l ∷ ls) before after
+step_makes : (n : ℕ) (l : List ℕ) (ls : List (List ℕ)) (before between after : List Line) → LineSays l (said_in l)
+    → LineMakes n (said_in l) before between → LinesMake (suc n) ls between after → LinesMake n (l ∷ ls) before after
 step_makes n l ls before between after says (inl h) r = record {
   more = r.more;
   parts = r.parts ∙ ap (λ (x : List Line). x ++ r.more) h.1;
@@ -70,21 +80,37 @@ step_makes n l ls before between after says (inr h) r =
     let one : Line = record { number = n; edit = h.edit } in record {
       more = one ∷ r.more;
       parts = r.parts ∙ ap (λ (x : List Line). x ++ r.more) h.parts ∙ append_assoc before (one ∷ []) r.more;
-      say = inr (record { said = said_in l; edit = h.edit; more = r.more; parts = refl; tokens = says; form = h.form; follow = r.say });
+      say =
+          inr
+          (record {
+            said =
+                said_in l;
+            edit =
+                h.edit;
+            more = r.more;
+            parts = refl;
+            tokens = says;
+            form = h.form;
+            follow = r.say;
+          });
     }
 
-lines_make : (n : ℕ) (ls : List (List ℕ)) (before after : List Line) → AllByRecursion AllGood (map said_in ls) → gather edit_of n (map said_in ls) before ≡ Ok after → LinesMake n ls before after
+lines_make : (n : ℕ) (ls : List (List ℕ)) (before after : List Line) → AllByRecursion AllGood (map said_in ls)
+    → gather edit_of n (map said_in ls) before ≡ Ok after → LinesMake n ls before after
 lines_make n [] before after g e =
     let k : before ≡ after = cc (gather_none edit_of n before, e) in
     record { more = []; parts = sym k ∙ sym (append-nil before); say = refl }
 lines_make n (l ∷ ls) before after g e =
-    let t = through (edit_of n (said_in l) before) (λ ys. gather edit_of (suc n) (map said_in ls) ys) after (sym (gather_on edit_of n (said_in l) (map said_in ls) before) ∙ e) in
+    let t =
+    through (edit_of n (said_in l) before) (λ ys. gather edit_of (suc n) (map said_in ls) ys) after
+    (sym (gather_on edit_of n (said_in l) (map said_in ls) before) ∙ e) in
     let m = line_makes n (said_in l) before t.between (tokens_bytes (tokens_of l)) t.first in
     step_makes n l ls before t.between after (line_shown l g.0) m (lines_make (suc n) ls t.between after g.1 t.second)
 
 -- ---- the text
 
-pool_good : (text : List ℕ) (pool : Grown ℕ) (r : Grown Line) (edits : List Line) → pool_bytes text ≡ pool → result_and pool r ≡ Ok edits → AllByRecursion AllGood (said_lines text) × (r ≡ Ok edits)
+pool_good : (text : List ℕ) (pool : Grown ℕ) (r : Grown Line) (edits : List Line) → pool_bytes text ≡ pool
+    → result_and pool r ≡ Ok edits → AllByRecursion AllGood (said_lines text) × (r ≡ Ok edits)
 unfolding pool_bytes
 pool_good text (Ok pool) r edits p e = (lines_good 1 (said_lines text) [] pool p, e)
 pool_good text (Err f) r edits p e = cc

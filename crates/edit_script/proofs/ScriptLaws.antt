@@ -20,18 +20,24 @@ unfolding edit_of
 says_nothing n [] lines e = refl
 says_nothing n (s ∷ said) lines e = cc
 
-pub one_more : (n : ℕ) (said : List Said) (lines : List Line) → (said ≡ [] → ⊥) → edit_of n said lines ≡ with_edit n lines (edit said)
+pub one_more : (n : ℕ) (said : List Said) (lines : List Line) → (said ≡ [] → ⊥)
+    → edit_of n said lines ≡ with_edit n lines (edit said)
 unfolding edit_of
 one_more n [] lines some = absurd (some refl)
 one_more n (s ∷ said) lines some = refl
 
 -- the fault of a part that was not read
-pub not_read : {X Y : Type 0} (part : Part Y) (view : X → Y) (old new : Left) (failure : Failure LineFault) (fault : LineFault) → failure ≡ Fault fault → ReadsOrWants view part old new (Err failure) → part old.said ≡ Err fault
-not_read part view old new failure fault e h = subst (λ (f : Failure LineFault). ReadsOrWants view part old new (Err f)) e h
+pub not_read : {X Y : Type 0} (part : Part Y) (view : X → Y) (old new : Left) (failure : Failure LineFault)
+    (fault : LineFault)
+    → failure ≡ Fault fault → ReadsOrWants view part old new (Err failure) → part old.said ≡ Err fault
+not_read part view old new failure fault e h =
+    subst (λ (f : Failure LineFault). ReadsOrWants view part old new (Err f)) e h
 
 pub not_both : {b : Bool} → b ≡ true → b ≡ false → ⊥
 not_both p q = cc
 
-pub script_over_pool : (text pool : List ℕ) → pool_bytes text ≡ Ok pool → edits_in (lines_said_over pool (lines_of text)) ≡ script_of text
+pub script_over_pool : (text pool : List ℕ) → pool_bytes text ≡ Ok pool
+    → edits_in (lines_said_over pool (lines_of text)) ≡ script_of text
 unfolding script_of
-script_over_pool text pool e = ap edits_in (over_pool text pool e) ∙ ap (λ (r : Grown ℕ). result_and r (edits_in (said_lines text))) (sym e)
+script_over_pool text pool e =
+    ap edits_in (over_pool text pool e) ∙ ap (λ (r : Grown ℕ). result_and r (edits_in (said_lines text))) (sym e)

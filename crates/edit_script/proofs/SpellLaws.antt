@@ -1,5 +1,6 @@
 -- What a text spells is read from it.
-use Rattle.std.proofs.Common.{◌≡◌, ℕ, suc, List, [], ◌∷◌, ◌++◌, map, Ok, refl, sym, ap, subst, append_assoc, ◌∙◌, inl, inr}
+use Rattle.std.proofs.Common.{◌≡◌, ℕ, suc, List, [], ◌∷◌, ◌++◌, map, Ok, refl, sym, ap, subst, append_assoc, ◌∙◌}
+use Rattle.std.proofs.Common.{inl, inr}
 use Rattle.std.specs.Result.{result_and}
 use Rattle.std.specs.List.{AllByRecursion}
 use Rattle.std.proofs.lemmas.List.{append-nil}
@@ -52,24 +53,31 @@ all_say n (l ∷ ls) edits (inr h) = ((h.said, h.tokens), all_say (suc n) ls h.m
 silent_kept : (n : ℕ) (l : List ℕ) (edits : List Line) → SaysNothing l → edit_of n (said_in l) edits ≡ Ok edits
 silent_kept n l edits h = says_nothing n (said_in l) edits (line_said [] l h)
 
-edit_added : (n : ℕ) (l : List ℕ) (said : List Said) (e : Edit) (before : List Line) → LineSays l said → SaysEdit said e → edit_of n (said_in l) before ≡ Ok (before ++ record { number = n; edit = e } ∷ [])
+edit_added : (n : ℕ) (l : List ℕ) (said : List Said) (e : Edit) (before : List Line) → LineSays l said
+    → SaysEdit said e → edit_of n (said_in l) before ≡ Ok (before ++ record { number = n; edit = e } ∷ [])
 edit_added n l said e before t h =
     ap (λ (s : List Said). edit_of n s before) (line_said said l t)
     ∙ one_more n said before (λ k. some_said e (subst (λ (s : List Said). SaysEdit s e) k h))
     ∙ ap (with_edit n before) (edit_read said e h)
 
-gathered : (n : ℕ) (ls : List (List ℕ)) (before edits : List Line) → LinesSay n ls edits → gather edit_of n (map said_in ls) before ≡ Ok (before ++ edits)
-gathered n [] before edits h = gather_none edit_of n before ∙ ap (λ (l : List Line). Ok l) (sym (ap (λ (l : List Line). before ++ l) h ∙ append-nil before))
+gathered : (n : ℕ) (ls : List (List ℕ)) (before edits : List Line) → LinesSay n ls edits
+    → gather edit_of n (map said_in ls) before ≡ Ok (before ++ edits)
+gathered n [] before edits h =
+    gather_none edit_of n before
+    ∙ ap (λ (l : List Line). Ok l) (sym (ap (λ (l : List Line). before ++ l) h ∙ append-nil before))
 gathered n (l ∷ ls) before edits (inl h) =
     gather_on edit_of n (said_in l) (map said_in ls) before
-    ∙ ap (λ (r : Grown Line). pool.and_then r (λ more. gather edit_of (suc n) (map said_in ls) more)) (silent_kept n l before h.0)
+    ∙ ap (λ (r : Grown Line). pool.and_then r (λ more. gather edit_of (suc n) (map said_in ls) more))
+    (silent_kept n l before h.0)
     ∙ gathered (suc n) ls before edits h.1
 gathered n (l ∷ ls) before edits (inr h) =
     let one : Line = record { number = n; edit = h.edit } in
     gather_on edit_of n (said_in l) (map said_in ls) before
-    ∙ ap (λ (r : Grown Line). pool.and_then r (λ more. gather edit_of (suc n) (map said_in ls) more)) (edit_added n l h.said h.edit before h.tokens h.form)
+    ∙ ap (λ (r : Grown Line). pool.and_then r (λ more. gather edit_of (suc n) (map said_in ls) more))
+    (edit_added n l h.said h.edit before h.tokens h.form)
     ∙ gathered (suc n) ls (before ++ one ∷ []) h.more h.follow
-    ∙ ap (λ (l : List Line). Ok l) (append_assoc before (one ∷ []) h.more ∙ ap (λ (l : List Line). before ++ l) (sym h.parts))
+    ∙ ap (λ (l : List Line). Ok l)
+    (append_assoc before (one ∷ []) h.more ∙ ap (λ (l : List Line). before ++ l) (sym h.parts))
 
 pub spelled_read : (text : List ℕ) (edits : List Line) → Spells text edits → script_of text ≡ Ok edits
 unfolding script_of pool_bytes edits_in

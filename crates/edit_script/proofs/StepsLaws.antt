@@ -5,7 +5,8 @@ use Rattle.line_tokens.specs.declared.cursor.Said.{Said}
 use Rattle.line_tokens.specs.declared.fault.LineFault.{LineFault}
 use Rattle.line_tokens.specs.Parts.{Took, pure, is_next}
 use Rattle.script_grammar.specs.Names.{fixed}
-use Rattle.script_grammar.proofs.RepeatedLaws.{Shortens, shortens_keeps, pure_keeps, then_keeps, then_shortens, repeated_ends, repeated_goes_on, repeated_fails}
+use Rattle.script_grammar.proofs.RepeatedLaws.{Shortens, shortens_keeps, pure_keeps, then_keeps, then_shortens}
+use Rattle.script_grammar.proofs.RepeatedLaws.{repeated_ends, repeated_goes_on, repeated_fails}
 use Rattle.script_grammar.proofs.ItemLaws.{fixed_shortens}
 use Rattle.step_script.specs.Grammar.{step}
 use Rattle.step_script.proofs.StepLaws.{step_keeps}
@@ -16,17 +17,20 @@ unfolding braced_step
 braced_shortens =
     then_shortens (fixed (codes "{")) _ (fixed_shortens (codes "{")) (λ o.
     then_keeps step _ step_keeps (λ s.
-    then_keeps (fixed (codes "}")) _ (shortens_keeps (fixed (codes "}")) (fixed_shortens (codes "}"))) (λ c. pure_keeps s)))
+    then_keeps (fixed (codes "}")) _ (shortens_keeps (fixed (codes "}")) (fixed_shortens (codes "}")))
+    (λ c. pure_keeps s)))
 
 pub steps_end : (ss : List Step) (line : List Said) → is_over line ≡ true → steps_left ss line ≡ pure ss line
 unfolding steps_left
 steps_end ss line e = repeated_ends is_over pure braced_step with_step ss line e
 
-pub steps_go_on : (ss : List Step) (line : List Said) (t : Took Step) → is_over line ≡ false → braced_step line ≡ Ok t → steps_left ss line ≡ steps_left (with_step ss t.value) t.rest
+pub steps_go_on : (ss : List Step) (line : List Said) (t : Took Step) → is_over line ≡ false
+    → braced_step line ≡ Ok t → steps_left ss line ≡ steps_left (with_step ss t.value) t.rest
 unfolding steps_left
 steps_go_on ss line t e i = repeated_goes_on is_over pure braced_step with_step braced_shortens ss line t e i
 
-pub steps_fail : (ss : List Step) (line : List Said) (d : LineFault) → is_over line ≡ false → braced_step line ≡ Err d → steps_left ss line ≡ Err d
+pub steps_fail : (ss : List Step) (line : List Said) (d : LineFault) → is_over line ≡ false
+    → braced_step line ≡ Err d → steps_left ss line ≡ Err d
 unfolding steps_left
 steps_fail ss line d e i = repeated_fails is_over pure braced_step with_step ss line d e i
 

@@ -27,7 +27,8 @@ pub record SaysFirst (n : ℕ) (line : List ℕ) (edits : List Line) (Follow : L
 -- the lines, of which the first has the number n, say these edits
 abbrev pub LinesSay : ℕ → List (List ℕ) → List Line → Type 0
 LinesSay n [] edits = edits ≡ []
-LinesSay n (l ∷ ls) edits = (SaysNothing l × LinesSay (suc n) ls edits) ⊎ SaysFirst n l edits (λ more. LinesSay (suc n) ls more)
+LinesSay n (l ∷ ls) edits =
+    (SaysNothing l × LinesSay (suc n) ls edits) ⊎ SaysFirst n l edits (λ more. LinesSay (suc n) ls more)
 
 -- The text says these edits on these lines, and nothing else.
 abbrev pub Spells : List ℕ → List Line → Type 0

@@ -1,5 +1,6 @@
 -- Histories of a bank with the edits that take it back and those that come next.
-use Rattle.std.proofs.Common.{◌≡◌, ◌+◌, List, [], ◌∷◌, ◌++◌, map, reverse, length, take, refl, sym, subst, ◌∙◌, ap, append_assoc, Some, arith}
+use Rattle.std.proofs.Common.{◌≡◌, ◌+◌, List, [], ◌∷◌, ◌++◌, map, reverse, length, take, refl, sym, subst, ◌∙◌, ap}
+use Rattle.std.proofs.Common.{append_assoc, Some, arith}
 use Rattle.std.proofs.lemmas.Grind.{common_steps}
 use Rattle.std.proofs.Math.Seq.{take-append_seam}
 use Rattle.std.specs.Prelude.{zip}
@@ -10,7 +11,8 @@ use Rattle.edit_refusals.specs.Edits.{raw}
 use Rattle.bank_edits.specs.EditChanges.{inverse}
 use Rattle.bank_edits.specs.Runs.{AllTaken, undo_list}
 use Rattle.bank_edits.proofs.Law.{undone}
-use Rattle.edit_sessions.specs.Histories.{IsHistory, AreLinked, Follow, IsForth, bank_now, edited, way_back, banks_before, banks_after, history_of}
+use Rattle.edit_sessions.specs.Histories.{IsHistory, AreLinked, Follow, IsForth, bank_now, edited, way_back}
+use Rattle.edit_sessions.specs.Histories.{banks_before, banks_after, history_of}
 use Rattle.edit_sessions.proofs.ListLaws.{get_seam, take_past_seam, take_zip, map_zip_push, reverse_cons}
 
 -- ---- lengths
@@ -27,7 +29,8 @@ length_after : (b : Parts) (next : List Edit) → length (banks_after b next) �
 length_after b [] = refl
 length_after b (e ∷ next) = grind (arith, common_steps, length_after (raw b e) next)
 
-pub bank_total : (b : Parts) (undos next : List Edit) → length (banks_before b undos ++ b ∷ banks_after b next) ≡ length undos + 1 + length next
+pub bank_total : (b : Parts) (undos next : List Edit)
+    → length (banks_before b undos ++ b ∷ banks_after b next) ≡ length undos + 1 + length next
 bank_total b undos next = grind (arith, common_steps, length_before b undos, length_after b next)
 
 -- ---- what a history is
@@ -36,17 +39,21 @@ follow_after : (b : Parts) (next : List Edit) → AllTaken b next → Follow b (
 follow_after b [] t = tt
 follow_after b (e ∷ next) t = (t.0, refl, follow_after (raw b e) next t.1)
 
-linked_before : (b : Parts) (undos : List Edit) (banks : List Parts) (edits : List Edit) → IsSound b → AllTaken b undos → Follow b banks edits
+linked_before : (b : Parts) (undos : List Edit) (banks : List Parts) (edits : List Edit) → IsSound b
+    → AllTaken b undos → Follow b banks edits
     → AreLinked (banks_before b undos ++ b ∷ banks) (undo_list b undos ++ edits)
 linked_before b [] banks edits s t f = f
 linked_before b (e ∷ undos) banks edits s t f =
     let u = undone b e s t.0 in
     let c : Parts = raw b e in
     let there = linked_before c undos (b ∷ banks) (inverse b e ∷ edits) u.sound t.1 (u.taken, sym u.restored, f) in
-    subst (λ (l : List Parts). AreLinked l ((undo_list c undos ++ inverse b e ∷ []) ++ edits)) (sym (append_assoc (banks_before c undos) (c ∷ []) (b ∷ banks)))
-    (subst (λ (l : List Edit). AreLinked (banks_before c undos ++ c ∷ b ∷ banks) l) (sym (append_assoc (undo_list c undos) (inverse b e ∷ []) edits)) there)
+    subst (λ (l : List Parts). AreLinked l ((undo_list c undos ++ inverse b e ∷ []) ++ edits))
+    (sym (append_assoc (banks_before c undos) (c ∷ []) (b ∷ banks)))
+    (subst (λ (l : List Edit). AreLinked (banks_before c undos ++ c ∷ b ∷ banks) l)
+    (sym (append_assoc (undo_list c undos) (inverse b e ∷ []) edits)) there)
 
-pub is_history : (b : Parts) (undos next : List Edit) → IsSound b → AllTaken b undos → AllTaken b next → IsHistory (history_of b undos next)
+pub is_history : (b : Parts) (undos next : List Edit) → IsSound b → AllTaken b undos → AllTaken b next
+    → IsHistory (history_of b undos next)
 is_history b undos next s t n = record {
   linked = linked_before b undos (banks_after b next) next s t (follow_after b next n);
   within = omega (arith, bank_total b undos next);
@@ -58,16 +65,26 @@ stands b undos next = rw (← length_before b undos) (get_seam (banks_before b u
 -- ---- steps of a history
 
 module _ (b c : Parts) (e i : Edit) (undos next : List Edit) (back : raw c i ≡ b) (redone : inverse c i ≡ e) where
-  banks_grow : (more : List Parts) → (banks_before (raw c i) undos ++ raw c i ∷ []) ++ more ≡ banks_before b undos ++ b ∷ more
-  banks_grow more = append_assoc (banks_before (raw c i) undos) (raw c i ∷ []) more ∙ ap (λ (x : Parts). banks_before x undos ++ x ∷ more) back
+  banks_grow : (more : List Parts)
+      → (banks_before (raw c i) undos ++ raw c i ∷ []) ++ more ≡ banks_before b undos ++ b ∷ more
+  banks_grow more =
+      append_assoc (banks_before (raw c i) undos) (raw c i ∷ []) more
+      ∙ ap (λ (x : Parts). banks_before x undos ++ x ∷ more) back
 
-  edits_grow : (more : List Edit) → (undo_list (raw c i) undos ++ inverse c i ∷ []) ++ more ≡ undo_list b undos ++ e ∷ more
-  edits_grow more = append_assoc (undo_list (raw c i) undos) (inverse c i ∷ []) more ∙ (ap (λ (x : Parts). undo_list x undos ++ inverse c i ∷ more) back ∙ ap (λ (x : Edit). undo_list b undos ++ x ∷ more) redone)
+  edits_grow : (more : List Edit)
+      → (undo_list (raw c i) undos ++ inverse c i ∷ []) ++ more ≡ undo_list b undos ++ e ∷ more
+  edits_grow more =
+      append_assoc (undo_list (raw c i) undos) (inverse c i ∷ []) more
+      ∙
+      (ap (λ (x : Parts). undo_list x undos ++ inverse c i ∷ more) back
+      ∙ ap (λ (x : Edit). undo_list b undos ++ x ∷ more) redone)
 
   pub forth : raw b e ≡ c → IsForth (history_of b undos (e ∷ next)) (history_of c (i ∷ undos) next)
   forth there =
-      let banks : (banks_before (raw c i) undos ++ raw c i ∷ []) ++ c ∷ banks_after c next ≡ banks_before b undos ++ b ∷ raw b e ∷ banks_after (raw b e) next
-      = banks_grow (c ∷ banks_after c next) ∙ ap (λ (x : Parts). banks_before b undos ++ b ∷ x ∷ banks_after x next) (sym there) in
+      let banks : (banks_before (raw c i) undos ++ raw c i ∷ []) ++ c ∷ banks_after c next
+      ≡ banks_before b undos ++ b ∷ raw b e ∷ banks_after (raw b e) next
+      = banks_grow (c ∷ banks_after c next)
+      ∙ ap (λ (x : Parts). banks_before b undos ++ b ∷ x ∷ banks_after x next) (sym there) in
       let place : length (i ∷ undos) ≡ length undos + 1 = omega arith in
       record {
         next = omega (arith, bank_total b undos (e ∷ next));
@@ -76,13 +93,20 @@ module _ (b c : Parts) (e i : Edit) (undos next : List Edit) (back : raw c i ≡
 
   pub edit_done : (was : List Edit) → history_of c (i ∷ undos) [] ≡ edited (history_of b undos was) e c
   edit_done was =
-      let kept_banks : take (length undos + 1) (banks_before b undos ++ b ∷ banks_after b was) ≡ banks_before b undos ++ b ∷ []
+      let kept_banks : take (length undos + 1) (banks_before b undos ++ b ∷ banks_after b was)
+      ≡ banks_before b undos ++ b ∷ []
       = rw (← length_before b undos) (take_past_seam (banks_before b undos) (banks_after b was) b) in
       let kept_edits : take (length undos) (undo_list b undos ++ was) ≡ undo_list b undos
       = rw (← length_undos b undos) (take-append_seam (undo_list b undos) was) in
-      let banks : (banks_before (raw c i) undos ++ raw c i ∷ []) ++ c ∷ [] ≡ take (length undos + 1) (banks_before b undos ++ b ∷ banks_after b was) ++ c ∷ []
-      = banks_grow (c ∷ []) ∙ (sym (append_assoc (banks_before b undos) (b ∷ []) (c ∷ [])) ∙ ap (λ (l : List Parts). l ++ c ∷ []) (sym kept_banks)) in
-      let edits : (undo_list (raw c i) undos ++ inverse c i ∷ []) ++ [] ≡ take (length undos) (undo_list b undos ++ was) ++ e ∷ []
+      let banks : (banks_before (raw c i) undos ++ raw c i ∷ []) ++ c ∷ []
+      ≡ take (length undos + 1) (banks_before b undos ++ b ∷ banks_after b was) ++ c ∷ []
+      = banks_grow (c ∷ [])
+      ∙
+      (sym (append_assoc (banks_before b undos) (b ∷ []) (c ∷ []))
+      ∙ ap (λ (l : List Parts). l ++ c ∷ []) (sym kept_banks))
+      in
+      let edits : (undo_list (raw c i) undos ++ inverse c i ∷ []) ++ []
+      ≡ take (length undos) (undo_list b undos ++ was) ++ e ∷ []
       = edits_grow [] ∙ ap (λ (l : List Edit). l ++ e ∷ []) (sym kept_edits) in
       let place : length (i ∷ undos) ≡ length undos + 1 = omega arith in
       λ k. record { banks = banks k; edits = edits k; place = place k }
@@ -90,19 +114,26 @@ module _ (b c : Parts) (e i : Edit) (undos next : List Edit) (back : raw c i ≡
 -- ---- the way back
 
 inverses : (b : Parts) (undos : List Edit) → IsSound b → AllTaken b undos
-    → map (λ (step : Parts × Edit). inverse step.0 step.1) (zip (banks_before b undos) (undo_list b undos)) ≡ reverse undos
+    → map (λ (step : Parts × Edit). inverse step.0 step.1) (zip (banks_before b undos) (undo_list b undos))
+    ≡ reverse undos
 inverses b [] s t = refl
 inverses b (e ∷ undos) s t =
     let u = undone b e s t.0 in
     let c : Parts = raw b e in
     let f = λ (step : Parts × Edit). inverse step.0 step.1 in
-    map_zip_push f (banks_before c undos) (undo_list c undos) c (inverse b e) (length_before c undos ∙ sym (length_undos c undos))
+    map_zip_push f (banks_before c undos) (undo_list c undos) c (inverse b e)
+    (length_before c undos ∙ sym (length_undos c undos))
     ∙ (ap (λ (l : List Edit). l ++ inverse c (inverse b e) ∷ []) (inverses c undos u.sound t.1)
     ∙ (ap (λ (x : Edit). reverse undos ++ x ∷ []) u.redone ∙ sym (reverse_cons undos e)))
 
-pub way_back_is : (b : Parts) (undos next : List Edit) → IsSound b → AllTaken b undos → way_back (history_of b undos next) ≡ reverse undos
+pub way_back_is : (b : Parts) (undos next : List Edit) → IsSound b → AllTaken b undos
+    → way_back (history_of b undos next) ≡ reverse undos
 way_back_is b undos next s t =
     let f = λ (step : Parts × Edit). inverse step.0 step.1 in
-    let cut : take (length undos) (zip (banks_before b undos ++ b ∷ banks_after b next) (undo_list b undos ++ next)) ≡ zip (banks_before b undos) (undo_list b undos)
-    = rw (← length_undos b undos) (take_zip (banks_before b undos) (b ∷ banks_after b next) (undo_list b undos) next (length_before b undos ∙ sym (length_undos b undos))) in
+    let cut : take (length undos) (zip (banks_before b undos ++ b ∷ banks_after b next) (undo_list b undos ++ next))
+    ≡ zip (banks_before b undos) (undo_list b undos)
+    = rw (← length_undos b undos)
+    (take_zip (banks_before b undos) (b ∷ banks_after b next) (undo_list b undos) next
+    (length_before b undos ∙ sym (length_undos b undos)))
+    in
     ap (λ (l : List (Parts × Edit)). map f l) cut ∙ inverses b undos s t

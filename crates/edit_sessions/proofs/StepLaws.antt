@@ -6,7 +6,8 @@ use Rattle.bank_parts.specs.declared.parts.Parts.{Parts}
 use Rattle.bank_parts.specs.Sound.{IsSound}
 use Rattle.edit_forms.specs.declared.edit.Edit.{Edit}
 use Rattle.edit_refusals.specs.declared.refusal.Refusal.{Refusal}
-use Rattle.edit_refusals.specs.declared.refusal.Refusal.TheVariants.{Of, OutOfMemory, NothingToUndo, NothingToRedo, GroupRefused}
+use Rattle.edit_refusals.specs.declared.refusal.Refusal.TheVariants.{Of, OutOfMemory, NothingToUndo, NothingToRedo}
+use Rattle.edit_refusals.specs.declared.refusal.Refusal.TheVariants.{GroupRefused}
 use Rattle.edit_refusals.specs.Edits.{raw}
 use Rattle.bank_edits.specs.EditChanges.{inverse}
 use Rattle.bank_edits.specs.Undone.{IsUndone}
@@ -23,7 +24,8 @@ pub record Keeps (b : Parts) (undos next : List Edit) : Type 0 where
   pub back : AllTaken b undos
   pub forth : AllTaken b next
 
-taken_back : (b : Parts) (e : Edit) (others : List Edit) → IsUndone b e → AllTaken b others → AllTaken (raw b e) (inverse b e ∷ others)
+taken_back : (b : Parts) (e : Edit) (others : List Edit) → IsUndone b e → AllTaken b others
+    → AllTaken (raw b e) (inverse b e ∷ others)
 taken_back b e others u t = (u.taken, subst (λ (c : Parts). AllTaken c others) (sym u.restored) t)
 
 module _ (old new : Parts) (f f' t t' : List Edit) (s : IsSound old) (from : AllTaken old (reverse f)) where
@@ -38,22 +40,34 @@ module _ (old new : Parts) (f f' t t' : List Edit) (s : IsSound old) (from : All
   done d =
       let from_is : reverse f ≡ d.edit ∷ reverse f' = ap reverse d.last ∙ reverse_push f' d.edit in
       let taken : AllTaken old (d.edit ∷ reverse f') = subst (AllTaken old) from_is from in
-      record { from_is = from_is; to_is = ap reverse d.back ∙ reverse_push t (inverse old d.edit); rest = taken.1; undone_is = undone old d.edit s taken.0 }
+      record {
+        from_is =
+            from_is;
+        to_is =
+            ap reverse d.back ∙ reverse_push t (inverse old d.edit);
+        rest =
+            taken.1;
+        undone_is = undone old d.edit s taken.0;
+      }
 
-  pub step_keeps : (at_end : Refusal) (r : Result (Unit {0}) Refusal) → IsStep old new f f' t t' at_end r → AllTaken old (reverse t)
+  pub step_keeps : (at_end : Refusal) (r : Result (Unit {0}) Refusal) → IsStep old new f f' t t' at_end r
+      → AllTaken old (reverse t)
       → Keeps new (reverse f') (reverse t')
   step_keeps at_end (Ok u) d to =
       let h = done d in
       let there : Keeps (raw old d.edit) (reverse f') (inverse old d.edit ∷ reverse t)
       = record { sound = h.undone_is.sound; back = h.rest; forth = taken_back old d.edit (reverse t) h.undone_is to } in
-      subst (λ (b : Parts). Keeps b (reverse f') (reverse t')) (sym d.changed) (subst (Keeps (raw old d.edit) (reverse f')) (sym h.to_is) there)
+      subst (λ (b : Parts). Keeps b (reverse f') (reverse t')) (sym d.changed)
+      (subst (Keeps (raw old d.edit) (reverse f')) (sym h.to_is) there)
   step_keeps at_end (Err why) d to = rw (d.0.bank, d.0.from, d.0.to) (record { sound = s; back = from; forth = to })
 
   pub step_back : (at_end : Refusal) (r : Result (Unit {0}) Refusal) → IsStep old new f f' t t' at_end r
       → OnOk r (IsForth (history_of new (reverse f') (reverse t')) (history_of old (reverse f) (reverse t)))
   step_back at_end (Ok u) d =
       let h = done d in
-      let there = forth (raw old d.edit) old (inverse old d.edit) d.edit (reverse f') (reverse t) refl refl h.undone_is.restored in
+      let there =
+      forth (raw old d.edit) old (inverse old d.edit) d.edit (reverse f') (reverse t) refl refl
+      h.undone_is.restored in
       rw (h.from_is, h.to_is, d.changed) there
   step_back at_end (Err x) d = tt
 
@@ -61,17 +75,22 @@ module _ (old new : Parts) (f f' t t' : List Edit) (s : IsSound old) (from : All
       → OnOk r (IsForth (history_of old (reverse t) (reverse f)) (history_of new (reverse t') (reverse f')))
   step_forth at_end (Ok u) d =
       let h = done d in
-      let there = forth old (raw old d.edit) d.edit (inverse old d.edit) (reverse t) (reverse f') h.undone_is.restored h.undone_is.redone refl in
+      let there =
+      forth old (raw old d.edit) d.edit (inverse old d.edit) (reverse t) (reverse f') h.undone_is.restored
+      h.undone_is.redone refl in
       rw (h.from_is, h.to_is, d.changed) there
   step_forth at_end (Err x) d = tt
 
-pub redo_failure : (old new : Parts) (f f' t t' : List Edit) (r : Result (Unit {0}) Refusal) → IsStep old new f f' t t' NothingToRedo r
+pub redo_failure : (old new : Parts) (f f' t t' : List Edit) (r : Result (Unit {0}) Refusal)
+    → IsStep old new f f' t t' NothingToRedo r
     → IfErr r (IsRedoFailure (history_of old (reverse t) (reverse f)))
 redo_failure old new f f' t t' (Ok u) d = tt
 redo_failure old new [] f' t t' (Err why) d = rw d.1 (grind (arith, common_steps, bank_total old (reverse t) []))
-redo_failure old new (e ∷ f) f' t t' (Err why) d = rw d.1 (grind (arith, common_steps, bank_total old (reverse t) (reverse (e ∷ f))))
+redo_failure old new (e ∷ f) f' t t' (Err why) d =
+    rw d.1 (grind (arith, common_steps, bank_total old (reverse t) (reverse (e ∷ f))))
 
-pub undo_failure : (old new : Parts) (f f' t t' : List Edit) (r : Result (Unit {0}) Refusal) → IsStep old new f f' t t' NothingToUndo r
+pub undo_failure : (old new : Parts) (f f' t t' : List Edit) (r : Result (Unit {0}) Refusal)
+    → IsStep old new f f' t t' NothingToUndo r
     → IfErr r (IsUndoFailure (history_of old (reverse f) (reverse t)))
 undo_failure old new f f' t t' (Ok u) d = tt
 undo_failure old new [] f' t t' (Err why) d = rw d.1 refl
@@ -86,15 +105,26 @@ module _ (old new : Parts) (was now : List Edit) (e : Edit) (d : IsDoneEdit old 
 
   pub edit_keeps : AllTaken old (reverse was) → Keeps new (reverse now) []
   edit_keeps back =
-      let there : Keeps (raw old e) (inverse old e ∷ reverse was) [] = record { sound = undone_is.sound; back = taken_back old e (reverse was) undone_is back; forth = tt } in
-      subst (λ (b : Parts). Keeps b (reverse now) []) (sym d.changed) (subst (λ (l : List Edit). Keeps (raw old e) l []) (sym last) there)
+      let there : Keeps (raw old e) (inverse old e ∷ reverse was) [] =
+      record { sound = undone_is.sound; back = taken_back old e (reverse was) undone_is back; forth = tt } in
+      subst (λ (b : Parts). Keeps b (reverse now) []) (sym d.changed)
+      (subst (λ (l : List Edit). Keeps (raw old e) l []) (sym last) there)
 
-  pub edit_history : (next : List Edit) → IsEdited (history_of old (reverse was) next) (history_of new (reverse now) []) e
+  pub edit_history : (next : List Edit)
+      → IsEdited (history_of old (reverse was) next) (history_of new (reverse now) []) e
   edit_history next =
-      let there = edit_done old (raw old e) e (inverse old e) (reverse was) next undone_is.restored undone_is.redone next in
-      record { bank = old; here = stands old (reverse was) next; accepted = d.accepted; changed = rw (last, d.changed) there }
+      let there =
+      edit_done old (raw old e) e (inverse old e) (reverse was) next undone_is.restored undone_is.redone next in
+      record {
+        bank =
+            old;
+        here = stands old (reverse was) next;
+        accepted = d.accepted;
+        changed = rw (last, d.changed) there;
+      }
 
-pub why_refused : (b : Parts) (undos next : List Edit) (e : Edit) (why : Refusal) → IsWhy b e why → IsRefusalNow (history_of b undos next) e why
+pub why_refused : (b : Parts) (undos next : List Edit) (e : Edit) (why : Refusal) → IsWhy b e why
+    → IsRefusalNow (history_of b undos next) e why
 why_refused b undos next e OutOfMemory w = tt
 why_refused b undos next e (Of cause) w = rw (stands b undos next) w
 why_refused b undos next e NothingToUndo w = rw (stands b undos next) w

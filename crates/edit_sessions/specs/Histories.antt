@@ -1,5 +1,6 @@
 -- What a session is: a list of banks, the edit between each two neighbours, and a place in the list.
-use Rattle.std.specs.Prelude.{◌≡◌, ℕ, ◌<◌, ◌+◌, Option, Some, None, List, [], ◌∷◌, ◌++◌, length, map, take, zip, slice_get, option_and_then}
+use Rattle.std.specs.Prelude.{◌≡◌, ℕ, ◌<◌, ◌+◌, Option, Some, None, List, [], ◌∷◌, ◌++◌, length, map, take, zip}
+use Rattle.std.specs.Prelude.{slice_get, option_and_then}
 use Rattle.bank_parts.specs.declared.parts.Parts.{Parts}
 use Rattle.edit_forms.specs.declared.edit.Edit.{Edit}
 use Rattle.edit_refusals.specs.declared.refusal.Refusal.{Refusal}
@@ -42,7 +43,13 @@ begun b = record { banks = b ∷ []; edits = []; place = 0 }
 
 -- both lists end at the place; then come the edit and the bank that it gives
 abbrev pub edited : History → Edit → Parts → History
-edited h e next = record { banks = take (h.place + 1) h.banks ++ next ∷ []; edits = take h.place h.edits ++ e ∷ []; place = h.place + 1 }
+edited h e next =
+    record {
+      banks =
+          take (h.place + 1) h.banks ++ next ∷ [];
+      edits = take h.place h.edits ++ e ∷ [];
+      place = h.place + 1;
+    }
 
 -- the bank at the place takes the edit
 pub record IsEdited (old new : History) (e : Edit) : Type 0 where
@@ -92,4 +99,9 @@ banks_after b (e ∷ edits) = raw b e ∷ banks_after (raw b e) edits
 
 abbrev pub history_of : Parts → List Edit → List Edit → History
 history_of b undos next =
-    record { banks = banks_before b undos ++ b ∷ banks_after b next; edits = undo_list b undos ++ next; place = length undos }
+    record {
+      banks =
+          banks_before b undos ++ b ∷ banks_after b next;
+      edits = undo_list b undos ++ next;
+      place = length undos;
+    }

@@ -29,7 +29,8 @@ abbrev pub why_not : List Edit → Refusal → Refusal
 why_not [] at_end = at_end
 why_not (e ∷ edits) at_end = OutOfMemory
 
-abbrev pub IsStep : Parts → Parts → List Edit → List Edit → List Edit → List Edit → Refusal → Result (Unit {0}) Refusal → Type 0
+abbrev pub IsStep : Parts → Parts → List Edit → List Edit → List Edit → List Edit → Refusal
+    → Result (Unit {0}) Refusal → Type 0
 IsStep old new f f' t t' at_end (Ok done) = IsDoneStep old new f f' t t'
 IsStep old new f f' t t' at_end (Err why) = IsNoStep old new f f' t t' × (why ≡ why_not f at_end)
 

@@ -13,7 +13,9 @@ use Rattle.edit_forms.specs.declared.cause.Cause.TheVariants as cause
 use Rattle.edit_refusals.specs.declared.refusal.Refusal.{Refusal}
 use Rattle.edit_refusals.specs.declared.refusal.Refusal.TheVariants as refusal
 use Rattle.fault_explanations.specs.declared.explanations.Told.{Told}
-use Rattle.fault_explanations.specs.declared.explanations.Told.TheVariants.{Reading, Script, Notes, Recording, Refused, NotNeutral, OtherVersion, TooManyFrames}
+use Rattle.fault_explanations.specs.declared.explanations.Told.TheVariants.{Reading, Script, Notes, Recording}
+use Rattle.fault_explanations.specs.declared.explanations.Told.TheVariants.{Refused, NotNeutral, OtherVersion}
+use Rattle.fault_explanations.specs.declared.explanations.Told.TheVariants.{TooManyFrames}
 use Rattle.fault_explanations.specs.declared.explanations.TheConstants.{ALL}
 use Rattle.fault_explanations.specs.Explanations.{number_of}
 

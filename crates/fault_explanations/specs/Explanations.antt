@@ -6,7 +6,9 @@ use Rattle.note_list.specs.Faults as notes
 use Rattle.recordings.specs.FaultNames as recordings
 use Rattle.edit_refusals.specs.RefusalNames as refusals
 use Rattle.fault_explanations.specs.declared.explanations.Told.{Told}
-use Rattle.fault_explanations.specs.declared.explanations.Told.TheVariants.{Reading, Script, Notes, Recording, Refused, NotNeutral, OtherVersion, TooManyFrames}
+use Rattle.fault_explanations.specs.declared.explanations.Told.TheVariants.{Reading, Script, Notes, Recording}
+use Rattle.fault_explanations.specs.declared.explanations.Told.TheVariants.{Refused, NotNeutral, OtherVersion}
+use Rattle.fault_explanations.specs.declared.explanations.Told.TheVariants.{TooManyFrames}
 use Rattle.fault_explanations.specs.declared.explanations.Explanation.{Explanation}
 
 -- the number of each fault and each refusal, by the crate that it is of
@@ -40,4 +42,5 @@ line_of text = text ++ codes "\n"
 
 -- the number and the name, the meaning, and what to do, a line each
 abbrev pub explanation_text : Explanation → List ℕ
-explanation_text e = decimal e.number ++ (codes " " ++ (line_of e.name.now ++ (line_of e.meaning.now ++ line_of e.way_out.now)))
+explanation_text e =
+    decimal e.number ++ (codes " " ++ (line_of e.name.now ++ (line_of e.meaning.now ++ line_of e.way_out.now)))

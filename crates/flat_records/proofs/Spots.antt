@@ -1,5 +1,7 @@
 -- A place in a bag, and what its records are.
-use Rattle.std.proofs.Common.{◌-◌, take, ◌≡◌, ℕ, ◌<◌, ◌≤◌, ◌+◌, ◌^◌, suc, List, [], ◌∷◌, ◌++◌, length, All, slice_get, subst, Option, Some, None, refl, sym, ◌∙◌, ap, drop, get_or, length-append, arith}
+use Rattle.std.proofs.Common.{◌-◌, take, ◌≡◌, ℕ, ◌<◌, ◌≤◌, ◌+◌, ◌^◌, suc, List, [], ◌∷◌, ◌++◌, length, All}
+use Rattle.std.proofs.Common.{slice_get, subst, Option, Some, None, refl, sym, ◌∙◌, ap, drop, get_or, length-append}
+use Rattle.std.proofs.Common.{arith}
 use Rattle.std.specs.Option.{IfSome, IsSomeAnd}
 use Rattle.std.proofs.lemmas.List.{get_or_default, take_at, drop_at}
 use Rattle.std.proofs.lemmas.List.Elements.{All-drop}
@@ -21,7 +23,8 @@ pub found : {X : Type 0} (P : X → Type 0) (o : Option X) → IsSomeAnd o P →
 found P None h = absurd h
 found P (Some x) h = (x, refl, h)
 
-pub spot : {t : Tables} {bags : List Bag} → AreOf t bags → (k : ℕ) (P : Bag → Type 0) → IsSomeAnd (slice_get bags k) P → Spot t bags k P
+pub spot : {t : Tables} {bags : List Bag} → AreOf t bags → (k : ℕ) (P : Bag → Type 0)
+    → IsSomeAnd (slice_get bags k) P → Spot t bags k P
 spot {t} {bags} a k P h =
     let f = found P (slice_get bags k) h in
     record { bag = f.0; there = f.1; holds = f.2; begin = begin a k f.1 }
@@ -54,7 +57,8 @@ module _ {X : Type 0} {xs ys : List X} {at : ℕ} (p : Part xs ys at) where
   pub inside : at + length ys ≤ length xs
   inside =
       let before = p.before in
-      let size : length xs ≡ length p.front + (length ys + length p.back) = ap length p.whole ∙ simp length-append refl in
+      let size : length xs ≡ length p.front + (length ys + length p.back) =
+      ap length p.whole ∙ simp length-append refl in
       omega arith
 
   pub inside_at : {j n : ℕ} → j < length ys → n ≡ length xs → at + j < n
@@ -69,29 +73,55 @@ module _ {X : Type 0} {xs ys : List X} {at : ℕ} (p : Part xs ys at) where
     part_read e =
         let n : past - at ≡ length ys = omega arith in
         e ∙ ((λ i. take (n i) (drop at ((same ∙ p.whole) i)))
-        ∙ (ap (take (length ys)) (drop_at p.front (ys ++ p.back) at (sym p.before)) ∙ take_at ys p.back (length ys) refl))
+        ∙ (ap (take (length ys)) (drop_at p.front (ys ++ p.back) at (sym p.before))
+        ∙ take_at ys p.back (length ys) refl))
 
 -- ---- what indexing gave
 
-module _ {t : Tables} {bags : List Bag} {k : ℕ} {P : Bag → Type 0} (s : Spot t bags k P) {at : ℕ × ℕ} (e : at ≡ get_or t.bags k at) where
+module _ {t : Tables} {bags : List Bag} {k : ℕ} {P : Bag → Type 0} (s : Spot t bags k P) {at : ℕ × ℕ}
+    (e : at ≡ get_or t.bags k at) where
   pub place_read : at ≡ get_or t.bags k (0, 0)
   place_read = let more = s.begin.more in e ∙ get_or_default t.bags k at (0, 0) (omega arith)
 
   pub past_read : {past : ℕ × ℕ} → past ≡ get_or t.bags (k + 1) past → past ≡ past_bag at s.bag
-  past_read {past} f = f ∙ (get_or_default t.bags (k + 1) past (0, 0) s.begin.more ∙ (s.begin.next ∙ ap (λ m. past_bag m s.bag) (sym place_read)))
+  past_read {past} f =
+      f
+      ∙
+      (get_or_default t.bags (k + 1) past (0, 0) s.begin.more
+      ∙ (s.begin.next ∙ ap (λ m. past_bag m s.bag) (sym place_read)))
 
   pub gens_part : Part t.gens s.bag.gens at.0
-  gens_part = record { front = gens_in s.begin.front; back = gens_in s.begin.back ++ (0, 0) ∷ []; whole = s.begin.gens_among; before = ap (λ (m : ℕ × ℕ). m.0) place_read ∙ s.begin.gens }
+  gens_part =
+      record {
+        front =
+            gens_in s.begin.front;
+        back =
+            gens_in s.begin.back ++ (0, 0) ∷ [];
+        whole =
+            s.begin.gens_among;
+        before = ap (λ (m : ℕ × ℕ). m.0) place_read ∙ s.begin.gens;
+      }
 
   pub mods_part : Part t.mods s.bag.mods at.1
-  mods_part = record { front = mods_in s.begin.front; back = mods_in s.begin.back ++ no_modulator ∷ []; whole = s.begin.mods_among; before = ap (λ (m : ℕ × ℕ). m.1) place_read ∙ s.begin.mods }
+  mods_part =
+      record {
+        front =
+            mods_in s.begin.front;
+        back =
+            mods_in s.begin.back ++ no_modulator ∷ [];
+        whole =
+            s.begin.mods_among;
+        before = ap (λ (m : ℕ × ℕ). m.1) place_read ∙ s.begin.mods;
+      }
 
-pub at_value : {t : Tables} {bags : List Bag} {k : ℕ} {P : Bag → Type 0} (s : Spot t bags k P) (Q : Bag → Type 0) → Q s.bag → IfSome (slice_get bags k) Q
+pub at_value : {t : Tables} {bags : List Bag} {k : ℕ} {P : Bag → Type 0} (s : Spot t bags k P) (Q : Bag → Type 0)
+    → Q s.bag → IfSome (slice_get bags k) Q
 at_value s Q h = subst (λ o. IfSome o Q) (sym s.there) h
 
 -- ---- indexes of later bags
 
-pub later_raised : {t : Tables} {bags : List Bag} {k : ℕ} {P : Bag → Type 0} → Spot t bags k P → AreOf t bags → (n m : ℕ) → (0 < n → length (gens_in bags) + n < 2 ^ 16) → (0 < m → length (mods_in bags) + m < 2 ^ 16)
+pub later_raised : {t : Tables} {bags : List Bag} {k : ℕ} {P : Bag → Type 0} → Spot t bags k P → AreOf t bags
+    → (n m : ℕ) → (0 < n → length (gens_in bags) + n < 2 ^ 16) → (0 < m → length (mods_in bags) + m < 2 ^ 16)
     → record { place : k + 1 ≤ length t.bags; fits : All (CanRaise (n, m)) (drop (k + 1) t.bags) }
 later_raised {t} {bags} {k} s a n m h1 h2 =
     let e = gens-end (0, 0) bags in
@@ -107,7 +137,8 @@ later_raised {t} {bags} {k} s a n m h1 h2 =
           (All-starts_back past_bag (CanRaise (n, m)) (λ a b p. record { gens = λ some. let g = p.gens some in omega arith; mods = λ some. let g = p.mods some in omega arith }) (0, 0) bags (record { gens = first; mods = second })));
     }
 
-pub later_lowered : {t : Tables} {bags : List Bag} {k : ℕ} {P : Bag → Type 0} (s : Spot t bags k P) (n m : ℕ) → n ≤ length s.bag.gens → m ≤ length s.bag.mods
+pub later_lowered : {t : Tables} {bags : List Bag} {k : ℕ} {P : Bag → Type 0} (s : Spot t bags k P) (n m : ℕ)
+    → n ≤ length s.bag.gens → m ≤ length s.bag.mods
     → record { place : k + 1 ≤ length t.bags; fits : All (CanLower (n, m)) (drop (k + 1) t.bags) }
 later_lowered {t} {bags} {k} s n m h1 h2 =
     let b = s.begin in
@@ -116,12 +147,18 @@ later_lowered {t} {bags} {k} s n m h1 h2 =
     let place : k + 1 ≡ suc (length b.front) = omega arith in
     let from = past_bag (end past_bag (0, 0) b.front) s.bag in
     let behind : drop (k + 1) t.bags ≡ starts past_bag from b.back =
-    ap (λ p. drop p t.bags) place ∙ (ap (λ (t : Tables). drop (suc (length b.front)) t.bags) b.same ∙ drop-past past_bag (0, 0) b.front s.bag b.back) in
+    ap (λ p. drop p t.bags) place
+    ∙
+    (ap (λ (t : Tables). drop (suc (length b.front)) t.bags) b.same
+    ∙ drop-past past_bag (0, 0) b.front s.bag b.back)
+    in
     let first : n ≤ (end past_bag (0, 0) b.front).0 + length s.bag.gens = omega arith in
     let second : m ≤ (end past_bag (0, 0) b.front).1 + length s.bag.mods = omega arith in
     record {
       place = omega arith;
       fits =
           subst (All (CanLower (n, m))) (sym behind)
-          (All-starts past_bag (CanLower (n, m)) (λ a b p. let g = p.gens in let d = p.mods in record { gens = omega arith; mods = omega arith }) from b.back (record { gens = first; mods = second }));
+          (All-starts past_bag (CanLower (n, m))
+          (λ a b p. let g = p.gens in let d = p.mods in record { gens = omega arith; mods = omega arith }) from
+          b.back (record { gens = first; mods = second }));
     }

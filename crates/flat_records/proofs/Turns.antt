@@ -1,5 +1,6 @@
 -- Bags that change places, and what their records are then.
-use Rattle.std.proofs.Common.{◌≡◌, ℕ, ◌<◌, ◌≤◌, ◌+◌, ◌-◌, ◌^◌, suc, List, [], ◌∷◌, ◌++◌, length, map, All, refl, sym, subst, ◌∙◌, ap, take, drop, get_or, append_assoc, length-append, zero-add, arith}
+use Rattle.std.proofs.Common.{◌≡◌, ℕ, ◌<◌, ◌≤◌, ◌+◌, ◌-◌, ◌^◌, suc, List, [], ◌∷◌, ◌++◌, length, map, All, refl, sym}
+use Rattle.std.proofs.Common.{subst, ◌∙◌, ap, take, drop, get_or, append_assoc, length-append, zero-add, arith}
 use Rattle.std.specs.List.{flat_map}
 use Rattle.std.proofs.lemmas.List.{get_or_default}
 use Rattle.std.proofs.lemmas.List.Concat.{flat_map-append}
@@ -15,7 +16,8 @@ use Rattle.flat_records.proofs.TableLaws.{AreOf, gens-end, mods-end, bags_size, 
 -- lists of four runs of bags
 module _ {X : Type 0} (part : Bag → List X) where
   pub flat-parts : (ws xs ys zs : List Bag) (rest : List X)
-      → flat_map part (ws ++ (xs ++ (ys ++ zs))) ++ rest ≡ flat_map part ws ++ (flat_map part xs ++ (flat_map part ys ++ (flat_map part zs ++ rest)))
+      → flat_map part (ws ++ (xs ++ (ys ++ zs))) ++ rest
+      ≡ flat_map part ws ++ (flat_map part xs ++ (flat_map part ys ++ (flat_map part zs ++ rest)))
   flat-parts ws xs ys zs rest =
       ap (λ ms. ms ++ rest) (flat_map-append part ws (xs ++ (ys ++ zs)))
       ∙ (append_assoc (flat_map part ws) (flat_map part (xs ++ (ys ++ zs))) rest
@@ -27,10 +29,12 @@ module _ {X : Type 0} (part : Bag → List X) where
 
   pub flat-exchanged : (ws xs ys zs : List Bag) (rest : List X) (i j k : ℕ)
       → i ≡ length (flat_map part ws) → j ≡ i + length (flat_map part xs) → k ≡ j + length (flat_map part ys)
-      → exchanged (flat_map part (ws ++ (xs ++ (ys ++ zs))) ++ rest) i j k ≡ flat_map part (ws ++ (ys ++ (xs ++ zs))) ++ rest
+      → exchanged (flat_map part (ws ++ (xs ++ (ys ++ zs))) ++ rest) i j k
+      ≡ flat_map part (ws ++ (ys ++ (xs ++ zs))) ++ rest
   flat-exchanged ws xs ys zs rest i j k e f g =
       ap (λ ms. exchanged ms i j k) (flat-parts ws xs ys zs rest)
-      ∙ (exchanged-parts (flat_map part ws) (flat_map part xs) (flat_map part ys) (flat_map part zs ++ rest) i j k e (omega arith) (omega arith)
+      ∙ (exchanged-parts (flat_map part ws) (flat_map part xs) (flat_map part ys) (flat_map part zs ++ rest) i j k e
+      (omega arith) (omega arith)
       ∙ sym (flat-parts ws ys xs zs rest))
 
 -- past the records of these bags
@@ -49,10 +53,13 @@ pub record Turn (t : Tables) (bags : List Bag) (a b c : ℕ) (start middle stop 
   pub gens : AreWindows start.0 middle.0 stop.0 (length t.gens)
   pub mods : AreWindows start.1 middle.1 stop.1 (length t.mods)
   pub lower : All (CanLower (middle.0 - start.0, middle.1 - start.1)) (drop b (take c t.bags))
-  pub raise : stop.0 < 2 ^ 16 → stop.1 < 2 ^ 16 → All (CanRaise (stop.0 - middle.0, stop.1 - middle.1)) (drop a (take b t.bags))
+  pub raise : stop.0 < 2 ^ 16 → stop.1 < 2 ^ 16
+      → All (CanRaise (stop.0 - middle.0, stop.1 - middle.1)) (drop a (take b t.bags))
   pub turned :
       record {
-        bags = changed_exchanged a b c (lowered (middle.0 - start.0, middle.1 - start.1)) (raised (stop.0 - middle.0, stop.1 - middle.1)) t.bags;
+        bags =
+            changed_exchanged a b c (lowered (middle.0 - start.0, middle.1 - start.1))
+            (raised (stop.0 - middle.0, stop.1 - middle.1)) t.bags;
         gens = exchanged t.gens start.0 middle.0 stop.0;
         mods = exchanged t.mods start.1 middle.1 stop.1;
       } ≡ tables_of (exchanged bags a b c)
@@ -72,45 +79,73 @@ swap x y at =
 
 turn_of : (t : Tables) (bags ws xs ys zs : List Bag) (a b c : ℕ) → Facts t ws xs ys zs a b c
     → exchanged bags a b c ≡ ws ++ (ys ++ (xs ++ zs))
-    → (start middle stop : ℕ × ℕ) → start ≡ get_or t.bags a (0, 0) → middle ≡ get_or t.bags b (0, 0) → stop ≡ get_or t.bags c (0, 0)
+    → (start middle stop : ℕ × ℕ) → start ≡ get_or t.bags a (0, 0) → middle ≡ get_or t.bags b (0, 0)
+    → stop ≡ get_or t.bags c (0, 0)
     → Turn t bags a b c start middle stop
 turn_of t bags ws xs ys zs a b c f whole start middle stop e1 e2 e3 =
-    let r = four_runs past_bag (0, 0) (0, 0) ws xs ys zs (ap (λ (t : Tables). t.bags) f.same) f.first f.second f.third in
+    let r =
+    four_runs past_bag (0, 0) (0, 0) ws xs ys zs (ap (λ (t : Tables). t.bags) f.same) f.first f.second f.third in
     let i = r.runs in
     let w1 = end past_bag (0, 0) ws in
     let w2 = end past_bag w1 xs in
     let n1 : start ≡ w1 = e1 ∙ r.first in
     let n2 : middle ≡ w2 = e2 ∙ r.second in
     let n3 : stop ≡ end past_bag w2 ys = e3 ∙ r.third in
-    let g1 : start.0 ≡ length (gens_in ws) = ap (λ (m : ℕ × ℕ). m.0) n1 ∙ (gens-end (0, 0) ws ∙ zero-add (length (gens_in ws))) in
-    let d1 : start.1 ≡ length (mods_in ws) = ap (λ (m : ℕ × ℕ). m.1) n1 ∙ (mods-end (0, 0) ws ∙ zero-add (length (mods_in ws))) in
-    let g2 : middle.0 ≡ start.0 + length (gens_in xs) = ap (λ (m : ℕ × ℕ). m.0) n2 ∙ (gens-end w1 xs ∙ ap (λ (m : ℕ × ℕ). m.0 + length (gens_in xs)) (sym n1)) in
-    let d2 : middle.1 ≡ start.1 + length (mods_in xs) = ap (λ (m : ℕ × ℕ). m.1) n2 ∙ (mods-end w1 xs ∙ ap (λ (m : ℕ × ℕ). m.1 + length (mods_in xs)) (sym n1)) in
-    let g3 : stop.0 ≡ middle.0 + length (gens_in ys) = ap (λ (m : ℕ × ℕ). m.0) n3 ∙ (gens-end w2 ys ∙ ap (λ (m : ℕ × ℕ). m.0 + length (gens_in ys)) (sym n2)) in
-    let d3 : stop.1 ≡ middle.1 + length (mods_in ys) = ap (λ (m : ℕ × ℕ). m.1) n3 ∙ (mods-end w2 ys ∙ ap (λ (m : ℕ × ℕ). m.1 + length (mods_in ys)) (sym n2)) in
-    let down : (middle.0 - start.0, middle.1 - start.1) ≡ total xs = (let x : middle.0 - start.0 ≡ length (gens_in xs) = omega arith in let y : middle.1 - start.1 ≡ length (mods_in xs) = omega arith in λ i. (x i, y i)) in
-    let up : (stop.0 - middle.0, stop.1 - middle.1) ≡ total ys = (let x : stop.0 - middle.0 ≡ length (gens_in ys) = omega arith in let y : stop.1 - middle.1 ≡ length (mods_in ys) = omega arith in λ i. (x i, y i)) in
-    let size : length t.bags ≡ suc (length (ws ++ (xs ++ (ys ++ zs)))) = ap (λ (t : Tables). length t.bags) f.same ∙ length-starts past_bag (0, 0) (ws ++ (xs ++ (ys ++ zs))) in
-    let sizes : length (ws ++ (xs ++ (ys ++ zs))) ≡ length ws + (length xs + (length ys + length zs)) = simp length-append refl in
-    let gens_size : length t.gens ≡ length (gens_in ws) + (length (gens_in xs) + (length (gens_in ys) + (length (gens_in zs) + 1))) =
-    ap (λ (t : Tables). length t.gens) f.same ∙ (ap length (flat-parts (λ (b : Bag). b.gens) ws xs ys zs ((0, 0) ∷ [])) ∙ simp length-append refl) in
-    let mods_size : length t.mods ≡ length (mods_in ws) + (length (mods_in xs) + (length (mods_in ys) + (length (mods_in zs) + 1))) =
-    ap (λ (t : Tables). length t.mods) f.same ∙ (ap length (flat-parts (λ (b : Bag). b.mods) ws xs ys zs (no_modulator ∷ [])) ∙ simp length-append refl) in
+    let g1 : start.0 ≡ length (gens_in ws) =
+    ap (λ (m : ℕ × ℕ). m.0) n1 ∙ (gens-end (0, 0) ws ∙ zero-add (length (gens_in ws))) in
+    let d1 : start.1 ≡ length (mods_in ws) =
+    ap (λ (m : ℕ × ℕ). m.1) n1 ∙ (mods-end (0, 0) ws ∙ zero-add (length (mods_in ws))) in
+    let g2 : middle.0 ≡ start.0 + length (gens_in xs) =
+    ap (λ (m : ℕ × ℕ). m.0) n2 ∙ (gens-end w1 xs ∙ ap (λ (m : ℕ × ℕ). m.0 + length (gens_in xs)) (sym n1)) in
+    let d2 : middle.1 ≡ start.1 + length (mods_in xs) =
+    ap (λ (m : ℕ × ℕ). m.1) n2 ∙ (mods-end w1 xs ∙ ap (λ (m : ℕ × ℕ). m.1 + length (mods_in xs)) (sym n1)) in
+    let g3 : stop.0 ≡ middle.0 + length (gens_in ys) =
+    ap (λ (m : ℕ × ℕ). m.0) n3 ∙ (gens-end w2 ys ∙ ap (λ (m : ℕ × ℕ). m.0 + length (gens_in ys)) (sym n2)) in
+    let d3 : stop.1 ≡ middle.1 + length (mods_in ys) =
+    ap (λ (m : ℕ × ℕ). m.1) n3 ∙ (mods-end w2 ys ∙ ap (λ (m : ℕ × ℕ). m.1 + length (mods_in ys)) (sym n2)) in
+    let down : (middle.0 - start.0, middle.1 - start.1) ≡ total xs =
+    (let x : middle.0 - start.0 ≡ length (gens_in xs) =
+    omega arith in let y : middle.1 - start.1 ≡ length (mods_in xs) = omega arith in λ i. (x i, y i))
+    in
+    let up : (stop.0 - middle.0, stop.1 - middle.1) ≡ total ys =
+    (let x : stop.0 - middle.0 ≡ length (gens_in ys) =
+    omega arith in let y : stop.1 - middle.1 ≡ length (mods_in ys) = omega arith in λ i. (x i, y i))
+    in
+    let size : length t.bags ≡ suc (length (ws ++ (xs ++ (ys ++ zs)))) =
+    ap (λ (t : Tables). length t.bags) f.same ∙ length-starts past_bag (0, 0) (ws ++ (xs ++ (ys ++ zs))) in
+    let sizes : length (ws ++ (xs ++ (ys ++ zs))) ≡ length ws + (length xs + (length ys + length zs)) =
+    simp length-append refl in
+    let gens_size : length t.gens
+    ≡ length (gens_in ws) + (length (gens_in xs) + (length (gens_in ys) + (length (gens_in zs) + 1))) =
+    ap (λ (t : Tables). length t.gens) f.same
+    ∙ (ap length (flat-parts (λ (b : Bag). b.gens) ws xs ys zs ((0, 0) ∷ [])) ∙ simp length-append refl) in
+    let mods_size : length t.mods
+    ≡ length (mods_in ws) + (length (mods_in xs) + (length (mods_in ys) + (length (mods_in zs) + 1))) =
+    ap (λ (t : Tables). length t.mods) f.same
+    ∙ (ap length (flat-parts (λ (b : Bag). b.mods) ws xs ys zs (no_modulator ∷ [])) ∙ simp length-append refl) in
     let f1 = f.first in
     let f2 = f.second in
     let f3 = f.third in
     let v2 = ap (λ (m : ℕ × ℕ). m.0) n2 in
     let u2 = ap (λ (m : ℕ × ℕ). m.1) n2 in
     let low : CanLower (total xs) w2 = record { gens = omega arith; mods = omega arith } in
-    let index : changed_exchanged a b c (lowered (middle.0 - start.0, middle.1 - start.1)) (raised (stop.0 - middle.0, stop.1 - middle.1)) t.bags ≡ starts past_bag (0, 0) (ws ++ (ys ++ (xs ++ zs))) =
+    let index : changed_exchanged a b c (lowered (middle.0 - start.0, middle.1 - start.1))
+    (raised (stop.0 - middle.0, stop.1 - middle.1)) t.bags
+    ≡ starts past_bag (0, 0) (ws ++ (ys ++ (xs ++ zs))) =
     (λ k. i.first k ++ (map (lowered (down k)) (i.third k) ++ (map (raised (up k)) (i.second k) ++ i.last k)))
-    ∙ starts-exchanged past_bag (raised (total xs)) (lowered (total xs)) (raised (total ys)) (more (total xs)) (more (total ys)) (undone (total xs)) (swap (total xs) (total ys)) (0, 0) ws xs ys zs (past_all w1 xs) (past_all w1 ys) in
+    ∙ starts-exchanged past_bag (raised (total xs)) (lowered (total xs)) (raised (total ys)) (more (total xs))
+    (more (total ys)) (undone (total xs)) (swap (total xs) (total ys)) (0, 0) ws xs ys zs (past_all w1 xs)
+    (past_all w1 ys) in
     let gens : exchanged t.gens start.0 middle.0 stop.0 ≡ gens_in (ws ++ (ys ++ (xs ++ zs))) ++ (0, 0) ∷ [] =
-    ap (λ (t : Tables). exchanged t.gens start.0 middle.0 stop.0) f.same ∙ flat-exchanged (λ (b : Bag). b.gens) ws xs ys zs ((0, 0) ∷ []) start.0 middle.0 stop.0 g1 g2 g3 in
+    ap (λ (t : Tables). exchanged t.gens start.0 middle.0 stop.0) f.same
+    ∙ flat-exchanged (λ (b : Bag). b.gens) ws xs ys zs ((0, 0) ∷ []) start.0 middle.0 stop.0 g1 g2 g3 in
     let mods : exchanged t.mods start.1 middle.1 stop.1 ≡ mods_in (ws ++ (ys ++ (xs ++ zs))) ++ no_modulator ∷ [] =
-    ap (λ (t : Tables). exchanged t.mods start.1 middle.1 stop.1) f.same ∙ flat-exchanged (λ (b : Bag). b.mods) ws xs ys zs (no_modulator ∷ []) start.1 middle.1 stop.1 d1 d2 d3 in
+    ap (λ (t : Tables). exchanged t.mods start.1 middle.1 stop.1) f.same
+    ∙ flat-exchanged (λ (b : Bag). b.mods) ws xs ys zs (no_modulator ∷ []) start.1 middle.1 stop.1 d1 d2 d3 in
     let new : record {
-      bags = changed_exchanged a b c (lowered (middle.0 - start.0, middle.1 - start.1)) (raised (stop.0 - middle.0, stop.1 - middle.1)) t.bags;
+      bags =
+          changed_exchanged a b c (lowered (middle.0 - start.0, middle.1 - start.1))
+          (raised (stop.0 - middle.0, stop.1 - middle.1)) t.bags;
       gens = exchanged t.gens start.0 middle.0 stop.0;
       mods = exchanged t.mods start.1 middle.1 stop.1;
     } ≡ tables_of (ws ++ (ys ++ (xs ++ zs))) =
@@ -124,7 +159,9 @@ turn_of t bags ws xs ys zs a b c f whole start middle stop e1 e2 e3 =
       mods = record { first = omega arith; second = omega arith; within = omega arith };
       lower =
           subst (λ (p : (ℕ × ℕ) × List (ℕ × ℕ)). All (CanLower p.0) p.1) (sym (λ k. (down k, i.third k)))
-          (All-begins past_bag (CanLower (total xs)) (λ a b p. let g = p.gens in let d = p.mods in record { gens = omega arith; mods = omega arith }) w2 ys low);
+          (All-begins past_bag (CanLower (total xs))
+          (λ a b p. let g = p.gens in let d = p.mods in record { gens = omega arith; mods = omega arith }) w2 ys
+          low);
       raise =
           (λ within_gens within_mods.
           subst (λ (p : (ℕ × ℕ) × List (ℕ × ℕ)). All (CanRaise p.0) p.1) (sym (λ k. (up k, i.second k)))
@@ -134,7 +171,8 @@ turn_of t bags ws xs ys zs a b c f whole start middle stop e1 e2 e3 =
     }
 
 pub turn : {t : Tables} {bags : List Bag} {a b c : ℕ} → AreOf t bags → a ≤ b → b ≤ c → c ≤ length bags
-    → {start middle stop : ℕ × ℕ} → start ≡ get_or t.bags a start → middle ≡ get_or t.bags b middle → stop ≡ get_or t.bags c stop
+    → {start middle stop : ℕ × ℕ} → start ≡ get_or t.bags a start → middle ≡ get_or t.bags b middle
+    → stop ≡ get_or t.bags c stop
     → Turn t bags a b c start middle stop
 turn {t} {bags} {a} {b} {c} are h1 h2 h3 {start} {middle} {stop} e1 e2 e3 =
     let q = quarters bags a b c h1 h2 h3 in
@@ -143,13 +181,19 @@ turn {t} {bags} {a} {b} {c} are h1 h2 h3 {start} {middle} {stop} e1 e2 e3 =
     let ys = drop b (take c bags) in
     let zs = drop c bags in
     let size = bags_size are in
-    turn_of t bags ws xs ys zs a b c (record { same = are.same ∙ ap tables_of q.whole; first = q.first; second = q.second; third = q.third }) refl start middle stop
+    turn_of t bags ws xs ys zs a b c
+    (record { same = are.same ∙ ap tables_of q.whole; first = q.first; second = q.second; third = q.third }) refl
+    start middle stop
     (e1 ∙ get_or_default t.bags a start (0, 0) (omega arith))
     (e2 ∙ get_or_default t.bags b middle (0, 0) (omega arith))
     (e3 ∙ get_or_default t.bags c stop (0, 0) (omega arith))
 
-pub bags_turned : {t : Tables} {bags : List Bag} {a b c : ℕ} {start middle stop : ℕ × ℕ} → Turn t bags a b c start middle stop → {index gens : List (ℕ × ℕ)} {mods : List Modulator}
-    → index ≡ changed_exchanged a b c (lowered (middle.0 - start.0, middle.1 - start.1)) (raised (stop.0 - middle.0, stop.1 - middle.1)) t.bags
+pub bags_turned : {t : Tables} {bags : List Bag} {a b c : ℕ} {start middle stop : ℕ × ℕ}
+    → Turn t bags a b c start middle stop → {index gens : List (ℕ × ℕ)} {mods : List Modulator}
+    → index
+    ≡ changed_exchanged a b c (lowered (middle.0 - start.0, middle.1 - start.1))
+    (raised (stop.0 - middle.0, stop.1 - middle.1)) t.bags
     → gens ≡ exchanged t.gens start.0 middle.0 stop.0 → mods ≡ exchanged t.mods start.1 middle.1 stop.1
     → AreOf (record { bags = index; gens = gens; mods = mods }) (exchanged bags a b c)
-bags_turned r index gens mods = record { same = (λ i. record { bags = index i; gens = gens i; mods = mods i }) ∙ r.turned }
+bags_turned r index gens mods =
+    record { same = (λ i. record { bags = index i; gens = gens i; mods = mods i }) ∙ r.turned }

@@ -1,5 +1,6 @@
 -- A bag that is put in as a whole.
-use Rattle.std.proofs.Common.{◌≡◌, ℕ, ◌≤◌, ◌<◌, List, [], ◌∷◌, ◌++◌, length, insert, take, drop, set, slice_get, refl, sym, subst, ◌∙◌, ap, zero-add}
+use Rattle.std.proofs.Common.{◌≡◌, ℕ, ◌≤◌, ◌<◌, List, [], ◌∷◌, ◌++◌, length, insert, take, drop, set, slice_get}
+use Rattle.std.proofs.Common.{refl, sym, subst, ◌∙◌, ap, zero-add}
 use Rattle.std.specs.Option.{IsSomeAnd, IfSome}
 use Rattle.std.specs.List.{flat_map}
 use Rattle.std.proofs.lemmas.List.{take-append-drop, set_at, length-take-le}
@@ -10,15 +11,21 @@ use Rattle.modulators.specs.declared.modulator.Modulator.{Modulator}
 use Rattle.flat_records.specs.Runs.{cut}
 use Rattle.flat_records.specs.Bags.{Bag, no_bag}
 
-pub there : (P : Bag → Type 0) (bags xs : List Bag) (k : ℕ) (b : Bag) → xs ≡ insert bags k b → k ≤ length bags → P b → IsSomeAnd (slice_get xs k) P
+pub there : (P : Bag → Type 0) (bags xs : List Bag) (k : ℕ) (b : Bag) → xs ≡ insert bags k b → k ≤ length bags → P b
+    → IsSomeAnd (slice_get xs k) P
 there P bags xs k b e h p =
     subst (λ o. IsSomeAnd o P) (sym (ap (λ xs. slice_get xs k) e ∙ slice_get-insert bags k b h)) p
 
-pub changed_inserted : (bags xs : List Bag) (k : ℕ) (b : Bag) (f : Bag → Bag) → xs ≡ insert bags k b → k ≤ length bags → changed xs k f ≡ insert bags k (f b)
+pub changed_inserted : (bags xs : List Bag) (k : ℕ) (b : Bag) (f : Bag → Bag) → xs ≡ insert bags k b
+    → k ≤ length bags → changed xs k f ≡ insert bags k (f b)
 changed_inserted bags xs k b f e h =
-    ap (λ xs. changed xs k f) e ∙ (changed-found (insert bags k b) k f b (slice_get-insert bags k b h) ∙ set_at (take k bags) b (drop k bags) (f b) k (length-take-le k bags h))
+    ap (λ xs. changed xs k f) e
+    ∙
+    (changed-found (insert bags k b) k f b (slice_get-insert bags k b h)
+    ∙ set_at (take k bags) b (drop k bags) (f b) k (length-take-le k bags h))
 
-pub flat-inserted : {X : Type 0} (part : Bag → List X) (bags xs : List Bag) (k : ℕ) (b : Bag) → xs ≡ insert bags k b → part b ≡ [] → flat_map part xs ≡ flat_map part bags
+pub flat-inserted : {X : Type 0} (part : Bag → List X) (bags xs : List Bag) (k : ℕ) (b : Bag) → xs ≡ insert bags k b
+    → part b ≡ [] → flat_map part xs ≡ flat_map part bags
 flat-inserted part bags xs k b e none =
     ap (flat_map part) e ∙ (flat_map-append part (take k bags) (b ∷ drop k bags)
     ∙ (ap (λ ys. flat_map part (take k bags) ++ (ys ++ flat_map part (drop k bags))) none
@@ -33,11 +40,14 @@ cut-all : {X : Type 0} (xs ys : List X) → ys ≡ xs → cut xs 0 (length ys) �
 cut-all xs ys e = rw (e, zero-add (length xs)) (drop-all xs)
 
 pub all-cut : (bags : List Bag) (k : ℕ) (gens : List (ℕ × ℕ)) (mods : List Modulator)
-    → IfSome (slice_get bags k) (λ (b : Bag). gens ≡ b.gens) → IfSome (slice_get bags k) (λ (b : Bag). mods ≡ b.mods) → k < length bags
-    → changed bags k (λ (b : Bag). record { gens = cut b.gens 0 (length gens); mods = cut b.mods 0 (length mods) }) ≡ set bags k no_bag
+    → IfSome (slice_get bags k) (λ (b : Bag). gens ≡ b.gens) → IfSome (slice_get bags k) (λ (b : Bag). mods ≡ b.mods)
+    → k < length bags
+    → changed bags k (λ (b : Bag). record { gens = cut b.gens 0 (length gens); mods = cut b.mods 0 (length mods) })
+    ≡ set bags k no_bag
 all-cut bags k gens mods e f h =
     let (b, there) = slice_get-found bags k h in
     let first : gens ≡ b.gens = subst (λ o. IfSome o (λ (b : Bag). gens ≡ b.gens)) there e in
     let second : mods ≡ b.mods = subst (λ o. IfSome o (λ (b : Bag). mods ≡ b.mods)) there f in
-    changed-found bags k (λ (b : Bag). record { gens = cut b.gens 0 (length gens); mods = cut b.mods 0 (length mods) }) b there
+    changed-found bags k
+    (λ (b : Bag). record { gens = cut b.gens 0 (length gens); mods = cut b.mods 0 (length mods) }) b there
     ∙ (λ i. set bags k (record { gens = cut-all b.gens gens first i; mods = cut-all b.mods mods second i }))

@@ -4,7 +4,9 @@ use Rattle.flat_records.specs.Bags.{Tables, no_modulator}
 
 -- neither index is less than the one before
 abbrev pub Rises : List (ℕ × ℕ) → ℕ → Type 0
-Rises bags k = ((slice_index_or bags k (0, 0)).0 ≤ (slice_index_or bags (k + 1) (0, 0)).0) × ((slice_index_or bags k (0, 0)).1 ≤ (slice_index_or bags (k + 1) (0, 0)).1)
+Rises bags k =
+    ((slice_index_or bags k (0, 0)).0 ≤ (slice_index_or bags (k + 1) (0, 0)).0)
+    × ((slice_index_or bags k (0, 0)).1 ≤ (slice_index_or bags (k + 1) (0, 0)).1)
 
 -- the last member
 abbrev pub EndsIn : {X : Type 0} → List X → X → Type 0

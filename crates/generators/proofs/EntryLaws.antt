@@ -1,11 +1,13 @@
 -- Laws of the entries of a map: their order, what is set, and that they give the map.
-use Rattle.std.proofs.Common.{◌≡◌, ◌<◌, ◌≤◌, ◌+◌, ◌^◌, ℕ, zero, suc, Bool, true, false, cond, not, [], ◌∷◌, length, Option, Some, None, true≢false, refl, sym, ap, subst, ◌∙◌, inl, inr, arith}
+use Rattle.std.proofs.Common.{◌≡◌, ◌<◌, ◌≤◌, ◌+◌, ◌^◌, ℕ, zero, suc, Bool, true, false, cond, not, [], ◌∷◌, length}
+use Rattle.std.proofs.Common.{Option, Some, None, true≢false, refl, sym, ap, subst, ◌∙◌, inl, inr, arith}
 use Rattle.std.specs.Prelude.{IsTrue, slice_get, sum_by, if◌then◌else◌, ◌==◌, nat_lt}
 use Rattle.std.specs.List.{AllByRecursion}
 use Rattle.std.specs.declared.cmp.Ordering.TheVariants.{Less, Equal, Greater}
 use Rattle.std.specs.Ordering.{is_eq, is_lt, eq_by_cmp, nat_cmp}
 use Rattle.std.specs.Cmp.{tied_itself}
-use Rattle.std.specs.FinMap.{insert, remove, entries, from_entries, is_sorted, find, put, entries-insert, get-entries, get-from_entries, len-entries}
+use Rattle.std.specs.FinMap.{insert, remove, entries, from_entries, is_sorted, find, put, entries-insert}
+use Rattle.std.specs.FinMap.{get-entries, get-from_entries, len-entries}
 use Rattle.std.specs.FinMap.Entries.{by_order, where_key, below_all}
 use Rattle.std.proofs.lemmas.Option.{slice_get_within, get_or_from_slice_get, none-some, same_Some}
 use Rattle.std.proofs.lemmas.List.{get_or-map, length-map}
@@ -29,7 +31,11 @@ pub ranks_rise : RanksRise
 ranks_rise m k l =
     let es = entries m in
     let more : k + 1 < length es = omega (arith, length-map es (λ (e : ℕ × ℕ). rank e.0)) in
-    rw (get_or-map (λ (e : ℕ × ℕ). rank e.0) es k (0, 0) 0 (omega arith), get_or-map (λ (e : ℕ × ℕ). rank e.0) es (k + 1) (0, 0) 0 more) (less_below _ _ (keys_rise operator_cmp es (entries_rise m) k (k + 1) (omega arith) more))
+    rw (
+      get_or-map (λ (e : ℕ × ℕ). rank e.0) es k (0, 0) 0 (omega arith),
+      get_or-map (λ (e : ℕ × ℕ). rank e.0) es (k + 1) (0, 0) 0 more,
+    )
+    (less_below _ _ (keys_rise operator_cmp es (entries_rise m) k (k + 1) (omega arith) more))
 
 not_less : (x y : ℕ) → x ≡ y → operator_cmp x y ≡ Less → ⊥
 not_less x y e h = true≢false (ap is_eq (sym (tied_itself operator_cmp-IsTotalOrder x) ∙ ap (operator_cmp x) e ∙ h))
@@ -41,8 +47,11 @@ each_operator_once m i j l k e =
     let within_j : j < length es = rw (← len-entries m) k in
     elim (cases_order i j) [
       | inl same ↦ same
-      | inr (inl less) ↦ absurd (not_less (key_at es i) (key_at es j) e (keys_rise operator_cmp es (entries_rise m) i j less within_j))
-      | inr (inr more) ↦ absurd (not_less (key_at es j) (key_at es i) (sym e) (keys_rise operator_cmp es (entries_rise m) j i more within_i))
+      | inr (inl less) ↦ absurd
+          (not_less (key_at es i) (key_at es j) e (keys_rise operator_cmp es (entries_rise m) i j less within_j))
+      | inr (inr more) ↦ absurd
+          (not_less (key_at es j) (key_at es i) (sym e)
+          (keys_rise operator_cmp es (entries_rise m) j i more within_i))
     ]
 
 -- ---- what is set
@@ -52,12 +61,18 @@ entries_are_set m j op w e =
     let es = entries m in
     let within = slice_get_within es j (op, w) e in
     let is = get_or_from_slice_get es j (op, w) (0, 0) e in
-    get-entries m op ∙ find_at operator_cmp operator_cmp-IsTotalOrder es op j (entries_rise m) within (ap (λ (x : ℕ × ℕ). x.0) is) ∙ ap (λ (x : ℕ × ℕ). Some x.1) is
+    get-entries m op
+    ∙ find_at operator_cmp operator_cmp-IsTotalOrder es op j (entries_rise m) within (ap (λ (x : ℕ × ℕ). x.0) is)
+    ∙ ap (λ (x : ℕ × ℕ). Some x.1) is
 
-found_is_entry : (es : Entries) (op w : ℕ) → find operator_cmp op es ≡ Some w → (j : ℕ) × (slice_get es j ≡ Some (op, w))
+found_is_entry : (es : Entries) (op w : ℕ) → find operator_cmp op es ≡ Some w
+    → (j : ℕ) × (slice_get es j ≡ Some (op, w))
 found_is_entry [] op w h = absurd (none-some w h)
 found_is_entry (e ∷ es) op w h =
-    elim (tied op e.0) as (λ b. tied op e.0 ≡ b → cond b (Some e.1) (find operator_cmp op es) ≡ Some w → (j : ℕ) × (slice_get (e ∷ es) j ≡ Some (op, w))) [
+    elim (tied op e.0) as
+    (λ b.
+    tied op e.0 ≡ b → cond b (Some e.1) (find operator_cmp op es) ≡ Some w
+    → (j : ℕ) × (slice_get (e ∷ es) j ≡ Some (op, w))) [
       | true ↦ λ t is. (0, let k = tied_is_same op e.0 t in let v = same_Some e.1 w is in λ i. Some (sym k i, v i))
       | false ↦ λ t is. let rest = found_is_entry es op w is in (suc rest.0, rest.1)
     ] refl h
@@ -71,7 +86,10 @@ module _ (P : ℕ × ℕ → Type 0) where
   All-put : (op w : ℕ) (es : Entries) → P (op, w) → AllByRecursion P es → AllByRecursion P (put operator_cmp op w es)
   All-put op w [] p ps = (p, tt)
   All-put op w (e ∷ es) p ps =
-      elim (operator_cmp op e.0) as (λ r. operator_cmp op e.0 ≡ r → AllByRecursion P (by_order r ((op, w) ∷ e ∷ es) ((e.0, w) ∷ es) (e ∷ put operator_cmp op w es))) [
+      elim (operator_cmp op e.0) as
+      (λ r.
+      operator_cmp op e.0 ≡ r
+      → AllByRecursion P (by_order r ((op, w) ∷ e ∷ es) ((e.0, w) ∷ es) (e ∷ put operator_cmp op w es))) [
         | Less ↦ λ h. (p, ps)
         | Equal ↦ λ h. (subst (λ k. P (k, w)) (operator_cmp-IsAntisymmetric op e.0 h) p, ps.1)
         | Greater ↦ λ h. (ps.0, All-put op w es p ps.1)
@@ -81,10 +99,13 @@ module _ (P : ℕ × ℕ → Type 0) where
   All-where_key p [] ps = tt
   All-where_key p (e ∷ es) ps =
       let rest = All-where_key p es ps.1 in
-      elim (p e.0) as (λ b. AllByRecursion P (cond b (e ∷ where_key operator_cmp p es) (where_key operator_cmp p es))) [ true ↦ (ps.0, rest) | false ↦ rest ]
+      elim (p e.0) as
+      (λ b. AllByRecursion P (cond b (e ∷ where_key operator_cmp p es) (where_key operator_cmp p es)))
+      [ true ↦ (ps.0, rest) | false ↦ rest ]
 
   -- what holds of all entries of a map, and of a new one
-  pub All-insert : (m : Gens) (op w : ℕ) → P (op, w) → AllByRecursion P (entries m) → AllByRecursion P (entries (insert m op w))
+  pub All-insert : (m : Gens) (op w : ℕ) → P (op, w) → AllByRecursion P (entries m)
+      → AllByRecursion P (entries (insert m op w))
   All-insert m op w p ps = rw (entries-insert operator_cmp-IsTotalOrder m op w) (All-put op w (entries m) p ps)
 
   pub All-remove : (m : Gens) (op : ℕ) → AllByRecursion P (entries m) → AllByRecursion P (entries (remove m op))
@@ -123,7 +144,8 @@ times-cons : (op : ℕ) (e : ℕ × ℕ) (es : Entries) → times op (e ∷ es) 
 unfolding times
 times-cons op e es = sum_by-cons (λ (e : ℕ × ℕ). if tied op e.0 then 1 else 0) e es
 
-codes-cons : (op : ℕ) (e : ℕ × ℕ) (es : Entries) → codes op (e ∷ es) ≡ (if tied op e.0 then suc e.1 else 0) + codes op es
+codes-cons : (op : ℕ) (e : ℕ × ℕ) (es : Entries)
+    → codes op (e ∷ es) ≡ (if tied op e.0 then suc e.1 else 0) + codes op es
 unfolding codes
 codes-cons op e es = sum_by-cons (λ (e : ℕ × ℕ). if tied op e.0 then suc e.1 else 0) e es
 
@@ -139,7 +161,8 @@ codes-find op [] h = refl
 codes-find op (e ∷ es) h =
     let counted = times-cons op e es in
     let coded = codes-cons op e es in
-    elim (tied op e.0) as (λ b. tied op e.0 ≡ b → codes op (e ∷ es) ≡ code (cond b (Some e.1) (find operator_cmp op es))) [
+    elim (tied op e.0) as
+    (λ b. tied op e.0 ≡ b → codes op (e ∷ es) ≡ code (cond b (Some e.1) (find operator_cmp op es))) [
       | true ↦ λ t. grind (arith, codes-none op es)
       | false ↦ λ t. grind (arith, codes-find op es)
     ] refl
@@ -170,11 +193,15 @@ unfolding times codes
 entries_give_the_map m es h =
     let old = entries m in
     same_gens (from_entries es) m (λ q.
-    let times_same : times q es ≡ times q old = sum_by-IsPermutation (λ (e : ℕ × ℕ). if tied q e.0 then 1 else 0) old es h in
-    let codes_same : codes q es ≡ codes q old = sum_by-IsPermutation (λ (e : ℕ × ℕ). if tied q e.0 then suc e.1 else 0) old es h in
+    let times_same : times q es ≡ times q old =
+    sum_by-IsPermutation (λ (e : ℕ × ℕ). if tied q e.0 then 1 else 0) old es h in
+    let codes_same : codes q es ≡ codes q old =
+    sum_by-IsPermutation (λ (e : ℕ × ℕ). if tied q e.0 then suc e.1 else 0) old es h in
     let once = once_risen q old (entries_rise m) in
-    let found : code (find operator_cmp q es) ≡ code (find operator_cmp q old) = sym (codes-find q es (omega arith)) ∙ codes_same ∙ codes-find q old once in
-    get-from_entries operator_cmp-IsTotalOrder es q ∙ same_code (find operator_cmp q es) (find operator_cmp q old) found ∙ sym (get-entries m q))
+    let found : code (find operator_cmp q es) ≡ code (find operator_cmp q old) =
+    sym (codes-find q es (omega arith)) ∙ codes_same ∙ codes-find q old once in
+    get-from_entries operator_cmp-IsTotalOrder es q
+    ∙ same_code (find operator_cmp q es) (find operator_cmp q old) found ∙ sym (get-entries m q))
 
 -- set again, they give it too
 pub from_entries-entries : (m : Gens) → from_entries (entries m) ≡ m
@@ -194,12 +221,17 @@ order_of-fits : (x : ℕ) → x < 2 ^ 16 → order_of x < 65536
 unfolding order_of
 order_of-fits x h = grind (arith, nat_tests)
 
-length_from : (x : ℕ) (es : Entries) → x < 2 ^ 16 → IsTrue (below_all operator_cmp x es) → IsTrue (is_sorted operator_cmp es) → FitEntries es → order_of x + length es < 65536
+length_from : (x : ℕ) (es : Entries) → x < 2 ^ 16 → IsTrue (below_all operator_cmp x es)
+    → IsTrue (is_sorted operator_cmp es) → FitEntries es → order_of x + length es < 65536
 length_from x [] f h s fs = omega (arith, order_of-fits x f)
 length_from x (e ∷ es) f h s fs =
     let above = both_true (is_lt (operator_cmp x e.0)) (below_all operator_cmp x es) h in
     let parts = both_true (below_all operator_cmp e.0 es) (is_sorted operator_cmp es) s in
-    omega (arith, order_of-less x e.0 (is_less (operator_cmp x e.0) above.0), length_from e.0 es fs.0.0 parts.0 parts.1 fs.1)
+    omega (
+      arith,
+      order_of-less x e.0 (is_less (operator_cmp x e.0) above.0),
+      length_from e.0 es fs.0.0 parts.0 parts.1 fs.1,
+    )
 
 pub length_bounded : (es : Entries) → AreGens es → length es ≤ 65536
 length_bounded [] h = omega arith

@@ -1,7 +1,9 @@
 -- Laws of maps: what setting and clearing do one after the other.
-use Rattle.std.proofs.Common.{◌≡◌, ◌≢◌, ◌+◌, ◌-◌, ℕ, Bool, true, false, cond, Option, Some, None, IsSome, true≢false, refl, sym, ap, ◌∙◌, inl, inr, arith}
+use Rattle.std.proofs.Common.{◌≡◌, ◌≢◌, ◌+◌, ◌-◌, ℕ, Bool, true, false, cond, Option, Some, None, IsSome, true≢false}
+use Rattle.std.proofs.Common.{refl, sym, ap, ◌∙◌, inl, inr, arith}
 use Rattle.std.specs.Prelude.{is_some}
-use Rattle.std.specs.FinMap.{get, insert, remove, len, get-insert, get-remove, same_map, get-empty, empty_of_len, len-insert, len-remove}
+use Rattle.std.specs.FinMap.{get, insert, remove, len, get-insert, get-remove, same_map, get-empty, empty_of_len}
+use Rattle.std.specs.FinMap.{len-insert, len-remove}
 use Rattle.std.proofs.lemmas.Bool.{cases_order}
 use Rattle.generators.specs.Gens.{operator_cmp, Gens}
 use Rattle.generators.proofs.Order.{operator_cmp-IsTotalOrder, operator_cmp-IsAntisymmetric, tied, tied_is_same, untied}
@@ -70,7 +72,8 @@ insert-insert m op v w =
     ∙ asked_twice (tied q op) (Some w) (Some v) (get m q) ∙ sym (get-insert_any m op w q))
 
 -- two tests that are not both true
-exchanged : {X : Type 0} (a b : Bool) (x y z : X) → (a ≡ true → b ≡ false) → cond a x (cond b y z) ≡ cond b y (cond a x z)
+exchanged : {X : Type 0} (a b : Bool) (x y z : X) → (a ≡ true → b ≡ false)
+    → cond a x (cond b y z) ≡ cond b y (cond a x z)
 exchanged true true x y z apart = absurd (true≢false (apart refl))
 exchanged true false x y z apart = refl
 exchanged false b x y z apart = refl
@@ -108,14 +111,16 @@ remove-remove_other m a b =
 -- ---- lengths
 
 pub len-insert_absent : (m : Gens) (op w : ℕ) → get m op ≡ None → len (insert m op w) ≡ len m + 1
-len-insert_absent m op w e = len-insert operator_cmp-IsTotalOrder m op w ∙ ap (λ (o : Option ℕ). cond (is_some o) (len m) (len m + 1)) e
+len-insert_absent m op w e =
+    len-insert operator_cmp-IsTotalOrder m op w ∙ ap (λ (o : Option ℕ). cond (is_some o) (len m) (len m + 1)) e
 
 pub len-insert_present : (m : Gens) (op w : ℕ) → IsSome (get m op) → len (insert m op w) ≡ len m
 len-insert_present m op w e = len-insert operator_cmp-IsTotalOrder m op w ∙ ap (λ b. cond b (len m) (len m + 1)) e
 
 -- where something is set, there is an entry
 some_entry : (m : Gens) (op : ℕ) → IsSome (get m op) → len m ≡ 0 → ⊥
-some_entry m op e none = true≢false (sym e ∙ ap is_some (ap (λ n. get n op) (empty_of_len m none) ∙ get-empty operator_cmp op))
+some_entry m op e none =
+    true≢false (sym e ∙ ap is_some (ap (λ n. get n op) (empty_of_len m none) ∙ get-empty operator_cmp op))
 
 pub len-remove_present : (m : Gens) (op : ℕ) → IsSome (get m op) → len (remove m op) + 1 ≡ len m
 len-remove_present m op e =

@@ -29,15 +29,18 @@ rest_rises e es r k l =
     subst (λ n. rank (operator_at es k) < rank (operator_at (e ∷ es) n)) n (r (suc k) (omega arith))
 
 -- all of them are above an operator that the first is above
-all_above : (op : ℕ) (es : Entries) → (0 < length es → rank op < rank (operator_at es 0)) → RanksRise es → IsTrue (below_all operator_cmp op es)
+all_above : (op : ℕ) (es : Entries) → (0 < length es → rank op < rank (operator_at es 0)) → RanksRise es
+    → IsTrue (below_all operator_cmp op es)
 all_above op [] first r = refl
 all_above op (e ∷ es) first r =
     let own : rank op < rank e.0 = first (omega arith) in
-    both _ _ (is_below (rank op) (rank e.0) own) (all_above op es (λ l. let next = r 0 (omega arith) in omega (arith, own, next)) (rest_rises e es r))
+    both _ _ (is_below (rank op) (rank e.0) own)
+    (all_above op es (λ l. let next = r 0 (omega arith) in omega (arith, own, next)) (rest_rises e es r))
 
 pub order_of_ranks : (es : Entries) → RanksRise es → AreInOrder es
 order_of_ranks [] r = refl
-order_of_ranks (e ∷ es) r = both _ _ (all_above e.0 es (λ l. r 0 (omega arith)) (rest_rises e es r)) (order_of_ranks es (rest_rises e es r))
+order_of_ranks (e ∷ es) r =
+    both _ _ (all_above e.0 es (λ l. r 0 (omega arith)) (rest_rises e es r)) (order_of_ranks es (rest_rises e es r))
 
 pub ranks_of_order : (es : Entries) → AreInOrder es → RanksRise es
 ranks_of_order es o k l = less_below _ _ (keys_rise operator_cmp es o k (k + 1) (omega arith) l)

@@ -24,14 +24,25 @@ module _ (es : Entries) (rises : IsTrue (is_sorted operator_cmp es)) (op : ℕ) 
   ranks_rise : (i j : ℕ) → i ≤ j → j < length es → rank (operator_at es i) ≤ rank (operator_at es j)
   ranks_rise i j le l = elim (cases_lt i j) [
     | inl lt ↦ less_below _ _ (keys_rise operator_cmp es rises i j lt l)
-    | inr ge ↦ let same : i ≡ j = omega arith in subst (λ k. rank (operator_at es i) ≤ rank (operator_at es k)) same (omega arith)
+    | inr ge ↦ let same : i ≡ j =
+        omega arith in subst (λ k. rank (operator_at es i) ≤ rank (operator_at es k)) same (omega arith)
   ]
 
   comparisons_rise : IsNonDecreasingBy (λ entry. ordering_index (nat_cmp (rank entry.0) (rank op))) es
-  comparisons_rise = IsNonDecreasingBy-from_default (λ entry. ordering_index (nat_cmp (rank entry.0) (rank op))) es (0, 0) (λ i j le l. index_rises _ _ (rank op) (ranks_rise i j le l))
+  comparisons_rise =
+      IsNonDecreasingBy-from_default (λ entry. ordering_index (nat_cmp (rank entry.0) (rank op))) es (0, 0)
+      (λ i j le l. index_rises _ _ (rank op) (ranks_rise i j le l))
 
-  pub searched : (r : Result ℕ ℕ) → IsSearchInRange r (length es) → IsBinarySearchResult (λ entry. nat_cmp (rank entry.0) (rank op)) es r → record { found : IfOk r (IsAt es op); absent : IfErr r (IsGapFor es op) }
-  searched (Ok at) within equal = record { found = record { within = within; same = operator_cmp-IsAntisymmetric (operator_at es at) op (equal (0, 0)) }; absent = tt }
+  pub searched : (r : Result ℕ ℕ) → IsSearchInRange r (length es)
+      → IsBinarySearchResult (λ entry. nat_cmp (rank entry.0) (rank op)) es r
+      → record { found : IfOk r (IsAt es op); absent : IfErr r (IsGapFor es op) }
+  searched (Ok at) within equal =
+      record {
+        found =
+            record { within = within; same = operator_cmp-IsAntisymmetric (operator_at es at) op (equal (0, 0)) };
+        absent =
+            tt;
+      }
   searched (Err at) within parted = record {
     found = tt;
     absent = record {

@@ -1,5 +1,6 @@
 -- Entries that are set one after the other.
-use Rattle.std.proofs.Common.{◌≡◌, ℕ, Bool, true, false, cond, eqb, [], ◌∷◌, length, Option, Some, None, true≢false, refl, sym, ap, ◌∙◌, arith}
+use Rattle.std.proofs.Common.{◌≡◌, ℕ, Bool, true, false, cond, eqb, [], ◌∷◌, length, Option, Some, None, true≢false}
+use Rattle.std.proofs.Common.{refl, sym, ap, ◌∙◌, arith}
 use Rattle.std.specs.Prelude.{◌||◌, is_some}
 use Rattle.std.specs.List.{list_any}
 use Rattle.std.specs.FinMap.{get, insert, len, from_entries, find, get-from_entries, get-empty, len-empty}
@@ -43,36 +44,56 @@ find-last_of_each op [] = refl
 find-last_of_each op (e ∷ es) =
     let lasts = last_of_each es in
     let rest = find-last_of_each op es in
-    elim (stands e.0 es) as (λ s. stands e.0 es ≡ s → is_some (find operator_cmp op (cond s lasts (e ∷ lasts))) ≡ (eqb e.0 op || stands op es)) [
+    elim (stands e.0 es) as
+    (λ s.
+    stands e.0 es ≡ s
+    → is_some (find operator_cmp op (cond s lasts (e ∷ lasts))) ≡ (eqb e.0 op || stands op es)) [
       | true ↦ λ p. rest ∙ elim (eqb e.0 op) as (λ t. eqb e.0 op ≡ t → stands op es ≡ (t || stands op es)) [
         | true ↦ λ t. ap (λ x. stands x es) (sym (eqb-true e.0 op t)) ∙ p
         | false ↦ λ t. refl
       ] refl
-      | false ↦ λ p. rw (tied_eqb e.0 op) (elim (tied op e.0) as (λ t. is_some (cond t (Some e.1) (find operator_cmp op lasts)) ≡ (t || stands op es)) [ true ↦ refl | false ↦ rest ])
+      | false ↦ λ p.
+          rw (tied_eqb e.0 op)
+          (elim (tied op e.0) as
+          (λ t. is_some (cond t (Some e.1) (find operator_cmp op lasts)) ≡ (t || stands op es))
+          [ true ↦ refl | false ↦ rest ])
     ] refl
 
-get-set_in_order : (m : Gens) (es : Entries) (q : ℕ) → get (set_in_order m es) q ≡ or_else (find operator_cmp q (last_of_each es)) (get m q)
+get-set_in_order : (m : Gens) (es : Entries) (q : ℕ)
+    → get (set_in_order m es) q ≡ or_else (find operator_cmp q (last_of_each es)) (get m q)
 get-set_in_order m [] q = refl
 get-set_in_order m (e ∷ es) q =
     let lasts = last_of_each es in
     let found = find operator_cmp q lasts in
     let stood = find-last_of_each q es in
     get-set_in_order (insert m e.0 e.1) es q ∙ ap (or_else found) (get-insert_any m e.0 e.1 q)
-    ∙ elim (stands e.0 es) as (λ s. stands e.0 es ≡ s → or_else found (cond (tied q e.0) (Some e.1) (get m q)) ≡ or_else (find operator_cmp q (cond s lasts (e ∷ lasts))) (get m q)) [
-      | true ↦ λ p. elim (tied q e.0) as (λ t. tied q e.0 ≡ t → or_else found (cond t (Some e.1) (get m q)) ≡ or_else found (get m q)) [
-        | true ↦ λ t. or_else-some found (Some e.1) (get m q) (stood ∙ ap (λ x. stands x es) (tied_is_same q e.0 t) ∙ p)
-        | false ↦ λ t. refl
-      ] refl
-      | false ↦ λ p. elim (tied q e.0) as (λ t. tied q e.0 ≡ t → or_else found (cond t (Some e.1) (get m q)) ≡ or_else (cond t (Some e.1) found) (get m q)) [
-        | true ↦ λ t. ap (λ o. or_else o (Some e.1)) (is_none found (stood ∙ ap (λ x. stands x es) (tied_is_same q e.0 t) ∙ p))
-        | false ↦ λ t. refl
-      ] refl
+    ∙ elim (stands e.0 es) as
+    (λ s.
+    stands e.0 es ≡ s
+    → or_else found (cond (tied q e.0) (Some e.1) (get m q))
+    ≡ or_else (find operator_cmp q (cond s lasts (e ∷ lasts))) (get m q)) [
+      | true ↦ λ p.
+          elim (tied q e.0) as
+          (λ t. tied q e.0 ≡ t → or_else found (cond t (Some e.1) (get m q)) ≡ or_else found (get m q)) [
+            | true ↦ λ t. or_else-some found (Some e.1) (get m q) (stood ∙ ap (λ x. stands x es) (tied_is_same q e.0 t) ∙ p)
+            | false ↦ λ t. refl
+          ] refl
+      | false ↦ λ p.
+          elim (tied q e.0) as
+          (λ t.
+          tied q e.0 ≡ t
+          → or_else found (cond t (Some e.1) (get m q)) ≡ or_else (cond t (Some e.1) found) (get m q)) [
+            | true ↦ λ t.
+                ap (λ o. or_else o (Some e.1)) (is_none found (stood ∙ ap (λ x. stands x es) (tied_is_same q e.0 t) ∙ p))
+            | false ↦ λ t. refl
+          ] refl
     ] refl
 
 pub last_of_each_count : LastOfEachCount
 last_of_each_count es =
     same_gens (set_in_order no_gens es) (from_entries (last_of_each es)) (λ q.
-    get-set_in_order no_gens es q ∙ ap (or_else (find operator_cmp q (last_of_each es))) (get-empty operator_cmp q) ∙ or_else-None (find operator_cmp q (last_of_each es))
+    get-set_in_order no_gens es q ∙ ap (or_else (find operator_cmp q (last_of_each es))) (get-empty operator_cmp q)
+    ∙ or_else-None (find operator_cmp q (last_of_each es))
     ∙ sym (get-from_entries operator_cmp-IsTotalOrder (last_of_each es) q))
 
 -- no entry of a last one's operator comes after it
@@ -80,11 +101,16 @@ len-from_last : (es : Entries) → len (from_entries {R = operator_cmp} (last_of
 len-from_last [] = len-empty operator_cmp ℕ
 len-from_last (e ∷ es) =
     let lasts = last_of_each es in
-    elim (stands e.0 es) as (λ s. stands e.0 es ≡ s → len (from_entries {R = operator_cmp} (cond s lasts (e ∷ lasts))) ≡ length (cond s lasts (e ∷ lasts))) [
+    elim (stands e.0 es) as
+    (λ s.
+    stands e.0 es ≡ s
+    → len (from_entries {R = operator_cmp} (cond s lasts (e ∷ lasts)))
+    ≡ length (cond s lasts (e ∷ lasts))) [
       | true ↦ λ p. len-from_last es
       | false ↦ λ p.
           let none : get (from_entries {R = operator_cmp} lasts) e.0 ≡ None =
-          get-from_entries operator_cmp-IsTotalOrder lasts e.0 ∙ is_none (find operator_cmp e.0 lasts) (find-last_of_each e.0 es ∙ p) in
+          get-from_entries operator_cmp-IsTotalOrder lasts e.0
+          ∙ is_none (find operator_cmp e.0 lasts) (find-last_of_each e.0 es ∙ p) in
           omega (arith, len-insert_absent (from_entries lasts) e.0 e.1 none, len-from_last es)
     ] refl
 

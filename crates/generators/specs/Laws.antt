@@ -1,5 +1,6 @@
 -- Laws of the order of operators, of maps of generators, and of the rules of levels.
-use Rattle.std.specs.Prelude.{◌≡◌, ◌≢◌, ◌<◌, ◌+◌, ◌^◌, ℕ, List, length, map, Some, None, false, IsTrue, IsSome, slice_get}
+use Rattle.std.specs.Prelude.{◌≡◌, ◌≢◌, ◌<◌, ◌+◌, ◌^◌, ℕ, List, length, map, Some, None, false, IsTrue, IsSome}
+use Rattle.std.specs.Prelude.{slice_get}
 use Rattle.std.specs.List.Sorted.{IsPermutation, IsStrictlyIncreasing}
 use Rattle.std.specs.declared.cmp.Ordering.TheVariants.{Less}
 use Rattle.std.specs.Ordering.{nat_cmp}
@@ -34,7 +35,8 @@ RanksRise = (m : Gens) → IsStrictlyIncreasing (map (λ e. rank e.0) (entries m
 
 -- no operator stands at two places
 abbrev pub EachOperatorOnce : Type 0
-EachOperatorOnce = (m : Gens) (i j : ℕ) → i < len m → j < len m → operator_at (entries m) i ≡ operator_at (entries m) j → i ≡ j
+EachOperatorOnce =
+    (m : Gens) (i j : ℕ) → i < len m → j < len m → operator_at (entries m) i ≡ operator_at (entries m) j → i ≡ j
 
 -- an entry is what its operator is set to
 abbrev pub EntriesAreSet : Type 0

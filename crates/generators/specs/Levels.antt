@@ -17,7 +17,9 @@ is_within low high op = nat_le low op && nat_le op high
 
 -- allowed in presets and in instruments
 abbrev pub is_common : ℕ → Bool
-is_common op = is_within 5 11 op || op == 13 || is_within 15 17 op || is_within 21 40 op || is_one_of (43 ∷ 44 ∷ 48 ∷ 51 ∷ 52 ∷ 56 ∷ []) op
+is_common op =
+    is_within 5 11 op || op == 13 || is_within 15 17 op || is_within 21 40 op
+    || is_one_of (43 ∷ 44 ∷ 48 ∷ 51 ∷ 52 ∷ 56 ∷ []) op
 
 -- allowed in instruments alone
 abbrev pub is_special : ℕ → Bool

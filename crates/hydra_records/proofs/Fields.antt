@@ -1,7 +1,9 @@
 -- What a record is made of, field after field: the laws of one field, and of two as of one.
-use Rattle.std.proofs.Common.{inl, inr, ◌≡◌, ◌≤◌, ◌<◌, ◌+◌, ◌^◌, ℕ, ℤ, List, [], ◌++◌, length, take, drop, get_or, ap, sym, ◌∙◌, arith, FitsSigned}
+use Rattle.std.proofs.Common.{inl, inr, ◌≡◌, ◌≤◌, ◌<◌, ◌+◌, ◌^◌, ℕ, ℤ, List, [], ◌++◌, length, take, drop, get_or}
+use Rattle.std.proofs.Common.{ap, sym, ◌∙◌, arith, FitsSigned}
 use Rattle.std.specs.Int.{Width, cast_signed, cast_unsigned}
-use Rattle.std.proofs.lemmas.List.{append-nil, append_assoc, length-append, length-drop, length-take, take_at, drop_at, drop-drop, get_or-drop, get_or_past}
+use Rattle.std.proofs.lemmas.List.{append-nil, append_assoc, length-append, length-drop, length-take, take_at}
+use Rattle.std.proofs.lemmas.List.{drop_at, drop-drop, get_or-drop, get_or_past}
 use Rattle.std.proofs.lemmas.Bool.{cases_lt}
 use Rattle.std.proofs.lemmas.Int.{to_z-of_z}
 use borrow.Author.Gap.{read_sfits}
@@ -26,11 +28,13 @@ pub record Field : Type 1 where
 
 -- each byte, and 0 past the end
 byte_lt : (bytes : List ℕ) → AreBytes bytes → (k : ℕ) → get_or bytes k 0 < 256
-byte_lt bytes b k = elim (cases_lt k (length bytes)) [ inl lt ↦ b k 0 lt | inr le ↦ rw (get_or_past bytes k 0 le) (omega arith) ]
+byte_lt bytes b k =
+    elim (cases_lt k (length bytes)) [ inl lt ↦ b k 0 lt | inr le ↦ rw (get_or_past bytes k 0 le) (omega arith) ]
 
 -- a number of n bytes
 pub field_at-lt : (at n : ℕ) (bytes : List ℕ) → AreBytes bytes → field_at at n bytes < 256 ^ n
-field_at-lt at n bytes b = little_from-lt 0 n (drop at bytes) (λ k. rw (get_or-drop at bytes k 0) (byte_lt bytes b (at + k)))
+field_at-lt at n bytes b =
+    little_from-lt 0 n (drop at bytes) (λ k. rw (get_or-drop at bytes k 0) (byte_lt bytes b (at + k)))
 
 abbrev pub number : ℕ → Field
 number n = record {
@@ -89,7 +93,9 @@ f & g = record {
   reads_back = λ v fits at rest b e.
       let others = g.spelled v.1 ++ rest in
       let front = e ∙ append_assoc (f.spelled v.0) (g.spelled v.1) rest in
-      let back = sym (drop-drop f.size at b) ∙ ap (drop f.size) front ∙ drop_at (f.spelled v.0) others f.size (f.has_size v.0 fits.0) in
+      let back =
+      sym (drop-drop f.size at b) ∙ ap (drop f.size) front
+      ∙ drop_at (f.spelled v.0) others f.size (f.has_size v.0 fits.0) in
       let first = f.reads_back v.0 fits.0 at others b front in
       let later = g.reads_back v.1 fits.1 (at + f.size) rest b back in
       λ i. (first i, later i);
@@ -99,10 +105,16 @@ f & g = record {
 -- ---- a record that is made of fields
 
 pub lawful : {R : Type 0} (f : Field) (fits : R → Type 0) → 0 < f.size
-    → (of_value : f.Value → R) (value_of : R → f.Value) → ((v : f.Value) → f.Fits v → fits (of_value v)) → ((r : R) → fits r → f.Fits (value_of r))
-    → ((r : R) → of_value (value_of r) ≡ r) → IsLawful f.size (λ b. of_value (f.read 0 b)) (λ r. f.spelled (value_of r)) fits
+    → (of_value : f.Value → R) (value_of : R → f.Value) → ((v : f.Value) → f.Fits v → fits (of_value v))
+    → ((r : R) → fits r → f.Fits (value_of r))
+    → ((r : R) → of_value (value_of r) ≡ r)
+    → IsLawful f.size (λ b. of_value (f.read 0 b)) (λ r. f.spelled (value_of r)) fits
 lawful f fits some of_value value_of record_fits value_fits same =
     is_lawful f.size (λ b. of_value (f.read 0 b)) (λ r. f.spelled (value_of r)) fits some
     (λ r h. f.has_size (value_of r) (value_fits r h))
-    (λ r h. ap of_value (f.reads_back (value_of r) (value_fits r h) 0 [] (f.spelled (value_of r)) (sym (append-nil (f.spelled (value_of r))))) ∙ same r)
+    (λ r h.
+    ap of_value
+    (f.reads_back (value_of r) (value_fits r h) 0 [] (f.spelled (value_of r))
+    (sym (append-nil (f.spelled (value_of r)))))
+    ∙ same r)
     (λ bytes b e. record_fits (f.read 0 bytes) (f.read_fits 0 bytes b (omega (arith, e))))

@@ -29,19 +29,23 @@ ReadFits size of_bytes fits = (bytes : List ℕ) → AreBytes bytes → length b
 
 -- what spells records one after the other has a size for each
 abbrev pub RecordsHaveSize : {R : Type 0} → ℕ → (R → List ℕ) → (R → Type 0) → Type 0
-RecordsHaveSize {R = R} size bytes_of fits = (rs : List R) → AllByRecursion fits rs → length (flat_map bytes_of rs) ≡ length rs * size
+RecordsHaveSize {R = R} size bytes_of fits =
+    (rs : List R) → AllByRecursion fits rs → length (flat_map bytes_of rs) ≡ length rs * size
 
 -- what spells records one after the other is a table of those records
 abbrev pub RecordsReadBack : {R : Type 0} → ℕ → (List ℕ → R) → (R → List ℕ) → (R → Type 0) → Type 0
-RecordsReadBack {R = R} size of_bytes bytes_of fits = (rs : List R) → AllByRecursion fits rs → records size of_bytes (flat_map bytes_of rs) ≡ rs
+RecordsReadBack {R = R} size of_bytes bytes_of fits =
+    (rs : List R) → AllByRecursion fits rs → records size of_bytes (flat_map bytes_of rs) ≡ rs
 
 -- the records that bytes hold fit
 abbrev pub RecordsReadFit : {R : Type 0} → ℕ → (List ℕ → R) → (R → Type 0) → Type 0
-RecordsReadFit size of_bytes fits = (bytes : List ℕ) → AreBytes bytes → AllByRecursion fits (records size of_bytes bytes)
+RecordsReadFit size of_bytes fits =
+    (bytes : List ℕ) → AreBytes bytes → AllByRecursion fits (records size of_bytes bytes)
 
 -- What spells a record of a kind has its size and reads as that record, one and many, and a record
 -- that bytes hold fits.
-pub record IsLawful {R : Type 0} (size : ℕ) (of_bytes : List ℕ → R) (bytes_of : R → List ℕ) (fits : R → Type 0) : Type 0 where
+pub record IsLawful {R : Type 0} (size : ℕ) (of_bytes : List ℕ → R) (bytes_of : R → List ℕ) (fits : R → Type 0) :
+    Type 0 where
   pub has_size : HasSize size bytes_of fits
   pub reads_back : ReadsBack of_bytes bytes_of fits
   pub read_fits : ReadFits size of_bytes fits

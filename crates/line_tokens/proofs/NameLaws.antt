@@ -1,5 +1,6 @@
 -- Which bytes are a name.
-use Rattle.std.proofs.Common.{◌≡◌, ◌≤◌, ◌<◌, ℕ, Bool, true, false, List, [], ◌∷◌, length, Some, Result, Ok, Err, refl, sym, ap, arith}
+use Rattle.std.proofs.Common.{◌≡◌, ◌≤◌, ◌<◌, ℕ, Bool, true, false, List, [], ◌∷◌, length, Some, Result, Ok, Err}
+use Rattle.std.proofs.Common.{refl, sym, ap, arith}
 use Rattle.std.specs.Prelude.{nat_lt, nat_le}
 use Rattle.std.specs.List.{list_all, Contains, AllByRecursion}
 use Rattle.std.specs.Result.{IfOk, result_ok}
@@ -32,8 +33,11 @@ zero_fails bytes h =
     let z : list_all above_zero bytes ≡ false = list_all_at above_zero bytes h.0 0 h.1 (ap above_zero h.2) in
     grind (arith, common_steps, z)
 
-pub name_of_bytes : (r : Result (List ℕ) NameFault) (bytes : List ℕ) → IfOk r (λ n. n ≡ bytes) → IfOk r (λ n. IsName n) → (r ≡ Err TooLong → 20 < length bytes) → (r ≡ Err ZeroByte → (length bytes ≤ 20) × Contains bytes 0) → result_ok r ≡ name_of bytes
+pub name_of_bytes : (r : Result (List ℕ) NameFault) (bytes : List ℕ) → IfOk r (λ n. n ≡ bytes)
+    → IfOk r (λ n. IsName n) → (r ≡ Err TooLong → 20 < length bytes)
+    → (r ≡ Err ZeroByte → (length bytes ≤ 20) × Contains bytes 0) → result_ok r ≡ name_of bytes
 unfolding name_of
-name_of_bytes (Ok n) bytes same named long zero = let e : is_name bytes ≡ true = rw (sym same) (name_passes n named) in rw e (ap (λ (x : List ℕ). Some x) same)
+name_of_bytes (Ok n) bytes same named long zero =
+    let e : is_name bytes ≡ true = rw (sym same) (name_passes n named) in rw e (ap (λ (x : List ℕ). Some x) same)
 name_of_bytes (Err TooLong) bytes same named long zero = rw (long_fails bytes (long refl)) refl
 name_of_bytes (Err ZeroByte) bytes same named long zero = rw (zero_fails bytes (zero refl).1) refl

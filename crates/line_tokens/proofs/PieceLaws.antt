@@ -1,5 +1,7 @@
 -- The pieces of printed lines say what they were made of.
-use Rattle.std.proofs.Common.{◌≤◌, ◌≡◌, ◌<◌, ◌^◌, ◌+◌, ◌*◌, ◌-◌, ℕ, ℤ, pos, negsuc, zero, suc, Bool, true, false, List, [], ◌∷◌, ◌++◌, length, map, decimal, refl, ap, subst, ◌∙◌, append_assoc, rules, arith, inl, inr}
+use Rattle.std.proofs.Common.{◌≤◌, ◌≡◌, ◌<◌, ◌^◌, ◌+◌, ◌*◌, ◌-◌, ℕ, ℤ, pos, negsuc, zero, suc, Bool, true, false}
+use Rattle.std.proofs.Common.{List, [], ◌∷◌, ◌++◌, length, map, decimal, refl, ap, subst, ◌∙◌, append_assoc, rules}
+use Rattle.std.proofs.Common.{arith, inl, inr}
 use Rattle.std.specs.Prelude.{fold, ◌||◌, ◌==◌}
 use Rattle.std.specs.Fmt.{signed_decimal}
 use Rattle.std.specs.List.{list_all, flat_map, AllByRecursion}
@@ -20,15 +22,18 @@ use Rattle.line_tokens.specs.Lines.{lines_of, onto, is_feed}
 use Rattle.line_tokens.specs.Tokens.{ends_well}
 use Rattle.line_tokens.specs.Parts.{is_digit}
 use Rattle.line_tokens.specs.Printing.{is_open, hex_literal, name_text, spelled, spaced, line_text}
-use Rattle.line_tokens.specs.Spelling.{is_word, not_blank, IsQuoted, Shows, LineSays, Writes, WritesSigned, WritesRange, IsWithin}
-use Rattle.line_tokens.proofs.TestLaws.{not_true, list_all_weaker, differs, not_feed, no_blank_of, not_blank_of, not_feed_of}
+use Rattle.line_tokens.specs.Spelling.{is_word, not_blank, IsQuoted, Shows, LineSays, Writes, WritesSigned}
+use Rattle.line_tokens.specs.Spelling.{WritesRange, IsWithin}
+use Rattle.line_tokens.proofs.TestLaws.{not_true, list_all_weaker, differs, not_feed, no_blank_of, not_blank_of}
+use Rattle.line_tokens.proofs.TestLaws.{not_feed_of}
 use Rattle.line_tokens.proofs.LexLaws.{lines_yes, lines_no}
 use Rattle.line_tokens.proofs.PrintLaws.{line_spaced}
 
 -- ---- words
 
 -- bytes that all pass a test, which blanks and the signs of comments and literals don't
-pub word_of : (p : ℕ → Bool) → p 32 ≡ false → p 9 ≡ false → p 13 ≡ false → p 35 ≡ false → p 34 ≡ false → p 120 ≡ false → (w : List ℕ) → 0 < length w → list_all p w ≡ true → is_word w ≡ true
+pub word_of : (p : ℕ → Bool) → p 32 ≡ false → p 9 ≡ false → p 13 ≡ false → p 35 ≡ false → p 34 ≡ false
+    → p 120 ≡ false → (w : List ℕ) → 0 < length w → list_all p w ≡ true → is_word w ≡ true
 word_of p x y z c q h [] l e = absurd (omega arith)
 word_of p x y z c q h (b ∷ w) l e =
     let g = and_parts (p b) (list_all p w) e in
@@ -69,15 +74,37 @@ writes limit n h l =
     }
 
 pub writes_signed : (limit : ℕ) (z : ℤ) → IsWithin limit z → limit < 2 ^ 16 → WritesSigned limit (signed_decimal z) z
-writes_signed limit (pos n) h l = inr (record { number = n; writes = writes limit n h (omega (arith, l)); value = refl })
-writes_signed limit (negsuc n) h l = inl (record { digits = decimal (suc n); number = suc n; parts = refl; writes = writes (limit + 1) (suc n) (omega (arith, h)) (omega (arith, l)); value = refl })
+writes_signed limit (pos n) h l =
+    inr (record { number = n; writes = writes limit n h (omega (arith, l)); value = refl })
+writes_signed limit (negsuc n) h l =
+    inl
+    (record {
+      digits =
+          decimal (suc n);
+      number =
+          suc n;
+      parts =
+          refl;
+      writes = writes (limit + 1) (suc n) (omega (arith, h)) (omega (arith, l));
+      value = refl;
+    })
 
 -- the two ends, with `..` between them
 abbrev pub range_text : ℕ → ℕ → List ℕ
 range_text low high = decimal low ++ 46 ∷ 46 ∷ decimal high
 
 pub writes_range : (low high : ℕ) → low ≤ 255 → high ≤ 255 → WritesRange (range_text low high) low high
-writes_range low high h k = record { before = decimal low; behind = decimal high; parts = refl; writes_low = writes 255 low h (omega arith); writes_high = writes 255 high k (omega arith) }
+writes_range low high h k =
+    record {
+      before =
+          decimal low;
+      behind =
+          decimal high;
+      parts =
+          refl;
+      writes_low = writes 255 low h (omega arith);
+      writes_high = writes 255 high k (omega arith);
+    }
 
 -- ---- names
 
@@ -96,13 +123,18 @@ bytes_are [] h = tt
 bytes_are (b ∷ bytes) h = (let l = h 0 in omega (arith, l), bytes_are bytes (λ i. h (suc i)))
 
 hex_digits : (bytes : List ℕ) → IsBytes bytes → list_all is_hex_digit (encode_lower bytes) ≡ true
-hex_digits bytes h = list_all-from_AllPass is_hex_digit (encode_lower bytes) (decode_of-ok (encode_lower bytes) bytes (decode_of-encode_lower bytes h)).1
+hex_digits bytes h =
+    list_all-from_AllPass is_hex_digit (encode_lower bytes)
+    (decode_of-ok (encode_lower bytes) bytes (decode_of-encode_lower bytes h)).1
 
 hex_feed : (bytes : List ℕ) → IsBytes bytes → list_all not_feed (hex_literal bytes) ≡ true
-hex_feed bytes h = list_all_weaker is_hex_digit not_feed (not_feed_of is_hex_digit refl) (encode_lower bytes) (hex_digits bytes h)
+hex_feed bytes h =
+    list_all_weaker is_hex_digit not_feed (not_feed_of is_hex_digit refl) (encode_lower bytes) (hex_digits bytes h)
 
 quotes_feed : (bytes : List ℕ) → list_all is_open bytes ≡ true → list_all not_feed (34 ∷ bytes ++ 34 ∷ []) ≡ true
-quotes_feed bytes h = list_all-append not_feed bytes (34 ∷ []) ∙ and_from _ _ (list_all_weaker is_open not_feed (not_feed_of is_open refl) bytes h) refl
+quotes_feed bytes h =
+    list_all-append not_feed bytes (34 ∷ [])
+    ∙ and_from _ _ (list_all_weaker is_open not_feed (not_feed_of is_open refl) bytes h) refl
 
 -- ---- pieces
 
@@ -153,7 +185,8 @@ digit_in_range b e = rw e refl
 range_in_range : (low high : ℕ) → low < 2 ^ 32 → high < 2 ^ 32 → list_all in_range (range_text low high) ≡ true
 range_in_range low high h k =
     list_all-append in_range (decimal low) (46 ∷ 46 ∷ decimal high)
-    ∙ and_from _ _ (list_all_weaker is_digit in_range digit_in_range (decimal low) (all_digits low h)) (list_all_weaker is_digit in_range digit_in_range (decimal high) (all_digits high k))
+    ∙ and_from _ _ (list_all_weaker is_digit in_range digit_in_range (decimal low) (all_digits low h))
+    (list_all_weaker is_digit in_range digit_in_range (decimal high) (all_digits high k))
 
 pub spoken_range : (low high : ℕ) → low ≤ 255 → high ≤ 255 → Spoken (Range low high)
 unfolding spelled
@@ -167,7 +200,13 @@ spoken_range low high h k =
 
 pub spoken_hex : (bytes : List ℕ) → IsBytes bytes → Spoken (Hex bytes)
 unfolding spelled
-spoken_hex bytes h = record { shows = inr (record { digits = encode_lower bytes; parts = refl; value = decode_of-encode_lower bytes h }); no_feed = hex_feed bytes h }
+spoken_hex bytes h =
+    record {
+      shows =
+          inr (record { digits = encode_lower bytes; parts = refl; value = decode_of-encode_lower bytes h });
+      no_feed =
+          hex_feed bytes h;
+    }
 
 name_quoted : (bytes : List ℕ) → list_all is_open bytes ≡ true → 34 ∷ bytes ++ 34 ∷ [] ≡ name_text bytes
 unfolding name_text
@@ -175,8 +214,22 @@ name_quoted bytes e = rw e refl
 
 bytes_spoken : (bytes : List ℕ) (t : Bool) → list_all is_open bytes ≡ t → IsBytes bytes → Spoken (Name bytes)
 unfolding spelled name_text
-bytes_spoken bytes true e h = record { shows = let q : IsQuoted (34 ∷ bytes ++ 34 ∷ []) bytes = (refl, e) in subst (λ (t : List ℕ). Shows t (says.Literal bytes)) (name_quoted bytes e) (inl q); no_feed = rw e (quotes_feed bytes e) }
-bytes_spoken bytes false e h = record { shows = rw e (inr (record { digits = encode_lower bytes; parts = refl; value = decode_of-encode_lower bytes h })); no_feed = rw e (hex_feed bytes h) }
+bytes_spoken bytes true e h =
+    record {
+      shows =
+          let q : IsQuoted (34 ∷ bytes ++ 34 ∷ []) bytes = (refl, e) in
+          subst (λ (t : List ℕ). Shows t (says.Literal bytes)) (name_quoted bytes e) (inl q);
+      no_feed =
+          rw e (quotes_feed bytes e);
+    }
+bytes_spoken bytes false e h =
+    record {
+      shows =
+          rw e
+          (inr (record { digits = encode_lower bytes; parts = refl; value = decode_of-encode_lower bytes h }));
+      no_feed =
+          rw e (hex_feed bytes h);
+    }
 
 pub spoken_bytes : (bytes : List ℕ) → IsBytes bytes → Spoken (Name bytes)
 spoken_bytes bytes h = bytes_spoken bytes (list_all is_open bytes) refl h
@@ -199,20 +252,29 @@ spaced_ends (p ∷ ps) = refl
 
 spaced_said : (ps : List Piece) → AllSpoken ps → LineSays (flat_map spaced ps) (map meant ps)
 spaced_said [] h = record { blanks = []; rest = []; parts = refl; blank = refl; silent = refl }
-spaced_said (p ∷ ps) h =
-    (flat_map spaced ps, record { blanks = 32 ∷ []; token = spelled p; parts = refl; blank = refl; shows = h.0.shows; apart = spaced_ends ps }, spaced_said ps h.1)
+spaced_said (p ∷ ps) h = (
+  flat_map spaced ps,
+  record
+      { blanks = 32 ∷ []; token = spelled p; parts = refl; blank = refl; shows = h.0.shows; apart = spaced_ends ps },
+  spaced_said ps h.1,
+)
 
 spaced_feed : (ps : List Piece) → AllSpoken ps → list_all not_feed (flat_map spaced ps) ≡ true
 spaced_feed [] h = refl
-spaced_feed (p ∷ ps) h = list_all-append not_feed (spaced p) (flat_map spaced ps) ∙ and_from _ _ h.0.no_feed (spaced_feed ps h.1)
+spaced_feed (p ∷ ps) h =
+    list_all-append not_feed (spaced p) (flat_map spaced ps) ∙ and_from _ _ h.0.no_feed (spaced_feed ps h.1)
 
 -- a line without its line feed
 abbrev pub line : List ℕ → List Piece → List ℕ
 line w ps = w ++ flat_map spaced ps
 
-pub line_says : (w : List ℕ) (ps : List Piece) → is_word w ≡ true → AllSpoken ps → LineSays (line w ps) (says.Word w ∷ map meant ps)
-line_says w ps h s =
-    (flat_map spaced ps, record { blanks = []; token = w; parts = refl; blank = refl; shows = (refl, h); apart = spaced_ends ps }, spaced_said ps s)
+pub line_says : (w : List ℕ) (ps : List Piece) → is_word w ≡ true → AllSpoken ps
+    → LineSays (line w ps) (says.Word w ∷ map meant ps)
+line_says w ps h s = (
+  flat_map spaced ps,
+  record { blanks = []; token = w; parts = refl; blank = refl; shows = (refl, h); apart = spaced_ends ps },
+  spaced_said ps s,
+)
 
 fed : (l rest : List ℕ) → list_all not_feed l ≡ true → lines_of (l ++ 10 ∷ rest) ≡ l ∷ lines_of rest
 fed [] rest h = lines_yes 10 rest refl
@@ -220,7 +282,8 @@ fed (b ∷ l) rest h =
     let g = and_parts (not_feed b) (list_all not_feed l) h in
     lines_no b (l ++ 10 ∷ rest) (not_true (is_feed b) g.0) ∙ ap (onto b) (fed l rest g.1)
 
-pub line_first : (w : List ℕ) (ps : List Piece) (rest : List ℕ) → list_all not_feed w ≡ true → AllSpoken ps → lines_of (line_text w ps ++ rest) ≡ line w ps ∷ lines_of rest
+pub line_first : (w : List ℕ) (ps : List Piece) (rest : List ℕ) → list_all not_feed w ≡ true → AllSpoken ps
+    → lines_of (line_text w ps ++ rest) ≡ line w ps ∷ lines_of rest
 line_first w ps rest h s =
     ap (λ (t : List ℕ). lines_of (t ++ rest)) (line_spaced w ps)
     ∙ ap lines_of (append_assoc (line w ps) (10 ∷ []) rest)

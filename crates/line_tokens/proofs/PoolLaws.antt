@@ -1,5 +1,6 @@
 -- Over the pool of a text, its lines say what they say by themselves.
-use Rattle.std.proofs.Common.{◌≡◌, ◌-◌, ◌/◌, ℕ, suc, Bool, true, false, List, [], ◌∷◌, ◌++◌, length, drop, map, Result, Ok, Err, refl, sym, ap, ◌∙◌, append_assoc, arith}
+use Rattle.std.proofs.Common.{◌≡◌, ◌-◌, ◌/◌, ℕ, suc, Bool, true, false, List, [], ◌∷◌, ◌++◌, length, drop, map}
+use Rattle.std.proofs.Common.{Result, Ok, Err, refl, sym, ap, ◌∙◌, append_assoc, arith}
 use Rattle.std.specs.List.{list_all}
 use Rattle.std.proofs.lemmas.List.{append-nil, take_at, drop_at, length-drop}
 use Rattle.hex.specs.Hex.{decode_of}
@@ -11,7 +12,8 @@ use Rattle.line_tokens.specs.declared.cursor.Said.{Said}
 use Rattle.line_tokens.specs.declared.cursor.Said.TheVariants.{Word, Literal, Bad}
 use Rattle.line_tokens.specs.Lines.{lines_of}
 use Rattle.line_tokens.specs.Tokens.{tokens_of}
-use Rattle.line_tokens.specs.Said.{is_plain, is_hex, decoded, said, said_in, said_lines, size_of, said_over, all_said_over, pool_after, lines_said_over}
+use Rattle.line_tokens.specs.Said.{is_plain, is_hex, decoded, said, said_in, said_lines, size_of, said_over}
+use Rattle.line_tokens.specs.Said.{all_said_over, pool_after, lines_said_over}
 use Rattle.line_tokens.specs.Pool.{Grown, and_then, gather, literal_of, literals_of, pool_bytes}
 
 -- ---- the cursor
@@ -20,7 +22,9 @@ pub pool_at_end : (pool : List ℕ) (ts : List Token) → all_said_over pool ts 
 pool_at_end pool [] e = refl
 pool_at_end pool (t ∷ ts) e = cc
 
-pub lines_said_on : (pool behind : List ℕ) (l : List ℕ) (ls all : List (List ℕ)) → behind ≡ pool_after pool (tokens_of l) → all ≡ l ∷ ls → lines_said_over pool all ≡ all_said_over pool (tokens_of l) ∷ lines_said_over behind ls
+pub lines_said_on : (pool behind : List ℕ) (l : List ℕ) (ls all : List (List ℕ))
+    → behind ≡ pool_after pool (tokens_of l) → all ≡ l ∷ ls
+    → lines_said_over pool all ≡ all_said_over pool (tokens_of l) ∷ lines_said_over behind ls
 lines_said_on pool behind l ls all b e = rw (e, b) refl
 
 pub lines_said_end : (pool : List ℕ) (all : List (List ℕ)) → all ≡ [] → lines_said_over pool all ≡ []
@@ -73,7 +77,8 @@ said_unquoted : (i : List ℕ) → list_all is_plain i ≡ false → said (Quote
 unfolding said
 said_unquoted i x = rw x refl
 
-lends_digits : (n : ℕ) (w pool more : List ℕ) (r : Result (List ℕ) FromHexError) → is_hex w ≡ true → decode_of (drop 1 w) ≡ r → literal_of n (decoded r) pool ≡ Ok more → Lends (Plain w) pool more
+lends_digits : (n : ℕ) (w pool more : List ℕ) (r : Result (List ℕ) FromHexError) → is_hex w ≡ true
+    → decode_of (drop 1 w) ≡ r → literal_of n (decoded r) pool ≡ Ok more → Lends (Plain w) pool more
 unfolding size_of said_over
 lends_digits n w pool more (Ok bytes) x d e =
     let h = decode_of-ok (drop 1 w) bytes d in
@@ -82,13 +87,18 @@ lends_digits n w pool more (Ok bytes) x d e =
       bytes = bytes;
       parts = taken n bytes pool more e;
       size = rw (x, len) refl;
-      same = λ rest. rw (said_digits w x, d, x, len) (ap (λ (b : List ℕ). Literal b) (take_at bytes rest (length bytes) refl));
+      same =
+          λ rest.
+          rw (said_digits w x, d, x, len)
+          (ap (λ (b : List ℕ). Literal b) (take_at bytes rest (length bytes) refl));
     }
 lends_digits n w pool more (Err f) x d e = absurd (never n pool more e)
 
-lends_plain : (n : ℕ) (w pool more : List ℕ) (t : Bool) → is_hex w ≡ t → literal_of n (said (Plain w)) pool ≡ Ok more → Lends (Plain w) pool more
+lends_plain : (n : ℕ) (w pool more : List ℕ) (t : Bool) → is_hex w ≡ t → literal_of n (said (Plain w)) pool ≡ Ok more
+    → Lends (Plain w) pool more
 unfolding size_of said_over
-lends_plain n w pool more true x e = lends_digits n w pool more (decode_of (drop 1 w)) x refl (rw (said_digits w x) at e)
+lends_plain n w pool more true x e =
+    lends_digits n w pool more (decode_of (drop 1 w)) x refl (rw (said_digits w x) at e)
 lends_plain n w pool more false x e = record {
   bytes = [];
   parts = not_taken n w pool more (rw (said_word w x) at e);
@@ -96,7 +106,8 @@ lends_plain n w pool more false x e = record {
   same = λ rest. rw (said_word w x, x) refl;
 }
 
-lends_quoted : (n : ℕ) (i pool more : List ℕ) (t : Bool) → list_all is_plain i ≡ t → literal_of n (said (Quoted i)) pool ≡ Ok more → Lends (Quoted i) pool more
+lends_quoted : (n : ℕ) (i pool more : List ℕ) (t : Bool) → list_all is_plain i ≡ t
+    → literal_of n (said (Quoted i)) pool ≡ Ok more → Lends (Quoted i) pool more
 unfolding size_of said_over
 lends_quoted n i pool more true x e = record {
   bytes = i;
@@ -129,23 +140,28 @@ serves_none n pool more e =
     let same : pool ≡ more = cc in
     record { bytes = []; parts = sym same ∙ sym (append-nil pool); same = λ rest. refl; behind = λ rest. refl }
 
-pub literals_through : (n : ℕ) (s : Said) (line : List Said) (pool more : List ℕ) → literals_of n (s ∷ line) pool ≡ Ok more → Through (literal_of n s pool) (λ p. literals_of n line p) more
+pub literals_through : (n : ℕ) (s : Said) (line : List Said) (pool more : List ℕ)
+    → literals_of n (s ∷ line) pool ≡ Ok more → Through (literal_of n s pool) (λ p. literals_of n line p) more
 unfolding literals_of
 literals_through n s line pool more e = through (literal_of n s pool) (λ p. literals_of n line p) more e
 
-pub serves : (n : ℕ) (ts : List Token) (pool more : List ℕ) → literals_of n (map said ts) pool ≡ Ok more → Serves ts pool more
+pub serves : (n : ℕ) (ts : List Token) (pool more : List ℕ) → literals_of n (map said ts) pool ≡ Ok more
+    → Serves ts pool more
 serves n [] pool more e = serves_none n pool more e
 serves n (t ∷ ts) pool more e =
     let b = literals_through n (said t) (map said ts) pool more e in
     let l = lends n t pool b.between b.first in
     let s = serves n ts b.between more b.second in
     let split = λ (rest : List ℕ). append_assoc l.bytes s.bytes rest in
-    let left = λ (rest : List ℕ). ap (drop (size_of t)) (split rest) ∙ drop_at l.bytes (s.bytes ++ rest) (size_of t) (sym l.size) in
+    let left =
+    λ (rest : List ℕ).
+    ap (drop (size_of t)) (split rest) ∙ drop_at l.bytes (s.bytes ++ rest) (size_of t) (sym l.size) in
     record {
       bytes = l.bytes ++ s.bytes;
       parts = s.parts ∙ ap (λ (x : List ℕ). x ++ s.bytes) l.parts ∙ append_assoc pool l.bytes s.bytes;
       same = λ rest.
-          ap (λ (x : Said). x ∷ all_said_over (drop (size_of t) ((l.bytes ++ s.bytes) ++ rest)) ts) (ap (λ (x : List ℕ). said_over x t) (split rest) ∙ l.same (s.bytes ++ rest))
+          ap (λ (x : Said). x ∷ all_said_over (drop (size_of t) ((l.bytes ++ s.bytes) ++ rest)) ts)
+          (ap (λ (x : List ℕ). said_over x t) (split rest) ∙ l.same (s.bytes ++ rest))
           ∙ ap (λ (x : List ℕ). said t ∷ all_said_over x ts) (left rest)
           ∙ ap (λ (x : List Said). said t ∷ x) (s.same rest);
       behind = λ rest. ap (λ (x : List ℕ). pool_after x ts) (left rest) ∙ s.behind rest;
@@ -164,11 +180,14 @@ lines_serve_none n pool more e =
     let same : pool ≡ more = cc in
     record { bytes = []; parts = sym same ∙ sym (append-nil pool); same = refl }
 
-pub lines_through : (n : ℕ) (l : List Said) (ls : List (List Said)) (pool more : List ℕ) → gather literals_of n (l ∷ ls) pool ≡ Ok more → Through (literals_of n l pool) (λ p. gather literals_of (suc n) ls p) more
+pub lines_through : (n : ℕ) (l : List Said) (ls : List (List Said)) (pool more : List ℕ)
+    → gather literals_of n (l ∷ ls) pool ≡ Ok more
+    → Through (literals_of n l pool) (λ p. gather literals_of (suc n) ls p) more
 unfolding gather
 lines_through n l ls pool more e = through (literals_of n l pool) (λ p. gather literals_of (suc n) ls p) more e
 
-lines_serve : (n : ℕ) (ls : List (List ℕ)) (pool more : List ℕ) → gather literals_of n (map said_in ls) pool ≡ Ok more → LinesServe ls pool more
+lines_serve : (n : ℕ) (ls : List (List ℕ)) (pool more : List ℕ)
+    → gather literals_of n (map said_in ls) pool ≡ Ok more → LinesServe ls pool more
 lines_serve n [] pool more e = lines_serve_none n pool more e
 lines_serve n (l ∷ ls) pool more e =
     let b = lines_through n (said_in l) (map said_in ls) pool more e in
@@ -178,12 +197,14 @@ lines_serve n (l ∷ ls) pool more e =
       bytes = s.bytes ++ r.bytes;
       parts = r.parts ∙ ap (λ (x : List ℕ). x ++ r.bytes) s.parts ∙ append_assoc pool s.bytes r.bytes;
       same =
-          ap (λ (x : List Said). x ∷ lines_said_over (pool_after (s.bytes ++ r.bytes) (tokens_of l)) ls) (s.same r.bytes)
+          ap (λ (x : List Said). x ∷ lines_said_over (pool_after (s.bytes ++ r.bytes) (tokens_of l)) ls)
+          (s.same r.bytes)
           ∙ ap (λ (x : List ℕ). said_in l ∷ lines_said_over x ls) (s.behind r.bytes)
           ∙ ap (λ (x : List (List Said)). said_in l ∷ x) r.same;
     }
 
-pub over_pool : (text pool : List ℕ) → pool_bytes text ≡ Ok pool → lines_said_over pool (lines_of text) ≡ said_lines text
+pub over_pool : (text pool : List ℕ) → pool_bytes text ≡ Ok pool
+    → lines_said_over pool (lines_of text) ≡ said_lines text
 unfolding pool_bytes
 over_pool text pool e =
     let s = lines_serve 1 (lines_of text) [] pool e in

@@ -1,5 +1,6 @@
 -- The parts of a printed line.
-use Rattle.std.proofs.Common.{subst, ◌≡◌, ◌≤◌, ◌<◌, ◌+◌, ℕ, suc, List, [], ◌∷◌, ◌++◌, length, map, get_or, drop, refl, sym, ap, ◌∙◌, arith, drop-cons, append_assoc}
+use Rattle.std.proofs.Common.{subst, ◌≡◌, ◌≤◌, ◌<◌, ◌+◌, ℕ, suc, List, [], ◌∷◌, ◌++◌, length, map, get_or, drop}
+use Rattle.std.proofs.Common.{refl, sym, ap, ◌∙◌, arith, drop-cons, append_assoc}
 use Rattle.std.specs.Prelude.{Option}
 use Rattle.std.specs.Borrow.{Bor}
 use Rattle.std.specs.List.{flat_map, join_with_byte}
@@ -24,8 +25,11 @@ encode_nothing : encode_lower [] ≡ []
 unfolding encode_with
 encode_nothing = refl
 
-digits_at : (bytes digits : List ℕ) (i : ℕ) → i < length bytes → digits ≡ encode_lower (get_or bytes i 0 ∷ []) → encode_lower (drop i bytes) ≡ digits ++ encode_lower (drop (i + 1) bytes)
-digits_at bytes digits i h d = ap encode_lower (drop-cons bytes i 0 h) ∙ encode_first (get_or bytes i 0) (drop (suc i) bytes) ∙ (let e : i + 1 ≡ suc i = omega arith in rw (e, d) refl)
+digits_at : (bytes digits : List ℕ) (i : ℕ) → i < length bytes → digits ≡ encode_lower (get_or bytes i 0 ∷ [])
+    → encode_lower (drop i bytes) ≡ digits ++ encode_lower (drop (i + 1) bytes)
+digits_at bytes digits i h d =
+    ap encode_lower (drop-cons bytes i 0 h) ∙ encode_first (get_or bytes i 0) (drop (suc i) bytes)
+    ∙ (let e : i + 1 ≡ suc i = omega arith in rw (e, d) refl)
 
 digits_over : (bytes : List ℕ) (i : ℕ) → length bytes ≤ i → encode_lower (drop i bytes) ≡ []
 unfolding encode_with
@@ -43,7 +47,8 @@ encode_both (b ∷ xs) ys =
 abbrev pub all_digits : List (Bor (List ℕ)) → List ℕ
 all_digits slices = encode_lower (all_bytes slices)
 
-slices_at : (slices : List (Bor (List ℕ))) (d : Bor (List ℕ)) (i : ℕ) → i < length slices → all_digits (drop i slices) ≡ encode_lower (get_or slices i d).now ++ all_digits (drop (i + 1) slices)
+slices_at : (slices : List (Bor (List ℕ))) (d : Bor (List ℕ)) (i : ℕ) → i < length slices
+    → all_digits (drop i slices) ≡ encode_lower (get_or slices i d).now ++ all_digits (drop (i + 1) slices)
 slices_at slices d i h =
     ap all_digits (drop-cons slices i d h)
     ∙ encode_both (get_or slices i d).now (all_bytes (drop (suc i) slices))
@@ -61,27 +66,40 @@ pub line_spaced : (w : List ℕ) (ps : List Piece) → line_text w ps ≡ w ++ f
 line_spaced w ps = ap (λ (x : List ℕ). x ++ 10 ∷ []) (joined_spaced w ps)
 
 module _ {W : Type 0} {c : W → Option (List ℕ)} where
-  pub puts_line : {o p q r : Output W} (w : List ℕ) (ps : List Piece) → Puts c o p w → Puts c p q (flat_map spaced ps) → Puts c q r (10 ∷ []) → Puts c o r (line_text w ps)
+  pub puts_line : {o p q r : Output W} (w : List ℕ) (ps : List Piece) → Puts c o p w
+      → Puts c p q (flat_map spaced ps) → Puts c q r (10 ∷ []) → Puts c o r (line_text w ps)
   puts_line w ps h k l =
-      puts_as ((w ++ flat_map spaced ps) ++ 10 ∷ []) (line_text w ps) (sym (line_spaced w ps)) (puts_then (w ++ flat_map spaced ps) (10 ∷ []) (puts_then w (flat_map spaced ps) h k) l)
+      puts_as ((w ++ flat_map spaced ps) ++ 10 ∷ []) (line_text w ps) (sym (line_spaced w ps))
+      (puts_then (w ++ flat_map spaced ps) (10 ∷ []) (puts_then w (flat_map spaced ps) h k) l)
 
   -- the digits of a byte
-  pub digits_on : {o p q : Output W} {whole : List ℕ} (bytes digits : List ℕ) (i : ℕ) → Putting c o p whole (encode_lower (drop i bytes)) → i < length bytes → digits ≡ encode_lower (get_or bytes i 0 ∷ []) → Puts c p q digits
+  pub digits_on : {o p q : Output W} {whole : List ℕ} (bytes digits : List ℕ) (i : ℕ)
+      → Putting c o p whole (encode_lower (drop i bytes)) → i < length bytes
+      → digits ≡ encode_lower (get_or bytes i 0 ∷ []) → Puts c p q digits
       → Putting c o q whole (encode_lower (drop (i + 1) bytes))
-  digits_on bytes digits i s h d k = putting_step digits (encode_lower (drop (i + 1) bytes)) s (digits_at bytes digits i h d) k
+  digits_on bytes digits i s h d k =
+      putting_step digits (encode_lower (drop (i + 1) bytes)) s (digits_at bytes digits i h d) k
 
-  pub digits_end : {o p : Output W} {whole : List ℕ} (bytes : List ℕ) (i : ℕ) → Putting c o p whole (encode_lower (drop i bytes)) → length bytes ≤ i → Puts c o p whole
+  pub digits_end : {o p : Output W} {whole : List ℕ} (bytes : List ℕ) (i : ℕ)
+      → Putting c o p whole (encode_lower (drop i bytes)) → length bytes ≤ i → Puts c o p whole
   digits_end {o} {p} {whole} bytes i s h = let e = digits_over bytes i h in putting_end (rw e at s)
 
   -- the digits of a slice
-  pub slices_on : {o p q : Output W} {whole : List ℕ} (slices : List (Bor (List ℕ))) (d : Bor (List ℕ)) (i : ℕ) → Putting c o p whole (all_digits (drop i slices)) → i < length slices → Puts c p q (encode_lower (get_or slices i d).now)
+  pub slices_on : {o p q : Output W} {whole : List ℕ} (slices : List (Bor (List ℕ))) (d : Bor (List ℕ)) (i : ℕ)
+      → Putting c o p whole (all_digits (drop i slices)) → i < length slices
+      → Puts c p q (encode_lower (get_or slices i d).now)
       → Putting c o q whole (all_digits (drop (i + 1) slices))
-  slices_on slices d i s h k = putting_step (encode_lower (get_or slices i d).now) (all_digits (drop (i + 1) slices)) s (slices_at slices d i h) k
+  slices_on slices d i s h k =
+      putting_step (encode_lower (get_or slices i d).now) (all_digits (drop (i + 1) slices)) s
+      (slices_at slices d i h) k
 
-  pub slices_end : {o p : Output W} {whole : List ℕ} (slices : List (Bor (List ℕ))) (i : ℕ) → Putting c o p whole (all_digits (drop i slices)) → length slices ≤ i → Puts c o p whole
+  pub slices_end : {o p : Output W} {whole : List ℕ} (slices : List (Bor (List ℕ))) (i : ℕ)
+      → Putting c o p whole (all_digits (drop i slices)) → length slices ≤ i → Puts c o p whole
   slices_end slices i s h = let e = slices_over slices i h in putting_end (rw e at s)
 
   -- a piece
-  pub pieces_on : {o p q : Output W} {whole : List ℕ} (ps : List Piece) (x : Piece) (i : ℕ) → Putting c o p whole (flat_map spaced (drop i ps)) → i < length ps → x ≡ get_or ps i x → Puts c p q (spaced x)
+  pub pieces_on : {o p q : Output W} {whole : List ℕ} (ps : List Piece) (x : Piece) (i : ℕ)
+      → Putting c o p whole (flat_map spaced (drop i ps)) → i < length ps → x ≡ get_or ps i x → Puts c p q (spaced x)
       → Putting c o q whole (flat_map spaced (drop (i + 1) ps))
-  pieces_on {p = p} {q} ps x i s h e k = putting_member spaced ps i x s h (subst (λ (y : Piece). Puts c p q (spaced y)) e k)
+  pieces_on {p = p} {q} ps x i s h e k =
+      putting_member spaced ps i x s h (subst (λ (y : Piece). Puts c p q (spaced y)) e k)

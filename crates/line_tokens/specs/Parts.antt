@@ -1,5 +1,7 @@
 -- The parts of a line, which are read from left to right, up to the first fault.
-use Rattle.std.specs.Prelude.{◌≡◌, ℕ, suc, ℤ, pos, neg_ℤ, ◌+◌, ◌*◌, ◌-◌, List, [], ◌∷◌, length, take, drop, bytes_eq, fold, Option, Some, None, option_map, Result, Ok, Err, Bool, false, ◌==◌, ◌&&◌, nat_le, nat_lt, if◌then◌else◌}
+use Rattle.std.specs.Prelude.{◌≡◌, ℕ, suc, ℤ, pos, neg_ℤ, ◌+◌, ◌*◌, ◌-◌, List, [], ◌∷◌, length, take, drop, bytes_eq}
+use Rattle.std.specs.Prelude.{fold, Option, Some, None, option_map, Result, Ok, Err, Bool, false, ◌==◌, ◌&&◌, nat_le}
+use Rattle.std.specs.Prelude.{nat_lt, if◌then◌else◌}
 use Rattle.std.specs.List.{list_all}
 use Rattle.line_tokens.specs.declared.cursor.Said.{Said}
 use Rattle.line_tokens.specs.declared.cursor.Said.TheVariants.{Word, Literal, Bad}
@@ -72,7 +74,9 @@ digits_value w = fold (λ n b. n * 10 + (b - 48)) 0 w
 
 -- the number of 1 to 10 decimal digits, if it is within the limit
 unfoldable pub number_of : ℕ → List ℕ → Option ℕ
-number_of limit w = if nat_lt 0 (length w) && nat_le (length w) 10 && list_all is_digit w && nat_le (digits_value w) limit then Some (digits_value w) else None
+number_of limit w =
+    if nat_lt 0 (length w) && nat_le (length w) 10 && list_all is_digit w
+    && nat_le (digits_value w) limit then Some (digits_value w) else None
 
 -- a word where a number is due: any other token is a fault of number, and the line's end one of syntax
 unfoldable pub number_word : Part (List ℕ)
@@ -102,7 +106,9 @@ number limit = numeral (number_of limit)
 -- the number of digits that may have `-` before them, from one below minus the limit up to the limit
 unfoldable pub signed_of : ℕ → List ℕ → Option ℤ
 signed_of limit [] = None
-signed_of limit (b ∷ w) = if b == 45 then option_map (λ n. neg_ℤ (pos n)) (number_of (limit + 1) w) else option_map pos (number_of limit (b ∷ w))
+signed_of limit (b ∷ w) =
+    if b == 45 then option_map (λ n. neg_ℤ (pos n)) (number_of (limit + 1) w) else option_map pos
+    (number_of limit (b ∷ w))
 
 -- a signed number
 unfoldable pub signed : ℕ → Part ℤ
@@ -152,5 +158,6 @@ name = do
 -- ---- what the code of a part does to what is left of a line
 
 abbrev pub Reads : {X Y : Type 0} → (X → Y) → Part Y → saying.Left → saying.Left → Result X LineFault → Type 0
-Reads view part old new (Ok x) = (part old.said ≡ Ok (record { value = view x; rest = new.said })) × (new.pool ≡ old.pool)
+Reads view part old new (Ok x) =
+    (part old.said ≡ Ok (record { value = view x; rest = new.said })) × (new.pool ≡ old.pool)
 Reads view part old new (Err e) = part old.said ≡ Err e

@@ -22,7 +22,8 @@ and_then (Ok x) f = f x
 and_then (Err e) f = Err e
 
 -- the list behind all lines, of which the first has the number n
-unfoldable pub gather : {X F : Type 0} → (ℕ → List Said → List X → Result (List X) F) → ℕ → List (List Said) → List X → Result (List X) F
+unfoldable pub gather : {X F : Type 0} → (ℕ → List Said → List X → Result (List X) F) → ℕ → List (List Said) → List X
+    → Result (List X) F
 gather f n [] xs = Ok xs
 gather f n (l ∷ ls) xs = and_then (f n l xs) (λ ys. gather f (suc n) ls ys)
 

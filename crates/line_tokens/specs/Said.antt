@@ -1,5 +1,6 @@
 -- What a token says: a word, the bytes of a literal, or a literal that is badly spelled.
-use Rattle.std.specs.Prelude.{ℕ, List, [], ◌∷◌, length, take, drop, map, Option, Some, None, Result, Ok, Err, Bool, false, ◌==◌, ◌&&◌, ◌-◌, ◌/◌, nat_le, if◌then◌else◌}
+use Rattle.std.specs.Prelude.{ℕ, List, [], ◌∷◌, length, take, drop, map, Option, Some, None, Result, Ok, Err, Bool}
+use Rattle.std.specs.Prelude.{false, ◌==◌, ◌&&◌, ◌-◌, ◌/◌, nat_le, if◌then◌else◌}
 use Rattle.std.specs.List.{list_all}
 use Rattle.hex.specs.Hex.{decode_of}
 use Rattle.line_tokens.specs.declared.tokens.Token.{Token}

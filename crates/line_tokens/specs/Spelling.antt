@@ -1,5 +1,6 @@
 -- Which bytes say what: a relation of lines, tokens, blanks and comments, without a reader.
-use Rattle.std.specs.Prelude.{◌≡◌, ◌≤◌, ◌<◌, ◌⊎◌, ℕ, ℤ, pos, negsuc, neg_ℤ, ◌+◌, List, [], ◌∷◌, ◌++◌, length, Ok, Bool, true, false, not, IsTrue, ◌==◌, ◌&&◌}
+use Rattle.std.specs.Prelude.{◌≡◌, ◌≤◌, ◌<◌, ◌⊎◌, ℕ, ℤ, pos, negsuc, neg_ℤ, ◌+◌, List, [], ◌∷◌, ◌++◌, length, Ok}
+use Rattle.std.specs.Prelude.{Bool, true, false, not, IsTrue, ◌==◌, ◌&&◌}
 use Rattle.std.specs.List.{list_all}
 use Rattle.hex.specs.Hex.{decode_of}
 use Rattle.line_tokens.specs.declared.cursor.Said.{Said}

@@ -1,5 +1,6 @@
 -- The tokens of a line.
-use Rattle.std.specs.Prelude.{ℕ, zero, suc, List, [], ◌∷◌, length, drop, Option, Some, None, Bool, true, ◌==◌, ◌||◌, ◌&&◌, nat_lt, if◌then◌else◌}
+use Rattle.std.specs.Prelude.{ℕ, zero, suc, List, [], ◌∷◌, length, drop, Option, Some, None, Bool, true, ◌==◌, ◌||◌}
+use Rattle.std.specs.Prelude.{◌&&◌, nat_lt, if◌then◌else◌}
 use Rattle.std.specs.List.{before_first, after_first, position_or_len, prefix_len}
 use Rattle.line_tokens.specs.declared.tokens.Token.{Token}
 use Rattle.line_tokens.specs.declared.tokens.Token.TheVariants.{Plain, Quoted, Broken}
@@ -29,12 +30,15 @@ ends_well (b ∷ line) = is_blank b
 -- the token behind an opening quote: it runs to the next quote
 unfoldable pub quoted_at : List ℕ → Front
 quoted_at line =
-    if nat_lt (position_or_len is_quote line) (length line) && ends_well (after_first is_quote line) then record { token = Quoted (before_first is_quote line); after = after_first is_quote line }
+    if nat_lt (position_or_len is_quote line) (length line)
+    && ends_well (after_first is_quote line) then record
+    { token = Quoted (before_first is_quote line); after = after_first is_quote line }
     else record { token = Broken; after = [] }
 
 -- a token that runs to the next blank
 unfoldable pub plain_at : ℕ → List ℕ → Front
-plain_at b line = record { token = Plain (b ∷ before_first is_blank line); after = drop (position_or_len is_blank line) line }
+plain_at b line =
+    record { token = Plain (b ∷ before_first is_blank line); after = drop (position_or_len is_blank line) line }
 
 -- the token at the front, where no blank stands: none where the line ends, or `#` begins a comment
 unfoldable pub token_at : List ℕ → Option Front

@@ -1,5 +1,7 @@
 -- Spans of lists that change.
-use Rattle.std.proofs.Common.{◌≡◌, ◌≢◌, ℕ, ◌<◌, ◌≤◌, ◌+◌, ◌-◌, inl, inr, suc, zero, Bool, ◌||◌, false, true, List, [], ◌∷◌, length, map, insert, remove, slice_get, Option, Some, None, refl, sym, subst, ◌∙◌, ap, arith}
+use Rattle.std.proofs.Common.{◌≡◌, ◌≢◌, ℕ, ◌<◌, ◌≤◌, ◌+◌, ◌-◌, inl, inr, suc, zero, Bool, ◌||◌, false, true, List}
+use Rattle.std.proofs.Common.{[], ◌∷◌, length, map, insert, remove, slice_get, Option, Some, None, refl, sym, subst}
+use Rattle.std.proofs.Common.{◌∙◌, ap, arith}
 use Rattle.std.proofs.lemmas.Bool.{cases_lt, cases_eq}
 use Rattle.std.proofs.lemmas.List.{length-map}
 use Rattle.std.proofs.lemmas.List.Edits.{length-remove}
@@ -8,7 +10,9 @@ use Rattle.std.proofs.lemmas.Option.{get_or_from_slice_get, slice_get_within}
 use Rattle.std.specs.Prelude.{IfSome}
 use Rattle.std.specs.List.{list_any}
 use Rattle.numbered_lists.specs.Moved.{moved, changed_within}
-use Rattle.numbered_lists.proofs.Lists.{slice_get-found, slice_get-insert, slice_get-insert_below, slice_get-insert_above, slice_get-remove_below, slice_get-remove_above, moved-found, length-moved}
+use Rattle.numbered_lists.proofs.Lists.{slice_get-found, slice_get-insert, slice_get-insert_below}
+use Rattle.numbered_lists.proofs.Lists.{slice_get-insert_above, slice_get-remove_below, slice_get-remove_above}
+use Rattle.numbered_lists.proofs.Lists.{moved-found, length-moved}
 use Rattle.linked_members.specs.declared.span.Span.{Span}
 use Rattle.linked_members.specs.Spans.{IsSpan, IsOutside}
 use Rattle.linked_members.proofs.Parts.{all_changed}
@@ -17,7 +21,8 @@ if_some : {X : Type 0} {P Q : X → Type 0} → (o : Option X) → ((x : X) → 
 if_some None f h = tt
 if_some (Some x) f h = f x h
 
-if_some_map : {X Y : Type 0} (P : Y → Type 0) (f : X → Y) (xs : List X) (i : ℕ) → IfSome (slice_get xs i) (λ x. P (f x)) → IfSome (slice_get (map f xs) i) P
+if_some_map : {X Y : Type 0} (P : Y → Type 0) (f : X → Y) (xs : List X) (i : ℕ)
+    → IfSome (slice_get xs i) (λ x. P (f x)) → IfSome (slice_get (map f xs) i) P
 if_some_map P f [] zero h = tt
 if_some_map P f [] (suc i) h = tt
 if_some_map P f (x ∷ xs) zero h = h
@@ -34,50 +39,65 @@ module _ {X : Type 0} (h : X → Bool) where
   Free o = IfSome o (λ x. h x ≡ false)
 
   -- renumbering leaves them as they are
-  pub linked_changed : (f : X → X) → ((x : X) → h x ≡ false → f x ≡ x) → (xs : List X) (span : Span) → IsSpan h xs span → changed_within span.start span.end f xs ≡ map f xs
-  linked_changed f stays xs span s = all_changed f xs span.start span.end s.order (λ i o. if_some (slice_get xs i) stays (s.outside i o))
+  pub linked_changed : (f : X → X) → ((x : X) → h x ≡ false → f x ≡ x) → (xs : List X) (span : Span)
+      → IsSpan h xs span → changed_within span.start span.end f xs ≡ map f xs
+  linked_changed f stays xs span s =
+      all_changed f xs span.start span.end s.order (λ i o. if_some (slice_get xs i) stays (s.outside i o))
 
-  pub span_changed : (f : X → X) → ((x : X) → h x ≡ false → f x ≡ x) → (xs : List X) (span : Span) → IsSpan h xs span → IsSpan h (map f xs) span
+  pub span_changed : (f : X → X) → ((x : X) → h x ≡ false → f x ≡ x) → (xs : List X) (span : Span) → IsSpan h xs span
+      → IsSpan h (map f xs) span
   span_changed f stays xs span s =
       let size = length-map xs f in
       let within = s.within in
       record {
         order = s.order;
         within = omega arith;
-        outside = λ i o. if_some_map (λ y. h y ≡ false) f xs i (if_some (slice_get xs i) (λ x free. subst (λ y. h y ≡ false) (sym (stays x free)) free) (s.outside i o));
+        outside =
+            λ i o.
+            if_some_map (λ y. h y ≡ false) f xs i
+            (if_some (slice_get xs i) (λ x free. subst (λ y. h y ≡ false) (sym (stays x free)) free)
+            (s.outside i o));
       }
 
-  pub span_inserted : (xs : List X) (at : ℕ) (x : X) (span r : Span) → IsSpan h xs span → at ≤ length xs → r.start ≤ r.end → r.end ≤ length (insert xs at x)
-      → ((i : ℕ) → IsOutside r i → i < at → IsOutside span i) → ((i : ℕ) → IsOutside r (i + 1) → at ≤ i → IsOutside span i) → (IsOutside r at → h x ≡ false)
+  pub span_inserted : (xs : List X) (at : ℕ) (x : X) (span r : Span) → IsSpan h xs span → at ≤ length xs
+      → r.start ≤ r.end → r.end ≤ length (insert xs at x)
+      → ((i : ℕ) → IsOutside r i → i < at → IsOutside span i)
+      → ((i : ℕ) → IsOutside r (i + 1) → at ≤ i → IsOutside span i) → (IsOutside r at → h x ≡ false)
       → IsSpan h (insert xs at x) r
   span_inserted xs at x span r s place order within below above own =
       let free : (i : ℕ) → IsOutside r i → Free (slice_get (insert xs at x) i) = λ i o. elim (cases_lt i at) [
         | inl l ↦ subst Free (sym (slice_get-insert_below xs at x i place l)) (s.outside i (below i o l))
         | inr g ↦ elim (cases_eq i at) [
-          | inl same ↦ subst (λ k. Free (slice_get (insert xs at x) k)) (sym same) (subst Free (sym (slice_get-insert xs at x place)) (own (subst (IsOutside r) same o)))
+          | inl same ↦ subst (λ k. Free (slice_get (insert xs at x) k)) (sym same)
+              (subst Free (sym (slice_get-insert xs at x place)) (own (subst (IsOutside r) same o)))
           | inr other ↦
               let before : i ≡ i - 1 + 1 = omega arith in
               let next : i ≡ suc (i - 1) = omega arith in
               let behind : at ≤ i - 1 = omega arith in
               subst (λ k. Free (slice_get (insert xs at x) k)) (sym next)
-              (subst Free (sym (slice_get-insert_above xs at x (i - 1) place behind)) (s.outside (i - 1) (above (i - 1) (subst (IsOutside r) before o) behind)))
+              (subst Free (sym (slice_get-insert_above xs at x (i - 1) place behind))
+              (s.outside (i - 1) (above (i - 1) (subst (IsOutside r) before o) behind)))
         ]
       ] in
       record { order = order; within = within; outside = free }
 
-  pub span_removed : (xs : List X) (at : ℕ) (span r : Span) → IsSpan h xs span → at < length xs → r.start ≤ r.end → r.end ≤ length (remove xs at)
-      → ((i : ℕ) → IsOutside r i → i < at → IsOutside span i) → ((i : ℕ) → IsOutside r i → at ≤ i → IsOutside span (i + 1))
+  pub span_removed : (xs : List X) (at : ℕ) (span r : Span) → IsSpan h xs span → at < length xs → r.start ≤ r.end
+      → r.end ≤ length (remove xs at)
+      → ((i : ℕ) → IsOutside r i → i < at → IsOutside span i)
+      → ((i : ℕ) → IsOutside r i → at ≤ i → IsOutside span (i + 1))
       → IsSpan h (remove xs at) r
   span_removed xs at span r s place order within below above =
       let free : (i : ℕ) → IsOutside r i → Free (slice_get (remove xs at) i) = λ i o. elim (cases_lt i at) [
         | inl l ↦ subst Free (sym (slice_get-remove_below xs at i l)) (s.outside i (below i o l))
         | inr g ↦
             let next : i + 1 ≡ suc i = omega arith in
-            subst Free (sym (slice_get-remove_above xs at i g)) (s.outside (suc i) (subst (IsOutside span) next (above i o g)))
+            subst Free (sym (slice_get-remove_above xs at i g))
+            (s.outside (suc i) (subst (IsOutside span) next (above i o g)))
       ] in
       record { order = order; within = within; outside = free }
 
-  pub span_moved : (xs : List X) (from to : ℕ) (span r : Span) → IsSpan h xs span → from < length xs → to < length xs → r.end ≤ length xs
+  pub span_moved : (xs : List X) (from to : ℕ) (span r : Span) → IsSpan h xs span → from < length xs → to < length xs
+      → r.end ≤ length xs
       → r.start ≤ span.start → span.end ≤ r.end → r.start ≤ from → from < r.end → r.start ≤ to → to < r.end
       → IsSpan h (moved xs from to) r
   span_moved xs from to span r s there place within first last a b c d =
@@ -87,47 +107,67 @@ module _ {X : Type 0} (h : X → Bool) where
       let size_too = length-moved xs from to there place in
       let inside : to ≤ length (remove xs from) = omega arith in
       let free : (i : ℕ) → IsOutside r i → Free (slice_get (insert (remove xs from) to y) i) = λ i o. elim o [
-        | inl l ↦ subst Free (sym (slice_get-insert_below (remove xs from) to y i inside (omega arith) ∙ slice_get-remove_below xs from i (omega arith))) (s.outside i (inl (omega arith)))
+        | inl l ↦ subst Free
+            (sym
+            (slice_get-insert_below (remove xs from) to y i inside (omega arith)
+            ∙ slice_get-remove_below xs from i (omega arith)))
+            (s.outside i (inl (omega arith)))
         | inr g ↦
             let next : i ≡ suc (i - 1) = omega arith in
             subst (λ k. Free (slice_get (insert (remove xs from) to y) k)) (sym next)
             (subst Free (sym (slice_get-insert_above (remove xs from) to y (i - 1) inside (omega arith) ∙ slice_get-remove_above xs from (i - 1) (omega arith)))
             (subst (λ k. Free (slice_get xs k)) next (s.outside i (inr (omega arith)))))
       ] in
-      record { order = omega arith; within = omega arith; outside = λ i o. subst (λ ys. Free (slice_get ys i)) (sym is) (free i o) }
+      record {
+        order =
+            omega arith;
+        within =
+            omega arith;
+        outside = λ i o. subst (λ ys. Free (slice_get ys i)) (sym is) (free i o);
+      }
 
 -- ---- whether any but one passes a test
 
-none_pass : {X : Type 0} (p : X → Bool) (xs : List X) → ((i : ℕ) → IfSome (slice_get xs i) (λ x. p x ≡ false)) → list_any p xs ≡ false
+none_pass : {X : Type 0} (p : X → Bool) (xs : List X) → ((i : ℕ) → IfSome (slice_get xs i) (λ x. p x ≡ false))
+    → list_any p xs ≡ false
 none_pass p [] h = refl
 none_pass p (x ∷ xs) h = ap (λ b. b || list_any p xs) (h zero) ∙ none_pass p xs (λ i. h (suc i))
 
-no_others : {X : Type 0} (p : X → Bool) (xs : List X) (at : ℕ) → ((i : ℕ) → i ≢ at → IfSome (slice_get xs i) (λ x. p x ≡ false)) → list_any p (remove xs at) ≡ false
+no_others : {X : Type 0} (p : X → Bool) (xs : List X) (at : ℕ)
+    → ((i : ℕ) → i ≢ at → IfSome (slice_get xs i) (λ x. p x ≡ false)) → list_any p (remove xs at) ≡ false
 no_others p xs at h =
     none_pass p (remove xs at) (λ i. elim (cases_lt i at) [
-      | inl l ↦ subst (λ o. IfSome o (λ x. p x ≡ false)) (sym (slice_get-remove_below xs at i l)) (h i (λ e. omega arith))
-      | inr g ↦ subst (λ o. IfSome o (λ x. p x ≡ false)) (sym (slice_get-remove_above xs at i g)) (h (suc i) (λ e. omega arith))
+      | inl l ↦ subst (λ o. IfSome o (λ x. p x ≡ false)) (sym (slice_get-remove_below xs at i l))
+          (h i (λ e. omega arith))
+      | inr g ↦ subst (λ o. IfSome o (λ x. p x ≡ false)) (sym (slice_get-remove_above xs at i g))
+          (h (suc i) (λ e. omega arith))
     ])
 
-passes_at : {X : Type 0} (p : X → Bool) (xs : List X) (i : ℕ) (x : X) → slice_get xs i ≡ Some x → p x ≡ true → list_any p xs ≡ true
+passes_at : {X : Type 0} (p : X → Bool) (xs : List X) (i : ℕ) (x : X) → slice_get xs i ≡ Some x → p x ≡ true
+    → list_any p xs ≡ true
 passes_at p xs i x e t = list_any_at p xs i x (slice_get_within xs i x e) (ap p (get_or_from_slice_get xs i x x e) ∙ t)
 
-another_passes : {X : Type 0} (p : X → Bool) (xs : List X) (at i : ℕ) (x : X) → i ≢ at → slice_get xs i ≡ Some x → p x ≡ true → list_any p (remove xs at) ≡ true
+another_passes : {X : Type 0} (p : X → Bool) (xs : List X) (at i : ℕ) (x : X) → i ≢ at → slice_get xs i ≡ Some x
+    → p x ≡ true → list_any p (remove xs at) ≡ true
 another_passes p xs at i x ne e t = elim (cases_lt i at) [
   | inl l ↦ passes_at p (remove xs at) i x (slice_get-remove_below xs at i l ∙ e) t
   | inr g ↦
       let next : i ≡ suc (i - 1) = omega arith in
-      passes_at p (remove xs at) (i - 1) x (slice_get-remove_above xs at (i - 1) (omega arith) ∙ (ap (slice_get xs) (sym next) ∙ e)) t
+      passes_at p (remove xs at) (i - 1) x
+      (slice_get-remove_above xs at (i - 1) (omega arith) ∙ (ap (slice_get xs) (sym next) ∙ e)) t
 ]
 
-pub one_other : {X : Type 0} (p : X → Bool) (xs : List X) (at i : ℕ) → i ≢ at → i < length xs → IfSome (slice_get xs i) (λ x. p x ≡ true) → list_any p (remove xs at) ≡ true
+pub one_other : {X : Type 0} (p : X → Bool) (xs : List X) (at i : ℕ) → i ≢ at → i < length xs
+    → IfSome (slice_get xs i) (λ x. p x ≡ true) → list_any p (remove xs at) ≡ true
 one_other p xs at i ne there passes =
     let (x, e) = slice_get-found xs i there in
     another_passes p xs at i x ne e (subst (λ o. IfSome o (λ x. p x ≡ true)) e passes)
 
 -- none does between two places, nor outside of the span
-pub none_but : {X : Type 0} (h p : X → Bool) (xs : List X) (at : ℕ) (span : Span) → IsSpan h xs span → ((x : X) → h x ≡ false → p x ≡ false)
-    → ((i : ℕ) → span.start ≤ i → i < span.end → i ≢ at → IfSome (slice_get xs i) (λ x. p x ≡ false)) → list_any p (remove xs at) ≡ false
+pub none_but : {X : Type 0} (h p : X → Bool) (xs : List X) (at : ℕ) (span : Span) → IsSpan h xs span
+    → ((x : X) → h x ≡ false → p x ≡ false)
+    → ((i : ℕ) → span.start ≤ i → i < span.end → i ≢ at → IfSome (slice_get xs i) (λ x. p x ≡ false))
+    → list_any p (remove xs at) ≡ false
 none_but h p xs at span s nowhere within =
     no_others p xs at (λ i ne. elim (cases_lt i span.start) [
       | inl l ↦ if_some (slice_get xs i) nowhere (s.outside i (inl l))

@@ -55,7 +55,9 @@ one_gathered said = whole (literals_of 1 said [])
 pub pool_of_one : (l : List ℕ) → HasNoFeed l → pool_bytes l ≡ literals_of 1 (said_in l) []
 unfolding pool_bytes
 pool_of_one [] h = none_gathered ∙ sym none_taken ∙ ap (λ (s : List Said). literals_of 1 s []) (sym no_tokens)
-pool_of_one (b ∷ l) h = ap (λ (ls : List (List ℕ)). gather literals_of 1 (map said_in ls) []) (one_line b l (is_feed b) refl h) ∙ one_gathered (said_in (b ∷ l))
+pool_of_one (b ∷ l) h =
+    ap (λ (ls : List (List ℕ)). gather literals_of 1 (map said_in ls) []) (one_line b l (is_feed b) refl h)
+    ∙ one_gathered (said_in (b ∷ l))
 
 -- ---- its pool
 
@@ -66,7 +68,8 @@ says_same l pool h e =
 
 -- ---- literals that are badly spelled
 
-spelled : (n : ℕ) (said : List Said) (pool : List ℕ) (r : Grown ℕ) → literals_of n said pool ≡ r → list_any is_bad said ≡ is_err r
+spelled : (n : ℕ) (said : List Said) (pool : List ℕ) (r : Grown ℕ) → literals_of n said pool ≡ r
+    → list_any is_bad said ≡ is_err r
 unfolding literals_of literal_of
 spelled n [] pool r e = ap is_err e
 spelled n (Word w ∷ said) pool r e = spelled n said pool r e
@@ -76,5 +79,6 @@ spelled n (Bad ∷ said) pool r e = ap is_err e
 pub well_spelled : (l pool : List ℕ) → HasNoFeed l → pool_bytes l ≡ Ok pool → list_any is_bad (said_in l) ≡ false
 well_spelled l pool h e = spelled 1 (said_in l) [] (Ok pool) (sym (pool_of_one l h) ∙ e)
 
-pub badly_spelled : (l : List ℕ) (f : ScriptFault) → HasNoFeed l → pool_bytes l ≡ Err f → list_any is_bad (said_in l) ≡ true
+pub badly_spelled : (l : List ℕ) (f : ScriptFault) → HasNoFeed l → pool_bytes l ≡ Err f
+    → list_any is_bad (said_in l) ≡ true
 badly_spelled l f h e = spelled 1 (said_in l) [] (Err f) (sym (pool_of_one l h) ∙ e)

@@ -5,7 +5,8 @@ use Rattle.std.specs.Str.{IsUtf8, is_utf8}
 use Rattle.std.proofs.lemmas.Str.{is_utf8-from_IsUtf8, IsUtf8-from_is_utf8}
 use Rattle.live_lines.specs.Paths.{path_of}
 
-pub text_path : (text bytes : List ℕ) → text ≡ bytes → IsUtf8 bytes → cond (list_all (λ b. nat_le 32 b) text) (Some text) None ≡ path_of bytes
+pub text_path : (text bytes : List ℕ) → text ≡ bytes → IsUtf8 bytes
+    → cond (list_all (λ b. nat_le 32 b) text) (Some text) None ≡ path_of bytes
 unfolding path_of
 text_path text bytes e u = rw (e, is_utf8-from_IsUtf8 bytes u) refl
 

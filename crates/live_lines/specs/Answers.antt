@@ -4,7 +4,8 @@ use Rattle.bank_validity.specs.declared.limits.Limit.{Limit}
 use Rattle.bank_validity.specs.Limits.{word_of}
 use Rattle.edit_forms.specs.declared.cause.Cause.{Cause}
 use Rattle.edit_refusals.specs.declared.refusal.Refusal.{Refusal}
-use Rattle.edit_refusals.specs.declared.refusal.Refusal.TheVariants.{Of, OutOfMemory, NothingToUndo, NothingToRedo, GroupRefused}
+use Rattle.edit_refusals.specs.declared.refusal.Refusal.TheVariants.{Of, OutOfMemory, NothingToUndo, NothingToRedo}
+use Rattle.edit_refusals.specs.declared.refusal.Refusal.TheVariants.{GroupRefused}
 use Rattle.edit_forms.specs.CauseNames as causes
 use Rattle.edit_refusals.specs.RefusalNames as refusals
 use Rattle.line_tokens.specs.declared.printing.Piece.{Piece}
@@ -56,7 +57,9 @@ fault_text fault = line_text (codes "fault") (Number (faults.number_of fault) �
 
 -- how much of a file went out
 abbrev pub write_text : List ℕ → ℕ → List ℕ
-write_text path written = line_text (codes "write") (Word (codes "fault") ∷ Word path ∷ Word (codes "after") ∷ Number written ∷ Word (codes "bytes") ∷ [])
+write_text path written =
+    line_text (codes "write")
+    (Word (codes "fault") ∷ Word path ∷ Word (codes "after") ∷ Number written ∷ Word (codes "bytes") ∷ [])
 
 -- the line of an answer, with its line feed
 unfoldable pub answer_text : Answer → List ℕ

@@ -1,5 +1,6 @@
 -- A block that is cut in two.
-use Rattle.std.proofs.Common.{◌≡◌, ℕ, ◌+◌, ◌-◌, ◌≤◌, ℤ, Bool, true, false, not, cond, List, [], ◌∷◌, ◌++◌, map, filter, refl, sym, ap, ◌∙◌, arith, append-nil, Option}
+use Rattle.std.proofs.Common.{◌≡◌, ℕ, ◌+◌, ◌-◌, ◌≤◌, ℤ, Bool, true, false, not, cond, List, [], ◌∷◌, ◌++◌, map}
+use Rattle.std.proofs.Common.{filter, refl, sym, ap, ◌∙◌, arith, append-nil, Option}
 use Rattle.std.specs.List.{flat_map}
 use Rattle.std.proofs.lemmas.Bool.{not-false}
 use Rattle.bank_parts.specs.declared.parts.Parts.{Parts}
@@ -31,14 +32,17 @@ aged_twice p k n =
     ap (λ (a : ℕ). let q : Playing = record p { voice = record { value = p.voice.value; age = a } } in q) e
 
 -- those that sound after both parts
-both_parts : (ps : List Playing) (k n : ℕ) → filter is_sounding (map (aged n) (filter is_sounding (map (aged k) ps))) ≡ filter is_sounding (map (aged (k + n)) ps)
+both_parts : (ps : List Playing) (k n : ℕ)
+    → filter is_sounding (map (aged n) (filter is_sounding (map (aged k) ps)))
+    ≡ filter is_sounding (map (aged (k + n)) ps)
 both_parts [] k n = refl
 both_parts (p ∷ ps) k n =
     let kept : List Playing = filter is_sounding (map (aged k) ps) in
     let all : List Playing = filter is_sounding (map (aged (k + n)) ps) in
     let same : filter is_sounding (map (aged n) kept) ≡ all = both_parts ps k n in
     let P : Bool → Type 0 = λ b. is_sounding (aged k p) ≡ b
-    → filter is_sounding (map (aged n) (cond b (aged k p ∷ kept) kept)) ≡ cond (is_sounding (aged (k + n) p)) (aged (k + n) p ∷ all) all in
+    → filter is_sounding (map (aged n) (cond b (aged k p ∷ kept) kept))
+    ≡ cond (is_sounding (aged (k + n) p)) (aged (k + n) p ∷ all) all in
     let at : (b : Bool) → P b = elim [
       | true ↦ λ _. (λ i. cond (is_sounding (aged_twice p k n i)) (aged_twice p k n i ∷ same i) (same i))
       | false ↦ λ h. same ∙ sym (ap (λ (b : Bool). cond b (aged (k + n) p ∷ all) all) (over_later p k n h))
@@ -51,7 +55,18 @@ after_both ps k n = both_parts ps k n
 
 -- some bank, for the law speaks of one
 no_texts : Texts
-no_texts = record { engine = []; name = []; date = []; engineers = []; product = []; copyright = []; comment = []; software = [] }
+no_texts =
+    record {
+      engine =
+          [];
+      name = [];
+      date = [];
+      engineers = [];
+      product = [];
+      copyright = [];
+      comment = [];
+      software = [];
+    }
 
 no_bank : Parts
 no_bank = record { minor = 1; texts = no_texts; presets = []; instruments = []; samples = [] }
@@ -61,15 +76,18 @@ alone : (ps : List Playing) (k : ℕ) → blocks no_bank ps (Given k ∷ []) ≡
 unfolding blocks
 alone ps k = append-nil (block ps k)
 
-in_two : (ps : List Playing) (k n : ℕ) → blocks no_bank ps (Given k ∷ Given n ∷ []) ≡ block ps k ++ block (after_block ps k) n
+in_two : (ps : List Playing) (k n : ℕ)
+    → blocks no_bank ps (Given k ∷ Given n ∷ []) ≡ block ps k ++ block (after_block ps k) n
 unfolding blocks
 in_two ps k n = ap (λ (xs : List ℤ). block ps k ++ xs) (append-nil (block (after_block ps k) n))
 
-same_events : (ps : List Playing) (k n : ℕ) → blocks no_bank ps (Given (k + n) ∷ []) ≡ blocks no_bank ps (Given k ∷ Given n ∷ [])
+same_events : (ps : List Playing) (k n : ℕ)
+    → blocks no_bank ps (Given (k + n) ∷ []) ≡ blocks no_bank ps (Given k ∷ Given n ∷ [])
 unfolding starts given
 same_events ps k n =
     blocks_from no_bank (Given (k + n) ∷ []) ps 0
-    ∙ ap (λ (m : ℕ). frames (record { frame = 0; voices = ps } ∷ []) 0 m) (let e : k + n + 0 ≡ k + (n + 0) = omega arith in e)
+    ∙ ap (λ (m : ℕ). frames (record { frame = 0; voices = ps } ∷ []) 0 m)
+    (let e : k + n + 0 ≡ k + (n + 0) = omega arith in e)
     ∙ sym (blocks_from no_bank (Given k ∷ Given n ∷ []) ps 0)
 
 pub block_cut : (ps : List Playing) (k n : ℕ) → block ps (k + n) ≡ block ps k ++ block (after_block ps k) n
@@ -81,7 +99,8 @@ block_none ps = refl
 
 module _ {W : Type 0} {c : W → Option (List ℕ)} {o p q : Output W} {whole : List ℕ} where
   -- a block was put of those frames that are left
-  pub put_next : (ps qs : List Playing) (n k : ℕ) {m : ℕ} → Putting c o p whole (flat_map sample_bytes (block ps n)) → Puts c p q (flat_map sample_bytes (block ps m))
+  pub put_next : (ps qs : List Playing) (n k : ℕ) {m : ℕ} → Putting c o p whole (flat_map sample_bytes (block ps n))
+      → Puts c p q (flat_map sample_bytes (block ps m))
       → qs ≡ after_block ps m → m ≡ k → k ≤ n → Putting c o q whole (flat_map sample_bytes (block qs (n - k)))
   put_next ps qs n k {m} s h e same within =
       let left : n ≡ m + (n - k) = omega arith in
@@ -89,9 +108,11 @@ module _ {W : Type 0} {c : W → Option (List ℕ)} {o p q : Output W} {whole : 
       (ap (λ (j : ℕ). flat_map sample_bytes (block ps j)) left
       ∙ ap (flat_map sample_bytes) (block_cut ps m (n - k))
       ∙ flat_map-append sample_bytes (block ps m) (block (after_block ps m) (n - k))
-      ∙ ap (λ (xs : List Playing). flat_map sample_bytes (block ps m) ++ flat_map sample_bytes (block xs (n - k))) (sym e)) h
+      ∙ ap (λ (xs : List Playing). flat_map sample_bytes (block ps m) ++ flat_map sample_bytes (block xs (n - k)))
+      (sym e)) h
 
-pub played_next : (ps qs first : List Playing) (n k count : ℕ) {m : ℕ} → qs ≡ after_block ps m → after_block ps n ≡ after_block first count → m ≡ k → k ≤ n
+pub played_next : (ps qs first : List Playing) (n k count : ℕ) {m : ℕ} → qs ≡ after_block ps m
+    → after_block ps n ≡ after_block first count → m ≡ k → k ≤ n
     → after_block qs (n - k) ≡ after_block first count
 played_next ps qs first n k count {m} e h same within =
     let left : m + (n - k) ≡ n = omega arith in

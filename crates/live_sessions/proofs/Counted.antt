@@ -1,5 +1,6 @@
 -- A note has one voice of each of its pairs of zones.
-use Rattle.std.proofs.Common.{◌≡◌, ℕ, ◌+◌, ◌-◌, ◌^◌, ◌≤◌, ◌<◌, min, suc, List, [], ◌∷◌, length, length-append, get_or, Option, Some, None, IsSome, refl, sym, ap, ◌∙◌, arith}
+use Rattle.std.proofs.Common.{◌≡◌, ℕ, ◌+◌, ◌-◌, ◌^◌, ◌≤◌, ◌<◌, min, suc, List, [], ◌∷◌, length, length-append}
+use Rattle.std.proofs.Common.{get_or, Option, Some, None, IsSome, refl, sym, ap, ◌∙◌, arith}
 use Rattle.std.specs.List.{flat_map}
 use Rattle.std.proofs.lemmas.List.{length-map}
 use Rattle.std.proofs.lemmas.List.Elements.{Contains-get_or}
@@ -16,18 +17,24 @@ one_listed : (o : Option Voice) → IsSome o → length (listed o) ≡ 1
 one_listed (Some v) h = refl
 one_listed None h = cc
 
-all_voiced : (f : ℕ × ℕ → Option Voice) (qs : List (ℕ × ℕ)) (d : ℕ × ℕ) → ((k : ℕ) → k < length qs → IsSome (f (get_or qs k d)))
+all_voiced : (f : ℕ × ℕ → Option Voice) (qs : List (ℕ × ℕ)) (d : ℕ × ℕ)
+    → ((k : ℕ) → k < length qs → IsSome (f (get_or qs k d)))
     → length (flat_map (λ q. listed (f q)) qs) ≡ length qs
 all_voiced f [] d h = refl
 all_voiced f (q ∷ qs) d h =
     let one : length (listed (f q)) ≡ 1 = one_listed (f q) (h 0 (omega arith)) in
-    let rest : length (flat_map (λ q. listed (f q)) qs) ≡ length qs = all_voiced f qs d (λ k l. h (suc k) (omega arith)) in
+    let rest : length (flat_map (λ q. listed (f q)) qs) ≡ length qs =
+    all_voiced f qs d (λ k l. h (suc k) (omega arith)) in
     omega (arith, length-append (listed (f q)) (flat_map (λ q. listed (f q)) qs))
 
 pub fresh_counted : (b : Parts) (n : Numbers) → IsValid b → length (pairs b n) ≡ length (fresh b n)
 unfolding fresh
 fresh_counted b n valid =
-    sym (all_voiced (voice_by b n) (pairs b n) (0, 0) (λ k h. (pairs_have_voices b n (get_or (pairs b n) k (0, 0)) valid).0 (Contains-get_or (pairs b n) k (0, 0) h)))
+    sym
+    (all_voiced (voice_by b n) (pairs b n) (0, 0)
+    (λ k h.
+    (pairs_have_voices b n (get_or (pairs b n) k (0, 0)) valid).0
+    (Contains-get_or (pairs b n) k (0, 0) h)))
     ∙ ap length (selected_by_pairs b n)
     ∙ sym (length-map (selected b n) (playing n))
 
@@ -37,12 +44,16 @@ count_first b n qs voices valid e f =
     let same : length qs ≡ length (fresh b n) = ap length f ∙ fresh_counted b n valid in
     (omega arith, omega arith)
 
-pub count_next : (total : ℕ) (q : ℕ × ℕ) (rest qs : List (ℕ × ℕ)) (voices more : ℕ) → qs ≡ q ∷ rest → more ≡ min (voices + 1) (2 ^ 64 - 1) → length qs ≤ total
-    → voices ≡ min (total - length qs) (2 ^ 64 - 1) → (length rest ≤ total) × (more ≡ min (total - length rest) (2 ^ 64 - 1))
+pub count_next : (total : ℕ) (q : ℕ × ℕ) (rest qs : List (ℕ × ℕ)) (voices more : ℕ) → qs ≡ q ∷ rest
+    → more ≡ min (voices + 1) (2 ^ 64 - 1) → length qs ≤ total
+    → voices ≡ min (total - length qs) (2 ^ 64 - 1)
+    → (length rest ≤ total) × (more ≡ min (total - length rest) (2 ^ 64 - 1))
 count_next total q rest qs voices more e m within counted =
-    let longer : length qs ≡ length rest + 1 = ap length e ∙ (let s : suc (length rest) ≡ length rest + 1 = omega arith in s) in
+    let longer : length qs ≡ length rest + 1 =
+    ap length e ∙ (let s : suc (length rest) ≡ length rest + 1 = omega arith in s) in
     (omega arith, omega arith)
 
-pub count_last : (total : ℕ) (qs : List (ℕ × ℕ)) (voices : ℕ) → qs ≡ [] → voices ≡ min (total - length qs) (2 ^ 64 - 1) → voices ≡ min total (2 ^ 64 - 1)
+pub count_last : (total : ℕ) (qs : List (ℕ × ℕ)) (voices : ℕ) → qs ≡ []
+    → voices ≡ min (total - length qs) (2 ^ 64 - 1) → voices ≡ min total (2 ^ 64 - 1)
 count_last total qs voices e counted =
     let none : length qs ≡ 0 = ap length e in omega arith

@@ -1,5 +1,6 @@
 -- One request done.
-use Rattle.std.proofs.Common.{◌≡◌, ℕ, ℤ, List, [], ◌++◌, Option, Some, None, sym, ap, subst, append-nil, append_assoc, ◌∙◌}
+use Rattle.std.proofs.Common.{◌≡◌, ℕ, ℤ, List, [], ◌++◌, Option, Some, None, sym, ap, subst, append-nil}
+use Rattle.std.proofs.Common.{append_assoc, ◌∙◌}
 use Rattle.std.specs.List.{flat_map}
 use Rattle.std.specs.Io.KnownBytes.{Appends}
 use Rattle.std.proofs.KnownBytes.{Appends-nil}
@@ -21,7 +22,8 @@ adds_then (Some x) (Some y) None xs ys p q = absurd q
 adds_then (Some x) (Some y) (Some z) xs ys p q = q ∙ ap (λ (l : List Saved). l ++ ys) p ∙ append_assoc x xs ys
 
 -- requests that send nothing and save nothing
-pub does_quietly : (old new : Live) (r : Request) (a : Answer) (pcm : Option (List ℕ)) (saved : Option (List Saved)) → RequestIs old r a new
+pub does_quietly : (old new : Live) (r : Request) (a : Answer) (pcm : Option (List ℕ)) (saved : Option (List Saved))
+    → RequestIs old r a new
     → frames_of old r a ≡ [] → saves_of old r a ≡ [] → Does old new r a pcm pcm saved saved
 does_quietly old new r a pcm saved h f s = record {
   session = h;
@@ -29,5 +31,6 @@ does_quietly old new r a pcm saved h f s = record {
   saves = subst (λ (xs : List Saved). Adds saved saved xs) (sym s) (adds_nothing saved);
 }
 
-pub quietly_as : (old new : Live) (r s : Request) (a : Answer) (pcm : Option (List ℕ)) (saved : Option (List Saved)) → r ≡ s → Does old new s a pcm pcm saved saved → Does old new r a pcm pcm saved saved
+pub quietly_as : (old new : Live) (r s : Request) (a : Answer) (pcm : Option (List ℕ)) (saved : Option (List Saved))
+    → r ≡ s → Does old new s a pcm pcm saved saved → Does old new r a pcm pcm saved saved
 quietly_as old new r s a pcm saved e h = subst (λ (x : Request). Does old new x a pcm pcm saved saved) (sym e) h

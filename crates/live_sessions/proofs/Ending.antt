@@ -1,5 +1,6 @@
 -- Lines that pass one after the other, and the end of a session.
-use Rattle.std.proofs.Common.{◌≡◌, inl, inr, ℕ, Bool, true, false, ◌||◌, List, [], ◌∷◌, ◌++◌, map, Option, Some, None, Result, Ok, Err, refl, sym, ap, subst, ◌∙◌, append-nil, append_assoc}
+use Rattle.std.proofs.Common.{◌≡◌, inl, inr, ℕ, Bool, true, false, ◌||◌, List, [], ◌∷◌, ◌++◌, map, Option, Some}
+use Rattle.std.proofs.Common.{None, Result, Ok, Err, refl, sym, ap, subst, ◌∙◌, append-nil, append_assoc}
 use Rattle.std.specs.List.{flat_map, list_any}
 use Rattle.std.specs.Io.KnownBytes.{Appends, IsAtEnd}
 use Rattle.std.proofs.KnownBytes.{Appends-nil, Appends-trans}
@@ -13,7 +14,8 @@ use Rattle.live_sessions.specs.declared.requests.Next.TheVariants as next
 use Rattle.live_sessions.specs.declared.fault.LiveFault.{LiveFault}
 use Rattle.live_sessions.specs.declared.fault.LiveFault.TheVariants as fault
 use Rattle.live_sessions.specs.Saved.{Saved, Adds}
-use Rattle.live_sessions.specs.Turns.{LineIs, Turn, Around, asked, text_in, bytes_in, saves_in, ends_in, AreTurns, Reads, Passes, Passed}
+use Rattle.live_sessions.specs.Turns.{LineIs, Turn, Around, asked, text_in, bytes_in, saves_in, ends_in, AreTurns}
+use Rattle.live_sessions.specs.Turns.{Reads, Passes, Passed}
 use Rattle.live_sessions.specs.Runs.{OnlyReads, EndsWell, EndsBy, Plays, AnswersOr, GoesOn, Goes, IsReadFault}
 use Rattle.live_sessions.proofs.Doing.{adds_nothing, adds_then}
 use Rattle.live_sessions.proofs.Turning.{around}
@@ -23,16 +25,31 @@ with_input input answers pcm saved = record { input = input; answers = answers; 
 
 -- ---- a line that was read
 
-passes_read : (counts : Counts) (t : Turn) (i j o n p q : Option (List ℕ)) (v w : Option (List Saved)) → Passes counts t (around o p v) (around n q w)
+passes_read : (counts : Counts) (t : Turn) (i j o n p q : Option (List ℕ)) (v w : Option (List Saved))
+    → Passes counts t (around o p v) (around n q w)
     → Passes counts t (with_input i o p v) (with_input j n q w)
 passes_read counts t i j o n p q v w h = record { is = h.is; answers = h.answers; pcm = h.pcm; saved = h.saved }
 
-pub line_goes : (counts : Counts) (line : List ℕ) (old new : Live) (i j o n p q : Option (List ℕ)) (v w : Option (List Saved)) (r : Result Next LiveFault)
-    → Reads i j (line ∷ []) → AnswersOr counts line old new (around o p v) (around n q w) r → Goes counts old new (with_input i o p v) (with_input j n q w) r
+pub line_goes : (counts : Counts) (line : List ℕ) (old new : Live) (i j o n p q : Option (List ℕ))
+    (v w : Option (List Saved)) (r : Result Next LiveFault)
+    → Reads i j (line ∷ []) → AnswersOr counts line old new (around o p v) (around n q w) r
+    → Goes counts old new (with_input i o p v) (with_input j n q w) r
 line_goes counts line old new i j o n p q v w (Ok next.Line) read h = record {
   line = line;
   input = read;
-  answers = record { turn = h.turn; said = h.said; begins = h.begins; leaves = h.leaves; passes = passes_read counts h.turn i j o n p q v w h.passes; ends = h.ends };
+  answers =
+      record {
+        turn =
+            h.turn;
+        said =
+            h.said;
+        begins =
+            h.begins;
+        leaves =
+            h.leaves;
+        passes = passes_read counts h.turn i j o n p q v w h.passes;
+        ends = h.ends;
+      };
 }
 line_goes counts line old new i j o n p q v w (Ok next.End) read h = inr (record {
   turn = h.turn;
@@ -45,7 +62,16 @@ line_goes counts line old new i j o n p q v w (Err (fault.Answers k)) read h = r
   turn = h.turn;
   begins = h.begins;
   input = subst (λ (l : List ℕ). Reads i j (l ∷ [])) (sym h.said) read;
-  stops = record { is = h.stops.is; within = h.stops.within; answers = h.stops.answers; pcm = h.stops.pcm; saved = h.stops.saved };
+  stops =
+      record {
+        is =
+            h.stops.is;
+        within =
+            h.stops.within;
+        answers = h.stops.answers;
+        pcm = h.stops.pcm;
+        saved = h.stops.saved;
+      };
 }
 line_goes counts line old new i j o n p q v w (Err (fault.Pcm k)) read h = record {
   turn = h.turn;
@@ -60,7 +86,8 @@ line_goes counts line old new i j o n p q v w (Err fault.Input) read h = absurd 
 only_reads : (i j o p : Option (List ℕ)) (v : Option (List Saved)) → OnlyReads (with_input i o p v) (with_input j o p v)
 only_reads i j o p v = record { answers = refl; pcm = refl; saved = refl }
 
-pub unread : (counts : Counts) (old new : Live) (i j o p : Option (List ℕ)) (v : Option (List Saved)) (f : LiveFault) → IsReadFault f
+pub unread : (counts : Counts) (old new : Live) (i j o p : Option (List ℕ)) (v : Option (List Saved)) (f : LiveFault)
+    → IsReadFault f
     → Goes counts old new (with_input i o p v) (with_input j o p v) (Err f)
 unread counts old new i j o p v fault.Memory h = only_reads i j o p v
 unread counts old new i j o p v fault.Input h = only_reads i j o p v
@@ -87,13 +114,16 @@ reads_then : (a b c : Option (List ℕ)) (xs ys : List (List ℕ)) → Reads a b
 reads_then None b c xs ys p q = tt
 reads_then (Some x) None c xs ys p q = absurd p
 reads_then (Some x) (Some y) None xs ys p q = absurd q
-reads_then (Some x) (Some y) (Some z) xs ys p q = p ∙ ap (λ (ls : List (List ℕ)). xs ++ ls) q ∙ sym (append_assoc xs ys (lines_of z))
+reads_then (Some x) (Some y) (Some z) xs ys p q =
+    p ∙ ap (λ (ls : List (List ℕ)). xs ++ ls) q ∙ sym (append_assoc xs ys (lines_of z))
 
-turns_then : (first middle : Live) (ts : List Turn) (t : Turn) → AreTurns first ts middle → t.old ≡ middle → LineIs (asked t) t.old t.answer t.new → AreTurns first (ts ++ t ∷ []) t.new
+turns_then : (first middle : Live) (ts : List Turn) (t : Turn) → AreTurns first ts middle → t.old ≡ middle
+    → LineIs (asked t) t.old t.answer t.new → AreTurns first (ts ++ t ∷ []) t.new
 turns_then first middle [] t h e is = (e ∙ h, is, refl)
 turns_then first middle (s ∷ ts) t h e is = (h.0, h.1, turns_then s.new middle ts t h.2 e is)
 
-going_then : (ts : List Turn) (t : Turn) → list_any ends_in ts ≡ false → ends_in t ≡ false → list_any ends_in (ts ++ t ∷ []) ≡ false
+going_then : (ts : List Turn) (t : Turn) → list_any ends_in ts ≡ false → ends_in t ≡ false
+    → list_any ends_in (ts ++ t ∷ []) ≡ false
 going_then [] t h e = ap (λ (b : Bool). b || false) e
 going_then (s ∷ ts) t h e =
     let P : Bool → Type 0 = λ b. (b || list_any ends_in ts) ≡ false → (b || list_any ends_in (ts ++ t ∷ [])) ≡ false in
@@ -103,7 +133,8 @@ going_then (s ∷ ts) t h e =
 one_of : {X : Type 0} (f : Turn → List X) (t : Turn) → flat_map f (t ∷ []) ≡ f t
 one_of f t = append-nil (f t)
 
-more_of : {X : Type 0} (f : Turn → List X) (ts : List Turn) (t : Turn) → flat_map f (ts ++ t ∷ []) ≡ flat_map f ts ++ f t
+more_of : {X : Type 0} (f : Turn → List X) (ts : List Turn) (t : Turn)
+    → flat_map f (ts ++ t ∷ []) ≡ flat_map f ts ++ f t
 more_of f ts t = flat_map-append f ts (t ∷ []) ∙ ap (λ (xs : List _). flat_map f ts ++ xs) (one_of f t)
 
 pub reached_first : (counts : Counts) (first : Live) (a : Around) → Reached counts first first a a
@@ -119,34 +150,45 @@ reached_first counts first a = record {
   };
 }
 
-pub reached_next : (counts : Counts) (first last new : Live) (a b c : Around) → Reached counts first last a b → GoesOn counts last new b c → Reached counts first new a c
+pub reached_next : (counts : Counts) (first last new : Live) (a b c : Around) → Reached counts first last a b
+    → GoesOn counts last new b c → Reached counts first new a c
 reached_next counts first last new a b c r g =
     let t : Turn = g.answers.turn in
     let ts : List Turn = r.turns in
     record {
       turns = ts ++ t ∷ [];
       passed = record {
-        turns = subst (λ (s : Live). AreTurns first (ts ++ t ∷ []) s) g.answers.leaves (turns_then first last ts t r.passed.turns g.answers.begins g.answers.passes.is);
+        turns =
+            subst (λ (s : Live). AreTurns first (ts ++ t ∷ []) s) g.answers.leaves
+            (turns_then first last ts t r.passed.turns g.answers.begins g.answers.passes.is);
         going = going_then ts t r.passed.going g.answers.ends;
-        input = subst (λ (ls : List (List ℕ)). Reads a.input c.input ls) (sym (map-append (λ (u : Turn). u.line) ts (t ∷ [])))
+        input =
+            subst (λ (ls : List (List ℕ)). Reads a.input c.input ls)
+            (sym (map-append (λ (u : Turn). u.line) ts (t ∷ [])))
             (reads_then a.input b.input c.input (map (λ (u : Turn). u.line) ts) (t.line ∷ []) r.passed.input
             (subst (λ (l : List ℕ). Reads b.input c.input (l ∷ [])) (sym g.answers.said) g.input));
         answers = subst (λ (xs : List ℕ). Appends a.answers c.answers xs) (sym (more_of (text_in counts) ts t))
-            (Appends-trans a.answers b.answers c.answers (flat_map (text_in counts) ts) (text_in counts t) r.passed.answers g.answers.passes.answers);
+            (Appends-trans a.answers b.answers c.answers (flat_map (text_in counts) ts) (text_in counts t)
+            r.passed.answers g.answers.passes.answers);
         pcm = subst (λ (xs : List ℕ). Appends a.pcm c.pcm xs) (sym (more_of bytes_in ts t))
             (Appends-trans a.pcm b.pcm c.pcm (flat_map bytes_in ts) (bytes_in t) r.passed.pcm g.answers.passes.pcm);
         saved = subst (λ (xs : List Saved). Adds a.saved c.saved xs) (sym (more_of saves_in ts t))
-            (adds_then a.saved b.saved c.saved (flat_map saves_in ts) (saves_in t) r.passed.saved g.answers.passes.saved);
+            (adds_then a.saved b.saved c.saved (flat_map saves_in ts) (saves_in t) r.passed.saved
+            g.answers.passes.saved);
       };
     }
 
-pub plays_to : (counts : Counts) (first last : Live) (a b c : Around) (r : Result (Unit {0}) LiveFault) → Reached counts first last a b → EndsBy counts last b c r → Plays counts first a c r
-plays_to counts first last a b c r h e = record { turns = h.turns; last = last; between = b; passed = h.passed; end = e }
+pub plays_to : (counts : Counts) (first last : Live) (a b c : Around) (r : Result (Unit {0}) LiveFault)
+    → Reached counts first last a b → EndsBy counts last b c r → Plays counts first a c r
+plays_to counts first last a b c r h e =
+    record { turns = h.turns; last = last; between = b; passed = h.passed; end = e }
 
 -- ---- the whole run
 
-pub goes_on : (counts : Counts) (x : Next) (old new : Live) (a b : Around) → x ≡ next.Line → Goes counts old new a b (Ok x) → GoesOn counts old new a b
+pub goes_on : (counts : Counts) (x : Next) (old new : Live) (a b : Around) → x ≡ next.Line
+    → Goes counts old new a b (Ok x) → GoesOn counts old new a b
 goes_on counts x old new a b e h = subst (λ (y : Next). Goes counts old new a b (Ok y)) e h
 
-pub ends_well : (counts : Counts) (x : Next) (old new : Live) (a b : Around) → x ≡ next.End → Goes counts old new a b (Ok x) → EndsWell counts old a b
+pub ends_well : (counts : Counts) (x : Next) (old new : Live) (a b : Around) → x ≡ next.End
+    → Goes counts old new a b (Ok x) → EndsWell counts old a b
 ends_well counts x old new a b e h = subst (λ (y : Next). Goes counts old new a b (Ok y)) e h

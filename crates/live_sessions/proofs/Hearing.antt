@@ -1,5 +1,6 @@
 -- What goes to the writer of frames is heard.
-use Rattle.std.proofs.Common.{◌≡◌, ◌<◌, ◌+◌, inl, inr, ℕ, ℤ, zero, suc, List, [], ◌∷◌, ◌++◌, length, take, Option, Some, None, Ok, Err, slice_get, refl, sym, ap, subst, ◌∙◌, arith, length-take}
+use Rattle.std.proofs.Common.{◌≡◌, ◌<◌, ◌+◌, inl, inr, ℕ, ℤ, zero, suc, List, [], ◌∷◌, ◌++◌, length, take, Option}
+use Rattle.std.proofs.Common.{Some, None, Ok, Err, slice_get, refl, sym, ap, subst, ◌∙◌, arith, length-take}
 use Rattle.std.specs.List.{flat_map}
 use Rattle.std.specs.Option.{option_map_or}
 use Rattle.std.proofs.lemmas.Grind.{flat_map-append}
@@ -20,13 +21,16 @@ use Rattle.live_lines.specs.declared.request.Request.{Request}
 use Rattle.live_lines.specs.declared.request.Request.TheVariants as asks
 use Rattle.live_lines.specs.declared.paths.Paths.{Paths}
 use Rattle.live_sessions.specs.declared.live.Live.{Live}
-use Rattle.live_sessions.specs.Steps.{RequestIs, EditIs, NeutralIs, UndoIs, RedoIs, NoteIs, FramesAre, SaveIs, TellIs, OnlyTheBank, StartsVoices, events_of, frames_of, if_edited, if_started, if_given, block_if, after_frames, started_with}
+use Rattle.live_sessions.specs.Steps.{RequestIs, EditIs, NeutralIs, UndoIs, RedoIs, NoteIs, FramesAre, SaveIs}
+use Rattle.live_sessions.specs.Steps.{TellIs, OnlyTheBank, StartsVoices, events_of, frames_of, if_edited, if_started}
+use Rattle.live_sessions.specs.Steps.{if_given, block_if, after_frames, started_with}
 use Rattle.live_sessions.specs.Turns.{Asked, LineIs, Turn, answered, events_in, frames_in, bytes_in, AreTurns}
 use Rattle.live_sessions.proofs.Turning.{nothing_done}
 
 -- ---- one request
 
--- There is a bank after it, the first bank stays, and of what was done the player's next blocks are these frames and those that come after.
+-- There is a bank after it, the first bank stays, and of what was done the player's next blocks are these frames and
+-- those that come after.
 record Hears (old new : Live) (b : Parts) (events : List Event) (frames : List ℤ) : Type 0 where
   bank : Parts
   here : bank_now new.session ≡ Some bank
@@ -45,7 +49,9 @@ edited_blocks : (b c : Parts) (ps : List Playing) (es : List Event) → blocks b
 unfolding blocks
 edited_blocks b c ps es = refl
 
-hears_edit : (old new : Live) (b c : Parts) → bank_now new.session ≡ Some c → slice_get new.session.banks 0 ≡ slice_get old.session.banks 0 → OnlyTheBank old new → Hears old new b (if_edited answer.Done new) []
+hears_edit : (old new : Live) (b c : Parts) → bank_now new.session ≡ Some c
+    → slice_get new.session.banks 0 ≡ slice_get old.session.banks 0 → OnlyTheBank old new
+    → Hears old new b (if_edited answer.Done new) []
 hears_edit old new b c here front only = record {
   bank = c;
   here = here;
@@ -73,34 +79,47 @@ get_pushed xs k x e = ap (λ (n : ℕ). slice_get (xs ++ x ∷ []) n) e ∙ get_
 now_edited : (old new : History) (e : Edit) (h : IsEdited old new e) → bank_now new ≡ Some (raw h.bank e)
 now_edited old new e h =
     let within : old.place < length old.banks = got_within old.banks old.place h.bank h.here in
-    let long : old.place + 1 ≡ length (take (old.place + 1) old.banks) = omega (arith, length-take (old.place + 1) old.banks) in
+    let long : old.place + 1 ≡ length (take (old.place + 1) old.banks) =
+    omega (arith, length-take (old.place + 1) old.banks) in
     ap bank_now h.changed ∙ get_pushed (take (old.place + 1) old.banks) (old.place + 1) (raw h.bank e) long
 
 -- a list that is cut behind a member keeps its first
-front_kept : (banks : List Parts) (place : ℕ) (c d : Parts) → slice_get banks place ≡ Some d → slice_get (take (place + 1) banks ++ c ∷ []) 0 ≡ slice_get banks 0
+front_kept : (banks : List Parts) (place : ℕ) (c d : Parts) → slice_get banks place ≡ Some d
+    → slice_get (take (place + 1) banks ++ c ∷ []) 0 ≡ slice_get banks 0
 front_kept [] place c d h = absurd cc
-front_kept (x ∷ banks) place c d h = ap (λ (n : ℕ). slice_get (take n (x ∷ banks) ++ c ∷ []) 0) (let e : place + 1 ≡ suc place = omega arith in e)
+front_kept (x ∷ banks) place c d h =
+    ap (λ (n : ℕ). slice_get (take n (x ∷ banks) ++ c ∷ []) 0) (let e : place + 1 ≡ suc place = omega arith in e)
 
-hears_edited : (old new : Live) (b : Parts) (e : Edit) → EditIs old e answer.Done new → Hears old new b (if_edited answer.Done new) []
+hears_edited : (old new : Live) (b : Parts) (e : Edit) → EditIs old e answer.Done new
+    → Hears old new b (if_edited answer.Done new) []
 hears_edited old new b e h =
     hears_edit old new b (raw h.0.bank e) (now_edited old.session new.session e h.0)
-    (ap (λ (s : History). slice_get s.banks 0) h.0.changed ∙ front_kept old.session.banks old.session.place (raw h.0.bank e) h.0.bank h.0.here) h.1
+    (ap (λ (s : History). slice_get s.banks 0) h.0.changed
+    ∙ front_kept old.session.banks old.session.place (raw h.0.bank e) h.0.bank h.0.here)
+    h.1
 
-hears_undone : (old new : Live) (b : Parts) → UndoIs old answer.Done new → Hears old new b (if_edited answer.Done new) []
+hears_undone : (old new : Live) (b : Parts) → UndoIs old answer.Done new
+    → Hears old new b (if_edited answer.Done new) []
 hears_undone old new b h =
-    let got : (x : Parts) × (slice_get new.session.banks new.session.place ≡ Some x) = get_within new.session.banks new.session.place (let n : new.session.place + 1 < length new.session.banks = h.0.next in omega arith) in
+    let got : (x : Parts) × (slice_get new.session.banks new.session.place ≡ Some x) =
+    get_within new.session.banks new.session.place
+    (let n : new.session.place + 1 < length new.session.banks = h.0.next in omega arith) in
     hears_edit old new b got.0 got.1 (sym (ap (λ (s : History). slice_get s.banks 0) h.0.moved)) h.1
 
-hears_redone : (old new : Live) (b : Parts) → RedoIs old answer.Done new → Hears old new b (if_edited answer.Done new) []
+hears_redone : (old new : Live) (b : Parts) → RedoIs old answer.Done new
+    → Hears old new b (if_edited answer.Done new) []
 hears_redone old new b h =
-    let got : (x : Parts) × (slice_get old.session.banks (old.session.place + 1) ≡ Some x) = get_within old.session.banks (old.session.place + 1) h.0.next in
+    let got : (x : Parts) × (slice_get old.session.banks (old.session.place + 1) ≡ Some x) =
+    get_within old.session.banks (old.session.place + 1) h.0.next in
     hears_edit old new b got.0 (ap bank_now h.0.moved ∙ got.1) (ap (λ (s : History). slice_get s.banks 0) h.0.moved) h.1
 
-started_blocks : (b : Parts) (n : Numbers) (ps : List Playing) (es : List Event) → blocks b ps (Started n ∷ es) ≡ blocks b (after_start ps (fresh b n)) es
+started_blocks : (b : Parts) (n : Numbers) (ps : List Playing) (es : List Event)
+    → blocks b ps (Started n ∷ es) ≡ blocks b (after_start ps (fresh b n)) es
 unfolding blocks
 started_blocks b n ps es = refl
 
-hears_note : (old new : Live) (b : Parts) (n : Numbers) (voices : ℕ) → bank_now old.session ≡ Some b → StartsVoices old n voices new → Hears old new b (Started n ∷ []) []
+hears_note : (old new : Live) (b : Parts) (n : Numbers) (voices : ℕ) → bank_now old.session ≡ Some b
+    → StartsVoices old n voices new → Hears old new b (Started n ∷ []) []
 hears_note old new b n voices here h =
     let same : b ≡ h.bank = (let e : Some b ≡ Some h.bank = sym here ∙ h.here in cc) in
     record {
@@ -113,19 +132,23 @@ hears_note old new b n voices here h =
           ∙ ap (λ (s : Live). blocks b s.player es) (sym h.plays);
     }
 
-given_blocks : (b : Parts) (m : ℕ) (ps : List Playing) (es : List Event) → blocks b ps (Given m ∷ es) ≡ block ps m ++ blocks b (after_block ps m) es
+given_blocks : (b : Parts) (m : ℕ) (ps : List Playing) (es : List Event)
+    → blocks b ps (Given m ∷ es) ≡ block ps m ++ blocks b (after_block ps m) es
 unfolding blocks
 given_blocks b m ps es = refl
 
-hears_frames : (old new : Live) (b : Parts) (m : ℕ) → bank_now old.session ≡ Some b → new ≡ after_frames old m → Hears old new b (Given m ∷ []) (block old.player m)
+hears_frames : (old new : Live) (b : Parts) (m : ℕ) → bank_now old.session ≡ Some b → new ≡ after_frames old m
+    → Hears old new b (Given m ∷ []) (block old.player m)
 hears_frames old new b m here e = record {
   bank = b;
   here = ap (λ (s : Live). bank_now s.session) e ∙ here;
   front = ap (λ (s : Live). slice_get s.session.banks 0) e;
-  blocks_are = λ es. given_blocks b m old.player es ∙ ap (λ (s : Live). block old.player m ++ blocks b s.player es) (sym e);
+  blocks_are =
+      λ es. given_blocks b m old.player es ∙ ap (λ (s : Live). block old.player m ++ blocks b s.player es) (sym e);
 }
 
-edit_heard : (old new : Live) (b : Parts) (e : Edit) (a : Answer) → bank_now old.session ≡ Some b → EditIs old e a new → Hears old new b (if_edited a new) []
+edit_heard : (old new : Live) (b : Parts) (e : Edit) (a : Answer) → bank_now old.session ≡ Some b
+    → EditIs old e a new → Hears old new b (if_edited a new) []
 edit_heard old new b e answer.Done here h = hears_edited old new b e h
 edit_heard old new b e (answer.Started k) here h = absurd h
 edit_heard old new b e (answer.Refused why) here h = hears_nothing old new b here h.1
@@ -135,7 +158,8 @@ edit_heard old new b e (answer.Fault f) here h = absurd h
 edit_heard old new b e answer.OutOfMemory here h = absurd h
 edit_heard old new b e (answer.WriteFault path n) here h = absurd h
 
-neutral_heard : (old new : Live) (b : Parts) (e : Edit) (a : Answer) → bank_now old.session ≡ Some b → NeutralIs old e a new → Hears old new b (if_edited a new) []
+neutral_heard : (old new : Live) (b : Parts) (e : Edit) (a : Answer) → bank_now old.session ≡ Some b
+    → NeutralIs old e a new → Hears old new b (if_edited a new) []
 neutral_heard old new b e answer.Done here h = edit_heard old new b e answer.Done here h.1
 neutral_heard old new b e (answer.Started k) here h = edit_heard old new b e (answer.Started k) here h.1
 neutral_heard old new b e (answer.Refused why) here h = edit_heard old new b e (answer.Refused why) here h.1
@@ -145,7 +169,8 @@ neutral_heard old new b e (answer.Fault f) here h = edit_heard old new b e (answ
 neutral_heard old new b e answer.OutOfMemory here h = edit_heard old new b e answer.OutOfMemory here h.1
 neutral_heard old new b e (answer.WriteFault path n) here h = edit_heard old new b e (answer.WriteFault path n) here h.1
 
-undo_heard : (old new : Live) (b : Parts) (a : Answer) → bank_now old.session ≡ Some b → UndoIs old a new → Hears old new b (if_edited a new) []
+undo_heard : (old new : Live) (b : Parts) (a : Answer) → bank_now old.session ≡ Some b → UndoIs old a new
+    → Hears old new b (if_edited a new) []
 undo_heard old new b answer.Done here h = hears_undone old new b h
 undo_heard old new b (answer.Started k) here h = absurd h
 undo_heard old new b (answer.Refused why) here h = hears_nothing old new b here h.1
@@ -155,7 +180,8 @@ undo_heard old new b (answer.Fault f) here h = absurd h
 undo_heard old new b answer.OutOfMemory here h = absurd h
 undo_heard old new b (answer.WriteFault path n) here h = absurd h
 
-redo_heard : (old new : Live) (b : Parts) (a : Answer) → bank_now old.session ≡ Some b → RedoIs old a new → Hears old new b (if_edited a new) []
+redo_heard : (old new : Live) (b : Parts) (a : Answer) → bank_now old.session ≡ Some b → RedoIs old a new
+    → Hears old new b (if_edited a new) []
 redo_heard old new b answer.Done here h = hears_redone old new b h
 redo_heard old new b (answer.Started k) here h = absurd h
 redo_heard old new b (answer.Refused why) here h = hears_nothing old new b here h.1
@@ -165,7 +191,8 @@ redo_heard old new b (answer.Fault f) here h = absurd h
 redo_heard old new b answer.OutOfMemory here h = absurd h
 redo_heard old new b (answer.WriteFault path n) here h = absurd h
 
-note_heard : (old new : Live) (b : Parts) (n : Numbers) (a : Answer) → bank_now old.session ≡ Some b → NoteIs old n a new → Hears old new b (if_started n a) []
+note_heard : (old new : Live) (b : Parts) (n : Numbers) (a : Answer) → bank_now old.session ≡ Some b
+    → NoteIs old n a new → Hears old new b (if_started n a) []
 note_heard old new b m answer.Done here h = absurd h
 note_heard old new b m (answer.Started k) here h = hears_note old new b m k here h
 note_heard old new b m (answer.Refused why) here h = absurd h
@@ -175,7 +202,8 @@ note_heard old new b m (answer.Fault f) here h = absurd h
 note_heard old new b m answer.OutOfMemory here h = hears_nothing old new b here h
 note_heard old new b m (answer.WriteFault path n) here h = absurd h
 
-frames_heard : (old new : Live) (b : Parts) (m : ℕ) (a : Answer) → bank_now old.session ≡ Some b → FramesAre old m a new → Hears old new b (if_given m a) (block_if old m a)
+frames_heard : (old new : Live) (b : Parts) (m : ℕ) (a : Answer) → bank_now old.session ≡ Some b
+    → FramesAre old m a new → Hears old new b (if_given m a) (block_if old m a)
 frames_heard old new b m answer.Done here h = hears_frames old new b m here h.1
 frames_heard old new b m (answer.Started k) here h = absurd h
 frames_heard old new b m (answer.Refused why) here h = absurd h
@@ -185,7 +213,8 @@ frames_heard old new b m (answer.Fault f) here h = absurd h
 frames_heard old new b m answer.OutOfMemory here h = absurd h
 frames_heard old new b m (answer.WriteFault path n) here h = absurd h
 
-tell_heard : (old new : Live) (b : Parts) (a : Answer) → bank_now old.session ≡ Some b → TellIs old a new → Hears old new b [] []
+tell_heard : (old new : Live) (b : Parts) (a : Answer) → bank_now old.session ≡ Some b → TellIs old a new
+    → Hears old new b [] []
 tell_heard old new b answer.Done here h = hears_nothing old new b here h
 tell_heard old new b (answer.Started k) here h = absurd h
 tell_heard old new b (answer.Refused why) here h = absurd h
@@ -195,7 +224,8 @@ tell_heard old new b (answer.Fault f) here h = absurd h
 tell_heard old new b answer.OutOfMemory here h = absurd h
 tell_heard old new b (answer.WriteFault path n) here h = absurd h
 
-save_heard : (old new : Live) (b : Parts) (paths : Paths) (a : Answer) → bank_now old.session ≡ Some b → SaveIs old paths a new → Hears old new b [] []
+save_heard : (old new : Live) (b : Parts) (paths : Paths) (a : Answer) → bank_now old.session ≡ Some b
+    → SaveIs old paths a new → Hears old new b [] []
 save_heard old new b paths answer.Done here h = hears_nothing old new b here h.1
 save_heard old new b paths (answer.Started k) here h = absurd h
 save_heard old new b paths (answer.Refused why) here h = absurd h
@@ -205,7 +235,8 @@ save_heard old new b paths (answer.Fault f) here h = absurd h
 save_heard old new b paths answer.OutOfMemory here h = hears_nothing old new b here h
 save_heard old new b paths (answer.WriteFault path n) here h = hears_nothing old new b here h.1
 
-request_heard : (old new : Live) (b : Parts) (r : Request) (a : Answer) → bank_now old.session ≡ Some b → RequestIs old r a new → Hears old new b (events_of r a new) (frames_of old r a)
+request_heard : (old new : Live) (b : Parts) (r : Request) (a : Answer) → bank_now old.session ≡ Some b
+    → RequestIs old r a new → Hears old new b (events_of r a new) (frames_of old r a)
 request_heard old new b (asks.Edit e) a here h = edit_heard old new b e a here h
 request_heard old new b (asks.Neutral e) a here h = neutral_heard old new b e a here h
 request_heard old new b asks.Undo a here h = undo_heard old new b a here h
@@ -219,22 +250,28 @@ request_heard old new b asks.Quit a here h = tell_heard old new b a here h
 
 -- ---- one line
 
-hears_as : (old new : Live) (b : Parts) (events more : List Event) (frames others : List ℤ) → more ≡ events → others ≡ frames → Hears old new b events frames → Hears old new b more others
+hears_as : (old new : Live) (b : Parts) (events more : List Event) (frames others : List ℤ) → more ≡ events
+    → others ≡ frames → Hears old new b events frames → Hears old new b more others
 hears_as old new b events more frames others e f h =
-    subst (λ (xs : List Event). Hears old new b xs others) (sym e) (subst (λ (ys : List ℤ). Hears old new b events ys) (sym f) h)
+    subst (λ (xs : List Event). Hears old new b xs others) (sym e)
+    (subst (λ (ys : List ℤ). Hears old new b events ys) (sym f) h)
 
 abbrev LineHears : Asked → Live → Option Answer → Live → Parts → Type 0
 LineHears x old oa new b = Hears old new b (answered x oa (λ r a. events_of r a new)) (answered x oa (frames_of old))
 
-memory_heard : (x : Asked) (old new : Live) (b : Parts) → bank_now old.session ≡ Some b → new ≡ old → LineHears x old (Some answer.OutOfMemory) new b
+memory_heard : (x : Asked) (old new : Live) (b : Parts) → bank_now old.session ≡ Some b → new ≡ old
+    → LineHears x old (Some answer.OutOfMemory) new b
 memory_heard (Ok None) old new b here e = hears_nothing old new b here e
 memory_heard (Ok (Some r)) old new b here e =
     let none = nothing_done old r new in hears_as old new b [] _ [] _ none.3 none.1 (hears_nothing old new b here e)
 memory_heard (Err f) old new b here e = hears_nothing old new b here e
 
-line_heard : (x : Asked) (old new : Live) (oa : Option Answer) (b : Parts) → bank_now old.session ≡ Some b → LineIs x old oa new → LineHears x old oa new b
-line_heard x old new None b here h = subst (λ (y : Asked). LineHears y old None new b) (sym h.0) (hears_nothing old new b here h.1)
-line_heard x old new (Some a) b here (inr h) = subst (λ (c : Answer). LineHears x old (Some c) new b) (sym h.0) (memory_heard x old new b here h.1)
+line_heard : (x : Asked) (old new : Live) (oa : Option Answer) (b : Parts) → bank_now old.session ≡ Some b
+    → LineIs x old oa new → LineHears x old oa new b
+line_heard x old new None b here h =
+    subst (λ (y : Asked). LineHears y old None new b) (sym h.0) (hears_nothing old new b here h.1)
+line_heard x old new (Some a) b here (inr h) =
+    subst (λ (c : Answer). LineHears x old (Some c) new b) (sym h.0) (memory_heard x old new b here h.1)
 line_heard (Ok None) old new (Some a) b here (inl h) = absurd h
 line_heard (Ok (Some r)) old new (Some a) b here (inl h) = request_heard old new b r a here h
 line_heard (Err f) old new (Some a) b here (inl h) = hears_nothing old new b here h.1
@@ -245,25 +282,33 @@ none_heard : (b : Parts) (ps : List Playing) → [] ≡ blocks b ps []
 unfolding blocks
 none_heard b ps = refl
 
-turns_heard : (ts : List Turn) (s last : Live) (b : Parts) → bank_now s.session ≡ Some b → AreTurns s ts last → flat_map frames_in ts ≡ blocks b s.player (flat_map events_in ts)
+turns_heard : (ts : List Turn) (s last : Live) (b : Parts) → bank_now s.session ≡ Some b → AreTurns s ts last
+    → flat_map frames_in ts ≡ blocks b s.player (flat_map events_in ts)
 turns_heard [] s last b here h = none_heard b s.player
 turns_heard (t ∷ ts) s last b here h =
-    let k : Hears t.old t.new b (events_in t) (frames_in t) = line_heard _ t.old t.new t.answer b (ap (λ (u : Live). bank_now u.session) h.0 ∙ here) h.1 in
+    let k : Hears t.old t.new b (events_in t) (frames_in t) =
+    line_heard _ t.old t.new t.answer b (ap (λ (u : Live). bank_now u.session) h.0 ∙ here) h.1 in
     ap (λ (xs : List ℤ). frames_in t ++ xs) (turns_heard ts t.new last k.bank k.here h.2)
     ∙ sym (k.blocks_are (flat_map events_in ts))
     ∙ ap (λ (u : Live). blocks b u.player (flat_map events_in (t ∷ ts))) h.0
 
-pub first_stays : (ts : List Turn) (s last : Live) (b : Parts) → bank_now s.session ≡ Some b → AreTurns s ts last → slice_get last.session.banks 0 ≡ slice_get s.session.banks 0
+pub first_stays : (ts : List Turn) (s last : Live) (b : Parts) → bank_now s.session ≡ Some b → AreTurns s ts last
+    → slice_get last.session.banks 0 ≡ slice_get s.session.banks 0
 first_stays [] s last b here h = ap (λ (u : Live). slice_get u.session.banks 0) h
 first_stays (t ∷ ts) s last b here h =
-    let k : Hears t.old t.new b (events_in t) (frames_in t) = line_heard _ t.old t.new t.answer b (ap (λ (u : Live). bank_now u.session) h.0 ∙ here) h.1 in
+    let k : Hears t.old t.new b (events_in t) (frames_in t) =
+    line_heard _ t.old t.new t.answer b (ap (λ (u : Live). bank_now u.session) h.0 ∙ here) h.1 in
     first_stays ts t.new last k.bank k.here h.2 ∙ k.front ∙ ap (λ (u : Live). slice_get u.session.banks 0) h.0
 
 bytes_of_frames : (ts : List Turn) → flat_map bytes_in ts ≡ flat_map sample_bytes (flat_map frames_in ts)
 bytes_of_frames [] = refl
 bytes_of_frames (t ∷ ts) =
-    ap (λ (xs : List ℕ). bytes_in t ++ xs) (bytes_of_frames ts) ∙ sym (flat_map-append sample_bytes (frames_in t) (flat_map frames_in ts))
+    ap (λ (xs : List ℕ). bytes_in t ++ xs) (bytes_of_frames ts)
+    ∙ sym (flat_map-append sample_bytes (frames_in t) (flat_map frames_in ts))
 
-pub frames_are_heard : (b : Parts) (ts : List Turn) (last : Live) → AreTurns (started_with b) ts last → flat_map bytes_in ts ≡ flat_map sample_bytes (heard b (flat_map events_in ts))
+pub frames_are_heard : (b : Parts) (ts : List Turn) (last : Live) → AreTurns (started_with b) ts last
+    → flat_map bytes_in ts ≡ flat_map sample_bytes (heard b (flat_map events_in ts))
 frames_are_heard b ts last h =
-    bytes_of_frames ts ∙ ap (flat_map sample_bytes) (turns_heard ts (started_with b) last b refl h ∙ blocks_heard b (flat_map events_in ts))
+    bytes_of_frames ts
+    ∙ ap (flat_map sample_bytes)
+    (turns_heard ts (started_with b) last b refl h ∙ blocks_heard b (flat_map events_in ts))

@@ -1,5 +1,6 @@
 -- The way back leads to the first bank.
-use Rattle.std.proofs.Common.{◌≡◌, ℕ, zero, suc, List, [], ◌∷◌, ◌++◌, map, take, reverse, Some, slice_get, refl, sym, ap, subst, ◌∙◌}
+use Rattle.std.proofs.Common.{◌≡◌, ℕ, zero, suc, List, [], ◌∷◌, ◌++◌, map, take, reverse, Some, slice_get, refl, sym}
+use Rattle.std.proofs.Common.{ap, subst, ◌∙◌}
 use Rattle.std.specs.Prelude.{zip}
 use Rattle.bank_parts.specs.declared.parts.Parts.{Parts}
 use Rattle.bank_parts.specs.Sound.{IsSound}
@@ -23,7 +24,8 @@ record Led (b : Parts) (banks : List Parts) (edits : List Edit) (place : ℕ) (c
   taken : AllTaken b (take place edits)
   back : reverse (back_to (b ∷ banks) edits place) ≡ undo_list b (take place edits)
 
-led : (place : ℕ) (b : Parts) (banks : List Parts) (edits : List Edit) (c : Parts) → Follow b banks edits → slice_get (b ∷ banks) place ≡ Some c → Led b banks edits place c
+led : (place : ℕ) (b : Parts) (banks : List Parts) (edits : List Edit) (c : Parts) → Follow b banks edits
+    → slice_get (b ∷ banks) place ≡ Some c → Led b banks edits place c
 led zero b banks edits c f h = record { bank = cc; taken = tt; back = refl }
 led (suc p) b [] edits c f h = absurd cc
 led (suc p) b (d ∷ banks) [] c f h = absurd f
@@ -33,11 +35,14 @@ led (suc p) b (d ∷ banks) (e ∷ edits) c f h =
       bank = k.bank ∙ ap (λ (x : Parts). after_all x (take p edits)) f.1;
       taken = (f.0, subst (λ (x : Parts). AllTaken x (take p edits)) f.1 k.taken);
       back = reverse_cons (back_to (d ∷ banks) edits p) (inverse b e)
-          ∙ ap (λ (es : List Edit). es ++ inverse b e ∷ []) (k.back ∙ ap (λ (x : Parts). undo_list x (take p edits)) f.1);
+          ∙ ap (λ (es : List Edit). es ++ inverse b e ∷ [])
+          (k.back ∙ ap (λ (x : Parts). undo_list x (take p edits)) f.1);
     }
 
-led_back : (banks : List Parts) (edits : List Edit) (place : ℕ) (b c : Parts) → AreLinked banks edits → IsSound b → slice_get banks 0 ≡ Some b → slice_get banks place ≡ Some c
-    → IsSound c × AllTaken c (reverse (back_to banks edits place)) × (after_all c (reverse (back_to banks edits place)) ≡ b)
+led_back : (banks : List Parts) (edits : List Edit) (place : ℕ) (b c : Parts) → AreLinked banks edits → IsSound b
+    → slice_get banks 0 ≡ Some b → slice_get banks place ≡ Some c
+    → IsSound c × AllTaken c (reverse (back_to banks edits place))
+    × (after_all c (reverse (back_to banks edits place)) ≡ b)
 led_back [] edits place b c f sound first here = absurd cc
 led_back (x ∷ banks) edits place b c f sound first here =
     let same : x ≡ b = cc in
@@ -48,7 +53,9 @@ led_back (x ∷ banks) edits place b c f sound first here =
     let U : List Edit → Type 0 = λ us. IsSound c × AllTaken c us × (after_all c us ≡ b) in
     subst U (sym k.back) (subst T (sym k.bank) (undone.sound, undone.taken, undone.restored ∙ same))
 
-pub ways_lead_back : (b c : Parts) (ts : List Turn) (last : Live) → IsSound b → AreTurns (started_with b) ts last → IsHistory last.session → bank_now last.session ≡ Some c
+pub ways_lead_back : (b c : Parts) (ts : List Turn) (last : Live) → IsSound b → AreTurns (started_with b) ts last
+    → IsHistory last.session → bank_now last.session ≡ Some c
     → IsSound c × AllTaken c (reverse (way_back last.session)) × (after_all c (reverse (way_back last.session)) ≡ b)
 ways_lead_back b c ts last sound h is here =
-    led_back last.session.banks last.session.edits last.session.place b c is.linked sound (first_stays ts (started_with b) last b refl h) here
+    led_back last.session.banks last.session.edits last.session.place b c is.linked sound
+    (first_stays ts (started_with b) last b refl h) here

@@ -1,5 +1,6 @@
 -- The first line of a text, and a read up to a line feed.
-use Rattle.std.proofs.Common.{◌≡◌, ◌≢◌, ℕ, Bool, true, false, not, cond, ◌&&◌, List, [], ◌∷◌, ◌++◌, Option, Some, None, IfSome, refl, sym, ap, subst, ◌∙◌}
+use Rattle.std.proofs.Common.{◌≡◌, ◌≢◌, ℕ, Bool, true, false, not, cond, ◌&&◌, List, [], ◌∷◌, ◌++◌, Option, Some}
+use Rattle.std.proofs.Common.{None, IfSome, refl, sym, ap, subst, ◌∙◌}
 use Rattle.std.specs.List.{list_all}
 use Rattle.std.specs.Io.KnownBytes.{IsAtEnd}
 use Rattle.std.specs.Io.BufRead.{take_through, drop_through, DropsThrough}
@@ -14,11 +15,13 @@ no_lines : lines_of [] ≡ []
 unfolding lines_of
 no_lines = refl
 
-lines_step : (x : ℕ) (xs : List ℕ) (b : Bool) → is_feed x ≡ b → lines_of (x ∷ xs) ≡ cond b ([] ∷ lines_of xs) (onto x (lines_of xs))
+lines_step : (x : ℕ) (xs : List ℕ) (b : Bool) → is_feed x ≡ b
+    → lines_of (x ∷ xs) ≡ cond b ([] ∷ lines_of xs) (onto x (lines_of xs))
 unfolding lines_of
 lines_step x xs b e = ap (λ (t : Bool). cond t ([] ∷ lines_of xs) (onto x (lines_of xs))) e
 
-take_step : (x : ℕ) (xs : List ℕ) (b : Bool) → is_feed x ≡ b → take_through 10 (x ∷ xs) ≡ cond b (x ∷ []) (x ∷ take_through 10 xs)
+take_step : (x : ℕ) (xs : List ℕ) (b : Bool) → is_feed x ≡ b
+    → take_through 10 (x ∷ xs) ≡ cond b (x ∷ []) (x ∷ take_through 10 xs)
 take_step x xs b e = ap (λ (t : Bool). cond t (x ∷ []) (x ∷ take_through 10 xs)) e
 
 drop_step : (x : ℕ) (xs : List ℕ) (b : Bool) → is_feed x ≡ b → drop_through 10 (x ∷ xs) ≡ cond b xs (drop_through 10 xs)
@@ -39,18 +42,25 @@ cut_at x xs true e = record {
 cut_at x [] false e = record {
   line = x ∷ [];
   taken = ap lines_of (take_step x [] false e) ∙ lines_step x [] false e ∙ ap (onto x) no_lines;
-  rest = lines_step x [] false e ∙ ap (onto x) no_lines ∙ ap (λ (ls : List (List ℕ)). (x ∷ []) ∷ ls) (sym (ap lines_of (drop_step x [] false e) ∙ no_lines));
+  rest =
+      lines_step x [] false e ∙ ap (onto x) no_lines
+      ∙ ap (λ (ls : List (List ℕ)). (x ∷ []) ∷ ls) (sym (ap lines_of (drop_step x [] false e) ∙ no_lines));
 }
 cut_at x (y ∷ ys) false e =
     let c : Cut (y ∷ ys) = cut_at y ys (is_feed y) refl in
     record {
       line = x ∷ c.line;
-      taken = ap lines_of (take_step x (y ∷ ys) false e) ∙ lines_step x (take_through 10 (y ∷ ys)) false e ∙ ap (onto x) c.taken;
-      rest = lines_step x (y ∷ ys) false e ∙ ap (onto x) c.rest ∙ ap (λ (zs : List ℕ). (x ∷ c.line) ∷ lines_of zs) (sym (drop_step x (y ∷ ys) false e));
+      taken =
+          ap lines_of (take_step x (y ∷ ys) false e) ∙ lines_step x (take_through 10 (y ∷ ys)) false e
+          ∙ ap (onto x) c.taken;
+      rest =
+          lines_step x (y ∷ ys) false e ∙ ap (onto x) c.rest
+          ∙ ap (λ (zs : List ℕ). (x ∷ c.line) ∷ lines_of zs) (sym (drop_step x (y ∷ ys) false e));
     }
 
 -- what was read is one line of the bytes that there were
-pub read_one : (old new : Option (List ℕ)) (bytes : List ℕ) → bytes ≢ [] → IfSome old (λ xs. bytes ≡ take_through 10 xs) → DropsThrough old new 10
+pub read_one : (old new : Option (List ℕ)) (bytes : List ℕ) → bytes ≢ []
+    → IfSome old (λ xs. bytes ≡ take_through 10 xs) → DropsThrough old new 10
     → (line : List ℕ) → IsFirst (lines_of bytes) line → Reads old new (line ∷ [])
 read_one None new bytes some h d line f = tt
 read_one (Some []) new bytes some h d line f = absurd (some h)
@@ -94,19 +104,24 @@ first_bare (x ∷ xs) =
 pub first_is_bare : (xs l : List ℕ) → IsFirst (lines_of xs) l → HasNoFeed l
 first_is_bare xs l h = subst HasNoFeed (sym (is_first (lines_of xs) l h)) (first_bare xs)
 
-pub bare_of : (ls : List (List ℕ)) (xs l : List ℕ) (rest : List (List ℕ)) → ls ≡ lines_of xs → ls ≡ l ∷ rest → HasNoFeed l
+pub bare_of : (ls : List (List ℕ)) (xs l : List ℕ) (rest : List (List ℕ)) → ls ≡ lines_of xs → ls ≡ l ∷ rest
+    → HasNoFeed l
 bare_of ls xs l rest e h = first_is_bare xs l (subst (λ (ms : List (List ℕ)). IsFirst ms l) (sym h ∙ e) refl)
 
 -- the same behind a buffer that held nothing
-pub read_after : (old new : Option (List ℕ)) (buffer bytes : List ℕ) → buffer ≡ [] → bytes ≢ [] → IfSome old (λ xs. bytes ≡ buffer ++ take_through 10 xs) → DropsThrough old new 10
+pub read_after : (old new : Option (List ℕ)) (buffer bytes : List ℕ) → buffer ≡ [] → bytes ≢ []
+    → IfSome old (λ xs. bytes ≡ buffer ++ take_through 10 xs) → DropsThrough old new 10
     → (line : List ℕ) → IsFirst (lines_of bytes) line → Reads old new (line ∷ [])
 read_after old new buffer bytes e some h d =
     read_one old new bytes some (subst (λ (b : List ℕ). IfSome old (λ xs. bytes ≡ b ++ take_through 10 xs)) e h) d
 
-pub read_some : (x : Next) (old new : Option (List ℕ)) (bytes text line : List ℕ) → x ≡ next.Line → IsRead x old new bytes → text ≡ bytes → IsFirst (lines_of text) line → Reads old new (line ∷ [])
+pub read_some : (x : Next) (old new : Option (List ℕ)) (bytes text line : List ℕ) → x ≡ next.Line
+    → IsRead x old new bytes → text ≡ bytes → IsFirst (lines_of text) line → Reads old new (line ∷ [])
 read_some x old new bytes text line e h same first_is =
-    let at : (l : List ℕ) → IsFirst (lines_of bytes) l → Reads old new (l ∷ []) = subst (λ (y : Next). IsRead y old new bytes) e h in
+    let at : (l : List ℕ) → IsFirst (lines_of bytes) l → Reads old new (l ∷ []) =
+    subst (λ (y : Next). IsRead y old new bytes) e h in
     at line (subst (λ (t : List ℕ). IsFirst (lines_of t) line) same first_is)
 
-pub read_none : (x : Next) (old new : Option (List ℕ)) (bytes : List ℕ) → x ≡ next.End → IsRead x old new bytes → IsAtEnd old
+pub read_none : (x : Next) (old new : Option (List ℕ)) (bytes : List ℕ) → x ≡ next.End → IsRead x old new bytes
+    → IsAtEnd old
 read_none x old new bytes e h = subst (λ (y : Next). IsRead y old new bytes) e h

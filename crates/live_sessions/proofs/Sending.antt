@@ -11,12 +11,14 @@ use Rattle.live_sessions.specs.declared.live.Live.{Live}
 use Rattle.live_sessions.specs.declared.fault.LiveFault.{LiveFault}
 use Rattle.live_sessions.specs.Telling.{bank_told, IsSent, IsTold}
 
-pub text_is_sent : {U : Type 0} (old new : Option (List ℕ)) (text : List ℕ) (delivered : Result ℕ WriteFault) (r : Result U LiveFault)
+pub text_is_sent : {U : Type 0} (old new : Option (List ℕ)) (text : List ℕ) (delivered : Result ℕ WriteFault)
+    (r : Result U LiveFault)
     → writing.Delivers old new text delivered → IsTold delivered r → IsSent old new text r
 text_is_sent old new text (Ok total) (Ok u) d t = d
 text_is_sent old new text (Ok total) (Err why) d t = absurd t
 text_is_sent old new text (Err stop) (Ok u) d t = absurd t
 text_is_sent old new text (Err stop) (Err why) d t = rw t (d.0, d.1)
 
-pub bank_is_told : (counts : Counts) (s : Live) (b : Parts) → bank_now s.session ≡ Some b → bank_told counts s ≡ listing b counts
+pub bank_is_told : (counts : Counts) (s : Live) (b : Parts) → bank_now s.session ≡ Some b
+    → bank_told counts s ≡ listing b counts
 bank_is_told counts s b e = ap (λ (o : Option Parts). option_map_or (λ (b : Parts). listing b counts) o []) e

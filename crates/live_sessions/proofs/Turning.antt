@@ -1,5 +1,6 @@
 -- A line that is answered.
-use Rattle.std.proofs.Common.{◌≡◌, ◌≤◌, inl, inr, ℕ, ℤ, false, List, [], ◌++◌, length, take, Option, Some, None, Ok, Err, refl, sym, ap, subst, ◌∙◌}
+use Rattle.std.proofs.Common.{◌≡◌, ◌≤◌, inl, inr, ℕ, ℤ, false, List, [], ◌++◌, length, take, Option, Some, None, Ok}
+use Rattle.std.proofs.Common.{Err, refl, sym, ap, subst, ◌∙◌}
 use Rattle.std.specs.List.{flat_map}
 use Rattle.std.specs.Io.KnownBytes.{Appends}
 use Rattle.std.proofs.KnownBytes.{Appends-nil}
@@ -23,7 +24,8 @@ use Rattle.live_sessions.specs.declared.fault.LiveFault.{LiveFault}
 use Rattle.live_sessions.specs.declared.fault.LiveFault.TheVariants as fault
 use Rattle.live_sessions.specs.Saved.{Saved, Adds}
 use Rattle.live_sessions.specs.Telling.{kind_of, bank_told, told_text, next_of, is_last, told_failure, IsSent}
-use Rattle.live_sessions.specs.Steps.{RequestIs, StopsIn, FramesStop, Does, frames_of, saves_of, told_of, events_of, is_end}
+use Rattle.live_sessions.specs.Steps.{RequestIs, StopsIn, FramesStop, Does, frames_of, saves_of, told_of, events_of}
+use Rattle.live_sessions.specs.Steps.{is_end}
 use Rattle.live_sessions.specs.Turns.{Asked, LineIs, Turn, Around, answered, ends}
 use Rattle.live_sessions.specs.Runs.{Answers, StopsLine}
 use Rattle.live_sessions.proofs.Doing.{adds_nothing}
@@ -37,7 +39,8 @@ turn_of line old a new = record { line = line; old = old; answer = a; new = new 
 
 -- ---- a line that asks for nothing
 
-pub none_asked : (counts : Counts) (line : List ℕ) (s : Live) (o p : Option (List ℕ)) (v : Option (List Saved)) → request_of (said_in line) ≡ Ok None
+pub none_asked : (counts : Counts) (line : List ℕ) (s : Live) (o p : Option (List ℕ)) (v : Option (List Saved))
+    → request_of (said_in line) ≡ Ok None
     → Answers counts line s s (around o p v) (around o p v) false
 none_asked counts line s o p v e = record {
   turn = turn_of line s None s;
@@ -47,7 +50,9 @@ none_asked counts line s o p v e = record {
   passes = record {
     is = (e, refl);
     answers = subst (λ (x : Asked). Appends o o (answered x None (told_of counts s) ++ [])) (sym e) (Appends-nil o);
-    pcm = subst (λ (x : Asked). Appends p p (flat_map sample_bytes (answered x None (frames_of s)))) (sym e) (Appends-nil p);
+    pcm =
+        subst (λ (x : Asked). Appends p p (flat_map sample_bytes (answered x None (frames_of s)))) (sym e)
+        (Appends-nil p);
     saved = subst (λ (x : Asked). Adds v v (answered x None (saves_of s))) (sym e) (adds_nothing v);
   };
   ends = ap (λ (x : Asked). ends x None) e;
@@ -66,7 +71,8 @@ pub record Bare (counts : Counts) (s : Live) (x : Asked) (a : Answer) : Type 0 w
 -- out of memory nothing is told, given, saved or done to voices, and no session ends
 abbrev pub NothingDone : Live → Request → Live → Type 0
 NothingDone old r new =
-    ((counts : Counts) → told_of counts old r answer.OutOfMemory ≡ []) × (frames_of old r answer.OutOfMemory ≡ []) × (saves_of old r answer.OutOfMemory ≡ [])
+    ((counts : Counts) → told_of counts old r answer.OutOfMemory ≡ []) × (frames_of old r answer.OutOfMemory ≡ [])
+    × (saves_of old r answer.OutOfMemory ≡ [])
     × (events_of r answer.OutOfMemory new ≡ []) × (is_end r answer.OutOfMemory ≡ false)
 
 pub nothing_done : (old : Live) (r : Request) (new : Live) → NothingDone old r new
@@ -84,23 +90,29 @@ nothing_done old asks.Quit new = ((λ counts. refl), refl, refl, refl, refl)
 memory_bare : (counts : Counts) (s : Live) (x : Asked) → Bare counts s x answer.OutOfMemory
 memory_bare counts s (Ok None) = record { is = inr (refl, refl); told = refl; frames = refl; saves = refl; ends = refl }
 memory_bare counts s (Ok (Some r)) =
-    let none = nothing_done s r s in record { is = inr (refl, refl); told = none.0 counts; frames = none.1; saves = none.2; ends = none.4 }
+    let none = nothing_done s r s in
+    record { is = inr (refl, refl); told = none.0 counts; frames = none.1; saves = none.2; ends = none.4 }
 memory_bare counts s (Err f) = record { is = inr (refl, refl); told = refl; frames = refl; saves = refl; ends = refl }
 
 fault_bare : (counts : Counts) (s : Live) (x : Asked) (f : RequestFault) → x ≡ Err f → Bare counts s x (answer.Fault f)
 fault_bare counts s x f e =
-    let at : Bare counts s (Err f) (answer.Fault f) = record { is = inl (refl, refl); told = refl; frames = refl; saves = refl; ends = refl } in
+    let at : Bare counts s (Err f) (answer.Fault f) =
+    record { is = inl (refl, refl); told = refl; frames = refl; saves = refl; ends = refl } in
     subst (λ (y : Asked). Bare counts s y (answer.Fault f)) (sym e) at
 
-failure_bare : (counts : Counts) (s : Live) (x : Asked) (why : Failure RequestFault) → Fails why x → Bare counts s x (told_failure why)
+failure_bare : (counts : Counts) (s : Live) (x : Asked) (why : Failure RequestFault) → Fails why x
+    → Bare counts s x (told_failure why)
 failure_bare counts s x (failures.Fault f) h = fault_bare counts s x f h
 failure_bare counts s x failures.OutOfMemory h = memory_bare counts s x
 
-pub failure_told : (counts : Counts) (line : List ℕ) (s : Live) (o n p : Option (List ℕ)) (v : Option (List Saved)) (why : Failure RequestFault) (a : Answer)
+pub failure_told : (counts : Counts) (line : List ℕ) (s : Live) (o n p : Option (List ℕ)) (v : Option (List Saved))
+    (why : Failure RequestFault) (a : Answer)
     → Fails why (request_of (said_in line)) → a ≡ told_failure why → Appends o n (answer_text a)
     → Answers counts line s s (around o p v) (around n p v) false
 failure_told counts line s o n p v why a h e sent =
-    let b : Bare counts s (request_of (said_in line)) a = subst (λ (x : Answer). Bare counts s (request_of (said_in line)) x) (sym e) (failure_bare counts s (request_of (said_in line)) why h) in
+    let b : Bare counts s (request_of (said_in line)) a =
+    subst (λ (x : Answer). Bare counts s (request_of (said_in line)) x) (sym e)
+    (failure_bare counts s (request_of (said_in line)) why h) in
     record {
       turn = turn_of line s (Some a) s;
       said = refl;
@@ -115,11 +127,14 @@ failure_told counts line s o n p v why a h e sent =
       ends = b.ends;
     }
 
-pub failure_unsent : (counts : Counts) (line : List ℕ) (s : Live) (o n p : Option (List ℕ)) (v : Option (List Saved)) (why : Failure RequestFault) (a : Answer) (f : LiveFault)
+pub failure_unsent : (counts : Counts) (line : List ℕ) (s : Live) (o n p : Option (List ℕ)) (v : Option (List Saved))
+    (why : Failure RequestFault) (a : Answer) (f : LiveFault)
     → Fails why (request_of (said_in line)) → a ≡ told_failure why → IsSent {U = Unit {0}} o n (answer_text a) (Err f)
     → StopsLine counts line s (around o p v) (around n p v) f
 failure_unsent counts line s o n p v why a (fault.Answers k) h e sent =
-    let b : Bare counts s (request_of (said_in line)) a = subst (λ (x : Answer). Bare counts s (request_of (said_in line)) x) (sym e) (failure_bare counts s (request_of (said_in line)) why h) in
+    let b : Bare counts s (request_of (said_in line)) a =
+    subst (λ (x : Answer). Bare counts s (request_of (said_in line)) x) (sym e)
+    (failure_bare counts s (request_of (said_in line)) why h) in
     record {
       turn = turn_of line s (Some a) s;
       said = refl;
@@ -140,7 +155,8 @@ failure_unsent counts line s o n p v why a (fault.Pcm k) h e sent = absurd sent
 -- ---- a request
 
 -- what is told of a request is told of the session as it leaves it
-same_told : (counts : Counts) (old new : Live) (r : Request) (a : Answer) → RequestIs old r a new → told_text counts new (kind_of r) ≡ told_of counts old r a
+same_told : (counts : Counts) (old new : Live) (r : Request) (a : Answer) → RequestIs old r a new
+    → told_text counts new (kind_of r) ≡ told_of counts old r a
 same_told counts old new (asks.Edit e) a h = refl
 same_told counts old new (asks.Neutral e) a h = refl
 same_told counts old new asks.Undo a h = refl
@@ -166,7 +182,8 @@ same_told counts old new asks.Help answer.OutOfMemory h = absurd h
 same_told counts old new asks.Help (answer.WriteFault path n) h = absurd h
 same_told counts old new asks.Quit a h = refl
 
-same_end : (old new : Live) (r : Request) (a : Answer) → RequestIs old r a new → is_end r a ≡ is_last (next_of (kind_of r))
+same_end : (old new : Live) (r : Request) (a : Answer) → RequestIs old r a new
+    → is_end r a ≡ is_last (next_of (kind_of r))
 same_end old new (asks.Edit e) a h = refl
 same_end old new (asks.Neutral e) a h = refl
 same_end old new asks.Undo a h = refl
@@ -186,12 +203,16 @@ same_end old new asks.Quit answer.OutOfMemory h = absurd h
 same_end old new asks.Quit (answer.WriteFault path n) h = absurd h
 
 -- what a line comes to that asks for this request
-pub request_told : (counts : Counts) (line : List ℕ) (old new : Live) (r : Request) (a : Answer) (k : Kind) (next : Next) (o n p q : Option (List ℕ)) (v w : Option (List Saved))
-    → request_of (said_in line) ≡ Ok (Some r) → k ≡ kind_of r → next ≡ next_of k → Does old new r a p q v w → Appends o n (told_text counts new k ++ answer_text a)
+pub request_told : (counts : Counts) (line : List ℕ) (old new : Live) (r : Request) (a : Answer) (k : Kind)
+    (next : Next) (o n p q : Option (List ℕ)) (v w : Option (List Saved))
+    → request_of (said_in line) ≡ Ok (Some r) → k ≡ kind_of r → next ≡ next_of k → Does old new r a p q v w
+    → Appends o n (told_text counts new k ++ answer_text a)
     → Answers counts line old new (around o p v) (around n q w) (is_last next)
 request_told counts line old new r a k next o n p q v w e kind_is next_is d sent =
-    let told : told_text counts new k ≡ told_of counts old r a = ap (told_text counts new) kind_is ∙ same_told counts old new r a d.session in
-    let last : is_end r a ≡ is_last next = same_end old new r a d.session ∙ sym (ap is_last (next_is ∙ ap next_of kind_is)) in
+    let told : told_text counts new k ≡ told_of counts old r a =
+    ap (told_text counts new) kind_is ∙ same_told counts old new r a d.session in
+    let last : is_end r a ≡ is_last next =
+    same_end old new r a d.session ∙ sym (ap is_last (next_is ∙ ap next_of kind_is)) in
     record {
       turn = turn_of line old (Some a) new;
       said = refl;
@@ -201,17 +222,22 @@ request_told counts line old new r a k next o n p q v w e kind_is next_is d sent
         is = subst (λ (x : Asked). LineIs x old (Some a) new) (sym e) (inl d.session);
         answers = subst (λ (x : Asked). Appends o n (answered x (Some a) (told_of counts old) ++ answer_text a)) (sym e)
             (subst (λ (xs : List ℕ). Appends o n (xs ++ answer_text a)) told sent);
-        pcm = subst (λ (x : Asked). Appends p q (flat_map sample_bytes (answered x (Some a) (frames_of old)))) (sym e) d.frames;
+        pcm =
+            subst (λ (x : Asked). Appends p q (flat_map sample_bytes (answered x (Some a) (frames_of old)))) (sym e)
+            d.frames;
         saved = subst (λ (x : Asked). Adds v w (answered x (Some a) (saves_of old))) (sym e) d.saves;
       };
       ends = ap (λ (x : Asked). ends x (Some a)) e ∙ last;
     }
 
-pub request_unsent : (counts : Counts) (line : List ℕ) (old new : Live) (r : Request) (a : Answer) (k : Kind) (o n p q : Option (List ℕ)) (v w : Option (List Saved)) (f : LiveFault)
-    → request_of (said_in line) ≡ Ok (Some r) → k ≡ kind_of r → Does old new r a p q v w → IsSent {U = Unit {0}} o n (told_text counts new k ++ answer_text a) (Err f)
+pub request_unsent : (counts : Counts) (line : List ℕ) (old new : Live) (r : Request) (a : Answer) (k : Kind)
+    (o n p q : Option (List ℕ)) (v w : Option (List Saved)) (f : LiveFault)
+    → request_of (said_in line) ≡ Ok (Some r) → k ≡ kind_of r → Does old new r a p q v w
+    → IsSent {U = Unit {0}} o n (told_text counts new k ++ answer_text a) (Err f)
     → StopsLine counts line old (around o p v) (around n q w) f
 request_unsent counts line old new r a k o n p q v w (fault.Answers m) e kind_is d sent =
-    let told : told_text counts new k ≡ told_of counts old r a = ap (told_text counts new) kind_is ∙ same_told counts old new r a d.session in
+    let told : told_text counts new k ≡ told_of counts old r a =
+    ap (told_text counts new) kind_is ∙ same_told counts old new r a d.session in
     let S : List ℕ → Type 0 = λ xs. (m ≤ length (xs ++ answer_text a)) × Appends o n (take m (xs ++ answer_text a)) in
     let T : Asked → Type 0 = λ x. S (answered x (Some a) (told_of counts old)) in
     let both : T (request_of (said_in line)) = subst T (sym e) (subst S told sent) in
@@ -223,7 +249,9 @@ request_unsent counts line old new r a k o n p q v w (fault.Answers m) e kind_is
         is = subst (λ (x : Asked). LineIs x old (Some a) new) (sym e) (inl d.session);
         within = both.0;
         answers = both.1;
-        pcm = subst (λ (x : Asked). Appends p q (flat_map sample_bytes (answered x (Some a) (frames_of old)))) (sym e) d.frames;
+        pcm =
+            subst (λ (x : Asked). Appends p q (flat_map sample_bytes (answered x (Some a) (frames_of old)))) (sym e)
+            d.frames;
         saved = subst (λ (x : Asked). Adds v w (answered x (Some a) (saves_of old))) (sym e) d.saves;
       };
     }
@@ -244,7 +272,8 @@ of_frames old n p q fault.Memory h = h
 of_frames old n p q fault.Input h = h
 of_frames old n p q (fault.Answers k) h = h
 
-only_frames : (old : Live) (r : Request) (p q : Option (List ℕ)) (v w : Option (List Saved)) (f : LiveFault) → StopsIn old r p q v w f → IsOfFrames f
+only_frames : (old : Live) (r : Request) (p q : Option (List ℕ)) (v w : Option (List Saved)) (f : LiveFault)
+    → StopsIn old r p q v w f → IsOfFrames f
 only_frames old (asks.Edit e) p q v w f h = absurd h
 only_frames old (asks.Neutral e) p q v w f h = absurd h
 only_frames old asks.Undo p q v w f h = absurd h
@@ -256,8 +285,10 @@ only_frames old asks.Show p q v w f h = absurd h
 only_frames old asks.Help p q v w f h = absurd h
 only_frames old asks.Quit p q v w f h = absurd h
 
-pub request_stopped : (counts : Counts) (line : List ℕ) (old : Live) (r : Request) (o p q : Option (List ℕ)) (v w : Option (List Saved)) (f : LiveFault)
-    → request_of (said_in line) ≡ Ok (Some r) → StopsIn old r p q v w f → StopsLine counts line old (around o p v) (around o q w) f
+pub request_stopped : (counts : Counts) (line : List ℕ) (old : Live) (r : Request) (o p q : Option (List ℕ))
+    (v w : Option (List Saved)) (f : LiveFault)
+    → request_of (said_in line) ≡ Ok (Some r) → StopsIn old r p q v w f
+    → StopsLine counts line old (around o p v) (around o q w) f
 request_stopped counts line old r o p q v w (fault.Pcm n) e h = record {
   turn = turn_of line old None old;
   said = refl;
@@ -267,4 +298,5 @@ request_stopped counts line old r o p q v w (fault.Pcm n) e h = record {
 request_stopped counts line old r o p q v w (fault.File g) e h = absurd (only_frames old r p q v w (fault.File g) h)
 request_stopped counts line old r o p q v w fault.Memory e h = absurd (only_frames old r p q v w fault.Memory h)
 request_stopped counts line old r o p q v w fault.Input e h = absurd (only_frames old r p q v w fault.Input h)
-request_stopped counts line old r o p q v w (fault.Answers n) e h = absurd (only_frames old r p q v w (fault.Answers n) h)
+request_stopped counts line old r o p q v w (fault.Answers n) e h =
+    absurd (only_frames old r p q v w (fault.Answers n) h)

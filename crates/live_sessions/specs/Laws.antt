@@ -11,16 +11,17 @@ use Rattle.live_sessions.specs.declared.live.Live.{Live}
 use Rattle.live_sessions.specs.Steps.{started_with}
 use Rattle.live_sessions.specs.Turns.{Turn, AreTurns, events_in, bytes_in}
 
--- What goes to the writer of frames is what is heard of the starts of notes, each on the bank as it was then: of the edits,
--- undone and done again, of the starts and of the frames that were given, in the order of their lines.
+-- What goes to the writer of frames is what is heard of the starts of notes, each on the bank as it was then: of the
+-- edits, undone and done again, of the starts and of the frames that were given, in the order of their lines.
 abbrev pub FramesAreHeard : Type 0
 FramesAreHeard =
     (b : Parts) (ts : List Turn) (last : Live) → AreTurns (started_with b) ts last
     → flat_map bytes_in ts ≡ flat_map sample_bytes (heard b (flat_map events_in ts))
 
--- Where a session stands, as where it saves, its bank is sound, and it takes the edits of the way back, from the last one on,
--- which give the bank with which it began.
+-- Where a session stands, as where it saves, its bank is sound, and it takes the edits of the way back, from the last
+-- one on, which give the bank with which it began.
 abbrev pub WaysLeadBack : Type 0
 WaysLeadBack =
-    (b c : Parts) (ts : List Turn) (last : Live) → IsSound b → AreTurns (started_with b) ts last → IsHistory last.session → bank_now last.session ≡ Some c
+    (b c : Parts) (ts : List Turn) (last : Live) → IsSound b → AreTurns (started_with b) ts last
+    → IsHistory last.session → bank_now last.session ≡ Some c
     → IsSound c × AllTaken c (reverse (way_back last.session)) × (after_all c (reverse (way_back last.session)) ≡ b)

@@ -84,7 +84,8 @@ Runs file old new (Err (fault.Pcm n)) = PlaysBank file old new (Err (fault.Pcm n
 -- ---- one line of it
 
 -- this line is answered, and passes; whether it ends the session
-pub record Answers (counts : Counts) (line : List ℕ) (live live_new : Live) (old new : Around) (ending : Bool) : Type 0 where
+pub record Answers (counts : Counts) (line : List ℕ) (live live_new : Live) (old new : Around) (ending : Bool) : Type
+    0 where
   pub turn : Turn
   pub said : turn.line ≡ line
   pub begins : turn.old ≡ live

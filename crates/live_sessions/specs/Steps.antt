@@ -1,12 +1,14 @@
 -- What a request makes of a session, by what it is answered, and what goes out of it.
-use Rattle.std.specs.Prelude.{◌≡◌, ◌⊎◌, ◌≤◌, ◌<◌, ◌+◌, ◌-◌, ◌*◌, ◌^◌, min, ℕ, ℤ, Bool, true, false, List, [], ◌∷◌, length, take, Option, Some}
+use Rattle.std.specs.Prelude.{◌≡◌, ◌⊎◌, ◌≤◌, ◌<◌, ◌+◌, ◌-◌, ◌*◌, ◌^◌, min, ℕ, ℤ, Bool, true, false, List, [], ◌∷◌}
+use Rattle.std.specs.Prelude.{length, take, Option, Some}
 use Rattle.std.specs.List.{flat_map}
 use Rattle.std.specs.Io.KnownBytes.{Appends}
 use Rattle.std.specs.Option.{option_map_or}
 use Rattle.bank_parts.specs.declared.parts.Parts.{Parts}
 use Rattle.bank_format.specs.declared.fault.Counts.{Counts}
 use Rattle.edit_forms.specs.declared.edit.Edit.{Edit}
-use Rattle.edit_sessions.specs.Histories.{IsHistory, bank_now, begun, IsEdited, IsRefusalNow, IsForth, IsUndoFailure, IsRedoFailure, way_back}
+use Rattle.edit_sessions.specs.Histories.{IsHistory, bank_now, begun, IsEdited, IsRefusalNow, IsForth, IsUndoFailure}
+use Rattle.edit_sessions.specs.Histories.{IsRedoFailure, way_back}
 use Rattle.neutral_edits.specs.Neutral.{is_neutral}
 use Rattle.note_list.specs.Notes.{Numbers}
 use Rattle.mixer.specs.Heard.{fresh}
@@ -80,7 +82,8 @@ FramesAre old m answer.Done new = (old.given + m ≤ MOST_FRAMES) × (new ≡ af
 FramesAre old m answer.TooManyFrames new = (MOST_FRAMES < old.given + m) × (new ≡ old)
 FramesAre old m other new = ⊥
 
--- a save changes nothing, whether it is done or not; what it saves takes a history back, and a write fault names one of its paths
+-- a save changes nothing, whether it is done or not; what it saves takes a history back, and a write fault names one
+-- of its paths
 abbrev pub SaveIs : Live → Paths → Answer → Live → Type 0
 SaveIs old paths answer.Done new = IsHistory old.session × (new ≡ old)
 SaveIs old paths answer.OutOfMemory new = new ≡ old
@@ -142,7 +145,8 @@ frames_of old (asks.Frames m) a = block_if old m a
 frames_of old other a = []
 
 abbrev pub saves_if : Live → Answer → List Saved
-saves_if old answer.Done = option_map_or (λ (b : Parts). saved_of b (way_back old.session) ∷ []) (bank_now old.session) []
+saves_if old answer.Done =
+    option_map_or (λ (b : Parts). saved_of b (way_back old.session) ∷ []) (bank_now old.session) []
 saves_if old other = []
 
 -- what a request saves: the bank as it is, and the way back to the first
@@ -172,7 +176,8 @@ is_end other a = false
 -- ---- one request done
 
 -- what it makes of the session, what went to the writer of frames, and what was saved
-pub record Does (old new : Live) (r : Request) (a : Answer) (pcm pcm_new : Option (List ℕ)) (saved saved_new : Option (List Saved)) : Type 0 where
+pub record Does (old new : Live) (r : Request) (a : Answer) (pcm pcm_new : Option (List ℕ))
+    (saved saved_new : Option (List Saved)) : Type 0 where
   pub session : RequestIs old r a new
   pub frames : Appends pcm pcm_new (flat_map sample_bytes (frames_of old r a))
   pub saves : Adds saved saved_new (saves_of old r a)
@@ -191,6 +196,8 @@ FramesStop old count pcm pcm_new (fault.Pcm written) = StopsInFrames old count p
 FramesStop old count pcm pcm_new other = ⊥
 
 -- only frames stop in their midst, and nothing was saved
-abbrev pub StopsIn : Live → Request → Option (List ℕ) → Option (List ℕ) → Option (List Saved) → Option (List Saved) → LiveFault → Type 0
-StopsIn old (asks.Frames count) pcm pcm_new saved saved_new why = FramesStop old count pcm pcm_new why × Adds saved saved_new []
+abbrev pub StopsIn : Live → Request → Option (List ℕ) → Option (List ℕ) → Option (List Saved) → Option (List Saved)
+    → LiveFault → Type 0
+StopsIn old (asks.Frames count) pcm pcm_new saved saved_new why =
+    FramesStop old count pcm pcm_new why × Adds saved saved_new []
 StopsIn old other pcm pcm_new saved saved_new why = ⊥

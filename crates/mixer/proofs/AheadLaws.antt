@@ -1,5 +1,6 @@
 -- Sums that are ahead.
-use Rattle.std.proofs.Common.{◌≡◌, ℕ, ◌+◌, ◌-◌, ◌*◌, ◌/◌, ◌<◌, ◌≤◌, ◌^◌, ℤ, pos, ◌+ℤ◌, List, ◌++◌, map, filter, false, not, take, drop, length, get_or, inl, inr, sym, ap, ◌∙◌, subst, arith}
+use Rattle.std.proofs.Common.{◌≡◌, ℕ, ◌+◌, ◌-◌, ◌*◌, ◌/◌, ◌<◌, ◌≤◌, ◌^◌, ℤ, pos, ◌+ℤ◌, List, ◌++◌, map, filter}
+use Rattle.std.proofs.Common.{false, not, take, drop, length, get_or, inl, inr, sym, ap, ◌∙◌, subst, arith}
 use Rattle.std.specs.List.{All, list_any}
 use Rattle.std.proofs.lemmas.Bool.{cases_lt}
 use Rattle.std.proofs.lemmas.Grind.{common_steps}
@@ -16,7 +17,8 @@ use Rattle.mixer.proofs.Classes.{none_silenced}
 use Rattle.mixer.proofs.Silent.{wider}
 use Rattle.mixer.proofs.Sums.{sum_of-append}
 use Rattle.mixer.proofs.Parts.{filter_all}
-use Rattle.mixer.proofs.Rewinding.{rewound-none, rewound-aged, rewound-fewer, unsilenced-rewound, sounding_later, next_sounding, total_later}
+use Rattle.mixer.proofs.Rewinding.{rewound-none, rewound-aged, rewound-fewer, unsilenced-rewound, sounding_later}
+use Rattle.mixer.proofs.Rewinding.{next_sounding, total_later}
 
 -- ---- how far sums go
 
@@ -29,7 +31,8 @@ within_more m n a le h = record {
 
 -- ---- the ends of the lists
 
-written : (n k : ℕ) (xs ys zs : List ℤ) → n ≤ length xs → k < length ys → get_or (take n xs ++ (ys ++ zs)) (n + k) (pos 0) ≡ get_or ys k (pos 0)
+written : (n k : ℕ) (xs ys zs : List ℤ) → n ≤ length xs → k < length ys
+    → get_or (take n xs ++ (ys ++ zs)) (n + k) (pos 0) ≡ get_or ys k (pos 0)
 written n k xs ys zs h l = grind (arith, common_steps)
 
 -- what is written there is read there
@@ -37,26 +40,39 @@ pub sides_written : (left : ℕ) (xs ys zs : List ℤ) (i : ℕ) → left ≤ 25
     → get_or (take (2 * (256 - left)) xs ++ (ys ++ zs)) (512 - 2 * left + i) (pos 0) ≡ get_or ys i (pos 0)
 sides_written left xs ys zs i le size l =
     let place : 512 - 2 * left + i ≡ 2 * (256 - left) + i = omega (arith, le) in
-    ap (λ k. get_or (take (2 * (256 - left)) xs ++ (ys ++ zs)) k (pos 0)) place ∙ written (2 * (256 - left)) i xs ys zs (omega (arith, le, size)) l
+    ap (λ k. get_or (take (2 * (256 - left)) xs ++ (ys ++ zs)) k (pos 0)) place
+    ∙ written (2 * (256 - left)) i xs ys zs (omega (arith, le, size)) l
 
 pub middle_written : (left : ℕ) (xs ys zs : List ℤ) (k : ℕ) → left ≤ 256 → length xs ≡ 256 → k < length ys
     → get_or (take (256 - left) xs ++ (ys ++ zs)) (256 - left + k) (pos 0) ≡ get_or ys k (pos 0)
 middle_written left xs ys zs k le size l = written (256 - left) k xs ys zs (omega (arith, le, size)) l
 
 -- the ends as they are lent
-pub length-sides : (left : ℕ) (xs : List ℤ) → left ≤ 256 → length xs ≡ 512 → length (take (512 - 2 * (256 - left)) (drop (2 * (256 - left)) xs)) ≡ 2 * left
-length-sides left xs le size = omega (arith, le, size, length-take (512 - 2 * (256 - left)) (drop (2 * (256 - left)) xs), length-drop (2 * (256 - left)) xs)
+pub length-sides : (left : ℕ) (xs : List ℤ) → left ≤ 256 → length xs ≡ 512
+    → length (take (512 - 2 * (256 - left)) (drop (2 * (256 - left)) xs)) ≡ 2 * left
+length-sides left xs le size =
+    omega (
+      arith,
+      le,
+      size,
+      length-take (512 - 2 * (256 - left)) (drop (2 * (256 - left)) xs),
+      length-drop (2 * (256 - left)) xs,
+    )
 
-pub length-middle : (left : ℕ) (xs : List ℤ) → left ≤ 256 → length xs ≡ 256 → length (take (256 - (256 - left)) (drop (256 - left) xs)) ≡ left
-length-middle left xs le size = omega (arith, le, size, length-take (256 - (256 - left)) (drop (256 - left) xs), length-drop (256 - left) xs)
+pub length-middle : (left : ℕ) (xs : List ℤ) → left ≤ 256 → length xs ≡ 256
+    → length (take (256 - (256 - left)) (drop (256 - left) xs)) ≡ left
+length-middle left xs le size =
+    omega (arith, le, size, length-take (256 - (256 - left)) (drop (256 - left) xs), length-drop (256 - left) xs)
 
 lent : (n m k : ℕ) (xs : List ℤ) → k < m → get_or (take m (drop n xs)) k (pos 0) ≡ get_or xs (n + k) (pos 0)
 lent n m k xs l = grind (arith, common_steps)
 
 pub sides_lent : (left : ℕ) (xs : List ℤ) (i : ℕ) → left ≤ 256 → i < 2 * left
-    → get_or (take (512 - 2 * (256 - left)) (drop (2 * (256 - left)) xs)) i (pos 0) ≡ get_or xs (512 - 2 * left + i) (pos 0)
+    → get_or (take (512 - 2 * (256 - left)) (drop (2 * (256 - left)) xs)) i (pos 0)
+    ≡ get_or xs (512 - 2 * left + i) (pos 0)
 sides_lent left xs i le l =
-    lent (2 * (256 - left)) (512 - 2 * (256 - left)) i xs (omega (arith, le, l)) ∙ ap (λ k. get_or xs k (pos 0)) (omega (arith, le))
+    lent (2 * (256 - left)) (512 - 2 * (256 - left)) i xs (omega (arith, le, l))
+    ∙ ap (λ k. get_or xs k (pos 0)) (omega (arith, le))
 
 pub middle_lent : (left : ℕ) (xs : List ℤ) (k : ℕ) → left ≤ 256 → k < left
     → get_or (take (256 - (256 - left)) (drop (256 - left) xs)) k (pos 0) ≡ get_or xs (256 - left + k) (pos 0)
@@ -65,7 +81,14 @@ middle_lent left xs k le l = lent (256 - left) (256 - (256 - left)) k xs (omega 
 -- ---- where none are left
 
 pub none_within : (n : ℕ) (a : Ahead) → a.left ≡ 0 → AreWithin n a
-none_within n a e = record { most = omega (arith, e); sides = λ i h. absurd (omega (arith, e, h)); middle = λ k h. absurd (omega (arith, e, h)) }
+none_within n a e =
+    record {
+      most =
+          omega (arith, e);
+      sides =
+          λ i h. absurd (omega (arith, e, h));
+      middle = λ k h. absurd (omega (arith, e, h));
+    }
 
 pub none_summed : (a : Ahead) (ps : List Playing) → a.left ≡ 0 → AreSums a ps
 none_summed a ps e = record { within = none_within (length ps) a e; sums = λ i h. absurd (omega (arith, e, h)) }
@@ -101,17 +124,29 @@ total-append ps qs i = sum_of-append _ ps qs
 
 -- one list is those that are left of another with more in them
 pub joined : (a b : Ahead) (ps qs : List Playing) → b.left ≡ a.left
-    → ((i : ℕ) → i < 2 * a.left → side_left b i +ℤ middle_left b (i / 2) ≡ side_left a i +ℤ middle_left a (i / 2) +ℤ total_at qs i)
-    → ((j i : ℕ) → i < 2 * a.left → ((k : ℕ) → k < 2 * a.left → IsWithin j (side_left a k)) → IsWithin (j + length qs) (side_left b i))
-    → ((j i : ℕ) → i < a.left → ((k : ℕ) → k < a.left → IsWithin j (middle_left a k)) → IsWithin (j + length qs) (middle_left b i))
+    →
+    ((i : ℕ) → i < 2 * a.left
+    → side_left b i +ℤ middle_left b (i / 2) ≡ side_left a i +ℤ middle_left a (i / 2) +ℤ total_at qs i)
+    →
+    ((j i : ℕ) → i < 2 * a.left → ((k : ℕ) → k < 2 * a.left → IsWithin j (side_left a k))
+    → IsWithin (j + length qs) (side_left b i))
+    →
+    ((j i : ℕ) → i < a.left → ((k : ℕ) → k < a.left → IsWithin j (middle_left a k))
+    → IsWithin (j + length qs) (middle_left b i))
     → AreSums a ps → AreSums b (ps ++ qs)
 joined a b ps qs left sums sides middle h =
     let size = length-append ps qs in
     record {
       within = record {
         most = omega (arith, left, h.within.most);
-        sides = λ i l. wider (length ps + length qs) (length (ps ++ qs)) _ (omega (arith, size)) (sides (length ps) i (omega (arith, left, l)) h.within.sides);
-        middle = λ k l. wider (length ps + length qs) (length (ps ++ qs)) _ (omega (arith, size)) (middle (length ps) k (omega (arith, left, l)) h.within.middle);
+        sides =
+            λ i l.
+            wider (length ps + length qs) (length (ps ++ qs)) _ (omega (arith, size))
+            (sides (length ps) i (omega (arith, left, l)) h.within.sides);
+        middle =
+            λ k l.
+            wider (length ps + length qs) (length (ps ++ qs)) _ (omega (arith, size))
+            (middle (length ps) k (omega (arith, left, l)) h.within.middle);
       };
       sums = λ i l. let here : i < 2 * a.left = omega (arith, left, l) in
           sums i here ∙ ap (λ z. z +ℤ total_at qs i) (h.sums i here) ∙ sym (total-append ps qs i);
@@ -120,23 +155,35 @@ joined a b ps qs left sums sides middle h =
 -- ---- later frames
 
 -- m frames were given
-pub given_later : (a b : Ahead) (ps : List Playing) (m : ℕ) → b.sides ≡ a.sides → b.middle ≡ a.middle → b.left + m ≡ a.left → AreSums a ps → AreSums b (map (aged m) ps)
+pub given_later : (a b : Ahead) (ps : List Playing) (m : ℕ) → b.sides ≡ a.sides → b.middle ≡ a.middle
+    → b.left + m ≡ a.left → AreSums a ps → AreSums b (map (aged m) ps)
 given_later a b ps m sides middle left h =
     let most = h.within.most in
     let size = length-map ps (aged m) in
     let side : (i : ℕ) → side_left b i ≡ side_left a (2 * m + i) = λ i.
-    ap (λ (xs : List ℤ). get_or xs (512 - 2 * b.left + i) (pos 0)) sides ∙ ap (λ k. get_or a.sides k (pos 0)) (omega (arith, left, most)) in
+    ap (λ (xs : List ℤ). get_or xs (512 - 2 * b.left + i) (pos 0)) sides
+    ∙ ap (λ k. get_or a.sides k (pos 0)) (omega (arith, left, most)) in
     let both : (k : ℕ) → middle_left b k ≡ middle_left a (m + k) = λ k.
-    ap (λ (xs : List ℤ). get_or xs (256 - b.left + k) (pos 0)) middle ∙ ap (λ j. get_or a.middle j (pos 0)) (omega (arith, left, most)) in
+    ap (λ (xs : List ℤ). get_or xs (256 - b.left + k) (pos 0)) middle
+    ∙ ap (λ j. get_or a.middle j (pos 0)) (omega (arith, left, most)) in
     record {
       within = record {
         most = omega (arith, left, most);
-        sides = λ i l. subst (IsWithin (length (map (aged m) ps))) (sym (side i)) (wider (length ps) (length (map (aged m) ps)) _ (omega (arith, size)) (h.within.sides (2 * m + i) (omega (arith, left, l))));
-        middle = λ k l. subst (IsWithin (length (map (aged m) ps))) (sym (both k)) (wider (length ps) (length (map (aged m) ps)) _ (omega (arith, size)) (h.within.middle (m + k) (omega (arith, left, l))));
+        sides =
+            λ i l.
+            subst (IsWithin (length (map (aged m) ps))) (sym (side i))
+            (wider (length ps) (length (map (aged m) ps)) _ (omega (arith, size))
+            (h.within.sides (2 * m + i) (omega (arith, left, l))));
+        middle =
+            λ k l.
+            subst (IsWithin (length (map (aged m) ps))) (sym (both k))
+            (wider (length ps) (length (map (aged m) ps)) _ (omega (arith, size))
+            (h.within.middle (m + k) (omega (arith, left, l))));
       };
       sums = λ i l.
           (λ j. side i j +ℤ both (i / 2) j)
-          ∙ ap (λ k. side_left a (2 * m + i) +ℤ middle_left a k) (let e : m + i / 2 ≡ (2 * m + i) / 2 = omega arith in e)
+          ∙ ap (λ k. side_left a (2 * m + i) +ℤ middle_left a k)
+          (let e : m + i / 2 ≡ (2 * m + i) / 2 = omega arith in e)
           ∙ h.sums (2 * m + i) (omega (arith, left, l))
           ∙ sym (total_later m i ps);
     }
@@ -145,16 +192,20 @@ given_later a b ps m sides middle left h =
 pub ahead_later : (a b : Ahead) (ps : List Playing) (m : ℕ) → b.left + m ≡ a.left
     → ((qs : List Playing) → AreSums a qs → AreSums b (map (aged m) qs)) → IsAhead a ps → IsAhead b ps
 ahead_later a b ps m left sums h = record {
-  sums = subst (AreSums b) (sym (rewound-fewer a.left m b.left ps left h.given)) (sums (map (rewound a.left) ps) h.sums);
+  sums =
+      subst (AreSums b) (sym (rewound-fewer a.left m b.left ps left h.given))
+      (sums (map (rewound a.left) ps) h.sums);
   given = λ k d l. let g = h.given k d l in omega (arith, left, g);
   young = h.young;
   few = λ some. h.few (omega (arith, left, some));
 }
 
-pub playing_later : (a b : Ahead) (ps : List Playing) (m : ℕ) → b.left + m ≡ a.left → IsAhead a ps → playing_now b ps ≡ after_block (playing_now a ps) m
+pub playing_later : (a b : Ahead) (ps : List Playing) (m : ℕ) → b.left + m ≡ a.left → IsAhead a ps
+    → playing_now b ps ≡ after_block (playing_now a ps) m
 unfolding playing_now after_block
 playing_later a b ps m left h =
-    ap (filter is_sounding) (rewound-fewer a.left m b.left ps left h.given) ∙ sym (sounding_later m (map (rewound a.left) ps))
+    ap (filter is_sounding) (rewound-fewer a.left m b.left ps left h.given)
+    ∙ sym (sounding_later m (map (rewound a.left) ps))
 
 -- ---- what a player's calls do
 
@@ -165,25 +216,32 @@ none_playing a ps e = ap (λ n. filter is_sounding (map (rewound n) ps)) e ∙ a
 -- all voices went back
 young_behind : (n m : ℕ) (ps : List Playing) → AllYounger m ps → AllYounger m (map (rewound n) ps)
 unfolding rewound
-young_behind n m ps young = All-map (λ (p : Playing). p.voice.age < m) (rewound n) ps (λ k d l. let g : (get_or ps k d).voice.age < m = young k d l in omega (arith, g))
+young_behind n m ps young =
+    All-map (λ (p : Playing). p.voice.age < m) (rewound n) ps
+    (λ k d l. let g : (get_or ps k d).voice.age < m = young k d l in omega (arith, g))
 
-pub gone_back_ahead : (a b : Ahead) (ps : List Playing) → b.left ≡ 0 → IsAhead a ps → IsAhead b (map (rewound a.left) ps)
+pub gone_back_ahead : (a b : Ahead) (ps : List Playing) → b.left ≡ 0 → IsAhead a ps
+    → IsAhead b (map (rewound a.left) ps)
 gone_back_ahead a b ps e h = none_ahead b (map (rewound a.left) ps) e (young_behind a.left (2 ^ 33 + 256) ps h.young)
 
-pub gone_back_playing : (a b : Ahead) (ps : List Playing) → b.left ≡ 0 → playing_now b (map (rewound a.left) ps) ≡ playing_now a ps
+pub gone_back_playing : (a b : Ahead) (ps : List Playing) → b.left ≡ 0
+    → playing_now b (map (rewound a.left) ps) ≡ playing_now a ps
 unfolding playing_now
 gone_back_playing a b ps e = none_playing b (map (rewound a.left) ps) e
 
 -- some were silenced, or none where frames are left
-pub silenced_ahead : (a : Ahead) (ps new : List Playing) → (0 < a.left → list_any has_class new ≡ false) → IsAhead a ps → IsAhead a (unsilenced new ps)
+pub silenced_ahead : (a : Ahead) (ps new : List Playing) → (0 < a.left → list_any has_class new ≡ false)
+    → IsAhead a ps → IsAhead a (unsilenced new ps)
 unfolding unsilenced
 silenced_ahead a ps new alone h = elim (cases_lt 0 a.left) [
   | inl some ↦ subst (IsAhead a) (sym (none_silenced new ps (alone some))) h
   | inr none ↦
-      none_ahead a (unsilenced new ps) (omega (arith, none)) (All-filter (λ q. not (silences new q)) (λ (p : Playing). p.voice.age < 2 ^ 33 + 256) ps h.young)
+      none_ahead a (unsilenced new ps) (omega (arith, none))
+      (All-filter (λ q. not (silences new q)) (λ (p : Playing). p.voice.age < 2 ^ 33 + 256) ps h.young)
 ]
 
-pub silenced_playing : (a : Ahead) (ps new : List Playing) → playing_now a (unsilenced new ps) ≡ unsilenced new (playing_now a ps)
+pub silenced_playing : (a : Ahead) (ps new : List Playing)
+    → playing_now a (unsilenced new ps) ≡ unsilenced new (playing_now a ps)
 unfolding playing_now
 silenced_playing a ps new = sym (unsilenced-rewound new a.left ps)
 
@@ -194,23 +252,33 @@ given_all n ps = All-map (λ (p : Playing). n ≤ p.voice.age) (aged n) ps (λ k
 
 young_ahead : (n m : ℕ) (ps : List Playing) → n ≤ 256 → AllYounger m ps → AllYounger (m + 256) (map (aged n) ps)
 unfolding aged
-young_ahead n m ps le young = All-map (λ (p : Playing). p.voice.age < m + 256) (aged n) ps (λ k d l. let g : (get_or ps k d).voice.age < m = young k d l in omega (arith, g, le))
+young_ahead n m ps le young =
+    All-map (λ (p : Playing). p.voice.age < m + 256) (aged n) ps
+    (λ k d l. let g : (get_or ps k d).voice.age < m = young k d l in omega (arith, g, le))
 
 both_lists : (n : ℕ) (ps new : List Playing) → map (rewound n) (ps ++ map (aged n) new) ≡ map (rewound n) ps ++ new
-both_lists n ps new = map-append (rewound n) ps (map (aged n) new) ∙ ap (λ l. map (rewound n) ps ++ l) (rewound-aged n new)
+both_lists n ps new =
+    map-append (rewound n) ps (map (aged n) new) ∙ ap (λ l. map (rewound n) ps ++ l) (rewound-aged n new)
 
 pub started_ahead : (a b : Ahead) (ps new : List Playing) → b.left ≡ a.left → IsAhead a ps → AllYounger (2 ^ 33) new
-    → (0 < a.left → length ps + length new ≤ 32767) → ((qs : List Playing) → AreSums a qs → AreSums b (qs ++ new)) → IsAhead b (ps ++ map (aged a.left) new)
+    → (0 < a.left → length ps + length new ≤ 32767) → ((qs : List Playing) → AreSums a qs → AreSums b (qs ++ new))
+    → IsAhead b (ps ++ map (aged a.left) new)
 started_ahead a b ps new left h young few sums = record {
-  sums = subst (AreSums b) (sym (both_lists a.left ps new) ∙ ap (λ n. map (rewound n) (ps ++ map (aged a.left) new)) (sym left)) (sums (map (rewound a.left) ps) h.sums);
+  sums =
+      subst (AreSums b)
+      (sym (both_lists a.left ps new) ∙ ap (λ n. map (rewound n) (ps ++ map (aged a.left) new)) (sym left))
+      (sums (map (rewound a.left) ps) h.sums);
   given = subst (λ n. All (λ (p : Playing). n ≤ p.voice.age) (ps ++ map (aged a.left) new)) (sym left)
       (All-append (λ (p : Playing). a.left ≤ p.voice.age) ps (map (aged a.left) new) h.given (given_all a.left new));
-  young = All-append (λ (p : Playing). p.voice.age < 2 ^ 33 + 256) ps (map (aged a.left) new) h.young (young_ahead a.left (2 ^ 33) new h.sums.within.most young);
+  young =
+      All-append (λ (p : Playing). p.voice.age < 2 ^ 33 + 256) ps (map (aged a.left) new) h.young
+      (young_ahead a.left (2 ^ 33) new h.sums.within.most young);
   few = λ some. let f : length ps + length new ≤ 32767 = few (omega (arith, left, some)) in
       omega (arith, f, length-append ps (map (aged a.left) new), length-map new (aged a.left));
 }
 
-pub started_playing : (a b : Ahead) (ps new : List Playing) → b.left ≡ a.left → AllSounding new → playing_now b (ps ++ map (aged a.left) new) ≡ playing_now a ps ++ new
+pub started_playing : (a b : Ahead) (ps new : List Playing) → b.left ≡ a.left → AllSounding new
+    → playing_now b (ps ++ map (aged a.left) new) ≡ playing_now a ps ++ new
 unfolding playing_now
 started_playing a b ps new left all =
     ap (λ n. filter is_sounding (map (rewound n) (ps ++ map (aged a.left) new))) left
@@ -219,7 +287,8 @@ started_playing a b ps new left all =
     ∙ ap (λ l. filter is_sounding (map (rewound a.left) ps) ++ l) (filter_all new all)
 
 -- frames of all voices were summed
-pub filled_ahead : (a : Ahead) (ps : List Playing) → length ps ≤ 32767 → AllYounger (2 ^ 33) ps → AreSums a ps → IsAhead a (map (aged a.left) ps)
+pub filled_ahead : (a : Ahead) (ps : List Playing) → length ps ≤ 32767 → AllYounger (2 ^ 33) ps → AreSums a ps
+    → IsAhead a (map (aged a.left) ps)
 filled_ahead a ps few young h = record {
   sums = subst (AreSums a) (sym (rewound-aged a.left ps)) h;
   given = given_all a.left ps;
@@ -232,14 +301,17 @@ unfolding playing_now
 filled_playing a ps all = ap (filter is_sounding) (rewound-aged a.left ps) ∙ filter_all ps all
 
 -- what is given first
-pub heard_first : (a : Ahead) (ps : List Playing) (k : ℕ) → next_side (map (rewound a.left) ps) k ≡ next_side (playing_now a ps) k
+pub heard_first : (a : Ahead) (ps : List Playing) (k : ℕ)
+    → next_side (map (rewound a.left) ps) k ≡ next_side (playing_now a ps) k
 unfolding playing_now
 heard_first a ps k = sym (next_sounding (map (rewound a.left) ps) k)
 
 -- those that are over were dropped
-pub dropped_playing : (a : Ahead) (ps : List Playing) → a.left ≡ 0 → playing_now a (filter is_sounding ps) ≡ playing_now a ps
+pub dropped_playing : (a : Ahead) (ps : List Playing) → a.left ≡ 0
+    → playing_now a (filter is_sounding ps) ≡ playing_now a ps
 dropped_playing a ps e =
-    none_playing a (filter is_sounding ps) e ∙ filter_all (filter is_sounding ps) (filter_passes is_sounding ps) ∙ sym (none_playing a ps e)
+    none_playing a (filter is_sounding ps) e ∙ filter_all (filter is_sounding ps) (filter_passes is_sounding ps)
+    ∙ sym (none_playing a ps e)
 
 -- all of them sound
 pub playing_sounds : (a : Ahead) (ps : List Playing) → AllSounding (playing_now a ps)

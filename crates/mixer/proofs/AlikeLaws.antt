@@ -1,8 +1,10 @@
 -- Banks that give each note the same voices sound the same.
-use Rattle.std.proofs.Common.{◌≡◌, ℕ, ◌+◌, ◌-◌, ◌*◌, ◌/◌, ℤ, pos, ◌+ℤ◌, Bool, cond, nat_le, ◌&&◌, ◌||◌, max, List, [], ◌∷◌, map, refl, sym, ap, ◌∙◌}
+use Rattle.std.proofs.Common.{◌≡◌, ℕ, ◌+◌, ◌-◌, ◌*◌, ◌/◌, ℤ, pos, ◌+ℤ◌, Bool, cond, nat_le, ◌&&◌, ◌||◌, max, List}
+use Rattle.std.proofs.Common.{[], ◌∷◌, map, refl, sym, ap, ◌∙◌}
 use Rattle.std.specs.List.{range_with_len}
 use Rattle.std.specs.List.Sorted.{IsPermutation}
-use Rattle.std.proofs.lemmas.List.Sorted.{IsPermutation-refl, IsPermutation-trans, IsPermutation-map, list_any-IsPermutation}
+use Rattle.std.proofs.lemmas.List.Sorted.{IsPermutation-refl, IsPermutation-trans, IsPermutation-map}
+use Rattle.std.proofs.lemmas.List.Sorted.{list_any-IsPermutation}
 use Rattle.bank_parts.specs.declared.parts.Parts.{Parts}
 use Rattle.note_list.specs.Notes.{Numbers}
 use Rattle.zone_select.specs.Select.{selected}
@@ -10,7 +12,8 @@ use Rattle.zone_select.specs.Alike.{AreAlike}
 use Rattle.voices.specs.Sound.{snd}
 use Rattle.mixer.specs.declared.playing.Playing.{Playing}
 use Rattle.mixer.specs.Sums.{sum_of}
-use Rattle.mixer.specs.Heard.{Start, playing, fresh, excludes, silences, is_silenced, voice_at, start_at, sum_at, side_at, frames, cut, is_left}
+use Rattle.mixer.specs.Heard.{Start, playing, fresh, excludes, silences, is_silenced, voice_at, start_at, sum_at}
+use Rattle.mixer.specs.Heard.{side_at, frames, cut, is_left}
 use Rattle.mixer.specs.Events.{Event, Edited, Started, Given, starts, given, heard, blocks}
 use Rattle.mixer.specs.Render.{end_of, frame_count, silenced_from, note_with, note_at, notes_at, rendered_side, render}
 use Rattle.mixer.specs.Alike.{LeaveAlike, without_edits}
@@ -27,16 +30,21 @@ unfolding silences
 silences-permuted ps qs h p = list_any-IsPermutation (λ q. excludes q p) ps qs h
 
 -- equal at each element, in another order
-sum_of-alike : (f g : Playing → ℤ) (ps qs : List Playing) → ((p : Playing) → f p ≡ g p) → IsPermutation ps qs → sum_of f ps ≡ sum_of g qs
+sum_of-alike : (f g : Playing → ℤ) (ps qs : List Playing) → ((p : Playing) → f p ≡ g p) → IsPermutation ps qs
+    → sum_of f ps ≡ sum_of g qs
 sum_of-alike f g ps qs e h = sum_of-same f g e ps ∙ sum_of-permuted g ps qs h
 
 -- ---- notes
 
-silenced_from-alike : (b c : Parts) → AreAlike b c → (k t : ℕ) (q : Playing) (ms : List Numbers) → silenced_from b k t q ms ≡ silenced_from c k t q ms
+silenced_from-alike : (b c : Parts) → AreAlike b c → (k t : ℕ) (q : Playing) (ms : List Numbers)
+    → silenced_from b k t q ms ≡ silenced_from c k t q ms
 unfolding silenced_from
 silenced_from-alike b c h k t q [] = refl
 silenced_from-alike b c h k t q (m ∷ ms) =
-    λ j. (nat_le k m.start && (nat_le m.start t && silences-permuted (fresh b m) (fresh c m) (fresh-alike b c h m) q j)) || silenced_from-alike b c h k t q ms j
+    λ j.
+    (nat_le k m.start
+    && (nat_le m.start t && silences-permuted (fresh b m) (fresh c m) (fresh-alike b c h m) q j))
+    || silenced_from-alike b c h k t q ms j
 
 note_with-alike : (b c : Parts) → AreAlike b c → (quiet hushed : Playing → Bool) → ((p : Playing) → quiet p ≡ hushed p)
     → (n : Numbers) (left : Bool) (t : ℕ) → note_with b quiet n left t ≡ note_with c hushed n left t
@@ -50,14 +58,16 @@ note_with-alike b c h quiet hushed e n left t =
     (λ p. ap (λ q. cond q (pos 0) (snd p.voice.value left (p.voice.age + (t - n.start)))) (e p))
     (fresh-alike b c h n))
 
-notes_at-alike : (b c : Parts) → AreAlike b c → (before ns : List Numbers) (left : Bool) (t : ℕ) → notes_at b before ns left t ≡ notes_at c before ns left t
+notes_at-alike : (b c : Parts) → AreAlike b c → (before ns : List Numbers) (left : Bool) (t : ℕ)
+    → notes_at b before ns left t ≡ notes_at c before ns left t
 unfolding notes_at note_at
 notes_at-alike b c h before [] left t = refl
 notes_at-alike b c h before (n ∷ after) left t =
     λ j. note_with-alike b c h
     (λ p. silenced_from b (n.start + 1) t p before || silenced_from b n.start t p after)
     (λ p. silenced_from c (n.start + 1) t p before || silenced_from c n.start t p after)
-    (λ p. λ i. silenced_from-alike b c h (n.start + 1) t p before i || silenced_from-alike b c h n.start t p after i) n left t j
+    (λ p. λ i. silenced_from-alike b c h (n.start + 1) t p before i || silenced_from-alike b c h n.start t p after i)
+    n left t j
     +ℤ notes_at-alike b c h (n ∷ before) after left t j
 
 end_of-alike : (b c : Parts) → AreAlike b c → (n : Numbers) → end_of b n ≡ end_of c n
@@ -72,7 +82,9 @@ frame_count-alike b c h (n ∷ ns) = λ j. max (end_of-alike b c h n j) (frame_c
 pub alike_render : (b c : Parts) → AreAlike b c → (ns : List Numbers) → render b ns ≡ render c ns
 unfolding render rendered_side
 alike_render b c h ns =
-    λ j. map (λ i. cut (notes_at-alike b c h [] ns (is_left i) (i / 2) j)) (range_with_len 0 (2 * frame_count-alike b c h ns j))
+    λ j.
+    map (λ i. cut (notes_at-alike b c h [] ns (is_left i) (i / 2) j))
+    (range_with_len 0 (2 * frame_count-alike b c h ns j))
 
 -- ---- events
 
@@ -89,7 +101,9 @@ unfolding starts is_silenced without_edits
 is_silenced-alike b c h [] g from t q = refl
 is_silenced-alike b c h (Edited d ∷ es) g from t q = is_silenced-alike b d (AreAlike-trans b c d h g.0) es g.1 from t q
 is_silenced-alike b c h (Started n ∷ es) g from t q =
-    λ j. (nat_le from t && sym (silences-permuted (fresh b n) (fresh c n) (fresh-alike b c h n) q) j) || is_silenced-alike b c h es g from t q j
+    λ j.
+    (nat_le from t && sym (silences-permuted (fresh b n) (fresh c n) (fresh-alike b c h n) q) j)
+    || is_silenced-alike b c h es g from t q j
 is_silenced-alike b c h (Given m ∷ es) g from t q = is_silenced-alike b c h es g (from + m) t q
 
 -- a voice that played before the events
@@ -97,7 +111,8 @@ voice_at-alike : (b : Parts) (es : List Event) → LeaveAlike b es → (from t :
     → voice_at (starts b from es) from left t p ≡ voice_at (starts b from (without_edits es)) from left t p
 unfolding voice_at
 voice_at-alike b es g from t left p =
-    ap (λ x. cond x (pos 0) (snd p.voice.value left (p.voice.age + (t - from)))) (is_silenced-alike b b (AreAlike-refl b) es g from t p)
+    ap (λ x. cond x (pos 0) (snd p.voice.value left (p.voice.age + (t - from))))
+    (is_silenced-alike b b (AreAlike-refl b) es g from t p)
 
 sum_at-alike : (b c : Parts) → AreAlike b c → (es : List Event) → LeaveAlike c es → (from : ℕ) (left : Bool) (t : ℕ)
     → sum_at (starts c from es) left t ≡ sum_at (starts b from (without_edits es)) left t
@@ -109,7 +124,10 @@ sum_at-alike b c h (Started n ∷ es) g from left t =
     let others : List Start = starts b from (without_edits es) in
     let one : sum_of (voice_at later from left t) (fresh c n) ≡ sum_of (voice_at others from left t) (fresh b n) =
     sum_of-same (voice_at later from left t) (voice_at others from left t)
-    (λ p. ap (λ x. cond x (pos 0) (snd p.voice.value left (p.voice.age + (t - from)))) (is_silenced-alike b c h es g from t p)) (fresh c n)
+    (λ p.
+    ap (λ x. cond x (pos 0) (snd p.voice.value left (p.voice.age + (t - from))))
+    (is_silenced-alike b c h es g from t p))
+    (fresh c n)
     ∙ sym (sum_of-permuted (voice_at others from left t) (fresh b n) (fresh c n) (fresh-alike b c h n)) in
     λ j. cond (nat_le from t) (one j) (pos 0) +ℤ sum_at-alike b c h es g from left t j
 sum_at-alike b c h (Given m ∷ es) g from left t = sum_at-alike b c h es g (from + m) left t
@@ -129,16 +147,23 @@ alike_heard b es g =
 
 -- the voices of a player are a start before those of the events
 joined-alike : (b : Parts) (ps : List Playing) (es : List Event) → LeaveAlike b es → (left : Bool) (t : ℕ)
-    → sum_at (record { frame = 0; voices = ps } ∷ starts b 0 es) left t ≡ sum_at (record { frame = 0; voices = ps } ∷ starts b 0 (without_edits es)) left t
+    → sum_at (record { frame = 0; voices = ps } ∷ starts b 0 es) left t
+    ≡ sum_at (record { frame = 0; voices = ps } ∷ starts b 0 (without_edits es)) left t
 unfolding sum_at start_at
 joined-alike b ps es g left t =
-    λ j. cond (nat_le 0 t) (sum_of-same (voice_at (starts b 0 es) 0 left t) (voice_at (starts b 0 (without_edits es)) 0 left t) (voice_at-alike b es g 0 t left) ps j) (pos 0)
+    λ j.
+    cond (nat_le 0 t)
+    (sum_of-same (voice_at (starts b 0 es) 0 left t) (voice_at (starts b 0 (without_edits es)) 0 left t)
+    (voice_at-alike b es g 0 t left) ps j)
+    (pos 0)
     +ℤ sum_at-alike b b (AreAlike-refl b) es g 0 left t j
 
-pub alike_blocks : (b : Parts) (ps : List Playing) (es : List Event) → LeaveAlike b es → blocks b ps es ≡ blocks b ps (without_edits es)
+pub alike_blocks : (b : Parts) (ps : List Playing) (es : List Event) → LeaveAlike b es
+    → blocks b ps es ≡ blocks b ps (without_edits es)
 alike_blocks b ps es g =
     let s : Start = record { frame = 0; voices = ps } in
     blocks_from b es ps 0
-    ∙ frames-same (s ∷ starts b 0 es) (s ∷ starts b 0 (without_edits es)) 0 (λ left t _. joined-alike b ps es g left t) (given es)
+    ∙ frames-same (s ∷ starts b 0 es) (s ∷ starts b 0 (without_edits es)) 0
+    (λ left t _. joined-alike b ps es g left t) (given es)
     ∙ ap (λ m. frames (s ∷ starts b 0 (without_edits es)) 0 m) (given-without_edits es)
     ∙ sym (blocks_from b (without_edits es) ps 0)

@@ -1,5 +1,6 @@
 -- Voices without an exclusive class.
-use Rattle.std.proofs.Common.{◌≡◌, ℤ, pos, Bool, true, false, not, ◌&&◌, ◌||◌, cond, nat_eq, List, [], ◌∷◌, refl, ap, ◌∙◌}
+use Rattle.std.proofs.Common.{◌≡◌, ℤ, pos, Bool, true, false, not, ◌&&◌, ◌||◌, cond, nat_eq, List, [], ◌∷◌, refl, ap}
+use Rattle.std.proofs.Common.{◌∙◌}
 use Rattle.std.specs.List.{list_any}
 use Rattle.std.specs.Ordering.{int_eq}
 use Rattle.std.proofs.lemmas.Bool.{or_parts}
@@ -14,7 +15,11 @@ not_both false b = refl
 no_class : (p q : Playing) → q.voice.value.parameters.class ≡ pos 0 → excludes p q ≡ false
 unfolding excludes
 no_class p q e =
-    ap (λ (c : ℤ). not (int_eq p.voice.value.parameters.class (pos 0)) && (int_eq p.voice.value.parameters.class c && (nat_eq p.bank q.bank && nat_eq p.number q.number))) e
+    ap
+    (λ (c : ℤ).
+    not (int_eq p.voice.value.parameters.class (pos 0))
+    && (int_eq p.voice.value.parameters.class c && (nat_eq p.bank q.bank && nat_eq p.number q.number)))
+    e
     ∙ not_both (int_eq p.voice.value.parameters.class (pos 0)) (nat_eq p.bank q.bank && nat_eq p.number q.number)
 
 pub none_silences : (ps : List Playing) (q : Playing) → q.voice.value.parameters.class ≡ pos 0 → silences ps q ≡ false
@@ -24,7 +29,14 @@ none_silences (p ∷ ps) q e = (λ j. no_class p q e j || silences ps q) ∙ non
 
 no_new_class : (p q : Playing) → has_class p ≡ false → excludes p q ≡ false
 unfolding excludes
-no_new_class p q e = ap (λ b. b && (int_eq p.voice.value.parameters.class q.voice.value.parameters.class && (nat_eq p.bank q.bank && nat_eq p.number q.number))) e
+no_new_class p q e =
+    ap
+    (λ b.
+    b
+    &&
+    (int_eq p.voice.value.parameters.class q.voice.value.parameters.class
+    && (nat_eq p.bank q.bank && nat_eq p.number q.number)))
+    e
 
 no_new_silences : (new : List Playing) (q : Playing) → list_any has_class new ≡ false → silences new q ≡ false
 unfolding silences

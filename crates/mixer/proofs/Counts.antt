@@ -1,5 +1,6 @@
 -- How many frames notes need.
-use Rattle.std.proofs.Common.{◌≡◌, ℕ, ℤ, ◌+◌, ◌*◌, ◌/◌, ◌<◌, ◌≤◌, max, Bool, true, false, cond, nat_le, List, [], ◌∷◌, ◌++◌, take, length, get_or, refl, ap, ◌∙◌, arith}
+use Rattle.std.proofs.Common.{◌≡◌, ℕ, ℤ, ◌+◌, ◌*◌, ◌/◌, ◌<◌, ◌≤◌, max, Bool, true, false, cond, nat_le, List, []}
+use Rattle.std.proofs.Common.{◌∷◌, ◌++◌, take, length, get_or, refl, ap, ◌∙◌, arith}
 use Rattle.std.proofs.lemmas.Grind.{common_steps}
 use Rattle.std.proofs.lemmas.List.{take_more}
 use Rattle.std.proofs.lemmas.List.FromFn.{length-map-range_with_len}
@@ -8,12 +9,19 @@ use Rattle.bank_parts.specs.declared.parts.Parts.{Parts}
 use Rattle.mixer.specs.Render.{end_of, frame_count, rendered_side, render, IsRendered}
 use Rattle.mixer.specs.Order.{placed, in_order, StartWithin}
 
-frame_count-push : (b : Parts) (ns : List Numbers) (n : Numbers) → frame_count b (ns ++ n ∷ []) ≡ max (end_of b n) (frame_count b ns)
+frame_count-push : (b : Parts) (ns : List Numbers) (n : Numbers)
+    → frame_count b (ns ++ n ∷ []) ≡ max (end_of b n) (frame_count b ns)
 unfolding frame_count
 frame_count-push b [] n = refl
-frame_count-push b (m ∷ ns) n = ap (λ k. max (end_of b m) k) (frame_count-push b ns n) ∙ (let e : max (end_of b m) (max (end_of b n) (frame_count b ns)) ≡ max (end_of b n) (max (end_of b m) (frame_count b ns)) = omega arith in e)
+frame_count-push b (m ∷ ns) n =
+    ap (λ k. max (end_of b m) k) (frame_count-push b ns n)
+    ∙
+    (let e : max (end_of b m) (max (end_of b n) (frame_count b ns))
+    ≡ max (end_of b n) (max (end_of b m) (frame_count b ns)) =
+    omega arith in e)
 
-pub count_more : (b : Parts) (ns : List Numbers) (i : ℕ) (d : Numbers) → i < length ns → frame_count b (take (i + 1) ns) ≡ max (end_of b (get_or ns i d)) (frame_count b (take i ns))
+pub count_more : (b : Parts) (ns : List Numbers) (i : ℕ) (d : Numbers) → i < length ns
+    → frame_count b (take (i + 1) ns) ≡ max (end_of b (get_or ns i d)) (frame_count b (take i ns))
 count_more b ns i d h = ap (frame_count b) (take_more ns i d h) ∙ frame_count-push b (take i ns) (get_or ns i d)
 
 pub count_none : (b : Parts) → 0 ≡ frame_count b []
@@ -51,8 +59,10 @@ pub take_front : (k : ℕ) (xs ys : List ℤ) → length xs ≡ k → take k (xs
 take_front k xs ys e = grind (arith, common_steps)
 
 -- whole frames, as many as are counted
-pub rendered_fits : (b : Parts) (ns : List Numbers) (sides : List ℤ) → sides ≡ render b ns → frame_count b ns ≤ 104480284 → IsRendered sides
+pub rendered_fits : (b : Parts) (ns : List Numbers) (sides : List ℤ) → sides ≡ render b ns
+    → frame_count b ns ≤ 104480284 → IsRendered sides
 unfolding render
 rendered_fits b ns sides e h =
-    let long : length sides ≡ 2 * frame_count b ns = ap length e ∙ length-map-range_with_len (rendered_side b ns) 0 (2 * frame_count b ns) in
+    let long : length sides ≡ 2 * frame_count b ns =
+    ap length e ∙ length-map-range_with_len (rendered_side b ns) 0 (2 * frame_count b ns) in
     record { whole = omega (arith, long); bound = omega (arith, long, h) }

@@ -1,5 +1,7 @@
 -- The blocks of a player are what is heard.
-use Rattle.std.proofs.Common.{◌≡◌, ℕ, ◌+◌, ◌-◌, ◌*◌, ◌/◌, ◌<◌, ◌≤◌, ℤ, pos, ◌+ℤ◌, Bool, true, false, cond, not, nat_le, ◌||◌, ◌&&◌, List, [], ◌∷◌, ◌++◌, map, filter, refl, sym, ap, subst, ◌∙◌, arith, add_assoc, nat_eq, ◌%◌}
+use Rattle.std.proofs.Common.{◌≡◌, ℕ, ◌+◌, ◌-◌, ◌*◌, ◌/◌, ◌<◌, ◌≤◌, ℤ, pos, ◌+ℤ◌, Bool, true, false, cond, not}
+use Rattle.std.proofs.Common.{nat_le, ◌||◌, ◌&&◌, List, [], ◌∷◌, ◌++◌, map, filter, refl, sym, ap, subst, ◌∙◌, arith}
+use Rattle.std.proofs.Common.{add_assoc, nat_eq, ◌%◌}
 use Rattle.std.specs.List.{range_with_len}
 use Rattle.std.proofs.lemmas.Bool.{not-false}
 use Rattle.std.proofs.lemmas.Bool.Decides.{nat_tests}
@@ -11,13 +13,16 @@ use Rattle.bank_parts.specs.declared.parts.Parts.{Parts}
 use Rattle.zone_select.specs.declared.parameters.VoiceParameters.{VoiceParameters}
 use Rattle.mixer.specs.declared.playing.Playing.{Playing}
 use Rattle.mixer.specs.Sums.{sum_of}
-use Rattle.mixer.specs.Heard.{Start, fresh, excludes, silences, is_silenced, voice_at, start_at, sum_at, side_at, frames, cut, is_left}
-use Rattle.mixer.specs.Events.{Event, Edited, Started, Given, starts, given, heard, is_sounding, unsilenced, after_start, aged, after_block, total_at, next_side, block, blocks}
+use Rattle.mixer.specs.Heard.{Start, fresh, excludes, silences, is_silenced, voice_at, start_at, sum_at, side_at}
+use Rattle.mixer.specs.Heard.{frames, cut, is_left}
+use Rattle.mixer.specs.Events.{Event, Edited, Started, Given, starts, given, heard, is_sounding, unsilenced}
+use Rattle.mixer.specs.Events.{after_start, aged, after_block, total_at, next_side, block, blocks}
 use Rattle.mixer.proofs.Ranges.{map_range-same, map_range-split}
 use Rattle.mixer.proofs.Sums.{zero-add_z, add_z-zero, add_z-assoc, sum_of-append, sum_of-same, sum_of-map, sum_of-kept}
 
 -- over stays over, so that a voice that is over is silent from then on
-pub over_is_silent : (p : Playing) (left : Bool) (u : ℕ) → is_sounding p ≡ false → snd p.voice.value left (p.voice.age + u) ≡ pos 0
+pub over_is_silent : (p : Playing) (left : Bool) (u : ℕ) → is_sounding p ≡ false
+    → snd p.voice.value left (p.voice.age + u) ≡ pos 0
 unfolding is_sounding snd
 over_is_silent p left u h =
     let v : VoiceParameters = p.voice.value.parameters in
@@ -26,7 +31,8 @@ over_is_silent p left u h =
     (over_stays v p.voice.age (p.voice.age + u) (omega arith) now)
 
 -- the same at frame t, whatever stops it
-over_at : (later : List Start) (from t : ℕ) (left : Bool) (p : Playing) → is_sounding p ≡ false → voice_at later from left t p ≡ pos 0
+over_at : (later : List Start) (from t : ℕ) (left : Bool) (p : Playing) → is_sounding p ≡ false
+    → voice_at later from left t p ≡ pos 0
 unfolding voice_at
 over_at later from t left p h =
     let P : Bool → Type 0 = λ b. cond b (pos 0) (snd p.voice.value left (p.voice.age + (t - from))) ≡ pos 0 in
@@ -34,7 +40,8 @@ over_at later from t left p h =
     at (is_silenced later t p)
 
 -- a block later, the same voice is m frames older
-older : (later : List Start) (from m t : ℕ) (left : Bool) → from + m ≤ t → (p : Playing) → voice_at later (from + m) left t (aged m p) ≡ voice_at later from left t p
+older : (later : List Start) (from m t : ℕ) (left : Bool) → from + m ≤ t → (p : Playing)
+    → voice_at later (from + m) left t (aged m p) ≡ voice_at later from left t p
 unfolding voice_at aged is_silenced silences excludes
 older later from m t left h p =
     let e : p.voice.age + m + (t - (from + m)) ≡ p.voice.age + (t - from) = omega arith in
@@ -42,25 +49,35 @@ older later from m t left h p =
 
 -- a voice in front of later starts, the first of which stands at `from`
 next_silences : (later : List Start) (new : List Playing) (from t : ℕ) (left : Bool) → from ≤ t → (p : Playing)
-    → voice_at (record { frame = from; voices = new } ∷ later) from left t p ≡ cond (not (silences new p)) (voice_at later from left t p) (pos 0)
+    → voice_at (record { frame = from; voices = new } ∷ later) from left t p
+    ≡ cond (not (silences new p)) (voice_at later from left t p) (pos 0)
 unfolding voice_at is_silenced
 next_silences later new from t left h p =
     let now : nat_le from t ≡ true = grind (arith, nat_tests) in
     let sound : ℤ = snd p.voice.value left (p.voice.age + (t - from)) in
-    let P : Bool → Type 0 = λ b. cond ((b && silences new p) || is_silenced later t p) (pos 0) sound ≡ cond (not (silences new p)) (cond (is_silenced later t p) (pos 0) sound) (pos 0) in
-    let Q : Bool → Type 0 = λ c. cond (c || is_silenced later t p) (pos 0) sound ≡ cond (not c) (cond (is_silenced later t p) (pos 0) sound) (pos 0) in
+    let P : Bool → Type 0 =
+    λ b.
+    cond ((b && silences new p) || is_silenced later t p) (pos 0) sound
+    ≡ cond (not (silences new p)) (cond (is_silenced later t p) (pos 0) sound) (pos 0) in
+    let Q : Bool → Type 0 =
+    λ c.
+    cond (c || is_silenced later t p) (pos 0) sound
+    ≡ cond (not c) (cond (is_silenced later t p) (pos 0) sound) (pos 0) in
     let at : (c : Bool) → Q c = elim [ true ↦ refl | false ↦ refl ] in
     subst P (sym now) (at (silences new p))
 
 -- what is over adds nothing
-sounding_alone : (later : List Start) (from t : ℕ) (left : Bool) (ps : List Playing) → sum_of (voice_at later from left t) ps ≡ sum_of (voice_at later from left t) (filter is_sounding ps)
+sounding_alone : (later : List Start) (from t : ℕ) (left : Bool) (ps : List Playing)
+    → sum_of (voice_at later from left t) ps ≡ sum_of (voice_at later from left t) (filter is_sounding ps)
 sounding_alone later from t left ps =
     sum_of-kept (voice_at later from left t) (voice_at later from left t) is_sounding
-    (λ p. let P : Bool → Type 0 = λ b. is_sounding p ≡ b → voice_at later from left t p ≡ cond b (voice_at later from left t p) (pos 0) in
+    (λ p. let P : Bool → Type 0 = λ b. is_sounding p ≡ b
+    → voice_at later from left t p ≡ cond b (voice_at later from left t p) (pos 0) in
     let at : (b : Bool) → P b = elim [ true ↦ λ _. refl | false ↦ λ e. over_at later from t left p e ] in
     at (is_sounding p) refl) ps
 
-started_at : (s : Start) (later : List Start) (left : Bool) (t : ℕ) → s.frame ≤ t → sum_at (s ∷ later) left t ≡ sum_of (voice_at later s.frame left t) s.voices +ℤ sum_at later left t
+started_at : (s : Start) (later : List Start) (left : Bool) (t : ℕ) → s.frame ≤ t
+    → sum_at (s ∷ later) left t ≡ sum_of (voice_at later s.frame left t) s.voices +ℤ sum_at later left t
 unfolding sum_at start_at
 started_at s later left t h =
     let now : nat_le s.frame t ≡ true = grind (arith, nat_tests) in
@@ -76,9 +93,11 @@ joins ps new later from t left h =
     let s : Start = record { frame = from; voices = new } in
     let kept : List Playing = filter (λ q. not (silences new q)) ps in
     let old : sum_of (voice_at (s ∷ later) from left t) ps ≡ sum_of f kept =
-    sum_of-kept f (voice_at (s ∷ later) from left t) (λ q. not (silences new q)) (next_silences later new from t left h) ps in
+    sum_of-kept f (voice_at (s ∷ later) from left t) (λ q. not (silences new q))
+    (next_silences later new from t left h) ps in
     let joined : sum_of f (kept ++ filter is_sounding new) ≡ sum_of f kept +ℤ sum_of f new =
-    sum_of-append f kept (filter is_sounding new) ∙ ap (λ (z : ℤ). sum_of f kept +ℤ z) (sym (sounding_alone later from t left new)) in
+    sum_of-append f kept (filter is_sounding new)
+    ∙ ap (λ (z : ℤ). sum_of f kept +ℤ z) (sym (sounding_alone later from t left new)) in
     started_at (record { frame = from; voices = ps }) (s ∷ later) left t h
     ∙ (λ i. old i +ℤ started_at s later left t h i)
     ∙ sym (add_z-assoc (sum_of f kept) (sum_of f new) (sum_at later left t))
@@ -87,7 +106,8 @@ joins ps new later from t left h =
 
 -- a block makes the voices that play older
 outlives : (ps : List Playing) (later : List Start) (from m t : ℕ) (left : Bool) → from + m ≤ t
-    → sum_at (record { frame = from; voices = ps } ∷ later) left t ≡ sum_at (record { frame = from + m; voices = after_block ps m } ∷ later) left t
+    → sum_at (record { frame = from; voices = ps } ∷ later) left t
+    ≡ sum_at (record { frame = from + m; voices = after_block ps m } ∷ later) left t
 unfolding after_block
 outlives ps later from m t left h =
     let g : Playing → ℤ = voice_at later (from + m) left t in
@@ -112,7 +132,8 @@ is_left-more : (m i : ℕ) → is_left (2 * m + i) ≡ is_left i
 is_left-more m i = ap (λ a. nat_eq a 0) (let e : (2 * m + i) % 2 ≡ i % 2 = omega arith in e)
 
 -- where nothing has silenced it
-heard_alone : (later : List Start) (from u : ℕ) (left : Bool) (p : Playing) → is_silenced later (from + u) p ≡ false → voice_at later from left (from + u) p ≡ snd p.voice.value left (p.voice.age + u)
+heard_alone : (later : List Start) (from u : ℕ) (left : Bool) (p : Playing) → is_silenced later (from + u) p ≡ false
+    → voice_at later from left (from + u) p ≡ snd p.voice.value left (p.voice.age + u)
 unfolding voice_at
 heard_alone later from u left p h =
     let e : p.voice.age + (from + u - from) ≡ p.voice.age + u = omega arith in
@@ -125,10 +146,14 @@ not_yet b from t [] left h = refl
 not_yet b from t (Edited c ∷ es) left h = not_yet c from t es left h
 not_yet b from t (Started n ∷ es) left h =
     let no : nat_le from t ≡ false = late_test from t h in
-    (λ i. cond (no i) (sum_of (voice_at (starts b from es) from left t) (fresh b n)) (pos 0) +ℤ not_yet b from t es left h i) ∙ zero-add_z (pos 0)
+    (λ i.
+    cond (no i) (sum_of (voice_at (starts b from es) from left t) (fresh b n)) (pos 0)
+    +ℤ not_yet b from t es left h i)
+    ∙ zero-add_z (pos 0)
 not_yet b from t (Given m ∷ es) left h = not_yet b (from + m) t es left (omega arith)
 
-none_yet : (b : Parts) (from t : ℕ) (es : List Event) (p : Playing) → t < from → is_silenced (starts b from es) t p ≡ false
+none_yet : (b : Parts) (from t : ℕ) (es : List Event) (p : Playing) → t < from
+    → is_silenced (starts b from es) t p ≡ false
 unfolding starts is_silenced
 none_yet b from t [] p h = refl
 none_yet b from t (Edited c ∷ es) p h = none_yet c from t es p h
@@ -145,25 +170,34 @@ block_is b ps from m es i h =
     let fs : List Start = starts b (from + m) es in
     let t : ℕ = from + i / 2 in
     let early : from + i / 2 < from + m = omega (arith, half_below i m h) in
-    let one : (p : Playing) → voice_at fs from (is_left i) t p ≡ snd p.voice.value (is_left i) (p.voice.age + i / 2) = λ p.
+    let one : (p : Playing) → voice_at fs from (is_left i) t p ≡ snd p.voice.value (is_left i) (p.voice.age + i / 2) =
+    λ p.
     heard_alone fs from (i / 2) (is_left i) p (none_yet b (from + m) (from + i / 2) es p early) in
     ap cut (started_at (record { frame = from; voices = ps }) fs (is_left i) t (omega arith)
-    ∙ (λ j. sum_of-same (voice_at fs from (is_left i) t) (λ p. snd p.voice.value (is_left i) (p.voice.age + i / 2)) one ps j +ℤ not_yet b (from + m) (from + i / 2) es (is_left i) early j)
+    ∙
+    (λ j.
+    sum_of-same (voice_at fs from (is_left i) t) (λ p. snd p.voice.value (is_left i) (p.voice.age + i / 2)) one
+    ps j
+    +ℤ not_yet b (from + m) (from + i / 2) es (is_left i) early j)
     ∙ add_z-zero (sum_of (λ p. snd p.voice.value (is_left i) (p.voice.age + i / 2)) ps))
 
 -- no voice adds nothing
-nobody : (later : List Start) (left : Bool) (t : ℕ) → sum_at (record { frame = 0; voices = [] } ∷ later) left t ≡ sum_at later left t
+nobody : (later : List Start) (left : Bool) (t : ℕ)
+    → sum_at (record { frame = 0; voices = [] } ∷ later) left t ≡ sum_at later left t
 unfolding sum_of
-nobody later left t = started_at (record { frame = 0; voices = [] }) later left t (omega arith) ∙ zero-add_z (sum_at later left t)
+nobody later left t =
+    started_at (record { frame = 0; voices = [] }) later left t (omega arith) ∙ zero-add_z (sum_at later left t)
 
 frames-none : (ss : List Start) (from : ℕ) → [] ≡ frames ss from 0
 unfolding frames
 frames-none ss from = refl
 
-block_all : (b : Parts) (ps : List Playing) (from m : ℕ) (es : List Event) → frames (record { frame = from; voices = ps } ∷ starts b (from + m) es) from m ≡ block ps m
+block_all : (b : Parts) (ps : List Playing) (from m : ℕ) (es : List Event)
+    → frames (record { frame = from; voices = ps } ∷ starts b (from + m) es) from m ≡ block ps m
 unfolding frames block
 block_all b ps from m es =
-    map_range-same (side_at (record { frame = from; voices = ps } ∷ starts b (from + m) es) from) (next_side ps) 0 (2 * m)
+    map_range-same (side_at (record { frame = from; voices = ps } ∷ starts b (from + m) es) from) (next_side ps) 0
+    (2 * m)
     (λ i _ h. block_is b ps from m es i (omega arith))
 
 -- m frames and then k
@@ -176,18 +210,23 @@ frames-split ss from m k =
     (map_range-same (λ i. side_at ss from (2 * m + i)) (side_at ss (from + m)) 0 (2 * k)
     (λ i _ _. λ j. cut (sum_at ss (is_left-more m i j) (half-more from m i j))))
 
-pub frames-same : (ss rs : List Start) (from : ℕ) → ((left : Bool) (t : ℕ) → from ≤ t → sum_at ss left t ≡ sum_at rs left t) → (m : ℕ) → frames ss from m ≡ frames rs from m
+pub frames-same : (ss rs : List Start) (from : ℕ)
+    → ((left : Bool) (t : ℕ) → from ≤ t → sum_at ss left t ≡ sum_at rs left t) → (m : ℕ)
+    → frames ss from m ≡ frames rs from m
 unfolding frames side_at
 frames-same ss rs from h m =
-    map_range-same (side_at ss from) (side_at rs from) 0 (2 * m) (λ i _ _. ap cut (h (is_left i) (from + i / 2) (omega arith)))
+    map_range-same (side_at ss from) (side_at rs from) 0 (2 * m)
+    (λ i _ _. ap cut (h (is_left i) (from + i / 2) (omega arith)))
 
-pub blocks_from : (b : Parts) (es : List Event) (ps : List Playing) (from : ℕ) → blocks b ps es ≡ frames (record { frame = from; voices = ps } ∷ starts b from es) from (given es)
+pub blocks_from : (b : Parts) (es : List Event) (ps : List Playing) (from : ℕ)
+    → blocks b ps es ≡ frames (record { frame = from; voices = ps } ∷ starts b from es) from (given es)
 unfolding blocks starts given
 blocks_from b [] ps from = frames-none (record { frame = from; voices = ps } ∷ []) from
 blocks_from b (Edited c ∷ es) ps from = blocks_from c es ps from
 blocks_from b (Started n ∷ es) ps from =
     blocks_from b es (after_start ps (fresh b n)) from
-    ∙ sym (frames-same (record { frame = from; voices = ps } ∷ record { frame = from; voices = fresh b n } ∷ starts b from es)
+    ∙ sym (frames-same
+    (record { frame = from; voices = ps } ∷ record { frame = from; voices = fresh b n } ∷ starts b from es)
     (record { frame = from; voices = after_start ps (fresh b n) } ∷ starts b from es) from
     (λ left t h. joins ps (fresh b n) (starts b from es) from t left h) (given es))
 blocks_from b (Given m ∷ es) ps from =
@@ -203,13 +242,16 @@ pub blocks_heard : (b : Parts) (es : List Event) → blocks b [] es ≡ heard b 
 unfolding heard
 blocks_heard b es =
     blocks_from b es [] 0
-    ∙ frames-same (record { frame = 0; voices = [] } ∷ starts b 0 es) (starts b 0 es) 0 (λ left t h. nobody (starts b 0 es) left t) (given es)
+    ∙ frames-same (record { frame = 0; voices = [] } ∷ starts b 0 es) (starts b 0 es) 0
+    (λ left t h. nobody (starts b 0 es) left t) (given es)
 
-starts-cut : (b : Parts) (from m n : ℕ) (es fs : List Event) → starts b from (es ++ Given (m + n) ∷ fs) ≡ starts b from (es ++ Given m ∷ Given n ∷ fs)
+starts-cut : (b : Parts) (from m n : ℕ) (es fs : List Event)
+    → starts b from (es ++ Given (m + n) ∷ fs) ≡ starts b from (es ++ Given m ∷ Given n ∷ fs)
 unfolding starts
 starts-cut b from m n [] fs = ap (λ t. starts b t fs) (sym (add_assoc from m n))
 starts-cut b from m n (Edited c ∷ es) fs = starts-cut c from m n es fs
-starts-cut b from m n (Started x ∷ es) fs = ap (λ ss. record { frame = from; voices = fresh b x } ∷ ss) (starts-cut b from m n es fs)
+starts-cut b from m n (Started x ∷ es) fs =
+    ap (λ ss. record { frame = from; voices = fresh b x } ∷ ss) (starts-cut b from m n es fs)
 starts-cut b from m n (Given k ∷ es) fs = starts-cut b (from + k) m n es fs
 
 given-cut : (m n : ℕ) (es fs : List Event) → given (es ++ Given (m + n) ∷ fs) ≡ given (es ++ Given m ∷ Given n ∷ fs)
@@ -219,6 +261,7 @@ given-cut m n (Edited c ∷ es) fs = given-cut m n es fs
 given-cut m n (Started x ∷ es) fs = given-cut m n es fs
 given-cut m n (Given k ∷ es) fs = ap (λ a. k + a) (given-cut m n es fs)
 
-pub cuts_free : (b : Parts) (es fs : List Event) (m n : ℕ) → heard b (es ++ Given (m + n) ∷ fs) ≡ heard b (es ++ Given m ∷ Given n ∷ fs)
+pub cuts_free : (b : Parts) (es fs : List Event) (m n : ℕ)
+    → heard b (es ++ Given (m + n) ∷ fs) ≡ heard b (es ++ Given m ∷ Given n ∷ fs)
 unfolding heard
 cuts_free b es fs m n = λ j. frames (starts-cut b 0 m n es fs j) 0 (given-cut m n es fs j)

@@ -1,5 +1,6 @@
 -- The release of a pair's voice, and how long it can be.
-use Rattle.std.proofs.Common.{◌≡◌, ℕ, ◌+◌, ◌*◌, ◌≤◌, ◌<◌, ◌/◌, ◌%◌, ℤ, pos, negsuc, ◌+ℤ◌, ◌≤ℤ◌, Bool, true, false, cond, leb, Option, Some, None, slice_get, refl, sym, ◌∙◌, subst, arith}
+use Rattle.std.proofs.Common.{◌≡◌, ℕ, ◌+◌, ◌*◌, ◌≤◌, ◌<◌, ◌/◌, ◌%◌, ℤ, pos, negsuc, ◌+ℤ◌, ◌≤ℤ◌, Bool, true, false}
+use Rattle.std.proofs.Common.{cond, leb, Option, Some, None, slice_get, refl, sym, ◌∙◌, subst, arith}
 use Rattle.std.specs.Int.{int_min}
 use Rattle.std.specs.Option.{option_map, option_and_then}
 use Rattle.std.proofs.lemmas.Bool.{leb-false}
@@ -30,7 +31,8 @@ most_at y low high =
     let top : m ≤ 22400 = omega (arith, ints, e, high) in
     let d : m / 1200 * 1200 + m % 1200 ≡ m = div-add-mod' m 1200 in
     let rest : m % 1200 < 1200 = mod_below m 1200 (omega arith) in
-    subst (λ (k : ℕ). k ≤ 4480284) (sym (frames_case y (m / 1200) (m % 1200) o (sym r))) (frames_bound (m / 1200) (m % 1200) (omega (arith, d, top)) rest)
+    subst (λ (k : ℕ). k ≤ 4480284) (sym (frames_case y (m / 1200) (m % 1200) o (sym r)))
+    (frames_bound (m / 1200) (m % 1200) (omega (arith, d, top)) rest)
 
 -- no time has more frames than the longest
 pub frames_most : (x : ℤ) → frames_of x ≤ 4480284
@@ -45,7 +47,8 @@ frames_most (negsuc a) =
     at (leb 11999 a) refl
 
 of_sample : (n : Numbers) (c : Chosen) (p : VoiceParameters) (o : Option Sample)
-    → Some p ≡ option_map (λ (v : Voice). v.parameters) (option_map (voice_of n c.instrument_zone c.preset_zone) o) → p.release ≤ 4480284
+    → Some p ≡ option_map (λ (v : Voice). v.parameters) (option_map (voice_of n c.instrument_zone c.preset_zone) o)
+    → p.release ≤ 4480284
 unfolding voice_of parameters_of
 of_sample n c p None e = absurd cc
 of_sample n c p (Some s) e =
@@ -61,7 +64,8 @@ pub release_most : (b : Parts) (n : Numbers) (q : ℕ × ℕ) (p : VoiceParamete
     → Some p ≡ option_map (λ (v : Voice). v.parameters) (voice_by b n q) → p.release ≤ 4480284
 release_most b n q p e = of_chosen b n p (chosen_by b n q) e
 
-pub release_is : (p : VoiceParameters) (o : Option Voice) → Some p ≡ option_map (λ (v : Voice). v.parameters) o → p.release ≡ last_release (listed o)
+pub release_is : (p : VoiceParameters) (o : Option Voice) → Some p ≡ option_map (λ (v : Voice). v.parameters) o
+    → p.release ≡ last_release (listed o)
 unfolding last_release
 release_is p None e = absurd cc
 release_is p (Some v) e = (let f : p.release ≡ v.parameters.release = cc in f) ∙ release_alone v.parameters.release

@@ -1,5 +1,7 @@
 -- Voices that go back, and the same voices at later frames.
-use Rattle.std.proofs.Common.{◌≡◌, ℕ, ◌+◌, ◌-◌, ◌*◌, ◌/◌, ◌%◌, ◌<◌, ◌≤◌, suc, ℤ, pos, Bool, true, false, cond, not, List, [], ◌∷◌, ◌++◌, map, filter, take, length, get_or, nat_eq, inl, inr, refl, sym, ap, ◌∙◌, arith}
+use Rattle.std.proofs.Common.{◌≡◌, ℕ, ◌+◌, ◌-◌, ◌*◌, ◌/◌, ◌%◌, ◌<◌, ◌≤◌, suc, ℤ, pos, Bool, true, false, cond, not}
+use Rattle.std.proofs.Common.{List, [], ◌∷◌, ◌++◌, map, filter, take, length, get_or, nat_eq, inl, inr, refl, sym}
+use Rattle.std.proofs.Common.{ap, ◌∙◌, arith}
 use Rattle.std.specs.List.{All}
 use Rattle.std.proofs.lemmas.Bool.{cases_lt, not-false}
 use Rattle.std.proofs.lemmas.Grind.{common_steps}
@@ -24,10 +26,12 @@ filter-kept f p q r h (x ∷ xs) =
     let rest = filter-kept f p q r h xs in
     let fs = map f xs in
     let at : (b c : Bool) → p (f x) ≡ b → r x ≡ c
-    → filter q (cond b (f x ∷ filter p fs) (filter p fs)) ≡ filter p (map f (cond c (x ∷ filter r xs) (filter r xs))) = elim [
+    → filter q (cond b (f x ∷ filter p fs) (filter p fs))
+    ≡ filter p (map f (cond c (x ∷ filter r xs) (filter r xs))) = elim [
       | true ↦ elim [
         | true ↦ λ sounds keeps.
-            ap (λ b. cond b (f x ∷ filter q (filter p fs)) (filter q (filter p fs))) (h x ∙ keeps) ∙ ap (λ l. f x ∷ l) rest
+            ap (λ b. cond b (f x ∷ filter q (filter p fs)) (filter q (filter p fs))) (h x ∙ keeps)
+            ∙ ap (λ l. f x ∷ l) rest
             ∙ sym (ap (λ b. cond b (f x ∷ filter p (map f (filter r xs))) (filter p (map f (filter r xs)))) sounds)
         | false ↦ λ sounds keeps.
             ap (λ b. cond b (f x ∷ filter q (filter p fs)) (filter q (filter p fs))) (h x ∙ keeps) ∙ rest
@@ -41,12 +45,16 @@ filter-kept f p q r h (x ∷ xs) =
     at (p (f x)) (r x) refl refl
 
 -- what is left out at first would be left out later
-filter-later : {X Y : Type 0} (f : X → Y) (p : Y → Bool) (r : X → Bool) → ((x : X) → r x ≡ false → p (f x) ≡ false) → (xs : List X)
+filter-later : {X Y : Type 0} (f : X → Y) (p : Y → Bool) (r : X → Bool) → ((x : X) → r x ≡ false → p (f x) ≡ false)
+    → (xs : List X)
     → filter p (map f (filter r xs)) ≡ filter p (map f xs)
 filter-later f p r h [] = refl
 filter-later f p r h (x ∷ xs) =
     let rest = filter-later f p r h xs in
-    let at : (c : Bool) → r x ≡ c → filter p (map f (cond c (x ∷ filter r xs) (filter r xs))) ≡ cond (p (f x)) (f x ∷ filter p (map f xs)) (filter p (map f xs)) = elim [
+    let at : (c : Bool) → r x ≡ c
+    → filter p (map f (cond c (x ∷ filter r xs) (filter r xs)))
+    ≡ cond (p (f x)) (f x ∷ filter p (map f xs)) (filter p (map f xs)) =
+    elim [
       | true ↦ λ kept. ap (λ l. cond (p (f x)) (f x ∷ l) l) rest
       | false ↦ λ left. rest ∙ sym (ap (λ b. cond b (f x ∷ filter p (map f xs)) (filter p (map f xs))) (h x left))
     ] in
@@ -55,8 +63,12 @@ filter-later f p r h (x ∷ xs) =
 -- ---- voices that go back
 
 with_age : (p : Playing) (a b : ℕ) → a ≡ b
-    → (let q : Playing = record { voice = record { value = p.voice.value; age = a }; bank = p.bank; number = p.number } in q)
-    ≡ (let q : Playing = record { voice = record { value = p.voice.value; age = b }; bank = p.bank; number = p.number } in q)
+    →
+    (let q : Playing =
+    record { voice = record { value = p.voice.value; age = a }; bank = p.bank; number = p.number } in q)
+    ≡
+    (let q : Playing =
+    record { voice = record { value = p.voice.value; age = b }; bank = p.bank; number = p.number } in q)
 with_age p a b e = λ j. record { voice = record { value = p.voice.value; age = e j }; bank = p.bank; number = p.number }
 
 pub rewound-none : (ps : List Playing) → map (rewound 0) ps ≡ ps
@@ -77,7 +89,8 @@ rewound-aged n [] = refl
 rewound-aged n (p ∷ ps) = λ j. with_age p (p.voice.age + n - n) p.voice.age (omega arith) j ∷ rewound-aged n ps j
 
 -- back by fewer is as far back, and some on from there
-pub rewound-fewer : (n m k : ℕ) (ps : List Playing) → k + m ≡ n → All (λ (p : Playing). n ≤ p.voice.age) ps → map (rewound k) ps ≡ map (aged m) (map (rewound n) ps)
+pub rewound-fewer : (n m k : ℕ) (ps : List Playing) → k + m ≡ n → All (λ (p : Playing). n ≤ p.voice.age) ps
+    → map (rewound k) ps ≡ map (aged m) (map (rewound n) ps)
 unfolding rewound aged
 rewound-fewer n m k [] e h = refl
 rewound-fewer n m k (p ∷ ps) e h =
@@ -91,17 +104,21 @@ unfolding silences excludes rewound
 silences-rewound new n p = refl
 
 pub unsilenced-rewound : (new : List Playing) (n : ℕ) (ps : List Playing)
-    → unsilenced new (filter is_sounding (map (rewound n) ps)) ≡ filter is_sounding (map (rewound n) (unsilenced new ps))
+    → unsilenced new (filter is_sounding (map (rewound n) ps))
+    ≡ filter is_sounding (map (rewound n) (unsilenced new ps))
 unfolding unsilenced
 unsilenced-rewound new n ps =
-    filter-kept (rewound n) is_sounding (λ q. not (silences new q)) (λ q. not (silences new q)) (λ p. ap not (silences-rewound new n p)) ps
+    filter-kept (rewound n) is_sounding (λ q. not (silences new q)) (λ q. not (silences new q))
+    (λ p. ap not (silences-rewound new n p)) ps
 
 -- ---- voices at later frames
 
 over_later : (m : ℕ) (p : Playing) → is_sounding p ≡ false → is_sounding (aged m p) ≡ false
 unfolding is_sounding aged
 over_later m p h =
-    ap not (over_stays p.voice.value.parameters p.voice.age (p.voice.age + m) (omega arith) (not-false (is_over p.voice.value.parameters p.voice.age) h))
+    ap not
+    (over_stays p.voice.value.parameters p.voice.age (p.voice.age + m) (omega arith)
+    (not-false (is_over p.voice.value.parameters p.voice.age) h))
 
 -- those that are over may be left out before
 pub sounding_later : (m : ℕ) (ps : List Playing) → after_block (filter is_sounding ps) m ≡ after_block ps m
@@ -134,8 +151,13 @@ pub total_later : (m i : ℕ) (ps : List Playing) → total_at (map (aged m) ps)
 unfolding total_at aged
 total_later m i ps =
     sum_of-map (λ p. snd p.voice.value (is_left i) (p.voice.age + i / 2)) (aged m) ps
-    ∙ sum_of-same (λ p. snd p.voice.value (is_left i) (p.voice.age + m + i / 2)) (λ p. snd p.voice.value (is_left (2 * m + i)) (p.voice.age + (2 * m + i) / 2))
-    (λ p. λ j. snd p.voice.value (nat_eq ((let e : i % 2 ≡ (2 * m + i) % 2 = omega arith in e) j) 0) ((let e : p.voice.age + m + i / 2 ≡ p.voice.age + (2 * m + i) / 2 = omega arith in e) j)) ps
+    ∙ sum_of-same (λ p. snd p.voice.value (is_left i) (p.voice.age + m + i / 2))
+    (λ p. snd p.voice.value (is_left (2 * m + i)) (p.voice.age + (2 * m + i) / 2))
+    (λ p.
+    λ j.
+    snd p.voice.value (nat_eq ((let e : i % 2 ≡ (2 * m + i) % 2 = omega arith in e) j) 0)
+    ((let e : p.voice.age + m + i / 2 ≡ p.voice.age + (2 * m + i) / 2 = omega arith in e) j))
+    ps
 
 -- ---- a block, the first of whose frames were given
 
@@ -147,8 +169,13 @@ pub written_on : (out new rest : List ℤ) (ps : List Playing) (at n : ℕ) → 
 unfolding after_block
 written_on out new rest ps at n h m even before here k l =
     elim (cases_lt k at) [
-      | inl lt ↦ (let e : get_or (take at out ++ (new ++ rest)) k (pos 0) ≡ get_or out k (pos 0) = grind (arith, common_steps) in e) ∙ before k lt
+      | inl lt ↦
+          (let e : get_or (take at out ++ (new ++ rest)) k (pos 0) ≡ get_or out k (pos 0) =
+          grind (arith, common_steps) in e)
+          ∙ before k lt
       | inr ge ↦
-          (let e : get_or (take at out ++ (new ++ rest)) k (pos 0) ≡ get_or new (k - at) (pos 0) = grind (arith, common_steps) in e)
-          ∙ here (k - at) (omega arith) ∙ next_sounding (map (aged (at / 2)) ps) (k - at) ∙ side_later at (k - at) ps even ∙ ap (next_side ps) (omega arith)
+          (let e : get_or (take at out ++ (new ++ rest)) k (pos 0) ≡ get_or new (k - at) (pos 0) =
+          grind (arith, common_steps) in e)
+          ∙ here (k - at) (omega arith) ∙ next_sounding (map (aged (at / 2)) ps) (k - at)
+          ∙ side_later at (k - at) ps even ∙ ap (next_side ps) (omega arith)
     ]

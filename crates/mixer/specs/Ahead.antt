@@ -1,5 +1,6 @@
 -- Frames that a player has summed before they are asked for.
-use Rattle.std.specs.Prelude.{◌≡◌, ℕ, ◌+◌, ◌-◌, ◌*◌, ◌/◌, ◌<◌, ◌≤◌, ℤ, pos, ◌+ℤ◌, List, All, filter, length, map, slice_index_or}
+use Rattle.std.specs.Prelude.{◌≡◌, ℕ, ◌+◌, ◌-◌, ◌*◌, ◌/◌, ◌<◌, ◌≤◌, ℤ, pos, ◌+ℤ◌, List, All, filter, length, map}
+use Rattle.std.specs.Prelude.{slice_index_or}
 use Rattle.voices.specs.Within.{IsWithin}
 use Rattle.mixer.specs.declared.ahead.Ahead.{Ahead}
 use Rattle.mixer.specs.declared.ahead.TheConstants.{MOST_AHEAD, SIDES}

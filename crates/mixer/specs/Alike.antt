@@ -35,4 +35,6 @@ AlikeHeard = (b : Parts) (es : List Event) → LeaveAlike b es → heard b es �
 
 -- nor are they in the blocks of a player, whatever it plays when the first of the events comes
 abbrev pub AlikeBlocks : Type 0
-AlikeBlocks = (b : Parts) (ps : List Playing) (es : List Event) → LeaveAlike b es → blocks b ps es ≡ blocks b ps (without_edits es)
+AlikeBlocks =
+    (b : Parts) (ps : List Playing) (es : List Event) → LeaveAlike b es
+    → blocks b ps es ≡ blocks b ps (without_edits es)

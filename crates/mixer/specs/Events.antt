@@ -83,4 +83,6 @@ BlocksAreHeard = (b : Parts) (es : List Event) → blocks b [] es ≡ heard b es
 
 -- a block that is cut in two gives the same frames
 abbrev pub CutsAreFree : Type 0
-CutsAreFree = (b : Parts) (es fs : List Event) (m n : ℕ) → heard b (es ++ Given (m + n) ∷ fs) ≡ heard b (es ++ Given m ∷ Given n ∷ fs)
+CutsAreFree =
+    (b : Parts) (es fs : List Event) (m n : ℕ)
+    → heard b (es ++ Given (m + n) ∷ fs) ≡ heard b (es ++ Given m ∷ Given n ∷ fs)

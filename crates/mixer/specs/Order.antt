@@ -34,4 +34,6 @@ StartWithin m (n ∷ ns) = (n.start ≤ m) × StartWithin m ns
 
 -- to put notes in order changes nothing that is heard
 abbrev pub OrderIsFree : Type 0
-OrderIsFree = (b : Parts) (ns : List Numbers) (left : Bool) (t : ℕ) → sum_at (map (start_of b) (in_order ns)) left t ≡ notes_at b [] ns left t
+OrderIsFree =
+    (b : Parts) (ns : List Numbers) (left : Bool) (t : ℕ)
+    → sum_at (map (start_of b) (in_order ns)) left t ≡ notes_at b [] ns left t

@@ -1,5 +1,6 @@
 -- All frames of a list of notes.
-use Rattle.std.specs.Prelude.{◌≡◌, ◌≤◌, ◌%◌, length, ℕ, ◌+◌, ◌-◌, ◌*◌, ◌/◌, ℤ, pos, ◌+ℤ◌, Bool, cond, nat_le, max, ◌&&◌, ◌||◌, List, [], ◌∷◌, map}
+use Rattle.std.specs.Prelude.{◌≡◌, ◌≤◌, ◌%◌, length, ℕ, ◌+◌, ◌-◌, ◌*◌, ◌/◌, ℤ, pos, ◌+ℤ◌, Bool, cond, nat_le, max}
+use Rattle.std.specs.Prelude.{◌&&◌, ◌||◌, List, [], ◌∷◌, map}
 use Rattle.std.specs.List.{list_any, range_with_len}
 use Rattle.bank_parts.specs.declared.parts.Parts.{Parts}
 use Rattle.note_list.specs.Notes.{Numbers}

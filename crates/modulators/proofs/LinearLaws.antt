@@ -9,7 +9,8 @@ use Rattle.modulators.specs.declared.modulator.Modulator.{Modulator}
 use Rattle.modulators.specs.Modulators.{index_of, flag_of}
 use Rattle.modulators.specs.Linear.{IsLinear, is_linear, curve_of, velocity_index, key_index, moved_generators}
 
-moved_decides : (generator : ℕ) → Decides (list_any (λ operator. generator == operator) moved_generators) (Contains moved_generators generator)
+moved_decides : (generator : ℕ)
+    → Decides (list_any (λ operator. generator == operator) moved_generators) (Contains moved_generators generator)
 moved_decides generator = (
   Contains-from_any (λ x y e. (Decides-eqb x y).0 e) generator moved_generators,
   list_any-from_Contains nat_eq_equiv generator moved_generators,
@@ -18,11 +19,17 @@ moved_decides generator = (
 pub linear_decides : (m : Modulator) → Decides (is_linear m) (IsLinear m)
 linear_decides m =
     let general = Decides-eqb (flag_of m.source) 0 in
-    let controller = Decides-or _ _ (Decides-eqb (index_of m.source) velocity_index) (Decides-eqb (index_of m.source) key_index) in
+    let controller =
+    Decides-or _ _ (Decides-eqb (index_of m.source) velocity_index) (Decides-eqb (index_of m.source) key_index)
+    in
     let straight = Decides-eqb (curve_of m.source) 0 in
     let alone = Decides-eqb m.amount_source 0 in
-    let all = Decides-and _ _ (Decides-and _ _ (Decides-and _ _ (Decides-and _ _ general controller) straight) alone) (moved_decides m.dest) in (
-      λ e. let h = all.0 e in record { general = h.0.0.0.0; controller = h.0.0.0.1; straight = h.0.0.1; alone = h.0.1; moves = h.1 },
+    let all =
+    Decides-and _ _ (Decides-and _ _ (Decides-and _ _ (Decides-and _ _ general controller) straight) alone)
+    (moved_decides m.dest) in (
+      λ e. let h =
+          all.0 e in record
+          { general = h.0.0.0.0; controller = h.0.0.0.1; straight = h.0.0.1; alone = h.0.1; moves = h.1 },
       λ h. all.1 ((((h.general, h.controller), h.straight), h.alone), h.moves),
     )
 

@@ -1,5 +1,6 @@
 -- Modulators that a note's key or velocity moves along a straight line, and the values that they have there.
-use Rattle.std.specs.Prelude.{◌≡◌, ◌/◌, ◌^◌, ◌⊎◌, ◌==◌, ◌&&◌, ◌||◌, ◌-ℤ◌, ◌*ℤ◌, ℕ, ℤ, pos, Bool, cond, List, [], ◌∷◌, Option, Some, None}
+use Rattle.std.specs.Prelude.{◌≡◌, ◌/◌, ◌^◌, ◌⊎◌, ◌==◌, ◌&&◌, ◌||◌, ◌-ℤ◌, ◌*ℤ◌, ℕ, ℤ, pos, Bool, cond, List, [], ◌∷◌}
+use Rattle.std.specs.Prelude.{Option, Some, None}
 use Rattle.std.specs.List.{Contains, list_any}
 use Rattle.modulators.specs.declared.modulator.Modulator.{Modulator}
 use Rattle.modulators.specs.Modulators.{bit_of, index_of, flag_of}
@@ -52,4 +53,5 @@ polarized source value = cond (bit_of 9 source == 1) (pos 2 *ℤ value -ℤ pos 
 -- the value of a linear modulator, in 128ths; none of any other
 abbrev pub linear_value : Modulator → ℕ → ℕ → Option ℤ
 linear_value m key velocity =
-    cond (is_linear m) (Some (polarized m.source (directed m.source (pos (controller_value m.source key velocity))))) None
+    cond (is_linear m) (Some (polarized m.source (directed m.source (pos (controller_value m.source key velocity)))))
+    None

@@ -22,15 +22,21 @@ Outcome b c e r = MatchResult r (λ back. IsDone b c e back) (λ refused. IsRefu
 taken : (b c : Parts) (e back : Edit) → FitsEdit e → IsDone b c e back → IsTaken b e
 taken b c e back fits d = record { fits = fits; accepted = d.accepted }
 
-pub done_alike : (b c : Parts) (e : Edit) (r : Result Edit (Refusal × Edit)) → IsSound b → FitsEdit e → is_neutral e ≡ true → Outcome b c e r → OnOk r (AreAlike b c)
-done_alike b c e (Ok back) sound fits n d = subst (AreAlike b) (sym d.changed) (neutral_alike b e sound (taken b c e back fits d) n)
+pub done_alike : (b c : Parts) (e : Edit) (r : Result Edit (Refusal × Edit)) → IsSound b → FitsEdit e
+    → is_neutral e ≡ true → Outcome b c e r → OnOk r (AreAlike b c)
+done_alike b c e (Ok back) sound fits n d =
+    subst (AreAlike b) (sym d.changed) (neutral_alike b e sound (taken b c e back fits d) n)
 done_alike b c e (Err refused) sound fits n d = tt
 
-pub done_same : (b c : Parts) (e : Edit) (r : Result Edit (Refusal × Edit)) → IsSound b → FitsEdit e → is_neutral e ≡ true → Outcome b c e r
+pub done_same : (b c : Parts) (e : Edit) (r : Result Edit (Refusal × Edit)) → IsSound b → FitsEdit e
+    → is_neutral e ≡ true → Outcome b c e r
     → OnOk r ((ns : List Numbers) → render c ns ≡ render b ns)
-done_same b c e (Ok back) sound fits n d = subst (λ (x : Parts). (ns : List Numbers) → render x ns ≡ render b ns) (sym d.changed) (neutral_render b e sound (taken b c e back fits d) n)
+done_same b c e (Ok back) sound fits n d =
+    subst (λ (x : Parts). (ns : List Numbers) → render x ns ≡ render b ns) (sym d.changed)
+    (neutral_render b e sound (taken b c e back fits d) n)
 done_same b c e (Err refused) sound fits n d = tt
 
-pub done_back : (b c : Parts) (e : Edit) (r : Result Edit (Refusal × Edit)) → is_neutral e ≡ true → Outcome b c e r → IfOk r (λ back. is_neutral back ≡ true)
+pub done_back : (b c : Parts) (e : Edit) (r : Result Edit (Refusal × Edit)) → is_neutral e ≡ true → Outcome b c e r
+    → IfOk r (λ back. is_neutral back ≡ true)
 done_back b c e (Ok back) n d = subst (λ (x : Edit). is_neutral x ≡ true) (sym d.taken_back) (neutral_back b e n)
 done_back b c e (Err refused) n d = tt

@@ -16,18 +16,22 @@ use Rattle.neutral_edits.specs.Neutral.{is_neutral}
 use Rattle.neutral_edits.specs.Events.{Event, Edited, Started, Given, events_of, AreNeutral}
 use Rattle.neutral_edits.proofs.FormLaws.{neutral_alike}
 
-pub neutral_render : (b : Parts) (e : Edit) → IsSound b → IsTaken b e → is_neutral e ≡ true → (ns : List Numbers) → render (raw b e) ns ≡ render b ns
+pub neutral_render : (b : Parts) (e : Edit) → IsSound b → IsTaken b e → is_neutral e ≡ true → (ns : List Numbers)
+    → render (raw b e) ns ≡ render b ns
 neutral_render b e sound t n ns = sym (alike_render b (raw b e) (neutral_alike b e sound t n) ns)
 
 leave_alike : (b : Parts) (es : List Event) → IsSound b → AreNeutral b es → LeaveAlike b (events_of b es)
 unfolding events_of
 leave_alike b [] sound h = tt
-leave_alike b (Edited e ∷ es) sound h = (neutral_alike b e sound h.1 h.0, leave_alike (raw b e) es (undone b e sound h.1).sound h.2)
+leave_alike b (Edited e ∷ es) sound h =
+    (neutral_alike b e sound h.1 h.0, leave_alike (raw b e) es (undone b e sound h.1).sound h.2)
 leave_alike b (Started n ∷ es) sound h = leave_alike b es sound h
 leave_alike b (Given m ∷ es) sound h = leave_alike b es sound h
 
-pub neutral_heard : (b : Parts) (es : List Event) → IsSound b → AreNeutral b es → heard b (events_of b es) ≡ heard b (without_edits (events_of b es))
+pub neutral_heard : (b : Parts) (es : List Event) → IsSound b → AreNeutral b es
+    → heard b (events_of b es) ≡ heard b (without_edits (events_of b es))
 neutral_heard b es sound h = alike_heard b (events_of b es) (leave_alike b es sound h)
 
-pub neutral_blocks : (b : Parts) (ps : List Playing) (es : List Event) → IsSound b → AreNeutral b es → blocks b ps (events_of b es) ≡ blocks b ps (without_edits (events_of b es))
+pub neutral_blocks : (b : Parts) (ps : List Playing) (es : List Event) → IsSound b → AreNeutral b es
+    → blocks b ps (events_of b es) ≡ blocks b ps (without_edits (events_of b es))
 neutral_blocks b ps es sound h = alike_blocks b ps (events_of b es) (leave_alike b es sound h)

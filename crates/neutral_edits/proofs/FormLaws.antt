@@ -11,13 +11,15 @@ use Rattle.bank_changes.proofs.Everywhere.{or_left}
 use Rattle.edit_forms.specs.declared.step.Step.{Step}
 use Rattle.edit_forms.specs.declared.step.Step.TheVariants as steps
 use Rattle.edit_forms.specs.declared.instruments.InstrumentStep.{InstrumentStep}
-use Rattle.edit_forms.specs.declared.instruments.InstrumentStep.TheVariants.{AddInstrument, RemoveInstrument, RenameInstrument, MoveInstrument}
+use Rattle.edit_forms.specs.declared.instruments.InstrumentStep.TheVariants.{AddInstrument, RemoveInstrument}
+use Rattle.edit_forms.specs.declared.instruments.InstrumentStep.TheVariants.{RenameInstrument, MoveInstrument}
 use Rattle.edit_forms.specs.declared.samples.SampleStep.{SampleStep}
 use Rattle.edit_forms.specs.declared.samples.SampleStep.TheVariants.{RenameSample, AddSample, RemoveSample, MoveSample}
 use Rattle.edit_forms.specs.declared.points.PointStep.{PointStep}
 use Rattle.edit_forms.specs.declared.points.PointStep.TheVariants.{Trim, Extend, SetLoop, SetKind, SetTune}
 use Rattle.edit_forms.specs.declared.zones.ZoneStep.{ZoneStep}
-use Rattle.edit_forms.specs.declared.zones.ZoneStep.TheVariants.{AddZone, RemoveZone, MoveZone, SplitZone, JoinZone, SetTarget}
+use Rattle.edit_forms.specs.declared.zones.ZoneStep.TheVariants.{AddZone, RemoveZone, MoveZone, SplitZone, JoinZone}
+use Rattle.edit_forms.specs.declared.zones.ZoneStep.TheVariants.{SetTarget}
 use Rattle.edit_forms.specs.declared.texts.TextStep.TheVariants.{SetInfo}
 use Rattle.bank_changes.specs.declared.members.Owner.{Owner}
 use Rattle.edit_forms.specs.declared.edit.Edit.{Edit}
@@ -33,7 +35,11 @@ use Rattle.edit_refusals.proofs.InstrumentLaws.{instrument_goes, instrument_come
 use Rattle.edit_refusals.proofs.ZoneLaws.{can_of_split_zone, can_of_join_zone}
 use Rattle.bank_edits.specs.Undone.{IsTaken}
 use Rattle.zone_select.specs.Alike.{AreAlike}
-use Rattle.zone_select.proofs.NeutralLaws.{sample_added_alike, sample_removed_alike, sample_moved_alike, sample_renamed_alike, kind_set_alike, instrument_added_alike, instrument_removed_alike, instrument_moved_alike, instrument_renamed_alike, zone_moved_alike, zone_split_alike, zone_joined_alike, info_set_alike}
+use Rattle.zone_select.proofs.NeutralLaws.{sample_added_alike, sample_removed_alike, sample_moved_alike}
+use Rattle.zone_select.proofs.NeutralLaws.{sample_renamed_alike, kind_set_alike, instrument_added_alike}
+use Rattle.zone_select.proofs.NeutralLaws.{instrument_removed_alike, instrument_moved_alike}
+use Rattle.zone_select.proofs.NeutralLaws.{instrument_renamed_alike, zone_moved_alike, zone_split_alike}
+use Rattle.zone_select.proofs.NeutralLaws.{zone_joined_alike, info_set_alike}
 use Rattle.neutral_edits.specs.Neutral.{is_neutral}
 
 -- ---- what is taken out has no zone that targets it
@@ -48,37 +54,48 @@ untargeted_instrument b i h = h
 
 -- ---- the forms
 
-instrument_alike : (b : Parts) (s : InstrumentStep) → FitsStep (steps.Instrument s) → refusal b (steps.Instrument s) ≡ None → AreAlike b (raw b (steps.Instrument s))
+instrument_alike : (b : Parts) (s : InstrumentStep) → FitsStep (steps.Instrument s)
+    → refusal b (steps.Instrument s) ≡ None → AreAlike b (raw b (steps.Instrument s))
 instrument_alike b (AddInstrument at x) fits h = instrument_added_alike b at x (instrument_goes b at x fits.1 h).place
 instrument_alike b (RemoveInstrument i) fits h =
-    instrument_removed_alike b i (untargeted_instrument b i (instrument_comes b i (accepted b (steps.Instrument (RemoveInstrument i)) h).tests).free)
+    instrument_removed_alike b i
+    (untargeted_instrument b i
+    (instrument_comes b i (accepted b (steps.Instrument (RemoveInstrument i)) h).tests).free)
 instrument_alike b (RenameInstrument i name) fits h = instrument_renamed_alike b i name
-instrument_alike b (MoveInstrument i j) fits h = let m = moves_instrument b i j h in instrument_moved_alike b i j m.there m.place
+instrument_alike b (MoveInstrument i j) fits h =
+    let m = moves_instrument b i j h in instrument_moved_alike b i j m.there m.place
 
 sample_alike : (b : Parts) (s : SampleStep) → refusal b (steps.Sample s) ≡ None → AreAlike b (raw b (steps.Sample s))
 sample_alike b (RenameSample i name) h = sample_renamed_alike b i name
-sample_alike b (AddSample at s) h = sample_added_alike b at s (goes_in b at s (accepted b (steps.Sample (AddSample at s)) h).tests).place
+sample_alike b (AddSample at s) h =
+    sample_added_alike b at s (goes_in b at s (accepted b (steps.Sample (AddSample at s)) h).tests).place
 sample_alike b (RemoveSample i) h =
-    sample_removed_alike b i (untargeted_sample b i (comes_out b i (accepted b (steps.Sample (RemoveSample i)) h).tests).free)
+    sample_removed_alike b i
+    (untargeted_sample b i (comes_out b i (accepted b (steps.Sample (RemoveSample i)) h).tests).free)
 sample_alike b (MoveSample i j) h = let m = moves_sample b i j h in sample_moved_alike b i j m.there m.place
 
-points_alike : (b : Parts) (i : ℕ) (s : PointStep) → is_neutral_step (steps.Points i s) ≡ true → AreAlike b (raw b (steps.Points i s))
+points_alike : (b : Parts) (i : ℕ) (s : PointStep) → is_neutral_step (steps.Points i s) ≡ true
+    → AreAlike b (raw b (steps.Points i s))
 points_alike b i (Trim front back) n = absurd cc
 points_alike b i (Extend front back) n = absurd cc
 points_alike b i (SetLoop looped) n = absurd cc
 points_alike b i (SetKind kind) n = kind_set_alike b i kind
 points_alike b i (SetTune rate key correction) n = absurd cc
 
-zone_alike : (b : Parts) (o : Owner) (s : ZoneStep) → IsSound b → FitsStep (steps.Zone o s) → refusal b (steps.Zone o s) ≡ None → is_neutral_step (steps.Zone o s) ≡ true
+zone_alike : (b : Parts) (o : Owner) (s : ZoneStep) → IsSound b → FitsStep (steps.Zone o s)
+    → refusal b (steps.Zone o s) ≡ None → is_neutral_step (steps.Zone o s) ≡ true
     → AreAlike b (raw b (steps.Zone o s))
 zone_alike b o (AddZone at zone) sound fits h n = absurd cc
 zone_alike b o (RemoveZone zone) sound fits h n = absurd cc
 zone_alike b o (MoveZone i j) sound fits h n = zone_moved_alike b o i j
-zone_alike b o (SplitZone k axis m) sound fits h n = zone_split_alike b o k axis m fits.1.1 (can_of_split_zone b o k axis m h)
-zone_alike b o (JoinZone k axis kept) sound fits h n = zone_joined_alike b o k axis kept sound.valid (can_of_join_zone b o k axis kept h)
+zone_alike b o (SplitZone k axis m) sound fits h n =
+    zone_split_alike b o k axis m fits.1.1 (can_of_split_zone b o k axis m h)
+zone_alike b o (JoinZone k axis kept) sound fits h n =
+    zone_joined_alike b o k axis kept sound.valid (can_of_join_zone b o k axis kept h)
 zone_alike b o (SetTarget zone target) sound fits h n = absurd cc
 
-step_alike : (b : Parts) (s : Step) → IsSound b → FitsStep s → refusal b s ≡ None → is_neutral_step s ≡ true → AreAlike b (raw b s)
+step_alike : (b : Parts) (s : Step) → IsSound b → FitsStep s → refusal b s ≡ None → is_neutral_step s ≡ true
+    → AreAlike b (raw b s)
 step_alike b (steps.Preset s) sound fits h n = absurd cc
 step_alike b (steps.Instrument s) sound fits h n = instrument_alike b s fits h
 step_alike b (steps.Sample s) sound fits h n = sample_alike b s h

@@ -7,7 +7,8 @@ use Rattle.bank_changes.specs.Members.{zone_of}
 use Rattle.edit_forms.specs.declared.points.PointStep.{PointStep}
 use Rattle.edit_forms.specs.declared.points.PointStep.TheVariants.{Trim, Extend, SetLoop, SetKind, SetTune}
 use Rattle.edit_forms.specs.declared.zones.ZoneStep.{ZoneStep}
-use Rattle.edit_forms.specs.declared.zones.ZoneStep.TheVariants.{AddZone, RemoveZone, MoveZone, SplitZone, JoinZone, SetTarget}
+use Rattle.edit_forms.specs.declared.zones.ZoneStep.TheVariants.{AddZone, RemoveZone, MoveZone, SplitZone, JoinZone}
+use Rattle.edit_forms.specs.declared.zones.ZoneStep.TheVariants.{SetTarget}
 use Rattle.edit_forms.specs.declared.step.Step.{Step}
 use Rattle.edit_forms.specs.declared.step.Step.TheVariants as steps
 use Rattle.edit_forms.specs.declared.edit.Edit.{Edit}
@@ -19,18 +20,21 @@ use Rattle.bank_edits.specs.EditChanges as edits
 use Rattle.neutral_edits.specs.Neutral.{is_neutral}
 
 -- whichever it is
-either : {X S : Type 0} (neutral : S → Bool) (o : Option X) (f : X → S) (d : S) → ((x : X) → neutral (f x) ≡ true) → neutral d ≡ true → neutral (option_map_or f o d) ≡ true
+either : {X S : Type 0} (neutral : S → Bool) (o : Option X) (f : X → S) (d : S) → ((x : X) → neutral (f x) ≡ true)
+    → neutral d ≡ true → neutral (option_map_or f o d) ≡ true
 either neutral None f d h k = k
 either neutral (Some x) f d h k = h x
 
-points_back : (b : Parts) (i : ℕ) (s : PointStep) → points.is_neutral s ≡ true → points.is_neutral (points.inverse b i s) ≡ true
+points_back : (b : Parts) (i : ℕ) (s : PointStep) → points.is_neutral s ≡ true
+    → points.is_neutral (points.inverse b i s) ≡ true
 points_back b i (Trim front back) n = absurd cc
 points_back b i (Extend front back) n = absurd cc
 points_back b i (SetLoop looped) n = absurd cc
 points_back b i (SetKind kind) n = either points.is_neutral (slice_get b.samples i) _ _ (λ x. refl) refl
 points_back b i (SetTune rate key correction) n = absurd cc
 
-zone_back : (b : Parts) (o : Owner) (s : ZoneStep) → zones.is_neutral s ≡ true → zones.is_neutral (zones.inverse b o s) ≡ true
+zone_back : (b : Parts) (o : Owner) (s : ZoneStep) → zones.is_neutral s ≡ true
+    → zones.is_neutral (zones.inverse b o s) ≡ true
 zone_back b o (AddZone at zone) n = absurd cc
 zone_back b o (RemoveZone zone) n = absurd cc
 zone_back b o (MoveZone i j) n = refl

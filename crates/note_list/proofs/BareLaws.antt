@@ -1,5 +1,6 @@
 -- A line of a note list reads the same without the bytes of its literals, as no literal is part of a note.
-use Rattle.std.proofs.Common.{◌≡◌, ℕ, Bool, true, false, cond, List, [], ◌∷◌, take, drop, map, Option, Some, None, Result, Ok, Err, refl}
+use Rattle.std.proofs.Common.{◌≡◌, ℕ, Bool, true, false, cond, List, [], ◌∷◌, take, drop, map, Option, Some, None}
+use Rattle.std.proofs.Common.{Result, Ok, Err, refl}
 use Rattle.std.specs.List.{list_all}
 use Rattle.line_tokens.specs.declared.tokens.Token.{Token}
 use Rattle.line_tokens.specs.declared.tokens.Token.TheVariants.{Plain, Quoted, Broken}
@@ -29,16 +30,20 @@ AreAlike (Bad ∷ xs) (Word v ∷ ys) = ⊥
 AreAlike (Bad ∷ xs) (Literal b ∷ ys) = AreAlike xs ys
 AreAlike (Bad ∷ xs) (Bad ∷ ys) = AreAlike xs ys
 
-plain_alike : (pool w : List ℕ) (xs ys : List Said) → AreAlike xs ys → AreAlike (said_over pool (Plain w) ∷ xs) (said (Plain w) ∷ ys)
+plain_alike : (pool w : List ℕ) (xs ys : List Said) → AreAlike xs ys
+    → AreAlike (said_over pool (Plain w) ∷ xs) (said (Plain w) ∷ ys)
 unfolding said said_over
 plain_alike pool w xs ys h = from (is_hex w) _
   where
-    from : {E : Type 0} (t : Bool) (r : Result (List ℕ) E) → AreAlike (cond t (Literal (take (size_of (Plain w)) pool)) (Word w) ∷ xs) (cond t (decoded r) (Word w) ∷ ys)
+    from : {E : Type 0} (t : Bool) (r : Result (List ℕ) E)
+        → AreAlike (cond t (Literal (take (size_of (Plain w)) pool)) (Word w) ∷ xs)
+        (cond t (decoded r) (Word w) ∷ ys)
     from false r = (refl, h)
     from true (Ok bytes) = h
     from true (Err e) = h
 
-quoted_alike : (pool i : List ℕ) (xs ys : List Said) → AreAlike xs ys → AreAlike (said_over pool (Quoted i) ∷ xs) (said (Quoted i) ∷ ys)
+quoted_alike : (pool i : List ℕ) (xs ys : List Said) → AreAlike xs ys
+    → AreAlike (said_over pool (Quoted i) ∷ xs) (said (Quoted i) ∷ ys)
 unfolding said said_over
 quoted_alike pool i xs ys h = from (list_all is_plain i)
   where
@@ -46,7 +51,8 @@ quoted_alike pool i xs ys h = from (list_all is_plain i)
     from true = h
     from false = h
 
-broken_alike : (pool : List ℕ) (xs ys : List Said) → AreAlike xs ys → AreAlike (said_over pool Broken ∷ xs) (said Broken ∷ ys)
+broken_alike : (pool : List ℕ) (xs ys : List Said) → AreAlike xs ys
+    → AreAlike (said_over pool Broken ∷ xs) (said Broken ∷ ys)
 unfolding said said_over
 broken_alike pool xs ys h = h
 
@@ -67,13 +73,15 @@ Agree (Err d) (Err e) = Unit {0}
 abbrev ReadsAlike : {X : Type 0} → Part X → Type 0
 ReadsAlike part = (xs ys : List Said) → AreAlike xs ys → Agree (part xs) (part ys)
 
-then_alike : {X Y : Type 0} (a b : Result (Took X) LineFault) (f : X → Part Y) → Agree a b → ((x : X) → ReadsAlike (f x)) → Agree (and_then a f) (and_then b f)
+then_alike : {X Y : Type 0} (a b : Result (Took X) LineFault) (f : X → Part Y) → Agree a b
+    → ((x : X) → ReadsAlike (f x)) → Agree (and_then a f) (and_then b f)
 then_alike (Ok a) (Ok b) f h g = rw h.0 (g b.value a.rest b.rest h.1)
 then_alike (Ok a) (Err e) f h g = absurd h
 then_alike (Err d) (Ok b) f h g = absurd h
 then_alike (Err d) (Err e) f h g = tt
 
-found_alike : {X : Type 0} (o : Option X) (xs ys : List Said) → AreAlike xs ys → Agree (or_fault faults.Number o xs) (or_fault faults.Number o ys)
+found_alike : {X : Type 0} (o : Option X) (xs ys : List Said) → AreAlike xs ys
+    → Agree (or_fault faults.Number o xs) (or_fault faults.Number o ys)
 found_alike None xs ys h = tt
 found_alike (Some x) xs ys h = (refl, h)
 
@@ -124,7 +132,8 @@ agree_judged k n (Ok a) (Err e) h = absurd h
 agree_judged k n (Err d) (Ok b) h = absurd h
 agree_judged k n (Err d) (Err e) h = refl
 
-pub judged_alike : (k n : ℕ) (pool : List ℕ) (ts : List Token) → judged k n (note (all_said_over pool ts)) ≡ judged k n (note (map said ts))
+pub judged_alike : (k n : ℕ) (pool : List ℕ) (ts : List Token)
+    → judged k n (note (all_said_over pool ts)) ≡ judged k n (note (map said ts))
 judged_alike k n pool ts = agree_judged k n _ _ (note_alike _ _ (tokens_alike pool ts))
 
 pub nothing_alike : (pool : List ℕ) (ts : List Token) → all_said_over pool ts ≡ [] → map said ts ≡ []

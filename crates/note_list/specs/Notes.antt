@@ -1,5 +1,6 @@
 -- Notes, and the notes of a text or its first fault.
-use Rattle.std.specs.Prelude.{◌≤◌, ℕ, suc, ◌+◌, List, [], ◌∷◌, ◌++◌, length, Option, Some, None, Result, Ok, Err, nat_le, ◌&&◌, if◌then◌else◌}
+use Rattle.std.specs.Prelude.{◌≤◌, ℕ, suc, ◌+◌, List, [], ◌∷◌, ◌++◌, length, Option, Some, None, Result, Ok, Err}
+use Rattle.std.specs.Prelude.{nat_le, ◌&&◌, if◌then◌else◌}
 use Rattle.line_tokens.specs.declared.cursor.Said.{Said}
 use Rattle.line_tokens.specs.declared.fault.LineFault.{LineFault}
 use Rattle.line_tokens.specs.Said.{said_lines}
@@ -28,7 +29,9 @@ pub record IsNote (n : Numbers) : Type 0 where
 
 -- the note with these numbers, if they are within the limits
 unfoldable pub note_of : Numbers → Option Numbers
-note_of n = if nat_le (n.start + n.length) LAST_FRAME && nat_le n.key HIGHEST_KEY && nat_le n.velocity HIGHEST_VELOCITY then Some n else None
+note_of n =
+    if nat_le (n.start + n.length) LAST_FRAME && nat_le n.key HIGHEST_KEY
+    && nat_le n.velocity HIGHEST_VELOCITY then Some n else None
 
 -- a value, or the first fault of a note list
 abbrev pub OrFault : Type 0 → Type 0
@@ -74,7 +77,8 @@ spoken n ((s ∷ said) ∷ lines) = record { line = n; said = s ∷ said } ∷ s
 -- the notes of such lines, before which stand k notes; or the first fault
 unfoldable pub notes_after : ℕ → List Spoken → OrFault (List Numbers)
 notes_after k [] = Ok []
-notes_after k (s ∷ lines) = and_then (judged k s.line (note s.said)) (λ x. and_then (notes_after (suc k) lines) (λ xs. Ok (x ∷ xs)))
+notes_after k (s ∷ lines) =
+    and_then (judged k s.line (note s.said)) (λ x. and_then (notes_after (suc k) lines) (λ xs. Ok (x ∷ xs)))
 
 -- the notes of a text, of which each line that says something is one; or the first fault
 unfoldable pub notes_of : List ℕ → OrFault (List Numbers)

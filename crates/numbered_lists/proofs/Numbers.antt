@@ -42,14 +42,20 @@ insertion_keeps i x h = grind (arith, nat_tests)
 
 -- Lists of numbers
 
-pub insertion_returned_all : (i : ℕ) (xs : List ℕ) → map (renumbered (Removal i)) (map (renumbered (Insertion i)) xs) ≡ xs
-insertion_returned_all i xs = map-undone (renumbered (Insertion i)) (renumbered (Removal i)) xs (λ k d h. insertion_returned i (get_or xs k d))
+pub insertion_returned_all : (i : ℕ) (xs : List ℕ)
+    → map (renumbered (Removal i)) (map (renumbered (Insertion i)) xs) ≡ xs
+insertion_returned_all i xs =
+    map-undone (renumbered (Insertion i)) (renumbered (Removal i)) xs (λ k d h. insertion_returned i (get_or xs k d))
 
-pub removal_returned_all : (i : ℕ) (xs : List ℕ) → All (λ x. x ≢ i) xs → map (renumbered (Insertion i)) (map (renumbered (Removal i)) xs) ≡ xs
-removal_returned_all i xs ne = map-undone (renumbered (Removal i)) (renumbered (Insertion i)) xs (λ k d h. removal_returned i (get_or xs k d) (ne k d h))
+pub removal_returned_all : (i : ℕ) (xs : List ℕ) → All (λ x. x ≢ i) xs
+    → map (renumbered (Insertion i)) (map (renumbered (Removal i)) xs) ≡ xs
+removal_returned_all i xs ne =
+    map-undone (renumbered (Removal i)) (renumbered (Insertion i)) xs
+    (λ k d h. removal_returned i (get_or xs k d) (ne k d h))
 
 pub move_returned_all : (i j : ℕ) (xs : List ℕ) → map (renumbered (Move j i)) (map (renumbered (Move i j)) xs) ≡ xs
-move_returned_all i j xs = map-undone (renumbered (Move i j)) (renumbered (Move j i)) xs (λ k d h. move_returned i j (get_or xs k d))
+move_returned_all i j xs =
+    map-undone (renumbered (Move i j)) (renumbered (Move j i)) xs (λ k d h. move_returned i j (get_or xs k d))
 
 -- The same by the test for the number
 

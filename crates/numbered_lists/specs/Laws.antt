@@ -1,5 +1,6 @@
 -- What a change of a list and its return leave, in the list and in the numbers that follow it.
-use Rattle.std.specs.Prelude.{◌≡◌, ◌≢◌, ◌<◌, ◌≤◌, ◌+◌, ℕ, List, Some, All, length, map, insert, remove, slice_get, slice_set}
+use Rattle.std.specs.Prelude.{◌≡◌, ◌≢◌, ◌<◌, ◌≤◌, ◌+◌, ℕ, List, Some, All, length, map, insert, remove, slice_get}
+use Rattle.std.specs.Prelude.{slice_set}
 use Rattle.numbered_lists.specs.declared.renumbering.Renumbering.TheVariants.{Insertion, Removal, Move}
 use Rattle.numbered_lists.specs.Moved.{moved, changed}
 use Rattle.numbered_lists.specs.Renumbered.{renumbered}

@@ -1,5 +1,7 @@
 -- Owners that change places, and bags of one owner that do.
-use Rattle.std.proofs.Common.{◌≡◌, ℕ, ◌<◌, ◌≤◌, ◌+◌, ◌-◌, ◌^◌, suc, List, [], ◌∷◌, ◌++◌, length, map, All, insert, remove, slice_get, Some, refl, sym, subst, ◌∙◌, ap, take, drop, get_or, length-append, zero-add, add-one, zero, arith}
+use Rattle.std.proofs.Common.{◌≡◌, ℕ, ◌<◌, ◌≤◌, ◌+◌, ◌-◌, ◌^◌, suc, List, [], ◌∷◌, ◌++◌, length, map, All, insert}
+use Rattle.std.proofs.Common.{remove, slice_get, Some, refl, sym, subst, ◌∙◌, ap, take, drop, get_or, length-append}
+use Rattle.std.proofs.Common.{zero-add, add-one, zero, arith}
 use Rattle.std.specs.Option.{IsSomeAnd}
 use Rattle.std.proofs.lemmas.List.Concat.{flat_map-append}
 use Rattle.std.proofs.lemmas.List.Edits.{length-remove}
@@ -28,7 +30,8 @@ up (x ∷ xs) zero j h within = refl
 up (x ∷ xs) (suc i) zero h within = absurd (omega arith)
 up (x ∷ xs) (suc i) (suc j) h within =
     let (y, there) = slice_get-found xs i (omega arith) in
-    ap (λ zs. x ∷ zs) (up xs i j (omega arith) (omega arith) ∙ moved-found xs i j y there) ∙ sym (moved-found (x ∷ xs) (suc i) (suc j) y there)
+    ap (λ zs. x ∷ zs) (up xs i j (omega arith) (omega arith) ∙ moved-found xs i j y there)
+    ∙ sym (moved-found (x ∷ xs) (suc i) (suc j) y there)
 
 down : {X : Type 0} (xs : List X) (i j : ℕ) → j ≤ i → i < length xs → exchanged xs j i (suc i) ≡ moved xs i j
 down [] i j h within = absurd (omega arith)
@@ -38,9 +41,11 @@ down (x ∷ xs) i zero h within =
 down (x ∷ xs) zero (suc j) h within = absurd (omega arith)
 down (x ∷ xs) (suc i) (suc j) h within =
     let (y, there) = slice_get-found xs i (omega arith) in
-    ap (λ zs. x ∷ zs) (down xs i j (omega arith) (omega arith) ∙ moved-found xs i j y there) ∙ sym (moved-found (x ∷ xs) (suc i) (suc j) y there)
+    ap (λ zs. x ∷ zs) (down xs i j (omega arith) (omega arith) ∙ moved-found xs i j y there)
+    ∙ sym (moved-found (x ∷ xs) (suc i) (suc j) y there)
 
-pub moved_up : {X : Type 0} (xs : List X) (i j : ℕ) → i ≤ j → j < length xs → exchanged xs i (i + 1) (j + 1) ≡ moved xs i j
+pub moved_up : {X : Type 0} (xs : List X) (i j : ℕ) → i ≤ j → j < length xs
+    → exchanged xs i (i + 1) (j + 1) ≡ moved xs i j
 moved_up xs i j h within = (λ k. exchanged xs i (add-one i k) (add-one j k)) ∙ up xs i j h within
 
 pub moved_down : {X : Type 0} (xs : List X) (i j : ℕ) → j ≤ i → i < length xs → exchanged xs j i (i + 1) ≡ moved xs i j
@@ -48,11 +53,13 @@ moved_down xs i j h within = ap (exchanged xs j i) (add-one i) ∙ down xs i j h
 
 -- ---- owners that change places
 
-all-parts : (ws xs ys zs : List (List Bag)) → all_bags (ws ++ (xs ++ (ys ++ zs))) ≡ all_bags ws ++ (all_bags xs ++ (all_bags ys ++ all_bags zs))
+all-parts : (ws xs ys zs : List (List Bag))
+    → all_bags (ws ++ (xs ++ (ys ++ zs))) ≡ all_bags ws ++ (all_bags xs ++ (all_bags ys ++ all_bags zs))
 all-parts ws xs ys zs =
     flat_map-append (λ (bags : List Bag). bags) ws (xs ++ (ys ++ zs))
     ∙ ap (λ ms. all_bags ws ++ ms)
-    (flat_map-append (λ (bags : List Bag). bags) xs (ys ++ zs) ∙ ap (λ ms. all_bags xs ++ ms) (flat_map-append (λ (bags : List Bag). bags) ys zs))
+    (flat_map-append (λ (bags : List Bag). bags) xs (ys ++ zs)
+    ∙ ap (λ ms. all_bags xs ++ ms) (flat_map-append (λ (bags : List Bag). bags) ys zs))
 
 all-exchanged : (ws xs ys zs : List (List Bag)) (i j k : ℕ)
     → i ≡ length (all_bags ws) → j ≡ i + length (all_bags xs) → k ≡ j + length (all_bags ys)
@@ -95,23 +102,32 @@ turn_of t owners ws xs ys zs a b c f whole start middle stop e1 e2 e3 =
     let n2 : middle ≡ w2 = e2 ∙ r.second in
     let n3 : stop ≡ end past_owner w2 ys = e3 ∙ r.third in
     let g1 : start ≡ length (all_bags ws) = n1 ∙ (owners-end 0 ws ∙ zero-add (length (all_bags ws))) in
-    let g2 : middle ≡ start + length (all_bags xs) = n2 ∙ (owners-end w1 xs ∙ ap (λ m. m + length (all_bags xs)) (sym n1)) in
-    let g3 : stop ≡ middle + length (all_bags ys) = n3 ∙ (owners-end w2 ys ∙ ap (λ m. m + length (all_bags ys)) (sym n2)) in
+    let g2 : middle ≡ start + length (all_bags xs) =
+    n2 ∙ (owners-end w1 xs ∙ ap (λ m. m + length (all_bags xs)) (sym n1)) in
+    let g3 : stop ≡ middle + length (all_bags ys) =
+    n3 ∙ (owners-end w2 ys ∙ ap (λ m. m + length (all_bags ys)) (sym n2)) in
     let down : middle - start ≡ length (all_bags xs) = omega arith in
     let up : stop - middle ≡ length (all_bags ys) = omega arith in
-    let size : length t.begins ≡ suc (length (ws ++ (xs ++ (ys ++ zs)))) = ap (λ (t : Flat). length t.begins) f.same ∙ length-starts past_owner 0 (ws ++ (xs ++ (ys ++ zs))) in
-    let sizes : length (ws ++ (xs ++ (ys ++ zs))) ≡ length ws + (length xs + (length ys + length zs)) = simp length-append refl in
-    let bags_size : length t.bags ≡ length (all_bags ws) + (length (all_bags xs) + (length (all_bags ys) + length (all_bags zs))) =
+    let size : length t.begins ≡ suc (length (ws ++ (xs ++ (ys ++ zs)))) =
+    ap (λ (t : Flat). length t.begins) f.same ∙ length-starts past_owner 0 (ws ++ (xs ++ (ys ++ zs))) in
+    let sizes : length (ws ++ (xs ++ (ys ++ zs))) ≡ length ws + (length xs + (length ys + length zs)) =
+    simp length-append refl in
+    let bags_size : length t.bags
+    ≡ length (all_bags ws) + (length (all_bags xs) + (length (all_bags ys) + length (all_bags zs))) =
     ap (λ (t : Flat). length t.bags) f.same ∙ (ap length (all-parts ws xs ys zs) ∙ simp length-append refl) in
     let f1 = f.first in
     let f2 = f.second in
     let f3 = f.third in
     let low : length (all_bags xs) ≤ w2 = omega arith in
-    let index : changed_exchanged a b c (λ at. at - (middle - start)) (λ at. at + (stop - middle)) t.begins ≡ starts past_owner 0 (ws ++ (ys ++ (xs ++ zs))) =
+    let index : changed_exchanged a b c (λ at. at - (middle - start)) (λ at. at + (stop - middle)) t.begins
+    ≡ starts past_owner 0 (ws ++ (ys ++ (xs ++ zs))) =
     (λ k. i.first k ++ (map (λ at. at - down k) (i.third k) ++ (map (λ at. at + up k) (i.second k) ++ i.last k)))
-    ∙ starts-exchanged past_owner (λ at. at + length (all_bags xs)) (λ at. at - length (all_bags xs)) (λ at. at + length (all_bags ys)) (λ m x. omega arith) (λ m x. omega arith) (λ m. omega arith) (λ m. omega arith) 0 ws xs ys zs (owners-end w1 xs) (owners-end w1 ys) in
+    ∙ starts-exchanged past_owner (λ at. at + length (all_bags xs)) (λ at. at - length (all_bags xs))
+    (λ at. at + length (all_bags ys)) (λ m x. omega arith) (λ m x. omega arith) (λ m. omega arith) (λ m. omega arith)
+    0 ws xs ys zs (owners-end w1 xs) (owners-end w1 ys) in
     let bags : exchanged t.bags start middle stop ≡ all_bags (ws ++ (ys ++ (xs ++ zs))) =
-    ap (λ (t : Flat). exchanged t.bags start middle stop) f.same ∙ all-exchanged ws xs ys zs start middle stop g1 g2 g3 in
+    ap (λ (t : Flat). exchanged t.bags start middle stop) f.same
+    ∙ all-exchanged ws xs ys zs start middle stop g1 g2 g3 in
     record {
       rise = (omega arith, omega arith);
       windows = record { first = omega arith; second = omega arith; within = omega arith };
@@ -122,12 +138,14 @@ turn_of t owners ws xs ys zs a b c f whole start middle stop e1 e2 e3 =
       raise =
           (λ within.
           subst (λ (p : ℕ × List ℕ). All (λ at. at + p.0 < 2 ^ 16) p.1) (sym (λ k. (up k, i.second k)))
-          (All-begins_back past_owner (λ at. at + length (all_bags ys) < 2 ^ 16) (λ a b p. omega arith) w1 xs (omega arith)));
+          (All-begins_back past_owner (λ at. at + length (all_bags ys) < 2 ^ 16) (λ a b p. omega arith) w1 xs
+          (omega arith)));
       turned = (λ k. record { begins = index k; bags = bags k }) ∙ ap flat_of (sym whole);
     }
 
 pub turn : {t : Flat} {owners : List (List Bag)} {a b c : ℕ} → AreOf t owners → a ≤ b → b ≤ c → c ≤ length owners
-    → {start middle stop : ℕ} → start ≡ get_or t.begins a start → middle ≡ get_or t.begins b middle → stop ≡ get_or t.begins c stop
+    → {start middle stop : ℕ} → start ≡ get_or t.begins a start → middle ≡ get_or t.begins b middle
+    → stop ≡ get_or t.begins c stop
     → Turn t owners a b c start middle stop
 turn {t} {owners} {a} {b} {c} are h1 h2 h3 {start} {middle} {stop} e1 e2 e3 =
     let q = quarters owners a b c h1 h2 h3 in
@@ -135,20 +153,28 @@ turn {t} {owners} {a} {b} {c} are h1 h2 h3 {start} {middle} {stop} e1 e2 e3 =
     let xs = drop a (take b owners) in
     let ys = drop b (take c owners) in
     let zs = drop c owners in
-    turn_of t owners ws xs ys zs a b c (record { same = are.same ∙ ap flat_of q.whole; first = q.first; second = q.second; third = q.third }) refl start middle stop
+    turn_of t owners ws xs ys zs a b c
+    (record { same = are.same ∙ ap flat_of q.whole; first = q.first; second = q.second; third = q.third }) refl
+    start middle stop
     (begin_read are a (omega arith) e1) (begin_read are b (omega arith) e2) (begin_read are c h3 e3)
 
-pub owners_turned : {t : Flat} {owners : List (List Bag)} {a b c start middle stop : ℕ} → Turn t owners a b c start middle stop
-    → {new : List ℕ} {bags : List Bag} → new ≡ changed_exchanged a b c (λ at. at - (middle - start)) (λ at. at + (stop - middle)) t.begins → bags ≡ exchanged t.bags start middle stop
+pub owners_turned : {t : Flat} {owners : List (List Bag)} {a b c start middle stop : ℕ}
+    → Turn t owners a b c start middle stop
+    → {new : List ℕ} {bags : List Bag}
+    → new ≡ changed_exchanged a b c (λ at. at - (middle - start)) (λ at. at + (stop - middle)) t.begins
+    → bags ≡ exchanged t.bags start middle stop
     → AreOf (record { begins = new; bags = bags }) (exchanged owners a b c)
 owners_turned r e f = record { same = (λ k. record { begins = e k; bags = f k }) ∙ r.turned }
 
 -- ---- a bag of one owner that moves
 
 pub bag_moved : {t : Flat} {owners : List (List Bag)} → AreOf t owners → (i from to : ℕ)
-    → IsSomeAnd (slice_get owners i) (λ (bags : List Bag). from < length bags) → IsSomeAnd (slice_get owners i) (λ (bags : List Bag). to < length bags)
-    → {begins others : List ℕ} → begins ≡ t.begins → others ≡ t.begins → {first second : ℕ} → first ≡ get_or begins i 0 + from → second ≡ get_or others i 0 + to
-    → {new : List Bag} → new ≡ moved t.bags first second → AreOf (record { begins = t.begins; bags = new }) (changed owners i (λ bags. moved bags from to))
+    → IsSomeAnd (slice_get owners i) (λ (bags : List Bag). from < length bags)
+    → IsSomeAnd (slice_get owners i) (λ (bags : List Bag). to < length bags)
+    → {begins others : List ℕ} → begins ≡ t.begins → others ≡ t.begins → {first second : ℕ}
+    → first ≡ get_or begins i 0 + from → second ≡ get_or others i 0 + to
+    → {new : List Bag} → new ≡ moved t.bags first second
+    → AreOf (record { begins = t.begins; bags = new }) (changed owners i (λ bags. moved bags from to))
 bag_moved {t} {owners} a i from to h1 h2 same same2 f g {new} is =
     let (xs, there, within) = found (λ (bags : List Bag). from < length bags) (slice_get owners i) h1 in
     let also : to < length xs = subst (λ o. IsSomeAnd o (λ (bags : List Bag). to < length bags)) there h2 in
@@ -160,7 +186,8 @@ bag_moved {t} {owners} a i from to h1 h2 same same2 f g {new} is =
     let size = length-remove xs from within in
     let whole : new ≡ ws ++ (moved xs from to ++ bs) =
     is
-    ∙ ((λ k. moved (b.bags k) ((f ∙ ap (λ begins. get_or begins i 0 + from) same) k) ((g ∙ ap (λ begins. get_or begins i 0 + to) same2) k))
+    ∙ ((λ k. moved (b.bags k) ((f ∙ ap (λ begins. get_or begins i 0 + from) same) k)
+    ((g ∙ ap (λ begins. get_or begins i 0 + to) same2) k))
     ∙ (moved-found (ws ++ (xs ++ bs)) (at + from) (at + to) x (get_in ws xs bs at from b.at x found)
     ∙ (ap (λ zs. insert zs (at + to) x) (remove_in ws xs bs at from b.at within)
     ∙ (insert_in ws (remove xs from) bs at to b.at x (omega arith)

@@ -1,5 +1,7 @@
 -- A recording of bytes is in the ranges of its fields, and so are the edits of its import.
-use Rattle.std.proofs.Common.{◌≡◌, ◌≤◌, ◌<◌, ◌+◌, ◌-◌, ◌^◌, ℕ, zero, suc, pos, neg_ℤ, Bool, true, false, cond, leb, ltb, eqb, ◌&&◌, ◌||◌, List, [], ◌∷◌, length, take, drop, get_or, codes, Option, Some, None, Ok, FitsSigned, refl, inl, inr, arith}
+use Rattle.std.proofs.Common.{◌≡◌, ◌≤◌, ◌<◌, ◌+◌, ◌-◌, ◌^◌, ℕ, zero, suc, pos, neg_ℤ, Bool, true, false, cond, leb}
+use Rattle.std.proofs.Common.{ltb, eqb, ◌&&◌, ◌||◌, List, [], ◌∷◌, length, take, drop, get_or, codes, Option, Some}
+use Rattle.std.proofs.Common.{None, Ok, FitsSigned, refl, inl, inr, arith}
 use Rattle.std.specs.Prelude.{unwrap_or}
 use Rattle.std.specs.Option.{option_map}
 use Rattle.std.specs.Int.{w8}
@@ -41,9 +43,14 @@ use Rattle.recordings.specs.declared.recording.Pitch.{Pitch}
 use Rattle.recordings.specs.declared.recording.Sampler.{Sampler}
 use Rattle.recordings.specs.declared.recording.Recording.{Recording}
 use Rattle.bank_format.specs.Steps.{first_broken}
-use Rattle.recordings.specs.Recordings.{layout_in, frame_of, channels_in, forward_loop, ends_of, unity_note_in, fraction_in, data_in, pitch_held, is_held, held_in, cents_in, nearest, pitch_of, sampler_in}
-use Rattle.recordings.specs.ReadSteps.{riff_steps, format_steps, data_steps, has_loops, is_inside, loop_steps, chunk_steps, sampler_steps, content_steps, content_in, window_steps, steps, unless_broken, recording_in}
-use Rattle.recordings.specs.Imports.{left_points, right_points, mono_name, side_name, sample_of, add_edit, pair_edits, channel_edits, import_edits}
+use Rattle.recordings.specs.Recordings.{layout_in, frame_of, channels_in, forward_loop, ends_of, unity_note_in}
+use Rattle.recordings.specs.Recordings.{fraction_in, data_in, pitch_held, is_held, held_in, cents_in, nearest}
+use Rattle.recordings.specs.Recordings.{pitch_of, sampler_in}
+use Rattle.recordings.specs.ReadSteps.{riff_steps, format_steps, data_steps, has_loops, is_inside, loop_steps}
+use Rattle.recordings.specs.ReadSteps.{chunk_steps, sampler_steps, content_steps, content_in, window_steps, steps}
+use Rattle.recordings.specs.ReadSteps.{unless_broken, recording_in}
+use Rattle.recordings.specs.Imports.{left_points, right_points, mono_name, side_name, sample_of, add_edit}
+use Rattle.recordings.specs.Imports.{pair_edits, channel_edits, import_edits}
 use Rattle.recordings.proofs.ImportLaws.{cut_text, side_named}
 
 pub record FitsPitch (p : Pitch) : Type 0 where
@@ -70,26 +77,32 @@ pub record FitsFrame (f : Frame) : Type 0 where
   pub right : AreBytes f.right
 
 frame_fits : ReadFits 4 frame_of FitsFrame
-frame_fits bytes b e = record { left = take_bytes 2 bytes b; right = take_bytes 2 (drop 2 bytes) (drop_bytes 2 bytes b) }
+frame_fits bytes b e =
+    record { left = take_bytes 2 bytes b; right = take_bytes 2 (drop 2 bytes) (drop_bytes 2 bytes b) }
 
 left_bytes : (fs : List Frame) → AllByRecursion FitsFrame fs → AreBytes (flat_map (λ (f : Frame). f.left) fs)
 left_bytes [] h = All-nil (λ b. b < 256)
-left_bytes (f ∷ fs) h = All-append (λ b. b < 256) f.left (flat_map (λ (x : Frame). x.left) fs) h.0.left (left_bytes fs h.1)
+left_bytes (f ∷ fs) h =
+    All-append (λ b. b < 256) f.left (flat_map (λ (x : Frame). x.left) fs) h.0.left (left_bytes fs h.1)
 
 right_bytes : (fs : List Frame) → AllByRecursion FitsFrame fs → AreBytes (flat_map (λ (f : Frame). f.right) fs)
 right_bytes [] h = All-nil (λ b. b < 256)
-right_bytes (f ∷ fs) h = All-append (λ b. b < 256) f.right (flat_map (λ (x : Frame). x.right) fs) h.0.right (right_bytes fs h.1)
+right_bytes (f ∷ fs) h =
+    All-append (λ b. b < 256) f.right (flat_map (λ (x : Frame). x.right) fs) h.0.right (right_bytes fs h.1)
 
 channels_fit : (l : Layout) (bytes : List ℕ) → AreBytes bytes → FitChannels (channels_in l bytes)
 channels_fit layout.Mono bytes b = AreWords-words bytes b
 channels_fit layout.Stereo bytes b =
-    let fs = records-fit 4 frame_of FitsFrame frame_fits bytes b in
-    (AreWords-words _ (left_bytes (records 4 frame_of bytes) fs), AreWords-words _ (right_bytes (records 4 frame_of bytes) fs))
+    let fs = records-fit 4 frame_of FitsFrame frame_fits bytes b in (
+      AreWords-words _ (left_bytes (records 4 frame_of bytes) fs),
+      AreWords-words _ (right_bytes (records 4 frame_of bytes) fs),
+    )
 
 -- ---- the pitch
 
 byte_lt : (bytes : List ℕ) → AreBytes bytes → (k : ℕ) → get_or bytes k 0 < 256
-byte_lt bytes b k = elim (cases_lt k (length bytes)) [ inl lt ↦ b k 0 lt | inr le ↦ rw (get_or_past bytes k 0 le) (omega arith) ]
+byte_lt bytes b k =
+    elim (cases_lt k (length bytes)) [ inl lt ↦ b k 0 lt | inr le ↦ rw (get_or_past bytes k 0 le) (omega arith) ]
 
 below : (n : ℕ) → n ≤ 100 → FitsSigned w8 (neg_ℤ (pos n))
 below zero h = record { sfits = omega arith }
@@ -98,11 +111,15 @@ below (suc n) h = record { sfits = omega (arith, h) }
 nearest_fits : (note cents : ℕ) → note ≤ 127 → cents ≤ 100 → FitsPitch (nearest note cents)
 nearest_fits note cents n c = either (leb cents 50 || eqb note 127)
   where
-    either : (b : Bool) → FitsPitch (cond b (record { key = note; correction = neg_ℤ (pos cents) }) (record { key = note + 1; correction = pos (100 - cents) }))
+    either : (b : Bool)
+        → FitsPitch
+        (cond b (record { key = note; correction = neg_ℤ (pos cents) })
+        (record { key = note + 1; correction = pos (100 - cents) }))
     either true = record { key = omega (arith, n); correction = below cents c }
     either false = record { key = omega (arith, n); correction = record { sfits = omega arith } }
 
-held_fits : (b : Bool) (p : Pitch) (s : List ℕ) → FitsPitch p → FitsPitch (nearest (unity_note_in s) (cents_in s)) → FitsPitch (pitch_of (cond b (Some p) None) s)
+held_fits : (b : Bool) (p : Pitch) (s : List ℕ) → FitsPitch p → FitsPitch (nearest (unity_note_in s) (cents_in s))
+    → FitsPitch (pitch_of (cond b (Some p) None) s)
 held_fits true p s h k = h
 held_fits false p s h k = k
 
@@ -110,8 +127,10 @@ pitch_fits : (s : List ℕ) → AreBytes s → unity_note_in s ≤ 127 → FitsP
 pitch_fits s b note =
     let inner : AreBytes (data_in s) = take_bytes _ _ (drop_bytes _ s b) in
     let fraction : fraction_in s < 2 ^ 32 = field_at-lt 16 4 s b in
-    let p : FitsPitch (pitch_held (data_in s)) = record { key = byte_lt (data_in s) inner 4; correction = read_sfits w8 (get_or (data_in s) 5 0) } in
-    held_fits (eqb (length (data_in s)) 8 && is_held s (pitch_held (data_in s))) (pitch_held (data_in s)) s p (nearest_fits (unity_note_in s) (cents_in s) note (omega (arith, fraction)))
+    let p : FitsPitch (pitch_held (data_in s)) =
+    record { key = byte_lt (data_in s) inner 4; correction = read_sfits w8 (get_or (data_in s) 5 0) } in
+    held_fits (eqb (length (data_in s)) 8 && is_held s (pitch_held (data_in s))) (pitch_held (data_in s)) s p
+    (nearest_fits (unity_note_in s) (cents_in s) note (omega (arith, fraction)))
 
 -- ---- the loop
 
@@ -126,9 +145,11 @@ loop_fits n (Some l) h =
 
 -- ---- the sampler chunk
 
-sampler_fits : (n : ℕ) (o : Option (List ℕ)) → AreBytes (unwrap_or o []) → first_broken (sampler_steps n o) ≡ None → FitsSampler (sampler_in o)
+sampler_fits : (n : ℕ) (o : Option (List ℕ)) → AreBytes (unwrap_or o []) → first_broken (sampler_steps n o) ≡ None
+    → FitsSampler (sampler_in o)
 unfolding chunk_steps
-sampler_fits n None b h = record { pitch = record { key = omega arith; correction = record { sfits = omega arith } }; looped = tt }
+sampler_fits n None b h =
+    record { pitch = record { key = omega arith; correction = record { sfits = omega arith } }; looped = tt }
 sampler_fits n (Some s) b h =
     let whole = split_none (has_loops s) _ _ h in
     let note = split_none (leb (unity_note_in s) 127) _ _ whole.1 in
@@ -136,7 +157,8 @@ sampler_fits n (Some s) b h =
 
 -- ---- together
 
-content_fits : (chunks : List Chunk) → AllByRecursion OfBytes chunks → first_broken (content_steps chunks) ≡ None → FitsRecording (content_in chunks)
+content_fits : (chunks : List Chunk) → AllByRecursion OfBytes chunks → first_broken (content_steps chunks) ≡ None
+    → FitsRecording (content_in chunks)
 unfolding content_steps content_in
 content_fits chunks b h =
     let f = body_in FORMAT chunks in
@@ -157,7 +179,8 @@ pub is_read : (wave : List ℕ) (r : Recording) → recording_in wave ≡ Ok r �
 unfolding recording_in
 is_read wave r h = by_what (first_broken (steps wave)) refl h
   where
-    by_what : (o : Option WaveFault) → first_broken (steps wave) ≡ o → unless_broken o (content_in (chunks_in (walk (window wave)))) ≡ Ok r → IsRead wave r
+    by_what : (o : Option WaveFault) → first_broken (steps wave) ≡ o
+        → unless_broken o (content_in (chunks_in (walk (window wave)))) ≡ Ok r → IsRead wave r
     by_what None e k = record { holds = e; is = cc }
     by_what (Some f) e k = absurd cc
 
@@ -167,11 +190,13 @@ recording_fits wave r b h =
     let read = is_read wave r h in
     let past_riff = both_none (riff_steps wave) (window_steps (window wave)) read.holds in
     let walked = split_none _ _ _ past_riff.1 in
-    rw (← read.is) (content_fits (chunks_in (walk (window wave))) (walk_bytes (window wave) (window_bytes wave b)) walked.1)
+    rw (← read.is)
+    (content_fits (chunks_in (walk (window wave))) (walk_bytes (window wave) (window_bytes wave b)) walked.1)
 
 -- ---- the edits of an import
 
-sample_fits : (rate : ℕ) (sampler : Sampler) (name points : List ℕ) (k : Kind) → rate < 2 ^ 32 → FitsSampler sampler → IsName name → AreWords points → FitsKind k
+sample_fits : (rate : ℕ) (sampler : Sampler) (name points : List ℕ) (k : Kind) → rate < 2 ^ 32 → FitsSampler sampler
+    → IsName name → AreWords points → FitsKind k
     → FitsSample (sample_of rate sampler name points k)
 sample_fits rate sampler name points k r s named p fits = record {
   name = named;
@@ -183,30 +208,39 @@ sample_fits rate sampler name points k r s named p fits = record {
   kind = fits;
 }
 
-pair_fits : (n : ℕ) (left right : Sample) → n ≤ SAMPLES → FitsSample left → FitsSample right → AllByRecursion FitsEdit (pair_edits n left right)
+pair_fits : (n : ℕ) (left right : Sample) → n ≤ SAMPLES → FitsSample left → FitsSample right
+    → AllByRecursion FitsEdit (pair_edits n left right)
 pair_fits n left right most l r = by_test (ltb n SAMPLES) refl
   where
     by_test : (b : Bool) → ltb n SAMPLES ≡ b
-        → AllByRecursion FitsEdit (cond b (add_edit n left ∷ add_edit (n + 1) right ∷ One (Points n (SetKind (kind.Left (n + 1)))) ∷ []) (add_edit n left ∷ []))
+        → AllByRecursion FitsEdit
+        (cond b (add_edit n left ∷ add_edit (n + 1) right ∷ One (Points n (SetKind (kind.Left (n + 1)))) ∷ [])
+        (add_edit n left ∷ []))
     by_test true e =
         let lt = ltb-true n SAMPLES e in
         ((omega (arith, most), l), ((omega (arith, most), r), ((omega (arith, most), omega (arith, lt)), tt)))
     by_test false e = ((omega (arith, most), l), tt)
 
-name_fits : (name side : List ℕ) → AreBytes name → length side ≡ 2 → AllByRecursion IsTextByte side → IsName (side_name name side)
+name_fits : (name side : List ℕ) → AreBytes name → length side ≡ 2 → AllByRecursion IsTextByte side
+    → IsName (side_name name side)
 name_fits name side b two s = side_named (before_zero (take 18 name)) side (cut_text 18 name b) two s
 
-channels_edits_fit : (n : ℕ) (name : List ℕ) (rate : ℕ) (sampler : Sampler) (ch : Channels) → n ≤ SAMPLES → AreBytes name → rate < 2 ^ 32 → FitsSampler sampler → FitChannels ch
+channels_edits_fit : (n : ℕ) (name : List ℕ) (rate : ℕ) (sampler : Sampler) (ch : Channels) → n ≤ SAMPLES
+    → AreBytes name → rate < 2 ^ 32 → FitsSampler sampler → FitChannels ch
     → AllByRecursion FitsEdit (channel_edits n name rate sampler ch)
-channels_edits_fit n name rate sampler (Mono points) most b r s p =
-    ((omega (arith, most), sample_fits rate sampler (mono_name name) points kind.Mono r s (cut_text 20 name b) p tt), tt)
+channels_edits_fit n name rate sampler (Mono points) most b r s p = (
+  (omega (arith, most), sample_fits rate sampler (mono_name name) points kind.Mono r s (cut_text 20 name b) p tt),
+  tt,
+)
 channels_edits_fit n name rate sampler (Stereo frames) most b r s p =
     let left = name_fits name (codes " L") b refl ((omega arith, omega arith), ((omega arith, omega arith), tt)) in
     let right = name_fits name (codes " R") b refl ((omega arith, omega arith), ((omega arith, omega arith), tt)) in
     pair_fits n _ _ most
     (sample_fits rate sampler (side_name name (codes " L")) (left_points frames) kind.Mono r s left p.0 tt)
-    (sample_fits rate sampler (side_name name (codes " R")) (right_points frames) (kind.Right n) r s right p.1 (omega (arith, most)))
+    (sample_fits rate sampler (side_name name (codes " R")) (right_points frames) (kind.Right n) r s right p.1
+    (omega (arith, most)))
 
-pub imports_fit : (n : ℕ) (name : List ℕ) (r : Recording) → n ≤ SAMPLES → AreBytes name → FitsRecording r → AllByRecursion FitsEdit (import_edits n name r)
+pub imports_fit : (n : ℕ) (name : List ℕ) (r : Recording) → n ≤ SAMPLES → AreBytes name → FitsRecording r
+    → AllByRecursion FitsEdit (import_edits n name r)
 unfolding import_edits
 imports_fit n name r most b f = channels_edits_fit n name r.rate r.sampler r.channels most b f.rate f.sampler f.channels

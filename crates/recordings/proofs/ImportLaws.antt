@@ -1,5 +1,7 @@
 -- The names of imported samples, and what is there.
-use Rattle.std.proofs.Common.{◌≡◌, ◌≤◌, ◌<◌, ◌↔◌, ◌+◌, ◌*◌, ◌%◌, ℕ, Bool, true, false, cond, ltb, zero, suc, List, [], ◌∷◌, ◌++◌, length, take, drop, get_or, Fits, w8, Option, Some, None, MatchOption, IsSome, Result, Ok, Err, refl, ap, arith}
+use Rattle.std.proofs.Common.{◌≡◌, ◌≤◌, ◌<◌, ◌↔◌, ◌+◌, ◌*◌, ◌%◌, ℕ, Bool, true, false, cond, ltb, zero, suc, List}
+use Rattle.std.proofs.Common.{[], ◌∷◌, ◌++◌, length, take, drop, get_or, Fits, w8, Option, Some, None, MatchOption}
+use Rattle.std.proofs.Common.{IsSome, Result, Ok, Err, refl, ap, arith}
 use Rattle.std.specs.List.{AllByRecursion, Contains}
 use Rattle.std.specs.Result.{IsOk}
 use Rattle.std.proofs.lemmas.List.{length-append, length-take, length-drop, get_or_default}
@@ -20,7 +22,9 @@ use Rattle.bank_format.proofs.ReadBytes.{take_bytes, in_turn}
 
 -- what a slice of `u8` says of its elements
 pub are_bytes : (xs : List ℕ) → ((i : ℕ) → Fits w8 (get_or xs i 0)) → AreBytes xs
-are_bytes xs fits = λ k d lt. let here = fits k in let small : get_or xs k 0 < 256 = omega (arith, here) in rw (get_or_default xs k d 0 lt) small
+are_bytes xs fits =
+    λ k d lt. let here =
+    fits k in let small : get_or xs k 0 < 256 = omega (arith, here) in rw (get_or_default xs k d 0 lt) small
 
 -- what is not missing is there
 pub is_there : {X P : Type 0} (Q : X → Type 0) (o : Option X) → MatchOption o P Q → (P → ⊥) → IsSome o
@@ -28,7 +32,8 @@ is_there Q None h none = absurd (none h)
 is_there Q (Some x) h none = refl
 
 -- the loops of a sampler chunk that has them are whole
-pub loops_whole : (s loops : List ℕ) (n m : ℕ) → n ≡ m → 36 + 24 * m ≤ length s → loops ≡ take (24 * n) (drop 36 s) → length loops % 24 ≡ 0
+pub loops_whole : (s loops : List ℕ) (n m : ℕ) → n ≡ m → 36 + 24 * m ≤ length s → loops ≡ take (24 * n) (drop 36 s)
+    → length loops % 24 ≡ 0
 loops_whole s loops n m e h is =
     let l = ap length is in
     let a = length-take (24 * n) (drop 36 s) in
@@ -46,7 +51,8 @@ no_zero_at (b ∷ text) (suc k) h lt e = no_zero_at text k h.1 (omega (arith, lt
 pub name_ok : (text : List ℕ) (r : Result (List ℕ) NameFault) → IsName text → ((r ≡ Err TooLong) ↔ (20 < length text))
     → ((r ≡ Err ZeroByte) ↔ ((length text ≤ 20) × Contains text 0)) → IsOk r
 name_ok text (Ok name) named long none = refl
-name_ok text (Err TooLong) named long none = absurd (let h = long.0 refl in let short = named.0 in omega (arith, short, h))
+name_ok text (Err TooLong) named long none =
+    absurd (let h = long.0 refl in let short = named.0 in omega (arith, short, h))
 name_ok text (Err ZeroByte) named long none = let z = (none.0 refl).1 in absurd (no_zero_at text z.0 named.1 z.1 z.2)
 
 -- what stands before the first zero of the first n bytes
@@ -56,7 +62,8 @@ cut_text n bytes b =
     let t = length-take n bytes in
     (omega (arith, l, t), before_zero-bytes (take n bytes) (in_turn (take n bytes) (take_bytes n bytes b)))
 
-pub side_named : (own side : List ℕ) → IsText 18 own → length side ≡ 2 → AllByRecursion IsTextByte side → IsName (own ++ side)
+pub side_named : (own side : List ℕ) → IsText 18 own → length side ≡ 2 → AllByRecursion IsTextByte side
+    → IsName (own ++ side)
 side_named own side o two s =
     let l = length-append own side in
     let short = o.0 in
@@ -71,7 +78,8 @@ few_of : (test : Bool) (x y z : Edit) → length (cond test (x ∷ y ∷ z ∷ [
 few_of true x y z = omega arith
 few_of false x y z = omega arith
 
-few_of_channels : (n : ℕ) (name : List ℕ) (rate : ℕ) (sampler : Sampler) (channels : Channels) → length (channel_edits n name rate sampler channels) ≤ 3
+few_of_channels : (n : ℕ) (name : List ℕ) (rate : ℕ) (sampler : Sampler) (channels : Channels)
+    → length (channel_edits n name rate sampler channels) ≤ 3
 few_of_channels n name rate sampler (Mono points) = omega arith
 few_of_channels n name rate sampler (Stereo frames) = few_of (ltb n SAMPLES) _ _ _
 

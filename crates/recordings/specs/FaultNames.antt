@@ -1,7 +1,9 @@
 -- The number and the name by which each fault of a WAVE file is told.
 use Rattle.std.specs.Prelude.{ℕ, List, codes}
 use Rattle.recordings.specs.declared.fault.WaveFault.{WaveFault}
-use Rattle.recordings.specs.declared.fault.WaveFault.TheVariants.{NotWave, Truncated, Compressed, NoFormat, SampleBits, ChannelCount, NoData, HalfFrame, ShortSampler, UnityNote, LoopOutside}
+use Rattle.recordings.specs.declared.fault.WaveFault.TheVariants.{NotWave, Truncated, Compressed, NoFormat}
+use Rattle.recordings.specs.declared.fault.WaveFault.TheVariants.{SampleBits, ChannelCount, NoData, HalfFrame}
+use Rattle.recordings.specs.declared.fault.WaveFault.TheVariants.{ShortSampler, UnityNote, LoopOutside}
 
 abbrev pub number_of : WaveFault → ℕ
 number_of NotWave = 53

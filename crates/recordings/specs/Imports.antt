@@ -60,16 +60,18 @@ sample_of rate sampler name points kind = record {
 abbrev pub add_edit : ℕ → Sample → Edit
 add_edit at sample = One (steps.Sample (AddSample at sample))
 
--- Two samples come as samples n and n + 1, and the first is linked with the second. A full bank refuses the first edit, and
--- the others can't be said of it.
+-- Two samples come as samples n and n + 1, and the first is linked with the second. A full bank refuses the first
+-- edit, and the others can't be said of it.
 abbrev pub pair_edits : ℕ → Sample → Sample → List Edit
 pair_edits n left right =
-    if nat_lt n SAMPLES then add_edit n left ∷ add_edit (n + 1) right ∷ One (steps.Points n (SetKind (kind.Left (n + 1)))) ∷ []
+    if nat_lt n SAMPLES then add_edit n left ∷ add_edit (n + 1) right
+    ∷ One (steps.Points n (SetKind (kind.Left (n + 1)))) ∷ []
     else add_edit n left ∷ []
 
 -- one channel comes as one sample, and two as a left and a right one
 abbrev pub channel_edits : ℕ → List ℕ → ℕ → Sampler → Channels → List Edit
-channel_edits n name rate sampler (Mono points) = add_edit n (sample_of rate sampler (mono_name name) points kind.Mono) ∷ []
+channel_edits n name rate sampler (Mono points) =
+    add_edit n (sample_of rate sampler (mono_name name) points kind.Mono) ∷ []
 channel_edits n name rate sampler (Stereo frames) =
     pair_edits n
     (sample_of rate sampler (side_name name (codes " L")) (left_points frames) kind.Mono)

@@ -19,4 +19,6 @@ recorded s = record {
 
 -- The WAVE file of a sample that a bank can have reads as that sample.
 abbrev pub WavesReadBack : Type 0
-WavesReadBack = (s : Sample) → FitsSample s → IsLoop (length s.points) s.looped → length s.points ≤ POINTS → recording_in (sample_wave s) ≡ Ok (recorded s)
+WavesReadBack =
+    (s : Sample) → FitsSample s → IsLoop (length s.points) s.looped → length s.points ≤ POINTS
+    → recording_in (sample_wave s) ≡ Ok (recorded s)

@@ -1,5 +1,6 @@
 -- The steps of reading a WAVE file, in their order. The first that a file breaks gives its fault.
-use Rattle.std.specs.Prelude.{◌+◌, ◌-◌, ◌*◌, ◌%◌, ◌^◌, ◌==◌, ◌&&◌, ◌||◌, ℕ, Bool, min, nat_le, nat_lt, List, [], ◌∷◌, ◌++◌, length, Option, Some, None, is_some, unwrap_or, Result, Ok, Err}
+use Rattle.std.specs.Prelude.{◌+◌, ◌-◌, ◌*◌, ◌%◌, ◌^◌, ◌==◌, ◌&&◌, ◌||◌, ℕ, Bool, min, nat_le, nat_lt, List, [], ◌∷◌}
+use Rattle.std.specs.Prelude.{◌++◌, length, Option, Some, None, is_some, unwrap_or, Result, Ok, Err}
 use Rattle.riff_chunks.specs.Walk.{Chunk, walk}
 use Rattle.riff_chunks.specs.Finding.{chunks_in, is_whole, first_body}
 use Rattle.bank_format.specs.Chunks.{window, body_in}
@@ -12,7 +13,9 @@ use Rattle.recordings.specs.declared.recording.Layout.{Layout}
 use Rattle.recordings.specs.declared.recording.Recording.{Recording}
 use Rattle.bank_format.specs.Steps.{Step, step, first_broken}
 use Rattle.bank_format.specs.ReadSteps.{form_steps}
-use Rattle.recordings.specs.Recordings.{channel_count_in, bits_in, is_plain, layout_in, format_in, frame_size, channels_in, frame_count, loop_count_in, forward_loop, unity_note_in, sampler_in}
+use Rattle.recordings.specs.Recordings.{channel_count_in, bits_in, is_plain, layout_in, format_in, frame_size}
+use Rattle.recordings.specs.Recordings.{channels_in, frame_count, loop_count_in, forward_loop, unity_note_in}
+use Rattle.recordings.specs.Recordings.{sampler_in}
 
 -- ---- the RIFF chunk, whose form is WAVE
 

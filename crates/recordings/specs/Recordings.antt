@@ -1,5 +1,6 @@
 -- What the chunks of a WAVE file say.
-use Rattle.std.specs.Prelude.{◌+◌, ◌-◌, ◌*◌, ◌/◌, ◌^◌, ◌==◌, ◌&&◌, ◌||◌, if◌then◌else◌, ℕ, pos, neg_ℤ, Bool, nat_le, List, [], ◌∷◌, length, take, drop, find, slice_index, bytes_eq, Option, Some, None}
+use Rattle.std.specs.Prelude.{◌+◌, ◌-◌, ◌*◌, ◌/◌, ◌^◌, ◌==◌, ◌&&◌, ◌||◌, if◌then◌else◌, ℕ, pos, neg_ℤ, Bool, nat_le}
+use Rattle.std.specs.Prelude.{List, [], ◌∷◌, length, take, drop, find, slice_index, bytes_eq, Option, Some, None}
 use Rattle.std.specs.Option.{option_map}
 use Rattle.std.specs.Int.{w8, cast_signed}
 use Rattle.sf_base.specs.Fields.{field_at}
@@ -104,7 +105,8 @@ is_held s p =
     && (unity_note_in s == unity_note p.key p.correction && fraction_in s == pitch_fraction p.key p.correction)
 
 abbrev pub held_in : List ℕ → Option Pitch
-held_in s = if length (data_in s) == 8 && is_held s (pitch_held (data_in s)) then Some (pitch_held (data_in s)) else None
+held_in s =
+    if length (data_in s) == 8 && is_held s (pitch_held (data_in s)) then Some (pitch_held (data_in s)) else None
 
 -- the cents above the unity note, to the nearest
 abbrev pub cents_in : List ℕ → ℕ

@@ -1,5 +1,6 @@
 -- Chunks that were spelled are found again.
-use Rattle.std.proofs.Common.{◌≡◌, ◌≤◌, ◌<◌, ◌+◌, ◌%◌, ◌^◌, ℕ, true, false, eqb, List, [], ◌∷◌, ◌++◌, length, take, drop, map, Ok, refl, sym, ap, ◌∙◌, append_assoc, arith, inl, inr}
+use Rattle.std.proofs.Common.{◌≡◌, ◌≤◌, ◌<◌, ◌+◌, ◌%◌, ◌^◌, ℕ, true, false, eqb, List, [], ◌∷◌, ◌++◌, length, take}
+use Rattle.std.proofs.Common.{drop, map, Ok, refl, sym, ap, ◌∙◌, append_assoc, arith, inl, inr}
 use Rattle.std.specs.List.{AllByRecursion}
 use Rattle.std.proofs.lemmas.Bool.{cases_eq, eq-eqb, ne_eqb}
 use Rattle.std.proofs.lemmas.List.{length-append, take_at, drop_at, drop-drop, take_all, drop_all, append-nil}
@@ -43,40 +44,57 @@ id_first : (id : List ℕ) (size : ℕ) (tail : List ℕ) → chunk_head id size
 unfolding chunk_head
 id_first id size tail = append_assoc id (little_bytes 4 size) tail
 
-pub chunk_head-Headed : (id : List ℕ) (size : ℕ) (tail : List ℕ) → length id ≡ 4 → size < 2 ^ 32 → Headed (chunk_head id size ++ tail) id size tail
+pub chunk_head-Headed : (id : List ℕ) (size : ℕ) (tail : List ℕ) → length id ≡ 4 → size < 2 ^ 32
+    → Headed (chunk_head id size ++ tail) id size tail
 chunk_head-Headed id size tail e lt = record {
   whole = omega (arith, length-append (chunk_head id size) tail, length-chunk_head id size e);
-  sized = sym (ap (little_number 4) (ap (drop 4) (id_first id size tail) ∙ drop_at id (little_bytes 4 size ++ tail) 4 e) ∙ little_number-reads_back 4 size tail lt);
+  sized =
+      sym
+      (ap (little_number 4) (ap (drop 4) (id_first id size tail) ∙ drop_at id (little_bytes 4 size ++ tail) 4 e)
+      ∙ little_number-reads_back 4 size tail lt);
   named = sym (ap (take 4) (id_first id size tail) ∙ take_at id (little_bytes 4 size ++ tail) 4 e);
   rest = drop_at (chunk_head id size) tail 8 (length-chunk_head id size e);
 }
 
 -- the body that fits is the first item
-Headed-found : (w id : List ℕ) (size : ℕ) (tail : List ℕ) → Headed w id size tail → BodyFits w → walk w ≡ Ok (record { id = id; body = take size tail }) ∷ walk (drop (size + size % 2) tail)
+Headed-found : (w id : List ℕ) (size : ℕ) (tail : List ℕ) → Headed w id size tail → BodyFits w
+    → walk w ≡ Ok (record { id = id; body = take size tail }) ∷ walk (drop (size + size % 2) tail)
 Headed-found w id size tail h f =
     let whole = h.whole in
-    walk-next w size id (take size tail) (drop (size + size % 2) tail) (omega (arith, whole)) (body_fits-true w f) h.sized h.named
+    walk-next w size id (take size tail) (drop (size + size % 2) tail) (omega (arith, whole)) (body_fits-true w f)
+    h.sized h.named
     (ap (take size) (sym h.rest))
-    (ap (drop (size + size % 2)) (sym h.rest) ∙ drop-drop (size + size % 2) 8 w ∙ ap (λ (k : ℕ). drop k w) (omega arith))
+    (ap (drop (size + size % 2)) (sym h.rest) ∙ drop-drop (size + size % 2) 8 w
+    ∙ ap (λ (k : ℕ). drop k w) (omega arith))
 
 -- ---- chunks in a row
 
-pub walk-chunk : (id body rest : List ℕ) → length id ≡ 4 → length body < 2 ^ 32 → walk (chunk id body ++ rest) ≡ Ok (record { id = id; body = body }) ∷ walk rest
+pub walk-chunk : (id body rest : List ℕ) → length id ≡ 4 → length body < 2 ^ 32
+    → walk (chunk id body ++ rest) ≡ Ok (record { id = id; body = body }) ∷ walk rest
 walk-chunk id body rest e lt =
     let n = length body in
     let tail = body ++ (pad n ++ rest) in
     let w = chunk_head id n ++ tail in
-    let grouped : chunk id body ++ rest ≡ w = append_assoc (chunk_head id n) (body ++ pad n) rest ∙ ap (λ (t : List ℕ). chunk_head id n ++ t) (append_assoc body (pad n) rest) in
+    let grouped : chunk id body ++ rest ≡ w =
+    append_assoc (chunk_head id n) (body ++ pad n) rest
+    ∙ ap (λ (t : List ℕ). chunk_head id n ++ t) (append_assoc body (pad n) rest) in
     let headed = chunk_head-Headed id n tail e lt in
-    let inside : 8 + size_at w ≤ length w = (let whole = headed.whole in let sized = headed.sized in omega (arith, whole, sized, length-append body (pad n ++ rest))) in
+    let inside : 8 + size_at w ≤ length w =
+    (let whole =
+    headed.whole in let sized =
+    headed.sized in omega (arith, whole, sized, length-append body (pad n ++ rest)))
+    in
     let next : drop (n + n % 2) tail ≡ rest =
-    ap (drop (n + n % 2)) (sym (append_assoc body (pad n) rest)) ∙ drop_at (body ++ pad n) rest (n + n % 2) (omega (arith, length-append body (pad n), length-pad n)) in
+    ap (drop (n + n % 2)) (sym (append_assoc body (pad n) rest))
+    ∙ drop_at (body ++ pad n) rest (n + n % 2) (omega (arith, length-append body (pad n), length-pad n)) in
     ap walk grouped
     ∙ Headed-found w id n tail headed (inl inside)
-    ∙ ap (λ (b : List ℕ). Ok (record { id = id; body = b }) ∷ walk (drop (n + n % 2) tail)) (take_at body (pad n ++ rest) n refl)
+    ∙ ap (λ (b : List ℕ). Ok (record { id = id; body = b }) ∷ walk (drop (n + n % 2) tail))
+    (take_at body (pad n ++ rest) n refl)
     ∙ ap (λ (r : List ℕ). Ok (record { id = id; body = body }) ∷ walk r) next
 
-pub walk-spell-append : (cs : List Chunk) (rest : List ℕ) → AllByRecursion FitsChunk cs → walk (spell cs ++ rest) ≡ map Ok cs ++ walk rest
+pub walk-spell-append : (cs : List Chunk) (rest : List ℕ) → AllByRecursion FitsChunk cs
+    → walk (spell cs ++ rest) ≡ map Ok cs ++ walk rest
 walk-spell-append [] rest v = refl
 walk-spell-append (c ∷ cs) rest v =
     ap walk (append_assoc (chunk c.id c.body) (spell cs) rest)
@@ -108,10 +126,12 @@ is_whole-spell cs v = ap is_whole (walk-spell cs v) ∙ is_whole-all cs
 -- ---- a last chunk that lacks its pad byte
 
 -- the body goes to the end of the window, or would pass it by one byte
-last-found : (id body : List ℕ) (size : ℕ) → length id ≡ 4 → size < 2 ^ 32 → length body ≤ size → BodyFits (chunk_head id size ++ body) → walk_headed id size body ≡ Ok (record { id = id; body = body }) ∷ []
+last-found : (id body : List ℕ) (size : ℕ) → length id ≡ 4 → size < 2 ^ 32 → length body ≤ size
+    → BodyFits (chunk_head id size ++ body) → walk_headed id size body ≡ Ok (record { id = id; body = body }) ∷ []
 last-found id body size e lt le f =
     Headed-found (chunk_head id size ++ body) id size body (chunk_head-Headed id size body e lt) f
-    ∙ ap (λ (b : List ℕ). Ok (record { id = id; body = b }) ∷ walk (drop (size + size % 2) body)) (take_all size body le)
+    ∙ ap (λ (b : List ℕ). Ok (record { id = id; body = b }) ∷ walk (drop (size + size % 2) body))
+    (take_all size body le)
     ∙ ap (λ (r : List ℕ). Ok (record { id = id; body = body }) ∷ walk r) (drop_all (size + size % 2) body (omega arith))
     ∙ ap (λ (items : List Item). Ok (record { id = id; body = body }) ∷ items) (walk-short [] (omega arith))
 
@@ -120,9 +140,11 @@ unpadded id body e lt =
     let n = length body in
     let exact = chunk_head-Headed id n body e (omega arith) in
     let short = chunk_head-Headed id (n + 1) body e lt in
-    let fits_whole : 8 + size_at (chunk_head id n ++ body) ≤ length (chunk_head id n ++ body) = (let whole = exact.whole in let sized = exact.sized in omega (arith, whole, sized)) in
+    let fits_whole : 8 + size_at (chunk_head id n ++ body) ≤ length (chunk_head id n ++ body) =
+    (let whole = exact.whole in let sized = exact.sized in omega (arith, whole, sized)) in
     let w = chunk_head id (n + 1) ++ body in
-    let one_past : 8 + size_at w ≡ length w + 1 = (let whole = short.whole in let sized = short.sized in omega (arith, whole, sized)) in (
+    let one_past : 8 + size_at w ≡ length w + 1 =
+    (let whole = short.whole in let sized = short.sized in omega (arith, whole, sized)) in (
       last-found id body n e (omega arith) (omega arith) (inl fits_whole),
       (λ list. last-found id body (n + 1) e lt (omega arith) (inr (sym short.named ∙ list, one_past))),
       (λ other. walk-cut w (let whole = short.whole in omega (arith, whole)) (body_fits-false w (λ f. elim f [

@@ -1,15 +1,19 @@
 -- How a walk goes on, and that it is the one list of items of its window.
-use Rattle.std.proofs.Common.{◌≡◌, ◌≤◌, ◌<◌, ◌+◌, ◌%◌, ◌↔◌, ◌⊎◌, ℕ, zero, suc, true, false, ltb, List, [], ◌∷◌, length, take, drop, Ok, Err, refl, sym, ap, subst, ◌∙◌, arith, inl, inr}
-use Rattle.std.proofs.lemmas.Bool.{cases_lt, cases_Bool, le-ltb, lt-ltb, le-leb, leb-true, both_ways, false_from_ne_true, cond-true, cond-false}
+use Rattle.std.proofs.Common.{◌≡◌, ◌≤◌, ◌<◌, ◌+◌, ◌%◌, ◌↔◌, ◌⊎◌, ℕ, zero, suc, true, false, ltb, List, [], ◌∷◌}
+use Rattle.std.proofs.Common.{length, take, drop, Ok, Err, refl, sym, ap, subst, ◌∙◌, arith, inl, inr}
+use Rattle.std.proofs.lemmas.Bool.{cases_lt, cases_Bool, le-ltb, lt-ltb, le-leb, leb-true, both_ways}
+use Rattle.std.proofs.lemmas.Bool.{false_from_ne_true, cond-true, cond-false}
 use Rattle.std.proofs.lemmas.List.{length-drop}
 use Rattle.std.proofs.lemmas.Slice.Eq.{bytes_eq-Decides}
 use Rattle.std.specs.Str.{bytes_eq}
-use Rattle.riff_chunks.specs.Walk.{Chunk, truncated, Item, LIST, size_at, chunk_at, after, BodyFits, Walks, end_of, body_fits, walk_for, walk}
+use Rattle.riff_chunks.specs.Walk.{Chunk, truncated, Item, LIST, size_at, chunk_at, after, BodyFits, Walks, end_of}
+use Rattle.riff_chunks.specs.Walk.{body_fits, walk_for, walk}
 
 -- ---- the test of a body says whether it fits
 
 end_of-list : (w : List ℕ) → take 4 w ≡ LIST → end_of w ≡ length w + 1
-end_of-list w e = cond-true (bytes_eq (take 4 w) LIST) (length w + 1) (length w) ((bytes_eq-Decides (take 4 w) LIST).1 e)
+end_of-list w e =
+    cond-true (bytes_eq (take 4 w) LIST) (length w + 1) (length w) ((bytes_eq-Decides (take 4 w) LIST).1 e)
 
 -- a list at the front, or another chunk
 cases_list : (w : List ℕ) → ((take 4 w ≡ LIST) × (end_of w ≡ length w + 1)) ⊎ (end_of w ≡ length w)
@@ -52,7 +56,8 @@ unfolding walk_for
 short_once zero w short = refl
 short_once (suc n) w short = let e : ltb (length w) 8 ≡ true = lt-ltb _ _ short in rw e refl
 
-chunk_once : (n : ℕ) (w : List ℕ) → 8 ≤ length w → body_fits w ≡ true → walk_for (suc n) w ≡ Ok (chunk_at w) ∷ walk_for n (after w)
+chunk_once : (n : ℕ) (w : List ℕ) → 8 ≤ length w → body_fits w ≡ true
+    → walk_for (suc n) w ≡ Ok (chunk_at w) ∷ walk_for n (after w)
 unfolding walk_for
 chunk_once n w long f = let e : ltb (length w) 8 ≡ false = le-ltb _ _ long in rw (e, f) refl
 
@@ -70,7 +75,8 @@ walk_for-enough (suc n) (suc m) w p q =
       | inr long ↦ elim (cases_Bool (body_fits w)) [
         | inl f ↦ (let less = after-shorter w long in
             chunk_once n w long f
-            ∙ ap (λ (items : List Item). Ok (chunk_at w) ∷ items) (walk_for-enough n m (after w) (omega arith) (omega arith))
+            ∙ ap (λ (items : List Item). Ok (chunk_at w) ∷ items)
+            (walk_for-enough n m (after w) (omega arith) (omega arith))
             ∙ sym (chunk_once m w long f))
         | inr f ↦ cut_once n w long f ∙ sym (cut_once m w long f)
       ]
@@ -87,14 +93,18 @@ unfolding walk
 walk-chunk_at w long f =
     walk_for-enough (length w) (suc (length w)) w (omega arith) (omega arith)
     ∙ chunk_once (length w) w long f
-    ∙ ap (λ (items : List Item). Ok (chunk_at w) ∷ items) (walk_for-enough (length w) (length (after w)) (after w) (let less = after-shorter w long in omega arith) (omega arith))
+    ∙ ap (λ (items : List Item). Ok (chunk_at w) ∷ items)
+    (walk_for-enough (length w) (length (after w)) (after w) (let less = after-shorter w long in omega arith)
+    (omega arith))
 
 pub walk-cut : (w : List ℕ) → 8 ≤ length w → body_fits w ≡ false → walk w ≡ Err truncated ∷ []
 unfolding walk
-walk-cut w long f = walk_for-enough (length w) (suc (length w)) w (omega arith) (omega arith) ∙ cut_once (length w) w long f
+walk-cut w long f =
+    walk_for-enough (length w) (suc (length w)) w (omega arith) (omega arith) ∙ cut_once (length w) w long f
 
 -- the chunk as the code cuts it out
-pub walk-next : (w : List ℕ) (size : ℕ) (id body rest : List ℕ) → 8 ≤ length w → body_fits w ≡ true → size ≡ size_at w → id ≡ take 4 w → body ≡ take size (drop 8 w) → rest ≡ drop (8 + size + size % 2) w
+pub walk-next : (w : List ℕ) (size : ℕ) (id body rest : List ℕ) → 8 ≤ length w → body_fits w ≡ true
+    → size ≡ size_at w → id ≡ take 4 w → body ≡ take size (drop 8 w) → rest ≡ drop (8 + size + size % 2) w
     → walk w ≡ Ok (record { id = id; body = body }) ∷ walk rest
 walk-next w size id body rest long f e i b r = rw (r, b, i, e) (walk-chunk_at w long f)
 
@@ -111,13 +121,15 @@ Walks-one w (Err t ∷ items) (long, passes, e) =
 
 -- which items a window has, by what stands at its front
 Walks-walk_for : (n : ℕ) (w : List ℕ) → length w ≤ n → Walks w (walk_for n w)
-Walks-walk_for zero w le = let short : length w < 8 = omega arith in subst (Walks w) (sym (short_once zero w short)) short
+Walks-walk_for zero w le =
+    let short : length w < 8 = omega arith in subst (Walks w) (sym (short_once zero w short)) short
 Walks-walk_for (suc n) w le =
     elim (cases_lt (length w) 8) [
       | inl short ↦ subst (Walks w) (sym (short_once (suc n) w short)) short
       | inr long ↦ elim (cases_Bool (body_fits w)) [
         | inl f ↦ (let less = after-shorter w long in
-            subst (Walks w) (sym (chunk_once n w long f)) (long, BodyFits-true w f, refl, Walks-walk_for n (after w) (omega arith)))
+            subst (Walks w) (sym (chunk_once n w long f))
+            (long, BodyFits-true w f, refl, Walks-walk_for n (after w) (omega arith)))
         | inr passes ↦ subst (Walks w) (sym (cut_once n w long passes)) (long, BodyFits-false w passes, refl)
       ]
     ]

@@ -1,5 +1,6 @@
 -- What is looked for among the chunks of a window.
-use Rattle.std.specs.Prelude.{ℕ, List, [], ◌∷◌, length, take, drop, find, Option, option_map, Ok, Err, is_ok, Bool, nat_le, ◌&&◌, bytes_eq}
+use Rattle.std.specs.Prelude.{ℕ, List, [], ◌∷◌, length, take, drop, find, Option, option_map, Ok, Err, is_ok, Bool}
+use Rattle.std.specs.Prelude.{nat_le, ◌&&◌, bytes_eq}
 use Rattle.std.specs.List.{list_all}
 use Rattle.riff_chunks.specs.Walk.{Chunk, Item, LIST}
 

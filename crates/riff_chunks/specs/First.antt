@@ -28,8 +28,10 @@ AreFirst ids bodies chunks = AtEachPlace ids (λ id place. kept_at bodies place 
 
 -- what is kept of each id, or else the body of its first chunk of those that follow, is that of all
 abbrev pub AreFirstSoFar : List (List ℕ) → Kept → List Chunk → List Chunk → Type 0
-AreFirstSoFar ids bodies rest all = AtEachPlace ids (λ id place. option_or (kept_at bodies place) (first_body id rest) ≡ first_body id all)
+AreFirstSoFar ids bodies rest all =
+    AtEachPlace ids (λ id place. option_or (kept_at bodies place) (first_body id rest) ≡ first_body id all)
 
 -- a chunk is kept where it is the first of its id
 abbrev pub Takes : List (List ℕ) → Kept → Kept → Chunk → Type 0
-Takes ids old new c = AtEachPlace ids (λ id place. kept_at new place ≡ option_or (kept_at old place) (first_body id (c ∷ [])))
+Takes ids old new c =
+    AtEachPlace ids (λ id place. kept_at new place ≡ option_or (kept_at old place) (first_body id (c ∷ [])))

@@ -11,11 +11,15 @@ WalkIsTheOne = (w : List ℕ) (items : List Item) → Walks w items ↔ (items �
 
 -- Chunks that were spelled are the first that a window gives, whatever follows them.
 abbrev pub SpelledAreFound : Type 0
-SpelledAreFound = (cs : List Chunk) (rest : List ℕ) → AllByRecursion FitsChunk cs → walk (spell cs ++ rest) ≡ map Ok cs ++ walk rest
+SpelledAreFound =
+    (cs : List Chunk) (rest : List ℕ) → AllByRecursion FitsChunk cs
+    → walk (spell cs ++ rest) ≡ map Ok cs ++ walk rest
 
 -- A window that spells chunks holds them and nothing else.
 abbrev pub SpelledReadBack : Type 0
-SpelledReadBack = (cs : List Chunk) → AllByRecursion FitsChunk cs → (chunks_in (walk (spell cs)) ≡ cs) × (is_whole (walk (spell cs)) ≡ true)
+SpelledReadBack =
+    (cs : List Chunk) → AllByRecursion FitsChunk cs
+    → (chunks_in (walk (spell cs)) ≡ cs) × (is_whole (walk (spell cs)) ≡ true)
 
 -- the items of a window that holds an id, a size, and after them this body alone
 abbrev pub walk_headed : List ℕ → ℕ → List ℕ → List Item

@@ -1,5 +1,6 @@
 -- A part of the points, taken slice by slice.
-use Rattle.std.proofs.Common.{◌≡◌, ℕ, zero, suc, ◌+◌, ◌/◌, ◌<◌, ◌≤◌, ◌-◌, min, List, [], ◌∷◌, ◌++◌, length, get_or, take, drop, refl, ap, sym, ◌∙◌, arith, length-append, length-take, length-drop}
+use Rattle.std.proofs.Common.{◌≡◌, ℕ, zero, suc, ◌+◌, ◌/◌, ◌<◌, ◌≤◌, ◌-◌, min, List, [], ◌∷◌, ◌++◌, length, get_or}
+use Rattle.std.proofs.Common.{take, drop, refl, ap, sym, ◌∙◌, arith, length-append, length-take, length-drop}
 use Rattle.std.specs.Prelude.{slice_range}
 use Rattle.std.specs.Borrow.{Bor}
 use Rattle.std.proofs.lemmas.List.{take_min, drop_min, drop-drop, take-append-drop, append_assoc}
@@ -26,7 +27,8 @@ three_ranges xs first middle last i j n h e f m l =
 drop-append : (n : ℕ) (xs ys : List ℕ) → drop n (xs ++ ys) ≡ drop n xs ++ drop (n - length xs) ys
 drop-append zero xs ys = let z : 0 - length xs ≡ 0 = omega arith in rw z refl
 drop-append (suc n) [] ys = let z : suc n - 0 ≡ suc n = omega arith in rw z refl
-drop-append (suc n) (x ∷ xs) ys = let z : suc n - suc (length xs) ≡ n - length xs = omega arith in rw z (drop-append n xs ys)
+drop-append (suc n) (x ∷ xs) ys =
+    let z : suc n - suc (length xs) ≡ n - length xs = omega arith in rw z (drop-append n xs ys)
 
 -- a front of two lists
 take-append : (n : ℕ) (xs ys : List ℕ) → take n (xs ++ ys) ≡ take n xs ++ take (n - length xs) ys
@@ -40,9 +42,11 @@ window : (ys : List ℕ) (skip left start room : ℕ) → start ≡ min skip (le
     → take room (drop start ys) ≡ take left (drop skip ys)
 window ys skip left start room s r =
     let e : room ≡ min left (length (drop start ys)) = omega (arith, length-drop start ys) in
-    ap (λ n. take n (drop start ys)) e ∙ take_min left (drop start ys) ∙ ap (λ l. take left l) (ap (λ n. drop n ys) s ∙ drop_min skip ys)
+    ap (λ n. take n (drop start ys)) e ∙ take_min left (drop start ys)
+    ∙ ap (λ l. take left l) (ap (λ n. drop n ys) s ∙ drop_min skip ys)
 
--- the first n numbers after some others, as far as a list was seen: what was made, how many to skip yet, how many are left
+-- the first n numbers after some others, as far as a list was seen: what was made, how many to skip yet, how many
+-- are left
 pub record CutSoFar (seen made : List ℕ) (from n skip left : ℕ) : Type 0 where
   pub made_is : made ≡ take n (drop from seen)
   pub skip_is : skip ≡ from - length seen
@@ -62,8 +66,11 @@ CutSoFar-more seen made ys piece made' from n skip left start room so s r p e =
     rw (made_length, ← skip_is) (p ∙ window ys skip left start room s r) in
     let whole : made' ≡ take n (drop from (seen ++ ys)) =
     e ∙ ap (λ t. t ++ piece) so.made_is ∙ ap (λ t. take n (drop from seen) ++ t) piece_is
-    ∙ sym (ap (λ l. take n l) (drop-append from seen ys) ∙ take-append n (drop from seen) (drop (from - length seen) ys)) in
-    let piece_length : length piece ≡ room = omega (arith, ap length p, length-take room (drop start ys), length-drop start ys) in
+    ∙ sym
+    (ap (λ l. take n l) (drop-append from seen ys) ∙ take-append n (drop from seen) (drop (from - length seen) ys))
+    in
+    let piece_length : length piece ≡ room =
+    omega (arith, ap length p, length-take room (drop start ys), length-drop start ys) in
     record {
       made_is = whole;
       skip_is = omega (arith, length-append seen ys);
@@ -71,7 +78,8 @@ CutSoFar-more seen made ys piece made' from n skip left start room so s r p e =
     }
 
 -- one turn of a cut
-pub cut_turn : (pieces kept kept' : List (Bor (List ℕ))) (d : Bor (List ℕ)) (part : List ℕ) (i from n skip left start room : ℕ)
+pub cut_turn : (pieces kept kept' : List (Bor (List ℕ))) (d : Bor (List ℕ)) (part : List ℕ)
+    (i from n skip left start room : ℕ)
     → i < length pieces
     → CutSoFar (joined (take i pieces)) (joined kept) from n skip left
     → start ≡ min skip (length (get_or pieces i d).now / 2)

@@ -1,5 +1,6 @@
 -- Points over several slices.
-use Rattle.std.proofs.Common.{◌≡◌, ℕ, ◌+◌, ◌<◌, List, [], ◌∷◌, ◌++◌, length, get_or, take, drop, refl, ap, sym, ◌∙◌, append-nil, append_assoc, take-append-drop}
+use Rattle.std.proofs.Common.{◌≡◌, ℕ, ◌+◌, ◌<◌, List, [], ◌∷◌, ◌++◌, length, get_or, take, drop, refl, ap, sym, ◌∙◌}
+use Rattle.std.proofs.Common.{append-nil, append_assoc, take-append-drop}
 use Rattle.std.specs.Prelude.{All}
 use Rattle.std.specs.List.{flat_map}
 use Rattle.std.specs.Borrow.{Bor}
@@ -23,7 +24,8 @@ joined-more ps i d h = ap joined (take_more ps i d h) ∙ joined-push (take i ps
 pub joined-split : (ps : List (Bor (List ℕ))) (i : ℕ) (d : Bor (List ℕ)) → i < length ps
     → joined ps ≡ joined (take i ps) ++ (words (get_or ps i d).now ++ joined (drop (i + 1) ps))
 joined-split ps i d h =
-    ap joined (sym (take-append-drop (i + 1) ps)) ∙ flat_map-append (λ q. words q.now) (take (i + 1) ps) (drop (i + 1) ps)
+    ap joined (sym (take-append-drop (i + 1) ps))
+    ∙ flat_map-append (λ q. words q.now) (take (i + 1) ps) (drop (i + 1) ps)
     ∙ ap (λ t. t ++ joined (drop (i + 1) ps)) (joined-more ps i d h)
     ∙ append_assoc (joined (take i ps)) (words (get_or ps i d).now) (joined (drop (i + 1) ps))
 
@@ -32,7 +34,8 @@ pub AreWords-joined : (ps : List (Bor (List ℕ))) → All IsPiece ps → AreWor
 AreWords-joined [] a = tt
 AreWords-joined (p ∷ ps) a =
     let first = All-head IsPiece p ps a in
-    AreWords-append (words p.now) (joined ps) (AreWords-words p.now first.bytes) (AreWords-joined ps (All-tail IsPiece p ps a))
+    AreWords-append (words p.now) (joined ps) (AreWords-words p.now first.bytes)
+    (AreWords-joined ps (All-tail IsPiece p ps a))
 
 -- the bytes of whole slices of points are those of the points
 pub joined_bytes_is : (ps : List (Bor (List ℕ))) → All IsPiece ps → joined_bytes ps ≡ flat_map word_bytes (joined ps)

@@ -1,5 +1,6 @@
 -- Where a point stands among slices.
-use Rattle.std.proofs.Common.{◌≡◌, ℕ, ◌+◌, ◌-◌, ◌/◌, ◌<◌, ◌≤◌, List, ◌++◌, length, get_or, take, drop, refl, ap, sym, ◌∙◌, arith, length-append}
+use Rattle.std.proofs.Common.{◌≡◌, ℕ, ◌+◌, ◌-◌, ◌/◌, ◌<◌, ◌≤◌, List, ◌++◌, length, get_or, take, drop, refl, ap, sym}
+use Rattle.std.proofs.Common.{◌∙◌, arith, length-append}
 use Rattle.std.specs.Prelude.{All}
 use Rattle.std.specs.Borrow.{Bor}
 use Rattle.std.proofs.lemmas.List.{take_at, drop_at}
@@ -16,7 +17,12 @@ pub place-next : (ps : List (Bor (List ℕ))) (i j index : ℕ) (d : Bor (List �
     → length (joined (take (i + 1) ps)) + (j - length (get_or ps i d).now / 2) ≡ index
 place-next ps i j index d h e le =
     let more = ap length (joined-more ps i d h) in
-    omega (arith, more, length-append (joined (take i ps)) (words (get_or ps i d).now), length-words (get_or ps i d).now)
+    omega (
+      arith,
+      more,
+      length-append (joined (take i ps)) (words (get_or ps i d).now),
+      length-words (get_or ps i d).now,
+    )
 
 -- this slice is a run of the points around the one at the index
 pub run-found : (ps : List (Bor (List ℕ))) (i j index : ℕ) (d : Bor (List ℕ)) → All IsPiece ps → i < length ps

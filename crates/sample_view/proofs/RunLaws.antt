@@ -1,11 +1,13 @@
 -- What a slice tells of the points around one.
-use Rattle.std.proofs.Common.{◌≡◌, ℕ, ◌+◌, ◌-◌, ◌*◌, ◌<◌, List, length, get_or, drop, ap, sym, refl, ◌∙◌, arith, get_or-take, get_or-drop}
+use Rattle.std.proofs.Common.{◌≡◌, ℕ, ◌+◌, ◌-◌, ◌*◌, ◌<◌, List, length, get_or, drop, ap, sym, refl, ◌∙◌, arith}
+use Rattle.std.proofs.Common.{get_or-take, get_or-drop}
 use Rattle.sample_view.specs.Words.{words}
 use Rattle.sample_view.specs.Runs.{IsRunAround}
 use Rattle.sample_view.proofs.WordLaws.{length-words, get_or-words}
 
 -- the point at another place of the slice is as far from the first in the list
-pub get_or-run : (points bytes : List ℕ) (index place k : ℕ) → IsRunAround points index bytes place → 2 * k + 1 < length bytes
+pub get_or-run : (points bytes : List ℕ) (index place k : ℕ) → IsRunAround points index bytes place
+    → 2 * k + 1 < length bytes
     → get_or (words bytes) k 0 ≡ get_or points (index - place + k) 0
 get_or-run points bytes index place k run h =
     let n = length (words bytes) in

@@ -1,5 +1,6 @@
 -- What is said fits, and what fits can be said.
-use Rattle.std.proofs.Common.{◌≤◌, ◌<◌, ◌^◌, ◌+◌, ℕ, ℤ, pos, negsuc, neg_ℤ, zero, suc, List, [], ◌∷◌, ◌++◌, Option, Some, None, refl, sym, subst, arith, lit<, inl, inr, FitsSigned}
+use Rattle.std.proofs.Common.{◌≤◌, ◌<◌, ◌^◌, ◌+◌, ℕ, ℤ, pos, negsuc, neg_ℤ, zero, suc, List, [], ◌∷◌, ◌++◌, Option}
+use Rattle.std.proofs.Common.{Some, None, refl, sym, subst, arith, lit<, inl, inr, FitsSigned}
 use Rattle.std.specs.Int.{w8, w16, cast_unsigned}
 use Rattle.std.specs.List.{AllByRecursion}
 use Rattle.sf_base.specs.Names.{IsName}
@@ -17,7 +18,8 @@ use Rattle.zone_ranges.specs.declared.axes.Keep.TheVariants as keep
 use Rattle.line_tokens.specs.declared.cursor.Said.{Said}
 use Rattle.line_tokens.specs.Parts.{most_word, most_double_word}
 use Rattle.line_tokens.specs.Spelling.{WritesSigned, IsWithin}
-use Rattle.script_grammar.specs.Operands.{Operand, Fixed, Number, Signed, Amount, Range, Name, Text, Points, Says, AllSay}
+use Rattle.script_grammar.specs.Operands.{Operand, Fixed, Number, Signed, Amount, Range, Name, Text, Points, Says}
+use Rattle.script_grammar.specs.Operands.{AllSay}
 use Rattle.script_grammar.specs.Samples.{kind_operands, loop_operands, tune_operands, head_operands, body_operands}
 use Rattle.script_grammar.specs.Texts.{id_word}
 use Rattle.script_grammar.specs.Ranges.{axis_word, keep_word}
@@ -93,8 +95,10 @@ cents : (z : ℤ) → IsWithin 127 z → FitsSigned w8 z
 cents (pos n) h = record { sfits = omega (arith, h) }
 cents (negsuc n) h = record { sfits = omega (arith, h) }
 
-pub tune_fits : (rate key : ℕ) (correction : ℤ) → AllRanged (tune_operands rate key correction) → (rate < 2 ^ 32) × (key < 2 ^ 8) × FitsSigned w8 correction
-tune_fits rate key correction h = (let r = h.0 in omega (arith, r), let k = h.1.0 in omega (arith, k), cents correction h.1.1.0)
+pub tune_fits : (rate key : ℕ) (correction : ℤ) → AllRanged (tune_operands rate key correction)
+    → (rate < 2 ^ 32) × (key < 2 ^ 8) × FitsSigned w8 correction
+tune_fits rate key correction h =
+    (let r = h.0 in omega (arith, r), let k = h.1.0 in omega (arith, k), cents correction h.1.1.0)
 
 pub sample_fits : (s : Sample) → AllRanged (body_operands s) → FitsSample s
 sample_fits s h =
@@ -133,13 +137,16 @@ cents_within : (z : ℤ) → FitsSigned w8 z → IsWithin 127 z
 cents_within (pos n) v = let h : n < 2 ^ 7 = v.sfits in omega (arith, h)
 cents_within (negsuc n) v = let h : n < 2 ^ 7 = v.sfits in omega (arith, h)
 
-pub tune_fit : (rate key : ℕ) (correction : ℤ) → rate < 2 ^ 32 → key < 2 ^ 8 → FitsSigned w8 correction → AllFit (tune_operands rate key correction)
-tune_fit rate key correction r k c = (word32 rate r, ((omega (arith, k), lit< tt), ((cents_within correction c, lit< tt), tt)))
+pub tune_fit : (rate key : ℕ) (correction : ℤ) → rate < 2 ^ 32 → key < 2 ^ 8 → FitsSigned w8 correction
+    → AllFit (tune_operands rate key correction)
+tune_fit rate key correction r k c =
+    (word32 rate r, ((omega (arith, k), lit< tt), ((cents_within correction c, lit< tt), tt)))
 
 pub head_fit : (s : Sample) → FitsSample s → AllFit (head_operands s)
 head_fit s h = (
   h.name,
-  both_fit (tune_operands s.rate s.key s.correction) (kind_operands s.kind ++ loop_operands s.looped) (tune_fit s.rate s.key s.correction h.rate h.key h.correction)
+  both_fit (tune_operands s.rate s.key s.correction) (kind_operands s.kind ++ loop_operands s.looped)
+      (tune_fit s.rate s.key s.correction h.rate h.key h.correction)
       (both_fit (kind_operands s.kind) (loop_operands s.looped) (kind_fit s.kind h.kind) (loop_fit s.looped h.looped)),
 )
 

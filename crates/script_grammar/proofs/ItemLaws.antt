@@ -10,9 +10,14 @@ use Rattle.line_tokens.specs.declared.fault.LineFault.TheVariants as faults
 use Rattle.line_tokens.specs.Parts.{Took, ◌>>=◌, pure, or_fault, is_next, word, most_word, number, signed, range}
 use Rattle.script_grammar.specs.declared.items.Item.{Item}
 use Rattle.script_grammar.specs.Names.{fixed_by, fixed}
-use Rattle.script_grammar.specs.Items.{amount, generator, modulator, item_behind, an_item, closed, with_item, items_on, items, no_content}
-use Rattle.script_grammar.specs.Zones.{opened, zone_behind, zone, is_end, with_zone, zones_left, global_behind, first_behind, zones_behind, zones}
-use Rattle.script_grammar.proofs.RepeatedLaws.{Keeps, Shortens, shortens_keeps, pure_keeps, fault_keeps, then_keeps, then_shortens, either_keeps, word_shortens, number_shortens, signed_shortens, range_shortens, repeated_ends, repeated_goes_on, repeated_fails, repeated_keeps}
+use Rattle.script_grammar.specs.Items.{amount, generator, modulator, item_behind, an_item, closed, with_item}
+use Rattle.script_grammar.specs.Items.{items_on, items, no_content}
+use Rattle.script_grammar.specs.Zones.{opened, zone_behind, zone, is_end, with_zone, zones_left, global_behind}
+use Rattle.script_grammar.specs.Zones.{first_behind, zones_behind, zones}
+use Rattle.script_grammar.proofs.RepeatedLaws.{Keeps, Shortens, shortens_keeps, pure_keeps, fault_keeps, then_keeps}
+use Rattle.script_grammar.proofs.RepeatedLaws.{then_shortens, either_keeps, word_shortens, number_shortens}
+use Rattle.script_grammar.proofs.RepeatedLaws.{signed_shortens, range_shortens, repeated_ends, repeated_goes_on}
+use Rattle.script_grammar.proofs.RepeatedLaws.{repeated_fails, repeated_keeps}
 
 -- ---- tokens taken
 
@@ -25,12 +30,15 @@ signed_keeps limit = shortens_keeps (signed limit) (signed_shortens limit)
 amount_keeps : (operator : ℕ) → Keeps (amount operator)
 unfolding amount
 amount_keeps operator =
-    either_keeps (is_range_operator operator) _ _ (then_keeps range _ (shortens_keeps range range_shortens) (λ ends. pure_keeps _))
+    either_keeps (is_range_operator operator) _ _
+    (then_keeps range _ (shortens_keeps range range_shortens) (λ ends. pure_keeps _))
     (then_keeps (signed 32767) _ (signed_keeps 32767) (λ z. pure_keeps _))
 
 pub generator_keeps : Keeps generator
 unfolding generator
-generator_keeps = then_keeps (number most_word) _ (number_keeps most_word) (λ operator. then_keeps (amount operator) _ (amount_keeps operator) (λ a. pure_keeps _))
+generator_keeps =
+    then_keeps (number most_word) _ (number_keeps most_word)
+    (λ operator. then_keeps (amount operator) _ (amount_keeps operator) (λ a. pure_keeps _))
 
 pub modulator_keeps : Keeps modulator
 unfolding modulator
@@ -45,7 +53,8 @@ behind_keeps : (w : List ℕ) → Keeps (item_behind w)
 unfolding item_behind
 behind_keeps w =
     either_keeps (bytes_eq w (codes "g")) _ _ (then_keeps generator _ generator_keeps (λ e. pure_keeps _))
-    (either_keeps (bytes_eq w (codes "m")) _ _ (then_keeps modulator _ modulator_keeps (λ m. pure_keeps _)) (fault_keeps faults.Syntax None))
+    (either_keeps (bytes_eq w (codes "m")) _ _ (then_keeps modulator _ modulator_keeps (λ m. pure_keeps _))
+    (fault_keeps faults.Syntax None))
 
 pub item_shortens : Shortens an_item
 unfolding an_item
@@ -57,15 +66,23 @@ closed_keeps content = then_keeps word _ (shortens_keeps word word_shortens) (λ
 
 pub items_keeps : Keeps items
 unfolding items items_on
-items_keeps line t e = repeated_keeps (is_next (codes "}")) closed an_item with_item closed_keeps (shortens_keeps an_item item_shortens) no_content line t e
+items_keeps line t e =
+    repeated_keeps (is_next (codes "}")) closed an_item with_item closed_keeps (shortens_keeps an_item item_shortens)
+    no_content line t e
 
 pub fixed_shortens : (text : List ℕ) → Shortens (fixed text)
 unfolding fixed fixed_by
-fixed_shortens text = then_shortens word (fixed_by text) word_shortens (λ w. either_keeps (bytes_eq w text) (pure tt) (or_fault faults.Syntax None) (pure_keeps tt) (fault_keeps faults.Syntax None))
+fixed_shortens text =
+    then_shortens word (fixed_by text) word_shortens
+    (λ w.
+    either_keeps (bytes_eq w text) (pure tt) (or_fault faults.Syntax None) (pure_keeps tt)
+    (fault_keeps faults.Syntax None))
 
 pub zone_behind_keeps : Keeps zone_behind
 unfolding zone_behind
-zone_behind_keeps = then_keeps (number most_word) _ (number_keeps most_word) (λ target. then_keeps items _ items_keeps (λ content. pure_keeps _))
+zone_behind_keeps =
+    then_keeps (number most_word) _ (number_keeps most_word)
+    (λ target. then_keeps items _ items_keeps (λ content. pure_keeps _))
 
 pub zone_shortens : Shortens zone
 unfolding zone
@@ -73,15 +90,19 @@ zone_shortens = then_shortens opened _ (fixed_shortens (codes "{")) (λ o. zone_
 
 -- ---- a list of items
 
-pub items_end : (content : GlobalZone) (line : List Said) → is_next (codes "}") line ≡ true → items_on content line ≡ closed content line
+pub items_end : (content : GlobalZone) (line : List Said) → is_next (codes "}") line ≡ true
+    → items_on content line ≡ closed content line
 unfolding items_on
 items_end content line e = repeated_ends (is_next (codes "}")) closed an_item with_item content line e
 
-pub items_go_on : (content : GlobalZone) (line : List Said) (t : Took Item) → is_next (codes "}") line ≡ false → an_item line ≡ Ok t → items_on content line ≡ items_on (with_item content t.value) t.rest
+pub items_go_on : (content : GlobalZone) (line : List Said) (t : Took Item) → is_next (codes "}") line ≡ false
+    → an_item line ≡ Ok t → items_on content line ≡ items_on (with_item content t.value) t.rest
 unfolding items_on
-items_go_on content line t e i = repeated_goes_on (is_next (codes "}")) closed an_item with_item item_shortens content line t e i
+items_go_on content line t e i =
+    repeated_goes_on (is_next (codes "}")) closed an_item with_item item_shortens content line t e i
 
-pub items_fail : (content : GlobalZone) (line : List Said) (d : LineFault) → is_next (codes "}") line ≡ false → an_item line ≡ Err d → items_on content line ≡ Err d
+pub items_fail : (content : GlobalZone) (line : List Said) (d : LineFault) → is_next (codes "}") line ≡ false
+    → an_item line ≡ Err d → items_on content line ≡ Err d
 unfolding items_on
 items_fail content line d e i = repeated_fails (is_next (codes "}")) closed an_item with_item content line d e i
 
@@ -91,11 +112,13 @@ pub zones_end : (zs : List Zone) (line : List Said) → is_end line ≡ true →
 unfolding zones_left
 zones_end zs line e = repeated_ends is_end pure zone with_zone zs line e
 
-pub zones_go_on : (zs : List Zone) (line : List Said) (t : Took Zone) → is_end line ≡ false → zone line ≡ Ok t → zones_left zs line ≡ zones_left (with_zone zs t.value) t.rest
+pub zones_go_on : (zs : List Zone) (line : List Said) (t : Took Zone) → is_end line ≡ false → zone line ≡ Ok t
+    → zones_left zs line ≡ zones_left (with_zone zs t.value) t.rest
 unfolding zones_left
 zones_go_on zs line t e i = repeated_goes_on is_end pure zone with_zone zone_shortens zs line t e i
 
-pub zones_fail : (zs : List Zone) (line : List Said) (d : LineFault) → is_end line ≡ false → zone line ≡ Err d → zones_left zs line ≡ Err d
+pub zones_fail : (zs : List Zone) (line : List Said) (d : LineFault) → is_end line ≡ false → zone line ≡ Err d
+    → zones_left zs line ≡ Err d
 unfolding zones_left
 zones_fail zs line d e i = repeated_fails is_end pure zone with_zone zs line d e i
 

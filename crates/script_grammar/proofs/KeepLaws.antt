@@ -1,5 +1,6 @@
 -- The parts of a line leave no more tokens than there were.
-use Rattle.std.proofs.Common.{◌≡◌, ◌≤◌, ℕ, Bool, true, false, List, [], ◌∷◌, length, codes, None, refl, sym, ap, ◌∙◌, arith}
+use Rattle.std.proofs.Common.{◌≡◌, ◌≤◌, ℕ, Bool, true, false, List, [], ◌∷◌, length, codes, None, refl, sym, ap, ◌∙◌}
+use Rattle.std.proofs.Common.{arith}
 use Rattle.std.specs.Str.{bytes_eq}
 use Rattle.bank_parts.specs.declared.parts.Zone.{Zone}
 use Rattle.line_tokens.specs.declared.fault.LineFault.TheVariants as faults
@@ -9,9 +10,13 @@ use Rattle.script_grammar.specs.Names.{next_named}
 use Rattle.script_grammar.specs.Samples.{kind_behind, kind, loop_behind, looped, points, tune, body}
 use Rattle.script_grammar.specs.Texts.{id_word, ids, info_id}
 use Rattle.script_grammar.specs.Items.{items, no_content}
-use Rattle.script_grammar.specs.Zones.{opened, zone_behind, zone, is_end, with_zone, zones_left, global_zones, global_behind, first_behind, zones_behind, zones}
-use Rattle.script_grammar.proofs.RepeatedLaws.{Keeps, shortens_keeps, pure_keeps, fault_keeps, then_keeps, either_keeps, word_shortens, repeated_keeps}
-use Rattle.script_grammar.proofs.ItemLaws.{number_keeps, signed_keeps, items_keeps, zone_behind_keeps, fixed_shortens, zone_shortens, global_first, zone_first, none_said, some_said}
+use Rattle.script_grammar.specs.Zones.{opened, zone_behind, zone, is_end, with_zone, zones_left, global_zones}
+use Rattle.script_grammar.specs.Zones.{global_behind, first_behind, zones_behind, zones}
+use Rattle.script_grammar.proofs.RepeatedLaws.{Keeps, shortens_keeps, pure_keeps, fault_keeps, then_keeps}
+use Rattle.script_grammar.proofs.RepeatedLaws.{either_keeps, word_shortens, repeated_keeps}
+use Rattle.script_grammar.proofs.ItemLaws.{number_keeps, signed_keeps, items_keeps, zone_behind_keeps}
+use Rattle.script_grammar.proofs.ItemLaws.{fixed_shortens, zone_shortens, global_first, zone_first, none_said}
+use Rattle.script_grammar.proofs.ItemLaws.{some_said}
 
 word_keeps : Keeps word
 word_keeps = shortens_keeps word word_shortens
@@ -39,7 +44,8 @@ kind_behind_keeps w =
     either_keeps (bytes_eq w (codes "mono")) _ _ (pure_keeps _)
     (either_keeps (bytes_eq w (codes "right")) _ _ (then_keeps _ _ (number_keeps most_word) (λ link. pure_keeps _))
     (either_keeps (bytes_eq w (codes "left")) _ _ (then_keeps _ _ (number_keeps most_word) (λ link. pure_keeps _))
-    (either_keeps (bytes_eq w (codes "linked")) _ _ (then_keeps _ _ (number_keeps most_word) (λ link. pure_keeps _)) (fault_keeps faults.Syntax None))))
+    (either_keeps (bytes_eq w (codes "linked")) _ _ (then_keeps _ _ (number_keeps most_word)
+    (λ link. pure_keeps _)) (fault_keeps faults.Syntax None))))
 
 pub kind_keeps : Keeps kind
 unfolding kind
@@ -49,7 +55,10 @@ loop_behind_keeps : (w : List ℕ) → Keeps (loop_behind w)
 unfolding loop_behind
 loop_behind_keeps w =
     either_keeps (bytes_eq w (codes "noloop")) _ _ (pure_keeps _)
-    (either_keeps (bytes_eq w (codes "loop")) _ _ (then_keeps _ _ (number_keeps most_double_word) (λ a. then_keeps _ _ (number_keeps most_double_word) (λ b. pure_keeps _))) (fault_keeps faults.Syntax None))
+    (either_keeps (bytes_eq w (codes "loop")) _ _
+    (then_keeps _ _ (number_keeps most_double_word)
+    (λ a. then_keeps _ _ (number_keeps most_double_word) (λ b. pure_keeps _)))
+    (fault_keeps faults.Syntax None))
 
 pub looped_keeps : Keeps looped
 unfolding looped
@@ -57,7 +66,10 @@ looped_keeps = then_keeps word loop_behind word_keeps loop_behind_keeps
 
 pub tune_keeps : Keeps tune
 unfolding tune
-tune_keeps = then_keeps _ _ (number_keeps most_double_word) (λ rate. then_keeps _ _ (number_keeps 255) (λ key. then_keeps _ _ (signed_keeps 127) (λ correction. pure_keeps _)))
+tune_keeps =
+    then_keeps _ _ (number_keeps most_double_word)
+    (λ rate.
+    then_keeps _ _ (number_keeps 255) (λ key. then_keeps _ _ (signed_keeps 127) (λ correction. pure_keeps _)))
 
 pub body_keeps : Keeps body
 unfolding body
@@ -85,11 +97,15 @@ left_keep zs line t e = repeated_keeps is_end pure zone with_zone (λ zs. pure_k
 
 global_keeps : Keeps global_behind
 unfolding global_behind global_zones
-global_keeps = then_keeps word _ word_keeps (λ w. then_keeps items _ items_keeps (λ g. then_keeps (zones_left []) _ (left_keep []) (λ zs. pure_keeps _)))
+global_keeps =
+    then_keeps word _ word_keeps
+    (λ w. then_keeps items _ items_keeps (λ g. then_keeps (zones_left []) _ (left_keep []) (λ zs. pure_keeps _)))
 
 first_keeps : Keeps first_behind
 unfolding first_behind
-first_keeps = then_keeps zone_behind _ zone_behind_keeps (λ z. then_keeps (zones_left (z ∷ [])) _ (left_keep (z ∷ [])) (λ zs. pure_keeps _))
+first_keeps =
+    then_keeps zone_behind _ zone_behind_keeps
+    (λ z. then_keeps (zones_left (z ∷ [])) _ (left_keep (z ∷ [])) (λ zs. pure_keeps _))
 
 behind_keeps : Keeps zones_behind
 behind_keeps line t e = from (is_next (codes "global") line) refl

@@ -12,28 +12,35 @@ module _ {X Y : Type 0} (p : Part X) (f : X → Part Y) where
   pub first_fails : (old : Left) (d : LineFault) → p old.said ≡ Err d → (p >>= f) old.said ≡ Err d
   first_fails old d e = ap (λ (r : Result (Took X) LineFault). and_then r f) e
 
-  pub first_wants : {V W : Type 0} (view : V → X) (other : W → Y) (old mid new : Left) (failure : Failure LineFault) → ReadsOrWants view p old mid (Err failure) → ReadsOrWants other (p >>= f) old new (Err failure)
+  pub first_wants : {V W : Type 0} (view : V → X) (other : W → Y) (old mid new : Left) (failure : Failure LineFault)
+      → ReadsOrWants view p old mid (Err failure) → ReadsOrWants other (p >>= f) old new (Err failure)
   first_wants view other old mid new (Fault d) h = first_fails old d h
   first_wants view other old mid new OutOfMemory h = tt
 
   -- the first part is read
-  pub first_read : (old mid : Left) (x : X) → p old.said ≡ Ok (record { value = x; rest = mid.said }) → (p >>= f) old.said ≡ f x mid.said
+  pub first_read : (old mid : Left) (x : X) → p old.said ≡ Ok (record { value = x; rest = mid.said })
+      → (p >>= f) old.said ≡ f x mid.said
   first_read old mid x e = ap (λ (r : Result (Took X) LineFault). and_then r f) e
 
-  pub then_reads : {V : Type 0} (view : V → Y) (old mid new : Left) (x : X) (r : Result V (Failure LineFault)) → (p old.said ≡ Ok (record { value = x; rest = mid.said })) × (mid.pool ≡ old.pool) → ReadsOrWants view (f x) mid new r
+  pub then_reads : {V : Type 0} (view : V → Y) (old mid new : Left) (x : X) (r : Result V (Failure LineFault))
+      → (p old.said ≡ Ok (record { value = x; rest = mid.said })) × (mid.pool ≡ old.pool)
+      → ReadsOrWants view (f x) mid new r
       → ReadsOrWants view (p >>= f) old new r
   then_reads view old mid new x (Ok v) e h = (first_read old mid x e.0 ∙ h.0, h.1 ∙ e.1)
   then_reads view old mid new x (Err (Fault d)) e h = first_read old mid x e.0 ∙ h
   then_reads view old mid new x (Err OutOfMemory) e h = tt
 
 -- what fails as another part fails, or when out of memory
-pub wants_too : {X Y V W : Type 0} (p : Part X) (q : Part Y) (view : V → X) (other : W → Y) (at old new : Left) (failure : Failure LineFault) → ((d : LineFault) → p at.said ≡ Err d → q old.said ≡ Err d) → ReadsOrWants view p at new (Err failure)
+pub wants_too : {X Y V W : Type 0} (p : Part X) (q : Part Y) (view : V → X) (other : W → Y) (at old new : Left)
+    (failure : Failure LineFault)
+    → ((d : LineFault) → p at.said ≡ Err d → q old.said ≡ Err d) → ReadsOrWants view p at new (Err failure)
     → ReadsOrWants other q old new (Err failure)
 wants_too p q view other at old new (Fault d) f h = f d h
 wants_too p q view other at old new OutOfMemory f h = tt
 
 -- what reads as another part does
-pub reads_as : {X V : Type 0} (p q : Part X) (view : V → X) (old new : Left) (r : Result V (Failure LineFault)) → q old.said ≡ p old.said → ReadsOrWants view p old new r → ReadsOrWants view q old new r
+pub reads_as : {X V : Type 0} (p q : Part X) (view : V → X) (old new : Left) (r : Result V (Failure LineFault))
+    → q old.said ≡ p old.said → ReadsOrWants view p old new r → ReadsOrWants view q old new r
 reads_as p q view old new (Ok v) e h = (e ∙ h.0, h.1)
 reads_as p q view old new (Err (Fault d)) e h = e ∙ h
 reads_as p q view old new (Err OutOfMemory) e h = tt

@@ -1,5 +1,6 @@
 -- Operands that fit are printed as pieces that say them.
-use Rattle.std.proofs.Common.{◌≡◌, ◌≤◌, ◌<◌, ◌^◌, ◌%◌, ℕ, ℤ, pos, negsuc, lit<, FitsSigned, true, List, [], ◌∷◌, ◌++◌, length, map, decimal, refl, sym, arith}
+use Rattle.std.proofs.Common.{◌≡◌, ◌≤◌, ◌<◌, ◌^◌, ◌%◌, ℕ, ℤ, pos, negsuc, lit<, FitsSigned, true, List, [], ◌∷◌}
+use Rattle.std.proofs.Common.{◌++◌, length, map, decimal, refl, sym, arith}
 use Rattle.std.specs.List.{list_all, flat_map, AllByRecursion}
 use Rattle.std.specs.Int.{w16, cast_signed}
 use Rattle.std.proofs.Math.Facts.{sfits_to_z}
@@ -11,8 +12,11 @@ use Rattle.sample_view.proofs.WordLaws.{words_of_bytes}
 use Rattle.bank_parts.specs.Fits.{FitsText}
 use Rattle.line_tokens.specs.Spelling.{is_word, IsWithin}
 use Rattle.line_tokens.proofs.TestLaws.{not_feed}
-use Rattle.line_tokens.proofs.PieceLaws.{meant, Spoken, AllSpoken, writes, writes_signed, writes_range, range_text, spoken_number, spoken_signed, spoken_range, spoken_word, spoken_name, spoken_bytes, spoken_hex, are_bytes}
-use Rattle.script_grammar.specs.Operands.{Operand, Fixed, Number, Signed, Amount, Range, Name, Text, Points, Says, AllSay, piece_of, pieces_of}
+use Rattle.line_tokens.proofs.PieceLaws.{meant, Spoken, AllSpoken, writes, writes_signed, writes_range, range_text}
+use Rattle.line_tokens.proofs.PieceLaws.{spoken_number, spoken_signed, spoken_range, spoken_word, spoken_name}
+use Rattle.line_tokens.proofs.PieceLaws.{spoken_bytes, spoken_hex, are_bytes}
+use Rattle.script_grammar.specs.Operands.{Operand, Fixed, Number, Signed, Amount, Range, Name, Text, Points, Says}
+use Rattle.script_grammar.specs.Operands.{AllSay, piece_of, pieces_of}
 
 -- a word that a line can hold
 abbrev pub IsFixed : List ℕ → Type 0
@@ -63,13 +67,20 @@ operand_spoken (Amount amount) h = spoken_signed 32767 (cast_signed w16 amount) 
 operand_spoken (Range low high) h = spoken_range low high h.0 h.1
 operand_spoken (Name bytes) h = spoken_name bytes h
 operand_spoken (Text bytes) h = spoken_bytes bytes (are_bytes bytes h)
-operand_spoken (Points ps) h = spoken_hex (flat_map word_bytes ps) (are_bytes (flat_map word_bytes ps) (points_text ps h))
+operand_spoken (Points ps) h =
+    spoken_hex (flat_map word_bytes ps) (are_bytes (flat_map word_bytes ps) (points_text ps h))
 
 operand_says : (o : Operand) → FitsOperand o → Says (meant (piece_of o)) o
 operand_says (Fixed w) h = refl
 operand_says (Number limit n) h = (decimal n, refl, writes limit n h.0 h.1)
 operand_says (Signed limit z) h = (signed_decimal z, refl, writes_signed limit z h.0 h.1)
-operand_says (Amount amount) h = (signed_decimal (cast_signed w16 amount), cast_signed w16 amount, refl, writes_signed 32767 (cast_signed w16 amount) (amount_within amount h) (lit< tt), sym (of_z-to_z w16 amount h))
+operand_says (Amount amount) h = (
+  signed_decimal (cast_signed w16 amount),
+  cast_signed w16 amount,
+  refl,
+  writes_signed 32767 (cast_signed w16 amount) (amount_within amount h) (lit< tt),
+  sym (of_z-to_z w16 amount h),
+)
 operand_says (Range low high) h = (range_text low high, refl, writes_range low high h.0 h.1)
 operand_says (Name bytes) h = (refl, h)
 operand_says (Text bytes) h = (refl, h)

@@ -1,5 +1,6 @@
 -- A part that stands several times: how many tokens it takes, how it goes on, and how it ends.
-use Rattle.std.proofs.Common.{◌≡◌, ◌≤◌, ◌<◌, ℕ, zero, suc, Bool, true, false, cond, List, ◌∷◌, length, Option, Result, Ok, Err, refl, sym, ap, ◌∙◌, arith}
+use Rattle.std.proofs.Common.{◌≡◌, ◌≤◌, ◌<◌, ℕ, zero, suc, Bool, true, false, cond, List, ◌∷◌, length, Option}
+use Rattle.std.proofs.Common.{Result, Ok, Err, refl, sym, ap, ◌∙◌, arith}
 use Rattle.line_tokens.specs.declared.cursor.Said.{Said}
 use Rattle.line_tokens.specs.declared.cursor.Said.TheVariants.{Word}
 use Rattle.line_tokens.specs.declared.fault.LineFault.{LineFault}
@@ -33,7 +34,8 @@ then_keeps p f h k line t e =
     let m = k b.first.value b.first.rest t b.second in
     omega (arith, l, m)
 
-pub then_shortens : {X Y : Type 0} (p : Part X) (f : X → Part Y) → Shortens p → ((x : X) → Keeps (f x)) → Shortens (p >>= f)
+pub then_shortens : {X Y : Type 0} (p : Part X) (f : X → Part Y) → Shortens p → ((x : X) → Keeps (f x))
+    → Shortens (p >>= f)
 then_shortens p f h k line t e =
     let b = both (p line) f t e in
     let l = h line b.first b.is in
@@ -61,71 +63,110 @@ range_shortens line t e = let k = range_is line t e in first_taken (Word k.digit
 
 -- ---- a part that stands several times
 
-then_alike : {X Y : Type 0} (r : Result (Took X) LineFault) (f g : X → Part Y) → ((t : Took X) → r ≡ Ok t → f t.value t.rest ≡ g t.value t.rest) → and_then r f ≡ and_then r g
+then_alike : {X Y : Type 0} (r : Result (Took X) LineFault) (f g : X → Part Y)
+    → ((t : Took X) → r ≡ Ok t → f t.value t.rest ≡ g t.value t.rest) → and_then r f ≡ and_then r g
 then_alike (Ok t) f g h = h t refl
 then_alike (Err e) f g h = refl
 
 module _ {X Y : Type 0} (ends : List Said → Bool) (last : Y → Part Y) (part : Part X) (with : Y → X → Y) where
-  pub within_ends : (n : ℕ) (y : Y) (line : List Said) → ends line ≡ true → repeated_within ends last part with (suc n) y line ≡ last y line
+  pub within_ends : (n : ℕ) (y : Y) (line : List Said) → ends line ≡ true
+      → repeated_within ends last part with (suc n) y line ≡ last y line
   unfolding repeated_within
   within_ends n y line e = rw e refl
 
-  pub within_goes_on : (n : ℕ) (y : Y) (line : List Said) → ends line ≡ false → repeated_within ends last part with (suc n) y line ≡ and_then (part line) (λ x. repeated_within ends last part with n (with y x))
+  pub within_goes_on : (n : ℕ) (y : Y) (line : List Said) → ends line ≡ false
+      → repeated_within ends last part with (suc n) y line
+      ≡ and_then (part line) (λ x. repeated_within ends last part with n (with y x))
   unfolding repeated_within
   within_goes_on n y line e = rw e refl
 
   -- more tests than tokens change nothing
-  enough : Shortens part → (n m : ℕ) (y : Y) (line : List Said) → length line < n → length line < m → repeated_within ends last part with n y line ≡ repeated_within ends last part with m y line
+  enough : Shortens part → (n m : ℕ) (y : Y) (line : List Said) → length line < n → length line < m
+      → repeated_within ends last part with n y line ≡ repeated_within ends last part with m y line
   enough h zero m y line l k = absurd (omega (arith, l))
   enough h (suc n) zero y line l k = absurd (omega (arith, k))
-  enough h (suc n) (suc m) y line l k = from (λ t i. let s = h line t i in enough h n m (with y t.value) t.rest (omega (arith, s, l)) (omega (arith, s, k))) (ends line) refl
+  enough h (suc n) (suc m) y line l k =
+      from
+      (λ t i. let s =
+      h line t i in enough h n m (with y t.value) t.rest (omega (arith, s, l)) (omega (arith, s, k)))
+      (ends line) refl
     where
-      from : ((t : Took X) → part line ≡ Ok t → repeated_within ends last part with n (with y t.value) t.rest ≡ repeated_within ends last part with m (with y t.value) t.rest) → (b : Bool) → ends line ≡ b
+      from :
+          ((t : Took X) → part line ≡ Ok t
+          → repeated_within ends last part with n (with y t.value) t.rest
+          ≡ repeated_within ends last part with m (with y t.value) t.rest)
+          → (b : Bool) → ends line ≡ b
           → repeated_within ends last part with (suc n) y line ≡ repeated_within ends last part with (suc m) y line
       from on true e = within_ends n y line e ∙ sym (within_ends m y line e)
       from on false e =
           within_goes_on n y line e
-          ∙ then_alike (part line) (λ x. repeated_within ends last part with n (with y x)) (λ x. repeated_within ends last part with m (with y x)) on
+          ∙ then_alike (part line) (λ x. repeated_within ends last part with n (with y x))
+          (λ x. repeated_within ends last part with m (with y x)) on
           ∙ sym (within_goes_on m y line e)
 
   pub repeated_ends : (y : Y) (line : List Said) → ends line ≡ true → repeated ends last part with y line ≡ last y line
   repeated_ends y line e = within_ends (length line) y line e
 
-  pub repeated_goes_on : Shortens part → (y : Y) (line : List Said) (t : Took X) → ends line ≡ false → part line ≡ Ok t → repeated ends last part with y line ≡ repeated ends last part with (with y t.value) t.rest
+  pub repeated_goes_on : Shortens part → (y : Y) (line : List Said) (t : Took X) → ends line ≡ false
+      → part line ≡ Ok t → repeated ends last part with y line ≡ repeated ends last part with (with y t.value) t.rest
   repeated_goes_on h y line t e i =
       let s = h line t i in
       within_goes_on (length line) y line e
-      ∙ ap (λ (r : Result (Took X) LineFault). and_then r (λ x. repeated_within ends last part with (length line) (with y x))) i
+      ∙ ap
+      (λ (r : Result (Took X) LineFault).
+      and_then r (λ x. repeated_within ends last part with (length line) (with y x)))
+      i
       ∙ enough h (length line) (suc (length t.rest)) (with y t.value) t.rest s (omega arith)
 
-  pub repeated_fails : (y : Y) (line : List Said) (d : LineFault) → ends line ≡ false → part line ≡ Err d → repeated ends last part with y line ≡ Err d
-  repeated_fails y line d e i = within_goes_on (length line) y line e ∙ ap (λ (r : Result (Took X) LineFault). and_then r (λ x. repeated_within ends last part with (length line) (with y x))) i
+  pub repeated_fails : (y : Y) (line : List Said) (d : LineFault) → ends line ≡ false → part line ≡ Err d
+      → repeated ends last part with y line ≡ Err d
+  repeated_fails y line d e i =
+      within_goes_on (length line) y line e
+      ∙ ap
+      (λ (r : Result (Took X) LineFault).
+      and_then r (λ x. repeated_within ends last part with (length line) (with y x)))
+      i
 
-  within_keeps : ((y : Y) → Keeps (last y)) → Keeps part → (n : ℕ) (y : Y) → Keeps (repeated_within ends last part with n y)
+  within_keeps : ((y : Y) → Keeps (last y)) → Keeps part → (n : ℕ) (y : Y)
+      → Keeps (repeated_within ends last part with n y)
   unfolding repeated_within
   within_keeps h k zero y line t e = cc
   within_keeps h k (suc n) y line t e = from (λ x. within_keeps h k n (with y x)) (ends line) refl
     where
-      from : ((x : X) → Keeps (repeated_within ends last part with n (with y x))) → (b : Bool) → ends line ≡ b → length t.rest ≤ length line
+      from : ((x : X) → Keeps (repeated_within ends last part with n (with y x))) → (b : Bool) → ends line ≡ b
+          → length t.rest ≤ length line
       from on true i = h y line t (sym (within_ends n y line i) ∙ e)
-      from on false i = then_keeps part (λ x. repeated_within ends last part with n (with y x)) k on line t (sym (within_goes_on n y line i) ∙ e)
+      from on false i =
+          then_keeps part (λ x. repeated_within ends last part with n (with y x)) k on line t
+          (sym (within_goes_on n y line i) ∙ e)
 
   pub repeated_keeps : ((y : Y) → Keeps (last y)) → Keeps part → (y : Y) → Keeps (repeated ends last part with y)
   repeated_keeps h k y line t e = within_keeps h k (suc (length line)) y line t e
 
   -- what holds where nothing more comes, and holds with each that comes before, holds of all that is read
-  module _ (Reads : Y → List Said → Took Y → Type 0) (over : (y : Y) (line : List Said) (t : Took Y) → AllHoldBytes line → ends line ≡ true → last y line ≡ Ok t → Reads y line t)
-      (more : (y : Y) (line : List Said) (x : Took X) (t : Took Y) → AllHoldBytes line → part line ≡ Ok x → (AllHoldBytes x.rest → Reads (with y x.value) x.rest t) → Reads y line t) where
-    within_reads : (n : ℕ) (y : Y) (line : List Said) (t : Took Y) → AllHoldBytes line → repeated_within ends last part with n y line ≡ Ok t → Reads y line t
-    unfolding repeated_within
-    within_reads zero y line t h e = cc
-    within_reads (suc n) y line t h e = from (λ x. within_reads n (with y x)) (ends line) refl
-      where
-        from : ((x : X) (rest : List Said) (u : Took Y) → AllHoldBytes rest → repeated_within ends last part with n (with y x) rest ≡ Ok u → Reads (with y x) rest u) → (b : Bool) → ends line ≡ b → Reads y line t
-        from on true i = over y line t h i (sym (within_ends n y line i) ∙ e)
-        from on false i =
-            let x = both (part line) (λ x. repeated_within ends last part with n (with y x)) t (sym (within_goes_on n y line i) ∙ e) in
-            more y line x.first t h x.is (λ holds. on x.first.value x.first.rest t holds x.second)
+  module _ (Reads : Y → List Said → Took Y → Type 0)
+      (over : (y : Y) (line : List Said) (t : Took Y) → AllHoldBytes line → ends line ≡ true → last y line ≡ Ok t
+      → Reads y line t)
+      (more : (y : Y) (line : List Said) (x : Took X) (t : Took Y) → AllHoldBytes line → part line ≡ Ok x
+      → (AllHoldBytes x.rest → Reads (with y x.value) x.rest t) → Reads y line t)
+    where
+      within_reads : (n : ℕ) (y : Y) (line : List Said) (t : Took Y) → AllHoldBytes line
+          → repeated_within ends last part with n y line ≡ Ok t → Reads y line t
+      unfolding repeated_within
+      within_reads zero y line t h e = cc
+      within_reads (suc n) y line t h e = from (λ x. within_reads n (with y x)) (ends line) refl
+        where
+          from :
+              ((x : X) (rest : List Said) (u : Took Y) → AllHoldBytes rest
+              → repeated_within ends last part with n (with y x) rest ≡ Ok u → Reads (with y x) rest u)
+              → (b : Bool) → ends line ≡ b → Reads y line t
+          from on true i = over y line t h i (sym (within_ends n y line i) ∙ e)
+          from on false i =
+              let x =
+              both (part line) (λ x. repeated_within ends last part with n (with y x)) t
+              (sym (within_goes_on n y line i) ∙ e) in
+              more y line x.first t h x.is (λ holds. on x.first.value x.first.rest t holds x.second)
 
-    pub repeated_reads : (y : Y) (line : List Said) (t : Took Y) → AllHoldBytes line → repeated ends last part with y line ≡ Ok t → Reads y line t
-    repeated_reads y line t h e = within_reads (suc (length line)) y line t h e
+      pub repeated_reads : (y : Y) (line : List Said) (t : Took Y) → AllHoldBytes line
+          → repeated ends last part with y line ≡ Ok t → Reads y line t
+      repeated_reads y line t h e = within_reads (suc (length line)) y line t h e

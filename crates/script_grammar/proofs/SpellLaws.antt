@@ -1,5 +1,6 @@
 -- What the parts of a line say is read as such.
-use Rattle.std.proofs.Common.{◌≡◌, ◌%◌, ℕ, ℤ, Bool, true, cond, List, [], ◌∷◌, ◌++◌, length, codes, Option, Some, None, Ok, refl, sym, ap, subst, append_assoc, ◌∙◌}
+use Rattle.std.proofs.Common.{◌≡◌, ◌%◌, ℕ, ℤ, Bool, true, cond, List, [], ◌∷◌, ◌++◌, length, codes, Option, Some}
+use Rattle.std.proofs.Common.{None, Ok, refl, sym, ap, subst, append_assoc, ◌∙◌}
 use Rattle.std.specs.Str.{bytes_eq}
 use Rattle.std.proofs.lemmas.Slice.Eq.{bytes_eq-Decides}
 use Rattle.sample_view.specs.Words.{words}
@@ -17,7 +18,8 @@ use Rattle.script_grammar.specs.Operands.{Operand, Fixed, Number, Signed, Name, 
 use Rattle.script_grammar.specs.Names.{named, next_named, fixed_by, fixed}
 use Rattle.script_grammar.specs.Texts.{id_word, ids, info_id}
 use Rattle.script_grammar.proofs.NameLaws.{id_named}
-use Rattle.script_grammar.specs.Samples.{kind_operands, loop_operands, tune_operands, body_operands, kind_behind, kind, loop_behind, looped, points_of, points, tune, body}
+use Rattle.script_grammar.specs.Samples.{kind_operands, loop_operands, tune_operands, body_operands, kind_behind}
+use Rattle.script_grammar.specs.Samples.{kind, loop_behind, looped, points_of, points, tune, body}
 
 -- ---- parts
 
@@ -27,65 +29,119 @@ pub record Gives {X : Type 0} (p : Part X) (x : X) (line : List Said) (more : Li
   pub is : p line ≡ Ok (record { value = x; rest = rest })
   pub says : AllSay rest more
 
-pub then : {X Y : Type 0} {p : Part X} (f : X → Part Y) {x : X} {y : Y} {line : List Said} {between more : List Operand} → Gives p x line between
+pub then : {X Y : Type 0} {p : Part X} (f : X → Part Y) {x : X} {y : Y} {line : List Said}
+    {between more : List Operand}
+    → Gives p x line between
     → ((rest : List Said) → AllSay rest between → Gives (f x) y rest more) → Gives (p >>= f) y line more
 then f g h = let k = h g.rest g.says in record { rest = k.rest; is = ap (λ r. and_then r f) g.is ∙ k.is; says = k.says }
 
-pub gives_pure : {X : Type 0} (x : X) (line : List Said) (more : List Operand) → AllSay line more → Gives (pure x) x line more
+pub gives_pure : {X : Type 0} (x : X) (line : List Said) (more : List Operand) → AllSay line more
+    → Gives (pure x) x line more
 gives_pure x line more h = record { rest = line; is = refl; says = h }
 
-gives_some : {X : Type 0} (x : X) (o : Option X) (line : List Said) (more : List Operand) → o ≡ Some x → AllSay line more → Gives (or_fault faults.Syntax o) x line more
-gives_some x o line more e h = record { rest = line; is = ap (λ (p : Option _). or_fault faults.Syntax p line) e; says = h }
+gives_some : {X : Type 0} (x : X) (o : Option X) (line : List Said) (more : List Operand) → o ≡ Some x
+    → AllSay line more → Gives (or_fault faults.Syntax o) x line more
+gives_some x o line more e h =
+    record { rest = line; is = ap (λ (p : Option _). or_fault faults.Syntax p line) e; says = h }
 
-pub gives_word : (w : List ℕ) (line : List Said) (more : List Operand) → AllSay line (Fixed w ∷ more) → Gives word w line more
+pub gives_word : (w : List ℕ) (line : List Said) (more : List Operand) → AllSay line (Fixed w ∷ more)
+    → Gives word w line more
 gives_word w [] more h = absurd h
-gives_word w (s ∷ line) more h = record { rest = line; is = ap (λ (t : Said). word (t ∷ line)) h.0 ∙ tokens.word_read w line; says = h.1 }
+gives_word w (s ∷ line) more h =
+    record { rest = line; is = ap (λ (t : Said). word (t ∷ line)) h.0 ∙ tokens.word_read w line; says = h.1 }
 
 same_bytes : (text : List ℕ) → bytes_eq text text ≡ true
 same_bytes text = (bytes_eq-Decides text text).1 refl
 
-pub gives_fixed : (text : List ℕ) (line : List Said) (more : List Operand) → AllSay line (Fixed text ∷ more) → Gives (fixed text) tt line more
+pub gives_fixed : (text : List ℕ) (line : List Said) (more : List Operand) → AllSay line (Fixed text ∷ more)
+    → Gives (fixed text) tt line more
 unfolding fixed fixed_by
-gives_fixed text line more h = then _ (gives_word text line more h) (λ rest k. subst (λ (b : Bool). Gives (cond b (pure tt) (or_fault faults.Syntax None)) tt rest more) (sym (same_bytes text)) (gives_pure tt rest more k))
+gives_fixed text line more h =
+    then _ (gives_word text line more h)
+    (λ rest k.
+    subst (λ (b : Bool). Gives (cond b (pure tt) (or_fault faults.Syntax None)) tt rest more)
+    (sym (same_bytes text)) (gives_pure tt rest more k))
 
-pub gives_named : {X : Type 0} (word_of : X → List ℕ) (xs : List X) (x : X) → named word_of xs (word_of x) ≡ Some x → (line : List Said) (more : List Operand) → AllSay line (Fixed (word_of x) ∷ more) → Gives (next_named word_of xs) x line more
+pub gives_named : {X : Type 0} (word_of : X → List ℕ) (xs : List X) (x : X) → named word_of xs (word_of x) ≡ Some x
+    → (line : List Said) (more : List Operand) → AllSay line (Fixed (word_of x) ∷ more)
+    → Gives (next_named word_of xs) x line more
 unfolding next_named
-gives_named word_of xs x e line more h = then _ (gives_word (word_of x) line more h) (λ rest k. gives_some x (named word_of xs (word_of x)) rest more e k)
+gives_named word_of xs x e line more h =
+    then _ (gives_word (word_of x) line more h) (λ rest k. gives_some x (named word_of xs (word_of x)) rest more e k)
 
-pub gives_number : (limit n : ℕ) (line : List Said) (more : List Operand) → AllSay line (Number limit n ∷ more) → Gives (number limit) n line more
+pub gives_number : (limit n : ℕ) (line : List Said) (more : List Operand) → AllSay line (Number limit n ∷ more)
+    → Gives (number limit) n line more
 gives_number limit n [] more h = absurd h
-gives_number limit n (s ∷ line) more h = record { rest = line; is = ap (λ (t : Said). number limit (t ∷ line)) h.0.1 ∙ tokens.number_read limit n h.0.0 line h.0.2; says = h.1 }
+gives_number limit n (s ∷ line) more h =
+    record {
+      rest =
+          line;
+      is =
+          ap (λ (t : Said). number limit (t ∷ line)) h.0.1 ∙ tokens.number_read limit n h.0.0 line h.0.2;
+      says =
+          h.1;
+    }
 
-pub gives_signed : (limit : ℕ) (z : ℤ) (line : List Said) (more : List Operand) → AllSay line (Signed limit z ∷ more) → Gives (signed limit) z line more
+pub gives_signed : (limit : ℕ) (z : ℤ) (line : List Said) (more : List Operand) → AllSay line (Signed limit z ∷ more)
+    → Gives (signed limit) z line more
 gives_signed limit z [] more h = absurd h
-gives_signed limit z (s ∷ line) more h = record { rest = line; is = ap (λ (t : Said). signed limit (t ∷ line)) h.0.1 ∙ tokens.signed_read limit z h.0.0 line h.0.2; says = h.1 }
+gives_signed limit z (s ∷ line) more h =
+    record {
+      rest =
+          line;
+      is =
+          ap (λ (t : Said). signed limit (t ∷ line)) h.0.1 ∙ tokens.signed_read limit z h.0.0 line h.0.2;
+      says =
+          h.1;
+    }
 
-pub gives_name : (n : List ℕ) (line : List Said) (more : List Operand) → AllSay line (Name n ∷ more) → Gives name n line more
+pub gives_name : (n : List ℕ) (line : List Said) (more : List Operand) → AllSay line (Name n ∷ more)
+    → Gives name n line more
 gives_name n [] more h = absurd h
-gives_name n (s ∷ line) more h = record { rest = line; is = ap (λ (t : Said). name (t ∷ line)) h.0.0 ∙ tokens.name_read n line h.0.1; says = h.1 }
+gives_name n (s ∷ line) more h =
+    record { rest = line; is = ap (λ (t : Said). name (t ∷ line)) h.0.0 ∙ tokens.name_read n line h.0.1; says = h.1 }
 
-pub gives_text : (bytes : List ℕ) (line : List Said) (more : List Operand) → AllSay line (Text bytes ∷ more) → Gives literal bytes line more
+pub gives_text : (bytes : List ℕ) (line : List Said) (more : List Operand) → AllSay line (Text bytes ∷ more)
+    → Gives literal bytes line more
 gives_text bytes [] more h = absurd h
-gives_text bytes (s ∷ line) more h = record { rest = line; is = ap (λ (t : Said). literal (t ∷ line)) h.0.0 ∙ tokens.literal_read bytes line; says = h.1 }
+gives_text bytes (s ∷ line) more h =
+    record
+    { rest = line; is = ap (λ (t : Said). literal (t ∷ line)) h.0.0 ∙ tokens.literal_read bytes line; says = h.1 }
 
-points_read : (bytes ps : List ℕ) (line : List Said) → length bytes % 2 ≡ 0 → ps ≡ words bytes → points (Literal bytes ∷ line) ≡ Ok (record { value = ps; rest = line })
+points_read : (bytes ps : List ℕ) (line : List Said) → length bytes % 2 ≡ 0 → ps ≡ words bytes
+    → points (Literal bytes ∷ line) ≡ Ok (record { value = ps; rest = line })
 unfolding points literal points_of
 points_read bytes ps line even e = rw (even, e) refl
 
-pub gives_points : (ps : List ℕ) (line : List Said) (more : List Operand) → AllSay line (Points ps ∷ more) → Gives points ps line more
+pub gives_points : (ps : List ℕ) (line : List Said) (more : List Operand) → AllSay line (Points ps ∷ more)
+    → Gives points ps line more
 gives_points ps [] more h = absurd h
-gives_points ps (s ∷ line) more h = record { rest = line; is = ap (λ (t : Said). points (t ∷ line)) h.0.1 ∙ points_read h.0.0 ps line h.0.3 h.0.4; says = h.1 }
+gives_points ps (s ∷ line) more h =
+    record {
+      rest =
+          line;
+      is = ap (λ (t : Said). points (t ∷ line)) h.0.1 ∙ points_read h.0.0 ps line h.0.3 h.0.4;
+      says = h.1;
+    }
 
 -- ---- samples
 
-pub gives_kind : (k : Kind) (line : List Said) (more : List Operand) → AllSay line (kind_operands k ++ more) → Gives kind k line more
+pub gives_kind : (k : Kind) (line : List Said) (more : List Operand) → AllSay line (kind_operands k ++ more)
+    → Gives kind k line more
 unfolding kind kind_behind
 gives_kind Mono line more h = then _ (gives_word (codes "mono") line more h) (λ rest k. gives_pure Mono rest more k)
-gives_kind (Right n) line more h = then _ (gives_word (codes "right") line (Number most_word n ∷ more) h) (λ rest k. then _ (gives_number most_word n rest more k) (λ rest k. gives_pure (Right n) rest more k))
-gives_kind (Left n) line more h = then _ (gives_word (codes "left") line (Number most_word n ∷ more) h) (λ rest k. then _ (gives_number most_word n rest more k) (λ rest k. gives_pure (Left n) rest more k))
-gives_kind (Linked n) line more h = then _ (gives_word (codes "linked") line (Number most_word n ∷ more) h) (λ rest k. then _ (gives_number most_word n rest more k) (λ rest k. gives_pure (Linked n) rest more k))
+gives_kind (Right n) line more h =
+    then _ (gives_word (codes "right") line (Number most_word n ∷ more) h)
+    (λ rest k. then _ (gives_number most_word n rest more k) (λ rest k. gives_pure (Right n) rest more k))
+gives_kind (Left n) line more h =
+    then _ (gives_word (codes "left") line (Number most_word n ∷ more) h)
+    (λ rest k. then _ (gives_number most_word n rest more k) (λ rest k. gives_pure (Left n) rest more k))
+gives_kind (Linked n) line more h =
+    then _ (gives_word (codes "linked") line (Number most_word n ∷ more) h)
+    (λ rest k. then _ (gives_number most_word n rest more k) (λ rest k. gives_pure (Linked n) rest more k))
 
-pub gives_loop : (l : Option (ℕ × ℕ)) (line : List Said) (more : List Operand) → AllSay line (loop_operands l ++ more) → Gives looped l line more
+pub gives_loop : (l : Option (ℕ × ℕ)) (line : List Said) (more : List Operand)
+    → AllSay line (loop_operands l ++ more) → Gives looped l line more
 unfolding looped loop_behind
 gives_loop None line more h = then _ (gives_word (codes "noloop") line more h) (λ rest k. gives_pure None rest more k)
 gives_loop (Some l) line more h =
@@ -94,7 +150,8 @@ gives_loop (Some l) line more h =
     then _ (gives_number most_double_word l.0 rest (Number most_double_word l.1 ∷ more) k) (λ rest k.
     then _ (gives_number most_double_word l.1 rest more k) (λ rest k. gives_pure (Some l) rest more k)))
 
-pub gives_tune : (rate key : ℕ) (correction : ℤ) (line : List Said) (more : List Operand) → AllSay line (tune_operands rate key correction ++ more) → Gives tune (rate, key, correction) line more
+pub gives_tune : (rate key : ℕ) (correction : ℤ) (line : List Said) (more : List Operand)
+    → AllSay line (tune_operands rate key correction ++ more) → Gives tune (rate, key, correction) line more
 unfolding tune
 gives_tune rate key correction line more h =
     then _ (gives_number most_double_word rate line (Number 255 key ∷ Signed 127 correction ∷ more) h) (λ rest k.
@@ -105,18 +162,23 @@ gives_tune rate key correction line more h =
 abbrev tail_operands : Sample → List Operand → List Operand
 tail_operands s more = kind_operands s.kind ++ (loop_operands s.looped ++ Points s.points ∷ more)
 
-tail_regrouped : (s : Sample) (more : List Operand) → ((kind_operands s.kind ++ loop_operands s.looped) ++ Points s.points ∷ []) ++ more ≡ tail_operands s more
+tail_regrouped : (s : Sample) (more : List Operand)
+    → ((kind_operands s.kind ++ loop_operands s.looped) ++ Points s.points ∷ []) ++ more ≡ tail_operands s more
 tail_regrouped s more =
     append_assoc (kind_operands s.kind ++ loop_operands s.looped) (Points s.points ∷ []) more
     ∙ append_assoc (kind_operands s.kind) (loop_operands s.looped) (Points s.points ∷ more)
 
-body_regrouped : (s : Sample) (more : List Operand) → body_operands s ++ more ≡ (Name s.name ∷ tune_operands s.rate s.key s.correction) ++ tail_operands s more
-body_regrouped s more = ap (λ (os : List Operand). (Name s.name ∷ tune_operands s.rate s.key s.correction) ++ os) (tail_regrouped s more)
+body_regrouped : (s : Sample) (more : List Operand)
+    → body_operands s ++ more ≡ (Name s.name ∷ tune_operands s.rate s.key s.correction) ++ tail_operands s more
+body_regrouped s more =
+    ap (λ (os : List Operand). (Name s.name ∷ tune_operands s.rate s.key s.correction) ++ os) (tail_regrouped s more)
 
-pub gives_body : (s : Sample) (line : List Said) (more : List Operand) → AllSay line (body_operands s ++ more) → Gives body s line more
+pub gives_body : (s : Sample) (line : List Said) (more : List Operand) → AllSay line (body_operands s ++ more)
+    → Gives body s line more
 unfolding body
 gives_body s line more h =
-    then _ (gives_name s.name line (tune_operands s.rate s.key s.correction ++ tail_operands s more) (subst (AllSay line) (body_regrouped s more) h)) (λ rest k.
+    then _ (gives_name s.name line (tune_operands s.rate s.key s.correction ++ tail_operands s more)
+    (subst (AllSay line) (body_regrouped s more) h)) (λ rest k.
     then _ (gives_tune s.rate s.key s.correction rest (tail_operands s more) k) (λ rest k.
     then _ (gives_kind s.kind rest (loop_operands s.looped ++ Points s.points ∷ more) k) (λ rest k.
     then _ (gives_loop s.looped rest (Points s.points ∷ more) k) (λ rest k.
@@ -124,6 +186,7 @@ gives_body s line more h =
 
 -- ---- texts
 
-pub gives_id : (id : InfoId) (line : List Said) (more : List Operand) → AllSay line (Fixed (id_word id) ∷ more) → Gives info_id id line more
+pub gives_id : (id : InfoId) (line : List Said) (more : List Operand) → AllSay line (Fixed (id_word id) ∷ more)
+    → Gives info_id id line more
 unfolding info_id
 gives_id id line more h = gives_named id_word ids id (id_named id) line more h

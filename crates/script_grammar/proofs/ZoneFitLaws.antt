@@ -1,5 +1,7 @@
 -- What zones on a line stand for fits, and zones that fit can be said so that the line stands for them.
-use Rattle.std.proofs.Common.{◌≡◌, ◌≤◌, ◌<◌, ◌^◌, ◌+◌, ◌/◌, ◌%◌, ℕ, ℤ, pos, negsuc, Bool, true, false, cond, eqb, eqb-true, ◌==◌, List, [], ◌∷◌, ◌++◌, length, map, Option, Some, None, refl, sym, ap, ◌∙◌, append_assoc, arith, inl, inr, FitsSigned}
+use Rattle.std.proofs.Common.{◌≡◌, ◌≤◌, ◌<◌, ◌^◌, ◌+◌, ◌/◌, ◌%◌, ℕ, ℤ, pos, negsuc, Bool, true, false, cond, eqb}
+use Rattle.std.proofs.Common.{eqb-true, ◌==◌, List, [], ◌∷◌, ◌++◌, length, map, Option, Some, None, refl, sym, ap}
+use Rattle.std.proofs.Common.{◌∙◌, append_assoc, arith, inl, inr, FitsSigned}
 use Rattle.std.specs.Prelude.{IsTrue}
 use Rattle.std.specs.Int.{w16}
 use Rattle.std.specs.Ordering.{is_lt}
@@ -9,7 +11,8 @@ use Rattle.std.specs.FinMap.Entries.{below_all}
 use Rattle.std.proofs.lemmas.List.{append-nil}
 use Rattle.std.proofs.lemmas.Bool.{cases_eq, ne_eqb}
 use Rattle.std.proofs.lemmas.Bool.Decides.{nat_tests}
-use Rattle.generators.specs.Gens.{operator_cmp, Gens, no_gens, set_in_order, last_of_each, FitsEntry, FitEntries, FitGens}
+use Rattle.generators.specs.Gens.{operator_cmp, Gens, no_gens, set_in_order, last_of_each, FitsEntry, FitEntries}
+use Rattle.generators.specs.Gens.{FitGens}
 use Rattle.generators.specs.Ranges.{is_range_operator}
 use Rattle.generators.proofs.Entries.{both_true}
 use Rattle.generators.proofs.EntryLaws.{All-insert, All-no_gens, from_entries-entries}
@@ -25,8 +28,11 @@ use Rattle.line_tokens.specs.Spelling.{IsWithin}
 use Rattle.script_grammar.specs.declared.items.Item.{Item}
 use Rattle.script_grammar.specs.declared.items.Item.TheVariants as item
 use Rattle.script_grammar.specs.Operands.{Amount, Range}
-use Rattle.script_grammar.specs.Items.{amount_operand, generator_operands, modulator_operands, item_operands, items_operands, no_content, with_item, with_items, content_of}
-use Rattle.script_grammar.specs.Zones.{Written, WrittenZone, zone_operands, global_operands, written_operands, zone_of, zone_in, global_in, zones_in, items_of, global_of, written_zone, written_of}
+use Rattle.script_grammar.specs.Items.{amount_operand, generator_operands, modulator_operands, item_operands}
+use Rattle.script_grammar.specs.Items.{items_operands, no_content, with_item, with_items, content_of}
+use Rattle.script_grammar.specs.Zones.{Written, WrittenZone, zone_operands, global_operands, written_operands}
+use Rattle.script_grammar.specs.Zones.{zone_of, zone_in, global_in, zones_in, items_of, global_of, written_zone}
+use Rattle.script_grammar.specs.Zones.{written_of}
 use Rattle.script_grammar.proofs.OperandLaws.{FitsOperand, AllFit, both_fit}
 use Rattle.script_grammar.proofs.FitLaws.{Ranged, AllRanged, behind, word16}
 
@@ -39,7 +45,8 @@ other_operator op x h = elim (cases_eq x op) [
   | inr n ↦ ne_eqb x op n
 ]
 
-none_behind : (op : ℕ) (es : List (ℕ × ℕ)) → IsTrue (below_all operator_cmp op es) → list_any (λ (x : ℕ × ℕ). x.0 == op) es ≡ false
+none_behind : (op : ℕ) (es : List (ℕ × ℕ)) → IsTrue (below_all operator_cmp op es)
+    → list_any (λ (x : ℕ × ℕ). x.0 == op) es ≡ false
 none_behind op [] h = refl
 none_behind op (e ∷ es) h =
     let both = both_true (is_lt (operator_cmp op e.0)) (below_all operator_cmp op es) h in
@@ -52,7 +59,10 @@ each_is_last (e ∷ es) h =
     rw (none_behind e.0 es both.0) (ap (λ (xs : List (ℕ × ℕ)). e ∷ xs) (each_is_last es both.1))
 
 entries_set : (m : Gens) → set_in_order no_gens (entries m) ≡ m
-entries_set m = last_of_each_count (entries m) ∙ ap (λ (es : List (ℕ × ℕ)). from_entries es) (each_is_last (entries m) (entries_rise m)) ∙ from_entries-entries m
+entries_set m =
+    last_of_each_count (entries m)
+    ∙ ap (λ (es : List (ℕ × ℕ)). from_entries es) (each_is_last (entries m) (entries_rise m))
+    ∙ from_entries-entries m
 
 abbrev generator_items : List (ℕ × ℕ) → List Item
 generator_items es = map (λ (e : ℕ × ℕ). item.Generator e.0 e.1) es
@@ -60,13 +70,18 @@ generator_items es = map (λ (e : ℕ × ℕ). item.Generator e.0 e.1) es
 abbrev modulator_items : List Modulator → List Item
 modulator_items ms = map (λ (m : Modulator). item.Modulator m) ms
 
-with_generators : (es : List (ℕ × ℕ)) (content : GlobalZone) (more : List Item) → with_items content (generator_items es ++ more) ≡ with_items (record content { gens = set_in_order content.gens es }) more
+with_generators : (es : List (ℕ × ℕ)) (content : GlobalZone) (more : List Item)
+    → with_items content (generator_items es ++ more)
+    ≡ with_items (record content { gens = set_in_order content.gens es }) more
 with_generators [] content more = refl
 with_generators (e ∷ es) content more = with_generators es (record content { gens = insert content.gens e.0 e.1 }) more
 
-with_modulators : (ms : List Modulator) (content : GlobalZone) → with_items content (modulator_items ms) ≡ record content { mods = content.mods ++ ms }
+with_modulators : (ms : List Modulator) (content : GlobalZone)
+    → with_items content (modulator_items ms) ≡ record content { mods = content.mods ++ ms }
 with_modulators [] content = ap (λ (ms : List Modulator). record content { mods = ms }) (sym (append-nil content.mods))
-with_modulators (m ∷ ms) content = with_modulators ms (record content { mods = content.mods ++ m ∷ [] }) ∙ ap (λ (xs : List Modulator). record content { mods = xs }) (append_assoc content.mods (m ∷ []) ms)
+with_modulators (m ∷ ms) content =
+    with_modulators ms (record content { mods = content.mods ++ m ∷ [] })
+    ∙ ap (λ (xs : List Modulator). record content { mods = xs }) (append_assoc content.mods (m ∷ []) ms)
 
 content_stands : (content : GlobalZone) → content_of (items_of content.gens content.mods) ≡ content
 content_stands content =
@@ -79,7 +94,9 @@ zone_stands z = ap (zone_of z.target) (content_stands (record { gens = z.gens; m
 
 all_stand : (zs : List Zone) → map zone_in (map written_zone zs) ≡ zs
 all_stand [] = refl
-all_stand (z ∷ zs) = ap (λ (x : Zone). x ∷ map zone_in (map written_zone zs)) (zone_stands z) ∙ ap (λ (xs : List Zone). z ∷ xs) (all_stand zs)
+all_stand (z ∷ zs) =
+    ap (λ (x : Zone). x ∷ map zone_in (map written_zone zs)) (zone_stands z)
+    ∙ ap (λ (xs : List Zone). z ∷ xs) (all_stand zs)
 
 no_modulators : (ms : List Modulator) → length ms ≡ 0 → ms ≡ []
 no_modulators [] h = refl
@@ -89,17 +106,22 @@ none_stands : (g : GlobalZone) → len g.gens + length g.mods ≡ 0 → no_conte
 none_stands g n =
     let gens : g.gens ≡ no_gens = empty_of_len g.gens (omega (arith, n)) in
     let mods = no_modulators g.mods (omega (arith, n)) in
-    sym (ap (λ (m : Gens). record g { gens = m }) gens ∙ ap (λ (ms : List Modulator). record no_content { mods = ms }) mods)
+    sym
+    (ap (λ (m : Gens). record g { gens = m }) gens
+    ∙ ap (λ (ms : List Modulator). record no_content { mods = ms }) mods)
 
 global_stands : (g : GlobalZone) → global_in (global_of g) ≡ g
 global_stands g = from (len g.gens + length g.mods == 0) refl
   where
-    from : (b : Bool) → (len g.gens + length g.mods == 0) ≡ b → global_in (cond b None (Some (items_of g.gens g.mods))) ≡ g
+    from : (b : Bool) → (len g.gens + length g.mods == 0) ≡ b
+        → global_in (cond b None (Some (items_of g.gens g.mods))) ≡ g
     from true k = none_stands g (eqb-true (len g.gens + length g.mods) 0 k)
     from false k = content_stands g
 
 pub zones_stand : (g : GlobalZone) (zs : List Zone) → zones_in (written_of g zs) ≡ (g, zs)
-zones_stand g zs = ap (λ (x : GlobalZone). (x, map zone_in (map written_zone zs))) (global_stands g) ∙ ap (λ (ys : List Zone). (g, ys)) (all_stand zs)
+zones_stand g zs =
+    ap (λ (x : GlobalZone). (x, map zone_in (map written_zone zs))) (global_stands g)
+    ∙ ap (λ (ys : List Zone). (g, ys)) (all_stand zs)
 
 -- ---- what is said fits
 
@@ -129,17 +151,25 @@ modulator_fits m h = record {
   transform = word_low m.transform h.1.1.1.1.0;
 }
 
-behind_others : {X : Type 0} (P : X → Type 0) (xs : List X) (x : X) → AllByRecursion P xs → P x → AllByRecursion P (xs ++ x ∷ [])
+behind_others : {X : Type 0} (P : X → Type 0) (xs : List X) (x : X) → AllByRecursion P xs → P x
+    → AllByRecursion P (xs ++ x ∷ [])
 behind_others P [] x h p = (p, tt)
 behind_others P (y ∷ ys) x h p = (h.0, behind_others P ys x h.1 p)
 
-item_fits : (content : GlobalZone) (i : Item) → FitsGlobal content → AllRanged (item_operands i) → FitsGlobal (with_item content i)
-item_fits content (item.Generator operator a) f h = record { gens = All-insert FitsEntry content.gens operator a (generator_fits operator a h.1) f.gens; mods = f.mods }
-item_fits content (item.Modulator m) f h = record { gens = f.gens; mods = behind_others FitsModulator content.mods m f.mods (modulator_fits m h.1) }
+item_fits : (content : GlobalZone) (i : Item) → FitsGlobal content → AllRanged (item_operands i)
+    → FitsGlobal (with_item content i)
+item_fits content (item.Generator operator a) f h =
+    record
+    { gens = All-insert FitsEntry content.gens operator a (generator_fits operator a h.1) f.gens; mods = f.mods }
+item_fits content (item.Modulator m) f h =
+    record { gens = f.gens; mods = behind_others FitsModulator content.mods m f.mods (modulator_fits m h.1) }
 
-items_fit_on : (is : List Item) (content : GlobalZone) → FitsGlobal content → AllRanged (flat_map item_operands is) → FitsGlobal (with_items content is)
+items_fit_on : (is : List Item) (content : GlobalZone) → FitsGlobal content → AllRanged (flat_map item_operands is)
+    → FitsGlobal (with_items content is)
 items_fit_on [] content f h = f
-items_fit_on (i ∷ is) content f h = let b = behind (item_operands i) (flat_map item_operands is) h in items_fit_on is (with_item content i) (item_fits content i f b.0) b.1
+items_fit_on (i ∷ is) content f h =
+    let b = behind (item_operands i) (flat_map item_operands is) h in
+    items_fit_on is (with_item content i) (item_fits content i f b.0) b.1
 
 none_fits : FitsGlobal no_content
 none_fits = record { gens = All-no_gens FitsEntry; mods = tt }
@@ -148,7 +178,8 @@ items_fit : (is : List Item) → AllRanged (items_operands is) → FitsGlobal (c
 items_fit is h = items_fit_on is no_content none_fits (behind (flat_map item_operands is) _ h).0
 
 pub zone_fits : (z : WrittenZone) → AllRanged (zone_operands z) → FitsZone (zone_in z)
-zone_fits z h = let f = items_fit z.items h.1.1 in record { target = word_low z.target h.1.0; gens = f.gens; mods = f.mods }
+zone_fits z h =
+    let f = items_fit z.items h.1.1 in record { target = word_low z.target h.1.0; gens = f.gens; mods = f.mods }
 
 all_fit : (ws : List WrittenZone) → AllRanged (flat_map zone_operands ws) → AllByRecursion FitsZone (map zone_in ws)
 all_fit [] h = tt
@@ -158,8 +189,11 @@ global_fits : (g : Option (List Item)) → AllRanged (global_operands g) → Fit
 global_fits None h = none_fits
 global_fits (Some is) h = items_fit is h.1.1
 
-pub zones_ranged : (w : Written) → AllRanged (written_operands w) → FitsGlobal (global_in w.global) × AllByRecursion FitsZone (map zone_in w.zones)
-zones_ranged w h = let b = behind (global_operands w.global) (flat_map zone_operands w.zones) h in (global_fits w.global b.0, all_fit w.zones b.1)
+pub zones_ranged : (w : Written) → AllRanged (written_operands w)
+    → FitsGlobal (global_in w.global) × AllByRecursion FitsZone (map zone_in w.zones)
+zones_ranged w h =
+    let b = behind (global_operands w.global) (flat_map zone_operands w.zones) h in
+    (global_fits w.global b.0, all_fit w.zones b.1)
 
 -- ---- what fits can be said
 
@@ -178,25 +212,45 @@ pub generator_said : (operator a : ℕ) → FitsEntry (operator, a) → AllFit (
 generator_said operator a h = (word16 operator h.0, (amount_said operator a h.1, tt))
 
 pub modulator_said : (m : Modulator) → FitsModulator m → AllFit (modulator_operands m)
-modulator_said m h = (word16 m.source h.source, (word16 m.dest h.dest, ((within_said m.amount h.amount, omega arith), (word16 m.amount_source h.amount_source, (word16 m.transform h.transform, tt)))))
+modulator_said m h = (
+  word16 m.source h.source,
+  (
+    word16 m.dest h.dest,
+    (
+      (within_said m.amount h.amount, omega arith),
+      (word16 m.amount_source h.amount_source, (word16 m.transform h.transform, tt)),
+    ),
+  ),
+)
 
-generators_said : (es : List (ℕ × ℕ)) (more : List Item) → FitEntries es → AllFit (flat_map item_operands more) → AllFit (flat_map item_operands (generator_items es ++ more))
+generators_said : (es : List (ℕ × ℕ)) (more : List Item) → FitEntries es → AllFit (flat_map item_operands more)
+    → AllFit (flat_map item_operands (generator_items es ++ more))
 generators_said [] more h k = k
-generators_said (e ∷ es) more h k = both_fit (item_operands (item.Generator e.0 e.1)) (flat_map item_operands (generator_items es ++ more)) ((refl, refl), generator_said e.0 e.1 h.0) (generators_said es more h.1 k)
+generators_said (e ∷ es) more h k =
+    both_fit (item_operands (item.Generator e.0 e.1)) (flat_map item_operands (generator_items es ++ more))
+    ((refl, refl), generator_said e.0 e.1 h.0) (generators_said es more h.1 k)
 
-modulators_said : (ms : List Modulator) → AllByRecursion FitsModulator ms → AllFit (flat_map item_operands (modulator_items ms))
+modulators_said : (ms : List Modulator) → AllByRecursion FitsModulator ms
+    → AllFit (flat_map item_operands (modulator_items ms))
 modulators_said [] h = tt
-modulators_said (m ∷ ms) h = both_fit (item_operands (item.Modulator m)) (flat_map item_operands (modulator_items ms)) ((refl, refl), modulator_said m h.0) (modulators_said ms h.1)
+modulators_said (m ∷ ms) h =
+    both_fit (item_operands (item.Modulator m)) (flat_map item_operands (modulator_items ms))
+    ((refl, refl), modulator_said m h.0) (modulators_said ms h.1)
 
-content_said : (gens : Gens) (mods : List Modulator) → FitGens gens → AllByRecursion FitsModulator mods → AllFit (items_operands (items_of gens mods))
-content_said gens mods h k = both_fit (flat_map item_operands (items_of gens mods)) _ (generators_said (entries gens) (modulator_items mods) h (modulators_said mods k)) ((refl, refl), tt)
+content_said : (gens : Gens) (mods : List Modulator) → FitGens gens → AllByRecursion FitsModulator mods
+    → AllFit (items_operands (items_of gens mods))
+content_said gens mods h k =
+    both_fit (flat_map item_operands (items_of gens mods)) _
+    (generators_said (entries gens) (modulator_items mods) h (modulators_said mods k)) ((refl, refl), tt)
 
 pub zone_said : (z : Zone) → FitsZone z → AllFit (zone_operands (written_zone z))
 zone_said z h = ((refl, refl), (word16 z.target h.target, content_said z.gens z.mods h.gens h.mods))
 
 all_said : (zs : List Zone) → AllByRecursion FitsZone zs → AllFit (flat_map zone_operands (map written_zone zs))
 all_said [] h = tt
-all_said (z ∷ zs) h = both_fit (zone_operands (written_zone z)) (flat_map zone_operands (map written_zone zs)) (zone_said z h.0) (all_said zs h.1)
+all_said (z ∷ zs) h =
+    both_fit (zone_operands (written_zone z)) (flat_map zone_operands (map written_zone zs)) (zone_said z h.0)
+    (all_said zs h.1)
 
 global_said : (g : GlobalZone) → FitsGlobal g → AllFit (global_operands (global_of g))
 global_said g h = from (len g.gens + length g.mods == 0)
@@ -205,5 +259,8 @@ global_said g h = from (len g.gens + length g.mods == 0)
     from true = tt
     from false = ((refl, refl), ((refl, refl), content_said g.gens g.mods h.gens h.mods))
 
-pub zones_fit : (g : GlobalZone) (zs : List Zone) → FitsGlobal g → AllByRecursion FitsZone zs → AllFit (written_operands (written_of g zs))
-zones_fit g zs h k = both_fit (global_operands (global_of g)) (flat_map zone_operands (map written_zone zs)) (global_said g h) (all_said zs k)
+pub zones_fit : (g : GlobalZone) (zs : List Zone) → FitsGlobal g → AllByRecursion FitsZone zs
+    → AllFit (written_operands (written_of g zs))
+zones_fit g zs h k =
+    both_fit (global_operands (global_of g)) (flat_map zone_operands (map written_zone zs)) (global_said g h)
+    (all_said zs k)

@@ -1,5 +1,6 @@
 -- What is read as zones, the line says.
-use Rattle.std.proofs.Common.{◌≡◌, ◌≤◌, ◌+◌, ◌*◌, ◌/◌, ◌%◌, ℕ, Bool, true, false, cond, List, [], ◌∷◌, ◌++◌, map, codes, Some, None, Ok, refl, sym, ap, subst, append_assoc, ◌∙◌, arith}
+use Rattle.std.proofs.Common.{◌≡◌, ◌≤◌, ◌+◌, ◌*◌, ◌/◌, ◌%◌, ℕ, Bool, true, false, cond, List, [], ◌∷◌, ◌++◌, map}
+use Rattle.std.proofs.Common.{codes, Some, None, Ok, refl, sym, ap, subst, append_assoc, ◌∙◌, arith}
 use Rattle.std.specs.Int.{w16, cast_unsigned}
 use Rattle.std.specs.List.{flat_map}
 use Rattle.std.specs.Str.{bytes_eq}
@@ -17,9 +18,14 @@ use Rattle.line_tokens.proofs.ReadLaws.{AllHoldBytes, both, word_is, signed_is, 
 use Rattle.script_grammar.specs.declared.items.Item.{Item}
 use Rattle.script_grammar.specs.declared.items.Item.TheVariants as item
 use Rattle.script_grammar.specs.Operands.{Operand, Fixed, Number, Signed, Amount, Range}
-use Rattle.script_grammar.specs.Items.{amount_operand, generator_operands, modulator_operands, item_operands, items_operands, no_content, with_item, with_items, amount, generator, modulator_of, modulator, item_behind, an_item, closed, items_on, items}
-use Rattle.script_grammar.specs.Zones.{Written, WrittenZone, zone_operands, written_operands, zone_of, zone_in, zones_in, opened, zone_behind, zone, is_end, with_zone, zones_left, global_zones, global_behind, first_behind, zones_behind, zones}
-use Rattle.script_grammar.proofs.ReadLaws.{Fronts, front, then, made, word_front, fixed_front, number_front, signed_front}
+use Rattle.script_grammar.specs.Items.{amount_operand, generator_operands, modulator_operands, item_operands}
+use Rattle.script_grammar.specs.Items.{items_operands, no_content, with_item, with_items, amount, generator}
+use Rattle.script_grammar.specs.Items.{modulator_of, modulator, item_behind, an_item, closed, items_on, items}
+use Rattle.script_grammar.specs.Zones.{Written, WrittenZone, zone_operands, written_operands, zone_of, zone_in}
+use Rattle.script_grammar.specs.Zones.{zones_in, opened, zone_behind, zone, is_end, with_zone, zones_left}
+use Rattle.script_grammar.specs.Zones.{global_zones, global_behind, first_behind, zones_behind, zones}
+use Rattle.script_grammar.proofs.ReadLaws.{Fronts, front, then, made, word_front, fixed_front, number_front}
+use Rattle.script_grammar.proofs.ReadLaws.{signed_front}
 use Rattle.script_grammar.proofs.RepeatedLaws.{repeated_reads}
 use Rattle.script_grammar.proofs.ItemLaws.{global_first, zone_first, none_said, some_said}
 
@@ -31,11 +37,16 @@ low_of low high h = omega (arith, h)
 high_of : (low high : ℕ) → low ≤ 255 → (low + 256 * high) / 256 ≡ high
 high_of low high h = omega (arith, h)
 
-amount_front : (operator : ℕ) (line : List Said) (t : Took ℕ) → AllHoldBytes line → amount operator line ≡ Ok t → Fronts line t.rest (amount_operand operator t.value ∷ [])
+amount_front : (operator : ℕ) (line : List Said) (t : Took ℕ) → AllHoldBytes line → amount operator line ≡ Ok t
+    → Fronts line t.rest (amount_operand operator t.value ∷ [])
 unfolding amount
 amount_front operator line t h e = from (is_range_operator operator) e
   where
-    from : (b : Bool) → cond b (range >>= λ ends. pure (ends.0 + 256 * ends.1)) (signed 32767 >>= λ z. pure (cast_unsigned w16 z)) line ≡ Ok t → Fronts line t.rest (cond b (Range (t.value % 256) (t.value / 256)) (Amount t.value) ∷ [])
+    from : (b : Bool)
+        → cond b (range >>= λ ends. pure (ends.0 + 256 * ends.1)) (signed 32767 >>= λ z. pure (cast_unsigned w16 z))
+        line
+        ≡ Ok t
+        → Fronts line t.rest (cond b (Range (t.value % 256) (t.value / 256)) (Amount t.value) ∷ [])
     from true k =
         let r = both (range line) (λ ends. pure (ends.0 + 256 * ends.1)) t k in
         let f = range_is line r.first r.is in
@@ -44,77 +55,123 @@ amount_front operator line t h e = from (is_range_operator operator) e
         let within = f.writes.writes_low.within in
         let same : record { value = low + 256 * high; rest = r.first.rest } ≡ t = made _ r.first.rest t r.second in
         subst (λ (u : Took ℕ). Fronts line u.rest (Range (u.value % 256) (u.value / 256) ∷ [])) same
-        (subst (λ (n : ℕ). Fronts line r.first.rest (Range n ((low + 256 * high) / 256) ∷ [])) (sym (low_of low high within))
+        (subst (λ (n : ℕ). Fronts line r.first.rest (Range n ((low + 256 * high) / 256) ∷ []))
+        (sym (low_of low high within))
         (subst (λ (n : ℕ). Fronts line r.first.rest (Range low n ∷ [])) (sym (high_of low high within))
         (front line r.first.rest (Word f.digits) (Range low high) h f.parts (f.digits, refl, f.writes))))
     from false k =
         let z = both (signed 32767 line) (λ z. pure (cast_unsigned w16 z)) t k in
         let f = signed_is 32767 line z.first z.is in
-        let same : record { value = cast_unsigned w16 z.first.value; rest = z.first.rest } ≡ t = made _ z.first.rest t z.second in
+        let same : record { value = cast_unsigned w16 z.first.value; rest = z.first.rest } ≡ t =
+        made _ z.first.rest t z.second in
         subst (λ (u : Took ℕ). Fronts line u.rest (Amount u.value ∷ [])) same
-        (front line z.first.rest (Word f.digits) (Amount (cast_unsigned w16 z.first.value)) h f.parts (f.digits, z.first.value, refl, f.writes, refl))
+        (front line z.first.rest (Word f.digits) (Amount (cast_unsigned w16 z.first.value)) h f.parts
+        (f.digits, z.first.value, refl, f.writes, refl))
 
 -- ---- items
 
-pub generator_front : (line : List Said) (t : Took (ℕ × ℕ)) → AllHoldBytes line → generator line ≡ Ok t → Fronts line t.rest (generator_operands t.value.0 t.value.1)
+pub generator_front : (line : List Said) (t : Took (ℕ × ℕ)) → AllHoldBytes line → generator line ≡ Ok t
+    → Fronts line t.rest (generator_operands t.value.0 t.value.1)
 unfolding generator
 generator_front line t h e =
     let o = both (number most_word line) (λ operator. amount operator >>= λ a. pure (operator, a)) t e in
     let f = number_front most_word line o.first h o.is in
     let a = both (amount o.first.value o.first.rest) (λ a. pure (o.first.value, a)) t o.second in
     let g = amount_front o.first.value o.first.rest a.first f.holds a.is in
-    let same : record { value = (o.first.value, a.first.value); rest = a.first.rest } ≡ t = made _ a.first.rest t a.second in
+    let same : record { value = (o.first.value, a.first.value); rest = a.first.rest } ≡ t =
+    made _ a.first.rest t a.second in
     subst (λ (u : Took (ℕ × ℕ)). Fronts line u.rest (generator_operands u.value.0 u.value.1)) same
     (then (Number most_word o.first.value ∷ []) (amount_operand o.first.value a.first.value ∷ []) f g)
 
-pub modulator_front : (line : List Said) (t : Took Modulator) → AllHoldBytes line → modulator line ≡ Ok t → Fronts line t.rest (modulator_operands t.value)
+pub modulator_front : (line : List Said) (t : Took Modulator) → AllHoldBytes line → modulator line ≡ Ok t
+    → Fronts line t.rest (modulator_operands t.value)
 unfolding modulator
 modulator_front line t h e =
-    let s = both (number most_word line) (λ s. number most_word >>= λ d. signed 32767 >>= λ a. number most_word >>= λ x. number most_word >>= λ y. pure (modulator_of s d a x y)) t e in
+    let s =
+    both (number most_word line)
+    (λ s.
+    number most_word >>= λ d.
+    signed 32767 >>= λ a.
+    number most_word >>= λ x. number most_word >>= λ y. pure (modulator_of s d a x y))
+    t e in
     let sf = number_front most_word line s.first h s.is in
-    let d = both (number most_word s.first.rest) (λ d. signed 32767 >>= λ a. number most_word >>= λ x. number most_word >>= λ y. pure (modulator_of s.first.value d a x y)) t s.second in
+    let d =
+    both (number most_word s.first.rest)
+    (λ d.
+    signed 32767 >>= λ a.
+    number most_word >>= λ x. number most_word >>= λ y. pure (modulator_of s.first.value d a x y))
+    t s.second in
     let df = number_front most_word s.first.rest d.first sf.holds d.is in
-    let a = both (signed 32767 d.first.rest) (λ a. number most_word >>= λ x. number most_word >>= λ y. pure (modulator_of s.first.value d.first.value a x y)) t d.second in
+    let a =
+    both (signed 32767 d.first.rest)
+    (λ a.
+    number most_word >>= λ x.
+    number most_word >>= λ y. pure (modulator_of s.first.value d.first.value a x y))
+    t d.second in
     let af = signed_front 32767 d.first.rest a.first df.holds a.is in
-    let x = both (number most_word a.first.rest) (λ x. number most_word >>= λ y. pure (modulator_of s.first.value d.first.value a.first.value x y)) t a.second in
+    let x =
+    both (number most_word a.first.rest)
+    (λ x. number most_word >>= λ y. pure (modulator_of s.first.value d.first.value a.first.value x y)) t
+    a.second in
     let xf = number_front most_word a.first.rest x.first af.holds x.is in
-    let y = both (number most_word x.first.rest) (λ y. pure (modulator_of s.first.value d.first.value a.first.value x.first.value y)) t x.second in
+    let y =
+    both (number most_word x.first.rest)
+    (λ y. pure (modulator_of s.first.value d.first.value a.first.value x.first.value y)) t x.second in
     let yf = number_front most_word x.first.rest y.first xf.holds y.is in
     let ss : List Operand = Number most_word s.first.value ∷ [] in
     let ds : List Operand = Number most_word d.first.value ∷ [] in
     let ms : List Operand = Signed 32767 a.first.value ∷ [] in
     let xs : List Operand = Number most_word x.first.value ∷ [] in
     let ys : List Operand = Number most_word y.first.value ∷ [] in
-    let same : record { value = modulator_of s.first.value d.first.value a.first.value x.first.value y.first.value; rest = y.first.rest } ≡ t = made _ y.first.rest t y.second in
+    let same : record {
+      value =
+          modulator_of s.first.value d.first.value a.first.value x.first.value y.first.value;
+      rest = y.first.rest;
+    }
+    ≡ t =
+    made _ y.first.rest t y.second in
     subst (λ (u : Took Modulator). Fronts line u.rest (modulator_operands u.value)) same
     (then ss (ds ++ (ms ++ (xs ++ ys))) sf (then ds (ms ++ (xs ++ ys)) df (then ms (xs ++ ys) af (then xs ys xf yf))))
 
-pub item_front : (line : List Said) (t : Took Item) → AllHoldBytes line → an_item line ≡ Ok t → Fronts line t.rest (item_operands t.value)
+pub item_front : (line : List Said) (t : Took Item) → AllHoldBytes line → an_item line ≡ Ok t
+    → Fronts line t.rest (item_operands t.value)
 unfolding an_item item_behind
 item_front line t h e =
     let w = both (word line) item_behind t e in
     let g = word_front line w.first h w.is in
-    from w.first.value w.first.rest g (bytes_eq w.first.value (codes "g")) (bytes_eq w.first.value (codes "m")) refl refl w.second
+    from w.first.value w.first.rest g (bytes_eq w.first.value (codes "g")) (bytes_eq w.first.value (codes "m")) refl
+    refl w.second
   where
-    at : (v c : List ℕ) (rest : List Said) → Fronts line rest (Fixed v ∷ []) → bytes_eq v c ≡ true → Fronts line rest (Fixed c ∷ [])
+    at : (v c : List ℕ) (rest : List Said) → Fronts line rest (Fixed v ∷ []) → bytes_eq v c ≡ true
+        → Fronts line rest (Fixed c ∷ [])
     at v c rest g k = subst (λ (x : List ℕ). Fronts line rest (Fixed x ∷ [])) ((bytes_eq-Decides v c).0 k) g
 
-    set : (rest : List Said) → Fronts line rest (Fixed (codes "g") ∷ []) → (generator >>= λ e. pure (item.Generator e.0 e.1)) rest ≡ Ok t → Fronts line t.rest (item_operands t.value)
+    set : (rest : List Said) → Fronts line rest (Fixed (codes "g") ∷ [])
+        → (generator >>= λ e. pure (item.Generator e.0 e.1)) rest ≡ Ok t → Fronts line t.rest (item_operands t.value)
     set rest g k =
         let x = both (generator rest) (λ e. pure (item.Generator e.0 e.1)) t k in
         let f = generator_front rest x.first g.holds x.is in
-        let same : record { value = item.Generator x.first.value.0 x.first.value.1; rest = x.first.rest } ≡ t = made _ x.first.rest t x.second in
-        subst (λ (u : Took Item). Fronts line u.rest (item_operands u.value)) same (then (Fixed (codes "g") ∷ []) (generator_operands x.first.value.0 x.first.value.1) g f)
+        let same : record { value = item.Generator x.first.value.0 x.first.value.1; rest = x.first.rest } ≡ t =
+        made _ x.first.rest t x.second in
+        subst (λ (u : Took Item). Fronts line u.rest (item_operands u.value)) same
+        (then (Fixed (codes "g") ∷ []) (generator_operands x.first.value.0 x.first.value.1) g f)
 
-    added : (rest : List Said) → Fronts line rest (Fixed (codes "m") ∷ []) → (modulator >>= λ m. pure (item.Modulator m)) rest ≡ Ok t → Fronts line t.rest (item_operands t.value)
+    added : (rest : List Said) → Fronts line rest (Fixed (codes "m") ∷ [])
+        → (modulator >>= λ m. pure (item.Modulator m)) rest ≡ Ok t → Fronts line t.rest (item_operands t.value)
     added rest g k =
         let x = both (modulator rest) (λ m. pure (item.Modulator m)) t k in
         let f = modulator_front rest x.first g.holds x.is in
-        let same : record { value = item.Modulator x.first.value; rest = x.first.rest } ≡ t = made _ x.first.rest t x.second in
-        subst (λ (u : Took Item). Fronts line u.rest (item_operands u.value)) same (then (Fixed (codes "m") ∷ []) (modulator_operands x.first.value) g f)
+        let same : record { value = item.Modulator x.first.value; rest = x.first.rest } ≡ t =
+        made _ x.first.rest t x.second in
+        subst (λ (u : Took Item). Fronts line u.rest (item_operands u.value)) same
+        (then (Fixed (codes "m") ∷ []) (modulator_operands x.first.value) g f)
 
-    from : (v : List ℕ) (rest : List Said) → Fronts line rest (Fixed v ∷ []) → (a b : Bool) → bytes_eq v (codes "g") ≡ a → bytes_eq v (codes "m") ≡ b
-        → cond a (generator >>= λ e. pure (item.Generator e.0 e.1)) (cond b (modulator >>= λ m. pure (item.Modulator m)) (or_fault faults.Syntax None)) rest ≡ Ok t → Fronts line t.rest (item_operands t.value)
+    from : (v : List ℕ) (rest : List Said) → Fronts line rest (Fixed v ∷ []) → (a b : Bool)
+        → bytes_eq v (codes "g") ≡ a → bytes_eq v (codes "m") ≡ b
+        → cond a (generator >>= λ e. pure (item.Generator e.0 e.1))
+        (cond b (modulator >>= λ m. pure (item.Modulator m)) (or_fault faults.Syntax None)) rest
+        ≡ Ok t
+        → Fronts line t.rest (item_operands t.value)
     from v rest g true b p q k = set rest (at v (codes "g") rest g p) k
     from v rest g false true p q k = added rest (at v (codes "m") rest g q) k
     from v rest g false false p q k = cc
@@ -126,29 +183,46 @@ pub record SaidItems (content : GlobalZone) (line : List Said) (t : Took GlobalZ
   pub stands : with_items content said ≡ t.value
 
 -- the word that comes next
-pub next_is : (c : List ℕ) (line : List Said) (t : Took (List ℕ)) → word line ≡ Ok t → is_next c line ≡ true → t.value ≡ c
+pub next_is : (c : List ℕ) (line : List Said) (t : Took (List ℕ)) → word line ≡ Ok t → is_next c line ≡ true
+    → t.value ≡ c
 next_is c line t e k = (bytes_eq-Decides t.value c).0 (sym (ap (is_next c) (word_is line t e)) ∙ k)
 
-closed_front : (content : GlobalZone) (line : List Said) (t : Took GlobalZone) → AllHoldBytes line → is_next (codes "}") line ≡ true → closed content line ≡ Ok t → SaidItems content line t
+closed_front : (content : GlobalZone) (line : List Said) (t : Took GlobalZone) → AllHoldBytes line
+    → is_next (codes "}") line ≡ true → closed content line ≡ Ok t → SaidItems content line t
 unfolding closed
 closed_front content line t h k e =
     let w = both (word line) (λ w. pure content) t e in
     let g = word_front line w.first h w.is in
     let same : record { value = content; rest = w.first.rest } ≡ t = made content w.first.rest t w.second in
-    subst (SaidItems content line) same (record { said = []; fronts = subst (λ (v : List ℕ). Fronts line w.first.rest (Fixed v ∷ [])) (next_is (codes "}") line w.first w.is k) g; stands = refl })
+    subst (SaidItems content line) same
+    (record {
+      said =
+          [];
+      fronts =
+          subst (λ (v : List ℕ). Fronts line w.first.rest (Fixed v ∷ []))
+          (next_is (codes "}") line w.first w.is k) g;
+      stands = refl;
+    })
 
-more_items : (content : GlobalZone) (line : List Said) (x : Took Item) (t : Took GlobalZone) → Fronts line x.rest (item_operands x.value) → SaidItems (with_item content x.value) x.rest t → SaidItems content line t
+more_items : (content : GlobalZone) (line : List Said) (x : Took Item) (t : Took GlobalZone)
+    → Fronts line x.rest (item_operands x.value) → SaidItems (with_item content x.value) x.rest t
+    → SaidItems content line t
 more_items content line x t f s = record {
   said = x.value ∷ s.said;
-  fronts = subst (Fronts line t.rest) (sym (append_assoc (item_operands x.value) (flat_map item_operands s.said) (Fixed (codes "}") ∷ []))) (then (item_operands x.value) (items_operands s.said) f s.fronts);
+  fronts =
+      subst (Fronts line t.rest)
+      (sym (append_assoc (item_operands x.value) (flat_map item_operands s.said) (Fixed (codes "}") ∷ [])))
+      (then (item_operands x.value) (items_operands s.said) f s.fronts);
   stands = s.stands;
 }
 
-pub items_front : (line : List Said) (t : Took GlobalZone) → AllHoldBytes line → items line ≡ Ok t → SaidItems no_content line t
+pub items_front : (line : List Said) (t : Took GlobalZone) → AllHoldBytes line → items line ≡ Ok t
+    → SaidItems no_content line t
 unfolding items items_on
 items_front line t h e =
     repeated_reads (is_next (codes "}")) closed an_item with_item SaidItems closed_front
-    (λ content line x t h e on. let f = item_front line x h e in more_items content line x t f (on f.holds)) no_content line t h e
+    (λ content line x t h e on. let f = item_front line x h e in more_items content line x t f (on f.holds))
+    no_content line t h e
 
 -- ---- zones
 
@@ -171,7 +245,8 @@ zone_behind_front line t h e =
     let f = number_front most_word line n.first h n.is in
     let c = both (items n.first.rest) (λ content. pure (zone_of n.first.value content)) t n.second in
     let s = items_front n.first.rest c.first f.holds c.is in
-    let same : record { value = zone_of n.first.value c.first.value; rest = c.first.rest } ≡ t = made _ c.first.rest t c.second in
+    let same : record { value = zone_of n.first.value c.first.value; rest = c.first.rest } ≡ t =
+    made _ c.first.rest t c.second in
     subst (SaidBehind line) same (record {
       said = record { target = n.first.value; items = s.said };
       fronts = then (Number most_word n.first.value ∷ []) (items_operands s.said) f s.fronts;
@@ -184,7 +259,15 @@ zone_front line t h e =
     let o = both (opened line) (λ o. zone_behind) t e in
     let f = fixed_front (codes "{") line o.first h o.is in
     let s = zone_behind_front o.first.rest t f.holds o.second in
-    record { said = s.said; fronts = then (Fixed (codes "{") ∷ []) (Number most_word s.said.target ∷ items_operands s.said.items) f s.fronts; stands = s.stands }
+    record {
+      said =
+          s.said;
+      fronts =
+          then (Fixed (codes "{") ∷ []) (Number most_word s.said.target ∷ items_operands s.said.items) f
+          s.fronts;
+      stands =
+          s.stands;
+    }
 
 -- the zones that are left
 record SaidLeft (zs : List Zone) (line : List Said) (t : Took (List Zone)) : Type 0 where
@@ -192,19 +275,25 @@ record SaidLeft (zs : List Zone) (line : List Said) (t : Took (List Zone)) : Typ
   pub fronts : Fronts line t.rest (flat_map zone_operands said)
   pub stands : zs ++ map zone_in said ≡ t.value
 
-no_more : (zs : List Zone) (line : List Said) (t : Took (List Zone)) → AllHoldBytes line → pure zs line ≡ Ok t → SaidLeft zs line t
+no_more : (zs : List Zone) (line : List Said) (t : Took (List Zone)) → AllHoldBytes line → pure zs line ≡ Ok t
+    → SaidLeft zs line t
 no_more zs line t h e =
     let same : record { value = zs; rest = line } ≡ t = made zs line t e in
-    subst (SaidLeft zs line) same (record { said = []; fronts = record { says = λ more k. k; holds = h }; stands = append-nil zs })
+    subst (SaidLeft zs line) same
+    (record { said = []; fronts = record { says = λ more k. k; holds = h }; stands = append-nil zs })
 
-more_zones : (zs : List Zone) (line : List Said) (x : Took Zone) (t : Took (List Zone)) → SaidZone line x → SaidLeft (with_zone zs x.value) x.rest t → SaidLeft zs line t
+more_zones : (zs : List Zone) (line : List Said) (x : Took Zone) (t : Took (List Zone)) → SaidZone line x
+    → SaidLeft (with_zone zs x.value) x.rest t → SaidLeft zs line t
 more_zones zs line x t z s = record {
   said = z.said ∷ s.said;
   fronts = then (zone_operands z.said) (flat_map zone_operands s.said) z.fronts s.fronts;
-  stands = ap (λ (y : Zone). zs ++ (y ∷ map zone_in s.said)) z.stands ∙ sym (append_assoc zs (x.value ∷ []) (map zone_in s.said)) ∙ s.stands;
+  stands =
+      ap (λ (y : Zone). zs ++ (y ∷ map zone_in s.said)) z.stands
+      ∙ sym (append_assoc zs (x.value ∷ []) (map zone_in s.said)) ∙ s.stands;
 }
 
-left_front : (zs : List Zone) (line : List Said) (t : Took (List Zone)) → AllHoldBytes line → zones_left zs line ≡ Ok t → SaidLeft zs line t
+left_front : (zs : List Zone) (line : List Said) (t : Took (List Zone)) → AllHoldBytes line
+    → zones_left zs line ≡ Ok t → SaidLeft zs line t
 unfolding zones_left
 left_front zs line t h e =
     repeated_reads is_end pure zone with_zone SaidLeft (λ zs line t h over e. no_more zs line t h e)
@@ -226,7 +315,8 @@ record SaidAfter (line : List Said) (t : Took (GlobalZone × List Zone)) : Type 
   pub fronts : Fronts line t.rest after
   pub stands : zones_in written ≡ t.value
 
-global_front : (line : List Said) (t : Took (GlobalZone × List Zone)) → AllHoldBytes line → is_next (codes "global") line ≡ true → global_behind line ≡ Ok t → SaidAfter line t
+global_front : (line : List Said) (t : Took (GlobalZone × List Zone)) → AllHoldBytes line
+    → is_next (codes "global") line ≡ true → global_behind line ≡ Ok t → SaidAfter line t
 unfolding global_behind global_zones
 global_front line t h k e =
     let w = both (word line) (λ w. items >>= λ g. zones_left [] >>= λ zs. pure (g, zs)) t e in
@@ -235,52 +325,81 @@ global_front line t h k e =
     let gs = items_front w.first.rest g.first wf.holds g.is in
     let z = both (zones_left [] g.first.rest) (λ zs. pure (g.first.value, zs)) t g.second in
     let zs = left_front [] g.first.rest z.first gs.fronts.holds z.is in
-    let same : record { value = (g.first.value, z.first.value); rest = z.first.rest } ≡ t = made _ z.first.rest t z.second in
-    let word : Fronts line w.first.rest (Fixed (codes "global") ∷ []) = subst (λ (v : List ℕ). Fronts line w.first.rest (Fixed v ∷ [])) (next_is (codes "global") line w.first w.is k) wf in
+    let same : record { value = (g.first.value, z.first.value); rest = z.first.rest } ≡ t =
+    made _ z.first.rest t z.second in
+    let word : Fronts line w.first.rest (Fixed (codes "global") ∷ []) =
+    subst (λ (v : List ℕ). Fronts line w.first.rest (Fixed v ∷ []))
+    (next_is (codes "global") line w.first w.is k) wf in
     subst (SaidAfter line) same (record {
       written = record { global = Some gs.said; zones = zs.said };
       after = Fixed (codes "global") ∷ items_operands gs.said ++ flat_map zone_operands zs.said;
       parts = refl;
-      fronts = then (Fixed (codes "global") ∷ []) (items_operands gs.said ++ flat_map zone_operands zs.said) word (then (items_operands gs.said) (flat_map zone_operands zs.said) gs.fronts zs.fronts);
+      fronts =
+          then (Fixed (codes "global") ∷ []) (items_operands gs.said ++ flat_map zone_operands zs.said) word
+          (then (items_operands gs.said) (flat_map zone_operands zs.said) gs.fronts zs.fronts);
       stands = cc (gs.stands, zs.stands);
     })
 
-first_front : (line : List Said) (t : Took (GlobalZone × List Zone)) → AllHoldBytes line → first_behind line ≡ Ok t → SaidAfter line t
+first_front : (line : List Said) (t : Took (GlobalZone × List Zone)) → AllHoldBytes line → first_behind line ≡ Ok t
+    → SaidAfter line t
 unfolding first_behind
 first_front line t h e =
     let x = both (zone_behind line) (λ z. zones_left (z ∷ []) >>= λ zs. pure (no_content, zs)) t e in
     let xs = zone_behind_front line x.first h x.is in
     let z = both (zones_left (x.first.value ∷ []) x.first.rest) (λ zs. pure (no_content, zs)) t x.second in
     let zs = left_front (x.first.value ∷ []) x.first.rest z.first xs.fronts.holds z.is in
-    let same : record { value = (no_content, z.first.value); rest = z.first.rest } ≡ t = made _ z.first.rest t z.second in
+    let same : record { value = (no_content, z.first.value); rest = z.first.rest } ≡ t =
+    made _ z.first.rest t z.second in
     subst (SaidAfter line) same (record {
       written = record { global = None; zones = xs.said ∷ zs.said };
       after = (Number most_word xs.said.target ∷ items_operands xs.said.items) ++ flat_map zone_operands zs.said;
       parts = refl;
-      fronts = then (Number most_word xs.said.target ∷ items_operands xs.said.items) (flat_map zone_operands zs.said) xs.fronts zs.fronts;
-      stands = ap (λ (ys : List Zone). (no_content, ys)) (ap (λ (y : Zone). y ∷ map zone_in zs.said) xs.stands ∙ zs.stands);
+      fronts =
+          then (Number most_word xs.said.target ∷ items_operands xs.said.items) (flat_map zone_operands zs.said)
+          xs.fronts zs.fronts;
+      stands =
+          ap (λ (ys : List Zone). (no_content, ys))
+          (ap (λ (y : Zone). y ∷ map zone_in zs.said) xs.stands ∙ zs.stands);
     })
 
-behind_front : (line : List Said) (t : Took (GlobalZone × List Zone)) → AllHoldBytes line → zones_behind line ≡ Ok t → SaidAfter line t
+behind_front : (line : List Said) (t : Took (GlobalZone × List Zone)) → AllHoldBytes line → zones_behind line ≡ Ok t
+    → SaidAfter line t
 behind_front line t h e = from (is_next (codes "global") line) refl
   where
     from : (b : Bool) → is_next (codes "global") line ≡ b → SaidAfter line t
     from true k = global_front line t h k (sym (global_first line k) ∙ e)
     from false k = first_front line t h (sym (zone_first line k) ∙ e)
 
-some_front : (line : List Said) (t : Took (GlobalZone × List Zone)) → AllHoldBytes line → (opened >>= λ o. zones_behind) line ≡ Ok t → SaidZones line t
+some_front : (line : List Said) (t : Took (GlobalZone × List Zone)) → AllHoldBytes line
+    → (opened >>= λ o. zones_behind) line ≡ Ok t → SaidZones line t
 some_front line t h e =
     let o = both (opened line) (λ o. zones_behind) t e in
     let f = fixed_front (codes "{") line o.first h o.is in
     let s = behind_front o.first.rest t f.holds o.second in
-    record { written = s.written; fronts = subst (Fronts line t.rest) (sym s.parts) (then (Fixed (codes "{") ∷ []) s.after f s.fronts); stands = s.stands }
+    record {
+      written =
+          s.written;
+      fronts =
+          subst (Fronts line t.rest) (sym s.parts) (then (Fixed (codes "{") ∷ []) s.after f s.fronts);
+      stands =
+          s.stands;
+    }
 
-none_front : (line : List Said) (t : Took (GlobalZone × List Zone)) → AllHoldBytes line → pure (no_content, []) line ≡ Ok t → SaidZones line t
+none_front : (line : List Said) (t : Took (GlobalZone × List Zone)) → AllHoldBytes line
+    → pure (no_content, []) line ≡ Ok t → SaidZones line t
 none_front line t h e =
     let same : record { value = (no_content, []); rest = line } ≡ t = made (no_content, []) line t e in
-    subst (SaidZones line) same (record { written = record { global = None; zones = [] }; fronts = record { says = λ more k. k; holds = h }; stands = refl })
+    subst (SaidZones line) same
+    (record {
+      written =
+          record { global = None; zones = [] };
+      fronts =
+          record { says = λ more k. k; holds = h };
+      stands = refl;
+    })
 
-pub zones_front : (line : List Said) (t : Took (GlobalZone × List Zone)) → AllHoldBytes line → zones line ≡ Ok t → SaidZones line t
+pub zones_front : (line : List Said) (t : Took (GlobalZone × List Zone)) → AllHoldBytes line → zones line ≡ Ok t
+    → SaidZones line t
 zones_front line t h e = from (is_end line) refl
   where
     from : (b : Bool) → is_end line ≡ b → SaidZones line t

@@ -19,7 +19,8 @@ use Rattle.script_grammar.specs.Operands.{Operand, Fixed, Number, Signed, Amount
 
 -- `LO..HI` for the ranges of keys and of velocities, and else a signed number
 abbrev pub amount_operand : ℕ → ℕ → Operand
-amount_operand operator amount = if is_range_operator operator then Range (amount % 256) (amount / 256) else Amount amount
+amount_operand operator amount =
+    if is_range_operator operator then Range (amount % 256) (amount / 256) else Amount amount
 
 -- `OPERATOR AMOUNT`
 abbrev pub generator_operands : ℕ → ℕ → List Operand
@@ -27,7 +28,9 @@ generator_operands operator amount = Number most_word operator ∷ amount_operan
 
 -- `SOURCE DEST AMOUNT ASOURCE TRANSFORM`
 abbrev pub modulator_operands : Modulator → List Operand
-modulator_operands m = Number most_word m.source ∷ Number most_word m.dest ∷ Signed 32767 m.amount ∷ Number most_word m.amount_source ∷ Number most_word m.transform ∷ []
+modulator_operands m =
+    Number most_word m.source ∷ Number most_word m.dest ∷ Signed 32767 m.amount ∷ Number most_word m.amount_source
+    ∷ Number most_word m.transform ∷ []
 
 -- `g OPERATOR AMOUNT` or `m MOD`
 abbrev pub item_operands : Item → List Operand

@@ -7,7 +7,9 @@ use Rattle.line_tokens.specs.Said as saying
 use Rattle.line_tokens.specs.Parts.{Part}
 
 -- what the code of such a part does to what is left of a line: out of memory can come in place of any answer
-abbrev pub ReadsOrWants : {X Y : Type 0} → (X → Y) → Part Y → saying.Left → saying.Left → Result X (Failure LineFault) → Type 0
-ReadsOrWants view part old new (Ok x) = (part old.said ≡ Ok (record { value = view x; rest = new.said })) × (new.pool ≡ old.pool)
+abbrev pub ReadsOrWants : {X Y : Type 0} → (X → Y) → Part Y → saying.Left → saying.Left
+    → Result X (Failure LineFault) → Type 0
+ReadsOrWants view part old new (Ok x) =
+    (part old.said ≡ Ok (record { value = view x; rest = new.said })) × (new.pool ≡ old.pool)
 ReadsOrWants view part old new (Err (Fault e)) = part old.said ≡ Err e
 ReadsOrWants view part old new (Err OutOfMemory) = Unit {0}

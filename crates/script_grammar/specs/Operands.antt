@@ -33,7 +33,8 @@ Says s (Amount amount) = (w : List ℕ) × (z : ℤ) × (s ≡ Word w) × Writes
 Says s (Range low high) = (w : List ℕ) × (s ≡ Word w) × WritesRange w low high
 Says s (Name bytes) = (s ≡ Literal bytes) × IsName bytes
 Says s (Text bytes) = (s ≡ Literal bytes) × FitsText bytes
-Says s (Points ps) = (bytes : List ℕ) × (s ≡ Literal bytes) × FitsText bytes × (length bytes % 2 ≡ 0) × (ps ≡ words bytes)
+Says s (Points ps) =
+    (bytes : List ℕ) × (s ≡ Literal bytes) × FitsText bytes × (length bytes % 2 ≡ 0) × (ps ≡ words bytes)
 
 -- the tokens say it, one by one
 abbrev pub AllSay : List Said → List Operand → Type 0

@@ -5,7 +5,8 @@ use Rattle.line_tokens.specs.declared.fault.LineFault.TheVariants as faults
 use Rattle.line_tokens.specs.Parts.{Part, ◌>>=◌}
 
 -- Up to n tests for the end: each part puts its value into what there is, and the last makes the whole.
-unfoldable pub repeated_within : {X Y : Type 0} → (List Said → Bool) → (Y → Part Y) → Part X → (Y → X → Y) → ℕ → Y → Part Y
+unfoldable pub repeated_within : {X Y : Type 0} → (List Said → Bool) → (Y → Part Y) → Part X → (Y → X → Y) → ℕ → Y
+    → Part Y
 repeated_within ends last part with zero y line = Err faults.Syntax
 repeated_within ends last part with (suc n) y line =
     if ends line then last y line

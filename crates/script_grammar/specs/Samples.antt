@@ -31,7 +31,8 @@ tune_operands rate key correction = Number most_double_word rate ∷ Number 255 
 
 -- all that a sample has but its points: `NAME RATE KEY CORR KIND LOOP`
 abbrev pub head_operands : Sample → List Operand
-head_operands s = (Name s.name ∷ tune_operands s.rate s.key s.correction) ++ (kind_operands s.kind ++ loop_operands s.looped)
+head_operands s =
+    (Name s.name ∷ tune_operands s.rate s.key s.correction) ++ (kind_operands s.kind ++ loop_operands s.looped)
 
 abbrev pub body_operands : Sample → List Operand
 body_operands s = head_operands s ++ Points s.points ∷ []
@@ -78,7 +79,16 @@ tune = do
 
 abbrev pub sample_of : List ℕ → ℕ × ℕ × ℤ → Kind → Option (ℕ × ℕ) → List ℕ → Sample
 sample_of name tune kind looped points =
-    record { name = name; points = points; looped = looped; rate = tune.0; key = tune.1; correction = tune.2; kind = kind }
+    record {
+      name =
+          name;
+      points = points;
+      looped = looped;
+      rate = tune.0;
+      key = tune.1;
+      correction = tune.2;
+      kind = kind;
+    }
 
 -- `NAME RATE KEY CORR KIND LOOP POINTS`
 unfoldable pub body : Part Sample

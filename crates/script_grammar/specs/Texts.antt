@@ -1,7 +1,8 @@
 -- The part of a line that names one of a bank's texts.
 use Rattle.std.specs.Prelude.{ℕ, List, [], ◌∷◌, codes}
 use Rattle.bank_parts.specs.declared.texts.InfoId.{InfoId}
-use Rattle.bank_parts.specs.declared.texts.InfoId.TheVariants.{Engine, Name, Date, Engineers, Product, Copyright, Comment, Software}
+use Rattle.bank_parts.specs.declared.texts.InfoId.TheVariants.{Engine, Name, Date, Engineers, Product, Copyright}
+use Rattle.bank_parts.specs.declared.texts.InfoId.TheVariants.{Comment, Software}
 use Rattle.line_tokens.specs.Parts.{Part}
 use Rattle.script_grammar.specs.Names.{next_named}
 

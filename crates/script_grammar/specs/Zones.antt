@@ -1,5 +1,6 @@
 -- The parts of a line that say zones: what stands there, what it stands for, and how it is read.
-use Rattle.std.specs.Prelude.{ℕ, ◌+◌, ◌==◌, List, [], ◌∷◌, ◌++◌, length, map, codes, Option, Some, None, Bool, true, if◌then◌else◌}
+use Rattle.std.specs.Prelude.{ℕ, ◌+◌, ◌==◌, List, [], ◌∷◌, ◌++◌, length, map, codes, Option, Some, None, Bool, true}
+use Rattle.std.specs.Prelude.{if◌then◌else◌}
 use Rattle.std.specs.FinMap.{len, entries}
 use Rattle.std.specs.List.{flat_map}
 use Rattle.modulators.specs.declared.modulator.Modulator.{Modulator}
@@ -59,7 +60,8 @@ zones_in w = (global_in w.global, map zone_in w.zones)
 
 -- operators with their amounts, and then modulators
 abbrev pub listed_items : List (ℕ × ℕ) → List Modulator → List Item
-listed_items entries mods = map (λ (e : ℕ × ℕ). item.Generator e.0 e.1) entries ++ map (λ (m : Modulator). item.Modulator m) mods
+listed_items entries mods =
+    map (λ (e : ℕ × ℕ). item.Generator e.0 e.1) entries ++ map (λ (m : Modulator). item.Modulator m) mods
 
 -- generators in canonical order
 abbrev pub items_of : Gens → List Modulator → List Item

@@ -1,5 +1,6 @@
 -- Bags that are put behind others in flat lists of records.
-use Rattle.std.proofs.Common.{◌≡◌, ◌≢◌, ◌==◌, false, ℕ, ◌+◌, ◌-◌, List, [], ◌∷◌, ◌++◌, length, refl, sym, ap, subst, ◌∙◌, append_assoc, append-nil, ◌⊎◌, inl, inr, arith}
+use Rattle.std.proofs.Common.{◌≡◌, ◌≢◌, ◌==◌, false, ℕ, ◌+◌, ◌-◌, List, [], ◌∷◌, ◌++◌, length, refl, sym, ap, subst}
+use Rattle.std.proofs.Common.{◌∙◌, append_assoc, append-nil, ◌⊎◌, inl, inr, arith}
 use Rattle.std.specs.FinMap.{entries, len, len-entries}
 use Rattle.std.proofs.lemmas.Bool.{ne_eqb}
 use Rattle.std.proofs.lemmas.List.{length-append, flat_map_more}
@@ -22,11 +23,14 @@ pub adds_none : (r : Recs) → Adds r r []
 adds_none r = λ all a. subst (AreSoFar r) (sym (append-nil all)) a
 
 -- all stay
-pub adds_same : (a b : Recs) → b.bags.items ≡ a.bags.items → b.gens.items ≡ a.gens.items → b.mods.items ≡ a.mods.items → Adds a b []
-adds_same a b bags gens mods = λ all h. adds_none b all (record { bags = bags ∙ h.bags; gens = gens ∙ h.gens; mods = mods ∙ h.mods })
+pub adds_same : (a b : Recs) → b.bags.items ≡ a.bags.items → b.gens.items ≡ a.gens.items
+    → b.mods.items ≡ a.mods.items → Adds a b []
+adds_same a b bags gens mods =
+    λ all h. adds_none b all (record { bags = bags ∙ h.bags; gens = gens ∙ h.gens; mods = mods ∙ h.mods })
 
 pub adds_both : (a b c : Recs) (xs ys : List Bag) → Adds a b xs → Adds b c ys → Adds a c (xs ++ ys)
-adds_both a b c xs ys first second = λ all h. subst (AreSoFar c) (append_assoc all xs ys) (second (all ++ xs) (first all h))
+adds_both a b c xs ys first second =
+    λ all h. subst (AreSoFar c) (append_assoc all xs ys) (second (all ++ xs) (first all h))
 
 pub adds_as : (a b : Recs) (xs ys : List Bag) → xs ≡ ys → Adds a b xs → Adds a b ys
 adds_as a b xs ys same h = subst (Adds a b) same h
@@ -35,24 +39,35 @@ adds_as a b xs ys same h = subst (Adds a b) same h
 
 -- the index past all of them is behind the others
 starts-last : (at : ℕ × ℕ) (xs : List Bag) (b : Bag)
-    → starts past_bag at (xs ++ b ∷ []) ≡ starts past_bag at xs ++ (at.0 + length (gens_in (xs ++ b ∷ [])), at.1 + length (mods_in (xs ++ b ∷ []))) ∷ []
+    → starts past_bag at (xs ++ b ∷ [])
+    ≡ starts past_bag at xs ++ (at.0 + length (gens_in (xs ++ b ∷ [])), at.1 + length (mods_in (xs ++ b ∷ []))) ∷ []
 starts-last at [] b =
-    let gens : at.0 + length b.gens ≡ at.0 + length (b.gens ++ []) = ap (λ gs. at.0 + length gs) (sym (append-nil b.gens)) in
-    let mods : at.1 + length b.mods ≡ at.1 + length (b.mods ++ []) = ap (λ ms. at.1 + length ms) (sym (append-nil b.mods)) in
+    let gens : at.0 + length b.gens ≡ at.0 + length (b.gens ++ []) =
+    ap (λ gs. at.0 + length gs) (sym (append-nil b.gens)) in
+    let mods : at.1 + length b.mods ≡ at.1 + length (b.mods ++ []) =
+    ap (λ ms. at.1 + length ms) (sym (append-nil b.mods)) in
     λ i. at ∷ (gens i, mods i) ∷ []
 starts-last at (x ∷ xs) b =
-    let gens : (at.0 + length x.gens) + length (gens_in (xs ++ b ∷ [])) ≡ at.0 + length (x.gens ++ gens_in (xs ++ b ∷ [])) = omega (arith, length-append x.gens (gens_in (xs ++ b ∷ []))) in
-    let mods : (at.1 + length x.mods) + length (mods_in (xs ++ b ∷ [])) ≡ at.1 + length (x.mods ++ mods_in (xs ++ b ∷ [])) = omega (arith, length-append x.mods (mods_in (xs ++ b ∷ []))) in
+    let gens : (at.0 + length x.gens) + length (gens_in (xs ++ b ∷ []))
+    ≡ at.0 + length (x.gens ++ gens_in (xs ++ b ∷ [])) =
+    omega (arith, length-append x.gens (gens_in (xs ++ b ∷ []))) in
+    let mods : (at.1 + length x.mods) + length (mods_in (xs ++ b ∷ []))
+    ≡ at.1 + length (x.mods ++ mods_in (xs ++ b ∷ [])) =
+    omega (arith, length-append x.mods (mods_in (xs ++ b ∷ []))) in
     ap (λ is. at ∷ is) (starts-last (past_bag at x) xs b)
     ∙ (λ i. at ∷ (starts past_bag (past_bag at x) xs ++ (gens i, mods i) ∷ []))
 
-module _ (old new : Recs) (b : Bag) (gens : new.gens.items ≡ old.gens.items ++ b.gens) (mods : new.mods.items ≡ old.mods.items ++ b.mods)
+module _ (old new : Recs) (b : Bag) (gens : new.gens.items ≡ old.gens.items ++ b.gens)
+    (mods : new.mods.items ≡ old.mods.items ++ b.mods)
     (bags : new.bags.items ≡ old.bags.items ++ (length new.gens.items, length new.mods.items) ∷ []) where
   adds_bag : Adds old new (b ∷ [])
   adds_bag = λ all h.
-      let gens_are : new.gens.items ≡ gens_in (all ++ b ∷ []) = gens ∙ ap (λ gs. gs ++ b.gens) h.gens ∙ flat_map_more (λ (x : Bag). x.gens) [] all b in
-      let mods_are : new.mods.items ≡ mods_in (all ++ b ∷ []) = mods ∙ ap (λ ms. ms ++ b.mods) h.mods ∙ flat_map_more (λ (x : Bag). x.mods) [] all b in
-      let last : (length new.gens.items, length new.mods.items) ≡ (0 + length (gens_in (all ++ b ∷ [])), 0 + length (mods_in (all ++ b ∷ []))) =
+      let gens_are : new.gens.items ≡ gens_in (all ++ b ∷ []) =
+      gens ∙ ap (λ gs. gs ++ b.gens) h.gens ∙ flat_map_more (λ (x : Bag). x.gens) [] all b in
+      let mods_are : new.mods.items ≡ mods_in (all ++ b ∷ []) =
+      mods ∙ ap (λ ms. ms ++ b.mods) h.mods ∙ flat_map_more (λ (x : Bag). x.mods) [] all b in
+      let last : (length new.gens.items, length new.mods.items)
+      ≡ (0 + length (gens_in (all ++ b ∷ [])), 0 + length (mods_in (all ++ b ∷ []))) =
       (let g : length new.gens.items ≡ 0 + length (gens_in (all ++ b ∷ [])) = omega (arith, ap length gens_are) in
       let m : length new.mods.items ≡ 0 + length (mods_in (all ++ b ∷ [])) = omega (arith, ap length mods_are) in
       λ i. (g i, m i)) in
@@ -63,7 +78,9 @@ module _ (old new : Recs) (b : Bag) (gens : new.gens.items ≡ old.gens.items ++
       }
 
 -- the generators were put behind the others before
-pub adds_held : (before mid new : Recs) (gens more : List (ℕ × ℕ)) (mods : List Modulator) → HoldsGens before mid gens → EndsBag mid new more mods → Adds before new (record { gens = gens ++ more; mods = mods } ∷ [])
+pub adds_held : (before mid new : Recs) (gens more : List (ℕ × ℕ)) (mods : List Modulator)
+    → HoldsGens before mid gens → EndsBag mid new more mods
+    → Adds before new (record { gens = gens ++ more; mods = mods } ∷ [])
 adds_held before mid new gens more mods h e =
     adds_bag before new (record { gens = gens ++ more; mods = mods })
     (e.gens_grow ∙ ap (λ gs. gs ++ more) h.gens_grow ∙ append_assoc before.gens.items gens more)
@@ -72,19 +89,32 @@ adds_held before mid new gens more mods h e =
 
 -- ---- the bag of a global zone, where it holds something
 
-module _ (before now : Recs) (g : GlobalZone) (gens mods : ℕ) (h : HoldsGens before now (entries g.gens)) (gens_are : gens ≡ length now.gens.items - length before.gens.items)
+module _ (before now : Recs) (g : GlobalZone) (gens mods : ℕ) (h : HoldsGens before now (entries g.gens))
+    (gens_are : gens ≡ length now.gens.items - length before.gens.items)
     (mods_are : mods ≡ length g.mods) where
   held_count : gens ≡ len g.gens
-  held_count = omega (arith, gens_are, len-entries g.gens, ap length h.gens_grow, length-append before.gens.items (entries g.gens))
+  held_count =
+      omega (
+        arith,
+        gens_are,
+        len-entries g.gens,
+        ap length h.gens_grow,
+        length-append before.gens.items (entries g.gens),
+      )
 
   pub global_none : gens ≡ 0 → mods ≡ 0 → Adds before now (global_bags g)
   global_none zero zero_too =
       let none : len g.gens + length g.mods ≡ 0 = omega (arith, held_count, mods_are, zero, zero_too) in
       let bags : global_bags g ≡ [] = rw none refl in
-      let gens : now.gens.items ≡ before.gens.items = h.gens_grow ∙ ap (λ gs. before.gens.items ++ gs) (no_members (entries g.gens) (omega (arith, none, len-entries g.gens))) ∙ append-nil before.gens.items in
+      let gens : now.gens.items ≡ before.gens.items =
+      h.gens_grow
+      ∙ ap (λ gs. before.gens.items ++ gs)
+      (no_members (entries g.gens) (omega (arith, none, len-entries g.gens)))
+      ∙ append-nil before.gens.items in
       adds_as before now [] (global_bags g) (sym bags) (adds_same before now h.bags_stay gens h.mods_stay)
 
-  pub global_some : (new : Recs) → ((gens ≡ 0) × (mods ≢ 0)) ⊎ (gens ≢ 0) → EndsBag now new [] g.mods → Adds before new (global_bags g)
+  pub global_some : (new : Recs) → ((gens ≡ 0) × (mods ≢ 0)) ⊎ (gens ≢ 0) → EndsBag now new [] g.mods
+      → Adds before new (global_bags g)
   global_some new some ends =
       let more : len g.gens + length g.mods ≢ 0 = λ z. elim some as (λ s. ⊥) [
         | inl b ↦ b.1 (omega (arith, mods_are, z))
@@ -92,13 +122,16 @@ module _ (before now : Recs) (g : GlobalZone) (gens mods : ℕ) (h : HoldsGens b
       ] in
       let there : (len g.gens + length g.mods == 0) ≡ false = ne_eqb _ _ more in
       let bags : global_bags g ≡ global_bag g ∷ [] = rw there refl in
-      let same : record { gens = entries g.gens ++ []; mods = g.mods } ≡ global_bag g = λ i. record { gens = append-nil (entries g.gens) i; mods = g.mods } in
-      adds_as before new (record { gens = entries g.gens ++ []; mods = g.mods } ∷ []) (global_bags g) (ap (λ (b : Bag). b ∷ []) same ∙ sym bags)
+      let same : record { gens = entries g.gens ++ []; mods = g.mods } ≡ global_bag g =
+      λ i. record { gens = append-nil (entries g.gens) i; mods = g.mods } in
+      adds_as before new (record { gens = entries g.gens ++ []; mods = g.mods } ∷ []) (global_bags g)
+      (ap (λ (b : Bag). b ∷ []) same ∙ sym bags)
       (adds_held before now new (entries g.gens) [] g.mods h ends)
 
 -- ---- the terminals
 
-pub terminals : (old new : Recs) → new.bags.items ≡ old.bags.items → new.gens.items ≡ old.gens.items ++ (0, 0) ∷ [] → new.mods.items ≡ old.mods.items ++ no_modulator ∷ []
+pub terminals : (old new : Recs) → new.bags.items ≡ old.bags.items → new.gens.items ≡ old.gens.items ++ (0, 0) ∷ []
+    → new.mods.items ≡ old.mods.items ++ no_modulator ∷ []
     → (all : List Bag) → AreSoFar old all → tables_in new ≡ tables_of all
 terminals old new bags gens mods all h =
     let bags_are = bags ∙ h.bags in

@@ -27,7 +27,8 @@ unfolding texts_in cut_count texts_cut
 cut_count_is info = refl
 
 -- what was found of lists and tables
-pub record Found (w : ListChunks) (heads : List SampleHead) (members : FlatMembers) (texts cut : Texts) (cut_texts sm24 : ℕ) (zone_counts : ZoneCounts) (loops links : ℕ) : Type 0 where
+pub record Found (w : ListChunks) (heads : List SampleHead) (members : FlatMembers) (texts cut : Texts)
+    (cut_texts sm24 : ℕ) (zone_counts : ZoneCounts) (loops links : ℕ) : Type 0 where
   pub texts_are : texts ≡ texts_in w.info
   pub cut_are : cut ≡ cut_of texts
   pub counted : cut_texts ≡ cut_count texts
@@ -36,7 +37,8 @@ pub record Found (w : ListChunks) (heads : List SampleHead) (members : FlatMembe
   pub loops_are : loops ≡ count_by is_loop_lost (rows heads)
   pub links_are : links ≡ count_by (is_link_lost (length (rows heads))) (rows heads)
 
-pub found_content : (minor : ℕ) (w : ListChunks) (t : Tables) (members : FlatMembers) (samples : List Sample) (texts cut : Texts) (cut_texts sm24 : ℕ) (zone_counts : ZoneCounts) (loops links : ℕ)
+pub found_content : (minor : ℕ) (w : ListChunks) (t : Tables) (members : FlatMembers) (samples : List Sample)
+    (texts cut : Texts) (cut_texts sm24 : ℕ) (zone_counts : ZoneCounts) (loops links : ℕ)
     → Found w t.shdr members texts cut cut_texts sm24 zone_counts loops links
     → ◌≡◌ {A = FlatContent} (record {
       bank = record {
@@ -48,7 +50,20 @@ pub found_content : (minor : ℕ) (w : ListChunks) (t : Tables) (members : FlatM
         instruments = members.instruments.records;
         samples = samples;
       };
-      counts = record { texts = cut_texts; sm24 = sm24; zones = zone_counts.zones; gens = zone_counts.gens; ranges = zone_counts.ranges; loops = loops; links = links };
+      counts =
+          record {
+            texts =
+                cut_texts;
+            sm24 =
+                sm24;
+            zones =
+                zone_counts.zones;
+            gens =
+                zone_counts.gens;
+            ranges = zone_counts.ranges;
+            loops = loops;
+            links = links;
+          };
     }) (content_with minor w t members samples)
 unfolding content_with
 found_content minor w t members samples texts cut cut_texts sm24 zone_counts loops links f =

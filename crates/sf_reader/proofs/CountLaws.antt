@@ -1,5 +1,6 @@
 -- How much is dropped or mended at most, so that it can be counted in 64 bits.
-use Rattle.std.proofs.Common.{◌≡◌, ◌≤◌, ◌+◌, ◌-◌, ◌*◌, ◌==◌, ℕ, zero, suc, Bool, true, false, cond, List, [], ◌∷◌, length, take, drop, map, subst, sym, ap, arith}
+use Rattle.std.proofs.Common.{◌≡◌, ◌≤◌, ◌+◌, ◌-◌, ◌*◌, ◌==◌, ℕ, zero, suc, Bool, true, false, cond, List, [], ◌∷◌}
+use Rattle.std.proofs.Common.{length, take, drop, map, subst, sym, ap, arith}
 use Rattle.std.specs.Prelude.{sum_by, count_by, filter, not}
 use Rattle.std.specs.List.{AllByRecursion, slice_range, list_any}
 use Rattle.std.proofs.lemmas.List.{length-take, length-drop, length-map}
@@ -10,7 +11,8 @@ use Rattle.modulators.specs.declared.modulator.Modulator.{Modulator}
 use Rattle.hydra_records.specs.declared.zone.Bag.{Bag}
 use Rattle.hydra_records.specs.declared.zone.Generator.{Generator}
 use Rattle.bank_format.specs.Windows.{windows, windows_from, together}
-use Rattle.bank_format.specs.Zones.{Bagged, has_target, is_target, before_target, allowed_in, last_of_each, kept, is_mended, dropped, looked_at, ignored, gens_dropped, ranges_mended}
+use Rattle.bank_format.specs.Zones.{Bagged, has_target, is_target, before_target, allowed_in, last_of_each, kept}
+use Rattle.bank_format.specs.Zones.{is_mended, dropped, looked_at, ignored, gens_dropped, ranges_mended}
 use Rattle.bank_format.specs.Reading.{bagged, bags_in}
 use Rattle.sf_reader.specs.declared.zones.ZoneCounts.{ZoneCounts}
 use Rattle.sf_reader.specs.Owners.{AreSmall, added, counts_over}
@@ -19,7 +21,8 @@ use Rattle.sf_reader.proofs.Kept.{length-kept}
 
 -- ---- sums
 
-sum_by-within : {X : Type 0} (f : X → ℕ) (most : ℕ) (xs : List X) → AllByRecursion (λ x. f x ≤ most) xs → sum_by f xs ≤ length xs * most
+sum_by-within : {X : Type 0} (f : X → ℕ) (most : ℕ) (xs : List X) → AllByRecursion (λ x. f x ≤ most) xs
+    → sum_by f xs ≤ length xs * most
 sum_by-within f most [] h = omega arith
 sum_by-within f most (x ∷ xs) h =
     let rest = sum_by-within f most xs h.1 in
@@ -27,7 +30,8 @@ sum_by-within f most (x ∷ xs) h =
 
 -- ---- what holds of all
 
-all_of : {X : Type 0} (P Q : X → Type 0) (xs : List X) → ((x : X) → P x → Q x) → AllByRecursion P xs → AllByRecursion Q xs
+all_of : {X : Type 0} (P Q : X → Type 0) (xs : List X) → ((x : X) → P x → Q x) → AllByRecursion P xs
+    → AllByRecursion Q xs
 all_of P Q [] f h = tt
 all_of P Q (x ∷ xs) f h = (f x h.0, all_of P Q xs f h.1)
 
@@ -55,15 +59,18 @@ mended-few at r h = omega (arith, h, count_by-le-length is_mended (kept at r.gen
 
 -- ---- of the bags of one head
 
-passed_if : {X : Type 0} (P : X → Type 0) (b : Bool) (x : X) (xs : List X) → P x → AllByRecursion P xs → AllByRecursion P (cond b (x ∷ xs) xs)
+passed_if : {X : Type 0} (P : X → Type 0) (b : Bool) (x : X) (xs : List X) → P x → AllByRecursion P xs
+    → AllByRecursion P (cond b (x ∷ xs) xs)
 passed_if P true x xs h k = (h, k)
 passed_if P false x xs h k = k
 
-all_passed : {X : Type 0} (P : X → Type 0) (p : X → Bool) (xs : List X) → AllByRecursion P xs → AllByRecursion P (filter p xs)
+all_passed : {X : Type 0} (P : X → Type 0) (p : X → Bool) (xs : List X) → AllByRecursion P xs
+    → AllByRecursion P (filter p xs)
 all_passed P p [] h = tt
 all_passed P p (x ∷ xs) h = passed_if P (p x) x (filter p xs) h.0 (all_passed P p xs h.1)
 
-all_looked_at : (at : Level) (bags : List Bagged) → AllByRecursion IsShort bags → AllByRecursion IsShort (looked_at at bags)
+all_looked_at : (at : Level) (bags : List Bagged) → AllByRecursion IsShort bags
+    → AllByRecursion IsShort (looked_at at bags)
 unfolding looked_at
 all_looked_at at [] h = tt
 all_looked_at at (r ∷ bags) h = (h.0, all_passed IsShort (has_target at) bags h.1)
@@ -71,7 +78,8 @@ all_looked_at at (r ∷ bags) h = (h.0, all_passed IsShort (has_target at) bags 
 length-looked_at : (at : Level) (bags : List Bagged) → length (looked_at at bags) ≤ length bags
 unfolding looked_at
 length-looked_at at [] = omega arith
-length-looked_at at (r ∷ bags) = omega (arith, length-filter (has_target at) bags, count_by-le-length (has_target at) bags)
+length-looked_at at (r ∷ bags) =
+    omega (arith, length-filter (has_target at) bags, count_by-le-length (has_target at) bags)
 
 -- no more bags than a list has records, and each short
 record IsFew (bags : List Bagged) : Type 0 where
@@ -86,52 +94,88 @@ ignored-few at (r ∷ bags) h = omega (arith, h.few, count_by-le-length (λ x. n
 gens_dropped-few : (at : Level) (bags : List Bagged) → IsFew bags → gens_dropped at bags ≤ 4294967296
 unfolding gens_dropped
 gens_dropped-few at bags h =
-    let short = all_of IsShort (λ r. dropped at r.gens ≤ 65536) (looked_at at bags) (dropped-few at) (all_looked_at at bags h.short) in
-    omega (arith, h.few, length-looked_at at bags, sum_by-within (λ (r : Bagged). dropped at r.gens) 65536 (looked_at at bags) short)
+    let short =
+    all_of IsShort (λ r. dropped at r.gens ≤ 65536) (looked_at at bags) (dropped-few at)
+    (all_looked_at at bags h.short) in
+    omega (
+      arith,
+      h.few,
+      length-looked_at at bags,
+      sum_by-within (λ (r : Bagged). dropped at r.gens) 65536 (looked_at at bags) short,
+    )
 
 ranges_mended-few : (at : Level) (bags : List Bagged) → IsFew bags → ranges_mended at bags ≤ 4294967296
 unfolding ranges_mended
 ranges_mended-few at bags h =
-    let short = all_of IsShort (λ r. count_by is_mended (kept at r.gens) ≤ 65536) (looked_at at bags) (mended-few at) (all_looked_at at bags h.short) in
-    omega (arith, h.few, length-looked_at at bags, sum_by-within (λ (r : Bagged). count_by is_mended (kept at r.gens)) 65536 (looked_at at bags) short)
+    let short =
+    all_of IsShort (λ r. count_by is_mended (kept at r.gens) ≤ 65536) (looked_at at bags) (mended-few at)
+    (all_looked_at at bags h.short) in
+    omega (
+      arith,
+      h.few,
+      length-looked_at at bags,
+      sum_by-within (λ (r : Bagged). count_by is_mended (kept at r.gens)) 65536 (looked_at at bags) short,
+    )
 
 -- ---- of all heads
 
 length-slice : {X : Type 0} (xs : List X) (from to : ℕ) → length (slice_range xs from to) ≤ length xs
 length-slice xs from to = omega (arith, length-take (to - from) (drop from xs), length-drop from xs)
 
-windows_from-short : {X : Type 0} (table : List X) (at : ℕ) (is : List ℕ) → AllByRecursion (λ w. length w ≤ length table) (windows_from table at is)
+windows_from-short : {X : Type 0} (table : List X) (at : ℕ) (is : List ℕ)
+    → AllByRecursion (λ w. length w ≤ length table) (windows_from table at is)
 windows_from-short table at [] = tt
 windows_from-short table at (i ∷ is) = (length-slice table at i, windows_from-short table i is)
 
-windows-short : {X : Type 0} (table : List X) (is : List ℕ) → AllByRecursion (λ w. length w ≤ length table) (windows table is)
+windows-short : {X : Type 0} (table : List X) (is : List ℕ)
+    → AllByRecursion (λ w. length w ≤ length table) (windows table is)
 windows-short table [] = tt
 windows-short table (i ∷ is) = windows_from-short table i is
 
-together-short : (gs : List (List Generator)) (ms : List (List Modulator)) → AllByRecursion (λ g. length g ≤ 65536) gs → AllByRecursion IsShort (together bagged gs ms)
+together-short : (gs : List (List Generator)) (ms : List (List Modulator))
+    → AllByRecursion (λ g. length g ≤ 65536) gs → AllByRecursion IsShort (together bagged gs ms)
 together-short [] ms h = tt
 together-short (g ∷ gs) [] h = tt
 together-short (g ∷ gs) (m ∷ ms) h = (h.0, together-short gs ms h.1)
 
-length-together-first : {X Y Z : Type 0} (f : X → Y → Z) (xs : List X) (ys : List Y) → length (together f xs ys) ≤ length xs
+length-together-first : {X Y Z : Type 0} (f : X → Y → Z) (xs : List X) (ys : List Y)
+    → length (together f xs ys) ≤ length xs
 length-together-first f [] ys = omega arith
 length-together-first f (x ∷ xs) [] = omega arith
 length-together-first f (x ∷ xs) (y ∷ ys) = omega (arith, length-together-first f xs ys)
 
-few_bags : (bags : List Bag) (gens : List Generator) (mods : List Modulator) → length bags ≤ 65536 → length gens ≤ 65536 → IsFew (bags_in bags gens mods)
+few_bags : (bags : List Bag) (gens : List Generator) (mods : List Modulator) → length bags ≤ 65536
+    → length gens ≤ 65536 → IsFew (bags_in bags gens mods)
 unfolding bags_in
 few_bags bags gens mods few short =
     let gw = windows gens (map (λ (r : Bag). r.gens) bags) in
     let mw = windows mods (map (λ (r : Bag). r.mods) bags) in
     record {
-      few = omega (arith, few, length-together-first bagged gw mw, length-windows gens (map (λ (r : Bag). r.gens) bags), length-map bags (λ (r : Bag). r.gens));
-      short = together-short gw mw (all_of (λ w. length w ≤ length gens) (λ w. length w ≤ 65536) gw (λ w h. omega (arith, h, short)) (windows-short gens (map (λ (r : Bag). r.gens) bags)));
+      few =
+          omega (
+            arith,
+            few,
+            length-together-first bagged gw mw,
+            length-windows gens (map (λ (r : Bag). r.gens) bags),
+            length-map bags (λ (r : Bag). r.gens),
+          );
+      short =
+          together-short gw mw
+          (all_of (λ w. length w ≤ length gens) (λ w. length w ≤ 65536) gw (λ w h. omega (arith, h, short))
+          (windows-short gens (map (λ (r : Bag). r.gens) bags)));
     }
 
 few_slice : (bags : List Bagged) (from to : ℕ) → IsFew bags → IsFew (slice_range bags from to)
-few_slice bags from to h = record { few = omega (arith, h.few, length-slice bags from to); short = all_taken IsShort (to - from) (drop from bags) (all_left IsShort from bags h.short) }
+few_slice bags from to h =
+    record {
+      few =
+          omega (arith, h.few, length-slice bags from to);
+      short =
+          all_taken IsShort (to - from) (drop from bags) (all_left IsShort from bags h.short);
+    }
 
-few_windows_from : (bags : List Bagged) (at : ℕ) (is : List ℕ) → IsFew bags → AllByRecursion IsFew (windows_from bags at is)
+few_windows_from : (bags : List Bagged) (at : ℕ) (is : List ℕ) → IsFew bags
+    → AllByRecursion IsFew (windows_from bags at is)
 few_windows_from bags at [] h = tt
 few_windows_from bags at (i ∷ is) h = (few_slice bags at i h, few_windows_from bags i is h)
 
@@ -145,16 +189,43 @@ pub record AreFew (c : ZoneCounts) : Type 0 where
   pub gens : c.gens ≤ 281474976710656
   pub ranges : c.ranges ≤ 281474976710656
 
-pub counts-few : {H : Type 0} (at : Level) (first_bag : H → ℕ) (heads : List H) (bags : List Bag) (gens : List Generator) (mods : List Modulator)
-    → length heads ≤ 65536 → length bags ≤ 65536 → length gens ≤ 65536 → AreFew (counts_over at (windows (bags_in bags gens mods) (map first_bag heads)))
+pub counts-few : {H : Type 0} (at : Level) (first_bag : H → ℕ) (heads : List H) (bags : List Bag)
+    (gens : List Generator) (mods : List Modulator)
+    → length heads ≤ 65536 → length bags ≤ 65536 → length gens ≤ 65536
+    → AreFew (counts_over at (windows (bags_in bags gens mods) (map first_bag heads)))
 counts-few at first_bag heads bags gens mods few_heads few short =
     let ws = windows (bags_in bags gens mods) (map first_bag heads) in
     let all = few_windows (bags_in bags gens mods) (map first_bag heads) (few_bags bags gens mods few short) in
-    let count : length ws ≤ 65536 = omega (arith, few_heads, length-windows (bags_in bags gens mods) (map first_bag heads), length-map heads first_bag) in
+    let count : length ws ≤ 65536 =
+    omega (
+      arith,
+      few_heads,
+      length-windows (bags_in bags gens mods) (map first_bag heads),
+      length-map heads first_bag,
+    )
+    in
     record {
-      zones = omega (arith, count, sum_by-within (ignored at) 4294967296 ws (all_of IsFew (λ w. ignored at w ≤ 4294967296) ws (ignored-few at) all));
-      gens = omega (arith, count, sum_by-within (gens_dropped at) 4294967296 ws (all_of IsFew (λ w. gens_dropped at w ≤ 4294967296) ws (gens_dropped-few at) all));
-      ranges = omega (arith, count, sum_by-within (ranges_mended at) 4294967296 ws (all_of IsFew (λ w. ranges_mended at w ≤ 4294967296) ws (ranges_mended-few at) all));
+      zones =
+          omega (
+            arith,
+            count,
+            sum_by-within (ignored at) 4294967296 ws
+                (all_of IsFew (λ w. ignored at w ≤ 4294967296) ws (ignored-few at) all),
+          );
+      gens =
+          omega (
+            arith,
+            count,
+            sum_by-within (gens_dropped at) 4294967296 ws
+                (all_of IsFew (λ w. gens_dropped at w ≤ 4294967296) ws (gens_dropped-few at) all),
+          );
+      ranges =
+          omega (
+            arith,
+            count,
+            sum_by-within (ranges_mended at) 4294967296 ws
+                (all_of IsFew (λ w. ranges_mended at w ≤ 4294967296) ws (ranges_mended-few at) all),
+          );
     }
 
 pub both-small : (a b : ZoneCounts) → AreFew a → AreFew b → AreSmall (added a b)
@@ -170,4 +241,10 @@ part-small a b c whole e f =
     let zones : a.zones + (b.zones + c.zones) ≡ whole.zones = ap (λ (k : ZoneCounts). k.zones) e in
     let gens : a.gens + (b.gens + c.gens) ≡ whole.gens = ap (λ (k : ZoneCounts). k.gens) e in
     let ranges : a.ranges + (b.ranges + c.ranges) ≡ whole.ranges = ap (λ (k : ZoneCounts). k.ranges) e in
-    record { zones = omega (arith, zones, f.zones); gens = omega (arith, gens, f.gens); ranges = omega (arith, ranges, f.ranges) }
+    record {
+      zones =
+          omega (arith, zones, f.zones);
+      gens =
+          omega (arith, gens, f.gens);
+      ranges = omega (arith, ranges, f.ranges);
+    }

@@ -1,23 +1,28 @@
 -- Maps of generators as the last entries of a list.
-use Rattle.std.proofs.Common.{◌≡◌, ◌<◌, ◌≤◌, ◌+◌, ◌-◌, ◌^◌, ℕ, zero, suc, List, [], ◌∷◌, ◌++◌, length, take, drop, set, get_or, insert, Option, Some, None, Bool, not, ◌==◌, false, refl, sym, ap, subst, ◌∙◌, zero-add, suc-add, arith}
+use Rattle.std.proofs.Common.{◌≡◌, ◌<◌, ◌≤◌, ◌+◌, ◌-◌, ◌^◌, ℕ, zero, suc, List, [], ◌∷◌, ◌++◌, length, take, drop}
+use Rattle.std.proofs.Common.{set, get_or, insert, Option, Some, None, Bool, not, ◌==◌, false, refl, sym, ap, subst}
+use Rattle.std.proofs.Common.{◌∙◌, zero-add, suc-add, arith}
 use Rattle.std.proofs.lemmas.List.{get_or-drop, take-set-le, drop-set-add, length-drop, length-set}
 use Rattle.std.proofs.lemmas.List.Edits.{length-insert}
 use Rattle.std.specs.FinMap as map
 use Rattle.generators.specs.Gens.{Gens, AreGens, no_gens}
 use Rattle.generators.specs.Places.{IsAt, IsGapFor}
-use Rattle.generators.proofs.Maps.{entries_held, len_held, from_sorted-nil, get_at, AreGens-set, set_is_insert, get_gap, AreGens-insert, inserted_is_insert}
+use Rattle.generators.proofs.Maps.{entries_held, len_held, from_sorted-nil, get_at, AreGens-set, set_is_insert}
+use Rattle.generators.proofs.Maps.{get_gap, AreGens-insert, inserted_is_insert}
 use Rattle.bank_format.specs.Zones.{range_mended}
 use Rattle.sf_reader.specs.Entries.{EndsInMap, map_from}
 use Rattle.sf_reader.specs.Gens.{is_out_of_order, mended_at}
 
 -- ---- lists
 
-pub take-insert : {X : Type 0} (n : ℕ) (xs : List X) (i : ℕ) (x : X) → n ≤ length xs → take n (insert xs (n + i) x) ≡ take n xs
+pub take-insert : {X : Type 0} (n : ℕ) (xs : List X) (i : ℕ) (x : X) → n ≤ length xs
+    → take n (insert xs (n + i) x) ≡ take n xs
 take-insert zero xs i x h = refl
 take-insert (suc n) [] i x h = absurd (omega arith)
 take-insert (suc n) (y ∷ ys) i x h = rw (suc-add n i) (ap (λ zs. y ∷ zs) (take-insert n ys i x (omega arith)))
 
-pub drop-insert : {X : Type 0} (n : ℕ) (xs : List X) (i : ℕ) (x : X) → n ≤ length xs → drop n (insert xs (n + i) x) ≡ insert (drop n xs) i x
+pub drop-insert : {X : Type 0} (n : ℕ) (xs : List X) (i : ℕ) (x : X) → n ≤ length xs
+    → drop n (insert xs (n + i) x) ≡ insert (drop n xs) i x
 drop-insert zero xs i x h = rw (zero-add i) refl
 drop-insert (suc n) [] i x h = absurd (omega arith)
 drop-insert (suc n) (y ∷ ys) i x h = rw (suc-add n i) (drop-insert n ys i x (omega arith))
@@ -48,7 +53,9 @@ rest_is n xs = ap (λ k. take k (drop n xs)) (sym (length-drop n xs)) ∙ take-a
 pub ends_in_none : (es : List (ℕ × ℕ)) (start : ℕ) → start ≡ length es → EndsInMap start es
 ends_in_none es start e = record {
   within = omega (arith, e);
-  own = subst (λ (l : List (ℕ × ℕ)). AreGens l) (sym (ap (λ n. drop n es) e ∙ drop-all es)) (record { sorted = refl; fit = tt });
+  own =
+      subst (λ (l : List (ℕ × ℕ)). AreGens l) (sym (ap (λ n. drop n es) e ∙ drop-all es))
+      (record { sorted = refl; fit = tt });
 }
 
 pub none_from : (es : List (ℕ × ℕ)) (start : ℕ) → start ≡ length es → map_from start es ≡ no_gens
@@ -58,7 +65,8 @@ pub map_len : (es : List (ℕ × ℕ)) (start : ℕ) → EndsInMap start es → 
 map_len es start m = len_held m.own refl ∙ length-drop start es
 
 -- the last entries of a list are those of their map
-pub entries_behind : (old new : List (ℕ × ℕ)) (start : ℕ) (m : Gens) → start ≡ length old → take start new ≡ take start old → EndsInMap start new → map_from start new ≡ m → new ≡ old ++ map.entries m
+pub entries_behind : (old new : List (ℕ × ℕ)) (start : ℕ) (m : Gens) → start ≡ length old
+    → take start new ≡ take start old → EndsInMap start new → map_from start new ≡ m → new ≡ old ++ map.entries m
 entries_behind old new start m from front ends is =
     let first : take start new ≡ old = front ∙ ap (λ n. take n old) from ∙ take-all old in
     let rest = sym (entries_held ends.own is) in
@@ -66,7 +74,8 @@ entries_behind old new start m from front ends is =
 
 -- ---- one more is set
 
-module _ (start : ℕ) (es : List (ℕ × ℕ)) (m : EndsInMap start es) (op w : ℕ) (fits : op < 2 ^ 16) (fits_too : w < 2 ^ 16) where
+module _ (start : ℕ) (es : List (ℕ × ℕ)) (m : EndsInMap start es) (op w : ℕ) (fits : op < 2 ^ 16)
+    (fits_too : w < 2 ^ 16) where
   module _ (i : ℕ) (at : IsAt (drop start es) op i) where
     held : IsAt (map.entries (map_from start es)) op i
     held = subst (λ xs. IsAt xs op i) (sym (entries_held m.own refl)) at
@@ -96,11 +105,15 @@ module _ (start : ℕ) (es : List (ℕ × ℕ)) (m : EndsInMap start es) (op w :
     pub insert-map : EndsInMap start (insert es (start + i) (op, w))
     insert-map = record {
       within = omega (arith, m.within, length-insert es (start + i) (op, w) insert-within);
-      own = subst AreGens (sym (drop-insert start es i (op, w) m.within)) (AreGens-insert m.own refl gap_held w fits fits_too);
+      own =
+          subst AreGens (sym (drop-insert start es i (op, w) m.within))
+          (AreGens-insert m.own refl gap_held w fits fits_too);
     }
 
     pub insert-set : map_from start (insert es (start + i) (op, w)) ≡ map.insert (map_from start es) op w
-    insert-set = ap map.from_sorted (drop-insert start es i (op, w) m.within) ∙ inserted_is_insert m.own refl gap_held w fits fits_too
+    insert-set =
+        ap map.from_sorted (drop-insert start es i (op, w) m.within)
+        ∙ inserted_is_insert m.own refl gap_held w fits fits_too
 
 -- ---- a range is mended
 
@@ -111,7 +124,8 @@ module _ (start : ℕ) (es : List (ℕ × ℕ)) (m : EndsInMap start es) (op : �
   abbrev mend : Option ℕ → Gens
   mend o = elim o [ None ↦ map_from start es | Some w ↦ map.insert (map_from start es) op (range_mended w) ]
 
-  module _ (i v : ℕ) (entry : ℕ × ℕ) (at : IsAt (drop start es) op i) (is : entry ≡ get_or es (start + i) entry) (v_is : v ≡ range_mended entry.1) where
+  module _ (i v : ℕ) (entry : ℕ × ℕ) (at : IsAt (drop start es) op i) (is : entry ≡ get_or es (start + i) entry)
+      (v_is : v ≡ range_mended entry.1) where
     amount_is : map.get (map_from start es) op ≡ Some entry.1
     amount_is =
         get_at m.own refl (subst (λ xs. IsAt xs op i) (sym (entries_held m.own refl)) at) entry
@@ -120,8 +134,11 @@ module _ (start : ℕ) (es : List (ℕ × ℕ)) (m : EndsInMap start es) (op : �
     pub out_of_order : not (v == entry.1) ≡ is_out_of_order op (map_from start es)
     out_of_order = ap (λ x. not (x == entry.1)) v_is ∙ sym (ap changes amount_is)
 
-    pub mended_is : (fits : op < 2 ^ 16) (fits_too : v < 2 ^ 16) → map_from start (set es (start + i) (op, v)) ≡ mended_at op (map_from start es)
-    mended_is fits fits_too = set-set start es m op v fits fits_too i at ∙ ap (map.insert (map_from start es) op) v_is ∙ sym (ap mend amount_is)
+    pub mended_is : (fits : op < 2 ^ 16) (fits_too : v < 2 ^ 16)
+        → map_from start (set es (start + i) (op, v)) ≡ mended_at op (map_from start es)
+    mended_is fits fits_too =
+        set-set start es m op v fits fits_too i at ∙ ap (map.insert (map_from start es) op) v_is
+        ∙ sym (ap mend amount_is)
 
   module _ (i : ℕ) (gap : IsGapFor (drop start es) op i) where
     none_there : map.get (map_from start es) op ≡ None

@@ -20,7 +20,8 @@ use Rattle.bank_format.specs.Windows.{together, rows}
 use Rattle.bank_format.specs.Zones.{Bagged}
 use Rattle.bank_format.specs.Tables.{Tables, Headers, presets, instruments}
 use Rattle.bank_format.specs.Chunks.{body_in, points_in}
-use Rattle.bank_format.specs.Reading.{bags_in, preset_windows, instrument_windows, owner_read, samples_read, bank_of, counts_of, content_of}
+use Rattle.bank_format.specs.Reading.{bags_in, preset_windows, instrument_windows, owner_read, samples_read, bank_of}
+use Rattle.bank_format.specs.Reading.{counts_of, content_of}
 use Rattle.sf_reader.specs.Lists.{ListChunks}
 use Rattle.sf_reader.specs.Bags.{own_bags}
 use Rattle.sf_reader.specs.Owners.{members_of}
@@ -31,28 +32,34 @@ use Rattle.sf_reader.proofs.TableLaws.{rows_windows}
 -- ---- of one level
 
 module _ {H R : Type 0} (h : Headers H R) where
-  heads_together : (rs : List R) (ws : List (List Bagged)) → length rs ≡ length ws → map (λ (x : WithZones H). x.head) (together (owner_read h) rs ws) ≡ map h.read rs
+  heads_together : (rs : List R) (ws : List (List Bagged)) → length rs ≡ length ws
+      → map (λ (x : WithZones H). x.head) (together (owner_read h) rs ws) ≡ map h.read rs
   heads_together [] ws e = refl
   heads_together (r ∷ rs) [] e = absurd (omega (arith, e))
   heads_together (r ∷ rs) (w ∷ ws) e = ap (λ xs. h.read r ∷ xs) (heads_together rs ws (omega (arith, e)))
 
-  bags_together : (rs : List R) (ws : List (List Bagged)) → length rs ≡ length ws → map (bags_of (target_operator h.level)) (together (owner_read h) rs ws) ≡ map (own_bags h.level) ws
+  bags_together : (rs : List R) (ws : List (List Bagged)) → length rs ≡ length ws
+      → map (bags_of (target_operator h.level)) (together (owner_read h) rs ws) ≡ map (own_bags h.level) ws
   bags_together [] [] e = refl
   bags_together [] (w ∷ ws) e = absurd (omega (arith, e))
   bags_together (r ∷ rs) [] e = absurd (omega (arith, e))
   bags_together (r ∷ rs) (w ∷ ws) e = ap (λ bs. own_bags h.level w ∷ bs) (bags_together rs ws (omega (arith, e)))
 
   module _ (rs : List R) (ws : List (List Bagged)) (e : length rs ≡ length ws) where
-    heads_flat : heads_of h.level (together (owner_read h) rs ws) ≡ head_records (map h.read rs) (flat_of (map (own_bags h.level) ws)).begins
+    heads_flat : heads_of h.level (together (owner_read h) rs ws)
+        ≡ head_records (map h.read rs) (flat_of (map (own_bags h.level) ws)).begins
     heads_flat = λ i. head_records (heads_together rs ws e i) (flat_of (bags_together rs ws e i)).begins
 
-    records_flat : tables_at h.level (together (owner_read h) rs ws) ≡ flat.tables_of (all_bags (map (own_bags h.level) ws))
+    records_flat : tables_at h.level (together (owner_read h) rs ws)
+        ≡ flat.tables_of (all_bags (map (own_bags h.level) ws))
     records_flat = ap (λ bs. flat.tables_of (all_bags bs)) (bags_together rs ws e)
 
 -- ---- of all nine lists
 
 pub content_flat : (w : ListChunks) (t : Tables)
-    → flat_content (content_of w.info w.sdta t) ≡ content_with (field_at 2 2 (body_in IFIL w.info)) w t (members_of t) (samples_read (points_in w.sdta) (rows t.shdr))
+    → flat_content (content_of w.info w.sdta t)
+    ≡ content_with (field_at 2 2 (body_in IFIL w.info)) w t (members_of t)
+    (samples_read (points_in w.sdta) (rows t.shdr))
 unfolding bank_of counts_of content_with preset_windows instrument_windows
 content_flat w t =
     let of_presets = rows_windows (bags_in t.pbag t.pgen t.pmod) (λ (h : PresetHead). h.bag) t.phdr in
@@ -61,7 +68,9 @@ content_flat w t =
     let preset_records = records_flat presets (rows t.phdr) (preset_windows t) of_presets in
     let instrument_heads = heads_flat instruments (rows t.inst) (instrument_windows t) of_instruments in
     let instrument_records = records_flat instruments (rows t.inst) (instrument_windows t) of_instruments in
-    let all = content_with (field_at 2 2 (body_in IFIL w.info)) w t (members_of t) (samples_read (points_in w.sdta) (rows t.shdr)) in
+    let all =
+    content_with (field_at 2 2 (body_in IFIL w.info)) w t (members_of t)
+    (samples_read (points_in w.sdta) (rows t.shdr)) in
     λ i. record {
       bank = record {
         minor = all.bank.minor;
@@ -82,18 +91,24 @@ is_flat f b e = record {
   minor = ap (λ (x : FlatBank). x.minor) e;
   texts = ap (λ (x : FlatBank). x.texts) e;
   presets = record { heads = ap (λ (x : FlatBank). x.preset_heads) e; records = ap (λ (x : FlatBank). x.presets) e };
-  instruments = record { heads = ap (λ (x : FlatBank). x.instrument_heads) e; records = ap (λ (x : FlatBank). x.instruments) e };
+  instruments =
+      record
+      { heads = ap (λ (x : FlatBank). x.instrument_heads) e; records = ap (λ (x : FlatBank). x.instruments) e };
   samples = ap (λ (x : FlatBank). x.samples) e;
 }
 
 -- where a sound bank has them, one is found
-pub is_there : (f : Flat) (o : Option Parts) → MatchOption o ((b : Parts) → IsSound b → IsFlatOf f b → ⊥) (λ b. IsFlatOf f b) → (b : Parts) → IsSound b → IsFlatOf f b → IsSome o
+pub is_there : (f : Flat) (o : Option Parts)
+    → MatchOption o ((b : Parts) → IsSound b → IsFlatOf f b → ⊥) (λ b. IsFlatOf f b) → (b : Parts) → IsSound b
+    → IsFlatOf f b → IsSome o
 is_there f None h b sound are = absurd (h b sound are)
 is_there f (Some c) h b sound are = refl
 
-pub has_lists : (f : Flat) (o : Option Parts) (c : Parts) → MatchOption o ((b : Parts) → IsSound b → IsFlatOf f b → ⊥) (λ b. IsFlatOf f b) → o ≡ Some c → IsFlatOf f c
+pub has_lists : (f : Flat) (o : Option Parts) (c : Parts)
+    → MatchOption o ((b : Parts) → IsSound b → IsFlatOf f b → ⊥) (λ b. IsFlatOf f b) → o ≡ Some c → IsFlatOf f c
 has_lists f o c h e = subst (λ p. MatchOption p ((b : Parts) → IsSound b → IsFlatOf f b → ⊥) (λ b. IsFlatOf f b)) e h
 
 -- it is the only one
 pub bank_is : (f : Flat) (b c : Parts) → IsSound b → IsSound c → IsFlatOf f b → IsFlatOf f c → b ≡ c
-bank_is f b c sound sound_too are are_too = same_bank f b c sound (presets_plain c sound_too) (instruments_plain c sound_too) are are_too
+bank_is f b c sound sound_too are are_too =
+    same_bank f b c sound (presets_plain c sound_too) (instruments_plain c sound_too) are are_too

@@ -1,5 +1,6 @@
 -- The nine lists, as those of the presets, those of the instruments, and that of the samples.
-use Rattle.std.proofs.Common.{◌≡◌, ◌≤◌, ◌-◌, ◌++◌, ℕ, Bool, true, leb, List, [], ◌∷◌, length, map, Some, None, Result, refl, sym, ap}
+use Rattle.std.proofs.Common.{◌≡◌, ◌≤◌, ◌-◌, ◌++◌, ℕ, Bool, true, leb, List, [], ◌∷◌, length, map, Some, None}
+use Rattle.std.proofs.Common.{Result, refl, sym, ap}
 use Rattle.std.specs.List.{AllByRecursion, list_all}
 use Rattle.std.proofs.lemmas.Bool.{leb-true}
 use Rattle.modulators.specs.declared.modulator.Modulator.{Modulator}
@@ -45,25 +46,36 @@ preset_indexes p = level_index_steps (map (λ (h : PresetHead). h.bag) p.heads) 
 abbrev instrument_indexes : LevelTables InstrumentHead → List (Step ReadFault)
 instrument_indexes i = level_index_steps (map (λ (h : InstrumentHead). h.bag) i.heads) i
 
-index_parts : (p : LevelTables PresetHead) (i : LevelTables InstrumentHead) (s : List SampleHead) → all_index_steps (seen p i s) ≡ preset_indexes p ++ instrument_indexes i
+index_parts : (p : LevelTables PresetHead) (i : LevelTables InstrumentHead) (s : List SampleHead)
+    → all_index_steps (seen p i s) ≡ preset_indexes p ++ instrument_indexes i
 unfolding all_index_steps index_steps
 index_parts p i s = refl
 
-pub preset_indexes_fail : (p : LevelTables PresetHead) (i : LevelTables InstrumentHead) (s : List SampleHead) (t : Tables) (r : Result (Unit {0}) ReadFault) (e : ReadFault)
-    → seen p i s ≡ t → IsErrAnd r (λ f. f ≡ e) → first_broken (preset_indexes p) ≡ Some e → Passes (λ (u : Unit {0}). u) r (all_index_steps t) tt
+pub preset_indexes_fail : (p : LevelTables PresetHead) (i : LevelTables InstrumentHead) (s : List SampleHead)
+    (t : Tables) (r : Result (Unit {0}) ReadFault) (e : ReadFault)
+    → seen p i s ≡ t → IsErrAnd r (λ f. f ≡ e) → first_broken (preset_indexes p) ≡ Some e
+    → Passes (λ (u : Unit {0}). u) r (all_index_steps t) tt
 preset_indexes_fail p i s t r e is err h =
-    rw (← is, index_parts p i s) (passes_front (λ (u : Unit {0}). u) tt r e (preset_indexes p) (instrument_indexes i) err h)
+    rw (← is, index_parts p i s)
+    (passes_front (λ (u : Unit {0}). u) tt r e (preset_indexes p) (instrument_indexes i) err h)
 
-pub instrument_indexes_pass : (p : LevelTables PresetHead) (i : LevelTables InstrumentHead) (s : List SampleHead) (t : Tables) (r : Result (Unit {0}) ReadFault)
-    → seen p i s ≡ t → first_broken (preset_indexes p) ≡ None → Passes (λ (u : Unit {0}). u) r (instrument_indexes i) tt → Passes (λ (u : Unit {0}). u) r (all_index_steps t) tt
+pub instrument_indexes_pass : (p : LevelTables PresetHead) (i : LevelTables InstrumentHead) (s : List SampleHead)
+    (t : Tables) (r : Result (Unit {0}) ReadFault)
+    → seen p i s ≡ t → first_broken (preset_indexes p) ≡ None
+    → Passes (λ (u : Unit {0}). u) r (instrument_indexes i) tt
+    → Passes (λ (u : Unit {0}). u) r (all_index_steps t) tt
 instrument_indexes_pass p i s t r is none h =
-    rw (← is, index_parts p i s) (passes_after (λ (u : Unit {0}). u) tt r (preset_indexes p) (instrument_indexes i) none h)
+    rw (← is, index_parts p i s)
+    (passes_after (λ (u : Unit {0}). u) tt r (preset_indexes p) (instrument_indexes i) none h)
 
 -- ---- how many records there are
 
-held : (test : ℕ → Bool) (f : ReadFault) (ns : List ℕ) → first_broken (map (λ n. step (test n) f) ns) ≡ None → AllByRecursion (λ n. test n ≡ true) ns
+held : (test : ℕ → Bool) (f : ReadFault) (ns : List ℕ) → first_broken (map (λ n. step (test n) f) ns) ≡ None
+    → AllByRecursion (λ n. test n ≡ true) ns
 held test f [] e = tt
-held test f (n ∷ ns) e = let both = split_none (test n) (first_broken (map (λ k. step (test k) f) ns)) f e in (both.0, held test f ns both.1)
+held test f (n ∷ ns) e =
+    let both = split_none (test n) (first_broken (map (λ k. step (test k) f) ns)) f e in
+    (both.0, held test f ns both.1)
 
 -- no list that presets and instruments are read from has too many
 pub record AreFewRecords (t : Tables) : Type 0 where
@@ -78,7 +90,9 @@ pub few_records : (t : Tables) → first_broken (count_steps t) ≡ None → Are
 unfolding count_steps
 few_records t e =
     let counts = record_counts t in
-    let most = both_none (map (λ n. step (leb 1 n) fault.NoTerminal) counts) (map (λ n. step (leb n 65536) fault.TooMany) counts) e in
+    let most =
+    both_none (map (λ n. step (leb 1 n) fault.NoTerminal) counts)
+    (map (λ n. step (leb n 65536) fault.TooMany) counts) e in
     let all = held (λ n. leb n 65536) fault.TooMany counts most.1 in
     record {
       phdr = leb-true _ _ all.0;
@@ -94,33 +108,46 @@ few_records t e =
 inside : (is : List ℕ) (n : ℕ) → first_broken (index_steps is n) ≡ None → list_all (λ i. leb i (n - 1)) is ≡ true
 unfolding index_steps
 inside is n e =
-    let within = split_none (is_rising is) (first_broken (step (list_all (λ i. leb i (n - 1)) is) fault.IndexOutside ∷ [])) fault.BagOrder e in
+    let within =
+    split_none (is_rising is) (first_broken (step (list_all (λ i. leb i (n - 1)) is) fault.IndexOutside ∷ []))
+    fault.BagOrder e in
     let both = split_none (list_all (λ i. leb i (n - 1)) is) None fault.IndexOutside within.1 in
     both.0
 
-mods_inside : (bags : List Bag) (gens mods : ℕ) → first_broken (bag_steps bags gens mods) ≡ None → list_all (λ i. leb i (mods - 1)) (map (λ (r : Bag). r.mods) bags) ≡ true
+mods_inside : (bags : List Bag) (gens mods : ℕ) → first_broken (bag_steps bags gens mods) ≡ None
+    → list_all (λ i. leb i (mods - 1)) (map (λ (r : Bag). r.mods) bags) ≡ true
 mods_inside bags gens mods e =
-    let both = both_none (index_steps (map (λ (r : Bag). r.gens) bags) gens) (index_steps (map (λ (r : Bag). r.mods) bags) mods) e in
+    let both =
+    both_none (index_steps (map (λ (r : Bag). r.gens) bags) gens)
+    (index_steps (map (λ (r : Bag). r.mods) bags) mods) e in
     inside (map (λ (r : Bag). r.mods) bags) mods both.1
 
 abbrev pub ModsInside : List Bag → List Modulator → Type 0
 ModsInside bags mods = list_all (λ i. leb i (length mods - 1)) (map (λ (r : Bag). r.mods) bags) ≡ true
 
-pub all_mods_inside : (t : Tables) → first_broken (all_index_steps t) ≡ None → ModsInside t.pbag t.pmod × ModsInside t.ibag t.imod
+pub all_mods_inside : (t : Tables) → first_broken (all_index_steps t) ≡ None
+    → ModsInside t.pbag t.pmod × ModsInside t.ibag t.imod
 unfolding all_index_steps
 all_mods_inside t e =
     let preset_bags = bag_steps t.pbag (length t.pgen) (length t.pmod) in
     let instruments = index_steps (map (λ (h : InstrumentHead). h.bag) t.inst) (length t.ibag) in
     let instrument_bags = bag_steps t.ibag (length t.igen) (length t.imod) in
-    let first = both_none (index_steps (map (λ (h : PresetHead). h.bag) t.phdr) (length t.pbag)) (preset_bags ++ (instruments ++ instrument_bags)) e in
+    let first =
+    both_none (index_steps (map (λ (h : PresetHead). h.bag) t.phdr) (length t.pbag))
+    (preset_bags ++ (instruments ++ instrument_bags)) e in
     let second = both_none preset_bags (instruments ++ instrument_bags) first.1 in
-    let third = both_none instruments instrument_bags second.1 in
-    (mods_inside t.pbag (length t.pgen) (length t.pmod) second.0, mods_inside t.ibag (length t.igen) (length t.imod) third.1)
+    let third = both_none instruments instrument_bags second.1 in (
+      mods_inside t.pbag (length t.pgen) (length t.pmod) second.0,
+      mods_inside t.ibag (length t.igen) (length t.imod) third.1,
+    )
 
 -- the bags of each head, where a list of no modulators is seen as one zero record
-pub windows_are : {H : Type 0} (first_bag : H → ℕ) (l : LevelTables H) (heads : List H) (bags : List Bag) (gens : List Generator) (mods : List Modulator)
-    → AreLists l heads bags gens mods → ModsInside bags mods → windows_of first_bag l ≡ windows (bags_in bags gens mods) (map first_bag heads)
+pub windows_are : {H : Type 0} (first_bag : H → ℕ) (l : LevelTables H) (heads : List H) (bags : List Bag)
+    (gens : List Generator) (mods : List Modulator)
+    → AreLists l heads bags gens mods → ModsInside bags mods
+    → windows_of first_bag l ≡ windows (bags_in bags gens mods) (map first_bag heads)
 windows_are first_bag l heads bags gens mods a within =
     let held : ModsInside l.bags (or_zero l.modulators) = rw (a.bags_are, a.modulators_are) within in
     let zero = or_zero-bags l.bags l.generators l.modulators held in
-    rw (← a.heads_are, ← a.bags_are, ← a.generators_are, ← a.modulators_are) (ap (λ (t : List Bagged). windows t (map first_bag l.heads)) (sym zero))
+    rw (← a.heads_are, ← a.bags_are, ← a.generators_are, ← a.modulators_are)
+    (ap (λ (t : List Bagged). windows t (map first_bag l.heads)) (sym zero))

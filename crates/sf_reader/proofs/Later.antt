@@ -1,5 +1,7 @@
 -- Bags that are read one after the other.
-use Rattle.std.proofs.Common.{◌≡◌, ◌≤◌, ◌+◌, ◌-◌, ◌*◌, ◌==◌, ℕ, Bool, true, false, cond, List, [], ◌∷◌, ◌++◌, length, map, drop, filter, is_some, Option, Some, None, Result, refl, sym, ap, subst, ◌∙◌, append_assoc, arith}
+use Rattle.std.proofs.Common.{◌≡◌, ◌≤◌, ◌+◌, ◌-◌, ◌*◌, ◌==◌, ℕ, Bool, true, false, cond, List, [], ◌∷◌, ◌++◌, length}
+use Rattle.std.proofs.Common.{map, drop, filter, is_some, Option, Some, None, Result, refl, sym, ap, subst, ◌∙◌}
+use Rattle.std.proofs.Common.{append_assoc, arith}
 use Rattle.std.specs.Prelude.{count_by, sum_by, not, nat_lt}
 use Rattle.std.specs.List.{AllByRecursion, slice_range, cons_option}
 use Rattle.std.specs.Option.{option_map}
@@ -25,7 +27,9 @@ use Rattle.bank_format.specs.Steps.{Step, step, first_broken, Fails, PassesGiven
 use Rattle.bank_format.specs.Windows.{windows_from, together}
 use Rattle.bank_format.specs.Reading.{bagged, bags_in}
 use Rattle.bank_format.specs.ReadSteps.{target_step}
-use Rattle.bank_format.specs.Zones.{Bagged, target_of, has_target, zone_read, zone_of, zones_read, global_read, gens_read, no_global, looked_at, ignored, dropped, kept, is_mended, gens_dropped, ranges_mended}
+use Rattle.bank_format.specs.Zones.{Bagged, target_of, has_target, zone_read, zone_of, zones_read, global_read}
+use Rattle.bank_format.specs.Zones.{gens_read, no_global, looked_at, ignored, dropped, kept, is_mended, gens_dropped}
+use Rattle.bank_format.specs.Zones.{ranges_mended}
 use Rattle.sf_reader.specs.declared.zones.ZoneCounts.{ZoneCounts}
 use Rattle.sf_reader.specs.Bags.{counts_read, steps_of_bags, zone_bags, own_bags}
 use Rattle.sf_reader.specs.Gens.{gens_read_of}
@@ -49,10 +53,15 @@ module _ (at : Level) where
   more : (f : Bagged → ℕ) (n : ℕ) (xs ys : List Bagged) → n + sum_by f (xs ++ ys) ≡ n + sum_by f xs + sum_by f ys
   more f n xs ys = omega (arith, sum_by-append f xs ys)
 
-  more_filtered : (f : Bagged → ℕ) (n : ℕ) (xs ys : List Bagged) → n + sum_by f (filter (has_target at) (xs ++ ys)) ≡ n + sum_by f (filter (has_target at) xs) + sum_by f (filter (has_target at) ys)
-  more_filtered f n xs ys = ap (λ (zs : List Bagged). n + sum_by f zs) (filter-append (has_target at) xs ys) ∙ more f n (filter (has_target at) xs) (filter (has_target at) ys)
+  more_filtered : (f : Bagged → ℕ) (n : ℕ) (xs ys : List Bagged)
+      → n + sum_by f (filter (has_target at) (xs ++ ys))
+      ≡ n + sum_by f (filter (has_target at) xs) + sum_by f (filter (has_target at) ys)
+  more_filtered f n xs ys =
+      ap (λ (zs : List Bagged). n + sum_by f zs) (filter-append (has_target at) xs ys)
+      ∙ more f n (filter (has_target at) xs) (filter (has_target at) ys)
 
-  counts-append : (c : ZoneCounts) (xs ys : List Bagged) → counts_with_later at c (xs ++ ys) ≡ counts_with_later at (counts_with_later at c xs) ys
+  counts-append : (c : ZoneCounts) (xs ys : List Bagged)
+      → counts_with_later at c (xs ++ ys) ≡ counts_with_later at (counts_with_later at c xs) ys
   counts-append c xs ys =
       let targetless = more (λ x. cond (not (has_target at x)) 1 0) c.zones xs ys in
       let gens = more_filtered (gens_in at) c.gens xs ys in
@@ -66,10 +75,12 @@ module _ (at : Level) where
       let ranges : c.ranges + 0 ≡ c.ranges = omega arith in
       λ i. record { zones = targetless i; gens = gens i; ranges = ranges i }
 
-  counts-first : (r : Bagged) (bags : List Bagged) → counts_with_later at (counts_read at (r ∷ [])) bags ≡ counts_read at (r ∷ bags)
+  counts-first : (r : Bagged) (bags : List Bagged)
+      → counts_with_later at (counts_read at (r ∷ [])) bags ≡ counts_read at (r ∷ bags)
   unfolding looked_at ignored gens_dropped ranges_mended
   counts-first r bags =
-      let targetless : 0 + count_by (λ x. not (has_target at x)) bags ≡ count_by (λ x. not (has_target at x)) bags = omega arith in
+      let targetless : 0 + count_by (λ x. not (has_target at x)) bags ≡ count_by (λ x. not (has_target at x)) bags =
+      omega arith in
       let gens = sym (sum_by-append (gens_in at) (r ∷ []) (filter (has_target at) bags)) in
       let ranges = sym (sum_by-append (ranges_in at) (r ∷ []) (filter (has_target at) bags)) in
       λ i. record { zones = targetless i; gens = gens i; ranges = ranges i }
@@ -79,16 +90,22 @@ module _ (at : Level) where
   zones-append xs ys = filter_map-append (zone_read at) xs ys
 
   bags-append : (xs ys : List Bagged) → zone_bags at (xs ++ ys) ≡ zone_bags at xs ++ zone_bags at ys
-  bags-append xs ys = ap (map (zone_bag (target_operator at))) (zones-append xs ys) ∙ map-append (zone_bag (target_operator at)) (zones_read at xs) (zones_read at ys)
+  bags-append xs ys =
+      ap (map (zone_bag (target_operator at))) (zones-append xs ys)
+      ∙ map-append (zone_bag (target_operator at)) (zones_read at xs) (zones_read at ys)
 
   own-first : (r : Bagged) (bags : List Bagged) → own_bags at (r ∷ bags) ≡ own_bags at (r ∷ []) ++ zone_bags at bags
   unfolding global_read
   own-first r bags =
       let global = global_bags (global_read at (r ∷ [])) in
-      ap (λ (bs : List flat.Bag). global ++ bs) (bags-append (r ∷ []) bags) ∙ sym (append_assoc global (zone_bags at (r ∷ [])) (zone_bags at bags))
+      ap (λ (bs : List flat.Bag). global ++ bs) (bags-append (r ∷ []) bags)
+      ∙ sym (append_assoc global (zone_bags at (r ∷ [])) (zone_bags at bags))
 
-  steps-append : (n : ℕ) (missing : ReadFault) (xs ys : List Bagged) → steps_of_bags at n missing (xs ++ ys) ≡ steps_of_bags at n missing xs ++ steps_of_bags at n missing ys
-  steps-append n missing xs ys = ap (map (target_step n missing)) (zones-append xs ys) ∙ map-append (target_step n missing) (zones_read at xs) (zones_read at ys)
+  steps-append : (n : ℕ) (missing : ReadFault) (xs ys : List Bagged)
+      → steps_of_bags at n missing (xs ++ ys) ≡ steps_of_bags at n missing xs ++ steps_of_bags at n missing ys
+  steps-append n missing xs ys =
+      ap (map (target_step n missing)) (zones-append xs ys)
+      ∙ map-append (target_step n missing) (zones_read at xs) (zones_read at ys)
 
 -- ---- where there are none
 
@@ -119,7 +136,8 @@ no_bags_added at r = adds_as r r [] (own_bags at []) (sym (no_own_bags at)) (add
 
 -- where all are none
 module _ (at : Level) (n : ℕ) (missing : ReadFault) (all : List Bagged) (is : all ≡ []) where
-  pub none_counted : (c : ZoneCounts) → c ≡ record { zones = 0; gens = 0; ranges = 0 } → (first_broken (steps_of_bags at n missing all) ≡ None) × (c ≡ counts_read at all)
+  pub none_counted : (c : ZoneCounts) → c ≡ record { zones = 0; gens = 0; ranges = 0 }
+      → (first_broken (steps_of_bags at n missing all) ≡ None) × (c ≡ counts_read at all)
   none_counted c zero = (
     ap (λ (bs : List Bagged). first_broken (steps_of_bags at n missing bs)) is ∙ no_steps at n missing,
     zero ∙ no_counts at ∙ ap (counts_read at) (sym is),
@@ -160,57 +178,80 @@ module _ (at : Level) (r : Bagged) (g : GensRead) (is : g ≡ gens_read_of at r.
   pub steps_none : (n : ℕ) (missing : ReadFault) → g.target ≡ None → steps_of_bags at n missing (r ∷ []) ≡ []
   steps_none n missing none = ap (map (target_step n missing)) (no_zone at r (target_as None none))
 
-  pub steps_one : (n : ℕ) (missing : ReadFault) (t : ℕ) → g.target ≡ Some t → step (nat_lt t n) missing ∷ [] ≡ steps_of_bags at n missing (r ∷ [])
+  pub steps_one : (n : ℕ) (missing : ReadFault) (t : ℕ) → g.target ≡ Some t
+      → step (nat_lt t n) missing ∷ [] ≡ steps_of_bags at n missing (r ∷ [])
   steps_one n missing t some = sym (ap (map (target_step n missing)) (the_zone at r t (target_as (Some t) some)))
 
-  pub target_fails : (n : ℕ) (missing : ReadFault) (t : ℕ) → g.target ≡ Some t → {Y Z : Type 0} (view : Y → Z) (value : Z) (res : Result Y (Failure ReadFault)) (e : Failure ReadFault)
-      → IsErrAnd res (λ d. d ≡ e) → Fails e (first_broken (step (nat_lt t n) missing ∷ [])) → PassesGivenMemory view res (steps_of_bags at n missing (r ∷ [])) value
+  pub target_fails : (n : ℕ) (missing : ReadFault) (t : ℕ) → g.target ≡ Some t
+      → {Y Z : Type 0} (view : Y → Z) (value : Z) (res : Result Y (Failure ReadFault)) (e : Failure ReadFault)
+      → IsErrAnd res (λ d. d ≡ e) → Fails e (first_broken (step (nat_lt t n) missing ∷ []))
+      → PassesGivenMemory view res (steps_of_bags at n missing (r ∷ [])) value
   target_fails n missing t some view value res e err h =
-      given_by view value res e (steps_of_bags at n missing (r ∷ [])) err (subst (λ (l : List (Step ReadFault)). Fails e (first_broken l)) (steps_one n missing t some) h)
+      given_by view value res e (steps_of_bags at n missing (r ∷ [])) err
+      (subst (λ (l : List (Step ReadFault)). Fails e (first_broken l)) (steps_one n missing t some) h)
 
   pub bags_none : g.target ≡ None → [] ≡ zone_bags at (r ∷ [])
   bags_none none = sym (ap (map (zone_bag (target_operator at))) (no_zone at r (target_as None none)))
 
-  pub bags_one : (t : ℕ) → g.target ≡ Some t → record { gens = entries (gens_read at r.gens) ++ (target_operator at, t) ∷ []; mods = r.mods } ∷ [] ≡ zone_bags at (r ∷ [])
+  pub bags_one : (t : ℕ) → g.target ≡ Some t
+      → record { gens = entries (gens_read at r.gens) ++ (target_operator at, t) ∷ []; mods = r.mods } ∷ []
+      ≡ zone_bags at (r ∷ [])
   bags_one t some = sym (ap (map (zone_bag (target_operator at))) (the_zone at r t (target_as (Some t) some)))
 
   -- the first bag is the global zone
-  pub own_global : g.target ≡ None → global_bags (record { gens = gens_read at r.gens; mods = r.mods }) ≡ own_bags at (r ∷ [])
+  pub own_global : g.target ≡ None
+      → global_bags (record { gens = gens_read at r.gens; mods = r.mods }) ≡ own_bags at (r ∷ [])
   own_global none =
       let global = ap global_bags (sym (global_by at r None (target_as None none))) in
-      sym (append-nil (global_bags (record { gens = gens_read at r.gens; mods = r.mods }))) ∙ (λ i. global i ++ bags_none none i)
+      sym (append-nil (global_bags (record { gens = gens_read at r.gens; mods = r.mods })))
+      ∙ (λ i. global i ++ bags_none none i)
 
   -- or a zone
-  pub own_zone : (t : ℕ) → g.target ≡ Some t → record { gens = entries (gens_read at r.gens) ++ (target_operator at, t) ∷ []; mods = r.mods } ∷ [] ≡ own_bags at (r ∷ [])
+  pub own_zone : (t : ℕ) → g.target ≡ Some t
+      → record { gens = entries (gens_read at r.gens) ++ (target_operator at, t) ∷ []; mods = r.mods } ∷ []
+      ≡ own_bags at (r ∷ [])
   own_zone t some =
-      let global : [] ≡ global_bags (global_read at (r ∷ [])) = sym (ap global_bags (global_by at r (Some t) (target_as (Some t) some)) ∙ no_global_bags) in
+      let global : [] ≡ global_bags (global_read at (r ∷ [])) =
+      sym (ap global_bags (global_by at r (Some t) (target_as (Some t) some)) ∙ no_global_bags) in
       λ i. global i ++ bags_one t some i
 
-  pub first_counts : ◌≡◌ {A = ZoneCounts} (record { zones = 0; gens = g.dropped; ranges = g.ranges }) (counts_read at (r ∷ []))
+  pub first_counts : ◌≡◌ {A = ZoneCounts} (record { zones = 0; gens = g.dropped; ranges = g.ranges })
+      (counts_read at (r ∷ []))
   unfolding looked_at ignored gens_dropped ranges_mended
   first_counts =
-      let gens : g.dropped ≡ gens_dropped at (r ∷ []) = omega (arith, sum_by-cons (gens_in at) r [], ap (λ (x : GensRead). x.dropped) is) in
-      let ranges : g.ranges ≡ ranges_mended at (r ∷ []) = omega (arith, sum_by-cons (ranges_in at) r [], ap (λ (x : GensRead). x.ranges) is) in
+      let gens : g.dropped ≡ gens_dropped at (r ∷ []) =
+      omega (arith, sum_by-cons (gens_in at) r [], ap (λ (x : GensRead). x.dropped) is) in
+      let ranges : g.ranges ≡ ranges_mended at (r ∷ []) =
+      omega (arith, sum_by-cons (ranges_in at) r [], ap (λ (x : GensRead). x.ranges) is) in
       λ i. record { zones = 0; gens = gens i; ranges = ranges i }
 
-  pub ignored_counts : (c : ZoneCounts) → g.target ≡ None → ◌≡◌ {A = ZoneCounts} (record { zones = c.zones + 1; gens = c.gens; ranges = c.ranges }) (counts_with_later at c (r ∷ []))
+  pub ignored_counts : (c : ZoneCounts) → g.target ≡ None
+      → ◌≡◌ {A = ZoneCounts} (record { zones = c.zones + 1; gens = c.gens; ranges = c.ranges })
+      (counts_with_later at c (r ∷ []))
   ignored_counts c none =
       let targetless : has_target at r ≡ false = ap is_some (target_as None none) in
       let one : count_by (λ x. not (has_target at x)) (r ∷ []) ≡ 1 = rw targetless refl in
       let none_of : (f : Bagged → ℕ) → sum_by f (filter (has_target at) (r ∷ [])) ≡ 0 = λ f. rw targetless refl in
       let zones : c.zones + 1 ≡ c.zones + count_by (λ x. not (has_target at x)) (r ∷ []) = omega (arith, one) in
-      let gens : c.gens ≡ c.gens + sum_by (gens_in at) (filter (has_target at) (r ∷ [])) = omega (arith, none_of (gens_in at)) in
-      let ranges : c.ranges ≡ c.ranges + sum_by (ranges_in at) (filter (has_target at) (r ∷ [])) = omega (arith, none_of (ranges_in at)) in
+      let gens : c.gens ≡ c.gens + sum_by (gens_in at) (filter (has_target at) (r ∷ [])) =
+      omega (arith, none_of (gens_in at)) in
+      let ranges : c.ranges ≡ c.ranges + sum_by (ranges_in at) (filter (has_target at) (r ∷ [])) =
+      omega (arith, none_of (ranges_in at)) in
       λ i. record { zones = zones i; gens = gens i; ranges = ranges i }
 
-  pub zone_counts : (c : ZoneCounts) (t : ℕ) → g.target ≡ Some t → ◌≡◌ {A = ZoneCounts} (record { zones = c.zones; gens = c.gens + g.dropped; ranges = c.ranges + g.ranges }) (counts_with_later at c (r ∷ []))
+  pub zone_counts : (c : ZoneCounts) (t : ℕ) → g.target ≡ Some t
+      → ◌≡◌ {A = ZoneCounts} (record { zones = c.zones; gens = c.gens + g.dropped; ranges = c.ranges + g.ranges })
+      (counts_with_later at c (r ∷ []))
   zone_counts c t some =
       let targeted : has_target at r ≡ true = ap is_some (target_as (Some t) some) in
       let none : count_by (λ x. not (has_target at x)) (r ∷ []) ≡ 0 = rw targeted refl in
-      let one_of_it : (f : Bagged → ℕ) → sum_by f (filter (has_target at) (r ∷ [])) ≡ f r + 0 = λ f. rw targeted (sum_by-cons f r []) in
+      let one_of_it : (f : Bagged → ℕ) → sum_by f (filter (has_target at) (r ∷ [])) ≡ f r + 0 =
+      λ f. rw targeted (sum_by-cons f r []) in
       let zones : c.zones ≡ c.zones + count_by (λ x. not (has_target at x)) (r ∷ []) = omega (arith, none) in
-      let gens : c.gens + g.dropped ≡ c.gens + sum_by (gens_in at) (filter (has_target at) (r ∷ [])) = omega (arith, ap (λ (x : GensRead). x.dropped) is, one_of_it (gens_in at)) in
-      let ranges : c.ranges + g.ranges ≡ c.ranges + sum_by (ranges_in at) (filter (has_target at) (r ∷ [])) = omega (arith, ap (λ (x : GensRead). x.ranges) is, one_of_it (ranges_in at)) in
+      let gens : c.gens + g.dropped ≡ c.gens + sum_by (gens_in at) (filter (has_target at) (r ∷ [])) =
+      omega (arith, ap (λ (x : GensRead). x.dropped) is, one_of_it (gens_in at)) in
+      let ranges : c.ranges + g.ranges ≡ c.ranges + sum_by (ranges_in at) (filter (has_target at) (r ∷ [])) =
+      omega (arith, ap (λ (x : GensRead). x.ranges) is, one_of_it (ranges_in at)) in
       λ i. record { zones = zones i; gens = gens i; ranges = ranges i }
 
 -- ---- few bags with few records
@@ -221,29 +262,41 @@ length-window xs a b = omega (arith, length-take (b - a) (drop a xs), length-dro
 abbrev AreShort : ℕ → List Bagged → Type 0
 AreShort n bags = AllByRecursion (λ (r : Bagged). length r.gens ≤ n) bags
 
-windows_short : (gens : List Generator) (at : ℕ) (is : List ℕ) (mods : List (List Modulator)) → AreShort (length gens) (together bagged (windows_from gens at is) mods)
+windows_short : (gens : List Generator) (at : ℕ) (is : List ℕ) (mods : List (List Modulator))
+    → AreShort (length gens) (together bagged (windows_from gens at is) mods)
 windows_short gens at [] mods = tt
 windows_short gens at (i ∷ is) [] = tt
 windows_short gens at (i ∷ is) (ms ∷ mods) = (length-window gens at i, windows_short gens i is mods)
 
-bags_short : (bags : List Bag) (gens : List Generator) (mods : List Modulator) → AreShort (length gens) (bags_in bags gens mods)
+bags_short : (bags : List Bag) (gens : List Generator) (mods : List Modulator)
+    → AreShort (length gens) (bags_in bags gens mods)
 unfolding bags_in
 bags_short [] gens mods = tt
-bags_short (b ∷ bags) gens mods = windows_short gens b.gens (map (λ (r : Bag). r.gens) bags) (windows_from mods b.mods (map (λ (r : Bag). r.mods) bags))
+bags_short (b ∷ bags) gens mods =
+    windows_short gens b.gens (map (λ (r : Bag). r.gens) bags)
+    (windows_from mods b.mods (map (λ (r : Bag). r.mods) bags))
 
-length-together : (gens : List Generator) (at : ℕ) (is : List ℕ) (mods : List (List Modulator)) → length (together bagged (windows_from gens at is) mods) ≤ length is
+length-together : (gens : List Generator) (at : ℕ) (is : List ℕ) (mods : List (List Modulator))
+    → length (together bagged (windows_from gens at is) mods) ≤ length is
 length-together gens at [] mods = omega arith
 length-together gens at (i ∷ is) [] = omega arith
 length-together gens at (i ∷ is) (ms ∷ mods) = omega (arith, length-together gens i is mods)
 
-length-bags_in : (bags : List Bag) (gens : List Generator) (mods : List Modulator) → length (bags_in bags gens mods) ≤ length bags
+length-bags_in : (bags : List Bag) (gens : List Generator) (mods : List Modulator)
+    → length (bags_in bags gens mods) ≤ length bags
 unfolding bags_in
 length-bags_in [] gens mods = omega arith
 length-bags_in (b ∷ bags) gens mods =
-    omega (arith, length-together gens b.gens (map (λ (r : Bag). r.gens) bags) (windows_from mods b.mods (map (λ (r : Bag). r.mods) bags)), length-map bags (λ (r : Bag). r.gens))
+    omega (
+      arith,
+      length-together gens b.gens (map (λ (r : Bag). r.gens) bags)
+          (windows_from mods b.mods (map (λ (r : Bag). r.mods) bags)),
+      length-map bags (λ (r : Bag). r.gens),
+    )
 
 module _ (f : Bagged → ℕ) (within : (r : Bagged) → f r ≤ length r.gens) (n : ℕ) (few : n ≤ 65536) where
-  sum_filtered : (p : Bagged → Bool) (bags : List Bagged) → AreShort n bags → sum_by f (filter p bags) ≤ 65536 * length bags
+  sum_filtered : (p : Bagged → Bool) (bags : List Bagged) → AreShort n bags
+      → sum_by f (filter p bags) ≤ 65536 * length bags
   sum_filtered p [] short = omega arith
   sum_filtered p (r ∷ bags) short =
       let rest = sum_filtered p bags short.1 in
@@ -252,11 +305,19 @@ module _ (f : Bagged → ℕ) (within : (r : Bagged) → f r ≤ length r.gens) 
         | false ↦ omega (arith, rest)
       ]
 
-  sum_looked_at : (at : Level) (bags : List Bagged) → AreShort n bags → sum_by f (looked_at at bags) ≤ 65536 * length bags
+  sum_looked_at : (at : Level) (bags : List Bagged) → AreShort n bags
+      → sum_by f (looked_at at bags) ≤ 65536 * length bags
   unfolding looked_at
   sum_looked_at at [] short = omega arith
   sum_looked_at at (r ∷ bags) short =
-      omega (arith, sum_filtered (has_target at) bags short.1, sum_by-cons f r (filter (has_target at) bags), within r, short.0, few)
+      omega (
+        arith,
+        sum_filtered (has_target at) bags short.1,
+        sum_by-cons f r (filter (has_target at) bags),
+        within r,
+        short.0,
+        few,
+      )
 
 ranges_within : (at : Level) (r : Bagged) → ranges_in at r ≤ length r.gens
 ranges_within at r = omega (arith, count_by-le-length is_mended (kept at r.gens), length-kept at r.gens)
@@ -269,7 +330,8 @@ unfolding ignored
 length-ignored at [] = omega arith
 length-ignored at (r ∷ bags) = omega (arith, count_by-le-length (λ x. not (has_target at x)) bags)
 
-pub few_in_all : (at : Level) (bags : List Bag) (gens : List Generator) (mods : List Modulator) → length bags ≤ 65536 → length gens ≤ 65536 → AreFew (counts_read at (bags_in bags gens mods))
+pub few_in_all : (at : Level) (bags : List Bag) (gens : List Generator) (mods : List Modulator) → length bags ≤ 65536
+    → length gens ≤ 65536 → AreFew (counts_read at (bags_in bags gens mods))
 unfolding gens_dropped ranges_mended
 few_in_all at bags gens mods few_bags few_gens =
     let all = bags_in bags gens mods in
@@ -277,8 +339,16 @@ few_in_all at bags gens mods few_bags few_gens =
     let n = length-bags_in bags gens mods in
     record {
       zones = omega (arith, length-ignored at all, n, few_bags);
-      gens = omega (arith, sum_looked_at (gens_in at) (gens_within at) (length gens) few_gens at all short, n, few_bags);
-      ranges = omega (arith, sum_looked_at (ranges_in at) (ranges_within at) (length gens) few_gens at all short, n, few_bags);
+      gens =
+          omega
+          (arith, sum_looked_at (gens_in at) (gens_within at) (length gens) few_gens at all short, n, few_bags);
+      ranges =
+          omega (
+            arith,
+            sum_looked_at (ranges_in at) (ranges_within at) (length gens) few_gens at all short,
+            n,
+            few_bags,
+          );
     }
 
 -- ---- the bags of a table
@@ -288,7 +358,8 @@ module _ (gens : List Generator) (mods : List Modulator) where
   abbrev pub bag_of : Bag → Bag → Bagged
   bag_of start end = bagged (slice_range gens start.gens end.gens) (slice_range mods start.mods end.mods)
 
-  pub bags_in-cons : (start end : Bag) (others : List Bag) → bags_in (start ∷ end ∷ others) gens mods ≡ bag_of start end ∷ bags_in (end ∷ others) gens mods
+  pub bags_in-cons : (start end : Bag) (others : List Bag)
+      → bags_in (start ∷ end ∷ others) gens mods ≡ bag_of start end ∷ bags_in (end ∷ others) gens mods
   unfolding bags_in
   bags_in-cons start end others = refl
 
@@ -301,7 +372,8 @@ module _ (gens : List Generator) (mods : List Modulator) where
   bags_in-none = refl
 
   -- the next of them
-  pub next_bag : (start end : Bag) (left others : List Bag) (g : List Generator) (m : List Modulator) → left ≡ end ∷ others
+  pub next_bag : (start end : Bag) (left others : List Bag) (g : List Generator) (m : List Modulator)
+      → left ≡ end ∷ others
       → g ≡ slice_range gens start.gens end.gens → m ≡ slice_range mods start.mods end.mods
       → bags_in (start ∷ left) gens mods ≡ bagged g m ∷ bags_in (end ∷ others) gens mods
   next_bag start end left others g m is gs ms =
@@ -323,56 +395,83 @@ module _ (at : Level) (targets : ℕ) (missing : ReadFault) where
 
   -- the first bag was read
   pub first_left : (old now : Recs) (counts : ZoneCounts) (r : Bagged) (left all : List Bagged) → all ≡ r ∷ left
-      → first_broken (steps (r ∷ [])) ≡ None → counts ≡ counts_read at (r ∷ []) → Adds old now (own_bags at (r ∷ [])) → Left old now counts left all
+      → first_broken (steps (r ∷ [])) ≡ None → counts ≡ counts_read at (r ∷ []) → Adds old now (own_bags at (r ∷ []))
+      → Left old now counts left all
   first_left old now counts r left all is holds counted put = record {
-    counts_are = ap (λ (c : ZoneCounts). counts_with_later at c left) counted ∙ counts-first at r left ∙ ap (counts_read at) (sym is);
+    counts_are =
+        ap (λ (c : ZoneCounts). counts_with_later at c left) counted ∙ counts-first at r left
+        ∙ ap (counts_read at) (sym is);
     steps_are =
-        sym (first_broken-append (steps (r ∷ [])) (steps left) holds) ∙ ap first_broken (sym (steps-append at targets missing (r ∷ []) left))
+        sym (first_broken-append (steps (r ∷ [])) (steps left) holds)
+        ∙ ap first_broken (sym (steps-append at targets missing (r ∷ []) left))
         ∙ ap (λ (bs : List Bagged). first_broken (steps bs)) (sym is);
-    bags_are = λ end rest. adds_as old end (own_bags at (r ∷ []) ++ zone_bags at left) (own_bags at all) (sym (own-first at r left) ∙ ap (own_bags at) (sym is))
+    bags_are =
+        λ end rest.
+        adds_as old end (own_bags at (r ∷ []) ++ zone_bags at left) (own_bags at all)
+        (sym (own-first at r left) ∙ ap (own_bags at) (sym is))
         (adds_both old now end (own_bags at (r ∷ [])) (zone_bags at left) put rest);
   }
 
   -- its steps are the first of all
-  pub first_fails : (e : Failure ReadFault) (r : Bagged) (left all : List Bagged) → all ≡ r ∷ left → Fails e (first_broken (steps (r ∷ []))) → Fails e (first_broken (steps all))
+  pub first_fails : (e : Failure ReadFault) (r : Bagged) (left all : List Bagged) → all ≡ r ∷ left
+      → Fails e (first_broken (steps (r ∷ []))) → Fails e (first_broken (steps all))
   first_fails e r left all is h =
-      subst (λ (l : List (Step ReadFault)). Fails e (first_broken l)) (sym (steps-append at targets missing (r ∷ []) left) ∙ ap steps (sym is))
+      subst (λ (l : List (Step ReadFault)). Fails e (first_broken l))
+      (sym (steps-append at targets missing (r ∷ []) left) ∙ ap steps (sym is))
       (fails_front e (steps (r ∷ [])) (steps left) h)
 
-  module _ (old now : Recs) (counts : ZoneCounts) (r : Bagged) (rest left all : List Bagged) (is : left ≡ r ∷ rest) (so_far : Left old now counts left all) where
+  module _ (old now : Recs) (counts : ZoneCounts) (r : Bagged) (rest left all : List Bagged) (is : left ≡ r ∷ rest)
+      (so_far : Left old now counts left all) where
     steps-next : first_broken (steps (r ∷ []) ++ steps rest) ≡ first_broken (steps all)
-    steps-next = ap first_broken (sym (steps-append at targets missing (r ∷ []) rest)) ∙ ap (λ (bs : List Bagged). first_broken (steps bs)) (sym is) ∙ so_far.steps_are
+    steps-next =
+        ap first_broken (sym (steps-append at targets missing (r ∷ []) rest))
+        ∙ ap (λ (bs : List Bagged). first_broken (steps bs)) (sym is) ∙ so_far.steps_are
 
     -- a later one was
-    pub later_left : (new : Recs) (more : ZoneCounts) → first_broken (steps (r ∷ [])) ≡ None → more ≡ counts_with_later at counts (r ∷ []) → Adds now new (zone_bags at (r ∷ [])) → Left old new more rest all
+    pub later_left : (new : Recs) (more : ZoneCounts) → first_broken (steps (r ∷ [])) ≡ None
+        → more ≡ counts_with_later at counts (r ∷ []) → Adds now new (zone_bags at (r ∷ []))
+        → Left old new more rest all
     later_left new more holds counted put = record {
       counts_are =
           ap (λ (c : ZoneCounts). counts_with_later at c rest) counted ∙ sym (counts-append at counts (r ∷ []) rest)
           ∙ ap (counts_with_later at counts) (sym is) ∙ so_far.counts_are;
       steps_are = sym (first_broken-append (steps (r ∷ [])) (steps rest) holds) ∙ steps-next;
       bags_are = λ end others. so_far.bags_are end
-          (adds_as now end (zone_bags at (r ∷ []) ++ zone_bags at rest) (zone_bags at left) (sym (bags-append at (r ∷ []) rest) ∙ ap (zone_bags at) (sym is))
+          (adds_as now end (zone_bags at (r ∷ []) ++ zone_bags at rest) (zone_bags at left)
+          (sym (bags-append at (r ∷ []) rest) ∙ ap (zone_bags at) (sym is))
           (adds_both now new end (zone_bags at (r ∷ [])) (zone_bags at rest) put others));
     }
 
-    pub later_fails : (e : Failure ReadFault) → Fails e (first_broken (steps (r ∷ []))) → Fails e (first_broken (steps all))
+    pub later_fails : (e : Failure ReadFault) → Fails e (first_broken (steps (r ∷ [])))
+        → Fails e (first_broken (steps all))
     later_fails e h = subst (Fails e) steps-next (fails_front e (steps (r ∷ [])) (steps rest) h)
 
   -- all were
-  module _ (old now : Recs) (counts : ZoneCounts) (left all : List Bagged) (is : left ≡ []) (so_far : Left old now counts left all) where
+  module _ (old now : Recs) (counts : ZoneCounts) (left all : List Bagged) (is : left ≡ [])
+      (so_far : Left old now counts left all) where
     pub all_counted : counts ≡ counts_read at all
     all_counted = sym (counts-none at counts) ∙ ap (counts_with_later at counts) (sym is) ∙ so_far.counts_are
 
     pub all_hold : first_broken (steps all) ≡ None
-    all_hold = sym so_far.steps_are ∙ ap (λ (bs : List Bagged). first_broken (steps bs)) is ∙ no_steps at targets missing
+    all_hold =
+        sym so_far.steps_are ∙ ap (λ (bs : List Bagged). first_broken (steps bs)) is ∙ no_steps at targets missing
 
     pub all_put : Adds old now (own_bags at all)
-    all_put = so_far.bags_are now (adds_as now now [] (zone_bags at left) (no_zone_bags at ∙ ap (zone_bags at) (sym is)) (adds_none now))
+    all_put =
+        so_far.bags_are now
+        (adds_as now now [] (zone_bags at left) (no_zone_bags at ∙ ap (zone_bags at) (sym is)) (adds_none now))
 
 -- the counts so far are among all
-pub few_so_far : (at : Level) (counts : ZoneCounts) (left all : List Bagged) → counts_with_later at counts left ≡ counts_read at all → AreFew (counts_read at all) → AreFew counts
+pub few_so_far : (at : Level) (counts : ZoneCounts) (left all : List Bagged)
+    → counts_with_later at counts left ≡ counts_read at all → AreFew (counts_read at all) → AreFew counts
 few_so_far at counts left all so_far few =
     let zones = ap (λ (c : ZoneCounts). c.zones) so_far in
     let dropped = ap (λ (c : ZoneCounts). c.gens) so_far in
     let ranges = ap (λ (c : ZoneCounts). c.ranges) so_far in
-    record { zones = omega (arith, zones, few.zones); gens = omega (arith, dropped, few.gens); ranges = omega (arith, ranges, few.ranges) }
+    record {
+      zones =
+          omega (arith, zones, few.zones);
+      gens =
+          omega (arith, dropped, few.gens);
+      ranges = omega (arith, ranges, few.ranges);
+    }

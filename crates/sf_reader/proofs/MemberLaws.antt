@@ -21,7 +21,8 @@ use Rattle.bank_format.specs.ReadSteps.{count_steps}
 use Rattle.sf_reader.specs.declared.hydra.LevelTables.{LevelTables}
 use Rattle.sf_reader.specs.declared.owners.Members.{Members}
 use Rattle.sf_reader.specs.Hydra.{AreLists}
-use Rattle.sf_reader.specs.Owners.{AreSmall, added, windows_of, FlatOwners, FlatMembers, members_seen, owners_with_counts, zone_steps, members_of, member_steps}
+use Rattle.sf_reader.specs.Owners.{AreSmall, added, windows_of, FlatOwners, FlatMembers, members_seen}
+use Rattle.sf_reader.specs.Owners.{owners_with_counts, zone_steps, members_of, member_steps}
 use Rattle.bank_format.proofs.StepLaws.{then_none}
 use Rattle.sf_reader.proofs.StepLaws.{given_by, given_front, given_after}
 use Rattle.sf_reader.proofs.HydraLaws.{ModsInside, few_records, windows_are}
@@ -46,15 +47,19 @@ abbrev pub read_of : {H R : Type 0} → Headers H R → LevelTables R → FlatOw
 read_of h l = owners_with_counts h l.heads (windows_of h.first_bag l)
 
 -- where they are these four of the nine lists
-module _ {H R : Type 0} (h : Headers H R) (l : LevelTables R) (heads : List R) (bags : List Bag) (gens : List Generator) (mods : List Modulator) (are : AreLists l heads bags gens mods) (within : ModsInside bags mods) where
+module _ {H R : Type 0} (h : Headers H R) (l : LevelTables R) (heads : List R) (bags : List Bag)
+    (gens : List Generator) (mods : List Modulator) (are : AreLists l heads bags gens mods)
+    (within : ModsInside bags mods) where
   abbrev all : List (List Bagged)
   all = windows (bags_in bags gens mods) (map h.first_bag heads)
 
   same_windows : windows_of h.first_bag l ≡ all
   same_windows = windows_are h.first_bag l heads bags gens mods are within
 
-  same_steps : (missing : ReadFault) (targets count : ℕ) → targets ≡ count → steps_of h missing l targets ≡ zone_steps h.level count missing all
-  same_steps missing targets count same = ap (λ (n : ℕ). steps_of h missing l n) same ∙ ap (zone_steps h.level count missing) same_windows
+  same_steps : (missing : ReadFault) (targets count : ℕ) → targets ≡ count
+      → steps_of h missing l targets ≡ zone_steps h.level count missing all
+  same_steps missing targets count same =
+      ap (λ (n : ℕ). steps_of h missing l n) same ∙ ap (zone_steps h.level count missing) same_windows
 
   same_value : read_of h l ≡ owners_with_counts h heads all
   same_value =
@@ -70,21 +75,27 @@ abbrev pub instrument_steps : LevelTables InstrumentHead → ℕ → List (Step 
 instrument_steps = steps_of format.instruments BadSample
 
 -- the four lists of the presets, those of the instruments, and the numbers of their targets
-pub record Levels (t : Tables) (p : LevelTables PresetHead) (i : LevelTables InstrumentHead) (instruments samples : ℕ) : Type 0 where
+pub record Levels (t : Tables) (p : LevelTables PresetHead) (i : LevelTables InstrumentHead)
+    (instruments samples : ℕ) : Type 0 where
   pub presets_are : AreLists p t.phdr t.pbag t.pgen t.pmod
   pub instruments_are : AreLists i t.inst t.ibag t.igen t.imod
   pub mods : ModsInside t.pbag t.pmod × ModsInside t.ibag t.imod
   pub instruments_count : instruments ≡ length (rows t.inst)
   pub samples_count : samples ≡ length (rows t.shdr)
 
-module _ (t : Tables) (p : LevelTables PresetHead) (i : LevelTables InstrumentHead) (instruments samples : ℕ) (l : Levels t p i instruments samples) where
+module _ (t : Tables) (p : LevelTables PresetHead) (i : LevelTables InstrumentHead) (instruments samples : ℕ)
+    (l : Levels t p i instruments samples) where
   preset_steps_are : preset_steps p instruments ≡ preset_part t
   unfolding preset_windows
-  preset_steps_are = same_steps format.presets p t.phdr t.pbag t.pgen t.pmod l.presets_are l.mods.0 BadInstrument instruments (length (rows t.inst)) l.instruments_count
+  preset_steps_are =
+      same_steps format.presets p t.phdr t.pbag t.pgen t.pmod l.presets_are l.mods.0 BadInstrument instruments
+      (length (rows t.inst)) l.instruments_count
 
   instrument_steps_are : instrument_steps i samples ≡ instrument_part t
   unfolding instrument_windows
-  instrument_steps_are = same_steps format.instruments i t.inst t.ibag t.igen t.imod l.instruments_are l.mods.1 BadSample samples (length (rows t.shdr)) l.samples_count
+  instrument_steps_are =
+      same_steps format.instruments i t.inst t.ibag t.igen t.imod l.instruments_are l.mods.1 BadSample samples
+      (length (rows t.shdr)) l.samples_count
 
   presets_value : read_of format.presets p ≡ (members_of t).presets
   unfolding preset_windows
@@ -95,28 +106,38 @@ module _ (t : Tables) (p : LevelTables PresetHead) (i : LevelTables InstrumentHe
   instruments_value = same_value format.instruments i t.inst t.ibag t.igen t.imod l.instruments_are l.mods.1
 
   module _ (r : Result Members (Failure ReadFault)) (e : Failure ReadFault) (is : IsErrAnd r (λ d. d ≡ e)) where
-    pub presets_fail : Fails e (first_broken (preset_steps p instruments)) → PassesGivenMemory members_seen r (member_steps t) (members_of t)
+    pub presets_fail : Fails e (first_broken (preset_steps p instruments))
+        → PassesGivenMemory members_seen r (member_steps t) (members_of t)
     presets_fail h =
-        given_front members_seen (members_of t) r e (preset_part t) (instrument_part t) is (subst (λ (s : List (Step ReadFault)). Fails e (first_broken s)) preset_steps_are h)
+        given_front members_seen (members_of t) r e (preset_part t) (instrument_part t) is
+        (subst (λ (s : List (Step ReadFault)). Fails e (first_broken s)) preset_steps_are h)
 
-    pub instruments_fail : first_broken (preset_steps p instruments) ≡ None → Fails e (first_broken (instrument_steps i samples)) → PassesGivenMemory members_seen r (member_steps t) (members_of t)
+    pub instruments_fail : first_broken (preset_steps p instruments) ≡ None
+        → Fails e (first_broken (instrument_steps i samples))
+        → PassesGivenMemory members_seen r (member_steps t) (members_of t)
     instruments_fail none h =
-        given_after members_seen (members_of t) r (preset_part t) (instrument_part t) (sym (ap first_broken preset_steps_are) ∙ none)
-        (given_by members_seen (members_of t) r e (instrument_part t) is (subst (λ (s : List (Step ReadFault)). Fails e (first_broken s)) instrument_steps_are h))
+        given_after members_seen (members_of t) r (preset_part t) (instrument_part t)
+        (sym (ap first_broken preset_steps_are) ∙ none)
+        (given_by members_seen (members_of t) r e (instrument_part t) is
+        (subst (λ (s : List (Step ReadFault)). Fails e (first_broken s)) instrument_steps_are h))
 
-  pub members_hold : (presets : FlatOwners Head) (of_instruments : FlatOwners (List ℕ)) → first_broken (preset_steps p instruments) ≡ None → presets ≡ read_of format.presets p
+  pub members_hold : (presets : FlatOwners Head) (of_instruments : FlatOwners (List ℕ))
+      → first_broken (preset_steps p instruments) ≡ None → presets ≡ read_of format.presets p
       → first_broken (instrument_steps i samples) ≡ None → of_instruments ≡ read_of format.instruments i
-      → (first_broken (member_steps t) ≡ None) × (◌≡◌ {A = FlatMembers} (record { presets = presets; instruments = of_instruments }) (members_of t))
+      → (first_broken (member_steps t) ≡ None)
+      × (◌≡◌ {A = FlatMembers} (record { presets = presets; instruments = of_instruments }) (members_of t))
   members_hold presets of_instruments none presets_are none_too instruments_are =
       let first = presets_are ∙ presets_value in
       let second = instruments_are ∙ instruments_value in (
-        then_none (preset_part t) (instrument_part t) (sym (ap first_broken preset_steps_are) ∙ none) (sym (ap first_broken instrument_steps_are) ∙ none_too),
+        then_none (preset_part t) (instrument_part t) (sym (ap first_broken preset_steps_are) ∙ none)
+            (sym (ap first_broken instrument_steps_are) ∙ none_too),
         λ k. record { presets = first k; instruments = second k },
       )
 
 -- ---- their counts
 
-pub members_small : (t : Tables) → first_broken (count_steps t) ≡ None → AreSmall (added (members_of t).presets.counts (members_of t).instruments.counts)
+pub members_small : (t : Tables) → first_broken (count_steps t) ≡ None
+    → AreSmall (added (members_of t).presets.counts (members_of t).instruments.counts)
 unfolding preset_windows instrument_windows
 members_small t e =
     let few = few_records t e in

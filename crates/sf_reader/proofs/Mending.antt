@@ -1,5 +1,6 @@
 -- The ranges of what is kept, mended in the map.
-use Rattle.std.proofs.Common.{◌≡◌, ◌≢◌, ◌+◌, ℕ, Bool, true, false, cond, not, ◌||◌, ◌&&◌, eqb, List, [], ◌∷◌, map, Option, Some, None, refl, sym, ap, ◌∙◌, inl, inr, arith}
+use Rattle.std.proofs.Common.{◌≡◌, ◌≢◌, ◌+◌, ℕ, Bool, true, false, cond, not, ◌||◌, ◌&&◌, eqb, List, [], ◌∷◌, map}
+use Rattle.std.proofs.Common.{Option, Some, None, refl, sym, ap, ◌∙◌, inl, inr, arith}
 use Rattle.std.specs.Prelude.{count_by}
 use Rattle.std.specs.List.{list_any}
 use Rattle.std.specs.Option.{option_map}
@@ -20,31 +21,54 @@ abbrev amount_mended : ℕ → ℕ → ℕ
 amount_mended op w = cond (is_range_operator op) (range_mended w) w
 
 entry_mended : (r : Generator) → entry_of (mended r) ≡ (r.operator, amount_mended r.operator r.amount)
-entry_mended r = elim (is_range_operator r.operator) as (λ b. entry_of (cond b (record { operator = r.operator; amount = range_mended r.amount }) r) ≡ (r.operator, cond b (range_mended r.amount) r.amount)) [ true ↦ refl | false ↦ refl ]
+entry_mended r =
+    elim (is_range_operator r.operator) as
+    (λ b.
+    entry_of (cond b (record { operator = r.operator; amount = range_mended r.amount }) r)
+    ≡ (r.operator, cond b (range_mended r.amount) r.amount))
+    [ true ↦ refl | false ↦ refl ]
 
-find-mended : (q : ℕ) (rs : List Generator) → find operator_cmp q (map entry_of (map mended rs)) ≡ option_map (amount_mended q) (find operator_cmp q (map entry_of rs))
+find-mended : (q : ℕ) (rs : List Generator)
+    → find operator_cmp q (map entry_of (map mended rs))
+    ≡ option_map (amount_mended q) (find operator_cmp q (map entry_of rs))
 find-mended q [] = refl
 find-mended q (r ∷ rs) =
     let rest = find-mended q rs in
     ap (λ (e : ℕ × ℕ). find operator_cmp q (e ∷ map entry_of (map mended rs))) (entry_mended r)
-    ∙ elim (tied q r.operator) as (λ t. tied q r.operator ≡ t → cond t (Some (amount_mended r.operator r.amount)) (find operator_cmp q (map entry_of (map mended rs))) ≡ option_map (amount_mended q) (cond t (Some r.amount) (find operator_cmp q (map entry_of rs)))) [
+    ∙ elim (tied q r.operator) as
+    (λ t.
+    tied q r.operator ≡ t
+    → cond t (Some (amount_mended r.operator r.amount)) (find operator_cmp q (map entry_of (map mended rs)))
+    ≡ option_map (amount_mended q) (cond t (Some r.amount) (find operator_cmp q (map entry_of rs)))) [
       | true ↦ λ t. ap (λ (op : ℕ). Some (amount_mended op r.amount)) (sym (tied_is_same q r.operator t))
       | false ↦ λ t. rest
     ] refl
 
 -- ---- the map
 
-get-mended_at : (op q : ℕ) (m : Gens) → get (mended_at op m) q ≡ cond (tied q op) (option_map range_mended (get m q)) (get m q)
+get-mended_at : (op q : ℕ) (m : Gens)
+    → get (mended_at op m) q ≡ cond (tied q op) (option_map range_mended (get m q)) (get m q)
 get-mended_at op q m =
-    elim (get m op) as (λ o. get m op ≡ o → get (elim o as (λ x. Gens) [ None ↦ m | Some w ↦ insert m op (range_mended w) ]) q ≡ cond (tied q op) (option_map range_mended (get m q)) (get m q)) [
-      | None ↦ λ e. elim (tied q op) as (λ t. tied q op ≡ t → get m q ≡ cond t (option_map range_mended (get m q)) (get m q)) [
-        | true ↦ λ t. (let none : get m q ≡ None = ap (get m) (tied_is_same q op t) ∙ e in rw none refl)
-        | false ↦ λ t. refl
-      ] refl
-      | Some w ↦ λ e. get-insert_any m op (range_mended w) q ∙ elim (tied q op) as (λ t. tied q op ≡ t → cond t (Some (range_mended w)) (get m q) ≡ cond t (option_map range_mended (get m q)) (get m q)) [
-        | true ↦ λ t. (let some : get m q ≡ Some w = ap (get m) (tied_is_same q op t) ∙ e in rw some refl)
-        | false ↦ λ t. refl
-      ] refl
+    elim (get m op) as
+    (λ o.
+    get m op ≡ o
+    → get (elim o as (λ x. Gens) [ None ↦ m | Some w ↦ insert m op (range_mended w) ]) q
+    ≡ cond (tied q op) (option_map range_mended (get m q)) (get m q)) [
+      | None ↦ λ e.
+          elim (tied q op) as (λ t. tied q op ≡ t → get m q ≡ cond t (option_map range_mended (get m q)) (get m q)) [
+            | true ↦ λ t. (let none : get m q ≡ None = ap (get m) (tied_is_same q op t) ∙ e in rw none refl)
+            | false ↦ λ t. refl
+          ] refl
+      | Some w ↦ λ e.
+          get-insert_any m op (range_mended w) q
+          ∙ elim (tied q op) as
+          (λ t.
+          tied q op ≡ t
+          → cond t (Some (range_mended w)) (get m q)
+          ≡ cond t (option_map range_mended (get m q)) (get m q)) [
+            | true ↦ λ t. (let some : get m q ≡ Some w = ap (get m) (tied_is_same q op t) ∙ e in rw some refl)
+            | false ↦ λ t. refl
+          ] refl
     ] refl
 
 option_map-same : (f : ℕ → ℕ) → ((w : ℕ) → f w ≡ w) → (o : Option ℕ) → option_map f o ≡ o
@@ -55,7 +79,10 @@ other_amount : (q w : ℕ) → q ≢ 43 → q ≢ 44 → amount_mended q w ≡ w
 other_amount q w n k = rw (ne_eqb q 43 n, ne_eqb q 44 k) refl
 
 -- the range of an operator that is one, or of none
-mended_amount_at : (q : ℕ) (o : Option ℕ) → cond (tied q 44) (option_map range_mended (cond (tied q 43) (option_map range_mended o) o)) (cond (tied q 43) (option_map range_mended o) o) ≡ option_map (amount_mended q) o
+mended_amount_at : (q : ℕ) (o : Option ℕ)
+    → cond (tied q 44) (option_map range_mended (cond (tied q 43) (option_map range_mended o) o))
+    (cond (tied q 43) (option_map range_mended o) o)
+    ≡ option_map (amount_mended q) o
 mended_amount_at q o = elim (cases_eq q 43) [
   | inl e ↦ rw e refl
   | inr n ↦ elim (cases_eq q 44) [
@@ -89,7 +116,8 @@ changes_at op r = eqb r.operator op && changes r.amount
 abbrev amount_changes : Option ℕ → Bool
 amount_changes o = elim o [ None ↦ false | Some w ↦ changes w ]
 
-count_by-cons : (p : Generator → Bool) (r : Generator) (rs : List Generator) → count_by p (r ∷ rs) ≡ one_if (p r) + count_by p rs
+count_by-cons : (p : Generator → Bool) (r : Generator) (rs : List Generator)
+    → count_by p (r ∷ rs) ≡ one_if (p r) + count_by p rs
 count_by-cons p r rs = sum_by-cons (λ x. cond (p x) 1 0) r rs
 
 either_range : (r : Generator) → one_if (is_mended r) ≡ one_if (changes_at 43 r) + one_if (changes_at 44 r)
@@ -104,29 +132,47 @@ either_range r = elim (cases_eq r.operator 43) [
 both_ranges : (rs : List Generator) → count_by is_mended rs ≡ count_by (changes_at 43) rs + count_by (changes_at 44) rs
 both_ranges [] = refl
 both_ranges (r ∷ rs) =
-    omega (arith, both_ranges rs, either_range r, count_by-cons is_mended r rs, count_by-cons (changes_at 43) r rs, count_by-cons (changes_at 44) r rs)
+    omega (
+      arith,
+      both_ranges rs,
+      either_range r,
+      count_by-cons is_mended r rs,
+      count_by-cons (changes_at 43) r rs,
+      count_by-cons (changes_at 44) r rs,
+    )
 
 -- an operator that none of the records has
-none_changes : (op : ℕ) (rs : List Generator) → list_any (λ (x : Generator). eqb x.operator op) rs ≡ false → count_by (changes_at op) (last_of_each rs) ≡ 0
+none_changes : (op : ℕ) (rs : List Generator) → list_any (λ (x : Generator). eqb x.operator op) rs ≡ false
+    → count_by (changes_at op) (last_of_each rs) ≡ 0
 none_changes op [] e = refl
 none_changes op (r ∷ rs) e =
-    elim (eqb r.operator op) as (λ b. eqb r.operator op ≡ b → (b || list_any (λ (x : Generator). eqb x.operator op) rs) ≡ false → count_by (changes_at op) (last_of_each (r ∷ rs)) ≡ 0) [
+    elim (eqb r.operator op) as
+    (λ b.
+    eqb r.operator op ≡ b → (b || list_any (λ (x : Generator). eqb x.operator op) rs) ≡ false
+    → count_by (changes_at op) (last_of_each (r ∷ rs)) ≡ 0) [
       | true ↦ λ t h. absurd (Rattle.std.proofs.Common.true≢false h)
       | false ↦ λ t h.
           let rest = none_changes op rs h in
           let here : one_if (changes_at op r) ≡ 0 = rw t refl in
-          elim (list_any (λ (x : Generator). eqb x.operator r.operator) rs) as (λ s. count_by (changes_at op) (cond s (last_of_each rs) (r ∷ last_of_each rs)) ≡ 0) [
+          elim (list_any (λ (x : Generator). eqb x.operator r.operator) rs) as
+          (λ s. count_by (changes_at op) (cond s (last_of_each rs) (r ∷ last_of_each rs)) ≡ 0) [
             | true ↦ rest
             | false ↦ omega (arith, count_by-cons (changes_at op) r (last_of_each rs), here, rest)
           ]
     ] refl e
 
-changes_found : (op : ℕ) (rs : List Generator) → count_by (changes_at op) (last_of_each rs) ≡ one_if (amount_changes (find operator_cmp op (map entry_of (last_of_each rs))))
+changes_found : (op : ℕ) (rs : List Generator)
+    → count_by (changes_at op) (last_of_each rs)
+    ≡ one_if (amount_changes (find operator_cmp op (map entry_of (last_of_each rs))))
 changes_found op [] = refl
 changes_found op (r ∷ rs) =
     let lasts = last_of_each rs in
     let rest = changes_found op rs in
-    elim (list_any (λ (x : Generator). eqb x.operator r.operator) rs) as (λ s. list_any (λ (x : Generator). eqb x.operator r.operator) rs ≡ s → count_by (changes_at op) (cond s lasts (r ∷ lasts)) ≡ one_if (amount_changes (find operator_cmp op (map entry_of (cond s lasts (r ∷ lasts)))))) [
+    elim (list_any (λ (x : Generator). eqb x.operator r.operator) rs) as
+    (λ s.
+    list_any (λ (x : Generator). eqb x.operator r.operator) rs ≡ s
+    → count_by (changes_at op) (cond s lasts (r ∷ lasts))
+    ≡ one_if (amount_changes (find operator_cmp op (map entry_of (cond s lasts (r ∷ lasts)))))) [
       | true ↦ λ s. rest
       | false ↦ λ s.
           let whole = count_by-cons (changes_at op) r lasts in
@@ -134,20 +180,29 @@ changes_found op (r ∷ rs) =
             | inl e ↦
                 let others : count_by (changes_at op) lasts ≡ 0 = rw (← e) (none_changes r.operator rs s) in
                 let here : one_if (changes_at op r) ≡ one_if (changes r.amount) = rw (eq-eqb r.operator op e) refl in
-                let found : one_if (amount_changes (find operator_cmp op (map entry_of (r ∷ lasts)))) ≡ one_if (changes r.amount) = rw (e, tied_same op) refl in
+                let found : one_if (amount_changes (find operator_cmp op (map entry_of (r ∷ lasts))))
+                ≡ one_if (changes r.amount) =
+                rw (e, tied_same op) refl in
                 omega (arith, others, whole, here, found)
             | inr n ↦
                 let here : one_if (changes_at op r) ≡ 0 = rw (ne_eqb r.operator op n) refl in
-                let found : one_if (amount_changes (find operator_cmp op (map entry_of (r ∷ lasts)))) ≡ one_if (amount_changes (find operator_cmp op (map entry_of lasts))) = rw (untied op r.operator (λ k. n (sym k))) refl in
+                let found : one_if (amount_changes (find operator_cmp op (map entry_of (r ∷ lasts))))
+                ≡ one_if (amount_changes (find operator_cmp op (map entry_of lasts))) =
+                rw (untied op r.operator (λ k. n (sym k))) refl in
                 omega (arith, rest, whole, here, found)
           ]
     ] refl
 
-pub mended_count : (rs : List Generator) → one_if (is_out_of_order 43 (gens_of (last_of_each rs))) + one_if (is_out_of_order 44 (gens_of (last_of_each rs))) ≡ count_by is_mended (last_of_each rs)
+pub mended_count : (rs : List Generator)
+    → one_if (is_out_of_order 43 (gens_of (last_of_each rs)))
+    + one_if (is_out_of_order 44 (gens_of (last_of_each rs)))
+    ≡ count_by is_mended (last_of_each rs)
 mended_count rs =
     let lasts = last_of_each rs in
-    let keys : one_if (is_out_of_order 43 (gens_of lasts)) ≡ count_by (changes_at 43) lasts = ap (λ (o : Option ℕ). one_if (amount_changes o)) (get-gens_of lasts 43) ∙ sym (changes_found 43 rs) in
-    let velocities : one_if (is_out_of_order 44 (gens_of lasts)) ≡ count_by (changes_at 44) lasts = ap (λ (o : Option ℕ). one_if (amount_changes o)) (get-gens_of lasts 44) ∙ sym (changes_found 44 rs) in
+    let keys : one_if (is_out_of_order 43 (gens_of lasts)) ≡ count_by (changes_at 43) lasts =
+    ap (λ (o : Option ℕ). one_if (amount_changes o)) (get-gens_of lasts 43) ∙ sym (changes_found 43 rs) in
+    let velocities : one_if (is_out_of_order 44 (gens_of lasts)) ≡ count_by (changes_at 44) lasts =
+    ap (λ (o : Option ℕ). one_if (amount_changes o)) (get-gens_of lasts 44) ∙ sym (changes_found 44 rs) in
     omega (arith, keys, velocities, both_ranges lasts)
 
 -- the key range doesn't matter to the velocity range

@@ -1,5 +1,6 @@
 -- The presets or the instruments, one head after the other.
-use Rattle.std.proofs.Common.{◌≡◌, ◌+◌, ◌-◌, ◌∙◌, ℕ, suc, List, [], ◌∷◌, ◌++◌, length, map, Some, None, Option, Result, IsSome, refl, sym, ap, subst, append_assoc, append-nil, arith}
+use Rattle.std.proofs.Common.{◌≡◌, ◌+◌, ◌-◌, ◌∙◌, ℕ, suc, List, [], ◌∷◌, ◌++◌, length, map, Some, None, Option}
+use Rattle.std.proofs.Common.{Result, IsSome, refl, sym, ap, subst, append_assoc, append-nil, arith}
 use Rattle.std.specs.Prelude.{flat_map, MatchOption}
 use Rattle.std.specs.List.{slice_range}
 use Rattle.std.specs.Result.{IsErrAnd}
@@ -28,7 +29,8 @@ use Rattle.sf_reader.specs.declared.owners.OwnersRead.{OwnersRead}
 use Rattle.sf_reader.specs.Bags.{counts_read, own_bags, steps_of_bags}
 use Rattle.sf_reader.specs.Records.{AreSoFar}
 use Rattle.sf_reader.specs.declared.hydra.LevelTables.{LevelTables}
-use Rattle.sf_reader.specs.Owners.{AreSmall, added, counts_over, AreOwnersSoFar, AddsOwner, AreEnded, FlatOwners, owners_seen, owners_with_counts, zone_steps, window_of}
+use Rattle.sf_reader.specs.Owners.{AreSmall, added, counts_over, AreOwnersSoFar, AddsOwner, AreEnded, FlatOwners}
+use Rattle.sf_reader.specs.Owners.{owners_seen, owners_with_counts, zone_steps, window_of}
 use Rattle.sf_reader.proofs.Adding.{bags_so_far}
 use Rattle.bank_format.proofs.StepLaws.{first_broken-append}
 use Rattle.sf_reader.proofs.StepLaws.{fails_front, given_by}
@@ -37,7 +39,8 @@ use Rattle.sf_reader.proofs.WindowLaws.{slice-bags_in, length-rows, length-windo
 
 -- ---- counts
 
-counts_over-next : (at : Level) (w : List Bagged) (ws : List (List Bagged)) → counts_over at (w ∷ ws) ≡ added (counts_read at w) (counts_over at ws)
+counts_over-next : (at : Level) (w : List Bagged) (ws : List (List Bagged))
+    → counts_over at (w ∷ ws) ≡ added (counts_read at w) (counts_over at ws)
 counts_over-next at w ws =
     let zones = sum_by-cons (ignored at) w ws in
     let gens = sum_by-cons (gens_dropped at) w ws in
@@ -77,8 +80,10 @@ rows-next h n ns =
 
 -- the zones of the next head, then those of the others
 zone_steps-next : (at : Level) (targets : ℕ) (missing : ReadFault) (w : List Bagged) (ws : List (List Bagged))
-    → zone_steps at targets missing (w ∷ ws) ≡ map (target_step targets missing) (zones_read at w) ++ zone_steps at targets missing ws
-zone_steps-next at targets missing w ws = map-append (target_step targets missing) (zones_read at w) (flat_map (zones_read at) ws)
+    → zone_steps at targets missing (w ∷ ws)
+    ≡ map (target_step targets missing) (zones_read at w) ++ zone_steps at targets missing ws
+zone_steps-next at targets missing w ws =
+    map-append (target_step targets missing) (zones_read at w) (flat_map (zones_read at) ws)
 
 -- ---- one more of them
 
@@ -87,29 +92,37 @@ pushed_as old new x y e is = e ∙ ap (λ z. old ++ z ∷ []) is
 
 -- where the bags of the next one begin
 begins-last : (at : ℕ) (owners : List (List flat.Bag)) (own : List flat.Bag)
-    → starts past_owner at (owners ++ own ∷ []) ≡ starts past_owner at owners ++ (at + length (all_bags (owners ++ own ∷ []))) ∷ []
+    → starts past_owner at (owners ++ own ∷ [])
+    ≡ starts past_owner at owners ++ (at + length (all_bags (owners ++ own ∷ []))) ∷ []
 begins-last at [] own =
     let here : at + length own ≡ at + length (own ++ []) = ap (λ bs. at + length bs) (sym (append-nil own)) in
     λ i. at ∷ here i ∷ []
 begins-last at (x ∷ xs) own =
-    let past : (at + length x) + length (all_bags (xs ++ own ∷ [])) ≡ at + length (x ++ all_bags (xs ++ own ∷ [])) = omega (arith, length-append x (all_bags (xs ++ own ∷ []))) in
+    let past : (at + length x) + length (all_bags (xs ++ own ∷ [])) ≡ at + length (x ++ all_bags (xs ++ own ∷ [])) =
+    omega (arith, length-append x (all_bags (xs ++ own ∷ []))) in
     ap (λ ns. at ∷ ns) (begins-last (past_owner at x) xs own)
     ∙ (λ i. at ∷ (starts past_owner (past_owner at x) xs ++ past i ∷ []))
 
-pub one_more : {H : Type 0} (old new : OwnersSoFar H) (hs : List H) (owners : List (List flat.Bag)) (c : ZoneCounts) (head : H) (own : List flat.Bag) (more : ZoneCounts)
-    → AreOwnersSoFar old hs owners c → AddsOwner old new head own more → AreOwnersSoFar new (hs ++ head ∷ []) (owners ++ own ∷ []) (added c more)
+pub one_more : {H : Type 0} (old new : OwnersSoFar H) (hs : List H) (owners : List (List flat.Bag)) (c : ZoneCounts)
+    (head : H) (own : List flat.Bag) (more : ZoneCounts)
+    → AreOwnersSoFar old hs owners c → AddsOwner old new head own more
+    → AreOwnersSoFar new (hs ++ head ∷ []) (owners ++ own ∷ []) (added c more)
 one_more old new hs owners c head own more are adds =
-    let all : all_bags owners ++ own ≡ all_bags (owners ++ own ∷ []) = flat_map_more (λ (bs : List flat.Bag). bs) [] owners own in
+    let all : all_bags owners ++ own ≡ all_bags (owners ++ own ∷ []) =
+    flat_map_more (λ (bs : List flat.Bag). bs) [] owners own in
     let records = subst (AreSoFar new.records) all (adds.records_grow (all_bags owners) are.records_are) in
-    let count : length new.records.bags.items - 1 ≡ 0 + length (all_bags (owners ++ own ∷ [])) = omega (arith, bags_so_far new.records (all_bags (owners ++ own ∷ [])) records) in
+    let count : length new.records.bags.items - 1 ≡ 0 + length (all_bags (owners ++ own ∷ [])) =
+    omega (arith, bags_so_far new.records (all_bags (owners ++ own ∷ [])) records) in
     record {
       heads_are = adds.heads_grow ∙ ap (λ xs. xs ++ head ∷ []) are.heads_are;
-      first_bags_are = adds.first_bags_grow ∙ (λ i. are.first_bags_are i ++ count i ∷ []) ∙ sym (begins-last 0 owners own);
+      first_bags_are =
+          adds.first_bags_grow ∙ (λ i. are.first_bags_are i ++ count i ∷ []) ∙ sym (begins-last 0 owners own);
       records_are = records;
       counts_are = adds.counts_grow ∙ ap (λ (d : ZoneCounts). added d more) are.counts_are;
     }
 
-are_as : {H : Type 0} (r : OwnersSoFar H) (hs names : List H) (bs owners : List (List flat.Bag)) (b c : ZoneCounts) → hs ≡ names → bs ≡ owners → b ≡ c → AreOwnersSoFar r hs bs b → AreOwnersSoFar r names owners c
+are_as : {H : Type 0} (r : OwnersSoFar H) (hs names : List H) (bs owners : List (List flat.Bag)) (b c : ZoneCounts)
+    → hs ≡ names → bs ≡ owners → b ≡ c → AreOwnersSoFar r hs bs b → AreOwnersSoFar r names owners c
 are_as r hs names bs owners b c heads bags counts are = record {
   heads_are = are.heads_are ∙ heads;
   first_bags_are = are.first_bags_are ∙ ap (starts past_owner 0) bags;
@@ -124,16 +137,27 @@ pub found : {X : Type 0} (P : Type 0) (Q : X → Type 0) (o : Option X) → Matc
 found P Q None h p = absurd (h p)
 found P Q (Some x) h p = refl
 
-pub found_that : {X : Type 0} (P : Type 0) (Q : X → Type 0) (o : Option X) (x : X) → MatchOption o (P → ⊥) Q → o ≡ Some x → Q x
+pub found_that : {X : Type 0} (P : Type 0) (Q : X → Type 0) (o : Option X) (x : X) → MatchOption o (P → ⊥) Q
+    → o ≡ Some x → Q x
 found_that P Q o x h e = subst (λ p. MatchOption p (P → ⊥) Q) e h
 
 -- there is one place more than heads
-pub places : {H : Type 0} (r : OwnersSoFar H) (hs : List H) (owners : List (List flat.Bag)) (c : ZoneCounts) → AreOwnersSoFar r hs owners c → length owners ≡ length hs
+pub places : {H : Type 0} (r : OwnersSoFar H) (hs : List H) (owners : List (List flat.Bag)) (c : ZoneCounts)
+    → AreOwnersSoFar r hs owners c → length owners ≡ length hs
     → length r.first_bags.items ≡ length r.heads.items + 1
-places r hs owners c are same = omega (arith, ap length are.first_bags_are, length-starts past_owner 0 owners, ap length are.heads_are, same)
+places r hs owners c are same =
+    omega (arith, ap length are.first_bags_are, length-starts past_owner 0 owners, ap length are.heads_are, same)
 
-pub ended_as : {H : Type 0} (r : OwnersSoFar H) (e : OwnersRead H) (hs : List H) (owners : List (List flat.Bag)) (c : ZoneCounts) → AreOwnersSoFar r hs owners c → AreEnded r e
-    → ◌≡◌ {A = FlatOwners H} (owners_seen e) (record { heads = head_records hs (starts past_owner 0 owners); records = flat.tables_of (all_bags owners); counts = c })
+pub ended_as : {H : Type 0} (r : OwnersSoFar H) (e : OwnersRead H) (hs : List H) (owners : List (List flat.Bag))
+    (c : ZoneCounts)
+    → AreOwnersSoFar r hs owners c → AreEnded r e
+    → ◌≡◌ {A = FlatOwners H} (owners_seen e)
+    (record {
+      heads =
+          head_records hs (starts past_owner 0 owners);
+      records = flat.tables_of (all_bags owners);
+      counts = c;
+    })
 ended_as r e hs owners c are ended =
     let heads = ended.heads_are ∙ (λ i. head_records (are.heads_are i) (are.first_bags_are i)) in
     let records = ended.records_are (all_bags owners) are.records_are in
@@ -142,133 +166,189 @@ ended_as r e hs owners c are ended =
 
 -- ---- head after head
 
-module _ {O H : Type 0} (k : Headers O H) (targets : ℕ) (missing : ReadFault) (table : List Bagged) (heads : List H) where
-  abbrev all : List (List Bagged)
-  all = windows table (map k.first_bag heads)
+module _ {O H : Type 0} (k : Headers O H) (targets : ℕ) (missing : ReadFault) (table : List Bagged) (heads : List H)
+  where
+    abbrev all : List (List Bagged)
+    all = windows table (map k.first_bag heads)
 
-  -- those so far and those of head h and the heads after it are all, and the zones that are left decide
-  pub record Left (read : OwnersSoFar O) (h : H) (hs : List H) : Type 0 where
-    pub names : List O
-    pub owners : List (List flat.Bag)
-    pub counts : ZoneCounts
-    pub so_far : AreOwnersSoFar read names owners counts
-    pub names_are : names ++ map k.read (rows (h ∷ hs)) ≡ map k.read (rows heads)
-    pub owners_are : owners ++ map (own_bags k.level) (windows table (map k.first_bag (h ∷ hs))) ≡ map (own_bags k.level) all
-    pub counts_are : added counts (counts_over k.level (windows table (map k.first_bag (h ∷ hs)))) ≡ counts_over k.level all
-    pub steps_are : first_broken (zone_steps k.level targets missing (windows table (map k.first_bag (h ∷ hs)))) ≡ first_broken (zone_steps k.level targets missing all)
+    -- those so far and those of head h and the heads after it are all, and the zones that are left decide
+    pub record Left (read : OwnersSoFar O) (h : H) (hs : List H) : Type 0 where
+      pub names : List O
+      pub owners : List (List flat.Bag)
+      pub counts : ZoneCounts
+      pub so_far : AreOwnersSoFar read names owners counts
+      pub names_are : names ++ map k.read (rows (h ∷ hs)) ≡ map k.read (rows heads)
+      pub owners_are : owners ++ map (own_bags k.level) (windows table (map k.first_bag (h ∷ hs)))
+          ≡ map (own_bags k.level) all
+      pub counts_are : added counts (counts_over k.level (windows table (map k.first_bag (h ∷ hs))))
+          ≡ counts_over k.level all
+      pub steps_are : first_broken (zone_steps k.level targets missing (windows table (map k.first_bag (h ∷ hs))))
+          ≡ first_broken (zone_steps k.level targets missing all)
 
-  -- none so far
-  pub none_left : (read : OwnersSoFar O) (h : H) (hs : List H) → heads ≡ h ∷ hs → AreOwnersSoFar read [] [] no_counts → Left read h hs
-  none_left read h hs is so_far =
-      let ws : windows table (map k.first_bag (h ∷ hs)) ≡ all = ap (λ (l : List H). windows table (map k.first_bag l)) (sym is) in
-      record {
-        names = [];
-        owners = [];
-        counts = no_counts;
-        so_far = so_far;
-        names_are = ap (λ (l : List H). map k.read (rows l)) (sym is);
-        owners_are = ap (map (own_bags k.level)) ws;
-        counts_are = none-added (counts_over k.level (windows table (map k.first_bag (h ∷ hs)))) ∙ ap (counts_over k.level) ws;
-        steps_are = ap (λ (l : List (List Bagged)). first_broken (zone_steps k.level targets missing l)) ws;
-      }
-
-  -- the bags of head h end where those of the next one begin
-  abbrev between : H → H → List Bagged
-  between h n = slice_range table (k.first_bag h) (k.first_bag n)
-
-  module _ (read : OwnersSoFar O) (h n : H) (ns : List H) (left : Left read h (n ∷ ns)) where
-    -- one more
-    pub left_next : (new : OwnersSoFar O)
-        → first_broken (steps_of_bags k.level targets missing (between h n)) ≡ None
-        → AddsOwner read new (k.read h) (own_bags k.level (between h n)) (counts_read k.level (between h n)) → Left new n ns
-    left_next new holds adds =
-        let rest = windows table (map k.first_bag (n ∷ ns)) in record {
-          names = left.names ++ k.read h ∷ [];
-          owners = left.owners ++ own_bags k.level (between h n) ∷ [];
-          counts = added left.counts (counts_read k.level (between h n));
-          so_far = one_more read new left.names left.owners left.counts (k.read h) (own_bags k.level (between h n)) (counts_read k.level (between h n)) left.so_far adds;
-          names_are =
-              append_assoc left.names (k.read h ∷ []) (map k.read (rows (n ∷ ns)))
-              ∙ ap (λ (l : List H). left.names ++ map k.read l) (sym (rows-next h n ns))
-              ∙ left.names_are;
-          owners_are = append_assoc left.owners (own_bags k.level (between h n) ∷ []) (map (own_bags k.level) rest) ∙ left.owners_are;
+    -- none so far
+    pub none_left : (read : OwnersSoFar O) (h : H) (hs : List H) → heads ≡ h ∷ hs → AreOwnersSoFar read [] [] no_counts
+        → Left read h hs
+    none_left read h hs is so_far =
+        let ws : windows table (map k.first_bag (h ∷ hs)) ≡ all =
+        ap (λ (l : List H). windows table (map k.first_bag l)) (sym is) in
+        record {
+          names = [];
+          owners = [];
+          counts = no_counts;
+          so_far = so_far;
+          names_are = ap (λ (l : List H). map k.read (rows l)) (sym is);
+          owners_are = ap (map (own_bags k.level)) ws;
           counts_are =
-              added-assoc left.counts (counts_read k.level (between h n)) (counts_over k.level rest)
-              ∙ ap (added left.counts) (sym (counts_over-next k.level (between h n) rest))
-              ∙ left.counts_are;
-          steps_are =
-              sym (first_broken-append (steps_of_bags k.level targets missing (between h n)) (zone_steps k.level targets missing rest) holds)
-              ∙ ap first_broken (sym (zone_steps-next k.level targets missing (between h n) rest))
-              ∙ left.steps_are;
+              none-added (counts_over k.level (windows table (map k.first_bag (h ∷ hs))))
+              ∙ ap (counts_over k.level) ws;
+          steps_are = ap (λ (l : List (List Bagged)). first_broken (zone_steps k.level targets missing l)) ws;
         }
 
-    -- one of its zones names no target
-    pub left_fails : {Y Z : Type 0} (view : Y → Z) (value : Z) (r : Result Y (Failure ReadFault)) (e : Failure ReadFault) → IsErrAnd r (λ d. d ≡ e)
-        → Fails e (first_broken (steps_of_bags k.level targets missing (between h n))) → PassesGivenMemory view r (zone_steps k.level targets missing all) value
-    left_fails view value r e is h_fails =
-        let rest = windows table (map k.first_bag (n ∷ ns)) in
-        let here = fails_front e (steps_of_bags k.level targets missing (between h n)) (zone_steps k.level targets missing rest) h_fails in
-        given_by view value r e (zone_steps k.level targets missing all) is
-        (subst (λ (b : Option ReadFault). Fails e b) (ap first_broken (sym (zone_steps-next k.level targets missing (between h n) rest)) ∙ left.steps_are) here)
+    -- the bags of head h end where those of the next one begin
+    abbrev between : H → H → List Bagged
+    between h n = slice_range table (k.first_bag h) (k.first_bag n)
 
-    -- its counts can be added
-    pub left_small : AreFew (counts_over k.level all) → AreSmall (added read.counts (counts_read k.level (between h n)))
-    left_small few =
-        let rest = windows table (map k.first_bag (n ∷ ns)) in
-        let so_far = left.so_far in
-        part-small read.counts (counts_read k.level (between h n)) (counts_over k.level rest) (counts_over k.level all)
-        (ap (λ (c : ZoneCounts). added c (added (counts_read k.level (between h n)) (counts_over k.level rest))) so_far.counts_are
-        ∙ ap (added left.counts) (sym (counts_over-next k.level (between h n) rest)) ∙ left.counts_are) few
+    module _ (read : OwnersSoFar O) (h n : H) (ns : List H) (left : Left read h (n ∷ ns)) where
+      -- one more
+      pub left_next : (new : OwnersSoFar O)
+          → first_broken (steps_of_bags k.level targets missing (between h n)) ≡ None
+          → AddsOwner read new (k.read h) (own_bags k.level (between h n)) (counts_read k.level (between h n))
+          → Left new n ns
+      left_next new holds adds =
+          let rest = windows table (map k.first_bag (n ∷ ns)) in record {
+            names = left.names ++ k.read h ∷ [];
+            owners = left.owners ++ own_bags k.level (between h n) ∷ [];
+            counts = added left.counts (counts_read k.level (between h n));
+            so_far =
+                one_more read new left.names left.owners left.counts (k.read h) (own_bags k.level (between h n))
+                (counts_read k.level (between h n)) left.so_far adds;
+            names_are =
+                append_assoc left.names (k.read h ∷ []) (map k.read (rows (n ∷ ns)))
+                ∙ ap (λ (l : List H). left.names ++ map k.read l) (sym (rows-next h n ns))
+                ∙ left.names_are;
+            owners_are =
+                append_assoc left.owners (own_bags k.level (between h n) ∷ []) (map (own_bags k.level) rest)
+                ∙ left.owners_are;
+            counts_are =
+                added-assoc left.counts (counts_read k.level (between h n)) (counts_over k.level rest)
+                ∙ ap (added left.counts) (sym (counts_over-next k.level (between h n) rest))
+                ∙ left.counts_are;
+            steps_are =
+                sym
+                (first_broken-append (steps_of_bags k.level targets missing (between h n))
+                (zone_steps k.level targets missing rest) holds)
+                ∙ ap first_broken (sym (zone_steps-next k.level targets missing (between h n) rest))
+                ∙ left.steps_are;
+          }
 
-  -- how many there are
-  pub as_many : length (map (own_bags k.level) all) ≡ length (map k.read (rows heads))
-  as_many = omega (arith, length-map all (own_bags k.level), length-map (rows heads) k.read, length-windows table (map k.first_bag heads), length-map heads k.first_bag, length-rows heads)
+      -- one of its zones names no target
+      pub left_fails : {Y Z : Type 0} (view : Y → Z) (value : Z) (r : Result Y (Failure ReadFault))
+          (e : Failure ReadFault)
+          → IsErrAnd r (λ d. d ≡ e)
+          → Fails e (first_broken (steps_of_bags k.level targets missing (between h n)))
+          → PassesGivenMemory view r (zone_steps k.level targets missing all) value
+      left_fails view value r e is h_fails =
+          let rest = windows table (map k.first_bag (n ∷ ns)) in
+          let here =
+          fails_front e (steps_of_bags k.level targets missing (between h n))
+          (zone_steps k.level targets missing rest) h_fails in
+          given_by view value r e (zone_steps k.level targets missing all) is
+          (subst (λ (b : Option ReadFault). Fails e b)
+          (ap first_broken (sym (zone_steps-next k.level targets missing (between h n) rest)) ∙ left.steps_are)
+          here)
 
-  -- all of them were read
-  pub record AllRead (read : OwnersSoFar O) : Type 0 where
-    pub are : AreOwnersSoFar read (map k.read (rows heads)) (map (own_bags k.level) all) (counts_over k.level all)
-    pub hold : first_broken (zone_steps k.level targets missing all) ≡ None
+      -- its counts can be added
+      pub left_small : AreFew (counts_over k.level all) → AreSmall (added read.counts (counts_read k.level (between h n)))
+      left_small few =
+          let rest = windows table (map k.first_bag (n ∷ ns)) in
+          let so_far = left.so_far in
+          part-small read.counts (counts_read k.level (between h n)) (counts_over k.level rest) (counts_over k.level all)
+          (ap (λ (c : ZoneCounts). added c (added (counts_read k.level (between h n)) (counts_over k.level rest)))
+          so_far.counts_are
+          ∙ ap (added left.counts) (sym (counts_over-next k.level (between h n) rest)) ∙ left.counts_are) few
 
-  pub none_read : (read : OwnersSoFar O) → heads ≡ [] → AreOwnersSoFar read [] [] no_counts → AllRead read
-  none_read read is so_far =
-      let ws : [] ≡ all = ap (λ (l : List H). windows table (map k.first_bag l)) (sym is) in
-      let names : [] ≡ map k.read (rows heads) = ap (λ (l : List H). map k.read (rows l)) (sym is) in
-      record {
-        are = are_as read [] (map k.read (rows heads)) [] (map (own_bags k.level) all) no_counts (counts_over k.level all) names (ap (map (own_bags k.level)) ws) (ap (counts_over k.level) ws) so_far;
-        hold = ap (λ (l : List (List Bagged)). first_broken (zone_steps k.level targets missing l)) (sym ws);
-      }
+    -- how many there are
+    pub as_many : length (map (own_bags k.level) all) ≡ length (map k.read (rows heads))
+    as_many =
+        omega (
+          arith,
+          length-map all (own_bags k.level),
+          length-map (rows heads) k.read,
+          length-windows table (map k.first_bag heads),
+          length-map heads k.first_bag,
+          length-rows heads,
+        )
 
-  pub all_read : (read : OwnersSoFar O) (h : H) (hs : List H) → hs ≡ [] → Left read h hs → AllRead read
-  all_read read h hs is left =
-      let ws : [] ≡ windows table (map k.first_bag (h ∷ hs)) = ap (λ (l : List H). windows table (map k.first_bag (h ∷ l))) (sym is) in
-      let no_rows : [] ≡ rows (h ∷ hs) = ap (λ (l : List H). rows (h ∷ l)) (sym is) in
-      let names = sym (append-nil left.names) ∙ ap (λ (l : List H). left.names ++ map k.read l) no_rows ∙ left.names_are in
-      let owners = sym (append-nil left.owners) ∙ ap (λ (l : List (List Bagged)). left.owners ++ map (own_bags k.level) l) ws ∙ left.owners_are in
-      let counts = sym (added-none left.counts) ∙ ap (λ (l : List (List Bagged)). added left.counts (counts_over k.level l)) ws ∙ left.counts_are in
-      record {
-        are = are_as read left.names (map k.read (rows heads)) left.owners (map (own_bags k.level) all) left.counts (counts_over k.level all) names owners counts left.so_far;
-        hold = sym left.steps_are ∙ ap (λ (l : List (List Bagged)). first_broken (zone_steps k.level targets missing l)) (sym ws);
-      }
+    -- all of them were read
+    pub record AllRead (read : OwnersSoFar O) : Type 0 where
+      pub are : AreOwnersSoFar read (map k.read (rows heads)) (map (own_bags k.level) all) (counts_over k.level all)
+      pub hold : first_broken (zone_steps k.level targets missing all) ≡ None
 
-  module _ (read : OwnersSoFar O) (all_are : AllRead read) where
-    pub can_end : length read.first_bags.items ≡ length read.heads.items + 1
-    can_end = places read (map k.read (rows heads)) (map (own_bags k.level) all) (counts_over k.level all) all_are.are as_many
+    pub none_read : (read : OwnersSoFar O) → heads ≡ [] → AreOwnersSoFar read [] [] no_counts → AllRead read
+    none_read read is so_far =
+        let ws : [] ≡ all = ap (λ (l : List H). windows table (map k.first_bag l)) (sym is) in
+        let names : [] ≡ map k.read (rows heads) = ap (λ (l : List H). map k.read (rows l)) (sym is) in
+        record {
+          are =
+              are_as read [] (map k.read (rows heads)) [] (map (own_bags k.level) all) no_counts
+              (counts_over k.level all) names (ap (map (own_bags k.level)) ws) (ap (counts_over k.level) ws)
+              so_far;
+          hold = ap (λ (l : List (List Bagged)). first_broken (zone_steps k.level targets missing l)) (sym ws);
+        }
 
-    pub all_ended : (e : OwnersRead O) → AreEnded read e → (first_broken (zone_steps k.level targets missing all) ≡ None) × (owners_seen e ≡ owners_with_counts k heads all)
-    all_ended e ended = (all_are.hold, ended_as read e (map k.read (rows heads)) (map (own_bags k.level) all) (counts_over k.level all) all_are.are ended)
+    pub all_read : (read : OwnersSoFar O) (h : H) (hs : List H) → hs ≡ [] → Left read h hs → AllRead read
+    all_read read h hs is left =
+        let ws : [] ≡ windows table (map k.first_bag (h ∷ hs)) =
+        ap (λ (l : List H). windows table (map k.first_bag (h ∷ l))) (sym is) in
+        let no_rows : [] ≡ rows (h ∷ hs) = ap (λ (l : List H). rows (h ∷ l)) (sym is) in
+        let names =
+        sym (append-nil left.names) ∙ ap (λ (l : List H). left.names ++ map k.read l) no_rows ∙ left.names_are in
+        let owners =
+        sym (append-nil left.owners) ∙ ap (λ (l : List (List Bagged)). left.owners ++ map (own_bags k.level) l) ws
+        ∙ left.owners_are in
+        let counts =
+        sym (added-none left.counts)
+        ∙ ap (λ (l : List (List Bagged)). added left.counts (counts_over k.level l)) ws ∙ left.counts_are in
+        record {
+          are =
+              are_as read left.names (map k.read (rows heads)) left.owners (map (own_bags k.level) all) left.counts
+              (counts_over k.level all) names owners counts left.so_far;
+          hold =
+              sym left.steps_are
+              ∙ ap (λ (l : List (List Bagged)). first_broken (zone_steps k.level targets missing l)) (sym ws);
+        }
+
+    module _ (read : OwnersSoFar O) (all_are : AllRead read) where
+      pub can_end : length read.first_bags.items ≡ length read.heads.items + 1
+      can_end =
+          places read (map k.read (rows heads)) (map (own_bags k.level) all) (counts_over k.level all) all_are.are
+          as_many
+
+      pub all_ended : (e : OwnersRead O) → AreEnded read e
+          → (first_broken (zone_steps k.level targets missing all) ≡ None)
+          × (owners_seen e ≡ owners_with_counts k heads all)
+      all_ended e ended = (
+        all_are.hold,
+        ended_as read e (map k.read (rows heads)) (map (own_bags k.level) all) (counts_over k.level all) all_are.are
+            ended,
+      )
 
 -- ---- one head
 
 -- the bags of a head, in the records from its first bag's to the next head's first
-bags_between : (bags part : List Bag) (gens : List Generator) (mods : List Modulator) (i j from to : ℕ) → part ≡ slice_range bags i (j + 1) → i ≡ from → j ≡ to
+bags_between : (bags part : List Bag) (gens : List Generator) (mods : List Modulator) (i j from to : ℕ)
+    → part ≡ slice_range bags i (j + 1) → i ≡ from → j ≡ to
     → bags_in part gens mods ≡ slice_range (bags_in bags gens mods) from to
 bags_between bags part gens mods i j from to is first next =
-    ap (λ (l : List Bag). bags_in l gens mods) (is ∙ ap (λ (n : ℕ). slice_range bags n (j + 1)) first ∙ ap (λ (n : ℕ). slice_range bags from (n + 1)) next)
+    ap (λ (l : List Bag). bags_in l gens mods)
+    (is ∙ ap (λ (n : ℕ). slice_range bags n (j + 1)) first ∙ ap (λ (n : ℕ). slice_range bags from (n + 1)) next)
     ∙ sym (slice-bags_in bags gens mods from to)
 
 -- what is said of those records is said of the bags of the head
-pub between_as : {H : Type 0} (P : Level → List Bagged → Type 0) (first_bag : H → ℕ) (l : LevelTables H) (h n : H) (at found : Level) (part : List Bag) (i j : ℕ)
-    → found ≡ at → part ≡ slice_range l.bags i (j + 1) → i ≡ first_bag h → j ≡ first_bag n → P found (bags_in part l.generators l.modulators) → P at (window_of first_bag l h n)
+pub between_as : {H : Type 0} (P : Level → List Bagged → Type 0) (first_bag : H → ℕ) (l : LevelTables H) (h n : H)
+    (at found : Level) (part : List Bag) (i j : ℕ)
+    → found ≡ at → part ≡ slice_range l.bags i (j + 1) → i ≡ first_bag h → j ≡ first_bag n
+    → P found (bags_in part l.generators l.modulators) → P at (window_of first_bag l h n)
 between_as P first_bag l h n at found part i j same is first next said =
     let bags = bags_between l.bags part l.generators l.modulators i j (first_bag h) (first_bag n) is first next in
     subst (λ (a : Level). P a (window_of first_bag l h n)) same (subst (P found) bags said)

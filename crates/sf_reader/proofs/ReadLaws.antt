@@ -8,7 +8,8 @@ use Rattle.bank_format.specs.Steps.{Step, first_broken, Fails, PassesGivenMemory
 use Rattle.bank_format.specs.Tables.{Tables}
 use Rattle.bank_format.specs.Chunks.{window, body_in, tables_in, points_in}
 use Rattle.bank_format.specs.Reading.{content_in}
-use Rattle.bank_format.specs.ReadSteps.{frame_steps, list_steps, chunk_step, nine, chunk_steps, size_steps, point_steps, content_steps, window_steps, steps, fault_of}
+use Rattle.bank_format.specs.ReadSteps.{frame_steps, list_steps, chunk_step, nine, chunk_steps, size_steps}
+use Rattle.bank_format.specs.ReadSteps.{point_steps, content_steps, window_steps, steps, fault_of}
 use Rattle.sf_reader.specs.Lists.{ListChunks, chunks_in_lists}
 use Rattle.sf_reader.specs.Hydra.{Bodies, bodies_in, whole_steps, tables_from}
 use Rattle.sf_reader.specs.FlatContent.{FlatContent, flat_content}
@@ -48,10 +49,13 @@ from_nine w = nine_there w ++ from_version w
 pub lists_in_parts : (w : ListChunks) → list_content_steps w ≡ version_there w ++ from_nine w
 unfolding content_steps chunk_steps size_steps point_steps points_in tables_in bodies_in whole_steps tables_from
 lists_in_parts w =
-    ap (λ (l : List (Step ReadFault)). version_there w ++ (nine_there w ++ (version_steps (ifil_in w) ++ (whole_steps (nine_in w) ++ l))))
+    ap
+    (λ (l : List (Step ReadFault)).
+    version_there w ++ (nine_there w ++ (version_steps (ifil_in w) ++ (whole_steps (nine_in w) ++ l))))
     (from_counts_are w.info w.sdta (tables_from (nine_in w)) (smpl_in w))
 
-pub content_in_parts : (w : ListChunks) → list_content w ≡ table_content (field_at 2 2 (ifil_in w)) w (tables_from (nine_in w)) (smpl_in w)
+pub content_in_parts : (w : ListChunks)
+    → list_content w ≡ table_content (field_at 2 2 (ifil_in w)) w (tables_from (nine_in w)) (smpl_in w)
 unfolding points_in tables_in bodies_in tables_from
 content_in_parts w = content_flat w (tables_from (nine_in w))
 
@@ -63,7 +67,8 @@ pub record Opened (w : ListChunks) (version : List ℕ) (bodies : Bodies) : Type
   pub nine : first_broken (nine_there w) ≡ None
   pub bodies_are : bodies ≡ nine_in w
 
-pub record Cut (w : ListChunks) (version : List ℕ) (bodies : Bodies) (minor : ℕ) (t : Tables) (smpl : List ℕ) : Type 0 where
+pub record Cut (w : ListChunks) (version : List ℕ) (bodies : Bodies) (minor : ℕ) (t : Tables) (smpl : List ℕ) : Type
+    0 where
   pub opened : Opened w version bodies
   pub version_holds : first_broken (version_steps version) ≡ None
   pub minor_is : minor ≡ field_at 2 2 version
@@ -77,40 +82,54 @@ module _ (w : ListChunks) (e : Failure ReadFault) where
   pub in_there : Fails e (first_broken (version_there w)) → Fails e (first_broken (list_content_steps w))
   in_there h = rw lists_in_parts (fails_front e (version_there w) (from_nine w) h)
 
-  past_there : first_broken (version_there w) ≡ None → Fails e (first_broken (from_nine w)) → Fails e (first_broken (list_content_steps w))
+  past_there : first_broken (version_there w) ≡ None → Fails e (first_broken (from_nine w))
+      → Fails e (first_broken (list_content_steps w))
   past_there none h = rw lists_in_parts (fails_after e (version_there w) (from_nine w) none h)
 
-  pub in_nine : first_broken (version_there w) ≡ None → Fails e (first_broken (nine_there w)) → Fails e (first_broken (list_content_steps w))
+  pub in_nine : first_broken (version_there w) ≡ None → Fails e (first_broken (nine_there w))
+      → Fails e (first_broken (list_content_steps w))
   in_nine there h = past_there there (fails_front e (nine_there w) (from_version w) h)
 
-  past_opened : (version : List ℕ) (bodies : Bodies) → Opened w version bodies → Fails e (first_broken (version_steps version ++ from_whole w)) → Fails e (first_broken (list_content_steps w))
+  past_opened : (version : List ℕ) (bodies : Bodies) → Opened w version bodies
+      → Fails e (first_broken (version_steps version ++ from_whole w))
+      → Fails e (first_broken (list_content_steps w))
   past_opened version bodies o h =
       past_there o.there (fails_after e (nine_there w) (from_version w) o.nine
       (subst (λ (v : List ℕ). Fails e (first_broken (version_steps v ++ from_whole w))) o.version_is h))
 
-  pub in_version : (version : List ℕ) (bodies : Bodies) → Opened w version bodies → Fails e (first_broken (version_steps version)) → Fails e (first_broken (list_content_steps w))
+  pub in_version : (version : List ℕ) (bodies : Bodies) → Opened w version bodies
+      → Fails e (first_broken (version_steps version)) → Fails e (first_broken (list_content_steps w))
   in_version version bodies o h = past_opened version bodies o (fails_front e (version_steps version) (from_whole w) h)
 
-  past_version : (version : List ℕ) (bodies : Bodies) → Opened w version bodies → first_broken (version_steps version) ≡ None
-      → Fails e (first_broken (whole_steps bodies ++ table_steps (tables_from bodies) (smpl_in w))) → Fails e (first_broken (list_content_steps w))
+  past_version : (version : List ℕ) (bodies : Bodies) → Opened w version bodies
+      → first_broken (version_steps version) ≡ None
+      → Fails e (first_broken (whole_steps bodies ++ table_steps (tables_from bodies) (smpl_in w)))
+      → Fails e (first_broken (list_content_steps w))
   past_version version bodies o none h =
       past_opened version bodies o (fails_after e (version_steps version) (from_whole w) none
-      (subst (λ (b : Bodies). Fails e (first_broken (whole_steps b ++ table_steps (tables_from b) (smpl_in w)))) o.bodies_are h))
+      (subst (λ (b : Bodies). Fails e (first_broken (whole_steps b ++ table_steps (tables_from b) (smpl_in w))))
+      o.bodies_are h))
 
-  pub in_whole : (version : List ℕ) (bodies : Bodies) → Opened w version bodies → first_broken (version_steps version) ≡ None
+  pub in_whole : (version : List ℕ) (bodies : Bodies) → Opened w version bodies
+      → first_broken (version_steps version) ≡ None
       → Fails e (first_broken (whole_steps bodies)) → Fails e (first_broken (list_content_steps w))
   in_whole version bodies o none h =
-      past_version version bodies o none (fails_front e (whole_steps bodies) (table_steps (tables_from bodies) (smpl_in w)) h)
+      past_version version bodies o none
+      (fails_front e (whole_steps bodies) (table_steps (tables_from bodies) (smpl_in w)) h)
 
-  pub in_tables : (version : List ℕ) (bodies : Bodies) (minor : ℕ) (t : Tables) (smpl : List ℕ) → Cut w version bodies minor t smpl
+  pub in_tables : (version : List ℕ) (bodies : Bodies) (minor : ℕ) (t : Tables) (smpl : List ℕ)
+      → Cut w version bodies minor t smpl
       → Fails e (first_broken (table_steps t smpl)) → Fails e (first_broken (list_content_steps w))
   in_tables version bodies minor t smpl k h =
-      past_version version bodies k.opened k.version_holds (fails_after e (whole_steps bodies) (table_steps (tables_from bodies) (smpl_in w)) k.whole
+      past_version version bodies k.opened k.version_holds
+      (fails_after e (whole_steps bodies) (table_steps (tables_from bodies) (smpl_in w)) k.whole
       (rw (← k.tables_are, ← k.smpl_is) h))
 
 -- the lists hold, and say what their parts do
-pub lists_hold : (w : ListChunks) (version : List ℕ) (bodies : Bodies) (minor : ℕ) (t : Tables) (smpl : List ℕ) → Cut w version bodies minor t smpl
-    → first_broken (table_steps t smpl) ≡ None → (first_broken (list_content_steps w) ≡ None) × (table_content minor w t smpl ≡ list_content w)
+pub lists_hold : (w : ListChunks) (version : List ℕ) (bodies : Bodies) (minor : ℕ) (t : Tables) (smpl : List ℕ)
+    → Cut w version bodies minor t smpl
+    → first_broken (table_steps t smpl) ≡ None
+    → (first_broken (list_content_steps w) ≡ None) × (table_content minor w t smpl ≡ list_content w)
 lists_hold w version bodies minor t smpl k none =
     let o = k.opened in
     let tables : first_broken (table_steps (tables_from (nine_in w)) (smpl_in w)) ≡ None =
@@ -119,17 +138,22 @@ lists_hold w version bodies minor t smpl k none =
     let holds : first_broken (version_steps (ifil_in w)) ≡ None = rw (← o.version_is) k.version_holds in
     let all =
     then_none (version_there w) (from_nine w) o.there (then_none (nine_there w) (from_version w) o.nine
-    (then_none (version_steps (ifil_in w)) (from_whole w) holds (then_none (whole_steps (nine_in w)) (table_steps (tables_from (nine_in w)) (smpl_in w)) whole tables))) in (
+    (then_none (version_steps (ifil_in w)) (from_whole w) holds
+    (then_none (whole_steps (nine_in w)) (table_steps (tables_from (nine_in w)) (smpl_in w)) whole tables))) in (
       rw lists_in_parts all,
       ap (λ (n : ℕ). table_content n w t smpl) (k.minor_is ∙ ap (field_at 2 2) o.version_is)
-          ∙ ap (λ (u : Tables). table_content (field_at 2 2 (ifil_in w)) w u smpl) (k.tables_are ∙ ap tables_from o.bodies_are)
+          ∙ ap (λ (u : Tables). table_content (field_at 2 2 (ifil_in w)) w u smpl)
+          (k.tables_are ∙ ap tables_from o.bodies_are)
           ∙ ap (table_content (field_at 2 2 (ifil_in w)) w (tables_from (nine_in w))) k.smpl_is
           ∙ sym (content_in_parts w),
     )
 
 -- the tables pass, and so do the lists
-pub tables_pass : {X : Type 0} (seen : X → FlatContent) (r : Result X (Failure ReadFault)) (w : ListChunks) (version : List ℕ) (bodies : Bodies) (minor : ℕ) (t : Tables) (smpl : List ℕ)
-    → Cut w version bodies minor t smpl → PassesGivenMemory seen r (table_steps t smpl) (table_content minor w t smpl) → PassesGivenMemory seen r (list_content_steps w) (list_content w)
+pub tables_pass : {X : Type 0} (seen : X → FlatContent) (r : Result X (Failure ReadFault)) (w : ListChunks)
+    (version : List ℕ) (bodies : Bodies) (minor : ℕ) (t : Tables) (smpl : List ℕ)
+    → Cut w version bodies minor t smpl
+    → PassesGivenMemory seen r (table_steps t smpl) (table_content minor w t smpl)
+    → PassesGivenMemory seen r (list_content_steps w) (list_content w)
 tables_pass seen (Ok x) w version bodies minor t smpl k h =
     let hold = lists_hold w version bodies minor t smpl k h.0 in
     (hold.0, h.1 ∙ hold.1)
@@ -137,23 +161,30 @@ tables_pass seen (Err e) w version bodies minor t smpl k h = in_tables w e versi
 
 -- ---- of a file
 
-pub file_in_parts : (file : List ℕ) → steps file ≡ frame_steps file ++ (list_steps (window file) ++ list_content_steps (chunks_in_lists (window file)))
+pub file_in_parts : (file : List ℕ)
+    → steps file
+    ≡ frame_steps file ++ (list_steps (window file) ++ list_content_steps (chunks_in_lists (window file)))
 unfolding steps window_steps chunks_in_lists
 file_in_parts file = refl
 
-pub content_is : (file : List ℕ) → flat_content (content_in (window file)) ≡ list_content (chunks_in_lists (window file))
+pub content_is : (file : List ℕ)
+    → flat_content (content_in (window file)) ≡ list_content (chunks_in_lists (window file))
 unfolding content_in chunks_in_lists
 content_is file = refl
 
 -- the file holds, and says what its lists do
 pub file_holds : (file w : List ℕ) (v : ListChunks) → w ≡ window file → v ≡ chunks_in_lists w
-    → first_broken (frame_steps file) ≡ None → first_broken (list_steps w) ≡ None → first_broken (list_content_steps v) ≡ None
+    → first_broken (frame_steps file) ≡ None → first_broken (list_steps w) ≡ None
+    → first_broken (list_content_steps v) ≡ None
     → (fault_of file ≡ None) × (list_content v ≡ flat_content (content_in (window file)))
 file_holds file w v ew ev frame lists inside =
     let vw : v ≡ chunks_in_lists (window file) = ev ∙ ap chunks_in_lists ew in
-    let there : first_broken (list_steps (window file)) ≡ None = ap (λ (l : List ℕ). first_broken (list_steps l)) (sym ew) ∙ lists in
-    let held : first_broken (list_content_steps (chunks_in_lists (window file))) ≡ None = ap (λ (u : ListChunks). first_broken (list_content_steps u)) (sym vw) ∙ inside in (
-      rw file_in_parts (then_none (frame_steps file) (list_steps (window file) ++ list_content_steps (chunks_in_lists (window file))) frame
+    let there : first_broken (list_steps (window file)) ≡ None =
+    ap (λ (l : List ℕ). first_broken (list_steps l)) (sym ew) ∙ lists in
+    let held : first_broken (list_content_steps (chunks_in_lists (window file))) ≡ None =
+    ap (λ (u : ListChunks). first_broken (list_content_steps u)) (sym vw) ∙ inside in (
+      rw file_in_parts (then_none (frame_steps file)
+          (list_steps (window file) ++ list_content_steps (chunks_in_lists (window file))) frame
           (then_none (list_steps (window file)) (list_content_steps (chunks_in_lists (window file))) there held)),
       ap list_content vw ∙ sym (content_is file),
     )
@@ -170,14 +201,18 @@ module _ (file : List ℕ) (e : Failure ReadFault) where
   past_frame : first_broken (frame_steps file) ≡ None → Fails e (first_broken rest) → Fails e (fault_of file)
   past_frame none h = rw file_in_parts (fails_after e (frame_steps file) rest none h)
 
-  pub in_lists : (w : List ℕ) → w ≡ window file → first_broken (frame_steps file) ≡ None → Fails e (first_broken (list_steps w)) → Fails e (fault_of file)
+  pub in_lists : (w : List ℕ) → w ≡ window file → first_broken (frame_steps file) ≡ None
+      → Fails e (first_broken (list_steps w)) → Fails e (fault_of file)
   in_lists w ew frame h =
       past_frame frame (fails_front e (list_steps (window file)) (list_content_steps (chunks_in_lists (window file)))
       (subst (λ (l : List ℕ). Fails e (first_broken (list_steps l))) ew h))
 
-  pub in_content : (w : List ℕ) (v : ListChunks) → w ≡ window file → v ≡ chunks_in_lists w → first_broken (frame_steps file) ≡ None → first_broken (list_steps w) ≡ None
+  pub in_content : (w : List ℕ) (v : ListChunks) → w ≡ window file → v ≡ chunks_in_lists w
+      → first_broken (frame_steps file) ≡ None → first_broken (list_steps w) ≡ None
       → Fails e (first_broken (list_content_steps v)) → Fails e (fault_of file)
   in_content w v ew ev frame lists h =
-      let held : first_broken (list_steps (window file)) ≡ None = ap (λ (l : List ℕ). first_broken (list_steps l)) (sym ew) ∙ lists in
-      past_frame frame (fails_after e (list_steps (window file)) (list_content_steps (chunks_in_lists (window file))) held
+      let held : first_broken (list_steps (window file)) ≡ None =
+      ap (λ (l : List ℕ). first_broken (list_steps l)) (sym ew) ∙ lists in
+      past_frame frame
+      (fails_after e (list_steps (window file)) (list_content_steps (chunks_in_lists (window file))) held
       (subst (λ (u : ListChunks). Fails e (first_broken (list_content_steps u))) (ev ∙ ap chunks_in_lists ew) h))

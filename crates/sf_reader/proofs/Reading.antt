@@ -10,14 +10,16 @@ use Rattle.sf_reader.specs.declared.bag.GensRead.{GensRead}
 use Rattle.sf_reader.proofs.Kept.{set_kept, len_kept, length-kept}
 use Rattle.sf_reader.proofs.Mending.{mended_gens, mended_count}
 
-module _ (at : Level) (rs : List Generator) (raw : Gens) (target : Option ℕ) (raw_is : raw ≡ set_in_order no_gens (entries_in at rs)) (target_is : target ≡ target_of at rs) where
+module _ (at : Level) (rs : List Generator) (raw : Gens) (target : Option ℕ)
+    (raw_is : raw ≡ set_in_order no_gens (entries_in at rs)) (target_is : target ≡ target_of at rs) where
   raw_kept : raw ≡ gens_of (kept at rs)
   raw_kept = raw_is ∙ set_kept at rs
 
   used_is : len raw + one_if (is_some target) ≡ length (kept at rs) + one_if (is_some (target_of at rs))
   used_is =
       let gens : len raw ≡ length (kept at rs) = ap len raw_is ∙ len_kept at rs in
-      let one : one_if (is_some target) ≡ one_if (is_some (target_of at rs)) = ap (λ (t : Option ℕ). one_if (is_some t)) target_is in
+      let one : one_if (is_some target) ≡ one_if (is_some (target_of at rs)) =
+      ap (λ (t : Option ℕ). one_if (is_some t)) target_is in
       omega (arith, gens, one)
 
   pub used_fits : len raw + one_if (is_some target) ≤ length rs
@@ -26,9 +28,12 @@ module _ (at : Level) (rs : List Generator) (raw : Gens) (target : Option ℕ) (
   pub gens_are : (new : Gens) → new ≡ mended_at 44 (mended_at 43 raw) → new ≡ gens_read at rs
   gens_are new is = is ∙ ap (λ (m : Gens). mended_at 44 (mended_at 43 m)) raw_kept ∙ mended_gens (kept at rs)
 
-  pub all_read : (left ranges : ℕ) → left ≡ length rs - (len raw + one_if (is_some target)) → ranges ≡ one_if (is_out_of_order 43 raw) + one_if (is_out_of_order 44 raw)
+  pub all_read : (left ranges : ℕ) → left ≡ length rs - (len raw + one_if (is_some target))
+      → ranges ≡ one_if (is_out_of_order 43 raw) + one_if (is_out_of_order 44 raw)
       → ◌≡◌ {A = GensRead} (record { target = target; dropped = left; ranges = ranges }) (gens_read_of at rs)
   all_read left ranges left_is ranges_is =
       let drops : left ≡ dropped at rs = left_is ∙ ap (λ (n : ℕ). length rs - n) used_is in
-      let counted = ranges_is ∙ ap (λ (m : Gens). one_if (is_out_of_order 43 m) + one_if (is_out_of_order 44 m)) raw_kept ∙ mended_count (allowed_in at (before_target at rs)) in
+      let counted =
+      ranges_is ∙ ap (λ (m : Gens). one_if (is_out_of_order 43 m) + one_if (is_out_of_order 44 m)) raw_kept
+      ∙ mended_count (allowed_in at (before_target at rs)) in
       λ i. record { target = target_is i; dropped = drops i; ranges = counted i }

@@ -1,5 +1,6 @@
 -- The rows of a table, one after the other.
-use Rattle.std.proofs.Common.{◌≡◌, ◌<◌, ◌+◌, ◌-◌, ℕ, suc, List, [], ◌∷◌, ◌++◌, take, map, Option, Some, None, Result, refl, sym, ap, subst, ◌∙◌, append_assoc, arith}
+use Rattle.std.proofs.Common.{◌≡◌, ◌<◌, ◌+◌, ◌-◌, ℕ, suc, List, [], ◌∷◌, ◌++◌, take, map, Option, Some, None, Result}
+use Rattle.std.proofs.Common.{refl, sym, ap, subst, ◌∙◌, append_assoc, arith}
 use Rattle.std.specs.Prelude.{flat_map, sum_by}
 use Rattle.std.specs.Result.{IsErrAnd}
 use Rattle.std.proofs.lemmas.List.Sums.{sum_by-cons}
@@ -25,19 +26,24 @@ module _ {X : Type 0} (n m : ℕ) (xs ys : List X) (x : X) (next : xs ≡ x ∷ 
   pub steps_hold : (f : X → List (Step ReadFault)) (whole : Option ReadFault) → first_broken (f x) ≡ None
       → first_broken (flat_map f (take n xs)) ≡ whole → first_broken (flat_map f (take m ys)) ≡ whole
   steps_hold f whole holds so_far =
-      sym (first_broken-append (f x) (flat_map f (take m ys)) holds) ∙ sym (ap (λ (l : List X). first_broken (flat_map f l)) take-next) ∙ so_far
+      sym (first_broken-append (f x) (flat_map f (take m ys)) holds)
+      ∙ sym (ap (λ (l : List X). first_broken (flat_map f l)) take-next) ∙ so_far
 
   -- one of its steps is broken
-  pub steps_fail : {Y : Type 0} (view : Y → Unit {0}) (f : X → List (Step ReadFault)) (r : Result Y ReadFault) (e : ReadFault) (whole : List (Step ReadFault))
-      → IsErrAnd r (λ d. d ≡ e) → first_broken (f x) ≡ Some e → first_broken (flat_map f (take n xs)) ≡ first_broken whole → Passes view r whole tt
+  pub steps_fail : {Y : Type 0} (view : Y → Unit {0}) (f : X → List (Step ReadFault)) (r : Result Y ReadFault)
+      (e : ReadFault) (whole : List (Step ReadFault))
+      → IsErrAnd r (λ d. d ≡ e) → first_broken (f x) ≡ Some e
+      → first_broken (flat_map f (take n xs)) ≡ first_broken whole → Passes view r whole tt
   steps_fail view f r e whole is h so_far =
       let all = ap (λ (l : List X). first_broken (flat_map f l)) take-next in
       passes_by view tt r e whole is (sym so_far ∙ all ∙ first_broken-front (f x) (flat_map f (take m ys)) e h)
 
   -- a sum over them
-  pub sum_more : (f : X → ℕ) (total here whole : ℕ) → here ≡ f x → total + sum_by f (take n xs) ≡ whole → total + here + sum_by f (take m ys) ≡ whole
+  pub sum_more : (f : X → ℕ) (total here whole : ℕ) → here ≡ f x → total + sum_by f (take n xs) ≡ whole
+      → total + here + sum_by f (take m ys) ≡ whole
   sum_more f total here whole is so_far =
-      let e : sum_by f (take n xs) ≡ f x + sum_by f (take m ys) = ap (sum_by f) take-next ∙ sum_by-cons f x (take m ys) in
+      let e : sum_by f (take n xs) ≡ f x + sum_by f (take m ys) =
+      ap (sum_by f) take-next ∙ sum_by-cons f x (take m ys) in
       omega (arith, e, is, so_far)
 
   -- what is made of them
@@ -52,11 +58,15 @@ module _ {X : Type 0} (n m : ℕ) (xs ys : List X) (x : X) (next : xs ≡ x ∷ 
 
 -- ---- the total
 
-pub total_breaks : (heads : List SampleHead) → 500000000 < sum_by (λ (h : SampleHead). h.end - h.start + 46) heads → first_broken (total_steps heads) ≡ Some TooMany
+pub total_breaks : (heads : List SampleHead) → 500000000 < sum_by (λ (h : SampleHead). h.end - h.start + 46) heads
+    → first_broken (total_steps heads) ≡ Some TooMany
 unfolding total_steps
 total_breaks heads h = rw (lt-leb _ _ h) refl
 
 -- ---- chains over them
 
-pub rows_yield : {X : Type 0} (s : Take (List X)) (xs : List X) → take (take_count s) (take_source s) ≡ xs → YieldsList (take_steps (YieldsFirst (λ l. l))) (λ x. x) s xs
-rows_yield s xs e = subst (λ (l : List _). YieldsList (take_steps (YieldsFirst (λ r. r))) (λ x. x) s l) e (YieldsList-from_take (take_count s) (YieldsList-from_first (λ x. x) (λ l. l) (take_source s) refl) refl)
+pub rows_yield : {X : Type 0} (s : Take (List X)) (xs : List X) → take (take_count s) (take_source s) ≡ xs
+    → YieldsList (take_steps (YieldsFirst (λ l. l))) (λ x. x) s xs
+rows_yield s xs e =
+    subst (λ (l : List _). YieldsList (take_steps (YieldsFirst (λ r. r))) (λ x. x) s l) e
+    (YieldsList-from_take (take_count s) (YieldsList-from_first (λ x. x) (λ l. l) (take_source s) refl) refl)

@@ -10,7 +10,8 @@ pub bit_4 : (kind : ℕ) → not (bit_and kind 16 == 0) ≡ not (kind / 16 % 2 =
 bit_4 kind = let e : bit_and kind 16 ≡ kind / 16 % 2 * 16 = and_pow kind 4 in rw e (grind arith)
 
 -- the points of a range, as the words of a part
-pub points_cut : (smpl : List ℕ) (start end count : ℕ) → count ≡ end - start → words (take (2 * count) (drop (2 * start) smpl)) ≡ slice_range (words smpl) start end
+pub points_cut : (smpl : List ℕ) (start end count : ℕ) → count ≡ end - start
+    → words (take (2 * count) (drop (2 * start) smpl)) ≡ slice_range (words smpl) start end
 points_cut smpl start end count e =
     words-take (2 * count) count (drop (2 * start) smpl) refl
     ∙ ap (take count) (words-drop (2 * start) start smpl refl)

@@ -1,5 +1,6 @@
 -- Parts of the reader that take memory, one after the other; and steps of one fault.
-use Rattle.std.proofs.Common.{◌≡◌, ◌&&◌, Bool, true, false, cond, List, [], ◌∷◌, ◌++◌, map, Option, Some, None, Result, Ok, Err, refl, sym, subst, ◌∙◌}
+use Rattle.std.proofs.Common.{◌≡◌, ◌&&◌, Bool, true, false, cond, List, [], ◌∷◌, ◌++◌, map, Option, Some, None}
+use Rattle.std.proofs.Common.{Result, Ok, Err, refl, sym, subst, ◌∙◌}
 use Rattle.std.specs.Result.{IsErrAnd, IfErr, OnOk}
 use Rattle.std.specs.List.{list_all}
 use Rattle.sf_base.specs.declared.memory.Failure.{Failure}
@@ -8,11 +9,13 @@ use Rattle.bank_format.specs.declared.fault.ReadFault.{ReadFault}
 use Rattle.bank_format.specs.Steps.{Step, step, first_broken, Fails, PassesGivenMemory}
 use Rattle.bank_format.proofs.StepLaws.{first_broken-append, first_broken-front, then_none}
 
-pub fails_front : (e : Failure ReadFault) (xs ys : List (Step ReadFault)) → Fails e (first_broken xs) → Fails e (first_broken (xs ++ ys))
+pub fails_front : (e : Failure ReadFault) (xs ys : List (Step ReadFault)) → Fails e (first_broken xs)
+    → Fails e (first_broken (xs ++ ys))
 fails_front OutOfMemory xs ys h = tt
 fails_front (Fault f) xs ys h = first_broken-front xs ys f h
 
-pub fails_after : (e : Failure ReadFault) (xs ys : List (Step ReadFault)) → first_broken xs ≡ None → Fails e (first_broken ys) → Fails e (first_broken (xs ++ ys))
+pub fails_after : (e : Failure ReadFault) (xs ys : List (Step ReadFault)) → first_broken xs ≡ None
+    → Fails e (first_broken ys) → Fails e (first_broken (xs ++ ys))
 fails_after OutOfMemory xs ys h k = tt
 fails_after (Fault f) xs ys h k = first_broken-append xs ys h ∙ k
 
@@ -23,32 +26,38 @@ fails_by (Ok x) e broken is h = tt
 fails_by (Err d) e broken is h = subst (λ (c : Failure ReadFault). Fails c broken) (sym is) h
 
 -- the same, where the caller says more of it
-pub given_by : {X Y : Type 0} (view : X → Y) (value : Y) (r : Result X (Failure ReadFault)) (e : Failure ReadFault) (xs : List (Step ReadFault))
+pub given_by : {X Y : Type 0} (view : X → Y) (value : Y) (r : Result X (Failure ReadFault)) (e : Failure ReadFault)
+    (xs : List (Step ReadFault))
     → IsErrAnd r (λ d. d ≡ e) → Fails e (first_broken xs) → PassesGivenMemory view r xs value
 given_by view value (Ok x) e xs is h = absurd is
 given_by view value (Err d) e xs is h = subst (λ (c : Failure ReadFault). Fails c (first_broken xs)) (sym is) h
 
 -- a part that fails, first of all
-pub given_front : {X Y : Type 0} (view : X → Y) (value : Y) (r : Result X (Failure ReadFault)) (e : Failure ReadFault) (xs ys : List (Step ReadFault))
+pub given_front : {X Y : Type 0} (view : X → Y) (value : Y) (r : Result X (Failure ReadFault))
+    (e : Failure ReadFault) (xs ys : List (Step ReadFault))
     → IsErrAnd r (λ d. d ≡ e) → Fails e (first_broken xs) → PassesGivenMemory view r (xs ++ ys) value
 given_front view value r e xs ys is h = given_by view value r e (xs ++ ys) is (fails_front e xs ys h)
 
 -- a part after one that went through
-pub given_after : {X Y : Type 0} (view : X → Y) (value : Y) (r : Result X (Failure ReadFault)) (xs ys : List (Step ReadFault))
+pub given_after : {X Y : Type 0} (view : X → Y) (value : Y) (r : Result X (Failure ReadFault))
+    (xs ys : List (Step ReadFault))
     → first_broken xs ≡ None → PassesGivenMemory view r ys value → PassesGivenMemory view r (xs ++ ys) value
 given_after view value (Ok x) xs ys h k = (then_none xs ys h k.0, k.1)
 given_after view value (Err e) xs ys h k = fails_after e xs ys h k
 
 -- ---- steps of one fault
 
-hold_on : {A : Type 0} (b c : Bool) (x : Option A) (w : A) → x ≡ cond c None (Some w) → cond b x (Some w) ≡ cond (b && c) None (Some w)
+hold_on : {A : Type 0} (b c : Bool) (x : Option A) (w : A) → x ≡ cond c None (Some w)
+    → cond b x (Some w) ≡ cond (b && c) None (Some w)
 hold_on true c x w h = h
 hold_on false c x w h = refl
 
 -- the fault comes where some step is broken
-pub same_fault : {X : Type 0} (p : X → Bool) (fault : ReadFault) (xs : List X) → first_broken (map (λ x. step (p x) fault) xs) ≡ cond (list_all p xs) None (Some fault)
+pub same_fault : {X : Type 0} (p : X → Bool) (fault : ReadFault) (xs : List X)
+    → first_broken (map (λ x. step (p x) fault) xs) ≡ cond (list_all p xs) None (Some fault)
 same_fault p fault [] = refl
-same_fault p fault (x ∷ xs) = hold_on (p x) (list_all p xs) (first_broken (map (λ y. step (p y) fault) xs)) fault (same_fault p fault xs)
+same_fault p fault (x ∷ xs) =
+    hold_on (p x) (list_all p xs) (first_broken (map (λ y. step (p y) fault) xs)) fault (same_fault p fault xs)
 
 -- what follows where it went well
 pub on_ok : {X E : Type 0} (r : Result X E) (P Q : Type 0) → (P → Q) → OnOk r P → OnOk r Q

@@ -1,5 +1,6 @@
 -- What is asked of the nine lists and the points, part after part.
-use Rattle.std.proofs.Common.{◌≡◌, ◌≢◌, ◌/◌, ◌%◌, ◌++◌, ◌∙◌, ℕ, List, [], ◌∷◌, length, map, Some, None, Result, refl, sym, ap, append_assoc, arith}
+use Rattle.std.proofs.Common.{◌≡◌, ◌≢◌, ◌/◌, ◌%◌, ◌++◌, ◌∙◌, ℕ, List, [], ◌∷◌, length, map, Some, None, Result, refl}
+use Rattle.std.proofs.Common.{sym, ap, append_assoc, arith}
 use Rattle.std.specs.Prelude.{flat_map}
 use Rattle.std.proofs.lemmas.Bool.{ne_eqb}
 use Rattle.std.proofs.lemmas.List.{length-map}
@@ -23,7 +24,8 @@ use Rattle.bank_format.specs.Tables as nine
 use Rattle.bank_format.specs.Chunks.{points_in}
 use Rattle.bank_format.specs.Samples.{sample_read}
 use Rattle.bank_format.specs.Reading.{bags_in, preset_windows, instrument_windows, owner_read, samples_read, bank_of}
-use Rattle.bank_format.specs.ReadSteps.{count_steps, all_index_steps, sample_step, target_step, target_steps, total_steps}
+use Rattle.bank_format.specs.ReadSteps.{count_steps, all_index_steps, sample_step, target_step, target_steps}
+use Rattle.bank_format.specs.ReadSteps.{total_steps}
 use Rattle.sf_reader.specs.Owners.{member_steps}
 use Rattle.sf_reader.specs.Content.{even_steps, checked_steps, table_steps}
 use Rattle.bank_format.proofs.StepLaws.{both_none, passes_after}
@@ -55,7 +57,8 @@ module _ (t : Tables) (smpl : List ℕ) (r : Result (Unit {0}) ReadFault) where
   pub past_even : length smpl % 2 ≡ 0 → Checks r (from_indexes t smpl) → Checks r (from_even t smpl)
   past_even even = passes_after (λ (u : Unit {0}). u) tt r (even_steps smpl) (from_indexes t smpl) (rw even refl)
 
-  pub past_indexes : first_broken (all_index_steps t) ≡ None → Checks r (each_sample t smpl) → Checks r (from_indexes t smpl)
+  pub past_indexes : first_broken (all_index_steps t) ≡ None → Checks r (each_sample t smpl)
+      → Checks r (from_indexes t smpl)
   past_indexes = passes_after (λ (u : Unit {0}). u) tt r (all_index_steps t) (each_sample t smpl)
 
 -- ---- a part that fails
@@ -65,7 +68,8 @@ pub odd_fails : (t : Tables) (smpl : List ℕ) → length smpl % 2 ≢ 0 → fir
 odd_fails t smpl odd = rw (ne_eqb _ _ odd) refl
 
 -- two bytes hold a point
-pub samples_are : (t : Tables) (smpl : List ℕ) (heads : List SampleHead) → heads ≡ t.shdr → flat_map (sample_step (length smpl / 2)) (rows heads) ≡ each_sample t smpl
+pub samples_are : (t : Tables) (smpl : List ℕ) (heads : List SampleHead) → heads ≡ t.shdr
+    → flat_map (sample_step (length smpl / 2)) (rows heads) ≡ each_sample t smpl
 samples_are t smpl heads e =
     ap (λ (l : List SampleHead). flat_map (sample_step (length smpl / 2)) (rows l)) e
     ∙ ap (λ (n : ℕ). flat_map (sample_step n) (rows t.shdr)) (sym (length-words smpl))
@@ -87,8 +91,10 @@ checked t smpl e =
 -- ---- with what is asked of presets and instruments
 
 -- the zones of members that heads and windows make
-zones_together : {H M : Type 0} (f : H → List Bagged → M) (zones : M → List Zone) (read : List Bagged → List Zone) → ((h : H) (w : List Bagged) → zones (f h w) ≡ read w)
-    → (hs : List H) (ws : List (List Bagged)) → length hs ≡ length ws → flat_map zones (together f hs ws) ≡ flat_map read ws
+zones_together : {H M : Type 0} (f : H → List Bagged → M) (zones : M → List Zone) (read : List Bagged → List Zone)
+    → ((h : H) (w : List Bagged) → zones (f h w) ≡ read w)
+    → (hs : List H) (ws : List (List Bagged)) → length hs ≡ length ws
+    → flat_map zones (together f hs ws) ≡ flat_map read ws
 zones_together f zones read same [] [] e = refl
 zones_together f zones read same [] (w ∷ ws) e = absurd (omega (arith, e))
 zones_together f zones read same (h ∷ hs) [] e = refl
@@ -96,8 +102,10 @@ zones_together f zones read same (h ∷ hs) (w ∷ ws) e =
     ap (λ (l : List Zone). l ++ flat_map zones (together f hs ws)) (same h w)
     ∙ ap (λ (l : List Zone). read w ++ l) (zones_together f zones read same hs ws (omega (arith, e)))
 
-pub rows_windows : {H X : Type 0} (table : List X) (index : H → ℕ) (heads : List H) → length (rows heads) ≡ length (windows table (map index heads))
-rows_windows table index heads = omega (arith, length-rows heads, length-windows table (map index heads), length-map heads index)
+pub rows_windows : {H X : Type 0} (table : List X) (index : H → ℕ) (heads : List H)
+    → length (rows heads) ≡ length (windows table (map index heads))
+rows_windows table index heads =
+    omega (arith, length-rows heads, length-windows table (map index heads), length-map heads index)
 
 pub targets_are : (info sdta : List Chunk) (t : Tables) → target_steps (bank_of info sdta t) ≡ member_steps t
 unfolding target_steps bank_of preset_windows instrument_windows
@@ -107,17 +115,33 @@ targets_are info sdta t =
     let samples = samples_read (points_in sdta) (rows t.shdr) in
     let preset_rows = rows_windows (bags_in t.pbag t.pgen t.pmod) (λ (h : PresetHead). h.bag) t.phdr in
     let instrument_rows = rows_windows (bags_in t.ibag t.igen t.imod) (λ (h : InstrumentHead). h.bag) t.inst in
-    let instrument_count = length-together (owner_read nine.instruments) (rows t.inst) (instrument_windows t) instrument_rows in
+    let instrument_count =
+    length-together (owner_read nine.instruments) (rows t.inst) (instrument_windows t) instrument_rows in
     let sample_count = length-map (rows t.shdr) (sample_read (length (rows t.shdr)) (points_in sdta)) in
-    let preset_zones = zones_together (owner_read nine.presets) (λ (p : WithZones Head). p.zones) (zones_read level.Preset) (λ h w. refl) (rows t.phdr) (preset_windows t) preset_rows in
-    let instrument_zones = zones_together (owner_read nine.instruments) (λ (i : WithZones (List ℕ)). i.zones) (zones_read level.Instrument) (λ h w. refl) (rows t.inst) (instrument_windows t) instrument_rows in
-    let first : map (target_step (length instruments) BadInstrument) (flat_map (λ (p : WithZones Head). p.zones) presets) ≡ preset_part t =
-    ap (λ (n : ℕ). map (target_step n BadInstrument) (flat_map (λ (p : WithZones Head). p.zones) presets)) instrument_count
+    let preset_zones =
+    zones_together (owner_read nine.presets) (λ (p : WithZones Head). p.zones) (zones_read level.Preset)
+    (λ h w. refl) (rows t.phdr) (preset_windows t) preset_rows in
+    let instrument_zones =
+    zones_together (owner_read nine.instruments) (λ (i : WithZones (List ℕ)). i.zones)
+    (zones_read level.Instrument) (λ h w. refl) (rows t.inst) (instrument_windows t) instrument_rows in
+    let first : map (target_step (length instruments) BadInstrument)
+    (flat_map (λ (p : WithZones Head). p.zones) presets)
+    ≡ preset_part t =
+    ap (λ (n : ℕ). map (target_step n BadInstrument) (flat_map (λ (p : WithZones Head). p.zones) presets))
+    instrument_count
     ∙ ap (map (target_step (length (rows t.inst)) BadInstrument)) preset_zones in
-    let second : map (target_step (length samples) BadSample) (flat_map (λ (i : WithZones (List ℕ)). i.zones) instruments) ≡ instrument_part t =
-    ap (λ (n : ℕ). map (target_step n BadSample) (flat_map (λ (i : WithZones (List ℕ)). i.zones) instruments)) sample_count
+    let second : map (target_step (length samples) BadSample)
+    (flat_map (λ (i : WithZones (List ℕ)). i.zones) instruments)
+    ≡ instrument_part t =
+    ap (λ (n : ℕ). map (target_step n BadSample) (flat_map (λ (i : WithZones (List ℕ)). i.zones) instruments))
+    sample_count
     ∙ ap (map (target_step (length (rows t.shdr)) BadSample)) instrument_zones in
-    ap (λ (l : List (Step ReadFault)). l ++ map (target_step (length samples) BadSample) (flat_map (λ (i : WithZones (List ℕ)). i.zones) instruments)) first
+    ap
+    (λ (l : List (Step ReadFault)).
+    l
+    ++ map (target_step (length samples) BadSample)
+    (flat_map (λ (i : WithZones (List ℕ)). i.zones) instruments))
+    first
     ∙ ap (λ (l : List (Step ReadFault)). preset_part t ++ l) second
 
 -- the steps from the counts on, as a file's steps have them
@@ -130,11 +154,20 @@ from_counts info sdta t smpl =
     ++ (target_steps (bank_of info sdta t)
     ++ total_steps (rows t.shdr)))))
 
-pub from_counts_are : (info sdta : List Chunk) (t : Tables) (smpl : List ℕ) → from_counts info sdta t smpl ≡ table_steps t smpl
+pub from_counts_are : (info sdta : List Chunk) (t : Tables) (smpl : List ℕ)
+    → from_counts info sdta t smpl ≡ table_steps t smpl
 unfolding checked_steps
 from_counts_are info sdta t smpl =
     let last = member_steps t ++ total_steps (rows t.shdr) in
-    ap (λ (l : List (Step ReadFault)). count_steps t ++ (even_steps smpl ++ (all_index_steps t ++ (each_sample t smpl ++ (l ++ total_steps (rows t.shdr)))))) (targets_are info sdta t)
-    ∙ ap (λ (l : List (Step ReadFault)). count_steps t ++ (even_steps smpl ++ l)) (sym (append_assoc (all_index_steps t) (each_sample t smpl) last))
-    ∙ ap (λ (l : List (Step ReadFault)). count_steps t ++ l) (sym (append_assoc (even_steps smpl) (from_indexes t smpl) last))
+    ap
+    (λ (l : List (Step ReadFault)).
+    count_steps t
+    ++
+    (even_steps smpl
+    ++ (all_index_steps t ++ (each_sample t smpl ++ (l ++ total_steps (rows t.shdr))))))
+    (targets_are info sdta t)
+    ∙ ap (λ (l : List (Step ReadFault)). count_steps t ++ (even_steps smpl ++ l))
+    (sym (append_assoc (all_index_steps t) (each_sample t smpl) last))
+    ∙ ap (λ (l : List (Step ReadFault)). count_steps t ++ l)
+    (sym (append_assoc (even_steps smpl) (from_indexes t smpl) last))
     ∙ sym (append_assoc (count_steps t) (from_even t smpl) last)

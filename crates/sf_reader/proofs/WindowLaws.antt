@@ -1,5 +1,6 @@
 -- Windows of windows, and of a list of no modulators.
-use Rattle.std.proofs.Common.{◌≡◌, ◌≤◌, ◌+◌, ◌-◌, ◌&&◌, ◌∙◌, ℕ, zero, suc, Bool, true, false, leb, List, [], ◌∷◌, length, take, drop, map, refl, sym, ap, inl, inr, arith}
+use Rattle.std.proofs.Common.{◌≡◌, ◌≤◌, ◌+◌, ◌-◌, ◌&&◌, ◌∙◌, ℕ, zero, suc, Bool, true, false, leb, List, [], ◌∷◌}
+use Rattle.std.proofs.Common.{length, take, drop, map, refl, sym, ap, inl, inr, arith}
 use Rattle.std.specs.List.{slice_range, list_all}
 use Rattle.std.proofs.lemmas.Bool.{cases_lt, leb-true}
 use Rattle.std.proofs.lemmas.List.{length-take, length-take-le}
@@ -18,22 +19,26 @@ drop-none : {X : Type 0} (n : ℕ) → drop {A = X} n [] ≡ []
 drop-none zero = refl
 drop-none (suc n) = refl
 
-take-windows_from : {X : Type 0} (table : List X) (n at : ℕ) (is : List ℕ) → take n (windows_from table at is) ≡ windows_from table at (take n is)
+take-windows_from : {X : Type 0} (table : List X) (n at : ℕ) (is : List ℕ)
+    → take n (windows_from table at is) ≡ windows_from table at (take n is)
 take-windows_from table zero at is = refl
 take-windows_from table (suc n) at [] = refl
 take-windows_from table (suc n) at (i ∷ is) = ap (λ l. slice_range table at i ∷ l) (take-windows_from table n i is)
 
-take-windows : {X : Type 0} (table : List X) (n : ℕ) (is : List ℕ) → take n (windows table is) ≡ windows table (take (suc n) is)
+take-windows : {X : Type 0} (table : List X) (n : ℕ) (is : List ℕ)
+    → take n (windows table is) ≡ windows table (take (suc n) is)
 take-windows table n [] = take-nil n
 take-windows table n (i ∷ is) = take-windows_from table n i is
 
-drop-windows : {X : Type 0} (table : List X) (n : ℕ) (is : List ℕ) → drop n (windows table is) ≡ windows table (drop n is)
+drop-windows : {X : Type 0} (table : List X) (n : ℕ) (is : List ℕ)
+    → drop n (windows table is) ≡ windows table (drop n is)
 drop-windows table zero is = refl
 drop-windows table (suc n) [] = refl
 drop-windows table (suc n) (i ∷ []) = sym (ap (windows table) (drop-none n))
 drop-windows table (suc n) (i ∷ j ∷ is) = drop-windows table n (j ∷ is)
 
-take-together : {X Y Z : Type 0} (f : X → Y → Z) (n : ℕ) (xs : List X) (ys : List Y) → take n (together f xs ys) ≡ together f (take n xs) (take n ys)
+take-together : {X Y Z : Type 0} (f : X → Y → Z) (n : ℕ) (xs : List X) (ys : List Y)
+    → take n (together f xs ys) ≡ together f (take n xs) (take n ys)
 take-together f zero xs ys = refl
 take-together f (suc n) [] ys = refl
 take-together f (suc n) (x ∷ xs) [] = refl
@@ -43,7 +48,8 @@ together-none : {X Y Z : Type 0} (f : X → Y → Z) (xs : List X) → together 
 together-none f [] = refl
 together-none f (x ∷ xs) = refl
 
-drop-together : {X Y Z : Type 0} (f : X → Y → Z) (n : ℕ) (xs : List X) (ys : List Y) → drop n (together f xs ys) ≡ together f (drop n xs) (drop n ys)
+drop-together : {X Y Z : Type 0} (f : X → Y → Z) (n : ℕ) (xs : List X) (ys : List Y)
+    → drop n (together f xs ys) ≡ together f (drop n xs) (drop n ys)
 drop-together f zero xs ys = refl
 drop-together f (suc n) [] ys = refl
 drop-together f (suc n) (x ∷ xs) [] = sym (together-none f (drop n xs))
@@ -76,9 +82,11 @@ range-bags bags gens mods n at =
     ap (take n) (drop-together bagged at gw mw)
     ∙ take-together bagged n (drop at gw) (drop at mw)
     ∙ ap (λ l. together bagged l (take n (drop at mw))) (range-windows gens (λ (r : Bag). r.gens) bags n at)
-    ∙ ap (together bagged (windows gens (map (λ (r : Bag). r.gens) (take (suc n) (drop at bags))))) (range-windows mods (λ (r : Bag). r.mods) bags n at)
+    ∙ ap (together bagged (windows gens (map (λ (r : Bag). r.gens) (take (suc n) (drop at bags)))))
+    (range-windows mods (λ (r : Bag). r.mods) bags n at)
 
-no-bags : (bags : List Bag) (gens : List Generator) (mods : List Modulator) → length bags ≤ 1 → bags_in bags gens mods ≡ []
+no-bags : (bags : List Bag) (gens : List Generator) (mods : List Modulator) → length bags ≤ 1
+    → bags_in bags gens mods ≡ []
 unfolding bags_in
 no-bags [] gens mods h = refl
 no-bags (b ∷ []) gens mods h = refl
@@ -90,11 +98,13 @@ pub slice-bags_in : (bags : List Bag) (gens : List Generator) (mods : List Modul
 slice-bags_in bags gens mods from to = elim (cases_lt to from) [
   | inr le ↦ (
       let more : to + 1 - from ≡ suc (to - from) = omega (arith, le) in
-      range-bags bags gens mods (to - from) from ∙ ap (λ (n : ℕ). bags_in (take n (drop from bags)) gens mods) (sym more))
+      range-bags bags gens mods (to - from) from
+      ∙ ap (λ (n : ℕ). bags_in (take n (drop from bags)) gens mods) (sym more))
   | inl lt ↦ (
       let none : to - from ≡ 0 = omega (arith, lt) in
       let few : to + 1 - from ≤ 1 = omega (arith, lt) in
-      rw none (sym (no-bags (take (to + 1 - from) (drop from bags)) gens mods (omega (arith, few, length-take (to + 1 - from) (drop from bags))))))
+      rw none (sym (no-bags (take (to + 1 - from) (drop from bags)) gens mods
+      (omega (arith, few, length-take (to + 1 - from) (drop from bags))))))
 ]
 
 -- ---- no modulators
@@ -104,7 +114,8 @@ split_and true c h = (refl, h)
 split_and false c h = absurd cc
 
 -- indexes that are all 0 say nothing of the one zero record
-zero-windows_from : (at : ℕ) (is : List ℕ) → at ≤ 0 → list_all (λ i. leb i 0) is ≡ true → windows_from (modulator_end ∷ []) at is ≡ windows_from [] at is
+zero-windows_from : (at : ℕ) (is : List ℕ) → at ≤ 0 → list_all (λ i. leb i 0) is ≡ true
+    → windows_from (modulator_end ∷ []) at is ≡ windows_from [] at is
 zero-windows_from at [] h all = refl
 zero-windows_from at (i ∷ is) h all =
     let both = split_and (leb i 0) (list_all (λ j. leb j 0) is) all in
@@ -117,18 +128,23 @@ zero-windows (i ∷ is) all =
     let both = split_and (leb i 0) (list_all (λ j. leb j 0) is) all in
     zero-windows_from i is (leb-true i 0 both.0) both.1
 
-pub or_zero-windows : (mods : List Modulator) (is : List ℕ) → list_all (λ i. leb i (length (or_zero mods) - 1)) is ≡ true → windows (or_zero mods) is ≡ windows mods is
+pub or_zero-windows : (mods : List Modulator) (is : List ℕ)
+    → list_all (λ i. leb i (length (or_zero mods) - 1)) is ≡ true → windows (or_zero mods) is ≡ windows mods is
 or_zero-windows [] is all = zero-windows is all
 or_zero-windows (m ∷ mods) is all = refl
 
 pub or_zero-bags : (bags : List Bag) (gens : List Generator) (mods : List Modulator)
-    → list_all (λ i. leb i (length (or_zero mods) - 1)) (map (λ (r : Bag). r.mods) bags) ≡ true → bags_in bags gens (or_zero mods) ≡ bags_in bags gens mods
+    → list_all (λ i. leb i (length (or_zero mods) - 1)) (map (λ (r : Bag). r.mods) bags) ≡ true
+    → bags_in bags gens (or_zero mods) ≡ bags_in bags gens mods
 unfolding bags_in
-or_zero-bags bags gens mods all = ap (together bagged (windows gens (map (λ (r : Bag). r.gens) bags))) (or_zero-windows mods (map (λ (r : Bag). r.mods) bags) all)
+or_zero-bags bags gens mods all =
+    ap (together bagged (windows gens (map (λ (r : Bag). r.gens) bags)))
+    (or_zero-windows mods (map (λ (r : Bag). r.mods) bags) all)
 
 -- ---- how many
 
-length-windows_from : {X : Type 0} (table : List X) (at : ℕ) (is : List ℕ) → length (windows_from table at is) ≡ length is
+length-windows_from : {X : Type 0} (table : List X) (at : ℕ) (is : List ℕ)
+    → length (windows_from table at is) ≡ length is
 length-windows_from table at [] = refl
 length-windows_from table at (i ∷ is) = ap suc (length-windows_from table i is)
 

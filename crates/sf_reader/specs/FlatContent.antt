@@ -35,7 +35,8 @@ abbrev pub heads_of : {H : Type 0} → Level → List (WithZones H) → List (He
 heads_of at owners = head_records (map (λ x. x.head) owners) (lists_of at owners).first_bags
 
 abbrev pub tables_at : {H : Type 0} → Level → List (WithZones H) → Tables
-tables_at at owners = record { bags = (lists_of at owners).bags; gens = (lists_of at owners).gens; mods = (lists_of at owners).mods }
+tables_at at owners =
+    record { bags = (lists_of at owners).bags; gens = (lists_of at owners).gens; mods = (lists_of at owners).mods }
 
 abbrev pub flat_bank : Parts → FlatBank
 flat_bank b = record {

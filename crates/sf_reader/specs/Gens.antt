@@ -8,7 +8,8 @@ use Rattle.bank_format.specs.Zones.{before_target, allowed_in, kept, range_mende
 use Rattle.sf_reader.specs.declared.bag.GensRead.{GensRead}
 
 abbrev pub gens_read_of : Level → List Generator → GensRead
-gens_read_of at rs = record { target = target_of at rs; dropped = dropped at rs; ranges = count_by is_mended (kept at rs) }
+gens_read_of at rs =
+    record { target = target_of at rs; dropped = dropped at rs; ranges = count_by is_mended (kept at rs) }
 
 -- ---- the way there
 

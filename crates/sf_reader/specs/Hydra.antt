@@ -5,7 +5,8 @@ use Rattle.modulators.specs.declared.modulator.Modulator.{Modulator}
 use Rattle.hydra_records.specs.declared.zone.Bag.{Bag}
 use Rattle.hydra_records.specs.declared.zone.Generator.{Generator}
 use Rattle.hydra_records.specs.Records.{records}
-use Rattle.hydra_records.specs.Spelling.{preset_head_of, bag_of, modulator_of, generator_of, instrument_head_of, sample_head_of}
+use Rattle.hydra_records.specs.Spelling.{preset_head_of, bag_of, modulator_of, generator_of, instrument_head_of}
+use Rattle.hydra_records.specs.Spelling.{sample_head_of}
 use Rattle.bank_format.specs.declared.fault.ReadFault.{ReadFault}
 use Rattle.bank_format.specs.declared.fault.ReadFault.TheVariants.{RecordSize}
 use Rattle.bank_format.specs.Ids as id
@@ -76,7 +77,9 @@ tables_from b = record {
 
 -- each of the four bodies is whole records long, where a head has a size
 abbrev pub level_whole_steps : ℕ → LevelChunks → List (Step ReadFault)
-level_whole_steps size c = whole_step size c.heads.now ∷ whole_step 4 c.bags.now ∷ whole_step 10 c.modulators.now ∷ whole_step 4 c.generators.now ∷ []
+level_whole_steps size c =
+    whole_step size c.heads.now ∷ whole_step 4 c.bags.now ∷ whole_step 10 c.modulators.now
+    ∷ whole_step 4 c.generators.now ∷ []
 
 -- the four lists in those bytes
 abbrev pub level_of : {H : Type 0} → ℕ → (List ℕ → H) → LevelChunks → LevelTables H
@@ -89,10 +92,12 @@ level_of size of_bytes c = record {
 
 -- where the first bags of the heads, and the generators and modulators of the bags, may lie
 abbrev pub level_index_steps : {H : Type 0} → List ℕ → LevelTables H → List (Step ReadFault)
-level_index_steps first_bags l = index_steps first_bags (length l.bags) ++ bag_steps l.bags (length l.generators) (length (or_zero l.modulators))
+level_index_steps first_bags l =
+    index_steps first_bags (length l.bags) ++ bag_steps l.bags (length l.generators) (length (or_zero l.modulators))
 
 -- the four lists are these, where a list of no modulators is seen as one zero record
-pub record AreLists {H : Type 0} (l : LevelTables H) (heads : List H) (bags : List Bag) (generators : List Generator) (modulators : List Modulator) : Type 0 where
+pub record AreLists {H : Type 0} (l : LevelTables H) (heads : List H) (bags : List Bag) (generators : List Generator)
+    (modulators : List Modulator) : Type 0 where
   pub heads_are : l.heads ≡ heads
   pub bags_are : l.bags ≡ bags
   pub generators_are : l.generators ≡ generators

@@ -39,23 +39,27 @@ pub record AreSmall (c : ZoneCounts) : Type 0 where
 
 -- of the bags of all heads
 abbrev pub counts_over : Level → List (List Bagged) → ZoneCounts
-counts_over at ws = record { zones = sum_by (ignored at) ws; gens = sum_by (gens_dropped at) ws; ranges = sum_by (ranges_mended at) ws }
+counts_over at ws =
+    record
+    { zones = sum_by (ignored at) ws; gens = sum_by (gens_dropped at) ws; ranges = sum_by (ranges_mended at) ws }
 
 -- ---- lists that grow
 
 -- those with these heads, each with its bags
-pub record AreOwnersSoFar {H : Type 0} (r : OwnersSoFar H) (hs : List H) (owners : List (List Bag)) (c : ZoneCounts) : Type 0 where
+pub record AreOwnersSoFar {H : Type 0} (r : OwnersSoFar H) (hs : List H) (owners : List (List Bag))
+    (c : ZoneCounts) : Type 0 where
   pub heads_are : r.heads.items ≡ hs
   pub first_bags_are : r.first_bags.items ≡ starts past_owner 0 owners
   pub records_are : AreSoFar r.records (all_bags owners)
   pub counts_are : r.counts ≡ c
 
 -- one more was put behind the others, with this head and these bags, in which so much was dropped or mended
-pub record AddsOwner {H : Type 0} (old new : OwnersSoFar H) (head : H) (own : List Bag) (more : ZoneCounts) : Type 0 where
-  pub heads_grow : new.heads.items ≡ old.heads.items ++ head ∷ []
-  pub first_bags_grow : new.first_bags.items ≡ old.first_bags.items ++ (length new.records.bags.items - 1) ∷ []
-  pub records_grow : Adds old.records new.records own
-  pub counts_grow : new.counts ≡ added old.counts more
+pub record AddsOwner {H : Type 0} (old new : OwnersSoFar H) (head : H) (own : List Bag) (more : ZoneCounts) : Type 0
+  where
+    pub heads_grow : new.heads.items ≡ old.heads.items ++ head ∷ []
+    pub first_bags_grow : new.first_bags.items ≡ old.first_bags.items ++ (length new.records.bags.items - 1) ∷ []
+    pub records_grow : Adds old.records new.records own
+    pub counts_grow : new.counts ≡ added old.counts more
 
 -- and the terminals behind all of them
 pub record AreEnded {H : Type 0} (r : OwnersSoFar H) (e : OwnersRead H) : Type 0 where
@@ -84,7 +88,9 @@ owners_seen r = record { heads = r.heads; records = tables_in r.records; counts 
 
 -- those with these heads and bags
 abbrev pub flat_owners : {H : Type 0} → List H → List (List Bag) → ZoneCounts → FlatOwners H
-flat_owners hs owners counts = record { heads = head_records hs (flat_of owners).begins; records = tables_of (all_bags owners); counts = counts }
+flat_owners hs owners counts =
+    record
+    { heads = head_records hs (flat_of owners).begins; records = tables_of (all_bags owners); counts = counts }
 
 abbrev pub owners_with_counts : {H R : Type 0} → Headers H R → List R → List (List Bagged) → FlatOwners H
 owners_with_counts h rs ws = flat_owners (map h.read (rows rs)) (map (own_bags h.level) ws) (counts_over h.level ws)

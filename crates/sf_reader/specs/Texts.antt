@@ -36,4 +36,5 @@ cut_of t = record {
 unfoldable pub cut_count : Texts → ℕ
 cut_count t =
     over TEXT_LENGTH t.engine + over TEXT_LENGTH t.name + over TEXT_LENGTH t.date + over TEXT_LENGTH t.engineers
-    + over TEXT_LENGTH t.product + over TEXT_LENGTH t.copyright + over COMMENT_LENGTH t.comment + over TEXT_LENGTH t.software
+    + over TEXT_LENGTH t.product + over TEXT_LENGTH t.copyright + over COMMENT_LENGTH t.comment
+    + over TEXT_LENGTH t.software

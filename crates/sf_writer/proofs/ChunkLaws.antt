@@ -1,5 +1,6 @@
 -- Chunks of even size, and loops over members.
-use Rattle.std.proofs.Common.{◌≡◌, ◌+◌, ◌<◌, ◌%◌, ℕ, List, ◌++◌, length, get_or, drop, refl, ap, sym, ◌∙◌, append_assoc, arith, false, eqb, Option}
+use Rattle.std.proofs.Common.{◌≡◌, ◌+◌, ◌<◌, ◌%◌, ℕ, List, ◌++◌, length, get_or, drop, refl, ap, sym, ◌∙◌}
+use Rattle.std.proofs.Common.{append_assoc, arith, false, eqb, Option}
 use Rattle.std.specs.List.{flat_map}
 use Rattle.std.proofs.lemmas.Bool.{ne_eqb}
 use Rattle.std.proofs.lemmas.List.{length-append, append-nil, at_drop_more}
@@ -22,7 +23,8 @@ pad-even body n e = let t : eqb (n % 2) 1 ≡ false = ne_eqb _ _ (omega arith) i
 pub chunk-even : (id body : List ℕ) → length body % 2 ≡ 0 → chunk id body ≡ chunk_head id (length body) ++ body
 chunk-even id body e = ap (λ (t : List ℕ). chunk_head id (length body) ++ t) (pad-even body (length body) e)
 
-pub length-chunk-even : (id body : List ℕ) → length id ≡ 4 → length body % 2 ≡ 0 → length (chunk id body) ≡ 8 + length body
+pub length-chunk-even : (id body : List ℕ) → length id ≡ 4 → length body % 2 ≡ 0
+    → length (chunk id body) ≡ 8 + length body
 length-chunk-even id body e even = omega (arith, even, length-chunk id body e)
 
 pub length-LIST : length LIST ≡ 4
@@ -30,24 +32,32 @@ unfolding LIST
 length-LIST = refl
 
 -- a chunk of even size that has a form is its head with the form, and what follows
-pub form-even : (id form chunks : List ℕ) → length form ≡ 4 → length chunks % 2 ≡ 0 → chunk id (form ++ chunks) ≡ (chunk_head id (length (form ++ chunks)) ++ form) ++ chunks
+pub form-even : (id form chunks : List ℕ) → length form ≡ 4 → length chunks % 2 ≡ 0
+    → chunk id (form ++ chunks) ≡ (chunk_head id (length (form ++ chunks)) ++ form) ++ chunks
 form-even id form chunks e even =
     chunk-even id (form ++ chunks) (omega (arith, e, even, length-append form chunks))
     ∙ sym (append_assoc (chunk_head id (length (form ++ chunks))) form chunks)
 
-pub length-form-even : (id form chunks : List ℕ) → length id ≡ 4 → length form ≡ 4 → length chunks % 2 ≡ 0 → length (chunk id (form ++ chunks)) ≡ 8 + length (form ++ chunks)
-length-form-even id form chunks named e even = omega (arith, e, even, length-append form chunks, length-chunk id (form ++ chunks) named)
+pub length-form-even : (id form chunks : List ℕ) → length id ≡ 4 → length form ≡ 4 → length chunks % 2 ≡ 0
+    → length (chunk id (form ++ chunks)) ≡ 8 + length (form ++ chunks)
+length-form-even id form chunks named e even =
+    omega (arith, e, even, length-append form chunks, length-chunk id (form ++ chunks) named)
 
 module _ {W : Type 0} {c : W → Option (List ℕ)} {o p q : Output W} where
   -- a head, and a body of even size
-  pub put_even : (name id body : List ℕ) (size : ℕ) → name ≡ id → length body % 2 ≡ 0 → size ≡ length body → Puts c o p (chunk_head name size) → Puts c p q body → Puts c o q (chunk id body)
+  pub put_even : (name id body : List ℕ) (size : ℕ) → name ≡ id → length body % 2 ≡ 0 → size ≡ length body
+      → Puts c o p (chunk_head name size) → Puts c p q body → Puts c o q (chunk id body)
   put_even name id body size named even sized =
-      puts_row (chunk id body) (chunk_head name size) body (chunk-even id body even ∙ (λ i. chunk_head (sym named i) (sym sized i) ++ body))
+      puts_row (chunk id body) (chunk_head name size) body
+      (chunk-even id body even ∙ (λ i. chunk_head (sym named i) (sym sized i) ++ body))
 
   -- a head with a form, and chunks of even size
-  pub put_form : (id form chunks : List ℕ) (size : ℕ) → length form ≡ 4 → length chunks % 2 ≡ 0 → size ≡ length (form ++ chunks) → Puts c o p (chunk_head id size ++ form) → Puts c p q chunks → Puts c o q (chunk id (form ++ chunks))
+  pub put_form : (id form chunks : List ℕ) (size : ℕ) → length form ≡ 4 → length chunks % 2 ≡ 0
+      → size ≡ length (form ++ chunks) → Puts c o p (chunk_head id size ++ form) → Puts c p q chunks
+      → Puts c o q (chunk id (form ++ chunks))
   put_form id form chunks size e even sized =
-      puts_row (chunk id (form ++ chunks)) (chunk_head id size ++ form) chunks (form-even id form chunks e even ∙ ap (λ (n : ℕ). (chunk_head id n ++ form) ++ chunks) (sym sized))
+      puts_row (chunk id (form ++ chunks)) (chunk_head id size ++ form) chunks
+      (form-even id form chunks e even ∙ ap (λ (n : ℕ). (chunk_head id n ++ form) ++ chunks) (sym sized))
 
 -- ---- loops over members
 
@@ -59,9 +69,13 @@ flat_map-next f xs i d lt = at_drop_more (flat_map f) xs i d lt
 -- the same where what they make is spelled
 pub spelled-next : {X Y Z : Type 0} (g : Y → List Z) (f : X → List Y) (xs : List X) (i : ℕ) (d : X) → i < length xs
     → flat_map g (flat_map f (drop i xs)) ≡ flat_map g (f (get_or xs i d)) ++ flat_map g (flat_map f (drop (i + 1) xs))
-spelled-next g f xs i d lt = ap (flat_map g) (flat_map-next f xs i d lt) ∙ flat_map-append g (f (get_or xs i d)) (flat_map f (drop (i + 1) xs))
+spelled-next g f xs i d lt =
+    ap (flat_map g) (flat_map-next f xs i d lt)
+    ∙ flat_map-append g (f (get_or xs i d)) (flat_map f (drop (i + 1) xs))
 
 -- the same for a member that was read
-pub spelled-read : {X Y Z : Type 0} (g : Y → List Z) (f : X → List Y) (xs : List X) (i : ℕ) (x : X) → i < length xs → x ≡ get_or xs i x
+pub spelled-read : {X Y Z : Type 0} (g : Y → List Z) (f : X → List Y) (xs : List X) (i : ℕ) (x : X) → i < length xs
+    → x ≡ get_or xs i x
     → flat_map g (flat_map f (drop i xs)) ≡ flat_map g (f x) ++ flat_map g (flat_map f (drop (i + 1) xs))
-spelled-read g f xs i x lt is = spelled-next g f xs i x lt ∙ ap (λ y. flat_map g (f y) ++ flat_map g (flat_map f (drop (i + 1) xs))) (sym is)
+spelled-read g f xs i x lt is =
+    spelled-next g f xs i x lt ∙ ap (λ y. flat_map g (f y) ++ flat_map g (flat_map f (drop (i + 1) xs))) (sym is)

@@ -25,8 +25,15 @@ pub lists-is : (b : Parts) → spell (lists b) ≡ info_list b ++ (sdta_list b +
 unfolding lists
 lists-is b = ap (λ (t : List ℕ). info_list b ++ (sdta_list b ++ t)) (append-nil (pdta_list b))
 
-pub length-lists : (b : Parts) → length (spell (lists b)) ≡ length (info_list b) + length (sdta_list b) + length (pdta_list b)
-length-lists b = omega (arith, ap length (lists-is b), length-append (info_list b) (sdta_list b ++ pdta_list b), length-append (sdta_list b) (pdta_list b))
+pub length-lists : (b : Parts)
+    → length (spell (lists b)) ≡ length (info_list b) + length (sdta_list b) + length (pdta_list b)
+length-lists b =
+    omega (
+      arith,
+      ap length (lists-is b),
+      length-append (info_list b) (sdta_list b ++ pdta_list b),
+      length-append (sdta_list b) (pdta_list b),
+    )
 
 pub length-SFBK : length SFBK ≡ 4
 unfolding SFBK

@@ -1,5 +1,6 @@
 -- The points of all samples, and how long they are.
-use Rattle.std.proofs.Common.{◌≡◌, ◌<◌, ◌+◌, ◌*◌, ◌%◌, ℕ, List, [], ◌∷◌, ◌++◌, length, get_or, drop, replicate, refl, ap, sym, ◌∙◌, arith}
+use Rattle.std.proofs.Common.{◌≡◌, ◌<◌, ◌+◌, ◌*◌, ◌%◌, ℕ, List, [], ◌∷◌, ◌++◌, length, get_or, drop, replicate, refl}
+use Rattle.std.proofs.Common.{ap, sym, ◌∙◌, arith}
 use Rattle.std.specs.List.{flat_map}
 use Rattle.std.proofs.lemmas.List.{length-append, append-nil, at_drop_more}
 use Rattle.std.proofs.lemmas.List.Concat.{flat_map-append}
@@ -24,8 +25,11 @@ unfolding word_bytes
 zero_bytes = refl
 
 -- its points, and then zeros
-pub sample-parts : (s : Sample) → flat_map word_bytes (points_written s) ≡ flat_map word_bytes s.points ++ replicate 92 0
-sample-parts s = flat_map-append word_bytes s.points (replicate 46 0) ∙ ap (λ (zs : List ℕ). flat_map word_bytes s.points ++ zs) zero_bytes
+pub sample-parts : (s : Sample)
+    → flat_map word_bytes (points_written s) ≡ flat_map word_bytes s.points ++ replicate 92 0
+sample-parts s =
+    flat_map-append word_bytes s.points (replicate 46 0)
+    ∙ ap (λ (zs : List ℕ). flat_map word_bytes s.points ++ zs) zero_bytes
 
 -- ---- all samples
 

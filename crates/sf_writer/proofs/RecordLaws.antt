@@ -1,5 +1,6 @@
 -- The heads of samples, and the nine lists, and how long they are.
-use Rattle.std.proofs.Common.{◌≡◌, ◌<◌, ◌≤◌, ◌+◌, ◌*◌, ◌%◌, ℕ, List, [], ◌∷◌, ◌++◌, length, get_or, drop, refl, ap, sym, ◌∙◌, append_assoc, arith}
+use Rattle.std.proofs.Common.{◌≡◌, ◌<◌, ◌≤◌, ◌+◌, ◌*◌, ◌%◌, ℕ, List, [], ◌∷◌, ◌++◌, length, get_or, drop, refl, ap}
+use Rattle.std.proofs.Common.{sym, ◌∙◌, append_assoc, arith}
 use Rattle.std.specs.List.{flat_map, concat, AllByRecursion}
 use Rattle.std.specs.Int.{w8, cast_unsigned}
 use Rattle.std.proofs.lemmas.List.{length-append, append-nil, at_drop_more, drop_all}
@@ -28,22 +29,36 @@ abbrev heads : Parts → List ℕ
 heads b = flat_map sample_head_bytes (tables_of b).shdr
 
 -- the heads, and then the last record
-pub shdr-is : (b : Parts) → heads b ≡ flat_map sample_head_bytes (sample_heads_from 0 b.samples) ++ sample_head_bytes sample_end
+pub shdr-is : (b : Parts)
+    → heads b ≡ flat_map sample_head_bytes (sample_heads_from 0 b.samples) ++ sample_head_bytes sample_end
 unfolding tables_of
 shdr-is b =
     flat_map-append sample_head_bytes (sample_heads_from 0 b.samples) (sample_end ∷ [])
-    ∙ ap (λ (t : List ℕ). flat_map sample_head_bytes (sample_heads_from 0 b.samples) ++ t) (append-nil (sample_head_bytes sample_end))
+    ∙ ap (λ (t : List ℕ). flat_map sample_head_bytes (sample_heads_from 0 b.samples) ++ t)
+    (append-nil (sample_head_bytes sample_end))
 
 length-head : (h : SampleHead) → length h.name ≡ 20 → length (sample_head_bytes h) ≡ 46
 unfolding sample_head_bytes
-length-head h e = omega (arith, e, length-append h.name (concat (little_bytes 4 h.start ∷ little_bytes 4 h.end ∷ little_bytes 4 h.loop_start ∷ little_bytes 4 h.loop_end ∷ little_bytes 4 h.rate ∷ little_bytes 1 h.key ∷ little_bytes 1 (cast_unsigned w8 h.correction) ∷ little_bytes 2 h.link ∷ little_bytes 2 h.kind ∷ [])))
+length-head h e =
+    omega (
+      arith,
+      e,
+      length-append h.name
+          (concat
+          (little_bytes 4 h.start ∷ little_bytes 4 h.end ∷ little_bytes 4 h.loop_start
+          ∷ little_bytes 4 h.loop_end ∷ little_bytes 4 h.rate ∷ little_bytes 1 h.key
+          ∷ little_bytes 1 (cast_unsigned w8 h.correction) ∷ little_bytes 2 h.link ∷ little_bytes 2 h.kind
+          ∷ [])),
+    )
 
-length-heads : (n start : ℕ) (samples : List Sample) → AllByRecursion (IsSample n) samples → length (flat_map sample_head_bytes (sample_heads_from start samples)) ≡ 46 * length samples
+length-heads : (n start : ℕ) (samples : List Sample) → AllByRecursion (IsSample n) samples
+    → length (flat_map sample_head_bytes (sample_heads_from start samples)) ≡ 46 * length samples
 length-heads n start [] v = refl
 length-heads n start (s ∷ samples) v =
     omega (
       arith,
-      length-append (sample_head_bytes (sample_head start s)) (flat_map sample_head_bytes (sample_heads_from (start + length s.points + 46) samples)),
+      length-append (sample_head_bytes (sample_head start s))
+          (flat_map sample_head_bytes (sample_heads_from (start + length s.points + 46) samples)),
       length-head (sample_head start s) (length-filled s.name v.0.name.0),
       length-heads n (start + length s.points + 46) samples v.1,
     )
@@ -56,7 +71,8 @@ pub length-shdr_list : (b : Parts) → length (chunk SHDR (heads b)) ≡ 8 + len
 unfolding SHDR
 length-shdr_list b = length-chunk SHDR (heads b) refl
 
-length-shdr_parts : (b : Parts) → length (heads b) ≡ length (flat_map sample_head_bytes (sample_heads_from 0 b.samples)) + 46
+length-shdr_parts : (b : Parts)
+    → length (heads b) ≡ length (flat_map sample_head_bytes (sample_heads_from 0 b.samples)) + 46
 length-shdr_parts b =
     omega (
       arith,
@@ -73,30 +89,51 @@ shdr-even b v = omega (arith, length_shdr b v)
 
 -- the heads of the samples from place i on, and the last record
 unfoldable pub heads_left : ℕ → ℕ → List Sample → List ℕ
-heads_left start i samples = flat_map sample_head_bytes (sample_heads_from start (drop i samples)) ++ sample_head_bytes sample_end
+heads_left start i samples =
+    flat_map sample_head_bytes (sample_heads_from start (drop i samples)) ++ sample_head_bytes sample_end
 
 pub heads-start : (b : Parts) (samples : List Sample) → samples ≡ b.samples → heads b ≡ heads_left 0 0 samples
 unfolding heads_left
-heads-start b samples e = shdr-is b ∙ ap (λ (xs : List Sample). flat_map sample_head_bytes (sample_heads_from 0 xs) ++ sample_head_bytes sample_end) (sym e)
+heads-start b samples e =
+    shdr-is b
+    ∙ ap
+    (λ (xs : List Sample).
+    flat_map sample_head_bytes (sample_heads_from 0 xs) ++ sample_head_bytes sample_end)
+    (sym e)
 
 -- those from place i on are that of sample i, and those after it
-pub heads-next : (samples : List Sample) (i start : ℕ) (s : Sample) (h : SampleHead) (bytes : List ℕ) → i < length samples → s ≡ get_or samples i s
+pub heads-next : (samples : List Sample) (i start : ℕ) (s : Sample) (h : SampleHead) (bytes : List ℕ)
+    → i < length samples → s ≡ get_or samples i s
     → h ≡ sample_head start s → bytes ≡ sample_head_bytes h
     → heads_left start i samples ≡ bytes ++ heads_left (h.end + 46) (i + 1) samples
 unfolding heads_left
 heads-next samples i start s h bytes lt is made spelled =
-    at_drop_more (λ (xs : List Sample). flat_map sample_head_bytes (sample_heads_from start xs) ++ sample_head_bytes sample_end) samples i s lt
-    ∙ ap (λ (x : Sample). flat_map sample_head_bytes (sample_heads_from start (x ∷ drop (i + 1) samples)) ++ sample_head_bytes sample_end) (sym is)
-    ∙ append_assoc (sample_head_bytes (sample_head start s)) (flat_map sample_head_bytes (sample_heads_from (start + length s.points + 46) (drop (i + 1) samples))) (sample_head_bytes sample_end)
+    at_drop_more
+    (λ (xs : List Sample).
+    flat_map sample_head_bytes (sample_heads_from start xs) ++ sample_head_bytes sample_end)
+    samples i s lt
+    ∙ ap
+    (λ (x : Sample).
+    flat_map sample_head_bytes (sample_heads_from start (x ∷ drop (i + 1) samples))
+    ++ sample_head_bytes sample_end)
+    (sym is)
+    ∙ append_assoc (sample_head_bytes (sample_head start s))
+    (flat_map sample_head_bytes (sample_heads_from (start + length s.points + 46) (drop (i + 1) samples)))
+    (sample_head_bytes sample_end)
     ∙ ap (λ (x : SampleHead). sample_head_bytes x ++ heads_left (x.end + 46) (i + 1) samples) (sym made)
     ∙ ap (λ (t : List ℕ). t ++ heads_left (h.end + 46) (i + 1) samples) (sym spelled)
 
 -- after the last of them the last record is left
-pub heads-last : (samples : List Sample) (i start : ℕ) (h : SampleHead) (bytes : List ℕ) → length samples ≤ i → h ≡ sample_end → bytes ≡ sample_head_bytes h
+pub heads-last : (samples : List Sample) (i start : ℕ) (h : SampleHead) (bytes : List ℕ) → length samples ≤ i
+    → h ≡ sample_end → bytes ≡ sample_head_bytes h
     → heads_left start i samples ≡ bytes
 unfolding heads_left
 heads-last samples i start h bytes le made spelled =
-    ap (λ (xs : List Sample). flat_map sample_head_bytes (sample_heads_from start xs) ++ sample_head_bytes sample_end) (drop_all i samples le) ∙ ap sample_head_bytes (sym made) ∙ sym spelled
+    ap
+    (λ (xs : List Sample).
+    flat_map sample_head_bytes (sample_heads_from start xs) ++ sample_head_bytes sample_end)
+    (drop_all i samples le)
+    ∙ ap sample_head_bytes (sym made) ∙ sym spelled
 
 -- ---- all nine
 
@@ -112,17 +149,28 @@ preset_lists b = spell (zone_lists level.Preset (all_bags level.Preset b.presets
 abbrev instrument_lists : Parts → List ℕ
 instrument_lists b = spell (zone_lists level.Instrument (all_bags level.Instrument b.instruments))
 
-pub pdta-is : (b : Parts) → spell (pdta (tables_of b)) ≡ phdr b ++ (preset_lists b ++ (inst b ++ (instrument_lists b ++ chunk SHDR (heads b))))
+pub pdta-is : (b : Parts)
+    → spell (pdta (tables_of b))
+    ≡ phdr b ++ (preset_lists b ++ (inst b ++ (instrument_lists b ++ chunk SHDR (heads b))))
 unfolding pdta tables_of zone_lists
 pdta-is b =
     let shdr : List Chunk = record { id = SHDR; body = heads b } ∷ [] in
-    let last : spell (zone_lists level.Instrument (all_bags level.Instrument b.instruments) ++ shdr) ≡ instrument_lists b ++ chunk SHDR (heads b) =
-    flat_map-append (λ (c : Chunk). chunk c.id c.body) (zone_lists level.Instrument (all_bags level.Instrument b.instruments)) shdr
+    let last : spell (zone_lists level.Instrument (all_bags level.Instrument b.instruments) ++ shdr)
+    ≡ instrument_lists b ++ chunk SHDR (heads b) =
+    flat_map-append (λ (c : Chunk). chunk c.id c.body)
+    (zone_lists level.Instrument (all_bags level.Instrument b.instruments)) shdr
     ∙ ap (λ (t : List ℕ). instrument_lists b ++ t) (append-nil (chunk SHDR (heads b))) in
-    ap (λ (t : List ℕ). phdr b ++ t) (flat_map-append (λ (c : Chunk). chunk c.id c.body) (zone_lists level.Preset (all_bags level.Preset b.presets)) (record { id = INST; body = flat_map instrument_head_bytes (tables_of b).inst } ∷ (zone_lists level.Instrument (all_bags level.Instrument b.instruments) ++ shdr)))
+    ap (λ (t : List ℕ). phdr b ++ t)
+    (flat_map-append (λ (c : Chunk). chunk c.id c.body)
+    (zone_lists level.Preset (all_bags level.Preset b.presets))
+    (record { id = INST; body = flat_map instrument_head_bytes (tables_of b).inst }
+    ∷ (zone_lists level.Instrument (all_bags level.Instrument b.instruments) ++ shdr)))
     ∙ ap (λ (t : List ℕ). phdr b ++ (preset_lists b ++ (inst b ++ t))) last
 
-pub length-pdta : (b : Parts) → length (spell (pdta (tables_of b))) ≡ length (phdr b) + length (preset_lists b) + length (inst b) + length (instrument_lists b) + length (chunk SHDR (heads b))
+pub length-pdta : (b : Parts)
+    → length (spell (pdta (tables_of b)))
+    ≡ length (phdr b) + length (preset_lists b) + length (inst b) + length (instrument_lists b)
+    + length (chunk SHDR (heads b))
 length-pdta b =
     omega (
       arith,
@@ -150,5 +198,6 @@ pub length-PDTA : length PDTA ≡ 4
 unfolding PDTA
 length-PDTA = refl
 
-pub length-pdta_list : (b : Parts) → length (chunk LIST (PDTA ++ spell (pdta (tables_of b)))) ≡ 8 + length (PDTA ++ spell (pdta (tables_of b)))
+pub length-pdta_list : (b : Parts)
+    → length (chunk LIST (PDTA ++ spell (pdta (tables_of b)))) ≡ 8 + length (PDTA ++ spell (pdta (tables_of b)))
 length-pdta_list b = length-form-even LIST PDTA (spell (pdta (tables_of b))) length-LIST length-PDTA (pdta-even b)

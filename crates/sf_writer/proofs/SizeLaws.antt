@@ -7,7 +7,8 @@ use Rattle.generators.specs.declared.level.Level.TheVariants as level
 use Rattle.sample_view.specs.Words.{word_bytes}
 use Rattle.riff_chunks.specs.Spelling.{spell}
 use Rattle.riff_chunks.proofs.SpellingLaws.{length-chunk}
-use Rattle.hydra_records.specs.Spelling.{preset_head_bytes, bag_bytes, modulator_bytes, generator_bytes, instrument_head_bytes, sample_head_bytes}
+use Rattle.hydra_records.specs.Spelling.{preset_head_bytes, bag_bytes, modulator_bytes, generator_bytes}
+use Rattle.hydra_records.specs.Spelling.{instrument_head_bytes, sample_head_bytes}
 use Rattle.bank_parts.specs.declared.parts.Parts.{Parts}
 use Rattle.bank_parts.specs.declared.parts.WithZones.{WithZones}
 use Rattle.bank_validity.specs.declared.totals.LevelTotals.{LevelTotals}
@@ -29,8 +30,20 @@ use Rattle.sf_writer.proofs.OwnerHeadLaws.{phdr-even, inst-even}
 use Rattle.sf_writer.proofs.RecordLaws.{length-PDTA, length-pdta, length-shdr_list, length-pdta_list, shdr-even}
 use Rattle.sf_writer.proofs.FileLaws.{length-SFBK, length-lists}
 
-pub file_size : (b : Parts) → length (SFBK ++ spell (lists b)) ≡ 28 + length (INFO ++ spell (info b)) + length (SDTA ++ spell (sdta b)) + length (PDTA ++ spell (pdta (tables_of b)))
-file_size b = omega (arith, length-append SFBK (spell (lists b)), length-SFBK, length-lists b, length-info_list b, length-sdta_list b, length-pdta_list b)
+pub file_size : (b : Parts)
+    → length (SFBK ++ spell (lists b))
+    ≡ 28 + length (INFO ++ spell (info b)) + length (SDTA ++ spell (sdta b))
+    + length (PDTA ++ spell (pdta (tables_of b)))
+file_size b =
+    omega (
+      arith,
+      length-append SFBK (spell (lists b)),
+      length-SFBK,
+      length-lists b,
+      length-info_list b,
+      length-sdta_list b,
+      length-pdta_list b,
+    )
 
 pub info_size : (b : Parts) → length (INFO ++ spell (info b)) ≡ 4 + length (spell (info b))
 info_size b = omega (arith, length-append INFO (spell (info b)), length-INFO)
@@ -40,13 +53,26 @@ sdta_size b = omega (arith, length-append SDTA (spell (sdta b)), length-SDTA, le
 
 -- the bytes of the records of the three lists of these bags
 abbrev pub zone_records : List Bagged → ℕ
-zone_records bags = length (flat_map bag_bytes (bag_list bags)) + length (flat_map modulator_bytes (mod_list bags)) + length (flat_map generator_bytes (gen_list bags))
+zone_records bags =
+    length (flat_map bag_bytes (bag_list bags)) + length (flat_map modulator_bytes (mod_list bags))
+    + length (flat_map generator_bytes (gen_list bags))
 
 zone_lists_size : (at : Level) (bags : List Bagged) → length (spell (zone_lists at bags)) ≡ 24 + zone_records bags
-zone_lists_size at bags = omega (arith, length-zone_chunks at bags, length-bag_chunk at bags, length-mod_chunk at bags, length-gen_chunk at bags)
+zone_lists_size at bags =
+    omega (
+      arith,
+      length-zone_chunks at bags,
+      length-bag_chunk at bags,
+      length-mod_chunk at bags,
+      length-gen_chunk at bags,
+    )
 
 pub pdta_size : (b : Parts) → IsValid b
-    → length (PDTA ++ spell (pdta (tables_of b))) ≡ 76 + length (flat_map preset_head_bytes (tables_of b).phdr) + zone_records (all_bags level.Preset b.presets) + length (flat_map instrument_head_bytes (tables_of b).inst) + zone_records (all_bags level.Instrument b.instruments) + length (flat_map sample_head_bytes (tables_of b).shdr)
+    → length (PDTA ++ spell (pdta (tables_of b)))
+    ≡ 76 + length (flat_map preset_head_bytes (tables_of b).phdr) + zone_records (all_bags level.Preset b.presets)
+    + length (flat_map instrument_head_bytes (tables_of b).inst)
+    + zone_records (all_bags level.Instrument b.instruments)
+    + length (flat_map sample_head_bytes (tables_of b).shdr)
 unfolding PHDR INST
 pdta_size b v =
     omega (
@@ -69,23 +95,51 @@ pdta_size b v =
 module _ (b : Parts) (t : Totals) (is : t ≡ totals_of b) (w : IsWithin b) where
   pub few_members : (t.presets.count ≤ 65535) × (t.instruments.count ≤ 65535) × (t.samples ≤ 65535)
   unfolding totals_of
-  few_members = rw is (let p = w.presets in omega (arith, p), let i = w.instruments in omega (arith, i), let s = w.samples in omega (arith, s))
+  few_members =
+      rw is (
+        let p =
+            w.presets in omega (arith, p),
+        let i =
+            w.instruments in omega (arith, i),
+        let s = w.samples in omega (arith, s),
+      )
 
   pub few_preset_records : AreFew t.presets.records
   unfolding totals_of
-  few_preset_records = rw is (record { zones = let z = w.preset_zones in omega (arith, z); gens = let g = w.preset_gens in omega (arith, g); mods = let m = w.preset_mods in omega (arith, m) })
+  few_preset_records =
+      rw is
+      (record {
+        zones =
+            let z = w.preset_zones in
+            omega (arith, z);
+        gens =
+            let g = w.preset_gens in omega (arith, g);
+        mods = let m = w.preset_mods in omega (arith, m);
+      })
 
   pub few_instrument_records : AreFew t.instruments.records
   unfolding totals_of
-  few_instrument_records = rw is (record { zones = let z = w.instrument_zones in omega (arith, z); gens = let g = w.instrument_gens in omega (arith, g); mods = let m = w.instrument_mods in omega (arith, m) })
+  few_instrument_records =
+      rw is
+      (record {
+        zones =
+            let z = w.instrument_zones in
+            omega (arith, z);
+        gens =
+            let g = w.instrument_gens in
+            omega (arith, g);
+        mods = let m = w.instrument_mods in omega (arith, m);
+      })
 
   pub few_points : t.points ≤ 500000000
   unfolding totals_of
   few_points = rw is (let p = w.points in omega (arith, p))
 
 -- the sizes of the three lists of all presets, or of all instruments
-pub zone_sizes : {H : Type 0} (at : Level) (owners : List (WithZones H)) (l : LevelTotals) (sizes : ZoneSizes) → l ≡ level_totals owners
-    → sizes.bags ≡ 4 * (l.records.zones + 1) → sizes.mods ≡ 10 * (l.records.mods + 1) → sizes.gens ≡ 4 * (l.records.gens + 1) → AreZoneSizes (all_bags at owners) sizes
+pub zone_sizes : {H : Type 0} (at : Level) (owners : List (WithZones H)) (l : LevelTotals) (sizes : ZoneSizes)
+    → l ≡ level_totals owners
+    → sizes.bags ≡ 4 * (l.records.zones + 1) → sizes.mods ≡ 10 * (l.records.mods + 1)
+    → sizes.gens ≡ 4 * (l.records.gens + 1) → AreZoneSizes (all_bags at owners) sizes
 zone_sizes at owners l sizes is bags mods gens =
     let zones_are = ap (λ (l : LevelTotals). l.records.zones) is in
     let gens_are = ap (λ (l : LevelTotals). l.records.gens) is in

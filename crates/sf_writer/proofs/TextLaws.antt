@@ -1,5 +1,6 @@
 -- The chunks of texts, and how long they are.
-use Rattle.std.proofs.Common.{◌≡◌, ◌≢◌, ◌≤◌, ◌+◌, ◌*◌, ◌/◌, ◌%◌, ℕ, List, [], ◌∷◌, ◌++◌, length, replicate, refl, ap, arith, true, false, eqb, inl, inr}
+use Rattle.std.proofs.Common.{◌≡◌, ◌≢◌, ◌≤◌, ◌+◌, ◌*◌, ◌/◌, ◌%◌, ℕ, List, [], ◌∷◌, ◌++◌, length, replicate, refl, ap}
+use Rattle.std.proofs.Common.{arith, true, false, eqb, inl, inr}
 use Rattle.std.specs.List.{flat_map}
 use Rattle.std.proofs.lemmas.Bool.{cases_eq, eq-eqb, ne_eqb}
 use Rattle.std.proofs.lemmas.List.{length-append, append-nil}
@@ -8,7 +9,8 @@ use Rattle.riff_chunks.specs.Walk.{Chunk, LIST}
 use Rattle.riff_chunks.specs.Spelling.{chunk, spell}
 use Rattle.bank_parts.specs.declared.parts.Parts.{Parts}
 use Rattle.bank_parts.specs.declared.texts.InfoId.{InfoId}
-use Rattle.bank_parts.specs.declared.texts.InfoId.TheVariants.{Engine, Name, Date, Engineers, Product, Copyright, Comment, Software}
+use Rattle.bank_parts.specs.declared.texts.InfoId.TheVariants.{Engine, Name, Date, Engineers, Product, Copyright}
+use Rattle.bank_parts.specs.declared.texts.InfoId.TheVariants.{Comment, Software}
 use Rattle.bank_parts.specs.Texts.{text_of}
 use Rattle.bank_parts.specs.Valid.{IsValid}
 use Rattle.bank_format.specs.Ids.{INFO, IFIL, ISNG, INAM, ICRD, IENG, IPRD, ICOP, ICMT, ISFT}
@@ -21,8 +23,12 @@ use Rattle.sf_writer.proofs.ChunkLaws.{length-chunk-even, length-form-even, leng
 
 pub length-text_body : (text : List ℕ) → length (text_body text) ≡ 2 * (length text / 2 + 1)
 length-text_body text = elim (cases_eq (length text % 2) 1) [
-  | inl odd ↦ (let e : eqb (length text % 2) 1 ≡ true = eq-eqb _ _ odd in rw e (omega (arith, length-append text (replicate 1 0))))
-  | inr even ↦ (let e : eqb (length text % 2) 1 ≡ false = ne_eqb _ _ even in rw e (omega (arith, length-append text (replicate 2 0))))
+  | inl odd ↦
+      (let e : eqb (length text % 2) 1 ≡ true =
+      eq-eqb _ _ odd in rw e (omega (arith, length-append text (replicate 1 0))))
+  | inr even ↦
+      (let e : eqb (length text % 2) 1 ≡ false =
+      ne_eqb _ _ even in rw e (omega (arith, length-append text (replicate 2 0))))
 ]
 
 pub text_body-even : (text : List ℕ) → length (text_body text) % 2 ≡ 0
@@ -49,7 +55,8 @@ length-text_of-le b Copyright v = let h = v.texts.copyright in omega (arith, h)
 length-text_of-le b Comment v = let h = v.texts.comment in omega (arith, h)
 length-text_of-le b Software v = let h = v.texts.software in omega (arith, h)
 
-pub length-text : (which : InfoId) (text : List ℕ) → length (chunk (text_id which) (text_body text)) ≡ 8 + length (text_body text)
+pub length-text : (which : InfoId) (text : List ℕ)
+    → length (chunk (text_id which) (text_body text)) ≡ 8 + length (text_body text)
 length-text which text = length-chunk-even (text_id which) (text_body text) (length-text_id which) (text_body-even text)
 
 -- ---- a text that is left out where it is empty
@@ -62,10 +69,12 @@ text_chunk_if-there : (id text : List ℕ) → length text ≢ 0 → spell (text
 text_chunk_if-there id [] there = absurd (there refl)
 text_chunk_if-there id (c ∷ text) there = append-nil (chunk id (text_body (c ∷ text)))
 
-pub optional-empty : (b : Parts) (which : InfoId) → length (text_of b.texts which) ≡ 0 → spell (optional_chunk b which) ≡ []
+pub optional-empty : (b : Parts) (which : InfoId) → length (text_of b.texts which) ≡ 0
+    → spell (optional_chunk b which) ≡ []
 optional-empty b which e = text_chunk_if-empty (text_id which) (text_of b.texts which) e
 
-pub optional-there : (b : Parts) (which : InfoId) → length (text_of b.texts which) ≢ 0 → spell (optional_chunk b which) ≡ chunk (text_id which) (text_body (text_of b.texts which))
+pub optional-there : (b : Parts) (which : InfoId) → length (text_of b.texts which) ≢ 0
+    → spell (optional_chunk b which) ≡ chunk (text_id which) (text_body (text_of b.texts which))
 optional-there b which there = text_chunk_if-there (text_id which) (text_of b.texts which) there
 
 pub ruleset texts = (length-text_of-le, length-text_body, length-text, optional-empty, optional-there)
@@ -79,7 +88,10 @@ abbrev spelled_text : Parts → InfoId → List ℕ
 spelled_text b which = chunk (text_id which) (text_body (text_of b.texts which))
 
 -- the version, the engine, the name, and the texts that may be left out
-pub info-parts : (b : Parts) → spell (info b) ≡ chunk IFIL (version b) ++ (spelled_text b Engine ++ (spelled_text b Name ++ spell (flat_map (optional_chunk b) optional_texts)))
+pub info-parts : (b : Parts)
+    → spell (info b)
+    ≡ chunk IFIL (version b)
+    ++ (spelled_text b Engine ++ (spelled_text b Name ++ spell (flat_map (optional_chunk b) optional_texts)))
 unfolding info
 info-parts b = refl
 
@@ -87,7 +99,10 @@ pub length-version : (b : Parts) → length (chunk IFIL (version b)) ≡ 12
 unfolding IFIL
 length-version b = length-chunk-even IFIL (version b) refl refl
 
-pub length-info : (b : Parts) → length (spell (info b)) ≡ 12 + length (spelled_text b Engine) + length (spelled_text b Name) + length (spell (flat_map (optional_chunk b) optional_texts))
+pub length-info : (b : Parts)
+    → length (spell (info b))
+    ≡ 12 + length (spelled_text b Engine) + length (spelled_text b Name)
+    + length (spell (flat_map (optional_chunk b) optional_texts))
 length-info b =
     let others = spell (flat_map (optional_chunk b) optional_texts) in
     omega (
@@ -102,7 +117,12 @@ length-info b =
 text_chunk_if-even : (which : InfoId) (text : List ℕ) → length (spell (text_chunk_if (text_id which) text)) % 2 ≡ 0
 text_chunk_if-even which [] = refl
 text_chunk_if-even which (c ∷ text) =
-    omega (arith, text_body-even (c ∷ text), length-text which (c ∷ text), length-append (chunk (text_id which) (text_body (c ∷ text))) [])
+    omega (
+      arith,
+      text_body-even (c ∷ text),
+      length-text which (c ∷ text),
+      length-append (chunk (text_id which) (text_body (c ∷ text))) [],
+    )
 
 optional-even : (b : Parts) (ws : List InfoId) → length (spell (flat_map (optional_chunk b) ws)) % 2 ≡ 0
 optional-even b [] = refl

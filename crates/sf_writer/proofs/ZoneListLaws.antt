@@ -48,27 +48,39 @@ mods-even bags = omega (arith, length-mods (mod_list bags))
 pub gens-even : (bags : List Bagged) → length (gen_records bags) % 2 ≡ 0
 gens-even bags = omega (arith, length-gens (gen_list bags))
 
-pub length-bag_chunk : (at : Level) (bags : List Bagged) → length (chunk (bag_id at) (bag_records bags)) ≡ 8 + length (bag_records bags)
+pub length-bag_chunk : (at : Level) (bags : List Bagged)
+    → length (chunk (bag_id at) (bag_records bags)) ≡ 8 + length (bag_records bags)
 length-bag_chunk at bags = length-chunk-even (bag_id at) (bag_records bags) (length-bag_id at) (bags-even bags)
 
-pub length-mod_chunk : (at : Level) (bags : List Bagged) → length (chunk (mod_id at) (mod_records bags)) ≡ 8 + length (mod_records bags)
+pub length-mod_chunk : (at : Level) (bags : List Bagged)
+    → length (chunk (mod_id at) (mod_records bags)) ≡ 8 + length (mod_records bags)
 length-mod_chunk at bags = length-chunk-even (mod_id at) (mod_records bags) (length-mod_id at) (mods-even bags)
 
-pub length-gen_chunk : (at : Level) (bags : List Bagged) → length (chunk (gen_id at) (gen_records bags)) ≡ 8 + length (gen_records bags)
+pub length-gen_chunk : (at : Level) (bags : List Bagged)
+    → length (chunk (gen_id at) (gen_records bags)) ≡ 8 + length (gen_records bags)
 length-gen_chunk at bags = length-chunk-even (gen_id at) (gen_records bags) (length-gen_id at) (gens-even bags)
 
 -- ---- all three
 
-pub zone_lists-is : (at : Level) (bags : List Bagged) → spell (zone_lists at bags) ≡ chunk (bag_id at) (bag_records bags) ++ (chunk (mod_id at) (mod_records bags) ++ chunk (gen_id at) (gen_records bags))
+pub zone_lists-is : (at : Level) (bags : List Bagged)
+    → spell (zone_lists at bags)
+    ≡ chunk (bag_id at) (bag_records bags)
+    ++ (chunk (mod_id at) (mod_records bags) ++ chunk (gen_id at) (gen_records bags))
 unfolding zone_lists
-zone_lists-is at bags = ap (λ (t : List ℕ). chunk (bag_id at) (bag_records bags) ++ (chunk (mod_id at) (mod_records bags) ++ t)) (append-nil (chunk (gen_id at) (gen_records bags)))
+zone_lists-is at bags =
+    ap (λ (t : List ℕ). chunk (bag_id at) (bag_records bags) ++ (chunk (mod_id at) (mod_records bags) ++ t))
+    (append-nil (chunk (gen_id at) (gen_records bags)))
 
-pub length-zone_chunks : (at : Level) (bags : List Bagged) → length (spell (zone_lists at bags)) ≡ length (chunk (bag_id at) (bag_records bags)) + length (chunk (mod_id at) (mod_records bags)) + length (chunk (gen_id at) (gen_records bags))
+pub length-zone_chunks : (at : Level) (bags : List Bagged)
+    → length (spell (zone_lists at bags))
+    ≡ length (chunk (bag_id at) (bag_records bags)) + length (chunk (mod_id at) (mod_records bags))
+    + length (chunk (gen_id at) (gen_records bags))
 length-zone_chunks at bags =
     omega (
       arith,
       ap length (zone_lists-is at bags),
-      length-append (chunk (bag_id at) (bag_records bags)) (chunk (mod_id at) (mod_records bags) ++ chunk (gen_id at) (gen_records bags)),
+      length-append (chunk (bag_id at) (bag_records bags))
+          (chunk (mod_id at) (mod_records bags) ++ chunk (gen_id at) (gen_records bags)),
       length-append (chunk (mod_id at) (mod_records bags)) (chunk (gen_id at) (gen_records bags)),
     )
 

@@ -3,7 +3,8 @@ use Rattle.std.specs.Prelude.{◌≡◌, ◌≤◌, List, ◌++◌, length, flat
 use Rattle.generators.specs.declared.level.Level.TheVariants as level
 use Rattle.sample_view.specs.Words.{word_bytes}
 use Rattle.riff_chunks.specs.Spelling.{spell}
-use Rattle.hydra_records.specs.Spelling.{preset_head_bytes, bag_bytes, modulator_bytes, generator_bytes, instrument_head_bytes, sample_head_bytes}
+use Rattle.hydra_records.specs.Spelling.{preset_head_bytes, bag_bytes, modulator_bytes, generator_bytes}
+use Rattle.hydra_records.specs.Spelling.{instrument_head_bytes, sample_head_bytes}
 use Rattle.bank_parts.specs.declared.counting.Records.{Records}
 use Rattle.bank_parts.specs.declared.parts.Parts.{Parts}
 use Rattle.bank_format.specs.Ids.{SFBK, INFO, SDTA, PDTA}

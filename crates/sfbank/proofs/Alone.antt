@@ -23,36 +23,47 @@ use Rattle.bank_listing.specs.Details.{detailed_listing}
 use Rattle.sfbank_program.specs.declared.run_fault.RunFault.{RunFault}
 use Rattle.sfbank_program.specs.declared.run_fault.RunFault.TheVariants as run
 use Rattle.sfbank_program.specs.declared.run_fault.Which.TheVariants.{Out}
-use Rattle.sfbank.specs.Outcome.{after_script, after_reading, bank_in, counts_in, outcome, canon_outcome, show_outcome, show_details_outcome, without_undo, IsEmptyEdit, IsFixed}
+use Rattle.sfbank.specs.Outcome.{after_script, after_reading, bank_in, counts_in, outcome, canon_outcome}
+use Rattle.sfbank.specs.Outcome.{show_outcome, show_details_outcome, without_undo, IsEmptyEdit, IsFixed}
 use Rattle.sfbank.specs.Written.{GoesOut, RunsAlone}
 use Rattle.sfbank_program.specs.RunFaults.{in_run}
 use Rattle.sfbank.proofs.Restores.{reading_done}
 
 -- ---- a file that can't be read
 
-pub not_read : (U : Type 0) (failure : Failure ReadFault) (known : Option (List ℕ)) (broken : Option ReadFault) (r : Result (List ℕ) RunFault) → Fails failure broken
+pub not_read : (U : Type 0) (failure : Failure ReadFault) (known : Option (List ℕ)) (broken : Option ReadFault)
+    (r : Result (List ℕ) RunFault)
+    → Fails failure broken
     → RunsAlone {U = U} known known (after_reading broken r) (Err (in_run run.Read failure))
 not_read U (failures.Fault fault) known broken r h = (ap (λ o. after_reading o r) h, Keeps-refl known)
 not_read U failures.OutOfMemory known broken r h = Keeps-refl known
 
-pub canon_not_read : (U : Type 0) (failure : Failure ReadFault) (known : Option (List ℕ)) (file : List ℕ) → Fails failure (fault_of file)
+pub canon_not_read : (U : Type 0) (failure : Failure ReadFault) (known : Option (List ℕ)) (file : List ℕ)
+    → Fails failure (fault_of file)
     → RunsAlone {U = U} known known (canon_outcome file) (Err (in_run run.Read failure))
 unfolding canon_outcome
 canon_not_read U failure known file h = not_read U failure known (fault_of file) (Ok (canon (bank_in file))) h
 
-pub show_not_read : (U : Type 0) (failure : Failure ReadFault) (known : Option (List ℕ)) (file : List ℕ) → Fails failure (fault_of file)
+pub show_not_read : (U : Type 0) (failure : Failure ReadFault) (known : Option (List ℕ)) (file : List ℕ)
+    → Fails failure (fault_of file)
     → RunsAlone {U = U} known known (show_outcome file) (Err (in_run run.Read failure))
 unfolding show_outcome
-show_not_read U failure known file h = not_read U failure known (fault_of file) (Ok (listing (bank_in file) (counts_in file))) h
+show_not_read U failure known file h =
+    not_read U failure known (fault_of file) (Ok (listing (bank_in file) (counts_in file))) h
 
-pub details_not_read : (U : Type 0) (failure : Failure ReadFault) (known : Option (List ℕ)) (details : Details) (file : List ℕ) → Fails failure (fault_of file)
+pub details_not_read : (U : Type 0) (failure : Failure ReadFault) (known : Option (List ℕ)) (details : Details)
+    (file : List ℕ)
+    → Fails failure (fault_of file)
     → RunsAlone {U = U} known known (show_details_outcome details file) (Err (in_run run.Read failure))
 unfolding show_details_outcome
-details_not_read U failure known details file h = not_read U failure known (fault_of file) (Ok (detailed_listing details (bank_in file) (counts_in file))) h
+details_not_read U failure known details file h =
+    not_read U failure known (fault_of file) (Ok (detailed_listing details (bank_in file) (counts_in file))) h
 
 -- ---- a text that goes out
 
-pub sent_text : {U : Type 0} (old new : Option (List ℕ)) (outcome : Result (List ℕ) RunFault) (text : List ℕ) (r : Result U RunFault) → outcome ≡ Ok text → GoesOut Out old new text r
+pub sent_text : {U : Type 0} (old new : Option (List ℕ)) (outcome : Result (List ℕ) RunFault) (text : List ℕ)
+    (r : Result U RunFault)
+    → outcome ≡ Ok text → GoesOut Out old new text r
     → RunsAlone old new outcome r
 sent_text old new outcome text (Ok u) e h = record { text = text; is_text = e; sends = h }
 sent_text old new outcome text (Err (run.Write which n)) e h = record { text = text; is_text = e; sends = h }
@@ -67,35 +78,48 @@ sent_text old new outcome text (Err (run.Recording fault)) e h = absurd h
 sent_text old new outcome text (Err (run.NoMember cause)) e h = absurd h
 sent_text old new outcome text (Err (run.Notes fault)) e h = absurd h
 
-pub canon_text : (file : List ℕ) (b : Parts) (counts : Counts) → ReadsAs file b counts → canon_outcome file ≡ Ok (canon b)
+pub canon_text : (file : List ℕ) (b : Parts) (counts : Counts) → ReadsAs file b counts
+    → canon_outcome file ≡ Ok (canon b)
 unfolding canon_outcome
 canon_text file b counts r =
     ap (λ (o : Option ReadFault). after_reading o (Ok (canon (bank_in file)))) r.0
     ∙ ap (λ (c : Content). Ok (canon c.bank)) r.1
 
-show_text : (file : List ℕ) (b : Parts) (counts : Counts) → ReadsAs file b counts → show_outcome file ≡ Ok (listing b counts)
+show_text : (file : List ℕ) (b : Parts) (counts : Counts) → ReadsAs file b counts
+    → show_outcome file ≡ Ok (listing b counts)
 unfolding show_outcome
 show_text file b counts r =
     ap (λ (o : Option ReadFault). after_reading o (Ok (listing (bank_in file) (counts_in file)))) r.0
     ∙ ap (λ (c : Content). Ok (listing c.bank c.counts)) r.1
 
-details_text : (details : Details) (file : List ℕ) (b : Parts) (counts : Counts) → ReadsAs file b counts → show_details_outcome details file ≡ Ok (detailed_listing details b counts)
+details_text : (details : Details) (file : List ℕ) (b : Parts) (counts : Counts) → ReadsAs file b counts
+    → show_details_outcome details file ≡ Ok (detailed_listing details b counts)
 unfolding show_details_outcome
 details_text details file b counts r =
     ap (λ (o : Option ReadFault). after_reading o (Ok (detailed_listing details (bank_in file) (counts_in file)))) r.0
     ∙ ap (λ (c : Content). Ok (detailed_listing details c.bank c.counts)) r.1
 
-pub details_run : {U : Type 0} (old new : Option (List ℕ)) (details : Details) (file : List ℕ) (b : Parts) (counts : Counts) (r : Result U RunFault) → ReadsAs file b counts → RunsAlone old new (Ok (detailed_listing details b counts)) r
+pub details_run : {U : Type 0} (old new : Option (List ℕ)) (details : Details) (file : List ℕ) (b : Parts)
+    (counts : Counts) (r : Result U RunFault)
+    → ReadsAs file b counts → RunsAlone old new (Ok (detailed_listing details b counts)) r
     → RunsAlone old new (show_details_outcome details file) r
-details_run old new details file b counts r reads h = subst (λ (o : Result (List ℕ) RunFault). RunsAlone old new o r) (sym (details_text details file b counts reads)) h
+details_run old new details file b counts r reads h =
+    subst (λ (o : Result (List ℕ) RunFault). RunsAlone old new o r) (sym (details_text details file b counts reads))
+    h
 
-pub canon_runs : {U : Type 0} (old new : Option (List ℕ)) (file : List ℕ) (b : Parts) (counts : Counts) (r : Result U RunFault) → ReadsAs file b counts → GoesOut Out old new (canon b) r
+pub canon_runs : {U : Type 0} (old new : Option (List ℕ)) (file : List ℕ) (b : Parts) (counts : Counts)
+    (r : Result U RunFault)
+    → ReadsAs file b counts → GoesOut Out old new (canon b) r
     → RunsAlone old new (canon_outcome file) r
-canon_runs old new file b counts r reads h = sent_text old new (canon_outcome file) (canon b) r (canon_text file b counts reads) h
+canon_runs old new file b counts r reads h =
+    sent_text old new (canon_outcome file) (canon b) r (canon_text file b counts reads) h
 
-pub show_runs : {U : Type 0} (old new : Option (List ℕ)) (file : List ℕ) (b : Parts) (counts : Counts) (r : Result U RunFault) → ReadsAs file b counts → GoesOut Out old new (listing b counts) r
+pub show_runs : {U : Type 0} (old new : Option (List ℕ)) (file : List ℕ) (b : Parts) (counts : Counts)
+    (r : Result U RunFault)
+    → ReadsAs file b counts → GoesOut Out old new (listing b counts) r
     → RunsAlone old new (show_outcome file) r
-show_runs old new file b counts r reads h = sent_text old new (show_outcome file) (listing b counts) r (show_text file b counts reads) h
+show_runs old new file b counts r reads h =
+    sent_text old new (show_outcome file) (listing b counts) r (show_text file b counts reads) h
 
 -- ---- laws of the canonical file
 
@@ -103,14 +127,18 @@ show_runs old new file b counts r reads h = sent_text old new (show_outcome file
 no_lines : script_of [] ≡ Ok []
 no_lines = printed_spell [] tt
 
-empty_after : (b : Parts) (o : Option ReadFault) → after_reading o (after_script b (Ok [])) ≡ without_undo (after_reading o (Ok (canon b)))
+empty_after : (b : Parts) (o : Option ReadFault)
+    → after_reading o (after_script b (Ok [])) ≡ without_undo (after_reading o (Ok (canon b)))
 empty_after b None = refl
 empty_after b (Some f) = refl
 
 pub empty_edit : (file : List ℕ) → IsEmptyEdit file
 unfolding outcome canon_outcome
 empty_edit file =
-    ap (λ (lines : Result (List Line) ScriptFault). after_reading (fault_of file) (after_script (bank_in file) lines)) no_lines
+    ap
+    (λ (lines : Result (List Line) ScriptFault).
+    after_reading (fault_of file) (after_script (bank_in file) lines))
+    no_lines
     ∙ empty_after (bank_in file) (fault_of file)
 
 pub fixed : (file : List ℕ) → AreBytes file → IsFixed file

@@ -27,7 +27,8 @@ use Rattle.sfbank_program.specs.declared.run_fault.RunFault.{RunFault}
 use Rattle.sfbank_program.specs.declared.run_fault.RunFault.TheVariants as run
 use Rattle.sfbank_program.specs.declared.run_fault.Which.TheVariants.{Out}
 use Rattle.sfbank_program.specs.RunFaults.{in_run}
-use Rattle.sfbank.specs.Outcome.{Done, edits_of, RefusedLine, first_refused, both_texts, unless_refused, after_script, after_reading, bank_in, outcome, canon_outcome, play_outcome}
+use Rattle.sfbank.specs.Outcome.{Done, edits_of, RefusedLine, first_refused, both_texts, unless_refused}
+use Rattle.sfbank.specs.Outcome.{after_script, after_reading, bank_in, outcome, canon_outcome, play_outcome}
 use Rattle.sfbank.specs.Written.{GoesOut, RunsAlone}
 use Rattle.sfbank.specs.BankScripts.{script_outcome, start_of, IsRemade, ScriptsTell, RemadeSounds}
 use Rattle.sfbank.proofs.Alone.{not_read, sent_text, canon_text}
@@ -36,20 +37,28 @@ use Rattle.sfbank.proofs.Sounds.{played_on_canon}
 
 -- ---- the run
 
-pub script_not_read : (U : Type 0) (points : SamplePoints) (failure : Failure ReadFault) (known : Option (List ℕ)) (file : List ℕ) → Fails failure (fault_of file)
+pub script_not_read : (U : Type 0) (points : SamplePoints) (failure : Failure ReadFault) (known : Option (List ℕ))
+    (file : List ℕ)
+    → Fails failure (fault_of file)
     → RunsAlone {U = U} known known (script_outcome points file) (Err (in_run run.Read failure))
 unfolding script_outcome
-script_not_read U points failure known file h = not_read U failure known (fault_of file) (Ok (bank_script points (bank_in file))) h
+script_not_read U points failure known file h =
+    not_read U failure known (fault_of file) (Ok (bank_script points (bank_in file))) h
 
-script_text : (points : SamplePoints) (file : List ℕ) (b : Parts) (counts : Counts) → ReadsAs file b counts → script_outcome points file ≡ Ok (bank_script points b)
+script_text : (points : SamplePoints) (file : List ℕ) (b : Parts) (counts : Counts) → ReadsAs file b counts
+    → script_outcome points file ≡ Ok (bank_script points b)
 unfolding script_outcome
 script_text points file b counts r =
     ap (λ (o : Option ReadFault). after_reading o (Ok (bank_script points (bank_in file)))) r.0
     ∙ ap (λ (c : Content). Ok (bank_script points c.bank)) r.1
 
-pub script_runs : {U : Type 0} (points : SamplePoints) (old new : Option (List ℕ)) (file : List ℕ) (b : Parts) (counts : Counts) (r : Result U RunFault)
-    → ReadsAs file b counts → GoesOut Out old new (bank_script points b) r → RunsAlone old new (script_outcome points file) r
-script_runs points old new file b counts r reads h = sent_text old new (script_outcome points file) (bank_script points b) r (script_text points file b counts reads) h
+pub script_runs : {U : Type 0} (points : SamplePoints) (old new : Option (List ℕ)) (file : List ℕ) (b : Parts)
+    (counts : Counts) (r : Result U RunFault)
+    → ReadsAs file b counts → GoesOut Out old new (bank_script points b) r
+    → RunsAlone old new (script_outcome points file) r
+script_runs points old new file b counts r reads h =
+    sent_text old new (script_outcome points file) (bank_script points b) r (script_text points file b counts reads)
+    h
 
 -- ---- a script that leads from one bank to another
 
@@ -63,16 +72,21 @@ led a text b s =
     let es = edits_of s.lines in
     ap (after_script a) s.read
     ∙ ap (λ (o : Option RefusedLine). unless_refused o (both_texts a es)) (lines_taken a s.lines s.leads.taken)
-    ∙ ap (λ (c : Parts). let r : Result Done RunFault = Ok (record { out = canon c; undo = texts_of (undo_list a es) }) in r) s.leads.given
+    ∙ ap
+    (λ (c : Parts). let r : Result Done RunFault =
+    Ok (record { out = canon c; undo = texts_of (undo_list a es) }) in r)
+    s.leads.given
 
 -- ---- laws
 
 pub sound_in : (file : List ℕ) → AreBytes file → fault_of file ≡ None → IsSound (bank_in file)
 sound_in file bytes read = record { valid = read_valid file bytes read; fits = read_fits file bytes }
 
-script_is : (file text : List ℕ) → script_outcome Kept file ≡ Ok text → (fault_of file ≡ None) × (bank_script Kept (bank_in file) ≡ text)
+script_is : (file text : List ℕ) → script_outcome Kept file ≡ Ok text
+    → (fault_of file ≡ None) × (bank_script Kept (bank_in file) ≡ text)
 unfolding script_outcome
-script_is file text h = let read = reading_done (fault_of file) (Ok (bank_script Kept (bank_in file))) text h in (read.0, cc)
+script_is file text h =
+    let read = reading_done (fault_of file) (Ok (bank_script Kept (bank_in file))) text h in (read.0, cc)
 
 pub remade : (file : List ℕ) → AreBytes file → IsRemade file
 remade file bytes text h =
@@ -81,7 +95,9 @@ remade file bytes text h =
     let sound = sound_in file bytes is.0 in
     let s = text_gives b sound in (
       texts_of (undo_list (empty b.minor) (edits_of s.lines)),
-      ap (outcome (start_of file)) (sym is.1) ∙ outcome_canon (empty b.minor) (bank_script Kept b) (sound_empty b sound) ∙ led (empty b.minor) (bank_script Kept b) b s,
+      ap (outcome (start_of file)) (sym is.1)
+          ∙ outcome_canon (empty b.minor) (bank_script Kept b) (sound_empty b sound)
+          ∙ led (empty b.minor) (bank_script Kept b) b s,
     )
 
 -- a bank is told by its canonical file
@@ -102,7 +118,8 @@ tells a b in_a in_b read_a read_b =
       (λ e. let same : bank_script Kept (bank_in a) ≡ bank_script Kept (bank_in b) = cc in
           canon_a ∙ ap (λ (c : Parts). Ok (canon c)) (text_tells (bank_in a) (bank_in b) s r same) ∙ sym canon_b),
       (λ e. let same : canon (bank_in a) ≡ canon (bank_in b) = cc in
-          script_a ∙ ap (λ (c : Parts). Ok (bank_script Kept c)) (told_by_canon (bank_in a) (bank_in b) s r same) ∙ sym script_b),
+          script_a ∙ ap (λ (c : Parts). Ok (bank_script Kept c)) (told_by_canon (bank_in a) (bank_in b) s r same)
+          ∙ sym script_b),
     )
 
 pub remade_sounds : RemadeSounds

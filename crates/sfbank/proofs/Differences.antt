@@ -1,5 +1,6 @@
 -- Scripts that make the bank of one file of the bank of another.
-use Rattle.std.proofs.Common.{◌≡◌, ◌==◌, ℕ, Bool, true, false, List, [], Option, Some, None, Result, Ok, Err, refl, sym, ap, subst, ◌∙◌, ◌≢◌}
+use Rattle.std.proofs.Common.{◌≡◌, ◌==◌, ℕ, Bool, true, false, List, [], Option, Some, None, Result, Ok, Err, refl}
+use Rattle.std.proofs.Common.{sym, ap, subst, ◌∙◌, ◌≢◌}
 use Rattle.std.proofs.lemmas.Bool.{eq-eqb, eqb-true, ne_eqb}
 use Rattle.std.proofs.KnownBytes.{Keeps-refl}
 use Rattle.std.specs.Io.KnownBytes.{Appends}
@@ -27,30 +28,38 @@ use Rattle.sfbank_program.specs.declared.run_fault.Which.TheVariants.{Out}
 use Rattle.sfbank_program.specs.RunFaults.{in_run}
 use Rattle.sfbank.specs.Outcome.{Done, edits_of, after_script, after_reading, bank_in, outcome}
 use Rattle.sfbank.specs.Written.{GoesOut}
-use Rattle.sfbank.specs.Differences.{Pair, after_second, if_same, of_one_version, banks_in, pair_of, IsDifference, SendsDifference, RunsDifference, WritesNothing, Pairs}
+use Rattle.sfbank.specs.Differences.{Pair, after_second, if_same, of_one_version, banks_in, pair_of, IsDifference}
+use Rattle.sfbank.specs.Differences.{SendsDifference, RunsDifference, WritesNothing, Pairs}
 use Rattle.sfbank.proofs.Restores.{reading_done, all_fit, edits_numbered, restores}
 use Rattle.sfbank.proofs.BankScripts.{sound_in, led}
 
 -- ---- reading both files
 
-pub first_not_read : (X : Type 0) (view : X → Pair) (failure : Failure ReadFault) (a b : List ℕ) → Fails failure (fault_of a)
+pub first_not_read : (X : Type 0) (view : X → Pair) (failure : Failure ReadFault) (a b : List ℕ)
+    → Fails failure (fault_of a)
     → Pairs view (pair_of a b) (Err (in_run run.Read failure))
 unfolding pair_of
-first_not_read X view (failures.Fault fault) a b h = ap (λ (o : Option ReadFault). after_reading o (after_second (fault_of b) (of_one_version (banks_in a b)))) h
+first_not_read X view (failures.Fault fault) a b h =
+    ap (λ (o : Option ReadFault). after_reading o (after_second (fault_of b) (of_one_version (banks_in a b)))) h
 first_not_read X view failures.OutOfMemory a b h = tt
 
 -- the first file is read
-pair_first : (a b : List ℕ) → fault_of a ≡ None → pair_of a b ≡ after_second (fault_of b) (of_one_version (banks_in a b))
+pair_first : (a b : List ℕ) → fault_of a ≡ None
+    → pair_of a b ≡ after_second (fault_of b) (of_one_version (banks_in a b))
 unfolding pair_of
-pair_first a b h = ap (λ (o : Option ReadFault). after_reading o (after_second (fault_of b) (of_one_version (banks_in a b)))) h
+pair_first a b h =
+    ap (λ (o : Option ReadFault). after_reading o (after_second (fault_of b) (of_one_version (banks_in a b)))) h
 
-pub second_not_read : (X : Type 0) (view : X → Pair) (failure : Failure ReadFault) (a b : List ℕ) → fault_of a ≡ None → Fails failure (fault_of b)
+pub second_not_read : (X : Type 0) (view : X → Pair) (failure : Failure ReadFault) (a b : List ℕ) → fault_of a ≡ None
+    → Fails failure (fault_of b)
     → Pairs view (pair_of a b) (Err (in_run run.ReadSecond failure))
-second_not_read X view (failures.Fault fault) a b r h = pair_first a b r ∙ ap (λ (o : Option ReadFault). after_second o (of_one_version (banks_in a b))) h
+second_not_read X view (failures.Fault fault) a b r h =
+    pair_first a b r ∙ ap (λ (o : Option ReadFault). after_second o (of_one_version (banks_in a b))) h
 second_not_read X view failures.OutOfMemory a b r h = tt
 
 -- both files are read
-pub pair_read : (a b : List ℕ) (x y : Parts) (c d : Counts) → ReadsAs a x c → ReadsAs b y d → pair_of a b ≡ of_one_version (record { first = x; second = y })
+pub pair_read : (a b : List ℕ) (x y : Parts) (c d : Counts) → ReadsAs a x c → ReadsAs b y d
+    → pair_of a b ≡ of_one_version (record { first = x; second = y })
 pair_read a b x y c d r s =
     pair_first a b r.0
     ∙ ap (λ (o : Option ReadFault). after_second o (of_one_version (banks_in a b))) s.0
@@ -68,7 +77,8 @@ record BothRead (a b : List ℕ) (p : Pair) : Type 0 where
   minors : (bank_in a).minor ≡ (bank_in b).minor
   banks : banks_in a b ≡ p
 
-second_done : (o : Option ReadFault) (r : Result Pair RunFault) (p : Pair) → after_second o r ≡ Ok p → (o ≡ None) × (r ≡ Ok p)
+second_done : (o : Option ReadFault) (r : Result Pair RunFault) (p : Pair) → after_second o r ≡ Ok p
+    → (o ≡ None) × (r ≡ Ok p)
 second_done None r p h = (refl, h)
 second_done (Some f) r p h = absurd cc
 
@@ -82,18 +92,34 @@ both_read a b p h =
     let first = reading_done (fault_of a) (after_second (fault_of b) (of_one_version (banks_in a b))) p h in
     let second = second_done (fault_of b) (of_one_version (banks_in a b)) p first.1 in
     let same = same_done ((bank_in a).minor == (bank_in b).minor) (banks_in a b) p second.1 in
-    record { first = first.0; second = second.0; minors = eqb-true (bank_in a).minor (bank_in b).minor same.0; banks = same.1 }
+    record {
+      first =
+          first.0;
+      second = second.0;
+      minors = eqb-true (bank_in a).minor (bank_in b).minor same.0;
+      banks = same.1;
+    }
 
 -- ---- a script that leads from the one to the other
 
-is_difference : (a b text : List ℕ) → AreBytes a → fault_of a ≡ None → IsScript (bank_in a) text (bank_in b) → IsDifference a b text
+is_difference : (a b text : List ℕ) → AreBytes a → fault_of a ≡ None → IsScript (bank_in a) text (bank_in b)
+    → IsDifference a b text
 unfolding outcome
 is_difference a b text bytes read s =
     let x = bank_in a in
     let undo = texts_of (undo_list x (edits_of s.lines)) in
     let done : Done = record { out = canon (bank_in b); undo = undo } in
-    let leads : outcome a text ≡ Ok done = ap (λ (o : Option ReadFault). after_reading o (after_script x (script_of text))) read ∙ led x text (bank_in b) s in
-    record { undo = undo; again = texts_of (edits_of s.lines); leads = leads; returns = restores a text bytes done s.lines leads s.read }
+    let leads : outcome a text ≡ Ok done =
+    ap (λ (o : Option ReadFault). after_reading o (after_script x (script_of text))) read
+    ∙ led x text (bank_in b) s in
+    record {
+      undo =
+          undo;
+      again =
+          texts_of (edits_of s.lines);
+      leads = leads;
+      returns = restores a text bytes done s.lines leads s.read;
+    }
 
 -- edits, as they are printed
 pub printed_leads : (p : Pair) (es : List Edit) → Leads p.first es p.second → IsScript p.first (texts_of es) p.second
@@ -103,7 +129,8 @@ printed_leads p es h = record {
   leads = subst (λ (xs : List Edit). Leads p.first xs p.second) (sym (edits_numbered 1 es)) h;
 }
 
-pub replacement_is : (a b : List ℕ) (p : Pair) → AreBytes a → AreBytes b → pair_of a b ≡ Ok p → IsScript p.first (texts_of (edits_between p.first p.second)) p.second
+pub replacement_is : (a b : List ℕ) (p : Pair) → AreBytes a → AreBytes b → pair_of a b ≡ Ok p
+    → IsScript p.first (texts_of (edits_between p.first p.second)) p.second
 replacement_is a b p in_a in_b h =
     let r = both_read a b p h in
     let whole = replaces (bank_in a) (bank_in b) (sound_in a in_a r.first) (sound_in b in_b r.second) r.minors in
@@ -111,17 +138,27 @@ replacement_is a b p in_a in_b h =
 
 -- ---- how the run ends
 
-sent : {U : Type 0} (old new : Option (List ℕ)) (a b : List ℕ) (p : Pair) (text : List ℕ) (r : Result U RunFault) → AreBytes a → pair_of a b ≡ Ok p
+sent : {U : Type 0} (old new : Option (List ℕ)) (a b : List ℕ) (p : Pair) (text : List ℕ) (r : Result U RunFault)
+    → AreBytes a → pair_of a b ≡ Ok p
     → IsScript p.first text p.second → GoesOut Out old new text r → SendsDifference old new a b r
 sent old new a b p text r bytes h s g =
     let d = both_read a b p h in
     let script = subst (λ (q : Pair). IsScript q.first text q.second) (sym d.banks) s in
-    record { is_pair = h ∙ ap Ok (sym d.banks); text = text; differs = is_difference a b text bytes d.first script; sends = g }
+    record {
+      is_pair =
+          h ∙ ap Ok (sym d.banks);
+      text = text;
+      differs = is_difference a b text bytes d.first script;
+      sends = g;
+    }
 
-pub sends_difference : {U : Type 0} (old new : Option (List ℕ)) (a b : List ℕ) (p : Pair) (text : List ℕ) (r : Result U RunFault) → AreBytes a → pair_of a b ≡ Ok p
+pub sends_difference : {U : Type 0} (old new : Option (List ℕ)) (a b : List ℕ) (p : Pair) (text : List ℕ)
+    (r : Result U RunFault)
+    → AreBytes a → pair_of a b ≡ Ok p
     → IsScript p.first text p.second → GoesOut Out old new text r → RunsDifference old new a b r
 sends_difference old new a b p text (Ok u) bytes h s g = sent old new a b p text (Ok u) bytes h s g
-sends_difference old new a b p text (Err (run.Write which n)) bytes h s g = sent {U = Unit {0}} old new a b p text (Err (run.Write which n)) bytes h s g
+sends_difference old new a b p text (Err (run.Write which n)) bytes h s g =
+    sent {U = Unit {0}} old new a b p text (Err (run.Write which n)) bytes h s g
 sends_difference old new a b p text (Err run.Memory) bytes h s g = absurd g
 sends_difference old new a b p text (Err run.OtherVersion) bytes h s g = absurd g
 sends_difference old new a b p text (Err (run.Recording fault)) bytes h s g = absurd g
@@ -134,7 +171,9 @@ sends_difference old new a b p text (Err (run.NotNeutral number)) bytes h s g = 
 sends_difference old new a b p text (Err (run.Notes fault)) bytes h s g = absurd g
 
 -- banks that are one have no edits between them
-pub writes_nothing : {U : Type 0} (old new : Option (List ℕ)) (a b : List ℕ) (p : Pair) (es : List Edit) (r : Result U RunFault) → pair_of a b ≡ Ok p
+pub writes_nothing : {U : Type 0} (old new : Option (List ℕ)) (a b : List ℕ) (p : Pair) (es : List Edit)
+    (r : Result U RunFault)
+    → pair_of a b ≡ Ok p
     → (p.first ≡ p.second → es ≡ []) → GoesOut Out old new (texts_of es) r → WritesNothing old new a b r
 writes_nothing old new a b p es (Ok u) h none g = λ e.
     let banks = (both_read a b p h).banks in
@@ -143,6 +182,8 @@ writes_nothing old new a b p es (Ok u) h none g = λ e.
 writes_nothing old new a b p es (Err fault) h none g = tt
 
 -- out of memory, before a byte went out
-pub ends_in_memory : {U : Type 0} (known : Option (List ℕ)) (a b : List ℕ) (r : Result U RunFault) → IsErrAnd r (λ fault. fault ≡ run.Memory) → RunsDifference known known a b r
+pub ends_in_memory : {U : Type 0} (known : Option (List ℕ)) (a b : List ℕ) (r : Result U RunFault)
+    → IsErrAnd r (λ fault. fault ≡ run.Memory) → RunsDifference known known a b r
 ends_in_memory known a b (Ok u) h = absurd h
-ends_in_memory {U} known a b (Err fault) h = subst (λ fault. RunsDifference {U = U} known known a b (Err fault)) (sym h) (Keeps-refl known)
+ends_in_memory {U} known a b (Err fault) h =
+    subst (λ fault. RunsDifference {U = U} known known a b (Err fault)) (sym h) (Keeps-refl known)

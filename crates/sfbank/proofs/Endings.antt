@@ -8,7 +8,8 @@ use Rattle.sfbank.specs.Outcome.{Done}
 use Rattle.sfbank.specs.Written.{Writers, Delivers, Runs, FailsBefore}
 
 -- no writer was asked
-pub ends_early : (U : Type 0) (out undo : Option (List ℕ)) (outcome : Result Done RunFault) (fault : RunFault) → FailsBefore fault outcome
+pub ends_early : (U : Type 0) (out undo : Option (List ℕ)) (outcome : Result Done RunFault) (fault : RunFault)
+    → FailsBefore fault outcome
     → Runs {U = U} (record { out = out; out_new = out; undo = undo; undo_new = undo }) outcome (Err fault)
 ends_early U out undo outcome (run.Read fault) h = (h, (Keeps-refl out, Keeps-refl undo))
 ends_early U out undo outcome (run.ReadSecond fault) h = (h, (Keeps-refl out, Keeps-refl undo))
@@ -23,7 +24,8 @@ ends_early U out undo outcome run.Memory h = (Keeps-refl out, Keeps-refl undo)
 ends_early U out undo outcome (run.Write which n) h = absurd h
 
 -- the texts were delivered
-pub ends_with : {U : Type 0} (w : Writers) (outcome : Result Done RunFault) (done : Done) (r : Result U RunFault) → outcome ≡ Ok done → Delivers w done r → Runs w outcome r
+pub ends_with : {U : Type 0} (w : Writers) (outcome : Result Done RunFault) (done : Done) (r : Result U RunFault)
+    → outcome ≡ Ok done → Delivers w done r → Runs w outcome r
 ends_with w outcome done (Ok u) e d = record { done = done; is_done = e; delivers = d }
 ends_with w outcome done (Err (run.Write Out n)) e d = record { done = done; is_done = e; delivers = d }
 ends_with w outcome done (Err (run.Write Undo n)) e d = record { done = done; is_done = e; delivers = d }

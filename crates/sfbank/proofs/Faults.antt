@@ -18,7 +18,9 @@ use Rattle.edit_script.specs.Script.{script_of}
 use Rattle.edit_script.specs.Printing.{texts_of}
 use Rattle.sfbank_program.specs.declared.run_fault.RunFault.{RunFault}
 use Rattle.sfbank_program.specs.declared.run_fault.RunFault.TheVariants as run
-use Rattle.sfbank.specs.Outcome.{Done, edits_of, RefusedLine, first_refused, both_texts, unless_refused, first_not_neutral, if_neutral, after_script, after_neutral_script, after_reading, bank_in, outcome}
+use Rattle.sfbank.specs.Outcome.{Done, edits_of, RefusedLine, first_refused, both_texts, unless_refused}
+use Rattle.sfbank.specs.Outcome.{first_not_neutral, if_neutral, after_script, after_neutral_script, after_reading}
+use Rattle.sfbank.specs.Outcome.{bank_in, outcome}
 use Rattle.sfbank.specs.Written.{FailsBefore}
 use Rattle.sfbank.specs.Planned.{AllApplied, AllOf, StopsAtLine, first_other, after_lines, outcome_of}
 use Rattle.command_words.specs.declared.words.Forms.{Forms}
@@ -28,13 +30,16 @@ use Rattle.sfbank_program.specs.RunFaults.{in_run}
 -- ---- the file's fault
 
 -- whatever comes of the bank
-at_file : {X : Type 0} (failure : Failure ReadFault) (broken : Option ReadFault) (r : Result X RunFault) → reading.Fails failure broken → FailsBefore (in_run run.Read failure) (after_reading broken r)
+at_file : {X : Type 0} (failure : Failure ReadFault) (broken : Option ReadFault) (r : Result X RunFault)
+    → reading.Fails failure broken → FailsBefore (in_run run.Read failure) (after_reading broken r)
 at_file (failures.Fault fault) broken r h = ap (λ o. after_reading o r) h
 at_file failures.OutOfMemory broken r h = tt
 
-pub at_read : (forms : Forms) (file script : List ℕ) (failure : Failure ReadFault) → reading.Fails failure (fault_of file)
+pub at_read : (forms : Forms) (file script : List ℕ) (failure : Failure ReadFault)
+    → reading.Fails failure (fault_of file)
     → FailsBefore (in_run run.Read failure) (outcome_of forms file script)
-at_read forms file script failure h = at_file failure (fault_of file) (after_lines forms (bank_in file) (script_of script)) h
+at_read forms file script failure h =
+    at_file failure (fault_of file) (after_lines forms (bank_in file) (script_of script)) h
 
 -- ---- a file that reads as a bank
 
@@ -47,12 +52,14 @@ at_bank forms file script b counts r =
 
 -- ---- the script's fault
 
-pub pool_fails : (script : List ℕ) (failure : Failure ScriptFault) → scripts.Fails failure (pool_bytes script) → scripts.Fails failure (script_of script)
+pub pool_fails : (script : List ℕ) (failure : Failure ScriptFault) → scripts.Fails failure (pool_bytes script)
+    → scripts.Fails failure (script_of script)
 unfolding script_of
 pool_fails script (failures.Fault fault) h = rw h refl
 pool_fails script failures.OutOfMemory h = tt
 
-pub at_script : (forms : Forms) (b : Parts) (script : List ℕ) (failure : Failure ScriptFault) → scripts.Fails failure (script_of script)
+pub at_script : (forms : Forms) (b : Parts) (script : List ℕ) (failure : Failure ScriptFault)
+    → scripts.Fails failure (script_of script)
     → FailsBefore (in_run run.Script failure) (after_lines forms b (script_of script))
 at_script Every b script (failures.Fault fault) h = ap (after_script b) h
 at_script Neutral b script (failures.Fault fault) h = ap (after_neutral_script b) h
@@ -60,21 +67,26 @@ at_script forms b script failures.OutOfMemory h = tt
 
 -- ---- a script that spells lines
 
-of_these : (forms : Forms) (b : Parts) (lines : List Line) → first_other forms lines ≡ None → after_lines forms b (Ok lines) ≡ after_script b (Ok lines)
+of_these : (forms : Forms) (b : Parts) (lines : List Line) → first_other forms lines ≡ None
+    → after_lines forms b (Ok lines) ≡ after_script b (Ok lines)
 of_these Every b lines h = refl
 of_these Neutral b lines h = ap (λ (o : Option ℕ). if_neutral o (after_script b (Ok lines))) h
 
 -- a script that spells lines of these forms
-pub at_these : (forms : Forms) (b : Parts) (script : List ℕ) (lines seen : List Line) → script_of script ≡ Ok lines → seen ≡ lines → first_other forms seen ≡ None
+pub at_these : (forms : Forms) (b : Parts) (script : List ℕ) (lines seen : List Line) → script_of script ≡ Ok lines
+    → seen ≡ lines → first_other forms seen ≡ None
     → after_lines forms b (script_of script) ≡ after_script b (script_of script)
 at_these forms b script lines seen e s h =
-    ap (after_lines forms b) e ∙ of_these forms b lines (ap (first_other forms) (sym s) ∙ h) ∙ sym (ap (after_script b) e)
+    ap (after_lines forms b) e ∙ of_these forms b lines (ap (first_other forms) (sym s) ∙ h)
+    ∙ sym (ap (after_script b) e)
 
 -- one whose first line of another form is a fault
-pub at_other : (U : Type 0) (forms : Forms) (b : Parts) (script : List ℕ) (lines seen : List Line) (fault : RunFault) → script_of script ≡ Ok lines → seen ≡ lines
+pub at_other : (U : Type 0) (forms : Forms) (b : Parts) (script : List ℕ) (lines seen : List Line) (fault : RunFault)
+    → script_of script ≡ Ok lines → seen ≡ lines
     → AllOf {U = U} (first_other forms seen) (Err fault) → FailsBefore fault (after_lines forms b (script_of script))
 at_other U Neutral b script lines seen (run.NotNeutral number) e s h =
-    ap (after_neutral_script b) e ∙ ap (λ (o : Option ℕ). if_neutral o (after_script b (Ok lines))) (ap first_not_neutral (sym s) ∙ h)
+    ap (after_neutral_script b) e
+    ∙ ap (λ (o : Option ℕ). if_neutral o (after_script b (Ok lines))) (ap first_not_neutral (sym s) ∙ h)
 at_other U Every b script lines seen (run.NotNeutral number) e s h = absurd cc
 at_other U forms b script lines seen (run.Refused number why) e s h = absurd h
 at_other U forms b script lines seen run.Memory e s h = tt
@@ -88,8 +100,10 @@ at_other U forms b script lines seen (run.NoMember cause) e s h = absurd h
 at_other U forms b script lines seen (run.Write which n) e s h = h
 
 -- lines of which one is refused, or that run out of memory
-pub stops_at : (b : Parts) (lines : List Line) (fault : RunFault) → StopsAtLine fault (first_refused b lines) → FailsBefore fault (after_script b (Ok lines))
-stops_at b lines (run.Refused number why) h = ap (λ (o : Option RefusedLine). unless_refused o (both_texts b (edits_of lines))) h
+pub stops_at : (b : Parts) (lines : List Line) (fault : RunFault) → StopsAtLine fault (first_refused b lines)
+    → FailsBefore fault (after_script b (Ok lines))
+stops_at b lines (run.Refused number why) h =
+    ap (λ (o : Option RefusedLine). unless_refused o (both_texts b (edits_of lines))) h
 stops_at b lines run.Memory h = tt
 stops_at b lines (run.Read fault) h = absurd h
 stops_at b lines (run.ReadSecond fault) h = absurd h
@@ -109,7 +123,8 @@ abbrev texts : Parts → List Edit → Done
 texts b undo = record { out = canon b; undo = texts_of undo }
 
 -- lines that were applied
-pub applied_done : (b new : Parts) (lines : List Line) (undo : List Edit) → AllApplied b new lines undo → after_script b (Ok lines) ≡ Ok (texts new undo)
+pub applied_done : (b new : Parts) (lines : List Line) (undo : List Edit) → AllApplied b new lines undo
+    → after_script b (Ok lines) ≡ Ok (texts new undo)
 applied_done b new lines undo a =
     ap (λ (o : Option RefusedLine). unless_refused o (both_texts b (edits_of lines))) a.accepted
     ∙ sym (λ i. Ok (texts (a.changed i) (a.taken_back i)))

@@ -19,23 +19,36 @@ use Rattle.sfbank.specs.Written.{GoesOut, RunsAlone}
 use Rattle.sfbank.specs.Maps.{has_owner, missing, if_there, map_outcome}
 use Rattle.sfbank.proofs.Alone.{not_read, sent_text}
 
-pub map_not_read : (U : Type 0) (failure : Failure ReadFault) (known : Option (List ℕ)) (file : List ℕ) (o : Owner) → Fails failure (fault_of file)
+pub map_not_read : (U : Type 0) (failure : Failure ReadFault) (known : Option (List ℕ)) (file : List ℕ) (o : Owner)
+    → Fails failure (fault_of file)
     → RunsAlone {U = U} known known (map_outcome file o) (Err (in_run run.Read failure))
 unfolding map_outcome
-map_not_read U failure known file o h = not_read U failure known (fault_of file) (if_there (has_owner (bank_in file) o) o (picture (bank_in file) o)) h
+map_not_read U failure known file o h =
+    not_read U failure known (fault_of file) (if_there (has_owner (bank_in file) o) o (picture (bank_in file) o)) h
 
 -- what a file that is read comes to
-map_read : (file : List ℕ) (o : Owner) (b : Parts) (counts : Counts) (there : Bool) → ReadsAs file b counts → there ≡ has_owner b o → map_outcome file o ≡ if_there there o (picture b o)
+map_read : (file : List ℕ) (o : Owner) (b : Parts) (counts : Counts) (there : Bool) → ReadsAs file b counts
+    → there ≡ has_owner b o → map_outcome file o ≡ if_there there o (picture b o)
 unfolding map_outcome
 map_read file o b counts there r e =
-    ap (λ (f : Option ReadFault). after_reading f (if_there (has_owner (bank_in file) o) o (picture (bank_in file) o))) r.0
+    ap
+    (λ (f : Option ReadFault).
+    after_reading f (if_there (has_owner (bank_in file) o) o (picture (bank_in file) o)))
+    r.0
     ∙ ap (λ (c : Content). if_there (has_owner c.bank o) o (picture c.bank o)) r.1
     ∙ (rw e refl)
 
-pub map_missing : (U : Type 0) (known : Option (List ℕ)) (file : List ℕ) (o : Owner) (b : Parts) (counts : Counts) (there : Bool) → ReadsAs file b counts → there ≡ has_owner b o → there ≡ false
+pub map_missing : (U : Type 0) (known : Option (List ℕ)) (file : List ℕ) (o : Owner) (b : Parts) (counts : Counts)
+    (there : Bool)
+    → ReadsAs file b counts → there ≡ has_owner b o → there ≡ false
     → RunsAlone {U = U} known known (map_outcome file o) (Err (run.NoMember (missing o)))
-map_missing U known file o b counts there r e f = (map_read file o b counts there r e ∙ ap (λ t. if_there t o (picture b o)) f, Keeps-refl known)
+map_missing U known file o b counts there r e f =
+    (map_read file o b counts there r e ∙ ap (λ t. if_there t o (picture b o)) f, Keeps-refl known)
 
-pub map_runs : {U : Type 0} (old new : Option (List ℕ)) (file : List ℕ) (o : Owner) (b : Parts) (counts : Counts) (there : Bool) (r : Result U RunFault) → ReadsAs file b counts → there ≡ has_owner b o → there ≡ true
+pub map_runs : {U : Type 0} (old new : Option (List ℕ)) (file : List ℕ) (o : Owner) (b : Parts) (counts : Counts)
+    (there : Bool) (r : Result U RunFault)
+    → ReadsAs file b counts → there ≡ has_owner b o → there ≡ true
     → GoesOut Out old new (picture b o) r → RunsAlone old new (map_outcome file o) r
-map_runs old new file o b counts there r reads e t h = sent_text old new (map_outcome file o) (picture b o) r (map_read file o b counts there reads e ∙ ap (λ t. if_there t o (picture b o)) t) h
+map_runs old new file o b counts there r reads e t h =
+    sent_text old new (map_outcome file o) (picture b o) r
+    (map_read file o b counts there reads e ∙ ap (λ t. if_there t o (picture b o)) t) h

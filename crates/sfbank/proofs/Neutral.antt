@@ -1,5 +1,6 @@
 -- Runs of neutral edits.
-use Rattle.std.proofs.Common.{◌≡◌, ℕ, Bool, true, false, List, [], ◌∷◌, Option, Some, None, Result, Ok, Err, refl, sym, ap, ◌∙◌}
+use Rattle.std.proofs.Common.{◌≡◌, ℕ, Bool, true, false, List, [], ◌∷◌, Option, Some, None, Result, Ok, Err, refl}
+use Rattle.std.proofs.Common.{sym, ap, ◌∙◌}
 use Rattle.bank_parts.specs.declared.parts.Parts.{Parts}
 use Rattle.bank_parts.specs.Sound.{IsSound}
 use Rattle.hydra_records.specs.Records.{AreBytes}
@@ -23,7 +24,9 @@ use Rattle.neutral_edits.specs.Neutral.{is_neutral}
 use Rattle.neutral_edits.proofs.EventLaws.{neutral_render}
 use Rattle.wave_file.specs.Wave.{wave}
 use Rattle.command_words.specs.declared.words.Forms.TheVariants.{Every, Neutral}
-use Rattle.sfbank.specs.Outcome.{Done, edits_of, unless_neutral, first_not_neutral, if_neutral, after_script, after_neutral_script, after_reading, bank_in, outcome, neutral_outcome, after_notes, play_outcome, IsNeutrallyUndone, SoundsTheSame}
+use Rattle.sfbank.specs.Outcome.{Done, edits_of, unless_neutral, first_not_neutral, if_neutral, after_script}
+use Rattle.sfbank.specs.Outcome.{after_neutral_script, after_reading, bank_in, outcome, neutral_outcome, after_notes}
+use Rattle.sfbank.specs.Outcome.{play_outcome, IsNeutrallyUndone, SoundsTheSame}
 use Rattle.sfbank.specs.Planned.{outcome_of}
 use Rattle.sfbank.proofs.Restores.{reading_done, all_taken, script_done, restores}
 use Rattle.sfbank.proofs.Sounds.{played_on}
@@ -46,11 +49,13 @@ record NeutralScript (b : Parts) (said : Result (List Line) ScriptFault) (done :
   neutral : first_not_neutral lines ≡ None
   comes_to : after_script b said ≡ Ok done
 
-neutral_script : (b : Parts) (said : Result (List Line) ScriptFault) (done : Done) → after_neutral_script b said ≡ Ok done → NeutralScript b said done
+neutral_script : (b : Parts) (said : Result (List Line) ScriptFault) (done : Done)
+    → after_neutral_script b said ≡ Ok done → NeutralScript b said done
 neutral_script b (Err f) done h = absurd cc
 neutral_script b (Ok lines) done h = by_what (first_not_neutral lines) refl h
   where
-    by_what : (o : Option ℕ) → first_not_neutral lines ≡ o → if_neutral o (after_script b (Ok lines)) ≡ Ok done → NeutralScript b (Ok lines) done
+    by_what : (o : Option ℕ) → first_not_neutral lines ≡ o → if_neutral o (after_script b (Ok lines)) ≡ Ok done
+        → NeutralScript b (Ok lines) done
     by_what None e h = record { lines = lines; spelled = refl; neutral = e; comes_to = h }
     by_what (Some number) e h = absurd cc
 
@@ -58,7 +63,8 @@ record NeutralDone (file script : List ℕ) (done : Done) : Type 0 where
   read : fault_of file ≡ None
   of_script : NeutralScript (bank_in file) (script_of script) done
 
-neutral_done : (file script : List ℕ) (done : Done) → neutral_outcome file script ≡ Ok done → NeutralDone file script done
+neutral_done : (file script : List ℕ) (done : Done) → neutral_outcome file script ≡ Ok done
+    → NeutralDone file script done
 unfolding neutral_outcome
 neutral_done file script done h =
     let read = reading_done (fault_of file) (after_neutral_script (bank_in file) (script_of script)) done h in
@@ -69,14 +75,17 @@ as_every : (file script : List ℕ) (done : Done) → neutral_outcome file scrip
 unfolding outcome
 as_every file script done h =
     let d = neutral_done file script done h in
-    ap (λ (o : Option ReadFault). after_reading o (after_script (bank_in file) (script_of script))) d.read ∙ d.of_script.comes_to
+    ap (λ (o : Option ReadFault). after_reading o (after_script (bank_in file) (script_of script))) d.read
+    ∙ d.of_script.comes_to
 
 pub neutrally_restores : (file script : List ℕ) → AreBytes file → IsNeutrallyUndone file script
-neutrally_restores file script bytes done lines h spelled = restores file script bytes done lines (as_every file script done h) spelled
+neutrally_restores file script bytes done lines h spelled =
+    restores file script bytes done lines (as_every file script done h) spelled
 
 -- ---- the sound
 
-or_neutral : (x : Bool) (number : ℕ) (later : Option ℕ) → unless_neutral x number later ≡ None → (x ≡ true) × (later ≡ None)
+or_neutral : (x : Bool) (number : ℕ) (later : Option ℕ) → unless_neutral x number later ≡ None
+    → (x ≡ true) × (later ≡ None)
 or_neutral true number later h = (refl, h)
 or_neutral false number later h = absurd cc
 
@@ -86,9 +95,11 @@ render_same : (b : Parts) (lines : List Line) → IsSound b → AllTaken b (edit
 render_same b [] sound taken neutral ns = refl
 render_same b (l ∷ lines) sound taken neutral ns =
     let both = or_neutral (is_neutral l.edit) l.number (first_not_neutral lines) neutral in
-    render_same (raw b l.edit) lines (undone b l.edit sound taken.0).sound taken.1 both.1 ns ∙ neutral_render b l.edit sound taken.0 both.0 ns
+    render_same (raw b l.edit) lines (undone b l.edit sound taken.0).sound taken.1 both.1 ns
+    ∙ neutral_render b l.edit sound taken.0 both.0 ns
 
-played_same : (b end : Parts) (said : Result (List Numbers) NoteFault) → ((ns : List Numbers) → render end ns ≡ render b ns) → after_notes end said ≡ after_notes b said
+played_same : (b end : Parts) (said : Result (List Numbers) NoteFault)
+    → ((ns : List Numbers) → render end ns ≡ render b ns) → after_notes end said ≡ after_notes b said
 played_same b end (Ok ns) h = ap (λ xs. Ok (wave xs)) (h ns)
 played_same b end (Err fault) h = refl
 

@@ -1,5 +1,6 @@
 -- Runs that write a sample as a WAVE file, and those that import one.
-use Rattle.std.proofs.Common.{◌≡◌, ◌≤◌, ◌<◌, ℕ, suc, List, [], ◌∷◌, length, Option, Some, None, Result, Ok, Err, refl, sym, ap, ◌∙◌, arith}
+use Rattle.std.proofs.Common.{◌≡◌, ◌≤◌, ◌<◌, ℕ, suc, List, [], ◌∷◌, length, Option, Some, None, Result, Ok, Err}
+use Rattle.std.proofs.Common.{refl, sym, ap, ◌∙◌, arith}
 use Rattle.std.specs.Prelude.{slice_get}
 use Rattle.std.proofs.KnownBytes.{Keeps-refl}
 use Rattle.sf_base.specs.declared.limits.TheConstants.{SAMPLES, POINTS}
@@ -35,57 +36,75 @@ use Rattle.sfbank_program.specs.declared.run_fault.RunFault.TheVariants as run
 use Rattle.sfbank_program.specs.declared.run_fault.Which.TheVariants.{Out}
 use Rattle.sfbank_program.specs.RunFaults.{in_run}
 use Rattle.sfbank.specs.Outcome.{Done, edits_of, after_script, after_reading, bank_in, outcome}
-use Rattle.sfbank.specs.Recordings.{wave_of, wave_outcome, edits_into, after_recording, import_outcome, IsScripted, IsImportUndone}
+use Rattle.sfbank.specs.Recordings.{wave_of, wave_outcome, edits_into, after_recording, import_outcome, IsScripted}
+use Rattle.sfbank.specs.Recordings.{IsImportUndone}
 use Rattle.sfbank.specs.Written.{GoesOut, RunsAlone, FailsBefore}
 use Rattle.sfbank.proofs.Alone.{not_read, sent_text}
 use Rattle.sfbank.proofs.Restores.{restores, edits_numbered}
 
 -- ---- a sample as a WAVE file
 
-pub wave_not_read : (U : Type 0) (failure : Failure ReadFault) (known : Option (List ℕ)) (file : List ℕ) (number : ℕ) → Fails failure (fault_of file)
+pub wave_not_read : (U : Type 0) (failure : Failure ReadFault) (known : Option (List ℕ)) (file : List ℕ) (number : ℕ)
+    → Fails failure (fault_of file)
     → RunsAlone {U = U} known known (wave_outcome file number) (Err (in_run run.Read failure))
 unfolding wave_outcome
-wave_not_read U failure known file number h = not_read U failure known (fault_of file) (wave_of (slice_get (bank_in file).samples number)) h
+wave_not_read U failure known file number h =
+    not_read U failure known (fault_of file) (wave_of (slice_get (bank_in file).samples number)) h
 
 -- what comes of the bytes comes of their bank
-wave_on : (file : List ℕ) (number : ℕ) (b : Parts) (counts : Counts) → ReadsAs file b counts → wave_outcome file number ≡ wave_of (slice_get b.samples number)
+wave_on : (file : List ℕ) (number : ℕ) (b : Parts) (counts : Counts) → ReadsAs file b counts
+    → wave_outcome file number ≡ wave_of (slice_get b.samples number)
 unfolding wave_outcome
 wave_on file number b counts r =
     ap (λ (o : Option ReadFault). after_reading o (wave_of (slice_get (bank_in file).samples number))) r.0
     ∙ ap (λ (c : Content). wave_of (slice_get c.bank.samples number)) r.1
 
-pub no_sample : (U : Type 0) (known : Option (List ℕ)) (file : List ℕ) (number : ℕ) (b : Parts) (counts : Counts) → ReadsAs file b counts → None ≡ slice_get b.samples number
+pub no_sample : (U : Type 0) (known : Option (List ℕ)) (file : List ℕ) (number : ℕ) (b : Parts) (counts : Counts)
+    → ReadsAs file b counts → None ≡ slice_get b.samples number
     → RunsAlone {U = U} known known (wave_outcome file number) (Err (run.NoMember NoSuchSample))
 no_sample U known file number b counts r h = (wave_on file number b counts r ∙ ap wave_of (sym h), Keeps-refl known)
 
-pub wave_runs : {U : Type 0} (old new : Option (List ℕ)) (file : List ℕ) (number : ℕ) (b : Parts) (counts : Counts) (s : Sample) (r : Result U RunFault) → ReadsAs file b counts
-    → Some s ≡ slice_get b.samples number → GoesOut Out old new (sample_wave s) r → RunsAlone old new (wave_outcome file number) r
+pub wave_runs : {U : Type 0} (old new : Option (List ℕ)) (file : List ℕ) (number : ℕ) (b : Parts) (counts : Counts)
+    (s : Sample) (r : Result U RunFault)
+    → ReadsAs file b counts
+    → Some s ≡ slice_get b.samples number → GoesOut Out old new (sample_wave s) r
+    → RunsAlone old new (wave_outcome file number) r
 wave_runs old new file number b counts s r reads h sent =
-    sent_text old new (wave_outcome file number) (sample_wave s) r (wave_on file number b counts reads ∙ ap wave_of (sym h)) sent
+    sent_text old new (wave_outcome file number) (sample_wave s) r
+    (wave_on file number b counts reads ∙ ap wave_of (sym h)) sent
 
-pub few_points : (b : Parts) (number : ℕ) (s : Sample) → IsValid b → Some s ≡ slice_get b.samples number → length s.points ≤ POINTS
-few_points b number s v h = let some = among b.samples number s (sym h) in let most = v.limits.points in omega (arith, some, most)
+pub few_points : (b : Parts) (number : ℕ) (s : Sample) → IsValid b → Some s ≡ slice_get b.samples number
+    → length s.points ≤ POINTS
+few_points b number s v h =
+    let some = among b.samples number s (sym h) in let most = v.limits.points in omega (arith, some, most)
 
 -- ---- an import
 
-pub import_not_read : (failure : Failure ReadFault) (file wave name : List ℕ) → Fails failure (fault_of file) → FailsBefore (in_run run.Read failure) (import_outcome file wave name)
+pub import_not_read : (failure : Failure ReadFault) (file wave name : List ℕ) → Fails failure (fault_of file)
+    → FailsBefore (in_run run.Read failure) (import_outcome file wave name)
 unfolding import_outcome
-import_not_read (failures.Fault fault) file wave name h = ap (λ (o : Option ReadFault). after_reading o (after_recording (bank_in file) name (recording_in wave))) h
+import_not_read (failures.Fault fault) file wave name h =
+    ap (λ (o : Option ReadFault). after_reading o (after_recording (bank_in file) name (recording_in wave))) h
 import_not_read failures.OutOfMemory file wave name h = tt
 
-import_on : (file wave name : List ℕ) (b : Parts) (counts : Counts) → ReadsAs file b counts → import_outcome file wave name ≡ after_recording b name (recording_in wave)
+import_on : (file wave name : List ℕ) (b : Parts) (counts : Counts) → ReadsAs file b counts
+    → import_outcome file wave name ≡ after_recording b name (recording_in wave)
 unfolding import_outcome
 import_on file wave name b counts r =
     ap (λ (o : Option ReadFault). after_reading o (after_recording (bank_in file) name (recording_in wave))) r.0
     ∙ ap (λ (c : Content). after_recording c.bank name (recording_in wave)) r.1
 
 -- the WAVE file has a fault
-pub no_recording : (file wave name : List ℕ) (b : Parts) (counts : Counts) (fault : WaveFault) → ReadsAs file b counts → Err fault ≡ recording_in wave
+pub no_recording : (file wave name : List ℕ) (b : Parts) (counts : Counts) (fault : WaveFault)
+    → ReadsAs file b counts → Err fault ≡ recording_in wave
     → FailsBefore (run.Recording fault) (import_outcome file wave name)
-no_recording file wave name b counts fault r h = import_on file wave name b counts r ∙ ap (after_recording b name) (sym h)
+no_recording file wave name b counts fault r h =
+    import_on file wave name b counts r ∙ ap (after_recording b name) (sym h)
 
 -- the edits of an import of what was read
-pub import_edited : (file wave name : List ℕ) (b : Parts) (counts : Counts) (r : Recording) (n : ℕ) (edits : List Edit) → ReadsAs file b counts → Ok r ≡ recording_in wave → n ≡ length b.samples
+pub import_edited : (file wave name : List ℕ) (b : Parts) (counts : Counts) (r : Recording) (n : ℕ)
+    (edits : List Edit)
+    → ReadsAs file b counts → Ok r ≡ recording_in wave → n ≡ length b.samples
     → edits ≡ import_edits n name r → import_outcome file wave name ≡ after_script b (Ok (numbered 1 edits))
 import_edited file wave name b counts r n edits reads h count e =
     import_on file wave name b counts reads
@@ -98,7 +117,8 @@ import_edited file wave name b counts r n edits reads h count e =
 abbrev lines_of : List ℕ → List ℕ → Recording → List Edit
 lines_of file name r = edits_into (bank_in file) name r
 
-edits_fit : (file wave name : List ℕ) (r : Recording) → AreBytes file → AreBytes wave → AreBytes name → fault_of file ≡ None → recording_in wave ≡ Ok r → AllFit (lines_of file name r)
+edits_fit : (file wave name : List ℕ) (r : Recording) → AreBytes file → AreBytes wave → AreBytes name
+    → fault_of file ≡ None → recording_in wave ≡ Ok r → AllFit (lines_of file name r)
 edits_fit file wave name r bytes wave_bytes name_bytes read h =
     let v : IsValid (bank_in file) = read_valid file bytes read in
     imports_fit (length (bank_in file).samples) name r v.limits.samples name_bytes (recording_fits wave r wave_bytes h)
@@ -108,18 +128,22 @@ unfolding import_outcome outcome
 scripted file wave name bytes wave_bytes name_bytes r h = by_what (fault_of file) refl
   where
     by_what : (o : Option ReadFault) → fault_of file ≡ o
-        → after_reading o (after_recording (bank_in file) name (recording_in wave)) ≡ after_reading o (after_script (bank_in file) (script_of (texts_of (lines_of file name r))))
+        → after_reading o (after_recording (bank_in file) name (recording_in wave))
+        ≡ after_reading o (after_script (bank_in file) (script_of (texts_of (lines_of file name r))))
     by_what (Some f) e = refl
     by_what None e =
         ap (after_recording (bank_in file) name) h
-        ∙ sym (ap (after_script (bank_in file)) (printed_spell (lines_of file name r) (edits_fit file wave name r bytes wave_bytes name_bytes e h)))
+        ∙ sym
+        (ap (after_script (bank_in file))
+        (printed_spell (lines_of file name r) (edits_fit file wave name r bytes wave_bytes name_bytes e h)))
 
 -- a run that is done has read its file
 done_read : (o : Option ReadFault) (x : Result Done RunFault) (done : Done) → after_reading o x ≡ Ok done → o ≡ None
 done_read None x done h = refl
 done_read (Some f) x done h = absurd cc
 
-pub import_restores : (file wave name : List ℕ) → AreBytes file → AreBytes wave → AreBytes name → IsImportUndone file wave name
+pub import_restores : (file wave name : List ℕ) → AreBytes file → AreBytes wave → AreBytes name
+    → IsImportUndone file wave name
 unfolding import_outcome
 import_restores file wave name bytes wave_bytes name_bytes done r h said =
     let es = lines_of file name r in

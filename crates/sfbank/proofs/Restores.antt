@@ -1,5 +1,6 @@
 -- A run and the run of its undo text.
-use Rattle.std.proofs.Common.{◌≡◌, ◌<◌, ℕ, suc, List, [], ◌∷◌, get_or, w8, Fits as InType, Option, Some, None, Result, Ok, refl, sym, ap, ◌∙◌, arith}
+use Rattle.std.proofs.Common.{◌≡◌, ◌<◌, ℕ, suc, List, [], ◌∷◌, get_or, w8, Fits as InType, Option, Some, None}
+use Rattle.std.proofs.Common.{Result, Ok, refl, sym, ap, ◌∙◌, arith}
 use Rattle.std.proofs.lemmas.List.Elements.{All-from_get_or}
 use Rattle.bank_parts.specs.declared.parts.Parts.{Parts}
 use Rattle.bank_parts.specs.Sound.{IsSound}
@@ -21,7 +22,8 @@ use Rattle.edit_script.specs.Printing.{texts_of, numbered, AllFit, LinesFit}
 use Rattle.edit_script.proofs.LineLaws.{printed_spell}
 use Rattle.edit_script.proofs.FitLaws.{script_fits}
 use Rattle.sfbank_program.specs.declared.run_fault.RunFault.{RunFault}
-use Rattle.sfbank.specs.Outcome.{Done, edits_of, RefusedLine, or_else, first_refused, both_texts, unless_refused, after_script, after_reading, bank_in, outcome, IsUndone}
+use Rattle.sfbank.specs.Outcome.{Done, edits_of, RefusedLine, or_else, first_refused, both_texts, unless_refused}
+use Rattle.sfbank.specs.Outcome.{after_script, after_reading, bank_in, outcome, IsUndone}
 
 -- the bytes that a slice holds
 pub are_bytes : (file : List ℕ) → ((i : ℕ) → InType w8 (get_or file i 0)) → AreBytes file
@@ -30,11 +32,13 @@ are_bytes file fits = All-from_get_or (λ b. b < 256) file 0 (λ i l. let byte =
 -- ---- what a run that is done says
 
 -- no line is refused where the first refused is none
-or_none : (n : ℕ) (r : Option Refusal) (later : Option RefusedLine) → or_else n r later ≡ None → (r ≡ None) × (later ≡ None)
+or_none : (n : ℕ) (r : Option Refusal) (later : Option RefusedLine) → or_else n r later ≡ None
+    → (r ≡ None) × (later ≡ None)
 or_none n None later e = (refl, e)
 or_none n (Some r) later e = absurd cc
 
-pub all_taken : (b : Parts) (lines : List Line) → LinesFit lines → first_refused b lines ≡ None → AllTaken b (edits_of lines)
+pub all_taken : (b : Parts) (lines : List Line) → LinesFit lines → first_refused b lines ≡ None
+    → AllTaken b (edits_of lines)
 all_taken b [] f e = tt
 all_taken b (l ∷ lines) f e =
     let both = or_none l.number (refusal b l.edit) (first_refused (raw b l.edit) lines) e in
@@ -56,20 +60,24 @@ pub record ScriptDone (b : Parts) (lines : List Line) (done : Done) : Type 0 whe
   pub accepted : first_refused b lines ≡ None
   pub texts : done ≡ both_texts b (edits_of lines)
 
-pub script_done : (b : Parts) (lines : List Line) (done : Done) → after_script b (Ok lines) ≡ Ok done → ScriptDone b lines done
+pub script_done : (b : Parts) (lines : List Line) (done : Done) → after_script b (Ok lines) ≡ Ok done
+    → ScriptDone b lines done
 script_done b lines done h = by_what (first_refused b lines) refl h
   where
-    by_what : (o : Option RefusedLine) → first_refused b lines ≡ o → unless_refused o (both_texts b (edits_of lines)) ≡ Ok done → ScriptDone b lines done
+    by_what : (o : Option RefusedLine) → first_refused b lines ≡ o
+        → unless_refused o (both_texts b (edits_of lines)) ≡ Ok done → ScriptDone b lines done
     by_what None e h = record { accepted = e; texts = cc }
     by_what (Some r) e h = absurd cc
 
-pub reading_done : {X : Type 0} (o : Option ReadFault) (r : Result X RunFault) (x : X) → after_reading o r ≡ Ok x → (o ≡ None) × (r ≡ Ok x)
+pub reading_done : {X : Type 0} (o : Option ReadFault) (r : Result X RunFault) (x : X) → after_reading o r ≡ Ok x
+    → (o ≡ None) × (r ≡ Ok x)
 reading_done None r x h = (refl, h)
 reading_done (Some f) r x h = absurd cc
 
 -- ---- a run on a canonical file
 
-pub outcome_canon : (b : Parts) (script : List ℕ) → IsSound b → outcome (canon b) script ≡ after_script b (script_of script)
+pub outcome_canon : (b : Parts) (script : List ℕ) → IsSound b
+    → outcome (canon b) script ≡ after_script b (script_of script)
 unfolding outcome
 outcome_canon b script s =
     let again = reads-again b s.valid s.fits in
@@ -77,7 +85,8 @@ outcome_canon b script s =
     ∙ ap (λ (c : Content). after_script c.bank (script_of script)) again.1
 
 -- edits that are taken, on lines of their own
-pub after_numbered : (b : Parts) (es : List Edit) → AllTaken b es → after_script b (Ok (numbered 1 es)) ≡ Ok (both_texts b es)
+pub after_numbered : (b : Parts) (es : List Edit) → AllTaken b es
+    → after_script b (Ok (numbered 1 es)) ≡ Ok (both_texts b es)
 after_numbered b es h =
     ap (λ (o : Option RefusedLine). unless_refused o (both_texts b (edits_of (numbered 1 es)))) (none_refused b 1 es h)
     ∙ ap (λ (xs : List Edit). Ok (both_texts b xs)) (edits_numbered 1 es)

@@ -28,5 +28,7 @@ saved_banks_lead_back ways file ts last c bytes read turns history here =
     let back : List Edit = reverse (way_back last.session) in (
       texts_of (undo_list c back),
       taken_run c back led.0 led.1
-          ∙ ap (λ (end : Parts). Ok (let d : Done = record { out = canon end; undo = texts_of (undo_list c back) } in d)) led.2,
+          ∙ ap
+          (λ (end : Parts). Ok (let d : Done = record { out = canon end; undo = texts_of (undo_list c back) } in d))
+          led.2,
     )

@@ -1,5 +1,6 @@
 -- Runs that play notes, and banks that sound the same.
-use Rattle.std.proofs.Common.{◌≡◌, ◌≤◌, ◌+◌, ◌*◌, ◌%◌, ℕ, ℤ, List, Option, None, Result, Ok, Err, refl, sym, ap, ◌∙◌, arith}
+use Rattle.std.proofs.Common.{◌≡◌, ◌≤◌, ◌+◌, ◌*◌, ◌%◌, ℕ, ℤ, List, Option, None, Result, Ok, Err, refl, sym, ap, ◌∙◌}
+use Rattle.std.proofs.Common.{arith}
 use Rattle.std.proofs.KnownBytes.{Keeps-refl}
 use Rattle.sf_base.specs.declared.memory.Failure.{Failure}
 use Rattle.sf_base.specs.declared.memory.Failure.TheVariants as failures
@@ -24,7 +25,8 @@ use Rattle.wave_file.specs.Wave.{wave, FitsWave}
 use Rattle.sfbank_program.specs.declared.run_fault.RunFault.{RunFault}
 use Rattle.sfbank_program.specs.declared.run_fault.RunFault.TheVariants as run
 use Rattle.sfbank_program.specs.declared.run_fault.Which.TheVariants.{Out}
-use Rattle.sfbank.specs.Outcome.{Done, after_script, after_reading, bank_in, outcome, canon_outcome, after_notes, play_outcome, SoundsAgain, SoundsInCanon}
+use Rattle.sfbank.specs.Outcome.{Done, after_script, after_reading, bank_in, outcome, canon_outcome, after_notes}
+use Rattle.sfbank.specs.Outcome.{play_outcome, SoundsAgain, SoundsInCanon}
 use Rattle.sfbank.specs.Written.{GoesOut, RunsAlone}
 use Rattle.sfbank_program.specs.RunFaults.{in_run}
 use Rattle.sfbank.proofs.Alone.{not_read, sent_text}
@@ -32,37 +34,51 @@ use Rattle.sfbank.proofs.Restores.{reading_done, restores}
 
 -- ---- a run
 
-pub play_not_read : (U : Type 0) (failure : Failure ReadFault) (known : Option (List ℕ)) (file notes : List ℕ) → Fails failure (fault_of file)
+pub play_not_read : (U : Type 0) (failure : Failure ReadFault) (known : Option (List ℕ)) (file notes : List ℕ)
+    → Fails failure (fault_of file)
     → RunsAlone {U = U} known known (play_outcome file notes) (Err (in_run run.Read failure))
 unfolding play_outcome
-play_not_read U failure known file notes h = not_read U failure known (fault_of file) (after_notes (bank_in file) (notes_of notes)) h
+play_not_read U failure known file notes h =
+    not_read U failure known (fault_of file) (after_notes (bank_in file) (notes_of notes)) h
 
 -- what comes of the bytes comes of their bank
-pub played_on : (file notes : List ℕ) (b : Parts) (counts : Counts) → ReadsAs file b counts → play_outcome file notes ≡ after_notes b (notes_of notes)
+pub played_on : (file notes : List ℕ) (b : Parts) (counts : Counts) → ReadsAs file b counts
+    → play_outcome file notes ≡ after_notes b (notes_of notes)
 unfolding play_outcome
 played_on file notes b counts r =
     ap (λ (o : Option ReadFault). after_reading o (after_notes (bank_in file) (notes_of notes))) r.0
     ∙ ap (λ (c : Content). after_notes c.bank (notes_of notes)) r.1
 
-pub not_noted : (U : Type 0) (failure : Failure NoteFault) (known : Option (List ℕ)) (file notes : List ℕ) (b : Parts) (counts : Counts) → ReadsAs file b counts
-    → texts.Fails failure (notes_of notes) → RunsAlone {U = U} known known (play_outcome file notes) (Err (in_run run.Notes failure))
-not_noted U (failures.Fault fault) known file notes b counts r h = (played_on file notes b counts r ∙ ap (after_notes b) h, Keeps-refl known)
+pub not_noted : (U : Type 0) (failure : Failure NoteFault) (known : Option (List ℕ)) (file notes : List ℕ)
+    (b : Parts) (counts : Counts)
+    → ReadsAs file b counts
+    → texts.Fails failure (notes_of notes)
+    → RunsAlone {U = U} known known (play_outcome file notes) (Err (in_run run.Notes failure))
+not_noted U (failures.Fault fault) known file notes b counts r h =
+    (played_on file notes b counts r ∙ ap (after_notes b) h, Keeps-refl known)
 not_noted U failures.OutOfMemory known file notes b counts r h = Keeps-refl known
 
 pub fits_wave : (sides : List ℤ) → IsRendered sides → FitsWave sides
 fits_wave sides h = let most = h.bound in record { whole = h.whole; size = omega (arith, most) }
 
-pub play_runs : {U : Type 0} (old new : Option (List ℕ)) (file notes : List ℕ) (b : Parts) (counts : Counts) (ns : List Numbers) (sides : List ℤ) (r : Result U RunFault)
-    → ReadsAs file b counts → notes_of notes ≡ Ok ns → sides ≡ render b ns → GoesOut Out old new (wave sides) r → RunsAlone old new (play_outcome file notes) r
+pub play_runs : {U : Type 0} (old new : Option (List ℕ)) (file notes : List ℕ) (b : Parts) (counts : Counts)
+    (ns : List Numbers) (sides : List ℤ) (r : Result U RunFault)
+    → ReadsAs file b counts → notes_of notes ≡ Ok ns → sides ≡ render b ns → GoesOut Out old new (wave sides) r
+    → RunsAlone old new (play_outcome file notes) r
 play_runs old new file notes b counts ns sides r reads spelled played h =
-    sent_text old new (play_outcome file notes) (wave sides) r (played_on file notes b counts reads ∙ ap (after_notes b) spelled ∙ ap (λ (xs : List ℤ). Ok (wave xs)) (sym played)) h
+    sent_text old new (play_outcome file notes) (wave sides) r
+    (played_on file notes b counts reads ∙ ap (after_notes b) spelled
+    ∙ ap (λ (xs : List ℤ). Ok (wave xs)) (sym played))
+    h
 
 -- ---- banks that sound the same
 
-pub played_on_canon : (file notes : List ℕ) → AreBytes file → fault_of file ≡ None → play_outcome (canon (bank_in file)) notes ≡ play_outcome file notes
+pub played_on_canon : (file notes : List ℕ) → AreBytes file → fault_of file ≡ None
+    → play_outcome (canon (bank_in file)) notes ≡ play_outcome file notes
 played_on_canon file notes bytes read =
     let b = bank_in file in
-    played_on (canon b) notes b _ (reads-again b (read_valid file bytes read) (read_fits file bytes)) ∙ sym (played_on file notes b _ (read, refl))
+    played_on (canon b) notes b _ (reads-again b (read_valid file bytes read) (read_fits file bytes))
+    ∙ sym (played_on file notes b _ (read, refl))
 
 pub sounds_in_canon : (file notes : List ℕ) → AreBytes file → SoundsInCanon file notes
 unfolding canon_outcome
@@ -71,7 +87,8 @@ sounds_in_canon file notes bytes text h =
     let same : canon (bank_in file) ≡ text = cc in
     ap (λ (t : List ℕ). play_outcome t notes) (sym same) ∙ played_on_canon file notes bytes read.0
 
-same_out : (back : Done) (out undo : List ℕ) (r : Result Done RunFault) → r ≡ Ok (record { out = out; undo = undo }) → r ≡ Ok back → back.out ≡ out
+same_out : (back : Done) (out undo : List ℕ) (r : Result Done RunFault) → r ≡ Ok (record { out = out; undo = undo })
+    → r ≡ Ok back → back.out ≡ out
 same_out back out undo r e f = cc
 
 pub sounds_again : (file script : List ℕ) → AreBytes file → SoundsAgain file script
@@ -81,8 +98,13 @@ sounds_again file script bytes done back notes h g = by_lines (script_of script)
     read : (fault_of file ≡ None) × (after_script (bank_in file) (script_of script) ≡ Ok done)
     read = reading_done (fault_of file) (after_script (bank_in file) (script_of script)) done h
 
-    by_lines : (r : Result (List Line) ScriptFault) → script_of script ≡ r → play_outcome back.out notes ≡ play_outcome file notes
+    by_lines : (r : Result (List Line) ScriptFault) → script_of script ≡ r
+        → play_outcome back.out notes ≡ play_outcome file notes
     by_lines (Ok lines) e =
-        ap (λ (t : List ℕ). play_outcome t notes) (same_out back _ _ (outcome done.out done.undo) (restores file script bytes done lines h e) g)
+        ap (λ (t : List ℕ). play_outcome t notes)
+        (same_out back _ _ (outcome done.out done.undo) (restores file script bytes done lines h e) g)
         ∙ played_on_canon file notes bytes read.0
-    by_lines (Err f) e = let err : after_script (bank_in file) (Err f) ≡ Ok done = ap (after_script (bank_in file)) (sym e) ∙ read.1 in absurd cc
+    by_lines (Err f) e =
+        let err : after_script (bank_in file) (Err f) ≡ Ok done =
+        ap (after_script (bank_in file)) (sym e) ∙ read.1 in
+        absurd cc

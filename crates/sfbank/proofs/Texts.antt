@@ -6,7 +6,8 @@ use Rattle.sfbank_program.specs.declared.run_fault.RunFault.{RunFault}
 use Rattle.sfbank_program.specs.declared.run_fault.Which.{Which}
 use Rattle.sfbank.specs.Written.{GoesOut, IsTold}
 
-pub text_goes_out : {U : Type 0} (which : Which) (old new : Option (List ℕ)) (text : List ℕ) (delivered : Result ℕ WriteFault) (r : Result U RunFault)
+pub text_goes_out : {U : Type 0} (which : Which) (old new : Option (List ℕ)) (text : List ℕ)
+    (delivered : Result ℕ WriteFault) (r : Result U RunFault)
     → writing.Delivers old new text delivered → IsTold which delivered r → GoesOut which old new text r
 text_goes_out which old new text (Ok total) (Ok u) d t = d
 text_goes_out which old new text (Ok total) (Err fault) d t = absurd t

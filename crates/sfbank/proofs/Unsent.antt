@@ -17,13 +17,15 @@ kept (Some xs) None h = absurd h
 kept (Some xs) (Some ys) h = h ∙ append-nil xs
 
 -- not one byte went out
-nothing_gone : (start now : Option (List ℕ)) (held : List ℕ) (sent : ℕ) (fault : Option WriteFault) → MatchOption fault (IsOnItsWay start now held sent []) (λ f. StoppedIn start now [] f.written) → Keeps start now
+nothing_gone : (start now : Option (List ℕ)) (held : List ℕ) (sent : ℕ) (fault : Option WriteFault)
+    → MatchOption fault (IsOnItsWay start now held sent []) (λ f. StoppedIn start now [] f.written) → Keeps start now
 nothing_gone start now held sent None way =
     let P : List ℕ → Type 0 = λ gone. Appends start now gone in
     kept start now (subst P (no_front way.gone held way.parts) way.out)
 nothing_gone start now held sent (Some f) stopped = let h = stopped.within in absurd (omega (arith, h))
 
-pub unsent : {W : Type 0} (contents : W → Option (List ℕ)) (out : MutBor W) (o p : Output W) → Begins contents out o → p ≡ o → Keeps (contents out.now) (contents p.out.now)
+pub unsent : {W : Type 0} (contents : W → Option (List ℕ)) (out : MutBor W) (o p : Output W) → Begins contents out o
+    → p ≡ o → Keeps (contents out.now) (contents p.out.now)
 unsent {W} contents out o p begins same =
     let P : Output W → Type 0 = λ q. Keeps (contents out.now) (contents q.out.now) in
     subst P (sym same) (nothing_gone (contents out.now) (contents o.out.now) o.held.items o.sent o.fault begins.nothing)

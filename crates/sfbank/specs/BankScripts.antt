@@ -22,10 +22,12 @@ start_of file = new_file (bank_in file).minor
 abbrev pub WritesFile : Result Done RunFault → List ℕ → Type 0
 WritesFile r file = (undo : List ℕ) × (r ≡ Ok (record { out = file; undo = undo }))
 
--- Where the file comes to a script with all points, that script, run on the file of the empty bank, writes the canonical
--- file of the bank.
+-- Where the file comes to a script with all points, that script, run on the file of the empty bank, writes the
+-- canonical file of the bank.
 abbrev pub IsRemade : List ℕ → Type 0
-IsRemade file = (text : List ℕ) → script_outcome Kept file ≡ Ok text → WritesFile (outcome (start_of file) text) (canon (bank_in file))
+IsRemade file =
+    (text : List ℕ) → script_outcome Kept file ≡ Ok text
+    → WritesFile (outcome (start_of file) text) (canon (bank_in file))
 
 -- Two files that are read have one script with all points exactly where they have one canonical file.
 abbrev pub ScriptsTell : Type 0
@@ -36,5 +38,6 @@ ScriptsTell =
 -- Each list of notes sounds on the file that the script makes of the empty bank as on the first.
 abbrev pub RemadeSounds : Type 0
 RemadeSounds =
-    (file text notes : List ℕ) (done : Done) → AreBytes file → script_outcome Kept file ≡ Ok text → outcome (start_of file) text ≡ Ok done
+    (file text notes : List ℕ) (done : Done) → AreBytes file → script_outcome Kept file ≡ Ok text
+    → outcome (start_of file) text ≡ Ok done
     → play_outcome done.out notes ≡ play_outcome file notes

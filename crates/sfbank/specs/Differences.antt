@@ -48,22 +48,26 @@ pub record IsDifference (a b text : List ℕ) : Type 0 where
   pub returns : outcome (canon (bank_in b)) undo ≡ Ok (record { out = canon (bank_in a); undo = again })
 
 -- a difference of two files that are read, which goes out
-pub record SendsDifference {U : Type 0} (old new : Option (List ℕ)) (a b : List ℕ) (r : Result U RunFault) : Type 0 where
-  pub is_pair : pair_of a b ≡ Ok (banks_in a b)
-  pub text : List ℕ
-  pub differs : IsDifference a b text
-  pub sends : GoesOut Out old new text r
+pub record SendsDifference {U : Type 0} (old new : Option (List ℕ)) (a b : List ℕ) (r : Result U RunFault) : Type 0
+  where
+    pub is_pair : pair_of a b ≡ Ok (banks_in a b)
+    pub text : List ℕ
+    pub differs : IsDifference a b text
+    pub sends : GoesOut Out old new text r
 
--- Done, or with the writer's fault, a difference went out so far. With any other fault not a byte went to the writer; and
--- out of memory can come in place of any answer before the first byte.
-abbrev pub RunsDifference : {U : Type 0} → Option (List ℕ) → Option (List ℕ) → List ℕ → List ℕ → Result U RunFault → Type 0
+-- Done, or with the writer's fault, a difference went out so far. With any other fault not a byte went to the writer;
+-- and out of memory can come in place of any answer before the first byte.
+abbrev pub RunsDifference : {U : Type 0} → Option (List ℕ) → Option (List ℕ) → List ℕ → List ℕ → Result U RunFault
+    → Type 0
 RunsDifference old new a b (Ok u) = SendsDifference old new a b (Ok u)
-RunsDifference old new a b (Err (run.Write which n)) = SendsDifference {U = Unit {0}} old new a b (Err (run.Write which n))
+RunsDifference old new a b (Err (run.Write which n)) =
+    SendsDifference {U = Unit {0}} old new a b (Err (run.Write which n))
 RunsDifference old new a b (Err run.Memory) = Keeps old new
 RunsDifference old new a b (Err fault) = (pair_of a b ≡ Err fault) × Keeps old new
 
 -- Where the files have one bank, the script is empty.
-abbrev pub WritesNothing : {U : Type 0} → Option (List ℕ) → Option (List ℕ) → List ℕ → List ℕ → Result U RunFault → Type 0
+abbrev pub WritesNothing : {U : Type 0} → Option (List ℕ) → Option (List ℕ) → List ℕ → List ℕ → Result U RunFault
+    → Type 0
 WritesNothing old new a b (Ok u) = bank_in a ≡ bank_in b → Appends old new []
 WritesNothing old new a b (Err fault) = Unit {0}
 

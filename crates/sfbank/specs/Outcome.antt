@@ -112,7 +112,8 @@ show_outcome file = after_reading (fault_of file) (Ok (listing (bank_in file) (c
 
 -- The first broken step of the file, else the listing of its bank and of the counts of reading it, with these details.
 unfoldable pub show_details_outcome : Details → List ℕ → Result (List ℕ) RunFault
-show_details_outcome details file = after_reading (fault_of file) (Ok (detailed_listing details (bank_in file) (counts_in file)))
+show_details_outcome details file =
+    after_reading (fault_of file) (Ok (detailed_listing details (bank_in file) (counts_in file)))
 
 -- the WAVE file of notes that are played on a bank, or their first fault
 abbrev pub after_notes : Parts → Result (List Numbers) NoteFault → Result (List ℕ) RunFault
@@ -123,36 +124,38 @@ after_notes b (Err fault) = Err (run.Notes fault)
 unfoldable pub play_outcome : List ℕ → List ℕ → Result (List ℕ) RunFault
 play_outcome file notes = after_reading (fault_of file) (after_notes (bank_in file) (notes_of notes))
 
--- Where these bytes come to a run that is done, the undo text, run on the written file alone, is done
--- too: it writes the canonical file of the first bank, and the script's edits as they are printed.
+-- Where these bytes come to a run that is done, the undo text, run on the written file alone, is done too: it writes
+-- the canonical file of the first bank, and the script's edits as they are printed.
 abbrev pub IsUndone : List ℕ → List ℕ → Type 0
 IsUndone file script =
     (done : Done) (lines : List Line) → outcome file script ≡ Ok done → script_of script ≡ Ok lines
     → outcome done.out done.undo ≡ Ok (record { out = canon (bank_in file); undo = texts_of (edits_of lines) })
 
--- Where these bytes come to a run that is done, and its undo text on the written file to another, each list of notes comes
--- to the same on the file written last as on the first.
+-- Where these bytes come to a run that is done, and its undo text on the written file to another, each list of notes
+-- comes to the same on the file written last as on the first.
 abbrev pub SoundsAgain : List ℕ → List ℕ → Type 0
 SoundsAgain file script =
     (done back : Done) (notes : List ℕ) → outcome file script ≡ Ok done → outcome done.out done.undo ≡ Ok back
     → play_outcome back.out notes ≡ play_outcome file notes
 
--- Where these bytes come to a neutral run that is done, the undo text, run on the written file alone, writes the canonical
--- file of the first bank, and the script's edits as they are printed.
+-- Where these bytes come to a neutral run that is done, the undo text, run on the written file alone, writes the
+-- canonical file of the first bank, and the script's edits as they are printed.
 abbrev pub IsNeutrallyUndone : List ℕ → List ℕ → Type 0
 IsNeutrallyUndone file script =
     (done : Done) (lines : List Line) → neutral_outcome file script ≡ Ok done → script_of script ≡ Ok lines
     → outcome done.out done.undo ≡ Ok (record { out = canon (bank_in file); undo = texts_of (edits_of lines) })
 
--- Where these bytes come to a neutral run that is done, each list of notes comes to the same on the written file as on the
--- first: to the same WAVE file, or to the same fault.
+-- Where these bytes come to a neutral run that is done, each list of notes comes to the same on the written file as
+-- on the first: to the same WAVE file, or to the same fault.
 abbrev pub SoundsTheSame : List ℕ → List ℕ → Type 0
 SoundsTheSame file script =
-    (done : Done) (notes : List ℕ) → neutral_outcome file script ≡ Ok done → play_outcome done.out notes ≡ play_outcome file notes
+    (done : Done) (notes : List ℕ) → neutral_outcome file script ≡ Ok done
+    → play_outcome done.out notes ≡ play_outcome file notes
 
 -- Notes come to the same on the canonical file that these bytes come to.
 abbrev pub SoundsInCanon : List ℕ → List ℕ → Type 0
-SoundsInCanon file notes = (text : List ℕ) → canon_outcome file ≡ Ok text → play_outcome text notes ≡ play_outcome file notes
+SoundsInCanon file notes =
+    (text : List ℕ) → canon_outcome file ≡ Ok text → play_outcome text notes ≡ play_outcome file notes
 
 -- a text, and no undo text
 abbrev pub without_undo : Result (List ℕ) RunFault → Result Done RunFault

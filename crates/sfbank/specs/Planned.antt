@@ -11,7 +11,8 @@ use Rattle.line_tokens.specs.declared.fault.ScriptFault.{ScriptFault}
 use Rattle.edit_script.specs.Script.{script_of}
 use Rattle.command_words.specs.declared.words.Forms.{Forms}
 use Rattle.command_words.specs.declared.words.Forms.TheVariants.{Every, Neutral}
-use Rattle.sfbank.specs.Outcome.{Done, edits_of, RefusedLine, first_refused, first_not_neutral, after_script, after_neutral_script, after_reading, bank_in}
+use Rattle.sfbank.specs.Outcome.{Done, edits_of, RefusedLine, first_refused, first_not_neutral, after_script}
+use Rattle.sfbank.specs.Outcome.{after_neutral_script, after_reading, bank_in}
 
 -- the first refused line, or out of memory
 abbrev pub StopsAtLine : RunFault → Option RefusedLine → Type 0

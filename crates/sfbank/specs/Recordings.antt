@@ -22,8 +22,8 @@ abbrev pub wave_of : Option Sample → Result (List ℕ) RunFault
 wave_of (Some s) = Ok (sample_wave s)
 wave_of None = Err (run.NoMember NoSuchSample)
 
--- The first broken step of the file, else `NoSuchSample` where its bank has no sample of this number, else the WAVE file
--- of the sample.
+-- The first broken step of the file, else `NoSuchSample` where its bank has no sample of this number, else the WAVE
+-- file of the sample.
 unfoldable pub wave_outcome : List ℕ → ℕ → Result (List ℕ) RunFault
 wave_outcome file number = after_reading (fault_of file) (wave_of (slice_get (bank_in file).samples number))
 
@@ -38,18 +38,21 @@ abbrev pub after_recording : Parts → List ℕ → Result Recording WaveFault �
 after_recording b name (Ok r) = after_script b (Ok (numbered 1 (edits_into b name r)))
 after_recording b name (Err f) = Err (run.Recording f)
 
--- The first broken step of the file, else that of the WAVE file, else the first refused edit by its line, else both texts.
+-- The first broken step of the file, else that of the WAVE file, else the first refused edit by its line, else both
+-- texts.
 unfoldable pub import_outcome : List ℕ → List ℕ → List ℕ → Result Done RunFault
 import_outcome file wave name = after_reading (fault_of file) (after_recording (bank_in file) name (recording_in wave))
 
 -- An import comes to what the script of its edits comes to.
 abbrev pub IsScripted : List ℕ → List ℕ → List ℕ → Type 0
 IsScripted file wave name =
-    (r : Recording) → recording_in wave ≡ Ok r → import_outcome file wave name ≡ outcome file (texts_of (edits_into (bank_in file) name r))
+    (r : Recording) → recording_in wave ≡ Ok r
+    → import_outcome file wave name ≡ outcome file (texts_of (edits_into (bank_in file) name r))
 
--- Where these bytes come to an import that is done, the undo text, run on the written file alone, is done too: it writes the
--- canonical file of the first bank, and the edits of the import.
+-- Where these bytes come to an import that is done, the undo text, run on the written file alone, is done too: it
+-- writes the canonical file of the first bank, and the edits of the import.
 abbrev pub IsImportUndone : List ℕ → List ℕ → List ℕ → Type 0
 IsImportUndone file wave name =
     (done : Done) (r : Recording) → import_outcome file wave name ≡ Ok done → recording_in wave ≡ Ok r
-    → outcome done.out done.undo ≡ Ok (record { out = canon (bank_in file); undo = texts_of (edits_into (bank_in file) name r) })
+    → outcome done.out done.undo
+    ≡ Ok (record { out = canon (bank_in file); undo = texts_of (edits_into (bank_in file) name r) })

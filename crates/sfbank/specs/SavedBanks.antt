@@ -15,8 +15,8 @@ use Rattle.sfbank.specs.BankScripts.{WritesFile}
 abbrev pub LeadsTo : Saved → List ℕ → Type 0
 LeadsTo saved file = WritesFile (outcome saved.out saved.undo) file
 
--- Wherever a session on the bank of a file stands, what it saves leads to the canonical file of that bank. (What a session
--- is then has a type that live_sessions keeps to itself.)
+-- Wherever a session on the bank of a file stands, what it saves leads to the canonical file of that bank. (What a
+-- session is then has a type that live_sessions keeps to itself.)
 abbrev pub SavedBanksLeadBack : Type 0
 SavedBanksLeadBack =
     (file : List ℕ) (ts : List Turn) (last : _) (c : Parts) → AreBytes file → fault_of file ≡ None

@@ -36,15 +36,18 @@ Untouched w = Keeps w.out w.out_new × Keeps w.undo w.undo_new
 -- many bytes of the second's front, which may be all.
 abbrev pub Delivers : {U : Type 0} → Writers → Done → Result U RunFault → Type 0
 Delivers w done (Ok u) = Appends w.out w.out_new done.out × Appends w.undo w.undo_new done.undo
-Delivers w done (Err (run.Write Out n)) = (n ≤ length done.out) × Appends w.out w.out_new (take n done.out) × Keeps w.undo w.undo_new
-Delivers w done (Err (run.Write Undo n)) = Appends w.out w.out_new done.out × (n ≤ length done.undo) × Appends w.undo w.undo_new (take n done.undo)
+Delivers w done (Err (run.Write Out n)) =
+    (n ≤ length done.out) × Appends w.out w.out_new (take n done.out) × Keeps w.undo w.undo_new
+Delivers w done (Err (run.Write Undo n)) =
+    Appends w.out w.out_new done.out × (n ≤ length done.undo) × Appends w.undo w.undo_new (take n done.undo)
 Delivers w done (Err fault) = ⊥
 
 -- the outcome is done, and its texts are delivered
-pub record DeliversDone {U : Type 0} (w : Writers) (outcome : Result Done RunFault) (r : Result U RunFault) : Type 0 where
-  pub done : Done
-  pub is_done : outcome ≡ Ok done
-  pub delivers : Delivers w done r
+pub record DeliversDone {U : Type 0} (w : Writers) (outcome : Result Done RunFault) (r : Result U RunFault) : Type 0
+  where
+    pub done : Done
+    pub is_done : outcome ≡ Ok done
+    pub delivers : Delivers w done r
 
 -- A run answers the outcome. Done, or with a writer's fault, it delivered the texts so far; with any
 -- other fault neither writer got a byte; and out of memory can come in place of any answer before the
@@ -56,13 +59,15 @@ Runs w outcome (Err run.Memory) = Untouched w
 Runs w outcome (Err fault) = (outcome ≡ Err fault) × Untouched w
 
 -- the outcome is a text, and it goes out
-pub record SendsText {U : Type 0} (old new : Option (List ℕ)) (outcome : Result (List ℕ) RunFault) (r : Result U RunFault) : Type 0 where
+pub record SendsText {U : Type 0} (old new : Option (List ℕ)) (outcome : Result (List ℕ) RunFault)
+    (r : Result U RunFault) : Type 0 where
   pub text : List ℕ
   pub is_text : outcome ≡ Ok text
   pub sends : GoesOut Out old new text r
 
 -- So answers a run with one text and one writer, which got not a byte with any fault but its own.
-abbrev pub RunsAlone : {U : Type 0} → Option (List ℕ) → Option (List ℕ) → Result (List ℕ) RunFault → Result U RunFault → Type 0
+abbrev pub RunsAlone : {U : Type 0} → Option (List ℕ) → Option (List ℕ) → Result (List ℕ) RunFault
+    → Result U RunFault → Type 0
 RunsAlone old new outcome (Ok u) = SendsText old new outcome (Ok u)
 RunsAlone old new outcome (Err (run.Write which n)) = SendsText {U = Unit {0}} old new outcome (Err (run.Write which n))
 RunsAlone old new outcome (Err run.Memory) = Keeps old new

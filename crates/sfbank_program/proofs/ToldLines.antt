@@ -6,6 +6,8 @@ use Rattle.outputs.specs.Writing.{Writes}
 use Rattle.sfbank_program.specs.Telling.{GoesOut}
 
 -- a text that was written went out, or a front of it
-pub written_goes_out : {U : Type 0} (a b : Option (List ℕ)) (line : List ℕ) (r : Result U WriteFault) → Writes a b line r → GoesOut a b line
-written_goes_out a b line (Ok u) h = (length line, subst (Appends a b) (sym (take_all (length line) line (le_refl _))) h)
+pub written_goes_out : {U : Type 0} (a b : Option (List ℕ)) (line : List ℕ) (r : Result U WriteFault)
+    → Writes a b line r → GoesOut a b line
+written_goes_out a b line (Ok u) h =
+    (length line, subst (Appends a b) (sym (take_all (length line) line (le_refl _))) h)
 written_goes_out a b line (Err fault) h = (fault.written, h.1)

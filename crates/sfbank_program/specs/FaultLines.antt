@@ -13,13 +13,16 @@ use Rattle.bank_validity.specs.declared.limits.Limit.{Limit}
 use Rattle.bank_validity.specs.Limits.{word_of}
 use Rattle.edit_forms.specs.declared.cause.Cause.{Cause}
 use Rattle.edit_refusals.specs.declared.refusal.Refusal.{Refusal}
-use Rattle.edit_refusals.specs.declared.refusal.Refusal.TheVariants.{Of, OutOfMemory, NothingToUndo, NothingToRedo, GroupRefused}
+use Rattle.edit_refusals.specs.declared.refusal.Refusal.TheVariants.{Of, OutOfMemory, NothingToUndo, NothingToRedo}
+use Rattle.edit_refusals.specs.declared.refusal.Refusal.TheVariants.{GroupRefused}
 use Rattle.edit_forms.specs.CauseNames as causes
 use Rattle.edit_refusals.specs.RefusalNames as refusals
 use Rattle.sfbank_program.specs.declared.input_fault.InputFault.{InputFault}
 use Rattle.sfbank_program.specs.InputFaults.{reason_of}
 use Rattle.sfbank_program.specs.declared.run_fault.RunFault.{RunFault}
-use Rattle.sfbank_program.specs.declared.run_fault.RunFault.TheVariants.{Read, ReadSecond, Script, Refused, NotNeutral, OtherVersion, Notes, Recording, NoMember, Write, Memory}
+use Rattle.sfbank_program.specs.declared.run_fault.RunFault.TheVariants.{Read, ReadSecond, Script, Refused}
+use Rattle.sfbank_program.specs.declared.run_fault.RunFault.TheVariants.{NotNeutral, OtherVersion, Notes, Recording}
+use Rattle.sfbank_program.specs.declared.run_fault.RunFault.TheVariants.{NoMember, Write, Memory}
 
 -- a line that ends with a number and a name
 abbrev pub named_line : List ℕ → ℕ → List ℕ → List ℕ
@@ -38,7 +41,10 @@ second_read_line fault = codes "sfbank: B: " ++ read_text fault
 
 -- a fault on a line of a text, by its number and its name
 abbrev pub text_line : ℕ → ℕ → List ℕ → List ℕ
-text_line line number name = concat (codes "sfbank: line " ∷ decimal line ∷ codes ": fault " ∷ decimal number ∷ codes " " ∷ name ∷ codes "\n" ∷ [])
+text_line line number name =
+    concat
+    (codes "sfbank: line " ∷ decimal line ∷ codes ": fault " ∷ decimal number ∷ codes " " ∷ name ∷ codes "\n"
+    ∷ [])
 
 abbrev pub script_line : ScriptFault → List ℕ
 script_line fault = text_line (scripts.line_of fault) (scripts.number_of fault) (scripts.name_of fault)
@@ -54,11 +60,16 @@ limit_text None = []
 -- the line and why it is refused, by its number and its name
 abbrev pub refusal_text : ℕ → Refusal → List ℕ
 refusal_text line why =
-    concat (codes "sfbank: line " ∷ decimal line ∷ codes ": refused " ∷ decimal (refusals.refusal_number why) ∷ codes " " ∷ refusals.refusal_name why ∷ [])
+    concat
+    (codes "sfbank: line " ∷ decimal line ∷ codes ": refused " ∷ decimal (refusals.refusal_number why) ∷ codes " "
+    ∷ refusals.refusal_name why ∷ [])
 
 -- the step of a group, counted from 0, and the cause that stands against it
 abbrev pub step_text : ℕ → Cause → List ℕ
-step_text step cause = concat (codes " " ∷ decimal step ∷ codes " " ∷ decimal (causes.number_of cause) ∷ codes " " ∷ causes.name_of cause ∷ [])
+step_text step cause =
+    concat
+    (codes " " ∷ decimal step ∷ codes " " ∷ decimal (causes.number_of cause) ∷ codes " " ∷ causes.name_of cause
+    ∷ [])
 
 -- what stands behind the name
 abbrev pub detail_text : Refusal → List ℕ
@@ -84,7 +95,8 @@ abbrev pub no_member_line : Cause → List ℕ
 no_member_line cause = named_line (codes "sfbank: refused ") (causes.number_of cause) (causes.name_of cause)
 
 abbrev pub write_line : List ℕ → ℕ → List ℕ
-write_line path written = concat (codes "sfbank: write fault " ∷ path ∷ codes " after " ∷ decimal written ∷ codes " bytes\n" ∷ [])
+write_line path written =
+    concat (codes "sfbank: write fault " ∷ path ∷ codes " after " ∷ decimal written ∷ codes " bytes\n" ∷ [])
 
 -- an input at a path that is not there as a whole, and why
 abbrev pub file_reason_line : List ℕ → List ℕ → List ℕ
@@ -95,7 +107,8 @@ file_line path fault = file_reason_line path (reason_of fault)
 
 -- a number that no fault and no refusal has
 abbrev pub unexplained_line : ℕ → List ℕ
-unexplained_line number = concat (codes "error: no fault and no refusal has the number " ∷ decimal number ∷ codes "\n" ∷ [])
+unexplained_line number =
+    concat (codes "error: no fault and no refusal has the number " ∷ decimal number ∷ codes "\n" ∷ [])
 
 -- the line of a run's fault, with its line feed; a write fault has the path
 unfoldable pub fault_line : List ℕ → RunFault → List ℕ

@@ -1,7 +1,8 @@
 -- The reason by which each fault of an input is told.
 use Rattle.std.specs.Prelude.{ℕ, List, codes}
 use Rattle.sfbank_program.specs.declared.input_fault.InputFault.{InputFault}
-use Rattle.sfbank_program.specs.declared.input_fault.InputFault.TheVariants.{NotFound, Denied, IsFolder, NotFolder, LongName, LinkLoop, Unreadable, TooLong}
+use Rattle.sfbank_program.specs.declared.input_fault.InputFault.TheVariants.{NotFound, Denied, IsFolder, NotFolder}
+use Rattle.sfbank_program.specs.declared.input_fault.InputFault.TheVariants.{LongName, LinkLoop, Unreadable, TooLong}
 
 abbrev pub reason_of : InputFault → List ℕ
 reason_of NotFound = codes "No such file or directory"

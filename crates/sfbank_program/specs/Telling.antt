@@ -27,4 +27,5 @@ Tells old new (Run fault path) = GoesOut old new (lines.fault_line path.now faul
 
 -- A run that is done tells nothing, with status 0. Any other tells its fault, with the status of it.
 abbrev pub Ends : Option (List ℕ) → Option (List ℕ) → ℕ → Type 0
-Ends old new status = ((status ≡ 0) × Keeps old new) ⊎ ((fault : Fault) × (status ≡ status_of fault) × Tells old new fault)
+Ends old new status =
+    ((status ≡ 0) × Keeps old new) ⊎ ((fault : Fault) × (status ≡ status_of fault) × Tells old new fault)

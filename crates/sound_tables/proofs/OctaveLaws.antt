@@ -1,5 +1,6 @@
 -- What is scaled by octaves fits, and where it is the most.
-use Rattle.std.proofs.Common.{◌≡◌, ℕ, ◌+◌, ◌*◌, ◌/◌, ◌%◌, ◌^◌, ◌<◌, ◌≤◌, suc, ℤ, pos, ◌+ℤ◌, sym, ◌∙◌, ap, subst, arith, lit<, ⊎_elim}
+use Rattle.std.proofs.Common.{◌≡◌, ℕ, ◌+◌, ◌*◌, ◌/◌, ◌%◌, ◌^◌, ◌<◌, ◌≤◌, suc, ℤ, pos, ◌+ℤ◌, sym, ◌∙◌, ap, subst}
+use Rattle.std.proofs.Common.{arith, lit<, ⊎_elim}
 use Rattle.std.proofs.Math.Nat.{pow-le-pow_right}
 use Rattle.std.proofs.lemmas.Nat.{shl_whole, div_below, mul-le}
 use Rattle.std.proofs.lemmas.Bool.{cases_eq}
@@ -50,7 +51,8 @@ frames_end : (r : ℕ) → r ≤ 800 → 44100 * ratio r * 2 ^ 18 / (65536 * 409
 unfolding ratio
 frames_end r h =
     let m : ratio r ≤ 104032 = ratio_rises r 800 h (omega arith) in
-    less_scaled (44100 * ratio r) 18 (65536 * 4096) (44100 * 104032) 18 4480284 (lit< tt) (omega arith) (omega arith) (lit< tt)
+    less_scaled (44100 * ratio r) 18 (65536 * 4096) (44100 * 104032) 18 4480284 (lit< tt) (omega arith) (omega arith)
+    (lit< tt)
 
 pub frames_bound : (o r : ℕ) → 1200 * o + r ≤ 22400 → r < 1200 → 44100 * ratio r * 2 ^ o / (65536 * 4096) ≤ 4480284
 frames_bound o r h l = ⊎_elim
@@ -67,9 +69,11 @@ step_below o r rate h l k =
 step_end : (rate : ℕ) → rate ≤ 192000 → ratio 0 * rate * 2 ^ 20 / (44100 * 4096) ≤ 73043661
 unfolding ratio
 step_end rate k =
-    less_scaled (65536 * rate) 20 (44100 * 4096) (65536 * 192000) 20 73043661 (lit< tt) (omega arith) (omega arith) (lit< tt)
+    less_scaled (65536 * rate) 20 (44100 * 4096) (65536 * 192000) 20 73043661 (lit< tt) (omega arith) (omega arith)
+    (lit< tt)
 
-pub step_bound : (o r rate : ℕ) → 1200 * o + r ≤ 24000 → r < 1200 → rate ≤ 192000 → ratio r * rate * 2 ^ o / (44100 * 4096) ≤ 73043661
+pub step_bound : (o r rate : ℕ) → 1200 * o + r ≤ 24000 → r < 1200 → rate ≤ 192000
+    → ratio r * rate * 2 ^ o / (44100 * 4096) ≤ 73043661
 step_bound o r rate h l k = ⊎_elim
     (λ e. let z : r ≡ 0 = omega (arith, e) in
     subst (λ x. ratio r * rate * 2 ^ x / (44100 * 4096) ≤ 73043661) (sym e)

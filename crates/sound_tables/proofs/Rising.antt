@@ -6,7 +6,8 @@ use Rattle.std.proofs.lemmas.Bool.Decides.{nat_tests}
 
 -- what holds from each number to the next holds from any to any later one
 module _ (R : ℕ → ℕ → Type 0) (same : (x : ℕ) → R x x) (through : (x y z : ℕ) → R x y → R y z → R x z) where
-  pub from_to : (f : ℕ → ℕ) (n : ℕ) → ((k : ℕ) → k < n → R (f k) (f (k + 1))) → (a b : ℕ) → a ≤ b → b ≤ n → R (f a) (f b)
+  pub from_to : (f : ℕ → ℕ) (n : ℕ) → ((k : ℕ) → k < n → R (f k) (f (k + 1))) → (a b : ℕ) → a ≤ b → b ≤ n
+      → R (f a) (f b)
   from_to f n next a zero h l = subst (λ x. R (f x) (f 0)) (omega arith) (same (f 0))
   from_to f n next a (suc b) h l = ⊎_elim
       (λ e. subst (λ x. R (f a) (f x)) e (same (f a)))
@@ -15,7 +16,8 @@ module _ (R : ℕ → ℕ → Type 0) (same : (x : ℕ) → R x x) (through : (x
       (cases_eq a (suc b))
 
 -- a test of each number below n, which computes where n is written out
-pub at_each : (g h : ℕ → ℕ) (n : ℕ) → agree_below (λ k. nat_le (g k) (h k)) (λ _. true) n ≡ true → (k : ℕ) → k < n → g k ≤ h k
+pub at_each : (g h : ℕ → ℕ) (n : ℕ) → agree_below (λ k. nat_le (g k) (h k)) (λ _. true) n ≡ true → (k : ℕ) → k < n
+    → g k ≤ h k
 at_each g h n e k l =
     let t : nat_le (g k) (h k) ≡ true = agree_below_at (λ x. nat_le (g x) (h x)) (λ _. true) n k e l in
     grind (arith, nat_tests)

@@ -37,7 +37,10 @@ louder square low middle high h l u q = record {
   ordered = omega arith;
   within = h.within;
   quiet = h.quiet;
-  least = λ b k. let w = h.within in let f : gain_at middle ≤ gain_at b = gain_falls b middle (omega arith) (omega arith) in omega arith;
+  least =
+      λ b k. let w =
+      h.within in let f : gain_at middle ≤ gain_at b =
+      gain_falls b middle (omega arith) (omega arith) in omega arith;
 }
 
 pub found : (part low high : ℕ) → IsBetween (part * part * 65536) low high → high ≤ low → IsVelocityAttenuation part low
@@ -67,6 +70,7 @@ first_is part a h =
     (λ b k. at_number part b (omega (arith, w)) ∙ is_loud part b (h.least b k))
     (λ k. at_number part a (omega (arith, n)) ∙ is_quiet part a h.quiet)
 
-pub velocity_attenuation_is : (velocity a : ℕ) → IsVelocityAttenuation (min velocity 127) a → a ≡ velocity_attenuation_of velocity
+pub velocity_attenuation_is : (velocity a : ℕ) → IsVelocityAttenuation (min velocity 127) a
+    → a ≡ velocity_attenuation_of velocity
 unfolding velocity_attenuation_of
 velocity_attenuation_is velocity a h = sym (first_is (min velocity 127) a h)

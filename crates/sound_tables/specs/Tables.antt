@@ -1,5 +1,6 @@
 -- The tables of the sound, by their formulas.
-use Rattle.std.specs.Prelude.{ℕ, ◌+◌, ◌-◌, ◌*◌, ◌/◌, ◌%◌, ◌^◌, ◌≤◌, ◌<◌, min, max, ℤ, pos, negsuc, Bool, cond, nat_lt, nat_le, int_le, List, [], ◌∷◌, slice_index}
+use Rattle.std.specs.Prelude.{ℕ, ◌+◌, ◌-◌, ◌*◌, ◌/◌, ◌%◌, ◌^◌, ◌≤◌, ◌<◌, min, max, ℤ, pos, negsuc, Bool, cond}
+use Rattle.std.specs.Prelude.{nat_lt, nat_le, int_le, List, [], ◌∷◌, slice_index}
 use Rattle.std.specs.Int.{int_max, int_min}
 use Rattle.std.specs.List.{position_or_len, range_with_len}
 use Rattle.sound_tables.specs.Floor.{floor_div, floor_mod, above_zero, scaled}

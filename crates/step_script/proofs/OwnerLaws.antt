@@ -1,5 +1,6 @@
 -- The laws of an owner, of a place in it, and of what several forms say alike.
-use Rattle.std.proofs.Common.{◌≡◌, ◌≤◌, ◌<◌, ◌^◌, ℕ, length, Bool, true, false, cond, List, [], ◌∷◌, codes, Ok, Some, refl, subst}
+use Rattle.std.proofs.Common.{◌≡◌, ◌≤◌, ◌<◌, ◌^◌, ℕ, length, Bool, true, false, cond, List, [], ◌∷◌, codes, Ok, Some}
+use Rattle.std.proofs.Common.{refl, subst}
 use Rattle.sf_base.specs.Names.{IsName}
 use Rattle.bank_parts.specs.Fits.{FitsHead, FitsSample, FitsText}
 use Rattle.bank_changes.specs.declared.members.Owner.{Owner}
@@ -26,11 +27,13 @@ use Rattle.script_grammar.proofs.OperandLaws.{IsFixed, AllFit}
 use Rattle.step_script.specs.declared.owners.OwnerKind.{OwnerKind}
 use Rattle.step_script.specs.declared.owners.OwnerKind.TheVariants as kind
 use Rattle.step_script.specs.Members.{place, named_operands, moved_operands, naming, moving}
-use Rattle.step_script.specs.Owners.{kind_word, kinds, kind_of, number_in, of_owner, at_place, of_zone, of_place, owner_with, an_owner, a_place, owner_zone, owner_place}
+use Rattle.step_script.specs.Owners.{kind_word, kinds, kind_of, number_in, of_owner, at_place, of_zone, of_place}
+use Rattle.step_script.specs.Owners.{owner_with, an_owner, a_place, owner_zone, owner_place}
 use Rattle.step_script.specs.Presets.{head_operands, head_of, head, placed_head}
 use Rattle.step_script.specs.Samples.{added_sample}
 use Rattle.step_script.specs.Texts.{id_and_text}
-use Rattle.step_script.proofs.Lawful.{IsLawful, ◌&◌, of_two, of_more, made_lawful, index, number16, named_lawful, a_name, a_text, an_id, a_body}
+use Rattle.step_script.proofs.Lawful.{IsLawful, ◌&◌, of_two, of_more, made_lawful, index, number16, named_lawful}
+use Rattle.step_script.proofs.Lawful.{a_name, a_text, an_id, a_body}
 
 -- ---- a number, and what follows it
 
@@ -55,7 +58,9 @@ id_with_text = an_id & a_text
 a_head : IsLawful head head_operands FitsHead
 unfolding head
 a_head =
-    made_lawful (a_name & number16 & number16 & index & index & index) (λ a. head_of a.0 a.1.0 a.1.1.0 a.1.1.1.0 a.1.1.1.1.0 a.1.1.1.1.1) (λ h. (h.name, (h.number, (h.bank, (h.library, (h.genre, h.morphology))))))
+    made_lawful (a_name & number16 & number16 & index & index & index)
+    (λ a. head_of a.0 a.1.0 a.1.1.0 a.1.1.1.0 a.1.1.1.1.0 a.1.1.1.1.1)
+    (λ h. (h.name, (h.number, (h.bank, (h.library, (h.genre, h.morphology))))))
     (of_more name (number16 & number16 & index & index & index) _ (λ n.
     of_more (number most_word) (number16 & index & index & index) _ (λ p.
     of_more (number most_word) (index & index & index) _ (λ b.
@@ -64,7 +69,17 @@ a_head =
     (λ h. refl)
     (λ a. refl)
     (λ a. (
-      λ h. record { name = h.0; number = h.1.0; bank = h.1.1.0; library = h.1.1.1.0; genre = h.1.1.1.1.0; morphology = h.1.1.1.1.1 },
+      λ h.
+          record {
+            name =
+                h.0;
+            number =
+                h.1.0;
+            bank = h.1.1.0;
+            library = h.1.1.1.0;
+            genre = h.1.1.1.1.0;
+            morphology = h.1.1.1.1.1;
+          },
       λ h. (h.name, (h.number, (h.bank, (h.library, (h.genre, h.morphology))))),
     ))
 
@@ -90,14 +105,18 @@ owner_said : (k : OwnerKind) (n : ℕ) → Fixed (kind_word k) ∷ place n ∷ [
 owner_said kind.Preset n = refl
 owner_said kind.Instrument n = refl
 
-owner_fits : (k : OwnerKind) (n : ℕ) → (Unit {0} × (n < 2 ^ 32) → FitsNumberOf (owner_with k n)) × (FitsNumberOf (owner_with k n) → Unit {0} × (n < 2 ^ 32))
+owner_fits : (k : OwnerKind) (n : ℕ)
+    → (Unit {0} × (n < 2 ^ 32) → FitsNumberOf (owner_with k n))
+    × (FitsNumberOf (owner_with k n) → Unit {0} × (n < 2 ^ 32))
 owner_fits kind.Preset n = (λ h. h.1, λ h. (tt, h))
 owner_fits kind.Instrument n = (λ h. h.1, λ h. (tt, h))
 
 pub owners : IsLawful an_owner of_owner FitsNumberOf
 unfolding an_owner
 owners =
-    made_lawful (named_lawful kind_word kinds kind_named kind_fixed & index) (λ a. owner_with a.0 a.1) (λ o. (kind_of o, number_in o)) (of_two (next_named kind_word kinds) (number most_double_word) owner_with) owner_is (λ a. owner_said a.0 a.1) (λ a. owner_fits a.0 a.1)
+    made_lawful (named_lawful kind_word kinds kind_named kind_fixed & index) (λ a. owner_with a.0 a.1)
+    (λ o. (kind_of o, number_in o)) (of_two (next_named kind_word kinds) (number most_double_word) owner_with)
+    owner_is (λ a. owner_said a.0 a.1) (λ a. owner_fits a.0 a.1)
 
 -- ---- a place in an owner
 
@@ -109,28 +128,48 @@ zone = number most_double_word >>= λ k. pure (there.Zone k)
 
 pub places : IsLawful a_place (λ p. at_place p ∷ []) FitsPlace
 unfolding a_place global zone
-places = record { gives = gives; fronts = λ line t h e. fronts line t h (is_next (codes "global") line) refl e; keeps = λ line t e. keeps line t (is_next (codes "global") line) e; fits = fits; fit = fit }
+places =
+    record {
+      gives =
+          gives;
+      fronts =
+          λ line t h e. fronts line t h (is_next (codes "global") line) refl e;
+      keeps =
+          λ line t e. keeps line t (is_next (codes "global") line) e;
+      fits = fits;
+      fit = fit;
+    }
   where
-    gives : (p : Place) (line : List Said) (more : List Operand) → AllSay line (at_place p ∷ more) → Gives a_place p line more
+    gives : (p : Place) (line : List Said) (more : List Operand) → AllSay line (at_place p ∷ more)
+        → Gives a_place p line more
     gives there.Global line more h =
-        as_other global a_place there.Global line more (rw (next_word (codes "global") (codes "global") line more h) refl)
+        as_other global a_place there.Global line more
+        (rw (next_word (codes "global") (codes "global") line more h) refl)
         (spell.then _ (gives_word (codes "global") line more h) (λ rest k. gives_pure there.Global rest more k))
     gives (there.Zone z) line more h =
         as_other zone a_place (there.Zone z) line more (rw (not_global most_double_word z line more h) refl)
         (spell.then _ (gives_number most_double_word z line more h) (λ rest k. gives_pure (there.Zone z) rest more k))
 
-    fronts : (line : List Said) (t : Took Place) → AllHoldBytes line → (b : Bool) → is_next (codes "global") line ≡ b → cond b (global line) (zone line) ≡ Ok t → Fronts line t.rest (at_place t.value ∷ [])
+    fronts : (line : List Said) (t : Took Place) → AllHoldBytes line → (b : Bool) → is_next (codes "global") line ≡ b
+        → cond b (global line) (zone line) ≡ Ok t → Fronts line t.rest (at_place t.value ∷ [])
     fronts line t h true k e =
         let w = both (word line) (λ w. pure there.Global) t e in
-        subst (λ (t : Took Place). Fronts line t.rest (at_place t.value ∷ [])) (made there.Global w.first.rest t w.second)
-        (subst (λ (v : List ℕ). Fronts line w.first.rest (Fixed v ∷ [])) (next_is (codes "global") line w.first w.is k) (word_front line w.first h w.is))
+        subst (λ (t : Took Place). Fronts line t.rest (at_place t.value ∷ []))
+        (made there.Global w.first.rest t w.second)
+        (subst (λ (v : List ℕ). Fronts line w.first.rest (Fixed v ∷ []))
+        (next_is (codes "global") line w.first w.is k) (word_front line w.first h w.is))
     fronts line t h false k e =
         let n = both (number most_double_word line) (λ k. pure (there.Zone k)) t e in
-        subst (λ (t : Took Place). Fronts line t.rest (at_place t.value ∷ [])) (made (there.Zone n.first.value) n.first.rest t n.second) (number_front most_double_word line n.first h n.is)
+        subst (λ (t : Took Place). Fronts line t.rest (at_place t.value ∷ []))
+        (made (there.Zone n.first.value) n.first.rest t n.second)
+        (number_front most_double_word line n.first h n.is)
 
-    keeps : (line : List Said) (t : Took Place) → (b : Bool) → cond b (global line) (zone line) ≡ Ok t → length t.rest ≤ length line
+    keeps : (line : List Said) (t : Took Place) → (b : Bool) → cond b (global line) (zone line) ≡ Ok t
+        → length t.rest ≤ length line
     keeps line t true e = then_keeps word _ (shortens_keeps word word_shortens) (λ w. pure_keeps there.Global) line t e
-    keeps line t false e = then_keeps (number most_double_word) _ (number_keeps most_double_word) (λ k. pure_keeps (there.Zone k)) line t e
+    keeps line t false e =
+        then_keeps (number most_double_word) _ (number_keeps most_double_word) (λ k. pure_keeps (there.Zone k)) line
+        t e
 
     fits : (p : Place) → AllRanged (at_place p ∷ []) → FitsPlace p
     fits there.Global h = tt

@@ -10,7 +10,8 @@ use Rattle.edit_forms.specs.Fits.{FitsNumberOf}
 use Rattle.line_tokens.specs.declared.cursor.Said.{Said}
 use Rattle.line_tokens.specs.Parts.{Part, ◌>>=◌, pure, and_then}
 use Rattle.script_grammar.specs.Operands.{Operand, AllSay}
-use Rattle.script_grammar.specs.Zones.{Written, WrittenZone, zone_operands, written_operands, written_zone, written_of, zone_in, zones_in, zone, zones}
+use Rattle.script_grammar.specs.Zones.{Written, WrittenZone, zone_operands, written_operands, written_zone}
+use Rattle.script_grammar.specs.Zones.{written_of, zone_in, zones_in, zone, zones}
 use Rattle.script_grammar.proofs.SpellLaws as spell
 use Rattle.script_grammar.proofs.SpellLaws.{Gives, gives_pure}
 use Rattle.script_grammar.proofs.ZoneSpellLaws.{EndsZones, gives_zone, gives_zones}
@@ -30,8 +31,10 @@ use Rattle.step_script.proofs.Lawful.{IsLawful, pair_part, of_two, regrouped, sa
 use Rattle.step_script.proofs.OwnerLaws.{owner_zones}
 
 -- what such a part has to keep to, if these operands say its values, and it is printed by those
-pub record IsSpelt {X : Type 0} (part : Part X) (Says : X → List Operand → Type 0) (printed : X → List Operand) (Fits : X → Type 0) : Type 0 where
-  pub gives : (x : X) (os more : List Operand) → EndsZones more → Says x os → (line : List Said) → AllSay line (os ++ more) → Gives part x line more
+pub record IsSpelt {X : Type 0} (part : Part X) (Says : X → List Operand → Type 0) (printed : X → List Operand)
+    (Fits : X → Type 0) : Type 0 where
+  pub gives : (x : X) (os more : List Operand) → EndsZones more → Says x os → (line : List Said)
+      → AllSay line (os ++ more) → Gives part x line more
   pub said : IsSaid X part Says
   pub keeps : Keeps part
   pub fits : (x : X) (os : List Operand) → Says x os → AllRanged os → Fits x
@@ -39,7 +42,8 @@ pub record IsSpelt {X : Type 0} (part : Part X) (Says : X → List Operand → T
   pub is_said : (x : X) → Says x (printed x)
 
 -- a part that is written in one way
-pub in_one_way : {X : Type 0} {p : Part X} {o : X → List Operand} {F : X → Type 0} → IsLawful p o F → IsSpelt p (λ x os. os ≡ o x) o F
+pub in_one_way : {X : Type 0} {p : Part X} {o : X → List Operand} {F : X → Type 0} → IsLawful p o F
+    → IsSpelt p (λ x os. os ≡ o x) o F
 in_one_way {X} {p} {o} l = record {
   gives = λ x os more end e line h. l.gives x line more (subst (λ (os : List Operand). AllSay line (os ++ more)) e h);
   said = λ line t g e. record { operands = o t.value; says = refl; fronts = l.fronts line t g e };
@@ -50,13 +54,16 @@ in_one_way {X} {p} {o} l = record {
 }
 
 -- behind operands that are written in one way
-pub record SaysBehind {Y : Type 0} (Says : Y → List Operand → Type 0) (before : List Operand) (y : Y) (os : List Operand) : Type 0 where
+pub record SaysBehind {Y : Type 0} (Says : Y → List Operand → Type 0) (before : List Operand) (y : Y)
+    (os : List Operand) : Type 0 where
   pub behind : List Operand
   pub parts : os ≡ before ++ behind
   pub says : Says y behind
 
-module _ {X Y : Type 0} {p : Part X} {q : Part Y} {o : X → List Operand} {F : X → Type 0} {S : Y → List Operand → Type 0} {r : Y → List Operand} {G : Y → Type 0} where
-  behind_spelt : IsLawful p o F → IsSpelt q S r G → IsSpelt (pair_part p q) (λ a. SaysBehind S (o a.0) a.1) (λ a. o a.0 ++ r a.1) (λ a. F a.0 × G a.1)
+module _ {X Y : Type 0} {p : Part X} {q : Part Y} {o : X → List Operand} {F : X → Type 0}
+    {S : Y → List Operand → Type 0} {r : Y → List Operand} {G : Y → Type 0} where
+  behind_spelt : IsLawful p o F → IsSpelt q S r G
+      → IsSpelt (pair_part p q) (λ a. SaysBehind S (o a.0) a.1) (λ a. o a.0 ++ r a.1) (λ a. F a.0 × G a.1)
   behind_spelt l m = record {
     gives = λ a os more end s line h.
         spell.then _ (l.gives a.0 line (s.behind ++ more) (subst (AllSay line) (append_assoc (o a.0) s.behind more) (subst (λ (os : List Operand). AllSay line (os ++ more)) s.parts h))) (λ rest k.
@@ -64,16 +71,22 @@ module _ {X Y : Type 0} {p : Part X} {q : Part Y} {o : X → List Operand} {F : 
     said =
         behind p _ (λ a. SaysBehind S (o a.0) a.1) o l.fronts (λ x.
         behind_said q _ (λ (a : X × Y) os. SaysBehind S (o a.0) a.1 (o x ++ os)) {S = S} m.said (λ y os s.
-        none (x, y) (λ (a : X × Y) more. SaysBehind S (o a.0) a.1 (o x ++ (os ++ more))) (record { behind = os; parts = ap (λ (os : List Operand). o x ++ os) (append-nil os); says = s })));
+        none (x, y) (λ (a : X × Y) more. SaysBehind S (o a.0) a.1 (o x ++ (os ++ more)))
+        (record { behind = os; parts = ap (λ (os : List Operand). o x ++ os) (append-nil os); says = s })));
     keeps = then_keeps p _ l.keeps (λ x. then_keeps q _ m.keeps (λ y. pure_keeps (x, y)));
-    fits = λ a os s h. let k = fit.behind (o a.0) s.behind (subst AllRanged s.parts h) in (l.fits a.0 k.0, m.fits a.1 s.behind s.says k.1);
+    fits =
+        λ a os s h. let k =
+        fit.behind (o a.0) s.behind (subst AllRanged s.parts h) in
+        (l.fits a.0 k.0, m.fits a.1 s.behind s.says k.1);
     fit = λ a h. both_fit (o a.0) (r a.1) (l.fit a.0 h.0) (m.fit a.1 h.1);
     is_said = λ a. record { behind = r a.1; parts = refl; says = m.is_said a.1 };
   }
 
 -- the same, said in other words
 module _ {X : Type 0} {p : Part X} {S T : X → List Operand → Type 0} {o : X → List Operand} {F G : X → Type 0} where
-  spelt_as : IsSpelt p S o F → ((x : X) (os : List Operand) → S x os → T x os) → ((x : X) (os : List Operand) → T x os → S x os) → ((x : X) → F x → G x) → ((x : X) → G x → F x) → IsSpelt p T o G
+  spelt_as : IsSpelt p S o F → ((x : X) (os : List Operand) → S x os → T x os)
+      → ((x : X) (os : List Operand) → T x os → S x os) → ((x : X) → F x → G x) → ((x : X) → G x → F x)
+      → IsSpelt p T o G
   spelt_as l to back up down = record {
     gives = λ x os more end s. l.gives x os more end (back x os s);
     said = said_as T l.said to;
@@ -86,10 +99,17 @@ module _ {X : Type 0} {p : Part X} {S T : X → List Operand → Type 0} {o : X 
 -- ---- zones
 
 -- a zone
-a_zone : IsSpelt zone (λ z os. (w : WrittenZone) × (os ≡ zone_operands w) × (zone_in w ≡ z)) (λ z. zone_operands (written_zone z)) FitsZone
+a_zone : IsSpelt zone (λ z os. (w : WrittenZone) × (os ≡ zone_operands w) × (zone_in w ≡ z))
+    (λ z. zone_operands (written_zone z)) FitsZone
 a_zone = record {
-  gives = λ z os more end s line h. subst (λ (z : Zone). Gives zone z line more) s.2 (gives_zone s.0 line more (subst (λ (os : List Operand). AllSay line (os ++ more)) s.1 h));
-  said = λ line t h e. let s = zone_front line t h e in record { operands = zone_operands s.said; says = (s.said, refl, s.stands); fronts = s.fronts };
+  gives =
+      λ z os more end s line h.
+      subst (λ (z : Zone). Gives zone z line more) s.2
+      (gives_zone s.0 line more (subst (λ (os : List Operand). AllSay line (os ++ more)) s.1 h));
+  said =
+      λ line t h e. let s =
+      zone_front line t h e in record
+      { operands = zone_operands s.said; says = (s.said, refl, s.stands); fronts = s.fronts };
   keeps = zone_keeps;
   fits = λ z os s h. subst FitsZone s.2 (zone_fits s.0 (subst AllRanged s.1 h));
   fit = zone_fit.zone_said;
@@ -97,22 +117,40 @@ a_zone = record {
 }
 
 -- GLOBAL? ZONE*
-some_zones : IsSpelt zones (λ z os. (w : Written) × (os ≡ written_operands w) × (zones_in w ≡ z)) (λ z. written_operands (written_of z.0 z.1)) (λ z. FitsGlobal z.0 × AllByRecursion FitsZone z.1)
+some_zones : IsSpelt zones (λ z os. (w : Written) × (os ≡ written_operands w) × (zones_in w ≡ z))
+    (λ z. written_operands (written_of z.0 z.1)) (λ z. FitsGlobal z.0 × AllByRecursion FitsZone z.1)
 some_zones = record {
-  gives = λ z os more end s line h. subst (λ (z : GlobalZone × List Zone). Gives zones z line more) s.2 (gives_zones more end s.0 line (subst (λ (os : List Operand). AllSay line (os ++ more)) s.1 h));
-  said = λ line t h e. let s = zones_front line t h e in record { operands = written_operands s.written; says = (s.written, refl, s.stands); fronts = s.fronts };
+  gives =
+      λ z os more end s line h.
+      subst (λ (z : GlobalZone × List Zone). Gives zones z line more) s.2
+      (gives_zones more end s.0 line (subst (λ (os : List Operand). AllSay line (os ++ more)) s.1 h));
+  said =
+      λ line t h e. let s =
+      zones_front line t h e in record
+      { operands = written_operands s.written; says = (s.written, refl, s.stands); fronts = s.fronts };
   keeps = zones_keep;
-  fits = λ z os s h. subst (λ (z : GlobalZone × List Zone). FitsGlobal z.0 × AllByRecursion FitsZone z.1) s.2 (zones_ranged s.0 (subst AllRanged s.1 h));
+  fits =
+      λ z os s h.
+      subst (λ (z : GlobalZone × List Zone). FitsGlobal z.0 × AllByRecursion FitsZone z.1) s.2
+      (zones_ranged s.0 (subst AllRanged s.1 h));
   fit = λ z h. zones_fit z.0 z.1 h.0 h.1;
   is_said = λ z. (written_of z.0 z.1, refl, zones_stand z.0 z.1);
 }
 
 -- ---- what has zones, and where it goes in
 
-pub adds_zone : IsSpelt (pair_part owner_zone zone) (λ a. SaysZone a.0.0 a.0.1 a.1) (λ a. printed_zone a.0.0 a.0.1 a.1) (λ a. FitsNumberOf a.0.0 × ((a.0.1 < 2 ^ 32) × FitsZone a.1))
+pub adds_zone : IsSpelt (pair_part owner_zone zone) (λ a. SaysZone a.0.0 a.0.1 a.1)
+    (λ a. printed_zone a.0.0 a.0.1 a.1) (λ a. FitsNumberOf a.0.0 × ((a.0.1 < 2 ^ 32) × FitsZone a.1))
 adds_zone =
     spelt_as (behind_spelt owner_zones a_zone)
-    (λ a os s. record { written = s.says.0; operands = s.parts ∙ ap (λ (os : List Operand). of_zone a.0.0 a.0.1 ++ os) s.says.1; stands = s.says.2 })
+    (λ a os s.
+    record {
+      written =
+          s.says.0;
+      operands =
+          s.parts ∙ ap (λ (os : List Operand). of_zone a.0.0 a.0.1 ++ os) s.says.1;
+      stands = s.says.2;
+    })
     (λ a os s. record { behind = zone_operands s.written; parts = s.operands; says = (s.written, refl, s.stands) })
     (λ a h. (h.0.0, (h.0.1, h.1)))
     (λ a h. ((h.0, h.1.0), h.1.1))
@@ -122,19 +160,33 @@ abbrev pub added : {H : Type 0} → (ℕ × H) × (GlobalZone × List Zone) → 
 added a = owner_of a.0.1 a.1
 
 module _ {H : Type 0} {p : Part (ℕ × H)} {o : H → List Operand} {F : H → Type 0} where
-  pub adds_owner : IsLawful p (λ a. place a.0 ∷ o a.1) (λ a. (a.0 < 2 ^ 32) × F a.1) → IsSpelt (pair_part p zones) (λ a. SaysOwner o a.0.0 (added a)) (λ a. printed_owner o a.0.0 (added a)) (λ a. (a.0.0 < 2 ^ 32) × FitsOwner F (added a))
+  pub adds_owner : IsLawful p (λ a. place a.0 ∷ o a.1) (λ a. (a.0 < 2 ^ 32) × F a.1)
+      → IsSpelt (pair_part p zones) (λ a. SaysOwner o a.0.0 (added a)) (λ a. printed_owner o a.0.0 (added a))
+      (λ a. (a.0.0 < 2 ^ 32) × FitsOwner F (added a))
   adds_owner l =
       spelt_as (behind_spelt l some_zones)
-      (λ a os s. record { written = s.says.0; operands = s.parts ∙ ap (λ (os : List Operand). (place a.0.0 ∷ o a.0.1) ++ os) s.says.1; stands = s.says.2 })
+      (λ a os s.
+      record {
+        written =
+            s.says.0;
+        operands =
+            s.parts ∙ ap (λ (os : List Operand). (place a.0.0 ∷ o a.0.1) ++ os) s.says.1;
+        stands = s.says.2;
+      })
       (λ a os s. record { behind = written_operands s.written; parts = s.operands; says = (s.written, refl, s.stands) })
       (λ a h. (h.0.0, record { head = h.0.1; global = h.1.0; zones = h.1.1 }))
       (λ a h. ((h.0, h.1.head), (h.1.global, h.1.zones)))
 
 -- it is read in these two parts
 module _ {H : Type 0} (p : Part (ℕ × H)) where
-  pub owner_parts : {Y : Type 0} (make : ℕ → WithZones H → Y) (line : List Said) → (owner p >>= λ a. pure (make a.0 a.1)) line ≡ (pair_part p zones >>= λ a. pure (make a.0.0 (added a))) line
+  pub owner_parts : {Y : Type 0} (make : ℕ → WithZones H → Y) (line : List Said)
+      → (owner p >>= λ a. pure (make a.0 a.1)) line ≡ (pair_part p zones >>= λ a. pure (make a.0.0 (added a))) line
   unfolding zones_of
   owner_parts make line =
       regrouped (p line) (λ h. zones_of h.1 >>= λ x. pure (h.0, x)) (λ a. pure (make a.0 a.1))
-      ∙ same_behind (p line) (λ h line. regrouped (and_then (zones line) (λ z. pure (owner_of h.1 z))) (λ x. pure (h.0, x)) (λ a. pure (make a.0 a.1)) ∙ regrouped (zones line) (λ z. pure (owner_of h.1 z)) (λ x. pure (make h.0 x)))
+      ∙ same_behind (p line)
+      (λ h line.
+      regrouped (and_then (zones line) (λ z. pure (owner_of h.1 z))) (λ x. pure (h.0, x))
+      (λ a. pure (make a.0 a.1))
+      ∙ regrouped (zones line) (λ z. pure (owner_of h.1 z)) (λ x. pure (make h.0 x)))
       ∙ of_two p zones (λ h z. make h.0 (owner_of h.1 z)) line

@@ -1,5 +1,6 @@
 -- The laws of a step, from the row of its form.
-use Rattle.std.proofs.Common.{◌≡◌, ◌∙◌, ap, Bool, true, false, List, [], ◌∷◌, ◌++◌, codes, Option, Some, cond, refl, sym, subst, ℕ}
+use Rattle.std.proofs.Common.{◌≡◌, ◌∙◌, ap, Bool, true, false, List, [], ◌∷◌, ◌++◌, codes, Option, Some, cond, refl}
+use Rattle.std.proofs.Common.{sym, subst, ℕ}
 use Rattle.std.specs.List.{list_all}
 use Rattle.std.specs.Str.{bytes_eq}
 use Rattle.std.proofs.lemmas.Bool.{and_parts}
@@ -32,13 +33,15 @@ form_named : (f : Form) → named form_word forms (form_word f) ≡ Some f
 form_named f = (row f).word
 
 -- what passes for all passes for the one that is named
-all_named : {X : Type 0} (test : X → Bool) (word_of : X → List ℕ) (xs : List X) (w : List ℕ) (x : X) → list_all test xs ≡ true → named word_of xs w ≡ Some x → test x ≡ true
+all_named : {X : Type 0} (test : X → Bool) (word_of : X → List ℕ) (xs : List X) (w : List ℕ) (x : X)
+    → list_all test xs ≡ true → named word_of xs w ≡ Some x → test x ≡ true
 all_named test word_of [] w x h e = cc
 all_named {X} test word_of (y ∷ ys) w x h e =
     let k = and_parts (test y) (list_all test ys) h in
     from k.0 (all_named test word_of ys w x k.1) (bytes_eq w (word_of y)) e
   where
-    from : test y ≡ true → (named word_of ys w ≡ Some x → test x ≡ true) → (b : Bool) → cond {A = Option X} b (Some y) (named word_of ys w) ≡ Some x → test x ≡ true
+    from : test y ≡ true → (named word_of ys w ≡ Some x → test x ≡ true) → (b : Bool)
+        → cond {A = Option X} b (Some y) (named word_of ys w) ≡ Some x → test x ≡ true
     from k on true e = let same : y ≡ x = cc in subst (λ (z : X). test z ≡ true) same k
     from k on false e = on e
 
@@ -59,7 +62,9 @@ not_group f = from (bytes_eq (form_word f) (codes "group")) refl
   where
     from : (b : Bool) → bytes_eq (form_word f) (codes "group") ≡ b → b ≡ false
     from true e =
-        let none : named form_word forms (codes "group") ≡ Some f = subst (λ (w : List ℕ). named form_word forms w ≡ Some f) ((bytes_eq-Decides (form_word f) (codes "group")).0 e) (form_named f) in
+        let none : named form_word forms (codes "group") ≡ Some f =
+        subst (λ (w : List ℕ). named form_word forms w ≡ Some f)
+        ((bytes_eq-Decides (form_word f) (codes "group")).0 e) (form_named f) in
         cc
     from false e = refl
 
@@ -71,7 +76,8 @@ StepOf f s os = SaysStep s os × (form_of s ≡ f)
 
 -- what says a step of a form is read as the step, fits where the step does, and is what is printed
 record IsStepLawful (f : Form) (s : Step) : Type 0 where
-  gives : (os more : List Operand) → EndsZones more → SaysStep s os → (line : List Said) → AllSay line (os ++ more) → Gives (operands_read f) s line more
+  gives : (os more : List Operand) → EndsZones more → SaysStep s os → (line : List Said) → AllSay line (os ++ more)
+      → Gives (operands_read f) s line more
   fits : (os : List Operand) → SaysStep s os → AllRanged os → FitsStep s
   fit : FitsStep s → AllFit (operands s)
   printed : SaysStep s (operands s)
@@ -83,20 +89,31 @@ module _ {f : Form} (r : Row f) where
       let k = r.lawful.said line u.first g u.is in
       let is = r.is u.first.value in
       subst (SaidFront (StepOf f) line) (made (r.make u.first.value) u.first.rest t u.second)
-      (record { operands = k.operands; says = (subst (λ (Says : List Operand → Type 0). Says k.operands) (sym is.1) k.says, is.0); fronts = k.fronts })
+      (record {
+        operands =
+            k.operands;
+        says =
+            (subst (λ (Says : List Operand → Type 0). Says k.operands) (sym is.1) k.says, is.0);
+        fronts =
+            k.fronts;
+      })
 
   operands_keep : Keeps (operands_read f)
-  operands_keep line t e = then_keeps r.part _ r.lawful.keeps (λ x. pure_keeps (r.make x)) line t (sym (r.reads line) ∙ e)
+  operands_keep line t e =
+      then_keeps r.part _ r.lawful.keeps (λ x. pure_keeps (r.make x)) line t (sym (r.reads line) ∙ e)
 
   operands_lawful : (x : r.Value) → IsStepLawful f (r.make x)
   operands_lawful x =
       let is = r.is x in record {
         gives = λ os more end h line k.
             as_other (r.part >>= λ x. pure (r.make x)) (operands_read f) (r.make x) line more (r.reads line)
-            (then _ (r.lawful.gives x os more end (subst (λ (Says : List Operand → Type 0). Says os) is.1 h) line k) (λ rest k. gives_pure (r.make x) rest more k));
+            (then _ (r.lawful.gives x os more end (subst (λ (Says : List Operand → Type 0). Says os) is.1 h) line k)
+            (λ rest k. gives_pure (r.make x) rest more k));
         fits = λ os h k. is.3 (r.lawful.fits x os (subst (λ (Says : List Operand → Type 0). Says os) is.1 h) k);
         fit = λ h. subst AllFit (sym is.2) (r.lawful.fit x (is.4 h));
-        printed = subst (λ (Says : List Operand → Type 0). Says (operands (r.make x))) (sym is.1) (subst (r.Says x) (sym is.2) (r.lawful.is_said x));
+        printed =
+            subst (λ (Says : List Operand → Type 0). Says (operands (r.make x))) (sym is.1)
+            (subst (r.Says x) (sym is.2) (r.lawful.is_said x));
       }
 
 step_lawful : (s : Step) → IsStepLawful (form_of s) s
@@ -109,13 +126,18 @@ pub step_said : IsSaid Step step SaysWhole
 unfolding step
 step_said =
     behind a_form _ SaysWhole (λ f. Fixed (form_word f) ∷ []) form_lawful.fronts (λ f.
-    said_as (λ s more. SaysWhole s (Fixed (form_word f) ∷ more)) (operands_said (row f)) (λ s os h. record { operands = os; parts = ap (λ (g : Form). Fixed (form_word g) ∷ os) (sym h.1); says = h.0 }))
+    said_as (λ s more. SaysWhole s (Fixed (form_word f) ∷ more)) (operands_said (row f)) (λ s os h. record
+    { operands = os; parts = ap (λ (g : Form). Fixed (form_word g) ∷ os) (sym h.1); says = h.0 }))
 
 -- what says a step is read as it
-pub gives_step : (s : Step) (os more : List Operand) → EndsZones more → SaysWhole s os → (line : List Said) → AllSay line (os ++ more) → Gives step s line more
+pub gives_step : (s : Step) (os more : List Operand) → EndsZones more → SaysWhole s os → (line : List Said)
+    → AllSay line (os ++ more) → Gives step s line more
 unfolding step
 gives_step s os more end h line k =
-    then _ (form_lawful.gives (form_of s) line (h.operands ++ more) (subst (λ (os : List Operand). AllSay line (os ++ more)) h.parts k)) (λ rest k. (step_lawful s).gives h.operands more end h.says rest k)
+    then _
+    (form_lawful.gives (form_of s) line (h.operands ++ more)
+    (subst (λ (os : List Operand). AllSay line (os ++ more)) h.parts k))
+    (λ rest k. (step_lawful s).gives h.operands more end h.says rest k)
 
 -- it leaves no more tokens than there were
 pub step_keeps : Keeps step

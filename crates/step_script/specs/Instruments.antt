@@ -2,7 +2,8 @@
 use Rattle.std.specs.Prelude.{ℕ, List, [], ◌∷◌}
 use Rattle.bank_parts.specs.declared.parts.WithZones.{WithZones}
 use Rattle.edit_forms.specs.declared.instruments.InstrumentStep.{InstrumentStep}
-use Rattle.edit_forms.specs.declared.instruments.InstrumentStep.TheVariants.{AddInstrument, RemoveInstrument, RenameInstrument, MoveInstrument}
+use Rattle.edit_forms.specs.declared.instruments.InstrumentStep.TheVariants.{AddInstrument, RemoveInstrument}
+use Rattle.edit_forms.specs.declared.instruments.InstrumentStep.TheVariants.{RenameInstrument, MoveInstrument}
 use Rattle.line_tokens.specs.Parts.{Part}
 use Rattle.script_grammar.specs.Operands.{Operand, Name}
 use Rattle.step_script.specs.Members.{place, named_operands, moved_operands, printed_owner, naming, owner}

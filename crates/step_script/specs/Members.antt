@@ -32,10 +32,11 @@ printed_owner head at x = owner_operands at (head x.head) (written_of x.global x
 
 -- the operands say a preset or an instrument that is put in: by zones that stand for its own, however
 -- they are written
-pub record SaysOwner {H : Type 0} (head : H → List Operand) (at : ℕ) (x : WithZones H) (os : List Operand) : Type 0 where
-  pub written : Written
-  pub operands : os ≡ owner_operands at (head x.head) written
-  pub stands : zones_in written ≡ (x.global, x.zones)
+pub record SaysOwner {H : Type 0} (head : H → List Operand) (at : ℕ) (x : WithZones H) (os : List Operand) : Type 0
+  where
+    pub written : Written
+    pub operands : os ≡ owner_operands at (head x.head) written
+    pub stands : zones_in written ≡ (x.global, x.zones)
 
 -- ---- how it is read
 

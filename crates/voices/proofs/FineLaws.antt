@@ -1,5 +1,6 @@
 -- A part of 1000 by two products of 16 bits.
-use Rattle.std.proofs.Common.{◌≡◌, ℕ, ◌+◌, ◌-◌, ◌*◌, ◌/◌, ◌%◌, ◌<◌, ◌≤◌, suc, ℤ, pos, negsuc, ◌+ℤ◌, ◌*ℤ◌, ◌≤ℤ◌, SFits, to_z, of_z, ap, subst, sym, ◌∙◌, arith}
+use Rattle.std.proofs.Common.{◌≡◌, ℕ, ◌+◌, ◌-◌, ◌*◌, ◌/◌, ◌%◌, ◌<◌, ◌≤◌, suc, ℤ, pos, negsuc, ◌+ℤ◌, ◌*ℤ◌, ◌≤ℤ◌}
+use Rattle.std.proofs.Common.{SFits, to_z, of_z, ap, subst, sym, ◌∙◌, arith}
 use Rattle.std.proofs.lemmas.Int.{ints}
 use Rattle.std.proofs.lemmas.Nat.{div-add-mod', mod_below, mul-le}
 use Rattle.std.specs.Int.{w16, w32}
@@ -25,11 +26,15 @@ split (negsuc a) n h =
 
 in_two : (z : ℤ) (f h l : ℕ) → f ≡ h * 16384 + l → (z *ℤ pos h) *ℤ pos 16384 +ℤ z *ℤ pos l ≡ z *ℤ pos f
 in_two (pos a) f h l e = let g : a * f ≡ a * (h * 16384 + l) = ap (λ x. a * x) e in omega (arith, ints, g)
-in_two (negsuc a) f h l e = let g : suc a * f ≡ suc a * (h * 16384 + l) = ap (λ x. suc a * x) e in omega (arith, ints, g)
+in_two (negsuc a) f h l e =
+    let g : suc a * f ≡ suc a * (h * 16384 + l) = ap (λ x. suc a * x) e in omega (arith, ints, g)
 
-in_thousandths : (z : ℤ) (f part r : ℕ) → f * 1000 ≡ part * 268435456 + r → (z *ℤ pos part) *ℤ pos 268435456 +ℤ z *ℤ pos r ≡ (z *ℤ pos f) *ℤ pos 1000
-in_thousandths (pos a) f part r e = let g : a * (f * 1000) ≡ a * (part * 268435456 + r) = ap (λ x. a * x) e in omega (arith, ints, g)
-in_thousandths (negsuc a) f part r e = let g : suc a * (f * 1000) ≡ suc a * (part * 268435456 + r) = ap (λ x. suc a * x) e in omega (arith, ints, g)
+in_thousandths : (z : ℤ) (f part r : ℕ) → f * 1000 ≡ part * 268435456 + r
+    → (z *ℤ pos part) *ℤ pos 268435456 +ℤ z *ℤ pos r ≡ (z *ℤ pos f) *ℤ pos 1000
+in_thousandths (pos a) f part r e =
+    let g : a * (f * 1000) ≡ a * (part * 268435456 + r) = ap (λ x. a * x) e in omega (arith, ints, g)
+in_thousandths (negsuc a) f part r e =
+    let g : suc a * (f * 1000) ≡ suc a * (part * 268435456 + r) = ap (λ x. suc a * x) e in omega (arith, ints, g)
 
 record Little (z : ℤ) : Type 0 where
   low : negsuc 32735231 ≤ℤ z
@@ -37,9 +42,11 @@ record Little (z : ℤ) : Type 0 where
 
 little : (z : ℤ) (r : ℕ) → r ≤ 999 → SFits w16 z → Little (z *ℤ pos r)
 little (pos a) r h f =
-    let m : a * r ≤ 32768 * 999 = mul-le a r 32768 999 (omega (arith, ints, f)) h in record { low = omega (arith, ints, m); high = omega (arith, ints, m) }
+    let m : a * r ≤ 32768 * 999 = mul-le a r 32768 999 (omega (arith, ints, f)) h in
+    record { low = omega (arith, ints, m); high = omega (arith, ints, m) }
 little (negsuc a) r h f =
-    let m : suc a * r ≤ 32768 * 999 = mul-le (suc a) r 32768 999 (omega (arith, ints, f)) h in record { low = omega (arith, ints, m); high = omega (arith, ints, m) }
+    let m : suc a * r ≤ 32768 * 999 = mul-le (suc a) r 32768 999 (omega (arith, ints, f)) h in
+    record { low = omega (arith, ints, m); high = omega (arith, ints, m) }
 
 -- what is too much is less than the least that the quotient leaves
 pub fine_side : (z : ℤ) (part h l : ℕ) → h * 16384 + l ≡ fine_of part → SFits w16 z
@@ -77,10 +84,36 @@ quarter (negsuc a) l h = record { low = omega (arith, ints, l); high = omega (ar
 
 -- the sum of the products, as it is computed
 pub record Computed (z h l frame high low : ℤ) : Type 0 where
-  pub fits : SFits w32 (to_z w32 (of_z w32 (to_z w32 (of_z w32 frame) *ℤ to_z w32 (of_z w32 high))) +ℤ to_z w32 (of_z w32 (shr_z (to_z w32 (of_z w32 (to_z w32 (of_z w32 (to_z w32 (of_z w32 frame) *ℤ to_z w32 (of_z w32 low))) +ℤ pos 32768))) 16384)))
-  pub value : to_z w32 (of_z w32 (shr_z (to_z w32 (of_z w32 (to_z w32 (of_z w32 (to_z w32 (of_z w32 frame) *ℤ to_z w32 (of_z w32 high))) +ℤ to_z w32 (of_z w32 (shr_z (to_z w32 (of_z w32 (to_z w32 (of_z w32 (to_z w32 (of_z w32 frame) *ℤ to_z w32 (of_z w32 low))) +ℤ pos 32768))) 16384))))) 16384)) ≡ shr_z (z *ℤ h +ℤ shr_z (z *ℤ l +ℤ pos 32768) 16384) 16384
+  pub fits : SFits w32
+      (to_z w32 (of_z w32 (to_z w32 (of_z w32 frame) *ℤ to_z w32 (of_z w32 high)))
+      +ℤ to_z w32
+      (of_z w32
+      (shr_z
+      (to_z w32
+      (of_z w32
+      (to_z w32 (of_z w32 (to_z w32 (of_z w32 frame) *ℤ to_z w32 (of_z w32 low)))
+      +ℤ pos 32768)))
+      16384)))
+  pub value : to_z w32
+      (of_z w32
+      (shr_z
+      (to_z w32
+      (of_z w32
+      (to_z w32 (of_z w32 (to_z w32 (of_z w32 frame) *ℤ to_z w32 (of_z w32 high)))
+      +ℤ to_z w32
+      (of_z w32
+      (shr_z
+      (to_z w32
+      (of_z w32
+      (to_z w32
+      (of_z w32 (to_z w32 (of_z w32 frame) *ℤ to_z w32 (of_z w32 low)))
+      +ℤ pos 32768)))
+      16384)))))
+      16384))
+      ≡ shr_z (z *ℤ h +ℤ shr_z (z *ℤ l +ℤ pos 32768) 16384) 16384
 
-pub computed : (z h l frame high low : ℤ) → SFits w16 z → SFits w16 h → SFits w16 l → frame ≡ z → high ≡ h → low ≡ l → Computed z h l frame high low
+pub computed : (z h l frame high low : ℤ) → SFits w16 z → SFits w16 h → SFits w16 l → frame ≡ z → high ≡ h → low ≡ l
+    → Computed z h l frame high low
 computed z h l frame high low fz fh fl ez eh el =
     let one = product_within z l fz fl in
     let two = product_within z h fz fh in
@@ -104,21 +137,43 @@ computed z h l frame high low fz fh fl ez eh el =
     let s : to_z w32 (of_z w32 y) ≡ y = omega (arith, ints, il, ih) in
     let t : to_z w32 (of_z w32 (z *ℤ h +ℤ y)) ≡ z *ℤ h +ℤ y = omega (arith, ints, tl, th, il, ih) in
     let u : to_z w32 (of_z w32 (shr_z (z *ℤ h +ℤ y) 16384)) ≡ shr_z (z *ℤ h +ℤ y) 16384 = omega (arith, ints, xl, xh) in
-    let first : to_z w32 (of_z w32 (to_z w32 (of_z w32 (to_z w32 (of_z w32 frame) *ℤ to_z w32 (of_z w32 low))) +ℤ pos 32768)) ≡ z *ℤ l +ℤ pos 32768 =
-    (λ i. to_z w32 (of_z w32 (to_z w32 (of_z w32 (a i *ℤ c i)) +ℤ pos 32768))) ∙ ap (λ (v : ℤ). to_z w32 (of_z w32 (v +ℤ pos 32768))) p ∙ r in
-    let second : to_z w32 (of_z w32 (shr_z (to_z w32 (of_z w32 (to_z w32 (of_z w32 (to_z w32 (of_z w32 frame) *ℤ to_z w32 (of_z w32 low))) +ℤ pos 32768))) 16384)) ≡ y =
+    let first : to_z w32
+    (of_z w32 (to_z w32 (of_z w32 (to_z w32 (of_z w32 frame) *ℤ to_z w32 (of_z w32 low))) +ℤ pos 32768))
+    ≡ z *ℤ l +ℤ pos 32768 =
+    (λ i. to_z w32 (of_z w32 (to_z w32 (of_z w32 (a i *ℤ c i)) +ℤ pos 32768)))
+    ∙ ap (λ (v : ℤ). to_z w32 (of_z w32 (v +ℤ pos 32768))) p ∙ r in
+    let second : to_z w32
+    (of_z w32
+    (shr_z
+    (to_z w32
+    (of_z w32
+    (to_z w32 (of_z w32 (to_z w32 (of_z w32 frame) *ℤ to_z w32 (of_z w32 low))) +ℤ pos 32768)))
+    16384))
+    ≡ y =
     ap (λ (v : ℤ). to_z w32 (of_z w32 (shr_z v 16384))) first ∙ s in
-    let third : to_z w32 (of_z w32 (to_z w32 (of_z w32 frame) *ℤ to_z w32 (of_z w32 high))) ≡ z *ℤ h = (λ i. to_z w32 (of_z w32 (a i *ℤ b i))) ∙ q in
-    let sum : to_z w32 (of_z w32 (to_z w32 (of_z w32 frame) *ℤ to_z w32 (of_z w32 high))) +ℤ to_z w32 (of_z w32 (shr_z (to_z w32 (of_z w32 (to_z w32 (of_z w32 (to_z w32 (of_z w32 frame) *ℤ to_z w32 (of_z w32 low))) +ℤ pos 32768))) 16384)) ≡ z *ℤ h +ℤ y =
+    let third : to_z w32 (of_z w32 (to_z w32 (of_z w32 frame) *ℤ to_z w32 (of_z w32 high))) ≡ z *ℤ h =
+    (λ i. to_z w32 (of_z w32 (a i *ℤ b i))) ∙ q in
+    let sum : to_z w32 (of_z w32 (to_z w32 (of_z w32 frame) *ℤ to_z w32 (of_z w32 high)))
+    +ℤ to_z w32
+    (of_z w32
+    (shr_z
+    (to_z w32
+    (of_z w32
+    (to_z w32 (of_z w32 (to_z w32 (of_z w32 frame) *ℤ to_z w32 (of_z w32 low))) +ℤ pos 32768)))
+    16384))
+    ≡ z *ℤ h +ℤ y =
     λ i. third i +ℤ second i in
     let room : SFits w32 (z *ℤ h +ℤ y) = omega (arith, ints, tl, th, il, ih) in
     record {
       fits = subst (λ (v : ℤ). SFits w32 v) (sym sum) room;
-      value = ap (λ (v : ℤ). to_z w32 (of_z w32 (shr_z (to_z w32 (of_z w32 v)) 16384))) sum ∙ ap (λ (v : ℤ). to_z w32 (of_z w32 (shr_z v 16384))) t ∙ u;
+      value =
+          ap (λ (v : ℤ). to_z w32 (of_z w32 (shr_z (to_z w32 (of_z w32 v)) 16384))) sum
+          ∙ ap (λ (v : ℤ). to_z w32 (of_z w32 (shr_z v 16384))) t ∙ u;
     }
 
 -- and that it is the side
-pub fine_is : (z h l : ℤ) (part : ℕ) → part ≤ 1000 → SFits w16 z → h ≡ pos (fine_of part / 16384) → l ≡ pos (fine_of part % 16384)
+pub fine_is : (z h l : ℤ) (part : ℕ) → part ≤ 1000 → SFits w16 z → h ≡ pos (fine_of part / 16384)
+    → l ≡ pos (fine_of part % 16384)
     → shr_z (z *ℤ h +ℤ shr_z (z *ℤ l +ℤ pos 32768) 16384) 16384 ≡ side z part
 fine_is z h l part most fz eh el =
     let m : ℕ = fine_of part / 16384 in

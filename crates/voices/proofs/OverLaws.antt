@@ -1,5 +1,6 @@
 -- A voice that is over stays so; one that isn't is before its end.
-use Rattle.std.proofs.Common.{◌≡◌, sym, ◌∙◌, true≢false, List, ℕ, zero, suc, ◌+◌, ◌*◌, ◌<◌, ◌≤◌, Bool, true, false, cond, not, ◌&&◌, refl, subst, arith, nat_le, ⊎_elim}
+use Rattle.std.proofs.Common.{◌≡◌, sym, ◌∙◌, true≢false, List, ℕ, zero, suc, ◌+◌, ◌*◌, ◌<◌, ◌≤◌, Bool, true, false}
+use Rattle.std.proofs.Common.{cond, not, ◌&&◌, refl, subst, arith, nat_le, ⊎_elim}
 use Rattle.std.proofs.lemmas.Bool.{cases_eq}
 use Rattle.std.proofs.lemmas.Bool.Decides.{nat_tests}
 use Rattle.zone_select.specs.declared.parameters.VoiceParameters.{VoiceParameters}
@@ -16,27 +17,31 @@ is_looped true left e = refl
 is_looped false left e = e
 
 -- a loop that is in force lies within the sample
-pub loop_start_inside : (n : ℕ) (v : VoiceParameters) (t : ℕ) → IsPlayable n v → is_looping v t ≡ true → v.loop_start < n
+pub loop_start_inside : (n : ℕ) (v : VoiceParameters) (t : ℕ) → IsPlayable n v → is_looping v t ≡ true
+    → v.loop_start < n
 loop_start_inside n v t p e =
     let l : v.looped ≡ true = is_looped v.looped (is_loop_left v t) e in
     let a : v.loop_start < v.loop_end = p.ordered l in
     let b : v.loop_end ≤ v.end = p.loop_inside l in
     let d : v.end ≤ n = p.inside in omega arith
 
-before_end : (ended looping : Bool) (at end : ℕ) → cond ended true (not looping && nat_le end at) ≡ false → (looping ≡ true → at < end) → at < end
+before_end : (ended looping : Bool) (at end : ℕ) → cond ended true (not looping && nat_le end at) ≡ false
+    → (looping ≡ true → at < end) → at < end
 before_end true looping at end e h = absurd cc
 before_end false true at end e h = h refl
 before_end false false at end e h = grind (arith, nat_tests)
 
 -- a voice that isn't over reads before its end
-pub place_sounds : (n : ℕ) (v : VoiceParameters) (t : ℕ) → IsPlayable n v → is_over v t ≡ false → place v t < 65536 * v.end
+pub place_sounds : (n : ℕ) (v : VoiceParameters) (t : ℕ) → IsPlayable n v → is_over v t ≡ false
+    → place v t < 65536 * v.end
 place_sounds n v t p e =
     before_end (nat_le (v.length + v.release) t) (is_looping v t) (place v t) (65536 * v.end) e
     (λ l.
     let a : place v t < 65536 * v.loop_end = place_inside v t l p.ordered in
     let b : v.loop_end ≤ v.end = p.loop_inside (is_looped v.looped (is_loop_left v t) l) in omega arith)
 
-left_stays : (looped until : Bool) (l t : ℕ) → (looped && not (until && nat_le l t)) ≡ false → (looped && not (until && nat_le l (t + 1))) ≡ false
+left_stays : (looped until : Bool) (l t : ℕ) → (looped && not (until && nat_le l t)) ≡ false
+    → (looped && not (until && nat_le l (t + 1))) ≡ false
 left_stays false until l t e = refl
 left_stays true false l t e = absurd cc
 left_stays true true l t e =
@@ -46,7 +51,8 @@ left_stays true true l t e =
 pub loop_left_stays : (v : VoiceParameters) (t : ℕ) → is_looping v t ≡ false → is_looping v (t + 1) ≡ false
 loop_left_stays v t e = left_stays v.looped v.until_release v.length t e
 
-over_case : (ended ended' looping looping' : Bool) (end at at' step : ℕ) → (ended ≡ true → ended' ≡ true) → (looping ≡ false → looping' ≡ false)
+over_case : (ended ended' looping looping' : Bool) (end at at' step : ℕ) → (ended ≡ true → ended' ≡ true)
+    → (looping ≡ false → looping' ≡ false)
     → (looping ≡ false → at' ≡ at + step)
     → cond ended true (not looping && nat_le end at) ≡ true → cond ended' true (not looping' && nat_le end at') ≡ true
 over_case true ended' looping looping' end at at' step f g h e = rw (f refl) refl
@@ -58,7 +64,8 @@ over_case false false false looping' end at at' step f g h e =
 
 pub over_next : (v : VoiceParameters) (t : ℕ) → is_over v t ≡ true → is_over v (t + 1) ≡ true
 over_next v t e =
-    over_case (nat_le (v.length + v.release) t) (nat_le (v.length + v.release) (t + 1)) (is_looping v t) (is_looping v (t + 1))
+    over_case (nat_le (v.length + v.release) t) (nat_le (v.length + v.release) (t + 1)) (is_looping v t)
+    (is_looping v (t + 1))
     (65536 * v.end) (place v t) (place v (t + 1)) v.step
     (λ l. grind (arith, nat_tests)) (loop_left_stays v t) (place_straight v t) e
 
@@ -73,7 +80,8 @@ pub is_looped_at : (v : VoiceParameters) (t : ℕ) → is_looping v t ≡ true �
 is_looped_at v t e = is_looped v.looped (is_loop_left v t) e
 
 -- a course that is over stays right
-pub course_stays : (points : List ℕ) (v : VoiceParameters) (s t : ℕ) (course : Course) → s ≤ t → course.over ≡ true → IsCourse points v s course → IsCourse points v t course
+pub course_stays : (points : List ℕ) (v : VoiceParameters) (s t : ℕ) (course : Course) → s ≤ t → course.over ≡ true
+    → IsCourse points v s course → IsCourse points v t course
 course_stays points v s t course l e h = record {
   over = e ∙ sym (over_stays v s t l (sym h.over ∙ e));
   young = λ f. absurd (true≢false (sym e ∙ f));

@@ -1,5 +1,6 @@
 -- Places that wrap and go on.
-use Rattle.std.proofs.Common.{◌≡◌, ℕ, zero, suc, ◌+◌, ◌-◌, ◌*◌, ◌/◌, ◌%◌, ◌<◌, ◌≤◌, Bool, true, false, cond, not, ◌&&◌, refl, sym, ◌∙◌, ap, arith, inl, inr, nat_le}
+use Rattle.std.proofs.Common.{◌≡◌, ℕ, zero, suc, ◌+◌, ◌-◌, ◌*◌, ◌/◌, ◌%◌, ◌<◌, ◌≤◌, Bool, true, false, cond, not}
+use Rattle.std.proofs.Common.{◌&&◌, refl, sym, ◌∙◌, ap, arith, inl, inr, nat_le}
 use Rattle.zone_select.specs.declared.parameters.VoiceParameters.{VoiceParameters}
 use Rattle.std.proofs.lemmas.Nat.{mod_below, div_below}
 use Rattle.std.proofs.lemmas.Bool.{cases_lt}
@@ -47,7 +48,8 @@ wrapped_later from to x step h ge =
     let g : (m + step) % (to - from) ≡ (x - from + step) % (to - from) = mod_step (x - from) (to - from) step in
     let d : x - from + step ≡ x + step - from = omega arith in
     let r : wrapped from to (x + step) ≡ from + (m + step) % (to - from) =
-    wrapped_above from to (x + step) (omega arith) ∙ ap (λ y. from + y % (to - from)) (sym d) ∙ ap (λ y. from + y) (sym g) in
+    wrapped_above from to (x + step) (omega arith) ∙ ap (λ y. from + y % (to - from)) (sym d)
+    ∙ ap (λ y. from + y) (sym g) in
     elim (cases_lt (from + m + step) to) [
       | inl lt ↦ let k : (m + step) % (to - from) ≡ m + step = mod-eq_of_lt (omega arith) in
           wrapped_below from to (from + m + step) lt ∙ omega arith
@@ -56,7 +58,8 @@ wrapped_later from to x step h ge =
     ]
 
 -- to wrap first and step afterwards is to step and wrap
-pub wrapped_step : (from to x step : ℕ) → from < to → wrapped from to (wrapped from to x + step) ≡ wrapped from to (x + step)
+pub wrapped_step : (from to x step : ℕ) → from < to
+    → wrapped from to (wrapped from to x + step) ≡ wrapped from to (x + step)
 wrapped_step from to x step h =
     elim (cases_lt x to) [
       | inl lt ↦ ap (λ y. wrapped from to (y + step)) (wrapped_below from to x lt)
@@ -71,35 +74,46 @@ wrapped_next place from to first t step h e =
     ap (λ y. wrapped from to (y + step)) e ∙ wrapped_step from to (first + t * step) step h ∙ ap (wrapped from to) f
 
 -- a place fits 60 bits
-pub far_place : (first t step : ℕ) → first < 4294967296 → t < 8589934592 → step ≤ 73043661 → 65536 * first + t * step < 1152921504606846976
+pub far_place : (first t step : ℕ) → first < 4294967296 → t < 8589934592 → step ≤ 73043661
+    → 65536 * first + t * step < 1152921504606846976
 far_place first t step h g k =
     let e : t * step ≤ 8589934592 * 73043661 = mul-le t step 8589934592 73043661 (omega arith) k in omega arith
 
 pub far_rest : (t l step : ℕ) → t < 8589934592 → step ≤ 73043661 → (t - l) * step < 1152921504606846976
 far_rest t l step g k =
-    let e : (t - l) * step ≤ 8589934592 * 73043661 = mul-le (t - l) step 8589934592 73043661 (omega arith) k in omega arith
+    let e : (t - l) * step ≤ 8589934592 * 73043661 = mul-le (t - l) step 8589934592 73043661 (omega arith) k in
+    omega arith
 
-cond_inside : (looped left : Bool) (x y from to : ℕ) → (looped && not left) ≡ true → (looped ≡ true → from < to) → cond left y (cond looped (wrapped from to x) x) < to
+cond_inside : (looped left : Bool) (x y from to : ℕ) → (looped && not left) ≡ true → (looped ≡ true → from < to)
+    → cond left y (cond looped (wrapped from to x) x) < to
 cond_inside true false x y from to e h = wrapped_within from to x (h refl)
 cond_inside true true x y from to e h = cc
 cond_inside false left x y from to e h = cc
 
 -- a loop that is in force keeps the place before its end
-pub place_inside : (v : VoiceParameters) (t : ℕ) → is_looping v t ≡ true → (v.looped ≡ true → v.loop_start < v.loop_end) → place v t < 65536 * v.loop_end
+pub place_inside : (v : VoiceParameters) (t : ℕ) → is_looping v t ≡ true
+    → (v.looped ≡ true → v.loop_start < v.loop_end) → place v t < 65536 * v.loop_end
 unfolding place looped_place
 place_inside v t e h =
-    cond_inside v.looped (is_loop_left v t) (65536 * v.start + t * v.step) _ (65536 * v.loop_start) (65536 * v.loop_end) e (λ l. let g : v.loop_start < v.loop_end = h l in omega arith)
+    cond_inside v.looped (is_loop_left v t) (65536 * v.start + t * v.step) _ (65536 * v.loop_start)
+    (65536 * v.loop_end) e (λ l. let g : v.loop_start < v.loop_end = h l in omega arith)
 
 by_looped : (looped : Bool) (from to first t step : ℕ) → (looped ≡ true → from < to)
     → cond looped (wrapped from to (first + (t + 1) * step)) (first + (t + 1) * step)
-    ≡ cond looped (wrapped from to (cond looped (wrapped from to (first + t * step)) (first + t * step) + step)) (cond looped (wrapped from to (first + t * step)) (first + t * step) + step)
-by_looped true from to first t step h = sym (wrapped_next (wrapped from to (first + t * step)) from to first t step (h refl) refl)
+    ≡ cond looped (wrapped from to (cond looped (wrapped from to (first + t * step)) (first + t * step) + step))
+    (cond looped (wrapped from to (first + t * step)) (first + t * step) + step)
+by_looped true from to first t step h =
+    sym (wrapped_next (wrapped from to (first + t * step)) from to first t step (h refl) refl)
 by_looped false from to first t step h = omega arith
 
 looped_place_more : (v : VoiceParameters) (t : ℕ) → (v.looped ≡ true → v.loop_start < v.loop_end)
-    → looped_place v (t + 1) ≡ cond v.looped (wrapped (65536 * v.loop_start) (65536 * v.loop_end) (looped_place v t + v.step)) (looped_place v t + v.step)
+    → looped_place v (t + 1)
+    ≡ cond v.looped (wrapped (65536 * v.loop_start) (65536 * v.loop_end) (looped_place v t + v.step))
+    (looped_place v t + v.step)
 unfolding looped_place
-looped_place_more v t h = by_looped v.looped (65536 * v.loop_start) (65536 * v.loop_end) (65536 * v.start) t v.step (λ l. let g : v.loop_start < v.loop_end = h l in omega arith)
+looped_place_more v t h =
+    by_looped v.looped (65536 * v.loop_start) (65536 * v.loop_end) (65536 * v.start) t v.step
+    (λ l. let g : v.loop_start < v.loop_end = h l in omega arith)
 
 minus_self : (l t : ℕ) → l ≡ t + 1 → t + 1 - l ≡ 0
 minus_self l t e = omega arith
@@ -112,7 +126,8 @@ early_case : (looped : Bool) (x z : ℕ) → cond looped x z ≡ cond (looped &&
 early_case true x z = refl
 early_case false x z = refl
 
-at_end : (b : Bool) (l t step : ℕ) (r : ℕ → ℕ) → (b ≡ true → l ≡ t + 1) → cond b (r l + (t + 1 - l) * step) (r (t + 1)) ≡ r (t + 1)
+at_end : (b : Bool) (l t step : ℕ) (r : ℕ → ℕ) → (b ≡ true → l ≡ t + 1)
+    → cond b (r l + (t + 1 - l) * step) (r (t + 1)) ≡ r (t + 1)
 at_end false l t step r f = refl
 at_end true l t step r f =
     let e : l ≡ t + 1 = f refl in
@@ -121,7 +136,8 @@ at_end true l t step r f =
 
 late : (looped : Bool) (l t step : ℕ) (r w : ℕ → ℕ) → l ≤ t
     → cond (nat_le l (t + 1)) (r l + (t + 1 - l) * step) (r (t + 1))
-    ≡ cond (looped && not (nat_le l t)) (w (cond (nat_le l t) (r l + (t - l) * step) (r t) + step)) (cond (nat_le l t) (r l + (t - l) * step) (r t) + step)
+    ≡ cond (looped && not (nat_le l t)) (w (cond (nat_le l t) (r l + (t - l) * step) (r t) + step))
+    (cond (nat_le l t) (r l + (t - l) * step) (r t) + step)
 late looped l t step r w h =
     let a : nat_le l t ≡ true = grind (arith, nat_tests) in
     let b : nat_le l (t + 1) ≡ true = grind (arith, nat_tests) in
@@ -131,15 +147,18 @@ late looped l t step r w h =
 
 early : (looped : Bool) (l t step : ℕ) (r w : ℕ → ℕ) → r (t + 1) ≡ cond looped (w (r t + step)) (r t + step) → t < l
     → cond (nat_le l (t + 1)) (r l + (t + 1 - l) * step) (r (t + 1))
-    ≡ cond (looped && not (nat_le l t)) (w (cond (nat_le l t) (r l + (t - l) * step) (r t) + step)) (cond (nat_le l t) (r l + (t - l) * step) (r t) + step)
+    ≡ cond (looped && not (nat_le l t)) (w (cond (nat_le l t) (r l + (t - l) * step) (r t) + step))
+    (cond (nat_le l t) (r l + (t - l) * step) (r t) + step)
 early looped l t step r w e h =
     let a : nat_le l t ≡ false = grind (arith, nat_tests) in
-    let f : cond (nat_le l (t + 1)) (r l + (t + 1 - l) * step) (r (t + 1)) ≡ r (t + 1) = at_end (nat_le l (t + 1)) l t step r (λ q. grind (arith, nat_tests)) in
+    let f : cond (nat_le l (t + 1)) (r l + (t + 1 - l) * step) (r (t + 1)) ≡ r (t + 1) =
+    at_end (nat_le l (t + 1)) l t step r (λ q. grind (arith, nat_tests)) in
     f ∙ e ∙ rw a (early_case looped _ _)
 
 by_until : (until looped : Bool) (l t step : ℕ) (r w : ℕ → ℕ) → r (t + 1) ≡ cond looped (w (r t + step)) (r t + step)
     → cond (until && nat_le l (t + 1)) (r l + (t + 1 - l) * step) (r (t + 1))
-    ≡ cond (looped && not (until && nat_le l t)) (w (cond (until && nat_le l t) (r l + (t - l) * step) (r t) + step)) (cond (until && nat_le l t) (r l + (t - l) * step) (r t) + step)
+    ≡ cond (looped && not (until && nat_le l t)) (w (cond (until && nat_le l t) (r l + (t - l) * step) (r t) + step))
+    (cond (until && nat_le l t) (r l + (t - l) * step) (r t) + step)
 by_until false true l t step r w e = e
 by_until false false l t step r w e = e
 by_until true looped l t step r w e =
@@ -150,12 +169,18 @@ by_until true looped l t step r w e =
 
 -- where the loop is in force the place wraps, and elsewhere it goes straight on
 pub place_more : (v : VoiceParameters) (t : ℕ) → (v.looped ≡ true → v.loop_start < v.loop_end)
-    → place v (t + 1) ≡ cond (is_looping v t) (wrapped (65536 * v.loop_start) (65536 * v.loop_end) (place v t + v.step)) (place v t + v.step)
+    → place v (t + 1)
+    ≡ cond (is_looping v t) (wrapped (65536 * v.loop_start) (65536 * v.loop_end) (place v t + v.step))
+    (place v t + v.step)
 unfolding place
-place_more v t h = by_until v.until_release v.looped v.length t v.step (looped_place v) (wrapped (65536 * v.loop_start) (65536 * v.loop_end)) (looped_place_more v t h)
+place_more v t h =
+    by_until v.until_release v.looped v.length t v.step (looped_place v)
+    (wrapped (65536 * v.loop_start) (65536 * v.loop_end)) (looped_place_more v t h)
 
-straight_case : (until looped : Bool) (l t step : ℕ) (r : ℕ → ℕ) → (looped ≡ false → r (t + 1) ≡ r t + step) → (looped && not (until && nat_le l t)) ≡ false
-    → cond (until && nat_le l (t + 1)) (r l + (t + 1 - l) * step) (r (t + 1)) ≡ cond (until && nat_le l t) (r l + (t - l) * step) (r t) + step
+straight_case : (until looped : Bool) (l t step : ℕ) (r : ℕ → ℕ) → (looped ≡ false → r (t + 1) ≡ r t + step)
+    → (looped && not (until && nat_le l t)) ≡ false
+    → cond (until && nat_le l (t + 1)) (r l + (t + 1 - l) * step) (r (t + 1))
+    ≡ cond (until && nat_le l t) (r l + (t - l) * step) (r t) + step
 straight_case false false l t step r e f = e refl
 straight_case false true l t step r e f = absurd cc
 straight_case true false l t step r e f =

@@ -1,5 +1,7 @@
 -- Stretches of frames, and what they add.
-use Rattle.std.proofs.Common.{◌≡◌, ℕ, zero, suc, ◌+◌, ◌-◌, ◌*◌, ◌/◌, ◌%◌, ◌<◌, ◌≤◌, ℤ, pos, negsuc, ◌+ℤ◌, ◌-ℤ◌, ◌≤ℤ◌, Bool, true, false, cond, not, ◌&&◌, List, get_or, nat_eq, nat_le, refl, sym, ◌∙◌, ap, subst, arith, inl, inr, to_z, of_z, true≢false}
+use Rattle.std.proofs.Common.{◌≡◌, ℕ, zero, suc, ◌+◌, ◌-◌, ◌*◌, ◌/◌, ◌%◌, ◌<◌, ◌≤◌, ℤ, pos, negsuc, ◌+ℤ◌, ◌-ℤ◌, ◌≤ℤ◌}
+use Rattle.std.proofs.Common.{Bool, true, false, cond, not, ◌&&◌, List, get_or, nat_eq, nat_le, refl, sym, ◌∙◌, ap}
+use Rattle.std.proofs.Common.{subst, arith, inl, inr, to_z, of_z, true≢false}
 use Rattle.std.specs.Int.{w32}
 use Rattle.std.proofs.lemmas.Int.{ints}
 use Rattle.std.proofs.lemmas.Bool.{cases_lt}
@@ -30,11 +32,13 @@ same_end l t k h =
     ]
 
 -- up to the note's end, and from it on, a loop is in force throughout or not at all
-pub same_loop : (v : VoiceParameters) (t k : ℕ) → (t < v.length → t + k < v.length) → is_looping v (t + k) ≡ is_looping v t
+pub same_loop : (v : VoiceParameters) (t k : ℕ) → (t < v.length → t + k < v.length)
+    → is_looping v (t + k) ≡ is_looping v t
 same_loop v t k h = ap (λ b. v.looped && not (v.until_release && b)) (same_end v.length t k h)
 
 -- where no loop is in force the place goes straight on
-pub straight_on : (v : VoiceParameters) (t k : ℕ) → (v.looped ≡ true → v.loop_start < v.loop_end) → is_looping v t ≡ false
+pub straight_on : (v : VoiceParameters) (t k : ℕ) → (v.looped ≡ true → v.loop_start < v.loop_end)
+    → is_looping v t ≡ false
     → (is_looping v (t + k) ≡ false) × (place v (t + k) ≡ place v t + k * v.step)
 straight_on v t zero h e =
     let q : t ≡ t + 0 = omega arith in
@@ -43,11 +47,19 @@ straight_on v t (suc k) h e =
     let ih = straight_on v t k h e in
     let q : t + k + 1 ≡ t + suc k = omega arith in
     let m : place v (t + k + 1) ≡ place v (t + k) + v.step =
-    place_more v (t + k) h ∙ ap (λ b. cond b (wrapped (65536 * v.loop_start) (65536 * v.loop_end) (place v (t + k) + v.step)) (place v (t + k) + v.step)) ih.0 in
-    let f : place v (t + k + 1) ≡ place v t + suc k * v.step = m ∙ ap (λ x. x + v.step) ih.1 ∙ omega arith in
-    (subst (λ x. is_looping v x ≡ false) q (loop_left_stays v (t + k) ih.0), subst (λ x. place v x ≡ place v t + suc k * v.step) q f)
+    place_more v (t + k) h
+    ∙ ap
+    (λ b.
+    cond b (wrapped (65536 * v.loop_start) (65536 * v.loop_end) (place v (t + k) + v.step))
+    (place v (t + k) + v.step))
+    ih.0 in
+    let f : place v (t + k + 1) ≡ place v t + suc k * v.step = m ∙ ap (λ x. x + v.step) ih.1 ∙ omega arith in (
+      subst (λ x. is_looping v x ≡ false) q (loop_left_stays v (t + k) ih.0),
+      subst (λ x. place v x ≡ place v t + suc k * v.step) q f,
+    )
 
-not_over : (ended looping : Bool) (at end : ℕ) → ended ≡ false → (looping ≡ false → at < end) → cond ended true (not looping && nat_le end at) ≡ false
+not_over : (ended looping : Bool) (at end : ℕ) → ended ≡ false → (looping ≡ false → at < end)
+    → cond ended true (not looping && nat_le end at) ≡ false
 not_over false true at end e h = refl
 not_over false false at end e h = let g : at < end = h refl in grind (arith, nat_tests)
 not_over true looping at end e h = absurd cc
@@ -62,7 +74,8 @@ stretch_is v t n h young unreleased before near = record {
   held = before;
   same = λ k l. same_loop v t k (λ g. let b : t + n ≤ v.length = before g in omega arith);
   sounds = λ k l.
-      let s : is_looping v (t + k) ≡ is_looping v t = same_loop v t k (λ g. let b : t + n ≤ v.length = before g in omega arith) in
+      let s : is_looping v (t + k) ≡ is_looping v t =
+      same_loop v t k (λ g. let b : t + n ≤ v.length = before g in omega arith) in
       not_over (nat_le (v.length + v.release) (t + k)) (is_looping v (t + k)) (place v (t + k)) (65536 * v.end)
       (let u : t + k < v.length + v.release = omega arith in grind (arith, nat_tests))
       (λ e. let f : is_looping v t ≡ false = sym s ∙ e in
@@ -75,14 +88,31 @@ pub added : (was sum r : ℤ) → sum ≡ was → IsWithin 65534 was → negsuc 
     → to_z w32 (of_z w32 (to_z w32 (of_z w32 sum) +ℤ to_z w32 (of_z w32 r))) ≡ was +ℤ r
 added was sum r e room lo hi = omega (arith, ints, e, room.0, room.1, lo, hi)
 
-pub left_side : (run : List ℤ) (k left right : ℕ) → side (get_or run (2 * k / 2) (pos 0)) (cond (nat_eq (2 * k % 2) 0) left right) ≡ side (get_or run k (pos 0)) left
-left_side run k left right = λ j. side (get_or run ((let e : 2 * k / 2 ≡ k = omega arith in e) j) (pos 0)) (cond (nat_eq ((let e : 2 * k % 2 ≡ 0 = omega arith in e) j) 0) left right)
+pub left_side : (run : List ℤ) (k left right : ℕ)
+    → side (get_or run (2 * k / 2) (pos 0)) (cond (nat_eq (2 * k % 2) 0) left right)
+    ≡ side (get_or run k (pos 0)) left
+left_side run k left right =
+    λ j.
+    side (get_or run ((let e : 2 * k / 2 ≡ k = omega arith in e) j) (pos 0))
+    (cond (nat_eq ((let e : 2 * k % 2 ≡ 0 = omega arith in e) j) 0) left right)
 
-pub right_side : (run : List ℤ) (k left right : ℕ) → side (get_or run ((2 * k + 1) / 2) (pos 0)) (cond (nat_eq ((2 * k + 1) % 2) 0) left right) ≡ side (get_or run k (pos 0)) right
-right_side run k left right = λ j. side (get_or run ((let e : (2 * k + 1) / 2 ≡ k = omega arith in e) j) (pos 0)) (cond (nat_eq ((let e : (2 * k + 1) % 2 ≡ 1 = omega arith in e) j) 0) left right)
+pub right_side : (run : List ℤ) (k left right : ℕ)
+    → side (get_or run ((2 * k + 1) / 2) (pos 0)) (cond (nat_eq ((2 * k + 1) % 2) 0) left right)
+    ≡ side (get_or run k (pos 0)) right
+right_side run k left right =
+    λ j.
+    side (get_or run ((let e : (2 * k + 1) / 2 ≡ k = omega arith in e) j) (pos 0))
+    (cond (nat_eq ((let e : (2 * k + 1) % 2 ≡ 1 = omega arith in e) j) 0) left right)
 
 pub is_added : (was s sum r : ℤ) → r ≡ s → sum ≡ was +ℤ r → negsuc 32767 ≤ℤ r → r ≤ℤ pos 32767 → IsAdded was s sum
-is_added was s sum r e f lo hi = record { added = f ∙ ap (λ (x : ℤ). was +ℤ x) e; low = subst (λ (x : ℤ). negsuc 32767 ≤ℤ x) e lo; high = subst (λ (x : ℤ). x ≤ℤ pos 32767) e hi }
+is_added was s sum r e f lo hi =
+    record {
+      added =
+          f ∙ ap (λ (x : ℤ). was +ℤ x) e;
+      low =
+          subst (λ (x : ℤ). negsuc 32767 ≤ℤ x) e lo;
+      high = subst (λ (x : ℤ). x ≤ℤ pos 32767) e hi;
+    }
 
 -- the sum that was added to has room for one more, and the other is as it was
 pub shared_side : (was m sound sum m' : ℤ) → IsAdded was sound sum → m' ≡ m → IsShared was m sound sum m'
@@ -92,7 +122,8 @@ shared_side was m sound sum m' a e =
     let high = a.high in
     record {
       added = omega (arith, ints, added, e);
-      side_room = λ j h. (omega (arith, ints, added, low, high, h.0, h.1), omega (arith, ints, added, low, high, h.0, h.1));
+      side_room =
+          λ j h. (omega (arith, ints, added, low, high, h.0, h.1), omega (arith, ints, added, low, high, h.0, h.1));
       middle_room = λ j h. (omega (arith, ints, e, h.0, h.1), omega (arith, ints, e, h.0, h.1));
     }
 
@@ -106,7 +137,8 @@ add_nothing : (was : ℤ) → was ≡ was +ℤ pos 0
 add_nothing was = omega (arith, ints)
 
 pub silent_added : (was s sum : ℤ) → s ≡ pos 0 → sum ≡ was → IsAdded was s sum
-silent_added was s sum e f = is_added was s sum (pos 0) (sym e) (f ∙ add_nothing was) (omega (arith, ints)) (omega (arith, ints))
+silent_added was s sum e f =
+    is_added was s sum (pos 0) (sym e) (f ∙ add_nothing was) (omega (arith, ints)) (omega (arith, ints))
 
 -- a voice that is over is silent
 pub over_is_silent : (v : Voice) (left : Bool) (t : ℕ) → is_over v.parameters t ≡ true → snd v left t ≡ pos 0
@@ -142,10 +174,13 @@ heard_side v left t = by_case (is_over v.parameters t) (sound_at v t) (part_of v
     by_case true z part = side_of_none part
     by_case false z part = refl
 
-pub heard_added : (v : Voice) (t i left right : ℕ) (z was sum : ℤ) → IsAdded was (side z (cond (nat_eq i 0) left right)) sum
-    → z ≡ heard_at v t → left ≡ part_of v.parameters true → right ≡ part_of v.parameters false → IsAdded was (snd v (nat_eq i 0) t) sum
+pub heard_added : (v : Voice) (t i left right : ℕ) (z was sum : ℤ)
+    → IsAdded was (side z (cond (nat_eq i 0) left right)) sum
+    → z ≡ heard_at v t → left ≡ part_of v.parameters true → right ≡ part_of v.parameters false
+    → IsAdded was (snd v (nat_eq i 0) t) sum
 heard_added v t i left right z was sum a e f g =
-    subst (λ (s : ℤ). IsAdded was s sum) (ap (λ (y : ℤ). side y (cond (nat_eq i 0) left right)) e ∙ by_side (nat_eq i 0)) a
+    subst (λ (s : ℤ). IsAdded was s sum)
+    (ap (λ (y : ℤ). side y (cond (nat_eq i 0) left right)) e ∙ by_side (nat_eq i 0)) a
   where
     by_side : (b : Bool) → side (heard_at v t) (cond b left right) ≡ snd v b t
     by_side true = ap (side (heard_at v t)) f ∙ heard_side v true t
@@ -154,7 +189,8 @@ heard_added v t i left right z was sum a e f g =
 -- what both sides get of a voice in the middle
 pub central_side : (v : Voice) (left : Bool) (t : ℕ) → v.parameters.pan ≡ pos 0 → side (heard_at v t) 500 ≡ snd v left t
 central_side v left t e =
-    ap (side (heard_at v t)) (by_side left ∙ sym (ap (λ p. above_zero (cond left (pos 500 -ℤ p) (pos 500 +ℤ p))) e)) ∙ heard_side v left t
+    ap (side (heard_at v t)) (by_side left ∙ sym (ap (λ p. above_zero (cond left (pos 500 -ℤ p) (pos 500 +ℤ p))) e))
+    ∙ heard_side v left t
   where
     by_side : (b : Bool) → 500 ≡ above_zero (cond b (pos 500 -ℤ pos 0) (pos 500 +ℤ pos 0))
     by_side true = refl
@@ -166,16 +202,19 @@ differ b e f = true≢false (sym e ∙ f)
 -- a place that was computed from equal numbers
 pub near_is : (x x' s s' e e' k : ℕ) → x ≡ x' → s ≡ s' → e ≡ e' → x + k * s < 65536 * e → x' + k * s' < 65536 * e'
 near_is x x' s s' e e' k p q r h =
-    subst (λ y. y + k * s' < 65536 * e') p (subst (λ y. x + k * y < 65536 * e') q (subst (λ y. x + k * s < 65536 * y) r h))
+    subst (λ y. y + k * s' < 65536 * e') p
+    (subst (λ y. x + k * y < 65536 * e') q (subst (λ y. x + k * s < 65536 * y) r h))
 
 -- a voice that isn't over reads before the loop's end, or the sample's
-pub place_near : (n : ℕ) (v : VoiceParameters) (t : ℕ) (looping : Bool) → IsPlayable n v → is_over v t ≡ false → is_looping v t ≡ looping
+pub place_near : (n : ℕ) (v : VoiceParameters) (t : ℕ) (looping : Bool) → IsPlayable n v → is_over v t ≡ false
+    → is_looping v t ≡ looping
     → place v t < 65536 * limit v looping
 place_near n v t true p o e = place_inside v t e p.ordered
 place_near n v t false p o e = place_sounds n v t p o
 
 -- to go on, and to look at the loop only then
-pub place_on : (v : VoiceParameters) (t k : ℕ) (looping : Bool) → (v.looped ≡ true → v.loop_start < v.loop_end) → is_looping v t ≡ looping
+pub place_on : (v : VoiceParameters) (t k : ℕ) (looping : Bool) → (v.looped ≡ true → v.loop_start < v.loop_end)
+    → is_looping v t ≡ looping
     → ((j : ℕ) → j < k → is_looping v (t + j) ≡ looping) → (looping ≡ true → v.loop_start < v.loop_end)
     → place v (t + k) ≡ gone_on v looping (place v t + k * v.step)
 place_on v t k false h e same o = (straight_on v t k h e).1
@@ -187,13 +226,17 @@ place_on v t zero true h e same o =
 place_on v t (suc k) true h e same o =
     let from = 65536 * v.loop_start in
     let to = 65536 * v.loop_end in
-    let ih : place v (t + k) ≡ wrapped from to (place v t + k * v.step) = place_on v t k true h e (λ j l. same j (omega arith)) o in
+    let ih : place v (t + k) ≡ wrapped from to (place v t + k * v.step) =
+    place_on v t k true h e (λ j l. same j (omega arith)) o in
     let q : place v (t + suc k) ≡ place v (t + k + 1) = ap (place v) (omega arith) in
     let lt : v.loop_start < v.loop_end = o refl in
     let m : place v (t + k + 1) ≡ wrapped from to (place v (t + k) + v.step) =
-    place_more v (t + k) h ∙ ap (λ b. cond b (wrapped from to (place v (t + k) + v.step)) (place v (t + k) + v.step)) (same k (omega arith)) in
+    place_more v (t + k) h
+    ∙ ap (λ b. cond b (wrapped from to (place v (t + k) + v.step)) (place v (t + k) + v.step))
+    (same k (omega arith)) in
     let r : place v t + k * v.step + v.step ≡ place v t + suc k * v.step = omega arith in
-    q ∙ m ∙ ap (λ x. wrapped from to (x + v.step)) ih ∙ wrapped_step from to (place v t + k * v.step) v.step (omega arith) ∙ ap (wrapped from to) r
+    q ∙ m ∙ ap (λ x. wrapped from to (x + v.step)) ih
+    ∙ wrapped_step from to (place v t + k * v.step) v.step (omega arith) ∙ ap (wrapped from to) r
 
 -- within its limit the place has nothing to look at
 pub gone_near : (v : VoiceParameters) (looping : Bool) (x : ℕ) → x < 65536 * limit v looping → gone_on v looping x ≡ x
@@ -202,10 +245,12 @@ gone_near v false x h = refl
 
 -- a remainder by whole points leaves what is behind a point
 whole_part : (y w : ℕ) → y % (65536 * w) % 65536 ≡ y % 65536
-whole_part y w = let d : y / (65536 * w) * (65536 * w) + y % (65536 * w) ≡ y = div-add-mod' y (65536 * w) in omega (arith, d)
+whole_part y w =
+    let d : y / (65536 * w) * (65536 * w) + y % (65536 * w) ≡ y = div-add-mod' y (65536 * w) in omega (arith, d)
 
 -- a loop's end changes nothing of how far a place is behind its point
-pub gone_part : (v : VoiceParameters) (looping : Bool) (x : ℕ) → (looping ≡ true → v.loop_start < v.loop_end) → gone_on v looping x % 65536 ≡ x % 65536
+pub gone_part : (v : VoiceParameters) (looping : Bool) (x : ℕ) → (looping ≡ true → v.loop_start < v.loop_end)
+    → gone_on v looping x % 65536 ≡ x % 65536
 gone_part v false x h = refl
 gone_part v true x h =
     let from = 65536 * v.loop_start in
@@ -215,7 +260,8 @@ gone_part v true x h =
       | inl below ↦ ap (λ y. y % 65536) (wrapped_below from to x below)
       | inr ge ↦
           let w : to - from ≡ 65536 * (v.loop_end - v.loop_start) = omega arith in
-          let e : wrapped from to x ≡ from + (x - from) % (65536 * (v.loop_end - v.loop_start)) = wrapped_above from to x ge ∙ ap (λ y. from + (x - from) % y) w in
+          let e : wrapped from to x ≡ from + (x - from) % (65536 * (v.loop_end - v.loop_start)) =
+          wrapped_above from to x ge ∙ ap (λ y. from + (x - from) % y) w in
           let p = whole_part (x - from) (v.loop_end - v.loop_start) in omega (arith, e, p, ge)
     ]
 

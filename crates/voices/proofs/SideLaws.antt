@@ -1,5 +1,6 @@
 -- Bounds of what is panned and interpolated.
-use Rattle.std.proofs.Common.{◌≡◌, ℕ, ◌+◌, ◌*◌, ◌/◌, ◌%◌, ◌<◌, ◌≤◌, zero, suc, cond, nat_eq, Bool, true, false, ℤ, pos, negsuc, ◌+ℤ◌, ◌-ℤ◌, ◌*ℤ◌, ◌-◌, ◌≤ℤ◌, neg_ℤ, FitsSigned, sym, ap, arith}
+use Rattle.std.proofs.Common.{◌≡◌, ℕ, ◌+◌, ◌*◌, ◌/◌, ◌%◌, ◌<◌, ◌≤◌, zero, suc, cond, nat_eq, Bool, true, false, ℤ}
+use Rattle.std.proofs.Common.{pos, negsuc, ◌+ℤ◌, ◌-ℤ◌, ◌*ℤ◌, ◌-◌, ◌≤ℤ◌, neg_ℤ, FitsSigned, sym, ap, arith}
 use Rattle.std.proofs.lemmas.Nat.{mul-le}
 use Rattle.std.proofs.lemmas.Int.{ints}
 use Rattle.std.specs.Int.{w16}
@@ -7,11 +8,13 @@ use Rattle.std.specs.Int.Signed.{shr_z}
 use Rattle.std.proofs.Common.{SFits, ◌∙◌}
 use Rattle.sound_tables.specs.Floor.{floor_div, above_zero}
 use Rattle.sound_tables.proofs.FloorLaws.{floor_div_is}
-use Rattle.voice_levels.proofs.LevelLaws.{part_within, whole_part, part_up, part_down, cases_sign, times_more, from_zero}
+use Rattle.voice_levels.proofs.LevelLaws.{part_within, whole_part, part_up, part_down, cases_sign, times_more}
+use Rattle.voice_levels.proofs.LevelLaws.{from_zero}
 use Rattle.voices.specs.Levels.{side}
 use Rattle.voices.specs.Points.{between, weighed}
 
-pub side_within : (p : ℤ) (gain : ℕ) → gain ≤ 1000 → negsuc 32767 ≤ℤ p → p ≤ℤ pos 32767 → (negsuc 32767 ≤ℤ side p gain) × (side p gain ≤ℤ pos 32767)
+pub side_within : (p : ℤ) (gain : ℕ) → gain ≤ 1000 → negsuc 32767 ≤ℤ p → p ≤ℤ pos 32767
+    → (negsuc 32767 ≤ℤ side p gain) × (side p gain ≤ℤ pos 32767)
 unfolding side
 side_within p gain h lo hi = part_within p gain 1000 (omega arith) h lo hi
 
@@ -27,7 +30,8 @@ no_side z = let e = floor_div_is (z *ℤ pos 0) 0 1000 0 (omega arith) (omega (a
 -- and none of nothing
 pub side_of_none : (part : ℕ) → side (pos 0) part ≡ pos 0
 unfolding side
-side_of_none part = let e = floor_div_is (pos 0 *ℤ pos part) 0 1000 0 (omega arith) (omega (arith, ints)) in omega (arith, ints, e)
+side_of_none part =
+    let e = floor_div_is (pos 0 *ℤ pos part) 0 1000 0 (omega arith) (omega (arith, ints)) in omega (arith, ints, e)
 
 -- half of it
 pub half_side : (z : ℤ) → shr_z z 2 ≡ side z 500
@@ -36,11 +40,14 @@ half_side (pos a) = let e : a * 500 / 1000 ≡ a / 2 = omega arith in omega (ari
 half_side (negsuc a) =
     let m : ℕ = suc a - a / 2 * 2 in
     let d : a / 2 * 2 + a % 2 ≡ a = omega arith in
-    let e = floor_div_is (negsuc a *ℤ pos 500) (suc (a / 2)) 1000 (500 * (1 - a % 2)) (omega arith) (omega (arith, ints)) in
+    let e =
+    floor_div_is (negsuc a *ℤ pos 500) (suc (a / 2)) 1000 (500 * (1 - a % 2)) (omega arith) (omega (arith, ints))
+    in
     omega (arith, ints, e)
 
 -- as much for either side
-pub half_each : (z : ℤ) (i left right : ℕ) → left ≡ 500 → right ≡ 500 → side z 500 ≡ side z (cond (nat_eq i 0) left right)
+pub half_each : (z : ℤ) (i left right : ℕ) → left ≡ 500 → right ≡ 500
+    → side z 500 ≡ side z (cond (nat_eq i 0) left right)
 half_each z i left right e f = ap (side z) (sym (one (nat_eq i 0)))
   where
     one : (b : Bool) → cond b left right ≡ 500
@@ -58,12 +65,17 @@ right_alone z zero h = sym (no_side z)
 right_alone z (suc zero) h = sym (whole_side z)
 right_alone z (suc (suc i)) h = absurd (omega (arith, h))
 
-pub between_within : (p q : ℤ) (f : ℕ) → f < 65536 → FitsSigned w16 p → FitsSigned w16 q → (negsuc 32767 ≤ℤ between p q f) × (between p q f ≤ℤ pos 32767)
+pub between_within : (p q : ℤ) (f : ℕ) → f < 65536 → FitsSigned w16 p → FitsSigned w16 q
+    → (negsuc 32767 ≤ℤ between p q f) × (between p q f ≤ℤ pos 32767)
 unfolding between
 between_within p q f h fp fq =
     cases_sign (q -ℤ p)
-    (λ s. let b = part_up (q -ℤ p) f 65536 (omega arith) (omega arith) s in (omega (arith, ints, b.0, b.1), omega (arith, ints, b.0, b.1)))
-    (λ s. let b = part_down (q -ℤ p) f 65536 (omega arith) (omega arith) s in (omega (arith, ints, b.0, b.1), omega (arith, ints, b.0, b.1)))
+    (λ s. let b =
+    part_up (q -ℤ p) f 65536 (omega arith) (omega arith) s in
+    (omega (arith, ints, b.0, b.1), omega (arith, ints, b.0, b.1)))
+    (λ s. let b =
+    part_down (q -ℤ p) f 65536 (omega arith) (omega arith) s in
+    (omega (arith, ints, b.0, b.1), omega (arith, ints, b.0, b.1)))
 
 -- two points from zero on, and their weighed sum
 record Raised (p q : ℤ) (f : ℕ) : Type 0 where
@@ -84,9 +96,23 @@ raised p q f h fp fq =
     let eb : q +ℤ pos 32768 ≡ pos b = from_zero (q +ℤ pos 32768) (omega (arith, ints)) in
     let ma = times_more p a 32768 (65536 - f) ea in
     let mb = times_more q b 32768 f eb in
-    record { a = a; b = b; first = ea; small = omega (arith, ints, ea); second = eb; small' = omega (arith, ints, eb); sum = omega (arith, ints, ma, mb) }
+    record {
+      a =
+          a;
+      b =
+          b;
+      first =
+          ea;
+      small =
+          omega (arith, ints, ea);
+      second =
+          eb;
+      small' = omega (arith, ints, eb);
+      sum = omega (arith, ints, ma, mb);
+    }
 
-pub weighed_within : (p q : ℤ) (f : ℕ) → f < 65536 → SFits w16 p → SFits w16 q → (neg_ℤ (pos 2147483648) ≤ℤ weighed p q f) × (weighed p q f ≤ℤ pos 2147418112)
+pub weighed_within : (p q : ℤ) (f : ℕ) → f < 65536 → SFits w16 p → SFits w16 q
+    → (neg_ℤ (pos 2147483648) ≤ℤ weighed p q f) × (weighed p q f ≤ℤ pos 2147418112)
 weighed_within p q f h fp fq =
     let r = raised p q f h fp fq in
     let sum = r.sum in
@@ -95,26 +121,32 @@ weighed_within p q f h fp fq =
     (omega (arith, ints, sum), omega (arith, ints, sum, x, y))
 
 -- what lies between two points is their weighed sum, rounded down
-pub weighed_is : (p q : ℤ) (f : ℕ) → f < 65536 → SFits w16 p → SFits w16 q → floor_div (weighed p q f) 65536 ≡ between p q f
+pub weighed_is : (p q : ℤ) (f : ℕ) → f < 65536 → SFits w16 p → SFits w16 q
+    → floor_div (weighed p q f) 65536 ≡ between p q f
 unfolding between
 weighed_is p q f h fp fq =
     let r = raised p q f h fp fq in
     let m : ℕ = r.a * (65536 - f) + r.b * f in
-    let difference : (q -ℤ p) +ℤ pos r.a ≡ pos r.b = (let e = r.first in let g = r.second in omega (arith, ints, e, g)) in
+    let difference : (q -ℤ p) +ℤ pos r.a ≡ pos r.b =
+    (let e = r.first in let g = r.second in omega (arith, ints, e, g)) in
     let slope = times_more (q -ℤ p) r.b r.a f difference in
-    let whole : r.a * 65536 ≡ r.a * (65536 - f) + r.a * f = ap (λ x. r.a * x) (let e : 65536 ≡ 65536 - f + f = omega arith in e) ∙ omega arith in
+    let whole : r.a * 65536 ≡ r.a * (65536 - f) + r.a * f =
+    ap (λ x. r.a * x) (let e : 65536 ≡ 65536 - f + f = omega arith in e) ∙ omega arith in
     let one = floor_div_is (weighed p q f) 32768 65536 m (omega arith) r.sum in
     let two = floor_div_is ((q -ℤ p) *ℤ pos f) r.a 65536 m (omega arith) (omega (arith, ints, slope, whole)) in
     let first = r.first in
     omega (arith, ints, one, two, first)
 
 -- the same sum, by how far the points are apart
-pub by_slope : (p q : ℤ) (f : ℕ) → f < 65536 → SFits w16 p → SFits w16 q → p *ℤ pos 65536 +ℤ (q -ℤ p) *ℤ pos f ≡ weighed p q f
+pub by_slope : (p q : ℤ) (f : ℕ) → f < 65536 → SFits w16 p → SFits w16 q
+    → p *ℤ pos 65536 +ℤ (q -ℤ p) *ℤ pos f ≡ weighed p q f
 by_slope p q f h fp fq =
     let r = raised p q f h fp fq in
-    let difference : (q -ℤ p) +ℤ pos r.a ≡ pos r.b = (let e = r.first in let g = r.second in omega (arith, ints, e, g)) in
+    let difference : (q -ℤ p) +ℤ pos r.a ≡ pos r.b =
+    (let e = r.first in let g = r.second in omega (arith, ints, e, g)) in
     let slope = times_more (q -ℤ p) r.b r.a f difference in
-    let whole : r.a * 65536 ≡ r.a * (65536 - f) + r.a * f = ap (λ x. r.a * x) (let e : 65536 ≡ 65536 - f + f = omega arith in e) ∙ omega arith in
+    let whole : r.a * 65536 ≡ r.a * (65536 - f) + r.a * f =
+    ap (λ x. r.a * x) (let e : 65536 ≡ 65536 - f + f = omega arith in e) ∙ omega arith in
     let first = r.first in
     let sum = r.sum in
     omega (arith, ints, slope, whole, first, sum)

@@ -1,5 +1,6 @@
 -- What one slice tells of the points around a place.
-use Rattle.std.proofs.Common.{◌≡◌, ℕ, ◌+◌, ◌-◌, ◌*◌, ◌/◌, ◌%◌, ◌<◌, ◌≤◌, pos, Bool, true, false, cond, ◌&&◌, ◌==◌, List, length, get_or, take, drop, nat_lt, refl, ◌∙◌, ap, arith}
+use Rattle.std.proofs.Common.{◌≡◌, ℕ, ◌+◌, ◌-◌, ◌*◌, ◌/◌, ◌%◌, ◌<◌, ◌≤◌, pos, Bool, true, false, cond, ◌&&◌, ◌==◌}
+use Rattle.std.proofs.Common.{List, length, get_or, take, drop, nat_lt, refl, ◌∙◌, ap, arith}
 use Rattle.std.proofs.lemmas.Bool.Decides.{nat_tests}
 use Rattle.std.specs.Int.{w16, cast_signed}
 use Rattle.sample_view.specs.Words.{words}
@@ -20,24 +21,33 @@ word_at bytes i h = get_or-words (2 * i) i bytes refl h
 
 -- two points that stand side by side are four bytes
 pub pair_is : (bytes : List ℕ) (i : ℕ) → 2 * i + 3 < length bytes
-    → pair_at (words bytes) i ≡ get_or bytes (2 * i) 0 + 256 * get_or bytes (2 * i + 1) 0 + 65536 * get_or bytes (2 * i + 2) 0 + 16777216 * get_or bytes (2 * i + 3) 0
+    → pair_at (words bytes) i
+    ≡ get_or bytes (2 * i) 0 + 256 * get_or bytes (2 * i + 1) 0 + 65536 * get_or bytes (2 * i + 2) 0
+    + 16777216 * get_or bytes (2 * i + 3) 0
 pair_is bytes i h =
     let here = word_at bytes i (omega arith) in
     let next : get_or (words bytes) (i + 1) 0 ≡ get_or bytes (2 * i + 2) 0 + 256 * get_or bytes (2 * i + 3) 0 =
-    get_or-words (2 * i + 2) (i + 1) bytes (omega arith) (omega arith) ∙ ap (λ k. get_or bytes (2 * i + 2) 0 + 256 * get_or bytes k 0) (omega arith) in
+    get_or-words (2 * i + 2) (i + 1) bytes (omega arith) (omega arith)
+    ∙ ap (λ k. get_or bytes (2 * i + 2) 0 + 256 * get_or bytes k 0) (omega arith) in
     omega (arith, here, next)
 
 -- a place, counted from another point
-from_first : (x p : ℕ) → 65536 * p ≤ x → ((x - 65536 * p) / 65536 ≡ x / 65536 - p) × ((x - 65536 * p) % 65536 ≡ x % 65536)
+from_first : (x p : ℕ) → 65536 * p ≤ x
+    → ((x - 65536 * p) / 65536 ≡ x / 65536 - p) × ((x - 65536 * p) % 65536 ≡ x % 65536)
 from_first x p h = (omega arith, omega arith)
 
-point_run : (points bytes : List ℕ) (i first k j : ℕ) → IsRunAround points i bytes first → 2 * k + 1 < length bytes → i - first + k ≡ j
+point_run : (points bytes : List ℕ) (i first k j : ℕ) → IsRunAround points i bytes first → 2 * k + 1 < length bytes
+    → i - first + k ≡ j
     → point_at (words bytes) k ≡ point_at points j
 unfolding point_at
-point_run points bytes i first k j run h e = ap (cast_signed w16) (get_or-run points bytes i first k run h ∙ ap (λ m. get_or points m 0) e)
+point_run points bytes i first k j run h e =
+    ap (cast_signed w16) (get_or-run points bytes i first k run h ∙ ap (λ m. get_or points m 0) e)
 
-next_point : (points : List ℕ) (looping : Bool) (loop_end start end i : ℕ) → i + 1 < cond looping loop_end end → (looping ≡ true → loop_end ≤ end)
-    → point_at points (i + 1) ≡ cond (looping && (i + 1 == loop_end)) (point_at points start) (cond (nat_lt (i + 1) end) (point_at points (i + 1)) (pos 0))
+next_point : (points : List ℕ) (looping : Bool) (loop_end start end i : ℕ) → i + 1 < cond looping loop_end end
+    → (looping ≡ true → loop_end ≤ end)
+    → point_at points (i + 1)
+    ≡ cond (looping && (i + 1 == loop_end)) (point_at points start)
+    (cond (nat_lt (i + 1) end) (point_at points (i + 1)) (pos 0))
 next_point points true loop_end start end i h l =
     let g : loop_end ≤ end = l refl in
     let a : (i + 1 == loop_end) ≡ false = grind (arith, nat_tests) in
@@ -46,7 +56,8 @@ next_point points false loop_end start end i h l =
     let b : nat_lt (i + 1) end ≡ true = grind (arith, nat_tests) in rw b refl
 
 -- before the last point of a slice, and of the loop, the slice says it all
-pub straight_is : (points bytes : List ℕ) (v : VoiceParameters) (looping : Bool) (i first x : ℕ) → IsRunAround points i bytes first
+pub straight_is : (points bytes : List ℕ) (v : VoiceParameters) (looping : Bool) (i first x : ℕ)
+    → IsRunAround points i bytes first
     → (looping ≡ true → v.loop_end ≤ v.end)
     → 65536 * (i - first) ≤ x → x / 65536 + 1 < limit v looping → x / 65536 + 1 < i - first + length bytes / 2
     → straight (words bytes) (x - 65536 * (i - first)) ≡ point_of points v looping x
@@ -56,15 +67,19 @@ straight_is points bytes v looping i first x run l from last slice =
     let f = from_first x p from in
     let le : p ≤ x / 65536 = omega arith in
     let here : point_at (words bytes) ((x - 65536 * p) / 65536) ≡ point_at points (x / 65536) =
-    ap (point_at (words bytes)) f.0 ∙ point_run points bytes i first (x / 65536 - p) (x / 65536) run (omega arith) (omega arith) in
+    ap (point_at (words bytes)) f.0
+    ∙ point_run points bytes i first (x / 65536 - p) (x / 65536) run (omega arith) (omega arith) in
     let next : point_at (words bytes) ((x - 65536 * p) / 65536 + 1) ≡ point_at points (x / 65536 + 1) =
-    ap (λ k. point_at (words bytes) (k + 1)) f.0 ∙ point_run points bytes i first (x / 65536 - p + 1) (x / 65536 + 1) run (omega arith) (omega arith) in
+    ap (λ k. point_at (words bytes) (k + 1)) f.0
+    ∙ point_run points bytes i first (x / 65536 - p + 1) (x / 65536 + 1) run (omega arith) (omega arith) in
     ap (λ y. between y (point_at (words bytes) ((x - 65536 * p) / 65536 + 1)) ((x - 65536 * p) % 65536)) here
-    ∙ ap (λ y. between (point_at points (x / 65536)) y ((x - 65536 * p) % 65536)) (next ∙ next_point points looping v.loop_end v.loop_start v.end (x / 65536) last l)
+    ∙ ap (λ y. between (point_at points (x / 65536)) y ((x - 65536 * p) % 65536))
+    (next ∙ next_point points looping v.loop_end v.loop_start v.end (x / 65536) last l)
     ∙ ap (between (point_at points (x / 65536)) (follower points v looping (x / 65536))) f.1
 
 -- what a pair says is what its slice says
-pub pair_straight : (bytes : List ℕ) (place : ℕ) → ((j : ℕ) → get_or bytes j 0 < 256) → 2 * (place / 65536) + 3 < length bytes
+pub pair_straight : (bytes : List ℕ) (place : ℕ) → ((j : ℕ) → get_or bytes j 0 < 256)
+    → 2 * (place / 65536) + 3 < length bytes
     → pair_says (pair_at (words bytes) (place / 65536)) (place % 65536) ≡ straight (words bytes) place
 unfolding straight point_at
 pair_straight bytes place all h =
@@ -80,7 +95,8 @@ pair_straight bytes place all h =
     ∙ ap (λ y. between (cast_signed w16 (get_or ws i 0)) (cast_signed w16 y) (place % 65536)) next
 
 -- a slice that begins at the point itself
-pub run_from : (points bytes : List ℕ) (i first : ℕ) → IsRunAround points i bytes first → IsRunAround points i (drop (2 * first) bytes) 0
+pub run_from : (points bytes : List ℕ) (i first : ℕ) → IsRunAround points i bytes first
+    → IsRunAround points i (drop (2 * first) bytes) 0
 run_from points bytes i first run =
     let n = length (words bytes) in
     let m : ℕ = length (words (drop (2 * first) bytes)) in
@@ -88,18 +104,23 @@ run_from points bytes i first run =
     let inside = run.inside in
     let even = run.even in
     let long = length-drop (2 * first) bytes in
-    let count : n ≡ first + m = (let e = length-words bytes in let f = length-words (drop (2 * first) bytes) in omega (arith, e, f, long)) in
+    let count : n ≡ first + m =
+    (let e = length-words bytes in let f = length-words (drop (2 * first) bytes) in omega (arith, e, f, long)) in
     let here : drop first (drop (i - first) points) ≡ drop i points = grind (arith, common_steps) in
     record {
       begins = omega arith;
       inside = omega (arith, long);
       even = omega (arith, long);
-      run = words-drop (2 * first) first bytes refl ∙ ap (drop first) run.run ∙ ap (λ k. drop first (take k (drop (i - first) points))) count
-          ∙ drop-take first m (drop (i - first) points) ∙ ap (take m) here ∙ ap (λ j. take m (drop j points)) (let e : i ≡ i - 0 = omega arith in e);
+      run =
+          words-drop (2 * first) first bytes refl ∙ ap (drop first) run.run
+          ∙ ap (λ k. drop first (take k (drop (i - first) points))) count
+          ∙ drop-take first m (drop (i - first) points) ∙ ap (take m) here
+          ∙ ap (λ j. take m (drop j points)) (let e : i ≡ i - 0 = omega arith in e);
     }
 
 -- a slice is in hand once it tells of one point
-pub in_hand : (points : List ℕ) (i place : ℕ) (slice : Slice) → IsRunAround points i slice.bytes.now place → slice.first ≡ i - place → IsInHand points slice
+pub in_hand : (points : List ℕ) (i place : ℕ) (slice : Slice) → IsRunAround points i slice.bytes.now place
+    → slice.first ≡ i - place → IsInHand points slice
 in_hand points i place slice run e = record {
   holds = λ k le inside.
       let begins = run.begins in

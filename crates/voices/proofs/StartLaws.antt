@@ -10,7 +10,8 @@ use Rattle.zone_select.specs.Pairs.{Chosen, chosen_by, chosen_voice, voice_by}
 use Rattle.voices.specs.Starts.{sample_by}
 
 of_sample : (n : Numbers) (c : Chosen) (p : VoiceParameters) (s : Sample) (o : Option Sample)
-    → Some p ≡ option_map (λ (v : Voice). v.parameters) (option_map (voice_of n c.instrument_zone c.preset_zone) o) → Some s ≡ o
+    → Some p ≡ option_map (λ (v : Voice). v.parameters) (option_map (voice_of n c.instrument_zone c.preset_zone) o)
+    → Some s ≡ o
     → option_map (voice_of n c.instrument_zone c.preset_zone) o ≡ Some (record { points = s.points; parameters = p })
 unfolding voice_of
 of_sample n c p s None e f = absurd cc

@@ -1,5 +1,6 @@
 -- Points, and what lies between them.
-use Rattle.std.specs.Prelude.{ℕ, ◌+◌, ◌-◌, ◌/◌, ◌%◌, ℤ, pos, ◌+ℤ◌, ◌-ℤ◌, ◌*ℤ◌, Bool, cond, ◌&&◌, ◌==◌, nat_lt, List, slice_index}
+use Rattle.std.specs.Prelude.{ℕ, ◌+◌, ◌-◌, ◌/◌, ◌%◌, ℤ, pos, ◌+ℤ◌, ◌-ℤ◌, ◌*ℤ◌, Bool, cond, ◌&&◌, ◌==◌, nat_lt, List}
+use Rattle.std.specs.Prelude.{slice_index}
 use Rattle.std.specs.Int.{cast_signed, w16}
 use Rattle.sound_tables.specs.Floor.{floor_div}
 use Rattle.zone_select.specs.declared.parameters.VoiceParameters.{VoiceParameters}

@@ -1,5 +1,6 @@
 -- Frames that are heard one after another.
-use Rattle.std.specs.Prelude.{ℕ, ◌+◌, ◌*◌, ◌/◌, ◌%◌, Bool, cond, List, ◌≡◌, ◌≤◌, ◌<◌, ◌^◌, ℤ, pos, negsuc, ◌+ℤ◌, ◌≤ℤ◌, false, slice_index}
+use Rattle.std.specs.Prelude.{ℕ, ◌+◌, ◌*◌, ◌/◌, ◌%◌, Bool, cond, List, ◌≡◌, ◌≤◌, ◌<◌, ◌^◌, ℤ, pos, negsuc, ◌+ℤ◌}
+use Rattle.std.specs.Prelude.{◌≤ℤ◌, false, slice_index}
 use Rattle.std.specs.Int.{cast_signed, w16}
 use Rattle.zone_select.specs.declared.parameters.VoiceParameters.{VoiceParameters}
 use Rattle.voices.specs.Place.{wrapped, is_over, is_looping}
@@ -18,8 +19,8 @@ pub record IsShared (was_side was_middle sound side middle : ℤ) : Type 0 where
   pub side_room : (j : ℕ) → IsWithin j was_side → IsWithin (j + 1) side
   pub middle_room : (j : ℕ) → IsWithin j was_middle → IsWithin (j + 1) middle
 
--- n frames from t on in which the voice isn't over, none or all before the note's end, and the loop in force throughout or not
--- at all
+-- n frames from t on in which the voice isn't over, none or all before the note's end, and the loop in force
+-- throughout or not at all
 pub record IsStretch (v : VoiceParameters) (t n : ℕ) : Type 0 where
   pub young : t + n < 2 ^ 33
   pub unreleased : t + n ≤ v.length + v.release

@@ -23,7 +23,8 @@ part_of v left = above_zero (cond left (pos 500 -ℤ v.pan) (pos 500 +ℤ v.pan)
 unfoldable pub sound_at : Voice → ℕ → ℤ
 sound_at v t =
     scaled_by
-    (scaled_by (point_of v.points v.parameters (is_looping v.parameters t) (place v.parameters t)) (envelope v.parameters t))
+    (scaled_by (point_of v.points v.parameters (is_looping v.parameters t) (place v.parameters t))
+    (envelope v.parameters t))
     (gain_of v.parameters.attenuation)
 
 -- the left or the right side of frame t
@@ -36,7 +37,8 @@ heard_at v t = cond (is_over v.parameters t) (pos 0) (sound_at v t)
 
 -- a voice that is over counts no more frames
 abbrev pub after_frame : Live → Live
-after_frame live = cond (is_over live.value.parameters live.age) live (record { value = live.value; age = live.age + 1 })
+after_frame live =
+    cond (is_over live.value.parameters live.age) live (record { value = live.value; age = live.age + 1 })
 
 -- a voice that is over stays so, and is silent
 abbrev pub OverStaysOver : Type 0

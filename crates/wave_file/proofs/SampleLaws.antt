@@ -1,5 +1,6 @@
 -- The parts of the WAVE file of a sample, none of which has a pad byte.
-use Rattle.std.proofs.Common.{◌≡◌, ◌≤◌, ◌+◌, ◌*◌, ◌%◌, ℕ, false, eqb, List, [], ◌∷◌, ◌++◌, length, Option, Some, None, refl, ap, sym, ◌∙◌, arith}
+use Rattle.std.proofs.Common.{◌≡◌, ◌≤◌, ◌+◌, ◌*◌, ◌%◌, ℕ, false, eqb, List, [], ◌∷◌, ◌++◌, length, Option, Some}
+use Rattle.std.proofs.Common.{None, refl, ap, sym, ◌∙◌, arith}
 use Rattle.std.specs.List.{flat_map}
 use Rattle.std.proofs.lemmas.Bool.{ne_eqb}
 use Rattle.std.proofs.lemmas.List.{length-append, append-nil}
@@ -9,7 +10,8 @@ use Rattle.sample_view.specs.Words.{word_bytes}
 use Rattle.sample_view.proofs.WordLaws.{length-word_bytes}
 use Rattle.bank_parts.specs.declared.parts.Sample.{Sample}
 use Rattle.wave_file.specs.Wave.{RIFF, WAVE, FORMAT, DATA}
-use Rattle.wave_file.specs.SampleWave.{SAMPLER, mono_format, sampler_head, loop_bytes, loop_count, held_pitch, sampler, sample_chunks, sample_wave}
+use Rattle.wave_file.specs.SampleWave.{SAMPLER, mono_format, sampler_head, loop_bytes, loop_count, held_pitch}
+use Rattle.wave_file.specs.SampleWave.{sampler, sample_chunks, sample_wave}
 
 -- a body of even size has no pad byte
 pad-even : (body : List ℕ) (n : ℕ) → n % 2 ≡ 0 → body ++ pad n ≡ body
@@ -53,7 +55,8 @@ data-even points = let l = length-word_bytes points in omega (arith, l)
 
 -- ---- all of them
 
-pub length-content : (s : Sample) → length (WAVE ++ spell (sample_chunks s)) ≡ 44 + length (sampler s) + 2 * length s.points
+pub length-content : (s : Sample)
+    → length (WAVE ++ spell (sample_chunks s)) ≡ 44 + length (sampler s) + 2 * length s.points
 unfolding sample_chunks
 length-content s =
     let f = mono_format s.rate in
@@ -79,14 +82,33 @@ content-even : (s : Sample) → length (WAVE ++ spell (sample_chunks s)) % 2 ≡
 content-even s = let l = length-content s in let even = sampler-even s in omega (arith, l, even)
 
 -- the file, as it is put
-pub put-parts : (s : Sample) (size data_size : ℕ) → size ≡ length (WAVE ++ spell (sample_chunks s)) → data_size ≡ length (flat_map word_bytes s.points)
-    → chunk_head RIFF size ++ (WAVE ++ (chunk FORMAT (mono_format s.rate) ++ (chunk SAMPLER (sampler s) ++ (chunk_head DATA data_size ++ flat_map word_bytes s.points))))
+pub put-parts : (s : Sample) (size data_size : ℕ) → size ≡ length (WAVE ++ spell (sample_chunks s))
+    → data_size ≡ length (flat_map word_bytes s.points)
+    → chunk_head RIFF size
+    ++
+    (WAVE
+    ++
+    (chunk FORMAT (mono_format s.rate)
+    ++ (chunk SAMPLER (sampler s) ++ (chunk_head DATA data_size ++ flat_map word_bytes s.points))))
     ≡ sample_wave s
 unfolding sample_wave sample_chunks
 put-parts s size data_size e k =
     let d = flat_map word_bytes s.points in
     let last : chunk_head DATA data_size ++ d ≡ chunk DATA d ++ [] =
-    ap (λ (n : ℕ). chunk_head DATA n ++ d) k ∙ sym (chunk-even DATA d (data-even s.points)) ∙ sym (append-nil (chunk DATA d)) in
-    ap (λ (n : ℕ). chunk_head RIFF n ++ (WAVE ++ (chunk FORMAT (mono_format s.rate) ++ (chunk SAMPLER (sampler s) ++ (chunk_head DATA data_size ++ d))))) e
-    ∙ ap (λ (t : List ℕ). chunk_head RIFF (length (WAVE ++ spell (sample_chunks s))) ++ (WAVE ++ (chunk FORMAT (mono_format s.rate) ++ (chunk SAMPLER (sampler s) ++ t)))) last
+    ap (λ (n : ℕ). chunk_head DATA n ++ d) k ∙ sym (chunk-even DATA d (data-even s.points))
+    ∙ sym (append-nil (chunk DATA d)) in
+    ap
+    (λ (n : ℕ).
+    chunk_head RIFF n
+    ++
+    (WAVE
+    ++
+    (chunk FORMAT (mono_format s.rate)
+    ++ (chunk SAMPLER (sampler s) ++ (chunk_head DATA data_size ++ d)))))
+    e
+    ∙ ap
+    (λ (t : List ℕ).
+    chunk_head RIFF (length (WAVE ++ spell (sample_chunks s)))
+    ++ (WAVE ++ (chunk FORMAT (mono_format s.rate) ++ (chunk SAMPLER (sampler s) ++ t))))
+    last
     ∙ sym (chunk-even RIFF (WAVE ++ spell (sample_chunks s)) (content-even s))

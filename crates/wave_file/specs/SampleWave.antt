@@ -1,5 +1,6 @@
 -- The bytes of a WAVE file of one sample: one channel of 16 bits, its loop, its key and its correction.
-use Rattle.std.specs.Prelude.{◌+◌, ◌-◌, ◌*◌, ◌/◌, ◌^◌, ◌==◌, if◌then◌else◌, ℕ, ℤ, min, codes, List, [], ◌∷◌, ◌++◌, Option, Some, None}
+use Rattle.std.specs.Prelude.{◌+◌, ◌-◌, ◌*◌, ◌/◌, ◌^◌, ◌==◌, if◌then◌else◌, ℕ, ℤ, min, codes, List, [], ◌∷◌, ◌++◌}
+use Rattle.std.specs.Prelude.{Option, Some, None}
 use Rattle.std.specs.List.{flat_map}
 use Rattle.std.specs.Int.{w8, cast_unsigned}
 use Rattle.byteorder.specs.Endian.{little_bytes}
@@ -20,7 +21,8 @@ numbers ns = flat_map (little_bytes 4) ns
 -- whole numbers, one channel, frames and bytes a second, bytes of a frame, bits of a sample
 unfoldable pub mono_format : ℕ → List ℕ
 mono_format rate =
-    little_bytes 2 1 ++ little_bytes 2 1 ++ little_bytes 4 rate ++ little_bytes 4 (min (rate * 2) (2 ^ 32 - 1)) ++ little_bytes 2 2 ++ little_bytes 2 16
+    little_bytes 2 1 ++ little_bytes 2 1 ++ little_bytes 4 rate ++ little_bytes 4 (min (rate * 2) (2 ^ 32 - 1))
+    ++ little_bytes 2 2 ++ little_bytes 2 16
 
 -- how long a frame lasts, in nanoseconds
 abbrev pub frame_time : ℕ → ℕ
@@ -30,10 +32,13 @@ abbrev pub loop_count : Option (ℕ × ℕ) → ℕ
 loop_count None = 0
 loop_count (Some looped) = 1
 
--- manufacturer, product, the time of a frame, the unity note and the fraction, SMPTE's format and offset, loops, bytes of data
+-- manufacturer, product, the time of a frame, the unity note and the fraction, SMPTE's format and offset, loops,
+-- bytes of data
 unfoldable pub sampler_head : Sample → List ℕ
 sampler_head s =
-    numbers (0 ∷ 0 ∷ frame_time s.rate ∷ unity_note s.key s.correction ∷ pitch_fraction s.key s.correction ∷ 0 ∷ 0 ∷ loop_count s.looped ∷ 8 ∷ [])
+    numbers
+    (0 ∷ 0 ∷ frame_time s.rate ∷ unity_note s.key s.correction ∷ pitch_fraction s.key s.correction ∷ 0 ∷ 0
+    ∷ loop_count s.looped ∷ 8 ∷ [])
 
 -- a loop that is played forwards without end, by its first point and its last
 unfoldable pub loop_bytes : Option (ℕ × ℕ) → List ℕ
@@ -51,7 +56,8 @@ abbrev pub made : List ℕ → List ℕ → Chunk
 made id body = record { id = id; body = body }
 
 unfoldable pub sample_chunks : Sample → List Chunk
-sample_chunks s = made FORMAT (mono_format s.rate) ∷ made SAMPLER (sampler s) ∷ made DATA (flat_map word_bytes s.points) ∷ []
+sample_chunks s =
+    made FORMAT (mono_format s.rate) ∷ made SAMPLER (sampler s) ∷ made DATA (flat_map word_bytes s.points) ∷ []
 
 -- the whole file of a sample
 unfoldable pub sample_wave : Sample → List ℕ

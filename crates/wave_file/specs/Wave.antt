@@ -25,7 +25,8 @@ chunk_head id size = id ++ little_bytes 4 size
 unfoldable pub format : List ℕ
 format =
     chunk_head FORMAT 16
-    ++ little_bytes 2 1 ++ little_bytes 2 2 ++ little_bytes 4 44100 ++ little_bytes 4 176400 ++ little_bytes 2 4 ++ little_bytes 2 16
+    ++ little_bytes 2 1 ++ little_bytes 2 2 ++ little_bytes 4 44100 ++ little_bytes 4 176400 ++ little_bytes 2 4
+    ++ little_bytes 2 16
 
 -- what stands before `size` bytes of samples
 unfoldable pub head : ℕ → List ℕ

@@ -1,5 +1,6 @@
 -- Notes select zones exactly where their rectangles are.
-use Rattle.std.proofs.Common.{◌≡◌, ◌≢◌, ◌≤◌, ℕ, ◌&&◌, ◌||◌, nat_le, min, max, Bool, true, false, true≢false, cond, List, [], length, Option, Some, None, slice_get, unwrap_or, refl, sym, ap, ◌∙◌, arith}
+use Rattle.std.proofs.Common.{◌≡◌, ◌≢◌, ◌≤◌, ℕ, ◌&&◌, ◌||◌, nat_le, min, max, Bool, true, false, true≢false, cond}
+use Rattle.std.proofs.Common.{List, [], length, Option, Some, None, slice_get, unwrap_or, refl, sym, ap, ◌∙◌, arith}
 use Rattle.std.specs.Prelude.{is_some}
 use Rattle.std.specs.List.{find, filter, list_any}
 use Rattle.std.specs.Option.{option_map, option_map_or, option_and_then}
@@ -22,14 +23,17 @@ use Rattle.zone_select.specs.Left.{zones_in, owner_holds}
 use Rattle.zone_select.proofs.PlayedLaws.{pairs_are_chosen}
 use Rattle.zone_map.specs.declared.rectangle.Area.{Area}
 use Rattle.zone_map.specs.declared.rectangle.Rectangle.{Rectangle}
-use Rattle.zone_map.specs.Rectangles.{area_of, everything, cut, has_notes, root_key, rectangle_of, with_notes, rectangle_at, zone_numbers, rectangles_in, rectangles_of_zone, rectangles}
-use Rattle.zone_map.specs.Selected.{is_in, covers, is_of_zone, is_of_pair, PairsSelected, PairsOnce, ZonesHold, ZonesOnce}
+use Rattle.zone_map.specs.Rectangles.{area_of, everything, cut, has_notes, root_key, rectangle_of, with_notes}
+use Rattle.zone_map.specs.Rectangles.{rectangle_at, zone_numbers, rectangles_in, rectangles_of_zone, rectangles}
+use Rattle.zone_map.specs.Selected.{is_in, covers, is_of_zone, is_of_pair, PairsSelected, PairsOnce, ZonesHold}
+use Rattle.zone_map.specs.Selected.{ZonesOnce}
 use Rattle.zone_map.proofs.Kept.{as_list, options_flat, kept, none_kept, any_kept, at_most_one}
 
 -- ---- ranges
 
 -- a number lies in what two ranges have in common where it lies in both
-in_common : (a b c d x : ℕ) → (nat_le (max a c) x && nat_le x (min b d)) ≡ ((nat_le a x && nat_le x b) && (nat_le c x && nat_le x d))
+in_common : (a b c d x : ℕ)
+    → (nat_le (max a c) x && nat_le x (min b d)) ≡ ((nat_le a x && nat_le x b) && (nat_le c x && nat_le x d))
 in_common a b c d x = grind (arith, nat_tests)
 
 in_order : (a b x : ℕ) → (nat_le a x && nat_le x b) ≡ true → nat_le a b ≡ true
@@ -64,14 +68,20 @@ in_area n area = is_in area.keys n.key && is_in area.velocities n.velocity
 -- the area of two covers a note where both do
 cut_covers : (n : Numbers) (x y : Area) → (has_notes (cut x y) && in_area n (cut x y)) ≡ (in_area n x && in_area n y)
 cut_covers n x y =
-    conditions (nat_le (cut x y).keys.low (cut x y).keys.high) (nat_le (cut x y).velocities.low (cut x y).velocities.high) (is_in (cut x y).keys n.key) (is_in (cut x y).velocities n.velocity)
-    (in_order (cut x y).keys.low (cut x y).keys.high n.key) (in_order (cut x y).velocities.low (cut x y).velocities.high n.velocity)
-    ∙ ap (λ t. t && is_in (cut x y).velocities n.velocity) (in_common x.keys.low x.keys.high y.keys.low y.keys.high n.key)
-    ∙ ap (λ t. (is_in x.keys n.key && is_in y.keys n.key) && t) (in_common x.velocities.low x.velocities.high y.velocities.low y.velocities.high n.velocity)
+    conditions (nat_le (cut x y).keys.low (cut x y).keys.high)
+    (nat_le (cut x y).velocities.low (cut x y).velocities.high) (is_in (cut x y).keys n.key)
+    (is_in (cut x y).velocities n.velocity)
+    (in_order (cut x y).keys.low (cut x y).keys.high n.key)
+    (in_order (cut x y).velocities.low (cut x y).velocities.high n.velocity)
+    ∙ ap (λ t. t && is_in (cut x y).velocities n.velocity)
+    (in_common x.keys.low x.keys.high y.keys.low y.keys.high n.key)
+    ∙ ap (λ t. (is_in x.keys n.key && is_in y.keys n.key) && t)
+    (in_common x.velocities.low x.velocities.high y.velocities.low y.velocities.high n.velocity)
     ∙ crossed (is_in x.keys n.key) (is_in x.velocities n.velocity) (is_in y.keys n.key) (is_in y.velocities n.velocity)
 
 -- a rectangle that is there if it has notes
-if_notes : (n : Numbers) (r : Rectangle) (t : Bool) → list_any (covers n) (as_list (cond t (Some r) None)) ≡ (t && in_area n r.area)
+if_notes : (n : Numbers) (r : Rectangle) (t : Bool)
+    → list_any (covers n) (as_list (cond t (Some r) None)) ≡ (t && in_area n r.area)
 if_notes n r true = elim (in_area n r.area) as (λ c. (c || false) ≡ c) [ true ↦ refl | false ↦ refl ]
 if_notes n r false = refl
 
@@ -81,25 +91,32 @@ both_false false = refl
 
 module _ (b : Parts) (n : Numbers) (outer : Option ℕ) (area : Area) (i l : ℕ) where
   -- it covers a note where the area does and its zone holds it
-  pub covered : list_any (covers n) (as_list (rectangle_at b outer area i l)) ≡ (in_area n area && owner_holds b n (owner.Instrument i) l)
+  pub covered : list_any (covers n) (as_list (rectangle_at b outer area i l))
+      ≡ (in_area n area && owner_holds b n (owner.Instrument i) l)
   unfolding holds
   covered = from (slice_get b.instruments i) refl
     where
       zone : (x : WithZones (List ℕ)) (z : Option Zone) → slice_get b.instruments i ≡ Some x → slice_get x.zones l ≡ z
-          → list_any (covers n) (as_list (rectangle_at b outer area i l)) ≡ (in_area n area && option_map_or (holds n x.global) z false)
+          → list_any (covers n) (as_list (rectangle_at b outer area i l))
+          ≡ (in_area n area && option_map_or (holds n x.global) z false)
       zone x None e f = rw (e, f) (both_false (in_area n area))
       zone x (Some z) e f =
           let there : Area = area_of b (owner.Instrument i) l in
           let r = rectangle_of b outer area i l z.target in
           let target : target_of b (owner.Instrument i) l ≡ Some z.target = rw (e, f) refl in
           let held : in_area n there ≡ holds n x.global z = rw (e, f) refl in
-          ap (λ (t : Option ℕ). list_any (covers n) (as_list (option_and_then (λ (s : ℕ). with_notes (rectangle_of b outer area i l s)) t))) target
+          ap
+          (λ (t : Option ℕ).
+          list_any (covers n)
+          (as_list (option_and_then (λ (s : ℕ). with_notes (rectangle_of b outer area i l s)) t)))
+          target
           ∙ if_notes n r (has_notes (cut area there))
           ∙ cut_covers n area there
           ∙ ap (λ t. in_area n area && t) held
 
       from : (o : Option (WithZones (List ℕ))) → slice_get b.instruments i ≡ o
-          → list_any (covers n) (as_list (rectangle_at b outer area i l)) ≡ (in_area n area && option_map_or (λ (x : WithZones (List ℕ)). holds_at n x.global x.zones l) o false)
+          → list_any (covers n) (as_list (rectangle_at b outer area i l))
+          ≡ (in_area n area && option_map_or (λ (x : WithZones (List ℕ)). holds_at n x.global x.zones l) o false)
       from None e = rw e (both_false (in_area n area))
       from (Some x) e = zone x (slice_get x.zones l) e refl
 
@@ -109,54 +126,83 @@ module _ (b : Parts) (outer : Option ℕ) (area : Area) (i l : ℕ) where
   not_there = from (slice_get b.instruments i) refl
     where
       from : (o : Option (WithZones (List ℕ))) → slice_get b.instruments i ≡ o
-          → unwrap_or (option_map (λ (x : WithZones (List ℕ)). length x.zones) o) 0 ≤ l → rectangle_at b outer area i l ≡ None
+          → unwrap_or (option_map (λ (x : WithZones (List ℕ)). length x.zones) o) 0 ≤ l
+          → rectangle_at b outer area i l ≡ None
       from None e h = rw e refl
       from (Some x) e h = let f = slice_get_past x.zones l h in rw (e, f) refl
 
   -- what a test that looks at the zones' numbers alone keeps of it
-  module _ (test : Rectangle → Bool) (t : Bool) (same : (s root : ℕ) (a : Area) → test (let r : Rectangle = record { preset_zone = outer; zone = l; sample = s; area = a; root = root } in r) ≡ t) where
-    abbrev of_target : Option ℕ → Option Rectangle
-    of_target target = option_and_then (λ (s : ℕ). with_notes (rectangle_of b outer area i l s)) target
+  module _ (test : Rectangle → Bool) (t : Bool)
+      (same : (s root : ℕ) (a : Area)
+      → test
+      (let r : Rectangle =
+      record { preset_zone = outer; zone = l; sample = s; area = a; root = root } in r)
+      ≡ t)
+    where
+      abbrev of_target : Option ℕ → Option Rectangle
+      of_target target = option_and_then (λ (s : ℕ). with_notes (rectangle_of b outer area i l s)) target
 
-    tested : (r : Rectangle) (c : Bool) → test r ≡ t → filter test (as_list (cond c (Some r) None)) ≡ cond t (as_list (cond c (Some r) None)) []
-    tested r true e = rw e refl
-    tested r false e = either_way [] t
+      tested : (r : Rectangle) (c : Bool) → test r ≡ t
+          → filter test (as_list (cond c (Some r) None)) ≡ cond t (as_list (cond c (Some r) None)) []
+      tested r true e = rw e refl
+      tested r false e = either_way [] t
 
-    pub kept_at : filter test (as_list (rectangle_at b outer area i l)) ≡ cond t (as_list (rectangle_at b outer area i l)) []
-    kept_at = elim (target_of b (owner.Instrument i) l) as (λ (o : Option ℕ). filter test (as_list (of_target o)) ≡ cond t (as_list (of_target o)) []) [
-      | None ↦ either_way [] t
-      | Some s ↦ tested (rectangle_of b outer area i l s) (has_notes (cut area (area_of b (owner.Instrument i) l))) (same s (root_key b i l s) (cut area (area_of b (owner.Instrument i) l)))
-    ]
+      pub kept_at : filter test (as_list (rectangle_at b outer area i l))
+          ≡ cond t (as_list (rectangle_at b outer area i l)) []
+      kept_at =
+          elim (target_of b (owner.Instrument i) l) as
+          (λ (o : Option ℕ). filter test (as_list (of_target o)) ≡ cond t (as_list (of_target o)) []) [
+            | None ↦ either_way [] t
+            | Some s ↦ tested (rectangle_of b outer area i l s) (has_notes (cut area (area_of b (owner.Instrument i) l)))
+                (same s (root_key b i l s) (cut area (area_of b (owner.Instrument i) l)))
+          ]
 
 -- ---- of an instrument, seen from a preset's zone or from none
 
 module _ (b : Parts) (outer : Option ℕ) (area : Area) (i l : ℕ) (test : Rectangle → Bool)
-    (own : (s root : ℕ) (a : Area) → test (let r : Rectangle = record { preset_zone = outer; zone = l; sample = s; area = a; root = root } in r) ≡ true)
-    (other : (m s root : ℕ) (a : Area) → m ≢ l → test (let r : Rectangle = record { preset_zone = outer; zone = m; sample = s; area = a; root = root } in r) ≡ false) where
-  -- those of one zone
-  pub of_zone : filter test (rectangles_in b outer area i) ≡ as_list (rectangle_at b outer area i l)
-  of_zone =
-      ap (filter test) (options_flat (rectangle_at b outer area i) (zone_numbers b (owner.Instrument i)))
-      ∙ kept test (λ m. as_list (rectangle_at b outer area i m)) l (λ m ne. kept_at b outer area i m test false (λ s root a. other m s root a ne)) (zones_in b (owner.Instrument i))
-      (λ past. ap (λ o. filter test (as_list o)) (not_there b outer area i l past))
-      ∙ kept_at b outer area i l test true own
+    (own : (s root : ℕ) (a : Area)
+    → test (let r : Rectangle = record { preset_zone = outer; zone = l; sample = s; area = a; root = root } in r)
+    ≡ true)
+    (other : (m s root : ℕ) (a : Area) → m ≢ l
+    → test
+    (let r : Rectangle =
+    record { preset_zone = outer; zone = m; sample = s; area = a; root = root } in r)
+    ≡ false)
+  where
+    -- those of one zone
+    pub of_zone : filter test (rectangles_in b outer area i) ≡ as_list (rectangle_at b outer area i l)
+    of_zone =
+        ap (filter test) (options_flat (rectangle_at b outer area i) (zone_numbers b (owner.Instrument i)))
+        ∙ kept test (λ m. as_list (rectangle_at b outer area i m)) l
+        (λ m ne. kept_at b outer area i m test false (λ s root a. other m s root a ne))
+        (zones_in b (owner.Instrument i))
+        (λ past. ap (λ o. filter test (as_list o)) (not_there b outer area i l past))
+        ∙ kept_at b outer area i l test true own
 
 -- none where the preset's zone is another one
 pub of_other : (b : Parts) (outer : Option ℕ) (area : Area) (i : ℕ) (test : Rectangle → Bool)
-    → ((m s root : ℕ) (a : Area) → test (let r : Rectangle = record { preset_zone = outer; zone = m; sample = s; area = a; root = root } in r) ≡ false)
+    →
+    ((m s root : ℕ) (a : Area)
+    → test (let r : Rectangle = record { preset_zone = outer; zone = m; sample = s; area = a; root = root } in r)
+    ≡ false)
     → filter test (rectangles_in b outer area i) ≡ []
 of_other b outer area i test none =
     ap (filter test) (options_flat (rectangle_at b outer area i) (zone_numbers b (owner.Instrument i)))
-    ∙ none_kept test (rectangle_at b outer area i) (λ m. kept_at b outer area i m test false (λ s root a. none m s root a)) (zone_numbers b (owner.Instrument i))
+    ∙ none_kept test (rectangle_at b outer area i)
+    (λ m. kept_at b outer area i m test false (λ s root a. none m s root a)) (zone_numbers b (owner.Instrument i))
 
 -- ---- laws of instruments
 
-zone_kept : (b : Parts) (i l : ℕ) → filter (is_of_zone l) (rectangles b (owner.Instrument i)) ≡ as_list (rectangle_at b None everything i l)
+zone_kept : (b : Parts) (i l : ℕ)
+    → filter (is_of_zone l) (rectangles b (owner.Instrument i)) ≡ as_list (rectangle_at b None everything i l)
 unfolding rectangles
-zone_kept b i l = of_zone b None everything i l (is_of_zone l) (λ s root a. eq-eqb l l refl) (λ m s root a ne. ne_eqb m l ne)
+zone_kept b i l =
+    of_zone b None everything i l (is_of_zone l) (λ s root a. eq-eqb l l refl) (λ m s root a ne. ne_eqb m l ne)
 
 pub zones_once : ZonesOnce
-zones_once b i l = let e = ap length (zone_kept b i l) in let h = at_most_one (rectangle_at b None everything i l) in omega (arith, e, h)
+zones_once b i l =
+    let e = ap length (zone_kept b i l) in
+    let h = at_most_one (rectangle_at b None everything i l) in omega (arith, e, h)
 
 all_in : (n : Numbers) → n.key ≤ 127 → n.velocity ≤ 127 → in_area n everything ≡ true
 all_in n h k = grind (arith, nat_tests)
@@ -172,28 +218,43 @@ zones_hold b n i l h k =
 
 -- the rectangle of a pair
 abbrev pair_list : Parts → ℕ → ℕ → ℕ → List Rectangle
-pair_list b p k l = option_map_or (λ (i : ℕ). as_list (rectangle_at b (Some k) (area_of b (owner.Preset p) k) i l)) (target_of b (owner.Preset p) k) []
+pair_list b p k l =
+    option_map_or (λ (i : ℕ). as_list (rectangle_at b (Some k) (area_of b (owner.Preset p) k) i l))
+    (target_of b (owner.Preset p) k) []
 
 module _ (b : Parts) (p k l : ℕ) where
   of_pair : filter (is_of_pair k l) (rectangles_of_zone b p k) ≡ pair_list b p k l
-  of_pair = elim (target_of b (owner.Preset p) k) as (λ (o : Option ℕ). filter (is_of_pair k l) (option_map_or (λ (i : ℕ). rectangles_in b (Some k) (area_of b (owner.Preset p) k) i) o []) ≡ option_map_or (λ (i : ℕ). as_list (rectangle_at b (Some k) (area_of b (owner.Preset p) k) i l)) o []) [
-    | None ↦ refl
-    | Some i ↦ of_zone b (Some k) (area_of b (owner.Preset p) k) i l (is_of_pair k l)
-        (λ s root a. let e = eq-eqb k k refl in let f = eq-eqb l l refl in rw (e, f) refl)
-        (λ m s root a ne. let e = eq-eqb k k refl in let f = ne_eqb m l ne in rw (e, f) refl)
-  ]
+  of_pair =
+      elim (target_of b (owner.Preset p) k) as
+      (λ (o : Option ℕ).
+      filter (is_of_pair k l)
+      (option_map_or (λ (i : ℕ). rectangles_in b (Some k) (area_of b (owner.Preset p) k) i) o [])
+      ≡ option_map_or (λ (i : ℕ). as_list (rectangle_at b (Some k) (area_of b (owner.Preset p) k) i l)) o
+      []) [
+        | None ↦ refl
+        | Some i ↦ of_zone b (Some k) (area_of b (owner.Preset p) k) i l (is_of_pair k l)
+            (λ s root a. let e = eq-eqb k k refl in let f = eq-eqb l l refl in rw (e, f) refl)
+            (λ m s root a ne. let e = eq-eqb k k refl in let f = ne_eqb m l ne in rw (e, f) refl)
+      ]
 
   of_others : (j : ℕ) → j ≢ k → filter (is_of_pair k l) (rectangles_of_zone b p j) ≡ []
-  of_others j ne = elim (target_of b (owner.Preset p) j) as (λ (o : Option ℕ). filter (is_of_pair k l) (option_map_or (λ (i : ℕ). rectangles_in b (Some j) (area_of b (owner.Preset p) j) i) o []) ≡ []) [
-    | None ↦ refl
-    | Some i ↦ of_other b (Some j) (area_of b (owner.Preset p) j) i (is_of_pair k l) (λ m s root a. let e = ne_eqb j k ne in rw e refl)
-  ]
+  of_others j ne =
+      elim (target_of b (owner.Preset p) j) as
+      (λ (o : Option ℕ).
+      filter (is_of_pair k l)
+      (option_map_or (λ (i : ℕ). rectangles_in b (Some j) (area_of b (owner.Preset p) j) i) o [])
+      ≡ []) [
+        | None ↦ refl
+        | Some i ↦ of_other b (Some j) (area_of b (owner.Preset p) j) i (is_of_pair k l)
+            (λ m s root a. let e = ne_eqb j k ne in rw e refl)
+      ]
 
   past_zones : zones_in b (owner.Preset p) ≤ k → target_of b (owner.Preset p) k ≡ None
   past_zones = from (slice_get b.presets p) refl
     where
       from : (o : Option (WithZones Head)) → slice_get b.presets p ≡ o
-          → unwrap_or (option_map (λ (x : WithZones Head). length x.zones) o) 0 ≤ k → target_of b (owner.Preset p) k ≡ None
+          → unwrap_or (option_map (λ (x : WithZones Head). length x.zones) o) 0 ≤ k
+          → target_of b (owner.Preset p) k ≡ None
       from None e h = rw e refl
       from (Some x) e h = let f = slice_get_past x.zones k h in rw (e, f) refl
 
@@ -201,15 +262,26 @@ module _ (b : Parts) (p k l : ℕ) where
   unfolding rectangles
   pair_kept =
       kept (is_of_pair k l) (rectangles_of_zone b p) k of_others (zones_in b (owner.Preset p))
-      (λ past. ap (λ (o : Option ℕ). filter (is_of_pair k l) (option_map_or (λ (i : ℕ). rectangles_in b (Some k) (area_of b (owner.Preset p) k) i) o [])) (past_zones past))
+      (λ past.
+      ap
+      (λ (o : Option ℕ).
+      filter (is_of_pair k l)
+      (option_map_or (λ (i : ℕ). rectangles_in b (Some k) (area_of b (owner.Preset p) k) i) o []))
+      (past_zones past))
       ∙ of_pair
 
   -- at most one
   few : length (pair_list b p k l) ≤ 1
-  few = elim (target_of b (owner.Preset p) k) as (λ (o : Option ℕ). length (option_map_or (λ (i : ℕ). as_list (rectangle_at b (Some k) (area_of b (owner.Preset p) k) i l)) o []) ≤ 1) [
-    | None ↦ omega arith
-    | Some i ↦ at_most_one (rectangle_at b (Some k) (area_of b (owner.Preset p) k) i l)
-  ]
+  few =
+      elim (target_of b (owner.Preset p) k) as
+      (λ (o : Option ℕ).
+      length
+      (option_map_or (λ (i : ℕ). as_list (rectangle_at b (Some k) (area_of b (owner.Preset p) k) i l)) o
+      [])
+      ≤ 1) [
+        | None ↦ omega arith
+        | Some i ↦ at_most_one (rectangle_at b (Some k) (area_of b (owner.Preset p) k) i l)
+      ]
 
 pub pairs_once : PairsOnce
 pairs_once b p k l = let e = ap length (pair_kept b p k l) in let h = few b p k l in omega (arith, e, h)
@@ -218,57 +290,88 @@ mapped : {X Y : Type 0} (f : X → Y) (o : Option X) → is_some (option_map f o
 mapped f None = refl
 mapped f (Some x) = refl
 
-tested_then : {X Y : Type 0} (f : X → Option Y) (x : X) (t : Bool) → is_some (option_and_then f (cond t (Some x) None)) ≡ (t && is_some (f x))
+tested_then : {X Y : Type 0} (f : X → Option Y) (x : X) (t : Bool)
+    → is_some (option_and_then f (cond t (Some x) None)) ≡ (t && is_some (f x))
 tested_then f x true = refl
 tested_then f x false = refl
 
 module _ (b : Parts) (n : Numbers) where
-  held_is : (global : GlobalZone) (zones : List Zone) (k : ℕ) → is_some (zone_held n global zones k) ≡ holds_at n global zones k
-  held_is global zones k = elim (slice_get zones k) as (λ (o : Option Zone). is_some (option_and_then (λ (z : Zone). cond (holds n global z) (Some z) None) o) ≡ option_map_or (holds n global) o false) [
-    | None ↦ refl
-    | Some z ↦ elim (holds n global z) as (λ t. is_some (cond t (Some z) None) ≡ t) [ true ↦ refl | false ↦ refl ]
-  ]
+  held_is : (global : GlobalZone) (zones : List Zone) (k : ℕ)
+      → is_some (zone_held n global zones k) ≡ holds_at n global zones k
+  held_is global zones k =
+      elim (slice_get zones k) as
+      (λ (o : Option Zone).
+      is_some (option_and_then (λ (z : Zone). cond (holds n global z) (Some z) None) o)
+      ≡ option_map_or (holds n global) o false) [
+        | None ↦ refl
+        | Some z ↦ elim (holds n global z) as (λ t. is_some (cond t (Some z) None) ≡ t) [ true ↦ refl | false ↦ refl ]
+      ]
 
-  inner_is : (u : Taken) (l : ℕ) (i : WithZones (List ℕ)) → is_some (instrument_zone_chosen n u l i) ≡ holds_at n i.global i.zones l
+  inner_is : (u : Taken) (l : ℕ) (i : WithZones (List ℕ))
+      → is_some (instrument_zone_chosen n u l i) ≡ holds_at n i.global i.zones l
   inner_is u l i = mapped _ (zone_held n i.global i.zones l) ∙ held_is i.global i.zones l
 
   -- the zone of the instrument is chosen where it is there and holds the note
-  zone_is : (global : GlobalZone) (l : ℕ) (z : Zone) → is_some (zone_chosen b n global l z) ≡ owner_holds b n (owner.Instrument z.target) l
-  zone_is global l z = elim (slice_get b.instruments z.target) as (λ (o : Option (WithZones (List ℕ))). is_some (option_and_then (instrument_zone_chosen n (taken global z) l) o) ≡ option_map_or (λ (i : WithZones (List ℕ)). holds_at n i.global i.zones l) o false) [
-    | None ↦ refl
-    | Some i ↦ inner_is (taken global z) l i
-  ]
+  zone_is : (global : GlobalZone) (l : ℕ) (z : Zone)
+      → is_some (zone_chosen b n global l z) ≡ owner_holds b n (owner.Instrument z.target) l
+  zone_is global l z =
+      elim (slice_get b.instruments z.target) as
+      (λ (o : Option (WithZones (List ℕ))).
+      is_some (option_and_then (instrument_zone_chosen n (taken global z) l) o)
+      ≡ option_map_or (λ (i : WithZones (List ℕ)). holds_at n i.global i.zones l) o false) [
+        | None ↦ refl
+        | Some i ↦ inner_is (taken global z) l i
+      ]
 
   module _ (p k l : ℕ) where
     -- a pair of a preset is chosen where its rectangle covers the note
-    preset_is : (x : WithZones Head) → slice_get b.presets p ≡ Some x → list_any (covers n) (pair_list b p k l) ≡ is_some (preset_chosen b n (k, l) x)
+    preset_is : (x : WithZones Head) → slice_get b.presets p ≡ Some x
+        → list_any (covers n) (pair_list b p k l) ≡ is_some (preset_chosen b n (k, l) x)
     unfolding holds
     preset_is x e = from (slice_get x.zones k) refl
       where
         from : (o : Option Zone) → slice_get x.zones k ≡ o
-            → list_any (covers n) (pair_list b p k l) ≡ is_some (option_and_then (zone_chosen b n x.global l) (option_and_then (λ (z : Zone). cond (holds n x.global z) (Some z) None) o))
+            → list_any (covers n) (pair_list b p k l)
+            ≡ is_some
+            (option_and_then (zone_chosen b n x.global l)
+            (option_and_then (λ (z : Zone). cond (holds n x.global z) (Some z) None) o))
         from None f = rw (e, f) refl
         from (Some z) f =
             let target : target_of b (owner.Preset p) k ≡ Some z.target = rw (e, f) refl in
             let held : in_area n (area_of b (owner.Preset p) k) ≡ holds n x.global z = rw (e, f) refl in
-            ap (λ (o : Option ℕ). list_any (covers n) (option_map_or (λ (i : ℕ). as_list (rectangle_at b (Some k) (area_of b (owner.Preset p) k) i l)) o [])) target
+            ap
+            (λ (o : Option ℕ).
+            list_any (covers n)
+            (option_map_or
+            (λ (i : ℕ). as_list (rectangle_at b (Some k) (area_of b (owner.Preset p) k) i l)) o []))
+            target
             ∙ covered b n (Some k) (area_of b (owner.Preset p) k) z.target l
             ∙ ap (λ t. t && owner_holds b n (owner.Instrument z.target) l) held
             ∙ ap (λ t. holds n x.global z && t) (sym (zone_is x.global l z))
             ∙ sym (tested_then (zone_chosen b n x.global l) z (holds n x.global z))
 
-    chosen_is : find (is_called n) b.presets ≡ slice_get b.presets p → list_any (covers n) (pair_list b p k l) ≡ is_some (chosen_by b n (k, l))
+    chosen_is : find (is_called n) b.presets ≡ slice_get b.presets p
+        → list_any (covers n) (pair_list b p k l) ≡ is_some (chosen_by b n (k, l))
     unfolding chosen_by
-    chosen_is first = from (slice_get b.presets p) refl ∙ ap (λ (o : Option (WithZones Head)). is_some (option_and_then (preset_chosen b n (k, l)) o)) (sym first)
+    chosen_is first =
+        from (slice_get b.presets p) refl
+        ∙ ap (λ (o : Option (WithZones Head)). is_some (option_and_then (preset_chosen b n (k, l)) o))
+        (sym first)
       where
         from : (o : Option (WithZones Head)) → slice_get b.presets p ≡ o
-            → list_any (covers n) (pair_list b p k l) ≡ is_some (option_and_then (preset_chosen b n (k, l)) (slice_get b.presets p))
+            → list_any (covers n) (pair_list b p k l)
+            ≡ is_some (option_and_then (preset_chosen b n (k, l)) (slice_get b.presets p))
         from None e = rw e refl
-        from (Some x) e = preset_is x e ∙ ap (λ (o : Option (WithZones Head)). is_some (option_and_then (preset_chosen b n (k, l)) o)) (sym e)
+        from (Some x) e =
+            preset_is x e
+            ∙ ap (λ (o : Option (WithZones Head)). is_some (option_and_then (preset_chosen b n (k, l)) o))
+            (sym e)
 
 pub pairs_selected : PairsSelected
 pairs_selected b n p k l first =
-    let same : list_any (λ r. is_of_pair k l r && covers n r) (rectangles b (owner.Preset p)) ≡ is_some (chosen_by b n (k, l)) =
-    any_kept (is_of_pair k l) (covers n) (rectangles b (owner.Preset p)) ∙ ap (list_any (covers n)) (pair_kept b p k l) ∙ chosen_is b n p k l first in
+    let same : list_any (λ r. is_of_pair k l r && covers n r) (rectangles b (owner.Preset p))
+    ≡ is_some (chosen_by b n (k, l)) =
+    any_kept (is_of_pair k l) (covers n) (rectangles b (owner.Preset p))
+    ∙ ap (list_any (covers n)) (pair_kept b p k l) ∙ chosen_is b n p k l first in
     let chosen = pairs_are_chosen b n (k, l) in
     (λ c. same ∙ chosen.0 c, λ t. chosen.1 (sym same ∙ t))

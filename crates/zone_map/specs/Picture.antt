@@ -1,6 +1,7 @@
--- A picture of rectangles: an SVG text. Keys go along, 10 units each, and velocities up, 4 units each; key 0 and velocity 127
--- begin at 60 units from the left and from the top.
-use Rattle.std.specs.Prelude.{ℕ, ◌+◌, ◌-◌, ◌*◌, ◌/◌, ◌%◌, ◌&&◌, nat_le, List, [], ◌∷◌, ◌++◌, Option, Some, None, codes, unwrap_or, slice_get, if◌then◌else◌}
+-- A picture of rectangles: an SVG text. Keys go along, 10 units each, and velocities up, 4 units each; key 0 and
+-- velocity 127 begin at 60 units from the left and from the top.
+use Rattle.std.specs.Prelude.{ℕ, ◌+◌, ◌-◌, ◌*◌, ◌/◌, ◌%◌, ◌&&◌, nat_le, List, [], ◌∷◌, ◌++◌, Option, Some, None}
+use Rattle.std.specs.Prelude.{codes, unwrap_or, slice_get, if◌then◌else◌}
 use Rattle.std.specs.List.{concat, flat_map}
 use Rattle.std.specs.Option.{option_map_or}
 use Rattle.bank_parts.specs.declared.parts.Head.{Head}
@@ -51,7 +52,8 @@ frame = concat (
     ∷ codes "<pattern id='octave' x='60' y='572' width='120' height='40' patternUnits='userSpaceOnUse'>\n"
     ∷ codes "<path fill='#fff' d='M0 0H120V40H0z'/>\n"
     ∷ codes "<path stroke='#888' d='M15 26V40M35 26V40M50 0V40M65 26V40M85 26V40M105 26V40M120 0V40M0 40H120'/>\n"
-    ∷ codes "<path fill='#333' d='M10 0h10v26h-10zM30 0h10v26h-10zM60 0h10v26h-10zM80 0h10v26h-10zM100 0h10v26h-10z'/>\n"
+    ∷ codes
+    "<path fill='#333' d='M10 0h10v26h-10zM30 0h10v26h-10zM60 0h10v26h-10zM80 0h10v26h-10zM100 0h10v26h-10z'/>\n"
     ∷ codes "</pattern><path fill='url(#octave)' d='M60 572H1340V612H60z'/>\n"
     ∷ codes "<text x='62' y='628'>C-1</text><text x='182' y='628'>C0</text><text x='302' y='628'>C1</text>\n"
     ∷ codes "<text x='422' y='628'>C2</text><text x='542' y='628'>C3</text><text x='662' y='628'>C4</text>\n"
@@ -123,17 +125,20 @@ box_marks r =
     ∷ Text (codes "'><rect width='100%' height='100%'/>")
     ∷ []
 
--- how far down its name stands: on one of four lines, so that names can be read where zones lie on one another, as those of the
--- left and of the right side do
+-- how far down its name stands: on one of four lines, so that names can be read where zones lie on one another, as
+-- those of the left and of the right side do
 abbrev pub name_line : Rectangle → ℕ
 name_line r = height r * (1 + (2 * (r.zone % 2) + (unwrap_or r.preset_zone 0 % 2 + (r.zone / 2) % 2) % 2)) / 5
 
 abbrev pub along_marks : List ℕ → Rectangle → List Mark
-along_marks name r = Text (codes "<text x='50%' y='") ∷ Number (name_line r) ∷ Text (codes "'>") ∷ Name name ∷ Text (codes "</text>") ∷ []
+along_marks name r =
+    Text (codes "<text x='50%' y='") ∷ Number (name_line r) ∷ Text (codes "'>") ∷ Name name ∷ Text (codes "</text>")
+    ∷ []
 
 abbrev pub upward_marks : List ℕ → Rectangle → List Mark
 upward_marks name r =
-    Text (codes "<text transform='translate(") ∷ Number (width r / 2) ∷ Text (codes " ") ∷ Number (name_line r) ∷ Text (codes ") rotate(-90)'>")
+    Text (codes "<text transform='translate(") ∷ Number (width r / 2) ∷ Text (codes " ") ∷ Number (name_line r)
+    ∷ Text (codes ") rotate(-90)'>")
     ∷ Name name ∷ Text (codes "</text>")
     ∷ []
 

@@ -52,7 +52,8 @@ key_or n other = cond (nat_le n 127) n other
 abbrev pub sample_root : Parts → ℕ → ℕ
 sample_root b s = option_map_or (λ (x : Sample). key_or x.key 60) (slice_get b.samples s) 60
 
--- of zone l of an instrument, whose sample is s: its generator 58, else its global zone's, else the sample's key, else 60
+-- of zone l of an instrument, whose sample is s: its generator 58, else its global zone's, else the sample's key,
+-- else 60
 abbrev pub root_key : Parts → ℕ → ℕ → ℕ → ℕ
 root_key b i l s =
     option_map_or (λ n. key_or n (sample_root b s))
@@ -64,7 +65,14 @@ root_key b i l s =
 -- what zone l of an instrument, whose sample is s, has of an area, seen from a preset's zone or from none
 abbrev pub rectangle_of : Parts → Option ℕ → Area → ℕ → ℕ → ℕ → Rectangle
 rectangle_of b outer area i l s =
-    record { preset_zone = outer; zone = l; sample = s; area = cut area (area_of b (owner.Instrument i) l); root = root_key b i l s }
+    record {
+      preset_zone =
+          outer;
+      zone = l;
+      sample = s;
+      area = cut area (area_of b (owner.Instrument i) l);
+      root = root_key b i l s;
+    }
 
 -- a rectangle, if there are notes in it
 abbrev pub with_notes : Rectangle → Option Rectangle
@@ -72,7 +80,8 @@ with_notes r = cond (has_notes r.area) (Some r) None
 
 -- none where the zone and the area don't meet
 abbrev pub rectangle_at : Parts → Option ℕ → Area → ℕ → ℕ → Option Rectangle
-rectangle_at b outer area i l = option_and_then (λ (s : ℕ). with_notes (rectangle_of b outer area i l s)) (target_of b (owner.Instrument i) l)
+rectangle_at b outer area i l =
+    option_and_then (λ (s : ℕ). with_notes (rectangle_of b outer area i l s)) (target_of b (owner.Instrument i) l)
 
 -- the numbers of an owner's zones
 abbrev pub zone_numbers : Parts → Owner → List ℕ
@@ -85,7 +94,8 @@ rectangles_in b outer area i = filter_map (rectangle_at b outer area i) (zone_nu
 -- those of the instrument of zone k of a preset, in the area of that zone
 abbrev pub rectangles_of_zone : Parts → ℕ → ℕ → List Rectangle
 rectangles_of_zone b p k =
-    option_map_or (λ (i : ℕ). rectangles_in b (Some k) (area_of b (owner.Preset p) k) i) (target_of b (owner.Preset p) k) []
+    option_map_or (λ (i : ℕ). rectangles_in b (Some k) (area_of b (owner.Preset p) k) i)
+    (target_of b (owner.Preset p) k) []
 
 -- of an instrument each zone's; of a preset that of each zone with each zone of its instrument; in rising order
 unfoldable pub rectangles : Parts → Owner → List Rectangle

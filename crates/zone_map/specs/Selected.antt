@@ -30,7 +30,8 @@ is_of_pair k l r = option_map_or (λ j. j == k) r.preset_zone false && is_of_zon
 -- of the first preset with a note's numbers: a pair is selected exactly where a rectangle of the pair covers the note
 abbrev pub PairsSelected : Type 0
 PairsSelected = (b : Parts) (n : Numbers) (p k l : ℕ) → find (is_called n) b.presets ≡ slice_get b.presets p
-    → Contains (pairs b n) (k, l) ↔ (list_any (λ r. is_of_pair k l r && covers n r) (rectangles b (owner.Preset p)) ≡ true)
+    → Contains (pairs b n) (k, l) ↔
+    (list_any (λ r. is_of_pair k l r && covers n r) (rectangles b (owner.Preset p)) ≡ true)
 
 -- no pair has two rectangles
 abbrev pub PairsOnce : Type 0
@@ -39,7 +40,8 @@ PairsOnce = (b : Parts) (p k l : ℕ) → length (filter (is_of_pair k l) (recta
 -- of an instrument: a zone holds a note exactly where a rectangle of the zone covers it
 abbrev pub ZonesHold : Type 0
 ZonesHold = (b : Parts) (n : Numbers) (i l : ℕ) → n.key ≤ 127 → n.velocity ≤ 127
-    → owner_holds b n (owner.Instrument i) l ≡ list_any (λ r. is_of_zone l r && covers n r) (rectangles b (owner.Instrument i))
+    → owner_holds b n (owner.Instrument i) l
+    ≡ list_any (λ r. is_of_zone l r && covers n r) (rectangles b (owner.Instrument i))
 
 -- no zone has two rectangles
 abbrev pub ZonesOnce : Type 0

@@ -1,5 +1,6 @@
 -- Zones that agree in all but their own ranges: as the tests say it, and as the code finds it.
-use Rattle.std.proofs.Common.{◌≡◌, ◌≢◌, ◌↔◌, ◌==◌, ◌&&◌, ℕ, suc, Bool, true, false, IsTrue, cond, List, [], ◌∷◌, Some, None, refl, sym, ap, subst, ◌∙◌}
+use Rattle.std.proofs.Common.{◌≡◌, ◌≢◌, ◌↔◌, ◌==◌, ◌&&◌, ℕ, suc, Bool, true, false, IsTrue, cond, List, [], ◌∷◌}
+use Rattle.std.proofs.Common.{Some, None, refl, sym, ap, subst, ◌∙◌}
 use Rattle.std.specs.Prelude.{slice_get}
 use Rattle.std.specs.List.{AllByRecursion}
 use Rattle.std.specs.FinMap as map
@@ -17,7 +18,8 @@ use Rattle.zone_ranges.specs.Splits.{same_gens as gens_test, same_mod, same_mods
 use Rattle.zone_ranges.proofs.Parting.{all_at}
 use Rattle.zone_ranges.specs.Alike.{AgreesBut, AgreeBut}
 
-all_by_place : {X : Type 0} (P : X → Type 0) (xs : List X) → ((j : ℕ) (x : X) → slice_get xs j ≡ Some x → P x) → AllByRecursion P xs
+all_by_place : {X : Type 0} (P : X → Type 0) (xs : List X) → ((j : ℕ) (x : X) → slice_get xs j ≡ Some x → P x)
+    → AllByRecursion P xs
 all_by_place P [] h = tt
 all_by_place P (x ∷ xs) h = (h 0 x refl, all_by_place P xs (λ j y e. h (suc j) y e))
 
@@ -26,7 +28,8 @@ get-remove_other m op q differ = get-remove_any m op q ∙ ap (λ b. cond b None
 
 -- what m says, n says
 says : (m n : Gens) (op q w : ℕ) → AgreeBut m op n → q ≢ op → map.get n q ≡ Some w → map.get m q ≡ Some w
-says m n op q w h differ e = let (j, at) = entries.set_is_entry n q w e in all_at (AgreesBut m op) (map.entries n) j (q, w) at h differ
+says m n op q w h differ e =
+    let (j, at) = entries.set_is_entry n q w e in all_at (AgreesBut m op) (map.entries n) j (q, w) at h differ
 
 same_else : (m n : Gens) (op q : ℕ) → AgreeBut m op n → AgreeBut n op m → q ≢ op → map.get m q ≡ map.get n q
 same_else m n op q h k differ =
@@ -44,16 +47,23 @@ agreeing_removed m n op h k =
     get-remove_any m op q
     ∙ (elim (tied q op) as (λ b. tied q op ≡ b → cond b None (map.get m q) ≡ cond b None (map.get n q)) [
       | true ↦ λ p. refl
-      | false ↦ λ p. same_else m n op q h k (λ (s : q ≡ op). let both : true ≡ false = sym (subst (λ x. tied q x ≡ true) s (tied_same q)) ∙ p in cc)
+      | false ↦ λ p.
+          same_else m n op q h k
+          (λ (s : q ≡ op). let both : true ≡ false = sym (subst (λ x. tied q x ≡ true) s (tied_same q)) ∙ p in cc)
     ]) refl
     ∙ sym (get-remove_any n op q))
 
 pub removed_agreeing : (m n : Gens) (op : ℕ) → map.remove m op ≡ map.remove n op → AgreeBut m op n
 removed_agreeing m n op same =
     all_by_place (AgreesBut m op) (map.entries n) (λ j e at. λ differ.
-    sym (get-remove_other m op e.0 differ) ∙ ap (λ x. map.get x e.0) same ∙ get-remove_other n op e.0 differ ∙ entries.entries_are_set n j e.0 e.1 at)
+    sym (get-remove_other m op e.0 differ) ∙ ap (λ x. map.get x e.0) same ∙ get-remove_other n op e.0 differ
+    ∙ entries.entries_are_set n j e.0 e.1 at)
 
-pub alike_zones : (axis : Axis) (y z : Zone) → ((y.target ≡ z.target) × (map.remove y.gens (range_operator axis) ≡ map.remove z.gens (range_operator axis)) × (y.mods ≡ z.mods)) ↔ (without_range axis y ≡ without_range axis z)
+pub alike_zones : (axis : Axis) (y z : Zone)
+    →
+    ((y.target ≡ z.target) × (map.remove y.gens (range_operator axis) ≡ map.remove z.gens (range_operator axis))
+    × (y.mods ≡ z.mods))
+    ↔ (without_range axis y ≡ without_range axis z)
 alike_zones axis y z = (
   λ h. λ i. let r : Zone = record { target = h.0 i; gens = h.1 i; mods = h.2 i } in r,
   λ e. (ap (λ (x : Zone). x.target) e, ap (λ (x : Zone). x.gens) e, ap (λ (x : Zone). x.mods) e),
@@ -92,7 +102,9 @@ gens_are (e ∷ es) (f ∷ fs) h =
 
 gens_same : (es : List (ℕ × ℕ)) → gens_test es es ≡ true
 gens_same [] = refl
-gens_same (e ∷ es) = both (e.0 == e.0 && e.1 == e.1) (gens_test es es) (both (e.0 == e.0) (e.1 == e.1) (itself e.0) (itself e.1)) (gens_same es)
+gens_same (e ∷ es) =
+    both (e.0 == e.0 && e.1 == e.1) (gens_test es es) (both (e.0 == e.0) (e.1 == e.1) (itself e.0) (itself e.1))
+    (gens_same es)
 
 mod_is : (m n : Modulator) → same_mod m n ≡ true → m ≡ n
 mod_is m n h =
@@ -109,7 +121,16 @@ mod_is m n h =
     let amount = (Decides-int_eq m.amount n.amount).0 (both_right (a && b) c three) in
     let amount_source = equal m.amount_source n.amount_source (both_right (a && b && c) d four) in
     let transform = equal m.transform n.transform (both_right (a && b && c && d) e h) in
-    λ i. let r : Modulator = record { source = source i; dest = dest i; amount = amount i; amount_source = amount_source i; transform = transform i } in r
+    λ i. let r : Modulator =
+    record {
+      source =
+          source i;
+      dest = dest i;
+      amount = amount i;
+      amount_source = amount_source i;
+      transform = transform i;
+    }
+    in r
 
 mod_same : (m : Modulator) → same_mod m m ≡ true
 mod_same m =
@@ -119,7 +140,10 @@ mod_same m =
     let d = m.amount_source == m.amount_source in
     let e = m.transform == m.transform in
     both (a && b && c && d) e
-    (both (a && b && c) d (both (a && b) c (both a b (itself m.source) (itself m.dest)) ((Decides-int_eq m.amount m.amount).1 refl)) (itself m.amount_source)) (itself m.transform)
+    (both (a && b && c) d
+    (both (a && b) c (both a b (itself m.source) (itself m.dest)) ((Decides-int_eq m.amount m.amount).1 refl))
+    (itself m.amount_source))
+    (itself m.transform)
 
 mods_are : (ms ns : List Modulator) → same_mods ms ns ≡ true → ms ≡ ns
 mods_are [] [] h = refl
@@ -146,7 +170,9 @@ alike_is axis y z h =
     let first = both_left (t && g) m h in
     (alike_zones axis y z).0 (
       equal y.target z.target (both_left t g first),
-      gens_of_entries (without_range axis y).gens (without_range axis z).gens (gens_are (map.entries (without_range axis y).gens) (map.entries (without_range axis z).gens) (both_right t g first)),
+      gens_of_entries (without_range axis y).gens (without_range axis z).gens
+          (gens_are (map.entries (without_range axis y).gens) (map.entries (without_range axis z).gens)
+          (both_right t g first)),
       mods_are y.mods z.mods (both_right (t && g) m h),
     )
 
@@ -158,7 +184,8 @@ is_alike axis y z e =
     let m = same_mods y.mods z.mods in
     both (t && g) m
     (both t g ((Decides-eqb y.target z.target).1 parts.0)
-    (subst (λ (g : Gens). gens_test (map.entries (without_range axis y).gens) (map.entries g) ≡ true) parts.1 (gens_same (map.entries (without_range axis y).gens))))
+    (subst (λ (g : Gens). gens_test (map.entries (without_range axis y).gens) (map.entries g) ≡ true) parts.1
+    (gens_same (map.entries (without_range axis y).gens))))
     (subst (λ ms. same_mods y.mods ms ≡ true) parts.2 (mods_same y.mods))
 
 -- two answers to the same

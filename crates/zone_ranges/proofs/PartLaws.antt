@@ -1,5 +1,6 @@
 -- The zones that a split or a join leaves may stand where the zones before might.
-use Rattle.std.proofs.Common.{◌≡◌, ◌<◌, ◌^◌, ◌+◌, ◌-◌, ℕ, true, Option, Some, None, unwrap_or, refl, sym, ap, ◌∙◌, arith}
+use Rattle.std.proofs.Common.{◌≡◌, ◌<◌, ◌^◌, ◌+◌, ◌-◌, ℕ, true, Option, Some, None, unwrap_or, refl, sym, ap, ◌∙◌}
+use Rattle.std.proofs.Common.{arith}
 use Rattle.std.specs.FinMap as map
 use Rattle.generators.specs.Gens.{Gens, FitsEntry}
 use Rattle.generators.specs.Ranges.{is_range_operator, IsRange}
@@ -14,7 +15,8 @@ use Rattle.zone_ranges.specs.declared.axes.Axis.{Axis}
 use Rattle.zone_ranges.specs.declared.axes.Axis.TheVariants.{Key, Velocity}
 use Rattle.zone_ranges.specs.declared.axes.Keep.{Keep}
 use Rattle.zone_ranges.specs.declared.axes.Keep.TheVariants as keeping
-use Rattle.zone_ranges.specs.Ranges.{range_operator, low_end, high_end, range_from, whole_range, own_range, inherited_range, range_of, with_range, without_range}
+use Rattle.zone_ranges.specs.Ranges.{range_operator, low_end, high_end, range_from, whole_range, own_range}
+use Rattle.zone_ranges.specs.Ranges.{inherited_range, range_of, with_range, without_range}
 use Rattle.zone_ranges.specs.Splits.{joint_range, joined, are_joinable}
 use Rattle.zone_ranges.specs.Undone.{own_amount}
 use Rattle.zone_ranges.proofs.Parting.{all_at}
@@ -37,18 +39,33 @@ module _ (at : Level) (targets : ℕ) (axis : Axis) (z : Zone) (v : IsZone at ta
   pub valid_with : (amount : ℕ) → IsRange amount → IsZone at targets (with_range axis amount z)
   valid_with amount r = record {
     target = v.target;
-    gens = entries.All-insert (IsGenerator at) z.gens (range_operator axis) amount (record { allowed = ranges_are_allowed at (range_operator axis) (is_range axis); range = λ _. r }) v.gens;
+    gens =
+        entries.All-insert (IsGenerator at) z.gens (range_operator axis) amount
+        (record { allowed = ranges_are_allowed at (range_operator axis) (is_range axis); range = λ _. r })
+        v.gens;
   }
 
   pub valid_without : IsZone at targets (without_range axis z)
-  valid_without = record { target = v.target; gens = entries.All-remove (IsGenerator at) z.gens (range_operator axis) v.gens }
+  valid_without =
+      record { target = v.target; gens = entries.All-remove (IsGenerator at) z.gens (range_operator axis) v.gens }
 
 module _ (axis : Axis) (z : Zone) (f : FitsZone z) where
   pub fits_with : (amount : ℕ) → IsRange amount → FitsZone (with_range axis amount z)
-  fits_with amount r = record { target = f.target; gens = entries.All-insert FitsEntry z.gens (range_operator axis) amount (small_operator axis, small_range amount r) f.gens; mods = f.mods }
+  fits_with amount r =
+      record {
+        target =
+            f.target;
+        gens =
+            entries.All-insert FitsEntry z.gens (range_operator axis) amount
+            (small_operator axis, small_range amount r) f.gens;
+        mods =
+            f.mods;
+      }
 
   pub fits_without : FitsZone (without_range axis z)
-  fits_without = record { target = f.target; gens = entries.All-remove FitsEntry z.gens (range_operator axis) f.gens; mods = f.mods }
+  fits_without =
+      record
+      { target = f.target; gens = entries.All-remove FitsEntry z.gens (range_operator axis) f.gens; mods = f.mods }
 
 -- ---- the range that holds
 
@@ -57,22 +74,26 @@ either_range None d h r = r
 either_range (Some w) d h r = h w refl
 
 module _ (at : Level) (axis : Axis) where
-  pub set_range : (gens : Gens) (w : ℕ) → AreGenerators at gens → map.get gens (range_operator axis) ≡ Some w → IsRange w
+  pub set_range : (gens : Gens) (w : ℕ) → AreGenerators at gens → map.get gens (range_operator axis) ≡ Some w
+      → IsRange w
   set_range gens w v e =
       let (j, there) = entries.set_is_entry gens (range_operator axis) w e in
       (all_at (IsGenerator at) (map.entries gens) j (range_operator axis, w) there v).range (is_range axis)
 
-  pub range_holds : (global : GlobalZone) (z : Zone) → AreGenerators at global.gens → AreGenerators at z.gens → IsRange (range_of axis global z)
+  pub range_holds : (global : GlobalZone) (z : Zone) → AreGenerators at global.gens → AreGenerators at z.gens
+      → IsRange (range_of axis global z)
   range_holds global z g v =
       either_range (own_range axis z) (inherited_range axis global) (λ w e. set_range z.gens w v e)
-      (either_range (map.get global.gens (range_operator axis)) whole_range (λ w e. set_range global.gens w g e) (omega arith, omega arith))
+      (either_range (map.get global.gens (range_operator axis)) whole_range (λ w e. set_range global.gens w g e)
+      (omega arith, omega arith))
 
   pub own_holds : (z : Zone) → AreGenerators at z.gens → IsRange (own_amount axis z)
   own_holds z v = either_range (own_range axis z) whole_range (λ w e. set_range z.gens w v e) (omega arith, omega arith)
 
 -- ---- the ranges of the parts
 
-module _ (axis : Axis) (m : ℕ) (global : GlobalZone) (z : Zone) (h : IsSplitAt axis m global z) (r : IsRange (range_of axis global z)) where
+module _ (axis : Axis) (m : ℕ) (global : GlobalZone) (z : Zone) (h : IsSplitAt axis m global z)
+    (r : IsRange (range_of axis global z)) where
   pub small_split : m < 256
   small_split = let within = h.within in let few = r.1 in omega (arith, within, few)
 
@@ -107,17 +128,22 @@ joint_is_range v w next r s =
 -- ---- joined zones
 
 module _ (axis : Axis) (global : GlobalZone) (y z : Zone) where
-  pub joined_range : (keep : Keep) → are_joinable axis keep global y z ≡ true → IsRange (own_amount axis y) → IsRange (own_amount axis z) → IsRange (joint_range (own_amount axis y) (own_amount axis z))
+  pub joined_range : (keep : Keep) → are_joinable axis keep global y z ≡ true → IsRange (own_amount axis y)
+      → IsRange (own_amount axis z) → IsRange (joint_range (own_amount axis y) (own_amount axis z))
   joined_range keep h r s =
       let j = joined_at axis keep global y z h in
       let v = ap (λ o. unwrap_or o whole_range) j.own_first in
       let w = ap (λ o. unwrap_or o whole_range) j.own_second in
-      joint_is_range (own_amount axis y) (own_amount axis z) (ap low_end w ∙ j.next ∙ sym (ap (λ n. high_end n + 1) v)) r s
+      joint_is_range (own_amount axis y) (own_amount axis z)
+      (ap low_end w ∙ j.next ∙ sym (ap (λ n. high_end n + 1) v)) r s
 
-  pub valid_joined : (at : Level) (targets : ℕ) (keep : Keep) → IsZone at targets y → IsRange (joint_range (own_amount axis y) (own_amount axis z)) → IsZone at targets (joined axis keep y z)
-  valid_joined at targets keeping.Keep v r = valid_with at targets axis y v (joint_range (own_amount axis y) (own_amount axis z)) r
+  pub valid_joined : (at : Level) (targets : ℕ) (keep : Keep) → IsZone at targets y
+      → IsRange (joint_range (own_amount axis y) (own_amount axis z)) → IsZone at targets (joined axis keep y z)
+  valid_joined at targets keeping.Keep v r =
+      valid_with at targets axis y v (joint_range (own_amount axis y) (own_amount axis z)) r
   valid_joined at targets keeping.Bare v r = valid_without at targets axis y v
 
-  pub fits_joined : (keep : Keep) → FitsZone y → IsRange (joint_range (own_amount axis y) (own_amount axis z)) → FitsZone (joined axis keep y z)
+  pub fits_joined : (keep : Keep) → FitsZone y → IsRange (joint_range (own_amount axis y) (own_amount axis z))
+      → FitsZone (joined axis keep y z)
   fits_joined keeping.Keep f r = fits_with axis y f (joint_range (own_amount axis y) (own_amount axis z)) r
   fits_joined keeping.Bare f r = fits_without axis y f

@@ -48,4 +48,5 @@ without_range axis z = record z { gens = map.remove z.gens (range_operator axis)
 
 -- of zone k of a member; none where there is no such zone
 abbrev pub range_at : {H : Type 0} → Axis → List (WithZones H) → ℕ → ℕ → Option ℕ
-range_at axis owners i k = option_and_then (λ x. option_map (range_of axis x.global) (slice_get x.zones k)) (slice_get owners i)
+range_at axis owners i k =
+    option_and_then (λ x. option_map (range_of axis x.global) (slice_get x.zones k)) (slice_get owners i)

@@ -1,5 +1,6 @@
 -- A zone split in two at a key or a velocity, and two neighbours joined; and when each can be done.
-use Rattle.std.specs.Prelude.{ℕ, ◌+◌, ◌-◌, ◌==◌, ◌&&◌, nat_le, nat_lt, Bool, true, false, List, [], ◌∷◌, insert, remove, slice_get, slice_set, length, unwrap_or}
+use Rattle.std.specs.Prelude.{ℕ, ◌+◌, ◌-◌, ◌==◌, ◌&&◌, nat_le, nat_lt, Bool, true, false, List, [], ◌∷◌, insert}
+use Rattle.std.specs.Prelude.{remove, slice_get, slice_set, length, unwrap_or}
 use Rattle.std.specs.Option.{option_map_or}
 use Rattle.std.specs.FinMap.{entries, len}
 use Rattle.std.specs.Ordering.{int_eq}
@@ -13,7 +14,8 @@ use Rattle.bank_parts.specs.Settings.{with_zones}
 use Rattle.zone_ranges.specs.declared.axes.Axis.{Axis}
 use Rattle.zone_ranges.specs.declared.axes.Keep.{Keep}
 use Rattle.zone_ranges.specs.declared.axes.Keep.TheVariants as keep
-use Rattle.zone_ranges.specs.Ranges.{low_end, high_end, range_from, whole_range, own_range, inherited_range, range_of, with_range, without_range}
+use Rattle.zone_ranges.specs.Ranges.{low_end, high_end, range_from, whole_range, own_range, inherited_range}
+use Rattle.zone_ranges.specs.Ranges.{range_of, with_range, without_range}
 
 -- ---- split
 
@@ -33,7 +35,9 @@ parted xs k x y = slice_set (insert xs (k + 1) y) k x
 
 -- zone k, from its low end up to below m, and behind it the same from m on
 abbrev pub zones_split : Axis → ℕ → GlobalZone → List Zone → ℕ → List Zone
-zones_split axis m global zones k = option_map_or (λ (z : Zone). parted zones k (lower_part axis m global z) (upper_part axis m global z)) (slice_get zones k) zones
+zones_split axis m global zones k =
+    option_map_or (λ (z : Zone). parted zones k (lower_part axis m global z) (upper_part axis m global z))
+    (slice_get zones k) zones
 
 -- of a member
 abbrev pub zone_split : {H : Type 0} → List (WithZones H) → ℕ → ℕ → Axis → ℕ → List (WithZones H)
@@ -47,7 +51,9 @@ same_gens (e ∷ es) (f ∷ fs) = e.0 == f.0 && e.1 == f.1 && same_gens es fs
 same_gens _ _ = false
 
 abbrev pub same_mod : Modulator → Modulator → Bool
-same_mod m n = m.source == n.source && m.dest == n.dest && int_eq m.amount n.amount && m.amount_source == n.amount_source && m.transform == n.transform
+same_mod m n =
+    m.source == n.source && m.dest == n.dest && int_eq m.amount n.amount && m.amount_source == n.amount_source
+    && m.transform == n.transform
 
 abbrev pub same_mods : List Modulator → List Modulator → Bool
 same_mods [] [] = true
@@ -56,7 +62,9 @@ same_mods _ _ = false
 
 -- they agree in all but their own ranges on the axis
 abbrev pub are_alike : Axis → Zone → Zone → Bool
-are_alike axis y z = y.target == z.target && same_gens (entries (without_range axis y).gens) (entries (without_range axis z).gens) && same_mods y.mods z.mods
+are_alike axis y z =
+    y.target == z.target && same_gens (entries (without_range axis y).gens) (entries (without_range axis z).gens)
+    && same_mods y.mods z.mods
 
 -- from the low end of the one to the high end of the other
 abbrev pub joint_range : ℕ → ℕ → ℕ
@@ -65,16 +73,22 @@ joint_range first second = range_from (low_end first) (high_end second)
 -- both have a range, the second begins one above the first's end, and a bare zone would have both together
 abbrev pub are_neighbours : Axis → Keep → GlobalZone → ℕ → ℕ → Bool
 are_neighbours axis keep.Keep global first second = low_end second == high_end first + 1
-are_neighbours axis keep.Bare global first second = low_end second == high_end first + 1 && joint_range first second == inherited_range axis global
+are_neighbours axis keep.Bare global first second =
+    low_end second == high_end first + 1 && joint_range first second == inherited_range axis global
 
 abbrev pub have_neighbours : Axis → Keep → GlobalZone → Zone → Zone → Bool
-have_neighbours axis keep global y z = option_map_or (λ first. option_map_or (λ second. are_neighbours axis keep global first second) (own_range axis z) false) (own_range axis y) false
+have_neighbours axis keep global y z =
+    option_map_or
+    (λ first. option_map_or (λ second. are_neighbours axis keep global first second) (own_range axis z) false)
+    (own_range axis y) false
 
 abbrev pub are_joinable : Axis → Keep → GlobalZone → Zone → Zone → Bool
 are_joinable axis keep global y z = are_alike axis y z && have_neighbours axis keep global y z
 
 abbrev pub joined : Axis → Keep → Zone → Zone → Zone
-joined axis keep.Keep y z = with_range axis (joint_range (unwrap_or (own_range axis y) whole_range) (unwrap_or (own_range axis z) whole_range)) y
+joined axis keep.Keep y z =
+    with_range axis
+    (joint_range (unwrap_or (own_range axis y) whole_range) (unwrap_or (own_range axis z) whole_range)) y
 joined axis keep.Bare y z = without_range axis y
 
 -- one member in the place of two
@@ -84,7 +98,10 @@ merged xs k x = slice_set (remove xs (k + 1)) k x
 -- zones k and k + 1 as one
 abbrev pub zones_joined : Axis → Keep → List Zone → ℕ → List Zone
 zones_joined axis keep zones k =
-    option_map_or (λ (y : Zone). option_map_or (λ (z : Zone). merged zones k (joined axis keep y z)) (slice_get zones (k + 1)) zones) (slice_get zones k) zones
+    option_map_or
+    (λ (y : Zone).
+    option_map_or (λ (z : Zone). merged zones k (joined axis keep y z)) (slice_get zones (k + 1)) zones)
+    (slice_get zones k) zones
 
 -- of a member
 abbrev pub zone_joined : {H : Type 0} → List (WithZones H) → ℕ → ℕ → Axis → Keep → List (WithZones H)
@@ -98,7 +115,9 @@ splits axis m k x = option_map_or (is_inside axis m x.global) (slice_get x.zones
 
 -- zones k and k + 1 can be joined
 abbrev pub joins : {H : Type 0} → Axis → Keep → ℕ → WithZones H → Bool
-joins axis keep k x = option_map_or (λ (y : Zone). option_map_or (are_joinable axis keep x.global y) (slice_get x.zones (k + 1)) false) (slice_get x.zones k) false
+joins axis keep k x =
+    option_map_or (λ (y : Zone). option_map_or (are_joinable axis keep x.global y) (slice_get x.zones (k + 1)) false)
+    (slice_get x.zones k) false
 
 -- how a split of the zone is taken back: the one zone keeps a range where it had its own
 abbrev pub keep_for : Axis → Zone → Keep

@@ -7,7 +7,8 @@ use Rattle.bank_parts.specs.declared.parts.WithZones.{WithZones}
 use Rattle.zone_ranges.specs.declared.axes.Axis.{Axis}
 use Rattle.zone_ranges.specs.declared.axes.Keep.{Keep}
 use Rattle.zone_ranges.specs.Ranges.{low_end, whole_range, own_range}
-use Rattle.zone_ranges.specs.Splits.{is_inside, lower_part, upper_part, zone_split, are_joinable, joined, zone_joined, keep_for}
+use Rattle.zone_ranges.specs.Splits.{is_inside, lower_part, upper_part, zone_split, are_joinable, joined}
+use Rattle.zone_ranges.specs.Splits.{zone_joined, keep_for}
 
 -- where a zone's own range begins
 abbrev pub own_low : Axis → Zone → ℕ
@@ -18,18 +19,24 @@ abbrev pub own_amount : Axis → Zone → ℕ
 own_amount axis z = unwrap_or (own_range axis z) whole_range
 
 abbrev pub SplitUndone : Type 0 → Type 0
-SplitUndone H = (owners : List (WithZones H)) (i k : ℕ) (axis : Axis) (m : ℕ) (x : WithZones H) (z : Zone) → slice_get owners i ≡ Some x → slice_get x.zones k ≡ Some z
-    → m < 2 ^ 8 → is_inside axis m x.global z ≡ true → zone_joined (zone_split owners i k axis m) i k axis (keep_for axis z) ≡ owners
+SplitUndone H =
+    (owners : List (WithZones H)) (i k : ℕ) (axis : Axis) (m : ℕ) (x : WithZones H) (z : Zone)
+    → slice_get owners i ≡ Some x → slice_get x.zones k ≡ Some z
+    → m < 2 ^ 8 → is_inside axis m x.global z ≡ true
+    → zone_joined (zone_split owners i k axis m) i k axis (keep_for axis z) ≡ owners
 
 abbrev pub JoinUndone : Type 0 → Type 0
 JoinUndone H = (owners : List (WithZones H)) (i k : ℕ) (axis : Axis) (keep : Keep) (x : WithZones H) (y z : Zone)
     → slice_get owners i ≡ Some x → slice_get x.zones k ≡ Some y → slice_get x.zones (k + 1) ≡ Some z
-    → are_joinable axis keep x.global y z ≡ true → zone_split (zone_joined owners i k axis keep) i k axis (own_low axis z) ≡ owners
+    → are_joinable axis keep x.global y z ≡ true
+    → zone_split (zone_joined owners i k axis keep) i k axis (own_low axis z) ≡ owners
 
 abbrev pub SplitIsJoinable : Type 0
 SplitIsJoinable = (axis : Axis) (m : ℕ) (global : GlobalZone) (z : Zone) → m < 2 ^ 8 → is_inside axis m global z ≡ true
     → are_joinable axis (keep_for axis z) global (lower_part axis m global z) (upper_part axis m global z) ≡ true
 
 abbrev pub JoinIsSplittable : Type 0
-JoinIsSplittable = (axis : Axis) (keep : Keep) (global : GlobalZone) (y z : Zone) → are_joinable axis keep global y z ≡ true
-    → IsRange (own_amount axis y) → IsRange (own_amount axis z) → is_inside axis (own_low axis z) global (joined axis keep y z) ≡ true
+JoinIsSplittable =
+    (axis : Axis) (keep : Keep) (global : GlobalZone) (y z : Zone) → are_joinable axis keep global y z ≡ true
+    → IsRange (own_amount axis y) → IsRange (own_amount axis z)
+    → is_inside axis (own_low axis z) global (joined axis keep y z) ≡ true

@@ -1,5 +1,6 @@
 -- What a pair chooses, by what a bank tells of its zones.
-use Rattle.std.proofs.Common.{◌≡◌, ℕ, Bool, true, false, cond, List, [], Option, Some, None, slice_get, unwrap_or, refl, sym, ap, ◌∙◌}
+use Rattle.std.proofs.Common.{◌≡◌, ℕ, Bool, true, false, cond, List, [], Option, Some, None, slice_get, unwrap_or}
+use Rattle.std.proofs.Common.{refl, sym, ap, ◌∙◌}
 use Rattle.std.specs.FinMap.{get}
 use Rattle.std.specs.List.{find}
 use Rattle.std.specs.Option.{option_map, option_and_then, option_or}
@@ -21,7 +22,11 @@ use Rattle.zone_select.specs.At.{taken_at, target_held, chosen_at}
 -- what is taken of a zone, if it is there
 abbrev taken_with : GlobalZone → Option Zone → Taken
 taken_with global o = record {
-  settings = λ op. cond (is_range_operator op) None (option_or (option_and_then (λ (gens : Gens). get gens op) (option_map (λ (z : Zone). z.gens) o)) (get global.gens op));
+  settings =
+      λ op.
+      cond (is_range_operator op) None
+      (option_or (option_and_then (λ (gens : Gens). get gens op) (option_map (λ (z : Zone). z.gens) o))
+      (get global.gens op));
   mods = unwrap_or (option_map (λ (z : Zone). z.mods) o) [];
   inherited = global.mods;
 }
@@ -29,12 +34,19 @@ taken_with global o = record {
 -- of zone k of an owner, if it is there
 abbrev taken_by : {H : Type 0} → ℕ → Option (WithZones H) → Taken
 taken_by k o = record {
-  settings = λ op. cond (is_range_operator op) None (option_or (option_and_then (λ (gens : Gens). get gens op) (option_map (λ (z : Zone). z.gens) (option_and_then (λ x. slice_get x.zones k) o))) (option_and_then (λ (gens : Gens). get gens op) (option_map (λ x. x.global.gens) o)));
+  settings =
+      λ op.
+      cond (is_range_operator op) None
+      (option_or
+      (option_and_then (λ (gens : Gens). get gens op)
+      (option_map (λ (z : Zone). z.gens) (option_and_then (λ x. slice_get x.zones k) o)))
+      (option_and_then (λ (gens : Gens). get gens op) (option_map (λ x. x.global.gens) o)));
   mods = unwrap_or (option_map (λ (z : Zone). z.mods) (option_and_then (λ x. slice_get x.zones k) o)) [];
   inherited = unwrap_or (option_map (λ x. x.global.mods) o) [];
 }
 
-taken_there : {H : Type 0} (owners : List (WithZones H)) (i k : ℕ) (x : WithZones H) (z : Zone) → slice_get owners i ≡ Some x → slice_get x.zones k ≡ Some z → taken_by k (slice_get owners i) ≡ taken x.global z
+taken_there : {H : Type 0} (owners : List (WithZones H)) (i k : ℕ) (x : WithZones H) (z : Zone)
+    → slice_get owners i ≡ Some x → slice_get x.zones k ≡ Some z → taken_by k (slice_get owners i) ≡ taken x.global z
 unfolding taken setting
 taken_there owners i k x z e f = ap (taken_by k) e ∙ ap (taken_with x.global) f
 
@@ -42,39 +54,63 @@ taken_there owners i k x z e f = ap (taken_by k) e ∙ ap (taken_with x.global) 
 abbrev chosen_inside : Parts → Taken → ℕ → ℕ → ℕ → Chosen
 chosen_inside b u i l s = record { instrument_zone = taken_at b (owner.Instrument i) l; preset_zone = u; sample = s }
 
-inside : (b : Parts) (n : Numbers) (u : Taken) (i l : ℕ) (o : Option (WithZones (List ℕ))) → slice_get b.instruments i ≡ o
-    → option_and_then (instrument_zone_chosen n u l) o ≡ option_map (chosen_inside b u i l) (target_held b n (owner.Instrument i) l)
+inside : (b : Parts) (n : Numbers) (u : Taken) (i l : ℕ) (o : Option (WithZones (List ℕ)))
+    → slice_get b.instruments i ≡ o
+    → option_and_then (instrument_zone_chosen n u l) o
+    ≡ option_map (chosen_inside b u i l) (target_held b n (owner.Instrument i) l)
 inside b n u i l None e = rw e refl
 inside b n u i l (Some x) e = zone (slice_get x.zones l) refl
   where
-    zone : (z : Option Zone) → slice_get x.zones l ≡ z → option_and_then (instrument_zone_chosen n u l) (Some x) ≡ option_map (chosen_inside b u i l) (target_held b n (owner.Instrument i) l)
+    zone : (z : Option Zone) → slice_get x.zones l ≡ z
+        → option_and_then (instrument_zone_chosen n u l) (Some x)
+        ≡ option_map (chosen_inside b u i l) (target_held b n (owner.Instrument i) l)
     zone None f = rw (e, f) refl
     zone (Some z) f = held (holds n x.global z) refl
       where
-        held : (t : Bool) → holds n x.global z ≡ t → option_and_then (instrument_zone_chosen n u l) (Some x) ≡ option_map (chosen_inside b u i l) (target_held b n (owner.Instrument i) l)
-        held true h = rw (e, f, h) (ap (λ (t : Taken). let r : Chosen = record { instrument_zone = t; preset_zone = u; sample = z.target } in Some r) (sym (taken_there b.instruments i l x z e f)))
+        held : (t : Bool) → holds n x.global z ≡ t
+            → option_and_then (instrument_zone_chosen n u l) (Some x)
+            ≡ option_map (chosen_inside b u i l) (target_held b n (owner.Instrument i) l)
+        held true h =
+            rw (e, f, h)
+            (ap
+            (λ (t : Taken). let r : Chosen =
+            record { instrument_zone = t; preset_zone = u; sample = z.target } in Some r)
+            (sym (taken_there b.instruments i l x z e f)))
         held false h = rw (e, f, h) refl
 
 -- by a zone of a preset, whose target is an instrument
 abbrev through : Parts → Numbers → ℕ → ℕ × ℕ → ℕ → Option Chosen
-through b n p q i = option_and_then (instrument_zone_chosen n (taken_at b (owner.Preset p) q.0) q.1) (slice_get b.instruments i)
+through b n p q i =
+    option_and_then (instrument_zone_chosen n (taken_at b (owner.Preset p) q.0) q.1) (slice_get b.instruments i)
 
 outside : (b : Parts) (n : Numbers) (p : ℕ) (q : ℕ × ℕ) (o : Option (WithZones Head)) → slice_get b.presets p ≡ o
     → option_and_then (preset_chosen b n q) o ≡ option_and_then (through b n p q) (target_held b n (owner.Preset p) q.0)
 outside b n p q None e = rw e refl
 outside b n p q (Some x) e = zone (slice_get x.zones q.0) refl
   where
-    zone : (z : Option Zone) → slice_get x.zones q.0 ≡ z → option_and_then (preset_chosen b n q) (Some x) ≡ option_and_then (through b n p q) (target_held b n (owner.Preset p) q.0)
+    zone : (z : Option Zone) → slice_get x.zones q.0 ≡ z
+        → option_and_then (preset_chosen b n q) (Some x)
+        ≡ option_and_then (through b n p q) (target_held b n (owner.Preset p) q.0)
     zone None f = rw (e, f) refl
     zone (Some z) f = held (holds n x.global z) refl
       where
-        held : (t : Bool) → holds n x.global z ≡ t → option_and_then (preset_chosen b n q) (Some x) ≡ option_and_then (through b n p q) (target_held b n (owner.Preset p) q.0)
-        held true h = rw (e, f, h) (ap (λ (t : Taken). option_and_then (instrument_zone_chosen n t q.1) (slice_get b.instruments z.target)) (sym (taken_there b.presets p q.0 x z e f)))
+        held : (t : Bool) → holds n x.global z ≡ t
+            → option_and_then (preset_chosen b n q) (Some x)
+            ≡ option_and_then (through b n p q) (target_held b n (owner.Preset p) q.0)
+        held true h =
+            rw (e, f, h)
+            (ap
+            (λ (t : Taken).
+            option_and_then (instrument_zone_chosen n t q.1) (slice_get b.instruments z.target))
+            (sym (taken_there b.presets p q.0 x z e f)))
         held false h = rw (e, f, h) refl
 
 -- by the numbers of all four
 abbrev numbered : Parts → ℕ → ℕ × ℕ → ℕ → ℕ → Chosen
-numbered b p q i s = chosen_at b (record { zones = record { preset = p; preset_zone = q.0; instrument = i; instrument_zone = q.1 }; sample = s })
+numbered b p q i s =
+    chosen_at b
+    (record
+    { zones = record { preset = p; preset_zone = q.0; instrument = i; instrument_zone = q.1 }; sample = s })
 
 by_preset : (b : Parts) (n : Numbers) (p : ℕ) (q : ℕ × ℕ) → find (is_called n) b.presets ≡ slice_get b.presets p
     → chosen_by b n q ≡ option_and_then (through b n p q) (target_held b n (owner.Preset p) q.0)
@@ -85,10 +121,12 @@ pub no_preset : (b : Parts) (n : Numbers) (q : ℕ × ℕ) → find (is_called n
 unfolding chosen_by
 no_preset b n q e = rw e refl
 
-pub no_zone : (b : Parts) (n : Numbers) (p : ℕ) (q : ℕ × ℕ) → find (is_called n) b.presets ≡ slice_get b.presets p → target_held b n (owner.Preset p) q.0 ≡ None → chosen_by b n q ≡ None
+pub no_zone : (b : Parts) (n : Numbers) (p : ℕ) (q : ℕ × ℕ) → find (is_called n) b.presets ≡ slice_get b.presets p
+    → target_held b n (owner.Preset p) q.0 ≡ None → chosen_by b n q ≡ None
 no_zone b n p q e f = by_preset b n p q e ∙ ap (option_and_then (through b n p q)) f
 
-pub by_both : (b : Parts) (n : Numbers) (p i : ℕ) (q : ℕ × ℕ) (o : Option ℕ) → find (is_called n) b.presets ≡ slice_get b.presets p → target_held b n (owner.Preset p) q.0 ≡ Some i
+pub by_both : (b : Parts) (n : Numbers) (p i : ℕ) (q : ℕ × ℕ) (o : Option ℕ)
+    → find (is_called n) b.presets ≡ slice_get b.presets p → target_held b n (owner.Preset p) q.0 ≡ Some i
     → target_held b n (owner.Instrument i) q.1 ≡ o → chosen_by b n q ≡ option_map (numbered b p q i) o
 by_both b n p i q o e f g =
     by_preset b n p q e ∙ ap (option_and_then (through b n p q)) f

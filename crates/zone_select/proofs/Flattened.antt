@@ -1,11 +1,13 @@
 -- What the members of a list give, one after the other, once a member is moved, two stand in the place of one, or
 -- one in the place of two.
-use Rattle.std.proofs.Common.{◌≡◌, ℕ, ◌+◌, suc, zero, Some, None, List, [], ◌∷◌, ◌++◌, slice_set, slice_get, insert, remove, take, drop, refl, sym, ap, subst, ◌∙◌, append_assoc, add-one, take-append-drop}
+use Rattle.std.proofs.Common.{◌≡◌, ℕ, ◌+◌, suc, zero, Some, None, List, [], ◌∷◌, ◌++◌, slice_set, slice_get, insert}
+use Rattle.std.proofs.Common.{remove, take, drop, refl, sym, ap, subst, ◌∙◌, append_assoc, add-one, take-append-drop}
 use Rattle.std.specs.List.{flat_map}
 use Rattle.std.specs.List.Sorted.{IsPermutation}
 use Rattle.std.specs.Option.{option_map_or}
 use Rattle.std.proofs.lemmas.List.Concat.{flat_map-append}
-use Rattle.std.proofs.lemmas.List.Sorted.{IsPermutation-refl, IsPermutation-sym, IsPermutation-trans, IsPermutation-append_left, IsPermutation-append_comm}
+use Rattle.std.proofs.lemmas.List.Sorted.{IsPermutation-refl, IsPermutation-sym, IsPermutation-trans}
+use Rattle.std.proofs.lemmas.List.Sorted.{IsPermutation-append_left, IsPermutation-append_comm}
 use Rattle.numbered_lists.specs.Moved.{moved}
 use Rattle.numbered_lists.proofs.Lists.{insert-remove}
 use Rattle.zone_ranges.specs.Splits.{parted, merged}
@@ -14,25 +16,33 @@ module _ {Z : Type 0} where
   exchange : (a b c : List Z) → IsPermutation (a ++ (b ++ c)) (b ++ (a ++ c))
   exchange a b c =
       subst (λ l. IsPermutation (a ++ (b ++ c)) l) (append_assoc b a c)
-      (subst (λ l. IsPermutation l ((b ++ a) ++ c)) (append_assoc a b c) (IsPermutation-append_left c (a ++ b) (b ++ a) (IsPermutation-append_comm a b)))
+      (subst (λ l. IsPermutation l ((b ++ a) ++ c)) (append_assoc a b c)
+      (IsPermutation-append_left c (a ++ b) (b ++ a) (IsPermutation-append_comm a b)))
 
 module _ {X Z : Type 0} (f : X → List Z) where
   pub flat_map-insert : (xs : List X) (i : ℕ) (x : X)
       → IsPermutation (f x ++ flat_map f xs) (flat_map f (insert xs i x))
   flat_map-insert xs i x =
-      let whole : flat_map f (take i xs) ++ flat_map f (drop i xs) ≡ flat_map f xs = sym (flat_map-append f (take i xs) (drop i xs)) ∙ ap (flat_map f) (take-append-drop i xs) in
+      let whole : flat_map f (take i xs) ++ flat_map f (drop i xs) ≡ flat_map f xs =
+      sym (flat_map-append f (take i xs) (drop i xs)) ∙ ap (flat_map f) (take-append-drop i xs) in
       subst (λ l. IsPermutation (f x ++ l) (flat_map f (insert xs i x))) whole
-      (subst (λ l. IsPermutation (f x ++ (flat_map f (take i xs) ++ flat_map f (drop i xs))) l) (sym (flat_map-append f (take i xs) (x ∷ drop i xs)))
+      (subst (λ l. IsPermutation (f x ++ (flat_map f (take i xs) ++ flat_map f (drop i xs))) l)
+      (sym (flat_map-append f (take i xs) (x ∷ drop i xs)))
       (exchange (f x) (flat_map f (take i xs)) (flat_map f (drop i xs))))
 
   pub flat_map-remove : (xs : List X) (i : ℕ) (x : X) → slice_get xs i ≡ Some x
       → IsPermutation (flat_map f xs) (f x ++ flat_map f (remove xs i))
   flat_map-remove xs i x e =
-      IsPermutation-sym _ _ (subst (λ l. IsPermutation (f x ++ flat_map f (remove xs i)) (flat_map f l)) (insert-remove xs i x e) (flat_map-insert (remove xs i) i x))
+      IsPermutation-sym _ _
+      (subst (λ l. IsPermutation (f x ++ flat_map f (remove xs i)) (flat_map f l)) (insert-remove xs i x e)
+      (flat_map-insert (remove xs i) i x))
 
   pub flat_map-moved : (xs : List X) (i j : ℕ) → IsPermutation (flat_map f xs) (flat_map f (moved xs i j))
   flat_map-moved xs i j =
-      elim (slice_get xs i) as (λ o. slice_get xs i ≡ o → IsPermutation (flat_map f xs) (flat_map f (option_map_or (λ x. insert (remove xs i) j x) o xs))) [
+      elim (slice_get xs i) as
+      (λ o.
+      slice_get xs i ≡ o
+      → IsPermutation (flat_map f xs) (flat_map f (option_map_or (λ x. insert (remove xs i) j x) o xs))) [
         | None ↦ λ e. IsPermutation-refl (flat_map f xs)
         | Some x ↦ λ e. IsPermutation-trans _ _ _ (flat_map-remove xs i x e) (flat_map-insert (remove xs i) j x)
       ] refl
@@ -47,7 +57,8 @@ module _ {X Z : Type 0} (f : X → List Z) where
 
   pub flat_map-parted : (xs : List X) (k : ℕ) (x y z : X) → slice_get xs k ≡ Some z → f z ≡ f x ++ f y
       → flat_map f xs ≡ flat_map f (parted xs k x y)
-  flat_map-parted xs k x y z e h = parted-next xs k x y z e h ∙ ap (λ i. flat_map f (slice_set (insert xs i y) k x)) (sym (add-one k))
+  flat_map-parted xs k x y z e h =
+      parted-next xs k x y z e h ∙ ap (λ i. flat_map f (slice_set (insert xs i y) k x)) (sym (add-one k))
 
   merged-next : (xs : List X) (k : ℕ) (x y z : X) → slice_get xs k ≡ Some y → slice_get xs (suc k) ≡ Some z
       → f x ≡ f y ++ f z → flat_map f xs ≡ flat_map f (slice_set (remove xs (suc k)) k x)
@@ -56,9 +67,12 @@ module _ {X Z : Type 0} (f : X → List Z) where
   merged-next (v ∷ w ∷ ws) zero x y z e g h =
       let first : v ≡ y = cc in
       let second : w ≡ z = cc in
-      (λ i. f (first i) ++ (f (second i) ++ flat_map f ws)) ∙ sym (append_assoc (f y) (f z) (flat_map f ws)) ∙ ap (λ l. l ++ flat_map f ws) (sym h)
+      (λ i. f (first i) ++ (f (second i) ++ flat_map f ws)) ∙ sym (append_assoc (f y) (f z) (flat_map f ws))
+      ∙ ap (λ l. l ++ flat_map f ws) (sym h)
   merged-next (w ∷ ws) (suc k) x y z e g h = ap (λ l. f w ++ l) (merged-next ws k x y z e g h)
 
   pub flat_map-merged : (xs : List X) (k : ℕ) (x y z : X) → slice_get xs k ≡ Some y → slice_get xs (k + 1) ≡ Some z
       → f x ≡ f y ++ f z → flat_map f xs ≡ flat_map f (merged xs k x)
-  flat_map-merged xs k x y z e g h = merged-next xs k x y z e (ap (slice_get xs) (sym (add-one k)) ∙ g) h ∙ ap (λ i. flat_map f (slice_set (remove xs i) k x)) (sym (add-one k))
+  flat_map-merged xs k x y z e g h =
+      merged-next xs k x y z e (ap (slice_get xs) (sym (add-one k)) ∙ g) h
+      ∙ ap (λ i. flat_map f (slice_set (remove xs i) k x)) (sym (add-one k))

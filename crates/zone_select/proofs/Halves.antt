@@ -1,5 +1,6 @@
 -- A zone's two halves hold what it holds, each note in one of them, and give the same voices.
-use Rattle.std.proofs.Common.{◌≡◌, ℕ, ◌-◌, ◌<◌, ◌≤◌, Bool, true, false, cond, nat_le, ◌&&◌, List, [], ◌++◌, refl, sym, ap, subst, ◌∙◌, inl, inr, arith, append-nil}
+use Rattle.std.proofs.Common.{◌≡◌, ℕ, ◌-◌, ◌<◌, ◌≤◌, Bool, true, false, cond, nat_le, ◌&&◌, List, [], ◌++◌, refl}
+use Rattle.std.proofs.Common.{sym, ap, subst, ◌∙◌, inl, inr, arith, append-nil}
 use Rattle.std.proofs.lemmas.Bool.{cases_lt}
 use Rattle.std.proofs.lemmas.Bool.Decides.{nat_tests}
 use Rattle.note_list.specs.Notes.{Numbers}
@@ -55,36 +56,65 @@ halved w m x above inside small =
     let lower = within_ends (low_end w) (m - 1) x (low_is_small w) in
     let upper = within_ends m (high_end w) x small in
     elim (cases_lt x m) [
-      | inl h ↦ in_lower (lower ∙ cut_below (low_end w) (high_end w) m x h inside) (upper ∙ not_above (high_end w) m x h)
-      | inr h ↦ in_upper (lower ∙ not_below (low_end w) m x h above) (upper ∙ cut_above (low_end w) (high_end w) m x h above)
+      | inl h ↦ in_lower (lower ∙ cut_below (low_end w) (high_end w) m x h inside)
+          (upper ∙ not_above (high_end w) m x h)
+      | inr h ↦ in_upper (lower ∙ not_below (low_end w) m x h above)
+          (upper ∙ cut_above (low_end w) (high_end w) m x h above)
     ]
 
 halves-hold : (n : Numbers) (global : GlobalZone) (z : Zone) (axis : Axis) (m : ℕ) → IsSplitAt axis m global z → m < 256
-    → Halved (holds n global z) (holds n global (lower_part axis m global z)) (holds n global (upper_part axis m global z))
+    → Halved (holds n global z) (holds n global (lower_part axis m global z))
+    (holds n global (upper_part axis m global z))
 unfolding holds
 halves-hold n global z Key m h small =
     let w : ℕ = range_of Key global z in
     let lower : ℕ = range_from (low_end w) (m - 1) in
     let upper : ℕ = range_from m (high_end w) in
-    subst (λ r. Halved (within w n.key && within (range_of Velocity global z) n.velocity) (within r.0 n.key && within r.1 n.velocity) (within r.2 n.key && within r.3 n.velocity))
-    (λ i. let r : ℕ × ℕ × ℕ × ℕ = (sym (range-with global z Key lower) i, sym (other-with global z Key Velocity lower (omega arith)) i, sym (range-with global z Key upper) i, sym (other-with global z Key Velocity upper (omega arith)) i) in r)
-    (halved_first (within w n.key) (within lower n.key) (within upper n.key) (within (range_of Velocity global z) n.velocity) (halved w m n.key h.above h.within small))
+    subst
+    (λ r.
+    Halved (within w n.key && within (range_of Velocity global z) n.velocity)
+    (within r.0 n.key && within r.1 n.velocity) (within r.2 n.key && within r.3 n.velocity))
+    (λ i. let r : ℕ × ℕ × ℕ × ℕ = (
+      sym (range-with global z Key lower) i,
+      sym (other-with global z Key Velocity lower (omega arith)) i,
+      sym (range-with global z Key upper) i,
+      sym (other-with global z Key Velocity upper (omega arith)) i,
+    )
+    in r)
+    (halved_first (within w n.key) (within lower n.key) (within upper n.key)
+    (within (range_of Velocity global z) n.velocity) (halved w m n.key h.above h.within small))
 halves-hold n global z Velocity m h small =
     let w : ℕ = range_of Velocity global z in
     let lower : ℕ = range_from (low_end w) (m - 1) in
     let upper : ℕ = range_from m (high_end w) in
-    subst (λ r. Halved (within (range_of Key global z) n.key && within w n.velocity) (within r.1 n.key && within r.0 n.velocity) (within r.3 n.key && within r.2 n.velocity))
-    (λ i. let r : ℕ × ℕ × ℕ × ℕ = (sym (range-with global z Velocity lower) i, sym (other-with global z Velocity Key lower (omega arith)) i, sym (range-with global z Velocity upper) i, sym (other-with global z Velocity Key upper (omega arith)) i) in r)
-    (halved_second (within w n.velocity) (within lower n.velocity) (within upper n.velocity) (within (range_of Key global z) n.key) (halved w m n.velocity h.above h.within small))
+    subst
+    (λ r.
+    Halved (within (range_of Key global z) n.key && within w n.velocity)
+    (within r.1 n.key && within r.0 n.velocity) (within r.3 n.key && within r.2 n.velocity))
+    (λ i. let r : ℕ × ℕ × ℕ × ℕ = (
+      sym (range-with global z Velocity lower) i,
+      sym (other-with global z Velocity Key lower (omega arith)) i,
+      sym (range-with global z Velocity upper) i,
+      sym (other-with global z Velocity Key upper (omega arith)) i,
+    )
+    in r)
+    (halved_second (within w n.velocity) (within lower n.velocity) (within upper n.velocity)
+    (within (range_of Key global z) n.key) (halved w m n.velocity h.above h.within small))
 
 -- what the zone's target gives, the one half gives and the other doesn't
 pub halves-give : (inside : Taken → ℕ → List Voice) (n : Numbers) (global : GlobalZone) (z : Zone) (axis : Axis) (m : ℕ)
     → IsSplitAt axis m global z → m < 256
-    → (let give : Zone → List Voice = λ y. cond (holds n global y) (inside (taken global y) y.target) [] in give z ≡ give (lower_part axis m global z) ++ give (upper_part axis m global z))
+    →
+    (let give : Zone → List Voice =
+    λ y.
+    cond (holds n global y) (inside (taken global y) y.target) [] in give z
+    ≡ give (lower_part axis m global z) ++ give (upper_part axis m global z))
 halves-give inside n global z axis m h small =
     let lower : Zone = lower_part axis m global z in
     let upper : Zone = upper_part axis m global z in
     let w : ℕ = range_of axis global z in
-    chosen (holds n global z) (holds n global lower) (holds n global upper) (inside (taken global z) z.target) (halves-hold n global z axis m h small)
-    ∙ (λ i. cond (holds n global lower) (inside (taken-with global z axis (range_from (low_end w) (m - 1)) i) z.target) []
+    chosen (holds n global z) (holds n global lower) (holds n global upper) (inside (taken global z) z.target)
+    (halves-hold n global z axis m h small)
+    ∙ (λ i. cond (holds n global lower)
+    (inside (taken-with global z axis (range_from (low_end w) (m - 1)) i) z.target) []
     ++ cond (holds n global upper) (inside (taken-with global z axis (range_from m (high_end w)) i) z.target) [])

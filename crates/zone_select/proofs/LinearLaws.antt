@@ -1,5 +1,6 @@
 -- Parts that are rounded down, and what linear modulators add.
-use Rattle.std.proofs.Common.{◌≡◌, ◌≤◌, ◌<◌, ℕ, suc, ◌*◌, ◌/◌, ◌+◌, ◌-◌, ℤ, pos, negsuc, ◌+ℤ◌, ◌-ℤ◌, ◌*ℤ◌, ◌≤ℤ◌, List, length, map, take, get_or, SFits, unsigned_abs, lit<, refl, sym, ap, ◌∙◌, arith}
+use Rattle.std.proofs.Common.{◌≡◌, ◌≤◌, ◌<◌, ℕ, suc, ◌*◌, ◌/◌, ◌+◌, ◌-◌, ℤ, pos, negsuc, ◌+ℤ◌, ◌-ℤ◌, ◌*ℤ◌, ◌≤ℤ◌}
+use Rattle.std.proofs.Common.{List, length, map, take, get_or, SFits, unsigned_abs, lit<, refl, sym, ap, ◌∙◌, arith}
 use Rattle.std.specs.Int.{int_div_euclid, int_rem_euclid, cast_signed, w16, w32}
 use Rattle.std.specs.List.{fold}
 use Rattle.std.specs.Option.{option_map_or}
@@ -15,7 +16,8 @@ use Rattle.sound_tables.proofs.FloorLaws.{floor_div_is}
 use Rattle.note_list.specs.Notes.{Numbers}
 use Rattle.bank_parts.specs.declared.parts.Sample.{Sample}
 use Rattle.zone_select.specs.Taken.{Taken}
-use Rattle.zone_select.specs.Amounts.{amount, sum_of, linear_part, linear_sources, key_of, velocity_of, root_of, cents_of, moved, moved_amount}
+use Rattle.zone_select.specs.Amounts.{amount, sum_of, linear_part, linear_sources, key_of, velocity_of, root_of}
+use Rattle.zone_select.specs.Amounts.{cents_of, moved, moved_amount}
 
 pub euclid_is_floor : (z : ℤ) (n : ℕ) → int_div_euclid z (pos n) ≡ floor_div z n
 euclid_is_floor (pos a) n = refl
@@ -35,7 +37,8 @@ abs_between : (z : ℤ) (b : ℕ) → unsigned_abs z ≤ b → (pos 0 ≤ℤ (z 
 abs_between (pos a) b h = (omega (arith, ints, h), omega (arith, ints, h))
 abs_between (negsuc a) b h = (omega (arith, ints, h), omega (arith, ints, h))
 
-product_below : (a x : ℤ) (w : ℕ) → negsuc 65535 ≤ℤ a → a ≤ℤ pos 65534 → pos 0 ≤ℤ (x +ℤ pos w) → x ≤ℤ pos w → unsigned_abs (a *ℤ x) ≤ 65536 * w
+product_below : (a x : ℤ) (w : ℕ) → negsuc 65535 ≤ℤ a → a ≤ℤ pos 65534 → pos 0 ≤ℤ (x +ℤ pos w) → x ≤ℤ pos w
+    → unsigned_abs (a *ℤ x) ≤ 65536 * w
 product_below a x w al ah xl xh =
     let p : unsigned_abs a ≤ 65536 = abs_below a 65536 (omega (arith, ints, al)) (omega (arith, ints, ah)) in
     let q : unsigned_abs x ≤ w = abs_below x w xl xh in
@@ -43,7 +46,8 @@ product_below a x w al ah xl xh =
     let e = unsigned_abs-mul a x in
     omega (arith, m, e)
 
-pub product_fits : (a x : ℤ) (w : ℕ) → w ≤ 1000 → negsuc 65535 ≤ℤ a → a ≤ℤ pos 65534 → pos 0 ≤ℤ (x +ℤ pos w) → x ≤ℤ pos w → SFits w32 (a *ℤ x)
+pub product_fits : (a x : ℤ) (w : ℕ) → w ≤ 1000 → negsuc 65535 ≤ℤ a → a ≤ℤ pos 65534 → pos 0 ≤ℤ (x +ℤ pos w)
+    → x ≤ℤ pos w → SFits w32 (a *ℤ x)
 product_fits a x w h al ah xl xh =
     let p : unsigned_abs a ≤ 65536 = abs_below a 65536 (omega (arith, ints, al)) (omega (arith, ints, ah)) in
     let q : unsigned_abs x ≤ w = abs_below x w xl xh in
@@ -77,23 +81,32 @@ class_is v u = added_none (option_map_or (cast_signed w16) (v.settings 57) (pos 
 
 -- ---- the sum over the sources
 
-pub one_more : (f : ℕ → ℤ) (xs : List ℕ) (i d : ℕ) → i < length xs → fold (λ s y. s +ℤ f y) (pos 0) (take (i + 1) xs) ≡ fold (λ s y. s +ℤ f y) (pos 0) (take i xs) +ℤ f (get_or xs i d)
+pub one_more : (f : ℕ → ℤ) (xs : List ℕ) (i d : ℕ) → i < length xs
+    → fold (λ s y. s +ℤ f y) (pos 0) (take (i + 1) xs)
+    ≡ fold (λ s y. s +ℤ f y) (pos 0) (take i xs) +ℤ f (get_or xs i d)
 one_more f xs i d h = fold_more (λ s y. s +ℤ f y) (pos 0) xs i d h
 
-pub all_summed : (f : ℕ → ℤ) (xs : List ℕ) (i : ℕ) → length xs ≤ i → fold (λ s y. s +ℤ f y) (pos 0) (take i xs) ≡ sum_of (map f xs)
-all_summed f xs i h = ap (fold (λ s y. s +ℤ f y) (pos 0)) (take_all i xs h) ∙ sym (fold-map (λ s y. s +ℤ y) f (pos 0) xs)
+pub all_summed : (f : ℕ → ℤ) (xs : List ℕ) (i : ℕ) → length xs ≤ i
+    → fold (λ s y. s +ℤ f y) (pos 0) (take i xs) ≡ sum_of (map f xs)
+all_summed f xs i h =
+    ap (fold (λ s y. s +ℤ f y) (pos 0)) (take_all i xs h) ∙ sym (fold-map (λ s y. s +ℤ y) f (pos 0) xs)
 
-pub moved_is : (n : Numbers) (v u : Taken) (op key velocity : ℕ) (own added : ℤ) → key ≡ key_of n v u → velocity ≡ velocity_of n v u → own ≡ amount v u op
+pub moved_is : (n : Numbers) (v u : Taken) (op key velocity : ℕ) (own added : ℤ) → key ≡ key_of n v u
+    → velocity ≡ velocity_of n v u → own ≡ amount v u op
     → added ≡ sum_of (map (linear_part key velocity v u op) linear_sources) → own +ℤ added ≡ moved n v u op
 unfolding moved_amount
 moved_is n v u op key velocity own added k l e f = rw (e, f, k, l) refl
 
 -- ---- the pitch
 
-pub interval_within : (tuning keys : ℤ) → negsuc 65535 ≤ℤ tuning → tuning ≤ℤ pos 65534 → pos 0 ≤ℤ (keys +ℤ pos 127) → keys ≤ℤ pos 127
+pub interval_within : (tuning keys : ℤ) → negsuc 65535 ≤ℤ tuning → tuning ≤ℤ pos 65534 → pos 0 ≤ℤ (keys +ℤ pos 127)
+    → keys ≤ℤ pos 127
     → (pos 0 ≤ℤ ((tuning *ℤ keys) +ℤ pos 8323072)) × ((tuning *ℤ keys) ≤ℤ pos 8323072)
-interval_within tuning keys tl th kl kh = abs_between (tuning *ℤ keys) 8323072 (product_below tuning keys 127 tl th kl kh)
+interval_within tuning keys tl th kl kh =
+    abs_between (tuning *ℤ keys) 8323072 (product_below tuning keys 127 tl th kl kh)
 
-pub cents_is : (n : Numbers) (v u : Taken) (s : Sample) (key root : ℕ) (keys tuning scaled coarse fine : ℤ) → key ≡ key_of n v u → root ≡ root_of v u s → keys ≡ pos key -ℤ pos root
-    → tuning ≡ amount v u 56 → scaled ≡ tuning *ℤ keys → coarse ≡ amount v u 51 → fine ≡ moved n v u 52 → scaled +ℤ pos 100 *ℤ coarse +ℤ fine +ℤ s.correction ≡ cents_of n v u s
+pub cents_is : (n : Numbers) (v u : Taken) (s : Sample) (key root : ℕ) (keys tuning scaled coarse fine : ℤ)
+    → key ≡ key_of n v u → root ≡ root_of v u s → keys ≡ pos key -ℤ pos root
+    → tuning ≡ amount v u 56 → scaled ≡ tuning *ℤ keys → coarse ≡ amount v u 51 → fine ≡ moved n v u 52
+    → scaled +ℤ pos 100 *ℤ coarse +ℤ fine +ℤ s.correction ≡ cents_of n v u s
 cents_is n v u s key root keys tuning scaled coarse fine e f g h i j k = rw (i, j, k, h, g, e, f) refl

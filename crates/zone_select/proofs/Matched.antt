@@ -1,5 +1,6 @@
 -- Lists and options whose members are related one by one, and what is taken from them.
-use Rattle.std.proofs.Common.{◌≡◌, ℕ, suc, zero, Bool, true, false, cond, Option, Some, None, List, [], ◌∷◌, map, slice_set, slice_get, refl, sym, subst}
+use Rattle.std.proofs.Common.{◌≡◌, ℕ, suc, zero, Bool, true, false, cond, Option, Some, None, List, [], ◌∷◌, map}
+use Rattle.std.proofs.Common.{slice_set, slice_get, refl, sym, subst}
 use Rattle.std.specs.List.{find, AllByRecursion}
 use Rattle.std.specs.List.Sorted.{IsPermutation}
 use Rattle.std.specs.Option.{option_map_or, option_map}
@@ -33,8 +34,10 @@ module _ {X Y : Type 0} (R : X → Y → Type 0) where
   matched-find p q e [] (y ∷ ys) h = absurd h
   matched-find p q e (x ∷ xs) [] h = absurd h
   matched-find p q e (x ∷ xs) (y ∷ ys) h =
-      let at : (t : Bool) → MatchedOption R (cond t (Some x) (find p xs)) (cond t (Some y) (find q ys)) = elim [ true ↦ h.0 | false ↦ matched-find p q e xs ys h.1 ] in
-      subst (λ t. MatchedOption R (cond (p x) (Some x) (find p xs)) (cond t (Some y) (find q ys))) (e x y h.0) (at (p x))
+      let at : (t : Bool) → MatchedOption R (cond t (Some x) (find p xs)) (cond t (Some y) (find q ys)) =
+      elim [ true ↦ h.0 | false ↦ matched-find p q e xs ys h.1 ] in
+      subst (λ t. MatchedOption R (cond (p x) (Some x) (find p xs)) (cond t (Some y) (find q ys))) (e x y h.0)
+      (at (p x))
 
   pub matched-or : {Z : Type 0} (f : X → List Z) (g : Y → List Z)
       → ((x : X) (y : Y) → R x y → IsPermutation (f x) (g y)) → (o : Option X) (p : Option Y) → MatchedOption R o p
@@ -55,7 +58,11 @@ module _ {X Y : Type 0} (R : X → Y → Type 0) where
 pub changed-cons : {X : Type 0} (x : X) (xs : List X) (k : ℕ) (f : X → X)
     → changed (x ∷ xs) (suc k) f ≡ x ∷ changed xs k f
 changed-cons x xs k f =
-    elim (slice_get xs k) as (λ o. option_map_or (λ y. slice_set (x ∷ xs) (suc k) (f y)) o (x ∷ xs) ≡ x ∷ option_map_or (λ y. slice_set xs k (f y)) o xs) [ None ↦ refl | Some y ↦ refl ]
+    elim (slice_get xs k) as
+    (λ o.
+    option_map_or (λ y. slice_set (x ∷ xs) (suc k) (f y)) o (x ∷ xs)
+    ≡ x ∷ option_map_or (λ y. slice_set xs k (f y)) o xs)
+    [ None ↦ refl | Some y ↦ refl ]
 
 module _ {X : Type 0} (R : X → X → Type 0) (same : (x : X) → R x x) where
   pub matched-same : (xs : List X) → Matched R xs xs
@@ -66,7 +73,8 @@ module _ {X : Type 0} (R : X → X → Type 0) (same : (x : X) → R x x) where
       → Matched R xs (changed xs k f)
   matched-changed f [] k h = tt
   matched-changed f (x ∷ xs) zero h = (h x refl, matched-same xs)
-  matched-changed f (x ∷ xs) (suc k) h = subst (Matched R (x ∷ xs)) (sym (changed-cons x xs k f)) (same x, matched-changed f xs k h)
+  matched-changed f (x ∷ xs) (suc k) h =
+      subst (Matched R (x ∷ xs)) (sym (changed-cons x xs k f)) (same x, matched-changed f xs k h)
 
   pub matched-option_same : (o : Option X) → MatchedOption R o o
   matched-option_same None = tt

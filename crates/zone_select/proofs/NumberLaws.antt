@@ -1,5 +1,7 @@
 -- Numbers that pass a test, in rising order.
-use Rattle.std.proofs.Common.{◌≡◌, ◌≤◌, ◌<◌, ℕ, zero, suc, ◌+◌, ◌-◌, ◌⊎◌, inl, inr, get_or, Bool, true, false, cond, List, [], ◌∷◌, ◌++◌, length, drop, Option, Some, None, slice_get, refl, sym, ap, ◌∙◌, arith}
+use Rattle.std.proofs.Common.{◌≡◌, ◌≤◌, ◌<◌, ℕ, zero, suc, ◌+◌, ◌-◌, ◌⊎◌, inl, inr, get_or, Bool, true, false, cond}
+use Rattle.std.proofs.Common.{List, [], ◌∷◌, ◌++◌, length, drop, Option, Some, None, slice_get, refl, sym, ap, ◌∙◌}
+use Rattle.std.proofs.Common.{arith}
 use Rattle.std.specs.List.{flat_map, find, filter, range_with_len}
 use Rattle.std.specs.Option.{option_map_or}
 use Rattle.std.proofs.lemmas.Option.{slice_get_cases}
@@ -20,25 +22,32 @@ numbers_miss test a c h t = let e : c - a ≡ suc (c - (a + 1)) = omega (arith, 
 
 -- ---- the first member that passes
 
-pub first_at : {X : Type 0} (test : X → Bool) (xs : List X) (k : ℕ) (x : X) → slice_get xs k ≡ Some x → find test (drop k xs) ≡ cond (test x) (Some x) (find test (drop (suc k) xs))
+pub first_at : {X : Type 0} (test : X → Bool) (xs : List X) (k : ℕ) (x : X) → slice_get xs k ≡ Some x
+    → find test (drop k xs) ≡ cond (test x) (Some x) (find test (drop (suc k) xs))
 first_at test [] k x e = cc
 first_at test (y ∷ ys) zero x e = let same : y ≡ x = cc in rw same refl
 first_at test (y ∷ ys) (suc k) x e = first_at test ys k x e
 
-pub first_hit : {X : Type 0} (test : X → Bool) (xs : List X) (k : ℕ) → find test xs ≡ find test (drop k xs) → option_map_or test (slice_get xs k) false ≡ true → find test xs ≡ slice_get xs k
+pub first_hit : {X : Type 0} (test : X → Bool) (xs : List X) (k : ℕ) → find test xs ≡ find test (drop k xs)
+    → option_map_or test (slice_get xs k) false ≡ true → find test xs ≡ slice_get xs k
 first_hit {X} test xs k e h = from (slice_get xs k) refl h
   where
     from : (o : Option X) → slice_get xs k ≡ o → option_map_or test o false ≡ true → find test xs ≡ slice_get xs k
     from None f h = cc
     from (Some x) f h = e ∙ first_at test xs k x f ∙ rw h (sym f)
 
-pub first_miss : {X : Type 0} (test : X → Bool) (xs : List X) (k : ℕ) → k < length xs → option_map_or test (slice_get xs k) false ≡ false → find test (drop k xs) ≡ find test (drop (k + 1) xs)
-first_miss {X} test xs k l h = from (slice_get xs k) refl h ∙ ap (λ (j : ℕ). find test (drop j xs)) (let s : suc k ≡ k + 1 = omega arith in s)
+pub first_miss : {X : Type 0} (test : X → Bool) (xs : List X) (k : ℕ) → k < length xs
+    → option_map_or test (slice_get xs k) false ≡ false → find test (drop k xs) ≡ find test (drop (k + 1) xs)
+first_miss {X} test xs k l h =
+    from (slice_get xs k) refl h ∙ ap (λ (j : ℕ). find test (drop j xs)) (let s : suc k ≡ k + 1 = omega arith in s)
   where
-    from : (o : Option X) → slice_get xs k ≡ o → option_map_or test o false ≡ false → find test (drop k xs) ≡ find test (drop (suc k) xs)
+    from : (o : Option X) → slice_get xs k ≡ o → option_map_or test o false ≡ false
+        → find test (drop k xs) ≡ find test (drop (suc k) xs)
     from None f h = absurd (past (slice_get_cases xs k).1 f)
       where
-        past : ((x : X) × (k < length xs) × (slice_get xs k ≡ Some x) × (get_or xs k x ≡ x)) ⊎ ((length xs ≤ k) × (slice_get xs k ≡ None)) → slice_get xs k ≡ None → ⊥
+        past : ((x : X) × (k < length xs) × (slice_get xs k ≡ Some x) × (get_or xs k x ≡ x))
+            ⊎ ((length xs ≤ k) × (slice_get xs k ≡ None))
+            → slice_get xs k ≡ None → ⊥
         past (inl r) f = let e = r.2 in cc
         past (inr r) f = let e = r.0 in omega (arith, l, e)
     from (Some x) f h = first_at test xs k x f ∙ rw h refl
@@ -49,11 +58,13 @@ joined : {Z : Type 0} (b : Bool) (x y r s : List Z) → (b ≡ true → x ≡ y)
 joined true x y r s e f = ap (λ l. l ++ r) (e refl) ∙ ap (λ l. y ++ l) f
 joined false x y r s e f = f
 
-taken_on : {Z : Type 0} (g : ℕ → List Z) (b : Bool) (a : ℕ) (ks : List ℕ) → flat_map g (cond b (a ∷ ks) ks) ≡ cond b (g a ++ flat_map g ks) (flat_map g ks)
+taken_on : {Z : Type 0} (g : ℕ → List Z) (b : Bool) (a : ℕ) (ks : List ℕ)
+    → flat_map g (cond b (a ∷ ks) ks) ≡ cond b (g a ++ flat_map g ks) (flat_map g ks)
 taken_on g true a ks = refl
 taken_on g false a ks = refl
 
-pub by_number : {X Z : Type 0} (test : ℕ → Bool) (t : X → Bool) (g : ℕ → List Z) (h : X → List Z) (from : ℕ) (xs : List X)
+pub by_number : {X Z : Type 0} (test : ℕ → Bool) (t : X → Bool) (g : ℕ → List Z) (h : X → List Z) (from : ℕ)
+    (xs : List X)
     → ((k : ℕ) (x : X) → slice_get xs k ≡ Some x → test (from + k) ≡ t x)
     → ((k : ℕ) (x : X) → slice_get xs k ≡ Some x → t x ≡ true → g (from + k) ≡ h x)
     → flat_map g (filter test (range_with_len from (length xs))) ≡ flat_map (λ x. cond (t x) (h x) []) xs
@@ -64,9 +75,15 @@ by_number test t g h from (x ∷ xs) same e =
     (λ k y f p. ap g (let s : from + 1 + k ≡ from + suc k = omega arith in s) ∙ e (suc k) y f p) in
     let zeroth : from ≡ from + 0 = omega arith in
     taken_on g (test from) from (filter test (range_with_len (from + 1) (length xs)))
-    ∙ ap (λ (b : Bool). cond b (g from ++ flat_map g (filter test (range_with_len (from + 1) (length xs)))) (flat_map g (filter test (range_with_len (from + 1) (length xs))))) (ap test zeroth ∙ same 0 x refl)
+    ∙ ap
+    (λ (b : Bool).
+    cond b (g from ++ flat_map g (filter test (range_with_len (from + 1) (length xs))))
+    (flat_map g (filter test (range_with_len (from + 1) (length xs)))))
+    (ap test zeroth ∙ same 0 x refl)
     ∙ joined (t x) (g from) (h x) _ _ (λ p. ap g zeroth ∙ e 0 x refl p) rest
 
-pub flat_map-flat_map : {A B C : Type 0} (f : B → List C) (g : A → List B) (xs : List A) → flat_map f (flat_map g xs) ≡ flat_map (λ x. flat_map f (g x)) xs
+pub flat_map-flat_map : {A B C : Type 0} (f : B → List C) (g : A → List B) (xs : List A)
+    → flat_map f (flat_map g xs) ≡ flat_map (λ x. flat_map f (g x)) xs
 flat_map-flat_map f g [] = refl
-flat_map-flat_map f g (x ∷ xs) = flat_map-append f (g x) (flat_map g xs) ∙ ap (λ l. flat_map f (g x) ++ l) (flat_map-flat_map f g xs)
+flat_map-flat_map f g (x ∷ xs) =
+    flat_map-append f (g x) (flat_map g xs) ∙ ap (λ l. flat_map f (g x) ++ l) (flat_map-flat_map f g xs)

@@ -1,5 +1,6 @@
 -- The voices that are selected are those of the pairs.
-use Rattle.std.proofs.Common.{◌≡◌, ℕ, ◌+◌, ◌-◌, true, false, cond, List, [], ◌∷◌, length, map, Option, Some, None, slice_get, refl, ap, ◌∙◌, arith}
+use Rattle.std.proofs.Common.{◌≡◌, ℕ, ◌+◌, ◌-◌, true, false, cond, List, [], ◌∷◌, length, map, Option, Some, None}
+use Rattle.std.proofs.Common.{slice_get, refl, ap, ◌∙◌, arith}
 use Rattle.std.specs.List.{flat_map, find, filter, range_with_len}
 use Rattle.std.specs.Option.{option_map_or, option_map, option_and_then}
 use Rattle.std.proofs.lemmas.List.Folds.{flat_map-map}
@@ -12,8 +13,11 @@ use Rattle.bank_parts.specs.declared.parts.Sample.{Sample}
 use Rattle.bank_parts.specs.declared.parts.Parts.{Parts}
 use Rattle.zone_select.specs.Ranges.{holds}
 use Rattle.zone_select.specs.Taken.{Taken, taken}
-use Rattle.zone_select.specs.Select.{Voice, voice_of, voices_of, sample_voices, instrument_voices, number_voices, preset_voices, is_called, selected}
-use Rattle.zone_select.specs.Pairs.{holds_at, held, held_inside, pairs_at, pairs, Chosen, zone_held, instrument_zone_chosen, zone_chosen, preset_chosen, chosen_by, chosen_voice, voice_by, listed}
+use Rattle.zone_select.specs.Select.{Voice, voice_of, voices_of, sample_voices, instrument_voices, number_voices}
+use Rattle.zone_select.specs.Select.{preset_voices, is_called, selected}
+use Rattle.zone_select.specs.Pairs.{holds_at, held, held_inside, pairs_at, pairs, Chosen, zone_held}
+use Rattle.zone_select.specs.Pairs.{instrument_zone_chosen, zone_chosen, preset_chosen, chosen_by, chosen_voice}
+use Rattle.zone_select.specs.Pairs.{voice_by, listed}
 use Rattle.zone_select.proofs.NumberLaws.{by_number, flat_map-flat_map}
 
 -- the voices of a pair
@@ -21,54 +25,85 @@ abbrev of_chosen : Parts → Numbers → Option Chosen → List Voice
 of_chosen b n o = listed (option_and_then (chosen_voice b n) o)
 
 -- zones that hold the note, by their numbers
-held_by_number : {Z : Type 0} (g : ℕ → List Z) (h : Zone → List Z) (n : Numbers) (global : GlobalZone) (zones : List Zone)
+held_by_number : {Z : Type 0} (g : ℕ → List Z) (h : Zone → List Z) (n : Numbers) (global : GlobalZone)
+    (zones : List Zone)
     → ((k : ℕ) (z : Zone) → slice_get zones k ≡ Some z → holds n global z ≡ true → g k ≡ h z)
     → flat_map g (held n global zones 0) ≡ flat_map (λ (z : Zone). cond (holds n global z) (h z) []) zones
 held_by_number g h n global zones e =
-    ap (λ (c : ℕ). flat_map g (filter (holds_at n global zones) (range_with_len 0 c))) (let s : length zones - 0 ≡ length zones = omega arith in s)
+    ap (λ (c : ℕ). flat_map g (filter (holds_at n global zones) (range_with_len 0 c)))
+    (let s : length zones - 0 ≡ length zones = omega arith in s)
     ∙ by_number (holds_at n global zones) (holds n global) g h 0 zones
-    (λ k z f. ap (λ (j : ℕ). holds_at n global zones j) (let s : 0 + k ≡ k = omega arith in s) ∙ ap (λ (o : Option Zone). option_map_or (holds n global) o false) f)
+    (λ k z f.
+    ap (λ (j : ℕ). holds_at n global zones j) (let s : 0 + k ≡ k = omega arith in s)
+    ∙ ap (λ (o : Option Zone). option_map_or (holds n global) o false) f)
     (λ k z f p. ap g (let s : 0 + k ≡ k = omega arith in s) ∙ e k z f p)
 
-is_held : (n : Numbers) (global : GlobalZone) (zones : List Zone) (k : ℕ) (z : Zone) → slice_get zones k ≡ Some z → holds n global z ≡ true → zone_held n global zones k ≡ Some z
+is_held : (n : Numbers) (global : GlobalZone) (zones : List Zone) (k : ℕ) (z : Zone) → slice_get zones k ≡ Some z
+    → holds n global z ≡ true → zone_held n global zones k ≡ Some z
 is_held n global zones k z e p = rw (e, p) refl
 
-sample_is : (b : Parts) (n : Numbers) (u v : Taken) (number : ℕ) → of_chosen b n (Some (record { instrument_zone = v; preset_zone = u; sample = number })) ≡ sample_voices b n u v number
+sample_is : (b : Parts) (n : Numbers) (u v : Taken) (number : ℕ)
+    → of_chosen b n (Some (record { instrument_zone = v; preset_zone = u; sample = number }))
+    ≡ sample_voices b n u v number
 unfolding sample_voices
 sample_is b n u v number =
-    elim (slice_get b.samples number) as (λ (o : Option Sample). listed (option_map (voice_of n v u) o) ≡ option_map_or (λ (s : Sample). voice_of n v u s ∷ []) o []) [ None ↦ refl | Some s ↦ refl ]
+    elim (slice_get b.samples number) as
+    (λ (o : Option Sample).
+    listed (option_map (voice_of n v u) o) ≡ option_map_or (λ (s : Sample). voice_of n v u s ∷ []) o [])
+    [ None ↦ refl | Some s ↦ refl ]
 
-instrument_is : (b : Parts) (n : Numbers) (u : Taken) (i : WithZones (List ℕ)) → flat_map (λ l. of_chosen b n (instrument_zone_chosen n u l i)) (held n i.global i.zones 0) ≡ instrument_voices b n u i
+instrument_is : (b : Parts) (n : Numbers) (u : Taken) (i : WithZones (List ℕ))
+    → flat_map (λ l. of_chosen b n (instrument_zone_chosen n u l i)) (held n i.global i.zones 0)
+    ≡ instrument_voices b n u i
 unfolding instrument_voices voices_of
 instrument_is b n u i =
-    held_by_number (λ l. of_chosen b n (instrument_zone_chosen n u l i)) (λ (y : Zone). sample_voices b n u (taken i.global y) y.target) n i.global i.zones
+    held_by_number (λ l. of_chosen b n (instrument_zone_chosen n u l i))
+    (λ (y : Zone). sample_voices b n u (taken i.global y) y.target) n i.global i.zones
     (λ l y e p. ap (λ (o : Option Zone). of_chosen b n (option_map (λ (y : Zone). record { instrument_zone = taken i.global y; preset_zone = u; sample = y.target }) o)) (is_held n i.global i.zones l y e p)
     ∙ sample_is b n u (taken i.global y) y.target)
 
-zone_is : (b : Parts) (n : Numbers) (global : GlobalZone) (z : Zone) → flat_map (λ l. of_chosen b n (zone_chosen b n global l z)) (held_inside b n z.target 0) ≡ number_voices b n (taken global z) z.target
+zone_is : (b : Parts) (n : Numbers) (global : GlobalZone) (z : Zone)
+    → flat_map (λ l. of_chosen b n (zone_chosen b n global l z)) (held_inside b n z.target 0)
+    ≡ number_voices b n (taken global z) z.target
 unfolding number_voices
 zone_is b n global z =
     let u : Taken = taken global z in
-    elim (slice_get b.instruments z.target) as (λ (o : Option (WithZones (List ℕ))). flat_map (λ l. of_chosen b n (option_and_then (instrument_zone_chosen n u l) o)) (option_map_or (λ (i : WithZones (List ℕ)). held n i.global i.zones 0) o []) ≡ option_map_or (instrument_voices b n u) o []) [
+    elim (slice_get b.instruments z.target) as
+    (λ (o : Option (WithZones (List ℕ))).
+    flat_map (λ l. of_chosen b n (option_and_then (instrument_zone_chosen n u l) o))
+    (option_map_or (λ (i : WithZones (List ℕ)). held n i.global i.zones 0) o [])
+    ≡ option_map_or (instrument_voices b n u) o []) [
       | None ↦ refl
       | Some i ↦ instrument_is b n u i
     ]
 
-preset_is : (b : Parts) (n : Numbers) (p : WithZones Head) → flat_map (λ q. of_chosen b n (preset_chosen b n q p)) (flat_map (pairs_at b n p.zones) (held n p.global p.zones 0)) ≡ preset_voices b n p
+preset_is : (b : Parts) (n : Numbers) (p : WithZones Head)
+    → flat_map (λ q. of_chosen b n (preset_chosen b n q p))
+    (flat_map (pairs_at b n p.zones) (held n p.global p.zones 0))
+    ≡ preset_voices b n p
 unfolding preset_voices voices_of
 preset_is b n p =
     let f : ℕ × ℕ → List Voice = λ q. of_chosen b n (preset_chosen b n q p) in
     flat_map-flat_map f (pairs_at b n p.zones) (held n p.global p.zones 0)
-    ∙ held_by_number (λ k. flat_map f (pairs_at b n p.zones k)) (λ (z : Zone). number_voices b n (taken p.global z) z.target) n p.global p.zones
+    ∙ held_by_number (λ k. flat_map f (pairs_at b n p.zones k))
+    (λ (z : Zone). number_voices b n (taken p.global z) z.target) n p.global p.zones
     (λ k z e h. ap (λ (o : Option Zone). flat_map f (option_map_or (λ (z : Zone). map (λ (l : ℕ). let q : ℕ × ℕ = (k, l) in q) (held_inside b n z.target 0)) o [])) e
     ∙ flat_map-map f (λ (l : ℕ). let q : ℕ × ℕ = (k, l) in q) (held_inside b n z.target 0)
-    ∙ ap (λ (o : Option Zone). flat_map (λ l. of_chosen b n (option_and_then (zone_chosen b n p.global l) o)) (held_inside b n z.target 0)) (is_held n p.global p.zones k z e h)
+    ∙ ap
+    (λ (o : Option Zone).
+    flat_map (λ l. of_chosen b n (option_and_then (zone_chosen b n p.global l) o)) (held_inside b n z.target 0))
+    (is_held n p.global p.zones k z e h)
     ∙ zone_is b n p.global z)
 
 pub selected_by_pairs : (b : Parts) (n : Numbers) → flat_map (λ q. listed (voice_by b n q)) (pairs b n) ≡ selected b n
 unfolding pairs chosen_by selected
 selected_by_pairs b n =
-    elim (find (is_called n) b.presets) as (λ (o : Option (WithZones Head)). flat_map (λ q. of_chosen b n (option_and_then (preset_chosen b n q) o)) (option_map_or (λ (p : WithZones Head). flat_map (pairs_at b n p.zones) (held n p.global p.zones 0)) o []) ≡ option_map_or (preset_voices b n) o []) [
+    elim (find (is_called n) b.presets) as
+    (λ (o : Option (WithZones Head)).
+    flat_map (λ q. of_chosen b n (option_and_then (preset_chosen b n q) o))
+    (option_map_or (λ (p : WithZones Head). flat_map (pairs_at b n p.zones) (held n p.global p.zones 0))
+    o [])
+    ≡ option_map_or (preset_voices b n) o []) [
       | None ↦ refl
       | Some p ↦ preset_is b n p
     ]

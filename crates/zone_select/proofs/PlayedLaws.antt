@@ -1,5 +1,6 @@
 -- A pair is among the pairs of a note exactly where it has a voice.
-use Rattle.std.proofs.Common.{◌≡◌, ◌↔◌, ◌<◌, ◌-◌, ℕ, Bool, true, false, true≢false, cond, List, [], map, length, Option, Some, None, IsSome, slice_get, refl, sym, ap, subst, ◌∙◌, arith}
+use Rattle.std.proofs.Common.{◌≡◌, ◌↔◌, ◌<◌, ◌-◌, ℕ, Bool, true, false, true≢false, cond, List, [], map, length}
+use Rattle.std.proofs.Common.{Option, Some, None, IsSome, slice_get, refl, sym, ap, subst, ◌∙◌, arith}
 use Rattle.std.specs.Prelude.{is_some}
 use Rattle.std.specs.List.{Contains, flat_map, find, range_with_len}
 use Rattle.std.specs.Option.{option_map, option_map_or, option_and_then}
@@ -16,9 +17,11 @@ use Rattle.bank_changes.proofs.Changes.{all_found}
 use Rattle.zone_select.specs.Ranges.{holds}
 use Rattle.zone_select.specs.Taken.{Taken, taken}
 use Rattle.zone_select.specs.Select.{is_called}
-use Rattle.zone_select.specs.Pairs.{holds_at, held, held_inside, pairs_at, pairs, Chosen, zone_held, instrument_zone_chosen, zone_chosen, preset_chosen, chosen_by, chosen_voice}
+use Rattle.zone_select.specs.Pairs.{holds_at, held, held_inside, pairs_at, pairs, Chosen, zone_held}
+use Rattle.zone_select.specs.Pairs.{instrument_zone_chosen, zone_chosen, preset_chosen, chosen_by, chosen_voice}
 use Rattle.zone_select.specs.Played.{PairsAreChosen, PairsHaveVoices}
-use Rattle.zone_select.proofs.Listed.{IsIn, in_of_contains, contains_of_in, in_filter, filter_in, in_row, in_flat_map, flat_map_in, in_map, map_in}
+use Rattle.zone_select.proofs.Listed.{IsIn, in_of_contains, contains_of_in, in_filter, filter_in, in_row}
+use Rattle.zone_select.proofs.Listed.{in_flat_map, flat_map_in, in_map, map_in}
 
 -- ---- options
 
@@ -48,7 +51,9 @@ module _ (n : Numbers) (global : GlobalZone) (zones : List Zone) (k : ℕ) where
   held_in : Held n global zones k → IsIn k (held n global zones 0)
   held_in h =
       let lt = slice_get-within zones k h.zone h.there in
-      filter_in k (holds_at n global zones) (range_with_len 0 (length zones - 0)) (in_row 0 (length zones - 0) k (omega arith) (omega (arith, lt))) (ap (λ o. option_map_or (holds n global) o false) h.there ∙ h.holds)
+      filter_in k (holds_at n global zones) (range_with_len 0 (length zones - 0))
+      (in_row 0 (length zones - 0) k (omega arith) (omega (arith, lt)))
+      (ap (λ o. option_map_or (holds n global) o false) h.there ∙ h.holds)
 
   is_held : (h : Held n global zones k) → zone_held n global zones k ≡ Some h.zone
   is_held h = let e = h.there in let t = h.holds in rw (e, t) refl
@@ -68,7 +73,9 @@ module _ (n : Numbers) (global : GlobalZone) (zones : List Zone) (k : ℕ) where
       from (Some y) h = tested y (holds n global y) refl h
 
   held_some : IsSome (zone_held n global zones k) → Held n global zones k
-  held_some h = let z = some_of (zone_held n global zones k) h in let f = held_zone z.0 z.1 in record { zone = z.0; there = f.0; holds = f.1 }
+  held_some h =
+      let z = some_of (zone_held n global zones k) h in
+      let f = held_zone z.0 z.1 in record { zone = z.0; there = f.0; holds = f.1 }
 
 -- ---- zones of an instrument
 
@@ -79,23 +86,37 @@ module _ (n : Numbers) (u : Taken) (l : ℕ) (i : WithZones (List ℕ)) where
   found_inside : IsSome (instrument_zone_chosen n u l i) → IsIn l (held n i.global i.zones 0)
   found_inside = from (zone_held n i.global i.zones l) refl
     where
-      from : (o : Option Zone) → zone_held n i.global i.zones l ≡ o → IsSome (option_map (λ (y : Zone). let c : Chosen = record { instrument_zone = taken i.global y; preset_zone = u; sample = y.target } in c) o) → IsIn l (held n i.global i.zones 0)
+      from : (o : Option Zone) → zone_held n i.global i.zones l ≡ o
+          → IsSome
+          (option_map
+          (λ (y : Zone). let c : Chosen =
+          record { instrument_zone = taken i.global y; preset_zone = u; sample = y.target } in c)
+          o)
+          → IsIn l (held n i.global i.zones 0)
       from None e h = absurd (true≢false (sym h))
       from (Some z) e h = held_in n i.global i.zones l (held_some n i.global i.zones l (ap is_some e))
 
 -- those of the instrument of a preset's zone
 module _ (b : Parts) (n : Numbers) (global : GlobalZone) (l : ℕ) (z : Zone) where
   zone_some : IsIn l (held_inside b n z.target 0) → IsSome (zone_chosen b n global l z)
-  zone_some = elim (slice_get b.instruments z.target) as (λ (o : Option (WithZones (List ℕ))). IsIn l (option_map_or (λ (i : WithZones (List ℕ)). held n i.global i.zones 0) o []) → IsSome (option_and_then (instrument_zone_chosen n (taken global z) l) o)) [
-    | None ↦ λ h. absurd h
-    | Some i ↦ some_inside n (taken global z) l i
-  ]
+  zone_some =
+      elim (slice_get b.instruments z.target) as
+      (λ (o : Option (WithZones (List ℕ))).
+      IsIn l (option_map_or (λ (i : WithZones (List ℕ)). held n i.global i.zones 0) o [])
+      → IsSome (option_and_then (instrument_zone_chosen n (taken global z) l) o)) [
+        | None ↦ λ h. absurd h
+        | Some i ↦ some_inside n (taken global z) l i
+      ]
 
   zone_in : IsSome (zone_chosen b n global l z) → IsIn l (held_inside b n z.target 0)
-  zone_in = elim (slice_get b.instruments z.target) as (λ (o : Option (WithZones (List ℕ))). IsSome (option_and_then (instrument_zone_chosen n (taken global z) l) o) → IsIn l (option_map_or (λ (i : WithZones (List ℕ)). held n i.global i.zones 0) o [])) [
-    | None ↦ λ h. absurd (true≢false (sym h))
-    | Some i ↦ found_inside n (taken global z) l i
-  ]
+  zone_in =
+      elim (slice_get b.instruments z.target) as
+      (λ (o : Option (WithZones (List ℕ))).
+      IsSome (option_and_then (instrument_zone_chosen n (taken global z) l) o)
+      → IsIn l (option_map_or (λ (i : WithZones (List ℕ)). held n i.global i.zones 0) o [])) [
+        | None ↦ λ h. absurd (true≢false (sym h))
+        | Some i ↦ found_inside n (taken global z) l i
+      ]
 
 -- ---- the pairs of a preset
 
@@ -107,14 +128,19 @@ module _ (b : Parts) (n : Numbers) (q : ℕ × ℕ) (p : WithZones Head) where
   preset_some h =
       let g = in_flat_map (pairs_at b n p.zones) q (held n p.global p.zones 0) h in
       let z = in_held n p.global p.zones g.member g.there in
-      let gives : IsIn q (map (paired g.member) (held_inside b n z.zone.target 0)) = subst (λ (o : Option Zone). IsIn q (option_map_or (λ (z : Zone). map (paired g.member) (held_inside b n z.target 0)) o [])) z.there g.gives in
+      let gives : IsIn q (map (paired g.member) (held_inside b n z.zone.target 0)) =
+      subst
+      (λ (o : Option Zone).
+      IsIn q (option_map_or (λ (z : Zone). map (paired g.member) (held_inside b n z.target 0)) o []))
+      z.there g.gives in
       let s = in_map (paired g.member) q (held_inside b n z.zone.target 0) gives in
       let first : g.member ≡ q.0 = ap (λ (q : ℕ × ℕ). q.0) s.sent in
       let second : s.member ≡ q.1 = ap (λ (q : ℕ × ℕ). q.1) s.sent in
       let e = is_held n p.global p.zones g.member z in
       subst (λ (k : ℕ). IsSome (option_and_then (zone_chosen b n p.global q.1) (zone_held n p.global p.zones k))) first
       (subst (λ (o : Option Zone). IsSome (option_and_then (zone_chosen b n p.global q.1) o)) (sym e)
-      (subst (λ (l : ℕ). IsSome (zone_chosen b n p.global l z.zone)) second (zone_some b n p.global s.member z.zone s.there)))
+      (subst (λ (l : ℕ). IsSome (zone_chosen b n p.global l z.zone)) second
+      (zone_some b n p.global s.member z.zone s.there)))
 
   preset_in : IsSome (preset_chosen b n q p) → IsIn q (flat_map (pairs_at b n p.zones) (held n p.global p.zones 0))
   preset_in = from (zone_held n p.global p.zones q.0) refl
@@ -125,8 +151,10 @@ module _ (b : Parts) (n : Numbers) (q : ℕ × ℕ) (p : WithZones Head) where
       from None e h = absurd (true≢false (sym h))
       from (Some z) e h =
           let f = held_zone n p.global p.zones q.0 z e in
-          flat_map_in (pairs_at b n p.zones) q (held n p.global p.zones 0) q.0 (held_in n p.global p.zones q.0 (record { zone = z; there = f.0; holds = f.1 }))
-          (subst (λ (o : Option Zone). IsIn q (option_map_or (λ (z : Zone). map (paired q.0) (held_inside b n z.target 0)) o [])) (sym f.0)
+          flat_map_in (pairs_at b n p.zones) q (held n p.global p.zones 0) q.0
+          (held_in n p.global p.zones q.0 (record { zone = z; there = f.0; holds = f.1 }))
+          (subst (λ (o : Option Zone). IsIn q
+          (option_map_or (λ (z : Zone). map (paired q.0) (held_inside b n z.target 0)) o [])) (sym f.0)
           (map_in (paired q.0) q.1 (held_inside b n z.target 0) (zone_in b n p.global q.1 z h)))
 
 -- ---- of a note
@@ -134,20 +162,33 @@ module _ (b : Parts) (n : Numbers) (q : ℕ × ℕ) (p : WithZones Head) where
 module _ (b : Parts) (n : Numbers) (q : ℕ × ℕ) where
   pairs_some : IsIn q (pairs b n) → IsSome (chosen_by b n q)
   unfolding pairs chosen_by
-  pairs_some = elim (find (is_called n) b.presets) as (λ (o : Option (WithZones Head)). IsIn q (option_map_or (λ (p : WithZones Head). flat_map (pairs_at b n p.zones) (held n p.global p.zones 0)) o []) → IsSome (option_and_then (preset_chosen b n q) o)) [
-    | None ↦ λ h. absurd h
-    | Some p ↦ preset_some b n q p
-  ]
+  pairs_some =
+      elim (find (is_called n) b.presets) as
+      (λ (o : Option (WithZones Head)).
+      IsIn q
+      (option_map_or
+      (λ (p : WithZones Head). flat_map (pairs_at b n p.zones) (held n p.global p.zones 0)) o [])
+      → IsSome (option_and_then (preset_chosen b n q) o)) [
+        | None ↦ λ h. absurd h
+        | Some p ↦ preset_some b n q p
+      ]
 
   pairs_in : IsSome (chosen_by b n q) → IsIn q (pairs b n)
   unfolding pairs chosen_by
-  pairs_in = elim (find (is_called n) b.presets) as (λ (o : Option (WithZones Head)). IsSome (option_and_then (preset_chosen b n q) o) → IsIn q (option_map_or (λ (p : WithZones Head). flat_map (pairs_at b n p.zones) (held n p.global p.zones 0)) o [])) [
-    | None ↦ λ h. absurd (true≢false (sym h))
-    | Some p ↦ preset_in b n q p
-  ]
+  pairs_in =
+      elim (find (is_called n) b.presets) as
+      (λ (o : Option (WithZones Head)).
+      IsSome (option_and_then (preset_chosen b n q) o)
+      → IsIn q
+      (option_map_or
+      (λ (p : WithZones Head). flat_map (pairs_at b n p.zones) (held n p.global p.zones 0)) o [])) [
+        | None ↦ λ h. absurd (true≢false (sym h))
+        | Some p ↦ preset_in b n q p
+      ]
 
 pub pairs_are_chosen : PairsAreChosen
-pairs_are_chosen b n q = (λ c. pairs_some b n q (in_of_contains q (pairs b n) c), λ h. contains_of_in q (pairs b n) (pairs_in b n q h))
+pairs_are_chosen b n q =
+    (λ c. pairs_some b n q (in_of_contains q (pairs b n) c), λ h. contains_of_in q (pairs b n) (pairs_in b n q h))
 
 -- ---- in a valid bank the sample is there
 
@@ -159,7 +200,12 @@ module _ (b : Parts) (n : Numbers) (v : IsValid b) where
       → Named (instrument_zone_chosen n u l i)
   named_inside u l j i e = from (zone_held n i.global i.zones l) refl
     where
-      from : (o : Option Zone) → zone_held n i.global i.zones l ≡ o → Named (option_map (λ (y : Zone). let c : Chosen = record { instrument_zone = taken i.global y; preset_zone = u; sample = y.target } in c) o)
+      from : (o : Option Zone) → zone_held n i.global i.zones l ≡ o
+          → Named
+          (option_map
+          (λ (y : Zone). let c : Chosen =
+          record { instrument_zone = taken i.global y; preset_zone = u; sample = y.target } in c)
+          o)
       from None f c h = cc
       from (Some y) f c h =
           let at = held_zone n i.global i.zones l y f in
@@ -177,21 +223,26 @@ module _ (b : Parts) (n : Numbers) (v : IsValid b) where
       from (Some i) e c h = named_inside (taken global z) l z.target i e c h
 
   preset_named : (q : ℕ × ℕ) (p : WithZones Head) → Named (preset_chosen b n q p)
-  preset_named q p = elim (zone_held n p.global p.zones q.0) as (λ (o : Option Zone). Named (option_and_then (zone_chosen b n p.global q.1) o)) [
-    | None ↦ λ c h. cc
-    | Some z ↦ zone_named p.global q.1 z
-  ]
+  preset_named q p =
+      elim (zone_held n p.global p.zones q.0) as
+      (λ (o : Option Zone). Named (option_and_then (zone_chosen b n p.global q.1) o)) [
+        | None ↦ λ c h. cc
+        | Some z ↦ zone_named p.global q.1 z
+      ]
 
   chosen_named : (q : ℕ × ℕ) → Named (chosen_by b n q)
   unfolding chosen_by
-  chosen_named q = elim (find (is_called n) b.presets) as (λ (o : Option (WithZones Head)). Named (option_and_then (preset_chosen b n q) o)) [
-    | None ↦ λ c h. cc
-    | Some p ↦ preset_named q p
-  ]
+  chosen_named q =
+      elim (find (is_called n) b.presets) as
+      (λ (o : Option (WithZones Head)). Named (option_and_then (preset_chosen b n q) o)) [
+        | None ↦ λ c h. cc
+        | Some p ↦ preset_named q p
+      ]
 
   voiced : (o : Option Chosen) → Named o → IsSome o ↔ IsSome (option_and_then (chosen_voice b n) o)
   voiced None h = (λ s. s, λ s. s)
-  voiced (Some c) h = let s = slice_get-found b.samples c.sample (h c refl) in let e = s.1 in (λ _. rw e refl, λ _. refl)
+  voiced (Some c) h =
+      let s = slice_get-found b.samples c.sample (h c refl) in let e = s.1 in (λ _. rw e refl, λ _. refl)
 
 pub pairs_have_voices : PairsHaveVoices
 pairs_have_voices b n q v =
@@ -209,4 +260,6 @@ module _ {V : Type 0} (b : Parts) (n : Numbers) (q : ℕ × ℕ) where
 -- what is chosen is there
 pub never_lost : (b : Parts) (n : Numbers) (q : ℕ × ℕ) (c : Chosen) → IsValid b → chosen_by b n q ≡ Some c
     → slice_get b.samples c.sample ≡ None → ⊥
-never_lost b n q c v e f = let s = slice_get-found b.samples c.sample (chosen_named b n v q c e) in true≢false (sym (ap is_some s.1) ∙ ap is_some f)
+never_lost b n q c v e f =
+    let s = slice_get-found b.samples c.sample (chosen_named b n v q c e) in
+    true≢false (sym (ap is_some s.1) ∙ ap is_some f)

@@ -1,6 +1,7 @@
 -- A zone with or without a range of its own: all that a voice takes of it is the same, and so is the range on the
 -- other axis.
-use Rattle.std.proofs.Common.{◌≡◌, ◌≢◌, ℕ, ◌<◌, true, false, cond, nat_le, ◌&&◌, Some, None, unwrap_or, refl, sym, ap, ◌∙◌, arith}
+use Rattle.std.proofs.Common.{◌≡◌, ◌≢◌, ℕ, ◌<◌, true, false, cond, nat_le, ◌&&◌, Some, None, unwrap_or, refl, sym}
+use Rattle.std.proofs.Common.{ap, ◌∙◌, arith}
 use Rattle.std.specs.FinMap.{get, insert, remove}
 use Rattle.std.specs.Option.{option_or}
 use Rattle.std.proofs.lemmas.Bool.Decides.{nat_tests}
@@ -37,7 +38,11 @@ setting_at : (global : GlobalZone) (z : Zone) (gens : Gens) (axis : Axis)
     → setting global z op ≡ setting global (record z { gens = gens }) op
 unfolding setting
 setting_at global z gens axis h op =
-    elim (is_range_operator op) as (λ t. is_range_operator op ≡ t → cond t None (option_or (get z.gens op) (get global.gens op)) ≡ cond t None (option_or (get gens op) (get global.gens op))) [
+    elim (is_range_operator op) as
+    (λ t.
+    is_range_operator op ≡ t
+    → cond t None (option_or (get z.gens op) (get global.gens op))
+    ≡ cond t None (option_or (get gens op) (get global.gens op))) [
       | true ↦ λ e. refl
       | false ↦ λ e. ap (λ o. option_or o (get global.gens op)) (sym (h op (no_range axis op e)))
     ] refl
@@ -46,14 +51,18 @@ pub taken-with : (global : GlobalZone) (z : Zone) (axis : Axis) (w : ℕ)
     → taken global z ≡ taken global (with_range axis w z)
 unfolding taken
 taken-with global z axis w =
-    let same = setting_at global z (insert z.gens (range_operator axis) w) axis (λ op n. get-insert_other z.gens (range_operator axis) w op n) in
+    let same =
+    setting_at global z (insert z.gens (range_operator axis) w) axis
+    (λ op n. get-insert_other z.gens (range_operator axis) w op n) in
     λ i. let r : Taken = record { settings = λ op. same op i; mods = z.mods; inherited = global.mods } in r
 
 pub taken-without : (global : GlobalZone) (z : Zone) (axis : Axis)
     → taken global z ≡ taken global (without_range axis z)
 unfolding taken
 taken-without global z axis =
-    let same = setting_at global z (remove z.gens (range_operator axis)) axis (λ op n. get-remove_other z.gens (range_operator axis) op n) in
+    let same =
+    setting_at global z (remove z.gens (range_operator axis)) axis
+    (λ op n. get-remove_other z.gens (range_operator axis) op n) in
     λ i. let r : Taken = record { settings = λ op. same op i; mods = z.mods; inherited = global.mods } in r
 
 -- ---- ranges
@@ -67,11 +76,15 @@ range-without global z axis = ap (λ o. unwrap_or o (inherited_range axis global
 
 pub other-with : (global : GlobalZone) (z : Zone) (axis other : Axis) (w : ℕ)
     → range_operator other ≢ range_operator axis → range_of other global (with_range axis w z) ≡ range_of other global z
-other-with global z axis other w n = ap (λ o. unwrap_or o (inherited_range other global)) (get-insert_other z.gens (range_operator axis) w (range_operator other) n)
+other-with global z axis other w n =
+    ap (λ o. unwrap_or o (inherited_range other global))
+    (get-insert_other z.gens (range_operator axis) w (range_operator other) n)
 
 pub other-without : (global : GlobalZone) (z : Zone) (axis other : Axis) → range_operator other ≢ range_operator axis
     → range_of other global (without_range axis z) ≡ range_of other global z
-other-without global z axis other n = ap (λ o. unwrap_or o (inherited_range other global)) (get-remove_other z.gens (range_operator axis) (range_operator other) n)
+other-without global z axis other n =
+    ap (λ o. unwrap_or o (inherited_range other global))
+    (get-remove_other z.gens (range_operator axis) (range_operator other) n)
 
 pub within_ends : (low high x : ℕ) → low < 256 → within (range_from low high) x ≡ (nat_le low x && nat_le x high)
 within_ends low high x h = λ i. nat_le (low_of_range low high h i) x && nat_le x (high_of_range low high h i)

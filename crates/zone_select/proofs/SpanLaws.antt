@@ -1,5 +1,7 @@
 -- The loop of a voice, and the ranges in which its parameters lie.
-use Rattle.std.proofs.Common.{◌≡◌, ◌≤◌, ◌<◌, ◌/◌, ◌%◌, ◌+◌, ◌*◌, ℕ, ℤ, pos, negsuc, ◌+ℤ◌, ◌≤ℤ◌, Bool, true, false, cond, ◌&&◌, length, Option, Some, None, slice_get, unwrap_or, IfSome, min, max, refl, sym, ap, arith}
+use Rattle.std.proofs.Common.{◌≡◌, ◌≤◌, ◌<◌, ◌/◌, ◌%◌, ◌+◌, ◌*◌, ℕ, ℤ, pos, negsuc, ◌+ℤ◌, ◌≤ℤ◌, Bool, true, false}
+use Rattle.std.proofs.Common.{cond, ◌&&◌, length, Option, Some, None, slice_get, unwrap_or, IfSome, min, max, refl}
+use Rattle.std.proofs.Common.{sym, ap, arith}
 use Rattle.std.specs.Prelude.{int_le, int_lt}
 use Rattle.std.specs.Int.{int_min, int_max}
 use Rattle.std.specs.Option.{option_map, option_and_then, is_some}
@@ -17,7 +19,8 @@ use Rattle.sound_tables.specs.Tables.{step_at, step_of}
 use Rattle.sound_tables.proofs.FloorLaws.{floor_div_is, floor_mod_is}
 use Rattle.sound_tables.proofs.OctaveLaws.{step_case, step_bound}
 use Rattle.zone_select.specs.Taken.{Taken}
-use Rattle.zone_select.specs.Amounts.{cut, start_of, end_of, offset, asks_for_loop, loop_start_of, loop_end_of, is_looped, loop_of, cents_of, parameters_of}
+use Rattle.zone_select.specs.Amounts.{cut, start_of, end_of, offset, asks_for_loop, loop_start_of, loop_end_of}
+use Rattle.zone_select.specs.Amounts.{is_looped, loop_of, cents_of, parameters_of}
 use Rattle.zone_select.specs.Select.{voice_of}
 use Rattle.zone_select.specs.Pairs.{Chosen, chosen_by, chosen_voice, voice_by}
 use Rattle.zone_select.specs.Playable.{IsPlayable}
@@ -39,14 +42,18 @@ not_asked v u s e = rw e refl
 
 -- both ends, if they are in order and lie in what is played
 abbrev pub ends_within : ℤ → ℤ → ℕ → ℕ → Option (ℕ × ℕ)
-ends_within first after start end = cond (int_le (pos start) first && int_lt first after && int_le after (pos end)) (Some (above_zero first, above_zero after)) None
+ends_within first after start end =
+    cond (int_le (pos start) first && int_lt first after && int_le after (pos end))
+    (Some (above_zero first, above_zero after)) None
 
 pub loop_is : (v u : Taken) (s : Sample) (l : ℕ × ℕ) → s.looped ≡ Some l → asks_for_loop v u ≡ true
-    → ends_within (pos l.0 +ℤ offset v u 2 45) (pos l.1 +ℤ offset v u 3 50) (start_of v u s) (end_of v u s) ≡ loop_of v u s
+    → ends_within (pos l.0 +ℤ offset v u 2 45) (pos l.1 +ℤ offset v u 3 50) (start_of v u s) (end_of v u s)
+    ≡ loop_of v u s
 unfolding loop_of is_looped
 loop_is v u s l e m = rw (e, m) refl
 
-pub loop_by : (v u : Taken) (s : Sample) (l : ℕ × ℕ) (x y : ℤ) (start end : ℕ) → s.looped ≡ Some l → asks_for_loop v u ≡ true → x ≡ pos l.0 +ℤ offset v u 2 45 → y ≡ pos l.1 +ℤ offset v u 3 50
+pub loop_by : (v u : Taken) (s : Sample) (l : ℕ × ℕ) (x y : ℤ) (start end : ℕ) → s.looped ≡ Some l
+    → asks_for_loop v u ≡ true → x ≡ pos l.0 +ℤ offset v u 2 45 → y ≡ pos l.1 +ℤ offset v u 3 50
     → start ≡ start_of v u s → end ≡ end_of v u s → ends_within x y start end ≡ loop_of v u s
 loop_by v u s l x y start end e m p q f g = rw (p, q, f, g) (loop_is v u s l e m)
 
@@ -66,11 +73,13 @@ pub loop_there : (v u : Taken) (s : Sample) → is_some (loop_of v u s) ≡ is_l
 unfolding loop_of
 loop_there v u s = some_if (is_looped v u s) _
 
-pub loop_start_is : (v u : Taken) (s : Sample) → (unwrap_or (loop_of v u s) (0, 0)).0 ≡ cond (is_looped v u s) (above_zero (loop_start_of v u s)) 0
+pub loop_start_is : (v u : Taken) (s : Sample)
+    → (unwrap_or (loop_of v u s) (0, 0)).0 ≡ cond (is_looped v u s) (above_zero (loop_start_of v u s)) 0
 unfolding loop_of
 loop_start_is v u s = first_if (is_looped v u s) _ _
 
-pub loop_end_is : (v u : Taken) (s : Sample) → (unwrap_or (loop_of v u s) (0, 0)).1 ≡ cond (is_looped v u s) (above_zero (loop_end_of v u s)) 0
+pub loop_end_is : (v u : Taken) (s : Sample)
+    → (unwrap_or (loop_of v u s) (0, 0)).1 ≡ cond (is_looped v u s) (above_zero (loop_end_of v u s)) 0
 unfolding loop_of
 loop_end_is v u s = second_if (is_looped v u s) _ _
 
@@ -87,12 +96,15 @@ both : (a b : Bool) → (a && b) ≡ true → (a ≡ true) × (b ≡ true)
 both true b h = (refl, h)
 both false b h = absurd (false≢true h)
 
-in_order : (start end : ℕ) (p q : ℤ) → int_le (pos start) p ≡ true → int_lt p q ≡ true → int_le q (pos end) ≡ true → (above_zero p < above_zero q) × (above_zero q ≤ end)
+in_order : (start end : ℕ) (p q : ℤ) → int_le (pos start) p ≡ true → int_lt p q ≡ true → int_le q (pos end) ≡ true
+    → (above_zero p < above_zero q) × (above_zero q ≤ end)
 in_order start end (pos a) (pos b) e f g = (ltb-true a b f, leb-true b end g)
 in_order start end (pos a) (negsuc b) e f g = absurd (false≢true f)
 in_order start end (negsuc a) q e f g = absurd (false≢true e)
 
-loop_lies : (v u : Taken) (s : Sample) → is_looped v u s ≡ true → (above_zero (loop_start_of v u s) < above_zero (loop_end_of v u s)) × (above_zero (loop_end_of v u s) ≤ end_of v u s)
+loop_lies : (v u : Taken) (s : Sample) → is_looped v u s ≡ true
+    → (above_zero (loop_start_of v u s) < above_zero (loop_end_of v u s))
+    × (above_zero (loop_end_of v u s) ≤ end_of v u s)
 unfolding is_looped
 loop_lies v u s e =
     let last = both _ _ e in
@@ -101,7 +113,9 @@ loop_lies v u s e =
     in_order (start_of v u s) (end_of v u s) (loop_start_of v u s) (loop_end_of v u s) first.1 middle.1 last.1
 
 step_most : (cents : ℤ) (rate : ℕ) → step_of cents rate ≤ 73043661
-step_most cents rate = at (int_min (int_max cents (negsuc 14399)) (pos 9600)) (min (max rate 400) 192000) (omega (arith, ints, clamps)) (omega (arith, ints, clamps)) (omega arith)
+step_most cents rate =
+    at (int_min (int_max cents (negsuc 14399)) (pos 9600)) (min (max rate 400) 192000) (omega (arith, ints, clamps))
+    (omega (arith, ints, clamps)) (omega arith)
   where
     at : (x : ℤ) (r : ℕ) → negsuc 14399 ≤ℤ x → x ≤ℤ pos 9600 → r ≤ 192000 → step_at x r ≤ 73043661
     at x r low high h =
@@ -110,7 +124,9 @@ step_most cents rate = at (int_min (int_max cents (negsuc 14399)) (pos 9600)) (m
         let few : up.0 ≤ 24000 = omega (arith, ints, is, high) in
         let d : up.0 / 1200 * 1200 + up.0 % 1200 ≡ up.0 = div-add-mod' up.0 1200 in
         let m : up.0 % 1200 < 1200 = mod_below up.0 1200 (omega arith) in
-        let e = step_case x (up.0 / 1200) (up.0 % 1200) r (floor_div_is x 12 1200 up.0 (omega arith) is) (sym (floor_mod_is x 12 1200 up.0 (omega arith) is)) in
+        let e =
+        step_case x (up.0 / 1200) (up.0 % 1200) r (floor_div_is x 12 1200 up.0 (omega arith) is)
+        (sym (floor_mod_is x 12 1200 up.0 (omega arith) is)) in
         let b = step_bound (up.0 / 1200) (up.0 % 1200) r (omega (arith, d, few)) m h in
         rw e b
 
@@ -125,22 +141,31 @@ playable n v u s = record {
   right = omega (arith, ints, clamps);
 }
 
-pub voices_playable : (b : Parts) (n : Numbers) (q : ℕ × ℕ) → IfSome (voice_by b n q) (λ v. IsPlayable (length v.points) v.parameters)
+pub voices_playable : (b : Parts) (n : Numbers) (q : ℕ × ℕ)
+    → IfSome (voice_by b n q) (λ v. IsPlayable (length v.points) v.parameters)
 unfolding voice_of
 voices_playable b n q =
-    elim (chosen_by b n q) as (λ (o : Option Chosen). IfSome (option_and_then (chosen_voice b n) o) (λ v. IsPlayable (length v.points) v.parameters)) [
+    elim (chosen_by b n q) as
+    (λ (o : Option Chosen).
+    IfSome (option_and_then (chosen_voice b n) o) (λ v. IsPlayable (length v.points) v.parameters)) [
       | None ↦ tt
-      | Some c ↦ elim (slice_get b.samples c.sample) as (λ (o : Option Sample). IfSome (option_map (voice_of n c.instrument_zone c.preset_zone) o) (λ v. IsPlayable (length v.points) v.parameters)) [ None ↦ tt | Some s ↦ playable n c.instrument_zone c.preset_zone s ]
+      | Some c ↦ elim (slice_get b.samples c.sample) as
+          (λ (o : Option Sample).
+          IfSome (option_map (voice_of n c.instrument_zone c.preset_zone) o)
+          (λ v. IsPlayable (length v.points) v.parameters))
+          [ None ↦ tt | Some s ↦ playable n c.instrument_zone c.preset_zone s ]
     ]
 
-pub parameters_by : (b : Parts) (n : Numbers) (q : ℕ × ℕ) (c : Chosen) (s : Sample) → chosen_by b n q ≡ Some c → slice_get b.samples c.sample ≡ Some s
+pub parameters_by : (b : Parts) (n : Numbers) (q : ℕ × ℕ) (c : Chosen) (s : Sample) → chosen_by b n q ≡ Some c
+    → slice_get b.samples c.sample ≡ Some s
     → Some (parameters_of n c.instrument_zone c.preset_zone s) ≡ option_map (λ v. v.parameters) (voice_by b n q)
 unfolding voice_of
 parameters_by b n q c s e f = rw (e, f) refl
 
 -- ---- a sample's points
 
-pub points_few : (b : Parts) (k : ℕ) (s : Sample) → IsSound b → slice_get b.samples k ≡ Some s → length s.points < 4294967296
+pub points_few : (b : Parts) (k : ℕ) (s : Sample) → IsSound b → slice_get b.samples k ≡ Some s
+    → length s.points < 4294967296
 points_few b k s sound e =
     let h = get_or-le-sum_by (λ (x : Sample). length x.points + 46) b.samples k s (slice_get_within b.samples k s e) in
     let same = ap (λ (x : Sample). length x.points + 46) (get_or_from_slice_get b.samples k s s e) in

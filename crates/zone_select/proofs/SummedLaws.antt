@@ -1,5 +1,6 @@
 -- The sources of linear modulators.
-use Rattle.std.proofs.Common.{◌≡◌, ◌<◌, ◌⊎◌, inl, inr, ℕ, zero, suc, ◌+◌, ◌*◌, ◌/◌, ◌==◌, List, true, refl, rules, arith}
+use Rattle.std.proofs.Common.{◌≡◌, ◌<◌, ◌⊎◌, inl, inr, ℕ, zero, suc, ◌+◌, ◌*◌, ◌/◌, ◌==◌, List, true, refl, rules}
+use Rattle.std.proofs.Common.{arith}
 use Rattle.std.specs.List.{Contains, IsDistinct, list_any}
 use Rattle.std.proofs.lemmas.Bool.Decides.{Decides-eqb}
 use Rattle.std.proofs.lemmas.Map.Views.{Contains-from_any}
@@ -32,9 +33,12 @@ bits_few : (source : ℕ) → curve_of source ≡ 0 → source / 128 / 2 < 4
 bits_few source c = omega (arith, c)
 
 pub source_summed : (m : Modulator) → IsLinear m → Contains linear_sources m.source
-source_summed m h = rw (by_bits m.source h.straight h.general) (of_index (m.source / 128 / 2) (index_of m.source) (bits_few m.source h.straight) h.controller)
+source_summed m h =
+    rw (by_bits m.source h.straight h.general)
+    (of_index (m.source / 128 / 2) (index_of m.source) (bits_few m.source h.straight) h.controller)
 
-pub linear_summed : (m : Modulator) → IsLinear m → Contains linear_sources m.source × SameIdentity m (linear_from m.source m.dest)
+pub linear_summed : (m : Modulator) → IsLinear m
+    → Contains linear_sources m.source × SameIdentity m (linear_from m.source m.dest)
 linear_summed m h = (source_summed m h, record { source = refl; dest = refl; amount_source = h.alone })
 
 -- ---- the other way round
@@ -44,7 +48,8 @@ record IsSource (source : ℕ) : Type 0 where
   controller : (index_of source ≡ velocity_index) ⊎ (index_of source ≡ key_index)
   straight : curve_of source ≡ 0
 
-by_velocity : (source n : ℕ) → n ≡ source → flag_of n ≡ 0 → index_of n ≡ velocity_index → curve_of n ≡ 0 → IsSource source
+by_velocity : (source n : ℕ) → n ≡ source → flag_of n ≡ 0 → index_of n ≡ velocity_index → curve_of n ≡ 0
+    → IsSource source
 by_velocity source n e f i c = rw (← e) (record { general = f; controller = inl i; straight = c })
 
 by_key : (source n : ℕ) → n ≡ source → flag_of n ≡ 0 → index_of n ≡ key_index → curve_of n ≡ 0 → IsSource source
@@ -61,7 +66,8 @@ is_source source (suc (suc (suc (suc (suc (suc zero))))), l, e) = by_velocity so
 is_source source (suc (suc (suc (suc (suc (suc (suc zero)))))), l, e) = by_key source 771 e refl refl refl
 is_source source (suc (suc (suc (suc (suc (suc (suc (suc k))))))), l, e) = absurd (omega (arith, l))
 
-pub summed_linear : (source op : ℕ) → Contains linear_sources source → Contains moved_generators op → IsLinear (linear_from source op)
+pub summed_linear : (source op : ℕ) → Contains linear_sources source → Contains moved_generators op
+    → IsLinear (linear_from source op)
 summed_linear source op s o =
     let i = is_source source s in
     record { general = i.general; controller = i.controller; straight = i.straight; alone = refl; moves = o }

@@ -1,5 +1,7 @@
 -- Zones by what a bank tells of them.
-use Rattle.std.proofs.Common.{◌≡◌, ◌≤◌, ◌<◌, ◌⊎◌, inl, inr, get_or, ◌&&◌, ◌↔◌, IsTrue, nat_le, Fits, w32, ℕ, ◌+◌, Bool, true, false, List, [], ◌∷◌, length, Option, Some, None, IsSomeAnd, slice_get, unwrap_or, refl, sym, ap, ◌∙◌, arith}
+use Rattle.std.proofs.Common.{◌≡◌, ◌≤◌, ◌<◌, ◌⊎◌, inl, inr, get_or, ◌&&◌, ◌↔◌, IsTrue, nat_le, Fits, w32, ℕ, ◌+◌}
+use Rattle.std.proofs.Common.{Bool, true, false, List, [], ◌∷◌, length, Option, Some, None, IsSomeAnd, slice_get}
+use Rattle.std.proofs.Common.{unwrap_or, refl, sym, ap, ◌∙◌, arith}
 use Rattle.std.specs.Option.{option_map_or, option_map}
 use Rattle.std.proofs.lemmas.Bool.{leb-true, leb-false}
 use Rattle.std.proofs.lemmas.Option.{get_or_from_slice_get, slice_get_within, slice_get_cases}
@@ -24,29 +26,37 @@ use Rattle.zone_select.proofs.NumberLaws.{numbers, numbers_end, numbers_hit, num
 
 -- ---- an owner has no more zones than all of its level together
 
-few_in : {H : Type 0} (owners : List (WithZones H)) (i : ℕ) (o : Option (WithZones H)) → slice_get owners i ≡ o → option_map_or (λ (x : WithZones H). length x.zones) o 0 ≤ owner_total zone_count owners
+few_in : {H : Type 0} (owners : List (WithZones H)) (i : ℕ) (o : Option (WithZones H)) → slice_get owners i ≡ o
+    → option_map_or (λ (x : WithZones H). length x.zones) o 0 ≤ owner_total zone_count owners
 few_in owners i None e = omega arith
 few_in {H} owners i (Some x) e =
-    let h = get_or-le-sum_by (λ (y : WithZones H). zone_count y.global y.zones) owners i x (slice_get_within owners i x e) in
+    let h =
+    get_or-le-sum_by (λ (y : WithZones H). zone_count y.global y.zones) owners i x
+    (slice_get_within owners i x e) in
     let same = ap (λ (y : WithZones H). zone_count y.global y.zones) (get_or_from_slice_get owners i x x e) in
     omega (arith, h, same)
 
-zones_of_preset : (b : Parts) (p : ℕ) (o : Option (WithZones Head)) → slice_get b.presets p ≡ o → zones_in b (owner.Preset p) ≡ option_map_or (λ (x : WithZones Head). length x.zones) o 0
+zones_of_preset : (b : Parts) (p : ℕ) (o : Option (WithZones Head)) → slice_get b.presets p ≡ o
+    → zones_in b (owner.Preset p) ≡ option_map_or (λ (x : WithZones Head). length x.zones) o 0
 zones_of_preset b p None e = rw e refl
 zones_of_preset b p (Some x) e = rw e refl
 
-zones_of_instrument : (b : Parts) (i : ℕ) (o : Option (WithZones (List ℕ))) → slice_get b.instruments i ≡ o → zones_in b (owner.Instrument i) ≡ option_map_or (λ (x : WithZones (List ℕ)). length x.zones) o 0
+zones_of_instrument : (b : Parts) (i : ℕ) (o : Option (WithZones (List ℕ))) → slice_get b.instruments i ≡ o
+    → zones_in b (owner.Instrument i) ≡ option_map_or (λ (x : WithZones (List ℕ)). length x.zones) o 0
 zones_of_instrument b i None e = rw e refl
 zones_of_instrument b i (Some x) e = rw e refl
 
 pub zones_few : (b : Parts) (o : Owner) → IsWithin b → zones_in b o ≤ 65535
 zones_few b (owner.Preset p) w =
-    let h = few_in b.presets p _ refl in let s = zones_of_preset b p _ refl in let most = w.preset_zones in omega (arith, h, s, most)
+    let h = few_in b.presets p _ refl in
+    let s = zones_of_preset b p _ refl in let most = w.preset_zones in omega (arith, h, s, most)
 zones_few b (owner.Instrument i) w =
-    let h = few_in b.instruments i _ refl in let s = zones_of_instrument b i _ refl in let most = w.instrument_zones in omega (arith, h, s, most)
+    let h = few_in b.instruments i _ refl in
+    let s = zones_of_instrument b i _ refl in let most = w.instrument_zones in omega (arith, h, s, most)
 
 pub zone_count_few : (b : Parts) (o : Owner) (n : ℕ) → IsSound b → own_zone_count b o ≡ Some n → n ≤ 65535
-zone_count_few b o n s e = let h = zones_few b o s.valid.limits in let same : zones_in b o ≡ n = rw e refl in omega (arith, h, same)
+zone_count_few b o n s e =
+    let h = zones_few b o s.valid.limits in let same : zones_in b o ≡ n = rw e refl in omega (arith, h, same)
 
 pub fits_field : (n : ℕ) → n ≤ 65535 → Fits w32 n
 fits_field n h = omega (arith, h)
@@ -64,30 +74,56 @@ pub record ZoneTold (b : Parts) (n : Numbers) (o : Owner) (k : ℕ) : Type 0 whe
 there : (zones : List Zone) (k : ℕ) → k < length zones → (z : Zone) × (slice_get zones k ≡ Some z)
 there zones k h = from (slice_get_cases zones k).1
   where
-    from : ((x : Zone) × (k < length zones) × (slice_get zones k ≡ Some x) × (get_or zones k x ≡ x)) ⊎ ((length zones ≤ k) × (slice_get zones k ≡ None)) → (z : Zone) × (slice_get zones k ≡ Some z)
+    from : ((x : Zone) × (k < length zones) × (slice_get zones k ≡ Some x) × (get_or zones k x ≡ x))
+        ⊎ ((length zones ≤ k) × (slice_get zones k ≡ None))
+        → (z : Zone) × (slice_get zones k ≡ Some z)
     from (inl r) = (r.0, r.2)
     from (inr r) = absurd (let past = r.0 in omega (arith, h, past))
 
-in_presets : (b : Parts) (n : Numbers) (p k : ℕ) (o : Option (WithZones Head)) → slice_get b.presets p ≡ o → k < option_map_or (λ (x : WithZones Head). length x.zones) o 0 → ZoneTold b n (owner.Preset p) k
+in_presets : (b : Parts) (n : Numbers) (p k : ℕ) (o : Option (WithZones Head)) → slice_get b.presets p ≡ o
+    → k < option_map_or (λ (x : WithZones Head). length x.zones) o 0 → ZoneTold b n (owner.Preset p) k
 unfolding holds
 in_presets b n p k None e h = absurd (omega (arith, h))
 in_presets b n p k (Some x) e h =
     let z = there x.zones k h in
-    record { key = range_of Key x.global z.0; velocity = range_of Velocity x.global z.0; key_range = rw (e, z.1) refl; velocity_range = rw (e, z.1) refl; holds = rw (e, z.1) refl }
+    record {
+      key =
+          range_of Key x.global z.0;
+      velocity =
+          range_of Velocity x.global z.0;
+      key_range =
+          rw (e, z.1) refl;
+      velocity_range = rw (e, z.1) refl;
+      holds = rw (e, z.1) refl;
+    }
 
-in_instruments : (b : Parts) (n : Numbers) (i k : ℕ) (o : Option (WithZones (List ℕ))) → slice_get b.instruments i ≡ o → k < option_map_or (λ (x : WithZones (List ℕ)). length x.zones) o 0 → ZoneTold b n (owner.Instrument i) k
+in_instruments : (b : Parts) (n : Numbers) (i k : ℕ) (o : Option (WithZones (List ℕ)))
+    → slice_get b.instruments i ≡ o → k < option_map_or (λ (x : WithZones (List ℕ)). length x.zones) o 0
+    → ZoneTold b n (owner.Instrument i) k
 unfolding holds
 in_instruments b n i k None e h = absurd (omega (arith, h))
 in_instruments b n i k (Some x) e h =
     let z = there x.zones k h in
-    record { key = range_of Key x.global z.0; velocity = range_of Velocity x.global z.0; key_range = rw (e, z.1) refl; velocity_range = rw (e, z.1) refl; holds = rw (e, z.1) refl }
+    record {
+      key =
+          range_of Key x.global z.0;
+      velocity =
+          range_of Velocity x.global z.0;
+      key_range =
+          rw (e, z.1) refl;
+      velocity_range = rw (e, z.1) refl;
+      holds = rw (e, z.1) refl;
+    }
 
 pub zone_told : (b : Parts) (n : Numbers) (o : Owner) (k : ℕ) → k < zones_in b o → ZoneTold b n o k
-zone_told b n (owner.Preset p) k h = let s = zones_of_preset b p _ refl in in_presets b n p k _ refl (omega (arith, h, s))
-zone_told b n (owner.Instrument i) k h = let s = zones_of_instrument b i _ refl in in_instruments b n i k _ refl (omega (arith, h, s))
+zone_told b n (owner.Preset p) k h =
+    let s = zones_of_preset b p _ refl in in_presets b n p k _ refl (omega (arith, h, s))
+zone_told b n (owner.Instrument i) k h =
+    let s = zones_of_instrument b i _ refl in in_instruments b n i k _ refl (omega (arith, h, s))
 
 -- a range by its ends
-both_ends : (r : Bool) (low high range x : ℕ) → low_end range ≡ low → high_end range ≡ high → (IsTrue r ↔ ((low ≤ x) × (x ≤ high))) → r ≡ within range x
+both_ends : (r : Bool) (low high range x : ℕ) → low_end range ≡ low → high_end range ≡ high
+    → (IsTrue r ↔ ((low ≤ x) × (x ≤ high))) → r ≡ within range x
 both_ends r low high range x l h e = rw (l, h) (from r (nat_le low x) (nat_le x high) refl refl e)
   where
     from : (r s t : Bool) → nat_le low x ≡ s → nat_le x high ≡ t → (IsTrue r ↔ ((low ≤ x) × (x ≤ high))) → r ≡ (s && t)
@@ -101,14 +137,19 @@ both_ends r low high range x l h e = rw (l, h) (from r (nat_le low x) (nat_le x 
 same_some : {x y : ℕ} → Some x ≡ Some y → x ≡ y
 same_some e = cc
 
-pub contains_is : (r : Bool) (low high range x : ℕ) (o : Option ℕ) → o ≡ Some range → option_map low_end o ≡ Some low → option_map high_end o ≡ Some high
+pub contains_is : (r : Bool) (low high range x : ℕ) (o : Option ℕ) → o ≡ Some range → option_map low_end o ≡ Some low
+    → option_map high_end o ≡ Some high
     → (IsTrue r ↔ ((low ≤ x) × (x ≤ high))) → r ≡ within range x
-contains_is r low high range x o is l h e = both_ends r low high range x (same_some (sym (ap (option_map low_end) is) ∙ l)) (same_some (sym (ap (option_map high_end) is) ∙ h)) e
+contains_is r low high range x o is l h e =
+    both_ends r low high range x (same_some (sym (ap (option_map low_end) is) ∙ l))
+    (same_some (sym (ap (option_map high_end) is) ∙ h)) e
 
-pub both_hold : (b : Parts) (n : Numbers) (o : Owner) (k : ℕ) (q r : Bool) (t : ZoneTold b n o k) → q ≡ within t.key n.key → q ≡ true → r ≡ within t.velocity n.velocity → r ≡ owner_holds b n o k
+pub both_hold : (b : Parts) (n : Numbers) (o : Owner) (k : ℕ) (q r : Bool) (t : ZoneTold b n o k)
+    → q ≡ within t.key n.key → q ≡ true → r ≡ within t.velocity n.velocity → r ≡ owner_holds b n o k
 both_hold b n o k q r t e f g = g ∙ ap (λ (x : Bool). x && within t.velocity n.velocity) (sym f ∙ e) ∙ sym t.holds
 
-pub first_fails : (b : Parts) (n : Numbers) (o : Owner) (k : ℕ) (q : Bool) (t : ZoneTold b n o k) → q ≡ within t.key n.key → q ≡ false → q ≡ owner_holds b n o k
+pub first_fails : (b : Parts) (n : Numbers) (o : Owner) (k : ℕ) (q : Bool) (t : ZoneTold b n o k)
+    → q ≡ within t.key n.key → q ≡ false → q ≡ owner_holds b n o k
 first_fails b n o k q t e f = f ∙ ap (λ (x : Bool). x && within t.velocity n.velocity) (sym f ∙ e) ∙ sym t.holds
 
 pub counted : (o : Option ℕ) (k : ℕ) → k < unwrap_or o 0 → IsSomeAnd o (λ count. k < count)
@@ -117,29 +158,46 @@ counted (Some n) k h = h
 
 -- ---- the numbers of the zones that hold it
 
-held_of_preset : (b : Parts) (n : Numbers) (p k : ℕ) → owner_held b n (owner.Preset p) k ≡ numbers (owner_holds b n (owner.Preset p)) k (zones_in b (owner.Preset p))
+held_of_preset : (b : Parts) (n : Numbers) (p k : ℕ)
+    → owner_held b n (owner.Preset p) k ≡ numbers (owner_holds b n (owner.Preset p)) k (zones_in b (owner.Preset p))
 held_of_preset b n p k =
-    elim (slice_get b.presets p) as (λ (o : Option (WithZones Head)). option_map_or (λ (x : WithZones Head). held n x.global x.zones k) o [] ≡ numbers (λ j. option_map_or (λ (x : WithZones Head). holds_at n x.global x.zones j) o false) k (unwrap_or (option_map (λ (x : WithZones Head). length x.zones) o) 0)) [
+    elim (slice_get b.presets p) as
+    (λ (o : Option (WithZones Head)).
+    option_map_or (λ (x : WithZones Head). held n x.global x.zones k) o []
+    ≡ numbers (λ j. option_map_or (λ (x : WithZones Head). holds_at n x.global x.zones j) o false) k
+    (unwrap_or (option_map (λ (x : WithZones Head). length x.zones) o) 0)) [
       | None ↦ sym (numbers_end (λ _. false) k 0 (omega arith))
       | Some x ↦ refl
     ]
 
-held_of_instrument : (b : Parts) (n : Numbers) (i k : ℕ) → owner_held b n (owner.Instrument i) k ≡ numbers (owner_holds b n (owner.Instrument i)) k (zones_in b (owner.Instrument i))
+held_of_instrument : (b : Parts) (n : Numbers) (i k : ℕ)
+    → owner_held b n (owner.Instrument i) k
+    ≡ numbers (owner_holds b n (owner.Instrument i)) k (zones_in b (owner.Instrument i))
 held_of_instrument b n i k =
-    elim (slice_get b.instruments i) as (λ (o : Option (WithZones (List ℕ))). option_map_or (λ (x : WithZones (List ℕ)). held n x.global x.zones k) o [] ≡ numbers (λ j. option_map_or (λ (x : WithZones (List ℕ)). holds_at n x.global x.zones j) o false) k (unwrap_or (option_map (λ (x : WithZones (List ℕ)). length x.zones) o) 0)) [
+    elim (slice_get b.instruments i) as
+    (λ (o : Option (WithZones (List ℕ))).
+    option_map_or (λ (x : WithZones (List ℕ)). held n x.global x.zones k) o []
+    ≡ numbers (λ j. option_map_or (λ (x : WithZones (List ℕ)). holds_at n x.global x.zones j) o false) k
+    (unwrap_or (option_map (λ (x : WithZones (List ℕ)). length x.zones) o) 0)) [
       | None ↦ sym (numbers_end (λ _. false) k 0 (omega arith))
       | Some x ↦ refl
     ]
 
-held_is : (b : Parts) (n : Numbers) (o : Owner) (k : ℕ) → owner_held b n o k ≡ numbers (owner_holds b n o) k (zones_in b o)
+held_is : (b : Parts) (n : Numbers) (o : Owner) (k : ℕ)
+    → owner_held b n o k ≡ numbers (owner_holds b n o) k (zones_in b o)
 held_is b n (owner.Preset p) k = held_of_preset b n p k
 held_is b n (owner.Instrument i) k = held_of_instrument b n i k
 
 pub held_end : (b : Parts) (n : Numbers) (o : Owner) (k : ℕ) → zones_in b o ≤ k → owner_held b n o k ≡ []
 held_end b n o k h = held_is b n o k ∙ numbers_end (owner_holds b n o) k (zones_in b o) h
 
-pub held_hit : (b : Parts) (n : Numbers) (o : Owner) (k : ℕ) → k < zones_in b o → owner_holds b n o k ≡ true → owner_held b n o k ≡ k ∷ owner_held b n o (k + 1)
-held_hit b n o k h t = held_is b n o k ∙ numbers_hit (owner_holds b n o) k (zones_in b o) h t ∙ ap (λ (ks : List ℕ). k ∷ ks) (sym (held_is b n o (k + 1)))
+pub held_hit : (b : Parts) (n : Numbers) (o : Owner) (k : ℕ) → k < zones_in b o → owner_holds b n o k ≡ true
+    → owner_held b n o k ≡ k ∷ owner_held b n o (k + 1)
+held_hit b n o k h t =
+    held_is b n o k ∙ numbers_hit (owner_holds b n o) k (zones_in b o) h t
+    ∙ ap (λ (ks : List ℕ). k ∷ ks) (sym (held_is b n o (k + 1)))
 
-pub held_miss : (b : Parts) (n : Numbers) (o : Owner) (k : ℕ) → k < zones_in b o → owner_holds b n o k ≡ false → owner_held b n o k ≡ owner_held b n o (k + 1)
-held_miss b n o k h t = held_is b n o k ∙ numbers_miss (owner_holds b n o) k (zones_in b o) h t ∙ sym (held_is b n o (k + 1))
+pub held_miss : (b : Parts) (n : Numbers) (o : Owner) (k : ℕ) → k < zones_in b o → owner_holds b n o k ≡ false
+    → owner_held b n o k ≡ owner_held b n o (k + 1)
+held_miss b n o k h t =
+    held_is b n o k ∙ numbers_miss (owner_holds b n o) k (zones_in b o) h t ∙ sym (held_is b n o (k + 1))

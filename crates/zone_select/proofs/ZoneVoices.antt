@@ -1,6 +1,7 @@
 -- The voices of the zones of a preset or an instrument: by targets that give the same, by zones in another order, and
 -- by two zones in the place of one.
-use Rattle.std.proofs.Common.{◌≡◌, ℕ, ◌+◌, ◌<◌, Bool, true, false, cond, Option, Some, None, List, [], ◌∷◌, map, slice_get, refl, subst}
+use Rattle.std.proofs.Common.{◌≡◌, ℕ, ◌+◌, ◌<◌, Bool, true, false, cond, Option, Some, None, List, [], ◌∷◌, map}
+use Rattle.std.proofs.Common.{slice_get, refl, subst}
 use Rattle.std.specs.List.{flat_map}
 use Rattle.std.specs.List.Sorted.{IsPermutation}
 use Rattle.std.specs.Option.{option_map_or}
@@ -33,13 +34,15 @@ given_same true xs ys h = h
 given_same false xs ys h = IsPermutation-refl []
 
 -- each target has a new number, which gives the same
-pub voices_of-renumbered : (inside other : Inside) (n : Numbers) (global : GlobalZone) (by : Renumbering) (zones : List Zone)
+pub voices_of-renumbered : (inside other : Inside) (n : Numbers) (global : GlobalZone) (by : Renumbering)
+    (zones : List Zone)
     → OfTargets (λ t. (v : Taken) → IsPermutation (inside v t) (other v (renumbered by t))) zones
     → IsPermutation (voices_of inside n global zones) (voices_of other n global (map (zone_renumbered by) zones))
 unfolding voices_of holds taken setting
 voices_of-renumbered inside other n global by [] h = IsPermutation-refl []
 voices_of-renumbered inside other n global by (z ∷ zones) h =
-    IsPermutation-append _ _ _ _ (given_same (holds n global z) _ _ (h.0 (taken global z))) (voices_of-renumbered inside other n global by zones h.1)
+    IsPermutation-append _ _ _ _ (given_same (holds n global z) _ _ (h.0 (taken global z)))
+    (voices_of-renumbered inside other n global by zones h.1)
 
 -- each target gives the same
 pub voices_of-same : (inside other : Inside) → ((v : Taken) (t : ℕ) → IsPermutation (inside v t) (other v t))
@@ -48,48 +51,69 @@ pub voices_of-same : (inside other : Inside) → ((v : Taken) (t : ℕ) → IsPe
 unfolding voices_of
 voices_of-same inside other h n global [] = IsPermutation-refl []
 voices_of-same inside other h n global (z ∷ zones) =
-    IsPermutation-append _ _ _ _ (given_same (holds n global z) _ _ (h (taken global z) z.target)) (voices_of-same inside other h n global zones)
+    IsPermutation-append _ _ _ _ (given_same (holds n global z) _ _ (h (taken global z) z.target))
+    (voices_of-same inside other h n global zones)
 
 -- ---- zones moved, split and joined
 
 pub voices_of-moved : (inside : Inside) (n : Numbers) (global : GlobalZone) (zones : List Zone) (i j : ℕ)
     → IsPermutation (voices_of inside n global zones) (voices_of inside n global (moved zones i j))
 unfolding voices_of
-voices_of-moved inside n global zones i j = flat_map-moved (λ (z : Zone). cond (holds n global z) (inside (taken global z) z.target) []) zones i j
+voices_of-moved inside n global zones i j =
+    flat_map-moved (λ (z : Zone). cond (holds n global z) (inside (taken global z) z.target) []) zones i j
 
 -- zone k can be split, if it is there
 abbrev pub CanSplit : Axis → ℕ → GlobalZone → List Zone → ℕ → Type 0
 CanSplit axis m global zones k = (z : Zone) → slice_get zones k ≡ Some z → IsSplitAt axis m global z
 
-pub voices_of-split : (inside : Inside) (n : Numbers) (axis : Axis) (m : ℕ) (global : GlobalZone) (zones : List Zone) (k : ℕ)
+pub voices_of-split : (inside : Inside) (n : Numbers) (axis : Axis) (m : ℕ) (global : GlobalZone) (zones : List Zone)
+    (k : ℕ)
     → m < 256 → CanSplit axis m global zones k
     → IsPermutation (voices_of inside n global zones) (voices_of inside n global (zones_split axis m global zones k))
 unfolding voices_of
 voices_of-split inside n axis m global zones k small h =
     let give : Zone → List Voice = λ z. cond (holds n global z) (inside (taken global z) z.target) [] in
     let at : (o : Option Zone) → slice_get zones k ≡ o
-    → flat_map give zones ≡ flat_map give (option_map_or (λ (z : Zone). parted zones k (lower_part axis m global z) (upper_part axis m global z)) o zones) = elim [
+    → flat_map give zones
+    ≡ flat_map give
+    (option_map_or (λ (z : Zone). parted zones k (lower_part axis m global z) (upper_part axis m global z)) o
+    zones)
+    =
+    elim [
       | None ↦ λ e. refl
-      | Some z ↦ λ e. flat_map-parted give zones k (lower_part axis m global z) (upper_part axis m global z) z e (halves-give inside n global z axis m (h z e) small)
+      | Some z ↦ λ e.
+          flat_map-parted give zones k (lower_part axis m global z) (upper_part axis m global z) z e
+          (halves-give inside n global z axis m (h z e) small)
     ] in
     subst (IsPermutation (flat_map give zones)) (at (slice_get zones k) refl) (IsPermutation-refl (flat_map give zones))
 
 -- zones k and k + 1 can be joined, if they are there
 abbrev pub CanJoin : Axis → Keep → GlobalZone → List Zone → ℕ → Type 0
-CanJoin axis keep global zones k = (y z : Zone) → slice_get zones k ≡ Some y → slice_get zones (k + 1) ≡ Some z → AreJoinedInOrder axis keep global y z
+CanJoin axis keep global zones k =
+    (y z : Zone) → slice_get zones k ≡ Some y → slice_get zones (k + 1) ≡ Some z
+    → AreJoinedInOrder axis keep global y z
 
-pub voices_of-joined : (inside : Inside) (n : Numbers) (axis : Axis) (keep : Keep) (global : GlobalZone) (zones : List Zone) (k : ℕ)
+pub voices_of-joined : (inside : Inside) (n : Numbers) (axis : Axis) (keep : Keep) (global : GlobalZone)
+    (zones : List Zone) (k : ℕ)
     → CanJoin axis keep global zones k
     → IsPermutation (voices_of inside n global zones) (voices_of inside n global (zones_joined axis keep zones k))
 unfolding voices_of
 voices_of-joined inside n axis keep global zones k h =
     let give : Zone → List Voice = λ x. cond (holds n global x) (inside (taken global x) x.target) [] in
     let at : (o p : Option Zone) → slice_get zones k ≡ o → slice_get zones (k + 1) ≡ p
-    → flat_map give zones ≡ flat_map give (option_map_or (λ (y : Zone). option_map_or (λ (z : Zone). merged zones k (joined axis keep y z)) p zones) o zones) = elim [
+    → flat_map give zones
+    ≡ flat_map give
+    (option_map_or (λ (y : Zone). option_map_or (λ (z : Zone). merged zones k (joined axis keep y z)) p zones) o
+    zones)
+    =
+    elim [
       | None ↦ λ p e g. refl
       | Some y ↦ elim [
         | None ↦ λ e g. refl
-        | Some z ↦ λ e g. flat_map-merged give zones k (joined axis keep y z) y z e g (joined_gives inside n global y z axis keep (h y z e g))
+        | Some z ↦ λ e g.
+            flat_map-merged give zones k (joined axis keep y z) y z e g
+            (joined_gives inside n global y z axis keep (h y z e g))
       ]
     ] in
-    subst (IsPermutation (flat_map give zones)) (at (slice_get zones k) (slice_get zones (k + 1)) refl refl) (IsPermutation-refl (flat_map give zones))
+    subst (IsPermutation (flat_map give zones)) (at (slice_get zones k) (slice_get zones (k + 1)) refl refl)
+    (IsPermutation-refl (flat_map give zones))

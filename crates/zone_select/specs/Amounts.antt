@@ -1,6 +1,7 @@
 -- The amounts of a pair of zones, of which v is taken of the instrument's zone and u of the preset's; and the
 -- numbers that a voice plays by.
-use Rattle.std.specs.Prelude.{ℕ, ◌==◌, ◌||◌, ◌&&◌, Bool, cond, nat_le, ℤ, pos, negsuc, ◌+ℤ◌, ◌-ℤ◌, ◌*ℤ◌, int_le, int_lt, List, [], ◌∷◌, length, map, fold, reverse, Option, Some, None, unwrap_or}
+use Rattle.std.specs.Prelude.{ℕ, ◌==◌, ◌||◌, ◌&&◌, Bool, cond, nat_le, ℤ, pos, negsuc, ◌+ℤ◌, ◌-ℤ◌, ◌*ℤ◌, int_le}
+use Rattle.std.specs.Prelude.{int_lt, List, [], ◌∷◌, length, map, fold, reverse, Option, Some, None, unwrap_or}
 use Rattle.std.specs.Int.{w16, cast_signed, int_max, int_min}
 use Rattle.std.specs.List.{find}
 use Rattle.std.specs.Option.{option_or, option_map_or, is_some}
@@ -60,7 +61,8 @@ linear_from source op = record { source = source; dest = op; amount = pos 0; amo
 -- what it adds to the generator, rounded down once for the whole amount
 abbrev pub linear_part : ℕ → ℕ → Taken → Taken → ℕ → ℕ → ℤ
 linear_part key velocity v u op source =
-    option_map_or (λ x. floor_div (modulator_amount (linear_from source op) v u (pos 0) *ℤ x) 128) (linear_value (linear_from source op) key velocity) (pos 0)
+    option_map_or (λ x. floor_div (modulator_amount (linear_from source op) v u (pos 0) *ℤ x) 128)
+    (linear_value (linear_from source op) key velocity) (pos 0)
 
 abbrev pub sum_of : List ℤ → ℤ
 sum_of zs = fold (λ s z. s +ℤ z) (pos 0) zs
@@ -101,11 +103,16 @@ moved n v u op = moved_amount (key_of n v u) (velocity_of n v u) v u op
 -- the pitch above the sample's own, in cents
 abbrev pub cents_of : Numbers → Taken → Taken → Sample → ℤ
 cents_of n v u s =
-    amount v u 56 *ℤ (pos (key_of n v u) -ℤ pos (root_of v u s)) +ℤ pos 100 *ℤ amount v u 51 +ℤ moved n v u 52 +ℤ s.correction
+    amount v u 56 *ℤ (pos (key_of n v u) -ℤ pos (root_of v u s)) +ℤ pos 100 *ℤ amount v u 51 +ℤ moved n v u 52
+    +ℤ s.correction
 
 -- the generator's, and that of the velocity by its default modulator
 abbrev pub attenuation_of : Numbers → Taken → Taken → ℤ
-attenuation_of n v u = moved n v u 48 +ℤ floor_div (modulator_amount default_velocity v u (pos 960) *ℤ pos (velocity_attenuation_of (velocity_of n v u))) 960
+attenuation_of n v u =
+    moved n v u 48
+    +ℤ floor_div
+    (modulator_amount default_velocity v u (pos 960) *ℤ pos (velocity_attenuation_of (velocity_of n v u)))
+    960
 
 abbrev pub start_of : Taken → Taken → Sample → ℕ
 start_of v u s = cut 0 (length s.points) (offset v u 0 4)
@@ -130,7 +137,8 @@ asks_for_loop v u = mode_of v u == 1 || mode_of v u == 3
 unfoldable pub is_looped : Taken → Taken → Sample → Bool
 is_looped v u s =
     asks_for_loop v u && is_some s.looped
-    && int_le (pos (start_of v u s)) (loop_start_of v u s) && int_lt (loop_start_of v u s) (loop_end_of v u s) && int_le (loop_end_of v u s) (pos (end_of v u s))
+    && int_le (pos (start_of v u s)) (loop_start_of v u s) && int_lt (loop_start_of v u s) (loop_end_of v u s)
+    && int_le (loop_end_of v u s) (pos (end_of v u s))
 
 -- both ends of the loop
 unfoldable pub loop_of : Taken → Taken → Sample → Option (ℕ × ℕ)

@@ -23,7 +23,10 @@ mods_at b o at = unwrap_or (mods_of b o at) []
 -- of zone k of an owner
 abbrev pub taken_at : Parts → Owner → ℕ → Taken
 taken_at b o k = record {
-  settings = λ op. cond (is_range_operator op) None (option_or (amount_of b o (place.Zone k) op) (amount_of b o place.Global op));
+  settings =
+      λ op.
+      cond (is_range_operator op) None
+      (option_or (amount_of b o (place.Zone k) op) (amount_of b o place.Global op));
   mods = mods_at b o (place.Zone k);
   inherited = mods_at b o place.Global;
 }
@@ -42,4 +45,6 @@ target_held b n o k = cond (owner_holds b n o k) (target_of b o k) None
 
 -- what is taken of both zones, and the sample's number
 abbrev pub chosen_at : Parts → ChosenAt → Chosen
-chosen_at b c = record { instrument_zone = instrument_zone_at b c.zones; preset_zone = preset_zone_at b c.zones; sample = c.sample }
+chosen_at b c =
+    record
+    { instrument_zone = instrument_zone_at b c.zones; preset_zone = preset_zone_at b c.zones; sample = c.sample }

@@ -18,18 +18,22 @@ zones_in b o = unwrap_or (own_zone_count b o) 0
 
 -- an owner has zone k, and it holds the note
 abbrev pub owner_holds : Parts → Numbers → Owner → ℕ → Bool
-owner_holds b n (owner.Preset p) k = option_map_or (λ (x : WithZones Head). holds_at n x.global x.zones k) (slice_get b.presets p) false
-owner_holds b n (owner.Instrument i) k = option_map_or (λ (x : WithZones (List ℕ)). holds_at n x.global x.zones k) (slice_get b.instruments i) false
+owner_holds b n (owner.Preset p) k =
+    option_map_or (λ (x : WithZones Head). holds_at n x.global x.zones k) (slice_get b.presets p) false
+owner_holds b n (owner.Instrument i) k =
+    option_map_or (λ (x : WithZones (List ℕ)). holds_at n x.global x.zones k) (slice_get b.instruments i) false
 
 -- the numbers of an owner's zones that hold the note, from k on
 abbrev pub owner_held : Parts → Numbers → Owner → ℕ → List ℕ
-owner_held b n (owner.Preset p) k = option_map_or (λ (x : WithZones Head). held n x.global x.zones k) (slice_get b.presets p) []
+owner_held b n (owner.Preset p) k =
+    option_map_or (λ (x : WithZones Head). held n x.global x.zones k) (slice_get b.presets p) []
 owner_held b n (owner.Instrument i) k = held_inside b n i k
 
 -- the pairs of zone k of a preset, whose second is at least l, and those of the later zones
 abbrev pub left_of : Parts → Numbers → ℕ → ℕ → WithZones Head → List (ℕ × ℕ)
 left_of b n k l p =
-    option_map_or (λ (z : Zone). map (λ (m : ℕ). let q : ℕ × ℕ = (k, m) in q) (held_inside b n z.target l)) (slice_get p.zones k) []
+    option_map_or (λ (z : Zone). map (λ (m : ℕ). let q : ℕ × ℕ = (k, m) in q) (held_inside b n z.target l))
+    (slice_get p.zones k) []
     ++ flat_map (pairs_at b n p.zones) (held n p.global p.zones (k + 1))
 
 -- the same of a preset's number; none where no zone is left

@@ -24,15 +24,20 @@ held n global zones k = filter (holds_at n global zones) (range_with_len k (leng
 
 -- those of the instrument of a number
 abbrev pub held_inside : Parts → Numbers → ℕ → ℕ → List ℕ
-held_inside b n number k = option_map_or (λ (i : WithZones (List ℕ)). held n i.global i.zones k) (slice_get b.instruments number) []
+held_inside b n number k =
+    option_map_or (λ (i : WithZones (List ℕ)). held n i.global i.zones k) (slice_get b.instruments number) []
 
 -- the pairs of which zone k of the preset is the first
 abbrev pub pairs_at : Parts → Numbers → List Zone → ℕ → List (ℕ × ℕ)
-pairs_at b n zones k = option_map_or (λ (z : Zone). map (λ (l : ℕ). let q : ℕ × ℕ = (k, l) in q) (held_inside b n z.target 0)) (slice_get zones k) []
+pairs_at b n zones k =
+    option_map_or (λ (z : Zone). map (λ (l : ℕ). let q : ℕ × ℕ = (k, l) in q) (held_inside b n z.target 0))
+    (slice_get zones k) []
 
 -- the pairs (a zone of the preset, a zone of its instrument) that hold the note, in rising order
 unfoldable pub pairs : Parts → Numbers → List (ℕ × ℕ)
-pairs b n = option_map_or (λ (p : WithZones Head). flat_map (pairs_at b n p.zones) (held n p.global p.zones 0)) (find (is_called n) b.presets) []
+pairs b n =
+    option_map_or (λ (p : WithZones Head). flat_map (pairs_at b n p.zones) (held n p.global p.zones 0))
+    (find (is_called n) b.presets) []
 
 -- ---- what is chosen by a pair
 
@@ -47,10 +52,13 @@ abbrev pub zone_held : Numbers → GlobalZone → List Zone → ℕ → Option Z
 zone_held n global zones k = option_and_then (λ (z : Zone). cond (holds n global z) (Some z) None) (slice_get zones k)
 
 abbrev pub instrument_zone_chosen : Numbers → Taken → ℕ → WithZones (List ℕ) → Option Chosen
-instrument_zone_chosen n u l i = option_map (λ (y : Zone). record { instrument_zone = taken i.global y; preset_zone = u; sample = y.target }) (zone_held n i.global i.zones l)
+instrument_zone_chosen n u l i =
+    option_map (λ (y : Zone). record { instrument_zone = taken i.global y; preset_zone = u; sample = y.target })
+    (zone_held n i.global i.zones l)
 
 abbrev pub zone_chosen : Parts → Numbers → GlobalZone → ℕ → Zone → Option Chosen
-zone_chosen b n global l z = option_and_then (instrument_zone_chosen n (taken global z) l) (slice_get b.instruments z.target)
+zone_chosen b n global l z =
+    option_and_then (instrument_zone_chosen n (taken global z) l) (slice_get b.instruments z.target)
 
 abbrev pub preset_chosen : Parts → Numbers → ℕ × ℕ → WithZones Head → Option Chosen
 preset_chosen b n q p = option_and_then (zone_chosen b n p.global q.1) (zone_held n p.global p.zones q.0)

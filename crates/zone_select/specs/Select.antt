@@ -25,7 +25,8 @@ voice_of n v u s = record { points = s.points; parameters = parameters_of n v u 
 
 -- of each zone that holds the note, the voices of its target
 unfoldable pub voices_of : (Taken → ℕ → List Voice) → Numbers → GlobalZone → List Zone → List Voice
-voices_of inside n global zones = flat_map (λ (z : Zone). cond (holds n global z) (inside (taken global z) z.target) []) zones
+voices_of inside n global zones =
+    flat_map (λ (z : Zone). cond (holds n global z) (inside (taken global z) z.target) []) zones
 
 -- the voice of a sample's number
 unfoldable pub sample_voices : Parts → Numbers → Taken → Taken → ℕ → List Voice

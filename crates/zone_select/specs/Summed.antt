@@ -8,11 +8,14 @@ use Rattle.zone_select.specs.Amounts.{linear_sources, linear_from}
 
 -- a linear modulator has one of the sources, and the identity that is summed for it
 abbrev pub LinearAreSummed : Type 0
-LinearAreSummed = (m : Modulator) → IsLinear m → Contains linear_sources m.source × SameIdentity m (linear_from m.source m.dest)
+LinearAreSummed =
+    (m : Modulator) → IsLinear m → Contains linear_sources m.source × SameIdentity m (linear_from m.source m.dest)
 
 -- from each source to each generator that may be moved there is a linear modulator
 abbrev pub SummedAreLinear : Type 0
-SummedAreLinear = (source op : ℕ) → Contains linear_sources source → Contains moved_generators op → IsLinear (linear_from source op)
+SummedAreLinear =
+    (source op : ℕ) → Contains linear_sources source → Contains moved_generators op
+    → IsLinear (linear_from source op)
 
 -- no source is summed twice
 abbrev pub SummedOnce : Type 0

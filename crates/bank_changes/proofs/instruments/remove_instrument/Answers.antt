@@ -8,5 +8,6 @@ returns-clause-change c = elim c.if-number-len.branch [
   | then-number-len w ↦ rw (w.parts-is, w.renumber.ensures, c.in_ok-instrument.ensures.change) refl
   | else-number-len w ↦
       rw (w.parts-is, c.in_ok-instrument.ensures.change)
-      (removed_last_instrument c.args.parts.now c.args.number c.requires.valid c.requires.there (rw c.in_ok-instrument.ensures.change at (rw c.len.ensures at w.if-number-len.false)))
+      (removed_last_instrument c.args.parts.now c.args.number c.requires.valid c.requires.there
+      (rw c.in_ok-instrument.ensures.change at (rw c.len.ensures at w.if-number-len.false)))
 ]

@@ -4,4 +4,7 @@ use Rattle.bank_changes.proofs.RecordLaws.{records_broken}
 use Rattle.bank_changes.proofs.totals.broken_with_records.Goals as goal
 
 pub returns : goal.returns
-returns c = λ r m. c.broken.ensures ∙ (ap broken c.plus_records.ensures ∙ records_broken c.args.at c.args.totals c.args.more r c.requires m)
+returns c =
+    λ r m.
+    c.broken.ensures
+    ∙ (ap broken c.plus_records.ensures ∙ records_broken c.args.at c.args.totals c.args.more r c.requires m)

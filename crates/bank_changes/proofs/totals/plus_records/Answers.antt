@@ -6,5 +6,6 @@ use Rattle.bank_changes.proofs.totals.plus_records.Goals as goal
 
 pub returns : goal.returns
 returns c =
-    let plus : LevelTotals → LevelTotals = λ l. record l { records = all_counted (records_sum l.records c.args.more) } in
+    let plus : LevelTotals → LevelTotals =
+    λ l. record l { records = all_counted (records_sum l.records c.args.more) } in
     c.with_level.ensures ∙ put_at c.args.at plus c.args.totals c.plus.result (c.plus.ensures ∙ ap plus c.at.ensures)

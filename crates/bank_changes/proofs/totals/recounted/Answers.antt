@@ -7,7 +7,9 @@ use Rattle.bank_changes.proofs.totals.recounted.Goals as goal
 
 pub returns-clause-value : goal.returns-clause-value
 returns-clause-value c = λ now within became.
-    c.plus_records.ensures ∙ recounted_value c.args.at c.args.totals c.without_records.result now c.args.before c.args.after c.without_records.ensures became within
+    c.plus_records.ensures
+    ∙ recounted_value c.args.at c.args.totals c.without_records.result now c.args.before c.args.after
+    c.without_records.ensures became within
 
 pub returns-clause-limit : goal.returns-clause-limit
 returns-clause-limit c = λ now became.
@@ -17,4 +19,6 @@ returns-clause-limit c = λ now became.
       gens = sym (counted_same r.gens (search rules)) i;
       mods = sym (counted_same r.mods (search rules)) i;
     } in
-    ap broken c.plus_records.ensures ∙ recounted_limit c.args.at c.args.totals c.without_records.result now c.args.before c.args.after c.without_records.ensures became c.requires.within whole
+    ap broken c.plus_records.ensures
+    ∙ recounted_limit c.args.at c.args.totals c.without_records.result now c.args.before c.args.after
+    c.without_records.ensures became c.requires.within whole

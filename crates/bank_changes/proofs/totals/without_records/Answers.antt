@@ -11,4 +11,5 @@ returns c =
     let less = c.args.less in
     ap (λ (t : Totals). with_records at t less) c.with_level.ensures
     ∙ (changed_twice at (λ _. c.without.result) (plus_records less) c.args.totals
-    ∙ (changed_by at (λ _. plus_records less c.without.result) (λ l. l) c.args.totals (c.without.ensures ∙ c.at.ensures) ∙ unchanged at c.args.totals))
+    ∙ (changed_by at (λ _. plus_records less c.without.result) (λ l. l) c.args.totals
+    (c.without.ensures ∙ c.at.ensures) ∙ unchanged at c.args.totals))

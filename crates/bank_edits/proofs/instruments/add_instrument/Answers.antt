@@ -2,7 +2,10 @@ use Rattle.edit_refusals.proofs.InstrumentLaws.{instrument_goes, sound_add_instr
 use Rattle.bank_edits.proofs.instruments.add_instrument.Goals as goal
 
 pub add_instrument-requires-clause-place : goal.add_instrument-requires-clause-place
-add_instrument-requires-clause-place c = (instrument_goes c.args.bank.now c.args.at c.args.instrument c.fits.ensures c.requires.accepted).place
+add_instrument-requires-clause-place c =
+    (instrument_goes c.args.bank.now c.args.at c.args.instrument c.fits.ensures c.requires.accepted).place
 
 pub add_instrument-requires-clause-sound : goal.add_instrument-requires-clause-sound
-add_instrument-requires-clause-sound c = sound_add_instrument c.args.bank.now c.args.at c.args.instrument c.requires.sound c.fits.ensures c.requires.accepted
+add_instrument-requires-clause-sound c =
+    sound_add_instrument c.args.bank.now c.args.at c.args.instrument c.requires.sound c.fits.ensures
+    c.requires.accepted

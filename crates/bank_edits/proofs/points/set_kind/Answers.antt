@@ -7,15 +7,24 @@ use Rattle.bank_edits.proofs.points.set_kind.Goals as goal
 
 pub set_kind-old-requires-clause-there : goal.set_kind-old-requires-clause-there
 set_kind-old-requires-clause-there c =
-    let l = links c.args.bank.now c.args.sample c.args.kind (accepted c.args.bank.now (steps.Points c.args.sample (SetKind c.args.kind)) c.requires.accepted).tests in l.there
+    let l =
+    links c.args.bank.now c.args.sample c.args.kind
+    (accepted c.args.bank.now (steps.Points c.args.sample (SetKind c.args.kind)) c.requires.accepted).tests
+    in
+    l.there
 
 pub set_kind-old-requires-clause-sound : goal.set_kind-old-requires-clause-sound
 set_kind-old-requires-clause-sound c =
     sound_kind c.args.bank.now c.args.sample c.args.kind c.requires.sound
-    (links c.args.bank.now c.args.sample c.args.kind (accepted c.args.bank.now (steps.Points c.args.sample (SetKind c.args.kind)) c.requires.accepted).tests)
+    (links c.args.bank.now c.args.sample c.args.kind
+    (accepted c.args.bank.now (steps.Points c.args.sample (SetKind c.args.kind)) c.requires.accepted).tests)
 
 pub returns : goal.returns
 returns c =
     let b = c.args.bank.now in
-    let l = links b c.args.sample c.args.kind (accepted b (steps.Points c.args.sample (SetKind c.args.kind)) c.requires.accepted).tests in
-    (c.set_kind-old.ensures.change, inverse_of_set_kind b c.args.sample l.there c.args.kind c.set_kind-old.result c.set_kind-old.ensures.value)
+    let l =
+    links b c.args.sample c.args.kind
+    (accepted b (steps.Points c.args.sample (SetKind c.args.kind)) c.requires.accepted).tests in (
+      c.set_kind-old.ensures.change,
+      inverse_of_set_kind b c.args.sample l.there c.args.kind c.set_kind-old.result c.set_kind-old.ensures.value,
+    )

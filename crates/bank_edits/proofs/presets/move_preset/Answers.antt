@@ -8,4 +8,5 @@ pub move_preset-requires-clause-place : goal.move_preset-requires-clause-place
 move_preset-requires-clause-place c = (moves_preset c.args.bank.now c.args.from c.args.to c.requires.accepted).place
 
 pub move_preset-requires-clause-sound : goal.move_preset-requires-clause-sound
-move_preset-requires-clause-sound c = sound_move_preset c.args.bank.now c.args.from c.args.to c.requires.sound c.requires.accepted
+move_preset-requires-clause-sound c =
+    sound_move_preset c.args.bank.now c.args.from c.args.to c.requires.sound c.requires.accepted

@@ -8,4 +8,5 @@ pub move_sample-requires-clause-place : goal.move_sample-requires-clause-place
 move_sample-requires-clause-place c = (moves_sample c.args.bank.now c.args.from c.args.to c.requires.accepted).place
 
 pub move_sample-requires-clause-sound : goal.move_sample-requires-clause-sound
-move_sample-requires-clause-sound c = sound_move_sample c.args.bank.now c.args.from c.args.to c.requires.sound c.requires.accepted
+move_sample-requires-clause-sound c =
+    sound_move_sample c.args.bank.now c.args.from c.args.to c.requires.sound c.requires.accepted

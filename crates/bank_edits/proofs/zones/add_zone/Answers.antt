@@ -8,7 +8,10 @@ pub add_zone-requires-clause-place : goal.add_zone-requires-clause-place
 add_zone-requires-clause-place c =
     let b = c.args.bank.now in
     let o = c.args.owner in
-    (zone_goes b o c.args.at c.args.zone (accepted b (steps.Zone o (AddZone c.args.at c.args.zone)) c.requires.accepted).tests).place
+    (zone_goes b o c.args.at c.args.zone
+    (accepted b (steps.Zone o (AddZone c.args.at c.args.zone)) c.requires.accepted).tests).place
 
 pub add_zone-requires-clause-sound : goal.add_zone-requires-clause-sound
-add_zone-requires-clause-sound c = sound_add_zone c.args.bank.now c.args.owner c.args.at c.args.zone c.requires.sound c.fits.ensures c.requires.accepted
+add_zone-requires-clause-sound c =
+    sound_add_zone c.args.bank.now c.args.owner c.args.at c.args.zone c.requires.sound c.fits.ensures
+    c.requires.accepted

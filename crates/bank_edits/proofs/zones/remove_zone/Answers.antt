@@ -5,4 +5,5 @@ pub remove_zone-requires-clause-there : goal.remove_zone-requires-clause-there
 remove_zone-requires-clause-there c = comes_of_remove_zone c.args.bank.now c.args.owner c.args.zone c.requires.accepted
 
 pub remove_zone-requires-clause-sound : goal.remove_zone-requires-clause-sound
-remove_zone-requires-clause-sound c = sound_remove_zone c.args.bank.now c.args.owner c.args.zone c.requires.sound c.requires.accepted
+remove_zone-requires-clause-sound c =
+    sound_remove_zone c.args.bank.now c.args.owner c.args.zone c.requires.sound c.requires.accepted

@@ -10,5 +10,6 @@ returns c =
     let right = c.loop-left.right in
     let no_left : length left.others.now ≡ 0 = search rules in
     let no_right : length right.others.now ≡ 0 = search rules in
-    same_at_end left.first.now right.first.now _ _ left.others.now right.others.now c.eq.result no_left no_right c.loop-left.invariant
+    same_at_end left.first.now right.first.now _ _ left.others.now right.others.now c.eq.result no_left no_right
+    c.loop-left.invariant
     (slice_eq-Decides Decides-eqb left.first.now right.first.now c.eq.result c.eq.ensures)

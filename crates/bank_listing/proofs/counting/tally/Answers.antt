@@ -12,8 +12,12 @@ overflow_add-index_mut c =
     let there : at < length counts = omega (arith, c.if-at-len.true, c.len.ensures) in
     let here : at < c.args.members = omega (arith, there, size) in
     let same = get_or_default counts at c.index_mut.result.now 0 there in
-    let most = counts_below c.args.members c.args.numbers.now counts c.loop-number.number-index at c.loop-number.invariant c.loop-number-test.true here in
+    let most =
+    counts_below c.args.members c.args.numbers.now counts c.loop-number.number-index at c.loop-number.invariant
+    c.loop-number-test.true here in
     omega (arith, fits, c.index_mut.ensures.value, same, most, c.loop-number-test.true)
 
 pub returns : goal.returns
-returns c = counts_all c.args.members c.args.numbers.now c.loop-number.counts.items c.loop-number.number-index c.loop-number.invariant c.loop-number-test.false
+returns c =
+    counts_all c.args.members c.args.numbers.now c.loop-number.counts.items c.loop-number.number-index
+    c.loop-number.invariant c.loop-number-test.false

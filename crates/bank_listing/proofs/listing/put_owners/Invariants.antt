@@ -8,5 +8,7 @@ use Rattle.bank_listing.proofs.listing.put_owners.Given as goal
 -- the lines of those that are ahead are still to be put
 abbrev pub invariant-loop-number : goal.invariant-loop-number
 invariant-loop-number g l =
-    Putting g.W.Write.contents l.initial.output l.output (lines_from (owner_lines g.H.ListedHead.line g.H.ListedHead.word (option_copied l.uses) l.zones) 0 l.owners)
-    (lines_from (owner_lines g.H.ListedHead.line g.H.ListedHead.word (option_copied l.uses) l.zones) l.number (drop l.number l.owners))
+    Putting g.W.Write.contents l.initial.output l.output
+    (lines_from (owner_lines g.H.ListedHead.line g.H.ListedHead.word (option_copied l.uses) l.zones) 0 l.owners)
+    (lines_from (owner_lines g.H.ListedHead.line g.H.ListedHead.word (option_copied l.uses) l.zones) l.number
+    (drop l.number l.owners))

@@ -8,4 +8,6 @@ use Rattle.bank_listing.proofs.listing.put_samples.Given as goal
 -- the lines of the samples that are ahead are still to be put
 abbrev pub invariant-loop-number : goal.invariant-loop-number
 invariant-loop-number g l =
-    Putting g.W.Write.contents l.initial.output l.output (lines_from (sample_lines (option_copied l.uses)) 0 l.samples) (lines_from (sample_lines (option_copied l.uses)) l.number (drop l.number l.samples))
+    Putting g.W.Write.contents l.initial.output l.output
+    (lines_from (sample_lines (option_copied l.uses)) 0 l.samples)
+    (lines_from (sample_lines (option_copied l.uses)) l.number (drop l.number l.samples))

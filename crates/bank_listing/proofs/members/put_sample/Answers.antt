@@ -15,6 +15,12 @@ unfolding sample_line
 returns g c =
     let s = c.args.sample.now in
     let number = puts_as _ _ (ap (λ p. flat_map spaced (p ∷ [])) c.number_piece.ensures) c.put_pieces.ensures in
-    let points = puts_as _ _ (ap (λ p. flat_map spaced (p ∷ [])) (c.number_piece-2.ensures ∙ ap Number c.len.ensures.value)) c.put_pieces-2.ensures in
-    puts_as _ _ (sym (line_parts (codes "sample") (Number c.args.number ∷ []) (pieces_of (head_operands s)) (Number (length s.points) ∷ [])))
-    (puts_then _ _ c.put.ensures (puts_then _ _ number (puts_then _ _ c.put_sample_head.ensures (puts_then _ _ points c.put-2.ensures))))
+    let points =
+    puts_as _ _ (ap (λ p. flat_map spaced (p ∷ [])) (c.number_piece-2.ensures ∙ ap Number c.len.ensures.value))
+    c.put_pieces-2.ensures in
+    puts_as _ _
+    (sym
+    (line_parts (codes "sample") (Number c.args.number ∷ []) (pieces_of (head_operands s))
+    (Number (length s.points) ∷ [])))
+    (puts_then _ _ c.put.ensures
+    (puts_then _ _ number (puts_then _ _ c.put_sample_head.ensures (puts_then _ _ points c.put-2.ensures))))

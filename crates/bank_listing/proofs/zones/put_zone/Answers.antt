@@ -10,6 +10,10 @@ use Rattle.bank_listing.proofs.zones.put_zone.Goals as goal
 pub returns : goal.returns
 returns g c =
     let front = Word g.H.ListedHead.word ∷ Number c.args.i ∷ Number c.args.k ∷ [] in
-    let first = rw (c.word_piece.ensures, c.word.ensures, c.number_piece-number.ensures, c.number_piece.ensures) at c.put_pieces.ensures in
+    let first =
+    rw (c.word_piece.ensures, c.word.ensures, c.number_piece-number.ensures, c.number_piece.ensures) at
+    c.put_pieces.ensures in
     IfSome_then (zone_at c.args.owners.now c.args.i c.args.k) c.put_zone_of.ensures
-    (λ z h. puts_line_parts (codes "zone") front (pieces_of (zone_operands (written_zone z))) c.put.ensures first h c.put-2.ensures)
+    (λ z h.
+    puts_line_parts (codes "zone") front (pieces_of (zone_operands (written_zone z))) c.put.ensures first h
+    c.put-2.ensures)

@@ -5,5 +5,6 @@ use Rattle.bank_parts.proofs.bag_changes.has_one_record.Goals as goal
 
 pub returns : goal.returns
 returns c =
-    one_counted (bag_at c.args.bags.now.owners c.args.i c.args.k) c.gens-gens.result.now c.mods-mods.result.now _ c.gens-gens.ensures c.mods-mods.ensures
+    one_counted (bag_at c.args.bags.now.owners c.args.i c.args.k) c.gens-gens.result.now c.mods-mods.result.now _
+    c.gens-gens.ensures c.mods-mods.ensures
     (ap (λ n. n == 1) c.saturating_add.ensures)

@@ -1,4 +1,5 @@
-use Rattle.bank_parts.proofs.SettingLaws.{others_stay, others_keep_zones, places_stay, global_stays, heads_stay_by_place, heads_stay_by_zones, targets_stay}
+use Rattle.bank_parts.proofs.SettingLaws.{others_stay, others_keep_zones, places_stay, global_stays}
+use Rattle.bank_parts.proofs.SettingLaws.{heads_stay_by_place, heads_stay_by_zones, targets_stay}
 use Rattle.bank_parts.proofs.laws.other_places_stay.Goals as goal
 
 pub returns-clause-members : goal.returns-clause-members

@@ -1,4 +1,5 @@
-use Rattle.bank_parts.proofs.UndoneLaws.{zone_added_read, zone_moved_read, target_set_read, gen_set_read, gen_cleared_read, mod_added_read, mod_set_read}
+use Rattle.bank_parts.proofs.UndoneLaws.{zone_added_read, zone_moved_read, target_set_read, gen_set_read}
+use Rattle.bank_parts.proofs.UndoneLaws.{gen_cleared_read, mod_added_read, mod_set_read}
 use Rattle.bank_parts.proofs.laws.zone_changes_read.Goals as goal
 
 pub returns-clause-zone_added : goal.returns-clause-zone_added

@@ -1,4 +1,6 @@
-use Rattle.bank_parts.proofs.UndoneLaws.{zone_added_undone, zone_removed_undone, zone_moved_undone, target_set_back, gen_set_back, gen_set_cleared, gen_cleared_undone, mod_added_undone, mod_removed_undone, mod_set_back}
+use Rattle.bank_parts.proofs.UndoneLaws.{zone_added_undone, zone_removed_undone, zone_moved_undone, target_set_back}
+use Rattle.bank_parts.proofs.UndoneLaws.{gen_set_back, gen_set_cleared, gen_cleared_undone, mod_added_undone}
+use Rattle.bank_parts.proofs.UndoneLaws.{mod_removed_undone, mod_set_back}
 use Rattle.bank_parts.proofs.laws.zone_changes_undone.Goals as goal
 
 pub returns-clause-zone_added : goal.returns-clause-zone_added

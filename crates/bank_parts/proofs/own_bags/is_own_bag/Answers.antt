@@ -9,5 +9,6 @@ returns-then-ends_in c =
     let gens = c.args.gens.now in
     let ends : ends_in c.args.operator gens ≡ true = sym c.ends_in.ensures ∙ c.if-ends_in.true in
     let some = ends-some c.args.operator gens ends in
-    let front : c.without_last.result.now ≡ without_last gens = c.without_last.ensures ∙ sym (front-of (length gens - 1) gens (omega (arith, some))) in
+    let front : c.without_last.result.now ≡ without_last gens =
+    c.without_last.ensures ∙ sym (front-of (length gens - 1) gens (omega (arith, some))) in
     c.is_plain.ensures ∙ (ap (is_plain c.args.operator) front ∙ rw ends refl)

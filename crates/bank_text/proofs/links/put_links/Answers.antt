@@ -6,7 +6,13 @@ use Rattle.bank_text.proofs.links.put_links.Goals as goal
 
 pub loop-number-preserved : goal.loop-number-preserved
 loop-number-preserved g c =
-    putting_step _ _ c.loop-number.invariant (turns_at link_edits c.args.samples.now c.loop-number.number _ c.loop-number-test.true c.index-samples-number.is) c.put_link.ensures
+    putting_step _ _ c.loop-number.invariant
+    (turns_at link_edits c.args.samples.now c.loop-number.number _ c.loop-number-test.true
+    c.index-samples-number.is)
+    c.put_link.ensures
 
 pub returns : goal.returns
-returns g c = putting_last c.loop-number.invariant (puts_as _ _ (sym (turns_over link_edits c.args.samples.now c.loop-number.number c.loop-number-test.false)) (puts_nothing _))
+returns g c =
+    putting_last c.loop-number.invariant
+    (puts_as _ _ (sym (turns_over link_edits c.args.samples.now c.loop-number.number c.loop-number-test.false))
+    (puts_nothing _))

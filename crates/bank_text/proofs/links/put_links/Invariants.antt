@@ -6,4 +6,6 @@ use Rattle.bank_text.proofs.links.put_links.Given as goal
 
 -- the lines of the samples that are ahead are still to be put
 abbrev pub invariant-loop-number : goal.invariant-loop-number
-invariant-loop-number g l = Putting g.W.Write.contents l.initial.output l.output (texts_of (in_turn link_edits 0 l.samples)) (texts_of (in_turn link_edits l.number (drop l.number l.samples)))
+invariant-loop-number g l =
+    Putting g.W.Write.contents l.initial.output l.output (texts_of (in_turn link_edits 0 l.samples))
+    (texts_of (in_turn link_edits l.number (drop l.number l.samples)))

@@ -11,4 +11,5 @@ pub returns : goal.returns
 unfolding text_of
 returns g c =
     puts_line (codes "set-kind") (pieces_of (place c.args.number ∷ kind_operands c.args.kind)) c.put.ensures
-    (puts_both (place c.args.number ∷ []) (kind_operands c.args.kind) c.put_pieces.ensures c.put_kind.ensures) c.put-2.ensures
+    (puts_both (place c.args.number ∷ []) (kind_operands c.args.kind) c.put_pieces.ensures c.put_kind.ensures)
+    c.put-2.ensures

@@ -15,6 +15,8 @@ loop-number-preserved g c =
     let word = g.H.AddedHead.word in
     let operands = g.H.AddedHead.operands in
     let n = c.loop-number.number in
-    putting_step (owner_line word operands n x) (owner_lines word operands (n + 1) (drop (n + 1) c.args.owners.now)) c.loop-number.invariant
-    (owner_lines_next word operands c.args.owners.now n x there (sym (get_or_from_slice_get c.args.owners.now n x x is)))
+    putting_step (owner_line word operands n x) (owner_lines word operands (n + 1) (drop (n + 1) c.args.owners.now))
+    c.loop-number.invariant
+    (owner_lines_next word operands c.args.owners.now n x there
+    (sym (get_or_from_slice_get c.args.owners.now n x x is)))
     (rw is at c.put_owner.ensures)

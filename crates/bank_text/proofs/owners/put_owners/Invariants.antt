@@ -6,5 +6,6 @@ use Rattle.bank_text.proofs.owners.put_owners.Given as goal
 -- the lines of those that are ahead are still to be put
 abbrev pub invariant-loop-number : goal.invariant-loop-number
 invariant-loop-number g l =
-    Putting g.W.Write.contents l.initial.output l.output (owner_lines g.H.AddedHead.word g.H.AddedHead.operands 0 l.owners)
+    Putting g.W.Write.contents l.initial.output l.output
+    (owner_lines g.H.AddedHead.word g.H.AddedHead.operands 0 l.owners)
     (owner_lines g.H.AddedHead.word g.H.AddedHead.operands l.number (drop l.number l.owners))

@@ -5,4 +5,6 @@ use Rattle.bank_text.proofs.replacement.put_removals.Given as goal
 
 -- the lines of the members before are still to be put
 abbrev pub invariant-loop-done : goal.invariant-loop-done
-invariant-loop-done g l = Putting g.W.Write.contents l.initial.output l.output (removal_lines l.word l.count) (removal_lines l.word (l.count - l.done))
+invariant-loop-done g l =
+    Putting g.W.Write.contents l.initial.output l.output (removal_lines l.word l.count)
+    (removal_lines l.word (l.count - l.done))

@@ -12,5 +12,6 @@ returns g c =
     let a = c.args.from.now in
     let b = c.args.to.now in
     puts_row _ (texts_of (taken_down a)) (texts_of (edits_of_bank b))
-    (ap (λ es. texts_of (es ++ edits_of_bank b)) (taken_back a c.put_taken_down.ensures.engine) ∙ both_texts (taken_down a) (edits_of_bank b))
+    (ap (λ es. texts_of (es ++ edits_of_bank b)) (taken_back a c.put_taken_down.ensures.engine)
+    ∙ both_texts (taken_down a) (edits_of_bank b))
     c.put_taken_down.ensures.puts c.put_parts.ensures

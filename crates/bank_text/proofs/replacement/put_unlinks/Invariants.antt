@@ -7,4 +7,5 @@ use Rattle.bank_text.proofs.replacement.put_unlinks.Given as goal
 -- the lines of the samples before are still to be put
 abbrev pub invariant-loop-done : goal.invariant-loop-done
 invariant-loop-done g l =
-    Putting g.W.Write.contents l.initial.output l.output (texts_of (in_reverse unlink_edits 0 l.samples)) (texts_of (in_reverse unlink_edits 0 (take (length l.samples - l.done) l.samples)))
+    Putting g.W.Write.contents l.initial.output l.output (texts_of (in_reverse unlink_edits 0 l.samples))
+    (texts_of (in_reverse unlink_edits 0 (take (length l.samples - l.done) l.samples)))

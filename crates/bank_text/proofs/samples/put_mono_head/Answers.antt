@@ -8,4 +8,6 @@ use Rattle.bank_text.proofs.samples.put_mono_head.Goals as goal
 pub returns : goal.returns
 returns g c =
     let fits : FitsSigned w8 c.args.sample.now.correction = search rules in
-    puts_head (of_kind Mono c.args.sample.now) c.put_name.ensures (rw (to_z-of_z w8 c.args.sample.now.correction fits) at c.put_tune.ensures) c.put_kind.ensures c.put_loop.ensures
+    puts_head (of_kind Mono c.args.sample.now) c.put_name.ensures
+    (rw (to_z-of_z w8 c.args.sample.now.correction fits) at c.put_tune.ensures) c.put_kind.ensures
+    c.put_loop.ensures

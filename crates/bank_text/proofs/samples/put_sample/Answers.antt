@@ -16,4 +16,5 @@ unfolding text_of
 returns g c =
     let s = of_kind Mono (told_sample c.args.points c.args.sample.now) in
     puts_line (codes "add-sample") (pieces_of (place c.args.number ∷ body_operands s)) c.put.ensures
-    (puts_added c.args.number s c.put_pieces.ensures (puts_body s c.put_mono_head.ensures c.put_told_points.ensures)) c.put-2.ensures
+    (puts_added c.args.number s c.put_pieces.ensures (puts_body s c.put_mono_head.ensures c.put_told_points.ensures))
+    c.put-2.ensures

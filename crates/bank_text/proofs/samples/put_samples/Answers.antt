@@ -7,8 +7,16 @@ use Rattle.bank_text.proofs.samples.put_samples.Goals as goal
 
 pub loop-number-preserved : goal.loop-number-preserved
 loop-number-preserved g c =
-    putting_step _ _ c.loop-number.invariant (turns_at (told_edits c.args.points) c.args.samples.now c.loop-number.number _ c.loop-number-test.true c.index-samples-number.is)
+    putting_step _ _ c.loop-number.invariant
+    (turns_at (told_edits c.args.points) c.args.samples.now c.loop-number.number _ c.loop-number-test.true
+    c.index-samples-number.is)
     (puts_as _ _ (sym (append-nil _)) c.put_sample.ensures)
 
 pub returns : goal.returns
-returns g c = putting_last c.loop-number.invariant (puts_as _ _ (sym (turns_over (told_edits c.args.points) c.args.samples.now c.loop-number.number c.loop-number-test.false)) (puts_nothing _))
+returns g c =
+    putting_last c.loop-number.invariant
+    (puts_as _ _
+    (sym
+    (turns_over (told_edits c.args.points) c.args.samples.now c.loop-number.number
+    c.loop-number-test.false))
+    (puts_nothing _))

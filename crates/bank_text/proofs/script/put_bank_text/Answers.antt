@@ -5,4 +5,6 @@ use Rattle.bank_text.proofs.script.put_bank_text.Goals as goal
 
 pub returns : goal.returns
 unfolding bank_script
-returns g c = puts_then _ _ (puts_as _ _ (ap (first_line c.args.points) c.minor.ensures) c.put_first_line.ensures) c.put_parts.ensures
+returns g c =
+    puts_then _ _ (puts_as _ _ (ap (first_line c.args.points) c.minor.ensures) c.put_first_line.ensures)
+    c.put_parts.ensures

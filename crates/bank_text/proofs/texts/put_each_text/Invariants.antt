@@ -6,4 +6,6 @@ use Rattle.bank_text.proofs.texts.put_each_text.Given as goal
 
 -- the lines of the texts that are left are still to be put
 abbrev pub invariant-loop-id : goal.invariant-loop-id
-invariant-loop-id g l = Putting g.W.Write.contents l.initial.output l.output (flat_map (text_lines l.bank.texts) l.ids) (flat_map (text_lines l.bank.texts) (drop l.id-index l.ids))
+invariant-loop-id g l =
+    Putting g.W.Write.contents l.initial.output l.output (flat_map (text_lines l.bank.texts) l.ids)
+    (flat_map (text_lines l.bank.texts) (drop l.id-index l.ids))

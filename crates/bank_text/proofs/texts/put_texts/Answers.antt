@@ -5,4 +5,6 @@ use Rattle.bank_text.proofs.TextLaws.{text_lines, texts_lines}
 use Rattle.bank_text.proofs.texts.put_texts.Goals as goal
 
 pub returns : goal.returns
-returns g c = puts_as _ _ (ap (flat_map (text_lines c.args.bank.now.texts)) c.all.ensures ∙ texts_lines c.args.bank.now.texts) c.put_each_text.ensures
+returns g c =
+    puts_as _ _ (ap (flat_map (text_lines c.args.bank.now.texts)) c.all.ensures ∙ texts_lines c.args.bank.now.texts)
+    c.put_each_text.ensures

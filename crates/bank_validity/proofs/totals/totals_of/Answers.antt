@@ -5,9 +5,11 @@ use Rattle.bank_validity.proofs.totals.totals_of.Goals as goal
 pub returns-clause-value : goal.returns-clause-value
 unfolding totals_of
 returns-clause-value c = λ within.
-    rw (c.level_totals.ensures, c.level_totals-2.ensures, c.len.ensures, c.points_in.ensures, c.as_slice.ensures) (counted_within c.args.parts.now within)
+    rw (c.level_totals.ensures, c.level_totals-2.ensures, c.len.ensures, c.points_in.ensures, c.as_slice.ensures)
+    (counted_within c.args.parts.now within)
 
 pub returns-clause-limits : goal.returns-clause-limits
 unfolding totals_of
 returns-clause-limits c =
-    rw (c.level_totals.ensures, c.level_totals-2.ensures, c.len.ensures, c.points_in.ensures, c.as_slice.ensures) (broken_counted (totals_of c.args.parts.now))
+    rw (c.level_totals.ensures, c.level_totals-2.ensures, c.len.ensures, c.points_in.ensures, c.as_slice.ensures)
+    (broken_counted (totals_of c.args.parts.now))

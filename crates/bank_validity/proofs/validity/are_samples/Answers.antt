@@ -8,4 +8,5 @@ use Rattle.bank_validity.proofs.validity.are_samples.Goals as goal
 pub returns-clause-fits : goal.returns-clause-fits
 returns-clause-fits c =
     all_where_true FitsSample _ c.all.result c.args.samples.now
-    (cases_from_all _ _ _ FitsSample (λ x. ⊤) c.all.ensures.ran (YieldsList-from_slice c.args.samples.now cc) (λ x q k. search (rules, tests)) (λ x q k. tt))
+    (cases_from_all _ _ _ FitsSample (λ x. ⊤) c.all.ensures.ran (YieldsList-from_slice c.args.samples.now cc)
+    (λ x q k. search (rules, tests)) (λ x q k. tt))

@@ -13,5 +13,7 @@ returns c =
     let b = c.args.bank.now in
     let i = c.args.instrument in
     let there = c.in_ok-no_such_instrument.ensures in
-    by_last (no_such_instrument b i ∷ []) (used_instrument b i) (broken_limit (raw b (steps.Instrument (RemoveInstrument i)))) c.used_instrument.result (there, tt) c.used_instrument.ensures
+    by_last (no_such_instrument b i ∷ []) (used_instrument b i)
+    (broken_limit (raw b (steps.Instrument (RemoveInstrument i)))) c.used_instrument.result (there, tt)
+    c.used_instrument.ensures
     (λ free. within_remove_instrument b i c.requires (below _ i there) free)

@@ -11,5 +11,7 @@ use Rattle.edit_refusals.proofs.instruments.refuse_rename_instrument.Goals as go
 pub returns : goal.returns
 returns c = λ name.
     let b = c.args.bank.now in
-    by_last [] (no_such_instrument b c.args.instrument) (broken_limit (raw b (steps.Instrument (RenameInstrument c.args.instrument name)))) c.no_such_instrument.result tt c.no_such_instrument.ensures
+    by_last [] (no_such_instrument b c.args.instrument)
+    (broken_limit (raw b (steps.Instrument (RenameInstrument c.args.instrument name))))
+    c.no_such_instrument.result tt c.no_such_instrument.ensures
     (λ h. within_rename_instrument b c.args.instrument name c.requires.valid)

@@ -12,5 +12,7 @@ returns c =
     let front = c.args.front.now in
     let back = c.args.back.now in
     let there = c.requires.there in
-    let many : c.saturating_add-more.result ≡ counted (length front + length back) = omega (arith, c.len.ensures.value, c.len-2.ensures.value, c.saturating_add-more.ensures) in
-    by_limit b (steps.Points i (Extend front back)) c.broken_with_points.result c.full.result (there, tt) (sym (c.broken_with_points.ensures i front back (below _ i there) many)) c.full.ensures
+    let many : c.saturating_add-more.result ≡ counted (length front + length back) =
+    omega (arith, c.len.ensures.value, c.len-2.ensures.value, c.saturating_add-more.ensures) in
+    by_limit b (steps.Points i (Extend front back)) c.broken_with_points.result c.full.result (there, tt)
+    (sym (c.broken_with_points.ensures i front back (below _ i there) many)) c.full.ensures

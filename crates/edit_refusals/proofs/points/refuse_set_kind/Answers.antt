@@ -15,5 +15,7 @@ returns c =
     let i = c.args.sample in
     let kind = c.args.kind in
     let there = c.requires.there in
-    by_last (no_such_sample b i ∷ []) (no_such_link_among b kind) (broken_limit (raw b (steps.Points i (SetKind kind)))) c.no_such_link_among.result (there, tt) c.no_such_link_among.ensures
+    by_last (no_such_sample b i ∷ []) (no_such_link_among b kind)
+    (broken_limit (raw b (steps.Points i (SetKind kind)))) c.no_such_link_among.result (there, tt)
+    c.no_such_link_among.ensures
     (λ h. within_change b i (of_kind kind) c.requires.sound (below _ i there) (λ s. refl))

@@ -15,5 +15,7 @@ returns c =
     let i = c.args.sample in
     let looped = c.args.looped in
     let there = c.requires.there in
-    by_last (no_such_sample b i ∷ []) (bad_loop_of b i looped) (broken_limit (raw b (steps.Points i (SetLoop looped)))) c.bad_loop_of.result (there, tt) c.bad_loop_of.ensures
+    by_last (no_such_sample b i ∷ []) (bad_loop_of b i looped)
+    (broken_limit (raw b (steps.Points i (SetLoop looped)))) c.bad_loop_of.result (there, tt)
+    c.bad_loop_of.ensures
     (λ h. within_change b i (looped_as looped) c.requires.sound (below _ i there) (λ s. refl))

@@ -16,5 +16,7 @@ returns c =
     let back = c.args.back in
     let there = c.requires.there in
     let inside = c.in_ok-too_short.ensures in
-    by_last (no_such_sample b i ∷ too_short b i front back ∷ []) (loop_cut b i front back) (broken_limit (raw b (steps.Points i (Trim front back)))) c.loop_cut.result (there, (inside, tt)) c.loop_cut.ensures
+    by_last (no_such_sample b i ∷ too_short b i front back ∷ []) (loop_cut b i front back)
+    (broken_limit (raw b (steps.Points i (Trim front back)))) c.loop_cut.result (there, (inside, tt))
+    c.loop_cut.ensures
     (λ h. within_trim b i front back c.requires.sound (below _ i there) (up_to _ _ inside))

@@ -18,6 +18,8 @@ returns c =
     let x = c.args.preset.now in
     let target = rw c.count.ensures at c.in_ok-no_such_target.ensures in
     let place = rw c.count-2.ensures at c.in_ok-bad_place.ensures in
-    by_records b (steps.Preset (AddPreset c.args.at x)) level.Preset x c.totals.result c.records.result c.broken_with_owner.result c.full.result
-    (target, (place, (c.in_ok-bad_generator.ensures, (c.in_ok-bad_range.ensures, tt)))) (limit_add_preset b c.args.at x (up_to _ c.args.at place))
+    by_records b (steps.Preset (AddPreset c.args.at x)) level.Preset x c.totals.result c.records.result
+    c.broken_with_owner.result c.full.result
+    (target, (place, (c.in_ok-bad_generator.ensures, (c.in_ok-bad_range.ensures, tt))))
+    (limit_add_preset b c.args.at x (up_to _ c.args.at place))
     c.totals.ensures.value c.records.ensures c.broken_with_owner.ensures c.full.ensures

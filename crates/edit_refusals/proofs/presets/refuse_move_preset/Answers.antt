@@ -14,5 +14,7 @@ returns c =
     let i = c.args.from in
     let j = c.args.to in
     let there = c.in_ok-no_such_preset.ensures in
-    by_last (no_such_preset b i ∷ []) (no_such_place (length b.presets) j) (broken_limit (raw b (steps.Preset (MovePreset i j)))) c.no_such_place.result (there, tt) (rw c.count.ensures at c.no_such_place.ensures)
+    by_last (no_such_preset b i ∷ []) (no_such_place (length b.presets) j)
+    (broken_limit (raw b (steps.Preset (MovePreset i j)))) c.no_such_place.result (there, tt)
+    (rw c.count.ensures at c.no_such_place.ensures)
     (λ place. within_move_preset b i j c.requires.valid (below _ i there) (below _ j place))

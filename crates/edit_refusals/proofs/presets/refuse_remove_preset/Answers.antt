@@ -12,5 +12,6 @@ pub returns : goal.returns
 returns c =
     let b = c.args.bank.now in
     let i = c.args.preset in
-    by_last [] (no_such_preset b i) (broken_limit (raw b (steps.Preset (RemovePreset i)))) c.no_such_preset.result tt c.no_such_preset.ensures
+    by_last [] (no_such_preset b i) (broken_limit (raw b (steps.Preset (RemovePreset i)))) c.no_such_preset.result tt
+    c.no_such_preset.ensures
     (λ there. within_remove_preset b i c.requires (below _ i there))

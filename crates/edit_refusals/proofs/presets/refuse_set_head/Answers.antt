@@ -11,5 +11,7 @@ use Rattle.edit_refusals.proofs.presets.refuse_set_head.Goals as goal
 pub returns : goal.returns
 returns c = λ name number bank_number.
     let b = c.args.bank.now in
-    by_last [] (no_such_preset b c.args.preset) (broken_limit (raw b (steps.Preset (SetHead c.args.preset name number bank_number)))) c.no_such_preset.result tt c.no_such_preset.ensures
+    by_last [] (no_such_preset b c.args.preset)
+    (broken_limit (raw b (steps.Preset (SetHead c.args.preset name number bank_number)))) c.no_such_preset.result
+    tt c.no_such_preset.ensures
     (λ h. within_set_head b c.args.preset name number bank_number c.requires.valid)

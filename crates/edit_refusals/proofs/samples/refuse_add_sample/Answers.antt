@@ -17,6 +17,9 @@ returns c =
     let at = c.args.at in
     let s = c.args.sample.now in
     let place = rw c.samples.ensures.value at c.in_ok-bad_place.ensures in
-    let sums = ap (λ (t : Totals). broken (with_sample t c.len.result)) c.totals.ensures.value ∙ ap (λ (n : ℕ). broken (with_sample (totals_of b) n)) c.len.ensures.value in
-    by_limit b (steps.Sample (AddSample at s)) c.broken_with_sample.result c.full.result (c.in_ok-no_such_link.ensures, (place, (c.in_ok-bad_loop.ensures, tt)))
+    let sums =
+    ap (λ (t : Totals). broken (with_sample t c.len.result)) c.totals.ensures.value
+    ∙ ap (λ (n : ℕ). broken (with_sample (totals_of b) n)) c.len.ensures.value in
+    by_limit b (steps.Sample (AddSample at s)) c.broken_with_sample.result c.full.result
+    (c.in_ok-no_such_link.ensures, (place, (c.in_ok-bad_loop.ensures, tt)))
     (limit_add b at s (up_to _ at place) ∙ sym (c.broken_with_sample.ensures ∙ sums)) c.full.ensures

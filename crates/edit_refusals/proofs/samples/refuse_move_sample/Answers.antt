@@ -14,5 +14,7 @@ returns c =
     let i = c.args.from in
     let j = c.args.to in
     let there = c.in_ok-no_such_sample.ensures in
-    by_last (no_such_sample b i ∷ []) (no_such_place (length b.samples) j) (broken_limit (raw b (steps.Sample (MoveSample i j)))) c.no_such_place.result (there, tt) (rw c.count.ensures at c.no_such_place.ensures)
+    by_last (no_such_sample b i ∷ []) (no_such_place (length b.samples) j)
+    (broken_limit (raw b (steps.Sample (MoveSample i j)))) c.no_such_place.result (there, tt)
+    (rw c.count.ensures at c.no_such_place.ensures)
     (λ place. within_move_sample b i j c.requires.valid (below _ i there) (below _ j place))

@@ -13,5 +13,6 @@ returns c =
     let b = c.args.bank.now in
     let i = c.args.sample in
     let there = c.in_ok-no_such_sample.ensures in
-    by_last (no_such_sample b i ∷ []) (used_sample b i) (broken_limit (raw b (steps.Sample (RemoveSample i)))) c.used_sample.result (there, tt) c.used_sample.ensures
+    by_last (no_such_sample b i ∷ []) (used_sample b i) (broken_limit (raw b (steps.Sample (RemoveSample i))))
+    c.used_sample.result (there, tt) c.used_sample.ensures
     (λ free. within_remove b i c.requires (below _ i there) free)

@@ -11,5 +11,7 @@ use Rattle.edit_refusals.proofs.samples.refuse_rename_sample.Goals as goal
 pub returns : goal.returns
 returns c = λ name.
     let b = c.args.bank.now in
-    by_last [] (no_such_sample b c.args.sample) (broken_limit (raw b (steps.Sample (RenameSample c.args.sample name)))) c.no_such_sample.result tt c.no_such_sample.ensures
+    by_last [] (no_such_sample b c.args.sample)
+    (broken_limit (raw b (steps.Sample (RenameSample c.args.sample name)))) c.no_such_sample.result tt
+    c.no_such_sample.ensures
     (λ h. within_rename b c.args.sample name c.requires.valid)

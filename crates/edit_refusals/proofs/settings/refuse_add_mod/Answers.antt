@@ -12,6 +12,7 @@ pub returns : goal.returns
 returns c =
     let b = c.args.bank.now in
     let place = rw c.mods_there.ensures at c.in_ok-bad_place.ensures in
-    by_limit b (steps.Setting c.args.owner c.args.place (AddMod c.args.index c.args.modulator)) c.broken_with_mod.result c.full.result
+    by_limit b (steps.Setting c.args.owner c.args.place (AddMod c.args.index c.args.modulator))
+    c.broken_with_mod.result c.full.result
     (c.requires.owner, (c.requires.zone, (place, (c.in_ok-linked_modulator.ensures, tt))))
     (sym (c.broken_with_mod.ensures c.args.index c.args.modulator)) c.full.ensures

@@ -18,6 +18,7 @@ returns c =
     let owner = c.requires.owner in
     let zone = c.requires.zone in
     let own = rw c.level.ensures at c.in_ok-foreign_operator.ensures in
-    by_last (no_such_owner b o ∷ no_such_zone_at b o at ∷ foreign_operator (level_of o) op ∷ []) (not_set b o at op) (broken_limit (raw b (steps.Setting o at (ClearGen op)))) c.not_set.result
+    by_last (no_such_owner b o ∷ no_such_zone_at b o at ∷ foreign_operator (level_of o) op ∷ []) (not_set b o at op)
+    (broken_limit (raw b (steps.Setting o at (ClearGen op)))) c.not_set.result
     (owner, (zone, (own, tt))) c.not_set.ensures
     (λ set. within_clear_gen b o at op c.requires.sound (gen_comes b o at op (owner, (zone, (own, (set, tt))))))

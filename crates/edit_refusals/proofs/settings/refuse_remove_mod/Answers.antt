@@ -17,5 +17,8 @@ returns c =
     let owner = c.requires.owner in
     let zone = c.requires.zone in
     let index = c.in_ok-no_such_modulator.ensures in
-    by_last (no_such_owner b o ∷ no_such_zone_at b o at ∷ no_such_modulator b o at j ∷ []) (linked_place b o at) (broken_limit (raw b (steps.Setting o at (RemoveMod j)))) c.linked_place.result (owner, (zone, (index, tt)))
-    c.linked_place.ensures (λ link. within_remove_mod b o at j c.requires.sound (mod_comes b o at j (owner, (zone, (index, (link, tt))))))
+    by_last (no_such_owner b o ∷ no_such_zone_at b o at ∷ no_such_modulator b o at j ∷ []) (linked_place b o at)
+    (broken_limit (raw b (steps.Setting o at (RemoveMod j)))) c.linked_place.result (owner, (zone, (index, tt)))
+    c.linked_place.ensures
+    (λ link.
+    within_remove_mod b o at j c.requires.sound (mod_comes b o at j (owner, (zone, (index, (link, tt))))))

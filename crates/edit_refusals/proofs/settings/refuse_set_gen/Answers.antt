@@ -12,6 +12,7 @@ pub returns : goal.returns
 returns c =
     let b = c.args.bank.now in
     let own = rw c.level.ensures at c.in_ok-foreign_operator.ensures in
-    by_limit b (steps.Setting c.args.owner c.args.place (SetGen c.args.operator c.args.amount)) c.broken_with_gen.result c.full.result
+    by_limit b (steps.Setting c.args.owner c.args.place (SetGen c.args.operator c.args.amount))
+    c.broken_with_gen.result c.full.result
     (c.requires.owner, (c.requires.zone, (own, (c.in_ok-bad_amount.ensures, tt))))
     (sym (c.broken_with_gen.ensures c.args.amount)) c.full.ensures

@@ -17,5 +17,11 @@ returns c =
     let owner = c.requires.owner in
     let zone = c.requires.zone in
     let index = c.in_ok-no_such_modulator.ensures in
-    by_last (no_such_owner b o ∷ no_such_zone_at b o at ∷ no_such_modulator b o at j ∷ []) (linked_modulator b o at c.args.modulator) (broken_limit (raw b (steps.Setting o at (SetMod j c.args.modulator)))) c.linked_modulator.result (owner, (zone, (index, tt)))
-    c.linked_modulator.ensures (λ link. within_set_mod b o at j c.args.modulator c.requires.sound (mod_changes b o at j c.args.modulator (owner, (zone, (index, (link, tt))))))
+    by_last (no_such_owner b o ∷ no_such_zone_at b o at ∷ no_such_modulator b o at j ∷ [])
+    (linked_modulator b o at c.args.modulator)
+    (broken_limit (raw b (steps.Setting o at (SetMod j c.args.modulator)))) c.linked_modulator.result
+    (owner, (zone, (index, tt)))
+    c.linked_modulator.ensures
+    (λ link.
+    within_set_mod b o at j c.args.modulator c.requires.sound
+    (mod_changes b o at j c.args.modulator (owner, (zone, (index, (link, tt))))))

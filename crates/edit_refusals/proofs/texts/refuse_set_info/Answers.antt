@@ -11,5 +11,7 @@ use Rattle.edit_refusals.proofs.texts.refuse_set_info.Goals as goal
 pub returns : goal.returns
 returns c =
     let b = c.args.bank.now in
-    by_last [] (bad_text c.args.id c.args.text.now) (broken_limit (raw b (steps.Text (SetInfo c.args.id c.args.text.now)))) c.bad_text.result tt c.bad_text.ensures
+    by_last [] (bad_text c.args.id c.args.text.now)
+    (broken_limit (raw b (steps.Text (SetInfo c.args.id c.args.text.now)))) c.bad_text.result tt
+    c.bad_text.ensures
     (λ h. within_set_info b c.args.id c.args.text.now c.requires.valid)

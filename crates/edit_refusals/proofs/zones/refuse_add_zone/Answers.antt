@@ -15,4 +15,5 @@ returns c =
     let operators = rw c.level.ensures at c.in_ok-bad_generators.ensures in
     let tests : NoneStands (causes b (steps.Zone o (AddZone c.args.at zone))) =
     (c.requires.owner, (c.in_ok-no_such_target_of.ensures, (place, (operators, (c.in_ok-bad_ranges.ensures, tt))))) in
-    by_limit b (steps.Zone o (AddZone c.args.at zone)) c.broken_with_zone.result c.full.result tests (sym (c.broken_with_zone.ensures c.args.at (zone_goes b o c.args.at zone tests).place)) c.full.ensures
+    by_limit b (steps.Zone o (AddZone c.args.at zone)) c.broken_with_zone.result c.full.result tests
+    (sym (c.broken_with_zone.ensures c.args.at (zone_goes b o c.args.at zone tests).place)) c.full.ensures

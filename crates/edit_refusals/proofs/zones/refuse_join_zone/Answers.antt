@@ -17,5 +17,7 @@ returns c =
     let keep = c.args.keep in
     let there = c.requires.owner in
     let next = c.in_ok-no_next_zone.ensures in
-    by_last (no_such_owner b o ∷ no_such_zone b o (k + 1) ∷ []) (not_joinable b o k axis keep) (broken_limit (raw b (steps.Zone o (JoinZone k axis keep)))) c.not_joinable.result (there, (next, tt))
-    c.not_joinable.ensures (λ joinable. within_join_zone b o k axis keep c.requires.sound (there, (next, (joinable, tt))))
+    by_last (no_such_owner b o ∷ no_such_zone b o (k + 1) ∷ []) (not_joinable b o k axis keep)
+    (broken_limit (raw b (steps.Zone o (JoinZone k axis keep)))) c.not_joinable.result (there, (next, tt))
+    c.not_joinable.ensures
+    (λ joinable. within_join_zone b o k axis keep c.requires.sound (there, (next, (joinable, tt))))

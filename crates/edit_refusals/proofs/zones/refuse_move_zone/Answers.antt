@@ -16,5 +16,7 @@ returns c =
     let to = c.args.to in
     let there = c.requires.owner in
     let zone = c.in_ok-no_such_zone.ensures in
-    by_last (no_such_owner b o ∷ no_such_zone b o from ∷ []) (no_such_place (zone_total b o) to) (broken_limit (raw b (steps.Zone o (MoveZone from to)))) c.no_such_place.result (there, (zone, tt))
-    (rw c.zone_total.ensures at c.no_such_place.ensures) (λ place. within_move_zone b o from to c.requires.sound (there, (zone, (place, tt))))
+    by_last (no_such_owner b o ∷ no_such_zone b o from ∷ []) (no_such_place (zone_total b o) to)
+    (broken_limit (raw b (steps.Zone o (MoveZone from to)))) c.no_such_place.result (there, (zone, tt))
+    (rw c.zone_total.ensures at c.no_such_place.ensures)
+    (λ place. within_move_zone b o from to c.requires.sound (there, (zone, (place, tt))))

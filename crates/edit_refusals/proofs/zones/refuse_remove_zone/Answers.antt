@@ -14,5 +14,6 @@ returns c =
     let o = c.args.owner in
     let k = c.args.zone in
     let there = c.requires.owner in
-    by_last (no_such_owner b o ∷ []) (no_such_zone b o k) (broken_limit (raw b (steps.Zone o (RemoveZone k)))) c.no_such_zone.result (there, tt) c.no_such_zone.ensures
+    by_last (no_such_owner b o ∷ []) (no_such_zone b o k) (broken_limit (raw b (steps.Zone o (RemoveZone k))))
+    c.no_such_zone.result (there, tt) c.no_such_zone.ensures
     (λ zone. within_remove_zone b o k c.requires.sound (there, (zone, tt)))

@@ -16,5 +16,7 @@ returns c =
     let target = c.args.target in
     let there = c.requires.owner in
     let names = c.in_ok-no_such_target_of.ensures in
-    by_last (no_such_owner b o ∷ no_such_target_of b o target ∷ []) (no_such_zone b o k) (broken_limit (raw b (steps.Zone o (SetTarget k target)))) c.no_such_zone.result (there, (names, tt)) c.no_such_zone.ensures
+    by_last (no_such_owner b o ∷ no_such_target_of b o target ∷ []) (no_such_zone b o k)
+    (broken_limit (raw b (steps.Zone o (SetTarget k target)))) c.no_such_zone.result (there, (names, tt))
+    c.no_such_zone.ensures
     (λ zone. within_set_target b o k target c.requires.sound (there, (names, (zone, tt))))

@@ -21,5 +21,7 @@ returns c =
     let k = c.args.zone in
     let axis = c.args.axis in
     let m = c.args.at in
-    let tests : NoneStands (causes b (steps.Zone o (SplitZone k axis m))) = (c.requires.owner, (c.in_ok-no_such_zone.ensures, (c.in_ok-split_outside.ensures, tt))) in
-    by_limit b (steps.Zone o (SplitZone k axis m)) c.broken_with_split.result c.full.result tests (sym (c.broken_with_split.ensures m (can_of_split b o k axis m tests))) c.full.ensures
+    let tests : NoneStands (causes b (steps.Zone o (SplitZone k axis m))) =
+    (c.requires.owner, (c.in_ok-no_such_zone.ensures, (c.in_ok-split_outside.ensures, tt))) in
+    by_limit b (steps.Zone o (SplitZone k axis m)) c.broken_with_split.result c.full.result tests
+    (sym (c.broken_with_split.ensures m (can_of_split b o k axis m tests))) c.full.ensures

@@ -6,4 +6,6 @@ use Rattle.edit_script.proofs.edits.put_all_braced.Given as goal
 
 -- the steps that are left are still to be put
 abbrev pub invariant-loop-step : goal.invariant-loop-step
-invariant-loop-step g l = Putting g.W.Write.contents l.initial.output l.output (flat_map braced_text l.steps) (flat_map braced_text (drop l.step-index l.steps))
+invariant-loop-step g l =
+    Putting g.W.Write.contents l.initial.output l.output (flat_map braced_text l.steps)
+    (flat_map braced_text (drop l.step-index l.steps))

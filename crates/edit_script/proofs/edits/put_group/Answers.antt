@@ -9,4 +9,6 @@ use Rattle.edit_script.proofs.edits.put_group.Goals as goal
 
 pub returns : goal.returns
 unfolding text_of
-returns g c = puts_line (codes "group") (pieces_of (flat_map braced c.args.steps.now)) c.put.ensures (puts_all_braced c.args.steps.now c.put_all_braced.ensures) c.put-2.ensures
+returns g c =
+    puts_line (codes "group") (pieces_of (flat_map braced c.args.steps.now)) c.put.ensures
+    (puts_all_braced c.args.steps.now c.put_all_braced.ensures) c.put-2.ensures

@@ -6,4 +6,6 @@ use Rattle.edit_script.proofs.edits.put_one.Goals as goal
 
 pub returns : goal.returns
 unfolding text_of
-returns g c = puts_line (form_word (form_of c.args.step.now)) (pieces_of (operands c.args.step.now)) (rw c.word_of.ensures at c.put.ensures) c.put_operands.ensures c.put-2.ensures
+returns g c =
+    puts_line (form_word (form_of c.args.step.now)) (pieces_of (operands c.args.step.now))
+    (rw c.word_of.ensures at c.put.ensures) c.put_operands.ensures c.put-2.ensures

@@ -4,7 +4,8 @@ use Rattle.edit_script.proofs.edits.steps_left.Given as goal
 
 -- what is left, behind the steps that there are, makes the whole
 abbrev pub invariant-loop-alloc : goal.invariant-loop-alloc
-invariant-loop-alloc l = (steps_left l.steps l.line.said ≡ steps_left [] l.fn.line.said) × (l.line.pool ≡ l.fn.line.pool)
+invariant-loop-alloc l =
+    (steps_left l.steps l.line.said ≡ steps_left [] l.fn.line.said) × (l.line.pool ≡ l.fn.line.pool)
 
 abbrev pub decreases-loop-alloc : goal.decreases-loop-alloc
 decreases-loop-alloc l = length l.line.said

@@ -6,4 +6,6 @@ pub returns-clause-answers : goal.returns-clause-answers
 returns-clause-answers c = rw (← script_over_pool c.args.text.now c.args.pool.now c.requires) c.parse_lines.ensures
 
 pub returns-clause-fit : goal.returns-clause-fit
-returns-clause-fit c = answers_fit c.args.text.now _ c.parse_lines.result (rw (← script_over_pool c.args.text.now c.args.pool.now c.requires) c.parse_lines.ensures)
+returns-clause-fit c =
+    answers_fit c.args.text.now _ c.parse_lines.result
+    (rw (← script_over_pool c.args.text.now c.args.pool.now c.requires) c.parse_lines.ensures)

@@ -11,24 +11,43 @@ pub loop-line-init : goal.loop-line-init
 unfolding edits_in
 loop-line-init c =
     let same = c.into_iter-line-iterator.ensures.into_iter_gives ∙ c.of-line-items.ensures in
-    record { can_next = tt; is_finite = tt; left = rw (c.new-edits.ensures.items, same) refl; counted = rw same (let h = length-lines_of c.args.text.now in omega (arith, h)) }
+    record {
+      can_next =
+          tt;
+      is_finite =
+          tt;
+      left =
+          rw (c.new-edits.ensures.items, same) refl;
+      counted =
+          rw same (let h = length-lines_of c.args.text.now in omega (arith, h));
+    }
 
 pub loop-line-preserved : goal.loop-line-preserved
 loop-line-preserved c = record {
   can_next = tt;
   is_finite = tt;
-  left = lines_on edit_of (c.loop-line.number + 1) (c.loop-line.number + 1 + 1) c.loop-line.edits.items c.add_edit.new.edits.items
-      (all_said_over c.loop-line.rest.now (tokens_of c.in-Some.line.now)) (lines_said_over c.in_ok-rest.rest.now c.next.new.self) (lines_said_over c.loop-line.rest.now c.loop-line.line-iterator) _
-      (omega arith) (lines_said_on _ _ _ _ _ c.in_ok-rest.ensures.behind c.in-Some.ensures.steps) c.loop-line.invariant.left c.in_ok-rest.ensures.added;
+  left =
+      lines_on edit_of (c.loop-line.number + 1) (c.loop-line.number + 1 + 1) c.loop-line.edits.items
+      c.add_edit.new.edits.items
+      (all_said_over c.loop-line.rest.now (tokens_of c.in-Some.line.now))
+      (lines_said_over c.in_ok-rest.rest.now c.next.new.self)
+      (lines_said_over c.loop-line.rest.now c.loop-line.line-iterator) _
+      (omega arith) (lines_said_on _ _ _ _ _ c.in_ok-rest.ensures.behind c.in-Some.ensures.steps)
+      c.loop-line.invariant.left c.in_ok-rest.ensures.added;
   counted = (let h = ap length c.in-Some.ensures.steps in let k = c.loop-line.invariant.counted in omega (arith, h, k));
 }
 
 pub returns-in_err-rest : goal.returns-in_err-rest
 returns-in_err-rest c =
     let p = err_from_is_err_and c.from_residual.result c.from_residual.ensures.1 in
-    rw (p.1, p.2) (step_fails _ _ _ c.in_err-rest.ensures.added (λ _ e. lines_stop edit_of (c.loop-line.number + 1) c.loop-line.edits.items
-    (all_said_over c.loop-line.rest.now (tokens_of c.in-Some.line.now)) _ (lines_said_over c.loop-line.rest.now c.loop-line.line-iterator) _ _
+    rw (p.1, p.2) (step_fails _ _ _ c.in_err-rest.ensures.added
+    (λ _ e. lines_stop edit_of (c.loop-line.number + 1) c.loop-line.edits.items
+    (all_said_over c.loop-line.rest.now (tokens_of c.in-Some.line.now)) _
+    (lines_said_over c.loop-line.rest.now c.loop-line.line-iterator) _ _
     (lines_said_on _ _ _ c.next.new.self _ refl c.in-Some.ensures.steps) c.loop-line.invariant.left e))
 
 pub returns : goal.returns
-returns c = lines_over edit_of (c.loop-line.number + 1) c.loop-line.edits.items (lines_said_over c.loop-line.rest.now c.loop-line.line-iterator) _ (lines_said_end _ _ c.in-None.ensures.steps.0) c.loop-line.invariant.left
+returns c =
+    lines_over edit_of (c.loop-line.number + 1) c.loop-line.edits.items
+    (lines_said_over c.loop-line.rest.now c.loop-line.line-iterator) _
+    (lines_said_end _ _ c.in-None.ensures.steps.0) c.loop-line.invariant.left

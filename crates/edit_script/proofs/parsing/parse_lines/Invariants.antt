@@ -10,6 +10,7 @@ abbrev pub invariant-loop-line : goal.invariant-loop-line
 invariant-loop-line l = record {
   can_next : (goal.iterator-loop-line).can_next l.line-iterator;
   is_finite : (goal.iterator-loop-line).is_finite l.line-iterator;
-  left : gather edit_of (l.number + 1) (lines_said_over l.rest l.line-iterator) l.edits.items ≡ edits_in (lines_said_over l.pool (lines_of l.text));
+  left : gather edit_of (l.number + 1) (lines_said_over l.rest l.line-iterator) l.edits.items
+      ≡ edits_in (lines_said_over l.pool (lines_of l.text));
   counted : l.number + length l.line-iterator ≤ length l.text;
 }

@@ -10,7 +10,9 @@ loop-bag-preserved c =
     let bags = c.loop-bag.bags in
     let i = c.loop-bag.bag-index in
     let x = get_or bags i (0, 0) in
-    rw c.lower_one.ensures (map_over_more (lowered c.args.by) c.args.bags.now bags i x c.loop-bag-test.true c.loop-bag.invariant (get_or_default bags i (0, 0) x (omega arith)))
+    rw c.lower_one.ensures
+    (map_over_more (lowered c.args.by) c.args.bags.now bags i x c.loop-bag-test.true c.loop-bag.invariant
+    (get_or_default bags i (0, 0) x (omega arith)))
 
 by_nothing : (by : ℕ × ℕ) → by.0 ≡ 0 → by.1 ≡ 0 → (at : ℕ × ℕ) → lowered by at ≡ at
 by_nothing by e f at =
@@ -19,4 +21,5 @@ by_nothing by e f at =
     λ i. (gens i, mods i)
 
 pub returns-else-by-gt0-2 : goal.returns-else-by-gt0-2
-returns-else-by-gt0-2 c = unchanged (lowered c.args.by) (by_nothing c.args.by (omega arith) (omega arith)) c.args.bags.now
+returns-else-by-gt0-2 c =
+    unchanged (lowered c.args.by) (by_nothing c.args.by (omega arith) (omega arith)) c.args.bags.now

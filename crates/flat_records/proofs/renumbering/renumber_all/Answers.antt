@@ -9,4 +9,6 @@ loop-entry-preserved c =
     let gens = c.loop-entry.gens in
     let i = c.loop-entry.entry-index in
     let x = get_or gens i (0, 0) in
-    rw c.renumber_one.ensures (map_over_more (gen_renumbered c.args.operator c.args.by) c.args.gens.now gens i x c.loop-entry-test.true c.loop-entry.invariant (get_or_default gens i (0, 0) x (omega arith)))
+    rw c.renumber_one.ensures
+    (map_over_more (gen_renumbered c.args.operator c.args.by) c.args.gens.now gens i x c.loop-entry-test.true
+    c.loop-entry.invariant (get_or_default gens i (0, 0) x (omega arith)))

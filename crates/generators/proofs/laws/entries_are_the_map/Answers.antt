@@ -1,5 +1,6 @@
 use Rattle.generators.proofs.MapLaws.{same_gens}
-use Rattle.generators.proofs.EntryLaws.{ranks_rise, each_operator_once, entries_are_set, set_is_entry, entries_give_the_map}
+use Rattle.generators.proofs.EntryLaws.{ranks_rise, each_operator_once, entries_are_set, set_is_entry}
+use Rattle.generators.proofs.EntryLaws.{entries_give_the_map}
 use Rattle.generators.proofs.laws.entries_are_the_map.Goals as goal
 
 pub returns-clause-rise : goal.returns-clause-rise

@@ -1,4 +1,5 @@
-use Rattle.generators.proofs.LevelLaws.{targets_are_not_allowed, ranges_are_allowed, instruments_allow_more, played_is_allowed}
+use Rattle.generators.proofs.LevelLaws.{targets_are_not_allowed, ranges_are_allowed, instruments_allow_more}
+use Rattle.generators.proofs.LevelLaws.{played_is_allowed}
 use Rattle.generators.proofs.laws.levels_relate.Goals as goal
 
 pub returns-clause-targets : goal.returns-clause-targets

@@ -4,4 +4,5 @@ use Rattle.line_tokens.proofs.numbers.digits_value.Given as goal
 
 -- the value of the digits so far, of which there are as many as the index says
 abbrev pub invariant-loop-digit : goal.invariant-loop-digit
-invariant-loop-digit l = record { value : l.value ≡ digits_value (take l.digit-index l.word); below : l.value < 10 ^ l.digit-index }
+invariant-loop-digit l =
+    record { value : l.value ≡ digits_value (take l.digit-index l.word); below : l.value < 10 ^ l.digit-index }

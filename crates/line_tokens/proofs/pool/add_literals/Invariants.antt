@@ -9,5 +9,6 @@ abbrev pub invariant-loop-token : goal.invariant-loop-token
 invariant-loop-token l = record {
   can_next : (goal.iterator-loop-token).can_next l.token-iterator;
   is_finite : (goal.iterator-loop-token).is_finite l.token-iterator;
-  left : literals_of l.number (map said l.token-iterator) l.pool.items ≡ literals_of l.number (map said (tokens_of l.line)) l.initial.pool.items;
+  left : literals_of l.number (map said l.token-iterator) l.pool.items
+      ≡ literals_of l.number (map said (tokens_of l.line)) l.initial.pool.items;
 }

@@ -5,4 +5,6 @@ use Rattle.line_tokens.proofs.printing.put_all_digits.Given as goal
 
 -- the digits of the slices that are left are still to be put
 abbrev pub invariant-loop-bytes : goal.invariant-loop-bytes
-invariant-loop-bytes g l = Putting g.W.Write.contents l.initial.output l.output (all_digits l.slices) (all_digits (drop l.bytes-index l.slices))
+invariant-loop-bytes g l =
+    Putting g.W.Write.contents l.initial.output l.output (all_digits l.slices)
+    (all_digits (drop l.bytes-index l.slices))

@@ -5,4 +5,6 @@ use Rattle.line_tokens.proofs.printing.put_digits.Given as goal
 
 -- the digits of the bytes that are left are still to be put
 abbrev pub invariant-loop-byte : goal.invariant-loop-byte
-invariant-loop-byte g l = Putting g.W.Write.contents l.initial.output l.output (encode_lower l.bytes) (encode_lower (drop l.byte-index l.bytes))
+invariant-loop-byte g l =
+    Putting g.W.Write.contents l.initial.output l.output (encode_lower l.bytes)
+    (encode_lower (drop l.byte-index l.bytes))

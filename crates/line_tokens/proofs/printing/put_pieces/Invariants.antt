@@ -6,4 +6,6 @@ use Rattle.line_tokens.proofs.printing.put_pieces.Given as goal
 
 -- the pieces that are left are still to be put
 abbrev pub invariant-loop-piece : goal.invariant-loop-piece
-invariant-loop-piece g l = Putting g.W.Write.contents l.initial.output l.output (flat_map spaced l.pieces) (flat_map spaced (drop l.piece-index l.pieces))
+invariant-loop-piece g l =
+    Putting g.W.Write.contents l.initial.output l.output (flat_map spaced l.pieces)
+    (flat_map spaced (drop l.piece-index l.pieces))

@@ -5,6 +5,12 @@ use Rattle.live_sessions.proofs.frames.put_frames.Goals as goal
 
 pub loop-left-preserved : goal.loop-left-preserved
 loop-left-preserved g c = record {
-  put = put_next c.loop-left.player c.put_block.new.player c.loop-left.left c.min-size.result c.loop-left.invariant.put c.put_block.ensures.put c.put_block.ensures.played (first_of (omega arith, grind (arith, common_steps))) (omega arith);
-  played = played_next c.loop-left.player c.put_block.new.player c.args.player.now c.loop-left.left c.min-size.result c.args.count c.put_block.ensures.played c.loop-left.invariant.played (first_of (omega arith, grind (arith, common_steps))) (omega arith);
+  put =
+      put_next c.loop-left.player c.put_block.new.player c.loop-left.left c.min-size.result c.loop-left.invariant.put
+      c.put_block.ensures.put c.put_block.ensures.played (first_of (omega arith, grind (arith, common_steps)))
+      (omega arith);
+  played =
+      played_next c.loop-left.player c.put_block.new.player c.args.player.now c.loop-left.left c.min-size.result
+      c.args.count c.put_block.ensures.played c.loop-left.invariant.played
+      (first_of (omega arith, grind (arith, common_steps))) (omega arith);
 }

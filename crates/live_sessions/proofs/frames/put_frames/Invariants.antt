@@ -8,7 +8,8 @@ use Rattle.live_sessions.proofs.frames.put_frames.Given as goal
 -- the blocks that are behind were put, and those that are left give the rest
 abbrev pub invariant-loop-left : goal.invariant-loop-left
 invariant-loop-left g l = record {
-  put : Putting g.P.Write.contents l.fn.output l.output (flat_map sample_bytes (block l.fn.player l.fn.count)) (flat_map sample_bytes (block l.player l.left));
+  put : Putting g.P.Write.contents l.fn.output l.output (flat_map sample_bytes (block l.fn.player l.fn.count))
+      (flat_map sample_bytes (block l.player l.left));
   played : after_block l.player l.left ≡ after_block l.fn.player l.fn.count;
 }
 

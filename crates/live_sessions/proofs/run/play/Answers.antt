@@ -20,8 +20,11 @@ returns-in-End g c =
 pub returns-in_err-take_line : goal.returns-in_err-take_line
 returns-in_err-take_line g c =
     let p = err_from_is_err_and c.from_residual.result c.from_residual.ensures.1 in
-    rw (p.1, p.2) (plays_to c.args.counts.now c.args.live.now c.loop-turn.live _ _ _ (Err c.in_err-take_line.field-0.0) c.loop-turn.invariant c.in_err-take_line.ensures)
+    rw (p.1, p.2)
+    (plays_to c.args.counts.now c.args.live.now c.loop-turn.live _ _ _ (Err c.in_err-take_line.field-0.0)
+    c.loop-turn.invariant c.in_err-take_line.ensures)
 
 pub returns : goal.returns
 returns g c =
-    plays_to c.args.counts.now c.args.live.now c.loop-turn.live _ _ _ (Err fault.Input) c.loop-turn.invariant (record { answers = refl; pcm = refl; saved = refl })
+    plays_to c.args.counts.now c.args.live.now c.loop-turn.live _ _ _ (Err fault.Input) c.loop-turn.invariant
+    (record { answers = refl; pcm = refl; saved = refl })

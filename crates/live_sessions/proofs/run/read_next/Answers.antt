@@ -7,5 +7,9 @@ pub returns-in-Ok-clause-read : goal.returns-in-Ok-clause-read
 returns-in-Ok-clause-read g c =
     read_after _ _ c.clear.new.self.items c.read_until.new.buf.items c.clear.ensures.items
     (λ e. let none = ap length e in
-    first_of (omega (arith, none, c.read_until.new.buf.ok.0, c.in-Ok.ensures.ok, c.in-Ok.field-0-test), grind (arith, nat_tests, none, c.read_until.new.buf.ok.0, c.in-Ok.ensures.ok, c.in-Ok.field-0-test)))
+    first_of (
+      omega (arith, none, c.read_until.new.buf.ok.0, c.in-Ok.ensures.ok, c.in-Ok.field-0-test),
+      grind
+          (arith, nat_tests, none, c.read_until.new.buf.ok.0, c.in-Ok.ensures.ok, c.in-Ok.field-0-test),
+    ))
     c.in-Ok.ensures.bytes c.in-Ok.ensures.rest

@@ -8,6 +8,10 @@ use Rattle.live_sessions.proofs.saving.put_undo.Goals as goal
 pub loop-left-preserved : goal.loop-left-preserved
 loop-left-preserved g c = record {
   within = omega arith;
-  put = putting_step (text_of c.index-back-left.result) (undo_text (take (c.loop-left.left - 1) c.args.back.now)) c.loop-left.invariant.put
-      (next_back c.args.back.now c.loop-left.left (c.loop-left.left - 1) c.index-back-left.result (omega arith) (omega arith) c.index-back-left.is) c.put_edit.ensures;
+  put =
+      putting_step (text_of c.index-back-left.result) (undo_text (take (c.loop-left.left - 1) c.args.back.now))
+      c.loop-left.invariant.put
+      (next_back c.args.back.now c.loop-left.left (c.loop-left.left - 1) c.index-back-left.result (omega arith)
+      (omega arith) c.index-back-left.is)
+      c.put_edit.ensures;
 }

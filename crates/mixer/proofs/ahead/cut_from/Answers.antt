@@ -9,13 +9,15 @@ pub cut_both-requires-clause-room : goal.cut_both-requires-clause-room
 cut_both-requires-clause-room c k h =
     let n = length c.args.out.now in
     let l : k < n = grind (arith, common_steps, h, c.requires.sides) in
-    subst (IsWithin 32767) (sym (in_piece (pos 0) c.args.sides.now (2 * c.args.first) n k c.requires.sides l)) (c.requires.room k l)
+    subst (IsWithin 32767) (sym (in_piece (pos 0) c.args.sides.now (2 * c.args.first) n k c.requires.sides l))
+    (c.requires.room k l)
 
 pub cut_both-requires-clause-middle_room : goal.cut_both-requires-clause-middle_room
 cut_both-requires-clause-middle_room c k h =
     let n = length c.args.out.now / 2 in
     let l : k < n = grind (arith, common_steps, h, c.requires.middle) in
-    subst (IsWithin 32767) (sym (in_piece (pos 0) c.args.middle.now c.args.first n k c.requires.middle l)) (c.requires.middle_room k l)
+    subst (IsWithin 32767) (sym (in_piece (pos 0) c.args.middle.now c.args.first n k c.requires.middle l))
+    (c.requires.middle_room k l)
 
 pub returns : goal.returns
 returns c k h =
@@ -23,4 +25,8 @@ returns c k h =
     let l : k < n = omega (arith, h, c.cut_both.auto.out) in
     let half : k / 2 < n / 2 = omega (arith, l, c.requires.even) in
     c.cut_both.ensures k h
-    ∙ (λ j. cut (in_piece (pos 0) c.args.sides.now (2 * c.args.first) n k c.requires.sides l j +ℤ in_piece (pos 0) c.args.middle.now c.args.first (n / 2) (k / 2) c.requires.middle half j))
+    ∙
+    (λ j.
+    cut
+    (in_piece (pos 0) c.args.sides.now (2 * c.args.first) n k c.requires.sides l j
+    +ℤ in_piece (pos 0) c.args.middle.now c.args.first (n / 2) (k / 2) c.requires.middle half j))

@@ -6,7 +6,9 @@ use Rattle.mixer.proofs.ahead.make_way.Goals as goal
 
 pub returns-clause-ahead : goal.returns-clause-ahead
 returns-clause-ahead c =
-    let h = silenced_ahead c.drop_ahead.new.ahead c.drop_ahead.new.voices.items c.args.new.now c.drop_ahead.ensures.alone c.drop_ahead.ensures.ahead in
+    let h =
+    silenced_ahead c.drop_ahead.new.ahead c.drop_ahead.new.voices.items c.args.new.now c.drop_ahead.ensures.alone
+    c.drop_ahead.ensures.ahead in
     subst (IsAhead c.drop_ahead.new.ahead) (sym c.drop_silenced.ensures.items) h
 
 pub returns-clause-unsilenced : goal.returns-clause-unsilenced

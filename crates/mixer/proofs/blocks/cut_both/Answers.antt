@@ -16,5 +16,7 @@ loop-i-preserved c =
     let q = c.requires.middle_room (i / 2) (omega arith) in
     let m = c.min.ensures in
     let n = c.max.ensures in
-    let here : to_z w16 (of_z w16 (to_z w32 (of_z w32 c.max.result))) ≡ cut (a +ℤ b) = omega (arith, ints, clamps, p.0, p.1, q.0, q.1, m, n) in
-    below_set (pos 0) (λ k y. y ≡ cut (get_or c.args.sums.now k (pos 0) +ℤ get_or c.args.middle.now (k / 2) (pos 0))) c.loop-i.out i _ (omega arith) c.loop-i.invariant here
+    let here : to_z w16 (of_z w16 (to_z w32 (of_z w32 c.max.result))) ≡ cut (a +ℤ b) =
+    omega (arith, ints, clamps, p.0, p.1, q.0, q.1, m, n) in
+    below_set (pos 0) (λ k y. y ≡ cut (get_or c.args.sums.now k (pos 0) +ℤ get_or c.args.middle.now (k / 2) (pos 0)))
+    c.loop-i.out i _ (omega arith) c.loop-i.invariant here

@@ -15,7 +15,8 @@ loop-at-init g c = record {
 
 pub mix_part-requires-clause-young : goal.mix_part-requires-clause-young
 mix_part-requires-clause-young g c =
-    aged_young (2 ^ 33) (2 ^ 63 + 2 ^ 34) (c.loop-at.at / 2) c.args.voices.now c.loop-at.voices (omega arith) c.loop-at.invariant.live c.requires.young
+    aged_young (2 ^ 33) (2 ^ 63 + 2 ^ 34) (c.loop-at.at / 2) c.args.voices.now c.loop-at.voices (omega arith)
+    c.loop-at.invariant.live c.requires.young
 
 pub loop-at-preserved : goal.loop-at-preserved
 loop-at-preserved g c =
@@ -29,7 +30,9 @@ loop-at-preserved g c =
     record {
       within = end;
       even = omega (arith, even, c.requires.even);
-      value = part_written c.loop-at.out c.mix_part.new.out vs at n (omega (arith, end)) even len c.loop-at.invariant.value
+      value =
+          part_written c.loop-at.out c.mix_part.new.out vs at n (omega (arith, end)) even len
+          c.loop-at.invariant.value
           (λ k h. c.mix_part.ensures.value k h ∙ ap (λ (ps : List Playing). next_side ps k) c.loop-at.invariant.live);
       live = c.mix_part.ensures.live
           ∙ (λ j. map (aged (long j / 2)) (c.loop-at.invariant.live j))

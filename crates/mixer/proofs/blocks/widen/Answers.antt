@@ -24,9 +24,20 @@ loop-i-preserved c =
     let room = c.requires.room i (omega arith) in
     let fits-a : SFits w32 a = search rules in
     let fits-b : SFits w32 b = search rules in
-    let here : to_z w128 (of_z w128 (to_z w128 (of_z w128 (get_or c.loop-i.totals i (pos 0))) +ℤ to_z w128 (of_z w128 (to_z w128 (of_z w128 c.from-side.result) +ℤ to_z w128 (of_z w128 c.from-both.result))))) ≡ get_or c.args.totals.now i (pos 0) +ℤ (a +ℤ b) =
+    let here : to_z w128
+    (of_z w128
+    (to_z w128 (of_z w128 (get_or c.loop-i.totals i (pos 0)))
+    +ℤ to_z w128
+    (of_z w128 (to_z w128 (of_z w128 c.from-side.result) +ℤ to_z w128 (of_z w128 c.from-both.result)))))
+    ≡ get_or c.args.totals.now i (pos 0) +ℤ (a +ℤ b) =
     omega (arith, ints, was, room.0, room.1, c.from-side.ensures, c.from-both.ensures, fits-a, fits-b) in
     record {
-      done = below_set (pos 0) (λ k y. y ≡ get_or c.args.totals.now k (pos 0) +ℤ (get_or c.args.sides.now k (pos 0) +ℤ get_or c.args.middle.now (k / 2) (pos 0))) c.loop-i.totals i _ (omega arith) c.loop-i.invariant.done here;
+      done =
+          below_set (pos 0)
+          (λ k y.
+          y
+          ≡ get_or c.args.totals.now k (pos 0)
+          +ℤ (get_or c.args.sides.now k (pos 0) +ℤ get_or c.args.middle.now (k / 2) (pos 0)))
+          c.loop-i.totals i _ (omega arith) c.loop-i.invariant.done here;
       left = after_set (pos 0) c.loop-i.totals c.args.totals.now i _ c.loop-i.invariant.left;
     }

@@ -8,5 +8,6 @@ abbrev pub invariant-loop-pair : goal.invariant-loop-pair
 invariant-loop-pair l = record {
   can_next : (goal.iterator-loop-pair).can_next l.pair-iterator;
   is_finite : (goal.iterator-loop-pair).is_finite l.pair-iterator;
-  left : l.voices.items ++ map (heard.playing l.note) (voices_of l.bank l.note l.pair-iterator) ≡ heard.fresh l.bank l.note;
+  left : l.voices.items ++ map (heard.playing l.note) (voices_of l.bank l.note l.pair-iterator)
+      ≡ heard.fresh l.bank l.note;
 }

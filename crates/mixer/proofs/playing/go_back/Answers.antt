@@ -14,7 +14,8 @@ go_back-requires c =
     let lt : i < length xs = omega arith in
     let e = still (rewound n) xs c.loop-p.voices i c.p-item.result lt c.loop-p.invariant in
     let given : n ≤ (get_or xs i c.p-item.result).voice.age = c.requires.given i c.p-item.result lt in
-    let age : (get_or c.loop-p.voices i c.p-item.result).voice.age ≡ (get_or xs i c.p-item.result).voice.age = ap (λ (p : Playing). p.voice.age) e in
+    let age : (get_or c.loop-p.voices i c.p-item.result).voice.age ≡ (get_or xs i c.p-item.result).voice.age =
+    ap (λ (p : Playing). p.voice.age) e in
     omega (arith, given, age)
 
 pub loop-p-preserved : goal.loop-p-preserved

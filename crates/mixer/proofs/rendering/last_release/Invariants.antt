@@ -9,6 +9,7 @@ abbrev pub invariant-loop-pair : goal.invariant-loop-pair
 invariant-loop-pair l = record {
   can_next : (goal.iterator-loop-pair).can_next l.pair-iterator;
   is_finite : (goal.iterator-loop-pair).is_finite l.pair-iterator;
-  left : max l.last (whole.last_release (voices_of l.bank l.note l.pair-iterator)) ≡ whole.last_release (selected l.bank l.note);
+  left : max l.last (whole.last_release (voices_of l.bank l.note l.pair-iterator))
+      ≡ whole.last_release (selected l.bank l.note);
   most : l.last ≤ 4480284;
 }

@@ -18,14 +18,21 @@ loop-note-preserved g c =
     let same : c.start.result ≡ n.start = c.start.ensures.value in
     let later : now / 2 ≤ n.start = here.rising.0 in
     let in_out : n.start ≤ length out / 2 = here.starts_in.0 in
-    let fits : now + (next - now) ≤ length out = omega (arith, same, later, in_out, c.loop-note.invariant.played.even) in
+    let fits : now + (next - now) ≤ length out =
+    omega (arith, same, later, in_out, c.loop-note.invariant.played.even) in
     let sub : length (take (next - now) (drop now out)) ≡ next - now = part_len now (next - now) out fits in
     let long : length c.block_with_progress.new.out ≡ next - now = c.block_with_progress.auto.out ∙ sub in
-    let kept : length (take now out ++ (c.block_with_progress.new.out ++ drop (next - now) (drop now out))) ≡ length out = put_len now (next - now) out c.block_with_progress.new.out fits long in
+    let kept : length (take now out ++ (c.block_with_progress.new.out ++ drop (next - now) (drop now out)))
+    ≡ length out =
+    put_len now (next - now) out c.block_with_progress.new.out fits long in
     record {
-      played = play_step c.args.bank.now c.loop-note.player c.start-in-loop-note.new.self n (drop (i + 1) ns) now next out c.block_with_progress.new.out _ _ here (ap (λ (k : ℕ). 2 * k) same)
+      played =
+          play_step c.args.bank.now c.loop-note.player c.start-in-loop-note.new.self n (drop (i + 1) ns) now next out
+          c.block_with_progress.new.out _ _ here (ap (λ (k : ℕ). 2 * k) same)
           (c.block_with_progress.ensures.heard ∙ ap (λ (m : ℕ). block c.loop-note.player (m / 2)) sub) long
-          (c.in_ok-start.ensures.done ∙ ap (λ (ps : List Playing). after_start ps (heard.fresh c.args.bank.now n)) (c.block_with_progress.ensures.live ∙ ap (λ (m : ℕ). after_block c.loop-note.player (m / 2)) sub))
+          (c.in_ok-start.ensures.done
+          ∙ ap (λ (ps : List Playing). after_start ps (heard.fresh c.args.bank.now n))
+          (c.block_with_progress.ensures.live ∙ ap (λ (m : ℕ). after_block c.loop-note.player (m / 2)) sub))
           (λ _. take now out ++ (c.block_with_progress.new.out ++ drop (next - now) (drop now out))) kept;
       long = kept ∙ c.loop-note.invariant.long;
     }
@@ -38,8 +45,10 @@ returns g c =
     let long = c.loop-note.invariant.long in
     let end = played_end _ _ ns c.loop-note.note-index now out _ (omega arith) c.loop-note.invariant.played in
     let le : now ≤ length out = end.within in
-    let sub : length (take (length out - now) (drop now out)) ≡ length out - now = part_len now (length out - now) out (omega (arith, le)) in
-    play_last c.args.bank.now c.loop-note.player now out c.block_with_progress-2.new.out _ _ end (ap (λ (m : ℕ). m % 2) long ∙ c.requires.even)
+    let sub : length (take (length out - now) (drop now out)) ≡ length out - now =
+    part_len now (length out - now) out (omega (arith, le)) in
+    play_last c.args.bank.now c.loop-note.player now out c.block_with_progress-2.new.out _ _ end
+    (ap (λ (m : ℕ). m % 2) long ∙ c.requires.even)
     (c.block_with_progress-2.ensures.heard ∙ ap (λ (m : ℕ). block c.loop-note.player (m / 2)) sub)
     (last_put now out c.block_with_progress-2.new.out le)
     ∙ scheduled c.args.bank.now ns (length c.args.out.now / 2) c.requires.rising c.requires.within

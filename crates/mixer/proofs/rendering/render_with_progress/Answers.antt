@@ -10,22 +10,29 @@ use Rattle.mixer.proofs.rendering.render_with_progress.Goals as goal
 
 pub play-played-requires-clause-rising : goal.play-played-requires-clause-rising
 play-played-requires-clause-rising g c =
-    let sorted : c.as_slice.result.now ≡ order.in_order c.args.notes.now = c.as_slice.ensures.value ∙ c.in_ok-sorted.ensures in
+    let sorted : c.as_slice.result.now ≡ order.in_order c.args.notes.now =
+    c.as_slice.ensures.value ∙ c.in_ok-sorted.ensures in
     subst (λ (ms : List Numbers). IsRising 0 ms) (sym sorted) (rising-in_order c.args.notes.now)
 
 pub play-played-requires-clause-within : goal.play-played-requires-clause-within
 play-played-requires-clause-within g c =
-    let sorted : c.as_slice.result.now ≡ order.in_order c.args.notes.now = c.as_slice.ensures.value ∙ c.in_ok-sorted.ensures in
-    let long : length c.as_mut_slice.result.now ≡ 2 * c.frame_count-count.result = c.as_mut_slice.ensures.len ∙ c.in_ok-out.ensures.len in
+    let sorted : c.as_slice.result.now ≡ order.in_order c.args.notes.now =
+    c.as_slice.ensures.value ∙ c.in_ok-sorted.ensures in
+    let long : length c.as_mut_slice.result.now ≡ 2 * c.frame_count-count.result =
+    c.as_mut_slice.ensures.len ∙ c.in_ok-out.ensures.len in
     let half : whole.frame_count c.args.bank.now c.args.notes.now ≡ length c.as_mut_slice.result.now / 2 =
-    sym c.frame_count-count.ensures.value ∙ sym (half_of c.frame_count-count.result) ∙ ap (λ (k : ℕ). k / 2) (sym long) in
+    sym c.frame_count-count.ensures.value ∙ sym (half_of c.frame_count-count.result)
+    ∙ ap (λ (k : ℕ). k / 2) (sym long) in
     subst (λ (ms : List Numbers). StartWithin (length c.as_mut_slice.result.now / 2) ms) (sym sorted)
-    (subst (λ (m : ℕ). StartWithin m (order.in_order c.args.notes.now)) half (within-count c.args.bank.now c.args.notes.now))
+    (subst (λ (m : ℕ). StartWithin m (order.in_order c.args.notes.now)) half
+    (within-count c.args.bank.now c.args.notes.now))
 
 pub returns-clause-value : goal.returns-clause-value
 returns-clause-value g c =
-    let sorted : c.as_slice.result.now ≡ order.in_order c.args.notes.now = c.as_slice.ensures.value ∙ c.in_ok-sorted.ensures in
-    let long : length c.as_mut_slice.result.now ≡ 2 * c.frame_count-count.result = c.as_mut_slice.ensures.len ∙ c.in_ok-out.ensures.len in
+    let sorted : c.as_slice.result.now ≡ order.in_order c.args.notes.now =
+    c.as_slice.ensures.value ∙ c.in_ok-sorted.ensures in
+    let long : length c.as_mut_slice.result.now ≡ 2 * c.frame_count-count.result =
+    c.as_mut_slice.ensures.len ∙ c.in_ok-out.ensures.len in
     let half : length c.as_mut_slice.result.now / 2 ≡ whole.frame_count c.args.bank.now c.args.notes.now =
     ap (λ (k : ℕ). k / 2) long ∙ half_of c.frame_count-count.result ∙ c.frame_count-count.ensures.value in
     take_front c.in_ok-out.out.len c.play-played.new.out _ (c.play-played.auto.out ∙ c.as_mut_slice.ensures.len)

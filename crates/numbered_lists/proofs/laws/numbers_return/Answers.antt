@@ -1,4 +1,5 @@
-use Rattle.numbered_lists.proofs.Numbers.{move_returned, insertion_returned_all, removal_returned_all, move_returned_all}
+use Rattle.numbered_lists.proofs.Numbers.{move_returned, insertion_returned_all, removal_returned_all}
+use Rattle.numbered_lists.proofs.Numbers.{move_returned_all}
 use Rattle.numbered_lists.proofs.laws.numbers_return.Goals as goal
 
 pub returns-clause-move_back : goal.returns-clause-move_back

@@ -8,4 +8,5 @@ loop-begin-preserved c =
     let begins = c.loop-begin.begins in
     let i = c.loop-begin.begin-index in
     let x = get_or begins i 0 in
-    map_over_more (λ at. at + c.args.by) c.args.begins.now begins i x c.loop-begin-test.true c.loop-begin.invariant (get_or_default begins i 0 x (omega arith))
+    map_over_more (λ at. at + c.args.by) c.args.begins.now begins i x c.loop-begin-test.true c.loop-begin.invariant
+    (get_or_default begins i 0 x (omega arith))

@@ -10,4 +10,7 @@ is_ok-seen f g (Ok x) = refl
 is_ok-seen f g (Err e) = refl
 
 pub returns : goal.returns
-returns c = all_from_yields_List is_ok _ _ _ c.all.ensures.ran (YieldsList-from_first _ (λ rest. rest) _ c.over.ensures.value) (λ x b q k. rw is_ok-seen (search (rules, tests)))
+returns c =
+    all_from_yields_List is_ok _ _ _ c.all.ensures.ran
+    (YieldsList-from_first _ (λ rest. rest) _ c.over.ensures.value)
+    (λ x b q k. rw is_ok-seen (search (rules, tests)))

@@ -6,5 +6,6 @@ use Rattle.riff_chunks.proofs.first.take_first.Goals as goal
 pub returns-then-is_none : goal.returns-then-is_none
 returns-then-is_none c =
     let here : place_of c.args.id c.args.ids.now ≡ Some c.in-Some.place = cc in
-    put_first c.args.ids.now c.args.bodies.now c.args.id c.in-Some.place c.args.body here c.told-bodies c.if-place-lt-MOST_KEPT.true
+    put_first c.args.ids.now c.args.bodies.now c.args.id c.in-Some.place c.args.body here c.told-bodies
+    c.if-place-lt-MOST_KEPT.true
     (none_there _ (c.if-is_none.ensures))

@@ -9,13 +9,15 @@ abbrev zeros : List ℕ
 zeros = 0 ∷ 0 ∷ 0 ∷ 0 ∷ []
 
 -- eight bytes, of which four were copied and the others written as a number
-head_made : (copied written id : List ℕ) (size : ℕ) → length copied ≡ 4 → copied ≡ id → written ≡ little_bytes 4 size ++ drop 4 (take 4 (drop 4 (copied ++ zeros)))
+head_made : (copied written id : List ℕ) (size : ℕ) → length copied ≡ 4 → copied ≡ id
+    → written ≡ little_bytes 4 size ++ drop 4 (take 4 (drop 4 (copied ++ zeros)))
     → put_mid 4 4 (copied ++ zeros) written ≡ chunk_head id size
 unfolding chunk_head
 head_made copied written id size len same e =
     let front = take_at copied zeros 4 len in
     let rest = drop_at copied zeros 4 len in
-    let number : written ≡ little_bytes 4 size = e ∙ ap (λ (zs : List ℕ). little_bytes 4 size ++ drop 4 (take 4 zs)) rest in
+    let number : written ≡ little_bytes 4 size =
+    e ∙ ap (λ (zs : List ℕ). little_bytes 4 size ++ drop 4 (take 4 zs)) rest in
     rw (front, rest, number, same) refl
 
 pub returns : goal.returns

@@ -3,10 +3,16 @@ use Rattle.script_grammar.proofs.NameLaws.{named_here, named_behind, named_nowhe
 use Rattle.script_grammar.proofs.names.first_named.Goals as goal
 
 pub returns-then-says : goal.returns-then-says
-returns-then-says g c = sym (named_here _ c.args.items.now _ c.loop-item.item-index _ _ _ c.loop-item.invariant c.loop-item-test.true c.item-item.is c.word.ensures (sym c.says.ensures ∙ c.if-says.true))
+returns-then-says g c =
+    sym
+    (named_here _ c.args.items.now _ c.loop-item.item-index _ _ _ c.loop-item.invariant c.loop-item-test.true
+    c.item-item.is c.word.ensures (sym c.says.ensures ∙ c.if-says.true))
 
 pub loop-item-preserved : goal.loop-item-preserved
-loop-item-preserved g c = named_behind _ c.args.items.now _ c.loop-item.item-index _ _ _ c.loop-item.invariant c.loop-item-test.true c.item-item.is c.word.ensures (sym c.says.ensures ∙ c.if-says.false)
+loop-item-preserved g c =
+    named_behind _ c.args.items.now _ c.loop-item.item-index _ _ _ c.loop-item.invariant c.loop-item-test.true
+    c.item-item.is c.word.ensures (sym c.says.ensures ∙ c.if-says.false)
 
 pub returns : goal.returns
-returns g c = sym (named_nowhere _ c.args.items.now c.loop-item.item-index _ _ c.loop-item.invariant c.loop-item-test.false)
+returns g c =
+    sym (named_nowhere _ c.args.items.now c.loop-item.item-index _ _ c.loop-item.invariant c.loop-item-test.false)

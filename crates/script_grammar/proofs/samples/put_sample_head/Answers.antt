@@ -6,4 +6,6 @@ use Rattle.script_grammar.proofs.samples.put_sample_head.Goals as goal
 pub returns : goal.returns
 returns g c =
     let fits : FitsSigned w8 c.args.sample.now.correction = search rules in
-    puts_head c.args.sample.now c.put_name.ensures (rw (to_z-of_z w8 c.args.sample.now.correction fits) at c.put_tune.ensures) c.put_kind.ensures c.put_loop.ensures
+    puts_head c.args.sample.now c.put_name.ensures
+    (rw (to_z-of_z w8 c.args.sample.now.correction fits) at c.put_tune.ensures) c.put_kind.ensures
+    c.put_loop.ensures

@@ -6,4 +6,6 @@ use Rattle.script_grammar.proofs.zone_lines.put_all_zones.Given as goal
 
 -- the zones that are left are still to be put
 abbrev pub invariant-loop-zone : goal.invariant-loop-zone
-invariant-loop-zone g l = Putting g.W.Write.contents l.initial.output l.output (flat_map zone_text l.zones) (flat_map zone_text (drop l.zone-index l.zones))
+invariant-loop-zone g l =
+    Putting g.W.Write.contents l.initial.output l.output (flat_map zone_text l.zones)
+    (flat_map zone_text (drop l.zone-index l.zones))

@@ -6,4 +6,6 @@ use Rattle.script_grammar.proofs.zone_lines.put_generators.Given as goal
 
 -- the generators that are left are still to be put
 abbrev pub invariant-loop-entry : goal.invariant-loop-entry
-invariant-loop-entry g l = Putting g.W.Write.contents l.initial.output l.output (flat_map generator_text l.entries) (flat_map generator_text (drop l.entry-index l.entries))
+invariant-loop-entry g l =
+    Putting g.W.Write.contents l.initial.output l.output (flat_map generator_text l.entries)
+    (flat_map generator_text (drop l.entry-index l.entries))

@@ -5,4 +5,6 @@ use Rattle.script_grammar.proofs.PutLaws.{puts_both}
 use Rattle.script_grammar.proofs.zone_lines.put_modulator_item.Goals as goal
 
 pub returns : goal.returns
-returns g c = puts_both (Fixed (codes "m") ∷ []) (modulator_operands c.args.modulator.now) (rw c.new.ensures at c.put_pieces.ensures) c.put_modulator.ensures
+returns g c =
+    puts_both (Fixed (codes "m") ∷ []) (modulator_operands c.args.modulator.now)
+    (rw c.new.ensures at c.put_pieces.ensures) c.put_modulator.ensures

@@ -6,4 +6,6 @@ use Rattle.script_grammar.proofs.zone_lines.put_modulators.Given as goal
 
 -- the modulators that are left are still to be put
 abbrev pub invariant-loop-modulator : goal.invariant-loop-modulator
-invariant-loop-modulator g l = Putting g.W.Write.contents l.initial.output l.output (flat_map modulator_text l.mods) (flat_map modulator_text (drop l.modulator-index l.mods))
+invariant-loop-modulator g l =
+    Putting g.W.Write.contents l.initial.output l.output (flat_map modulator_text l.mods)
+    (flat_map modulator_text (drop l.modulator-index l.mods))

@@ -12,4 +12,6 @@ returns-in_err-word c =
 
 pub returns : goal.returns
 unfolding global_behind
-returns c = then_reads word (λ w. global_zones) (λ z. z) c.args.line.now c.word.new.self c.global_zones.new.line _ c.global_zones.result c.in_ok-word.ensures c.global_zones.ensures
+returns c =
+    then_reads word (λ w. global_zones) (λ z. z) c.args.line.now c.word.new.self c.global_zones.new.line _
+    c.global_zones.result c.in_ok-word.ensures c.global_zones.ensures

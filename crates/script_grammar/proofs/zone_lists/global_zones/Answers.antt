@@ -16,14 +16,17 @@ pub returns-in_err-global : goal.returns-in_err-global
 unfolding global_zones
 returns-in_err-global c =
     let p = err_from_is_err_and c.from_residual.result c.from_residual.ensures.1 in
-    rw (p.1, p.2) (first_wants items (λ g. zones_left [] >>= beside g) (λ z. z) (λ z. z) c.args.line.now c.items.new.line c.items.new.line c.in_err-global.field-0.0 c.in_err-global.ensures)
+    rw (p.1, p.2)
+    (first_wants items (λ g. zones_left [] >>= beside g) (λ z. z) (λ z. z) c.args.line.now c.items.new.line
+    c.items.new.line c.in_err-global.field-0.0 c.in_err-global.ensures)
 
 pub returns-in_err-zones : goal.returns-in_err-zones
 unfolding global_zones
 returns-in_err-zones c =
     let g : GlobalZone = c.in_ok-global.global in
     let p = err_from_is_err_and c.from_residual-in_err-zones.result c.from_residual-in_err-zones.ensures.1 in
-    rw (p.1, p.2) (then_reads items (λ g. zones_left [] >>= beside g) (λ z. z) c.args.line.now c.items.new.line c.zones_left.new.line g (Err c.in_err-zones.field-0.0) c.in_ok-global.ensures
+    rw (p.1, p.2) (then_reads items (λ g. zones_left [] >>= beside g) (λ z. z) c.args.line.now c.items.new.line
+    c.zones_left.new.line g (Err c.in_err-zones.field-0.0) c.in_ok-global.ensures
     (first_wants (zones_left []) (beside g) (λ z. z) (λ z. z) c.items.new.line c.zones_left.new.line c.zones_left.new.line c.in_err-zones.field-0.0 (subst (λ (zs : List Zone). ReadsOrWants {X = List Zone} (λ zs. zs) (zones_left zs) c.items.new.line c.zones_left.new.line (Err c.in_err-zones.field-0.0)) c.new.ensures c.in_err-zones.ensures)))
 
 pub returns : goal.returns
@@ -31,5 +34,7 @@ unfolding global_zones
 returns c =
     let g : GlobalZone = c.in_ok-global.global in
     let zs : List Zone = c.in_ok-zones.zones in
-    then_reads items (λ g. zones_left [] >>= beside g) (λ z. z) c.args.line.now c.items.new.line c.zones_left.new.line g (Ok (g, zs)) c.in_ok-global.ensures
-    (then_reads (zones_left []) (beside g) (λ z. z) c.items.new.line c.zones_left.new.line c.zones_left.new.line zs (Ok (g, zs)) (rw c.new.ensures at c.in_ok-zones.ensures) (refl, refl))
+    then_reads items (λ g. zones_left [] >>= beside g) (λ z. z) c.args.line.now c.items.new.line
+    c.zones_left.new.line g (Ok (g, zs)) c.in_ok-global.ensures
+    (then_reads (zones_left []) (beside g) (λ z. z) c.items.new.line c.zones_left.new.line c.zones_left.new.line zs
+    (Ok (g, zs)) (rw c.new.ensures at c.in_ok-zones.ensures) (refl, refl))

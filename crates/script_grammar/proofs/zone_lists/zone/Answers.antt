@@ -7,8 +7,11 @@ pub returns-in_err-fixed : goal.returns-in_err-fixed
 unfolding zone
 returns-in_err-fixed c =
     let p = err_from_is_err_and c.from_residual.result c.from_residual.ensures.1 in
-    rw (p.1, p.2) (first_fails opened (λ o. zone_behind) c.args.line.now c.in_err-fixed.field-0.0 c.in_err-fixed.ensures)
+    rw (p.1, p.2)
+    (first_fails opened (λ o. zone_behind) c.args.line.now c.in_err-fixed.field-0.0 c.in_err-fixed.ensures)
 
 pub returns : goal.returns
 unfolding zone
-returns c = then_reads opened (λ o. zone_behind) (λ z. z) c.args.line.now c.fixed.new.line c.zone_behind.new.line tt c.zone_behind.result c.in_ok-fixed.ensures c.zone_behind.ensures
+returns c =
+    then_reads opened (λ o. zone_behind) (λ z. z) c.args.line.now c.fixed.new.line c.zone_behind.new.line tt
+    c.zone_behind.result c.in_ok-fixed.ensures c.zone_behind.ensures

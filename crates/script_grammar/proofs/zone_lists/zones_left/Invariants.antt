@@ -4,7 +4,8 @@ use Rattle.script_grammar.proofs.zone_lists.zones_left.Given as goal
 
 -- what is left, behind the zones that there are, makes the whole
 abbrev pub invariant-loop-alloc : goal.invariant-loop-alloc
-invariant-loop-alloc l = (zones_left l.zones l.line.said ≡ zones_left l.fn.zones l.fn.line.said) × (l.line.pool ≡ l.fn.line.pool)
+invariant-loop-alloc l =
+    (zones_left l.zones l.line.said ≡ zones_left l.fn.zones l.fn.line.said) × (l.line.pool ≡ l.fn.line.pool)
 
 abbrev pub decreases-loop-alloc : goal.decreases-loop-alloc
 decreases-loop-alloc l = length l.line.said

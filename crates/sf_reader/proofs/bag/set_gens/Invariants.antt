@@ -13,4 +13,6 @@ invariant-loop-record l =
     × (take l.start l.gens.items ≡ take l.start l.fn.gens.items)
     × EndsInMap l.start l.gens.items
     × (target_of l.level l.record-iterator ≡ target_of l.level l.records)
-    × (set_in_order (map_from l.start l.gens.items) (entries_in l.level l.record-iterator) ≡ set_in_order (map_from l.start l.fn.gens.items) (entries_in l.level l.records))
+    ×
+    (set_in_order (map_from l.start l.gens.items) (entries_in l.level l.record-iterator)
+    ≡ set_in_order (map_from l.start l.fn.gens.items) (entries_in l.level l.records))

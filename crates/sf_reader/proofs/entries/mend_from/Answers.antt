@@ -1,18 +1,23 @@
 use Rattle.std.proofs.Common.{◌∙◌, ◌^◌, ◌<◌, ℕ, List, drop, ap, subst, arith}
 use Rattle.generators.specs.Places.{IsAt, IsGapFor}
-use Rattle.sf_reader.proofs.EntryLaws.{rest_is, set-front, set-map, out_of_order, mended_is, none_out_of_order, none_mended}
+use Rattle.sf_reader.proofs.EntryLaws.{rest_is, set-front, set-map, out_of_order, mended_is, none_out_of_order}
+use Rattle.sf_reader.proofs.EntryLaws.{none_mended}
 use Rattle.sf_reader.proofs.entries.mend_from.Goals as goal
 
 pub returns-in_default-clause-changed : goal.returns-in_default-clause-changed
 returns-in_default-clause-changed c =
     let rest = rest_is c.args.start c.deref.result.now ∙ ap (drop c.args.start) c.deref.ensures.value in
-    let absent = subst (λ (l : List (ℕ × ℕ)). IsGapFor l c.args.operator c.in_default.field-0) rest c.in_default.ensures.absent in
+    let absent =
+    subst (λ (l : List (ℕ × ℕ)). IsGapFor l c.args.operator c.in_default.field-0) rest
+    c.in_default.ensures.absent in
     none_out_of_order c.args.start c.args.entries.now.items c.requires c.args.operator c.in_default.field-0 absent
 
 pub returns-in_default-clause-mended : goal.returns-in_default-clause-mended
 returns-in_default-clause-mended c =
     let rest = rest_is c.args.start c.deref.result.now ∙ ap (drop c.args.start) c.deref.ensures.value in
-    let absent = subst (λ (l : List (ℕ × ℕ)). IsGapFor l c.args.operator c.in_default.field-0) rest c.in_default.ensures.absent in
+    let absent =
+    subst (λ (l : List (ℕ × ℕ)). IsGapFor l c.args.operator c.in_default.field-0) rest
+    c.in_default.ensures.absent in
     none_mended c.args.start c.args.entries.now.items c.requires c.args.operator c.in_default.field-0 absent
 
 pub returns : goal.returns
@@ -29,5 +34,7 @@ returns c =
       front = set-front start es c.requires c.args.operator v (omega arith) fits at found;
       map = set-map start es c.requires c.args.operator v (omega arith) fits at found;
       changed = out_of_order start es c.requires c.args.operator at v c.index.result.now found c.index.ensures v_is;
-      mended = mended_is start es c.requires c.args.operator at v c.index.result.now found c.index.ensures v_is (omega arith) fits;
+      mended =
+          mended_is start es c.requires c.args.operator at v c.index.result.now found c.index.ensures v_is
+          (omega arith) fits;
     }

@@ -22,7 +22,16 @@ returns-in_ok-insert-in-Err c =
     let rest = rest_is start c.deref.result.now ∙ ap (drop start) c.deref.ensures.value in
     let absent = subst (λ (l : List (ℕ × ℕ)). IsGapFor l c.args.operator c.in-Err.at) rest c.in-Err.ensures.absent in
     record {
-      front = rw c.in_ok-insert-in-Err.ensures.items (insert-front start es c.requires c.args.operator c.args.amount (omega arith) (omega arith) c.in-Err.at absent);
-      map = rw c.in_ok-insert-in-Err.ensures.items (insert-map start es c.requires c.args.operator c.args.amount (omega arith) (omega arith) c.in-Err.at absent);
-      set = rw c.in_ok-insert-in-Err.ensures.items (insert-set start es c.requires c.args.operator c.args.amount (omega arith) (omega arith) c.in-Err.at absent);
+      front =
+          rw c.in_ok-insert-in-Err.ensures.items
+          (insert-front start es c.requires c.args.operator c.args.amount (omega arith) (omega arith) c.in-Err.at
+          absent);
+      map =
+          rw c.in_ok-insert-in-Err.ensures.items
+          (insert-map start es c.requires c.args.operator c.args.amount (omega arith) (omega arith) c.in-Err.at
+          absent);
+      set =
+          rw c.in_ok-insert-in-Err.ensures.items
+          (insert-set start es c.requires c.args.operator c.args.amount (omega arith) (omega arith) c.in-Err.at
+          absent);
     }

@@ -8,13 +8,16 @@ use Rattle.sf_reader.proofs.owners.read_members.Goals as goal
 use Rattle.sf_reader.proofs.owners.read_members.Goals.{After-read_owners-2}
 
 pub read_owners-requires-clause-heads : goal.read_owners-requires-clause-heads
-read_owners-requires-clause-heads c = rw c.presets.ensures.heads_are (few_records c.args.tables.now c.requires.counts).phdr
+read_owners-requires-clause-heads c =
+    rw c.presets.ensures.heads_are (few_records c.args.tables.now c.requires.counts).phdr
 
 pub read_owners-requires-clause-bags : goal.read_owners-requires-clause-bags
-read_owners-requires-clause-bags c = rw c.presets.ensures.bags_are (few_records c.args.tables.now c.requires.counts).pbag
+read_owners-requires-clause-bags c =
+    rw c.presets.ensures.bags_are (few_records c.args.tables.now c.requires.counts).pbag
 
 pub read_owners-requires-clause-generators : goal.read_owners-requires-clause-generators
-read_owners-requires-clause-generators c = rw c.presets.ensures.generators_are (few_records c.args.tables.now c.requires.counts).pgen
+read_owners-requires-clause-generators c =
+    rw c.presets.ensures.generators_are (few_records c.args.tables.now c.requires.counts).pgen
 
 pub returns-in_err-presets : goal.returns-in_err-presets
 returns-in_err-presets c =
@@ -29,19 +32,25 @@ returns-in_err-presets c =
       instruments_count = c.row_count.ensures ∙ ap (λ hs. length (rows hs)) c.instruments.ensures.heads_are;
       samples_count = refl;
     } in
-    presets_fail t p i n (length (rows t.shdr)) levels c.from_residual.result c.in_err-presets.field-0.0 c.from_residual.ensures.1 c.in_err-presets.ensures
+    presets_fail t p i n (length (rows t.shdr)) levels c.from_residual.result c.in_err-presets.field-0.0
+    c.from_residual.ensures.1 c.in_err-presets.ensures
 
 pub read_owners-requires-2-clause-heads : goal.read_owners-requires-2-clause-heads
-read_owners-requires-2-clause-heads c = rw c.instruments-2.ensures.heads_are (few_records c.args.tables.now c.requires.counts).inst
+read_owners-requires-2-clause-heads c =
+    rw c.instruments-2.ensures.heads_are (few_records c.args.tables.now c.requires.counts).inst
 
 pub read_owners-requires-2-clause-bags : goal.read_owners-requires-2-clause-bags
-read_owners-requires-2-clause-bags c = rw c.instruments-2.ensures.bags_are (few_records c.args.tables.now c.requires.counts).ibag
+read_owners-requires-2-clause-bags c =
+    rw c.instruments-2.ensures.bags_are (few_records c.args.tables.now c.requires.counts).ibag
 
 pub read_owners-requires-2-clause-generators : goal.read_owners-requires-2-clause-generators
-read_owners-requires-2-clause-generators c = rw c.instruments-2.ensures.generators_are (few_records c.args.tables.now c.requires.counts).igen
+read_owners-requires-2-clause-generators c =
+    rw c.instruments-2.ensures.generators_are (few_records c.args.tables.now c.requires.counts).igen
 
 -- the levels, once the presets are read
-levels : (c : After-read_owners-2) → Levels c.args.tables.now c.presets.result.now c.instruments-2.result.now c.row_count.result c.row_count-2.result
+levels : (c : After-read_owners-2)
+    → Levels c.args.tables.now c.presets.result.now c.instruments-2.result.now c.row_count.result
+    c.row_count-2.result
 levels c = record {
   presets_are = c.presets.ensures;
   instruments_are = c.instruments-2.ensures;
@@ -52,9 +61,13 @@ levels c = record {
 
 pub returns-in_err-instruments : goal.returns-in_err-instruments
 returns-in_err-instruments c =
-    instruments_fail _ _ _ _ _ (levels (goal.at.returns-in_err-instruments c).After-read_owners-2) c.from_residual-in_err-instruments.result c.in_err-instruments.field-0.0 c.from_residual-in_err-instruments.ensures.1
+    instruments_fail _ _ _ _ _ (levels (goal.at.returns-in_err-instruments c).After-read_owners-2)
+    c.from_residual-in_err-instruments.result c.in_err-instruments.field-0.0
+    c.from_residual-in_err-instruments.ensures.1
     c.in_ok-presets.ensures.0 c.in_err-instruments.ensures
 
 pub returns : goal.returns
 returns c =
-    members_hold _ _ _ _ _ (levels (goal.at.returns c).After-read_owners-2) (owners_seen c.in_ok-presets.presets) (owners_seen c.in_ok-instruments.instruments) c.in_ok-presets.ensures.0 c.in_ok-presets.ensures.1 c.in_ok-instruments.ensures.0 c.in_ok-instruments.ensures.1
+    members_hold _ _ _ _ _ (levels (goal.at.returns c).After-read_owners-2) (owners_seen c.in_ok-presets.presets)
+    (owners_seen c.in_ok-instruments.instruments) c.in_ok-presets.ensures.0 c.in_ok-presets.ensures.1
+    c.in_ok-instruments.ensures.0 c.in_ok-instruments.ensures.1

@@ -15,16 +15,22 @@ returns-in_err-counts-clause-passes g c =
     let n = c.args.targets.count in
     let missing = c.args.targets.missing in
     let e = c.in_err-counts.field-0.0 in
-    given_by (λ u. u) tt c.from_residual.result e (steps_of_bags h.level n missing (window_of h.first_bag l c.args.head.now c.args.next.now)) c.from_residual.ensures.1
+    given_by (λ u. u) tt c.from_residual.result e
+    (steps_of_bags h.level n missing (window_of h.first_bag l c.args.head.now c.args.next.now))
+    c.from_residual.ensures.1
     (between_as (λ at bags. Fails e (first_broken (steps_of_bags at n missing bags))) h.first_bag l c.args.head.now c.args.next.now h.level c.LEVEL.result c.part-bags.result c.first_bag.result c.first_bag-2.result
-    (c.LEVEL.ensures ∙ sym g.met.H.RecordedHead.same_level) c.part-bags.ensures c.first_bag.ensures c.first_bag-2.ensures c.in_err-counts.ensures.passes)
+    (c.LEVEL.ensures ∙ sym g.met.H.RecordedHead.same_level) c.part-bags.ensures c.first_bag.ensures
+    c.first_bag-2.ensures c.in_err-counts.ensures.passes)
 
 pub add-read-requires : goal.add-read-requires
 add-read-requires g c =
     let l = c.args.level.now in
     let h = g.H.RecordedHead.headers in
-    let counts = between_as (λ at bags. c.in_ok-counts.counts ≡ counts_read at bags) h.first_bag l c.args.head.now c.args.next.now h.level c.LEVEL.result c.part-bags.result c.first_bag.result c.first_bag-2.result
-    (c.LEVEL.ensures ∙ sym g.met.H.RecordedHead.same_level) c.part-bags.ensures c.first_bag.ensures c.first_bag-2.ensures c.in_ok-counts.ensures.passes.1 in
+    let counts =
+    between_as (λ at bags. c.in_ok-counts.counts ≡ counts_read at bags) h.first_bag l c.args.head.now
+    c.args.next.now h.level c.LEVEL.result c.part-bags.result c.first_bag.result c.first_bag-2.result
+    (c.LEVEL.ensures ∙ sym g.met.H.RecordedHead.same_level) c.part-bags.ensures c.first_bag.ensures
+    c.first_bag-2.ensures c.in_ok-counts.ensures.passes.1 in
     subst (λ (d : ZoneCounts). AreSmall (added c.args.read.now.counts d)) (sym counts) c.requires.counts
 
 pub returns-clause-passes : goal.returns-clause-passes
@@ -33,8 +39,10 @@ returns-clause-passes g c =
     let h = g.H.RecordedHead.headers in
     let n = c.args.targets.count in
     let missing = c.args.targets.missing in (
-      between_as (λ at bags. first_broken (steps_of_bags at n missing bags) ≡ None) h.first_bag l c.args.head.now c.args.next.now h.level c.LEVEL.result c.part-bags.result c.first_bag.result c.first_bag-2.result
-          (c.LEVEL.ensures ∙ sym g.met.H.RecordedHead.same_level) c.part-bags.ensures c.first_bag.ensures c.first_bag-2.ensures c.in_ok-counts.ensures.passes.0,
+      between_as (λ at bags. first_broken (steps_of_bags at n missing bags) ≡ None) h.first_bag l c.args.head.now
+          c.args.next.now h.level c.LEVEL.result c.part-bags.result c.first_bag.result c.first_bag-2.result
+          (c.LEVEL.ensures ∙ sym g.met.H.RecordedHead.same_level) c.part-bags.ensures c.first_bag.ensures
+          c.first_bag-2.ensures c.in_ok-counts.ensures.passes.0,
       refl,
     )
 
@@ -42,13 +50,23 @@ pub returns-clause-read : goal.returns-clause-read
 returns-clause-read g c =
     let l = c.args.level.now in
     let h = g.H.RecordedHead.headers in
-    let counts = between_as (λ at bags. c.in_ok-counts.counts ≡ counts_read at bags) h.first_bag l c.args.head.now c.args.next.now h.level c.LEVEL.result c.part-bags.result c.first_bag.result c.first_bag-2.result
-    (c.LEVEL.ensures ∙ sym g.met.H.RecordedHead.same_level) c.part-bags.ensures c.first_bag.ensures c.first_bag-2.ensures c.in_ok-counts.ensures.passes.1 in
+    let counts =
+    between_as (λ at bags. c.in_ok-counts.counts ≡ counts_read at bags) h.first_bag l c.args.head.now
+    c.args.next.now h.level c.LEVEL.result c.part-bags.result c.first_bag.result c.first_bag-2.result
+    (c.LEVEL.ensures ∙ sym g.met.H.RecordedHead.same_level) c.part-bags.ensures c.first_bag.ensures
+    c.first_bag-2.ensures c.in_ok-counts.ensures.passes.1 in
     record {
-      heads_grow = pushed_as c.args.read.now.heads.items c.push.new.self.items c.of_record.result (h.read c.args.head.now) c.in_ok-push.ensures.items c.of_record.ensures;
-      first_bags_grow = pushed_as c.args.read.now.first_bags.items c.push-2.new.self.items c.in_ok-past.past (length c.read_bags.new.records.bags.items - 1) c.in_ok-push-2.ensures.items c.in_ok-past.ensures;
+      heads_grow =
+          pushed_as c.args.read.now.heads.items c.push.new.self.items c.of_record.result (h.read c.args.head.now)
+          c.in_ok-push.ensures.items c.of_record.ensures;
+      first_bags_grow =
+          pushed_as c.args.read.now.first_bags.items c.push-2.new.self.items c.in_ok-past.past
+          (length c.read_bags.new.records.bags.items - 1) c.in_ok-push-2.ensures.items c.in_ok-past.ensures;
       records_grow =
-          between_as (λ at bags. Adds c.args.read.now.records c.read_bags.new.records (own_bags at bags)) h.first_bag l c.args.head.now c.args.next.now h.level c.LEVEL.result c.part-bags.result c.first_bag.result c.first_bag-2.result
-          (c.LEVEL.ensures ∙ sym g.met.H.RecordedHead.same_level) c.part-bags.ensures c.first_bag.ensures c.first_bag-2.ensures c.in_ok-counts.ensures.records;
+          between_as (λ at bags. Adds c.args.read.now.records c.read_bags.new.records (own_bags at bags)) h.first_bag
+          l c.args.head.now c.args.next.now h.level c.LEVEL.result c.part-bags.result c.first_bag.result
+          c.first_bag-2.result
+          (c.LEVEL.ensures ∙ sym g.met.H.RecordedHead.same_level) c.part-bags.ensures c.first_bag.ensures
+          c.first_bag-2.ensures c.in_ok-counts.ensures.records;
       counts_grow = c.add-read.ensures ∙ ap (added c.args.read.now.counts) counts;
     }

@@ -7,4 +7,5 @@ abbrev pub invariant-loop-next : goal.invariant-loop-next
 invariant-loop-next g l =
     (goal.iterator-loop-next g).can_next l.next-iterator
     × (goal.iterator-loop-next g).is_finite l.next-iterator
-    × Left g.H.RecordedHead.headers l.targets.count l.targets.missing (bags_in l.level.bags l.level.generators l.level.modulators) l.level.heads l.read l.head l.next-iterator
+    × Left g.H.RecordedHead.headers l.targets.count l.targets.missing
+    (bags_in l.level.bags l.level.generators l.level.modulators) l.level.heads l.read l.head l.next-iterator

@@ -33,7 +33,8 @@ returns c =
         links = c.count_lost_links.result;
       };
     })
-    ∙ found_content c.args.minor c.args.lists.now c.args.tables.now (members_seen c.args.members) c.args.samples c.texts_of-texts.result c.cut_texts.result
+    ∙ found_content c.args.minor c.args.lists.now c.args.tables.now (members_seen c.args.members) c.args.samples
+    c.texts_of-texts.result c.cut_texts.result
     c.count_cut.result c.count_sm24.result c.add-zone_counts.result c.count_lost_loops.result c.count_lost_links.result
     (record {
       texts_are = c.texts_of-texts.ensures ∙ ap texts_in info;

@@ -17,7 +17,8 @@ unfolding SFBK
 returns-in_err-window-clause-err c =
     let file = c.args.file.now in
     let e = Fault c.in_err-window.field-0.0 in
-    fails_by c.from_residual.result e (fault_of file) c.from_residual.ensures.1 (in_frame file e c.in_err-window.ensures)
+    fails_by c.from_residual.result e (fault_of file) c.from_residual.ensures.1
+    (in_frame file e c.in_err-window.ensures)
 
 pub returns-in_err-lists-clause-err : goal.returns-in_err-lists-clause-err
 unfolding SFBK
@@ -33,7 +34,8 @@ returns-in_err-flat-clause-err c =
     let file = c.args.file.now in
     let e = c.in_err-flat.field-0.0 in
     fails_by c.from_residual-in_err-flat.result e (fault_of file) c.from_residual-in_err-flat.ensures.1
-    (in_content file e c.in_ok-window.window.now c.in_ok-lists.lists c.in_ok-window.ensures.1 c.in_ok-lists.ensures.1 c.in_ok-window.ensures.0 c.in_ok-lists.ensures.0 c.in_err-flat.ensures)
+    (in_content file e c.in_ok-window.window.now c.in_ok-lists.lists c.in_ok-window.ensures.1 c.in_ok-lists.ensures.1
+    c.in_ok-window.ensures.0 c.in_ok-lists.ensures.0 c.in_err-flat.ensures)
 
 pub unwrap-bank-requires : goal.unwrap-bank-requires
 unfolding SFBK
@@ -41,10 +43,20 @@ unwrap-bank-requires c =
     let file = c.args.file.now in
     let bytes = are_bytes file c.type_inv.file in
     let b = (content_in (window file)).bank in
-    let holds = file_holds file c.in_ok-window.window.now c.in_ok-lists.lists c.in_ok-window.ensures.1 c.in_ok-lists.ensures.1 c.in_ok-window.ensures.0 c.in_ok-lists.ensures.0 c.in_ok-flat.ensures.0 in
+    let holds =
+    file_holds file c.in_ok-window.window.now c.in_ok-lists.lists c.in_ok-window.ensures.1
+    c.in_ok-lists.ensures.1 c.in_ok-window.ensures.0 c.in_ok-lists.ensures.0 c.in_ok-flat.ensures.0 in
     let content = c.in_ok-flat.ensures.1 ∙ holds.1 in
-    let sound : IsSound b = record { valid = c.read_banks_are_valid.ensures.valid file bytes holds.0; fits = c.read_banks_are_valid.ensures.fits file bytes } in
-    is_there c.in_ok-flat.flat c.from_flat.result c.from_flat.ensures b sound (is_flat c.in_ok-flat.flat b (ap (λ (k : FlatContent). k.bank) content))
+    let sound : IsSound b =
+    record {
+      valid =
+          c.read_banks_are_valid.ensures.valid file bytes holds.0;
+      fits =
+          c.read_banks_are_valid.ensures.fits file bytes;
+    }
+    in
+    is_there c.in_ok-flat.flat c.from_flat.result c.from_flat.ensures b sound
+    (is_flat c.in_ok-flat.flat b (ap (λ (k : FlatContent). k.bank) content))
 
 pub returns-clause-ok : goal.returns-clause-ok
 unfolding SFBK
@@ -53,10 +65,22 @@ returns-clause-ok c =
     let bytes = are_bytes file c.type_inv.file in
     let b = (content_in (window file)).bank in
     let bank = c.unwrap-bank.result in
-    let holds = file_holds file c.in_ok-window.window.now c.in_ok-lists.lists c.in_ok-window.ensures.1 c.in_ok-lists.ensures.1 c.in_ok-window.ensures.0 c.in_ok-lists.ensures.0 c.in_ok-flat.ensures.0 in
+    let holds =
+    file_holds file c.in_ok-window.window.now c.in_ok-lists.lists c.in_ok-window.ensures.1
+    c.in_ok-lists.ensures.1 c.in_ok-window.ensures.0 c.in_ok-lists.ensures.0 c.in_ok-flat.ensures.0 in
     let content = c.in_ok-flat.ensures.1 ∙ holds.1 in
-    let sound : IsSound b = record { valid = c.read_banks_are_valid.ensures.valid file bytes holds.0; fits = c.read_banks_are_valid.ensures.fits file bytes } in
+    let sound : IsSound b =
+    record {
+      valid =
+          c.read_banks_are_valid.ensures.valid file bytes holds.0;
+      fits =
+          c.read_banks_are_valid.ensures.fits file bytes;
+    }
+    in
     let sound_too : IsSound bank = c.soundness.ensures in
-    let same = bank_is c.in_ok-flat.flat b bank sound sound_too (is_flat c.in_ok-flat.flat b (ap (λ (k : FlatContent). k.bank) content)) (has_lists c.in_ok-flat.flat c.from_flat.result bank c.from_flat.ensures c.unwrap-bank.ensures) in
+    let same =
+    bank_is c.in_ok-flat.flat b bank sound sound_too
+    (is_flat c.in_ok-flat.flat b (ap (λ (k : FlatContent). k.bank) content))
+    (has_lists c.in_ok-flat.flat c.from_flat.result bank c.from_flat.ensures c.unwrap-bank.ensures) in
     let counts = sym (ap (λ (k : FlatContent). k.counts) content) in
     (holds.0, λ i. record { bank = same i; counts = counts i })

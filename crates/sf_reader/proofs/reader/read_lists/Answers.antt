@@ -20,10 +20,12 @@ abbrev chunks : Inside → ListChunks
 chunks l = record { info = l.info; sdta = l.sdta; pdta = l.pdta }
 
 -- a fault of the chunks v, which are those of the lists
-stops : (r : Result (Flat × Counts) (Failure ReadFault)) (e : Failure ReadFault) (v w : ListChunks) → v ≡ w → IsErrAnd r (λ d. d ≡ e) → Fails e (first_broken (list_content_steps v))
+stops : (r : Result (Flat × Counts) (Failure ReadFault)) (e : Failure ReadFault) (v w : ListChunks) → v ≡ w
+    → IsErrAnd r (λ d. d ≡ e) → Fails e (first_broken (list_content_steps v))
     → PassesGivenMemory content_seen r (list_content_steps w) (list_content w)
 stops r e v w same is h =
-    given_by content_seen (list_content w) r e (list_content_steps w) is (subst (λ (u : ListChunks). Fails e (first_broken (list_content_steps u))) same h)
+    given_by content_seen (list_content w) r e (list_content_steps w) is
+    (subst (λ (u : ListChunks). Fails e (first_broken (list_content_steps u))) same h)
 
 -- what is found before the version is read
 opened : (c : In_ok-bodies) → Opened (chunks c.lists.inside) c.in_ok-version.version.now c.in_ok-bodies.bodies
@@ -40,14 +42,16 @@ unfolding IFIL
 returns-in_err-version c =
     let w = chunks c.lists.inside in
     let e = Fault c.in_err-version.field-0.0 in
-    stops c.from_residual.result e w c.args.lists.now c.lists.view_is c.from_residual.ensures.1 (in_there w e c.in_err-version.ensures)
+    stops c.from_residual.result e w c.args.lists.now c.lists.view_is c.from_residual.ensures.1
+    (in_there w e c.in_err-version.ensures)
 
 pub returns-in_err-bodies : goal.returns-in_err-bodies
 unfolding IFIL
 returns-in_err-bodies c =
     let w = chunks c.lists.inside in
     let e = Fault c.in_err-bodies.field-0.0 in
-    stops c.from_residual-in_err-bodies.result e w c.args.lists.now c.lists.view_is c.from_residual-in_err-bodies.ensures.1
+    stops c.from_residual-in_err-bodies.result e w c.args.lists.now c.lists.view_is
+    c.from_residual-in_err-bodies.ensures.1
     (in_nine w e c.in_ok-version.ensures.0 c.in_err-bodies.ensures)
 
 pub returns-in_err-minor : goal.returns-in_err-minor
@@ -55,16 +59,20 @@ unfolding IFIL
 returns-in_err-minor c =
     let w = chunks c.lists.inside in
     let e = Fault c.in_err-minor.field-0.0 in
-    stops c.from_residual-in_err-minor.result e w c.args.lists.now c.lists.view_is c.from_residual-in_err-minor.ensures.1
-    (in_version w e c.in_ok-version.version.now c.in_ok-bodies.bodies (opened (goal.at.returns-in_err-minor c).In_ok-bodies) c.in_err-minor.ensures)
+    stops c.from_residual-in_err-minor.result e w c.args.lists.now c.lists.view_is
+    c.from_residual-in_err-minor.ensures.1
+    (in_version w e c.in_ok-version.version.now c.in_ok-bodies.bodies
+    (opened (goal.at.returns-in_err-minor c).In_ok-bodies) c.in_err-minor.ensures)
 
 pub returns-in_err-tables : goal.returns-in_err-tables
 unfolding IFIL
 returns-in_err-tables c =
     let w = chunks c.lists.inside in
     let e = Fault c.in_err-tables.field-0.0 in
-    stops c.from_residual-in_err-tables.result e w c.args.lists.now c.lists.view_is c.from_residual-in_err-tables.ensures.1
-    (in_whole w e c.in_ok-version.version.now c.in_ok-bodies.bodies (opened (goal.at.returns-in_err-tables c).In_ok-bodies) c.in_ok-minor.ensures.0 c.in_err-tables.ensures)
+    stops c.from_residual-in_err-tables.result e w c.args.lists.now c.lists.view_is
+    c.from_residual-in_err-tables.ensures.1
+    (in_whole w e c.in_ok-version.version.now c.in_ok-bodies.bodies
+    (opened (goal.at.returns-in_err-tables c).In_ok-bodies) c.in_ok-minor.ensures.0 c.in_err-tables.ensures)
 
 pub returns : goal.returns
 unfolding IFIL
@@ -85,4 +93,5 @@ returns c =
     let same = c.lists.view_is in
     subst (λ (u : ListChunks). PassesGivenMemory content_seen r (list_content_steps u) (list_content u)) same
     (tables_pass content_seen r w c.in_ok-version.version.now c.in_ok-bodies.bodies minor t smpl found
-    (subst (λ (u : ListChunks). PassesGivenMemory content_seen r (table_steps t smpl) (table_content minor u t smpl)) (sym same) c.read_tables.ensures))
+    (subst (λ (u : ListChunks). PassesGivenMemory content_seen r (table_steps t smpl)
+    (table_content minor u t smpl)) (sym same) c.read_tables.ensures))

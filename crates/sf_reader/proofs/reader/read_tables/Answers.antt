@@ -18,14 +18,18 @@ pub returns-in_err-check_tables : goal.returns-in_err-check_tables
 returns-in_err-check_tables c =
     let t = c.args.tables.now in
     let s = c.args.smpl.now in
-    given_front content_seen (table_content c.args.minor c.args.lists.now t s) c.from_residual.result (Fault c.in_err-check_tables.field-0.0)
-    (checked_steps t s) (member_steps t ++ total_steps (rows t.shdr)) c.from_residual.ensures.1 c.in_err-check_tables.ensures.passes
+    given_front content_seen (table_content c.args.minor c.args.lists.now t s) c.from_residual.result
+    (Fault c.in_err-check_tables.field-0.0)
+    (checked_steps t s) (member_steps t ++ total_steps (rows t.shdr)) c.from_residual.ensures.1
+    c.in_err-check_tables.ensures.passes
 
 pub read_members-requires-clause-counts : goal.read_members-requires-clause-counts
-read_members-requires-clause-counts c = (checked c.args.tables.now c.args.smpl.now c.in_ok-check_tables.ensures.passes.0).counts
+read_members-requires-clause-counts c =
+    (checked c.args.tables.now c.args.smpl.now c.in_ok-check_tables.ensures.passes.0).counts
 
 pub read_members-requires-clause-indexes : goal.read_members-requires-clause-indexes
-read_members-requires-clause-indexes c = (checked c.args.tables.now c.args.smpl.now c.in_ok-check_tables.ensures.passes.0).indexes
+read_members-requires-clause-indexes c =
+    (checked c.args.tables.now c.args.smpl.now c.in_ok-check_tables.ensures.passes.0).indexes
 
 pub returns-in_err-members : goal.returns-in_err-members
 returns-in_err-members c =
@@ -33,8 +37,10 @@ returns-in_err-members c =
     let s = c.args.smpl.now in
     let r = c.from_residual-in_err-members.result in
     let value = table_content c.args.minor c.args.lists.now t s in
-    given_after content_seen value r (checked_steps t s) (member_steps t ++ total_steps (rows t.shdr)) c.in_ok-check_tables.ensures.passes.0
-    (given_front content_seen value r c.in_err-members.field-0.0 (member_steps t) (total_steps (rows t.shdr)) c.from_residual-in_err-members.ensures.1 c.in_err-members.ensures)
+    given_after content_seen value r (checked_steps t s) (member_steps t ++ total_steps (rows t.shdr))
+    c.in_ok-check_tables.ensures.passes.0
+    (given_front content_seen value r c.in_err-members.field-0.0 (member_steps t) (total_steps (rows t.shdr))
+    c.from_residual-in_err-members.ensures.1 c.in_err-members.ensures)
 
 pub returns-in_err-check_total : goal.returns-in_err-check_total
 returns-in_err-check_total c =
@@ -42,23 +48,28 @@ returns-in_err-check_total c =
     let s = c.args.smpl.now in
     let r = c.from_residual-in_err-check_total.result in
     let value = table_content c.args.minor c.args.lists.now t s in
-    given_after content_seen value r (checked_steps t s) (member_steps t ++ total_steps (rows t.shdr)) c.in_ok-check_tables.ensures.passes.0
+    given_after content_seen value r (checked_steps t s) (member_steps t ++ total_steps (rows t.shdr))
+    c.in_ok-check_tables.ensures.passes.0
     (given_after content_seen value r (member_steps t) (total_steps (rows t.shdr)) c.in_ok-members.ensures.0
-    (given_by content_seen value r (Fault c.in_err-check_total.field-0.0) (total_steps (rows t.shdr)) c.from_residual-in_err-check_total.ensures.1 (rw c.samples.ensures at c.in_err-check_total.ensures)))
+    (given_by content_seen value r (Fault c.in_err-check_total.field-0.0) (total_steps (rows t.shdr))
+    c.from_residual-in_err-check_total.ensures.1 (rw c.samples.ensures at c.in_err-check_total.ensures)))
 
 pub content_of-requires : goal.content_of-requires
 content_of-requires c =
     let t = c.args.tables.now in
     let counts = (checked t c.args.smpl.now c.in_ok-check_tables.ensures.passes.0).counts in
-    subst (λ (m : FlatMembers). AreSmall (added m.presets.counts m.instruments.counts)) (sym c.in_ok-members.ensures.1) (members_small t counts)
+    subst (λ (m : FlatMembers). AreSmall (added m.presets.counts m.instruments.counts))
+    (sym c.in_ok-members.ensures.1) (members_small t counts)
 
 pub returns : goal.returns
 returns c =
     let t = c.args.tables.now in
     let s = c.args.smpl.now in
     let w = c.args.lists.now in
-    let total : first_broken (total_steps (rows t.shdr)) ≡ None = rw c.samples.ensures at c.in_ok-check_total.ensures.0 in
-    let samples : c.in_ok-samples.samples ≡ samples_read (words s) (rows t.shdr) = rw c.samples-2.ensures at c.in_ok-samples.ensures in (
+    let total : first_broken (total_steps (rows t.shdr)) ≡ None =
+    rw c.samples.ensures at c.in_ok-check_total.ensures.0 in
+    let samples : c.in_ok-samples.samples ≡ samples_read (words s) (rows t.shdr) =
+    rw c.samples-2.ensures at c.in_ok-samples.ensures in (
       then_none (checked_steps t s) (member_steps t ++ total_steps (rows t.shdr)) c.in_ok-check_tables.ensures.passes.0
           (then_none (member_steps t) (total_steps (rows t.shdr)) c.in_ok-members.ensures.0 total),
       c.content_of.ensures

@@ -5,4 +5,5 @@ use Rattle.sf_reader.proofs.records.end_records.Goals as goal
 pub returns : goal.returns
 returns c =
     let old = c.args.records.now in
-    terminals old (record { bags = old.bags; gens = c.push.new.self; mods = c.push-2.new.self }) refl c.in_ok-push.ensures.items c.in_ok-push-2.ensures.items
+    terminals old (record { bags = old.bags; gens = c.push.new.self; mods = c.push-2.new.self }) refl
+    c.in_ok-push.ensures.items c.in_ok-push-2.ensures.items

@@ -8,13 +8,19 @@ pub loop-head-preserved : goal.loop-head-preserved
 loop-head-preserved c =
     let old = c.loop-head.head-iterator in
     let new = c.next.new.self in
-    let turn = c.in-Some.ensures.steps in
-    (tt, tt, steps_hold old.n new.n old.iter new.iter c.in-Some.head turn.0 turn.1 (sample_step c.args.points) _ c.in_ok-check_sample.ensures.0 c.loop-head.invariant.2)
+    let turn = c.in-Some.ensures.steps in (
+      tt,
+      tt,
+      steps_hold old.n new.n old.iter new.iter c.in-Some.head turn.0 turn.1 (sample_step c.args.points) _
+          c.in_ok-check_sample.ensures.0 c.loop-head.invariant.2,
+    )
 
 pub returns-in_err-check_sample : goal.returns-in_err-check_sample
 returns-in_err-check_sample c =
     let old = c.loop-head.head-iterator in
     let new = c.next.new.self in
     let turn = c.in-Some.ensures.steps in
-    steps_fail old.n new.n old.iter new.iter c.in-Some.head turn.0 turn.1 (λ (u : Unit {0}). u) (sample_step c.args.points) c.from_residual.result c.in_err-check_sample.field-0.0
-    (flat_map (sample_step c.args.points) (rows c.args.heads.now)) c.from_residual.ensures.1 c.in_err-check_sample.ensures c.loop-head.invariant.2
+    steps_fail old.n new.n old.iter new.iter c.in-Some.head turn.0 turn.1 (λ (u : Unit {0}). u)
+    (sample_step c.args.points) c.from_residual.result c.in_err-check_sample.field-0.0
+    (flat_map (sample_step c.args.points) (rows c.args.heads.now)) c.from_residual.ensures.1
+    c.in_err-check_sample.ensures c.loop-head.invariant.2

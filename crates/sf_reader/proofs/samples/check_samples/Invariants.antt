@@ -10,4 +10,6 @@ abbrev pub invariant-loop-head : goal.invariant-loop-head
 invariant-loop-head l =
     (goal.iterator-loop-head).can_next l.head-iterator
     × (goal.iterator-loop-head).is_finite l.head-iterator
-    × (first_broken (flat_map (sample_step l.points) (take l.head-iterator.n l.head-iterator.iter)) ≡ first_broken (flat_map (sample_step l.points) (rows l.heads)))
+    ×
+    (first_broken (flat_map (sample_step l.points) (take l.head-iterator.n l.head-iterator.iter))
+    ≡ first_broken (flat_map (sample_step l.points) (rows l.heads)))

@@ -8,5 +8,7 @@ abbrev pub invariant-loop-head : goal.invariant-loop-head
 invariant-loop-head l =
     (goal.iterator-loop-head).can_next l.head-iterator
     × (goal.iterator-loop-head).is_finite l.head-iterator
-    × (l.total + sum_by (λ h. h.end - h.start + 46) (take l.head-iterator.n l.head-iterator.iter) ≡ sum_by (λ h. h.end - h.start + 46) (rows l.heads))
+    ×
+    (l.total + sum_by (λ h. h.end - h.start + 46) (take l.head-iterator.n l.head-iterator.iter)
+    ≡ sum_by (λ h. h.end - h.start + 46) (rows l.heads))
     × (l.total ≤ 500000000)

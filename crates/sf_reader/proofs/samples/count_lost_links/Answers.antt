@@ -11,6 +11,8 @@ pub returns : goal.returns
 returns c =
     let heads = rows_yield c.rows.result (rows c.args.heads.now) c.rows.ensures in
     let n = c.row_count-count.result in
-    count_from_yields_List c.filter.result c.count.result c.count.ensures.ran (YieldsList-from_filter _ (is_link_lost n) (YieldsList-at c.filter.ensures.source heads) c.filter.ensures.closure (λ x b q k. search (rules, tests)))
+    count_from_yields_List c.filter.result c.count.result c.count.ensures.ran
+    (YieldsList-from_filter _ (is_link_lost n) (YieldsList-at c.filter.ensures.source heads)
+    c.filter.ensures.closure (λ x b q k. search (rules, tests)))
     ∙ length-filter (is_link_lost n) (rows c.args.heads.now)
     ∙ ap (λ (k : ℕ). count_by (is_link_lost k) (rows c.args.heads.now)) c.row_count-count.ensures

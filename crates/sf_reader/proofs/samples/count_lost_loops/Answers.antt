@@ -9,5 +9,7 @@ use Rattle.sf_reader.proofs.samples.count_lost_loops.Goals as goal
 pub returns : goal.returns
 returns c =
     let heads = rows_yield c.rows.result (rows c.args.heads.now) c.rows.ensures in
-    count_from_yields_List c.filter.result c.count.result c.count.ensures.ran (YieldsList-from_filter _ is_loop_lost (YieldsList-at c.filter.ensures.source heads) c.filter.ensures.closure (λ x b q k. search (rules, tests)))
+    count_from_yields_List c.filter.result c.count.result c.count.ensures.ran
+    (YieldsList-from_filter _ is_loop_lost (YieldsList-at c.filter.ensures.source heads) c.filter.ensures.closure
+    (λ x b q k. search (rules, tests)))
     ∙ length-filter is_loop_lost (rows c.args.heads.now)

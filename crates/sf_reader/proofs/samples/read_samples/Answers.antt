@@ -10,6 +10,8 @@ loop-head-preserved c =
     let turn = c.in-Some.ensures.steps in (
       tt,
       tt,
-      map_more old.n new.n old.iter new.iter c.in-Some.head turn.0 turn.1 (sample_read c.row_count-count.result (words c.args.smpl.now))
-          c.loop-head.samples.items c.push.new.self.items c.read_sample.result _ c.read_sample.ensures c.in_ok-push.ensures.items c.loop-head.invariant.2,
+      map_more old.n new.n old.iter new.iter c.in-Some.head turn.0 turn.1
+          (sample_read c.row_count-count.result (words c.args.smpl.now))
+          c.loop-head.samples.items c.push.new.self.items c.read_sample.result _ c.read_sample.ensures
+          c.in_ok-push.ensures.items c.loop-head.invariant.2,
     )

@@ -9,4 +9,6 @@ abbrev pub invariant-loop-head : goal.invariant-loop-head
 invariant-loop-head l =
     (goal.iterator-loop-head).can_next l.head-iterator
     × (goal.iterator-loop-head).is_finite l.head-iterator
-    × (l.samples.items ++ map (sample_read l.count (words l.smpl)) (take l.head-iterator.n l.head-iterator.iter) ≡ map (sample_read l.count (words l.smpl)) (rows l.heads))
+    ×
+    (l.samples.items ++ map (sample_read l.count (words l.smpl)) (take l.head-iterator.n l.head-iterator.iter)
+    ≡ map (sample_read l.count (words l.smpl)) (rows l.heads))

@@ -8,4 +8,5 @@ abbrev pub invariant-loop-end : goal.invariant-loop-end
 invariant-loop-end l =
     (goal.iterator-loop-end).can_next l.end-iterator
     × (goal.iterator-loop-end).is_finite l.end-iterator
-    × Left l.level l.targets.count l.targets.missing l.fn.records l.records l.counts (bags_in (l.start ∷ l.end-iterator) l.generators l.modulators) (bags_in l.bags l.generators l.modulators)
+    × Left l.level l.targets.count l.targets.missing l.fn.records l.records l.counts
+    (bags_in (l.start ∷ l.end-iterator) l.generators l.modulators) (bags_in l.bags l.generators l.modulators)

@@ -6,36 +6,54 @@ use Rattle.bank_format.specs.Reading.{bagged}
 use Rattle.bank_format.specs.Zones.{gens_read}
 use Rattle.sf_reader.proofs.Adding.{adds_as, adds_same, adds_held}
 use Rattle.sf_reader.proofs.EntryLaws.{take-front}
-use Rattle.sf_reader.proofs.Later.{steps_none, steps_one, bags_none, bags_one, ignored_counts, zone_counts, target_fails}
+use Rattle.sf_reader.proofs.Later.{steps_none, steps_one, bags_none, bags_one, ignored_counts, zone_counts}
+use Rattle.sf_reader.proofs.Later.{target_fails}
 use Rattle.sf_reader.proofs.zones.read_later.Goals as goal
 
 pub returns-in_default-clause-passes : goal.returns-in_default-clause-passes
 returns-in_default-clause-passes c =
     let r = bagged c.args.generators.now c.args.modulators.now in (
-      ap first_broken (steps_none c.args.level r _ c.in_ok-target.ensures.all c.args.targets.count c.args.targets.missing c.in_default.is),
+      ap first_broken
+          (steps_none c.args.level r _ c.in_ok-target.ensures.all c.args.targets.count c.args.targets.missing
+          c.in_default.is),
       ignored_counts c.args.level r _ c.in_ok-target.ensures.all c.args.counts c.in_default.is,
     )
 
 pub returns-in_default-clause-records : goal.returns-in_default-clause-records
 returns-in_default-clause-records c =
-    let gens = c.truncate.ensures.items ∙ (λ i. take ((c.len-start.ensures ∙ c.args.records.now.gens.ok.0) i) (c.in_ok-target.ensures.gens i)) ∙ take-front c.args.records.now.gens.items (entries (gens_read c.args.level c.args.generators.now)) in
-    adds_as c.args.records.now _ _ _ (bags_none c.args.level (bagged c.args.generators.now c.args.modulators.now) _ c.in_ok-target.ensures.all c.in_default.is)
+    let gens =
+    c.truncate.ensures.items
+    ∙ (λ i. take ((c.len-start.ensures ∙ c.args.records.now.gens.ok.0) i) (c.in_ok-target.ensures.gens i))
+    ∙ take-front c.args.records.now.gens.items (entries (gens_read c.args.level c.args.generators.now)) in
+    adds_as c.args.records.now _ _ _
+    (bags_none c.args.level (bagged c.args.generators.now c.args.modulators.now) _ c.in_ok-target.ensures.all
+    c.in_default.is)
     (adds_same c.args.records.now _ refl gens refl)
 
 pub returns-in_err-check_target-clause-passes : goal.returns-in_err-check_target-clause-passes
 returns-in_err-check_target-clause-passes c =
-    target_fails c.args.level (bagged c.args.generators.now c.args.modulators.now) _ c.in_ok-target.ensures.all c.args.targets.count c.args.targets.missing c.in-Some.target c.in-Some.is (λ c. c) _
-    c.from_residual-in_err-check_target.result (Fault c.in_err-check_target.field-0.0) c.from_residual-in_err-check_target.ensures.1 c.in_err-check_target.ensures
+    target_fails c.args.level (bagged c.args.generators.now c.args.modulators.now) _ c.in_ok-target.ensures.all
+    c.args.targets.count c.args.targets.missing c.in-Some.target c.in-Some.is (λ c. c) _
+    c.from_residual-in_err-check_target.result (Fault c.in_err-check_target.field-0.0)
+    c.from_residual-in_err-check_target.ensures.1 c.in_err-check_target.ensures
 
 pub returns-clause-passes : goal.returns-clause-passes
 returns-clause-passes c =
     let r = bagged c.args.generators.now c.args.modulators.now in (
-      ap first_broken (sym (steps_one c.args.level r _ c.in_ok-target.ensures.all c.args.targets.count c.args.targets.missing c.in-Some.target c.in-Some.is)) ∙ c.in_ok-check_target.ensures.0,
+      ap first_broken
+          (sym
+          (steps_one c.args.level r _ c.in_ok-target.ensures.all c.args.targets.count c.args.targets.missing
+          c.in-Some.target c.in-Some.is))
+          ∙ c.in_ok-check_target.ensures.0,
       zone_counts c.args.level r _ c.in_ok-target.ensures.all c.args.counts c.in-Some.target c.in-Some.is,
     )
 
 pub returns-clause-records : goal.returns-clause-records
 returns-clause-records c =
     let ends = rw c.target_operator.ensures at c.in_ok-end_zone.ensures in
-    adds_as c.args.records.now c.end_zone.new.records _ _ (bags_one c.args.level (bagged c.args.generators.now c.args.modulators.now) _ c.in_ok-target.ensures.all c.in-Some.target c.in-Some.is)
-    (adds_held c.args.records.now _ c.end_zone.new.records (entries (gens_read c.args.level c.args.generators.now)) _ c.args.modulators.now (record { bags_stay = refl; mods_stay = refl; gens_grow = c.in_ok-target.ensures.gens }) ends)
+    adds_as c.args.records.now c.end_zone.new.records _ _
+    (bags_one c.args.level (bagged c.args.generators.now c.args.modulators.now) _ c.in_ok-target.ensures.all
+    c.in-Some.target c.in-Some.is)
+    (adds_held c.args.records.now _ c.end_zone.new.records (entries (gens_read c.args.level c.args.generators.now)) _
+    c.args.modulators.now
+    (record { bags_stay = refl; mods_stay = refl; gens_grow = c.in_ok-target.ensures.gens }) ends)

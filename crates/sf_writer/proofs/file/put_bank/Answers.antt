@@ -6,4 +6,6 @@ use Rattle.sf_writer.proofs.file.put_bank.Goals as goal
 
 pub returns : goal.returns
 unfolding canon RIFF SFBK
-returns g c = put_form _ _ _ _ length-SFBK (lists-even c.args.bank.now) c.of-sizes.ensures.file c.put_form_head.ensures c.put_lists.ensures
+returns g c =
+    put_form _ _ _ _ length-SFBK (lists-even c.args.bank.now) c.of-sizes.ensures.file c.put_form_head.ensures
+    c.put_lists.ensures

@@ -6,4 +6,6 @@ use Rattle.sf_writer.specs.Info.{optional_chunk}
 use Rattle.sf_writer.proofs.info.put_texts.Given as goal
 
 abbrev pub invariant-loop-which : goal.invariant-loop-which
-invariant-loop-which g l = Putting g.W.Write.contents l.initial.output l.output (spell (flat_map (optional_chunk l.bank) l.texts)) (spell (flat_map (optional_chunk l.bank) (drop l.which-index l.texts)))
+invariant-loop-which g l =
+    Putting g.W.Write.contents l.initial.output l.output (spell (flat_map (optional_chunk l.bank) l.texts))
+    (spell (flat_map (optional_chunk l.bank) (drop l.which-index l.texts)))

@@ -7,6 +7,7 @@ use Rattle.sf_writer.proofs.info.texts_size.Given as goal
 -- the texts that are ahead fill up the size
 abbrev pub invariant-loop-which : goal.invariant-loop-which
 invariant-loop-which l = record {
-  counted : l.size + length (spell (flat_map (optional_chunk l.bank) (drop l.which-index l.texts))) ≡ length (spell (flat_map (optional_chunk l.bank) l.texts));
+  counted : l.size + length (spell (flat_map (optional_chunk l.bank) (drop l.which-index l.texts)))
+      ≡ length (spell (flat_map (optional_chunk l.bank) l.texts));
   small : l.size ≤ 131071 * l.which-index;
 }

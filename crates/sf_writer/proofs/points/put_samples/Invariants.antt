@@ -6,4 +6,6 @@ use Rattle.bank_format.specs.Tables.{points_written}
 use Rattle.sf_writer.proofs.points.put_samples.Given as goal
 
 abbrev pub invariant-loop-sample : goal.invariant-loop-sample
-invariant-loop-sample g l = Putting g.W.Write.contents l.initial.output l.output (flat_map word_bytes (flat_map points_written l.samples)) (flat_map word_bytes (flat_map points_written (drop l.sample-index l.samples)))
+invariant-loop-sample g l =
+    Putting g.W.Write.contents l.initial.output l.output (flat_map word_bytes (flat_map points_written l.samples))
+    (flat_map word_bytes (flat_map points_written (drop l.sample-index l.samples)))

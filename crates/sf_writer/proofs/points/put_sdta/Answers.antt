@@ -6,4 +6,6 @@ use Rattle.sf_writer.proofs.points.put_sdta.Goals as goal
 
 pub returns : goal.returns
 unfolding LIST SDTA
-returns g c = put_form _ _ _ _ length-SDTA (sdta-even c.args.bank.now) c.requires.size c.put_form_head.ensures c.put_smpl.ensures
+returns g c =
+    put_form _ _ _ _ length-SDTA (sdta-even c.args.bank.now) c.requires.size c.put_form_head.ensures
+    c.put_smpl.ensures

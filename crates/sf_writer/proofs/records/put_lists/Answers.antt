@@ -9,6 +9,13 @@ use Rattle.sf_writer.proofs.records.put_lists.Goals as goal
 
 pub returns : goal.returns
 returns g c =
-    let presets = puts_as _ _ (ap (λ xs. spell (zone_lists level.Preset (all_bags level.Preset xs))) c.presets.ensures.value) c.put_zone_lists.ensures in
-    let instruments = puts_as _ _ (ap (λ xs. spell (zone_lists level.Instrument (all_bags level.Instrument xs))) c.instruments.ensures.value) c.put_zone_lists-2.ensures in
-    puts_row _ _ _ (pdta-is c.args.bank.now) c.put_phdr.ensures (puts_then _ _ presets (puts_then _ _ c.put_inst.ensures (puts_then _ _ instruments c.put_shdr.ensures)))
+    let presets =
+    puts_as _ _ (ap (λ xs. spell (zone_lists level.Preset (all_bags level.Preset xs))) c.presets.ensures.value)
+    c.put_zone_lists.ensures in
+    let instruments =
+    puts_as _ _
+    (ap (λ xs. spell (zone_lists level.Instrument (all_bags level.Instrument xs)))
+    c.instruments.ensures.value)
+    c.put_zone_lists-2.ensures in
+    puts_row _ _ _ (pdta-is c.args.bank.now) c.put_phdr.ensures
+    (puts_then _ _ presets (puts_then _ _ c.put_inst.ensures (puts_then _ _ instruments c.put_shdr.ensures)))

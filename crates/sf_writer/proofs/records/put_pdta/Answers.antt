@@ -6,4 +6,6 @@ use Rattle.sf_writer.proofs.records.put_pdta.Goals as goal
 
 pub returns : goal.returns
 unfolding LIST PDTA
-returns g c = put_form _ _ _ _ length-PDTA (pdta-even c.args.bank.now) c.requires.pdta c.put_form_head.ensures c.put_lists.ensures
+returns g c =
+    put_form _ _ _ _ length-PDTA (pdta-even c.args.bank.now) c.requires.pdta c.put_form_head.ensures
+    c.put_lists.ensures

@@ -15,9 +15,12 @@ loop-sample-init g c =
 
 pub loop-sample-preserved : goal.loop-sample-preserved
 loop-sample-preserved g c =
-    let next = heads-next _ c.loop-sample.sample-index _ _ _ _ c.loop-sample-test.true c.sample-item.is c.sample_head-head.ensures c.put.ensures in
+    let next =
+    heads-next _ c.loop-sample.sample-index _ _ _ _ c.loop-sample-test.true c.sample-item.is
+    c.sample_head-head.ensures c.put.ensures in
     let points = point_total-next _ c.loop-sample.sample-index _ c.loop-sample-test.true c.sample-item.is in
-    let end : c.sample_head-head.result.end ≡ c.loop-sample.start + length c.sample-item.result.points = ap (λ h. h.end) c.sample_head-head.ensures in
+    let end : c.sample_head-head.result.end ≡ c.loop-sample.start + length c.sample-item.result.points =
+    ap (λ h. h.end) c.sample_head-head.ensures in
     let room = c.loop-sample.invariant.room in record {
       putting = putting_step c.put.result _ c.loop-sample.invariant.putting next c.put-in-loop-sample.ensures;
       room = omega (arith, points, end, room);
@@ -26,4 +29,8 @@ loop-sample-preserved g c =
 pub returns-clause-puts : goal.returns-clause-puts
 returns-clause-puts g c =
     putting_last c.loop-sample.invariant.putting
-    (puts_as _ _ (sym (heads-last _ c.loop-sample.sample-index _ _ _ c.loop-sample-test.false c.sample_end.ensures c.put-2.ensures)) c.put-3.ensures)
+    (puts_as _ _
+    (sym
+    (heads-last _ c.loop-sample.sample-index _ _ _ c.loop-sample-test.false c.sample_end.ensures
+    c.put-2.ensures))
+    c.put-3.ensures)

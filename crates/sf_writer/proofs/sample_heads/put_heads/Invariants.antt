@@ -9,6 +9,7 @@ use Rattle.sf_writer.proofs.sample_heads.put_heads.Given as goal
 
 abbrev pub invariant-loop-sample : goal.invariant-loop-sample
 invariant-loop-sample g l = record {
-  putting : Putting g.W.Write.contents l.initial.output l.output (flat_map sample_head_bytes (tables_of l.bank).shdr) (heads_left l.start l.sample-index l.samples);
+  putting : Putting g.W.Write.contents l.initial.output l.output (flat_map sample_head_bytes (tables_of l.bank).shdr)
+      (heads_left l.start l.sample-index l.samples);
   room : l.start + point_total (drop l.sample-index l.samples) ≤ 500000000;
 }

@@ -6,4 +6,6 @@ use Rattle.outputs.proofs.OutputLaws.{Putting}
 use Rattle.sf_writer.proofs.zone_lists.put_bag_records.Given as goal
 
 abbrev pub invariant-loop-gens : goal.invariant-loop-gens
-invariant-loop-gens g l = Putting g.W.Write.contents l.initial.output l.output (flat_map bag_bytes (map bag_of l.bags)) (flat_map bag_bytes (map bag_of (drop l.gens-index l.bags)))
+invariant-loop-gens g l =
+    Putting g.W.Write.contents l.initial.output l.output (flat_map bag_bytes (map bag_of l.bags))
+    (flat_map bag_bytes (map bag_of (drop l.gens-index l.bags)))

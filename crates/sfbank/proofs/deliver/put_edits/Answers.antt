@@ -7,5 +7,8 @@ use Rattle.sfbank.proofs.deliver.put_edits.Goals as goal
 
 pub loop-edit-preserved : goal.loop-edit-preserved
 loop-edit-preserved g c =
-    let put = subst (λ (e : Edit). Puts g.W.Write.contents c.loop-edit.output c.put_edit.new.output (text_of e)) c.edit-item.is c.put_edit.ensures in
-    putting_member text_of c.args.edits.now c.loop-edit.edit-index c.edit-item.result c.loop-edit.invariant c.loop-edit-test.true put
+    let put =
+    subst (λ (e : Edit). Puts g.W.Write.contents c.loop-edit.output c.put_edit.new.output (text_of e))
+    c.edit-item.is c.put_edit.ensures in
+    putting_member text_of c.args.edits.now c.loop-edit.edit-index c.edit-item.result c.loop-edit.invariant
+    c.loop-edit-test.true put

@@ -8,17 +8,26 @@ use Rattle.sfbank.proofs.diff.banks_of.Goals as goal
 pub returns-in_err-from : goal.returns-in_err-from
 returns-in_err-from c =
     let p = err_from_is_err_and c.from_residual.result c.from_residual.ensures.1 in
-    rw (p.1, p.2) (first_not_read (Parts × Parts) both c.in_err-from.field-0.0 c.args.first.now c.args.second.now c.in_err-from.ensures.err)
+    rw (p.1, p.2)
+    (first_not_read (Parts × Parts) both c.in_err-from.field-0.0 c.args.first.now c.args.second.now
+    c.in_err-from.ensures.err)
 
 pub returns-in-Err : goal.returns-in-Err
-returns-in-Err c = rw c.of_second.ensures (second_not_read (Parts × Parts) both c.in-Err.failure c.args.first.now c.args.second.now c.in_ok-from.ensures.ok.0 c.in-Err.ensures.err)
+returns-in-Err c =
+    rw c.of_second.ensures
+    (second_not_read (Parts × Parts) both c.in-Err.failure c.args.first.now c.args.second.now
+    c.in_ok-from.ensures.ok.0 c.in-Err.ensures.err)
 
 pub returns-then-minor : goal.returns-then-minor
 returns-then-minor c =
-    pair_read c.args.first.now c.args.second.now c.in_ok-from.from c.in-Ok.bank _ _ c.in_ok-from.ensures.ok c.in-Ok.ensures.ok
-    ∙ other_versions (record { first = c.in_ok-from.from; second = c.in-Ok.bank }) (rw (c.minor.ensures, c.minor-2.ensures) at c.if-minor.true)
+    pair_read c.args.first.now c.args.second.now c.in_ok-from.from c.in-Ok.bank _ _ c.in_ok-from.ensures.ok
+    c.in-Ok.ensures.ok
+    ∙ other_versions (record { first = c.in_ok-from.from; second = c.in-Ok.bank })
+    (rw (c.minor.ensures, c.minor-2.ensures) at c.if-minor.true)
 
 pub returns : goal.returns
 returns c =
-    pair_read c.args.first.now c.args.second.now c.in_ok-from.from c.in-Ok.bank _ _ c.in_ok-from.ensures.ok c.in-Ok.ensures.ok
-    ∙ one_version (record { first = c.in_ok-from.from; second = c.in-Ok.bank }) (rw (c.minor.ensures, c.minor-2.ensures) at c.if-minor.false)
+    pair_read c.args.first.now c.args.second.now c.in_ok-from.from c.in-Ok.bank _ _ c.in_ok-from.ensures.ok
+    c.in-Ok.ensures.ok
+    ∙ one_version (record { first = c.in_ok-from.from; second = c.in-Ok.bank })
+    (rw (c.minor.ensures, c.minor-2.ensures) at c.if-minor.false)

@@ -13,7 +13,8 @@ returns-in-Some-clause-runs g c =
     let banks : Pair = record { first = c.in_ok-from.from; second = c.in_ok-from.to } in
     let found = rw c.in-Some.is at c.in_ok-edits.ensures.found in
     let leads : Leads banks.first c.as_slice.result.now banks.second = rw c.as_slice.ensures.value found in
-    sends_difference _ _ a b banks (texts_of c.as_slice.result.now) c.deliver_edits.result (are_bytes a c.type_inv.first) c.in_ok-from.ensures
+    sends_difference _ _ a b banks (texts_of c.as_slice.result.now) c.deliver_edits.result
+    (are_bytes a c.type_inv.first) c.in_ok-from.ensures
     (printed_leads banks c.as_slice.result.now leads) c.deliver_edits.ensures
 
 pub returns-clause-runs : goal.returns-clause-runs
@@ -21,24 +22,32 @@ returns-clause-runs g c =
     let a = c.args.first.now in
     let b = c.args.second.now in
     let banks : Pair = record { first = c.in_ok-from.from; second = c.in_ok-from.to } in
-    let script = replacement_is a b banks (are_bytes a c.type_inv.first) (are_bytes b c.type_inv.second) c.in_ok-from.ensures in
-    sends_difference _ _ a b banks (texts_of (edits_between banks.first banks.second)) c.deliver_replacement.result (are_bytes a c.type_inv.first) c.in_ok-from.ensures
+    let script =
+    replacement_is a b banks (are_bytes a c.type_inv.first) (are_bytes b c.type_inv.second) c.in_ok-from.ensures
+    in
+    sends_difference _ _ a b banks (texts_of (edits_between banks.first banks.second)) c.deliver_replacement.result
+    (are_bytes a c.type_inv.first) c.in_ok-from.ensures
     script c.deliver_replacement.ensures
 
 pub returns-in-Some-clause-nothing : goal.returns-in-Some-clause-nothing
 returns-in-Some-clause-nothing g c =
     let banks : Pair = record { first = c.in_ok-from.from; second = c.in_ok-from.to } in
     let edits = c.as_slice.result.now in
-    let none : banks.first ≡ banks.second → edits ≡ [] = λ same. c.as_slice.ensures.value ∙ (rw c.in-Some.is at (c.in_ok-edits.ensures.nothing same)) in
-    writes_nothing _ _ c.args.first.now c.args.second.now banks edits c.deliver_edits.result c.in_ok-from.ensures none c.deliver_edits.ensures
+    let none : banks.first ≡ banks.second → edits ≡ [] =
+    λ same. c.as_slice.ensures.value ∙ (rw c.in-Some.is at (c.in_ok-edits.ensures.nothing same)) in
+    writes_nothing _ _ c.args.first.now c.args.second.now banks edits c.deliver_edits.result c.in_ok-from.ensures
+    none c.deliver_edits.ensures
 
 pub returns-clause-nothing : goal.returns-clause-nothing
 returns-clause-nothing g c =
     let banks : Pair = record { first = c.in_ok-from.from; second = c.in_ok-from.to } in
     let edits = edits_between banks.first banks.second in
-    let none : banks.first ≡ banks.second → edits ≡ [] = λ same. absurd (rw c.in-None.is at (c.in_ok-edits.ensures.nothing same)) in
-    writes_nothing _ _ c.args.first.now c.args.second.now banks edits c.deliver_replacement.result c.in_ok-from.ensures none c.deliver_replacement.ensures
+    let none : banks.first ≡ banks.second → edits ≡ [] =
+    λ same. absurd (rw c.in-None.is at (c.in_ok-edits.ensures.nothing same)) in
+    writes_nothing _ _ c.args.first.now c.args.second.now banks edits c.deliver_replacement.result
+    c.in_ok-from.ensures none c.deliver_replacement.ensures
 
 pub returns-in_err-edits-clause-runs : goal.returns-in_err-edits-clause-runs
 returns-in_err-edits-clause-runs g c =
-    ends_in_memory _ c.args.first.now c.args.second.now c.from_residual-in_err-edits.result c.from_residual-in_err-edits.ensures.1
+    ends_in_memory _ c.args.first.now c.args.second.now c.from_residual-in_err-edits.result
+    c.from_residual-in_err-edits.ensures.1

@@ -6,7 +6,9 @@ pub returns-clause-runs : goal.returns-clause-runs
 returns-clause-runs g c = rw (← of_neutral c.args.file.now c.args.script.now) c.run_script.ensures.runs
 
 pub returns-clause-restores : goal.returns-clause-restores
-returns-clause-restores g c = neutrally_restores c.args.file.now c.args.script.now (are_bytes c.args.file.now c.type_inv.file)
+returns-clause-restores g c =
+    neutrally_restores c.args.file.now c.args.script.now (are_bytes c.args.file.now c.type_inv.file)
 
 pub returns-clause-sounds : goal.returns-clause-sounds
-returns-clause-sounds g c = sounds_the_same c.args.file.now c.args.script.now (are_bytes c.args.file.now c.type_inv.file)
+returns-clause-sounds g c =
+    sounds_the_same c.args.file.now c.args.script.now (are_bytes c.args.file.now c.type_inv.file)

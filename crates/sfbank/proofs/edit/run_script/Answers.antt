@@ -12,7 +12,8 @@ returns-in_err-bank g c =
     let file = c.args.file.now in
     let script = c.args.script.now in
     record {
-      runs = rw (p.1, p.2) (ends_early (Unit {0}) (g.W.Write.contents c.args.out.now) (g.V.Write.contents c.args.undo.now) (outcome_of c.args.forms file script) _
+      runs = rw (p.1, p.2) (ends_early (Unit {0}) (g.W.Write.contents c.args.out.now)
+          (g.V.Write.contents c.args.undo.now) (outcome_of c.args.forms file script) _
           (at_read c.args.forms file script c.in_err-bank.field-0.0 c.in_err-bank.ensures.err));
     }
 
@@ -24,8 +25,10 @@ returns-in_err-pool g c =
     let failure = c.in_err-pool.field-0.0 in
     let same = at_bank c.args.forms file script c.in_ok-bank.bank c.in_ok-bank._counts c.in_ok-bank.ensures.ok in
     record {
-      runs = rw (p.1, p.2) (ends_early (Unit {0}) (g.W.Write.contents c.args.out.now) (g.V.Write.contents c.args.undo.now) (outcome_of c.args.forms file script) _
-          (rw same (at_script c.args.forms c.in_ok-bank.bank script failure (pool_fails script failure c.in_err-pool.ensures))));
+      runs = rw (p.1, p.2) (ends_early (Unit {0}) (g.W.Write.contents c.args.out.now)
+          (g.V.Write.contents c.args.undo.now) (outcome_of c.args.forms file script) _
+          (rw same (at_script c.args.forms c.in_ok-bank.bank script failure
+          (pool_fails script failure c.in_err-pool.ensures))));
     }
 
 pub returns-in_err-plan : goal.returns-in_err-plan
@@ -35,7 +38,8 @@ returns-in_err-plan g c =
     let script = c.args.script.now in
     let same = at_bank c.args.forms file script c.in_ok-bank.bank c.in_ok-bank._counts c.in_ok-bank.ensures.ok in
     record {
-      runs = rw (p.1, p.2) (ends_early (Unit {0}) (g.W.Write.contents c.args.out.now) (g.V.Write.contents c.args.undo.now) (outcome_of c.args.forms file script) _
+      runs = rw (p.1, p.2) (ends_early (Unit {0}) (g.W.Write.contents c.args.out.now)
+          (g.V.Write.contents c.args.undo.now) (outcome_of c.args.forms file script) _
           (rw same c.in_err-plan.ensures.plans));
     }
 
@@ -44,4 +48,8 @@ returns g c =
     let file = c.args.file.now in
     let script = c.args.script.now in
     let same = at_bank c.args.forms file script c.in_ok-bank.bank c.in_ok-bank._counts c.in_ok-bank.ensures.ok in
-    record { runs = ends_with _ (outcome_of c.args.forms file script) (planned c.in_ok-plan.plan) c.deliver.result (same ∙ c.in_ok-plan.ensures.plans) c.deliver.ensures }
+    record {
+      runs =
+          ends_with _ (outcome_of c.args.forms file script) (planned c.in_ok-plan.plan) c.deliver.result
+          (same ∙ c.in_ok-plan.ensures.plans) c.deliver.ensures;
+    }

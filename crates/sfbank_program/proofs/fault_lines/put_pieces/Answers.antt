@@ -8,4 +8,5 @@ no_piece = record { ref_ptr = (0, 0); now = [] }
 
 pub loop-piece-preserved : goal.loop-piece-preserved
 loop-piece-preserved g c =
-    putting_member (λ (piece : Bor (List ℕ)). piece.now) c.args.pieces.now c.loop-piece.piece-index no_piece c.loop-piece.invariant c.loop-piece-test.true c.put.ensures
+    putting_member (λ (piece : Bor (List ℕ)). piece.now) c.args.pieces.now c.loop-piece.piece-index no_piece
+    c.loop-piece.invariant c.loop-piece-test.true c.put.ensures

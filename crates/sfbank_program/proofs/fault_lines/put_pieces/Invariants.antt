@@ -5,4 +5,6 @@ use Rattle.sfbank_program.proofs.fault_lines.put_pieces.Given as goal
 
 -- the pieces that are behind were put
 abbrev pub invariant-loop-piece : goal.invariant-loop-piece
-invariant-loop-piece g l = Putting g.W.Write.contents l.initial.output l.output (joined_bytes l.pieces) (joined_bytes (drop l.piece-index l.pieces))
+invariant-loop-piece g l =
+    Putting g.W.Write.contents l.initial.output l.output (joined_bytes l.pieces)
+    (joined_bytes (drop l.piece-index l.pieces))

@@ -11,5 +11,6 @@ returns-in-Err-clause-front g c = take_put _ _ c.args.buffer.now _ (omega (arith
 
 pub returns-in-Ok-clause-taken : goal.returns-in-Ok-clause-taken
 returns-in-Ok-clause-taken g c =
-    Consumes-in_place _ _ c.in-Ok.count _ c.read.new.buf _ c.args.at (length-take-le _ c.args.buffer.now (omega (arith, c.requires)))
+    Consumes-in_place _ _ c.in-Ok.count _ c.read.new.buf _ c.args.at
+    (length-take-le _ c.args.buffer.now (omega (arith, c.requires)))
     c.in-Ok.ensures.bound.0 c.in-Ok.ensures.bytes.0

@@ -13,7 +13,10 @@ record Softened (upper whole loud : ℤ) : Type 0 where
   sum : upper +ℤ whole ≡ loud
   fits : Within loud
 
-softened : (c : Joined-gain-lt32768) → Softened (shr_z (to_z w32 (of_z w32 (to_z w32 (of_z w32 c.from.result) *ℤ to_z w32 (of_z w32 c.from-2.result)))) 65536) c.if-gain-lt32768.whole (scaled_by c.args.p c.args.gain)
+softened : (c : Joined-gain-lt32768)
+    → Softened
+    (shr_z (to_z w32 (of_z w32 (to_z w32 (of_z w32 c.from.result) *ℤ to_z w32 (of_z w32 c.from-2.result)))) 65536)
+    c.if-gain-lt32768.whole (scaled_by c.args.p c.args.gain)
 softened c =
     let p = c.args.p in
     let g = c.args.gain in
@@ -30,15 +33,21 @@ softened c =
             let is : shr_z (p *ℤ s) 65536 ≡ scaled_by p g = ap (λ z. shr_z (p *ℤ z) 65536) e ∙ low_product p g in
             omega (arith, ints, u.same, is, t.whole-is)
         | else-gain-lt32768 t ↦
-            let e : s ≡ negsuc (65535 - g) = c.cast_signed-signed.ensures ∙ high_signed g (omega (arith, t.if-gain-lt32768)) (omega arith) in
-            let is : shr_z (p *ℤ s) 65536 +ℤ p ≡ scaled_by p g = ap (λ z. shr_z (p *ℤ z) 65536 +ℤ p) e ∙ wrapped_upper p g (65535 - g) (omega arith) fp in
+            let e : s ≡ negsuc (65535 - g) =
+            c.cast_signed-signed.ensures ∙ high_signed g (omega (arith, t.if-gain-lt32768)) (omega arith) in
+            let is : shr_z (p *ℤ s) 65536 +ℤ p ≡ scaled_by p g =
+            ap (λ z. shr_z (p *ℤ z) 65536 +ℤ p) e ∙ wrapped_upper p g (65535 - g) (omega arith) fp in
             omega (arith, ints, u.same, is, t.whole-is)
       ];
       fits = record { low = w.0; high = w.1 };
     }
 
 pub overflow_add-result : goal.overflow_add-result
-overflow_add-result c = let h = softened c in omega (arith, ints, h.half.low, h.half.high, h.sum, h.fits.low, h.fits.high, c.if-gain-lt32768.whole-is)
+overflow_add-result c =
+    let h = softened c in
+    omega (arith, ints, h.half.low, h.half.high, h.sum, h.fits.low, h.fits.high, c.if-gain-lt32768.whole-is)
 
 pub returns : goal.returns
-returns c = let h = softened c in omega (arith, ints, h.half.low, h.half.high, h.sum, h.fits.low, h.fits.high, c.if-gain-lt32768.whole-is)
+returns c =
+    let h = softened c in
+    omega (arith, ints, h.half.low, h.half.high, h.sum, h.fits.low, h.fits.high, c.if-gain-lt32768.whole-is)

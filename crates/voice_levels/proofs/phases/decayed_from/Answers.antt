@@ -19,8 +19,10 @@ returns-clause-even c =
     record {
       even = λ k le lt.
           let b : 960 * k < c.from.result * c.from-decay.result =
-          before_sustain c.from.result c.from-decay.result fallen k c.falling_from.result.until p (omega arith) lt c.falling_from.ensures.last in
-          let b' : 960 * k < v.sustain * v.decay = subst (λ y. 960 * k < v.sustain * y) d (subst (λ y. 960 * k < y * c.from-decay.result) s b) in
+          before_sustain c.from.result c.from-decay.result fallen k c.falling_from.result.until p (omega arith) lt
+          c.falling_from.ensures.last in
+          let b' : 960 * k < v.sustain * v.decay =
+          subst (λ y. 960 * k < v.sustain * y) d (subst (λ y. 960 * k < y * c.from-decay.result) s b) in
           sym (decaying v.sustain v.decay k b')
           ∙ ap (λ y. gain_at (960 * k / y)) (sym d)
           ∙ sym (left_of_all (gain_at (960 * k / c.from-decay.result)))

@@ -11,7 +11,8 @@ returns-clause-some c = let e = lasts_some (960 * c.args.fallen) c.args.over c.r
 
 pub returns-clause-near : goal.returns-clause-near
 returns-clause-near c =
-    let e = lasts_shortly (960 * c.args.fallen) c.args.over c.requires.divisor.0 in omega (arith, e, c.requires.near, c.requires.divisor)
+    let e = lasts_shortly (960 * c.args.fallen) c.args.over c.requires.divisor.0 in
+    omega (arith, e, c.requires.near, c.requires.divisor)
 
 pub returns-clause-last : goal.returns-clause-last
 returns-clause-last c = omega arith
@@ -21,7 +22,10 @@ returns-clause-even c =
     let over = c.args.over in
     let fallen = c.args.fallen in
     let g : c.from-2.result ≡ gain_at (960 * fallen / over) = c.from-2.ensures ∙ c.gain.ensures.value
-    ∙ (let z : to_z w64 (960 * fallen / over) ≡ pos (960 * fallen / over) = to_z_pos w64 (960 * fallen / over) (omega (arith, div-le_self (960 * fallen) over)) in ap gain_of z) in
+    ∙
+    (let z : to_z w64 (960 * fallen / over) ≡ pos (960 * fallen / over) =
+    to_z_pos w64 (960 * fallen / over) (omega (arith, div-le_self (960 * fallen) over)) in ap gain_of z)
+    in
     record {
       even = λ k le lt.
           ap (λ y. c.args.level * gain_at y / 65536) (sym (same_centibel over fallen k c.requires.divisor.0 le lt))

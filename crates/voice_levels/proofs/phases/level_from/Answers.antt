@@ -19,6 +19,7 @@ returns-clause-even c =
     let before = c.if-t-length.false in
     record {
       even = λ k le lt.
-          released_is v l k c.args.at_end over c.from-length.ensures c.requires.at_end.0 c.from-release.ensures (omega (arith, before, le))
+          released_is v l k c.args.at_end over c.from-length.ensures c.requires.at_end.0 c.from-release.ensures
+          (omega (arith, before, le))
           ∙ c.falling_from-level.ensures.even.even (k - l) (omega (arith, before, le)) (omega (arith, before, le, lt));
     }

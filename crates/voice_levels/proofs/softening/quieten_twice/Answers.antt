@@ -12,12 +12,20 @@ loop-i-preserved c =
     let other = get_or c.args.others.now i 0 in
     let el : SFits w16 (get_or c.loop-i.run i (pos 0)) = search rules in
     let was = to_z-of_z w16 (get_or c.loop-i.run i (pos 0)) el ∙ c.loop-i.invariant.left i (omega arith) in
-    let once : c.softer-once.result ≡ scaled_by (get_or c.args.run.now i (pos 0)) level = c.softer-once.ensures ∙ ap (λ y. scaled_by y level) was in
+    let once : c.softer-once.result ≡ scaled_by (get_or c.args.run.now i (pos 0)) level =
+    c.softer-once.ensures ∙ ap (λ y. scaled_by y level) was in
     let kept : to_z w16 (of_z w16 c.softer-once.result) ≡ c.softer-once.result = omega (arith, ints) in
-    let twice : c.softer.result ≡ scaled_by (scaled_by (get_or c.args.run.now i (pos 0)) level) other = c.softer.ensures ∙ ap (λ y. scaled_by y other) (kept ∙ once) in
+    let twice : c.softer.result ≡ scaled_by (scaled_by (get_or c.args.run.now i (pos 0)) level) other =
+    c.softer.ensures ∙ ap (λ y. scaled_by y other) (kept ∙ once) in
     let same : to_z w16 (of_z w16 c.softer.result) ≡ c.softer.result = omega (arith, ints) in
     record {
-      done = below_set (pos 0) (λ k y. y ≡ scaled_by (scaled_by (get_or c.args.run.now k (pos 0)) (get_or c.args.levels.now k 0)) (get_or c.args.others.now k 0)) c.loop-i.run i _ (omega arith)
+      done =
+          below_set (pos 0)
+          (λ k y.
+          y
+          ≡ scaled_by (scaled_by (get_or c.args.run.now k (pos 0)) (get_or c.args.levels.now k 0))
+          (get_or c.args.others.now k 0))
+          c.loop-i.run i _ (omega arith)
           c.loop-i.invariant.done (same ∙ twice);
       left = after_set (pos 0) c.loop-i.run c.args.run.now i _ c.loop-i.invariant.left;
     }

@@ -4,6 +4,8 @@ use Rattle.voice_levels.proofs.softening.quieten_twice.Given as goal
 
 abbrev pub invariant-loop-i : goal.invariant-loop-i
 invariant-loop-i l = record {
-  done : (k : ℕ) → k < l.i → get_or l.run k (pos 0) ≡ scaled_by (scaled_by (get_or l.fn.run k (pos 0)) (get_or l.levels k 0)) (get_or l.others k 0);
+  done : (k : ℕ) → k < l.i
+      → get_or l.run k (pos 0)
+      ≡ scaled_by (scaled_by (get_or l.fn.run k (pos 0)) (get_or l.levels k 0)) (get_or l.others k 0);
   left : (k : ℕ) → l.i ≤ k → get_or l.run k (pos 0) ≡ get_or l.fn.run k (pos 0);
 }

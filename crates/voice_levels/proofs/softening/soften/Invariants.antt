@@ -8,7 +8,9 @@ use Rattle.voice_levels.proofs.softening.soften.Given as goal
 abbrev pub invariant-loop-at : goal.invariant-loop-at
 invariant-loop-at l = record {
   within : l.at ≤ length l.run;
-  done : (k : ℕ) → k < l.at → get_or l.run k (pos 0) ≡ scaled_by (scaled_by (get_or l.fn.run k (pos 0)) (envelope l.v (l.t + k))) (gain_of l.v.attenuation);
+  done : (k : ℕ) → k < l.at
+      → get_or l.run k (pos 0)
+      ≡ scaled_by (scaled_by (get_or l.fn.run k (pos 0)) (envelope l.v (l.t + k))) (gain_of l.v.attenuation);
   rest : (k : ℕ) → l.at ≤ k → get_or l.run k (pos 0) ≡ get_or l.fn.run k (pos 0);
   in_hand : IsEven (envelope l.v) (l.t + l.at) l.level;
 }

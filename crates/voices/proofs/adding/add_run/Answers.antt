@@ -1,4 +1,5 @@
-use Rattle.std.proofs.Common.{◌≡◌, ◌+◌, ◌-◌, ◌*◌, ◌/◌, ◌%◌, ◌≤◌, ◌<◌, pos, arith, get_or, length, nat_eq, take, drop, refl, subst, ◌∙◌}
+use Rattle.std.proofs.Common.{◌≡◌, ◌+◌, ◌-◌, ◌*◌, ◌/◌, ◌%◌, ◌≤◌, ◌<◌, pos, arith, get_or, length, nat_eq, take, drop}
+use Rattle.std.proofs.Common.{refl, subst, ◌∙◌}
 use Rattle.std.proofs.lemmas.Grind.{common_steps}
 use Rattle.zone_select.specs.Select.{Voice}
 use Rattle.voices.specs.Course.{IsCourse}
@@ -12,7 +13,9 @@ pub loop-at-init : goal.loop-at-init
 loop-at-init c = record {
   within = omega arith;
   even = (λ _. 0);
-  here = subst (λ t. IsCourse c.args.points.now c.args.v.now t c.args.course.now) (let e : c.args.age ≡ c.args.age + 0 / 2 = omega arith in e) c.requires.course;
+  here =
+      subst (λ t. IsCourse c.args.points.now c.args.v.now t c.args.course.now)
+      (let e : c.args.age ≡ c.args.age + 0 / 2 = omega arith in e) c.requires.course;
   done = λ i h. absurd (omega (arith, h));
   rest = λ i h. refl;
   room = refl;
@@ -21,7 +24,8 @@ loop-at-init c = record {
 pub returns-clause-course : goal.returns-clause-course
 returns-clause-course c =
     let e : c.loop-at.at ≡ length c.args.sums.now = omega (arith, c.loop-at.invariant.within, c.loop-at.auto.sums) in
-    subst (λ n. IsCourse c.args.points.now c.args.v.now (c.args.age + n / 2) c.loop-at.course) e c.loop-at.invariant.here
+    subst (λ n. IsCourse c.args.points.now c.args.v.now (c.args.age + n / 2) c.loop-at.course) e
+    c.loop-at.invariant.here
 
 pub loop-at-preserved : goal.loop-at-preserved
 loop-at-preserved c =
@@ -43,14 +47,20 @@ loop-at-preserved c =
     record {
       within = omega (arith, end, c.loop-at.auto.sums);
       even = omega (arith, even);
-      here = subst (λ x. IsCourse c.args.points.now c.args.v.now x c.fill_run.new.course) later c.fill_run.ensures.there;
-      done = below_piece (pos 0) (λ i y. IsAdded (get_or ys i (pos 0)) (snd v (nat_eq (i % 2) 0) (c.args.age + i / 2)) y) xs c.add_sides.new.sums at (2 * n) end len
+      here =
+          subst (λ x. IsCourse c.args.points.now c.args.v.now x c.fill_run.new.course) later
+          c.fill_run.ensures.there;
+      done =
+          below_piece (pos 0)
+          (λ i y. IsAdded (get_or ys i (pos 0)) (snd v (nat_eq (i % 2) 0) (c.args.age + i / 2)) y) xs
+          c.add_sides.new.sums at (2 * n) end len
           c.loop-at.invariant.done
           (λ k h.
           let there : k / 2 < length c.fill_run.new.run = omega (arith, h, made) in
           later_added v c.args.age at k (get_or ys (at + k) (pos 0)) _ _ even
           (in_piece (pos 0) xs at (2 * n) k end h ∙ c.loop-at.invariant.rest (at + k) (omega arith))
-          (heard_added v (t + k / 2) (k % 2) _ _ _ _ _ (c.add_sides.ensures k (omega (arith, h, len))) (c.fill_run.ensures.heard (k / 2) there)
+          (heard_added v (t + k / 2) (k % 2) _ _ _ _ _ (c.add_sides.ensures k (omega (arith, h, len)))
+          (c.fill_run.ensures.heard (k / 2) there)
           c.left_part.ensures.value c.right_part.ensures.value));
       rest = after_piece (pos 0) xs ys c.add_sides.new.sums at (2 * n) end len c.loop-at.invariant.rest;
       room = grind (arith, common_steps, fits, made, c.loop-at.invariant.room);

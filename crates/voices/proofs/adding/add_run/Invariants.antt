@@ -9,7 +9,10 @@ invariant-loop-at l = record {
   within : l.at ≤ length l.fn.sums;
   even : l.at % 2 ≡ 0;
   here : IsCourse l.points l.v (l.age + l.at / 2) l.course;
-  done : (i : ℕ) → i < l.at → IsAdded (get_or l.fn.sums i (pos 0)) (snd (record { points = l.points; parameters = l.v }) (nat_eq (i % 2) 0) (l.age + i / 2)) (get_or l.sums i (pos 0));
+  done : (i : ℕ) → i < l.at
+      → IsAdded (get_or l.fn.sums i (pos 0))
+      (snd (record { points = l.points; parameters = l.v }) (nat_eq (i % 2) 0) (l.age + i / 2))
+      (get_or l.sums i (pos 0));
   rest : (i : ℕ) → l.at ≤ i → get_or l.sums i (pos 0) ≡ get_or l.fn.sums i (pos 0);
   room : length l.run ≡ length l.fn.run;
 }

@@ -8,4 +8,5 @@ returns-clause-course c =
     let n = length c.args.middle.now in
     let fits : n ≤ length c.args.run.now = omega (arith, c.requires.short) in
     let part : length (take n c.args.run.now) ≡ n = grind (arith, common_steps, fits) in
-    subst (λ m. IsCourse c.args.points.now c.args.v.now (c.args.age + m) c.fill_run.new.course) part c.fill_run.ensures.there
+    subst (λ m. IsCourse c.args.points.now c.args.v.now (c.args.age + m) c.fill_run.new.course) part
+    c.fill_run.ensures.there

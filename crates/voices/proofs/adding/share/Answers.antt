@@ -13,7 +13,8 @@ returns-then-v-eq0 c i h =
     let inside : k < length c.args.middle.now = omega (arith, h, c.requires.sums) in
     let there : k < length c.args.run.now = omega (arith, inside, c.requires.long) in
     let zero = c.if-v-eq0.true in
-    let central : c.args.v.now.pan ≡ pos 0 = omega (arith, ints, zero, c.requires.playable.left, c.requires.playable.right) in
+    let central : c.args.v.now.pan ≡ pos 0 =
+    omega (arith, ints, zero, c.requires.playable.left, c.requires.playable.right) in
     shared_middle _ _ _ _ _ refl
     (subst (λ (s : ℤ). IsAdded (get_or c.args.middle.now k (pos 0)) s (get_or c.add_halves_once.new.middle k (pos 0)))
     (ap (λ (z : ℤ). side z 500) (c.requires.heard k there) ∙ central_side v (nat_eq (i % 2) 0) (c.args.age + k) central)

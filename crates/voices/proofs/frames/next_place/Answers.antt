@@ -6,7 +6,8 @@ use Rattle.voices.proofs.RunLaws.{place_on}
 use Rattle.voices.proofs.frames.next_place.Goals as goal
 
 pub advanced-requires-clause-loop_is : goal.advanced-requires-clause-loop_is
-advanced-requires-clause-loop_is c e = c.requires.playable.ordered (is_looped_at c.args.v.now c.args.t (sym c.is_looping_at.ensures ∙ e))
+advanced-requires-clause-loop_is c e =
+    c.requires.playable.ordered (is_looped_at c.args.v.now c.args.t (sym c.is_looping_at.ensures ∙ e))
 
 pub prove-unreachable-requires : goal.prove-unreachable-requires
 prove-unreachable-requires c =
@@ -20,7 +21,10 @@ returns c =
     let t = c.args.t in
     let looping = c.is_looping_at.result in
     let e : is_looping v t ≡ looping = sym c.is_looping_at.ensures in
-    let same : (j : ℕ) → j < 1 → is_looping v (t + j) ≡ looping = λ j h. ap (is_looping v) (let q : t + j ≡ t = omega arith in q) ∙ e in
+    let same : (j : ℕ) → j < 1 → is_looping v (t + j) ≡ looping =
+    λ j h. ap (is_looping v) (let q : t + j ≡ t = omega arith in q) ∙ e in
     c.advanced.ensures
     ∙ ap (λ x. gone_on v looping (x + 1 * v.step)) c.requires.here
-    ∙ sym (place_on v t 1 looping c.requires.playable.ordered e same (λ l. c.requires.playable.ordered (is_looped_at v t (e ∙ l))))
+    ∙ sym
+    (place_on v t 1 looping c.requires.playable.ordered e same
+    (λ l. c.requires.playable.ordered (is_looped_at v t (e ∙ l))))

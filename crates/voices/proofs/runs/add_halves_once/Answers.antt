@@ -19,7 +19,8 @@ loop-k-preserved c =
     let half : c.halved.result ≡ side (get_or run k (pos 0)) 500 =
     (simp to_z-of_z at c.halved.ensures.value) ∙ ap (λ y. side y 500) z in
     let sum = added (get_or ys k (pos 0)) (get_or xs k (pos 0)) c.halved.result
-    (c.loop-k.invariant.rest k (omega arith)) (c.requires.room k (omega (arith, c.requires.long))) c.halved.ensures.low c.halved.ensures.high in
+    (c.loop-k.invariant.rest k (omega arith)) (c.requires.room k (omega (arith, c.requires.long)))
+    c.halved.ensures.low c.halved.ensures.high in
     let P : ℕ → ℤ → Type 0 = λ i y. IsAdded (get_or ys i (pos 0)) (side (get_or run i (pos 0)) 500) y in
     record {
       done = below_set (pos 0) P xs k _ (omega (arith, c.requires.long, c.loop-k.auto.middle)) c.loop-k.invariant.done

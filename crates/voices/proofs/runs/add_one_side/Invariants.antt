@@ -4,6 +4,8 @@ use Rattle.voices.proofs.runs.add_one_side.Given as goal
 
 abbrev pub invariant-loop-k : goal.invariant-loop-k
 invariant-loop-k l = record {
-  done : (i : ℕ) → i < 2 * l.k → IsAdded (get_or l.fn.sums i (pos 0)) (cond (nat_eq (i % 2) l.first) (get_or l.run (i / 2) (pos 0)) (pos 0)) (get_or l.sums i (pos 0));
+  done : (i : ℕ) → i < 2 * l.k
+      → IsAdded (get_or l.fn.sums i (pos 0)) (cond (nat_eq (i % 2) l.first) (get_or l.run (i / 2) (pos 0)) (pos 0))
+      (get_or l.sums i (pos 0));
   rest : (i : ℕ) → 2 * l.k ≤ i → get_or l.sums i (pos 0) ≡ get_or l.fn.sums i (pos 0);
 }

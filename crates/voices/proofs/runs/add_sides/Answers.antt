@@ -4,8 +4,10 @@ use Rattle.voices.specs.Runs.{IsAdded}
 use Rattle.voices.proofs.SideLaws.{half_each, left_alone, right_alone}
 use Rattle.voices.proofs.runs.add_sides.Goals as goal
 
-in_parts : (z : ℤ) (i left right left' right' : ℕ) → left ≡ left' → right ≡ right' → side z (cond (nat_eq i 0) left' right') ≡ side z (cond (nat_eq i 0) left right)
-in_parts z i left right left' right' e f = sym (ap (λ l. side z (cond (nat_eq i 0) l right)) e ∙ ap (λ r. side z (cond (nat_eq i 0) left' r)) f)
+in_parts : (z : ℤ) (i left right left' right' : ℕ) → left ≡ left' → right ≡ right'
+    → side z (cond (nat_eq i 0) left' right') ≡ side z (cond (nat_eq i 0) left right)
+in_parts z i left right left' right' e f =
+    sym (ap (λ l. side z (cond (nat_eq i 0) l right)) e ∙ ap (λ r. side z (cond (nat_eq i 0) left' r)) f)
 
 pub returns-then-right-eq0 : goal.returns-then-right-eq0
 returns-then-right-eq0 c i h =
@@ -17,7 +19,10 @@ returns-then-right-eq0 c i h =
 pub returns-then-right-eq-WHOLE : goal.returns-then-right-eq-WHOLE
 returns-then-right-eq-WHOLE c i h =
     let z : ℤ = get_or c.args.run.now (i / 2) (pos 0) in
-    subst (λ (s : ℤ). IsAdded (get_or c.args.sums.now i (pos 0)) s (get_or c.add_one_side-then-right-eq-WHOLE.new.sums i (pos 0)))
+    subst
+    (λ (s : ℤ).
+    IsAdded (get_or c.args.sums.now i (pos 0)) s
+    (get_or c.add_one_side-then-right-eq-WHOLE.new.sums i (pos 0)))
     (right_alone z (i % 2) (omega arith) ∙ in_parts z (i % 2) _ _ 0 1000 c.if-left-eq0.true c.if-right-eq-WHOLE.true)
     (c.add_one_side-then-right-eq-WHOLE.ensures i h)
 

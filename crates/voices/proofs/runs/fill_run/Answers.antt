@@ -1,4 +1,5 @@
-use Rattle.std.proofs.Common.{rules, ◌≡◌, ℕ, ◌+◌, ◌-◌, ◌<◌, ◌≤◌, ◌++◌, pos, arith, get_or, length, take, drop, sym, subst, ap, ◌∙◌}
+use Rattle.std.proofs.Common.{rules, ◌≡◌, ℕ, ◌+◌, ◌-◌, ◌<◌, ◌≤◌, ◌++◌, pos, arith, get_or, length, take, drop, sym}
+use Rattle.std.proofs.Common.{subst, ap, ◌∙◌}
 use Rattle.std.proofs.lemmas.Grind.{common_steps}
 use Rattle.std.proofs.lemmas.List.{places}
 use Rattle.zone_select.specs.Select.{Voice}
@@ -12,7 +13,9 @@ use Rattle.voices.proofs.runs.fill_run.Goals as goal
 pub loop-at-init : goal.loop-at-init
 loop-at-init c = record {
   within = omega arith;
-  here = subst (λ t. IsCourse c.args.points.now c.args.v.now t c.args.course.now) (let e : c.args.age ≡ c.args.age + 0 = omega arith in e) c.requires.here;
+  here =
+      subst (λ t. IsCourse c.args.points.now c.args.v.now t c.args.course.now)
+      (let e : c.args.age ≡ c.args.age + 0 = omega arith in e) c.requires.here;
   done = λ k h. absurd (omega (arith, h));
 }
 
@@ -25,16 +28,21 @@ returns-then-course-clause-heard c i h =
     let m : ℕ = length xs - at in
     let inside : at < length xs = c.loop-at-test.true in
     let whole : at + m ≡ length xs = omega (arith, inside) in
-    let len : length new ≡ m = c.fill.ensures.len ∙ (let e : length (take m (drop at xs)) ≡ m = grind (arith, common_steps, inside) in e) in
-    let long : length (take at xs ++ (new ++ drop m (drop at xs))) ≡ length xs = grind (arith, common_steps, inside, len) in
-    below_front (pos 0) (λ k y. y ≡ heard_at v (c.args.age + k)) xs new at m m (omega (arith, whole)) len (omega arith) c.loop-at.invariant.done
+    let len : length new ≡ m =
+    c.fill.ensures.len ∙ (let e : length (take m (drop at xs)) ≡ m = grind (arith, common_steps, inside) in e) in
+    let long : length (take at xs ++ (new ++ drop m (drop at xs))) ≡ length xs =
+    grind (arith, common_steps, inside, len) in
+    below_front (pos 0) (λ k y. y ≡ heard_at v (c.args.age + k)) xs new at m m (omega (arith, whole)) len
+    (omega arith) c.loop-at.invariant.done
     (λ k l. (let zero : get_or new k (pos 0) ≡ pos 0 = search (rules, places) in zero)
-    ∙ sym (heard_over v (c.args.age + at) (c.args.age + (at + k)) (sym c.loop-at.invariant.here.over ∙ c.if-course.true) (omega arith)))
+    ∙ sym (heard_over v (c.args.age + at) (c.args.age + (at + k))
+    (sym c.loop-at.invariant.here.over ∙ c.if-course.true) (omega arith)))
     i (omega (arith, h, long, whole))
 
 pub returns-then-course-clause-there : goal.returns-then-course-clause-there
 returns-then-course-clause-there c =
-    course_stays c.args.points.now c.args.v.now (c.args.age + c.loop-at.at) (c.args.age + length c.args.run.now) c.loop-at.course
+    course_stays c.args.points.now c.args.v.now (c.args.age + c.loop-at.at) (c.args.age + length c.args.run.now)
+    c.loop-at.course
     (omega (arith, c.loop-at.invariant.within)) c.if-course.true c.loop-at.invariant.here
 
 pub returns-clause-there : goal.returns-clause-there
@@ -55,7 +63,9 @@ loop-at-preserved c =
     record {
       within = omega (arith, end, c.loop-at.auto.run);
       here = subst (λ t. IsCourse c.args.points.now c.args.v.now t c.fill_by_stages.new.course)
-          (ap (λ m. c.args.age + at + m) long ∙ (let e : c.args.age + at + n ≡ c.args.age + (at + n) = omega arith in e)) c.fill_by_stages.ensures.course;
+          (ap (λ m. c.args.age + at + m) long
+          ∙ (let e : c.args.age + at + n ≡ c.args.age + (at + n) = omega arith in e))
+          c.fill_by_stages.ensures.course;
       done = below_piece (pos 0) (λ k y. y ≡ heard_at v (c.args.age + k)) xs new at n end len c.loop-at.invariant.done
           (λ k h. c.fill_by_stages.ensures.sounds k (omega (arith, h, len))
           ∙ sym (heard_is v (c.args.age + at + k) (c.stretch-n.ensures.one_way.sounds k h))

@@ -7,7 +7,8 @@ abbrev pub invariant-loop-at : goal.invariant-loop-at
 invariant-loop-at l = record {
   within : l.at ≤ length l.fn.run;
   here : IsCourse l.points l.v (l.age + l.at) l.course;
-  done : (k : ℕ) → k < l.at → get_or l.run k (pos 0) ≡ heard_at (record { points = l.points; parameters = l.v }) (l.age + k);
+  done : (k : ℕ) → k < l.at
+      → get_or l.run k (pos 0) ≡ heard_at (record { points = l.points; parameters = l.v }) (l.age + k);
 }
 
 abbrev pub decreases-loop-at : goal.decreases-loop-at

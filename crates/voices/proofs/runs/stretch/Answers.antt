@@ -4,7 +4,8 @@ use Rattle.voices.proofs.runs.stretch.Goals as goal
 
 pub returns-then-is_looping_at-clause-one_way : goal.returns-then-is_looping_at-clause-one_way
 returns-then-is_looping_at-clause-one_way c =
-    stretch_is c.args.v.now c.args.t _ c.requires.loop_is c.frames_ahead-n.ensures.young c.frames_ahead-n.ensures.unreleased c.frames_ahead-n.ensures.held
+    stretch_is c.args.v.now c.args.t _ c.requires.loop_is c.frames_ahead-n.ensures.young
+    c.frames_ahead-n.ensures.unreleased c.frames_ahead-n.ensures.held
     (λ e. absurd (differ _ (sym c.is_looping_at.ensures ∙ c.if-is_looping_at.true) e))
 
 pub returns-clause-one_way : goal.returns-clause-one_way
@@ -13,4 +14,5 @@ returns-clause-one_way c =
     (let e = c.frames_ahead-n.ensures.young in let f = c.frames_before.ensures.most in omega arith)
     (let e = c.frames_ahead-n.ensures.unreleased in let f = c.frames_before.ensures.most in omega arith)
     (λ h. let e = c.frames_ahead-n.ensures.held h in let f = c.frames_before.ensures.most in omega arith)
-    (λ l k h. near_is _ _ _ _ _ _ k c.requires.here c.from.ensures c.from-end.ensures (c.frames_before.ensures.before k h))
+    (λ l k h.
+    near_is _ _ _ _ _ _ k c.requires.here c.from.ensures c.from-end.ensures (c.frames_before.ensures.before k h))

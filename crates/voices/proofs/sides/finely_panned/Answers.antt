@@ -12,7 +12,8 @@ overflow_add-result c =
     let a : c.from-frame.result ≡ c.args.z = omega (arith, ints) in
     let b : c.from-2.result ≡ c.args.fine.high = omega (arith, ints) in
     let d : c.from.result ≡ c.args.fine.low = omega (arith, ints) in
-    (computed c.args.z c.args.fine.high c.args.fine.low c.from-frame.result c.from-2.result c.from.result fz fh fl a b d).fits
+    (computed c.args.z c.args.fine.high c.args.fine.low c.from-frame.result c.from-2.result c.from.result fz fh fl a
+    b d).fits
 
 pub returns : goal.returns
 returns c part most eh el =
@@ -22,5 +23,6 @@ returns c part most eh el =
     let a : c.from-frame.result ≡ c.args.z = omega (arith, ints) in
     let b : c.from-2.result ≡ c.args.fine.high = omega (arith, ints) in
     let d : c.from.result ≡ c.args.fine.low = omega (arith, ints) in
-    (computed c.args.z c.args.fine.high c.args.fine.low c.from-frame.result c.from-2.result c.from.result fz fh fl a b d).value
+    (computed c.args.z c.args.fine.high c.args.fine.low c.from-frame.result c.from-2.result c.from.result fz fh fl a
+    b d).value
     ∙ fine_is c.args.z c.args.fine.high c.args.fine.low part most fz eh el

@@ -9,6 +9,7 @@ use Rattle.voices.proofs.sides.halved.Goals as goal
 pub returns-clause-value : goal.returns-clause-value
 returns-clause-value c =
     let f : SFits w32 c.args.z = c.ranges.z in
-    let e : shr_z (to_z w32 (of_z w32 c.args.z)) 2 ≡ side c.args.z 500 = ap (λ z. shr_z z 2) (to_z-of_z w32 c.args.z f) ∙ half_side c.args.z in
+    let e : shr_z (to_z w32 (of_z w32 c.args.z)) 2 ≡ side c.args.z 500 =
+    ap (λ z. shr_z z 2) (to_z-of_z w32 c.args.z f) ∙ half_side c.args.z in
     let w = side_within c.args.z 500 (omega arith) c.requires.low c.requires.high in
     omega (arith, ints, e, w.0, w.1)

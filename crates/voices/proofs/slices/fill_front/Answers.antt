@@ -1,4 +1,5 @@
-use Rattle.std.proofs.Common.{◌≡◌, ◌+◌, ◌-◌, ◌*◌, ◌/◌, ◌%◌, ◌<◌, ◌≤◌, ℕ, ◌++◌, take, drop, length, get_or, arith, ap, ◌∙◌}
+use Rattle.std.proofs.Common.{◌≡◌, ◌+◌, ◌-◌, ◌*◌, ◌/◌, ◌%◌, ◌<◌, ◌≤◌, ℕ, ◌++◌, take, drop, length, get_or, arith, ap}
+use Rattle.std.proofs.Common.{◌∙◌}
 use Rattle.std.proofs.lemmas.Grind.{common_steps}
 use Rattle.std.proofs.lemmas.List.{length-drop, take_rest}
 use Rattle.sample_view.specs.Words.{words}
@@ -16,7 +17,8 @@ read_straight-requires-clause-near c =
     let last = c.frames_before-n.ensures.before (n - 1) (omega (arith, c.frames_before-n.ensures.some)) in
     let before : (n - 1) * c.from-then-ends-gt1.result ≡ (n - 1) * step = ap (λ y. (n - 1) * y) s in
     let count : n ≡ n - 1 + 1 = omega (arith, c.frames_before-n.ensures.some) in
-    let whole : length (take n c.args.pairs.now) * step ≡ (n - 1) * step + step = ap (λ y. y * step) (len ∙ count) ∙ omega arith in
+    let whole : length (take n c.args.pairs.now) * step ≡ (n - 1) * step + step =
+    ap (λ y. y * step) (len ∙ count) ∙ omega arith in
     let far = c.min-ends.ensures in
     let slow = c.requires.playable.step in
     omega (arith, whole, before, last, far, slow, c.from.ensures)
@@ -31,8 +33,11 @@ returns-then-ends-gt1-clause-value c k h =
     let ahead = drop (2 * first) bytes in
     let run = run_from c.args.points.now bytes (x / 65536) first c.around-slice.ensures.run in
     let fits : n ≤ length c.args.pairs.now = omega (arith, c.frames_before-n.ensures.most) in
-    let len : length c.read_straight.new.pairs ≡ n = c.read_straight.auto.pairs ∙ (let e : length (take n c.args.pairs.now) ≡ n = grind (arith, common_steps) in e) in
-    let o : get_or (c.read_straight.new.pairs ++ drop n c.args.pairs.now) k 0 ≡ get_or c.read_straight.new.pairs k 0 = grind (arith, common_steps) in
+    let len : length c.read_straight.new.pairs ≡ n =
+    c.read_straight.auto.pairs
+    ∙ (let e : length (take n c.args.pairs.now) ≡ n = grind (arith, common_steps) in e) in
+    let o : get_or (c.read_straight.new.pairs ++ drop n c.args.pairs.now) k 0 ≡ get_or c.read_straight.new.pairs k 0 =
+    grind (arith, common_steps) in
     let y : ℕ = x + k * c.args.v.now.step in
     let last = c.frames_before-n.ensures.before k h in
     let step : k * c.from-then-ends-gt1.result ≡ k * c.args.v.now.step = ap (λ s. k * s) c.from-then-ends-gt1.ensures in
@@ -50,4 +55,5 @@ returns-then-ends-gt1-clause-value c k h =
     ∙ ap (λ b. straight (words b) part) (take_rest bytes (2 * first))
     ∙ ap (straight (words ahead)) d
     ∙ straight_is c.args.points.now ahead c.args.v.now c.args.looping i 0 y run
-    (λ g. c.requires.playable.loop_inside (c.requires.looped g)) (omega arith) (omega (arith, near, m, m', l)) (omega (arith, near, m, m', long))
+    (λ g. c.requires.playable.loop_inside (c.requires.looped g)) (omega arith) (omega (arith, near, m, m', l))
+    (omega (arith, near, m, m', long))

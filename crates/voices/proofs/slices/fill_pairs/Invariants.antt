@@ -11,7 +11,9 @@ invariant-loop-at l = record {
   in_hand : IsInHand l.points l.slice;
   here : l.x ≡ place l.v (l.t + l.at);
   part : l.x % 65536 ≡ (l.from + l.at * l.v.step) % 65536;
-  done : (k : ℕ) → k < l.at → pair_says (get_or l.pairs k 0) ((l.from + k * l.v.step) % 65536) ≡ point_of l.points l.v (is_looping l.v (l.t + k)) (place l.v (l.t + k));
+  done : (k : ℕ) → k < l.at
+      → pair_says (get_or l.pairs k 0) ((l.from + k * l.v.step) % 65536)
+      ≡ point_of l.points l.v (is_looping l.v (l.t + k)) (place l.v (l.t + k));
 }
 
 abbrev pub decreases-loop-at : goal.decreases-loop-at

@@ -6,18 +6,21 @@ use Rattle.voices.proofs.RunLaws.{same_part}
 use Rattle.voices.proofs.slices.fill_points.Goals as goal
 
 pub fill_pairs-behind-requires-clause-one_way : goal.fill_pairs-behind-requires-clause-one_way
-fill_pairs-behind-requires-clause-one_way c = subst (λ n. IsStretch c.args.v.now c.args.t n) (sym c.requires.long) c.requires.one_way
+fill_pairs-behind-requires-clause-one_way c =
+    subst (λ n. IsStretch c.args.v.now c.args.t n) (sym c.requires.long) c.requires.one_way
 
 pub interpolate-requires-clause-near : goal.interpolate-requires-clause-near
 interpolate-requires-clause-near c =
-    let e : length c.args.run.now * (c.args.v.now.step % 65536) ≤ 1024 * 65536 = mul-le (length c.args.run.now) (c.args.v.now.step % 65536) 1024 65536 c.requires.short (omega arith) in
+    let e : length c.args.run.now * (c.args.v.now.step % 65536) ≤ 1024 * 65536 =
+    mul-le (length c.args.run.now) (c.args.v.now.step % 65536) 1024 65536 c.requires.short (omega arith) in
     omega (arith, e)
 
 pub returns-clause-points : goal.returns-clause-points
 returns-clause-points c i h =
     c.interpolate.ensures i h
     ∙ ap (pair_says _) (same_part c.args.from c.args.v.now.step i)
-    ∙ c.fill_pairs-behind.ensures.pairs i (omega (arith, h, c.interpolate.auto.run, c.fill_pairs-behind.auto.pairs, c.requires.long))
+    ∙ c.fill_pairs-behind.ensures.pairs i
+    (omega (arith, h, c.interpolate.auto.run, c.fill_pairs-behind.auto.pairs, c.requires.long))
 
 pub returns-clause-there : goal.returns-clause-there
 returns-clause-there c = c.fill_pairs-behind.ensures.there ∙ ap (λ n. place c.args.v.now (c.args.t + n)) c.requires.long

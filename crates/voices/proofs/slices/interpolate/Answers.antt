@@ -17,6 +17,9 @@ loop-k-preserved c =
     omega (arith, ints, c.between_pair.ensures.low, c.between_pair.ensures.high) in
     record {
       here = omega (arith, h);
-      done = below_set (pos 0) (λ k y. y ≡ pair_says (get_or c.args.pairs.now k 0) ((c.args.x + k * c.args.step) % 65536)) c.loop-k.run k _
+      done =
+          below_set (pos 0)
+          (λ k y. y ≡ pair_says (get_or c.args.pairs.now k 0) ((c.args.x + k * c.args.step) % 65536))
+          c.loop-k.run k _
           (omega arith) c.loop-k.invariant.done (same ∙ said);
     }

@@ -50,15 +50,24 @@ loop-pairs-preserved c =
     let long-v : length vs ≡ length xs = grind (arith, common_steps) in
     let next : place + 4 * step ≡ x + (k + 4) * step = omega (arith, here) in
     let ahead : 4 ≤ length vs - (k + 4) → Four (place + 4 * step) step (length c.args.bytes.now) =
-    λ h. four x step (place + 4 * step) (k + 4) (length c.args.pairs.now) (length c.args.bytes.now) next c.requires.near c.requires.ends (omega (arith, h, long-v, c.loop-pairs.auto.pairs)) in
+    λ h.
+    four x step (place + 4 * step) (k + 4) (length c.args.pairs.now) (length c.args.bytes.now) next
+    c.requires.near c.requires.ends (omega (arith, h, long-v, c.loop-pairs.auto.pairs)) in
     let P : ℕ → ℕ → Type 0 = λ i y. y ≡ pair_at ws ((x + i * step) / 65536) in
-    let at : (m i : ℕ) → m ≡ x + i * step → pair_at ws (m / 65536) ≡ pair_at ws ((x + i * step) / 65536) = λ m i e. ap (λ n. pair_at ws (n / 65536)) e in
-    let one = below_set 0 P xs k c.pair_in.result (omega (arith, more)) c.loop-pairs.invariant.done (c.pair_in.ensures ∙ at place k here) in
+    let at : (m i : ℕ) → m ≡ x + i * step → pair_at ws (m / 65536) ≡ pair_at ws ((x + i * step) / 65536) =
+    λ m i e. ap (λ n. pair_at ws (n / 65536)) e in
+    let one =
+    below_set 0 P xs k c.pair_in.result (omega (arith, more)) c.loop-pairs.invariant.done
+    (c.pair_in.ensures ∙ at place k here) in
     let two = below_set 0 P ys (k + 1) c.pair_in-in-loop-pairs.result (omega (arith, more, long-y)) one
     (c.pair_in-in-loop-pairs.ensures ∙ at (place + step) (k + 1) (omega (arith, here))) in
-    let three = below_set 0 P zs (k + 2) c.pair_in-in-loop-pairs-2.result (omega (arith, more, long-z)) (λ j h. two j (omega (arith, h)))
+    let three =
+    below_set 0 P zs (k + 2) c.pair_in-in-loop-pairs-2.result (omega (arith, more, long-z))
+    (λ j h. two j (omega (arith, h)))
     (c.pair_in-in-loop-pairs-2.ensures ∙ at (place + 2 * step) (k + 2) (omega (arith, here))) in
-    let all = below_set 0 P us (k + 3) c.pair_in-in-loop-pairs-3.result (omega (arith, more, long-u)) (λ j h. three j (omega (arith, h)))
+    let all =
+    below_set 0 P us (k + 3) c.pair_in-in-loop-pairs-3.result (omega (arith, more, long-u))
+    (λ j h. three j (omega (arith, h)))
     (c.pair_in-in-loop-pairs-3.ensures ∙ at (place + 3 * step) (k + 3) (omega (arith, here))) in
     record {
       within = omega (arith, more, long-v);

@@ -7,4 +7,7 @@ use Rattle.wave_file.proofs.sample.put_points.Goals as goal
 
 pub loop-piece-preserved : goal.loop-piece-preserved
 loop-piece-preserved g c =
-    putting_step _ _ c.loop-piece.invariant (at_drop_more (flat_map (λ (piece : Bor (List ℕ)). piece.now)) _ c.loop-piece.piece-index _ c.loop-piece-test.true) c.put.ensures
+    putting_step _ _ c.loop-piece.invariant
+    (at_drop_more (flat_map (λ (piece : Bor (List ℕ)). piece.now)) _ c.loop-piece.piece-index _
+    c.loop-piece-test.true)
+    c.put.ensures

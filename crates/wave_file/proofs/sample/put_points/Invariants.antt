@@ -5,4 +5,6 @@ use Rattle.wave_file.proofs.sample.put_points.Given as goal
 
 -- the slices that are ahead are still to be put
 abbrev pub invariant-loop-piece : goal.invariant-loop-piece
-invariant-loop-piece g l = Putting g.W.Write.contents l.initial.output l.output (joined_bytes l.pieces) (joined_bytes (drop l.piece-index l.pieces))
+invariant-loop-piece g l =
+    Putting g.W.Write.contents l.initial.output l.output (joined_bytes l.pieces)
+    (joined_bytes (drop l.piece-index l.pieces))

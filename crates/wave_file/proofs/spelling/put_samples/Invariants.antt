@@ -6,7 +6,8 @@ use Rattle.wave_file.proofs.spelling.put_samples.Given as goal
 
 abbrev pub invariant-loop-rest : goal.invariant-loop-rest
 invariant-loop-rest g l =
-    Putting g.W.Write.contents l.initial.output l.output (flat_map sample_bytes l.fn.samples) (flat_map sample_bytes l.rest)
+    Putting g.W.Write.contents l.initial.output l.output (flat_map sample_bytes l.fn.samples)
+    (flat_map sample_bytes l.rest)
 
 abbrev pub decreases-loop-rest : goal.decreases-loop-rest
 decreases-loop-rest g l = length l.rest

@@ -12,4 +12,6 @@ abbrev pub invariant-loop-zone : goal.invariant-loop-zone
 invariant-loop-zone g l =
     Putting g.W.Write.contents l.initial.output l.output
     (flat_map (drawn l.bank) (rectangles_in l.bank l.preset_zone l.area l.instrument))
-    (flat_map (drawn l.bank) (filter_map (rectangle_at l.bank l.preset_zone l.area l.instrument) (from l.zone (zones_in l.bank (owner.Instrument l.instrument)))))
+    (flat_map (drawn l.bank)
+    (filter_map (rectangle_at l.bank l.preset_zone l.area l.instrument)
+    (from l.zone (zones_in l.bank (owner.Instrument l.instrument)))))

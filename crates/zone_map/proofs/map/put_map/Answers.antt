@@ -4,4 +4,7 @@ use Rattle.zone_map.proofs.map.put_map.Goals as goal
 
 pub returns : goal.returns
 unfolding picture
-returns g c = puts_then _ _ c.put_head.ensures (puts_then _ _ c.put_owner.ensures (puts_then _ _ c.put_frame.ensures (puts_then _ _ c.put_rectangles.ensures c.put.ensures)))
+returns g c =
+    puts_then _ _ c.put_head.ensures
+    (puts_then _ _ c.put_owner.ensures
+    (puts_then _ _ c.put_frame.ensures (puts_then _ _ c.put_rectangles.ensures c.put.ensures)))

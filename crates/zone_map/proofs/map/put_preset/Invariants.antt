@@ -12,4 +12,5 @@ abbrev pub invariant-loop-zone : goal.invariant-loop-zone
 invariant-loop-zone g l =
     Putting g.W.Write.contents l.initial.output l.output
     (flat_map (drawn l.bank) (rectangles l.bank (owner.Preset l.preset)))
-    (flat_map (drawn l.bank) (flat_map (rectangles_of_zone l.bank l.preset) (from l.zone (zones_in l.bank (owner.Preset l.preset)))))
+    (flat_map (drawn l.bank)
+    (flat_map (rectangles_of_zone l.bank l.preset) (from l.zone (zones_in l.bank (owner.Preset l.preset)))))

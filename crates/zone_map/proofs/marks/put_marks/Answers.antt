@@ -6,9 +6,12 @@ use Rattle.zone_map.specs.Marks.{mark_text}
 use Rattle.zone_map.proofs.marks.put_marks.Goals as goal
 
 pub loop-mark-preserved : goal.loop-mark-preserved
-loop-mark-preserved g c = putting_member mark_text c.args.marks.now c.loop-mark.mark-index _ c.loop-mark.invariant c.loop-mark-test.true (puts_as _ _ (ap mark_text c.mark-item.is) c.put_mark.ensures)
+loop-mark-preserved g c =
+    putting_member mark_text c.args.marks.now c.loop-mark.mark-index _ c.loop-mark.invariant c.loop-mark-test.true
+    (puts_as _ _ (ap mark_text c.mark-item.is) c.put_mark.ensures)
 
 pub returns : goal.returns
 returns g c =
     let end = ap (flat_map mark_text) (drop_all c.loop-mark.mark-index c.args.marks.now c.loop-mark-test.false) in
-    putting_last c.loop-mark.invariant (puts_as [] (flat_map mark_text (drop c.loop-mark.mark-index c.args.marks.now)) (sym end) (puts_nothing _))
+    putting_last c.loop-mark.invariant
+    (puts_as [] (flat_map mark_text (drop c.loop-mark.mark-index c.args.marks.now)) (sym end) (puts_nothing _))

@@ -6,4 +6,6 @@ use Rattle.zone_map.proofs.marks.put_marks.Given as goal
 
 -- the pieces that are ahead are still to be put
 abbrev pub invariant-loop-mark : goal.invariant-loop-mark
-invariant-loop-mark g l = Putting g.W.Write.contents l.initial.output l.output (marks_text l.marks) (flat_map mark_text (drop l.mark-index l.marks))
+invariant-loop-mark g l =
+    Putting g.W.Write.contents l.initial.output l.output (marks_text l.marks)
+    (flat_map mark_text (drop l.mark-index l.marks))

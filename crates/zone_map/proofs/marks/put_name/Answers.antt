@@ -6,9 +6,12 @@ use Rattle.zone_map.specs.Marks.{shown}
 use Rattle.zone_map.proofs.marks.put_name.Goals as goal
 
 pub loop-byte-preserved : goal.loop-byte-preserved
-loop-byte-preserved g c = putting_member shown c.args.name.now c.loop-byte.byte-index 0 c.loop-byte.invariant c.loop-byte-test.true c.put_shown.ensures
+loop-byte-preserved g c =
+    putting_member shown c.args.name.now c.loop-byte.byte-index 0 c.loop-byte.invariant c.loop-byte-test.true
+    c.put_shown.ensures
 
 pub returns : goal.returns
 returns g c =
     let end = ap (flat_map shown) (drop_all c.loop-byte.byte-index c.args.name.now c.loop-byte-test.false) in
-    putting_last c.loop-byte.invariant (puts_as [] (flat_map shown (drop c.loop-byte.byte-index c.args.name.now)) (sym end) (puts_nothing _))
+    putting_last c.loop-byte.invariant
+    (puts_as [] (flat_map shown (drop c.loop-byte.byte-index c.args.name.now)) (sym end) (puts_nothing _))

@@ -6,4 +6,6 @@ use Rattle.zone_map.proofs.marks.put_name.Given as goal
 
 -- the bytes that are ahead are still to be put
 abbrev pub invariant-loop-byte : goal.invariant-loop-byte
-invariant-loop-byte g l = Putting g.W.Write.contents l.initial.output l.output (flat_map shown l.name) (flat_map shown (drop l.byte-index l.name))
+invariant-loop-byte g l =
+    Putting g.W.Write.contents l.initial.output l.output (flat_map shown l.name)
+    (flat_map shown (drop l.byte-index l.name))

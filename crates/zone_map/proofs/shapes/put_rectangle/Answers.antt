@@ -8,6 +8,11 @@ pub returns : goal.returns
 unfolding drawn
 returns g c =
     let r = c.args.rectangle.now in
-    let title = puts_as _ _ (ap (λ (n : List ℕ). marks_text (title_marks n r)) c.name_of-name.ensures) c.put_title.ensures in
-    let name = puts_as _ _ (ap (λ (n : List ℕ). marks_text (name_marks n r)) c.name_of-name.ensures) c.put_name.ensures in
-    puts_then _ _ title (puts_then _ _ c.put_preset_zone.ensures (puts_then _ _ c.put_ranges.ensures (puts_then _ _ c.put_box.ensures (puts_then _ _ name c.put_root.ensures))))
+    let title =
+    puts_as _ _ (ap (λ (n : List ℕ). marks_text (title_marks n r)) c.name_of-name.ensures) c.put_title.ensures in
+    let name =
+    puts_as _ _ (ap (λ (n : List ℕ). marks_text (name_marks n r)) c.name_of-name.ensures) c.put_name.ensures in
+    puts_then _ _ title
+    (puts_then _ _ c.put_preset_zone.ensures
+    (puts_then _ _ c.put_ranges.ensures
+    (puts_then _ _ c.put_box.ensures (puts_then _ _ name c.put_root.ensures))))

@@ -8,4 +8,5 @@ pub returns : goal.returns
 returns g c =
     let Is = AgreesButAt c.args.owners.now c.args.i c.args.zone c.args.operator in
     all_says Is c.all.result c.args.entries.now
-    (cases_from_all _ _ _ Is (λ x. Is x → ⊥) c.all.ensures.ran (YieldsList-from_slice c.args.entries.now cc) (λ x q k. search (rules, tests)) (λ x q k. search (rules, tests)))
+    (cases_from_all _ _ _ Is (λ x. Is x → ⊥) c.all.ensures.ran (YieldsList-from_slice c.args.entries.now cc)
+    (λ x q k. search (rules, tests)) (λ x q k. search (rules, tests)))

@@ -9,14 +9,19 @@ use Rattle.zone_select.proofs.linear.linear_parts.Goals as goal
 
 pub loop-source-preserved : goal.loop-source-preserved
 loop-source-preserved c =
-    let f : ℕ → ℤ = linear_part c.args.key c.args.velocity (instrument_zone_at c.args.bank.now c.args.at.now) (preset_zone_at c.args.bank.now c.args.at.now) c.args.operator in
+    let f : ℕ → ℤ =
+    linear_part c.args.key c.args.velocity (instrument_zone_at c.args.bank.now c.args.at.now)
+    (preset_zone_at c.args.bank.now c.args.at.now) c.args.operator in
     let there = c.loop-source-test.true in
     let i : ℕ = c.loop-source.source-index in
     let items = c.loop-source.invariant.items in
     let w = c.linear_part-sum.ensures.within in
     let low = c.loop-source.invariant.low in
     let high = c.loop-source.invariant.high in
-    let step : to_z w32 (of_z w32 (to_z w32 c.loop-source.sum-bits +ℤ to_z w32 (of_z w32 c.linear_part-sum.result))) ≡ to_z w32 c.loop-source.sum-bits +ℤ c.linear_part-sum.result = omega (arith, ints, w.0, w.1, low, high) in record {
+    let step : to_z w32 (of_z w32 (to_z w32 c.loop-source.sum-bits +ℤ to_z w32 (of_z w32 c.linear_part-sum.result)))
+    ≡ to_z w32 c.loop-source.sum-bits +ℤ c.linear_part-sum.result =
+    omega (arith, ints, w.0, w.1, low, high) in
+    record {
       added =
           step
           ∙ ap (λ (z : ℤ). z +ℤ c.linear_part-sum.result) c.loop-source.invariant.added
@@ -29,6 +34,8 @@ loop-source-preserved c =
 
 pub returns-clause-value : goal.returns-clause-value
 returns-clause-value c =
-    let f : ℕ → ℤ = linear_part c.args.key c.args.velocity (instrument_zone_at c.args.bank.now c.args.at.now) (preset_zone_at c.args.bank.now c.args.at.now) c.args.operator in
+    let f : ℕ → ℤ =
+    linear_part c.args.key c.args.velocity (instrument_zone_at c.args.bank.now c.args.at.now)
+    (preset_zone_at c.args.bank.now c.args.at.now) c.args.operator in
     let past = c.loop-source-test.false in
     c.loop-source.invariant.added ∙ all_summed f linear_sources c.loop-source.source-index (omega (arith, past))

@@ -7,7 +7,13 @@ use Rattle.zone_select.proofs.linear.linear_parts.Given as goal
 -- what the sources so far add
 abbrev pub invariant-loop-source : goal.invariant-loop-source
 invariant-loop-source l = record {
-  added : l.sum ≡ fold (λ s source. s +ℤ linear_part l.key l.velocity (instrument_zone_at l.bank l.at) (preset_zone_at l.bank l.at) l.operator source) (pos 0) (take l.source-index l.source-items);
+  added : l.sum
+      ≡ fold
+      (λ s source.
+      s
+      +ℤ linear_part l.key l.velocity (instrument_zone_at l.bank l.at) (preset_zone_at l.bank l.at)
+      l.operator source)
+      (pos 0) (take l.source-index l.source-items);
   items : l.source-items ≡ linear_sources;
   low : pos 0 ≤ℤ (l.sum +ℤ pos (65536 * l.source-index));
   high : l.sum ≤ℤ pos (65536 * l.source-index);

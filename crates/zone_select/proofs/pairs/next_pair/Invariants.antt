@@ -6,7 +6,8 @@ use Rattle.zone_select.proofs.pairs.next_pair.Given as goal
 -- no pair before this place was left
 abbrev pub invariant-loop-next : goal.invariant-loop-next
 invariant-loop-next l = record {
-  left : pairs_left l.bank l.note l.preset l.next l.instrument_zone ≡ pairs_left l.bank l.note l.preset l.fn.first l.from;
+  left : pairs_left l.bank l.note l.preset l.next l.instrument_zone
+      ≡ pairs_left l.bank l.note l.preset l.fn.first l.from;
   within : IfSome l.next (λ k. k < 65535);
 }
 

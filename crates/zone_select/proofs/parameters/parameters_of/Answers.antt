@@ -13,14 +13,36 @@ returns c =
     let v = instrument_zone_at c.args.bank.now c.args.at.now in
     let u = preset_zone_at c.args.bank.now c.args.at.now in
     let s = c.args.sample.now in
-    let ends = c.unwrap_or-loop_start.ensures ∙ ap (λ (o : Option (ℕ × ℕ)). unwrap_or o (0, 0)) c.loop_within-looped.ensures in
+    let ends =
+    c.unwrap_or-loop_start.ensures
+    ∙ ap (λ (o : Option (ℕ × ℕ)). unwrap_or o (0, 0)) c.loop_within-looped.ensures in
     let first = ap (λ (p : ℕ × ℕ). p.0) ends ∙ loop_start_is v u s in
     let after = ap (λ (p : ℕ × ℕ). p.1) ends ∙ loop_end_is v u s in
-    let there = c.is_some.ensures ∙ ap (λ (o : Option (ℕ × ℕ)). is_some o) c.loop_within-looped.ensures ∙ loop_there v u s in
+    let there =
+    c.is_some.ensures ∙ ap (λ (o : Option (ℕ × ℕ)). is_some o) c.loop_within-looped.ensures ∙ loop_there v u s in
     let fa : SFits w32 c.attenuation.result = search rules in
     let fp : SFits w32 c.pan.result = search rules in
     let fc : SFits w16 c.exclusive_class.result = search rules in
     let attenuation = to_z-of_z w32 c.attenuation.result fa ∙ c.attenuation.ensures in
     let pan = to_z-of_z w32 c.pan.result fp ∙ c.pan.ensures in
     let class = to_z-of_z w16 c.exclusive_class.result fc ∙ c.exclusive_class.ensures in
-    rw (c.span_of-span.ensures.start, c.span_of-span.ensures.end, first, after, there, c.mode.ensures.value, c.step_through.ensures, c.time.ensures, c.moved_time.ensures, c.time-2.ensures, c.moved_time-2.ensures, c.moved_time-3.ensures, c.sustain.ensures, attenuation, pan, c.length.ensures.value, class) refl
+    rw (
+      c.span_of-span.ensures.start,
+      c.span_of-span.ensures.end,
+      first,
+      after,
+      there,
+      c.mode.ensures.value,
+      c.step_through.ensures,
+      c.time.ensures,
+      c.moved_time.ensures,
+      c.time-2.ensures,
+      c.moved_time-2.ensures,
+      c.moved_time-3.ensures,
+      c.sustain.ensures,
+      attenuation,
+      pan,
+      c.length.ensures.value,
+      class,
+    )
+    refl

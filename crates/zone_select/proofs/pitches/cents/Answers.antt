@@ -37,9 +37,17 @@ returns c =
     let s : SFits w8 c.args.sample.now.correction = search rules in
     let e = c.from.ensures in
     let f : SFits w32 c.amount.result = search rules in
-    let product : c.interval.result ≡ to_z w32 (of_z w32 c.amount.result) *ℤ (pos c.key-key.result -ℤ pos c.root-root.result) = c.interval.ensures.value in
-    let scaled : c.interval.result ≡ c.amount.result *ℤ (pos c.key-key.result -ℤ pos c.root-root.result) = product ∙ ap (λ (z : ℤ). z *ℤ (pos c.key-key.result -ℤ pos c.root-root.result)) (to_z-of_z w32 c.amount.result f) in
-    let is = cents_is c.args.note.now v u c.args.sample.now c.key-key.result c.root-root.result (pos c.key-key.result -ℤ pos c.root-root.result)
+    let product : c.interval.result
+    ≡ to_z w32 (of_z w32 c.amount.result) *ℤ (pos c.key-key.result -ℤ pos c.root-root.result) =
+    c.interval.ensures.value in
+    let scaled : c.interval.result ≡ c.amount.result *ℤ (pos c.key-key.result -ℤ pos c.root-root.result) =
+    product
+    ∙ ap (λ (z : ℤ). z *ℤ (pos c.key-key.result -ℤ pos c.root-root.result)) (to_z-of_z w32 c.amount.result f)
+    in
+    let is =
+    cents_is c.args.note.now v u c.args.sample.now c.key-key.result c.root-root.result
+    (pos c.key-key.result -ℤ pos c.root-root.result)
     c.amount.result c.interval.result c.amount-2.result c.moved.result
-    c.key-key.ensures.value c.root-root.ensures.value refl c.amount.ensures.value scaled c.amount-2.ensures.value c.moved.ensures.value in
+    c.key-key.ensures.value c.root-root.ensures.value refl c.amount.ensures.value scaled c.amount-2.ensures.value
+    c.moved.ensures.value in
     omega (arith, ints, i.0, i.1, a.0, a.1, m.0, m.1, s, e, is)

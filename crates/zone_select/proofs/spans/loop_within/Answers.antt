@@ -7,11 +7,16 @@ use Rattle.zone_select.proofs.spans.loop_within.Goals as goal
 
 pub returns-in_err-first : goal.returns-in_err-first
 returns-in_err-first c =
-    rw (sym (no_loop (instrument_zone_at c.args.bank.now c.args.at.now) (preset_zone_at c.args.bank.now c.args.at.now) c.args.sample.now c.in_err-first.was)) (search rules)
+    rw
+    (sym
+    (no_loop (instrument_zone_at c.args.bank.now c.args.at.now)
+    (preset_zone_at c.args.bank.now c.args.at.now) c.args.sample.now c.in_err-first.was))
+    (search rules)
 
 pub returns-then-not-asks_for_loop : goal.returns-then-not-asks_for_loop
 returns-then-not-asks_for_loop c =
-    not_asked (instrument_zone_at c.args.bank.now c.args.at.now) (preset_zone_at c.args.bank.now c.args.at.now) c.args.sample.now (sym c.asks_for_loop.ensures ∙ c.if-not-asks_for_loop.true)
+    not_asked (instrument_zone_at c.args.bank.now c.args.at.now) (preset_zone_at c.args.bank.now c.args.at.now)
+    c.args.sample.now (sym c.asks_for_loop.ensures ∙ c.if-not-asks_for_loop.true)
 
 pub returns : goal.returns
 returns c =
@@ -19,11 +24,18 @@ returns c =
     let u = preset_zone_at c.args.bank.now c.args.at.now in
     let later = c.offset-later.ensures.within in
     let longer = c.offset-longer.ensures.within in
-    let x : to_z w64 (of_z w64 (to_z w64 (of_z w64 c.from.result) +ℤ to_z w64 (of_z w64 c.offset-later.result))) ≡ pos c.in_ok-first.first +ℤ c.offset-later.result = omega (arith, ints, c.from.ensures, later.0, later.1) in
-    let y : to_z w64 (of_z w64 (to_z w64 (of_z w64 c.from-2.result) +ℤ to_z w64 (of_z w64 c.offset-longer.result))) ≡ pos c.in_ok-first.after +ℤ c.offset-longer.result = omega (arith, ints, c.from-2.ensures, longer.0, longer.1) in
+    let x : to_z w64 (of_z w64 (to_z w64 (of_z w64 c.from.result) +ℤ to_z w64 (of_z w64 c.offset-later.result)))
+    ≡ pos c.in_ok-first.first +ℤ c.offset-later.result =
+    omega (arith, ints, c.from.ensures, later.0, later.1) in
+    let y : to_z w64 (of_z w64 (to_z w64 (of_z w64 c.from-2.result) +ℤ to_z w64 (of_z w64 c.offset-longer.result)))
+    ≡ pos c.in_ok-first.after +ℤ c.offset-longer.result =
+    omega (arith, ints, c.from-2.ensures, longer.0, longer.1) in
     c.ends_within.ensures
     ∙ loop_by v u c.args.sample.now (c.in_ok-first.first, c.in_ok-first.after)
     (to_z w64 (of_z w64 (to_z w64 (of_z w64 c.from.result) +ℤ to_z w64 (of_z w64 c.offset-later.result))))
     (to_z w64 (of_z w64 (to_z w64 (of_z w64 c.from-2.result) +ℤ to_z w64 (of_z w64 c.offset-longer.result))))
-    c.args.span.now.start c.args.span.now.end c.in_ok-first.was (sym c.asks_for_loop.ensures ∙ c.if-not-asks_for_loop.false)
-    (x ∙ ap (λ (z : ℤ). pos c.in_ok-first.first +ℤ z) c.offset-later.ensures.value) (y ∙ ap (λ (z : ℤ). pos c.in_ok-first.after +ℤ z) c.offset-longer.ensures.value) c.requires.start c.requires.end
+    c.args.span.now.start c.args.span.now.end c.in_ok-first.was
+    (sym c.asks_for_loop.ensures ∙ c.if-not-asks_for_loop.false)
+    (x ∙ ap (λ (z : ℤ). pos c.in_ok-first.first +ℤ z) c.offset-later.ensures.value)
+    (y ∙ ap (λ (z : ℤ). pos c.in_ok-first.after +ℤ z) c.offset-longer.ensures.value) c.requires.start
+    c.requires.end

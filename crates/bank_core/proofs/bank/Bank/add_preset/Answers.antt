@@ -7,9 +7,13 @@ use Rattle.bank_core.proofs.bank.Bank.add_preset.Goals as goal
 
 pub with_owner-totals-requires : goal.with_owner-totals-requires
 with_owner-totals-requires c =
-    has_room c.self.view_is c.self.invariant (owners_grow level.Preset) c.requires.sound (records_of_owner c.args.preset) (totals-added_preset c.args.self.now c.args.number c.args.preset c.requires.place) c.records.ensures
+    has_room c.self.view_is c.self.invariant (owners_grow level.Preset) c.requires.sound
+    (records_of_owner c.args.preset)
+    (totals-added_preset c.args.self.now c.args.number c.args.preset c.requires.place) c.records.ensures
 
 pub invariant_of-self-2 : goal.invariant_of-self-2
 invariant_of-self-2 c =
-    kept_with c.self.view_is c.self.invariant (owners_grow level.Preset) c.requires.sound (records_of_owner c.args.preset) (totals-added_preset c.args.self.now c.args.number c.args.preset c.requires.place) c.records.ensures
+    kept_with c.self.view_is c.self.invariant (owners_grow level.Preset) c.requires.sound
+    (records_of_owner c.args.preset)
+    (totals-added_preset c.args.self.now c.args.number c.args.preset c.requires.place) c.records.ensures
     (rw c.self.view_is at c.in_ok-add_preset.ensures.ok) c.with_owner-totals.ensures

@@ -8,10 +8,13 @@ use Rattle.bank_core.proofs.bank.Bank.add_zone.Goals as goal
 pub with_records-totals-requires : goal.with_records-totals-requires
 with_records-totals-requires c =
     let more = totals-zone_added c.args.self.now c.args.owner c.args.at c.args.zone c.requires.place in
-    rw c.level.ensures (has_room c.self.view_is c.self.invariant (records_grow (level_of c.args.owner)) c.requires.sound (records_of_zone c.args.zone) more c.records.ensures)
+    rw c.level.ensures
+    (has_room c.self.view_is c.self.invariant (records_grow (level_of c.args.owner)) c.requires.sound
+    (records_of_zone c.args.zone) more c.records.ensures)
 
 pub invariant_of-self-2 : goal.invariant_of-self-2
 invariant_of-self-2 c =
     let more = totals-zone_added c.args.self.now c.args.owner c.args.at c.args.zone c.requires.place in
-    kept_with c.self.view_is c.self.invariant (records_grow (level_of c.args.owner)) c.requires.sound (records_of_zone c.args.zone) more c.records.ensures
+    kept_with c.self.view_is c.self.invariant (records_grow (level_of c.args.owner)) c.requires.sound
+    (records_of_zone c.args.zone) more c.records.ensures
     (rw c.self.view_is at c.in_ok-add_zone.ensures.ok) (rw c.level.ensures at c.with_records-totals.ensures)

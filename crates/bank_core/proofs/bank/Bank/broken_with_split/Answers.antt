@@ -14,6 +14,8 @@ returns c = λ at can.
     let now = c.args.self.now in
     let o = c.args.owner in
     let zone = (split now o c.args.zone c.args.axis at can).own.zone in
-    let count : c.split_records-more.result ≡ all_counted (split_records c.args.axis zone) = rw (c.self.view_is, split_zone_is now o c.args.zone c.args.axis at can) at c.split_records-more.ensures in
-    rw (c.level.ensures, rw c.self.view_is at c.self.invariant.1) at c.broken_with_records.ensures (split_records c.args.axis zone) count
+    let count : c.split_records-more.result ≡ all_counted (split_records c.args.axis zone) =
+    rw (c.self.view_is, split_zone_is now o c.args.zone c.args.axis at can) at c.split_records-more.ensures in
+    rw (c.level.ensures, rw c.self.view_is at c.self.invariant.1) at c.broken_with_records.ensures
+    (split_records c.args.axis zone) count
     ∙ sym (ap broken (totals-zone_split now o c.args.zone c.args.axis at can))

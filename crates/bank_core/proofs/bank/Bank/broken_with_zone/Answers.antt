@@ -13,5 +13,6 @@ returns c = λ at there.
     let now = c.args.self.now in
     let o = c.args.owner in
     let zone = c.args.zone.now in
-    rw (c.level.ensures, rw c.self.view_is at c.self.invariant.1) at c.broken_with_records.ensures (records_of_zone zone) c.records.ensures
+    rw (c.level.ensures, rw c.self.view_is at c.self.invariant.1) at c.broken_with_records.ensures
+    (records_of_zone zone) c.records.ensures
     ∙ sym (ap broken (totals-zone_added now o at zone there))

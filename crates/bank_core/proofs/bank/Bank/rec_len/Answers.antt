@@ -7,12 +7,17 @@ use Rattle.bank_core.proofs.bank.Bank.rec_len.Goals as goal
 
 pub overflow_cast-result : goal.overflow_cast-result
 overflow_cast-result c =
-    let count = c.list_len.ensures ∙ ap (λ owners. record_count (lists_of level.Preset owners) c.args.part) c.presets.ensures.value in
+    let count =
+    c.list_len.ensures
+    ∙ ap (λ owners. record_count (lists_of level.Preset owners) c.args.part) c.presets.ensures.value in
     let few = few_records c.args.self.now c.presets.ensures.valid level.Preset c.args.part in
     omega (arith, count, few)
 
 pub overflow_cast-result-in-Instrument : goal.overflow_cast-result-in-Instrument
 overflow_cast-result-in-Instrument c =
-    let count = c.list_len-in-Instrument.ensures ∙ ap (λ owners. record_count (lists_of level.Instrument owners) c.args.part) c.instruments.ensures.value in
+    let count =
+    c.list_len-in-Instrument.ensures
+    ∙ ap (λ owners. record_count (lists_of level.Instrument owners) c.args.part) c.instruments.ensures.value
+    in
     let few = few_records c.args.self.now c.instruments.ensures.valid level.Instrument c.args.part in
     omega (arith, count, few)

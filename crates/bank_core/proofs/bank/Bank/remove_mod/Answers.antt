@@ -7,10 +7,15 @@ use Rattle.bank_core.proofs.bank.Bank.remove_mod.Goals as goal
 pub recounted-self-inside-requires : goal.recounted-self-inside-requires
 recounted-self-inside-requires c = record {
   within = no_limit_before c.self.view_is c.self.invariant;
-  counted = has_before c.self.view_is c.self.invariant c.args.owner c.args.place c.requires.there c.level.ensures c.records_there-before.ensures;
+  counted =
+      has_before c.self.view_is c.self.invariant c.args.owner c.args.place c.requires.there c.level.ensures
+      c.records_there-before.ensures;
 }
 
 pub invariant_of-self : goal.invariant_of-self
 invariant_of-self c =
-    kept_there c.self.view_is c.self.invariant c.args.owner c.args.place c.requires.there c.level.ensures c.records_there-before.ensures (λ s. with_mods (remove s.mods c.args.index) s)
-    (rw c.self.view_is at c.remove_mod-modulator.ensures.change) (mod_removed_is c.args.self.now c.args.owner c.args.place c.args.index) c.requires.sound c.records_there-after.ensures c.recounted-self-inside.ensures.value
+    kept_there c.self.view_is c.self.invariant c.args.owner c.args.place c.requires.there c.level.ensures
+    c.records_there-before.ensures (λ s. with_mods (remove s.mods c.args.index) s)
+    (rw c.self.view_is at c.remove_mod-modulator.ensures.change)
+    (mod_removed_is c.args.self.now c.args.owner c.args.place c.args.index) c.requires.sound
+    c.records_there-after.ensures c.recounted-self-inside.ensures.value

@@ -5,5 +5,8 @@ use Rattle.bank_core.proofs.bank.Bank.set_loop.Goals as goal
 
 pub invariant_of-self : goal.invariant_of-self
 invariant_of-self c =
-    rw (c.set_loop.ensures.change, c.self.view_is)
-    (c.requires.sound, totals_stay c.args.self.now c.args.number (looped_as c.args.looped) c.requires.there (λ s. refl) c.self.inside.totals (rw c.self.view_is at c.self.invariant.1))
+    rw (c.set_loop.ensures.change, c.self.view_is) (
+      c.requires.sound,
+      totals_stay c.args.self.now c.args.number (looped_as c.args.looped) c.requires.there (λ s. refl)
+          c.self.inside.totals (rw c.self.view_is at c.self.invariant.1),
+    )

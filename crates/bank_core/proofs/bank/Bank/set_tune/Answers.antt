@@ -6,8 +6,12 @@ use Rattle.bank_core.proofs.bank.Bank.set_tune.Goals as goal
 
 pub invariant_of-self : goal.invariant_of-self
 invariant_of-self c =
-    rw (c.set_tune.ensures.change, to_z-of_z w8 c.args.correction c.ranges.correction, c.self.view_is)
-    (c.requires.sound, totals_stay c.args.self.now c.args.number (tuned c.args.rate c.args.key c.args.correction) c.requires.there (λ s. refl) c.self.inside.totals (rw c.self.view_is at c.self.invariant.1))
+    rw (c.set_tune.ensures.change, to_z-of_z w8 c.args.correction c.ranges.correction, c.self.view_is) (
+      c.requires.sound,
+      totals_stay c.args.self.now c.args.number (tuned c.args.rate c.args.key c.args.correction) c.requires.there
+          (λ s. refl) c.self.inside.totals (rw c.self.view_is at c.self.invariant.1),
+    )
 
 pub returns-clause-change : goal.returns-clause-change
-returns-clause-change c = rw (to_z-of_z w8 c.args.correction c.ranges.correction, c.self.view_is) at c.set_tune.ensures.change
+returns-clause-change c =
+    rw (to_z-of_z w8 c.args.correction c.ranges.correction, c.self.view_is) at c.set_tune.ensures.change

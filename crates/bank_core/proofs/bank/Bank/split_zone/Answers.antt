@@ -10,12 +10,27 @@ use Rattle.bank_core.proofs.bank.Bank.split_zone.Goals as goal
 pub with_records-totals-requires : goal.with_records-totals-requires
 with_records-totals-requires c =
     let zone = (split c.args.self.now c.args.owner c.args.zone c.args.axis c.args.at c.requires.there).own.zone in
-    let count : c.split_records-more.result ≡ all_counted (split_records c.args.axis zone) = rw (c.self.view_is, split_zone_is c.args.self.now c.args.owner c.args.zone c.args.axis c.args.at c.requires.there) at c.split_records-more.ensures in
-    rw c.level.ensures (has_room c.self.view_is c.self.invariant (records_grow (level_of c.args.owner)) c.requires.sound (split_records c.args.axis zone) (totals-zone_split c.args.self.now c.args.owner c.args.zone c.args.axis c.args.at c.requires.there) count)
+    let count : c.split_records-more.result ≡ all_counted (split_records c.args.axis zone) =
+    rw (
+      c.self.view_is,
+      split_zone_is c.args.self.now c.args.owner c.args.zone c.args.axis c.args.at c.requires.there,
+    )
+    at c.split_records-more.ensures in
+    rw c.level.ensures
+    (has_room c.self.view_is c.self.invariant (records_grow (level_of c.args.owner)) c.requires.sound
+    (split_records c.args.axis zone)
+    (totals-zone_split c.args.self.now c.args.owner c.args.zone c.args.axis c.args.at c.requires.there) count)
 
 pub invariant_of-self-2 : goal.invariant_of-self-2
 invariant_of-self-2 c =
     let zone = (split c.args.self.now c.args.owner c.args.zone c.args.axis c.args.at c.requires.there).own.zone in
-    let count : c.split_records-more.result ≡ all_counted (split_records c.args.axis zone) = rw (c.self.view_is, split_zone_is c.args.self.now c.args.owner c.args.zone c.args.axis c.args.at c.requires.there) at c.split_records-more.ensures in
-    kept_with c.self.view_is c.self.invariant (records_grow (level_of c.args.owner)) c.requires.sound (split_records c.args.axis zone) (totals-zone_split c.args.self.now c.args.owner c.args.zone c.args.axis c.args.at c.requires.there) count
+    let count : c.split_records-more.result ≡ all_counted (split_records c.args.axis zone) =
+    rw (
+      c.self.view_is,
+      split_zone_is c.args.self.now c.args.owner c.args.zone c.args.axis c.args.at c.requires.there,
+    )
+    at c.split_records-more.ensures in
+    kept_with c.self.view_is c.self.invariant (records_grow (level_of c.args.owner)) c.requires.sound
+    (split_records c.args.axis zone)
+    (totals-zone_split c.args.self.now c.args.owner c.args.zone c.args.axis c.args.at c.requires.there) count
     (rw c.self.view_is at c.in_ok-split_zone.ensures.ok) (rw c.level.ensures at c.with_records-totals.ensures)

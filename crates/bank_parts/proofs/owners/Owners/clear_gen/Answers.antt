@@ -6,10 +6,16 @@ use Rattle.bank_parts.proofs.GenChanges.{was_none, was_found, was_missing, gen_i
 use Rattle.bank_parts.proofs.owners.Owners.clear_gen.Goals as goal
 
 pub returns-in_default-clause-was : goal.returns-in_default-clause-was
-returns-in_default-clause-was g c = was_none (bare_place (held c.self.invariant c.self.view_is) c.args.i c.args.place c.requires c.in_default.ensures) c.args.operator
+returns-in_default-clause-was g c =
+    was_none
+    (bare_place (held c.self.invariant c.self.view_is) c.args.i c.args.place c.requires c.in_default.ensures)
+    c.args.operator
 
 pub returns-in_default-clause-change : goal.returns-in_default-clause-change
-returns-in_default-clause-change g c = bare_cleared (bare_place (held c.self.invariant c.self.view_is) c.args.i c.args.place c.requires c.in_default.ensures) c.args.operator
+returns-in_default-clause-change g c =
+    bare_cleared
+    (bare_place (held c.self.invariant c.self.view_is) c.args.i c.args.place c.requires c.in_default.ensures)
+    c.args.operator
 
 pub search_entries-requires : goal.search_entries-requires
 search_entries-requires g c =
@@ -17,27 +23,40 @@ search_entries-requires g c =
 
 pub take_gen-requires : goal.take_gen-requires
 take_gen-requires g c =
-    let b = bag_place (held c.self.invariant c.self.view_is) c.args.i c.args.place c.requires c.in-Some.at c.in-Some.ensures in
+    let b =
+    bag_place (held c.self.invariant c.self.view_is) c.args.i c.args.place c.requires c.in-Some.at
+    c.in-Some.ensures in
     gen_within b c.entries-entries.ensures.value c.in-Ok.ensures.found
 
 pub invariant_of-self : goal.invariant_of-self
 invariant_of-self g c =
-    let b = bag_place (held c.self.invariant c.self.view_is) c.args.i c.args.place c.requires c.in-Some.at c.in-Some.ensures in
-    are_read (gen_is_taken b c.entries-entries.ensures.value c.take_gen.new.bags.owners c.in-Ok.ensures.found c.take_gen.ensures)
+    let b =
+    bag_place (held c.self.invariant c.self.view_is) c.args.i c.args.place c.requires c.in-Some.at
+    c.in-Some.ensures in
+    are_read
+    (gen_is_taken b c.entries-entries.ensures.value c.take_gen.new.bags.owners c.in-Ok.ensures.found
+    c.take_gen.ensures)
 
 pub returns-in-Ok-clause-was : goal.returns-in-Ok-clause-was
 returns-in-Ok-clause-was g c =
-    was_found (place_there (held c.self.invariant c.self.view_is) c.args.i c.args.place c.requires) c.entries-entries.ensures.value c.in-Ok.ensures.found
+    was_found (place_there (held c.self.invariant c.self.view_is) c.args.i c.args.place c.requires)
+    c.entries-entries.ensures.value c.in-Ok.ensures.found
 
 pub returns-in-Ok-clause-change : goal.returns-in-Ok-clause-change
 returns-in-Ok-clause-change g c =
-    let b = bag_place (held c.self.invariant c.self.view_is) c.args.i c.args.place c.requires c.in-Some.at c.in-Some.ensures in
-    read (gen_is_taken b c.entries-entries.ensures.value c.take_gen.new.bags.owners c.in-Ok.ensures.found c.take_gen.ensures)
+    let b =
+    bag_place (held c.self.invariant c.self.view_is) c.args.i c.args.place c.requires c.in-Some.at
+    c.in-Some.ensures in
+    read
+    (gen_is_taken b c.entries-entries.ensures.value c.take_gen.new.bags.owners c.in-Ok.ensures.found
+    c.take_gen.ensures)
 
 pub returns-in-Err-clause-was : goal.returns-in-Err-clause-was
 returns-in-Err-clause-was g c =
-    was_missing (place_there (held c.self.invariant c.self.view_is) c.args.i c.args.place c.requires) c.entries-entries.ensures.value c.in-Err.ensures.absent
+    was_missing (place_there (held c.self.invariant c.self.view_is) c.args.i c.args.place c.requires)
+    c.entries-entries.ensures.value c.in-Err.ensures.absent
 
 pub returns-in-Err-clause-change : goal.returns-in-Err-clause-change
 returns-in-Err-clause-change g c =
-    none_cleared (place_there (held c.self.invariant c.self.view_is) c.args.i c.args.place c.requires) c.entries-entries.ensures.value c.in-Err.ensures.absent
+    none_cleared (place_there (held c.self.invariant c.self.view_is) c.args.i c.args.place c.requires)
+    c.entries-entries.ensures.value c.in-Err.ensures.absent

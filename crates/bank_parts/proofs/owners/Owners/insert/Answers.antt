@@ -7,17 +7,23 @@ use Rattle.bank_parts.proofs.OwnerLaws.{owner_plain, room_counted, owner_put, la
 use Rattle.bank_parts.proofs.owners.Owners.insert.Goals as goal
 
 pub insert-requires : goal.insert-requires
-insert-requires g c = let size = heads_size (held c.self.invariant c.self.view_is) in let within = c.requires in omega arith
+insert-requires g c =
+    let size = heads_size (held c.self.invariant c.self.view_is) in let within = c.requires in omega arith
 
 pub append_owner-requires : goal.append_owner-requires
 append_owner-requires g c = record {
-  room = room_counted c.make_room.new.bags (records_of_owner c.args.owner) c.records.result c.records.ensures c.in-Ok.ensures.room;
+  room =
+      room_counted c.make_room.new.bags (records_of_owner c.args.owner) c.records.result c.records.ensures
+      c.in-Ok.ensures.room;
   owners = c.in-Ok.ensures.room_for_owners;
 }
 
 pub move_owner-requires : goal.move_owner-requires
 move_owner-requires g c =
-    let last = last_within c.make_room.new.bags.owners c.append_owner.new.bags.owners (bags_of c.operator-operator.result c.args.owner) c.owner_count-last.result c.owner_count-last.ensures c.append_owner.ensures in
+    let last =
+    last_within c.make_room.new.bags.owners c.append_owner.new.bags.owners
+    (bags_of c.operator-operator.result c.args.owner) c.owner_count-last.result c.owner_count-last.ensures
+    c.append_owner.ensures in
     let size = bags_size (held c.self.invariant c.self.view_is) in
     let kept = ap length c.make_room.ensures.kept in
     let count = c.owner_count-last.ensures in
@@ -27,13 +33,19 @@ move_owner-requires g c =
 pub invariant_of-self-2 : goal.invariant_of-self-2
 invariant_of-self-2 g c =
     let a = held c.self.invariant c.self.view_is in
-    let plain = owner_plain g.H.OwnerHead.IsFit c.operator-operator.result c.args.owner c.has_operator.result c.has_operator.ensures c.if-has_operator.false c.fits.ensures in
-    are_read (owner_put a c.args.i c.owner_count-last.result c.args.owner c.insert.new.self c.append_owner.new.bags.owners c.move_owner.new.self.owners
+    let plain =
+    owner_plain g.H.OwnerHead.IsFit c.operator-operator.result c.args.owner c.has_operator.result
+    c.has_operator.ensures c.if-has_operator.false c.fits.ensures in
+    are_read (owner_put a c.args.i c.owner_count-last.result c.args.owner c.insert.new.self
+    c.append_owner.new.bags.owners c.move_owner.new.self.owners
     c.operator-operator.ensures plain c.in-Ok-insert.ensures.ok c.make_room.ensures.kept c.owner_count-last.ensures c.append_owner.ensures c.move_owner.ensures.owners)
 
 pub returns-clause-ok : goal.returns-clause-ok
 returns-clause-ok g c =
     let a = held c.self.invariant c.self.view_is in
-    let plain = owner_plain g.H.OwnerHead.IsFit c.operator-operator.result c.args.owner c.has_operator.result c.has_operator.ensures c.if-has_operator.false c.fits.ensures in
-    read (owner_put a c.args.i c.owner_count-last.result c.args.owner c.insert.new.self c.append_owner.new.bags.owners c.move_owner.new.self.owners
+    let plain =
+    owner_plain g.H.OwnerHead.IsFit c.operator-operator.result c.args.owner c.has_operator.result
+    c.has_operator.ensures c.if-has_operator.false c.fits.ensures in
+    read (owner_put a c.args.i c.owner_count-last.result c.args.owner c.insert.new.self
+    c.append_owner.new.bags.owners c.move_owner.new.self.owners
     c.operator-operator.ensures plain c.in-Ok-insert.ensures.ok c.make_room.ensures.kept c.owner_count-last.ensures c.append_owner.ensures c.move_owner.ensures.owners)

@@ -4,14 +4,22 @@ use Rattle.bank_parts.proofs.GenChanges.{mod_is_taken}
 use Rattle.bank_parts.proofs.owners.Owners.remove_mod.Goals as goal
 
 pub take_mod-requires : goal.take_mod-requires
-take_mod-requires g c = mod_within (bag_place (held c.self.invariant c.self.view_is) c.args.i c.args.place c.requires.there c.bag_and_mod-at.result.0 c.bag_and_mod-at.ensures.bag) c.args.j c.requires.index
+take_mod-requires g c =
+    mod_within
+    (bag_place (held c.self.invariant c.self.view_is) c.args.i c.args.place c.requires.there
+    c.bag_and_mod-at.result.0 c.bag_and_mod-at.ensures.bag)
+    c.args.j c.requires.index
 
 pub invariant_of-self : goal.invariant_of-self
 invariant_of-self g c =
-    let b = bag_place (held c.self.invariant c.self.view_is) c.args.i c.args.place c.requires.there c.bag_and_mod-at.result.0 c.bag_and_mod-at.ensures.bag in
+    let b =
+    bag_place (held c.self.invariant c.self.view_is) c.args.i c.args.place c.requires.there
+    c.bag_and_mod-at.result.0 c.bag_and_mod-at.ensures.bag in
     are_read (mod_is_taken b c.args.j c.take_mod.new.bags.owners c.requires.index c.take_mod.ensures)
 
 pub returns-clause-change : goal.returns-clause-change
 returns-clause-change g c =
-    let b = bag_place (held c.self.invariant c.self.view_is) c.args.i c.args.place c.requires.there c.bag_and_mod-at.result.0 c.bag_and_mod-at.ensures.bag in
+    let b =
+    bag_place (held c.self.invariant c.self.view_is) c.args.i c.args.place c.requires.there
+    c.bag_and_mod-at.result.0 c.bag_and_mod-at.ensures.bag in
     read (mod_is_taken b c.args.j c.take_mod.new.bags.owners c.requires.index c.take_mod.ensures)

@@ -4,14 +4,23 @@ use Rattle.bank_parts.proofs.GenChanges.{mod_is_set}
 use Rattle.bank_parts.proofs.owners.Owners.set_mod.Goals as goal
 
 pub set_mod-requires : goal.set_mod-requires
-set_mod-requires g c = mod_within (bag_place (held c.self.invariant c.self.view_is) c.args.i c.args.place c.requires.there c.bag_and_mod-at.result.0 c.bag_and_mod-at.ensures.bag) c.args.j c.requires.index
+set_mod-requires g c =
+    mod_within
+    (bag_place (held c.self.invariant c.self.view_is) c.args.i c.args.place c.requires.there
+    c.bag_and_mod-at.result.0 c.bag_and_mod-at.ensures.bag)
+    c.args.j c.requires.index
 
 pub invariant_of-self : goal.invariant_of-self
 invariant_of-self g c =
-    let b = bag_place (held c.self.invariant c.self.view_is) c.args.i c.args.place c.requires.there c.bag_and_mod-at.result.0 c.bag_and_mod-at.ensures.bag in
-    are_read (mod_is_set b c.args.j c.args.modulator c.set_mod.new.self.owners c.requires.index c.set_mod.ensures.owners)
+    let b =
+    bag_place (held c.self.invariant c.self.view_is) c.args.i c.args.place c.requires.there
+    c.bag_and_mod-at.result.0 c.bag_and_mod-at.ensures.bag in
+    are_read
+    (mod_is_set b c.args.j c.args.modulator c.set_mod.new.self.owners c.requires.index c.set_mod.ensures.owners)
 
 pub returns-clause-change : goal.returns-clause-change
 returns-clause-change g c =
-    let b = bag_place (held c.self.invariant c.self.view_is) c.args.i c.args.place c.requires.there c.bag_and_mod-at.result.0 c.bag_and_mod-at.ensures.bag in
+    let b =
+    bag_place (held c.self.invariant c.self.view_is) c.args.i c.args.place c.requires.there
+    c.bag_and_mod-at.result.0 c.bag_and_mod-at.ensures.bag in
     read (mod_is_set b c.args.j c.args.modulator c.set_mod.new.self.owners c.requires.index c.set_mod.ensures.owners)

@@ -16,8 +16,12 @@ global_count-requires g c = zone_owner_within c.args.self.now c.args.i (λ n. c.
 pub overflow_add-result : goal.overflow_add-result
 overflow_add-result g c =
     let s = zones_there (held c.self.invariant c.self.view_is) c.args.i (λ n. c.args.k ≤ n) c.requires in
-    let fits = place_fits s c.bag_count-count.result c.global_count.result c.bag_count-count.ensures c.global_count.ensures in
+    let fits =
+    place_fits s c.bag_count-count.result c.global_count.result c.bag_count-count.ensures c.global_count.ensures
+    in
     omega arith
 
 pub returns : goal.returns
-returns g c = place_found (zones_there (held c.self.invariant c.self.view_is) c.args.i (λ n. c.args.k ≤ n) c.requires) c.global_count.result c.global_count.ensures
+returns g c =
+    place_found (zones_there (held c.self.invariant c.self.view_is) c.args.i (λ n. c.args.k ≤ n) c.requires)
+    c.global_count.result c.global_count.ensures

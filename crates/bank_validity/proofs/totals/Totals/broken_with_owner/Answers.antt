@@ -4,4 +4,7 @@ use Rattle.bank_validity.proofs.LimitLaws.{owner_broken}
 use Rattle.bank_validity.proofs.totals.Totals.broken_with_owner.Goals as goal
 
 pub returns : goal.returns
-returns c = λ r m. c.broken.ensures ∙ (ap broken c.plus_owner.ensures ∙ owner_broken c.args.at c.args.self c.args.more r c.requires m)
+returns c =
+    λ r m.
+    c.broken.ensures
+    ∙ (ap broken c.plus_owner.ensures ∙ owner_broken c.args.at c.args.self c.args.more r c.requires m)

@@ -3,9 +3,12 @@ use Rattle.edit_sessions.proofs.HistoryLaws.{stands, is_history}
 use Rattle.edit_sessions.proofs.session.Session.bank.Goals as goal
 
 pub returns-clause-value : goal.returns-clause-value
-returns-clause-value c = rw (← c.self.view_is) (stands c.self.inside.bank (reverse c.self.inside.undo.items) (reverse c.self.inside.redo.items))
+returns-clause-value c =
+    rw (← c.self.view_is)
+    (stands c.self.inside.bank (reverse c.self.inside.undo.items) (reverse c.self.inside.redo.items))
 
 pub returns-clause-history : goal.returns-clause-history
 returns-clause-history c =
     rw (← c.self.view_is)
-    (is_history c.self.inside.bank (reverse c.self.inside.undo.items) (reverse c.self.inside.redo.items) c.self.invariant.0 c.self.invariant.1 c.self.invariant.2)
+    (is_history c.self.inside.bank (reverse c.self.inside.undo.items) (reverse c.self.inside.redo.items)
+    c.self.invariant.0 c.self.invariant.1 c.self.invariant.2)

@@ -4,15 +4,21 @@ use Rattle.edit_sessions.proofs.session.Session.redo.Goals as goal
 
 pub invariant_of-self : goal.invariant_of-self
 invariant_of-self c =
-    let k = step_keeps c.self.inside.bank c.do_last.new.bank c.self.inside.redo.items c.do_last.new.from.items c.self.inside.undo.items c.do_last.new.to.items c.self.invariant.0 c.self.invariant.2 NothingToRedo c.do_last.result c.do_last.ensures c.self.invariant.1 in
+    let k =
+    step_keeps c.self.inside.bank c.do_last.new.bank c.self.inside.redo.items c.do_last.new.from.items
+    c.self.inside.undo.items c.do_last.new.to.items c.self.invariant.0 c.self.invariant.2 NothingToRedo
+    c.do_last.result c.do_last.ensures c.self.invariant.1 in
     (k.sound, k.forth, k.back)
 
 pub returns-clause-done : goal.returns-clause-done
 returns-clause-done c =
     rw (← c.self.view_is)
-    (step_forth c.self.inside.bank c.do_last.new.bank c.self.inside.redo.items c.do_last.new.from.items c.self.inside.undo.items c.do_last.new.to.items c.self.invariant.0 c.self.invariant.2 NothingToRedo c.do_last.result c.do_last.ensures)
+    (step_forth c.self.inside.bank c.do_last.new.bank c.self.inside.redo.items c.do_last.new.from.items
+    c.self.inside.undo.items c.do_last.new.to.items c.self.invariant.0 c.self.invariant.2 NothingToRedo
+    c.do_last.result c.do_last.ensures)
 
 pub returns-clause-failure : goal.returns-clause-failure
 returns-clause-failure c =
     rw (← c.self.view_is)
-    (redo_failure c.self.inside.bank c.do_last.new.bank c.self.inside.redo.items c.do_last.new.from.items c.self.inside.undo.items c.do_last.new.to.items c.do_last.result c.do_last.ensures)
+    (redo_failure c.self.inside.bank c.do_last.new.bank c.self.inside.redo.items c.do_last.new.from.items
+    c.self.inside.undo.items c.do_last.new.to.items c.do_last.result c.do_last.ensures)

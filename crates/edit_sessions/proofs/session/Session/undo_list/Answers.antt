@@ -7,4 +7,5 @@ pub returns : goal.returns
 returns c =
     rw (← c.self.view_is)
     (c.as_slice.ensures.value ∙ (sym (reverse-reverse c.self.inside.undo.items)
-    ∙ sym (way_back_is c.self.inside.bank (reverse c.self.inside.undo.items) (reverse c.self.inside.redo.items) c.self.invariant.0 c.self.invariant.1)))
+    ∙ sym (way_back_is c.self.inside.bank (reverse c.self.inside.undo.items) (reverse c.self.inside.redo.items)
+    c.self.invariant.0 c.self.invariant.1)))

@@ -7,19 +7,30 @@ use Rattle.flat_records.proofs.bags.Bags.put_bag.Goals as goal
 pub grow-requires-clause-gens_limit : goal.grow-requires-clause-gens_limit
 grow-requires-clause-gens_limit c =
     λ some.
-    let same = ap length (flat-inserted (λ (b : Bag). b.gens) c.args.self.now.bags c.open_bag.new.self.bags c.args.k no_bag c.open_bag.ensures.bags refl) in
+    let same =
+    ap length
+    (flat-inserted (λ (b : Bag). b.gens) c.args.self.now.bags c.open_bag.new.self.bags c.args.k no_bag
+    c.open_bag.ensures.bags refl)
+    in
     let limit = c.requires.gens_limit in
     omega arith
 
 pub grow-requires-clause-mods_limit : goal.grow-requires-clause-mods_limit
 grow-requires-clause-mods_limit c =
     λ some.
-    let same = ap length (flat-inserted (λ (b : Bag). b.mods) c.args.self.now.bags c.open_bag.new.self.bags c.args.k no_bag c.open_bag.ensures.bags refl) in
+    let same =
+    ap length
+    (flat-inserted (λ (b : Bag). b.mods) c.args.self.now.bags c.open_bag.new.self.bags c.args.k no_bag
+    c.open_bag.ensures.bags refl)
+    in
     let limit = c.requires.mods_limit in
     omega arith
 
 pub returns-clause-bags : goal.returns-clause-bags
 returns-clause-bags c =
     c.grow.ensures.bags
-    ∙ (changed_inserted c.args.self.now.bags c.open_bag.new.self.bags c.args.k no_bag (λ (b : Bag). record { gens = put b.gens 0 c.args.gens.now; mods = put b.mods 0 c.args.mods.now }) c.open_bag.ensures.bags c.requires.place
-    ∙ (λ i. insert c.args.self.now.bags c.args.k (record { gens = append-nil c.args.gens.now i; mods = append-nil c.args.mods.now i })))
+    ∙ (changed_inserted c.args.self.now.bags c.open_bag.new.self.bags c.args.k no_bag
+    (λ (b : Bag). record { gens = put b.gens 0 c.args.gens.now; mods = put b.mods 0 c.args.mods.now })
+    c.open_bag.ensures.bags c.requires.place
+    ∙ (λ i. insert c.args.self.now.bags c.args.k
+    (record { gens = append-nil c.args.gens.now i; mods = append-nil c.args.mods.now i })))

@@ -10,10 +10,13 @@ pub invariant_of-self : goal.invariant_of-self
 invariant_of-self c = rw c.remove.ensures.items (AreGens-remove c.self.invariant c.self.view_is c.in-Ok.ensures.found)
 
 pub returns-in-Ok-clause-was : goal.returns-in-Ok-clause-was
-returns-in-Ok-clause-was c = let was = get_at c.self.invariant c.self.view_is c.in-Ok.ensures.found c.remove.result in cc (was, c.remove.ensures.value)
+returns-in-Ok-clause-was c =
+    let was = get_at c.self.invariant c.self.view_is c.in-Ok.ensures.found c.remove.result in
+    cc (was, c.remove.ensures.value)
 
 pub returns-in-Ok-clause-cleared : goal.returns-in-Ok-clause-cleared
-returns-in-Ok-clause-cleared c = rw c.remove.ensures.items (removed_is_remove c.self.invariant c.self.view_is c.in-Ok.ensures.found)
+returns-in-Ok-clause-cleared c =
+    rw c.remove.ensures.items (removed_is_remove c.self.invariant c.self.view_is c.in-Ok.ensures.found)
 
 -- it was not
 pub returns-in-Err-clause-was : goal.returns-in-Err-clause-was

@@ -7,4 +7,6 @@ pub invariant_of-result : goal.invariant_of-result
 invariant_of-result c = subst AreGens (sym c.in_ok-from_slice.ensures.items) c.requires
 
 pub returns : goal.returns
-returns c = entries_held (subst AreGens (sym c.in_ok-from_slice.ensures.items) c.requires) refl ∙ c.in_ok-from_slice.ensures.items
+returns c =
+    entries_held (subst AreGens (sym c.in_ok-from_slice.ensures.items) c.requires) refl
+    ∙ c.in_ok-from_slice.ensures.items

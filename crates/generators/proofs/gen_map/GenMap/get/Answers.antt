@@ -7,7 +7,9 @@ pub index-requires : goal.index-requires
 index-requires c = let within = at_within c.self.invariant c.self.view_is c.in-Ok.ensures.found in search rules
 
 pub returns-in-Ok : goal.returns-in-Ok
-returns-in-Ok c = let was = get_at c.self.invariant c.self.view_is c.in-Ok.ensures.found c.index.result.now in cc (was, c.index.ensures)
+returns-in-Ok c =
+    let was = get_at c.self.invariant c.self.view_is c.in-Ok.ensures.found c.index.result.now in
+    cc (was, c.index.ensures)
 
 -- it is not
 pub returns-in-Err : goal.returns-in-Err

@@ -6,5 +6,6 @@ pub returns : goal.returns
 returns g c =
     let size = c.self.invariant.1 in
     let seen = ap length c.self.view_is in
-    let full : length c.self.inside.bytes ≤ c.self.inside.len = omega (arith, size, seen, length-take c.self.inside.len c.self.inside.bytes) in
+    let full : length c.self.inside.bytes ≤ c.self.inside.len =
+    omega (arith, size, seen, length-take c.self.inside.len c.self.inside.bytes) in
     sym (take_all c.self.inside.len c.self.inside.bytes full) ∙ c.self.view_is

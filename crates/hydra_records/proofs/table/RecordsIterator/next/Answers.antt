@@ -12,7 +12,8 @@ pub returns-clause-steps : goal.returns-clause-steps
 returns-clause-steps g c =
     let long : g.R.Record.SIZE ≤ length c.self.inside.rest.now = rw c.SIZE.ensures at c.if-rest-SIZE.false in
     let next = records-next g.R.Record.SIZE g.R.Record.of_bytes c.self.inside.rest.now g.met.R.Record.some_bytes long in
-    rw (c.read.ensures, c.front_of.ensures, c.rest_from-self-inside.ensures, c.SIZE-2.ensures, c.SIZE-3.ensures) (sym c.self.view_is ∙ next)
+    rw (c.read.ensures, c.front_of.ensures, c.rest_from-self-inside.ensures, c.SIZE-2.ensures, c.SIZE-3.ensures)
+    (sym c.self.view_is ∙ next)
 
 pub returns-clause-goes : goal.returns-clause-goes
 returns-clause-goes g c =

@@ -18,12 +18,16 @@ overflow_mul-i g c =
 
 pub read-requires : goal.read-requires
 read-requires g c =
-    let size = length-record c.self.inside.bytes.now g.R.Record.SIZE c.args.i (below g (goal.at.read-requires g c).After-SIZE) in
+    let size =
+    length-record c.self.inside.bytes.now g.R.Record.SIZE c.args.i
+    (below g (goal.at.read-requires g c).After-SIZE) in
     rw (c.part_of.ensures, c.SIZE-then-i-len.ensures, c.SIZE.ensures) size
 
 pub returns-then-i-len : goal.returns-then-i-len
 returns-then-i-len g c =
-    let record_i = slice_get-records g.R.Record.SIZE g.R.Record.of_bytes c.self.inside.bytes.now c.args.i (below g (goal.at.returns-then-i-len g c).After-SIZE) in
+    let record_i =
+    slice_get-records g.R.Record.SIZE g.R.Record.of_bytes c.self.inside.bytes.now c.args.i
+    (below g (goal.at.returns-then-i-len g c).After-SIZE) in
     rw (c.read.ensures, c.part_of.ensures, c.SIZE-then-i-len.ensures, c.SIZE.ensures, ← c.self.view_is) (sym record_i)
 
 pub returns-else-i-len : goal.returns-else-i-len

@@ -24,7 +24,8 @@ returns-clause-ok g c =
       | then-i-len+else-self-ne0 w ↦ w.self-is ∙ w.make_blanks.ensures
       | else-i-len w ↦ w.self-is
     ] in
-    inserted_behind c.try_reserve.new.self.items c.insert_within.new.vec.items fields.blanks c.args.i c.args.x c.args.self.now
+    inserted_behind c.try_reserve.new.self.items c.insert_within.new.vec.items fields.blanks c.args.i c.args.x
+    c.args.self.now
     (subst (λ xs. fields.blanks ≤ length xs) (sym c.try_reserve.ensures.items) c.self-2.invariant)
     (ap (drop fields.blanks) c.try_reserve.ensures.items ∙ (c.self-2.view_is ∙ same))
     c.insert_within.ensures

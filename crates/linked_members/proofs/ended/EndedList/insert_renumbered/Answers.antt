@@ -12,14 +12,18 @@ returns-then-self-ne0-clause-ok g c =
     let changed = c.renumber_part in
     let later = c.deref_mut-then-self-ne0 in
     let put = c.put_in_front in
-    one_put fields.places places.result.now changed.new.members later.result.now fields.blanks c.args.i c.args.x put.new.members
+    one_put fields.places places.result.now changed.new.members later.result.now fields.blanks c.args.i c.args.x
+    put.new.members
     (changed_within c.args.span.start c.args.span.end f c.args.self.now)
     (let ne = c.if-self-ne0.true in grind arith)
     c.self-then-i-len.invariant
     places.ensures.value
     places.ensures.len
     changed.ensures.long
-    (changed.ensures.value ∙ ap (changed_within c.args.span.start c.args.span.end f) (lent_behind fields.blanks places.result.now fields.places.items c.args.self.now places.ensures.value (c.self-then-i-len.view_is ∙ c.make_blanks.ensures)))
+    (changed.ensures.value
+    ∙ ap (changed_within c.args.span.start c.args.span.end f)
+    (lent_behind fields.blanks places.result.now fields.places.items c.args.self.now places.ensures.value
+    (c.self-then-i-len.view_is ∙ c.make_blanks.ensures)))
     later.ensures.value
     later.ensures.len
     put.ensures.long
@@ -35,11 +39,15 @@ returns-clause-ok g c =
     ] in
     let places = c.deref_mut-2 in
     let changed = c.renumber_part-2 in
-    one_inserted c.try_reserve.new.self places.result.now changed.new.members c.insert_within.new.vec.items fields.blanks c.args.i c.args.x
+    one_inserted c.try_reserve.new.self places.result.now changed.new.members c.insert_within.new.vec.items
+    fields.blanks c.args.i c.args.x
     (changed_within c.args.span.start c.args.span.end f c.args.self.now)
     (subst (λ xs. fields.blanks ≤ length xs) (sym c.try_reserve.ensures.items) c.self-2.invariant)
     places.ensures.value
     places.ensures.len
     changed.ensures.long
-    (changed.ensures.value ∙ ap (changed_within c.args.span.start c.args.span.end f) (lent_behind fields.blanks places.result.now fields.places.items c.args.self.now (places.ensures.value ∙ c.try_reserve.ensures.items) (c.self-2.view_is ∙ same)))
+    (changed.ensures.value
+    ∙ ap (changed_within c.args.span.start c.args.span.end f)
+    (lent_behind fields.blanks places.result.now fields.places.items c.args.self.now
+    (places.ensures.value ∙ c.try_reserve.ensures.items) (c.self-2.view_is ∙ same)))
     c.insert_within.ensures

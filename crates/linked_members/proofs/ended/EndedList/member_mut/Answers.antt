@@ -11,6 +11,8 @@ returns g c =
       (refl, λ w. drop-set-add blanks items c.args.i w ∙ ap (λ xs. slice_set xs c.args.i w) c.self.view_is),
       record {
         writes_back = tt;
-        value = found_behind blanks items c.args.self.now c.args.i c.index_mut.result.now c.self.view_is c.self.invariant c.requires c.index_mut.ensures.value;
+        value =
+            found_behind blanks items c.args.self.now c.args.i c.index_mut.result.now c.self.view_is c.self.invariant
+            c.requires c.index_mut.ensures.value;
       },
     )

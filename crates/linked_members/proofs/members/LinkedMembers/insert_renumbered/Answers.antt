@@ -12,16 +12,26 @@ invariant_of-self-2 g c =
     let span = c.self.inside.span in
     let after = c.after_insertion-self-inside in
     let new = c.insert_renumbered.new.self in
-    let is : new ≡ insert (map f list) c.args.i c.args.x = c.in_ok-insert_renumbered.ensures.ok ∙ ap (λ xs. insert xs c.args.i c.args.x) (linked_changed h f stays list span c.self.invariant) in
-    let place : c.args.i ≤ length (map f list) = subst (λ n. c.args.i ≤ n) (sym (length-map list f)) (subst (λ xs. c.args.i ≤ length xs) (sym c.self.view_is) c.requires.place) in
-    let within : after.result.end ≤ length (insert (map f list) c.args.i c.args.x) = subst (λ xs. after.result.end ≤ length xs) is (subst (λ n. after.result.end ≤ n) c.len.ensures after.ensures.within) in
+    let is : new ≡ insert (map f list) c.args.i c.args.x =
+    c.in_ok-insert_renumbered.ensures.ok
+    ∙ ap (λ xs. insert xs c.args.i c.args.x) (linked_changed h f stays list span c.self.invariant) in
+    let place : c.args.i ≤ length (map f list) =
+    subst (λ n. c.args.i ≤ n) (sym (length-map list f))
+    (subst (λ xs. c.args.i ≤ length xs) (sym c.self.view_is) c.requires.place) in
+    let within : after.result.end ≤ length (insert (map f list) c.args.i c.args.x) =
+    subst (λ xs. after.result.end ≤ length xs) is
+    (subst (λ n. after.result.end ≤ n) c.len.ensures after.ensures.within) in
     subst (IsSpanOf h after.result) (sym is)
-    (span_inserted h (map f list) c.args.i c.args.x span after.result (span_changed h f stays list span c.self.invariant) place after.ensures.order within
-    after.ensures.outside.below after.ensures.outside.above (λ o. sym c.has_link-has_link.ensures ∙ after.ensures.own o))
+    (span_inserted h (map f list) c.args.i c.args.x span after.result
+    (span_changed h f stays list span c.self.invariant) place after.ensures.order within
+    after.ensures.outside.below after.ensures.outside.above
+    (λ o. sym c.has_link-has_link.ensures ∙ after.ensures.own o))
 
 pub returns-clause-ok : goal.returns-clause-ok
 returns-clause-ok g c =
     let f = g.T.Renumber.with_new_numbers c.args.by in
     let list = c.self.inside.list in
     c.in_ok-insert_renumbered.ensures.ok
-    ∙ ap (λ xs. insert xs c.args.i c.args.x) (linked_changed g.T.Linked.has_link f (g.met.T.Linked.stays c.args.by) list c.self.inside.span c.self.invariant ∙ ap (map f) c.self.view_is)
+    ∙ ap (λ xs. insert xs c.args.i c.args.x)
+    (linked_changed g.T.Linked.has_link f (g.met.T.Linked.stays c.args.by) list c.self.inside.span c.self.invariant
+    ∙ ap (map f) c.self.view_is)

@@ -10,9 +10,12 @@ returns-then-is_other_link g c =
     let members = c.as_slice-members.result.now in
     let is : members ≡ c.args.self.now = c.as_slice-members.ensures ∙ c.self.view_is in
     let yes = c.is_other_link.ensures.yes c.if-is_other_link.true in
-    let within = subst (λ xs. c.self.inside.span.end ≤ length xs) (sym c.as_slice-members.ensures) c.self.invariant.within in
+    let within =
+    subst (λ xs. c.self.inside.span.end ≤ length xs) (sym c.as_slice-members.ensures) c.self.invariant.within in
     let turn = c.loop-i-test.true in
-    sym (subst (λ xs. list_any p (remove xs c.args.number) ≡ true) is (one_other p members c.args.number c.loop-i.i yes.0 (omega arith) yes.1))
+    sym
+    (subst (λ xs. list_any p (remove xs c.args.number) ≡ true) is
+    (one_other p members c.args.number c.loop-i.i yes.0 (omega arith) yes.1))
 
 pub returns : goal.returns
 returns g c =
@@ -21,5 +24,7 @@ returns g c =
     let span = c.self.inside.span in
     let ended = c.loop-i-test.false in
     sym (subst (λ xs. list_any p (remove xs c.args.number) ≡ false) c.self.view_is
-    (none_but g.T.Linked.has_link p list c.args.number span c.self.invariant (g.met.T.Linked.links_nowhere c.args.number)
-    (λ i start end ne. subst (λ xs. IfSome (slice_get xs i) (λ x. p x ≡ false)) c.as_slice-members.ensures (c.loop-i.invariant i start (omega arith) ne))))
+    (none_but g.T.Linked.has_link p list c.args.number span c.self.invariant
+    (g.met.T.Linked.links_nowhere c.args.number)
+    (λ i start end ne. subst (λ xs. IfSome (slice_get xs i) (λ x. p x ≡ false)) c.as_slice-members.ensures
+    (c.loop-i.invariant i start (omega arith) ne))))

@@ -13,6 +13,8 @@ tight-self-inside-requires g c =
     let there : c.args.i < length list = subst (λ xs. c.args.i < length xs) (sym c.self.view_is) c.requires in
     let size = length-remove list c.args.i there in
     let end = c.self.invariant.within in
-    let within : after.result.end ≤ length (remove list c.args.i) = after.ensures.within (length (remove list c.args.i)) (omega arith) (omega arith) in
+    let within : after.result.end ≤ length (remove list c.args.i) =
+    after.ensures.within (length (remove list c.args.i)) (omega arith) (omega arith) in
     subst (IsSpanOf h after.result) (sym is)
-    (span_removed h list c.args.i span after.result c.self.invariant there after.ensures.order within after.ensures.below after.ensures.above)
+    (span_removed h list c.args.i span after.result c.self.invariant there after.ensures.order within
+    after.ensures.below after.ensures.above)

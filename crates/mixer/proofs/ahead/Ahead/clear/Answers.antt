@@ -1,4 +1,5 @@
-use Rattle.std.proofs.Common.{rules, ◌≡◌, ℕ, ◌+◌, ◌-◌, ◌*◌, ◌/◌, ◌<◌, ◌++◌, pos, ◌+ℤ◌, get_or, length, take, drop, sym, ◌∙◌, arith}
+use Rattle.std.proofs.Common.{rules, ◌≡◌, ℕ, ◌+◌, ◌-◌, ◌*◌, ◌/◌, ◌<◌, ◌++◌, pos, ◌+ℤ◌, get_or, length, take, drop}
+use Rattle.std.proofs.Common.{sym, ◌∙◌, arith}
 use Rattle.std.proofs.lemmas.List.{places}
 use Rattle.mixer.proofs.Aging.{total_none}
 use Rattle.mixer.proofs.Silent.{silent_within}
@@ -13,13 +14,31 @@ returns-clause-silent c =
     let middle = c.fill-2.new.self in
     let sides_size : length sides ≡ 2 * n = c.fill.ensures.len ∙ length-sides n was.sides c.requires (omega arith) in
     let middle_size : length middle ≡ n = c.fill-2.ensures.len ∙ length-middle n was.middle c.requires (omega arith) in
-    let side : (i : ℕ) → i < 2 * n → get_or (take (2 * (256 - n)) was.sides ++ (sides ++ drop (512 - 2 * (256 - n)) (drop (2 * (256 - n)) was.sides))) (512 - 2 * n + i) (pos 0) ≡ pos 0 = λ i l.
+    let side : (i : ℕ) → i < 2 * n
+    → get_or
+    (take (2 * (256 - n)) was.sides
+    ++ (sides ++ drop (512 - 2 * (256 - n)) (drop (2 * (256 - n)) was.sides)))
+    (512 - 2 * n + i) (pos 0)
+    ≡ pos 0 =
+    λ i l.
     let h : i < length sides = omega (arith, l, sides_size) in
-    sides_written n was.sides sides _ i c.requires (omega arith) h ∙ (let zero : get_or sides i (pos 0) ≡ pos 0 = search (rules, places) in zero) in
-    let both : (k : ℕ) → k < n → get_or (take (256 - n) was.middle ++ (middle ++ drop (256 - (256 - n)) (drop (256 - n) was.middle))) (256 - n + k) (pos 0) ≡ pos 0 = λ k l.
+    sides_written n was.sides sides _ i c.requires (omega arith) h
+    ∙ (let zero : get_or sides i (pos 0) ≡ pos 0 = search (rules, places) in zero) in
+    let both : (k : ℕ) → k < n
+    → get_or (take (256 - n) was.middle ++ (middle ++ drop (256 - (256 - n)) (drop (256 - n) was.middle)))
+    (256 - n + k) (pos 0)
+    ≡ pos 0 =
+    λ k l.
     let h : k < length middle = omega (arith, l, middle_size) in
-    middle_written n was.middle middle _ k c.requires (omega arith) h ∙ (let zero : get_or middle k (pos 0) ≡ pos 0 = search (rules, places) in zero) in
+    middle_written n was.middle middle _ k c.requires (omega arith) h
+    ∙ (let zero : get_or middle k (pos 0) ≡ pos 0 = search (rules, places) in zero) in
     record {
-      within = record { most = c.requires; sides = λ i l. silent_within _ (side i l); middle = λ k l. silent_within _ (both k l) };
+      within =
+          record {
+            most =
+                c.requires;
+            sides = λ i l. silent_within _ (side i l);
+            middle = λ k l. silent_within _ (both k l);
+          };
       sums = λ i l. (λ j. side i l j +ℤ both (i / 2) (omega (arith, l)) j) ∙ sym (total_none i);
     }

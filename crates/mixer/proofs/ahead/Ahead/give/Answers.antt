@@ -9,7 +9,8 @@ pub cut_from-requires-clause-room : goal.cut_from-requires-clause-room
 cut_from-requires-clause-room c i h =
     let a = c.args.self.now in
     let place : 512 - 2 * a.left + i ≡ 2 * (256 - a.left) + i = omega (arith, c.requires.room.most) in
-    subst (λ k. IsWithin 32767 (get_or a.sides k (pos 0))) place (c.requires.room.sides i (omega (arith, h, c.requires.enough)))
+    subst (λ k. IsWithin 32767 (get_or a.sides k (pos 0))) place
+    (c.requires.room.sides i (omega (arith, h, c.requires.enough)))
 
 pub cut_from-requires-clause-middle_room : goal.cut_from-requires-clause-middle_room
 cut_from-requires-clause-middle_room c k h = c.requires.room.middle k (omega (arith, h, c.requires.enough))

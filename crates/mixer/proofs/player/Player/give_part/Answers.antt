@@ -13,7 +13,8 @@ returns-then-self-eq0-clause-heard g c k h =
     let vs = c.sum_ahead.new.voices.items in
     let none : a.left ≡ 0 = omega arith in
     let now : vs ≡ c.args.self.now =
-    sym (none_playing a vs none ∙ filter_all vs (c.sum_ahead.ensures.sounding none)) ∙ c.sum_ahead.ensures.same ∙ c.self.view_is in
+    sym (none_playing a vs none ∙ filter_all vs (c.sum_ahead.ensures.sounding none)) ∙ c.sum_ahead.ensures.same
+    ∙ c.self.view_is in
     let lent : c.as_mut_slice.result.now ≡ vs = grind (arith, common_steps) in
     c.mix.ensures.value k h ∙ ap (λ (ps : List Playing). next_side ps k) (lent ∙ now)
 
@@ -25,15 +26,19 @@ returns-then-self-eq0-clause-live g c =
     let ds = c.drop_over.new.voices.items in
     let none : a.left ≡ 0 = omega arith in
     let now : vs ≡ c.args.self.now =
-    sym (none_playing a vs none ∙ filter_all vs (c.sum_ahead.ensures.sounding none)) ∙ c.sum_ahead.ensures.same ∙ c.self.view_is in
+    sym (none_playing a vs none ∙ filter_all vs (c.sum_ahead.ensures.sounding none)) ∙ c.sum_ahead.ensures.same
+    ∙ c.self.view_is in
     let live : ds ≡ after_block vs (length c.mix.new.out / 2) = grind (arith, common_steps) in
-    none_playing a ds none ∙ filter_all ds c.drop_over.ensures.sounding ∙ live ∙ ap (λ (ps : List Playing). after_block ps (length c.mix.new.out / 2)) now
+    none_playing a ds none ∙ filter_all ds c.drop_over.ensures.sounding ∙ live
+    ∙ ap (λ (ps : List Playing). after_block ps (length c.mix.new.out / 2)) now
 
 pub give-requires-clause-room : goal.give-requires-clause-room
 give-requires-clause-room g c = room_of c.sum_ahead.new.ahead c.sum_ahead.new.voices.items c.sum_ahead.ensures.ahead
 
 pub invariant_of-self-2 : goal.invariant_of-self-2
-invariant_of-self-2 g c = ahead_later c.sum_ahead.new.ahead _ c.sum_ahead.new.voices.items _ c.give.ensures.left c.give.ensures.sums c.sum_ahead.ensures.ahead
+invariant_of-self-2 g c =
+    ahead_later c.sum_ahead.new.ahead _ c.sum_ahead.new.voices.items _ c.give.ensures.left c.give.ensures.sums
+    c.sum_ahead.ensures.ahead
 
 pub returns-clause-heard : goal.returns-clause-heard
 returns-clause-heard g c k h =
@@ -41,7 +46,9 @@ returns-clause-heard g c k h =
     let vs = c.sum_ahead.new.voices.items in
     let size : length c.give.new.out ≡ c.min-n.result = grind (arith, common_steps) in
     let l : k < length c.give.new.out = omega (arith, h, size) in
-    let front : get_or (c.give.new.out ++ drop c.min-n.result c.args.out.now) k (pos 0) ≡ get_or c.give.new.out k (pos 0) = grind (arith, common_steps) in
+    let front : get_or (c.give.new.out ++ drop c.min-n.result c.args.out.now) k (pos 0)
+    ≡ get_or c.give.new.out k (pos 0) =
+    grind (arith, common_steps) in
     front
     ∙ c.give.ensures.heard (map (rewound a.left) vs) c.sum_ahead.ensures.ahead.sums k l
     ∙ heard_first a vs k

@@ -16,8 +16,10 @@ invariant_of-self-2 c =
     let vs = c.make_way.new.voices.items in
     let new = c.drop_over.new.voices.items in
     let lent : c.as_mut_slice.result.now ≡ new = grind (arith, common_steps) in
-    let few : 0 < a.left → length vs + length new ≤ 32767 = λ some. let f = c.make_way.ensures.few some in grind (arith, common_steps, f, c.drop_over.ensures.bound) in
-    let e : c.append.new.self.items ≡ vs ++ map (aged a.left) new = grind (arith, common_steps, c.in-Ok.ensures.items) in
+    let few : 0 < a.left → length vs + length new ≤ 32767 = λ some. let f = c.make_way.ensures.few some in
+    grind (arith, common_steps, f, c.drop_over.ensures.bound) in
+    let e : c.append.new.self.items ≡ vs ++ map (aged a.left) new =
+    grind (arith, common_steps, c.in-Ok.ensures.items) in
     subst (IsAhead c.join.new.self) (sym e)
     (started_ahead a c.join.new.self vs new c.join.ensures.left c.make_way.ensures.ahead c.drop_over.ensures.young few
     (λ qs h. subst (λ (ps : List Playing). AreSums c.join.new.self (qs ++ ps)) lent (c.join.ensures.sums qs h)))
@@ -32,7 +34,8 @@ returns-clause-done c =
     let kept : new ≡ filter is_sounding (heard.fresh c.args.bank.now c.args.note.now) = cc (c.in_ok-new.ensures) in
     let was : playing_now c.self.inside.ahead c.try_reserve.new.self.items ≡ c.args.self.now =
     ap (playing_now c.self.inside.ahead) c.try_reserve.ensures.items ∙ c.self.view_is in
-    let e : c.append.new.self.items ≡ vs ++ map (aged a.left) new = grind (arith, common_steps, c.in-Ok.ensures.items) in
+    let e : c.append.new.self.items ≡ vs ++ map (aged a.left) new =
+    grind (arith, common_steps, c.in-Ok.ensures.items) in
     ap (playing_now c.join.new.self) e
     ∙ started_playing a c.join.new.self vs new c.join.ensures.left c.drop_over.ensures.sounding
     ∙ (λ j. (c.make_way.ensures.unsilenced ∙ (λ i. unsilenced (all i) (was i))) j ++ kept j)

@@ -15,7 +15,9 @@ pub index-requires-2 : goal.index-requires-2
 index-requires-2 c = begin_there (held c.self.invariant c.self.view_is) (omega arith) c.self.inside.begins.ok.0
 
 pub overflow_sub-result : goal.overflow_sub-result
-overflow_sub-result c = (bags_between (held c.self.invariant c.self.view_is) c.args.i c.requires c.index-2.ensures c.index.ensures).0
+overflow_sub-result c =
+    (bags_between (held c.self.invariant c.self.view_is) c.args.i c.requires c.index-2.ensures c.index.ensures).0
 
 pub returns : goal.returns
-returns c = (bags_between (held c.self.invariant c.self.view_is) c.args.i c.requires c.index-2.ensures c.index.ensures).1
+returns c =
+    (bags_between (held c.self.invariant c.self.view_is) c.args.i c.requires c.index-2.ensures c.index.ensures).1

@@ -12,7 +12,10 @@ remove-requires c =
     omega (arith, ok.0)
 
 pub invariant_of-self : goal.invariant_of-self
-invariant_of-self c = are_read (owner_cut (held c.self.invariant c.self.view_is) c.args.i c.requires c.remove.ensures.items)
+invariant_of-self c =
+    are_read (owner_cut (held c.self.invariant c.self.view_is) c.args.i c.requires c.remove.ensures.items)
 
 pub returns : goal.returns
-returns c = record { owners = read (owner_cut (held c.self.invariant c.self.view_is) c.args.i c.requires c.remove.ensures.items) }
+returns c =
+    record
+    { owners = read (owner_cut (held c.self.invariant c.self.view_is) c.args.i c.requires c.remove.ensures.items) }

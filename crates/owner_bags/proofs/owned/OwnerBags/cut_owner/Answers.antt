@@ -6,5 +6,6 @@ pub returns : goal.returns
 returns c =
     let count = c.owner_count-last.ensures in
     let here = c.requires in
-    cut_last c.args.self.now.owners c.move_owner.new.self.owners c.empty_owner.new.self.owners c.close_owner.new.self.owners c.args.i (c.owner_count-last.result - 1) here (omega arith)
+    cut_last c.args.self.now.owners c.move_owner.new.self.owners c.empty_owner.new.self.owners
+    c.close_owner.new.self.owners c.args.i (c.owner_count-last.result - 1) here (omega arith)
     c.move_owner.ensures.owners c.empty_owner.ensures c.close_owner.ensures.owners

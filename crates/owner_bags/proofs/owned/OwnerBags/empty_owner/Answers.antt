@@ -7,11 +7,15 @@ loop-left-init c = all_left c.args.self.now.owners c.args.i c.bag_count-left.res
 
 pub cut_bag-requires : goal.cut_bag-requires
 cut_bag-requires c =
-    last_left c.args.self.now.owners c.loop-left.self.owners c.args.i c.loop-left.left (c.loop-left.left - 1) c.loop-left.invariant (omega arith)
+    last_left c.args.self.now.owners c.loop-left.self.owners c.args.i c.loop-left.left (c.loop-left.left - 1)
+    c.loop-left.invariant (omega arith)
 
 pub loop-left-preserved : goal.loop-left-preserved
 loop-left-preserved c =
-    one_fewer c.args.self.now.owners c.loop-left.self.owners c.cut_bag.new.self.owners c.args.i c.loop-left.left (c.loop-left.left - 1) c.loop-left.invariant (omega arith) c.cut_bag.ensures.owners
+    one_fewer c.args.self.now.owners c.loop-left.self.owners c.cut_bag.new.self.owners c.args.i c.loop-left.left
+    (c.loop-left.left - 1) c.loop-left.invariant (omega arith) c.cut_bag.ensures.owners
 
 pub returns : goal.returns
-returns c = none_left c.args.self.now.owners c.loop-left.self.owners c.args.i c.loop-left.left c.requires c.loop-left.invariant (omega arith)
+returns c =
+    none_left c.args.self.now.owners c.loop-left.self.owners c.args.i c.loop-left.left c.requires
+    c.loop-left.invariant (omega arith)

@@ -13,7 +13,13 @@ put_begin-requires-clause-place c =
     omega arith
 
 pub invariant_of-self : goal.invariant_of-self
-invariant_of-self c = are_read (owner_put (held c.self.invariant c.self.view_is) c.args.i c.requires.place c.index-begin.ensures c.put_begin.ensures.list)
+invariant_of-self c =
+    are_read
+    (owner_put (held c.self.invariant c.self.view_is) c.args.i c.requires.place c.index-begin.ensures
+    c.put_begin.ensures.list)
 
 pub returns-clause-owners : goal.returns-clause-owners
-returns-clause-owners c = read (owner_put (held c.self.invariant c.self.view_is) c.args.i c.requires.place c.index-begin.ensures c.put_begin.ensures.list)
+returns-clause-owners c =
+    read
+    (owner_put (held c.self.invariant c.self.view_is) c.args.i c.requires.place c.index-begin.ensures
+    c.put_begin.ensures.list)

@@ -5,8 +5,12 @@ use Rattle.owner_bags.proofs.owned.OwnerBags.rotate.Goals.{After-index-stop}
 use Rattle.owner_bags.proofs.owned.OwnerBags.rotate.Goals as goal
 
 -- what the three places say of the owners
-turned : (c : After-index-stop) → Turn (record { begins = c.self.inside.begins.items; bags = c.self.inside.bags.bags }) c.args.self.now.owners c.args.a c.args.b c.args.c c.index-start.result.now c.index-middle.result.now c.index-stop.result.now
-turned c = turn (held c.self.invariant c.self.view_is) c.requires.first c.requires.second c.requires.last c.index-start.ensures c.index-middle.ensures c.index-stop.ensures
+turned : (c : After-index-stop)
+    → Turn (record { begins = c.self.inside.begins.items; bags = c.self.inside.bags.bags }) c.args.self.now.owners
+    c.args.a c.args.b c.args.c c.index-start.result.now c.index-middle.result.now c.index-stop.result.now
+turned c =
+    turn (held c.self.invariant c.self.view_is) c.requires.first c.requires.second c.requires.last
+    c.index-start.ensures c.index-middle.ensures c.index-stop.ensures
 
 pub index-start-requires : goal.index-start-requires
 index-start-requires c = begin_there (held c.self.invariant c.self.view_is) (omega arith) c.self.inside.begins.ok.0
@@ -18,7 +22,9 @@ pub index-stop-requires : goal.index-stop-requires
 index-stop-requires c = begin_there (held c.self.invariant c.self.view_is) (omega arith) c.self.inside.begins.ok.0
 
 pub rotate-requires : goal.rotate-requires
-rotate-requires c = let t = turned (goal.at.rotate-requires c).After-index-stop in record { first = t.rise.0; second = t.rise.1; last = t.inside }
+rotate-requires c =
+    let t = turned (goal.at.rotate-requires c).After-index-stop in
+    record { first = t.rise.0; second = t.rise.1; last = t.inside }
 
 pub overflow_sub-middle : goal.overflow_sub-middle
 overflow_sub-middle c = (turned (goal.at.overflow_sub-middle c).After-index-stop).rise.0
@@ -32,7 +38,13 @@ exchange_begins-requires c =
     record { places = t.windows; lower = t.lower; raise = t.raise (omega arith) }
 
 pub invariant_of-self : goal.invariant_of-self
-invariant_of-self c = are_read (owners_turned (turned (goal.at.invariant_of-self c).After-index-stop) c.exchange_begins.ensures.list c.rotate.ensures.bags)
+invariant_of-self c =
+    are_read
+    (owners_turned (turned (goal.at.invariant_of-self c).After-index-stop) c.exchange_begins.ensures.list
+    c.rotate.ensures.bags)
 
 pub returns-clause-owners : goal.returns-clause-owners
-returns-clause-owners c = read (owners_turned (turned (goal.at.returns-clause-owners c).After-index-stop) c.exchange_begins.ensures.list c.rotate.ensures.bags)
+returns-clause-owners c =
+    read
+    (owners_turned (turned (goal.at.returns-clause-owners c).After-index-stop) c.exchange_begins.ensures.list
+    c.rotate.ensures.bags)

@@ -16,7 +16,8 @@ loop-item-preserved c =
       tt,
       sym (ap is_whole next) ∙ inv.2,
       first_more ids c.loop-item.bodies c.take_first.new.bodies chunk (chunks_in c.next.new.self) all
-          (subst (λ (is : List Item). AreFirstSoFar ids c.loop-item.bodies (chunks_in is) all) next inv.3) c.take_first.ensures,
+          (subst (λ (is : List Item). AreFirstSoFar ids c.loop-item.bodies (chunks_in is) all) next inv.3)
+          c.take_first.ensures,
     )
 
 pub invariant_of-result : goal.invariant_of-result
@@ -24,4 +25,6 @@ invariant_of-result c =
     let inv = c.loop-item.invariant in
     let ids = c.args.ids.now in
     let all = chunks_in (walk c.args.window.now) in
-    first_all ids c.loop-item.bodies all (subst (λ (is : List Item). AreFirstSoFar ids c.loop-item.bodies (chunks_in is) all) c.in-None.ensures.steps.0 inv.3)
+    first_all ids c.loop-item.bodies all
+    (subst (λ (is : List Item). AreFirstSoFar ids c.loop-item.bodies (chunks_in is) all)
+    c.in-None.ensures.steps.0 inv.3)

@@ -29,7 +29,9 @@ invariant_of-self-2 c =
     let old = c.self.inside.pieces.items in
     let back = c.pieces-after.result.now in
     let mid_is : c.extend_from_slice.new.self.items ≡ old ++ back = rw (← c.reserve.ensures.items) extended in
-    let parts = joined_parts front old back _ _ c.pieces-before.ensures.whole c.self.invariant.0 c.pieces-after.ensures.whole mid_is inserted in (
+    let parts =
+    joined_parts front old back _ _ c.pieces-before.ensures.whole c.self.invariant.0 c.pieces-after.ensures.whole
+    mid_is inserted in (
       parts.0,
       omega (
         arith,

@@ -1,4 +1,5 @@
-use Rattle.std.proofs.Common.{◌≡◌, ◌≢◌, ◌<◌, ◌/◌, ◌%◌, ℕ, Fits, w8, List, [], ◌∷◌, ◌++◌, length, get_or, rules, arith, sym, ap, ◌∙◌, append-nil}
+use Rattle.std.proofs.Common.{◌≡◌, ◌≢◌, ◌<◌, ◌/◌, ◌%◌, ℕ, Fits, w8, List, [], ◌∷◌, ◌++◌, length, get_or, rules}
+use Rattle.std.proofs.Common.{arith, sym, ap, ◌∙◌, append-nil}
 use Rattle.std.specs.Prelude.{All}
 use Rattle.std.specs.Borrow.{Bor}
 use Rattle.std.proofs.lemmas.List.Elements.{All-push, All-nil, All-from_get_or}
@@ -32,7 +33,8 @@ pub invariant_of-result : goal.invariant_of-result
 invariant_of-result c =
     let some : length c.args.bytes.now ≢ 0 = search rules in
     let even : length c.args.bytes.now % 2 ≢ 1 = search rules in
-    one_piece c.args.bytes _ (c.push_reserved.ensures.items ∙ ap (λ ps. ps ++ c.args.bytes ∷ []) c.new-pieces.ensures.items)
+    one_piece c.args.bytes _
+    (c.push_reserved.ensures.items ∙ ap (λ ps. ps ++ c.args.bytes ∷ []) c.new-pieces.ensures.items)
     some even c.type_inv.bytes
 
 pub returns-clause-fits : goal.returns-clause-fits

@@ -18,9 +18,13 @@ returns c =
     let chunks = c.chunks_size-info.ensures.value in
     let points : t.points ≡ point_total b.samples = ap (λ x. x.points) is in
     let p = c.of-presets.ensures in
-    let presets = zone_sizes level.Preset b.presets t.presets c.of-presets.result (ap (λ x. x.presets) is) p.bags p.mods p.gens in
+    let presets =
+    zone_sizes level.Preset b.presets t.presets c.of-presets.result (ap (λ x. x.presets) is) p.bags p.mods p.gens
+    in
     let i = c.of-instruments.ensures in
-    let instruments = zone_sizes level.Instrument b.instruments t.instruments c.of-instruments.result (ap (λ x. x.instruments) is) i.bags i.mods i.gens in
+    let instruments =
+    zone_sizes level.Instrument b.instruments t.instruments c.of-instruments.result (ap (λ x. x.instruments) is)
+    i.bags i.mods i.gens in
     let pb = presets.bags in
     let pm = presets.mods in
     let pg = presets.gens in
@@ -35,11 +39,59 @@ returns c =
     let shdr_count : t.samples ≡ length b.samples = ap (λ x. x.samples) is in
     let pt = c.total.ensures in
     let it = c.total-2.ensures in record {
-      file = omega (arith, file_size b, info_size b, chunks, sdta_size b, length_all_points b, points, pdta_size b valid, length_phdr b valid, phdr, phdr_count, pt, pb, pm, pg, length_inst b valid, inst, inst_count, it, ib, im, ig, length_shdr b valid, shdr, shdr_count);
+      file =
+          omega (
+            arith,
+            file_size b,
+            info_size b,
+            chunks,
+            sdta_size b,
+            length_all_points b,
+            points,
+            pdta_size b valid,
+            length_phdr b valid,
+            phdr,
+            phdr_count,
+            pt,
+            pb,
+            pm,
+            pg,
+            length_inst b valid,
+            inst,
+            inst_count,
+            it,
+            ib,
+            im,
+            ig,
+            length_shdr b valid,
+            shdr,
+            shdr_count,
+          );
       info = omega (arith, info_size b, chunks);
       sdta = omega (arith, sdta_size b, length_all_points b, points);
       smpl = omega (arith, length_all_points b, points);
-      pdta = omega (arith, pdta_size b valid, length_phdr b valid, phdr, phdr_count, pt, pb, pm, pg, length_inst b valid, inst, inst_count, it, ib, im, ig, length_shdr b valid, shdr, shdr_count);
+      pdta =
+          omega (
+            arith,
+            pdta_size b valid,
+            length_phdr b valid,
+            phdr,
+            phdr_count,
+            pt,
+            pb,
+            pm,
+            pg,
+            length_inst b valid,
+            inst,
+            inst_count,
+            it,
+            ib,
+            im,
+            ig,
+            length_shdr b valid,
+            shdr,
+            shdr_count,
+          );
       phdr = omega (arith, length_phdr b valid, phdr, phdr_count);
       presets = presets;
       inst = omega (arith, length_inst b valid, inst, inst_count);

@@ -6,10 +6,12 @@ use Rattle.voices.proofs.voice.Voice.next_frame.Goals as goal
 
 pub returns-then-course-clause-left : goal.returns-then-course-clause-left
 returns-then-course-clause-left c =
-    let over : is_over c.self.inside.parameters c.self.inside.age ≡ true = sym c.self.invariant.1.over ∙ c.if-course.true in
+    let over : is_over c.self.inside.parameters c.self.inside.age ≡ true =
+    sym c.self.invariant.1.over ∙ c.if-course.true in
     subst (λ (l : Live). pos 0 ≡ snd l.value true l.age) c.self.view_is (sym (over_is_silent _ true _ over))
 
 pub returns-then-course-clause-right : goal.returns-then-course-clause-right
 returns-then-course-clause-right c =
-    let over : is_over c.self.inside.parameters c.self.inside.age ≡ true = sym c.self.invariant.1.over ∙ c.if-course.true in
+    let over : is_over c.self.inside.parameters c.self.inside.age ≡ true =
+    sym c.self.invariant.1.over ∙ c.if-course.true in
     subst (λ (l : Live). pos 0 ≡ snd l.value false l.age) c.self.view_is (sym (over_is_silent _ false _ over))
