@@ -1,7 +1,6 @@
 //! The steps that edit the generators and modulators of a place.
 ghost use Rattle.edit_forms.specs.Settings.{Fits};
 
-use bank_parts::modulator_fits;
 use modulators::Modulator;
 
 /// A step that edits the generators and modulators of a place: of a global zone, or of a zone. Modulators
@@ -24,22 +23,5 @@ impl SettingStep {
     /// The law that each number is in the range of its field. It does nothing.
     pub fn fits(self)
         ensures { Fits self }
-    {
-        match self {
-            SettingStep::SetGen { operator, amount } => {
-                let _operator = operator;
-                let _amount = amount;
-            }
-            SettingStep::ClearGen { operator } => {
-                let _operator = operator;
-            }
-            SettingStep::AddMod { index, modulator } | SettingStep::SetMod { index, modulator } => {
-                let _index = index;
-                modulator_fits(modulator);
-            }
-            SettingStep::RemoveMod { index } => {
-                let _index = index;
-            }
-        }
-    }
+    {}
 }

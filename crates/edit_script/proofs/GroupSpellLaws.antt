@@ -9,7 +9,7 @@ use Rattle.line_tokens.specs.Parts.{is_next}
 use Rattle.script_grammar.specs.Operands.{Operand, Fixed, AllSay}
 use Rattle.script_grammar.proofs.SpellLaws.{Gives, then, gives_pure, gives_fixed}
 use Rattle.script_grammar.proofs.ZoneSpellLaws.{next_word, nothing_ends, brace_ends, as_other}
-use Rattle.step_script.specs.Grammar.{form_word, form_of}
+use Rattle.step_script.specs.Grammar.{word_of}
 use Rattle.step_script.specs.Spelling.{SaysWhole}
 use Rattle.step_script.proofs.StepLaws.{gives_step, not_group}
 use Rattle.edit_script.specs.Grammar.{in_braces, SaysSteps, SaysGroup, SaysAll, braced_step, is_over, with_step}
@@ -79,8 +79,8 @@ gives_one s os h line k =
 no_group : (s : Step) (os : List Operand) → SaysWhole s os → (line : List Said) → AllSay line os
     → is_next (codes "group") line ≡ false
 no_group s os h line k =
-    next_word (form_word (form_of s)) (codes "group") line h.operands (subst (AllSay line) h.parts k)
-    ∙ not_group (form_of s)
+    next_word (word_of s) (codes "group") line h.operands (subst (AllSay line) h.parts k)
+    ∙ not_group s
 
 pub gives_edit : (e : Edit) (os : List Operand) → SaysAll e os → (line : List Said) → AllSay line os
     → Gives one_or_group e line []

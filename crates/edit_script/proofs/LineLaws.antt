@@ -16,7 +16,7 @@ use Rattle.line_tokens.proofs.PieceLaws.{meant, line, line_says, line_first, All
 use Rattle.script_grammar.specs.Operands.{Operand, Fixed, pieces_of}
 use Rattle.script_grammar.proofs.OperandLaws as operand
 use Rattle.script_grammar.proofs.OperandLaws.{IsFixed, all_spoken, all_say, both_fit}
-use Rattle.step_script.specs.Grammar.{form_word, form_of, operands, step_operands}
+use Rattle.step_script.specs.Grammar.{word_of, operands, step_operands}
 use Rattle.step_script.specs.Spelling.{SaysWhole}
 use Rattle.step_script.proofs.StepLaws.{form_fixed, operands_fit, step_printed}
 use Rattle.edit_script.specs.Grammar.{braced, SaysSteps, SaysAll}
@@ -29,7 +29,7 @@ use Rattle.edit_script.proofs.SpellLaws.{spelled_read}
 -- ---- the word of a line, and the operands behind it
 
 abbrev word : Edit → List ℕ
-word (One s) = form_word (form_of s)
+word (One s) = word_of s
 word (Group ss) = codes "group"
 
 abbrev behind : Edit → List Operand
@@ -42,14 +42,14 @@ text_is (One s) = refl
 text_is (Group ss) = refl
 
 word_fixed : (e : Edit) → IsFixed (word e)
-word_fixed (One s) = form_fixed (form_of s)
+word_fixed (One s) = form_fixed s
 word_fixed (Group ss) = (refl, refl)
 
 -- ---- what fits can be said
 
 braced_fit : (s : Step) → FitsStep s → operand.AllFit (braced s)
 braced_fit s h =
-    ((refl, refl), both_fit (step_operands s) (Fixed (codes "}") ∷ []) (form_fixed (form_of s), operands_fit s h) ((refl, refl), tt))
+    ((refl, refl), both_fit (step_operands s) (Fixed (codes "}") ∷ []) (form_fixed s, operands_fit s h) ((refl, refl), tt))
 
 all_braced_fit : (ss : List Step) → AllByRecursion FitsStep ss → operand.AllFit (flat_map braced ss)
 all_braced_fit [] h = tt

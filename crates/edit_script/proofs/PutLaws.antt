@@ -7,7 +7,7 @@ use Rattle.outputs.proofs.OutputLaws.{puts_as}
 use Rattle.edit_forms.specs.declared.step.Step.{Step}
 use Rattle.script_grammar.specs.Operands.{Fixed}
 use Rattle.script_grammar.proofs.PutLaws.{spaced_out, spaced_both, puts_both}
-use Rattle.step_script.specs.Grammar.{form_word, form_of, operands, step_operands}
+use Rattle.step_script.specs.Grammar.{word_of, operands, step_operands}
 use Rattle.edit_script.specs.Grammar.{braced}
 
 abbrev pub braced_text : Step → List ℕ
@@ -20,12 +20,12 @@ all_braced (s ∷ ss) =
 
 module _ {W : Type 0} {c : W → Option (List ℕ)} where
   pub puts_braced : {o p q r : Output W} (s : Step)
-      → Puts c o p (spaced_out (Fixed (codes "{") ∷ Fixed (form_word (form_of s)) ∷ []))
+      → Puts c o p (spaced_out (Fixed (codes "{") ∷ Fixed (word_of s) ∷ []))
       → Puts c p q (spaced_out (operands s)) → Puts c q r (spaced_out (Fixed (codes "}") ∷ []))
       → Puts c o r (braced_text s)
   puts_braced s h k l =
       puts_both (Fixed (codes "{") ∷ step_operands s) (Fixed (codes "}") ∷ [])
-      (puts_both (Fixed (codes "{") ∷ Fixed (form_word (form_of s)) ∷ []) (operands s) h k) l
+      (puts_both (Fixed (codes "{") ∷ Fixed (word_of s) ∷ []) (operands s) h k) l
 
   pub puts_all_braced : {o p : Output W} (ss : List Step) → Puts c o p (flat_map braced_text ss)
       → Puts c o p (spaced_out (flat_map braced ss))

@@ -7,12 +7,12 @@ use Rattle.edit_forms.specs.Fits.{FitsEdit}
 use Rattle.line_tokens.specs.Printing.{line_text}
 use Rattle.edit_script.specs.declared.parsing.Line.{Line}
 use Rattle.script_grammar.specs.Operands.{pieces_of}
-use Rattle.step_script.specs.Grammar.{form_word, form_of, operands}
+use Rattle.step_script.specs.Grammar.{word_of, operands}
 use Rattle.edit_script.specs.Grammar.{braced}
 
 -- the line of an edit, with its line feed
 unfoldable pub text_of : Edit → List ℕ
-text_of (One step) = line_text (form_word (form_of step)) (pieces_of (operands step))
+text_of (One step) = line_text (word_of step) (pieces_of (operands step))
 text_of (Group steps) = line_text (codes "group") (pieces_of (flat_map braced steps))
 
 -- ---- several lines

@@ -2,7 +2,7 @@
 use Rattle.std.proofs.Common.{◌≡◌, ◌≤◌, ◌<◌, ◌^◌, ℕ, length, Bool, true, false, cond, List, [], ◌∷◌, codes, Ok, Some}
 use Rattle.std.proofs.Common.{refl, subst}
 use Rattle.sf_base.specs.Names.{IsName}
-use Rattle.bank_parts.specs.Fits.{FitsHead, FitsSample, FitsText}
+use Rattle.bank_parts.specs.Fits.{FitsHead}
 use Rattle.bank_changes.specs.declared.members.Owner.{Owner}
 use Rattle.bank_changes.specs.declared.members.Owner.TheVariants as owner
 use Rattle.bank_changes.specs.declared.members.Place.{Place}
@@ -11,10 +11,8 @@ use Rattle.edit_forms.specs.Fits.{FitsNumberOf, FitsPlace}
 use Rattle.line_tokens.specs.declared.cursor.Said.{Said}
 use Rattle.line_tokens.specs.Parts.{Part, Took, ◌>>=◌, pure, is_next, word, most_word, most_double_word, number, name}
 use Rattle.line_tokens.proofs.ReadLaws.{AllHoldBytes, both}
-use Rattle.script_grammar.specs.Operands.{Operand, Fixed, Text, AllSay}
+use Rattle.script_grammar.specs.Operands.{Operand, Fixed, AllSay}
 use Rattle.script_grammar.specs.Names.{named, next_named}
-use Rattle.script_grammar.specs.Samples.{body_operands}
-use Rattle.script_grammar.specs.Texts.{id_word}
 use Rattle.script_grammar.proofs.SpellLaws as spell
 use Rattle.script_grammar.proofs.SpellLaws.{Gives, gives_pure, gives_word, gives_number}
 use Rattle.script_grammar.proofs.ZoneSpellLaws.{next_word, not_global, as_other}
@@ -30,10 +28,8 @@ use Rattle.step_script.specs.Members.{place, named_operands, moved_operands, nam
 use Rattle.step_script.specs.Owners.{kind_word, kinds, kind_of, number_in, of_owner, at_place, of_zone, of_place}
 use Rattle.step_script.specs.Owners.{owner_with, an_owner, a_place, owner_zone, owner_place}
 use Rattle.step_script.specs.Presets.{head_operands, head_of, head, placed_head}
-use Rattle.step_script.specs.Samples.{added_sample}
-use Rattle.step_script.specs.Texts.{id_and_text}
 use Rattle.step_script.proofs.Lawful.{IsLawful, ◌&◌, of_two, of_more, made_lawful, index, number16, named_lawful}
-use Rattle.step_script.proofs.Lawful.{a_name, a_text, an_id, a_body}
+use Rattle.step_script.proofs.Lawful.{a_name}
 
 -- ---- a number, and what follows it
 
@@ -44,14 +40,6 @@ names = index & a_name
 pub moves : IsLawful moving (λ m. moved_operands m.0 m.1) (λ m. (m.0 < 2 ^ 32) × (m.1 < 2 ^ 32))
 unfolding moving
 moves = index & index
-
-pub adds_sample : IsLawful added_sample (λ a. place a.0 ∷ body_operands a.1) (λ a. (a.0 < 2 ^ 32) × FitsSample a.1)
-unfolding added_sample
-adds_sample = index & a_body
-
-pub id_with_text : IsLawful id_and_text (λ t. Fixed (id_word t.0) ∷ Text t.1 ∷ []) (λ t. Unit {0} × FitsText t.1)
-unfolding id_and_text
-id_with_text = an_id & a_text
 
 -- ---- the head of a preset
 

@@ -1,6 +1,6 @@
 -- The laws of a step, from the row of its form.
-use Rattle.std.proofs.Common.{◌≡◌, ◌∙◌, ap, Bool, true, false, List, [], ◌∷◌, ◌++◌, codes, Option, Some, cond, refl}
-use Rattle.std.proofs.Common.{sym, subst, ℕ}
+use Rattle.std.proofs.Common.{◌≡◌, ◌≤◌, ◌∙◌, ap, Bool, true, false, List, [], ◌∷◌, ◌++◌, length, codes, Option, Some}
+use Rattle.std.proofs.Common.{None, Ok, cond, refl, sym, subst, arith, ℕ}
 use Rattle.std.specs.List.{list_all}
 use Rattle.std.specs.Str.{bytes_eq}
 use Rattle.std.proofs.lemmas.Bool.{and_parts}
@@ -8,29 +8,53 @@ use Rattle.std.proofs.lemmas.Slice.Eq.{bytes_eq-Decides}
 use Rattle.edit_forms.specs.declared.step.Step.{Step}
 use Rattle.edit_forms.specs.Fits.{FitsStep}
 use Rattle.line_tokens.specs.declared.cursor.Said.{Said}
-use Rattle.line_tokens.specs.Parts.{◌>>=◌, pure}
+use Rattle.line_tokens.specs.declared.fault.LineFault.TheVariants as faults
+use Rattle.line_tokens.specs.Parts.{Took, ◌>>=◌, pure, or_fault, word}
 use Rattle.line_tokens.specs.Spelling.{is_word}
 use Rattle.line_tokens.proofs.TestLaws.{not_feed}
-use Rattle.line_tokens.proofs.ReadLaws.{both}
+use Rattle.line_tokens.proofs.ReadLaws.{both, or_fault_is}
 use Rattle.script_grammar.specs.Operands.{Operand, Fixed, AllSay}
-use Rattle.script_grammar.specs.Names.{named}
-use Rattle.script_grammar.proofs.SpellLaws.{Gives, then, gives_pure}
+use Rattle.script_grammar.specs.Names.{named, next_named}
+use Rattle.script_grammar.proofs.SpellLaws.{Gives, then, gives_pure, gives_named}
 use Rattle.script_grammar.proofs.ZoneSpellLaws.{EndsZones, as_other}
-use Rattle.script_grammar.proofs.ReadLaws.{made}
+use Rattle.script_grammar.proofs.ReadLaws as read
+use Rattle.script_grammar.proofs.ReadLaws.{made, next_named_front}
 use Rattle.script_grammar.proofs.RepeatedLaws.{Keeps, pure_keeps, then_keeps}
+use Rattle.script_grammar.proofs.KeepLaws.{named_keeps}
 use Rattle.script_grammar.proofs.FitLaws.{AllRanged}
 use Rattle.script_grammar.proofs.OperandLaws.{IsFixed, AllFit}
-use Rattle.step_script.specs.declared.forms.Form.{Form}
-use Rattle.step_script.specs.Grammar.{form_word, forms, form_of, operands, SaysStep, operands_read, a_form, step}
+use Rattle.step_script.specs.Presets as presets
+use Rattle.step_script.specs.Instruments as instruments
+use Rattle.step_script.specs.Samples as samples
+use Rattle.step_script.specs.Points as points
+use Rattle.step_script.specs.Zones as zones
+use Rattle.step_script.specs.Settings as settings
+use Rattle.step_script.specs.Texts as texts
+use Rattle.step_script.specs.Forms.{Form, form_word, form_in}
+use Rattle.step_script.specs.Grammar.{forms, word_of, operands, SaysStep, a_form, step}
 use Rattle.step_script.specs.Spelling.{SaysWhole}
-use Rattle.step_script.proofs.SaidLaws.{SaidFront, IsSaid, behind, said_as}
-use Rattle.step_script.proofs.Lawful.{IsLawful, named_lawful}
-use Rattle.step_script.proofs.Rows.{Row, row, values}
+use Rattle.step_script.proofs.SaidLaws.{SaidFront, IsSaid}
+use Rattle.step_script.proofs.Rows.{Row, RowOf, ValueOf, rows, at, values}
 
--- ---- the word of a form
+-- ---- the form of a step
 
-form_named : (f : Form) → named form_word forms (form_word f) ≡ Some f
-form_named f = (row f).word
+-- the form that has the step's word, its row, and the values there that make the step
+record OfStep (s : Step) : Type 1 where
+  form : Form
+  found : form_in forms (word_of s) ≡ Some form
+  row : Row form
+  value : row.Value
+  makes : row.make value ≡ s
+
+of_step : (s : Step) → OfStep s
+of_step s = from (form_in forms (word_of s)) (at forms rows.rows (word_of s)) refl (values s)
+  where
+    from : (o : Option Form) (r : RowOf o) → form_in forms (word_of s) ≡ o → ValueOf o r s → OfStep s
+    from None r e v = absurd v
+    from (Some f) r e v = record { form = f; found = e; row = r; value = v.0; makes = v.1 }
+
+has_word : (s : Step) → form_word (of_step s).form ≡ word_of s
+has_word s = let o = of_step s in sym (o.row.is o.value).0 ∙ ap word_of o.makes
 
 -- what passes for all passes for the one that is named
 all_named : {X : Type 0} (test : X → Bool) (word_of : X → List ℕ) (xs : List X) (w : List ℕ) (x : X)
@@ -46,25 +70,26 @@ all_named {X} test word_of (y ∷ ys) w x h e =
     from k on false e = on e
 
 -- each is a word that a line can hold
-pub form_fixed : (f : Form) → IsFixed (form_word f)
-form_fixed f = (
-  all_named (λ f. is_word (form_word f)) form_word forms (form_word f) f refl (form_named f),
-  all_named (λ f. list_all not_feed (form_word f)) form_word forms (form_word f) f refl (form_named f),
-)
-
-form_lawful : IsLawful a_form (λ f. Fixed (form_word f) ∷ []) (λ f. Unit {0})
-unfolding a_form
-form_lawful = named_lawful form_word forms form_named form_fixed
+pub form_fixed : (s : Step) → IsFixed (word_of s)
+unfolding presets.forms instruments.forms samples.forms points.forms zones.forms settings.forms texts.forms
+form_fixed s =
+    let o = of_step s in
+    subst IsFixed (has_word s) (
+      all_named (λ f. is_word (form_word f)) form_word forms (word_of s) o.form refl o.found,
+      all_named (λ f. list_all not_feed (form_word f)) form_word forms (word_of s) o.form refl o.found,
+    )
 
 -- no step begins with the word of a group
-pub not_group : (f : Form) → bytes_eq (form_word f) (codes "group") ≡ false
-not_group f = from (bytes_eq (form_word f) (codes "group")) refl
+pub not_group : (s : Step) → bytes_eq (word_of s) (codes "group") ≡ false
+unfolding presets.forms instruments.forms samples.forms points.forms zones.forms settings.forms texts.forms
+not_group s = from (bytes_eq (word_of s) (codes "group")) refl
   where
-    from : (b : Bool) → bytes_eq (form_word f) (codes "group") ≡ b → b ≡ false
+    from : (b : Bool) → bytes_eq (word_of s) (codes "group") ≡ b → b ≡ false
     from true e =
-        let none : named form_word forms (codes "group") ≡ Some f =
-        subst (λ (w : List ℕ). named form_word forms w ≡ Some f)
-        ((bytes_eq-Decides (form_word f) (codes "group")).0 e) (form_named f) in
+        let o = of_step s in
+        let none : form_in forms (codes "group") ≡ Some o.form =
+        subst (λ (w : List ℕ). form_in forms w ≡ Some o.form)
+        ((bytes_eq-Decides (word_of s) (codes "group")).0 e) o.found in
         cc
     from false e = refl
 
@@ -72,18 +97,18 @@ not_group f = from (bytes_eq (form_word f) (codes "group")) refl
 
 -- a step of the form, and what says it
 abbrev StepOf : Form → Step → List Operand → Type 0
-StepOf f s os = SaysStep s os × (form_of s ≡ f)
+StepOf f s os = SaysStep s os × (word_of s ≡ form_word f)
 
 -- what says a step of a form is read as the step, fits where the step does, and is what is printed
 record IsStepLawful (f : Form) (s : Step) : Type 0 where
   gives : (os more : List Operand) → EndsZones more → SaysStep s os → (line : List Said) → AllSay line (os ++ more)
-      → Gives (operands_read f) s line more
+      → Gives f.1 s line more
   fits : (os : List Operand) → SaysStep s os → AllRanged os → FitsStep s
   fit : FitsStep s → AllFit (operands s)
   printed : SaysStep s (operands s)
 
 module _ {f : Form} (r : Row f) where
-  operands_said : IsSaid Step (operands_read f) (StepOf f)
+  operands_said : IsSaid Step f.1 (StepOf f)
   operands_said line t g e =
       let u = both (r.part line) (λ x. pure (r.make x)) t (sym (r.reads line) ∙ e) in
       let k = r.lawful.said line u.first g u.is in
@@ -98,7 +123,7 @@ module _ {f : Form} (r : Row f) where
             k.fronts;
       })
 
-  operands_keep : Keeps (operands_read f)
+  operands_keep : Keeps f.1
   operands_keep line t e =
       then_keeps r.part _ r.lawful.keeps (λ x. pure_keeps (r.make x)) line t (sym (r.reads line) ∙ e)
 
@@ -106,7 +131,7 @@ module _ {f : Form} (r : Row f) where
   operands_lawful x =
       let is = r.is x in record {
         gives = λ os more end h line k.
-            as_other (r.part >>= λ x. pure (r.make x)) (operands_read f) (r.make x) line more (r.reads line)
+            as_other (r.part >>= λ x. pure (r.make x)) f.1 (r.make x) line more (r.reads line)
             (then _ (r.lawful.gives x os more end (subst (λ (Says : List Operand → Type 0). Says os) is.1 h) line k)
             (λ rest k. gives_pure (r.make x) rest more k));
         fits = λ os h k. is.3 (r.lawful.fits x os (subst (λ (Says : List Operand → Type 0). Says os) is.1 h) k);
@@ -116,33 +141,65 @@ module _ {f : Form} (r : Row f) where
             (subst (r.Says x) (sym is.2) (r.lawful.is_said x));
       }
 
-step_lawful : (s : Step) → IsStepLawful (form_of s) s
-step_lawful s = let v = values s in subst (IsStepLawful (form_of s)) v.1 (operands_lawful (row (form_of s)) v.0)
+step_lawful : (s : Step) → IsStepLawful (of_step s).form s
+step_lawful s =
+    let o = of_step s in subst (IsStepLawful o.form) o.makes (operands_lawful o.row o.value)
 
 -- ---- a step
 
+-- a form that was read has its row
+read_row : (line : List Said) (t : Took Form) → a_form line ≡ Ok t → Row t.value
+unfolding a_form next_named
+read_row line t e =
+    let w = both (word line) (λ w. or_fault faults.Syntax (form_in forms w)) t e in
+    let found = or_fault_is faults.Syntax (form_in forms w.first.value) w.first.rest t w.second in
+    subst RowOf found.0 (at forms rows.rows w.first.value)
+
 -- what is read as a step says it
 pub step_said : IsSaid Step step SaysWhole
-unfolding step
-step_said =
-    behind a_form _ SaysWhole (λ f. Fixed (form_word f) ∷ []) form_lawful.fronts (λ f.
-    said_as (λ s more. SaysWhole s (Fixed (form_word f) ∷ more)) (operands_said (row f)) (λ s os h. record
-    { operands = os; parts = ap (λ (g : Form). Fixed (form_word g) ∷ os) (sym h.1); says = h.0 }))
+unfolding step a_form
+step_said line t g e =
+    let u = both (a_form line) (λ f. f.1) t e in
+    let f = u.first.value in
+    let front = next_named_front form_word forms line u.first g u.is in
+    let k = operands_said (read_row line u.first u.is) u.first.rest t front.holds u.second in
+    record {
+      operands =
+          Fixed (form_word f) ∷ k.operands;
+      says =
+          record {
+            operands =
+                k.operands;
+            parts = ap (λ (w : List ℕ). Fixed w ∷ k.operands) (sym k.says.1);
+            says = k.says.0;
+          };
+      fronts = read.then (Fixed (form_word f) ∷ []) k.operands front k.fronts;
+    }
 
 -- what says a step is read as it
 pub gives_step : (s : Step) (os more : List Operand) → EndsZones more → SaysWhole s os → (line : List Said)
     → AllSay line (os ++ more) → Gives step s line more
-unfolding step
+unfolding step a_form
 gives_step s os more end h line k =
+    let o = of_step s in
+    let word = has_word s in
+    let found : form_in forms (form_word o.form) ≡ Some o.form =
+    subst (λ (w : List ℕ). form_in forms w ≡ Some o.form) (sym word) o.found in
     then _
-    (form_lawful.gives (form_of s) line (h.operands ++ more)
-    (subst (λ (os : List Operand). AllSay line (os ++ more)) h.parts k))
+    (gives_named form_word forms o.form found line (h.operands ++ more)
+    (subst (λ (w : List ℕ). AllSay line (Fixed w ∷ h.operands ++ more)) (sym word)
+    (subst (λ (os : List Operand). AllSay line (os ++ more)) h.parts k)))
     (λ rest k. (step_lawful s).gives h.operands more end h.says rest k)
 
 -- it leaves no more tokens than there were
 pub step_keeps : Keeps step
-unfolding step
-step_keeps = then_keeps a_form operands_read form_lawful.keeps (λ f. operands_keep (row f))
+unfolding step a_form
+step_keeps line t e =
+    let u = both (a_form line) (λ f. f.1) t e in
+    let behind : length t.rest ≤ length u.first.rest =
+    operands_keep (read_row line u.first u.is) u.first.rest t u.second in
+    let front : length u.first.rest ≤ length line = named_keeps form_word forms line u.first u.is in
+    omega (arith, behind, front)
 
 -- what says a step fits
 pub step_fits : (s : Step) (os : List Operand) → SaysStep s os → AllRanged os → FitsStep s

@@ -1,3 +1,4 @@
+pub mod Forms
 pub mod Members
 pub mod Presets
 pub mod Instruments

@@ -1,14 +1,16 @@
--- The forms that edit presets: what stands behind their words, and how presets and heads are read.
-use Rattle.std.specs.Prelude.{ℕ, List, [], ◌∷◌, ◌++◌}
+-- The forms that edit presets: how what stands behind their words is read, and what they are printed as.
+use Rattle.std.specs.Prelude.{ℕ, List, [], ◌∷◌, ◌++◌, codes}
 use Rattle.bank_parts.specs.declared.parts.Head.{Head}
-use Rattle.bank_parts.specs.declared.parts.WithZones.{WithZones}
-use Rattle.line_tokens.specs.Parts.{Part, ◌>>=◌, pure, most_word, most_double_word, number, name}
-use Rattle.script_grammar.specs.Operands.{Operand, Number, Name}
 use Rattle.edit_forms.specs.declared.step.Step.{Step}
+use Rattle.edit_forms.specs.declared.step.Step.TheVariants as steps
 use Rattle.edit_forms.specs.declared.presets.PresetStep.{PresetStep}
 use Rattle.edit_forms.specs.declared.presets.PresetStep.TheVariants.{AddPreset, RemovePreset, MovePreset, SetHead}
-use Rattle.edit_forms.specs.declared.step.Step.TheVariants as steps
-use Rattle.step_script.specs.Members.{place, named_operands, moved_operands, printed_owner, naming, placed, owner}
+use Rattle.line_tokens.specs.Parts.{Part, ◌>>=◌, pure, most_word, most_double_word, number, name}
+use Rattle.script_grammar.specs.Operands.{Operand, Number, Name}
+use Rattle.step_script.specs.Forms.{Form}
+use Rattle.step_script.specs.Members.{place, named_operands, moved_operands, printed_owner, naming, moving, placed, owner}
+
+-- ---- a preset without its zones
 
 -- `NAME NUMBER BANK LIBRARY GENRE MORPHOLOGY`
 abbrev pub head_operands : Head → List Operand
@@ -34,14 +36,27 @@ head = do
 unfoldable pub placed_head : Part (ℕ × Head)
 placed_head = placed head
 
+-- ---- the forms
+
 -- `P NAME NUMBER BANK LIBRARY GENRE MORPHOLOGY GLOBAL? ZONE*`
-unfoldable pub added_preset : Part (ℕ × WithZones Head)
-added_preset = owner placed_head
+unfoldable pub add_preset : Part Step
+add_preset = do
+  a ← owner placed_head
+  pure (steps.Preset (AddPreset a.0 a.1))
+
+-- `P`
+unfoldable pub remove_preset : Part Step
+remove_preset = do
+  p ← number most_double_word
+  pure (steps.Preset (RemovePreset p))
+
+-- `I J`
+unfoldable pub move_preset : Part Step
+move_preset = do
+  m ← moving
+  pure (steps.Preset (MovePreset m.0 m.1))
 
 -- `P NAME NUMBER BANK`
-abbrev pub new_head_operands : ℕ → List ℕ → ℕ → ℕ → List Operand
-new_head_operands p name number bank = named_operands p name ++ Number most_word number ∷ Number most_word bank ∷ []
-
 unfoldable pub set_head : Part Step
 set_head = do
   n ← naming
@@ -49,9 +64,15 @@ set_head = do
   bank ← number most_word
   pure (steps.Preset (SetHead n.0 n.1 program bank))
 
--- what stands behind the word, as it is printed
-abbrev pub operands : PresetStep → List Operand
-operands (AddPreset at preset) = printed_owner head_operands at preset
-operands (RemovePreset preset) = place preset ∷ []
-operands (MovePreset from to) = moved_operands from to
-operands (SetHead preset name number bank) = new_head_operands preset name number bank
+unfoldable pub forms : List Form
+forms =
+    (codes "add-preset", add_preset) ∷ (codes "remove-preset", remove_preset) ∷ (codes "move-preset", move_preset)
+    ∷ (codes "set-head", set_head) ∷ []
+
+-- the word of a step's form, and what is printed behind it
+abbrev pub printed : PresetStep → List ℕ × List Operand
+printed (AddPreset at preset) = (codes "add-preset", printed_owner head_operands at preset)
+printed (RemovePreset preset) = (codes "remove-preset", place preset ∷ [])
+printed (MovePreset from to) = (codes "move-preset", moved_operands from to)
+printed (SetHead preset name number bank) =
+    (codes "set-head", named_operands preset name ++ Number most_word number ∷ Number most_word bank ∷ [])

@@ -1,20 +1,49 @@
--- The forms that edit the list of samples: what stands behind their words, and how a sample is read.
-use Rattle.std.specs.Prelude.{ℕ, List, [], ◌∷◌}
-use Rattle.bank_parts.specs.declared.parts.Sample.{Sample}
+-- The forms that edit the list of samples: how what stands behind their words is read, and what they are printed as.
+use Rattle.std.specs.Prelude.{ℕ, List, [], ◌∷◌, codes}
+use Rattle.edit_forms.specs.declared.step.Step.{Step}
+use Rattle.edit_forms.specs.declared.step.Step.TheVariants as steps
 use Rattle.edit_forms.specs.declared.samples.SampleStep.{SampleStep}
 use Rattle.edit_forms.specs.declared.samples.SampleStep.TheVariants.{RenameSample, AddSample, RemoveSample, MoveSample}
-use Rattle.line_tokens.specs.Parts.{Part}
+use Rattle.line_tokens.specs.Parts.{Part, ◌>>=◌, pure, most_double_word, number}
 use Rattle.script_grammar.specs.Operands.{Operand}
 use Rattle.script_grammar.specs.Samples.{body_operands, body}
-use Rattle.step_script.specs.Members.{place, named_operands, moved_operands, placed}
+use Rattle.step_script.specs.Forms.{Form}
+use Rattle.step_script.specs.Members.{place, named_operands, moved_operands, naming, moving}
+
+-- `S NAME`
+unfoldable pub rename_sample : Part Step
+rename_sample = do
+  n ← naming
+  pure (steps.Sample (RenameSample n.0 n.1))
 
 -- `S BODY`
-unfoldable pub added_sample : Part (ℕ × Sample)
-added_sample = placed body
+unfoldable pub add_sample : Part Step
+add_sample = do
+  s ← number most_double_word
+  sample ← body
+  pure (steps.Sample (AddSample s sample))
 
--- what stands behind the word, as it is printed
-abbrev pub operands : SampleStep → List Operand
-operands (RenameSample sample name) = named_operands sample name
-operands (AddSample at sample) = place at ∷ body_operands sample
-operands (RemoveSample sample) = place sample ∷ []
-operands (MoveSample from to) = moved_operands from to
+-- `S`
+unfoldable pub remove_sample : Part Step
+remove_sample = do
+  s ← number most_double_word
+  pure (steps.Sample (RemoveSample s))
+
+-- `I J`
+unfoldable pub move_sample : Part Step
+move_sample = do
+  m ← moving
+  pure (steps.Sample (MoveSample m.0 m.1))
+
+-- the forms
+unfoldable pub forms : List Form
+forms =
+    (codes "rename-sample", rename_sample) ∷ (codes "add-sample", add_sample)
+    ∷ (codes "remove-sample", remove_sample) ∷ (codes "move-sample", move_sample) ∷ []
+
+-- the word of a step's form, and what is printed behind it
+abbrev pub printed : SampleStep → List ℕ × List Operand
+printed (RenameSample sample name) = (codes "rename-sample", named_operands sample name)
+printed (AddSample at sample) = (codes "add-sample", place at ∷ body_operands sample)
+printed (RemoveSample sample) = (codes "remove-sample", place sample ∷ [])
+printed (MoveSample from to) = (codes "move-sample", moved_operands from to)

@@ -2,10 +2,10 @@
 use Rattle.std.specs.Prelude.{◌≡◌, List, ◌∷◌}
 use Rattle.edit_forms.specs.declared.step.Step.{Step}
 use Rattle.script_grammar.specs.Operands.{Operand, Fixed}
-use Rattle.step_script.specs.Grammar.{form_word, form_of, SaysStep}
+use Rattle.step_script.specs.Grammar.{word_of, SaysStep}
 
 -- the word of the step's form, and operands behind it that say the rest
 pub record SaysWhole (step : Step) (all : List Operand) : Type 0 where
   pub operands : List Operand
-  pub parts : all ≡ Fixed (form_word (form_of step)) ∷ operands
+  pub parts : all ≡ Fixed (word_of step) ∷ operands
   pub says : SaysStep step operands

@@ -1,19 +1,24 @@
--- The form that edits a bank's texts: what stands behind its word, and how it is read.
-use Rattle.std.specs.Prelude.{ℕ, List, [], ◌∷◌}
-use Rattle.bank_parts.specs.declared.texts.InfoId.{InfoId}
+-- The form that edits a bank's texts: how what stands behind its word is read, and what it is printed as.
+use Rattle.std.specs.Prelude.{ℕ, List, [], ◌∷◌, codes}
+use Rattle.edit_forms.specs.declared.step.Step.{Step}
+use Rattle.edit_forms.specs.declared.step.Step.TheVariants as steps
 use Rattle.edit_forms.specs.declared.texts.TextStep.{TextStep}
 use Rattle.edit_forms.specs.declared.texts.TextStep.TheVariants.{SetInfo}
 use Rattle.line_tokens.specs.Parts.{Part, ◌>>=◌, pure, literal}
 use Rattle.script_grammar.specs.Operands.{Operand, Fixed, Text}
 use Rattle.script_grammar.specs.Texts.{id_word, info_id}
-
--- what stands behind the word, as it is printed
-abbrev pub operands : TextStep → List Operand
-operands (SetInfo id text) = Fixed (id_word id) ∷ Text text ∷ []
+use Rattle.step_script.specs.Forms.{Form}
 
 -- `ID TEXT`
-unfoldable pub id_and_text : Part (InfoId × List ℕ)
-id_and_text = do
+unfoldable pub set_info : Part Step
+set_info = do
   id ← info_id
   text ← literal
-  pure (id, text)
+  pure (steps.Text (SetInfo id text))
+
+unfoldable pub forms : List Form
+forms = (codes "set-info", set_info) ∷ []
+
+-- the word of a step's form, and what is printed behind it
+abbrev pub printed : TextStep → List ℕ × List Operand
+printed (SetInfo id text) = (codes "set-info", Fixed (id_word id) ∷ Text text ∷ [])

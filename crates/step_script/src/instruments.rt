@@ -6,11 +6,11 @@ ghost use Rattle.line_tokens.specs.Parts.{Reads};
 ghost use Rattle.line_tokens.specs.Printing.{spaced};
 ghost use Rattle.script_grammar.specs.Operands.{pieces_of};
 ghost use Rattle.script_grammar.specs.Memory.{ReadsOrWants};
-ghost use Rattle.step_script.specs.declared.forms.Form.TheVariants as form;
-ghost use Rattle.step_script.specs.Grammar.{operands_read};
+ghost use Rattle.step_script.specs.Forms.{form_in, ReadsForm};
 ghost use Rattle.step_script.specs.Members.{place, printed_owner};
-ghost use Rattle.step_script.specs.Instruments.{operands, name_operands, added_instrument};
+ghost use Rattle.step_script.specs.Instruments.{forms, printed, name_operands, add_instrument, remove_instrument, rename_instrument, move_instrument};
 
+use crate::by_word::by_word;
 use crate::members::{moving, naming, put_moving, put_naming, put_number, zones_of};
 use bank_parts::Instrument;
 use edit_forms::{InstrumentStep, Step};
@@ -23,54 +23,79 @@ use std::io::Write;
 
 // ---- read
 
-pub(crate) fn add_instrument<'p>(
+/// The step of one of these forms, read from what stands behind its word; none where the word is no form's.
+#[tactic(auto, unfolding(crate::specs::Instruments::forms, crate::specs::Forms::ReadsForm))]
+pub(crate) fn instrument_step<'p>(
+    word: &[u8],
+    alloc: Global,
+    line: &mut Cursor<'_, 'p>,
+) -> Result<Option<Step<'p>>, Failure<LineFault>>
+    ensures { ReadsForm (form_in forms word.now) line.old line.new result }
+{
+    Ok(by_word!(word,
+        b"add-inst" => add_instrument(alloc, line)?,
+        b"remove-inst" => remove_instrument(line)?,
+        b"rename-inst" => rename_instrument(line)?,
+        b"move-inst" => move_instrument(line)?,
+    ))
+}
+
+// `I NAME GLOBAL? ZONE*`
+#[tactic(auto, unfolding(crate::specs::Instruments::add_instrument))]
+fn add_instrument<'p>(
     alloc: Global,
     line: &mut Cursor<'_, 'p>,
 ) -> Result<Step<'p>, Failure<LineFault>>
-    ensures { ReadsOrWants (λ s. s) (operands_read form.AddInstrument) line.old line.new result }
+    ensures { ReadsOrWants (λ s. s) add_instrument line.old line.new result }
 {
-    let (at, instrument) = added_instrument(alloc, line)?;
+    let (at, name) = naming(line)?;
+    let instrument = zones_of(name, alloc, line)?;
     Ok(Step::Instrument(InstrumentStep::AddInstrument { at, instrument }))
 }
 
-pub(crate) fn remove_instrument<'p>(line: &mut Cursor<'_, 'p>) -> Result<Step<'p>, LineFault>
-    ensures { Reads (λ s. s) (operands_read form.RemoveInstrument) line.old line.new result }
+// `I`
+#[tactic(auto, unfolding(crate::specs::Instruments::remove_instrument))]
+fn remove_instrument<'p>(line: &mut Cursor<'_, 'p>) -> Result<Step<'p>, LineFault>
+    ensures { Reads (λ s. s) remove_instrument line.old line.new result }
 {
     let instrument = line.number(u32::MAX)?;
     Ok(Step::Instrument(InstrumentStep::RemoveInstrument { instrument }))
 }
 
-pub(crate) fn rename_instrument<'p>(line: &mut Cursor<'_, 'p>) -> Result<Step<'p>, LineFault>
-    ensures { Reads (λ s. s) (operands_read form.RenameInstrument) line.old line.new result }
+// `I NAME`
+#[tactic(auto, unfolding(crate::specs::Instruments::rename_instrument))]
+fn rename_instrument<'p>(line: &mut Cursor<'_, 'p>) -> Result<Step<'p>, LineFault>
+    ensures { Reads (λ s. s) rename_instrument line.old line.new result }
 {
     let (instrument, name) = naming(line)?;
     Ok(Step::Instrument(InstrumentStep::RenameInstrument { instrument, name }))
 }
 
-pub(crate) fn move_instrument<'p>(line: &mut Cursor<'_, 'p>) -> Result<Step<'p>, LineFault>
-    ensures { Reads (λ s. s) (operands_read form.MoveInstrument) line.old line.new result }
+// `I J`
+#[tactic(auto, unfolding(crate::specs::Instruments::move_instrument))]
+fn move_instrument<'p>(line: &mut Cursor<'_, 'p>) -> Result<Step<'p>, LineFault>
+    ensures { Reads (λ s. s) move_instrument line.old line.new result }
 {
     let (from, to) = moving(line)?;
     Ok(Step::Instrument(InstrumentStep::MoveInstrument { from, to }))
 }
 
-// `I NAME GLOBAL? ZONE*`
-#[tactic(auto, unfolding(crate::specs::Instruments::added_instrument))]
-fn added_instrument(
-    alloc: Global,
-    line: &mut Cursor<'_, '_>,
-) -> Result<(u32, Instrument), Failure<LineFault>>
-    ensures { ReadsOrWants (λ a. a) added_instrument line.old line.new result }
-{
-    let (at, name) = naming(line)?;
-    let instrument = zones_of(name, alloc, line)?;
-    Ok((at, instrument))
-}
-
 // ---- printed
 
+/// The word of a step's form.
+pub(crate) fn instrument_word(step: &InstrumentStep) -> &'static [u8]
+    ensures { result.now ≡ (printed step.now).0 }
+{
+    match step {
+        InstrumentStep::AddInstrument { .. } => b"add-inst",
+        InstrumentStep::RemoveInstrument { .. } => b"remove-inst",
+        InstrumentStep::RenameInstrument { .. } => b"rename-inst",
+        InstrumentStep::MoveInstrument { .. } => b"move-inst",
+    }
+}
+
 pub(crate) fn put_instrument_step<W: Write>(step: &InstrumentStep, output: &mut Output<'_, W>)
-    ensures { Puts W.contents output.old output.new (flat_map spaced (pieces_of (operands step.now))) }
+    ensures { Puts W.contents output.old output.new (flat_map spaced (pieces_of (printed step.now).1)) }
 {
     match step {
         InstrumentStep::AddInstrument { at, instrument } => put_add_instrument(

@@ -23,7 +23,7 @@
 //! `SOURCE DEST AMOUNT ASOURCE TRANSFORM`.
 #![tactic(auto)]
 
-mod forms;
+mod by_word;
 mod instruments;
 mod members;
 mod owners;

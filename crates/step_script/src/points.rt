@@ -1,13 +1,16 @@
 //! The forms that edit a sample's points, its loop, its kind and its pitch.
-ghost use Rattle.std.specs.Prelude.{◌≡◌, codes};
+ghost use Rattle.std.specs.Prelude.{◌≡◌, ℕ, codes};
 ghost use Rattle.std.specs.List.{flat_map};
 ghost use Rattle.outputs.specs.Output.{Puts};
 ghost use Rattle.line_tokens.specs.Parts.{Reads};
 ghost use Rattle.line_tokens.specs.Printing.{spaced};
 ghost use Rattle.script_grammar.specs.Operands.{pieces_of};
+ghost use Rattle.edit_forms.specs.declared.points.PointStep.TheVariants.{Trim, Extend, SetLoop, SetKind, SetTune};
+ghost use Rattle.step_script.specs.Forms.{form_in, ReadsForm};
 ghost use Rattle.step_script.specs.Members.{place};
-ghost use Rattle.step_script.specs.Points.{operands, cut_operands, both_ends_operands, loop_of_operands, kind_of_operands, tune_of_operands, trim, extend, set_loop, set_kind, set_tune};
+ghost use Rattle.step_script.specs.Points.{forms, printed, trim, extend, set_loop, set_kind, set_tune};
 
+use crate::by_word::by_word;
 use crate::members::put_number;
 use bank_parts::Kind;
 use edit_forms::{PointStep, Step};
@@ -15,14 +18,33 @@ use line_tokens::{Cursor, LineFault, Piece, put_pieces};
 use outputs::Output;
 use sample_view::Points;
 use script_grammar::{kind, looped, points, put_kind, put_loop, put_points, put_tune, tune};
+use sf_base::Failure;
 use std::alloc::Global;
 use std::io::Write;
 
 // ---- read
 
+/// The step of one of these forms, read from what stands behind its word; none where the word is no form's.
+#[tactic(auto, unfolding(crate::specs::Points::forms, crate::specs::Forms::ReadsForm))]
+pub(crate) fn point_step<'p>(
+    word: &[u8],
+    alloc: Global,
+    line: &mut Cursor<'_, 'p>,
+) -> Result<Option<Step<'p>>, Failure<LineFault>>
+    ensures { ReadsForm (form_in forms word.now) line.old line.new result }
+{
+    Ok(by_word!(word,
+        b"trim" => trim(line)?,
+        b"extend" => extend(alloc, line)?,
+        b"set-loop" => set_loop(line)?,
+        b"set-kind" => set_kind(line)?,
+        b"set-tune" => set_tune(line)?,
+    ))
+}
+
 // `S F B`
 #[tactic(auto, unfolding(crate::specs::Points::trim))]
-pub(crate) fn trim<'p>(line: &mut Cursor<'_, 'p>) -> Result<Step<'p>, LineFault>
+fn trim<'p>(line: &mut Cursor<'_, 'p>) -> Result<Step<'p>, LineFault>
     ensures { Reads (λ s. s) trim line.old line.new result }
 {
     let sample = line.number(u32::MAX)?;
@@ -33,7 +55,7 @@ pub(crate) fn trim<'p>(line: &mut Cursor<'_, 'p>) -> Result<Step<'p>, LineFault>
 
 // `S POINTS POINTS`
 #[tactic(auto, unfolding(crate::specs::Points::extend))]
-pub(crate) fn extend<'p>(alloc: Global, line: &mut Cursor<'_, 'p>) -> Result<Step<'p>, LineFault>
+fn extend<'p>(alloc: Global, line: &mut Cursor<'_, 'p>) -> Result<Step<'p>, LineFault>
     ensures { Reads (λ s. s) extend line.old line.new result }
 {
     let sample = line.number(u32::MAX)?;
@@ -44,7 +66,7 @@ pub(crate) fn extend<'p>(alloc: Global, line: &mut Cursor<'_, 'p>) -> Result<Ste
 
 // `S LOOP`
 #[tactic(auto, unfolding(crate::specs::Points::set_loop))]
-pub(crate) fn set_loop<'p>(line: &mut Cursor<'_, 'p>) -> Result<Step<'p>, LineFault>
+fn set_loop<'p>(line: &mut Cursor<'_, 'p>) -> Result<Step<'p>, LineFault>
     ensures { Reads (λ s. s) set_loop line.old line.new result }
 {
     let sample = line.number(u32::MAX)?;
@@ -54,7 +76,7 @@ pub(crate) fn set_loop<'p>(line: &mut Cursor<'_, 'p>) -> Result<Step<'p>, LineFa
 
 // `S KIND`
 #[tactic(auto, unfolding(crate::specs::Points::set_kind))]
-pub(crate) fn set_kind<'p>(line: &mut Cursor<'_, 'p>) -> Result<Step<'p>, LineFault>
+fn set_kind<'p>(line: &mut Cursor<'_, 'p>) -> Result<Step<'p>, LineFault>
     ensures { Reads (λ s. s) set_kind line.old line.new result }
 {
     let sample = line.number(u32::MAX)?;
@@ -64,7 +86,7 @@ pub(crate) fn set_kind<'p>(line: &mut Cursor<'_, 'p>) -> Result<Step<'p>, LineFa
 
 // `S RATE KEY CORR`
 #[tactic(auto, unfolding(crate::specs::Points::set_tune))]
-pub(crate) fn set_tune<'p>(line: &mut Cursor<'_, 'p>) -> Result<Step<'p>, LineFault>
+fn set_tune<'p>(line: &mut Cursor<'_, 'p>) -> Result<Step<'p>, LineFault>
     ensures { Reads (λ s. s) set_tune line.old line.new result }
 {
     let sample = line.number(u32::MAX)?;
@@ -81,12 +103,25 @@ pub(crate) fn set_tune<'p>(line: &mut Cursor<'_, 'p>) -> Result<Step<'p>, LineFa
 
 // ---- printed
 
+/// The word of a step's form.
+pub(crate) fn point_word(step: &PointStep<'_>) -> &'static [u8]
+    ensures { (sample : ℕ) → result.now ≡ (printed sample step.now).0 }
+{
+    match step {
+        PointStep::Trim { .. } => b"trim",
+        PointStep::Extend { .. } => b"extend",
+        PointStep::SetLoop { .. } => b"set-loop",
+        PointStep::SetKind { .. } => b"set-kind",
+        PointStep::SetTune { .. } => b"set-tune",
+    }
+}
+
 pub(crate) fn put_point_step<W: Write>(
     sample: u32,
     step: &PointStep<'_>,
     output: &mut Output<'_, W>,
 )
-    ensures { Puts W.contents output.old output.new (flat_map spaced (pieces_of (operands sample step.now))) }
+    ensures { Puts W.contents output.old output.new (flat_map spaced (pieces_of (printed sample step.now).1)) }
 {
     match step {
         PointStep::Trim { front, back } => put_trim(sample, *front, *back, output),
@@ -102,7 +137,7 @@ pub(crate) fn put_point_step<W: Write>(
 }
 
 fn put_trim<W: Write>(sample: u32, front: u32, back: u32, output: &mut Output<'_, W>)
-    ensures { Puts W.contents output.old output.new (flat_map spaced (pieces_of (cut_operands sample front back))) }
+    ensures { Puts W.contents output.old output.new (flat_map spaced (pieces_of (printed sample (Trim front back)).1)) }
 {
     let sample = Piece::Number(u64::from(sample));
     let front = Piece::Number(u64::from(front));
@@ -117,7 +152,7 @@ fn put_extend<W: Write>(
     back: &Points<'_>,
     output: &mut Output<'_, W>,
 )
-    ensures { Puts W.contents output.old output.new (flat_map spaced (pieces_of (both_ends_operands sample front.now back.now))) }
+    ensures { Puts W.contents output.old output.new (flat_map spaced (pieces_of (printed sample (Extend front.now back.now)).1)) }
 {
     put_number(sample, output);
     put_points(front, output);
@@ -126,7 +161,7 @@ fn put_extend<W: Write>(
 
 #[tactic(auto, using(script_grammar::proofs::PutLaws::puts_both))]
 fn put_set_loop<W: Write>(sample: u32, looped: Option<(u32, u32)>, output: &mut Output<'_, W>)
-    ensures { Puts W.contents output.old output.new (flat_map spaced (pieces_of (loop_of_operands sample looped))) }
+    ensures { Puts W.contents output.old output.new (flat_map spaced (pieces_of (printed sample (SetLoop looped)).1)) }
 {
     put_number(sample, output);
     put_loop(looped, output);
@@ -134,7 +169,7 @@ fn put_set_loop<W: Write>(sample: u32, looped: Option<(u32, u32)>, output: &mut 
 
 #[tactic(auto, using(script_grammar::proofs::PutLaws::puts_both))]
 fn put_set_kind<W: Write>(sample: u32, kind: Kind, output: &mut Output<'_, W>)
-    ensures { Puts W.contents output.old output.new (flat_map spaced (pieces_of (kind_of_operands sample kind))) }
+    ensures { Puts W.contents output.old output.new (flat_map spaced (pieces_of (printed sample (SetKind kind)).1)) }
 {
     put_number(sample, output);
     put_kind(kind, output);
@@ -148,7 +183,7 @@ fn put_set_tune<W: Write>(
     correction: i8,
     output: &mut Output<'_, W>,
 )
-    ensures { Puts W.contents output.old output.new (flat_map spaced (pieces_of (tune_of_operands sample rate key correction))) }
+    ensures { Puts W.contents output.old output.new (flat_map spaced (pieces_of (printed sample (SetTune rate key correction)).1)) }
 {
     put_number(sample, output);
     put_tune(rate, key, correction, output);

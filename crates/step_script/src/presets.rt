@@ -6,11 +6,12 @@ ghost use Rattle.line_tokens.specs.Parts.{Reads};
 ghost use Rattle.line_tokens.specs.Printing.{spaced};
 ghost use Rattle.script_grammar.specs.Operands.{pieces_of};
 ghost use Rattle.script_grammar.specs.Memory.{ReadsOrWants};
-ghost use Rattle.step_script.specs.declared.forms.Form.TheVariants as form;
-ghost use Rattle.step_script.specs.Grammar.{operands_read};
+ghost use Rattle.step_script.specs.Forms.{form_in, ReadsForm};
 ghost use Rattle.step_script.specs.Members.{place, printed_owner};
-ghost use Rattle.step_script.specs.Presets.{operands, head_operands, new_head_operands, head, placed_head, added_preset, set_head};
+ghost use Rattle.edit_forms.specs.declared.presets.PresetStep.TheVariants as variants;
+ghost use Rattle.step_script.specs.Presets.{forms, printed, head_operands, head, placed_head, add_preset, remove_preset, move_preset, set_head};
 
+use crate::by_word::by_word;
 use crate::members::{moving, naming, put_moving, put_number, zones_of};
 use bank_parts::{Head, Preset};
 use edit_forms::{PresetStep, Step};
@@ -23,25 +24,46 @@ use std::io::Write;
 
 // ---- read
 
-pub(crate) fn add_preset<'p>(
+/// The step of one of these forms, read from what stands behind its word; none where the word is no form's.
+#[tactic(auto, unfolding(crate::specs::Presets::forms, crate::specs::Forms::ReadsForm))]
+pub(crate) fn preset_step<'p>(
+    word: &[u8],
     alloc: Global,
     line: &mut Cursor<'_, 'p>,
-) -> Result<Step<'p>, Failure<LineFault>>
-    ensures { ReadsOrWants (λ s. s) (operands_read form.AddPreset) line.old line.new result }
+) -> Result<Option<Step<'p>>, Failure<LineFault>>
+    ensures { ReadsForm (form_in forms word.now) line.old line.new result }
 {
-    let (at, preset) = added_preset(alloc, line)?;
+    Ok(by_word!(word,
+        b"add-preset" => add_preset(alloc, line)?,
+        b"remove-preset" => remove_preset(line)?,
+        b"move-preset" => move_preset(line)?,
+        b"set-head" => set_head(line)?,
+    ))
+}
+
+// `P NAME NUMBER BANK LIBRARY GENRE MORPHOLOGY GLOBAL? ZONE*`
+#[tactic(auto, unfolding(crate::specs::Presets::add_preset))]
+fn add_preset<'p>(alloc: Global, line: &mut Cursor<'_, 'p>) -> Result<Step<'p>, Failure<LineFault>>
+    ensures { ReadsOrWants (λ s. s) add_preset line.old line.new result }
+{
+    let (at, head) = placed_head(line)?;
+    let preset = zones_of(head, alloc, line)?;
     Ok(Step::Preset(PresetStep::AddPreset { at, preset }))
 }
 
-pub(crate) fn remove_preset<'p>(line: &mut Cursor<'_, 'p>) -> Result<Step<'p>, LineFault>
-    ensures { Reads (λ s. s) (operands_read form.RemovePreset) line.old line.new result }
+// `P`
+#[tactic(auto, unfolding(crate::specs::Presets::remove_preset))]
+fn remove_preset<'p>(line: &mut Cursor<'_, 'p>) -> Result<Step<'p>, LineFault>
+    ensures { Reads (λ s. s) remove_preset line.old line.new result }
 {
     let preset = line.number(u32::MAX)?;
     Ok(Step::Preset(PresetStep::RemovePreset { preset }))
 }
 
-pub(crate) fn move_preset<'p>(line: &mut Cursor<'_, 'p>) -> Result<Step<'p>, LineFault>
-    ensures { Reads (λ s. s) (operands_read form.MovePreset) line.old line.new result }
+// `I J`
+#[tactic(auto, unfolding(crate::specs::Presets::move_preset))]
+fn move_preset<'p>(line: &mut Cursor<'_, 'p>) -> Result<Step<'p>, LineFault>
+    ensures { Reads (λ s. s) move_preset line.old line.new result }
 {
     let (from, to) = moving(line)?;
     Ok(Step::Preset(PresetStep::MovePreset { from, to }))
@@ -49,7 +71,7 @@ pub(crate) fn move_preset<'p>(line: &mut Cursor<'_, 'p>) -> Result<Step<'p>, Lin
 
 // `P NAME NUMBER BANK`
 #[tactic(auto, unfolding(crate::specs::Presets::set_head))]
-pub(crate) fn set_head<'p>(line: &mut Cursor<'_, 'p>) -> Result<Step<'p>, LineFault>
+fn set_head<'p>(line: &mut Cursor<'_, 'p>) -> Result<Step<'p>, LineFault>
     ensures { Reads (λ s. s) set_head line.old line.new result }
 {
     let (preset, name) = naming(line)?;
@@ -61,19 +83,6 @@ pub(crate) fn set_head<'p>(line: &mut Cursor<'_, 'p>) -> Result<Step<'p>, LineFa
         number,
         bank,
     }))
-}
-
-// `P NAME NUMBER BANK LIBRARY GENRE MORPHOLOGY GLOBAL? ZONE*`
-#[tactic(auto, unfolding(crate::specs::Presets::added_preset))]
-fn added_preset(
-    alloc: Global,
-    line: &mut Cursor<'_, '_>,
-) -> Result<(u32, Preset), Failure<LineFault>>
-    ensures { ReadsOrWants (λ a. a) added_preset line.old line.new result }
-{
-    let (at, head) = placed_head(line)?;
-    let preset = zones_of(head, alloc, line)?;
-    Ok((at, preset))
 }
 
 // `P NAME NUMBER BANK LIBRARY GENRE MORPHOLOGY`
@@ -109,8 +118,20 @@ fn head(line: &mut Cursor<'_, '_>) -> Result<Head, LineFault>
 
 // ---- printed
 
+/// The word of a step's form.
+pub(crate) fn preset_word(step: &PresetStep) -> &'static [u8]
+    ensures { result.now ≡ (printed step.now).0 }
+{
+    match step {
+        PresetStep::AddPreset { .. } => b"add-preset",
+        PresetStep::RemovePreset { .. } => b"remove-preset",
+        PresetStep::MovePreset { .. } => b"move-preset",
+        PresetStep::SetHead { .. } => b"set-head",
+    }
+}
+
 pub(crate) fn put_preset_step<W: Write>(step: &PresetStep, output: &mut Output<'_, W>)
-    ensures { Puts W.contents output.old output.new (flat_map spaced (pieces_of (operands step.now))) }
+    ensures { Puts W.contents output.old output.new (flat_map spaced (pieces_of (printed step.now).1)) }
 {
     match step {
         PresetStep::AddPreset { at, preset } => put_add_preset(*at, preset, output),
@@ -157,7 +178,7 @@ fn put_set_head<W: Write>(
     bank: u16,
     output: &mut Output<'_, W>,
 )
-    ensures { Puts W.contents output.old output.new (flat_map spaced (pieces_of (new_head_operands preset name.now number bank))) }
+    ensures { Puts W.contents output.old output.new (flat_map spaced (pieces_of (printed (variants.SetHead preset name.now number bank)).1)) }
 {
     let preset = Piece::Number(u64::from(preset));
     let name = Piece::Name(Lent::new(name.bytes()));

@@ -6,51 +6,72 @@ ghost use Rattle.line_tokens.specs.Parts.{Reads};
 ghost use Rattle.line_tokens.specs.Printing.{spaced};
 ghost use Rattle.script_grammar.specs.Operands.{pieces_of};
 ghost use Rattle.script_grammar.specs.Samples.{body_operands};
-ghost use Rattle.step_script.specs.declared.forms.Form.TheVariants as form;
-ghost use Rattle.step_script.specs.Grammar.{operands_read};
+ghost use Rattle.step_script.specs.Forms.{form_in, ReadsForm};
 ghost use Rattle.step_script.specs.Members.{place};
-ghost use Rattle.step_script.specs.Samples.{operands};
+ghost use Rattle.step_script.specs.Samples.{forms, printed, rename_sample, add_sample, remove_sample, move_sample};
 
+use crate::by_word::by_word;
 use crate::members::{moving, naming, put_moving, put_naming, put_number};
 use bank_parts::Sample;
 use edit_forms::{SampleStep, Step};
 use line_tokens::{Cursor, LineFault, Piece, put_pieces};
 use outputs::Output;
 use script_grammar::{put_sample_body, sample_body};
+use sf_base::Failure;
 use std::alloc::Global;
 use std::io::Write;
 
 // ---- read
 
-pub(crate) fn rename_sample<'p>(line: &mut Cursor<'_, 'p>) -> Result<Step<'p>, LineFault>
-    ensures { Reads (λ s. s) (operands_read form.RenameSample) line.old line.new result }
+/// The step of one of these forms, read from what stands behind its word; none where the word is no form's.
+#[tactic(auto, unfolding(crate::specs::Samples::forms, crate::specs::Forms::ReadsForm))]
+pub(crate) fn sample_step<'p>(
+    word: &[u8],
+    alloc: Global,
+    line: &mut Cursor<'_, 'p>,
+) -> Result<Option<Step<'p>>, Failure<LineFault>>
+    ensures { ReadsForm (form_in forms word.now) line.old line.new result }
+{
+    Ok(by_word!(word,
+        b"rename-sample" => rename_sample(line)?,
+        b"add-sample" => add_sample(alloc, line)?,
+        b"remove-sample" => remove_sample(line)?,
+        b"move-sample" => move_sample(line)?,
+    ))
+}
+
+// `S NAME`
+#[tactic(auto, unfolding(crate::specs::Samples::rename_sample))]
+fn rename_sample<'p>(line: &mut Cursor<'_, 'p>) -> Result<Step<'p>, LineFault>
+    ensures { Reads (λ s. s) rename_sample line.old line.new result }
 {
     let (sample, name) = naming(line)?;
     Ok(Step::Sample(SampleStep::RenameSample { sample, name }))
 }
 
 // `S BODY`
-#[tactic(auto, unfolding(crate::specs::Samples::added_sample))]
-pub(crate) fn add_sample<'p>(
-    alloc: Global,
-    line: &mut Cursor<'_, 'p>,
-) -> Result<Step<'p>, LineFault>
-    ensures { Reads (λ s. s) (operands_read form.AddSample) line.old line.new result }
+#[tactic(auto, unfolding(crate::specs::Samples::add_sample))]
+fn add_sample<'p>(alloc: Global, line: &mut Cursor<'_, 'p>) -> Result<Step<'p>, LineFault>
+    ensures { Reads (λ s. s) add_sample line.old line.new result }
 {
     let at = line.number(u32::MAX)?;
     let sample = sample_body(alloc, line)?;
     Ok(Step::Sample(SampleStep::AddSample { at, sample }))
 }
 
-pub(crate) fn remove_sample<'p>(line: &mut Cursor<'_, 'p>) -> Result<Step<'p>, LineFault>
-    ensures { Reads (λ s. s) (operands_read form.RemoveSample) line.old line.new result }
+// `S`
+#[tactic(auto, unfolding(crate::specs::Samples::remove_sample))]
+fn remove_sample<'p>(line: &mut Cursor<'_, 'p>) -> Result<Step<'p>, LineFault>
+    ensures { Reads (λ s. s) remove_sample line.old line.new result }
 {
     let sample = line.number(u32::MAX)?;
     Ok(Step::Sample(SampleStep::RemoveSample { sample }))
 }
 
-pub(crate) fn move_sample<'p>(line: &mut Cursor<'_, 'p>) -> Result<Step<'p>, LineFault>
-    ensures { Reads (λ s. s) (operands_read form.MoveSample) line.old line.new result }
+// `I J`
+#[tactic(auto, unfolding(crate::specs::Samples::move_sample))]
+fn move_sample<'p>(line: &mut Cursor<'_, 'p>) -> Result<Step<'p>, LineFault>
+    ensures { Reads (λ s. s) move_sample line.old line.new result }
 {
     let (from, to) = moving(line)?;
     Ok(Step::Sample(SampleStep::MoveSample { from, to }))
@@ -58,8 +79,20 @@ pub(crate) fn move_sample<'p>(line: &mut Cursor<'_, 'p>) -> Result<Step<'p>, Lin
 
 // ---- printed
 
+/// The word of a step's form.
+pub(crate) fn sample_word(step: &SampleStep<'_>) -> &'static [u8]
+    ensures { result.now ≡ (printed step.now).0 }
+{
+    match step {
+        SampleStep::RenameSample { .. } => b"rename-sample",
+        SampleStep::AddSample { .. } => b"add-sample",
+        SampleStep::RemoveSample { .. } => b"remove-sample",
+        SampleStep::MoveSample { .. } => b"move-sample",
+    }
+}
+
 pub(crate) fn put_sample_step<W: Write>(step: &SampleStep<'_>, output: &mut Output<'_, W>)
-    ensures { Puts W.contents output.old output.new (flat_map spaced (pieces_of (operands step.now))) }
+    ensures { Puts W.contents output.old output.new (flat_map spaced (pieces_of (printed step.now).1)) }
 {
     match step {
         SampleStep::RenameSample { sample, name } => put_naming(*sample, name, output),

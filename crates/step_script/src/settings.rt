@@ -5,9 +5,12 @@ ghost use Rattle.outputs.specs.Output.{Puts};
 ghost use Rattle.line_tokens.specs.Parts.{Reads};
 ghost use Rattle.line_tokens.specs.Printing.{spaced};
 ghost use Rattle.script_grammar.specs.Operands.{pieces_of};
+ghost use Rattle.edit_forms.specs.declared.settings.SettingStep.TheVariants.{SetGen, ClearGen};
+ghost use Rattle.step_script.specs.Forms.{form_in, ReadsForm};
 ghost use Rattle.step_script.specs.Owners.{of_place};
-ghost use Rattle.step_script.specs.Settings.{operands, generator_at_operands, operator_operands, index_operands, modulator_at_operands, set_gen, clear_gen, add_mod, remove_mod, set_mod};
+ghost use Rattle.step_script.specs.Settings.{forms, printed, index_operands, modulator_at_operands, set_gen, clear_gen, add_mod, remove_mod, set_mod};
 
+use crate::by_word::by_word;
 use crate::owners::{kind_piece, number_piece, owner_place, place_piece};
 use bank_changes::{Owner, Place};
 use edit_forms::{SettingStep, Step};
@@ -15,13 +18,31 @@ use line_tokens::{Cursor, LineFault, Piece, put_pieces};
 use modulators::Modulator;
 use outputs::Output;
 use script_grammar::{generator, modulator, put_generator, put_modulator};
+use sf_base::Failure;
 use std::io::Write;
 
 // ---- read
 
+/// The step of one of these forms, read from what stands behind its word; none where the word is no form's.
+#[tactic(auto, unfolding(crate::specs::Settings::forms, crate::specs::Forms::ReadsForm))]
+pub(crate) fn setting_step<'p>(
+    word: &[u8],
+    line: &mut Cursor<'_, 'p>,
+) -> Result<Option<Step<'p>>, Failure<LineFault>>
+    ensures { ReadsForm (form_in forms word.now) line.old line.new result }
+{
+    Ok(by_word!(word,
+        b"set-gen" => set_gen(line)?,
+        b"clear-gen" => clear_gen(line)?,
+        b"add-mod" => add_mod(line)?,
+        b"remove-mod" => remove_mod(line)?,
+        b"set-mod" => set_mod(line)?,
+    ))
+}
+
 // `OWNER PLACE OPERATOR AMOUNT`
 #[tactic(auto, unfolding(crate::specs::Settings::set_gen))]
-pub(crate) fn set_gen<'p>(line: &mut Cursor<'_, 'p>) -> Result<Step<'p>, LineFault>
+fn set_gen<'p>(line: &mut Cursor<'_, 'p>) -> Result<Step<'p>, LineFault>
     ensures { Reads (λ s. s) set_gen line.old line.new result }
 {
     let (owner, place) = owner_place(line)?;
@@ -31,7 +52,7 @@ pub(crate) fn set_gen<'p>(line: &mut Cursor<'_, 'p>) -> Result<Step<'p>, LineFau
 
 // `OWNER PLACE OPERATOR`
 #[tactic(auto, unfolding(crate::specs::Settings::clear_gen))]
-pub(crate) fn clear_gen<'p>(line: &mut Cursor<'_, 'p>) -> Result<Step<'p>, LineFault>
+fn clear_gen<'p>(line: &mut Cursor<'_, 'p>) -> Result<Step<'p>, LineFault>
     ensures { Reads (λ s. s) clear_gen line.old line.new result }
 {
     let (owner, place) = owner_place(line)?;
@@ -41,7 +62,7 @@ pub(crate) fn clear_gen<'p>(line: &mut Cursor<'_, 'p>) -> Result<Step<'p>, LineF
 
 // `OWNER PLACE J MOD`
 #[tactic(auto, unfolding(crate::specs::Settings::add_mod))]
-pub(crate) fn add_mod<'p>(line: &mut Cursor<'_, 'p>) -> Result<Step<'p>, LineFault>
+fn add_mod<'p>(line: &mut Cursor<'_, 'p>) -> Result<Step<'p>, LineFault>
     ensures { Reads (λ s. s) add_mod line.old line.new result }
 {
     let (owner, place) = owner_place(line)?;
@@ -52,7 +73,7 @@ pub(crate) fn add_mod<'p>(line: &mut Cursor<'_, 'p>) -> Result<Step<'p>, LineFau
 
 // `OWNER PLACE J`
 #[tactic(auto, unfolding(crate::specs::Settings::remove_mod))]
-pub(crate) fn remove_mod<'p>(line: &mut Cursor<'_, 'p>) -> Result<Step<'p>, LineFault>
+fn remove_mod<'p>(line: &mut Cursor<'_, 'p>) -> Result<Step<'p>, LineFault>
     ensures { Reads (λ s. s) remove_mod line.old line.new result }
 {
     let (owner, place) = owner_place(line)?;
@@ -62,7 +83,7 @@ pub(crate) fn remove_mod<'p>(line: &mut Cursor<'_, 'p>) -> Result<Step<'p>, Line
 
 // `OWNER PLACE J MOD`
 #[tactic(auto, unfolding(crate::specs::Settings::set_mod))]
-pub(crate) fn set_mod<'p>(line: &mut Cursor<'_, 'p>) -> Result<Step<'p>, LineFault>
+fn set_mod<'p>(line: &mut Cursor<'_, 'p>) -> Result<Step<'p>, LineFault>
     ensures { Reads (λ s. s) set_mod line.old line.new result }
 {
     let (owner, place) = owner_place(line)?;
@@ -73,13 +94,26 @@ pub(crate) fn set_mod<'p>(line: &mut Cursor<'_, 'p>) -> Result<Step<'p>, LineFau
 
 // ---- printed
 
+/// The word of a step's form.
+pub(crate) fn setting_word(step: &SettingStep) -> &'static [u8]
+    ensures { (owner : Owner) → (place : Place) → result.now ≡ (printed owner place step.now).0 }
+{
+    match step {
+        SettingStep::SetGen { .. } => b"set-gen",
+        SettingStep::ClearGen { .. } => b"clear-gen",
+        SettingStep::AddMod { .. } => b"add-mod",
+        SettingStep::RemoveMod { .. } => b"remove-mod",
+        SettingStep::SetMod { .. } => b"set-mod",
+    }
+}
+
 pub(crate) fn put_setting_step<W: Write>(
     owner: Owner,
     place: Place,
     step: &SettingStep,
     output: &mut Output<'_, W>,
 )
-    ensures { Puts W.contents output.old output.new (flat_map spaced (pieces_of (operands owner place step.now))) }
+    ensures { Puts W.contents output.old output.new (flat_map spaced (pieces_of (printed owner place step.now).1)) }
 {
     match step {
         SettingStep::SetGen { operator, amount } => put_set_gen(
@@ -104,7 +138,7 @@ fn put_set_gen<W: Write>(
     amount: u16,
     output: &mut Output<'_, W>,
 )
-    ensures { Puts W.contents output.old output.new (flat_map spaced (pieces_of (generator_at_operands owner place operator amount))) }
+    ensures { Puts W.contents output.old output.new (flat_map spaced (pieces_of (printed owner place (SetGen operator amount)).1)) }
 {
     put_owner_place(owner, place, output);
     put_generator(operator, amount, output);
@@ -121,7 +155,7 @@ fn put_owner_place<W: Write>(owner: Owner, place: Place, output: &mut Output<'_,
 }
 
 fn put_clear_gen<W: Write>(owner: Owner, place: Place, operator: u16, output: &mut Output<'_, W>)
-    ensures { Puts W.contents output.old output.new (flat_map spaced (pieces_of (operator_operands owner place operator))) }
+    ensures { Puts W.contents output.old output.new (flat_map spaced (pieces_of (printed owner place (ClearGen operator)).1)) }
 {
     let place = place_piece(place);
     let operator = Piece::Number(u64::from(operator));

@@ -2,24 +2,22 @@
 ghost use Rattle.std.specs.Prelude.{◌≡◌};
 ghost use Rattle.std.specs.List.{flat_map};
 ghost use Rattle.outputs.specs.Output.{Puts};
-ghost use Rattle.line_tokens.specs.Parts.{Reads};
 ghost use Rattle.line_tokens.specs.Printing.{spaced};
 ghost use Rattle.script_grammar.specs.Operands.{pieces_of};
 ghost use Rattle.script_grammar.specs.Memory.{ReadsOrWants};
-ghost use Rattle.step_script.specs.Grammar.{form_word, form_of, operands, a_form, step};
+ghost use Rattle.step_script.specs.Forms.{form_in, ReadsForm};
+ghost use Rattle.step_script.specs.Grammar.{forms, word_of, operands, step};
 
-use crate::forms::Form;
-use crate::instruments::put_instrument_step;
-use crate::points::put_point_step;
-use crate::presets::put_preset_step;
-use crate::samples::put_sample_step;
-use crate::settings::put_setting_step;
-use crate::texts::put_text_step;
-use crate::zones::put_zone_step;
+use crate::instruments::{instrument_step, instrument_word, put_instrument_step};
+use crate::points::{point_step, point_word, put_point_step};
+use crate::presets::{preset_step, preset_word, put_preset_step};
+use crate::samples::{put_sample_step, sample_step, sample_word};
+use crate::settings::{put_setting_step, setting_step, setting_word};
+use crate::texts::{put_text_step, text_step, text_word};
+use crate::zones::{put_zone_step, zone_step, zone_word};
 use edit_forms::Step;
 use line_tokens::{Cursor, LineFault};
 use outputs::Output;
-use script_grammar::{HasWord, next_named};
 use sf_base::Failure;
 use std::alloc::Global;
 use std::io::Write;
@@ -28,29 +26,60 @@ use std::io::Write;
 
 /// The step that begins here: the word of a form, and what stands behind it. The first fault from left
 /// to right is answered; out of memory may come in place of either.
-#[tactic(auto, unfolding(crate::specs::Grammar::step))]
+#[tactic(auto, unfolding(crate::specs::Grammar::step, crate::specs::Grammar::a_form, crate::specs::Forms::ReadsForm, script_grammar::specs::Names::next_named))]
 pub fn step<'p>(alloc: Global, line: &mut Cursor<'_, 'p>) -> Result<Step<'p>, Failure<LineFault>>
     ensures { ReadsOrWants (λ s. s) step line.old line.new result }
 {
-    let form = form(line)?;
-    form.read(alloc, line)
+    let word = line.word()?;
+    let step = step_of_form(word, alloc, line)?;
+    step.ok_or(Failure::Fault(LineFault::Syntax))
 }
 
-// The form whose word is next.
-#[tactic(auto, unfolding(crate::specs::Grammar::a_form))]
-fn form(line: &mut Cursor<'_, '_>) -> Result<Form, LineFault>
-    ensures { Reads (λ f. f) a_form line.old line.new result }
+// The step of the form that has this word, read from what stands behind it; none where the word is no form's.
+#[tactic(auto, using(crate::proofs::FormLaws::in_first, crate::proofs::FormLaws::in_second, crate::proofs::FormLaws::found_some, crate::proofs::FormLaws::failed_some, crate::proofs::FormLaws::passed_form, crate::proofs::FormLaws::passed_line))]
+fn step_of_form<'p>(
+    word: &[u8],
+    alloc: Global,
+    line: &mut Cursor<'_, 'p>,
+) -> Result<Option<Step<'p>>, Failure<LineFault>>
+    ensures { ReadsForm (form_in forms word.now) line.old line.new result }
 {
-    next_named(line)
+    if let Some(step) = preset_step(word, alloc, line)? {
+        return Ok(Some(step));
+    }
+    if let Some(step) = instrument_step(word, alloc, line)? {
+        return Ok(Some(step));
+    }
+    if let Some(step) = sample_step(word, alloc, line)? {
+        return Ok(Some(step));
+    }
+    if let Some(step) = point_step(word, alloc, line)? {
+        return Ok(Some(step));
+    }
+    if let Some(step) = zone_step(word, alloc, line)? {
+        return Ok(Some(step));
+    }
+    if let Some(step) = setting_step(word, line)? {
+        return Ok(Some(step));
+    }
+    text_step(word, line)
 }
 
 // ---- printed
 
 /// The word of a step's form.
 pub fn word_of(step: &Step<'_>) -> &'static [u8]
-    ensures { result.now ≡ form_word (form_of step.now) }
+    ensures { result.now ≡ word_of step.now }
 {
-    Form::of(step).word()
+    match step {
+        Step::Preset(step) => preset_word(step),
+        Step::Instrument(step) => instrument_word(step),
+        Step::Sample(step) => sample_word(step),
+        Step::Points(_, step) => point_word(step),
+        Step::Zone(_, step) => zone_word(step),
+        Step::Setting(_, _, step) => setting_word(step),
+        Step::Text(step) => text_word(step),
+    }
 }
 
 /// Puts what stands behind the word of a step's form, each token behind a space. It takes no memory.

@@ -7,30 +7,56 @@ ghost use Rattle.script_grammar.specs.Operands as operand;
 ghost use Rattle.script_grammar.specs.Operands.{pieces_of};
 ghost use Rattle.line_tokens.specs.Parts.{Reads};
 ghost use Rattle.script_grammar.specs.Texts.{id_word};
-ghost use Rattle.step_script.specs.declared.forms.Form.TheVariants as form;
-ghost use Rattle.step_script.specs.Grammar.{operands_read};
-ghost use Rattle.step_script.specs.Texts.{operands};
+ghost use Rattle.step_script.specs.Forms.{form_in, ReadsForm};
+ghost use Rattle.step_script.specs.Texts.{forms, printed, set_info};
 
+use crate::by_word::by_word;
 use bank_parts::InfoId;
 use edit_forms::{Step, TextStep};
 use line_tokens::{Cursor, LineFault, Piece, put_pieces};
 use outputs::Output;
 use script_grammar::{HasWord, info_id};
-use sf_base::Lent;
+use sf_base::{Failure, Lent};
 use std::io::Write;
 
+// ---- read
+
+/// The step of one of these forms, read from what stands behind its word; none where the word is no form's.
+#[tactic(auto, unfolding(crate::specs::Texts::forms, crate::specs::Forms::ReadsForm))]
+pub(crate) fn text_step<'p>(
+    word: &[u8],
+    line: &mut Cursor<'_, 'p>,
+) -> Result<Option<Step<'p>>, Failure<LineFault>>
+    ensures { ReadsForm (form_in forms word.now) line.old line.new result }
+{
+    Ok(by_word!(word,
+        b"set-info" => set_info(line)?,
+    ))
+}
+
 // `ID TEXT`
-#[tactic(auto, unfolding(crate::specs::Texts::id_and_text))]
-pub(crate) fn set_info<'p>(line: &mut Cursor<'_, 'p>) -> Result<Step<'p>, LineFault>
-    ensures { Reads (λ s. s) (operands_read form.SetInfo) line.old line.new result }
+#[tactic(auto, unfolding(crate::specs::Texts::set_info))]
+fn set_info<'p>(line: &mut Cursor<'_, 'p>) -> Result<Step<'p>, LineFault>
+    ensures { Reads (λ s. s) set_info line.old line.new result }
 {
     let id = info_id(line)?;
     let text = Lent::new(line.literal()?);
     Ok(Step::Text(TextStep::SetInfo { id, text }))
 }
 
+// ---- printed
+
+/// The word of a step's form.
+pub(crate) fn text_word(step: &TextStep<'_>) -> &'static [u8]
+    ensures { result.now ≡ (printed step.now).0 }
+{
+    match step {
+        TextStep::SetInfo { .. } => b"set-info",
+    }
+}
+
 pub(crate) fn put_text_step<W: Write>(step: &TextStep<'_>, output: &mut Output<'_, W>)
-    ensures { Puts W.contents output.old output.new (flat_map spaced (pieces_of (operands step.now))) }
+    ensures { Puts W.contents output.old output.new (flat_map spaced (pieces_of (printed step.now).1)) }
 {
     match step {
         TextStep::SetInfo { id, text } => put_set_info(*id, text, output),

@@ -6,9 +6,12 @@ ghost use Rattle.line_tokens.specs.Parts.{Reads};
 ghost use Rattle.line_tokens.specs.Printing.{spaced};
 ghost use Rattle.script_grammar.specs.Operands.{pieces_of};
 ghost use Rattle.script_grammar.specs.Memory.{ReadsOrWants};
+ghost use Rattle.edit_forms.specs.declared.zones.ZoneStep.TheVariants.{MoveZone, SplitZone, JoinZone, SetTarget};
+ghost use Rattle.step_script.specs.Forms.{form_in, ReadsForm};
 ghost use Rattle.step_script.specs.Owners.{of_zone};
-ghost use Rattle.step_script.specs.Zones.{operands, printed_zone, moved_zone_operands, split_operands, joined_operands, target_operands, add_zone, remove_zone, move_zone, split_zone, join_zone, set_target};
+ghost use Rattle.step_script.specs.Zones.{forms, printed, printed_zone, add_zone, remove_zone, move_zone, split_zone, join_zone, set_target};
 
+use crate::by_word::by_word;
 use crate::owners::{kind_piece, number_piece, owner_zone};
 use bank_changes::Owner;
 use bank_parts::Zone;
@@ -23,12 +26,28 @@ use zone_ranges::{Axis, Keep};
 
 // ---- read
 
-// `OWNER K ZONE`
-#[tactic(auto, unfolding(crate::specs::Zones::add_zone))]
-pub(crate) fn add_zone<'p>(
+/// The step of one of these forms, read from what stands behind its word; none where the word is no form's.
+#[tactic(auto, unfolding(crate::specs::Zones::forms, crate::specs::Forms::ReadsForm))]
+pub(crate) fn zone_step<'p>(
+    word: &[u8],
     alloc: Global,
     line: &mut Cursor<'_, 'p>,
-) -> Result<Step<'p>, Failure<LineFault>>
+) -> Result<Option<Step<'p>>, Failure<LineFault>>
+    ensures { ReadsForm (form_in forms word.now) line.old line.new result }
+{
+    Ok(by_word!(word,
+        b"add-zone" => add_zone(alloc, line)?,
+        b"remove-zone" => remove_zone(line)?,
+        b"move-zone" => move_zone(line)?,
+        b"split-zone" => split_zone(line)?,
+        b"join-zone" => join_zone(line)?,
+        b"set-target" => set_target(line)?,
+    ))
+}
+
+// `OWNER K ZONE`
+#[tactic(auto, unfolding(crate::specs::Zones::add_zone))]
+fn add_zone<'p>(alloc: Global, line: &mut Cursor<'_, 'p>) -> Result<Step<'p>, Failure<LineFault>>
     ensures { ReadsOrWants (λ s. s) add_zone line.old line.new result }
 {
     let (owner, at) = owner_zone(line)?;
@@ -38,7 +57,7 @@ pub(crate) fn add_zone<'p>(
 
 // `OWNER K`
 #[tactic(auto, unfolding(crate::specs::Zones::remove_zone))]
-pub(crate) fn remove_zone<'p>(line: &mut Cursor<'_, 'p>) -> Result<Step<'p>, LineFault>
+fn remove_zone<'p>(line: &mut Cursor<'_, 'p>) -> Result<Step<'p>, LineFault>
     ensures { Reads (λ s. s) remove_zone line.old line.new result }
 {
     let (owner, zone) = owner_zone(line)?;
@@ -47,7 +66,7 @@ pub(crate) fn remove_zone<'p>(line: &mut Cursor<'_, 'p>) -> Result<Step<'p>, Lin
 
 // `OWNER I J`
 #[tactic(auto, unfolding(crate::specs::Zones::move_zone))]
-pub(crate) fn move_zone<'p>(line: &mut Cursor<'_, 'p>) -> Result<Step<'p>, LineFault>
+fn move_zone<'p>(line: &mut Cursor<'_, 'p>) -> Result<Step<'p>, LineFault>
     ensures { Reads (λ s. s) move_zone line.old line.new result }
 {
     let (owner, from) = owner_zone(line)?;
@@ -57,7 +76,7 @@ pub(crate) fn move_zone<'p>(line: &mut Cursor<'_, 'p>) -> Result<Step<'p>, LineF
 
 // `OWNER K key|vel M`
 #[tactic(auto, unfolding(crate::specs::Zones::split_zone))]
-pub(crate) fn split_zone<'p>(line: &mut Cursor<'_, 'p>) -> Result<Step<'p>, LineFault>
+fn split_zone<'p>(line: &mut Cursor<'_, 'p>) -> Result<Step<'p>, LineFault>
     ensures { Reads (λ s. s) split_zone line.old line.new result }
 {
     let (owner, zone) = owner_zone(line)?;
@@ -68,7 +87,7 @@ pub(crate) fn split_zone<'p>(line: &mut Cursor<'_, 'p>) -> Result<Step<'p>, Line
 
 // `OWNER K key|vel keep|bare`
 #[tactic(auto, unfolding(crate::specs::Zones::join_zone))]
-pub(crate) fn join_zone<'p>(line: &mut Cursor<'_, 'p>) -> Result<Step<'p>, LineFault>
+fn join_zone<'p>(line: &mut Cursor<'_, 'p>) -> Result<Step<'p>, LineFault>
     ensures { Reads (λ s. s) join_zone line.old line.new result }
 {
     let (owner, zone) = owner_zone(line)?;
@@ -79,7 +98,7 @@ pub(crate) fn join_zone<'p>(line: &mut Cursor<'_, 'p>) -> Result<Step<'p>, LineF
 
 // `OWNER K TARGET`
 #[tactic(auto, unfolding(crate::specs::Zones::set_target))]
-pub(crate) fn set_target<'p>(line: &mut Cursor<'_, 'p>) -> Result<Step<'p>, LineFault>
+fn set_target<'p>(line: &mut Cursor<'_, 'p>) -> Result<Step<'p>, LineFault>
     ensures { Reads (λ s. s) set_target line.old line.new result }
 {
     let (owner, zone) = owner_zone(line)?;
@@ -89,8 +108,22 @@ pub(crate) fn set_target<'p>(line: &mut Cursor<'_, 'p>) -> Result<Step<'p>, Line
 
 // ---- printed
 
+/// The word of a step's form.
+pub(crate) fn zone_word(step: &ZoneStep) -> &'static [u8]
+    ensures { (owner : Owner) → result.now ≡ (printed owner step.now).0 }
+{
+    match step {
+        ZoneStep::AddZone { .. } => b"add-zone",
+        ZoneStep::RemoveZone { .. } => b"remove-zone",
+        ZoneStep::MoveZone { .. } => b"move-zone",
+        ZoneStep::SplitZone { .. } => b"split-zone",
+        ZoneStep::JoinZone { .. } => b"join-zone",
+        ZoneStep::SetTarget { .. } => b"set-target",
+    }
+}
+
 pub(crate) fn put_zone_step<W: Write>(owner: Owner, step: &ZoneStep, output: &mut Output<'_, W>)
-    ensures { Puts W.contents output.old output.new (flat_map spaced (pieces_of (operands owner step.now))) }
+    ensures { Puts W.contents output.old output.new (flat_map spaced (pieces_of (printed owner step.now).1)) }
 {
     match step {
         ZoneStep::AddZone { at, zone } => put_add_zone(owner, *at, zone, output),
@@ -121,7 +154,7 @@ fn put_owner_zone<W: Write>(owner: Owner, zone: u32, output: &mut Output<'_, W>)
 }
 
 fn put_move_zone<W: Write>(owner: Owner, from: u32, to: u32, output: &mut Output<'_, W>)
-    ensures { Puts W.contents output.old output.new (flat_map spaced (pieces_of (moved_zone_operands owner from to))) }
+    ensures { Puts W.contents output.old output.new (flat_map spaced (pieces_of (printed owner (MoveZone from to)).1)) }
 {
     let from = Piece::Number(u64::from(from));
     let to = Piece::Number(u64::from(to));
@@ -129,7 +162,7 @@ fn put_move_zone<W: Write>(owner: Owner, from: u32, to: u32, output: &mut Output
 }
 
 fn put_split_zone<W: Write>(owner: Owner, zone: u32, axis: Axis, at: u8, output: &mut Output<'_, W>)
-    ensures { Puts W.contents output.old output.new (flat_map spaced (pieces_of (split_operands owner zone axis at))) }
+    ensures { Puts W.contents output.old output.new (flat_map spaced (pieces_of (printed owner (SplitZone zone axis at)).1)) }
 {
     let zone = Piece::Number(u64::from(zone));
     let axis = Piece::Word(Lent::new(axis.word()));
@@ -147,7 +180,7 @@ fn put_join_zone<W: Write>(
     keep: Keep,
     output: &mut Output<'_, W>,
 )
-    ensures { Puts W.contents output.old output.new (flat_map spaced (pieces_of (joined_operands owner zone axis keep))) }
+    ensures { Puts W.contents output.old output.new (flat_map spaced (pieces_of (printed owner (JoinZone zone axis keep)).1)) }
 {
     let zone = Piece::Number(u64::from(zone));
     let axis = Piece::Word(Lent::new(axis.word()));
@@ -159,7 +192,7 @@ fn put_join_zone<W: Write>(
 }
 
 fn put_set_target<W: Write>(owner: Owner, zone: u32, target: u16, output: &mut Output<'_, W>)
-    ensures { Puts W.contents output.old output.new (flat_map spaced (pieces_of (target_operands owner zone target))) }
+    ensures { Puts W.contents output.old output.new (flat_map spaced (pieces_of (printed owner (SetTarget zone target)).1)) }
 {
     let zone = Piece::Number(u64::from(zone));
     let target = Piece::Number(u64::from(target));

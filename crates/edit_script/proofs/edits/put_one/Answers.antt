@@ -1,11 +1,11 @@
 use Rattle.line_tokens.proofs.PrintLaws.{puts_line}
 use Rattle.script_grammar.specs.Operands.{pieces_of}
-use Rattle.step_script.specs.Grammar.{form_word, form_of, operands}
+use Rattle.step_script.specs.Grammar.{word_of, operands}
 use Rattle.edit_script.specs.Printing.{text_of}
 use Rattle.edit_script.proofs.edits.put_one.Goals as goal
 
 pub returns : goal.returns
 unfolding text_of
 returns g c =
-    puts_line (form_word (form_of c.args.step.now)) (pieces_of (operands c.args.step.now))
+    puts_line (word_of c.args.step.now) (pieces_of (operands c.args.step.now))
     (rw c.word_of.ensures at c.put.ensures) c.put_operands.ensures c.put-2.ensures

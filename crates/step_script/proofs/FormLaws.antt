@@ -1,0 +1,59 @@
+-- A form that is found among several lists of forms is the first of them that has the word.
+use Rattle.std.proofs.Common.{◌≡◌, ◌++◌, ℕ, Bool, true, false, cond, List, [], ◌∷◌, Option, Some, None, Ok, Err}
+use Rattle.std.proofs.Common.{refl, sym, is_some, ◌∙◌}
+use Rattle.std.specs.Str.{bytes_eq}
+use Rattle.sf_base.specs.declared.memory.Failure.{Failure}
+use Rattle.edit_forms.specs.declared.step.Step.{Step}
+use Rattle.line_tokens.specs.declared.fault.LineFault.{LineFault}
+use Rattle.line_tokens.specs.Said as saying
+use Rattle.step_script.specs.Forms.{Form, form_word, form_in, ReadsForm}
+
+-- what the first of two lists has, is what both have; what it has not, the second has
+found_in_first : (xs ys : List Form) (w : List ℕ) (f : Form) → form_in xs w ≡ Some f → form_in (xs ++ ys) w ≡ Some f
+found_in_first [] ys w f e = cc
+found_in_first (x ∷ xs) ys w f e = from (bytes_eq w (form_word x)) (found_in_first xs ys w f) e
+  where
+    from : (b : Bool) → (form_in xs w ≡ Some f → form_in (xs ++ ys) w ≡ Some f)
+        → cond {A = Option Form} b (Some x) (form_in xs w) ≡ Some f
+        → cond {A = Option Form} b (Some x) (form_in (xs ++ ys) w) ≡ Some f
+    from true on e = e
+    from false on e = on e
+
+pub in_second : (xs ys : List Form) (w : List ℕ) → form_in xs w ≡ None → form_in (xs ++ ys) w ≡ form_in ys w
+in_second [] ys w e = refl
+in_second (x ∷ xs) ys w e = from (bytes_eq w (form_word x)) (in_second xs ys w) e
+  where
+    from : (b : Bool) → (form_in xs w ≡ None → form_in (xs ++ ys) w ≡ form_in ys w)
+        → cond {A = Option Form} b (Some x) (form_in xs w) ≡ None
+        → cond {A = Option Form} b (Some x) (form_in (xs ++ ys) w) ≡ form_in ys w
+    from true on e = cc
+    from false on e = on e
+
+pub in_first : (xs ys : List Form) (w : List ℕ) → is_some (form_in xs w) ≡ true → form_in (xs ++ ys) w ≡ form_in xs w
+in_first xs ys w e = from (form_in xs w) refl e
+  where
+    from : (o : Option Form) → form_in xs w ≡ o → is_some o ≡ true → form_in (xs ++ ys) w ≡ form_in xs w
+    from None k e = cc
+    from (Some f) k e = found_in_first xs ys w f k ∙ sym k
+
+module _ (form : Option Form) (old new : saying.Left) where
+  -- what is answered is of a form that is found, unless nothing is
+  pub found_some : (s : Step) → ReadsForm form old new (Ok (Some s)) → is_some form ≡ true
+  unfolding ReadsForm
+  found_some s h = from form h
+    where
+      from : (o : Option Form) → ReadsForm o old new (Ok (Some s)) → is_some o ≡ true
+      from None h = cc
+      from (Some f) h = refl
+
+  pub failed_some : (e : Failure LineFault) → ReadsForm form old new (Err e) → is_some form ≡ true
+  unfolding ReadsForm
+  failed_some e h = h.0
+
+  pub passed_form : ReadsForm form old new (Ok None) → form ≡ None
+  unfolding ReadsForm
+  passed_form h = h.0
+
+  pub passed_line : ReadsForm form old new (Ok None) → new ≡ old
+  unfolding ReadsForm
+  passed_line h = h.1
