@@ -57,3 +57,6 @@ module _ (form : Option Form) (old new : saying.Left) where
   pub passed_line : ReadsForm form old new (Ok None) → new ≡ old
   unfolding ReadsForm
   passed_line h = h.1
+
+-- what a form that is sought in one list, and then in another, is in both
+pub ruleset sought = (in_first, in_second, found_some, failed_some, passed_form, passed_line)

@@ -149,7 +149,7 @@ step_lawful s =
 
 -- a form that was read has its row
 read_row : (line : List Said) (t : Took Form) → a_form line ≡ Ok t → Row t.value
-unfolding a_form next_named
+unfolding next_named
 read_row line t e =
     let w = both (word line) (λ w. or_fault faults.Syntax (form_in forms w)) t e in
     let found = or_fault_is faults.Syntax (form_in forms w.first.value) w.first.rest t w.second in
@@ -157,7 +157,7 @@ read_row line t e =
 
 -- what is read as a step says it
 pub step_said : IsSaid Step step SaysWhole
-unfolding step a_form
+unfolding step
 step_said line t g e =
     let u = both (a_form line) (λ f. f.1) t e in
     let f = u.first.value in
@@ -179,7 +179,7 @@ step_said line t g e =
 -- what says a step is read as it
 pub gives_step : (s : Step) (os more : List Operand) → EndsZones more → SaysWhole s os → (line : List Said)
     → AllSay line (os ++ more) → Gives step s line more
-unfolding step a_form
+unfolding step
 gives_step s os more end h line k =
     let o = of_step s in
     let word = has_word s in
@@ -193,7 +193,7 @@ gives_step s os more end h line k =
 
 -- it leaves no more tokens than there were
 pub step_keeps : Keeps step
-unfolding step a_form
+unfolding step
 step_keeps line t e =
     let u = both (a_form line) (λ f. f.1) t e in
     let behind : length t.rest ≤ length u.first.rest =

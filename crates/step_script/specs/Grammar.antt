@@ -62,7 +62,7 @@ step_operands s = Fixed (word_of s) ∷ operands s
 -- ---- how it is read
 
 -- the form whose word is next
-unfoldable pub a_form : Part Form
+abbrev pub a_form : Part Form
 a_form = next_named form_word forms
 
 unfoldable pub step : Part Step

@@ -26,7 +26,7 @@ use std::io::Write;
 
 /// The step that begins here: the word of a form, and what stands behind it. The first fault from left
 /// to right is answered; out of memory may come in place of either.
-#[tactic(auto, unfolding(crate::specs::Grammar::step, crate::specs::Grammar::a_form, crate::specs::Forms::ReadsForm, script_grammar::specs::Names::next_named))]
+#[tactic(auto, unfolding(crate::specs::Grammar::step, crate::specs::Forms::ReadsForm, script_grammar::specs::Names::next_named))]
 pub fn step<'p>(alloc: Global, line: &mut Cursor<'_, 'p>) -> Result<Step<'p>, Failure<LineFault>>
     ensures { ReadsOrWants (λ s. s) step line.old line.new result }
 {
@@ -36,7 +36,7 @@ pub fn step<'p>(alloc: Global, line: &mut Cursor<'_, 'p>) -> Result<Step<'p>, Fa
 }
 
 // The step of the form that has this word, read from what stands behind it; none where the word is no form's.
-#[tactic(auto, using(crate::proofs::FormLaws::in_first, crate::proofs::FormLaws::in_second, crate::proofs::FormLaws::found_some, crate::proofs::FormLaws::failed_some, crate::proofs::FormLaws::passed_form, crate::proofs::FormLaws::passed_line))]
+#[tactic(auto, using(crate::proofs::FormLaws::sought))]
 fn step_of_form<'p>(
     word: &[u8],
     alloc: Global,
