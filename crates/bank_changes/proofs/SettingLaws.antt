@@ -45,28 +45,23 @@ use Rattle.bank_changes.proofs.PlaceLaws.{changed_there}
 
 pub gen_set_is : (b : Parts) (o : Owner) (at : Place) (op amount : ℕ)
     → gen_set b o at op amount ≡ own_place_changed b o at (λ s. with_gens (map.insert s.gens op amount) s)
-gen_set_is b (Preset p) at op amount = refl
-gen_set_is b (Instrument i) at op amount = refl
+gen_set_is b o at op amount = refl
 
 pub gen_cleared_is : (b : Parts) (o : Owner) (at : Place) (op : ℕ)
     → gen_cleared b o at op ≡ own_place_changed b o at (λ s. with_gens (map.remove s.gens op) s)
-gen_cleared_is b (Preset p) at op = refl
-gen_cleared_is b (Instrument i) at op = refl
+gen_cleared_is b o at op = refl
 
 pub mod_added_is : (b : Parts) (o : Owner) (at : Place) (j : ℕ) (m : Modulator)
     → mod_added b o at j m ≡ own_place_changed b o at (λ s. with_mods (insert s.mods j m) s)
-mod_added_is b (Preset p) at j m = refl
-mod_added_is b (Instrument i) at j m = refl
+mod_added_is b o at j m = refl
 
 pub mod_removed_is : (b : Parts) (o : Owner) (at : Place) (j : ℕ)
     → mod_removed b o at j ≡ own_place_changed b o at (λ s. with_mods (remove s.mods j) s)
-mod_removed_is b (Preset p) at j = refl
-mod_removed_is b (Instrument i) at j = refl
+mod_removed_is b o at j = refl
 
 pub mod_set_is : (b : Parts) (o : Owner) (at : Place) (j : ℕ) (m : Modulator)
     → mod_set b o at j m ≡ own_place_changed b o at (λ s. with_mods (slice_set s.mods j m) s)
-mod_set_is b (Preset p) at j m = refl
-mod_set_is b (Instrument i) at j m = refl
+mod_set_is b o at j m = refl
 
 -- ---- each keeps what holds of all settings
 
