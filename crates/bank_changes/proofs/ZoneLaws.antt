@@ -6,9 +6,7 @@ use Rattle.std.specs.List.{AllByRecursion}
 use Rattle.std.specs.FinMap.{len}
 use Rattle.std.proofs.lemmas.List.Sums.{sum_by-cons}
 use Rattle.numbered_lists.proofs.Lists.{changed-found, length-changed}
-use Rattle.sf_base.specs.Names.{IsName}
 use Rattle.generators.specs.declared.level.Level.{Level}
-use Rattle.generators.specs.declared.level.Level.TheVariants as level
 use Rattle.bank_parts.specs.declared.counting.Records.{Records}
 use Rattle.bank_validity.specs.declared.totals.Totals.{Totals}
 use Rattle.bank_parts.specs.declared.parts.GlobalZone.{GlobalZone}
@@ -18,13 +16,12 @@ use Rattle.bank_parts.specs.declared.parts.WithZones.{WithZones}
 use Rattle.bank_parts.specs.declared.parts.Parts.{Parts}
 use Rattle.bank_parts.specs.Counts.{records_of_zone, records_total, records_sum}
 use Rattle.bank_parts.specs.Settings.{zones_at, with_zones, zones_changed}
-use Rattle.bank_parts.specs.Valid.{IsZone, IsOwner, IsPreset, IsInstrument, owner_total, global_count, zone_count}
+use Rattle.bank_parts.specs.Valid.{IsZone, owner_total, global_count, zone_count}
 use Rattle.bank_parts.specs.Valid.{gen_count, mod_count}
-use Rattle.bank_parts.specs.Fits.{FitsZone, FitsHead, FitsOwner}
+use Rattle.bank_parts.specs.Fits.{FitsZone}
 use Rattle.bank_parts.specs.Sound.{IsSound}
 use Rattle.bank_validity.specs.Limits.{totals_of, level_totals, totals_at, plus_records, broken_limit}
 use Rattle.bank_validity.proofs.LevelLaws.{changed_by, changed_twice}
-use Rattle.bank_validity.proofs.LimitLaws.{limits_of}
 use Rattle.bank_parts.proofs.SettingLaws.{source}
 use Rattle.bank_changes.specs.declared.members.Owner.{Owner}
 use Rattle.bank_changes.specs.declared.members.Owner.TheVariants as owner
@@ -32,7 +29,7 @@ use Rattle.bank_changes.specs.Members.{zones_of, level_of, target_count}
 use Rattle.bank_changes.specs.Totals.{with_records}
 use Rattle.bank_changes.specs.Zones.{own_zones_changed}
 use Rattle.bank_changes.proofs.OwnerLaws.{of_sound, sound_owner_changed}
-use Rattle.bank_changes.proofs.Changes.{all_found, all_changed, sum-exchanged}
+use Rattle.bank_changes.proofs.Changes.{sum-exchanged}
 use Rattle.bank_changes.proofs.TotalsLaws.{records_grow}
 
 -- ---- a list of members of which one has other zones
