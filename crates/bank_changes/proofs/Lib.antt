@@ -1,6 +1,7 @@
 pub mod Changes
 pub mod Everywhere
 pub mod Moves
+pub mod OwnerLaws
 pub mod OwnerReferences
 pub mod References
 pub mod TotalsLaws

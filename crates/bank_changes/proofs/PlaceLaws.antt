@@ -5,17 +5,14 @@ use Rattle.std.specs.Prelude.{slice_get, sum_by, if◌then◌else◌, ◌==◌}
 use Rattle.std.specs.Option.{is_some, option_map, option_map_or}
 use Rattle.std.specs.FinMap.{len, len-empty}
 use Rattle.std.proofs.lemmas.Bool.Decides.{nat_tests}
-use Rattle.sf_base.specs.Names.{IsName}
 use Rattle.numbered_lists.specs.Moved.{changed}
 use Rattle.numbered_lists.proofs.Lists.{slice_get-within, changed-found, length-changed}
 use Rattle.generators.specs.Gens.{no_gens, operator_cmp}
 use Rattle.generators.specs.declared.level.Level.{Level}
-use Rattle.generators.specs.declared.level.Level.TheVariants as level
 use Rattle.bank_parts.specs.declared.counting.Records.{Records}
 use Rattle.bank_validity.specs.declared.totals.Totals.{Totals}
 use Rattle.bank_parts.specs.declared.owners.ZonePlace.{ZonePlace}
 use Rattle.bank_parts.specs.declared.owners.ZonePlace.TheVariants as place
-use Rattle.bank_parts.specs.declared.parts.Head.{Head}
 use Rattle.bank_parts.specs.declared.parts.Zone.{Zone}
 use Rattle.bank_parts.specs.declared.parts.WithZones.{WithZones}
 use Rattle.bank_parts.specs.declared.parts.Parts.{Parts}
@@ -24,20 +21,21 @@ use Rattle.bank_parts.specs.Settings.{Settings, settings_of_zone, zone_with_sett
 use Rattle.bank_parts.specs.Settings.{settings_at, place_changed}
 use Rattle.bank_parts.specs.Valid.{IsZone, IsOwner, AreGenerators, zone_count, gen_count, mod_count, owner_total}
 use Rattle.bank_parts.specs.Valid.{global_count}
-use Rattle.bank_parts.specs.Fits.{FitsGlobal, FitsZone, FitsOwner, FitsHead}
+use Rattle.bank_parts.specs.Fits.{FitsGlobal, FitsZone, FitsOwner}
 use Rattle.bank_parts.specs.Sound.{IsSound}
 use Rattle.bank_validity.specs.declared.totals.LevelTotals.{LevelTotals}
 use Rattle.bank_validity.specs.Limits.{totals_of, level_totals, totals_at, plus_records, broken, broken_limit}
 use Rattle.bank_validity.proofs.LevelLaws.{changed_at}
-use Rattle.bank_validity.proofs.LimitLaws.{limits_of, no_limit_of}
+use Rattle.bank_validity.proofs.LimitLaws.{no_limit_of}
 use Rattle.bank_parts.proofs.SettingLaws.{source, given, place_read}
 use Rattle.bank_changes.specs.declared.members.Owner.{Owner}
 use Rattle.bank_changes.specs.declared.members.Owner.TheVariants.{Preset, Instrument}
 use Rattle.bank_changes.specs.declared.members.Place.{Place}
-use Rattle.bank_changes.specs.Members.{zone_place, settings_of, level_of}
+use Rattle.bank_changes.specs.Members.{zone_place, settings_of, level_of, target_count}
 use Rattle.bank_changes.specs.Settings.{own_place_changed, records_of_place, no_records, records_there}
 use Rattle.bank_changes.specs.Totals.{with_records, HasRecords}
 use Rattle.bank_changes.proofs.Changes.{all_changed, all_found, sum-exchanged}
+use Rattle.bank_changes.proofs.OwnerLaws.{of_sound, sound_owner_changed}
 use Rattle.bank_changes.proofs.RecountLaws.{AreNoMore, no_more_within}
 
 -- ---- a place that is there
@@ -104,57 +102,10 @@ pub record Keeps (lvl : Level) (f : Settings → Settings) : Type 0 where
 pub sound_place_changed : (b : Parts) (o : Owner) (at : Place) (f : Settings → Settings) → IsSound b
     → Keeps (level_of o) f → broken_limit (own_place_changed b o at f) ≡ None
     → IsSound (own_place_changed b o at f)
-sound_place_changed b (Preset p) at f sound keeps within =
-    let v = sound.valid in
-    let t = sound.fits in
-    let change : WithZones Head → WithZones Head = settings_changed (zone_place at) f in
-    record {
-      valid = record {
-        texts = v.texts;
-        presets =
-            all_changed change (IsOwner (λ (h : Head). h.name) level.Preset (length b.instruments))
-            (owner_stays level.Preset (length b.instruments) f keeps.valid (λ (h : Head). h.name) (zone_place at))
-            b.presets p v.presets;
-        instruments = v.instruments;
-        samples = v.samples;
-        limits = limits_of (own_place_changed b (Preset p) at f) within;
-      };
-      fits = record {
-        minor = t.minor;
-        texts = t.texts;
-        presets =
-            all_changed change (FitsOwner FitsHead) (owner_fits_still f keeps.fits FitsHead (zone_place at))
-            b.presets p t.presets;
-        instruments = t.instruments;
-        samples = t.samples;
-      };
-    }
-sound_place_changed b (Instrument i) at f sound keeps within =
-    let v = sound.valid in
-    let t = sound.fits in
-    let change : WithZones (List ℕ) → WithZones (List ℕ) = settings_changed (zone_place at) f in
-    record {
-      valid = record {
-        texts = v.texts;
-        presets = rw (length-changed b.instruments i change) v.presets;
-        instruments =
-            all_changed change (IsOwner (λ (name : List ℕ). name) level.Instrument (length b.samples))
-            (owner_stays level.Instrument (length b.samples) f keeps.valid (λ (name : List ℕ). name)
-            (zone_place at))
-            b.instruments i v.instruments;
-        samples = v.samples;
-        limits = limits_of (own_place_changed b (Instrument i) at f) within;
-      };
-      fits = record {
-        minor = t.minor;
-        texts = t.texts;
-        presets = t.presets;
-        instruments =
-            all_changed change (FitsOwner IsName) (owner_fits_still f keeps.fits IsName (zone_place at))
-            b.instruments i t.instruments;
-        samples = t.samples;
-      };
-    }
+sound_place_changed b o at f sound keeps within =
+    sound_owner_changed b o (λ _. settings_changed (zone_place at) f)
+    (λ _ name_of. owner_stays (level_of o) (target_count b o) f keeps.valid name_of (zone_place at))
+    (λ _ IsFit. owner_fits_still f keeps.fits IsFit (zone_place at)) sound within
 
 -- the settings of a sound bank
 
@@ -178,27 +129,22 @@ member_fits IsFit (place.Zone k) x s e fits =
 
 pub gens_of_sound : (b : Parts) (o : Owner) (at : Place) (s : Settings) → IsSound b → settings_of b o at ≡ Some s
     → AreGenerators (level_of o) s.gens
-gens_of_sound b (Preset p) at s sound e =
-    let x = given (settings_in (zone_place at)) (slice_get b.presets p) s e in
-    member_gens (λ (h : Head). h.name) level.Preset (length b.instruments) (zone_place at) x.member s x.gives
-    (all_found (IsOwner (λ (h : Head). h.name) level.Preset (length b.instruments)) b.presets p x.member x.there
-    sound.valid.presets)
-gens_of_sound b (Instrument i) at s sound e =
-    let x = given (settings_in (zone_place at)) (slice_get b.instruments i) s e in
-    member_gens (λ (name : List ℕ). name) level.Instrument (length b.samples) (zone_place at) x.member s x.gives
-    (all_found (IsOwner (λ (name : List ℕ). name) level.Instrument (length b.samples)) b.instruments i x.member
-    x.there sound.valid.instruments)
+gens_of_sound b o at s sound =
+    of_sound b o (λ _ owners i. settings_at owners i (zone_place at)) (λ (s : Settings). AreGenerators (level_of o) s.gens)
+    (λ _ name_of IsFit owners i are s e.
+    let x = given (settings_in (zone_place at)) (slice_get owners i) s e in
+    member_gens name_of (level_of o) (target_count b o) (zone_place at) x.member s x.gives
+    (are x.member x.there).0)
+    sound s
 
 pub settings_fit : (b : Parts) (o : Owner) (at : Place) (s : Settings) → IsSound b → settings_of b o at ≡ Some s
     → FitsGlobal s
-settings_fit b (Preset p) at s sound e =
-    let x = given (settings_in (zone_place at)) (slice_get b.presets p) s e in
-    member_fits FitsHead (zone_place at) x.member s x.gives
-    (all_found (FitsOwner FitsHead) b.presets p x.member x.there sound.fits.presets)
-settings_fit b (Instrument i) at s sound e =
-    let x = given (settings_in (zone_place at)) (slice_get b.instruments i) s e in
-    member_fits IsName (zone_place at) x.member s x.gives
-    (all_found (FitsOwner IsName) b.instruments i x.member x.there sound.fits.instruments)
+settings_fit b o at s sound =
+    of_sound b o (λ _ owners i. settings_at owners i (zone_place at)) FitsGlobal
+    (λ _ name_of IsFit owners i are s e.
+    let x = given (settings_in (zone_place at)) (slice_get owners i) s e in
+    member_fits IsFit (zone_place at) x.member s x.gives (are x.member x.there).1)
+    sound s
 
 -- ---- totals
 

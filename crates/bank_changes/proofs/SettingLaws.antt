@@ -1,6 +1,6 @@
 -- The raw changes of generators and modulators: each keeps a bank sound, and is taken back.
 use Rattle.std.proofs.Common.{◌≡◌, ◌<◌, ◌≤◌, ◌+◌, ◌^◌, ℕ, List, length, insert, remove, take, drop, ◌∷◌, Some, None}
-use Rattle.std.proofs.Common.{IsSome, refl, sym, ◌∙◌, ap, subst, arith}
+use Rattle.std.proofs.Common.{IsSome, sym, ◌∙◌, ap, subst, arith}
 use Rattle.sf_base.specs.declared.limits.TheConstants.{GENERATORS, MODULATORS}
 use Rattle.std.specs.Prelude.{◌-◌, slice_set, if◌then◌else◌, ◌==◌}
 use Rattle.std.specs.Option.{option_and_then}
@@ -41,33 +41,6 @@ use Rattle.bank_changes.proofs.Everywhere.{all_insert, all_remove}
 use Rattle.bank_changes.proofs.PlaceLaws.{Keeps, sound_place_changed, within_no_more, records_found, has_records}
 use Rattle.bank_changes.proofs.PlaceLaws.{changed_there}
 
--- ---- each is a change of what the place holds
-
-pub gen_set_is : (b : Parts) (o : Owner) (at : Place) (op amount : ℕ)
-    → gen_set b o at op amount ≡ own_place_changed b o at (λ s. with_gens (map.insert s.gens op amount) s)
-gen_set_is b (Preset p) at op amount = refl
-gen_set_is b (Instrument i) at op amount = refl
-
-pub gen_cleared_is : (b : Parts) (o : Owner) (at : Place) (op : ℕ)
-    → gen_cleared b o at op ≡ own_place_changed b o at (λ s. with_gens (map.remove s.gens op) s)
-gen_cleared_is b (Preset p) at op = refl
-gen_cleared_is b (Instrument i) at op = refl
-
-pub mod_added_is : (b : Parts) (o : Owner) (at : Place) (j : ℕ) (m : Modulator)
-    → mod_added b o at j m ≡ own_place_changed b o at (λ s. with_mods (insert s.mods j m) s)
-mod_added_is b (Preset p) at j m = refl
-mod_added_is b (Instrument i) at j m = refl
-
-pub mod_removed_is : (b : Parts) (o : Owner) (at : Place) (j : ℕ)
-    → mod_removed b o at j ≡ own_place_changed b o at (λ s. with_mods (remove s.mods j) s)
-mod_removed_is b (Preset p) at j = refl
-mod_removed_is b (Instrument i) at j = refl
-
-pub mod_set_is : (b : Parts) (o : Owner) (at : Place) (j : ℕ) (m : Modulator)
-    → mod_set b o at j m ≡ own_place_changed b o at (λ s. with_mods (slice_set s.mods j m) s)
-mod_set_is b (Preset p) at j m = refl
-mod_set_is b (Instrument i) at j m = refl
-
 -- ---- each keeps what holds of all settings
 
 gen_set_keeps : (lvl : Level) (op amount : ℕ) → IsGenerator lvl (op, amount) → op < 2 ^ 16 → amount < 2 ^ 16
@@ -96,46 +69,30 @@ mods_keep lvl change keeps = record {
 module _ (b : Parts) (o : Owner) (at : Place) (sound : IsSound b) where
   pub sound_gen_set : (op amount : ℕ) → IsGenerator (level_of o) (op, amount) → op < 2 ^ 16 → amount < 2 ^ 16
       → broken_limit (gen_set b o at op amount) ≡ None → IsSound (gen_set b o at op amount)
-  sound_gen_set op amount is p q e =
-      let same = gen_set_is b o at op amount in
-      rw same
-      (sound_place_changed b o at (λ s. with_gens (map.insert s.gens op amount) s) sound
-      (gen_set_keeps (level_of o) op amount is p q) (rw same at e))
+  sound_gen_set op amount is p q =
+      sound_place_changed b o at (λ s. with_gens (map.insert s.gens op amount) s) sound
+      (gen_set_keeps (level_of o) op amount is p q)
 
   pub sound_gen_cleared : (op : ℕ) → broken_limit (gen_cleared b o at op) ≡ None → IsSound (gen_cleared b o at op)
-  sound_gen_cleared op e =
-      let same = gen_cleared_is b o at op in
-      rw same
-      (sound_place_changed b o at (λ s. with_gens (map.remove s.gens op) s) sound
-      (gen_cleared_keeps (level_of o) op) (rw same at e))
+  sound_gen_cleared op =
+      sound_place_changed b o at (λ s. with_gens (map.remove s.gens op) s) sound (gen_cleared_keeps (level_of o) op)
 
   pub sound_mod_added : (j : ℕ) (m : Modulator) → FitsModulator m → broken_limit (mod_added b o at j m) ≡ None
       → IsSound (mod_added b o at j m)
-  sound_mod_added j m fits e =
-      let same = mod_added_is b o at j m in
-      rw same
-      (sound_place_changed b o at (λ s. with_mods (insert s.mods j m) s) sound
-      (mods_keep (level_of o) (λ mods. insert mods j m)
-      (λ mods all. all_insert FitsModulator mods j m fits all))
-      (rw same at e))
+  sound_mod_added j m fits =
+      sound_place_changed b o at (λ s. with_mods (insert s.mods j m) s) sound
+      (mods_keep (level_of o) (λ mods. insert mods j m) (λ mods all. all_insert FitsModulator mods j m fits all))
 
   pub sound_mod_removed : (j : ℕ) → broken_limit (mod_removed b o at j) ≡ None → IsSound (mod_removed b o at j)
-  sound_mod_removed j e =
-      let same = mod_removed_is b o at j in
-      rw same
-      (sound_place_changed b o at (λ s. with_mods (remove s.mods j) s) sound
+  sound_mod_removed j =
+      sound_place_changed b o at (λ s. with_mods (remove s.mods j) s) sound
       (mods_keep (level_of o) (λ mods. remove mods j) (λ mods all. all_remove FitsModulator mods j all))
-      (rw same at e))
 
   pub sound_mod_set : (j : ℕ) (m : Modulator) → FitsModulator m → broken_limit (mod_set b o at j m) ≡ None
       → IsSound (mod_set b o at j m)
-  sound_mod_set j m fits e =
-      let same = mod_set_is b o at j m in
-      rw same
-      (sound_place_changed b o at (λ s. with_mods (slice_set s.mods j m) s) sound
-      (mods_keep (level_of o) (λ mods. slice_set mods j m)
-      (λ mods all. all_set FitsModulator mods j m fits all))
-      (rw same at e))
+  sound_mod_set j m fits =
+      sound_place_changed b o at (λ s. with_mods (slice_set s.mods j m) s) sound
+      (mods_keep (level_of o) (λ mods. slice_set mods j m) (λ mods all. all_set FitsModulator mods j m fits all))
 
 -- ---- amounts
 
@@ -160,15 +117,13 @@ module _ (b : Parts) (o : Owner) (at : Place) (op : ℕ) (s : Settings) (there :
   -- an amount in the place of another
   pub within_gen_replaced : (amount : ℕ) → IsSome (map.get s.gens op) → broken_limit (gen_set b o at op amount) ≡ None
   within_gen_replaced amount set =
-      ap broken_limit (gen_set_is b o at op amount)
-      ∙ within_no_more b o at (λ s. with_gens (map.insert s.gens op amount) s) s there sound
+      within_no_more b o at (λ s. with_gens (map.insert s.gens op amount) s) s there sound
       (same_length (len (map.insert s.gens op amount)) (len s.gens) (gens.len-insert_present s.gens op amount set))
       (omega arith)
 
   pub within_gen_cleared : IsSome (map.get s.gens op) → broken_limit (gen_cleared b o at op) ≡ None
   within_gen_cleared set =
-      ap broken_limit (gen_cleared_is b o at op)
-      ∙ within_no_more b o at (λ s. with_gens (map.remove s.gens op) s) s there sound
+      within_no_more b o at (λ s. with_gens (map.remove s.gens op) s) s there sound
       (no_longer (len (map.remove s.gens op)) (len s.gens) (gens.len-remove_present s.gens op set)) (omega arith)
 
 -- ---- one generator or one modulator more
@@ -216,14 +171,12 @@ module _ (b : Parts) (o : Owner) (at : Place) (j : ℕ) (s : Settings) (there : 
   pub within_mod_removed : j < length s.mods → broken_limit (mod_removed b o at j) ≡ None
   within_mod_removed lt =
       let fewer = length-remove s.mods j lt in
-      ap broken_limit (mod_removed_is b o at j)
-      ∙ within_no_more b o at (λ s. with_mods (remove s.mods j) s) s there sound (omega arith)
+      within_no_more b o at (λ s. with_mods (remove s.mods j) s) s there sound (omega arith)
       (omega (arith, fewer, lt))
 
   pub within_mod_set : (m : Modulator) → broken_limit (mod_set b o at j m) ≡ None
   within_mod_set m =
-      ap broken_limit (mod_set_is b o at j m)
-      ∙ within_no_more b o at (λ s. with_mods (slice_set s.mods j m) s) s there sound (omega arith)
+      within_no_more b o at (λ s. with_mods (slice_set s.mods j m) s) s there sound (omega arith)
       (same_length (length (slice_set s.mods j m)) (length s.mods) (length-slice_set s.mods j m))
 
 few_records : (lvl : Level) (t : Totals) (r : Records) → HasRecords lvl t r → broken t ≡ None
@@ -268,8 +221,7 @@ module _ (b : Parts) (o : Owner) (at : Place) (s : Settings) (there : settings_o
         in
         (λ k. let r : Records = record { zones = zones k; gens = gens k; mods = mods_there at was_there k } in r)
         ∙ (sym (gen_more at s op amount unset)
-        ∙ (sym (records_found (own_place_changed b o at f) o at (f s) (changed_there b o at f s there))
-        ∙ ap (λ (c : Parts). records_there c o at) (sym (gen_set_is b o at op amount))))
+        ∙ sym (records_found (own_place_changed b o at f) o at (f s) (changed_there b o at f s there)))
 
     pub mod_records : (j : ℕ) (m : Modulator) → n ≡ counted (before.mods + 1)
         → (let r : Records = record { zones = z; gens = before.gens; mods = n } in r)
@@ -284,5 +236,4 @@ module _ (b : Parts) (o : Owner) (at : Place) (s : Settings) (there : settings_o
         in
         (λ k. let r : Records = record { zones = zones k; gens = gens_there at was_there k; mods = mods k } in r)
         ∙ (sym (mod_more at s j m)
-        ∙ (sym (records_found (own_place_changed b o at f) o at (f s) (changed_there b o at f s there))
-        ∙ ap (λ (c : Parts). records_there c o at) (sym (mod_added_is b o at j m))))
+        ∙ sym (records_found (own_place_changed b o at f) o at (f s) (changed_there b o at f s there)))

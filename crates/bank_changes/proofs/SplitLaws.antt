@@ -11,7 +11,8 @@ use Rattle.bank_parts.specs.declared.parts.GlobalZone.{GlobalZone}
 use Rattle.bank_parts.specs.declared.parts.Zone.{Zone}
 use Rattle.bank_parts.specs.declared.parts.Parts.{Parts}
 use Rattle.bank_parts.specs.Counts.{records_sum}
-use Rattle.bank_parts.specs.Valid.{IsZone, IsPreset, IsInstrument, AreGenerators}
+use Rattle.bank_parts.specs.declared.parts.WithZones.{WithZones}
+use Rattle.bank_parts.specs.Valid.{IsZone}
 use Rattle.bank_parts.specs.Fits.{FitsZone}
 use Rattle.bank_parts.specs.Sound.{IsSound}
 use Rattle.bank_validity.specs.Limits.{totals_of, broken, broken_limit}
@@ -30,10 +31,12 @@ use Rattle.zone_ranges.proofs.PartLaws.{valid_with, fits_with, range_holds, own_
 use Rattle.zone_ranges.proofs.PartLaws.{upper_is_range, joined_range, valid_joined, fits_joined}
 use Rattle.bank_changes.specs.declared.members.Owner.{Owner}
 use Rattle.bank_changes.specs.declared.members.Owner.TheVariants as owner
-use Rattle.bank_changes.specs.Members.{own_zone_count, zones_of, zone_of, level_of, target_count}
+use Rattle.bank_changes.specs.declared.members.Place.TheVariants as place
+use Rattle.bank_changes.specs.Members.{own_zone_count, settings_of, zones_of, zone_of, level_of, target_count}
 use Rattle.bank_changes.specs.Totals.{with_records}
 use Rattle.bank_changes.specs.Zones.{zone_split, zone_joined, can_split, can_join}
-use Rattle.bank_changes.proofs.Changes.{all_found, sum-removed, sum-exchanged}
+use Rattle.bank_changes.proofs.Changes.{sum-removed, sum-exchanged}
+use Rattle.bank_changes.proofs.PlaceLaws.{gens_of_sound}
 use Rattle.bank_changes.proofs.TotalsLaws.{records_grow}
 use Rattle.bank_changes.proofs.ZoneChangeLaws.{own_count, zone_is, with_presets, with_instruments}
 use Rattle.bank_changes.proofs.ZoneLaws.{zones_put, sound_zones_put, zones_valid, zones_fit, records_of_zones}
@@ -44,32 +47,21 @@ use Rattle.bank_changes.proofs.ZoneLaws.{totals_zones_more, totals_zones_less}
 -- zone k of an owner
 pub record OwnZone (b : Parts) (o : Owner) (k : ℕ) : Type 0 where
   pub global : GlobalZone
-  pub valid : IsSound b → AreGenerators (level_of o) global.gens
+  pub global_there : settings_of b o place.Global ≡ Some global
   pub zones : List Zone
   pub there : zones_of b o ≡ Some zones
   pub zone : Zone
   pub at : slice_get zones k ≡ Some zone
 
-abbrev of_preset : (b : Parts) (p k : ℕ) → ZoneThere b.presets p k → OwnZone b (owner.Preset p) k
-of_preset b p k t = record {
+-- as it stands in the list of presets or of instruments
+abbrev own_zone : {H : Type 0} {owners : List (WithZones H)} {i : ℕ} (b : Parts) (o : Owner) (k : ℕ)
+    (t : ZoneThere owners i k)
+    → settings_of b o place.Global ≡ Some t.member.global → zones_of b o ≡ Some t.member.zones → OwnZone b o k
+own_zone b o k t global zones = record {
   global = t.member.global;
-  valid =
-      λ sound.
-      (all_found (IsPreset (length b.instruments)) b.presets p t.member t.there sound.valid.presets).zones.global;
+  global_there = global;
   zones = t.member.zones;
-  there = zones_there b.presets p k t;
-  zone = t.zone;
-  at = t.zone_there;
-}
-
-abbrev of_instrument : (b : Parts) (i k : ℕ) → ZoneThere b.instruments i k → OwnZone b (owner.Instrument i) k
-of_instrument b i k t = record {
-  global = t.member.global;
-  valid =
-      λ sound.
-      (all_found (IsInstrument (length b.samples)) b.instruments i t.member t.there sound.valid.instruments).zones.global;
-  zones = t.member.zones;
-  there = zones_there b.instruments i k t;
+  there = zones;
   zone = t.zone;
   at = t.zone_there;
 }
@@ -85,19 +77,15 @@ pub split : (b : Parts) (o : Owner) (k : ℕ) (axis : Axis) (m : ℕ) → can_sp
 split b (owner.Preset p) k axis m h =
     let s = split_there axis m b.presets p k h in
     record {
-      own =
-          of_preset b p k s.at;
-      inside =
-          s.inside;
+      own = own_zone b (owner.Preset p) k s.at (rw s.at.there refl) (zones_there b.presets p k s.at);
+      inside = s.inside;
       put = ap (with_presets b) (split_is_put b.presets p k s.at axis m);
     }
 split b (owner.Instrument i) k axis m h =
     let s = split_there axis m b.instruments i k h in
     record {
-      own =
-          of_instrument b i k s.at;
-      inside =
-          s.inside;
+      own = own_zone b (owner.Instrument i) k s.at (rw s.at.there refl) (zones_there b.instruments i k s.at);
+      inside = s.inside;
       put = ap (with_instruments b) (split_is_put b.instruments i k s.at axis m);
     }
 
@@ -113,11 +101,13 @@ pub join : (b : Parts) (o : Owner) (k : ℕ) (axis : Axis) (keep : Keep) → can
 join b (owner.Preset p) k axis keep h =
     let s = join_there axis keep b.presets p k h in
     let put = ap (with_presets b) (join_is_put b.presets p k s.at axis keep s.second s.next) in
-    record { own = of_preset b p k s.at; second = s.second; next = s.next; joinable = s.joinable; put = put }
+    let own = own_zone b (owner.Preset p) k s.at (rw s.at.there refl) (zones_there b.presets p k s.at) in
+    record { own = own; second = s.second; next = s.next; joinable = s.joinable; put = put }
 join b (owner.Instrument i) k axis keep h =
     let s = join_there axis keep b.instruments i k h in
     let put = ap (with_instruments b) (join_is_put b.instruments i k s.at axis keep s.second s.next) in
-    record { own = of_instrument b i k s.at; second = s.second; next = s.next; joinable = s.joinable; put = put }
+    let own = own_zone b (owner.Instrument i) k s.at (rw s.at.there refl) (zones_there b.instruments i k s.at) in
+    record { own = own; second = s.second; next = s.next; joinable = s.joinable; put = put }
 
 -- ---- records
 
@@ -258,7 +248,8 @@ module _ (b : Parts) (o : Owner) (k : ℕ) (axis : Axis) (m : ℕ) (can : can_sp
       let fit = zones_fit b o own.zones sound own.there in
       let v = all_at (IsZone (level_of o) (target_count b o)) own.zones k own.zone own.at valid in
       let f = all_at FitsZone own.zones k own.zone own.at fit in
-      let r = range_holds (level_of o) axis own.global own.zone (own.valid sound) v.gens in
+      let shared = gens_of_sound b o place.Global own.global sound own.global_there in
+      let r = range_holds (level_of o) axis own.global own.zone shared v.gens in
       let inside = split_at axis m own.global own.zone s.inside in
       let low = lower_is_range axis m own.global own.zone inside r in
       let high = upper_is_range axis m own.global own.zone inside r in

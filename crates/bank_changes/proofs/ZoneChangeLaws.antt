@@ -60,25 +60,19 @@ zone_is b (owner.Instrument i) k zones zone there at = list.zone_of_zones b.inst
 module _ (k : ℕ) where
   added_put : (b : Parts) (o : Owner) (zone : Zone) (zones : List Zone) → zones_of b o ≡ Some zones
       → zone_added b o k zone ≡ zones_put b o (insert zones k zone)
-  added_put b (owner.Preset p) zone zones e = zones_put_is b (owner.Preset p) (λ zs. insert zs k zone) zones e
-  added_put b (owner.Instrument i) zone zones e = zones_put_is b (owner.Instrument i) (λ zs. insert zs k zone) zones e
+  added_put b o zone = zones_put_is b o (λ zs. insert zs k zone)
 
   removed_put : (b : Parts) (o : Owner) (zones : List Zone) → zones_of b o ≡ Some zones
       → zone_removed b o k ≡ zones_put b o (remove zones k)
-  removed_put b (owner.Preset p) zones e = zones_put_is b (owner.Preset p) (λ zs. remove zs k) zones e
-  removed_put b (owner.Instrument i) zones e = zones_put_is b (owner.Instrument i) (λ zs. remove zs k) zones e
+  removed_put b o = zones_put_is b o (λ zs. remove zs k)
 
   moved_put : (b : Parts) (o : Owner) (to : ℕ) (zones : List Zone) → zones_of b o ≡ Some zones
       → zone_moved b o k to ≡ zones_put b o (moved zones k to)
-  moved_put b (owner.Preset p) to zones e = zones_put_is b (owner.Preset p) (λ zs. moved zs k to) zones e
-  moved_put b (owner.Instrument i) to zones e = zones_put_is b (owner.Instrument i) (λ zs. moved zs k to) zones e
+  moved_put b o to = zones_put_is b o (λ zs. moved zs k to)
 
   target_put : (b : Parts) (o : Owner) (target : ℕ) (zones : List Zone) → zones_of b o ≡ Some zones
       → target_set b o k target ≡ zones_put b o (changed zones k (with_target target))
-  target_put b (owner.Preset p) target zones e =
-      zones_put_is b (owner.Preset p) (λ zs. changed zs k (with_target target)) zones e
-  target_put b (owner.Instrument i) target zones e =
-      zones_put_is b (owner.Instrument i) (λ zs. changed zs k (with_target target)) zones e
+  target_put b o target = zones_put_is b o (λ zs. changed zs k (with_target target))
 
 -- ---- the records of changed zones
 

@@ -6,9 +6,7 @@ use Rattle.std.specs.List.{AllByRecursion}
 use Rattle.std.specs.FinMap.{len}
 use Rattle.std.proofs.lemmas.List.Sums.{sum_by-cons}
 use Rattle.numbered_lists.proofs.Lists.{changed-found, length-changed}
-use Rattle.sf_base.specs.Names.{IsName}
 use Rattle.generators.specs.declared.level.Level.{Level}
-use Rattle.generators.specs.declared.level.Level.TheVariants as level
 use Rattle.bank_parts.specs.declared.counting.Records.{Records}
 use Rattle.bank_validity.specs.declared.totals.Totals.{Totals}
 use Rattle.bank_parts.specs.declared.parts.GlobalZone.{GlobalZone}
@@ -18,21 +16,20 @@ use Rattle.bank_parts.specs.declared.parts.WithZones.{WithZones}
 use Rattle.bank_parts.specs.declared.parts.Parts.{Parts}
 use Rattle.bank_parts.specs.Counts.{records_of_zone, records_total, records_sum}
 use Rattle.bank_parts.specs.Settings.{zones_at, with_zones, zones_changed}
-use Rattle.bank_parts.specs.Valid.{IsZone, IsOwner, IsPreset, IsInstrument, owner_total, global_count, zone_count}
+use Rattle.bank_parts.specs.Valid.{IsZone, owner_total, global_count, zone_count}
 use Rattle.bank_parts.specs.Valid.{gen_count, mod_count}
-use Rattle.bank_parts.specs.Fits.{FitsZone, FitsHead, FitsOwner}
+use Rattle.bank_parts.specs.Fits.{FitsZone}
 use Rattle.bank_parts.specs.Sound.{IsSound}
 use Rattle.bank_validity.specs.Limits.{totals_of, level_totals, totals_at, plus_records, broken_limit}
 use Rattle.bank_validity.proofs.LevelLaws.{changed_by, changed_twice}
-use Rattle.bank_validity.proofs.LimitLaws.{limits_of}
 use Rattle.bank_parts.proofs.SettingLaws.{source}
 use Rattle.bank_changes.specs.declared.members.Owner.{Owner}
 use Rattle.bank_changes.specs.declared.members.Owner.TheVariants as owner
 use Rattle.bank_changes.specs.Members.{zones_of, level_of, target_count}
 use Rattle.bank_changes.specs.Totals.{with_records}
 use Rattle.bank_changes.specs.Zones.{own_zones_changed}
-use Rattle.bank_changes.proofs.Everywhere.{all_weaker}
-use Rattle.bank_changes.proofs.Changes.{all_found, all_changed, sum-exchanged}
+use Rattle.bank_changes.proofs.OwnerLaws.{of_sound, sound_owner_changed}
+use Rattle.bank_changes.proofs.Changes.{sum-exchanged}
 use Rattle.bank_changes.proofs.TotalsLaws.{records_grow}
 
 -- ---- a list of members of which one has other zones
@@ -48,12 +45,6 @@ module _ {H : Type 0} (owners : List (WithZones H)) (i : ℕ) (zones : List Zone
         changed-found owners i (λ (x : WithZones H). with_zones (f x.zones) x) x h.there
         ∙ (ap (λ (zs : List Zone). slice_set owners i (with_zones zs x)) (ap f h.seen ∙ (same ∙ sym (ap g h.seen)))
         ∙ sym (changed-found owners i (λ (x : WithZones H). with_zones (g x.zones) x) x h.there))
-
-    -- what holds of the zones of each member
-    found_zones : (P : List Zone → Type 0) → AllByRecursion (λ (x : WithZones H). P x.zones) owners → P zones
-    found_zones P all =
-        let h = source (λ (x : WithZones H). x.zones) (slice_get owners i) zones e in
-        subst P h.seen (all_found (λ (x : WithZones H). P x.zones) owners i h.member h.there all)
 
 -- a count of the global zone and of the others: it changes by that of the others
 total_put : {H : Type 0} (shared : GlobalZone → ℕ) (own : List Zone → ℕ) (owners : List (WithZones H)) (i : ℕ)
@@ -91,104 +82,32 @@ zones_put_is b (owner.Instrument i) f zones e =
 
 -- ---- soundness
 
-pub valid_with_zones : {H : Type 0} (name_of : H → List ℕ) (at : Level) (targets : ℕ) (owners : List (WithZones H))
-    (i : ℕ) (zones : List Zone)
-    → AllByRecursion (IsZone at targets) zones
-    → AllByRecursion (IsOwner name_of at targets) owners
-    → AllByRecursion (IsOwner name_of at targets) (zones_changed owners i (λ _. zones))
-valid_with_zones {H} name_of at targets owners i zones are all =
-    all_changed (with_zones zones) (IsOwner name_of at targets)
-    (λ (x : WithZones H) v. record { name = v.name; zones = record { global = v.zones.global; zones = are } })
-    owners i all
-
-pub fit_with_zones : {H : Type 0} (IsFit : H → Type 0) (owners : List (WithZones H)) (i : ℕ) (zones : List Zone)
-    → AllByRecursion FitsZone zones
-    → AllByRecursion (FitsOwner IsFit) owners → AllByRecursion (FitsOwner IsFit) (zones_changed owners i (λ _. zones))
-fit_with_zones {H} IsFit owners i zones fit all =
-    all_changed (with_zones zones) (FitsOwner IsFit)
-    (λ (x : WithZones H) v. record { head = v.head; global = v.global; zones = fit }) owners i all
-
 pub sound_zones_put : (b : Parts) (o : Owner) (zones : List Zone) → IsSound b
     → AllByRecursion (IsZone (level_of o) (target_count b o)) zones → AllByRecursion FitsZone zones
     → broken_limit (zones_put b o zones) ≡ None → IsSound (zones_put b o zones)
-sound_zones_put b (owner.Preset p) zones sound are fit e =
-    let v = sound.valid in
-    let f = sound.fits in
-    record {
-      valid = record {
-        texts = v.texts;
-        presets =
-            valid_with_zones (λ (h : Head). h.name) level.Preset (length b.instruments) b.presets p zones are
-            v.presets;
-        instruments = v.instruments;
-        samples = v.samples;
-        limits = limits_of (zones_put b (owner.Preset p) zones) e;
-      };
-      fits =
-          record {
-            minor =
-                f.minor;
-            texts =
-                f.texts;
-            presets =
-                fit_with_zones FitsHead b.presets p zones fit f.presets;
-            instruments =
-                f.instruments;
-            samples = f.samples;
-          };
-    }
-sound_zones_put b (owner.Instrument i) zones sound are fit e =
-    let v = sound.valid in
-    let f = sound.fits in
-    let count = length-changed b.instruments i (with_zones zones) in
-    record {
-      valid = record {
-        texts = v.texts;
-        presets = subst (λ n. AllByRecursion (IsPreset n) b.presets) (sym count) v.presets;
-        instruments =
-            valid_with_zones (λ (name : List ℕ). name) level.Instrument (length b.samples) b.instruments i zones are
-            v.instruments;
-        samples = v.samples;
-        limits = limits_of (zones_put b (owner.Instrument i) zones) e;
-      };
-      fits =
-          record {
-            minor =
-                f.minor;
-            texts =
-                f.texts;
-            presets =
-                f.presets;
-            instruments =
-                fit_with_zones IsName b.instruments i zones fit f.instruments;
-            samples = f.samples;
-          };
-    }
+sound_zones_put b o zones sound are fit e =
+    sound_owner_changed b o (λ _. with_zones zones)
+    (λ _ name_of x v. record { name = v.name; zones = record { global = v.zones.global; zones = are } })
+    (λ _ IsFit x v. record { head = v.head; global = v.global; zones = fit }) sound e
 
 -- the zones of a sound bank
 pub zones_valid : (b : Parts) (o : Owner) (zones : List Zone) → IsSound b → zones_of b o ≡ Some zones
     → AllByRecursion (IsZone (level_of o) (target_count b o)) zones
-zones_valid b (owner.Preset p) zones sound e =
-    found_zones b.presets p zones e (AllByRecursion (IsZone level.Preset (length b.instruments)))
-    (all_weaker (IsPreset (length b.instruments))
-    (λ (x : WithZones Head). AllByRecursion (IsZone level.Preset (length b.instruments)) x.zones)
-    (λ x v. v.zones.zones) b.presets sound.valid.presets)
-zones_valid b (owner.Instrument i) zones sound e =
-    found_zones b.instruments i zones e (AllByRecursion (IsZone level.Instrument (length b.samples)))
-    (all_weaker (IsInstrument (length b.samples))
-    (λ (x : WithZones (List ℕ)). AllByRecursion (IsZone level.Instrument (length b.samples)) x.zones)
-    (λ x v. v.zones.zones) b.instruments sound.valid.instruments)
+zones_valid b o zones sound =
+    of_sound b o (λ _ owners i. zones_at owners i) (AllByRecursion (IsZone (level_of o) (target_count b o)))
+    (λ H name_of IsFit owners i are zones e.
+    let x = source (λ (x : WithZones H). x.zones) (slice_get owners i) zones e in
+    subst (AllByRecursion (IsZone (level_of o) (target_count b o))) x.seen (are x.member x.there).0.zones.zones)
+    sound zones
 
 pub zones_fit : (b : Parts) (o : Owner) (zones : List Zone) → IsSound b → zones_of b o ≡ Some zones
     → AllByRecursion FitsZone zones
-zones_fit b (owner.Preset p) zones sound e =
-    found_zones b.presets p zones e (AllByRecursion FitsZone)
-    (all_weaker (FitsOwner FitsHead) (λ (x : WithZones Head). AllByRecursion FitsZone x.zones) (λ x v. v.zones)
-    b.presets sound.fits.presets)
-zones_fit b (owner.Instrument i) zones sound e =
-    found_zones b.instruments i zones e (AllByRecursion FitsZone)
-    (all_weaker (FitsOwner IsName) (λ (x : WithZones (List ℕ)). AllByRecursion FitsZone x.zones) (λ x v. v.zones)
-    b.instruments sound.fits.instruments)
+zones_fit b o zones sound =
+    of_sound b o (λ _ owners i. zones_at owners i) (AllByRecursion FitsZone)
+    (λ H name_of IsFit owners i are zones e.
+    let x = source (λ (x : WithZones H). x.zones) (slice_get owners i) zones e in
+    subst (AllByRecursion FitsZone) x.seen (are x.member x.there).1.zones)
+    sound zones
 
 -- ---- totals
 

@@ -16,6 +16,7 @@ use Rattle.bank_parts.specs.declared.owners.ZonePlace.{ZonePlace}
 use Rattle.bank_parts.specs.declared.owners.ZonePlace.TheVariants as there
 use Rattle.bank_parts.specs.declared.parts.Head.{Head}
 use Rattle.bank_parts.specs.declared.parts.Parts.{Parts}
+use Rattle.bank_parts.specs.declared.parts.WithZones.{WithZones}
 use Rattle.bank_parts.specs.declared.parts.Zone.{Zone}
 use Rattle.bank_parts.specs.Owners.{head_at, zone_count_at, zone_at, target_at, gens_at, mods_at}
 use Rattle.bank_parts.specs.Settings.{Settings, settings_at, zones_at}
@@ -32,25 +33,33 @@ head_of b p = head_at b.presets p
 abbrev pub instrument_name_of : Parts → ℕ → Option (List ℕ)
 instrument_name_of b i = head_at b.instruments i
 
--- ---- zones and their owners
+-- ---- an owner, a preset or an instrument, by the list in which it is and its number there
 
--- how many zones there are, the global one not counted
+-- what f reads
+abbrev pub own_read : {X : Type 0} → Parts → Owner → ((H : Type 0) → List (WithZones H) → ℕ → X) → X
+own_read b (owner.Preset p) f = f _ b.presets p
+own_read b (owner.Instrument i) f = f _ b.instruments i
+
+-- the list is sent through f, and all else stays
+abbrev pub own_changed : Parts → Owner → ((H : Type 0) → List (WithZones H) → ℕ → List (WithZones H)) → Parts
+own_changed b (owner.Preset p) f = record b { presets = f _ b.presets p }
+own_changed b (owner.Instrument i) f = record b { instruments = f _ b.instruments i }
+
+-- ---- its zones
+
+-- how many there are, the global one not counted
 abbrev pub own_zone_count : Parts → Owner → Option ℕ
-own_zone_count b (owner.Preset p) = zone_count_at b.presets p
-own_zone_count b (owner.Instrument i) = zone_count_at b.instruments i
+own_zone_count b o = own_read b o (λ _ owners i. zone_count_at owners i)
 
 abbrev pub target_of : Parts → Owner → ℕ → Option ℕ
-target_of b (owner.Preset p) k = target_at b.presets p k
-target_of b (owner.Instrument i) k = target_at b.instruments i k
+target_of b o k = own_read b o (λ _ owners i. target_at owners i k)
 
 -- all of them, in order
 abbrev pub zones_of : Parts → Owner → Option (List Zone)
-zones_of b (owner.Preset p) = zones_at b.presets p
-zones_of b (owner.Instrument i) = zones_at b.instruments i
+zones_of b o = own_read b o (λ _ owners i. zones_at owners i)
 
 abbrev pub zone_of : Parts → Owner → ℕ → Option Zone
-zone_of b (owner.Preset p) k = zone_at b.presets p k
-zone_of b (owner.Instrument i) k = zone_at b.instruments i k
+zone_of b o k = own_read b o (λ _ owners i. zone_at owners i k)
 
 -- the level at which the zones stand
 abbrev pub level_of : Owner → Level
@@ -69,17 +78,14 @@ zone_place place.Global = there.Global
 zone_place (place.Zone k) = there.Zone k
 
 abbrev pub gens_of : Parts → Owner → Place → Option Gens
-gens_of b (owner.Preset p) at = gens_at b.presets p (zone_place at)
-gens_of b (owner.Instrument i) at = gens_at b.instruments i (zone_place at)
+gens_of b o at = own_read b o (λ _ owners i. gens_at owners i (zone_place at))
 
 abbrev pub mods_of : Parts → Owner → Place → Option (List Modulator)
-mods_of b (owner.Preset p) at = mods_at b.presets p (zone_place at)
-mods_of b (owner.Instrument i) at = mods_at b.instruments i (zone_place at)
+mods_of b o at = own_read b o (λ _ owners i. mods_at owners i (zone_place at))
 
 -- both
 abbrev pub settings_of : Parts → Owner → Place → Option Settings
-settings_of b (owner.Preset p) at = settings_at b.presets p (zone_place at)
-settings_of b (owner.Instrument i) at = settings_at b.instruments i (zone_place at)
+settings_of b o at = own_read b o (λ _ owners i. settings_at owners i (zone_place at))
 
 -- the amount of an operator, where it is set
 abbrev pub amount_of : Parts → Owner → Place → ℕ → Option ℕ

@@ -12,45 +12,37 @@ use Rattle.bank_parts.specs.Counts.{records_of_global}
 use Rattle.bank_parts.specs.Settings.{Settings, place_changed, settings_at}
 use Rattle.bank_parts.specs.ZoneChanges as list
 use Rattle.bank_changes.specs.declared.members.Owner.{Owner}
-use Rattle.bank_changes.specs.declared.members.Owner.TheVariants.{Preset, Instrument}
 use Rattle.bank_changes.specs.declared.members.Place.{Place}
 use Rattle.bank_changes.specs.declared.members.Place.TheVariants as place_of
-use Rattle.bank_changes.specs.Members.{zone_place}
+use Rattle.bank_changes.specs.Members.{own_read, own_changed, zone_place}
 
 -- what the place holds is sent through f, and all else stays
 abbrev pub own_place_changed : Parts → Owner → Place → (Settings → Settings) → Parts
-own_place_changed b (Preset p) at f = record b { presets = place_changed b.presets p (zone_place at) f }
-own_place_changed b (Instrument i) at f = record b { instruments = place_changed b.instruments i (zone_place at) f }
+own_place_changed b o at f = own_changed b o (λ _ owners i. place_changed owners i (zone_place at) f)
 
 -- ---- generators
 
 -- the operator has the amount
 abbrev pub gen_set : Parts → Owner → Place → ℕ → ℕ → Parts
-gen_set b (Preset p) at op amount = record b { presets = list.gen_set b.presets p (zone_place at) op amount }
-gen_set b (Instrument i) at op amount =
-    record b { instruments = list.gen_set b.instruments i (zone_place at) op amount }
+gen_set b o at op amount = own_changed b o (λ _ owners i. list.gen_set owners i (zone_place at) op amount)
 
 -- the operator is not set
 abbrev pub gen_cleared : Parts → Owner → Place → ℕ → Parts
-gen_cleared b (Preset p) at op = record b { presets = list.gen_cleared b.presets p (zone_place at) op }
-gen_cleared b (Instrument i) at op = record b { instruments = list.gen_cleared b.instruments i (zone_place at) op }
+gen_cleared b o at op = own_changed b o (λ _ owners i. list.gen_cleared owners i (zone_place at) op)
 
 -- ---- modulators
 
 -- the modulator goes in as number j
 abbrev pub mod_added : Parts → Owner → Place → ℕ → Modulator → Parts
-mod_added b (Preset p) at j m = record b { presets = list.mod_added b.presets p (zone_place at) j m }
-mod_added b (Instrument i) at j m = record b { instruments = list.mod_added b.instruments i (zone_place at) j m }
+mod_added b o at j m = own_changed b o (λ _ owners i. list.mod_added owners i (zone_place at) j m)
 
 -- the modulator of a number is gone
 abbrev pub mod_removed : Parts → Owner → Place → ℕ → Parts
-mod_removed b (Preset p) at j = record b { presets = list.mod_removed b.presets p (zone_place at) j }
-mod_removed b (Instrument i) at j = record b { instruments = list.mod_removed b.instruments i (zone_place at) j }
+mod_removed b o at j = own_changed b o (λ _ owners i. list.mod_removed owners i (zone_place at) j)
 
 -- the modulator of a number is this one
 abbrev pub mod_set : Parts → Owner → Place → ℕ → Modulator → Parts
-mod_set b (Preset p) at j m = record b { presets = list.mod_set b.presets p (zone_place at) j m }
-mod_set b (Instrument i) at j m = record b { instruments = list.mod_set b.instruments i (zone_place at) j m }
+mod_set b o at j m = own_changed b o (λ _ owners i. list.mod_set owners i (zone_place at) j m)
 
 -- ---- records
 
@@ -67,8 +59,7 @@ abbrev pub records_at : {H : Type 0} → List (WithZones H) → ℕ → ZonePlac
 records_at owners i at = option_map_or (records_of_place at) (settings_at owners i at) no_records
 
 abbrev pub records_there : Parts → Owner → Place → Records
-records_there b (Preset p) at = records_at b.presets p (zone_place at)
-records_there b (Instrument i) at = records_at b.instruments i (zone_place at)
+records_there b o at = own_read b o (λ _ owners i. records_at owners i (zone_place at))
 
 -- how many zones a place is, once it holds something, beside those that are counted whatever they hold
 abbrev pub zones_at : Place → ℕ

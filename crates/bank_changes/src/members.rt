@@ -32,6 +32,19 @@ impl Owner {
     }
 }
 
+/// Runs an expression on the owners among which an owner is, the presets or the instruments of a bank's parts, and
+/// on its number: `with_owners!(parts, owner, |owners, number| { owners.zone_count(number as usize) })`. They are
+/// borrowed as the parts are.
+#[macro_export]
+macro_rules! with_owners {
+    ($parts:expr, $owner:expr, |$owners:ident, $number:ident| $body:expr) => {
+        match ($owner, $parts) {
+            ($crate::Owner::Preset($number), bank_parts::Parts { presets: $owners, .. }) => $body,
+            ($crate::Owner::Instrument($number), bank_parts::Parts { instruments: $owners, .. }) => $body,
+        }
+    };
+}
+
 /// Where generators and modulators stand in their owner: in its global zone, or in the zone of a
 /// number.
 #[derive(Clone, Copy, Debug, PartialEq, Eq)]

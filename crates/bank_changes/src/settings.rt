@@ -4,6 +4,7 @@ ghost use Rattle.bank_changes.specs.Members.{zone_place, settings_of, mods_of, a
 ghost use Rattle.bank_changes.specs.Settings.{gen_set, gen_cleared, mod_added, mod_removed, mod_set, records_at, records_there};
 
 use crate::members::{Owner, Place, place_of};
+use crate::with_owners;
 use bank_parts::{OwnerHead, Owners, Parts, Records, ZonePlace};
 use modulators::Modulator;
 use sf_base::OutOfMemory;
@@ -24,12 +25,9 @@ pub fn set_gen(
     ensures needs_no_memory { IsSome (amount_of parts.old owner place operator) → IsOk result }
 {
     let at = place_of(place);
-    match owner {
-        Owner::Preset(number) => parts.presets.set_gen(number as usize, at, operator, amount),
-        Owner::Instrument(number) => parts
-            .instruments
-            .set_gen(number as usize, at, operator, amount),
-    }
+    with_owners!(parts, owner, |owners, number| {
+        owners.set_gen(number as usize, at, operator, amount)
+    })
 }
 
 /// Clears an operator at a place, and gives the amount that it had. Takes no memory.
@@ -39,10 +37,9 @@ pub fn clear_gen(parts: &mut Parts<'_>, owner: Owner, place: Place, operator: u1
     ensures change { parts.new ≡ gen_cleared parts.old owner place operator }
 {
     let at = place_of(place);
-    match owner {
-        Owner::Preset(number) => parts.presets.clear_gen(number as usize, at, operator),
-        Owner::Instrument(number) => parts.instruments.clear_gen(number as usize, at, operator),
-    }
+    with_owners!(parts, owner, |owners, number| {
+        owners.clear_gen(number as usize, at, operator)
+    })
 }
 
 /// Makes a modulator number `index` at a place; those from there on get the next number each. When out of
@@ -60,14 +57,9 @@ pub fn add_mod(
     ensures err { OnErr result (parts.new ≡ parts.old) }
 {
     let (at, index) = (place_of(place), index as usize);
-    match owner {
-        Owner::Preset(number) => parts
-            .presets
-            .insert_mod(number as usize, at, index, modulator),
-        Owner::Instrument(number) => parts
-            .instruments
-            .insert_mod(number as usize, at, index, modulator),
-    }
+    with_owners!(parts, owner, |owners, number| {
+        owners.insert_mod(number as usize, at, index, modulator)
+    })
 }
 
 /// Takes the modulator of a number at a place out; those behind it get the number before each. Takes no
@@ -79,10 +71,9 @@ pub fn remove_mod(parts: &mut Parts<'_>, owner: Owner, place: Place, index: u32)
     ensures change { parts.new ≡ mod_removed parts.old owner place index }
 {
     let (at, index) = (place_of(place), index as usize);
-    match owner {
-        Owner::Preset(number) => parts.presets.remove_mod(number as usize, at, index),
-        Owner::Instrument(number) => parts.instruments.remove_mod(number as usize, at, index),
-    }
+    with_owners!(parts, owner, |owners, number| {
+        owners.remove_mod(number as usize, at, index)
+    })
 }
 
 /// Puts a modulator in the place of the one of a number at a place, and gives back the one that it
@@ -100,12 +91,9 @@ pub fn set_mod(
     ensures change { parts.new ≡ mod_set parts.old owner place index modulator }
 {
     let (at, index) = (place_of(place), index as usize);
-    match owner {
-        Owner::Preset(number) => parts.presets.set_mod(number as usize, at, index, modulator),
-        Owner::Instrument(number) => parts
-            .instruments
-            .set_mod(number as usize, at, index, modulator),
-    }
+    with_owners!(parts, owner, |owners, number| {
+        owners.set_mod(number as usize, at, index, modulator)
+    })
 }
 
 // ---- the records of a place
@@ -115,10 +103,9 @@ pub fn set_mod(
 pub fn records_there(parts: &Parts<'_>, owner: Owner, place: Place) -> Records
     ensures { result ≡ records_there parts.now owner place }
 {
-    match owner {
-        Owner::Preset(number) => records_in(&parts.presets, number, place),
-        Owner::Instrument(number) => records_in(&parts.instruments, number, place),
-    }
+    with_owners!(parts, owner, |owners, number| {
+        records_in(owners, number, place)
+    })
 }
 
 fn records_in<H: OwnerHead>(owners: &Owners<H>, number: u32, place: Place) -> Records

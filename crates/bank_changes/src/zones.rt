@@ -6,6 +6,7 @@ ghost use Rattle.bank_changes.specs.Members.{own_zone_count, zone_of, target_of}
 ghost use Rattle.bank_changes.specs.Zones.{zone_added, zone_removed, zone_moved, target_set, can_split, can_join, zone_split, zone_joined};
 
 use crate::members::Owner;
+use crate::with_owners;
 use bank_parts::{Parts, Records, Zone};
 use sf_base::OutOfMemory;
 use std::alloc::Global;
@@ -19,16 +20,10 @@ pub fn add_zone(parts: &mut Parts<'_>, owner: Owner, at: u32, zone: Zone) -> Res
     ensures err { OnErr result (parts.new ≡ parts.old) }
     ensures value_returned { IfErr result (λ back. back ≡ zone) }
 {
-    match owner {
-        Owner::Preset(number) => parts
-            .presets
-            .insert_zone(number as usize, at as usize, zone),
-        Owner::Instrument(number) => {
-            parts
-                .instruments
-                .insert_zone(number as usize, at as usize, zone)
-        }
-    }
+    let at = at as usize;
+    with_owners!(parts, owner, |owners, number| {
+        owners.insert_zone(number as usize, at, zone)
+    })
 }
 
 /// Takes a zone out of an owner; the zones behind it get the number before each. When out of memory, the
@@ -44,18 +39,10 @@ pub fn remove_zone(
     ensures change { OnOk result (parts.new ≡ zone_removed parts.old owner zone) }
     ensures err { OnErr result (parts.new ≡ parts.old) }
 {
-    match owner {
-        Owner::Preset(number) => {
-            parts
-                .presets
-                .remove_zone(alloc, number as usize, zone as usize)
-        }
-        Owner::Instrument(number) => {
-            parts
-                .instruments
-                .remove_zone(alloc, number as usize, zone as usize)
-        }
-    }
+    let zone = zone as usize;
+    with_owners!(parts, owner, |owners, number| {
+        owners.remove_zone(alloc, number as usize, zone)
+    })
 }
 
 /// Makes zone `from` of an owner zone `to`; its other zones keep their order. Takes no memory.
@@ -65,10 +52,9 @@ pub fn move_zone(parts: &mut Parts<'_>, owner: Owner, from: u32, to: u32)
     ensures { parts.new ≡ zone_moved parts.old owner from to }
 {
     let (from, to) = (from as usize, to as usize);
-    match owner {
-        Owner::Preset(number) => parts.presets.move_zone(number as usize, from, to),
-        Owner::Instrument(number) => parts.instruments.move_zone(number as usize, from, to),
-    }
+    with_owners!(parts, owner, |owners, number| {
+        owners.move_zone(number as usize, from, to)
+    })
 }
 
 /// Gives a zone another target, and gives back the one that it had. Takes no memory.
@@ -78,10 +64,9 @@ pub fn set_target(parts: &mut Parts<'_>, owner: Owner, zone: u32, target: u16) -
     ensures change { parts.new ≡ target_set parts.old owner zone target }
 {
     let zone = zone as usize;
-    match owner {
-        Owner::Preset(number) => parts.presets.set_target(number as usize, zone, target),
-        Owner::Instrument(number) => parts.instruments.set_target(number as usize, zone, target),
-    }
+    with_owners!(parts, owner, |owners, number| {
+        owners.set_target(number as usize, zone, target)
+    })
 }
 
 /// The records that the split of a zone adds, each count at most 2^64 - 1.
@@ -89,12 +74,9 @@ pub fn split_records(parts: &Parts<'_>, owner: Owner, zone: u32, axis: Axis) -> 
     requires { IsSomeAnd (own_zone_count parts.now owner) (λ count. zone < count) }
     ensures { IfSome (zone_of parts.now owner zone) (λ z. result ≡ all_counted (split_records axis z)) }
 {
-    match owner {
-        Owner::Preset(number) => zone_ranges::split_records(&parts.presets, number, zone, axis),
-        Owner::Instrument(number) => {
-            zone_ranges::split_records(&parts.instruments, number, zone, axis)
-        }
-    }
+    with_owners!(parts, owner, |owners, number| {
+        zone_ranges::split_records(owners, number, zone, axis)
+    })
 }
 
 /// The records that go when a zone and the next are joined, each count at most 2^64 - 1.
@@ -102,12 +84,9 @@ pub fn join_records(parts: &Parts<'_>, owner: Owner, zone: u32, keep: Keep) -> R
     requires { IsSomeAnd (own_zone_count parts.now owner) (λ count. zone + 1 < count) }
     ensures { IfSome (zone_of parts.now owner (zone + 1)) (λ z. result ≡ all_counted (join_records keep z)) }
 {
-    match owner {
-        Owner::Preset(number) => zone_ranges::join_records(&parts.presets, number, zone, keep),
-        Owner::Instrument(number) => {
-            zone_ranges::join_records(&parts.instruments, number, zone, keep)
-        }
-    }
+    with_owners!(parts, owner, |owners, number| {
+        zone_ranges::join_records(owners, number, zone, keep)
+    })
 }
 
 /// Splits a zone at a key or a velocity, from which on the second of both holds. When out of memory, the
@@ -124,14 +103,9 @@ pub fn split_zone(
     ensures ok { OnOk result (parts.new ≡ zone_split parts.old owner zone axis at) }
     ensures err { OnErr result (parts.new ≡ parts.old) }
 {
-    match owner {
-        Owner::Preset(number) => {
-            zone_ranges::split_zone(&mut parts.presets, alloc, number, zone, axis, at)
-        }
-        Owner::Instrument(number) => {
-            zone_ranges::split_zone(&mut parts.instruments, alloc, number, zone, axis, at)
-        }
-    }
+    with_owners!(parts, owner, |owners, number| {
+        zone_ranges::split_zone(owners, alloc, number, zone, axis, at)
+    })
 }
 
 /// Joins a zone and the next. When out of memory, the parts stay as they are.
@@ -147,12 +121,7 @@ pub fn join_zone(
     ensures ok { OnOk result (parts.new ≡ zone_joined parts.old owner zone axis keep) }
     ensures err { OnErr result (parts.new ≡ parts.old) }
 {
-    match owner {
-        Owner::Preset(number) => {
-            zone_ranges::join_zones(&mut parts.presets, alloc, number, zone, axis, keep)
-        }
-        Owner::Instrument(number) => {
-            zone_ranges::join_zones(&mut parts.instruments, alloc, number, zone, axis, keep)
-        }
-    }
+    with_owners!(parts, owner, |owners, number| {
+        zone_ranges::join_zones(owners, alloc, number, zone, axis, keep)
+    })
 }

@@ -68,14 +68,13 @@ module _ {b inside : Parts} {t : Totals} (view : inside ≡ b) (kept : IsSound i
     pub has_before : HasRecords lvl t before
     has_before = counted_there b o at there t totals_before lvl is_level before had_before
 
-    pub kept_there : (f : Settings → Settings) {new now : Parts} → new ≡ now → now ≡ own_place_changed b o at f
-        → IsSound now → {after : Records} → after ≡ records_there new o at
+    pub kept_there : (f : Settings → Settings) {new : Parts} → new ≡ own_place_changed b o at f
+        → IsSound (own_place_changed b o at f) → {after : Records} → after ≡ records_there new o at
         → {u : Totals}
         → ((now : Totals) → broken now ≡ None → with_records lvl now before ≡ with_records lvl t after → u ≡ now)
         → IsSound new × (u ≡ totals_of new)
-    kept_there f {new} {now} is change sound {after} has {u} value =
+    kept_there f {new} is sound {after} has {u} value =
         let still = subst IsSound (sym is) sound in (
           still,
-          kept_totals b o at there t totals_before lvl is_level before had_before f new (is ∙ change) after has still u
-              value,
+          kept_totals b o at there t totals_before lvl is_level before had_before f new is after has still u value,
         )

@@ -13,7 +13,7 @@ ghost use Rattle.bank_changes.specs.Settings.{gen_set, gen_cleared, mod_added, m
 use crate::bank::Bank;
 use bank_changes::{
     Owner, Place, add_mod, clear_gen, place_of, records_there, recounted, remove_mod, set_gen,
-    set_mod,
+    set_mod, with_owners,
 };
 use bank_parts::{OwnerHead, Owners, Records};
 use bank_validity::Limit;
@@ -122,20 +122,18 @@ impl<'a> Bank<'a> {
     pub fn mod_count(&self, owner: Owner, place: Place) -> Option<usize>
         ensures { result ≡ option_map length (mods_of self.now owner place) }
     {
-        match owner {
-            Owner::Preset(number) => mod_count_in(self.presets(), number, place),
-            Owner::Instrument(number) => mod_count_in(self.instruments(), number, place),
-        }
+        with_owners!(&self.parts, owner, |owners, number| {
+            mod_count_in(owners, number, place)
+        })
     }
 
     /// Whether a modulator of a place is linked to another there; not where there is no such place.
     pub fn has_link(&self, owner: Owner, place: Place) -> bool
         ensures { result ≡ list_any is_link (unwrap_or (mods_of self.now owner place) []) }
     {
-        match owner {
-            Owner::Preset(number) => has_link_in(self.presets(), number, place),
-            Owner::Instrument(number) => has_link_in(self.instruments(), number, place),
-        }
+        with_owners!(&self.parts, owner, |owners, number| {
+            has_link_in(owners, number, place)
+        })
     }
 
     /// The first limit that is broken with an operator set at a place that is there, to any amount.

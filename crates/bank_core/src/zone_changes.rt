@@ -10,7 +10,7 @@ ghost use Rattle.bank_changes.specs.Zones.{zone_added, zone_removed, zone_moved,
 use crate::bank::Bank;
 use bank_changes::{
     Owner, add_zone, broken_with_records, join_records, join_zone, move_zone, remove_zone,
-    set_target, split_records, split_zone, with_records, without_records,
+    set_target, split_records, split_zone, with_owners, with_records, without_records,
 };
 use bank_parts::Zone;
 use bank_validity::Limit;
@@ -88,14 +88,9 @@ impl<'a> Bank<'a> {
         ensures low { option_map low_end (range_of_zone self.now owner zone axis) ≡ Some result.low }
         ensures high { option_map high_end (range_of_zone self.now owner zone axis) ≡ Some result.high }
     {
-        match owner {
-            Owner::Preset(number) => {
-                zone_ranges::zone_range(&self.parts.presets, number, zone, axis)
-            }
-            Owner::Instrument(number) => {
-                zone_ranges::zone_range(&self.parts.instruments, number, zone, axis)
-            }
-        }
+        with_owners!(&self.parts, owner, |owners, number| {
+            zone_ranges::zone_range(owners, number, zone, axis)
+        })
     }
 
     /// Whether there is the zone and it can be split at a key or a velocity: this lies in the range that
@@ -103,14 +98,9 @@ impl<'a> Bank<'a> {
     pub fn can_split(&self, owner: Owner, zone: u32, axis: Axis, at: u8) -> bool
         ensures { result ≡ can_split self.now owner zone axis at }
     {
-        match owner {
-            Owner::Preset(number) => {
-                zone_ranges::splits(&self.parts.presets, number, zone, axis, at)
-            }
-            Owner::Instrument(number) => {
-                zone_ranges::splits(&self.parts.instruments, number, zone, axis, at)
-            }
-        }
+        with_owners!(&self.parts, owner, |owners, number| {
+            zone_ranges::splits(owners, number, zone, axis, at)
+        })
     }
 
     /// Whether there are the zone and the next and they can be joined: they agree in all but their own
@@ -119,14 +109,9 @@ impl<'a> Bank<'a> {
     pub fn can_join(&self, owner: Owner, zone: u32, axis: Axis, keep: Keep) -> bool
         ensures { result ≡ can_join self.now owner zone axis keep }
     {
-        match owner {
-            Owner::Preset(number) => {
-                zone_ranges::joins(&self.parts.presets, number, zone, axis, keep)
-            }
-            Owner::Instrument(number) => {
-                zone_ranges::joins(&self.parts.instruments, number, zone, axis, keep)
-            }
-        }
+        with_owners!(&self.parts, owner, |owners, number| {
+            zone_ranges::joins(owners, number, zone, axis, keep)
+        })
     }
 
     /// Splits a zone at a key or a velocity, from which on the second of both holds. When out of memory,

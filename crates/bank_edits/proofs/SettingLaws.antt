@@ -19,8 +19,7 @@ use Rattle.bank_changes.specs.Members.{zone_place, level_of, amount_of, settings
 use Rattle.bank_changes.specs.Settings.{own_place_changed, gen_set, gen_cleared, mod_added, mod_removed, mod_set}
 use Rattle.bank_changes.proofs.Changes.{all_found}
 use Rattle.bank_changes.proofs.PlaceLaws.{place_there, gens_of_sound, settings_fit}
-use Rattle.bank_changes.proofs.SettingLaws.{gen_set_is, gen_cleared_is, amount_found, mod_added_is, mod_removed_is}
-use Rattle.bank_changes.proofs.SettingLaws.{mod_set_is}
+use Rattle.bank_changes.proofs.SettingLaws.{amount_found}
 use Rattle.edit_forms.specs.declared.settings.SettingStep.TheVariants.{SetGen, ClearGen, AddMod, RemoveMod, SetMod}
 use Rattle.edit_forms.specs.declared.step.Step.TheVariants as steps
 use Rattle.edit_refusals.proofs.Accepted.{accepted}
@@ -69,14 +68,13 @@ module _ (b : Parts) (o : Owner) (at : Place) (op was : ℕ) (sound : IsSound b)
 
 -- ---- the place after a change
 
-still_allows : (b : Parts) (o : Owner) (at : Place) (op : ℕ) (f : Settings → Settings) (now : Parts)
-    → now ≡ own_place_changed b o at f → AllowsThere b o at op → AllowsThere now o at op
-still_allows b o at op f now is h =
-    subst (λ (c : Parts). AllowsThere c o at op) (sym is) (record {
-      owner = owner_stays_there b o at f h.owner;
-      zone = place_stays_there b o at f h.zone;
-      operator = h.operator;
-    })
+still_allows : (b : Parts) (o : Owner) (at : Place) (op : ℕ) (f : Settings → Settings) → AllowsThere b o at op
+    → AllowsThere (own_place_changed b o at f) o at op
+still_allows b o at op f h = record {
+  owner = owner_stays_there b o at f h.owner;
+  zone = place_stays_there b o at f h.zone;
+  operator = h.operator;
+}
 
 read_set : (b : Parts) (o : Owner) (at : Place) (op amount : ℕ) → AllowsThere b o at op
     → amount_of (gen_set b o at op amount) o at op ≡ Some amount
@@ -136,9 +134,7 @@ undone_set_gen b o at op amount s t = by (amount_of b o at op) refl
     goes = gen_goes b o at op amount (accepted b (steps.Setting o at (SetGen op amount)) t.accepted).tests
 
     still : AllowsThere (gen_set b o at op amount) o at op
-    still =
-        still_allows b o at op (λ s. with_gens (map.insert s.gens op amount) s) (gen_set b o at op amount)
-        (gen_set_is b o at op amount) goes.allows
+    still = still_allows b o at op (λ s. with_gens (map.insert s.gens op amount) s) goes.allows
 
     by : (found : Option ℕ) → amount_of b o at op ≡ found → IsUndone b (steps.Setting o at (SetGen op amount))
     by (Some was) e =
@@ -181,7 +177,7 @@ undone_clear_gen b o at op s t =
       fits = (t.fits.0, t.fits.1, (t.fits.2, amount_fits b o at op g.was s g.allows g.set));
       tests = tests_set_gen now o at op g.was (record {
         allows =
-            still_allows b o at op (λ s. with_gens (map.remove s.gens op) s) now (gen_cleared_is b o at op) g.allows;
+            still_allows b o at op (λ s. with_gens (map.remove s.gens op) s) g.allows;
         is = is_generator b o at op g.was s g.allows g.set;
       });
       restored = restored_cleared b o at op g.was g.set;
@@ -237,8 +233,7 @@ undone_add_mod b o at j m s t =
     let size = length-insert old.mods j m le in
     let now : Parts = mod_added b o at j m in
     let holds =
-    still_no_link b o at (λ ms. insert ms j m) old g.holds (none_inserted old.mods j m g.holds.free g.plain) now
-    (mod_added_is b o at j m) in
+    still_no_link b o at (λ ms. insert ms j m) old g.holds (none_inserted old.mods j m g.holds.free g.plain) in
     let there : mod_at now o at j ≡ Some m =
     mod_found now o at (mods_sent (λ ms. insert ms j m) old) holds.there j m (slice_get-insert old.mods j m le)
     in
@@ -267,8 +262,7 @@ undone_remove_mod b o at j s t =
     let now : Parts = mod_removed b o at j in
     let there : mod_at b o at j ≡ Some m = mod_found b o at old c.holds.there j m e in
     let holds =
-    still_no_link b o at (λ ms. remove ms j) old c.holds (none_left old.mods j c.holds.free) now
-    (mod_removed_is b o at j) in
+    still_no_link b o at (λ ms. remove ms j) old c.holds (none_left old.mods j c.holds.free) in
     undone_by b (steps.Setting o at (RemoveMod j)) (steps.Setting o at (AddMod j m)) s (record {
       is = rw there refl;
       sound = sound_remove_mod b o at j s t.accepted;
@@ -301,7 +295,7 @@ undone_set_mod b o at j m s t =
     let there : mod_at b o at j ≡ Some was = mod_found b o at old c.holds.there j was e in
     let holds =
     still_no_link b o at (λ ms. slice_set ms j m) old c.holds (none_exchanged old.mods j m c.holds.free c.plain)
-    now (mod_set_is b o at j m) in
+    in
     let new : mod_at now o at j ≡ Some m =
     mod_found now o at (mods_sent (λ ms. slice_set ms j m) old) holds.there j m
     (slice_get-slice_set old.mods j m lt) in

@@ -1,6 +1,6 @@
 -- The forms that edit generators and modulators: what acceptance says of each.
 use Rattle.std.proofs.Common.{◌≡◌, ◌<◌, ◌≤◌, ◌%◌, ◌/◌, ◌&&◌, ◌^◌, not, ℕ, nat_le, Bool, true, false, Option, Some}
-use Rattle.std.proofs.Common.{None, refl, sym, ◌∙◌, arith, List, length, insert, remove, subst}
+use Rattle.std.proofs.Common.{None, refl, sym, ◌∙◌, arith, List, length, insert, remove}
 use Rattle.std.specs.Option.{is_some}
 use Rattle.std.proofs.lemmas.Bool.Decides.{nat_tests}
 use Rattle.generators.specs.Levels.{is_allowed}
@@ -156,15 +156,14 @@ pub record HoldsNoLink (b : Parts) (o : Owner) (at : Place) (s : Settings) : Typ
 
 -- the place after a change that brings no link
 module _ (b : Parts) (o : Owner) (at : Place) (f : List Modulator → List Modulator) (s : Settings) where
-  pub still_no_link : HoldsNoLink b o at s → list_any is_link (f s.mods) ≡ false → (now : Parts)
-      → now ≡ own_place_changed b o at (mods_sent f) → HoldsNoLink now o at (mods_sent f s)
-  still_no_link h free now is =
-      subst (λ (c : Parts). HoldsNoLink c o at (mods_sent f s)) (sym is) (record {
-        owner = owner_stays_there b o at (mods_sent f) h.owner;
-        zone = place_stays_there b o at (mods_sent f) h.zone;
-        there = settings_after b o at (mods_sent f) s h.there;
-        free = free;
-      })
+  pub still_no_link : HoldsNoLink b o at s → list_any is_link (f s.mods) ≡ false
+      → HoldsNoLink (own_place_changed b o at (mods_sent f)) o at (mods_sent f s)
+  still_no_link h free = record {
+    owner = owner_stays_there b o at (mods_sent f) h.owner;
+    zone = place_stays_there b o at (mods_sent f) h.zone;
+    there = settings_after b o at (mods_sent f) s h.there;
+    free = free;
+  }
 
 -- such a place, and what its modulators are
 record FreePlace (b : Parts) (o : Owner) (at : Place) : Type 0 where

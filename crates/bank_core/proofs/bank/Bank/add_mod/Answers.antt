@@ -1,6 +1,5 @@
 use Rattle.std.proofs.Common.{insert}
 use Rattle.bank_parts.specs.Settings.{with_mods}
-use Rattle.bank_changes.proofs.SettingLaws.{mod_added_is}
 use Rattle.bank_core.proofs.KeptTotals.{no_limit_before, has_before, kept_there}
 use Rattle.bank_core.proofs.bank.Bank.add_mod.Goals as goal
 
@@ -16,6 +15,5 @@ pub invariant_of-self-2 : goal.invariant_of-self-2
 invariant_of-self-2 c =
     kept_there c.self.view_is c.self.invariant c.args.owner c.args.place c.requires.there c.level.ensures
     c.records_there-before.ensures (λ s. with_mods (insert s.mods c.args.index c.args.modulator) s)
-    (rw c.self.view_is at c.in_ok-add_mod.ensures.ok)
-    (mod_added_is c.args.self.now c.args.owner c.args.place c.args.index c.args.modulator) c.requires.sound
+    (rw c.self.view_is at c.in_ok-add_mod.ensures.ok) c.requires.sound
     c.records_there-after.ensures c.recounted-self-inside.ensures.value

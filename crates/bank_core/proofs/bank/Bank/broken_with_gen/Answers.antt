@@ -1,4 +1,4 @@
-use Rattle.std.proofs.Common.{◌≡◌, false, sym, subst, IsSome, ◌∙◌}
+use Rattle.std.proofs.Common.{◌≡◌, false, refl, sym, subst, IsSome, ◌∙◌}
 use Rattle.std.specs.Option.{is_some}
 use Rattle.std.specs.FinMap as map
 use Rattle.bank_validity.specs.Limits.{totals_of}
@@ -6,7 +6,7 @@ use Rattle.bank_parts.specs.Settings.{with_gens}
 use Rattle.bank_changes.specs.Members.{settings_of}
 use Rattle.bank_changes.specs.Settings.{gen_set}
 use Rattle.bank_changes.proofs.PlaceLaws.{found_there, not_some, became}
-use Rattle.bank_changes.proofs.SettingLaws.{amount_found, gen_set_is, within_gen_replaced, gen_records}
+use Rattle.bank_changes.proofs.SettingLaws.{amount_found, within_gen_replaced, gen_records}
 use Rattle.bank_core.proofs.KeptTotals.{no_limit_before, has_before}
 use Rattle.bank_core.proofs.bank.Bank.broken_with_gen.Goals as goal
 
@@ -49,5 +49,4 @@ returns c = λ amount.
     c.broken.ensures
     ∙ c.recounted.ensures.limit (totals_of new) (became b c.args.owner c.args.place c.requires c.self.inside.totals
     counts c.level.result c.level.ensures c.records_there-before.result had
-    (λ s. with_gens (map.insert s.gens c.args.operator amount) s) new
-    (gen_set_is b c.args.owner c.args.place c.args.operator amount) _ has)
+    (λ s. with_gens (map.insert s.gens c.args.operator amount) s) new refl _ has)

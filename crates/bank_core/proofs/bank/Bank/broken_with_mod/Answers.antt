@@ -1,10 +1,10 @@
-use Rattle.std.proofs.Common.{insert, ◌∙◌}
+use Rattle.std.proofs.Common.{insert, refl, ◌∙◌}
 use Rattle.bank_validity.specs.Limits.{totals_of}
 use Rattle.bank_parts.specs.Settings.{with_mods}
 use Rattle.bank_changes.specs.Members.{settings_of}
 use Rattle.bank_changes.specs.Settings.{mod_added}
 use Rattle.bank_changes.proofs.PlaceLaws.{found_there, became}
-use Rattle.bank_changes.proofs.SettingLaws.{mod_added_is, mod_records}
+use Rattle.bank_changes.proofs.SettingLaws.{mod_records}
 use Rattle.bank_core.proofs.KeptTotals.{no_limit_before, has_before}
 use Rattle.bank_core.proofs.bank.Bank.broken_with_mod.Goals as goal
 
@@ -30,5 +30,4 @@ returns c = λ index modulator.
     c.broken.ensures
     ∙ c.recounted.ensures.limit (totals_of new) (became b c.args.owner c.args.place c.requires c.self.inside.totals
     counts c.level.result c.level.ensures c.records_there-before.result had
-    (λ s. with_mods (insert s.mods index modulator) s) new (mod_added_is b c.args.owner c.args.place index
-    modulator) _ has)
+    (λ s. with_mods (insert s.mods index modulator) s) new refl _ has)

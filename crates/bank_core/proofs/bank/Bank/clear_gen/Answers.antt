@@ -1,6 +1,5 @@
 use Rattle.std.specs.FinMap as map
 use Rattle.bank_parts.specs.Settings.{with_gens}
-use Rattle.bank_changes.proofs.SettingLaws.{gen_cleared_is}
 use Rattle.bank_core.proofs.KeptTotals.{no_limit_before, has_before, kept_there}
 use Rattle.bank_core.proofs.bank.Bank.clear_gen.Goals as goal
 
@@ -16,6 +15,5 @@ pub invariant_of-self : goal.invariant_of-self
 invariant_of-self c =
     kept_there c.self.view_is c.self.invariant c.args.owner c.args.place c.requires.there c.level.ensures
     c.records_there-before.ensures (λ s. with_gens (map.remove s.gens c.args.operator) s)
-    (rw c.self.view_is at c.clear_gen-was.ensures.change)
-    (gen_cleared_is c.args.self.now c.args.owner c.args.place c.args.operator) c.requires.sound
+    (rw c.self.view_is at c.clear_gen-was.ensures.change) c.requires.sound
     c.records_there-after.ensures c.recounted-self-inside.ensures.value

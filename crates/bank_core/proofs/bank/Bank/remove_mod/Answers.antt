@@ -1,6 +1,5 @@
 use Rattle.std.proofs.Common.{remove}
 use Rattle.bank_parts.specs.Settings.{with_mods}
-use Rattle.bank_changes.proofs.SettingLaws.{mod_removed_is}
 use Rattle.bank_core.proofs.KeptTotals.{no_limit_before, has_before, kept_there}
 use Rattle.bank_core.proofs.bank.Bank.remove_mod.Goals as goal
 
@@ -16,6 +15,5 @@ pub invariant_of-self : goal.invariant_of-self
 invariant_of-self c =
     kept_there c.self.view_is c.self.invariant c.args.owner c.args.place c.requires.there c.level.ensures
     c.records_there-before.ensures (λ s. with_mods (remove s.mods c.args.index) s)
-    (rw c.self.view_is at c.remove_mod-modulator.ensures.change)
-    (mod_removed_is c.args.self.now c.args.owner c.args.place c.args.index) c.requires.sound
+    (rw c.self.view_is at c.remove_mod-modulator.ensures.change) c.requires.sound
     c.records_there-after.ensures c.recounted-self-inside.ensures.value

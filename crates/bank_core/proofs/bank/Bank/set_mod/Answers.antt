@@ -1,6 +1,5 @@
 use Rattle.std.specs.Prelude.{slice_set}
 use Rattle.bank_parts.specs.Settings.{with_mods}
-use Rattle.bank_changes.proofs.SettingLaws.{mod_set_is}
 use Rattle.bank_core.proofs.KeptTotals.{no_limit_before, has_before, kept_there}
 use Rattle.bank_core.proofs.bank.Bank.set_mod.Goals as goal
 
@@ -16,6 +15,5 @@ pub invariant_of-self : goal.invariant_of-self
 invariant_of-self c =
     kept_there c.self.view_is c.self.invariant c.args.owner c.args.place c.requires.there c.level.ensures
     c.records_there-before.ensures (λ s. with_mods (slice_set s.mods c.args.index c.args.modulator) s)
-    (rw c.self.view_is at c.set_mod-replaced.ensures.change)
-    (mod_set_is c.args.self.now c.args.owner c.args.place c.args.index c.args.modulator) c.requires.sound
+    (rw c.self.view_is at c.set_mod-replaced.ensures.change) c.requires.sound
     c.records_there-after.ensures c.recounted-self-inside.ensures.value
