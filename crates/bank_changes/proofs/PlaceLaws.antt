@@ -130,7 +130,8 @@ member_fits IsFit (place.Zone k) x s e fits =
 pub gens_of_sound : (b : Parts) (o : Owner) (at : Place) (s : Settings) → IsSound b → settings_of b o at ≡ Some s
     → AreGenerators (level_of o) s.gens
 gens_of_sound b o at s sound =
-    of_sound b o (λ _ owners i. settings_at owners i (zone_place at)) (λ (s : Settings). AreGenerators (level_of o) s.gens)
+    of_sound b o (λ _ owners i. settings_at owners i (zone_place at))
+    (λ (s : Settings). AreGenerators (level_of o) s.gens)
     (λ _ name_of IsFit owners i are s e.
     let x = given (settings_in (zone_place at)) (slice_get owners i) s e in
     member_gens name_of (level_of o) (target_count b o) (zone_place at) x.member s x.gives

@@ -48,8 +48,10 @@ word_fixed (Group ss) = (refl, refl)
 -- ---- what fits can be said
 
 braced_fit : (s : Step) → FitsStep s → operand.AllFit (braced s)
-braced_fit s h =
-    ((refl, refl), both_fit (step_operands s) (Fixed (codes "}") ∷ []) (form_fixed s, operands_fit s h) ((refl, refl), tt))
+braced_fit s h = (
+  (refl, refl),
+  both_fit (step_operands s) (Fixed (codes "}") ∷ []) (form_fixed s, operands_fit s h) ((refl, refl), tt),
+)
 
 all_braced_fit : (ss : List Step) → AllByRecursion FitsStep ss → operand.AllFit (flat_map braced ss)
 all_braced_fit [] h = tt

@@ -31,7 +31,8 @@ use Rattle.step_script.specs.Members.{naming}
 use Rattle.step_script.specs.Owners.{owner_zone}
 use Rattle.step_script.specs.Grammar.{forms, word_of, operands, SaysStep}
 use Rattle.step_script.proofs.Lawful.{IsLawful, ◌&◌, of_two, of_more, index, number16, number8, an_axis, a_keep}
-use Rattle.step_script.proofs.Lawful.{an_id, a_text, a_body, some_points, a_kind, a_loop, a_tune, a_generator, a_modulator}
+use Rattle.step_script.proofs.Lawful.{an_id, a_text, a_body, some_points, a_kind, a_loop, a_tune}
+use Rattle.step_script.proofs.Lawful.{a_generator, a_modulator}
 use Rattle.step_script.proofs.OwnerLaws.{names, moves, heads, owner_zones, owner_places}
 use Rattle.step_script.proofs.Spelt.{IsSpelt, in_one_way, adds_zone, added, adds_owner, owner_parts}
 
@@ -72,7 +73,8 @@ spelt {p = p} {S} {o} {F} l make reads is =
 
 -- of one part that is written in one way, of two, and of three, as the form reads them
 abbrev one : {f : Form} {X : Type 0} {p : Part X} {o : X → List Operand} {F : X → Type 0} → IsLawful p o F
-    → (make : X → Step) → f.1 ≡ (p >>= λ x. pure (make x)) → ((x : X) → IsOf f.0 (make x) (λ os. os ≡ o x) (o x) (F x)) → Row f
+    → (make : X → Step) → f.1 ≡ (p >>= λ x. pure (make x))
+    → ((x : X) → IsOf f.0 (make x) (λ os. os ≡ o x) (o x) (F x)) → Row f
 one l make reads is = spelt (in_one_way l) make (λ line. ap (λ (p : Part Step). p line) reads) is
 
 abbrev two : {f : Form} {X Y : Type 0} {p : Part X} {q : Part Y} {o : X → List Operand} {r : Y → List Operand}
@@ -136,7 +138,8 @@ preset_rows =
     and none
 
 abbrev pub instrument_rows : AreRows instruments.forms
-unfolding instruments.forms instruments.add_instrument instruments.remove_instrument instruments.rename_instrument instruments.move_instrument
+unfolding instruments.forms instruments.add_instrument instruments.remove_instrument
+    instruments.rename_instrument instruments.move_instrument
 instrument_rows =
     spelt (adds_owner names) (λ a. steps.Instrument (AddInstrument a.0.0 (added a)))
     (owner_parts naming (λ at instrument. steps.Instrument (AddInstrument at instrument)))

@@ -8,7 +8,8 @@ use Rattle.edit_forms.specs.declared.presets.PresetStep.TheVariants.{AddPreset, 
 use Rattle.line_tokens.specs.Parts.{Part, ◌>>=◌, pure, most_word, most_double_word, number, name}
 use Rattle.script_grammar.specs.Operands.{Operand, Number, Name}
 use Rattle.step_script.specs.Forms.{Form}
-use Rattle.step_script.specs.Members.{place, named_operands, moved_operands, printed_owner, naming, moving, placed, owner}
+use Rattle.step_script.specs.Members.{place, named_operands, moved_operands, printed_owner, naming, moving}
+use Rattle.step_script.specs.Members.{placed, owner}
 
 -- ---- a preset without its zones
 
