@@ -27,21 +27,6 @@ use Rattle.edit_forms.specs.Steps.{inverse}
 -- ---- what the bank returns of what it replaced or took out makes the step that takes the change back
 
 module _ (b : Parts) (i : ℕ) (lt : i < length b.samples) where
-  pub inverse_of_set_loop : (looped old : Option (ℕ × ℕ))
-      → IfSome (slice_get b.samples i) (λ (s : Sample). old ≡ s.looped)
-      → steps.Points i (SetLoop old) ≡ inverse b (steps.Points i (SetLoop looped))
-  inverse_of_set_loop looped old h =
-      let (s, e) = slice_get-found b.samples i lt in
-      let same : old ≡ s.looped = rw e at h in
-      rw e (ap (λ (l : Option (ℕ × ℕ)). steps.Points i (SetLoop l)) same)
-
-  pub inverse_of_set_kind : (kind old : Kind) → IfSome (slice_get b.samples i) (λ (s : Sample). old ≡ s.kind)
-      → steps.Points i (SetKind old) ≡ inverse b (steps.Points i (SetKind kind))
-  inverse_of_set_kind kind old h =
-      let (s, e) = slice_get-found b.samples i lt in
-      let same : old ≡ s.kind = rw e at h in
-      rw e (ap (λ (k : Kind). steps.Points i (SetKind k)) same)
-
   pub correction_fits : IsSound b → (old : ℤ) → IfSome (slice_get b.samples i) (λ (s : Sample). old ≡ s.correction)
       → FitsSigned w8 old
   correction_fits sound old h =

@@ -26,8 +26,8 @@ use Rattle.hydra_records.specs.Fits.{FitsBag, FitsGenerator, FitsPresetHead, Fit
 use Rattle.bank_format.specs.Ids.{EOP, EOI, EOS}
 use Rattle.bank_format.specs.Windows.{ends, starts, together}
 use Rattle.bank_format.specs.Zones.{Bagged, bags_written, generator, gens_written, zone_written}
-use Rattle.bank_format.specs.Tables.{bag, bag_list, gen_list, mod_list, bags_of, Headers, presets, instruments}
-use Rattle.bank_format.specs.Tables.{heads_from, preset_end, instrument_end, sample_end, sample_heads_from}
+use Rattle.bank_format.specs.Tables.{bag, bag_list, gen_list, mod_list, modulator_end, bags_of, Headers, presets}
+use Rattle.bank_format.specs.Tables.{instruments, heads_from, preset_end, instrument_end, sample_end, sample_heads_from}
 use Rattle.bank_format.specs.Tables.{kind_word, link_word, loop_start_at, loop_end_at}
 use Rattle.bank_format.proofs.AllLaws.{all-append, all-flat_map}
 use Rattle.bank_format.proofs.NameLaws.{length-filled}
@@ -186,23 +186,25 @@ gen_list_fit bags v =
     (all-flat_map FitsGenerator FitsBagged (λ (r : Bagged). r.gens) (λ r w. w.gens) bags v)
     (record { operator = omega arith; amount = omega arith }, tt)
 
+-- the modulator that ends a list
+pub modulator_end_fits : FitsModulator modulator_end
+modulator_end_fits =
+    record {
+      source =
+          omega arith;
+      dest =
+          omega arith;
+      amount =
+          record { sfits = omega arith };
+      amount_source = omega arith;
+      transform = omega arith;
+    }
+
 pub mod_list_fit : (bags : List Bagged) → AllByRecursion FitsBagged bags → AllByRecursion FitsModulator (mod_list bags)
 unfolding mod_list
 mod_list_fit bags v =
     all-append FitsModulator _ _
-    (all-flat_map FitsModulator FitsBagged (λ (r : Bagged). r.mods) (λ r w. w.mods) bags v) (
-      record {
-        source =
-            omega arith;
-        dest =
-            omega arith;
-        amount =
-            record { sfits = omega arith };
-        amount_source = omega arith;
-        transform = omega arith;
-      },
-      tt,
-    )
+    (all-flat_map FitsModulator FitsBagged (λ (r : Bagged). r.mods) (λ r w. w.mods) bags v) (modulator_end_fits, tt)
 
 -- ---- heads
 

@@ -27,6 +27,7 @@ use Rattle.bank_format.specs.Samples.{sample_read}
 use Rattle.bank_format.specs.Chunks.{window, chunks_of, body_in, or_zero, tables_in, points_in}
 use Rattle.bank_format.specs.Reading.{preset_windows, instrument_windows, owner_read, bank_of, content_in}
 use Rattle.bank_format.specs.ReadSteps.{sample_step, targets_of, target_steps, fault_of}
+use Rattle.bank_format.proofs.FitLaws.{modulator_end_fits}
 use Rattle.bank_format.proofs.StepLaws.{both_none, all_none}
 use Rattle.bank_format.proofs.ReadBytes.{OfBytes, body_bytes, chunk_bytes, window_bytes}
 use Rattle.bank_format.proofs.ReadSamples.{ReadHead, heads_read, GoodHead, samples_valid, samples_fit}
@@ -52,19 +53,7 @@ pub record AreRead (t : Tables) : Type 0 where
   pub shdr : AllByRecursion ReadHead (rows t.shdr)
 
 or_zero_fit : (ms : List Modulator) → AllByRecursion FitsModulator ms → AllByRecursion FitsModulator (or_zero ms)
-or_zero_fit [] v = (
-  record {
-    source =
-        omega arith;
-    dest =
-        omega arith;
-    amount =
-        record { sfits = omega arith };
-    amount_source = omega arith;
-    transform = omega arith;
-  },
-  tt,
-)
+or_zero_fit [] v = (modulator_end_fits, tt)
 or_zero_fit (m ∷ ms) v = v
 
 rows_hold : {X : Type 0} (P : X → Type 0) (xs : List X) → AllByRecursion P xs → AllByRecursion P (rows xs)

@@ -7,7 +7,6 @@ use Rattle.std.proofs.lemmas.Bool.{leb-true, leb-false}
 use Rattle.std.proofs.lemmas.Option.{get_or_from_slice_get, slice_get_within, slice_get_cases}
 use Rattle.std.proofs.lemmas.List.Sums.{get_or-le-sum_by}
 use Rattle.note_list.specs.Notes.{Numbers}
-use Rattle.bank_parts.specs.declared.parts.Head.{Head}
 use Rattle.bank_parts.specs.declared.parts.Zone.{Zone}
 use Rattle.bank_parts.specs.declared.parts.WithZones.{WithZones}
 use Rattle.bank_parts.specs.declared.parts.Parts.{Parts}
@@ -15,10 +14,11 @@ use Rattle.bank_parts.specs.Valid.{IsWithin, zone_count, owner_total}
 use Rattle.bank_parts.specs.Sound.{IsSound}
 use Rattle.bank_changes.specs.declared.members.Owner.{Owner}
 use Rattle.bank_changes.specs.declared.members.Owner.TheVariants as owner
+use Rattle.bank_parts.specs.Owners.{zone_count_at}
 use Rattle.bank_changes.specs.Members.{own_zone_count}
 use Rattle.bank_changes.specs.Zones.{range_of_zone}
 use Rattle.zone_ranges.specs.declared.axes.Axis.TheVariants.{Key, Velocity}
-use Rattle.zone_ranges.specs.Ranges.{low_end, high_end, range_of}
+use Rattle.zone_ranges.specs.Ranges.{low_end, high_end, range_of, range_at}
 use Rattle.zone_select.specs.Ranges.{holds, within}
 use Rattle.zone_select.specs.Pairs.{holds_at, held}
 use Rattle.zone_select.specs.Left.{zones_in, owner_holds, owner_held}
@@ -36,23 +36,18 @@ few_in {H} owners i (Some x) e =
     let same = ap (λ (y : WithZones H). zone_count y.global y.zones) (get_or_from_slice_get owners i x x e) in
     omega (arith, h, same)
 
-zones_of_preset : (b : Parts) (p : ℕ) (o : Option (WithZones Head)) → slice_get b.presets p ≡ o
-    → zones_in b (owner.Preset p) ≡ option_map_or (λ (x : WithZones Head). length x.zones) o 0
-zones_of_preset b p None e = rw e refl
-zones_of_preset b p (Some x) e = rw e refl
-
-zones_of_instrument : (b : Parts) (i : ℕ) (o : Option (WithZones (List ℕ))) → slice_get b.instruments i ≡ o
-    → zones_in b (owner.Instrument i) ≡ option_map_or (λ (x : WithZones (List ℕ)). length x.zones) o 0
-zones_of_instrument b i None e = rw e refl
-zones_of_instrument b i (Some x) e = rw e refl
+count_in : {H : Type 0} (owners : List (WithZones H)) (i : ℕ) (o : Option (WithZones H)) → slice_get owners i ≡ o
+    → unwrap_or (zone_count_at owners i) 0 ≡ option_map_or (λ (x : WithZones H). length x.zones) o 0
+count_in owners i None e = rw e refl
+count_in owners i (Some x) e = rw e refl
 
 pub zones_few : (b : Parts) (o : Owner) → IsWithin b → zones_in b o ≤ 65535
 zones_few b (owner.Preset p) w =
     let h = few_in b.presets p _ refl in
-    let s = zones_of_preset b p _ refl in let most = w.preset_zones in omega (arith, h, s, most)
+    let s = count_in b.presets p _ refl in let most = w.preset_zones in omega (arith, h, s, most)
 zones_few b (owner.Instrument i) w =
     let h = few_in b.instruments i _ refl in
-    let s = zones_of_instrument b i _ refl in let most = w.instrument_zones in omega (arith, h, s, most)
+    let s = count_in b.instruments i _ refl in let most = w.instrument_zones in omega (arith, h, s, most)
 
 pub zone_count_few : (b : Parts) (o : Owner) (n : ℕ) → IsSound b → own_zone_count b o ≡ Some n → n ≤ 65535
 zone_count_few b o n s e =
@@ -64,12 +59,15 @@ fits_field n h = omega (arith, h)
 -- ---- whether a zone holds the note
 
 -- a zone that is there, by the two ranges that a bank tells of it
-pub record ZoneTold (b : Parts) (n : Numbers) (o : Owner) (k : ℕ) : Type 0 where
+pub record Told (n : Numbers) (keys velocities : Option ℕ) (holding : Bool) : Type 0 where
   pub key : ℕ
   pub velocity : ℕ
-  pub key_range : range_of_zone b o k Key ≡ Some key
-  pub velocity_range : range_of_zone b o k Velocity ≡ Some velocity
-  pub holds : owner_holds b n o k ≡ (within key n.key && within velocity n.velocity)
+  pub key_range : keys ≡ Some key
+  pub velocity_range : velocities ≡ Some velocity
+  pub holds : holding ≡ (within key n.key && within velocity n.velocity)
+
+abbrev pub ZoneTold : Parts → Numbers → Owner → ℕ → Type 0
+ZoneTold b n o k = Told n (range_of_zone b o k Key) (range_of_zone b o k Velocity) (owner_holds b n o k)
 
 there : (zones : List Zone) (k : ℕ) → k < length zones → (z : Zone) × (slice_get zones k ≡ Some z)
 there zones k h = from (slice_get_cases zones k).1
@@ -80,29 +78,13 @@ there zones k h = from (slice_get_cases zones k).1
     from (inl r) = (r.0, r.2)
     from (inr r) = absurd (let past = r.0 in omega (arith, h, past))
 
-in_presets : (b : Parts) (n : Numbers) (p k : ℕ) (o : Option (WithZones Head)) → slice_get b.presets p ≡ o
-    → k < option_map_or (λ (x : WithZones Head). length x.zones) o 0 → ZoneTold b n (owner.Preset p) k
+told_in : {H : Type 0} (owners : List (WithZones H)) (n : Numbers) (i k : ℕ) (o : Option (WithZones H))
+    → slice_get owners i ≡ o → k < option_map_or (λ (x : WithZones H). length x.zones) o 0
+    → Told n (range_at Key owners i k) (range_at Velocity owners i k)
+    (option_map_or (λ (x : WithZones H). holds_at n x.global x.zones k) (slice_get owners i) false)
 unfolding holds
-in_presets b n p k None e h = absurd (omega (arith, h))
-in_presets b n p k (Some x) e h =
-    let z = there x.zones k h in
-    record {
-      key =
-          range_of Key x.global z.0;
-      velocity =
-          range_of Velocity x.global z.0;
-      key_range =
-          rw (e, z.1) refl;
-      velocity_range = rw (e, z.1) refl;
-      holds = rw (e, z.1) refl;
-    }
-
-in_instruments : (b : Parts) (n : Numbers) (i k : ℕ) (o : Option (WithZones (List ℕ)))
-    → slice_get b.instruments i ≡ o → k < option_map_or (λ (x : WithZones (List ℕ)). length x.zones) o 0
-    → ZoneTold b n (owner.Instrument i) k
-unfolding holds
-in_instruments b n i k None e h = absurd (omega (arith, h))
-in_instruments b n i k (Some x) e h =
+told_in owners n i k None e h = absurd (omega (arith, h))
+told_in owners n i k (Some x) e h =
     let z = there x.zones k h in
     record {
       key =
@@ -117,9 +99,9 @@ in_instruments b n i k (Some x) e h =
 
 pub zone_told : (b : Parts) (n : Numbers) (o : Owner) (k : ℕ) → k < zones_in b o → ZoneTold b n o k
 zone_told b n (owner.Preset p) k h =
-    let s = zones_of_preset b p _ refl in in_presets b n p k _ refl (omega (arith, h, s))
+    let s = count_in b.presets p _ refl in told_in b.presets n p k _ refl (omega (arith, h, s))
 zone_told b n (owner.Instrument i) k h =
-    let s = zones_of_instrument b i _ refl in in_instruments b n i k _ refl (omega (arith, h, s))
+    let s = count_in b.instruments i _ refl in told_in b.instruments n i k _ refl (omega (arith, h, s))
 
 -- a range by its ends
 both_ends : (r : Bool) (low high range x : ℕ) → low_end range ≡ low → high_end range ≡ high
@@ -158,35 +140,25 @@ counted (Some n) k h = h
 
 -- ---- the numbers of the zones that hold it
 
-held_of_preset : (b : Parts) (n : Numbers) (p k : ℕ)
-    → owner_held b n (owner.Preset p) k ≡ numbers (owner_holds b n (owner.Preset p)) k (zones_in b (owner.Preset p))
-held_of_preset b n p k =
-    elim (slice_get b.presets p) as
-    (λ (o : Option (WithZones Head)).
-    option_map_or (λ (x : WithZones Head). held n x.global x.zones k) o []
-    ≡ numbers (λ j. option_map_or (λ (x : WithZones Head). holds_at n x.global x.zones j) o false) k
-    (unwrap_or (option_map (λ (x : WithZones Head). length x.zones) o) 0)) [
-      | None ↦ sym (numbers_end (λ _. false) k 0 (omega arith))
-      | Some x ↦ refl
-    ]
-
-held_of_instrument : (b : Parts) (n : Numbers) (i k : ℕ)
-    → owner_held b n (owner.Instrument i) k
-    ≡ numbers (owner_holds b n (owner.Instrument i)) k (zones_in b (owner.Instrument i))
-held_of_instrument b n i k =
-    elim (slice_get b.instruments i) as
-    (λ (o : Option (WithZones (List ℕ))).
-    option_map_or (λ (x : WithZones (List ℕ)). held n x.global x.zones k) o []
-    ≡ numbers (λ j. option_map_or (λ (x : WithZones (List ℕ)). holds_at n x.global x.zones j) o false) k
-    (unwrap_or (option_map (λ (x : WithZones (List ℕ)). length x.zones) o) 0)) [
+held_in : {H : Type 0} (owners : List (WithZones H)) (n : Numbers) (i k : ℕ)
+    → option_map_or (λ (x : WithZones H). held n x.global x.zones k) (slice_get owners i) []
+    ≡ numbers
+    (λ j. option_map_or (λ (x : WithZones H). holds_at n x.global x.zones j) (slice_get owners i) false) k
+    (unwrap_or (zone_count_at owners i) 0)
+held_in {H} owners n i k =
+    elim (slice_get owners i) as
+    (λ (o : Option (WithZones H)).
+    option_map_or (λ (x : WithZones H). held n x.global x.zones k) o []
+    ≡ numbers (λ j. option_map_or (λ (x : WithZones H). holds_at n x.global x.zones j) o false) k
+    (unwrap_or (option_map (λ (x : WithZones H). length x.zones) o) 0)) [
       | None ↦ sym (numbers_end (λ _. false) k 0 (omega arith))
       | Some x ↦ refl
     ]
 
 held_is : (b : Parts) (n : Numbers) (o : Owner) (k : ℕ)
     → owner_held b n o k ≡ numbers (owner_holds b n o) k (zones_in b o)
-held_is b n (owner.Preset p) k = held_of_preset b n p k
-held_is b n (owner.Instrument i) k = held_of_instrument b n i k
+held_is b n (owner.Preset p) k = held_in b.presets n p k
+held_is b n (owner.Instrument i) k = held_in b.instruments n i k
 
 pub held_end : (b : Parts) (n : Numbers) (o : Owner) (k : ℕ) → zones_in b o ≤ k → owner_held b n o k ≡ []
 held_end b n o k h = held_is b n o k ∙ numbers_end (owner_holds b n o) k (zones_in b o) h

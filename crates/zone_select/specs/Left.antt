@@ -5,7 +5,7 @@ use Rattle.std.specs.Option.{option_map_or}
 use Rattle.note_list.specs.Notes.{Numbers}
 use Rattle.bank_changes.specs.declared.members.Owner.{Owner}
 use Rattle.bank_changes.specs.declared.members.Owner.TheVariants as owner
-use Rattle.bank_changes.specs.Members.{own_zone_count, target_of}
+use Rattle.bank_changes.specs.Members.{own_read, own_zone_count, target_of}
 use Rattle.bank_parts.specs.declared.parts.Head.{Head}
 use Rattle.bank_parts.specs.declared.parts.WithZones.{WithZones}
 use Rattle.bank_parts.specs.declared.parts.Zone.{Zone}
@@ -18,16 +18,15 @@ zones_in b o = unwrap_or (own_zone_count b o) 0
 
 -- an owner has zone k, and it holds the note
 abbrev pub owner_holds : Parts → Numbers → Owner → ℕ → Bool
-owner_holds b n (owner.Preset p) k =
-    option_map_or (λ (x : WithZones Head). holds_at n x.global x.zones k) (slice_get b.presets p) false
-owner_holds b n (owner.Instrument i) k =
-    option_map_or (λ (x : WithZones (List ℕ)). holds_at n x.global x.zones k) (slice_get b.instruments i) false
+owner_holds b n o k =
+    own_read b o (λ H owners i.
+    option_map_or (λ (x : WithZones H). holds_at n x.global x.zones k) (slice_get owners i) false)
 
 -- the numbers of an owner's zones that hold the note, from k on
 abbrev pub owner_held : Parts → Numbers → Owner → ℕ → List ℕ
-owner_held b n (owner.Preset p) k =
-    option_map_or (λ (x : WithZones Head). held n x.global x.zones k) (slice_get b.presets p) []
-owner_held b n (owner.Instrument i) k = held_inside b n i k
+owner_held b n o k =
+    own_read b o (λ H owners i.
+    option_map_or (λ (x : WithZones H). held n x.global x.zones k) (slice_get owners i) [])
 
 -- the pairs of zone k of a preset, whose second is at least l, and those of the later zones
 abbrev pub left_of : Parts → Numbers → ℕ → ℕ → WithZones Head → List (ℕ × ℕ)

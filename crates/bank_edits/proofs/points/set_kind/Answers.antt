@@ -2,7 +2,6 @@ use Rattle.edit_forms.specs.declared.points.PointStep.TheVariants.{SetKind}
 use Rattle.edit_forms.specs.declared.step.Step.TheVariants as steps
 use Rattle.edit_refusals.proofs.Accepted.{accepted}
 use Rattle.edit_refusals.proofs.PointLaws.{links, sound_kind}
-use Rattle.bank_edits.proofs.PointLaws.{inverse_of_set_kind}
 use Rattle.bank_edits.proofs.points.set_kind.Goals as goal
 
 pub set_kind-old-requires-clause-there : goal.set_kind-old-requires-clause-there
@@ -18,13 +17,3 @@ set_kind-old-requires-clause-sound c =
     sound_kind c.args.bank.now c.args.sample c.args.kind c.requires.sound
     (links c.args.bank.now c.args.sample c.args.kind
     (accepted c.args.bank.now (steps.Points c.args.sample (SetKind c.args.kind)) c.requires.accepted).tests)
-
-pub returns : goal.returns
-returns c =
-    let b = c.args.bank.now in
-    let l =
-    links b c.args.sample c.args.kind
-    (accepted b (steps.Points c.args.sample (SetKind c.args.kind)) c.requires.accepted).tests in (
-      c.set_kind-old.ensures.change,
-      inverse_of_set_kind b c.args.sample l.there c.args.kind c.set_kind-old.result c.set_kind-old.ensures.value,
-    )

@@ -2,7 +2,6 @@ use Rattle.edit_forms.specs.declared.points.PointStep.TheVariants.{SetLoop}
 use Rattle.edit_forms.specs.declared.step.Step.TheVariants as steps
 use Rattle.edit_refusals.proofs.Accepted.{accepted}
 use Rattle.edit_refusals.proofs.PointLaws.{loops, sound_loop}
-use Rattle.bank_edits.proofs.PointLaws.{inverse_of_set_loop}
 use Rattle.bank_edits.proofs.points.set_loop.Goals as goal
 
 pub set_loop-old-requires-clause-there : goal.set_loop-old-requires-clause-there
@@ -18,13 +17,3 @@ set_loop-old-requires-clause-sound c =
     sound_loop c.args.bank.now c.args.sample c.args.looped c.requires.sound
     (loops c.args.bank.now c.args.sample c.args.looped
     (accepted c.args.bank.now (steps.Points c.args.sample (SetLoop c.args.looped)) c.requires.accepted).tests)
-
-pub returns : goal.returns
-returns c =
-    let b = c.args.bank.now in
-    let l =
-    loops b c.args.sample c.args.looped
-    (accepted b (steps.Points c.args.sample (SetLoop c.args.looped)) c.requires.accepted).tests in (
-      c.set_loop-old.ensures.change,
-      inverse_of_set_loop b c.args.sample l.there c.args.looped c.set_loop-old.result c.set_loop-old.ensures.value,
-    )
