@@ -1,5 +1,5 @@
 -- A form that is found among several lists of forms is the first of them that has the word.
-use Rattle.std.proofs.Common.{◌≡◌, ◌++◌, ℕ, Bool, true, false, cond, List, [], ◌∷◌, Option, Some, None, Ok, Err}
+use Rattle.std.proofs.Common.{◌≡◌, ◌++◌, ℕ, Bool, true, false, cond, List, [], ◌∷◌, Option, Some, None, Result}
 use Rattle.std.proofs.Common.{refl, sym, is_some, ◌∙◌}
 use Rattle.std.specs.Str.{bytes_eq}
 use Rattle.sf_base.specs.declared.memory.Failure.{Failure}
@@ -38,25 +38,17 @@ in_first xs ys w e = from (form_in xs w) refl e
 
 module _ (form : Option Form) (old new : saying.Left) where
   -- what is answered is of a form that is found, unless nothing is
-  pub found_some : (s : Step) → ReadsForm form old new (Ok (Some s)) → is_some form ≡ true
+  pub found : (read : Result Step (Failure LineFault)) → ReadsForm form old new (Some read) → is_some form ≡ true
   unfolding ReadsForm
-  found_some s h = from form h
-    where
-      from : (o : Option Form) → ReadsForm o old new (Ok (Some s)) → is_some o ≡ true
-      from None h = cc
-      from (Some f) h = refl
+  found read h = h.0
 
-  pub failed_some : (e : Failure LineFault) → ReadsForm form old new (Err e) → is_some form ≡ true
-  unfolding ReadsForm
-  failed_some e h = h.0
-
-  pub passed_form : ReadsForm form old new (Ok None) → form ≡ None
+  pub passed_form : ReadsForm form old new None → form ≡ None
   unfolding ReadsForm
   passed_form h = h.0
 
-  pub passed_line : ReadsForm form old new (Ok None) → new ≡ old
+  pub passed_line : ReadsForm form old new None → new ≡ old
   unfolding ReadsForm
   passed_line h = h.1
 
 -- what a form that is sought in one list, and then in another, is in both
-pub ruleset sought = (in_first, in_second, found_some, failed_some, passed_form, passed_line)
+pub ruleset sought = (in_first, in_second, found, passed_form, passed_line)

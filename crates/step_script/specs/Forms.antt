@@ -1,5 +1,5 @@
 -- What a form of edits is, and how one is found by its word.
-use Rattle.std.specs.Prelude.{◌≡◌, ℕ, List, Option, Some, None, Result, Ok, Err, IsSome}
+use Rattle.std.specs.Prelude.{◌≡◌, ℕ, List, Option, Some, None, Result, IsSome}
 use Rattle.sf_base.specs.declared.memory.Failure.{Failure}
 use Rattle.edit_forms.specs.declared.step.Step.{Step}
 use Rattle.line_tokens.specs.declared.fault.LineFault.{LineFault}
@@ -26,7 +26,6 @@ behind form = or_fault faults.Syntax form >>= λ f. f.1
 
 -- what the code of several forms does behind a word, if this is the one of them that has the word: where none has it,
 -- nothing is taken from the line
-unfoldable pub ReadsForm : Option Form → saying.Left → saying.Left → Result (Option Step) (Failure LineFault) → Type 0
-ReadsForm form old new (Ok None) = (form ≡ None) × (new ≡ old)
-ReadsForm form old new (Ok (Some s)) = ReadsOrWants (λ s. s) (behind form) old new (Ok s)
-ReadsForm form old new (Err e) = IsSome form × ReadsOrWants {X = Step} (λ s. s) (behind form) old new (Err e)
+unfoldable pub ReadsForm : Option Form → saying.Left → saying.Left → Option (Result Step (Failure LineFault)) → Type 0
+ReadsForm form old new None = (form ≡ None) × (new ≡ old)
+ReadsForm form old new (Some read) = IsSome form × ReadsOrWants (λ s. s) (behind form) old new read

@@ -2,7 +2,6 @@
 ghost use Rattle.std.specs.Prelude.{◌≡◌, ◌∷◌, codes};
 ghost use Rattle.std.specs.List.{flat_map};
 ghost use Rattle.outputs.specs.Output.{Puts};
-ghost use Rattle.line_tokens.specs.Parts.{Reads};
 ghost use Rattle.line_tokens.specs.Printing.{spaced};
 ghost use Rattle.script_grammar.specs.Operands.{pieces_of};
 ghost use Rattle.script_grammar.specs.Memory.{ReadsOrWants};
@@ -29,15 +28,15 @@ pub(crate) fn instrument_step<'p>(
     word: &[u8],
     alloc: Global,
     line: &mut Cursor<'_, 'p>,
-) -> Result<Option<Step<'p>>, Failure<LineFault>>
+) -> Option<Result<Step<'p>, Failure<LineFault>>>
     ensures { ReadsForm (form_in forms word.now) line.old line.new result }
 {
-    Ok(by_word!(word,
-        b"add-inst" => add_instrument(alloc, line)?,
-        b"remove-inst" => remove_instrument(line)?,
-        b"rename-inst" => rename_instrument(line)?,
-        b"move-inst" => move_instrument(line)?,
-    ))
+    by_word!(word,
+        b"add-inst" => add_instrument(alloc, line),
+        b"remove-inst" => remove_instrument(line),
+        b"rename-inst" => rename_instrument(line),
+        b"move-inst" => move_instrument(line),
+    )
 }
 
 // `I NAME GLOBAL? ZONE*`
@@ -55,8 +54,8 @@ fn add_instrument<'p>(
 
 // `I`
 #[tactic(auto, unfolding(crate::specs::Instruments::remove_instrument))]
-fn remove_instrument<'p>(line: &mut Cursor<'_, 'p>) -> Result<Step<'p>, LineFault>
-    ensures { Reads (λ s. s) remove_instrument line.old line.new result }
+fn remove_instrument<'p>(line: &mut Cursor<'_, 'p>) -> Result<Step<'p>, Failure<LineFault>>
+    ensures { ReadsOrWants (λ s. s) remove_instrument line.old line.new result }
 {
     let instrument = line.number(u32::MAX)?;
     Ok(Step::Instrument(InstrumentStep::RemoveInstrument { instrument }))
@@ -64,8 +63,8 @@ fn remove_instrument<'p>(line: &mut Cursor<'_, 'p>) -> Result<Step<'p>, LineFaul
 
 // `I NAME`
 #[tactic(auto, unfolding(crate::specs::Instruments::rename_instrument))]
-fn rename_instrument<'p>(line: &mut Cursor<'_, 'p>) -> Result<Step<'p>, LineFault>
-    ensures { Reads (λ s. s) rename_instrument line.old line.new result }
+fn rename_instrument<'p>(line: &mut Cursor<'_, 'p>) -> Result<Step<'p>, Failure<LineFault>>
+    ensures { ReadsOrWants (λ s. s) rename_instrument line.old line.new result }
 {
     let (instrument, name) = naming(line)?;
     Ok(Step::Instrument(InstrumentStep::RenameInstrument { instrument, name }))
@@ -73,8 +72,8 @@ fn rename_instrument<'p>(line: &mut Cursor<'_, 'p>) -> Result<Step<'p>, LineFaul
 
 // `I J`
 #[tactic(auto, unfolding(crate::specs::Instruments::move_instrument))]
-fn move_instrument<'p>(line: &mut Cursor<'_, 'p>) -> Result<Step<'p>, LineFault>
-    ensures { Reads (λ s. s) move_instrument line.old line.new result }
+fn move_instrument<'p>(line: &mut Cursor<'_, 'p>) -> Result<Step<'p>, Failure<LineFault>>
+    ensures { ReadsOrWants (λ s. s) move_instrument line.old line.new result }
 {
     let (from, to) = moving(line)?;
     Ok(Step::Instrument(InstrumentStep::MoveInstrument { from, to }))

@@ -2,8 +2,8 @@
 ghost use Rattle.std.specs.Prelude.{◌≡◌, ℕ, codes};
 ghost use Rattle.std.specs.List.{flat_map};
 ghost use Rattle.outputs.specs.Output.{Puts};
-ghost use Rattle.line_tokens.specs.Parts.{Reads};
 ghost use Rattle.line_tokens.specs.Printing.{spaced};
+ghost use Rattle.script_grammar.specs.Memory.{ReadsOrWants};
 ghost use Rattle.script_grammar.specs.Operands.{pieces_of};
 ghost use Rattle.edit_forms.specs.declared.points.PointStep.TheVariants.{Trim, Extend, SetLoop, SetKind, SetTune};
 ghost use Rattle.step_script.specs.Forms.{form_in, ReadsForm};
@@ -30,22 +30,22 @@ pub(crate) fn point_step<'p>(
     word: &[u8],
     alloc: Global,
     line: &mut Cursor<'_, 'p>,
-) -> Result<Option<Step<'p>>, Failure<LineFault>>
+) -> Option<Result<Step<'p>, Failure<LineFault>>>
     ensures { ReadsForm (form_in forms word.now) line.old line.new result }
 {
-    Ok(by_word!(word,
-        b"trim" => trim(line)?,
-        b"extend" => extend(alloc, line)?,
-        b"set-loop" => set_loop(line)?,
-        b"set-kind" => set_kind(line)?,
-        b"set-tune" => set_tune(line)?,
-    ))
+    by_word!(word,
+        b"trim" => trim(line),
+        b"extend" => extend(alloc, line),
+        b"set-loop" => set_loop(line),
+        b"set-kind" => set_kind(line),
+        b"set-tune" => set_tune(line),
+    )
 }
 
 // `S F B`
 #[tactic(auto, unfolding(crate::specs::Points::trim))]
-fn trim<'p>(line: &mut Cursor<'_, 'p>) -> Result<Step<'p>, LineFault>
-    ensures { Reads (λ s. s) trim line.old line.new result }
+fn trim<'p>(line: &mut Cursor<'_, 'p>) -> Result<Step<'p>, Failure<LineFault>>
+    ensures { ReadsOrWants (λ s. s) trim line.old line.new result }
 {
     let sample = line.number(u32::MAX)?;
     let front = line.number(u32::MAX)?;
@@ -55,8 +55,8 @@ fn trim<'p>(line: &mut Cursor<'_, 'p>) -> Result<Step<'p>, LineFault>
 
 // `S POINTS POINTS`
 #[tactic(auto, unfolding(crate::specs::Points::extend))]
-fn extend<'p>(alloc: Global, line: &mut Cursor<'_, 'p>) -> Result<Step<'p>, LineFault>
-    ensures { Reads (λ s. s) extend line.old line.new result }
+fn extend<'p>(alloc: Global, line: &mut Cursor<'_, 'p>) -> Result<Step<'p>, Failure<LineFault>>
+    ensures { ReadsOrWants (λ s. s) extend line.old line.new result }
 {
     let sample = line.number(u32::MAX)?;
     let front = points(alloc, line)?;
@@ -66,8 +66,8 @@ fn extend<'p>(alloc: Global, line: &mut Cursor<'_, 'p>) -> Result<Step<'p>, Line
 
 // `S LOOP`
 #[tactic(auto, unfolding(crate::specs::Points::set_loop))]
-fn set_loop<'p>(line: &mut Cursor<'_, 'p>) -> Result<Step<'p>, LineFault>
-    ensures { Reads (λ s. s) set_loop line.old line.new result }
+fn set_loop<'p>(line: &mut Cursor<'_, 'p>) -> Result<Step<'p>, Failure<LineFault>>
+    ensures { ReadsOrWants (λ s. s) set_loop line.old line.new result }
 {
     let sample = line.number(u32::MAX)?;
     let looped = looped(line)?;
@@ -76,8 +76,8 @@ fn set_loop<'p>(line: &mut Cursor<'_, 'p>) -> Result<Step<'p>, LineFault>
 
 // `S KIND`
 #[tactic(auto, unfolding(crate::specs::Points::set_kind))]
-fn set_kind<'p>(line: &mut Cursor<'_, 'p>) -> Result<Step<'p>, LineFault>
-    ensures { Reads (λ s. s) set_kind line.old line.new result }
+fn set_kind<'p>(line: &mut Cursor<'_, 'p>) -> Result<Step<'p>, Failure<LineFault>>
+    ensures { ReadsOrWants (λ s. s) set_kind line.old line.new result }
 {
     let sample = line.number(u32::MAX)?;
     let kind = kind(line)?;
@@ -86,8 +86,8 @@ fn set_kind<'p>(line: &mut Cursor<'_, 'p>) -> Result<Step<'p>, LineFault>
 
 // `S RATE KEY CORR`
 #[tactic(auto, unfolding(crate::specs::Points::set_tune))]
-fn set_tune<'p>(line: &mut Cursor<'_, 'p>) -> Result<Step<'p>, LineFault>
-    ensures { Reads (λ s. s) set_tune line.old line.new result }
+fn set_tune<'p>(line: &mut Cursor<'_, 'p>) -> Result<Step<'p>, Failure<LineFault>>
+    ensures { ReadsOrWants (λ s. s) set_tune line.old line.new result }
 {
     let sample = line.number(u32::MAX)?;
     let (rate, key, correction) = tune(line)?;

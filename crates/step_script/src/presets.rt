@@ -30,15 +30,15 @@ pub(crate) fn preset_step<'p>(
     word: &[u8],
     alloc: Global,
     line: &mut Cursor<'_, 'p>,
-) -> Result<Option<Step<'p>>, Failure<LineFault>>
+) -> Option<Result<Step<'p>, Failure<LineFault>>>
     ensures { ReadsForm (form_in forms word.now) line.old line.new result }
 {
-    Ok(by_word!(word,
-        b"add-preset" => add_preset(alloc, line)?,
-        b"remove-preset" => remove_preset(line)?,
-        b"move-preset" => move_preset(line)?,
-        b"set-head" => set_head(line)?,
-    ))
+    by_word!(word,
+        b"add-preset" => add_preset(alloc, line),
+        b"remove-preset" => remove_preset(line),
+        b"move-preset" => move_preset(line),
+        b"set-head" => set_head(line),
+    )
 }
 
 // `P NAME NUMBER BANK LIBRARY GENRE MORPHOLOGY GLOBAL? ZONE*`
@@ -53,8 +53,8 @@ fn add_preset<'p>(alloc: Global, line: &mut Cursor<'_, 'p>) -> Result<Step<'p>, 
 
 // `P`
 #[tactic(auto, unfolding(crate::specs::Presets::remove_preset))]
-fn remove_preset<'p>(line: &mut Cursor<'_, 'p>) -> Result<Step<'p>, LineFault>
-    ensures { Reads (λ s. s) remove_preset line.old line.new result }
+fn remove_preset<'p>(line: &mut Cursor<'_, 'p>) -> Result<Step<'p>, Failure<LineFault>>
+    ensures { ReadsOrWants (λ s. s) remove_preset line.old line.new result }
 {
     let preset = line.number(u32::MAX)?;
     Ok(Step::Preset(PresetStep::RemovePreset { preset }))
@@ -62,8 +62,8 @@ fn remove_preset<'p>(line: &mut Cursor<'_, 'p>) -> Result<Step<'p>, LineFault>
 
 // `I J`
 #[tactic(auto, unfolding(crate::specs::Presets::move_preset))]
-fn move_preset<'p>(line: &mut Cursor<'_, 'p>) -> Result<Step<'p>, LineFault>
-    ensures { Reads (λ s. s) move_preset line.old line.new result }
+fn move_preset<'p>(line: &mut Cursor<'_, 'p>) -> Result<Step<'p>, Failure<LineFault>>
+    ensures { ReadsOrWants (λ s. s) move_preset line.old line.new result }
 {
     let (from, to) = moving(line)?;
     Ok(Step::Preset(PresetStep::MovePreset { from, to }))
@@ -71,8 +71,8 @@ fn move_preset<'p>(line: &mut Cursor<'_, 'p>) -> Result<Step<'p>, LineFault>
 
 // `P NAME NUMBER BANK`
 #[tactic(auto, unfolding(crate::specs::Presets::set_head))]
-fn set_head<'p>(line: &mut Cursor<'_, 'p>) -> Result<Step<'p>, LineFault>
-    ensures { Reads (λ s. s) set_head line.old line.new result }
+fn set_head<'p>(line: &mut Cursor<'_, 'p>) -> Result<Step<'p>, Failure<LineFault>>
+    ensures { ReadsOrWants (λ s. s) set_head line.old line.new result }
 {
     let (preset, name) = naming(line)?;
     let number = line.number(u32::from(u16::MAX))? as u16;

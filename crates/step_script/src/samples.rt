@@ -2,8 +2,8 @@
 ghost use Rattle.std.specs.Prelude.{◌≡◌, ◌∷◌, codes};
 ghost use Rattle.std.specs.List.{flat_map};
 ghost use Rattle.outputs.specs.Output.{Puts};
-ghost use Rattle.line_tokens.specs.Parts.{Reads};
 ghost use Rattle.line_tokens.specs.Printing.{spaced};
+ghost use Rattle.script_grammar.specs.Memory.{ReadsOrWants};
 ghost use Rattle.script_grammar.specs.Operands.{pieces_of};
 ghost use Rattle.script_grammar.specs.Samples.{body_operands};
 ghost use Rattle.step_script.specs.Forms.{form_in, ReadsForm};
@@ -29,21 +29,21 @@ pub(crate) fn sample_step<'p>(
     word: &[u8],
     alloc: Global,
     line: &mut Cursor<'_, 'p>,
-) -> Result<Option<Step<'p>>, Failure<LineFault>>
+) -> Option<Result<Step<'p>, Failure<LineFault>>>
     ensures { ReadsForm (form_in forms word.now) line.old line.new result }
 {
-    Ok(by_word!(word,
-        b"rename-sample" => rename_sample(line)?,
-        b"add-sample" => add_sample(alloc, line)?,
-        b"remove-sample" => remove_sample(line)?,
-        b"move-sample" => move_sample(line)?,
-    ))
+    by_word!(word,
+        b"rename-sample" => rename_sample(line),
+        b"add-sample" => add_sample(alloc, line),
+        b"remove-sample" => remove_sample(line),
+        b"move-sample" => move_sample(line),
+    )
 }
 
 // `S NAME`
 #[tactic(auto, unfolding(crate::specs::Samples::rename_sample))]
-fn rename_sample<'p>(line: &mut Cursor<'_, 'p>) -> Result<Step<'p>, LineFault>
-    ensures { Reads (λ s. s) rename_sample line.old line.new result }
+fn rename_sample<'p>(line: &mut Cursor<'_, 'p>) -> Result<Step<'p>, Failure<LineFault>>
+    ensures { ReadsOrWants (λ s. s) rename_sample line.old line.new result }
 {
     let (sample, name) = naming(line)?;
     Ok(Step::Sample(SampleStep::RenameSample { sample, name }))
@@ -51,8 +51,8 @@ fn rename_sample<'p>(line: &mut Cursor<'_, 'p>) -> Result<Step<'p>, LineFault>
 
 // `S BODY`
 #[tactic(auto, unfolding(crate::specs::Samples::add_sample))]
-fn add_sample<'p>(alloc: Global, line: &mut Cursor<'_, 'p>) -> Result<Step<'p>, LineFault>
-    ensures { Reads (λ s. s) add_sample line.old line.new result }
+fn add_sample<'p>(alloc: Global, line: &mut Cursor<'_, 'p>) -> Result<Step<'p>, Failure<LineFault>>
+    ensures { ReadsOrWants (λ s. s) add_sample line.old line.new result }
 {
     let at = line.number(u32::MAX)?;
     let sample = sample_body(alloc, line)?;
@@ -61,8 +61,8 @@ fn add_sample<'p>(alloc: Global, line: &mut Cursor<'_, 'p>) -> Result<Step<'p>, 
 
 // `S`
 #[tactic(auto, unfolding(crate::specs::Samples::remove_sample))]
-fn remove_sample<'p>(line: &mut Cursor<'_, 'p>) -> Result<Step<'p>, LineFault>
-    ensures { Reads (λ s. s) remove_sample line.old line.new result }
+fn remove_sample<'p>(line: &mut Cursor<'_, 'p>) -> Result<Step<'p>, Failure<LineFault>>
+    ensures { ReadsOrWants (λ s. s) remove_sample line.old line.new result }
 {
     let sample = line.number(u32::MAX)?;
     Ok(Step::Sample(SampleStep::RemoveSample { sample }))
@@ -70,8 +70,8 @@ fn remove_sample<'p>(line: &mut Cursor<'_, 'p>) -> Result<Step<'p>, LineFault>
 
 // `I J`
 #[tactic(auto, unfolding(crate::specs::Samples::move_sample))]
-fn move_sample<'p>(line: &mut Cursor<'_, 'p>) -> Result<Step<'p>, LineFault>
-    ensures { Reads (λ s. s) move_sample line.old line.new result }
+fn move_sample<'p>(line: &mut Cursor<'_, 'p>) -> Result<Step<'p>, Failure<LineFault>>
+    ensures { ReadsOrWants (λ s. s) move_sample line.old line.new result }
 {
     let (from, to) = moving(line)?;
     Ok(Step::Sample(SampleStep::MoveSample { from, to }))

@@ -2,8 +2,8 @@
 ghost use Rattle.std.specs.Prelude.{◌≡◌, codes};
 ghost use Rattle.std.specs.List.{flat_map};
 ghost use Rattle.outputs.specs.Output.{Puts};
-ghost use Rattle.line_tokens.specs.Parts.{Reads};
 ghost use Rattle.line_tokens.specs.Printing.{spaced};
+ghost use Rattle.script_grammar.specs.Memory.{ReadsOrWants};
 ghost use Rattle.script_grammar.specs.Operands.{pieces_of};
 ghost use Rattle.edit_forms.specs.declared.settings.SettingStep.TheVariants.{SetGen, ClearGen};
 ghost use Rattle.step_script.specs.Forms.{form_in, ReadsForm};
@@ -28,22 +28,22 @@ use std::io::Write;
 pub(crate) fn setting_step<'p>(
     word: &[u8],
     line: &mut Cursor<'_, 'p>,
-) -> Result<Option<Step<'p>>, Failure<LineFault>>
+) -> Option<Result<Step<'p>, Failure<LineFault>>>
     ensures { ReadsForm (form_in forms word.now) line.old line.new result }
 {
-    Ok(by_word!(word,
-        b"set-gen" => set_gen(line)?,
-        b"clear-gen" => clear_gen(line)?,
-        b"add-mod" => add_mod(line)?,
-        b"remove-mod" => remove_mod(line)?,
-        b"set-mod" => set_mod(line)?,
-    ))
+    by_word!(word,
+        b"set-gen" => set_gen(line),
+        b"clear-gen" => clear_gen(line),
+        b"add-mod" => add_mod(line),
+        b"remove-mod" => remove_mod(line),
+        b"set-mod" => set_mod(line),
+    )
 }
 
 // `OWNER PLACE OPERATOR AMOUNT`
 #[tactic(auto, unfolding(crate::specs::Settings::set_gen))]
-fn set_gen<'p>(line: &mut Cursor<'_, 'p>) -> Result<Step<'p>, LineFault>
-    ensures { Reads (λ s. s) set_gen line.old line.new result }
+fn set_gen<'p>(line: &mut Cursor<'_, 'p>) -> Result<Step<'p>, Failure<LineFault>>
+    ensures { ReadsOrWants (λ s. s) set_gen line.old line.new result }
 {
     let (owner, place) = owner_place(line)?;
     let (operator, amount) = generator(line)?;
@@ -52,8 +52,8 @@ fn set_gen<'p>(line: &mut Cursor<'_, 'p>) -> Result<Step<'p>, LineFault>
 
 // `OWNER PLACE OPERATOR`
 #[tactic(auto, unfolding(crate::specs::Settings::clear_gen))]
-fn clear_gen<'p>(line: &mut Cursor<'_, 'p>) -> Result<Step<'p>, LineFault>
-    ensures { Reads (λ s. s) clear_gen line.old line.new result }
+fn clear_gen<'p>(line: &mut Cursor<'_, 'p>) -> Result<Step<'p>, Failure<LineFault>>
+    ensures { ReadsOrWants (λ s. s) clear_gen line.old line.new result }
 {
     let (owner, place) = owner_place(line)?;
     let operator = line.number(u32::from(u16::MAX))? as u16;
@@ -62,8 +62,8 @@ fn clear_gen<'p>(line: &mut Cursor<'_, 'p>) -> Result<Step<'p>, LineFault>
 
 // `OWNER PLACE J MOD`
 #[tactic(auto, unfolding(crate::specs::Settings::add_mod))]
-fn add_mod<'p>(line: &mut Cursor<'_, 'p>) -> Result<Step<'p>, LineFault>
-    ensures { Reads (λ s. s) add_mod line.old line.new result }
+fn add_mod<'p>(line: &mut Cursor<'_, 'p>) -> Result<Step<'p>, Failure<LineFault>>
+    ensures { ReadsOrWants (λ s. s) add_mod line.old line.new result }
 {
     let (owner, place) = owner_place(line)?;
     let index = line.number(u32::MAX)?;
@@ -73,8 +73,8 @@ fn add_mod<'p>(line: &mut Cursor<'_, 'p>) -> Result<Step<'p>, LineFault>
 
 // `OWNER PLACE J`
 #[tactic(auto, unfolding(crate::specs::Settings::remove_mod))]
-fn remove_mod<'p>(line: &mut Cursor<'_, 'p>) -> Result<Step<'p>, LineFault>
-    ensures { Reads (λ s. s) remove_mod line.old line.new result }
+fn remove_mod<'p>(line: &mut Cursor<'_, 'p>) -> Result<Step<'p>, Failure<LineFault>>
+    ensures { ReadsOrWants (λ s. s) remove_mod line.old line.new result }
 {
     let (owner, place) = owner_place(line)?;
     let index = line.number(u32::MAX)?;
@@ -83,8 +83,8 @@ fn remove_mod<'p>(line: &mut Cursor<'_, 'p>) -> Result<Step<'p>, LineFault>
 
 // `OWNER PLACE J MOD`
 #[tactic(auto, unfolding(crate::specs::Settings::set_mod))]
-fn set_mod<'p>(line: &mut Cursor<'_, 'p>) -> Result<Step<'p>, LineFault>
-    ensures { Reads (λ s. s) set_mod line.old line.new result }
+fn set_mod<'p>(line: &mut Cursor<'_, 'p>) -> Result<Step<'p>, Failure<LineFault>>
+    ensures { ReadsOrWants (λ s. s) set_mod line.old line.new result }
 {
     let (owner, place) = owner_place(line)?;
     let index = line.number(u32::MAX)?;

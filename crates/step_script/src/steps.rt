@@ -31,8 +31,10 @@ pub fn step<'p>(alloc: Global, line: &mut Cursor<'_, 'p>) -> Result<Step<'p>, Fa
     ensures { ReadsOrWants (λ s. s) step line.old line.new result }
 {
     let word = line.word()?;
-    let step = step_of_form(word, alloc, line)?;
-    step.ok_or(Failure::Fault(LineFault::Syntax))
+    match step_of_form(word, alloc, line) {
+        Some(step) => step,
+        None => Err(Failure::Fault(LineFault::Syntax)),
+    }
 }
 
 // The step of the form that has this word, read from what stands behind it; none where the word is no form's.
@@ -41,26 +43,26 @@ fn step_of_form<'p>(
     word: &[u8],
     alloc: Global,
     line: &mut Cursor<'_, 'p>,
-) -> Result<Option<Step<'p>>, Failure<LineFault>>
+) -> Option<Result<Step<'p>, Failure<LineFault>>>
     ensures { ReadsForm (form_in forms word.now) line.old line.new result }
 {
-    if let Some(step) = preset_step(word, alloc, line)? {
-        return Ok(Some(step));
+    if let Some(step) = preset_step(word, alloc, line) {
+        return Some(step);
     }
-    if let Some(step) = instrument_step(word, alloc, line)? {
-        return Ok(Some(step));
+    if let Some(step) = instrument_step(word, alloc, line) {
+        return Some(step);
     }
-    if let Some(step) = sample_step(word, alloc, line)? {
-        return Ok(Some(step));
+    if let Some(step) = sample_step(word, alloc, line) {
+        return Some(step);
     }
-    if let Some(step) = point_step(word, alloc, line)? {
-        return Ok(Some(step));
+    if let Some(step) = point_step(word, alloc, line) {
+        return Some(step);
     }
-    if let Some(step) = zone_step(word, alloc, line)? {
-        return Ok(Some(step));
+    if let Some(step) = zone_step(word, alloc, line) {
+        return Some(step);
     }
-    if let Some(step) = setting_step(word, line)? {
-        return Ok(Some(step));
+    if let Some(step) = setting_step(word, line) {
+        return Some(step);
     }
     text_step(word, line)
 }

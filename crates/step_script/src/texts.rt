@@ -4,8 +4,8 @@ ghost use Rattle.std.specs.List.{flat_map};
 ghost use Rattle.outputs.specs.Output.{Puts};
 ghost use Rattle.line_tokens.specs.Printing.{spaced};
 ghost use Rattle.script_grammar.specs.Operands as operand;
+ghost use Rattle.script_grammar.specs.Memory.{ReadsOrWants};
 ghost use Rattle.script_grammar.specs.Operands.{pieces_of};
-ghost use Rattle.line_tokens.specs.Parts.{Reads};
 ghost use Rattle.script_grammar.specs.Texts.{id_word};
 ghost use Rattle.step_script.specs.Forms.{form_in, ReadsForm};
 ghost use Rattle.step_script.specs.Texts.{forms, printed, set_info};
@@ -26,18 +26,18 @@ use std::io::Write;
 pub(crate) fn text_step<'p>(
     word: &[u8],
     line: &mut Cursor<'_, 'p>,
-) -> Result<Option<Step<'p>>, Failure<LineFault>>
+) -> Option<Result<Step<'p>, Failure<LineFault>>>
     ensures { ReadsForm (form_in forms word.now) line.old line.new result }
 {
-    Ok(by_word!(word,
-        b"set-info" => set_info(line)?,
-    ))
+    by_word!(word,
+        b"set-info" => set_info(line),
+    )
 }
 
 // `ID TEXT`
 #[tactic(auto, unfolding(crate::specs::Texts::set_info))]
-fn set_info<'p>(line: &mut Cursor<'_, 'p>) -> Result<Step<'p>, LineFault>
-    ensures { Reads (λ s. s) set_info line.old line.new result }
+fn set_info<'p>(line: &mut Cursor<'_, 'p>) -> Result<Step<'p>, Failure<LineFault>>
+    ensures { ReadsOrWants (λ s. s) set_info line.old line.new result }
 {
     let id = info_id(line)?;
     let text = Lent::new(line.literal()?);

@@ -2,7 +2,6 @@
 ghost use Rattle.std.specs.Prelude.{◌≡◌, codes};
 ghost use Rattle.std.specs.List.{flat_map};
 ghost use Rattle.outputs.specs.Output.{Puts};
-ghost use Rattle.line_tokens.specs.Parts.{Reads};
 ghost use Rattle.line_tokens.specs.Printing.{spaced};
 ghost use Rattle.script_grammar.specs.Operands.{pieces_of};
 ghost use Rattle.script_grammar.specs.Memory.{ReadsOrWants};
@@ -32,17 +31,17 @@ pub(crate) fn zone_step<'p>(
     word: &[u8],
     alloc: Global,
     line: &mut Cursor<'_, 'p>,
-) -> Result<Option<Step<'p>>, Failure<LineFault>>
+) -> Option<Result<Step<'p>, Failure<LineFault>>>
     ensures { ReadsForm (form_in forms word.now) line.old line.new result }
 {
-    Ok(by_word!(word,
-        b"add-zone" => add_zone(alloc, line)?,
-        b"remove-zone" => remove_zone(line)?,
-        b"move-zone" => move_zone(line)?,
-        b"split-zone" => split_zone(line)?,
-        b"join-zone" => join_zone(line)?,
-        b"set-target" => set_target(line)?,
-    ))
+    by_word!(word,
+        b"add-zone" => add_zone(alloc, line),
+        b"remove-zone" => remove_zone(line),
+        b"move-zone" => move_zone(line),
+        b"split-zone" => split_zone(line),
+        b"join-zone" => join_zone(line),
+        b"set-target" => set_target(line),
+    )
 }
 
 // `OWNER K ZONE`
@@ -57,8 +56,8 @@ fn add_zone<'p>(alloc: Global, line: &mut Cursor<'_, 'p>) -> Result<Step<'p>, Fa
 
 // `OWNER K`
 #[tactic(auto, unfolding(crate::specs::Zones::remove_zone))]
-fn remove_zone<'p>(line: &mut Cursor<'_, 'p>) -> Result<Step<'p>, LineFault>
-    ensures { Reads (λ s. s) remove_zone line.old line.new result }
+fn remove_zone<'p>(line: &mut Cursor<'_, 'p>) -> Result<Step<'p>, Failure<LineFault>>
+    ensures { ReadsOrWants (λ s. s) remove_zone line.old line.new result }
 {
     let (owner, zone) = owner_zone(line)?;
     Ok(Step::Zone(owner, ZoneStep::RemoveZone { zone }))
@@ -66,8 +65,8 @@ fn remove_zone<'p>(line: &mut Cursor<'_, 'p>) -> Result<Step<'p>, LineFault>
 
 // `OWNER I J`
 #[tactic(auto, unfolding(crate::specs::Zones::move_zone))]
-fn move_zone<'p>(line: &mut Cursor<'_, 'p>) -> Result<Step<'p>, LineFault>
-    ensures { Reads (λ s. s) move_zone line.old line.new result }
+fn move_zone<'p>(line: &mut Cursor<'_, 'p>) -> Result<Step<'p>, Failure<LineFault>>
+    ensures { ReadsOrWants (λ s. s) move_zone line.old line.new result }
 {
     let (owner, from) = owner_zone(line)?;
     let to = line.number(u32::MAX)?;
@@ -76,8 +75,8 @@ fn move_zone<'p>(line: &mut Cursor<'_, 'p>) -> Result<Step<'p>, LineFault>
 
 // `OWNER K key|vel M`
 #[tactic(auto, unfolding(crate::specs::Zones::split_zone))]
-fn split_zone<'p>(line: &mut Cursor<'_, 'p>) -> Result<Step<'p>, LineFault>
-    ensures { Reads (λ s. s) split_zone line.old line.new result }
+fn split_zone<'p>(line: &mut Cursor<'_, 'p>) -> Result<Step<'p>, Failure<LineFault>>
+    ensures { ReadsOrWants (λ s. s) split_zone line.old line.new result }
 {
     let (owner, zone) = owner_zone(line)?;
     let axis = next_named(line)?;
@@ -87,8 +86,8 @@ fn split_zone<'p>(line: &mut Cursor<'_, 'p>) -> Result<Step<'p>, LineFault>
 
 // `OWNER K key|vel keep|bare`
 #[tactic(auto, unfolding(crate::specs::Zones::join_zone))]
-fn join_zone<'p>(line: &mut Cursor<'_, 'p>) -> Result<Step<'p>, LineFault>
-    ensures { Reads (λ s. s) join_zone line.old line.new result }
+fn join_zone<'p>(line: &mut Cursor<'_, 'p>) -> Result<Step<'p>, Failure<LineFault>>
+    ensures { ReadsOrWants (λ s. s) join_zone line.old line.new result }
 {
     let (owner, zone) = owner_zone(line)?;
     let axis = next_named(line)?;
@@ -98,8 +97,8 @@ fn join_zone<'p>(line: &mut Cursor<'_, 'p>) -> Result<Step<'p>, LineFault>
 
 // `OWNER K TARGET`
 #[tactic(auto, unfolding(crate::specs::Zones::set_target))]
-fn set_target<'p>(line: &mut Cursor<'_, 'p>) -> Result<Step<'p>, LineFault>
-    ensures { Reads (λ s. s) set_target line.old line.new result }
+fn set_target<'p>(line: &mut Cursor<'_, 'p>) -> Result<Step<'p>, Failure<LineFault>>
+    ensures { ReadsOrWants (λ s. s) set_target line.old line.new result }
 {
     let (owner, zone) = owner_zone(line)?;
     let target = line.number(u32::from(u16::MAX))? as u16;
