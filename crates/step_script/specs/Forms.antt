@@ -1,6 +1,7 @@
 -- What a form of edits is, and how one is found by its word.
-use Rattle.std.specs.Prelude.{◌≡◌, ℕ, List, Option, Some, None, Result, IsSome}
+use Rattle.std.specs.Prelude.{◌≡◌, ℕ, List, Option, Some, None, Result, Ok, Err, IsSome}
 use Rattle.sf_base.specs.declared.memory.Failure.{Failure}
+use Rattle.sf_base.specs.declared.memory.Failure.TheVariants.{Fault, OutOfMemory}
 use Rattle.edit_forms.specs.declared.step.Step.{Step}
 use Rattle.line_tokens.specs.declared.fault.LineFault.{LineFault}
 use Rattle.line_tokens.specs.declared.fault.LineFault.TheVariants as faults
@@ -23,6 +24,16 @@ form_in forms w = named form_word forms w
 -- how what stands behind a word is read, if this is its form; a word of no form is a fault
 abbrev pub behind : Option Form → Part Step
 behind form = or_fault faults.Syntax form >>= λ f. f.1
+
+-- an answer other than out of memory
+abbrev pub IsNoWant : Result Step (Failure LineFault) → Type 0
+IsNoWant (Ok step) = Unit {0}
+IsNoWant (Err (Fault e)) = Unit {0}
+IsNoWant (Err OutOfMemory) = ⊥
+
+-- what the code of a form does behind its word, where it takes no memory: it is never out of it
+abbrev pub ReadsInPlace : Part Step → saying.Left → saying.Left → Result Step (Failure LineFault) → Type 0
+ReadsInPlace part old new read = ReadsOrWants (λ s. s) part old new read × IsNoWant read
 
 -- what the code of several forms does behind a word, if this is the one of them that has the word: where none has it,
 -- nothing is taken from the line

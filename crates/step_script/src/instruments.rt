@@ -5,7 +5,7 @@ ghost use Rattle.outputs.specs.Output.{Puts};
 ghost use Rattle.line_tokens.specs.Printing.{spaced};
 ghost use Rattle.script_grammar.specs.Operands.{pieces_of};
 ghost use Rattle.script_grammar.specs.Memory.{ReadsOrWants};
-ghost use Rattle.step_script.specs.Forms.{form_in, ReadsForm};
+ghost use Rattle.step_script.specs.Forms.{form_in, ReadsForm, ReadsInPlace};
 ghost use Rattle.step_script.specs.Members.{place, printed_owner};
 ghost use Rattle.step_script.specs.Instruments.{forms, printed, name_operands, add_instrument, remove_instrument, rename_instrument, move_instrument};
 
@@ -55,7 +55,7 @@ fn add_instrument<'p>(
 // `I`
 #[tactic(auto, unfolding(crate::specs::Instruments::remove_instrument))]
 fn remove_instrument<'p>(line: &mut Cursor<'_, 'p>) -> Result<Step<'p>, Failure<LineFault>>
-    ensures { ReadsOrWants (λ s. s) remove_instrument line.old line.new result }
+    ensures { ReadsInPlace remove_instrument line.old line.new result }
 {
     let instrument = line.number(u32::MAX)?;
     Ok(Step::Instrument(InstrumentStep::RemoveInstrument { instrument }))
@@ -64,7 +64,7 @@ fn remove_instrument<'p>(line: &mut Cursor<'_, 'p>) -> Result<Step<'p>, Failure<
 // `I NAME`
 #[tactic(auto, unfolding(crate::specs::Instruments::rename_instrument))]
 fn rename_instrument<'p>(line: &mut Cursor<'_, 'p>) -> Result<Step<'p>, Failure<LineFault>>
-    ensures { ReadsOrWants (λ s. s) rename_instrument line.old line.new result }
+    ensures { ReadsInPlace rename_instrument line.old line.new result }
 {
     let (instrument, name) = naming(line)?;
     Ok(Step::Instrument(InstrumentStep::RenameInstrument { instrument, name }))
@@ -73,7 +73,7 @@ fn rename_instrument<'p>(line: &mut Cursor<'_, 'p>) -> Result<Step<'p>, Failure<
 // `I J`
 #[tactic(auto, unfolding(crate::specs::Instruments::move_instrument))]
 fn move_instrument<'p>(line: &mut Cursor<'_, 'p>) -> Result<Step<'p>, Failure<LineFault>>
-    ensures { ReadsOrWants (λ s. s) move_instrument line.old line.new result }
+    ensures { ReadsInPlace move_instrument line.old line.new result }
 {
     let (from, to) = moving(line)?;
     Ok(Step::Instrument(InstrumentStep::MoveInstrument { from, to }))

@@ -6,7 +6,7 @@ ghost use Rattle.line_tokens.specs.Parts.{Reads};
 ghost use Rattle.line_tokens.specs.Printing.{spaced};
 ghost use Rattle.script_grammar.specs.Operands.{pieces_of};
 ghost use Rattle.script_grammar.specs.Memory.{ReadsOrWants};
-ghost use Rattle.step_script.specs.Forms.{form_in, ReadsForm};
+ghost use Rattle.step_script.specs.Forms.{form_in, ReadsForm, ReadsInPlace};
 ghost use Rattle.step_script.specs.Members.{place, printed_owner};
 ghost use Rattle.edit_forms.specs.declared.presets.PresetStep.TheVariants as variants;
 ghost use Rattle.step_script.specs.Presets.{forms, printed, head_operands, head, placed_head, add_preset, remove_preset, move_preset, set_head};
@@ -54,7 +54,7 @@ fn add_preset<'p>(alloc: Global, line: &mut Cursor<'_, 'p>) -> Result<Step<'p>, 
 // `P`
 #[tactic(auto, unfolding(crate::specs::Presets::remove_preset))]
 fn remove_preset<'p>(line: &mut Cursor<'_, 'p>) -> Result<Step<'p>, Failure<LineFault>>
-    ensures { ReadsOrWants (λ s. s) remove_preset line.old line.new result }
+    ensures { ReadsInPlace remove_preset line.old line.new result }
 {
     let preset = line.number(u32::MAX)?;
     Ok(Step::Preset(PresetStep::RemovePreset { preset }))
@@ -63,7 +63,7 @@ fn remove_preset<'p>(line: &mut Cursor<'_, 'p>) -> Result<Step<'p>, Failure<Line
 // `I J`
 #[tactic(auto, unfolding(crate::specs::Presets::move_preset))]
 fn move_preset<'p>(line: &mut Cursor<'_, 'p>) -> Result<Step<'p>, Failure<LineFault>>
-    ensures { ReadsOrWants (λ s. s) move_preset line.old line.new result }
+    ensures { ReadsInPlace move_preset line.old line.new result }
 {
     let (from, to) = moving(line)?;
     Ok(Step::Preset(PresetStep::MovePreset { from, to }))
@@ -72,7 +72,7 @@ fn move_preset<'p>(line: &mut Cursor<'_, 'p>) -> Result<Step<'p>, Failure<LineFa
 // `P NAME NUMBER BANK`
 #[tactic(auto, unfolding(crate::specs::Presets::set_head))]
 fn set_head<'p>(line: &mut Cursor<'_, 'p>) -> Result<Step<'p>, Failure<LineFault>>
-    ensures { ReadsOrWants (λ s. s) set_head line.old line.new result }
+    ensures { ReadsInPlace set_head line.old line.new result }
 {
     let (preset, name) = naming(line)?;
     let number = line.number(u32::from(u16::MAX))? as u16;

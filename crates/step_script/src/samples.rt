@@ -6,7 +6,7 @@ ghost use Rattle.line_tokens.specs.Printing.{spaced};
 ghost use Rattle.script_grammar.specs.Memory.{ReadsOrWants};
 ghost use Rattle.script_grammar.specs.Operands.{pieces_of};
 ghost use Rattle.script_grammar.specs.Samples.{body_operands};
-ghost use Rattle.step_script.specs.Forms.{form_in, ReadsForm};
+ghost use Rattle.step_script.specs.Forms.{form_in, ReadsForm, ReadsInPlace};
 ghost use Rattle.step_script.specs.Members.{place};
 ghost use Rattle.step_script.specs.Samples.{forms, printed, rename_sample, add_sample, remove_sample, move_sample};
 
@@ -43,7 +43,7 @@ pub(crate) fn sample_step<'p>(
 // `S NAME`
 #[tactic(auto, unfolding(crate::specs::Samples::rename_sample))]
 fn rename_sample<'p>(line: &mut Cursor<'_, 'p>) -> Result<Step<'p>, Failure<LineFault>>
-    ensures { ReadsOrWants (λ s. s) rename_sample line.old line.new result }
+    ensures { ReadsInPlace rename_sample line.old line.new result }
 {
     let (sample, name) = naming(line)?;
     Ok(Step::Sample(SampleStep::RenameSample { sample, name }))
@@ -62,7 +62,7 @@ fn add_sample<'p>(alloc: Global, line: &mut Cursor<'_, 'p>) -> Result<Step<'p>, 
 // `S`
 #[tactic(auto, unfolding(crate::specs::Samples::remove_sample))]
 fn remove_sample<'p>(line: &mut Cursor<'_, 'p>) -> Result<Step<'p>, Failure<LineFault>>
-    ensures { ReadsOrWants (λ s. s) remove_sample line.old line.new result }
+    ensures { ReadsInPlace remove_sample line.old line.new result }
 {
     let sample = line.number(u32::MAX)?;
     Ok(Step::Sample(SampleStep::RemoveSample { sample }))
@@ -71,7 +71,7 @@ fn remove_sample<'p>(line: &mut Cursor<'_, 'p>) -> Result<Step<'p>, Failure<Line
 // `I J`
 #[tactic(auto, unfolding(crate::specs::Samples::move_sample))]
 fn move_sample<'p>(line: &mut Cursor<'_, 'p>) -> Result<Step<'p>, Failure<LineFault>>
-    ensures { ReadsOrWants (λ s. s) move_sample line.old line.new result }
+    ensures { ReadsInPlace move_sample line.old line.new result }
 {
     let (from, to) = moving(line)?;
     Ok(Step::Sample(SampleStep::MoveSample { from, to }))

@@ -3,10 +3,9 @@ ghost use Rattle.std.specs.Prelude.{◌≡◌, codes};
 ghost use Rattle.std.specs.List.{flat_map};
 ghost use Rattle.outputs.specs.Output.{Puts};
 ghost use Rattle.line_tokens.specs.Printing.{spaced};
-ghost use Rattle.script_grammar.specs.Memory.{ReadsOrWants};
 ghost use Rattle.script_grammar.specs.Operands.{pieces_of};
 ghost use Rattle.edit_forms.specs.declared.settings.SettingStep.TheVariants.{SetGen, ClearGen};
-ghost use Rattle.step_script.specs.Forms.{form_in, ReadsForm};
+ghost use Rattle.step_script.specs.Forms.{form_in, ReadsForm, ReadsInPlace};
 ghost use Rattle.step_script.specs.Owners.{of_place};
 ghost use Rattle.step_script.specs.Settings.{forms, printed, index_operands, modulator_at_operands, set_gen, clear_gen, add_mod, remove_mod, set_mod};
 
@@ -43,7 +42,7 @@ pub(crate) fn setting_step<'p>(
 // `OWNER PLACE OPERATOR AMOUNT`
 #[tactic(auto, unfolding(crate::specs::Settings::set_gen))]
 fn set_gen<'p>(line: &mut Cursor<'_, 'p>) -> Result<Step<'p>, Failure<LineFault>>
-    ensures { ReadsOrWants (λ s. s) set_gen line.old line.new result }
+    ensures { ReadsInPlace set_gen line.old line.new result }
 {
     let (owner, place) = owner_place(line)?;
     let (operator, amount) = generator(line)?;
@@ -53,7 +52,7 @@ fn set_gen<'p>(line: &mut Cursor<'_, 'p>) -> Result<Step<'p>, Failure<LineFault>
 // `OWNER PLACE OPERATOR`
 #[tactic(auto, unfolding(crate::specs::Settings::clear_gen))]
 fn clear_gen<'p>(line: &mut Cursor<'_, 'p>) -> Result<Step<'p>, Failure<LineFault>>
-    ensures { ReadsOrWants (λ s. s) clear_gen line.old line.new result }
+    ensures { ReadsInPlace clear_gen line.old line.new result }
 {
     let (owner, place) = owner_place(line)?;
     let operator = line.number(u32::from(u16::MAX))? as u16;
@@ -63,7 +62,7 @@ fn clear_gen<'p>(line: &mut Cursor<'_, 'p>) -> Result<Step<'p>, Failure<LineFaul
 // `OWNER PLACE J MOD`
 #[tactic(auto, unfolding(crate::specs::Settings::add_mod))]
 fn add_mod<'p>(line: &mut Cursor<'_, 'p>) -> Result<Step<'p>, Failure<LineFault>>
-    ensures { ReadsOrWants (λ s. s) add_mod line.old line.new result }
+    ensures { ReadsInPlace add_mod line.old line.new result }
 {
     let (owner, place) = owner_place(line)?;
     let index = line.number(u32::MAX)?;
@@ -74,7 +73,7 @@ fn add_mod<'p>(line: &mut Cursor<'_, 'p>) -> Result<Step<'p>, Failure<LineFault>
 // `OWNER PLACE J`
 #[tactic(auto, unfolding(crate::specs::Settings::remove_mod))]
 fn remove_mod<'p>(line: &mut Cursor<'_, 'p>) -> Result<Step<'p>, Failure<LineFault>>
-    ensures { ReadsOrWants (λ s. s) remove_mod line.old line.new result }
+    ensures { ReadsInPlace remove_mod line.old line.new result }
 {
     let (owner, place) = owner_place(line)?;
     let index = line.number(u32::MAX)?;
@@ -84,7 +83,7 @@ fn remove_mod<'p>(line: &mut Cursor<'_, 'p>) -> Result<Step<'p>, Failure<LineFau
 // `OWNER PLACE J MOD`
 #[tactic(auto, unfolding(crate::specs::Settings::set_mod))]
 fn set_mod<'p>(line: &mut Cursor<'_, 'p>) -> Result<Step<'p>, Failure<LineFault>>
-    ensures { ReadsOrWants (λ s. s) set_mod line.old line.new result }
+    ensures { ReadsInPlace set_mod line.old line.new result }
 {
     let (owner, place) = owner_place(line)?;
     let index = line.number(u32::MAX)?;

@@ -4,10 +4,9 @@ ghost use Rattle.std.specs.List.{flat_map};
 ghost use Rattle.outputs.specs.Output.{Puts};
 ghost use Rattle.line_tokens.specs.Printing.{spaced};
 ghost use Rattle.script_grammar.specs.Operands as operand;
-ghost use Rattle.script_grammar.specs.Memory.{ReadsOrWants};
 ghost use Rattle.script_grammar.specs.Operands.{pieces_of};
 ghost use Rattle.script_grammar.specs.Texts.{id_word};
-ghost use Rattle.step_script.specs.Forms.{form_in, ReadsForm};
+ghost use Rattle.step_script.specs.Forms.{form_in, ReadsForm, ReadsInPlace};
 ghost use Rattle.step_script.specs.Texts.{forms, printed, set_info};
 
 use crate::by_word::by_word;
@@ -37,7 +36,7 @@ pub(crate) fn text_step<'p>(
 // `ID TEXT`
 #[tactic(auto, unfolding(crate::specs::Texts::set_info))]
 fn set_info<'p>(line: &mut Cursor<'_, 'p>) -> Result<Step<'p>, Failure<LineFault>>
-    ensures { ReadsOrWants (λ s. s) set_info line.old line.new result }
+    ensures { ReadsInPlace set_info line.old line.new result }
 {
     let id = info_id(line)?;
     let text = Lent::new(line.literal()?);

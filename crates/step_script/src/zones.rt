@@ -6,7 +6,7 @@ ghost use Rattle.line_tokens.specs.Printing.{spaced};
 ghost use Rattle.script_grammar.specs.Operands.{pieces_of};
 ghost use Rattle.script_grammar.specs.Memory.{ReadsOrWants};
 ghost use Rattle.edit_forms.specs.declared.zones.ZoneStep.TheVariants.{MoveZone, SplitZone, JoinZone, SetTarget};
-ghost use Rattle.step_script.specs.Forms.{form_in, ReadsForm};
+ghost use Rattle.step_script.specs.Forms.{form_in, ReadsForm, ReadsInPlace};
 ghost use Rattle.step_script.specs.Owners.{of_zone};
 ghost use Rattle.step_script.specs.Zones.{forms, printed, printed_zone, add_zone, remove_zone, move_zone, split_zone, join_zone, set_target};
 
@@ -57,7 +57,7 @@ fn add_zone<'p>(alloc: Global, line: &mut Cursor<'_, 'p>) -> Result<Step<'p>, Fa
 // `OWNER K`
 #[tactic(auto, unfolding(crate::specs::Zones::remove_zone))]
 fn remove_zone<'p>(line: &mut Cursor<'_, 'p>) -> Result<Step<'p>, Failure<LineFault>>
-    ensures { ReadsOrWants (λ s. s) remove_zone line.old line.new result }
+    ensures { ReadsInPlace remove_zone line.old line.new result }
 {
     let (owner, zone) = owner_zone(line)?;
     Ok(Step::Zone(owner, ZoneStep::RemoveZone { zone }))
@@ -66,7 +66,7 @@ fn remove_zone<'p>(line: &mut Cursor<'_, 'p>) -> Result<Step<'p>, Failure<LineFa
 // `OWNER I J`
 #[tactic(auto, unfolding(crate::specs::Zones::move_zone))]
 fn move_zone<'p>(line: &mut Cursor<'_, 'p>) -> Result<Step<'p>, Failure<LineFault>>
-    ensures { ReadsOrWants (λ s. s) move_zone line.old line.new result }
+    ensures { ReadsInPlace move_zone line.old line.new result }
 {
     let (owner, from) = owner_zone(line)?;
     let to = line.number(u32::MAX)?;
@@ -76,7 +76,7 @@ fn move_zone<'p>(line: &mut Cursor<'_, 'p>) -> Result<Step<'p>, Failure<LineFaul
 // `OWNER K key|vel M`
 #[tactic(auto, unfolding(crate::specs::Zones::split_zone))]
 fn split_zone<'p>(line: &mut Cursor<'_, 'p>) -> Result<Step<'p>, Failure<LineFault>>
-    ensures { ReadsOrWants (λ s. s) split_zone line.old line.new result }
+    ensures { ReadsInPlace split_zone line.old line.new result }
 {
     let (owner, zone) = owner_zone(line)?;
     let axis = next_named(line)?;
@@ -87,7 +87,7 @@ fn split_zone<'p>(line: &mut Cursor<'_, 'p>) -> Result<Step<'p>, Failure<LineFau
 // `OWNER K key|vel keep|bare`
 #[tactic(auto, unfolding(crate::specs::Zones::join_zone))]
 fn join_zone<'p>(line: &mut Cursor<'_, 'p>) -> Result<Step<'p>, Failure<LineFault>>
-    ensures { ReadsOrWants (λ s. s) join_zone line.old line.new result }
+    ensures { ReadsInPlace join_zone line.old line.new result }
 {
     let (owner, zone) = owner_zone(line)?;
     let axis = next_named(line)?;
@@ -98,7 +98,7 @@ fn join_zone<'p>(line: &mut Cursor<'_, 'p>) -> Result<Step<'p>, Failure<LineFaul
 // `OWNER K TARGET`
 #[tactic(auto, unfolding(crate::specs::Zones::set_target))]
 fn set_target<'p>(line: &mut Cursor<'_, 'p>) -> Result<Step<'p>, Failure<LineFault>>
-    ensures { ReadsOrWants (λ s. s) set_target line.old line.new result }
+    ensures { ReadsInPlace set_target line.old line.new result }
 {
     let (owner, zone) = owner_zone(line)?;
     let target = line.number(u32::from(u16::MAX))? as u16;
