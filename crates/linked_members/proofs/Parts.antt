@@ -96,42 +96,11 @@ put_behind v xs later b i x whole some h is size view long put =
     ∙ (drop-drop 1 (b - 1) xs ∙ (ap (λ k. drop k xs) one ∙ (ap (drop b) is ∙ view))) in
     all_written v xs later (b - 1) is size within long ∙ (put ∙ ap (λ zs. insert zs i x) rest)
 
--- all of those behind the first b are written before
-pub one_put : {X : Type 0} (v : Vec X) (xs new all : List X) (b i : ℕ) (x : X) (later whole : List X) → 0 < b
-    → b ≤ length v.items
-    → xs ≡ v.items → length xs ≡ vec_len v → length new ≡ length (mid_of b (length xs - b) xs) → new ≡ whole
-    → all ≡ (with_items v (put_mid b (length xs - b) xs new)).items
-    → length all ≡ vec_len (with_items v (put_mid b (length xs - b) xs new))
-    → length later ≡ length (mid_of (b - 1) (length all - (b - 1)) all)
-    → later ≡ insert (drop 1 (mid_of (b - 1) (length all - (b - 1)) all)) i x
-    → drop (b - 1)
-    (with_items (with_items v (put_mid b (length xs - b) xs new))
-    (put_mid (b - 1) (length all - (b - 1)) all later)).items
-    ≡ insert whole i x
-one_put v xs new all b i x later whole some h is size long written all_is all_size all_long put =
-    let v1 = with_items v (put_mid b (length xs - b) xs new) in
-    let same = written_size v xs new b size long in
-    let whole_size = ap length is in
-    put_behind v1 all later b i x whole some (omega arith) all_is all_size
-    (all_written v xs new b is size h long ∙ written) all_long put
-
 -- one more is put in among those behind the first b
 pub inserted_behind : {X : Type 0} (xs items : List X) (b i : ℕ) (x : X) (whole : List X) → b ≤ length xs
     → drop b xs ≡ whole → items ≡ insert xs (b + i) x → drop b items ≡ insert whole i x
 inserted_behind xs items b i x whole h view put =
     ap (drop b) put ∙ (drop-insert b xs i (b + i) x refl h ∙ ap (λ zs. insert zs i x) view)
-
--- all of them are written before
-pub one_inserted : {X : Type 0} (v : Vec X) (xs new items : List X) (b i : ℕ) (x : X) (whole : List X)
-    → b ≤ length v.items
-    → xs ≡ v.items → length xs ≡ vec_len v → length new ≡ length (mid_of b (length xs - b) xs) → new ≡ whole
-    → items ≡ insert (with_items v (put_mid b (length xs - b) xs new)).items (b + i) x
-    → drop b items ≡ insert whole i x
-one_inserted v xs new items b i x whole h is size long written put =
-    let v1 = with_items v (put_mid b (length xs - b) xs new) in
-    let same = written_size v xs new b size long in
-    let whole_size = ap length is in
-    inserted_behind v1.items items b i x whole (omega arith) (all_written v xs new b is size h long ∙ written) put
 
 -- what stands there
 pub found_behind : {X : Type 0} (n : ℕ) (xs zs : List X) (i : ℕ) (x : X) → drop n xs ≡ zs → n ≤ length xs

@@ -1,5 +1,5 @@
 //! A list with room at both ends.
-ghost use Rattle.std.specs.Prelude.{◌≡◌, ◌<◌, ◌≤◌, ◌++◌, ◌∷◌, [], length, insert, remove, drop, slice_get, slice_set, Some, IfErr, OnOk, OnErr, All};
+ghost use Rattle.std.specs.Prelude.{◌≡◌, ◌<◌, ◌≤◌, ◌-◌, ◌++◌, ◌∷◌, [], length, insert, remove, drop, slice_get, slice_set, vec_len, vec_capacity, Some, IfErr, OnOk, OnErr, All};
 ghost use Rattle.std.specs.Borrow.{Lends, sem};
 ghost use Rattle.linked_members.specs.contracts.ended.EndedList.{the_row};
 ghost use Rattle.numbered_lists.specs.Moved.{moved, changed_within};
@@ -118,8 +118,8 @@ impl<T: Blank> EndedList<T> {
         if i < self.len() / 2 {
             self.make_blanks();
             if self.blanks != 0 {
+                put_for_blank(&mut self.places, self.blanks, i, x);
                 self.blanks -= 1;
-                put_in_front(&mut self.places[self.blanks..], i, x);
                 return Ok(());
             }
         }
@@ -210,16 +210,16 @@ impl<T: Linked> EndedList<T> {
         if i < self.len() / 2 {
             self.make_blanks();
             if self.blanks != 0 {
-                renumber_part(&mut self.places[self.blanks..], by, span);
+                renumber_behind(&mut self.places, self.blanks, by, span);
+                put_for_blank(&mut self.places, self.blanks, i, x);
                 self.blanks -= 1;
-                put_in_front(&mut self.places[self.blanks..], i, x);
                 return Ok(());
             }
         }
         if self.places.try_reserve(1).is_err() {
             return Err(x);
         }
-        renumber_part(&mut self.places[self.blanks..], by, span);
+        renumber_behind(&mut self.places, self.blanks, by, span);
         insert_within(&mut self.places, self.blanks + i, x);
         Ok(())
     }
@@ -231,8 +231,22 @@ impl<T: Linked> EndedList<T> {
         requires numbers { All (T.can_renumber by) self.old }
         ensures { self.new ≡ changed_within span.start span.end (T.with_new_numbers by) self.old }
     {
-        renumber_part(&mut self.places[self.blanks..], by, span);
+        renumber_behind(&mut self.places, self.blanks, by, span);
     }
+}
+
+// Renumbers the members of the span, which stand behind blanks.
+fn renumber_behind<T: Linked>(places: &mut Vec<T>, blanks: usize, by: Renumbering, span: Span)
+    requires blanks { blanks ≤ length places.old.items }
+    requires order { span.start ≤ span.end }
+    requires within { span.end ≤ length (drop blanks places.old.items) }
+    requires numbers { All (T.can_renumber by) (drop blanks places.old.items) }
+    ensures value { drop blanks places.new.items ≡ changed_within span.start span.end (T.with_new_numbers by) (drop blanks places.old.items) }
+    ensures long { length places.new.items ≡ length places.old.items }
+    ensures size { vec_len places.new ≡ vec_len places.old }
+    ensures room { vec_capacity places.new ≡ vec_capacity places.old }
+{
+    renumber_part(&mut places[blanks..], by, span);
 }
 
 fn renumber_part<T: Linked>(members: &mut [T], by: Renumbering, span: Span)
@@ -251,6 +265,17 @@ fn blanks<T: Blank>(alloc: Global, count: usize) -> Result<Vec<T>, AllocError> {
         blanks.push(T::blank(alloc))?;
     }
     Ok(blanks)
+}
+
+// Makes `x` member `i` behind the blanks, in whose favour the last of these goes.
+fn put_for_blank<T: Drop>(places: &mut Vec<T>, blanks: usize, i: usize, x: T)
+    requires some { 0 < blanks }
+    requires blanks { blanks ≤ length places.old.items }
+    requires place { i ≤ length (drop blanks places.old.items) }
+    ensures value { drop (blanks - 1) places.new.items ≡ insert (drop blanks places.old.items) i x }
+    ensures long { length places.new.items ≡ length places.old.items }
+{
+    put_in_front(&mut places[blanks - 1..], i, x);
 }
 
 // Makes `x` member `i`, in whose favour the first one goes.

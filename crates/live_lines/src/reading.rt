@@ -5,10 +5,12 @@ ghost use Rattle.line_tokens.specs.Said.{said_in, left_over, all_said_over};
 ghost use Rattle.line_tokens.specs.Parts.{Reads, word, ended};
 ghost use Rattle.line_tokens.specs.Pool.{Answers, Fails, pool_bytes};
 ghost use Rattle.script_grammar.specs.Names.{next_named};
+ghost use Rattle.sf_base.specs.declared.memory.Failure.TheVariants.{Fault};
 ghost use Rattle.edit_forms.specs.declared.edit.Edit.{Edit};
 ghost use Rattle.edit_script.specs.Grammar.{edit};
 ghost use Rattle.live_lines.specs.declared.request.Request.{Request};
 ghost use Rattle.live_lines.specs.declared.request.Request.TheVariants as asks;
+ghost use Rattle.live_lines.specs.Faults.{of_line};
 ghost use Rattle.live_lines.specs.Paths.{paths};
 ghost use Rattle.live_lines.specs.Requests.{command_word, commands, told, note_now, noted, frames, asked_by, request, request_of, HasNoFeed};
 
@@ -114,16 +116,26 @@ fn asked_by<'t, 'p: 't>(
     ensures { Answers (λ r. r) result (asked_by command rest.old.said) }
 {
     match command {
-        Command::Neutral => Ok(Request::Neutral(an_edit(alloc, rest)?)),
-        Command::Undo => Ok(alone(Request::Undo, rest)?),
-        Command::Redo => Ok(alone(Request::Redo, rest)?),
-        Command::Note => Ok(note(rest)?),
-        Command::Frames => Ok(some_frames(rest)?),
-        Command::Save => Ok(save(line, pool)?),
-        Command::Show => Ok(alone(Request::Show, rest)?),
-        Command::Help => Ok(alone(Request::Help, rest)?),
-        Command::Quit => Ok(alone(Request::Quit, rest)?),
+        Command::Neutral => neutral_edit(alloc, rest),
+        Command::Undo => alone(Request::Undo, rest),
+        Command::Redo => alone(Request::Redo, rest),
+        Command::Note => note(rest),
+        Command::Frames => some_frames(rest),
+        Command::Save => save(line, pool),
+        Command::Show => alone(Request::Show, rest),
+        Command::Help => alone(Request::Help, rest),
+        Command::Quit => alone(Request::Quit, rest),
     }
+}
+
+// The edit that is left of a line, which has to be neutral.
+fn neutral_edit<'t, 'p>(
+    alloc: Global,
+    line: &mut Cursor<'t, 'p>,
+) -> Result<Request<'t, 'p>, Failure<RequestFault>>
+    ensures { Answers (λ r. r) result (told asks.Neutral (edit line.old.said)) }
+{
+    Ok(Request::Neutral(an_edit(alloc, line)?))
 }
 
 // The edit that is left of a line.
@@ -132,31 +144,40 @@ fn an_edit<'p>(alloc: Global, line: &mut Cursor<'_, 'p>) -> Result<Edit<'p>, Fai
 {
     match edit(alloc, line) {
         Ok(edit) => Ok(edit),
-        Err(Failure::Fault(fault)) => Err(Failure::Fault(fault.into())),
+        Err(Failure::Fault(fault)) => Err(failure_of(fault)),
         Err(Failure::OutOfMemory) => Err(Failure::OutOfMemory),
     }
+}
+
+// Why nothing is asked for, by the fault of a part of the line.
+fn failure_of(fault: LineFault) -> Failure<RequestFault>
+    ensures { result ≡ Fault (of_line fault) }
+{
+    Failure::Fault(fault.into())
 }
 
 // The request, where nothing is left of its line.
 #[tactic(auto, unfolding(line_tokens::specs::Parts::ended))]
 fn alone<'t, 'p>(
     request: Request<'t, 'p>,
-    line: &mut Cursor<'_, '_>,
-) -> Result<Request<'t, 'p>, RequestFault>
-    ensures { result ≡ told (λ r. r) (ended request.entry line.old.said) }
+    line: &mut Cursor<'t, 'p>,
+) -> Result<Request<'t, 'p>, Failure<RequestFault>>
+    ensures { Answers (λ r. r) result (told (λ r. r) (ended request.entry line.old.said)) }
 {
-    line.end()?;
-    Ok(request)
+    match line.end() {
+        Ok(()) => Ok(request),
+        Err(fault) => Err(failure_of(fault)),
+    }
 }
 
 // A note that starts now.
-fn note<'t, 'p>(line: &mut Cursor<'_, '_>) -> Result<Request<'t, 'p>, RequestFault>
-    ensures { result ≡ noted (note_now line.old.said) }
+fn note<'t, 'p>(line: &mut Cursor<'t, 'p>) -> Result<Request<'t, 'p>, Failure<RequestFault>>
+    ensures { Answers (λ r. r) result (noted (note_now line.old.said)) }
 {
     match note_now(line) {
         Ok(Some(note)) => Ok(Request::Note(note)),
-        Ok(None) => Err(RequestFault::TooLong),
-        Err(_) => Err(RequestFault::BadNote),
+        Ok(None) => Err(Failure::Fault(RequestFault::TooLong)),
+        Err(_) => Err(Failure::Fault(RequestFault::BadNote)),
     }
 }
 
@@ -182,10 +203,13 @@ fn note_now(line: &mut Cursor<'_, '_>) -> Result<Option<Note>, LineFault>
 }
 
 // So many frames.
-fn some_frames<'t, 'p>(line: &mut Cursor<'_, '_>) -> Result<Request<'t, 'p>, RequestFault>
-    ensures { result ≡ told asks.Frames (frames line.old.said) }
+fn some_frames<'t, 'p>(line: &mut Cursor<'t, 'p>) -> Result<Request<'t, 'p>, Failure<RequestFault>>
+    ensures { Answers (λ r. r) result (told asks.Frames (frames line.old.said)) }
 {
-    Ok(Request::Frames(frames(line)?))
+    match frames(line) {
+        Ok(count) => Ok(Request::Frames(count)),
+        Err(fault) => Err(failure_of(fault)),
+    }
 }
 
 // A number of frames, to the line's end.
@@ -199,9 +223,15 @@ fn frames(line: &mut Cursor<'_, '_>) -> Result<u32, LineFault>
 }
 
 // The paths of the files, by the whole line.
-fn save<'t, 'p: 't>(line: &'t [u8], pool: &'p [u8]) -> Result<Request<'t, 'p>, RequestFault>
+fn save<'t, 'p: 't>(
+    line: &'t [u8],
+    pool: &'p [u8],
+) -> Result<Request<'t, 'p>, Failure<RequestFault>>
     requires { IsOk (word (all_said_over pool.now (tokens_of line.now))) }
-    ensures { result ≡ told asks.Save (paths (drop 1 (all_said_over pool.now (tokens_of line.now)))) }
+    ensures { Answers (λ r. r) result (told asks.Save (paths (drop 1 (all_said_over pool.now (tokens_of line.now))))) }
 {
-    Ok(Request::Save(both_paths(line, pool)?))
+    match both_paths(line, pool) {
+        Ok(paths) => Ok(Request::Save(paths)),
+        Err(fault) => Err(failure_of(fault)),
+    }
 }

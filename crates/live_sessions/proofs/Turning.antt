@@ -1,6 +1,7 @@
 -- A line that is answered.
 use Rattle.std.proofs.Common.{◌≡◌, ◌≤◌, inl, inr, ℕ, ℤ, false, List, [], ◌++◌, length, take, Option, Some, None, Ok}
-use Rattle.std.proofs.Common.{Err, refl, sym, ap, subst, ◌∙◌}
+use Rattle.std.proofs.Common.{Result, Err, refl, sym, ap, subst, ◌∙◌}
+use Rattle.std.specs.Prelude.{IfOk}
 use Rattle.std.specs.List.{flat_map}
 use Rattle.std.specs.Io.KnownBytes.{Appends}
 use Rattle.std.proofs.KnownBytes.{Appends-nil}
@@ -20,6 +21,7 @@ use Rattle.live_lines.specs.Answers.{answer_text}
 use Rattle.live_sessions.specs.declared.live.Live.{Live}
 use Rattle.live_sessions.specs.declared.requests.Kind.{Kind}
 use Rattle.live_sessions.specs.declared.requests.Next.{Next}
+use Rattle.live_sessions.specs.declared.requests.Next.TheVariants as next
 use Rattle.live_sessions.specs.declared.fault.LiveFault.{LiveFault}
 use Rattle.live_sessions.specs.declared.fault.LiveFault.TheVariants as fault
 use Rattle.live_sessions.specs.Saved.{Saved, Adds}
@@ -27,7 +29,7 @@ use Rattle.live_sessions.specs.Telling.{kind_of, bank_told, told_text, next_of, 
 use Rattle.live_sessions.specs.Steps.{RequestIs, StopsIn, FramesStop, Does, frames_of, saves_of, told_of, events_of}
 use Rattle.live_sessions.specs.Steps.{is_end}
 use Rattle.live_sessions.specs.Turns.{Asked, LineIs, Turn, Around, answered, ends}
-use Rattle.live_sessions.specs.Runs.{Answers, StopsLine}
+use Rattle.live_sessions.specs.Runs.{Answers, AnswersOr, StopsLine}
 use Rattle.live_sessions.proofs.Doing.{adds_nothing}
 
 -- what is around a session, but for its input
@@ -105,7 +107,7 @@ failure_bare : (counts : Counts) (s : Live) (x : Asked) (why : Failure RequestFa
 failure_bare counts s x (failures.Fault f) h = fault_bare counts s x f h
 failure_bare counts s x failures.OutOfMemory h = memory_bare counts s x
 
-pub failure_told : (counts : Counts) (line : List ℕ) (s : Live) (o n p : Option (List ℕ)) (v : Option (List Saved))
+failure_told : (counts : Counts) (line : List ℕ) (s : Live) (o n p : Option (List ℕ)) (v : Option (List Saved))
     (why : Failure RequestFault) (a : Answer)
     → Fails why (request_of (said_in line)) → a ≡ told_failure why → Appends o n (answer_text a)
     → Answers counts line s s (around o p v) (around n p v) false
@@ -127,9 +129,9 @@ failure_told counts line s o n p v why a h e sent =
       ends = b.ends;
     }
 
-pub failure_unsent : (counts : Counts) (line : List ℕ) (s : Live) (o n p : Option (List ℕ)) (v : Option (List Saved))
+failure_unsent : (counts : Counts) (line : List ℕ) (s : Live) (o n p : Option (List ℕ)) (v : Option (List Saved))
     (why : Failure RequestFault) (a : Answer) (f : LiveFault)
-    → Fails why (request_of (said_in line)) → a ≡ told_failure why → IsSent {U = Unit {0}} o n (answer_text a) (Err f)
+    → Fails why (request_of (said_in line)) → a ≡ told_failure why → IsSent {U = Next} o n (answer_text a) (Err f)
     → StopsLine counts line s (around o p v) (around n p v) f
 failure_unsent counts line s o n p v why a (fault.Answers k) h e sent =
     let b : Bare counts s (request_of (said_in line)) a =
@@ -151,6 +153,17 @@ failure_unsent counts line s o n p v why a (fault.File g) h e sent = absurd sent
 failure_unsent counts line s o n p v why a fault.Memory h e sent = absurd sent
 failure_unsent counts line s o n p v why a fault.Input h e sent = absurd sent
 failure_unsent counts line s o n p v why a (fault.Pcm k) h e sent = absurd sent
+
+pub failure_answered : (counts : Counts) (line : List ℕ) (s : Live) (o n p : Option (List ℕ)) (v : Option (List Saved))
+    (why : Failure RequestFault) (a : Answer) (r : Result Next LiveFault)
+    → Fails why (request_of (said_in line)) → a ≡ told_failure why → IsSent o n (answer_text a) r
+    → IfOk r (λ (x : Next). x ≡ next.Line)
+    → AnswersOr counts line s s (around o p v) (around n p v) r
+failure_answered counts line s o n p v why a (Ok x) h e sent goes =
+    subst (λ (y : Next). Answers counts line s s (around o p v) (around n p v) (is_last y)) (sym goes)
+    (failure_told counts line s o n p v why a h e sent)
+failure_answered counts line s o n p v why a (Err f) h e sent goes =
+    failure_unsent counts line s o n p v why a f h e sent
 
 -- ---- a request
 
@@ -203,7 +216,7 @@ same_end old new asks.Quit answer.OutOfMemory h = absurd h
 same_end old new asks.Quit (answer.WriteFault path n) h = absurd h
 
 -- what a line comes to that asks for this request
-pub request_told : (counts : Counts) (line : List ℕ) (old new : Live) (r : Request) (a : Answer) (k : Kind)
+request_told : (counts : Counts) (line : List ℕ) (old new : Live) (r : Request) (a : Answer) (k : Kind)
     (next : Next) (o n p q : Option (List ℕ)) (v w : Option (List Saved))
     → request_of (said_in line) ≡ Ok (Some r) → k ≡ kind_of r → next ≡ next_of k → Does old new r a p q v w
     → Appends o n (told_text counts new k ++ answer_text a)
@@ -230,10 +243,10 @@ request_told counts line old new r a k next o n p q v w e kind_is next_is d sent
       ends = ap (λ (x : Asked). ends x (Some a)) e ∙ last;
     }
 
-pub request_unsent : (counts : Counts) (line : List ℕ) (old new : Live) (r : Request) (a : Answer) (k : Kind)
+request_unsent : (counts : Counts) (line : List ℕ) (old new : Live) (r : Request) (a : Answer) (k : Kind)
     (o n p q : Option (List ℕ)) (v w : Option (List Saved)) (f : LiveFault)
     → request_of (said_in line) ≡ Ok (Some r) → k ≡ kind_of r → Does old new r a p q v w
-    → IsSent {U = Unit {0}} o n (told_text counts new k ++ answer_text a) (Err f)
+    → IsSent {U = Next} o n (told_text counts new k ++ answer_text a) (Err f)
     → StopsLine counts line old (around o p v) (around n q w) f
 request_unsent counts line old new r a k o n p q v w (fault.Answers m) e kind_is d sent =
     let told : told_text counts new k ≡ told_of counts old r a =
@@ -259,6 +272,16 @@ request_unsent counts line old new r a k o n p q v w (fault.File g) e kind_is d 
 request_unsent counts line old new r a k o n p q v w fault.Memory e kind_is d sent = absurd sent
 request_unsent counts line old new r a k o n p q v w fault.Input e kind_is d sent = absurd sent
 request_unsent counts line old new r a k o n p q v w (fault.Pcm m) e kind_is d sent = absurd sent
+
+pub request_answered : (counts : Counts) (line : List ℕ) (old new : Live) (r : Request) (a : Answer) (k : Kind)
+    (o n p q : Option (List ℕ)) (v w : Option (List Saved)) (result : Result Next LiveFault)
+    → request_of (said_in line) ≡ Ok (Some r) → k ≡ kind_of r → Does old new r a p q v w
+    → IsSent o n (told_text counts new k ++ answer_text a) result → IfOk result (λ (x : Next). x ≡ next_of k)
+    → AnswersOr counts line old new (around o p v) (around n q w) result
+request_answered counts line old new r a k o n p q v w (Ok x) e kind_is d sent next_is =
+    request_told counts line old new r a k x o n p q v w e kind_is next_is d sent
+request_answered counts line old new r a k o n p q v w (Err f) e kind_is d sent next_is =
+    request_unsent counts line old new r a k o n p q v w f e kind_is d sent
 
 -- a request stops for no other fault than that of the frames' writer
 abbrev IsOfFrames : LiveFault → Type 0

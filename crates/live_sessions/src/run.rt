@@ -8,7 +8,7 @@ ghost use Rattle.live_sessions.specs.Runs.{AnswersOr, Goes, IsFirst, IsRead, IsR
 use crate::asking::ask;
 use crate::fault::LiveFault;
 use crate::live::Live;
-use crate::requests::{Kind, Next, do_request, kind_of, next_of};
+use crate::requests::{Kind, Next, do_request, kind_of};
 use crate::saving::Saves;
 use crate::telling::send_answer;
 use bank_format::Counts;
@@ -147,18 +147,17 @@ fn answer_line<'a, A: Write, P: Write, S: Saves>(
         (record { input = None; answers = A.contents answers.old; pcm = P.contents pcm.old; saved = S.saved host.old })
         (record { input = None; answers = A.contents answers.new; pcm = P.contents pcm.new; saved = S.saved host.new }) result }
 {
-    let request = match ask(alloc, line) {
-        Ok(Some(request)) => request,
-        Ok(None) => return Ok(Next::Line),
-        Err(failure) => {
-            send_answer(live, counts, Kind::Plain, &told(failure), answers)?;
-            return Ok(Next::Line);
+    match ask(alloc, line) {
+        Ok(Some(request)) => {
+            let kind = kind_of(&request);
+            match do_request(alloc, live, request, pcm, host) {
+                Ok(answer) => send_answer(live, counts, kind, &answer, answers),
+                Err(fault) => Err(fault),
+            }
         }
-    };
-    let kind = kind_of(&request);
-    let answer = do_request(alloc, live, request, pcm, host)?;
-    send_answer(live, counts, kind, &answer, answers)?;
-    Ok(next_of(kind))
+        Ok(None) => Ok(Next::Line),
+        Err(failure) => send_answer(live, counts, Kind::Plain, &told(failure), answers),
+    }
 }
 
 // The answer to a line that has a fault, or for which memory is out.

@@ -1,19 +1,19 @@
 //! The text that answers a line.
-ghost use Rattle.std.specs.Prelude.{◌≡◌, ◌++◌};
+ghost use Rattle.std.specs.Prelude.{◌≡◌, ◌++◌, IfOk};
 ghost use Rattle.outputs.specs.Output.{Puts};
 ghost use Rattle.live_lines.specs.Answers.{answer_text};
-ghost use Rattle.live_sessions.specs.Telling.{told_text, IsSent, IsTold};
+ghost use Rattle.live_sessions.specs.Telling.{told_text, next_of, IsSent, IsTold};
 
 use crate::fault::LiveFault;
 use crate::live::Live;
-use crate::requests::Kind;
+use crate::requests::{Kind, Next, next_of};
 use bank_format::Counts;
 use bank_listing::put_listing;
 use live_lines::{Answer, HELP, put_answer};
 use outputs::{Output, WriteFault};
 use std::io::Write;
 
-/// Sends the text that answers a line, and flushes. It takes no memory.
+/// Sends the text that answers a line, flushes, and says whether the session goes on. It takes no memory.
 #[tactic(auto, using(crate::proofs::Sending::text_is_sent))]
 pub(crate) fn send_answer<A: Write>(
     live: &Live<'_>,
@@ -21,15 +21,15 @@ pub(crate) fn send_answer<A: Write>(
     kind: Kind,
     answer: &Answer<'_>,
     answers: &mut A,
-) -> Result<(), LiveFault>
-    ensures { IsSent (A.contents answers.old) (A.contents answers.new) (told_text counts.now live.now kind ++ answer_text answer.now) result }
+) -> Result<Next, LiveFault>
+    ensures sent { IsSent (A.contents answers.old) (A.contents answers.new) (told_text counts.now live.now kind ++ answer_text answer.now) result }
+    ensures next { IfOk result (λ next. next ≡ next_of kind) }
 {
     let mut output = Output::to(answers);
     put_text(live, counts, kind, answer, &mut output);
-    told(output.deliver())
+    told(output.deliver(), kind)
 }
 
-#[tactic(auto, using(outputs::proofs::OutputLaws::puts_then))]
 fn put_text<A: Write>(
     live: &Live<'_>,
     counts: &Counts,
@@ -56,11 +56,12 @@ fn put_told<A: Write>(live: &Live<'_>, counts: &Counts, kind: Kind, output: &mut
     }
 }
 
-fn told(delivered: Result<u64, WriteFault>) -> Result<(), LiveFault>
-    ensures { IsTold delivered result }
+fn told(delivered: Result<u64, WriteFault>, kind: Kind) -> Result<Next, LiveFault>
+    ensures told { IsTold delivered result }
+    ensures next { IfOk result (λ next. next ≡ next_of kind) }
 {
     match delivered {
-        Ok(_) => Ok(()),
+        Ok(_) => Ok(next_of(kind)),
         Err(fault) => Err(LiveFault::Answers(fault.written)),
     }
 }

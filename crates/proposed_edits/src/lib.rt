@@ -7,6 +7,7 @@ mod level;
 mod members;
 mod numbers;
 mod points;
+mod pushing;
 mod recuts;
 mod samples;
 mod settings;

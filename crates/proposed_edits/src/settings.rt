@@ -1,5 +1,6 @@
 //! The generators and modulators of a place that differ.
 use crate::numbers::member_number;
+use crate::pushing::push_setting_step;
 use bank_core::{Owner, Place};
 use edit_forms::{SettingStep, Step};
 use list_orders::{before, behind, common_back, common_front};
@@ -17,7 +18,8 @@ pub(crate) fn gen_steps<'a>(
     clear_steps(steps, owner, place, had, wanted)?;
     for &(operator, amount) in wanted {
         if !had.contains(&(operator, amount)) {
-            steps.push(Step::Setting(owner, place, SettingStep::SetGen { operator, amount }))?;
+            let step = SettingStep::SetGen { operator, amount };
+            push_setting_step(steps, owner, place, step)?;
         }
     }
     Ok(())
@@ -32,7 +34,7 @@ fn clear_steps<'a>(
 ) -> Result<(), OutOfMemory> {
     for &(operator, _) in had {
         if !wanted.iter().any(|&(other, _)| other == operator) {
-            steps.push(Step::Setting(owner, place, SettingStep::ClearGen { operator }))?;
+            push_setting_step(steps, owner, place, SettingStep::ClearGen { operator })?;
         }
     }
     Ok(())
@@ -60,14 +62,25 @@ pub(crate) fn mod_steps<'a>(
     let last = common_back(had, wanted);
     let had = before(had, had.len().saturating_sub(last));
     let wanted = before(wanted, wanted.len().saturating_sub(last));
-    for (index, (&modulator, _)) in wanted.iter().zip(had).enumerate() {
-        let index = member_number(first.saturating_add(index));
-        let step = SettingStep::SetMod { index, modulator };
-        steps.push(Step::Setting(owner, place, step))?;
-    }
+    set_steps(steps, owner, place, first, before(wanted, had.len()))?;
     let both = first.saturating_add(wanted.len().min(had.len()));
     remove_steps(steps, owner, place, both, behind(had, wanted.len()))?;
     add_steps(steps, owner, place, both, behind(wanted, had.len()))
+}
+
+fn set_steps<'a>(
+    steps: &mut Vec<Step<'a>>,
+    owner: Owner,
+    place: Place,
+    first: usize,
+    mods: &[Modulator],
+) -> Result<(), OutOfMemory> {
+    for (index, &modulator) in mods.iter().enumerate() {
+        let index = member_number(first.saturating_add(index));
+        let step = SettingStep::SetMod { index, modulator };
+        push_setting_step(steps, owner, place, step)?;
+    }
+    Ok(())
 }
 
 fn remove_steps<'a>(
@@ -79,7 +92,7 @@ fn remove_steps<'a>(
 ) -> Result<(), OutOfMemory> {
     let index = member_number(first);
     for _ in mods {
-        steps.push(Step::Setting(owner, place, SettingStep::RemoveMod { index }))?;
+        push_setting_step(steps, owner, place, SettingStep::RemoveMod { index })?;
     }
     Ok(())
 }
@@ -94,7 +107,7 @@ fn add_steps<'a>(
     for (index, &modulator) in mods.iter().enumerate() {
         let index = member_number(first.saturating_add(index));
         let step = SettingStep::AddMod { index, modulator };
-        steps.push(Step::Setting(owner, place, step))?;
+        push_setting_step(steps, owner, place, step)?;
     }
     Ok(())
 }

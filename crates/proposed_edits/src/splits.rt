@@ -1,5 +1,6 @@
 //! The zones that are split in two.
 use crate::numbers::member_number;
+use crate::pushing::push_zone_step;
 use crate::zones::Pair;
 use bank_core::ZonePlace;
 use bank_parts::OwnerHead;
@@ -20,7 +21,7 @@ impl<'s, H: OwnerHead> Pair<'s, H> {
                     axis,
                     at,
                 };
-                steps.push(Step::Zone(self.owner, step))?;
+                push_zone_step(steps, self.owner, step)?;
                 splits = splits.saturating_add(1);
             }
         }

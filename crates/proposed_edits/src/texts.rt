@@ -1,4 +1,5 @@
 //! The texts that differ.
+use crate::pushing::push_step;
 use bank_core::{Bank, InfoId};
 use edit_forms::{Step, TextStep};
 use sf_base::{Lent, OutOfMemory};
@@ -26,7 +27,7 @@ pub fn text_steps<'a>(
         let text = to.info(id);
         if now.info(id) != text {
             let text = Lent::new(text);
-            steps.push(Step::Text(TextStep::SetInfo { id, text }))?;
+            push_step(&mut steps, Step::Text(TextStep::SetInfo { id, text }))?;
         }
     }
     Ok(steps)

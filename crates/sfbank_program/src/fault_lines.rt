@@ -3,7 +3,7 @@ ghost use Rattle.std.specs.Prelude.{◌≡◌, IfOk};
 ghost use Rattle.outputs.specs.Output.{Puts};
 ghost use Rattle.outputs.specs.Writing.{Writes};
 ghost use Rattle.sample_view.specs.Pieces.{joined_bytes};
-ghost use Rattle.sfbank_program.specs.FaultLines.{fault_line, status_of, read_line, second_read_line, read_text, text_line, refused_line, not_neutral_line, named_line, recording_line, no_member_line, refusal_text, detail_text, step_text, limit_text, write_line, file_line, file_reason_line, unexplained_line};
+ghost use Rattle.sfbank_program.specs.FaultLines.{fault_line, status_of, read_line, second_read_line, read_text, script_line, notes_line, text_line, refused_line, not_neutral_line, named_line, recording_line, no_member_line, refusal_text, detail_text, step_text, limit_text, write_line, file_line, file_reason_line, unexplained_line};
 
 use crate::input_fault::InputFault;
 use crate::run_fault::RunFault;
@@ -11,6 +11,8 @@ use bank_format::ReadFault;
 use bank_validity::Limit;
 use edit_refusals::{Cause, Refusal};
 use itoa::Buffer;
+use line_tokens::ScriptFault;
+use note_list::NoteFault;
 use outputs::{Output, WriteFault};
 use recordings::WaveFault;
 use std::io::Write;
@@ -52,19 +54,15 @@ fn put_fault<W: Write>(fault: &RunFault, path: &str, output: &mut Output<'_, W>)
     match fault {
         RunFault::Read(fault) => put_read_fault(*fault, output),
         RunFault::ReadSecond(fault) => put_second_read_fault(*fault, output),
-        RunFault::Script(fault) => {
-            put_text_fault(fault.line(), fault.number(), fault.name(), output);
-        }
-        RunFault::Notes(fault) => {
-            put_text_fault(fault.line(), fault.number(), fault.name(), output);
-        }
+        RunFault::Script(fault) => put_script_fault(*fault, output),
+        RunFault::Notes(fault) => put_notes_fault(*fault, output),
         RunFault::Refused(line, why) => put_refused(*line, *why, output),
         RunFault::NotNeutral(line) => put_not_neutral(*line, output),
-        RunFault::OtherVersion => put_pieces(&[b"sfbank: refused 51 OtherVersion\n"], output),
+        RunFault::OtherVersion => output.put(b"sfbank: refused 51 OtherVersion\n"),
         RunFault::Recording(fault) => put_recording_fault(*fault, output),
         RunFault::NoMember(cause) => put_no_member(*cause, output),
         RunFault::Write(_, written) => put_write_fault(path, *written, output),
-        RunFault::Memory => put_pieces(&[b"sfbank: out of memory\n"], output),
+        RunFault::Memory => output.put(b"sfbank: out of memory\n"),
     }
 }
 
@@ -87,6 +85,18 @@ fn put_read_text<W: Write>(fault: ReadFault, output: &mut Output<'_, W>)
     ensures { Puts W.contents output.old output.new (read_text fault) }
 {
     put_named("read fault ", fault.number(), fault.name(), output);
+}
+
+fn put_script_fault<W: Write>(fault: ScriptFault, output: &mut Output<'_, W>)
+    ensures { Puts W.contents output.old output.new (script_line fault) }
+{
+    put_text_fault(fault.line(), fault.number(), fault.name(), output);
+}
+
+fn put_notes_fault<W: Write>(fault: NoteFault, output: &mut Output<'_, W>)
+    ensures { Puts W.contents output.old output.new (notes_line fault) }
+{
+    put_text_fault(fault.line(), fault.number(), fault.name(), output);
 }
 
 // A fault on a line of a text, by its number and its name.

@@ -1,21 +1,12 @@
-use Rattle.std.proofs.Common.{◌≡◌, ◌≤◌, ◌∙◌, ap, drop, length, subst, sym, arith}
-use Rattle.linked_members.proofs.Parts.{put_behind, inserted_behind}
+use Rattle.std.proofs.Common.{◌≡◌, ◌≤◌, ◌∙◌, ap, drop, insert, length, subst, sym}
+use Rattle.linked_members.proofs.Parts.{inserted_behind}
 use Rattle.linked_members.proofs.ended.EndedList.insert.Goals as goal
 use Rattle.linked_members.proofs.ended.EndedList.insert.Goals.{then-i-len+else-self-ne0, else-i-len}
 
 pub returns-then-self-ne0-clause-ok : goal.returns-then-self-ne0-clause-ok
 returns-then-self-ne0-clause-ok g c =
-    let fields = c.self-then-i-len.inside in
-    let places = c.deref_mut in
-    let put = c.put_in_front in
-    put_behind fields.places places.result.now put.new.members fields.blanks c.args.i c.args.x c.args.self.now
-    (let ne = c.if-self-ne0.true in grind arith)
-    c.self-then-i-len.invariant
-    places.ensures.value
-    places.ensures.len
-    (c.self-then-i-len.view_is ∙ c.make_blanks.ensures)
-    put.ensures.long
-    put.ensures.value
+    c.put_for_blank.ensures.value
+    ∙ ap (λ xs. insert xs c.args.i c.args.x) (c.self-then-i-len.view_is ∙ c.make_blanks.ensures)
 
 pub returns-clause-ok : goal.returns-clause-ok
 returns-clause-ok g c =
