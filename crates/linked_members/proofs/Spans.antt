@@ -1,10 +1,10 @@
 -- Spans of lists that change.
 use Rattle.std.proofs.Common.{◌≡◌, ◌≢◌, ℕ, ◌<◌, ◌≤◌, ◌+◌, ◌-◌, inl, inr, suc, zero, Bool, ◌||◌, false, true, List}
-use Rattle.std.proofs.Common.{[], ◌∷◌, length, map, insert, remove, slice_get, Option, Some, None, refl, sym, subst}
-use Rattle.std.proofs.Common.{◌∙◌, ap, arith}
+use Rattle.std.proofs.Common.{[], ◌∷◌, ◌++◌, length, map, insert, remove, slice_get, Option, Some, None, refl, sym}
+use Rattle.std.proofs.Common.{◌∙◌, ap, arith, subst}
 use Rattle.std.proofs.lemmas.Bool.{cases_lt, cases_eq}
 use Rattle.std.proofs.lemmas.List.{length-map}
-use Rattle.std.proofs.lemmas.List.Edits.{length-remove}
+use Rattle.std.proofs.lemmas.List.Edits.{length-insert, length-remove, insert_end}
 use Rattle.std.proofs.lemmas.List.Folds.{list_any_at}
 use Rattle.std.proofs.lemmas.Option.{get_or_from_slice_get, slice_get_within}
 use Rattle.std.specs.Prelude.{IfSome}
@@ -12,9 +12,9 @@ use Rattle.std.specs.List.{list_any}
 use Rattle.numbered_lists.specs.Moved.{moved, changed_within}
 use Rattle.numbered_lists.proofs.Lists.{slice_get-found, slice_get-insert, slice_get-insert_below}
 use Rattle.numbered_lists.proofs.Lists.{slice_get-insert_above, slice_get-remove_below, slice_get-remove_above}
-use Rattle.numbered_lists.proofs.Lists.{moved-found, length-moved}
+use Rattle.numbered_lists.proofs.Lists.{moved-found}
 use Rattle.linked_members.specs.declared.span.Span.{Span}
-use Rattle.linked_members.specs.Spans.{IsSpan, IsOutside}
+use Rattle.linked_members.specs.Spans.{IsSpan, IsSpanExcept, IsOutside, IsShifted}
 use Rattle.linked_members.proofs.Parts.{all_changed}
 
 if_some : {X : Type 0} {P Q : X → Type 0} → (o : Option X) → ((x : X) → P x → Q x) → IfSome o P → IfSome o Q
@@ -96,34 +96,50 @@ module _ {X : Type 0} (h : X → Bool) where
       ] in
       record { order = order; within = within; outside = free }
 
-  pub span_moved : (xs : List X) (from to : ℕ) (span r : Span) → IsSpan h xs span → from < length xs → to < length xs
-      → r.end ≤ length xs
-      → r.start ≤ span.start → span.end ≤ r.end → r.start ≤ from → from < r.end → r.start ≤ to → to < r.end
+  -- a move is a removal and then an insertion
+  pub span_moved : (xs : List X) (from to : ℕ) (x : X) (span others r : Span) → IsSpan h xs span → from < length xs
+      → to < length xs → slice_get xs from ≡ Some x
+      → others.start ≤ others.end → others.end ≤ length (remove xs from)
+      → ((i : ℕ) → IsOutside others i → i < from → IsOutside span i)
+      → ((i : ℕ) → IsOutside others i → from ≤ i → IsOutside span (i + 1))
+      → r.start ≤ r.end → r.end ≤ length xs
+      → IsShifted others r to → (IsOutside r to → h x ≡ false)
       → IsSpan h (moved xs from to) r
-  span_moved xs from to span r s there place within first last a b c d =
-      let (y, e) = slice_get-found xs from there in
-      let is = moved-found xs from to y e in
-      let size = length-remove xs from there in
-      let size_too = length-moved xs from to there place in
+  span_moved xs from to x span others r s there place e order_others within_others below above order within shift own =
+      let rest = length-remove xs from there in
       let inside : to ≤ length (remove xs from) = omega arith in
-      let free : (i : ℕ) → IsOutside r i → Free (slice_get (insert (remove xs from) to y) i) = λ i o. elim o [
-        | inl l ↦ subst Free
-            (sym
-            (slice_get-insert_below (remove xs from) to y i inside (omega arith)
-            ∙ slice_get-remove_below xs from i (omega arith)))
-            (s.outside i (inl (omega arith)))
-        | inr g ↦
-            let next : i ≡ suc (i - 1) = omega arith in
-            subst (λ k. Free (slice_get (insert (remove xs from) to y) k)) (sym next)
-            (subst Free (sym (slice_get-insert_above (remove xs from) to y (i - 1) inside (omega arith) ∙ slice_get-remove_above xs from (i - 1) (omega arith)))
-            (subst (λ k. Free (slice_get xs k)) next (s.outside i (inr (omega arith)))))
-      ] in
+      let whole = length-insert (remove xs from) to x inside in
+      let long : r.end ≤ length (insert (remove xs from) to x) = omega arith in
+      subst (IsSpanOf h r) (sym (moved-found xs from to x e))
+      (span_inserted (remove xs from) to x others r
+      (span_removed xs from span others s there order_others within_others below above)
+      inside order long shift.below shift.above own)
+
+  pub span_pushed : (xs : List X) (x : X) (span r : Span) → IsSpan h xs span → r.start ≤ r.end
+      → r.end ≤ length (xs ++ x ∷ [])
+      → IsShifted span r (length xs) → (IsOutside r (length xs) → h x ≡ false) → IsSpan h (xs ++ x ∷ []) r
+  span_pushed xs x span r s order within shift own =
+      let is = insert_end xs x in
+      subst (IsSpanOf h r) is
+      (span_inserted xs (length xs) x span r s (omega arith) order
+      (subst (λ ys. r.end ≤ length ys) (sym is) within) shift.below shift.above own)
+
+  -- ---- the borrowed member
+
+  pub no_borrowed : (xs : List X) (span : Span) → IsSpan h xs span → IsSpanExcept h xs span None
+  no_borrowed xs span s =
+      record { order = s.order; within = s.within; there = tt; outside = λ i o n. s.outside i o }
+
+  pub span_of_linked : (xs : List X) (span r : Span) (b : ℕ) → IsSpanExcept h xs span (Some b) → r.end ≤ length xs
+      → r.start ≤ b → b < r.end → ((i : ℕ) → IsOutside r i → IsOutside span i) → IsSpan h xs r
+  span_of_linked xs span r b s within first last out =
       record {
-        order =
-            omega arith;
-        within =
-            omega arith;
-        outside = λ i o. subst (λ ys. Free (slice_get ys i)) (sym is) (free i o);
+        order = omega arith;
+        within = within;
+        outside =
+            λ i o.
+            s.outside i (out i o)
+            (λ e. elim o [ inl l ↦ omega arith | inr g ↦ omega arith ]);
       }
 
 -- ---- whether any but one passes a test

@@ -1,5 +1,5 @@
 -- Between which numbers the members lie that have a link.
-use Rattle.std.specs.Prelude.{◌≡◌, ◌≤◌, ◌<◌, ◌+◌, ◌⊎◌, ℕ, Bool, false, List, length, slice_get, IfSome}
+use Rattle.std.specs.Prelude.{◌≡◌, ◌≢◌, ◌≤◌, ◌<◌, ◌+◌, ◌⊎◌, ℕ, Bool, false, List, Option, length, slice_get, IfSome}
 use Rattle.linked_members.specs.declared.span.Span.{Span}
 
 abbrev pub IsOutside : Span → ℕ → Type 0
@@ -10,6 +10,15 @@ pub record IsSpan {X : Type 0} (has_link : X → Bool) (xs : List X) (span : Spa
   pub order : span.start ≤ span.end
   pub within : span.end ≤ length xs
   pub outside : (i : ℕ) → IsOutside span i → IfSome (slice_get xs i) (λ x. has_link x ≡ false)
+
+-- the same, except that the borrowed member may have one anywhere
+pub record IsSpanExcept {X : Type 0} (has_link : X → Bool) (xs : List X) (span : Span) (borrowed : Option ℕ)
+    : Type 0 where
+  pub order : span.start ≤ span.end
+  pub within : span.end ≤ length xs
+  pub there : IfSome borrowed (λ b. b < length xs)
+  pub outside : (i : ℕ) → IsOutside span i → IfSome borrowed (λ b. b ≢ i)
+      → IfSome (slice_get xs i) (λ x. has_link x ≡ false)
 
 -- once a member was put in at a place, what is outside of the new span was outside of the old one
 pub record IsShifted (old new : Span) (at : ℕ) : Type 0 where

@@ -5,6 +5,7 @@ ghost use Rattle.std.specs.Option.{option_copied};
 ghost use Rattle.std.specs.Borrow.{Lends, sem};
 ghost use Rattle.linked_members.specs.contracts.members.LinkedMembers.{the_row};
 ghost use Rattle.numbered_lists.specs.Moved.{moved};
+ghost use Rattle.linked_members.specs.Spans.{IsSpan};
 
 use crate::ended::EndedList;
 use crate::linked::Linked;
@@ -14,28 +15,35 @@ use std::alloc::Global;
 use std::marker::Model;
 
 /// A list whose members go by their numbers, the first by 0, and may link to one another by them. A change moves the
-/// members on its shorter side, and looks at no link outside of those numbers between which some members have one.
+/// members on its shorter side. It reads links only within a range of numbers outside of which no member has one. A
+/// member that was borrowed to be changed widens that range only if it has a link afterwards.
 pub struct LinkedMembers<T: Linked> {
     list: EndedList<T>,
-    // Between which numbers there may be links.
+    // No member outside of it has a link, except the borrowed one.
     span: Span,
+    // The number of a member whose link isn't known, since it was borrowed to be changed.
+    borrowed: Option<usize>,
 }
 
 impl<T: Linked> Drop for LinkedMembers<T> {
     fn drop(self) {
-        let LinkedMembers { list: _, span: _ } = self;
+        let LinkedMembers {
+            list: _,
+            span: _,
+            borrowed: _,
+        } = self;
     }
 }
 
 impl<T: Linked> Model for LinkedMembers<T> {
     ghost use Rattle.std.specs.Prelude.{List};
-    ghost use Rattle.linked_members.specs.Spans.{IsSpan};
+    ghost use Rattle.linked_members.specs.Spans.{IsSpanExcept};
 
     ghost Value = { List T };
 
     ghost view = { λ l. l.list };
 
-    ghost invariant = { λ l. IsSpan T.has_link l.list l.span };
+    ghost invariant = { λ l. IsSpanExcept T.has_link l.list l.span l.borrowed };
 }
 
 impl<T: Linked> LinkedMembers<T> {
@@ -58,6 +66,7 @@ impl<T: Linked> LinkedMembers<T> {
         LinkedMembers {
             list: EndedList::from_vec(vec),
             span,
+            borrowed: None,
         }
     }
 
@@ -88,7 +97,8 @@ impl<T: Linked> LinkedMembers<T> {
         ensures* writes_back { sem 𝓛 (Lends (the_row T.row (record { has_link = T.has_link; links_to = T.links_to }) (record { can_renumber = T.can_renumber; with_new_numbers = T.with_new_numbers })) T.row self.entry result (λ w. slice_set self.old i w)) }
         ensures value { slice_get self.old i ≡ Some result.now }
     {
-        self.span = self.span.with(i, self.list.len());
+        self.span = self.link_span();
+        self.borrowed = Some(i);
         self.list.member_mut(i)
     }
 
@@ -100,10 +110,10 @@ impl<T: Linked> LinkedMembers<T> {
     {
         let at = self.list.len();
         let has_link = x.has_link();
+        let span = self.link_span();
         self.list.push(x)?;
-        if has_link {
-            self.span = self.span.with(at, self.list.len());
-        }
+        self.span = span.after_insertion(at, self.list.len(), has_link);
+        self.borrowed = None;
         Ok(())
     }
 
@@ -117,8 +127,10 @@ impl<T: Linked> LinkedMembers<T> {
         ensures value_returned { IfErr result (λ y. y ≡ x) }
     {
         let has_link = x.has_link();
-        self.list.insert_renumbered(by, self.span, i, x)?;
-        self.span = self.span.after_insertion(i, self.list.len(), has_link);
+        let span = self.link_span();
+        self.list.insert_renumbered(by, span, i, x)?;
+        self.span = span.after_insertion(i, self.list.len(), has_link);
+        self.borrowed = None;
         Ok(())
     }
 
@@ -128,8 +140,10 @@ impl<T: Linked> LinkedMembers<T> {
         ensures value { slice_get self.old i ≡ Some result }
         ensures list { self.new ≡ remove self.old i }
     {
+        let span = self.link_span().after_removal(i);
         let x = self.list.remove(i);
-        self.span = self.span.after_removal(i).tight(self.list.as_slice());
+        self.span = span.tight(self.list.as_slice());
+        self.borrowed = None;
         x
     }
 
@@ -139,10 +153,12 @@ impl<T: Linked> LinkedMembers<T> {
         requires to { to < length self.old }
         ensures { self.new ≡ moved self.old from to }
     {
+        let has_link = self.list.member(from).has_link();
+        let others = self.link_span().after_removal(from);
+        let span = others.after_insertion(to, self.list.len(), has_link);
         self.list.move_member(from, to);
-        let members = self.list.as_slice();
-        let count = members.len();
-        self.span = self.span.with(from, count).with(to, count).tight(members);
+        self.span = span.tight(self.list.as_slice());
+        self.borrowed = None;
     }
 
     /// Whether a member other than that of the number links to it.
@@ -151,12 +167,27 @@ impl<T: Linked> LinkedMembers<T> {
         ensures { result ≡ list_any (T.links_to number) (remove self.now number) }
     {
         let members = self.list.as_slice();
-        for i in self.span.start..self.span.end {
+        let span = self.link_span();
+        for i in span.start..span.end {
             if is_other_link(members, i, number) {
                 return true;
             }
         }
         false
+    }
+
+    // The span outside of which no member has a link, widened by the borrowed one if that has a link now.
+    fn link_span(&self) -> Span
+        ensures { IsSpan T.has_link self.now result }
+    {
+        let Some(i) = self.borrowed else {
+            return self.span;
+        };
+        if self.list.member(i).has_link() {
+            self.span.with(i, self.list.len())
+        } else {
+            self.span
+        }
     }
 }
 
@@ -176,6 +207,9 @@ impl<T: Linked> Renumber for LinkedMembers<T> {
     ghost with_new_numbers = { λ by list. map (T.with_new_numbers by) list };
 
     fn renumber(&mut self, by: Renumbering) {
-        self.list.renumber_part(by, self.span);
+        let span = self.link_span();
+        self.list.renumber_part(by, span);
+        self.span = span;
+        self.borrowed = None;
     }
 }

@@ -13,13 +13,20 @@ pub(crate) struct Span {
 }
 
 impl Span {
-    // The same, with the number of one of so many members in it.
+    // This span widened by the number of one of `count` members. An empty span becomes that number alone.
     pub(crate) fn with(self, number: usize, count: usize) -> Span
         requires { number < count }
-        ensures start { (result.start ≤ self.start) × (result.start ≤ number) }
-        ensures end { (self.end ≤ result.end) × (number < result.end) }
+        ensures covers { (result.start ≤ number) × (number < result.end) }
+        ensures outside { (i : ℕ) → IsOutside result i → IsOutside self i }
         ensures within { self.end ≤ count → result.end ≤ count }
+        ensures alone { self.end ≤ self.start → (result.start ≡ number) × (result.end ≡ number + 1) }
     {
+        if self.end <= self.start {
+            return Span {
+                start: number,
+                end: number + 1,
+            };
+        }
         Span {
             start: self.start.min(number),
             end: self.end.max(number + 1),

@@ -1,28 +1,33 @@
-use Rattle.std.proofs.Common.{◌≡◌, ◌<◌, ◌≤◌, ◌∙◌, ap, length, subst, sym, arith}
-use Rattle.numbered_lists.specs.Moved.{moved}
-use Rattle.numbered_lists.proofs.Lists.{length-moved}
+use Rattle.std.proofs.Common.{◌<◌, ◌≤◌, ◌∙◌, ◌-◌, length, remove, subst, sym, arith}
+use Rattle.std.proofs.lemmas.List.Edits.{length-remove}
 use Rattle.linked_members.proofs.Spans.{IsSpanOf, span_moved}
 use Rattle.linked_members.proofs.members.LinkedMembers.move_member.Goals as goal
 
+pub after_insertion-span-requires-clause-fits : goal.after_insertion-span-requires-clause-fits
+after_insertion-span-requires-clause-fits g c =
+    let count = length c.args.self.now in
+    let from = c.requires.from in
+    let end = c.link_span.ensures.within in
+    let less = c.after_removal-others.ensures.within (count - 1) (omega arith) (omega arith) in
+    subst (λ n. c.after_removal-others.result.end < n) (sym c.len.ensures)
+    (subst (λ xs. c.after_removal-others.result.end < length xs) (sym c.self.view_is) (omega arith))
+
 pub tight-self-inside-requires : goal.tight-self-inside-requires
 tight-self-inside-requires g c =
+    let h = g.T.Linked.has_link in
     let list = c.self.inside.list in
-    let span = c.self.inside.span in
-    let is : c.as_slice-members.result.now ≡ moved list c.args.from c.args.to =
-    c.as_slice-members.ensures ∙ c.move_member.ensures in
+    let known = subst (IsSpanOf h c.link_span.result) (sym c.self.view_is) c.link_span.ensures in
+    let others = c.after_removal-others in
+    let after = c.after_insertion-span in
     let there : c.args.from < length list =
     subst (λ xs. c.args.from < length xs) (sym c.self.view_is) c.requires.from in
     let place : c.args.to < length list = subst (λ xs. c.args.to < length xs) (sym c.self.view_is) c.requires.to in
-    let size = ap length is ∙ length-moved list c.args.from c.args.to there place in
-    let end = c.self.invariant.within in
-    let a = c.with.ensures in
-    let b = c.with-2.ensures in
-    let within = b.within (a.within (subst (λ n. span.end ≤ n) (sym size) end)) in
-    let a_start = a.start in
-    let a_end = a.end in
-    let b_start = b.start in
-    let b_end = b.end in
-    subst (IsSpanOf g.T.Linked.has_link c.with-2.result) (sym is)
-    (span_moved g.T.Linked.has_link list c.args.from c.args.to span c.with-2.result c.self.invariant there place
-    (subst (λ n. c.with-2.result.end ≤ n) size within)
-    (omega arith) (omega arith) (omega arith) (omega arith) (omega arith) (omega arith))
+    let size = length-remove list c.args.from there in
+    let end = known.within in
+    let fewer : others.result.end ≤ length (remove list c.args.from) =
+    others.ensures.within (length (remove list c.args.from)) (omega arith) (omega arith) in
+    subst (IsSpanOf h after.result) (sym (c.as_slice.ensures ∙ c.move_member.ensures))
+    (span_moved h list c.args.from c.args.to c.member.result.now c.link_span.result others.result after.result known
+    there place c.member.ensures others.ensures.order fewer others.ensures.below others.ensures.above
+    after.ensures.order (subst (λ n. after.result.end ≤ n) c.len.ensures after.ensures.within) after.ensures.outside
+    (λ o. sym c.has_link-has_link.ensures ∙ after.ensures.own o))

@@ -10,8 +10,8 @@ returns-then-is_other_link g c =
     let members = c.as_slice-members.result.now in
     let is : members ≡ c.args.self.now = c.as_slice-members.ensures ∙ c.self.view_is in
     let yes = c.is_other_link.ensures.yes c.if-is_other_link.true in
-    let within =
-    subst (λ xs. c.self.inside.span.end ≤ length xs) (sym c.as_slice-members.ensures) c.self.invariant.within in
+    let known = c.link_span-span.ensures in
+    let within = subst (λ xs. c.link_span-span.result.end ≤ length xs) (sym is) known.within in
     let turn = c.loop-i-test.true in
     sym
     (subst (λ xs. list_any p (remove xs c.args.number) ≡ true) is
@@ -20,11 +20,11 @@ returns-then-is_other_link g c =
 pub returns : goal.returns
 returns g c =
     let p = g.T.Linked.links_to c.args.number in
-    let list = c.self.inside.list in
-    let span = c.self.inside.span in
+    let span = c.link_span-span in
     let ended = c.loop-i-test.false in
-    sym (subst (λ xs. list_any p (remove xs c.args.number) ≡ false) c.self.view_is
-    (none_but g.T.Linked.has_link p list c.args.number span c.self.invariant
+    let is = c.as_slice-members.ensures ∙ c.self.view_is in
+    sym
+    (none_but g.T.Linked.has_link p c.args.self.now c.args.number span.result span.ensures
     (g.met.T.Linked.links_nowhere c.args.number)
-    (λ i start end ne. subst (λ xs. IfSome (slice_get xs i) (λ x. p x ≡ false)) c.as_slice-members.ensures
-    (c.loop-i.invariant i start (omega arith) ne))))
+    (λ i start end ne. subst (λ xs. IfSome (slice_get xs i) (λ x. p x ≡ false)) is
+    (c.loop-i.invariant i start (omega arith) ne)))
