@@ -8,12 +8,14 @@ use Rattle.note_list.specs.declared.fault.NoteFault.{NoteFault}
 use Rattle.note_list.specs.declared.fault.NoteFault.TheVariants as note
 use Rattle.recordings.specs.declared.fault.WaveFault.{WaveFault}
 use Rattle.recordings.specs.declared.fault.WaveFault.TheVariants as wave
+use Rattle.outputs.specs.declared.output_fault.OutputFault.{OutputFault}
+use Rattle.outputs.specs.declared.output_fault.OutputFault.TheVariants as output
 use Rattle.edit_forms.specs.declared.cause.Cause.{Cause}
 use Rattle.edit_forms.specs.declared.cause.Cause.TheVariants as cause
 use Rattle.edit_refusals.specs.declared.refusal.Refusal.{Refusal}
 use Rattle.edit_refusals.specs.declared.refusal.Refusal.TheVariants as refusal
 use Rattle.fault_explanations.specs.declared.explanations.Told.{Told}
-use Rattle.fault_explanations.specs.declared.explanations.Told.TheVariants.{Reading, Script, Notes, Recording}
+use Rattle.fault_explanations.specs.declared.explanations.Told.TheVariants.{Reading, Script, Notes, Recording, Output}
 use Rattle.fault_explanations.specs.declared.explanations.Told.TheVariants.{Refused, NotNeutral, OtherVersion}
 use Rattle.fault_explanations.specs.declared.explanations.Told.TheVariants.{TooManyFrames}
 use Rattle.fault_explanations.specs.declared.explanations.TheConstants.{ALL}
@@ -65,6 +67,10 @@ of_recording wave.ShortSampler = refl
 of_recording wave.UnityNote = refl
 of_recording wave.LoopOutside = refl
 
+of_output : (it : OutputFault) → Found (number_of (Output it))
+of_output output.SameFile = refl
+of_output output.HoldsBank = refl
+
 of_cause : (it : Cause) → Found (number_of (Refused (refusal.Of it)))
 of_cause cause.NoSuchPreset = refl
 of_cause cause.NoSuchInstrument = refl
@@ -97,6 +103,7 @@ of_told (Reading it) = of_reading it
 of_told (Script it) = of_script it
 of_told (Notes it) = of_notes it
 of_told (Recording it) = of_recording it
+of_told (Output it) = of_output it
 of_told (Refused it) = of_refusal it
 of_told NotNeutral = refl
 of_told OtherVersion = refl

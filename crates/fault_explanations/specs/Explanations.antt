@@ -4,9 +4,10 @@ use Rattle.bank_format.specs.FaultNames as reading
 use Rattle.line_tokens.specs.Faults as scripts
 use Rattle.note_list.specs.Faults as notes
 use Rattle.recordings.specs.FaultNames as recordings
+use Rattle.outputs.specs.OutputFaults as outputs
 use Rattle.edit_refusals.specs.RefusalNames as refusals
 use Rattle.fault_explanations.specs.declared.explanations.Told.{Told}
-use Rattle.fault_explanations.specs.declared.explanations.Told.TheVariants.{Reading, Script, Notes, Recording}
+use Rattle.fault_explanations.specs.declared.explanations.Told.TheVariants.{Reading, Script, Notes, Recording, Output}
 use Rattle.fault_explanations.specs.declared.explanations.Told.TheVariants.{Refused, NotNeutral, OtherVersion}
 use Rattle.fault_explanations.specs.declared.explanations.Told.TheVariants.{TooManyFrames}
 use Rattle.fault_explanations.specs.declared.explanations.Explanation.{Explanation}
@@ -17,6 +18,7 @@ number_of (Reading fault) = reading.number_of fault
 number_of (Script fault) = scripts.number_of fault
 number_of (Notes fault) = notes.number_of fault
 number_of (Recording fault) = recordings.number_of fault
+number_of (Output fault) = outputs.number_of fault
 number_of (Refused why) = refusals.refusal_number why
 number_of NotNeutral = 50
 number_of OtherVersion = 51
@@ -27,6 +29,7 @@ name_of (Reading fault) = reading.name_of fault
 name_of (Script fault) = scripts.name_of fault
 name_of (Notes fault) = notes.name_of fault
 name_of (Recording fault) = recordings.name_of fault
+name_of (Output fault) = outputs.name_of fault
 name_of (Refused why) = refusals.refusal_name why
 name_of NotNeutral = codes "NotNeutral"
 name_of OtherVersion = codes "OtherVersion"

@@ -11,7 +11,7 @@ use edit_refusals::{Cause, Refusal};
 use itoa::Buffer;
 use line_tokens::ScriptFault;
 use note_list::NoteFault;
-use outputs::{Output, WriteFault};
+use outputs::{Output, OutputFault, WriteFault};
 use recordings::WaveFault;
 use std::io::Write;
 
@@ -26,6 +26,8 @@ pub enum Told {
     Notes(NoteFault),
     /// A fault of a WAVE file.
     Recording(WaveFault),
+    /// A rejected output.
+    Output(OutputFault),
     /// An edit that is refused, or an undo or a redo.
     Refused(Refusal),
     /// An edit that may change the sound of notes, where none is taken that does.
@@ -50,7 +52,7 @@ pub struct Explanation {
 }
 
 /// One of each number. What they hold beside that is not told here.
-static ALL: [Told; 59] = [
+static ALL: [Told; 61] = [
     Told::Reading(ReadFault::NotRiff),
     Told::Reading(ReadFault::NotSfbk),
     Told::Reading(ReadFault::Truncated),
@@ -110,6 +112,8 @@ static ALL: [Told; 59] = [
     Told::Recording(WaveFault::ShortSampler),
     Told::Recording(WaveFault::UnityNote),
     Told::Recording(WaveFault::LoopOutside),
+    Told::Output(OutputFault::SameFile),
+    Told::Output(OutputFault::HoldsBank),
 ];
 
 impl Told {
@@ -122,6 +126,7 @@ impl Told {
             Told::Script(fault) => fault.number(),
             Told::Notes(fault) => fault.number(),
             Told::Recording(fault) => fault.number(),
+            Told::Output(fault) => fault.number(),
             Told::Refused(why) => why.number(),
             Told::NotNeutral => 50,
             Told::OtherVersion => 51,
@@ -138,6 +143,7 @@ impl Told {
             Told::Script(fault) => fault.name(),
             Told::Notes(fault) => fault.name(),
             Told::Recording(fault) => fault.name(),
+            Told::Output(fault) => fault.name(),
             Told::Refused(why) => why.name(),
             Told::NotNeutral => "NotNeutral",
             Told::OtherVersion => "OtherVersion",
@@ -152,6 +158,7 @@ impl Told {
             Told::Script(fault) => of_script(fault),
             Told::Notes(fault) => of_notes(fault),
             Told::Recording(fault) => of_recording(fault),
+            Told::Output(fault) => of_output(fault),
             Told::Refused(why) => of_refusal(why),
             Told::NotNeutral => (
                 "The edit may change the sound of notes, and --neutral takes none that does.",
@@ -380,6 +387,19 @@ fn of_recording(fault: WaveFault) -> (&'static str, &'static str) {
         WaveFault::LoopOutside => (
             "The loop of the sampler chunk is empty, or not in the data.",
             "Write the file without it, as by `sox IN -b 16 OUT.wav`, and set key and loop by edits.",
+        ),
+    }
+}
+
+fn of_output(fault: OutputFault) -> (&'static str, &'static str) {
+    match fault {
+        OutputFault::SameFile => (
+            "The output is one file with an input or with another output of the run.",
+            "Give each output a path of its own; only OUT may be IN.",
+        ),
+        OutputFault::HoldsBank => (
+            "There is a bank at this path, and what is written there is no bank.",
+            "Give another path, or add --force to replace the bank.",
         ),
     }
 }
