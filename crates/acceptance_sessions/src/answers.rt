@@ -3,7 +3,7 @@
 use bank_validity::Limit;
 use edit_refusals::{Cause, Refusal};
 use live_lines::{Answer, FilePath, RequestFault, put_answer};
-use outputs::Output;
+use outputs::{Output, OutputFault};
 use std::alloc::Global;
 
 /// Refusals, and their texts.
@@ -79,5 +79,19 @@ fn write_faults_name_their_path(rt: HostRuntime) {
                 b"write fault my bank.sf2 after 42 bytes\n"
             )
         );
+    }
+}
+
+#[test]
+fn rejected_outputs_name_their_path(rt: HostRuntime) {
+    if let Some(path) = FilePath::of(b"bank.sf2") {
+        let fault = OutputFault::SameFile;
+        let answer = Answer::Rejected { path, fault };
+        assert!(rt; is_told(rt.alloc(), &answer, b"refused 64 SameFile bank.sf2\n"));
+    }
+    if let Some(path) = FilePath::of(b"my bank.sf2") {
+        let fault = OutputFault::HoldsBank;
+        let answer = Answer::Rejected { path, fault };
+        assert!(rt; is_told(rt.alloc(), &answer, b"refused 65 HoldsBank my bank.sf2\n"));
     }
 }

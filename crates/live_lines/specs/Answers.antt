@@ -8,6 +8,8 @@ use Rattle.edit_refusals.specs.declared.refusal.Refusal.TheVariants.{Of, OutOfMe
 use Rattle.edit_refusals.specs.declared.refusal.Refusal.TheVariants.{GroupRefused}
 use Rattle.edit_forms.specs.CauseNames as causes
 use Rattle.edit_refusals.specs.RefusalNames as refusals
+use Rattle.outputs.specs.declared.output_fault.OutputFault.{OutputFault}
+use Rattle.outputs.specs.OutputFaults as outputs
 use Rattle.line_tokens.specs.declared.printing.Piece.{Piece}
 use Rattle.line_tokens.specs.declared.printing.Piece.TheVariants.{Number, Word}
 use Rattle.line_tokens.specs.Printing.{line_text}
@@ -61,6 +63,12 @@ write_text path written =
     line_text (codes "write")
     (Word (codes "fault") ∷ Word path ∷ Word (codes "after") ∷ Number written ∷ Word (codes "bytes") ∷ [])
 
+-- why an output is rejected, by its number and its name, and its path
+abbrev pub rejected_text : List ℕ → OutputFault → List ℕ
+rejected_text path fault =
+    line_text (codes "refused")
+    (Number (outputs.number_of fault) ∷ Word (outputs.name_of fault) ∷ Word path ∷ [])
+
 -- the line of an answer, with its line feed
 unfoldable pub answer_text : Answer → List ℕ
 answer_text answers.Done = line_text (codes "ok") []
@@ -71,3 +79,4 @@ answer_text answers.TooManyFrames = line_text (codes "refused") (Number 52 ∷ W
 answer_text (answers.Fault fault) = fault_text fault
 answer_text answers.OutOfMemory = no_memory
 answer_text (answers.WriteFault path written) = write_text path written
+answer_text (answers.Rejected path fault) = rejected_text path fault

@@ -3,14 +3,14 @@ ghost use Rattle.std.specs.Prelude.{◌≡◌, ◌∷◌, [], codes};
 ghost use Rattle.std.specs.List.{flat_map};
 ghost use Rattle.outputs.specs.Output.{Puts};
 ghost use Rattle.line_tokens.specs.Printing.{line_text, spaced};
-ghost use Rattle.live_lines.specs.Answers.{answer_text, refused_text, refused_line, reason_pieces, detail_pieces, step_pieces, limit_pieces, fault_text, write_text};
+ghost use Rattle.live_lines.specs.Answers.{answer_text, refused_text, refused_line, reason_pieces, detail_pieces, step_pieces, limit_pieces, fault_text, write_text, rejected_text};
 
 use crate::fault::RequestFault;
 use crate::paths::FilePath;
 use bank_validity::Limit;
 use edit_refusals::{Cause, Refusal};
 use line_tokens::{Piece, put_line, put_pieces};
-use outputs::Output;
+use outputs::{Output, OutputFault};
 use sf_base::Lent;
 use std::io::Write;
 
@@ -32,7 +32,15 @@ pub enum Answer<'a> {
     /// `out of memory`
     OutOfMemory,
     /// `write fault PATH after N bytes`: a file could not be saved.
-    WriteFault { path: FilePath<'a>, written: u64 },
+    WriteFault {
+        path: FilePath<'a>,
+        written: u64,
+    },
+    /// `refused NUMBER NAME PATH`: an output is rejected, and nothing is written.
+    Rejected {
+        path: FilePath<'a>,
+        fault: OutputFault,
+    },
 }
 
 /// Puts the line of an answer, with its line feed. It takes no memory.
@@ -49,6 +57,7 @@ pub fn put_answer<W: Write>(answer: &Answer<'_>, output: &mut Output<'_, W>)
         Answer::Fault(fault) => put_fault(*fault, output),
         Answer::OutOfMemory => output.put(b"out of memory\n"),
         Answer::WriteFault { path, written } => put_write_fault(path.text(), *written, output),
+        Answer::Rejected { path, fault } => put_rejected(path.text(), *fault, output),
     }
 }
 
@@ -139,6 +148,18 @@ fn put_write_fault<W: Write>(path: &str, written: u64, output: &mut Output<'_, W
             Piece::Number(written),
             word("bytes"),
         ],
+        output,
+    );
+}
+
+// Why an output is rejected, and its path.
+fn put_rejected<W: Write>(path: &str, fault: OutputFault, output: &mut Output<'_, W>)
+    ensures { Puts W.contents output.old output.new (rejected_text path.now fault) }
+{
+    let number = Piece::Number(u64::from(fault.number()));
+    put_line(
+        b"refused",
+        &[number, word(fault.name()), word(path)],
         output,
     );
 }

@@ -157,6 +157,7 @@ edit_heard old new b e answer.TooManyFrames here h = absurd h
 edit_heard old new b e (answer.Fault f) here h = absurd h
 edit_heard old new b e answer.OutOfMemory here h = absurd h
 edit_heard old new b e (answer.WriteFault path n) here h = absurd h
+edit_heard old new b e (answer.Rejected path f) here h = absurd h
 
 neutral_heard : (old new : Live) (b : Parts) (e : Edit) (a : Answer) → bank_now old.session ≡ Some b
     → NeutralIs old e a new → Hears old new b (if_edited a new) []
@@ -168,6 +169,7 @@ neutral_heard old new b e answer.TooManyFrames here h = edit_heard old new b e a
 neutral_heard old new b e (answer.Fault f) here h = edit_heard old new b e (answer.Fault f) here h.1
 neutral_heard old new b e answer.OutOfMemory here h = edit_heard old new b e answer.OutOfMemory here h.1
 neutral_heard old new b e (answer.WriteFault path n) here h = edit_heard old new b e (answer.WriteFault path n) here h.1
+neutral_heard old new b e (answer.Rejected path f) here h = edit_heard old new b e (answer.Rejected path f) here h.1
 
 undo_heard : (old new : Live) (b : Parts) (a : Answer) → bank_now old.session ≡ Some b → UndoIs old a new
     → Hears old new b (if_edited a new) []
@@ -179,6 +181,7 @@ undo_heard old new b answer.TooManyFrames here h = absurd h
 undo_heard old new b (answer.Fault f) here h = absurd h
 undo_heard old new b answer.OutOfMemory here h = absurd h
 undo_heard old new b (answer.WriteFault path n) here h = absurd h
+undo_heard old new b (answer.Rejected path f) here h = absurd h
 
 redo_heard : (old new : Live) (b : Parts) (a : Answer) → bank_now old.session ≡ Some b → RedoIs old a new
     → Hears old new b (if_edited a new) []
@@ -190,6 +193,7 @@ redo_heard old new b answer.TooManyFrames here h = absurd h
 redo_heard old new b (answer.Fault f) here h = absurd h
 redo_heard old new b answer.OutOfMemory here h = absurd h
 redo_heard old new b (answer.WriteFault path n) here h = absurd h
+redo_heard old new b (answer.Rejected path f) here h = absurd h
 
 note_heard : (old new : Live) (b : Parts) (n : Numbers) (a : Answer) → bank_now old.session ≡ Some b
     → NoteIs old n a new → Hears old new b (if_started n a) []
@@ -201,6 +205,7 @@ note_heard old new b m answer.TooManyFrames here h = absurd h
 note_heard old new b m (answer.Fault f) here h = absurd h
 note_heard old new b m answer.OutOfMemory here h = hears_nothing old new b here h
 note_heard old new b m (answer.WriteFault path n) here h = absurd h
+note_heard old new b m (answer.Rejected path f) here h = absurd h
 
 frames_heard : (old new : Live) (b : Parts) (m : ℕ) (a : Answer) → bank_now old.session ≡ Some b
     → FramesAre old m a new → Hears old new b (if_given m a) (block_if old m a)
@@ -212,6 +217,7 @@ frames_heard old new b m answer.TooManyFrames here h = hears_nothing old new b h
 frames_heard old new b m (answer.Fault f) here h = absurd h
 frames_heard old new b m answer.OutOfMemory here h = absurd h
 frames_heard old new b m (answer.WriteFault path n) here h = absurd h
+frames_heard old new b m (answer.Rejected path f) here h = absurd h
 
 tell_heard : (old new : Live) (b : Parts) (a : Answer) → bank_now old.session ≡ Some b → TellIs old a new
     → Hears old new b [] []
@@ -223,6 +229,7 @@ tell_heard old new b answer.TooManyFrames here h = absurd h
 tell_heard old new b (answer.Fault f) here h = absurd h
 tell_heard old new b answer.OutOfMemory here h = absurd h
 tell_heard old new b (answer.WriteFault path n) here h = absurd h
+tell_heard old new b (answer.Rejected path f) here h = absurd h
 
 save_heard : (old new : Live) (b : Parts) (paths : Paths) (a : Answer) → bank_now old.session ≡ Some b
     → SaveIs old paths a new → Hears old new b [] []
@@ -234,6 +241,7 @@ save_heard old new b paths answer.TooManyFrames here h = absurd h
 save_heard old new b paths (answer.Fault f) here h = absurd h
 save_heard old new b paths answer.OutOfMemory here h = hears_nothing old new b here h
 save_heard old new b paths (answer.WriteFault path n) here h = hears_nothing old new b here h.1
+save_heard old new b paths (answer.Rejected path f) here h = hears_nothing old new b here h.1
 
 request_heard : (old new : Live) (b : Parts) (r : Request) (a : Answer) → bank_now old.session ≡ Some b
     → RequestIs old r a new → Hears old new b (events_of r a new) (frames_of old r a)

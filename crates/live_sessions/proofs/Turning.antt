@@ -185,6 +185,7 @@ same_told counts old new asks.Show answer.TooManyFrames h = absurd h
 same_told counts old new asks.Show (answer.Fault f) h = absurd h
 same_told counts old new asks.Show answer.OutOfMemory h = absurd h
 same_told counts old new asks.Show (answer.WriteFault path n) h = absurd h
+same_told counts old new asks.Show (answer.Rejected path f) h = absurd h
 same_told counts old new asks.Help answer.Done h = refl
 same_told counts old new asks.Help (answer.Started n) h = absurd h
 same_told counts old new asks.Help (answer.Refused why) h = absurd h
@@ -193,6 +194,7 @@ same_told counts old new asks.Help answer.TooManyFrames h = absurd h
 same_told counts old new asks.Help (answer.Fault f) h = absurd h
 same_told counts old new asks.Help answer.OutOfMemory h = absurd h
 same_told counts old new asks.Help (answer.WriteFault path n) h = absurd h
+same_told counts old new asks.Help (answer.Rejected path f) h = absurd h
 same_told counts old new asks.Quit a h = refl
 
 same_end : (old new : Live) (r : Request) (a : Answer) → RequestIs old r a new
@@ -214,6 +216,7 @@ same_end old new asks.Quit answer.TooManyFrames h = absurd h
 same_end old new asks.Quit (answer.Fault f) h = absurd h
 same_end old new asks.Quit answer.OutOfMemory h = absurd h
 same_end old new asks.Quit (answer.WriteFault path n) h = absurd h
+same_end old new asks.Quit (answer.Rejected path f) h = absurd h
 
 -- what a line comes to that asks for this request
 request_told : (counts : Counts) (line : List ℕ) (old new : Live) (r : Request) (a : Answer) (k : Kind)

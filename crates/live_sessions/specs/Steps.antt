@@ -82,12 +82,13 @@ FramesAre old m answer.Done new = (old.given + m ≤ MOST_FRAMES) × (new ≡ af
 FramesAre old m answer.TooManyFrames new = (MOST_FRAMES < old.given + m) × (new ≡ old)
 FramesAre old m other new = ⊥
 
--- a save changes nothing, whether it is done or not; what it saves takes a history back, and a write fault names one
--- of its paths
+-- A save never changes the session. The script that it saves undoes the history; a write fault or a rejected output has
+-- one of its paths.
 abbrev pub SaveIs : Live → Paths → Answer → Live → Type 0
 SaveIs old paths answer.Done new = IsHistory old.session × (new ≡ old)
 SaveIs old paths answer.OutOfMemory new = new ≡ old
 SaveIs old paths (answer.WriteFault path written) new = ((path ≡ paths.out) ⊎ (path ≡ paths.undo)) × (new ≡ old)
+SaveIs old paths (answer.Rejected path fault) new = ((path ≡ paths.out) ⊎ (path ≡ paths.undo)) × (new ≡ old)
 SaveIs old paths other new = ⊥
 
 abbrev pub TellIs : Live → Answer → Live → Type 0

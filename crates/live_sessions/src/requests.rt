@@ -122,6 +122,8 @@ fn save<'t, S: Saves>(live: &Live<'_>, paths: Paths<'t>, host: &mut S) -> Answer
             path: undo,
             written,
         },
+        Err(SaveFault::OutRejected(fault)) => Answer::Rejected { path: out, fault },
+        Err(SaveFault::UndoRejected(fault)) => Answer::Rejected { path: undo, fault },
     }
 }
 

@@ -10,7 +10,7 @@ use bank_core::Bank;
 use edit_forms::Edit;
 use edit_script::put_edit;
 use live_lines::{Answer, Paths};
-use outputs::Output;
+use outputs::{Output, OutputFault};
 use std::io::Write;
 
 /// Why a bank and its way back could not be saved.
@@ -22,6 +22,10 @@ pub enum SaveFault {
     Out(u64),
     /// The script that takes the bank back: a write failed after so many bytes.
     Undo(u64),
+    /// The bank's file is rejected, before anything is written.
+    OutRejected(OutputFault),
+    /// The undo script is rejected, before anything is written.
+    UndoRejected(OutputFault),
 }
 
 /// What saves a session's bank: the host, by files that are at the paths.
