@@ -2,6 +2,8 @@
 use Rattle.std.specs.Prelude.{ℕ, List, [], ◌∷◌, codes, Option, Some, None, Result, Ok, Err, Bool, true, false, not}
 use Rattle.std.specs.Prelude.{IsTrue, if◌then◌else◌}
 use Rattle.std.specs.List.{list_all, list_any}
+use Rattle.sf_base.specs.declared.memory.Failure.{Failure}
+use Rattle.sf_base.specs.declared.memory.Failure.TheVariants as failures
 use Rattle.line_tokens.specs.declared.cursor.Said.{Said}
 use Rattle.line_tokens.specs.declared.cursor.Said.TheVariants.{Word, Literal, Bad}
 use Rattle.line_tokens.specs.declared.fault.LineFault.{LineFault}
@@ -45,6 +47,12 @@ commands =
 -- a request, or the fault of its line
 abbrev pub Asked : Type 0
 Asked = Result Request RequestFault
+
+-- a request or a fault, and not out of memory
+abbrev pub IsNotOutOfMemory : Result Request (Failure RequestFault) → Type 0
+IsNotOutOfMemory (Ok r) = Unit {0}
+IsNotOutOfMemory (Err (failures.Fault fault)) = Unit {0}
+IsNotOutOfMemory (Err failures.OutOfMemory) = ⊥
 
 -- what is made of the value of a part, or its fault
 abbrev pub told : {X : Type 0} → (X → Request) → Result (Took X) LineFault → Asked

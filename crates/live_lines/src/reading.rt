@@ -12,7 +12,7 @@ ghost use Rattle.live_lines.specs.declared.request.Request.{Request};
 ghost use Rattle.live_lines.specs.declared.request.Request.TheVariants as asks;
 ghost use Rattle.live_lines.specs.Faults.{of_line};
 ghost use Rattle.live_lines.specs.Paths.{paths};
-ghost use Rattle.live_lines.specs.Requests.{command_word, commands, told, note_now, noted, frames, asked_by, request, request_of, HasNoFeed};
+ghost use Rattle.live_lines.specs.Requests.{command_word, commands, told, note_now, noted, frames, asked_by, request, request_of, HasNoFeed, IsNotOutOfMemory};
 
 use crate::command::Command;
 use crate::fault::RequestFault;
@@ -162,7 +162,8 @@ fn alone<'t, 'p>(
     request: Request<'t, 'p>,
     line: &mut Cursor<'t, 'p>,
 ) -> Result<Request<'t, 'p>, Failure<RequestFault>>
-    ensures { Answers (λ r. r) result (told (λ r. r) (ended request.entry line.old.said)) }
+    ensures answer { Answers (λ r. r) result (told (λ r. r) (ended request.entry line.old.said)) }
+    ensures memory { IsNotOutOfMemory result }
 {
     match line.end() {
         Ok(()) => Ok(request),
@@ -172,7 +173,8 @@ fn alone<'t, 'p>(
 
 // A note that starts now.
 fn note<'t, 'p>(line: &mut Cursor<'t, 'p>) -> Result<Request<'t, 'p>, Failure<RequestFault>>
-    ensures { Answers (λ r. r) result (noted (note_now line.old.said)) }
+    ensures answer { Answers (λ r. r) result (noted (note_now line.old.said)) }
+    ensures memory { IsNotOutOfMemory result }
 {
     match note_now(line) {
         Ok(Some(note)) => Ok(Request::Note(note)),
@@ -204,7 +206,8 @@ fn note_now(line: &mut Cursor<'_, '_>) -> Result<Option<Note>, LineFault>
 
 // So many frames.
 fn some_frames<'t, 'p>(line: &mut Cursor<'t, 'p>) -> Result<Request<'t, 'p>, Failure<RequestFault>>
-    ensures { Answers (λ r. r) result (told asks.Frames (frames line.old.said)) }
+    ensures answer { Answers (λ r. r) result (told asks.Frames (frames line.old.said)) }
+    ensures memory { IsNotOutOfMemory result }
 {
     match frames(line) {
         Ok(count) => Ok(Request::Frames(count)),
@@ -228,7 +231,8 @@ fn save<'t, 'p: 't>(
     pool: &'p [u8],
 ) -> Result<Request<'t, 'p>, Failure<RequestFault>>
     requires { IsOk (word (all_said_over pool.now (tokens_of line.now))) }
-    ensures { Answers (λ r. r) result (told asks.Save (paths (drop 1 (all_said_over pool.now (tokens_of line.now))))) }
+    ensures answer { Answers (λ r. r) result (told asks.Save (paths (drop 1 (all_said_over pool.now (tokens_of line.now))))) }
+    ensures memory { IsNotOutOfMemory result }
 {
     match both_paths(line, pool) {
         Ok(paths) => Ok(Request::Save(paths)),
