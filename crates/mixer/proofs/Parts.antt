@@ -1,18 +1,14 @@
 -- A block in parts.
-use Rattle.std.proofs.Common.{◌≡◌, ℕ, suc, cond, filter, ◌+◌, ◌*◌, ◌-◌, ◌/◌, ◌%◌, ◌<◌, ◌≤◌, ℤ, pos, List, [], ◌∷◌}
-use Rattle.std.proofs.Common.{◌++◌, map, take, drop, length, get_or, nat_eq, refl, sym, ap, ◌∙◌, subst, arith, inl}
-use Rattle.std.proofs.Common.{inr}
+use Rattle.std.proofs.Common.{◌≡◌, ℕ, suc, cond, filter, ◌+◌, ◌*◌, ◌/◌, ◌%◌, ◌<◌, ◌≤◌, ℤ, pos, List, [], ◌∷◌, map}
+use Rattle.std.proofs.Common.{length, get_or, nat_eq, refl, sym, ap, ◌∙◌, subst, arith}
 use Rattle.std.specs.List.{range_with_len}
-use Rattle.std.proofs.lemmas.Bool.{cases_lt}
-use Rattle.std.proofs.lemmas.Grind.{common_steps}
 use Rattle.std.proofs.lemmas.List.{nil_from_length}
 use Rattle.std.proofs.lemmas.List.FromFn.{fill_by_all}
-use Rattle.std.proofs.lemmas.List.Elements.{All-map}
 use Rattle.voices.specs.Sound.{snd}
 use Rattle.mixer.specs.declared.playing.Playing.{Playing}
 use Rattle.mixer.specs.Heard.{is_left, cut}
 use Rattle.mixer.specs.Events.{is_sounding, after_block, aged, total_at, next_side, block}
-use Rattle.mixer.specs.KeptVoices.{AllYounger, AllSounding}
+use Rattle.mixer.specs.KeptVoices.{AllSounding}
 use Rattle.mixer.proofs.Sums.{sum_of-map, sum_of-same}
 
 aged-zero : (p : Playing) → p ≡ aged 0 p
@@ -52,16 +48,6 @@ pub aged-more : (m n : ℕ) (ps : List Playing) → map (aged n) (map (aged m) p
 aged-more m n [] = refl
 aged-more m n (p ∷ ps) = λ j. aged-twice m n p j ∷ aged-more m n ps j
 
--- voices that are m frames older are young enough
-pub aged_young : (a b m : ℕ) (xs ys : List Playing) → a + m ≤ b → ys ≡ map (aged m) xs → AllYounger a xs
-    → AllYounger b ys
-unfolding aged
-aged_young a b m xs ys h e young =
-    let P : List Playing → Type 0 = λ zs. AllYounger b zs in
-    let y : Playing → Type 0 = λ p. p.voice.age < b in
-    subst P (sym e)
-    (All-map y (aged m) xs (λ k d l. let g : (get_or xs k d).voice.age < a = young k d l in omega (arith, g)))
-
 pub side_later : (at j : ℕ) (ps : List Playing) → at % 2 ≡ 0
     → next_side (map (aged (at / 2)) ps) j ≡ next_side ps (at + j)
 unfolding next_side total_at aged
@@ -71,25 +57,6 @@ side_later at j ps even =
     (λ p. snd p.voice.value (is_left (at + j)) (p.voice.age + (at + j) / 2))
     (λ p. λ i. snd p.voice.value (nat_eq ((let e : j % 2 ≡ (at + j) % 2 = omega arith in e) i) 0)
     ((let e : p.voice.age + at / 2 + j / 2 ≡ p.voice.age + (at + j) / 2 = omega arith in e) i)) ps)
-
--- a part further
-pub part_written : (out new : List ℤ) (ps : List Playing) (at n : ℕ) → at + n ≤ length out → at % 2 ≡ 0 → length new ≡ n
-    → ((k : ℕ) → k < at → get_or out k (pos 0) ≡ next_side ps k)
-    → ((k : ℕ) → k < length new → get_or new k (pos 0) ≡ next_side (map (aged (at / 2)) ps) k)
-    → (k : ℕ) → k < at + n
-    → get_or (take at out ++ (new ++ drop (at + n - at) (drop at out))) k (pos 0) ≡ next_side ps k
-part_written out new ps at n h even len before here k l =
-    elim (cases_lt k at) [
-      | inl lt ↦
-          (let e : get_or (take at out ++ (new ++ drop (at + n - at) (drop at out))) k (pos 0) ≡ get_or out k (pos 0) =
-          grind (arith, common_steps) in e)
-          ∙ before k lt
-      | inr ge ↦
-          (let e : get_or (take at out ++ (new ++ drop (at + n - at) (drop at out))) k (pos 0)
-          ≡ get_or new (k - at) (pos 0) =
-          grind (arith, common_steps) in e)
-          ∙ here (k - at) (omega arith) ∙ side_later at (k - at) ps even ∙ ap (next_side ps) (omega arith)
-    ]
 
 pub block_written : (out : List ℤ) (ps : List Playing) (at n : ℕ) → length out ≡ n → n ≤ at → n % 2 ≡ 0
     → ((k : ℕ) → k < at → get_or out k (pos 0) ≡ next_side ps k) → out ≡ block ps (n / 2)

@@ -14,7 +14,7 @@ use crate::playing::{Playing, drop_over, drop_silenced, go_back, have_class};
 use voices::Workspace;
 
 // The most frames that are summed ahead.
-const MOST_AHEAD: usize = 256;
+pub(crate) const MOST_AHEAD: usize = 256;
 
 // The sides of these.
 const SIDES: usize = 2 * MOST_AHEAD;
@@ -125,13 +125,14 @@ fn cut_from(sides: &[i32], middle: &[i32], first: usize, out: &mut [i16])
     );
 }
 
-// Sums frames of all voices ahead of a block that asks for few, unless some are left. Where none are left then, the voices
-// are those that sound.
+// Sums frames of all voices ahead for a short block, as many as are asked for or more, unless some are left. Where none
+// are left then, the voices are those that sound.
 pub(crate) fn sum_ahead<'a>(
     voices: &mut Vec<Playing<'a>>,
     ahead: &mut Ahead,
     work: &mut Workspace,
     asked: usize,
+    is_short: bool,
 )
     requires ahead { IsAhead ahead.old voices.old.items }
     requires some { 0 < asked }
@@ -144,7 +145,7 @@ pub(crate) fn sum_ahead<'a>(
         return;
     }
     drop_over(voices);
-    if asked < MOST_AHEAD && voices.len() <= GROUP {
+    if is_short && voices.len() <= GROUP {
         ahead.fill(asked, voices.as_mut_slice(), work);
     }
 }

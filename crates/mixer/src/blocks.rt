@@ -3,17 +3,16 @@ ghost use Rattle.std.specs.Prelude.{◌≡◌, ℕ, ◌+◌, ◌*◌, ◌/◌, �
 ghost use Rattle.voices.specs.Within.{AllWithin};
 ghost use Rattle.mixer.specs.Heard as heard;
 ghost use Rattle.mixer.specs.Events.{aged, total_at, next_side};
-ghost use Rattle.mixer.specs.KeptVoices.{AllYounger, lifetime};
+ghost use Rattle.mixer.specs.KeptVoices.{AllYounger};
 
 use crate::playing::Playing;
-use progress::Progress;
 use voices::Workspace;
 
 // The frames that are summed in one pass.
 const PART: usize = 1024;
 
-// The sides of these.
-const SIDES: usize = 2 * PART;
+// The sides of these frames.
+pub(crate) const PART_SIDES: usize = 2 * PART;
 
 // The most voices of which two sums together fit 32 bits.
 pub(crate) const GROUP: usize = 32767;
@@ -23,7 +22,7 @@ pub(crate) const GROUP: usize = 32767;
 #[derive(Drop)]
 pub(crate) struct MixBuffers {
     pub(crate) work: Workspace,
-    sides: [i32; SIDES],
+    sides: [i32; PART_SIDES],
     middle: [i32; PART],
 }
 
@@ -31,7 +30,7 @@ impl MixBuffers {
     pub(crate) fn new() -> MixBuffers {
         MixBuffers {
             work: Workspace::new(),
-            sides: [0; SIDES],
+            sides: [0; PART_SIDES],
             middle: [0; PART],
         }
     }
@@ -118,18 +117,18 @@ fn cut_totals(totals: &[i128], out: &mut [i16])
     }
 }
 
-fn silent_totals() -> [i128; SIDES]
+fn silent_totals() -> [i128; PART_SIDES]
     ensures silent { (k : ℕ) → slice_index_or result k (pos 0) ≡ pos 0 }
     ensures long { length result ≡ 2 * PART }
 {
-    [0; SIDES]
+    [0; PART_SIDES]
 }
 
 // Adds a group of voices to totals.
 fn add_group(
     voices: &mut [Playing],
     work: &mut Workspace,
-    sides: &mut [i32; SIDES],
+    sides: &mut [i32; PART_SIDES],
     middle: &mut [i32; PART],
     totals: &mut [i128],
 )
@@ -177,7 +176,7 @@ fn add_all(voices: &mut [Playing], buffers: &mut MixBuffers, totals: &mut [i128]
 fn mix_group(
     voices: &mut [Playing],
     work: &mut Workspace,
-    sides: &mut [i32; SIDES],
+    sides: &mut [i32; PART_SIDES],
     middle: &mut [i32; PART],
     out: &mut [i16],
 )
@@ -210,8 +209,8 @@ fn mix_groups(voices: &mut [Playing], buffers: &mut MixBuffers, out: &mut [i16])
     cut_totals(&totals[..n], out);
 }
 
-// A part of a block.
-fn mix_part(voices: &mut [Playing], buffers: &mut MixBuffers, out: &mut [i16])
+// A part of a block. The voices are left as they are then, those that are over among them.
+pub(crate) fn mix_part(voices: &mut [Playing], buffers: &mut MixBuffers, out: &mut [i16])
     requires young { AllYounger (2 ^ 63 + 2 ^ 34) voices.old }
     requires short { length out.old ≤ 2 * PART }
     requires even { length out.old % 2 ≡ 0 }
@@ -228,27 +227,5 @@ fn mix_part(voices: &mut [Playing], buffers: &mut MixBuffers, out: &mut [i16])
         );
     } else {
         mix_groups(voices, buffers, out);
-    }
-}
-
-// A block, part by part, each of which is heard of as it is done. The voices are left as they are then, those
-// that are over among them.
-pub(crate) fn mix<P: Progress>(
-    voices: &mut [Playing],
-    buffers: &mut MixBuffers,
-    out: &mut [i16],
-    progress: &mut P,
-)
-    requires young { AllYounger lifetime voices.old }
-    requires even { length out.old % 2 ≡ 0 }
-    ensures value { EachIndex out.new (λ i. slice_index_or out.new i (pos 0) ≡ next_side voices.old i) }
-    ensures live { voices.new ≡ map (aged (length out.old / 2)) voices.old }
-{
-    let mut at = 0;
-    while at < out.len() {
-        let n = (out.len() - at).min(SIDES);
-        mix_part(voices, buffers, &mut out[at..at + n]);
-        progress.advance(n as u64 / 2);
-        at += n;
     }
 }

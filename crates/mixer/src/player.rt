@@ -3,8 +3,8 @@ ghost use Rattle.std.specs.Prelude.{◌≡◌, ◌%◌, ◌/◌, ◌<◌, ◌≤
 ghost use Rattle.mixer.specs.Heard as heard;
 ghost use Rattle.mixer.specs.Events.{after_start, after_block, block, next_side};
 
-use crate::ahead::{Ahead, make_way, sum_ahead};
-use crate::blocks::{MixBuffers, mix};
+use crate::ahead::{Ahead, MOST_AHEAD, make_way, sum_ahead};
+use crate::blocks::{MixBuffers, PART_SIDES, mix_part};
 use crate::playing::{Playing, drop_over, fresh};
 use bank_core::Bank;
 use note_list::Note;
@@ -79,12 +79,13 @@ impl<'a> Player<'a> {
         }
     }
 
-    /// The next frames, the left and the right side in turn: sums of all voices, each cut once to 16
-    /// bits. It takes no memory. Its work is that of the voices' own frames, and to clear twelve bytes for each frame. For a
-    /// block of fewer than 256 frames up to so many are summed, and the blocks that follow take theirs from these; a start of
-    /// a voice with an exclusive class, whether or not it silences one, makes those that are left in vain, and then fewer are
-    /// summed ahead at first. Where there are more than 32,767 voices, 32 kilobytes more are cleared for each 1,024 frames or
-    /// what is left. For no frame it does nothing.
+    /// The next frames, the left and the right side in turn: sums of all voices, each cut once to 16 bits. It takes
+    /// no memory. Its work is that of the voices' own frames, and to clear twelve bytes for each frame. A long
+    /// block is mixed in parts of 1,024 frames: the work in a part is that of the voices that aren't over at the
+    /// part's start. For a block of fewer than 256 frames up to so many are summed, and the blocks that follow take
+    /// theirs from these; a start of a voice with an exclusive class, whether or not it silences one, discards
+    /// those that are left, and then fewer are summed ahead at first. Where there are more than 32,767 voices, 32
+    /// kilobytes more are cleared for each 1,024 frames or what is left. For no frame it does nothing.
     pub fn block(&mut self, out: &mut [i16])
         requires { length out.old % 2 ≡ 0 }
         ensures heard { out.new ≡ block self.old (length out.old / 2) }
@@ -103,15 +104,17 @@ impl<'a> Player<'a> {
     {
         // (They sound, and so they are left as they are by a block of no frame.)
         let _voices = &self.voices;
+        // The rest of a long block isn't summed ahead, however short it is: a later start could discard those frames.
+        let is_short = out.len() < 2 * MOST_AHEAD;
         let mut at = 0;
         while at < out.len() {
-            at += self.give_part(&mut out[at..], progress);
+            at += self.give_part(&mut out[at..], is_short, progress);
         }
     }
 
     // Gives the first of the frames that are asked for, and returns how many numbers these have: such as are ahead, or
-    // else all of a long block.
-    fn give_part<P: Progress>(&mut self, out: &mut [i16], progress: &mut P) -> usize
+    // else at most 1,024 frames, after which the voices that are over are dropped.
+    fn give_part<P: Progress>(&mut self, out: &mut [i16], is_short: bool, progress: &mut P) -> usize
         requires even { length out.old % 2 ≡ 0 }
         requires some { 0 < length out.old }
         ensures some { 0 < result }
@@ -126,11 +129,14 @@ impl<'a> Player<'a> {
             &mut self.ahead,
             &mut self.buffers.work,
             asked,
+            is_short,
         );
         if self.ahead.left == 0 {
-            mix(self.voices.as_mut_slice(), &mut self.buffers, out, progress);
+            let n = out.len().min(PART_SIDES);
+            mix_part(self.voices.as_mut_slice(), &mut self.buffers, &mut out[..n]);
             drop_over(&mut self.voices);
-            return out.len();
+            progress.advance(n as u64 / 2);
+            return n;
         }
         let n = out.len().min(2 * self.ahead.left);
         self.ahead.give(&mut out[..n]);

@@ -28,8 +28,8 @@ returns-then-len-le-GROUP-clause-same c =
     ap (playing_now a) e ∙ filled_playing a vs c.drop_over.ensures.sounding ∙ c.drop_over.ensures.items
     ∙ sym (none_playing c.args.ahead.now c.args.voices.now.items none)
 
-pub returns-else-asked-lt-MOST_AHEAD-clause-same : goal.returns-else-asked-lt-MOST_AHEAD-clause-same
-returns-else-asked-lt-MOST_AHEAD-clause-same c =
+pub returns-else-is_short-clause-same : goal.returns-else-is_short-clause-same
+returns-else-is_short-clause-same c =
     let none : c.args.ahead.now.left ≡ 0 = omega arith in
     ap (playing_now c.args.ahead.now) c.drop_over.ensures.items
     ∙ dropped_playing c.args.ahead.now c.args.voices.now.items none

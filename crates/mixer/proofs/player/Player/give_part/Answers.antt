@@ -1,4 +1,4 @@
-use Rattle.std.proofs.Common.{◌≡◌, ◌+◌, ◌/◌, ◌<◌, ◌++◌, List, pos, get_or, map, drop, length, sym, ap, ◌∙◌, arith}
+use Rattle.std.proofs.Common.{◌≡◌, ℕ, ℤ, ◌+◌, ◌/◌, ◌<◌, ◌++◌, List, pos, get_or, map, drop, length, sym, ap, ◌∙◌, arith}
 use Rattle.std.proofs.lemmas.Grind.{common_steps}
 use Rattle.mixer.specs.declared.playing.Playing.{Playing}
 use Rattle.mixer.specs.Events.{after_block, next_side}
@@ -6,6 +6,10 @@ use Rattle.mixer.specs.Ahead.{rewound}
 use Rattle.mixer.proofs.Parts.{filter_all}
 use Rattle.mixer.proofs.AheadLaws.{none_playing, room_of, ahead_later, playing_later, heard_first}
 use Rattle.mixer.proofs.player.Player.give_part.Goals as goal
+
+written_first : (new rest : List ℤ) (k : ℕ) → k < length new
+    → get_or (new ++ rest) k (pos 0) ≡ get_or new k (pos 0)
+written_first new rest k l = grind (arith, common_steps)
 
 pub returns-then-self-eq0-clause-heard : goal.returns-then-self-eq0-clause-heard
 returns-then-self-eq0-clause-heard g c k h =
@@ -16,7 +20,10 @@ returns-then-self-eq0-clause-heard g c k h =
     sym (none_playing a vs none ∙ filter_all vs (c.sum_ahead.ensures.sounding none)) ∙ c.sum_ahead.ensures.same
     ∙ c.self.view_is in
     let lent : c.as_mut_slice.result.now ≡ vs = grind (arith, common_steps) in
-    c.mix.ensures.value k h ∙ ap (λ (ps : List Playing). next_side ps k) (lent ∙ now)
+    let size : length c.mix_part.new.out ≡ c.min-n.result = grind (arith, common_steps) in
+    let l : k < length c.mix_part.new.out = omega (arith, h, size) in
+    written_first c.mix_part.new.out (drop c.min-n.result c.args.out.now) k l
+    ∙ c.mix_part.ensures.value k l ∙ ap (λ (ps : List Playing). next_side ps k) (lent ∙ now)
 
 pub returns-then-self-eq0-clause-live : goal.returns-then-self-eq0-clause-live
 unfolding after_block
@@ -28,9 +35,10 @@ returns-then-self-eq0-clause-live g c =
     let now : vs ≡ c.args.self.now =
     sym (none_playing a vs none ∙ filter_all vs (c.sum_ahead.ensures.sounding none)) ∙ c.sum_ahead.ensures.same
     ∙ c.self.view_is in
-    let live : ds ≡ after_block vs (length c.mix.new.out / 2) = grind (arith, common_steps) in
+    let size : length c.mix_part.new.out ≡ c.min-n.result = grind (arith, common_steps) in
+    let live : ds ≡ after_block vs (length c.mix_part.new.out / 2) = grind (arith, common_steps) in
     none_playing a ds none ∙ filter_all ds c.drop_over.ensures.sounding ∙ live
-    ∙ ap (λ (ps : List Playing). after_block ps (length c.mix.new.out / 2)) now
+    ∙ (λ j. after_block (now j) (size j / 2))
 
 pub give-requires-clause-room : goal.give-requires-clause-room
 give-requires-clause-room g c = room_of c.sum_ahead.new.ahead c.sum_ahead.new.voices.items c.sum_ahead.ensures.ahead
@@ -44,12 +52,9 @@ pub returns-clause-heard : goal.returns-clause-heard
 returns-clause-heard g c k h =
     let a = c.sum_ahead.new.ahead in
     let vs = c.sum_ahead.new.voices.items in
-    let size : length c.give.new.out ≡ c.min-n.result = grind (arith, common_steps) in
+    let size : length c.give.new.out ≡ c.min-n-2.result = grind (arith, common_steps) in
     let l : k < length c.give.new.out = omega (arith, h, size) in
-    let front : get_or (c.give.new.out ++ drop c.min-n.result c.args.out.now) k (pos 0)
-    ≡ get_or c.give.new.out k (pos 0) =
-    grind (arith, common_steps) in
-    front
+    written_first c.give.new.out (drop c.min-n-2.result c.args.out.now) k l
     ∙ c.give.ensures.heard (map (rewound a.left) vs) c.sum_ahead.ensures.ahead.sums k l
     ∙ heard_first a vs k
     ∙ ap (λ (ps : List Playing). next_side ps k) (c.sum_ahead.ensures.same ∙ c.self.view_is)
@@ -58,7 +63,7 @@ pub returns-clause-live : goal.returns-clause-live
 returns-clause-live g c =
     let a = c.sum_ahead.new.ahead in
     let vs = c.sum_ahead.new.voices.items in
-    let size : length c.give.new.out ≡ c.min-n.result = grind (arith, common_steps) in
-    let m : c.give.new.self.left + c.min-n.result / 2 ≡ a.left = grind (arith, common_steps, c.give.ensures.left) in
-    playing_later a _ vs (c.min-n.result / 2) m c.sum_ahead.ensures.ahead
-    ∙ ap (λ (ps : List Playing). after_block ps (c.min-n.result / 2)) (c.sum_ahead.ensures.same ∙ c.self.view_is)
+    let size : length c.give.new.out ≡ c.min-n-2.result = grind (arith, common_steps) in
+    let m : c.give.new.self.left + c.min-n-2.result / 2 ≡ a.left = grind (arith, common_steps, c.give.ensures.left) in
+    playing_later a _ vs (c.min-n-2.result / 2) m c.sum_ahead.ensures.ahead
+    ∙ ap (λ (ps : List Playing). after_block ps (c.min-n-2.result / 2)) (c.sum_ahead.ensures.same ∙ c.self.view_is)
