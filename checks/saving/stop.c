@@ -141,6 +141,12 @@ int ftruncate(int file, off_t length) {
     return ((int (*)(int, off_t))next("ftruncate"))(file, length);
 }
 
+int link(const char *from, const char *to) {
+    if (changing_fails("link"))
+        return -1;
+    return ((int (*)(const char *, const char *))next("link"))(from, to);
+}
+
 int rename(const char *from, const char *to) {
     if (changing_fails("rename"))
         return -1;

@@ -93,6 +93,7 @@ NamesApplyPaths found paths =
     × NamesPath found (codes "OUT") paths.out.now
     × NamesPath found (codes "UNDO") paths.undo.now
     × NamesForms found paths.forms
+    × SaysFlag found (codes "force") paths.force
 
 abbrev pub HasApplyPaths : Found → Type 0
 HasApplyPaths found =
@@ -109,6 +110,7 @@ abbrev pub NamesDiffPaths : Found → DiffPaths → Type 0
 NamesDiffPaths found paths =
     NamesPath found (codes "A") paths.first.now × NamesPath found (codes "B") paths.second.now
     × NamesPath found (codes "OUT") paths.out.now
+    × SaysFlag found (codes "force") paths.force
 
 abbrev pub HasDiffPaths : Found → Type 0
 HasDiffPaths found = HasPath found (codes "A") × HasPath found (codes "B") × HasPath found (codes "OUT")
@@ -119,6 +121,7 @@ NamesImportPaths found paths =
     × NamesPath found (codes "WAVE") paths.wave.now
     × NamesPath found (codes "OUT") paths.out.now
     × NamesPath found (codes "UNDO") paths.undo.now
+    × SaysFlag found (codes "force") paths.force
 
 abbrev pub HasImportPaths : Found → Type 0
 HasImportPaths found =
@@ -126,7 +129,9 @@ HasImportPaths found =
     × HasPath found (codes "UNDO")
 
 abbrev pub NamesLivePaths : Found → LivePaths → Type 0
-NamesLivePaths found paths = NamesPath found (codes "IN") paths.input.now × NamesPath found (codes "PCM") paths.pcm.now
+NamesLivePaths found paths =
+    NamesPath found (codes "IN") paths.input.now × NamesPath found (codes "PCM") paths.pcm.now
+    × SaysFlag found (codes "force") paths.force
 
 abbrev pub HasLivePaths : Found → Type 0
 HasLivePaths found = HasPath found (codes "IN") × HasPath found (codes "PCM")
@@ -135,13 +140,16 @@ abbrev pub NamesMapPaths : Found → MapPaths → Type 0
 NamesMapPaths found paths =
     NamesPath found (codes "IN") paths.input.now × NamesOwner found paths.owner
     × NamesPath found (codes "OUT") paths.out.now
+    × SaysFlag found (codes "force") paths.force
 
 abbrev pub HasMapPaths : Found → Type 0
 HasMapPaths found = HasPath found (codes "IN") × HasOwner found × HasPath found (codes "OUT")
 
 -- the minor version is the number that `--minor` has
 abbrev pub NamesNew : Found → NewBank → Type 0
-NamesNew found bank = NamesPath found (codes "OUT") bank.out.now × NamesNumber found (codes "minor") bank.minor
+NamesNew found bank =
+    NamesPath found (codes "OUT") bank.out.now × NamesNumber found (codes "minor") bank.minor
+    × SaysFlag found (codes "force") bank.force
 
 -- the path is there, and a number of 16 bits
 abbrev pub HasNew : Found → Type 0
@@ -151,6 +159,7 @@ abbrev pub NamesPlayPaths : Found → PlayPaths → Type 0
 NamesPlayPaths found paths =
     NamesPath found (codes "IN") paths.input.now × NamesPath found (codes "NOTES") paths.notes.now
     × NamesPath found (codes "OUT") paths.out.now
+    × SaysFlag found (codes "force") paths.force
 
 abbrev pub HasPlayPaths : Found → Type 0
 HasPlayPaths found = HasPath found (codes "IN") × HasPath found (codes "NOTES") × HasPath found (codes "OUT")
@@ -159,6 +168,7 @@ abbrev pub NamesScriptPaths : Found → ScriptPaths → Type 0
 NamesScriptPaths found paths =
     NamesPath found (codes "IN") paths.input.now × NamesPath found (codes "OUT") paths.out.now
     × SaysFlag found (codes "no-points") paths.no_points
+    × SaysFlag found (codes "force") paths.force
 
 abbrev pub HasScriptPaths : Found → Type 0
 HasScriptPaths found = HasPath found (codes "IN") × HasPath found (codes "OUT")
@@ -175,6 +185,7 @@ abbrev pub NamesWavePaths : Found → WavePaths → Type 0
 NamesWavePaths found paths =
     NamesPath found (codes "IN") paths.input.now × NamesNumber found (codes "S") paths.sample
     × NamesPath found (codes "OUT") paths.out.now
+    × SaysFlag found (codes "force") paths.force
 
 abbrev pub HasWavePaths : Found → Type 0
 HasWavePaths found = HasPath found (codes "IN") × HasNumber found (codes "S") (2 ^ 32) × HasPath found (codes "OUT")

@@ -35,11 +35,22 @@ enum Word {
     Minor(&'static str, &'static str),
 }
 
+/// The flag by which an output may replace a bank.
+const FORCE: Word = Word::Flag("force", "Writes OUT also where a bank is there");
+
+const UNDO_FORCE: Word = Word::Flag("force", "Writes UNDO also where a bank is there");
+
+const LIVE_FORCE: Word = Word::Flag(
+    "force",
+    "Writes PCM, and UNDO of each save, also where a bank is there",
+);
+
 static COMMANDS: [Entry; 12] = [
     Entry {
         name: "apply",
         about: "Runs a script of edits on a bank, and writes the script that takes them back",
         words: &[
+            UNDO_FORCE,
             Word::Flag(
                 "neutral",
                 "Refuses a script with an edit that may change the sound of notes",
@@ -67,6 +78,7 @@ static COMMANDS: [Entry; 12] = [
         name: "diff",
         about: "Writes a script that makes the bank B of the bank A",
         words: &[
+            FORCE,
             Word::Path("A", "The bank to begin with"),
             Word::Path("B", "The bank to come to, of the same minor version"),
             Word::Path("OUT", "Where the script is written"),
@@ -83,6 +95,7 @@ static COMMANDS: [Entry; 12] = [
         name: "import",
         about: "Adds a recording to a bank as its last sample, or as two for left and right",
         words: &[
+            UNDO_FORCE,
             Word::Path("IN", "The bank to add to"),
             Word::Path(
                 "WAVE",
@@ -100,6 +113,7 @@ static COMMANDS: [Entry; 12] = [
         name: "live",
         about: "Edits and plays a bank live, by the lines of the standard input",
         words: &[
+            LIVE_FORCE,
             Word::Path("IN", "The bank to begin with"),
             Word::Path(
                 "PCM",
@@ -112,6 +126,7 @@ static COMMANDS: [Entry; 12] = [
         name: "map",
         about: "Draws the key and velocity ranges of a preset or an instrument as an SVG picture",
         words: &[
+            FORCE,
             Word::Path("IN", "The bank to look at"),
             Word::Level("LEVEL", "What to draw"),
             Word::Number("N", "The number that `show` lists it by"),
@@ -123,6 +138,7 @@ static COMMANDS: [Entry; 12] = [
         name: "new",
         about: "Writes an empty bank",
         words: &[
+            FORCE,
             Word::Minor("minor", "The minor version of the format, from 0 to 65,535"),
             Word::Path("OUT", "Where the empty bank is written"),
         ],
@@ -132,6 +148,7 @@ static COMMANDS: [Entry; 12] = [
         name: "play",
         about: "Plays notes on a bank, and writes the sound as a WAVE file",
         words: &[
+            FORCE,
             Word::Path("IN", "The bank to play on"),
             Word::Path("NOTES", "The notes, one a line"),
             Word::Path("OUT", "Where the WAVE file is written"),
@@ -142,6 +159,7 @@ static COMMANDS: [Entry; 12] = [
         name: "script",
         about: "Writes the script that makes a bank of the empty one of its minor version",
         words: &[
+            FORCE,
             Word::Flag(
                 "no-points",
                 "Leaves the points of samples out, so that the script is short and makes silent samples",
@@ -168,6 +186,7 @@ static COMMANDS: [Entry; 12] = [
         name: "wave",
         about: "Writes a sample of a bank as a WAVE file",
         words: &[
+            FORCE,
             Word::Path("IN", "The bank that has the sample"),
             Word::Number("S", "The number that `show` lists it by"),
             Word::Path("OUT", "Where the WAVE file is written"),

@@ -54,6 +54,8 @@ pub struct ApplyPaths<'a> {
     pub out: &'a str,
     pub undo: &'a str,
     pub forms: Forms,
+    /// Whether a bank may be replaced by what is no bank.
+    pub force: bool,
 }
 
 /// The paths of `canon`.
@@ -69,6 +71,8 @@ pub struct DiffPaths<'a> {
     pub first: &'a str,
     pub second: &'a str,
     pub out: &'a str,
+    /// Whether a bank may be replaced by what is no bank.
+    pub force: bool,
 }
 
 /// The paths of `import`.
@@ -78,6 +82,8 @@ pub struct ImportPaths<'a> {
     pub wave: &'a str,
     pub out: &'a str,
     pub undo: &'a str,
+    /// Whether a bank may be replaced by what is no bank.
+    pub force: bool,
 }
 
 /// The paths of `live`.
@@ -85,6 +91,8 @@ pub struct ImportPaths<'a> {
 pub struct LivePaths<'a> {
     pub input: &'a str,
     pub pcm: &'a str,
+    /// Whether a bank may be replaced by what is no bank.
+    pub force: bool,
 }
 
 /// The paths of `map`, and whose ranges it draws.
@@ -93,6 +101,8 @@ pub struct MapPaths<'a> {
     pub input: &'a str,
     pub owner: Owner,
     pub out: &'a str,
+    /// Whether a bank may be replaced by what is no bank.
+    pub force: bool,
 }
 
 /// The path of `new`, and the minor version of the bank.
@@ -100,6 +110,8 @@ pub struct MapPaths<'a> {
 pub struct NewBank<'a> {
     pub out: &'a str,
     pub minor: u16,
+    /// Whether a bank may be replaced.
+    pub force: bool,
 }
 
 /// The paths of `play`.
@@ -108,6 +120,8 @@ pub struct PlayPaths<'a> {
     pub input: &'a str,
     pub notes: &'a str,
     pub out: &'a str,
+    /// Whether a bank may be replaced by what is no bank.
+    pub force: bool,
 }
 
 /// The paths of `script`, and whether it leaves the points of samples out.
@@ -116,6 +130,8 @@ pub struct ScriptPaths<'a> {
     pub input: &'a str,
     pub out: &'a str,
     pub no_points: bool,
+    /// Whether a bank may be replaced by what is no bank.
+    pub force: bool,
 }
 
 /// The path of `show`, and whether it tells the zones, and how many use each member.
@@ -132,6 +148,8 @@ pub struct WavePaths<'a> {
     pub input: &'a str,
     pub sample: u32,
     pub out: &'a str,
+    /// Whether a bank may be replaced by what is no bank.
+    pub force: bool,
 }
 
 /// What the words ask for. The first word is the program's name. Asking for help or the version is
@@ -176,6 +194,7 @@ fn apply_paths<'a>(matches: &ArgMatches<'a>) -> Option<ApplyPaths<'a>>
         out: path(matches, "OUT")?,
         undo: path(matches, "UNDO")?,
         forms: forms_taken(matches),
+        force: flag(matches, "force"),
     })
 }
 
@@ -207,6 +226,7 @@ fn diff_paths<'a>(matches: &ArgMatches<'a>) -> Option<DiffPaths<'a>>
         first: path(matches, "A")?,
         second: path(matches, "B")?,
         out: path(matches, "OUT")?,
+        force: flag(matches, "force"),
     })
 }
 
@@ -219,6 +239,7 @@ fn import_paths<'a>(matches: &ArgMatches<'a>) -> Option<ImportPaths<'a>>
         wave: path(matches, "WAVE")?,
         out: path(matches, "OUT")?,
         undo: path(matches, "UNDO")?,
+        force: flag(matches, "force"),
     })
 }
 
@@ -229,6 +250,7 @@ fn live_paths<'a>(matches: &ArgMatches<'a>) -> Option<LivePaths<'a>>
     Some(LivePaths {
         input: path(matches, "IN")?,
         pcm: path(matches, "PCM")?,
+        force: flag(matches, "force"),
     })
 }
 
@@ -240,6 +262,7 @@ fn map_paths<'a>(matches: &ArgMatches<'a>) -> Option<MapPaths<'a>>
         input: path(matches, "IN")?,
         owner: owner(matches)?,
         out: path(matches, "OUT")?,
+        force: flag(matches, "force"),
     })
 }
 
@@ -265,6 +288,7 @@ fn new_bank<'a>(matches: &ArgMatches<'a>) -> Option<NewBank<'a>>
     Some(NewBank {
         out: path(matches, "OUT")?,
         minor: matches.get_one::<u16>("minor")?,
+        force: flag(matches, "force"),
     })
 }
 
@@ -276,6 +300,7 @@ fn play_paths<'a>(matches: &ArgMatches<'a>) -> Option<PlayPaths<'a>>
         input: path(matches, "IN")?,
         notes: path(matches, "NOTES")?,
         out: path(matches, "OUT")?,
+        force: flag(matches, "force"),
     })
 }
 
@@ -287,6 +312,7 @@ fn script_paths<'a>(matches: &ArgMatches<'a>) -> Option<ScriptPaths<'a>>
         input: path(matches, "IN")?,
         out: path(matches, "OUT")?,
         no_points: flag(matches, "no-points"),
+        force: flag(matches, "force"),
     })
 }
 
@@ -309,6 +335,7 @@ fn wave_paths<'a>(matches: &ArgMatches<'a>) -> Option<WavePaths<'a>>
         input: path(matches, "IN")?,
         sample: number(matches, "S")?,
         out: path(matches, "OUT")?,
+        force: flag(matches, "force"),
     })
 }
 

@@ -69,6 +69,7 @@ sent_text old new outcome text (Ok u) e h = record { text = text; is_text = e; s
 sent_text old new outcome text (Err (run.Write which n)) e h = record { text = text; is_text = e; sends = h }
 sent_text old new outcome text (Err run.Memory) e h = absurd h
 sent_text old new outcome text (Err (run.Read fault)) e h = absurd h
+sent_text old new outcome text (Err (run.ReadFirst fault)) e h = absurd h
 sent_text old new outcome text (Err (run.ReadSecond fault)) e h = absurd h
 sent_text old new outcome text (Err (run.Script fault)) e h = absurd h
 sent_text old new outcome text (Err (run.Refused number why)) e h = absurd h

@@ -28,33 +28,39 @@ use Rattle.sfbank_program.specs.declared.run_fault.Which.TheVariants.{Out}
 use Rattle.sfbank_program.specs.RunFaults.{in_run}
 use Rattle.sfbank.specs.Outcome.{Done, edits_of, after_script, after_reading, bank_in, outcome}
 use Rattle.sfbank.specs.Written.{GoesOut}
-use Rattle.sfbank.specs.Differences.{Pair, after_second, if_same, of_one_version, banks_in, pair_of, IsDifference}
+use Rattle.sfbank.specs.Differences.{Pair, after_file, if_same, of_one_version, banks_in, pair_of, IsDifference}
 use Rattle.sfbank.specs.Differences.{SendsDifference, RunsDifference, WritesNothing, Pairs}
-use Rattle.sfbank.proofs.Restores.{reading_done, all_fit, edits_numbered, restores}
+use Rattle.sfbank.proofs.Restores.{all_fit, edits_numbered, restores}
 use Rattle.sfbank.proofs.BankScripts.{sound_in, led}
 
 -- ---- reading both files
 
 pub first_not_read : (X : Type 0) (view : X → Pair) (failure : Failure ReadFault) (a b : List ℕ)
     → Fails failure (fault_of a)
-    → Pairs view (pair_of a b) (Err (in_run run.Read failure))
+    → Pairs view (pair_of a b) (Err (in_run run.ReadFirst failure))
 unfolding pair_of
 first_not_read X view (failures.Fault fault) a b h =
-    ap (λ (o : Option ReadFault). after_reading o (after_second (fault_of b) (of_one_version (banks_in a b)))) h
+    ap
+    (λ (o : Option ReadFault).
+    after_file run.ReadFirst o (after_file run.ReadSecond (fault_of b) (of_one_version (banks_in a b))))
+    h
 first_not_read X view failures.OutOfMemory a b h = tt
 
 -- the first file is read
 pair_first : (a b : List ℕ) → fault_of a ≡ None
-    → pair_of a b ≡ after_second (fault_of b) (of_one_version (banks_in a b))
+    → pair_of a b ≡ after_file run.ReadSecond (fault_of b) (of_one_version (banks_in a b))
 unfolding pair_of
 pair_first a b h =
-    ap (λ (o : Option ReadFault). after_reading o (after_second (fault_of b) (of_one_version (banks_in a b)))) h
+    ap
+    (λ (o : Option ReadFault).
+    after_file run.ReadFirst o (after_file run.ReadSecond (fault_of b) (of_one_version (banks_in a b))))
+    h
 
 pub second_not_read : (X : Type 0) (view : X → Pair) (failure : Failure ReadFault) (a b : List ℕ) → fault_of a ≡ None
     → Fails failure (fault_of b)
     → Pairs view (pair_of a b) (Err (in_run run.ReadSecond failure))
 second_not_read X view (failures.Fault fault) a b r h =
-    pair_first a b r ∙ ap (λ (o : Option ReadFault). after_second o (of_one_version (banks_in a b))) h
+    pair_first a b r ∙ ap (λ (o : Option ReadFault). after_file run.ReadSecond o (of_one_version (banks_in a b))) h
 second_not_read X view failures.OutOfMemory a b r h = tt
 
 -- both files are read
@@ -62,7 +68,7 @@ pub pair_read : (a b : List ℕ) (x y : Parts) (c d : Counts) → ReadsAs a x c 
     → pair_of a b ≡ of_one_version (record { first = x; second = y })
 pair_read a b x y c d r s =
     pair_first a b r.0
-    ∙ ap (λ (o : Option ReadFault). after_second o (of_one_version (banks_in a b))) s.0
+    ∙ ap (λ (o : Option ReadFault). after_file run.ReadSecond o (of_one_version (banks_in a b))) s.0
     ∙ (λ i. of_one_version (record { first = (r.1 i).bank; second = (s.1 i).bank }))
 
 pub other_versions : (p : Pair) → p.first.minor ≢ p.second.minor → of_one_version p ≡ Err run.OtherVersion
@@ -77,10 +83,10 @@ record BothRead (a b : List ℕ) (p : Pair) : Type 0 where
   minors : (bank_in a).minor ≡ (bank_in b).minor
   banks : banks_in a b ≡ p
 
-second_done : (o : Option ReadFault) (r : Result Pair RunFault) (p : Pair) → after_second o r ≡ Ok p
-    → (o ≡ None) × (r ≡ Ok p)
-second_done None r p h = (refl, h)
-second_done (Some f) r p h = absurd cc
+file_done : (told : ReadFault → RunFault) (o : Option ReadFault) (r : Result Pair RunFault) (p : Pair)
+    → after_file told o r ≡ Ok p → (o ≡ None) × (r ≡ Ok p)
+file_done told None r p h = (refl, h)
+file_done told (Some f) r p h = absurd cc
 
 same_done : (t : Bool) (q p : Pair) → if_same t q ≡ Ok p → (t ≡ true) × (q ≡ p)
 same_done true q p h = (refl, cc)
@@ -89,8 +95,9 @@ same_done false q p h = absurd cc
 both_read : (a b : List ℕ) (p : Pair) → pair_of a b ≡ Ok p → BothRead a b p
 unfolding pair_of
 both_read a b p h =
-    let first = reading_done (fault_of a) (after_second (fault_of b) (of_one_version (banks_in a b))) p h in
-    let second = second_done (fault_of b) (of_one_version (banks_in a b)) p first.1 in
+    let rest = after_file run.ReadSecond (fault_of b) (of_one_version (banks_in a b)) in
+    let first = file_done run.ReadFirst (fault_of a) rest p h in
+    let second = file_done run.ReadSecond (fault_of b) (of_one_version (banks_in a b)) p first.1 in
     let same = same_done ((bank_in a).minor == (bank_in b).minor) (banks_in a b) p second.1 in
     record {
       first =
@@ -164,6 +171,7 @@ sends_difference old new a b p text (Err run.OtherVersion) bytes h s g = absurd 
 sends_difference old new a b p text (Err (run.Recording fault)) bytes h s g = absurd g
 sends_difference old new a b p text (Err (run.NoMember cause)) bytes h s g = absurd g
 sends_difference old new a b p text (Err (run.Read fault)) bytes h s g = absurd g
+sends_difference old new a b p text (Err (run.ReadFirst fault)) bytes h s g = absurd g
 sends_difference old new a b p text (Err (run.ReadSecond fault)) bytes h s g = absurd g
 sends_difference old new a b p text (Err (run.Script fault)) bytes h s g = absurd g
 sends_difference old new a b p text (Err (run.Refused number why)) bytes h s g = absurd g

@@ -12,6 +12,7 @@ pub ends_early : (U : Type 0) (out undo : Option (List ℕ)) (outcome : Result D
     → FailsBefore fault outcome
     → Runs {U = U} (record { out = out; out_new = out; undo = undo; undo_new = undo }) outcome (Err fault)
 ends_early U out undo outcome (run.Read fault) h = (h, (Keeps-refl out, Keeps-refl undo))
+ends_early U out undo outcome (run.ReadFirst fault) h = (h, (Keeps-refl out, Keeps-refl undo))
 ends_early U out undo outcome (run.ReadSecond fault) h = (h, (Keeps-refl out, Keeps-refl undo))
 ends_early U out undo outcome (run.Script fault) h = (h, (Keeps-refl out, Keeps-refl undo))
 ends_early U out undo outcome (run.Refused number why) h = (h, (Keeps-refl out, Keeps-refl undo))
@@ -30,6 +31,7 @@ ends_with w outcome done (Ok u) e d = record { done = done; is_done = e; deliver
 ends_with w outcome done (Err (run.Write Out n)) e d = record { done = done; is_done = e; delivers = d }
 ends_with w outcome done (Err (run.Write Undo n)) e d = record { done = done; is_done = e; delivers = d }
 ends_with w outcome done (Err (run.Read fault)) e d = absurd d
+ends_with w outcome done (Err (run.ReadFirst fault)) e d = absurd d
 ends_with w outcome done (Err (run.ReadSecond fault)) e d = absurd d
 ends_with w outcome done (Err (run.Script fault)) e d = absurd d
 ends_with w outcome done (Err (run.Refused number why)) e d = absurd d

@@ -91,6 +91,7 @@ at_other U Every b script lines seen (run.NotNeutral number) e s h = absurd cc
 at_other U forms b script lines seen (run.Refused number why) e s h = absurd h
 at_other U forms b script lines seen run.Memory e s h = tt
 at_other U forms b script lines seen (run.Read fault) e s h = absurd h
+at_other U forms b script lines seen (run.ReadFirst fault) e s h = absurd h
 at_other U forms b script lines seen (run.ReadSecond fault) e s h = absurd h
 at_other U forms b script lines seen (run.Script fault) e s h = absurd h
 at_other U forms b script lines seen (run.Notes fault) e s h = absurd h
@@ -106,6 +107,7 @@ stops_at b lines (run.Refused number why) h =
     ap (λ (o : Option RefusedLine). unless_refused o (both_texts b (edits_of lines))) h
 stops_at b lines run.Memory h = tt
 stops_at b lines (run.Read fault) h = absurd h
+stops_at b lines (run.ReadFirst fault) h = absurd h
 stops_at b lines (run.ReadSecond fault) h = absurd h
 stops_at b lines (run.Script fault) h = absurd h
 stops_at b lines (run.NotNeutral number) h = absurd h

@@ -8,7 +8,7 @@ use Rattle.bank_format.specs.ReadSteps.{fault_of}
 use Rattle.sfbank_program.specs.declared.run_fault.RunFault.{RunFault}
 use Rattle.sfbank_program.specs.declared.run_fault.RunFault.TheVariants as run
 use Rattle.sfbank_program.specs.declared.run_fault.Which.TheVariants.{Out}
-use Rattle.sfbank.specs.Outcome.{after_reading, bank_in, outcome}
+use Rattle.sfbank.specs.Outcome.{bank_in, outcome}
 use Rattle.sfbank.specs.Written.{GoesOut}
 
 -- the banks that two files read as
@@ -19,10 +19,11 @@ pub record Pair : Type 0 where
 abbrev pub both : Parts × Parts → Pair
 both banks = record { first = banks.0; second = banks.1 }
 
--- the fault of the second file, if it has one, else what comes of both banks
-abbrev pub after_second : {X : Type 0} → Option ReadFault → Result X RunFault → Result X RunFault
-after_second (Some f) r = Err (run.ReadSecond f)
-after_second None r = r
+-- the fault of a file, if it has one, else what comes after it was read
+abbrev pub after_file : {X : Type 0} → (ReadFault → RunFault) → Option ReadFault → Result X RunFault
+    → Result X RunFault
+after_file told (Some f) r = Err (told f)
+after_file told None r = r
 
 abbrev pub if_same : Bool → Pair → Result Pair RunFault
 if_same true banks = Ok banks
@@ -37,7 +38,8 @@ banks_in a b = record { first = bank_in a; second = bank_in b }
 
 -- The first broken step of the first file, else that of the second, else both banks, if their minor versions are one.
 unfoldable pub pair_of : List ℕ → List ℕ → Result Pair RunFault
-pair_of a b = after_reading (fault_of a) (after_second (fault_of b) (of_one_version (banks_in a b)))
+pair_of a b =
+    after_file run.ReadFirst (fault_of a) (after_file run.ReadSecond (fault_of b) (of_one_version (banks_in a b)))
 
 -- The text, run on the first file, writes the canonical file of the second; and its undo text, run on what was written,
 -- writes the canonical file of the first.

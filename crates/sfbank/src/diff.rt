@@ -41,7 +41,10 @@ fn banks_of<'a>(
 ) -> Result<(Bank<'a>, Bank<'a>), RunFault>
     ensures { Pairs both (pair_of first.now second.now) result }
 {
-    let (from, _counts) = read(alloc, first)?;
+    let from = match read(alloc, first) {
+        Ok((bank, _counts)) => bank,
+        Err(failure) => return Err(RunFault::of_first(failure)),
+    };
     let to = match read(alloc, second) {
         Ok((bank, _counts)) => bank,
         Err(failure) => return Err(RunFault::of_second(failure)),

@@ -3,6 +3,7 @@ ghost use Rattle.sfbank_program.specs.Telling.{Ends};
 
 mod apply;
 mod canon;
+mod checks;
 mod diff;
 mod endings;
 mod explain;
@@ -30,7 +31,7 @@ use outputs::Output;
 use play::play;
 use progress::Progress;
 use script::script;
-use sfbank_program::{Fault, RunFault, STANDARD_OUTPUT, Which, tell};
+use sfbank_program::{Fault, RunFault, STANDARD_OUTPUT, Watched, Which, tell};
 use show::show;
 use std::alloc::{AllocError, Global};
 use std::convert::AsStr;
@@ -75,13 +76,13 @@ fn arguments<R: Env + AllocGlobal>(rt: &R) -> Result<Vec<String>, Fault<'static>
 /// | 2 | a file is no bank, or no WAVE file that is taken |
 /// | 3 | the script or the text of notes has a fault |
 /// | 4 | an edit is refused, or there is no such member, or two banks are of different versions |
-/// | 5 | an input can't be read or is too long, or an output can't be written |
+/// | 5 | an input can't be read or is too long, or an output is rejected or can't be written |
 /// | 6 | out of memory |
 ///
 /// The lines of `live` come from `input`. What `show` and `explain` tell, the answers of `live`, help and the version
 /// go to `output`. `progress` hears how far `apply` and `play` are.
-/// Where it is not 0, one line (of clap's text, more) goes to `errors`. If that can't be written, the
-/// status is the same.
+/// Where it is not 0, one line (of clap's text, more) goes to `errors`, but none where the reader of an output
+/// closed it early. If that can't be written, the status is the same.
 pub fn run<R: Files + AllocGlobal, S: AsStr, I: Read, O: Write, E: Write, P: Progress>(
     rt: &R,
     words: &[S],
@@ -92,9 +93,10 @@ pub fn run<R: Files + AllocGlobal, S: AsStr, I: Read, O: Write, E: Write, P: Pro
 ) -> u8
     ensures { Ends (E.contents errors.old) (E.contents errors.new) result }
 {
-    match serve(rt, words, input, output, progress) {
+    let mut watched = Watched::new(output);
+    match serve(rt, words, input, &mut watched, progress) {
         Ok(()) => 0,
-        Err(fault) => tell(&fault, errors),
+        Err(fault) => tell(&fault.unread_if(watched.is_unread()), errors),
     }
 }
 

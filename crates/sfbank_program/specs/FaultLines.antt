@@ -17,12 +17,14 @@ use Rattle.edit_refusals.specs.declared.refusal.Refusal.TheVariants.{Of, OutOfMe
 use Rattle.edit_refusals.specs.declared.refusal.Refusal.TheVariants.{GroupRefused}
 use Rattle.edit_forms.specs.CauseNames as causes
 use Rattle.edit_refusals.specs.RefusalNames as refusals
+use Rattle.outputs.specs.declared.output_fault.OutputFault.{OutputFault}
+use Rattle.outputs.specs.OutputFaults as rejected
 use Rattle.sfbank_program.specs.declared.input_fault.InputFault.{InputFault}
 use Rattle.sfbank_program.specs.InputFaults.{reason_of}
 use Rattle.sfbank_program.specs.declared.run_fault.RunFault.{RunFault}
-use Rattle.sfbank_program.specs.declared.run_fault.RunFault.TheVariants.{Read, ReadSecond, Script, Refused}
-use Rattle.sfbank_program.specs.declared.run_fault.RunFault.TheVariants.{NotNeutral, OtherVersion, Notes, Recording}
-use Rattle.sfbank_program.specs.declared.run_fault.RunFault.TheVariants.{NoMember, Write, Memory}
+use Rattle.sfbank_program.specs.declared.run_fault.RunFault.TheVariants.{Read, ReadFirst, ReadSecond, Script}
+use Rattle.sfbank_program.specs.declared.run_fault.RunFault.TheVariants.{Refused, NotNeutral, OtherVersion, Notes}
+use Rattle.sfbank_program.specs.declared.run_fault.RunFault.TheVariants.{Recording, NoMember, Write, Memory}
 
 -- a line that ends with a number and a name
 abbrev pub named_line : List ℕ → ℕ → List ℕ → List ℕ
@@ -35,7 +37,10 @@ read_text fault = named_line (codes "read fault ") (reading.number_of fault) (re
 abbrev pub read_line : ReadFault → List ℕ
 read_line fault = codes "sfbank: " ++ read_text fault
 
--- of the second of two files
+-- of the first and the second of two files
+abbrev pub first_read_line : ReadFault → List ℕ
+first_read_line fault = codes "sfbank: A: " ++ read_text fault
+
 abbrev pub second_read_line : ReadFault → List ℕ
 second_read_line fault = codes "sfbank: B: " ++ read_text fault
 
@@ -105,6 +110,15 @@ file_reason_line path reason = concat (codes "sfbank: file fault " ∷ path ∷ 
 abbrev pub file_line : List ℕ → InputFault → List ℕ
 file_line path fault = file_reason_line path (reason_of fault)
 
+-- an output that is rejected, by the number and the name of the fault, and its path
+abbrev pub rejected_line : ℕ → List ℕ → List ℕ → List ℕ
+rejected_line number name path =
+    concat
+    (codes "sfbank: output fault " ∷ decimal number ∷ codes " " ∷ name ∷ codes " " ∷ path ∷ codes "\n" ∷ [])
+
+abbrev pub output_line : List ℕ → OutputFault → List ℕ
+output_line path fault = rejected_line (rejected.number_of fault) (rejected.name_of fault) path
+
 -- a number that no fault and no refusal has
 abbrev pub unexplained_line : ℕ → List ℕ
 unexplained_line number =
@@ -113,6 +127,7 @@ unexplained_line number =
 -- the line of a run's fault, with its line feed; a write fault has the path
 unfoldable pub fault_line : List ℕ → RunFault → List ℕ
 fault_line path (Read fault) = read_line fault
+fault_line path (ReadFirst fault) = first_read_line fault
 fault_line path (ReadSecond fault) = second_read_line fault
 fault_line path (Script fault) = script_line fault
 fault_line path (Refused line why) = refused_line line why
@@ -127,6 +142,7 @@ fault_line path Memory = codes "sfbank: out of memory\n"
 -- the exit status of a run's fault
 abbrev pub status_of : RunFault → ℕ
 status_of (Read fault) = 2
+status_of (ReadFirst fault) = 2
 status_of (ReadSecond fault) = 2
 status_of (Script fault) = 3
 status_of (Refused line why) = 4

@@ -3,7 +3,8 @@ use Rattle.std.specs.Prelude.{◌≡◌, ℕ, List, codes, take, ⊤, Option, �
 use Rattle.std.specs.Io.KnownBytes.{Appends, Keeps}
 use Rattle.sfbank_program.specs.FaultLines as lines
 use Rattle.sfbank_program.specs.declared.fault.Fault.{Fault}
-use Rattle.sfbank_program.specs.declared.fault.Fault.TheVariants.{Words, NotText, Unexplained, File, Run}
+use Rattle.sfbank_program.specs.declared.fault.Fault.TheVariants.{Words, NotText, Unexplained, File, Output, Run}
+use Rattle.sfbank_program.specs.declared.fault.Fault.TheVariants.{Unread}
 
 -- the exit status
 abbrev pub status_of : Fault → ℕ
@@ -11,19 +12,23 @@ status_of (Words error) = 1
 status_of NotText = 1
 status_of (Unexplained number) = 1
 status_of (File path why) = 5
+status_of (Output fault path) = 5
 status_of (Run fault path) = lines.status_of fault
+status_of Unread = 5
 
 -- the line goes out, or a front of it where a write fails, and nothing else
 abbrev pub GoesOut : Option (List ℕ) → Option (List ℕ) → List ℕ → Type 0
 GoesOut old new line = (written : ℕ) × Appends old new (take written line)
 
--- A fault is told by its line. What clap says of refused words is its own.
+-- A fault is reported by its line, but a pipe that its reader closed by none. What clap says of refused words is its own.
 abbrev pub Tells : Option (List ℕ) → Option (List ℕ) → Fault → Type 0
 Tells old new (Words error) = ⊤
 Tells old new NotText = GoesOut old new (codes "error: a word is not text\n")
 Tells old new (Unexplained number) = GoesOut old new (lines.unexplained_line number)
 Tells old new (File path why) = GoesOut old new (lines.file_line path.now why)
+Tells old new (Output fault path) = GoesOut old new (lines.output_line path.now fault)
 Tells old new (Run fault path) = GoesOut old new (lines.fault_line path.now fault)
+Tells old new Unread = Keeps old new
 
 -- A run that is done tells nothing, with status 0. Any other tells its fault, with the status of it.
 abbrev pub Ends : Option (List ℕ) → Option (List ℕ) → ℕ → Type 0

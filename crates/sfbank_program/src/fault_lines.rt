@@ -3,7 +3,7 @@ ghost use Rattle.std.specs.Prelude.{◌≡◌, IfOk};
 ghost use Rattle.outputs.specs.Output.{Puts};
 ghost use Rattle.outputs.specs.Writing.{Writes};
 ghost use Rattle.sample_view.specs.Pieces.{joined_bytes};
-ghost use Rattle.sfbank_program.specs.FaultLines.{fault_line, status_of, read_line, second_read_line, read_text, script_line, notes_line, text_line, refused_line, not_neutral_line, named_line, recording_line, no_member_line, refusal_text, detail_text, step_text, limit_text, write_line, file_line, file_reason_line, unexplained_line};
+ghost use Rattle.sfbank_program.specs.FaultLines.{fault_line, status_of, read_line, first_read_line, second_read_line, read_text, script_line, notes_line, text_line, refused_line, not_neutral_line, named_line, recording_line, no_member_line, refusal_text, detail_text, step_text, limit_text, write_line, file_line, file_reason_line, output_line, rejected_line, unexplained_line};
 
 use crate::input_fault::InputFault;
 use crate::run_fault::RunFault;
@@ -13,7 +13,7 @@ use edit_refusals::{Cause, Refusal};
 use itoa::Buffer;
 use line_tokens::ScriptFault;
 use note_list::NoteFault;
-use outputs::{Output, WriteFault};
+use outputs::{Output, OutputFault, WriteFault};
 use recordings::WaveFault;
 use std::io::Write;
 
@@ -36,7 +36,10 @@ pub fn exit_status(fault: &RunFault) -> u8
     ensures { result ≡ status_of fault.now }
 {
     match fault {
-        RunFault::Read(_) | RunFault::ReadSecond(_) | RunFault::Recording(_) => 2,
+        RunFault::Read(_)
+        | RunFault::ReadFirst(_)
+        | RunFault::ReadSecond(_)
+        | RunFault::Recording(_) => 2,
         RunFault::Script(_) | RunFault::Notes(_) => 3,
         RunFault::Refused(_, _)
         | RunFault::NotNeutral(_)
@@ -53,6 +56,7 @@ fn put_fault<W: Write>(fault: &RunFault, path: &str, output: &mut Output<'_, W>)
 {
     match fault {
         RunFault::Read(fault) => put_read_fault(*fault, output),
+        RunFault::ReadFirst(fault) => put_first_read_fault(*fault, output),
         RunFault::ReadSecond(fault) => put_second_read_fault(*fault, output),
         RunFault::Script(fault) => put_script_fault(*fault, output),
         RunFault::Notes(fault) => put_notes_fault(*fault, output),
@@ -73,7 +77,14 @@ fn put_read_fault<W: Write>(fault: ReadFault, output: &mut Output<'_, W>)
     put_read_text(fault, output);
 }
 
-// A fault of the second of two files, which the words of the program call B.
+// A fault of the first or the second of two files, which the words of the program call A and B.
+fn put_first_read_fault<W: Write>(fault: ReadFault, output: &mut Output<'_, W>)
+    ensures { Puts W.contents output.old output.new (first_read_line fault) }
+{
+    output.put(b"sfbank: A: ");
+    put_read_text(fault, output);
+}
+
 fn put_second_read_fault<W: Write>(fault: ReadFault, output: &mut Output<'_, W>)
     ensures { Puts W.contents output.old output.new (second_read_line fault) }
 {
@@ -277,6 +288,43 @@ fn put_file_reason<'t, W: Write>(path: &'t str, reason: &'t str, output: &mut Ou
             path.as_bytes(),
             b": ",
             reason.as_bytes(),
+            b"\n",
+        ],
+        output,
+    );
+}
+
+/// Writes the line of an output at a path that is rejected.
+pub(crate) fn output_fault_text<W: Write>(
+    path: &str,
+    fault: OutputFault,
+    out: &mut W,
+) -> Result<u64, WriteFault>
+    ensures { Writes (W.contents out.old) (W.contents out.new) (output_line path.now fault) result }
+{
+    let mut output = Output::to(out);
+    put_output_fault(path, fault, &mut output);
+    output.end()
+}
+
+fn put_output_fault<W: Write>(path: &str, fault: OutputFault, output: &mut Output<'_, W>)
+    ensures { Puts W.contents output.old output.new (output_line path.now fault) }
+{
+    put_rejected(fault.number(), fault.name(), path, output);
+}
+
+fn put_rejected<'t, W: Write>(number: u8, name: &'t str, path: &'t str, output: &mut Output<'_, W>)
+    ensures { Puts W.contents output.old output.new (rejected_line number name.now path.now) }
+{
+    let mut digits = Buffer::new();
+    put_pieces(
+        &[
+            b"sfbank: output fault ",
+            digits.format(number).as_bytes(),
+            b" ",
+            name.as_bytes(),
+            b" ",
+            path.as_bytes(),
             b"\n",
         ],
         output,

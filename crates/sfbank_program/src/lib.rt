@@ -3,21 +3,29 @@
 //! that the runs depend on.
 #![tactic(auto)]
 
+mod descriptor;
 mod fault;
 mod fault_lines;
 mod input;
 mod input_fault;
 mod output;
+mod output_checks;
+mod output_pair;
 mod replacement;
 mod run_fault;
+mod target;
 mod telling;
 mod terminal;
+mod watched;
 
 pub use fault::{Fault, STANDARD_OUTPUT};
 pub use fault_lines::{exit_status, fault_text};
 pub use input::{read_file, read_whole};
 pub use input_fault::InputFault;
-pub use output::{OutputFile, end_both};
+pub use output::OutputFile;
+pub use output_checks::{OutputCheck, check_apart, check_no_bank};
+pub use output_pair::end_both;
 pub use run_fault::{RunFault, Which};
 pub use telling::tell;
 pub use terminal::{Meter, Prompted};
+pub use watched::Watched;

@@ -4,28 +4,54 @@ ghost use Rattle.std.specs.Prelude.{◌≡◌, IfOk, IfErr, OnOk, IsSome, None};
 ghost use Rattle.std.specs.Io.{WritesAtMost};
 ghost use Rattle.std.specs.Io.KnownBytes.{WriteAppends, Keeps};
 ghost use Rattle.sfbank_program.specs.declared.run_fault.RunFault.TheVariants as run;
-ghost use Rattle.sfbank_program.specs.Saving.{BothEnd, Counts, EndsAs};
+ghost use Rattle.sfbank_program.specs.Saving.{Counts, EndsAs};
 
+use crate::descriptor::Descriptor;
 use crate::replacement::{Replacement, sync_folder};
 use crate::run_fault::{RunFault, Which};
+use crate::target::{Target, target_of};
+use crate::watched::is_broken_pipe;
 use std::alloc::AllocError;
-use std::fs::{File, OpenFile};
+use std::fs::{File, OpenFile, OpenOptions};
 use std::io::{ErrorKind, Write};
-use std::os::unix::fs::MetadataExt;
 use std::rt::Files;
 use std::{fs, io};
 
-/// A file that its first write or flush creates. Where the path names a regular file that is there, what
-/// is written goes to a new file beside it, and `end` puts that in its place; where no file can be made
-/// beside it, and at a path that names something else, it goes to the path itself.
+/// A file that its first write or flush creates. Where the path leads to a regular file that is there, what
+/// is written goes to a new file beside it, and `end` puts that in its place. A descriptor of the program,
+/// such as `/dev/stdout`, is written where it stands, and a device or a pipe as it is.
 #[derive(Drop)]
 pub struct OutputFile<'a, R: Files> {
     rt: &'a R,
     path: &'a str,
-    replacement: Option<Replacement>,
-    file: Option<R::File>,
-    // The bytes that the file took.
+    place: Place,
+    file: Option<Opened<R::File>>,
+    /// The bytes that the file accepted.
     written: u64,
+    /// Whether a write failed since nothing reads the other end of a pipe any more.
+    is_unread: bool,
+}
+
+/// Where an output goes.
+#[derive(Drop)]
+enum Place {
+    /// To a new file beside the one that is there.
+    Replacement(Replacement),
+    /// To a file that is made at this path, where nothing is yet.
+    New(String),
+    /// To an open descriptor.
+    Descriptor(Descriptor),
+    /// To what is there, which is no regular file.
+    Existing,
+    /// To the file at the path, which is made or emptied.
+    Emptied,
+}
+
+/// An open output.
+#[derive(Drop)]
+enum Opened<F: Write + OpenFile + Drop> {
+    File(F),
+    Descriptor(Descriptor),
 }
 
 impl<'a, R: Files + AllocGlobal> OutputFile<'a, R> {
@@ -35,21 +61,32 @@ impl<'a, R: Files + AllocGlobal> OutputFile<'a, R> {
         ensures path { IfOk result (λ output. output.path ≡ path.entry) }
         ensures count { IfOk result (λ output. output.written ≡ 0) }
     {
-        Ok(OutputFile::closed(rt, path, Replacement::of(rt, path)?))
+        let place = match target_of(rt, path)? {
+            Target::Regular(there) => Place::Replacement(Replacement::of(rt, there)?),
+            Target::Nothing(path) => Place::New(path),
+            Target::Descriptor(number) => Place::Descriptor(Descriptor::new(number)),
+            Target::Other => Place::Existing,
+        };
+        Ok(OutputFile::closed(rt, path, place))
+    }
+
+    /// The output at a path that is written as it is, as a pipe: a regular file is emptied first. Nothing is
+    /// created yet.
+    pub fn in_place(rt: &'a R, path: &'a str) -> Result<OutputFile<'a, R>, AllocError>
+        ensures closed { IfOk result (λ output. output.file ≡ None) }
+        ensures path { IfOk result (λ output. output.path ≡ path.entry) }
+        ensures count { IfOk result (λ output. output.written ≡ 0) }
+    {
+        let place = match target_of(rt, path)? {
+            Target::Descriptor(number) => Place::Descriptor(Descriptor::new(number)),
+            _ => Place::Emptied,
+        };
+        Ok(OutputFile::closed(rt, path, place))
     }
 }
 
 impl<'a, R: Files> OutputFile<'a, R> {
-    /// The output at a path that is written as it is, whatever it names, as a pipe. Nothing is created yet.
-    pub fn in_place(rt: &'a R, path: &'a str) -> OutputFile<'a, R>
-        ensures closed { result.file ≡ None }
-        ensures path { result.path ≡ path.entry }
-        ensures count { result.written ≡ 0 }
-    {
-        OutputFile::closed(rt, path, None)
-    }
-
-    fn closed(rt: &'a R, path: &'a str, replacement: Option<Replacement>) -> OutputFile<'a, R>
+    fn closed(rt: &'a R, path: &'a str, place: Place) -> OutputFile<'a, R>
         ensures closed { result.file ≡ None }
         ensures path { result.path ≡ path.entry }
         ensures count { result.written ≡ 0 }
@@ -57,88 +94,180 @@ impl<'a, R: Files> OutputFile<'a, R> {
         OutputFile {
             rt,
             path,
-            replacement,
+            place,
             file: None,
             written: 0,
+            is_unread: false,
         }
     }
 }
 
 impl<R: Files> OutputFile<'_, R> {
-    /// Ends the output as its run ended. Of a run that is done the new file is synced and put in the place
-    /// of the one that is there; where it can't be, that is a write fault after all that was written. Of any
+    /// Ends the output as its run ended. After a run that is done the new file is synced and put in the place
+    /// of the one that is there; where it can't be, that is a write fault after all that was written. After any
     /// other run the fault stays, and what is there stays as it is. Either way no new file stays beside it.
     pub fn end(self, which: Which, run: Result<(), RunFault>) -> Result<(), RunFault>
         ensures { EndsAs which self.entry.written run result }
     {
+        let mut output = self;
         match run {
-            Ok(()) => match self.put_in_place() {
-                Ok(()) => Ok(()),
-                Err(_) => Err(RunFault::Write(which, self.written)),
-            },
+            Ok(()) => output.finish(which),
             Err(fault) => {
-                self.discard();
+                output.discard();
                 Err(fault)
             }
         }
     }
 
-    fn put_in_place(&self) -> io::Result<()> {
-        match (&self.replacement, &self.file) {
-            (Some(replacement), Some(file)) => replacement.put_in_place(self.rt, file),
+    /// Puts what was written in its place.
+    fn finish(&mut self, which: Which) -> Result<(), RunFault>
+        ensures { IfErr result (λ fault. fault ≡ run.Write which self.old.written) }
+    {
+        let result = self.sync_and_put();
+        if result.is_err() {
+            self.discard();
+            return Err(RunFault::Write(which, self.written));
+        }
+        Ok(())
+    }
+
+    fn sync_and_put(&mut self) -> io::Result<()>
+        ensures { self.new.written ≡ self.old.written }
+    {
+        if self.replaces() {
+            self.sync()?;
+        }
+        self.put_in_place()
+    }
+
+    /// Whether a file is there that this output replaces.
+    pub(crate) fn replaces(&self) -> bool {
+        matches!(self.place, Place::Replacement(_))
+    }
+
+    /// Whether a write failed since nothing reads the other end of a pipe any more.
+    pub fn is_unread(&self) -> bool {
+        self.is_unread
+    }
+
+    /// The bytes that the file accepted.
+    pub(crate) fn written(&self) -> u64
+        ensures { result ≡ self.now.written }
+    {
+        self.written
+    }
+
+    /// Syncs what is written so far, where that is kept at all: a device or a pipe has nothing to sync.
+    pub(crate) fn sync(&self) -> io::Result<()> {
+        let Some(Opened::File(file)) = &self.file else {
+            return Ok(());
+        };
+        match file.sync_all() {
+            Err(error) if error.kind() != ErrorKind::InvalidInput => Err(error),
             _ => Ok(()),
         }
     }
 
-    /// Leaves what is there as it is, and no new file beside it.
-    fn discard(&self) {
-        if let Some(replacement) = &self.replacement {
-            replacement.remove(self.rt);
-        }
-    }
-
-    /// Whether a new file is to take the place of one that is there.
-    fn replaces(&self) -> bool {
-        match &self.replacement {
-            Some(replacement) => replacement.is_made(),
-            None => false,
-        }
-    }
-
-    /// Syncs what is written so far, where that is kept at all: a device or a pipe has nothing to sync.
-    fn sync(&self, which: Which) -> Result<(), RunFault>
-        ensures { IfErr result (λ fault. fault ≡ run.Write which self.now.written) }
-    {
-        let Some(file) = &self.file else {
-            return Ok(());
-        };
-        match file.sync_all() {
-            Err(error) if error.kind() != ErrorKind::InvalidInput => {
-                Err(RunFault::Write(which, self.written))
-            }
-            _ => {
-                sync_folder(self.rt, self.path);
-                Ok(())
-            }
-        }
-    }
-
-    /// Whether two outputs are at one file, by whatever names.
-    fn is_with(&self, other: &OutputFile<'_, R>) -> bool {
-        match (place_of(self.rt, self.path), place_of(other.rt, other.path)) {
-            (Some(one), Some(other)) => one == other,
-            _ => false,
-        }
-    }
-
-    /// The file that takes what is written, which is created where it is not open yet.
-    fn opened(&mut self) -> io::Result<R::File>
+    /// Puts a new file, which was synced, in the place of the one that is there.
+    pub(crate) fn put_in_place(&mut self) -> io::Result<()>
         ensures { self.new.written ≡ self.old.written }
     {
-        match (self.file.take(), &mut self.replacement) {
-            (Some(file), _) => Ok(file),
-            (None, Some(replacement)) => replacement.open(self.rt),
-            (None, None) => File::create(self.rt, self.path),
+        match &mut self.place {
+            Place::Replacement(replacement) => replacement.put_in_place(self.rt),
+            _ => Ok(()),
+        }
+    }
+
+    /// The same, which `restore` can undo until `forget_old` is called.
+    pub(crate) fn put_for_now(&mut self) -> io::Result<()>
+        ensures { self.new.written ≡ self.old.written }
+    {
+        match &mut self.place {
+            Place::Replacement(replacement) => replacement.put_beside_old(self.rt),
+            Place::New(path) => {
+                sync_folder(self.rt, path.as_str());
+                Ok(())
+            }
+            _ => Ok(()),
+        }
+    }
+
+    /// Keeps what was put in place.
+    pub(crate) fn forget_old(&mut self)
+        ensures { self.new.written ≡ self.old.written }
+    {
+        if let Place::Replacement(replacement) = &mut self.place {
+            replacement.remove_old(self.rt);
+        }
+    }
+
+    /// Leaves all as it was: what was there is in its place, and no new file is left.
+    pub(crate) fn restore(&mut self)
+        ensures { self.new.written ≡ self.old.written }
+    {
+        match &mut self.place {
+            Place::Replacement(replacement) => {
+                replacement.remove_new(self.rt);
+                replacement.restore_old(self.rt);
+            }
+            Place::New(path) => {
+                if self.file.is_some() {
+                    let _ = fs::remove_file(self.rt, path.as_str());
+                }
+            }
+            _ => {}
+        }
+    }
+
+    /// Leaves what is there as it is, and no new file beside it.
+    pub(crate) fn discard(&mut self)
+        ensures { self.new.written ≡ self.old.written }
+    {
+        if let Place::Replacement(replacement) = &mut self.place {
+            replacement.remove_new(self.rt);
+        }
+    }
+
+    /// The file that accepts what is written, which is created where it is not open yet.
+    fn opened(&mut self) -> io::Result<Opened<R::File>>
+        ensures { self.new.written ≡ self.old.written }
+    {
+        if let Some(file) = self.file.take() {
+            return Ok(file);
+        }
+        match &mut self.place {
+            Place::Replacement(replacement) => Ok(Opened::File(replacement.open(self.rt)?)),
+            Place::New(path) => Ok(Opened::File(File::create_new(self.rt, path.as_str())?)),
+            Place::Descriptor(descriptor) => Ok(Opened::Descriptor(*descriptor)),
+            Place::Existing => Ok(Opened::File(open_existing(self.rt, self.path)?)),
+            Place::Emptied => Ok(Opened::File(File::create(self.rt, self.path)?)),
+        }
+    }
+}
+
+/// Opens a device or a pipe. A regular file is replaced as a whole, so it is none of these.
+fn open_existing<R: Files>(rt: &R, path: &str) -> io::Result<R::File> {
+    let file = OpenOptions::new().write(true).open(rt, path)?;
+    if file.metadata()?.is_file() {
+        return Err(io::Error::from(ErrorKind::Unsupported));
+    }
+    Ok(file)
+}
+
+impl<F: Write + OpenFile + Drop> Opened<F> {
+    fn write(&mut self, bytes: &[u8]) -> io::Result<usize>
+        ensures { WritesAtMost result bytes.now }
+    {
+        match self {
+            Opened::File(file) => file.write(bytes),
+            Opened::Descriptor(descriptor) => descriptor.write(bytes),
+        }
+    }
+
+    fn flush(&mut self) -> io::Result<()> {
+        match self {
+            Opened::File(file) => file.flush(),
+            Opened::Descriptor(descriptor) => descriptor.flush(),
         }
     }
 }
@@ -153,6 +282,7 @@ impl<R: Files> Write for OutputFile<'_, R> {
         let mut file = self.opened()?;
         let answer = file.write(bytes);
         self.file = Some(file);
+        self.is_unread = is_broken_pipe(&answer);
         if let Ok(count) = answer {
             self.written = self.written.saturating_add(count as u64);
         }
@@ -169,34 +299,4 @@ impl<R: Files> Write for OutputFile<'_, R> {
         self.file = Some(file);
         flushed
     }
-}
-
-/// The device and the number of the file that a path names, by which it is known under each of its names.
-fn place_of<R: Files>(rt: &R, path: &str) -> Option<(u64, u64)> {
-    match fs::metadata(rt, path) {
-        Ok(found) => Some((found.dev(), found.ino())),
-        Err(_) => None,
-    }
-}
-
-/// Ends both outputs as the run ended. The undo text comes first, and is on the disk before the bank
-/// takes the place of another: that may be the one that was read, which is never without its way back.
-pub fn end_both<R: Files>(
-    out: OutputFile<'_, R>,
-    undo: OutputFile<'_, R>,
-    run: Result<(), RunFault>,
-) -> Result<(), RunFault>
-    ensures { BothEnd out.entry.written undo.entry.written run result }
-{
-    if out.is_with(&undo) {
-        // Of two texts in one file the undo text was written last.
-        out.discard();
-        return undo.end(Which::Undo, run);
-    }
-    let mut run = run;
-    if run.is_ok() && out.replaces() {
-        run = undo.sync(Which::Undo);
-    }
-    let undone = undo.end(Which::Undo, run);
-    out.end(Which::Out, undone)
 }

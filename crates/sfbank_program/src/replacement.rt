@@ -1,5 +1,6 @@
 //! A new file that takes the place of one that is there.
 
+use crate::target::folder_of;
 use itoa::Buffer;
 use std::alloc::AllocError;
 use std::fs::{File, Metadata, OpenFile, OpenOptions};
@@ -8,10 +9,10 @@ use std::os::unix::fs::{MetadataExt, OpenOptionsExt, chown};
 use std::rt::Files;
 use std::{fs, io};
 
-/// The numbers that the name of a new file may have. Runs that were killed leave theirs taken.
+/// The numbers that the name of a new file may have. Runs that were killed leave files of these names.
 const NUMBERS: u16 = 10_000;
 
-/// What the name of a new file takes at most, beside its folder.
+/// The most bytes of the name of a new file, beside its folder.
 const NAME_ROOM: usize = 32;
 
 /// A regular file that is there, and the new one beside it that is to take its place.
@@ -21,136 +22,175 @@ pub(crate) struct Replacement {
     path: String,
     /// Where the new file is, in the same folder.
     new_path: String,
-    /// Whether there is the new file.
+    /// Where the old file is kept until it is no longer needed, in the same folder.
+    old_path: String,
+    /// Whether there is the new file, beside the old one.
     is_made: bool,
+    /// Whether the new file has the owner of the old one, who may remove each of its names.
+    is_owned: bool,
+    kept: Kept,
+}
+
+/// How the old file is kept.
+#[derive(Clone, Copy, PartialEq, Eq)]
+enum Kept {
+    Not,
+    /// By a second name.
+    Linked,
+    /// Moved there, where it can't be linked.
+    Moved,
 }
 
 impl Replacement {
-    /// The replacement of the file that a path names; none where it names no regular file. Nothing is
-    /// created yet, but all memory is taken.
+    /// The replacement of the regular file at a path. Nothing is created yet, but all memory is allocated.
     pub(crate) fn of<R: Files + AllocGlobal>(
         rt: &R,
-        path: &str,
-    ) -> Result<Option<Replacement>, AllocError> {
-        if !is_regular(rt, path) {
-            return Ok(None);
-        }
-        let Some(path) = behind_links(rt, path)? else {
-            return Ok(None);
-        };
+        path: String,
+    ) -> Result<Replacement, AllocError> {
         let room = path.len().saturating_add(NAME_ROOM);
-        let new_path = String::with_capacity(rt.alloc(), room)?;
-        Ok(Some(Replacement {
+        Ok(Replacement {
             path,
-            new_path,
+            new_path: String::with_capacity(rt.alloc(), room)?,
+            old_path: String::with_capacity(rt.alloc(), room)?,
             is_made: false,
-        }))
+            is_owned: false,
+            kept: Kept::Not,
+        })
     }
 
-    /// The file that is to be written: the new one, or else the one that is there, which is emptied.
+    /// Makes the new file, which others may not read yet. A file that may not be written is not replaced.
     pub(crate) fn open<R: Files>(&mut self, rt: &R) -> io::Result<R::File> {
-        // What may not be written may not be replaced either.
         let there = OpenOptions::new().write(true).open(rt, self.path.as_str())?;
         let found = there.metadata()?;
-        if let Some(file) = self.make_new(rt)? {
-            keep_access(rt, self.new_path.as_str(), &file, &found);
-            return Ok(file);
-        }
-        there.set_len(0)?;
-        Ok(there)
+        let file = self.make_new(rt)?;
+        keep_access(rt, self.new_path.as_str(), &file, &found);
+        self.is_owned = file.metadata()?.uid() == found.uid();
+        Ok(file)
     }
 
-    /// Makes the new file; none where the folder takes no new file. Others may not read it yet.
-    fn make_new<R: Files>(&mut self, rt: &R) -> io::Result<Option<R::File>> {
+    fn make_new<R: Files>(&mut self, rt: &R) -> io::Result<R::File> {
         for number in 1..=NUMBERS {
-            self.name_new(number)?;
+            set_name(
+                &mut self.new_path,
+                self.path.as_str(),
+                "/sfbank-new-",
+                number,
+            )?;
             match create_private(rt, self.new_path.as_str()) {
+                Err(error) if error.kind() == ErrorKind::AlreadyExists => {}
                 Ok(file) => {
                     self.is_made = true;
-                    return Ok(Some(file));
+                    return Ok(file);
                 }
-                Err(error) => match error.kind() {
-                    ErrorKind::AlreadyExists => {}
-                    kind if takes_no_file(kind) => return Ok(None),
-                    _ => return Err(error),
-                },
+                Err(error) => return Err(error),
             }
         }
         Err(io::Error::from(ErrorKind::AlreadyExists))
     }
 
-    fn name_new(&mut self, number: u16) -> Result<(), AllocError> {
-        let mut digits = Buffer::new();
-        self.new_path.clear();
-        self.new_path.push_str(folder_of(self.path.as_str()))?;
-        self.new_path.push_str("/sfbank-new-")?;
-        self.new_path.push_str(digits.format(number))
-    }
-
-    /// Puts the new file in place, which has been written whole. Where it can't be, it is removed.
-    pub(crate) fn put_in_place<R: Files>(&self, rt: &R, file: &R::File) -> io::Result<()> {
+    /// Puts the new file, which was written and synced, in place.
+    pub(crate) fn put_in_place<R: Files>(&mut self, rt: &R) -> io::Result<()> {
         if !self.is_made {
             return Ok(());
         }
-        let answer = self.sync_and_rename(rt, file);
-        if answer.is_err() {
-            self.remove(rt);
-        }
-        answer
-    }
-
-    fn sync_and_rename<R: Files>(&self, rt: &R, file: &R::File) -> io::Result<()> {
-        file.sync_all()?;
         fs::rename(rt, self.new_path.as_str(), self.path.as_str())?;
+        self.is_made = false;
         sync_folder(rt, self.path.as_str());
         Ok(())
     }
 
-    /// Removes the new file, if there is one.
-    pub(crate) fn remove<R: Files>(&self, rt: &R) {
-        if self.is_made {
-            let _ = fs::remove_file(rt, self.new_path.as_str());
+    /// Puts the new file in place, and keeps the old one.
+    pub(crate) fn put_beside_old<R: Files>(&mut self, rt: &R) -> io::Result<()> {
+        self.keep_old(rt)?;
+        let result = self.put_in_place(rt);
+        if result.is_err() {
+            self.restore_old(rt);
+        }
+        result
+    }
+
+    /// Keeps the old file under another name, which it has when the first one becomes the new file's.
+    fn keep_old<R: Files>(&mut self, rt: &R) -> io::Result<()> {
+        for number in 1..=NUMBERS {
+            set_name(
+                &mut self.old_path,
+                self.path.as_str(),
+                "/sfbank-old-",
+                number,
+            )?;
+            match keep_as(
+                rt,
+                self.path.as_str(),
+                self.old_path.as_str(),
+                self.is_owned,
+            ) {
+                Err(error) if error.kind() == ErrorKind::AlreadyExists => {}
+                Ok(kept) => {
+                    self.kept = kept;
+                    return Ok(());
+                }
+                Err(error) => return Err(error),
+            }
+        }
+        Err(io::Error::from(ErrorKind::AlreadyExists))
+    }
+
+    /// Puts the old file back in place, if it was kept.
+    pub(crate) fn restore_old<R: Files>(&mut self, rt: &R) {
+        match self.kept {
+            Kept::Not => {}
+            Kept::Linked if self.is_made => self.remove_old(rt),
+            Kept::Linked | Kept::Moved => {
+                let _ = fs::rename(rt, self.old_path.as_str(), self.path.as_str());
+                sync_folder(rt, self.path.as_str());
+            }
+        }
+        self.kept = Kept::Not;
+    }
+
+    /// Removes the old file, if it was kept.
+    pub(crate) fn remove_old<R: Files>(&mut self, rt: &R) {
+        if self.kept != Kept::Not {
+            let _ = fs::remove_file(rt, self.old_path.as_str());
+            self.kept = Kept::Not;
         }
     }
 
-    /// Whether there is the new file.
-    pub(crate) fn is_made(&self) -> bool {
-        self.is_made
+    /// Removes the new file, if there is one that is not in place.
+    pub(crate) fn remove_new<R: Files>(&mut self, rt: &R) {
+        if self.is_made {
+            let _ = fs::remove_file(rt, self.new_path.as_str());
+            self.is_made = false;
+        }
     }
 }
 
-fn is_regular<R: Files>(rt: &R, path: &str) -> bool {
-    match fs::metadata(rt, path) {
-        Ok(found) => found.is_file(),
-        Err(_) => false,
-    }
+/// Makes the path of a numbered file in the folder of another one, in room that it has.
+fn set_name(name: &mut String, path: &str, start: &str, number: u16) -> Result<(), AllocError> {
+    let mut digits = Buffer::new();
+    name.clear();
+    name.push_str(folder_of(path))?;
+    name.push_str(start)?;
+    name.push_str(digits.format(number))
 }
 
-fn is_link<R: Files>(rt: &R, path: &str) -> bool {
-    match fs::symlink_metadata(rt, path) {
-        Ok(found) => found.is_symlink(),
-        Err(_) => false,
+/// Keeps a file as another path, which has to be free. A link to a file of another user can't always be removed
+/// again, and some file systems have none: there the file is moved.
+fn keep_as<R: Files>(rt: &R, path: &str, kept: &str, is_owned: bool) -> io::Result<Kept> {
+    if is_owned {
+        match fs::hard_link(rt, path, kept) {
+            Ok(()) => return Ok(Kept::Linked),
+            Err(error) if error.kind() == ErrorKind::AlreadyExists => return Err(error),
+            Err(_) => {}
+        }
     }
-}
-
-/// The path itself, or where it is a link the path of what it names; none where that can't be told.
-fn behind_links<R: Files + AllocGlobal>(rt: &R, path: &str) -> Result<Option<String>, AllocError> {
-    if !is_link(rt, path) {
-        return Ok(Some(String::from_str(rt.alloc(), path)?));
+    create_private(rt, kept)?;
+    let moved = fs::rename(rt, path, kept);
+    if moved.is_err() {
+        let _ = fs::remove_file(rt, kept);
     }
-    match fs::canonicalize(rt, path) {
-        Ok(real) => Ok(Some(real.into_string())),
-        Err(error) if error.kind() == ErrorKind::OutOfMemory => Err(AllocError),
-        Err(_) => Ok(None),
-    }
-}
-
-/// The folder in which a file is, without its last slash.
-fn folder_of(path: &str) -> &str {
-    match path.rsplit_once('/') {
-        Some((folder, _)) => folder,
-        None => ".",
-    }
+    moved?;
+    Ok(Kept::Moved)
 }
 
 fn create_private<R: Files>(rt: &R, path: &str) -> io::Result<R::File> {
@@ -161,26 +201,16 @@ fn create_private<R: Files>(rt: &R, path: &str) -> io::Result<R::File> {
         .open(rt, path)
 }
 
-/// Whether a folder that takes no new file answers so. A full disk answers otherwise, and there the file
-/// that is there must not be emptied.
-fn takes_no_file(kind: ErrorKind) -> bool {
-    matches!(
-        kind,
-        ErrorKind::PermissionDenied | ErrorKind::ReadOnlyFilesystem | ErrorKind::InvalidFilename
-    )
-}
-
-/// Gives a new file the group, the owner and the permissions of another one, as far as the system lets.
+/// Gives a new file the group, the owner and the permissions of another one, as far as the system allows.
 fn keep_access<R: Files>(rt: &R, path: &str, file: &R::File, found: &Metadata) {
     let _ = chown(rt, path, None, Some(found.gid()));
     let _ = chown(rt, path, Some(found.uid()), None);
     let _ = file.set_permissions(found.permissions());
 }
 
-/// Syncs the folder of a file, so that its name is kept too, where the folder can be opened.
+/// Syncs the folder of a file, so that its name is on the disk too, where the folder can be opened.
 pub(crate) fn sync_folder<R: Files>(rt: &R, path: &str) {
-    let folder = folder_of(path);
-    if let Ok(folder) = File::open(rt, if folder.is_empty() { "/" } else { folder }) {
+    if let Ok(folder) = File::open(rt, folder_of(path)) {
         let _ = folder.sync_all();
     }
 }

@@ -1,6 +1,6 @@
 //! How a run ends that is not done.
 ghost use Rattle.std.specs.Prelude.{◌≡◌};
-ghost use Rattle.sfbank_program.specs.declared.run_fault.RunFault.TheVariants.{Read, ReadSecond, Script, Notes, Recording, Memory};
+ghost use Rattle.sfbank_program.specs.declared.run_fault.RunFault.TheVariants.{Read, ReadFirst, ReadSecond, Script, Notes, Recording, Memory};
 ghost use Rattle.sfbank_program.specs.RunFaults.{in_run};
 
 use bank_format::ReadFault;
@@ -25,7 +25,10 @@ pub enum RunFault {
     /// The first step of reading that the file breaks.
     #[error("{0}")]
     Read(ReadFault),
-    /// The first step of reading that the second file breaks, where there are two.
+    /// The same of the first file, where there are two banks.
+    #[error("A: {0}")]
+    ReadFirst(ReadFault),
+    /// The same of the second file, where there are two banks.
     #[error("B: {0}")]
     ReadSecond(ReadFault),
     /// The first fault of the script.
@@ -58,7 +61,17 @@ pub enum RunFault {
 }
 
 impl RunFault {
-    /// The fault of a run that could not read its second file.
+    /// The fault of a run that could not read the first of two banks.
+    pub fn of_first(failure: Failure<ReadFault>) -> RunFault
+        ensures { result ≡ in_run ReadFirst failure }
+    {
+        match failure {
+            Failure::Fault(fault) => RunFault::ReadFirst(fault),
+            Failure::OutOfMemory => RunFault::Memory,
+        }
+    }
+
+    /// The same for the second one.
     pub fn of_second(failure: Failure<ReadFault>) -> RunFault
         ensures { result ≡ in_run ReadSecond failure }
     {

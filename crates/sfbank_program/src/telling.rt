@@ -3,7 +3,9 @@ ghost use Rattle.std.specs.Prelude.{◌≡◌};
 ghost use Rattle.sfbank_program.specs.Telling.{Tells, status_of};
 
 use crate::fault::Fault;
-use crate::fault_lines::{exit_status, fault_text, file_fault_text, unexplained_text};
+use crate::fault_lines::{
+    exit_status, fault_text, file_fault_text, output_fault_text, unexplained_text,
+};
 use outputs::put_all;
 use std::io::Write;
 
@@ -31,9 +33,14 @@ pub fn tell<E: Write>(fault: &Fault<'_>, errors: &mut E) -> u8
             let _ = file_fault_text(path, *why, errors);
             5
         }
+        Fault::Output(fault, path) => {
+            let _ = output_fault_text(path, *fault, errors);
+            5
+        }
         Fault::Run(fault, path) => {
             let _ = fault_text(fault, path, errors);
             exit_status(fault)
         }
+        Fault::Unread => 5,
     }
 }

@@ -2,11 +2,12 @@
 ghost use Rattle.sfbank.specs.Planned.{outcome_of};
 ghost use Rattle.sfbank.specs.Written.{Runs};
 
-use super::endings::at_either;
+use super::checks::{apart, no_bank};
+use super::endings::end_both_at;
 use crate::edit::{edit_run, neutral_run};
 use command_words::{ApplyPaths, Forms};
 use progress::Progress;
-use sfbank_program::{Fault, OutputFile, RunFault, end_both, read_file};
+use sfbank_program::{Fault, OutputFile, RunFault, read_file};
 use std::alloc::Global;
 use std::io::Write;
 use std::rt::Files;
@@ -18,6 +19,9 @@ pub(crate) fn apply<'a, R: Files + AllocGlobal, P: Progress>(
     paths: ApplyPaths<'a>,
     progress: &mut P,
 ) -> Result<(), Fault<'a>> {
+    apart(rt, paths.out, &[paths.script])?;
+    apart(rt, paths.undo, &[paths.input, paths.script, paths.out])?;
+    no_bank(rt, paths.undo, paths.force)?;
     let file = read_file(rt, paths.input)?;
     let script = read_file(rt, paths.script)?;
     let mut out = OutputFile::new(rt, paths.out)?;
@@ -31,7 +35,7 @@ pub(crate) fn apply<'a, R: Files + AllocGlobal, P: Progress>(
         &mut undo,
         progress,
     );
-    at_either(paths.out, paths.undo, end_both(out, undo, run))
+    end_both_at(paths.out, paths.undo, out, undo, run)
 }
 
 /// The run that takes these forms of edits.

@@ -1,8 +1,8 @@
 //! The command `canon`.
-use super::endings::at;
+use super::endings::end_at;
 use crate::canon::canon_run;
 use command_words::CanonPaths;
-use sfbank_program::{Fault, OutputFile, Which, read_file};
+use sfbank_program::{Fault, OutputFile, read_file};
 use std::rt::Files;
 
 /// Writes a bank in its one spelling. It is read whole first, so the output may be the input.
@@ -13,5 +13,5 @@ pub(crate) fn canon<'a, R: Files + AllocGlobal>(
     let file = read_file(rt, paths.input)?;
     let mut out = OutputFile::new(rt, paths.out)?;
     let run = canon_run(rt.alloc(), file.as_slice(), &mut out);
-    at(paths.out, out.end(Which::Out, run))
+    end_at(paths.out, out, run)
 }

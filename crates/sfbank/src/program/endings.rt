@@ -1,6 +1,7 @@
 //! How a command ends, by how its run did.
 
-use sfbank_program::{Fault, RunFault, Which};
+use sfbank_program::{Fault, OutputFile, RunFault, Which, end_both};
+use std::rt::Files;
 
 /// The end of a run whose output is at a path.
 pub(super) fn at<'a>(path: &'a str, run: Result<(), RunFault>) -> Result<(), Fault<'a>> {
@@ -10,8 +11,36 @@ pub(super) fn at<'a>(path: &'a str, run: Result<(), RunFault>) -> Result<(), Fau
     }
 }
 
+/// The end of a run whose output is a file at a path.
+pub(super) fn end_at<'a, R: Files>(
+    path: &'a str,
+    out: OutputFile<'a, R>,
+    run: Result<(), RunFault>,
+) -> Result<(), Fault<'a>> {
+    let is_unread = out.is_unread();
+    match at(path, out.end(Which::Out, run)) {
+        Ok(()) => Ok(()),
+        Err(fault) => Err(fault.unread_if(is_unread)),
+    }
+}
+
+/// The end of a run whose two outputs are files, each at its path.
+pub(super) fn end_both_at<'a, R: Files>(
+    out_path: &'a str,
+    undo_path: &'a str,
+    out: OutputFile<'a, R>,
+    undo: OutputFile<'a, R>,
+    run: Result<(), RunFault>,
+) -> Result<(), Fault<'a>> {
+    let is_unread = out.is_unread() || undo.is_unread();
+    match at_either(out_path, undo_path, end_both(out, undo, run)) {
+        Ok(()) => Ok(()),
+        Err(fault) => Err(fault.unread_if(is_unread)),
+    }
+}
+
 /// The end of a run with two outputs, each at its path.
-pub(super) fn at_either<'a>(
+fn at_either<'a>(
     out: &'a str,
     undo: &'a str,
     run: Result<(), RunFault>,

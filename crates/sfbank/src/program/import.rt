@@ -1,8 +1,9 @@
 //! The command `import`.
-use super::endings::at_either;
+use super::checks::{apart, no_bank};
+use super::endings::end_both_at;
 use crate::import::import_run;
 use command_words::{ImportPaths, recording_name};
-use sfbank_program::{Fault, OutputFile, end_both, read_file};
+use sfbank_program::{Fault, OutputFile, read_file};
 use std::rt::Files;
 
 /// Adds the recording to the bank, by the name of its file. Both are read whole first, so an output may be one of
@@ -11,6 +12,9 @@ pub(crate) fn import<'a, R: Files + AllocGlobal>(
     rt: &'a R,
     paths: ImportPaths<'a>,
 ) -> Result<(), Fault<'a>> {
+    apart(rt, paths.out, &[paths.wave])?;
+    apart(rt, paths.undo, &[paths.input, paths.wave, paths.out])?;
+    no_bank(rt, paths.undo, paths.force)?;
     let file = read_file(rt, paths.input)?;
     let wave = read_file(rt, paths.wave)?;
     let mut out = OutputFile::new(rt, paths.out)?;
@@ -23,5 +27,5 @@ pub(crate) fn import<'a, R: Files + AllocGlobal>(
         &mut out,
         &mut undo,
     );
-    at_either(paths.out, paths.undo, end_both(out, undo, run))
+    end_both_at(paths.out, paths.undo, out, undo, run)
 }

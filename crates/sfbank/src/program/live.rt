@@ -4,6 +4,7 @@ ghost use Rattle.bank_format.specs.Canon.{canon};
 ghost use Rattle.live_sessions.specs.Saved.{undo_text};
 ghost use Rattle.sfbank.specs.Written.{Delivers};
 
+use super::checks::{apart, no_bank};
 use super::endings::at;
 use crate::deliver::{deliver_bank, deliver_undo};
 use bank_core::Bank;
@@ -12,7 +13,8 @@ use edit_forms::Edit;
 use live_lines::Paths;
 use live_sessions::{LiveFault, SaveFault, Saves, live_run};
 use sfbank_program::{
-    Fault, InputFault, OutputFile, RunFault, STANDARD_OUTPUT, Which, end_both, read_file,
+    Fault, InputFault, OutputCheck, OutputFile, RunFault, STANDARD_OUTPUT, Which, check_apart,
+    check_no_bank, end_both, read_file,
 };
 use std::io::{BufReader, Read, Write};
 use std::rt::Files;
@@ -28,12 +30,14 @@ pub(crate) fn live<'a, R: Files + AllocGlobal, I: Read, O: Write>(
     input: &mut I,
     answers: &mut O,
 ) -> Result<(), Fault<'a>> {
+    apart(rt, paths.pcm, &[paths.input])?;
+    no_bank(rt, paths.pcm, paths.force)?;
     let file = read_file(rt, paths.input)?;
     let Ok(mut lines) = BufReader::new(rt.alloc(), input) else {
         return at(STANDARD_OUTPUT, Err(RunFault::Memory));
     };
-    let mut pcm = OutputFile::in_place(rt, paths.pcm);
-    let mut host = Host { rt };
+    let mut pcm = OutputFile::in_place(rt, paths.pcm)?;
+    let mut host = Host { rt, paths };
     let run = live_run(
         rt.alloc(),
         file.as_slice(),
@@ -65,10 +69,39 @@ fn ended(fault: LiveFault, pcm: &str) -> Fault<'_> {
     }
 }
 
-/// Saves a session's bank to files, as `apply` writes them: UNDO first where a file is replaced.
+/// Saves a session's bank to files, as `apply` writes them: UNDO first where a file is replaced. The paths are
+/// those of the session's bank and of its frames.
 #[derive(Drop)]
 struct Host<'a, R: Files> {
     rt: &'a R,
+    paths: LivePaths<'a>,
+}
+
+impl<R: Files + AllocGlobal> Host<'_, R> {
+    /// Rejects a save that would destroy the session's bank or frames, or a bank by an undo script.
+    fn check(&self, out: &str, undo: &str) -> Result<(), SaveFault> {
+        check_apart(self.rt, out, &[self.paths.pcm]).map_err(out_rejected)?;
+        check_apart(self.rt, undo, &[self.paths.input, self.paths.pcm, out])
+            .map_err(undo_rejected)?;
+        if self.paths.force {
+            return Ok(());
+        }
+        check_no_bank(self.rt, undo).map_err(undo_rejected)
+    }
+}
+
+fn out_rejected(check: OutputCheck) -> SaveFault {
+    match check {
+        OutputCheck::Rejected(fault) => SaveFault::OutRejected(fault),
+        OutputCheck::Memory => SaveFault::Memory,
+    }
+}
+
+fn undo_rejected(check: OutputCheck) -> SaveFault {
+    match check {
+        OutputCheck::Rejected(fault) => SaveFault::UndoRejected(fault),
+        OutputCheck::Memory => SaveFault::Memory,
+    }
 }
 
 impl<R: Files + AllocGlobal> Saves for Host<'_, R> {
@@ -80,6 +113,7 @@ impl<R: Files + AllocGlobal> Saves for Host<'_, R> {
         bank: &Bank<'_>,
         back: &[Edit<'_>],
     ) -> Result<(), SaveFault> {
+        self.check(paths.out.text(), paths.undo.text())?;
         let Ok(mut out) = OutputFile::new(self.rt, paths.out.text()) else {
             return Err(SaveFault::Memory);
         };

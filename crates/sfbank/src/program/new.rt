@@ -1,8 +1,9 @@
 //! The command `new`.
-use super::endings::at;
+use super::checks::no_bank;
+use super::endings::end_at;
 use crate::new::new_run;
 use command_words::NewBank;
-use sfbank_program::{Fault, OutputFile, Which};
+use sfbank_program::{Fault, OutputFile};
 use std::rt::Files;
 
 /// Writes an empty bank.
@@ -10,7 +11,8 @@ pub(crate) fn new<'a, R: Files + AllocGlobal>(
     rt: &'a R,
     bank: NewBank<'a>,
 ) -> Result<(), Fault<'a>> {
+    no_bank(rt, bank.out, bank.force)?;
     let mut out = OutputFile::new(rt, bank.out)?;
     let run = new_run(rt.alloc(), bank.minor, &mut out);
-    at(bank.out, out.end(Which::Out, run))
+    end_at(bank.out, out, run)
 }

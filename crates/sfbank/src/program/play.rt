@@ -1,17 +1,21 @@
 //! The command `play`.
-use super::endings::at;
+use super::checks::{apart, no_bank};
+use super::endings::end_at;
 use crate::play::play_run;
 use command_words::PlayPaths;
 use progress::Progress;
-use sfbank_program::{Fault, OutputFile, Which, read_file};
+use sfbank_program::{Fault, OutputFile, read_file};
 use std::rt::Files;
 
-/// Plays the notes on the bank. Both are read whole first, so the output may be one of them.
+/// Plays the notes on the bank. The bank is read whole first, so the output may be the input.
 pub(crate) fn play<'a, R: Files + AllocGlobal, P: Progress>(
     rt: &'a R,
     paths: PlayPaths<'a>,
     progress: &mut P,
 ) -> Result<(), Fault<'a>> {
+    apart(rt, paths.out, &[paths.notes])?;
+    let is_input = apart(rt, paths.out, &[paths.input]).is_err();
+    no_bank(rt, paths.out, paths.force || is_input)?;
     let file = read_file(rt, paths.input)?;
     let notes = read_file(rt, paths.notes)?;
     let mut out = OutputFile::new(rt, paths.out)?;
@@ -22,5 +26,5 @@ pub(crate) fn play<'a, R: Files + AllocGlobal, P: Progress>(
         &mut out,
         progress,
     );
-    at(paths.out, out.end(Which::Out, run))
+    end_at(paths.out, out, run)
 }

@@ -2,11 +2,12 @@
 ghost use Rattle.std.specs.Prelude.{◌≡◌, if◌then◌else◌};
 ghost use Rattle.bank_text.specs.declared.samples.SamplePoints.TheVariants.{Kept, LeftOut};
 
-use super::endings::at;
+use super::checks::no_bank;
+use super::endings::end_at;
 use crate::script::script_run;
 use bank_text::SamplePoints;
 use command_words::ScriptPaths;
-use sfbank_program::{Fault, OutputFile, Which, read_file};
+use sfbank_program::{Fault, OutputFile, read_file};
 use std::rt::Files;
 
 /// Writes the script that makes a bank. The bank is read whole first, so the output may be the input.
@@ -14,6 +15,7 @@ pub(crate) fn script<'a, R: Files + AllocGlobal>(
     rt: &'a R,
     paths: ScriptPaths<'a>,
 ) -> Result<(), Fault<'a>> {
+    no_bank(rt, paths.out, paths.force)?;
     let file = read_file(rt, paths.input)?;
     let mut out = OutputFile::new(rt, paths.out)?;
     let run = script_run(
@@ -22,7 +24,7 @@ pub(crate) fn script<'a, R: Files + AllocGlobal>(
         points_of(paths.no_points),
         &mut out,
     );
-    at(paths.out, out.end(Which::Out, run))
+    end_at(paths.out, out, run)
 }
 
 fn points_of(left_out: bool) -> SamplePoints

@@ -1,8 +1,9 @@
 //! The command `wave`.
-use super::endings::at;
+use super::checks::no_bank;
+use super::endings::end_at;
 use crate::wave::wave_run;
 use command_words::WavePaths;
-use sfbank_program::{Fault, OutputFile, Which, read_file};
+use sfbank_program::{Fault, OutputFile, read_file};
 use std::rt::Files;
 
 /// Writes a sample of the bank as a WAVE file. The bank is read whole first, so the output may be the input.
@@ -10,8 +11,9 @@ pub(crate) fn wave<'a, R: Files + AllocGlobal>(
     rt: &'a R,
     paths: WavePaths<'a>,
 ) -> Result<(), Fault<'a>> {
+    no_bank(rt, paths.out, paths.force)?;
     let file = read_file(rt, paths.input)?;
     let mut out = OutputFile::new(rt, paths.out)?;
     let run = wave_run(rt.alloc(), file.as_slice(), paths.sample, &mut out);
-    at(paths.out, out.end(Which::Out, run))
+    end_at(paths.out, out, run)
 }

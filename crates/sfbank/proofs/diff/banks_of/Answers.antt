@@ -5,12 +5,10 @@ use Rattle.sfbank.specs.Differences.{both}
 use Rattle.sfbank.proofs.Differences.{first_not_read, second_not_read, pair_read, other_versions, one_version}
 use Rattle.sfbank.proofs.diff.banks_of.Goals as goal
 
-pub returns-in_err-from : goal.returns-in_err-from
-returns-in_err-from c =
-    let p = err_from_is_err_and c.from_residual.result c.from_residual.ensures.1 in
-    rw (p.1, p.2)
-    (first_not_read (Parts × Parts) both c.in_err-from.field-0.0 c.args.first.now c.args.second.now
-    c.in_err-from.ensures.err)
+pub returns-in-Err : goal.returns-in-Err
+returns-in-Err c =
+    rw c.of_first.ensures
+    (first_not_read (Parts × Parts) both c.in-Err.failure c.args.first.now c.args.second.now c.in-Err.ensures.err)
 
 pub returns-in-Err : goal.returns-in-Err
 returns-in-Err c =

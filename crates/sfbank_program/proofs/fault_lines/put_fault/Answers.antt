@@ -5,6 +5,10 @@ pub returns-in-Read : goal.returns-in-Read
 unfolding fault_line
 returns-in-Read g c = rw c.in-Read.is c.put_read_fault.ensures
 
+pub returns-in-ReadFirst : goal.returns-in-ReadFirst
+unfolding fault_line
+returns-in-ReadFirst g c = rw c.in-ReadFirst.is c.put_first_read_fault.ensures
+
 pub returns-in-ReadSecond : goal.returns-in-ReadSecond
 unfolding fault_line
 returns-in-ReadSecond g c = rw c.in-ReadSecond.is c.put_second_read_fault.ensures

@@ -12,6 +12,10 @@ pub returns-in-File-clause-told : goal.returns-in-File-clause-told
 returns-in-File-clause-told g c =
     rw c.in-File.is (written_goes_out _ _ _ _ c.file_fault_text.ensures)
 
+pub returns-in-Output-clause-told : goal.returns-in-Output-clause-told
+returns-in-Output-clause-told g c =
+    rw c.in-Output.is (written_goes_out _ _ _ _ c.output_fault_text.ensures)
+
 pub returns-in-Run-clause-told : goal.returns-in-Run-clause-told
 returns-in-Run-clause-told g c =
     rw c.in-Run.is (written_goes_out _ _ _ _ c.fault_text.ensures.line)

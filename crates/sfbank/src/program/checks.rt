@@ -1,0 +1,31 @@
+//! Outputs that are rejected before anything is read.
+
+use sfbank_program::{Fault, check_apart, check_no_bank};
+use std::rt::Files;
+
+/// Rejects an output that is one file with one of the others.
+pub(super) fn apart<'a, R: Files + AllocGlobal>(
+    rt: &R,
+    output: &'a str,
+    others: &[&str],
+) -> Result<(), Fault<'a>> {
+    match check_apart(rt, output, others) {
+        Ok(()) => Ok(()),
+        Err(check) => Err(check.at(output)),
+    }
+}
+
+/// Rejects an output that would replace a bank, unless that is forced.
+pub(super) fn no_bank<'a, R: Files + AllocGlobal>(
+    rt: &R,
+    output: &'a str,
+    force: bool,
+) -> Result<(), Fault<'a>> {
+    if force {
+        return Ok(());
+    }
+    match check_no_bank(rt, output) {
+        Ok(()) => Ok(()),
+        Err(check) => Err(check.at(output)),
+    }
+}

@@ -1,0 +1,123 @@
+//! Outputs that would destroy what is there, which are rejected before anything is read.
+ghost use Rattle.std.specs.Prelude.{◌≡◌, IfErr};
+
+use crate::fault::Fault;
+use crate::run_fault::RunFault;
+use crate::target::{Target, folder_of, name_of, target_of};
+use outputs::OutputFault;
+use sf_base::OutOfMemory;
+use std::alloc::AllocError;
+use std::fs;
+use std::fs::File;
+use std::io::Read;
+use std::os::unix::fs::MetadataExt;
+use std::rt::Files;
+
+/// The bits of a file's mode that name its type, and those of a device without a place of its own for what is
+/// written, such as /dev/null or a terminal.
+const TYPE_BITS: u32 = 0o170000;
+
+const CHARACTER_DEVICE: u32 = 0o020000;
+
+/// The bytes by which a file begins as a bank: `RIFF`, a length of four bytes, `sfbk`.
+const HEAD: usize = 12;
+
+/// Why a check of outputs has no answer, or has found a fault.
+#[derive(Clone, Copy, Debug, PartialEq, Eq)]
+pub enum OutputCheck {
+    Rejected(OutputFault),
+    Memory,
+}
+
+impl From<AllocError> for OutputCheck {
+    fn from(_error: AllocError) -> OutputCheck {
+        OutputCheck::Memory
+    }
+}
+
+impl OutputCheck {
+    /// The fault of a run with this output.
+    pub fn at(self, path: &str) -> Fault<'_> {
+        match self {
+            OutputCheck::Rejected(fault) => Fault::Output(fault, path),
+            OutputCheck::Memory => Fault::Run(RunFault::Memory, path),
+        }
+    }
+}
+
+/// Rejects an output that is one file with one of the others, by whatever paths: through links, as hard links, or
+/// as a new file of one folder. Devices such as /dev/null are apart.
+pub fn check_apart<R: Files + AllocGlobal>(
+    rt: &R,
+    output: &str,
+    others: &[&str],
+) -> Result<(), OutputCheck> {
+    for other in others {
+        if is_one_file(rt, output, other)? {
+            return Err(OutputCheck::Rejected(OutputFault::SameFile));
+        }
+    }
+    Ok(())
+}
+
+/// Rejects an output at a regular file that begins as a bank.
+pub fn check_no_bank<R: Files + AllocGlobal>(rt: &R, output: &str) -> Result<(), OutputCheck> {
+    let Target::Regular(path) = target_of(rt, output)? else {
+        return Ok(());
+    };
+    if begins_as_bank(rt, path.as_str()) {
+        return Err(OutputCheck::Rejected(OutputFault::HoldsBank));
+    }
+    Ok(())
+}
+
+fn is_one_file<R: Files + AllocGlobal>(rt: &R, one: &str, other: &str) -> Result<bool, AllocError> {
+    match (place_of(rt, one), place_of(rt, other)) {
+        (Some(one), Some(other)) => Ok(one == other && !one.is_character_device),
+        (None, None) => is_one_new_file(rt, one, other),
+        _ => Ok(false),
+    }
+}
+
+/// Whether two paths at which nothing is yet are one name in one folder, behind links.
+fn is_one_new_file<R: Files + AllocGlobal>(
+    rt: &R,
+    one: &str,
+    other: &str,
+) -> Result<bool, AllocError> {
+    match (target_of(rt, one)?, target_of(rt, other)?) {
+        (Target::Nothing(one), Target::Nothing(other)) => {
+            let (one, other) = (one.as_str(), other.as_str());
+            let folders = (place_of(rt, folder_of(one)), place_of(rt, folder_of(other)));
+            Ok(name_of(one) == name_of(other) && folders.0 == folders.1)
+        }
+        _ => Ok(false),
+    }
+}
+
+/// Where a file is, by which it is known under each of its names.
+#[derive(Clone, Copy, PartialEq, Eq)]
+struct FilePlace {
+    device: u64,
+    number: u64,
+    is_character_device: bool,
+}
+
+fn place_of<R: Files>(rt: &R, path: &str) -> Option<FilePlace> {
+    match fs::metadata(rt, path) {
+        Ok(found) => Some(FilePlace {
+            device: found.dev(),
+            number: found.ino(),
+            is_character_device: found.mode() & TYPE_BITS == CHARACTER_DEVICE,
+        }),
+        Err(_) => None,
+    }
+}
+
+fn begins_as_bank<R: Files>(rt: &R, path: &str) -> bool {
+    let Ok(mut file) = File::open(rt, path) else {
+        return false;
+    };
+    let mut head = [0; HEAD];
+    file.read_exact(&mut head).is_ok() && head.starts_with(b"RIFF") && head.ends_with(b"sfbk")
+}

@@ -1,0 +1,56 @@
+//! The standard output, whose reader may close it early.
+ghost use Rattle.std.specs.Prelude.{◌≡◌, None};
+ghost use Rattle.std.specs.Io.{WritesAtMost};
+ghost use Rattle.std.specs.Io.KnownBytes.{WriteAppends, Keeps};
+
+use std::io;
+use std::io::{ErrorKind, Write};
+
+/// A writer that notices when nothing reads the other end of its pipe any more.
+#[derive(Drop)]
+pub struct Watched<'a, O: Write> {
+    output: &'a mut O,
+    is_unread: bool,
+}
+
+impl<'a, O: Write> Watched<'a, O> {
+    /// A writer that passes everything on to the output.
+    pub fn new(output: &'a mut O) -> Watched<'a, O> {
+        Watched {
+            output,
+            is_unread: false,
+        }
+    }
+
+    /// Whether a write or a flush failed for that reason.
+    pub fn is_unread(&self) -> bool {
+        self.is_unread
+    }
+}
+
+impl<O: Write> Write for Watched<'_, O> {
+    fn write(&mut self, bytes: &[u8]) -> io::Result<usize>
+        ensures bound { WritesAtMost result bytes.now }
+        ensures bytes { WriteAppends None None result bytes.now }
+    {
+        let result = self.output.write(bytes);
+        self.is_unread = is_broken_pipe(&result);
+        result
+    }
+
+    fn flush(&mut self) -> io::Result<()>
+        ensures { Keeps None None }
+    {
+        let result = self.output.flush();
+        self.is_unread = is_broken_pipe(&result);
+        result
+    }
+}
+
+/// Whether a call failed since nothing reads the other end of a pipe any more.
+pub(crate) fn is_broken_pipe<T>(answer: &io::Result<T>) -> bool {
+    match answer {
+        Ok(_) => false,
+        Err(error) => error.kind() == ErrorKind::BrokenPipe,
+    }
+}
