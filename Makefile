@@ -24,6 +24,7 @@ bench: build
 	@scripts/bench
 
 clean:
+	@scripts/build --clean
 	rm -rf build crates/*/out
 
 install: $(PROGRAM)

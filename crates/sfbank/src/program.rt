@@ -110,17 +110,17 @@ fn serve<'a, R: Files + AllocGlobal, S: AsStr, I: Read, O: Write, P: Progress>(
 ) -> Result<(), Fault<'a>> {
     match request_of(rt.alloc(), words) {
         Ok(Request::Apply(paths)) => apply(rt, paths, progress),
-        Ok(Request::Canon(paths)) => canon(rt, paths),
-        Ok(Request::Diff(paths)) => diff(rt, paths),
+        Ok(Request::Canon(paths)) => canon(rt, paths, output),
+        Ok(Request::Diff(paths)) => diff(rt, paths, output),
         Ok(Request::Explain(number)) => explain(number, output),
         Ok(Request::Import(paths)) => import(rt, paths),
         Ok(Request::Live(paths)) => live(rt, paths, input, output),
-        Ok(Request::Map(paths)) => map(rt, paths),
-        Ok(Request::New(bank)) => new(rt, bank),
-        Ok(Request::Play(paths)) => play(rt, paths, progress),
-        Ok(Request::Script(paths)) => script(rt, paths),
+        Ok(Request::Map(paths)) => map(rt, paths, output),
+        Ok(Request::New(bank)) => new(rt, bank, output),
+        Ok(Request::Play(paths)) => play(rt, paths, output, progress),
+        Ok(Request::Script(paths)) => script(rt, paths, output),
         Ok(Request::Show(paths)) => show(rt, paths, output),
-        Ok(Request::Wave(paths)) => wave(rt, paths),
+        Ok(Request::Wave(paths)) => wave(rt, paths, output),
         Err(error) => answer(rt.alloc(), error, output),
     }
 }

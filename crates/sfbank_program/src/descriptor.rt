@@ -1,52 +1,96 @@
-//! An open descriptor, which is written where it stands.
-ghost use Rattle.std.specs.Prelude.{◌≡◌, None};
-ghost use Rattle.std.specs.Io.{WritesAtMost};
-ghost use Rattle.std.specs.Io.KnownBytes.{WriteAppends, Keeps};
+//! A descriptor that the program was started with, which is written where it stands.
 
+use itoa::Buffer;
+use std::alloc::AllocError;
+use std::fs::{File, OpenFile, OpenOptions};
 use std::io;
-use std::io::{ErrorKind, Write};
+use std::io::{ErrorKind, Read, Seek, SeekFrom};
+use std::rt::Files;
 
-/// A descriptor that the program was started with, such as its standard output. Writing goes on where the
-/// descriptor stands, or at the end of its file if it appends; the file is neither emptied nor closed.
-#[derive(Clone, Copy)]
+/// The most bytes of what the system reports of a descriptor in its first lines.
+const INFO_LENGTH: usize = 256;
+
+/// The most bytes of the path of that report.
+const INFO_PATH_ROOM: usize = 32;
+
+/// The flag of a descriptor that appends.
+const APPENDS: u64 = 0o2000;
+
+/// A descriptor by its number.
+#[derive(Drop)]
 pub(crate) struct Descriptor {
     number: i32,
+    /// Room for the path of what the system reports of it.
+    info_path: String,
 }
 
 impl Descriptor {
-    /// The descriptor of a number.
-    pub(crate) fn new(number: i32) -> Descriptor {
-        Descriptor { number }
+    /// The descriptor of a number, with all memory that opening it needs.
+    pub(crate) fn new<R: AllocGlobal>(rt: &R, number: i32) -> Result<Descriptor, AllocError> {
+        Ok(Descriptor {
+            number,
+            info_path: String::with_capacity(rt.alloc(), INFO_PATH_ROOM)?,
+        })
     }
-}
 
-impl Write for Descriptor {
-    fn write(&mut self, bytes: &[u8]) -> io::Result<usize>
-        ensures bound { WritesAtMost result bytes.now }
-        ensures bytes { WriteAppends None None result bytes.now }
-    {
-        for _ in 0..u64::MAX {
-            match write_once(self.number, bytes) {
-                Err(error) if error.kind() == ErrorKind::Interrupted => {}
-                result => return result,
+    /// Opens once more what the descriptor has open, by a path that leads to it. A regular file is neither emptied nor
+    /// written from its start: writing goes on where the descriptor stands, or at the file's end if it appends.
+    pub(crate) fn open<R: Files>(&mut self, rt: &R, path: &str) -> io::Result<R::File> {
+        if !is_regular(rt, path)? {
+            return OpenOptions::new().write(true).open(rt, path);
+        }
+        match self.standing(rt)? {
+            Standing::AtEnd => OpenOptions::new().append(true).open(rt, path),
+            Standing::At(position) => {
+                let mut file = OpenOptions::new().write(true).open(rt, path)?;
+                file.seek(SeekFrom::Start(position))?;
+                Ok(file)
             }
         }
-        Err(io::Error::from(ErrorKind::Interrupted))
     }
 
-    fn flush(&mut self) -> io::Result<()>
-        ensures { Keeps None None }
-    {
-        Ok(())
+    fn standing<R: Files>(&mut self, rt: &R) -> io::Result<Standing> {
+        set_info_path(&mut self.info_path, self.number)?;
+        let mut info = [0; INFO_LENGTH];
+        let length = File::open(rt, self.info_path.as_str())?.read(&mut info)?;
+        match standing_in(&info[..length.min(INFO_LENGTH)]) {
+            Some(standing) => Ok(standing),
+            None => Err(io::Error::from(ErrorKind::InvalidData)),
+        }
     }
 }
 
-fn write_once(number: i32, bytes: &[u8]) -> io::Result<usize>
-    ensures { WritesAtMost result bytes.now }
-{
-    let count = os::writev(number, [bytes, &[], &[], &[]]);
-    if count < 0 {
-        return Err(io::Error::from_raw_os_error(os::errno()));
+fn is_regular<R: Files>(rt: &R, path: &str) -> io::Result<bool> {
+    Ok(std::fs::metadata(rt, path)?.is_file())
+}
+
+/// Where the next bytes of a descriptor go.
+#[derive(Clone, Copy)]
+enum Standing {
+    AtEnd,
+    At(u64),
+}
+
+/// Makes the path of what the system reports of a descriptor, in room that the text has.
+fn set_info_path(info_path: &mut String, number: i32) -> Result<(), AllocError> {
+    let mut digits = Buffer::new();
+    info_path.clear();
+    info_path.push_str("/proc/self/fdinfo/")?;
+    info_path.push_str(digits.format(number))
+}
+
+/// Reads the lines `pos:` and `flags:`, the second in octal digits.
+fn standing_in(info: &[u8]) -> Option<Standing> {
+    let text = std::str::from_utf8(info).ok()?;
+    let flags = u64::from_str_radix(value_of(text, "flags:")?, 8).ok()?;
+    if flags & APPENDS != 0 {
+        return Some(Standing::AtEnd);
     }
-    Ok(bytes.len().min(count as usize))
+    let position = value_of(text, "pos:")?.parse::<u64>().ok()?;
+    Some(Standing::At(position))
+}
+
+fn value_of<'t>(text: &'t str, name: &str) -> Option<&'t str> {
+    let line = text.lines().find(|line| line.starts_with(name))?;
+    Some(line.strip_prefix(name)?.trim())
 }

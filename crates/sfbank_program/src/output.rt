@@ -25,7 +25,7 @@ pub struct OutputFile<'a, R: Files> {
     rt: &'a R,
     path: &'a str,
     place: Place,
-    file: Option<Opened<R::File>>,
+    file: Option<R::File>,
     /// The bytes that the file accepted.
     written: u64,
     /// Whether a write failed since nothing reads the other end of a pipe any more.
@@ -47,13 +47,6 @@ enum Place {
     Emptied,
 }
 
-/// An open output.
-#[derive(Drop)]
-enum Opened<F: Write + OpenFile + Drop> {
-    File(F),
-    Descriptor(Descriptor),
-}
-
 impl<'a, R: Files + AllocGlobal> OutputFile<'a, R> {
     /// The output at a path, or out of memory. Nothing is created yet.
     pub fn new(rt: &'a R, path: &'a str) -> Result<OutputFile<'a, R>, AllocError>
@@ -64,7 +57,7 @@ impl<'a, R: Files + AllocGlobal> OutputFile<'a, R> {
         let place = match target_of(rt, path)? {
             Target::Regular(there) => Place::Replacement(Replacement::of(rt, there)?),
             Target::Nothing(path) => Place::New(path),
-            Target::Descriptor(number) => Place::Descriptor(Descriptor::new(number)),
+            Target::Descriptor(number) => Place::Descriptor(Descriptor::new(rt, number)?),
             Target::Other => Place::Existing,
         };
         Ok(OutputFile::closed(rt, path, place))
@@ -78,7 +71,7 @@ impl<'a, R: Files + AllocGlobal> OutputFile<'a, R> {
         ensures count { IfOk result (λ output. output.written ≡ 0) }
     {
         let place = match target_of(rt, path)? {
-            Target::Descriptor(number) => Place::Descriptor(Descriptor::new(number)),
+            Target::Descriptor(number) => Place::Descriptor(Descriptor::new(rt, number)?),
             _ => Place::Emptied,
         };
         Ok(OutputFile::closed(rt, path, place))
@@ -159,7 +152,7 @@ impl<R: Files> OutputFile<'_, R> {
 
     /// Syncs what is written so far, where that is kept at all: a device or a pipe has nothing to sync.
     pub(crate) fn sync(&self) -> io::Result<()> {
-        let Some(Opened::File(file)) = &self.file else {
+        let Some(file) = &self.file else {
             return Ok(());
         };
         match file.sync_all() {
@@ -229,18 +222,18 @@ impl<R: Files> OutputFile<'_, R> {
     }
 
     /// The file that accepts what is written, which is created where it is not open yet.
-    fn opened(&mut self) -> io::Result<Opened<R::File>>
+    fn opened(&mut self) -> io::Result<R::File>
         ensures { self.new.written ≡ self.old.written }
     {
         if let Some(file) = self.file.take() {
             return Ok(file);
         }
         match &mut self.place {
-            Place::Replacement(replacement) => Ok(Opened::File(replacement.open(self.rt)?)),
-            Place::New(path) => Ok(Opened::File(File::create_new(self.rt, path.as_str())?)),
-            Place::Descriptor(descriptor) => Ok(Opened::Descriptor(*descriptor)),
-            Place::Existing => Ok(Opened::File(open_existing(self.rt, self.path)?)),
-            Place::Emptied => Ok(Opened::File(File::create(self.rt, self.path)?)),
+            Place::Replacement(replacement) => replacement.open(self.rt),
+            Place::New(path) => File::create_new(self.rt, path.as_str()),
+            Place::Descriptor(descriptor) => descriptor.open(self.rt, self.path),
+            Place::Existing => open_existing(self.rt, self.path),
+            Place::Emptied => File::create(self.rt, self.path),
         }
     }
 }
@@ -252,24 +245,6 @@ fn open_existing<R: Files>(rt: &R, path: &str) -> io::Result<R::File> {
         return Err(io::Error::from(ErrorKind::Unsupported));
     }
     Ok(file)
-}
-
-impl<F: Write + OpenFile + Drop> Opened<F> {
-    fn write(&mut self, bytes: &[u8]) -> io::Result<usize>
-        ensures { WritesAtMost result bytes.now }
-    {
-        match self {
-            Opened::File(file) => file.write(bytes),
-            Opened::Descriptor(descriptor) => descriptor.write(bytes),
-        }
-    }
-
-    fn flush(&mut self) -> io::Result<()> {
-        match self {
-            Opened::File(file) => file.flush(),
-            Opened::Descriptor(descriptor) => descriptor.flush(),
-        }
-    }
 }
 
 impl<R: Files> Write for OutputFile<'_, R> {

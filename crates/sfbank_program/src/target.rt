@@ -8,6 +8,9 @@ use std::rt::Files;
 /// The most links that are followed, as many as Linux follows.
 const MOST_LINKS: usize = 40;
 
+/// The descriptor of the standard output.
+pub(crate) const STANDARD_OUTPUT: i32 = 1;
+
 /// The folder of the descriptors that the program was started with.
 const OWN_DESCRIPTORS: &str = "/proc/self/fd";
 

@@ -2,16 +2,18 @@
 use super::endings::end_at;
 use crate::canon::canon_run;
 use command_words::CanonPaths;
-use sfbank_program::{Fault, OutputFile, read_file};
+use sfbank_program::{Fault, Sink, read_file};
+use std::io::Write;
 use std::rt::Files;
 
 /// Writes a bank in its one spelling. It is read whole first, so the output may be the input.
-pub(crate) fn canon<'a, R: Files + AllocGlobal>(
+pub(crate) fn canon<'a, R: Files + AllocGlobal, O: Write>(
     rt: &'a R,
     paths: CanonPaths<'a>,
+    output: &mut O,
 ) -> Result<(), Fault<'a>> {
     let file = read_file(rt, paths.input)?;
-    let mut out = OutputFile::new(rt, paths.out)?;
+    let mut out = Sink::new(rt, paths.out, output)?;
     let run = canon_run(rt.alloc(), file.as_slice(), &mut out);
     end_at(paths.out, out, run)
 }

@@ -3,19 +3,21 @@ use super::checks::no_bank;
 use super::endings::end_at;
 use crate::diff::diff_run;
 use command_words::DiffPaths;
-use sfbank_program::{Fault, OutputFile, read_file};
+use sfbank_program::{Fault, Sink, read_file};
+use std::io::Write;
 use std::rt::Files;
 
 /// Writes a script that makes the second bank of the first. Both are read whole first, so the output may
 /// be one of them.
-pub(crate) fn diff<'a, R: Files + AllocGlobal>(
+pub(crate) fn diff<'a, R: Files + AllocGlobal, O: Write>(
     rt: &'a R,
     paths: DiffPaths<'a>,
+    output: &mut O,
 ) -> Result<(), Fault<'a>> {
     no_bank(rt, paths.out, paths.force)?;
     let first = read_file(rt, paths.first)?;
     let second = read_file(rt, paths.second)?;
-    let mut out = OutputFile::new(rt, paths.out)?;
+    let mut out = Sink::new(rt, paths.out, output)?;
     let run = diff_run(rt.alloc(), first.as_slice(), second.as_slice(), &mut out);
     end_at(paths.out, out, run)
 }

@@ -1,6 +1,7 @@
 //! How a command ends, by how its run did.
 
-use sfbank_program::{Fault, OutputFile, RunFault, Which, end_both};
+use sfbank_program::{Fault, OutputFile, RunFault, Sink, Which, end_both};
+use std::io::Write;
 use std::rt::Files;
 
 /// The end of a run whose output is at a path.
@@ -11,14 +12,14 @@ pub(super) fn at<'a>(path: &'a str, run: Result<(), RunFault>) -> Result<(), Fau
     }
 }
 
-/// The end of a run whose output is a file at a path.
-pub(super) fn end_at<'a, R: Files>(
+/// The end of a run whose one output is at a path.
+pub(super) fn end_at<'a, R: Files, O: Write>(
     path: &'a str,
-    out: OutputFile<'a, R>,
+    out: Sink<'a, '_, R, O>,
     run: Result<(), RunFault>,
 ) -> Result<(), Fault<'a>> {
     let is_unread = out.is_unread();
-    match at(path, out.end(Which::Out, run)) {
+    match at(path, out.end(run)) {
         Ok(()) => Ok(()),
         Err(fault) => Err(fault.unread_if(is_unread)),
     }
@@ -40,11 +41,7 @@ pub(super) fn end_both_at<'a, R: Files>(
 }
 
 /// The end of a run with two outputs, each at its path.
-fn at_either<'a>(
-    out: &'a str,
-    undo: &'a str,
-    run: Result<(), RunFault>,
-) -> Result<(), Fault<'a>> {
+fn at_either<'a>(out: &'a str, undo: &'a str, run: Result<(), RunFault>) -> Result<(), Fault<'a>> {
     match run {
         Err(RunFault::Write(Which::Undo, written)) => {
             at(undo, Err(RunFault::Write(Which::Undo, written)))

@@ -81,8 +81,9 @@ impl<R: Files + AllocGlobal> Host<'_, R> {
     /// Rejects a save that would destroy the session's bank or frames, or a bank by an undo script.
     fn check(&self, out: &str, undo: &str) -> Result<(), SaveFault> {
         check_apart(self.rt, out, &[self.paths.pcm]).map_err(out_rejected)?;
-        check_apart(self.rt, undo, &[self.paths.input, self.paths.pcm, out])
-            .map_err(undo_rejected)?;
+        check_apart(self.rt, undo, &[self.paths.input, self.paths.pcm, out]).map_err(
+            undo_rejected,
+        )?;
         if self.paths.force {
             return Ok(());
         }

@@ -4,13 +4,15 @@ use super::endings::end_at;
 use crate::play::play_run;
 use command_words::PlayPaths;
 use progress::Progress;
-use sfbank_program::{Fault, OutputFile, read_file};
+use sfbank_program::{Fault, Sink, read_file};
+use std::io::Write;
 use std::rt::Files;
 
 /// Plays the notes on the bank. The bank is read whole first, so the output may be the input.
-pub(crate) fn play<'a, R: Files + AllocGlobal, P: Progress>(
+pub(crate) fn play<'a, R: Files + AllocGlobal, O: Write, P: Progress>(
     rt: &'a R,
     paths: PlayPaths<'a>,
+    output: &mut O,
     progress: &mut P,
 ) -> Result<(), Fault<'a>> {
     apart(rt, paths.out, &[paths.notes])?;
@@ -18,7 +20,7 @@ pub(crate) fn play<'a, R: Files + AllocGlobal, P: Progress>(
     no_bank(rt, paths.out, paths.force || is_input)?;
     let file = read_file(rt, paths.input)?;
     let notes = read_file(rt, paths.notes)?;
-    let mut out = OutputFile::new(rt, paths.out)?;
+    let mut out = Sink::new(rt, paths.out, output)?;
     let run = play_run(
         rt.alloc(),
         file.as_slice(),

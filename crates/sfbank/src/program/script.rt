@@ -7,17 +7,19 @@ use super::endings::end_at;
 use crate::script::script_run;
 use bank_text::SamplePoints;
 use command_words::ScriptPaths;
-use sfbank_program::{Fault, OutputFile, read_file};
+use sfbank_program::{Fault, Sink, read_file};
+use std::io::Write;
 use std::rt::Files;
 
 /// Writes the script that makes a bank. The bank is read whole first, so the output may be the input.
-pub(crate) fn script<'a, R: Files + AllocGlobal>(
+pub(crate) fn script<'a, R: Files + AllocGlobal, O: Write>(
     rt: &'a R,
     paths: ScriptPaths<'a>,
+    output: &mut O,
 ) -> Result<(), Fault<'a>> {
     no_bank(rt, paths.out, paths.force)?;
     let file = read_file(rt, paths.input)?;
-    let mut out = OutputFile::new(rt, paths.out)?;
+    let mut out = Sink::new(rt, paths.out, output)?;
     let run = script_run(
         rt.alloc(),
         file.as_slice(),
