@@ -98,7 +98,7 @@ my @shells = (
     ['"$0" canon saw no/out', 5, 'no/out', '[ ! -e no ]'],
     ['"$0" canon saw folder', 5, 'folder', '[ -d folder ]'],
     ['"$0" show tone >&-', 5, '-', 'true'],
-    ['{ sleep 0.2; "$0" show tone; echo $? > status; } | true; exit $(cat status)', 5, '-', 'true'],
+    ['{ sleep 0.2; "$0" show tone; echo $? > status; } | true; exit $(cat status)', 5, undef, 'true'],
     ['"$0" canon saw out <&- >&- 2>&-', 0, undef, 'cmp -s out saw'],
     ['"$0" apply saw rename out /dev/full 2>&-', 5, undef, '[ "$(wc -c < out)" = 450 ]'],
     ['"$0" canon saw /dev/full 2> /dev/full', 5, undef, 'true'],

@@ -56,7 +56,7 @@ sub try_differences {
         my ($from, $edits, $expected) = @$_;
         tell_text("diff $from, " . ($edits || 'nothing'), wrong_of_row($from, $edits, $expected));
     }
-    my $over = done(canon('wide', 'over')) // done(run_over('diff', 'tone', 'over', 'over')) // done(diff('tone', 'wide', 'difference'));
+    my $over = done(canon('wide', 'over')) // done(run_over('diff', '--force', 'tone', 'over', 'over')) // done(diff('tone', 'wide', 'difference'));
     tell_text('a difference over a bank', $over // (same('over', 'difference') ? undef : 'another text'));
 }
 

@@ -80,7 +80,7 @@ sub try_text {
     }
     tell_text("canon $bank", done(canon($bank, 'canonical')));
     tell_text("$bank is made of its text", remade($bank, 'canonical') // undone('from'));
-    my $over = done(canon($bank, 'over')) // done(run_over('script', 'over', 'over')) // done(script($bank, 'text'));
+    my $over = done(canon($bank, 'over')) // done(run_over('script', '--force', 'over', 'over')) // done(script($bank, 'text'));
     tell_text("script of $bank over it", $over // (same('over', 'text') ? undef : 'another text'));
 }
 
