@@ -3,11 +3,12 @@
 # The options of a command, or of the program where none is given.
 _sfbank_options() {
   case $1 in
-    apply) echo --neutral --help ;;
-    new) echo --minor --help ;;
-    script) echo --no-points --help ;;
+    apply) echo --force --neutral --help ;;
+    diff | import | live | map | play | wave) echo --force --help ;;
+    new) echo --force --minor --help ;;
+    script) echo --force --no-points --help ;;
     show) echo --zones --uses --help ;;
-    canon | diff | explain | import | live | map | play | wave) echo --help ;;
+    canon | explain) echo --help ;;
     '') echo --help --version ;;
   esac
 }
