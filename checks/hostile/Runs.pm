@@ -84,7 +84,7 @@ sub status_of {
     return 4 if $line =~ /^sfbank: line [1-9]\d*: refused 50 NotNeutral\n\z/;
     return is_cause($1) ? 4 : undef if $line =~ /^sfbank: refused (\d+ NoSuch\w+)\n\z/;
     return is_cause($1) ? 4 : undef if $line =~ /^sfbank: line [1-9]\d*: refused (?:48 GroupRefused \d+ )?(.*)\n\z/;
-    return 5 if $line =~ /^sfbank: (?:file fault [^\n]*|write fault [^\n]* after \d+ bytes)\n\z/;
+    return 5 if $line =~ /^sfbank: (?:file fault [^\n]*|write fault [^\n]* after \d+ bytes|output fault 6[45] \w+ [^\n]*)\n\z/;
     return;
 }
 
