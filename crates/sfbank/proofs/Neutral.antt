@@ -1,6 +1,7 @@
 -- Runs of neutral edits.
 use Rattle.std.proofs.Common.{◌≡◌, ℕ, Bool, true, false, List, [], ◌∷◌, Option, Some, None, Result, Ok, Err, refl}
-use Rattle.std.proofs.Common.{sym, ap, ◌∙◌}
+use Rattle.std.proofs.Common.{suc, sym, ap, subst, ◌∙◌, ◌++◌}
+use Rattle.std.specs.List.{AllByRecursion}
 use Rattle.bank_parts.specs.declared.parts.Parts.{Parts}
 use Rattle.bank_parts.specs.Sound.{IsSound}
 use Rattle.hydra_records.specs.Records.{AreBytes}
@@ -10,25 +11,30 @@ use Rattle.bank_format.specs.ReadSteps.{fault_of}
 use Rattle.bank_format.proofs.RoundTrip.{reads-again}
 use Rattle.bank_format.proofs.ReadValid.{read_valid, read_fits}
 use Rattle.edit_refusals.specs.Edits.{raw}
-use Rattle.bank_edits.specs.Runs.{AllTaken, after_all}
+use Rattle.edit_forms.specs.declared.edit.Edit.{Edit}
+use Rattle.bank_edits.specs.EditChanges.{inverse}
+use Rattle.bank_edits.specs.Runs.{AllTaken, after_all, undo_list}
 use Rattle.bank_edits.proofs.Law.{undone}
 use Rattle.bank_edits.proofs.RunLaw.{all_undone}
 use Rattle.line_tokens.specs.declared.fault.ScriptFault.{ScriptFault}
 use Rattle.edit_script.specs.declared.parsing.Line.{Line}
 use Rattle.edit_script.specs.Script.{script_of}
+use Rattle.edit_script.specs.Printing.{numbered}
 use Rattle.edit_script.proofs.FitLaws.{script_fits}
+use Rattle.edit_script.proofs.LineLaws.{printed_spell}
 use Rattle.note_list.specs.declared.fault.NoteFault.{NoteFault}
 use Rattle.note_list.specs.Notes.{Numbers, notes_of}
 use Rattle.mixer.specs.Render.{render}
 use Rattle.neutral_edits.specs.Neutral.{is_neutral}
 use Rattle.neutral_edits.proofs.EventLaws.{neutral_render}
+use Rattle.neutral_edits.proofs.UndoneLaws.{neutral_back}
 use Rattle.wave_file.specs.Wave.{wave}
 use Rattle.command_words.specs.declared.words.Forms.TheVariants.{Every, Neutral}
 use Rattle.sfbank.specs.Outcome.{Done, edits_of, unless_neutral, first_not_neutral, if_neutral, after_script}
 use Rattle.sfbank.specs.Outcome.{after_neutral_script, after_reading, bank_in, outcome, neutral_outcome, after_notes}
-use Rattle.sfbank.specs.Outcome.{play_outcome, IsNeutrallyUndone, SoundsTheSame}
+use Rattle.sfbank.specs.Outcome.{play_outcome, IsNeutrallyUndone, IsRunOfEdits, SoundsTheSame}
 use Rattle.sfbank.specs.Planned.{outcome_of}
-use Rattle.sfbank.proofs.Restores.{reading_done, all_taken, script_done, restores}
+use Rattle.sfbank.proofs.Restores.{reading_done, all_taken, all_fit, script_done, restores}
 use Rattle.sfbank.proofs.Sounds.{played_on}
 
 -- ---- what a run comes to, by the forms that it takes
@@ -78,16 +84,76 @@ as_every file script done h =
     ap (λ (o : Option ReadFault). after_reading o (after_script (bank_in file) (script_of script))) d.read
     ∙ d.of_script.comes_to
 
-pub neutrally_restores : (file script : List ℕ) → AreBytes file → IsNeutrallyUndone file script
-neutrally_restores file script bytes done lines h spelled =
-    restores file script bytes done lines (as_every file script done h) spelled
+pub runs_edits : (file script : List ℕ) → IsRunOfEdits file script
+runs_edits file script done h = as_every file script done h
 
--- ---- the sound
+-- and back, where all lines are neutral
+as_neutral : (file script : List ℕ) (done : Done) (lines : List Line) → outcome file script ≡ Ok done
+    → script_of script ≡ Ok lines → first_not_neutral lines ≡ None → neutral_outcome file script ≡ Ok done
+unfolding outcome neutral_outcome
+as_neutral file script done lines h spelled neutral =
+    let b = bank_in file in
+    let read = reading_done (fault_of file) (after_script b (script_of script)) done h in
+    ap (λ (o : Option ReadFault). after_reading o (after_neutral_script b (script_of script))) read.0
+    ∙ ap (after_neutral_script b) spelled
+    ∙ ap (λ (o : Option ℕ). if_neutral o (after_script b (Ok lines))) neutral
+    ∙ ap (after_script b) (sym spelled)
+    ∙ read.1
+
+-- ---- the undo text of neutral edits
+
+AllNeutral : List Edit → Type 0
+AllNeutral es = AllByRecursion (λ (e : Edit). is_neutral e ≡ true) es
+
+with_last : (es : List Edit) (e : Edit) → AllNeutral es → is_neutral e ≡ true → AllNeutral (es ++ e ∷ [])
+unfolding AllNeutral
+with_last [] e h n = (n, tt)
+with_last (x ∷ xs) e h n = (h.0, with_last xs e h.1 n)
 
 or_neutral : (x : Bool) (number : ℕ) (later : Option ℕ) → unless_neutral x number later ≡ None
     → (x ≡ true) × (later ≡ None)
 or_neutral true number later h = (refl, h)
 or_neutral false number later h = absurd cc
+
+edits_neutral : (lines : List Line) → first_not_neutral lines ≡ None → AllNeutral (edits_of lines)
+unfolding AllNeutral
+edits_neutral [] h = tt
+edits_neutral (l ∷ lines) h =
+    let both = or_neutral (is_neutral l.edit) l.number (first_not_neutral lines) h in
+    (both.0, edits_neutral lines both.1)
+
+lines_neutral : (n : ℕ) (es : List Edit) → AllNeutral es → first_not_neutral (numbered n es) ≡ None
+unfolding AllNeutral
+lines_neutral n [] h = refl
+lines_neutral n (e ∷ es) h = rw h.0 (lines_neutral (suc n) es h.1)
+
+undo_neutral : (b : Parts) (es : List Edit) → AllNeutral es → AllNeutral (undo_list b es)
+unfolding AllNeutral
+undo_neutral b [] h = tt
+undo_neutral b (e ∷ es) h =
+    with_last (undo_list (raw b e) es) (inverse b e) (undo_neutral (raw b e) es h.1) (neutral_back b e h.0)
+
+pub neutrally_restores : (file script : List ℕ) → AreBytes file → IsNeutrallyUndone file script
+neutrally_restores file script bytes done lines h spelled =
+    let d = neutral_done file script done h in
+    let b = bank_in file in
+    let es = edits_of lines in
+    let us = undo_list b es in
+    let same = lines_same (script_of script) d.of_script.lines lines d.of_script.spelled spelled in
+    let neutral = subst (λ (ls : List Line). first_not_neutral ls ≡ None) same d.of_script.neutral in
+    let run = script_done b lines done (ap (after_script b) (sym spelled) ∙ d.of_script.comes_to) in
+    let sound : IsSound b = record { valid = read_valid file bytes d.read; fits = read_fits file bytes } in
+    let undone = all_undone b es sound (all_taken b lines (script_fits script lines spelled) run.accepted) in
+    let said : script_of done.undo ≡ Ok (numbered 1 us) =
+    ap (λ (x : Done). script_of x.undo) run.texts ∙ printed_spell us (all_fit (after_all b es) us undone.taken) in
+    as_neutral done.out done.undo _ (numbered 1 us)
+    (restores file script bytes done lines (as_every file script done h) spelled) said
+    (lines_neutral 1 us (undo_neutral b es (edits_neutral lines neutral)))
+  where
+    lines_same : (said : Result (List Line) ScriptFault) (x y : List Line) → said ≡ Ok x → said ≡ Ok y → x ≡ y
+    lines_same said x y h k = cc
+
+-- ---- the sound
 
 -- neutral edits in a row
 render_same : (b : Parts) (lines : List Line) → IsSound b → AllTaken b (edits_of lines) → first_not_neutral lines ≡ None

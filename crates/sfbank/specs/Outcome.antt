@@ -138,12 +138,16 @@ SoundsAgain file script =
     (done back : Done) (notes : List ℕ) → outcome file script ≡ Ok done → outcome done.out done.undo ≡ Ok back
     → play_outcome back.out notes ≡ play_outcome file notes
 
--- Where these bytes come to a neutral run that is done, the undo text, run on the written file alone, writes the
--- canonical file of the first bank, and the script's edits as they are printed.
+-- Where these bytes come to a neutral run that is done, they come to the same run of any edits.
+abbrev pub IsRunOfEdits : List ℕ → List ℕ → Type 0
+IsRunOfEdits file script = (done : Done) → neutral_outcome file script ≡ Ok done → outcome file script ≡ Ok done
+
+-- Where these bytes come to a neutral run that is done, the undo text on the written file alone comes to a neutral run
+-- that is done too: it writes the canonical file of the first bank, and the script's edits as they are printed.
 abbrev pub IsNeutrallyUndone : List ℕ → List ℕ → Type 0
 IsNeutrallyUndone file script =
     (done : Done) (lines : List Line) → neutral_outcome file script ≡ Ok done → script_of script ≡ Ok lines
-    → outcome done.out done.undo ≡ Ok (record { out = canon (bank_in file); undo = texts_of (edits_of lines) })
+    → neutral_outcome done.out done.undo ≡ Ok (record { out = canon (bank_in file); undo = texts_of (edits_of lines) })
 
 -- Where these bytes come to a neutral run that is done, each list of notes comes to the same on the written file as
 -- on the first: to the same WAVE file, or to the same fault.

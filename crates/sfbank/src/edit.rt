@@ -1,6 +1,6 @@
 //! Scripts of edits, from bytes to bytes.
 ghost use Rattle.std.specs.Prelude.{◌≡◌};
-ghost use Rattle.sfbank.specs.Outcome.{outcome, neutral_outcome, IsNeutrallyUndone, IsUndone, SoundsAgain, SoundsTheSame};
+ghost use Rattle.sfbank.specs.Outcome.{outcome, neutral_outcome, IsNeutrallyUndone, IsRunOfEdits, IsUndone, SoundsAgain, SoundsTheSame};
 ghost use Rattle.sfbank.specs.Planned.{outcome_of};
 ghost use Rattle.sfbank.specs.Written.{Runs};
 
@@ -54,7 +54,9 @@ pub fn neutral_run<W: Write, V: Write, P: Progress>(
     // not neutral, else of the first refused line, else both texts.
     ensures runs { Runs (record { out = W.contents out.old; out_new = W.contents out.new; undo = V.contents undo.old; undo_new = V.contents undo.new })
         (neutral_outcome file.now script.now) result }
-    // Run on the written file alone, the undo text writes the canonical file of the first bank.
+    // Where it is done, `edit_run` does the same.
+    ensures edits { IsRunOfEdits file.now script.now }
+    // The undo text is neutral too. Run on the written file alone, it writes the canonical file of the first bank.
     ensures restores { IsNeutrallyUndone file.now script.now }
     // Each list of notes sounds on the written file as on the first.
     ensures sounds { SoundsTheSame file.now script.now }
