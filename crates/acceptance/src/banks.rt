@@ -1,7 +1,7 @@
 //! The calls of banks: what is told of one that is read, and one that is made of parts.
 
 use bank_core::{
-    Bank, GlobalZone, Head, InfoId, Kind, Members, Owner, Owners, Part, Parts, PartsFault, Place,
+    Bank, GlobalZone, Head, InfoId, Kind, List, Owner, Owners, Part, Parts, PartsFault, Place,
     Sample, Texts, WithZones, Zone, is_valid,
 };
 use bank_parts::OwnerHead;
@@ -18,8 +18,8 @@ use worked_files::{File, many_points, tone, wide};
 
 /// What is told of the members of the wide bank.
 fn tells_members(bank: &Bank<'_>) -> bool {
-    let counts = [Members::Presets, Members::Instruments, Members::Samples].map(
-        |members| bank.count(members),
+    let counts = [List::Presets, List::Instruments, List::Samples].map(
+        |list| bank.count(list),
     );
     bank.minor() == 4
         && bank.info(InfoId::Engine) == b"EMU8000".as_slice()
@@ -33,7 +33,7 @@ fn tells_members(bank: &Bank<'_>) -> bool {
             .is_some_and(|sample| sample.points.len() == 3)
         && bank.sample(1).is_none()
         && bank
-            .instrument_name(1)
+            .inst_name(1)
             .is_some_and(|name| name.bytes() == b"c".as_slice())
         && bank
             .head(1)
@@ -43,29 +43,29 @@ fn tells_members(bank: &Bank<'_>) -> bool {
 
 /// What is told of its zones.
 fn tells_zones(bank: &Bank<'_>) -> bool {
-    let (preset, instrument) = (Owner::Preset(0), Owner::Instrument(2));
+    let (preset, instrument) = (Owner::Preset(0), Owner::Inst(2));
     bank.zone_count(preset) == Some(1)
         && bank.zone_count(instrument) == Some(2)
-        && bank.zone_count(Owner::Instrument(3)).is_none()
+        && bank.zone_count(Owner::Inst(3)).is_none()
         && bank.target(preset, 0) == Some(2)
         && bank.target(preset, 1).is_none()
         && bank.gen_of(preset, Place::Zone(0), 51) == Some(0xfff4)
         && bank.gen_of(preset, Place::Global, 51).is_none()
-        && bank.gen_of(Owner::Instrument(0), Place::Global, 54) == Some(1)
+        && bank.gen_of(Owner::Inst(0), Place::Global, 54) == Some(1)
         && bank.gen_at(instrument, Place::Zone(0), 1) == Some((44, 0x4001))
         && bank.gen_at(instrument, Place::Zone(0), 3).is_none()
         && bank
             .mod_at(preset, Place::Global, 0)
             .is_some_and(|modulator| modulator.amount == 1)
         && bank
-            .mod_at(Owner::Instrument(0), Place::Zone(0), 1)
+            .mod_at(Owner::Inst(0), Place::Zone(0), 1)
             .is_some_and(|modulator| modulator.amount == -2)
         && bank.mod_at(instrument, Place::Zone(1), 0).is_none()
 }
 
 /// What is told of the records of T's instrument: its zone has one bag, and its target is a generator.
 fn tells_records(bank: &Bank<'_>) -> bool {
-    let at = Level::Instrument;
+    let at = Level::Inst;
     let lengths = [Part::Heads, Part::Bags, Part::Gens, Part::Mods].map(|part| bank.rec_len(
         at, part,
     ));
@@ -257,7 +257,7 @@ fn parts_of_no_bank(rt: HostRuntime) -> Result<(), Fail> {
     assert!(rt; !is_valid(&parts));
     let invalid = matches!(
         Bank::from_parts(rt.alloc(), parts),
-        Err(Failure::Fault(PartsFault::Invalid))
+        Err(PartsFault::Invalid)
     );
     assert!(rt; invalid);
     Ok(())

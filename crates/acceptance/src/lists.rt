@@ -149,7 +149,7 @@ fn operators(rt: HostRuntime) {
         let both = BOTH.contains(&operator);
         let all = both || ALONE.contains(&operator);
         assert!(rt; allowed(operator, Level::Preset) == both, "{operator}");
-        assert!(rt; allowed(operator, Level::Instrument) == all, "{operator}");
+        assert!(rt; allowed(operator, Level::Inst) == all, "{operator}");
     }
     let zero = [0, 4, 12, 17, 37, 45, 48, 50, 51, 52, 54, 57].map(|operator| default_of(operator));
     assert!(rt; zero == [Some(0); 12]);

@@ -4,7 +4,7 @@ use bank_core::{InfoId, Owner};
 use edit_forms::{Edit, SampleStep, Step, TextStep, ZoneStep};
 use edit_refusals::{Cause, Refusal};
 use edit_script::print;
-use edit_sessions::Session;
+use inverse_edits::Session;
 use numbered_lists::NumberedList;
 use sf_base::{Lent, Name20, OutOfMemory};
 use sf_reader::read;
@@ -145,7 +145,7 @@ fn silent() -> File {
 /// The edits that take T's zone and sample out.
 fn removals(alloc: Global) -> Result<Edit<'static>, OutOfMemory> {
     let mut steps = Vec::new(alloc);
-    steps.push(Step::Zone(Owner::Instrument(0), ZoneStep::RemoveZone { zone: 0 }))?;
+    steps.push(Step::Zone(Owner::Inst(0), ZoneStep::RemoveZone { zone: 0 }))?;
     steps.push(Step::Sample(SampleStep::RemoveSample { sample: 0 }))?;
     Ok(Edit::Group(NumberedList::from_vec(steps)))
 }

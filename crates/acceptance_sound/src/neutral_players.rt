@@ -31,7 +31,7 @@ fn is_done<'a>(alloc: Global, bank: &mut Bank<'a>, step: Step<'a>) -> bool {
 
 // Splits the one zone of the instrument, and turns the halves around.
 fn is_split_and_turned(alloc: Global, bank: &mut Bank<'_>) -> bool {
-    let owner = Owner::Instrument(0);
+    let owner = Owner::Inst(0);
     let split = Step::Zone(
         owner,
         ZoneStep::SplitZone {

@@ -30,7 +30,7 @@ pub(crate) enum Act {
 
 // The edit that an act makes, if it makes one.
 fn step_of<'a>(alloc: Global, act: Act) -> Result<Option<Step<'a>>, Fail> {
-    let owner = Owner::Instrument(0);
+    let owner = Owner::Inst(0);
     Ok(match act {
         Act::Start(_, _) | Act::Block(_) => None,
         Act::Trim => Some(Step::Points(0, PointStep::Trim { front: 1, back: 0 })),

@@ -79,7 +79,7 @@ fn plays(voice: &mut Voice, frames: &[(i32, i32)]) -> bool {
 // Whether the voice is over after these frames and no earlier, and silent from then on.
 fn ends_after(voice: &mut Voice, frames: &[(i32, i32)]) -> bool {
     for frame in frames {
-        if voice.is_over() {
+        if voice.done() {
             return false;
         }
         let (left, right) = voice.next_frame();
@@ -87,7 +87,7 @@ fn ends_after(voice: &mut Voice, frames: &[(i32, i32)]) -> bool {
             return false;
         }
     }
-    voice.is_over() && plays(voice, &[(0, 0), (0, 0)]) && voice.is_over()
+    voice.done() && plays(voice, &[(0, 0), (0, 0)]) && voice.done()
 }
 
 // Sums with nothing in them.
@@ -104,7 +104,7 @@ fn add(voice: &mut Voice, sums: &mut [i32])
     requires short { length sums.old ≤ 65536 }
     requires room { AllWithin 65534 sums.old }
 {
-    if !voice.is_over() {
+    if !voice.done() {
         voice.add_frames(&mut Workspace::new(), sums);
     }
 }
@@ -116,7 +116,7 @@ fn add_apart(voice: &mut Voice, sums: &mut [i32], middle: &mut [i32])
     requires room { AllWithin 65534 sums.old }
     requires middle { AllWithin 65534 middle.old }
 {
-    if !voice.is_over() {
+    if !voice.done() {
         voice.add_frames_apart(&mut Workspace::new(), sums, middle);
     }
 }
@@ -161,7 +161,7 @@ fn a_run_is_cut_anywhere(rt: HostRuntime) -> Result<(), Fail> {
     let mut back: [i32; 12] = silence();
     add(&mut voice, &mut back);
     assert!(rt; back == [-11, -11, -987, -987, 16, 16, 979, 979, -24, -24, 0, 0]);
-    assert!(rt; voice.is_over());
+    assert!(rt; voice.done());
     Ok(())
 }
 
@@ -192,7 +192,7 @@ fn an_attack_and_a_release_on_the_right(rt: HostRuntime) -> Result<(), Fail> {
     let mut voice = voice_over(rt.alloc(), &THREE[..2], parameters)?.expect(&rt, "a voice");
     let mut sums: [i32; 186] = silence();
     add(&mut voice, &mut sums);
-    assert!(rt; voice.is_over());
+    assert!(rt; voice.done());
     let heard = [0, 1, 42, 43, 50, 71, 92].map(|frame| frame_of(&sums, frame));
     let right = [0, 23, 976, 1000, 1000, 4, 0];
     assert!(rt; heard == right.map(|side| Some((0, side))));
@@ -253,7 +253,7 @@ fn a_voice_over_three_slices(rt: HostRuntime) -> Result<(), Fail> {
     let mut voice = over_three_slices(rt.alloc())?.expect(&rt, "a voice");
     let mut sums: [i32; 24] = silence();
     add(&mut voice, &mut sums);
-    assert!(rt; voice.is_over() && holds(&sums, &frames));
+    assert!(rt; voice.done() && holds(&sums, &frames));
     Ok(())
 }
 
@@ -276,7 +276,7 @@ fn each_phase_of_an_envelope(rt: HostRuntime) -> Result<(), Fail> {
     let mut voice = voice_over(rt.alloc(), &[0x30, 0x75], parameters)?.expect(&rt, "a voice");
     let mut sums: [i32; 48] = silence();
     add(&mut voice, &mut sums);
-    assert!(rt; voice.is_over());
+    assert!(rt; voice.done());
     assert!(rt; holds(&sums, &frames));
     Ok(())
 }

@@ -2,12 +2,11 @@
 
 use crate::players::{Act, TEN, edits};
 use note_list::Note;
-use sf_base::Failure;
 use sf_reader::read;
 use sfbank::{Unheard, edit_run};
 use std::alloc::Global;
 use std::test::Fail;
-use voices::Voice;
+use voices::{Voice, VoiceFault};
 use worked_files::{empty, tone};
 use zone_select::params;
 
@@ -57,7 +56,7 @@ fn started<'a>(alloc: Global, file: &'a [u8], note: &Note) -> Result<Voice<'a>, 
 fn frames_of(alloc: Global, mut voice: Voice<'_>) -> Result<Vec<(i32, i32)>, Fail> {
     let mut frames = Vec::new(alloc);
     for _ in 0..1000 {
-        if voice.is_over() {
+        if voice.done() {
             return Ok(frames);
         }
         frames.push(voice.next_frame())?;
@@ -198,7 +197,7 @@ fn is_refused(alloc: Global, pair: (u32, u32)) -> Result<bool, Fail> {
     Ok(match Note::new(0, 8, 0, 0, 67, 127) {
         Some(note) => matches!(
             Voice::start(alloc, &bank, &note, pair),
-            Err(Failure::Fault(_))
+            Err(VoiceFault::NoMatch)
         ),
         None => false,
     })

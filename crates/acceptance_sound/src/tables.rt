@@ -1,6 +1,6 @@
 //! Worked values of the tables.
 
-use sound_tables::{frames_of_timecents, gain, pitch, step, velocity_attenuation};
+use sound_tables::{frames, gain, pitch, step, velatt};
 
 #[test]
 fn ratios_of_intervals(rt: HostRuntime) {
@@ -21,17 +21,17 @@ fn gains_of_attenuations(rt: HostRuntime) {
 #[test]
 fn frames_of_times(rt: HostRuntime) {
     let worked = [
-        frames_of_timecents(-12000),
-        frames_of_timecents(-11999),
-        frames_of_timecents(-1200),
-        frames_of_timecents(0),
-        frames_of_timecents(8000),
+        frames(-12000),
+        frames(-11999),
+        frames(-1200),
+        frames(0),
+        frames(8000),
     ];
     assert!(rt; worked == [0, 43, 22050, 44100, 4_480_284]);
     let ends = [
-        frames_of_timecents(i64::MIN),
-        frames_of_timecents(8001),
-        frames_of_timecents(i64::MAX),
+        frames(i64::MIN),
+        frames(8001),
+        frames(i64::MAX),
     ];
     assert!(rt; ends == [0, 4_480_284, 4_480_284]);
 }
@@ -39,10 +39,10 @@ fn frames_of_times(rt: HostRuntime) {
 #[test]
 fn attenuations_of_velocities(rt: HostRuntime) {
     let worked = [
-        velocity_attenuation(127),
-        velocity_attenuation(64),
-        velocity_attenuation(0),
-        velocity_attenuation(255),
+        velatt(127),
+        velatt(64),
+        velatt(0),
+        velatt(255),
     ];
     assert!(rt; worked == [0, 119, 960, 0]);
 }

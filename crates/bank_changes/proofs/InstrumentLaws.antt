@@ -116,7 +116,7 @@ targets_within b v = owners_within (λ (h : Head). h.name) level.Preset (length 
 
 module _ (b : Parts) (i : ℕ) (x : WithZones (List ℕ)) where
   pub totals-added_instrument : i ≤ length b.instruments
-      → totals_of (instrument_added b i x) ≡ with_owner level.Instrument (totals_of b) (records_of_owner x)
+      → totals_of (instrument_added b i x) ≡ with_owner level.Inst (totals_of b) (records_of_owner x)
   unfolding totals_of
   totals-added_instrument le =
       totals-instruments_renumbered (Insertion i) (record b { instruments = insert b.instruments i x })
@@ -169,17 +169,17 @@ module _ (b : Parts) (i : ℕ) where
   unused_instrument free = untargeted i b.presets free
 
   totals-taken_out : (x : WithZones (List ℕ)) → slice_get b.instruments i ≡ Some x
-      → with_owner level.Instrument (totals_of (record b { instruments = remove b.instruments i }))
+      → with_owner level.Inst (totals_of (record b { instruments = remove b.instruments i }))
       (records_of_owner x)
       ≡ totals_of b
   unfolding totals_of
   totals-taken_out x e = λ k. record (totals_of b) { instruments = level_removed b.instruments i x e k }
 
   pub totals-removed_instrument : (x : WithZones (List ℕ)) → slice_get b.instruments i ≡ Some x
-      → with_owner level.Instrument (totals_of (instrument_removed b i)) (records_of_owner x) ≡ totals_of b
+      → with_owner level.Inst (totals_of (instrument_removed b i)) (records_of_owner x) ≡ totals_of b
   totals-removed_instrument x e =
       let kept = totals-instruments_renumbered (Removal i) (record b { instruments = remove b.instruments i }) in
-      ap (λ (t : Totals). with_owner level.Instrument t (records_of_owner x)) kept ∙ totals-taken_out x e
+      ap (λ (t : Totals). with_owner level.Inst t (records_of_owner x)) kept ∙ totals-taken_out x e
 
   pub sound_removed_instrument : IsSound b → i < length b.instruments → instrument_in_use b i ≡ false
       → IsSound (instrument_removed b i)
@@ -195,7 +195,7 @@ module _ (b : Parts) (i : ℕ) where
       (targets_within b sound.valid))
       (all_remove (IsInstrument (length b.samples)) b.instruments i sound.valid.instruments)
       (all_remove (FitsOwner IsName) b.instruments i sound.fits.instruments)
-      ((owners_grow level.Instrument).within (totals_of (instrument_removed b i)) (records_of_owner x)
+      ((owners_grow level.Inst).within (totals_of (instrument_removed b i)) (records_of_owner x)
       (ap broken (totals-removed_instrument x e) ∙ no_limit_of b sound.valid.limits))
 
   pub restored_removed_instrument : (x : WithZones (List ℕ)) → slice_get b.instruments i ≡ Some x

@@ -13,7 +13,7 @@ use Rattle.bank_parts.specs.Sound.{IsSound}
 use Rattle.bank_validity.specs.Limits.{broken_limit}
 use Rattle.bank_validity.proofs.LimitLaws.{limits_of}
 use Rattle.bank_changes.specs.declared.members.Owner.{Owner}
-use Rattle.bank_changes.specs.declared.members.Owner.TheVariants.{Preset, Instrument}
+use Rattle.bank_changes.specs.declared.members.Owner.TheVariants.{Preset, Inst}
 use Rattle.bank_changes.specs.Members.{own_read, own_changed, level_of, target_count}
 use Rattle.bank_changes.proofs.Changes.{all_found, all_changed}
 
@@ -30,7 +30,7 @@ of_sound b (Preset p) read P law sound =
       all_found (IsPreset (length b.instruments)) b.presets p x e sound.valid.presets,
       all_found (FitsOwner FitsHead) b.presets p x e sound.fits.presets,
     ))
-of_sound b (Instrument i) read P law sound =
+of_sound b (Inst i) read P law sound =
     law (List ℕ) (λ name. name) IsName b.instruments i (λ x e. (
       all_found (IsInstrument (length b.samples)) b.instruments i x e sound.valid.instruments,
       all_found (FitsOwner IsName) b.instruments i x e sound.fits.instruments,
@@ -63,7 +63,7 @@ sound_owner_changed b (Preset p) f valid fits sound within =
         samples = t.samples;
       };
     }
-sound_owner_changed b (Instrument i) f valid fits sound within =
+sound_owner_changed b (Inst i) f valid fits sound within =
     let v = sound.valid in
     let t = sound.fits in
     record {
@@ -74,7 +74,7 @@ sound_owner_changed b (Instrument i) f valid fits sound within =
             all_changed (f (List ℕ)) (IsInstrument (length b.samples)) (valid (List ℕ) (λ name. name)) b.instruments i
             v.instruments;
         samples = v.samples;
-        limits = limits_of (own_changed b (Instrument i) (λ H owners i. changed owners i (f H))) within;
+        limits = limits_of (own_changed b (Inst i) (λ H owners i. changed owners i (f H))) within;
       };
       fits = record {
         minor = t.minor;

@@ -29,7 +29,7 @@ use Rattle.bank_validity.proofs.LevelLaws.{changed_at}
 use Rattle.bank_validity.proofs.LimitLaws.{no_limit_of}
 use Rattle.bank_parts.proofs.SettingLaws.{source, given, place_read}
 use Rattle.bank_changes.specs.declared.members.Owner.{Owner}
-use Rattle.bank_changes.specs.declared.members.Owner.TheVariants.{Preset, Instrument}
+use Rattle.bank_changes.specs.declared.members.Owner.TheVariants.{Preset, Inst}
 use Rattle.bank_changes.specs.declared.members.Place.{Place}
 use Rattle.bank_changes.specs.Members.{zone_place, settings_of, level_of, target_count}
 use Rattle.bank_changes.specs.Settings.{own_place_changed, records_of_place, no_records, records_there}
@@ -262,7 +262,7 @@ pub totals_place_changed : (b : Parts) (o : Owner) (at : Place) (f : Settings �
 unfolding totals_of
 totals_place_changed b (Preset p) at f s e =
     λ k. record (totals_of b) { presets = level_recount f b.presets p s (zone_place at) e k }
-totals_place_changed b (Instrument i) at f s e =
+totals_place_changed b (Inst i) at f s e =
     λ k. record (totals_of b) { instruments = level_recount f b.instruments i s (zone_place at) e k }
 
 -- ---- the records of a place that is there
@@ -270,13 +270,13 @@ totals_place_changed b (Instrument i) at f s e =
 pub records_found : (b : Parts) (o : Owner) (at : Place) (s : Settings) → settings_of b o at ≡ Some s
     → records_there b o at ≡ records_of_place (zone_place at) s
 records_found b (Preset p) at s e = ap (λ found. option_map_or (records_of_place (zone_place at)) found no_records) e
-records_found b (Instrument i) at s e =
+records_found b (Inst i) at s e =
     ap (λ found. option_map_or (records_of_place (zone_place at)) found no_records) e
 
 pub settings_read : (b : Parts) (o : Owner) (at : Place) (f : Settings → Settings)
     → settings_of (own_place_changed b o at f) o at ≡ option_map f (settings_of b o at)
 settings_read b (Preset p) at f = place_read b.presets p (zone_place at) f
-settings_read b (Instrument i) at f = place_read b.instruments i (zone_place at) f
+settings_read b (Inst i) at f = place_read b.instruments i (zone_place at) f
 
 module _ (b : Parts) (o : Owner) (at : Place) (f : Settings → Settings) (s : Settings)
     (there : settings_of b o at ≡ Some s) where

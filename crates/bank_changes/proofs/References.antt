@@ -93,7 +93,7 @@ refs_within b v =
     let n : ℕ = length b.samples in
     record {
       links = all_weaker (IsSample n) (λ (s : Sample). OfLink (λ x. x < n) s.kind) (λ s h. h.kind) b.samples v.samples;
-      targets = owners_within (λ name. name) level.Instrument n b.instruments v.instruments;
+      targets = owners_within (λ name. name) level.Inst n b.instruments v.instruments;
     }
 
 -- ---- validity with new numbers
@@ -107,7 +107,7 @@ module _ (P : ℕ → Type 0) (by : Renumbering) (n m : ℕ) (to : (x : ℕ) →
 
   pub instruments_valid : (is : List (WithZones (List ℕ))) → AllByRecursion (IsInstrument n) is → OfOwners P is
       → AllByRecursion (IsInstrument m) (map (owner_renumbered by) is)
-  instruments_valid = owners_valid (λ name. name) level.Instrument n P by m to
+  instruments_valid = owners_valid (λ name. name) level.Inst n P by m to
 
 -- ---- ranges of fields
 

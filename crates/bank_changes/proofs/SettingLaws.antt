@@ -29,7 +29,7 @@ use Rattle.bank_parts.proofs.Counts.{counted_same}
 use Rattle.bank_validity.proofs.LimitLaws.{within_at, within_totals, no_limit_of}
 use Rattle.bank_parts.proofs.UndoneLaws.{amount_of_settings}
 use Rattle.bank_changes.specs.declared.members.Owner.{Owner}
-use Rattle.bank_changes.specs.declared.members.Owner.TheVariants.{Preset, Instrument}
+use Rattle.bank_changes.specs.declared.members.Owner.TheVariants.{Preset, Inst}
 use Rattle.bank_changes.specs.declared.members.Place.{Place}
 use Rattle.bank_changes.specs.declared.members.Place.TheVariants as place
 use Rattle.bank_changes.specs.Members.{zone_place, settings_of, level_of, amount_of}
@@ -100,7 +100,7 @@ pub amount_found : (b : Parts) (o : Owner) (at : Place) (op : ℕ) (s : Settings
     → amount_of b o at op ≡ map.get s.gens op
 amount_found b (Preset p) at op s e =
     amount_of_settings b.presets p (zone_place at) op ∙ ap (option_and_then (λ (s : Settings). map.get s.gens op)) e
-amount_found b (Instrument i) at op s e =
+amount_found b (Inst i) at op s e =
     amount_of_settings b.instruments i (zone_place at) op
     ∙ ap (option_and_then (λ (s : Settings). map.get s.gens op)) e
 

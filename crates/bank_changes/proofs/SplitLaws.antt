@@ -81,10 +81,10 @@ split b (owner.Preset p) k axis m h =
       inside = s.inside;
       put = ap (with_presets b) (split_is_put b.presets p k s.at axis m);
     }
-split b (owner.Instrument i) k axis m h =
+split b (owner.Inst i) k axis m h =
     let s = split_there axis m b.instruments i k h in
     record {
-      own = own_zone b (owner.Instrument i) k s.at (rw s.at.there refl) (zones_there b.instruments i k s.at);
+      own = own_zone b (owner.Inst i) k s.at (rw s.at.there refl) (zones_there b.instruments i k s.at);
       inside = s.inside;
       put = ap (with_instruments b) (split_is_put b.instruments i k s.at axis m);
     }
@@ -103,10 +103,10 @@ join b (owner.Preset p) k axis keep h =
     let put = ap (with_presets b) (join_is_put b.presets p k s.at axis keep s.second s.next) in
     let own = own_zone b (owner.Preset p) k s.at (rw s.at.there refl) (zones_there b.presets p k s.at) in
     record { own = own; second = s.second; next = s.next; joinable = s.joinable; put = put }
-join b (owner.Instrument i) k axis keep h =
+join b (owner.Inst i) k axis keep h =
     let s = join_there axis keep b.instruments i k h in
     let put = ap (with_instruments b) (join_is_put b.instruments i k s.at axis keep s.second s.next) in
-    let own = own_zone b (owner.Instrument i) k s.at (rw s.at.there refl) (zones_there b.instruments i k s.at) in
+    let own = own_zone b (owner.Inst i) k s.at (rw s.at.there refl) (zones_there b.instruments i k s.at) in
     record { own = own; second = s.second; next = s.next; joinable = s.joinable; put = put }
 
 -- ---- records

@@ -38,14 +38,14 @@ use Rattle.bank_changes.proofs.ZoneLaws.{records_of_zones, totals_zones_more, to
 pub own_zones_there : (b : Parts) (o : Owner) (P : ℕ → Type 0) → IsSomeAnd (own_zone_count b o) P
     → There (zones_of b o) (λ zones. P (length zones))
 own_zones_there b (owner.Preset p) P h = list.zones_there b.presets p P h
-own_zones_there b (owner.Instrument i) P h = list.zones_there b.instruments i P h
+own_zones_there b (owner.Inst i) P h = list.zones_there b.instruments i P h
 
 -- an owner with these zones has as many
 pub own_count : (b : Parts) (o : Owner) (zones : List Zone) (P : ℕ → Type 0) → zones_of b o ≡ Some zones
     → P (length zones) → IsSomeAnd (own_zone_count b o) P
 own_count b (owner.Preset p) zones P e h =
     let x = source (λ (x : WithZones Head). x.zones) (slice_get b.presets p) zones e in rw (x.there, x.seen) h
-own_count b (owner.Instrument i) zones P e h =
+own_count b (owner.Inst i) zones P e h =
     let x = source (λ (x : WithZones (List ℕ)). x.zones) (slice_get b.instruments i) zones e in
     rw (x.there, x.seen) h
 
@@ -53,7 +53,7 @@ own_count b (owner.Instrument i) zones P e h =
 pub zone_is : (b : Parts) (o : Owner) (k : ℕ) (zones : List Zone) (zone : Zone) → zones_of b o ≡ Some zones
     → slice_get zones k ≡ Some zone → zone_of b o k ≡ Some zone
 zone_is b (owner.Preset p) k zones zone there at = list.zone_of_zones b.presets p k ∙ rw there at
-zone_is b (owner.Instrument i) k zones zone there at = list.zone_of_zones b.instruments i k ∙ rw there at
+zone_is b (owner.Inst i) k zones zone there at = list.zone_of_zones b.instruments i k ∙ rw there at
 
 -- ---- the changes as zones that are put there
 
@@ -135,7 +135,7 @@ pub zone_there : (b : Parts) (o : Owner) (k : ℕ) (zone : Zone) → zone_of b o
     → There (zones_of b o) (λ zones. slice_get zones k ≡ Some zone)
 zone_there b (owner.Preset p) k zone e =
     let h = list.zone_in b.presets p k zone e in record { member = h.member; there = h.there; holds = h.gives }
-zone_there b (owner.Instrument i) k zone e =
+zone_there b (owner.Inst i) k zone e =
     let h = list.zone_in b.instruments i k zone e in record { member = h.member; there = h.there; holds = h.gives }
 
 pub totals-zone_removed : (b : Parts) (o : Owner) (k : ℕ) (zone : Zone) → zone_of b o k ≡ Some zone
@@ -221,13 +221,13 @@ with_instruments b instruments = record b { instruments = instruments }
 pub restored_zone_added : (b : Parts) (o : Owner) (k : ℕ) (zone : Zone)
     → IsSomeAnd (own_zone_count b o) (λ count. k ≤ count) → zone_removed (zone_added b o k zone) o k ≡ b
 restored_zone_added b (owner.Preset p) k zone h = ap (with_presets b) (list.zone_added_undone b.presets p k zone h)
-restored_zone_added b (owner.Instrument i) k zone h =
+restored_zone_added b (owner.Inst i) k zone h =
     ap (with_instruments b) (list.zone_added_undone b.instruments i k zone h)
 
 pub restored_zone_removed : (b : Parts) (o : Owner) (k : ℕ) (zone : Zone) → zone_of b o k ≡ Some zone
     → zone_added (zone_removed b o k) o k zone ≡ b
 restored_zone_removed b (owner.Preset p) k zone e = ap (with_presets b) (list.zone_removed_undone b.presets p k zone e)
-restored_zone_removed b (owner.Instrument i) k zone e =
+restored_zone_removed b (owner.Inst i) k zone e =
     ap (with_instruments b) (list.zone_removed_undone b.instruments i k zone e)
 
 pub restored_zone_moved : (b : Parts) (o : Owner) (from to : ℕ)
@@ -235,12 +235,12 @@ pub restored_zone_moved : (b : Parts) (o : Owner) (from to : ℕ)
     → zone_moved (zone_moved b o from to) o to from ≡ b
 restored_zone_moved b (owner.Preset p) from to h l =
     ap (with_presets b) (list.zone_moved_undone b.presets p from to h l)
-restored_zone_moved b (owner.Instrument i) from to h l =
+restored_zone_moved b (owner.Inst i) from to h l =
     ap (with_instruments b) (list.zone_moved_undone b.instruments i from to h l)
 
 pub restored_target_set : (b : Parts) (o : Owner) (k was target : ℕ) → target_of b o k ≡ Some was
     → target_set (target_set b o k target) o k was ≡ b
 restored_target_set b (owner.Preset p) k was target e =
     ap (with_presets b) (list.target_set_back b.presets p k was target e)
-restored_target_set b (owner.Instrument i) k was target e =
+restored_target_set b (owner.Inst i) k was target e =
     ap (with_instruments b) (list.target_set_back b.instruments i k was target e)

@@ -76,7 +76,7 @@ pub zones_put_is : (b : Parts) (o : Owner) (f : List Zone → List Zone) (zones 
 zones_put_is b (owner.Preset p) f zones e =
     ap (λ (presets : List (WithZones Head)). let r : Parts = record b { presets = presets } in r)
     (changed_alike b.presets p zones e f (λ _. f zones) refl)
-zones_put_is b (owner.Instrument i) f zones e =
+zones_put_is b (owner.Inst i) f zones e =
     ap (λ (instruments : List (WithZones (List ℕ))). let r : Parts = record b { instruments = instruments } in r)
     (changed_alike b.instruments i zones e f (λ _. f zones) refl)
 
@@ -158,7 +158,7 @@ pub totals_zones_put : (b : Parts) (o : Owner) (zones put : List Zone) → zones
 unfolding totals_of
 totals_zones_put b (owner.Preset p) zones put e =
     λ k. record (totals_of b) { presets = level_follows b.presets p zones put e k }
-totals_zones_put b (owner.Instrument i) zones put e =
+totals_zones_put b (owner.Inst i) zones put e =
     λ k. record (totals_of b) { instruments = level_follows b.instruments i zones put e k }
 
 with_records_sum : (at : Level) (t : Totals) (r s : Records)

@@ -6,8 +6,8 @@ use Rattle.generators.specs.Gens.{Gens}
 use Rattle.generators.specs.declared.level.Level.{Level}
 use Rattle.generators.specs.declared.level.Level.TheVariants as level
 use Rattle.modulators.specs.declared.modulator.Modulator.{Modulator}
-use Rattle.bank_changes.specs.declared.members.Members.{Members}
-use Rattle.bank_changes.specs.declared.members.Members.TheVariants.{Presets, Instruments, Samples}
+use Rattle.bank_changes.specs.declared.members.List.{List as BankList}
+use Rattle.bank_changes.specs.declared.members.List.TheVariants.{Presets, Instruments, Samples}
 use Rattle.bank_changes.specs.declared.members.Owner.{Owner}
 use Rattle.bank_changes.specs.declared.members.Owner.TheVariants as owner
 use Rattle.bank_changes.specs.declared.members.Place.{Place}
@@ -21,7 +21,7 @@ use Rattle.bank_parts.specs.declared.parts.Zone.{Zone}
 use Rattle.bank_parts.specs.Owners.{head_at, zone_count_at, zone_at, target_at, gens_at, mods_at}
 use Rattle.bank_parts.specs.Settings.{Settings, settings_at, zones_at}
 
-abbrev pub member_count : Parts → Members → ℕ
+abbrev pub member_count : Parts → BankList → ℕ
 member_count b Presets = length b.presets
 member_count b Instruments = length b.instruments
 member_count b Samples = length b.samples
@@ -38,12 +38,12 @@ instrument_name_of b i = head_at b.instruments i
 -- what f reads
 abbrev pub own_read : {X : Type 0} → Parts → Owner → ((H : Type 0) → List (WithZones H) → ℕ → X) → X
 own_read b (owner.Preset p) f = f _ b.presets p
-own_read b (owner.Instrument i) f = f _ b.instruments i
+own_read b (owner.Inst i) f = f _ b.instruments i
 
 -- the list is sent through f, and all else stays
 abbrev pub own_changed : Parts → Owner → ((H : Type 0) → List (WithZones H) → ℕ → List (WithZones H)) → Parts
 own_changed b (owner.Preset p) f = record b { presets = f _ b.presets p }
-own_changed b (owner.Instrument i) f = record b { instruments = f _ b.instruments i }
+own_changed b (owner.Inst i) f = record b { instruments = f _ b.instruments i }
 
 -- ---- its zones
 
@@ -64,12 +64,12 @@ zone_of b o k = own_read b o (λ _ owners i. zone_at owners i k)
 -- the level at which the zones stand
 abbrev pub level_of : Owner → Level
 level_of (owner.Preset p) = level.Preset
-level_of (owner.Instrument i) = level.Instrument
+level_of (owner.Inst i) = level.Inst
 
 -- how many members zones may target
 abbrev pub target_count : Parts → Owner → ℕ
 target_count b (owner.Preset p) = length b.instruments
-target_count b (owner.Instrument i) = length b.samples
+target_count b (owner.Inst i) = length b.samples
 
 -- ---- the generators and modulators of a place
 

@@ -14,7 +14,7 @@ mod zones;
 
 pub use instruments::{add_instrument, move_instrument, remove_instrument, rename_instrument};
 pub use laws::renaming_keeps_sound;
-pub use members::{Members, Owner, Place, place_of};
+pub use members::{List, Owner, Place, place_of};
 pub use points::{extend_sample, set_kind, set_loop, set_tune, trim_sample};
 pub use presets::{add_preset, move_preset, remove_preset, set_head};
 pub use samples::{add_sample, move_sample, remove_sample, rename_sample};

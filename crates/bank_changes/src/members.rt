@@ -7,7 +7,7 @@ use generators::Level;
 
 /// One of the three numbered lists of a bank.
 #[derive(Clone, Copy, Debug, PartialEq, Eq)]
-pub enum Members {
+pub enum List {
     Presets,
     Instruments,
     Samples,
@@ -17,7 +17,7 @@ pub enum Members {
 #[derive(Clone, Copy, Debug, PartialEq, Eq)]
 pub enum Owner {
     Preset(u32),
-    Instrument(u32),
+    Inst(u32),
 }
 
 impl Owner {
@@ -27,7 +27,7 @@ impl Owner {
     {
         match self {
             Owner::Preset(_) => Level::Preset,
-            Owner::Instrument(_) => Level::Instrument,
+            Owner::Inst(_) => Level::Inst,
         }
     }
 }
@@ -40,7 +40,7 @@ macro_rules! with_owners {
     ($parts:expr, $owner:expr, |$owners:ident, $number:ident| $body:expr) => {
         match ($owner, $parts) {
             ($crate::Owner::Preset($number), bank_parts::Parts { presets: $owners, .. }) => $body,
-            ($crate::Owner::Instrument($number), bank_parts::Parts { instruments: $owners, .. }) => $body,
+            ($crate::Owner::Inst($number), bank_parts::Parts { instruments: $owners, .. }) => $body,
         }
     };
 }

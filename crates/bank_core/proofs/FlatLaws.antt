@@ -198,17 +198,17 @@ presets_plain b s =
     fits.presets
 
 pub instruments_plain : (b : Parts) → IsSound b
-    → AllByRecursion (IsPlainOwner (target_operator level.Instrument)) b.instruments
+    → AllByRecursion (IsPlainOwner (target_operator level.Inst)) b.instruments
 instruments_plain b s =
     let valid = s.valid in
     let fits = s.fits in
-    owners_plain (λ name. name) IsName level.Instrument (length b.samples) b.instruments valid.instruments
+    owners_plain (λ name. name) IsName level.Inst (length b.samples) b.instruments valid.instruments
     fits.instruments
 
 -- no other bank has the same lists
 pub same_bank : (f : Flat) (b c : Parts) → IsSound b
     → AllByRecursion (IsPlainOwner (target_operator level.Preset)) c.presets
-    → AllByRecursion (IsPlainOwner (target_operator level.Instrument)) c.instruments
+    → AllByRecursion (IsPlainOwner (target_operator level.Inst)) c.instruments
     → IsFlatOf f b → IsFlatOf f c → b ≡ c
 same_bank f b c s presets_too instruments_too are are_too =
     let minor = sym are.minor ∙ are_too.minor in
@@ -216,7 +216,7 @@ same_bank f b c s presets_too instruments_too are are_too =
     let presets =
     same_flat level.Preset _ _ b.presets c.presets (presets_plain b s) presets_too are.presets are_too.presets in
     let instruments =
-    same_flat level.Instrument _ _ b.instruments c.instruments (instruments_plain b s) instruments_too
+    same_flat level.Inst _ _ b.instruments c.instruments (instruments_plain b s) instruments_too
     are.instruments are_too.instruments in
     let samples = sym are.samples ∙ are_too.samples in
     λ i.

@@ -23,6 +23,6 @@ few at owners heads bags gens mods part.Mods = let size = mods_size at owners in
 pub few_records : (b : Parts) → IsValid b → (at : Level) (of : Part) → record_count (flat_of at b) of < 2 ^ 32
 few_records b valid level.Preset of =
     let l = valid.limits in few level.Preset b.presets l.presets l.preset_zones l.preset_gens l.preset_mods of
-few_records b valid level.Instrument of =
+few_records b valid level.Inst of =
     let l = valid.limits in
-    few level.Instrument b.instruments l.instruments l.instrument_zones l.instrument_gens l.instrument_mods of
+    few level.Inst b.instruments l.instruments l.instrument_zones l.instrument_gens l.instrument_mods of

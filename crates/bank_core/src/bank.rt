@@ -11,10 +11,10 @@ ghost use Rattle.bank_validity.specs.Limits.{totals_of};
 ghost use Rattle.bank_core.specs.Faults.{IsPartsFault};
 
 use crate::fault::PartsFault;
-use bank_changes::Members;
+use bank_changes::List;
 use bank_parts::{Head, InfoId, OwnerHead, Owners, Parts, Sample, copy_parts};
 use bank_validity::{Totals, is_valid, totals_of};
-use sf_base::{Failure, Name20, OutOfMemory};
+use sf_base::{Name20, OutOfMemory};
 use std::alloc::Global;
 use std::marker::Model;
 
@@ -63,15 +63,16 @@ impl<'a> Bank<'a> {
         Bank { parts, totals }
     }
 
-    /// The bank of these parts, if they are valid. It takes no memory and never runs out of it.
-    pub fn from_parts(alloc: Global, parts: Parts<'a>) -> Result<Bank<'a>, Failure<PartsFault>>
+    /// The bank of these parts, if they are valid. It makes no allocation, so it never runs out of memory: its
+    /// lists are the lists of the parts. `alloc` is for a bank whose lists would have to be built.
+    pub fn from_parts(alloc: Global, parts: Parts<'a>) -> Result<Bank<'a>, PartsFault>
         ensures value { IfOk result (λ bank. bank ≡ parts.entry) }
         ensures sound { OnOk result (IsSound parts.entry) }
-        ensures fault { IfErr result (λ failure. IsPartsFault parts.entry failure) }
+        ensures fault { IfErr result (λ fault. IsPartsFault parts.entry fault) }
     {
         let _ = alloc;
         if !is_valid(&parts) {
-            return Err(Failure::Fault(PartsFault::Invalid));
+            return Err(PartsFault::Invalid);
         }
         Ok(Bank::from_sound_parts(parts))
     }
@@ -138,13 +139,13 @@ impl<'a> Bank<'a> {
     }
 
     /// How many members a list has.
-    pub fn count(&self, members: Members) -> usize
-        ensures { result ≡ member_count self.now members }
+    pub fn count(&self, list: List) -> usize
+        ensures { result ≡ member_count self.now list }
     {
-        match members {
-            Members::Presets => self.parts.presets.len(),
-            Members::Instruments => self.parts.instruments.len(),
-            Members::Samples => self.parts.samples.len(),
+        match list {
+            List::Presets => self.parts.presets.len(),
+            List::Instruments => self.parts.instruments.len(),
+            List::Samples => self.parts.samples.len(),
         }
     }
 
@@ -171,7 +172,7 @@ impl<'a> Bank<'a> {
     }
 
     /// The name of the instrument of this number, if there is one.
-    pub fn instrument_name(&self, instrument: u32) -> Option<Name20>
+    pub fn inst_name(&self, instrument: u32) -> Option<Name20>
         ensures { result ≡ instrument_name_of self.now instrument }
     {
         head_in(&self.parts.instruments, instrument)

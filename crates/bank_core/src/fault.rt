@@ -7,4 +7,7 @@ pub enum PartsFault {
     /// They break a rule of valid banks.
     #[error("the parts are no valid bank")]
     Invalid,
+    /// An allocation failed. `from_parts` makes none, and never returns this.
+    #[error("out of memory")]
+    OutOfMemory,
 }

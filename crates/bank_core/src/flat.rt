@@ -25,9 +25,9 @@ pub struct Flat<'a> {
     pub minor: u16,
     pub texts: Texts<'a>,
     pub preset_heads: FlatHeads<Head>,
-    pub presets: Recs,
-    pub instrument_heads: FlatHeads<Name20>,
-    pub instruments: Recs,
+    pub inst_heads: FlatHeads<Name20>,
+    pub preset: Recs,
+    pub inst: Recs,
     pub samples: LinkedMembers<Sample<'a>>,
 }
 
@@ -42,15 +42,15 @@ impl<'a> Bank<'a> {
             minor,
             texts,
             preset_heads,
-            presets,
-            instrument_heads,
-            instruments,
+            inst_heads,
+            preset,
+            inst,
             samples,
         } = flat;
-        let Some(presets) = owners_of(preset_heads, presets) else {
+        let Some(presets) = owners_of(preset_heads, preset) else {
             return None;
         };
-        let Some(instruments) = owners_of(instrument_heads, instruments) else {
+        let Some(instruments) = owners_of(inst_heads, inst) else {
             return None;
         };
         let parts = Parts {

@@ -2,7 +2,9 @@
 ghost use Rattle.std.specs.Prelude.{◌≡◌, ◌+◌, length, MatchOption};
 ghost use Rattle.bank_core.specs.Heads.{head_records};
 
+use bank_parts::Head;
 use numbered_lists::NumberedList;
+use sf_base::Name20;
 use std::marker::Model;
 
 /// A record of `phdr` or `inst`: what a preset or an instrument has besides its zones, and the number of its
@@ -12,6 +14,12 @@ pub struct HeadRecord<H> {
     pub head: Option<H>,
     pub first_bag: u16,
 }
+
+/// A record of `phdr`.
+pub type PresetHead = HeadRecord<Head>;
+
+/// A record of `inst`.
+pub type InstHead = HeadRecord<Name20>;
 
 /// The records of `phdr` or `inst`, the terminal last.
 pub struct FlatHeads<H> {

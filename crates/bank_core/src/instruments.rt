@@ -34,7 +34,7 @@ impl<'a> Bank<'a> {
     {
         let totals = self
             .totals
-            .with_owner(Level::Instrument, instrument.records());
+            .with_owner(Level::Inst, instrument.records());
         add_instrument(&mut self.parts, number, instrument)?;
         self.totals = totals;
         Ok(())
@@ -57,7 +57,7 @@ impl<'a> Bank<'a> {
         let instrument = remove_instrument(&mut self.parts, alloc, number)?;
         self.totals = self
             .totals
-            .without_owner(Level::Instrument, instrument.records());
+            .without_owner(Level::Inst, instrument.records());
         Ok(instrument)
     }
 

@@ -16,7 +16,7 @@ mod zone_changes;
 mod zones;
 
 pub use bank::Bank;
-pub use bank_changes::{Members, Owner, Place};
+pub use bank_changes::{List, Owner, Place};
 pub use bank_parts::{
     GlobalZone, Head, InfoId, Instrument, Kind, Owners, Parts, Preset, Sample, Texts, WithZones,
     Zone, ZonePlace,
@@ -24,6 +24,6 @@ pub use bank_parts::{
 pub use bank_validity::is_valid;
 pub use fault::PartsFault;
 pub use flat::Flat;
-pub use flat_heads::{FlatHeads, HeadRecord};
+pub use flat_heads::{FlatHeads, HeadRecord, InstHead, PresetHead};
 pub use flat_records::Recs;
 pub use records::Part;

@@ -28,7 +28,7 @@ impl<'a> Bank<'a> {
     {
         match level {
             Level::Preset => list_len(self.presets(), part) as u32,
-            Level::Instrument => list_len(self.instruments(), part) as u32,
+            Level::Inst => list_len(self.instruments(), part) as u32,
         }
     }
 
@@ -39,7 +39,7 @@ impl<'a> Bank<'a> {
     {
         let first_bags = match level {
             Level::Preset => self.presets().first_bags(),
-            Level::Instrument => self.instruments().first_bags(),
+            Level::Inst => self.instruments().first_bags(),
         };
         first_bags.get(i as usize).copied()
     }
@@ -51,7 +51,7 @@ impl<'a> Bank<'a> {
     {
         let bags = match level {
             Level::Preset => self.presets().bag_records(),
-            Level::Instrument => self.instruments().bag_records(),
+            Level::Inst => self.instruments().bag_records(),
         };
         bags.get(k as usize).copied()
     }
@@ -63,7 +63,7 @@ impl<'a> Bank<'a> {
     {
         let gens = match level {
             Level::Preset => self.presets().gen_records(),
-            Level::Instrument => self.instruments().gen_records(),
+            Level::Inst => self.instruments().gen_records(),
         };
         gens.get(j as usize).copied()
     }
@@ -74,7 +74,7 @@ impl<'a> Bank<'a> {
     {
         let mods = match level {
             Level::Preset => self.presets().mod_records(),
-            Level::Instrument => self.instruments().mod_records(),
+            Level::Inst => self.instruments().mod_records(),
         };
         mods.get(j as usize).copied()
     }

@@ -72,7 +72,7 @@ undone_remove_instrument b i s t =
       sound = sound_remove_instrument b i s t.accepted;
       fits = (t.fits, all_found (FitsOwner IsName) b.instruments i x e s.fits.instruments);
       tests =
-          tests_add (λ name. name) level.Instrument (length b.samples) (length (instrument_removed b i).instruments)
+          tests_add (λ name. name) level.Inst (length b.samples) (length (instrument_removed b i).instruments)
           i x NoSuchSample (record { place = omega (arith, less, lt); is = is });
       restored = restored_removed_instrument b i x e c.free;
       redone = refl;

@@ -82,14 +82,14 @@ read_set b (owner.Preset p) at op amount h =
     let (s, e) = settings_allowed b (owner.Preset p) at op h in
     gen_set_read b.presets p (zone_place at) op amount
     (place_there b.presets p (zone_place at) (some_settings b (owner.Preset p) at s e))
-read_set b (owner.Instrument i) at op amount h =
-    let (s, e) = settings_allowed b (owner.Instrument i) at op h in
+read_set b (owner.Inst i) at op amount h =
+    let (s, e) = settings_allowed b (owner.Inst i) at op h in
     gen_set_read b.instruments i (zone_place at) op amount
-    (place_there b.instruments i (zone_place at) (some_settings b (owner.Instrument i) at s e))
+    (place_there b.instruments i (zone_place at) (some_settings b (owner.Inst i) at s e))
 
 read_cleared : (b : Parts) (o : Owner) (at : Place) (op : ℕ) → amount_of (gen_cleared b o at op) o at op ≡ None
 read_cleared b (owner.Preset p) at op = gen_cleared_read b.presets p (zone_place at) op
-read_cleared b (owner.Instrument i) at op = gen_cleared_read b.instruments i (zone_place at) op
+read_cleared b (owner.Inst i) at op = gen_cleared_read b.instruments i (zone_place at) op
 
 -- ---- what takes each change back
 
@@ -98,7 +98,7 @@ restored_set : (b : Parts) (o : Owner) (at : Place) (op was amount : ℕ) → am
 restored_set b (owner.Preset p) at op was amount e =
     ap (λ (presets : List (WithZones Head)). record b { presets = presets })
     (gen_set_back b.presets p (zone_place at) op was amount e)
-restored_set b (owner.Instrument i) at op was amount e =
+restored_set b (owner.Inst i) at op was amount e =
     ap (λ (instruments : List (WithZones (List ℕ))). record b { instruments = instruments })
     (gen_set_back b.instruments i (zone_place at) op was amount e)
 
@@ -109,18 +109,18 @@ restored_new b (owner.Preset p) at op amount h none =
     ap (λ (presets : List (WithZones Head)). record b { presets = presets })
     (gen_set_cleared b.presets p (zone_place at) op amount
     (place_there b.presets p (zone_place at) (some_settings b (owner.Preset p) at s e)) none)
-restored_new b (owner.Instrument i) at op amount h none =
-    let (s, e) = settings_allowed b (owner.Instrument i) at op h in
+restored_new b (owner.Inst i) at op amount h none =
+    let (s, e) = settings_allowed b (owner.Inst i) at op h in
     ap (λ (instruments : List (WithZones (List ℕ))). record b { instruments = instruments })
     (gen_set_cleared b.instruments i (zone_place at) op amount
-    (place_there b.instruments i (zone_place at) (some_settings b (owner.Instrument i) at s e)) none)
+    (place_there b.instruments i (zone_place at) (some_settings b (owner.Inst i) at s e)) none)
 
 restored_cleared : (b : Parts) (o : Owner) (at : Place) (op was : ℕ) → amount_of b o at op ≡ Some was
     → gen_set (gen_cleared b o at op) o at op was ≡ b
 restored_cleared b (owner.Preset p) at op was e =
     ap (λ (presets : List (WithZones Head)). record b { presets = presets })
     (gen_cleared_undone b.presets p (zone_place at) op was e)
-restored_cleared b (owner.Instrument i) at op was e =
+restored_cleared b (owner.Inst i) at op was e =
     ap (λ (instruments : List (WithZones (List ℕ))). record b { instruments = instruments })
     (gen_cleared_undone b.instruments i (zone_place at) op was e)
 
@@ -200,7 +200,7 @@ restored_added : (b : Parts) (o : Owner) (at : Place) (j : ℕ) (m : Modulator)
 restored_added b (owner.Preset p) at j m h =
     ap (λ (presets : List (WithZones Head)). record b { presets = presets })
     (mod_added_undone b.presets p (zone_place at) j m h)
-restored_added b (owner.Instrument i) at j m h =
+restored_added b (owner.Inst i) at j m h =
     ap (λ (instruments : List (WithZones (List ℕ))). record b { instruments = instruments })
     (mod_added_undone b.instruments i (zone_place at) j m h)
 
@@ -209,7 +209,7 @@ restored_removed : (b : Parts) (o : Owner) (at : Place) (j : ℕ) (m : Modulator
 restored_removed b (owner.Preset p) at j m e =
     ap (λ (presets : List (WithZones Head)). record b { presets = presets })
     (mod_removed_undone b.presets p (zone_place at) j m e)
-restored_removed b (owner.Instrument i) at j m e =
+restored_removed b (owner.Inst i) at j m e =
     ap (λ (instruments : List (WithZones (List ℕ))). record b { instruments = instruments })
     (mod_removed_undone b.instruments i (zone_place at) j m e)
 
@@ -218,7 +218,7 @@ restored_set_mod : (b : Parts) (o : Owner) (at : Place) (j : ℕ) (was m : Modul
 restored_set_mod b (owner.Preset p) at j was m e =
     ap (λ (presets : List (WithZones Head)). record b { presets = presets })
     (mod_set_back b.presets p (zone_place at) j was m e)
-restored_set_mod b (owner.Instrument i) at j was m e =
+restored_set_mod b (owner.Inst i) at j was m e =
     ap (λ (instruments : List (WithZones (List ℕ))). record b { instruments = instruments })
     (mod_set_back b.instruments i (zone_place at) j was m e)
 

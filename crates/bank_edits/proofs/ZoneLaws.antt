@@ -79,50 +79,50 @@ module _ (zones : List Zone) (k : ℕ) (P : ℕ → Type 0) where
   counted_added : (b : Parts) (o : Owner) (zone : Zone) → zones_of b o ≡ Some zones
       → P (length (insert zones k zone)) → IsSomeAnd (own_zone_count (zone_added b o k zone) o) P
   counted_added b (owner.Preset p) zone e h = counted_at b.presets p (λ zs. insert zs k zone) zones P e h
-  counted_added b (owner.Instrument i) zone e h = counted_at b.instruments i (λ zs. insert zs k zone) zones P e h
+  counted_added b (owner.Inst i) zone e h = counted_at b.instruments i (λ zs. insert zs k zone) zones P e h
 
   counted_removed : (b : Parts) (o : Owner) → zones_of b o ≡ Some zones → P (length (remove zones k))
       → IsSomeAnd (own_zone_count (zone_removed b o k) o) P
   counted_removed b (owner.Preset p) e h = counted_at b.presets p (λ zs. remove zs k) zones P e h
-  counted_removed b (owner.Instrument i) e h = counted_at b.instruments i (λ zs. remove zs k) zones P e h
+  counted_removed b (owner.Inst i) e h = counted_at b.instruments i (λ zs. remove zs k) zones P e h
 
   counted_moved : (b : Parts) (o : Owner) (to : ℕ) → zones_of b o ≡ Some zones → P (length (moved zones k to))
       → IsSomeAnd (own_zone_count (zone_moved b o k to) o) P
   counted_moved b (owner.Preset p) to e h = counted_at b.presets p (λ zs. moved zs k to) zones P e h
-  counted_moved b (owner.Instrument i) to e h = counted_at b.instruments i (λ zs. moved zs k to) zones P e h
+  counted_moved b (owner.Inst i) to e h = counted_at b.instruments i (λ zs. moved zs k to) zones P e h
 
   counted_target : (b : Parts) (o : Owner) (target : ℕ) → zones_of b o ≡ Some zones
       → P (length (changed zones k (with_target target))) → IsSomeAnd (own_zone_count (target_set b o k target) o) P
   counted_target b (owner.Preset p) target e h =
       counted_at b.presets p (λ zs. changed zs k (with_target target)) zones P e h
-  counted_target b (owner.Instrument i) target e h =
+  counted_target b (owner.Inst i) target e h =
       counted_at b.instruments i (λ zs. changed zs k (with_target target)) zones P e h
 
 -- the members that zones may target stay as many
 targets_stay-removed : (b : Parts) (o : Owner) (k : ℕ) → target_count (zone_removed b o k) o ≡ target_count b o
 targets_stay-removed b (owner.Preset p) k = refl
-targets_stay-removed b (owner.Instrument i) k = refl
+targets_stay-removed b (owner.Inst i) k = refl
 
 targets_stay-set : (b : Parts) (o : Owner) (k target : ℕ) → target_count (target_set b o k target) o ≡ target_count b o
 targets_stay-set b (owner.Preset p) k target = refl
-targets_stay-set b (owner.Instrument i) k target = refl
+targets_stay-set b (owner.Inst i) k target = refl
 
 -- what is read after a change
 
 read_added : (b : Parts) (o : Owner) (k : ℕ) (zone : Zone) → IsSomeAnd (own_zone_count b o) (λ count. k ≤ count)
     → zone_of (zone_added b o k zone) o k ≡ Some zone
 read_added b (owner.Preset p) k zone h = zone_added_read b.presets p k zone h
-read_added b (owner.Instrument i) k zone h = zone_added_read b.instruments i k zone h
+read_added b (owner.Inst i) k zone h = zone_added_read b.instruments i k zone h
 
 read_target : (b : Parts) (o : Owner) (k target : ℕ) → IsSomeAnd (own_zone_count b o) (λ count. k < count)
     → target_of (target_set b o k target) o k ≡ Some target
 read_target b (owner.Preset p) k target h = target_set_read b.presets p k target h
-read_target b (owner.Instrument i) k target h = target_set_read b.instruments i k target h
+read_target b (owner.Inst i) k target h = target_set_read b.instruments i k target h
 
 target_of_zone : (b : Parts) (o : Owner) (k : ℕ) (zone : Zone) → zone_of b o k ≡ Some zone
     → target_of b o k ≡ Some zone.target
 target_of_zone b (owner.Preset p) k zone e = ap (option_map (λ (z : Zone). z.target)) e
-target_of_zone b (owner.Instrument i) k zone e = ap (option_map (λ (z : Zone). z.target)) e
+target_of_zone b (owner.Inst i) k zone e = ap (option_map (λ (z : Zone). z.target)) e
 
 -- ---- add-zone
 
@@ -359,7 +359,7 @@ is_split b (owner.Preset p) k axis m small can =
       second = zone_is (upper_there s);
       begins = upper_begins s small;
     }
-is_split b (owner.Instrument i) k axis m small can =
+is_split b (owner.Inst i) k axis m small can =
     let s = split_there axis m b.instruments i k can in
     record {
       zone =
@@ -413,9 +413,9 @@ is_join b (owner.Preset p) k axis keep sound can =
       now = zone_is (one_there j);
       keeps = keep_of_joined axis keep j.at.zone j.second;
     }
-is_join b (owner.Instrument i) k axis keep sound can =
+is_join b (owner.Inst i) k axis keep sound can =
     let j = join_there axis keep b.instruments i k can in
-    let range = range_is b (owner.Instrument i) j.at.member.zones axis sound (zones_there b.instruments i k j.at) in
+    let range = range_is b (owner.Inst i) j.at.member.zones axis sound (zones_there b.instruments i k j.at) in
     let can = splits_after j (range k j.at.zone j.at.zone_there) (range (k + 1) j.second j.next) in
     record {
       second =

@@ -151,7 +151,7 @@ spelled_fit (e ∷ es) v = (record { operator = v.0.0; amount = v.0.1 }, spelled
 
 small_target : (at : Level) → target_operator at < 2 ^ 16
 small_target level.Preset = omega arith
-small_target level.Instrument = omega arith
+small_target level.Inst = omega arith
 
 zones_fit : (at : Level) (zs : List Zone) → AllByRecursion FitsZone zs
     → AllByRecursion FitsBagged (map (zone_written at) zs)

@@ -157,5 +157,5 @@ unfolding tables_of
 indexes-sum b = record {
   presets = sums level.Preset b.presets _ (head_indexes presets (λ n h. refl) (λ n. refl) 0 b.presets);
   instruments =
-      sums level.Instrument b.instruments _ (head_indexes instruments (λ n h. refl) (λ n. refl) 0 b.instruments);
+      sums level.Inst b.instruments _ (head_indexes instruments (λ n h. refl) (λ n. refl) 0 b.instruments);
 }

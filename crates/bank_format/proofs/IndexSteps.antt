@@ -82,14 +82,14 @@ pub index_steps_hold : (b : Parts) → first_broken (all_index_steps (tables_of 
 unfolding all_index_steps tables_of
 index_steps_hold b =
     let pbags = all_bags level.Preset b.presets in
-    let ibags = all_bags level.Instrument b.instruments in
+    let ibags = all_bags level.Inst b.instruments in
     then_none
     (index_steps (map (λ (h : PresetHead). h.bag) (heads_from presets 0 b.presets)) (length (bag_list pbags))) _
     (head_steps_hold (bags_of level.Preset) b.presets _ (head_indexes presets (λ n x. refl) (λ n. refl) 0 b.presets))
     (then_none (bag_steps (bag_list pbags) (length (gen_list pbags)) (length (mod_list pbags))) _ (bag_steps_hold pbags)
     (then_none (index_steps (map (λ (h : InstrumentHead). h.bag) (heads_from instruments 0 b.instruments))
     (length (bag_list ibags))) _
-    (head_steps_hold (bags_of level.Instrument) b.instruments _
+    (head_steps_hold (bags_of level.Inst) b.instruments _
     (head_indexes instruments (λ n x. refl) (λ n. refl) 0 b.instruments))
     (bag_steps_hold ibags)))
 
@@ -114,4 +114,4 @@ target_steps_hold b v =
     then_none (targets_of (length b.instruments) fault.BadInstrument b.presets) _
     (owner_targets_hold (λ (x : Head). x.name) level.Preset (length b.instruments) fault.BadInstrument b.presets
     v.presets)
-    (owner_targets_hold (λ name. name) level.Instrument (length b.samples) fault.BadSample b.instruments v.instruments)
+    (owner_targets_hold (λ name. name) level.Inst (length b.samples) fault.BadSample b.instruments v.instruments)

@@ -125,18 +125,18 @@ module _ (b : Parts) (v : IsValid b) where
       let pg = w.preset_gens in let pm = w.preset_mods in
       let ig = w.instrument_gens in let im = w.instrument_mods in let pts = w.points in
       let eg = gens_are level.Preset b.presets in let em = mods_are level.Preset b.presets in
-      let fg = gens_are level.Instrument b.instruments in let fm = mods_are level.Instrument b.instruments in
+      let fg = gens_are level.Inst b.instruments in let fm = mods_are level.Inst b.instruments in
       let pbags = all_bags_fit level.Preset b.presets FitsHead f.presets in
-      let ibags = all_bags_fit level.Instrument b.instruments IsName f.instruments in
+      let ibags = all_bags_fit level.Inst b.instruments IsName f.instruments in
       record {
         phdr = preset_heads_fit b.presets f.presets w.preset_zones;
         pbag = bags_fit (all_bags level.Preset b.presets) (omega (arith, eg, pg)) (omega (arith, em, pm));
         pmod = mod_list_fit (all_bags level.Preset b.presets) pbags;
         pgen = gen_list_fit (all_bags level.Preset b.presets) pbags;
         inst = instrument_heads_fit b.instruments f.instruments w.instrument_zones;
-        ibag = bags_fit (all_bags level.Instrument b.instruments) (omega (arith, fg, ig)) (omega (arith, fm, im));
-        imod = mod_list_fit (all_bags level.Instrument b.instruments) ibags;
-        igen = gen_list_fit (all_bags level.Instrument b.instruments) ibags;
+        ibag = bags_fit (all_bags level.Inst b.instruments) (omega (arith, fg, ig)) (omega (arith, fm, im));
+        imod = mod_list_fit (all_bags level.Inst b.instruments) ibags;
+        igen = gen_list_fit (all_bags level.Inst b.instruments) ibags;
         shdr = sample_heads_fit (length b.samples) 0 b.samples v.samples f.samples (omega (arith, pts));
       }
 
@@ -164,8 +164,8 @@ module _ (b : Parts) (v : IsValid b) where
       let ig = w.instrument_gens in let im = w.instrument_mods in let iz = w.instrument_zones in
       let eg = gens_are level.Preset b.presets in
       let em = mods_are level.Preset b.presets in let ez = zones_are level.Preset b.presets in
-      let fg = gens_are level.Instrument b.instruments in
-      let fm = mods_are level.Instrument b.instruments in let fz = zones_are level.Instrument b.instruments in
+      let fg = gens_are level.Inst b.instruments in
+      let fm = mods_are level.Inst b.instruments in let fz = zones_are level.Inst b.instruments in
       let lp = length-heads presets 0 b.presets in
       let li = length-heads instruments 0 b.instruments in
       let ls = length-append (sample_heads_from 0 b.samples) (sample_end ∷ []) in
@@ -176,9 +176,9 @@ module _ (b : Parts) (v : IsValid b) where
         pmod = mods_counted (all_bags level.Preset b.presets) (omega (arith, em, pm));
         pgen = gens_counted (all_bags level.Preset b.presets) (omega (arith, eg, pg));
         inst = (omega (arith, li), omega (arith, li, ni));
-        ibag = bags_counted (all_bags level.Instrument b.instruments) (omega (arith, fz, iz));
-        imod = mods_counted (all_bags level.Instrument b.instruments) (omega (arith, fm, im));
-        igen = gens_counted (all_bags level.Instrument b.instruments) (omega (arith, fg, ig));
+        ibag = bags_counted (all_bags level.Inst b.instruments) (omega (arith, fz, iz));
+        imod = mods_counted (all_bags level.Inst b.instruments) (omega (arith, fm, im));
+        igen = gens_counted (all_bags level.Inst b.instruments) (omega (arith, fg, ig));
         shdr = (omega (arith, ls), omega (arith, ls, lh, ns));
       }
 

@@ -115,7 +115,7 @@ preset_windows-again : (b : Parts) → preset_windows (tables_of b) ≡ map (bag
 unfolding preset_windows tables_of
 preset_windows-again b = windows_are_bags presets (λ n x. refl) (λ n. refl) b.presets
 
-instrument_windows-again : (b : Parts) → instrument_windows (tables_of b) ≡ map (bags_of level.Instrument) b.instruments
+instrument_windows-again : (b : Parts) → instrument_windows (tables_of b) ≡ map (bags_of level.Inst) b.instruments
 unfolding instrument_windows tables_of
 instrument_windows-again b = windows_are_bags instruments (λ n x. refl) (λ n. refl) b.instruments
 
@@ -149,7 +149,7 @@ module _ (f : Level → List Bagged → ℕ)
     -- a count that is zero for the bags of each header
     counted_none : (b : Parts) → IsValid b
         → sum_by (f level.Preset) (preset_windows (tables_of b))
-        + sum_by (f level.Instrument) (instrument_windows (tables_of b))
+        + sum_by (f level.Inst) (instrument_windows (tables_of b))
         ≡ 0
     counted_none b v =
         let n = length b.instruments in
@@ -159,25 +159,25 @@ module _ (f : Level → List Bagged → ℕ)
         ∙ sum-none_by (IsPreset n) (f level.Preset) (bags_of level.Preset)
         (λ p q. none_written level.Preset n p.global p.zones q.zones) b.presets v.presets in
         let i =
-        ap (sum_by (f level.Instrument)) (instrument_windows-again b)
-        ∙ sum-none_by (IsInstrument k) (f level.Instrument) (bags_of level.Instrument)
-        (λ i q. none_written level.Instrument k i.global i.zones q.zones) b.instruments v.instruments in
+        ap (sum_by (f level.Inst)) (instrument_windows-again b)
+        ∙ sum-none_by (IsInstrument k) (f level.Inst) (bags_of level.Inst)
+        (λ i q. none_written level.Inst k i.global i.zones q.zones) b.instruments v.instruments in
         omega (arith, p, i)
 
 pub zones_counted : (b : Parts) → IsValid b
     → sum_by (ignored level.Preset) (preset_windows (tables_of b))
-    + sum_by (ignored level.Instrument) (instrument_windows (tables_of b))
+    + sum_by (ignored level.Inst) (instrument_windows (tables_of b))
     ≡ 0
 zones_counted = counted_none ignored (λ at n g zs a. a.ignored)
 
 pub gens_counted : (b : Parts) → IsValid b
     → sum_by (gens_dropped level.Preset) (preset_windows (tables_of b))
-    + sum_by (gens_dropped level.Instrument) (instrument_windows (tables_of b))
+    + sum_by (gens_dropped level.Inst) (instrument_windows (tables_of b))
     ≡ 0
 gens_counted = counted_none gens_dropped (λ at n g zs a. a.dropped)
 
 pub ranges_counted : (b : Parts) → IsValid b
     → sum_by (ranges_mended level.Preset) (preset_windows (tables_of b))
-    + sum_by (ranges_mended level.Instrument) (instrument_windows (tables_of b))
+    + sum_by (ranges_mended level.Inst) (instrument_windows (tables_of b))
     ≡ 0
 ranges_counted = counted_none ranges_mended (λ at n g zs a. a.mended)

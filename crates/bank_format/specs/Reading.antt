@@ -68,13 +68,13 @@ unfoldable pub counts_of : List Chunk → List Chunk → Tables → Counts
 counts_of info sdta t = record {
   texts = texts_cut info;
   sm24 = sm24_dropped sdta;
-  zones = sum_by (ignored level.Preset) (preset_windows t) + sum_by (ignored level.Instrument) (instrument_windows t);
+  zones = sum_by (ignored level.Preset) (preset_windows t) + sum_by (ignored level.Inst) (instrument_windows t);
   gens =
       sum_by (gens_dropped level.Preset) (preset_windows t)
-      + sum_by (gens_dropped level.Instrument) (instrument_windows t);
+      + sum_by (gens_dropped level.Inst) (instrument_windows t);
   ranges =
       sum_by (ranges_mended level.Preset) (preset_windows t)
-      + sum_by (ranges_mended level.Instrument) (instrument_windows t);
+      + sum_by (ranges_mended level.Inst) (instrument_windows t);
   loops = count_by is_loop_lost (rows t.shdr);
   links = count_by (is_link_lost (length (rows t.shdr))) (rows t.shdr);
 }

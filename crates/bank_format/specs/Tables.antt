@@ -139,7 +139,7 @@ abbrev pub instruments : Headers (List ℕ) InstrumentHead
 instruments =
     record {
       level =
-          level.Instrument;
+          level.Inst;
       written =
           instrument_written;
       last =
@@ -221,8 +221,8 @@ tables_of b = record {
   pmod = mod_list (all_bags level.Preset b.presets);
   pgen = gen_list (all_bags level.Preset b.presets);
   inst = heads_from instruments 0 b.instruments;
-  ibag = bag_list (all_bags level.Instrument b.instruments);
-  imod = mod_list (all_bags level.Instrument b.instruments);
-  igen = gen_list (all_bags level.Instrument b.instruments);
+  ibag = bag_list (all_bags level.Inst b.instruments);
+  imod = mod_list (all_bags level.Inst b.instruments);
+  igen = gen_list (all_bags level.Inst b.instruments);
   shdr = sample_heads_from 0 b.samples ++ sample_end ∷ [];
 }

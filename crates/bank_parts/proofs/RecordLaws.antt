@@ -192,7 +192,7 @@ module _ (op number : ℕ) where
 
 no_target_zero : (at : Level) → (0 == target_operator at) ≡ false
 no_target_zero level.Preset = refl
-no_target_zero level.Instrument = refl
+no_target_zero level.Inst = refl
 
 -- the terminal is no target
 pub any_target : {H : Type 0} (at : Level) (number : ℕ) {heads : List H} {bags : List (List Bag)}

@@ -40,4 +40,4 @@ pub record AreFlat {H : Type 0} (at : Level) (hs : List H) (lists : FlatLists) (
 -- the presets, or the instruments, of a bank
 abbrev pub flat_of : Level → Parts → FlatLists
 flat_of level.Preset b = lists_of level.Preset b.presets
-flat_of level.Instrument b = lists_of level.Instrument b.instruments
+flat_of level.Inst b = lists_of level.Inst b.instruments

@@ -52,7 +52,7 @@ abbrev pub IsPreset : ℕ → WithZones Head → Type 0
 IsPreset instruments = IsOwner (λ (h : Head). h.name) level.Preset instruments
 
 abbrev pub IsInstrument : ℕ → WithZones (List ℕ) → Type 0
-IsInstrument samples = IsOwner (λ name. name) level.Instrument samples
+IsInstrument samples = IsOwner (λ name. name) level.Inst samples
 
 -- a loop of at least one point lies in n points
 abbrev pub IsLoop : ℕ → Option (ℕ × ℕ) → Type 0

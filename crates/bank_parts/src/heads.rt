@@ -56,13 +56,13 @@ impl OwnerHead for Head {
 impl OwnerHead for Name20 {
     ghost use Rattle.generators.specs.declared.level.Level.TheVariants as level;
 
-    ghost LEVEL = { level.Instrument };
+    ghost LEVEL = { level.Inst };
 
     ghost name = { λ name. name };
 
     ghost IsFit = { IsName };
 
-    const LEVEL: Level = Level::Instrument;
+    const LEVEL: Level = Level::Inst;
 
     fn fits(&self) {
         let _name = self.bytes();

@@ -257,7 +257,7 @@ module _ (b : Parts) (s : IsSound b) where
         one_taken here (with_instruments m t b.samples (done ++ x ∷ []) rest)
             (steps.Instrument (AddInstrument (length done) x))
             (omega (arith, n, few), fit)
-            (owner.tests_add (λ name. name) level.Instrument (length b.samples) (length done) (length done) x
+            (owner.tests_add (λ name. name) level.Inst (length b.samples) (length done) (length done) x
             NoSuchSample (record { place = omega arith; is = is }))
             (instrument_added_last m t b.samples done x rest)
             (instruments_sound (done ++ x ∷ []) rest (append_assoc done (x ∷ []) rest ∙ e)),

@@ -9,7 +9,7 @@ use Rattle.bank_validity.specs.Limits.{totals_at, level_changed}
 pub changed_by : (at : Level) (f g : LevelTotals → LevelTotals) (t : Totals)
     → f (totals_at at t) ≡ g (totals_at at t) → level_changed at f t ≡ level_changed at g t
 changed_by level.Preset f g t e = λ i. record t { presets = e i }
-changed_by level.Instrument f g t e = λ i. record t { instruments = e i }
+changed_by level.Inst f g t e = λ i. record t { instruments = e i }
 
 -- one that is put in the place of the level
 pub put_at : (at : Level) (f : LevelTotals → LevelTotals) (t : Totals) (l : LevelTotals) → l ≡ f (totals_at at t)
@@ -19,16 +19,16 @@ put_at at f t l e = changed_by at (λ _. l) f t e
 pub changed_at : (at : Level) (f : LevelTotals → LevelTotals) (t : Totals)
     → totals_at at (level_changed at f t) ≡ f (totals_at at t)
 changed_at level.Preset f t = refl
-changed_at level.Instrument f t = refl
+changed_at level.Inst f t = refl
 
 pub changed_twice : (at : Level) (f g : LevelTotals → LevelTotals) (t : Totals)
     → level_changed at g (level_changed at f t) ≡ level_changed at (λ l. g (f l)) t
 changed_twice level.Preset f g t = refl
-changed_twice level.Instrument f g t = refl
+changed_twice level.Inst f g t = refl
 
 pub unchanged : (at : Level) (t : Totals) → level_changed at (λ l. l) t ≡ t
 unchanged level.Preset t = refl
-unchanged level.Instrument t = refl
+unchanged level.Inst t = refl
 
 -- a change that g takes back
 pub taken_back : (at : Level) (f g : LevelTotals → LevelTotals) → ((l : LevelTotals) → g (f l) ≡ l) → (t : Totals)
@@ -45,4 +45,4 @@ same_before at f g back t u e = sym (taken_back at f g back t) ∙ (ap (level_ch
 pub same_beside : (at : Level) (f g : LevelTotals → LevelTotals) (t u : Totals)
     → level_changed at f t ≡ level_changed at g u → t ≡ level_changed at (λ _. totals_at at t) u
 same_beside level.Preset f g t u e = ap (level_changed level.Preset (λ _. t.presets)) e
-same_beside level.Instrument f g t u e = ap (level_changed level.Instrument (λ _. t.instruments)) e
+same_beside level.Inst f g t u e = ap (level_changed level.Inst (λ _. t.instruments)) e

@@ -118,23 +118,23 @@ no_limit_of b w = none_broken (totals_of b) (of_parts b w)
 
 abbrev pub most_at : Level → ℕ
 most_at level.Preset = PRESETS
-most_at level.Instrument = INSTRUMENTS
+most_at level.Inst = INSTRUMENTS
 
 pub within_at : (at : Level) (t : Totals) → AreWithin t → LevelWithin (most_at at) (totals_at at t)
 within_at level.Preset t w = w.presets
-within_at level.Instrument t w = w.instruments
+within_at level.Inst t w = w.instruments
 
 -- the level that is changed
 pub level_within : (at : Level) (f : LevelTotals → LevelTotals) (t : Totals) → AreWithin (level_changed at f t)
     → LevelWithin (most_at at) (f (totals_at at t))
 level_within level.Preset f t w = w.presets
-level_within level.Instrument f t w = w.instruments
+level_within level.Inst f t w = w.instruments
 
 pub put_within : (at : Level) (l : LevelTotals) (t : Totals) → AreWithin t → LevelWithin (most_at at) l
     → AreWithin (level_changed at (λ _. l) t)
 put_within level.Preset l t w own =
     record { presets = own; instruments = w.instruments; samples = w.samples; points = w.points }
-put_within level.Instrument l t w own =
+put_within level.Inst l t w own =
     record { presets = w.presets; instruments = own; samples = w.samples; points = w.points }
 
 -- what the other level says stays
@@ -142,7 +142,7 @@ pub unchanged_within : (at : Level) (f : LevelTotals → LevelTotals) (t : Total
     → LevelWithin (most_at at) (totals_at at t) → AreWithin t
 unchanged_within level.Preset f t w l =
     record { presets = l; instruments = w.instruments; samples = w.samples; points = w.points }
-unchanged_within level.Instrument f t w l =
+unchanged_within level.Inst f t w l =
     record { presets = w.presets; instruments = l; samples = w.samples; points = w.points }
 
 -- ---- totals as 64 bits count them
@@ -184,7 +184,7 @@ records_few most l w = λ i. record {
 
 pub count_few : (at : Level) (t : Totals) → AreWithin t → counted (totals_at at t).count ≡ (totals_at at t).count
 count_few level.Preset t w = let l = w.presets in few PRESETS t.presets.count l.count (omega arith)
-count_few level.Instrument t w = let l = w.instruments in few INSTRUMENTS t.instruments.count l.count (omega arith)
+count_few level.Inst t w = let l = w.instruments in few INSTRUMENTS t.instruments.count l.count (omega arith)
 
 level_same : (most : ℕ) (l : LevelTotals) → LevelWithin most l → most < 2 ^ 64 → level_counted l ≡ l
 level_same most l w small = λ i. record { count = few most l.count w.count small i; records = records_few most l w i }
@@ -241,7 +241,7 @@ counted_changed level.Preset f g t w e = λ i. record t {
   instruments = sym (level_same INSTRUMENTS t.instruments w.instruments (omega arith)) i;
   points = sym (few POINTS t.points w.points (omega arith)) i;
 }
-counted_changed level.Instrument f g t w e = λ i. record t {
+counted_changed level.Inst f g t w e = λ i. record t {
   presets = sym (level_same PRESETS t.presets w.presets (omega arith)) i;
   instruments = e i;
   points = sym (few POINTS t.points w.points (omega arith)) i;
@@ -259,8 +259,8 @@ pub changed_same : (at : Level) (g : LevelTotals → LevelTotals) (t : Totals) �
 changed_same level.Preset g t e =
     let w = within_totals (level_changed level.Preset g t) e in
     λ i. record t { presets = level_same PRESETS (g t.presets) w.presets (omega arith) i }
-changed_same level.Instrument g t e =
-    let w = within_totals (level_changed level.Instrument g t) e in
+changed_same level.Inst g t e =
+    let w = within_totals (level_changed level.Inst g t) e in
     λ i. record t { instruments = level_same INSTRUMENTS (g t.instruments) w.instruments (omega arith) i }
 
 counted_plus : (a more b : ℕ) → more ≡ counted b → counted (a + more) ≡ counted (a + b)

@@ -61,12 +61,12 @@ with_sample t points = record t { samples = t.samples + 1; points = t.points + (
 
 abbrev pub totals_at : Level → Totals → LevelTotals
 totals_at level.Preset t = t.presets
-totals_at level.Instrument t = t.instruments
+totals_at level.Inst t = t.instruments
 
 -- the level sent through f
 abbrev pub level_changed : Level → (LevelTotals → LevelTotals) → Totals → Totals
 level_changed level.Preset f t = record t { presets = f t.presets }
-level_changed level.Instrument f t = record t { instruments = f t.instruments }
+level_changed level.Inst f t = record t { instruments = f t.instruments }
 
 -- so many records more, in those that there are
 abbrev pub plus_records : Records → LevelTotals → LevelTotals

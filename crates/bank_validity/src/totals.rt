@@ -32,7 +32,7 @@ impl Totals {
     {
         match at {
             Level::Preset => self.presets,
-            Level::Instrument => self.instruments,
+            Level::Inst => self.instruments,
         }
     }
 
@@ -45,7 +45,7 @@ impl Totals {
                 presets: level,
                 ..self
             },
-            Level::Instrument => Totals {
+            Level::Inst => Totals {
                 instruments: level,
                 ..self
             },

@@ -4,7 +4,7 @@ use Rattle.std.specs.Str.Parse.{IsNumeral, digits_value, without_leading_plus}
 use Rattle.clap.specs.Words.{first_value, one_text}
 use Rattle.clap.specs.declared.parser.matches.Found.{Found}
 use Rattle.bank_changes.specs.declared.members.Owner.{Owner}
-use Rattle.bank_changes.specs.declared.members.Owner.TheVariants.{Preset, Instrument}
+use Rattle.bank_changes.specs.declared.members.Owner.TheVariants.{Preset, Inst}
 use Rattle.command_words.specs.declared.words.Request.{Request}
 use Rattle.command_words.specs.declared.words.Request.TheVariants.{Apply, Canon, Diff, Explain, Import, Live, Map}
 use Rattle.command_words.specs.declared.words.Request.TheVariants.{New, Play, Script, Show, Wave}
@@ -77,7 +77,7 @@ NamesForms found forms =
 -- whose ranges are drawn: `preset` or `inst`, and a number
 abbrev pub NamesOwner : Found → Owner → Type 0
 NamesOwner found (Preset n) = NamesPath found (codes "LEVEL") (codes "preset") × NamesNumber found (codes "N") n
-NamesOwner found (Instrument n) = NamesPath found (codes "LEVEL") (codes "inst") × NamesNumber found (codes "N") n
+NamesOwner found (Inst n) = NamesPath found (codes "LEVEL") (codes "inst") × NamesNumber found (codes "N") n
 
 abbrev pub HasOwner : Found → Type 0
 HasOwner found =

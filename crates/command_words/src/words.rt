@@ -275,7 +275,7 @@ fn owner(matches: &ArgMatches<'_>) -> Option<Owner>
     if level == "preset" {
         Some(Owner::Preset(number))
     } else if level == "inst" {
-        Some(Owner::Instrument(number))
+        Some(Owner::Inst(number))
     } else {
         None
     }

@@ -62,7 +62,7 @@ used_instrument b instrument = test (instrument_in_use b instrument) InUse
 
 abbrev pub no_such_owner : Parts → Owner → Test
 no_such_owner b (owner.Preset p) = no_such_preset b p
-no_such_owner b (owner.Instrument i) = no_such_instrument b i
+no_such_owner b (owner.Inst i) = no_such_instrument b i
 
 -- ---- zones of a preset or an instrument
 
@@ -81,7 +81,7 @@ no_such_zone_at b o (place.Zone k) = no_such_zone b o k
 -- the cause of a target that names no member
 abbrev pub target_cause : Owner → Cause
 target_cause (owner.Preset p) = NoSuchInstrument
-target_cause (owner.Instrument i) = NoSuchSample
+target_cause (owner.Inst i) = NoSuchSample
 
 -- the target of one zone is past the members that its level may target
 abbrev pub no_such_target_of : Parts → Owner → ℕ → Test

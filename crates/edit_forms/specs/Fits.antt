@@ -20,7 +20,7 @@ use Rattle.edit_forms.specs.Texts as texts
 -- numbers of 32 bits
 abbrev pub FitsNumberOf : Owner → Type 0
 FitsNumberOf (owner.Preset p) = p < 2 ^ 32
-FitsNumberOf (owner.Instrument i) = i < 2 ^ 32
+FitsNumberOf (owner.Inst i) = i < 2 ^ 32
 
 abbrev pub FitsPlace : Place → Type 0
 FitsPlace place.Global = Unit {0}

@@ -34,7 +34,7 @@ abbrev pub causes : Parts → InstrumentStep → List Test
 causes b (AddInstrument at instrument) =
     no_such_target (length b.samples) instrument NoSuchSample
     ∷ bad_place (length b.instruments) at
-    ∷ bad_generator level.Instrument instrument
+    ∷ bad_generator level.Inst instrument
     ∷ bad_range instrument
     ∷ []
 causes b (RemoveInstrument instrument) = no_such_instrument b instrument ∷ used_instrument b instrument ∷ []

@@ -90,7 +90,7 @@ fn owner_fits(owner: Owner)
     ensures { FitsNumberOf owner }
 {
     match owner {
-        Owner::Preset(_number) | Owner::Instrument(_number) => {}
+        Owner::Preset(_number) | Owner::Inst(_number) => {}
     }
 }
 

@@ -31,11 +31,11 @@ use Rattle.edit_refusals.proofs.Rises.{rises}
 
 module _ (b : Parts) (i : ℕ) (x : WithZones (List ℕ)) where
   abbrev pub InstrumentGoes : Type 0
-  InstrumentGoes = GoesIn (λ name. name) level.Instrument (length b.samples) (length b.instruments) i x
+  InstrumentGoes = GoesIn (λ name. name) level.Inst (length b.samples) (length b.instruments) i x
 
   pub instrument_goes : FitsOwner IsName x → refusal b (steps.Instrument (AddInstrument i x)) ≡ None → InstrumentGoes
   instrument_goes fits h =
-      goes_in (λ name. name) level.Instrument (length b.samples) (length b.instruments) i x NoSuchSample fits.head
+      goes_in (λ name. name) level.Inst (length b.samples) (length b.instruments) i x NoSuchSample fits.head
       (accepted b (steps.Instrument (AddInstrument i x)) h).tests
 
   pub sound_add_instrument : IsSound b → FitsOwner IsName x → refusal b (steps.Instrument (AddInstrument i x)) ≡ None
@@ -48,7 +48,7 @@ module _ (b : Parts) (i : ℕ) (x : WithZones (List ℕ)) where
   -- the limit that the sums tell
   pub limit_add_instrument : i ≤ length b.instruments
       → broken_limit (instrument_added b i x)
-      ≡ broken (with_owner level.Instrument (totals_of b) (records_of_owner x))
+      ≡ broken (with_owner level.Inst (totals_of b) (records_of_owner x))
   limit_add_instrument le = ap broken (totals-added_instrument b i x le)
 
 -- ---- remove-inst

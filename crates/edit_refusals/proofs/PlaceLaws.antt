@@ -14,7 +14,7 @@ use Rattle.bank_parts.specs.Settings.{Settings, settings_of_zone, zone_with_sett
 use Rattle.bank_parts.proofs.SettingLaws.{changed_unseen, mods_of_settings}
 use Rattle.bank_parts.proofs.UndoneLaws.{settings_there}
 use Rattle.bank_changes.specs.declared.members.Owner.{Owner}
-use Rattle.bank_changes.specs.declared.members.Owner.TheVariants.{Preset, Instrument}
+use Rattle.bank_changes.specs.declared.members.Owner.TheVariants.{Preset, Inst}
 use Rattle.bank_changes.specs.declared.members.Place.{Place}
 use Rattle.bank_changes.specs.declared.members.Place.TheVariants as place
 use Rattle.bank_changes.specs.Members.{zone_place, settings_of, mods_of}
@@ -36,16 +36,16 @@ place_found b (Preset p) place.Global owner zone =
     settings_there b.presets p there.Global (below (length b.presets) p owner)
 place_found b (Preset p) (place.Zone k) owner zone =
     settings_there b.presets p (there.Zone k) (counted (zone_count_at b.presets p) k zone)
-place_found b (Instrument i) place.Global owner zone =
+place_found b (Inst i) place.Global owner zone =
     settings_there b.instruments i there.Global (below (length b.instruments) i owner)
-place_found b (Instrument i) (place.Zone k) owner zone =
+place_found b (Inst i) (place.Zone k) owner zone =
     settings_there b.instruments i (there.Zone k) (counted (zone_count_at b.instruments i) k zone)
 
 pub mods_found : (b : Parts) (o : Owner) (at : Place) (s : Settings) → settings_of b o at ≡ Some s
     → mods_of b o at ≡ Some s.mods
 mods_found b (Preset p) at s e =
     mods_of_settings b.presets p (zone_place at) ∙ ap (option_map (λ (s : Settings). s.mods)) e
-mods_found b (Instrument i) at s e =
+mods_found b (Inst i) at s e =
     mods_of_settings b.instruments i (zone_place at) ∙ ap (option_map (λ (s : Settings). s.mods)) e
 
 pub mods_there_are : (b : Parts) (o : Owner) (at : Place) (s : Settings) → settings_of b o at ≡ Some s
@@ -83,14 +83,14 @@ pub zone_total_stays : (b : Parts) (o : Owner) (at : Place) (f : Settings → Se
     → zone_total (own_place_changed b o at f) o ≡ zone_total b o
 zone_total_stays b (Preset p) at f =
     ap (λ (n : Option ℕ). unwrap_or n 0) (zone_counts_stay b.presets p (zone_place at) f)
-zone_total_stays b (Instrument i) at f =
+zone_total_stays b (Inst i) at f =
     ap (λ (n : Option ℕ). unwrap_or n 0) (zone_counts_stay b.instruments i (zone_place at) f)
 
 pub owner_stays_there : (b : Parts) (o : Owner) (at : Place) (f : Settings → Settings)
     → (no_such_owner b o).stands ≡ false → (no_such_owner (own_place_changed b o at f) o).stands ≡ false
 owner_stays_there b (Preset p) at f h =
     ap (λ n. nat_le n p) (length-changed b.presets p (settings_changed (zone_place at) f)) ∙ h
-owner_stays_there b (Instrument i) at f h =
+owner_stays_there b (Inst i) at f h =
     ap (λ n. nat_le n i) (length-changed b.instruments i (settings_changed (zone_place at) f)) ∙ h
 
 pub place_stays_there : (b : Parts) (o : Owner) (at : Place) (f : Settings → Settings)

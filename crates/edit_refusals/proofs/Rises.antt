@@ -25,7 +25,7 @@ from_below n m (t ∷ ts) le h = also_above n m (number_of t.cause) (rises (numb
 pub behind_owner : (b : Parts) (o : Owner) (ts : List Test) → rises 21 ts ≡ true
     → rises 0 (no_such_owner b o ∷ ts) ≡ true
 behind_owner b (owner.Preset p) ts h = from_below 20 21 ts (omega arith) h
-behind_owner b (owner.Instrument i) ts h = h
+behind_owner b (owner.Inst i) ts h = h
 
 pub behind_place : (b : Parts) (o : Owner) (at : Place) (ts : List Test) → rises 23 ts ≡ true
     → rises 21 (no_such_zone_at b o at ∷ ts) ≡ true

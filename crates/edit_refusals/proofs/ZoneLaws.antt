@@ -49,7 +49,7 @@ pub total_there : (b : Parts) (o : Owner) (P : ℕ → Type 0) → (no_such_owne
     → IsSomeAnd (own_zone_count b o) P
 total_there b (owner.Preset p) P h k =
     let (x, e) = slice_get-found b.presets p (below (length b.presets) p h) in rw e (rw e at k)
-total_there b (owner.Instrument i) P h k =
+total_there b (owner.Inst i) P h k =
     let (x, e) = slice_get-found b.instruments i (below (length b.instruments) i h) in rw e (rw e at k)
 
 pub total_is : (o : Option ℕ) (P : ℕ → Type 0) → IsSomeAnd o P → P (unwrap_or o 0)
@@ -62,7 +62,7 @@ owner_is_there b (owner.Preset p) P h =
     let t = zones_there b.presets p P h in
     let x = source (λ x. x.zones) (slice_get b.presets p) t.member t.there in
     not_below (length b.presets) p (slice_get-within b.presets p x.member x.there)
-owner_is_there b (owner.Instrument i) P h =
+owner_is_there b (owner.Inst i) P h =
     let t = zones_there b.instruments i P h in
     let x = source (λ x. x.zones) (slice_get b.instruments i) t.member t.there in
     not_below (length b.instruments) i (slice_get-within b.instruments i x.member x.there)
@@ -250,7 +250,7 @@ few_there b (owner.Preset p) zones sound e =
     let x = source (λ (x : WithZones Head). x.zones) (slice_get b.presets p) zones e in
     subst (λ (zs : List Zone). length zs < 2 ^ 32) x.seen
     (few_zones b.presets p x.member x.there sound.valid.limits.preset_zones)
-few_there b (owner.Instrument i) zones sound e =
+few_there b (owner.Inst i) zones sound e =
     let x = source (λ (x : WithZones (List ℕ)). x.zones) (slice_get b.instruments i) zones e in
     subst (λ (zs : List Zone). length zs < 2 ^ 32) x.seen
     (few_zones b.instruments i x.member x.there sound.valid.limits.instrument_zones)
@@ -325,10 +325,10 @@ module _ (b : Parts) (o : Owner) (k : ℕ) (axis : Axis) (keep : Keep) where
 
 pub zone_rises : (b : Parts) (o : Owner) (s : ZoneStep) → rises 21 (zones.causes b o s) ≡ true
 zone_rises b (owner.Preset p) (AddZone at zone) = refl
-zone_rises b (owner.Instrument i) (AddZone at zone) = refl
+zone_rises b (owner.Inst i) (AddZone at zone) = refl
 zone_rises b o (RemoveZone zone) = refl
 zone_rises b o (MoveZone from to) = refl
 zone_rises b o (SplitZone zone axis at) = refl
 zone_rises b o (JoinZone zone axis kept) = refl
 zone_rises b (owner.Preset p) (SetTarget zone target) = refl
-zone_rises b (owner.Instrument i) (SetTarget zone target) = refl
+zone_rises b (owner.Inst i) (SetTarget zone target) = refl

@@ -56,7 +56,7 @@ pub(crate) fn no_such_owner(bank: &Bank<'_>, owner: Owner) -> Result<(), Cause>
 {
     match owner {
         Owner::Preset(number) => no_such_preset(bank, number),
-        Owner::Instrument(number) => no_such_instrument(bank, number),
+        Owner::Inst(number) => no_such_instrument(bank, number),
     }
 }
 
@@ -127,7 +127,7 @@ pub(crate) fn no_such_target_of(bank: &Bank<'_>, owner: Owner, target: u16) -> R
             bank.instruments().len() <= target as usize,
             Cause::NoSuchInstrument,
         ),
-        Owner::Instrument(_) => judge(bank.samples().len() <= target as usize, Cause::NoSuchSample),
+        Owner::Inst(_) => judge(bank.samples().len() <= target as usize, Cause::NoSuchSample),
     }
 }
 

@@ -6,7 +6,7 @@ use Rattle.std.specs.declared.cmp.Ordering.TheVariants.{Less}
 use Rattle.std.specs.Ordering.{nat_cmp}
 use Rattle.std.specs.FinMap.{get, insert, remove, len, entries, from_entries}
 use Rattle.generators.specs.declared.level.Level.{Level}
-use Rattle.generators.specs.declared.level.Level.TheVariants.{Preset, Instrument}
+use Rattle.generators.specs.declared.level.Level.TheVariants.{Preset, Inst}
 use Rattle.generators.specs.Levels.{is_allowed, target_operator}
 use Rattle.generators.specs.Ranges.{is_range_operator}
 use Rattle.generators.specs.Defaults.{default_of}
@@ -137,8 +137,8 @@ RangesAreAllowed = (at : Level) (op : ℕ) → IsTrue (is_range_operator op) →
 
 -- instruments allow what presets do
 abbrev pub InstrumentsAllowMore : Type 0
-InstrumentsAllowMore = (op : ℕ) → IsTrue (is_allowed Preset op) → IsTrue (is_allowed Instrument op)
+InstrumentsAllowMore = (op : ℕ) → IsTrue (is_allowed Preset op) → IsTrue (is_allowed Inst op)
 
 -- each played operator is allowed in instruments
 abbrev pub PlayedIsAllowed : Type 0
-PlayedIsAllowed = (op : ℕ) → IsSome (default_of op) → IsTrue (is_allowed Instrument op)
+PlayedIsAllowed = (op : ℕ) → IsSome (default_of op) → IsTrue (is_allowed Inst op)

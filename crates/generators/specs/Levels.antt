@@ -2,12 +2,12 @@
 use Rattle.std.specs.Prelude.{ℕ, Bool, ◌==◌, ◌||◌, ◌&&◌, nat_le, List, [], ◌∷◌}
 use Rattle.std.specs.List.{list_any}
 use Rattle.generators.specs.declared.level.Level.{Level}
-use Rattle.generators.specs.declared.level.Level.TheVariants.{Preset, Instrument}
+use Rattle.generators.specs.declared.level.Level.TheVariants.{Preset, Inst}
 
 -- the operator whose amount is a zone's target
 abbrev pub target_operator : Level → ℕ
 target_operator Preset = 41
-target_operator Instrument = 53
+target_operator Inst = 53
 
 abbrev pub is_one_of : List ℕ → ℕ → Bool
 is_one_of ops op = list_any (λ o. op == o) ops
@@ -28,4 +28,4 @@ is_special op = is_within 0 4 op || is_one_of (12 ∷ 45 ∷ 46 ∷ 47 ∷ 50 �
 -- the operators that a level's maps may hold
 unfoldable pub is_allowed : Level → ℕ → Bool
 is_allowed Preset op = is_common op
-is_allowed Instrument op = is_common op || is_special op
+is_allowed Inst op = is_common op || is_special op

@@ -7,7 +7,7 @@ use crate::operators;
 #[derive(Debug, Clone, Copy, PartialEq, Eq)]
 pub enum Level {
     Preset,
-    Instrument,
+    Inst,
 }
 
 impl Level {
@@ -19,7 +19,7 @@ impl Level {
     {
         match self {
             Level::Preset => operators::INSTRUMENT,
-            Level::Instrument => operators::SAMPLE_ID,
+            Level::Inst => operators::SAMPLE_ID,
         }
     }
 }

@@ -33,7 +33,7 @@ pub fn allowed(operator: u16, level: Level) -> bool
         | ENDLOOP_ADDRS_COARSE_OFFSET
         | SAMPLE_MODES
         | EXCLUSIVE_CLASS
-        | OVERRIDING_ROOT_KEY => matches!(level, Level::Instrument),
+        | OVERRIDING_ROOT_KEY => matches!(level, Level::Inst),
         _ => false,
     }
 }

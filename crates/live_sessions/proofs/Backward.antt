@@ -3,7 +3,7 @@ use Rattle.std.proofs.Common.{◌≡◌, ℕ, ◌+◌, ◌<◌, List, [], ◌∷
 use Rattle.std.proofs.lemmas.List.{take_more}
 use Rattle.edit_forms.specs.declared.edit.Edit.{Edit}
 use Rattle.edit_script.specs.Printing.{text_of, texts_of}
-use Rattle.edit_sessions.proofs.ListLaws.{reverse_push}
+use Rattle.inverse_edits.proofs.ListLaws.{reverse_push}
 use Rattle.live_sessions.specs.Saved.{undo_text}
 
 pub last_first : (all before : List Edit) (e : Edit) → all ≡ before ++ e ∷ []

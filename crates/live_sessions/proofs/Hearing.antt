@@ -7,8 +7,8 @@ use Rattle.std.proofs.lemmas.Grind.{flat_map-append}
 use Rattle.bank_parts.specs.declared.parts.Parts.{Parts}
 use Rattle.edit_forms.specs.declared.edit.Edit.{Edit}
 use Rattle.edit_refusals.specs.Edits.{raw}
-use Rattle.edit_sessions.specs.Histories.{History, bank_now, IsEdited}
-use Rattle.edit_sessions.proofs.ListLaws.{get_seam}
+use Rattle.inverse_edits.specs.Histories.{History, bank_now, IsEdited}
+use Rattle.inverse_edits.proofs.ListLaws.{get_seam}
 use Rattle.mixer.specs.declared.playing.Playing.{Playing}
 use Rattle.mixer.specs.Heard.{fresh}
 use Rattle.mixer.specs.Events.{Event, Edited, Started, Given, after_start, after_block, block, blocks, heard}

@@ -8,8 +8,8 @@ use Rattle.edit_forms.specs.declared.edit.Edit.{Edit}
 use Rattle.bank_edits.specs.EditChanges.{inverse}
 use Rattle.bank_edits.specs.Runs.{AllTaken, after_all, undo_list, AreUndone}
 use Rattle.bank_edits.proofs.RunLaw.{all_undone}
-use Rattle.edit_sessions.specs.Histories.{Follow, AreLinked, IsHistory, bank_now, way_back}
-use Rattle.edit_sessions.proofs.ListLaws.{reverse_cons}
+use Rattle.inverse_edits.specs.Histories.{Follow, AreLinked, IsHistory, bank_now, way_back}
+use Rattle.inverse_edits.proofs.ListLaws.{reverse_cons}
 use Rattle.live_sessions.specs.declared.live.Live.{Live}
 use Rattle.live_sessions.specs.Steps.{started_with}
 use Rattle.live_sessions.specs.Turns.{Turn, AreTurns}

@@ -4,7 +4,7 @@ use Rattle.std.specs.Option.{option_map_or}
 use Rattle.bank_parts.specs.declared.parts.Parts.{Parts}
 use Rattle.bank_format.specs.declared.fault.Counts.{Counts}
 use Rattle.bank_listing.specs.Listing.{listing}
-use Rattle.edit_sessions.specs.Histories.{bank_now}
+use Rattle.inverse_edits.specs.Histories.{bank_now}
 use Rattle.outputs.specs.declared.writing.WriteFault.{WriteFault}
 use Rattle.outputs.specs.Writing as writing
 use Rattle.live_sessions.specs.declared.live.Live.{Live}

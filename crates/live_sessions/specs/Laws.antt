@@ -4,7 +4,7 @@ use Rattle.std.specs.List.{flat_map}
 use Rattle.bank_parts.specs.declared.parts.Parts.{Parts}
 use Rattle.bank_parts.specs.Sound.{IsSound}
 use Rattle.bank_edits.specs.Runs.{AllTaken, after_all}
-use Rattle.edit_sessions.specs.Histories.{IsHistory, bank_now, way_back}
+use Rattle.inverse_edits.specs.Histories.{IsHistory, bank_now, way_back}
 use Rattle.mixer.specs.Events.{heard}
 use Rattle.wave_file.specs.Wave.{sample_bytes}
 use Rattle.live_sessions.specs.declared.live.Live.{Live}

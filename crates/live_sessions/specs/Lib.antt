@@ -2,7 +2,7 @@ pub use Rattle.bank_format.specs.Canon
 pub use Rattle.bank_format.specs.ReadSteps
 pub use Rattle.bank_listing.specs.Listing
 pub use Rattle.edit_script.specs.Printing
-pub use Rattle.edit_sessions.specs.Histories
+pub use Rattle.inverse_edits.specs.Histories
 pub use Rattle.live_lines.specs.Requests
 pub use Rattle.live_lines.specs.Answers
 pub use Rattle.mixer.specs.Events

@@ -7,8 +7,8 @@ use Rattle.std.specs.Option.{option_map_or}
 use Rattle.bank_parts.specs.declared.parts.Parts.{Parts}
 use Rattle.bank_format.specs.declared.fault.Counts.{Counts}
 use Rattle.edit_forms.specs.declared.edit.Edit.{Edit}
-use Rattle.edit_sessions.specs.Histories.{IsHistory, bank_now, begun, IsEdited, IsRefusalNow, IsForth, IsUndoFailure}
-use Rattle.edit_sessions.specs.Histories.{IsRedoFailure, way_back}
+use Rattle.inverse_edits.specs.Histories.{IsHistory, bank_now, begun, IsEdited, IsRefusalNow, IsForth, IsUndoFailure}
+use Rattle.inverse_edits.specs.Histories.{IsRedoFailure, way_back}
 use Rattle.neutral_edits.specs.Neutral.{is_neutral}
 use Rattle.note_list.specs.Notes.{Numbers}
 use Rattle.mixer.specs.Heard.{fresh}

@@ -5,7 +5,7 @@ use Rattle.std.specs.Io.KnownBytes.{Appends}
 use Rattle.bank_parts.specs.declared.parts.Parts.{Parts}
 use Rattle.bank_format.specs.declared.fault.Counts.{Counts}
 use Rattle.bank_listing.specs.Listing.{listing}
-use Rattle.edit_sessions.specs.Histories.{bank_now}
+use Rattle.inverse_edits.specs.Histories.{bank_now}
 use Rattle.live_lines.specs.declared.request.Request.{Request}
 use Rattle.live_lines.specs.declared.request.Request.TheVariants as asks
 use Rattle.live_lines.specs.declared.help.TheConstants.{HELP}

@@ -5,7 +5,7 @@ ghost use Rattle.live_sessions.specs.Steps.{EditIs, NeutralIs, UndoIs, RedoIs, N
 
 use bank_core::Bank;
 use edit_forms::Edit;
-use edit_sessions::Session;
+use inverse_edits::Session;
 use live_lines::Answer;
 use mixer::Player;
 use neutral_edits::is_neutral;

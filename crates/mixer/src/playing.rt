@@ -11,9 +11,9 @@ ghost use Rattle.mixer.specs.KeptVoices.{AllSounding, AllYounger, lifetime};
 
 use bank_core::Bank;
 use note_list::Note;
-use sf_base::{Failure, OutOfMemory};
+use sf_base::OutOfMemory;
 use std::alloc::Global;
-use voices::Voice;
+use voices::{Voice, VoiceFault};
 use zone_select::matches;
 
 // A voice, and the two numbers of its preset.
@@ -89,7 +89,7 @@ fn is_sounding(p: &Playing) -> bool
     ensures value { result ≡ is_sounding p.now }
     ensures young { OnTrue result (p.now.voice.age < lifetime) }
 {
-    !p.voice.is_over()
+    !p.voice.done()
 }
 
 // Drops the voices that are over.
@@ -138,7 +138,7 @@ fn add_voice<'a>(
             })?;
             Ok(())
         }
-        Err(Failure::Fault(_)) => Ok(()),
-        Err(Failure::OutOfMemory) => Err(OutOfMemory),
+        Err(VoiceFault::NoMatch) => Ok(()),
+        Err(VoiceFault::OutOfMemory) => Err(OutOfMemory),
     }
 }

@@ -33,8 +33,8 @@ impl<'s, H: OwnerHead> Pair<'s, H> {
         if let Some(at) = self.split_at(zone, wanted, Axis::Key) {
             return Some((Axis::Key, at));
         }
-        let at = self.split_at(zone, wanted, Axis::Velocity)?;
-        Some((Axis::Velocity, at))
+        let at = self.split_at(zone, wanted, Axis::Vel)?;
+        Some((Axis::Vel, at))
     }
 
     fn split_at(&self, zone: usize, wanted: usize, axis: Axis) -> Option<u8> {

@@ -137,7 +137,7 @@ fn edit_of(call: Call) -> Option<Edit<'static>> {
             Err(_) => None,
         },
         Call::Split(number) => Some(Edit::One(Step::Zone(
-            Owner::Instrument(number),
+            Owner::Inst(number),
             ZoneStep::SplitZone {
                 zone: 0,
                 axis: Axis::Key,

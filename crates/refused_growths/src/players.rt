@@ -149,7 +149,7 @@ fn note_of(call: Call) -> Option<Note> {
 
 // What a call does to the bank; none for a start.
 fn step_of(alloc: Global, call: Call) -> Option<Step<'static>> {
-    let owner = Owner::Instrument(0);
+    let owner = Owner::Inst(0);
     match call {
         Call::Start | Call::Outside | Call::Absent => None,
         Call::Left => Some(Step::Setting(

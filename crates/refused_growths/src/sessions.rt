@@ -5,7 +5,7 @@ use bank_core::{InfoId, Owner};
 use edit_forms::{Edit, PresetStep, SampleStep, Step, TextStep, ZoneStep};
 use edit_refusals::Refusal;
 use edit_script::print;
-use edit_sessions::Session;
+use inverse_edits::Session;
 use numbered_lists::NumberedList;
 use sf_base::{Lent, Name20, OutOfMemory};
 use std::alloc::Global;
@@ -173,7 +173,7 @@ fn emptied(alloc: Global, session: &mut Session<'_>) -> Result<bool, OutOfMemory
 // A group that takes out the zone of the instrument, and then the sample that it plays.
 fn emptying(alloc: Global) -> Result<Edit<'static>, OutOfMemory> {
     let mut steps = Vec::new(alloc);
-    steps.push(Step::Zone(Owner::Instrument(0), ZoneStep::RemoveZone { zone: 0 }))?;
+    steps.push(Step::Zone(Owner::Inst(0), ZoneStep::RemoveZone { zone: 0 }))?;
     steps.push(Step::Sample(SampleStep::RemoveSample { sample: 0 }))?;
     Ok(Edit::Group(NumberedList::from_vec(steps)))
 }

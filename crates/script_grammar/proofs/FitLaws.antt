@@ -169,7 +169,7 @@ id_fixed id.Software = (refl, refl)
 
 pub axis_fixed : (a : Axis) → IsFixed (axis_word a)
 axis_fixed axis.Key = (refl, refl)
-axis_fixed axis.Velocity = (refl, refl)
+axis_fixed axis.Vel = (refl, refl)
 
 pub keep_fixed : (k : Keep) → IsFixed (keep_word k)
 keep_fixed keep.Keep = (refl, refl)

@@ -69,7 +69,7 @@ id_named Software = refl
 
 pub axis_named : (a : Axis) → named axis_word axes (axis_word a) ≡ Some a
 axis_named axis.Key = refl
-axis_named axis.Velocity = refl
+axis_named axis.Vel = refl
 
 pub keep_named : (k : Keep) → named keep_word keeps (keep_word k) ≡ Some k
 keep_named keep.Keep = refl

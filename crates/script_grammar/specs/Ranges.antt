@@ -8,10 +8,10 @@ use Rattle.zone_ranges.specs.declared.axes.Keep.TheVariants as keep
 -- of what it is the range
 abbrev pub axis_word : Axis → List ℕ
 axis_word axis.Key = codes "key"
-axis_word axis.Velocity = codes "vel"
+axis_word axis.Vel = codes "vel"
 
 abbrev pub axes : List Axis
-axes = axis.Key ∷ axis.Velocity ∷ []
+axes = axis.Key ∷ axis.Vel ∷ []
 
 -- whether it is the zone's own
 abbrev pub keep_word : Keep → List ℕ

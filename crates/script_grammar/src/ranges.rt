@@ -5,7 +5,7 @@ ghost use Rattle.script_grammar.specs.Ranges.{axis_word, axes, keep_word, keeps}
 use crate::names::HasWord;
 use zone_ranges::{Axis, Keep};
 
-static AXES: [Axis; 2] = [Axis::Key, Axis::Velocity];
+static AXES: [Axis; 2] = [Axis::Key, Axis::Vel];
 
 impl HasWord for Axis {
     ghost all = { axes };
@@ -19,7 +19,7 @@ impl HasWord for Axis {
     fn word(self) -> &'static [u8] {
         match self {
             Axis::Key => b"key",
-            Axis::Velocity => b"vel",
+            Axis::Vel => b"vel",
         }
     }
 }

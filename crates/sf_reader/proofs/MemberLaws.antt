@@ -34,7 +34,7 @@ abbrev pub preset_part : Tables → List (Step ReadFault)
 preset_part t = zone_steps level.Preset (length (rows t.inst)) BadInstrument (preset_windows t)
 
 abbrev pub instrument_part : Tables → List (Step ReadFault)
-instrument_part t = zone_steps level.Instrument (length (rows t.shdr)) BadSample (instrument_windows t)
+instrument_part t = zone_steps level.Inst (length (rows t.shdr)) BadSample (instrument_windows t)
 
 -- ---- of four lists, of either level
 
@@ -143,4 +143,4 @@ members_small t e =
     let few = few_records t e in
     both-small (members_of t).presets.counts (members_of t).instruments.counts
     (counts-few level.Preset format.presets.first_bag t.phdr t.pbag t.pgen t.pmod few.phdr few.pbag few.pgen)
-    (counts-few level.Instrument format.instruments.first_bag t.inst t.ibag t.igen t.imod few.inst few.ibag few.igen)
+    (counts-few level.Inst format.instruments.first_bag t.inst t.ibag t.igen t.imod few.inst few.ibag few.igen)

@@ -123,7 +123,7 @@ targets_are info sdta t =
     (λ h w. refl) (rows t.phdr) (preset_windows t) preset_rows in
     let instrument_zones =
     zones_together (owner_read nine.instruments) (λ (i : WithZones (List ℕ)). i.zones)
-    (zones_read level.Instrument) (λ h w. refl) (rows t.inst) (instrument_windows t) instrument_rows in
+    (zones_read level.Inst) (λ h w. refl) (rows t.inst) (instrument_windows t) instrument_rows in
     let first : map (target_step (length instruments) BadInstrument)
     (flat_map (λ (p : WithZones Head). p.zones) presets)
     ≡ preset_part t =

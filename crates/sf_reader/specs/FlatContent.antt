@@ -44,8 +44,8 @@ flat_bank b = record {
   texts = b.texts;
   preset_heads = heads_of level.Preset b.presets;
   presets = tables_at level.Preset b.presets;
-  instrument_heads = heads_of level.Instrument b.instruments;
-  instruments = tables_at level.Instrument b.instruments;
+  instrument_heads = heads_of level.Inst b.instruments;
+  instruments = tables_at level.Inst b.instruments;
   samples = b.samples;
 }
 

@@ -118,4 +118,4 @@ members_of t = record {
 abbrev pub member_steps : Tables → List (Step ReadFault)
 member_steps t =
     zone_steps level.Preset (length (rows t.inst)) BadInstrument (preset_windows t)
-    ++ zone_steps level.Instrument (length (rows t.shdr)) BadSample (instrument_windows t)
+    ++ zone_steps level.Inst (length (rows t.shdr)) BadSample (instrument_windows t)

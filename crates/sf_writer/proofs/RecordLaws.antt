@@ -147,7 +147,7 @@ abbrev preset_lists : Parts → List ℕ
 preset_lists b = spell (zone_lists level.Preset (all_bags level.Preset b.presets))
 
 abbrev instrument_lists : Parts → List ℕ
-instrument_lists b = spell (zone_lists level.Instrument (all_bags level.Instrument b.instruments))
+instrument_lists b = spell (zone_lists level.Inst (all_bags level.Inst b.instruments))
 
 pub pdta-is : (b : Parts)
     → spell (pdta (tables_of b))
@@ -155,16 +155,16 @@ pub pdta-is : (b : Parts)
 unfolding pdta tables_of zone_lists
 pdta-is b =
     let shdr : List Chunk = record { id = SHDR; body = heads b } ∷ [] in
-    let last : spell (zone_lists level.Instrument (all_bags level.Instrument b.instruments) ++ shdr)
+    let last : spell (zone_lists level.Inst (all_bags level.Inst b.instruments) ++ shdr)
     ≡ instrument_lists b ++ chunk SHDR (heads b) =
     flat_map-append (λ (c : Chunk). chunk c.id c.body)
-    (zone_lists level.Instrument (all_bags level.Instrument b.instruments)) shdr
+    (zone_lists level.Inst (all_bags level.Inst b.instruments)) shdr
     ∙ ap (λ (t : List ℕ). instrument_lists b ++ t) (append-nil (chunk SHDR (heads b))) in
     ap (λ (t : List ℕ). phdr b ++ t)
     (flat_map-append (λ (c : Chunk). chunk c.id c.body)
     (zone_lists level.Preset (all_bags level.Preset b.presets))
     (record { id = INST; body = flat_map instrument_head_bytes (tables_of b).inst }
-    ∷ (zone_lists level.Instrument (all_bags level.Instrument b.instruments) ++ shdr)))
+    ∷ (zone_lists level.Inst (all_bags level.Inst b.instruments) ++ shdr)))
     ∙ ap (λ (t : List ℕ). phdr b ++ (preset_lists b ++ (inst b ++ t))) last
 
 pub length-pdta : (b : Parts)
@@ -190,7 +190,7 @@ pdta-even b =
       length-chunk PHDR (flat_map preset_head_bytes (tables_of b).phdr) refl,
       zone_lists-even level.Preset (all_bags level.Preset b.presets),
       length-chunk INST (flat_map instrument_head_bytes (tables_of b).inst) refl,
-      zone_lists-even level.Instrument (all_bags level.Instrument b.instruments),
+      zone_lists-even level.Inst (all_bags level.Inst b.instruments),
       length-shdr_list b,
     )
 

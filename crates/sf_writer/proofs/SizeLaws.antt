@@ -71,7 +71,7 @@ pub pdta_size : (b : Parts) → IsValid b
     → length (PDTA ++ spell (pdta (tables_of b)))
     ≡ 76 + length (flat_map preset_head_bytes (tables_of b).phdr) + zone_records (all_bags level.Preset b.presets)
     + length (flat_map instrument_head_bytes (tables_of b).inst)
-    + zone_records (all_bags level.Instrument b.instruments)
+    + zone_records (all_bags level.Inst b.instruments)
     + length (flat_map sample_head_bytes (tables_of b).shdr)
 unfolding PHDR INST
 pdta_size b v =
@@ -85,7 +85,7 @@ pdta_size b v =
       zone_lists_size level.Preset (all_bags level.Preset b.presets),
       length-chunk INST (flat_map instrument_head_bytes (tables_of b).inst) refl,
       inst-even b v,
-      zone_lists_size level.Instrument (all_bags level.Instrument b.instruments),
+      zone_lists_size level.Inst (all_bags level.Inst b.instruments),
       length-shdr_list b,
       shdr-even b v,
     )

@@ -3,7 +3,7 @@ use Rattle.std.proofs.Common.{◌≡◌, ◌+◌, ◌%◌, ℕ, List, ◌++◌, 
 use Rattle.std.specs.List.{flat_map}
 use Rattle.std.proofs.lemmas.List.{length-append, append-nil}
 use Rattle.generators.specs.declared.level.Level.{Level}
-use Rattle.generators.specs.declared.level.Level.TheVariants.{Preset, Instrument}
+use Rattle.generators.specs.declared.level.Level.TheVariants.{Preset, Inst}
 use Rattle.riff_chunks.specs.Spelling.{chunk, spell}
 use Rattle.hydra_records.specs.Spelling.{bag_bytes, modulator_bytes, generator_bytes}
 use Rattle.bank_format.specs.Ids.{PBAG, PMOD, PGEN, IBAG, IMOD, IGEN}
@@ -27,17 +27,17 @@ gen_records bags = flat_map generator_bytes (gen_list bags)
 length-bag_id : (at : Level) → length (bag_id at) ≡ 4
 unfolding PBAG IBAG
 length-bag_id Preset = refl
-length-bag_id Instrument = refl
+length-bag_id Inst = refl
 
 length-mod_id : (at : Level) → length (mod_id at) ≡ 4
 unfolding PMOD IMOD
 length-mod_id Preset = refl
-length-mod_id Instrument = refl
+length-mod_id Inst = refl
 
 length-gen_id : (at : Level) → length (gen_id at) ≡ 4
 unfolding PGEN IGEN
 length-gen_id Preset = refl
-length-gen_id Instrument = refl
+length-gen_id Inst = refl
 
 pub bags-even : (bags : List Bagged) → length (bag_records bags) % 2 ≡ 0
 bags-even bags = omega (arith, length-bags (bag_list bags))

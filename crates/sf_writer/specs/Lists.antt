@@ -1,7 +1,7 @@
 -- The bytes of lists, and the three lists of the zones of a level.
 use Rattle.std.specs.Prelude.{ℕ, List, [], ◌∷◌, ◌++◌, flat_map}
 use Rattle.generators.specs.declared.level.Level.{Level}
-use Rattle.generators.specs.declared.level.Level.TheVariants.{Preset, Instrument}
+use Rattle.generators.specs.declared.level.Level.TheVariants.{Preset, Inst}
 use Rattle.riff_chunks.specs.Walk.{Chunk, LIST}
 use Rattle.riff_chunks.specs.Spelling.{chunk, spell}
 use Rattle.hydra_records.specs.Spelling.{bag_bytes, modulator_bytes, generator_bytes}
@@ -22,15 +22,15 @@ table_bytes name bytes_of records = chunk name (flat_map bytes_of records)
 
 abbrev pub bag_id : Level → List ℕ
 bag_id Preset = id.PBAG
-bag_id Instrument = id.IBAG
+bag_id Inst = id.IBAG
 
 abbrev pub mod_id : Level → List ℕ
 mod_id Preset = id.PMOD
-mod_id Instrument = id.IMOD
+mod_id Inst = id.IMOD
 
 abbrev pub gen_id : Level → List ℕ
 gen_id Preset = id.PGEN
-gen_id Instrument = id.IGEN
+gen_id Inst = id.IGEN
 
 -- the three lists of the zones of a level
 unfoldable pub zone_lists : Level → List Bagged → List Chunk

@@ -36,5 +36,5 @@ pub record AreSizes (b : Parts) (sizes : Sizes) : Type 0 where
   pub phdr : sizes.phdr ≡ length (flat_map preset_head_bytes (tables_of b).phdr)
   pub presets : AreZoneSizes (all_bags level.Preset b.presets) sizes.presets
   pub inst : sizes.inst ≡ length (flat_map instrument_head_bytes (tables_of b).inst)
-  pub instruments : AreZoneSizes (all_bags level.Instrument b.instruments) sizes.instruments
+  pub instruments : AreZoneSizes (all_bags level.Inst b.instruments) sizes.instruments
   pub shdr : sizes.shdr ≡ length (flat_map sample_head_bytes (tables_of b).shdr)

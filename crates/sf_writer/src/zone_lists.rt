@@ -74,7 +74,7 @@ fn bag_id(level: Level) -> [u8; 4]
 {
     match level {
         Level::Preset => *b"pbag",
-        Level::Instrument => *b"ibag",
+        Level::Inst => *b"ibag",
     }
 }
 
@@ -85,7 +85,7 @@ fn mod_id(level: Level) -> [u8; 4]
 {
     match level {
         Level::Preset => *b"pmod",
-        Level::Instrument => *b"imod",
+        Level::Inst => *b"imod",
     }
 }
 
@@ -96,6 +96,6 @@ fn gen_id(level: Level) -> [u8; 4]
 {
     match level {
         Level::Preset => *b"pgen",
-        Level::Instrument => *b"igen",
+        Level::Inst => *b"igen",
     }
 }

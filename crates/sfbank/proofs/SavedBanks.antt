@@ -8,7 +8,7 @@ use Rattle.edit_forms.specs.declared.edit.Edit.{Edit}
 use Rattle.bank_edits.specs.Runs.{AllTaken, after_all, undo_list}
 use Rattle.edit_script.specs.Printing.{texts_of}
 use Rattle.edit_script.proofs.LineLaws.{printed_spell}
-use Rattle.edit_sessions.specs.Histories.{way_back}
+use Rattle.inverse_edits.specs.Histories.{way_back}
 use Rattle.live_sessions.specs.Laws.{WaysLeadBack}
 use Rattle.sfbank.specs.Outcome.{Done, after_script, bank_in, outcome}
 use Rattle.sfbank.specs.SavedBanks.{SavedBanksLeadBack}

@@ -2,7 +2,7 @@
 use Rattle.std.specs.Prelude.{ℕ, Bool, true, false, List, nat_lt, length, Result, Ok, Err}
 use Rattle.bank_parts.specs.declared.parts.Parts.{Parts}
 use Rattle.bank_changes.specs.declared.members.Owner.{Owner}
-use Rattle.bank_changes.specs.declared.members.Owner.TheVariants.{Preset, Instrument}
+use Rattle.bank_changes.specs.declared.members.Owner.TheVariants.{Preset, Inst}
 use Rattle.bank_format.specs.ReadSteps.{fault_of}
 use Rattle.edit_forms.specs.declared.cause.Cause.{Cause}
 use Rattle.edit_forms.specs.declared.cause.Cause.TheVariants.{NoSuchPreset, NoSuchInstrument}
@@ -14,12 +14,12 @@ use Rattle.sfbank.specs.Outcome.{after_reading, bank_in}
 -- the owner is one of the bank's presets, or instruments
 abbrev pub has_owner : Parts → Owner → Bool
 has_owner b (Preset p) = nat_lt p (length b.presets)
-has_owner b (Instrument i) = nat_lt i (length b.instruments)
+has_owner b (Inst i) = nat_lt i (length b.instruments)
 
 -- what is said where it is none
 abbrev pub missing : Owner → Cause
 missing (Preset p) = NoSuchPreset
-missing (Instrument i) = NoSuchInstrument
+missing (Inst i) = NoSuchInstrument
 
 abbrev pub if_there : Bool → Owner → List ℕ → Result (List ℕ) RunFault
 if_there true o text = Ok text

@@ -4,7 +4,7 @@ use Rattle.bank_parts.specs.declared.parts.Parts.{Parts}
 use Rattle.hydra_records.specs.Records.{AreBytes}
 use Rattle.bank_format.specs.Canon.{canon}
 use Rattle.bank_format.specs.ReadSteps.{fault_of}
-use Rattle.edit_sessions.specs.Histories.{IsHistory, bank_now, way_back}
+use Rattle.inverse_edits.specs.Histories.{IsHistory, bank_now, way_back}
 use Rattle.live_sessions.specs.Saved.{Saved, saved_of}
 use Rattle.live_sessions.specs.Steps.{started_with}
 use Rattle.live_sessions.specs.Turns.{Turn, AreTurns}

@@ -41,7 +41,7 @@ fn has_owner(bank: &Bank<'_>, owner: Owner) -> bool
 {
     match owner {
         Owner::Preset(preset) => (preset as usize) < bank.presets().len(),
-        Owner::Instrument(instrument) => (instrument as usize) < bank.instruments().len(),
+        Owner::Inst(instrument) => (instrument as usize) < bank.instruments().len(),
     }
 }
 
@@ -51,6 +51,6 @@ fn missing(owner: Owner) -> Cause
 {
     match owner {
         Owner::Preset(_) => Cause::NoSuchPreset,
-        Owner::Instrument(_) => Cause::NoSuchInstrument,
+        Owner::Inst(_) => Cause::NoSuchInstrument,
     }
 }

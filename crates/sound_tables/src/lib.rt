@@ -7,8 +7,8 @@ mod loudness;
 mod octaves;
 mod ratios;
 
-pub use loudness::{gain, velocity_attenuation};
-pub use octaves::{frames_of_timecents, step};
+pub use loudness::{gain, velatt};
+pub use octaves::{frames, step};
 pub use ratios::pitch;
 
 /// The law that the quotients and remainders that the definitions of the sound name are those that round

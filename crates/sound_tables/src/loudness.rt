@@ -24,7 +24,7 @@ pub fn gain(attenuation: i64) -> u32
 /// The attenuation of a velocity in centibels, up to 960: the least one at which the gain is at most
 /// the square of the velocity, taken as a part of 127. A velocity above 127 counts as 127.
 #[tactic(auto, using(crate::proofs::VelocityLaws::all_between, crate::proofs::VelocityLaws::quieter, crate::proofs::VelocityLaws::louder, crate::proofs::VelocityLaws::found, crate::proofs::VelocityLaws::velocity_attenuation_is))]
-pub fn velocity_attenuation(velocity: u8) -> u32
+pub fn velatt(velocity: u8) -> u32
     ensures value { result ≡ velocity_attenuation_of velocity }
     ensures least { IsVelocityAttenuation (min velocity 127) result }
 {

@@ -14,7 +14,7 @@ const TWELVE_OCTAVES: u64 = 4096;
 /// The frames of a time in timecents, at 44,100 a second: those of a second at 0, twice as many at each
 /// 1200 more. None up to -12000, and above 8000 as many as there, 4,480,284.
 #[tactic(auto, using(crate::proofs::OctaveLaws::frames_case, crate::proofs::OctaveLaws::frames_bound))]
-pub fn frames_of_timecents(timecents: i64) -> u32
+pub fn frames(timecents: i64) -> u32
     ensures value { result ≡ frames_of timecents }
     ensures most { result ≤ 4480284 }
 {

@@ -87,7 +87,7 @@ kind_fixed kind.Instrument = (refl, refl)
 
 owner_is : (o : Owner) → owner_with (kind_of o) (number_in o) ≡ o
 owner_is (owner.Preset p) = refl
-owner_is (owner.Instrument i) = refl
+owner_is (owner.Inst i) = refl
 
 owner_said : (k : OwnerKind) (n : ℕ) → Fixed (kind_word k) ∷ place n ∷ [] ≡ of_owner (owner_with k n)
 owner_said kind.Preset n = refl

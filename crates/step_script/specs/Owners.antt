@@ -23,11 +23,11 @@ kinds = kind.Preset ∷ kind.Instrument ∷ []
 
 abbrev pub kind_of : Owner → OwnerKind
 kind_of (owner.Preset p) = kind.Preset
-kind_of (owner.Instrument i) = kind.Instrument
+kind_of (owner.Inst i) = kind.Instrument
 
 abbrev pub number_in : Owner → ℕ
 number_in (owner.Preset p) = p
-number_in (owner.Instrument i) = i
+number_in (owner.Inst i) = i
 
 -- `preset P` or `inst I`
 abbrev pub of_owner : Owner → List Operand
@@ -50,7 +50,7 @@ of_place o p = of_owner o ++ at_place p ∷ []
 
 abbrev pub owner_with : OwnerKind → ℕ → Owner
 owner_with kind.Preset n = owner.Preset n
-owner_with kind.Instrument n = owner.Instrument n
+owner_with kind.Instrument n = owner.Inst n
 
 unfoldable pub an_owner : Part Owner
 an_owner = do

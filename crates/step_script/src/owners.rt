@@ -68,7 +68,7 @@ fn owner(line: &mut Cursor<'_, '_>) -> Result<Owner, LineFault>
     let number = line.number(u32::MAX)?;
     Ok(match kind {
         OwnerKind::Preset => Owner::Preset(number),
-        OwnerKind::Instrument => Owner::Instrument(number),
+        OwnerKind::Instrument => Owner::Inst(number),
     })
 }
 
@@ -92,7 +92,7 @@ pub(crate) fn kind_piece(owner: Owner) -> Piece<'static>
 {
     let kind = match owner {
         Owner::Preset(_) => OwnerKind::Preset,
-        Owner::Instrument(_) => OwnerKind::Instrument,
+        Owner::Inst(_) => OwnerKind::Instrument,
     };
     Piece::Word(Lent::new(kind.word()))
 }
@@ -101,7 +101,7 @@ pub(crate) fn number_piece(owner: Owner) -> Piece<'static>
     ensures { result ≡ piece_of (member.place (number_in owner)) }
 {
     match owner {
-        Owner::Preset(number) | Owner::Instrument(number) => Piece::Number(u64::from(number)),
+        Owner::Preset(number) | Owner::Inst(number) => Piece::Number(u64::from(number)),
     }
 }
 

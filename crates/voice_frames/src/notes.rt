@@ -37,7 +37,7 @@ fn of_note(alloc: Global, bank: &Bank<'_>, note: &Note) -> io::Result<u64> {
 
 fn until_over(voice: &mut Voice) -> u64 {
     for frame in 0..u64::MAX {
-        if voice.is_over() {
+        if voice.done() {
             return frame;
         }
         let _sides = voice.next_frame();

@@ -1,14 +1,13 @@
 -- The voice of a pair of zones at its first frame, and why there is none.
 use Rattle.std.specs.Prelude.{ℕ, ◌≡◌, Option, None, IsSome, slice_get}
 use Rattle.std.specs.Option.{option_map, option_and_then}
-use Rattle.sf_base.specs.declared.memory.Failure.{Failure}
-use Rattle.sf_base.specs.declared.memory.Failure.TheVariants.{Fault, OutOfMemory}
 use Rattle.note_list.specs.Notes.{Numbers}
 use Rattle.bank_parts.specs.declared.parts.Sample.{Sample}
 use Rattle.bank_parts.specs.declared.parts.Parts.{Parts}
 use Rattle.zone_select.specs.Select.{Voice}
 use Rattle.zone_select.specs.Pairs.{Chosen, chosen_by, voice_by}
-use Rattle.voices.specs.declared.start.NoMatch.{NoMatch}
+use Rattle.voices.specs.declared.start.VoiceFault.{VoiceFault}
+use Rattle.voices.specs.declared.start.VoiceFault.TheVariants.{NoMatch, OutOfMemory}
 use Rattle.voices.specs.Sound.{Live}
 
 -- at its first frame
@@ -23,7 +22,7 @@ sample_by b n q = option_and_then (λ (c : Chosen). slice_get b.samples c.sample
 abbrev pub started : Parts → Numbers → ℕ × ℕ → Option Live
 started b n q = option_map fresh (voice_by b n q)
 
--- the pair doesn't hold the note; out of memory is told of pairs that do
-abbrev pub IsStartFault : Option Live → Failure NoMatch → Type 0
-IsStartFault voice (Fault no_match) = voice ≡ None
+-- the note doesn't select the pair; out of memory is returned only where it does
+abbrev pub IsStartFault : Option Live → VoiceFault → Type 0
+IsStartFault voice NoMatch = voice ≡ None
 IsStartFault voice OutOfMemory = IsSome voice

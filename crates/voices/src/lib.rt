@@ -15,7 +15,7 @@ mod start;
 mod voice;
 mod workspace;
 
-pub use start::NoMatch;
+pub use start::VoiceFault;
 pub use voice::Voice;
 pub use workspace::Workspace;
 

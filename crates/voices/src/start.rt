@@ -1,20 +1,35 @@
 //! The voice of a pair of zones.
 ghost use Rattle.std.specs.Prelude.{◌≡◌, Some, IfOk, IfErr};
 ghost use Rattle.std.specs.Option.{option_copied};
+ghost use Rattle.voices.specs.declared.start.VoiceFault.TheVariants as faults;
 ghost use Rattle.voices.specs.Starts.{sample_by, started, IsStartFault};
 
 use crate::voice::Voice;
 use bank_core::{Bank, Sample};
 use note_list::Note;
-use sf_base::Failure;
+use sf_base::OutOfMemory;
 use std::alloc::Global;
 use thiserror::Error;
 use zone_select::{params, sample_of};
 
-/// The note doesn't select the pair of zones.
+/// Why no voice was started.
 #[derive(Debug, Drop, Clone, Copy, PartialEq, Eq, Error)]
-#[error("the note does not select this pair of zones")]
-pub struct NoMatch;
+pub enum VoiceFault {
+    /// The note doesn't select the pair of zones.
+    #[error("the note does not select this pair of zones")]
+    NoMatch,
+    /// An allocation failed.
+    #[error("out of memory")]
+    OutOfMemory,
+}
+
+impl From<OutOfMemory> for VoiceFault {
+    ghost from_gives = { λ _ fault. fault ≡ faults.OutOfMemory };
+
+    fn from(_error: OutOfMemory) -> VoiceFault {
+        VoiceFault::OutOfMemory
+    }
+}
 
 impl<'a> Voice<'a> {
     /// The voice of a pair of zones that the note selects, the number of a preset's zone before that of
@@ -25,15 +40,15 @@ impl<'a> Voice<'a> {
         bank: &Bank<'a>,
         note: &Note,
         pair: (u32, u32),
-    ) -> Result<Voice<'a>, Failure<NoMatch>>
+    ) -> Result<Voice<'a>, VoiceFault>
         ensures value { IfOk result (λ voice. started bank.now note.now pair ≡ Some voice) }
-        ensures fault { IfErr result (λ failure. IsStartFault (started bank.now note.now pair) failure) }
+        ensures fault { IfErr result (λ fault. IsStartFault (started bank.now note.now pair) fault) }
     {
         let Some(parameters) = params(bank, note, pair) else {
-            return Err(Failure::Fault(NoMatch));
+            return Err(VoiceFault::NoMatch);
         };
         let Some(sample) = sample_at(bank, note, pair) else {
-            return Err(Failure::Fault(NoMatch));
+            return Err(VoiceFault::NoMatch);
         };
         Ok(Voice::of(sample.points.copy(alloc)?, parameters))
     }

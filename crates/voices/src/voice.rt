@@ -54,7 +54,7 @@ impl<'a> Voice<'a> {
     }
 
     /// Whether the voice is over: it is silent from the next frame on.
-    pub fn is_over(&self) -> bool
+    pub fn done(&self) -> bool
         ensures value { result ≡ is_over self.now.value.parameters self.now.age }
         ensures young { OnFalse result (self.now.age < 2 ^ 33) }
     {

@@ -92,7 +92,7 @@ both_false false = refl
 module _ (b : Parts) (n : Numbers) (outer : Option ℕ) (area : Area) (i l : ℕ) where
   -- it covers a note where the area does and its zone holds it
   pub covered : list_any (covers n) (as_list (rectangle_at b outer area i l))
-      ≡ (in_area n area && owner_holds b n (owner.Instrument i) l)
+      ≡ (in_area n area && owner_holds b n (owner.Inst i) l)
   unfolding holds
   covered = from (slice_get b.instruments i) refl
     where
@@ -101,9 +101,9 @@ module _ (b : Parts) (n : Numbers) (outer : Option ℕ) (area : Area) (i l : ℕ
           ≡ (in_area n area && option_map_or (holds n x.global) z false)
       zone x None e f = rw (e, f) (both_false (in_area n area))
       zone x (Some z) e f =
-          let there : Area = area_of b (owner.Instrument i) l in
+          let there : Area = area_of b (owner.Inst i) l in
           let r = rectangle_of b outer area i l z.target in
-          let target : target_of b (owner.Instrument i) l ≡ Some z.target = rw (e, f) refl in
+          let target : target_of b (owner.Inst i) l ≡ Some z.target = rw (e, f) refl in
           let held : in_area n there ≡ holds n x.global z = rw (e, f) refl in
           ap
           (λ (t : Option ℕ).
@@ -122,7 +122,7 @@ module _ (b : Parts) (n : Numbers) (outer : Option ℕ) (area : Area) (i l : ℕ
 
 module _ (b : Parts) (outer : Option ℕ) (area : Area) (i l : ℕ) where
   -- there is none of a zone that is not there
-  pub not_there : zones_in b (owner.Instrument i) ≤ l → rectangle_at b outer area i l ≡ None
+  pub not_there : zones_in b (owner.Inst i) ≤ l → rectangle_at b outer area i l ≡ None
   not_there = from (slice_get b.instruments i) refl
     where
       from : (o : Option (WithZones (List ℕ))) → slice_get b.instruments i ≡ o
@@ -150,11 +150,11 @@ module _ (b : Parts) (outer : Option ℕ) (area : Area) (i l : ℕ) where
       pub kept_at : filter test (as_list (rectangle_at b outer area i l))
           ≡ cond t (as_list (rectangle_at b outer area i l)) []
       kept_at =
-          elim (target_of b (owner.Instrument i) l) as
+          elim (target_of b (owner.Inst i) l) as
           (λ (o : Option ℕ). filter test (as_list (of_target o)) ≡ cond t (as_list (of_target o)) []) [
             | None ↦ either_way [] t
-            | Some s ↦ tested (rectangle_of b outer area i l s) (has_notes (cut area (area_of b (owner.Instrument i) l)))
-                (same s (root_key b i l s) (cut area (area_of b (owner.Instrument i) l)))
+            | Some s ↦ tested (rectangle_of b outer area i l s) (has_notes (cut area (area_of b (owner.Inst i) l)))
+                (same s (root_key b i l s) (cut area (area_of b (owner.Inst i) l)))
           ]
 
 -- ---- of an instrument, seen from a preset's zone or from none
@@ -172,10 +172,10 @@ module _ (b : Parts) (outer : Option ℕ) (area : Area) (i l : ℕ) (test : Rect
     -- those of one zone
     pub of_zone : filter test (rectangles_in b outer area i) ≡ as_list (rectangle_at b outer area i l)
     of_zone =
-        ap (filter test) (options_flat (rectangle_at b outer area i) (zone_numbers b (owner.Instrument i)))
+        ap (filter test) (options_flat (rectangle_at b outer area i) (zone_numbers b (owner.Inst i)))
         ∙ kept test (λ m. as_list (rectangle_at b outer area i m)) l
         (λ m ne. kept_at b outer area i m test false (λ s root a. other m s root a ne))
-        (zones_in b (owner.Instrument i))
+        (zones_in b (owner.Inst i))
         (λ past. ap (λ o. filter test (as_list o)) (not_there b outer area i l past))
         ∙ kept_at b outer area i l test true own
 
@@ -187,14 +187,14 @@ pub of_other : (b : Parts) (outer : Option ℕ) (area : Area) (i : ℕ) (test : 
     ≡ false)
     → filter test (rectangles_in b outer area i) ≡ []
 of_other b outer area i test none =
-    ap (filter test) (options_flat (rectangle_at b outer area i) (zone_numbers b (owner.Instrument i)))
+    ap (filter test) (options_flat (rectangle_at b outer area i) (zone_numbers b (owner.Inst i)))
     ∙ none_kept test (rectangle_at b outer area i)
-    (λ m. kept_at b outer area i m test false (λ s root a. none m s root a)) (zone_numbers b (owner.Instrument i))
+    (λ m. kept_at b outer area i m test false (λ s root a. none m s root a)) (zone_numbers b (owner.Inst i))
 
 -- ---- laws of instruments
 
 zone_kept : (b : Parts) (i l : ℕ)
-    → filter (is_of_zone l) (rectangles b (owner.Instrument i)) ≡ as_list (rectangle_at b None everything i l)
+    → filter (is_of_zone l) (rectangles b (owner.Inst i)) ≡ as_list (rectangle_at b None everything i l)
 unfolding rectangles
 zone_kept b i l =
     of_zone b None everything i l (is_of_zone l) (λ s root a. eq-eqb l l refl) (λ m s root a ne. ne_eqb m l ne)
@@ -209,10 +209,10 @@ all_in n h k = grind (arith, nat_tests)
 
 pub zones_hold : ZonesHold
 zones_hold b n i l h k =
-    sym (any_kept (is_of_zone l) (covers n) (rectangles b (owner.Instrument i))
+    sym (any_kept (is_of_zone l) (covers n) (rectangles b (owner.Inst i))
     ∙ ap (list_any (covers n)) (zone_kept b i l)
     ∙ covered b n None everything i l
-    ∙ ap (λ t. t && owner_holds b n (owner.Instrument i) l) (all_in n h k))
+    ∙ ap (λ t. t && owner_holds b n (owner.Inst i) l) (all_in n h k))
 
 -- ---- laws of presets
 
@@ -313,7 +313,7 @@ module _ (b : Parts) (n : Numbers) where
 
   -- the zone of the instrument is chosen where it is there and holds the note
   zone_is : (global : GlobalZone) (l : ℕ) (z : Zone)
-      → is_some (zone_chosen b n global l z) ≡ owner_holds b n (owner.Instrument z.target) l
+      → is_some (zone_chosen b n global l z) ≡ owner_holds b n (owner.Inst z.target) l
   zone_is global l z =
       elim (slice_get b.instruments z.target) as
       (λ (o : Option (WithZones (List ℕ))).
@@ -346,7 +346,7 @@ module _ (b : Parts) (n : Numbers) where
             (λ (i : ℕ). as_list (rectangle_at b (Some k) (area_of b (owner.Preset p) k) i l)) o []))
             target
             ∙ covered b n (Some k) (area_of b (owner.Preset p) k) z.target l
-            ∙ ap (λ t. t && owner_holds b n (owner.Instrument z.target) l) held
+            ∙ ap (λ t. t && owner_holds b n (owner.Inst z.target) l) held
             ∙ ap (λ t. holds n x.global z && t) (sym (zone_is x.global l z))
             ∙ sym (tested_then (zone_chosen b n x.global l) z (holds n x.global z))
 

@@ -69,7 +69,7 @@ owner_line level n name = Text level ∷ Number n ∷ Text (codes ": ") ∷ Name
 -- its number and its name
 abbrev pub owner_marks : Parts → Owner → List Mark
 owner_marks b (owner.Preset p) = owner_line (codes "preset ") p (option_map_or (λ (h : Head). h.name) (head_of b p) [])
-owner_marks b (owner.Instrument i) = owner_line (codes "instrument ") i (unwrap_or (instrument_name_of b i) [])
+owner_marks b (owner.Inst i) = owner_line (codes "instrument ") i (unwrap_or (instrument_name_of b i) [])
 
 -- ---- a rectangle
 

@@ -11,7 +11,7 @@ use Rattle.bank_changes.specs.declared.members.Place.TheVariants as place
 use Rattle.bank_changes.specs.Members.{target_of, amount_of}
 use Rattle.bank_changes.specs.Zones.{range_of_zone}
 use Rattle.zone_ranges.specs.declared.axes.Axis.{Axis}
-use Rattle.zone_ranges.specs.declared.axes.Axis.TheVariants.{Key, Velocity}
+use Rattle.zone_ranges.specs.declared.axes.Axis.TheVariants.{Key, Vel}
 use Rattle.zone_ranges.specs.Ranges.{low_end, high_end, whole_range}
 use Rattle.zone_select.specs.Left.{zones_in}
 use Rattle.zone_map.specs.declared.rectangle.Area.{Area}
@@ -27,7 +27,7 @@ abbrev pub range_there : Parts → Owner → ℕ → Axis → Range
 range_there b o k axis = ends (unwrap_or (range_of_zone b o k axis) whole_range)
 
 abbrev pub area_of : Parts → Owner → ℕ → Area
-area_of b o k = record { keys = range_there b o k Key; velocities = range_there b o k Velocity }
+area_of b o k = record { keys = range_there b o k Key; velocities = range_there b o k Vel }
 
 -- every key and velocity
 abbrev pub everything : Area
@@ -57,7 +57,7 @@ sample_root b s = option_map_or (λ (x : Sample). key_or x.key 60) (slice_get b.
 abbrev pub root_key : Parts → ℕ → ℕ → ℕ → ℕ
 root_key b i l s =
     option_map_or (λ n. key_or n (sample_root b s))
-    (option_or (amount_of b (owner.Instrument i) (place.Zone l) 58) (amount_of b (owner.Instrument i) place.Global 58))
+    (option_or (amount_of b (owner.Inst i) (place.Zone l) 58) (amount_of b (owner.Inst i) place.Global 58))
     (sample_root b s)
 
 -- ---- rectangles
@@ -70,7 +70,7 @@ rectangle_of b outer area i l s =
           outer;
       zone = l;
       sample = s;
-      area = cut area (area_of b (owner.Instrument i) l);
+      area = cut area (area_of b (owner.Inst i) l);
       root = root_key b i l s;
     }
 
@@ -81,7 +81,7 @@ with_notes r = cond (has_notes r.area) (Some r) None
 -- none where the zone and the area don't meet
 abbrev pub rectangle_at : Parts → Option ℕ → Area → ℕ → ℕ → Option Rectangle
 rectangle_at b outer area i l =
-    option_and_then (λ (s : ℕ). with_notes (rectangle_of b outer area i l s)) (target_of b (owner.Instrument i) l)
+    option_and_then (λ (s : ℕ). with_notes (rectangle_of b outer area i l s)) (target_of b (owner.Inst i) l)
 
 -- the numbers of an owner's zones
 abbrev pub zone_numbers : Parts → Owner → List ℕ
@@ -89,7 +89,7 @@ zone_numbers b o = range_with_len 0 (zones_in b o)
 
 -- those of an instrument's zones in an area
 abbrev pub rectangles_in : Parts → Option ℕ → Area → ℕ → List Rectangle
-rectangles_in b outer area i = filter_map (rectangle_at b outer area i) (zone_numbers b (owner.Instrument i))
+rectangles_in b outer area i = filter_map (rectangle_at b outer area i) (zone_numbers b (owner.Inst i))
 
 -- those of the instrument of zone k of a preset, in the area of that zone
 abbrev pub rectangles_of_zone : Parts → ℕ → ℕ → List Rectangle
@@ -100,4 +100,4 @@ rectangles_of_zone b p k =
 -- of an instrument each zone's; of a preset that of each zone with each zone of its instrument; in rising order
 unfoldable pub rectangles : Parts → Owner → List Rectangle
 rectangles b (owner.Preset p) = flat_map (rectangles_of_zone b p) (zone_numbers b (owner.Preset p))
-rectangles b (owner.Instrument i) = rectangles_in b None everything i
+rectangles b (owner.Inst i) = rectangles_in b None everything i

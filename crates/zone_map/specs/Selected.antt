@@ -40,9 +40,9 @@ PairsOnce = (b : Parts) (p k l : ℕ) → length (filter (is_of_pair k l) (recta
 -- of an instrument: a zone holds a note exactly where a rectangle of the zone covers it
 abbrev pub ZonesHold : Type 0
 ZonesHold = (b : Parts) (n : Numbers) (i l : ℕ) → n.key ≤ 127 → n.velocity ≤ 127
-    → owner_holds b n (owner.Instrument i) l
-    ≡ list_any (λ r. is_of_zone l r && covers n r) (rectangles b (owner.Instrument i))
+    → owner_holds b n (owner.Inst i) l
+    ≡ list_any (λ r. is_of_zone l r && covers n r) (rectangles b (owner.Inst i))
 
 -- no zone has two rectangles
 abbrev pub ZonesOnce : Type 0
-ZonesOnce = (b : Parts) (i l : ℕ) → length (filter (is_of_zone l) (rectangles b (owner.Instrument i))) ≤ 1
+ZonesOnce = (b : Parts) (i l : ℕ) → length (filter (is_of_zone l) (rectangles b (owner.Inst i))) ≤ 1

@@ -95,7 +95,7 @@ fn put_owner<W: Write>(bank: &Bank<'_>, owner: Owner, output: &mut Output<'_, W>
             Some(head) => put_owner_line(b"preset ", preset, head.name.bytes(), output),
             None => put_owner_line(b"preset ", preset, b"", output),
         },
-        Owner::Instrument(instrument) => match bank.instrument_name(instrument) {
+        Owner::Inst(instrument) => match bank.inst_name(instrument) {
             Some(name) => put_owner_line(b"instrument ", instrument, name.bytes(), output),
             None => put_owner_line(b"instrument ", instrument, b"", output),
         },
@@ -121,7 +121,7 @@ fn put_rectangles<W: Write>(bank: &Bank<'_>, owner: Owner, output: &mut Output<'
 {
     match owner {
         Owner::Preset(preset) => put_preset(bank, preset, output),
-        Owner::Instrument(instrument) => {
+        Owner::Inst(instrument) => {
             put_instrument(bank, None, Area::everything(), instrument, output);
         }
     }
@@ -157,7 +157,7 @@ fn put_instrument<W: Write>(
 )
     ensures { Puts W.contents output.old output.new (flat_map (drawn bank.now) (rectangles_in bank.now preset_zone area instrument)) }
 {
-    for zone in 0..zones_in(bank, Owner::Instrument(instrument)) {
+    for zone in 0..zones_in(bank, Owner::Inst(instrument)) {
         put_zone(bank, preset_zone, area, instrument, zone, output);
     }
 }
@@ -171,7 +171,7 @@ fn put_zone<W: Write>(
     zone: u32,
     output: &mut Output<'_, W>,
 )
-    requires { zone < zones_in bank.now (owner.Instrument instrument) }
+    requires { zone < zones_in bank.now (owner.Inst instrument) }
     ensures { Puts W.contents output.old output.new (flat_map (drawn bank.now) (cons_option (rectangle_at bank.now preset_zone area instrument zone) [])) }
 {
     if let Some(rectangle) = rectangle_at(bank, preset_zone, area, instrument, zone) {

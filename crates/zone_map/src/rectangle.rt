@@ -91,7 +91,7 @@ pub(crate) fn area_of(bank: &Bank<'_>, owner: Owner, zone: u32) -> Area
 {
     Area {
         keys: range_there(bank, owner, zone, Axis::Key),
-        velocities: range_there(bank, owner, zone, Axis::Velocity),
+        velocities: range_there(bank, owner, zone, Axis::Vel),
     }
 }
 
@@ -120,7 +120,7 @@ fn sample_root(bank: &Bank<'_>, sample: u16) -> u8
 fn root_key(bank: &Bank<'_>, instrument: u32, zone: u32, sample: u16) -> u8
     ensures { result ≡ root_key bank.now instrument zone sample }
 {
-    let owner = Owner::Instrument(instrument);
+    let owner = Owner::Inst(instrument);
     let own = bank.gen_of(owner, Place::Zone(zone), OVERRIDING_ROOT_KEY);
     match own.or(bank.gen_of(owner, Place::Global, OVERRIDING_ROOT_KEY)) {
         Some(number) => key_or(number, sample_root(bank, sample)),
@@ -136,10 +136,10 @@ pub(crate) fn rectangle_at(
     instrument: u32,
     zone: u32,
 ) -> Option<Rectangle>
-    requires { zone < zones_in bank.now (owner.Instrument instrument) }
+    requires { zone < zones_in bank.now (owner.Inst instrument) }
     ensures { result ≡ rectangle_at bank.now preset_zone area instrument zone }
 {
-    let owner = Owner::Instrument(instrument);
+    let owner = Owner::Inst(instrument);
     let sample = bank.target(owner, zone)?;
     let area = area.cut(area_of(bank, owner, zone));
     if !area.has_notes() {

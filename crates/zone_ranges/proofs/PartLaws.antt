@@ -12,7 +12,7 @@ use Rattle.bank_parts.specs.declared.parts.Zone.{Zone}
 use Rattle.bank_parts.specs.Valid.{IsGenerator, AreGenerators, IsZone}
 use Rattle.bank_parts.specs.Fits.{FitsZone}
 use Rattle.zone_ranges.specs.declared.axes.Axis.{Axis}
-use Rattle.zone_ranges.specs.declared.axes.Axis.TheVariants.{Key, Velocity}
+use Rattle.zone_ranges.specs.declared.axes.Axis.TheVariants.{Key, Vel}
 use Rattle.zone_ranges.specs.declared.axes.Keep.{Keep}
 use Rattle.zone_ranges.specs.declared.axes.Keep.TheVariants as keeping
 use Rattle.zone_ranges.specs.Ranges.{range_operator, low_end, high_end, range_from, whole_range, own_range}
@@ -24,11 +24,11 @@ use Rattle.zone_ranges.proofs.SplitLaws.{IsSplitAt, joined_at, low_of_range, hig
 
 is_range : (axis : Axis) → is_range_operator (range_operator axis) ≡ true
 is_range Key = refl
-is_range Velocity = refl
+is_range Vel = refl
 
 small_operator : (axis : Axis) → range_operator axis < 2 ^ 16
 small_operator Key = omega arith
-small_operator Velocity = omega arith
+small_operator Vel = omega arith
 
 small_range : (amount : ℕ) → IsRange amount → amount < 2 ^ 16
 small_range amount h = let few = h.1 in omega (arith, few)

@@ -7,7 +7,7 @@ use Rattle.bank_parts.specs.declared.parts.GlobalZone.{GlobalZone}
 use Rattle.bank_parts.specs.declared.parts.Zone.{Zone}
 use Rattle.bank_parts.specs.declared.parts.WithZones.{WithZones}
 use Rattle.zone_ranges.specs.declared.axes.Axis.{Axis}
-use Rattle.zone_ranges.specs.declared.axes.Axis.TheVariants.{Key, Velocity}
+use Rattle.zone_ranges.specs.declared.axes.Axis.TheVariants.{Key, Vel}
 
 -- ---- amounts
 
@@ -28,7 +28,7 @@ whole_range = 32512
 
 abbrev pub range_operator : Axis → ℕ
 range_operator Key = 43
-range_operator Velocity = 44
+range_operator Vel = 44
 
 abbrev pub own_range : Axis → Zone → Option ℕ
 own_range axis z = map.get z.gens (range_operator axis)

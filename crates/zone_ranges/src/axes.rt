@@ -6,7 +6,7 @@ pub enum Axis {
     /// The key of a note: generator 43 (SoundFont 2.04, section 8.1.2).
     Key,
     /// The velocity of a note: generator 44.
-    Velocity,
+    Vel,
 }
 
 /// Whether the zone that two zones become has their ranges together as its own range.

@@ -18,7 +18,7 @@ pub fn range_operator(axis: Axis) -> u16
 {
     match axis {
         Axis::Key => operators::KEY_RANGE,
-        Axis::Velocity => operators::VEL_RANGE,
+        Axis::Vel => operators::VEL_RANGE,
     }
 }
 

@@ -151,13 +151,13 @@ preset_changed-alike b k f h =
 -- its zones sent through f, with its global zone
 abbrev pub owner_changed : Parts → Owner → (GlobalZone → List Zone → List Zone) → Parts
 owner_changed b (owner.Preset k) f = record b { presets = changed b.presets k (λ x. with_zones (f x.global x.zones) x) }
-owner_changed b (owner.Instrument k) f =
+owner_changed b (owner.Inst k) f =
     record b { instruments = changed b.instruments k (λ x. with_zones (f x.global x.zones) x) }
 
 -- P of its global zone and its zones, if there is such an owner
 abbrev pub OfOwner : Parts → Owner → (GlobalZone → List Zone → Type 0) → Type 0
 OfOwner b (owner.Preset k) P = (x : Preset) → slice_get b.presets k ≡ Some x → P x.global x.zones
-OfOwner b (owner.Instrument k) P = (x : Instrument) → slice_get b.instruments k ≡ Some x → P x.global x.zones
+OfOwner b (owner.Inst k) P = (x : Instrument) → slice_get b.instruments k ≡ Some x → P x.global x.zones
 
 pub owner_changed-alike : (b : Parts) (o : Owner) (f : GlobalZone → List Zone → List Zone)
     → OfOwner b o
@@ -169,7 +169,7 @@ unfolding preset_voices number_voices instrument_voices sample_voices
 owner_changed-alike b (owner.Preset k) f h =
     preset_changed-alike b k (λ x. with_zones (f x.global x.zones) x)
     (λ p e. (refl, refl, λ n. h p e (number_voices b n) n))
-owner_changed-alike b (owner.Instrument k) f h =
+owner_changed-alike b (owner.Inst k) f h =
     instrument_changed-alike b k (λ x. with_zones (f x.global x.zones) x) (λ i e n u. h i e (sample_voices b n u) n)
 
 -- ---- numbers

@@ -52,24 +52,24 @@ taken_there owners i k x z e f = ap (taken_by k) e ∙ ap (taken_with x.global) 
 
 -- by a zone of an instrument
 abbrev chosen_inside : Parts → Taken → ℕ → ℕ → ℕ → Chosen
-chosen_inside b u i l s = record { instrument_zone = taken_at b (owner.Instrument i) l; preset_zone = u; sample = s }
+chosen_inside b u i l s = record { instrument_zone = taken_at b (owner.Inst i) l; preset_zone = u; sample = s }
 
 inside : (b : Parts) (n : Numbers) (u : Taken) (i l : ℕ) (o : Option (WithZones (List ℕ)))
     → slice_get b.instruments i ≡ o
     → option_and_then (instrument_zone_chosen n u l) o
-    ≡ option_map (chosen_inside b u i l) (target_held b n (owner.Instrument i) l)
+    ≡ option_map (chosen_inside b u i l) (target_held b n (owner.Inst i) l)
 inside b n u i l None e = rw e refl
 inside b n u i l (Some x) e = zone (slice_get x.zones l) refl
   where
     zone : (z : Option Zone) → slice_get x.zones l ≡ z
         → option_and_then (instrument_zone_chosen n u l) (Some x)
-        ≡ option_map (chosen_inside b u i l) (target_held b n (owner.Instrument i) l)
+        ≡ option_map (chosen_inside b u i l) (target_held b n (owner.Inst i) l)
     zone None f = rw (e, f) refl
     zone (Some z) f = held (holds n x.global z) refl
       where
         held : (t : Bool) → holds n x.global z ≡ t
             → option_and_then (instrument_zone_chosen n u l) (Some x)
-            ≡ option_map (chosen_inside b u i l) (target_held b n (owner.Instrument i) l)
+            ≡ option_map (chosen_inside b u i l) (target_held b n (owner.Inst i) l)
         held true h =
             rw (e, f, h)
             (ap
@@ -127,7 +127,7 @@ no_zone b n p q e f = by_preset b n p q e ∙ ap (option_and_then (through b n p
 
 pub by_both : (b : Parts) (n : Numbers) (p i : ℕ) (q : ℕ × ℕ) (o : Option ℕ)
     → find (is_called n) b.presets ≡ slice_get b.presets p → target_held b n (owner.Preset p) q.0 ≡ Some i
-    → target_held b n (owner.Instrument i) q.1 ≡ o → chosen_by b n q ≡ option_map (numbered b p q i) o
+    → target_held b n (owner.Inst i) q.1 ≡ o → chosen_by b n q ≡ option_map (numbered b p q i) o
 by_both b n p i q o e f g =
     by_preset b n p q e ∙ ap (option_and_then (through b n p q)) f
     ∙ inside b n (taken_at b (owner.Preset p) q.0) i q.1 (slice_get b.instruments i) refl

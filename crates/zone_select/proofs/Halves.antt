@@ -7,7 +7,7 @@ use Rattle.note_list.specs.Notes.{Numbers}
 use Rattle.bank_parts.specs.declared.parts.GlobalZone.{GlobalZone}
 use Rattle.bank_parts.specs.declared.parts.Zone.{Zone}
 use Rattle.zone_ranges.specs.declared.axes.Axis.{Axis}
-use Rattle.zone_ranges.specs.declared.axes.Axis.TheVariants.{Key, Velocity}
+use Rattle.zone_ranges.specs.declared.axes.Axis.TheVariants.{Key, Vel}
 use Rattle.zone_ranges.specs.Ranges.{low_end, high_end, range_from, range_of}
 use Rattle.zone_ranges.specs.Splits.{lower_part, upper_part}
 use Rattle.zone_ranges.proofs.SplitLaws.{IsSplitAt, low_is_small}
@@ -72,19 +72,19 @@ halves-hold n global z Key m h small =
     let upper : ℕ = range_from m (high_end w) in
     subst
     (λ r.
-    Halved (within w n.key && within (range_of Velocity global z) n.velocity)
+    Halved (within w n.key && within (range_of Vel global z) n.velocity)
     (within r.0 n.key && within r.1 n.velocity) (within r.2 n.key && within r.3 n.velocity))
     (λ i. let r : ℕ × ℕ × ℕ × ℕ = (
       sym (range-with global z Key lower) i,
-      sym (other-with global z Key Velocity lower (omega arith)) i,
+      sym (other-with global z Key Vel lower (omega arith)) i,
       sym (range-with global z Key upper) i,
-      sym (other-with global z Key Velocity upper (omega arith)) i,
+      sym (other-with global z Key Vel upper (omega arith)) i,
     )
     in r)
     (halved_first (within w n.key) (within lower n.key) (within upper n.key)
-    (within (range_of Velocity global z) n.velocity) (halved w m n.key h.above h.within small))
-halves-hold n global z Velocity m h small =
-    let w : ℕ = range_of Velocity global z in
+    (within (range_of Vel global z) n.velocity) (halved w m n.key h.above h.within small))
+halves-hold n global z Vel m h small =
+    let w : ℕ = range_of Vel global z in
     let lower : ℕ = range_from (low_end w) (m - 1) in
     let upper : ℕ = range_from m (high_end w) in
     subst
@@ -92,10 +92,10 @@ halves-hold n global z Velocity m h small =
     Halved (within (range_of Key global z) n.key && within w n.velocity)
     (within r.1 n.key && within r.0 n.velocity) (within r.3 n.key && within r.2 n.velocity))
     (λ i. let r : ℕ × ℕ × ℕ × ℕ = (
-      sym (range-with global z Velocity lower) i,
-      sym (other-with global z Velocity Key lower (omega arith)) i,
-      sym (range-with global z Velocity upper) i,
-      sym (other-with global z Velocity Key upper (omega arith)) i,
+      sym (range-with global z Vel lower) i,
+      sym (other-with global z Vel Key lower (omega arith)) i,
+      sym (range-with global z Vel upper) i,
+      sym (other-with global z Vel Key upper (omega arith)) i,
     )
     in r)
     (halved_second (within w n.velocity) (within lower n.velocity) (within upper n.velocity)

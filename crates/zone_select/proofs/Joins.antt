@@ -7,7 +7,7 @@ use Rattle.note_list.specs.Notes.{Numbers}
 use Rattle.bank_parts.specs.declared.parts.GlobalZone.{GlobalZone}
 use Rattle.bank_parts.specs.declared.parts.Zone.{Zone}
 use Rattle.zone_ranges.specs.declared.axes.Axis.{Axis}
-use Rattle.zone_ranges.specs.declared.axes.Axis.TheVariants.{Key, Velocity}
+use Rattle.zone_ranges.specs.declared.axes.Axis.TheVariants.{Key, Vel}
 use Rattle.zone_ranges.specs.declared.axes.Keep.{Keep}
 use Rattle.zone_ranges.specs.declared.axes.Keep.TheVariants as keeping
 use Rattle.zone_ranges.specs.Ranges.{range_operator, low_end, high_end, whole_range, inherited_range, range_of}
@@ -105,30 +105,30 @@ joined_holds : (n : Numbers) (global : GlobalZone) (y z : Zone) (axis : Axis) (k
 unfolding holds
 joined_holds n global y z Key keep h =
     let x : Zone = joined Key keep y z in
-    let e : range_of Velocity global x ≡ range_of Velocity global y =
-    other_of_joined global y z Key Velocity keep (omega arith) in
+    let e : range_of Vel global x ≡ range_of Vel global y =
+    other_of_joined global y z Key Vel keep (omega arith) in
     subst
     (λ r.
     Halved (within (range_of Key global x) n.key && within r.0 n.velocity)
-    (within (range_of Key global y) n.key && within (range_of Velocity global y) n.velocity)
+    (within (range_of Key global y) n.key && within (range_of Vel global y) n.velocity)
     (within (range_of Key global z) n.key && within r.1 n.velocity))
-    (λ i. let r : ℕ × ℕ = (sym e i, same_other Key keep global y z h Velocity (omega arith) i) in r)
+    (λ i. let r : ℕ × ℕ = (sym e i, same_other Key keep global y z h Vel (omega arith) i) in r)
     (halved_first (within (range_of Key global x) n.key) (within (range_of Key global y) n.key)
-    (within (range_of Key global z) n.key) (within (range_of Velocity global y) n.velocity)
+    (within (range_of Key global z) n.key) (within (range_of Vel global y) n.velocity)
     (axis_halved Key keep global y z h n.key))
-joined_holds n global y z Velocity keep h =
-    let x : Zone = joined Velocity keep y z in
+joined_holds n global y z Vel keep h =
+    let x : Zone = joined Vel keep y z in
     let e : range_of Key global x ≡ range_of Key global y =
-    other_of_joined global y z Velocity Key keep (omega arith) in
+    other_of_joined global y z Vel Key keep (omega arith) in
     subst
     (λ r.
-    Halved (within r.0 n.key && within (range_of Velocity global x) n.velocity)
-    (within (range_of Key global y) n.key && within (range_of Velocity global y) n.velocity)
-    (within r.1 n.key && within (range_of Velocity global z) n.velocity))
-    (λ i. let r : ℕ × ℕ = (sym e i, same_other Velocity keep global y z h Key (omega arith) i) in r)
-    (halved_second (within (range_of Velocity global x) n.velocity) (within (range_of Velocity global y) n.velocity)
-    (within (range_of Velocity global z) n.velocity) (within (range_of Key global y) n.key)
-    (axis_halved Velocity keep global y z h n.velocity))
+    Halved (within r.0 n.key && within (range_of Vel global x) n.velocity)
+    (within (range_of Key global y) n.key && within (range_of Vel global y) n.velocity)
+    (within r.1 n.key && within (range_of Vel global z) n.velocity))
+    (λ i. let r : ℕ × ℕ = (sym e i, same_other Vel keep global y z h Key (omega arith) i) in r)
+    (halved_second (within (range_of Vel global x) n.velocity) (within (range_of Vel global y) n.velocity)
+    (within (range_of Vel global z) n.velocity) (within (range_of Key global y) n.key)
+    (axis_halved Vel keep global y z h n.velocity))
 
 pub joined_gives : (inside : Taken → ℕ → List Voice) (n : Numbers) (global : GlobalZone) (y z : Zone) (axis : Axis)
     (keep : Keep)

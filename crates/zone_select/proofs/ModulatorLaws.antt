@@ -63,9 +63,9 @@ mods_few b (owner.Preset p) place.Global s =
     let h = global_few b.presets p _ refl in let m = s.valid.limits.preset_mods in omega (arith, h, m)
 mods_few b (owner.Preset p) (place.Zone k) s =
     let h = own_few b.presets p k _ refl in let m = s.valid.limits.preset_mods in omega (arith, h, m)
-mods_few b (owner.Instrument i) place.Global s =
+mods_few b (owner.Inst i) place.Global s =
     let h = global_few b.instruments i _ refl in let m = s.valid.limits.instrument_mods in omega (arith, h, m)
-mods_few b (owner.Instrument i) (place.Zone k) s =
+mods_few b (owner.Inst i) (place.Zone k) s =
     let h = own_few b.instruments i k _ refl in let m = s.valid.limits.instrument_mods in omega (arith, h, m)
 
 -- ---- one after the other

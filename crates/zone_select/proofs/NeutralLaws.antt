@@ -134,8 +134,8 @@ pub zone_moved_alike : ZoneMovedAlike
 zone_moved_alike b (owner.Preset p) i j =
     owner_changed-alike b (owner.Preset p) (λ global zones. moved zones i j)
     (λ x e inside n. voices_of-moved inside n x.global x.zones i j)
-zone_moved_alike b (owner.Instrument k) i j =
-    owner_changed-alike b (owner.Instrument k) (λ global zones. moved zones i j)
+zone_moved_alike b (owner.Inst k) i j =
+    owner_changed-alike b (owner.Inst k) (λ global zones. moved zones i j)
     (λ x e inside n. voices_of-moved inside n x.global x.zones i j)
 
 can_split_there : {H : Type 0} (owners : List (WithZones H)) (i k : ℕ) (axis : Axis) (m : ℕ) (x : WithZones H)
@@ -149,8 +149,8 @@ zone_split_alike b (owner.Preset p) k axis m small h =
     owner_changed-alike b (owner.Preset p) (λ global zones. zones_split axis m global zones k)
     (λ x e inside n.
     voices_of-split inside n axis m x.global x.zones k small (can_split_there b.presets p k axis m x h e))
-zone_split_alike b (owner.Instrument i) k axis m small h =
-    owner_changed-alike b (owner.Instrument i) (λ global zones. zones_split axis m global zones k)
+zone_split_alike b (owner.Inst i) k axis m small h =
+    owner_changed-alike b (owner.Inst i) (λ global zones. zones_split axis m global zones k)
     (λ x e inside n.
     voices_of-split inside n axis m x.global x.zones k small (can_split_there b.instruments i k axis m x h e))
 
@@ -185,10 +185,10 @@ zone_joined_alike b (owner.Preset p) k axis keep v h =
     (λ x e inside n. voices_of-joined inside n axis keep x.global x.zones k
     (can_join_there (λ (h : Head). h.name) level.Preset (length b.instruments) b.presets p k axis keep x
     (all_found (IsPreset (length b.instruments)) b.presets p x e v.presets) h e))
-zone_joined_alike b (owner.Instrument i) k axis keep v h =
-    owner_changed-alike b (owner.Instrument i) (λ global zones. zones_joined axis keep zones k)
+zone_joined_alike b (owner.Inst i) k axis keep v h =
+    owner_changed-alike b (owner.Inst i) (λ global zones. zones_joined axis keep zones k)
     (λ x e inside n. voices_of-joined inside n axis keep x.global x.zones k
-    (can_join_there (λ name. name) level.Instrument (length b.samples) b.instruments i k axis keep x
+    (can_join_there (λ name. name) level.Inst (length b.samples) b.instruments i k axis keep x
     (all_found (IsInstrument (length b.samples)) b.instruments i x e v.instruments) h e))
 
 -- ---- texts

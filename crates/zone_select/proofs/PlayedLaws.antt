@@ -210,7 +210,7 @@ module _ (b : Parts) (n : Numbers) (v : IsValid b) where
       from (Some y) f c h =
           let at = held_zone n i.global i.zones l y f in
           let zones = (all_found (IsInstrument (length b.samples)) b.instruments j i e v.instruments).zones.zones in
-          let lt = (all_found (IsZone level.Instrument (length b.samples)) i.zones l y at.0 zones).target in
+          let lt = (all_found (IsZone level.Inst (length b.samples)) i.zones l y at.0 zones).target in
           let same : y.target ≡ c.sample = cc in
           subst (λ (t : ℕ). t < length b.samples) same lt
 

@@ -12,7 +12,7 @@ use Rattle.generators.proofs.Order.{untied}
 use Rattle.bank_parts.specs.declared.parts.GlobalZone.{GlobalZone}
 use Rattle.bank_parts.specs.declared.parts.Zone.{Zone}
 use Rattle.zone_ranges.specs.declared.axes.Axis.{Axis}
-use Rattle.zone_ranges.specs.declared.axes.Axis.TheVariants.{Key, Velocity}
+use Rattle.zone_ranges.specs.declared.axes.Axis.TheVariants.{Key, Vel}
 use Rattle.zone_ranges.specs.Ranges.{range_operator, range_from, inherited_range, range_of, with_range, without_range}
 use Rattle.zone_ranges.proofs.SplitLaws.{low_of_range, high_of_range, own_with, own_without}
 use Rattle.zone_select.specs.Ranges.{within}
@@ -30,7 +30,7 @@ get-remove_other m op q n = get-remove_any m op q ∙ ap (λ b. cond b None (get
 
 no_range : (axis : Axis) (op : ℕ) → is_range_operator op ≡ false → op ≢ range_operator axis
 no_range Key op e = grind (arith, nat_tests)
-no_range Velocity op e = grind (arith, nat_tests)
+no_range Vel op e = grind (arith, nat_tests)
 
 -- gens that say the same of all but the range
 setting_at : (global : GlobalZone) (z : Zone) (gens : Gens) (axis : Axis)

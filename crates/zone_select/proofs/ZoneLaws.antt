@@ -17,7 +17,7 @@ use Rattle.bank_changes.specs.declared.members.Owner.TheVariants as owner
 use Rattle.bank_parts.specs.Owners.{zone_count_at}
 use Rattle.bank_changes.specs.Members.{own_zone_count}
 use Rattle.bank_changes.specs.Zones.{range_of_zone}
-use Rattle.zone_ranges.specs.declared.axes.Axis.TheVariants.{Key, Velocity}
+use Rattle.zone_ranges.specs.declared.axes.Axis.TheVariants.{Key, Vel}
 use Rattle.zone_ranges.specs.Ranges.{low_end, high_end, range_of, range_at}
 use Rattle.zone_select.specs.Ranges.{holds, within}
 use Rattle.zone_select.specs.Pairs.{holds_at, held}
@@ -45,7 +45,7 @@ pub zones_few : (b : Parts) (o : Owner) → IsWithin b → zones_in b o ≤ 6553
 zones_few b (owner.Preset p) w =
     let h = few_in b.presets p _ refl in
     let s = count_in b.presets p _ refl in let most = w.preset_zones in omega (arith, h, s, most)
-zones_few b (owner.Instrument i) w =
+zones_few b (owner.Inst i) w =
     let h = few_in b.instruments i _ refl in
     let s = count_in b.instruments i _ refl in let most = w.instrument_zones in omega (arith, h, s, most)
 
@@ -67,7 +67,7 @@ pub record Told (n : Numbers) (keys velocities : Option ℕ) (holding : Bool) : 
   pub holds : holding ≡ (within key n.key && within velocity n.velocity)
 
 abbrev pub ZoneTold : Parts → Numbers → Owner → ℕ → Type 0
-ZoneTold b n o k = Told n (range_of_zone b o k Key) (range_of_zone b o k Velocity) (owner_holds b n o k)
+ZoneTold b n o k = Told n (range_of_zone b o k Key) (range_of_zone b o k Vel) (owner_holds b n o k)
 
 there : (zones : List Zone) (k : ℕ) → k < length zones → (z : Zone) × (slice_get zones k ≡ Some z)
 there zones k h = from (slice_get_cases zones k).1
@@ -80,7 +80,7 @@ there zones k h = from (slice_get_cases zones k).1
 
 told_in : {H : Type 0} (owners : List (WithZones H)) (n : Numbers) (i k : ℕ) (o : Option (WithZones H))
     → slice_get owners i ≡ o → k < option_map_or (λ (x : WithZones H). length x.zones) o 0
-    → Told n (range_at Key owners i k) (range_at Velocity owners i k)
+    → Told n (range_at Key owners i k) (range_at Vel owners i k)
     (option_map_or (λ (x : WithZones H). holds_at n x.global x.zones k) (slice_get owners i) false)
 unfolding holds
 told_in owners n i k None e h = absurd (omega (arith, h))
@@ -90,7 +90,7 @@ told_in owners n i k (Some x) e h =
       key =
           range_of Key x.global z.0;
       velocity =
-          range_of Velocity x.global z.0;
+          range_of Vel x.global z.0;
       key_range =
           rw (e, z.1) refl;
       velocity_range = rw (e, z.1) refl;
@@ -100,7 +100,7 @@ told_in owners n i k (Some x) e h =
 pub zone_told : (b : Parts) (n : Numbers) (o : Owner) (k : ℕ) → k < zones_in b o → ZoneTold b n o k
 zone_told b n (owner.Preset p) k h =
     let s = count_in b.presets p _ refl in told_in b.presets n p k _ refl (omega (arith, h, s))
-zone_told b n (owner.Instrument i) k h =
+zone_told b n (owner.Inst i) k h =
     let s = count_in b.instruments i _ refl in told_in b.instruments n i k _ refl (omega (arith, h, s))
 
 -- a range by its ends
@@ -158,7 +158,7 @@ held_in {H} owners n i k =
 held_is : (b : Parts) (n : Numbers) (o : Owner) (k : ℕ)
     → owner_held b n o k ≡ numbers (owner_holds b n o) k (zones_in b o)
 held_is b n (owner.Preset p) k = held_in b.presets n p k
-held_is b n (owner.Instrument i) k = held_in b.instruments n i k
+held_is b n (owner.Inst i) k = held_in b.instruments n i k
 
 pub held_end : (b : Parts) (n : Numbers) (o : Owner) (k : ℕ) → zones_in b o ≤ k → owner_held b n o k ≡ []
 held_end b n o k h = held_is b n o k ∙ numbers_end (owner_holds b n o) k (zones_in b o) h

@@ -32,7 +32,7 @@ taken_at b o k = record {
 }
 
 abbrev pub instrument_zone_at : Parts → PairAt → Taken
-instrument_zone_at b at = taken_at b (owner.Instrument at.instrument) at.instrument_zone
+instrument_zone_at b at = taken_at b (owner.Inst at.instrument) at.instrument_zone
 
 abbrev pub preset_zone_at : Parts → PairAt → Taken
 preset_zone_at b at = taken_at b (owner.Preset at.preset) at.preset_zone

@@ -41,7 +41,7 @@ pub(crate) fn amount(bank: &Bank<'_>, at: &PairAt, operator: u16) -> i32
 {
     let of_instrument = match amount_at(
         bank,
-        Owner::Instrument(at.instrument),
+        Owner::Inst(at.instrument),
         at.instrument_zone,
         operator,
     ) {
@@ -65,7 +65,7 @@ pub(crate) fn exclusive_class(bank: &Bank<'_>, at: &PairAt) -> i16
 {
     match amount_at(
         bank,
-        Owner::Instrument(at.instrument),
+        Owner::Inst(at.instrument),
         at.instrument_zone,
         EXCLUSIVE_CLASS,
     ) {
@@ -108,7 +108,7 @@ pub(crate) fn modulator_amount(bank: &Bank<'_>, at: &PairAt, like: &Modulator, d
 {
     let of_instrument = amount_like(
         bank,
-        Owner::Instrument(at.instrument),
+        Owner::Inst(at.instrument),
         at.instrument_zone,
         like,
     )

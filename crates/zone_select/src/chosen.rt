@@ -24,7 +24,7 @@ pub(crate) fn chosen(bank: &Bank<'_>, note: &Note, pair: (u32, u32)) -> Option<C
     let (preset_zone, instrument_zone) = pair;
     let preset = first_called(bank, note)?;
     let instrument = held_target(bank, note, Owner::Preset(preset), preset_zone)?;
-    let sample = held_target(bank, note, Owner::Instrument(instrument), instrument_zone)?;
+    let sample = held_target(bank, note, Owner::Inst(instrument), instrument_zone)?;
     let zones = PairAt {
         preset,
         preset_zone,

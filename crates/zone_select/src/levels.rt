@@ -13,13 +13,13 @@ use bank_core::Bank;
 use generators::operators::{INITIAL_ATTENUATION, PAN, SUSTAIN_VOL_ENV};
 use modulators::DEFAULT_VELOCITY;
 use note_list::Note;
-use sound_tables::{frames_of_timecents, velocity_attenuation};
+use sound_tables::{frames, velatt};
 
 // How much quieter the voice is, in centibels: as its zones say, and as its velocity does.
 pub(crate) fn attenuation(bank: &Bank<'_>, note: &Note, at: &PairAt) -> i32
     ensures { result ≡ attenuation_of note.now (instrument_zone_at bank.now at.now) (preset_zone_at bank.now at.now) }
 {
-    let quieter = velocity_attenuation(velocity(bank, note, at)) as i32;
+    let quieter = velatt(velocity(bank, note, at)) as i32;
     let most = modulator_amount(bank, at, &DEFAULT_VELOCITY, DEFAULT_VELOCITY.amount);
     moved(bank, note, at, INITIAL_ATTENUATION) + part_of(most, quieter, 960)
 }
@@ -43,7 +43,7 @@ pub(crate) fn time(bank: &Bank<'_>, at: &PairAt, operator: u16) -> u32
     requires { is_range_operator operator ≡ false }
     ensures { result ≡ frames_of (amount (instrument_zone_at bank.now at.now) (preset_zone_at bank.now at.now) operator) }
 {
-    frames_of_timecents(i64::from(amount(bank, at, operator)))
+    frames(i64::from(amount(bank, at, operator)))
 }
 
 // The frames of a time that linear modulators may move.
@@ -51,5 +51,5 @@ pub(crate) fn moved_time(bank: &Bank<'_>, note: &Note, at: &PairAt, operator: u1
     requires { is_range_operator operator ≡ false }
     ensures { result ≡ frames_of (moved note.now (instrument_zone_at bank.now at.now) (preset_zone_at bank.now at.now) operator) }
 {
-    frames_of_timecents(i64::from(moved(bank, note, at, operator)))
+    frames(i64::from(moved(bank, note, at, operator)))
 }

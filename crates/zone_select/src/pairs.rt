@@ -8,14 +8,14 @@ ghost use Rattle.zone_select.specs.Pairs.{pairs};
 ghost use Rattle.zone_select.specs.Left.{inside_held, pairs_left};
 
 use crate::zones::next_held;
-use bank_core::{Bank, Members, Owner};
+use bank_core::{Bank, List, Owner};
 use note_list::Note;
 use std::marker::Model;
 
 /// The pairs of zones that a note selects, the number of a preset's zone before that of its
 /// instrument's, in rising order; seen as the list of those that are left. It lends from the bank.
 #[derive(Drop)]
-pub struct ZonePairs<'b, 'a> {
+pub struct Matches<'b, 'a> {
     bank: &'b Bank<'a>,
     note: Note,
     preset: u32,
@@ -24,7 +24,7 @@ pub struct ZonePairs<'b, 'a> {
     instrument_zone: u32,
 }
 
-impl<'b, 'a> Model for ZonePairs<'b, 'a> {
+impl<'b, 'a> Model for Matches<'b, 'a> {
     ghost use Rattle.std.specs.Prelude.{◌<◌, ℕ, List, IfSome};
     ghost use Rattle.zone_select.specs.Left.{pairs_left};
 
@@ -35,7 +35,7 @@ impl<'b, 'a> Model for ZonePairs<'b, 'a> {
     ghost invariant = { λ m. IfSome m.zone (λ k. k < 65535) };
 }
 
-impl<'b, 'a> Iterator for ZonePairs<'b, 'a> {
+impl<'b, 'a> Iterator for Matches<'b, 'a> {
     type Item = (u32, u32);
 
     ghost next_gives = { YieldsFirstBy (λ pair. pair) (λ rest. rest) };
@@ -59,11 +59,11 @@ impl<'b, 'a> Iterator for ZonePairs<'b, 'a> {
 /// The pairs of zones that a note selects: of the first preset with its bank number and number, each
 /// zone whose key range and velocity range hold the note's own, with each zone of its instrument that
 /// does the same. A zone without a range has its global zone's, and else takes all.
-pub fn matches<'b, 'a>(bank: &'b Bank<'a>, note: &Note) -> ZonePairs<'b, 'a>
+pub fn matches<'b, 'a>(bank: &'b Bank<'a>, note: &Note) -> Matches<'b, 'a>
     ensures { result ≡ pairs bank.now note.now }
 {
     let Some(preset) = first_called(bank, note) else {
-        return ZonePairs {
+        return Matches {
             bank,
             note: *note,
             preset: 0,
@@ -71,7 +71,7 @@ pub fn matches<'b, 'a>(bank: &'b Bank<'a>, note: &Note) -> ZonePairs<'b, 'a>
             instrument_zone: 0,
         };
     };
-    ZonePairs {
+    Matches {
         bank,
         note: *note,
         preset,
@@ -86,7 +86,7 @@ fn preset_count(bank: &Bank<'_>) -> u32
     ensures few { result ≤ 65535 }
 {
     bank.soundness();
-    bank.count(Members::Presets) as u32
+    bank.count(List::Presets) as u32
 }
 
 // Whether there is a preset of this number, with the note's two numbers.
@@ -145,5 +145,5 @@ fn next_inside(bank: &Bank<'_>, note: &Note, preset: u32, zone: u32, from: u32) 
     ensures within { IfSome result (λ l. l < 65535) }
 {
     let instrument = bank.target(Owner::Preset(preset), zone)?;
-    next_held(bank, note, Owner::Instrument(u32::from(instrument)), from)
+    next_held(bank, note, Owner::Inst(u32::from(instrument)), from)
 }

@@ -26,7 +26,7 @@ pub(crate) fn holds(bank: &Bank<'_>, note: &Note, owner: Owner, zone: u32) -> bo
 {
     bank.zone_range(owner, zone, Axis::Key).contains(note.key())
         && bank
-            .zone_range(owner, zone, Axis::Velocity)
+            .zone_range(owner, zone, Axis::Vel)
             .contains(note.velocity())
 }
 

@@ -14,7 +14,7 @@ returns g c =
     c.put_zone_lists.ensures in
     let instruments =
     puts_as _ _
-    (ap (λ xs. spell (zone_lists level.Instrument (all_bags level.Instrument xs)))
+    (ap (λ xs. spell (zone_lists level.Inst (all_bags level.Inst xs)))
     c.instruments.ensures.value)
     c.put_zone_lists-2.ensures in
     puts_row _ _ _ (pdta-is c.args.bank.now) c.put_phdr.ensures

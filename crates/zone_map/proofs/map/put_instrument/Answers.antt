@@ -13,14 +13,14 @@ loop-zone-init g c =
     let b = c.args.bank.now in
     putting_from _ _
     (ap (λ ks. flat_map (drawn b) (filter_map (rectangle_at b c.args.preset_zone c.args.area c.args.instrument) ks))
-    (all_from (zones_in b (owner.Instrument c.args.instrument))))
+    (all_from (zones_in b (owner.Inst c.args.instrument))))
 
 pub loop-zone-preserved : goal.loop-zone-preserved
 loop-zone-preserved g c =
     let b = c.args.bank.now in
     let test = c.loop-zone-test.true in
     let end = c.zones_in-zone-end.ensures.count in
-    let lt : c.loop-zone.zone < zones_in b (owner.Instrument c.args.instrument) = omega (arith, test, end) in
+    let lt : c.loop-zone.zone < zones_in b (owner.Inst c.args.instrument) = omega (arith, test, end) in
     putting_step _ _ c.loop-zone.invariant
     (options_on (drawn b) (rectangle_at b c.args.preset_zone c.args.area c.args.instrument) c.loop-zone.zone _ lt)
     c.put_zone.ensures
@@ -30,7 +30,7 @@ returns g c =
     let b = c.args.bank.now in
     let test = c.loop-zone-test.false in
     let end = c.zones_in-zone-end.ensures.count in
-    let le : zones_in b (owner.Instrument c.args.instrument) ≤ c.loop-zone.zone = omega (arith, test, end) in
+    let le : zones_in b (owner.Inst c.args.instrument) ≤ c.loop-zone.zone = omega (arith, test, end) in
     putting_last c.loop-zone.invariant
     (puts_as _ _
     (sym

@@ -14,4 +14,4 @@ invariant-loop-zone g l =
     (flat_map (drawn l.bank) (rectangles_in l.bank l.preset_zone l.area l.instrument))
     (flat_map (drawn l.bank)
     (filter_map (rectangle_at l.bank l.preset_zone l.area l.instrument)
-    (from l.zone (zones_in l.bank (owner.Instrument l.instrument)))))
+    (from l.zone (zones_in l.bank (owner.Inst l.instrument)))))

@@ -1,7 +1,7 @@
 use Rattle.std.proofs.Common.{◌∙◌, ap}
 use Rattle.bank_changes.specs.Members.{own_zone_count}
 use Rattle.bank_changes.specs.Zones.{range_of_zone}
-use Rattle.zone_ranges.specs.declared.axes.Axis.TheVariants.{Key, Velocity}
+use Rattle.zone_ranges.specs.declared.axes.Axis.TheVariants.{Key, Vel}
 use Rattle.zone_select.specs.Ranges.{within}
 use Rattle.zone_select.proofs.ZoneLaws.{zone_told, contains_is, first_fails, both_hold, counted}
 use Rattle.zone_select.proofs.zones.holds.Goals as goal
@@ -24,7 +24,7 @@ returns-then-contains c =
     c.if-contains.true
     (contains_is c.contains-then-contains.result c.zone_range-then-contains.result.low
     c.zone_range-then-contains.result.high t.velocity c.velocity.result
-    (range_of_zone c.args.bank.now c.args.owner c.args.zone Velocity) t.velocity_range
+    (range_of_zone c.args.bank.now c.args.owner c.args.zone Vel) t.velocity_range
     c.zone_range-then-contains.ensures.low c.zone_range-then-contains.ensures.high
     c.contains-then-contains.ensures
     ∙ ap (within t.velocity) c.velocity.ensures.value)

@@ -7,13 +7,13 @@ use Rattle.bank_core.proofs.bank.Bank.add_instrument.Goals as goal
 
 pub with_owner-totals-requires : goal.with_owner-totals-requires
 with_owner-totals-requires c =
-    has_room c.self.view_is c.self.invariant (owners_grow level.Instrument) c.requires.sound
+    has_room c.self.view_is c.self.invariant (owners_grow level.Inst) c.requires.sound
     (records_of_owner c.args.instrument)
     (totals-added_instrument c.args.self.now c.args.number c.args.instrument c.requires.place) c.records.ensures
 
 pub invariant_of-self-2 : goal.invariant_of-self-2
 invariant_of-self-2 c =
-    kept_with c.self.view_is c.self.invariant (owners_grow level.Instrument) c.requires.sound
+    kept_with c.self.view_is c.self.invariant (owners_grow level.Inst) c.requires.sound
     (records_of_owner c.args.instrument)
     (totals-added_instrument c.args.self.now c.args.number c.args.instrument c.requires.place) c.records.ensures
     (rw c.self.view_is at c.in_ok-add_instrument.ensures.ok) c.with_owner-totals.ensures

@@ -17,7 +17,7 @@ pub overflow_cast-result-in-Instrument : goal.overflow_cast-result-in-Instrument
 overflow_cast-result-in-Instrument c =
     let count =
     c.list_len-in-Instrument.ensures
-    ∙ ap (λ owners. record_count (lists_of level.Instrument owners) c.args.part) c.instruments.ensures.value
+    ∙ ap (λ owners. record_count (lists_of level.Inst owners) c.args.part) c.instruments.ensures.value
     in
-    let few = few_records c.args.self.now c.instruments.ensures.valid level.Instrument c.args.part in
+    let few = few_records c.args.self.now c.instruments.ensures.valid level.Inst c.args.part in
     omega (arith, count, few)

@@ -7,7 +7,7 @@ use Rattle.bank_core.proofs.bank.Bank.remove_instrument.Goals as goal
 
 pub without_owner-self-inside-requires : goal.without_owner-self-inside-requires
 without_owner-self-inside-requires c =
-    had_it c.self.view_is c.self.invariant (owners_grow level.Instrument) c.requires.sound
+    had_it c.self.view_is c.self.invariant (owners_grow level.Inst) c.requires.sound
     (records_of_owner c.in_ok-instrument.instrument)
     (totals-removed_instrument c.args.self.now c.args.number c.in_ok-instrument.instrument
     (rw c.self.view_is at c.in_ok-instrument.ensures.value))
@@ -15,7 +15,7 @@ without_owner-self-inside-requires c =
 
 pub invariant_of-self-2 : goal.invariant_of-self-2
 invariant_of-self-2 c =
-    kept_without c.self.view_is c.self.invariant (owners_grow level.Instrument) c.requires.sound
+    kept_without c.self.view_is c.self.invariant (owners_grow level.Inst) c.requires.sound
     (records_of_owner c.in_ok-instrument.instrument)
     (totals-removed_instrument c.args.self.now c.args.number c.in_ok-instrument.instrument
     (rw c.self.view_is at c.in_ok-instrument.ensures.value))

@@ -23,7 +23,7 @@ returns c =
     in
     let i = c.of-instruments.ensures in
     let instruments =
-    zone_sizes level.Instrument b.instruments t.instruments c.of-instruments.result (ap (λ x. x.instruments) is)
+    zone_sizes level.Inst b.instruments t.instruments c.of-instruments.result (ap (λ x. x.instruments) is)
     i.bags i.mods i.gens in
     let pb = presets.bags in
     let pm = presets.mods in

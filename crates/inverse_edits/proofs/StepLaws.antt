@@ -13,10 +13,10 @@ use Rattle.bank_edits.specs.EditChanges.{inverse}
 use Rattle.bank_edits.specs.Undone.{IsUndone}
 use Rattle.bank_edits.specs.Runs.{AllTaken}
 use Rattle.bank_edits.proofs.Law.{undone}
-use Rattle.edit_sessions.specs.Steps.{IsStep, IsDoneStep, IsDoneEdit, IsWhy}
-use Rattle.edit_sessions.specs.Histories.{history_of, IsForth, IsUndoFailure, IsRedoFailure, IsEdited, IsRefusalNow}
-use Rattle.edit_sessions.proofs.ListLaws.{reverse_push}
-use Rattle.edit_sessions.proofs.HistoryLaws.{forth, edit_done, bank_total, stands}
+use Rattle.inverse_edits.specs.Steps.{IsStep, IsDoneStep, IsDoneEdit, IsWhy}
+use Rattle.inverse_edits.specs.Histories.{history_of, IsForth, IsUndoFailure, IsRedoFailure, IsEdited, IsRefusalNow}
+use Rattle.inverse_edits.proofs.ListLaws.{reverse_push}
+use Rattle.inverse_edits.proofs.HistoryLaws.{forth, edit_done, bank_total, stands}
 
 -- what a session keeps
 pub record Keeps (b : Parts) (undos next : List Edit) : Type 0 where

@@ -1,6 +1,6 @@
 //! One step of a session, over its bank and its lists of edits.
 ghost use Rattle.std.specs.Prelude.{◌≡◌, ◌<◌, ◌++◌, ◌∷◌, [], vec_len, vec_capacity};
-ghost use Rattle.edit_sessions.specs.Steps.{IsStep, TakesLast, IsEdit};
+ghost use Rattle.inverse_edits.specs.Steps.{IsStep, TakesLast, IsEdit};
 
 use bank_core::Bank;
 use bank_edits::apply;

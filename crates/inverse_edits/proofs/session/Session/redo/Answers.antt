@@ -1,6 +1,6 @@
 use Rattle.edit_refusals.specs.declared.refusal.Refusal.TheVariants.{NothingToRedo}
-use Rattle.edit_sessions.proofs.StepLaws.{step_keeps, step_forth, redo_failure}
-use Rattle.edit_sessions.proofs.session.Session.redo.Goals as goal
+use Rattle.inverse_edits.proofs.StepLaws.{step_keeps, step_forth, redo_failure}
+use Rattle.inverse_edits.proofs.session.Session.redo.Goals as goal
 
 pub invariant_of-self : goal.invariant_of-self
 invariant_of-self c =

@@ -1,6 +1,6 @@
 use Rattle.std.proofs.Common.{reverse}
-use Rattle.edit_sessions.proofs.StepLaws.{edit_keeps, edit_history, why_refused}
-use Rattle.edit_sessions.proofs.session.Session.edit.Goals as goal
+use Rattle.inverse_edits.proofs.StepLaws.{edit_keeps, edit_history, why_refused}
+use Rattle.inverse_edits.proofs.session.Session.edit.Goals as goal
 
 pub invariant_of-self : goal.invariant_of-self
 invariant_of-self c =

@@ -1,6 +1,6 @@
 use Rattle.std.proofs.Common.{◌+◌, ◌/◌, arith}
 use Rattle.sound_tables.proofs.VelocityLaws.{all_between, louder}
-use Rattle.sound_tables.proofs.loudness.velocity_attenuation.Goals as goal
+use Rattle.sound_tables.proofs.loudness.velatt.Goals as goal
 
 pub loop-low-init : goal.loop-low-init
 loop-low-init c = all_between _

@@ -1,6 +1,6 @@
 use Rattle.std.proofs.Common.{reverse}
-use Rattle.edit_sessions.proofs.HistoryLaws.{stands, is_history}
-use Rattle.edit_sessions.proofs.session.Session.bank.Goals as goal
+use Rattle.inverse_edits.proofs.HistoryLaws.{stands, is_history}
+use Rattle.inverse_edits.proofs.session.Session.bank.Goals as goal
 
 pub returns-clause-value : goal.returns-clause-value
 returns-clause-value c =

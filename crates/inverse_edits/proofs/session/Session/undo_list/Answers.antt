@@ -1,7 +1,7 @@
 use Rattle.std.proofs.Common.{sym, reverse, ◌∙◌}
 use Rattle.std.proofs.lemmas.List.{reverse-reverse}
-use Rattle.edit_sessions.proofs.HistoryLaws.{way_back_is}
-use Rattle.edit_sessions.proofs.session.Session.undo_list.Goals as goal
+use Rattle.inverse_edits.proofs.HistoryLaws.{way_back_is}
+use Rattle.inverse_edits.proofs.session.Session.undo_list.Goals as goal
 
 pub returns : goal.returns
 returns c =

@@ -1,6 +1,6 @@
 use Rattle.std.proofs.Common.{◌-◌, ◌*◌, min}
 use Rattle.sound_tables.proofs.VelocityLaws.{IsBetween}
-use Rattle.sound_tables.proofs.loudness.velocity_attenuation.Given as goal
+use Rattle.sound_tables.proofs.loudness.velatt.Given as goal
 
 abbrev pub invariant-loop-low : goal.invariant-loop-low
 invariant-loop-low l = IsBetween (min l.fn.velocity 127 * min l.fn.velocity 127 * 65536) l.low l.high

@@ -1,6 +1,6 @@
 //! A bank with the edits that take it back and those that bring it forth again.
 ghost use Rattle.std.specs.Prelude.{◌≡◌, Some, IfErr, OnOk, OnErr};
-ghost use Rattle.edit_sessions.specs.Histories.{IsHistory, bank_now, begun, IsEdited, IsRefusalNow, IsForth, IsUndoFailure, IsRedoFailure, way_back};
+ghost use Rattle.inverse_edits.specs.Histories.{IsHistory, bank_now, begun, IsEdited, IsRefusalNow, IsForth, IsUndoFailure, IsRedoFailure, way_back};
 
 use crate::step::{do_edit, do_last};
 use bank_core::Bank;
@@ -33,7 +33,7 @@ impl<'a> Model for Session<'a> {
     ghost use Rattle.std.specs.Prelude.{reverse};
     ghost use Rattle.bank_parts.specs.Sound.{IsSound};
     ghost use Rattle.bank_edits.specs.Runs.{AllTaken};
-    ghost use Rattle.edit_sessions.specs.Histories.{History, history_of};
+    ghost use Rattle.inverse_edits.specs.Histories.{History, history_of};
     ghost use Rattle.generators.specs.contracts.gen_map.GenMap as gens;
     ghost use Rattle.std.specs.Coded.{codes};
 

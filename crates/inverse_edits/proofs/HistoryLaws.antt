@@ -11,9 +11,9 @@ use Rattle.edit_refusals.specs.Edits.{raw}
 use Rattle.bank_edits.specs.EditChanges.{inverse}
 use Rattle.bank_edits.specs.Runs.{AllTaken, undo_list}
 use Rattle.bank_edits.proofs.Law.{undone}
-use Rattle.edit_sessions.specs.Histories.{IsHistory, AreLinked, Follow, IsForth, bank_now, edited, way_back}
-use Rattle.edit_sessions.specs.Histories.{banks_before, banks_after, history_of}
-use Rattle.edit_sessions.proofs.ListLaws.{get_seam, take_past_seam, take_zip, map_zip_push, reverse_cons}
+use Rattle.inverse_edits.specs.Histories.{IsHistory, AreLinked, Follow, IsForth, bank_now, edited, way_back}
+use Rattle.inverse_edits.specs.Histories.{banks_before, banks_after, history_of}
+use Rattle.inverse_edits.proofs.ListLaws.{get_seam, take_past_seam, take_zip, map_zip_push, reverse_cons}
 
 -- ---- lengths
 
