@@ -104,8 +104,8 @@ fn heads<H: Drop>(
 // T with these lists of its instrument.
 fn own_flat<'a>(
     alloc: Global,
-    instrument_heads: FlatHeads<Name20>,
-    instruments: Recs,
+    inst_heads: FlatHeads<Name20>,
+    inst: Recs,
 ) -> Result<Flat<'a>, Fail> {
     let preset_heads = heads(alloc, head(Name20::from_bytes(b"p")?), &[0, 1])?;
     let points = Points::of_slice(alloc, b"\xe8\x03\xd0\x07\x30\xf8")?;
@@ -113,9 +113,9 @@ fn own_flat<'a>(
         minor: 4,
         texts: texts(),
         preset_heads: preset_heads.ok_or("no preset")?,
-        presets: recs(alloc, &[(0, 0), (1, 0)], &[(41, 0), (0, 0)], NONE)?,
-        instrument_heads,
-        instruments,
+        preset: recs(alloc, &[(0, 0), (1, 0)], &[(41, 0), (0, 0)], NONE)?,
+        inst_heads,
+        inst,
         samples: sample(alloc, Name20::from_bytes(b"t")?, points)?,
     })
 }

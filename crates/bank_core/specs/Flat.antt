@@ -9,9 +9,6 @@ use Rattle.bank_core.specs.Heads.{AreFlatOf}
 pub record IsFlatOf (f : Flat) (b : Parts) : Type 0 where
   pub minor : f.minor ≡ b.minor
   pub texts : f.texts ≡ b.texts
-  pub presets : AreFlatOf level.Preset f.preset_heads
-      (record { bags = f.presets.bags.items; gens = f.presets.gens.items; mods = f.presets.mods.items }) b.presets
-  pub instruments : AreFlatOf level.Inst f.instrument_heads
-      (record { bags = f.instruments.bags.items; gens = f.instruments.gens.items; mods = f.instruments.mods.items })
-      b.instruments
+  pub presets : AreFlatOf level.Preset f.preset_heads f.preset b.presets
+  pub instruments : AreFlatOf level.Inst f.inst_heads f.inst b.instruments
   pub samples : f.samples ≡ b.samples

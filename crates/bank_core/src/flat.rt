@@ -72,8 +72,8 @@ impl<'a> Bank<'a> {
 fn owners_of<H: OwnerHead>(heads: FlatHeads<H>, recs: Recs) -> Option<Owners<H>>
     ensures lists { MatchOption result
         ((owners : List (WithZones H)) → AllByRecursion (IsPlainOwner (target_operator H.LEVEL)) owners
-        → ¬ AreFlatOf H.LEVEL heads (record { bags = recs.bags.items; gens = recs.gens.items; mods = recs.mods.items }) owners)
-        (λ owners. AreFlatOf H.LEVEL heads (record { bags = recs.bags.items; gens = recs.gens.items; mods = recs.mods.items }) owners) }
+        → ¬ AreFlatOf H.LEVEL heads recs owners)
+        (λ owners. AreFlatOf H.LEVEL heads recs owners) }
     ensures plain { IfSome result (λ owners. AllByRecursion (IsPlainOwner (target_operator H.LEVEL)) owners) }
 {
     let (heads, first_bags) = heads.into_lists();

@@ -22,8 +22,8 @@ impl<H: OwnerHead> Owners<H> {
     pub fn from_flat(heads: NumberedList<H>, first_bags: Vec<u16>, recs: Recs) -> Option<Owners<H>>
         ensures lists { MatchOption result
             ((owners : List (WithZones H)) → AllByRecursion (IsPlainOwner (target_operator H.LEVEL)) owners
-            → ¬ AreFlat H.LEVEL heads (record { first_bags = first_bags.items; bags = recs.bags.items; gens = recs.gens.items; mods = recs.mods.items }) owners)
-            (λ owners. AreFlat H.LEVEL heads (record { first_bags = first_bags.items; bags = recs.bags.items; gens = recs.gens.items; mods = recs.mods.items }) owners) }
+            → ¬ AreFlat H.LEVEL heads (record { first_bags = first_bags.items; bags = recs.bags; gens = recs.gens; mods = recs.mods }) owners)
+            (λ owners. AreFlat H.LEVEL heads (record { first_bags = first_bags.items; bags = recs.bags; gens = recs.gens; mods = recs.mods }) owners) }
         ensures plain { IfSome result (λ owners. AllByRecursion (IsPlainOwner (target_operator H.LEVEL)) owners) }
     {
         let Some(bags) = OwnerBags::from_flat(first_bags, recs) else {

@@ -1,5 +1,5 @@
 -- Bags and the memory that is there for more.
-use Rattle.std.specs.Prelude.{◌≤◌, ◌+◌, ℕ, List, length}
+use Rattle.std.specs.Prelude.{◌≡◌, ◌≤◌, ◌+◌, ℕ, List, length}
 use Rattle.flat_records.specs.Bags.{Bag}
 
 -- so many records of each kind; of what is spare: so many may be put in without memory
@@ -21,12 +21,11 @@ pub record Uses (old new used : Counts) : Type 0 where
   pub gens : old.gens ≤ new.gens + used.gens
   pub mods : old.mods ≤ new.mods + used.mods
 
-abbrev pub sum_of : Counts → Counts → Counts
-sum_of old freed = record { bags = old.bags + freed.bags; gens = old.gens + freed.gens; mods = old.mods + freed.mods }
-
--- what is spare is what was, and what came free, or more
-abbrev pub Frees : Counts → Counts → Counts → Type 0
-Frees old new freed = Uses (sum_of old freed) new no_records
+-- what is spare is what was, and what came free
+pub record Frees (old new freed : Counts) : Type 0 where
+  pub bags : new.bags ≡ old.bags + freed.bags
+  pub gens : new.gens ≡ old.gens + freed.gens
+  pub mods : new.mods ≡ old.mods + freed.mods
 
 pub record Stored : Type 0 where
   pub bags : List Bag

@@ -4,7 +4,7 @@ ghost use Rattle.std.specs.Option.{IsSomeAnd};
 ghost use Rattle.numbered_lists.specs.Moved.{changed};
 ghost use Rattle.flat_records.specs.Runs.{put, cut, exchanged};
 ghost use Rattle.flat_records.specs.Bags.{Bag, no_bag, gens_in, mods_in, with_gens, with_mods};
-ghost use Rattle.flat_records.specs.Stored.{Uses, Frees, counts_of};
+ghost use Rattle.flat_records.specs.Stored.{Uses, Frees, counts_of, no_records};
 
 use crate::bags::Bags;
 use crate::pieces::{cut_within, exchange_within, put_within};
@@ -94,6 +94,27 @@ impl Bags {
         let gens = self.gens(k).len();
         let mods = self.mods(k).len();
         self.shrink(k, 0, gens, 0, mods);
+    }
+
+    /// Makes a bag's generators and modulators these, no more of either than it has. Takes no memory.
+    pub fn set_bag(&mut self, k: usize, gens: &[(u16, u16)], mods: &[Modulator])
+        requires place { k < length self.old.bags }
+        requires gens { IfSome (slice_get self.old.bags k) (λ (b : Bag). length gens.now ≤ length b.gens) }
+        requires mods { IfSome (slice_get self.old.bags k) (λ (b : Bag). length mods.now ≤ length b.mods) }
+        ensures bags { self.new.bags ≡ slice_set self.old.bags k (record { gens = gens.now; mods = mods.now }) }
+        ensures spare { Uses self.old.spare self.new.spare no_records }
+    {
+        self.few_records();
+        self.empty_bag(k);
+        self.grow(k, 0, gens, 0, mods);
+    }
+
+    // The law that there are few generators and modulators: the terminal bag has their numbers. It does nothing.
+    fn few_records(&self)
+        ensures gens { length (gens_in self.now.bags) < 2 ^ 16 }
+        ensures mods { length (mods_in self.now.bags) < 2 ^ 16 }
+    {
+        let _counts = index(&self.bags, self.bags.len() - 1);
     }
 
     /// Puts generators into a bag at a place. Takes no memory.

@@ -19,6 +19,14 @@ pub struct Recs {
     pub mods: Vec<Modulator>,
 }
 
+impl Model for Recs {
+    ghost use Rattle.flat_records.specs.Bags.{Tables};
+
+    ghost Value = { Tables };
+
+    ghost view = { λ r. record { bags = r.bags.items; gens = r.gens.items; mods = r.mods.items } };
+}
+
 /// A list of bags, in flat lists of records.
 pub struct Bags {
     pub(crate) bags: Vec<(u16, u16)>,

@@ -10,7 +10,7 @@ impl Bags {
     /// The bags of these records, where they are the records of a list of bags. Takes no memory.
     #[tactic(auto, using(crate::proofs::Converse::tables_read))]
     pub fn from_recs(recs: Recs) -> Option<Bags>
-        ensures { MatchOption result (¬ AreTables (record { bags = recs.bags.items; gens = recs.gens.items; mods = recs.mods.items })) (λ r. record { bags = recs.bags.items; gens = recs.gens.items; mods = recs.mods.items } ≡ tables_of r.bags) }
+        ensures { MatchOption result ((bags : List Bag) → ¬ (recs ≡ tables_of bags)) (λ r. recs ≡ tables_of r.bags) }
     {
         if !are_tables(&recs.bags, &recs.gens, &recs.mods) {
             return None;

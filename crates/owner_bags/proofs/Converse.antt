@@ -117,9 +117,9 @@ owners_begin owners =
 -- ---- both lists
 
 -- records of no bags are those of no owners
-pub no_tables : (places : List ℕ) (t : Tables) → (AreTables t → ⊥) → (owners : List (List Bag))
-    → AreFlat places t owners → ⊥
-no_tables places t none owners are = none (subst AreTables (sym are.records) (bags_tables (all_bags owners)))
+pub no_tables : (places : List ℕ) (t : Tables) → ((bags : List Bag) → t ≡ tables_of bags → ⊥)
+    → (owners : List (List Bag)) → AreFlat places t owners → ⊥
+no_tables places t none owners are = none (all_bags owners) are.records
 
 -- nor are places that don't begin at 0 or don't rise
 pub no_begins : (places : List ℕ) (t : Tables) (bags : List Bag) → t ≡ tables_of bags

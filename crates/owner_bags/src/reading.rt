@@ -10,8 +10,8 @@ impl OwnerBags {
     /// The owners whose bags begin at these places, the last of which is the number of all bags, and have these
     /// records, where there are such owners. Takes no memory.
     pub fn from_flat(begins: Vec<u16>, recs: Recs) -> Option<OwnerBags>
-        ensures { MatchOption result ((owners : List (List Bag)) → ¬ AreFlat begins.items (record { bags = recs.bags.items; gens = recs.gens.items; mods = recs.mods.items }) owners)
-            (λ r. AreFlat begins.items (record { bags = recs.bags.items; gens = recs.gens.items; mods = recs.mods.items }) r.owners) }
+        ensures { MatchOption result ((owners : List (List Bag)) → ¬ AreFlat begins.items recs owners)
+            (λ r. AreFlat begins.items recs r.owners) }
     {
         let Some(bags) = Bags::from_recs(recs) else {
             return None;

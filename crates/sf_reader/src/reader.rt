@@ -146,15 +146,15 @@ fn content_of<'a>(
         presets,
         instruments,
     } = members;
-    let (preset_heads, presets) = presets.into_lists();
-    let (instrument_heads, instruments) = instruments.into_lists();
+    let (preset_heads, preset) = presets.into_lists();
+    let (inst_heads, inst) = instruments.into_lists();
     let flat = Flat {
         minor,
         texts: cut_texts(&texts),
         preset_heads,
-        presets,
-        instrument_heads,
-        instruments,
+        inst_heads,
+        preset,
+        inst,
         samples,
     };
     (flat, counts)

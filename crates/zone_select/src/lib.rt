@@ -18,6 +18,6 @@ pub use laws::{linear_modulators_are_summed, pairs_have_voices, selected_by_pair
 pub use neutral::{
     instruments_keep_sounding, samples_keep_sounding, texts_keep_sounding, zones_keep_sounding,
 };
-pub use pairs::{Matches, matches};
+pub use pairs::{ZonePairs as Matches, matches};
 pub use parameters::{VoiceParameters, params, sample_of};
 pub use zones::zones_in;

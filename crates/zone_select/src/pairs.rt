@@ -15,7 +15,7 @@ use std::marker::Model;
 /// The pairs of zones that a note selects, the number of a preset's zone before that of its
 /// instrument's, in rising order; seen as the list of those that are left. It lends from the bank.
 #[derive(Drop)]
-pub struct Matches<'b, 'a> {
+pub struct ZonePairs<'b, 'a> {
     bank: &'b Bank<'a>,
     note: Note,
     preset: u32,
@@ -24,7 +24,7 @@ pub struct Matches<'b, 'a> {
     instrument_zone: u32,
 }
 
-impl<'b, 'a> Model for Matches<'b, 'a> {
+impl<'b, 'a> Model for ZonePairs<'b, 'a> {
     ghost use Rattle.std.specs.Prelude.{◌<◌, ℕ, List, IfSome};
     ghost use Rattle.zone_select.specs.Left.{pairs_left};
 
@@ -35,7 +35,7 @@ impl<'b, 'a> Model for Matches<'b, 'a> {
     ghost invariant = { λ m. IfSome m.zone (λ k. k < 65535) };
 }
 
-impl<'b, 'a> Iterator for Matches<'b, 'a> {
+impl<'b, 'a> Iterator for ZonePairs<'b, 'a> {
     type Item = (u32, u32);
 
     ghost next_gives = { YieldsFirstBy (λ pair. pair) (λ rest. rest) };
@@ -59,11 +59,11 @@ impl<'b, 'a> Iterator for Matches<'b, 'a> {
 /// The pairs of zones that a note selects: of the first preset with its bank number and number, each
 /// zone whose key range and velocity range hold the note's own, with each zone of its instrument that
 /// does the same. A zone without a range has its global zone's, and else takes all.
-pub fn matches<'b, 'a>(bank: &'b Bank<'a>, note: &Note) -> Matches<'b, 'a>
+pub fn matches<'b, 'a>(bank: &'b Bank<'a>, note: &Note) -> ZonePairs<'b, 'a>
     ensures { result ≡ pairs bank.now note.now }
 {
     let Some(preset) = first_called(bank, note) else {
-        return Matches {
+        return ZonePairs {
             bank,
             note: *note,
             preset: 0,
@@ -71,7 +71,7 @@ pub fn matches<'b, 'a>(bank: &'b Bank<'a>, note: &Note) -> Matches<'b, 'a>
             instrument_zone: 0,
         };
     };
-    Matches {
+    ZonePairs {
         bank,
         note: *note,
         preset,

@@ -5,5 +5,5 @@ pub returns-clause-lists : goal.returns-clause-lists
 returns-clause-lists g c =
     let lists = c.into_lists-heads in
     answered g.H.OwnerHead.LEVEL c.args.heads lists.result.0 lists.result.1.items
-    (record { bags = c.args.recs.bags.items; gens = c.args.recs.gens.items; mods = c.args.recs.mods.items })
+    c.args.recs
     c.from_flat.result lists.ensures.records lists.ensures.size c.from_flat.ensures.lists

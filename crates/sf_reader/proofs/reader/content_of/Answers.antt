@@ -12,7 +12,7 @@ returns c =
     let info = ap (λ (w : ListChunks). w.info) c.lists.view_is in
     let sdta = ap (λ (w : ListChunks). w.sdta) c.lists.view_is in
     let presets = c.into_lists-preset_heads.ensures in
-    let instruments = c.into_lists-instrument_heads.ensures in
+    let instruments = c.into_lists-inst_heads.ensures in
     (λ i. record {
       bank = record {
         minor = c.args.minor;

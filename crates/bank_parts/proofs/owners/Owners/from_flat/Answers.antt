@@ -12,8 +12,7 @@ use Rattle.bank_parts.proofs.owners.Owners.from_flat.Goals as goal
 pub returns-then-len-owner_count-clause-lists : goal.returns-then-len-owner_count-clause-lists
 returns-then-len-owner_count-clause-lists g c owners plain are =
     let at = g.H.OwnerHead.LEVEL in
-    let t : Tables =
-    record { bags = c.args.recs.bags.items; gens = c.args.recs.gens.items; mods = c.args.recs.mods.items } in
+    let t : Tables = c.args.recs in
     let bags = bags_by at c.args.heads c.args.first_bags.items t c.in-Some.bags.owners owners c.in-Some.ensures are in
     let heads : length c.args.heads ≡ length owners = ap length are.heads ∙ length-map owners (λ x. x.head) in
     let own : length c.in-Some.bags.owners ≡ length owners =
@@ -27,8 +26,7 @@ pub returns-then-not-are_all_bags-clause-lists : goal.returns-then-not-are_all_b
 returns-then-not-are_all_bags-clause-lists g c owners plain are =
     let at = g.H.OwnerHead.LEVEL in
     let op = target_operator at in
-    let t : Tables =
-    record { bags = c.args.recs.bags.items; gens = c.args.recs.gens.items; mods = c.args.recs.mods.items } in
+    let t : Tables = c.args.recs in
     let bags = bags_by at c.args.heads c.args.first_bags.items t c.in-Some.bags.owners owners c.in-Some.ensures are in
     let all = subst (AreAllBags op) (sym bags) (owners_own op owners plain) in
     true≢false
@@ -50,8 +48,7 @@ returns-clause-lists g c =
     let at = g.H.OwnerHead.LEVEL in
     let op = target_operator at in
     let bags = c.in-Some.bags.owners in
-    let t : Tables =
-    record { bags = c.args.recs.bags.items; gens = c.args.recs.gens.items; mods = c.args.recs.mods.items } in
+    let t : Tables = c.args.recs in
     let is : c.from_vec-heads.result ≡ c.args.heads = c.from_vec-heads.ensures ∙ c.into_vec.ensures in
     let read = subst (λ hs. AreRead op hs bags) is (invariant_of-result g c) in
     subst

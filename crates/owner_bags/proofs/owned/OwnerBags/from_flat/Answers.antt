@@ -7,13 +7,12 @@ use Rattle.owner_bags.proofs.owned.OwnerBags.from_flat.Goals as goal
 pub returns-in_default : goal.returns-in_default
 returns-in_default c =
     no_tables c.args.begins.items
-    (record { bags = c.args.recs.bags.items; gens = c.args.recs.gens.items; mods = c.args.recs.mods.items })
+    c.args.recs
     c.in_default.ensures
 
 pub returns-then-not-are_begins : goal.returns-then-not-are_begins
 returns-then-not-are_begins c =
-    let t : Tables =
-    record { bags = c.args.recs.bags.items; gens = c.args.recs.gens.items; mods = c.args.recs.mods.items } in
+    let t : Tables = c.args.recs in
     no_begins c.args.begins.items t c.in-Some.bags.bags c.in-Some.ensures
     (λ are.
     true≢false
@@ -32,8 +31,7 @@ invariant_of-result c =
 pub returns : goal.returns
 returns c =
     let are = c.if-not-are_begins.ensures.0 refl in
-    let t : Tables =
-    record { bags = c.args.recs.bags.items; gens = c.args.recs.gens.items; mods = c.args.recs.mods.items } in
+    let t : Tables = c.args.recs in
     some_begins c.args.begins.items t c.in-Some.bags.bags c.in-Some.ensures
     (subst (AreBegins c.args.begins.items) c.bag_count.ensures
     (subst (λ places. AreBegins places c.bag_count.result) c.deref.ensures.value are))
