@@ -12,7 +12,8 @@ use Rattle.flat_records.specs.Bags.{Bag, past_bag, gens_in, mods_in, no_modulato
 use Rattle.flat_records.specs.Bags.{bags_from, bags_of_records, bags_in, AreRead, with_gens, with_mods}
 use Rattle.flat_records.specs.Raised.{raised, lowered}
 use Rattle.flat_records.specs.Stored.{Counts, Stored}
-use Rattle.flat_records.proofs.Starts.{end, length-starts, flat-among, at-starts, next-starts, starts-replaced}
+use Rattle.std.proofs.lemmas.Option.{get_or_from_slice_get}
+use Rattle.flat_records.proofs.Starts.{end, length-starts, starts-end, flat-among, at-starts, next-starts, starts-replaced}
 use Rattle.flat_records.proofs.Starts.{starts-same, starts-put, starts-cut, changed_from-undone, length-put}
 use Rattle.flat_records.proofs.Starts.{length-cut, flat-put, flat-cut, flat-set, flat-none, flat-kept}
 
@@ -338,3 +339,15 @@ bag_cut {t} {bags} are k e {new} f =
     ap (λ (t : Tables). t.mods) s.same
     ∙ flat-none (λ (b : Bag). b.mods) s.front no_bag s.back (no_modulator ∷ []) refl in
     record { same = (λ i. record { bags = index i; gens = gens i; mods = mods i }) ∙ ap tables_of (sym s.without) }
+
+-- the terminal bag has the numbers of all generators and modulators
+pub last_counts : {t : Tables} {bags : List Bag} → AreOf t bags → (xs : List (ℕ × ℕ)) (n : ℕ) (p : ℕ × ℕ)
+    → xs ≡ t.bags → n ≡ length bags → p ≡ get_or xs n p → p ≡ (length (gens_in bags), length (mods_in bags))
+last_counts {t} {bags} a xs n p e size is =
+    let last = end past_bag (0, 0) bags in
+    is
+    ∙ ((λ i. get_or (e i) (size i) p)
+    ∙ (ap (λ (t : Tables). get_or t.bags (length bags) p) a.same
+    ∙ (get_or_from_slice_get (starts past_bag (0, 0) bags) (length bags) last p (starts-end past_bag (0, 0) bags)
+    ∙ (λ i. ((gens-end (0, 0) bags ∙ zero-add (length (gens_in bags))) i,
+    (mods-end (0, 0) bags ∙ zero-add (length (mods_in bags))) i)))))

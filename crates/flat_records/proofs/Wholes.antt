@@ -1,12 +1,13 @@
 -- A bag that is put in as a whole.
 use Rattle.std.proofs.Common.{◌≡◌, ℕ, ◌≤◌, ◌<◌, List, [], ◌∷◌, ◌++◌, length, insert, take, drop, set, slice_get}
-use Rattle.std.proofs.Common.{refl, sym, subst, ◌∙◌, ap, zero-add}
+use Rattle.std.proofs.Common.{suc, zero, ◌+◌, Some, refl, sym, subst, ◌∙◌, ap, zero-add, length-append, arith}
 use Rattle.std.specs.Option.{IsSomeAnd, IfSome}
 use Rattle.std.specs.List.{flat_map}
 use Rattle.std.proofs.lemmas.List.{take-append-drop, set_at, length-take-le}
 use Rattle.std.proofs.lemmas.List.Concat.{flat_map-append}
 use Rattle.numbered_lists.specs.Moved.{changed}
-use Rattle.numbered_lists.proofs.Lists.{slice_get-insert, slice_get-found, changed-found}
+use Rattle.std.proofs.lemmas.Option.{slice_get_within, get_or_from_slice_get}
+use Rattle.numbered_lists.proofs.Lists.{slice_get-insert, slice_get-found, slice_get-slice_set, changed-found}
 use Rattle.modulators.specs.declared.modulator.Modulator.{Modulator}
 use Rattle.flat_records.specs.Runs.{cut}
 use Rattle.flat_records.specs.Bags.{Bag, no_bag}
@@ -51,3 +52,36 @@ all-cut bags k gens mods e f h =
     changed-found bags k
     (λ (b : Bag). record { gens = cut b.gens 0 (length gens); mods = cut b.mods 0 (length mods) }) b there
     ∙ (λ i. set bags k (record { gens = cut-all b.gens gens first i; mods = cut-all b.mods mods second i }))
+
+-- ---- a bag made another
+
+set_again : {X : Type 0} (xs : List X) (k : ℕ) (x y : X) → set (set xs k x) k y ≡ set xs k y
+set_again [] k x y = refl
+set_again (z ∷ zs) zero x y = refl
+set_again (z ∷ zs) (suc k) x y = ap (λ ys. z ∷ ys) (set_again zs k x y)
+
+-- without the members of one bag
+pub length-emptied : {X : Type 0} (part : Bag → List X) (bags : List Bag) (k : ℕ) (b : Bag) → part no_bag ≡ []
+    → slice_get bags k ≡ Some b
+    → length (flat_map part (set bags k no_bag)) + length (part b) ≡ length (flat_map part bags)
+length-emptied part [] k b none e = absurd (omega (arith, slice_get_within [] k b e))
+length-emptied part (x ∷ xs) zero b none e =
+    let same : x ≡ b = get_or_from_slice_get (x ∷ xs) 0 b x e in
+    let first : length (part no_bag ++ flat_map part xs) ≡ length (flat_map part xs) =
+    ap (λ ys. length (ys ++ flat_map part xs)) none in
+    let other : length (part x) ≡ length (part b) = ap (λ y. length (part y)) same in
+    omega (arith, first, other, length-append (part x) (flat_map part xs))
+length-emptied part (x ∷ xs) (suc k) b none e =
+    omega (
+      arith,
+      length-append (part x) (flat_map part (set xs k no_bag)),
+      length-append (part x) (flat_map part xs),
+      length-emptied part xs k b none e
+    )
+
+pub changed_emptied : (bags xs : List Bag) (k : ℕ) (f : Bag → Bag) → xs ≡ set bags k no_bag → k < length bags
+    → changed xs k f ≡ set bags k (f no_bag)
+changed_emptied bags xs k f e h =
+    ap (λ xs. changed xs k f) e
+    ∙ (changed-found (set bags k no_bag) k f no_bag (slice_get-slice_set bags k no_bag h)
+    ∙ set_again bags k no_bag (f no_bag))

@@ -1,15 +1,22 @@
-use Rattle.std.proofs.Common.{rules, ◌≡◌, ◌≤◌, ◌<◌, ◌+◌, ◌^◌, length, insert, remove, slice_get, slice_set, Some, IfSome, ℕ, ◌-◌, ◌*◌, ◌/◌, ◌%◌, Bool, true, false, nat_eq, nat_lt, List, [], ◌∷◌, ◌++◌, slice_index_or, bit_and, bit_or, Fits, w8, w32, w64, Bor, MutBor}
-use Rattle.std.specs.Option.{IsSomeAnd}
-use Rattle.numbered_lists.specs.Moved.{changed}
-use Rattle.flat_records.specs.Runs.{put, cut, exchanged}
-use Rattle.flat_records.specs.Bags.{Bag, no_bag, gens_in, mods_in, with_gens, with_mods}
-use Rattle.flat_records.specs.Stored.{Uses, Frees, counts_of, no_records}
+use Rattle.std.proofs.Common.{◌≡◌, ◌-◌, ℕ, length, ◌∙◌, ap, arith}
+use Rattle.flat_records.specs.Bags.{gens_in, mods_in}
+use Rattle.flat_records.proofs.TableLaws.{held, bags_size, last_counts}
+use Rattle.flat_records.proofs.bags.Bags.few_records.Goals.{After-index-counts}
 use Rattle.flat_records.proofs.bags.Bags.few_records.Goals as goal
 
--- src/bag_changes.rt:113:5
-pub returns-clause-gens : goal.returns-clause-gens
-returns-clause-gens c = ?
+-- what was read are the numbers of all
+counted : (c : After-index-counts)
+    → c.index-counts.result ≡ (length (gens_in c.args.self.now.bags), length (mods_in c.args.self.now.bags))
+counted c =
+    let a = held c.self.invariant c.self.view_is in
+    let size = bags_size a in
+    let len = c.deref.ensures.len in
+    let ok = c.self.inside.bags.ok in
+    last_counts a c.deref.result.now (c.len.result - 1) c.index-counts.result c.deref.ensures.value
+    (omega (arith, ok.0, c.len.ensures)) c.index-counts.ensures.index
 
--- src/bag_changes.rt:113:5
+pub returns-clause-gens : goal.returns-clause-gens
+returns-clause-gens c = let fits = c.index-counts.ensures.fits in let e = ap (λ (p : ℕ × ℕ). p.0) (counted c) in omega arith
+
 pub returns-clause-mods : goal.returns-clause-mods
-returns-clause-mods c = ?
+returns-clause-mods c = let fits = c.index-counts.ensures.fits in let e = ap (λ (p : ℕ × ℕ). p.1) (counted c) in omega arith
