@@ -21,5 +21,6 @@ pub mod RenumberLaws
 pub mod BagLaws
 pub mod CopyLaws
 pub mod OwnerLaws
+pub mod StorableLaws
 pub mod FlatListLaws
 pub mod FromFlatLaws

@@ -3,7 +3,7 @@ use Rattle.std.proofs.Common.{◌≡◌, ℕ, ◌<◌, ◌≤◌, ◌+◌, suc, 
 use Rattle.std.proofs.Common.{slice_get, set, take, drop, Some, refl, sym, subst, ◌∙◌, ap, zero-add, suc-add, arith}
 use Rattle.std.specs.List.{AllByRecursion}
 use Rattle.numbered_lists.specs.Moved.{moved, changed}
-use Rattle.numbered_lists.proofs.Lists.{slice_get-found, moved-found, changed-found}
+use Rattle.numbered_lists.proofs.Lists.{slice_get-found, slice_get-within, moved-found, changed-found}
 use Rattle.flat_records.specs.Runs.{put, cut}
 
 -- ---- what holds of each member
@@ -40,6 +40,23 @@ module _ {X : Type 0} (P : X → Type 0) where
       → AllByRecursion P xs → AllByRecursion P (changed xs i f)
   everywhere-changed xs i f x e q p =
       subst (AllByRecursion P) (sym (changed-found xs i f x e)) (everywhere-set xs i (f x) q p)
+
+  -- what was put in, or put in a place
+  pub everywhere-inserted : (xs : List X) (i : ℕ) (x : X) → AllByRecursion P (insert xs i x) → P x
+  everywhere-inserted xs zero x p = p.0
+  everywhere-inserted [] (suc i) x p = p.0
+  everywhere-inserted (y ∷ ys) (suc i) x p = everywhere-inserted ys i x p.1
+
+  everywhere-in_place : (xs : List X) (i : ℕ) (x : X) → i < length xs → AllByRecursion P (set xs i x) → P x
+  everywhere-in_place [] i x h p = absurd (omega arith)
+  everywhere-in_place (y ∷ ys) zero x h p = p.0
+  everywhere-in_place (y ∷ ys) (suc i) x h p = everywhere-in_place ys i x (omega arith) p.1
+
+  pub everywhere-sent : (xs : List X) (i : ℕ) (f : X → X) (x : X) → slice_get xs i ≡ Some x
+      → AllByRecursion P (changed xs i f) → P (f x)
+  everywhere-sent xs i f x e p =
+      everywhere-in_place xs i (f x) (slice_get-within xs i x e)
+      (subst (AllByRecursion P) (changed-found xs i f x e) p)
 
 -- ---- past a front
 

@@ -57,7 +57,35 @@ module _ {X : Type 0} (f : Bag → List X) where
       ap (λ os. length (flat_map f (all_bags os))) (changed-found owners i (λ own. insert own k b) own there) in
       omega arith
 
-one_each : (bags : List Bag) → length (flat_map (λ (b : Bag). b ∷ []) bags) ≡ length bags
+  set_in : (own : List Bag) (k : ℕ) (b c : Bag) → slice_get own k ≡ Some b
+      → length (flat_map f (set own k c)) + length (f b) ≡ length (flat_map f own) + length (f c)
+  set_in [] k b c e = cc
+  set_in (x ∷ xs) zero b c e =
+      let same : x ≡ b = cc in
+      let size = ap (λ x. length (f x)) same in
+      let before = length-append (f x) (flat_map f xs) in
+      let after = length-append (f c) (flat_map f xs) in
+      omega arith
+  set_in (x ∷ xs) (suc k) b c e =
+      let rest = set_in xs k b c e in
+      let before = length-append (f x) (flat_map f xs) in
+      let after = length-append (f x) (flat_map f (set xs k c)) in
+      omega arith
+
+  -- where a bag is sent through F
+  pub sent_count : (owners : List (List Bag)) (i k : ℕ) (own : List Bag) (b : Bag) (F : Bag → Bag)
+      → slice_get owners i ≡ Some own → slice_get own k ≡ Some b
+      → length (flat_map f (all_bags (bag_changed owners i k F))) + length (f b)
+      ≡ length (flat_map f (all_bags owners)) + length (f (F b))
+  sent_count owners i k own b F there found =
+      let count = set_count owners i own (changed own k F) there in
+      let in_own = set_in own k b (F b) found in
+      let is = ap (λ own. length (flat_map f own)) (changed-found own k F b found) in
+      let to =
+      ap (λ os. length (flat_map f (all_bags os))) (changed-found owners i (λ own. changed own k F) own there) in
+      omega arith
+
+pub one_each : (bags : List Bag) → length (flat_map (λ (b : Bag). b ∷ []) bags) ≡ length bags
 one_each [] = refl
 one_each (b ∷ bs) = ap suc (one_each bs)
 

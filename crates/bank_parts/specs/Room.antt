@@ -1,13 +1,25 @@
 -- What flat lists can hold.
 use Rattle.std.specs.Prelude.{◌<◌, ◌≤◌, ◌+◌, ◌^◌, ◌||◌, ℕ, Bool, List, length, sum_by, is_some}
-use Rattle.std.specs.List.{list_any}
+use Rattle.std.specs.List.{AllByRecursion, list_any}
 use Rattle.std.specs.FinMap.{get, len}
+use Rattle.generators.specs.Levels.{target_operator}
+use Rattle.generators.specs.declared.level.Level.{Level}
 use Rattle.flat_records.specs.Bags.{Bag, gens_in, mods_in}
 use Rattle.owner_bags.specs.Owned.{all_bags}
 use Rattle.owner_bags.specs.Stored.{Stored}
 use Rattle.bank_parts.specs.declared.counting.Records.{Records}
 use Rattle.bank_parts.specs.declared.parts.Zone.{Zone}
 use Rattle.bank_parts.specs.declared.parts.WithZones.{WithZones}
+use Rattle.bank_parts.specs.Valid.{owner_total, zone_count, gen_count, mod_count}
+use Rattle.bank_parts.specs.Bagged.{IsPlainOwner}
+
+-- the presets, or the instruments, that flat lists can have: 16 bits count their records of each kind, and no map has
+-- the operator of the targets
+pub record AreStorable {H : Type 0} (at : Level) (owners : List (WithZones H)) : Type 0 where
+  pub zones : owner_total zone_count owners < 2 ^ 16
+  pub gens : owner_total gen_count owners < 2 ^ 16
+  pub mods : owner_total mod_count owners < 2 ^ 16
+  pub plain : AllByRecursion (IsPlainOwner (target_operator at)) owners
 
 -- the records of zones
 abbrev pub records_of_zones : List Zone → Records

@@ -6,7 +6,7 @@ ghost use Rattle.owner_bags.specs.Owned.{bag_at};
 ghost use Rattle.bank_parts.specs.declared.counting.Records.{Records};
 ghost use Rattle.bank_parts.specs.Counts.{records_of_global, records_of_zone, records_of_owner, records_sum};
 ghost use Rattle.bank_parts.specs.Bagged.{zone_bag, global_bags, bags_of};
-ghost use Rattle.bank_parts.specs.Room.{HasRoom, records_of_zones};
+ghost use Rattle.bank_parts.specs.Room.{CanHold, HasRoom, records_of_zones};
 ghost use Rattle.bank_parts.specs.Changes.{bag_size, gen_taken, mod_taken};
 
 use crate::counting::Records;
@@ -73,7 +73,8 @@ pub(crate) fn open_bag(
     gens: &[(u16, u16)],
     mods: &[Modulator],
 ) -> Result<(), OutOfMemory>
-    requires { i < length bags.old.owners }
+    requires place { i < length bags.old.owners }
+    requires held { CanHold bags.old.owners (record { zones = 1; gens = length gens.now; mods = length mods.now }) }
     ensures ok { OnOk result (bags.new.owners ≡ changed bags.old.owners i (λ own. insert own 0 (record { gens = gens.now; mods = mods.now }))) }
     ensures err { OnErr result (bags.new.owners ≡ bags.old.owners) }
 {

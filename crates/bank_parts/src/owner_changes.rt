@@ -1,11 +1,12 @@
 //! Presets and instruments that come and go.
-ghost use Rattle.std.specs.Prelude.{◌≡◌, ◌<◌, ◌≤◌, ◌++◌, ◌∷◌, [], Some, length, insert, remove, slice_get, IfOk, IfErr, OnOk, OnErr};
+ghost use Rattle.bank_parts.specs.Room.{AreStorable};
+ghost use Rattle.std.specs.Prelude.{◌≡◌, ◌↔◌, IsTrue, ◌<◌, ◌≤◌, ◌++◌, ◌∷◌, [], Some, length, insert, remove, slice_get, IfOk, IfErr, OnOk, OnErr};
 
 use crate::bag_changes::append_owner;
 use crate::heads::OwnerHead;
 use crate::owners::Owners;
 use crate::parts::WithZones;
-use crate::room::{has_operator, make_room};
+use crate::room::{can_hold, has_operator, make_room};
 use sf_base::OutOfMemory;
 use std::alloc::Global;
 
@@ -13,16 +14,14 @@ impl<H: OwnerHead> Owners<H> {
     /// Puts one in as number `i`; those from there on get the next number each. When out of memory, the
     /// list stays as it is, and it comes back.
     pub fn insert(&mut self, i: usize, owner: WithZones<H>) -> Result<(), WithZones<H>>
-        requires { i ≤ length self.old }
+        requires place { i ≤ length self.old }
+        requires storable { AreStorable H.LEVEL (insert self.old i owner) }
         ensures ok { OnOk result (self.new ≡ insert self.old i owner) }
         ensures err { OnErr result (self.new ≡ self.old) }
         ensures value_returned { IfErr result (λ back. back ≡ owner) }
     {
         owner.fits();
         let operator = Self::operator();
-        if has_operator(operator, &owner) {
-            return Err(owner);
-        }
         let Ok(()) = make_room(&mut self.bags, 1, owner.records()) else {
             return Err(owner);
         };
@@ -35,8 +34,19 @@ impl<H: OwnerHead> Owners<H> {
         Ok(())
     }
 
-    /// Puts one behind the others. When out of memory, the list stays as it is.
+    /// Whether flat lists can have one more, last: 16 bits count the records of each kind, and none of its maps has
+    /// the operator of the targets.
+    pub fn has_room_for(&self, owner: &WithZones<H>) -> bool
+        ensures { IsTrue result ↔ AreStorable H.LEVEL (self.now ++ owner.now ∷ []) }
+    {
+        owner.fits();
+        !has_operator(Self::operator(), owner) && can_hold(&self.bags, owner.records())
+    }
+
+    /// Puts one behind the others, where [`has_room_for`](Owners::has_room_for) holds. When out of memory, the list
+    /// stays as it is.
     pub fn push(&mut self, owner: WithZones<H>) -> Result<(), OutOfMemory>
+        requires { AreStorable H.LEVEL (self.old ++ owner ∷ []) }
         ensures ok { OnOk result (self.new ≡ self.old ++ owner ∷ []) }
         ensures err { OnErr result (self.new ≡ self.old) }
     {

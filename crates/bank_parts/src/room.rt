@@ -33,19 +33,17 @@ fn fits_index(count: usize, more: usize) -> bool
     count.saturating_add(more) < 65536
 }
 
-/// Makes places for so many owners and records; or says that they can't be held. The owners stay.
+/// Makes places for so many owners and records. The owners stay.
 pub(crate) fn make_room(
     bags: &mut OwnerBags,
     owners: usize,
     more: Records,
 ) -> Result<(), OutOfMemory>
+    requires { CanHold bags.old.owners more }
     ensures kept { bags.new.owners ≡ bags.old.owners }
     ensures room { OnOk result (HasRoom bags.new more) }
     ensures room_for_owners { OnOk result (owners ≤ bags.new.spare_owners) }
 {
-    if !can_hold(bags, more) {
-        return Err(OutOfMemory);
-    }
     bags.reserve(owners, more.zones, more.gens, more.mods)?;
     Ok(())
 }

@@ -1,9 +1,9 @@
 //! Changes of what the places of presets and instruments hold: of their generators and modulators.
 ghost use Rattle.std.specs.Prelude.{◌≡◌, ◌<◌, ◌≤◌, Some, None, length, slice_get, IsSome, IsOk, IfSome, IfOk, OnOk, OnErr};
-ghost use Rattle.generators.specs.Levels.{target_operator};
 ghost use Rattle.bank_parts.specs.declared.parts.WithZones.{WithZones};
 ghost use Rattle.bank_parts.specs.Bagged.{bag_number};
 ghost use Rattle.bank_parts.specs.Owners.{HasPlace, mods_at, amount_at, mod_at};
+ghost use Rattle.bank_parts.specs.Room.{AreStorable};
 ghost use Rattle.bank_parts.specs.ZoneChanges.{gen_set, gen_cleared, mod_added, mod_removed, mod_set};
 
 use crate::bag_changes::{open_bag, take_gen, take_mod};
@@ -26,16 +26,13 @@ impl<H: OwnerHead> Owners<H> {
         operator: u16,
         amount: u16,
     ) -> Result<Option<u16>, OutOfMemory>
-        requires { HasPlace self.old i place }
+        requires there { HasPlace self.old i place }
+        requires storable { amount_at self.old i place operator ≡ None → AreStorable H.LEVEL (gen_set self.old i place operator amount) }
         ensures was { IfOk result (λ was. was ≡ amount_at self.old i place operator) }
         ensures ok { OnOk result (self.new ≡ gen_set self.old i place operator amount) }
         ensures err { OnErr result (self.new ≡ self.old) }
         ensures needs_no_memory { IsSome (amount_at self.old i place operator) → IsOk result }
     {
-        if operator == Self::operator() {
-            self.targets_are_none(i, place);
-            return Err(OutOfMemory);
-        }
         let Some(at) = self.place_bag(i, place) else {
             open_bag(&mut self.bags, i, &[(operator, amount)], &[])?;
             return Ok(None);
@@ -53,14 +50,6 @@ impl<H: OwnerHead> Owners<H> {
                 Ok(None)
             }
         }
-    }
-
-    // The law that no place has a target among its generators. It does nothing.
-    fn targets_are_none(&self, i: usize, place: ZonePlace)
-        requires { HasPlace self.now i place }
-        ensures { amount_at self.now i place (target_operator H.LEVEL) ≡ None }
-    {
-        let _count = self.bags.owner_count();
     }
 
     /// Clears an operator at a place of number `i`, both of which are there, and gives the amount that
@@ -95,6 +84,7 @@ impl<H: OwnerHead> Owners<H> {
     ) -> Result<(), OutOfMemory>
         requires there { HasPlace self.old i place }
         requires index { IfSome (mods_at self.old i place) (λ mods. j ≤ length mods) }
+        requires storable { AreStorable H.LEVEL (mod_added self.old i place j modulator) }
         ensures ok { OnOk result (self.new ≡ mod_added self.old i place j modulator) }
         ensures err { OnErr result (self.new ≡ self.old) }
     {

@@ -2,13 +2,14 @@
 ghost use Rattle.std.specs.Prelude.{◌≡◌, ◌≤◌, Some, IsSomeAnd, IfOk, IfErr, OnOk, OnErr};
 ghost use Rattle.bank_parts.specs.declared.owners.ZonePlace.TheVariants as place;
 ghost use Rattle.bank_parts.specs.Owners.{HasPlace, zone_count_at, zone_at, target_at};
+ghost use Rattle.bank_parts.specs.Room.{AreStorable};
 ghost use Rattle.bank_parts.specs.ZoneChanges.{zone_added, zone_removed, zone_moved, target_set};
 
 use crate::bag_changes::put_zone;
 use crate::heads::OwnerHead;
 use crate::owners::Owners;
 use crate::parts::Zone;
-use crate::room::{is_set, make_room};
+use crate::room::make_room;
 use sf_base::OutOfMemory;
 use std::alloc::Global;
 
@@ -16,16 +17,14 @@ impl<H: OwnerHead> Owners<H> {
     /// Makes a zone number `k` of number `i`, which is there and has so many; its zones from there on
     /// get the next number each. When out of memory, nothing changes, and the zone comes back.
     pub fn insert_zone(&mut self, i: usize, k: usize, zone: Zone) -> Result<(), Zone>
-        requires { IsSomeAnd (zone_count_at self.old i) (λ count. k ≤ count) }
+        requires place { IsSomeAnd (zone_count_at self.old i) (λ count. k ≤ count) }
+        requires storable { AreStorable H.LEVEL (zone_added self.old i k zone) }
         ensures ok { OnOk result (self.new ≡ zone_added self.old i k zone) }
         ensures err { OnErr result (self.new ≡ self.old) }
         ensures value_returned { IfErr result (λ back. back ≡ zone) }
     {
         zone.fits();
         let operator = Self::operator();
-        if is_set(operator, &zone.gens) {
-            return Err(zone);
-        }
         let at = self.zone_bag(i, k);
         let Ok(()) = make_room(&mut self.bags, 0, zone.records()) else {
             return Err(zone);

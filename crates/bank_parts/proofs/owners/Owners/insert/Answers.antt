@@ -1,14 +1,20 @@
-use Rattle.std.proofs.Common.{length, ap, arith}
+use Rattle.std.proofs.Common.{length, ap, sym, subst, arith}
 use Rattle.bank_parts.specs.Counts.{records_of_owner}
-use Rattle.bank_parts.specs.Bagged.{bags_of}
+use Rattle.bank_parts.specs.Bagged.{bags_of, IsPlainOwner}
 use Rattle.bank_parts.proofs.ReadLaws.{read, are_read, held}
 use Rattle.bank_parts.proofs.MemberLaws.{heads_size, bags_size}
-use Rattle.bank_parts.proofs.OwnerLaws.{owner_plain, room_counted, owner_put, last_within}
+use Rattle.bank_parts.proofs.OwnerLaws.{room_counted, owner_put, last_within}
+use Rattle.bank_parts.proofs.StorableLaws.{owner_held, owner_in}
 use Rattle.bank_parts.proofs.owners.Owners.insert.Goals as goal
 
 pub insert-requires : goal.insert-requires
 insert-requires g c =
-    let size = heads_size (held c.self.invariant c.self.view_is) in let within = c.requires in omega arith
+    let size = heads_size (held c.self.invariant c.self.view_is) in let within = c.requires.place in omega arith
+
+pub make_room-requires : goal.make_room-requires
+make_room-requires g c =
+    owner_held (held c.self.invariant c.self.view_is) c.args.i c.args.owner c.records.result c.records.ensures
+    c.requires.storable
 
 pub append_owner-requires : goal.append_owner-requires
 append_owner-requires g c = record {
@@ -27,15 +33,14 @@ move_owner-requires g c =
     let size = bags_size (held c.self.invariant c.self.view_is) in
     let kept = ap length c.make_room.ensures.kept in
     let count = c.owner_count-last.ensures in
-    let within = c.requires in
+    let within = c.requires.place in
     record { from = last; to = omega arith }
 
 pub invariant_of-self-2 : goal.invariant_of-self-2
 invariant_of-self-2 g c =
     let a = held c.self.invariant c.self.view_is in
-    let plain =
-    owner_plain g.H.OwnerHead.IsFit c.operator-operator.result c.args.owner c.has_operator.result
-    c.has_operator.ensures c.if-has_operator.false c.fits.ensures in
+    let plain = subst (λ op. IsPlainOwner op c.args.owner) (sym c.operator-operator.ensures)
+    (owner_in c.args.self.now c.args.i c.args.owner c.requires.storable) in
     are_read (owner_put a c.args.i c.owner_count-last.result c.args.owner c.insert.new.self
     c.append_owner.new.bags.owners c.move_owner.new.self.owners
     c.operator-operator.ensures plain c.in-Ok-insert.ensures.ok c.make_room.ensures.kept c.owner_count-last.ensures c.append_owner.ensures c.move_owner.ensures.owners)
@@ -43,9 +48,8 @@ invariant_of-self-2 g c =
 pub returns-clause-ok : goal.returns-clause-ok
 returns-clause-ok g c =
     let a = held c.self.invariant c.self.view_is in
-    let plain =
-    owner_plain g.H.OwnerHead.IsFit c.operator-operator.result c.args.owner c.has_operator.result
-    c.has_operator.ensures c.if-has_operator.false c.fits.ensures in
+    let plain = subst (λ op. IsPlainOwner op c.args.owner) (sym c.operator-operator.ensures)
+    (owner_in c.args.self.now c.args.i c.args.owner c.requires.storable) in
     read (owner_put a c.args.i c.owner_count-last.result c.args.owner c.insert.new.self
     c.append_owner.new.bags.owners c.move_owner.new.self.owners
     c.operator-operator.ensures plain c.in-Ok-insert.ensures.ok c.make_room.ensures.kept c.owner_count-last.ensures c.append_owner.ensures c.move_owner.ensures.owners)

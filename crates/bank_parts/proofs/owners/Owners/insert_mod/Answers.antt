@@ -1,7 +1,15 @@
 use Rattle.bank_parts.proofs.ReadLaws.{read, are_read, held}
 use Rattle.bank_parts.proofs.PlaceChanges.{bag_place, bare_place, mod_place}
 use Rattle.bank_parts.proofs.GenChanges.{first_mod, mod_is_put}
+use Rattle.bank_parts.proofs.StorableLaws.{first_mod_held, mod_held}
 use Rattle.bank_parts.proofs.owners.Owners.insert_mod.Goals as goal
+
+pub open_bag-requires-clause-held : goal.open_bag-requires-clause-held
+open_bag-requires-clause-held g c =
+    let b =
+    bare_place (held c.self.invariant c.self.view_is) c.args.i c.args.place c.requires.there c.in_default.ensures
+    in
+    first_mod_held b c.args.j c.args.modulator c.requires.index c.requires.storable
 
 pub invariant_of-self-in_default : goal.invariant_of-self-in_default
 invariant_of-self-in_default g c =
@@ -18,6 +26,13 @@ returns-in_default-clause-ok g c =
     bare_place (held c.self.invariant c.self.view_is) c.args.i c.args.place c.requires.there c.in_default.ensures
     in
     read (first_mod b c.args.j c.args.modulator c.open_bag.new.bags.owners c.requires.index c.in_ok-open_bag.ensures.ok)
+
+pub make_room-requires : goal.make_room-requires
+make_room-requires g c =
+    let b =
+    bag_place (held c.self.invariant c.self.view_is) c.args.i c.args.place c.requires.there c.in-Some.at
+    c.in-Some.ensures in
+    mod_held b c.args.j c.args.modulator c.requires.index c.requires.storable
 
 pub put_mods-requires-clause-place : goal.put_mods-requires-clause-place
 put_mods-requires-clause-place g c =

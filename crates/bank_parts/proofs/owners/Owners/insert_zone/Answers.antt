@@ -1,14 +1,23 @@
-use Rattle.std.proofs.Common.{◌≤◌}
+use Rattle.std.proofs.Common.{◌≤◌, sym, subst}
+use Rattle.bank_parts.specs.Bagged.{IsPlain}
 use Rattle.bank_parts.specs.Counts.{records_of_zone}
 use Rattle.bank_parts.proofs.ReadLaws.{read, are_read, held}
 use Rattle.bank_parts.proofs.ZoneLaws.{zones_there, new_place, zone_put}
-use Rattle.bank_parts.proofs.OwnerLaws.{zone_plain, room_counted}
+use Rattle.bank_parts.proofs.OwnerLaws.{room_counted}
+use Rattle.bank_parts.proofs.StorableLaws.{zone_held, zone_in}
 use Rattle.bank_parts.proofs.owners.Owners.insert_zone.Goals as goal
+
+pub make_room-requires : goal.make_room-requires
+make_room-requires g c =
+    let a = held c.self.invariant c.self.view_is in
+    let s = zones_there a c.args.i (λ n. c.args.k ≤ n) c.requires.place in
+    zone_held a s c.zone_bag-at.result c.args.zone c.records.result c.zone_bag-at.ensures c.records.ensures
+    c.requires.storable
 
 pub put_zone-requires : goal.put_zone-requires
 put_zone-requires g c =
     let a = held c.self.invariant c.self.view_is in
-    let s = zones_there a c.args.i (λ n. c.args.k ≤ n) c.requires in
+    let s = zones_there a c.args.i (λ n. c.args.k ≤ n) c.requires.place in
     record {
       place = new_place a s c.zone_bag-at.result c.zone_bag-at.ensures c.make_room.ensures.kept;
       room =
@@ -19,10 +28,9 @@ put_zone-requires g c =
 pub invariant_of-self-2 : goal.invariant_of-self-2
 invariant_of-self-2 g c =
     let a = held c.self.invariant c.self.view_is in
-    let s = zones_there a c.args.i (λ n. c.args.k ≤ n) c.requires in
-    let plain =
-    zone_plain c.operator-operator.result c.args.zone c.is_set.result c.is_set.ensures c.if-is_set.false
-    c.fits.ensures in
+    let s = zones_there a c.args.i (λ n. c.args.k ≤ n) c.requires.place in
+    let plain = subst (λ op. IsPlain op c.args.zone.gens) (sym c.operator-operator.ensures)
+    (zone_in c.args.self.now c.args.i c.args.k s.found.owner c.args.zone s.found.there c.requires.storable) in
     are_read
     (zone_put a s c.zone_bag-at.result c.args.zone c.put_zone.new.bags.owners c.zone_bag-at.ensures
     c.operator-operator.ensures plain c.make_room.ensures.kept c.put_zone.ensures.owners)
@@ -30,10 +38,9 @@ invariant_of-self-2 g c =
 pub returns-clause-ok : goal.returns-clause-ok
 returns-clause-ok g c =
     let a = held c.self.invariant c.self.view_is in
-    let s = zones_there a c.args.i (λ n. c.args.k ≤ n) c.requires in
-    let plain =
-    zone_plain c.operator-operator.result c.args.zone c.is_set.result c.is_set.ensures c.if-is_set.false
-    c.fits.ensures in
+    let s = zones_there a c.args.i (λ n. c.args.k ≤ n) c.requires.place in
+    let plain = subst (λ op. IsPlain op c.args.zone.gens) (sym c.operator-operator.ensures)
+    (zone_in c.args.self.now c.args.i c.args.k s.found.owner c.args.zone s.found.there c.requires.storable) in
     read
     (zone_put a s c.zone_bag-at.result c.args.zone c.put_zone.new.bags.owners c.zone_bag-at.ensures
     c.operator-operator.ensures plain c.make_room.ensures.kept c.put_zone.ensures.owners)
