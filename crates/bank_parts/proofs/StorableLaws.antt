@@ -1,13 +1,14 @@
 -- That there is room for what comes where flat lists can have what it leads to, and that it is plain.
 use Rattle.std.proofs.Common.{◌≡◌, ◌≢◌, ℕ, ◌≤◌, ◌<◌, ◌+◌, ◌^◌, ◌||◌, ◌∙◌, false, cond, Option, List, [], ◌∷◌, length, insert}
-use Rattle.std.proofs.Common.{slice_get, Some, None, refl, sym, subst, ap, length-append, arith}
-use Rattle.std.specs.Prelude.{is_some}
+use Rattle.std.proofs.Common.{slice_get, set, Some, None, suc, zero, refl, sym, subst, ap, length-append, arith}
+use Rattle.std.specs.Prelude.{is_some, sum_by}
 use Rattle.std.specs.List.{AllByRecursion, flat_map, list_any}
 use Rattle.std.specs.Option.{IfSome, option_map}
 use Rattle.std.specs.FinMap as map
-use Rattle.std.specs.FinMap.{entries, len-entries}
-use Rattle.std.proofs.lemmas.List.Sums.{sum_by-insert}
-use Rattle.std.proofs.lemmas.Option.{same_Some}
+use Rattle.std.specs.FinMap.{entries, len, len-entries}
+use Rattle.std.proofs.lemmas.List.Sums.{sum_by-insert, sum_by-set}
+use Rattle.std.proofs.lemmas.Option.{same_Some, get_or_from_slice_get}
+use Rattle.numbered_lists.proofs.Lists.{slice_get-within, slice_set-back, changed-found}
 use Rattle.numbered_lists.specs.Moved.{changed}
 use Rattle.generators.specs.Gens.{Gens}
 use Rattle.generators.specs.Places.{IsAt, IsGapFor}
@@ -35,7 +36,7 @@ use Rattle.bank_parts.specs.ZoneChanges.{zone_added, gen_set, mod_added}
 use Rattle.bank_parts.specs.Bagged.{zone_bag, global_bags, bags_of, IsPlain, IsPlainOwner}
 use Rattle.bank_parts.specs.Room.{AreStorable, CanHold, has_operator}
 use Rattle.bank_parts.specs.Flat.{AreOf}
-use Rattle.bank_parts.proofs.ListLaws.{everywhere-insert, everywhere-inserted, everywhere-sent}
+use Rattle.bank_parts.proofs.ListLaws.{everywhere-insert, everywhere-inserted, everywhere-sent, everywhere-set}
 use Rattle.bank_parts.proofs.RoomLaws.{grows, sent_count, one_each}
 use Rattle.bank_parts.proofs.RecordLaws.{zones_in_all, gens_in_all, mods_in_all}
 use Rattle.bank_parts.proofs.ListLaws.{put-one, length-insert}
@@ -282,3 +283,54 @@ module _ {H : Type 0} {level : Level} {hs : List H} {bags : List (List Bag)} {ow
       let size = ap length (put-one b.own.bag.mods j m) ∙ length-insert b.own.bag.mods j m (omega arith) in
       sent_held bags i n (bags_of (target_operator level) b.place.found.owner) b.own.bag F _ b.place.found.own
       b.own.found (mod_is_put b j m (bag_changed bags i n F) h refl refl) s refl (omega arith) (omega arith)
+
+-- ---- a zone less
+
+insert_longer : {X : Type 0} (xs : List X) (k : ℕ) (x : X) → length xs ≤ length (insert xs k x)
+insert_longer xs zero x = omega arith
+insert_longer [] (suc k) x = omega arith
+insert_longer (y ∷ ys) (suc k) x = let rest = insert_longer ys k x in omega arith
+
+module _ {X : Type 0} (P : X → Type 0) where
+  others_in : (xs : List X) (k : ℕ) (x : X) → AllByRecursion P (insert xs k x) → AllByRecursion P xs
+  others_in xs zero x p = p.1
+  others_in [] (suc k) x p = tt
+  others_in (y ∷ ys) (suc k) x p = (p.0, others_in ys k x p.1)
+
+module _ {H : Type 0} {at : Level} (owners : List (WithZones H)) (i k : ℕ) (z : Zone) (x : WithZones H)
+    (there : slice_get owners i ≡ Some x) (s : AreStorable at (zone_added owners i k z)) where
+  abbrev with_zone : WithZones H
+  with_zone = with_zones (insert x.zones k z) x
+
+  added_is : zone_added owners i k z ≡ set owners i with_zone
+  added_is = changed-found owners i (λ x. with_zones (insert x.zones k z) x) x there
+
+  fewer : (f : WithZones H → ℕ) → f x ≤ f with_zone → sum_by f owners ≤ sum_by f (zone_added owners i k z)
+  fewer f h =
+      let sum = sum_by-set f owners i with_zone x (slice_get-within owners i x there) in
+      let own = ap f (get_or_from_slice_get owners i x x there) in
+      let is = ap (sum_by f) added_is in
+      omega arith
+
+  pub zone_out : AreStorable at owners
+  zone_out =
+      let longer = insert_longer x.zones k z in
+      let gens_more = sum_by-insert (λ (z : Zone). len z.gens + 1) x.zones k z in
+      let mods_more = sum_by-insert (λ (z : Zone). length z.mods) x.zones k z in
+      let zones = fewer (λ (x : WithZones H). zone_count x.global x.zones) (omega arith) in
+      let gens = fewer (λ (x : WithZones H). gen_count x.global x.zones) (omega arith) in
+      let mods = fewer (λ (x : WithZones H). mod_count x.global x.zones) (omega arith) in
+      let op = target_operator at in
+      let new =
+      everywhere-sent (IsPlainOwner op) owners i (λ x. with_zones (insert x.zones k z) x) x there s.plain in
+      let all = subst (AllByRecursion (IsPlainOwner op)) added_is s.plain in
+      let own : IsPlainOwner op x =
+      record { global = new.global; zones = others_in (λ (z : Zone). IsPlain op z.gens) x.zones k z new.zones } in
+      record {
+        zones = (let h = s.zones in omega arith);
+        gens = (let h = s.gens in omega arith);
+        mods = (let h = s.mods in omega arith);
+        plain =
+            subst (AllByRecursion (IsPlainOwner op)) (slice_set-back owners i x with_zone there)
+            (everywhere-set (IsPlainOwner op) (set owners i with_zone) i x own all);
+      }

@@ -14,6 +14,9 @@ use Rattle.bank_parts.specs.Owners.{HasPlace, zone_count_at, zone_at, gens_at, e
 use Rattle.bank_parts.specs.Settings.{Settings, place_changed, settings_of_zone, settings_changed}
 use Rattle.bank_parts.specs.Settings.{zone_with_settings, zones_at, zones_changed, with_zones, with_gens}
 use Rattle.bank_parts.specs.ZoneChanges.{zone_added, zone_removed, gen_set, gen_cleared}
+use Rattle.generators.specs.declared.level.Level.{Level}
+use Rattle.bank_parts.specs.Room.{AreStorable}
+use Rattle.bank_parts.proofs.StorableLaws.{zone_out}
 use Rattle.bank_parts.proofs.UndoneLaws.{gen_set_back, gen_set_cleared}
 use Rattle.zone_ranges.specs.declared.axes.Axis.{Axis}
 use Rattle.zone_ranges.specs.declared.axes.Keep.{Keep}
@@ -82,6 +85,25 @@ module _ {H : Type 0} (owners : List (WithZones H)) (i k : ℕ) (t : ZoneThere o
       ≤ length (changed t.member.zones k (λ (z : Zone). zone_with_settings (f (settings_of_zone z)) z)) =
       omega (arith, same, lt) in
       rw now many
+
+  pub first_stays : (op amount : ℕ) → HasPlace (gen_set owners i (place.Zone k) op amount) i (place.Zone k)
+  first_stays op amount =
+      let f : Settings → Settings = λ s. with_gens (map.insert s.gens op amount) s in
+      let same = length-changed t.member.zones k (λ (z : Zone). zone_with_settings (f (settings_of_zone z)) z) in
+      let lt = zone_within t in
+      let now = slice_get-changed owners i (settings_changed (place.Zone k) f) t.member t.there in
+      let many : k < length (changed t.member.zones k (λ (z : Zone). zone_with_settings (f (settings_of_zone z)) z)) =
+      omega (arith, same, lt) in
+      rw now many
+
+  -- with the setting alone there is less than with a zone behind it
+  pub set_storable : {at : Level} (op amount : ℕ) (upper : Zone)
+      → AreStorable at (zone_added (gen_set owners i (place.Zone k) op amount) i (k + 1) upper)
+      → AreStorable at (gen_set owners i (place.Zone k) op amount)
+  set_storable op amount upper s =
+      let f : Settings → Settings = λ s. with_gens (map.insert s.gens op amount) s in
+      zone_out (gen_set owners i (place.Zone k) op amount) i (k + 1) upper (settings_changed (place.Zone k) f t.member)
+      (slice_get-changed owners i (settings_changed (place.Zone k) f) t.member t.there) s
 
   pub split_put : (axis : Axis) (m : ℕ)
       → zone_added

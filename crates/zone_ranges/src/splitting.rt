@@ -4,6 +4,7 @@ ghost use Rattle.std.specs.Option.{option_map_or};
 ghost use Rattle.bank_parts.specs.declared.owners.ZonePlace.TheVariants as place;
 ghost use Rattle.bank_parts.specs.declared.parts.GlobalZone.{GlobalZone};
 ghost use Rattle.bank_parts.specs.Owners.{HasPlace, amount_at};
+ghost use Rattle.bank_parts.specs.Room.{AreStorable};
 ghost use Rattle.bank_parts.specs.ZoneChanges.{zone_added, gen_set, gen_cleared};
 ghost use Rattle.zone_ranges.specs.declared.axes.Axis.{Axis};
 ghost use Rattle.zone_ranges.specs.Ranges.{inherited_range};
@@ -99,7 +100,8 @@ pub fn split_zone<H: OwnerHead>(
     axis: Axis,
     at: u8,
 ) -> Result<(), OutOfMemory>
-    requires { splits_at axis at owners.old i k ≡ true }
+    requires splits { splits_at axis at owners.old i k ≡ true }
+    requires storable { AreStorable H.LEVEL (zone_split owners.old i k axis at) }
     ensures ok { OnOk result (owners.new ≡ zone_split owners.old i k axis at) }
     ensures err { OnErr result (owners.new ≡ owners.old) }
 {
@@ -128,7 +130,8 @@ fn put_parts<H: OwnerHead>(
     amount: u16,
     upper: Zone,
 ) -> Result<(), OutOfMemory>
-    requires { HasPlace owners.old i (place.Zone k) }
+    requires place { HasPlace owners.old i (place.Zone k) }
+    requires storable { AreStorable H.LEVEL (zone_added (gen_set owners.old i (place.Zone k) operator amount) i (k + 1) upper) }
     ensures ok { OnOk result (owners.new ≡ zone_added (gen_set owners.old i (place.Zone k) operator amount) i (k + 1) upper) }
     ensures err { OnErr result (owners.new ≡ owners.old) }
 {
