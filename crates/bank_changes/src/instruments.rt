@@ -1,6 +1,7 @@
 //! The raw changes of a bank's instruments.
 ghost use Rattle.std.specs.Prelude.{◌≡◌, ◌<◌, ◌≤◌, Some, length, slice_get, OnOk, OnErr, IfOk, IfErr};
 ghost use Rattle.bank_parts.specs.Owners.{head_at};
+ghost use Rattle.bank_parts.specs.Room.{IsStorable};
 ghost use Rattle.bank_parts.specs.Valid.{IsValid};
 ghost use Rattle.bank_changes.specs.Instruments.{instrument_renamed, instrument_added, instrument_removed, instrument_moved};
 
@@ -28,6 +29,7 @@ pub fn add_instrument(
 ) -> Result<(), Instrument>
     requires valid { IsValid parts.old }
     requires place { number ≤ length parts.old.instruments }
+    requires storable { IsStorable (instrument_added parts.old number instrument) }
     ensures ok { OnOk result (parts.new ≡ instrument_added parts.old number instrument) }
     ensures err { OnErr result (parts.new ≡ parts.old) }
     ensures value_returned { IfErr result (λ back. back ≡ instrument) }

@@ -1,6 +1,7 @@
 //! The raw changes of a bank's presets. Nothing names a preset, so nothing follows.
 ghost use Rattle.std.specs.Prelude.{◌≡◌, ◌<◌, ◌≤◌, Some, length, slice_get, OnOk, OnErr, IfOk, IfErr};
 ghost use Rattle.bank_parts.specs.Owners.{head_at};
+ghost use Rattle.bank_parts.specs.Room.{IsStorable};
 ghost use Rattle.bank_changes.specs.Presets.{preset_added, preset_removed, preset_moved, head_set};
 
 use bank_parts::{Head, Parts, Preset};
@@ -10,7 +11,8 @@ use std::alloc::Global;
 /// Makes a preset number `number`; the presets from there on get the next number each. When out of memory,
 /// the parts stay as they are, and the preset comes back.
 pub fn add_preset(parts: &mut Parts<'_>, number: u32, preset: Preset) -> Result<(), Preset>
-    requires { number ≤ length parts.old.presets }
+    requires place { number ≤ length parts.old.presets }
+    requires storable { IsStorable (preset_added parts.old number preset) }
     ensures ok { OnOk result (parts.new ≡ preset_added parts.old number preset) }
     ensures err { OnErr result (parts.new ≡ parts.old) }
     ensures value_returned { IfErr result (λ back. back ≡ preset) }

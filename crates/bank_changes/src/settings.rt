@@ -1,5 +1,6 @@
 //! The raw changes of the generators and the modulators of a place, and the records that it has.
-ghost use Rattle.std.specs.Prelude.{◌≡◌, ◌<◌, ◌≤◌, Some, length, IsSome, IsOk, IfOk, IfSome, OnOk, OnErr};
+ghost use Rattle.std.specs.Prelude.{◌≡◌, ◌<◌, ◌≤◌, Some, None, length, IsSome, IsOk, IfOk, IfSome, OnOk, OnErr};
+ghost use Rattle.bank_parts.specs.Room.{IsStorable};
 ghost use Rattle.bank_changes.specs.Members.{zone_place, settings_of, mods_of, amount_of, mod_at};
 ghost use Rattle.bank_changes.specs.Settings.{gen_set, gen_cleared, mod_added, mod_removed, mod_set, records_at, records_there};
 
@@ -18,7 +19,8 @@ pub fn set_gen(
     operator: u16,
     amount: u16,
 ) -> Result<Option<u16>, OutOfMemory>
-    requires { IsSome (settings_of parts.old owner place) }
+    requires there { IsSome (settings_of parts.old owner place) }
+    requires storable { amount_of parts.old owner place operator ≡ None → IsStorable (gen_set parts.old owner place operator amount) }
     ensures was { IfOk result (λ was. was ≡ amount_of parts.old owner place operator) }
     ensures ok { OnOk result (parts.new ≡ gen_set parts.old owner place operator amount) }
     ensures err { OnErr result (parts.new ≡ parts.old) }
@@ -53,6 +55,7 @@ pub fn add_mod(
 ) -> Result<(), OutOfMemory>
     requires there { IsSome (settings_of parts.old owner place) }
     requires place { IfSome (mods_of parts.old owner place) (λ mods. index ≤ length mods) }
+    requires storable { IsStorable (mod_added parts.old owner place index modulator) }
     ensures ok { OnOk result (parts.new ≡ mod_added parts.old owner place index modulator) }
     ensures err { OnErr result (parts.new ≡ parts.old) }
 {

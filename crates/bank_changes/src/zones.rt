@@ -1,6 +1,7 @@
 //! The raw changes of the zones of a bank's presets and instruments.
 ghost use Rattle.std.specs.Prelude.{◌≡◌, ◌<◌, ◌≤◌, Some, IsSomeAnd, OnOk, OnErr, IfOk, IfErr, ◌+◌, true, IfSome};
 ghost use Rattle.bank_parts.specs.Counts.{all_counted};
+ghost use Rattle.bank_parts.specs.Room.{IsStorable};
 ghost use Rattle.zone_ranges.specs.Splits.{split_records, join_records};
 ghost use Rattle.bank_changes.specs.Members.{own_zone_count, zone_of, target_of};
 ghost use Rattle.bank_changes.specs.Zones.{zone_added, zone_removed, zone_moved, target_set, can_split, can_join, zone_split, zone_joined};
@@ -15,7 +16,8 @@ use zone_ranges::{Axis, Keep};
 /// Makes a zone number `at` of an owner; its zones from there on get the next number each. When out of
 /// memory, the parts stay as they are, and the zone comes back.
 pub fn add_zone(parts: &mut Parts<'_>, owner: Owner, at: u32, zone: Zone) -> Result<(), Zone>
-    requires { IsSomeAnd (own_zone_count parts.old owner) (λ count. at ≤ count) }
+    requires place { IsSomeAnd (own_zone_count parts.old owner) (λ count. at ≤ count) }
+    requires storable { IsStorable (zone_added parts.old owner at zone) }
     ensures ok { OnOk result (parts.new ≡ zone_added parts.old owner at zone) }
     ensures err { OnErr result (parts.new ≡ parts.old) }
     ensures value_returned { IfErr result (λ back. back ≡ zone) }
@@ -99,7 +101,8 @@ pub fn split_zone(
     axis: Axis,
     at: u8,
 ) -> Result<(), OutOfMemory>
-    requires { can_split parts.old owner zone axis at ≡ true }
+    requires splits { can_split parts.old owner zone axis at ≡ true }
+    requires storable { IsStorable (zone_split parts.old owner zone axis at) }
     ensures ok { OnOk result (parts.new ≡ zone_split parts.old owner zone axis at) }
     ensures err { OnErr result (parts.new ≡ parts.old) }
 {

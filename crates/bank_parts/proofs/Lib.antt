@@ -22,5 +22,6 @@ pub mod BagLaws
 pub mod CopyLaws
 pub mod OwnerLaws
 pub mod StorableLaws
+pub mod SoundLaws
 pub mod FlatListLaws
 pub mod FromFlatLaws

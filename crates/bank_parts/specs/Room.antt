@@ -4,12 +4,14 @@ use Rattle.std.specs.List.{AllByRecursion, list_any}
 use Rattle.std.specs.FinMap.{get, len}
 use Rattle.generators.specs.Levels.{target_operator}
 use Rattle.generators.specs.declared.level.Level.{Level}
+use Rattle.generators.specs.declared.level.Level.TheVariants as level
 use Rattle.flat_records.specs.Bags.{Bag, gens_in, mods_in}
 use Rattle.owner_bags.specs.Owned.{all_bags}
 use Rattle.owner_bags.specs.Stored.{Stored}
 use Rattle.bank_parts.specs.declared.counting.Records.{Records}
 use Rattle.bank_parts.specs.declared.parts.Zone.{Zone}
 use Rattle.bank_parts.specs.declared.parts.WithZones.{WithZones}
+use Rattle.bank_parts.specs.declared.parts.Parts.{Parts}
 use Rattle.bank_parts.specs.Valid.{owner_total, zone_count, gen_count, mod_count}
 use Rattle.bank_parts.specs.Bagged.{IsPlainOwner}
 
@@ -20,6 +22,11 @@ pub record AreStorable {H : Type 0} (at : Level) (owners : List (WithZones H)) :
   pub gens : owner_total gen_count owners < 2 ^ 16
   pub mods : owner_total mod_count owners < 2 ^ 16
   pub plain : AllByRecursion (IsPlainOwner (target_operator at)) owners
+
+-- those of a bank
+pub record IsStorable (b : Parts) : Type 0 where
+  pub presets : AreStorable level.Preset b.presets
+  pub instruments : AreStorable level.Inst b.instruments
 
 -- the records of zones
 abbrev pub records_of_zones : List Zone → Records
