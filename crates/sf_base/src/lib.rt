@@ -15,4 +15,5 @@ pub use lent::Lent;
 pub use memory::{Failure, OutOfMemory};
 pub use name::{Name20, NameFault};
 pub use numbers::{i16_at, u16_at, u32_at};
+pub use outputs::{WriteFault, put_all};
 pub use slices::{front_of, part_of, rest_from};

@@ -1,7 +1,11 @@
 use Rattle.std.proofs.Common.{insert}
 use Rattle.bank_parts.specs.Settings.{with_mods}
 use Rattle.bank_core.proofs.KeptTotals.{no_limit_before, has_before, kept_there}
+use Rattle.bank_parts.proofs.SoundLaws.{sound_storable}
 use Rattle.bank_core.proofs.bank.Bank.add_mod.Goals as goal
+
+pub add_mod-requires-clause-storable : goal.add_mod-requires-clause-storable
+add_mod-requires-clause-storable c = rw c.self.view_is (sound_storable _ c.requires.sound)
 
 pub recounted-self-inside-requires : goal.recounted-self-inside-requires
 recounted-self-inside-requires c = record {

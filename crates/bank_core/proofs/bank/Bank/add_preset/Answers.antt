@@ -3,7 +3,11 @@ use Rattle.bank_parts.specs.Counts.{records_of_owner}
 use Rattle.bank_changes.proofs.PresetLaws.{totals-added_preset}
 use Rattle.bank_changes.proofs.TotalsLaws.{owners_grow}
 use Rattle.bank_core.proofs.KeptTotals.{has_room, kept_with}
+use Rattle.bank_parts.proofs.SoundLaws.{sound_storable}
 use Rattle.bank_core.proofs.bank.Bank.add_preset.Goals as goal
+
+pub add_preset-requires-clause-storable : goal.add_preset-requires-clause-storable
+add_preset-requires-clause-storable c = rw c.self.view_is (sound_storable _ c.requires.sound)
 
 pub with_owner-totals-requires : goal.with_owner-totals-requires
 with_owner-totals-requires c =

@@ -3,7 +3,11 @@ use Rattle.bank_changes.specs.Members.{level_of}
 use Rattle.bank_changes.proofs.ZoneChangeLaws.{totals-zone_added}
 use Rattle.bank_changes.proofs.TotalsLaws.{records_grow}
 use Rattle.bank_core.proofs.KeptTotals.{has_room, kept_with}
+use Rattle.bank_parts.proofs.SoundLaws.{sound_storable}
 use Rattle.bank_core.proofs.bank.Bank.add_zone.Goals as goal
+
+pub add_zone-requires-clause-storable : goal.add_zone-requires-clause-storable
+add_zone-requires-clause-storable c = rw c.self.view_is (sound_storable _ c.requires.sound)
 
 pub with_records-totals-requires : goal.with_records-totals-requires
 with_records-totals-requires c =

@@ -2,7 +2,8 @@ use Rattle.std.proofs.Common.{true≢false, refl, sym, subst}
 use Rattle.bank_parts.specs.declared.parts.Parts.{Parts}
 use Rattle.bank_parts.specs.Valid.{IsValid}
 use Rattle.bank_core.specs.Flat.{IsFlatOf}
-use Rattle.bank_core.proofs.FlatLaws.{presets_plain, instruments_plain, same_bank}
+use Rattle.bank_parts.proofs.SoundLaws.{presets_plain, instruments_plain}
+use Rattle.bank_core.proofs.FlatLaws.{same_bank}
 use Rattle.bank_core.proofs.bank.Bank.from_flat.Goals as goal
 
 pub returns-in_default : goal.returns-in_default

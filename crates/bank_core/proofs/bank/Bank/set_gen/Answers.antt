@@ -1,7 +1,11 @@
 use Rattle.std.specs.FinMap as map
 use Rattle.bank_parts.specs.Settings.{with_gens}
 use Rattle.bank_core.proofs.KeptTotals.{no_limit_before, has_before, kept_there}
+use Rattle.bank_parts.proofs.SoundLaws.{sound_storable}
 use Rattle.bank_core.proofs.bank.Bank.set_gen.Goals as goal
+
+pub set_gen-requires-clause-storable : goal.set_gen-requires-clause-storable
+set_gen-requires-clause-storable c none = rw c.self.view_is (sound_storable _ c.requires.sound)
 
 pub recounted-self-inside-requires : goal.recounted-self-inside-requires
 recounted-self-inside-requires c = record {

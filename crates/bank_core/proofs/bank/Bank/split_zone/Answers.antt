@@ -5,7 +5,11 @@ use Rattle.bank_changes.specs.Members.{level_of}
 use Rattle.bank_changes.proofs.SplitLaws.{split, split_zone_is, totals-zone_split}
 use Rattle.bank_changes.proofs.TotalsLaws.{records_grow}
 use Rattle.bank_core.proofs.KeptTotals.{has_room, kept_with}
+use Rattle.bank_parts.proofs.SoundLaws.{sound_storable}
 use Rattle.bank_core.proofs.bank.Bank.split_zone.Goals as goal
+
+pub split_zone-requires-clause-storable : goal.split_zone-requires-clause-storable
+split_zone-requires-clause-storable c = rw c.self.view_is (sound_storable _ c.requires.sound)
 
 pub with_records-totals-requires : goal.with_records-totals-requires
 with_records-totals-requires c =
