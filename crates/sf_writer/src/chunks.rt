@@ -4,7 +4,7 @@ ghost use Rattle.outputs.specs.Output.{Puts};
 ghost use Rattle.riff_chunks.specs.Spelling.{chunk, chunk_head};
 
 use outputs::Output;
-use riff_chunks::put_head;
+use riff_chunks::ChunkWriter;
 use std::io::Write;
 
 /// The bytes of a chunk's id and size.
@@ -23,7 +23,7 @@ pub(crate) fn put_form_head<W: Write>(
 )
     ensures { Puts W.contents output.old output.new (chunk_head id size ++ form) }
 {
-    put_head(output, id, size);
+    output.head(id, size);
     output.put(&form);
 }
 
@@ -34,6 +34,6 @@ pub(crate) fn put_chunk<W: Write>(output: &mut Output<'_, W>, id: [u8; 4], body:
     requires even { length body.now % 2 ≡ 0 }
     ensures { Puts W.contents output.old output.new (chunk id body.now) }
 {
-    put_head(output, id, body.len() as u32);
-    output.put(body);
+    output.head(id, body.len() as u32);
+    output.body(body);
 }

@@ -11,7 +11,7 @@ ghost use Rattle.sf_writer.specs.Lists.{list_bytes};
 use crate::chunks::{HEAD_SIZE, put_chunk, put_form_head};
 use bank_core::{Bank, InfoId};
 use outputs::Output;
-use riff_chunks::{LIST_ID, put_head};
+use riff_chunks::{ChunkWriter, LIST_ID};
 use std::io::Write;
 
 /// The bytes of the chunk `ifil`, its head counted.
@@ -138,7 +138,7 @@ fn put_text<W: Write>(output: &mut Output<'_, W>, bank: &Bank<'_>, which: InfoId
     ensures { Puts W.contents output.old output.new (text_bytes bank.now which) }
 {
     let text = bank.info(which);
-    put_head(output, id_of(which), body_size(text));
+    output.head(id_of(which), body_size(text));
     output.put(text);
     output.put(text_end(text));
 }

@@ -12,7 +12,7 @@ use bank_format::RecordedHead;
 use bank_parts::Owners;
 use hydra_records::Spelled;
 use outputs::Output;
-use riff_chunks::put_head;
+use riff_chunks::ChunkWriter;
 use std::io::Write;
 
 // Puts the list `phdr`.
@@ -21,7 +21,7 @@ pub(crate) fn put_phdr<W: Write>(output: &mut Output<'_, W>, bank: &Bank<'_>, si
     ensures { Puts W.contents output.old output.new
         (table_bytes PHDR preset_head_bytes (tables_of bank.now).phdr) }
 {
-    put_head(output, *b"phdr", size);
+    output.head(*b"phdr", size);
     put_heads(output, bank.presets());
 }
 
@@ -31,7 +31,7 @@ pub(crate) fn put_inst<W: Write>(output: &mut Output<'_, W>, bank: &Bank<'_>, si
     ensures { Puts W.contents output.old output.new
         (table_bytes INST instrument_head_bytes (tables_of bank.now).inst) }
 {
-    put_head(output, *b"inst", size);
+    output.head(*b"inst", size);
     put_heads(output, bank.instruments());
 }
 

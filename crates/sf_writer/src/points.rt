@@ -11,7 +11,7 @@ ghost use Rattle.sf_writer.specs.Lists.{list_bytes};
 use crate::chunks::put_form_head;
 use bank_core::{Bank, Sample};
 use outputs::Output;
-use riff_chunks::{LIST_ID, put_head};
+use riff_chunks::{ChunkWriter, LIST_ID};
 use sample_view::Points;
 use std::io::Write;
 
@@ -33,7 +33,7 @@ fn put_smpl<W: Write>(output: &mut Output<'_, W>, bank: &Bank<'_>, size: u32)
     requires { size ≡ length (flat_map word_bytes (all_points bank.now)) }
     ensures { Puts W.contents output.old output.new (spell (sdta bank.now)) }
 {
-    put_head(output, *b"smpl", size);
+    output.head(*b"smpl", size);
     put_samples(output, bank.samples());
 }
 

@@ -11,7 +11,7 @@ use crate::terminals::sample_end;
 use bank_core::{Bank, Kind, Sample};
 use hydra_records::{SampleHead, Spelled};
 use outputs::Output;
-use riff_chunks::put_head;
+use riff_chunks::ChunkWriter;
 use sf_base::limits::ZERO_POINTS;
 use std::io::Write;
 
@@ -21,7 +21,7 @@ pub(crate) fn put_shdr<W: Write>(output: &mut Output<'_, W>, bank: &Bank<'_>, si
     ensures { Puts W.contents output.old output.new
         (table_bytes SHDR sample_head_bytes (tables_of bank.now).shdr) }
 {
-    put_head(output, *b"shdr", size);
+    output.head(*b"shdr", size);
     put_heads(output, bank);
 }
 

@@ -15,7 +15,7 @@ use generators::Level;
 use hydra_records::{Bag, Generator, Spelled};
 use modulators::Modulator;
 use outputs::Output;
-use riff_chunks::put_head;
+use riff_chunks::ChunkWriter;
 use std::io::Write;
 
 // Puts the three lists.
@@ -28,11 +28,11 @@ pub(crate) fn put_zone_lists<H: OwnerHead, W: Write>(
     ensures { Puts W.contents output.old output.new
         (spell (zone_lists H.LEVEL (all_bags H.LEVEL owners.now))) }
 {
-    put_head(output, bag_id(H::LEVEL), sizes.bags);
+    output.head(bag_id(H::LEVEL), sizes.bags);
     put_bag_records(output, owners.bag_records());
-    put_head(output, mod_id(H::LEVEL), sizes.mods);
+    output.head(mod_id(H::LEVEL), sizes.mods);
     put_mod_records(output, owners.mod_records());
-    put_head(output, gen_id(H::LEVEL), sizes.gens);
+    output.head(gen_id(H::LEVEL), sizes.gens);
     put_gen_records(output, owners.gen_records());
 }
 

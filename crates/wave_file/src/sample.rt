@@ -11,7 +11,7 @@ ghost use Rattle.wave_file.specs.SampleWave.{SAMPLER, numbers, mono_format, fram
 use crate::pitch::{pitch_fraction, unity_note};
 use bank_parts::Sample;
 use outputs::Output;
-use riff_chunks::put_head;
+use riff_chunks::ChunkWriter;
 use sample_view::Points;
 use std::io::Write;
 
@@ -40,11 +40,11 @@ pub fn put_sample_wave<W: Write>(sample: &Sample<'_>, output: &mut Output<'_, W>
     ensures { Puts W.contents output.old output.new (sample_wave sample.now) }
 {
     let data_size = 2 * sample.points.len() as u32;
-    put_head(output, *b"RIFF", AROUND + sampler_size(sample) + data_size);
+    output.head(*b"RIFF", AROUND + sampler_size(sample) + data_size);
     output.put(b"WAVE");
     put_mono_format(sample.rate, output);
     put_sampler(sample, output);
-    put_head(output, *b"data", data_size);
+    output.head(*b"data", data_size);
     put_points(&sample.points, output);
 }
 
@@ -52,7 +52,7 @@ pub fn put_sample_wave<W: Write>(sample: &Sample<'_>, output: &mut Output<'_, W>
 fn put_mono_format<W: Write>(rate: u32, output: &mut Output<'_, W>)
     ensures { Puts W.contents output.old output.new (chunk FORMAT (mono_format rate)) }
 {
-    put_head(output, *b"fmt ", FORMAT_SIZE);
+    output.head(*b"fmt ", FORMAT_SIZE);
     output.put(&[1, 0, 1, 0]);
     output.put(&rate.to_le_bytes());
     output.put(&rate.saturating_mul(2).to_le_bytes());
@@ -63,7 +63,7 @@ fn put_mono_format<W: Write>(rate: u32, output: &mut Output<'_, W>)
 fn put_sampler<W: Write>(sample: &Sample<'_>, output: &mut Output<'_, W>)
     ensures { Puts W.contents output.old output.new (chunk SAMPLER (sampler sample.now)) }
 {
-    put_head(output, *b"smpl", sampler_size(sample));
+    output.head(*b"smpl", sampler_size(sample));
     put_sampler_head(sample, output);
     put_loop(sample.looped, output);
     put_held_pitch(sample, output);

@@ -3,4 +3,4 @@ use Rattle.sf_writer.proofs.ChunkLaws.{put_even}
 use Rattle.sf_writer.proofs.chunks.put_chunk.Goals as goal
 
 pub returns : goal.returns
-returns g c = put_even _ _ _ _ refl c.requires.even refl c.put_head.ensures c.put.ensures
+returns g c = put_even _ _ _ _ refl c.requires.even refl c.head.ensures c.body.ensures

@@ -11,5 +11,5 @@ pub returns : goal.returns
 returns g c =
     puts_as _ _ (ap (λ text. chunk (text_id c.args.which) (text_body text)) c.info-text.ensures.value)
     (put_even _ _ (text_body c.info-text.result.now) _ c.id_of.ensures.value (text_body-even c.info-text.result.now)
-    c.body_size.ensures c.put_head.ensures
+    c.body_size.ensures c.head.ensures
     (puts_then _ _ c.put.ensures (puts_as _ _ c.text_end.ensures c.put-2.ensures)))

@@ -8,5 +8,5 @@ use Rattle.sf_writer.proofs.owner_heads.put_inst.Goals as goal
 pub returns : goal.returns
 unfolding INST
 returns g c =
-    put_even _ _ _ _ refl (inst-even c.args.bank.now c.instruments.ensures.valid) c.requires c.put_head.ensures
+    put_even _ _ _ _ refl (inst-even c.args.bank.now c.instruments.ensures.valid) c.requires c.head.ensures
     (puts_as _ _ (inst-lent c.args.bank.now _ c.instruments.ensures.value) c.put_heads.ensures)

@@ -8,5 +8,5 @@ use Rattle.sf_writer.proofs.owner_heads.put_phdr.Goals as goal
 pub returns : goal.returns
 unfolding PHDR
 returns g c =
-    put_even _ _ _ _ refl (phdr-even c.args.bank.now c.presets.ensures.valid) c.requires c.put_head.ensures
+    put_even _ _ _ _ refl (phdr-even c.args.bank.now c.presets.ensures.valid) c.requires c.head.ensures
     (puts_as _ _ (phdr-lent c.args.bank.now _ c.presets.ensures.value) c.put_heads.ensures)

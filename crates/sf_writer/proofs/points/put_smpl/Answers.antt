@@ -12,6 +12,6 @@ pub returns : goal.returns
 unfolding SMPL all_points
 returns g c =
     puts_as _ _ (sym (sdta-is c.args.bank.now))
-    (put_even _ _ _ _ refl (all_points-even c.args.bank.now) c.requires c.put_head.ensures
+    (put_even _ _ _ _ refl (all_points-even c.args.bank.now) c.requires c.head.ensures
     (puts_as _ _ (ap (λ samples. flat_map word_bytes (flat_map points_written samples)) c.samples.ensures.value)
     c.put_samples.ensures))

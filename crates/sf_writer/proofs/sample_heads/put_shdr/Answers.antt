@@ -7,5 +7,5 @@ use Rattle.sf_writer.proofs.sample_heads.put_shdr.Goals as goal
 pub returns : goal.returns
 unfolding SHDR
 returns g c =
-    put_even _ _ _ _ refl (shdr-even c.args.bank.now c.put_heads.ensures.valid) c.requires c.put_head.ensures
+    put_even _ _ _ _ refl (shdr-even c.args.bank.now c.put_heads.ensures.valid) c.requires c.head.ensures
     c.put_heads.ensures.puts

@@ -12,14 +12,14 @@ returns g c =
     let owners = c.args.owners.now in
     let bags =
     put_even _ _ _ _ (c.bag_id.ensures.value ∙ ap bag_id c.LEVEL.ensures) (bags-even _) c.requires.bags
-    c.put_head.ensures (puts_as _ _ (bags-lent at owners _ c.bag_records.ensures) c.put_bag_records.ensures)
+    c.head.ensures (puts_as _ _ (bags-lent at owners _ c.bag_records.ensures) c.put_bag_records.ensures)
     in
     let mods =
     put_even _ _ _ _ (c.mod_id.ensures.value ∙ ap mod_id c.LEVEL-2.ensures) (mods-even _) c.requires.mods
-    c.put_head-2.ensures
+    c.head-2.ensures
     (puts_as _ _ (mods-lent at owners _ c.mod_records.ensures) c.put_mod_records.ensures) in
     let gens =
     put_even _ _ _ _ (c.gen_id.ensures.value ∙ ap gen_id c.LEVEL-3.ensures) (gens-even _) c.requires.gens
-    c.put_head-3.ensures
+    c.head-3.ensures
     (puts_as _ _ (gens-lent at owners _ c.gen_records.ensures) c.put_gen_records.ensures) in
     puts_row _ _ _ (zone_lists-is _ _) bags (puts_then _ _ mods gens)

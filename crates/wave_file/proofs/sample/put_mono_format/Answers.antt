@@ -10,5 +10,5 @@ unfolding mono_format FORMAT pad
 returns g c =
     puts_as _ (chunk FORMAT (mono_format c.args.rate))
     (rw (c.to_le_bytes.ensures, c.to_le_bytes-2.ensures, c.saturating_mul.ensures) refl)
-    (puts_then _ _ c.put_head.ensures
+    (puts_then _ _ c.head.ensures
     (puts_then _ _ c.put.ensures (puts_then _ _ c.put-2.ensures (puts_then _ _ c.put-3.ensures c.put-4.ensures))))

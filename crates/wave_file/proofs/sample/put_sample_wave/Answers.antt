@@ -14,5 +14,5 @@ returns g c =
     let points = c.len.ensures.value in
     let bytes = length-word_bytes s.points in
     puts_as _ _ (put-parts s _ _ (omega (arith, whole, sampler_size, points)) (omega (arith, bytes, points)))
-    (puts_then _ _ c.put_head.ensures (puts_then _ _ c.put.ensures (puts_then _ _ c.put_mono_format.ensures
-    (puts_then _ _ c.put_sampler.ensures (puts_then _ _ c.put_head-2.ensures c.put_points.ensures)))))
+    (puts_then _ _ c.head.ensures (puts_then _ _ c.put.ensures (puts_then _ _ c.put_mono_format.ensures
+    (puts_then _ _ c.put_sampler.ensures (puts_then _ _ c.head-2.ensures c.put_points.ensures)))))

@@ -12,5 +12,5 @@ returns g c =
     puts_row _ _ _
     (chunk-even SAMPLER (sampler s) (sampler-even s)
     ∙ ap (λ (n : ℕ). chunk_head SAMPLER n ++ sampler s) (sym c.sampler_size.ensures.value))
-    c.put_head.ensures
+    c.head.ensures
     (puts_then _ _ c.put_sampler_head.ensures (puts_then _ _ c.put_loop.ensures c.put_held_pitch.ensures))
