@@ -5,7 +5,8 @@ ghost use Rattle.flat_records.specs.Stored.{Uses, no_records};
 
 use crate::pieces::part;
 use modulators::Modulator;
-use std::alloc::{AllocError, Global};
+use sf_base::OutOfMemory;
+use std::alloc::Global;
 use std::marker::Model;
 
 /// The records of the bags, generators and modulators of a level, each list with its terminal.
@@ -75,7 +76,7 @@ const NO_MODULATOR: Modulator = Modulator {
 
 impl Bags {
     /// No bags: the terminals alone.
-    pub fn new(alloc: Global) -> Result<Bags, AllocError>
+    pub fn new(alloc: Global) -> Result<Bags, OutOfMemory>
         ensures { IfOk result (λ r. r.bags ≡ []) }
     {
         let mut bags = Vec::new(alloc);
@@ -88,7 +89,7 @@ impl Bags {
     }
 
     /// Makes places for so many records. When out of memory, the bags stay, and some places may be more.
-    pub fn reserve(&mut self, bags: usize, gens: usize, mods: usize) -> Result<(), AllocError>
+    pub fn reserve(&mut self, bags: usize, gens: usize, mods: usize) -> Result<(), OutOfMemory>
         ensures bags { self.new.bags ≡ self.old.bags }
         ensures kept { Uses self.old.spare self.new.spare no_records }
         ensures room { OnOk result (Uses (record { bags = bags; gens = gens; mods = mods }) self.new.spare no_records) }
@@ -100,7 +101,7 @@ impl Bags {
     }
 
     /// Equal bags, in memory of their own.
-    pub fn copy(&self, alloc: Global) -> Result<Bags, AllocError>
+    pub fn copy(&self, alloc: Global) -> Result<Bags, OutOfMemory>
         ensures { IfOk result (λ r. r.bags ≡ self.now.bags) }
     {
         let bags = Vec::from_slice(alloc, &self.bags)?;

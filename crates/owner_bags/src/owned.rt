@@ -7,7 +7,8 @@ ghost use Rattle.owner_bags.specs.Owned.{all_bags, bag_at, flat_of};
 use crate::begins::place;
 use flat_records::Bags;
 use modulators::Modulator;
-use std::alloc::{AllocError, Global};
+use sf_base::OutOfMemory;
+use std::alloc::Global;
 use std::marker::Model;
 
 /// A list of owners, presets or instruments, each with a list of bags, over the flat lists of records.
@@ -42,7 +43,7 @@ impl Model for OwnerBags {
 
 impl OwnerBags {
     /// No owners: the terminals alone.
-    pub fn new(alloc: Global) -> Result<OwnerBags, AllocError>
+    pub fn new(alloc: Global) -> Result<OwnerBags, OutOfMemory>
         ensures { IfOk result (λ r. r.owners ≡ []) }
     {
         let bags = Bags::new(alloc)?;
@@ -59,7 +60,7 @@ impl OwnerBags {
         bags: usize,
         gens: usize,
         mods: usize,
-    ) -> Result<(), AllocError>
+    ) -> Result<(), OutOfMemory>
         ensures owners { self.new.owners ≡ self.old.owners }
         ensures kept { Uses self.old.spare self.new.spare no_records }
         ensures kept_owners { self.old.spare_owners ≤ self.new.spare_owners }
@@ -72,7 +73,7 @@ impl OwnerBags {
     }
 
     /// Equal owners, in memory of their own.
-    pub fn copy(&self, alloc: Global) -> Result<OwnerBags, AllocError>
+    pub fn copy(&self, alloc: Global) -> Result<OwnerBags, OutOfMemory>
         ensures { IfOk result (λ r. r.owners ≡ self.now.owners) }
     {
         let begins = Vec::from_slice(alloc, &self.begins)?;
