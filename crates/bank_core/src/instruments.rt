@@ -32,9 +32,7 @@ impl<'a> Bank<'a> {
         ensures err { OnErr result (self.new ≡ self.old) }
         ensures value_returned { IfErr result (λ back. back ≡ instrument) }
     {
-        let totals = self
-            .totals
-            .with_owner(Level::Inst, instrument.records());
+        let totals = self.totals.with_owner(Level::Inst, instrument.records());
         add_instrument(&mut self.parts, number, instrument)?;
         self.totals = totals;
         Ok(())
@@ -55,9 +53,7 @@ impl<'a> Bank<'a> {
         ensures err { OnErr result (self.new ≡ self.old) }
     {
         let instrument = remove_instrument(&mut self.parts, alloc, number)?;
-        self.totals = self
-            .totals
-            .without_owner(Level::Inst, instrument.records());
+        self.totals = self.totals.without_owner(Level::Inst, instrument.records());
         Ok(instrument)
     }
 

@@ -39,11 +39,7 @@ fn refuse_add_instrument(bank: &Bank<'_>, at: u32, instrument: &Instrument) -> R
     requires { IsSound bank.now }
     ensures { Judges (refusal bank.now (steps.Instrument (form.AddInstrument at instrument.now))) result }
 {
-    no_such_target(
-        bank.count(List::Samples),
-        instrument,
-        Cause::NoSuchSample,
-    )?;
+    no_such_target(bank.count(List::Samples), instrument, Cause::NoSuchSample)?;
     bad_place(bank.count(List::Instruments), at)?;
     bad_generator(Level::Inst, instrument)?;
     bad_range(instrument)?;

@@ -349,5 +349,7 @@ last_counts {t} {bags} a xs n p e size is =
     ∙ ((λ i. get_or (e i) (size i) p)
     ∙ (ap (λ (t : Tables). get_or t.bags (length bags) p) a.same
     ∙ (get_or_from_slice_get (starts past_bag (0, 0) bags) (length bags) last p (starts-end past_bag (0, 0) bags)
-    ∙ (λ i. ((gens-end (0, 0) bags ∙ zero-add (length (gens_in bags))) i,
-    (mods-end (0, 0) bags ∙ zero-add (length (mods_in bags))) i)))))
+    ∙ (λ i. (
+      (gens-end (0, 0) bags ∙ zero-add (length (gens_in bags))) i,
+      (mods-end (0, 0) bags ∙ zero-add (length (mods_in bags))) i,
+    )))))

@@ -76,7 +76,7 @@ length-emptied part (x ∷ xs) (suc k) b none e =
       arith,
       length-append (part x) (flat_map part (set xs k no_bag)),
       length-append (part x) (flat_map part xs),
-      length-emptied part xs k b none e
+      length-emptied part xs k b none e,
     )
 
 pub changed_emptied : (bags xs : List Bag) (k : ℕ) (f : Bag → Bag) → xs ≡ set bags k no_bag → k < length bags

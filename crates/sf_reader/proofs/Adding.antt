@@ -7,11 +7,11 @@ use Rattle.std.proofs.lemmas.List.{length-append, flat_map_more}
 use Rattle.modulators.specs.declared.modulator.Modulator.{Modulator}
 use Rattle.bank_parts.specs.declared.parts.GlobalZone.{GlobalZone}
 use Rattle.bank_parts.specs.Bagged.{global_bag, global_bags}
-use Rattle.flat_records.specs.declared.bags.Recs.{Recs}
+use Rattle.sf_reader.specs.declared.records.RecordsSoFar.{RecordsSoFar}
 use Rattle.flat_records.specs.Runs.{starts}
 use Rattle.flat_records.specs.Bags.{Bag, past_bag, gens_in, mods_in, no_modulator, tables_of}
 use Rattle.flat_records.proofs.Starts.{length-starts}
-use Rattle.sf_reader.specs.Records.{AreSoFar, Adds, HoldsGens, EndsBag, tables_in}
+use Rattle.sf_reader.specs.Records.{AreSoFar, Adds, HoldsGens, EndsBag}
 
 no_members : {X : Type 0} (xs : List X) → length xs ≡ 0 → xs ≡ []
 no_members [] e = refl
@@ -19,20 +19,20 @@ no_members (x ∷ xs) e = absurd (omega (arith, e))
 
 -- ---- none, and some after others
 
-pub adds_none : (r : Recs) → Adds r r []
+pub adds_none : (r : RecordsSoFar) → Adds r r []
 adds_none r = λ all a. subst (AreSoFar r) (sym (append-nil all)) a
 
 -- all stay
-pub adds_same : (a b : Recs) → b.bags.items ≡ a.bags.items → b.gens.items ≡ a.gens.items
+pub adds_same : (a b : RecordsSoFar) → b.bags.items ≡ a.bags.items → b.gens.items ≡ a.gens.items
     → b.mods.items ≡ a.mods.items → Adds a b []
 adds_same a b bags gens mods =
     λ all h. adds_none b all (record { bags = bags ∙ h.bags; gens = gens ∙ h.gens; mods = mods ∙ h.mods })
 
-pub adds_both : (a b c : Recs) (xs ys : List Bag) → Adds a b xs → Adds b c ys → Adds a c (xs ++ ys)
+pub adds_both : (a b c : RecordsSoFar) (xs ys : List Bag) → Adds a b xs → Adds b c ys → Adds a c (xs ++ ys)
 adds_both a b c xs ys first second =
     λ all h. subst (AreSoFar c) (append_assoc all xs ys) (second (all ++ xs) (first all h))
 
-pub adds_as : (a b : Recs) (xs ys : List Bag) → xs ≡ ys → Adds a b xs → Adds a b ys
+pub adds_as : (a b : RecordsSoFar) (xs ys : List Bag) → xs ≡ ys → Adds a b xs → Adds a b ys
 adds_as a b xs ys same h = subst (Adds a b) same h
 
 -- ---- one bag more
@@ -57,7 +57,7 @@ starts-last at (x ∷ xs) b =
     ap (λ is. at ∷ is) (starts-last (past_bag at x) xs b)
     ∙ (λ i. at ∷ (starts past_bag (past_bag at x) xs ++ (gens i, mods i) ∷ []))
 
-module _ (old new : Recs) (b : Bag) (gens : new.gens.items ≡ old.gens.items ++ b.gens)
+module _ (old new : RecordsSoFar) (b : Bag) (gens : new.gens.items ≡ old.gens.items ++ b.gens)
     (mods : new.mods.items ≡ old.mods.items ++ b.mods)
     (bags : new.bags.items ≡ old.bags.items ++ (length new.gens.items, length new.mods.items) ∷ []) where
   adds_bag : Adds old new (b ∷ [])
@@ -78,7 +78,7 @@ module _ (old new : Recs) (b : Bag) (gens : new.gens.items ≡ old.gens.items ++
       }
 
 -- the generators were put behind the others before
-pub adds_held : (before mid new : Recs) (gens more : List (ℕ × ℕ)) (mods : List Modulator)
+pub adds_held : (before mid new : RecordsSoFar) (gens more : List (ℕ × ℕ)) (mods : List Modulator)
     → HoldsGens before mid gens → EndsBag mid new more mods
     → Adds before new (record { gens = gens ++ more; mods = mods } ∷ [])
 adds_held before mid new gens more mods h e =
@@ -89,7 +89,7 @@ adds_held before mid new gens more mods h e =
 
 -- ---- the bag of a global zone, where it holds something
 
-module _ (before now : Recs) (g : GlobalZone) (gens mods : ℕ) (h : HoldsGens before now (entries g.gens))
+module _ (before now : RecordsSoFar) (g : GlobalZone) (gens mods : ℕ) (h : HoldsGens before now (entries g.gens))
     (gens_are : gens ≡ length now.gens.items - length before.gens.items)
     (mods_are : mods ≡ length g.mods) where
   held_count : gens ≡ len g.gens
@@ -113,7 +113,7 @@ module _ (before now : Recs) (g : GlobalZone) (gens mods : ℕ) (h : HoldsGens b
       ∙ append-nil before.gens.items in
       adds_as before now [] (global_bags g) (sym bags) (adds_same before now h.bags_stay gens h.mods_stay)
 
-  pub global_some : (new : Recs) → ((gens ≡ 0) × (mods ≢ 0)) ⊎ (gens ≢ 0) → EndsBag now new [] g.mods
+  pub global_some : (new : RecordsSoFar) → ((gens ≡ 0) × (mods ≢ 0)) ⊎ (gens ≢ 0) → EndsBag now new [] g.mods
       → Adds before new (global_bags g)
   global_some new some ends =
       let more : len g.gens + length g.mods ≢ 0 = λ z. elim some as (λ s. ⊥) [
@@ -130,15 +130,14 @@ module _ (before now : Recs) (g : GlobalZone) (gens mods : ℕ) (h : HoldsGens b
 
 -- ---- the terminals
 
-pub terminals : (old new : Recs) → new.bags.items ≡ old.bags.items → new.gens.items ≡ old.gens.items ++ (0, 0) ∷ []
-    → new.mods.items ≡ old.mods.items ++ no_modulator ∷ []
-    → (all : List Bag) → AreSoFar old all → tables_in new ≡ tables_of all
-terminals old new bags gens mods all h =
-    let bags_are = bags ∙ h.bags in
-    let gens_are = gens ∙ ap (λ gs. gs ++ (0, 0) ∷ []) h.gens in
-    let mods_are = mods ∙ ap (λ (ms : List Modulator). ms ++ no_modulator ∷ []) h.mods in
-    λ i. record { bags = bags_are i; gens = gens_are i; mods = mods_are i }
+pub terminals : (r : RecordsSoFar) (gens : List (ℕ × ℕ)) (mods : List Modulator) → gens ≡ r.gens.items ++ (0, 0) ∷ []
+    → mods ≡ r.mods.items ++ no_modulator ∷ [] → (all : List Bag) → AreSoFar r all
+    → record { bags = r.bags.items; gens = gens; mods = mods } ≡ tables_of all
+terminals r gens mods g m all h =
+    let gens_are = g ∙ ap (λ gs. gs ++ (0, 0) ∷ []) h.gens in
+    let mods_are = m ∙ ap (λ (ms : List Modulator). ms ++ no_modulator ∷ []) h.mods in
+    λ i. record { bags = h.bags i; gens = gens_are i; mods = mods_are i }
 
 -- how many bags there are
-pub bags_so_far : (r : Recs) (all : List Bag) → AreSoFar r all → length r.bags.items - 1 ≡ length all
+pub bags_so_far : (r : RecordsSoFar) (all : List Bag) → AreSoFar r all → length r.bags.items - 1 ≡ length all
 bags_so_far r all h = omega (arith, ap length h.bags, length-starts past_bag (0, 0) all)

@@ -45,9 +45,9 @@ pub found_content : (minor : ℕ) (w : ListChunks) (t : Tables) (members : FlatM
         minor = minor;
         texts = cut;
         preset_heads = members.presets.heads;
-        presets = members.presets.records;
-        instrument_heads = members.instruments.heads;
-        instruments = members.instruments.records;
+        inst_heads = members.instruments.heads;
+        preset = members.presets.records;
+        inst = members.instruments.records;
         samples = samples;
       };
       counts =
@@ -74,9 +74,9 @@ found_content minor w t members samples texts cut cut_texts sm24 zone_counts loo
         minor = minor;
         texts = text i;
         preset_heads = members.presets.heads;
-        presets = members.presets.records;
-        instrument_heads = members.instruments.heads;
-        instruments = members.instruments.records;
+        inst_heads = members.instruments.heads;
+        preset = members.presets.records;
+        inst = members.instruments.records;
         samples = samples;
       };
       counts = record {

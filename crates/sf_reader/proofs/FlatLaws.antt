@@ -25,7 +25,7 @@ use Rattle.bank_format.specs.Reading.{counts_of, content_of}
 use Rattle.sf_reader.specs.Lists.{ListChunks}
 use Rattle.sf_reader.specs.Bags.{own_bags}
 use Rattle.sf_reader.specs.Owners.{members_of}
-use Rattle.sf_reader.specs.FlatContent.{FlatBank, heads_of, tables_at, flat_bank, flat_content, bank_seen}
+use Rattle.sf_reader.specs.FlatContent.{heads_of, tables_at, flat_bank, flat_content}
 use Rattle.sf_reader.specs.Content.{content_with}
 use Rattle.sf_reader.proofs.TableLaws.{rows_windows}
 
@@ -66,8 +66,8 @@ content_flat w t =
     let of_instruments = rows_windows (bags_in t.ibag t.igen t.imod) (λ (h : InstrumentHead). h.bag) t.inst in
     let preset_heads = heads_flat presets (rows t.phdr) (preset_windows t) of_presets in
     let preset_records = records_flat presets (rows t.phdr) (preset_windows t) of_presets in
-    let instrument_heads = heads_flat instruments (rows t.inst) (instrument_windows t) of_instruments in
-    let instrument_records = records_flat instruments (rows t.inst) (instrument_windows t) of_instruments in
+    let inst_heads = heads_flat instruments (rows t.inst) (instrument_windows t) of_instruments in
+    let inst_records = records_flat instruments (rows t.inst) (instrument_windows t) of_instruments in
     let all =
     content_with (field_at 2 2 (body_in IFIL w.info)) w t (members_of t)
     (samples_read (points_in w.sdta) (rows t.shdr)) in
@@ -76,9 +76,9 @@ content_flat w t =
         minor = all.bank.minor;
         texts = all.bank.texts;
         preset_heads = preset_heads i;
-        presets = preset_records i;
-        instrument_heads = instrument_heads i;
-        instruments = instrument_records i;
+        inst_heads = inst_heads i;
+        preset = preset_records i;
+        inst = inst_records i;
         samples = all.bank.samples;
       };
       counts = all.counts;
@@ -86,15 +86,15 @@ content_flat w t =
 
 -- ---- the bank of flat lists
 
-pub is_flat : (f : Flat) (b : Parts) → bank_seen f ≡ flat_bank b → IsFlatOf f b
+pub is_flat : (f : Flat) (b : Parts) → f ≡ flat_bank b → IsFlatOf f b
 is_flat f b e = record {
-  minor = ap (λ (x : FlatBank). x.minor) e;
-  texts = ap (λ (x : FlatBank). x.texts) e;
-  presets = record { heads = ap (λ (x : FlatBank). x.preset_heads) e; records = ap (λ (x : FlatBank). x.presets) e };
+  minor = ap (λ (x : Flat). x.minor) e;
+  texts = ap (λ (x : Flat). x.texts) e;
+  presets = record { heads = ap (λ (x : Flat). x.preset_heads) e; records = ap (λ (x : Flat). x.preset) e };
   instruments =
       record
-      { heads = ap (λ (x : FlatBank). x.instrument_heads) e; records = ap (λ (x : FlatBank). x.instruments) e };
-  samples = ap (λ (x : FlatBank). x.samples) e;
+      { heads = ap (λ (x : Flat). x.inst_heads) e; records = ap (λ (x : Flat). x.inst) e };
+  samples = ap (λ (x : Flat). x.samples) e;
 }
 
 -- where a sound bank has them, one is found

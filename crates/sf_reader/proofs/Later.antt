@@ -17,7 +17,7 @@ use Rattle.modulators.specs.declared.modulator.Modulator.{Modulator}
 use Rattle.hydra_records.specs.declared.zone.Bag.{Bag}
 use Rattle.hydra_records.specs.declared.zone.Generator.{Generator}
 use Rattle.flat_records.specs.Bags as flat
-use Rattle.flat_records.specs.declared.bags.Recs.{Recs}
+use Rattle.sf_reader.specs.declared.records.RecordsSoFar.{RecordsSoFar}
 use Rattle.sf_base.specs.declared.memory.Failure.{Failure}
 use Rattle.bank_parts.specs.declared.parts.GlobalZone.{GlobalZone}
 use Rattle.bank_parts.specs.declared.parts.Zone.{Zone}
@@ -131,7 +131,7 @@ no_own_bags : (at : Level) → own_bags at [] ≡ []
 unfolding zones_read global_read
 no_own_bags at = ap (λ (bs : List flat.Bag). bs ++ []) no_global_bags
 
-no_bags_added : (at : Level) (r : Recs) → Adds r r (own_bags at [])
+no_bags_added : (at : Level) (r : RecordsSoFar) → Adds r r (own_bags at [])
 no_bags_added at r = adds_as r r [] (own_bags at []) (sym (no_own_bags at)) (adds_none r)
 
 -- where all are none
@@ -143,7 +143,7 @@ module _ (at : Level) (n : ℕ) (missing : ReadFault) (all : List Bagged) (is : 
     zero ∙ no_counts at ∙ ap (counts_read at) (sym is),
   )
 
-  pub none_put : (r : Recs) → Adds r r (own_bags at all)
+  pub none_put : (r : RecordsSoFar) → Adds r r (own_bags at all)
   none_put r = adds_as r r (own_bags at []) (own_bags at all) (ap (own_bags at) (sym is)) (no_bags_added at r)
 
 -- ---- one bag, by its target
@@ -388,13 +388,13 @@ module _ (at : Level) (targets : ℕ) (missing : ReadFault) where
 
   -- what was counted and put behind the others, with the bags that are left, is what all bags say, and the targets
   -- that are left decide
-  pub record Left (old now : Recs) (counts : ZoneCounts) (left all : List Bagged) : Type 0 where
+  pub record Left (old now : RecordsSoFar) (counts : ZoneCounts) (left all : List Bagged) : Type 0 where
     pub counts_are : counts_with_later at counts left ≡ counts_read at all
     pub steps_are : first_broken (steps left) ≡ first_broken (steps all)
-    pub bags_are : (end : Recs) → Adds now end (zone_bags at left) → Adds old end (own_bags at all)
+    pub bags_are : (end : RecordsSoFar) → Adds now end (zone_bags at left) → Adds old end (own_bags at all)
 
   -- the first bag was read
-  pub first_left : (old now : Recs) (counts : ZoneCounts) (r : Bagged) (left all : List Bagged) → all ≡ r ∷ left
+  pub first_left : (old now : RecordsSoFar) (counts : ZoneCounts) (r : Bagged) (left all : List Bagged) → all ≡ r ∷ left
       → first_broken (steps (r ∷ [])) ≡ None → counts ≡ counts_read at (r ∷ []) → Adds old now (own_bags at (r ∷ []))
       → Left old now counts left all
   first_left old now counts r left all is holds counted put = record {
@@ -420,7 +420,7 @@ module _ (at : Level) (targets : ℕ) (missing : ReadFault) where
       (sym (steps-append at targets missing (r ∷ []) left) ∙ ap steps (sym is))
       (fails_front e (steps (r ∷ [])) (steps left) h)
 
-  module _ (old now : Recs) (counts : ZoneCounts) (r : Bagged) (rest left all : List Bagged) (is : left ≡ r ∷ rest)
+  module _ (old now : RecordsSoFar) (counts : ZoneCounts) (r : Bagged) (rest left all : List Bagged) (is : left ≡ r ∷ rest)
       (so_far : Left old now counts left all) where
     steps-next : first_broken (steps (r ∷ []) ++ steps rest) ≡ first_broken (steps all)
     steps-next =
@@ -428,7 +428,7 @@ module _ (at : Level) (targets : ℕ) (missing : ReadFault) where
         ∙ ap (λ (bs : List Bagged). first_broken (steps bs)) (sym is) ∙ so_far.steps_are
 
     -- a later one was
-    pub later_left : (new : Recs) (more : ZoneCounts) → first_broken (steps (r ∷ [])) ≡ None
+    pub later_left : (new : RecordsSoFar) (more : ZoneCounts) → first_broken (steps (r ∷ [])) ≡ None
         → more ≡ counts_with_later at counts (r ∷ []) → Adds now new (zone_bags at (r ∷ []))
         → Left old new more rest all
     later_left new more holds counted put = record {
@@ -447,7 +447,7 @@ module _ (at : Level) (targets : ℕ) (missing : ReadFault) where
     later_fails e h = subst (Fails e) steps-next (fails_front e (steps (r ∷ [])) (steps rest) h)
 
   -- all were
-  module _ (old now : Recs) (counts : ZoneCounts) (left all : List Bagged) (is : left ≡ [])
+  module _ (old now : RecordsSoFar) (counts : ZoneCounts) (left all : List Bagged) (is : left ≡ [])
       (so_far : Left old now counts left all) where
     pub all_counted : counts ≡ counts_read at all
     all_counted = sym (counts-none at counts) ∙ ap (counts_with_later at counts) (sym is) ∙ so_far.counts_are

@@ -54,9 +54,9 @@ content_with minor w t members samples = record {
     minor = minor;
     texts = texts_read w.info;
     preset_heads = members.presets.heads;
-    presets = members.presets.records;
-    instrument_heads = members.instruments.heads;
-    instruments = members.instruments.records;
+    inst_heads = members.instruments.heads;
+    preset = members.presets.records;
+    inst = members.instruments.records;
     samples = samples;
   };
   counts = record {

@@ -3,10 +3,7 @@ use Rattle.std.specs.Prelude.{ℕ, List, map}
 use Rattle.generators.specs.declared.level.Level.{Level}
 use Rattle.generators.specs.declared.level.Level.TheVariants as level
 use Rattle.flat_records.specs.Bags.{Tables}
-use Rattle.bank_parts.specs.declared.texts.Texts.{Texts}
-use Rattle.bank_parts.specs.declared.parts.Head.{Head}
 use Rattle.bank_parts.specs.declared.parts.WithZones.{WithZones}
-use Rattle.bank_parts.specs.declared.parts.Sample.{Sample}
 use Rattle.bank_parts.specs.declared.parts.Parts.{Parts}
 use Rattle.bank_parts.specs.FlatLists.{lists_of}
 use Rattle.bank_core.specs.declared.flat_heads.HeadRecord.{HeadRecord}
@@ -14,19 +11,9 @@ use Rattle.bank_core.specs.declared.flat.Flat.{Flat}
 use Rattle.bank_core.specs.Heads.{head_records}
 use Rattle.bank_format.specs.declared.fault.Counts.{Counts}
 use Rattle.bank_format.specs.Reading.{Content}
-use Rattle.sf_reader.specs.Records.{tables_in}
-
-pub record FlatBank : Type 0 where
-  pub minor : ℕ
-  pub texts : Texts
-  pub preset_heads : List (HeadRecord Head)
-  pub presets : Tables
-  pub instrument_heads : List (HeadRecord (List ℕ))
-  pub instruments : Tables
-  pub samples : List Sample
 
 pub record FlatContent : Type 0 where
-  pub bank : FlatBank
+  pub bank : Flat
   pub counts : Counts
 
 -- ---- of a bank
@@ -38,14 +25,14 @@ abbrev pub tables_at : {H : Type 0} → Level → List (WithZones H) → Tables
 tables_at at owners =
     record { bags = (lists_of at owners).bags; gens = (lists_of at owners).gens; mods = (lists_of at owners).mods }
 
-abbrev pub flat_bank : Parts → FlatBank
+abbrev pub flat_bank : Parts → Flat
 flat_bank b = record {
   minor = b.minor;
   texts = b.texts;
   preset_heads = heads_of level.Preset b.presets;
-  presets = tables_at level.Preset b.presets;
-  instrument_heads = heads_of level.Inst b.instruments;
-  instruments = tables_at level.Inst b.instruments;
+  inst_heads = heads_of level.Inst b.instruments;
+  preset = tables_at level.Preset b.presets;
+  inst = tables_at level.Inst b.instruments;
   samples = b.samples;
 }
 
@@ -54,16 +41,5 @@ flat_content c = record { bank = flat_bank c.bank; counts = c.counts }
 
 -- ---- of the lists in memory
 
-abbrev pub bank_seen : Flat → FlatBank
-bank_seen f = record {
-  minor = f.minor;
-  texts = f.texts;
-  preset_heads = f.preset_heads;
-  presets = tables_in f.presets;
-  instrument_heads = f.instrument_heads;
-  instruments = tables_in f.instruments;
-  samples = f.samples;
-}
-
 abbrev pub content_seen : Flat × Counts → FlatContent
-content_seen r = record { bank = bank_seen r.0; counts = r.1 }
+content_seen r = record { bank = r.0; counts = r.1 }

@@ -20,7 +20,7 @@ use Rattle.bank_format.specs.Reading.{bags_in, preset_windows, instrument_window
 use Rattle.bank_format.specs.ReadSteps.{target_step}
 use Rattle.sf_reader.specs.declared.zones.ZoneCounts.{ZoneCounts}
 use Rattle.sf_reader.specs.Bags.{own_bags}
-use Rattle.sf_reader.specs.Records.{AreSoFar, Adds, tables_in}
+use Rattle.sf_reader.specs.Records.{AreSoFar, Adds}
 use Rattle.sf_reader.specs.declared.hydra.LevelTables.{LevelTables}
 use Rattle.sf_reader.specs.declared.owners.OwnersSoFar.{OwnersSoFar}
 use Rattle.sf_reader.specs.declared.owners.OwnersRead.{OwnersRead}
@@ -64,7 +64,7 @@ pub record AddsOwner {H : Type 0} (old new : OwnersSoFar H) (head : H) (own : Li
 -- and the terminals behind all of them
 pub record AreEnded {H : Type 0} (r : OwnersSoFar H) (e : OwnersRead H) : Type 0 where
   pub heads_are : e.heads ≡ head_records r.heads.items r.first_bags.items
-  pub records_are : (all : List Bag) → AreSoFar r.records all → tables_in e.records ≡ tables_of all
+  pub records_are : (all : List Bag) → AreSoFar r.records all → e.records ≡ tables_of all
   pub counts_are : e.counts ≡ r.counts
 
 -- ---- the presets, or the instruments
@@ -84,7 +84,7 @@ pub record FlatOwners (H : Type 0) : Type 0 where
   pub counts : ZoneCounts
 
 abbrev pub owners_seen : {H : Type 0} → OwnersRead H → FlatOwners H
-owners_seen r = record { heads = r.heads; records = tables_in r.records; counts = r.counts }
+owners_seen r = record { heads = r.heads; records = r.records; counts = r.counts }
 
 -- those with these heads and bags
 abbrev pub flat_owners : {H : Type 0} → List H → List (List Bag) → ZoneCounts → FlatOwners H

@@ -7,7 +7,7 @@ ghost use Rattle.sf_reader.specs.Bags.{counts_read, own_bags, steps_of_bags};
 ghost use Rattle.sf_reader.specs.Owners.{added, AreSmall, AreOwnersSoFar, AddsOwner, AreEnded, window_of, windows_of, owners_seen, owners_with_counts, zone_steps, members_seen, members_of, member_steps};
 
 use crate::hydra::{LevelTables, Tables, row_count};
-use crate::records::{bag_count, end_records, no_records};
+use crate::records::{RecordsSoFar, bag_count, no_records};
 use crate::zones::{NO_COUNTS, Targets, ZoneCounts, read_bags};
 use bank_core::{FlatHeads, Recs};
 use bank_format::{ReadFault, RecordedHead};
@@ -23,8 +23,7 @@ pub(crate) struct OwnersSoFar<H> {
     // Where the bags of each begin, and last how many bags there are.
     first_bags: Vec<u16>,
 
-    // Without the terminals of generators and modulators.
-    records: Recs,
+    records: RecordsSoFar,
 
     // What was dropped or mended in their zones.
     counts: ZoneCounts,
@@ -51,10 +50,10 @@ impl<H: Drop> OwnersSoFar<H> {
         let OwnersSoFar {
             heads,
             first_bags,
-            mut records,
+            records,
             counts,
         } = self;
-        end_records(&mut records)?;
+        let records = records.ended()?;
         let heads = FlatHeads::new(NumberedList::from_vec(heads), first_bags).unwrap();
         Ok(OwnersRead {
             heads,

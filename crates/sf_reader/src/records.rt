@@ -1,11 +1,11 @@
 //! The flat lists of records of a level, which grow at their ends.
 ghost use Rattle.std.specs.Prelude.{◌≡◌, ◌≤◌, ◌-◌, ◌++◌, ◌∷◌, [], List, length, IfOk, OnOk};
 ghost use Rattle.std.specs.FinMap.{entries};
-ghost use Rattle.flat_records.specs.declared.bags.Recs.{Recs};
+ghost use Rattle.sf_reader.specs.declared.records.RecordsSoFar.{RecordsSoFar};
 ghost use Rattle.flat_records.specs.Bags.{Bag, tables_of};
 ghost use Rattle.bank_parts.specs.declared.parts.GlobalZone.{GlobalZone};
 ghost use Rattle.bank_parts.specs.Bagged.{global_bags};
-ghost use Rattle.sf_reader.specs.Records.{AreSoFar, Adds, HoldsGens, EndsBag, tables_in};
+ghost use Rattle.sf_reader.specs.Records.{AreSoFar, Adds, HoldsGens, EndsBag};
 
 use bank_core::Recs;
 use hydra_records::Table;
@@ -22,27 +22,51 @@ const LAST_MODULATOR: Modulator = Modulator {
     transform: 0,
 };
 
-/// The lists of no bags, with room for so many records. Generators and modulators have their terminals only
-/// after `end_records`.
+/// The records of the bags, generators and modulators of a level so far, those of the generators and the
+/// modulators without their terminals.
+#[derive(Drop)]
+pub(crate) struct RecordsSoFar {
+    pub(crate) bags: Vec<(u16, u16)>,
+    pub(crate) gens: Vec<(u16, u16)>,
+    pub(crate) mods: Vec<Modulator>,
+}
+
+impl RecordsSoFar {
+    /// All of them, with their terminals.
+    pub(crate) fn ended(self) -> Result<Recs, OutOfMemory>
+        ensures { IfOk result (λ recs. (all : List Bag) → AreSoFar self all → recs ≡ tables_of all) }
+    {
+        let RecordsSoFar {
+            bags,
+            mut gens,
+            mut mods,
+        } = self;
+        gens.push((0, 0))?;
+        mods.push(LAST_MODULATOR)?;
+        Ok(Recs { bags, gens, mods })
+    }
+}
+
+/// The lists of no bags, with room for so many records.
 pub(crate) fn no_records(
     alloc: Global,
     bags: usize,
     gens: usize,
     mods: usize,
-) -> Result<Recs, OutOfMemory>
+) -> Result<RecordsSoFar, OutOfMemory>
     ensures { IfOk result (λ records. AreSoFar records []) }
 {
     let mut bags = Vec::with_capacity(alloc, bags)?;
     bags.push((0, 0))?;
     let gens = Vec::with_capacity(alloc, gens)?;
     let mods = Vec::with_capacity(alloc, mods)?;
-    Ok(Recs { bags, gens, mods })
+    Ok(RecordsSoFar { bags, gens, mods })
 }
 
 /// Ends a zone's bag, whose generators stand behind the others already, with its target, the amount of an
 /// operator, and its modulators.
 pub(crate) fn end_zone(
-    records: &mut Recs,
+    records: &mut RecordsSoFar,
     target: (u16, u16),
     modulators: &Table<'_, Modulator>,
 ) -> Result<(), OutOfMemory>
@@ -55,12 +79,12 @@ pub(crate) fn end_zone(
 /// Ends the bag of a global zone, whose generators stand behind the others from `start` on, where the zone holds
 /// something.
 pub(crate) fn end_global(
-    records: &mut Recs,
+    records: &mut RecordsSoFar,
     start: usize,
     modulators: &Table<'_, Modulator>,
 ) -> Result<(), OutOfMemory>
     requires { start ≤ length records.old.gens.items }
-    ensures { OnOk result ((before : Recs) (g : GlobalZone) → HoldsGens before records.old (entries g.gens) → start ≡ length before.gens.items
+    ensures { OnOk result ((before : RecordsSoFar) (g : GlobalZone) → HoldsGens before records.old (entries g.gens) → start ≡ length before.gens.items
         → g.mods ≡ modulators.now → Adds before records.new (global_bags g)) }
 {
     let gens = records.gens.len() - start;
@@ -72,7 +96,7 @@ pub(crate) fn end_global(
 }
 
 // Ends a bag, whose generators stand behind the others already, with its modulators.
-fn end_bag(records: &mut Recs, modulators: &Table<'_, Modulator>) -> Result<(), OutOfMemory>
+fn end_bag(records: &mut RecordsSoFar, modulators: &Table<'_, Modulator>) -> Result<(), OutOfMemory>
     ensures { OnOk result (EndsBag records.old records.new [] modulators.now) }
 {
     push_mods(&mut records.mods, modulators)?;
@@ -96,7 +120,7 @@ fn push_mods(
 }
 
 /// How many bags there are, as an index.
-pub(crate) fn bag_count(records: &Recs) -> Result<u16, OutOfMemory>
+pub(crate) fn bag_count(records: &RecordsSoFar) -> Result<u16, OutOfMemory>
     ensures { IfOk result (λ count. count ≡ length records.now.bags.items - 1) }
 {
     index(records.bags.len().saturating_sub(1))
@@ -110,13 +134,4 @@ fn index(count: usize) -> Result<u16, OutOfMemory>
         return Err(OutOfMemory);
     }
     Ok(count as u16)
-}
-
-/// Puts the terminals behind the generators and the modulators.
-pub(crate) fn end_records(records: &mut Recs) -> Result<(), OutOfMemory>
-    ensures { OnOk result ((all : List Bag) → AreSoFar records.old all → tables_in records.new ≡ tables_of all) }
-{
-    records.gens.push((0, 0))?;
-    records.mods.push(LAST_MODULATOR)?;
-    Ok(())
 }

@@ -8,8 +8,7 @@ ghost use Rattle.sf_reader.specs.Later.{AreFew, counts_with_later};
 ghost use Rattle.sf_reader.specs.Records.{Adds};
 
 use crate::bag::{GensRead, read_gens};
-use crate::records::{end_global, end_zone};
-use bank_core::Recs;
+use crate::records::{RecordsSoFar, end_global, end_zone};
 use bank_format::ReadFault;
 use generators::Level;
 use hydra_records::{Bag, Generator, Table};
@@ -57,7 +56,7 @@ pub(crate) fn read_bags(
     generators: &Table<'_, Generator>,
     modulators: &Table<'_, Modulator>,
     targets: Targets,
-    records: &mut Recs,
+    records: &mut RecordsSoFar,
 ) -> Result<ZoneCounts, Failure<ReadFault>>
     requires bags { length bags.now ≤ RECORDS }
     requires generators { length generators.now ≤ RECORDS }
@@ -105,7 +104,7 @@ fn read_first(
     generators: &Table<'_, Generator>,
     modulators: &Table<'_, Modulator>,
     targets: Targets,
-    records: &mut Recs,
+    records: &mut RecordsSoFar,
 ) -> Result<ZoneCounts, Failure<ReadFault>>
     ensures passes { PassesGivenMemory (λ counts. counts) result
         (steps_of_bags level targets.count targets.missing (bagged generators.now modulators.now ∷ []))
@@ -139,7 +138,7 @@ fn read_later(
     modulators: &Table<'_, Modulator>,
     targets: Targets,
     counts: ZoneCounts,
-    records: &mut Recs,
+    records: &mut RecordsSoFar,
 ) -> Result<ZoneCounts, Failure<ReadFault>>
     requires few { AreFew counts }
     requires generators { length generators.now ≤ RECORDS }

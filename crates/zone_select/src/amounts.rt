@@ -111,8 +111,7 @@ pub(crate) fn modulator_amount(bank: &Bank<'_>, at: &PairAt, like: &Modulator, d
         Owner::Inst(at.instrument),
         at.instrument_zone,
         like,
-    )
-    .unwrap_or(default);
+    ).unwrap_or(default);
     let of_preset = amount_like(bank, Owner::Preset(at.preset), at.preset_zone, like).unwrap_or(0);
     i32::from(of_instrument) + i32::from(of_preset)
 }

@@ -2,7 +2,6 @@ use Rattle.std.proofs.Common.{◌∙◌, ap}
 use Rattle.bank_format.specs.Reading.{sm24_dropped}
 use Rattle.sf_reader.specs.Lists.{ListChunks}
 use Rattle.sf_reader.specs.Texts.{texts_in}
-use Rattle.sf_reader.specs.Records.{tables_in}
 use Rattle.sf_reader.specs.Owners.{members_seen}
 use Rattle.sf_reader.proofs.ContentLaws.{found_content}
 use Rattle.sf_reader.proofs.reader.content_of.Goals as goal
@@ -18,9 +17,9 @@ returns c =
         minor = c.args.minor;
         texts = c.cut_texts.result;
         preset_heads = presets.heads i;
-        presets = tables_in (presets.records i);
-        instrument_heads = instruments.heads i;
-        instruments = tables_in (instruments.records i);
+        inst_heads = instruments.heads i;
+        preset = presets.records i;
+        inst = instruments.records i;
         samples = c.args.samples;
       };
       counts = record {

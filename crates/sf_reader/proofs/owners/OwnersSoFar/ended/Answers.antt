@@ -19,6 +19,6 @@ returns g c =
       heads_are =
           heads ∙ ap (λ l. head_records l firsts) c.from_vec.ensures;
       records_are =
-          c.in_ok-end_records.ensures;
+          c.in_ok-records.ensures;
       counts_are = refl;
     }
