@@ -1,3 +1,4 @@
+pub mod Ending
 pub mod FaultLines
 pub mod InputFaults
 pub mod Inputs

@@ -1,4 +1,7 @@
 //! How a command ends that is not done.
+ghost use Rattle.std.specs.Prelude.{◌≡◌};
+ghost use Rattle.sfbank_program.specs.Ending.{unread_if};
+
 use crate::input_fault::InputFault;
 use crate::run_fault::RunFault;
 use outputs::OutputFault;
@@ -28,7 +31,9 @@ pub enum Fault<'a> {
 
 impl<'a> Fault<'a> {
     /// The fault itself, or `Unread` where a write failed since the reader of the output closed its pipe.
-    pub fn unread_if(self, is_unread: bool) -> Fault<'a> {
+    pub fn unread_if(self, is_unread: bool) -> Fault<'a>
+        ensures { result ≡ unread_if is_unread self.entry }
+    {
         match self {
             Fault::Run(RunFault::Write(_, _), _path) if is_unread => Fault::Unread,
             fault => fault,

@@ -139,7 +139,9 @@ impl<R: Files> OutputFile<'_, R> {
     }
 
     /// Whether a write failed since nothing reads the other end of a pipe any more.
-    pub fn is_unread(&self) -> bool {
+    pub fn is_unread(&self) -> bool
+        ensures { result ≡ self.now.is_unread }
+    {
         self.is_unread
     }
 

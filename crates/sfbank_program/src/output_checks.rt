@@ -1,11 +1,11 @@
 //! Outputs that would destroy what is there, which are rejected before anything is read.
-ghost use Rattle.std.specs.Prelude.{◌≡◌, IfErr};
+ghost use Rattle.std.specs.Prelude.{◌≡◌};
+ghost use Rattle.sfbank_program.specs.Ending.{fault_of_check};
 
 use crate::fault::Fault;
 use crate::run_fault::RunFault;
 use crate::target::{Target, folder_of, name_of, target_of};
 use outputs::OutputFault;
-use sf_base::OutOfMemory;
 use std::alloc::AllocError;
 use std::fs;
 use std::fs::File;
@@ -37,7 +37,9 @@ impl From<AllocError> for OutputCheck {
 
 impl OutputCheck {
     /// The fault of a run with this output.
-    pub fn at(self, path: &str) -> Fault<'_> {
+    pub fn at(self, path: &str) -> Fault<'_>
+        ensures { result ≡ fault_of_check self path.entry }
+    {
         match self {
             OutputCheck::Rejected(fault) => Fault::Output(fault, path),
             OutputCheck::Memory => Fault::Run(RunFault::Memory, path),
@@ -79,7 +81,8 @@ fn is_one_file<R: Files + AllocGlobal>(rt: &R, one: &str, other: &str) -> Result
     }
 }
 
-/// Whether two paths at which nothing is yet are one name in one folder, behind links.
+/// Whether two paths at which nothing is yet are one name in one folder that is there, once links are followed. Where a
+/// folder isn't there no file can be made, which is a write fault.
 fn is_one_new_file<R: Files + AllocGlobal>(
     rt: &R,
     one: &str,
@@ -88,10 +91,18 @@ fn is_one_new_file<R: Files + AllocGlobal>(
     match (target_of(rt, one)?, target_of(rt, other)?) {
         (Target::Nothing(one), Target::Nothing(other)) => {
             let (one, other) = (one.as_str(), other.as_str());
-            let folders = (place_of(rt, folder_of(one)), place_of(rt, folder_of(other)));
-            Ok(name_of(one) == name_of(other) && folders.0 == folders.1)
+            let is_one_name = name_of(one) == name_of(other);
+            Ok(is_one_name && is_one_folder(rt, folder_of(one), folder_of(other)))
         }
         _ => Ok(false),
+    }
+}
+
+/// Whether two paths lead to one folder that is there.
+fn is_one_folder<R: Files>(rt: &R, one: &str, other: &str) -> bool {
+    match (place_of(rt, one), place_of(rt, other)) {
+        (Some(one), Some(other)) => one == other,
+        _ => false,
     }
 }
 

@@ -19,7 +19,7 @@ const OWN_DESCRIPTORS: &str = "/proc/self/fd";
 pub(crate) enum Target {
     /// A regular file, at this path.
     Regular(String),
-    /// Nothing yet, in a folder that is there.
+    /// Nothing yet, in a folder that may not be there either.
     Nothing(String),
     /// An open descriptor of this program, by its number.
     Descriptor(i32),

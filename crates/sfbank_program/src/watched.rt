@@ -23,7 +23,9 @@ impl<'a, O: Write> Watched<'a, O> {
     }
 
     /// Whether a write or a flush failed for that reason.
-    pub fn is_unread(&self) -> bool {
+    pub fn is_unread(&self) -> bool
+        ensures { result ≡ self.now.is_unread }
+    {
         self.is_unread
     }
 }
