@@ -44,13 +44,13 @@ sub put_longest {
 # Runs of the shell: the program is `$0`, and `$1` a path. Each with its status and what is told.
 my @shells = (
     # Too long by a byte, and without an end.
-    ['"$0" canon over out', 5, 'file fault over: Longer than 4294967303 bytes'],
-    ['"$0" apply empty /dev/zero out undo', 5, 'file fault /dev/zero: Longer than 4294967303 bytes'],
-    ['"$0" apply --neutral empty /dev/zero out undo', 5, 'file fault /dev/zero: Longer than 4294967303 bytes'],
-    ['"$0" play empty /dev/zero out', 5, 'file fault /dev/zero: Longer than 4294967303 bytes'],
+    ['"$0" canon over out', 5, 'file fault over'],
+    ['"$0" apply empty /dev/zero out undo', 5, 'file fault /dev/zero'],
+    ['"$0" apply --neutral empty /dev/zero out undo', 5, 'file fault /dev/zero'],
+    ['"$0" play empty /dev/zero out', 5, 'file fault /dev/zero'],
     # A fault of IN comes before what another input is.
-    ['"$0" apply none over out undo', 5, 'file fault none: No such file or directory'],
-    ['"$0" play none over out', 5, 'file fault none: No such file or directory'],
+    ['"$0" apply none over out undo', 5, 'file fault none'],
+    ['"$0" play none over out', 5, 'file fault none'],
     # The longest file.
     ['"$0" canon longest back && cmp back empty', 0],
     # What memory does not hold.
@@ -64,9 +64,9 @@ my @shells = (
     ['ulimit -v 100000; "$0" play voices note out', 6, 'out of memory'],
     ['ulimit -v 100000; "$0" play empty late out', 6, 'out of memory'],
     # Paths.
-    ['"$0" show "$1"', 5, "file fault $long_path: File name too long"],
-    ['"$0" apply saw "$1" out undo', 5, "file fault $long_path: File name too long"],
-    ['"$0" play saw "$1" out', 5, "file fault $long_path: File name too long"],
+    ['"$0" show "$1"', 5, "file fault $long_path"],
+    ['"$0" apply saw "$1" out undo', 5, "file fault $long_path"],
+    ['"$0" play saw "$1" out', 5, "file fault $long_path"],
     ['"$0" canon saw "$1"', 5, "write fault $long_path after 0 bytes"],
     ['"$0" apply saw rename "$1" undo', 5, "write fault $long_path after 0 bytes"],
 );

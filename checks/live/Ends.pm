@@ -117,7 +117,7 @@ my @shells = (
     # (more frames than a pipe holds, so that none goes out behind the reader's end)
     ['mkfifo pipe; head -c 400 pipe > /dev/null & { cat lines; echo frames 100000; } | "$0" live tone pipe > answers; s=$?; rm pipe; exit $s', 5, qr{^sfbank: write fault pipe after \d+ bytes\n\z}, 'true'],
     ['mkfifo pipe; cat pipe > pcm & "$0" live tone pipe < lines > answers; s=$?; wait; rm pipe; exit $s', 0, qr{^\z}, 'cmp -s pcm whole.pcm && cmp -s answers whole.answers'],
-    ['"$0" live none pcm < lines > answers', 5, qr{^sfbank: file fault none\b[^\n]*\n\z}, '[ ! -s answers ] && [ ! -e pcm ]'],
+    ['"$0" live none pcm < lines > answers', 5, qr{^sfbank: file fault none\n\z}, '[ ! -s answers ] && [ ! -e pcm ]'],
     ['"$0" live lines pcm < lines > answers', 2, qr{^sfbank: read fault 1 NotRiff\n\z}, '[ ! -s answers ]'],
 );
 

@@ -1,4 +1,5 @@
-//! What no run of the program shows of it: that it is started without a word, and that an input fails behind its first bytes.
+//! What no run of the checks shows of the program: that it is started without a word or at a terminal, and that an input
+//! fails after its first bytes.
 
 use sf_base::Failure;
 use sfbank::{Unheard, run};
@@ -8,7 +9,13 @@ use std::io;
 use std::io::{ErrorKind, Read, Write};
 
 /// Runs the program on words, which spaces part, and returns its status.
-fn run_on<O: Write, E: Write>(rt: &HostRuntime, words: &str, output: &mut O, errors: &mut E) -> u8 {
+fn run_on<O: Write, E: Write>(
+    rt: &HostRuntime,
+    words: &str,
+    output: &mut O,
+    errors: &mut E,
+    is_terminal: bool,
+) -> u8 {
     let words: Result<Vec<&str>, AllocError> = words.split_ascii_whitespace().collect(rt.alloc());
     match words {
         Ok(words) => run(
@@ -17,6 +24,7 @@ fn run_on<O: Write, E: Write>(rt: &HostRuntime, words: &str, output: &mut O, err
             &mut b"".as_slice(),
             output,
             errors,
+            is_terminal,
             &mut Unheard,
         ),
         Err(AllocError) => 255,
@@ -27,12 +35,36 @@ fn run_on<O: Write, E: Write>(rt: &HostRuntime, words: &str, output: &mut O, err
 fn are_refused(rt: &HostRuntime, words: &str) -> bool {
     let mut output = Vec::new(rt.alloc());
     let mut errors = Vec::new(rt.alloc());
-    run_on(rt, words, &mut output, &mut errors) == 1 && output.is_empty() && !errors.is_empty()
+    run_on(rt, words, &mut output, &mut errors, false) == 1
+        && output.is_empty()
+        && !errors.is_empty()
 }
 
 #[test]
 fn no_word_is_no_run(rt: HostRuntime) {
     assert!(rt; are_refused(&rt, ""));
+}
+
+/// Whether a run on a bank that isn't there writes this on the standard error, and nothing else.
+fn misses_bank(rt: &HostRuntime, is_terminal: bool, line: &[u8]) -> bool {
+    let mut output = Vec::new(rt.alloc());
+    let mut errors = Vec::new(rt.alloc());
+    let status = run_on(
+        rt,
+        "sfbank show no/bank",
+        &mut output,
+        &mut errors,
+        is_terminal,
+    );
+    status == 5 && output.is_empty() && errors.as_slice() == line
+}
+
+#[test]
+fn a_terminal_has_the_reason_of_a_file_fault(rt: HostRuntime) {
+    let line = b"sfbank: file fault no/bank\n";
+    let reason = b"sfbank: file fault no/bank\n  No such file or directory\n";
+    assert!(rt; misses_bank(&rt, false, line));
+    assert!(rt; misses_bank(&rt, true, reason));
 }
 
 /// Gives its bytes three at a time, and then an error.

@@ -47,13 +47,22 @@ pub fn run_with_arguments<R: Env + Files + AllocGlobal, I: Read, O: Write, E: Wr
     input: &mut I,
     output: &mut O,
     errors: &mut E,
+    is_terminal: bool,
     progress: &mut P,
 ) -> u8
-    ensures { Ends (E.contents errors.old) (E.contents errors.new) result }
+    ensures { Ends is_terminal (E.contents errors.old) (E.contents errors.new) result }
 {
     match arguments(rt) {
-        Ok(words) => run(rt, words.as_slice(), input, output, errors, progress),
-        Err(fault) => tell(&fault, errors),
+        Ok(words) => run(
+            rt,
+            words.as_slice(),
+            input,
+            output,
+            errors,
+            is_terminal,
+            progress,
+        ),
+        Err(fault) => tell(&fault, is_terminal, errors),
     }
 }
 
@@ -82,21 +91,23 @@ fn arguments<R: Env + AllocGlobal>(rt: &R) -> Result<Vec<String>, Fault<'static>
 /// The lines of `live` come from `input`. What `show` and `explain` tell, the answers of `live`, help and the version
 /// go to `output`. `progress` hears how far `apply` and `play` are.
 /// Where it is not 0, one line (of clap's text, more) goes to `errors`, but none where the reader of an output
-/// closed it early. If that can't be written, the status is the same.
+/// closed it early. `is_terminal` says that `errors` is a terminal: there the reason why an input can't be read
+/// follows on a second line. If that can't be written, the status is the same.
 pub fn run<R: Files + AllocGlobal, S: AsStr, I: Read, O: Write, E: Write, P: Progress>(
     rt: &R,
     words: &[S],
     input: &mut I,
     output: &mut O,
     errors: &mut E,
+    is_terminal: bool,
     progress: &mut P,
 ) -> u8
-    ensures { Ends (E.contents errors.old) (E.contents errors.new) result }
+    ensures { Ends is_terminal (E.contents errors.old) (E.contents errors.new) result }
 {
     let mut watched = Watched::new(output);
     match serve(rt, words, input, &mut watched, progress) {
         Ok(()) => 0,
-        Err(fault) => tell(&fault.unread_if(watched.is_unread()), errors),
+        Err(fault) => tell(&fault.unread_if(watched.is_unread()), is_terminal, errors),
     }
 }
 

@@ -12,5 +12,12 @@ fn main(rt: HostRuntime) -> ExitCode {
     let mut input = Prompted::new(rt.stdin(), rt.stdout(), is_typed);
     let (mut output, mut errors) = (rt.stdout(), rt.stderr());
     let mut meter = Meter::new(&rt, rt.stderr(), is_watched);
-    ExitCode::from(run_with_arguments(&rt, &mut input, &mut output, &mut errors, &mut meter))
+    ExitCode::from(run_with_arguments(
+        &rt,
+        &mut input,
+        &mut output,
+        &mut errors,
+        is_watched,
+        &mut meter,
+    ))
 }

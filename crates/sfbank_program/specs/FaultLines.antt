@@ -1,5 +1,5 @@
 -- The lines by which faults are told, and the exit status of a run's fault.
-use Rattle.std.specs.Prelude.{ℕ, List, [], ◌∷◌, ◌++◌, codes, decimal, Option, Some, None}
+use Rattle.std.specs.Prelude.{ℕ, List, [], ◌∷◌, ◌++◌, codes, decimal, Bool, true, false, Option, Some, None}
 use Rattle.std.specs.List.{concat}
 use Rattle.bank_format.specs.declared.fault.ReadFault.{ReadFault}
 use Rattle.bank_format.specs.FaultNames as reading
@@ -103,12 +103,22 @@ abbrev pub write_line : List ℕ → ℕ → List ℕ
 write_line path written =
     concat (codes "sfbank: write fault " ∷ path ∷ codes " after " ∷ decimal written ∷ codes " bytes\n" ∷ [])
 
--- an input at a path that is not there as a whole, and why
-abbrev pub file_reason_line : List ℕ → List ℕ → List ℕ
-file_reason_line path reason = concat (codes "sfbank: file fault " ∷ path ∷ codes ": " ∷ reason ∷ codes "\n" ∷ [])
+-- an input at a path that can't be read whole
+abbrev pub file_line : List ℕ → List ℕ
+file_line path = concat (codes "sfbank: file fault " ∷ path ∷ codes "\n" ∷ [])
 
-abbrev pub file_line : List ℕ → InputFault → List ℕ
-file_line path fault = file_reason_line path (reason_of fault)
+-- why it can't be read, below that line
+abbrev pub reason_line : List ℕ → List ℕ
+reason_line reason = concat (codes "  " ∷ reason ∷ codes "\n" ∷ [])
+
+-- the reason is for a person at a terminal alone
+abbrev pub shown_reason : Bool → InputFault → List ℕ
+shown_reason true fault = reason_line (reason_of fault)
+shown_reason false fault = []
+
+-- what is written of an input that can't be read whole, on a terminal or elsewhere
+abbrev pub file_text : Bool → List ℕ → InputFault → List ℕ
+file_text is_terminal path fault = file_line path ++ shown_reason is_terminal fault
 
 -- an output that is rejected, by the number and the name of the fault, and its path
 abbrev pub rejected_line : ℕ → List ℕ → List ℕ → List ℕ

@@ -1,5 +1,5 @@
--- How a fault is told: a line on the standard error, and an exit status.
-use Rattle.std.specs.Prelude.{◌≡◌, ℕ, List, codes, take, ⊤, Option, ◌⊎◌}
+-- How a fault is reported: a line on the standard error, and an exit status.
+use Rattle.std.specs.Prelude.{◌≡◌, ℕ, List, codes, take, ⊤, Bool, Option, ◌⊎◌}
 use Rattle.std.specs.Io.KnownBytes.{Appends, Keeps}
 use Rattle.sfbank_program.specs.FaultLines as lines
 use Rattle.sfbank_program.specs.declared.fault.Fault.{Fault}
@@ -20,17 +20,18 @@ status_of Unread = 5
 abbrev pub GoesOut : Option (List ℕ) → Option (List ℕ) → List ℕ → Type 0
 GoesOut old new line = (written : ℕ) × Appends old new (take written line)
 
--- A fault is reported by its line, but a pipe that its reader closed by none. What clap says of refused words is its own.
-abbrev pub Tells : Option (List ℕ) → Option (List ℕ) → Fault → Type 0
-Tells old new (Words error) = ⊤
-Tells old new NotText = GoesOut old new (codes "error: a word is not text\n")
-Tells old new (Unexplained number) = GoesOut old new (lines.unexplained_line number)
-Tells old new (File path why) = GoesOut old new (lines.file_line path.now why)
-Tells old new (Output fault path) = GoesOut old new (lines.output_line path.now fault)
-Tells old new (Run fault path) = GoesOut old new (lines.fault_line path.now fault)
-Tells old new Unread = Keeps old new
+-- A fault is reported by its line; on a terminal the reason of a file fault follows. A pipe that its reader closed is
+-- reported by no line. What clap says of refused words is its own.
+abbrev pub Tells : Bool → Option (List ℕ) → Option (List ℕ) → Fault → Type 0
+Tells is_terminal old new (Words error) = ⊤
+Tells is_terminal old new NotText = GoesOut old new (codes "error: a word is not text\n")
+Tells is_terminal old new (Unexplained number) = GoesOut old new (lines.unexplained_line number)
+Tells is_terminal old new (File path why) = GoesOut old new (lines.file_text is_terminal path.now why)
+Tells is_terminal old new (Output fault path) = GoesOut old new (lines.output_line path.now fault)
+Tells is_terminal old new (Run fault path) = GoesOut old new (lines.fault_line path.now fault)
+Tells is_terminal old new Unread = Keeps old new
 
--- A run that is done tells nothing, with status 0. Any other tells its fault, with the status of it.
-abbrev pub Ends : Option (List ℕ) → Option (List ℕ) → ℕ → Type 0
-Ends old new status =
-    ((status ≡ 0) × Keeps old new) ⊎ ((fault : Fault) × (status ≡ status_of fault) × Tells old new fault)
+-- A run that is done writes nothing, with status 0. Any other reports its fault, with the status of it.
+abbrev pub Ends : Bool → Option (List ℕ) → Option (List ℕ) → ℕ → Type 0
+Ends is_terminal old new status =
+    ((status ≡ 0) × Keeps old new) ⊎ ((fault : Fault) × (status ≡ status_of fault) × Tells is_terminal old new fault)

@@ -3,7 +3,7 @@ ghost use Rattle.std.specs.Prelude.{◌≡◌, IfOk};
 ghost use Rattle.outputs.specs.Output.{Puts};
 ghost use Rattle.outputs.specs.Writing.{Writes};
 ghost use Rattle.sample_view.specs.Pieces.{joined_bytes};
-ghost use Rattle.sfbank_program.specs.FaultLines.{fault_line, status_of, read_line, first_read_line, second_read_line, read_text, script_line, notes_line, text_line, refused_line, not_neutral_line, named_line, recording_line, no_member_line, refusal_text, detail_text, step_text, limit_text, write_line, file_line, file_reason_line, output_line, rejected_line, unexplained_line};
+ghost use Rattle.sfbank_program.specs.FaultLines.{fault_line, status_of, read_line, first_read_line, second_read_line, read_text, script_line, notes_line, text_line, refused_line, not_neutral_line, named_line, recording_line, no_member_line, refusal_text, detail_text, step_text, limit_text, write_line, file_line, reason_line, shown_reason, file_text, output_line, rejected_line, unexplained_line};
 
 use crate::input_fault::InputFault;
 use crate::run_fault::RunFault;
@@ -260,38 +260,51 @@ fn put_write_fault<W: Write>(path: &str, written: u64, output: &mut Output<'_, W
     );
 }
 
-/// Writes the line of an input at a path that is not there as a whole.
+/// Writes the line of an input at a path that can't be read whole, and on a terminal its reason below.
 pub(crate) fn file_fault_text<W: Write>(
     path: &str,
     fault: InputFault,
+    is_terminal: bool,
     out: &mut W,
 ) -> Result<u64, WriteFault>
-    ensures { Writes (W.contents out.old) (W.contents out.new) (file_line path.now fault) result }
+    ensures { Writes (W.contents out.old) (W.contents out.new) (file_text is_terminal path.now fault) result }
 {
     let mut output = Output::to(out);
-    put_file_fault(path, fault, &mut output);
+    put_file_fault(path, fault, is_terminal, &mut output);
     output.end()
 }
 
-fn put_file_fault<W: Write>(path: &str, fault: InputFault, output: &mut Output<'_, W>)
-    ensures { Puts W.contents output.old output.new (file_line path.now fault) }
+fn put_file_fault<W: Write>(
+    path: &str,
+    fault: InputFault,
+    is_terminal: bool,
+    output: &mut Output<'_, W>,
+)
+    ensures { Puts W.contents output.old output.new (file_text is_terminal path.now fault) }
 {
-    put_file_reason(path, fault.reason(), output);
+    put_file_line(path, output);
+    put_shown_reason(fault, is_terminal, output);
 }
 
-fn put_file_reason<'t, W: Write>(path: &'t str, reason: &'t str, output: &mut Output<'_, W>)
-    ensures { Puts W.contents output.old output.new (file_reason_line path.now reason.now) }
+fn put_file_line<W: Write>(path: &str, output: &mut Output<'_, W>)
+    ensures { Puts W.contents output.old output.new (file_line path.now) }
 {
-    put_pieces(
-        &[
-            b"sfbank: file fault ",
-            path.as_bytes(),
-            b": ",
-            reason.as_bytes(),
-            b"\n",
-        ],
-        output,
-    );
+    put_pieces(&[b"sfbank: file fault ", path.as_bytes(), b"\n"], output);
+}
+
+// Programs that read the line expect nothing after it, so the reason is for a person at a terminal alone.
+fn put_shown_reason<W: Write>(fault: InputFault, is_terminal: bool, output: &mut Output<'_, W>)
+    ensures { Puts W.contents output.old output.new (shown_reason is_terminal fault) }
+{
+    if is_terminal {
+        put_reason(fault.reason(), output);
+    }
+}
+
+fn put_reason<W: Write>(reason: &str, output: &mut Output<'_, W>)
+    ensures { Puts W.contents output.old output.new (reason_line reason.now) }
+{
+    put_pieces(&[b"  ", reason.as_bytes(), b"\n"], output);
 }
 
 /// Writes the line of an output at a path that is rejected.

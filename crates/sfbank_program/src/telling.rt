@@ -11,10 +11,11 @@ use std::io::Write;
 
 const NOT_TEXT: &[u8] = b"error: a word is not text\n";
 
-/// Tells a fault, and returns the exit status, which is the same where it could not be told.
-pub fn tell<E: Write>(fault: &Fault<'_>, errors: &mut E) -> u8
+/// Reports a fault, and returns the exit status, which is the same where the fault could not be written. Where
+/// `errors` is a terminal, the reason of a file fault follows its line.
+pub fn tell<E: Write>(fault: &Fault<'_>, is_terminal: bool, errors: &mut E) -> u8
     ensures status { result ≡ status_of fault.now }
-    ensures told { Tells (E.contents errors.old) (E.contents errors.new) fault.now }
+    ensures told { Tells is_terminal (E.contents errors.old) (E.contents errors.new) fault.now }
 {
     match fault {
         Fault::Words(error) => {
@@ -30,7 +31,7 @@ pub fn tell<E: Write>(fault: &Fault<'_>, errors: &mut E) -> u8
             1
         }
         Fault::File(path, why) => {
-            let _ = file_fault_text(path, *why, errors);
+            let _ = file_fault_text(path, *why, is_terminal, errors);
             5
         }
         Fault::Output(fault, path) => {

@@ -1,4 +1,5 @@
+use Rattle.outputs.proofs.OutputLaws.{puts_then}
 use Rattle.sfbank_program.proofs.fault_lines.put_file_fault.Goals as goal
 
 pub returns : goal.returns
-returns g c = rw c.reason.ensures at c.put_file_reason.ensures
+returns g c = puts_then _ _ c.put_file_line.ensures c.put_shown_reason.ensures
