@@ -1,6 +1,6 @@
 //! A WAVE file whose name has a zero byte, as no file has.
 
-use sfbank::{Unheard, edit_run, import_run};
+use sfbank::{edit_run, import_run};
 use std::alloc::Global;
 use worked_files::{File, tone};
 
@@ -22,15 +22,7 @@ fn imports(alloc: Global, wave: &File, name: &[u8], script: &[u8], back: &[u8]) 
     let mut edited = Vec::new(alloc);
     let mut edited_back = Vec::new(alloc);
     import_run(alloc, tone.bytes(), wave.bytes(), name, &mut out, &mut undo).is_ok()
-        && edit_run(
-            alloc,
-            tone.bytes(),
-            script,
-            &mut edited,
-            &mut edited_back,
-            &mut Unheard,
-        )
-        .is_ok()
+        && edit_run(alloc, tone.bytes(), script, &mut edited, &mut edited_back).is_ok()
         && out.as_slice() == edited.as_slice()
         && undo.as_slice() == back
 }

@@ -1,7 +1,7 @@
 //! Writers that fail as no run of the program shows: what `put_all` leaves in them, and flushes.
 
 use outputs::{WriteFault, put_all};
-use sfbank::{RunFault, Unheard, Which, canon_run, edit_run, show_run};
+use sfbank::{RunFault, Which, canon_run, edit_run, show_run};
 use std::alloc::Global;
 use std::test::Fail;
 use worked_files::{FailingWriter, NEVER, RENAME, WriteFailure, renamed_saw, saw, tone, with_more};
@@ -79,8 +79,8 @@ fn put(alloc: Global, call: Call, file: &[u8], out: &mut FailingWriter) -> Resul
     match call {
         Call::Canon => canon_run(alloc, file, out),
         Call::Show => show_run(alloc, file, out),
-        Call::Edit => edit_run(alloc, file, SCRIPT, out, &mut other, &mut Unheard),
-        Call::Undo => match edit_run(alloc, file, SCRIPT, &mut other, out, &mut Unheard) {
+        Call::Edit => edit_run(alloc, file, SCRIPT, out, &mut other),
+        Call::Undo => match edit_run(alloc, file, SCRIPT, &mut other, out) {
             Err(RunFault::Write(Which::Undo, written)) => Err(RunFault::Write(Which::Out, written)),
             answer => answer,
         },
@@ -110,7 +110,7 @@ fn renames(
     out: &mut FailingWriter,
     undo: &mut FailingWriter,
 ) -> Result<(), RunFault> {
-    edit_run(alloc, saw().bytes(), RENAME, out, undo, &mut Unheard)
+    edit_run(alloc, saw().bytes(), RENAME, out, undo)
 }
 
 #[test]

@@ -6,7 +6,7 @@ use edit_script::{Line, parse, pool_of, print};
 use neutral_edits::{apply_neutral, is_neutral};
 use sf_reader::read;
 use sf_writer::write;
-use sfbank::{Unheard, edit_run};
+use sfbank::edit_run;
 use std::alloc::Global;
 use worked_files::{RENAME, RENAME_BACK, renamed_saw, saw, tone};
 
@@ -98,14 +98,7 @@ const HALVES: &[u8] = b"add-inst 0 \"z\" { 0 g 43 0..59 g 17 0 } { 0 g 43 60..12
 fn file_behind(alloc: Global, script: &[u8]) -> Vec<u8> {
     let mut out = Vec::new(alloc);
     let mut undo = Vec::new(alloc);
-    let _ = edit_run(
-        alloc,
-        tone().bytes(),
-        script,
-        &mut out,
-        &mut undo,
-        &mut Unheard,
-    );
+    let _ = edit_run(alloc, tone().bytes(), script, &mut out, &mut undo);
     out
 }
 

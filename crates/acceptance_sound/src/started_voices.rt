@@ -3,7 +3,7 @@
 use crate::players::{Act, TEN, edits};
 use note_list::Note;
 use sf_reader::read;
-use sfbank::{Unheard, edit_run};
+use sfbank::edit_run;
 use std::alloc::Global;
 use std::test::Fail;
 use voices::{Voice, VoiceFault};
@@ -27,14 +27,7 @@ type Frames<'a> = &'a [(i32, i32)];
 pub(crate) fn made(alloc: Global, script: &[u8]) -> Result<Vec<u8>, Fail> {
     let mut out = Vec::new(alloc);
     let mut undo = Vec::new(alloc);
-    edit_run(
-        alloc,
-        empty().bytes(),
-        script,
-        &mut out,
-        &mut undo,
-        &mut Unheard,
-    )?;
+    edit_run(alloc, empty().bytes(), script, &mut out, &mut undo)?;
     Ok(out)
 }
 

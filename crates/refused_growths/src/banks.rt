@@ -4,7 +4,7 @@ use bank_core::Bank;
 use sf_base::front_of;
 use sf_reader::read;
 use sf_writer::write;
-use sfbank::{RunFault, Unheard, canon_run, edit_run, play_run, show_run};
+use sfbank::{RunFault, canon_run, edit_run, play_run, show_run};
 use std::alloc::Global;
 use std::io;
 use std::io::{ErrorKind, Write};
@@ -144,10 +144,10 @@ pub(crate) fn edited(
     out: &mut Fixed,
     undo: &mut Fixed,
 ) -> Outcome {
-    match edit_run(alloc, file, script, out, undo, &mut Unheard) {
+    match edit_run(alloc, file, script, out, undo) {
         Ok(()) => Outcome::Done,
         Err(RunFault::Memory) if out.len == 0 && undo.len == 0 => {
-            Outcome::refused(edit_run(alloc, file, script, out, undo, &mut Unheard).is_ok())
+            Outcome::refused(edit_run(alloc, file, script, out, undo).is_ok())
         }
         Err(_) => Outcome::Wrong,
     }
@@ -188,10 +188,10 @@ fn is_listing(out: &Fixed) -> bool {
 pub(crate) fn playing_run(alloc: Global) -> Outcome {
     let notes = b"0 2 0 0 60 127\n";
     let mut out = fixed_writer();
-    match play_run(alloc, BANK, notes, &mut out, &mut Unheard) {
+    match play_run(alloc, BANK, notes, &mut out) {
         Ok(()) => Outcome::done(is_wave(&out)),
         Err(RunFault::Memory) if out.len == 0 => {
-            let again = play_run(alloc, BANK, notes, &mut out, &mut Unheard);
+            let again = play_run(alloc, BANK, notes, &mut out);
             Outcome::refused(again.is_ok() && is_wave(&out))
         }
         Err(_) => Outcome::Wrong,

@@ -22,8 +22,8 @@ both banks = record { first = banks.0; second = banks.1 }
 -- the fault of a file, if it has one, else what comes after it was read
 abbrev pub after_file : {X : Type 0} → (ReadFault → RunFault) → Option ReadFault → Result X RunFault
     → Result X RunFault
-after_file told (Some f) r = Err (told f)
-after_file told None r = r
+after_file reported (Some f) r = Err (reported f)
+after_file reported None r = r
 
 abbrev pub if_same : Bool → Pair → Result Pair RunFault
 if_same true banks = Ok banks

@@ -8,7 +8,7 @@ use crate::deliver::deliver;
 use crate::plan::make_plan;
 use command_words::Forms;
 use edit_script::pool_of;
-use progress::Progress;
+use progress::{Progress, Unheard};
 use sf_reader::read;
 use sfbank_program::RunFault;
 use std::alloc::Global;
@@ -18,9 +18,28 @@ use std::io::Write;
 /// that takes the edits back to `undo`, each whole and flushed.
 ///
 /// Where the file has a fault, the script has one, or an edit is refused, not one byte goes to either
-/// writer; so it is when out of memory. A writer's fault tells how many bytes of its text it took. As the
-/// lines are done, `progress` hears how far they are.
-pub fn edit_run<W: Write, V: Write, P: Progress>(
+/// writer; so it is when out of memory. A writer's fault tells how many bytes of its text it took.
+pub fn edit_run<W: Write, V: Write>(
+    alloc: Global,
+    file: &[u8],
+    script: &[u8],
+    out: &mut W,
+    undo: &mut V,
+) -> Result<(), RunFault>
+    // The outcome of these bytes goes out: of the file, else of the script, else of the first refused
+    // line, else both texts.
+    ensures runs { Runs (record { out = W.contents out.old; out_new = W.contents out.new; undo = V.contents undo.old; undo_new = V.contents undo.new })
+        (outcome file.now script.now) result }
+    // Run on the written file alone, the undo text writes the canonical file of the first bank.
+    ensures restores { IsUndone file.now script.now }
+    // Each list of notes sounds on the file that is written then as on the first.
+    ensures sounds { SoundsAgain file.now script.now }
+{
+    edit_run_with_progress(alloc, file, script, out, undo, &mut Unheard)
+}
+
+/// Does what `edit_run` does. As the lines are done, `progress` hears how far they are.
+pub fn edit_run_with_progress<W: Write, V: Write, P: Progress>(
     alloc: Global,
     file: &[u8],
     script: &[u8],

@@ -4,7 +4,7 @@ ghost use Rattle.sfbank.specs.Written.{Runs};
 
 use super::checks::{apart, no_bank};
 use super::endings::end_both_at;
-use crate::edit::{edit_run, neutral_run};
+use crate::edit::{edit_run_with_progress, neutral_run};
 use command_words::{ApplyPaths, Forms};
 use progress::Progress;
 use sfbank_program::{Fault, OutputFile, RunFault, read_file};
@@ -53,7 +53,7 @@ fn run_asked<W: Write, V: Write, P: Progress>(
         (outcome_of forms file.now script.now) result }
 {
     match forms {
-        Forms::Every => edit_run(alloc, file, script, out, undo, progress),
+        Forms::Every => edit_run_with_progress(alloc, file, script, out, undo, progress),
         Forms::Neutral => neutral_run(alloc, file, script, out, undo, progress),
     }
 }

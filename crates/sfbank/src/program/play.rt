@@ -1,7 +1,7 @@
 //! The command `play`.
 use super::checks::{apart, no_bank};
 use super::endings::end_at;
-use crate::play::play_run;
+use crate::play::play_run_with_progress;
 use command_words::PlayPaths;
 use progress::Progress;
 use sfbank_program::{Fault, Sink, read_file};
@@ -21,7 +21,7 @@ pub(crate) fn play<'a, R: Files + AllocGlobal, O: Write, P: Progress>(
     let file = read_file(rt, paths.input)?;
     let notes = read_file(rt, paths.notes)?;
     let mut out = Sink::new(rt, paths.out, output)?;
-    let run = play_run(
+    let run = play_run_with_progress(
         rt.alloc(),
         file.as_slice(),
         notes.as_slice(),

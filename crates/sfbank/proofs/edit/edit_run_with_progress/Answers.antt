@@ -1,7 +1,7 @@
 use Rattle.sfbank.proofs.Neutral.{of_every}
 use Rattle.sfbank.proofs.Restores.{are_bytes, restores}
 use Rattle.sfbank.proofs.Sounds.{sounds_again}
-use Rattle.sfbank.proofs.edit.edit_run.Goals as goal
+use Rattle.sfbank.proofs.edit.edit_run_with_progress.Goals as goal
 
 pub returns-clause-runs : goal.returns-clause-runs
 returns-clause-runs g c = rw (← of_every c.args.file.now c.args.script.now) c.run_script.ensures.runs
