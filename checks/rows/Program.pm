@@ -106,12 +106,22 @@ sub try_memory {
     tell('out of memory', $status == 6 && $told eq "sfbank: out of memory\n" && !-e 'out' ? undef : "status $status with '$told'");
 }
 
+# A terminal, on which the reason of an input that can't be read follows its line.
+sub try_terminal {
+    local $ENV{PROGRAM} = program_of_runs();
+    my $told = qx{script -qec '"\$PROGRAM" show missing' /dev/null < /dev/null};
+    my $status = $? >> 8;
+    my $wanted = "sfbank: file fault missing\r\n  No such file or directory\r\n";
+    tell('a terminal', $status == 5 && $told eq $wanted ? undef : "status $status with '$told'");
+}
+
 sub try_program {
     my ($here) = @_;
     try_output(@$_) for rows_of("$here/outputs");
     try_words(@$_) for rows_of("$here/words");
     try_printed(@$_) for rows_of("$here/printed");
     try_memory();
+    try_terminal();
 }
 
 1;
