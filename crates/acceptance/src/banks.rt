@@ -18,9 +18,7 @@ use worked_files::{File, many_points, tone, wide};
 
 /// What is told of the members of the wide bank.
 fn tells_members(bank: &Bank<'_>) -> bool {
-    let counts = [List::Presets, List::Instruments, List::Samples].map(
-        |list| bank.count(list),
-    );
+    let counts = [List::Presets, List::Instruments, List::Samples].map(|list| bank.count(list));
     bank.minor() == 4
         && bank.info(InfoId::Engine) == b"EMU8000".as_slice()
         && bank.info(InfoId::Software).is_empty()

@@ -28,22 +28,13 @@ fn frames_of_times(rt: HostRuntime) {
         frames(8000),
     ];
     assert!(rt; worked == [0, 43, 22050, 44100, 4_480_284]);
-    let ends = [
-        frames(i64::MIN),
-        frames(8001),
-        frames(i64::MAX),
-    ];
+    let ends = [frames(i64::MIN), frames(8001), frames(i64::MAX)];
     assert!(rt; ends == [0, 4_480_284, 4_480_284]);
 }
 
 #[test]
 fn attenuations_of_velocities(rt: HostRuntime) {
-    let worked = [
-        velatt(127),
-        velatt(64),
-        velatt(0),
-        velatt(255),
-    ];
+    let worked = [velatt(127), velatt(64), velatt(0), velatt(255)];
     assert!(rt; worked == [0, 119, 960, 0]);
 }
 
