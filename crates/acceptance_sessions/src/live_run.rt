@@ -4,7 +4,7 @@ ghost use Rattle.std.specs.Prelude.{None};
 use bank_core::Bank;
 use edit_forms::Edit;
 use live_lines::Paths;
-use live_sessions::{SaveFault, Saves, live_run, put_undo};
+use live_sessions::{InputLines, SaveFault, Saves, live_run, put_undo};
 use outputs::Output;
 use sf_writer::put_bank;
 
@@ -110,7 +110,7 @@ impl Saves for Kept {
 #[test]
 fn a_session_is_answered(rt: HostRuntime) {
     let alloc = rt.alloc();
-    let mut input = LINES;
+    let mut input = InputLines::new(LINES);
     let mut answers = Vec::new(alloc);
     let mut pcm = Vec::new(alloc);
     let mut kept = Kept {

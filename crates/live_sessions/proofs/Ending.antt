@@ -1,6 +1,9 @@
 -- Lines that pass one after the other, and the end of a session.
-use Rattle.std.proofs.Common.{◌≡◌, inl, inr, ℕ, Bool, true, false, ◌||◌, List, [], ◌∷◌, ◌++◌, map, Option, Some}
-use Rattle.std.proofs.Common.{None, Result, Ok, Err, refl, sym, ap, subst, ◌∙◌, append-nil, append_assoc}
+use Rattle.std.proofs.Common.{◌≡◌, ◌≢◌, inl, inr, ℕ, ◌+◌, Bool, true, false, ◌||◌, List, [], ◌∷◌, ◌++◌, map, length}
+use Rattle.std.proofs.Common.{Option, Some, None, IsSomeAnd, Result, Ok, Err, refl, sym, ap, subst, ◌∙◌, append-nil}
+use Rattle.std.proofs.Common.{append_assoc, length-append}
+use Rattle.std.specs.declared.io.ErrorKind.{ErrorKind}
+use Rattle.std.specs.declared.io.ErrorKind.TheVariants.{OutOfMemory}
 use Rattle.std.specs.List.{flat_map, list_any}
 use Rattle.std.specs.Io.KnownBytes.{Appends, IsAtEnd}
 use Rattle.std.proofs.KnownBytes.{Appends-nil, Appends-trans}
@@ -16,7 +19,8 @@ use Rattle.live_sessions.specs.declared.fault.LiveFault.TheVariants as fault
 use Rattle.live_sessions.specs.Saved.{Saved, Adds}
 use Rattle.live_sessions.specs.Turns.{LineIs, Turn, Around, asked, text_in, bytes_in, saves_in, ends_in, AreTurns}
 use Rattle.live_sessions.specs.Turns.{Reads, Passes, Passed}
-use Rattle.live_sessions.specs.Runs.{OnlyReads, EndsWell, EndsBy, Plays, AnswersOr, GoesOn, Goes, IsReadFault}
+use Rattle.live_sessions.specs.Runs.{OnlyReads, EndsWell, ReadsPart, Unread, EndsBy, most_lines, Plays, AnswersOr, GoesOn}
+use Rattle.live_sessions.specs.Runs.{Goes, IsReadFault}
 use Rattle.live_sessions.proofs.Doing.{adds_nothing, adds_then}
 use Rattle.live_sessions.proofs.Turning.{around}
 
@@ -31,10 +35,10 @@ passes_read : (counts : Counts) (t : Turn) (i j o n p q : Option (List ℕ)) (v 
 passes_read counts t i j o n p q v w h = record { is = h.is; answers = h.answers; pcm = h.pcm; saved = h.saved }
 
 pub line_goes : (counts : Counts) (line : List ℕ) (old new : Live) (i j o n p q : Option (List ℕ))
-    (v w : Option (List Saved)) (r : Result Next LiveFault)
+    (v w : Option (List Saved)) (why : Option ErrorKind) (r : Result Next LiveFault)
     → Reads i j (line ∷ []) → AnswersOr counts line old new (around o p v) (around n q w) r
-    → Goes counts old new (with_input i o p v) (with_input j n q w) r
-line_goes counts line old new i j o n p q v w (Ok next.Line) read h = record {
+    → Goes counts old new (with_input i o p v) (with_input j n q w) why r
+line_goes counts line old new i j o n p q v w why (Ok next.Line) read h = record {
   line = line;
   input = read;
   answers =
@@ -51,14 +55,14 @@ line_goes counts line old new i j o n p q v w (Ok next.Line) read h = record {
         ends = h.ends;
       };
 }
-line_goes counts line old new i j o n p q v w (Ok next.End) read h = inr (record {
+line_goes counts line old new i j o n p q v w why (Ok next.End) read h = inr (record {
   turn = h.turn;
   begins = h.begins;
   input = subst (λ (l : List ℕ). Reads i j (l ∷ [])) (sym h.said) read;
   passes = passes_read counts h.turn i j o n p q v w h.passes;
   ends = h.ends;
 })
-line_goes counts line old new i j o n p q v w (Err (fault.Answers k)) read h = record {
+line_goes counts line old new i j o n p q v w why (Err (fault.Answers k)) read h = record {
   turn = h.turn;
   begins = h.begins;
   input = subst (λ (l : List ℕ). Reads i j (l ∷ [])) (sym h.said) read;
@@ -73,37 +77,49 @@ line_goes counts line old new i j o n p q v w (Err (fault.Answers k)) read h = r
         saved = h.stops.saved;
       };
 }
-line_goes counts line old new i j o n p q v w (Err (fault.Pcm k)) read h = record {
+line_goes counts line old new i j o n p q v w why (Err (fault.Pcm k)) read h = record {
   turn = h.turn;
   begins = h.begins;
   input = subst (λ (l : List ℕ). Reads i j (l ∷ [])) (sym h.said) read;
   stops = record { request = h.stops.request; is = h.stops.is; stops = h.stops.stops; answers = h.stops.answers };
 }
-line_goes counts line old new i j o n p q v w (Err (fault.File f)) read h = absurd h.stops
-line_goes counts line old new i j o n p q v w (Err fault.Memory) read h = absurd h.stops
-line_goes counts line old new i j o n p q v w (Err fault.Input) read h = absurd h.stops
+line_goes counts line old new i j o n p q v w why (Err (fault.File f)) read h = absurd h.stops
+line_goes counts line old new i j o n p q v w why (Err fault.Memory) read h = absurd h.stops
+line_goes counts line old new i j o n p q v w why (Err fault.Input) read h = absurd h.stops
 
 only_reads : (i j o p : Option (List ℕ)) (v : Option (List Saved)) → OnlyReads (with_input i o p v) (with_input j o p v)
 only_reads i j o p v = record { answers = refl; pcm = refl; saved = refl }
 
-pub unread : (counts : Counts) (old new : Live) (i j o p : Option (List ℕ)) (v : Option (List Saved)) (f : LiveFault)
-    → IsReadFault f
-    → Goes counts old new (with_input i o p v) (with_input j o p v) (Err f)
-unread counts old new i j o p v fault.Memory h = only_reads i j o p v
-unread counts old new i j o p v fault.Input h = only_reads i j o p v
-unread counts old new i j o p v (fault.File f) h = absurd h
-unread counts old new i j o p v (fault.Answers k) h = absurd h
-unread counts old new i j o p v (fault.Pcm k) h = absurd h
+no_line : (i j o p : Option (List ℕ)) (v : Option (List Saved)) (why : Option ErrorKind) (P : ErrorKind → Type 0)
+    (kind : ErrorKind) → why ≡ Some kind → P kind → ReadsPart i j
+    → Unread (with_input i o p v) (with_input j o p v) why P
+no_line i j o p v why P kind e h part = record {
+  failed = subst (λ (w : Option ErrorKind). IsSomeAnd w P) (sym e) h;
+  part = part;
+  only = only_reads i j o p v;
+}
 
-pub at_end : (counts : Counts) (old new : Live) (i j o p : Option (List ℕ)) (v : Option (List Saved)) → IsAtEnd i
-    → Goes counts old new (with_input i o p v) (with_input j o p v) (Ok next.End)
-at_end counts old new i j o p v h = inl (h, only_reads i j o p v)
+pub unread : (counts : Counts) (old new : Live) (i j o p : Option (List ℕ)) (v : Option (List Saved))
+    (why : Option ErrorKind) (kind : ErrorKind) (f : LiveFault) → why ≡ Some kind → IsReadFault kind f → ReadsPart i j
+    → Goes counts old new (with_input i o p v) (with_input j o p v) why (Err f)
+unread counts old new i j o p v why kind fault.Memory e h part =
+    no_line i j o p v why (λ k. k ≡ OutOfMemory) kind e h part
+unread counts old new i j o p v why kind fault.Input e h part =
+    no_line i j o p v why (λ k. k ≢ OutOfMemory) kind e h part
+unread counts old new i j o p v why kind (fault.File f) e h part = absurd h
+unread counts old new i j o p v why kind (fault.Answers k) e h part = absurd h
+unread counts old new i j o p v why kind (fault.Pcm k) e h part = absurd h
+
+pub at_end : (counts : Counts) (old : Live) (i j o p : Option (List ℕ)) (v : Option (List Saved)) → IsAtEnd i
+    → EndsWell counts old (with_input i o p v) (with_input j o p v)
+at_end counts old i j o p v h = inl (h, only_reads i j o p v)
 
 -- ---- lines in a row
 
--- lines passed
-pub record Reached (counts : Counts) (first last : Live) (old new : Around) : Type 0 where
+-- so many lines passed
+pub record Reached (counts : Counts) (n : ℕ) (first last : Live) (old new : Around) : Type 0 where
   pub turns : List Turn
+  pub count : length turns ≡ n
   pub passed : Passed counts first turns last old new
 
 reads_nothing : (i : Option (List ℕ)) → Reads i i []
@@ -137,9 +153,10 @@ more_of : {X : Type 0} (f : Turn → List X) (ts : List Turn) (t : Turn)
     → flat_map f (ts ++ t ∷ []) ≡ flat_map f ts ++ f t
 more_of f ts t = flat_map-append f ts (t ∷ []) ∙ ap (λ (xs : List _). flat_map f ts ++ xs) (one_of f t)
 
-pub reached_first : (counts : Counts) (first : Live) (a : Around) → Reached counts first first a a
+pub reached_first : (counts : Counts) (first : Live) (a : Around) → Reached counts 0 first first a a
 reached_first counts first a = record {
   turns = [];
+  count = refl;
   passed = record {
     turns = refl;
     going = refl;
@@ -150,13 +167,14 @@ reached_first counts first a = record {
   };
 }
 
-pub reached_next : (counts : Counts) (first last new : Live) (a b c : Around) → Reached counts first last a b
-    → GoesOn counts last new b c → Reached counts first new a c
-reached_next counts first last new a b c r g =
+pub reached_next : (counts : Counts) (n : ℕ) (first last new : Live) (a b c : Around) → Reached counts n first last a b
+    → GoesOn counts last new b c → Reached counts (n + 1) first new a c
+reached_next counts n first last new a b c r g =
     let t : Turn = g.answers.turn in
     let ts : List Turn = r.turns in
     record {
       turns = ts ++ t ∷ [];
+      count = length-append ts (t ∷ []) ∙ ap (λ (k : ℕ). k + 1) r.count;
       passed = record {
         turns =
             subst (λ (s : Live). AreTurns first (ts ++ t ∷ []) s) g.answers.leaves
@@ -178,17 +196,23 @@ reached_next counts first last new a b c r g =
       };
     }
 
-pub plays_to : (counts : Counts) (first last : Live) (a b c : Around) (r : Result (Unit {0}) LiveFault)
-    → Reached counts first last a b → EndsBy counts last b c r → Plays counts first a c r
-plays_to counts first last a b c r h e =
-    record { turns = h.turns; last = last; between = b; passed = h.passed; end = e }
+pub plays_to : (counts : Counts) (n : ℕ) (first last : Live) (a b c : Around) (why : Option ErrorKind)
+    (r : Result (Unit {0}) LiveFault)
+    → Reached counts n first last a b → EndsBy counts last b c why r → Plays counts first a c why r
+plays_to counts n first last a b c why r h e =
+    record { turns = h.turns; last = last; between = b; passed = h.passed; end = inl e }
+
+pub plays_full : (counts : Counts) (n : ℕ) (first last : Live) (a b : Around) (why : Option ErrorKind)
+    → Reached counts n first last a b → n ≡ most_lines → Plays counts first a b why (Err fault.Input)
+plays_full counts n first last a b why h e =
+    record { turns = h.turns; last = last; between = b; passed = h.passed; end = inr (h.count ∙ e, refl) }
 
 -- ---- the whole run
 
-pub goes_on : (counts : Counts) (x : Next) (old new : Live) (a b : Around) → x ≡ next.Line
-    → Goes counts old new a b (Ok x) → GoesOn counts old new a b
-goes_on counts x old new a b e h = subst (λ (y : Next). Goes counts old new a b (Ok y)) e h
+pub goes_on : (counts : Counts) (x : Next) (old new : Live) (a b : Around) (why : Option ErrorKind) → x ≡ next.Line
+    → Goes counts old new a b why (Ok x) → GoesOn counts old new a b
+goes_on counts x old new a b why e h = subst (λ (y : Next). Goes counts old new a b why (Ok y)) e h
 
-pub ends_well : (counts : Counts) (x : Next) (old new : Live) (a b : Around) → x ≡ next.End
-    → Goes counts old new a b (Ok x) → EndsWell counts old a b
-ends_well counts x old new a b e h = subst (λ (y : Next). Goes counts old new a b (Ok y)) e h
+pub ends_well : (counts : Counts) (x : Next) (old new : Live) (a b : Around) (why : Option ErrorKind) → x ≡ next.End
+    → Goes counts old new a b why (Ok x) → EndsWell counts old a b
+ends_well counts x old new a b why e h = subst (λ (y : Next). Goes counts old new a b why (Ok y)) e h

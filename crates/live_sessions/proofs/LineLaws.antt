@@ -7,8 +7,6 @@ use Rattle.std.specs.Io.BufRead.{take_through, drop_through, DropsThrough}
 use Rattle.line_tokens.specs.Lines.{is_feed, onto, lines_of}
 use Rattle.live_lines.specs.Requests.{HasNoFeed}
 use Rattle.live_sessions.specs.Turns.{Reads}
-use Rattle.live_sessions.specs.declared.requests.Next.{Next}
-use Rattle.live_sessions.specs.declared.requests.Next.TheVariants as next
 use Rattle.live_sessions.specs.Runs.{IsFirst, IsRead}
 
 no_lines : lines_of [] ≡ []
@@ -115,13 +113,13 @@ pub read_after : (old new : Option (List ℕ)) (buffer bytes : List ℕ) → buf
 read_after old new buffer bytes e some h d =
     read_one old new bytes some (subst (λ (b : List ℕ). IfSome old (λ xs. bytes ≡ b ++ take_through 10 xs)) e h) d
 
-pub read_some : (x : Next) (old new : Option (List ℕ)) (bytes text line : List ℕ) → x ≡ next.Line
-    → IsRead x old new bytes → text ≡ bytes → IsFirst (lines_of text) line → Reads old new (line ∷ [])
-read_some x old new bytes text line e h same first_is =
+pub read_some : (b : Bool) (old new : Option (List ℕ)) (bytes text line : List ℕ) → b ≡ true
+    → IsRead b old new bytes → text ≡ bytes → IsFirst (lines_of text) line → Reads old new (line ∷ [])
+read_some b old new bytes text line e h same first_is =
     let at : (l : List ℕ) → IsFirst (lines_of bytes) l → Reads old new (l ∷ []) =
-    subst (λ (y : Next). IsRead y old new bytes) e h in
+    subst (λ (c : Bool). IsRead c old new bytes) e h in
     at line (subst (λ (t : List ℕ). IsFirst (lines_of t) line) same first_is)
 
-pub read_none : (x : Next) (old new : Option (List ℕ)) (bytes : List ℕ) → x ≡ next.End → IsRead x old new bytes
+pub read_none : (b : Bool) (old new : Option (List ℕ)) (bytes : List ℕ) → b ≡ false → IsRead b old new bytes
     → IsAtEnd old
-read_none x old new bytes e h = subst (λ (y : Next). IsRead y old new bytes) e h
+read_none b old new bytes e h = subst (λ (c : Bool). IsRead c old new bytes) e h

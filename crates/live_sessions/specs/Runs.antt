@@ -1,6 +1,10 @@
 -- How a session ends.
-use Rattle.std.specs.Prelude.{◌≡◌, ◌⊎◌, ℕ, Bool, true, false, List, [], ◌∷◌, Option, Some, Result, Ok, Err}
-use Rattle.std.specs.Io.KnownBytes.{IsAtEnd}
+use Rattle.std.specs.Prelude.{◌≡◌, ◌≢◌, ◌⊎◌, ℕ, ◌-◌, ◌^◌, Bool, true, false, List, [], ◌∷◌, length, Option, Some}
+use Rattle.std.specs.Prelude.{IsSomeAnd, Result, Ok, Err}
+use Rattle.std.specs.declared.io.ErrorKind.{ErrorKind}
+use Rattle.std.specs.declared.io.ErrorKind.TheVariants.{OutOfMemory}
+use Rattle.std.specs.Io as io
+use Rattle.std.specs.Io.KnownBytes.{Consumes, IsAtEnd}
 use Rattle.line_tokens.specs.Lines.{lines_of}
 use Rattle.live_sessions.specs.Telling.{is_last}
 use Rattle.bank_parts.specs.declared.parts.Parts.{Parts}
@@ -15,6 +19,10 @@ use Rattle.live_sessions.specs.Steps.{started_with}
 use Rattle.live_sessions.specs.Turns.{Turn, Around, Reads, Passes, Passed, StopsAt, ends_in}
 
 -- ---- the last line
+
+-- the byte that ends a line
+abbrev pub line_feed : ℕ
+line_feed = 10
 
 -- nothing went out, and no line was answered
 pub record OnlyReads (between new : Around) : Type 0 where
@@ -41,45 +49,66 @@ pub record Stops (counts : Counts) (last : Live) (between new : Around) (why : L
 abbrev pub EndsWell : Counts → Live → Around → Around → Type 0
 EndsWell counts last between new = (IsAtEnd between.input × OnlyReads between new) ⊎ Quits counts last between new
 
--- the end, or the fault: no further line could be read, or there was no memory for it, or a writer fails
-abbrev pub EndsBy : Counts → Live → Around → Around → Result (Unit {0}) LiveFault → Type 0
-EndsBy counts last between new (Ok u) = EndsWell counts last between new
-EndsBy counts last between new (Err (fault.File f)) = ⊥
-EndsBy counts last between new (Err fault.Memory) = OnlyReads between new
-EndsBy counts last between new (Err fault.Input) = OnlyReads between new
-EndsBy counts last between new (Err (fault.Answers n)) = Stops counts last between new (fault.Answers n)
-EndsBy counts last between new (Err (fault.Pcm n)) = Stops counts last between new (fault.Pcm n)
+-- these known bytes were read, and are a part of one line at most: a line feed ends them, if there is one
+abbrev pub ReadsPart : Option (List ℕ) → Option (List ℕ) → Type 0
+ReadsPart old new = (bytes : List ℕ) × Consumes old new bytes × io.StopsAt bytes line_feed
+
+-- no further line was read, and this is why
+pub record Unread (between new : Around) (failure : Option ErrorKind) (why : ErrorKind → Type 0) : Type 0 where
+  pub failed : IsSomeAnd failure why
+  pub part : ReadsPart between.input new.input
+  pub only : OnlyReads between new
+
+-- the end, or the fault: the last read failed as memory was out, or for another reason, or a writer fails
+abbrev pub EndsBy : Counts → Live → Around → Around → Option ErrorKind → Result (Unit {0}) LiveFault → Type 0
+EndsBy counts last between new failure (Ok u) = EndsWell counts last between new
+EndsBy counts last between new failure (Err (fault.File f)) = ⊥
+EndsBy counts last between new failure (Err fault.Memory) = Unread between new failure (λ kind. kind ≡ OutOfMemory)
+EndsBy counts last between new failure (Err fault.Input) = Unread between new failure (λ kind. kind ≢ OutOfMemory)
+EndsBy counts last between new failure (Err (fault.Answers n)) = Stops counts last between new (fault.Answers n)
+EndsBy counts last between new failure (Err (fault.Pcm n)) = Stops counts last between new (fault.Pcm n)
+
+-- the lines that a session reads at most
+abbrev pub most_lines : ℕ
+most_lines = 2 ^ 64 - 1
+
+-- so many lines passed, and nothing is read after them
+abbrev pub IsFull : List Turn → Around → Around → Result (Unit {0}) LiveFault → Type 0
+IsFull turns between new (Err fault.Input) = (length turns ≡ most_lines) × (new ≡ between)
+IsFull turns between new other = ⊥
 
 -- ---- the whole session
 
 -- lines passed, and then it ended
-pub record Plays (counts : Counts) (first : Live) (old new : Around) (r : Result (Unit {0}) LiveFault) : Type 0 where
+pub record Plays (counts : Counts) (first : Live) (old new : Around) (failure : Option ErrorKind)
+    (r : Result (Unit {0}) LiveFault) : Type 0 where
   pub turns : List Turn
   pub last : Live
   pub between : Around
   pub passed : Passed counts first turns last old between
-  pub end : EndsBy counts last between new r
+  pub end : EndsBy counts last between new failure r ⊎ IsFull turns between new r
 
 -- the file is read as a bank, with which the session begins
-pub record PlaysBank (file : List ℕ) (old new : Around) (r : Result (Unit {0}) LiveFault) : Type 0 where
+pub record PlaysBank (file : List ℕ) (old new : Around) (failure : Option ErrorKind) (r : Result (Unit {0}) LiveFault)
+    : Type 0 where
   pub bank : Parts
   pub counts : Counts
   pub reads : ReadsAs file bank counts
-  pub plays : Plays counts (started_with bank) old new r
+  pub plays : Plays counts (started_with bank) old new failure r
 
 -- nothing was read of the input, and nothing went out
 abbrev pub IsUntouched : Around → Around → Type 0
 IsUntouched old new = (new.input ≡ old.input) × OnlyReads old new
 
 -- So a session answers. Where its file is no bank, or memory is out as that is read, nothing is read of the input and
--- nothing goes out.
-abbrev pub Runs : List ℕ → Around → Around → Result (Unit {0}) LiveFault → Type 0
-Runs file old new (Ok u) = PlaysBank file old new (Ok u)
-Runs file old new (Err (fault.File f)) = (fault_of file ≡ Some f) × IsUntouched old new
-Runs file old new (Err fault.Memory) = IsUntouched old new ⊎ PlaysBank file old new (Err fault.Memory)
-Runs file old new (Err fault.Input) = PlaysBank file old new (Err fault.Input)
-Runs file old new (Err (fault.Answers n)) = PlaysBank file old new (Err (fault.Answers n))
-Runs file old new (Err (fault.Pcm n)) = PlaysBank file old new (Err (fault.Pcm n))
+-- nothing goes out. `failure` is why the last read of the input failed, if it did.
+abbrev pub Runs : List ℕ → Around → Around → Option ErrorKind → Result (Unit {0}) LiveFault → Type 0
+Runs file old new failure (Ok u) = PlaysBank file old new failure (Ok u)
+Runs file old new failure (Err (fault.File f)) = (fault_of file ≡ Some f) × IsUntouched old new
+Runs file old new failure (Err fault.Memory) = IsUntouched old new ⊎ PlaysBank file old new failure (Err fault.Memory)
+Runs file old new failure (Err fault.Input) = PlaysBank file old new failure (Err fault.Input)
+Runs file old new failure (Err (fault.Answers n)) = PlaysBank file old new failure (Err (fault.Answers n))
+Runs file old new failure (Err (fault.Pcm n)) = PlaysBank file old new failure (Err (fault.Pcm n))
 
 -- ---- one line of it
 
@@ -111,10 +140,10 @@ pub record GoesOn (counts : Counts) (live live_new : Live) (old new : Around) : 
   pub answers : Answers counts line live live_new old new false
 
 -- what becomes of the next line
-abbrev pub Goes : Counts → Live → Live → Around → Around → Result Next LiveFault → Type 0
-Goes counts live live_new old new (Ok next.Line) = GoesOn counts live live_new old new
-Goes counts live live_new old new (Ok next.End) = EndsWell counts live old new
-Goes counts live live_new old new (Err why) = EndsBy counts live old new (Err why)
+abbrev pub Goes : Counts → Live → Live → Around → Around → Option ErrorKind → Result Next LiveFault → Type 0
+Goes counts live live_new old new failure (Ok next.Line) = GoesOn counts live live_new old new
+Goes counts live live_new old new failure (Ok next.End) = EndsWell counts live old new
+Goes counts live live_new old new failure (Err why) = EndsBy counts live old new failure (Err why)
 
 -- ---- how it is read
 
@@ -124,12 +153,12 @@ IsFirst [] line = line ≡ []
 IsFirst (l ∷ ls) line = line ≡ l
 
 -- These bytes were read up to a line feed or the end: they are one line. Or there are none.
-abbrev pub IsRead : Next → Option (List ℕ) → Option (List ℕ) → List ℕ → Type 0
-IsRead next.Line old new bytes = (line : List ℕ) → IsFirst (lines_of bytes) line → Reads old new (line ∷ [])
-IsRead next.End old new bytes = IsAtEnd old
+abbrev pub IsRead : Bool → Option (List ℕ) → Option (List ℕ) → List ℕ → Type 0
+IsRead true old new bytes = (line : List ℕ) → IsFirst (lines_of bytes) line → Reads old new (line ∷ [])
+IsRead false old new bytes = IsAtEnd old
 
--- no further line can be read, or held
-abbrev pub IsReadFault : LiveFault → Type 0
-IsReadFault fault.Memory = Unit {0}
-IsReadFault fault.Input = Unit {0}
-IsReadFault other = ⊥
+-- no further line can be held, or read
+abbrev pub IsReadFault : ErrorKind → LiveFault → Type 0
+IsReadFault kind fault.Memory = kind ≡ OutOfMemory
+IsReadFault kind fault.Input = kind ≢ OutOfMemory
+IsReadFault kind other = ⊥

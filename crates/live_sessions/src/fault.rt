@@ -11,7 +11,7 @@ pub enum LiveFault {
     /// Memory was wanting.
     #[error("out of memory")]
     Memory,
-    /// A read of the input failed.
+    /// A read of the input failed, or 2^64 - 1 lines were read.
     #[error("the input can't be read")]
     Input,
     /// The writer of answers failed, after so many bytes of the text that answers a line.

@@ -1,12 +1,13 @@
 //! The run of a session, line by line.
-ghost use Rattle.std.specs.Prelude.{◌≡◌, None, IfOk, IfErr};
+ghost use Rattle.std.specs.Prelude.{◌≡◌, None};
 ghost use Rattle.line_tokens.specs.Lines.{lines_of};
 ghost use Rattle.live_lines.specs.Requests.{HasNoFeed};
 ghost use Rattle.live_sessions.specs.Telling.{told_failure};
-ghost use Rattle.live_sessions.specs.Runs.{AnswersOr, Goes, IsFirst, IsRead, IsReadFault, Plays, Runs};
+ghost use Rattle.live_sessions.specs.Runs.{AnswersOr, Goes, IsFirst, IsReadFault, Plays, Runs};
 
 use crate::asking::ask;
 use crate::fault::LiveFault;
+use crate::line_reader::LineReader;
 use crate::live::Live;
 use crate::requests::{Kind, Next, do_request, kind_of};
 use crate::saving::Saves;
@@ -17,7 +18,7 @@ use live_lines::{Answer, RequestFault};
 use sf_base::Failure;
 use sf_reader::read;
 use std::alloc::Global;
-use std::io::{BufRead, Error, ErrorKind, Write};
+use std::io::{ErrorKind, Write};
 
 /// Reads the file, and then lines from `input`, up to one that says `quit` or to the end; each line that
 /// says something is answered by a text that goes to `answers`, whole and flushed, before the next line
@@ -28,7 +29,7 @@ use std::io::{BufRead, Error, ErrorKind, Write};
 ///
 /// Where the file has a fault nothing is read of the input, and nothing goes out. Out of memory in a line is
 /// its answer, and the session goes on; for a line that can't be held it ends. A fault of a writer ends it.
-pub fn live_run<R: BufRead, A: Write, P: Write, S: Saves>(
+pub fn live_run<R: LineReader, A: Write, P: Write, S: Saves>(
     alloc: Global,
     file: &[u8],
     input: &mut R,
@@ -38,7 +39,7 @@ pub fn live_run<R: BufRead, A: Write, P: Write, S: Saves>(
 ) -> Result<(), LiveFault>
     ensures { Runs file.now
         (record { input = R.remaining input.old; answers = A.contents answers.old; pcm = P.contents pcm.old; saved = S.saved host.old })
-        (record { input = R.remaining input.new; answers = A.contents answers.new; pcm = P.contents pcm.new; saved = S.saved host.new }) result }
+        (record { input = R.remaining input.new; answers = A.contents answers.new; pcm = P.contents pcm.new; saved = S.saved host.new }) (R.failure input.new) result }
 {
     let (bank, counts) = match read(alloc, file) {
         Ok(read) => read,
@@ -50,7 +51,7 @@ pub fn live_run<R: BufRead, A: Write, P: Write, S: Saves>(
 }
 
 // The lines up to the end.
-fn play<R: BufRead, A: Write, P: Write, S: Saves>(
+fn play<R: LineReader, A: Write, P: Write, S: Saves>(
     alloc: Global,
     live: &mut Live<'_>,
     counts: &Counts,
@@ -61,7 +62,7 @@ fn play<R: BufRead, A: Write, P: Write, S: Saves>(
 ) -> Result<(), LiveFault>
     ensures { Plays counts.now live.old
         (record { input = R.remaining input.old; answers = A.contents answers.old; pcm = P.contents pcm.old; saved = S.saved host.old })
-        (record { input = R.remaining input.new; answers = A.contents answers.new; pcm = P.contents pcm.new; saved = S.saved host.new }) result }
+        (record { input = R.remaining input.new; answers = A.contents answers.new; pcm = P.contents pcm.new; saved = S.saved host.new }) (R.failure input.new) result }
 {
     let mut line = Vec::new(alloc);
     for _turn in 0..u64::MAX {
@@ -74,7 +75,7 @@ fn play<R: BufRead, A: Write, P: Write, S: Saves>(
 }
 
 // Reads the next line, if there is one, and answers it. The line's memory is used again and again.
-fn take_line<R: BufRead, A: Write, P: Write, S: Saves>(
+fn take_line<R: LineReader, A: Write, P: Write, S: Saves>(
     alloc: Global,
     live: &mut Live<'_>,
     counts: &Counts,
@@ -86,35 +87,26 @@ fn take_line<R: BufRead, A: Write, P: Write, S: Saves>(
 ) -> Result<Next, LiveFault>
     ensures { Goes counts.now live.old live.new
         (record { input = R.remaining input.old; answers = A.contents answers.old; pcm = P.contents pcm.old; saved = S.saved host.old })
-        (record { input = R.remaining input.new; answers = A.contents answers.new; pcm = P.contents pcm.new; saved = S.saved host.new }) result }
+        (record { input = R.remaining input.new; answers = A.contents answers.new; pcm = P.contents pcm.new; saved = S.saved host.new }) (R.failure input.new) result }
 {
-    match read_next(line, input)? {
-        Next::Line => {
-            let line = first_line(line.as_slice());
-            answer_line(alloc, live, counts, line, answers, pcm, host)
+    match input.read_line(line) {
+        Ok(is_line) => {
+            if is_line {
+                let line = first_line(line.as_slice());
+                answer_line(alloc, live, counts, line, answers, pcm, host)
+            } else {
+                Ok(Next::End)
+            }
         }
-        Next::End => Ok(Next::End),
+        Err(kind) => Err(fault_of(kind)),
     }
 }
 
-// Reads the next line with its line feed, if it has one. At the end of the input there is none.
-fn read_next<R: BufRead>(line: &mut Vec<u8>, input: &mut R) -> Result<Next, LiveFault>
-    ensures read { IfOk result (λ next. IsRead next (R.remaining input.old) (R.remaining input.new) line.new.items) }
-    ensures fault { IfErr result IsReadFault }
+// The fault of a line that could not be read.
+fn fault_of(kind: ErrorKind) -> LiveFault
+    ensures { IsReadFault kind result }
 {
-    line.clear();
-    match input.read_until(b'\n', line) {
-        Ok(0) => Ok(Next::End),
-        Ok(_) => Ok(Next::Line),
-        Err(error) => Err(fault_of(&error)),
-    }
-}
-
-// Why a line could not be read.
-fn fault_of(error: &Error) -> LiveFault
-    ensures { IsReadFault result }
-{
-    match error.kind() {
+    match kind {
         ErrorKind::OutOfMemory => LiveFault::Memory,
         _ => LiveFault::Input,
     }

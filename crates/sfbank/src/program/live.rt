@@ -11,7 +11,7 @@ use bank_core::Bank;
 use command_words::LivePaths;
 use edit_forms::Edit;
 use live_lines::Paths;
-use live_sessions::{LiveFault, SaveFault, Saves, live_run};
+use live_sessions::{InputLines, LiveFault, SaveFault, Saves, live_run};
 use sfbank_program::{
     Fault, InputFault, OutputCheck, OutputFile, RunFault, STANDARD_OUTPUT, Which, check_apart,
     check_no_bank, end_both, read_file,
@@ -33,9 +33,10 @@ pub(crate) fn live<'a, R: Files + AllocGlobal, I: Read, O: Write>(
     apart(rt, paths.pcm, &[paths.input])?;
     no_bank(rt, paths.pcm, paths.force)?;
     let file = read_file(rt, paths.input)?;
-    let Ok(mut lines) = BufReader::new(rt.alloc(), input) else {
+    let Ok(reader) = BufReader::new(rt.alloc(), input) else {
         return at(STANDARD_OUTPUT, Err(RunFault::Memory));
     };
+    let mut lines = InputLines::new(reader);
     let mut pcm = OutputFile::in_place(rt, paths.pcm)?;
     let mut host = Host { rt, paths };
     let run = live_run(

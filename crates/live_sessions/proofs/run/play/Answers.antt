@@ -1,7 +1,6 @@
-use Rattle.std.proofs.Common.{Ok, Err, refl}
+use Rattle.std.proofs.Common.{Ok, Err, arith}
 use Rattle.std.proofs.lemmas.Result.{err_from_is_err_and}
-use Rattle.live_sessions.specs.declared.fault.LiveFault.TheVariants as fault
-use Rattle.live_sessions.proofs.Ending.{reached_first, reached_next, plays_to, goes_on, ends_well}
+use Rattle.live_sessions.proofs.Ending.{reached_first, reached_next, plays_to, plays_full, goes_on, ends_well}
 use Rattle.live_sessions.proofs.run.play.Goals as goal
 
 pub loop-turn-init : goal.loop-turn-init
@@ -9,22 +8,25 @@ loop-turn-init g c = reached_first c.args.counts.now c.args.live.now _
 
 pub loop-turn-preserved : goal.loop-turn-preserved
 loop-turn-preserved g c =
-    reached_next c.args.counts.now c.args.live.now c.loop-turn.live c.take_line.new.live _ _ _ c.loop-turn.invariant
-    (goes_on c.args.counts.now _ c.loop-turn.live c.take_line.new.live _ _ c.in-Line.is c.in_ok-take_line.ensures)
+    reached_next c.args.counts.now c.loop-turn._turn c.args.live.now c.loop-turn.live c.take_line.new.live _ _ _
+    c.loop-turn.invariant
+    (goes_on c.args.counts.now _ c.loop-turn.live c.take_line.new.live _ _ (g.R.LineReader.failure c.take_line.new.input)
+    c.in-Line.is c.in_ok-take_line.ensures)
 
 pub returns-in-End : goal.returns-in-End
 returns-in-End g c =
-    plays_to c.args.counts.now c.args.live.now c.loop-turn.live _ _ _ (Ok tt) c.loop-turn.invariant
-    (ends_well c.args.counts.now _ c.loop-turn.live c.take_line.new.live _ _ c.in-End.is c.in_ok-take_line.ensures)
+    plays_to c.args.counts.now c.loop-turn._turn c.args.live.now c.loop-turn.live _ _ _ _ (Ok tt) c.loop-turn.invariant
+    (ends_well c.args.counts.now _ c.loop-turn.live c.take_line.new.live _ _ (g.R.LineReader.failure c.take_line.new.input)
+    c.in-End.is c.in_ok-take_line.ensures)
 
 pub returns-in_err-take_line : goal.returns-in_err-take_line
 returns-in_err-take_line g c =
     let p = err_from_is_err_and c.from_residual.result c.from_residual.ensures.1 in
     rw (p.1, p.2)
-    (plays_to c.args.counts.now c.args.live.now c.loop-turn.live _ _ _ (Err c.in_err-take_line.field-0.0)
-    c.loop-turn.invariant c.in_err-take_line.ensures)
+    (plays_to c.args.counts.now c.loop-turn._turn c.args.live.now c.loop-turn.live _ _ _ _
+    (Err c.in_err-take_line.field-0.0) c.loop-turn.invariant c.in_err-take_line.ensures)
 
 pub returns : goal.returns
 returns g c =
-    plays_to c.args.counts.now c.args.live.now c.loop-turn.live _ _ _ (Err fault.Input) c.loop-turn.invariant
-    (record { answers = refl; pcm = refl; saved = refl })
+    plays_full c.args.counts.now c.loop-turn._turn c.args.live.now c.loop-turn.live _ _ _ c.loop-turn.invariant
+    (omega arith)

@@ -4,8 +4,8 @@ use Rattle.live_sessions.proofs.run.play.Given as goal
 -- the lines that are behind passed
 abbrev pub invariant-loop-turn : goal.invariant-loop-turn
 invariant-loop-turn g l =
-    Reached l.counts l.fn.live l.live
-    (with_input (g.R.Read.remaining l.fn.input) (g.A.Write.contents l.fn.answers) (g.P.Write.contents l.fn.pcm)
+    Reached l.counts l._turn l.fn.live l.live
+    (with_input (g.R.LineReader.remaining l.fn.input) (g.A.Write.contents l.fn.answers) (g.P.Write.contents l.fn.pcm)
     (g.S.Saves.saved l.fn.host))
-    (with_input (g.R.Read.remaining l.input) (g.A.Write.contents l.answers) (g.P.Write.contents l.pcm)
+    (with_input (g.R.LineReader.remaining l.input) (g.A.Write.contents l.answers) (g.P.Write.contents l.pcm)
     (g.S.Saves.saved l.host))
