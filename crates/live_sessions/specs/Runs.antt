@@ -49,11 +49,11 @@ pub record Stops (counts : Counts) (last : Live) (between new : Around) (why : L
 abbrev pub EndsWell : Counts → Live → Around → Around → Type 0
 EndsWell counts last between new = (IsAtEnd between.input × OnlyReads between new) ⊎ Quits counts last between new
 
--- these known bytes were read, and are a part of one line at most: a line feed ends them, if there is one
+-- a part of one line was read of known bytes, or all of it: only the last of these bytes may be a line feed
 abbrev pub ReadsPart : Option (List ℕ) → Option (List ℕ) → Type 0
 ReadsPart old new = (bytes : List ℕ) × Consumes old new bytes × io.StopsAt bytes line_feed
 
--- no further line was read, and this is why
+-- no further line could be read, for this reason, and nothing went out
 pub record Unread (between new : Around) (failure : Option ErrorKind) (why : ErrorKind → Type 0) : Type 0 where
   pub failed : IsSomeAnd failure why
   pub part : ReadsPart between.input new.input

@@ -28,7 +28,8 @@ use std::io::{ErrorKind, Write};
 /// The bytes of the literals of all lines stay in memory for good, for edits borrow them.
 ///
 /// Where the file has a fault nothing is read of the input, and nothing goes out. Out of memory in a line is
-/// its answer, and the session goes on; for a line that can't be held it ends. A fault of a writer ends it.
+/// its answer, and the session goes on; for a line that can't be held it ends. A fault of a writer ends it, and
+/// so does a read that fails. After 2^64 - 1 lines it ends by [`LiveFault::Input`].
 pub fn live_run<R: LineReader, A: Write, P: Write, S: Saves>(
     alloc: Global,
     file: &[u8],
