@@ -19,5 +19,5 @@ pub use neutral::{
     instruments_keep_sounding, samples_keep_sounding, texts_keep_sounding, zones_keep_sounding,
 };
 pub use pairs::{ZonePairs as Matches, matches};
-pub use parameters::{VoiceParameters, params, sample_of};
+pub use parameters::{PairParameters as Params, VoiceParameters, params};
 pub use zones::zones_in;

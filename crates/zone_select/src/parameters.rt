@@ -2,7 +2,7 @@
 ghost use Rattle.std.specs.Prelude.{◌≡◌, ◌<◌, ◌^◌, ◌↔◌, length, IsSome, IfSome};
 ghost use Rattle.std.specs.List.{Contains};
 ghost use Rattle.std.specs.Option.{option_map};
-ghost use Rattle.zone_select.specs.Amounts.{parameters_of};
+ghost use Rattle.zone_select.specs.Amounts.{parameters_of, mode_of};
 ghost use Rattle.zone_select.specs.At.{instrument_zone_at, preset_zone_at};
 ghost use Rattle.zone_select.specs.Pairs.{pairs, chosen_by, voice_by};
 ghost use Rattle.zone_select.specs.Playable.{IsPlayable};
@@ -59,26 +59,37 @@ pub struct VoiceParameters {
     pub class: i16,
 }
 
-/// The numbers that the voice of a pair of zones plays by: those of the first preset with the note's
-/// bank number and number, each zone by its number. None where there are no such zones, or they don't
-/// both hold the note: there are some exactly for the pairs that [`matches`](crate::matches) gives. It takes
-/// no memory.
-pub fn params(bank: &Bank<'_>, note: &Note, pair: (u32, u32)) -> Option<VoiceParameters>
-    ensures value { result ≡ option_map (λ v. v.parameters) (voice_by bank.now note.now pair) }
+/// What the voice of a pair of zones plays.
+#[derive(Debug, Clone, Copy, PartialEq, Eq)]
+pub struct PairParameters {
+    /// The number of its sample.
+    pub sample: u32,
+    /// The low two bits of the amount of sampleModes (generator 54): 0 to 3.
+    pub mode: u8,
+    /// The numbers that it plays by.
+    pub voice: VoiceParameters,
+}
+
+/// What the voice of a pair of zones plays, the pair being of the first preset with the note's bank
+/// number and number, and each zone given by its number. None where there are no such zones, or they
+/// don't both hold the note: there is something exactly for the pairs that [`matches`](crate::matches)
+/// gives. It allocates nothing.
+pub fn params(bank: &Bank<'_>, note: &Note, pair: (u32, u32)) -> Option<PairParameters>
+    ensures sample { option_map (λ p. p.sample) result ≡ option_map (λ c. c.sample) (chosen_by bank.now note.now pair) }
+    ensures mode { option_map (λ p. p.mode) result
+        ≡ option_map (λ c. mode_of c.instrument_zone c.preset_zone) (chosen_by bank.now note.now pair) }
+    ensures voice { option_map (λ p. p.voice) result ≡ option_map (λ v. v.parameters) (voice_by bank.now note.now pair) }
     ensures there { IsSome result ↔ Contains (pairs bank.now note.now) pair }
     ensures playable { IfSome (voice_by bank.now note.now pair) (λ v. IsPlayable (length v.points) v.parameters) }
 {
     bank.soundness();
     let chosen = chosen(bank, note, pair)?;
     let sample = bank.sample(chosen.sample)?;
-    Some(parameters_of(bank, note, &chosen.zones, sample))
-}
-
-/// The number of the sample that the voice of a pair of zones plays; none as [`params`] says.
-pub fn sample_of(bank: &Bank<'_>, note: &Note, pair: (u32, u32)) -> Option<u32>
-    ensures { result ≡ option_map (λ c. c.sample) (chosen_by bank.now note.now pair) }
-{
-    Some(chosen(bank, note, pair)?.sample)
+    Some(PairParameters {
+        sample: chosen.sample,
+        mode: mode(bank, &chosen.zones),
+        voice: parameters_of(bank, note, &chosen.zones, sample),
+    })
 }
 
 // Those of two zones and their sample.

@@ -11,8 +11,8 @@ parameters_of-requires c =
     points_few c.args.bank.now c.in_ok-chosen.chosen.sample c.in_ok-sample.sample.now c.soundness.ensures
     (sym c.in_ok-sample.ensures)
 
-pub returns-clause-value : goal.returns-clause-value
-returns-clause-value c =
+pub returns-clause-voice : goal.returns-clause-voice
+returns-clause-voice c =
     ap (λ (v : VoiceParameters). Some v) c.parameters_of.ensures
     ∙ parameters_by c.args.bank.now c.args.note.now c.args.pair (chosen_at c.args.bank.now c.in_ok-chosen.chosen)
     c.in_ok-sample.sample.now (sym c.in_ok-chosen.ensures) (sym c.in_ok-sample.ensures)
@@ -25,11 +25,20 @@ returns-in_err-chosen-clause-there c =
     there_by c.args.bank.now c.args.note.now c.args.pair c.from_residual.result
     (ap is_some c.from_residual.ensures ∙ ap is_some c.in_err-chosen.ensures)
 
+-- a chosen sample is in the bank
+lost : goal.After-from_residual-in_err-sample → ⊥
+lost c =
+    never_lost c.args.bank.now c.args.note.now c.args.pair (chosen_at c.args.bank.now c.in_ok-chosen.chosen)
+    c.soundness.ensures.valid (sym c.in_ok-chosen.ensures) (sym c.in_err-sample.ensures)
+
+pub returns-in_err-sample-clause-sample : goal.returns-in_err-sample-clause-sample
+returns-in_err-sample-clause-sample c = absurd (lost c)
+
+pub returns-in_err-sample-clause-mode : goal.returns-in_err-sample-clause-mode
+returns-in_err-sample-clause-mode c = absurd (lost c)
+
 pub returns-in_err-sample-clause-there : goal.returns-in_err-sample-clause-there
-returns-in_err-sample-clause-there c =
-    absurd
-    (never_lost c.args.bank.now c.args.note.now c.args.pair (chosen_at c.args.bank.now c.in_ok-chosen.chosen)
-    c.soundness.ensures.valid (sym c.in_ok-chosen.ensures) (sym c.in_err-sample.ensures))
+returns-in_err-sample-clause-there c = absurd (lost c)
 
 pub returns-clause-there : goal.returns-clause-there
 returns-clause-there c =
