@@ -13,7 +13,6 @@ use Rattle.zone_ranges.specs.Splits.{lower_part, upper_part}
 use Rattle.zone_ranges.proofs.SplitLaws.{IsSplitAt, low_is_small}
 use Rattle.zone_select.specs.Ranges.{within, holds}
 use Rattle.zone_select.specs.Taken.{Taken, taken}
-use Rattle.zone_select.specs.Select.{Voice}
 use Rattle.zone_select.proofs.RangeLaws.{taken-with, range-with, other-with, within_ends}
 
 -- of a test t of the whole, the tests of the halves
@@ -102,10 +101,10 @@ halves-hold n global z Vel m h small =
     (within (range_of Key global z) n.key) (halved w m n.velocity h.above h.within small))
 
 -- what the zone's target gives, the one half gives and the other doesn't
-pub halves-give : (inside : Taken → ℕ → List Voice) (n : Numbers) (global : GlobalZone) (z : Zone) (axis : Axis) (m : ℕ)
+pub halves-give : {X : Type 0} (inside : Taken → ℕ → List X) (n : Numbers) (global : GlobalZone) (z : Zone) (axis : Axis) (m : ℕ)
     → IsSplitAt axis m global z → m < 256
     →
-    (let give : Zone → List Voice =
+    (let give : Zone → List X =
     λ y.
     cond (holds n global y) (inside (taken global y) y.target) [] in give z
     ≡ give (lower_part axis m global z) ++ give (upper_part axis m global z))

@@ -16,7 +16,6 @@ use Rattle.zone_ranges.specs.Undone.{own_amount}
 use Rattle.zone_ranges.proofs.SplitLaws.{IsInherited, AreJoined, low_is_small}
 use Rattle.zone_select.specs.Ranges.{within, holds}
 use Rattle.zone_select.specs.Taken.{Taken, taken}
-use Rattle.zone_select.specs.Select.{Voice}
 use Rattle.zone_select.proofs.RangeLaws.{taken-with, taken-without, range-with, range-without, other-with}
 use Rattle.zone_select.proofs.RangeLaws.{other-without, within_ends}
 use Rattle.zone_select.proofs.Halves.{Halved, in_lower, in_upper, halved_first, halved_second, chosen}
@@ -130,11 +129,11 @@ joined_holds n global y z Vel keep h =
     (within (range_of Vel global z) n.velocity) (within (range_of Key global y) n.key)
     (axis_halved Vel keep global y z h n.velocity))
 
-pub joined_gives : (inside : Taken → ℕ → List Voice) (n : Numbers) (global : GlobalZone) (y z : Zone) (axis : Axis)
+pub joined_gives : {X : Type 0} (inside : Taken → ℕ → List X) (n : Numbers) (global : GlobalZone) (y z : Zone) (axis : Axis)
     (keep : Keep)
     → AreJoinedInOrder axis keep global y z
     →
-    (let give : Zone → List Voice =
+    (let give : Zone → List X =
     λ x.
     cond (holds n global x) (inside (taken global x) x.target) [] in give (joined axis keep y z)
     ≡ give y ++ give z)

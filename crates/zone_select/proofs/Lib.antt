@@ -1,4 +1,5 @@
 pub mod NumberLaws
+pub mod Given
 pub mod PairLaws
 pub mod ZoneLaws
 pub mod LeftLaws
@@ -15,5 +16,6 @@ pub mod Joins
 pub mod ZoneVoices
 pub mod AlikeLaws
 pub mod NeutralLaws
+pub mod Correspond
 pub mod Listed
 pub mod PlayedLaws

@@ -1,5 +1,6 @@
--- The edits that change no sound, form by form.
-use Rattle.std.proofs.Common.{◌≡◌, ◌≢◌, ℕ, ◌+◌, ◌≤◌, ◌==◌, true, false, Some, List, map, length, slice_get, insert}
+-- The edits that change no sound, form by form, for any relation R of two banks that holds where their zones give the
+-- same for each note.
+use Rattle.std.proofs.Common.{◌≡◌, ◌≢◌, ℕ, ◌+◌, ◌≤◌, ◌==◌, true, false, Option, Some, List, map, length, slice_get, insert}
 use Rattle.std.proofs.Common.{remove, refl, sym, ap, subst, ◌∙◌, arith}
 use Rattle.std.specs.Prelude.{unwrap_or}
 use Rattle.std.specs.Option.{option_map}
@@ -17,6 +18,7 @@ use Rattle.bank_parts.specs.declared.parts.Head.{Head}
 use Rattle.bank_parts.specs.declared.parts.Zone.{Zone}
 use Rattle.bank_parts.specs.declared.parts.WithZones.{WithZones}
 use Rattle.bank_parts.specs.declared.parts.Sample.{Sample}
+use Rattle.bank_parts.specs.declared.parts.Parts.{Parts}
 use Rattle.bank_parts.specs.Owners.{with_head}
 use Rattle.bank_parts.specs.Renumbered.{sample_renumbered}
 use Rattle.bank_parts.specs.Valid.{IsZone, IsOwner, IsPreset, IsInstrument, AreGenerators}
@@ -32,28 +34,17 @@ use Rattle.bank_changes.specs.Samples.{named}
 use Rattle.bank_changes.specs.Points.{of_kind}
 use Rattle.bank_changes.proofs.Changes.{all_found}
 use Rattle.bank_changes.proofs.OwnerReferences.{owners_always, owners_weaker, untargeted}
-use Rattle.zone_select.specs.Select.{voice_of, sample_voices, instrument_voices, number_voices, preset_voices, selected}
+use Rattle.zone_select.specs.Select.{Voice, voice_of}
 use Rattle.zone_select.specs.Amounts.{parameters_of, is_looped}
-use Rattle.zone_select.specs.Neutral.{SampleAddedAlike, SampleRemovedAlike, SampleMovedAlike, SampleRenamedAlike}
-use Rattle.zone_select.specs.Neutral.{KindSetAlike, InstrumentAddedAlike, InstrumentRemovedAlike}
-use Rattle.zone_select.specs.Neutral.{InstrumentMovedAlike, InstrumentRenamedAlike, ZoneMovedAlike, ZoneSplitAlike}
-use Rattle.zone_select.specs.Neutral.{ZoneJoinedAlike, InfoSetAlike}
+use Rattle.zone_select.specs.Neutral.{SampleAdded, SampleRemoved, SampleMoved, SampleRenamed}
+use Rattle.zone_select.specs.Neutral.{KindSet, InstrumentAdded, InstrumentRemoved}
+use Rattle.zone_select.specs.Neutral.{InstrumentMoved, InstrumentRenamed, ZoneMoved, ZoneSplit}
+use Rattle.zone_select.specs.Neutral.{ZoneJoined, InfoSet}
+use Rattle.zone_select.proofs.Given.{sample_given, instrument_given, number_given, preset_given, given, GivenAlike}
 use Rattle.zone_select.proofs.Matched.{MatchedOption, matched-option_map, matched-changed}
 use Rattle.zone_select.proofs.ZoneVoices.{CanSplit, CanJoin, voices_of-moved, voices_of-split, voices_of-joined}
 use Rattle.zone_select.proofs.AlikeLaws.{SoundSame, sound_same, samples-alike, instrument_changed-alike}
 use Rattle.zone_select.proofs.AlikeLaws.{owner_changed-alike, samples_renumbered-alike, instruments_renumbered-alike}
-
--- ---- samples
-
-pub sample_renamed_alike : SampleRenamedAlike
-unfolding voice_of parameters_of is_looped
-sample_renamed_alike b i name =
-    samples-alike b _ (matched-changed SoundSame sound_same (named name) b.samples i (λ s e n v u. refl))
-
-pub kind_set_alike : KindSetAlike
-unfolding voice_of parameters_of is_looped
-kind_set_alike b i kind =
-    samples-alike b _ (matched-changed SoundSame sound_same (of_kind kind) b.samples i (λ s e n v u. refl))
 
 -- a sample found under a new number, its own link renumbered too
 sent_found : (xs ys : List Sample) (f : Sample → Sample) (t q : ℕ) → ((s : Sample) → SoundSame s (f s))
@@ -62,97 +53,14 @@ sent_found xs ys f t q h e =
     subst (MatchedOption SoundSame (slice_get xs t)) (sym (slice_get-map f ys q ∙ ap (option_map f) e))
     (matched-option_map SoundSame f h (slice_get xs t))
 
-pub sample_added_alike : SampleAddedAlike
-unfolding voice_of parameters_of is_looped
-sample_added_alike b i s h =
-    let sent : List Sample = map (sample_renumbered (Insertion i)) b.samples in
-    let long : i ≤ length sent = simp length-map h in
-    samples_renumbered-alike b (Insertion i) (insert sent i s)
-    (owners_always (λ t. MatchedOption SoundSame (slice_get b.samples t)
-    (slice_get (insert sent i s) (renumbered (Insertion i) t)))
-    (λ t.
-    subst (MatchedOption SoundSame (slice_get b.samples t)) (sym (insertion_followed sent i s t long))
-    (sent_found b.samples b.samples (sample_renumbered (Insertion i)) t t (λ x n v u. refl) refl))
-    b.instruments)
-
-pub sample_moved_alike : SampleMovedAlike
-unfolding voice_of parameters_of is_looped
-sample_moved_alike b i j h g =
-    let sent : List Sample = map (sample_renumbered (Move i j)) (moved b.samples i j) in
-    samples_renumbered-alike b (Move i j) sent
-    (owners_always (λ t. MatchedOption SoundSame (slice_get b.samples t) (slice_get sent (renumbered (Move i j) t)))
-    (λ t.
-    sent_found b.samples (moved b.samples i j) (sample_renumbered (Move i j)) t (renumbered (Move i j) t)
-    (λ s n v u. refl) (move_followed b.samples i j t h g))
-    b.instruments)
-
 differs : (t i : ℕ) → (t == i) ≡ false → t ≢ i
 differs t i h = grind (arith, nat_tests)
-
-pub sample_removed_alike : SampleRemovedAlike
-unfolding voice_of parameters_of is_looped
-sample_removed_alike b i h =
-    let sent : List Sample = map (sample_renumbered (Removal i)) (remove b.samples i) in
-    samples_renumbered-alike b (Removal i) sent
-    (owners_weaker (λ t. (t == i) ≡ false)
-    (λ t. MatchedOption SoundSame (slice_get b.samples t) (slice_get sent (renumbered (Removal i) t)))
-    (λ t e.
-    sent_found b.samples (remove b.samples i) (sample_renumbered (Removal i)) t (renumbered (Removal i) t)
-    (λ s n v u. refl) (removal_followed b.samples i t (differs t i e)))
-    b.instruments (untargeted i b.instruments h))
-
--- ---- instruments
-
-pub instrument_renamed_alike : InstrumentRenamedAlike
-unfolding instrument_voices sample_voices
-instrument_renamed_alike b i name =
-    instrument_changed-alike b i (with_head name) (λ x e n u. IsPermutation-refl (instrument_voices b n u x))
-
-pub instrument_added_alike : InstrumentAddedAlike
-instrument_added_alike b i x h =
-    instruments_renumbered-alike b (Insertion i) (insert b.instruments i x)
-    (owners_always
-    (λ t. slice_get (insert b.instruments i x) (renumbered (Insertion i) t) ≡ slice_get b.instruments t)
-    (λ t. insertion_followed b.instruments i x t h) b.presets)
-
-pub instrument_moved_alike : InstrumentMovedAlike
-instrument_moved_alike b i j h g =
-    instruments_renumbered-alike b (Move i j) (moved b.instruments i j)
-    (owners_always (λ t. slice_get (moved b.instruments i j) (renumbered (Move i j) t) ≡ slice_get b.instruments t)
-    (λ t. move_followed b.instruments i j t h g) b.presets)
-
-pub instrument_removed_alike : InstrumentRemovedAlike
-instrument_removed_alike b i h =
-    instruments_renumbered-alike b (Removal i) (remove b.instruments i)
-    (owners_weaker (λ t. (t == i) ≡ false)
-    (λ t. slice_get (remove b.instruments i) (renumbered (Removal i) t) ≡ slice_get b.instruments t)
-    (λ t e. removal_followed b.instruments i t (differs t i e)) b.presets (untargeted i b.presets h))
-
--- ---- zones
-
-pub zone_moved_alike : ZoneMovedAlike
-zone_moved_alike b (owner.Preset p) i j =
-    owner_changed-alike b (owner.Preset p) (λ global zones. moved zones i j)
-    (λ x e inside n. voices_of-moved inside n x.global x.zones i j)
-zone_moved_alike b (owner.Inst k) i j =
-    owner_changed-alike b (owner.Inst k) (λ global zones. moved zones i j)
-    (λ x e inside n. voices_of-moved inside n x.global x.zones i j)
 
 can_split_there : {H : Type 0} (owners : List (WithZones H)) (i k : ℕ) (axis : Axis) (m : ℕ) (x : WithZones H)
     → splits_at axis m owners i k ≡ true → slice_get owners i ≡ Some x → CanSplit axis m x.global x.zones k
 can_split_there owners i k axis m x h e z f =
     split_at axis m x.global z
     (sym (there_split axis m owners i k (record { member = x; there = e; zone = z; zone_there = f })) ∙ h)
-
-pub zone_split_alike : ZoneSplitAlike
-zone_split_alike b (owner.Preset p) k axis m small h =
-    owner_changed-alike b (owner.Preset p) (λ global zones. zones_split axis m global zones k)
-    (λ x e inside n.
-    voices_of-split inside n axis m x.global x.zones k small (can_split_there b.presets p k axis m x h e))
-zone_split_alike b (owner.Inst i) k axis m small h =
-    owner_changed-alike b (owner.Inst i) (λ global zones. zones_split axis m global zones k)
-    (λ x e inside n.
-    voices_of-split inside n axis m x.global x.zones k small (can_split_there b.instruments i k axis m x h e))
 
 -- the own range of a valid zone, where it has one, is in order
 rises : (at : Level) (axis : Axis) (z : Zone) (w : ℕ) → AreGenerators at z.gens → own_range axis z ≡ Some w
@@ -179,20 +87,118 @@ can_join_there name_of at targets owners i k axis keep x v h e y z f g =
           both.own_second;
     }
 
-pub zone_joined_alike : ZoneJoinedAlike
-zone_joined_alike b (owner.Preset p) k axis keep v h =
-    owner_changed-alike b (owner.Preset p) (λ global zones. zones_joined axis keep zones k)
-    (λ x e inside n. voices_of-joined inside n axis keep x.global x.zones k
-    (can_join_there (λ (h : Head). h.name) level.Preset (length b.instruments) b.presets p k axis keep x
-    (all_found (IsPreset (length b.instruments)) b.presets p x e v.presets) h e))
-zone_joined_alike b (owner.Inst i) k axis keep v h =
-    owner_changed-alike b (owner.Inst i) (λ global zones. zones_joined axis keep zones k)
-    (λ x e inside n. voices_of-joined inside n axis keep x.global x.zones k
-    (can_join_there (λ name. name) level.Inst (length b.samples) b.instruments i k axis keep x
-    (all_found (IsInstrument (length b.samples)) b.instruments i x e v.instruments) h e))
+module _ {X : Type 0} (g : Option Voice → List X) (R : Parts → Parts → Type 0)
+    (h : (b c : Parts) → GivenAlike g b c → R b c) where
+  -- ---- samples
 
--- ---- texts
+  pub sample_renamed_alike : SampleRenamed R
+  unfolding voice_of parameters_of is_looped
+  sample_renamed_alike b i name =
+      h b _ (samples-alike g b _ (matched-changed SoundSame sound_same (named name) b.samples i (λ s e n v u. refl)))
 
-pub info_set_alike : InfoSetAlike
-unfolding selected preset_voices number_voices instrument_voices sample_voices
-info_set_alike b id text n = IsPermutation-refl (selected b n)
+  pub kind_set_alike : KindSet R
+  unfolding voice_of parameters_of is_looped
+  kind_set_alike b i kind =
+      h b _ (samples-alike g b _ (matched-changed SoundSame sound_same (of_kind kind) b.samples i (λ s e n v u. refl)))
+
+  pub sample_added_alike : SampleAdded R
+  unfolding voice_of parameters_of is_looped
+  sample_added_alike b i s inside =
+      let sent : List Sample = map (sample_renumbered (Insertion i)) b.samples in
+      let long : i ≤ length sent = simp length-map inside in
+      h b _ (samples_renumbered-alike g b (Insertion i) (insert sent i s)
+      (owners_always (λ t. MatchedOption SoundSame (slice_get b.samples t)
+      (slice_get (insert sent i s) (renumbered (Insertion i) t)))
+      (λ t.
+      subst (MatchedOption SoundSame (slice_get b.samples t)) (sym (insertion_followed sent i s t long))
+      (sent_found b.samples b.samples (sample_renumbered (Insertion i)) t t (λ x n v u. refl) refl))
+      b.instruments))
+
+  pub sample_moved_alike : SampleMoved R
+  unfolding voice_of parameters_of is_looped
+  sample_moved_alike b i j there place =
+      let sent : List Sample = map (sample_renumbered (Move i j)) (moved b.samples i j) in
+      h b _ (samples_renumbered-alike g b (Move i j) sent
+      (owners_always (λ t. MatchedOption SoundSame (slice_get b.samples t) (slice_get sent (renumbered (Move i j) t)))
+      (λ t.
+      sent_found b.samples (moved b.samples i j) (sample_renumbered (Move i j)) t (renumbered (Move i j) t)
+      (λ s n v u. refl) (move_followed b.samples i j t there place))
+      b.instruments))
+
+  pub sample_removed_alike : SampleRemoved R
+  unfolding voice_of parameters_of is_looped
+  sample_removed_alike b i free =
+      let sent : List Sample = map (sample_renumbered (Removal i)) (remove b.samples i) in
+      h b _ (samples_renumbered-alike g b (Removal i) sent
+      (owners_weaker (λ t. (t == i) ≡ false)
+      (λ t. MatchedOption SoundSame (slice_get b.samples t) (slice_get sent (renumbered (Removal i) t)))
+      (λ t e.
+      sent_found b.samples (remove b.samples i) (sample_renumbered (Removal i)) t (renumbered (Removal i) t)
+      (λ s n v u. refl) (removal_followed b.samples i t (differs t i e)))
+      b.instruments (untargeted i b.instruments free)))
+
+  -- ---- instruments
+
+  pub instrument_renamed_alike : InstrumentRenamed R
+  unfolding instrument_given sample_given
+  instrument_renamed_alike b i name =
+      h b _
+      (instrument_changed-alike g b i (with_head name) (λ x e n u. IsPermutation-refl (instrument_given g b n u x)))
+
+  pub instrument_added_alike : InstrumentAdded R
+  instrument_added_alike b i x inside =
+      h b _ (instruments_renumbered-alike g b (Insertion i) (insert b.instruments i x)
+      (owners_always
+      (λ t. slice_get (insert b.instruments i x) (renumbered (Insertion i) t) ≡ slice_get b.instruments t)
+      (λ t. insertion_followed b.instruments i x t inside) b.presets))
+
+  pub instrument_moved_alike : InstrumentMoved R
+  instrument_moved_alike b i j there place =
+      h b _ (instruments_renumbered-alike g b (Move i j) (moved b.instruments i j)
+      (owners_always (λ t. slice_get (moved b.instruments i j) (renumbered (Move i j) t) ≡ slice_get b.instruments t)
+      (λ t. move_followed b.instruments i j t there place) b.presets))
+
+  pub instrument_removed_alike : InstrumentRemoved R
+  instrument_removed_alike b i free =
+      h b _ (instruments_renumbered-alike g b (Removal i) (remove b.instruments i)
+      (owners_weaker (λ t. (t == i) ≡ false)
+      (λ t. slice_get (remove b.instruments i) (renumbered (Removal i) t) ≡ slice_get b.instruments t)
+      (λ t e. removal_followed b.instruments i t (differs t i e)) b.presets (untargeted i b.presets free)))
+
+  -- ---- zones
+
+  pub zone_moved_alike : ZoneMoved R
+  zone_moved_alike b (owner.Preset p) i j =
+      h b _ (owner_changed-alike g b (owner.Preset p) (λ global zones. moved zones i j)
+      (λ x e inside n. voices_of-moved inside n x.global x.zones i j))
+  zone_moved_alike b (owner.Inst k) i j =
+      h b _ (owner_changed-alike g b (owner.Inst k) (λ global zones. moved zones i j)
+      (λ x e inside n. voices_of-moved inside n x.global x.zones i j))
+
+  pub zone_split_alike : ZoneSplit R
+  zone_split_alike b (owner.Preset p) k axis m small can =
+      h b _ (owner_changed-alike g b (owner.Preset p) (λ global zones. zones_split axis m global zones k)
+      (λ x e inside n.
+      voices_of-split inside n axis m x.global x.zones k small (can_split_there b.presets p k axis m x can e)))
+  zone_split_alike b (owner.Inst i) k axis m small can =
+      h b _ (owner_changed-alike g b (owner.Inst i) (λ global zones. zones_split axis m global zones k)
+      (λ x e inside n.
+      voices_of-split inside n axis m x.global x.zones k small (can_split_there b.instruments i k axis m x can e)))
+
+  pub zone_joined_alike : ZoneJoined R
+  zone_joined_alike b (owner.Preset p) k axis keep v can =
+      h b _ (owner_changed-alike g b (owner.Preset p) (λ global zones. zones_joined axis keep zones k)
+      (λ x e inside n. voices_of-joined inside n axis keep x.global x.zones k
+      (can_join_there (λ (h : Head). h.name) level.Preset (length b.instruments) b.presets p k axis keep x
+      (all_found (IsPreset (length b.instruments)) b.presets p x e v.presets) can e)))
+  zone_joined_alike b (owner.Inst i) k axis keep v can =
+      h b _ (owner_changed-alike g b (owner.Inst i) (λ global zones. zones_joined axis keep zones k)
+      (λ x e inside n. voices_of-joined inside n axis keep x.global x.zones k
+      (can_join_there (λ name. name) level.Inst (length b.samples) b.instruments i k axis keep x
+      (all_found (IsInstrument (length b.samples)) b.instruments i x e v.instruments) can e)))
+
+  -- ---- texts
+
+  pub info_set_alike : InfoSet R
+  unfolding given preset_given number_given instrument_given sample_given
+  info_set_alike b id text = h b _ (λ n. IsPermutation-refl (given g b n))

@@ -1,4 +1,5 @@
--- The voices that are selected are those of the pairs.
+-- What the zones of a note give is what its pairs give, in their order: the voices that are selected are those of
+-- the pairs.
 use Rattle.std.proofs.Common.{◌≡◌, ℕ, ◌+◌, ◌-◌, true, false, cond, List, [], ◌∷◌, length, map, Option, Some, None}
 use Rattle.std.proofs.Common.{slice_get, refl, ap, ◌∙◌, arith}
 use Rattle.std.specs.List.{flat_map, find, filter, range_with_len}
@@ -19,10 +20,7 @@ use Rattle.zone_select.specs.Pairs.{holds_at, held, held_inside, pairs_at, pairs
 use Rattle.zone_select.specs.Pairs.{instrument_zone_chosen, zone_chosen, preset_chosen, chosen_by, chosen_voice}
 use Rattle.zone_select.specs.Pairs.{voice_by, listed}
 use Rattle.zone_select.proofs.NumberLaws.{by_number, flat_map-flat_map}
-
--- the voices of a pair
-abbrev of_chosen : Parts → Numbers → Option Chosen → List Voice
-of_chosen b n o = listed (option_and_then (chosen_voice b n) o)
+use Rattle.zone_select.proofs.Given.{sample_given, instrument_given, number_given, preset_given, given}
 
 -- zones that hold the note, by their numbers
 held_by_number : {Z : Type 0} (g : ℕ → List Z) (h : Zone → List Z) (n : Numbers) (global : GlobalZone)
@@ -42,68 +40,98 @@ is_held : (n : Numbers) (global : GlobalZone) (zones : List Zone) (k : ℕ) (z :
     → holds n global z ≡ true → zone_held n global zones k ≡ Some z
 is_held n global zones k z e p = rw (e, p) refl
 
+module _ {X : Type 0} (g : Option Voice → List X) where
+  -- what a pair gives
+  abbrev of_chosen : Parts → Numbers → Option Chosen → List X
+  of_chosen b n o = g (option_and_then (chosen_voice b n) o)
+
+  instrument_is : (b : Parts) (n : Numbers) (u : Taken) (i : WithZones (List ℕ))
+      → flat_map (λ l. of_chosen b n (instrument_zone_chosen n u l i)) (held n i.global i.zones 0)
+      ≡ instrument_given g b n u i
+  unfolding instrument_given sample_given voices_of
+  instrument_is b n u i =
+      held_by_number (λ l. of_chosen b n (instrument_zone_chosen n u l i))
+      (λ (y : Zone). sample_given g b n u (taken i.global y) y.target) n i.global i.zones
+      (λ l y e p. ap (λ (o : Option Zone). of_chosen b n (option_map (λ (y : Zone). record { instrument_zone = taken i.global y; preset_zone = u; sample = y.target }) o)) (is_held n i.global i.zones l y e p))
+
+  zone_is : (b : Parts) (n : Numbers) (global : GlobalZone) (z : Zone)
+      → flat_map (λ l. of_chosen b n (zone_chosen b n global l z)) (held_inside b n z.target 0)
+      ≡ number_given g b n (taken global z) z.target
+  unfolding number_given
+  zone_is b n global z =
+      let u : Taken = taken global z in
+      elim (slice_get b.instruments z.target) as
+      (λ (o : Option (WithZones (List ℕ))).
+      flat_map (λ l. of_chosen b n (option_and_then (instrument_zone_chosen n u l) o))
+      (option_map_or (λ (i : WithZones (List ℕ)). held n i.global i.zones 0) o [])
+      ≡ option_map_or (instrument_given g b n u) o []) [
+        | None ↦ refl
+        | Some i ↦ instrument_is b n u i
+      ]
+
+  preset_is : (b : Parts) (n : Numbers) (p : WithZones Head)
+      → flat_map (λ q. of_chosen b n (preset_chosen b n q p))
+      (flat_map (pairs_at b n p.zones) (held n p.global p.zones 0))
+      ≡ preset_given g b n p
+  unfolding preset_given voices_of
+  preset_is b n p =
+      let f : ℕ × ℕ → List X = λ q. of_chosen b n (preset_chosen b n q p) in
+      flat_map-flat_map f (pairs_at b n p.zones) (held n p.global p.zones 0)
+      ∙ held_by_number (λ k. flat_map f (pairs_at b n p.zones k))
+      (λ (z : Zone). number_given g b n (taken p.global z) z.target) n p.global p.zones
+      (λ k z e h. ap (λ (o : Option Zone). flat_map f (option_map_or (λ (z : Zone). map (λ (l : ℕ). let q : ℕ × ℕ = (k, l) in q) (held_inside b n z.target 0)) o [])) e
+      ∙ flat_map-map f (λ (l : ℕ). let q : ℕ × ℕ = (k, l) in q) (held_inside b n z.target 0)
+      ∙ ap
+      (λ (o : Option Zone).
+      flat_map (λ l. of_chosen b n (option_and_then (zone_chosen b n p.global l) o)) (held_inside b n z.target 0))
+      (is_held n p.global p.zones k z e h)
+      ∙ zone_is b n p.global z)
+
+  pub given_by_pairs : (b : Parts) (n : Numbers) → flat_map (λ q. g (voice_by b n q)) (pairs b n) ≡ given g b n
+  unfolding pairs chosen_by given
+  given_by_pairs b n =
+      elim (find (is_called n) b.presets) as
+      (λ (o : Option (WithZones Head)).
+      flat_map (λ q. of_chosen b n (option_and_then (preset_chosen b n q) o))
+      (option_map_or (λ (p : WithZones Head). flat_map (pairs_at b n p.zones) (held n p.global p.zones 0))
+      o [])
+      ≡ option_map_or (preset_given g b n) o []) [
+        | None ↦ refl
+        | Some p ↦ preset_is b n p
+      ]
+
+-- ---- their voices
+
 sample_is : (b : Parts) (n : Numbers) (u v : Taken) (number : ℕ)
-    → of_chosen b n (Some (record { instrument_zone = v; preset_zone = u; sample = number }))
-    ≡ sample_voices b n u v number
-unfolding sample_voices
+    → sample_given listed b n u v number ≡ sample_voices b n u v number
+unfolding sample_given sample_voices
 sample_is b n u v number =
     elim (slice_get b.samples number) as
     (λ (o : Option Sample).
     listed (option_map (voice_of n v u) o) ≡ option_map_or (λ (s : Sample). voice_of n v u s ∷ []) o [])
     [ None ↦ refl | Some s ↦ refl ]
 
-instrument_is : (b : Parts) (n : Numbers) (u : Taken) (i : WithZones (List ℕ))
-    → flat_map (λ l. of_chosen b n (instrument_zone_chosen n u l i)) (held n i.global i.zones 0)
-    ≡ instrument_voices b n u i
-unfolding instrument_voices voices_of
-instrument_is b n u i =
-    held_by_number (λ l. of_chosen b n (instrument_zone_chosen n u l i))
-    (λ (y : Zone). sample_voices b n u (taken i.global y) y.target) n i.global i.zones
-    (λ l y e p. ap (λ (o : Option Zone). of_chosen b n (option_map (λ (y : Zone). record { instrument_zone = taken i.global y; preset_zone = u; sample = y.target }) o)) (is_held n i.global i.zones l y e p)
-    ∙ sample_is b n u (taken i.global y) y.target)
-
-zone_is : (b : Parts) (n : Numbers) (global : GlobalZone) (z : Zone)
-    → flat_map (λ l. of_chosen b n (zone_chosen b n global l z)) (held_inside b n z.target 0)
-    ≡ number_voices b n (taken global z) z.target
-unfolding number_voices
-zone_is b n global z =
-    let u : Taken = taken global z in
-    elim (slice_get b.instruments z.target) as
-    (λ (o : Option (WithZones (List ℕ))).
-    flat_map (λ l. of_chosen b n (option_and_then (instrument_zone_chosen n u l) o))
-    (option_map_or (λ (i : WithZones (List ℕ)). held n i.global i.zones 0) o [])
-    ≡ option_map_or (instrument_voices b n u) o []) [
-      | None ↦ refl
-      | Some i ↦ instrument_is b n u i
-    ]
-
-preset_is : (b : Parts) (n : Numbers) (p : WithZones Head)
-    → flat_map (λ q. of_chosen b n (preset_chosen b n q p))
-    (flat_map (pairs_at b n p.zones) (held n p.global p.zones 0))
-    ≡ preset_voices b n p
-unfolding preset_voices voices_of
-preset_is b n p =
-    let f : ℕ × ℕ → List Voice = λ q. of_chosen b n (preset_chosen b n q p) in
-    flat_map-flat_map f (pairs_at b n p.zones) (held n p.global p.zones 0)
-    ∙ held_by_number (λ k. flat_map f (pairs_at b n p.zones k))
-    (λ (z : Zone). number_voices b n (taken p.global z) z.target) n p.global p.zones
-    (λ k z e h. ap (λ (o : Option Zone). flat_map f (option_map_or (λ (z : Zone). map (λ (l : ℕ). let q : ℕ × ℕ = (k, l) in q) (held_inside b n z.target 0)) o [])) e
-    ∙ flat_map-map f (λ (l : ℕ). let q : ℕ × ℕ = (k, l) in q) (held_inside b n z.target 0)
-    ∙ ap
-    (λ (o : Option Zone).
-    flat_map (λ l. of_chosen b n (option_and_then (zone_chosen b n p.global l) o)) (held_inside b n z.target 0))
-    (is_held n p.global p.zones k z e h)
-    ∙ zone_is b n p.global z)
+pub selected_is : (b : Parts) (n : Numbers) → given listed b n ≡ selected b n
+unfolding given preset_given number_given instrument_given selected preset_voices number_voices instrument_voices
+selected_is b n = λ j.
+    option_map_or
+    (λ (p : WithZones Head).
+    voices_of
+    (λ (u : Taken) (t : ℕ).
+    option_map_or
+    (λ (i : WithZones (List ℕ)).
+    voices_of (λ (v : Taken) (k : ℕ). sample_is b n u v k j) n i.global i.zones)
+    (slice_get b.instruments t) [])
+    n p.global p.zones)
+    (find (is_called n) b.presets) []
 
 pub selected_by_pairs : (b : Parts) (n : Numbers) → flat_map (λ q. listed (voice_by b n q)) (pairs b n) ≡ selected b n
-unfolding pairs chosen_by selected
-selected_by_pairs b n =
-    elim (find (is_called n) b.presets) as
-    (λ (o : Option (WithZones Head)).
-    flat_map (λ q. of_chosen b n (option_and_then (preset_chosen b n q) o))
-    (option_map_or (λ (p : WithZones Head). flat_map (pairs_at b n p.zones) (held n p.global p.zones 0))
-    o [])
-    ≡ option_map_or (preset_voices b n) o []) [
-      | None ↦ refl
-      | Some p ↦ preset_is b n p
-    ]
+selected_by_pairs b n = given_by_pairs listed b n ∙ selected_is b n
+
+-- the voices of the pairs, or none where a sample is not there
+pub voices_by_pairs : (b : Parts) (n : Numbers) → map (voice_by b n) (pairs b n) ≡ given (λ o. o ∷ []) b n
+voices_by_pairs b n = one_by_one (voice_by b n) (pairs b n) ∙ given_by_pairs (λ o. o ∷ []) b n
+  where
+    one_by_one : {X Y : Type 0} (f : X → Y) (xs : List X) → map f xs ≡ flat_map (λ x. f x ∷ []) xs
+    one_by_one f [] = refl
+    one_by_one f (x ∷ xs) = ap (λ ys. f x ∷ ys) (one_by_one f xs)

@@ -1,4 +1,4 @@
--- The voices of the zones of a preset or an instrument: by targets that give the same, by zones in another order, and
+-- What the zones of a preset or an instrument give: by targets that give the same, by zones in another order, and
 -- by two zones in the place of one.
 use Rattle.std.proofs.Common.{◌≡◌, ℕ, ◌+◌, ◌<◌, Bool, true, false, cond, Option, Some, None, List, [], ◌∷◌, map}
 use Rattle.std.proofs.Common.{slice_get, refl, subst}
@@ -20,21 +20,21 @@ use Rattle.zone_ranges.proofs.SplitLaws.{IsSplitAt}
 use Rattle.bank_changes.proofs.OwnerReferences.{OfTargets}
 use Rattle.zone_select.specs.Ranges.{holds}
 use Rattle.zone_select.specs.Taken.{Taken, taken, setting}
-use Rattle.zone_select.specs.Select.{Voice, voices_of}
+use Rattle.zone_select.specs.Select.{voices_of}
 use Rattle.zone_select.proofs.Flattened.{flat_map-moved, flat_map-parted, flat_map-merged}
 use Rattle.zone_select.proofs.Halves.{halves-give}
 use Rattle.zone_select.proofs.Joins.{AreJoinedInOrder, joined_gives}
 
--- the voices of a target
-abbrev pub Inside : Type 0
-Inside = Taken → ℕ → List Voice
+-- what a target gives
+abbrev pub Inside : Type 0 → Type 0
+Inside X = Taken → ℕ → List X
 
-given_same : (t : Bool) (xs ys : List Voice) → IsPermutation xs ys → IsPermutation (cond t xs []) (cond t ys [])
+given_same : {X : Type 0} (t : Bool) (xs ys : List X) → IsPermutation xs ys → IsPermutation (cond t xs []) (cond t ys [])
 given_same true xs ys h = h
 given_same false xs ys h = IsPermutation-refl []
 
 -- each target has a new number, which gives the same
-pub voices_of-renumbered : (inside other : Inside) (n : Numbers) (global : GlobalZone) (by : Renumbering)
+pub voices_of-renumbered : {X : Type 0} (inside other : Inside X) (n : Numbers) (global : GlobalZone) (by : Renumbering)
     (zones : List Zone)
     → OfTargets (λ t. (v : Taken) → IsPermutation (inside v t) (other v (renumbered by t))) zones
     → IsPermutation (voices_of inside n global zones) (voices_of other n global (map (zone_renumbered by) zones))
@@ -45,7 +45,7 @@ voices_of-renumbered inside other n global by (z ∷ zones) h =
     (voices_of-renumbered inside other n global by zones h.1)
 
 -- each target gives the same
-pub voices_of-same : (inside other : Inside) → ((v : Taken) (t : ℕ) → IsPermutation (inside v t) (other v t))
+pub voices_of-same : {X : Type 0} (inside other : Inside X) → ((v : Taken) (t : ℕ) → IsPermutation (inside v t) (other v t))
     → (n : Numbers) (global : GlobalZone) (zones : List Zone)
     → IsPermutation (voices_of inside n global zones) (voices_of other n global zones)
 unfolding voices_of
@@ -56,7 +56,7 @@ voices_of-same inside other h n global (z ∷ zones) =
 
 -- ---- zones moved, split and joined
 
-pub voices_of-moved : (inside : Inside) (n : Numbers) (global : GlobalZone) (zones : List Zone) (i j : ℕ)
+pub voices_of-moved : {X : Type 0} (inside : Inside X) (n : Numbers) (global : GlobalZone) (zones : List Zone) (i j : ℕ)
     → IsPermutation (voices_of inside n global zones) (voices_of inside n global (moved zones i j))
 unfolding voices_of
 voices_of-moved inside n global zones i j =
@@ -66,13 +66,13 @@ voices_of-moved inside n global zones i j =
 abbrev pub CanSplit : Axis → ℕ → GlobalZone → List Zone → ℕ → Type 0
 CanSplit axis m global zones k = (z : Zone) → slice_get zones k ≡ Some z → IsSplitAt axis m global z
 
-pub voices_of-split : (inside : Inside) (n : Numbers) (axis : Axis) (m : ℕ) (global : GlobalZone) (zones : List Zone)
+pub voices_of-split : {X : Type 0} (inside : Inside X) (n : Numbers) (axis : Axis) (m : ℕ) (global : GlobalZone) (zones : List Zone)
     (k : ℕ)
     → m < 256 → CanSplit axis m global zones k
     → IsPermutation (voices_of inside n global zones) (voices_of inside n global (zones_split axis m global zones k))
 unfolding voices_of
-voices_of-split inside n axis m global zones k small h =
-    let give : Zone → List Voice = λ z. cond (holds n global z) (inside (taken global z) z.target) [] in
+voices_of-split {X} inside n axis m global zones k small h =
+    let give : Zone → List X = λ z. cond (holds n global z) (inside (taken global z) z.target) [] in
     let at : (o : Option Zone) → slice_get zones k ≡ o
     → flat_map give zones
     ≡ flat_map give
@@ -93,13 +93,13 @@ CanJoin axis keep global zones k =
     (y z : Zone) → slice_get zones k ≡ Some y → slice_get zones (k + 1) ≡ Some z
     → AreJoinedInOrder axis keep global y z
 
-pub voices_of-joined : (inside : Inside) (n : Numbers) (axis : Axis) (keep : Keep) (global : GlobalZone)
+pub voices_of-joined : {X : Type 0} (inside : Inside X) (n : Numbers) (axis : Axis) (keep : Keep) (global : GlobalZone)
     (zones : List Zone) (k : ℕ)
     → CanJoin axis keep global zones k
     → IsPermutation (voices_of inside n global zones) (voices_of inside n global (zones_joined axis keep zones k))
 unfolding voices_of
-voices_of-joined inside n axis keep global zones k h =
-    let give : Zone → List Voice = λ x. cond (holds n global x) (inside (taken global x) x.target) [] in
+voices_of-joined {X} inside n axis keep global zones k h =
+    let give : Zone → List X = λ x. cond (holds n global x) (inside (taken global x) x.target) [] in
     let at : (o p : Option Zone) → slice_get zones k ≡ o → slice_get zones (k + 1) ≡ p
     → flat_map give zones
     ≡ flat_map give

@@ -1,4 +1,5 @@
--- The edits that change no sound, form by form: the changed bank gives each note the same voices.
+-- The edits that change no sound, form by form: each statement is that the changed bank is R of the bank, for a
+-- relation R of banks, as that both give each note the same voices, or that their pairs of zones correspond.
 use Rattle.std.specs.Prelude.{◌≡◌, ◌≤◌, ◌<◌, ◌^◌, ℕ, List, length, true, false}
 use Rattle.std.specs.List.{list_any}
 use Rattle.bank_parts.specs.declared.texts.InfoId.{InfoId}
@@ -16,7 +17,6 @@ use Rattle.bank_changes.specs.Points.{kind_set}
 use Rattle.bank_changes.specs.Instruments.{instrument_renamed, instrument_added, instrument_removed, instrument_moved}
 use Rattle.bank_changes.specs.Zones.{zone_moved, zone_split, zone_joined, can_split, can_join}
 use Rattle.bank_changes.specs.Texts.{info_set}
-use Rattle.zone_select.specs.Alike.{AreAlike}
 
 -- no zone of these presets, or instruments, targets the number
 abbrev pub IsUntargeted : {H : Type 0} → List (WithZones H) → ℕ → Type 0
@@ -25,54 +25,54 @@ IsUntargeted owners number = list_any (targets number) owners ≡ false
 -- ---- samples
 
 -- whatever the sample is
-abbrev pub SampleAddedAlike : Type 0
-SampleAddedAlike = (b : Parts) (i : ℕ) (s : Sample) → i ≤ length b.samples → AreAlike b (sample_added b i s)
+abbrev pub SampleAdded : (Parts → Parts → Type 0) → Type 0
+SampleAdded R = (b : Parts) (i : ℕ) (s : Sample) → i ≤ length b.samples → R b (sample_added b i s)
 
 -- links to it don't matter
-abbrev pub SampleRemovedAlike : Type 0
-SampleRemovedAlike = (b : Parts) (i : ℕ) → IsUntargeted b.instruments i → AreAlike b (sample_removed b i)
+abbrev pub SampleRemoved : (Parts → Parts → Type 0) → Type 0
+SampleRemoved R = (b : Parts) (i : ℕ) → IsUntargeted b.instruments i → R b (sample_removed b i)
 
-abbrev pub SampleMovedAlike : Type 0
-SampleMovedAlike = (b : Parts) (i j : ℕ) → i < length b.samples → j < length b.samples → AreAlike b (sample_moved b i j)
+abbrev pub SampleMoved : (Parts → Parts → Type 0) → Type 0
+SampleMoved R = (b : Parts) (i j : ℕ) → i < length b.samples → j < length b.samples → R b (sample_moved b i j)
 
-abbrev pub SampleRenamedAlike : Type 0
-SampleRenamedAlike = (b : Parts) (i : ℕ) (name : List ℕ) → AreAlike b (sample_renamed b i name)
+abbrev pub SampleRenamed : (Parts → Parts → Type 0) → Type 0
+SampleRenamed R = (b : Parts) (i : ℕ) (name : List ℕ) → R b (sample_renamed b i name)
 
-abbrev pub KindSetAlike : Type 0
-KindSetAlike = (b : Parts) (i : ℕ) (kind : Kind) → AreAlike b (kind_set b i kind)
+abbrev pub KindSet : (Parts → Parts → Type 0) → Type 0
+KindSet R = (b : Parts) (i : ℕ) (kind : Kind) → R b (kind_set b i kind)
 
 -- ---- instruments
 
 -- whatever the instrument is
-abbrev pub InstrumentAddedAlike : Type 0
-InstrumentAddedAlike = (b : Parts) (i : ℕ) (x : WithZones (List ℕ)) → i ≤ length b.instruments
-    → AreAlike b (instrument_added b i x)
+abbrev pub InstrumentAdded : (Parts → Parts → Type 0) → Type 0
+InstrumentAdded R = (b : Parts) (i : ℕ) (x : WithZones (List ℕ)) → i ≤ length b.instruments
+    → R b (instrument_added b i x)
 
-abbrev pub InstrumentRemovedAlike : Type 0
-InstrumentRemovedAlike = (b : Parts) (i : ℕ) → IsUntargeted b.presets i → AreAlike b (instrument_removed b i)
+abbrev pub InstrumentRemoved : (Parts → Parts → Type 0) → Type 0
+InstrumentRemoved R = (b : Parts) (i : ℕ) → IsUntargeted b.presets i → R b (instrument_removed b i)
 
-abbrev pub InstrumentMovedAlike : Type 0
-InstrumentMovedAlike = (b : Parts) (i j : ℕ) → i < length b.instruments → j < length b.instruments
-    → AreAlike b (instrument_moved b i j)
+abbrev pub InstrumentMoved : (Parts → Parts → Type 0) → Type 0
+InstrumentMoved R = (b : Parts) (i j : ℕ) → i < length b.instruments → j < length b.instruments
+    → R b (instrument_moved b i j)
 
-abbrev pub InstrumentRenamedAlike : Type 0
-InstrumentRenamedAlike = (b : Parts) (i : ℕ) (name : List ℕ) → AreAlike b (instrument_renamed b i name)
+abbrev pub InstrumentRenamed : (Parts → Parts → Type 0) → Type 0
+InstrumentRenamed R = (b : Parts) (i : ℕ) (name : List ℕ) → R b (instrument_renamed b i name)
 
 -- ---- zones of a preset or an instrument
 
-abbrev pub ZoneMovedAlike : Type 0
-ZoneMovedAlike = (b : Parts) (o : Owner) (from to : ℕ) → AreAlike b (zone_moved b o from to)
+abbrev pub ZoneMoved : (Parts → Parts → Type 0) → Type 0
+ZoneMoved R = (b : Parts) (o : Owner) (from to : ℕ) → R b (zone_moved b o from to)
 
-abbrev pub ZoneSplitAlike : Type 0
-ZoneSplitAlike = (b : Parts) (o : Owner) (k : ℕ) (axis : Axis) (m : ℕ) → m < 2 ^ 8 → can_split b o k axis m ≡ true
-    → AreAlike b (zone_split b o k axis m)
+abbrev pub ZoneSplit : (Parts → Parts → Type 0) → Type 0
+ZoneSplit R = (b : Parts) (o : Owner) (k : ℕ) (axis : Axis) (m : ℕ) → m < 2 ^ 8 → can_split b o k axis m ≡ true
+    → R b (zone_split b o k axis m)
 
 -- in a valid bank no range ends before it begins
-abbrev pub ZoneJoinedAlike : Type 0
-ZoneJoinedAlike = (b : Parts) (o : Owner) (k : ℕ) (axis : Axis) (keep : Keep) → IsValid b
-    → can_join b o k axis keep ≡ true → AreAlike b (zone_joined b o k axis keep)
+abbrev pub ZoneJoined : (Parts → Parts → Type 0) → Type 0
+ZoneJoined R = (b : Parts) (o : Owner) (k : ℕ) (axis : Axis) (keep : Keep) → IsValid b
+    → can_join b o k axis keep ≡ true → R b (zone_joined b o k axis keep)
 
 -- ---- texts
 
-abbrev pub InfoSetAlike : Type 0
-InfoSetAlike = (b : Parts) (id : InfoId) (text : List ℕ) → AreAlike b (info_set b id text)
+abbrev pub InfoSet : (Parts → Parts → Type 0) → Type 0
+InfoSet R = (b : Parts) (id : InfoId) (text : List ℕ) → R b (info_set b id text)

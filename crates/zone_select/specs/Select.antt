@@ -23,8 +23,8 @@ pub record Voice : Type 0 where
 unfoldable pub voice_of : Numbers → Taken → Taken → Sample → Voice
 voice_of n v u s = record { points = s.points; parameters = parameters_of n v u s }
 
--- of each zone that holds the note, the voices of its target
-unfoldable pub voices_of : (Taken → ℕ → List Voice) → Numbers → GlobalZone → List Zone → List Voice
+-- of each zone that holds the note, the voices of its target, or whatever is given of it
+unfoldable pub voices_of : {X : Type 0} → (Taken → ℕ → List X) → Numbers → GlobalZone → List Zone → List X
 voices_of inside n global zones =
     flat_map (λ (z : Zone). cond (holds n global z) (inside (taken global z) z.target) []) zones
 

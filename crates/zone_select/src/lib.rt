@@ -16,7 +16,8 @@ mod zones;
 
 pub use laws::{linear_modulators_are_summed, pairs_have_voices, selected_by_pairs};
 pub use neutral::{
-    instruments_keep_sounding, samples_keep_sounding, texts_keep_sounding, zones_keep_sounding,
+    instruments_keep_pairs, instruments_keep_sounding, samples_keep_pairs, samples_keep_sounding,
+    texts_keep_pairs, texts_keep_sounding, zones_keep_pairs, zones_keep_sounding,
 };
 pub use pairs::{ZonePairs as Matches, matches};
 pub use parameters::{PairParameters as Params, VoiceParameters, params};

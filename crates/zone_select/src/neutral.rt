@@ -1,35 +1,67 @@
 //! The laws that some edits change no sound: the changed bank gives each note the same voices, in some
-//! order. A function here does nothing: the law is its contract.
-ghost use Rattle.zone_select.specs.Neutral.{SampleAddedAlike, SampleRemovedAlike, SampleMovedAlike, SampleRenamedAlike, KindSetAlike, InstrumentAddedAlike, InstrumentRemovedAlike, InstrumentMovedAlike, InstrumentRenamedAlike, ZoneMovedAlike, ZoneSplitAlike, ZoneJoinedAlike, InfoSetAlike};
+//! order, and its pairs of zones correspond to those of the bank before, each with the same voice. A
+//! function here does nothing: the law is its contract.
+ghost use Rattle.zone_select.specs.Alike.{AreAlike, HavePairsAlike};
+ghost use Rattle.zone_select.specs.Neutral.{SampleAdded, SampleRemoved, SampleMoved, SampleRenamed, KindSet, InstrumentAdded, InstrumentRemoved, InstrumentMoved, InstrumentRenamed, ZoneMoved, ZoneSplit, ZoneJoined, InfoSet};
 
 /// Each note has the same voices once a sample is put in, once one that no zone targets is taken out,
 /// once one has another number, which the zones follow, another name or another kind.
 pub fn samples_keep_sounding()
-    ensures added { SampleAddedAlike }
-    ensures removed { SampleRemovedAlike }
-    ensures moved { SampleMovedAlike }
-    ensures renamed { SampleRenamedAlike }
-    ensures kind { KindSetAlike }
+    ensures added { SampleAdded AreAlike }
+    ensures removed { SampleRemoved AreAlike }
+    ensures moved { SampleMoved AreAlike }
+    ensures renamed { SampleRenamed AreAlike }
+    ensures kind { KindSet AreAlike }
 {}
 
 /// Each note has the same voices once an instrument is put in, once one that no zone targets is taken
 /// out, once one has another number, which the zones follow, or another name.
 pub fn instruments_keep_sounding()
-    ensures added { InstrumentAddedAlike }
-    ensures removed { InstrumentRemovedAlike }
-    ensures moved { InstrumentMovedAlike }
-    ensures renamed { InstrumentRenamedAlike }
+    ensures added { InstrumentAdded AreAlike }
+    ensures removed { InstrumentRemoved AreAlike }
+    ensures moved { InstrumentMoved AreAlike }
+    ensures renamed { InstrumentRenamed AreAlike }
 {}
 
 /// Each note has the same voices once a zone of a preset or an instrument has another number, once it is
 /// split at a key or a velocity of its range, and once two of a valid bank that can be joined are.
 pub fn zones_keep_sounding()
-    ensures moved { ZoneMovedAlike }
-    ensures split { ZoneSplitAlike }
-    ensures joined { ZoneJoinedAlike }
+    ensures moved { ZoneMoved AreAlike }
+    ensures split { ZoneSplit AreAlike }
+    ensures joined { ZoneJoined AreAlike }
 {}
 
 /// Each note has the same voices whatever the texts say.
 pub fn texts_keep_sounding()
-    ensures set { InfoSetAlike }
+    ensures set { InfoSet AreAlike }
+{}
+
+/// The pairs of zones that a note selects before and after one of the edits of
+/// [`samples_keep_sounding`] correspond one to one, each with the same points and parameters.
+pub fn samples_keep_pairs()
+    ensures added { SampleAdded HavePairsAlike }
+    ensures removed { SampleRemoved HavePairsAlike }
+    ensures moved { SampleMoved HavePairsAlike }
+    ensures renamed { SampleRenamed HavePairsAlike }
+    ensures kind { KindSet HavePairsAlike }
+{}
+
+/// So do those before and after one of the edits of [`instruments_keep_sounding`].
+pub fn instruments_keep_pairs()
+    ensures added { InstrumentAdded HavePairsAlike }
+    ensures removed { InstrumentRemoved HavePairsAlike }
+    ensures moved { InstrumentMoved HavePairsAlike }
+    ensures renamed { InstrumentRenamed HavePairsAlike }
+{}
+
+/// So do those before and after one of the edits of [`zones_keep_sounding`].
+pub fn zones_keep_pairs()
+    ensures moved { ZoneMoved HavePairsAlike }
+    ensures split { ZoneSplit HavePairsAlike }
+    ensures joined { ZoneJoined HavePairsAlike }
+{}
+
+/// So do those before and after a text is set.
+pub fn texts_keep_pairs()
+    ensures set { InfoSet HavePairsAlike }
 {}
