@@ -179,7 +179,8 @@ fn the_later_modulator_and_the_class(rt: HostRuntime) -> Result<(), Fail> {
     let (bank, _counts) = read(rt.alloc(), file.as_slice())?;
     let note = Note::new(0, 8, 0, 0, 67, 127).expect(&rt, "a note");
     let played = params(&bank, &note, (0, 0));
-    assert!(rt; played.map(|parameters| (parameters.pan, parameters.class)) == Some((248, 1)));
+    assert!(rt; played.map(|played| (played.sample, played.mode)) == Some((0, 1)));
+    assert!(rt; played.map(|played| (played.voice.pan, played.voice.class)) == Some((248, 1)));
     Ok(())
 }
 

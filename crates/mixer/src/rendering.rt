@@ -87,7 +87,7 @@ fn release_of(bank: &Bank<'_>, note: &Note, pair: (u32, u32)) -> u32
     ensures most { result ≤ 4480284 }
 {
     match params(bank, note, pair) {
-        Some(parameters) => parameters.release,
+        Some(played) => played.voice.release,
         None => 0,
     }
 }

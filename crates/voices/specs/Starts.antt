@@ -1,11 +1,10 @@
 -- The voice of a pair of zones at its first frame, and why there is none.
-use Rattle.std.specs.Prelude.{ℕ, ◌≡◌, Option, None, IsSome, slice_get}
-use Rattle.std.specs.Option.{option_map, option_and_then}
+use Rattle.std.specs.Prelude.{ℕ, ◌≡◌, Option, None, IsSome}
+use Rattle.std.specs.Option.{option_map}
 use Rattle.note_list.specs.Notes.{Numbers}
-use Rattle.bank_parts.specs.declared.parts.Sample.{Sample}
 use Rattle.bank_parts.specs.declared.parts.Parts.{Parts}
 use Rattle.zone_select.specs.Select.{Voice}
-use Rattle.zone_select.specs.Pairs.{Chosen, chosen_by, voice_by}
+use Rattle.zone_select.specs.Pairs.{voice_by}
 use Rattle.voices.specs.declared.start.VoiceFault.{VoiceFault}
 use Rattle.voices.specs.declared.start.VoiceFault.TheVariants.{NoMatch, OutOfMemory}
 use Rattle.voices.specs.Sound.{Live}
@@ -13,10 +12,6 @@ use Rattle.voices.specs.Sound.{Live}
 -- at its first frame
 abbrev pub fresh : Voice → Live
 fresh v = record { value = v; age = 0 }
-
--- the sample of a pair that holds the note
-abbrev pub sample_by : Parts → Numbers → ℕ × ℕ → Option Sample
-sample_by b n q = option_and_then (λ (c : Chosen). slice_get b.samples c.sample) (chosen_by b n q)
 
 -- the voice of a pair that holds the note
 abbrev pub started : Parts → Numbers → ℕ × ℕ → Option Live

@@ -1,16 +1,15 @@
 //! The voice of a pair of zones.
 ghost use Rattle.std.specs.Prelude.{◌≡◌, Some, IfOk, IfErr};
-ghost use Rattle.std.specs.Option.{option_copied};
 ghost use Rattle.voices.specs.declared.start.VoiceFault.TheVariants as faults;
-ghost use Rattle.voices.specs.Starts.{sample_by, started, IsStartFault};
+ghost use Rattle.voices.specs.Starts.{started, IsStartFault};
 
 use crate::voice::Voice;
-use bank_core::{Bank, Sample};
+use bank_core::Bank;
 use note_list::Note;
 use sf_base::OutOfMemory;
 use std::alloc::Global;
 use thiserror::Error;
-use zone_select::{params, sample_of};
+use zone_select::params;
 
 /// Why no voice was started.
 #[derive(Debug, Drop, Clone, Copy, PartialEq, Eq, Error)]
@@ -44,19 +43,12 @@ impl<'a> Voice<'a> {
         ensures value { IfOk result (λ voice. started bank.now note.now pair ≡ Some voice) }
         ensures fault { IfErr result (λ fault. IsStartFault (started bank.now note.now pair) fault) }
     {
-        let Some(parameters) = params(bank, note, pair) else {
+        let Some(played) = params(bank, note, pair) else {
             return Err(VoiceFault::NoMatch);
         };
-        let Some(sample) = sample_at(bank, note, pair) else {
+        let Some(sample) = bank.sample(played.sample) else {
             return Err(VoiceFault::NoMatch);
         };
-        Ok(Voice::of(sample.points.copy(alloc)?, parameters))
+        Ok(Voice::of(sample.points.copy(alloc)?, played.voice))
     }
-}
-
-// The sample of a pair.
-fn sample_at<'b, 'a>(bank: &'b Bank<'a>, note: &Note, pair: (u32, u32)) -> Option<&'b Sample<'a>>
-    ensures { option_copied result ≡ sample_by bank.now note.now pair }
-{
-    bank.sample(sample_of(bank, note, pair)?)
 }

@@ -9,21 +9,21 @@ use Rattle.voices.proofs.voice.Voice.start.Goals as goal
 
 pub of-requires : goal.of-requires
 of-requires c =
+    let played = c.in-Some.played in
     let is =
-    voice_is c.args.bank.now c.args.note.now c.args.pair c.in-Some.parameters c.in-Some-sample_at.sample.now
-    c.in-Some.ensures.value
-    c.in-Some-sample_at.ensures in
-    subst (λ (x : List ℕ). IsPlayable (length x) c.in-Some.parameters) (sym c.in_ok-copy.ensures)
+    voice_is c.args.bank.now c.args.note.now c.args.pair played.sample played.voice c.in-Some-sample.sample.now
+    c.in-Some.ensures.sample c.in-Some.ensures.voice c.in-Some-sample.ensures in
+    subst (λ (x : List ℕ). IsPlayable (length x) played.voice) (sym c.in_ok-copy.ensures)
     (subst (λ (o : Option Voice). IfSome o (λ (v : Voice). IsPlayable (length v.points) v.parameters)) is
     c.params.ensures.playable)
 
 pub returns-clause-value : goal.returns-clause-value
 returns-clause-value c =
+    let played = c.in-Some.played in
     let is =
-    voice_is c.args.bank.now c.args.note.now c.args.pair c.in-Some.parameters c.in-Some-sample_at.sample.now
-    c.in-Some.ensures.value
-    c.in-Some-sample_at.ensures in
+    voice_is c.args.bank.now c.args.note.now c.args.pair played.sample played.voice c.in-Some-sample.sample.now
+    c.in-Some.ensures.sample c.in-Some.ensures.voice c.in-Some-sample.ensures in
     ap (option_map fresh) is
-    ∙ ap (λ (x : List ℕ). let v : Voice = record { points = x; parameters = c.in-Some.parameters } in Some (fresh v))
+    ∙ ap (λ (x : List ℕ). let v : Voice = record { points = x; parameters = played.voice } in Some (fresh v))
     (sym c.in_ok-copy.ensures)
     ∙ ap (λ (l : Live). Some l) (sym c.of.ensures)
