@@ -9,10 +9,10 @@ use Rattle.edit_forms.specs.Fits.{FitsEdit}
 use Rattle.edit_refusals.specs.declared.refusal.Refusal.{Refusal}
 use Rattle.bank_edits.specs.EditChanges.{IsDone, IsRefused}
 use Rattle.bank_edits.specs.Undone.{IsTaken}
-use Rattle.zone_select.specs.Alike.{AreAlike}
+use Rattle.zone_select.specs.Alike.{AreAlike, HavePairsAlike}
 use Rattle.mixer.specs.Render.{render}
 use Rattle.neutral_edits.specs.Neutral.{is_neutral}
-use Rattle.neutral_edits.proofs.FormLaws.{neutral_alike}
+use Rattle.neutral_edits.proofs.FormLaws.{neutral_alike, neutral_pairs}
 use Rattle.neutral_edits.proofs.UndoneLaws.{neutral_back}
 use Rattle.neutral_edits.proofs.EventLaws.{neutral_render}
 
@@ -27,6 +27,12 @@ pub done_alike : (b c : Parts) (e : Edit) (r : Result Edit (Refusal × Edit)) �
 done_alike b c e (Ok back) sound fits n d =
     subst (AreAlike b) (sym d.changed) (neutral_alike b e sound (taken b c e back fits d) n)
 done_alike b c e (Err refused) sound fits n d = tt
+
+pub done_pairs : (b c : Parts) (e : Edit) (r : Result Edit (Refusal × Edit)) → IsSound b → FitsEdit e
+    → is_neutral e ≡ true → Outcome b c e r → OnOk r (HavePairsAlike b c)
+done_pairs b c e (Ok back) sound fits n d =
+    subst (HavePairsAlike b) (sym d.changed) (neutral_pairs b e sound (taken b c e back fits d) n)
+done_pairs b c e (Err refused) sound fits n d = tt
 
 pub done_same : (b c : Parts) (e : Edit) (r : Result Edit (Refusal × Edit)) → IsSound b → FitsEdit e
     → is_neutral e ≡ true → Outcome b c e r

@@ -7,13 +7,17 @@ use Rattle.edit_forms.specs.declared.edit.Edit.{Edit}
 use Rattle.edit_refusals.specs.Edits.{raw}
 use Rattle.bank_edits.specs.EditChanges.{inverse}
 use Rattle.bank_edits.specs.Undone.{IsTaken}
-use Rattle.zone_select.specs.Alike.{AreAlike}
+use Rattle.zone_select.specs.Alike.{AreAlike, HavePairsAlike}
 use Rattle.mixer.specs.Render.{render}
 use Rattle.neutral_edits.specs.Neutral.{is_neutral}
 
 -- the changed bank gives each note the same voices
 abbrev pub NeutralAlike : Type 0
 NeutralAlike = (b : Parts) (e : Edit) → IsSound b → IsTaken b e → is_neutral e ≡ true → AreAlike b (raw b e)
+
+-- the pairs that a note selects in it correspond to those of the bank before, one to one, each with the same voice
+abbrev pub NeutralPairs : Type 0
+NeutralPairs = (b : Parts) (e : Edit) → IsSound b → IsTaken b e → is_neutral e ≡ true → HavePairsAlike b (raw b e)
 
 -- it renders all notes the same
 abbrev pub NeutralRender : Type 0

@@ -5,7 +5,7 @@ ghost use Rattle.note_list.specs.Notes.{Numbers};
 ghost use Rattle.edit_forms.specs.Fits.{FitsEdit};
 ghost use Rattle.edit_refusals.specs.Edits.{refusal};
 ghost use Rattle.bank_edits.specs.EditChanges.{IsDone, IsRefused, NeedsNoMemory};
-ghost use Rattle.zone_select.specs.Alike.{AreAlike};
+ghost use Rattle.zone_select.specs.Alike.{AreAlike, HavePairsAlike};
 ghost use Rattle.mixer.specs.Render.{render};
 ghost use Rattle.neutral_edits.specs.Neutral as table;
 
@@ -17,7 +17,8 @@ use std::alloc::Global;
 
 /// Does a neutral edit, as `apply` does: it returns the edit that takes it back, or refuses it, hands it
 /// back, and changes nothing. All notes sound the same in the bank that it leaves: each has the same
-/// voices, in some order. What takes the edit back is neutral too.
+/// voices, in some order, and its pairs of zones correspond to those before one to one, each with the same
+/// voice. What takes the edit back is neutral too.
 pub fn apply_neutral<'a>(
     alloc: Global,
     bank: &mut Bank<'a>,
@@ -32,6 +33,7 @@ pub fn apply_neutral<'a>(
     ensures fits { FitsEdit edit.entry }
     ensures back_fits { IfOk result FitsEdit }
     ensures alike { OnOk result (AreAlike bank.old bank.new) }
+    ensures pairs { OnOk result (HavePairsAlike bank.old bank.new) }
     ensures same { OnOk result ((ns : List Numbers) → render bank.new ns ≡ render bank.old ns) }
     ensures back_neutral { IfOk result (λ back. table.is_neutral back ≡ true) }
 {

@@ -1,11 +1,15 @@
 //! The laws of neutral edits, over banks and edits as data.
-ghost use Rattle.neutral_edits.specs.Unheard.{InversesAreNeutral, NeutralAlike, NeutralRender};
+ghost use Rattle.neutral_edits.specs.Unheard.{InversesAreNeutral, NeutralAlike, NeutralPairs, NeutralRender};
 ghost use Rattle.neutral_edits.specs.Events.{NeutralBlocks, NeutralHeard};
 
-/// Where a bank is sound and takes a neutral edit, the changed bank gives each note the same voices, in
-/// some order, and renders all notes the same. It does nothing.
+/// Where a bank is sound and accepts a neutral edit, the changed bank gives each note the same voices, in
+/// some order, its pairs of zones correspond to those before one to one, each with the same voice, and it
+/// renders all notes the same. For the forms one by one, see the laws of `zone_select`:
+/// `samples_keep_pairs`, `instruments_keep_pairs`, `zones_keep_pairs` and `texts_keep_pairs`. It does
+/// nothing.
 pub fn neutral_edits_change_no_sound()
     ensures alike { NeutralAlike }
+    ensures pairs { NeutralPairs }
     ensures same { NeutralRender }
 {}
 

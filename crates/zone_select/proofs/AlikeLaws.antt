@@ -1,4 +1,4 @@
--- Banks whose zones give the same for each note: from the samples up, with one member changed, and with other numbers.
+-- Banks whose zones give the same for each note: from the samples up, where the zones of one owner are changed.
 use Rattle.std.proofs.Common.{◌≡◌, ℕ, ◌==◌, ◌&&◌, Option, Some, None, List, map, slice_get, refl, sym, ap, subst}
 use Rattle.std.specs.List.{find}
 use Rattle.std.specs.List.Sorted.{IsPermutation}
@@ -40,7 +40,7 @@ SoundSame s t = (n : Numbers) (v u : Taken) → voice_of n v u s ≡ voice_of n 
 pub sound_same : (s : Sample) → SoundSame s s
 sound_same s n v u = refl
 
-same_voices : (n : Numbers) (u v : Taken) (o p : Option Sample) → MatchedOption SoundSame o p
+pub same_voices : (n : Numbers) (u v : Taken) (o p : Option Sample) → MatchedOption SoundSame o p
     → option_map (voice_of n v u) o ≡ option_map (voice_of n v u) p
 same_voices n u v None None h = refl
 same_voices n u v None (Some y) h = absurd h
@@ -116,18 +116,6 @@ module _ {X : Type 0} (g : Option Voice → List X) where
 
   -- ---- what is changed in its place
 
-  -- samples that sound the same
-  pub samples-alike : (b : Parts) (samples : List Sample) → Matched SoundSame b.samples samples
-      → GivenAlike g b (record b { samples = samples })
-  samples-alike b samples h =
-      let c : Parts = record b { samples = samples } in
-      given-alike b c (matched-same (PresetsAlike b c)
-      (same_presets b c
-      (λ t.
-      matched-option_same (InstrumentsAlike b c)
-      (same_instruments b c (λ k. matched-get SoundSame b.samples samples k h)) (slice_get b.instruments t)))
-      b.presets)
-
   -- an instrument by one that is alike
   pub instrument_changed-alike : (b : Parts) (k : ℕ) (f : Instrument → Instrument)
       →
@@ -178,53 +166,3 @@ module _ {X : Type 0} (g : Option Voice → List X) where
       (λ p e. (refl, refl, λ n. h p e (number_given g b n) n))
   owner_changed-alike b (owner.Inst k) f h =
       instrument_changed-alike b k (λ x. with_zones (f x.global x.zones) x) (λ i e n u. h i e (sample_given g b n u) n)
-
-  -- ---- numbers
-
-  -- samples with other numbers, which the zones follow
-  pub samples_renumbered-alike : (b : Parts) (by : Renumbering) (samples : List Sample)
-      → OfOwners (λ t. MatchedOption SoundSame (slice_get b.samples t) (slice_get samples (renumbered by t)))
-      b.instruments
-      → GivenAlike g b (record b { samples = samples; instruments = map (owner_renumbered by) b.instruments })
-  unfolding instrument_given
-  samples_renumbered-alike b by samples h =
-      let c : Parts = record b { samples = samples; instruments = map (owner_renumbered by) b.instruments } in
-      let P : ℕ → Type 0 = λ t. MatchedOption SoundSame (slice_get b.samples t) (slice_get samples (renumbered by t)) in
-      let one : (i : Instrument) → OfTargets P i.zones → InstrumentsAlike b c i (owner_renumbered by i) = λ i a n u.
-      voices_of-renumbered (sample_given g b n u) (sample_given g c n u) n i.global by i.zones
-      (all_weaker (λ (z : Zone). P z.target) (λ (z : Zone). (v : Taken)
-      → IsPermutation (sample_given g b n u v z.target) (sample_given g c n u v (renumbered by z.target)))
-      (λ z e v. sample_given-alike b c z.target (renumbered by z.target) e n u v) i.zones a) in
-      given-alike b c (matched-same (PresetsAlike b c)
-      (same_presets b c (λ t. matched-get (InstrumentsAlike b c) b.instruments c.instruments t
-      (matched-map (InstrumentsAlike b c) (owner_renumbered by) b.instruments
-      (all_weaker (λ (i : Instrument). OfTargets P i.zones)
-      (λ (i : Instrument). InstrumentsAlike b c i (owner_renumbered by i)) one b.instruments h))))
-      b.presets)
-
-  -- instruments with other numbers, which the zones follow
-  pub instruments_renumbered-alike : (b : Parts) (by : Renumbering) (instruments : List Instrument)
-      → OfOwners (λ t. slice_get instruments (renumbered by t) ≡ slice_get b.instruments t) b.presets
-      → GivenAlike g b (record b { instruments = instruments; presets = map (owner_renumbered by) b.presets })
-  unfolding preset_given
-  instruments_renumbered-alike b by instruments h =
-      let c : Parts = record b { instruments = instruments; presets = map (owner_renumbered by) b.presets } in
-      let P : ℕ → Type 0 = λ t. slice_get instruments (renumbered by t) ≡ slice_get b.instruments t in
-      let same : (i : Instrument) → InstrumentsAlike b c i i =
-      same_instruments b c (λ t. matched-option_same SoundSame sound_same (slice_get b.samples t)) in
-      let found : (t : ℕ) → P t
-      → MatchedOption (InstrumentsAlike b c) (slice_get b.instruments t) (slice_get instruments (renumbered by t)) =
-      λ t e.
-      subst (MatchedOption (InstrumentsAlike b c) (slice_get b.instruments t)) (sym e)
-      (matched-option_same (InstrumentsAlike b c) same (slice_get b.instruments t)) in
-      let one : (p : Preset) → OfTargets P p.zones → PresetsAlike b c p (owner_renumbered by p) = λ p a. (
-        refl,
-        refl,
-        λ n. voices_of-renumbered (number_given g b n) (number_given g c n) n p.global by p.zones
-            (all_weaker (λ (z : Zone). P z.target) (λ (z : Zone). (v : Taken)
-            → IsPermutation (number_given g b n v z.target) (number_given g c n v (renumbered by z.target)))
-            (λ z e v. number_given-alike b c z.target (renumbered by z.target) (found z.target e) n v) p.zones a),
-      ) in
-      given-alike b c (matched-map (PresetsAlike b c) (owner_renumbered by) b.presets
-      (all_weaker (λ (p : Preset). OfTargets P p.zones) (λ (p : Preset). PresetsAlike b c p
-      (owner_renumbered by p)) one b.presets h))

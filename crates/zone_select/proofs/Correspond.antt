@@ -2,17 +2,17 @@
 -- each note the same voices, and their pairs correspond.
 use Rattle.std.proofs.Common.{◌≡◌, ℕ, zero, suc, Option, List, [], ◌∷◌, length, map, slice_set, slice_index_or, refl, sym}
 use Rattle.std.proofs.Common.{ap, subst, ◌∙◌}
-use Rattle.std.specs.List.{swap}
+use Rattle.std.specs.List.{swap, flat_map}
 use Rattle.std.specs.List.Sorted.{IsPermutation, SwapsInRange, apply_swaps}
 use Rattle.std.proofs.lemmas.List.{length-map, map-set}
-use Rattle.std.proofs.lemmas.List.Sorted.{IsPermutation-sym}
+use Rattle.std.proofs.lemmas.List.Sorted.{IsPermutation-refl, IsPermutation-sym}
 use Rattle.note_list.specs.Notes.{Numbers}
 use Rattle.bank_parts.specs.declared.parts.Parts.{Parts}
 use Rattle.zone_select.specs.Select.{Voice, selected}
 use Rattle.zone_select.specs.Pairs.{pairs, voice_by, listed}
-use Rattle.zone_select.specs.Alike.{AreAlike, PairsCorrespond, HavePairsAlike}
+use Rattle.zone_select.specs.Alike.{AreAlike, PairsCorrespond, HavePairsAlike, HaveSamePairs}
 use Rattle.zone_select.proofs.Given.{given, GivenAlike}
-use Rattle.zone_select.proofs.PairLaws.{selected_is, voices_by_pairs}
+use Rattle.zone_select.proofs.PairLaws.{selected_is, selected_by_pairs, voices_by_pairs}
 
 -- ---- a list whose images come in another order
 
@@ -50,7 +50,7 @@ module _ {X Y : Type 0} (f : X → Y) where
     h.is ∙ sym (map-swaps xs h.moves),
   )
 
--- ---- two banks
+-- ---- two banks whose zones give the same
 
 pub alike : (b c : Parts) → GivenAlike listed b c → AreAlike b c
 alike b c h n =
@@ -70,3 +70,19 @@ pairs_alike b c h n =
     in
     let zs = ordered_as (voice_by c n) (pairs c n) (map (voice_by b n) (pairs b n)) back in
     record { others = zs.0; one_to_one = zs.1; same_voices = zs.2 }
+
+-- ---- two banks with the same pairs
+
+pub alike_by_same : (b c : Parts) → HaveSamePairs b c → AreAlike b c
+alike_by_same b c h n =
+    let same : flat_map (λ q. listed (voice_by b n q)) (pairs b n) ≡ flat_map (λ q. listed (voice_by c n q)) (pairs c n) =
+    λ i. flat_map (λ q. listed ((h n).1 q i)) ((h n).0 i) in
+    subst (IsPermutation (selected b n)) (sym (selected_by_pairs b n) ∙ same ∙ selected_by_pairs c n)
+    (IsPermutation-refl (selected b n))
+
+pub pairs_by_same : (b c : Parts) → HaveSamePairs b c → HavePairsAlike b c
+pairs_by_same b c h n = record {
+  others = pairs c n;
+  one_to_one = IsPermutation-refl (pairs c n);
+  same_voices = λ i. map (λ q. (h n).1 q i) ((h n).0 i);
+}

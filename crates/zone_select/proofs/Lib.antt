@@ -15,6 +15,7 @@ pub mod Halves
 pub mod Joins
 pub mod ZoneVoices
 pub mod AlikeLaws
+pub mod SameLaws
 pub mod NeutralLaws
 pub mod Correspond
 pub mod Listed

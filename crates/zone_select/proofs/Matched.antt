@@ -1,6 +1,6 @@
 -- Lists and options whose members are related one by one, and what is taken from them.
 use Rattle.std.proofs.Common.{◌≡◌, ℕ, suc, zero, Bool, true, false, cond, Option, Some, None, List, [], ◌∷◌, map}
-use Rattle.std.proofs.Common.{slice_set, slice_get, refl, sym, subst}
+use Rattle.std.proofs.Common.{slice_set, slice_get, length, refl, sym, ap, subst}
 use Rattle.std.specs.List.{find, AllByRecursion}
 use Rattle.std.specs.List.Sorted.{IsPermutation}
 use Rattle.std.specs.Option.{option_map_or, option_map}
@@ -46,6 +46,19 @@ module _ {X Y : Type 0} (R : X → Y → Type 0) where
   matched-or f g e None (Some y) h = absurd h
   matched-or f g e (Some x) None h = absurd h
   matched-or f g e (Some x) (Some y) h = e x y h
+
+  pub matched-same_or : {Z : Type 0} (f : X → Z) (g : Y → Z) (d : Z) → ((x : X) (y : Y) → R x y → f x ≡ g y)
+      → (o : Option X) (p : Option Y) → MatchedOption R o p → option_map_or f o d ≡ option_map_or g p d
+  matched-same_or f g d e None None h = refl
+  matched-same_or f g d e None (Some y) h = absurd h
+  matched-same_or f g d e (Some x) None h = absurd h
+  matched-same_or f g d e (Some x) (Some y) h = e x y h
+
+  pub matched-long : (xs : List X) (ys : List Y) → Matched R xs ys → length xs ≡ length ys
+  matched-long [] [] h = refl
+  matched-long [] (y ∷ ys) h = absurd h
+  matched-long (x ∷ xs) [] h = absurd h
+  matched-long (x ∷ xs) (y ∷ ys) h = ap suc (matched-long xs ys h.1)
 
   pub matched-map : (f : X → Y) (xs : List X) → AllByRecursion (λ x. R x (f x)) xs → Matched R xs (map f xs)
   matched-map f [] h = tt

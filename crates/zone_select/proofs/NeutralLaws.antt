@@ -1,5 +1,4 @@
--- The edits that change no sound, form by form, for any relation R of two banks that holds where their zones give the
--- same for each note.
+-- The edits that change no sound, form by form, for relations R of two banks.
 use Rattle.std.proofs.Common.{◌≡◌, ◌≢◌, ℕ, ◌+◌, ◌≤◌, ◌==◌, true, false, Option, Some, List, map, length, slice_get, insert}
 use Rattle.std.proofs.Common.{remove, refl, sym, ap, subst, ◌∙◌, arith}
 use Rattle.std.specs.Prelude.{unwrap_or}
@@ -36,15 +35,17 @@ use Rattle.bank_changes.proofs.Changes.{all_found}
 use Rattle.bank_changes.proofs.OwnerReferences.{owners_always, owners_weaker, untargeted}
 use Rattle.zone_select.specs.Select.{Voice, voice_of}
 use Rattle.zone_select.specs.Amounts.{parameters_of, is_looped}
+use Rattle.zone_select.specs.Pairs.{pairs, chosen_by}
+use Rattle.zone_select.specs.Alike.{HaveSamePairs}
 use Rattle.zone_select.specs.Neutral.{SampleAdded, SampleRemoved, SampleMoved, SampleRenamed}
 use Rattle.zone_select.specs.Neutral.{KindSet, InstrumentAdded, InstrumentRemoved}
 use Rattle.zone_select.specs.Neutral.{InstrumentMoved, InstrumentRenamed, ZoneMoved, ZoneSplit}
 use Rattle.zone_select.specs.Neutral.{ZoneJoined, InfoSet}
-use Rattle.zone_select.proofs.Given.{sample_given, instrument_given, number_given, preset_given, given, GivenAlike}
+use Rattle.zone_select.proofs.Given.{GivenAlike}
 use Rattle.zone_select.proofs.Matched.{MatchedOption, matched-option_map, matched-changed}
 use Rattle.zone_select.proofs.ZoneVoices.{CanSplit, CanJoin, voices_of-moved, voices_of-split, voices_of-joined}
-use Rattle.zone_select.proofs.AlikeLaws.{SoundSame, sound_same, samples-alike, instrument_changed-alike}
-use Rattle.zone_select.proofs.AlikeLaws.{owner_changed-alike, samples_renumbered-alike, instruments_renumbered-alike}
+use Rattle.zone_select.proofs.AlikeLaws.{SoundSame, sound_same, owner_changed-alike}
+use Rattle.zone_select.proofs.SameLaws.{samples-same, head-same, samples_renumbered-same, instruments_renumbered-same}
 
 -- a sample found under a new number, its own link renumbered too
 sent_found : (xs ys : List Sample) (f : Sample → Sample) (t q : ℕ) → ((s : Sample) → SoundSame s (f s))
@@ -87,26 +88,27 @@ can_join_there name_of at targets owners i k axis keep x v h e y z f g =
           both.own_second;
     }
 
-module _ {X : Type 0} (g : Option Voice → List X) (R : Parts → Parts → Type 0)
-    (h : (b c : Parts) → GivenAlike g b c → R b c) where
+-- ---- no zone has another number: R holds of two banks with the same pairs and voices
+
+module _ (R : Parts → Parts → Type 0) (same : (b c : Parts) → HaveSamePairs b c → R b c) where
   -- ---- samples
 
   pub sample_renamed_alike : SampleRenamed R
   unfolding voice_of parameters_of is_looped
   sample_renamed_alike b i name =
-      h b _ (samples-alike g b _ (matched-changed SoundSame sound_same (named name) b.samples i (λ s e n v u. refl)))
+      same b _ (samples-same b _ (matched-changed SoundSame sound_same (named name) b.samples i (λ s e n v u. refl)))
 
   pub kind_set_alike : KindSet R
   unfolding voice_of parameters_of is_looped
   kind_set_alike b i kind =
-      h b _ (samples-alike g b _ (matched-changed SoundSame sound_same (of_kind kind) b.samples i (λ s e n v u. refl)))
+      same b _ (samples-same b _ (matched-changed SoundSame sound_same (of_kind kind) b.samples i (λ s e n v u. refl)))
 
   pub sample_added_alike : SampleAdded R
   unfolding voice_of parameters_of is_looped
   sample_added_alike b i s inside =
       let sent : List Sample = map (sample_renumbered (Insertion i)) b.samples in
       let long : i ≤ length sent = simp length-map inside in
-      h b _ (samples_renumbered-alike g b (Insertion i) (insert sent i s)
+      same b _ (samples_renumbered-same b (Insertion i) (insert sent i s)
       (owners_always (λ t. MatchedOption SoundSame (slice_get b.samples t)
       (slice_get (insert sent i s) (renumbered (Insertion i) t)))
       (λ t.
@@ -118,7 +120,7 @@ module _ {X : Type 0} (g : Option Voice → List X) (R : Parts → Parts → Typ
   unfolding voice_of parameters_of is_looped
   sample_moved_alike b i j there place =
       let sent : List Sample = map (sample_renumbered (Move i j)) (moved b.samples i j) in
-      h b _ (samples_renumbered-alike g b (Move i j) sent
+      same b _ (samples_renumbered-same b (Move i j) sent
       (owners_always (λ t. MatchedOption SoundSame (slice_get b.samples t) (slice_get sent (renumbered (Move i j) t)))
       (λ t.
       sent_found b.samples (moved b.samples i j) (sample_renumbered (Move i j)) t (renumbered (Move i j) t)
@@ -129,7 +131,7 @@ module _ {X : Type 0} (g : Option Voice → List X) (R : Parts → Parts → Typ
   unfolding voice_of parameters_of is_looped
   sample_removed_alike b i free =
       let sent : List Sample = map (sample_renumbered (Removal i)) (remove b.samples i) in
-      h b _ (samples_renumbered-alike g b (Removal i) sent
+      same b _ (samples_renumbered-same b (Removal i) sent
       (owners_weaker (λ t. (t == i) ≡ false)
       (λ t. MatchedOption SoundSame (slice_get b.samples t) (slice_get sent (renumbered (Removal i) t)))
       (λ t e.
@@ -140,33 +142,38 @@ module _ {X : Type 0} (g : Option Voice → List X) (R : Parts → Parts → Typ
   -- ---- instruments
 
   pub instrument_renamed_alike : InstrumentRenamed R
-  unfolding instrument_given sample_given
-  instrument_renamed_alike b i name =
-      h b _
-      (instrument_changed-alike g b i (with_head name) (λ x e n u. IsPermutation-refl (instrument_given g b n u x)))
+  instrument_renamed_alike b i name = same b _ (head-same b i (with_head name) (λ x. (refl, refl)))
 
   pub instrument_added_alike : InstrumentAdded R
   instrument_added_alike b i x inside =
-      h b _ (instruments_renumbered-alike g b (Insertion i) (insert b.instruments i x)
+      same b _ (instruments_renumbered-same b (Insertion i) (insert b.instruments i x)
       (owners_always
       (λ t. slice_get (insert b.instruments i x) (renumbered (Insertion i) t) ≡ slice_get b.instruments t)
       (λ t. insertion_followed b.instruments i x t inside) b.presets))
 
   pub instrument_moved_alike : InstrumentMoved R
   instrument_moved_alike b i j there place =
-      h b _ (instruments_renumbered-alike g b (Move i j) (moved b.instruments i j)
+      same b _ (instruments_renumbered-same b (Move i j) (moved b.instruments i j)
       (owners_always (λ t. slice_get (moved b.instruments i j) (renumbered (Move i j) t) ≡ slice_get b.instruments t)
       (λ t. move_followed b.instruments i j t there place) b.presets))
 
   pub instrument_removed_alike : InstrumentRemoved R
   instrument_removed_alike b i free =
-      h b _ (instruments_renumbered-alike g b (Removal i) (remove b.instruments i)
+      same b _ (instruments_renumbered-same b (Removal i) (remove b.instruments i)
       (owners_weaker (λ t. (t == i) ≡ false)
       (λ t. slice_get (remove b.instruments i) (renumbered (Removal i) t) ≡ slice_get b.instruments t)
       (λ t e. removal_followed b.instruments i t (differs t i e)) b.presets (untargeted i b.presets free)))
 
-  -- ---- zones
+  -- ---- texts
 
+  pub info_set_alike : InfoSet R
+  unfolding pairs chosen_by
+  info_set_alike b id text = same b _ (λ n. (refl, λ q. refl))
+
+-- ---- zones have other numbers: R holds of two banks whose zones give the same for each note
+
+module _ {X : Type 0} (g : Option Voice → List X) (R : Parts → Parts → Type 0)
+    (h : (b c : Parts) → GivenAlike g b c → R b c) where
   pub zone_moved_alike : ZoneMoved R
   zone_moved_alike b (owner.Preset p) i j =
       h b _ (owner_changed-alike g b (owner.Preset p) (λ global zones. moved zones i j)
@@ -196,9 +203,3 @@ module _ {X : Type 0} (g : Option Voice → List X) (R : Parts → Parts → Typ
       (λ x e inside n. voices_of-joined inside n axis keep x.global x.zones k
       (can_join_there (λ name. name) level.Inst (length b.samples) b.instruments i k axis keep x
       (all_found (IsInstrument (length b.samples)) b.instruments i x e v.instruments) can e)))
-
-  -- ---- texts
-
-  pub info_set_alike : InfoSet R
-  unfolding given preset_given number_given instrument_given sample_given
-  info_set_alike b id text = h b _ (λ n. IsPermutation-refl (given g b n))

@@ -1,7 +1,7 @@
 //! The laws that some edits change no sound: the changed bank gives each note the same voices, in some
-//! order, and its pairs of zones correspond to those of the bank before, each with the same voice. A
-//! function here does nothing: the law is its contract.
-ghost use Rattle.zone_select.specs.Alike.{AreAlike, HavePairsAlike};
+//! order. Its pairs of zones are those of the bank before, or, where zones get other numbers, correspond to
+//! them one to one, each with the same voice. A function here does nothing: the law is its contract.
+ghost use Rattle.zone_select.specs.Alike.{AreAlike, HavePairsAlike, HaveSamePairs};
 ghost use Rattle.zone_select.specs.Neutral.{SampleAdded, SampleRemoved, SampleMoved, SampleRenamed, KindSet, InstrumentAdded, InstrumentRemoved, InstrumentMoved, InstrumentRenamed, ZoneMoved, ZoneSplit, ZoneJoined, InfoSet};
 
 /// Each note has the same voices once a sample is put in, once one that no zone targets is taken out,
@@ -36,32 +36,34 @@ pub fn texts_keep_sounding()
     ensures set { InfoSet AreAlike }
 {}
 
-/// The pairs of zones that a note selects before and after one of the edits of
-/// [`samples_keep_sounding`] correspond one to one, each with the same points and parameters.
+/// Each note selects the same pairs of zones, in the same order, each with the same points and parameters,
+/// before and after one of the edits of [`samples_keep_sounding`].
 pub fn samples_keep_pairs()
-    ensures added { SampleAdded HavePairsAlike }
-    ensures removed { SampleRemoved HavePairsAlike }
-    ensures moved { SampleMoved HavePairsAlike }
-    ensures renamed { SampleRenamed HavePairsAlike }
-    ensures kind { KindSet HavePairsAlike }
+    ensures added { SampleAdded HaveSamePairs }
+    ensures removed { SampleRemoved HaveSamePairs }
+    ensures moved { SampleMoved HaveSamePairs }
+    ensures renamed { SampleRenamed HaveSamePairs }
+    ensures kind { KindSet HaveSamePairs }
 {}
 
-/// So do those before and after one of the edits of [`instruments_keep_sounding`].
+/// So it does before and after one of the edits of [`instruments_keep_sounding`].
 pub fn instruments_keep_pairs()
-    ensures added { InstrumentAdded HavePairsAlike }
-    ensures removed { InstrumentRemoved HavePairsAlike }
-    ensures moved { InstrumentMoved HavePairsAlike }
-    ensures renamed { InstrumentRenamed HavePairsAlike }
+    ensures added { InstrumentAdded HaveSamePairs }
+    ensures removed { InstrumentRemoved HaveSamePairs }
+    ensures moved { InstrumentMoved HaveSamePairs }
+    ensures renamed { InstrumentRenamed HaveSamePairs }
 {}
 
-/// So do those before and after one of the edits of [`zones_keep_sounding`].
+/// The pairs that a note selects before and after one of the edits of [`zones_keep_sounding`], which give
+/// zones other numbers, correspond one to one, each to a pair with the same points and parameters.
 pub fn zones_keep_pairs()
     ensures moved { ZoneMoved HavePairsAlike }
     ensures split { ZoneSplit HavePairsAlike }
     ensures joined { ZoneJoined HavePairsAlike }
 {}
 
-/// So do those before and after a text is set.
+/// Each note selects the same pairs, each with the same points and parameters, before and after a text is
+/// set.
 pub fn texts_keep_pairs()
-    ensures set { InfoSet HavePairsAlike }
+    ensures set { InfoSet HaveSamePairs }
 {}

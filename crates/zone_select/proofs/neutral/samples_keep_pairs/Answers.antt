@@ -1,19 +1,18 @@
-use Rattle.zone_select.specs.Alike.{HavePairsAlike}
-use Rattle.zone_select.proofs.Correspond.{one, pairs_alike}
+use Rattle.zone_select.specs.Alike.{HaveSamePairs}
 use Rattle.zone_select.proofs.NeutralLaws as laws
 use Rattle.zone_select.proofs.neutral.samples_keep_pairs.Goals as goal
 
 pub returns-clause-added : goal.returns-clause-added
-returns-clause-added c = laws.sample_added_alike one HavePairsAlike pairs_alike
+returns-clause-added c = laws.sample_added_alike HaveSamePairs (λ b c h. h)
 
 pub returns-clause-removed : goal.returns-clause-removed
-returns-clause-removed c = laws.sample_removed_alike one HavePairsAlike pairs_alike
+returns-clause-removed c = laws.sample_removed_alike HaveSamePairs (λ b c h. h)
 
 pub returns-clause-moved : goal.returns-clause-moved
-returns-clause-moved c = laws.sample_moved_alike one HavePairsAlike pairs_alike
+returns-clause-moved c = laws.sample_moved_alike HaveSamePairs (λ b c h. h)
 
 pub returns-clause-renamed : goal.returns-clause-renamed
-returns-clause-renamed c = laws.sample_renamed_alike one HavePairsAlike pairs_alike
+returns-clause-renamed c = laws.sample_renamed_alike HaveSamePairs (λ b c h. h)
 
 pub returns-clause-kind : goal.returns-clause-kind
-returns-clause-kind c = laws.kind_set_alike one HavePairsAlike pairs_alike
+returns-clause-kind c = laws.kind_set_alike HaveSamePairs (λ b c h. h)

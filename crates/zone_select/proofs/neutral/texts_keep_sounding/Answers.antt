@@ -1,8 +1,7 @@
-use Rattle.zone_select.specs.Pairs.{listed}
 use Rattle.zone_select.specs.Alike.{AreAlike}
-use Rattle.zone_select.proofs.Correspond.{alike}
+use Rattle.zone_select.proofs.Correspond.{alike_by_same}
 use Rattle.zone_select.proofs.NeutralLaws as laws
 use Rattle.zone_select.proofs.neutral.texts_keep_sounding.Goals as goal
 
 pub returns : goal.returns
-returns c = record { set = laws.info_set_alike listed AreAlike alike }
+returns c = record { set = laws.info_set_alike AreAlike alike_by_same }
