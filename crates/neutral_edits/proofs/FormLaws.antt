@@ -1,5 +1,5 @@
--- Neutral edits, form by form: that the edit is not refused gives what the law of its form asks. R is any relation of two
--- banks that holds where their pairs and voices are the same, and where their zones give the same for each note.
+-- Neutral edits, form by form: that the edit is not refused gives what the law of its form asks. R is any relation of
+-- two banks that holds where they have the same pairs, and where their zones give the same for each note.
 use Rattle.std.proofs.Common.{◌≡◌, ℕ, true, false, None, Some, Option, List, refl}
 use Rattle.std.specs.List.{list_any}
 use Rattle.std.specs.Option.{option_map}

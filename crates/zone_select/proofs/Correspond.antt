@@ -1,7 +1,7 @@
--- From what zones give to voices and to pairs: where the zones of two banks give the same for each note, both banks give
--- each note the same voices, and their pairs correspond.
-use Rattle.std.proofs.Common.{◌≡◌, ℕ, zero, suc, Option, List, [], ◌∷◌, length, map, slice_set, slice_index_or, refl, sym}
-use Rattle.std.proofs.Common.{ap, subst, ◌∙◌}
+-- Two banks whose zones give the same for each note, or that have the same pairs: both give each note the same voices,
+-- and their pairs correspond.
+use Rattle.std.proofs.Common.{◌≡◌, ℕ, zero, suc, Option, List, [], ◌∷◌, length, map, slice_set, slice_index_or, refl}
+use Rattle.std.proofs.Common.{sym, ap, subst, ◌∙◌}
 use Rattle.std.specs.List.{swap, flat_map}
 use Rattle.std.specs.List.Sorted.{IsPermutation, SwapsInRange, apply_swaps}
 use Rattle.std.proofs.lemmas.List.{length-map, map-set}
@@ -75,7 +75,8 @@ pairs_alike b c h n =
 
 pub alike_by_same : (b c : Parts) → HaveSamePairs b c → AreAlike b c
 alike_by_same b c h n =
-    let same : flat_map (λ q. listed (voice_by b n q)) (pairs b n) ≡ flat_map (λ q. listed (voice_by c n q)) (pairs c n) =
+    let same : flat_map (λ q. listed (voice_by b n q)) (pairs b n)
+    ≡ flat_map (λ q. listed (voice_by c n q)) (pairs c n) =
     λ i. flat_map (λ q. listed ((h n).1 q i)) ((h n).0 i) in
     subst (IsPermutation (selected b n)) (sym (selected_by_pairs b n) ∙ same ∙ selected_by_pairs c n)
     (IsPermutation-refl (selected b n))

@@ -101,7 +101,8 @@ halves-hold n global z Vel m h small =
     (within (range_of Key global z) n.key) (halved w m n.velocity h.above h.within small))
 
 -- what the zone's target gives, the one half gives and the other doesn't
-pub halves-give : {X : Type 0} (inside : Taken → ℕ → List X) (n : Numbers) (global : GlobalZone) (z : Zone) (axis : Axis) (m : ℕ)
+pub halves-give : {X : Type 0} (inside : Taken → ℕ → List X) (n : Numbers) (global : GlobalZone) (z : Zone)
+    (axis : Axis) (m : ℕ)
     → IsSplitAt axis m global z → m < 256
     →
     (let give : Zone → List X =

@@ -129,8 +129,8 @@ joined_holds n global y z Vel keep h =
     (within (range_of Vel global z) n.velocity) (within (range_of Key global y) n.key)
     (axis_halved Vel keep global y z h n.velocity))
 
-pub joined_gives : {X : Type 0} (inside : Taken → ℕ → List X) (n : Numbers) (global : GlobalZone) (y z : Zone) (axis : Axis)
-    (keep : Keep)
+pub joined_gives : {X : Type 0} (inside : Taken → ℕ → List X) (n : Numbers) (global : GlobalZone) (y z : Zone)
+    (axis : Axis) (keep : Keep)
     → AreJoinedInOrder axis keep global y z
     →
     (let give : Zone → List X =

@@ -1,6 +1,6 @@
 -- The edits that change no sound, form by form, for relations R of two banks.
-use Rattle.std.proofs.Common.{◌≡◌, ◌≢◌, ℕ, ◌+◌, ◌≤◌, ◌==◌, true, false, Option, Some, List, map, length, slice_get, insert}
-use Rattle.std.proofs.Common.{remove, refl, sym, ap, subst, ◌∙◌, arith}
+use Rattle.std.proofs.Common.{◌≡◌, ◌≢◌, ℕ, ◌+◌, ◌≤◌, ◌==◌, true, false, Option, Some, List, map, length, slice_get}
+use Rattle.std.proofs.Common.{insert, remove, refl, sym, ap, subst, ◌∙◌, arith}
 use Rattle.std.specs.Prelude.{unwrap_or}
 use Rattle.std.specs.Option.{option_map}
 use Rattle.std.proofs.lemmas.Bool.Decides.{nat_tests}

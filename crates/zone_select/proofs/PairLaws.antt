@@ -52,7 +52,14 @@ module _ {X : Type 0} (g : Option Voice → List X) where
   instrument_is b n u i =
       held_by_number (λ l. of_chosen b n (instrument_zone_chosen n u l i))
       (λ (y : Zone). sample_given g b n u (taken i.global y) y.target) n i.global i.zones
-      (λ l y e p. ap (λ (o : Option Zone). of_chosen b n (option_map (λ (y : Zone). record { instrument_zone = taken i.global y; preset_zone = u; sample = y.target }) o)) (is_held n i.global i.zones l y e p))
+      (λ l y e p. ap
+      (λ (o : Option Zone).
+      of_chosen b n
+      (option_map
+      (λ (y : Zone). let r : Chosen =
+      record { instrument_zone = taken i.global y; preset_zone = u; sample = y.target } in r)
+      o))
+      (is_held n i.global i.zones l y e p))
 
   zone_is : (b : Parts) (n : Numbers) (global : GlobalZone) (z : Zone)
       → flat_map (λ l. of_chosen b n (zone_chosen b n global l z)) (held_inside b n z.target 0)
@@ -79,7 +86,12 @@ module _ {X : Type 0} (g : Option Voice → List X) where
       flat_map-flat_map f (pairs_at b n p.zones) (held n p.global p.zones 0)
       ∙ held_by_number (λ k. flat_map f (pairs_at b n p.zones k))
       (λ (z : Zone). number_given g b n (taken p.global z) z.target) n p.global p.zones
-      (λ k z e h. ap (λ (o : Option Zone). flat_map f (option_map_or (λ (z : Zone). map (λ (l : ℕ). let q : ℕ × ℕ = (k, l) in q) (held_inside b n z.target 0)) o [])) e
+      (λ k z e h. ap
+      (λ (o : Option Zone).
+      flat_map f
+      (option_map_or (λ (z : Zone). map (λ (l : ℕ). let q : ℕ × ℕ = (k, l) in q) (held_inside b n z.target 0)) o
+      []))
+      e
       ∙ flat_map-map f (λ (l : ℕ). let q : ℕ × ℕ = (k, l) in q) (held_inside b n z.target 0)
       ∙ ap
       (λ (o : Option Zone).

@@ -188,10 +188,9 @@ have_same : (b c : Parts) → Matched (PresetsSame b c) b.presets c.presets → 
 unfolding pairs chosen_by is_called
 have_same b c m n =
     let found = matched-find (PresetsSame b c) (is_called n) (is_called n)
-    (λ p q e. λ i. e.0 i == n.bank && e.1 i == n.number) b.presets c.presets m in
-    (
+    (λ p q e. λ i. e.0 i == n.bank && e.1 i == n.number) b.presets c.presets m in (
       matched-same_or (PresetsSame b c) (pairs_of b n) (pairs_of c n) [] (λ p r e. same_pairs b c n p r e.2)
-      (find (is_called n) b.presets) (find (is_called n) c.presets) found,
+          (find (is_called n) b.presets) (find (is_called n) c.presets) found,
       λ q. voices q (find (is_called n) b.presets) (find (is_called n) c.presets) found,
     )
   where
@@ -299,8 +298,8 @@ instruments_renumbered-same b by instruments h =
       refl,
       refl,
       owner_renumbered-same (InstrumentsAt b c) by p
-      (all_weaker (λ (z : Zone). P z.target) (λ (z : Zone). InstrumentsAt b c z.target (renumbered by z.target))
-      (λ z. found z.target) p.zones a),
+          (all_weaker (λ (z : Zone). P z.target) (λ (z : Zone). InstrumentsAt b c z.target (renumbered by z.target))
+          (λ z. found z.target) p.zones a),
     ) in
     have_same b c (matched-map (PresetsSame b c) (owner_renumbered by) b.presets
     (all_weaker (λ (p : Preset). OfTargets P p.zones)

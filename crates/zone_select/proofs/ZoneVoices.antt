@@ -29,7 +29,8 @@ use Rattle.zone_select.proofs.Joins.{AreJoinedInOrder, joined_gives}
 abbrev pub Inside : Type 0 → Type 0
 Inside X = Taken → ℕ → List X
 
-given_same : {X : Type 0} (t : Bool) (xs ys : List X) → IsPermutation xs ys → IsPermutation (cond t xs []) (cond t ys [])
+given_same : {X : Type 0} (t : Bool) (xs ys : List X) → IsPermutation xs ys
+    → IsPermutation (cond t xs []) (cond t ys [])
 given_same true xs ys h = h
 given_same false xs ys h = IsPermutation-refl []
 
@@ -45,7 +46,8 @@ voices_of-renumbered inside other n global by (z ∷ zones) h =
     (voices_of-renumbered inside other n global by zones h.1)
 
 -- each target gives the same
-pub voices_of-same : {X : Type 0} (inside other : Inside X) → ((v : Taken) (t : ℕ) → IsPermutation (inside v t) (other v t))
+pub voices_of-same : {X : Type 0} (inside other : Inside X)
+    → ((v : Taken) (t : ℕ) → IsPermutation (inside v t) (other v t))
     → (n : Numbers) (global : GlobalZone) (zones : List Zone)
     → IsPermutation (voices_of inside n global zones) (voices_of other n global zones)
 unfolding voices_of
@@ -66,8 +68,8 @@ voices_of-moved inside n global zones i j =
 abbrev pub CanSplit : Axis → ℕ → GlobalZone → List Zone → ℕ → Type 0
 CanSplit axis m global zones k = (z : Zone) → slice_get zones k ≡ Some z → IsSplitAt axis m global z
 
-pub voices_of-split : {X : Type 0} (inside : Inside X) (n : Numbers) (axis : Axis) (m : ℕ) (global : GlobalZone) (zones : List Zone)
-    (k : ℕ)
+pub voices_of-split : {X : Type 0} (inside : Inside X) (n : Numbers) (axis : Axis) (m : ℕ) (global : GlobalZone)
+    (zones : List Zone) (k : ℕ)
     → m < 256 → CanSplit axis m global zones k
     → IsPermutation (voices_of inside n global zones) (voices_of inside n global (zones_split axis m global zones k))
 unfolding voices_of

@@ -2,7 +2,9 @@
 //! order. Its pairs of zones are those of the bank before, or, where zones get other numbers, correspond to
 //! them one to one, each with the same voice. A function here does nothing: the law is its contract.
 ghost use Rattle.zone_select.specs.Alike.{AreAlike, HavePairsAlike, HaveSamePairs};
-ghost use Rattle.zone_select.specs.Neutral.{SampleAdded, SampleRemoved, SampleMoved, SampleRenamed, KindSet, InstrumentAdded, InstrumentRemoved, InstrumentMoved, InstrumentRenamed, ZoneMoved, ZoneSplit, ZoneJoined, InfoSet};
+ghost use Rattle.zone_select.specs.Neutral.{SampleAdded, SampleRemoved, SampleMoved, SampleRenamed, KindSet};
+ghost use Rattle.zone_select.specs.Neutral.{InstrumentAdded, InstrumentRemoved, InstrumentMoved, InstrumentRenamed};
+ghost use Rattle.zone_select.specs.Neutral.{ZoneMoved, ZoneSplit, ZoneJoined, InfoSet};
 
 /// Each note has the same voices once a sample is put in, once one that no zone targets is taken out,
 /// once one has another number, which the zones follow, another name or another kind.

@@ -78,7 +78,8 @@ pub fn params(bank: &Bank<'_>, note: &Note, pair: (u32, u32)) -> Option<PairPara
     ensures sample { option_map (λ p. p.sample) result ≡ option_map (λ c. c.sample) (chosen_by bank.now note.now pair) }
     ensures mode { option_map (λ p. p.mode) result
         ≡ option_map (λ c. mode_of c.instrument_zone c.preset_zone) (chosen_by bank.now note.now pair) }
-    ensures voice { option_map (λ p. p.voice) result ≡ option_map (λ v. v.parameters) (voice_by bank.now note.now pair) }
+    ensures voice { option_map (λ p. p.voice) result
+        ≡ option_map (λ v. v.parameters) (voice_by bank.now note.now pair) }
     ensures there { IsSome result ↔ Contains (pairs bank.now note.now) pair }
     ensures playable { IfSome (voice_by bank.now note.now pair) (λ v. IsPlayable (length v.points) v.parameters) }
 {
