@@ -1,12 +1,10 @@
 -- Banks whose zones give the same for each note: from the samples up, where the zones of one owner are changed.
-use Rattle.std.proofs.Common.{◌≡◌, ℕ, ◌==◌, ◌&&◌, Option, Some, None, List, map, slice_get, refl, sym, ap, subst}
+use Rattle.std.proofs.Common.{◌≡◌, ℕ, ◌==◌, ◌&&◌, Option, Some, None, List, slice_get, refl, ap, subst}
 use Rattle.std.specs.List.{find}
 use Rattle.std.specs.List.Sorted.{IsPermutation}
 use Rattle.std.specs.Option.{option_map}
 use Rattle.std.proofs.lemmas.List.Sorted.{IsPermutation-refl}
-use Rattle.numbered_lists.specs.declared.renumbering.Renumbering.{Renumbering}
 use Rattle.numbered_lists.specs.Moved.{changed}
-use Rattle.numbered_lists.specs.Renumbered.{renumbered}
 use Rattle.note_list.specs.Notes.{Numbers}
 use Rattle.bank_parts.specs.declared.parts.Head.{Head}
 use Rattle.bank_parts.specs.declared.parts.GlobalZone.{GlobalZone}
@@ -14,18 +12,15 @@ use Rattle.bank_parts.specs.declared.parts.Zone.{Zone}
 use Rattle.bank_parts.specs.declared.parts.WithZones.{WithZones}
 use Rattle.bank_parts.specs.declared.parts.Sample.{Sample}
 use Rattle.bank_parts.specs.declared.parts.Parts.{Parts}
-use Rattle.bank_parts.specs.Renumbered.{owner_renumbered}
 use Rattle.bank_parts.specs.Settings.{with_zones}
 use Rattle.bank_changes.specs.declared.members.Owner.{Owner}
 use Rattle.bank_changes.specs.declared.members.Owner.TheVariants as owner
-use Rattle.bank_changes.proofs.Everywhere.{all_weaker}
-use Rattle.bank_changes.proofs.OwnerReferences.{OfTargets, OfOwners}
 use Rattle.zone_select.specs.Taken.{Taken}
 use Rattle.zone_select.specs.Select.{Voice, voice_of, voices_of, is_called}
 use Rattle.zone_select.proofs.Given.{sample_given, instrument_given, number_given, preset_given, given, GivenAlike}
-use Rattle.zone_select.proofs.Matched.{Matched, MatchedOption, matched-get, matched-find, matched-or, matched-map}
+use Rattle.zone_select.proofs.Matched.{Matched, MatchedOption, matched-get, matched-find, matched-or}
 use Rattle.zone_select.proofs.Matched.{matched-same, matched-changed, matched-option_same}
-use Rattle.zone_select.proofs.ZoneVoices.{Inside, voices_of-renumbered, voices_of-same}
+use Rattle.zone_select.proofs.ZoneVoices.{Inside, voices_of-same}
 
 abbrev Instrument : Type 0
 Instrument = WithZones (List ℕ)
@@ -117,7 +112,7 @@ module _ {X : Type 0} (g : Option Voice → List X) where
   -- ---- what is changed in its place
 
   -- an instrument by one that is alike
-  pub instrument_changed-alike : (b : Parts) (k : ℕ) (f : Instrument → Instrument)
+  instrument_changed-alike : (b : Parts) (k : ℕ) (f : Instrument → Instrument)
       →
       (let c : Parts =
       record b { instruments = changed b.instruments k f } in

@@ -1,16 +1,15 @@
 -- Two banks whose zones give the same for each note, or that have the same pairs: both give each note the same voices,
 -- and their pairs correspond.
-use Rattle.std.proofs.Common.{◌≡◌, ℕ, zero, suc, Option, List, [], ◌∷◌, length, map, slice_set, slice_index_or, refl}
+use Rattle.std.proofs.Common.{◌≡◌, ℕ, zero, suc, Option, List, [], ◌∷◌, map, slice_set, slice_index_or, refl}
 use Rattle.std.proofs.Common.{sym, ap, subst, ◌∙◌}
 use Rattle.std.specs.List.{swap, flat_map}
 use Rattle.std.specs.List.Sorted.{IsPermutation, SwapsInRange, apply_swaps}
 use Rattle.std.proofs.lemmas.List.{length-map, map-set}
 use Rattle.std.proofs.lemmas.List.Sorted.{IsPermutation-refl, IsPermutation-sym}
-use Rattle.note_list.specs.Notes.{Numbers}
 use Rattle.bank_parts.specs.declared.parts.Parts.{Parts}
 use Rattle.zone_select.specs.Select.{Voice, selected}
 use Rattle.zone_select.specs.Pairs.{pairs, voice_by, listed}
-use Rattle.zone_select.specs.Alike.{AreAlike, PairsCorrespond, HavePairsAlike, HaveSamePairs}
+use Rattle.zone_select.specs.Alike.{AreAlike, HavePairsAlike, HaveSamePairs}
 use Rattle.zone_select.proofs.Given.{given, GivenAlike}
 use Rattle.zone_select.proofs.PairLaws.{selected_is, selected_by_pairs, voices_by_pairs}
 

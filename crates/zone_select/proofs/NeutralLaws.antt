@@ -6,7 +6,6 @@ use Rattle.std.specs.Option.{option_map}
 use Rattle.std.proofs.lemmas.Bool.Decides.{nat_tests}
 use Rattle.std.proofs.lemmas.List.{length-map}
 use Rattle.std.proofs.lemmas.Option.{slice_get-map}
-use Rattle.std.proofs.lemmas.List.Sorted.{IsPermutation-refl}
 use Rattle.numbered_lists.specs.declared.renumbering.Renumbering.TheVariants.{Insertion, Removal, Move}
 use Rattle.numbered_lists.specs.Moved.{moved}
 use Rattle.numbered_lists.specs.Renumbered.{renumbered}

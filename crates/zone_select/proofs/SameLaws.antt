@@ -1,9 +1,9 @@
 -- Banks with the same pairs, each with the same voice: the zones of their instruments and presets are the same but for
 -- the numbers that they target. From the samples up, with one member changed, and with other numbers.
-use Rattle.std.proofs.Common.{◌≡◌, ℕ, suc, zero, ◌-◌, ◌==◌, ◌&&◌, Bool, true, false, cond, Option, Some, None, List, []}
-use Rattle.std.proofs.Common.{◌∷◌, length, map, slice_get, refl, sym, ap, subst, ◌∙◌}
+use Rattle.std.proofs.Common.{◌≡◌, ℕ, ◌-◌, ◌==◌, ◌&&◌, Bool, true, false, cond, Option, Some, None, List, []}
+use Rattle.std.proofs.Common.{length, map, slice_get, refl, sym, ap, subst, ◌∙◌}
 use Rattle.std.specs.List.{flat_map, find, filter, range_with_len}
-use Rattle.std.specs.Option.{option_map, option_map_or, option_and_then}
+use Rattle.std.specs.Option.{option_map, option_and_then}
 use Rattle.numbered_lists.specs.declared.renumbering.Renumbering.{Renumbering}
 use Rattle.numbered_lists.specs.Moved.{changed}
 use Rattle.numbered_lists.specs.Renumbered.{renumbered}
@@ -21,7 +21,7 @@ use Rattle.zone_select.specs.Ranges.{holds}
 use Rattle.zone_select.specs.Taken.{Taken, taken, setting}
 use Rattle.zone_select.specs.Select.{Voice, voice_of, is_called}
 use Rattle.zone_select.specs.Pairs.{holds_at, held, held_inside, pairs_at, pairs, Chosen, instrument_zone_chosen}
-use Rattle.zone_select.specs.Pairs.{zone_chosen, preset_chosen, chosen_by, chosen_voice, voice_by}
+use Rattle.zone_select.specs.Pairs.{zone_chosen, preset_chosen, chosen_by, chosen_voice}
 use Rattle.zone_select.specs.Alike.{HaveSamePairs}
 use Rattle.zone_select.proofs.Matched.{Matched, MatchedOption, matched-get, matched-find, matched-map, matched-same}
 use Rattle.zone_select.proofs.Matched.{matched-changed, matched-option_same, matched-long, matched-same_or}

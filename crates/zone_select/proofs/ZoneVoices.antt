@@ -1,25 +1,21 @@
 -- What the zones of a preset or an instrument give: by targets that give the same, by zones in another order, and
 -- by two zones in the place of one.
-use Rattle.std.proofs.Common.{◌≡◌, ℕ, ◌+◌, ◌<◌, Bool, true, false, cond, Option, Some, None, List, [], ◌∷◌, map}
+use Rattle.std.proofs.Common.{◌≡◌, ℕ, ◌+◌, ◌<◌, Bool, true, false, cond, Option, Some, None, List, [], ◌∷◌}
 use Rattle.std.proofs.Common.{slice_get, refl, subst}
 use Rattle.std.specs.List.{flat_map}
 use Rattle.std.specs.List.Sorted.{IsPermutation}
 use Rattle.std.specs.Option.{option_map_or}
 use Rattle.std.proofs.lemmas.List.Sorted.{IsPermutation-refl, IsPermutation-append}
-use Rattle.numbered_lists.specs.declared.renumbering.Renumbering.{Renumbering}
 use Rattle.numbered_lists.specs.Moved.{moved}
-use Rattle.numbered_lists.specs.Renumbered.{renumbered}
 use Rattle.note_list.specs.Notes.{Numbers}
 use Rattle.bank_parts.specs.declared.parts.GlobalZone.{GlobalZone}
 use Rattle.bank_parts.specs.declared.parts.Zone.{Zone}
-use Rattle.bank_parts.specs.Renumbered.{zone_renumbered}
 use Rattle.zone_ranges.specs.declared.axes.Axis.{Axis}
 use Rattle.zone_ranges.specs.declared.axes.Keep.{Keep}
 use Rattle.zone_ranges.specs.Splits.{lower_part, upper_part, parted, zones_split, joined, merged, zones_joined}
 use Rattle.zone_ranges.proofs.SplitLaws.{IsSplitAt}
-use Rattle.bank_changes.proofs.OwnerReferences.{OfTargets}
 use Rattle.zone_select.specs.Ranges.{holds}
-use Rattle.zone_select.specs.Taken.{Taken, taken, setting}
+use Rattle.zone_select.specs.Taken.{Taken, taken}
 use Rattle.zone_select.specs.Select.{voices_of}
 use Rattle.zone_select.proofs.Flattened.{flat_map-moved, flat_map-parted, flat_map-merged}
 use Rattle.zone_select.proofs.Halves.{halves-give}
@@ -33,17 +29,6 @@ given_same : {X : Type 0} (t : Bool) (xs ys : List X) → IsPermutation xs ys
     → IsPermutation (cond t xs []) (cond t ys [])
 given_same true xs ys h = h
 given_same false xs ys h = IsPermutation-refl []
-
--- each target has a new number, which gives the same
-pub voices_of-renumbered : {X : Type 0} (inside other : Inside X) (n : Numbers) (global : GlobalZone) (by : Renumbering)
-    (zones : List Zone)
-    → OfTargets (λ t. (v : Taken) → IsPermutation (inside v t) (other v (renumbered by t))) zones
-    → IsPermutation (voices_of inside n global zones) (voices_of other n global (map (zone_renumbered by) zones))
-unfolding voices_of holds taken setting
-voices_of-renumbered inside other n global by [] h = IsPermutation-refl []
-voices_of-renumbered inside other n global by (z ∷ zones) h =
-    IsPermutation-append _ _ _ _ (given_same (holds n global z) _ _ (h.0 (taken global z)))
-    (voices_of-renumbered inside other n global by zones h.1)
 
 -- each target gives the same
 pub voices_of-same : {X : Type 0} (inside other : Inside X)
