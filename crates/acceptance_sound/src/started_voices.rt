@@ -57,8 +57,9 @@ fn frames_of(alloc: Global, mut voice: Voice<'_>) -> Result<Vec<(i32, i32)>, Fai
     Ok(frames)
 }
 
-/// Instruments over the sample of three points, a note's length and key, and its frames.
-const PLAYED: [(&[u8], (u32, u8), Frames<'static>); 5] = [
+/// Instruments over the sample of three points, a note's length and key, and its frames. Panned to one side, a voice
+/// has there its values as they are before the pan.
+const PLAYED: [(&[u8], (u32, u8), Frames<'static>); 7] = [
     (
         b"add-inst 0 \"i\" { 0 g 54 1 }\n",
         (8, 67),
@@ -71,6 +72,34 @@ const PLAYED: [(&[u8], (u32, u8), Frames<'static>); 5] = [
             (16, 16),
             (979, 979),
             (-24, -24),
+        ],
+    ),
+    (
+        b"add-inst 0 \"i\" { 0 g 17 -500 g 54 1 }\n",
+        (8, 67),
+        &[
+            (1000, 0),
+            (6, 0),
+            (1986, 0),
+            (-21, 0),
+            (-1973, 0),
+            (33, 0),
+            (1959, 0),
+            (-48, 0),
+        ],
+    ),
+    (
+        b"add-inst 0 \"i\" { 0 g 17 500 g 54 1 }\n",
+        (8, 67),
+        &[
+            (0, 1000),
+            (0, 6),
+            (0, 1986),
+            (0, -21),
+            (0, -1973),
+            (0, 33),
+            (0, 1959),
+            (0, -48),
         ],
     ),
     (
