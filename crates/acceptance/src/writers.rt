@@ -1,7 +1,7 @@
 //! Writers that fail as no run of the program shows: what `put_all` leaves in them, and flushes.
 
 use outputs::{WriteFault, put_all};
-use sfbank::{RunFault, Which, canon_run, edit_run, show_run};
+use sfbank::{RunFault, Which, canon_run, edit_run, fault_text, show_run};
 use std::alloc::Global;
 use std::test::Fail;
 use worked_files::{FailingWriter, NEVER, RENAME, WriteFailure, renamed_saw, saw, tone, with_more};
@@ -121,4 +121,36 @@ fn the_second_of_two_flushes_fails(rt: HostRuntime) {
     let answer = renames(rt.alloc(), &mut out, &mut undo);
     assert!(rt; answer == Err(RunFault::Write(Which::Undo, 22)));
     assert!(rt; out.held.as_slice() == renamed_saw().bytes() && undo.held.len() as u64 == 22);
+}
+
+/// A writer of that run which takes no byte after so many.
+fn with_room(alloc: Global, room: usize) -> FailingWriter {
+    match room {
+        0 => FailingWriter::new(alloc, usize::MAX, 0, WriteFailure::Error),
+        _ => FailingWriter::new(alloc, room, 1, WriteFailure::TakesNone),
+    }
+}
+
+#[test]
+fn a_run_whose_writers_have_no_room(rt: HostRuntime) {
+    let alloc = rt.alloc();
+    let mut out = with_room(alloc, 100);
+    let mut undo = with_room(alloc, 1_000);
+    let answer = renames(alloc, &mut out, &mut undo);
+    assert!(rt; answer == Err(RunFault::Write(Which::Out, 100)));
+    assert!(rt;
+        renamed_saw().bytes().starts_with(out.held.as_slice())
+            && out.held.len() == 100
+            && undo.held.is_empty()
+    );
+
+    let mut out = with_room(alloc, 1_000);
+    let mut undo = with_room(alloc, 0);
+    let answer = renames(alloc, &mut out, &mut undo);
+    assert!(rt; answer == Err(RunFault::Write(Which::Undo, 0)));
+    assert!(rt; out.held.len() == 450 && undo.held.is_empty());
+    let mut line = Vec::new(alloc);
+    let told = fault_text(&RunFault::Write(Which::Undo, 0), "u.txt", &mut line);
+    assert!(rt; told == Ok(5));
+    assert!(rt; line.as_slice() == b"sfbank: write fault u.txt after 0 bytes\n".as_slice());
 }
