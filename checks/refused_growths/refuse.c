@@ -1,6 +1,10 @@
 /* Refuses one growth of a program: preloaded, it has the call of the C library's allocations that
  * REFUSED_GROWTH numbers, counted from 1, answer that there is no memory, and creates the file that
- * REFUSED_MARK names. All other calls go on to the C library. */
+ * REFUSED_MARK names. All other calls go on to the C library, but for a request for 2^62 bytes or more, which
+ * is refused and not counted.
+ *
+ * Where REFUSED_STRETCH names a file, it refuses all calls of a stretch of the program: such a request begins it,
+ * and the next one ends it and creates that file. A call in the stretch creates the file of REFUSED_MARK. */
 #include <errno.h>
 #include <fcntl.h>
 #include <stddef.h>
@@ -12,8 +16,12 @@ void *__libc_calloc(size_t count, size_t size);
 void *__libc_realloc(void *old, size_t size);
 void *__libc_memalign(size_t align, size_t size);
 
+/* More bytes than there are. */
+static const size_t boundary = (size_t)1 << 62;
+
 static unsigned long refused;
 static unsigned long counted;
+static int is_in_stretch;
 
 __attribute__((constructor)) static void begin(void) {
     const char *number = getenv("REFUSED_GROWTH");
@@ -21,23 +29,34 @@ __attribute__((constructor)) static void begin(void) {
     counted = 0;
 }
 
-static int is_refused(void) {
-    if (refused == 0 || ++counted != refused)
+/* Creates the file that a variable names, if it names one. */
+static void create(const char *variable) {
+    const char *file = getenv(variable);
+    if (file)
+        close(open(file, O_WRONLY | O_CREAT, 0644));
+}
+
+static int is_refused(size_t size) {
+    if (size >= boundary) {
+        if (is_in_stretch)
+            create("REFUSED_STRETCH");
+        is_in_stretch = !is_in_stretch && getenv("REFUSED_STRETCH");
+    } else if (is_in_stretch || (refused != 0 && ++counted == refused)) {
+        create("REFUSED_MARK");
+    } else {
         return 0;
-    const char *mark = getenv("REFUSED_MARK");
-    if (mark)
-        close(open(mark, O_WRONLY | O_CREAT, 0644));
+    }
     errno = ENOMEM;
     return 1;
 }
 
-void *malloc(size_t size) { return is_refused() ? NULL : __libc_malloc(size); }
+void *malloc(size_t size) { return is_refused(size) ? NULL : __libc_malloc(size); }
 
-void *calloc(size_t count, size_t size) { return is_refused() ? NULL : __libc_calloc(count, size); }
+void *calloc(size_t count, size_t size) { return is_refused(size) ? NULL : __libc_calloc(count, size); }
 
-void *realloc(void *old, size_t size) { return is_refused() ? NULL : __libc_realloc(old, size); }
+void *realloc(void *old, size_t size) { return is_refused(size) ? NULL : __libc_realloc(old, size); }
 
-void *memalign(size_t align, size_t size) { return is_refused() ? NULL : __libc_memalign(align, size); }
+void *memalign(size_t align, size_t size) { return is_refused(size) ? NULL : __libc_memalign(align, size); }
 
 void *aligned_alloc(size_t align, size_t size) { return memalign(align, size); }
 

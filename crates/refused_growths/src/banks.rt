@@ -213,22 +213,19 @@ pub(crate) fn bank_of(alloc: Global, file: &[u8]) -> Option<(Bank<'_>, Outcome)>
     }
 }
 
-/// Reads the bank and copies it. A refused copy is made again.
-pub(crate) fn bank_copy(alloc: Global) -> Outcome {
-    let Some((bank, outcome)) = bank_of(alloc, BANK) else {
+/// Reads a file's bank and copies it; the file is canonical. A refused copy is made again.
+pub(crate) fn bank_copy(alloc: Global, file: &[u8]) -> Outcome {
+    let Some((bank, outcome)) = bank_of(alloc, file) else {
         return Outcome::Wrong;
     };
     if let Ok(copy) = bank.copy(alloc) {
-        return outcome.and(Outcome::done(writes_bank(&bank) && writes_bank(&copy)));
+        let right = file_of(&bank).has(file) && file_of(&copy).has(file);
+        return outcome.and(Outcome::done(right));
     }
     match bank.copy(alloc) {
-        Ok(copy) => Outcome::refused(writes_bank(&bank) && writes_bank(&copy)),
+        Ok(copy) => Outcome::refused(file_of(&bank).has(file) && file_of(&copy).has(file)),
         Err(_) => Outcome::Wrong,
     }
-}
-
-fn writes_bank(bank: &Bank<'_>) -> bool {
-    file_of(bank).has(BANK)
 }
 
 /// The file of a bank.

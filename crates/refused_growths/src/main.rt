@@ -6,22 +6,29 @@
 //! 1 where a value is wrong; and a line on the standard output says which.
 #![tactic(auto)]
 
+mod bag_changes;
 mod banks;
+mod flat_tone;
 mod generator_maps;
 mod neutral;
+mod no_allocations;
 mod outcome;
 mod players;
 mod points;
 mod sessions;
 
-use crate::banks::{EDITS, bank_copy, canonical_run, edit_and_return, listing_run, playing_run};
+use crate::banks::{
+    BANK, EDITS, bank_copy, canonical_run, edit_and_return, listing_run, playing_run,
+};
 use crate::generator_maps::{generators_copy, generators_set};
 use crate::neutral::neutral_walk;
+use crate::no_allocations::calls_without_memory;
 use crate::outcome::Outcome;
-use crate::players::player_walk;
+use crate::players::{player_walk, tone_player_walk};
 use crate::points::{points_copy, points_join, points_narrow};
-use crate::sessions::session_walk;
+use crate::sessions::{session_walk, tone_session_walk};
 use std::process::ExitCode;
+use worked_files::tone;
 
 fn main(rt: HostRuntime) -> ExitCode {
     let alloc = rt.alloc();
@@ -34,10 +41,14 @@ fn main(rt: HostRuntime) -> ExitCode {
         canonical_run(alloc),
         listing_run(alloc),
         playing_run(alloc),
-        bank_copy(alloc),
+        bank_copy(alloc, BANK),
+        bank_copy(alloc, tone().bytes()),
         session_walk(alloc),
+        tone_session_walk(alloc),
         player_walk(alloc),
+        tone_player_walk(alloc),
         neutral_walk(alloc),
+        calls_without_memory(alloc),
     ];
     let mut outcome = Outcome::Done;
     for case in cases {

@@ -9,6 +9,7 @@ use mixer::Player;
 use note_list::Note;
 use sample_view::Points;
 use std::alloc::Global;
+use worked_files::tone;
 
 // Takes the bank for one whose instrument has two zones that play 1000 in a loop, up to key 100: one of
 // an exclusive class, on both sides, and one on the right.
@@ -22,6 +23,11 @@ static SCRIPT: &[u8] = b"\
 
 // The sample's point.
 static POINT: [u8; 2] = [0xe8, 0x03];
+
+/// The sides of T's note, the left and the right of each frame in turn.
+pub(crate) static TONE_SIDES: [i16; 16] = [
+    500, 500, 3, 3, 993, 993, -11, -11, -987, -987, 16, 16, 979, 979, -24, -24,
+];
 
 #[derive(Clone, Copy)]
 enum Call {
@@ -75,6 +81,66 @@ pub(crate) fn player_walk(alloc: Global) -> Outcome {
         outcome = outcome.and(Outcome::done(gives(&mut player, heard)));
     }
     outcome
+}
+
+/// Starts T's note, and edits T while it plays; the note started again is silent. When out of memory, a call leaves the
+/// player and the bank as they were, and is made again.
+pub(crate) fn tone_player_walk(alloc: Global) -> Outcome {
+    let file = tone();
+    let Some(note) = Note::new(0, 8, 0, 0, 67, 127) else {
+        return Outcome::Wrong;
+    };
+    let Some((mut bank, read)) = bank_of(alloc, file.bytes()) else {
+        return Outcome::Wrong;
+    };
+    let mut player = Player::new(alloc);
+    let first = begun(alloc, &mut player, &bank, &note);
+    let front = Outcome::done(plays(&mut player, &TONE_SIDES[..6]));
+    let trim = Step::Points(0, PointStep::Trim { front: 1, back: 0 });
+    let trimmed = edited_once(alloc, &mut bank, trim);
+    let remove = Step::Zone(Owner::Inst(0), ZoneStep::RemoveZone { zone: 0 });
+    let removed = edited_once(alloc, &mut bank, remove);
+    let rest = Outcome::done(plays(&mut player, &TONE_SIDES[6..]));
+    let again = begun(alloc, &mut player, &bank, &note);
+    let silence = Outcome::done(plays(&mut player, &[0; 16]));
+    let heard = front.and(rest).and(silence);
+    read.and(first)
+        .and(trimmed)
+        .and(removed)
+        .and(again)
+        .and(heard)
+}
+
+// Starts a note, and again where memory was wanting. What was then started is heard in the next block.
+fn begun<'a>(alloc: Global, player: &mut Player<'a>, bank: &Bank<'a>, note: &Note) -> Outcome {
+    match player.start(alloc, bank, note) {
+        Ok(()) => Outcome::Done,
+        Err(_) => Outcome::refused(player.start(alloc, bank, note).is_ok()),
+    }
+}
+
+// Makes an edit, and again where memory was wanting; till then the bank is as it was.
+fn edited_once<'a>(alloc: Global, bank: &mut Bank<'a>, step: Step<'a>) -> Outcome {
+    let file = file_of(bank);
+    match apply(alloc, bank, Edit::One(step)) {
+        Ok(_) => Outcome::Done,
+        Err((Refusal::OutOfMemory, edit)) => {
+            let unchanged = file_of(bank).has(file.text());
+            Outcome::refused(unchanged && apply(alloc, bank, edit).is_ok())
+        }
+        Err(_) => Outcome::Wrong,
+    }
+}
+
+// Whether the next block has these sides; at most 16.
+fn plays(player: &mut Player<'_>, sides: &[i16]) -> bool {
+    let mut out = [0; 16];
+    if sides.len() > out.len() || sides.len() % 2 != 0 {
+        return false;
+    }
+    let block = &mut out[..sides.len()];
+    player.block(block);
+    &*block == sides
 }
 
 // Makes a call, and again where memory was wanting; till then the player is heard as before.

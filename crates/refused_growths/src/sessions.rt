@@ -9,6 +9,7 @@ use inverse_edits::Session;
 use numbered_lists::NumberedList;
 use sf_base::{Lent, Name20, OutOfMemory};
 use std::alloc::Global;
+use worked_files::tone;
 
 #[derive(Clone, Copy)]
 enum Call {
@@ -20,47 +21,76 @@ enum Call {
     Redo,
 }
 
-// Calls, each with whether it is done, and the number of edits to undo after it.
-static CALLS: [(Call, bool, usize); 20] = [
-    (Call::Undo, false, 0),
-    (Call::Rename, true, 1),
-    (Call::Remove, true, 2),
-    (Call::Redo, false, 2),
-    (Call::Undo, true, 1),
-    (Call::Redo, true, 2),
-    (Call::Undo, true, 1),
-    (Call::Undo, true, 0),
-    (Call::Remove, true, 1),
-    (Call::Undo, true, 0),
-    (Call::Title, true, 1),
-    (Call::Redo, false, 1),
-    (Call::Rename, true, 2),
-    (Call::Undo, true, 1),
-    (Call::Empty, true, 2),
-    (Call::Undo, true, 1),
-    (Call::Redo, true, 2),
-    (Call::Undo, true, 1),
-    (Call::Undo, true, 0),
-    (Call::Undo, false, 0),
+// A call, why it is refused if it is, and the number of edits to undo after it.
+type Called = (Call, Option<Refusal>, usize);
+
+// Calls on T.
+static TONE_CALLS: [Called; 8] = [
+    (Call::Undo, Some(Refusal::NothingToUndo), 0),
+    (Call::Rename, None, 1),
+    (Call::Redo, Some(Refusal::NothingToRedo), 1),
+    (Call::Undo, None, 0),
+    (Call::Redo, None, 1),
+    (Call::Undo, None, 0),
+    (Call::Title, None, 1),
+    (Call::Redo, Some(Refusal::NothingToRedo), 1),
+];
+
+// Calls on the other bank, which give it back.
+static CALLS: [Called; 20] = [
+    (Call::Undo, Some(Refusal::NothingToUndo), 0),
+    (Call::Rename, None, 1),
+    (Call::Remove, None, 2),
+    (Call::Redo, Some(Refusal::NothingToRedo), 2),
+    (Call::Undo, None, 1),
+    (Call::Redo, None, 2),
+    (Call::Undo, None, 1),
+    (Call::Undo, None, 0),
+    (Call::Remove, None, 1),
+    (Call::Undo, None, 0),
+    (Call::Title, None, 1),
+    (Call::Redo, Some(Refusal::NothingToRedo), 1),
+    (Call::Rename, None, 2),
+    (Call::Undo, None, 1),
+    (Call::Empty, None, 2),
+    (Call::Undo, None, 1),
+    (Call::Redo, None, 2),
+    (Call::Undo, None, 1),
+    (Call::Undo, None, 0),
+    (Call::Undo, Some(Refusal::NothingToUndo), 0),
 ];
 
 /// Makes twenty calls of a session, and the same of its twin. They give the first bank back. When out of
 /// memory, a call leaves the session as it was, and is made again.
 pub(crate) fn session_walk(alloc: Global) -> Outcome {
-    let Some((bank, read)) = bank_of(alloc, BANK) else {
+    walked(alloc, BANK, &CALLS, BANK, b"")
+}
+
+/// Makes eight calls of a session on T in the same way. They leave T with a title, and one edit to undo.
+pub(crate) fn tone_session_walk(alloc: Global) -> Outcome {
+    let titled = tone().patched(&[(60, b'x')]);
+    let back = b"set-info INAM \"\"\n";
+    walked(alloc, tone().bytes(), &TONE_CALLS, titled.bytes(), back)
+}
+
+// Makes calls of a session on a file's bank, and the same of its twin. They lead to the bank of the last file, with this
+// text as the undo list.
+fn walked(alloc: Global, file: &[u8], calls: &[Called], last: &[u8], back: &[u8]) -> Outcome {
+    let Some((bank, read)) = bank_of(alloc, file) else {
         return Outcome::Wrong;
     };
-    let Some((same_bank, read_again)) = bank_of(alloc, BANK) else {
+    let Some((same_bank, read_again)) = bank_of(alloc, file) else {
         return Outcome::Wrong;
     };
     let mut session = Session::new(alloc, bank);
     let mut twin = Session::new(alloc, same_bank);
     let mut outcome = read.and(read_again);
-    for (call, done, undos) in CALLS {
-        outcome = outcome.and(called(alloc, &mut session, &mut twin, call, done));
-        outcome = outcome.and(Outcome::done(session.undo_list().len() == undos));
+    for (call, refusal, undos) in calls {
+        outcome = outcome.and(called(alloc, &mut session, &mut twin, *call, *refusal));
+        outcome = outcome.and(Outcome::done(session.undo_list().len() == *undos));
     }
-    outcome.and(Outcome::done(file_of(session.bank()).has(BANK)))
+    let right = file_of(session.bank()).has(last) && back_of(&session).has(back);
+    outcome.and(Outcome::done(right))
 }
 
 // Makes a call of a session, and again where memory was wanting; till then it is as its twin, of which
@@ -70,23 +100,28 @@ fn called(
     session: &mut Session<'_>,
     twin: &mut Session<'_>,
     call: Call,
-    done: bool,
+    refusal: Option<Refusal>,
 ) -> Outcome {
     let outcome = match made(alloc, session, call) {
-        Ok(was) => Outcome::done(was == done),
+        Ok(was) => Outcome::done(was == refusal),
         Err(OutOfMemory) => {
             let unchanged = are_alike(alloc, session, twin);
-            Outcome::refused(unchanged && made(alloc, session, call) == Ok(done))
+            Outcome::refused(unchanged && made(alloc, session, call) == Ok(refusal))
         }
     };
-    outcome.and(followed(alloc, twin, call, done))
+    outcome.and(followed(alloc, twin, call, refusal))
 }
 
 // Makes a call of the twin, and again where memory was wanting.
-fn followed(alloc: Global, twin: &mut Session<'_>, call: Call, done: bool) -> Outcome {
+fn followed(
+    alloc: Global,
+    twin: &mut Session<'_>,
+    call: Call,
+    refusal: Option<Refusal>,
+) -> Outcome {
     match made(alloc, twin, call) {
-        Ok(was) => Outcome::done(was == done),
-        Err(OutOfMemory) => Outcome::refused(made(alloc, twin, call) == Ok(done)),
+        Ok(was) => Outcome::done(was == refusal),
+        Err(OutOfMemory) => Outcome::refused(made(alloc, twin, call) == Ok(refusal)),
     }
 }
 
@@ -136,16 +171,14 @@ fn back_of(session: &Session<'_>) -> Fixed {
     out
 }
 
-// Makes a call, and returns whether it was done.
-fn made(alloc: Global, session: &mut Session<'_>, call: Call) -> Result<bool, OutOfMemory> {
+// Makes a call, and returns why it was refused, if it was.
+fn made(
+    alloc: Global,
+    session: &mut Session<'_>,
+    call: Call,
+) -> Result<Option<Refusal>, OutOfMemory> {
     match call {
-        Call::Rename => match Name20::from_bytes(b"u") {
-            Ok(name) => edited(session.edit(
-                alloc,
-                Edit::One(Step::Sample(SampleStep::RenameSample { sample: 0, name })),
-            )),
-            Err(_) => Ok(false),
-        },
+        Call::Rename => edited(session.edit(alloc, rename()?)),
         Call::Title => edited(session.edit(
             alloc,
             Edit::One(Step::Text(TextStep::SetInfo {
@@ -157,17 +190,17 @@ fn made(alloc: Global, session: &mut Session<'_>, call: Call) -> Result<bool, Ou
             alloc,
             Edit::One(Step::Preset(PresetStep::RemovePreset { preset: 0 })),
         )),
-        Call::Empty => emptied(alloc, session),
+        Call::Empty => edited(session.edit(alloc, emptying(alloc)?)),
         Call::Undo => moved(session.undo(alloc)),
         Call::Redo => moved(session.redo(alloc)),
     }
 }
 
-fn emptied(alloc: Global, session: &mut Session<'_>) -> Result<bool, OutOfMemory> {
-    let Ok(group) = emptying(alloc) else {
-        return Err(OutOfMemory);
-    };
-    edited(session.edit(alloc, group))
+fn rename() -> Result<Edit<'static>, OutOfMemory> {
+    match Name20::from_bytes(b"u") {
+        Ok(name) => Ok(Edit::One(Step::Sample(SampleStep::RenameSample { sample: 0, name }))),
+        Err(_) => Err(OutOfMemory),
+    }
 }
 
 // A group that takes out the zone of the instrument, and then the sample that it plays.
@@ -178,24 +211,24 @@ fn emptying(alloc: Global) -> Result<Edit<'static>, OutOfMemory> {
     Ok(Edit::Group(NumberedList::from_vec(steps)))
 }
 
-fn edited(answer: Result<(), (Refusal, Edit<'_>)>) -> Result<bool, OutOfMemory> {
+fn edited(answer: Result<(), (Refusal, Edit<'_>)>) -> Result<Option<Refusal>, OutOfMemory> {
     match answer {
-        Ok(()) => Ok(true),
+        Ok(()) => Ok(None),
         Err((why, _)) => refused(why),
     }
 }
 
-fn moved(answer: Result<(), Refusal>) -> Result<bool, OutOfMemory> {
+fn moved(answer: Result<(), Refusal>) -> Result<Option<Refusal>, OutOfMemory> {
     match answer {
-        Ok(()) => Ok(true),
+        Ok(()) => Ok(None),
         Err(why) => refused(why),
     }
 }
 
-// That a call was not done, or that memory was wanting.
-fn refused(why: Refusal) -> Result<bool, OutOfMemory> {
+// Why a call was refused, or that memory was wanting.
+fn refused(why: Refusal) -> Result<Option<Refusal>, OutOfMemory> {
     match why {
         Refusal::OutOfMemory => Err(OutOfMemory),
-        _ => Ok(false),
+        _ => Ok(Some(why)),
     }
 }

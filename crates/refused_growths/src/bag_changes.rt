@@ -1,0 +1,157 @@
+//! The changes of bags that make no allocation.
+use flat_records::Bags;
+use modulators::{DEFAULT_VELOCITY, Modulator};
+use sf_base::OutOfMemory;
+use std::alloc::Global;
+
+static GENS: [(u16, u16); 2] = [(43, 5), (44, 6)];
+
+static MODS: [Modulator; 1] = [DEFAULT_VELOCITY];
+
+static OTHER: Modulator = Modulator {
+    source: 2,
+    dest: 17,
+    amount: 500,
+    amount_source: 0,
+    transform: 0,
+};
+
+/// One bag, with spare places for what is put in.
+pub(crate) fn spare_bags(alloc: Global) -> Result<Bags, OutOfMemory> {
+    let mut bags = Bags::new(alloc)?;
+    let _ = put_bag(&mut bags, 0);
+    bags.reserve(1, 3, 2)?;
+    Ok(bags)
+}
+
+/// Puts bags, generators and modulators into spare places, replaces some, exchanges both bags, and takes all but one
+/// bag out. Returns whether each list of records was as it has to be.
+pub(crate) fn changes_bags(bags: &mut Bags) -> bool {
+    grows(bags)
+        && has(
+            bags,
+            &[(0, 0), (3, 2), (5, 3)],
+            &[(43, 5), (44, 6), (17, 7), (43, 9), (44, 6), (0, 0)],
+        )
+        && shrinks(bags)
+        && has(bags, &[(0, 0), (1, 0)], &[(1, 1), (0, 0)])
+}
+
+fn grows(bags: &mut Bags) -> bool {
+    put_bag(bags, 1)
+        && put_gens(bags, 1, 2)
+        && put_mods(bags, 1, 0)
+        && set_gen(bags, 0, 0)
+        && set_mod(bags, 0, 0)
+        && rotate(bags, 1)
+}
+
+fn shrinks(bags: &mut Bags) -> bool {
+    cut_gens(bags, 0, 1) && cut_mods(bags, 0, 0) && set_bag(bags, 0) && cut_bag(bags, 1)
+}
+
+// Whether these are the records, with as many modulators as the last bag says.
+fn has(bags: &Bags, bag_records: &[(u16, u16)], gen_records: &[(u16, u16)]) -> bool {
+    let Some((_, mods)) = bag_records.last() else {
+        return false;
+    };
+    bags.bag_records() == bag_records
+        && bags.gen_records() == gen_records
+        && bags.mod_count() == *mods as usize
+}
+
+// Each of these asks for the places first: they are spare, so that takes no memory either.
+
+fn put_bag(bags: &mut Bags, k: usize) -> bool {
+    if k > bags.bag_count() || !has_room(bags) || bags.reserve(1, 2, 1).is_err() {
+        return false;
+    }
+    bags.put_bag(k, &GENS, &MODS);
+    true
+}
+
+fn put_gens(bags: &mut Bags, k: usize, j: usize) -> bool {
+    if !has_gens(bags, k, j) || !has_room(bags) || bags.reserve(0, 1, 0).is_err() {
+        return false;
+    }
+    bags.put_gens(k, j, &[(17, 7)]);
+    true
+}
+
+fn put_mods(bags: &mut Bags, k: usize, j: usize) -> bool {
+    if !has_mods(bags, k, j) || !has_room(bags) || bags.reserve(0, 0, 1).is_err() {
+        return false;
+    }
+    bags.put_mods(k, j, &[OTHER]);
+    true
+}
+
+fn set_gen(bags: &mut Bags, k: usize, j: usize) -> bool {
+    if !has_gens(bags, k, j + 1) {
+        return false;
+    }
+    bags.set_gen(k, j, (43, 9));
+    true
+}
+
+fn set_mod(bags: &mut Bags, k: usize, j: usize) -> bool {
+    if !has_mods(bags, k, j + 1) {
+        return false;
+    }
+    bags.set_mod(k, j, OTHER);
+    true
+}
+
+fn rotate(bags: &mut Bags, middle: usize) -> bool {
+    let count = bags.bag_count();
+    if middle > count {
+        return false;
+    }
+    bags.rotate(0, middle, count);
+    true
+}
+
+fn cut_gens(bags: &mut Bags, k: usize, j: usize) -> bool {
+    if !has_gens(bags, k, j + 1) {
+        return false;
+    }
+    bags.cut_gens(k, j, 1);
+    true
+}
+
+fn cut_mods(bags: &mut Bags, k: usize, j: usize) -> bool {
+    if !has_mods(bags, k, j + 1) {
+        return false;
+    }
+    bags.cut_mods(k, j, 1);
+    true
+}
+
+fn set_bag(bags: &mut Bags, k: usize) -> bool {
+    if !has_gens(bags, k, 1) {
+        return false;
+    }
+    bags.set_bag(k, &[(1, 1)], &[]);
+    true
+}
+
+fn cut_bag(bags: &mut Bags, k: usize) -> bool {
+    if k >= bags.bag_count() {
+        return false;
+    }
+    bags.cut_bag(k);
+    true
+}
+
+fn has_room(bags: &Bags) -> bool {
+    bags.gen_count() < 100 && bags.mod_count() < 100
+}
+
+// Whether there is the bag, and it has so many generators.
+fn has_gens(bags: &Bags, k: usize, count: usize) -> bool {
+    k < bags.bag_count() && count <= bags.gens(k).len()
+}
+
+fn has_mods(bags: &Bags, k: usize, count: usize) -> bool {
+    k < bags.bag_count() && count <= bags.mods(k).len()
+}
