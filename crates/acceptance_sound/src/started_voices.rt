@@ -213,6 +213,21 @@ fn the_later_modulator_and_the_class(rt: HostRuntime) -> Result<(), Fail> {
     Ok(())
 }
 
+// The second sample, which the zone targets, has three points; the mode is the low two bits of 7.
+#[test]
+fn the_sample_and_the_mode_of_a_pair(rt: HostRuntime) -> Result<(), Fail> {
+    let mut samples = Vec::from_slice(rt.alloc(), THREE)?;
+    samples.extend_from_slice(ONE)?;
+    let instrument = b"add-inst 0 \"i\" { 1 g 54 7 }\n";
+    let file = file_of(rt.alloc(), samples.as_slice(), instrument)?;
+    let (bank, _counts) = read(rt.alloc(), file.as_slice())?;
+    let note = Note::new(0, 8, 0, 0, 60, 127).expect(&rt, "a note");
+    let played = params(&bank, &note, (0, 0));
+    assert!(rt; played.map(|played| (played.sample, played.mode, played.voice.end)) == Some((1, 3, 3)));
+    assert!(rt; params(&bank, &note, (0, 1)).is_none());
+    Ok(())
+}
+
 // Whether a voice of T is refused since no such pair is there.
 fn is_refused(alloc: Global, pair: (u32, u32)) -> Result<bool, Fail> {
     let file = tone();
