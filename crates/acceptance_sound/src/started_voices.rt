@@ -223,7 +223,9 @@ fn the_sample_and_the_mode_of_a_pair(rt: HostRuntime) -> Result<(), Fail> {
     let (bank, _counts) = read(rt.alloc(), file.as_slice())?;
     let note = Note::new(0, 8, 0, 0, 60, 127).expect(&rt, "a note");
     let played = params(&bank, &note, (0, 0));
-    assert!(rt; played.map(|played| (played.sample, played.mode, played.voice.end)) == Some((1, 3, 3)));
+    assert!(rt;
+        played.map(|played| (played.sample, played.mode, played.voice.end)) == Some((1, 3, 3))
+    );
     assert!(rt; params(&bank, &note, (0, 1)).is_none());
     Ok(())
 }
