@@ -18,7 +18,9 @@ returns-in-Ok-clause-read g c =
 pub returns-in-Err : goal.returns-in-Err
 returns-in-Err g c = record {
   read = tt;
-  part =
-      (appended_bytes c.clear.new.self.items c.read_until.new.buf.items, c.read_until.ensures.none_lost,
-      c.read_until.ensures.stops);
+  part = (
+    appended_bytes c.clear.new.self.items c.read_until.new.buf.items,
+    c.read_until.ensures.none_lost,
+    c.read_until.ensures.stops,
+  );
 }
