@@ -1,4 +1,9 @@
 //! The changes of bags that make no allocation.
+ghost use Rattle.std.specs.Prelude.{◌<◌, ◌≤◌, ◌+◌, length, slice_get};
+ghost use Rattle.std.specs.Bool.{OnTrue};
+ghost use Rattle.std.specs.Option.{IsSomeAnd};
+ghost use Rattle.flat_records.specs.Bags.{Bag};
+
 use flat_records::Bags;
 use modulators::{DEFAULT_VELOCITY, Modulator};
 use sf_base::OutOfMemory;
@@ -60,10 +65,13 @@ fn has(bags: &Bags, bag_records: &[(u16, u16)], gen_records: &[(u16, u16)]) -> b
         && bags.mod_count() == *mods as usize
 }
 
-// Each of these asks for the places first: they are spare, so that takes no memory either.
+// Each of these that puts something in asks for the places first: they are spare, so that takes no memory either.
 
 fn put_bag(bags: &mut Bags, k: usize) -> bool {
-    if k > bags.bag_count() || !has_room(bags) || bags.reserve(1, 2, 1).is_err() {
+    if bags.reserve(1, 2, 1).is_err() || bags.gen_count() > 100 || bags.mod_count() > 100 {
+        return false;
+    }
+    if k > bags.bag_count() {
         return false;
     }
     bags.put_bag(k, &GENS, &MODS);
@@ -71,7 +79,10 @@ fn put_bag(bags: &mut Bags, k: usize) -> bool {
 }
 
 fn put_gens(bags: &mut Bags, k: usize, j: usize) -> bool {
-    if !has_gens(bags, k, j) || !has_room(bags) || bags.reserve(0, 1, 0).is_err() {
+    if bags.reserve(0, 1, 0).is_err() || bags.gen_count() > 100 || bags.mod_count() > 100 {
+        return false;
+    }
+    if !has_gens(bags, k, j) {
         return false;
     }
     bags.put_gens(k, j, &[(17, 7)]);
@@ -79,7 +90,10 @@ fn put_gens(bags: &mut Bags, k: usize, j: usize) -> bool {
 }
 
 fn put_mods(bags: &mut Bags, k: usize, j: usize) -> bool {
-    if !has_mods(bags, k, j) || !has_room(bags) || bags.reserve(0, 0, 1).is_err() {
+    if bags.reserve(0, 0, 1).is_err() || bags.gen_count() > 100 || bags.mod_count() > 100 {
+        return false;
+    }
+    if !has_mods(bags, k, j) {
         return false;
     }
     bags.put_mods(k, j, &[OTHER]);
@@ -87,7 +101,7 @@ fn put_mods(bags: &mut Bags, k: usize, j: usize) -> bool {
 }
 
 fn set_gen(bags: &mut Bags, k: usize, j: usize) -> bool {
-    if !has_gens(bags, k, j + 1) {
+    if !has_gen(bags, k, j) {
         return false;
     }
     bags.set_gen(k, j, (43, 9));
@@ -95,7 +109,7 @@ fn set_gen(bags: &mut Bags, k: usize, j: usize) -> bool {
 }
 
 fn set_mod(bags: &mut Bags, k: usize, j: usize) -> bool {
-    if !has_mods(bags, k, j + 1) {
+    if !has_mod(bags, k, j) {
         return false;
     }
     bags.set_mod(k, j, OTHER);
@@ -112,7 +126,7 @@ fn rotate(bags: &mut Bags, middle: usize) -> bool {
 }
 
 fn cut_gens(bags: &mut Bags, k: usize, j: usize) -> bool {
-    if !has_gens(bags, k, j + 1) {
+    if !has_gen(bags, k, j) {
         return false;
     }
     bags.cut_gens(k, j, 1);
@@ -120,7 +134,7 @@ fn cut_gens(bags: &mut Bags, k: usize, j: usize) -> bool {
 }
 
 fn cut_mods(bags: &mut Bags, k: usize, j: usize) -> bool {
-    if !has_mods(bags, k, j + 1) {
+    if !has_mod(bags, k, j) {
         return false;
     }
     bags.cut_mods(k, j, 1);
@@ -128,7 +142,7 @@ fn cut_mods(bags: &mut Bags, k: usize, j: usize) -> bool {
 }
 
 fn set_bag(bags: &mut Bags, k: usize) -> bool {
-    if !has_gens(bags, k, 1) {
+    if k >= bags.bag_count() || bags.gens(k).is_empty() {
         return false;
     }
     bags.set_bag(k, &[(1, 1)], &[]);
@@ -143,15 +157,30 @@ fn cut_bag(bags: &mut Bags, k: usize) -> bool {
     true
 }
 
-fn has_room(bags: &Bags) -> bool {
-    bags.gen_count() < 100 && bags.mod_count() < 100
-}
-
 // Whether there is the bag, and it has so many generators.
-fn has_gens(bags: &Bags, k: usize, count: usize) -> bool {
+fn has_gens(bags: &Bags, k: usize, count: usize) -> bool
+    ensures { OnTrue result (IsSomeAnd (slice_get bags.now.bags k) (λ (b : Bag). count ≤ length b.gens)) }
+{
     k < bags.bag_count() && count <= bags.gens(k).len()
 }
 
-fn has_mods(bags: &Bags, k: usize, count: usize) -> bool {
+fn has_mods(bags: &Bags, k: usize, count: usize) -> bool
+    ensures { OnTrue result (IsSomeAnd (slice_get bags.now.bags k) (λ (b : Bag). count ≤ length b.mods)) }
+{
     k < bags.bag_count() && count <= bags.mods(k).len()
+}
+
+// Whether there is the bag, and it has a generator at the index.
+fn has_gen(bags: &Bags, k: usize, j: usize) -> bool
+    ensures there { OnTrue result (IsSomeAnd (slice_get bags.now.bags k) (λ (b : Bag). j < length b.gens)) }
+    ensures one { OnTrue result (IsSomeAnd (slice_get bags.now.bags k) (λ (b : Bag). j + 1 ≤ length b.gens)) }
+{
+    k < bags.bag_count() && j < bags.gens(k).len()
+}
+
+fn has_mod(bags: &Bags, k: usize, j: usize) -> bool
+    ensures there { OnTrue result (IsSomeAnd (slice_get bags.now.bags k) (λ (b : Bag). j < length b.mods)) }
+    ensures one { OnTrue result (IsSomeAnd (slice_get bags.now.bags k) (λ (b : Bag). j + 1 ≤ length b.mods)) }
+{
+    k < bags.bag_count() && j < bags.mods(k).len()
 }
