@@ -10,7 +10,7 @@ use crate::causes::{
     bad_generator, bad_place, bad_range, full, no_such_instrument, no_such_place, no_such_target,
     used_instrument,
 };
-use bank_core::{Bank, List};
+use bank_core::{Bank, List as Members};
 use bank_parts::Instrument;
 use edit_forms::{Cause, InstrumentStep};
 use generators::Level;
@@ -39,8 +39,12 @@ fn refuse_add_instrument(bank: &Bank<'_>, at: u32, instrument: &Instrument) -> R
     requires { IsSound bank.now }
     ensures { Judges (refusal bank.now (steps.Instrument (form.AddInstrument at instrument.now))) result }
 {
-    no_such_target(bank.count(List::Samples), instrument, Cause::NoSuchSample)?;
-    bad_place(bank.count(List::Instruments), at)?;
+    no_such_target(
+        bank.count(Members::Samples),
+        instrument,
+        Cause::NoSuchSample,
+    )?;
+    bad_place(bank.count(Members::Instruments), at)?;
     bad_generator(Level::Inst, instrument)?;
     bad_range(instrument)?;
     full(
@@ -75,5 +79,5 @@ fn refuse_move_instrument(bank: &Bank<'_>, from: u32, to: u32) -> Result<(), Cau
     ensures { Judges (refusal bank.now (steps.Instrument (form.MoveInstrument from to))) result }
 {
     no_such_instrument(bank, from)?;
-    no_such_place(bank.count(List::Instruments), to)
+    no_such_place(bank.count(Members::Instruments), to)
 }

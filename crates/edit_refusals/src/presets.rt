@@ -9,7 +9,7 @@ ghost use Rattle.edit_refusals.specs.Answers.{Judges};
 use crate::causes::{
     bad_generator, bad_place, bad_range, full, no_such_place, no_such_preset, no_such_target,
 };
-use bank_core::{Bank, List};
+use bank_core::{Bank, List as Members};
 use bank_parts::Preset;
 use edit_forms::{Cause, PresetStep};
 use generators::Level;
@@ -33,11 +33,11 @@ fn refuse_add_preset(bank: &Bank<'_>, at: u32, preset: &Preset) -> Result<(), Ca
     ensures { Judges (refusal bank.now (steps.Preset (form.AddPreset at preset.now))) result }
 {
     no_such_target(
-        bank.count(List::Instruments),
+        bank.count(Members::Instruments),
         preset,
         Cause::NoSuchInstrument,
     )?;
-    bad_place(bank.count(List::Presets), at)?;
+    bad_place(bank.count(Members::Presets), at)?;
     bad_generator(Level::Preset, preset)?;
     bad_range(preset)?;
     full(
@@ -62,7 +62,7 @@ fn refuse_move_preset(bank: &Bank<'_>, from: u32, to: u32) -> Result<(), Cause>
     ensures { Judges (refusal bank.now (steps.Preset (form.MovePreset from to))) result }
 {
     no_such_preset(bank, from)?;
-    no_such_place(bank.count(List::Presets), to)
+    no_such_place(bank.count(Members::Presets), to)
 }
 
 // ---- set-head

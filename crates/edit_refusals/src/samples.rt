@@ -9,7 +9,7 @@ ghost use Rattle.edit_refusals.specs.Answers.{Judges};
 use crate::causes::{
     bad_loop, bad_place, full, no_such_link, no_such_place, no_such_sample, used_sample,
 };
-use bank_core::{Bank, List};
+use bank_core::{Bank, List as Members};
 use bank_parts::Sample;
 use edit_forms::{Cause, SampleStep};
 
@@ -63,5 +63,5 @@ fn refuse_move_sample(bank: &Bank<'_>, from: u32, to: u32) -> Result<(), Cause>
     ensures { Judges (refusal bank.now (steps.Sample (form.MoveSample from to))) result }
 {
     no_such_sample(bank, from)?;
-    no_such_place(bank.count(List::Samples), to)
+    no_such_place(bank.count(Members::Samples), to)
 }
