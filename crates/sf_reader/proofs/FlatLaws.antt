@@ -12,7 +12,8 @@ use Rattle.bank_parts.specs.Sound.{IsSound}
 use Rattle.bank_core.specs.declared.flat.Flat.{Flat}
 use Rattle.bank_core.specs.Heads.{head_records}
 use Rattle.bank_core.specs.Flat.{IsFlatOf}
-use Rattle.bank_core.proofs.FlatLaws.{presets_plain, instruments_plain, same_bank}
+use Rattle.bank_parts.proofs.SoundLaws.{presets_plain, instruments_plain}
+use Rattle.bank_core.proofs.FlatLaws.{same_bank}
 use Rattle.hydra_records.specs.declared.head.PresetHead.{PresetHead}
 use Rattle.hydra_records.specs.declared.head.InstrumentHead.{InstrumentHead}
 use Rattle.bank_format.specs.Ids.{IFIL}
