@@ -13,10 +13,10 @@ overflow_cast-result c =
     let few = few_records c.args.self.now c.presets.ensures.valid level.Preset c.args.part in
     omega (arith, count, few)
 
-pub overflow_cast-result-in-Instrument : goal.overflow_cast-result-in-Instrument
-overflow_cast-result-in-Instrument c =
+pub overflow_cast-result-in-Inst : goal.overflow_cast-result-in-Inst
+overflow_cast-result-in-Inst c =
     let count =
-    c.list_len-in-Instrument.ensures
+    c.list_len-in-Inst.ensures
     ∙ ap (λ owners. record_count (lists_of level.Inst owners) c.args.part) c.instruments.ensures.value
     in
     let few = few_records c.args.self.now c.instruments.ensures.valid level.Inst c.args.part in
