@@ -36,59 +36,56 @@ enum Word {
 }
 
 /// The flag by which an output may replace a bank.
-const FORCE: Word = Word::Flag("force", "Writes OUT also where a bank is there");
+const FORCE: Word = Word::Flag("force", "Writes OUT even if a bank is there");
 
-const UNDO_FORCE: Word = Word::Flag("force", "Writes UNDO also where a bank is there");
+const UNDO_FORCE: Word = Word::Flag("force", "Writes UNDO even if a bank is there");
 
 const LIVE_FORCE: Word = Word::Flag(
     "force",
-    "Writes PCM, and UNDO of each save, also where a bank is there",
+    "Writes PCM, and UNDO of each save, even if a bank is there",
 );
 
 static COMMANDS: [Entry; 12] = [
     Entry {
         name: "apply",
-        about: "Runs a script of edits on a bank, and writes the script that takes them back",
+        about: "Runs a script of edits on a bank, and writes its undo script",
         words: &[
             UNDO_FORCE,
             Word::Flag(
                 "neutral",
-                "Refuses a script with an edit that may change the sound of notes",
+                "Accepts only edits of the thirteen neutral forms, which never change the sound",
             ),
             Word::Path("IN", "The bank to edit"),
             Word::Path("SCRIPT", "The edits, one a line"),
             Word::Path("OUT", "Where the edited bank is written; may be IN"),
-            Word::Path(
-                "UNDO",
-                "Where the script that takes the edits back is written",
-            ),
+            Word::Path("UNDO", "Where the undo script is written"),
         ],
         example: "Example: sfbank apply organ.sf2 edits.txt edited.sf2 undo.txt",
     },
     Entry {
         name: "canon",
-        about: "Writes a bank in its one spelling",
+        about: "Writes a bank in its canonical form",
         words: &[
-            Word::Path("IN", "The bank to spell"),
+            Word::Path("IN", "The bank to read"),
             Word::Path("OUT", "Where its canonical file is written; may be IN"),
         ],
         example: "Example: sfbank canon organ.sf2 tidy.sf2",
     },
     Entry {
         name: "diff",
-        about: "Writes a script that makes the bank B of the bank A",
+        about: "Writes a script that turns bank A into bank B",
         words: &[
             FORCE,
-            Word::Path("A", "The bank to begin with"),
-            Word::Path("B", "The bank to come to, of the same minor version"),
+            Word::Path("A", "The first bank"),
+            Word::Path("B", "The second bank, of the same minor version"),
             Word::Path("OUT", "Where the script is written"),
         ],
         example: "Example: sfbank diff organ.sf2 edited.sf2 edits.txt",
     },
     Entry {
         name: "explain",
-        about: "Tells what a fault or a refusal means, and what to do about it",
-        words: &[Word::Number("N", "Its number, as the line of the fault has it")],
+        about: "Explains a fault or a refusal, and what to do about it",
+        words: &[Word::Number("N", "Its number in the line of the fault")],
         example: "Example: sfbank explain 41",
     },
     Entry {
@@ -117,7 +114,7 @@ static COMMANDS: [Entry; 12] = [
             Word::Path("IN", "The bank to begin with"),
             Word::Path(
                 "PCM",
-                "Where the frames are sent: 44,100 a second, two channels of 16 bits",
+                "Where the frames are written: 44,100 a second, two channels of 16 bits",
             ),
         ],
         example: "Example: sfbank live organ.sf2 >(aplay -f cd)",
@@ -146,7 +143,7 @@ static COMMANDS: [Entry; 12] = [
     },
     Entry {
         name: "play",
-        about: "Plays notes on a bank, and writes the sound as a WAVE file",
+        about: "Plays notes on a bank into a WAVE file",
         words: &[
             FORCE,
             Word::Path("IN", "The bank to play on"),
@@ -157,26 +154,26 @@ static COMMANDS: [Entry; 12] = [
     },
     Entry {
         name: "script",
-        about: "Writes the script that makes a bank of the empty one of its minor version",
+        about: "Writes a script that makes the bank from the empty bank of its minor version",
         words: &[
             FORCE,
             Word::Flag(
                 "no-points",
-                "Leaves the points of samples out, so that the script is short and makes silent samples",
+                "Leaves out the points of samples: to read and compare; it can't be run if a sample has a loop",
             ),
-            Word::Path("IN", "The bank to make"),
+            Word::Path("IN", "The bank to read"),
             Word::Path("OUT", "Where the script is written"),
         ],
         example: "Example: sfbank script organ.sf2 organ.txt",
     },
     Entry {
         name: "show",
-        about: "Tells what a bank has, and what was dropped or mended as it was read",
+        about: "Lists what a bank has, and what was dropped or repaired in reading it",
         words: &[
-            Word::Flag("zones", "Tells the zones of each preset and instrument too"),
+            Word::Flag("zones", "Lists the zones of each preset and instrument too"),
             Word::Flag(
                 "uses",
-                "Tells how many zones use each instrument and sample too",
+                "Counts the zones that use each instrument and sample too",
             ),
             Word::Path("IN", "The bank to show"),
         ],
@@ -200,9 +197,7 @@ pub(crate) fn sfbank_command<'a>(alloc: Global) -> Result<Command<'a>, AllocErro
     let command = Command::new(alloc, NAME)
         .bin_name(NAME)?
         .version("0.1.0")
-        .about(
-            "Edits SoundFont 2 banks by scripts, writes the scripts that take the edits back, and plays banks",
-        )
+        .about("Edits SoundFont 2 banks by scripts, writes their undo scripts, and plays banks")
         .subcommand_required(true)
         .arg_required_else_help(true);
     with_commands(alloc, command, &COMMANDS)

@@ -14,16 +14,16 @@ use Rattle.edit_forms.specs.declared.cause.Cause.{Cause}
 use Rattle.edit_forms.specs.declared.cause.Cause.TheVariants as cause
 use Rattle.edit_refusals.specs.declared.refusal.Refusal.{Refusal}
 use Rattle.edit_refusals.specs.declared.refusal.Refusal.TheVariants as refusal
-use Rattle.fault_explanations.specs.declared.explanations.Told.{Told}
-use Rattle.fault_explanations.specs.declared.explanations.Told.TheVariants.{Reading, Script, Notes, Recording, Output}
-use Rattle.fault_explanations.specs.declared.explanations.Told.TheVariants.{Refused, NotNeutral, OtherVersion}
-use Rattle.fault_explanations.specs.declared.explanations.Told.TheVariants.{TooManyFrames}
+use Rattle.fault_explanations.specs.declared.explanations.FaultCode.{FaultCode}
+use Rattle.fault_explanations.specs.declared.explanations.FaultCode.TheVariants.{Reading, Script, Notes, Recording, Output}
+use Rattle.fault_explanations.specs.declared.explanations.FaultCode.TheVariants.{Refused, NotNeutral, OtherVersion}
+use Rattle.fault_explanations.specs.declared.explanations.FaultCode.TheVariants.{TooManyFrames}
 use Rattle.fault_explanations.specs.declared.explanations.TheConstants.{ALL}
 use Rattle.fault_explanations.specs.Explanations.{number_of}
 
 -- one of this number is found
 abbrev pub Found : ℕ → Type 0
-Found n = IsSome (find (λ told. number_of told == n) ALL)
+Found n = IsSome (find (λ code. number_of code == n) ALL)
 
 of_reading : (it : ReadFault) → Found (number_of (Reading it))
 of_reading read.NotRiff = refl
@@ -98,17 +98,17 @@ of_refusal refusal.NothingToUndo = refl
 of_refusal refusal.NothingToRedo = refl
 of_refusal (refusal.GroupRefused step it) = refl
 
-of_told : (told : Told) → Found (number_of told)
-of_told (Reading it) = of_reading it
-of_told (Script it) = of_script it
-of_told (Notes it) = of_notes it
-of_told (Recording it) = of_recording it
-of_told (Output it) = of_output it
-of_told (Refused it) = of_refusal it
-of_told NotNeutral = refl
-of_told OtherVersion = refl
-of_told TooManyFrames = refl
+of_code : (code : FaultCode) → Found (number_of code)
+of_code (Reading it) = of_reading it
+of_code (Script it) = of_script it
+of_code (Notes it) = of_notes it
+of_code (Recording it) = of_recording it
+of_code (Output it) = of_output it
+of_code (Refused it) = of_refusal it
+of_code NotNeutral = refl
+of_code OtherVersion = refl
+of_code TooManyFrames = refl
 
 -- each is found by its number
-pub all_found : (told : Told) (n : ℕ) → number_of told ≡ n → Found n
-all_found told n e = subst Found e (of_told told)
+pub all_found : (code : FaultCode) (n : ℕ) → number_of code ≡ n → Found n
+all_found code n e = subst Found e (of_code code)

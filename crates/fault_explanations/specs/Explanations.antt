@@ -1,4 +1,4 @@
--- What has a number and a name, and what is told of it.
+-- What has a number and a name, and the lines that explain it.
 use Rattle.std.specs.Prelude.{◌≡◌, ℕ, List, ◌++◌, codes, decimal}
 use Rattle.bank_format.specs.FaultNames as reading
 use Rattle.line_tokens.specs.Faults as scripts
@@ -6,14 +6,14 @@ use Rattle.note_list.specs.Faults as notes
 use Rattle.recordings.specs.FaultNames as recordings
 use Rattle.outputs.specs.OutputFaults as outputs
 use Rattle.edit_refusals.specs.RefusalNames as refusals
-use Rattle.fault_explanations.specs.declared.explanations.Told.{Told}
-use Rattle.fault_explanations.specs.declared.explanations.Told.TheVariants.{Reading, Script, Notes, Recording, Output}
-use Rattle.fault_explanations.specs.declared.explanations.Told.TheVariants.{Refused, NotNeutral, OtherVersion}
-use Rattle.fault_explanations.specs.declared.explanations.Told.TheVariants.{TooManyFrames}
+use Rattle.fault_explanations.specs.declared.explanations.FaultCode.{FaultCode}
+use Rattle.fault_explanations.specs.declared.explanations.FaultCode.TheVariants.{Reading, Script, Notes, Recording, Output}
+use Rattle.fault_explanations.specs.declared.explanations.FaultCode.TheVariants.{Refused, NotNeutral, OtherVersion}
+use Rattle.fault_explanations.specs.declared.explanations.FaultCode.TheVariants.{TooManyFrames}
 use Rattle.fault_explanations.specs.declared.explanations.Explanation.{Explanation}
 
 -- the number of each fault and each refusal, by the crate that it is of
-abbrev pub number_of : Told → ℕ
+abbrev pub number_of : FaultCode → ℕ
 number_of (Reading fault) = reading.number_of fault
 number_of (Script fault) = scripts.number_of fault
 number_of (Notes fault) = notes.number_of fault
@@ -24,7 +24,7 @@ number_of NotNeutral = 50
 number_of OtherVersion = 51
 number_of TooManyFrames = 52
 
-abbrev pub name_of : Told → List ℕ
+abbrev pub name_of : FaultCode → List ℕ
 name_of (Reading fault) = reading.name_of fault
 name_of (Script fault) = scripts.name_of fault
 name_of (Notes fault) = notes.name_of fault
@@ -37,7 +37,7 @@ name_of TooManyFrames = codes "TooManyFrames"
 
 -- one has the number that is asked for, and this number and name are those of it
 abbrev pub IsOfNumber : ℕ → ℕ → List ℕ → Type 0
-IsOfNumber asked number name = (told : Told) × (number_of told ≡ asked) × (number ≡ asked) × (name ≡ name_of told)
+IsOfNumber asked number name = (code : FaultCode) × (number_of code ≡ asked) × (number ≡ asked) × (name ≡ name_of code)
 
 -- a text, and a line feed
 abbrev pub line_of : List ℕ → List ℕ
@@ -46,4 +46,4 @@ line_of text = text ++ codes "\n"
 -- the number and the name, the meaning, and what to do, a line each
 abbrev pub explanation_text : Explanation → List ℕ
 explanation_text e =
-    decimal e.number ++ (codes " " ++ (line_of e.name.now ++ (line_of e.meaning.now ++ line_of e.way_out.now)))
+    decimal e.number ++ (codes " " ++ (line_of e.name.now ++ (line_of e.meaning.now ++ line_of e.what_to_do.now)))

@@ -3,7 +3,7 @@ ghost use Rattle.std.specs.Prelude.{◌≡◌, ◌==◌, ℕ, IfSome, IsSome, fi
 ghost use Rattle.outputs.specs.Output.{Puts};
 ghost use Rattle.outputs.specs.Writing.{Delivers};
 ghost use Rattle.fault_explanations.specs.Explanations.{number_of, name_of, IsOfNumber, explanation_text, line_of};
-ghost use Rattle.fault_explanations.specs.declared.explanations.Told.{Told};
+ghost use Rattle.fault_explanations.specs.declared.explanations.FaultCode.{FaultCode};
 
 use bank_format::ReadFault;
 use bank_validity::Limit;
@@ -15,9 +15,9 @@ use outputs::{Output, OutputFault, WriteFault};
 use recordings::WaveFault;
 use std::io::Write;
 
-/// What is told by a number and a name.
+/// A fault or a refusal that has a number and a name.
 #[derive(Clone, Copy)]
-pub enum Told {
+pub enum FaultCode {
     /// A fault of a bank's file.
     Reading(ReadFault),
     /// A fault of a script.
@@ -30,147 +30,147 @@ pub enum Told {
     Output(OutputFault),
     /// An edit that is refused, or an undo or a redo.
     Refused(Refusal),
-    /// An edit that may change the sound of notes, where none is taken that does.
+    /// An edit of none of the neutral forms, where only these are accepted.
     NotNeutral,
     /// Two banks of different minor versions.
     OtherVersion,
-    /// More frames than a live session gives.
+    /// More frames than a live session writes.
     TooManyFrames,
 }
 
 /// What a fault or a refusal means.
 #[derive(Clone, Copy)]
 pub struct Explanation {
-    /// The number by which it is told.
+    /// Its number.
     pub number: u8,
-    /// The name by which it is told.
+    /// Its name.
     pub name: &'static str,
     /// What it means, in a sentence.
     pub meaning: &'static str,
     /// What to do about it.
-    pub way_out: &'static str,
+    pub what_to_do: &'static str,
 }
 
-/// One of each number. What they hold beside that is not told here.
-static ALL: [Told; 61] = [
-    Told::Reading(ReadFault::NotRiff),
-    Told::Reading(ReadFault::NotSfbk),
-    Told::Reading(ReadFault::Truncated),
-    Told::Reading(ReadFault::MissingList),
-    Told::Reading(ReadFault::MissingChunk),
-    Told::Reading(ReadFault::Version),
-    Told::Reading(ReadFault::RecordSize),
-    Told::Reading(ReadFault::NoTerminal),
-    Told::Reading(ReadFault::BagOrder),
-    Told::Reading(ReadFault::IndexOutside),
-    Told::Reading(ReadFault::BadInstrument),
-    Told::Reading(ReadFault::BadSample),
-    Told::Reading(ReadFault::SampleRange),
-    Told::Reading(ReadFault::SampleType),
-    Told::Reading(ReadFault::RomSample),
-    Told::Reading(ReadFault::OddSamples),
-    Told::Reading(ReadFault::TooMany),
-    Told::Refused(Refusal::Of(Cause::NoSuchPreset)),
-    Told::Refused(Refusal::Of(Cause::NoSuchInstrument)),
-    Told::Refused(Refusal::Of(Cause::NoSuchSample)),
-    Told::Refused(Refusal::Of(Cause::NoSuchZone)),
-    Told::Refused(Refusal::Of(Cause::NoSuchModulator)),
-    Told::Refused(Refusal::Of(Cause::BadPlace)),
-    Told::Refused(Refusal::Of(Cause::InUse)),
-    Told::Refused(Refusal::Of(Cause::BadGenerator)),
-    Told::Refused(Refusal::Of(Cause::NotSet)),
-    Told::Refused(Refusal::Of(Cause::BadRange)),
-    Told::Refused(Refusal::Of(Cause::SplitOutside)),
-    Told::Refused(Refusal::Of(Cause::NotJoinable)),
-    Told::Refused(Refusal::Of(Cause::LinkedModulator)),
-    Told::Refused(Refusal::Of(Cause::TooShort)),
-    Told::Refused(Refusal::Of(Cause::LoopCut)),
-    Told::Refused(Refusal::Of(Cause::BadLoop)),
-    Told::Refused(Refusal::Of(Cause::BadText)),
-    Told::Refused(Refusal::Of(Cause::Full(Limit::Points))),
-    Told::Refused(Refusal::OutOfMemory),
-    Told::Refused(Refusal::NothingToUndo),
-    Told::Refused(Refusal::NothingToRedo),
-    Told::Script(ScriptFault::Syntax(1)),
-    Told::Script(ScriptFault::Number(1)),
-    Told::Script(ScriptFault::Literal(1)),
-    Told::Notes(NoteFault::BadNote(1)),
-    Told::Notes(NoteFault::TooManyNotes(1)),
-    Told::Notes(NoteFault::TooLong(1)),
-    Told::Refused(Refusal::GroupRefused(0, Cause::InUse)),
-    Told::NotNeutral,
-    Told::OtherVersion,
-    Told::TooManyFrames,
-    Told::Recording(WaveFault::NotWave),
-    Told::Recording(WaveFault::Truncated),
-    Told::Recording(WaveFault::Compressed),
-    Told::Recording(WaveFault::NoFormat),
-    Told::Recording(WaveFault::SampleBits),
-    Told::Recording(WaveFault::ChannelCount),
-    Told::Recording(WaveFault::NoData),
-    Told::Recording(WaveFault::HalfFrame),
-    Told::Recording(WaveFault::ShortSampler),
-    Told::Recording(WaveFault::UnityNote),
-    Told::Recording(WaveFault::LoopOutside),
-    Told::Output(OutputFault::SameFile),
-    Told::Output(OutputFault::HoldsBank),
+/// One of each number, with any data.
+static ALL: [FaultCode; 61] = [
+    FaultCode::Reading(ReadFault::NotRiff),
+    FaultCode::Reading(ReadFault::NotSfbk),
+    FaultCode::Reading(ReadFault::Truncated),
+    FaultCode::Reading(ReadFault::MissingList),
+    FaultCode::Reading(ReadFault::MissingChunk),
+    FaultCode::Reading(ReadFault::Version),
+    FaultCode::Reading(ReadFault::RecordSize),
+    FaultCode::Reading(ReadFault::NoTerminal),
+    FaultCode::Reading(ReadFault::BagOrder),
+    FaultCode::Reading(ReadFault::IndexOutside),
+    FaultCode::Reading(ReadFault::BadInstrument),
+    FaultCode::Reading(ReadFault::BadSample),
+    FaultCode::Reading(ReadFault::SampleRange),
+    FaultCode::Reading(ReadFault::SampleType),
+    FaultCode::Reading(ReadFault::RomSample),
+    FaultCode::Reading(ReadFault::OddSamples),
+    FaultCode::Reading(ReadFault::TooMany),
+    FaultCode::Refused(Refusal::Of(Cause::NoSuchPreset)),
+    FaultCode::Refused(Refusal::Of(Cause::NoSuchInstrument)),
+    FaultCode::Refused(Refusal::Of(Cause::NoSuchSample)),
+    FaultCode::Refused(Refusal::Of(Cause::NoSuchZone)),
+    FaultCode::Refused(Refusal::Of(Cause::NoSuchModulator)),
+    FaultCode::Refused(Refusal::Of(Cause::BadPlace)),
+    FaultCode::Refused(Refusal::Of(Cause::InUse)),
+    FaultCode::Refused(Refusal::Of(Cause::BadGenerator)),
+    FaultCode::Refused(Refusal::Of(Cause::NotSet)),
+    FaultCode::Refused(Refusal::Of(Cause::BadRange)),
+    FaultCode::Refused(Refusal::Of(Cause::SplitOutside)),
+    FaultCode::Refused(Refusal::Of(Cause::NotJoinable)),
+    FaultCode::Refused(Refusal::Of(Cause::LinkedModulator)),
+    FaultCode::Refused(Refusal::Of(Cause::TooShort)),
+    FaultCode::Refused(Refusal::Of(Cause::LoopCut)),
+    FaultCode::Refused(Refusal::Of(Cause::BadLoop)),
+    FaultCode::Refused(Refusal::Of(Cause::BadText)),
+    FaultCode::Refused(Refusal::Of(Cause::Full(Limit::Points))),
+    FaultCode::Refused(Refusal::OutOfMemory),
+    FaultCode::Refused(Refusal::NothingToUndo),
+    FaultCode::Refused(Refusal::NothingToRedo),
+    FaultCode::Script(ScriptFault::Syntax(1)),
+    FaultCode::Script(ScriptFault::Number(1)),
+    FaultCode::Script(ScriptFault::Literal(1)),
+    FaultCode::Notes(NoteFault::BadNote(1)),
+    FaultCode::Notes(NoteFault::TooManyNotes(1)),
+    FaultCode::Notes(NoteFault::TooLong(1)),
+    FaultCode::Refused(Refusal::GroupRefused(0, Cause::InUse)),
+    FaultCode::NotNeutral,
+    FaultCode::OtherVersion,
+    FaultCode::TooManyFrames,
+    FaultCode::Recording(WaveFault::NotWave),
+    FaultCode::Recording(WaveFault::Truncated),
+    FaultCode::Recording(WaveFault::Compressed),
+    FaultCode::Recording(WaveFault::NoFormat),
+    FaultCode::Recording(WaveFault::SampleBits),
+    FaultCode::Recording(WaveFault::ChannelCount),
+    FaultCode::Recording(WaveFault::NoData),
+    FaultCode::Recording(WaveFault::HalfFrame),
+    FaultCode::Recording(WaveFault::ShortSampler),
+    FaultCode::Recording(WaveFault::UnityNote),
+    FaultCode::Recording(WaveFault::LoopOutside),
+    FaultCode::Output(OutputFault::SameFile),
+    FaultCode::Output(OutputFault::HoldsBank),
 ];
 
-impl Told {
-    /// The number by which it is told.
+impl FaultCode {
+    /// Its number.
     fn number(self) -> u8
         ensures { result ≡ number_of self }
     {
         match self {
-            Told::Reading(fault) => fault.number(),
-            Told::Script(fault) => fault.number(),
-            Told::Notes(fault) => fault.number(),
-            Told::Recording(fault) => fault.number(),
-            Told::Output(fault) => fault.number(),
-            Told::Refused(why) => why.number(),
-            Told::NotNeutral => 50,
-            Told::OtherVersion => 51,
-            Told::TooManyFrames => 52,
+            FaultCode::Reading(fault) => fault.number(),
+            FaultCode::Script(fault) => fault.number(),
+            FaultCode::Notes(fault) => fault.number(),
+            FaultCode::Recording(fault) => fault.number(),
+            FaultCode::Output(fault) => fault.number(),
+            FaultCode::Refused(why) => why.number(),
+            FaultCode::NotNeutral => 50,
+            FaultCode::OtherVersion => 51,
+            FaultCode::TooManyFrames => 52,
         }
     }
 
-    /// The name by which it is told.
+    /// Its name.
     fn name(self) -> &'static str
         ensures { result.now ≡ name_of self }
     {
         match self {
-            Told::Reading(fault) => fault.name(),
-            Told::Script(fault) => fault.name(),
-            Told::Notes(fault) => fault.name(),
-            Told::Recording(fault) => fault.name(),
-            Told::Output(fault) => fault.name(),
-            Told::Refused(why) => why.name(),
-            Told::NotNeutral => "NotNeutral",
-            Told::OtherVersion => "OtherVersion",
-            Told::TooManyFrames => "TooManyFrames",
+            FaultCode::Reading(fault) => fault.name(),
+            FaultCode::Script(fault) => fault.name(),
+            FaultCode::Notes(fault) => fault.name(),
+            FaultCode::Recording(fault) => fault.name(),
+            FaultCode::Output(fault) => fault.name(),
+            FaultCode::Refused(why) => why.name(),
+            FaultCode::NotNeutral => "NotNeutral",
+            FaultCode::OtherVersion => "OtherVersion",
+            FaultCode::TooManyFrames => "TooManyFrames",
         }
     }
 
     /// What it means, and what to do about it.
     fn texts(self) -> (&'static str, &'static str) {
         match self {
-            Told::Reading(fault) => of_reading(fault),
-            Told::Script(fault) => of_script(fault),
-            Told::Notes(fault) => of_notes(fault),
-            Told::Recording(fault) => of_recording(fault),
-            Told::Output(fault) => of_output(fault),
-            Told::Refused(why) => of_refusal(why),
-            Told::NotNeutral => (
-                "The edit may change the sound of notes, and --neutral takes none that does.",
-                "Leave the line out, or run the script without --neutral.",
+            FaultCode::Reading(fault) => of_reading(fault),
+            FaultCode::Script(fault) => of_script(fault),
+            FaultCode::Notes(fault) => of_notes(fault),
+            FaultCode::Recording(fault) => of_recording(fault),
+            FaultCode::Output(fault) => of_output(fault),
+            FaultCode::Refused(why) => of_refusal(why),
+            FaultCode::NotNeutral => (
+                "The edit has none of the thirteen neutral forms.",
+                "Remove the line, or run the script without --neutral.",
             ),
-            Told::OtherVersion => (
-                "The two banks are of different minor versions, which no edit changes.",
-                "Make the first of `sfbank new --minor N` and the script of the second.",
+            FaultCode::OtherVersion => (
+                "The banks have different minor versions, which no edit changes.",
+                "Rebuild one bank by `sfbank new --minor N` and its script.",
             ),
-            Told::TooManyFrames => (
-                "A live session gives at most 100,000,000 frames in all.",
-                "Save the bank, and begin another session with it.",
+            FaultCode::TooManyFrames => (
+                "A live session writes at most 100,000,000 frames.",
+                "Save the bank, and start another session.",
             ),
         }
     }
@@ -181,25 +181,25 @@ impl Told {
 #[tactic(auto, using(crate::proofs::AllExplained::all_found))]
 pub fn explain(number: u32) -> Option<Explanation>
     ensures known { IfSome result (λ e. IsOfNumber number e.number e.name.now) }
-    ensures all { (told : Told) → number_of told ≡ number → IsSome result }
+    ensures all { (code : FaultCode) → number_of code ≡ number → IsSome result }
 {
-    let told = of_number(&ALL, number)?;
-    let (meaning, way_out) = told.texts();
+    let code = of_number(&ALL, number)?;
+    let (meaning, what_to_do) = code.texts();
     Some(Explanation {
-        number: told.number(),
-        name: told.name(),
+        number: code.number(),
+        name: code.name(),
         meaning,
-        way_out,
+        what_to_do,
     })
 }
 
-fn of_number(all: &[Told], number: u32) -> Option<Told>
-    ensures first { result ≡ find (λ told. number_of told == number) all.now }
-    ensures passes { IfSome result (λ told. number_of told ≡ number) }
+fn of_number(all: &[FaultCode], number: u32) -> Option<FaultCode>
+    ensures first { result ≡ find (λ code. number_of code == number) all.now }
+    ensures passes { IfSome result (λ code. number_of code ≡ number) }
 {
     all.iter()
         .copied()
-        .find(|told| told.number() as u32 == number)
+        .find(|code| code.number() as u32 == number)
 }
 
 /// Writes an explanation, in three lines: the number and the name, the meaning, and what to do.
@@ -223,7 +223,7 @@ fn put_explanation<W: Write>(explanation: &Explanation, output: &mut Output<'_, 
     output.put(b" ");
     put_line(explanation.name, output);
     put_line(explanation.meaning, output);
-    put_line(explanation.way_out, output);
+    put_line(explanation.what_to_do, output);
 }
 
 // A text, and a line feed.
@@ -238,72 +238,72 @@ fn put_line<W: Write>(text: &str, output: &mut Output<'_, W>)
 fn of_reading(fault: ReadFault) -> (&'static str, &'static str) {
     match fault {
         ReadFault::NotRiff => (
-            "The file does not begin with RIFF, so it is no SoundFont bank.",
-            "See that the path is the bank's; unpack a packed one, such as .sf3 or .sfark, first.",
+            "The file does not begin with RIFF, so it is not a SoundFont bank.",
+            "Check the path; unpack the file first if it is packed, such as .sfark.",
         ),
         ReadFault::NotSfbk => (
-            "The file is a RIFF file of another kind, such as a WAVE file or a DLS bank.",
-            "Give a SoundFont 2 bank; a WAVE file goes into one by `sfbank import`.",
+            "The file is another kind of RIFF file, such as WAVE or DLS.",
+            "Give a SoundFont 2 bank; `sfbank import` adds a WAVE file to one.",
         ),
         ReadFault::Truncated => (
-            "A chunk passes the end of what holds it: the end of the file is missing, or a size is wrong.",
-            "Get the file again; what is missing can't be made up.",
+            "A chunk ends after its container: the file is cut off, or a size is wrong.",
+            "Get the file again.",
         ),
         ReadFault::MissingList => (
-            "One of the three lists INFO, sdta and pdta is missing.",
-            "Get the file again, or write the bank anew by the program that made it.",
+            "One of the lists INFO, sdta and pdta is missing.",
+            "Get the file again, or export it again.",
         ),
         ReadFault::MissingChunk => (
-            "The version of the format, or a list of presets, instruments or samples, is missing.",
-            "Get the file again, or write the bank anew by the program that made it.",
+            "The version, or a list of presets, instruments or samples, is missing.",
+            "Get the file again, or export it again.",
         ),
         ReadFault::Version => (
-            "The bank is of another major version than 2.",
-            "Turn it into a SoundFont 2 bank by the program that made it.",
+            "The major version of the bank is not 2.",
+            "Convert it to SoundFont 2; .sf3 banks have major version 3.",
         ),
         ReadFault::RecordSize => (
             "A list of presets, instruments or samples is not a whole number of records long.",
-            "Get the file again, or write the bank anew by the program that made it.",
+            "Get the file again, or export it again.",
         ),
         ReadFault::NoTerminal => (
-            "A list of presets, instruments or samples lacks the record that ends it.",
-            "Get the file again, or write the bank anew by the program that made it.",
+            "A list of presets, instruments or samples lacks its terminal record.",
+            "Get the file again, or export it again.",
         ),
         ReadFault::BagOrder => (
-            "A preset, an instrument or a zone begins before the one before it.",
-            "Get the file again, or write the bank anew by the program that made it.",
+            "A preset, an instrument or a zone begins before the previous one.",
+            "Get the file again, or export it again.",
         ),
         ReadFault::IndexOutside => (
-            "A preset, an instrument or a zone begins behind the end of the list that it points into.",
-            "Get the file again, or write the bank anew by the program that made it.",
+            "A preset, an instrument or a zone begins after the end of its list.",
+            "Get the file again, or export it again.",
         ),
         ReadFault::BadInstrument => (
-            "A zone of a preset names an instrument that the bank doesn't have.",
-            "Correct the zone by the program that made the bank.",
+            "A preset zone names an instrument that the bank does not have.",
+            "Correct the zone in the editor that made the bank.",
         ),
         ReadFault::BadSample => (
-            "A zone of an instrument names a sample that the bank doesn't have.",
-            "Correct the zone by the program that made the bank.",
+            "An instrument zone names a sample that the bank does not have.",
+            "Correct the zone in the editor that made the bank.",
         ),
         ReadFault::SampleRange => (
-            "A sample begins or ends outside the points of the bank.",
-            "Get the file again; its points may be cut.",
+            "A sample begins or ends outside the sample data.",
+            "Get the file again; it may be cut off.",
         ),
         ReadFault::SampleType => (
-            "A sample is packed, as those of .sf3 banks are.",
-            "Unpack the bank to a SoundFont 2 bank first.",
+            "A sample is compressed, as in .sf3 banks.",
+            "Convert the bank to SoundFont 2 first.",
         ),
         ReadFault::RomSample => (
-            "A sample is in the ROM of a sound card, and its points are in no file.",
-            "Remove the sample by the program that made the bank.",
+            "A sample is in the ROM of a sound card, not in the file.",
+            "Remove the sample in the editor that made the bank.",
         ),
         ReadFault::OddSamples => (
-            "The points are an odd number of bytes, and each has two.",
-            "Get the file again; its points may be cut.",
+            "The sample data has an odd number of bytes; each point has two.",
+            "Get the file again; it may be cut off.",
         ),
         ReadFault::TooMany => (
-            "The bank has more records or points than its numbers can count.",
-            "Part it into smaller banks by the program that made it.",
+            "The bank has more records or points than a bank may have.",
+            "Split it into smaller banks.",
         ),
     }
 }
@@ -315,12 +315,12 @@ fn of_script(fault: ScriptFault) -> (&'static str, &'static str) {
             "Compare the line with its form in SCRIPT.md.",
         ),
         ScriptFault::Number(_) => (
-            "A number of the line is none, or out of its range.",
+            "A number of the line is malformed, or out of range.",
             "Compare the line with its form in SCRIPT.md, which has the ranges.",
         ),
         ScriptFault::Literal(_) => (
-            "A text in quotes, or bytes behind x, are badly spelled, or not what is needed there.",
-            "Names have at most 20 bytes, points whole words of two bytes; SCRIPT.md has the spelling.",
+            "A text in quotes or hex digits after x is malformed, or of a wrong length.",
+            "Names have at most 20 bytes, points two bytes each; see SCRIPT.md.",
         ),
     }
 }
@@ -329,15 +329,15 @@ fn of_notes(fault: NoteFault) -> (&'static str, &'static str) {
     match fault {
         NoteFault::BadNote(_) => (
             "The line is not six numbers in their ranges.",
-            "Write start, length, bank, preset, key and velocity, as in NOTES.md.",
+            "Write start, length, bank, preset, key and velocity (NOTES.md).",
         ),
         NoteFault::TooManyNotes(_) => (
-            "65,535 notes stand before this one.",
-            "Part the list, and play each part alone.",
+            "There are more than 65,535 notes.",
+            "Split the list, and play each part alone.",
         ),
         NoteFault::TooLong(_) => (
-            "The note ends behind frame 100,000,000, some 37 minutes.",
-            "Part the list, and play each part alone.",
+            "The note ends after frame 100,000,000, about 37 minutes.",
+            "Split the list, and play each part alone.",
         ),
     }
 }
@@ -345,48 +345,48 @@ fn of_notes(fault: NoteFault) -> (&'static str, &'static str) {
 fn of_recording(fault: WaveFault) -> (&'static str, &'static str) {
     match fault {
         WaveFault::NotWave => (
-            "The file is no RIFF file of the form WAVE.",
-            "Turn the recording into one, as by `sox IN -b 16 OUT.wav`.",
+            "The file is not a RIFF file of the form WAVE.",
+            "Convert it, as by `sox IN -b 16 OUT.wav`.",
         ),
         WaveFault::Truncated => (
-            "A chunk passes the end of the file: its end is missing, or a size is wrong.",
-            "Get the file again, or write it anew, as by `sox IN -b 16 OUT.wav`.",
+            "A chunk ends after the file: the file is cut off, or a size is wrong.",
+            "Get the file again, or convert it, as by `sox IN -b 16 OUT.wav`.",
         ),
         WaveFault::Compressed => (
-            "The samples are compressed, or floating point numbers.",
-            "Write it with whole numbers, as by `sox IN -b 16 -e signed-integer OUT.wav`.",
+            "The samples are compressed, or floating point.",
+            "Convert it, as by `sox IN -b 16 -e signed-integer OUT.wav`.",
         ),
         WaveFault::NoFormat => (
             "The file has no format chunk of at least 16 bytes.",
-            "Write it anew, as by `sox IN -b 16 OUT.wav`.",
+            "Convert it, as by `sox IN -b 16 OUT.wav`.",
         ),
         WaveFault::SampleBits => (
-            "The samples have not 16 bits.",
-            "Write it with 16 bits, as by `sox IN -b 16 OUT.wav`.",
+            "The samples do not have 16 bits.",
+            "Convert it, as by `sox IN -b 16 OUT.wav`.",
         ),
         WaveFault::ChannelCount => (
-            "There is neither one channel nor two.",
-            "Take one or two of its channels, as by `sox IN -b 16 OUT.wav remix 1 2`.",
+            "The file has neither one channel nor two.",
+            "Select two, as by `sox IN -b 16 OUT.wav remix 1 2`.",
         ),
         WaveFault::NoData => (
-            "The file has no data chunk, so it has no sound.",
-            "Get the file again, or record anew.",
+            "The file has no data chunk, so no sound.",
+            "Get the file again, or record again.",
         ),
         WaveFault::HalfFrame => (
-            "The data end within a frame.",
-            "Write it anew, as by `sox IN -b 16 OUT.wav`.",
+            "The data ends within a frame.",
+            "Convert it, as by `sox IN -b 16 OUT.wav`.",
         ),
         WaveFault::ShortSampler => (
-            "The sampler chunk is shorter than the loops that it counts.",
-            "Write the file without it, as by `sox IN -b 16 OUT.wav`, and set key and loop by edits.",
+            "The sampler chunk is too short for its loops.",
+            "Remove the chunk, as by `sox IN -b 16 OUT.wav`, and set key and loop by edits.",
         ),
         WaveFault::UnityNote => (
             "The unity note of the sampler chunk is above 127.",
-            "Write the file without it, as by `sox IN -b 16 OUT.wav`, and set key and loop by edits.",
+            "Remove the chunk, as by `sox IN -b 16 OUT.wav`, and set key and loop by edits.",
         ),
         WaveFault::LoopOutside => (
-            "The loop of the sampler chunk is empty, or not in the data.",
-            "Write the file without it, as by `sox IN -b 16 OUT.wav`, and set key and loop by edits.",
+            "The loop of the sampler chunk is empty, or outside the data.",
+            "Remove the chunk, as by `sox IN -b 16 OUT.wav`, and set key and loop by edits.",
         ),
     }
 }
@@ -394,11 +394,11 @@ fn of_recording(fault: WaveFault) -> (&'static str, &'static str) {
 fn of_output(fault: OutputFault) -> (&'static str, &'static str) {
     match fault {
         OutputFault::SameFile => (
-            "The output is one file with an input or with another output of the run.",
-            "Give each output a path of its own; only OUT may be IN.",
+            "The output is the same file as an input or another output.",
+            "Give each output its own path; only OUT may be IN.",
         ),
         OutputFault::HoldsBank => (
-            "There is a bank at this path, and what is written there is no bank.",
+            "The path holds a bank, and the new output is not a bank.",
             "Give another path, or add --force to replace the bank.",
         ),
     }
@@ -408,20 +408,20 @@ fn of_refusal(why: Refusal) -> (&'static str, &'static str) {
     match why {
         Refusal::Of(cause) => of_cause(cause),
         Refusal::OutOfMemory => (
-            "The machine had no memory left for the edit, and nothing was changed.",
+            "An allocation failed; nothing was changed.",
             "Close other programs, or use a machine with more memory.",
         ),
         Refusal::NothingToUndo => (
-            "The session is at its first bank, before all edits.",
-            "There is nothing to do: all edits are taken back.",
+            "All edits of the session are undone already.",
+            "There is nothing to do.",
         ),
         Refusal::NothingToRedo => (
-            "The session is at its last bank: nothing was undone, or an edit came after it.",
-            "There is nothing to do: all edits are there.",
+            "No edit was undone, or another edit followed.",
+            "There is nothing to do.",
         ),
         Refusal::GroupRefused(..) => (
-            "A step of the group is refused, so none is done: its number, counted from 0, and its cause follow.",
-            "Look up the cause by its own number, and mend that step.",
+            "An edit of the group is refused, so none is made; its index, from 0, and its cause follow.",
+            "Look up the cause by its number, and correct that edit.",
         ),
     }
 }
@@ -429,76 +429,76 @@ fn of_refusal(why: Refusal) -> (&'static str, &'static str) {
 fn of_cause(cause: Cause) -> (&'static str, &'static str) {
     match cause {
         Cause::NoSuchPreset => (
-            "The bank has no preset of that number.",
-            "Look it up in the listing of `sfbank show`, which counts from 0.",
+            "The bank has no preset of this number.",
+            "See `sfbank show`; numbers begin at 0.",
         ),
         Cause::NoSuchInstrument => (
-            "The bank has no instrument of that number.",
-            "Look it up in the listing of `sfbank show`, which counts from 0.",
+            "The bank has no instrument of this number.",
+            "See `sfbank show`; numbers begin at 0.",
         ),
         Cause::NoSuchSample => (
-            "The bank has no sample of that number.",
-            "Look it up in the listing of `sfbank show`, which counts from 0.",
+            "The bank has no sample of this number.",
+            "See `sfbank show`; numbers begin at 0.",
         ),
         Cause::NoSuchZone => (
-            "The preset or the instrument has no zone of that number.",
-            "Look it up in the listing of `sfbank show --zones`, which counts from 0.",
+            "The preset or instrument has no zone of this number.",
+            "See `sfbank show --zones`; numbers begin at 0.",
         ),
         Cause::NoSuchModulator => (
-            "The zone has no modulator of that number.",
-            "Look it up in the listing of `sfbank show --zones`, which counts from 0.",
+            "The zone has no modulator of this number.",
+            "See `sfbank show --zones`; numbers begin at 0.",
         ),
         Cause::BadPlace => (
-            "The place is behind the end of the list.",
-            "Use at most the number of members, and for a move one less.",
+            "The index is after the end of the list.",
+            "Use at most the number of members; for a move, one less.",
         ),
         Cause::InUse => (
-            "A zone names the member, or another sample is linked to it.",
-            "Change or remove first what names it.",
+            "A zone uses the member, or another sample links to it.",
+            "Change or remove its users first; `sfbank show --uses` counts them.",
         ),
         Cause::BadGenerator => (
-            "The generator is not allowed there (SoundFont 2.04, section 8.1.2), or it has edits of its own.",
-            "Use set-target for an instrument or a sample, and see SCRIPT.md for what each level allows.",
+            "The generator is not allowed there (SoundFont 2.04, section 8.1.2), or has its own edits.",
+            "Use set-target for an instrument or a sample; FORMAT.md lists what each level allows.",
         ),
         Cause::NotSet => (
             "The generator is not set there.",
-            "There is nothing to clear: leave the line out.",
+            "Remove the line: there is nothing to clear.",
         ),
         Cause::BadRange => (
-            "The low end of the range is above its high end, or an end is above 127.",
-            "Write it as LO..HI with 0 to 127.",
+            "The low end of the range is above the high end, or an end is above 127.",
+            "Write LO..HI, from 0 to 127.",
         ),
         Cause::SplitOutside => (
-            "The split is not inside the range of the zone, or at its beginning.",
-            "Split at a key or a velocity above the low end and not above the high end.",
+            "The split is not inside the range of the zone.",
+            "Split above the low end and not above the high end.",
         ),
         Cause::NotJoinable => (
-            "The zones differ in more than their ranges, or these do not meet.",
-            "Make them alike first, or keep both.",
+            "The zones differ in more than their ranges, or the ranges do not meet.",
+            "Make the zones equal first, or keep both.",
         ),
         Cause::LinkedModulator => (
             "Modulators of the zone are linked by their numbers, which the edit would change.",
-            "Replace the zone as a whole by remove-zone and add-zone.",
+            "Replace the whole zone by remove-zone and add-zone.",
         ),
         Cause::TooShort => (
-            "The trim takes off more points than the sample has.",
-            "Take off fewer: the listing has how many there are.",
+            "The trim removes more points than the sample has.",
+            "Remove fewer: `sfbank show` has the number of points.",
         ),
         Cause::LoopCut => (
-            "The trim takes off points of the loop.",
-            "Take off fewer points, or move the loop first by set-loop.",
+            "The trim removes points of the loop.",
+            "Remove fewer points, or move the loop first by set-loop.",
         ),
         Cause::BadLoop => (
-            "The loop is empty, or not in the points of the sample.",
-            "Let it begin before it ends, and end at most where the points end.",
+            "The loop is empty, or not inside the sample.",
+            "Let it begin before it ends, and end within the sample.",
         ),
         Cause::BadText => (
-            "The text is too long, has a zero byte, or is empty where it may not be.",
-            "Shorten it: SCRIPT.md has how long each text may be.",
+            "The text is too long, has a zero byte, or may not be empty.",
+            "Shorten it: SCRIPT.md has the lengths.",
         ),
         Cause::Full(_) => (
-            "The bank would have more members, records or points than its file can count.",
-            "Remove what is not needed, or part the bank in two.",
+            "The bank would have more members, records or points than a file can count.",
+            "Remove what is not needed, or split the bank.",
         ),
     }
 }

@@ -1,6 +1,6 @@
-//! What each fault and each refusal means, by the number that it is told with, and what to do about it.
+//! What each fault and each refusal means, by its number, and what to do about it.
 #![tactic(auto)]
 
 mod explanations;
 
-pub use explanations::{Explanation, Told, explain, write_explanation};
+pub use explanations::{Explanation, FaultCode, explain, write_explanation};
