@@ -131,7 +131,9 @@ fn selects(bank: &Bank<'_>, tone_bank: &Bank<'_>, note: &Note) -> bool {
         && pairs.next().is_none()
         && params(bank, note, (2, 0)).is_none()
         && params(tone_bank, note, (0, 0)).is_some_and(|parameters| {
-            parameters.step == 98193 && parameters.loop_end == 3 && parameters.length == 8
+            parameters.voice.step == 98193
+                && parameters.voice.loop_end == 3
+                && parameters.voice.length == 8
         })
 }
 
