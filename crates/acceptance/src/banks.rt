@@ -159,13 +159,17 @@ fn one_owner<H: OwnerHead>(
     alloc: Global,
     head: H,
     zones: NumberedList<Zone>,
-) -> Result<Owners<H>, OutOfMemory> {
+) -> Result<Owners<H>, Fail> {
     let mut owners = Owners::with_capacity(alloc, 1)?;
-    owners.push(WithZones {
+    let owner = WithZones {
         head,
         global: global(alloc),
         zones,
-    })?;
+    };
+    if !owners.has_room_for(&owner) {
+        return Err("no room".into());
+    }
+    owners.push(owner)?;
     Ok(owners)
 }
 
@@ -181,11 +185,11 @@ pub(crate) fn head(name: Name20) -> Head {
     }
 }
 
-fn preset(alloc: Global, name: Name20) -> Result<Owners<Head>, OutOfMemory> {
+fn preset(alloc: Global, name: Name20) -> Result<Owners<Head>, Fail> {
     one_owner(alloc, head(name), one_zone(alloc, 0, None)?)
 }
 
-fn instrument(alloc: Global, name: Name20, target: u16) -> Result<Owners<Name20>, OutOfMemory> {
+fn instrument(alloc: Global, name: Name20, target: u16) -> Result<Owners<Name20>, Fail> {
     one_owner(alloc, name, one_zone(alloc, target, Some(54))?)
 }
 

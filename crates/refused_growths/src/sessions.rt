@@ -12,11 +12,16 @@ use std::alloc::Global;
 use worked_files::tone;
 
 #[derive(Clone, Copy)]
-enum Call {
+enum Change {
     Rename,
     Title,
     Remove,
     Empty,
+}
+
+#[derive(Clone, Copy)]
+enum Call {
+    Edit(Change),
     Undo,
     Redo,
 }
@@ -27,32 +32,32 @@ type Called = (Call, Option<Refusal>, usize);
 // Calls on T.
 static TONE_CALLS: [Called; 8] = [
     (Call::Undo, Some(Refusal::NothingToUndo), 0),
-    (Call::Rename, None, 1),
+    (Call::Edit(Change::Rename), None, 1),
     (Call::Redo, Some(Refusal::NothingToRedo), 1),
     (Call::Undo, None, 0),
     (Call::Redo, None, 1),
     (Call::Undo, None, 0),
-    (Call::Title, None, 1),
+    (Call::Edit(Change::Title), None, 1),
     (Call::Redo, Some(Refusal::NothingToRedo), 1),
 ];
 
 // Calls on the other bank, which give it back.
 static CALLS: [Called; 20] = [
     (Call::Undo, Some(Refusal::NothingToUndo), 0),
-    (Call::Rename, None, 1),
-    (Call::Remove, None, 2),
+    (Call::Edit(Change::Rename), None, 1),
+    (Call::Edit(Change::Remove), None, 2),
     (Call::Redo, Some(Refusal::NothingToRedo), 2),
     (Call::Undo, None, 1),
     (Call::Redo, None, 2),
     (Call::Undo, None, 1),
     (Call::Undo, None, 0),
-    (Call::Remove, None, 1),
+    (Call::Edit(Change::Remove), None, 1),
     (Call::Undo, None, 0),
-    (Call::Title, None, 1),
+    (Call::Edit(Change::Title), None, 1),
     (Call::Redo, Some(Refusal::NothingToRedo), 1),
-    (Call::Rename, None, 2),
+    (Call::Edit(Change::Rename), None, 2),
     (Call::Undo, None, 1),
-    (Call::Empty, None, 2),
+    (Call::Edit(Change::Empty), None, 2),
     (Call::Undo, None, 1),
     (Call::Redo, None, 2),
     (Call::Undo, None, 1),
@@ -178,21 +183,29 @@ fn made(
     call: Call,
 ) -> Result<Option<Refusal>, OutOfMemory> {
     match call {
-        Call::Rename => edited(session.edit(alloc, rename()?)),
-        Call::Title => edited(session.edit(
-            alloc,
-            Edit::One(Step::Text(TextStep::SetInfo {
-                id: InfoId::Name,
-                text: Lent::new(b"x"),
-            })),
-        )),
-        Call::Remove => edited(session.edit(
-            alloc,
-            Edit::One(Step::Preset(PresetStep::RemovePreset { preset: 0 })),
-        )),
-        Call::Empty => edited(session.edit(alloc, emptying(alloc)?)),
+        Call::Edit(change) => tried(alloc, session, edit_of(alloc, change)?),
         Call::Undo => moved(session.undo(alloc)),
         Call::Redo => moved(session.redo(alloc)),
+    }
+}
+
+fn tried(
+    alloc: Global,
+    session: &mut Session<'_>,
+    edit: Edit<'static>,
+) -> Result<Option<Refusal>, OutOfMemory> {
+    edited(session.edit(alloc, edit))
+}
+
+fn edit_of(alloc: Global, change: Change) -> Result<Edit<'static>, OutOfMemory> {
+    match change {
+        Change::Rename => rename(),
+        Change::Title => Ok(Edit::One(Step::Text(TextStep::SetInfo {
+            id: InfoId::Name,
+            text: Lent::new(b"x"),
+        }))),
+        Change::Remove => Ok(Edit::One(Step::Preset(PresetStep::RemovePreset { preset: 0 }))),
+        Change::Empty => emptying(alloc),
     }
 }
 
