@@ -4,13 +4,13 @@ ghost use Rattle.outputs.specs.OutputFaults.{number_of, name_of};
 
 use thiserror::Error;
 
-/// Why an output is rejected, before anything is read or written.
+/// Why an output is rejected, before any file is read or written.
 #[derive(Debug, Drop, Clone, Copy, PartialEq, Eq, Error)]
 pub enum OutputFault {
-    /// It is one file with an input or with another output.
+    /// The output is the same file as an input or another output.
     #[error("the output is one file with an input or another output")]
     SameFile,
-    /// There is a bank at its path, which something else would replace.
+    /// There is a bank at the output's path, and something else would replace it.
     #[error("there is a bank at the output's path")]
     HoldsBank,
 }
@@ -26,7 +26,7 @@ impl OutputFault {
         }
     }
 
-    /// The name of the fault.
+    /// The name of the fault, as in `docs/FAULTS.md`.
     pub fn name(self) -> &'static str
         ensures { result.now ≡ name_of self }
     {

@@ -1,8 +1,8 @@
-//! What keeps a place in a list.
+//! Placeholder values for list slots.
 use std::alloc::Global;
 
-/// What has a value that only keeps a place.
+/// A type that has a placeholder value.
 pub trait Blank: Drop + Sized {
-    /// One that only keeps a place. Takes no memory.
+    /// Returns a placeholder. Allocates nothing.
     fn blank(alloc: Global) -> Self;
 }

@@ -1,10 +1,10 @@
-//! Bytes that are lent.
+//! Borrowed bytes.
 ghost use Rattle.std.specs.Prelude.{◌≡◌, ◌<◌};
 ghost use Rattle.std.specs.List.{AllByRecursion};
 
 use std::marker::Model;
 
-/// Bytes that are lent, as from a file, a script or its pool, seen as the list of them.
+/// Bytes borrowed from a file, a script or its pool. Its value is the list of them.
 #[derive(Debug, Drop)]
 pub struct Lent<'a> {
     bytes: &'a [u8],
@@ -22,14 +22,14 @@ impl<'a> Model for Lent<'a> {
 }
 
 impl<'a> Lent<'a> {
-    /// These bytes.
+    /// Wraps a slice.
     pub fn new(bytes: &'a [u8]) -> Lent<'a>
         ensures { result ≡ bytes.now }
     {
         Lent { bytes }
     }
 
-    /// Its bytes.
+    /// Returns the slice.
     pub fn bytes(&self) -> &'a [u8]
         ensures value { result.now ≡ self.now }
         ensures fits { AllByRecursion (λ byte. byte < 256) self.now }

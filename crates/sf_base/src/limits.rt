@@ -1,42 +1,41 @@
-//! The limits that a bank, a note list and a file have.
+//! The limits of a bank, a note list and a file.
 
-/// The bytes of a name at most. The SoundFont standard's name fields have 20.
+/// The most bytes of a name: the size of the SoundFont standard's name fields.
 pub const NAME_LENGTH: usize = 20;
 
-/// The bytes of each text of a bank but the comment, at most.
+/// The most bytes of each text of a bank except the comment.
 pub const TEXT_LENGTH: usize = 255;
 
-/// The bytes of a bank's comment (ICMT) at most.
+/// The most bytes of a bank's comment (ICMT).
 pub const COMMENT_LENGTH: usize = 65_535;
 
-/// The presets of a bank at most.
+/// The most presets of a bank.
 pub const PRESETS: usize = 65_535;
 
-/// The instruments of a bank at most.
+/// The most instruments of a bank.
 pub const INSTRUMENTS: usize = 65_535;
 
-/// The samples of a bank at most.
+/// The most samples of a bank.
 pub const SAMPLES: usize = 65_535;
 
-/// The zones of all presets at most, and of all instruments, global zones that hold anything
-/// counted.
+/// The most zones of all presets, and of all instruments, including each global zone that has a generator or modulator.
 pub const ZONES: usize = 65_535;
 
-/// The generators of all presets at most, and of all instruments, targets counted.
+/// The most generators of all presets, and of all instruments, including the targets.
 pub const GENERATORS: usize = 65_535;
 
-/// The modulators of all presets at most, and of all instruments.
+/// The most modulators of all presets, and of all instruments.
 pub const MODULATORS: usize = 65_535;
 
-/// The records of each list of `pdta` at most, the terminal counted.
+/// The most records of each list of `pdta`, including the terminal.
 pub const RECORDS: usize = 65_536;
 
-/// The zero points that follow the points of each sample in a file.
+/// The number of zero points after the points of each sample in a file.
 pub const ZERO_POINTS: usize = 46;
 
-/// The points of all samples at most, the zero points after each sample counted.
+/// The most points of all samples, including the zero points after each sample.
 pub const POINTS: u64 = 500_000_000;
 
-/// The bytes of a file that the program reads, at most: the largest size that a RIFF head can say, and
-/// the head's own 8 bytes.
+/// The most bytes of a file that the program reads: the largest size in a RIFF chunk header, and the header's own 8
+/// bytes.
 pub const FILE_LENGTH: u64 = 4_294_967_303;

@@ -5,7 +5,7 @@ ghost use Rattle.sf_base.specs.declared.memory.Failure.TheVariants as failures;
 use std::alloc::{AllocError, AllocFailed};
 use thiserror::Error;
 
-/// A growth was refused. Nothing was changed.
+/// An allocation failed. Nothing is changed.
 #[derive(Debug, Drop, Clone, Copy, PartialEq, Eq, Error)]
 #[error("out of memory")]
 pub struct OutOfMemory;
@@ -22,7 +22,7 @@ impl<T: Drop> From<AllocFailed<T>> for OutOfMemory {
     }
 }
 
-/// Why a call that takes memory has no answer: what it was given has a fault, or a growth was refused.
+/// Why a call that allocates fails: its input has a fault, or an allocation failed.
 #[derive(Debug, Drop, Clone, Copy, PartialEq, Eq)]
 pub enum Failure<F> {
     Fault(F),

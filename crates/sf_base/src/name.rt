@@ -8,7 +8,7 @@ use std::alloc::Global;
 use std::marker::Model;
 use thiserror::Error;
 
-/// Why bytes are no name. A text that is too long is reported as such, whatever it holds.
+/// Why bytes are not a name. A text that is too long is `TooLong` even if it has a zero byte.
 #[derive(Debug, Drop, Clone, Copy, PartialEq, Eq, Error)]
 pub enum NameFault {
     #[error("a name has at most 20 bytes")]
@@ -51,7 +51,7 @@ impl Blank for Name20 {
 }
 
 impl Name20 {
-    /// The name with these bytes. Refuses more than 20 bytes, and else a zero byte.
+    /// Makes a name of these bytes. More than 20 bytes are `TooLong`; otherwise a zero byte is `ZeroByte`.
     pub fn from_bytes(text: &[u8]) -> Result<Name20, NameFault>
         ensures value { IfOk result (λ name. name ≡ text.now) }
         ensures named { IfOk result (λ name. IsName name) }
@@ -72,7 +72,7 @@ impl Name20 {
         })
     }
 
-    /// Its bytes.
+    /// The bytes of the name, without padding.
     pub fn bytes(&self) -> &[u8]
         ensures value { result.now ≡ self.now }
         ensures named { IsName self.now }
@@ -80,7 +80,7 @@ impl Name20 {
         &self.bytes[..self.len]
     }
 
-    /// Its bytes, and then zeros up to 20, as a record of the file holds it.
+    /// The bytes of the name, padded with zero bytes to 20, as in a record of the file.
     pub fn filled(&self) -> [u8; 20]
         ensures { result ≡ filled self.now }
     {

@@ -1,7 +1,7 @@
-//! Parts of a slice, which end where the slice ends.
+//! Parts of a slice, clamped to its end.
 ghost use Rattle.std.specs.Prelude.{◌≡◌, take, drop};
 
-/// The first `count` bytes, or all where there are fewer.
+/// The first `count` bytes, or all if there are fewer.
 pub fn front_of(bytes: &[u8], count: usize) -> &[u8]
     ensures { result.now ≡ take count bytes.now }
 {
@@ -11,7 +11,7 @@ pub fn front_of(bytes: &[u8], count: usize) -> &[u8]
     &bytes[..count]
 }
 
-/// The bytes from place `at` on, or none where they end before it.
+/// The bytes from offset `at` on; none if the slice is shorter.
 pub fn rest_from(bytes: &[u8], at: usize) -> &[u8]
     ensures { result.now ≡ drop at bytes.now }
 {
@@ -21,7 +21,7 @@ pub fn rest_from(bytes: &[u8], at: usize) -> &[u8]
     &bytes[at..]
 }
 
-/// The `count` bytes from place `at` on, or as many of them as there are.
+/// The `count` bytes from offset `at` on, or as many of them as there are.
 pub fn part_of(bytes: &[u8], at: usize, count: usize) -> &[u8]
     ensures { result.now ≡ take count (drop at bytes.now) }
 {

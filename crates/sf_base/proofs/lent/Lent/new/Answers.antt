@@ -3,7 +3,7 @@ use Rattle.std.specs.List.{AllByRecursion}
 use Rattle.std.proofs.lemmas.List.Elements.{All-from_get_or, recursion_from_All}
 use Rattle.sf_base.proofs.lent.Lent.new.Goals as goal
 
--- a slice of bytes holds bytes
+-- Each item of a slice of bytes is below 256.
 bytes_fit : (xs : List ℕ) → ((i : ℕ) → Fits w8 (get_or xs i 0)) → AllByRecursion (λ b. b < 256) xs
 bytes_fit xs h = recursion_from_All (λ b. b < 256) xs (All-from_get_or (λ b. b < 256) xs 0 (λ i l. omega (arith, h i)))
 
