@@ -1,4 +1,4 @@
--- The test of linear modulators is the relation.
+-- The test of linear modulators decides the relation.
 use Rattle.std.proofs.Common.{◌≡◌, ℕ, true, false, true≢false, sym, ◌∙◌, ◌==◌}
 use Rattle.std.specs.Bool.{Decides}
 use Rattle.std.specs.List.{Contains, list_any}

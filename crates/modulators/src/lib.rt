@@ -1,5 +1,4 @@
-//! Modulators, as a bank keeps them: which are links, which stand for one another, and
-//! what the linear ones of key and velocity come to.
+//! The modulators of a zone: links, identity, and the values of the linear ones of key and velocity.
 #![tactic(auto)]
 
 mod linear;

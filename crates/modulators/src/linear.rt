@@ -1,4 +1,4 @@
-//! Modulators that a note's key or velocity moves along a straight line.
+//! Linear modulators of a note's key or velocity.
 ghost use Rattle.std.specs.Prelude.{◌≡◌, ◌≤◌, ◌<◌, ◌≤ℤ◌, pos, negsuc, IfSome, MatchOption, ◌==◌};
 ghost use Rattle.std.specs.List.{list_any};
 ghost use Rattle.modulators.specs.Modulators.{bit_of};
@@ -12,19 +12,18 @@ const VELOCITY: u16 = 2;
 /// The low byte of a source that is the key of the note: general controller 3.
 const KEY: u16 = 3;
 
-/// The bit of a source that says that it falls as its controller grows.
+/// The direction bit of a source: set if it falls as its controller grows.
 const FALLING: u32 = 8;
 
-/// The bit of a source that says that it goes from -128 on.
+/// The polarity bit of a source: set if its values start at -128.
 const BIPOLAR: u32 = 9;
 
-/// The value of a linear modulator, in 128ths, for a note's key and velocity: how much of its amount it
-/// adds to its generator. None where the modulator is not one that is played.
+/// The value of a linear modulator for a note's key and velocity, in 128ths: the part of its amount that it adds to its
+/// generator. `None` if the modulator is not played.
 ///
-/// Such a modulator goes from the velocity (general controller 2) or the key (3) of SoundFont 2.04,
-/// section 8.2.1, along a straight line, with amount source 0, to pan, to the attack, decay, sustain or
-/// release of the volume envelope, to the attenuation or to the fine tune. A key and a velocity up to 127
-/// give -128 to 127.
+/// A modulator is played if it maps the velocity (general controller 2) or the key (3) of SoundFont 2.04, section
+/// 8.2.1, linearly and with amount source 0 to pan, to the attack, decay, sustain or release of the volume envelope, to
+/// the attenuation or to the fine tune. For a key and a velocity up to 127, the value is -128 to 127.
 #[tactic(auto, using(crate::proofs::LinearLaws::linear_is, crate::proofs::LinearLaws::linear_is_not))]
 pub fn linear_value(modulator: &Modulator, key: u8, velocity: u8) -> Option<i16>
     ensures value { result ≡ linear_value modulator.now key velocity }
@@ -38,7 +37,7 @@ pub fn linear_value(modulator: &Modulator, key: u8, velocity: u8) -> Option<i16>
     Some(polarized(modulator.source, directed(modulator.source, controller)))
 }
 
-// Whether a modulator is one that is played.
+// Whether a modulator is played.
 fn is_linear(modulator: &Modulator) -> bool
     ensures { result ≡ is_linear modulator.now }
 {
@@ -48,15 +47,15 @@ fn is_linear(modulator: &Modulator) -> bool
         && is_moved(modulator.dest)
 }
 
-// Whether linear modulators may move a generator: pan, the volume envelope's attack, decay, sustain and
-// release, attenuation, fine tune.
+// Whether a linear modulator may change this generator: pan; the volume envelope's attack, decay, sustain or release;
+// attenuation; fine tune.
 fn is_moved(generator: u16) -> bool
     ensures { result ≡ list_any (λ operator. generator == operator) moved_generators }
 {
     matches!(generator, 17 | 34 | 36 | 37 | 38 | 48 | 52)
 }
 
-// What the controller of a source has: the velocity, and else the key.
+// The value of a source's controller: the velocity, or else the key.
 fn controller_value(source: u16, key: u8, velocity: u8) -> u8
     ensures value { result ≡ controller_value source key velocity }
     ensures within { key ≤ 127 → velocity ≤ 127 → result ≤ 127 }
@@ -76,7 +75,7 @@ fn has_bit(source: u16, bit: u32) -> bool
     source >> bit & 1 == 1
 }
 
-// What a controller gives in the direction of the source.
+// A controller's value in the direction of the source.
 fn directed(source: u16, controller: u8) -> i16
     ensures value { result ≡ directed source (pos controller) }
     ensures low { negsuc 127 ≤ℤ result }
@@ -91,7 +90,7 @@ fn directed(source: u16, controller: u8) -> i16
     }
 }
 
-// What a value gives in the polarity of the source.
+// A value in the polarity of the source.
 fn polarized(source: u16, value: i16) -> i16
     requires low { negsuc 127 ≤ℤ value }
     requires high { value ≤ℤ pos 255 }

@@ -1,4 +1,4 @@
--- The numbers that follow a list name the members that they named before.
+-- Renumbered numbers refer to the same members.
 use Rattle.std.proofs.Common.{◌≡◌, ◌≢◌, ℕ, ◌<◌, ◌≤◌, ◌⊎◌, inl, inr, suc, zero, List, length, insert, remove}
 use Rattle.std.proofs.Common.{slice_get, sym, ◌∙◌, ap, arith}
 use Rattle.std.proofs.lemmas.Bool.{cases_lt, cases_eq}
@@ -11,7 +11,7 @@ use Rattle.numbered_lists.proofs.Lists.{slice_get-found, slice_get-insert_below,
 use Rattle.numbered_lists.proofs.Lists.{slice_get-remove_below, slice_get-remove_above, moved-found, slice_get-moved}
 use Rattle.numbered_lists.proofs.Numbers.{move_in_two, move_takes}
 
--- which of the cases a number falls in
+-- The cases of a number.
 insertion_at : (i k : ℕ)
     → ((k < i) × (renumbered (Insertion i) k ≡ k)) ⊎ ((i ≤ k) × (renumbered (Insertion i) k ≡ suc k))
 insertion_at i k = grind (arith, nat_tests, cases_lt)

@@ -1,4 +1,4 @@
--- One list: an insertion, a removal, a move, an exchange, a change, and what takes each back.
+-- Insertions, removals, moves, exchanges and changes of a list, and their inverses.
 use Rattle.std.proofs.Common.{◌≡◌, ℕ, ◌<◌, ◌≤◌, suc, zero, List, [], ◌∷◌, length, map, insert, remove, slice_get}
 use Rattle.std.proofs.Common.{slice_set, All, Some, None, refl, sym, ◌∙◌, ap, take, drop, arith}
 use Rattle.std.proofs.lemmas.List.{length-map}
@@ -7,7 +7,7 @@ use Rattle.std.proofs.lemmas.List.Elements.{All-append, All-take, All-drop, All-
 use Rattle.std.specs.Option.{option_map_or}
 use Rattle.numbered_lists.specs.Moved.{moved, changed}
 
--- What stands at a place
+-- The member at an index
 
 pub slice_get-found : {X : Type 0} (xs : List X) (i : ℕ) → i < length xs → (x : X) × (slice_get xs i ≡ Some x)
 slice_get-found [] i h = absurd (omega arith)
@@ -122,7 +122,7 @@ slice_set-back [] i x y e = refl
 slice_set-back (z ∷ zs) zero x y e = cc
 slice_set-back (z ∷ zs) (suc i) x y e = ap (λ ws. z ∷ ws) (slice_set-back zs i x y e)
 
--- what was read and is written back
+-- Writing back what was read changes nothing.
 pub slice_set_same : {X : Type 0} (xs : List X) (i : ℕ) (x : X) → slice_get xs i ≡ Some x → slice_set xs i x ≡ xs
 slice_set_same [] i x e = refl
 slice_set_same (y ∷ ys) zero x e = cc
@@ -180,7 +180,7 @@ map-undone f g [] h = refl
 map-undone f g (x ∷ xs) h =
     λ i. All-head (λ x. g (f x) ≡ x) x xs h i ∷ map-undone f g xs (All-tail (λ x. g (f x) ≡ x) x xs h) i
 
--- A change of the list and one of every member, f, and what takes both back, g
+-- A change of the list with a change f of every member, undone with g
 
 pub remove-insert-numbered : {X : Type 0} (xs : List X) (i : ℕ) (x : X) (f g : X → X) → i ≤ length xs
     → All (λ y. g (f y) ≡ y) xs → map g (remove (insert (map f xs) i x) i) ≡ xs
@@ -200,7 +200,7 @@ moved-back-numbered xs i j f g h k same =
     ap (map g) (sym (map-moved f (moved xs i j) j i (omega arith)) ∙ ap (map f) (moved-back xs i j h k))
     ∙ map-undone f g xs same
 
--- What holds of every member
+-- Properties of every member
 
 pub All-insert : {X : Type 0} (P : X → Type 0) (xs : List X) (i : ℕ) (x : X) → P x → All P xs → All P (insert xs i x)
 All-insert P xs i x h a =

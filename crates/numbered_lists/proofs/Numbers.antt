@@ -1,11 +1,11 @@
--- Numbers after a renumbering, and after the one that takes it back.
+-- Numbers after a renumbering and its inverse.
 use Rattle.std.proofs.Common.{◌≡◌, ◌≢◌, ◌==◌, false, ℕ, ◌<◌, ◌≤◌, ◌+◌, List, map, All, get_or, arith}
 use Rattle.std.proofs.lemmas.Bool.Decides.{nat_tests}
 use Rattle.numbered_lists.specs.declared.renumbering.Renumbering.TheVariants.{Insertion, Removal, Move}
 use Rattle.numbered_lists.specs.Renumbered.{renumbered}
 use Rattle.numbered_lists.proofs.Lists.{map-undone}
 
--- There and back
+-- A renumbering and its inverse
 
 pub insertion_returned : (i x : ℕ) → renumbered (Removal i) (renumbered (Insertion i) x) ≡ x
 insertion_returned i x = grind (arith, nat_tests)
@@ -16,7 +16,7 @@ removal_returned i x h = grind (arith, nat_tests)
 pub move_returned : (i j x : ℕ) → renumbered (Move j i) (renumbered (Move i j) x) ≡ x
 move_returned i j x = grind (arith, nat_tests)
 
--- The number of a member stays below how many there are
+-- A member's number stays below the length
 
 pub insertion_below : (i x n : ℕ) → x < n → renumbered (Insertion i) x < n + 1
 insertion_below i x n h = grind (arith, nat_tests)
@@ -27,7 +27,7 @@ removal_no_more i x = grind (arith, nat_tests)
 pub move_below : (i j x n : ℕ) → i < n → j < n → x < n → renumbered (Move i j) x < n
 move_below i j x n k l h = grind (arith, nat_tests)
 
--- A move is a removal and then an insertion, but for what it moves
+-- A move is a removal and then an insertion, except for the moved member
 
 pub move_in_two : (i j x : ℕ) → x ≢ i → renumbered (Move i j) x ≡ renumbered (Insertion j) (renumbered (Removal i) x)
 move_in_two i j x h = grind (arith, nat_tests)
@@ -57,7 +57,7 @@ pub move_returned_all : (i j : ℕ) (xs : List ℕ) → map (renumbered (Move j 
 move_returned_all i j xs =
     map-undone (renumbered (Move i j)) (renumbered (Move j i)) xs (λ k d h. move_returned i j (get_or xs k d))
 
--- The same by the test for the number
+-- The same, with the test for the number
 
 pub removal_returned_by_test : (i x : ℕ) → (x == i) ≡ false → renumbered (Insertion i) (renumbered (Removal i) x) ≡ x
 removal_returned_by_test i x h = grind (arith, nat_tests)

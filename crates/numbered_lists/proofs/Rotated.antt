@@ -1,5 +1,4 @@
--- A part of a list, from one place up to another, that is turned by one: its first member has moved
--- to its end, or its last one to its front.
+-- A range of a list rotated by one: its first member moves to its end, or its last member to its start.
 use Rattle.std.proofs.Common.{◌≡◌, ℕ, ◌<◌, ◌≤◌, ◌+◌, ◌-◌, suc, zero, List, [], ◌∷◌, ◌++◌, length, insert, remove}
 use Rattle.std.proofs.Common.{slice_get, Some, sym, ◌∙◌, ap, take, drop, get_or, arith, append_assoc, length-drop}
 use Rattle.std.proofs.Common.{length-take}
@@ -28,7 +27,7 @@ slice_get-drop xs j i x e h =
     slice_get-get_or (drop j xs) (i - j) x inside
     ∙ ap Some (get_or-drop j xs (i - j) x ∙ (ap (λ n. get_or xs n x) place ∙ get_or_from_slice_get xs i x x e))
 
--- what `rotate_left(1)` leaves of the part from i up to j
+-- `rotate_left(1)` of the range from i to j.
 pub first_goes_last : {X : Type 0} (xs : List X) (i j k : ℕ) (x : X) → slice_get xs i ≡ Some x → i ≤ j → k ≡ suc (j - i)
     → take i xs ++ ((drop 1 (take k (drop i xs)) ++ take 1 (take k (drop i xs))) ++ drop k (drop i xs)) ≡ moved xs i j
 first_goes_last xs i j k x e h size =
@@ -43,7 +42,7 @@ first_goes_last xs i j k x e h size =
     ∙ (sym (insert-append_right (take i xs) q i j x before h)
     ∙ sym (moved-found xs i j x e))))
 
--- what `rotate_right(1)` leaves of the part from j up to i
+-- `rotate_right(1)` of the range from j to i.
 pub last_goes_first : {X : Type 0} (xs : List X) (i j k m : ℕ) (x : X) → slice_get xs i ≡ Some x → j ≤ i
     → k ≡ suc (i - j) → m ≡ i - j
     → take j xs ++ ((drop m (take k (drop j xs)) ++ take m (take k (drop j xs))) ++ drop k (drop j xs)) ≡ moved xs i j

@@ -3,7 +3,7 @@ use Rattle.std.specs.Prelude.{ℕ, ◌+◌, ◌-◌, ◌==◌, nat_lt, nat_le, �
 use Rattle.numbered_lists.specs.declared.renumbering.Renumbering.{Renumbering}
 use Rattle.numbered_lists.specs.declared.renumbering.Renumbering.TheVariants.{Insertion, Removal, Move}
 
--- the new number of the member that had the number x
+-- The new number of the member that had number x.
 abbrev pub renumbered : Renumbering → ℕ → ℕ
 renumbered (Insertion i) x = if nat_le i x then x + 1 else x
 renumbered (Removal i) x = if nat_lt i x then x - 1 else x

@@ -1,4 +1,4 @@
-//! The laws, as functions that do nothing: what each ensures holds of all lists and all numbers.
+//! Laws, as functions that do nothing: the law is the contract, and holds for all lists and numbers.
 ghost use Rattle.numbered_lists.specs.Laws.{InsertionUndone, RemovalUndone, MoveUndone, ExchangeUndone, ChangeUndone};
 ghost use Rattle.numbered_lists.specs.Laws.{RenumberingUndone, NumberedInsertionUndone, NumberedRemovalUndone, NumberedMoveUndone};
 ghost use Rattle.numbered_lists.specs.Laws.{InsertionReturns, RemovalReturns, MoveReturns, InsertionReturnsAll, RemovalReturnsAll, MoveReturnsAll};
@@ -6,41 +6,36 @@ ghost use Rattle.numbered_lists.specs.Laws.{InsertionFollowed, RemovalFollowed, 
 ghost use Rattle.numbered_lists.specs.Laws.{InsertionLengthens, RemovalShortens, MoveKeepsLength, ChangeKeepsLength};
 ghost use Rattle.numbered_lists.specs.Laws.{InsertionStaysBelow, RemovalStaysBelow, MoveStaysBelow};
 
-/// What was put in and is taken out again leaves the list as it was, also where the members that
-/// were there are renumbered and renumbered back.
+/// Removing an inserted member restores the list, also if its members are renumbered and renumbered back.
 pub fn insertion_undone<T>()
     ensures list { InsertionUndone T }
     ensures numbers { NumberedInsertionUndone T }
 {}
 
-/// What was taken out and is put in again leaves the list as it was, also where the members that
-/// stay are renumbered and renumbered back.
+/// Inserting a removed member again restores the list, also if its members are renumbered and renumbered back.
 pub fn removal_undone<T>()
     ensures list { RemovalUndone T }
     ensures numbers { NumberedRemovalUndone T }
 {}
 
-/// A move and the move back leave the list as it was, also where its members are renumbered and
-/// renumbered back.
+/// Moving a member back restores the list, also if its members are renumbered and renumbered back.
 pub fn move_undone<T>()
     ensures list { MoveUndone T }
     ensures numbers { NumberedMoveUndone T }
 {}
 
-/// A member that was exchanged and is exchanged back, or changed and changed back, leaves the list
-/// as it was.
+/// Exchanging a member back, or changing it back, restores the list.
 pub fn exchange_undone<T>()
     ensures exchange { ExchangeUndone T }
     ensures change { ChangeUndone T }
 {}
 
-/// Members that are each renumbered and renumbered back are as they were.
+/// Renumbering every member and renumbering it back restores the list.
 pub fn renumbering_undone<T>()
     ensures { RenumberingUndone T }
 {}
 
-/// Numbers that are renumbered and renumbered back are as they were, but for the number of a member
-/// that was taken out: nothing may hold it.
+/// Renumbering numbers and renumbering them back restores them, except the number of a removed member.
 pub fn numbers_return()
     ensures insertion { InsertionReturns }
     ensures removal { RemovalReturns }
@@ -50,7 +45,7 @@ pub fn numbers_return()
     ensures move_all { MoveReturnsAll }
 {}
 
-/// The new number names the member that the old one named, and none names what was put in.
+/// A new number refers to the member that the old number referred to, and none to an inserted member.
 pub fn numbers_follow<T>()
     ensures insertion { InsertionFollowed T }
     ensures removal { RemovalFollowed T }
@@ -58,7 +53,7 @@ pub fn numbers_follow<T>()
     ensures missed { InsertionMissed }
 {}
 
-/// How many members there are after a change.
+/// The number of members after a change.
 pub fn lengths_follow<T>()
     ensures insertion { InsertionLengthens T }
     ensures removal { RemovalShortens T }
@@ -66,7 +61,7 @@ pub fn lengths_follow<T>()
     ensures changed { ChangeKeepsLength T }
 {}
 
-/// The new number of a member is below how many there are.
+/// The new number of a member is below the number of members.
 pub fn numbers_stay_below<T>()
     ensures insertion { InsertionStaysBelow T }
     ensures removal { RemovalStaysBelow T }

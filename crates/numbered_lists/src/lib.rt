@@ -1,5 +1,4 @@
-//! Lists of numbered members, what becomes of numbers when a list changes, and the laws by which a
-//! change is taken back.
+//! Lists of numbered members, how their numbers change with the list, and the laws by which a change is undone.
 #![tactic(auto)]
 
 mod laws;

@@ -10,13 +10,13 @@ use crate::room::insert_within;
 use std::alloc::{AllocFailed, Global};
 use std::marker::Model;
 
-/// A list whose members go by their numbers, the first by 0.
+/// A list whose members are numbered from 0.
 #[derive(Debug)]
 pub struct NumberedList<T> {
     vec: Vec<T>,
 }
 
-// Not derived: a derived drop is written out, and proved, wherever a value is dropped; this one is a call.
+// Not derived: a derived `drop` is inlined, and proved, wherever a value is dropped; this one is a call.
 impl<T: Drop> Drop for NumberedList<T> {
     fn drop(self) {
         let NumberedList { vec: _ } = self;
@@ -32,7 +32,7 @@ impl<T> Model for NumberedList<T> {
 }
 
 impl<T> NumberedList<T> {
-    /// The empty list. Takes no memory.
+    /// Makes an empty list. Allocates nothing.
     pub fn new(alloc: Global) -> NumberedList<T>
         ensures { result ≡ [] }
     {
@@ -41,14 +41,14 @@ impl<T> NumberedList<T> {
         }
     }
 
-    /// The elements of a `Vec` as members. Takes no memory.
+    /// Makes a list of the elements of a `Vec`. Allocates nothing.
     pub fn from_vec(vec: Vec<T>) -> NumberedList<T>
         ensures { result ≡ vec.items }
     {
         NumberedList { vec }
     }
 
-    /// The members as elements of a `Vec`. Takes no memory.
+    /// Returns the members as a `Vec`. Allocates nothing.
     pub fn into_vec(self) -> Vec<T>
         ensures { result.items ≡ self }
     {
@@ -56,7 +56,7 @@ impl<T> NumberedList<T> {
         vec
     }
 
-    /// The whole list, in whose place an empty one is left. Takes no memory.
+    /// Returns the whole list and leaves an empty one in its place. Allocates nothing.
     pub fn take(&mut self) -> NumberedList<T>
         ensures value { result ≡ self.old }
         ensures left { self.new ≡ [] }
@@ -65,28 +65,28 @@ impl<T> NumberedList<T> {
         std::mem::replace(self, NumberedList::new(alloc))
     }
 
-    /// How many members there are.
+    /// The number of members.
     pub fn len(&self) -> usize
         ensures { result ≡ length self.now }
     {
         self.vec.len()
     }
 
-    /// Whether there is no member.
+    /// Whether the list has no members.
     pub fn is_empty(&self) -> bool
         ensures { IsTrue result ↔ (self.now ≡ []) }
     {
         self.vec.is_empty()
     }
 
-    /// The members in their order.
+    /// The members in order.
     pub fn as_slice(&self) -> &[T]
         ensures { result.now ≡ self.now }
     {
         self.vec.as_slice()
     }
 
-    /// Member `i`, which is there.
+    /// Member `i`, which must exist.
     pub fn member(&self, i: usize) -> &T
         requires { i < length self.now }
         ensures { slice_get self.now i ≡ Some result.now }
@@ -94,14 +94,14 @@ impl<T> NumberedList<T> {
         &self.vec[i]
     }
 
-    /// Member `i`, or `None` where none has that number.
+    /// Member `i`, or `None` if there is none.
     pub fn get(&self, i: usize) -> Option<&T>
         ensures { option_copied result ≡ slice_get self.now i }
     {
         self.vec.get(i)
     }
 
-    /// Member `i`, which is there, to be changed in its place.
+    /// A mutable reference to member `i`, which must exist.
     pub fn member_mut(&mut self, i: usize) -> &mut T
         requires { i < length self.old }
         ensures* writes_back { sem 𝓛 (Lends (the_row T.row) T.row self.entry result (λ w. slice_set self.old i w)) }
@@ -110,8 +110,7 @@ impl<T> NumberedList<T> {
         &mut self.vec[i]
     }
 
-    /// Puts `x` behind the last member. When out of memory, the list stays as it is, and `x` comes
-    /// back.
+    /// Appends `x`. A failed allocation changes nothing and returns `x`.
     pub fn push(&mut self, x: T) -> Result<(), T>
         ensures ok { OnOk result (self.new ≡ self.old ++ x ∷ []) }
         ensures err { OnErr result (self.new ≡ self.old) }
@@ -120,8 +119,8 @@ impl<T> NumberedList<T> {
         self.vec.push(x).map_err(|AllocFailed { value }| value)
     }
 
-    /// Makes `x` member `i`; the members from there on get the next number each. When out of memory,
-    /// the list stays as it is, and `x` comes back.
+    /// Inserts `x` as member `i`; the numbers of later members grow by one. A failed allocation changes nothing and
+    /// returns `x`.
     pub fn insert(&mut self, i: usize, x: T) -> Result<(), T>
         requires { i ≤ length self.old }
         ensures ok { OnOk result (self.new ≡ insert self.old i x) }
@@ -131,7 +130,7 @@ impl<T> NumberedList<T> {
         self.vec.insert(i, x).map_err(|AllocFailed { value }| value)
     }
 
-    /// Takes member `i` out; the members behind it get the number before each. Takes no memory.
+    /// Removes and returns member `i`; the numbers of later members fall by one. Allocates nothing.
     pub fn remove(&mut self, i: usize) -> T
         requires { i < length self.old }
         ensures value { slice_get self.old i ≡ Some result }
@@ -140,7 +139,7 @@ impl<T> NumberedList<T> {
         self.vec.remove(i)
     }
 
-    /// Makes `x` member `i`, and gives back the member that it replaces. Takes no memory.
+    /// Replaces member `i` by `x`, and returns the old member. Allocates nothing.
     pub fn replace(&mut self, i: usize, x: T) -> T
         requires { i < length self.old }
         ensures value { slice_get self.old i ≡ Some result }
@@ -149,7 +148,7 @@ impl<T> NumberedList<T> {
         std::mem::replace(self.member_mut(i), x)
     }
 
-    /// Makes member `from` member `to`; the others keep their order. Takes no memory.
+    /// Moves member `from` to index `to`; the others keep their order. Allocates nothing.
     pub fn move_member(&mut self, from: usize, to: usize)
         requires from { from < length self.old }
         requires to { to < length self.old }
@@ -160,8 +159,8 @@ impl<T> NumberedList<T> {
 }
 
 impl<T: Renumber> NumberedList<T> {
-    /// Renumbers the members that are there, and makes `x`, which has its new numbers already, member
-    /// `i`. When out of memory, neither is done, and `x` comes back.
+    /// Renumbers the members, and inserts `x`, which is renumbered already, as member `i`. A failed allocation changes
+    /// nothing and returns `x`.
     pub fn insert_renumbered(&mut self, by: Renumbering, i: usize, x: T) -> Result<(), T>
         requires place { i ≤ length self.old }
         requires numbers { All (T.can_renumber by) self.old }
@@ -178,7 +177,7 @@ impl<T: Renumber> NumberedList<T> {
     }
 }
 
-/// A list holds the numbers that its members hold.
+/// The numbers in a list are those in its members.
 impl<T: Renumber> Renumber for NumberedList<T> {
     ghost can_renumber = { λ by list. All (T.can_renumber by) list };
 
@@ -190,7 +189,7 @@ impl<T: Renumber> Renumber for NumberedList<T> {
     }
 }
 
-/// Makes member `from` member `to`; the others keep their order. Only what lies between the two places moves.
+/// Moves member `from` to index `to`; the others keep their order. Only the members between the two indexes move.
 pub fn move_within<T>(members: &mut [T], from: usize, to: usize)
     requires from { from < length members.old }
     requires to { to < length members.old }

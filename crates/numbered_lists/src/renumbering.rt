@@ -2,20 +2,20 @@
 ghost use Rattle.std.specs.Prelude.{◌≡◌, ◌<◌, ◌^◌, map, All};
 ghost use Rattle.numbered_lists.specs.Renumbered.{renumbered};
 
-/// What happened to a list, so that its members have new numbers. A number is counted from 0.
+/// A change of a list that gives its members new numbers, counted from 0.
 #[derive(Debug, Clone, Copy, PartialEq, Eq)]
 pub enum Renumbering {
-    /// A member was put in as number `at`: each number from there on is one more.
+    /// A member is inserted as number `at`: each number from `at` on grows by one.
     Insertion { at: u32 },
-    /// Member `at` was taken out: each number above is one less.
+    /// Member `at` is removed: each number above `at` falls by one.
     Removal { at: u32 },
-    /// Member `from` became member `to`: each number that it passed is one less where it went up,
-    /// and one more where it went down.
+    /// Member `from` becomes member `to`: each number that it passes falls by one on its way up, and grows by one on
+    /// its way down.
     Move { from: u32, to: u32 },
 }
 
 impl Renumbering {
-    /// The new number, which has to fit 16 bits, of the member that had this one.
+    /// The new number of the member that had this one. It must fit into 16 bits.
     pub fn number_after(self, number: u16) -> u16
         requires { renumbered self number < 2 ^ 16 }
         ensures { result ≡ renumbered self number }
@@ -32,23 +32,23 @@ impl Renumbering {
     }
 }
 
-/// What holds numbers of a list's members, and can follow a change of the list.
+/// A type with numbers of a list's members, which can be renumbered after a change of the list.
 pub trait Renumber {
     ghost use Rattle.numbered_lists.specs.declared.renumbering.Renumbering.{Renumbering};
 
-    /// Each number that it holds has 16 bits afterwards.
+    /// Each renumbered number fits into 16 bits.
     ghost can_renumber: { Renumbering → Self → Type 0 };
 
-    /// The same with the new numbers.
+    /// The value with each number renumbered.
     ghost with_new_numbers: { Renumbering → Self → Self };
 
-    /// Gives each number that it holds its new one. Takes no memory.
+    /// Renumbers each number in it. Allocates nothing.
     fn renumber(&mut self, by: Renumbering)
         requires { can_renumber by self.old }
         ensures { self.new ≡ with_new_numbers by self.old };
 }
 
-/// A number, which holds itself.
+/// A number is itself the number of a member.
 impl Renumber for u16 {
     ghost can_renumber = { λ by number. renumbered by number < 2 ^ 16 };
 

@@ -1,12 +1,11 @@
-//! Room for a member that is to come: where other things change too, and can't be taken back, the
-//! memory comes first.
+//! Reserved space for one member: before a change that can't be undone, memory is reserved first.
 ghost use Rattle.std.specs.Prelude.{◌≡◌, ◌<◌, ◌≤◌, ◌↔◌, ◌++◌, ◌∷◌, [], IsTrue, length, map, All, insert, IfOk, IfErr, vec_len, vec_capacity};
 
 use crate::list::NumberedList;
 use crate::renumbering::{Renumber, Renumbering, renumber_all};
 use std::marker::Model;
 
-/// A list that has the memory for one member more.
+/// A list with capacity for one more member.
 #[derive(Debug, Drop)]
 pub struct WithRoom<T> {
     vec: Vec<T>,
@@ -23,8 +22,8 @@ impl<T> Model for WithRoom<T> {
 }
 
 impl<T> NumberedList<T> {
-    /// The same list with the memory for one member more. When out of it, the list comes back. Where
-    /// it stands in a field, `take` gives it by value.
+    /// Reserves capacity for one more member. A failed allocation returns the list. `take` gets a list that is a field
+    /// by value.
     pub fn reserve_one(self) -> Result<WithRoom<T>, NumberedList<T>>
         ensures ok { IfOk result (λ list. list ≡ self) }
         ensures err { IfErr result (λ list. list ≡ self) }
@@ -38,21 +37,21 @@ impl<T> NumberedList<T> {
 }
 
 impl<T> WithRoom<T> {
-    /// How many members there are.
+    /// The number of members.
     pub fn len(&self) -> usize
         ensures { result ≡ length self.now }
     {
         self.vec.len()
     }
 
-    /// Whether there is no member.
+    /// Whether the list has no members.
     pub fn is_empty(&self) -> bool
         ensures { IsTrue result ↔ (self.now ≡ []) }
     {
         self.vec.is_empty()
     }
 
-    /// The list alone.
+    /// Returns the list without the reserve.
     pub fn into_list(self) -> NumberedList<T>
         ensures { result ≡ self }
     {
@@ -60,7 +59,7 @@ impl<T> WithRoom<T> {
         NumberedList::from_vec(vec)
     }
 
-    /// Puts `x` behind the last member. Takes no memory.
+    /// Appends `x`. Allocates nothing.
     pub fn push(self, x: T) -> NumberedList<T>
         ensures { result ≡ self ++ x ∷ [] }
     {
@@ -68,7 +67,7 @@ impl<T> WithRoom<T> {
         self.insert(end, x)
     }
 
-    /// Makes `x` member `i`; the members from there on get the next number each. Takes no memory.
+    /// Inserts `x` as member `i`; the numbers of later members grow by one. Allocates nothing.
     pub fn insert(mut self, i: usize, x: T) -> NumberedList<T>
         requires { i ≤ length self }
         ensures { result ≡ insert self i x }
@@ -78,7 +77,7 @@ impl<T> WithRoom<T> {
     }
 }
 
-/// A list with room holds the numbers that its members hold.
+/// The numbers in a list are those in its members.
 impl<T: Renumber> Renumber for WithRoom<T> {
     ghost can_renumber = { λ by list. All (T.can_renumber by) list };
 
@@ -89,7 +88,7 @@ impl<T: Renumber> Renumber for WithRoom<T> {
     }
 }
 
-/// Puts `x` at place `i` of what has the memory for it.
+/// Inserts `x` at index `i` of a `Vec` with spare capacity. Allocates nothing.
 pub fn insert_within<T>(vec: &mut Vec<T>, i: usize, x: T)
     requires place { i ≤ length vec.old.items }
     requires room { vec_len vec.old < vec_capacity vec.old }

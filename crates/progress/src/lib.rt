@@ -1,28 +1,28 @@
-//! How far long work is, for whoever wants to know while it goes on.
+//! Reports of the progress of long work.
 #![tactic(auto)]
 
-/// Hears how far a piece of work is. What it does with that changes nothing of the work.
+/// A receiver of progress reports. It does not affect the work.
 pub trait Progress {
-    /// The work begins, of so many lines or frames.
+    /// The work begins: `count` lines or frames.
     fn begin(&mut self, work: Work, count: u64);
 
-    /// So many more of them are done.
+    /// `count` more of them are done.
     fn advance(&mut self, count: u64);
 
-    /// The work ends, done or not.
+    /// The work ends, complete or not.
     fn end(&mut self);
 }
 
-/// What is counted.
+/// The unit that is counted.
 #[derive(Clone, Copy, Debug, PartialEq, Eq)]
 pub enum Work {
-    /// The lines of a script.
+    /// Lines of a script.
     Lines,
     /// Frames of sound.
     Frames,
 }
 
-/// Nobody hears.
+/// Ignores all reports.
 #[derive(Clone, Copy)]
 pub struct Unheard;
 

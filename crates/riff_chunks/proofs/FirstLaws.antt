@@ -1,4 +1,4 @@
--- What is kept of the chunks of a window.
+-- The first chunks that are kept of a window.
 use Rattle.std.proofs.Common.{◌≡◌, ◌<◌, ◌≢◌, ℕ, true, false, List, [], ◌∷◌, length, get_or, set, Option, Some, None}
 use Rattle.std.proofs.Common.{refl, sym, ap, ◌∙◌, inl, inr, arith}
 use Rattle.std.specs.Borrow.{Bor}
@@ -12,13 +12,13 @@ use Rattle.riff_chunks.specs.Walk.{Chunk}
 use Rattle.riff_chunks.specs.Finding.{first_body}
 use Rattle.riff_chunks.specs.First.{place_of, Kept, kept_at, AreFirst, AreFirstSoFar, Takes}
 
--- what stands where an id has its place
+-- The id at the index of an id is that id.
 at_place : (ids : List (List ℕ)) (id : List ℕ) (place : ℕ) → place_of id ids ≡ Some place → get_or ids place [] ≡ id
 at_place ids id place h =
     (bytes_eq-Decides (get_or ids place []) id).0
     ((position-Some (λ (other : List ℕ). bytes_eq other id) ids place [] h).1)
 
--- a chunk alone
+-- A single chunk.
 alone : (id : List ℕ) (c : Chunk) → c.id ≡ id → first_body id (c ∷ []) ≡ Some c.body
 alone id c e = let same : bytes_eq c.id id ≡ true = (bytes_eq-Decides c.id id).1 e in rw same refl
 
@@ -36,7 +36,7 @@ pub none_there : {X : Type 0} (o : Option X) → is_some o ≡ false → o ≡ N
 none_there None h = refl
 none_there (Some x) h = absurd cc
 
--- the first chunk of an id is put at its place
+-- The first chunk of an id is kept at the index of the id.
 pub put_first : (ids : List (List ℕ)) (bodies : Kept) (id : List ℕ) (place : ℕ) (body : Bor (List ℕ))
     → place_of id ids ≡ Some place → length bodies ≡ 9 → place < 9 → get_or bodies place None ≡ None
     → Takes ids bodies (set bodies place (Some body)) (record { id = id; body = body.now })
@@ -61,7 +61,7 @@ put_first ids bodies id place body here long lt none other at h within =
     cc_place ids id other place at e h k =
         let both : place_of id ids ≡ place_of other ids = ap (λ (i : List ℕ). place_of i ids) e in cc
 
--- ---- chunk after chunk
+-- ---- one chunk after another
 
 or_more : {X : Type 0} (a b c : Option X) → option_or (option_or a b) c ≡ option_or a (option_or b c)
 or_more None b c = refl
@@ -82,7 +82,7 @@ first_more ids old new c rest all held takes id place h lt =
     ∙ ap (option_or (kept_at old place)) (sym (first_or_later id c rest))
     ∙ held id place h lt
 
--- at the end of the walk
+-- At the end of the walk.
 pub first_all : (ids : List (List ℕ)) (bodies : Kept) (all : List Chunk) → AreFirstSoFar ids bodies [] all
     → AreFirst ids bodies all
 first_all ids bodies all held id place h within = or_none (kept_at bodies place) ∙ held id place h within

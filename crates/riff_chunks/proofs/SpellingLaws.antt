@@ -1,4 +1,4 @@
--- Chunks that were spelled are found again.
+-- Encoded chunks are found again.
 use Rattle.std.proofs.Common.{◌≡◌, ◌≤◌, ◌<◌, ◌+◌, ◌%◌, ◌^◌, ℕ, true, false, eqb, List, [], ◌∷◌, ◌++◌, length, take}
 use Rattle.std.proofs.Common.{drop, map, Ok, refl, sym, ap, ◌∙◌, append_assoc, arith, inl, inr}
 use Rattle.std.specs.List.{AllByRecursion}
@@ -31,9 +31,9 @@ length-chunk id body e =
     let padded = length-append body (pad (length body)) in
     omega (arith, whole, padded, length-pad (length body), length-chunk_head id (length body) e)
 
--- ---- a window that begins with a head
+-- ---- a window that begins with a chunk header
 
--- what the head says, and what follows it
+-- A window that is an id, a size and a tail.
 pub record Headed (w id : List ℕ) (size : ℕ) (tail : List ℕ) : Type 0 where
   pub whole : length w ≡ 8 + length tail
   pub sized : size ≡ size_at w
@@ -56,7 +56,7 @@ chunk_head-Headed id size tail e lt = record {
   rest = drop_at (chunk_head id size) tail 8 (length-chunk_head id size e);
 }
 
--- the body that fits is the first item
+-- A body that fits is the first item.
 Headed-found : (w id : List ℕ) (size : ℕ) (tail : List ℕ) → Headed w id size tail → BodyFits w
     → walk w ≡ Ok (record { id = id; body = take size tail }) ∷ walk (drop (size + size % 2) tail)
 Headed-found w id size tail h f =
@@ -116,16 +116,16 @@ is_whole-all : (cs : List Chunk) → is_whole (map Ok cs) ≡ true
 is_whole-all [] = refl
 is_whole-all (c ∷ cs) = is_whole-all cs
 
--- all chunks of a spelled window
+-- All chunks of an encoded window.
 pub chunks_in-spell : (cs : List Chunk) → AllByRecursion FitsChunk cs → chunks_in (walk (spell cs)) ≡ cs
 chunks_in-spell cs v = ap chunks_in (walk-spell cs v) ∙ chunks_in-all cs
 
 pub is_whole-spell : (cs : List Chunk) → AllByRecursion FitsChunk cs → is_whole (walk (spell cs)) ≡ true
 is_whole-spell cs v = ap is_whole (walk-spell cs v) ∙ is_whole-all cs
 
--- ---- a last chunk that lacks its pad byte
+-- ---- a last chunk without its pad byte
 
--- the body goes to the end of the window, or would pass it by one byte
+-- The body ends with the window, or would end one byte past it.
 last-found : (id body : List ℕ) (size : ℕ) → length id ≡ 4 → size < 2 ^ 32 → length body ≤ size
     → BodyFits (chunk_head id size ++ body) → walk_headed id size body ≡ Ok (record { id = id; body = body }) ∷ []
 last-found id body size e lt le f =

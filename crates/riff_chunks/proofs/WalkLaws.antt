@@ -1,4 +1,4 @@
--- How a walk goes on, and that it is the one list of items of its window.
+-- How a walk continues, and that it is the only list of items of its window.
 use Rattle.std.proofs.Common.{◌≡◌, ◌≤◌, ◌<◌, ◌+◌, ◌%◌, ◌↔◌, ◌⊎◌, ℕ, zero, suc, true, false, ltb, List, [], ◌∷◌}
 use Rattle.std.proofs.Common.{length, take, drop, Ok, Err, refl, sym, ap, subst, ◌∙◌, arith, inl, inr}
 use Rattle.std.proofs.lemmas.Bool.{cases_lt, cases_Bool, le-ltb, lt-ltb, le-leb, leb-true, both_ways}
@@ -9,13 +9,13 @@ use Rattle.std.specs.Str.{bytes_eq}
 use Rattle.riff_chunks.specs.Walk.{Chunk, truncated, Item, LIST, size_at, chunk_at, after, BodyFits, Walks, end_of}
 use Rattle.riff_chunks.specs.Walk.{body_fits, walk_for, walk}
 
--- ---- the test of a body says whether it fits
+-- ---- the test of a body decides whether it fits
 
 end_of-list : (w : List ℕ) → take 4 w ≡ LIST → end_of w ≡ length w + 1
 end_of-list w e =
     cond-true (bytes_eq (take 4 w) LIST) (length w + 1) (length w) ((bytes_eq-Decides (take 4 w) LIST).1 e)
 
--- a list at the front, or another chunk
+-- The first chunk is a list, or another chunk.
 cases_list : (w : List ℕ) → ((take 4 w ≡ LIST) × (end_of w ≡ length w + 1)) ⊎ (end_of w ≡ length w)
 cases_list w = elim (cases_Bool (bytes_eq (take 4 w) LIST)) [
   | inl same ↦ (let e = (bytes_eq-Decides (take 4 w) LIST).0 same in inl (e, end_of-list w e))
@@ -46,7 +46,7 @@ body_fits-false w passes = false_from_ne_true (body_fits w) (λ f. passes (BodyF
 BodyFits-false : (w : List ℕ) → body_fits w ≡ false → ¬ (BodyFits w)
 BodyFits-false w passes f = both_ways (body_fits w) passes (body_fits-true w f)
 
--- ---- one step
+-- ---- one chunk
 
 after-shorter : (w : List ℕ) → 8 ≤ length w → length (after w) + 8 ≤ length w
 after-shorter w long = omega (arith, length-drop (8 + size_at w + size_at w % 2) w)
@@ -65,7 +65,7 @@ cut_once : (n : ℕ) (w : List ℕ) → 8 ≤ length w → body_fits w ≡ false
 unfolding walk_for
 cut_once n w long f = let e : ltb (length w) 8 ≡ false = le-ltb _ _ long in rw (e, f) refl
 
--- as many steps as there are bytes are enough
+-- As many steps as there are bytes suffice.
 walk_for-enough : (n m : ℕ) (w : List ℕ) → length w ≤ n → length w ≤ m → walk_for n w ≡ walk_for m w
 walk_for-enough zero m w p q = short_once zero w (omega arith) ∙ sym (short_once m w (omega arith))
 walk_for-enough (suc n) zero w p q = short_once (suc n) w (omega arith) ∙ sym (short_once zero w (omega arith))
@@ -82,7 +82,7 @@ walk_for-enough (suc n) (suc m) w p q =
       ]
     ]
 
--- ---- a walk, by what stands at the front
+-- ---- a walk, by its first bytes
 
 pub walk-short : (w : List ℕ) → length w < 8 → walk w ≡ []
 unfolding walk
@@ -102,7 +102,7 @@ unfolding walk
 walk-cut w long f =
     walk_for-enough (length w) (suc (length w)) w (omega arith) (omega arith) ∙ cut_once (length w) w long f
 
--- the chunk as the code cuts it out
+-- The first chunk, as the code slices it.
 pub walk-next : (w : List ℕ) (size : ℕ) (id body rest : List ℕ) → 8 ≤ length w → body_fits w ≡ true
     → size ≡ size_at w → id ≡ take 4 w → body ≡ take size (drop 8 w) → rest ≡ drop (8 + size + size % 2) w
     → walk w ≡ Ok (record { id = id; body = body }) ∷ walk rest
@@ -119,7 +119,7 @@ Walks-one w (Ok c ∷ items) (long, f, e, others) =
 Walks-one w (Err t ∷ items) (long, passes, e) =
     ap (λ (is : List Item). Err t ∷ is) e ∙ sym (walk-cut w long (body_fits-false w passes))
 
--- which items a window has, by what stands at its front
+-- The items of a window, by its first bytes.
 Walks-walk_for : (n : ℕ) (w : List ℕ) → length w ≤ n → Walks w (walk_for n w)
 Walks-walk_for zero w le =
     let short : length w < 8 = omega arith in subst (Walks w) (sym (short_once zero w short)) short
@@ -141,6 +141,6 @@ Walks-walk w = Walks-walk_for (length w) w (omega arith)
 pub walk_is_one : (w : List ℕ) (items : List Item) → Walks w items ↔ (items ≡ walk w)
 walk_is_one w items = (Walks-one w items, λ e. subst (Walks w) (sym e) (Walks-walk w))
 
--- a list that gave its first item has fewer
+-- A list without its first item is shorter.
 pub fewer : {X : Type 0} (xs : List X) (x : X) (ys : List X) → xs ≡ x ∷ ys → length ys < length xs
 fewer xs x ys e = let n = ap length e in omega (arith, n)

@@ -1,32 +1,32 @@
--- What holds of walking and spelling.
+-- Laws of walking and encoding.
 use Rattle.std.specs.Prelude.{◌≡◌, ◌≢◌, ◌↔◌, ◌<◌, ◌+◌, ◌^◌, ℕ, List, [], ◌∷◌, ◌++◌, length, map, Ok, Err, true}
 use Rattle.std.specs.List.{AllByRecursion}
 use Rattle.riff_chunks.specs.Walk.{Chunk, Item, LIST, truncated, Walks, walk}
 use Rattle.riff_chunks.specs.Finding.{chunks_in, is_whole}
 use Rattle.riff_chunks.specs.Spelling.{chunk_head, spell, FitsChunk}
 
--- These items are those of the window exactly where `walk` gives them.
+-- These are the items of the window if and only if `walk` returns them.
 abbrev pub WalkIsTheOne : Type 0
 WalkIsTheOne = (w : List ℕ) (items : List Item) → Walks w items ↔ (items ≡ walk w)
 
--- Chunks that were spelled are the first that a window gives, whatever follows them.
+-- Encoded chunks are the first items of a window, whatever follows them.
 abbrev pub SpelledAreFound : Type 0
 SpelledAreFound =
     (cs : List Chunk) (rest : List ℕ) → AllByRecursion FitsChunk cs
     → walk (spell cs ++ rest) ≡ map Ok cs ++ walk rest
 
--- A window that spells chunks holds them and nothing else.
+-- A window of encoded chunks has these chunks and nothing else.
 abbrev pub SpelledReadBack : Type 0
 SpelledReadBack =
     (cs : List Chunk) → AllByRecursion FitsChunk cs
     → (chunks_in (walk (spell cs)) ≡ cs) × (is_whole (walk (spell cs)) ≡ true)
 
--- the items of a window that holds an id, a size, and after them this body alone
+-- The items of a window with an id, a size, and then this body alone.
 abbrev pub walk_headed : List ℕ → ℕ → List ℕ → List Item
 walk_headed id size body = walk (chunk_head id size ++ body)
 
--- A last chunk without its pad byte is found. With a size that is one too large a list is found, and
--- another chunk is the fault.
+-- A last chunk without its pad byte is found. With a size that is one too large, a list is found, and another chunk is
+-- a fault.
 abbrev pub UnpaddedAreFound : Type 0
 UnpaddedAreFound =
     (id body : List ℕ) → length id ≡ 4 → length body + 1 < 2 ^ 32

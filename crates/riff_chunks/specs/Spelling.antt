@@ -4,23 +4,23 @@ use Rattle.std.specs.List.{flat_map}
 use Rattle.byteorder.specs.Endian.{little_bytes}
 use Rattle.riff_chunks.specs.Walk.{Chunk}
 
--- a zero byte after a body of odd size
+-- A zero byte after a body of odd size.
 unfoldable pub pad : ℕ → List ℕ
 pad size = if size % 2 == 1 then 0 ∷ [] else []
 
--- an id and a size
+-- A chunk header: an id and a size.
 unfoldable pub chunk_head : List ℕ → ℕ → List ℕ
 chunk_head id size = id ++ little_bytes 4 size
 
--- an id, the size of a body, the body, and a zero byte if the size is odd
+-- A chunk: an id, the size of the body, the body, and a zero byte if the size is odd.
 abbrev pub chunk : List ℕ → List ℕ → List ℕ
 chunk id body = chunk_head id (length body) ++ (body ++ pad (length body))
 
--- chunks in a row
+-- The bytes of consecutive chunks.
 abbrev pub spell : List Chunk → List ℕ
 spell cs = flat_map (λ (c : Chunk). chunk c.id c.body) cs
 
--- an id of four bytes, and a body whose size fits into 32 bits
+-- An id of four bytes, and a body whose size fits into 32 bits.
 pub record FitsChunk (c : Chunk) : Type 0 where
   pub id : length c.id ≡ 4
   pub body : length c.body < 2 ^ 32

@@ -1,4 +1,4 @@
-//! The walk of a window.
+//! Walking the chunks of a window.
 ghost use Rattle.std.specs.Prelude.{◌≡◌, ◌≤◌, length, take};
 ghost use Rattle.std.specs.Iterator.{YieldsFirstBy, item_count};
 ghost use Rattle.riff_chunks.specs.Walk.{Walks, walk, lent, body_fits};
@@ -8,10 +8,10 @@ use std::iter::FusedIterator;
 use std::marker::Model;
 use thiserror::Error;
 
-/// The id of a list: a chunk whose body begins with a form of four bytes, and then holds chunks.
+/// The id of a list: a chunk whose body is a form of four bytes and then chunks.
 pub const LIST_ID: [u8; 4] = *b"LIST";
 
-/// The bytes of an id and a size.
+/// The size of a chunk header in bytes: an id and a size.
 const HEAD_LENGTH: usize = 8;
 
 /// A body passes the end of its window.
@@ -19,11 +19,11 @@ const HEAD_LENGTH: usize = 8;
 #[error("a chunk passes the end of its window")]
 pub struct Truncated;
 
-/// The chunks of a window of a file, each lent as its id and its body.
+/// An iterator over the chunks of a window of a file. Each item borrows the body from the window.
 ///
-/// A pad byte follows a body of odd size, unless the window ends there. A rest of 1 to 7 bytes is
-/// ignored. A body that passes the window's end is `Truncated`, and the walk ends with it; but that
-/// of a chunk `LIST` may end one byte past it, and is then cut by that byte.
+/// A pad byte follows a body of odd size, unless the window ends there. A rest of 1 to 7 bytes is ignored. A body that
+/// passes the window's end is `Truncated`, and ends the walk; but the body of a chunk `LIST` may end one byte past the
+/// window, and is then one byte shorter.
 #[derive(Debug, Drop)]
 pub struct Chunks<'a> {
     left: &'a [u8],
@@ -39,7 +39,7 @@ impl<'a> Model for Chunks<'a> {
 }
 
 impl<'a> Chunks<'a> {
-    /// The chunks of a window, from its first.
+    /// Starts at the first chunk of a window.
     pub fn over(window: &'a [u8]) -> Chunks<'a>
         ensures walks { Walks window.now result }
         ensures value { result ≡ walk window.now }
@@ -73,7 +73,7 @@ impl<'a> Iterator for Chunks<'a> {
 
 impl<'a> FusedIterator for Chunks<'a> {}
 
-// The id at the front.
+// The id of the first chunk.
 fn front_id(window: &[u8]) -> [u8; 4]
     requires { 8 ≤ length window.now }
     ensures { result ≡ take 4 window.now }
@@ -81,7 +81,7 @@ fn front_id(window: &[u8]) -> [u8; 4]
     [window[0], window[1], window[2], window[3]]
 }
 
-// Whether the body at the front ends where it may.
+// Whether the first body ends where it may.
 #[tactic(auto, unfolding(crate::specs::Walk::LIST))]
 fn body_fits(window: &[u8]) -> bool
     requires { 8 ≤ length window.now }

@@ -7,14 +7,14 @@ ghost use Rattle.riff_chunks.specs.Finding.{chunks_in, is_whole, first_body, is_
 use crate::chunks::{Chunks, LIST_ID};
 use sf_base::{front_of, rest_from};
 
-/// Whether the walk of a window meets no fault.
+/// Whether no body in the window passes its end.
 pub fn is_whole(window: &[u8]) -> bool
     ensures { result ≡ is_whole (walk window.now) }
 {
     Chunks::over(window).all(|item| item.is_ok())
 }
 
-/// The body of the first chunk of an id in a window, up to a fault of its walk.
+/// The body of the first chunk with an id, of those before a fault.
 pub(crate) fn body_of<'a>(window: &'a [u8], id: [u8; 4]) -> Option<&'a [u8]>
     ensures { option_copied result ≡ first_body id (chunks_in (walk window.now)) }
 {
@@ -30,8 +30,8 @@ pub(crate) fn body_of<'a>(window: &'a [u8], id: [u8; 4]) -> Option<&'a [u8]>
     None
 }
 
-/// What follows the form in the first list of a form in a window, up to a fault of its walk. A body
-/// of fewer than four bytes has no form.
+/// The body, after the form, of the first list with that form, of those before a fault. A body of fewer than four bytes
+/// has no form.
 pub fn list_of<'a>(window: &'a [u8], form: [u8; 4]) -> Option<&'a [u8]>
     ensures { option_copied result ≡ first_list form (chunks_in (walk window.now)) }
 {
@@ -47,7 +47,7 @@ pub fn list_of<'a>(window: &'a [u8], form: [u8; 4]) -> Option<&'a [u8]>
     None
 }
 
-// Whether this chunk is a list of the form.
+// Whether this chunk is a list with the form.
 #[tactic(auto, unfolding(crate::specs::Walk::LIST))]
 fn is_list(form: [u8; 4], id: [u8; 4], body: &[u8]) -> bool
     ensures { result ≡ is_list form (record { id = id; body = body.now }) }

@@ -1,4 +1,4 @@
-//! The first chunks of some ids, found in one pass over their window.
+//! The first chunk of each of some ids, found in one pass over the window.
 ghost use Rattle.std.specs.Prelude.{◌≡◌, is_ok, IfOk};
 ghost use Rattle.std.specs.Option.{option_copied};
 ghost use Rattle.riff_chunks.specs.Walk.{walk};
@@ -9,11 +9,10 @@ use crate::chunks::{Chunks, Truncated};
 use crate::finding::body_of;
 use std::marker::Model;
 
-/// The bodies that are kept at most. The lists of a bank's file hold chunks of nine ids.
+/// The most bodies kept: the lists of a bank's file have chunks of nine ids.
 const MOST_KEPT: usize = 9;
 
-/// A window that was walked once, to its end, with the first bodies of some ids at hand. It is seen
-/// as the chunks of the window.
+/// A window walked once to its end, with the first bodies of some ids kept. Its value is the list of its chunks.
 #[derive(Drop)]
 pub struct FirstChunks<'a> {
     window: &'a [u8],
@@ -35,8 +34,8 @@ impl<'a> Model for FirstChunks<'a> {
 }
 
 impl<'a> FirstChunks<'a> {
-    /// The chunks of a window, with the first bodies of the first nine of these ids at hand. The fault
-    /// of a body that passes the window's end comes wherever it stands.
+    /// Walks a window and keeps the first body of each of the first nine ids. Any body that passes the window's end is
+    /// a fault.
     pub fn over(window: &'a [u8], ids: &'a [[u8; 4]]) -> Result<FirstChunks<'a>, Truncated>
         ensures whole { is_ok result ≡ is_whole (walk window.now) }
         ensures value { IfOk result (λ first. first ≡ chunks_in (walk window.now)) }
@@ -53,7 +52,7 @@ impl<'a> FirstChunks<'a> {
         })
     }
 
-    /// The body of the first chunk of an id. One that is not at hand is looked for in the window.
+    /// The body of the first chunk with an id. If it is not kept, the window is searched.
     pub fn body_of(&self, id: [u8; 4]) -> Option<&'a [u8]>
         ensures { option_copied result ≡ first_body id self.now }
     {
@@ -64,7 +63,7 @@ impl<'a> FirstChunks<'a> {
     }
 }
 
-// Takes the body of a chunk, where its id is one of these and has none yet.
+// Keeps the body of a chunk if its id is one of these and has no body yet.
 fn take_first<'a>(ids: &[[u8; 4]], bodies: &mut [Option<&'a [u8]>; 9], id: [u8; 4], body: &'a [u8])
     ensures { Takes ids.now bodies.old bodies.new (record { id = id; body = body.now }) }
 {
@@ -76,7 +75,7 @@ fn take_first<'a>(ids: &[[u8; 4]], bodies: &mut [Option<&'a [u8]>; 9], id: [u8; 
     }
 }
 
-// Where an id stands.
+// The index of an id.
 fn place_of(ids: &[[u8; 4]], id: [u8; 4]) -> Option<usize>
     ensures { result ≡ place_of id ids.now }
 {

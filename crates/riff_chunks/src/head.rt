@@ -1,4 +1,4 @@
-//! The head of a chunk, its id and the size of its body, and the body.
+//! Writing chunks: the header of a chunk, its id and size, and its body.
 ghost use Rattle.std.specs.Prelude.{◌≡◌};
 ghost use Rattle.outputs.specs.Output.{Puts};
 ghost use Rattle.riff_chunks.specs.Spelling.{chunk_head};
@@ -7,13 +7,12 @@ use byteorder::{ByteOrder, LittleEndian};
 use outputs::Output;
 use std::io::Write;
 
-/// What chunks are written to: an output, to which the head of a chunk goes and then its body.
+/// An output that chunks are written to, first the header of a chunk and then its body.
 pub trait ChunkWriter {
-    /// Puts the id and the size of a chunk, 8 bytes. The body comes next; where its size is odd, a zero
-    /// byte comes after it.
+    /// Writes the id and the size of a chunk, 8 bytes. The body must follow, and a zero byte after a body of odd size.
     fn head(&mut self, id: [u8; 4], size: u32);
 
-    /// Puts bytes of a chunk's body behind what was put before.
+    /// Writes bytes of a chunk's body.
     fn body(&mut self, bytes: &[u8]);
 }
 
@@ -31,7 +30,7 @@ impl<'a, W: Write> ChunkWriter for Output<'a, W> {
     }
 }
 
-// An id and a size.
+// The bytes of a chunk header.
 fn head_bytes(id: [u8; 4], size: u32) -> [u8; 8]
     ensures { result ≡ chunk_head id size }
 {

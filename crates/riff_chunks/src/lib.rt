@@ -1,7 +1,7 @@
 //! The chunks of RIFF files: walking a window of a file, finding chunks in it, and writing them.
 //!
-//! A chunk is an id of four bytes, the size of its body in 32 bits with the low byte first, and its
-//! body, which one pad byte follows where its size is odd (SoundFont 2.04, section 3).
+//! A chunk is an id of four bytes, the size of its body as a little-endian 32-bit number, the body, and one pad byte if
+//! the size is odd (SoundFont 2.04, section 3).
 #![tactic(auto)]
 
 mod chunks;

@@ -1,4 +1,4 @@
--- A part of the points, taken slice by slice.
+-- A range of the points, copied slice by slice.
 use Rattle.std.proofs.Common.{◌≡◌, ℕ, zero, suc, ◌+◌, ◌/◌, ◌<◌, ◌≤◌, ◌-◌, min, List, [], ◌∷◌, ◌++◌, length, get_or}
 use Rattle.std.proofs.Common.{take, drop, refl, ap, sym, ◌∙◌, arith, length-append, length-take, length-drop}
 use Rattle.std.specs.Prelude.{slice_range}
@@ -10,7 +10,7 @@ use Rattle.sample_view.specs.Pieces.{joined}
 use Rattle.sample_view.proofs.WordLaws.{length-words}
 use Rattle.sample_view.proofs.PieceLaws.{joined-more}
 
--- a list is its front, its middle and its back
+-- A list is its first, middle and last parts.
 pub three_ranges : (xs first middle last : List ℕ) (i j n : ℕ) → i ≤ j → n ≡ length xs
     → first ≡ slice_range xs 0 i → middle ≡ slice_range xs i j → last ≡ slice_range xs j n
     → xs ≡ first ++ middle ++ last
@@ -23,21 +23,21 @@ three_ranges xs first middle last i j n h e f m l =
     append_assoc (take i xs) (take (j - i) (drop i xs)) (drop (j - i) (drop i xs))
     ∙ ap (λ t. take i xs ++ t) (take-append-drop (j - i) (drop i xs)) ∙ take-append-drop i xs))
 
--- what follows a front of two lists
+-- Dropping from a concatenation of two lists.
 drop-append : (n : ℕ) (xs ys : List ℕ) → drop n (xs ++ ys) ≡ drop n xs ++ drop (n - length xs) ys
 drop-append zero xs ys = let z : 0 - length xs ≡ 0 = omega arith in rw z refl
 drop-append (suc n) [] ys = let z : suc n - 0 ≡ suc n = omega arith in rw z refl
 drop-append (suc n) (x ∷ xs) ys =
     let z : suc n - suc (length xs) ≡ n - length xs = omega arith in rw z (drop-append n xs ys)
 
--- a front of two lists
+-- A prefix of a concatenation of two lists.
 take-append : (n : ℕ) (xs ys : List ℕ) → take n (xs ++ ys) ≡ take n xs ++ take (n - length xs) ys
 take-append zero xs ys = let z : 0 - length xs ≡ 0 = omega arith in rw z refl
 take-append (suc n) [] ys = let z : suc n - 0 ≡ suc n = omega arith in rw z refl
 take-append (suc n) (x ∷ xs) ys =
     let z : suc n - suc (length xs) ≡ n - length xs = omega arith in rw z (ap (λ t. x ∷ t) (take-append n xs ys))
 
--- a window of a list, by bounds within it
+-- A range of a list with clamped bounds.
 window : (ys : List ℕ) (skip left start room : ℕ) → start ≡ min skip (length ys) → room ≡ min left (length ys - start)
     → take room (drop start ys) ≡ take left (drop skip ys)
 window ys skip left start room s r =
@@ -45,14 +45,14 @@ window ys skip left start room s r =
     ap (λ n. take n (drop start ys)) e ∙ take_min left (drop start ys)
     ∙ ap (λ l. take left l) (ap (λ n. drop n ys) s ∙ drop_min skip ys)
 
--- the first n numbers after some others, as far as a list was seen: what was made, how many to skip yet, how many
--- are left
+-- The n numbers from index `from`, as far as the list is read: those made, how many are still to skip, and how many
+-- remain to make.
 pub record CutSoFar (seen made : List ℕ) (from n skip left : ℕ) : Type 0 where
   pub made_is : made ≡ take n (drop from seen)
   pub skip_is : skip ≡ from - length seen
   pub left_is : left ≡ n - length made
 
--- one more piece
+-- One more slice.
 pub CutSoFar-more : (seen made ys piece made' : List ℕ) (from n skip left start room : ℕ)
     → CutSoFar seen made from n skip left → start ≡ min skip (length ys) → room ≡ min left (length ys - start)
     → piece ≡ take room (drop start ys) → made' ≡ made ++ piece
@@ -77,7 +77,7 @@ CutSoFar-more seen made ys piece made' from n skip left start room so s r p e =
       left_is = omega (arith, ap length e, length-append made piece);
     }
 
--- one turn of a cut
+-- One iteration of `cut`.
 pub cut_turn : (pieces kept kept' : List (Bor (List ℕ))) (d : Bor (List ℕ)) (part : List ℕ)
     (i from n skip left start room : ℕ)
     → i < length pieces

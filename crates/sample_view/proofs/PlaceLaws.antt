@@ -1,4 +1,4 @@
--- Where a point stands among slices.
+-- The slice and position of a point.
 use Rattle.std.proofs.Common.{◌≡◌, ℕ, ◌+◌, ◌-◌, ◌/◌, ◌<◌, ◌≤◌, List, ◌++◌, length, get_or, take, drop, refl, ap, sym}
 use Rattle.std.proofs.Common.{◌∙◌, arith, length-append}
 use Rattle.std.specs.Prelude.{All}
@@ -11,7 +11,7 @@ use Rattle.sample_view.specs.Runs.{IsRunAround}
 use Rattle.sample_view.proofs.WordLaws.{length-words}
 use Rattle.sample_view.proofs.PieceLaws.{joined-more, joined-split}
 
--- the place in the slice after this one
+-- The position relative to the next slice.
 pub place-next : (ps : List (Bor (List ℕ))) (i j index : ℕ) (d : Bor (List ℕ)) → i < length ps
     → length (joined (take i ps)) + j ≡ index → length (get_or ps i d).now / 2 ≤ j
     → length (joined (take (i + 1) ps)) + (j - length (get_or ps i d).now / 2) ≡ index
@@ -24,7 +24,7 @@ place-next ps i j index d h e le =
       length-words (get_or ps i d).now,
     )
 
--- this slice is a run of the points around the one at the index
+-- This slice is a run of the points around the one at the index.
 pub run-found : (ps : List (Bor (List ℕ))) (i j index : ℕ) (d : Bor (List ℕ)) → All IsPiece ps → i < length ps
     → length (joined (take i ps)) + j ≡ index → j < length (get_or ps i d).now / 2
     → IsRunAround (joined ps) index (get_or ps i d).now j

@@ -1,11 +1,11 @@
--- What a slice tells of the points around one.
+-- The points around one, read from its slice.
 use Rattle.std.proofs.Common.{◌≡◌, ℕ, ◌+◌, ◌-◌, ◌*◌, ◌<◌, List, length, get_or, drop, ap, sym, refl, ◌∙◌, arith}
 use Rattle.std.proofs.Common.{get_or-take, get_or-drop}
 use Rattle.sample_view.specs.Words.{words}
 use Rattle.sample_view.specs.Runs.{IsRunAround}
 use Rattle.sample_view.proofs.WordLaws.{length-words, get_or-words}
 
--- the point at another place of the slice is as far from the first in the list
+-- Two points of a slice are as far apart as in the list.
 pub get_or-run : (points bytes : List ℕ) (index place k : ℕ) → IsRunAround points index bytes place
     → 2 * k + 1 < length bytes
     → get_or (words bytes) k 0 ≡ get_or points (index - place + k) 0
@@ -15,7 +15,7 @@ get_or-run points bytes index place k run h =
     let in_words : k < n = omega (arith, length-words bytes) in
     ap (λ t. get_or t k 0) run.run ∙ get_or-take n (drop first points) k 0 in_words ∙ get_or-drop first points k 0
 
--- the point itself is at its place
+-- The point at its own position.
 pub get_or-run_here : (points bytes : List ℕ) (index place : ℕ) → IsRunAround points index bytes place
     → get_or points index 0 ≡ get_or bytes (2 * place) 0 + 256 * get_or bytes (2 * place + 1) 0
 get_or-run_here points bytes index place run =

@@ -12,21 +12,22 @@ use std::alloc::Global;
 use std::marker::Model;
 use thiserror::Error;
 
-/// The bytes are no whole number of points.
+/// The number of bytes is odd, so they are not whole points.
 #[derive(Debug, Drop, Clone, Copy, PartialEq, Eq, Error)]
 #[error("a point has two bytes")]
 pub struct OddLength;
 
-/// A list of points, each a signed number of 16 bits with its low byte first, as the chunk `smpl`
-/// holds them (SoundFont 2.04, section 6.1). They lie in slices of the file, so that a list is cut
-/// and joined with no point copied. Contracts see the numbers as the unsigned words of the bytes.
+/// A list of points, each a little-endian signed 16-bit number, as in the chunk `smpl` (SoundFont 2.04, section 6.1).
+///
+/// The points are in slices of the file, so a list is split and joined without copying points. Contracts see the points
+/// as unsigned 16-bit words.
 #[derive(Debug)]
 pub struct Points<'a> {
     pieces: SmallVec<&'a [u8], 1>,
     count: usize,
 }
 
-// Not derived: a derived drop is written out, and proved, wherever a value is dropped; this one is a call.
+// Not derived: a derived `drop` is inlined, and proved, wherever a value is dropped; this one is a call.
 impl Drop for Points<'_> {
     fn drop(self) {
         let Points {
@@ -48,8 +49,7 @@ impl<'a> Model for Points<'a> {
 }
 
 impl<'a> Points<'a> {
-    /// The points of one slice, two bytes each. Refuses an odd number of bytes and nothing else, and
-    /// takes no memory.
+    /// Makes a list of the points of one slice, two bytes each. An odd number of bytes is an error. Allocates nothing.
     pub fn of_slice(alloc: Global, bytes: &'a [u8]) -> Result<Points<'a>, OddLength>
         ensures value { IfOk result (λ points. points ≡ words bytes.now) }
         ensures odd { IsErr result ↔ (length bytes.now % 2 ≡ 1) }
@@ -69,7 +69,7 @@ impl<'a> Points<'a> {
         })
     }
 
-    /// No point. Takes no memory.
+    /// Makes an empty list. Allocates nothing.
     pub fn empty(alloc: Global) -> Points<'a>
         ensures { result ≡ [] }
     {
@@ -79,7 +79,7 @@ impl<'a> Points<'a> {
         }
     }
 
-    /// How many points there are.
+    /// The number of points.
     pub fn len(&self) -> usize
         ensures value { result ≡ length self.now }
         ensures fits { AreWords self.now }
@@ -87,16 +87,15 @@ impl<'a> Points<'a> {
         self.count
     }
 
-    /// Whether there is no point.
+    /// Whether there are no points.
     pub fn is_empty(&self) -> bool
         ensures { IsTrue result ↔ (length self.now ≡ 0) }
     {
         self.len() == 0
     }
 
-    /// The slice that holds point `index`, and the place of that point among the points of the
-    /// slice. Its neighbours there are the neighbours in the list. The slice lives as long as the
-    /// file.
+    /// The slice with point `index`, and the position of that point among the points of the slice. Its neighbours in
+    /// the slice are its neighbours in the list. The slice is borrowed from the file.
     pub fn slice_at(&self, index: usize) -> (&'a [u8], usize)
         requires { index < length self.now }
         ensures run { IsRunAround self.now index result.0.now result.1 }
@@ -124,7 +123,7 @@ impl<'a> Points<'a> {
         i16::from_le_bytes([bytes[2 * place], bytes[2 * place + 1]])
     }
 
-    /// The slices in order, each of at least one point. Their bytes, joined, are those of the points.
+    /// The slices in order, each of at least one point. Their concatenated bytes are the bytes of the points.
     pub fn pieces(&self) -> &[&'a [u8]]
         ensures points { joined result.now ≡ self.now }
         ensures bytes { joined_bytes result.now ≡ flat_map word_bytes self.now }
@@ -133,7 +132,7 @@ impl<'a> Points<'a> {
         self.pieces.as_slice()
     }
 
-    /// The same points.
+    /// Makes a list of the same points.
     pub fn copy(&self, alloc: Global) -> Result<Points<'a>, OutOfMemory>
         ensures { IfOk result (λ points. points ≡ self.now) }
     {
@@ -144,8 +143,7 @@ impl<'a> Points<'a> {
         })
     }
 
-    /// Takes the first `front` points and the last `back` out, gives both, and keeps the middle.
-    /// Where a growth was refused nothing is changed.
+    /// Removes the first `front` and the last `back` points, and returns both. A failed allocation changes nothing.
     pub fn narrow(
         &mut self,
         alloc: Global,
@@ -169,8 +167,7 @@ impl<'a> Points<'a> {
         Ok((first, last))
     }
 
-    /// Puts `front` before the points and `back` after them. Where a growth was refused nothing is
-    /// changed and both come back.
+    /// Puts `front` before the points and `back` after them. A failed allocation changes nothing and returns both.
     pub fn join(
         &mut self,
         front: Points<'a>,
@@ -194,7 +191,7 @@ impl<'a> Points<'a> {
     }
 }
 
-// The points of these slices from one place to another.
+// The points of these slices from index `from` up to, but not including, `to`.
 fn cut<'a>(
     alloc: Global,
     pieces: &[&'a [u8]],
@@ -224,7 +221,7 @@ fn cut<'a>(
     })
 }
 
-// So many points of a slice, from a place on.
+// The `count` points of a slice from position `start` on.
 fn part(bytes: &[u8], start: usize, count: usize) -> &[u8]
     requires inside { 2 * (start + count) ≤ length bytes.now }
     ensures length { length result.now ≡ 2 * count }

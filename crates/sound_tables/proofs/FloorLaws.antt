@@ -4,7 +4,7 @@ use Rattle.std.proofs.Math.Nat.{mul-lt-mul_of_pos_right, mul-pos}
 use Rattle.std.proofs.lemmas.Int.{ints}
 use Rattle.sound_tables.specs.Floor.{floor_div, floor_mod, scaled}
 
--- a quotient and a remainder are known by their sum
+-- Uniqueness of quotient and remainder.
 pub div_is : (m n q r : ℕ) → r < n → m ≡ q * n + r → m / n ≡ q
 div_is m n q r h e = ap (λ x. x / n) e ∙ div-mul-add q n r h
 
@@ -28,7 +28,7 @@ under_mod a k n m j h e f =
     let b : a % n < n = mod_below a n h in
     mod_is m n j (n - 1 - a % n) (omega arith) (under_sum a k n m j h e f)
 
--- the quotient that rounds down, read k divisors higher
+-- The floor quotient of a number raised by k divisors.
 pub floor_div_is : (z : ℤ) (k n m : ℕ) → 0 < n → z +ℤ pos (k * n) ≡ pos m → floor_div z n +ℤ pos k ≡ pos (m / n)
 floor_div_is (pos a) k n m h e =
     let d : a / n * n + a % n ≡ a = div-add-mod' a n in
@@ -59,7 +59,7 @@ div_scaled a d b h g =
     div_is (a * b) (d * b) (a / d) (a % d * b) f
     (ap (λ x. x * b) (sym e) ∙ omega arith)
 
--- a power below zero divides, so `bias` octaves more stand on both sides
+-- A negative power divides, so both sides are raised by `bias` octaves.
 pub scaled_is : (m d k bias : ℕ) (octaves : ℤ) → 0 < d → octaves +ℤ pos bias ≡ pos k
     → scaled m octaves d ≡ m * 2 ^ k / (d * 2 ^ bias)
 scaled_is m d k bias (pos j) h e =

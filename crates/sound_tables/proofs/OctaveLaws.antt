@@ -1,4 +1,4 @@
--- What is scaled by octaves fits, and where it is the most.
+-- Numbers scaled by octaves fit their types; their maxima.
 use Rattle.std.proofs.Common.{◌≡◌, ℕ, ◌+◌, ◌*◌, ◌/◌, ◌%◌, ◌^◌, ◌<◌, ◌≤◌, suc, ℤ, pos, ◌+ℤ◌, sym, ◌∙◌, ap, subst}
 use Rattle.std.proofs.Common.{arith, lit<, ⊎_elim}
 use Rattle.std.proofs.Math.Nat.{pow-le-pow_right}
@@ -15,7 +15,7 @@ powers_rise a b h = pow-le-pow_right {n = 2} (lit< tt) h
 pub shifted : (m o by : ℕ) → m < by * 16777216 → by ≤ 65536 → o ≤ 20 → (m * 2 ^ o) % 18446744073709551616 ≡ m * 2 ^ o
 shifted m o by h g k = shl_whole m 40 o 64 (omega arith) (omega arith)
 
--- a quotient of a smaller product is no larger
+-- The quotient of a smaller product is not larger.
 less_scaled : (m o d n p most : ℕ) → 0 < d → m ≤ n → o ≤ p → n * 2 ^ p < suc most * d → m * 2 ^ o / d ≤ most
 less_scaled m o d n p most z h k u =
     let e : m * 2 ^ o ≤ n * 2 ^ p = mul-le m (2 ^ o) n (2 ^ p) h (powers_rise o p k) in
@@ -41,7 +41,7 @@ step_case x o r rate e f =
     scaled_is (ratio (floor_mod x 1200) * rate) 44100 o 12 (floor_div x 1200) (omega arith) e
     ∙ ap (λ y. ratio y * rate * 2 ^ o / (44100 * 4096)) (sym f)
 
--- a time of 8000 timecents has the most frames
+-- A time of 8000 timecents has the most frames.
 frames_below : (o r : ℕ) → o ≤ 17 → r < 1200 → 44100 * ratio r * 2 ^ o / (65536 * 4096) ≤ 4480284
 frames_below o r h l =
     let m : ratio r ≤ 131072 = ratio_most r (omega arith) in
@@ -60,7 +60,7 @@ frames_bound o r h l = ⊎_elim
     (λ apart. frames_below o r (omega (arith, apart)) l)
     (cases_eq o 18)
 
--- eight octaves and the highest rate make the largest step
+-- Eight octaves and the highest rate give the largest phase increment.
 step_below : (o r rate : ℕ) → o ≤ 19 → r < 1200 → rate ≤ 192000 → ratio r * rate * 2 ^ o / (44100 * 4096) ≤ 73043661
 step_below o r rate h l k =
     let m : ratio r * rate ≤ 131072 * 192000 = mul-le (ratio r) rate 131072 192000 (ratio_most r (omega arith)) k in

@@ -1,4 +1,4 @@
--- Ratios lie between one and two, and rise with the interval.
+-- Ratios are between one and two, and rise with the interval.
 use Rattle.std.proofs.Common.{◌≡◌, ◌≤◌, ◌+◌, ℕ, true, refl, arith}
 use Rattle.std.specs.Prelude.{nat_le}
 use Rattle.std.proofs.lemmas.Bool.{agree_below}

@@ -1,10 +1,10 @@
--- Functions of numbers that never fall, or never rise.
+-- Monotone functions of numbers.
 use Rattle.std.proofs.Common.{◌≡◌, ◌≤◌, ◌<◌, ◌+◌, ℕ, zero, suc, true, ⊎_elim, subst, arith}
 use Rattle.std.specs.Prelude.{nat_le}
 use Rattle.std.proofs.lemmas.Bool.{cases_eq, agree_below, agree_below_at}
 use Rattle.std.proofs.lemmas.Bool.Decides.{nat_tests}
 
--- what holds from each number to the next holds from any to any later one
+-- A relation that holds from each number to the next holds from any number to any later one.
 module _ (R : ℕ → ℕ → Type 0) (same : (x : ℕ) → R x x) (through : (x y z : ℕ) → R x y → R y z → R x z) where
   pub from_to : (f : ℕ → ℕ) (n : ℕ) → ((k : ℕ) → k < n → R (f k) (f (k + 1))) → (a b : ℕ) → a ≤ b → b ≤ n
       → R (f a) (f b)
@@ -15,7 +15,7 @@ module _ (R : ℕ → ℕ → Type 0) (same : (x : ℕ) → R x x) (through : (x
       (subst (λ x. R (f b) (f x)) (omega arith) (next b (omega arith))))
       (cases_eq a (suc b))
 
--- a test of each number below n, which computes where n is written out
+-- A test of each number below n, computed for a literal n.
 pub at_each : (g h : ℕ → ℕ) (n : ℕ) → agree_below (λ k. nat_le (g k) (h k)) (λ _. true) n ≡ true → (k : ℕ) → k < n
     → g k ≤ h k
 at_each g h n e k l =

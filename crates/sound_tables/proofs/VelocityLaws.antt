@@ -1,4 +1,4 @@
--- The attenuation of a velocity, searched for between two bounds.
+-- The attenuation of a velocity, found by bisection.
 use Rattle.std.proofs.Common.{◌≡◌, ◌≤◌, ◌<◌, ◌+◌, ◌*◌, min, ℕ, true, false, get_or, length, sym, ap, subst, ◌∙◌, arith}
 use Rattle.std.specs.List.{position_or_len, range_with_len}
 use Rattle.std.proofs.lemmas.Bool.Decides.{nat_tests}
@@ -7,7 +7,7 @@ use Rattle.std.proofs.lemmas.List.Sums.{position_or_len_is}
 use Rattle.sound_tables.specs.Tables.{gain_at, is_as_quiet, velocity_attenuation_of, IsVelocityAttenuation}
 use Rattle.sound_tables.proofs.GainLaws.{gain_falls, gain_at_end}
 
--- the bound below has none as quiet before it, the bound above is as quiet
+-- Nothing below the lower bound is as quiet, and the upper bound is.
 pub record IsBetween (square low high : ℕ) : Type 0 where
   pub ordered : low ≤ high
   pub within : high ≤ 960

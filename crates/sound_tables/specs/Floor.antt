@@ -1,27 +1,27 @@
--- Division that rounds down, also of numbers below zero.
+-- Floor division, also of negative numbers.
 use Rattle.std.specs.Prelude.{ℕ, ◌+◌, ◌-◌, ◌*◌, ◌/◌, ◌%◌, ◌^◌, ◌≡◌, ◌<◌, ℤ, pos, negsuc, ◌+ℤ◌, ◌*ℤ◌}
 
--- the quotient that rounds down, by a divisor above zero
+-- The quotient, rounded down, by a positive divisor.
 abbrev pub floor_div : ℤ → ℕ → ℤ
 floor_div (pos a) n = pos (a / n)
 floor_div (negsuc a) n = negsuc (a / n)
 
--- its remainder, from zero on and below the divisor
+-- Its remainder, at least zero and below the divisor.
 abbrev pub floor_mod : ℤ → ℕ → ℕ
 floor_mod (pos a) n = a % n
 floor_mod (negsuc a) n = n - 1 - a % n
 
--- that they are so: the divisor times the quotient, and the remainder, make the number
+-- Correctness: the divisor times the quotient, plus the remainder, is the number.
 abbrev pub FloorsAreSo : Type 0
 FloorsAreSo = (z : ℤ) (n : ℕ) → 0 < n
     → (pos n *ℤ floor_div z n +ℤ pos (floor_mod z n) ≡ z) × (floor_mod z n < n)
 
--- a number below zero counts as zero
+-- A negative number counts as zero.
 abbrev pub above_zero : ℤ → ℕ
 above_zero (pos a) = a
 above_zero (negsuc a) = 0
 
--- m times 2^k over d, where a power below zero divides; rounded down once, at the end
+-- m · 2^k / d, rounded down once, at the end; k may be negative.
 abbrev pub scaled : ℕ → ℤ → ℕ → ℕ
 scaled m (pos k) d = m * 2 ^ k / d
 scaled m (negsuc k) d = m / (d * 2 ^ (k + 1))

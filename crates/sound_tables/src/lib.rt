@@ -1,4 +1,4 @@
-//! The tables of the sound, all in whole numbers: ratios of pitch, loudness, times and steps.
+//! Tables for sound, all in integers: pitch ratios, gains, times and phase increments.
 #![tactic(auto)]
 
 ghost use Rattle.sound_tables.specs.Floor.{FloorsAreSo};
@@ -11,8 +11,7 @@ pub use loudness::{gain, velatt};
 pub use octaves::{frames, step};
 pub use ratios::pitch;
 
-/// The law that the quotients and remainders that the definitions of the sound name are those that round
-/// down, also of numbers below zero. It does nothing.
+/// The law that `floor_div` and `floor_mod` of the specs are floor division, also of negative numbers. It does nothing.
 pub fn floors_law()
     ensures { FloorsAreSo }
 {}

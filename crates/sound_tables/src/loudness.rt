@@ -1,14 +1,14 @@
-//! What attenuations leave of the loudness, and the attenuations that velocities stand for.
+//! Gains of attenuations, and attenuations of velocities.
 ghost use Rattle.std.specs.Prelude.{◌≡◌, ◌≤◌, min};
 ghost use Rattle.sound_tables.specs.Tables.{gain_of, velocity_attenuation_of, IsVelocityAttenuation};
 
 use crate::ratios::ratio_at;
 
-/// The attenuation in centibels from which on nothing is heard.
+/// The attenuation in centibels from which on the gain is zero.
 const SILENCE: i64 = 960;
 
-/// What an attenuation in centibels leaves of the loudness, in 65536ths: all of it at 0 and below, half of
-/// it at each 60 more, nothing from 960 on.
+/// The gain of an attenuation in centibels, in 65536ths: 65536 at 0 and below, halved by each 60 more, zero from 960
+/// on.
 #[tactic(auto, unfolding(crate::specs::Tables::gain_at))]
 pub fn gain(attenuation: i64) -> u32
     ensures value { result ≡ gain_of attenuation }
@@ -21,8 +21,8 @@ pub fn gain(attenuation: i64) -> u32
     ratio_at(1200 - 20 * (attenuation % 60)) >> (attenuation / 60 + 1)
 }
 
-/// The attenuation of a velocity in centibels, up to 960: the least one at which the gain is at most
-/// the square of the velocity, taken as a part of 127. A velocity above 127 counts as 127.
+/// The attenuation of a velocity in centibels, 0 to 960: the least whose gain is at most the square of velocity / 127.
+/// A velocity above 127 counts as 127.
 #[tactic(auto, using(crate::proofs::VelocityLaws::all_between, crate::proofs::VelocityLaws::quieter, crate::proofs::VelocityLaws::louder, crate::proofs::VelocityLaws::found, crate::proofs::VelocityLaws::velocity_attenuation_is))]
 pub fn velatt(velocity: u8) -> u32
     ensures value { result ≡ velocity_attenuation_of velocity }

@@ -1,18 +1,18 @@
-//! Ratios over many octaves: times in frames, and steps through a sample.
+//! Ratios over many octaves: times in frames, and phase increments.
 ghost use Rattle.std.specs.Prelude.{◌≡◌, ◌≤◌, ◌<◌, ◌≤ℤ◌, ◌+ℤ◌, ◌+◌, ◌*◌, ◌/◌, ◌^◌, pos, negsuc};
 ghost use Rattle.sound_tables.specs.Floor.{floor_div, floor_mod};
 ghost use Rattle.sound_tables.specs.Tables.{frames_of, step_of};
 
 use crate::ratios::ratio_at;
 
-/// The frames of a second.
+/// Frames per second.
 const FRAME_RATE: u64 = 44100;
 
-/// The ratio that twelve octaves make. An interval's octaves are counted from twelve below zero.
+/// The ratio of twelve octaves. The octaves of an interval are counted from twelve below zero.
 const TWELVE_OCTAVES: u64 = 4096;
 
-/// The frames of a time in timecents, at 44,100 a second: those of a second at 0, twice as many at each
-/// 1200 more. None up to -12000, and above 8000 as many as there, 4,480,284.
+/// The frames of a time in timecents, at 44,100 a second: 44,100 at 0, twice as many for each 1200 more. Zero up to
+/// -12000; 4,480,284 from 8000 on.
 #[tactic(auto, using(crate::proofs::OctaveLaws::frames_case, crate::proofs::OctaveLaws::frames_bound))]
 pub fn frames(timecents: i64) -> u32
     ensures value { result ≡ frames_of timecents }
@@ -25,8 +25,8 @@ pub fn frames(timecents: i64) -> u32
     scaled(FRAME_RATE * u64::from(ratio_at(rest)), octaves, 65536)
 }
 
-/// How far a sample of `rate` points a second goes on in a frame, `cents` above its own pitch: in
-/// 65536ths of a point. The interval is cut to -14400..=9600, and the rate to 400..=192000.
+/// The phase increment of a frame, in 65536ths of a point, of a sample with `rate` points a second played `cents` above
+/// its own pitch. The interval is clamped to -14400..=9600 and the rate to 400..=192000.
 #[tactic(auto, using(crate::proofs::OctaveLaws::step_case, crate::proofs::OctaveLaws::step_bound))]
 pub fn step(cents: i64, rate: u32) -> u32
     ensures value { result ≡ step_of cents rate }
@@ -41,8 +41,7 @@ pub fn step(cents: i64, rate: u32) -> u32
     )
 }
 
-// The whole octaves of an interval, counted from twelve below zero, and the cents that are left above
-// them.
+// The whole octaves of an interval, counted from twelve below zero, and the remaining cents.
 #[tactic(auto, using(crate::proofs::FloorLaws::floor_div_is, crate::proofs::FloorLaws::floor_mod_is))]
 fn octaves_of(cents: i64) -> (u32, u32)
     requires low { negsuc 14399 ≤ℤ cents }
@@ -56,8 +55,7 @@ fn octaves_of(cents: i64) -> (u32, u32)
     (up / 1200, up % 1200)
 }
 
-// `amount` times two to the power of `octaves`, counted from twelve below zero, over `divisor`; rounded
-// down once.
+// `amount` · 2^(`octaves` - 12) / `divisor`, rounded down once.
 #[tactic(auto, using(crate::proofs::OctaveLaws::shifted, crate::proofs::OctaveLaws::scaled_fits))]
 fn scaled(amount: u64, octaves: u32, divisor: u64) -> u32
     requires small { amount < divisor * 16777216 }

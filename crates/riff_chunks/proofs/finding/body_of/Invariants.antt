@@ -3,7 +3,7 @@ use Rattle.riff_chunks.specs.Walk.{walk}
 use Rattle.riff_chunks.specs.Finding.{chunks_in, first_body}
 use Rattle.riff_chunks.proofs.finding.body_of.Given as goal
 
--- the first chunk is among those that are left
+-- The first chunk is among the remaining ones.
 abbrev pub invariant-loop-item : goal.invariant-loop-item
 invariant-loop-item l =
     (goal.iterator-loop-item).can_next l.item-iterator ×

@@ -4,7 +4,7 @@ use Rattle.std.proofs.lemmas.Iterator.Search.{all_from_yields_List}
 use Rattle.std.specs.Result.{result_map_both}
 use Rattle.riff_chunks.proofs.finding.is_whole.Goals as goal
 
--- an item is seen as the same variant
+-- The value of an item is the same variant.
 is_ok-seen : {T U E D : Type 0} (f : T → U) (g : E → D) (x : Result T E) → is_ok (result_map_both f g x) ≡ is_ok x
 is_ok-seen f g (Ok x) = refl
 is_ok-seen f g (Err e) = refl

@@ -3,7 +3,7 @@ use Rattle.riff_chunks.specs.Walk.{walk}
 use Rattle.riff_chunks.specs.Finding.{chunks_in, first_list}
 use Rattle.riff_chunks.proofs.finding.list_of.Given as goal
 
--- the first list is among those that are left
+-- The first list is among the remaining chunks.
 abbrev pub invariant-loop-item : goal.invariant-loop-item
 invariant-loop-item l =
     (goal.iterator-loop-item).can_next l.item-iterator ×

@@ -8,7 +8,7 @@ use Rattle.riff_chunks.proofs.head.head_bytes.Goals as goal
 abbrev zeros : List ℕ
 zeros = 0 ∷ 0 ∷ 0 ∷ 0 ∷ []
 
--- eight bytes, of which four were copied and the others written as a number
+-- Eight bytes: a copied id of four, and a number in four.
 head_made : (copied written id : List ℕ) (size : ℕ) → length copied ≡ 4 → copied ≡ id
     → written ≡ little_bytes 4 size ++ drop 4 (take 4 (drop 4 (copied ++ zeros)))
     → put_mid 4 4 (copied ++ zeros) written ≡ chunk_head id size

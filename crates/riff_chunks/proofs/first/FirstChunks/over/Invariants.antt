@@ -4,7 +4,7 @@ use Rattle.riff_chunks.specs.Finding.{chunks_in, is_whole}
 use Rattle.riff_chunks.specs.First.{AreFirstSoFar}
 use Rattle.riff_chunks.proofs.first.FirstChunks.over.Given as goal
 
--- what is kept, and what is left, are what all is
+-- The kept bodies and those of the remaining chunks are those of all chunks.
 abbrev pub invariant-loop-item : goal.invariant-loop-item
 invariant-loop-item l =
     (goal.iterator-loop-item).can_next l.item-iterator ×

@@ -9,7 +9,7 @@ use Rattle.sample_view.specs.Words.{words}
 use Rattle.sample_view.specs.Pieces.{joined, IsPiece}
 use Rattle.sample_view.proofs.points.Points.join.Goals as goal
 
--- slices before and after
+-- Slices before and after.
 joined_parts : (front old back mid new : List (Bor (List ℕ))) → All IsPiece front → All IsPiece old → All IsPiece back
     → mid ≡ old ++ back → new ≡ insert_slice mid 0 front
     → All IsPiece new × (joined new ≡ joined front ++ (joined old ++ joined back))

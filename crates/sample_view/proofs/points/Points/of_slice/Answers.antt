@@ -9,11 +9,11 @@ use Rattle.sample_view.proofs.WordLaws.{length-words, words-empty}
 use Rattle.sample_view.proofs.PieceLaws.{AreWords-joined}
 use Rattle.sample_view.proofs.points.Points.of_slice.Goals as goal
 
--- a slice of bytes holds bytes
+-- Each item of a slice of bytes is below 256.
 bytes_fit : (xs : List ℕ) → ((i : ℕ) → Fits w8 (get_or xs i 0)) → All (λ b. b < 256) xs
 bytes_fit xs h = All-from_get_or (λ b. b < 256) xs 0 (λ i l. omega (arith, h i))
 
--- one slice of points
+-- One slice of points.
 one_piece : (p : Bor (List ℕ)) (ps : List (Bor (List ℕ))) → ps ≡ p ∷ [] → length p.now ≢ 0 → length p.now % 2 ≢ 1
     → ((i : ℕ) → Fits w8 (get_or p.now i 0))
     → All IsPiece ps × (length p.now / 2 ≡ length (joined ps))
