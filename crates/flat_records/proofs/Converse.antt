@@ -1,4 +1,4 @@
--- Records that are tables are those of the bags that are read of them, and the records of bags are tables.
+-- Records that are tables are those of the bags read from them, and the records of bags are tables.
 use Rattle.std.proofs.Common.{◌≡◌, ℕ, ◌<◌, ◌≤◌, ◌+◌, ◌-◌, suc, zero, List, [], ◌∷◌, ◌++◌, length, slice_get, Some}
 use Rattle.std.proofs.Common.{refl, subst, sym, ◌∙◌, ap, take, drop, get_or, length-append, length-take, length-drop}
 use Rattle.std.proofs.Common.{arith}
@@ -14,7 +14,7 @@ use Rattle.flat_records.specs.Tables.{Rises, EndsIn, AreTables}
 
 -- ---- the bags of records that are tables
 
--- what the bags from `at` on need of the records
+-- What the bags from `at` on require of the records.
 record From (at : ℕ × ℕ) (rest : List (ℕ × ℕ)) (gens : List (ℕ × ℕ)) (mods : List Modulator) : Type 0 where
   pub rising : (k : ℕ) → k + 1 < length (at ∷ rest) → Rises (at ∷ rest) k
   pub gens_within : (last_of at rest).0 ≤ at.0 + length gens
@@ -37,7 +37,7 @@ below_last at (next ∷ rest) r =
     let more = below_last next rest (λ k h. rises_next at (next ∷ rest) k (r (suc k) (omega arith))) in
     (omega (arith, first.0, more.0), omega (arith, first.1, more.1))
 
--- the same for the next bag
+-- The same for the next bag.
 next_from : (at next : ℕ × ℕ) (rest : List (ℕ × ℕ)) (gens : List (ℕ × ℕ)) (mods : List Modulator)
     → From at (next ∷ rest) gens mods → From next rest (drop (next.0 - at.0) gens) (drop (next.1 - at.1) mods)
 next_from at next rest gens mods f =
@@ -90,7 +90,7 @@ mods-from at (next ∷ rest) gens mods f =
     (next_from at next rest gens mods f))
     ∙ joined mods at.1 next.1 (last_of next rest).1 first.1 more.1
 
--- a list, by its last member
+-- A list ends with its last member.
 ended : {X : Type 0} (xs : List X) (n : ℕ) (x : X) → length xs ≡ suc n → slice_get xs n ≡ Some x
     → xs ≡ take n xs ++ x ∷ []
 ended [] n x h e = cc
@@ -135,7 +135,7 @@ tables_read t are =
     ∙ ap (λ xs. xs ++ no_modulator ∷ []) (sym mods_are) in
     λ i. record { bags = bags i; gens = gens i; mods = mods i }
 
--- the same of equal lists
+-- The same for equal lists.
 pub same_read : {bags index gens others : List (ℕ × ℕ)} {mods more : List Modulator}
     → AreTables (record { bags = bags; gens = gens; mods = mods }) → bags ≡ index → gens ≡ others → mods ≡ more
     → AreRead (record { bags = index; gens = others; mods = more })

@@ -3,7 +3,7 @@ use Rattle.std.proofs.Common.{◌≡◌, ℕ, ◌≤◌, ◌+◌, ◌-◌, suc, 
 use Rattle.std.proofs.Common.{◌∙◌, ap, take, drop, arith}
 use Rattle.std.proofs.Math.Seq.{take-add}
 
--- that of x and those behind it
+-- The last of x and the members after it.
 abbrev pub last_of : {X : Type 0} → X → List X → X
 last_of x [] = x
 last_of x (next ∷ rest) = last_of next rest

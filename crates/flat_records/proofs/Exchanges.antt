@@ -1,4 +1,4 @@
--- Neighbouring parts of a list that change places.
+-- Exchanges of neighbouring ranges of a list.
 use Rattle.std.proofs.Common.{◌≡◌, ℕ, ◌≤◌, ◌+◌, ◌-◌, List, ◌++◌, length, sym, ◌∙◌, ap, take, drop, map, append_assoc}
 use Rattle.std.proofs.Common.{length-append, length-take, length-drop, arith}
 use Rattle.std.proofs.lemmas.List.{take_at, drop_at, take-take, drop-take, drop-drop, take-append-drop}
@@ -10,7 +10,7 @@ module _ {X : Type 0} (xs : List X) where
   window : (a c : ℕ) → a ≤ c → take (c - a) (drop a xs) ≡ drop a (take c xs)
   window a c h = let n : a + (c - a) ≡ c = omega arith in sym (drop-take a (c - a) xs) ∙ ap (λ n. drop a (take n xs)) n
 
-  -- what a turn of the part from a up to c leaves
+  -- The result of a rotation of the range a..c.
   pub turned : (a b c : ℕ) → a ≤ b → b ≤ c
       → take a xs
       ++
@@ -29,7 +29,7 @@ module _ {X : Type 0} (xs : List X) where
       rw (second, first, rest)
       (ap (λ ys. take a xs ++ ys) (append_assoc (drop b (take c xs)) (drop a (take b xs)) (drop c xs)))
 
--- four parts of a list, by the places where they meet
+-- Four parts of a list, by the indexes between them.
 pub record Parts {X : Type 0} (all ws xs ys zs : List X) (a b c : ℕ) : Type 0 where
   pub first : take a all ≡ ws
   pub second : drop a (take b all) ≡ xs
@@ -62,7 +62,7 @@ exchanged-parts ws xs ys zs a b c e f g =
     let p = parts ws xs ys zs a b c e f g in
     λ i. p.first i ++ (p.third i ++ (p.second i ++ p.last i))
 
--- any list in four parts
+-- Any list in four parts.
 pub record Quarters {X : Type 0} (xs : List X) (a b c : ℕ) : Type 0 where
   pub whole : xs ≡ take a xs ++ (drop a (take b xs) ++ (drop b (take c xs) ++ drop c xs))
   pub first : a ≡ length (take a xs)
@@ -104,7 +104,7 @@ within_of xs a b f h =
     let rest : drop (b - a) (drop a xs) ≡ drop b xs = drop-drop (b - a) a xs ∙ ap (λ n. drop n xs) n in
     λ i. take a xs ++ (map f (window xs a b h i) ++ rest i)
 
--- the first window sent through g: the second one is as it was
+-- A change g of the first range keeps the second range.
 pub behind : {X : Type 0} (xs : List X) (a b c : ℕ) (g : X → X) → a ≤ b → b ≤ c → c ≤ length xs
     → changed_within a b g xs ≡ take a xs ++ (map g (drop a (take b xs)) ++ (drop b (take c xs) ++ drop c xs))
 behind xs a b c g h1 h2 h3 =
@@ -129,7 +129,7 @@ second_stays xs a b c g h1 h2 h3 =
     (omega arith) in
     ap (λ ys. drop b (take c ys)) (behind xs a b c g h1 h2 h3) ∙ p.third
 
--- both windows sent through functions, and then exchanged
+-- Changes of both ranges, then their exchange.
 pub changed-exchanged : {X : Type 0} (xs : List X) (a b c : ℕ) (f g : X → X) → a ≤ b → b ≤ c → c ≤ length xs
     → exchanged (changed_within b c f (changed_within a b g xs)) a b c ≡ changed_exchanged a b c f g xs
 changed-exchanged xs a b c f g h1 h2 h3 =

@@ -1,11 +1,11 @@
--- Four runs of members that stand one after the other, and where each begins.
+-- Four consecutive runs of members, and where each begins.
 use Rattle.std.proofs.Common.{◌≡◌, ℕ, ◌+◌, List, ◌++◌, length, sym, subst, ◌∙◌, ap, get_or, append_assoc}
 use Rattle.std.proofs.Common.{length-append, arith}
 use Rattle.flat_records.specs.Runs.{starts}
 use Rattle.flat_records.proofs.Starts.{begins, end, at-starts, end-append, length-begins, starts-parts}
 use Rattle.flat_records.proofs.Exchanges.{Parts, parts}
 
--- the places of the runs, and d past the last place
+-- The starts of the runs, and d after the last one.
 pub record FourRuns {X M : Type 0} (past : M → X → M) (at d : M) (ws xs ys zs : List X) (places : List M)
     (a b c : ℕ) : Type 0 where
   pub runs :

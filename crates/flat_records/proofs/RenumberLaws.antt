@@ -1,4 +1,4 @@
--- The records of bags whose generators are renumbered.
+-- The records of bags with renumbered generators.
 use Rattle.std.proofs.Common.{◌≡◌, ℕ, ◌+◌, ◌-◌, List, [], ◌∷◌, ◌++◌, length, map, take, drop, refl, sym, ◌∙◌, ap, arith}
 use Rattle.std.proofs.lemmas.List.{length-append, length-map, map-append, take_at, drop_at}
 use Rattle.numbered_lists.specs.declared.renumbering.Renumbering.{Renumbering}
@@ -27,7 +27,7 @@ module _ (op : ℕ) (by : Renumbering) where
   mods_stay [] = refl
   mods_stay (b ∷ bs) = ap (λ ms. b.mods ++ ms) (mods_stay bs)
 
-  -- all but the terminal are renumbered
+  -- All generators except the terminal are renumbered.
   pub before_last : (gens : List (ℕ × ℕ)) (bags : List Bag) → gens ≡ gens_in bags ++ (0, 0) ∷ []
       → take (length gens - 1) gens ≡ gens_in bags
   before_last gens bags e =

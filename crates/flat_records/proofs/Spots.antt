@@ -1,4 +1,4 @@
--- A place in a bag, and what its records are.
+-- An index in a bag, and the records there.
 use Rattle.std.proofs.Common.{◌-◌, take, ◌≡◌, ℕ, ◌<◌, ◌≤◌, ◌+◌, ◌^◌, suc, List, [], ◌∷◌, ◌++◌, length, All}
 use Rattle.std.proofs.Common.{slice_get, subst, Option, Some, None, refl, sym, ◌∙◌, ap, drop, get_or, length-append}
 use Rattle.std.proofs.Common.{arith}
@@ -12,7 +12,7 @@ use Rattle.flat_records.specs.Raised.{CanRaise, CanLower}
 use Rattle.flat_records.proofs.Starts.{end, drop-past, All-starts, All-starts_back}
 use Rattle.flat_records.proofs.TableLaws.{AreOf, Begin, begin, gens-end, mods-end}
 
--- bag k, of which something holds
+-- Bag k, which has property P.
 pub record Spot (t : Tables) (bags : List Bag) (k : ℕ) (P : Bag → Type 0) : Type 0 where
   pub bag : Bag
   pub there : slice_get bags k ≡ Some bag
@@ -29,14 +29,14 @@ spot {t} {bags} a k P h =
     let f = found P (slice_get bags k) h in
     record { bag = f.0; there = f.1; holds = f.2; begin = begin a k f.1 }
 
--- places in a bag's lists, and windows of them
+-- Indexes in a bag's lists, and ranges of them.
 abbrev pub Places : ℕ → ℕ → Bag → Type 0
 Places j i b = (j ≤ length b.gens) × (i ≤ length b.mods)
 
 abbrev pub Windows : ℕ → ℕ → ℕ → ℕ → Bag → Type 0
 Windows j n i m b = (j + n ≤ length b.gens) × (i + m ≤ length b.mods)
 
--- some bag
+-- Any bag.
 abbrev pub Any : Bag → Type 0
 Any b = Unit {0}
 
@@ -45,7 +45,7 @@ any_bag {t} {bags} a k h =
     let (b, there) = slice_get-found bags k h in
     record { bag = b; there = there; holds = tt; begin = begin a k there }
 
--- ---- a part of a list
+-- ---- a range of a list
 
 pub record Part {X : Type 0} (xs ys : List X) (at : ℕ) : Type 0 where
   pub front : List X
@@ -64,7 +64,7 @@ module _ {X : Type 0} {xs ys : List X} {at : ℕ} (p : Part xs ys at) where
   pub inside_at : {j n : ℕ} → j < length ys → n ≡ length xs → at + j < n
   inside_at h e = let within = inside in omega arith
 
-  -- up to the next place, in an equal list
+  -- Up to the next start, in an equal list.
   module _ {past : ℕ} (next : past ≡ at + length ys) {zs : List X} (same : zs ≡ xs) where
     pub between : record { start : at ≤ past; end : past ≤ length zs }
     between = let within = inside in let size = ap length same in record { start = omega arith; end = omega arith }
@@ -76,7 +76,7 @@ module _ {X : Type 0} {xs ys : List X} {at : ℕ} (p : Part xs ys at) where
         ∙ (ap (take (length ys)) (drop_at p.front (ys ++ p.back) at (sym p.before))
         ∙ take_at ys p.back (length ys) refl))
 
--- ---- what indexing gave
+-- ---- results of indexing
 
 module _ {t : Tables} {bags : List Bag} {k : ℕ} {P : Bag → Type 0} (s : Spot t bags k P) {at : ℕ × ℕ}
     (e : at ≡ get_or t.bags k at) where

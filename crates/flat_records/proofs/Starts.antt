@@ -1,4 +1,4 @@
--- Where the members of a list begin that stand one after the other.
+-- The starts of consecutive members in a list.
 use Rattle.std.proofs.Common.{◌≡◌, ℕ, ◌<◌, ◌≤◌, ◌+◌, suc, zero, List, [], ◌∷◌, ◌++◌, length, map, All, insert}
 use Rattle.std.proofs.Common.{remove, slice_get, Some, refl, sym, ◌∙◌, ap, take, drop, get_or, ◌-◌, set}
 use Rattle.std.proofs.Common.{append_assoc, length-append, length-take, length-drop, zero-add, suc-add, arith}
@@ -12,7 +12,7 @@ map_undone : {X : Type 0} (f g : X → X) → ((x : X) → f (g x) ≡ x) → (x
 map_undone f g h [] = refl
 map_undone f g h (x ∷ xs) = λ i. h x i ∷ map_undone f g h xs i
 
--- members from a place on, changed and changed back
+-- Members from an index on, changed and changed back.
 pub changed_from-undone : {X : Type 0} (f g : X → X) → ((x : X) → g (f x) ≡ x) → (k : ℕ) (xs : List X)
     → changed_from k g (changed_from k f xs) ≡ xs
 changed_from-undone f g h zero [] = refl
@@ -20,12 +20,12 @@ changed_from-undone f g h zero (x ∷ xs) = λ i. h x i ∷ changed_from-undone 
 changed_from-undone f g h (suc k) [] = refl
 changed_from-undone f g h (suc k) (x ∷ xs) = ap (λ zs. x ∷ zs) (changed_from-undone f g h k xs)
 
--- what changes no member changes no list
+-- A function that changes no member changes no list.
 pub unchanged : {X : Type 0} (f : X → X) → ((x : X) → f x ≡ x) → (xs : List X) → xs ≡ map f xs
 unchanged f h [] = refl
 unchanged f h (x ∷ xs) = λ i. sym (h x) i ∷ unchanged f h xs i
 
--- what is put into or taken out of one of several lists that are joined
+-- An insertion or a removal in one of several concatenated lists.
 pub put-right : {X : Type 0} (xs ys : List X) (j : ℕ) (zs : List X)
     → put (xs ++ ys) (length xs + j) zs ≡ xs ++ put ys j zs
 put-right [] ys j zs = rw (zero-add j) refl
@@ -54,7 +54,7 @@ pub length-put : {X : Type 0} (xs : List X) (j : ℕ) (zs : List X) → j ≤ le
     → length (put xs j zs) ≡ length xs + length zs
 length-put xs j zs h = simp (length-append, length-take, length-drop) (omega arith)
 
--- a list of lists, one of which is changed
+-- A list of lists with one of them changed.
 module _ {X Y : Type 0} (part : Y → List X) where
   pub flat-among : (front : List Y) (y : Y) (back : List Y) (rest : List X)
       → flat_map part (front ++ y ∷ back) ++ rest ≡ flat_map part front ++ (part y ++ (flat_map part back ++ rest))
@@ -117,7 +117,7 @@ module _ {X Y : Type 0} (part : Y → List X) where
   flat-kept front y z back rest e = rw (flat-among front y back rest, flat-among front z back rest, e) refl
 
 module _ {X M : Type 0} (past : M → X → M) where
-  -- the places without the last, and the last
+  -- The starts without the end, and the end.
   abbrev pub begins : M → List X → List M
   begins at [] = []
   begins at (x ∷ xs) = at ∷ begins (past at x) xs
@@ -138,14 +138,14 @@ module _ {X M : Type 0} (past : M → X → M) where
   starts-append at [] ys = refl
   starts-append at (x ∷ xs) ys = ap (λ zs. at ∷ zs) (starts-append (past at x) xs ys)
 
-  -- another start: each place is sent through s
+  -- With another first start, s applies to each start.
   pub starts-shifted : (s : M → M) → ((m : M) (x : X) → s (past m x) ≡ past (s m) x) → (at : M) (xs : List X)
       → starts past (s at) xs ≡ map s (starts past at xs)
   starts-shifted s h at [] = refl
   starts-shifted s h at (x ∷ xs) =
       ap (λ m. s at ∷ starts past m xs) (sym (h at x)) ∙ ap (λ zs. s at ∷ zs) (starts-shifted s h (past at x) xs)
 
-  -- members behind the first ones
+  -- The starts of a prefix.
   pub take-starts : (at : M) (xs ys : List X) → take (length xs) (starts past at (xs ++ ys)) ≡ begins at xs
   take-starts at [] ys = refl
   take-starts at (x ∷ xs) ys = ap (λ zs. at ∷ zs) (take-starts (past at x) xs ys)
@@ -160,7 +160,7 @@ module _ {X M : Type 0} (past : M → X → M) where
   at-starts at d [] (y ∷ ys) = refl
   at-starts at d (x ∷ xs) ys = at-starts (past at x) d xs ys
 
-  -- a member in another's place, whose end is sent through s
+  -- With a member replaced, s applies to its end and to all later starts.
   pub starts-replaced : (s : M → M) → ((m : M) (x : X) → s (past m x) ≡ past (s m) x)
       → (at : M) (front : List X) (x y : X) (back : List X) → ((m : M) → s (past m x) ≡ past m y)
       → changed_from (suc (length front)) s (starts past at (front ++ x ∷ back)) ≡ starts past at (front ++ y ∷ back)
@@ -173,7 +173,7 @@ module _ {X M : Type 0} (past : M → X → M) where
   starts-same at [] x y back e = ap (λ m. at ∷ starts past m back) (e at)
   starts-same at (z ∷ zs) x y back e = ap (λ ms. at ∷ ms) (starts-same (past at z) zs x y back e)
 
-  -- an empty member put in
+  -- An empty member inserted.
   pub starts-put : (at d : M) (front : List X) (x : X) (back : List X) → ((m : M) → past m x ≡ m)
       → insert (starts past at (front ++ back)) (length front)
       (get_or (starts past at (front ++ back)) (length front) d)
@@ -182,7 +182,7 @@ module _ {X M : Type 0} (past : M → X → M) where
   starts-put at d [] x (y ∷ ys) e = ap (λ m. at ∷ starts past m (y ∷ ys)) (sym (e at))
   starts-put at d (z ∷ zs) x back e = ap (λ ms. at ∷ ms) (starts-put (past at z) d zs x back e)
 
-  -- an empty member taken out
+  -- An empty member removed.
   pub starts-cut : (at : M) (front : List X) (x : X) (back : List X) → ((m : M) → past m x ≡ m)
       → remove (starts past at (front ++ x ∷ back)) (length front) ≡ starts past at (front ++ back)
   starts-cut at [] x back e = ap (λ m. starts past m back) (e at)
@@ -207,13 +207,13 @@ module _ {X M : Type 0} (past : M → X → M) where
   starts-end at [] = refl
   starts-end at (x ∷ xs) = starts-end (past at x) xs
 
-  -- what each step keeps holds of all places
+  -- A property that `past` keeps holds for all starts.
   pub All-starts : (P : M → Type 0) → ((m : M) (x : X) → P m → P (past m x)) → (at : M) (xs : List X) → P at
       → All P (starts past at xs)
   All-starts P h at [] p = All-cons P at [] p (All-nil P)
   All-starts P h at (x ∷ xs) p = All-cons P at (starts past (past at x) xs) p (All-starts P h (past at x) xs (h at x p))
 
-  -- and what each step back keeps
+  -- A property that `past` keeps backwards holds for the first start.
   pub at_first : (P : M → Type 0) → ((m : M) (x : X) → P (past m x) → P m) → (at : M) (xs : List X) → P (end at xs)
       → P at
   at_first P h at [] p = p
@@ -225,7 +225,7 @@ module _ {X M : Type 0} (past : M → X → M) where
   All-starts_back P h at (x ∷ xs) p =
       All-cons P at (starts past (past at x) xs) (at_first P h at (x ∷ xs) p) (All-starts_back P h (past at x) xs p)
 
-  -- ---- neighbouring runs that change places
+  -- ---- exchanges of neighbouring runs
 
   pub begins-shifted : (s : M → M) → ((m : M) (x : X) → s (past m x) ≡ past (s m) x) → (at : M) (xs : List X)
       → begins (s at) xs ≡ map s (begins at xs)
@@ -253,7 +253,7 @@ module _ {X M : Type 0} (past : M → X → M) where
   All-begins_back P h at (x ∷ xs) p =
       All-cons P at (begins (past at x) xs) (at_first P h at (x ∷ xs) p) (All-begins_back P h (past at x) xs p)
 
-  -- places of four runs
+  -- The starts of four runs.
   pub starts-parts : (at : M) (ws xs ys zs : List X)
       → starts past at (ws ++ (xs ++ (ys ++ zs)))
       ≡ begins at ws
@@ -264,7 +264,7 @@ module _ {X M : Type 0} (past : M → X → M) where
       (starts-append (end at ws) xs (ys ++ zs)
       ∙ ap (λ ms. begins (end at ws) xs ++ ms) (starts-append (end (end at ws) xs) ys zs))
 
-  -- r goes past xs, and is undone by l; s goes past ys
+  -- r maps the start of xs to its end, and l is its inverse; s maps the start of ys, if first, to its end.
   pub starts-exchanged : (r l s : M → M) → ((m : M) (x : X) → r (past m x) ≡ past (r m) x)
       → ((m : M) (x : X) → s (past m x) ≡ past (s m) x) → ((m : M) → l (r m) ≡ m) → ((m : M) → r (s m) ≡ s (r m))
       → (at : M) (ws xs ys zs : List X) → end (end at ws) xs ≡ r (end at ws) → end (end at ws) ys ≡ s (end at ws)

@@ -19,7 +19,7 @@ use Rattle.flat_records.proofs.Starts.{length-cut, flat-put, flat-cut, flat-set,
 
 -- ---- read back
 
--- n and m are what the first bag takes
+-- n and m are the numbers of records of the first bag.
 first : (next : ℕ × ℕ) (b : Bag) (rest : List (ℕ × ℕ)) (bags : List Bag) (gens : List (ℕ × ℕ))
     (mods : List Modulator) (at : ℕ × ℕ)
     → next.0 - at.0 ≡ length b.gens → next.1 - at.1 ≡ length b.mods → bags_from next rest gens mods ≡ bags
@@ -53,7 +53,7 @@ tables-back bags = back-from (0, 0) bags ((0, 0) ∷ []) (no_modulator ∷ [])
 pub read : (t : Tables) (bags : List Bag) → t ≡ tables_of bags → bags_in t ≡ bags
 read t bags e = ap bags_in e ∙ tables-back bags
 
--- the records are those of these bags
+-- The records are those of these bags.
 pub record AreOf (t : Tables) (bags : List Bag) : Type 0 where
   pub same : t ≡ tables_of bags
 
@@ -63,7 +63,7 @@ bags_read {t} {bags} a = read t bags a.same
 pub are_read : {t : Tables} {bags : List Bag} → AreOf t bags → AreRead t
 are_read a = a.same ∙ ap tables_of (sym (bags_read a))
 
--- so the fields of `self` are of the bags of its value
+-- The fields of `self` are the records of the bags of its value.
 pub held : {t : Tables} {spare : Counts} {s : Stored} → AreRead t → record { bags = bags_in t; spare = spare } ≡ s
     → AreOf t s.bags
 held are seen = record { same = are ∙ ap (λ (s : Stored). tables_of s.bags) seen }
@@ -91,7 +91,7 @@ pub index_there : {t : Tables} {bags : List Bag} → AreOf t bags → {k n : ℕ
     → k < n
 index_there a h e = let size = bags_size a in omega arith
 
--- a list without its terminal
+-- A list without its terminal.
 pub without_last : {size count n : ℕ} → size ≡ count + 1 → n ≡ size → (1 ≤ n) × (n - 1 ≡ count)
 without_last e f = (omega arith, omega arith)
 
@@ -115,7 +115,7 @@ pub removed : {X : Type 0} (front : List X) (x : X) (back : List X)
 removed [] x back = refl
 removed (y ∷ ys) x back = ap (λ zs. y ∷ zs) (removed ys x back)
 
--- ---- records put in and taken out of one bag
+-- ---- records inserted into and removed from one bag
 
 pub more : (by m : ℕ × ℕ) (b : Bag) → raised by (past_bag m b) ≡ past_bag (raised by m) b
 more by m b =
@@ -129,7 +129,7 @@ undone by m =
     let mods : (m.1 + by.1) - by.1 ≡ m.1 = omega arith in
     λ i. (gens i, mods i)
 
--- a bag with so many more of each
+-- A bag with so many more records of each type.
 larger : (by : ℕ × ℕ) (b c : Bag) → length c.gens ≡ length b.gens + by.0 → length c.mods ≡ length b.mods + by.1
     → (m : ℕ × ℕ) → raised by (past_bag m b) ≡ past_bag m c
 larger by b c e f m =
@@ -137,7 +137,7 @@ larger by b c e f m =
     let mods : (m.1 + length b.mods) + by.1 ≡ m.1 + length c.mods = omega arith in
     λ i. (gens i, mods i)
 
--- where bag k begins
+-- Where bag k begins.
 pub record Begin (t : Tables) (bags : List Bag) (k : ℕ) (b : Bag) : Type 0 where
   pub front : List Bag
   pub back : List Bag
@@ -193,7 +193,7 @@ begin {t} {bags} {b} are k e =
     }
 
 module _ {t : Tables} {bags : List Bag} {k : ℕ} {b : Bag} (s : Begin t bags k b) where
-  -- f of the bag in its place
+  -- f applied to the bag in its list.
   rebuilt : (f : Bag → Bag) {index gens : List (ℕ × ℕ)} {mods : List Modulator}
       → index ≡ starts past_bag (0, 0) (s.front ++ f b ∷ s.back)
       → gens ≡ gens_in (s.front ++ f b ∷ s.back) ++ (0, 0) ∷ []
@@ -203,7 +203,7 @@ module _ {t : Tables} {bags : List Bag} {k : ℕ} {b : Bag} (s : Begin t bags k 
       record
       { same = (λ i. record { bags = index i; gens = gens i; mods = mods i }) ∙ ap tables_of (sym (s.sent f)) }
 
-  -- as many records of each kind
+  -- As many records of each type.
   index_kept : (c : Bag) → length b.gens ≡ length c.gens → length b.mods ≡ length c.mods
       → t.bags ≡ starts past_bag (0, 0) (s.front ++ c ∷ s.back)
   index_kept c gens mods =
@@ -298,7 +298,7 @@ module _ {t : Tables} {bags : List Bag} {k : ℕ} {b : Bag} (s : Begin t bags k 
         (ap (λ (t : Tables). set t.mods (at.1 + j) m) s.same
         ∙ flat-set (λ (b : Bag). b.mods) s.front b (f b) s.back (no_modulator ∷ []) at.1 j m mods_at h refl)
 
--- ---- an empty bag put in and taken out
+-- ---- an empty bag inserted and removed
 
 pub bag_put : {t : Tables} {bags : List Bag} → AreOf t bags → (k : ℕ) → k ≤ length bags
     → {at : ℕ × ℕ} {new : List (ℕ × ℕ)} → at ≡ get_or t.bags k at → new ≡ put t.bags k (at ∷ [])
@@ -340,7 +340,7 @@ bag_cut {t} {bags} are k e {new} f =
     ∙ flat-none (λ (b : Bag). b.mods) s.front no_bag s.back (no_modulator ∷ []) refl in
     record { same = (λ i. record { bags = index i; gens = gens i; mods = mods i }) ∙ ap tables_of (sym s.without) }
 
--- the terminal bag has the numbers of all generators and modulators
+-- The terminal bag has the numbers of all generators and modulators.
 pub last_counts : {t : Tables} {bags : List Bag} → AreOf t bags → (xs : List (ℕ × ℕ)) (n : ℕ) (p : ℕ × ℕ)
     → xs ≡ t.bags → n ≡ length bags → p ≡ get_or xs n p → p ≡ (length (gens_in bags), length (mods_in bags))
 last_counts {t} {bags} a xs n p e size is =

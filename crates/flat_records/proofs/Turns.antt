@@ -1,4 +1,4 @@
--- Bags that change places, and what their records are then.
+-- Bags that exchange their order, and their records.
 use Rattle.std.proofs.Common.{◌≡◌, ℕ, ◌<◌, ◌≤◌, ◌+◌, ◌-◌, ◌^◌, suc, List, [], ◌∷◌, ◌++◌, length, map, All, refl, sym}
 use Rattle.std.proofs.Common.{subst, ◌∙◌, ap, take, drop, get_or, append_assoc, length-append, zero-add, arith}
 use Rattle.std.specs.List.{flat_map}
@@ -13,7 +13,7 @@ use Rattle.flat_records.proofs.FourRuns.{four_runs}
 use Rattle.flat_records.proofs.Exchanges.{quarters, exchanged-parts}
 use Rattle.flat_records.proofs.TableLaws.{AreOf, gens-end, mods-end, bags_size, more, undone}
 
--- lists of four runs of bags
+-- Lists of four runs of bags.
 module _ {X : Type 0} (part : Bag → List X) where
   pub flat-parts : (ws xs ys zs : List Bag) (rest : List X)
       → flat_map part (ws ++ (xs ++ (ys ++ zs))) ++ rest
@@ -37,14 +37,14 @@ module _ {X : Type 0} (part : Bag → List X) where
       (omega arith) (omega arith)
       ∙ sym (flat-parts ws ys xs zs rest))
 
--- past the records of these bags
+-- The indexes after the records of these bags.
 abbrev total : List Bag → ℕ × ℕ
 total bags = (length (gens_in bags), length (mods_in bags))
 
 past_all : (at : ℕ × ℕ) (bags : List Bag) → end past_bag at bags ≡ raised (total bags) at
 past_all at bags = λ i. (gens-end at bags i, mods-end at bags i)
 
--- bags a up to b, which begin at `start`, and bags b up to c, which begin at `middle`
+-- The bags a..b, which begin at `start`, and the bags b..c, which begin at `middle`.
 pub record Turn (t : Tables) (bags : List Bag) (a b c : ℕ) (start middle stop : ℕ × ℕ) : Type 0 where
   pub last : c < length t.bags
   pub gens_rise : (start.0 ≤ middle.0) × (middle.0 ≤ stop.0)
@@ -64,7 +64,7 @@ pub record Turn (t : Tables) (bags : List Bag) (a b c : ℕ) (start middle stop 
         mods = exchanged t.mods start.1 middle.1 stop.1;
       } ≡ tables_of (exchanged bags a b c)
 
--- the same over the four runs themselves
+-- The same in terms of the four runs.
 record Facts (t : Tables) (ws xs ys zs : List Bag) (a b c : ℕ) : Type 0 where
   pub same : t ≡ tables_of (ws ++ (xs ++ (ys ++ zs)))
   pub first : a ≡ length ws

@@ -1,4 +1,4 @@
--- A bag that is put in as a whole.
+-- A bag that is inserted as a whole.
 use Rattle.std.proofs.Common.{◌≡◌, ℕ, ◌≤◌, ◌<◌, List, [], ◌∷◌, ◌++◌, length, insert, take, drop, set, slice_get}
 use Rattle.std.proofs.Common.{suc, zero, ◌+◌, Some, refl, sym, subst, ◌∙◌, ap, zero-add, length-append, arith}
 use Rattle.std.specs.Option.{IsSomeAnd, IfSome}
@@ -32,7 +32,7 @@ flat-inserted part bags xs k b e none =
     ∙ (ap (λ ys. flat_map part (take k bags) ++ (ys ++ flat_map part (drop k bags))) none
     ∙ (sym (flat_map-append part (take k bags) (drop k bags)) ∙ ap (flat_map part) (take-append-drop k bags))))
 
--- nothing of a bag is left where all is cut
+-- Dropping all of a list leaves nothing.
 drop-all : {X : Type 0} (xs : List X) → drop (length xs) xs ≡ []
 drop-all [] = refl
 drop-all (x ∷ xs) = drop-all xs
@@ -53,14 +53,14 @@ all-cut bags k gens mods e f h =
     (λ (b : Bag). record { gens = cut b.gens 0 (length gens); mods = cut b.mods 0 (length mods) }) b there
     ∙ (λ i. set bags k (record { gens = cut-all b.gens gens first i; mods = cut-all b.mods mods second i }))
 
--- ---- a bag made another
+-- ---- a bag replaced
 
 set_again : {X : Type 0} (xs : List X) (k : ℕ) (x y : X) → set (set xs k x) k y ≡ set xs k y
 set_again [] k x y = refl
 set_again (z ∷ zs) zero x y = refl
 set_again (z ∷ zs) (suc k) x y = ap (λ ys. z ∷ ys) (set_again zs k x y)
 
--- without the members of one bag
+-- Without the members of one bag.
 pub length-emptied : {X : Type 0} (part : Bag → List X) (bags : List Bag) (k : ℕ) (b : Bag) → part no_bag ≡ []
     → slice_get bags k ≡ Some b
     → length (flat_map part (set bags k no_bag)) + length (part b) ≡ length (flat_map part bags)

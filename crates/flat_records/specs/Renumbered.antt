@@ -1,4 +1,4 @@
--- Generators of one operator whose amounts are numbers of a list's members, after the list changed.
+-- Generators of one operator whose amounts are numbers of a list's members, after a change of the list.
 use Rattle.std.specs.Prelude.{◌≡◌, ◌<◌, ◌^◌, ◌==◌, ℕ, true, if◌then◌else◌, map}
 use Rattle.numbered_lists.specs.declared.renumbering.Renumbering.{Renumbering}
 use Rattle.numbered_lists.specs.Renumbered.{renumbered}
@@ -10,6 +10,6 @@ gen_renumbered op by e = if e.0 == op then (e.0, renumbered by e.1) else e
 abbrev pub bag_renumbered : ℕ → Renumbering → Bag → Bag
 bag_renumbered op by b = with_gens (map (gen_renumbered op by) b.gens) b
 
--- the amount has 16 bits afterwards
+-- The renumbered amount fits into 16 bits.
 abbrev pub CanRenumber : ℕ → Renumbering → ℕ × ℕ → Type 0
 CanRenumber op by e = (e.0 == op) ≡ true → renumbered by e.1 < 2 ^ 16

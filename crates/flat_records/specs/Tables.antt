@@ -1,18 +1,18 @@
--- Which records are those of a list of bags, said of the records themselves.
+-- Which records are those of a list of bags, in terms of the records themselves.
 use Rattle.std.specs.Prelude.{◌≡◌, ◌≤◌, ◌<◌, ◌+◌, ◌-◌, ℕ, List, length, slice_get, slice_index_or, Some}
 use Rattle.flat_records.specs.Bags.{Tables, no_modulator}
 
--- neither index is less than the one before
+-- Neither index is less than the one before.
 abbrev pub Rises : List (ℕ × ℕ) → ℕ → Type 0
 Rises bags k =
     ((slice_index_or bags k (0, 0)).0 ≤ (slice_index_or bags (k + 1) (0, 0)).0)
     × ((slice_index_or bags k (0, 0)).1 ≤ (slice_index_or bags (k + 1) (0, 0)).1)
 
--- the last member
+-- The last member of a list.
 abbrev pub EndsIn : {X : Type 0} → List X → X → Type 0
 EndsIn xs x = slice_get xs (length xs - 1) ≡ Some x
 
--- the indexes begin at 0 and rise up to the numbers of records, and each list has its terminal
+-- The indexes begin at 0 and never fall, up to the numbers of records, and each list has its terminal.
 pub record AreTables (t : Tables) : Type 0 where
   pub first : slice_get t.bags 0 ≡ Some (0, 0)
   pub rising : (k : ℕ) → k + 1 < length t.bags → Rises t.bags k

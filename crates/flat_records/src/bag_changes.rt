@@ -12,7 +12,7 @@ use crate::raising::{exchange_indexes, index, lower_from, raise_from};
 use modulators::Modulator;
 
 impl Bags {
-    // Puts generators and modulators into bag k, each at a place.
+    // Inserts generators and modulators into bag k, at an index each.
     fn grow(&mut self, k: usize, j: usize, gens: &[(u16, u16)], i: usize, mods: &[Modulator])
         requires place { IsSomeAnd (slice_get self.old.bags k) (λ (b : Bag). (j ≤ length b.gens) × (i ≤ length b.mods)) }
         requires gens { length gens.now ≤ self.old.spare.gens }
@@ -28,7 +28,7 @@ impl Bags {
         raise_from(&mut self.bags, k + 1, (gens.len(), mods.len()));
     }
 
-    // Takes n generators and m modulators out of bag k, each from a place on.
+    // Removes n generators and m modulators of bag k, from an index each.
     fn shrink(&mut self, k: usize, j: usize, n: usize, i: usize, m: usize)
         requires place { IsSomeAnd (slice_get self.old.bags k) (λ (b : Bag). (j + n ≤ length b.gens) × (i + m ≤ length b.mods)) }
         ensures bags { self.new.bags ≡ changed self.old.bags k (λ (b : Bag). record { gens = cut b.gens j n; mods = cut b.mods i m }) }
@@ -40,7 +40,7 @@ impl Bags {
         lower_from(&mut self.bags, k + 1, (n, m));
     }
 
-    // Puts an empty bag in at a place.
+    // Inserts an empty bag as number k.
     fn open_bag(&mut self, k: usize)
         requires place { k ≤ length self.old.bags }
         requires room { 0 < self.old.spare.bags }
@@ -51,7 +51,7 @@ impl Bags {
         put_within(&mut self.bags, k, &[at]);
     }
 
-    // Takes an empty bag out.
+    // Removes an empty bag.
     fn close_bag(&mut self, k: usize)
         requires { slice_get self.old.bags k ≡ Some no_bag }
         ensures bags { self.new.bags ≡ remove self.old.bags k }
@@ -60,7 +60,7 @@ impl Bags {
         self.bags.remove(k);
     }
 
-    /// Puts a bag in at a place. Takes no memory.
+    /// Inserts a bag as number k, into reserved capacity. Allocates nothing.
     pub fn put_bag(&mut self, k: usize, gens: &[(u16, u16)], mods: &[Modulator])
         requires place { k ≤ length self.old.bags }
         requires bags { 0 < self.old.spare.bags }
@@ -75,7 +75,7 @@ impl Bags {
         self.grow(k, 0, gens, 0, mods);
     }
 
-    /// Takes a bag out. Takes no memory.
+    /// Removes bag k. Allocates nothing.
     pub fn cut_bag(&mut self, k: usize)
         requires { k < length self.old.bags }
         ensures bags { self.new.bags ≡ remove self.old.bags k }
@@ -85,7 +85,7 @@ impl Bags {
         self.close_bag(k);
     }
 
-    // Takes all generators and modulators out of a bag.
+    // Removes all generators and modulators of a bag.
     fn empty_bag(&mut self, k: usize)
         requires { k < length self.old.bags }
         ensures bags { self.new.bags ≡ slice_set self.old.bags k no_bag }
@@ -96,7 +96,8 @@ impl Bags {
         self.shrink(k, 0, gens, 0, mods);
     }
 
-    /// Makes a bag's generators and modulators these, no more of either than it has. Takes no memory.
+    /// Replaces the generators and modulators of bag k by these, of which there may be no more than it has. Allocates
+    /// nothing.
     pub fn set_bag(&mut self, k: usize, gens: &[(u16, u16)], mods: &[Modulator])
         requires place { k < length self.old.bags }
         requires gens { IfSome (slice_get self.old.bags k) (λ (b : Bag). length gens.now ≤ length b.gens) }
@@ -109,7 +110,8 @@ impl Bags {
         self.grow(k, 0, gens, 0, mods);
     }
 
-    // The law that there are few generators and modulators: the terminal bag has their numbers. It does nothing.
+    // The law that the numbers of generators and modulators fit into 16 bits, since the terminal bag has them. It does
+    // nothing.
     fn few_records(&self)
         ensures gens { length (gens_in self.now.bags) < 2 ^ 16 }
         ensures mods { length (mods_in self.now.bags) < 2 ^ 16 }
@@ -117,7 +119,7 @@ impl Bags {
         let _counts = index(&self.bags, self.bags.len() - 1);
     }
 
-    /// Puts generators into a bag at a place. Takes no memory.
+    /// Inserts generators into bag k from index j, into reserved capacity. Allocates nothing.
     pub fn put_gens(&mut self, k: usize, j: usize, gens: &[(u16, u16)])
         requires place { IsSomeAnd (slice_get self.old.bags k) (λ (b : Bag). j ≤ length b.gens) }
         requires room { length gens.now ≤ self.old.spare.gens }
@@ -128,7 +130,7 @@ impl Bags {
         self.grow(k, j, gens, 0, &[]);
     }
 
-    /// Takes generators out of a bag at a place. Takes no memory.
+    /// Removes n generators of bag k from index j. Allocates nothing.
     pub fn cut_gens(&mut self, k: usize, j: usize, n: usize)
         requires { IsSomeAnd (slice_get self.old.bags k) (λ (b : Bag). j + n ≤ length b.gens) }
         ensures bags { self.new.bags ≡ changed self.old.bags k (λ (b : Bag). with_gens (cut b.gens j n) b) }
@@ -137,7 +139,7 @@ impl Bags {
         self.shrink(k, j, n, 0, 0);
     }
 
-    /// Makes a pair generator j of a bag. Takes no memory.
+    /// Sets generator j of bag k to an operator and its amount. Allocates nothing.
     pub fn set_gen(&mut self, k: usize, j: usize, pair: (u16, u16))
         requires place { IsSomeAnd (slice_get self.old.bags k) (λ (b : Bag). j < length b.gens) }
         ensures bags { self.new.bags ≡ changed self.old.bags k (λ (b : Bag). with_gens (slice_set b.gens j pair) b) }
@@ -147,7 +149,7 @@ impl Bags {
         self.gens[at] = pair;
     }
 
-    /// Puts modulators into a bag at a place. Takes no memory.
+    /// Inserts modulators into bag k from index j, into reserved capacity. Allocates nothing.
     pub fn put_mods(&mut self, k: usize, j: usize, mods: &[Modulator])
         requires place { IsSomeAnd (slice_get self.old.bags k) (λ (b : Bag). j ≤ length b.mods) }
         requires room { length mods.now ≤ self.old.spare.mods }
@@ -158,7 +160,7 @@ impl Bags {
         self.grow(k, 0, &[], j, mods);
     }
 
-    /// Takes modulators out of a bag at a place. Takes no memory.
+    /// Removes n modulators of bag k from index j. Allocates nothing.
     pub fn cut_mods(&mut self, k: usize, j: usize, n: usize)
         requires { IsSomeAnd (slice_get self.old.bags k) (λ (b : Bag). j + n ≤ length b.mods) }
         ensures bags { self.new.bags ≡ changed self.old.bags k (λ (b : Bag). with_mods (cut b.mods j n) b) }
@@ -167,7 +169,7 @@ impl Bags {
         self.shrink(k, 0, 0, j, n);
     }
 
-    /// Makes it modulator j of a bag. Takes no memory.
+    /// Replaces modulator j of bag k. Allocates nothing.
     pub fn set_mod(&mut self, k: usize, j: usize, modulator: Modulator)
         requires place { IsSomeAnd (slice_get self.old.bags k) (λ (b : Bag). j < length b.mods) }
         ensures bags { self.new.bags ≡ changed self.old.bags k (λ (b : Bag). with_mods (slice_set b.mods j modulator) b) }
@@ -177,7 +179,7 @@ impl Bags {
         self.mods[at] = modulator;
     }
 
-    /// Exchanges bags a up to b with bags b up to c. Takes no memory.
+    /// Exchanges the bags `a..b` with the bags `b..c`. Allocates nothing.
     pub fn rotate(&mut self, a: usize, b: usize, c: usize)
         requires first { a ≤ b }
         requires second { b ≤ c }

@@ -12,7 +12,7 @@ use std::marker::Model;
 /// The records of the bags, generators and modulators of a level, each list with its terminal.
 #[derive(Drop)]
 pub struct Recs {
-    /// The indexes of each bag's first generator and modulator, and last how many there are.
+    /// The indexes of each bag's first generator and modulator, and last the numbers of both.
     pub bags: Vec<(u16, u16)>,
     /// Operators with their amounts, and last (0, 0).
     pub gens: Vec<(u16, u16)>,
@@ -28,14 +28,14 @@ impl Model for Recs {
     ghost view = { λ r. record { bags = r.bags.items; gens = r.gens.items; mods = r.mods.items } };
 }
 
-/// A list of bags, in flat lists of records.
+/// A list of bags, stored as three flat lists of records.
 pub struct Bags {
     pub(crate) bags: Vec<(u16, u16)>,
     pub(crate) gens: Vec<(u16, u16)>,
     pub(crate) mods: Vec<Modulator>,
 }
 
-// Not derived: a derived drop is written out, and proved, wherever a value is dropped; this one is a call.
+// Not derived: a derived `drop` is inlined, and proved, wherever a value is dropped; this one is a call.
 impl Drop for Bags {
     fn drop(self) {
         let Bags {
@@ -75,7 +75,7 @@ const NO_MODULATOR: Modulator = Modulator {
 };
 
 impl Bags {
-    /// No bags: the terminals alone.
+    /// Makes an empty list of bags, with terminals only.
     pub fn new(alloc: Global) -> Result<Bags, OutOfMemory>
         ensures { IfOk result (λ r. r.bags ≡ []) }
     {
@@ -88,7 +88,8 @@ impl Bags {
         Ok(Bags { bags, gens, mods })
     }
 
-    /// Makes places for so many records. When out of memory, the bags stay, and some places may be more.
+    /// Reserves capacity for so many more records of each type. A failed allocation keeps the bags, and may have
+    /// reserved a part.
     pub fn reserve(&mut self, bags: usize, gens: usize, mods: usize) -> Result<(), OutOfMemory>
         ensures bags { self.new.bags ≡ self.old.bags }
         ensures kept { Uses self.old.spare self.new.spare no_records }
@@ -100,7 +101,7 @@ impl Bags {
         Ok(())
     }
 
-    /// Equal bags, in memory of their own.
+    /// Makes a copy of the bags.
     pub fn copy(&self, alloc: Global) -> Result<Bags, OutOfMemory>
         ensures { IfOk result (λ r. r.bags ≡ self.now.bags) }
     {
@@ -110,7 +111,7 @@ impl Bags {
         Ok(Bags { bags, gens, mods })
     }
 
-    /// The generators of a bag: operators with their amounts.
+    /// The generators of bag k: operators with their amounts.
     pub fn gens(&self, k: usize) -> &[(u16, u16)]
         requires { k < length self.now.bags }
         ensures { IfSome (slice_get self.now.bags k) (λ (b : Bag). result.now ≡ b.gens) }
@@ -120,7 +121,7 @@ impl Bags {
         part(&self.gens, start, end)
     }
 
-    /// The modulators of a bag.
+    /// The modulators of bag k.
     pub fn mods(&self, k: usize) -> &[Modulator]
         requires { k < length self.now.bags }
         ensures { IfSome (slice_get self.now.bags k) (λ (b : Bag). result.now ≡ b.mods) }
@@ -130,42 +131,42 @@ impl Bags {
         part(&self.mods, start, end)
     }
 
-    /// How many bags there are.
+    /// The number of bags.
     pub fn bag_count(&self) -> usize
         ensures { result ≡ length self.now.bags }
     {
         self.bags.len() - 1
     }
 
-    /// How many generators there are in all bags.
+    /// The number of generators in all bags.
     pub fn gen_count(&self) -> usize
         ensures { result ≡ length (gens_in self.now.bags) }
     {
         self.gens.len() - 1
     }
 
-    /// How many modulators there are in all bags.
+    /// The number of modulators in all bags.
     pub fn mod_count(&self) -> usize
         ensures { result ≡ length (mods_in self.now.bags) }
     {
         self.mods.len() - 1
     }
 
-    /// The records of the bags: the indexes of each one's first generator and modulator, and the terminal.
+    /// The bag records: the indexes of each bag's first generator and modulator, and the terminal.
     pub fn bag_records(&self) -> &[(u16, u16)]
         ensures { result.now ≡ (tables_of self.now.bags).bags }
     {
         &self.bags
     }
 
-    /// The records of the generators, with the terminal.
+    /// The generator records, with the terminal.
     pub fn gen_records(&self) -> &[(u16, u16)]
         ensures { result.now ≡ (tables_of self.now.bags).gens }
     {
         &self.gens
     }
 
-    /// The records of the modulators, with the terminal.
+    /// The modulator records, with the terminal.
     pub fn mod_records(&self) -> &[Modulator]
         ensures { result.now ≡ (tables_of self.now.bags).mods }
     {

@@ -1,8 +1,8 @@
-//! Pieces of a list that are put in and taken out.
+//! Insertion and removal of several members of a list.
 ghost use Rattle.std.specs.Prelude.{◌≡◌, ◌+◌, ◌-◌, ◌≤◌, ◌<◌, length, insert, remove, take, drop, vec_len, vec_capacity};
 ghost use Rattle.flat_records.specs.Runs.{put, cut, exchanged, AreWindows};
 
-// Shifts the later ones by one, as is quickest.
+// A single insertion is a plain shift of the later members, which is faster than a rotation.
 fn put_one_within<T>(list: &mut Vec<T>, i: usize, item: T)
     requires place { i ≤ length list.old.items }
     requires room { vec_len list.old < vec_capacity list.old }
@@ -16,7 +16,7 @@ fn put_one_within<T>(list: &mut Vec<T>, i: usize, item: T)
     }
 }
 
-/// Puts members in at a place of what has the memory for them.
+/// Inserts members at index `i` of a `Vec` with enough spare capacity.
 pub(crate) fn put_within<T: Copy>(list: &mut Vec<T>, i: usize, items: &[T])
     requires place { i ≤ length list.old.items }
     requires room { vec_len list.old + length items.now ≤ vec_capacity list.old }
@@ -37,7 +37,7 @@ pub(crate) fn put_within<T: Copy>(list: &mut Vec<T>, i: usize, items: &[T])
     }
 }
 
-/// Takes n members out at a place.
+/// Removes `n` members from index `i`.
 pub(crate) fn cut_within<T: Copy>(list: &mut Vec<T>, i: usize, n: usize)
     requires { i + n ≤ length list.old.items }
     ensures list { list.new.items ≡ cut list.old.items i n }
@@ -57,7 +57,7 @@ pub(crate) fn cut_within<T: Copy>(list: &mut Vec<T>, i: usize, n: usize)
     }
 }
 
-/// Exchanges the members from a up to b with those from b up to c.
+/// Exchanges the members `a..b` with the members `b..c`.
 pub(crate) fn exchange<T: Copy>(list: &mut [T], a: usize, b: usize, c: usize)
     requires { AreWindows a b c (length list.old) }
     ensures { list.new ≡ exchanged list.old a b c }
@@ -65,7 +65,7 @@ pub(crate) fn exchange<T: Copy>(list: &mut [T], a: usize, b: usize, c: usize)
     list[a..c].rotate_left(b - a);
 }
 
-/// Exchanges the members from a up to b with those from b up to c.
+/// Exchanges the members `a..b` with the members `b..c`.
 pub(crate) fn exchange_within<T: Copy>(list: &mut Vec<T>, a: usize, b: usize, c: usize)
     requires { AreWindows a b c (length list.old.items) }
     ensures list { list.new.items ≡ exchanged list.old.items a b c }
@@ -75,7 +75,7 @@ pub(crate) fn exchange_within<T: Copy>(list: &mut Vec<T>, a: usize, b: usize, c:
     exchange(list.as_mut_slice(), a, b, c);
 }
 
-/// The members from one place up to another.
+/// The members `start..end`.
 pub(crate) fn part<T>(list: &[T], start: usize, end: usize) -> &[T]
     requires start { start ≤ end }
     requires end { end ≤ length list.now }

@@ -1,4 +1,4 @@
-//! The indexes of later bags.
+//! Shifts of the indexes of later bags.
 ghost use Rattle.std.specs.Prelude.{◌≡◌, ◌≤◌, ◌<◌, ◌^◌, slice_index_or, length, map, All, take, drop, ◌-◌, vec_len, vec_capacity};
 ghost use Rattle.flat_records.specs.Raised.{raised, lowered, CanRaise, CanLower};
 ghost use Rattle.numbered_lists.specs.Moved.{changed_within};
@@ -15,7 +15,7 @@ fn raise_one(bag: &mut (u16, u16), by: (usize, usize))
     bag.1 = (bag.1 as usize + by.1) as u16;
 }
 
-// Takes off both indexes.
+// Subtracts from both indexes.
 fn lower_one(bag: &mut (u16, u16), by: (usize, usize))
     requires { CanLower by bag.old }
     ensures { bag.new ≡ lowered by bag.old }
@@ -36,7 +36,7 @@ pub(crate) fn raise_all(bags: &mut [(u16, u16)], by: (usize, usize))
     }
 }
 
-/// Takes off the indexes of all these bags.
+/// Subtracts from the indexes of all these bags.
 pub(crate) fn lower_all(bags: &mut [(u16, u16)], by: (usize, usize))
     requires { All (CanLower by) bags.old }
     ensures { bags.new ≡ map (lowered by) bags.old }
@@ -48,7 +48,7 @@ pub(crate) fn lower_all(bags: &mut [(u16, u16)], by: (usize, usize))
     }
 }
 
-/// Adds to the indexes of bag k and of all later ones.
+/// Adds to the indexes of bag `k` and of all later ones.
 pub(crate) fn raise_from(bags: &mut Vec<(u16, u16)>, k: usize, by: (usize, usize))
     requires place { k ≤ length bags.old.items }
     requires fits { All (CanRaise by) (drop k bags.old.items) }
@@ -59,7 +59,7 @@ pub(crate) fn raise_from(bags: &mut Vec<(u16, u16)>, k: usize, by: (usize, usize
     raise_all(&mut bags[k..], by);
 }
 
-/// Takes off the indexes of bag k and of all later ones.
+/// Subtracts from the indexes of bag `k` and of all later ones.
 pub(crate) fn lower_from(bags: &mut Vec<(u16, u16)>, k: usize, by: (usize, usize))
     requires place { k ≤ length bags.old.items }
     requires fits { All (CanLower by) (drop k bags.old.items) }
@@ -70,7 +70,7 @@ pub(crate) fn lower_from(bags: &mut Vec<(u16, u16)>, k: usize, by: (usize, usize
     lower_all(&mut bags[k..], by);
 }
 
-// Adds to the indexes of bags a up to b.
+// Adds to the indexes of the bags `a..b`.
 fn raise_within(bags: &mut [(u16, u16)], a: usize, b: usize, by: (usize, usize))
     requires first { a ≤ b }
     requires last { b ≤ length bags.old }
@@ -80,7 +80,7 @@ fn raise_within(bags: &mut [(u16, u16)], a: usize, b: usize, by: (usize, usize))
     raise_all(&mut bags[a..b], by);
 }
 
-// Takes off the indexes of bags a up to b.
+// Subtracts from the indexes of the bags `a..b`.
 fn lower_within(bags: &mut [(u16, u16)], a: usize, b: usize, by: (usize, usize))
     requires first { a ≤ b }
     requires last { b ≤ length bags.old }
@@ -90,7 +90,7 @@ fn lower_within(bags: &mut [(u16, u16)], a: usize, b: usize, by: (usize, usize))
     lower_all(&mut bags[a..b], by);
 }
 
-// Exchanges indexes a up to b, which go up, with indexes b up to c, which go down.
+// Exchanges the indexes `a..b`, which are raised, with the indexes `b..c`, which are lowered.
 fn exchange_slices(
     bags: &mut [(u16, u16)],
     a: usize,
@@ -109,8 +109,8 @@ fn exchange_slices(
     exchange(bags, a, b, c);
 }
 
-/// Exchanges bags a up to b, whose records are from `start` on, with bags b up to c, whose records are
-/// from `middle` up to `stop`.
+/// Exchanges the bags `a..b`, whose records are `start..middle`, with the bags `b..c`, whose records are
+/// `middle..stop`.
 pub(crate) fn exchange_indexes(
     bags: &mut Vec<(u16, u16)>,
     a: usize,
@@ -134,7 +134,7 @@ pub(crate) fn exchange_indexes(
     exchange_slices(bags.as_mut_slice(), a, b, c, down, up);
 }
 
-/// The indexes of bag k.
+/// The indexes of bag `k`.
 pub(crate) fn index(bags: &[(u16, u16)], k: usize) -> (usize, usize)
     requires { k < length bags.now }
     ensures index { result ≡ slice_index_or bags.now k result }

@@ -7,7 +7,7 @@ use crate::bags::{Bags, Recs};
 use modulators::Modulator;
 
 impl Bags {
-    /// The bags of these records, where they are the records of a list of bags. Takes no memory.
+    /// The bags of these records, or `None` if they are not the records of a list of bags. Allocates nothing.
     #[tactic(auto, using(crate::proofs::Converse::tables_read))]
     pub fn from_recs(recs: Recs) -> Option<Bags>
         ensures { MatchOption result ((bags : List Bag) → ¬ (recs ≡ tables_of bags)) (λ r. recs ≡ tables_of r.bags) }
@@ -20,7 +20,7 @@ impl Bags {
     }
 }
 
-/// The records of any list of bags are tables, so that `from_recs` takes them.
+/// The records of any list of bags are tables, so `from_recs` accepts them.
 pub fn tables_of_bags_are_tables()
     ensures { (bags : List Bag) → AreTables (tables_of bags) }
 {}

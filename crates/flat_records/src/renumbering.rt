@@ -7,7 +7,7 @@ use crate::bags::Bags;
 use numbered_lists::Renumbering;
 
 impl Bags {
-    /// Gives all amounts of an operator, which are numbers of a list's members, their new ones. Takes no memory.
+    /// Renumbers all amounts of an operator, which are numbers of a list's members. Allocates nothing.
     pub fn renumber(&mut self, operator: u16, by: Renumbering)
         requires { All (CanRenumber operator by) (gens_in self.old.bags) }
         ensures bags { self.new.bags ≡ map (bag_renumbered operator by) self.old.bags }
@@ -45,7 +45,7 @@ fn renumber_all(gens: &mut [(u16, u16)], operator: u16, by: Renumbering)
     }
 }
 
-// Writes the amount in any case: with no branch around a write the compiler does several records at once.
+// Writes the amount in any case: without a branch around the write, the compiler vectorizes the loop.
 fn renumber_one(entry: &mut (u16, u16), operator: u16, by: Renumbering)
     requires { CanRenumber operator by entry.old }
     ensures { entry.new ≡ gen_renumbered operator by entry.old }

@@ -1,4 +1,4 @@
--- Entries that rise: what is at a place, and what an edit does there.
+-- Sorted entries: the entry at an index, and the effect of an edit there.
 use Rattle.std.proofs.Common.{◌≡◌, ◌<◌, ◌≤◌, ℕ, zero, suc, Bool, true, false, cond, not, ◌&&◌, List, [], ◌∷◌, length}
 use Rattle.std.proofs.Common.{get_or, set, Some, None, refl, sym, ap, subst, ◌∙◌, arith}
 use Rattle.std.specs.Prelude.{IsTrue}
@@ -13,7 +13,7 @@ use Rattle.std.specs.FinMap.Entries.{by_order, where_key, below_all}
 abbrev pub Entries : Type 0
 Entries = List (ℕ × ℕ)
 
--- the key of the entry at place i
+-- The key of the entry at index i.
 abbrev pub key_at : Entries → ℕ → ℕ
 key_at es i = (get_or es i (0, 0)).0
 
@@ -30,7 +30,7 @@ module _ (R : ℕ → ℕ → Ordering) where
   abbrev IsRising : Entries → Type 0
   IsRising es = IsTrue (is_sorted R es)
 
-  -- the entries after the first rise too, and are above it
+  -- The entries after the first are sorted too, and above it.
   tail_rises : (e : ℕ × ℕ) (es : Entries) → IsRising (e ∷ es) → IsRising es
   tail_rises e es h = (both_true (below_all R e.0 es) (is_sorted R es) h).1
 
@@ -42,9 +42,9 @@ module _ (R : ℕ → ℕ → Ordering) where
   first_below : (e : ℕ × ℕ) (es : Entries) (i : ℕ) → IsRising (e ∷ es) → i < length es → R e.0 (key_at es i) ≡ Less
   first_below e es i h l = below_at e.0 es i (both_true (below_all R e.0 es) (is_sorted R es) h).0 l
 
--- ---- the entry at place i has the key
+-- ---- the entry at index i has the key
 module _ (R : ℕ → ℕ → Ordering) (o : IsTotalOrder R) where
-  -- a later key than the first stands after it in order
+  -- A later key is after the first in order.
   later : (e : ℕ × ℕ) (es : Entries) (i k : ℕ) → IsRising R (e ∷ es) → i < length es → key_at es i ≡ k
       → R k e.0 ≡ Greater
   later e es i k h l s =
@@ -71,7 +71,7 @@ module _ (R : ℕ → ℕ → Ordering) (o : IsTotalOrder R) where
       ap (λ r. by_order r ((k, v) ∷ e ∷ es) ((e.0, v) ∷ es) (e ∷ put R k v es)) (later e es i k h within s)
       ∙ ap (λ xs. e ∷ xs) (put_at es k v i (tail_rises R e es h) within s)
 
-  -- no key ties with k, so each entry stays
+  -- No key ties with k, so each entry remains.
   without_none : (es : Entries) (k : ℕ) → ((j : ℕ) → j < length es → is_eq (R k (key_at es j)) ≡ false)
       → where_key R (λ x. not (eq_by_cmp R k x)) es ≡ es
   without_none [] k h = refl
@@ -93,7 +93,7 @@ module _ (R : ℕ → ℕ → Ordering) (o : IsTotalOrder R) where
       ap (λ r. cond (not (is_eq r)) (e ∷ rest) rest) (later e es i k h within s)
       ∙ ap (λ xs. e ∷ xs) (remove_at es k i (tail_rises R e es h) within s)
 
--- ---- the key would go at place i
+-- ---- the key would be inserted at index i
 module _ (R : ℕ → ℕ → Ordering) (o : IsTotalOrder R) where
   turned : (x y : ℕ) (r : Ordering) → R x y ≡ r → R y x ≡ ordering_reverse r
   turned x y r e = o.antisymm y x ∙ ap ordering_reverse e

@@ -1,4 +1,4 @@
--- Laws of the entries of a map: their order, what is set, and that they give the map.
+-- Laws of the entries of a map: their order, what is set, and that they make the map.
 use Rattle.std.proofs.Common.{◌≡◌, ◌<◌, ◌≤◌, ◌+◌, ◌^◌, ℕ, zero, suc, Bool, true, false, cond, not, [], ◌∷◌, length}
 use Rattle.std.proofs.Common.{Option, Some, None, true≢false, refl, sym, ap, subst, ◌∙◌, inl, inr, arith}
 use Rattle.std.specs.Prelude.{IsTrue, slice_get, sum_by, if◌then◌else◌, ◌==◌, nat_lt}
@@ -80,7 +80,7 @@ found_is_entry (e ∷ es) op w h =
 pub set_is_entry : SetIsEntry
 set_is_entry m op w h = found_is_entry (entries m) op w (sym (get-entries m op) ∙ h)
 
--- ---- facts of all entries
+-- ---- properties of all entries
 
 module _ (P : ℕ × ℕ → Type 0) where
   All-put : (op w : ℕ) (es : Entries) → P (op, w) → AllByRecursion P es → AllByRecursion P (put operator_cmp op w es)
@@ -103,7 +103,7 @@ module _ (P : ℕ × ℕ → Type 0) where
       (λ b. AllByRecursion P (cond b (e ∷ where_key operator_cmp p es) (where_key operator_cmp p es)))
       [ true ↦ (ps.0, rest) | false ↦ rest ]
 
-  -- what holds of all entries of a map, and of a new one
+  -- A property of all entries of a map, and of a new one.
   pub All-insert : (m : Gens) (op w : ℕ) → P (op, w) → AllByRecursion P (entries m)
       → AllByRecursion P (entries (insert m op w))
   All-insert m op w p ps = rw (entries-insert operator_cmp-IsTotalOrder m op w) (All-put op w (entries m) p ps)
@@ -121,7 +121,7 @@ module _ (P : ℕ × ℕ → Type 0) where
 
 -- ---- entries in any order
 
--- one more than the amount that is found, or 0
+-- One more than the amount that is found, or 0.
 code : Option ℕ → ℕ
 code None = 0
 code (Some w) = suc w
@@ -133,7 +133,7 @@ same_code None (Some w) e = absurd (omega arith)
 same_code (Some v) None e = absurd (omega arith)
 same_code (Some v) (Some w) e = ap Some (omega arith)
 
--- how often an operator stands, and the codes of its amounts together
+-- The number of entries of an operator, and the sum of the codes of their amounts.
 times : ℕ → Entries → ℕ
 times op es = sum_by (λ (e : ℕ × ℕ). if tied op e.0 then 1 else 0) es
 
@@ -154,7 +154,7 @@ unfolding times codes
 codes-none op [] h = refl
 codes-none op (e ∷ es) h = grind (arith, times-cons op e es, codes-cons op e es, codes-none op es)
 
--- an operator that stands once at most
+-- An operator with at most one entry.
 codes-find : (op : ℕ) (es : Entries) → times op es ≤ 1 → codes op es ≡ code (find operator_cmp op es)
 unfolding times codes code
 codes-find op [] h = refl
@@ -203,13 +203,13 @@ entries_give_the_map m es h =
     get-from_entries operator_cmp-IsTotalOrder es q
     ∙ same_code (find operator_cmp q es) (find operator_cmp q old) found ∙ sym (get-entries m q))
 
--- set again, they give it too
+-- Setting a map's entries again makes the map.
 pub from_entries-entries : (m : Gens) → from_entries (entries m) ≡ m
 from_entries-entries m = entries_give_the_map m (entries m) (IsPermutation-refl (entries m))
 
--- ---- how many there are
+-- ---- the number of entries
 
--- the place of an operator among all that there are
+-- The index of an operator among all operators.
 order_of : ℕ → ℕ
 order_of op = if op == 43 then 0 else if op == 44 then 1 else if nat_lt op 43 then op + 2 else op
 

@@ -1,4 +1,4 @@
--- What each level allows.
+-- The operators that each level allows.
 use Rattle.std.proofs.Common.{◌≡◌, ◌≢◌, ℕ, true, true≢false, refl, sym, ap, ◌∙◌, arith}
 use Rattle.std.proofs.lemmas.Bool.Decides.{nat_tests}
 use Rattle.generators.specs.declared.level.Level.{Level}
@@ -14,7 +14,7 @@ targets_are_not_allowed Preset Inst = refl
 targets_are_not_allowed Inst Preset = refl
 targets_are_not_allowed Inst Inst = refl
 
--- so an operator that a level allows is no target
+-- An operator that a level allows is not a target.
 pub allowed-≢-target : (at other : Level) (op : ℕ) → is_allowed at op ≡ true → op ≢ target_operator other
 allowed-≢-target at other op h e = true≢false (sym h ∙ ap (is_allowed at) e ∙ targets_are_not_allowed at other)
 

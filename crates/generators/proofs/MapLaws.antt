@@ -1,4 +1,4 @@
--- Laws of maps: what setting and clearing do one after the other.
+-- Laws of maps: settings and clearings one after another.
 use Rattle.std.proofs.Common.{◌≡◌, ◌≢◌, ◌+◌, ◌-◌, ℕ, Bool, true, false, cond, Option, Some, None, IsSome, true≢false}
 use Rattle.std.proofs.Common.{refl, sym, ap, ◌∙◌, inl, inr, arith}
 use Rattle.std.specs.Prelude.{is_some}
@@ -16,11 +16,11 @@ get-insert_any m op w q = get-insert operator_cmp-IsTotalOrder m op w q
 pub get-remove_any : (m : Gens) (op q : ℕ) → get (remove m op) q ≡ cond (tied q op) None (get m q)
 get-remove_any m op q = get-remove operator_cmp-IsTotalOrder m op q
 
--- ---- two maps that answer alike are one
+-- ---- maps with the same amounts are equal
 pub same_gens : (m n : Gens) → ((q : ℕ) → get m q ≡ get n q) → m ≡ n
 same_gens m n h = same_map operator_cmp-IsTotalOrder operator_cmp-IsAntisymmetric m n h
 
--- what m says of an operator, asked twice
+-- The amount of an operator in m, looked up twice.
 here : (q op : ℕ) (m : Gens) → cond (tied q op) (get m op) (get m q) ≡ get m q
 here q op m = elim (tied q op) as (λ b. tied q op ≡ b → cond b (get m op) (get m q) ≡ get m q) [
   | true ↦ λ p. ap (get m) (sym (tied_is_same q op p))
@@ -31,11 +31,11 @@ asked_twice : {X : Type 0} (b : Bool) (x y z : X) → cond b x (cond b y z) ≡ 
 asked_twice true x y z = refl
 asked_twice false x y z = refl
 
--- a map that differs from m at op at most, and there says the same
+-- A map that differs from m at most at op, and has the same amount there.
 put_back : (m n : Gens) (op : ℕ) → ((q : ℕ) → get n q ≡ cond (tied q op) (get m op) (get m q)) → n ≡ m
 put_back m n op h = same_gens n m (λ q. h q ∙ here q op m)
 
--- ---- the laws that an undo rests on
+-- ---- the laws of undo
 
 pub insert-insert_back : (m : Gens) (op was w : ℕ) → get m op ≡ Some was → insert (insert m op w) op was ≡ m
 insert-insert_back m op was w e =
@@ -63,7 +63,7 @@ pub insert-present : (m : Gens) (op was : ℕ) → get m op ≡ Some was → ins
 insert-present m op was e =
     put_back m (insert m op was) op (λ q. get-insert_any m op was q ∙ ap (λ o. cond (tied q op) o (get m q)) (sym e))
 
--- ---- the last of two settings counts, and the order of different ones does not
+-- ---- the last of two settings counts, and settings of two operators commute
 
 pub insert-insert : (m : Gens) (op v w : ℕ) → insert (insert m op v) op w ≡ insert m op w
 insert-insert m op v w =
@@ -71,7 +71,7 @@ insert-insert m op v w =
     get-insert_any (insert m op v) op w q ∙ ap (cond (tied q op) (Some w)) (get-insert_any m op v q)
     ∙ asked_twice (tied q op) (Some w) (Some v) (get m q) ∙ sym (get-insert_any m op w q))
 
--- two tests that are not both true
+-- Two tests that are not both true.
 exchanged : {X : Type 0} (a b : Bool) (x y z : X) → (a ≡ true → b ≡ false)
     → cond a x (cond b y z) ≡ cond b y (cond a x z)
 exchanged true true x y z apart = absurd (true≢false (apart refl))
@@ -117,7 +117,7 @@ len-insert_absent m op w e =
 pub len-insert_present : (m : Gens) (op w : ℕ) → IsSome (get m op) → len (insert m op w) ≡ len m
 len-insert_present m op w e = len-insert operator_cmp-IsTotalOrder m op w ∙ ap (λ b. cond b (len m) (len m + 1)) e
 
--- where something is set, there is an entry
+-- If something is set, there is an entry.
 some_entry : (m : Gens) (op : ℕ) → IsSome (get m op) → len m ≡ 0 → ⊥
 some_entry m op e none =
     true≢false (sym e ∙ ap is_some (ap (λ n. get n op) (empty_of_len m none) ∙ get-empty operator_cmp op))

@@ -1,4 +1,4 @@
--- Maps of generators and the entries that they are kept as.
+-- Maps of generators, and the entries that represent them.
 use Rattle.std.proofs.Common.{◌≡◌, ◌<◌, ◌≤◌, ◌^◌, ℕ, zero, suc, Bool, true, false, cond, not, List, [], ◌∷◌, ◌++◌}
 use Rattle.std.proofs.Common.{length, get_or, set, take, drop, Option, Some, None, IsSome, true≢false, refl, sym, ap}
 use Rattle.std.proofs.Common.{subst, ◌∙◌}
@@ -26,7 +26,7 @@ from_T : (b : Bool) → T b → IsTrue b
 from_T true h = refl
 from_T false h = absurd h
 
--- ---- what all entries have
+-- ---- properties of all entries
 
 AllByRecursion-append : {X : Type 0} (P : X → Type 0) (xs ys : List X) → AllByRecursion P xs → AllByRecursion P ys
     → AllByRecursion P (xs ++ ys)
@@ -56,26 +56,26 @@ AllByRecursion-set P (x ∷ xs) (suc n) y q p = (p.0, AllByRecursion-set P xs n 
 pub entries_held : {es : Entries} {m : Gens} → AreGens es → from_sorted es ≡ m → entries m ≡ es
 entries_held {es} h e = ap entries (sym e) ∙ entries-from_sorted operator_cmp es (to_T h.sorted)
 
--- the entries of any map are in order
+-- The entries of any map are in order.
 pub entries_rise : (m : Gens) → IsTrue (is_sorted operator_cmp (entries m))
 entries_rise m = from_T (is_sorted operator_cmp (entries m)) (entries_sorted m)
 
 pub FitGens_held : {es : Entries} {m : Gens} → AreGens es → from_sorted es ≡ m → FitGens m
 FitGens_held h e = subst FitEntries (sym (entries_held h e)) h.fit
 
--- entries that rise give a map that has them
+-- Sorted entries make a map with these entries.
 from_sorted_is : (es : Entries) (m : Gens) → IsTrue (is_sorted operator_cmp es) → es ≡ entries m → from_sorted es ≡ m
 from_sorted_is es m rises same =
     same_entries_map (from_sorted es) m (entries-from_sorted operator_cmp es (to_T rises) ∙ same)
 
--- entries rise on where one is put in, and where one is taken out
+-- Entries stay sorted when one is inserted or removed.
 put_rises : (op w : ℕ) (es : Entries) → IsTrue (is_sorted operator_cmp es)
     → IsTrue (is_sorted operator_cmp (put operator_cmp op w es))
 put_rises op w es rises =
     from_T (is_sorted operator_cmp (put operator_cmp op w es))
     (is_sorted-put operator_cmp operator_cmp-IsTotalOrder op w es (to_T rises))
 
--- the entries of the other operators
+-- The entries of the other operators.
 abbrev pub without : ℕ → Entries → Entries
 without op es = where_key operator_cmp (λ x. not (tied op x)) es
 
@@ -106,7 +106,7 @@ entries-remove m op =
     ∙ sym (find-without op q (entries m)) ∙ sym (get-from_sorted operator_cmp left q (to_T rises))) in
     ap entries same ∙ entries-from_sorted operator_cmp left (to_T rises)
 
--- ---- the operator is at place i
+-- ---- the operator is at index i
 module _ {es : Entries} {m : Gens} (h : AreGens es) (e : from_sorted es ≡ m) {op i : ℕ} (at : IsAt (entries m) op i)
   where
     same_entries : IsAt es op i
@@ -152,7 +152,7 @@ module _ {es : Entries} {m : Gens} (h : AreGens es) (e : from_sorted es ≡ m) {
         from_sorted_is (list.remove es i) (map.remove m op) AreGens-remove.sorted (
         sym without_is_remove ∙ ap (without op) (sym (entries_held h e)) ∙ sym (entries-remove m op))
 
--- ---- the operator would go at place i
+-- ---- the operator would be inserted at index i
 module _ {es : Entries} {m : Gens} (h : AreGens es) (e : from_sorted es ≡ m) {op i : ℕ}
     (gap : IsGapFor (entries m) op i) where
   same_gap : IsGapFor es op i

@@ -7,7 +7,7 @@ use Rattle.std.specs.FinMap.{IsAntisymmetric, nat_cmp-IsAntisymmetric}
 use Rattle.std.proofs.lemmas.Bool.Decides.{nat_tests}
 use Rattle.generators.specs.Gens.{rank, operator_cmp}
 
--- each operator has a rank of its own
+-- Each operator has a rank of its own.
 pub rank_injective : (x y : ℕ) → rank x ≡ rank y → x ≡ y
 rank_injective x y e = grind (arith, nat_tests)
 
@@ -17,7 +17,7 @@ operator_cmp-IsTotalOrder = on_total rank nat_cmp_total
 pub operator_cmp-IsAntisymmetric : IsAntisymmetric operator_cmp
 operator_cmp-IsAntisymmetric x y e = rank_injective x y (nat_cmp-IsAntisymmetric (rank x) (rank y) e)
 
--- whether two operators are one
+-- Whether two operators are equal.
 abbrev pub tied : ℕ → ℕ → Bool
 tied x y = eq_by_cmp operator_cmp x y
 

@@ -1,4 +1,4 @@
--- Entries whose ranks rise from each to the next are in order.
+-- Entries with strictly increasing ranks are in order.
 use Rattle.std.proofs.Common.{◌≡◌, ◌<◌, ◌+◌, ◌&&◌, ℕ, suc, Bool, true, false, [], ◌∷◌, length, refl, subst, arith}
 use Rattle.std.specs.Prelude.{IsTrue}
 use Rattle.std.specs.Ordering.{nat_cmp, is_lt}
@@ -9,7 +9,7 @@ use Rattle.generators.specs.Gens.{rank, operator_cmp, AreInOrder}
 use Rattle.generators.specs.Places.{operator_at}
 use Rattle.generators.proofs.Entries.{Entries, keys_rise}
 
--- each entry's rank is below the next one's
+-- Each entry's rank is below the next one's.
 abbrev pub RanksRise : Entries → Type 0
 RanksRise es = (k : ℕ) → k + 1 < length es → rank (operator_at es k) < rank (operator_at es (k + 1))
 
@@ -28,7 +28,7 @@ rest_rises e es r k l =
     let n : suc k + 1 ≡ suc (k + 1) = omega arith in
     subst (λ n. rank (operator_at es k) < rank (operator_at (e ∷ es) n)) n (r (suc k) (omega arith))
 
--- all of them are above an operator that the first is above
+-- All entries are above an operator that the first is above.
 all_above : (op : ℕ) (es : Entries) → (0 < length es → rank op < rank (operator_at es 0)) → RanksRise es
     → IsTrue (below_all operator_cmp op es)
 all_above op [] first r = refl

@@ -1,4 +1,4 @@
--- What a binary search by rank finds among entries that rise.
+-- The result of a binary search by rank among sorted entries.
 use Rattle.std.proofs.Common.{◌≡◌, ◌<◌, ◌≤◌, ℕ, length, Result, Ok, Err, IfOk, IfErr, subst, inl, inr, arith}
 use Rattle.std.specs.Prelude.{IsTrue}
 use Rattle.std.specs.declared.cmp.Ordering.TheVariants.{Less}
@@ -13,7 +13,7 @@ use Rattle.generators.specs.Places.{IsAt, IsGapFor, operator_at}
 use Rattle.generators.proofs.Order.{operator_cmp-IsAntisymmetric}
 use Rattle.generators.proofs.Entries.{Entries, keys_rise}
 
--- a rank compared with others rises along with them
+-- The comparison of a rank is monotone.
 index_rises : (a b k : ℕ) → a ≤ b → ordering_index (nat_cmp a k) ≤ ordering_index (nat_cmp b k)
 index_rises a b k le = grind (arith, nat_tests)
 

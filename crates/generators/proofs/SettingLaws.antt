@@ -1,4 +1,4 @@
--- Entries that are set one after the other.
+-- Entries that are set one after another.
 use Rattle.std.proofs.Common.{◌≡◌, ℕ, Bool, true, false, cond, eqb, [], ◌∷◌, length, Option, Some, None, true≢false}
 use Rattle.std.proofs.Common.{refl, sym, ap, ◌∙◌, arith}
 use Rattle.std.specs.Prelude.{◌||◌, is_some}
@@ -11,11 +11,11 @@ use Rattle.generators.proofs.Order.{operator_cmp-IsTotalOrder, tied, tied_same, 
 use Rattle.generators.proofs.Entries.{Entries}
 use Rattle.generators.proofs.MapLaws.{same_gens, get-insert_any, len-insert_absent}
 
--- whether an operator is one of the entries'
+-- Whether an operator is among the entries.
 abbrev stands : ℕ → Entries → Bool
 stands op es = list_any (λ (x : ℕ × ℕ). eqb x.0 op) es
 
--- the first choice, or else the second
+-- The first option, or else the second.
 abbrev or_else : Option ℕ → Option ℕ → Option ℕ
 or_else None b = b
 or_else (Some w) b = Some w
@@ -38,7 +38,7 @@ is_none : (o : Option ℕ) → is_some o ≡ false → o ≡ None
 is_none None e = refl
 is_none (Some w) e = absurd (true≢false e)
 
--- an operator is among the last entries where it stands at all
+-- An operator is among the last entries if it is among the entries.
 find-last_of_each : (op : ℕ) (es : Entries) → is_some (find operator_cmp op (last_of_each es)) ≡ stands op es
 find-last_of_each op [] = refl
 find-last_of_each op (e ∷ es) =
@@ -96,7 +96,7 @@ last_of_each_count es =
     ∙ or_else-None (find operator_cmp q (last_of_each es))
     ∙ sym (get-from_entries operator_cmp-IsTotalOrder (last_of_each es) q))
 
--- no entry of a last one's operator comes after it
+-- After a last entry there is no entry of its operator.
 len-from_last : (es : Entries) → len (from_entries {R = operator_cmp} (last_of_each es)) ≡ length (last_of_each es)
 len-from_last [] = len-empty operator_cmp ℕ
 len-from_last (e ∷ es) =

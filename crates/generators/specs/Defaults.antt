@@ -1,16 +1,16 @@
--- What the played operators are where they are not set.
+-- The default amounts of the played operators.
 use Rattle.std.specs.Prelude.{ℕ, ℤ, Bool, pos, negsuc, ◌||◌, ◌==◌, if◌then◌else◌, [], ◌∷◌, Option, Some, None}
 use Rattle.generators.specs.Levels.{is_one_of, is_within}
 
--- offsets of addresses, pan, sustain, attenuation, tuning, modes and class
+-- Address offsets, pan, sustain, attenuation, tuning, sample modes and exclusive class.
 abbrev pub is_zero_by_default : ℕ → Bool
 is_zero_by_default op = is_within 0 4 op || is_one_of (12 ∷ 45 ∷ 50 ∷ 17 ∷ 37 ∷ 48 ∷ 51 ∷ 52 ∷ 54 ∷ 57 ∷ []) op
 
--- the times of the volume envelope: -12000 timecents, about a millisecond
+-- The times of the volume envelope: -12000 timecents, about a millisecond.
 abbrev pub is_instant_by_default : ℕ → Bool
 is_instant_by_default op = is_within 33 36 op || op == 38
 
--- the key, the velocity and the root key, which then come from elsewhere
+-- The key, the velocity and the root key: -1 for those of the note or the sample.
 abbrev pub is_none_by_default : ℕ → Bool
 is_none_by_default op = is_one_of (46 ∷ 47 ∷ 58 ∷ []) op
 

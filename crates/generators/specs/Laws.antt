@@ -1,4 +1,4 @@
--- Laws of the order of operators, of maps of generators, and of the rules of levels.
+-- Laws of the order of operators, of maps of generators, and of the operators of each level.
 use Rattle.std.specs.Prelude.{◌≡◌, ◌≢◌, ◌<◌, ◌+◌, ◌^◌, ℕ, List, length, map, Some, None, false, IsTrue, IsSome}
 use Rattle.std.specs.Prelude.{slice_get}
 use Rattle.std.specs.List.Sorted.{IsPermutation, IsStrictlyIncreasing}
@@ -15,78 +15,78 @@ use Rattle.generators.specs.Places.{operator_at}
 
 -- ---- the order
 
--- the key range comes before all others
+-- The key range is before all others.
 abbrev pub KeyRangeIsFirst : Type 0
 KeyRangeIsFirst = (op : ℕ) → op ≢ 43 → operator_cmp 43 op ≡ Less
 
--- the velocity range comes before all others but the key range
+-- The velocity range is before all others except the key range.
 abbrev pub VelRangeIsSecond : Type 0
 VelRangeIsSecond = (op : ℕ) → op ≢ 43 → op ≢ 44 → operator_cmp 44 op ≡ Less
 
--- the others go by their numbers
+-- The others are in the order of their numbers.
 abbrev pub OthersGoByNumber : Type 0
 OthersGoByNumber = (x y : ℕ) → x ≢ 43 → x ≢ 44 → y ≢ 43 → y ≢ 44 → operator_cmp x y ≡ nat_cmp x y
 
 -- ---- the entries
 
--- the ranks of a map's entries rise, each above the one before it
+-- The ranks of a map's entries are strictly increasing.
 abbrev pub RanksRise : Type 0
 RanksRise = (m : Gens) → IsStrictlyIncreasing (map (λ e. rank e.0) (entries m))
 
--- no operator stands at two places
+-- No operator is at two indexes.
 abbrev pub EachOperatorOnce : Type 0
 EachOperatorOnce =
     (m : Gens) (i j : ℕ) → i < len m → j < len m → operator_at (entries m) i ≡ operator_at (entries m) j → i ≡ j
 
--- an entry is what its operator is set to
+-- The amount of an entry is the amount of its operator.
 abbrev pub EntriesAreSet : Type 0
 EntriesAreSet = (m : Gens) (j op w : ℕ) → slice_get (entries m) j ≡ Some (op, w) → get m op ≡ Some w
 
--- and what an operator is set to is an entry
+-- Each operator that is set has an entry with its amount.
 abbrev pub SetIsEntry : Type 0
 SetIsEntry = (m : Gens) (op w : ℕ) → get m op ≡ Some w → (j : ℕ) × (slice_get (entries m) j ≡ Some (op, w))
 
--- two maps that answer alike are equal
+-- Two maps with the same amount for each operator are equal.
 abbrev pub AlikeAreEqual : Type 0
 AlikeAreEqual = (m n : Gens) → ((op : ℕ) → get m op ≡ get n op) → m ≡ n
 
--- a map's entries, set in any order, give the map
+-- A map's entries, in any order, make the map.
 abbrev pub EntriesGiveTheMap : Type 0
 EntriesGiveTheMap = (m : Gens) (es : List (ℕ × ℕ)) → IsPermutation (entries m) es → from_entries es ≡ m
 
--- ---- one edit and its undoing
+-- ---- one edit and its inverse
 
--- an operator that is set, set to another amount and set back
+-- Setting an operator that is set, then setting it back, restores the map.
 abbrev pub SettingBackRestores : Type 0
 SettingBackRestores = (m : Gens) (op was w : ℕ) → get m op ≡ Some was → insert (insert m op w) op was ≡ m
 
--- an operator that is not set, set and cleared
+-- Setting an operator that is not set, then clearing it, restores the map.
 abbrev pub ClearingRestores : Type 0
 ClearingRestores = (m : Gens) (op w : ℕ) → get m op ≡ None → remove (insert m op w) op ≡ m
 
--- an operator that is set, cleared and set again
+-- Clearing an operator that is set, then setting it again, restores the map.
 abbrev pub SettingAgainRestores : Type 0
 SettingAgainRestores = (m : Gens) (op was : ℕ) → get m op ≡ Some was → insert (remove m op) op was ≡ m
 
--- clearing what is not set changes nothing
+-- Clearing an operator that is not set changes nothing.
 abbrev pub ClearingNoneKeeps : Type 0
 ClearingNoneKeeps = (m : Gens) (op : ℕ) → get m op ≡ None → remove m op ≡ m
 
--- setting what is set already changes nothing
+-- Setting an operator to its present amount changes nothing.
 abbrev pub SettingSameKeeps : Type 0
 SettingSameKeeps = (m : Gens) (op was : ℕ) → get m op ≡ Some was → insert m op was ≡ m
 
 -- ---- two edits
 
--- of two settings of an operator the last counts
+-- The last of two settings of an operator counts.
 abbrev pub LastSettingCounts : Type 0
 LastSettingCounts = (m : Gens) (op v w : ℕ) → insert (insert m op v) op w ≡ insert m op w
 
--- settings of two operators may come in either order
+-- Settings of two operators commute.
 abbrev pub SettingsCommute : Type 0
 SettingsCommute = (m : Gens) (a b v w : ℕ) → a ≢ b → insert (insert m a v) b w ≡ insert (insert m b w) a v
 
--- so may clearings, and a setting and a clearing
+-- Clearings commute, and so do a setting and a clearing of two operators.
 abbrev pub ClearingsCommute : Type 0
 ClearingsCommute = (m : Gens) (a b : ℕ) → remove (remove m a) b ≡ remove (remove m b) a
 
@@ -95,11 +95,11 @@ SettingAndClearingCommute = (m : Gens) (a b v : ℕ) → a ≢ b → remove (ins
 
 -- ---- many settings
 
--- of entries that are set in order the last of each operator count
+-- Of entries that are set in order, the last of each operator counts.
 abbrev pub LastOfEachCount : Type 0
 LastOfEachCount = (es : List (ℕ × ℕ)) → set_in_order no_gens es ≡ from_entries (last_of_each es)
 
--- and there are as many operators set
+-- As many operators are set as there are last entries.
 abbrev pub LastOfEachAreAll : Type 0
 LastOfEachAreAll = (es : List (ℕ × ℕ)) → len (set_in_order no_gens es) ≡ length (last_of_each es)
 
@@ -127,18 +127,18 @@ ClearingFits = (m : Gens) (op : ℕ) → FitGens m → FitGens (remove m op)
 
 -- ---- levels
 
--- no level's maps hold a target
+-- No level's maps may have a target operator.
 abbrev pub TargetsAreNotAllowed : Type 0
 TargetsAreNotAllowed = (at other : Level) → is_allowed at (target_operator other) ≡ false
 
--- both levels allow the ranges
+-- Both levels allow key and velocity ranges.
 abbrev pub RangesAreAllowed : Type 0
 RangesAreAllowed = (at : Level) (op : ℕ) → IsTrue (is_range_operator op) → IsTrue (is_allowed at op)
 
--- instruments allow what presets do
+-- Instruments allow all operators that presets allow.
 abbrev pub InstrumentsAllowMore : Type 0
 InstrumentsAllowMore = (op : ℕ) → IsTrue (is_allowed Preset op) → IsTrue (is_allowed Inst op)
 
--- each played operator is allowed in instruments
+-- Each played operator is allowed in instruments.
 abbrev pub PlayedIsAllowed : Type 0
 PlayedIsAllowed = (op : ℕ) → IsSome (default_of op) → IsTrue (is_allowed Inst op)

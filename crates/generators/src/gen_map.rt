@@ -9,16 +9,17 @@ use sf_base::OutOfMemory;
 use std::alloc::Global;
 use std::marker::Model;
 
-/// A finite map from operators to amounts, in the canonical order: `keyRange`, then `velRange`, then
-/// the other operators by rising number. In a file the ranges come first, so that it can be written
-/// in this order (SoundFont 2.04, section 8.1.2).
+/// A finite map from operators to amounts, in canonical order: `keyRange`, then `velRange`, then the other operators by
+/// number.
+///
+/// This is an order in which a file may have them, since it begins with the ranges (SoundFont 2.04, section 8.1.2).
 #[derive(Debug)]
 pub struct GenMap {
-    // In canonical order, with no operator twice.
+    // In canonical order, each operator once.
     entries: Vec<(u16, u16)>,
 }
 
-// Not derived: a derived drop is written out, and proved, wherever a value is dropped; this one is a call.
+// Not derived: a derived `drop` is inlined, and proved, wherever a value is dropped; this one is a call.
 impl Drop for GenMap {
     fn drop(self) {
         let GenMap { entries: _ } = self;
@@ -40,7 +41,7 @@ impl Model for GenMap {
 }
 
 impl GenMap {
-    /// The empty map, which takes no memory.
+    /// Makes an empty map. Allocates nothing.
     pub fn new(alloc: Global) -> GenMap
         ensures { result ≡ map.empty }
     {
@@ -49,7 +50,7 @@ impl GenMap {
         }
     }
 
-    /// The map of entries that are in canonical order, with no operator twice, in memory of its own.
+    /// Makes a map of a copy of entries that are in canonical order, each operator once.
     pub fn from_entries(alloc: Global, entries: &[(u16, u16)]) -> Result<GenMap, OutOfMemory>
         requires { AreGens entries.now }
         ensures { IfOk result (λ m. map.entries m ≡ entries.now) }
@@ -75,7 +76,7 @@ impl GenMap {
         self.entries.is_empty()
     }
 
-    /// The amount of an operator, if it is set.
+    /// The amount of an operator, or `None` if it is not set.
     pub fn get(&self, operator: u16) -> Option<u16>
         ensures { result ≡ map.get self.now operator }
     {
@@ -85,14 +86,14 @@ impl GenMap {
         }
     }
 
-    /// The operator and the amount at this place of the canonical order, if there are so many.
+    /// The operator and the amount at an index of the canonical order, or `None` past the end.
     pub fn at(&self, index: usize) -> Option<(u16, u16)>
         ensures { result ≡ slice_get (map.entries self.now) index }
     {
         self.entries.get(index).copied()
     }
 
-    /// The operators that are set, each with its amount, in canonical order.
+    /// The operators that are set with their amounts, in canonical order.
     pub fn entries(&self) -> &[(u16, u16)]
         ensures all { result.now ≡ map.entries self.now }
         ensures fit { FitGens self.now }
@@ -100,8 +101,8 @@ impl GenMap {
         self.entries.as_slice()
     }
 
-    /// Sets an operator, and gives the amount that it had. It needs memory only for an operator that is
-    /// not set, and changes nothing where that is refused.
+    /// Sets an operator, and returns its former amount. It allocates only for an operator that is not set; a failed
+    /// allocation changes nothing.
     pub fn set(&mut self, operator: u16, amount: u16) -> Result<Option<u16>, OutOfMemory>
         ensures was { IfOk result (λ was. was ≡ map.get self.old operator) }
         ensures ok { OnOk result (self.new ≡ map.insert self.old operator amount) }
@@ -121,7 +122,7 @@ impl GenMap {
         }
     }
 
-    /// Clears an operator, and gives the amount that it had. It needs no memory.
+    /// Clears an operator, and returns its former amount. Allocates nothing.
     pub fn clear(&mut self, operator: u16) -> Option<u16>
         ensures was { result ≡ map.get self.old operator }
         ensures cleared { self.new ≡ map.remove self.old operator }
@@ -132,7 +133,7 @@ impl GenMap {
         }
     }
 
-    /// An equal map, in memory of its own.
+    /// Makes a copy of the map.
     pub fn copy(&self, alloc: Global) -> Result<GenMap, OutOfMemory>
         ensures { IfOk result (λ copy. copy ≡ self.now) }
     {
@@ -141,7 +142,7 @@ impl GenMap {
         })
     }
 
-    // Where the operator stands, or where it would go.
+    // The index of the operator, or else the index at which it would be inserted.
     fn search(&self, operator: u16) -> Result<usize, usize>
         ensures found { IfOk result (λ at. IsAt (map.entries self.now) operator at) }
         ensures absent { IfErr result (λ at. IsGapFor (map.entries self.now) operator at) }
@@ -150,8 +151,8 @@ impl GenMap {
     }
 }
 
-/// Where an operator stands among entries that are in canonical order, with no operator twice, or where
-/// it would go.
+/// The index of an operator among entries in canonical order, each operator once, or else the index at which it would
+/// be inserted.
 pub fn search_entries(entries: &[(u16, u16)], operator: u16) -> Result<usize, usize>
     requires { AreInOrder entries.now }
     ensures found { IfOk result (λ at. IsAt entries.now operator at) }
@@ -160,7 +161,7 @@ pub fn search_entries(entries: &[(u16, u16)], operator: u16) -> Result<usize, us
     entries.binary_search_by_key(&rank(operator), |&(other, _)| rank(other))
 }
 
-/// Whether entries are in canonical order, with no operator twice.
+/// Whether entries are in canonical order, each operator once.
 pub fn are_in_order(entries: &[(u16, u16)]) -> bool
     ensures { IsTrue result ↔ AreInOrder entries.now }
 {
@@ -178,7 +179,7 @@ fn ranks_rise(entries: &[(u16, u16)]) -> bool
     true
 }
 
-// The place of an operator in the canonical order.
+// The rank of an operator in the canonical order.
 fn rank(operator: u16) -> u32
     ensures { result ≡ rank operator }
 {

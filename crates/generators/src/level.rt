@@ -3,7 +3,7 @@ ghost use Rattle.std.specs.Prelude.{◌≡◌};
 
 use crate::operators;
 
-/// Whose zones: those of presets, or those of instruments.
+/// Preset level or instrument level.
 #[derive(Debug, Clone, Copy, PartialEq, Eq)]
 pub enum Level {
     Preset,
@@ -13,7 +13,7 @@ pub enum Level {
 impl Level {
     ghost use Rattle.generators.specs.Levels.{target_operator};
 
-    /// The operator whose amount is the target of a zone: the number of an instrument, or of a sample.
+    /// The operator whose amount is a zone's target: the number of an instrument or of a sample.
     pub fn target_operator(self) -> u16
         ensures { result ≡ target_operator self }
     {

@@ -1,5 +1,5 @@
-//! The generators of a zone: their operators, the operators that each level allows, and a map from
-//! operators to amounts in the order of a file.
+//! The generators of a zone: their operators, the operators that each level allows, and a map from operators to amounts
+//! in the order of a file.
 #![tactic(auto)]
 
 mod gen_map;

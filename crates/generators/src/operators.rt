@@ -1,19 +1,19 @@
-//! The operators of generators, with the names that the SoundFont standard gives them (version 2.04,
-//! sections 8.1.2 and 8.1.3). Each comment names the unit of the operator's amount.
+//! The operators of generators, with the names of the SoundFont standard (version 2.04, sections 8.1.2 and 8.1.3). Each
+//! comment gives the unit of the amount.
 
-/// `startAddrsOffset`. Points that the start of the sample is later.
+/// `startAddrsOffset`. Points added to the start of the sample.
 pub const START_ADDRS_OFFSET: u16 = 0;
 
-/// `endAddrsOffset`. Points that the end of the sample is later.
+/// `endAddrsOffset`. Points added to the end of the sample.
 pub const END_ADDRS_OFFSET: u16 = 1;
 
-/// `startloopAddrsOffset`. Points that the start of the loop is later.
+/// `startloopAddrsOffset`. Points added to the start of the loop.
 pub const STARTLOOP_ADDRS_OFFSET: u16 = 2;
 
-/// `endloopAddrsOffset`. Points that the end of the loop is later.
+/// `endloopAddrsOffset`. Points added to the end of the loop.
 pub const ENDLOOP_ADDRS_OFFSET: u16 = 3;
 
-/// `startAddrsCoarseOffset`. Steps of 32,768 points that the start of the sample is later.
+/// `startAddrsCoarseOffset`. Multiples of 32,768 points added to the start of the sample.
 pub const START_ADDRS_COARSE_OFFSET: u16 = 4;
 
 /// `modLfoToPitch`. Cents of pitch at the modulation LFO's full excursion.
@@ -37,19 +37,19 @@ pub const MOD_LFO_TO_FILTER_FC: u16 = 10;
 /// `modEnvToFilterFc`. Cents of cutoff at the modulation envelope's full excursion.
 pub const MOD_ENV_TO_FILTER_FC: u16 = 11;
 
-/// `endAddrsCoarseOffset`. Steps of 32,768 points that the end of the sample is later.
+/// `endAddrsCoarseOffset`. Multiples of 32,768 points added to the end of the sample.
 pub const END_ADDRS_COARSE_OFFSET: u16 = 12;
 
 /// `modLfoToVolume`. Centibels of volume at the modulation LFO's full excursion.
 pub const MOD_LFO_TO_VOLUME: u16 = 13;
 
-/// `chorusEffectsSend`. The part that goes to the chorus, in 0.1 %.
+/// `chorusEffectsSend`. The part sent to the chorus, in 0.1 %.
 pub const CHORUS_EFFECTS_SEND: u16 = 15;
 
-/// `reverbEffectsSend`. The part that goes to the reverberation, in 0.1 %.
+/// `reverbEffectsSend`. The part sent to the reverberation, in 0.1 %.
 pub const REVERB_EFFECTS_SEND: u16 = 16;
 
-/// `pan`. The place between left (-500) and right (500), in 0.1 %.
+/// `pan`. The position between left (-500) and right (500), in 0.1 %.
 pub const PAN: u16 = 17;
 
 /// `delayModLFO`. The time until the modulation LFO starts, in timecents.
@@ -70,21 +70,20 @@ pub const DELAY_MOD_ENV: u16 = 25;
 /// `attackModEnv`. The time of the modulation envelope's attack, in timecents.
 pub const ATTACK_MOD_ENV: u16 = 26;
 
-/// `holdModEnv`. The time that the modulation envelope stays at its peak, in timecents.
+/// `holdModEnv`. The time for which the modulation envelope stays at its peak, in timecents.
 pub const HOLD_MOD_ENV: u16 = 27;
 
 /// `decayModEnv`. The time of the modulation envelope's decay over its full range, in timecents.
 pub const DECAY_MOD_ENV: u16 = 28;
 
-/// `sustainModEnv`. How far below its peak the modulation envelope stays, in 0.1 %.
+/// `sustainModEnv`. The fall of the modulation envelope below its peak while it is sustained, in 0.1 %.
 pub const SUSTAIN_MOD_ENV: u16 = 29;
 
 /// `releaseModEnv`. The time of the modulation envelope's release over its full range, in
 /// timecents.
 pub const RELEASE_MOD_ENV: u16 = 30;
 
-/// `keynumToModEnvHold`. Timecents by which each key below 60 lengthens the modulation envelope's
-/// hold.
+/// `keynumToModEnvHold`. Timecents by which each key below 60 lengthens the modulation envelope's hold.
 pub const KEYNUM_TO_MOD_ENV_HOLD: u16 = 31;
 
 /// `keynumToModEnvDecay`. Timecents by which each key below 60 lengthens the modulation envelope's
@@ -97,13 +96,13 @@ pub const DELAY_VOL_ENV: u16 = 33;
 /// `attackVolEnv`. The time of the volume envelope's attack, in timecents.
 pub const ATTACK_VOL_ENV: u16 = 34;
 
-/// `holdVolEnv`. The time that the volume envelope stays at its peak, in timecents.
+/// `holdVolEnv`. The time for which the volume envelope stays at its peak, in timecents.
 pub const HOLD_VOL_ENV: u16 = 35;
 
 /// `decayVolEnv`. The time of the volume envelope's decay over 100 dB, in timecents.
 pub const DECAY_VOL_ENV: u16 = 36;
 
-/// `sustainVolEnv`. How far below its peak the volume envelope stays, in centibels.
+/// `sustainVolEnv`. The fall of the volume envelope below its peak while it is sustained, in centibels.
 pub const SUSTAIN_VOL_ENV: u16 = 37;
 
 /// `releaseVolEnv`. The time of the volume envelope's release over 100 dB, in timecents.
@@ -116,7 +115,7 @@ pub const KEYNUM_TO_VOL_ENV_HOLD: u16 = 39;
 /// decay.
 pub const KEYNUM_TO_VOL_ENV_DECAY: u16 = 40;
 
-/// `instrument`. The number of an instrument, the target of a preset's zone. In no map.
+/// `instrument`. The number of an instrument, the target of a preset zone. In no map.
 pub const INSTRUMENT: u16 = 41;
 
 /// `keyRange`. The lowest and the highest key of the zone, as two bytes.
@@ -125,39 +124,38 @@ pub const KEY_RANGE: u16 = 43;
 /// `velRange`. The lowest and the highest velocity of the zone, as two bytes.
 pub const VEL_RANGE: u16 = 44;
 
-/// `startloopAddrsCoarseOffset`. Steps of 32,768 points that the start of the loop is later.
+/// `startloopAddrsCoarseOffset`. Multiples of 32,768 points added to the start of the loop.
 pub const STARTLOOP_ADDRS_COARSE_OFFSET: u16 = 45;
 
-/// `keynum`. The key that is played in place of the note's, or -1 for the note's own.
+/// `keynum`. The key played instead of the note's, or -1 for the note's own.
 pub const KEYNUM: u16 = 46;
 
-/// `velocity`. The velocity that is played in place of the note's, or -1 for the note's own.
+/// `velocity`. The velocity played instead of the note's, or -1 for the note's own.
 pub const VELOCITY: u16 = 47;
 
-/// `initialAttenuation`. How far the sample is lowered, in centibels.
+/// `initialAttenuation`. The attenuation of the sample, in centibels.
 pub const INITIAL_ATTENUATION: u16 = 48;
 
-/// `endloopAddrsCoarseOffset`. Steps of 32,768 points that the end of the loop is later.
+/// `endloopAddrsCoarseOffset`. Multiples of 32,768 points added to the end of the loop.
 pub const ENDLOOP_ADDRS_COARSE_OFFSET: u16 = 50;
 
-/// `coarseTune`. Semitones that the pitch is higher.
+/// `coarseTune`. Semitones added to the pitch.
 pub const COARSE_TUNE: u16 = 51;
 
-/// `fineTune`. Cents that the pitch is higher, beside the semitones.
+/// `fineTune`. Cents added to the pitch, besides the semitones.
 pub const FINE_TUNE: u16 = 52;
 
-/// `sampleID`. The number of a sample, the target of an instrument's zone. In no map.
+/// `sampleID`. The number of a sample, the target of an instrument zone. In no map.
 pub const SAMPLE_ID: u16 = 53;
 
-/// `sampleModes`. Whether the loop is played: 0 never, 1 without end, 3 until the key is released.
+/// `sampleModes`. How the loop is played: 0 never, 1 without end, 3 until the key is released.
 pub const SAMPLE_MODES: u16 = 54;
 
-/// `scaleTuning`. Cents by which each key is higher than the one below it.
+/// `scaleTuning`. Cents between adjacent keys.
 pub const SCALE_TUNING: u16 = 56;
 
-/// `exclusiveClass`. The number of a class of notes that end one another, or 0 for none.
+/// `exclusiveClass`. The number of a class in which a new note ends the others, or 0 for none.
 pub const EXCLUSIVE_CLASS: u16 = 57;
 
-/// `overridingRootKey`. The key that plays the sample as it was recorded, or -1 for the sample's
-/// own.
+/// `overridingRootKey`. The key that plays the sample at its recorded pitch, or -1 for the sample's own.
 pub const OVERRIDING_ROOT_KEY: u16 = 58;

@@ -2,9 +2,9 @@
 ghost use Rattle.std.specs.Prelude.{◌≡◌, ◌+◌, ◌*◌, ◌/◌, ◌%◌, ◌≤◌, ◌↔◌, IsTrue};
 ghost use Rattle.generators.specs.Ranges.{AreEnds};
 
-/// A range of keys or of velocities, both ends in it (SoundFont 2.04, section 8.1.2, `keyRange` and
-/// `velRange`). The ends may be in the wrong order or over 127, as any amount of a file has ends:
-/// `is_valid` tells.
+/// A range of keys or of velocities, including both ends (SoundFont 2.04, section 8.1.2, `keyRange` and `velRange`).
+///
+/// The ends may be in the wrong order or above 127, as in any amount of a file: see `is_valid`.
 #[derive(Debug, Clone, Copy, PartialEq, Eq)]
 pub struct Range {
     pub low: u8,
@@ -12,7 +12,7 @@ pub struct Range {
 }
 
 impl Range {
-    /// The ends that an amount holds: the low one in its low byte.
+    /// The range in an amount: the low end is in the low byte.
     pub fn of_amount(amount: u16) -> Range
         ensures low { result.low ≡ amount % 256 }
         ensures high { result.high ≡ amount / 256 }
@@ -23,7 +23,7 @@ impl Range {
         }
     }
 
-    /// The amount that holds these ends.
+    /// The amount with these ends.
     pub fn to_amount(self) -> u16
         ensures amount { result ≡ self.low + 256 * self.high }
         ensures low { result % 256 ≡ self.low }
@@ -32,14 +32,14 @@ impl Range {
         self.low as u16 + 256 * self.high as u16
     }
 
-    /// Whether the ends are in order, and none is over 127.
+    /// Whether the ends are in order and at most 127.
     pub fn is_valid(self) -> bool
         ensures { IsTrue result ↔ AreEnds self.low self.high }
     {
         self.low <= self.high && self.high <= 127
     }
 
-    /// Whether a key or a velocity lies in it.
+    /// Whether a key or a velocity is in the range.
     pub fn contains(self, value: u8) -> bool
         ensures { IsTrue result ↔ ((self.low ≤ value) × (value ≤ self.high)) }
     {

@@ -1,5 +1,4 @@
-//! Which operators a level allows, which ones take ranges, and what the played ones are where they
-//! are not set.
+//! The operators that a level allows, those whose amounts are ranges, and the defaults of the played ones.
 ghost use Rattle.std.specs.Prelude.{◌≡◌};
 ghost use Rattle.generators.specs.Levels.{is_allowed};
 ghost use Rattle.generators.specs.Ranges.{is_range_operator};
@@ -8,8 +7,8 @@ ghost use Rattle.generators.specs.Defaults.{default_of};
 use crate::level::Level;
 use crate::operators::*;
 
-/// Whether the level's zones, global zones included, may set this operator. The operators of targets
-/// are no settings of a zone, and are allowed in neither.
+/// Whether zones of the level, including global zones, may set this operator. The target operators are not allowed at
+/// either level.
 #[tactic(auto, unfolding(crate::specs::Levels::is_allowed))]
 pub fn allowed(operator: u16, level: Level) -> bool
     ensures { result ≡ is_allowed level operator }
@@ -45,8 +44,8 @@ pub fn is_range_operator(operator: u16) -> bool
     matches!(operator, KEY_RANGE | VEL_RANGE)
 }
 
-/// What a played operator is where no zone sets it, as a signed number in the operator's unit. None
-/// for an operator that is not played.
+/// The default amount of a played operator, signed and in the operator's unit. `None` for an operator that is not
+/// played.
 #[tactic(auto, unfolding(crate::specs::Defaults::default_of))]
 pub fn default_of(operator: u16) -> Option<i16>
     ensures { result ≡ default_of operator }

@@ -1,4 +1,4 @@
--- What a record is made of, field after field: the laws of one field, and of two as of one.
+-- The fields of a record: the laws of one field, and of two fields in a row.
 use Rattle.std.proofs.Common.{inl, inr, ◌≡◌, ◌≤◌, ◌<◌, ◌+◌, ◌^◌, ℕ, ℤ, List, [], ◌++◌, length, take, drop, get_or}
 use Rattle.std.proofs.Common.{ap, sym, ◌∙◌, arith, FitsSigned}
 use Rattle.std.specs.Int.{Width, cast_signed, cast_unsigned}
@@ -13,7 +13,7 @@ use Rattle.sf_base.specs.Fields.{field_at}
 use Rattle.hydra_records.specs.Records.{AreBytes, IsLawful}
 use Rattle.hydra_records.proofs.RecordLaws.{is_lawful}
 
--- what a field holds, its bytes, and when they are one another's
+-- The values of a field, its bytes, and the laws between them.
 pub record Field : Type 1 where
   pub Value : Type 0
   pub size : ℕ
@@ -26,12 +26,12 @@ pub record Field : Type 1 where
 
 -- ---- one field
 
--- each byte, and 0 past the end
+-- Each byte, and 0 past the end.
 byte_lt : (bytes : List ℕ) → AreBytes bytes → (k : ℕ) → get_or bytes k 0 < 256
 byte_lt bytes b k =
     elim (cases_lt k (length bytes)) [ inl lt ↦ b k 0 lt | inr le ↦ rw (get_or_past bytes k 0 le) (omega arith) ]
 
--- a number of n bytes
+-- A number of n bytes.
 pub field_at-lt : (at n : ℕ) (bytes : List ℕ) → AreBytes bytes → field_at at n bytes < 256 ^ n
 field_at-lt at n bytes b =
     little_from-lt 0 n (drop at bytes) (λ k. rw (get_or-drop at bytes k 0) (byte_lt bytes b (at + k)))
@@ -48,7 +48,7 @@ number n = record {
   read_fits = λ at b bytes h. field_at-lt at n b bytes;
 }
 
--- a signed number of n bytes
+-- A signed number of n bytes.
 abbrev pub signed : (n : ℕ) (w : Width) → ((z : ℤ) → FitsSigned w z → cast_unsigned w z < 256 ^ n) → Field
 signed n w small = record {
   Value = ℤ;
@@ -63,7 +63,7 @@ signed n w small = record {
   read_fits = λ at b bytes h. read_sfits w (field_at at n b);
 }
 
--- the twenty bytes of a name
+-- The 20 bytes of a name.
 abbrev pub name : Field
 name = record {
   Value = List ℕ;
@@ -76,7 +76,7 @@ name = record {
   read_fits = λ at b bytes h. omega (arith, h, length-take 20 (drop at b), length-drop at b);
 }
 
--- ---- a field, and then others
+-- ---- a field followed by others
 
 infixr 30 ◌&◌
 abbrev pub ◌&◌ : Field → Field → Field
@@ -102,7 +102,7 @@ f & g = record {
   read_fits = λ at b bytes h. (f.read_fits at b bytes (omega arith), g.read_fits (at + f.size) b bytes (omega arith));
 }
 
--- ---- a record that is made of fields
+-- ---- a record of fields
 
 pub lawful : {R : Type 0} (f : Field) (fits : R → Type 0) → 0 < f.size
     → (of_value : f.Value → R) (value_of : R → f.Value) → ((v : f.Value) → f.Fits v → fits (of_value v))

@@ -1,4 +1,4 @@
--- Of each kind of record: its bytes have its size and read as it, and a record that bytes hold fits.
+-- For each record type: its bytes have its size and read as it, and a record read from bytes fits.
 use Rattle.std.proofs.Common.{lit<, refl}
 use Rattle.std.specs.Int.{w8, w16}
 use Rattle.std.proofs.Math.Facts.{Fits-of_z}
@@ -10,15 +10,14 @@ use Rattle.hydra_records.specs.Spelling.{modulator_bytes, generator_of, generato
 use Rattle.hydra_records.specs.Spelling.{instrument_head_bytes, sample_head_of, sample_head_bytes}
 use Rattle.hydra_records.proofs.Fields.{Field, name, number, signed, ◌&◌, lawful}
 
--- unsigned numbers of two and four bytes
+-- Unsigned numbers of two and four bytes.
 abbrev word : Field
 word = number 2
 
 abbrev dword : Field
 dword = number 4
 
--- For each kind: its fields, the record of their values and the values of a record; and what fits of the one fits of
--- the other.
+-- For each record type: its fields, the conversions between records and their values, and that both fit together.
 
 pub bag_lawful : IsLawful 4 bag_of bag_bytes FitsBag
 unfolding bag_of bag_bytes
@@ -139,6 +138,6 @@ sample_head_lawful =
     ))
     (λ r. refl)
 
--- all six
+-- All six.
 pub ruleset kinds_lawful =
     (preset_head_lawful, bag_lawful, modulator_lawful, generator_lawful, instrument_head_lawful, sample_head_lawful)

@@ -1,4 +1,4 @@
--- Records one after the other, for any kind of record.
+-- Consecutive records of any type.
 use Rattle.std.proofs.Common.{◌≡◌, ◌≤◌, ◌<◌, ◌*◌, ◌/◌, ℕ, zero, suc, List, [], ◌∷◌, length, take, drop, refl, sym}
 use Rattle.std.proofs.Common.{ap, ◌∙◌, arith}
 use Rattle.std.specs.List.{AllByRecursion, flat_map}
@@ -8,7 +8,7 @@ use Rattle.std.proofs.Math.Nat.{mul-div_cancel_left, suc-mul, zero-mul, mul_comm
 use Rattle.hydra_records.specs.Records.{first_records, AreBytes, HasSize, ReadsBack, ReadFits, RecordsHaveSize}
 use Rattle.hydra_records.specs.Records.{RecordsReadBack, RecordsReadFit, IsLawful}
 
--- what spells them
+-- Their bytes.
 module _ {R : Type 0} (size : ℕ) (of_bytes : List ℕ → R) (bytes_of : R → List ℕ) (fits : R → Type 0)
     (sized : HasSize size bytes_of fits) where
   pub length-records_bytes : RecordsHaveSize size bytes_of fits
@@ -36,7 +36,7 @@ module _ {R : Type 0} (size : ℕ) (of_bytes : List ℕ → R) (bytes_of : R →
       ∙ mul-div_cancel_left (length rs) {n = size} some in
       ap (λ (k : ℕ). first_records size of_bytes k (flat_map bytes_of rs)) n ∙ first_records-bytes back rs f
 
--- what bytes hold
+-- The records in bytes.
 module _ {R : Type 0} (size : ℕ) (of_bytes : List ℕ → R) (fits : R → Type 0) (read : ReadFits size of_bytes fits) where
   first_records-fit : (n : ℕ) (bytes : List ℕ) → AreBytes bytes → n * size ≤ length bytes
       → AllByRecursion fits (first_records size of_bytes n bytes)
@@ -52,7 +52,7 @@ module _ {R : Type 0} (size : ℕ) (of_bytes : List ℕ → R) (fits : R → Typ
   pub records-fit : RecordsReadFit size of_bytes fits
   records-fit bytes b = first_records-fit (length bytes / size) bytes b (div-mul-le_self (length bytes) size)
 
--- all of a kind's laws
+-- All laws of a record type.
 pub is_lawful : {R : Type 0} (size : ℕ) (of_bytes : List ℕ → R) (bytes_of : R → List ℕ) (fits : R → Type 0)
     → 0 < size → HasSize size bytes_of fits → ReadsBack of_bytes bytes_of fits → ReadFits size of_bytes fits
     → IsLawful size of_bytes bytes_of fits

@@ -1,4 +1,4 @@
--- The records of a table by their places.
+-- The records of a table by index.
 use Rattle.std.proofs.Common.{◌≡◌, ◌≤◌, ◌<◌, ◌+◌, ◌-◌, ◌*◌, ◌/◌, ℕ, zero, suc, List, [], ◌∷◌, length, take, drop}
 use Rattle.std.proofs.Common.{Some, inl, inr, refl, ap, sym, ◌∙◌, arith}
 use Rattle.std.specs.Prelude.{slice_get, min}
@@ -29,13 +29,13 @@ slice_get-first_records size of_bytes (suc n) bytes (suc i) h =
     ∙ ap (λ (bs : List ℕ). Some (of_bytes (take size bs)))
     (drop-drop (i * size) size bytes ∙ ap (λ (n : ℕ). drop n bytes) (omega (arith, next)))
 
--- record i of a table
+-- Record i of a table.
 pub slice_get-records : {R : Type 0} (size : ℕ) (of_bytes : List ℕ → R) (bytes : List ℕ) (i : ℕ)
     → i < length bytes / size
     → slice_get (records size of_bytes bytes) i ≡ Some (of_bytes (take size (drop (i * size) bytes)))
 slice_get-records size of_bytes bytes i h = slice_get-first_records size of_bytes (length bytes / size) bytes i h
 
--- it lies in the bytes
+-- It is within the bytes.
 pub record_within : (bytes : List ℕ) (size i : ℕ) → i < length bytes / size → i * size + size ≤ length bytes
 record_within bytes size i h =
     let up_to : suc i * size ≤ length bytes / size * size = mul-le-mul_right size h in
@@ -48,7 +48,7 @@ length-record bytes size i h =
     let within = record_within bytes size i h in
     omega (arith, within, length-take size (drop (i * size) bytes), length-drop (i * size) bytes)
 
--- ---- one after the other
+-- ---- one after another
 
 pub records-short : {R : Type 0} (size : ℕ) (of_bytes : List ℕ → R) (bytes : List ℕ) → length bytes < size
     → records size of_bytes bytes ≡ []
@@ -63,7 +63,7 @@ records-next size of_bytes bytes some h =
     omega (arith, others, div-eq-sub-div some h) in
     ap (λ (n : ℕ). first_records size of_bytes n bytes) count
 
--- ---- a part
+-- ---- a range
 
 take-first_records : {R : Type 0} (size : ℕ) (of_bytes : List ℕ → R) (k n : ℕ) (bytes : List ℕ) → k ≤ n
     → take k (first_records size of_bytes n bytes) ≡ first_records size of_bytes k bytes
@@ -97,7 +97,7 @@ first_records-front size of_bytes (suc k) bytes =
     rw (first, others)
     (ap (λ rs. of_bytes (take size bytes) ∷ rs) (first_records-front size of_bytes k (drop size bytes)))
 
--- how many bytes they have
+-- The number of bytes of a range.
 pub length-part : (bytes : List ℕ) (size start end : ℕ) → start ≤ end → end ≤ length bytes / size
     → length (take ((end - start) * size) (drop (start * size) bytes)) ≡ (end - start) * size
 length-part bytes size start end rising within =
@@ -114,7 +114,7 @@ length-part bytes size start end rising within =
       length-drop (start * size) bytes,
     )
 
--- the records from start up to end, by their bytes
+-- The records from start up to end, from their bytes.
 pub records-part : {R : Type 0} (size : ℕ) (of_bytes : List ℕ → R) (bytes : List ℕ) (start end : ℕ) → 0 < size
     → start ≤ end → end ≤ length bytes / size
     → records size of_bytes (take ((end - start) * size) (drop (start * size) bytes))
@@ -129,7 +129,7 @@ records-part size of_bytes bytes start end some rising within =
     (omega arith))
     ∙ ap (take (end - start)) (sym (drop-first_records size of_bytes start (length bytes / size) bytes (omega arith)))
 
--- a range may pass the end
+-- A range may pass the end.
 pub range_within : {X : Type 0} (xs : List X) (from to start end : ℕ) → end ≡ min to (length xs) → start ≡ min from end
     → slice_range xs from to ≡ take (end - start) (drop start xs)
 range_within xs from to start end e s = elim (cases_lt (length xs) to) [
@@ -160,7 +160,7 @@ range_within xs from to start end e s = elim (cases_lt (length xs) to) [
           rw (none, first, here, nothing) (take-nil (to - from)))
     ]
 
--- a range that is cut so lies in the records, and its bytes can be counted
+-- A clamped range is within the records, and its byte count does not overflow.
 pub record Within (bytes : List ℕ) (size start end : ℕ) : Type 0 where
   pub rising : start ≤ end
   pub inside : end ≤ length bytes / size

@@ -1,5 +1,5 @@
--- Each number of a record is in the range of its field, and a name has its twenty bytes. A modulator's
--- is `FitsModulator` of its crate.
+-- Each number of a record is in the range of its field, and a name has its 20 bytes. For modulators this is
+-- `FitsModulator` of `modulators`.
 use Rattle.std.specs.Prelude.{◌≡◌, ◌<◌, ◌^◌, length, FitsSigned}
 use Rattle.std.specs.Int.{w8}
 use Rattle.hydra_records.specs.declared.head.InstrumentHead.{InstrumentHead}
@@ -8,7 +8,7 @@ use Rattle.hydra_records.specs.declared.head.SampleHead.{SampleHead}
 use Rattle.hydra_records.specs.declared.zone.Bag.{Bag}
 use Rattle.hydra_records.specs.declared.zone.Generator.{Generator}
 
--- a record of phdr
+-- A record of phdr.
 pub record FitsPresetHead (h : PresetHead) : Type 0 where
   pub name : length h.name ≡ 20
   pub number : h.number < 2 ^ 16
@@ -18,22 +18,22 @@ pub record FitsPresetHead (h : PresetHead) : Type 0 where
   pub genre : h.genre < 2 ^ 32
   pub morphology : h.morphology < 2 ^ 32
 
--- a record of pbag or ibag
+-- A record of pbag or ibag.
 pub record FitsBag (b : Bag) : Type 0 where
   pub gens : b.gens < 2 ^ 16
   pub mods : b.mods < 2 ^ 16
 
--- a record of pgen or igen
+-- A record of pgen or igen.
 pub record FitsGenerator (g : Generator) : Type 0 where
   pub operator : g.operator < 2 ^ 16
   pub amount : g.amount < 2 ^ 16
 
--- a record of inst
+-- A record of inst.
 pub record FitsInstrumentHead (h : InstrumentHead) : Type 0 where
   pub name : length h.name ≡ 20
   pub bag : h.bag < 2 ^ 16
 
--- a record of shdr
+-- A record of shdr.
 pub record FitsSampleHead (h : SampleHead) : Type 0 where
   pub name : length h.name ≡ 20
   pub start : h.start < 2 ^ 32

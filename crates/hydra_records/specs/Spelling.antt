@@ -1,5 +1,4 @@
--- The bytes of each kind of record, and the record of bytes: field after field, the low byte of a
--- number first.
+-- The bytes of each record type and the record of bytes: field after field, numbers little-endian.
 use Rattle.std.specs.Prelude.{ℕ, List, [], ◌∷◌, take}
 use Rattle.std.specs.List.{concat}
 use Rattle.std.specs.Int.{w8, w16, cast_signed, cast_unsigned}
@@ -14,7 +13,7 @@ use Rattle.hydra_records.specs.declared.zone.Generator.{Generator}
 
 -- ---- a preset, in phdr
 
--- what bytes hold
+-- The record in the bytes.
 unfoldable pub preset_head_of : List ℕ → PresetHead
 preset_head_of b = record {
   name = take 20 b;
@@ -26,7 +25,7 @@ preset_head_of b = record {
   morphology = field_at 34 4 b;
 }
 
--- what spells it
+-- The bytes of the record.
 unfoldable pub preset_head_bytes : PresetHead → List ℕ
 preset_head_bytes h = concat (
     h.name ∷
@@ -40,17 +39,17 @@ preset_head_bytes h = concat (
 
 -- ---- a zone, in pbag and ibag
 
--- what bytes hold
+-- The record in the bytes.
 unfoldable pub bag_of : List ℕ → Bag
 bag_of b = record { gens = field_at 0 2 b; mods = field_at 2 2 b }
 
--- what spells it
+-- The bytes of the record.
 unfoldable pub bag_bytes : Bag → List ℕ
 bag_bytes r = concat (little_bytes 2 r.gens ∷ little_bytes 2 r.mods ∷ [])
 
 -- ---- a modulator, in pmod and imod
 
--- what bytes hold
+-- The record in the bytes.
 unfoldable pub modulator_of : List ℕ → Modulator
 modulator_of b = record {
   source = field_at 0 2 b;
@@ -60,7 +59,7 @@ modulator_of b = record {
   transform = field_at 8 2 b;
 }
 
--- what spells it
+-- The bytes of the record.
 unfoldable pub modulator_bytes : Modulator → List ℕ
 modulator_bytes m = concat (
     little_bytes 2 m.source ∷
@@ -72,27 +71,27 @@ modulator_bytes m = concat (
 
 -- ---- a generator, in pgen and igen
 
--- what bytes hold
+-- The record in the bytes.
 unfoldable pub generator_of : List ℕ → Generator
 generator_of b = record { operator = field_at 0 2 b; amount = field_at 2 2 b }
 
--- what spells it
+-- The bytes of the record.
 unfoldable pub generator_bytes : Generator → List ℕ
 generator_bytes g = concat (little_bytes 2 g.operator ∷ little_bytes 2 g.amount ∷ [])
 
 -- ---- an instrument, in inst
 
--- what bytes hold
+-- The record in the bytes.
 unfoldable pub instrument_head_of : List ℕ → InstrumentHead
 instrument_head_of b = record { name = take 20 b; bag = field_at 20 2 b }
 
--- what spells it
+-- The bytes of the record.
 unfoldable pub instrument_head_bytes : InstrumentHead → List ℕ
 instrument_head_bytes h = concat (h.name ∷ little_bytes 2 h.bag ∷ [])
 
 -- ---- a sample, in shdr
 
--- what bytes hold
+-- The record in the bytes.
 unfoldable pub sample_head_of : List ℕ → SampleHead
 sample_head_of b = record {
   name = take 20 b;
@@ -107,7 +106,7 @@ sample_head_of b = record {
   kind = field_at 44 2 b;
 }
 
--- what spells it
+-- The bytes of the record.
 unfoldable pub sample_head_bytes : SampleHead → List ℕ
 sample_head_bytes h = concat (
     h.name ∷

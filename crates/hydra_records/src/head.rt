@@ -1,4 +1,4 @@
-//! The heads of presets, instruments and samples.
+//! The header records of presets, instruments and samples.
 ghost use Rattle.std.specs.Prelude.{◌≡◌, ◌+◌, ◌≤◌, length, take};
 ghost use Rattle.sf_base.specs.Fields.{field_at};
 ghost use Rattle.hydra_records.specs.Spelling.{instrument_head_bytes, instrument_head_of, preset_head_bytes, preset_head_of, sample_head_bytes, sample_head_of};
@@ -11,7 +11,7 @@ use sf_base::{u16_at, u32_at};
 /// A preset: a record of `phdr` (SoundFont 2.04, section 7.2, `sfPresetHeader`).
 #[derive(Clone, Copy, Debug, PartialEq, Eq)]
 pub struct PresetHead {
-    /// Its name and then zeros, `achPresetName`.
+    /// Its name padded with zero bytes, `achPresetName`.
     pub name: [u8; 20],
 
     /// Its MIDI program number, `wPreset`.
@@ -20,7 +20,7 @@ pub struct PresetHead {
     /// Its MIDI bank number, `wBank`.
     pub bank: u16,
 
-    /// Its first bag in `pbag`, `wPresetBagNdx`.
+    /// The index of its first bag in `pbag`, `wPresetBagNdx`.
     pub bag: u16,
 
     /// `dwLibrary`.
@@ -36,41 +36,41 @@ pub struct PresetHead {
 /// An instrument: a record of `inst` (SoundFont 2.04, section 7.6, `sfInst`).
 #[derive(Clone, Copy, Debug, PartialEq, Eq)]
 pub struct InstrumentHead {
-    /// Its name and then zeros, `achInstName`.
+    /// Its name padded with zero bytes, `achInstName`.
     pub name: [u8; 20],
 
-    /// Its first bag in `ibag`, `wInstBagNdx`.
+    /// The index of its first bag in `ibag`, `wInstBagNdx`.
     pub bag: u16,
 }
 
 /// A sample: a record of `shdr` (SoundFont 2.04, section 7.10, `sfSample`).
 #[derive(Clone, Copy, Debug, PartialEq, Eq)]
 pub struct SampleHead {
-    /// Its name and then zeros, `achSampleName`.
+    /// Its name padded with zero bytes, `achSampleName`.
     pub name: [u8; 20],
 
-    /// Its first point in `smpl`, `dwStart`.
+    /// The index of its first point in `smpl`, `dwStart`.
     pub start: u32,
 
-    /// The first point after it, `dwEnd`.
+    /// The index of the first point after it, `dwEnd`.
     pub end: u32,
 
-    /// The first point of its loop, `dwStartloop`.
+    /// The index of the first point of its loop, `dwStartloop`.
     pub loop_start: u32,
 
-    /// The first point after its loop, `dwEndloop`.
+    /// The index of the first point after its loop, `dwEndloop`.
     pub loop_end: u32,
 
-    /// Points a second, `dwSampleRate`.
+    /// Points per second, `dwSampleRate`.
     pub rate: u32,
 
-    /// The MIDI key that it was recorded at, `byOriginalPitch`.
+    /// The MIDI key of its recorded pitch, `byOriginalPitch`.
     pub key: u8,
 
     /// Cents to be added to its pitch, `chPitchCorrection`.
     pub correction: i8,
 
-    /// The sample that it goes with, `wSampleLink`.
+    /// The number of the linked sample, `wSampleLink`.
     pub link: u16,
 
     /// `sfSampleType`: 1 for mono, 2 for right, 4 for left and 8 for linked.
@@ -193,7 +193,7 @@ impl Spelled<46> for SampleHead {
     }
 }
 
-// The name field that each head begins with.
+// The name field at the start of each header record.
 fn name_of(bytes: &[u8]) -> [u8; 20]
     requires { 20 ≤ length bytes.now }
     ensures { result ≡ take 20 bytes.now }
@@ -203,7 +203,7 @@ fn name_of(bytes: &[u8]) -> [u8; 20]
     name
 }
 
-// The number of 8 bits at place `at`.
+// Reads the 8-bit unsigned number at offset `at`.
 fn u8_at(bytes: &[u8], at: usize) -> u8
     requires { at + 1 ≤ length bytes.now }
     ensures { result ≡ field_at at 1 bytes.now }

@@ -1,5 +1,5 @@
-//! The fixed records of the nine lists that a SoundFont bank's `pdta` list holds, and tables of
-//! them that are lent from the file's bytes (SoundFont 2.04, section 7).
+//! The fixed-size records of the nine lists in `pdta` of a SoundFont bank, and tables of them borrowed from the file's
+//! bytes (SoundFont 2.04, section 7).
 #![tactic(auto)]
 
 mod head;

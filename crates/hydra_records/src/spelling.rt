@@ -1,10 +1,10 @@
-//! The bytes of a record, field by field.
+//! Encodes a record, field by field.
 ghost use Rattle.std.specs.Prelude.{◌≡◌, ◌+◌, ◌≤◌, ◌++◌, ℕ, List, [], length};
 ghost use Rattle.byteorder.specs.Endian.{little_bytes};
 
 use std::marker::Model;
 
-// The fields of a record that are spelled so far, seen as their bytes.
+// The fields of a record encoded so far. Its value is the list of their bytes.
 #[derive(Drop)]
 pub(crate) struct Spelling<const N: usize> {
     bytes: [u8; N],
@@ -22,7 +22,7 @@ impl<const N: usize> Model for Spelling<N> {
 }
 
 impl<const N: usize> Spelling<N> {
-    // No field.
+    // Starts with no fields.
     pub(crate) fn new() -> Spelling<N>
         ensures { result ≡ [] }
     {
@@ -32,7 +32,7 @@ impl<const N: usize> Spelling<N> {
         }
     }
 
-    // The fields, and then these bytes.
+    // Appends bytes.
     pub(crate) fn with_bytes(mut self, bytes: &[u8]) -> Spelling<N>
         requires { length self + length bytes.now ≤ N }
         ensures value { result ≡ self.entry ++ bytes.now }
@@ -44,7 +44,7 @@ impl<const N: usize> Spelling<N> {
         self
     }
 
-    // The fields, and then a number, its low byte first.
+    // Appends a number, little-endian.
     pub(crate) fn with_u8(self, byte: u8) -> Spelling<N>
         requires { length self + 1 ≤ N }
         ensures value { result ≡ self.entry ++ little_bytes 1 byte }
@@ -69,7 +69,7 @@ impl<const N: usize> Spelling<N> {
         self.with_bytes(&dword.to_le_bytes())
     }
 
-    // All bytes of the record.
+    // The bytes of the complete record.
     pub(crate) fn whole(self) -> [u8; N]
         requires { length self ≡ N }
         ensures { result ≡ self.entry }

@@ -1,4 +1,4 @@
-//! Records one after the other.
+//! Tables of consecutive records.
 ghost use Rattle.std.specs.Prelude.{◌≡◌, ◌≢◌, ◌↔◌, ◌<◌, ◌%◌, ℕ, List, [], length, slice_get, IsTrue, MatchOption};
 ghost use Rattle.std.specs.List.{slice_range};
 ghost use Rattle.std.specs.Iterator.{YieldsFirst, item_count};
@@ -7,18 +7,18 @@ ghost use Rattle.hydra_records.specs.Records.{records};
 use sf_base::{front_of, part_of, rest_from};
 use std::marker::{Model, PhantomData};
 
-/// A kind of record, of a fixed number of bytes.
+/// A record type with a fixed number of bytes.
 pub trait Record: Sized {
-    /// How many bytes it has.
+    /// The number of bytes.
     ghost SIZE: { ℕ };
 
-    /// The record that bytes hold.
+    /// The record in the bytes.
     ghost of_bytes: { List ℕ → Self };
 
-    /// How many bytes it has.
+    /// The number of bytes.
     const SIZE: usize;
 
-    /// The record that `SIZE` bytes hold.
+    /// Reads the record from `SIZE` bytes.
     fn read(bytes: &[u8]) -> Self
         requires { length bytes.now ≡ SIZE }
         ensures { result ≡ of_bytes bytes.now };
@@ -26,18 +26,17 @@ pub trait Record: Sized {
     ghost some_bytes: { 0 < SIZE };
 }
 
-/// A record that is spelled in an array of `N` bytes.
+/// A record that can be encoded in `N` bytes.
 pub trait Spelled<const N: usize> {
-    /// The bytes that spell it.
+    /// The bytes of the record.
     ghost bytes_of: { Self → List ℕ };
 
-    /// The bytes that spell it.
+    /// Returns the bytes of the record.
     fn put(&self) -> [u8; N]
         ensures { result ≡ bytes_of self.now };
 }
 
-/// Records one after the other, lent from the file's bytes and seen as their list. Nothing is
-/// copied, and each call takes constant time.
+/// A list of consecutive records, borrowed from the file's bytes. Nothing is copied, and each call takes constant time.
 #[derive(Drop)]
 pub struct Table<'a, R: Record> {
     bytes: &'a [u8],
@@ -56,7 +55,7 @@ impl<'a, R: Record> Model for Table<'a, R> {
 }
 
 impl<'a, R: Record> Table<'a, R> {
-    /// The table in the bytes; none exactly where they aren't whole records.
+    /// The table in the bytes, or `None` if they aren't whole records.
     pub fn over(bytes: &'a [u8]) -> Option<Table<'a, R>>
         ensures { MatchOption result (length bytes.now % R.SIZE ≢ 0)
             (λ table. (length bytes.now % R.SIZE ≡ 0) × (table ≡ records R.SIZE R.of_bytes bytes.now)) }
@@ -70,21 +69,21 @@ impl<'a, R: Record> Table<'a, R> {
         })
     }
 
-    /// How many records there are.
+    /// The number of records.
     pub fn len(&self) -> usize
         ensures { result ≡ length self.now }
     {
         self.bytes.len() / R::SIZE
     }
 
-    /// Whether there is none.
+    /// Whether there are no records.
     pub fn is_empty(&self) -> bool
         ensures { IsTrue result ↔ (self.now ≡ []) }
     {
         self.len() == 0
     }
 
-    /// Record `i`, or none past the end.
+    /// Record `i`, or `None` past the end.
     pub fn get(&self, i: usize) -> Option<R>
         ensures { result ≡ slice_get self.now i }
     {
@@ -95,7 +94,7 @@ impl<'a, R: Record> Table<'a, R> {
         }
     }
 
-    /// The records from `from` up to `to`, of those that there are.
+    /// The records from index `from` up to, but not including, `to`, clamped to the table.
     pub fn part(&self, from: usize, to: usize) -> Table<'a, R>
         ensures { result ≡ slice_range self.now from to }
     {
@@ -107,7 +106,7 @@ impl<'a, R: Record> Table<'a, R> {
         }
     }
 
-    /// Its records in their order.
+    /// An iterator over the records in order.
     pub fn iter(&self) -> Records<'a, R>
         ensures { result ≡ self.now }
     {
@@ -118,7 +117,7 @@ impl<'a, R: Record> Table<'a, R> {
     }
 }
 
-/// The records of a table in their order, seen as the list of those that are left.
+/// An iterator over the records of a table. Its value is the list of the remaining records.
 #[derive(Drop)]
 pub struct Records<'a, R: Record> {
     rest: &'a [u8],

@@ -1,4 +1,4 @@
-//! What zones are made of: bags, generators and modulators.
+//! The records of zones: bags, generators and modulators.
 ghost use Rattle.std.specs.Prelude.{◌≡◌};
 ghost use Rattle.hydra_records.specs.Spelling.{bag_bytes, bag_of, generator_bytes, generator_of, modulator_bytes, modulator_of};
 ghost use Rattle.std.proofs.Common.{lit<};
@@ -8,14 +8,14 @@ use crate::table::{Record, Spelled};
 use modulators::Modulator;
 use sf_base::{i16_at, u16_at};
 
-/// Where the generators and the modulators of a zone begin: a record of `pbag` (SoundFont 2.04,
-/// section 7.3, `sfPresetBag`) or of `ibag` (section 7.7, `sfInstBag`).
+/// Where the generators and the modulators of a zone begin: a record of `pbag` (SoundFont 2.04, section 7.3,
+/// `sfPresetBag`) or of `ibag` (section 7.7, `sfInstBag`).
 #[derive(Clone, Copy, Debug, PartialEq, Eq)]
 pub struct Bag {
-    /// The first of its generators, `wGenNdx` or `wInstGenNdx`.
+    /// The index of its first generator, `wGenNdx` or `wInstGenNdx`.
     pub gens: u16,
 
-    /// The first of its modulators, `wModNdx` or `wInstModNdx`.
+    /// The index of its first modulator, `wModNdx` or `wInstModNdx`.
     pub mods: u16,
 }
 
@@ -56,8 +56,8 @@ pub struct Generator {
     /// The generator's number, `sfGenOper`.
     pub operator: u16,
 
-    /// The 16 bits of its amount, `genAmount`: a signed number in the generator's unit, or a range
-    /// with its low end in the low byte and its high end in the high byte.
+    /// The 16 bits of its amount, `genAmount`: a signed number in the generator's unit, or a range with its low end in
+    /// the low byte and its high end in the high byte.
     pub amount: u16,
 }
 

@@ -1,4 +1,4 @@
--- Parts of lists, and changes of them.
+-- Ranges of lists, and changes of them.
 use Rattle.std.proofs.Common.{◌≡◌, ℕ, ◌<◌, ◌≤◌, ◌-◌, ◌+◌, ◌⊎◌, inl, inr, suc, zero, List, [], ◌∷◌, ◌++◌, length, map}
 use Rattle.std.proofs.Common.{take, drop, insert, remove, slice_get, Some, refl, sym, subst, ◌∙◌, ap, arith}
 use Rattle.std.proofs.lemmas.List.{append-nil, drop-drop, drop-take, drop_all, length-drop, length-take-le}
@@ -13,7 +13,7 @@ use borrow.Rule.Slice.PartMut.{mid_of, post_of, put_mid, same_len_mid}
 use Rattle.std.specs.Prelude.{IfSome}
 use Rattle.numbered_lists.specs.Moved.{changed_within}
 
--- a change behind the first n
+-- A change after the first n members.
 pub drop-insert : {X : Type 0} (n : ℕ) (xs : List X) (i k : ℕ) (x : X) → k ≡ n + i → n ≤ length xs
     → drop n (insert xs k x) ≡ insert (drop n xs) i x
 drop-insert zero xs i k x e h = let same : k ≡ i = omega arith in ap (λ m. insert xs m x) same
@@ -35,12 +35,12 @@ slice_get-drop (suc n) [] i k e h = absurd (omega arith)
 slice_get-drop (suc n) (y ∷ ys) i zero e h = absurd (omega arith)
 slice_get-drop (suc n) (y ∷ ys) i (suc k) e h = slice_get-drop n ys i k (omega arith) (omega arith)
 
--- a part as a slice has it
+-- A range, as a slice has it.
 pub part_is : {X : Type 0} (xs : List X) (a b : ℕ) → a ≤ b → take (b - a) (drop a xs) ≡ drop a (take b xs)
 part_is xs a b h =
     let size : a + (b - a) ≡ b = omega arith in sym (drop-take a (b - a) xs) ∙ ap (λ n. drop a (take n xs)) size
 
--- what lies behind the first n, where it was changed as a whole
+-- The members after the first n, changed as a whole.
 pub behind : {X : Type 0} (n m : ℕ) (xs ys : List X) → n ≤ length xs
     → drop (n + m) (put_mid n (length xs - n) xs ys) ≡ drop m ys
 behind n m xs ys h =
@@ -51,7 +51,7 @@ behind n m xs ys h =
     ∙ (drop-append-add (take n xs) (ys ++ post_of n (length xs - n) xs) m
     ∙ ap (drop m) (ap (λ zs. ys ++ zs) rest ∙ append-nil ys))
 
--- the same of the elements of a Vec
+-- The same for the elements of a Vec.
 pub written_behind : {X : Type 0} (v : Vec X) (xs ys : List X) (n m : ℕ) → xs ≡ v.items → length xs ≡ vec_len v
     → n ≤ length v.items → length ys ≡ length (mid_of n (length xs - n) xs)
     → drop (n + m) (with_items v (put_mid n (length xs - n) xs ys)).items ≡ drop m ys
@@ -67,7 +67,7 @@ written_size v xs ys n size long =
     let same = same_len_mid n (length xs - n) xs ys long in
     ap length (with_items_is v (put_mid n (length xs - n) xs ys) (same ∙ size)) ∙ same
 
--- all of those behind the first n, as they were written
+-- All members after the first n, as they are written.
 pub all_written : {X : Type 0} (v : Vec X) (xs ys : List X) (n : ℕ) → xs ≡ v.items → length xs ≡ vec_len v
     → n ≤ length v.items → length ys ≡ length (mid_of n (length xs - n) xs)
     → drop n (with_items v (put_mid n (length xs - n) xs ys)).items ≡ ys
@@ -76,12 +76,12 @@ all_written v xs ys n is size h long =
     ap (λ k. drop k (with_items v (put_mid n (length xs - n) xs ys)).items) at
     ∙ written_behind v xs ys n 0 is size h long
 
--- what is lent of them to be written, where those behind the first n are zs
+-- A mutable borrow of members whose tail after the first n is zs.
 pub lent_behind : {X : Type 0} (n : ℕ) (xs items zs : List X) → xs ≡ items → drop n items ≡ zs
     → mid_of n (length xs - n) xs ≡ zs
 lent_behind n xs items zs is view = take_rest xs n ∙ (ap (drop n) is ∙ view)
 
--- one more is put in place of the last of the first b
+-- A member is put in the place of the last of the first b.
 pub put_behind : {X : Type 0} (v : Vec X) (xs later : List X) (b i : ℕ) (x : X) (whole : List X) → 0 < b
     → b ≤ length v.items
     → xs ≡ v.items → length xs ≡ vec_len v → drop b v.items ≡ whole
@@ -96,13 +96,13 @@ put_behind v xs later b i x whole some h is size view long put =
     ∙ (drop-drop 1 (b - 1) xs ∙ (ap (λ k. drop k xs) one ∙ (ap (drop b) is ∙ view))) in
     all_written v xs later (b - 1) is size within long ∙ (put ∙ ap (λ zs. insert zs i x) rest)
 
--- one more is put in among those behind the first b
+-- A member is inserted after the first b.
 pub inserted_behind : {X : Type 0} (xs items : List X) (b i : ℕ) (x : X) (whole : List X) → b ≤ length xs
     → drop b xs ≡ whole → items ≡ insert xs (b + i) x → drop b items ≡ insert whole i x
 inserted_behind xs items b i x whole h view put =
     ap (drop b) put ∙ (drop-insert b xs i (b + i) x refl h ∙ ap (λ zs. insert zs i x) view)
 
--- what stands there
+-- The member at an index after the first n.
 pub found_behind : {X : Type 0} (n : ℕ) (xs zs : List X) (i : ℕ) (x : X) → drop n xs ≡ zs → n ≤ length xs
     → i < length zs → x ≡ get_or xs (n + i) x → slice_get zs i ≡ Some x
 found_behind n xs zs i x view h l e =
@@ -110,7 +110,7 @@ found_behind n xs zs i x view h l e =
     ap (λ ys. slice_get ys i) (sym view)
     ∙ (slice_get-drop n xs i (n + i) refl h ∙ slice_get_read xs (length xs) (n + i) x refl (omega arith) e)
 
--- where the members outside of a part stay as they are, a change of the part changes all
+-- If f keeps the members outside a range, changing the range changes all.
 pub all_changed : {X : Type 0} (f : X → X) (xs : List X) (a b : ℕ) → a ≤ b
     → ((i : ℕ) → (i < a) ⊎ (b ≤ i) → IfSome (slice_get xs i) (λ x. f x ≡ x))
     → changed_within a b f xs ≡ map f xs

@@ -28,17 +28,17 @@ if_some_map P f [] (suc i) h = tt
 if_some_map P f (x ∷ xs) zero h = h
 if_some_map P f (x ∷ xs) (suc i) h = if_some_map P f xs i h
 
--- the same, said of the span
+-- The same for a span.
 abbrev pub IsSpanOf : {X : Type 0} → (X → Bool) → Span → List X → Type 0
 IsSpanOf h span xs = IsSpan h xs span
 
--- ---- the members outside of a span
+-- ---- the members outside a span
 
 module _ {X : Type 0} (h : X → Bool) where
   abbrev Free : Option X → Type 0
   Free o = IfSome o (λ x. h x ≡ false)
 
-  -- renumbering leaves them as they are
+  -- Renumbering keeps them.
   pub linked_changed : (f : X → X) → ((x : X) → h x ≡ false → f x ≡ x) → (xs : List X) (span : Span)
       → IsSpan h xs span → changed_within span.start span.end f xs ≡ map f xs
   linked_changed f stays xs span s =
@@ -96,7 +96,7 @@ module _ {X : Type 0} (h : X → Bool) where
       ] in
       record { order = order; within = within; outside = free }
 
-  -- a move is a removal and then an insertion
+  -- A move is a removal and then an insertion.
   pub span_moved : (xs : List X) (from to : ℕ) (x : X) (span others r : Span) → IsSpan h xs span → from < length xs
       → to < length xs → slice_get xs from ≡ Some x
       → others.start ≤ others.end → others.end ≤ length (remove xs from)
@@ -142,7 +142,7 @@ module _ {X : Type 0} (h : X → Bool) where
             (λ e. elim o [ inl l ↦ omega arith | inr g ↦ omega arith ]);
       }
 
--- ---- whether any but one passes a test
+-- ---- whether any member but one passes a test
 
 none_pass : {X : Type 0} (p : X → Bool) (xs : List X) → ((i : ℕ) → IfSome (slice_get xs i) (λ x. p x ≡ false))
     → list_any p xs ≡ false
@@ -179,7 +179,7 @@ one_other p xs at i ne there passes =
     let (x, e) = slice_get-found xs i there in
     another_passes p xs at i x ne e (subst (λ o. IfSome o (λ x. p x ≡ true)) e passes)
 
--- none does between two places, nor outside of the span
+-- If no member of the span passes, except perhaps the one at an index, no other member of the list does.
 pub none_but : {X : Type 0} (h p : X → Bool) (xs : List X) (at : ℕ) (span : Span) → IsSpan h xs span
     → ((x : X) → h x ≡ false → p x ≡ false)
     → ((i : ℕ) → span.start ≤ i → i < span.end → i ≢ at → IfSome (slice_get xs i) (λ x. p x ≡ false))

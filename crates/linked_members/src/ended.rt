@@ -1,4 +1,4 @@
-//! A list with room at both ends.
+//! A list with spare capacity at both ends.
 ghost use Rattle.std.specs.Prelude.{◌≡◌, ◌<◌, ◌≤◌, ◌-◌, ◌++◌, ◌∷◌, [], length, insert, remove, drop, slice_get, slice_set, vec_len, vec_capacity, Some, IfErr, OnOk, OnErr, All};
 ghost use Rattle.std.specs.Borrow.{Lends, sem};
 ghost use Rattle.linked_members.specs.contracts.ended.EndedList.{the_row};
@@ -11,15 +11,15 @@ use sf_base::Blank;
 use std::alloc::{AllocError, AllocFailed, Global};
 use std::marker::Model;
 
-/// A list whose members go by their numbers, the first by 0. What is put in or taken out moves the members on its
-/// shorter side, a move those between the two places.
+/// A list whose members are numbered from 0. An insertion or removal moves the members on its shorter side, a move
+/// those between the two indexes.
 pub struct EndedList<T> {
-    // The members stand behind blanks, which are room for more of them.
+    // The members come after blanks, which are spare capacity at the start.
     places: Vec<T>,
     blanks: usize,
 }
 
-// Not derived, here and below: a derived drop is written out, and proved, wherever a value is dropped.
+// Not derived, here and below: a derived `drop` is inlined, and proved, wherever a value is dropped.
 impl<T: Drop> Drop for EndedList<T> {
     fn drop(self) {
         let EndedList {
@@ -40,28 +40,28 @@ impl<T> Model for EndedList<T> {
 }
 
 impl<T> EndedList<T> {
-    /// The elements of a `Vec` as members. Takes no memory.
+    /// Makes a list of the elements of a `Vec`. Allocates nothing.
     pub fn from_vec(places: Vec<T>) -> EndedList<T>
         ensures { result ≡ places.items }
     {
         EndedList { places, blanks: 0 }
     }
 
-    /// How many members there are.
+    /// The number of members.
     pub fn len(&self) -> usize
         ensures { result ≡ length self.now }
     {
         self.places.len() - self.blanks
     }
 
-    /// The members in their order.
+    /// The members in order.
     pub fn as_slice(&self) -> &[T]
         ensures { result.now ≡ self.now }
     {
         &self.places[self.blanks..]
     }
 
-    /// Member `i`, which is there.
+    /// Member `i`, which must exist.
     pub fn member(&self, i: usize) -> &T
         requires { i < length self.now }
         ensures { slice_get self.now i ≡ Some result.now }
@@ -69,7 +69,7 @@ impl<T> EndedList<T> {
         &self.as_slice()[i]
     }
 
-    /// Member `i`, which is there, to be changed in its place.
+    /// A mutable reference to member `i`, which must exist.
     pub fn member_mut(&mut self, i: usize) -> &mut T
         requires { i < length self.old }
         ensures* writes_back { sem 𝓛 (Lends (the_row T.row) T.row self.entry result (λ w. slice_set self.old i w)) }
@@ -78,7 +78,7 @@ impl<T> EndedList<T> {
         &mut self.places[self.blanks + i]
     }
 
-    /// Makes `x` member `i`, and gives back the member that it replaces. Takes no memory.
+    /// Replaces member `i` by `x`, and returns the old member. Allocates nothing.
     pub fn replace(&mut self, i: usize, x: T) -> T
         requires { i < length self.old }
         ensures value { slice_get self.old i ≡ Some result }
@@ -87,7 +87,7 @@ impl<T> EndedList<T> {
         std::mem::replace(self.member_mut(i), x)
     }
 
-    /// Puts `x` behind the last member. When out of memory, the list stays as it is, and `x` comes back.
+    /// Appends `x`. A failed allocation changes nothing and returns `x`.
     pub fn push(&mut self, x: T) -> Result<(), T>
         ensures ok { OnOk result (self.new ≡ self.old ++ x ∷ []) }
         ensures err { OnErr result (self.new ≡ self.old) }
@@ -96,7 +96,7 @@ impl<T> EndedList<T> {
         self.places.push(x).map_err(|AllocFailed { value }| value)
     }
 
-    /// Makes member `from` member `to`; the others keep their order. Takes no memory.
+    /// Moves member `from` to index `to`; the others keep their order. Allocates nothing.
     pub fn move_member(&mut self, from: usize, to: usize)
         requires from { from < length self.old }
         requires to { to < length self.old }
@@ -107,8 +107,8 @@ impl<T> EndedList<T> {
 }
 
 impl<T: Blank> EndedList<T> {
-    /// Makes `x` member `i`; the members from there on get the next number each. When out of memory,
-    /// the list stays as it is, and `x` comes back.
+    /// Inserts `x` as member `i`; the numbers of later members grow by one. A failed allocation changes nothing and
+    /// returns `x`.
     pub fn insert(&mut self, i: usize, x: T) -> Result<(), T>
         requires { i ≤ length self.old }
         ensures ok { OnOk result (self.new ≡ insert self.old i x) }
@@ -130,7 +130,7 @@ impl<T: Blank> EndedList<T> {
         Ok(())
     }
 
-    /// Takes member `i` out; the members behind it get the number before each. Takes no memory.
+    /// Removes and returns member `i`; the numbers of later members fall by one. Allocates nothing.
     pub fn remove(&mut self, i: usize) -> T
         requires { i < length self.old }
         ensures value { slice_get self.old i ≡ Some result }
@@ -143,7 +143,7 @@ impl<T: Blank> EndedList<T> {
         x
     }
 
-    // The same. In the front half it leaves a blank.
+    // Removes member `i` without dropping blanks. A removal in the first half leaves a blank.
     fn take_out(&mut self, i: usize) -> T
         requires { i < length self.old }
         ensures value { slice_get self.old i ≡ Some result }
@@ -158,8 +158,7 @@ impl<T: Blank> EndedList<T> {
         self.places.remove(self.blanks + i)
     }
 
-    // Drops the blanks. They are dropped when there are more of them than members, so that these move once in so many
-    // changes.
+    // Drops the blanks. This happens when they outnumber the members, so the cost of moving all members is amortized.
     fn drop_blanks(&mut self)
         ensures { self.new ≡ self.old }
     {
@@ -169,8 +168,8 @@ impl<T: Blank> EndedList<T> {
         self.blanks = 0;
     }
 
-    // Makes as many blanks in front as there are members, where there are none: so all members move once in so many
-    // changes. When out of memory, there are none.
+    // Makes as many blanks as there are members, if there are none, so that the cost of moving all members is
+    // amortized. A failed allocation leaves none.
     fn make_blanks(&mut self)
         ensures { self.new ≡ self.old }
     {
@@ -190,8 +189,8 @@ impl<T: Blank> EndedList<T> {
 }
 
 impl<T: Linked> EndedList<T> {
-    // Renumbers the members of the span, and makes `x` member `i`. When out of memory, neither is done, and `x` comes
-    // back.
+    // Renumbers the members of the span, and inserts `x` as member `i`. A failed allocation changes nothing and returns
+    // `x`.
     pub(crate) fn insert_renumbered(
         &mut self,
         by: Renumbering,
@@ -235,7 +234,7 @@ impl<T: Linked> EndedList<T> {
     }
 }
 
-// Renumbers the members of the span, which stand behind blanks.
+// Renumbers the members of the span; span indexes count from after the blanks.
 fn renumber_behind<T: Linked>(places: &mut Vec<T>, blanks: usize, by: Renumbering, span: Span)
     requires blanks { blanks ≤ length places.old.items }
     requires order { span.start ≤ span.end }
@@ -267,7 +266,7 @@ fn blanks<T: Blank>(alloc: Global, count: usize) -> Result<Vec<T>, AllocError> {
     Ok(blanks)
 }
 
-// Makes `x` member `i` behind the blanks, in whose favour the last of these goes.
+// Inserts `x` as member `i` after the blanks, the last of which is dropped.
 fn put_for_blank<T: Drop>(places: &mut Vec<T>, blanks: usize, i: usize, x: T)
     requires some { 0 < blanks }
     requires blanks { blanks ≤ length places.old.items }
@@ -278,7 +277,7 @@ fn put_for_blank<T: Drop>(places: &mut Vec<T>, blanks: usize, i: usize, x: T)
     put_in_front(&mut places[blanks - 1..], i, x);
 }
 
-// Makes `x` member `i`, in whose favour the first one goes.
+// Drops the first member, and inserts `x` as member `i` of the result.
 fn put_in_front<T: Drop>(members: &mut [T], i: usize, x: T)
     requires { i < length members.old }
     ensures value { members.new ≡ insert (drop 1 members.old) i x }
@@ -288,7 +287,7 @@ fn put_in_front<T: Drop>(members: &mut [T], i: usize, x: T)
     move_within(members, 0, i);
 }
 
-// Takes member `i` out, and leaves a blank in front of the others.
+// Removes and returns member `i`, and puts a blank before the others.
 fn take_to_front<T>(members: &mut [T], i: usize, blank: T) -> T
     requires { i < length members.old }
     ensures value { slice_get members.old i ≡ Some result }

@@ -1,5 +1,5 @@
-//! Lists of numbered members with room at both ends, where a change takes as long as what is near it; and lists of
-//! those that may link to one another.
+//! Lists of numbered members with spare capacity at both ends, where a change moves only members near it; and lists
+//! whose members may link to one another.
 #![tactic(auto)]
 
 mod ended;

@@ -1,8 +1,8 @@
-//! Members that may link to others of their list.
+//! Members that may link to other members of their list.
 use numbered_lists::Renumber;
 use sf_base::Blank;
 
-/// A member of a list that may link to a member by its number.
+/// A member of a list that may link to a member by number.
 pub trait Linked: Renumber + Blank {
     ghost use Rattle.std.specs.Prelude.{◌≡◌, ℕ, Bool, false};
     ghost use Rattle.numbered_lists.specs.declared.renumbering.Renumbering.{Renumbering};
@@ -10,18 +10,18 @@ pub trait Linked: Renumber + Blank {
     /// Whether it links to a member.
     ghost has_link: { Self → Bool };
 
-    /// Whether it links to the member of this number.
+    /// Whether it links to the member with this number.
     ghost links_to: { ℕ → Self → Bool };
 
     /// Whether it links to a member.
     fn has_link(&self) -> bool
         ensures { result ≡ has_link self.now };
 
-    /// Whether it links to the member of this number.
+    /// Whether it links to the member with this number.
     fn links_to(&self, number: u32) -> bool
         ensures { result ≡ links_to number self.now };
 
-    // What has no link links to no member, and stays as it is when members get new numbers.
+    // A member without a link links to no member, and renumbering keeps it.
     ghost links_nowhere: { (number : ℕ) (x : Self) → has_link x ≡ false → links_to number x ≡ false };
 
     ghost stays: { (by : Renumbering) (x : Self) → has_link x ≡ false → Self.with_new_numbers by x ≡ x };

@@ -14,14 +14,15 @@ use numbered_lists::{Renumber, Renumbering};
 use std::alloc::Global;
 use std::marker::Model;
 
-/// A list whose members go by their numbers, the first by 0, and may link to one another by them. A change moves the
-/// members on its shorter side. It reads links only within a range of numbers outside of which no member has one. A
-/// member that was borrowed to be changed widens that range only if it has a link afterwards.
+/// A list whose members are numbered from 0 and may link to one another by number.
+///
+/// A change moves the members on its shorter side. Links are read only within a range of numbers that contains all
+/// members with a link. A member borrowed mutably widens that range only if it has a link afterwards.
 pub struct LinkedMembers<T: Linked> {
     list: EndedList<T>,
-    // No member outside of it has a link, except the borrowed one.
+    // No member outside it has a link, except the borrowed one.
     span: Span,
-    // The number of a member whose link isn't known, since it was borrowed to be changed.
+    // The number of a member whose link isn't known, since it was borrowed mutably.
     borrowed: Option<usize>,
 }
 
@@ -47,14 +48,14 @@ impl<T: Linked> Model for LinkedMembers<T> {
 }
 
 impl<T: Linked> LinkedMembers<T> {
-    /// The empty list. Takes no memory.
+    /// Makes an empty list. Allocates nothing.
     pub fn new(alloc: Global) -> LinkedMembers<T>
         ensures { result ≡ [] }
     {
         LinkedMembers::from_vec(Vec::new(alloc))
     }
 
-    /// The elements of a `Vec` as members. Takes no memory.
+    /// Makes a list of the elements of a `Vec`. Allocates nothing.
     pub fn from_vec(vec: Vec<T>) -> LinkedMembers<T>
         ensures { result ≡ vec.items }
     {
@@ -70,28 +71,28 @@ impl<T: Linked> LinkedMembers<T> {
         }
     }
 
-    /// How many members there are.
+    /// The number of members.
     pub fn len(&self) -> usize
         ensures { result ≡ length self.now }
     {
         self.list.len()
     }
 
-    /// The members in their order.
+    /// The members in order.
     pub fn as_slice(&self) -> &[T]
         ensures { result.now ≡ self.now }
     {
         self.list.as_slice()
     }
 
-    /// Member `i`, or `None` where none has that number.
+    /// Member `i`, or `None` if there is none.
     pub fn get(&self, i: usize) -> Option<&T>
         ensures { option_copied result ≡ slice_get self.now i }
     {
         self.list.as_slice().get(i)
     }
 
-    /// Member `i`, which is there, to be changed in its place.
+    /// A mutable reference to member `i`, which must exist.
     pub fn member_mut(&mut self, i: usize) -> &mut T
         requires { i < length self.old }
         ensures* writes_back { sem 𝓛 (Lends (the_row T.row (record { has_link = T.has_link; links_to = T.links_to }) (record { can_renumber = T.can_renumber; with_new_numbers = T.with_new_numbers })) T.row self.entry result (λ w. slice_set self.old i w)) }
@@ -102,7 +103,7 @@ impl<T: Linked> LinkedMembers<T> {
         self.list.member_mut(i)
     }
 
-    /// Puts `x` behind the last member. When out of memory, the list stays as it is, and `x` comes back.
+    /// Appends `x`. A failed allocation changes nothing and returns `x`.
     pub fn push(&mut self, x: T) -> Result<(), T>
         ensures ok { OnOk result (self.new ≡ self.old ++ x ∷ []) }
         ensures err { OnErr result (self.new ≡ self.old) }
@@ -117,8 +118,8 @@ impl<T: Linked> LinkedMembers<T> {
         Ok(())
     }
 
-    /// Renumbers the members that are there, and makes `x`, which has its new numbers already, member
-    /// `i`. When out of memory, neither is done, and `x` comes back.
+    /// Renumbers the members, and inserts `x`, which is renumbered already, as member `i`. A failed allocation changes
+    /// nothing and returns `x`.
     pub fn insert_renumbered(&mut self, by: Renumbering, i: usize, x: T) -> Result<(), T>
         requires place { i ≤ length self.old }
         requires numbers { All (T.can_renumber by) self.old }
@@ -134,7 +135,7 @@ impl<T: Linked> LinkedMembers<T> {
         Ok(())
     }
 
-    /// Takes member `i` out; the members behind it get the number before each. Takes no memory.
+    /// Removes and returns member `i`; the numbers of later members fall by one. Allocates nothing.
     pub fn remove(&mut self, i: usize) -> T
         requires { i < length self.old }
         ensures value { slice_get self.old i ≡ Some result }
@@ -147,7 +148,7 @@ impl<T: Linked> LinkedMembers<T> {
         x
     }
 
-    /// Makes member `from` member `to`; the others keep their order. Takes no memory.
+    /// Moves member `from` to index `to`; the others keep their order. Allocates nothing.
     pub fn move_member(&mut self, from: usize, to: usize)
         requires from { from < length self.old }
         requires to { to < length self.old }
@@ -161,7 +162,7 @@ impl<T: Linked> LinkedMembers<T> {
         self.borrowed = None;
     }
 
-    /// Whether a member other than that of the number links to it.
+    /// Whether a member other than member `number` links to that member.
     pub fn others_link_to(&self, number: u32) -> bool
         requires { number < length self.now }
         ensures { result ≡ list_any (T.links_to number) (remove self.now number) }
@@ -176,7 +177,7 @@ impl<T: Linked> LinkedMembers<T> {
         false
     }
 
-    // The span outside of which no member has a link, widened by the borrowed one if that has a link now.
+    // The span that contains all members with a link, widened by the borrowed member if it has one now.
     fn link_span(&self) -> Span
         ensures { IsSpan T.has_link self.now result }
     {
@@ -191,7 +192,7 @@ impl<T: Linked> LinkedMembers<T> {
     }
 }
 
-// Whether member `i` is not that of the number, and links to it.
+// Whether member `i` is another member than `number`, and links to it.
 fn is_other_link<T: Linked>(members: &[T], i: usize, number: u32) -> bool
     requires { i < length members.now }
     ensures yes { result ≡ true → (i ≢ number) × IfSome (slice_get members.now i) (λ x. T.links_to number x ≡ true) }
@@ -200,7 +201,7 @@ fn is_other_link<T: Linked>(members: &[T], i: usize, number: u32) -> bool
     i != number as usize && members[i].links_to(number)
 }
 
-/// A list holds the numbers that its members hold.
+/// The numbers in a list are those in its members.
 impl<T: Linked> Renumber for LinkedMembers<T> {
     ghost can_renumber = { λ by list. All (T.can_renumber by) list };
 

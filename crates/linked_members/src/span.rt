@@ -1,11 +1,11 @@
-//! Between which numbers the members of a list lie that have a link.
+//! The range of numbers that contains all members with a link.
 ghost use Rattle.std.specs.Prelude.{◌≡◌, ◌<◌, ◌≤◌, ◌+◌, ◌^◌, ◌∷◌, [], ◌++◌, List, false, true, length, insert, remove, drop, slice_get, IfSome, ℕ};
 ghost use Rattle.numbered_lists.specs.Moved.{moved};
 ghost use Rattle.linked_members.specs.Spans.{IsSpan, IsOutside, IsShifted};
 
 use crate::linked::Linked;
 
-/// The numbers from `start` up to `end`: no member outside of them has a link.
+/// The numbers `start..end`: no member outside them has a link.
 #[derive(Clone, Copy)]
 pub(crate) struct Span {
     pub(crate) start: usize,
@@ -33,7 +33,8 @@ impl Span {
         }
     }
 
-    // What it is once a member was put in as number `at`, with a link or without; there are so many members then.
+    // The span after an insertion of a member, with a link or without, as number `at`. `count` is the new number of
+    // members.
     pub(crate) fn after_insertion(self, at: usize, count: usize, has_link: bool) -> Span
         requires order { self.start ≤ self.end }
         requires fits { self.end < count }
@@ -51,7 +52,7 @@ impl Span {
         }
     }
 
-    // The same without a link.
+    // The same for a member without a link.
     fn shifted(self, at: usize, count: usize) -> Span
         requires order { self.start ≤ self.end }
         requires fits { self.end < count }
@@ -75,7 +76,7 @@ impl Span {
         }
     }
 
-    // What it is once member `at` was taken out.
+    // The span after the removal of member `at`.
     pub(crate) fn after_removal(self, at: usize) -> Span
         requires order { self.start ≤ self.end }
         ensures order { result.start ≤ result.end }
@@ -98,7 +99,7 @@ impl Span {
         }
     }
 
-    // From the first of its members that has a link up to the last one.
+    // The span from the first member with a link to the last one.
     pub(crate) fn tight<T: Linked>(self, members: &[T]) -> Span
         requires { IsSpan T.has_link members.now self }
         ensures { IsSpan T.has_link members.now result }
@@ -115,7 +116,7 @@ impl Span {
     }
 }
 
-// The number of the first member in the span that has a link, or the span's end.
+// The number of the first member with a link in the span, or else the span's end.
 fn first_linked<T: Linked>(members: &[T], span: Span) -> usize
     requires { IsSpan T.has_link members.now span }
     ensures { IsSpan T.has_link members.now (record { start = result; end = span.end }) }
@@ -127,7 +128,7 @@ fn first_linked<T: Linked>(members: &[T], span: Span) -> usize
     start
 }
 
-// The number behind the last member in the span that has a link, or the span's start.
+// The number after the last member with a link in the span, or else the span's start.
 fn last_linked<T: Linked>(members: &[T], span: Span) -> usize
     requires { IsSpan T.has_link members.now span }
     ensures { IsSpan T.has_link members.now (record { start = span.start; end = result }) }

@@ -1,4 +1,4 @@
--- Owners that come without bags and go without bags, and bags that go from the last on.
+-- Insertion and removal of owners without bags, and removal of bags from the last one on.
 use Rattle.std.proofs.Common.{◌≡◌, ℕ, ◌<◌, ◌≤◌, suc, zero, List, [], ◌∷◌, ◌++◌, length, insert, remove, slice_get}
 use Rattle.std.proofs.Common.{set, Some, is_some, refl, sym, subst, ◌∙◌, ap, take, drop, get_or, add-zero}
 use Rattle.std.proofs.Common.{length-take, arith}
@@ -68,7 +68,7 @@ set-twice [] i x y = refl
 set-twice (z ∷ zs) zero x y = refl
 set-twice (z ∷ zs) (suc i) x y = ap (λ ws. z ∷ ws) (set-twice zs i x y)
 
--- the first n bags of owner i are left
+-- The first n bags of owner i remain.
 pub record IsLeft (owners new : List (List Bag)) (i n : ℕ) : Type 0 where
   pub gone : new ≡ changed owners i (λ bags. take n bags)
   pub within : IsSomeAnd (slice_get owners i) (λ (bags : List Bag). n ≤ length bags)
@@ -119,7 +119,7 @@ none_left owners new i n h l e =
     let (xs, there) = slice_get-found owners i h in
     l.gone ∙ (changed-found owners i (λ bags. take n bags) xs there ∙ ap (λ n. set owners i (take n xs)) e)
 
--- ---- an owner that goes by way of the last place
+-- ---- an owner moved to the end and removed
 
 remove-set : {X : Type 0} (xs : List X) (i : ℕ) (x : X) → remove (set xs i x) i ≡ remove xs i
 remove-set [] i x = refl

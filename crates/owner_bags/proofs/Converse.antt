@@ -1,5 +1,5 @@
--- Places that begin at 0 and rise up to the number of bags are those of the owners that are read of them, and the
--- places of owners are such.
+-- Starts that begin at 0 and never fall, up to the number of bags, are those of the owners read from them; the starts
+-- of owners are such.
 use Rattle.std.proofs.Common.{◌≡◌, ℕ, ◌<◌, ◌≤◌, ◌+◌, ◌-◌, suc, zero, List, [], ◌∷◌, ◌++◌, length, slice_get, Some}
 use Rattle.std.proofs.Common.{refl, subst, sym, ◌∙◌, ap, take, drop, get_or, length-take, length-drop, zero-add}
 use Rattle.std.proofs.Common.{arith}
@@ -16,9 +16,9 @@ use Rattle.owner_bags.specs.Owned.{AreRead}
 use Rattle.owner_bags.specs.Begins.{AreFlat, Rises, AreBegins}
 use Rattle.owner_bags.proofs.Owners.{owners-back, owners-end}
 
--- ---- the owners of places that rise
+-- ---- the owners of starts that never fall
 
--- what the owners from `at` on need of the bags
+-- What the owners from `at` on require of the bags.
 record From (at : ℕ) (rest : List ℕ) (bags : List Bag) : Type 0 where
   pub rising : (k : ℕ) → k + 1 < length (at ∷ rest) → Rises (at ∷ rest) k
   pub within : last_of at rest ≤ at + length bags
@@ -36,7 +36,7 @@ below_last at (next ∷ rest) r =
     let more = below_last next rest (λ k h. rises_next at (next ∷ rest) k (r (suc k) (omega arith))) in
     omega (arith, first, more)
 
--- the same for the next owner
+-- The same for the next owner.
 next_from : (at next : ℕ) (rest : List ℕ) (bags : List Bag) → From at (next ∷ rest) bags
     → From next rest (drop (next - at) bags)
 next_from at next rest bags f =
@@ -90,7 +90,7 @@ begins_read places bags are =
     ap all_bags seen ∙ (bags-from 0 rest bags from ∙ (ap (λ n. take n bags) all ∙ take-length bags)) in
     λ i. record { begins = begins i; bags = sym own i }
 
--- ---- the places of owners
+-- ---- the starts of owners
 
 starts-rise : (at : ℕ) (owners : List (List Bag)) (k : ℕ) → k + 1 < length (starts past_owner at owners)
     → Rises (starts past_owner at owners) k
@@ -116,12 +116,12 @@ owners_begin owners =
 
 -- ---- both lists
 
--- records of no bags are those of no owners
+-- Records that are those of no bags are those of no owners.
 pub no_tables : (places : List ℕ) (t : Tables) → ((bags : List Bag) → t ≡ tables_of bags → ⊥)
     → (owners : List (List Bag)) → AreFlat places t owners → ⊥
 no_tables places t none owners are = none (all_bags owners) are.records
 
--- nor are places that don't begin at 0 or don't rise
+-- Nor are starts that don't begin at 0 or that fall.
 pub no_begins : (places : List ℕ) (t : Tables) (bags : List Bag) → t ≡ tables_of bags
     → (AreBegins places (length bags) → ⊥) → (owners : List (List Bag)) → AreFlat places t owners → ⊥
 no_begins places t bags e none owners are =
@@ -136,7 +136,7 @@ some_begins places t bags e are =
     let read = begins_read places bags are in
     record { begins = ap (λ (f : Flat). f.begins) read; records = e ∙ ap (λ (f : Flat). tables_of f.bags) read }
 
--- the flat lists of owners are theirs alone
+-- The flat lists determine the owners.
 pub same_owners : (places : List ℕ) (t : Tables) (owners others : List (List Bag)) → AreFlat places t owners
     → AreFlat places t others → owners ≡ others
 same_owners places t owners others a b =

@@ -1,4 +1,4 @@
--- The flat lists of owners where each bag is sent through f.
+-- The flat lists of owners with f applied to each bag.
 use Rattle.std.proofs.Common.{◌≡◌, ℕ, ◌+◌, List, [], ◌∷◌, ◌++◌, map, refl, sym, ◌∙◌, ap}
 use Rattle.std.proofs.lemmas.List.{length-map, map-append}
 use Rattle.flat_records.specs.Runs.{starts}

@@ -40,7 +40,7 @@ pub owners-back : (owners : List (List Bag)) → owners_in (flat_of owners) ≡ 
 owners-back owners =
     ap (owners_of_records (starts past_owner 0 owners)) (sym (append-nil (all_bags owners))) ∙ back-from 0 owners []
 
--- the lists are those of these owners
+-- The lists are those of these owners.
 pub record AreOf (t : Flat) (owners : List (List Bag)) : Type 0 where
   pub same : t ≡ flat_of owners
 
@@ -50,7 +50,7 @@ read {t} {owners} a = ap owners_in a.same ∙ owners-back owners
 pub are_read : {t : Flat} {owners : List (List Bag)} → AreOf t owners → AreRead t
 are_read a = a.same ∙ ap flat_of (sym (read a))
 
--- so the fields of `self` are of the owners of its value
+-- The fields of `self` are the lists of the owners of its value.
 pub held : {t : Flat} {spare : Counts} {count : ℕ} {s : Stored} → AreRead t
     → record { owners = owners_in t; spare = spare; spare_owners = count } ≡ s → AreOf t s.owners
 held are seen = record { same = are ∙ ap (λ (s : Stored). flat_of s.owners) seen }
@@ -68,7 +68,7 @@ begins_size {t} {owners} a =
 
 -- ---- one owner among the others
 
--- where the bags of owner i stand
+-- Where the bags of owner i begin.
 pub record Begin (t : Flat) (owners : List (List Bag)) (i : ℕ) (xs : List Bag) : Type 0 where
   pub front : List (List Bag)
   pub back : List (List Bag)
@@ -113,7 +113,7 @@ begin {t} {owners} {xs} are i there =
           ∙ (ap (λ owners. set owners i (f xs)) a.whole ∙ set_at a.front xs a.back (f xs) i a.before);
     }
 
--- ---- what indexing of the places asks and gives
+-- ---- requirements and results of indexing the starts
 
 pub begin_there : {t : Flat} {owners : List (List Bag)} → AreOf t owners → {i n : ℕ} → i ≤ length owners
     → n ≡ length t.begins → i < n
@@ -134,7 +134,7 @@ bags_between {t} {owners} a i h {first} {next} e f =
     let size : next - first ≡ length xs = omega arith in
     (omega arith, subst (λ o. IfSome o (λ (bags : List Bag). next - first ≡ length bags)) (sym there) size)
 
--- ---- the bags of one owner sent through f
+-- ---- f applied to the bags of one owner
 
 module _ {t : Flat} {owners : List (List Bag)} {i : ℕ} {xs : List Bag} (b : Begin t owners i xs)
     (f : List Bag → List Bag) {new : List Bag} (whole : new ≡ all_bags b.front ++ (f xs ++ all_bags b.back)) where
@@ -147,14 +147,14 @@ module _ {t : Flat} {owners : List (List Bag)} {i : ℕ} {xs : List Bag} (b : Be
   place : i + 1 ≡ suc (length b.front)
   place = let before = b.before in omega arith
 
-  -- as many
+  -- As many bags.
   pub bags_kept : length (f xs) ≡ length xs → AreOf (record { begins = t.begins; bags = new }) (changed owners i f)
   bags_kept size =
       rebuilt
       (ap (λ (t : Flat). t.begins) b.same
       ∙ starts-same past_owner 0 b.front xs (f xs) b.back (λ m. ap (λ n. m + n) (sym size)))
 
-  -- n more
+  -- n more bags.
   pub bags_put : (n : ℕ) → length (f xs) ≡ length xs + n → {begins : List ℕ}
       → begins ≡ changed_from (i + 1) (λ at. at + n) t.begins
       → AreOf (record { begins = begins; bags = new }) (changed owners i f)
@@ -164,7 +164,7 @@ module _ {t : Flat} {owners : List (List Bag)} {i : ℕ} {xs : List Bag} (b : Be
       ∙ (ap (λ (t : Flat). changed_from (suc (length b.front)) (λ at. at + n) t.begins) b.same
       ∙ starts-replaced past_owner (λ at. at + n) (λ m x. omega arith) 0 b.front xs (f xs) b.back (λ m. omega arith))))
 
-  -- n fewer
+  -- n fewer bags.
   pub bags_cut : (n : ℕ) → length xs ≡ length (f xs) + n → {begins : List ℕ}
       → begins ≡ changed_from (i + 1) (λ at. at - n) t.begins
       → AreOf (record { begins = begins; bags = new }) (changed owners i f)

@@ -1,4 +1,4 @@
--- The place of one owner's bag among all bags, and what becomes of the flat lists there.
+-- The index of an owner's bag among all bags, and changes of the flat lists there.
 use Rattle.std.proofs.Common.{◌≡◌, ℕ, ◌<◌, ◌≤◌, ◌+◌, ◌-◌, ◌^◌, suc, zero, List, [], ◌∷◌, ◌++◌, length, All, insert}
 use Rattle.std.proofs.Common.{IsSome, remove, slice_get, set, Option, Some, None, refl, sym, subst, ◌∙◌, ap, drop}
 use Rattle.std.proofs.Common.{get_or, length-append, zero-add, suc-add, arith}
@@ -16,7 +16,7 @@ use Rattle.flat_records.proofs.Starts.{end, drop-past, All-starts, All-starts_ba
 use Rattle.owner_bags.specs.Owned.{Flat, past_owner, all_bags, bag_at, bag_changed}
 use Rattle.owner_bags.proofs.Owners.{AreOf, Begin, begin, owners-end, bags_kept, bags_put, bags_cut}
 
--- ---- a part in the middle of a list
+-- ---- a range in the middle of a list
 
 get-right : {X : Type 0} (ws ys : List X) (k : ℕ) → slice_get (ws ++ ys) (length ws + k) ≡ slice_get ys k
 get-right [] ys k = ap (slice_get ys) (zero-add k)
@@ -57,7 +57,7 @@ module _ {X : Type 0} (ws xs bs : List X) (at k : ℕ) (e : at ≡ length ws) wh
       remove-append_right ws (xs ++ bs) (length ws) (at + k) refl (omega arith)
       ∙ (ap (λ n. ws ++ remove (xs ++ bs) n) back ∙ ap (λ zs. ws ++ zs) (remove-append_left xs bs k h))
 
--- ---- a place for a bag of owner i
+-- ---- an index for a bag of owner i
 
 pub record Gap (t : Flat) (owners : List (List Bag)) (i k : ℕ) : Type 0 where
   pub owner : List Bag
@@ -71,7 +71,7 @@ gap {t} {owners} a i k h =
     let (xs, there, within) = found (λ (bags : List Bag). k ≤ length bags) (slice_get owners i) h in
     record { owner = xs; there = there; begin = begin a i there; within = within }
 
--- later places can be raised
+-- Later starts can be raised.
 pub later_raised : {t : Flat} {owners : List (List Bag)} {i k : ℕ} → Gap t owners i k → AreOf t owners → (n : ℕ)
     → length (all_bags owners) + n < 2 ^ 16
     → record { place : i + 1 ≤ length t.begins; fits : All (λ at. at + n < 2 ^ 16) (drop (i + 1) t.begins) }
@@ -88,7 +88,7 @@ later_raised {t} {owners} {i} g a n h =
 
 module _ {t : Flat} {owners : List (List Bag)} {i k : ℕ} (g : Gap t owners i k) {begins : List ℕ}
     (same : begins ≡ t.begins) where
-  -- what `place` asks
+  -- The requirements of `place`.
   pub place_there : record { owner : i + 1 < length begins; bag : get_or begins i 0 + k ≤ get_or begins (i + 1) 0 }
   place_there =
       let b = g.begin in let more = b.more in let at = b.at in let next = b.next in let within = g.within in
@@ -120,7 +120,7 @@ module _ {t : Flat} {owners : List (List Bag)} {i k : ℕ} (g : Gap t owners i k
         let size = length-insert g.owner k x g.within in
         bags_put b (λ bags. insert bags k x) whole 1 (omega arith) f
 
--- ---- bag k of owner i, of which something holds
+-- ---- bag k of owner i, which has property P
 
 pub record Spot (t : Flat) (owners : List (List Bag)) (i k : ℕ) (P : Bag → Type 0) : Type 0 where
   pub gap : Gap t owners i k
@@ -148,7 +148,7 @@ spot {t} {owners} a i k P h =
       holds = f.4;
     }
 
--- some bag
+-- Any bag.
 abbrev pub Any : Bag → Type 0
 Any b = Unit {0}
 
@@ -175,7 +175,7 @@ member {t} {owners} a i k h =
     }
 
 module _ {t : Flat} {owners : List (List Bag)} {i k : ℕ} {P : Bag → Type 0} (s : Spot t owners i k P) where
-  -- later places can be lowered
+  -- Later starts can be lowered.
   pub later_lowered : record { place : i + 1 ≤ length t.begins; fits : All (λ at. 1 ≤ at) (drop (i + 1) t.begins) }
   later_lowered =
       let b = s.gap.begin in

@@ -1,4 +1,4 @@
--- Owners that change places, and bags of one owner that do.
+-- Exchanges of owners, and of bags of one owner.
 use Rattle.std.proofs.Common.{◌≡◌, ℕ, ◌<◌, ◌≤◌, ◌+◌, ◌-◌, ◌^◌, suc, List, [], ◌∷◌, ◌++◌, length, map, All, insert}
 use Rattle.std.proofs.Common.{remove, slice_get, Some, refl, sym, subst, ◌∙◌, ap, take, drop, get_or, length-append}
 use Rattle.std.proofs.Common.{zero-add, add-one, zero, arith}
@@ -17,7 +17,7 @@ use Rattle.owner_bags.specs.Owned.{Flat, past_owner, all_bags, flat_of}
 use Rattle.owner_bags.proofs.Owners.{AreOf, begin, owners-end, bags_kept, begin_read}
 use Rattle.owner_bags.proofs.Places.{get_in, remove_in, insert_in}
 
--- ---- a move is an exchange of neighbouring parts
+-- ---- a move is an exchange of neighbouring ranges
 
 last-found : {X : Type 0} (xs : List X) (n : ℕ) (x : X) → slice_get xs n ≡ Some x → drop n (take (suc n) xs) ≡ x ∷ []
 last-found [] n x e = cc
@@ -51,7 +51,7 @@ moved_up xs i j h within = (λ k. exchanged xs i (add-one i k) (add-one j k)) �
 pub moved_down : {X : Type 0} (xs : List X) (i j : ℕ) → j ≤ i → i < length xs → exchanged xs j i (i + 1) ≡ moved xs i j
 moved_down xs i j h within = ap (exchanged xs j i) (add-one i) ∙ down xs i j h within
 
--- ---- owners that change places
+-- ---- exchanges of owners
 
 all-parts : (ws xs ys zs : List (List Bag))
     → all_bags (ws ++ (xs ++ (ys ++ zs))) ≡ all_bags ws ++ (all_bags xs ++ (all_bags ys ++ all_bags zs))
@@ -69,7 +69,7 @@ all-exchanged ws xs ys zs i j k e f g =
     ∙ (exchanged-parts (all_bags ws) (all_bags xs) (all_bags ys) (all_bags zs) i j k e (omega arith) (omega arith)
     ∙ sym (all-parts ws ys xs zs))
 
--- owners a up to b, whose bags begin at `start`, and owners b up to c, whose bags begin at `middle`
+-- The owners a..b, whose bags begin at `start`, and the owners b..c, whose bags begin at `middle`.
 pub record Turn (t : Flat) (owners : List (List Bag)) (a b c start middle stop : ℕ) : Type 0 where
   pub rise : (start ≤ middle) × (middle ≤ stop)
   pub windows : AreWindows a b c (length t.begins)
@@ -82,7 +82,7 @@ pub record Turn (t : Flat) (owners : List (List Bag)) (a b c start middle stop :
         bags = exchanged t.bags start middle stop;
       } ≡ flat_of (exchanged owners a b c)
 
--- the four runs of owners
+-- The four runs of owners.
 record Facts (t : Flat) (ws xs ys zs : List (List Bag)) (a b c : ℕ) : Type 0 where
   pub same : t ≡ flat_of (ws ++ (xs ++ (ys ++ zs)))
   pub first : a ≡ length ws
@@ -166,7 +166,7 @@ pub owners_turned : {t : Flat} {owners : List (List Bag)} {a b c start middle st
     → AreOf (record { begins = new; bags = bags }) (exchanged owners a b c)
 owners_turned r e f = record { same = (λ k. record { begins = e k; bags = f k }) ∙ r.turned }
 
--- ---- a bag of one owner that moves
+-- ---- a move of a bag of one owner
 
 pub bag_moved : {t : Flat} {owners : List (List Bag)} → AreOf t owners → (i from to : ℕ)
     → IsSomeAnd (slice_get owners i) (λ (bags : List Bag). from < length bags)

@@ -12,7 +12,7 @@ use crate::owned::OwnerBags;
 use modulators::Modulator;
 
 impl OwnerBags {
-    /// Puts a bag in as number `k` of owner `i`, which is there and has so many. Takes no memory.
+    /// Inserts a bag as number `k` of owner `i`, which must exist, into reserved capacity. Allocates nothing.
     pub fn put_bag(&mut self, i: usize, k: usize, gens: &[(u16, u16)], mods: &[Modulator])
         requires place { IsSomeAnd (slice_get self.old.owners i) (λ bags. k ≤ length bags) }
         requires bags { 0 < self.old.spare.bags }
@@ -30,7 +30,7 @@ impl OwnerBags {
         raise_from(&mut self.begins, i + 1, 1);
     }
 
-    /// Takes bag `k` of owner `i`, both of which are there, out. Takes no memory.
+    /// Removes bag `k` of owner `i`, which must exist. Allocates nothing.
     pub fn cut_bag(&mut self, i: usize, k: usize)
         requires { IsSome (bag_at self.old.owners i k) }
         ensures owners { self.new.owners ≡ changed self.old.owners i (λ bags. remove bags k) }
@@ -42,7 +42,8 @@ impl OwnerBags {
         lower_from(&mut self.begins, i + 1, 1);
     }
 
-    /// Puts generators into bag `k` of owner `i` as number `j` and on, all of which are there. Takes no memory.
+    /// Inserts generators into bag `k` of owner `i`, which must exist, from index `j`, into reserved capacity.
+    /// Allocates nothing.
     pub fn put_gens(&mut self, i: usize, k: usize, j: usize, gens: &[(u16, u16)])
         requires place { IsSomeAnd (bag_at self.old.owners i k) (λ (b : Bag). j ≤ length b.gens) }
         requires room { length gens.now ≤ self.old.spare.gens }
@@ -55,8 +56,7 @@ impl OwnerBags {
         self.bags.put_gens(at, j, gens);
     }
 
-    /// Takes `n` generators of bag `k` of owner `i` out, from number `j` on, all of which are there. Takes no
-    /// memory.
+    /// Removes `n` generators of bag `k` of owner `i` from index `j`; they must exist. Allocates nothing.
     pub fn cut_gens(&mut self, i: usize, k: usize, j: usize, n: usize)
         requires { IsSomeAnd (bag_at self.old.owners i k) (λ (b : Bag). j + n ≤ length b.gens) }
         ensures owners { self.new.owners ≡ bag_changed self.old.owners i k (λ (b : Bag). with_gens (cut b.gens j n) b) }
@@ -67,7 +67,7 @@ impl OwnerBags {
         self.bags.cut_gens(at, j, n);
     }
 
-    /// Makes a pair generator `j` of bag `k` of owner `i`, all of which are there. Takes no memory.
+    /// Sets generator `j` of bag `k` of owner `i`, which must exist, to an operator and its amount. Allocates nothing.
     pub fn set_gen(&mut self, i: usize, k: usize, j: usize, pair: (u16, u16))
         requires { IsSomeAnd (bag_at self.old.owners i k) (λ (b : Bag). j < length b.gens) }
         ensures owners { self.new.owners ≡ bag_changed self.old.owners i k (λ (b : Bag). with_gens (slice_set b.gens j pair) b) }
@@ -78,7 +78,8 @@ impl OwnerBags {
         self.bags.set_gen(at, j, pair);
     }
 
-    /// Puts modulators into bag `k` of owner `i` as number `j` and on, all of which are there. Takes no memory.
+    /// Inserts modulators into bag `k` of owner `i`, which must exist, from index `j`, into reserved capacity.
+    /// Allocates nothing.
     pub fn put_mods(&mut self, i: usize, k: usize, j: usize, mods: &[Modulator])
         requires place { IsSomeAnd (bag_at self.old.owners i k) (λ (b : Bag). j ≤ length b.mods) }
         requires room { length mods.now ≤ self.old.spare.mods }
@@ -91,8 +92,7 @@ impl OwnerBags {
         self.bags.put_mods(at, j, mods);
     }
 
-    /// Takes `n` modulators of bag `k` of owner `i` out, from number `j` on, all of which are there. Takes no
-    /// memory.
+    /// Removes `n` modulators of bag `k` of owner `i` from index `j`; they must exist. Allocates nothing.
     pub fn cut_mods(&mut self, i: usize, k: usize, j: usize, n: usize)
         requires { IsSomeAnd (bag_at self.old.owners i k) (λ (b : Bag). j + n ≤ length b.mods) }
         ensures owners { self.new.owners ≡ bag_changed self.old.owners i k (λ (b : Bag). with_mods (cut b.mods j n) b) }
@@ -103,7 +103,7 @@ impl OwnerBags {
         self.bags.cut_mods(at, j, n);
     }
 
-    /// Makes a modulator number `j` of bag `k` of owner `i`, all of which are there. Takes no memory.
+    /// Replaces modulator `j` of bag `k` of owner `i`, which must exist. Allocates nothing.
     pub fn set_mod(&mut self, i: usize, k: usize, j: usize, modulator: Modulator)
         requires { IsSomeAnd (bag_at self.old.owners i k) (λ (b : Bag). j < length b.mods) }
         ensures owners { self.new.owners ≡ bag_changed self.old.owners i k (λ (b : Bag). with_mods (slice_set b.mods j modulator) b) }

@@ -1,9 +1,9 @@
-//! The places at which the bags of owners begin.
+//! The indexes at which the bags of owners begin.
 ghost use Rattle.std.specs.Prelude.{◌≡◌, ◌≤◌, ◌<◌, ◌+◌, ◌-◌, ◌^◌, length, slice_index, map, All, take, drop, vec_len, vec_capacity, insert};
 ghost use Rattle.numbered_lists.specs.Moved.{changed_within};
 ghost use Rattle.flat_records.specs.Runs.{changed_from, changed_exchanged, exchanged, AreWindows};
 
-/// Where bag k of owner i stands among all bags.
+/// The index of bag `k` of owner `i` among all bags.
 pub(crate) fn place(begins: &[u16], i: usize, k: usize) -> usize
     requires owner { i + 1 < length begins.now }
     requires bag { slice_index begins.now i + k ≤ slice_index begins.now (i + 1) }
@@ -35,7 +35,7 @@ fn lower_all(begins: &mut [u16], by: u16)
     }
 }
 
-/// Adds to the place of owner i and of all later ones.
+/// Adds to the start of owner `i` and of all later ones.
 pub(crate) fn raise_from(begins: &mut Vec<u16>, i: usize, by: u16)
     requires place { i ≤ length begins.old.items }
     requires fits { All (λ at. at + by < 2 ^ 16) (drop i begins.old.items) }
@@ -46,7 +46,7 @@ pub(crate) fn raise_from(begins: &mut Vec<u16>, i: usize, by: u16)
     raise_all(&mut begins[i..], by);
 }
 
-/// Takes off the place of owner i and of all later ones.
+/// Subtracts from the start of owner `i` and of all later ones.
 pub(crate) fn lower_from(begins: &mut Vec<u16>, i: usize, by: u16)
     requires place { i ≤ length begins.old.items }
     requires fits { All (λ at. by ≤ at) (drop i begins.old.items) }
@@ -93,7 +93,7 @@ fn exchange_slices(begins: &mut [u16], a: usize, b: usize, c: usize, down: u16, 
     exchange(begins, a, b, c);
 }
 
-/// Exchanges the places of owners a up to b, which go up, with those of owners b up to c, which go down.
+/// Exchanges the starts of the owners `a..b`, which are raised, with those of the owners `b..c`, which are lowered.
 pub(crate) fn exchange_begins(
     begins: &mut Vec<u16>,
     a: usize,
@@ -112,7 +112,7 @@ pub(crate) fn exchange_begins(
     exchange_slices(begins.as_mut_slice(), a, b, c, down, up);
 }
 
-/// Puts a place in among the others.
+/// Inserts a start at index `i`.
 pub(crate) fn put_begin(begins: &mut Vec<u16>, i: usize, begin: u16)
     requires place { i ≤ length begins.old.items }
     requires room { vec_len begins.old < vec_capacity begins.old }

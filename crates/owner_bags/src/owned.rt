@@ -11,14 +11,14 @@ use sf_base::OutOfMemory;
 use std::alloc::Global;
 use std::marker::Model;
 
-/// A list of owners, presets or instruments, each with a list of bags, over the flat lists of records.
+/// A list of owners (presets or instruments), each with a list of bags, stored as flat lists of records.
 pub struct OwnerBags {
-    // Where each owner's bags begin, and last how many bags there are.
+    // The index at which each owner's bags begin, and last the number of bags.
     pub(crate) begins: Vec<u16>,
     pub(crate) bags: Bags,
 }
 
-// Not derived: a derived drop is written out, and proved, wherever a value is dropped; this one is a call.
+// Not derived: a derived `drop` is inlined, and proved, wherever a value is dropped; this one is a call.
 impl Drop for OwnerBags {
     fn drop(self) {
         let OwnerBags { begins: _, bags: _ } = self;
@@ -42,7 +42,7 @@ impl Model for OwnerBags {
 }
 
 impl OwnerBags {
-    /// No owners: the terminals alone.
+    /// Makes an empty list of owners, with terminals only.
     pub fn new(alloc: Global) -> Result<OwnerBags, OutOfMemory>
         ensures { IfOk result (λ r. r.owners ≡ []) }
     {
@@ -52,8 +52,8 @@ impl OwnerBags {
         Ok(OwnerBags { begins, bags })
     }
 
-    /// Makes places for so many owners and records. When out of memory, the owners stay, and some places may
-    /// be more.
+    /// Reserves capacity for so many more owners and records. A failed allocation keeps the owners, and may have
+    /// reserved a part.
     pub fn reserve(
         &mut self,
         owners: usize,
@@ -72,7 +72,7 @@ impl OwnerBags {
         Ok(())
     }
 
-    /// Equal owners, in memory of their own.
+    /// Makes a copy of the owners.
     pub fn copy(&self, alloc: Global) -> Result<OwnerBags, OutOfMemory>
         ensures { IfOk result (λ r. r.owners ≡ self.now.owners) }
     {
@@ -81,14 +81,14 @@ impl OwnerBags {
         Ok(OwnerBags { begins, bags })
     }
 
-    /// How many owners there are.
+    /// The number of owners.
     pub fn owner_count(&self) -> usize
         ensures { result ≡ length self.now.owners }
     {
         self.begins.len() - 1
     }
 
-    /// How many bags owner `i`, which is there, has.
+    /// The number of bags of owner `i`, which must exist.
     pub fn bag_count(&self, i: usize) -> usize
         requires { i < length self.now.owners }
         ensures { IfSome (slice_get self.now.owners i) (λ bags. result ≡ length bags) }
@@ -96,7 +96,7 @@ impl OwnerBags {
         (self.begins[i + 1] - self.begins[i]) as usize
     }
 
-    /// How many bags, generators and modulators all owners have.
+    /// The numbers of bags, generators and modulators of all owners.
     pub fn record_counts(&self) -> (usize, usize, usize)
         ensures bags { result.0 ≡ length (all_bags self.now.owners) }
         ensures gens { result.1 ≡ length (gens_in (all_bags self.now.owners)) }
@@ -109,36 +109,35 @@ impl OwnerBags {
         )
     }
 
-    /// Where the bags of each owner begin, and last how many bags there are.
+    /// The index at which each owner's bags begin, and last the number of bags.
     pub fn begins(&self) -> &[u16]
         ensures { result.now ≡ (flat_of self.now.owners).begins }
     {
         &self.begins
     }
 
-    /// The records of the bags of all owners: the indexes of each one's first generator and modulator, and the
-    /// terminal.
+    /// The bag records of all owners: the indexes of each bag's first generator and modulator, and the terminal.
     pub fn bag_records(&self) -> &[(u16, u16)]
         ensures { result.now ≡ (tables_of (all_bags self.now.owners)).bags }
     {
         self.bags.bag_records()
     }
 
-    /// The records of the generators of all owners, with the terminal.
+    /// The generator records of all owners, with the terminal.
     pub fn gen_records(&self) -> &[(u16, u16)]
         ensures { result.now ≡ (tables_of (all_bags self.now.owners)).gens }
     {
         self.bags.gen_records()
     }
 
-    /// The records of the modulators of all owners, with the terminal.
+    /// The modulator records of all owners, with the terminal.
     pub fn mod_records(&self) -> &[Modulator]
         ensures { result.now ≡ (tables_of (all_bags self.now.owners)).mods }
     {
         self.bags.mod_records()
     }
 
-    /// The generators of bag `k` of owner `i`, both of which are there: operators with their amounts.
+    /// The generators of bag `k` of owner `i`, which must exist: operators with their amounts.
     pub fn gens(&self, i: usize, k: usize) -> &[(u16, u16)]
         requires { IsSome (bag_at self.now.owners i k) }
         ensures { IfSome (bag_at self.now.owners i k) (λ (b : Bag). result.now ≡ b.gens) }
@@ -147,7 +146,7 @@ impl OwnerBags {
         self.bags.gens(at)
     }
 
-    /// The modulators of bag `k` of owner `i`, both of which are there.
+    /// The modulators of bag `k` of owner `i`, which must exist.
     pub fn mods(&self, i: usize, k: usize) -> &[Modulator]
         requires { IsSome (bag_at self.now.owners i k) }
         ensures { IfSome (bag_at self.now.owners i k) (λ (b : Bag). result.now ≡ b.mods) }

@@ -1,4 +1,4 @@
-//! Owners that come, go and change places, and bags of one owner that change places.
+//! Insertion, removal and moves of owners, and moves of bags of one owner.
 ghost use Rattle.std.specs.Prelude.{◌≡◌, ◌≤◌, ◌<◌, ◌+◌, length, insert, remove, slice_get, [], Some, slice_set};
 ghost use Rattle.std.specs.Option.{IsSomeAnd};
 ghost use Rattle.numbered_lists.specs.Moved.{moved, changed};
@@ -9,8 +9,8 @@ use crate::owned::OwnerBags;
 use flat_records::Bags;
 
 impl OwnerBags {
-    /// Puts an owner without bags in as number `i`; those from there on get the next number each. Takes no
-    /// memory.
+    /// Inserts an owner without bags as number `i`, into reserved capacity; the numbers of later owners grow by one.
+    /// Allocates nothing.
     pub fn open_owner(&mut self, i: usize)
         requires place { i ≤ length self.old.owners }
         requires room { 0 < self.old.spare_owners }
@@ -22,7 +22,7 @@ impl OwnerBags {
         put_begin(&mut self.begins, i, begin);
     }
 
-    // Takes an owner without bags out.
+    // Removes an owner without bags.
     fn close_owner(&mut self, i: usize)
         requires { slice_get self.old.owners i ≡ Some [] }
         ensures owners { self.new.owners ≡ remove self.old.owners i }
@@ -30,7 +30,7 @@ impl OwnerBags {
         self.begins.remove(i);
     }
 
-    /// Makes owner `from` owner `to`; the others keep their order. Takes no memory.
+    /// Moves owner `from` to index `to`; the others keep their order. Allocates nothing.
     #[tactic(auto, using(crate::proofs::Turns::moved_up, crate::proofs::Turns::moved_down))]
     pub fn move_owner(&mut self, from: usize, to: usize)
         requires from { from < length self.old.owners }
@@ -47,7 +47,7 @@ impl OwnerBags {
         }
     }
 
-    // Exchanges owners a up to b with owners b up to c.
+    // Exchanges the owners `a..b` with the owners `b..c`.
     fn rotate(&mut self, a: usize, b: usize, c: usize)
         requires first { a ≤ b }
         requires second { b ≤ c }
@@ -64,8 +64,7 @@ impl OwnerBags {
         exchange_begins(&mut self.begins, a, b, c, middle - start, stop - middle);
     }
 
-    /// Makes bag `from` of owner `i` bag `to`, all of which are there; its other bags keep their order. Takes no
-    /// memory.
+    /// Moves bag `from` of owner `i` to index `to`; all must exist. Its other bags keep their order. Allocates nothing.
     pub fn move_bag(&mut self, i: usize, from: usize, to: usize)
         requires from { IsSomeAnd (slice_get self.old.owners i) (λ bags. from < length bags) }
         requires to { IsSomeAnd (slice_get self.old.owners i) (λ bags. to < length bags) }
@@ -78,8 +77,7 @@ impl OwnerBags {
         move_within(&mut self.bags, first, second);
     }
 
-    /// Takes owner `i`, which is there, out with its bags; those behind it get the number before each. Takes no
-    /// memory.
+    /// Removes owner `i`, which must exist, with its bags; the numbers of later owners fall by one. Allocates nothing.
     pub fn cut_owner(&mut self, i: usize)
         requires { i < length self.old.owners }
         ensures { self.new.owners ≡ remove self.old.owners i }
@@ -90,7 +88,7 @@ impl OwnerBags {
         self.close_owner(last);
     }
 
-    // Takes all bags of an owner out, the last one first.
+    // Removes all bags of an owner, the last one first.
     fn empty_owner(&mut self, i: usize)
         requires { i < length self.old.owners }
         ensures { self.new.owners ≡ slice_set self.old.owners i [] }

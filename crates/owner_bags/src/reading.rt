@@ -7,8 +7,8 @@ use crate::owned::OwnerBags;
 use flat_records::{Bags, Recs};
 
 impl OwnerBags {
-    /// The owners whose bags begin at these places, the last of which is the number of all bags, and have these
-    /// records, where there are such owners. Takes no memory.
+    /// The owners with these starts and records, or `None` if there are none. The last start is the number of all bags.
+    /// Allocates nothing.
     pub fn from_flat(begins: Vec<u16>, recs: Recs) -> Option<OwnerBags>
         ensures { MatchOption result ((owners : List (List Bag)) → ¬ AreFlat begins.items recs owners)
             (λ r. AreFlat begins.items recs r.owners) }

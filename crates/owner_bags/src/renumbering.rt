@@ -8,7 +8,7 @@ use crate::owned::OwnerBags;
 use numbered_lists::Renumbering;
 
 impl OwnerBags {
-    /// Gives all amounts of an operator, which are numbers of a list's members, their new ones. Takes no memory.
+    /// Renumbers all amounts of an operator, which are numbers of a list's members. Allocates nothing.
     pub fn renumber(&mut self, operator: u16, by: Renumbering)
         requires { All (CanRenumber operator by) (gens_in (all_bags self.old.owners)) }
         ensures owners { self.new.owners ≡ map (λ bags. map (bag_renumbered operator by) bags) self.old.owners }

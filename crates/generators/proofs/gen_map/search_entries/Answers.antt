@@ -4,7 +4,7 @@ use Rattle.generators.specs.Gens.{rank}
 use Rattle.generators.proofs.Search.{searched}
 use Rattle.generators.proofs.gen_map.search_entries.Goals as goal
 
--- the closure gives an entry's rank
+-- The closure returns an entry's rank.
 pub returns : goal.returns
 returns c =
     let facts = c.binary_search_by_key.ensures in

@@ -4,7 +4,7 @@ use Rattle.flat_records.proofs.TableLaws.{held, bags_size, last_counts}
 use Rattle.flat_records.proofs.bags.Bags.few_records.Goals.{After-index-counts}
 use Rattle.flat_records.proofs.bags.Bags.few_records.Goals as goal
 
--- what was read are the numbers of all
+-- The last indexes are the numbers of all records.
 counted : (c : After-index-counts)
     → c.index-counts.result ≡ (length (gens_in c.args.self.now.bags), length (mods_in c.args.self.now.bags))
 counted c =

@@ -4,7 +4,7 @@ use Rattle.flat_records.proofs.Spots.{Places, spot, inside, place_read, gens_par
 use Rattle.flat_records.proofs.bags.Bags.grow.Goals.{After-index-at}
 use Rattle.flat_records.proofs.bags.Bags.grow.Goals as goal
 
--- both places are within the lists
+-- Both indexes are within the lists.
 within : (c : After-index-at)
     → (c.index-at.result.now.0 + c.args.j ≤ length c.self.inside.gens.items)
     × (c.index-at.result.now.1 + c.args.i ≤ length c.self.inside.mods.items)

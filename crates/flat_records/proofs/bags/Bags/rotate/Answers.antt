@@ -4,7 +4,7 @@ use Rattle.flat_records.proofs.Turns.{Turn, turn, bags_turned}
 use Rattle.flat_records.proofs.bags.Bags.rotate.Goals.{After-index-stop}
 use Rattle.flat_records.proofs.bags.Bags.rotate.Goals as goal
 
--- what the three indexes say of the bags
+-- The bags at the three indexes.
 turned : (c : After-index-stop)
     → Turn
     (record { bags = c.self.inside.bags.items; gens = c.self.inside.gens.items; mods = c.self.inside.mods.items })

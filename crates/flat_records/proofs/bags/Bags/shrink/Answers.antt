@@ -4,7 +4,7 @@ use Rattle.flat_records.proofs.Spots.{Windows, spot, inside, place_read, gens_pa
 use Rattle.flat_records.proofs.bags.Bags.shrink.Goals.{After-index-at}
 use Rattle.flat_records.proofs.bags.Bags.shrink.Goals as goal
 
--- both windows are within the lists
+-- Both ranges are within the lists.
 within : (c : After-index-at)
     → (c.index-at.result.now.0 + c.args.j + c.args.n ≤ length c.self.inside.gens.items)
     × (c.index-at.result.now.1 + c.args.i + c.args.m ≤ length c.self.inside.mods.items)

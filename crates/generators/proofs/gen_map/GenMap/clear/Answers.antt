@@ -2,7 +2,7 @@ use Rattle.std.proofs.Common.{sym, rules}
 use Rattle.generators.proofs.Maps.{at_within, get_at, AreGens-remove, removed_is_remove, get_gap, remove_gap}
 use Rattle.generators.proofs.gen_map.GenMap.clear.Goals as goal
 
--- the operator was set
+-- The operator was set.
 pub remove-requires : goal.remove-requires
 remove-requires c = let within = at_within c.self.invariant c.self.view_is c.in-Ok.ensures.found in search rules
 
@@ -18,7 +18,7 @@ pub returns-in-Ok-clause-cleared : goal.returns-in-Ok-clause-cleared
 returns-in-Ok-clause-cleared c =
     rw c.remove.ensures.items (removed_is_remove c.self.invariant c.self.view_is c.in-Ok.ensures.found)
 
--- it was not
+-- It was not set.
 pub returns-in-Err-clause-was : goal.returns-in-Err-clause-was
 returns-in-Err-clause-was c = sym (get_gap c.self.invariant c.self.view_is c.in-Err.ensures.absent)
 

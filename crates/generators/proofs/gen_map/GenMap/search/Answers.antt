@@ -1,7 +1,7 @@
 use Rattle.generators.proofs.Maps.{entries_held}
 use Rattle.generators.proofs.gen_map.GenMap.search.Goals as goal
 
--- the slice is the map's entries
+-- The slice is the map's entries.
 pub search_entries-requires : goal.search_entries-requires
 search_entries-requires c = rw c.deref.ensures.value c.self.invariant.sorted
 

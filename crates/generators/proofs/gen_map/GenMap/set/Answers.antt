@@ -3,7 +3,7 @@ use Rattle.generators.proofs.Maps.{at_within, get_at, AreGens-set, set_is_insert
 use Rattle.generators.proofs.Maps.{AreGens-insert, inserted_is_insert}
 use Rattle.generators.proofs.gen_map.GenMap.set.Goals as goal
 
--- the operator was set
+-- The operator was set.
 pub index-requires : goal.index-requires
 index-requires c = let within = at_within c.self.invariant c.self.view_is c.in-Ok.ensures.found in search rules
 
@@ -23,7 +23,7 @@ pub returns-in-Ok-clause-ok : goal.returns-in-Ok-clause-ok
 returns-in-Ok-clause-ok c =
     set_is_insert c.self.invariant c.self.view_is c.in-Ok.ensures.found c.args.amount (omega arith) (omega arith)
 
--- it was not
+-- It was not set.
 pub insert-requires : goal.insert-requires
 insert-requires c = let within = gap_within c.self.invariant c.self.view_is c.in-Err.ensures.absent in search rules
 

@@ -4,7 +4,7 @@ use Rattle.hydra_records.proofs.TableLaws.{length-records, slice_get-records, re
 use Rattle.hydra_records.proofs.table.Table.get.Goals as goal
 use Rattle.hydra_records.proofs.table.Table.get.Goals.{After-SIZE}
 
--- the place is below the number of records
+-- The index is below the number of records.
 below : (g : _) (c : After-SIZE g) → c.args.i < length c.self.inside.bytes.now / g.R.Record.SIZE
 below g c =
     let count = length-records g.R.Record.SIZE g.R.Record.of_bytes c.self.inside.bytes.now in

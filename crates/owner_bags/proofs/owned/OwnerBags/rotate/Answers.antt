@@ -4,7 +4,7 @@ use Rattle.owner_bags.proofs.Turns.{Turn, turn, owners_turned}
 use Rattle.owner_bags.proofs.owned.OwnerBags.rotate.Goals.{After-index-stop}
 use Rattle.owner_bags.proofs.owned.OwnerBags.rotate.Goals as goal
 
--- what the three places say of the owners
+-- The owners at the three indexes.
 turned : (c : After-index-stop)
     → Turn (record { begins = c.self.inside.begins.items; bags = c.self.inside.bags.bags }) c.args.self.now.owners
     c.args.a c.args.b c.args.c c.index-start.result.now c.index-middle.result.now c.index-stop.result.now
