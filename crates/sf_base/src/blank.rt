@@ -1,8 +1,8 @@
-//! Placeholder values for list slots.
+//! Blank values, which fill unused slots of a list.
 use std::alloc::Global;
 
-/// A type that has a placeholder value.
+/// A type with a blank value, which fills an unused slot.
 pub trait Blank: Drop + Sized {
-    /// Returns a placeholder. Allocates nothing.
+    /// Returns a blank value. Allocates nothing.
     fn blank(alloc: Global) -> Self;
 }

@@ -1,5 +1,5 @@
 //! What every crate of sfbank depends on: names, limits, little-endian numbers, parts of slices, borrowed bytes,
-//! placeholders and `OutOfMemory`.
+//! blank values and `OutOfMemory`.
 #![tactic(auto)]
 
 mod blank;
