@@ -49,8 +49,8 @@ impl Modulator {
         self.dest & LINK_DESTINATION != 0 || self.source & 0xff == LINK_CONTROLLER
     }
 
-    /// Whether the two are identical, so that the later one replaces the earlier: their sources, their destinations and
-    /// their amount sources are equal (SoundFont 2.04, section 9.5.1).
+    /// Whether the two modulators are identical in the sense of SoundFont 2.04, section 9.5.1: their sources, their
+    /// destinations and their amount sources are equal.
     pub fn same_identity(&self, other: &Modulator) -> bool
         ensures value { result ≡ same_identity self.now other.now }
         ensures same { IsTrue result ↔ SameIdentity self.now other.now }
