@@ -1,4 +1,5 @@
-//! Changes of bags: zones and owners that come, and bags of global zones that open and close.
+//! Changes of the bags of owners: insertion of zones and whole owners, and the bags of global zones, which exist only
+//! while they hold a record.
 ghost use Rattle.std.specs.Prelude.{◌≡◌, ◌==◌, ◌≤◌, ◌<◌, ◌++◌, ◌∷◌, [], length, insert, slice_get, map, IfSome, IsSomeAnd, OnOk, OnErr, IsSome};
 ghost use Rattle.numbered_lists.specs.Moved.{changed};
 ghost use Rattle.flat_records.specs.Bags.{Bag};
@@ -16,7 +17,7 @@ use modulators::Modulator;
 use owner_bags::OwnerBags;
 use sf_base::OutOfMemory;
 
-/// Puts a zone in as bag `k` of owner `i`.
+/// Inserts the bag of a zone as bag `k` of owner `i`.
 pub(crate) fn put_zone(bags: &mut OwnerBags, i: usize, k: usize, operator: u16, zone: &Zone)
     requires place { IsSomeAnd (slice_get bags.old.owners i) (λ own. k ≤ length own) }
     requires room { HasRoom bags.old (records_of_zone zone.now) }
@@ -28,7 +29,7 @@ pub(crate) fn put_zone(bags: &mut OwnerBags, i: usize, k: usize, operator: u16, 
     bags.put_gens(i, k, gens.len(), &[(operator, zone.target)]);
 }
 
-/// Puts a preset or an instrument behind the others.
+/// Appends the bags of a preset or an instrument as the last owner.
 pub(crate) fn append_owner<H>(bags: &mut OwnerBags, operator: u16, owner: &WithZones<H>)
     requires room { HasRoom bags.old (records_of_owner owner.now) }
     requires owners { 0 < bags.old.spare_owners }
@@ -40,7 +41,7 @@ pub(crate) fn append_owner<H>(bags: &mut OwnerBags, operator: u16, owner: &WithZ
     append_zones(bags, i, operator, owner.zones.as_slice());
 }
 
-// Puts the bag of a global zone behind the bags of owner i, if it is to have one.
+// Appends the bag of a global zone to owner i, unless the global zone is empty.
 fn append_global(bags: &mut OwnerBags, i: usize, global: &GlobalZone)
     requires place { i < length bags.old.owners }
     requires room { HasRoom bags.old (records_of_global global.now) }
@@ -54,7 +55,7 @@ fn append_global(bags: &mut OwnerBags, i: usize, global: &GlobalZone)
     bags.put_bag(i, count, global.gens.entries(), global.mods.as_slice());
 }
 
-// Puts the bags of zones behind the bags of owner i.
+// Appends the bags of zones to owner i.
 fn append_zones(bags: &mut OwnerBags, i: usize, operator: u16, zones: &[Zone])
     requires place { i < length bags.old.owners }
     requires room { HasRoom bags.old (records_of_zones zones.now) }
@@ -66,7 +67,7 @@ fn append_zones(bags: &mut OwnerBags, i: usize, operator: u16, zones: &[Zone])
     }
 }
 
-/// Opens a bag in front of the others of owner `i`.
+/// Inserts a bag as the first of owner `i`.
 pub(crate) fn open_bag(
     bags: &mut OwnerBags,
     i: usize,
@@ -88,7 +89,7 @@ pub(crate) fn open_bag(
     Ok(())
 }
 
-/// Takes generator `j` of bag `k` of owner `i` out, and with its last record the bag.
+/// Removes generator `j` of bag `k` of owner `i`, and the bag too if that was its last record.
 pub(crate) fn take_gen(bags: &mut OwnerBags, i: usize, k: usize, j: usize)
     requires { IsSomeAnd (bag_at bags.old.owners i k) (λ (b : Bag). j < length b.gens) }
     ensures { IfSome (bag_at bags.old.owners i k) (λ (b : Bag). bags.new.owners ≡ gen_taken bags.old.owners i k j b) }
@@ -100,7 +101,7 @@ pub(crate) fn take_gen(bags: &mut OwnerBags, i: usize, k: usize, j: usize)
     }
 }
 
-/// Takes modulator `j` of bag `k` of owner `i` out, and with its last record the bag.
+/// Removes modulator `j` of bag `k` of owner `i`, and the bag too if that was its last record.
 pub(crate) fn take_mod(bags: &mut OwnerBags, i: usize, k: usize, j: usize)
     requires { IsSomeAnd (bag_at bags.old.owners i k) (λ (b : Bag). j < length b.mods) }
     ensures { IfSome (bag_at bags.old.owners i k) (λ (b : Bag). bags.new.owners ≡ mod_taken bags.old.owners i k j b) }

@@ -1,4 +1,4 @@
-//! What keeps a place in the lists of a bank.
+//! Blank values, which fill the unused capacity of a bank's lists.
 use crate::parts::{Head, Kind, Sample};
 use sample_view::Points;
 use sf_base::{Blank, Name20};

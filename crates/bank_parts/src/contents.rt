@@ -1,4 +1,4 @@
-//! What stands against the zones of a preset or an instrument that comes into a bank.
+//! Tests for what makes the zones of a preset or an instrument invalid in a bank.
 ghost use Rattle.std.specs.Prelude.{◌≡◌};
 ghost use Rattle.std.specs.List.{list_any};
 ghost use Rattle.bank_parts.specs.declared.parts.Zone.{Zone};
@@ -8,7 +8,7 @@ use crate::parts::{WithZones, Zone};
 use generators::{GenMap, Level, Range, allowed, is_range_operator};
 
 impl<H> WithZones<H> {
-    /// Whether a zone's target is past so many members, instruments or samples.
+    /// Whether the target of any zone is not below `count`, the number of instruments or samples.
     pub fn misses_target(&self, count: usize) -> bool
         ensures { result ≡ misses_target count self.now }
     {
@@ -18,16 +18,16 @@ impl<H> WithZones<H> {
             .any(|zone| count <= zone.target as usize)
     }
 
-    /// Whether it has a generator that the level does not allow (SoundFont 2.04, section 8.1.2); the
-    /// target is none.
+    /// Whether any zone has a generator that the level does not allow (SoundFont 2.04, section 8.1.2). The target
+    /// does not count as a generator.
     pub fn has_foreign(&self, at: Level) -> bool
         ensures { result ≡ has_foreign at self.now }
     {
         sets_foreign(at, &self.global.gens) || any_sets_foreign(at, self.zones.as_slice())
     }
 
-    /// Whether it has a range of keys or of velocities whose ends are in the wrong order, or over 127
-    /// (SoundFont 2.04, section 8.1.2, `keyRange` and `velRange`).
+    /// Whether any zone has a key or velocity range that is reversed or exceeds 127 (SoundFont 2.04, section 8.1.2,
+    /// `keyRange` and `velRange`).
     pub fn has_bad_range(&self) -> bool
         ensures { result ≡ has_bad_range self.now }
     {
@@ -56,14 +56,14 @@ fn any_sets_bad_range(zones: &[Zone]) -> bool
     zones.iter().any(|zone| sets_bad_range(&zone.gens))
 }
 
-/// Whether a map has a range whose ends are in the wrong order, or over 127.
+/// Whether a map has a key or velocity range that is reversed or exceeds 127.
 pub fn sets_bad_range(gens: &GenMap) -> bool
     ensures { result ≡ sets_bad_range gens.now }
 {
     gens.entries().iter().any(|&entry| is_bad_range(entry))
 }
 
-/// Whether an operator and its amount are a range whose ends are in the wrong order, or over 127.
+/// Whether a generator, given as operator and amount, is a key or velocity range that is reversed or exceeds 127.
 pub fn is_bad_range(entry: (u16, u16)) -> bool
     ensures { result ≡ is_bad_range entry }
 {

@@ -1,4 +1,4 @@
-//! Equal parts in memory of their own. Points stay where they are: their slices are copied.
+//! Copies of banks and their parts, in memory of their own. Points and texts are not copied, but borrowed again.
 ghost use Rattle.std.specs.Prelude.{◌≡◌, IfOk};
 
 use crate::parts::{GlobalZone, Parts, Sample, WithZones, Zone};
@@ -9,9 +9,10 @@ use numbered_lists::NumberedList;
 use sf_base::{Lent, OutOfMemory};
 use std::alloc::Global;
 
-/// What a bank's lists hold, and what changes them.
+/// Values in the lists of a bank, which can be copied.
 pub trait CopyOut: Sized {
-    /// An equal one, in memory of its own; or out of memory. Points and texts stay where they are.
+    /// Returns an equal value in memory of its own, or `OutOfMemory`. Points and texts are borrowed again, not
+    /// copied.
     fn copy_out(&self, alloc: Global) -> Result<Self, OutOfMemory>
         ensures { IfOk result (λ copy. copy ≡ self.now) };
 }
@@ -50,7 +51,7 @@ impl<'a> CopyOut for Sample<'a> {
     }
 }
 
-/// Equal parts.
+/// Returns an equal bank in memory of its own, or `OutOfMemory`.
 pub fn copy_parts<'a>(alloc: Global, parts: &Parts<'a>) -> Result<Parts<'a>, OutOfMemory>
     ensures { IfOk result (λ copy. copy ≡ parts.now) }
 {
@@ -78,7 +79,7 @@ fn copy_texts<'a>(texts: &Texts<'a>) -> Texts<'a>
     }
 }
 
-/// Equal members.
+/// Returns a list of equal members, or `OutOfMemory`.
 pub(crate) fn copy_list<T: CopyOut + Drop>(
     alloc: Global,
     list: &NumberedList<T>,

@@ -1,11 +1,11 @@
-//! How many records presets and instruments have, as a file would hold them.
+//! How many records the zones of presets and instruments have in a file.
 ghost use Rattle.std.specs.Prelude.{◌≡◌};
 ghost use Rattle.bank_parts.specs.Counts.{records_of_global, records_of_zone, records_of_owner, records_sum, all_counted};
 
 use crate::parts::{GlobalZone, WithZones, Zone};
 
-/// So many zones, generators and modulators: a zone's target is a generator, and an empty global zone
-/// is none.
+/// Numbers of zone, generator and modulator records. The target of a zone counts as a generator, and an empty global
+/// zone counts as none.
 #[derive(Clone, Copy, Debug, PartialEq, Eq)]
 pub struct Records {
     pub zones: usize,
@@ -14,7 +14,7 @@ pub struct Records {
 }
 
 impl Records {
-    // Both together. A sum that would pass 2^64 stays below it.
+    // The sum of both. Each number saturates at 2^64 - 1.
     pub(crate) fn plus(self, more: Records) -> Records
         ensures { result ≡ all_counted (records_sum self more) }
     {
@@ -27,8 +27,7 @@ impl Records {
 }
 
 impl<H> WithZones<H> {
-    /// How many records its zones have, as a file would hold them. A sum that would pass 2^64, far
-    /// above each limit, stays below it.
+    /// How many records its zones have in a file. Each number saturates at 2^64 - 1, far above each limit.
     pub fn records(&self) -> Records
         ensures { result ≡ all_counted (records_of_owner self.now) }
     {
@@ -53,7 +52,7 @@ fn global_records(global: &GlobalZone) -> Records
 }
 
 impl Zone {
-    /// How many records it has, as a file would hold them: its target is one of its generators.
+    /// How many records the zone has in a file. Its target counts as a generator.
     pub fn records(&self) -> Records
         ensures { result ≡ all_counted (records_of_zone self.now) }
     {

@@ -1,5 +1,5 @@
-//! The law that all that a preset, an instrument or a sample holds is in the range of its field. It
-//! does nothing: every value of the code is, and here it is known.
+//! Laws that each number, name and text of a value lies in the range of its field. These functions do nothing at run
+//! time; a call makes the fact known to the prover.
 ghost use Rattle.std.specs.List.{AllByRecursion};
 ghost use Rattle.modulators.specs.Modulators.{FitsModulator};
 ghost use Rattle.bank_parts.specs.Fits.{FitsOwner, FitsGlobal, FitsZone, FitsSample, FitsLoop, FitsKind};
@@ -9,7 +9,7 @@ use crate::parts::{GlobalZone, Kind, Sample, WithZones, Zone};
 use modulators::Modulator;
 
 impl<H: OwnerHead> WithZones<H> {
-    /// The law that the head, and all that the zones hold, is in the range of its field.
+    /// The law that the head and the contents of all zones lie in the ranges of their fields. It does nothing.
     pub fn fits(&self)
         ensures { FitsOwner H.IsFit self.now }
     {
@@ -35,7 +35,7 @@ fn zones_fit(zones: &[Zone])
 }
 
 impl Zone {
-    /// The law that the target and all that the zone holds is in the range of its field.
+    /// The law that the target, the generators and the modulators lie in the ranges of their fields. It does nothing.
     pub fn fits(&self)
         ensures { FitsZone self.now }
     {
@@ -53,13 +53,13 @@ fn mods_fit(mods: &[Modulator])
     }
 }
 
-/// The law that each number of a modulator is in the range of its field.
+/// The law that each number of a modulator lies in the range of its field. It does nothing.
 pub fn modulator_fits(_modulator: Modulator)
     ensures { FitsModulator _modulator }
 {}
 
 impl<'a> Sample<'a> {
-    /// The law that all that the sample holds is in the range of its field.
+    /// The law that each field of the sample, and each of its points, lies in its range. It does nothing.
     pub fn fits(&self)
         ensures { FitsSample self.now }
     {
@@ -73,7 +73,7 @@ impl<'a> Sample<'a> {
     }
 }
 
-/// The law that both ends of a loop are in the ranges of their fields.
+/// The law that both ends of a loop lie in the ranges of their fields. It does nothing.
 pub fn loop_fits(looped: Option<(u32, u32)>)
     ensures { FitsLoop looped }
 {
@@ -84,7 +84,7 @@ pub fn loop_fits(looped: Option<(u32, u32)>)
 }
 
 impl Kind {
-    /// The law that the number of a linked sample is in the range of its field.
+    /// The law that the number of a linked sample lies in the range of its field. It does nothing.
     pub fn fits(self)
         ensures { FitsKind self }
     {

@@ -1,4 +1,4 @@
-//! The flat lists of presets or of instruments, as a file has them.
+//! Conversion between `Owners` and the flat lists of a file.
 ghost use Rattle.std.specs.Prelude.{◌≡◌, List, MatchOption, IfSome};
 ghost use Rattle.std.specs.List.{AllByRecursion};
 ghost use Rattle.generators.specs.Levels.{target_operator};
@@ -17,8 +17,8 @@ use numbered_lists::NumberedList;
 use owner_bags::OwnerBags;
 
 impl<H: OwnerHead> Owners<H> {
-    /// Those that have these heads and flat lists, where there are some, none of whose maps has the operator of
-    /// the targets. Takes no memory.
+    /// The presets or instruments with these heads and flat lists; none if the lists form no such owners, or if one
+    /// of their maps has the operator of targets. Allocates nothing.
     pub fn from_flat(heads: NumberedList<H>, first_bags: Vec<u16>, recs: Recs) -> Option<Owners<H>>
         ensures lists { MatchOption result
             ((owners : List (WithZones H)) → AllByRecursion (IsPlainOwner (target_operator H.LEVEL)) owners
@@ -40,31 +40,31 @@ impl<H: OwnerHead> Owners<H> {
         Some(Owners { heads, bags })
     }
 
-    /// The number of each one's first bag, and last how many bags there are (SoundFont 2.04, sections 7.2 and
-    /// 7.6, `wPresetBagNdx` and `wInstBagNdx`).
+    /// The index of each owner's first bag, and last the number of bags (SoundFont 2.04, sections 7.2 and 7.6,
+    /// `wPresetBagNdx` and `wInstBagNdx`).
     pub fn first_bags(&self) -> &[u16]
         ensures { result.now ≡ (lists_of H.LEVEL self.now).first_bags }
     {
         self.bags.begins()
     }
 
-    /// The numbers of each bag's first generator and modulator, and last how many there are (sections 7.3 and
-    /// 7.7). A zone has a bag, and so has a global zone that is not empty.
+    /// The indexes of each bag's first generator and first modulator, and last how many there are (sections 7.3 and
+    /// 7.7). Each zone has a bag, and so has a global zone that is not empty.
     pub fn bag_records(&self) -> &[(u16, u16)]
         ensures { result.now ≡ (lists_of H.LEVEL self.now).bags }
     {
         self.bags.bag_records()
     }
 
-    /// The operators and amounts of all bags, each zone's target as its last, and behind them the terminal
-    /// (sections 7.5 and 7.9).
+    /// The generators of all bags as operator and amount, the target last in each zone, then the terminal (sections
+    /// 7.5 and 7.9).
     pub fn gen_records(&self) -> &[(u16, u16)]
         ensures { result.now ≡ (lists_of H.LEVEL self.now).gens }
     {
         self.bags.gen_records()
     }
 
-    /// The modulators of all bags, and behind them the terminal (sections 7.4 and 7.8).
+    /// The modulators of all bags, then the terminal (sections 7.4 and 7.8).
     pub fn mod_records(&self) -> &[Modulator]
         ensures { result.now ≡ (lists_of H.LEVEL self.now).mods }
     {

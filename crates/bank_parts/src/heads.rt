@@ -1,4 +1,4 @@
-//! What a preset or an instrument is besides its zones.
+//! The head of a preset or an instrument: its fields besides its zones.
 ghost use Rattle.sf_base.specs.Names.{IsName};
 ghost use Rattle.generators.specs.declared.level.Level.{Level};
 
@@ -6,23 +6,23 @@ use crate::parts::Head;
 use generators::Level;
 use sf_base::{Blank, Name20};
 
-/// What a preset has besides its zones, or an instrument.
+/// The head of a preset (`Head`) or an instrument (`Name20`).
 pub trait OwnerHead: Copy + Blank {
     ghost use Rattle.std.specs.Prelude.{ℕ, List};
 
-    /// Whose zones they are.
+    /// The level of the owners with such heads.
     ghost LEVEL: { Level };
 
-    /// The name.
+    /// The name in the head.
     ghost name: { Self → List ℕ };
 
-    /// Each number and name is in the range of its field.
+    /// Each number and name lies in the range of its field.
     ghost IsFit: { Self → Type 0 };
 
-    /// Whose zones they are.
+    /// The level of the owners with such heads.
     const LEVEL: Level;
 
-    /// The law that the name is one, and that each field is in its range. It does nothing.
+    /// The law that the name is a valid name, and that each field lies in its range. It does nothing.
     fn fits(&self)
         ensures named { IsName (name self.now) }
         ensures fits { IsFit self.now };

@@ -1,9 +1,9 @@
-//! Laws of presets and instruments as data.
+//! Laws about changes of presets and instruments, as data.
 ghost use Rattle.bank_parts.specs.PlaceLaws.{PlaceRead, ZonesRead, PlaceReturns, ZonesReturn, PlaceKept, ZonesKept, OthersStay, OthersKeepZones, PlacesStay, GlobalStays, HeadsStay, HeadsStayByZones, TargetsStay};
 ghost use Rattle.bank_parts.specs.ChangesUndone.{ZoneAddedUndone, ZoneRemovedUndone, ZoneMovedUndone, TargetSetBack, GenSetBack, GenSetCleared, GenClearedUndone, ModAddedUndone, ModRemovedUndone, ModSetBack, ZoneAddedRead, ZoneMovedRead, TargetSetRead, GenSetRead, GenClearedRead, ModAddedRead, ModSetRead};
 
-/// A change of what a place holds, or of the zones of a member: what is read after it, what takes it
-/// back, and that one which leaves what is there leaves all.
+/// A change of one place, or of the zones of one owner: what is read after it, which change undoes it, and that a
+/// change which keeps the old value keeps the whole list.
 pub fn places_are_lenses<H>()
     ensures place_read { PlaceRead H }
     ensures zones_read { ZonesRead H }
@@ -13,7 +13,7 @@ pub fn places_are_lenses<H>()
     ensures zones_kept { ZonesKept H }
 {}
 
-/// Such a change leaves the other members and places, and the heads; and one of a place the targets.
+/// Such a change keeps the other owners, the other places and all heads; a change of one place keeps all targets.
 pub fn other_places_stay<H>()
     ensures members { OthersStay H }
     ensures members_keep_zones { OthersKeepZones H }
@@ -24,8 +24,7 @@ pub fn other_places_stay<H>()
     ensures targets { TargetsStay H }
 {}
 
-/// An edit of zones, generators or modulators and its inverse leave presets and instruments as they
-/// were.
+/// An edit of zones, generators or modulators followed by its inverse gives back the same presets or instruments.
 pub fn zone_changes_undone<H>()
     ensures zone_added { ZoneAddedUndone H }
     ensures zone_removed { ZoneRemovedUndone H }
@@ -39,7 +38,7 @@ pub fn zone_changes_undone<H>()
     ensures mod_set { ModSetBack H }
 {}
 
-/// What such an edit put there is read, so that the inverse of its inverse is the edit.
+/// What such an edit stored is read afterwards, so that the inverse of its inverse is the edit.
 pub fn zone_changes_read<H>()
     ensures zone_added { ZoneAddedRead H }
     ensures zone_moved { ZoneMovedRead H }

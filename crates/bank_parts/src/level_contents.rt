@@ -1,4 +1,4 @@
-//! What stands against the presets or the instruments, which targets they have, and how many records.
+//! Whether all presets or all instruments are valid, whether they use a target, and how many records they have.
 ghost use Rattle.std.specs.Prelude.{◌≡◌, ◌↔◌, IsTrue};
 ghost use Rattle.std.specs.Bool.{OnTrue};
 ghost use Rattle.std.specs.List.{AllByRecursion, list_any, list_all};
@@ -22,15 +22,14 @@ use generators::{Level, allowed};
 use modulators::Modulator;
 
 impl<H: OwnerHead> Owners<H> {
-    /// Whether a zone of any of them has this number as its target.
+    /// Whether any zone has this number as its target.
     pub fn any_targets(&self, number: u32) -> bool
         ensures { result ≡ list_any (targets number) self.now }
     {
         any_is_target(Self::operator(), number, self.bags.gen_records())
     }
 
-    /// How many records they have in all, as a file would hold them. A sum that would pass 2^64, far above
-    /// each limit, stays below it.
+    /// How many records all of them have in a file. Each number saturates at 2^64 - 1, far above each limit.
     pub fn records(&self) -> Records
         ensures { result ≡ all_counted (records_total records_of_owner self.now) }
     {
@@ -38,7 +37,7 @@ impl<H: OwnerHead> Owners<H> {
         Records { zones, gens, mods }
     }
 
-    /// Whether all may stand in a bank, where a target names one of so many members.
+    /// Whether all are valid in a bank that has `targets` instruments (for presets) or samples (for instruments).
     pub fn are_valid(&self, targets: usize) -> bool
         ensures valid { IsTrue result ↔ AllByRecursion (IsOwner H.name H.LEVEL targets) self.now }
         ensures fits { OnTrue result (AllByRecursion (FitsOwner H.IsFit) self.now) }
@@ -51,7 +50,7 @@ impl<H: OwnerHead> Owners<H> {
     }
 }
 
-// Goes over all of them, for a step without a branch lets the compiler do several at once.
+// Reads all entries without an early exit, so that the compiler can vectorize the loop.
 fn any_is_target(operator: u16, number: u32, gens: &[(u16, u16)]) -> bool
     ensures { result ≡ list_any (is_target operator number) gens.now }
 {
@@ -69,7 +68,7 @@ fn are_valid_records(level: Level, targets: usize, gens: &[(u16, u16)]) -> bool
         .all(|&entry| is_valid_record(level, targets, entry))
 }
 
-// Whether a target is below so many members, or another generator may stand at the level.
+// Whether the entry is a target below `targets`, or another generator that is valid at the level.
 fn is_valid_record(level: Level, targets: usize, entry: (u16, u16)) -> bool
     ensures { result ≡ is_valid_record level targets entry }
 {
@@ -80,7 +79,7 @@ fn is_valid_record(level: Level, targets: usize, entry: (u16, u16)) -> bool
     allowed(operator, level) && !is_bad_range(entry)
 }
 
-// The law that the names are names, and each field is in its range. It does nothing.
+// The law that the names are valid, and that each field lies in its range. It does nothing.
 fn heads_fit<H: OwnerHead>(heads: &[H])
     ensures named { AllByRecursion (λ h. IsName (H.name h)) heads.now }
     ensures fit { AllByRecursion H.IsFit heads.now }
@@ -90,7 +89,7 @@ fn heads_fit<H: OwnerHead>(heads: &[H])
     }
 }
 
-/// The law that operators and amounts are in the ranges of their fields. It does nothing.
+/// The law that operators and amounts lie in the ranges of their fields. It does nothing.
 pub(crate) fn gens_fit(gens: &[(u16, u16)])
     ensures { FitEntries gens.now }
 {
@@ -103,7 +102,7 @@ fn entry_fits(_entry: (u16, u16))
     ensures { FitsEntry _entry }
 {}
 
-// The law that the numbers of modulators are in the ranges of their fields. It does nothing.
+// The law that the numbers of modulators lie in the ranges of their fields. It does nothing.
 fn mods_fit(mods: &[Modulator])
     ensures { AllByRecursion FitsModulator mods.now }
 {

@@ -1,5 +1,5 @@
-//! What a bank is made of: its texts, presets, instruments and samples with their zones and points; what
-//! stands against them; and equal parts in memory of their own.
+//! The parts of a bank: texts, presets, instruments and samples, with their zones and points; tests for what makes
+//! them invalid; and their copies.
 #![tactic(auto)]
 
 mod bag_changes;

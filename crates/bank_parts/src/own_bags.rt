@@ -1,4 +1,4 @@
-//! Which bags are those of presets or of instruments.
+//! Tests whether bags read from a file are the bags of presets or of instruments.
 ghost use Rattle.std.specs.Prelude.{◌≡◌, ◌<◌, ◌==◌, ◌↔◌, ℕ, length, IsTrue};
 ghost use Rattle.std.specs.List.{list_any};
 ghost use Rattle.bank_parts.specs.OwnBags.{is_plain, is_own_bag, AreOwnBags, AreAllBags};
@@ -32,8 +32,8 @@ fn are_own_bags(bags: &OwnerBags, operator: u16, i: usize) -> bool
     true
 }
 
-// Whether a bag with these generators and modulators is that of a zone, or, where it is the first, of a global
-// zone that holds something.
+// Whether a bag with these generators and modulators is that of a zone or, if it is the first, of a global zone that
+// is not empty.
 fn is_own_bag(operator: u16, is_first: bool, gens: &[(u16, u16)], mods: &[Modulator]) -> bool
     ensures { result ≡ is_own_bag operator is_first (record { gens = gens.now; mods = mods.now }) }
 {

@@ -1,4 +1,4 @@
-//! Presets and instruments that come and go.
+//! Insertion and removal of whole presets or instruments.
 ghost use Rattle.bank_parts.specs.Room.{AreStorable};
 ghost use Rattle.std.specs.Prelude.{◌≡◌, ◌↔◌, IsTrue, ◌<◌, ◌≤◌, ◌++◌, ◌∷◌, [], Some, length, insert, remove, slice_get, IfOk, IfErr, OnOk, OnErr};
 
@@ -11,8 +11,8 @@ use sf_base::OutOfMemory;
 use std::alloc::Global;
 
 impl<H: OwnerHead> Owners<H> {
-    /// Puts one in as number `i`; those from there on get the next number each. When out of memory, the
-    /// list stays as it is, and it comes back.
+    /// Inserts a preset or an instrument as number `i`; later ones move up by one. If an allocation fails, the list
+    /// is unchanged and the argument is returned.
     pub fn insert(&mut self, i: usize, owner: WithZones<H>) -> Result<(), WithZones<H>>
         requires place { i ≤ length self.old }
         requires storable { AreStorable H.LEVEL (insert self.old i owner) }
@@ -34,8 +34,8 @@ impl<H: OwnerHead> Owners<H> {
         Ok(())
     }
 
-    /// Whether flat lists can have one more, last: 16 bits count the records of each kind, and none of its maps has
-    /// the operator of the targets.
+    /// Whether the flat lists can hold one more: their records of each kind stay below 65,536, and none of its maps
+    /// has the operator of targets.
     pub fn has_room_for(&self, owner: &WithZones<H>) -> bool
         ensures { IsTrue result ↔ AreStorable H.LEVEL (self.now ++ owner.now ∷ []) }
     {
@@ -43,8 +43,8 @@ impl<H: OwnerHead> Owners<H> {
         !has_operator(Self::operator(), owner) && can_hold(&self.bags, owner.records())
     }
 
-    /// Puts one behind the others, where [`has_room_for`](Owners::has_room_for) holds. When out of memory, the list
-    /// stays as it is.
+    /// Appends one, for which [`has_room_for`](Owners::has_room_for) must hold. On `OutOfMemory` the list is
+    /// unchanged.
     pub fn push(&mut self, owner: WithZones<H>) -> Result<(), OutOfMemory>
         requires { AreStorable H.LEVEL (self.old ++ owner ∷ []) }
         ensures ok { OnOk result (self.new ≡ self.old ++ owner ∷ []) }
@@ -57,8 +57,7 @@ impl<H: OwnerHead> Owners<H> {
         Ok(())
     }
 
-    /// Takes number `i`, which is there, out; those behind it get the number before each. When out of
-    /// memory, nothing changes.
+    /// Removes number `i` and returns it; later ones move down by one. On `OutOfMemory` nothing changes.
     pub fn remove(&mut self, alloc: Global, i: usize) -> Result<WithZones<H>, OutOfMemory>
         requires { i < length self.old }
         ensures value { IfOk result (λ owner. slice_get self.old i ≡ Some owner) }

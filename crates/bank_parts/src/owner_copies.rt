@@ -1,4 +1,4 @@
-//! Nested values of what flat lists hold, in memory of their own; and equal flat lists.
+//! Copies of single zones, single owners and whole `Owners`, in memory of their own.
 ghost use Rattle.std.specs.Prelude.{◌≡◌, ◌<◌, length, slice_get, Some, IfOk};
 ghost use Rattle.std.specs.Option.{option_map};
 ghost use Rattle.bank_parts.specs.declared.owners.ZonePlace.TheVariants as place;
@@ -17,7 +17,7 @@ use sf_base::OutOfMemory;
 use std::alloc::Global;
 
 impl<H: OwnerHead> Owners<H> {
-    /// A zone equal to zone `k` of number `i`, both of which are there, in memory of its own.
+    /// Returns a copy of zone `k` of owner `i`, in memory of its own.
     pub fn copy_zone(&self, alloc: Global, i: usize, k: usize) -> Result<Zone, OutOfMemory>
         requires { HasPlace self.now i (place.Zone k) }
         ensures { IfOk result (λ zone. zone_at self.now i k ≡ Some zone) }
@@ -28,7 +28,7 @@ impl<H: OwnerHead> Owners<H> {
         Ok(Zone { target, gens, mods })
     }
 
-    /// One equal to number `i`, which is there, in memory of its own.
+    /// Returns a copy of owner `i`, in memory of its own.
     pub(crate) fn copy_owner(&self, alloc: Global, i: usize) -> Result<WithZones<H>, OutOfMemory>
         requires { i < length self.now }
         ensures { IfOk result (λ owner. slice_get self.now i ≡ Some owner) }
@@ -83,7 +83,7 @@ impl<H: OwnerHead> Owners<H> {
         Ok(NumberedList::from_vec(copies))
     }
 
-    /// Equal ones in memory of their own.
+    /// Returns a copy of all, in memory of its own.
     pub fn copy(&self, alloc: Global) -> Result<Owners<H>, OutOfMemory>
         ensures { IfOk result (λ copy. copy ≡ self.now) }
     {

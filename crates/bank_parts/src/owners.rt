@@ -1,4 +1,4 @@
-//! The presets or the instruments of a bank, over flat lists of records.
+//! The presets or the instruments of a bank, stored as flat lists of records.
 ghost use Rattle.std.specs.Prelude.{◌≡◌, ◌<◌, ◌+◌, length, slice_get, [], Some, IfOk, IfSome};
 ghost use Rattle.generators.specs.Levels.{target_operator};
 ghost use Rattle.numbered_lists.specs.Moved.{moved, changed};
@@ -14,26 +14,25 @@ use sf_base::OutOfMemory;
 use std::alloc::Global;
 use std::marker::Model;
 
-/// Where generators and modulators stand in a preset or an instrument: in its global zone, or in the
-/// zone of a number.
+/// Which zone of a preset or an instrument: the global zone, or the zone with this number.
 #[derive(Clone, Copy, Debug, PartialEq, Eq)]
 pub enum ZonePlace {
     Global,
     Zone(usize),
 }
 
-/// The presets of a bank, or its instruments, in order. They are kept as a file has them, as heads and flat
-/// lists of records, so it lends no zone, but what one holds.
+/// The presets or the instruments of a bank, in order. They are stored as in a file, as heads and flat lists of
+/// records, so a zone cannot be borrowed whole, only its contents.
 ///
-/// What flat lists can't hold is answered as out of memory: more than 65,535 zones, generators or modulators
-/// in all, or a map with the operator of the targets (SoundFont 2.04, sections 7.3 to 7.9).
+/// The calls return `OutOfMemory` for what flat lists can't hold: more than 65,535 zones, generators or modulators in
+/// all, or a map with the operator of targets (SoundFont 2.04, sections 7.3 to 7.9).
 pub struct Owners<H: OwnerHead> {
     pub(crate) heads: EndedList<H>,
     pub(crate) bags: OwnerBags,
 }
 
-// Not derived: a derived drop is written out, list by list, at each exit of whatever holds the value, and proved
-// there; this one is a call.
+// Not derived: a derived drop is expanded and proved field by field at each exit of every function that holds the
+// value; this one is a call.
 impl<H: OwnerHead> Drop for Owners<H> {
     fn drop(self) {
         let Owners { heads: _, bags: _ } = self;
@@ -58,7 +57,7 @@ impl<H: OwnerHead> Model for Owners<H> {
 }
 
 impl<H: OwnerHead> Owners<H> {
-    /// None, with room for so many.
+    /// An empty list with capacity for `count` owners.
     pub fn with_capacity(alloc: Global, count: usize) -> Result<Owners<H>, OutOfMemory>
         ensures { IfOk result (λ owners. owners ≡ []) }
     {
@@ -68,14 +67,14 @@ impl<H: OwnerHead> Owners<H> {
         Ok(Owners { heads, bags })
     }
 
-    /// How many there are.
+    /// How many owners there are.
     pub fn len(&self) -> usize
         ensures { result ≡ length self.now }
     {
         self.heads.len()
     }
 
-    /// What number `i`, which is there, has besides its zones.
+    /// The head of owner `i`.
     pub fn head(&self, i: usize) -> &H
         requires { i < length self.now }
         ensures { head_at self.now i ≡ Some result.now }
@@ -83,8 +82,7 @@ impl<H: OwnerHead> Owners<H> {
         self.heads.member(i)
     }
 
-    /// Gives number `i`, which is there, another head, and gives back the one that it had. Takes no
-    /// memory.
+    /// Replaces the head of owner `i` and returns the old one. Allocates nothing.
     pub fn replace_head(&mut self, i: usize, head: H) -> H
         requires { i < length self.old }
         ensures value { head_at self.old i ≡ Some result }
@@ -93,7 +91,7 @@ impl<H: OwnerHead> Owners<H> {
         self.heads.replace(i, head)
     }
 
-    /// Makes number `from` number `to`; the others keep their order. Takes no memory.
+    /// Moves owner `from` to number `to`; the others keep their order. Allocates nothing.
     pub fn move_member(&mut self, from: usize, to: usize)
         requires from { from < length self.old }
         requires to { to < length self.old }
@@ -103,7 +101,7 @@ impl<H: OwnerHead> Owners<H> {
         self.bags.move_owner(from, to);
     }
 
-    /// How many zones number `i`, which is there, has, the global zone not counted.
+    /// How many zones owner `i` has, not counting the global zone.
     pub fn zone_count(&self, i: usize) -> usize
         requires { i < length self.now }
         ensures { zone_count_at self.now i ≡ Some result }
@@ -112,7 +110,7 @@ impl<H: OwnerHead> Owners<H> {
         count - self.global_count(i)
     }
 
-    // How many bags its global zone has: one, or none where it is empty.
+    // How many bags its global zone has: one, or none if it is empty.
     pub(crate) fn global_count(&self, i: usize) -> usize
         requires { i < length self.now }
         ensures { IfSome (slice_get self.now i) (λ (x : WithZones H). result ≡ length (global_bags x.global)) }
@@ -128,7 +126,7 @@ impl<H: OwnerHead> Owners<H> {
         1
     }
 
-    // The operator of the targets.
+    // The operator of targets at this level.
     pub(crate) fn operator() -> u16
         ensures { result ≡ target_operator H.LEVEL }
     {

@@ -1,4 +1,4 @@
-//! What the places of presets and instruments hold.
+//! Reads the places of presets and instruments: the global zone and the numbered zones.
 ghost use Rattle.std.specs.Prelude.{◌≡◌, ◌≤◌, ◌+◌, ◌↔◌, IsTrue, length, slice_get, Some, IfSome, IsSomeAnd};
 ghost use Rattle.std.specs.FinMap.{get, len};
 ghost use Rattle.std.specs.Option.{option_map};
@@ -15,7 +15,7 @@ use generators::search_entries;
 use modulators::Modulator;
 
 impl<H: OwnerHead> Owners<H> {
-    /// Whether number `i` is there and has this place.
+    /// Whether owner `i` exists and has this place.
     pub fn has_place(&self, i: usize, place: ZonePlace) -> bool
         ensures { IsTrue result ↔ HasPlace self.now i place }
     {
@@ -25,7 +25,8 @@ impl<H: OwnerHead> Owners<H> {
         }
     }
 
-    // Where the bag of zone k stands among the bags of number i, or would stand.
+    // The index of the bag of zone k among the bags of owner i; for the next zone after the last, the index it would
+    // have.
     pub(crate) fn zone_bag(&self, i: usize, k: usize) -> usize
         requires { IsSomeAnd (zone_count_at self.now i) (λ count. k ≤ count) }
         ensures { IfSome (slice_get self.now i) (λ (x : WithZones H). result ≡ length (global_bags x.global) + k) }
@@ -34,7 +35,7 @@ impl<H: OwnerHead> Owners<H> {
         self.global_count(i) + k
     }
 
-    // Where the bag of a place stands among the bags of number i; an empty global zone has none.
+    // The index of the bag of a place among the bags of owner i; none for an empty global zone.
     pub(crate) fn place_bag(&self, i: usize, place: ZonePlace) -> Option<usize>
         requires { HasPlace self.now i place }
         ensures { IfSome (slice_get self.now i) (λ (x : WithZones H). result ≡ bag_number place x) }
@@ -50,8 +51,7 @@ impl<H: OwnerHead> Owners<H> {
         }
     }
 
-    /// The target of zone `k` of number `i`, both of which are there: the number of an instrument, or of
-    /// a sample.
+    /// The target of zone `k` of owner `i`: the number of an instrument or a sample.
     pub fn target(&self, i: usize, k: usize) -> u16
         requires { HasPlace self.now i (place.Zone k) }
         ensures { target_at self.now i k ≡ Some result }
@@ -60,8 +60,7 @@ impl<H: OwnerHead> Owners<H> {
         last_amount(self.bags.gens(i, at))
     }
 
-    /// The generators of a place of number `i`, both of which are there: each operator with its amount,
-    /// in the order in which a file has them.
+    /// The generators of a place of owner `i` as operator and amount, in the order of a file.
     pub fn entries(&self, i: usize, place: ZonePlace) -> &[(u16, u16)]
         requires { HasPlace self.now i place }
         ensures value { entries_at self.now i place ≡ Some result.now }
@@ -73,7 +72,7 @@ impl<H: OwnerHead> Owners<H> {
         }
     }
 
-    /// How many generators a place of number `i` has, both of which are there; the target is none.
+    /// How many generators a place of owner `i` has, not counting the target.
     pub fn gen_count(&self, i: usize, place: ZonePlace) -> usize
         requires { HasPlace self.now i place }
         ensures { option_map len (gens_at self.now i place) ≡ Some result }
@@ -81,7 +80,7 @@ impl<H: OwnerHead> Owners<H> {
         self.entries(i, place).len()
     }
 
-    /// How many modulators a place of number `i` has, both of which are there.
+    /// How many modulators a place of owner `i` has.
     pub fn mod_count(&self, i: usize, place: ZonePlace) -> usize
         requires { HasPlace self.now i place }
         ensures { option_map length (mods_at self.now i place) ≡ Some result }
@@ -89,7 +88,7 @@ impl<H: OwnerHead> Owners<H> {
         self.mods(i, place).len()
     }
 
-    /// The modulators of a place of number `i`, both of which are there, in order.
+    /// The modulators of a place of owner `i`, in order.
     pub fn mods(&self, i: usize, place: ZonePlace) -> &[Modulator]
         requires { HasPlace self.now i place }
         ensures { mods_at self.now i place ≡ Some result.now }
@@ -100,8 +99,7 @@ impl<H: OwnerHead> Owners<H> {
         }
     }
 
-    /// The amount of an operator in a place of number `i`, both of which are there; none where it is not
-    /// set.
+    /// The amount of an operator at a place of owner `i`; none if it is not set.
     pub fn amount(&self, i: usize, place: ZonePlace, operator: u16) -> Option<u16>
         requires { HasPlace self.now i place }
         ensures { IfSome (gens_at self.now i place) (λ gens. result ≡ get gens operator) }

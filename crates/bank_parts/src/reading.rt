@@ -1,8 +1,8 @@
-//! Which bags are those of zones.
+//! Reads the generators of a bag: whether it ends in a target, the target, and the rest.
 ghost use Rattle.std.specs.Prelude.{◌≡◌, ◌<◌, ◌-◌, length, take};
 ghost use Rattle.bank_parts.specs.Bagged.{ends_in, last_amount, without_target};
 
-/// Whether the last generator is of the operator.
+/// Whether the last generator has this operator.
 pub(crate) fn ends_in(operator: u16, gens: &[(u16, u16)]) -> bool
     ensures { result ≡ ends_in operator gens.now }
 {
@@ -12,7 +12,7 @@ pub(crate) fn ends_in(operator: u16, gens: &[(u16, u16)]) -> bool
     }
 }
 
-/// The amount of the last generator, or 0 where there is none.
+/// The amount of the last generator, or 0 if there is none.
 pub(crate) fn last_amount(gens: &[(u16, u16)]) -> u16
     ensures { result ≡ last_amount gens.now }
 {
@@ -22,7 +22,7 @@ pub(crate) fn last_amount(gens: &[(u16, u16)]) -> u16
     }
 }
 
-/// The generators of a bag but for the target.
+/// The generators of a bag without its target.
 pub(crate) fn without_target(operator: u16, gens: &[(u16, u16)]) -> &[(u16, u16)]
     ensures { result.now ≡ without_target operator gens.now }
 {
@@ -32,7 +32,7 @@ pub(crate) fn without_target(operator: u16, gens: &[(u16, u16)]) -> &[(u16, u16)
     gens
 }
 
-/// All but the last.
+/// All but the last generator.
 pub(crate) fn without_last(gens: &[(u16, u16)]) -> &[(u16, u16)]
     requires { 0 < length gens.now }
     ensures { result.now ≡ take (length gens.now - 1) gens.now }

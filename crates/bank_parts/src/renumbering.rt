@@ -1,9 +1,9 @@
-//! How what names samples by their numbers follows a change of their list.
+//! The links of samples when the list of samples changes.
 use crate::parts::{Kind, Sample};
 use linked_members::Linked;
 use numbered_lists::{Renumber, Renumbering};
 
-/// A sample holds the number that its link names.
+/// A sample holds the number of the sample that it links to.
 impl<'a> Renumber for Sample<'a> {
     ghost use Rattle.std.specs.Prelude.{ℕ, ◌<◌, ◌^◌};
     ghost use Rattle.numbered_lists.specs.Renumbered.{renumbered};
@@ -24,7 +24,7 @@ impl<'a> Renumber for Sample<'a> {
     }
 }
 
-/// A sample may link to another one.
+/// A sample may link to another sample.
 impl<'a> Linked for Sample<'a> {
     ghost use Rattle.bank_parts.specs.Links.{has_link, links_to, unlinked_links_nowhere};
     ghost use Rattle.bank_parts.specs.Renumbered.{unlinked_stays};

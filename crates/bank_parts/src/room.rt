@@ -1,5 +1,5 @@
-//! What flat lists can hold: so many records of each kind as 16 bits count, and maps that are told from
-//! their targets.
+//! The capacity of flat lists: fewer than 65,536 records of each kind, and no map with the operator of targets, since
+//! a target could not be told from it.
 ghost use Rattle.std.specs.Prelude.{◌≡◌, ◌≤◌, ◌<◌, ◌+◌, ◌^◌, ◌↔◌, IsTrue, OnOk, is_some};
 ghost use Rattle.std.specs.FinMap.{get};
 ghost use Rattle.std.specs.List.{list_any};
@@ -12,7 +12,7 @@ use generators::GenMap;
 use owner_bags::OwnerBags;
 use sf_base::OutOfMemory;
 
-/// Whether flat lists can hold so many records more.
+/// Whether flat lists can hold so many more records.
 pub(crate) fn can_hold(bags: &OwnerBags, more: Records) -> bool
     ensures { IsTrue result ↔ CanHold bags.now.owners more }
 {
@@ -26,14 +26,14 @@ pub(crate) fn can_hold(bags: &OwnerBags, more: Records) -> bool
     fits_index(mods, more.mods)
 }
 
-// Whether a sum is in the range of an index.
+// Whether a sum lies in the range of a 16-bit index.
 fn fits_index(count: usize, more: usize) -> bool
     ensures { IsTrue result ↔ (count + more < 2 ^ 16) }
 {
     count.saturating_add(more) < 65536
 }
 
-/// Makes places for so many owners and records. The owners stay.
+/// Reserves memory for so many more owners and records. The contents do not change.
 pub(crate) fn make_room(
     bags: &mut OwnerBags,
     owners: usize,

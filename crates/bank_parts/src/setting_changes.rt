@@ -1,4 +1,4 @@
-//! Changes of what the places of presets and instruments hold: of their generators and modulators.
+//! Changes of the generators and modulators at a place of a preset or an instrument.
 ghost use Rattle.std.specs.Prelude.{◌≡◌, ◌<◌, ◌≤◌, Some, None, length, slice_get, IsSome, IsOk, IfSome, IfOk, OnOk, OnErr};
 ghost use Rattle.bank_parts.specs.declared.parts.WithZones.{WithZones};
 ghost use Rattle.bank_parts.specs.Bagged.{bag_number};
@@ -16,9 +16,8 @@ use modulators::Modulator;
 use sf_base::OutOfMemory;
 
 impl<H: OwnerHead> Owners<H> {
-    /// Sets an operator at a place of number `i`, both of which are there, and gives the amount that it
-    /// had. It needs memory only for an operator that is not set, and changes nothing where that is
-    /// refused.
+    /// Sets an operator at a place of owner `i`, and returns the amount that it had. It allocates only if the
+    /// operator was not set. On `OutOfMemory` nothing changes.
     pub fn set_gen(
         &mut self,
         i: usize,
@@ -52,8 +51,7 @@ impl<H: OwnerHead> Owners<H> {
         }
     }
 
-    /// Clears an operator at a place of number `i`, both of which are there, and gives the amount that
-    /// it had. Takes no memory.
+    /// Clears an operator at a place of owner `i`, and returns the amount that it had. Allocates nothing.
     pub fn clear_gen(&mut self, i: usize, place: ZonePlace, operator: u16) -> Option<u16>
         requires { HasPlace self.old i place }
         ensures was { result ≡ amount_at self.old i place operator }
@@ -73,8 +71,8 @@ impl<H: OwnerHead> Owners<H> {
         }
     }
 
-    /// Makes a modulator number `j` at a place of number `i`, which are there and have so many; those
-    /// from there on get the next number each. When out of memory, nothing changes.
+    /// Inserts a modulator as number `j` at a place of owner `i`; later ones move up by one. On `OutOfMemory` nothing
+    /// changes.
     pub fn insert_mod(
         &mut self,
         i: usize,
@@ -97,8 +95,7 @@ impl<H: OwnerHead> Owners<H> {
         Ok(())
     }
 
-    /// Takes modulator `j` at a place of number `i` out, all of which are there; those behind it get the
-    /// number before each. Takes no memory.
+    /// Removes modulator `j` at a place of owner `i` and returns it; later ones move down by one. Allocates nothing.
     pub fn remove_mod(&mut self, i: usize, place: ZonePlace, j: usize) -> Modulator
         requires there { HasPlace self.old i place }
         requires index { IfSome (mods_at self.old i place) (λ mods. j < length mods) }
@@ -110,8 +107,7 @@ impl<H: OwnerHead> Owners<H> {
         was
     }
 
-    /// Puts a modulator in the place of modulator `j` at a place of number `i`, all of which are there,
-    /// and gives back the one that it replaces. Takes no memory.
+    /// Replaces modulator `j` at a place of owner `i`, and returns the old one. Allocates nothing.
     pub fn set_mod(
         &mut self,
         i: usize,
@@ -129,7 +125,7 @@ impl<H: OwnerHead> Owners<H> {
         was
     }
 
-    // Where the bag of a place stands among the bags of number `i`, and modulator `j` of it.
+    // The index of the bag of a place among the bags of owner `i`, and modulator `j` of that bag.
     fn bag_and_mod(&self, i: usize, place: ZonePlace, j: usize) -> (usize, Modulator)
         requires there { HasPlace self.now i place }
         requires index { IfSome (mods_at self.now i place) (λ mods. j < length mods) }

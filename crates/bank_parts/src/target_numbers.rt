@@ -1,9 +1,9 @@
-//! How the targets of zones follow a change of the list that they name.
+//! The targets of zones when the list of instruments or samples changes.
 use crate::heads::OwnerHead;
 use crate::owners::Owners;
 use numbered_lists::{Renumber, Renumbering};
 
-/// Presets hold the numbers of their zones' targets, and so do instruments.
+/// Presets hold numbers of instruments as targets of their zones, and instruments hold numbers of samples.
 impl<H: OwnerHead> Renumber for Owners<H> {
     ghost use Rattle.std.specs.Prelude.{map, All};
     ghost use Rattle.bank_parts.specs.Renumbered.{owner_renumbered, CanRenumberOwner};

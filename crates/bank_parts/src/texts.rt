@@ -25,8 +25,8 @@ pub enum InfoId {
     Software,
 }
 
-/// The eight texts, lent from the file or from a script's pool. In a valid bank each has at most 255 bytes, the comment 65,535, none of them
-/// zero, and the engine is not empty.
+/// The eight texts, borrowed from the file or from a script's pool. In a valid bank each has at most 255 bytes, the
+/// comment 65,535; no byte is zero, and the engine is not empty.
 #[derive(Debug, Drop)]
 pub struct Texts<'a> {
     pub engine: Lent<'a>,
@@ -40,7 +40,7 @@ pub struct Texts<'a> {
 }
 
 impl<'a> Texts<'a> {
-    /// The bytes of the text of this kind.
+    /// The bytes of the text with this id.
     pub fn get(&self, id: InfoId) -> &'a [u8]
         ensures { result.now ≡ text_of self.now id }
     {

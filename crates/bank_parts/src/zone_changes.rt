@@ -1,4 +1,4 @@
-//! Changes of the lists of zones.
+//! Insertion, removal and moves of zones, and changes of their targets.
 ghost use Rattle.std.specs.Prelude.{◌≡◌, ◌≤◌, Some, IsSomeAnd, IfOk, IfErr, OnOk, OnErr};
 ghost use Rattle.bank_parts.specs.declared.owners.ZonePlace.TheVariants as place;
 ghost use Rattle.bank_parts.specs.Owners.{HasPlace, zone_count_at, zone_at, target_at};
@@ -14,8 +14,8 @@ use sf_base::OutOfMemory;
 use std::alloc::Global;
 
 impl<H: OwnerHead> Owners<H> {
-    /// Makes a zone number `k` of number `i`, which is there and has so many; its zones from there on
-    /// get the next number each. When out of memory, nothing changes, and the zone comes back.
+    /// Inserts a zone as zone `k` of owner `i`; later zones move up by one. If an allocation fails, nothing changes
+    /// and the zone is returned.
     pub fn insert_zone(&mut self, i: usize, k: usize, zone: Zone) -> Result<(), Zone>
         requires place { IsSomeAnd (zone_count_at self.old i) (λ count. k ≤ count) }
         requires storable { AreStorable H.LEVEL (zone_added self.old i k zone) }
@@ -33,8 +33,7 @@ impl<H: OwnerHead> Owners<H> {
         Ok(())
     }
 
-    /// Takes zone `k` of number `i` out, both of which are there; the zones behind it get the number
-    /// before each. When out of memory, nothing changes.
+    /// Removes zone `k` of owner `i` and returns it; later zones move down by one. On `OutOfMemory` nothing changes.
     pub fn remove_zone(&mut self, alloc: Global, i: usize, k: usize) -> Result<Zone, OutOfMemory>
         requires { HasPlace self.old i (place.Zone k) }
         ensures value { IfOk result (λ zone. zone_at self.old i k ≡ Some zone) }
@@ -47,8 +46,7 @@ impl<H: OwnerHead> Owners<H> {
         Ok(zone)
     }
 
-    /// Makes zone `from` of number `i` zone `to`, all of which are there; its other zones keep their
-    /// order. Takes no memory.
+    /// Moves zone `from` of owner `i` to number `to`; its other zones keep their order. Allocates nothing.
     pub fn move_zone(&mut self, i: usize, from: usize, to: usize)
         requires from { HasPlace self.old i (place.Zone from) }
         requires to { HasPlace self.old i (place.Zone to) }
@@ -59,8 +57,7 @@ impl<H: OwnerHead> Owners<H> {
         self.bags.move_bag(i, first, second);
     }
 
-    /// Gives zone `k` of number `i`, both of which are there, another target, and gives back the one
-    /// that it had. Takes no memory.
+    /// Replaces the target of zone `k` of owner `i`, and returns the old one. Allocates nothing.
     pub fn set_target(&mut self, i: usize, k: usize, target: u16) -> u16
         requires { HasPlace self.old i (place.Zone k) }
         ensures value { target_at self.old i k ≡ Some result }
