@@ -1,4 +1,4 @@
--- Presets and instruments put behind the others, bag by bag.
+-- Presets and instruments appended bag by bag.
 use Rattle.std.proofs.Common.{if◌then◌else◌, ◌≡◌, ℕ, ◌<◌, ◌≤◌, ◌+◌, ◌==◌, Bool, true, false, Option, None, zero, suc}
 use Rattle.std.proofs.Common.{List, [], ◌∷◌, ◌++◌, length, map, insert, take, drop, slice_get, set, get_or, Some}
 use Rattle.std.proofs.Common.{refl, sym, subst, ◌∙◌, ap, length-append, append-nil, append_assoc, arith}
@@ -27,7 +27,7 @@ use Rattle.bank_parts.proofs.PlaceLaws.{of_some}
 use Rattle.bank_parts.proofs.RoomLaws.{grows, room_at_most, room_same, room_left, changed-twice, get-insert}
 use Rattle.bank_parts.proofs.RoomLaws.{put_and_changed}
 
--- ---- a bag of entries, and then its target
+-- ---- a bag of entries, then its target
 
 pub put-end : {X : Type 0} (xs : List X) (n : ℕ) (ys : List X) → n ≡ length xs → put xs n ys ≡ xs ++ ys
 put-end [] zero ys e = append-nil ys
@@ -35,7 +35,7 @@ put-end [] (suc n) ys e = absurd (omega arith)
 put-end (x ∷ xs) zero ys e = absurd (omega arith)
 put-end (x ∷ xs) (suc n) ys e = ap (λ zs. x ∷ zs) (put-end xs n ys (omega arith))
 
--- ---- bags behind those of one owner
+-- ---- bags appended to those of one owner
 
 module _ (owners : List (List Bag)) (i : ℕ) (own : List Bag) (there : slice_get owners i ≡ Some own) where
   -- what was appended, and one more
@@ -88,7 +88,7 @@ drop-next [] k x e = cc
 drop-next (y ∷ ys) zero x e = let same : y ≡ x = cc in ap (λ y. y ∷ ys) same
 drop-next (y ∷ ys) (suc k) x e = drop-next ys k x e
 
--- a member as a loop gives it
+-- a member as a loop reads it
 pub found_item : {X : Type 0} (xs : List X) (k : ℕ) (x : X) → x ≡ get_or xs k x → k < length xs
     → slice_get xs k ≡ Some x
 found_item xs k x e h =
@@ -134,7 +134,7 @@ pub none_behind : (owners : List (List Bag)) → all_bags (owners ++ [] ∷ []) 
 none_behind [] = refl
 none_behind (xs ∷ os) = ap (λ bs. xs ++ bs) (none_behind os)
 
--- ---- a zone's bag, put in and then given its target
+-- ---- the bag of a zone, inserted and then given its target
 
 pub found_that : {X : Type 0} (P : X → Type 0) (o : Option X) → IsSomeAnd o P → (x : X) × (o ≡ Some x) × P x
 found_that P None h = absurd h
@@ -157,7 +157,7 @@ module _ (owners mid : List (List Bag)) (i k : ℕ) (b : Bag)
       let (own, there, within) = found_that (λ (own : List Bag). k ≤ length own) (slice_get owners i) place in
       ap (λ os. length (gens_in (all_bags os))) m ∙ grows (λ (b : Bag). b.gens) owners i k own b there within
 
-  -- and then with the target
+  -- then with the target
   pub zone_is_put : (new : List (List Bag)) (op : ℕ) (zone : Zone) → b.gens ≡ entries zone.gens → b.mods ≡ zone.mods
       → new ≡ bag_changed mid i k (λ (c : Bag). with_gens (put c.gens (length b.gens) ((op, zone.target) ∷ [])) c)
       → new ≡ changed owners i (λ own. insert own k (zone_bag op zone))
@@ -187,7 +187,7 @@ zone_leaves s t i k op zone more place e bags gens mods h =
     room_left s t (records_of_zone zone) more i k own (zone_bag op zone) there within e refl (omega arith) refl bags
     (omega arith) mods h
 
--- ---- the bag of a global zone behind the others
+-- ---- the bag of a global zone, appended
 
 module _ (g : GlobalZone) (r : Bool) (is : r ≡ (len g.gens + length g.mods == 0)) where
   pub global_needs : (s : Stored) → r ≡ false → HasRoom s (records_of_global g)

@@ -1,4 +1,4 @@
--- What the code finds of one bag, and what becomes of the owners where a record of it goes.
+-- What the code reads of one bag, and the owners after one of its records is removed.
 use Rattle.std.proofs.Common.{if◌then◌else◌, ◌≡◌, ℕ, ◌<◌, ◌≤◌, ◌+◌, ◌-◌, ◌^◌, ◌==◌, Bool, List, length, remove}
 use Rattle.std.proofs.Common.{slice_get, Option, Some, None, refl, sym, subst, ◌∙◌, ap, arith}
 use Rattle.std.specs.Prelude.{min}
@@ -36,7 +36,7 @@ one_counted None gens mods r g m e = tt
 one_counted (Some b) gens mods r g m e =
     e ∙ (one_more (length gens + length mods) ∙ (λ t. length (g t) + length (m t) == 1))
 
--- a record taken out of the bag, and with the last one the bag
+-- a record is removed from the bag, and the bag too if it was the last record
 pub record_goes : (owners : List (List Bag)) (i k : ℕ) (F : Bag → Bag) (one : Bool) {new : List (List Bag)}
     {r : Bool}
     → IfSome (bag_at owners i k) (λ (b : Bag). r ≡ (bag_size b == 1)) → r ≡ one

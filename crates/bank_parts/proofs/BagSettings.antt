@@ -1,4 +1,4 @@
--- What a place holds, its bag, and what becomes of its owner where the bag changes, comes or goes.
+-- The settings of a place, its bag, and the owner after the bag is changed, inserted or removed.
 use Rattle.std.proofs.Common.{if◌then◌else◌, ◌≡◌, ℕ, ◌<◌, ◌+◌, ◌==◌, true, false, List, [], ◌∷◌, ◌++◌, length, map}
 use Rattle.std.proofs.Common.{insert, remove, slice_get, set, Option, Some, None, refl, sym, subst, ◌∙◌, ap}
 use Rattle.std.proofs.Common.{append-nil, length-append, arith}

@@ -1,5 +1,4 @@
--- A preset or an instrument may stand in a bank exactly where its name is one, and none of the tests of
--- its content stands.
+-- A preset or an instrument is valid exactly if its name is valid and all tests of its contents are false.
 use Rattle.std.proofs.Common.{◌≡◌, ◌<◌, ◌≤◌, ◌/◌, ◌%◌, ◌&&◌, ℕ, Bool, true, false, nat_le, not, List, refl, arith}
 use Rattle.std.specs.List.{AllByRecursion, list_any}
 use Rattle.std.specs.FinMap.{entries}
@@ -82,7 +81,7 @@ module _ (at : Level) where
 
 -- ---- a preset or an instrument
 
--- none of the tests stands
+-- all tests of its contents are false
 pub record StandsNothing {H : Type 0} (at : Level) (count : ℕ) (x : WithZones H) : Type 0 where
   pub targets : misses_target count x ≡ false
   pub operators : has_foreign at x ≡ false

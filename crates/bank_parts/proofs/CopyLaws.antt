@@ -1,4 +1,4 @@
--- Nested values that equal what flat lists hold.
+-- Copies of owners equal the owners in the flat lists.
 use Rattle.std.proofs.Common.{◌≡◌, ℕ, ◌<◌, ◌≤◌, suc, List, [], ◌∷◌, ◌++◌, length, take, slice_get, Option, Some}
 use Rattle.std.proofs.Common.{None, Result, Ok, Err, IfOk, refl, sym, subst, ◌∙◌, ap, arith}
 use Rattle.std.specs.FinMap.{entries, same_entries_map}

@@ -1,4 +1,4 @@
--- Counts of records.
+-- Numbers of records.
 use Rattle.std.proofs.Common.{◌≡◌, ◌+◌, ◌==◌, ◌↔◌, ◌<◌, ◌^◌, ℕ, zero, suc, Bool, true, false, IsTrue, true≢false}
 use Rattle.std.proofs.Common.{List, [], ◌∷◌, length, take, slice_get, Some, refl, sym, ap, ◌∙◌, arith}
 use Rattle.std.specs.Prelude.{sum_by, min, if◌then◌else◌}
@@ -16,7 +16,7 @@ use Rattle.bank_parts.specs.Valid.{global_count}
 use Rattle.bank_parts.specs.Counts.{records_of_zone, records_of_global, records_total, records_sum, counted}
 use Rattle.bank_parts.specs.Counts.{all_counted}
 
--- nothing is held where both are empty
+-- a place holds nothing if both lists are empty
 pub none_held : (gens : Gens) (mods : List Modulator) → gens ≡ empty → (mods ≡ []) ↔ (len gens + length mods ≡ 0)
 none_held gens mods e =
     let none : len gens ≡ 0 = rw e (len-empty operator_cmp ℕ) in
@@ -29,12 +29,12 @@ none_held gens mods e =
 pub none_left : (gens : Gens) (mods : List Modulator) → len gens + length mods ≡ 0 → gens ≡ empty
 none_left gens mods n = empty_of_len gens (omega (arith, n))
 
--- a test that says whether a number is 0
+-- a test that is true exactly for 0
 pub says_zero : (t : Bool) (n : ℕ) → IsTrue t ↔ (n ≡ 0) → t ≡ (n == 0)
 says_zero true n h = sym (eq-eqb n 0 (h.0 refl))
 says_zero false n h = sym (ne_eqb n 0 (λ e. true≢false (sym (h.1 e))))
 
--- ---- one more
+-- ---- one record more
 
 taken_more : {X : Type 0} (f : X → ℕ) (xs : List X) (i : ℕ) (x : X) → slice_get xs i ≡ Some x
     → sum_by f (take i xs) + f x ≡ sum_by f (take (suc i) xs)
@@ -63,12 +63,12 @@ total_more f xs i x e = λ k. record {
   mods = taken_more (λ y. (f y).mods) xs i x e k;
 }
 
--- ---- sums that stop at the largest number
+-- ---- saturated sums
 
 pub counted_same : (n : ℕ) → n < 2 ^ 64 → counted n ≡ n
 counted_same n h = min-eq_left (omega (arith, h))
 
--- ---- what is counted of a place
+-- ---- the records of a place
 
 pub zone_is : (z : Zone) (g m : ℕ) → g ≡ len z.gens → m ≡ length z.mods → m < 2 ^ 64
     → record { zones = 1; gens = counted (g + 1); mods = m } ≡ all_counted (records_of_zone z)
@@ -89,5 +89,3 @@ global_is x g m gens mods small few =
     let zones : min (counted (g + m)) 1 ≡ counted (global_count x) =
     (λ i. min (counted (gens i + mods i)) 1) ∙ one_if_any (len x.gens + length x.mods) in
     λ i. record { zones = zones i; gens = gens_are i; mods = mods_are i }
-
--- ---- one more of what is there

@@ -1,4 +1,4 @@
--- What holds of each member of a list, and tests that none passes.
+-- Properties of all members of a list, and tests that are false of all members.
 use Rattle.std.proofs.Common.{◌≡◌, ◌||◌, Bool, true, false, List, [], ◌∷◌, refl}
 use Rattle.std.specs.List.{AllByRecursion, list_any}
 
@@ -12,7 +12,7 @@ pub all_both : {X : Type 0} (P Q R : X → Type 0) → ((x : X) → P x → Q x 
 all_both P Q R to [] v w = tt
 all_both P Q R to (x ∷ xs) v w = (to x v.0 w.0, all_both P Q R to xs v.1 w.1)
 
--- tests that none passes
+-- tests that are false of all members
 
 pub or_left : (a b : Bool) → (a || b) ≡ false → a ≡ false
 or_left true b h = cc

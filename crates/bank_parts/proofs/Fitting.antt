@@ -1,4 +1,4 @@
--- Where `all` returns true.
+-- When `all` returns true.
 use Rattle.std.proofs.Common.{◌<◌, ◌↔◌, ℕ, Bool, true, false, true≢false, IsTrue, List, length, refl, sym}
 use Rattle.std.specs.Bool.{MatchBool, OnTrue}
 use Rattle.std.specs.List.{AllByRecursion, AllWithin, HoldsAt}
@@ -10,7 +10,7 @@ pub all_where_true : {X : Type 0} (P : X → Type 0) (Q : Type 0) (r : Bool) (xs
 all_where_true P Q true xs h = recursion_from_All P xs (All-from_all_within P xs h)
 all_where_true P Q false xs h = tt
 
--- P holds of every element exactly then, where it holds of none that the test refuses
+-- `all` returns true exactly if P holds of every element; where it returns false, P fails of some element
 pub all_says : {X : Type 0} (P : X → Type 0) (r : Bool) (xs : List X)
     → MatchBool r (AllWithin P xs 0 (length xs)) ((k : ℕ) × (k < length xs) × HoldsAt (λ x. P x → ⊥) xs k)
     → IsTrue r ↔ AllByRecursion P xs

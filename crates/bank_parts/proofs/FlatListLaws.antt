@@ -1,4 +1,4 @@
--- How long the flat lists of presets or instruments are: each has its terminal.
+-- The lengths of the flat lists of presets or instruments: each list has its terminal.
 use Rattle.std.proofs.Common.{◌≡◌, ◌+◌, List, [], ◌∷◌, length, map, arith}
 use Rattle.std.proofs.lemmas.List.{length-append, length-map}
 use Rattle.generators.specs.Levels.{target_operator}

@@ -1,4 +1,4 @@
--- Presets or instruments made of their flat lists.
+-- Presets or instruments read from their flat lists.
 use Rattle.std.proofs.Common.{if◌then◌else◌, ◌≡◌, ℕ, ◌+◌, ◌==◌, ◌&&◌, Bool, true, false, true≢false, not, suc, zero}
 use Rattle.std.proofs.Common.{List, [], ◌∷◌, ◌++◌, length, map, slice_get, Some, None, refl, sym, subst, ◌∙◌, ap}
 use Rattle.std.proofs.Common.{arith}
@@ -130,7 +130,7 @@ zones_read op (b ∷ bs) h fit =
     let rest = zones_read op bs (λ k c e. h (suc k) c e) (all-back FitsEntry b.gens (gens_in bs) fit) in
     record { same = λ i. z.same i ∷ rest.same i; plain = (z.plain, rest.plain) }
 
--- ---- a preset or an instrument of its bags
+-- ---- a preset or an instrument from its bags
 
 no_bags : global_bags no_global ≡ []
 no_bags = ap (λ n. if n + 0 == 0 then [] else (global_bag no_global ∷ [])) (len-empty operator_cmp ℕ)
@@ -264,7 +264,7 @@ module _ {H : Type 0} where
 
 -- ---- flat lists
 
--- the places and the records of flat lists
+-- the indexes and records of flat lists are those of the bags of their owners
 pub owned_by : {H : Type 0} (at : Level) (hs : List H) (places : List ℕ) (t : Tables) (owners : List (WithZones H))
     → AreFlat at hs (record { first_bags = places; bags = t.bags; gens = t.gens; mods = t.mods }) owners
     → owned.AreFlat places t (map (bags_of (target_operator at)) owners)
@@ -291,7 +291,7 @@ flat_by at hs places t bags owners are a =
           { first_bags = begins i; bags = (records i).bags; gens = (records i).gens; mods = (records i).mods };
     }
 
--- those that are flat so have these bags
+-- owners with these flat lists have these bags
 pub bags_by : {H : Type 0} (at : Level) (hs : List H) (places : List ℕ) (t : Tables) (bags : List (List Bag))
     (owners : List (WithZones H))
     → owned.AreFlat places t bags

@@ -1,4 +1,4 @@
--- A generator or a modulator of a place that is set, put in or taken out, as a change of the place's bag.
+-- Setting, inserting or removing a generator or a modulator of a place, as a change of the bag of the place.
 use Rattle.std.proofs.Common.{◌≡◌, ◌≢◌, ℕ, ◌<◌, ◌≤◌, ◌^◌, List, [], ◌∷◌, ◌++◌, length, insert, remove, set, get_or}
 use Rattle.std.proofs.Common.{Option, Some, None, refl, sym, ◌∙◌, ap, arith}
 use Rattle.std.specs.FinMap as map
@@ -25,7 +25,7 @@ use Rattle.bank_parts.proofs.PlaceChanges.{no_entries, gens_size, place_kept, pl
 use Rattle.bank_parts.proofs.GenLaws.{found_amount, no_amount, entries-set, entries-removed, nothing_removed}
 use Rattle.bank_parts.proofs.GenLaws.{entries-inserted, empty_gap, plain-insert, plain-remove}
 
--- ---- what was set
+-- ---- the old amount
 
 module _ {H : Type 0} {op : ℕ} {bags : List (List Bag)} {owners : List (WithZones H)} {i : ℕ} {at : ZonePlace}
     (p : PlaceAt op bags owners i at) where
@@ -41,19 +41,19 @@ module _ {H : Type 0} {op : ℕ} {bags : List (List Bag)} {owners : List (WithZo
     pub was_missing : IsGapFor es o j → None ≡ amount_at owners i at o
     was_missing gap = sym (amount_is p o ∙ no_amount p.settings.gens p.plain.fit o j (place_gap p e gap))
 
-    -- an operator that isn't set
+    -- clearing an operator that is not set changes nothing
     pub none_cleared : IsGapFor es o j → owners ≡ gen_cleared owners i at o
     none_cleared gap =
         place_kept p (λ s. settings.with_gens (map.remove s.gens o) s)
         (ap (λ gens. settings.with_gens gens p.settings)
         (nothing_removed p.settings.gens p.plain.fit o j (place_gap p e gap)))
 
--- what is none is not set
+-- no value is set in none
 pub none_is_set : {X : Type 0} (r : Option X) (Q : Type 0) → None ≡ r → IsSome r → Q
 none_is_set None Q e h = cc
 none_is_set (Some x) Q e h = cc
 
--- ---- a place that has no bag
+-- ---- a place without a bag
 
 module _ {H : Type 0} {op : ℕ} {heads : List H} {bags : List (List Bag)} {owners : List (WithZones H)} {i : ℕ}
     {at : ZonePlace} (b : BarePlace op heads bags owners i at) where
@@ -87,7 +87,7 @@ module _ {H : Type 0} {op : ℕ} {heads : List H} {bags : List (List Bag)} {owne
       b.none.gens
       ((λ t. insert (b.none.mods t) (at_first t) w)) (omega arith) e
 
--- ---- a place that has one
+-- ---- a place with a bag
 
 module _ {H : Type 0} {op : ℕ} {heads : List H} {bags : List (List Bag)} {owners : List (WithZones H)} {i : ℕ}
     {at : ZonePlace} {n : ℕ} (b : BagPlace op heads bags owners i at n) where
@@ -110,7 +110,7 @@ module _ {H : Type 0} {op : ℕ} {heads : List H} {bags : List (List Bag)} {owne
         ∙ ap (λ es. es ++ own.last) (sym (entries-set m p.plain.fit o j is_at w fit_o fit_w))))
         (omega arith) e
 
-    -- the bags stay where room is made for it
+    -- the bags do not change when memory is reserved
     pub gen_is_put : (w : ℕ) (bs : List (List Bag)) {room : List (List Bag)} → op ≢ o → o < 2 ^ 16 → w < 2 ^ 16
         → IsGapFor es o j → room ≡ bags
         → bs ≡ bag_changed room i n (λ (b : Bag). with_gens (put b.gens j ((o, w) ∷ [])) b)

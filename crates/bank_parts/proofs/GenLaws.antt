@@ -1,4 +1,4 @@
--- A map of generators as its entries, and its changes as changes of these.
+-- A map of generators as its entries, and its changes as changes of the entries.
 use Rattle.std.proofs.Common.{◌≡◌, ◌≢◌, ◌<◌, ◌^◌, ℕ, Bool, true, false, cond, List, [], length, get_or, set, Option}
 use Rattle.std.proofs.Common.{Some, None, refl, sym, subst, ◌∙◌, ap, arith}
 use Rattle.std.specs.List as list
@@ -22,7 +22,7 @@ are_gens m fit = record { sorted = entries_rise m; fit = fit }
 pub in_order : (m : Gens) (es : List (ℕ × ℕ)) → entries m ≡ es → AreInOrder es
 in_order m es e = subst AreInOrder e (entries_rise m)
 
--- ---- an operator that stands at a place
+-- ---- an operator found at an index
 
 module _ (m : Gens) (fit : FitGens m) (op j : ℕ) (at : IsAt (entries m) op j) where
   pub found_amount : (d : ℕ × ℕ) → map.get m op ≡ Some (get_or (entries m) j d).1
@@ -38,7 +38,7 @@ module _ (m : Gens) (fit : FitGens m) (op j : ℕ) (at : IsAt (entries m) op j) 
       entries_held (AreGens-remove (are_gens m fit) (gens-back m) at)
       (removed_is_remove (are_gens m fit) (gens-back m) at)
 
--- ---- an operator that would go to a place
+-- ---- an operator to be inserted at an index
 
 module _ (m : Gens) (fit : FitGens m) (op j : ℕ) (gap : IsGapFor (entries m) op j) where
   pub no_amount : map.get m op ≡ None
@@ -78,7 +78,7 @@ plain-remove t m op plain = record {
   fit = All-remove FitsEntry m op plain.fit;
 }
 
--- ---- a map that may be there, by its entries
+-- ---- an optional map, by its entries
 
 pub amount_found : (o : Option Gens) (es : List (ℕ × ℕ)) (op j : ℕ) (d : ℕ × ℕ) → option_map entries o ≡ Some es
     → IfSome o FitGens → IsAt es op j

@@ -1,4 +1,4 @@
--- Lists changed past a front, and what holds of each member.
+-- Lists changed after a prefix, and properties of all members.
 use Rattle.std.proofs.Common.{◌≡◌, ℕ, ◌<◌, ◌≤◌, ◌+◌, suc, zero, List, [], ◌∷◌, ◌++◌, length, insert, remove}
 use Rattle.std.proofs.Common.{slice_get, set, take, drop, Some, refl, sym, subst, ◌∙◌, ap, zero-add, suc-add, arith}
 use Rattle.std.specs.List.{AllByRecursion}
@@ -6,7 +6,7 @@ use Rattle.numbered_lists.specs.Moved.{moved, changed}
 use Rattle.numbered_lists.proofs.Lists.{slice_get-found, slice_get-within, moved-found, changed-found}
 use Rattle.flat_records.specs.Runs.{put, cut}
 
--- ---- what holds of each member
+-- ---- properties of all members
 
 module _ {X : Type 0} (P : X → Type 0) where
   pub everywhere-found : (xs : List X) (i : ℕ) (x : X) → slice_get xs i ≡ Some x → AllByRecursion P xs → P x
@@ -41,7 +41,7 @@ module _ {X : Type 0} (P : X → Type 0) where
   everywhere-changed xs i f x e q p =
       subst (AllByRecursion P) (sym (changed-found xs i f x e)) (everywhere-set xs i (f x) q p)
 
-  -- what was put in, or put in a place
+  -- of an inserted or a replaced member
   pub everywhere-inserted : (xs : List X) (i : ℕ) (x : X) → AllByRecursion P (insert xs i x) → P x
   everywhere-inserted xs zero x p = p.0
   everywhere-inserted [] (suc i) x p = p.0
@@ -58,7 +58,7 @@ module _ {X : Type 0} (P : X → Type 0) where
       everywhere-in_place xs i (f x) (slice_get-within xs i x e)
       (subst (AllByRecursion P) (changed-found xs i f x e) p)
 
--- ---- past a front
+-- ---- after a prefix
 
 module _ {X : Type 0} where
   pub get-right : (ws ys : List X) (k : ℕ) → slice_get (ws ++ ys) (length ws + k) ≡ slice_get ys k
@@ -102,7 +102,7 @@ module _ {X : Type 0} where
   remove-last [] x = refl
   remove-last (y ∷ ys) x = ap (λ zs. y ∷ zs) (remove-last ys x)
 
-  -- the last one moved into place
+  -- the last one moved to its index
   pub moved-last : (xs : List X) (x : X) (i : ℕ) → moved (xs ++ x ∷ []) (length xs) i ≡ insert xs i x
   moved-last xs x i =
       moved-found (xs ++ x ∷ []) (length xs) i x (get-last xs x) ∙ ap (λ zs. insert zs i x) (remove-last xs x)
@@ -115,7 +115,7 @@ module _ {X : Type 0} where
   set-last [] x y = refl
   set-last (z ∷ zs) x y = ap (λ ws. z ∷ ws) (set-last zs x y)
 
-  -- ---- before a rest
+  -- ---- before a suffix
 
   pub get-left : (ws ys : List X) (k : ℕ) → k < length ws → slice_get (ws ++ ys) k ≡ slice_get ws k
   get-left [] ys k h = absurd (omega arith)

@@ -1,4 +1,4 @@
--- The heads and the bags of presets or instruments, at one number and after a change there.
+-- The heads and bags of presets or instruments, at one number and after a change there.
 use Rattle.std.proofs.Common.{◌≡◌, ℕ, ◌<◌, List, [], length, insert, remove, slice_get, set, Some, sym, subst, ◌∙◌, ap}
 use Rattle.std.specs.Option.{option_map}
 use Rattle.std.proofs.lemmas.List.{length-map}
@@ -39,7 +39,7 @@ module _ {H : Type 0} {op : ℕ} {heads : List H} {bags : List (List Bag)} {owne
   pub same_held : (hs : List H) (bs : List (List Bag)) → hs ≡ heads → bs ≡ bags → AreOf op hs bs owners
   same_held hs bs e f = record { heads = e ∙ a.heads; bags = f ∙ a.bags; plain = a.plain }
 
-  -- ---- one that is changed
+  -- ---- one owner changed
 
   pub head_replaced : (i : ℕ) (h : H) (new : List H) → i < length owners → new ≡ set heads i h
       → AreOf op new bags (changed owners i (with_head h))
@@ -56,7 +56,7 @@ module _ {H : Type 0} {op : ℕ} {heads : List H} {bags : List (List Bag)} {owne
         plain = everywhere-set (IsPlainOwner op) owners i y (record { global = p.global; zones = p.zones }) a.plain;
       })
 
-  -- sent through f, and its bags through F, the head as it was
+  -- owner i changed by f, its bags by F, with the same head
   pub sent : (i : ℕ) (x : WithZones H) (f : WithZones H → WithZones H) (F : List Bag → List Bag)
       (bs : List (List Bag))
       → slice_get owners i ≡ Some x
@@ -79,7 +79,7 @@ module _ {H : Type 0} {op : ℕ} {heads : List H} {bags : List (List Bag)} {owne
         plain = everywhere-set (IsPlainOwner op) owners i y plain a.plain;
       })
 
-  -- ---- one that comes, goes or moves
+  -- ---- one owner inserted, removed or moved
 
   pub member_moved : (i j : ℕ) (hs : List H) (bs : List (List Bag)) → i < length owners → hs ≡ moved heads i j
       → bs ≡ moved bags i j → AreOf op hs bs (moved owners i j)

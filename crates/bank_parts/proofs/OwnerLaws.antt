@@ -1,4 +1,4 @@
--- Presets, instruments and zones that come in from outside: which are plain, and that there is room for them.
+-- Presets, instruments and zones that are inserted: which are plain, and that there is capacity for them.
 use Rattle.std.proofs.Common.{◌≡◌, ℕ, ◌<◌, ◌+◌, ◌^◌, ◌||◌, Bool, true, false, List, [], ◌∷◌, ◌++◌, length, insert}
 use Rattle.std.proofs.Common.{Option, Some, None, refl, sym, subst, ◌∙◌, ap, length-append, arith}
 use Rattle.std.specs.Prelude.{is_some}
@@ -55,7 +55,7 @@ owner_plain IsFit op x r e is fits =
           zones_plain op x.zones both.1 fits.zones;
     }
 
--- ---- room
+-- ---- capacity
 
 below : (n m : ℕ) → m + counted n < 2 ^ 16 → counted n ≡ n
 below n m h = omega arith
@@ -75,7 +75,7 @@ room_counted s r more e h =
       mods = omega arith;
     }
 
--- ---- the last one moved into place, where room was made for it and the bags stayed
+-- ---- the last owner moved to its number, after memory was reserved
 
 pub owner_put : {H : Type 0} {op : ℕ} {heads : List H} {bags : List (List Bag)} {owners : List (WithZones H)}
     (a : AreOf op heads bags owners) (i last : ℕ) (x : WithZones H) (hs : List H) (first bs : List (List Bag))

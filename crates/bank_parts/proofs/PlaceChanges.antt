@@ -1,4 +1,4 @@
--- Presets or instruments where a place changes, as their heads and bags.
+-- The heads and bags of presets or instruments after a change of a place.
 use Rattle.std.proofs.Common.{if◌then◌else◌, ◌≡◌, ℕ, ◌<◌, ◌≤◌, ◌+◌, ◌==◌, true, false, suc, List, [], ◌++◌, length}
 use Rattle.std.proofs.Common.{insert, remove, slice_get, get_or, Option, Some, None, refl, sym, subst, ◌∙◌, ap}
 use Rattle.std.proofs.Common.{length-append, arith}
@@ -26,7 +26,7 @@ use Rattle.bank_parts.proofs.BagSettings.{PlaceAt, BagAt, NoBag, place_there, ba
 use Rattle.bank_parts.proofs.BagSettings.{changed_kept, head_stays, plain_after}
 use Rattle.bank_parts.proofs.GenLaws.{in_order}
 
--- ---- what a place has
+-- ---- the contents of a place
 
 pub counted : (o : Option Gens) (es : List (ℕ × ℕ)) → option_map entries o ≡ Some es
     → option_map len o ≡ Some (length es)
@@ -37,7 +37,7 @@ pub ordered : (o : Option Gens) (es : List (ℕ × ℕ)) → option_map entries 
 ordered None es e = cc
 ordered (Some m) es e = let same : entries m ≡ es = cc in in_order m es same
 
--- ---- a place that has a bag, and one that has none
+-- ---- a place with a bag, and a place without one
 
 pub record BagPlace {H : Type 0} (op : ℕ) (heads : List H) (bags : List (List Bag)) (owners : List (WithZones H))
     (i : ℕ) (at : ZonePlace) (n : ℕ) : Type 0 where
@@ -126,7 +126,7 @@ module _ {H : Type 0} {op : ℕ} {heads : List H} {bags : List (List Bag)} {owne
   pub gens_size : length b.own.bag.gens ≡ length (entries b.place.settings.gens) + length b.own.last
   gens_size = ap length b.own.gens ∙ length-append (entries b.place.settings.gens) b.own.last
 
-  -- a number of one of its generators, and one that a generator may get where the bags stay
+  -- the index of one of its generators, and an index at which a generator may be inserted
   pub gen_within : {es : List (ℕ × ℕ)} {o j : ℕ} → entries_at owners i at ≡ Some es → IsAt es o j
       → IsSomeAnd (bag_at bags i n) (λ (b : Bag). j < length b.gens)
   gen_within {es} {o} {j} e is =
@@ -141,7 +141,7 @@ module _ {H : Type 0} {op : ℕ} {heads : List H} {bags : List (List Bag)} {owne
       let size = gens_size in
       subst (λ o. IsSomeAnd o (λ (b : Bag). j ≤ length b.gens)) (sym (own_found kept)) (omega arith)
 
-  -- the same of its modulators
+  -- the same for its modulators
   module _ (j : ℕ) where
     pub mod_within : IfSome (mods_at owners i at) (λ (mods : List Modulator). j < length mods)
         → IsSomeAnd (bag_at bags i n) (λ (b : Bag). j < length b.mods)
@@ -170,7 +170,7 @@ module _ {H : Type 0} {op : ℕ} {heads : List H} {bags : List (List Bag)} {owne
           ap (option_and_then (λ (mods : List Modulator). slice_get mods j)) (mods_read mods e)
           ∙ (there ∙ ap Some (sym (get_or_from_slice_get mods j m d there)))
 
--- ---- a place changes
+-- ---- a change of a place
 
 pub place_kept : {H : Type 0} {op : ℕ} {bags : List (List Bag)} {owners : List (WithZones H)} {i : ℕ}
     {at : ZonePlace} (p : PlaceAt op bags owners i at) (f : Settings → Settings)
@@ -226,7 +226,7 @@ module _ {H : Type 0} {op : ℕ} {heads : List H} {bags : List (List Bag)} {owne
         (plain_after op at f x p.settings p.has p.found.plain plain)
         (b.closes f one held (omega arith)) e
 
-    -- a record is taken out, and with the last one the bag
+    -- a record is removed, and the bag too if it was the last record
     pub place_taken : length b.bag.gens + length b.bag.mods ≡ suc (length (F b.bag).gens + length (F b.bag).mods)
         → 0 < length (entries p.settings.gens) + length p.settings.mods
         → IfSome (bag_at bags i n) (λ (b : Bag). bs ≡ record_taken bags i n F b)

@@ -1,4 +1,4 @@
--- The bag of a place among those of its owner, and what becomes of the owner where the bag changes.
+-- The bag of a place among the bags of its owner, and the owner after a change of that bag.
 use Rattle.std.proofs.Common.{if◌then◌else◌, ◌≡◌, ℕ, ◌<◌, ◌≤◌, ◌+◌, ◌-◌, ◌==◌, Bool, true, false, List, [], ◌∷◌}
 use Rattle.std.proofs.Common.{◌++◌, length, map, slice_get, Option, Some, None, refl, sym, subst, ◌∙◌, ap}
 use Rattle.std.proofs.Common.{length-append, arith}
@@ -60,7 +60,7 @@ one_numbered : (c : Bool) (g : GlobalZone) → 0 < length (if c then [] else (gl
 one_numbered true g h = absurd (omega arith)
 one_numbered false g h = refl
 
--- ---- what an option has
+-- ---- options
 
 pub of_some : {X : Type 0} (P : X → Type 0) {o : Option X} {x : X} → o ≡ Some x → IfSome o P → P x
 of_some P e h = subst (λ o. IfSome o P) e h
@@ -160,7 +160,7 @@ module _ {H : Type 0} {op : ℕ} {bags : List (List Bag)} {owners : List (WithZo
       → IfSome (slice_get owners i) (λ (x : WithZones H). m ≡ length (global_bags x.global)) → m ≤ n
   zones_fewer n m h g = let all = bags_counted n h in let first = global_counted m g in omega arith
 
--- ---- the number of the bag of a place
+-- ---- the index of the bag of a place
 
 some_weaker : {X : Type 0} (P Q : X → Type 0) → ((x : X) → P x → Q x) → (o : Option X) → IfSome o P → IfSome o Q
 some_weaker P Q f None h = h

@@ -1,4 +1,4 @@
--- The bags of presets or instruments, read back.
+-- Presets or instruments read back from their bags.
 use Rattle.std.proofs.Common.{if◌then◌else◌, ◌≡◌, ℕ, ◌<◌, ◌+◌, ◌==◌, Bool, true, false, suc, zero, List, [], ◌∷◌}
 use Rattle.std.proofs.Common.{◌++◌, length, map, take, slice_get, Some, None, refl, sym, subst, ◌∙◌, ap, arith}
 use Rattle.std.specs.List.{AllByRecursion}
@@ -59,7 +59,7 @@ zones-back op (z ∷ zs) = λ i. zone-back op z i ∷ zones-back op zs i
 pub zone-ends : (op : ℕ) (z : Zone) → ends_in op (entries z.gens ++ (op, z.target) ∷ []) ≡ true
 zone-ends op z = ends-last op (entries z.gens) z.target ∙ same-op op
 
--- the last entry is of the operator: it stands there
+-- if the last entry has the operator, some entry has it
 last_stands : (op : ℕ) (es : List (ℕ × ℕ)) → ends_in op es ≡ true → (j : ℕ) × (w : ℕ) × (slice_get es j ≡ Some (op, w))
 last_stands op [] h = cc
 last_stands op (e ∷ []) h = let same = is-op e.0 op h in (0, e.1, λ i. Some (same i, e.1))
@@ -72,7 +72,7 @@ plain-ends op gens unset = elim (ends_in op (entries gens)) as (λ b. ends_in op
   | false ↦ λ h. refl
 ] refl
 
--- ---- the last one, at its place
+-- ---- the last entry by its index
 
 pub ends-at : (op n : ℕ) (es : List (ℕ × ℕ)) (e : ℕ × ℕ) → length es ≡ suc n → slice_get es n ≡ Some e
     → ends_in op es ≡ (e.0 == op)

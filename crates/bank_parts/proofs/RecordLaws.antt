@@ -1,4 +1,4 @@
--- What the records of generators say of presets or instruments.
+-- What the generator records state about presets or instruments.
 use Rattle.std.proofs.Common.{if◌then◌else◌, ◌≡◌, ℕ, ◌<◌, ◌+◌, ◌^◌, ◌==◌, ◌&&◌, ◌||◌, not, suc, Bool, true, false}
 use Rattle.std.proofs.Common.{List, [], ◌∷◌, ◌++◌, length, map, slice_get, Some, refl, sym, ◌∙◌, ap, length-append}
 use Rattle.std.proofs.Common.{append-nil, arith}
@@ -260,7 +260,7 @@ owner_mod_count op x =
     let zones = zones_mods op x.zones in
     omega arith
 
--- what is counted of the bags of all, where it is counted bag by bag, is the sum of what each has
+-- a total over all bags is the sum of the totals of each owner's bags
 all_of : {H : Type 0} (op : ℕ) (size : List Bag → ℕ) (count : WithZones H → ℕ) → size [] ≡ 0
     → ((bs cs : List Bag) → size (bs ++ cs) ≡ size bs + size cs)
     → ((x : WithZones H) → size (bags_of op x) ≡ count x)
@@ -306,6 +306,6 @@ module _ {H : Type 0} {op : ℕ} {heads : List H} {bags : List (List Bag)} {owne
   pub mods_in_all : length (mods_in (all_bags bags)) ≡ sum_by (λ (x : WithZones H). mod_count x.global x.zones) owners
   mods_in_all = ap (λ bs. length (mods_in (all_bags bs))) a.bags ∙ all_mods op owners
 
--- as 64 bits count it
+-- saturated at 64 bits
 pub counted_all : (n m : ℕ) → n ≡ m → n < 2 ^ 64 → n ≡ counted m
 counted_all n m e h = omega arith

@@ -1,4 +1,4 @@
--- Targets that are renumbered: each generator of their operator, in all bags.
+-- Renumbering of targets: of each generator with their operator, in all bags.
 use Rattle.std.proofs.Common.{if◌then◌else◌, ◌≡◌, ◌<◌, ◌^◌, ◌==◌, ◌+◌, ℕ, Bool, true, false, true≢false, List, []}
 use Rattle.std.proofs.Common.{◌∷◌, ◌++◌, length, map, refl, sym, subst, ◌∙◌, ap}
 use Rattle.std.specs.Prelude.{All}
@@ -25,7 +25,7 @@ all_join P [] ys p q = q
 all_join P (x ∷ xs) ys p q = (p.0, all_join P xs ys p.1 q)
 
 module _ (op : ℕ) (by : Renumbering) where
-  -- ---- what follows
+  -- ---- the renumbered owners
 
   other_stays : (e : ℕ × ℕ) → (e.0 == op) ≡ false → gen_renumbered op by e ≡ e
   other_stays e h = rw h refl
@@ -99,7 +99,7 @@ module _ (op : ℕ) (by : Renumbering) where
     plain = owners_plain owners a.plain;
   }
 
-  -- ---- that it can
+  -- ---- that targets can be renumbered
 
   others_can : (es : List (ℕ × ℕ)) → AllByRecursion (λ e. (e.0 == op) ≡ false) es
       → AllByRecursion (CanRenumber op by) es

@@ -1,4 +1,4 @@
--- How many records there are where bags come, and that there is room for the rest.
+-- Numbers of records after bags are inserted, and that there is capacity for the rest.
 use Rattle.std.proofs.Common.{◌≡◌, ℕ, ◌≤◌, ◌+◌, zero, suc, List, [], ◌∷◌, length, insert, slice_get, set, Some, refl}
 use Rattle.std.proofs.Common.{sym, ◌∙◌, ap, length-append, arith}
 use Rattle.std.specs.List.{flat_map}
@@ -12,7 +12,7 @@ use Rattle.bank_parts.specs.declared.counting.Records.{Records}
 use Rattle.bank_parts.specs.Counts.{records_sum}
 use Rattle.bank_parts.specs.Room.{HasRoom}
 
--- ---- so many of a kind
+-- ---- numbers of one kind
 
 module _ {X : Type 0} (f : Bag → List X) where
   more_in : (own : List Bag) (k : ℕ) (b : Bag) → k ≤ length own
@@ -72,7 +72,7 @@ module _ {X : Type 0} (f : Bag → List X) where
       let after = length-append (f x) (flat_map f (set xs k c)) in
       omega arith
 
-  -- where a bag is sent through F
+  -- after a bag is changed by F
   pub sent_count : (owners : List (List Bag)) (i k : ℕ) (own : List Bag) (b : Bag) (F : Bag → Bag)
       → slice_get owners i ≡ Some own → slice_get own k ≡ Some b
       → length (flat_map f (all_bags (bag_changed owners i k F))) + length (f b)
@@ -89,7 +89,7 @@ pub one_each : (bags : List Bag) → length (flat_map (λ (b : Bag). b ∷ []) b
 one_each [] = refl
 one_each (b ∷ bs) = ap suc (one_each bs)
 
--- ---- room
+-- ---- capacity
 
 pub room_at_most : (s : Stored) (more less : Records) → less.zones ≤ more.zones → less.gens ≤ more.gens
     → less.mods ≤ more.mods → HasRoom s more → HasRoom s less
@@ -103,7 +103,7 @@ room_at_most s more less z g m h =
       mods = omega arith;
     }
 
--- with as many records and no less spare
+-- the same number of records, and no less spare capacity
 pub room_same : (s t : Stored) (more : Records) → length (all_bags t.owners) ≡ length (all_bags s.owners)
     → length (gens_in (all_bags t.owners)) ≡ length (gens_in (all_bags s.owners))
     → length (mods_in (all_bags t.owners)) ≡ length (mods_in (all_bags s.owners)) → s.spare.bags ≤ t.spare.bags
@@ -119,7 +119,7 @@ room_same s t more zs gs ms z g m h =
       mods = omega arith;
     }
 
--- after a bag came
+-- after a bag is inserted
 pub room_left : (s t : Stored) (used more : Records) (i k : ℕ) (own : List Bag) (b : Bag)
     → slice_get s.owners i ≡ Some own → k ≤ length own
     → t.owners ≡ changed s.owners i (λ own. insert own k b) → used.zones ≡ 1 → used.gens ≡ length b.gens
@@ -169,7 +169,7 @@ get-insert xs zero x h = refl
 get-insert [] (suc k) x h = absurd (omega arith)
 get-insert (z ∷ zs) (suc k) x h = get-insert zs k x (omega arith)
 
--- a bag put in, and sent through F
+-- a bag inserted, then changed by F
 pub put_and_changed : (owners : List (List Bag)) (i k : ℕ) (own : List Bag) (b : Bag) (F : Bag → Bag)
     → slice_get owners i ≡ Some own → k ≤ length own
     → bag_changed (changed owners i (λ own. insert own k b)) i k F ≡ changed owners i (λ own. insert own k (F b))

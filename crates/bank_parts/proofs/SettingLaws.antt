@@ -1,5 +1,5 @@
--- The settings of a place and the zones of a member: what is read after a change, a change and the
--- change back, one that changes nothing, and what a change leaves.
+-- The laws of the settings of a place and of the zones of an owner: what is read after a change, undo, a change that
+-- changes nothing, and what a change keeps.
 use Rattle.std.proofs.Common.{◌≡◌, ◌≢◌, ℕ, zero, suc, List, [], ◌∷◌, Option, Some, None, refl, sym, ap, ◌∙◌}
 use Rattle.std.specs.Prelude.{slice_get, slice_set}
 use Rattle.std.specs.Option.{option_map, option_and_then}
@@ -18,7 +18,7 @@ use Rattle.bank_parts.specs.PlaceLaws.{HeadsStayByZones, TargetsStay}
 
 -- ---- options
 
--- what a mapped option holds comes from a member
+-- a mapped option that has a value was mapped from a value
 pub record Source {X Y : Type 0} (f : X → Y) (o : Option X) (y : Y) : Type 0 where
   pub member : X
   pub there : o ≡ Some member
@@ -28,7 +28,7 @@ pub source : {X Y : Type 0} (f : X → Y) (o : Option X) (y : Y) → option_map 
 source f None y e = cc
 source f (Some x) y e = record { member = x; there = refl; seen = cc }
 
--- what a member of an option gives
+-- a chained option that has a value came from a value
 pub record Given {X Y : Type 0} (f : X → Option Y) (o : Option X) (y : Y) : Type 0 where
   pub member : X
   pub there : o ≡ Some member
@@ -38,7 +38,7 @@ pub given : {X Y : Type 0} (f : X → Option Y) (o : Option X) (y : Y) → optio
 given f None y e = cc
 given f (Some x) y e = record { member = x; there = refl; gives = e }
 
--- two ways to the same
+-- two ways to map an option
 mapped_alike : {W X Y Z : Type 0} (f : W → X) (g : X → Z) (h : W → Y) (k : Y → Z) → ((w : W) → g (f w) ≡ k (h w))
     → (o : Option W) → option_map g (option_map f o) ≡ option_map k (option_map h o)
 mapped_alike f g h k same None = refl
@@ -50,7 +50,7 @@ given_alike : {W X Y : Type 0} (f : W → X) (g : X → Option Y) (h : W → Opt
 given_alike f g h k same None = refl
 given_alike f g h k same (Some w) = same w
 
--- ---- one member of a list is changed
+-- ---- a change of one member of a list
 
 pub read_changed : {X : Type 0} (xs : List X) (i : ℕ) (f : X → X)
     → slice_get (changed xs i f) i ≡ option_map f (slice_get xs i)
@@ -79,7 +79,7 @@ changed_elsewhere xs i j f ne =
       | Some x ↦ λ e. ap (λ ys. slice_get ys j) (changed-found xs i f x e) ∙ set_elsewhere xs i j (f x) ne
     ]) refl
 
--- what sees no difference between a member and what it becomes
+-- a change that `see` does not distinguish
 set_unseen : {X Y : Type 0} (see : Option X → Y) (xs : List X) (i j : ℕ) (x y : X) → slice_get xs i ≡ Some x
     → see (Some y) ≡ see (Some x) → see (slice_get (slice_set xs i y) j) ≡ see (slice_get xs j)
 set_unseen see [] i j x y e same = refl
@@ -97,7 +97,7 @@ changed_unseen see xs i j f same =
           ap (λ ys. see (slice_get ys j)) (changed-found xs i f x e) ∙ set_unseen see xs i j x (f x) e (same x)
     ]) refl
 
--- ---- the settings in a member
+-- ---- the settings of a place of an owner
 
 module _ {H : Type 0} (x : WithZones H) where
   settings_read : (at : ZonePlace) (f : Settings → Settings)
@@ -197,7 +197,7 @@ targets_stay {H} owners i j k at f =
     owners i j (settings_changed at f)
     (λ (x : WithZones H). settings_unseen x (option_map (λ (z : Zone). z.target)) at f (λ z s. refl) k)
 
--- ---- the zones of a member
+-- ---- the zones of an owner
 
 pub zones_read : {H : Type 0} → ZonesRead H
 zones_read {H} owners i f =
@@ -235,7 +235,7 @@ heads_stay_by_zones {H} owners i j f =
     changed_unseen (option_map (λ (x : WithZones H). x.head)) owners i j
     (λ (x : WithZones H). with_zones (f x.zones) x) (λ x. refl)
 
--- ---- the getters' definitions, seen through the settings of a place
+-- ---- the definitions of the getters, through the settings of a place
 
 module _ {H Y : Type 0} (of_zone : Zone → Y) (of_global : Settings → Y)
     (alike : (z : Zone) → of_zone z ≡ of_global (settings_of_zone z)) where

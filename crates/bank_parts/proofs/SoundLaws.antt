@@ -1,4 +1,4 @@
--- What a sound bank has can be stored in flat lists.
+-- Flat lists can hold the presets and instruments of a sound bank.
 use Rattle.std.proofs.Common.{◌≡◌, ℕ, List, [], ◌∷◌, length, Some, None, refl, arith}
 use Rattle.std.specs.List.{AllByRecursion}
 use Rattle.std.specs.FinMap.{entries, get}
@@ -20,7 +20,7 @@ use Rattle.bank_parts.specs.Sound.{IsSound}
 use Rattle.bank_parts.specs.Room.{IsStorable}
 use Rattle.bank_parts.proofs.ListLaws.{everywhere-found}
 
--- ---- what a level allows is never a target
+-- ---- no level allows the operator of its targets
 
 unset_where : (at : Level) (m : Gens) → AreGenerators at m → get m (target_operator at) ≡ None
 unset_where at m are =
@@ -72,7 +72,7 @@ instruments_plain b s =
     owners_plain (λ name. name) IsName level.Inst (length b.samples) b.instruments valid.instruments
     fits.instruments
 
--- within the limits, 16 bits count all
+-- within the limits there are fewer than 2 ^ 16 records of each kind
 pub sound_storable : (b : Parts) → IsSound b → IsStorable b
 sound_storable b s =
     let within = s.valid.limits in

@@ -1,4 +1,4 @@
--- That there is room for what comes where flat lists can have what it leads to, and that it is plain.
+-- If flat lists can hold the result of a change, there is capacity for the change; and its maps are plain.
 use Rattle.std.proofs.Common.{◌≡◌, ◌≢◌, ℕ, ◌≤◌, ◌<◌, ◌+◌, ◌^◌, ◌||◌, ◌∙◌, false, cond, Option, List, [], ◌∷◌, length, insert}
 use Rattle.std.proofs.Common.{slice_get, set, Some, None, suc, zero, refl, sym, subst, ap, length-append, arith}
 use Rattle.std.specs.Prelude.{is_some, sum_by}
@@ -47,12 +47,12 @@ use Rattle.bank_parts.proofs.PlaceChanges.{BagPlace, BarePlace, place_at, place_
 use Rattle.bank_parts.proofs.GenLaws.{found_amount}
 use Rattle.bank_parts.proofs.GenChanges.{first_gen, first_mod, gen_is_put, mod_is_put}
 
--- ---- room
+-- ---- capacity
 
 module _ {H : Type 0} {at : Level} {hs : List H} {bs : List (List Bag)} {owners : List (WithZones H)}
     (a : AreOf (target_operator at) hs bs owners) (s : AreStorable at owners) (bags : List (List Bag))
     (more : Records) where
-  -- of bags that are no fewer than those that there are and what comes
+  -- for bags that are no fewer than the present bags and the new ones
   holds_more : length (all_bags bags) + more.zones ≤ length (all_bags bs)
       → length (gens_in (all_bags bags)) + more.gens ≤ length (gens_in (all_bags bs))
       → length (mods_in (all_bags bags)) + more.mods ≤ length (mods_in (all_bags bs))
@@ -67,7 +67,7 @@ module _ {H : Type 0} {at : Level} {hs : List H} {bs : List (List Bag)} {owners 
         mods = (let h = s.mods in omega arith);
       }
 
--- a bag put in
+-- a bag inserted
 pub bag_held : {H : Type 0} {at : Level} {hs : List H} {owners : List (WithZones H)} (bags : List (List Bag)) (i k : ℕ)
     (own : List Bag) (b : Bag) (more : Records) → slice_get bags i ≡ Some own → k ≤ length own
     → AreOf (target_operator at) hs (changed bags i (λ own. insert own k b)) owners → AreStorable at owners
@@ -81,7 +81,7 @@ bag_held bags i k own b more there within a s z g m =
     let mods_grow = grows (λ (b : Bag). b.mods) bags i k own b there within in
     holds_more a s bags more (omega arith) (omega arith) (omega arith)
 
--- a bag sent through F, which has so many more then
+-- a bag changed by F, which adds so many records
 pub sent_held : {H : Type 0} {at : Level} {hs : List H} {owners : List (WithZones H)} (bags : List (List Bag)) (i k : ℕ)
     (own : List Bag) (b : Bag) (F : Bag → Bag) (more : Records) → slice_get bags i ≡ Some own
     → slice_get own k ≡ Some b → AreOf (target_operator at) hs (bag_changed bags i k F) owners → AreStorable at owners
@@ -96,7 +96,7 @@ sent_held bags i k own b F more there found a s z g m =
     let mods_grow = sent_count (λ (b : Bag). b.mods) bags i k own b F there found in
     holds_more a s bags more (omega arith) (omega arith) (omega arith)
 
--- a preset or an instrument put in
+-- a preset or an instrument inserted
 pub owner_held : {H : Type 0} {at : Level} {hs : List H} {bags : List (List Bag)} {owners : List (WithZones H)}
     → AreOf (target_operator at) hs bags owners → (i : ℕ) (x : WithZones H) (more : Records)
     → more ≡ all_counted (records_of_owner x) → AreStorable at (insert owners i x) → CanHold bags more
@@ -113,7 +113,7 @@ owner_held {H} {at} {hs} {bags} {owners} a i x more e s =
       mods = (let c = ap (λ (r : Records). r.mods) e in let h = s.mods in omega arith);
     }
 
--- and the other way round
+-- the converse
 pub owner_storable : {H : Type 0} {at : Level} {hs : List H} {bags : List (List Bag)} {owners : List (WithZones H)}
     → AreOf (target_operator at) hs bags owners → (i : ℕ) (x : WithZones H) (more : Records)
     → more ≡ all_counted (records_of_owner x) → IsPlainOwner (target_operator at) x → CanHold bags more
@@ -189,7 +189,7 @@ place_in {H} {level} {bags} {owners} {i} {at} p f s =
     (everywhere-sent (IsPlainOwner (target_operator level)) owners i (settings_changed at f) p.found.owner
     p.found.there s.plain)
 
--- an operator that is set in a plain map is another
+-- an operator set in a plain map is not that of targets
 pub other_set : (op : ℕ) (m : Gens) (o w : ℕ) → IsPlain op (map.insert m o w) → op ≢ o
 other_set op m o w plain same =
     let found : map.get (map.insert m o w) op ≡ Some w =
@@ -200,9 +200,9 @@ other_set op m o w plain same =
 pub other_found : (op : ℕ) (m : Gens) (o w : ℕ) → IsPlain op m → map.get m o ≡ Some w → op ≢ o
 other_found op m o w plain found same = let there = ap (map.get m) same ∙ found in cc (there, plain.unset)
 
--- ---- zones and settings that come
+-- ---- new zones and settings
 
--- a zone put in
+-- a zone inserted
 pub zone_held : {H : Type 0} {at : Level} {hs : List H} {bags : List (List Bag)} {owners : List (WithZones H)} {i k : ℕ}
     → AreOf (target_operator at) hs bags owners
     → (s : ZonesAt (target_operator at) bags owners i (λ n. k ≤ n)) (n : ℕ) (z : Zone) (more : Records)
@@ -226,7 +226,7 @@ zone_held {H} {at} {hs} {bags} {owners} {i} {k} a s n z more h e storable =
     bag_held bags i n (bags_of op x) b more s.found.own (omega arith) put storable (omega arith) (omega arith)
     (omega arith)
 
--- the operator of the targets is set nowhere
+-- the operator of targets is set nowhere
 pub gen_other : {H : Type 0} {level : Level} {bags : List (List Bag)} {owners : List (WithZones H)} {i : ℕ}
     {at : ZonePlace} (p : PlaceAt (target_operator level) bags owners i at) (o w : ℕ)
     → AreStorable level (gen_set owners i at o w) → target_operator level ≢ o
@@ -240,7 +240,7 @@ gen_found_other {H} {op} p {es} {o} {j} there found =
     other_found op p.settings.gens o _ p.plain
     (found_amount p.settings.gens p.plain.fit o j (place_at p there found) (0, 0))
 
--- a generator or a modulator, the first of a place that has no bag
+-- the first generator or modulator of a place without a bag
 module _ {H : Type 0} {level : Level} {hs : List H} {bags : List (List Bag)} {owners : List (WithZones H)} {i : ℕ}
     {at : ZonePlace} (b : BarePlace (target_operator level) hs bags owners i at) where
   pub first_gen_held : (o w : ℕ) → o < 2 ^ 16 → w < 2 ^ 16 → AreStorable level (gen_set owners i at o w)
@@ -258,7 +258,7 @@ module _ {H : Type 0} {level : Level} {hs : List H} {bags : List (List Bag)} {ow
       bag_held bags i 0 (bags_of (target_operator level) b.place.found.owner) own _ b.place.found.own (omega arith)
       (first_mod b j m (changed bags i (λ bs. insert bs 0 own)) h refl) s (omega arith) (omega arith) (omega arith)
 
--- of a place that has one
+-- a generator or a modulator of a place with a bag
 module _ {H : Type 0} {level : Level} {hs : List H} {bags : List (List Bag)} {owners : List (WithZones H)} {i : ℕ}
     {at : ZonePlace} {n : ℕ} (b : BagPlace (target_operator level) hs bags owners i at n) where
   module _ {es : List (ℕ × ℕ)} {o j : ℕ} (there : entries_at owners i at ≡ Some es) where
@@ -284,7 +284,7 @@ module _ {H : Type 0} {level : Level} {hs : List H} {bags : List (List Bag)} {ow
       sent_held bags i n (bags_of (target_operator level) b.place.found.owner) b.own.bag F _ b.place.found.own
       b.own.found (mod_is_put b j m (bag_changed bags i n F) h refl refl) s refl (omega arith) (omega arith)
 
--- ---- a zone less
+-- ---- one zone less
 
 insert_longer : {X : Type 0} (xs : List X) (k : ℕ) (x : X) → length xs ≤ length (insert xs k x)
 insert_longer xs zero x = omega arith

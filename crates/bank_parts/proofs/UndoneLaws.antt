@@ -1,4 +1,4 @@
--- An edit of zones, generators or modulators and its inverse, and what is read in between.
+-- The undo laws of edits of zones, generators and modulators, and what is read between an edit and its inverse.
 use Rattle.std.proofs.Common.{◌≡◌, ◌<◌, ◌≤◌, ℕ, List, length, insert, remove, Option, Some, None, IsSome, cond, refl}
 use Rattle.std.proofs.Common.{sym, ap, ◌∙◌}
 use Rattle.std.specs.Prelude.{slice_get, slice_set, IsSomeAnd}
@@ -27,7 +27,7 @@ use Rattle.bank_parts.specs.ChangesUndone.{GenSetRead, GenClearedRead, ModAddedR
 use Rattle.bank_parts.proofs.SettingLaws.{source, Given, given, read_changed, place_read, place_returns, zones_read}
 use Rattle.bank_parts.proofs.SettingLaws.{zones_return, gens_of_settings, mods_of_settings}
 
--- ---- what is there
+-- ---- owners and zones that exist
 
 some_there : {X : Type 0} (o : Option X) → IsSome o → (x : X) × (o ≡ Some x)
 some_there None h = cc
@@ -36,13 +36,13 @@ some_there (Some x) h = (x, refl)
 some_same : {X : Type 0} (o : Option X) (x y : X) → o ≡ Some x → o ≡ Some y → x ≡ y
 some_same o x y e h = cc
 
--- a member that is there, and of which P holds
+-- a value that exists, and of which P holds
 pub record There {X : Type 0} (o : Option X) (P : X → Type 0) : Type 0 where
   pub member : X
   pub there : o ≡ Some member
   pub holds : P member
 
--- an option that an option's part gives
+-- `option_and_then` after `option_map`
 given_by_part : {X Y Z : Type 0} (f : X → Y) (g : Y → Option Z) (o : Option X)
     → option_and_then g (option_map f o) ≡ option_and_then (λ x. g (f x)) o
 given_by_part f g None = refl
@@ -69,7 +69,7 @@ module _ {H : Type 0} (owners : List (WithZones H)) (i : ℕ) where
       ∙ given_by_part (λ (s : Settings). s.mods) (λ (mods : List Modulator). slice_get mods j)
       (settings_at owners i at)
 
-  -- a member with so many zones
+  -- an owner with so many zones
   pub zones_there : (P : ℕ → Type 0) → IsSomeAnd (zone_count_at owners i) P
       → There (zones_at owners i) (λ zones. P (length zones))
   zones_there P h = here (slice_get owners i) h
@@ -79,7 +79,7 @@ module _ {H : Type 0} (owners : List (WithZones H)) (i : ℕ) where
       here None h = absurd h
       here (Some x) h = record { member = x.zones; there = refl; holds = h }
 
-  -- two zones of a member
+  -- two zones of an owner
   both_there : (k l : ℕ) → HasPlace owners i (place.Zone k) → HasPlace owners i (place.Zone l)
       → There (zones_at owners i) (λ zones. (k < length zones) × (l < length zones))
   both_there k l h m =
@@ -207,7 +207,7 @@ mod_set_back owners i at j was m e =
     h.member h.there
     (ap (λ mods. with_mods mods h.member) (slice_set-back h.member.mods j was m h.gives))
 
--- ---- what is read in between
+-- ---- what is read between an edit and its inverse
 
 set_is_read : (m : Gens) (op amount : ℕ) → map.get (map.insert m op amount) op ≡ Some amount
 set_is_read m op amount =
@@ -216,7 +216,7 @@ set_is_read m op amount =
 cleared_is_read : (m : Gens) (op : ℕ) → map.get (map.remove m op) op ≡ None
 cleared_is_read m op = gens.get-remove_any m op op ∙ ap (λ b. cond b None (map.get m op)) (tied_same op)
 
--- what is there after a change of what is there
+-- what is read after a change of an existing value
 module _ {H : Type 0} (owners : List (WithZones H)) (i : ℕ) where
   zone_then : (f : List Zone → List Zone) (zones : List Zone) → zones_at owners i ≡ Some zones → (k : ℕ)
       → zone_at (zones_changed owners i f) i k ≡ slice_get (f zones) k

@@ -1,5 +1,5 @@
--- Which records of generators are those of presets or instruments that may stand in a bank, and that all
--- numbers lie in the ranges of their fields.
+-- Which generator records are those of valid presets or instruments, and that all numbers lie in the ranges of their
+-- fields.
 use Rattle.std.proofs.Common.{if◌then◌else◌, ◌≡◌, ◌↔◌, ℕ, ◌<◌, ◌-◌, ◌==◌, ◌&&◌, ◌||◌, not, nat_lt, nat_le, Bool}
 use Rattle.std.proofs.Common.{true, false, IsTrue, List, [], ◌∷◌, ◌++◌, length, map, take, refl, sym, subst, ◌∙◌, ap}
 use Rattle.std.proofs.Common.{length-append, arith}
@@ -27,7 +27,7 @@ use Rattle.bank_parts.specs.Flat.{AreOf}
 use Rattle.bank_parts.proofs.RecordLaws.{and_true, not_or, six, five, same_op, all-append, others, owner_gens}
 use Rattle.bank_parts.proofs.RecordLaws.{owner_mods, gens_before, mods_before}
 
--- ---- records of generators that may stand
+-- ---- valid generator records
 
 mixed : (allowed bad foreign range : Bool)
     → ((allowed && not bad) && (not foreign && not range)) ≡ (not (not allowed || foreign) && not (bad || range))
@@ -179,7 +179,7 @@ module _ {H : Type 0} (name_of : H → List ℕ) (at : Level) (count : ℕ) wher
         λ all. same ∙ records_valid owners a.plain all,
       )
 
--- ---- numbers within their fields
+-- ---- numbers in the ranges of their fields
 
 module _ {X : Type 0} (P : X → Type 0) where
   pub all-front : (xs ys : List X) → AllByRecursion P (xs ++ ys) → AllByRecursion P xs

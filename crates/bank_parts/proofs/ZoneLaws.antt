@@ -1,4 +1,4 @@
--- One zone, its bag among those of its owner, and what becomes of the owner where zones come, go, move or change.
+-- One zone, its bag among the bags of its owner, and the owner after zones are inserted, removed, moved or changed.
 use Rattle.std.proofs.Common.{◌≡◌, ℕ, ◌<◌, ◌≤◌, ◌+◌, ◌-◌, List, [], ◌∷◌, ◌++◌, length, map, insert, remove}
 use Rattle.std.proofs.Common.{slice_get, set, Option, Some, None, refl, sym, subst, ◌∙◌, ap, length-append, arith}
 use Rattle.std.specs.FinMap.{entries}
@@ -89,7 +89,7 @@ zone_there {H} {op} {heads} {bags} {owners} a i k h =
 
 module _ {H : Type 0} {op : ℕ} {bags : List (List Bag)} {owners : List (WithZones H)} {i k : ℕ}
     (z : ZoneAt op bags owners i k) where
-  -- the place of its bag, as the code finds it
+  -- the index of its bag, as the code finds it
   pub zone_place : (n : ℕ) → IfSome (slice_get owners i) (λ (x : WithZones H). n ≡ length (global_bags x.global) + k)
       → n ≡ length (global_bags z.found.owner.global) + k
   zone_place n h = of_some (λ (x : WithZones H). n ≡ length (global_bags x.global) + k) z.found.there h
@@ -149,7 +149,7 @@ module _ {H : Type 0} {op : ℕ} {bags : List (List Bag)} {owners : List (WithZo
 
 module _ {H : Type 0} {op : ℕ} {heads : List H} {bags : List (List Bag)} {owners : List (WithZones H)}
     (a : AreOf op heads bags owners) {i k : ℕ} (z : ZoneAt op bags owners i k) where
-  -- a zone sent through f, and its bag through F
+  -- a zone changed by f, and its bag by F
   pub zone_changed : (n : ℕ) (f : Zone → Zone) (F : Bag → Bag) (bs : List (List Bag))
       → IfSome (slice_get owners i) (λ (x : WithZones H). n ≡ length (global_bags x.global) + k)
       → F (zone_bag op z.zone) ≡ zone_bag op (f z.zone) → IsPlain op (f z.zone).gens → bs ≡ bag_changed bags i n F
@@ -234,7 +234,7 @@ module _ {H : Type 0} {op : ℕ} {heads : List H} {bags : List (List Bag)} {owne
       ∙ ap (λ bs. gs ++ bs) (sym (map-remove (zone_bag op) x.zones k))))
       e
 
--- a zone that comes, where room was made for it and the bags stayed
+-- a zone inserted, after memory was reserved
 module _ {H : Type 0} {op : ℕ} {heads : List H} {bags : List (List Bag)} {owners : List (WithZones H)}
     (a : AreOf op heads bags owners) {i k : ℕ} (s : ZonesAt op bags owners i (λ n. k ≤ n)) where
   pub new_place : (n : ℕ) {room : List (List Bag)}
@@ -271,7 +271,7 @@ module _ {H : Type 0} {op : ℕ} {heads : List H} {bags : List (List Bag)} {owne
 
 module _ {H : Type 0} {op : ℕ} {bags : List (List Bag)} {owners : List (WithZones H)} {i k : ℕ}
     (s : ZonesAt op bags owners i (λ n. k ≤ n)) where
-  -- the place is within all its bags
+  -- the index lies within all its bags
   pub place_fits : (n m : ℕ) → IfSome (slice_get bags i) (λ (own : List Bag). n ≡ length own)
       → IfSome (slice_get owners i) (λ (x : WithZones H). m ≡ length (global_bags x.global)) → m + k ≤ n
   place_fits n m h g =

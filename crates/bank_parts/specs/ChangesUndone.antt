@@ -1,4 +1,4 @@
--- What an edit of zones, generators or modulators and its inverse leave, and what is read in between.
+-- The undo laws of edits of zones, generators and modulators, and what is read between an edit and its inverse.
 use Rattle.std.specs.Prelude.{◌≡◌, ◌≤◌, ℕ, List, length, Some, None, IsSome, IsSomeAnd}
 use Rattle.modulators.specs.declared.modulator.Modulator.{Modulator}
 use Rattle.bank_parts.specs.declared.parts.Zone.{Zone}
@@ -67,7 +67,7 @@ ModSetBack H =
     → mod_at owners i at j ≡ Some was
     → mod_set (mod_set owners i at j m) i at j was ≡ owners
 
--- ---- what is read in between
+-- ---- what is read between an edit and its inverse
 
 abbrev pub ZoneAddedRead : Type 0 → Type 0
 ZoneAddedRead H =

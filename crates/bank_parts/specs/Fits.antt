@@ -1,5 +1,5 @@
--- Banks whose numbers, names and texts lie in the ranges of their fields. Every value of the code does;
--- a law over banks as data asks it.
+-- Values whose numbers, names and texts lie in the ranges of their fields. Every value at run time is such a value; a
+-- law about banks as data has to require it.
 use Rattle.std.specs.Prelude.{◌<◌, ◌^◌, ℕ, List, Option, Some, None, FitsSigned}
 use Rattle.std.specs.List.{AllByRecursion}
 use Rattle.std.specs.Int.{w8}
@@ -16,7 +16,7 @@ use Rattle.bank_parts.specs.declared.parts.WithZones.{WithZones}
 use Rattle.bank_parts.specs.declared.parts.Sample.{Sample}
 use Rattle.bank_parts.specs.declared.parts.Parts.{Parts}
 
--- bytes
+-- a sequence of bytes
 abbrev pub FitsText : List ℕ → Type 0
 FitsText text = AllByRecursion (λ b. b < 2 ^ 8) text
 
@@ -53,12 +53,12 @@ pub record FitsOwner {H : Type 0} (IsFit : H → Type 0) (x : WithZones H) : Typ
   pub global : FitsGlobal x.global
   pub zones : AllByRecursion FitsZone x.zones
 
--- both ends of a loop, where there is one
+-- both ends of the loop, if there is one
 abbrev pub FitsLoop : Option (ℕ × ℕ) → Type 0
 FitsLoop None = Unit {0}
 FitsLoop (Some looped) = (looped.0 < 2 ^ 32) × (looped.1 < 2 ^ 32)
 
--- the link, where there is one
+-- the number of the linked sample, if there is one
 abbrev pub FitsKind : Kind → Type 0
 FitsKind kind = OfLink (λ link. link < 2 ^ 16) kind
 
@@ -71,6 +71,7 @@ pub record FitsSample (s : Sample) : Type 0 where
   pub correction : FitsSigned w8 s.correction
   pub kind : FitsKind s.kind
 
+-- a whole bank
 pub record Fits (b : Parts) : Type 0 where
   pub minor : b.minor < 2 ^ 16
   pub texts : FitTexts b.texts

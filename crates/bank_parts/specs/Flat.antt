@@ -1,21 +1,22 @@
--- Presets or instruments as their heads and their bags.
+-- Presets or instruments as heads and bags.
 use Rattle.std.specs.Prelude.{◌≡◌, ℕ, List, [], ◌∷◌, map}
 use Rattle.std.specs.List.{AllByRecursion}
 use Rattle.flat_records.specs.Bags.{Bag}
 use Rattle.bank_parts.specs.declared.parts.WithZones.{WithZones}
 use Rattle.bank_parts.specs.Bagged.{bags_of, owner_in, IsPlainOwner}
 
+-- the presets or instruments with these heads and these bags
 abbrev pub owners_in : {H : Type 0} → ℕ → List H → List (List Bag) → List (WithZones H)
 owners_in op [] bags = []
 owners_in op (head ∷ heads) [] = []
 owners_in op (head ∷ heads) (own ∷ rest) = owner_in op head own ∷ owners_in op heads rest
 
--- the heads and the bags are those of these owners, which can be read back
+-- these are the heads and the bags of owners that can be read back
 pub record AreOf {H : Type 0} (op : ℕ) (hs : List H) (bs : List (List Bag)) (owners : List (WithZones H)) : Type 0 where
   pub heads : hs ≡ map (λ x. x.head) owners
   pub bags : bs ≡ map (bags_of op) owners
   pub plain : AllByRecursion (IsPlainOwner op) owners
 
--- they are those of the owners that are read of them
+-- these are the heads and the bags of the owners read from them
 abbrev pub AreRead : {H : Type 0} → ℕ → List H → List (List Bag) → Type 0
 AreRead op heads bags = AreOf op heads bags (owners_in op heads bags)

@@ -1,23 +1,23 @@
--- The link of a sample to another one.
+-- The link of a sample to another sample.
 use Rattle.std.specs.Prelude.{◌≡◌, ℕ, ◌==◌, Bool, true, false, refl}
 use Rattle.bank_parts.specs.declared.parts.Kind.{Kind}
 use Rattle.bank_parts.specs.declared.parts.Kind.TheVariants.{Mono, Right, Left, Linked}
 
--- P holds of the link, where there is one
+-- P holds of the number of the linked sample, if there is one
 abbrev pub OfLink : (ℕ → Type 0) → Kind → Type 0
 OfLink P Mono = Unit {0}
 OfLink P (Right link) = P link
 OfLink P (Left link) = P link
 OfLink P (Linked link) = P link
 
--- there is one
+-- the sample is linked
 abbrev pub has_link : Kind → Bool
 has_link Mono = false
 has_link (Right link) = true
 has_link (Left link) = true
 has_link (Linked link) = true
 
--- it names the sample of a number
+-- the sample is linked to the sample with this number
 abbrev pub links_to : ℕ → Kind → Bool
 links_to number Mono = false
 links_to number (Right link) = link == number

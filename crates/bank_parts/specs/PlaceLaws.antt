@@ -1,4 +1,4 @@
--- The laws of a change of one place, or of the zones of one member, in presets or in instruments.
+-- The laws of a change of one place, or of the zones of one owner, in a list of presets or instruments.
 use Rattle.std.specs.Prelude.{◌≡◌, ◌≢◌, ℕ, List, Some, slice_get}
 use Rattle.std.specs.Option.{option_map}
 use Rattle.bank_parts.specs.declared.parts.Zone.{Zone}
@@ -18,7 +18,7 @@ abbrev pub ZonesRead : Type 0 → Type 0
 ZonesRead H = (owners : List (WithZones H)) (i : ℕ) (f : List Zone → List Zone)
     → zones_at (zones_changed owners i f) i ≡ option_map f (zones_at owners i)
 
--- ---- a change, and one that takes it back
+-- ---- a change and a change that undoes it
 
 abbrev pub PlaceReturns : Type 0 → Type 0
 PlaceReturns H =
@@ -32,7 +32,7 @@ ZonesReturn H =
     → zones_at owners i ≡ Some zones → g (f zones) ≡ zones
     → zones_changed (zones_changed owners i f) i g ≡ owners
 
--- ---- a change that leaves what is there as it is
+-- ---- a change that keeps the old value
 
 abbrev pub PlaceKept : Type 0 → Type 0
 PlaceKept H =
@@ -46,9 +46,9 @@ ZonesKept H =
     → zones_at owners i ≡ Some zones → f zones ≡ zones
     → zones_changed owners i f ≡ owners
 
--- ---- what a change leaves
+-- ---- what a change keeps
 
--- the other members
+-- the other owners
 abbrev pub OthersStay : Type 0 → Type 0
 OthersStay H = (owners : List (WithZones H)) (i j : ℕ) (at : ZonePlace) (f : Settings → Settings) → j ≢ i
     → slice_get (place_changed owners i at f) j ≡ slice_get owners j
@@ -57,17 +57,17 @@ abbrev pub OthersKeepZones : Type 0 → Type 0
 OthersKeepZones H = (owners : List (WithZones H)) (i j : ℕ) (f : List Zone → List Zone) → j ≢ i
     → slice_get (zones_changed owners i f) j ≡ slice_get owners j
 
--- the other places of the member
+-- the other places of the owner
 abbrev pub PlacesStay : Type 0 → Type 0
 PlacesStay H = (owners : List (WithZones H)) (i : ℕ) (at other : ZonePlace) (f : Settings → Settings) → other ≢ at
     → settings_at (place_changed owners i at f) i other ≡ settings_at owners i other
 
--- the global zone, where zones change
+-- the global zone, if zones change
 abbrev pub GlobalStays : Type 0 → Type 0
 GlobalStays H = (owners : List (WithZones H)) (i j : ℕ) (f : List Zone → List Zone)
     → settings_at (zones_changed owners i f) j place.Global ≡ settings_at owners j place.Global
 
--- the heads and the targets
+-- heads and targets
 abbrev pub HeadsStay : Type 0 → Type 0
 HeadsStay H = (owners : List (WithZones H)) (i j : ℕ) (at : ZonePlace) (f : Settings → Settings)
     → head_at (place_changed owners i at f) j ≡ head_at owners j

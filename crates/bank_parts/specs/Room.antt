@@ -1,4 +1,4 @@
--- What flat lists can hold.
+-- The capacity of flat lists.
 use Rattle.std.specs.Prelude.{◌<◌, ◌≤◌, ◌+◌, ◌^◌, ◌||◌, ℕ, Bool, List, length, sum_by, is_some}
 use Rattle.std.specs.List.{AllByRecursion, list_any}
 use Rattle.std.specs.FinMap.{get, len}
@@ -15,20 +15,20 @@ use Rattle.bank_parts.specs.declared.parts.Parts.{Parts}
 use Rattle.bank_parts.specs.Valid.{owner_total, zone_count, gen_count, mod_count}
 use Rattle.bank_parts.specs.Bagged.{IsPlainOwner}
 
--- the presets, or the instruments, that flat lists can have: 16 bits count their records of each kind, and no map has
--- the operator of the targets
+-- flat lists can hold these presets or instruments: fewer than 2 ^ 16 records of each kind, and no map has the
+-- operator of targets
 pub record AreStorable {H : Type 0} (at : Level) (owners : List (WithZones H)) : Type 0 where
   pub zones : owner_total zone_count owners < 2 ^ 16
   pub gens : owner_total gen_count owners < 2 ^ 16
   pub mods : owner_total mod_count owners < 2 ^ 16
   pub plain : AllByRecursion (IsPlainOwner (target_operator at)) owners
 
--- those of a bank
+-- flat lists can hold the presets and the instruments of the bank
 pub record IsStorable (b : Parts) : Type 0 where
   pub presets : AreStorable level.Preset b.presets
   pub instruments : AreStorable level.Inst b.instruments
 
--- the records of zones
+-- the records of a list of zones
 abbrev pub records_of_zones : List Zone → Records
 records_of_zones zones =
     record {
@@ -39,19 +39,19 @@ records_of_zones zones =
       mods = sum_by (λ (z : Zone). length z.mods) zones;
     }
 
--- with so many records more, 16 bits count those of each kind
+-- flat lists can hold so many more records
 pub record CanHold (bags : List (List Bag)) (more : Records) : Type 0 where
   pub zones : length (all_bags bags) + more.zones < 2 ^ 16
   pub gens : length (gens_in (all_bags bags)) + more.gens < 2 ^ 16
   pub mods : length (mods_in (all_bags bags)) + more.mods < 2 ^ 16
 
--- and there is memory for them
+-- and memory for them is reserved
 pub record HasRoom (s : Stored) (more : Records) : Type 0 where
   pub held : CanHold s.owners more
   pub zones : more.zones ≤ s.spare.bags
   pub gens : more.gens ≤ s.spare.gens
   pub mods : more.mods ≤ s.spare.mods
 
--- a map of a preset or an instrument has the operator
+-- some map of a preset or an instrument has the operator
 abbrev pub has_operator : {H : Type 0} → ℕ → WithZones H → Bool
 has_operator op x = is_some (get x.global.gens op) || list_any (λ (z : Zone). is_some (get z.gens op)) x.zones

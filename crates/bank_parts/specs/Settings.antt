@@ -1,5 +1,5 @@
--- What a place holds besides a target, seen and changed in one way wherever it stands; and the zones of
--- a member.
+-- The settings of a place, its generators and modulators, read and changed in one way for the global zone and for
+-- other zones; and the zones of an owner.
 use Rattle.std.specs.Prelude.{ℕ, List, Option, Some, slice_get}
 use Rattle.std.specs.Option.{option_map, option_and_then}
 use Rattle.numbered_lists.specs.Moved.{changed}
@@ -11,7 +11,7 @@ use Rattle.bank_parts.specs.declared.parts.WithZones.{WithZones}
 use Rattle.bank_parts.specs.declared.owners.ZonePlace.{ZonePlace}
 use Rattle.bank_parts.specs.declared.owners.ZonePlace.TheVariants as place
 
--- ---- the settings of a place: its generators and its modulators, which are all that a global zone has
+-- ---- the settings of a place, in the form of a global zone, which has nothing else
 
 abbrev pub Settings : Type 0
 Settings = GlobalZone
@@ -22,26 +22,27 @@ settings_of_zone z = record { gens = z.gens; mods = z.mods }
 abbrev pub zone_with_settings : Settings → Zone → Zone
 zone_with_settings s z = record z { gens = s.gens; mods = s.mods }
 
--- none where there is no such zone
+-- the settings of a place of an owner; none if there is no such zone
 abbrev pub settings_in : {H : Type 0} → ZonePlace → WithZones H → Option Settings
 settings_in place.Global x = Some x.global
 settings_in (place.Zone k) x = option_map settings_of_zone (slice_get x.zones k)
 
--- they are sent through f, and all else stays
+-- the settings of the place are changed by f, and nothing else changes
 abbrev pub settings_changed : {H : Type 0} → ZonePlace → (Settings → Settings) → WithZones H → WithZones H
 settings_changed place.Global f x = record x { global = f x.global }
 settings_changed (place.Zone k) f x =
     record x { zones = changed x.zones k (λ (z : Zone). zone_with_settings (f (settings_of_zone z)) z) }
 
--- those of a member
+-- the settings of a place of owner i
 abbrev pub settings_at : {H : Type 0} → List (WithZones H) → ℕ → ZonePlace → Option Settings
 settings_at owners i at = option_and_then (settings_in at) (slice_get owners i)
 
+-- the settings of a place of owner i are changed by f
 abbrev pub place_changed : {H : Type 0} → List (WithZones H) → ℕ → ZonePlace → (Settings → Settings)
     → List (WithZones H)
 place_changed owners i at f = changed owners i (settings_changed at f)
 
--- ---- the zones of a member
+-- ---- the zones of an owner
 
 abbrev pub zones_at : {H : Type 0} → List (WithZones H) → ℕ → Option (List Zone)
 zones_at owners i = option_map (λ x. x.zones) (slice_get owners i)
@@ -49,11 +50,11 @@ zones_at owners i = option_map (λ x. x.zones) (slice_get owners i)
 abbrev pub with_zones : {H : Type 0} → List Zone → WithZones H → WithZones H
 with_zones zones x = record x { zones = zones }
 
--- they are sent through f, and all else stays
+-- the zones of owner i are changed by f, and nothing else changes
 abbrev pub zones_changed : {H : Type 0} → List (WithZones H) → ℕ → (List Zone → List Zone) → List (WithZones H)
 zones_changed owners i f = changed owners i (λ x. with_zones (f x.zones) x)
 
--- ---- one part put in the place of another
+-- ---- settings with other generators, or other modulators
 
 abbrev pub with_gens : Gens → Settings → Settings
 with_gens gens s = record s { gens = gens }

@@ -1,4 +1,4 @@
--- What every bank of the code is.
+-- The invariant of every bank at run time.
 use Rattle.bank_parts.specs.declared.parts.Parts.{Parts}
 use Rattle.bank_parts.specs.Valid.{IsValid}
 use Rattle.bank_parts.specs.Fits.{Fits}

@@ -6,7 +6,7 @@ use Rattle.bank_parts.specs.declared.texts.InfoId.{InfoId}
 use Rattle.bank_parts.specs.declared.texts.InfoId.TheVariants.{Engine, Name, Date, Engineers, Product, Copyright}
 use Rattle.bank_parts.specs.declared.texts.InfoId.TheVariants.{Comment, Software}
 
--- the text of an id
+-- the text with this id
 abbrev pub text_of : Texts → InfoId → List ℕ
 text_of texts Engine = texts.engine
 text_of texts Name = texts.name
@@ -17,12 +17,12 @@ text_of texts Copyright = texts.copyright
 text_of texts Comment = texts.comment
 text_of texts Software = texts.software
 
--- the bytes that a text has at most
+-- the maximum length of a text, in bytes
 abbrev pub most_bytes : InfoId → ℕ
 most_bytes Comment = COMMENT_LENGTH
 most_bytes _ = TEXT_LENGTH
 
--- the engine, which is never empty
+-- the id is that of the engine, which is never empty
 abbrev pub is_engine : InfoId → Bool
 is_engine Engine = true
 is_engine _ = false

@@ -1,4 +1,4 @@
--- Which banks are valid.
+-- Valid banks.
 use Rattle.std.specs.Prelude.{◌≡◌, ◌≤◌, ◌<◌, ◌+◌, ◌==◌, if◌then◌else◌, ℕ, List, length, sum_by, Option, Some, None}
 use Rattle.std.specs.Prelude.{true}
 use Rattle.std.specs.List.{AllByRecursion}
@@ -23,7 +23,7 @@ use Rattle.bank_parts.specs.declared.parts.Parts.{Parts}
 
 -- ---- zones
 
--- an operator that the level allows, and an amount, which is a range where the operator asks for one
+-- an operator that the level allows, with an amount that is a valid range if the operator is one of a range
 pub record IsGenerator (at : Level) (e : ℕ × ℕ) : Type 0 where
   pub allowed : is_allowed at e.0 ≡ true
   pub range : is_range_operator e.0 ≡ true → IsRange e.1
@@ -31,7 +31,7 @@ pub record IsGenerator (at : Level) (e : ℕ × ℕ) : Type 0 where
 abbrev pub AreGenerators : Level → Gens → Type 0
 AreGenerators at gens = AllByRecursion (IsGenerator at) (entries gens)
 
--- the target is the number of one of so many instruments, or samples
+-- the target is below the number of instruments, or of samples
 pub record IsZone (at : Level) (targets : ℕ) (z : Zone) : Type 0 where
   pub target : z.target < targets
   pub gens : AreGenerators at z.gens
@@ -43,7 +43,7 @@ pub record AreZones (at : Level) (targets : ℕ) (shared : GlobalZone) (own : Li
 
 -- ---- presets, instruments, samples, texts
 
--- a preset or an instrument, whose zones stand at this level
+-- a preset or an instrument, with zones valid at this level
 pub record IsOwner {H : Type 0} (name_of : H → List ℕ) (at : Level) (targets : ℕ) (x : WithZones H) : Type 0 where
   pub name : IsName (name_of x.head)
   pub zones : AreZones at targets x.global x.zones
@@ -54,12 +54,12 @@ IsPreset instruments = IsOwner (λ (h : Head). h.name) level.Preset instruments
 abbrev pub IsInstrument : ℕ → WithZones (List ℕ) → Type 0
 IsInstrument samples = IsOwner (λ name. name) level.Inst samples
 
--- a loop of at least one point lies in n points
+-- a loop of at least one point within n points
 abbrev pub IsLoop : ℕ → Option (ℕ × ℕ) → Type 0
 IsLoop n None = Unit {0}
 IsLoop n (Some looped) = (looped.0 < looped.1) × (looped.1 ≤ n)
 
--- a link names one of n samples
+-- a link to one of n samples
 abbrev pub IsLink : ℕ → Kind → Type 0
 IsLink n kind = OfLink (λ link. link < n) kind
 
@@ -68,7 +68,7 @@ pub record IsSample (samples : ℕ) (s : Sample) : Type 0 where
   pub looped : IsLoop (length s.points) s.looped
   pub kind : IsLink samples s.kind
 
--- no text has a zero byte; the engine is never empty
+-- no text has a zero byte; the engine is not empty
 pub record AreTexts (texts : Texts) : Type 0 where
   pub engine : IsText TEXT_LENGTH texts.engine
   pub engine_there : 0 < length texts.engine
@@ -82,25 +82,25 @@ pub record AreTexts (texts : Texts) : Type 0 where
 
 -- ---- limits
 
--- an empty global zone is none
+-- an empty global zone counts as none
 abbrev pub global_count : GlobalZone → ℕ
 global_count global = if len global.gens + length global.mods == 0 then 0 else 1
 
 abbrev pub zone_count : GlobalZone → List Zone → ℕ
 zone_count global zones = global_count global + length zones
 
--- each zone's target is counted
+-- the target of each zone counts as a generator
 abbrev pub gen_count : GlobalZone → List Zone → ℕ
 gen_count global zones = len global.gens + sum_by (λ (z : Zone). len z.gens + 1) zones
 
 abbrev pub mod_count : GlobalZone → List Zone → ℕ
 mod_count global zones = length global.mods + sum_by (λ (z : Zone). length z.mods) zones
 
--- the zones, the generators or the modulators of all presets, or of all instruments
+-- the zones, the generators or the modulators of all presets, or of all instruments, as count counts them
 abbrev pub owner_total : {H : Type 0} → (GlobalZone → List Zone → ℕ) → List (WithZones H) → ℕ
 owner_total count owners = sum_by (λ x. count x.global x.zones) owners
 
--- the points of all samples, each sample's with the zero points that follow them
+-- the points of all samples, each with the zero points that follow it in a file
 abbrev pub point_total : List Sample → ℕ
 point_total samples = sum_by (λ (s : Sample). length s.points + ZERO_POINTS) samples
 

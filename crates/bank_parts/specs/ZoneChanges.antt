@@ -1,4 +1,4 @@
--- The raw changes of the zones of a preset or an instrument, and of what they hold.
+-- The raw changes of the zones of a preset or an instrument, and of their contents.
 use Rattle.std.specs.Prelude.{ℕ, List, insert, remove, slice_set}
 use Rattle.std.specs.FinMap as map
 use Rattle.numbered_lists.specs.Moved.{moved, changed}
