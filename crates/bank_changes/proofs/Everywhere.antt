@@ -1,4 +1,4 @@
--- What holds of each member of a list.
+-- Properties of all members of a list.
 use Rattle.std.proofs.Common.{◌≡◌, ℕ, List, [], ◌∷◌, map, refl, arith}
 use Rattle.std.specs.Prelude.{sum_by}
 use Rattle.std.specs.List.{AllByRecursion}
@@ -10,7 +10,7 @@ pub all_always : {X : Type 0} (P : X → Type 0) → ((x : X) → P x) → (xs :
 all_always P h [] = tt
 all_always P h (x ∷ xs) = (h x, all_always P h xs)
 
--- two facts of each give one of its image
+-- two properties of each member imply a property of its image
 pub all_map : {X Y : Type 0} (P R : X → Type 0) (Q : Y → Type 0) (f : X → Y) → ((x : X) → P x → R x → Q (f x))
     → (xs : List X) → AllByRecursion P xs → AllByRecursion R xs → AllByRecursion Q (map f xs)
 all_map P R Q f to [] v w = tt

@@ -1,4 +1,4 @@
--- The raw changes of instruments: each keeps a bank sound, and is taken back.
+-- The raw changes of instruments: each keeps a bank sound, and can be undone.
 use Rattle.std.proofs.Common.{◌≡◌, ◌<◌, ◌≤◌, ◌==◌, ℕ, false, List, length, insert, remove, slice_get, Some, None}
 use Rattle.std.proofs.Common.{sym, ◌∙◌, ap, arith}
 use Rattle.std.specs.List.{AllByRecursion}
@@ -73,9 +73,9 @@ module _ (b : Parts) (number : ℕ) (name : List ℕ) where
         };
       }
 
--- ---- other instruments, whose targets follow
+-- ---- another list of instruments, and renumbered targets
 
--- P holds of the targets before, and they are in range afterwards
+-- P holds of the old targets, and implies that the new ones are in range
 module _ (b : Parts) (sound : IsSound b) (P : ℕ → Type 0) (by : Renumbering)
     (instruments : List (WithZones (List ℕ))) (to : (x : ℕ) → P x → renumbered by x < length instruments) where
   pub instruments_sound : OfOwners P b.presets → AllByRecursion (IsInstrument (length b.samples)) instruments
@@ -142,14 +142,14 @@ module _ (b : Parts) (i : ℕ) (x : WithZones (List ℕ)) where
       let instruments = remove-insert b.instruments i x le in
       λ k. record b { presets = targets k; instruments = instruments k }
 
-  -- nothing names what was just added
+  -- no zone targets the new instrument
   pub added_instrument_unused : instrument_in_use (instrument_added b i x) i ≡ false
   unfolding instrument_in_use
   added_instrument_unused = not_targeted i (instrument_added b i x).presets
       (owners_sent (λ t. Unit {0}) (λ t. (t == i) ≡ false) (Insertion i) (λ t u. insertion_misses_by_test i t)
       b.presets (owners_always (λ t. Unit {0}) (λ t. tt) b.presets))
 
-  -- at the end nothing is renumbered
+  -- an append renumbers nothing
   pub added_last_instrument : IsValid b → length b.instruments ≤ i
       → (let t : Parts = record b { instruments = insert b.instruments i x } in t) ≡ instrument_added b i x
   added_last_instrument v last =
@@ -163,7 +163,7 @@ module _ (b : Parts) (i : ℕ) (x : WithZones (List ℕ)) where
 -- ---- removing
 
 module _ (b : Parts) (i : ℕ) where
-  -- no zone names an instrument that is not in use
+  -- no zone targets an instrument that is not in use
   pub unused_instrument : instrument_in_use b i ≡ false → OfOwners (λ t. (t == i) ≡ false) b.presets
   unfolding instrument_in_use
   unused_instrument free = untargeted i b.presets free
@@ -210,7 +210,7 @@ module _ (b : Parts) (i : ℕ) where
       let instruments = insert-remove b.instruments i x e in
       λ k. record b { presets = targets k; instruments = instruments k }
 
-  -- the last one's removal renumbers nothing
+  -- removal of the last one renumbers nothing
   pub removed_last_instrument : IsValid b → i < length b.instruments → length (remove b.instruments i) ≤ i
       → (let t : Parts = record b { instruments = remove b.instruments i } in t) ≡ instrument_removed b i
   removed_last_instrument v lt last =

@@ -1,4 +1,4 @@
--- A list with one member moved.
+-- A list after one of its members is moved.
 use Rattle.std.proofs.Common.{◌≡◌, ◌<◌, ℕ, List, length, map, remove, sym, ◌∙◌, ap, arith}
 use Rattle.std.specs.Prelude.{sum_by}
 use Rattle.std.proofs.lemmas.List.Sums.{sum_by-insert}
@@ -15,7 +15,7 @@ sum-moved measure xs i j lt =
     let more = sum_by-insert measure (remove xs i) j x in
     rw e (omega (arith, less, more))
 
--- moved back, with each member sent through f in between
+-- the move undone, after all members were changed by f
 pub moved_back-sent : {X : Type 0} (f : X → X) (xs : List X) (i j : ℕ) → i < length xs → j < length xs
     → moved (map f (moved xs i j)) j i ≡ map f xs
 moved_back-sent f xs i j lt lu =

@@ -1,4 +1,4 @@
--- What is said of presets and of instruments alike: said once, of an owner.
+-- Facts about presets and about instruments, stated once for owners.
 use Rattle.std.proofs.Common.{◌≡◌, ℕ, List, length, Option, Some, None}
 use Rattle.std.specs.Prelude.{slice_get}
 use Rattle.sf_base.specs.Names.{IsName}
@@ -36,7 +36,7 @@ of_sound b (Inst i) read P law sound =
       all_found (FitsOwner IsName) b.instruments i x e sound.fits.instruments,
     ))
 
--- an owner is sent through f, and the bank stays sound
+-- an owner is changed by f, and the bank stays sound
 pub sound_owner_changed : (b : Parts) (o : Owner) (f : (H : Type 0) → WithZones H → WithZones H)
     → ((H : Type 0) (name_of : H → List ℕ) (x : WithZones H)
     → IsOwner name_of (level_of o) (target_count b o) x → IsOwner name_of (level_of o) (target_count b o) (f H x))

@@ -1,4 +1,4 @@
--- The targets of presets, or of instruments, after a renumbering, and after its return.
+-- The targets of presets, or of instruments, after a renumbering and after its inverse.
 use Rattle.std.proofs.Common.{◌≡◌, ◌<◌, ◌+◌, ◌^◌, ◌==◌, ℕ, false, List, map, ap, arith}
 use Rattle.std.specs.List.{AllByRecursion, list_any}
 use Rattle.std.proofs.lemmas.Bool.Decides.{nat_tests}
@@ -15,7 +15,7 @@ use Rattle.bank_parts.specs.Fits.{FitsOwner, FitsZone}
 use Rattle.bank_changes.proofs.Everywhere.{all_weaker, all_always, all_map, all_sent, all_both, map_kept, map_back}
 use Rattle.bank_changes.proofs.Everywhere.{none_passes, passes_none}
 
--- P holds of each target of the zones
+-- P holds of the target of each zone
 abbrev pub OfTargets : (ℕ → Type 0) → List Zone → Type 0
 OfTargets P zones = AllByRecursion (λ (z : Zone). P z.target) zones
 
@@ -42,7 +42,7 @@ module _ {H : Type 0} (P Q : ℕ → Type 0) where
       all_both (λ (z : Zone). P z.target) (λ (z : Zone). Q z.target) (λ (z : Zone). P z.target × Q z.target)
       (λ z p q. (p, q)) x.zones)
 
-  -- what holds of the targets with their new numbers
+  -- a property of the renumbered targets
   pub owners_sent : (by : Renumbering) → ((x : ℕ) → P x → Q (renumbered by x)) → (owners : List (WithZones H))
       → OfOwners P owners → OfOwners Q (map (owner_renumbered by) owners)
   owners_sent by to =
@@ -58,7 +58,7 @@ module _ {H : Type 0} (name_of : H → List ℕ) (at : Level) (n : ℕ) where
   owners_within = all_weaker (IsOwner name_of at n) (λ (x : WithZones H). OfTargets (λ t. t < n) x.zones)
       (λ x h. all_weaker (IsZone at n) (λ (z : Zone). z.target < n) (λ z k. k.target) x.zones h.zones.zones)
 
-  -- validity with new numbers
+  -- validity after renumbering
   module _ (P : ℕ → Type 0) (by : Renumbering) (m : ℕ) (to : (x : ℕ) → P x → renumbered by x < m) where
     zones_valid : (zs : List Zone) → AllByRecursion (IsZone at n) zs → OfTargets P zs
         → AllByRecursion (IsZone at m) (map (zone_renumbered by) zs)
@@ -93,7 +93,7 @@ owners_fit {H} IsFit P by to =
           (λ z g h. record { target = to z.target h; gens = g.gens; mods = g.mods }) x.zones g.zones k;
     })
 
--- ---- targets that a renumbering keeps, or gives back
+-- ---- targets that a renumbering keeps, or restores
 
 zone_same : (f : ℕ → ℕ) (z : Zone) → f z.target ≡ z.target → (let t : Zone = record z { target = f z.target } in t) ≡ z
 zone_same f z e = ap (λ (target : ℕ). let t : Zone = record z { target = target } in t) e
@@ -122,11 +122,11 @@ owners_back {H} by back owners h =
     (all_weaker (λ (z : Zone). Returns z.target) (λ (z : Zone). zone_renumbered back (zone_renumbered by z) ≡ z)
     (λ z. zone_same (λ t. renumbered back (renumbered by t)) z) x.zones k))) owners h)
 
--- where no number is above the last, the last one's removal renumbers nothing
+-- removal of the last one renumbers nothing
 pub removal_keeps : (i x : ℕ) → x < i + 1 → renumbered (Removal i) x ≡ x
 removal_keeps i x h = grind (arith, nat_tests)
 
--- ---- what no target names
+-- ---- a number that is not a target
 
 module _ {H : Type 0} (i : ℕ) (owners : List (WithZones H)) where
   pub untargeted : list_any (targets i) owners ≡ false → OfOwners (λ x. (x == i) ≡ false) owners

@@ -1,4 +1,4 @@
--- A change of one place, wherever it is: what it keeps, and what becomes of the totals.
+-- A change of one place: what it keeps, and the totals after it.
 use Rattle.std.proofs.Common.{◌≡◌, false, ◌≤◌, ◌+◌, ℕ, List, [], length, Option, Some, None, IsSome, refl, sym, ◌∙◌}
 use Rattle.std.proofs.Common.{ap, subst, arith}
 use Rattle.std.specs.Prelude.{slice_get, sum_by, if◌then◌else◌, ◌==◌}
@@ -38,7 +38,7 @@ use Rattle.bank_changes.proofs.Changes.{all_changed, all_found, sum-exchanged}
 use Rattle.bank_changes.proofs.OwnerLaws.{of_sound, sound_owner_changed}
 use Rattle.bank_changes.proofs.RecountLaws.{AreNoMore, no_more_within}
 
--- ---- a place that is there
+-- ---- a place that exists
 
 pub place_there : {H : Type 0} (owners : List (WithZones H)) (i : ℕ) (at : ZonePlace)
     → IsSome (settings_at owners i at) → HasPlace owners i at
@@ -58,7 +58,7 @@ place_there {H} owners i at
         let there = x.there in
         rw there (slice_get-within x.member.zones k z.member z.there)
 
--- ---- what holds of the settings of all places, and still of those that are changed
+-- ---- what holds of the settings of all places, also after a change
 
 module _ (lvl : Level) (targets : ℕ) (f : Settings → Settings)
     (keeps : (s : Settings) → AreGenerators lvl s.gens → AreGenerators lvl (f s).gens) where
@@ -154,7 +154,7 @@ pub sum-changed_there : {X : Type 0} (measure : X → ℕ) (f : X → X) (xs : L
 sum-changed_there measure f xs i x e =
     ap (λ ys. sum_by measure ys + measure x) (changed-found xs i f x e) ∙ sum-exchanged measure xs i x (f x) e
 
--- a count of the zones of a member is that of the global zone and that of the others
+-- a count that is the sum of a part for the global zone and a part for the other zones
 module _ (global_part zone_part : Settings → ℕ) (others : List Zone → ℕ) (f : Settings → Settings)
     (one : (zones : List Zone) (k : ℕ) (z : Zone) → slice_get zones k ≡ Some z
     → others (changed zones k (λ (z : Zone). zone_with_settings (f (settings_of_zone z)) z))
@@ -265,7 +265,7 @@ totals_place_changed b (Preset p) at f s e =
 totals_place_changed b (Inst i) at f s e =
     λ k. record (totals_of b) { instruments = level_recount f b.instruments i s (zone_place at) e k }
 
--- ---- the records of a place that is there
+-- ---- the records of a place
 
 pub records_found : (b : Parts) (o : Owner) (at : Place) (s : Settings) → settings_of b o at ≡ Some s
     → records_there b o at ≡ records_of_place (zone_place at) s
@@ -283,7 +283,7 @@ module _ (b : Parts) (o : Owner) (at : Place) (f : Settings → Settings) (s : S
   pub changed_there : settings_of (own_place_changed b o at f) o at ≡ Some (f s)
   changed_there = settings_read b o at f ∙ ap (option_map f) there
 
-  -- so many records became so many others
+  -- the records of the place are replaced in the totals
   pub recount : with_records (level_of o) (totals_of (own_place_changed b o at f)) (records_there b o at)
       ≡ with_records (level_of o) (totals_of b) (records_there (own_place_changed b o at f) o at)
   recount =
@@ -372,7 +372,7 @@ module _ (b : Parts) (o : Owner) (at : Place) (there : IsSome (settings_of b o a
         → result ≡ totals_of new
     kept_totals sound result value = value (totals_of new) (no_limit_of new sound.valid.limits) became
 
--- ---- a change that leaves no more there
+-- ---- a change that adds no records
 
 fewer_count : (n m k l : ℕ) → k ≤ n → l ≤ m → (if k + l == 0 then 0 else 1) ≤ (if n + m == 0 then 0 else 1)
 fewer_count n m k l h j = grind (arith, nat_tests)

@@ -1,4 +1,4 @@
--- The raw changes of one sample: each keeps a bank sound where the sample is, and is taken back.
+-- The raw changes of one sample: each keeps a bank sound, and can be undone.
 use Rattle.std.proofs.Common.{◌≡◌, ◌<◌, ◌≤◌, ◌+◌, ◌-◌, ◌++◌, ◌^◌, ℕ, nat_lt, true, false, List, [], ◌∷◌, zero, suc}
 use Rattle.std.proofs.Common.{length, take, drop, Option, Some, None, Result, Ok, Err, OnErr, if◌then◌else◌, refl}
 use Rattle.std.proofs.Common.{sym, ◌∙◌, ap, arith}
@@ -28,7 +28,7 @@ use Rattle.bank_validity.proofs.LimitLaws.{AreWithin, within_totals, not_over, b
 use Rattle.bank_changes.specs.Points.{points_of, trimmed, extended, sample_changed, sample_trimmed, sample_extended}
 use Rattle.bank_changes.proofs.Changes.{all_set, all_found, sum-exchanged}
 
--- what was to be changed and stayed
+-- after a failed allocation the bank is unchanged
 pub stays : {A B : Type 0} (b : Parts) (i : ℕ) (r : Result A B) (s new : Sample) → slice_get b.samples i ≡ Some s
     → OnErr r (new ≡ s)
     → OnErr r ((let t : Parts = record b { samples = slice_set b.samples i new } in t) ≡ b)
@@ -36,7 +36,7 @@ stays b i (Ok x) s new e h = h
 stays b i (Err x) s new e h =
     ap (λ (ss : List Sample). record b { samples = ss }) (rw h (slice_set_same b.samples i s e))
 
--- a sample that is there has no more points than all have
+-- one sample has no more points than all samples together
 pub among : (samples : List Sample) (i : ℕ) (s : Sample) → slice_get samples i ≡ Some s
     → length s.points ≤ point_total samples
 among [] i s e = cc
@@ -50,7 +50,7 @@ among (z ∷ zs) (suc i) s e =
     let rest = among zs i s e in
     omega (arith, whole, rest)
 
--- ---- a sample that is there, sent through f
+-- ---- a sample changed by f
 
 pub there_valid : (b : Parts) (i : ℕ) (s : Sample) → slice_get b.samples i ≡ Some s → IsSound b
     → IsSample (length b.samples) s
@@ -80,7 +80,7 @@ module _ (b : Parts) (i : ℕ) (f : Sample → Sample) (s : Sample) (e : slice_g
       let points : point_total (changed b.samples i f) ≡ p = omega (arith, sum, h) in
       λ k. record (totals_of b) { samples = length-sample_changed k; points = points k }
 
-  -- as many points
+  -- f keeps the number of points
   pub totals-kept : length (f s).points ≡ length s.points → totals_of (sample_changed b i f) ≡ totals_of b
   unfolding totals_of
   totals-kept same = totals-changed (point_total b.samples) (ap (λ n. point_total b.samples + n) (sym same))
@@ -109,16 +109,16 @@ module _ (b : Parts) (i : ℕ) (f : Sample → Sample) (s : Sample) (e : slice_g
         };
       }
 
--- what the code keeps, where the sample has as many points
+-- the totals that the code keeps, if f keeps the number of points
 pub totals_stay : (b : Parts) (i : ℕ) (f : Sample → Sample) → i < length b.samples
     → ((s : Sample) → length (f s).points ≡ length s.points)
     → (t : Totals) → t ≡ totals_of b → t ≡ totals_of (sample_changed b i f)
 totals_stay b i f lt same t counted =
     let (s, e) = slice_get-found b.samples i lt in counted ∙ sym (totals-kept b i f s e (same s))
 
--- ---- points taken off
+-- ---- removal of points
 
--- the cut leaves the loop whole
+-- no removed point belongs to the loop
 abbrev pub OutsideLoop : ℕ → ℕ → ℕ → Option (ℕ × ℕ) → Type 0
 OutsideLoop n front back None = Unit {0}
 OutsideLoop n front back (Some ends) = (front ≤ ends.0) × (ends.1 + back ≤ n)
@@ -193,7 +193,7 @@ module _ (b : Parts) (i front back : ℕ) (s : Sample) (e : slice_get b.samples 
       })
       (within_trimmed sound)
 
--- ---- points put on
+-- ---- addition of points
 
 pub length-extended : (front back : List ℕ) (s : Sample)
     → length (extended front back s).points ≡ length s.points + (length front + length back)
@@ -214,7 +214,7 @@ loop_extended n m by None size is = tt
 loop_extended n m by (Some ends) size is =
     let order = is.0 in let high = is.1 in (omega (arith, order), omega (arith, size, high))
 
--- a loop within so few points
+-- a loop within so few points fits its fields
 pub loop_fits : (n : ℕ) (l : Option (ℕ × ℕ)) → n ≤ POINTS → IsLoop n l → FitsLoop l
 loop_fits n None few is = tt
 loop_fits n (Some ends) few is =
@@ -230,7 +230,7 @@ module _ (b : Parts) (i : ℕ) (front back : List ℕ) (s : Sample) (e : slice_g
       totals-changed b i (extended front back) s e (point_total b.samples + (length front + length back))
       (omega (arith, more))
 
-  -- no more than the limit
+  -- no more points than the limit
   pub few_points : broken_limit (sample_extended b i front back) ≡ None → length (extended front back s).points ≤ POINTS
   unfolding totals_of
   few_points within =
@@ -267,7 +267,7 @@ module _ (b : Parts) (i : ℕ) (front back : List ℕ) (s : Sample) (e : slice_g
       })
       within
 
--- ---- what the code asks, and keeps, where points are put on
+-- ---- what the code requires and keeps when points are added
 
 module _ (b : Parts) (i : ℕ) (front back : List ℕ) (lt : i < length b.samples) where
   pub few_then : IsSound (sample_extended b i front back) → length front + length (points_of b i) + length back ≤ POINTS
@@ -305,7 +305,7 @@ module _ (b : Parts) (i : ℕ) (front back : List ℕ) (lt : i < length b.sample
       (λ k. let u : Totals = counted k in let v : Totals = record u { points = u.points + many k } in v)
       ∙ sym (totals-extended b i front back s e)
 
--- ---- the same where points are taken off
+-- ---- the same when points are removed
 
 module _ (b : Parts) (i front back : ℕ) (lt : i < length b.samples) (le : front + back ≤ length (points_of b i))
     (t : Totals) (counted : t ≡ totals_of b) where
@@ -327,7 +327,7 @@ module _ (b : Parts) (i front back : ℕ) (lt : i < length b.samples) (le : fron
       ap (λ (u : Totals). let v : Totals = record u { points = u.points - (front + back) } in v) counted
       ∙ sym (totals-trimmed b i front back s e inside)
 
--- ---- the limit that the totals tell
+-- ---- the limit that the totals break
 
 module _ (b : Parts) (sound : IsSound b) (t : Totals) (known : t ≡ totals_of b) where
   w : AreWithin (totals_of b)
@@ -364,7 +364,7 @@ module _ (b : Parts) (sound : IsSound b) (t : Totals) (known : t ≡ totals_of b
         (omega (arith, here, few, many, room)) in
         sym (told ∙ rw past refl)
 
--- ---- there and back
+-- ---- undo
 
 loop_returned : (n front back : ℕ) (l : Option (ℕ × ℕ)) → OutsideLoop n front back l → IsLoop n l
     → option_map (λ (ends : ℕ × ℕ). (ends.0 + front, ends.1 + front))
@@ -386,7 +386,7 @@ loop_back by (Some ends) =
     let last : ends.1 + by - by ≡ ends.1 = omega arith in
     λ k. Some (first k, last k)
 
--- the points that a trim cuts off, put on again
+-- the points that a trim removes, added again
 module _ (front back : ℕ) (s : Sample) (le : front + back ≤ length s.points) where
   whole : take front s.points ++ slice_range s.points front (length s.points - back)
       ++ drop (length s.points - back) s.points
@@ -420,7 +420,7 @@ outside : (n m by back : ℕ) (l : Option (ℕ × ℕ)) → m ≡ n + (by + back
 outside n m by back None size is = tt
 outside n m by back (Some ends) size is = let high = is.1 in (omega arith, omega (arith, size, high))
 
--- the points that were put on, cut off again
+-- the added points, removed again
 module _ (front back : List ℕ) (s : Sample) where
   end : length (extended front back s).points - length back ≡ length front + length s.points
   end = omega (arith, length-extended front back s)

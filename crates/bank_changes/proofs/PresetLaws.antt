@@ -1,4 +1,4 @@
--- The raw changes of presets: each keeps a bank sound, and is taken back.
+-- The raw changes of presets: each keeps a bank sound, and can be undone.
 use Rattle.std.proofs.Common.{◌≡◌, ◌<◌, ◌≤◌, ◌^◌, ℕ, List, length, insert, remove, slice_get, slice_set, Some, None}
 use Rattle.std.proofs.Common.{refl, sym, ◌∙◌, ap}
 use Rattle.std.specs.List.{AllByRecursion}
@@ -141,7 +141,7 @@ module _ (b : Parts) (i : ℕ) (name : List ℕ) (number bank : ℕ) where
       b.presets i sound.fits.presets)
       (ap broken totals-head_set ∙ no_limit_of b sound.valid.limits)
 
-  -- the head that it had is put back
+  -- the old head is restored
   pub restored_head_set : (x : WithZones Head) → slice_get b.presets i ≡ Some x
       → head_set (head_set b i name number bank) i x.head.name x.head.number x.head.bank ≡ b
   restored_head_set x e =
@@ -154,7 +154,7 @@ module _ (b : Parts) (i : ℕ) (name : List ℕ) (number bank : ℕ) where
       → head_of (head_set b i name number bank) i ≡ Some (head_called name number bank x.head)
   read_head_set x e = ap (option_map (λ (y : WithZones Head). y.head)) (slice_get-changed b.presets i called x e)
 
-  -- a head that is made of the one that is there
+  -- the new head is made from the old one
   pub head_replaced : (old : Head) → head_at b.presets i ≡ Some old
       → with_presets b (changed b.presets i (with_head (head_called name number bank old)))
       ≡ head_set b i name number bank

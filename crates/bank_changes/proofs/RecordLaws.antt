@@ -1,4 +1,4 @@
--- The totals of a bank where a preset or an instrument that it has holds more records, as 64 bits count them.
+-- The saturated totals of a bank after records are added to one of its presets or instruments.
 use Rattle.std.proofs.Common.{◌≡◌, None, sym}
 use Rattle.generators.specs.declared.level.Level.{Level}
 use Rattle.bank_parts.specs.declared.counting.Records.{Records}
@@ -11,7 +11,7 @@ use Rattle.bank_validity.proofs.LimitLaws.{within_totals, most_at, level_within,
 use Rattle.bank_validity.proofs.LimitLaws.{records_plus, changed_broken}
 use Rattle.bank_changes.specs.Totals.{with_records, with_records_counted}
 
--- a count that stops at the largest number tells the same limit
+-- a saturated number breaks the same limit
 
 pub records_broken : (at : Level) (t : Totals) (more r : Records) → broken t ≡ None → more ≡ all_counted r
     → broken (with_records_counted at t more) ≡ broken (with_records at t r)
@@ -21,7 +21,7 @@ records_broken at t more r e m =
     changed_broken at (λ (l : LevelTotals). record l { records = all_counted (records_sum l.records more) })
     (plus_records r) t e (λ i. record { count = sym count i; records = records_plus l.records more r m i })
 
--- where no limit is broken then, the counts are the sums
+-- if no limit is broken, no number is saturated
 pub records_within : (at : Level) (t : Totals) (r : Records) → broken (with_records at t r) ≡ None
     → with_records_counted at t r ≡ with_records at t r
 records_within at t r e =

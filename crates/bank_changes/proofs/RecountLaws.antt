@@ -1,4 +1,4 @@
--- The totals of a bank where so many records became so many others.
+-- The totals of a bank after some of its records are replaced by others.
 use Rattle.std.proofs.Common.{◌≡◌, ◌+◌, ◌≤◌, ℕ, None, ap, sym, subst, ◌∙◌, arith}
 use Rattle.sf_base.specs.declared.limits.TheConstants.{ZONES, GENERATORS, MODULATORS}
 use Rattle.generators.specs.declared.level.Level.{Level}
@@ -36,7 +36,7 @@ swapped at t r s =
     (λ i. record l { records = sum_swapped l.records r s i })
     ∙ sym (changed_twice at (plus_records s) (plus_records r) t))
 
--- fewer are the totals less those that were there
+-- `fewer` are the totals without the old records
 module _ (at : Level) (totals fewer now : Totals) (before after : Records)
     (taken : with_records at fewer before ≡ totals)
     (became : with_records at now before ≡ with_records at totals after) where

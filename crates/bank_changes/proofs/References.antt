@@ -1,4 +1,4 @@
--- A bank's references after a renumbering, and after its return.
+-- The references of a bank after a renumbering and after its inverse.
 use Rattle.std.proofs.Common.{◌≡◌, ◌<◌, ◌^◌, ◌==◌, ℕ, Bool, false, List, length, map, remove, refl, ap}
 use Rattle.std.specs.List.{AllByRecursion, list_any}
 use Rattle.numbered_lists.specs.declared.renumbering.Renumbering.{Renumbering}
@@ -23,12 +23,12 @@ use Rattle.bank_changes.proofs.OwnerReferences.{untargeted, not_targeted}
 use Rattle.bank_changes.proofs.Everywhere.{all_weaker, all_always, all_map, all_sent, all_both, map_kept, map_back}
 use Rattle.bank_changes.proofs.Everywhere.{or_left, or_right, or_none, none_passes, passes_none}
 
--- P holds of every target and link into the bank's samples
+-- P holds of every target and link to the bank's samples
 pub record OfSampleRefs (P : ℕ → Type 0) (b : Parts) : Type 0 where
   pub links : AllByRecursion (λ (s : Sample). OfLink P s.kind) b.samples
   pub targets : OfOwners P b.instruments
 
--- ---- weaker facts
+-- ---- weaker properties
 
 pub link_weaker : (P Q : ℕ → Type 0) → ((x : ℕ) → P x → Q x) → (k : Kind) → OfLink P k → OfLink Q k
 link_weaker P Q to Mono h = tt
@@ -77,7 +77,7 @@ module _ (P Q : ℕ → Type 0) (by : Renumbering) (to : (x : ℕ) → P x → Q
   link_sent (Left x) h = to x h
   link_sent (Linked x) h = to x h
 
-  -- what holds of the references with their new numbers
+  -- a property of the renumbered references
   pub refs_renumbered : (b : Parts) → OfSampleRefs P b → OfSampleRefs Q (samples_renumbered by b)
   refs_renumbered b h = record {
     links =
@@ -86,7 +86,7 @@ module _ (P Q : ℕ → Type 0) (by : Renumbering) (to : (x : ℕ) → P x → Q
     targets = owners_sent P Q by to b.instruments h.targets;
   }
 
--- ---- a valid bank's references
+-- ---- the references of a valid bank
 
 pub refs_within : (b : Parts) → IsValid b → OfSampleRefs (λ x. x < length b.samples) b
 refs_within b v =
@@ -96,7 +96,7 @@ refs_within b v =
       targets = owners_within (λ name. name) level.Inst n b.instruments v.instruments;
     }
 
--- ---- validity with new numbers
+-- ---- validity after renumbering
 
 module _ (P : ℕ → Type 0) (by : Renumbering) (n m : ℕ) (to : (x : ℕ) → P x → renumbered by x < m) where
   pub samples_valid : (ss : List Sample) → AllByRecursion (IsSample n) ss
@@ -139,7 +139,7 @@ module _ (by : Renumbering) (n : ℕ) (to : (x : ℕ) → x < n → renumbered b
         b.samples f.samples h.links;
   }
 
--- ---- references that a renumbering keeps, or gives back
+-- ---- references that a renumbering keeps, or restores
 
 module _ (by : Renumbering) where
   kind_kept : (k : Kind) → OfLink (λ x. renumbered by x ≡ x) k → kind_renumbered by k ≡ k
@@ -178,7 +178,7 @@ module _ (by back : Renumbering) where
       let targets = owners_back by back b.instruments h.targets in
       λ i. record b { samples = links i; instruments = targets i }
 
--- ---- what no reference names
+-- ---- a number that nothing refers to
 
 not_linked : (i : ℕ) (k : Kind) → links_to i k ≡ false → OfLink (λ x. (x == i) ≡ false) k
 not_linked i Mono h = tt
@@ -192,7 +192,7 @@ linked_not i (Right x) h = h
 linked_not i (Left x) h = h
 linked_not i (Linked x) h = h
 
--- once the sample is gone, no reference is its number
+-- if the sample is not in use, no other reference has its number
 pub unused : (b : Parts) (i : ℕ) → sample_in_use b i ≡ false
     → OfSampleRefs (λ x. (x == i) ≡ false) (record b { samples = remove b.samples i })
 unfolding sample_in_use

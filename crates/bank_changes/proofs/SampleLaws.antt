@@ -1,4 +1,4 @@
--- The raw changes of samples: each keeps a bank sound, and is taken back.
+-- The raw changes of samples: each keeps a bank sound, and can be undone.
 use Rattle.std.proofs.Common.{◌≡◌, ◌++◌, ◌∷◌, [], Result, Ok, Err, OnOk, ◌<◌, ◌≤◌, ◌+◌, ◌^◌, ◌==◌, false, ℕ, List}
 use Rattle.std.proofs.Common.{length, map, insert, remove, slice_get, Some, None, refl, sym, ◌∙◌, ap, subst, arith}
 use Rattle.std.proofs.lemmas.List.{length-map}
@@ -159,7 +159,7 @@ pub added_sound : (b : Parts) (i : ℕ) (s : Sample) → IsSound b → i ≤ len
 added_sound b i s sound le is fits e =
     record { valid = added_valid b i s sound.valid le is e; fits = added_fits b i s sound.valid sound.fits fits }
 
--- at the end nothing is renumbered
+-- an append renumbers nothing
 pub added_last : (b : Parts) (s : Sample) → IsValid b → samples_renumbered (Insertion (length b.samples)) b ≡ b
 added_last b s v = refs_kept (Insertion (length b.samples)) b
     (refs_weaker (λ x. x < length b.samples) (λ x. renumbered (Insertion (length b.samples)) x ≡ x)
@@ -182,7 +182,7 @@ pushed b i s new (Err x) v e h = h
 
 -- ---- removing
 
--- each link has 16 bits afterwards
+-- each renumbered link fits 16 bits
 links_fit : (by : Renumbering) (n : ℕ) → ((x : ℕ) → x < n → renumbered by x < 2 ^ 16) → (ss : List Sample)
     → AllByRecursion (λ (s : Sample). OfLink (λ x. x < n) s.kind) ss
     → All (λ (s : Sample). OfLink (λ x. renumbered by x < 2 ^ 16) s.kind) ss
@@ -280,7 +280,7 @@ pub removed_sound : (b : Parts) (i : ℕ) → IsSound b → i < length b.samples
 removed_sound b i sound lt free =
     record { valid = removed_valid b i sound.valid lt free; fits = removed_fits b i sound.valid sound.fits }
 
--- the last one's removal renumbers nothing
+-- removal of the last one renumbers nothing
 pub removed_last : (b : Parts) (i : ℕ) → IsValid b → i < length b.samples → length (remove b.samples i) ≤ i
     → (let t : Parts = record b { samples = remove b.samples i } in t) ≡ sample_removed b i
 removed_last b i v lt last =
@@ -295,7 +295,7 @@ removed_last b i v lt last =
       targets = within.targets;
     })))
 
--- ---- there and back
+-- ---- undo
 
 pub restored_removed : (b : Parts) (i : ℕ) (s : Sample) → slice_get b.samples i ≡ Some s → sample_in_use b i ≡ false
     → sample_added (sample_removed b i) i s ≡ b
@@ -324,7 +324,7 @@ module _ (b : Parts) (i : ℕ) (s : Sample) (le : i ≤ length b.samples) where
       ∙ refs_back (Insertion i) (Removal i) b
       (refs_always (λ x. renumbered (Removal i) (renumbered (Insertion i) x) ≡ x) (λ x. insertion_returned i x) b)
 
-  -- nothing names what was just added
+  -- nothing refers to the new sample
   pub added_unused : sample_in_use (sample_added b i s) i ≡ false
   added_unused =
       let free : OfSampleRefs (λ x. (x == i) ≡ false) (samples_renumbered (Insertion i) b) =

@@ -1,4 +1,4 @@
--- The raw changes of generators and modulators: each keeps a bank sound, and is taken back.
+-- The raw changes of generators and modulators: each keeps a bank sound, and can be undone.
 use Rattle.std.proofs.Common.{◌≡◌, ◌<◌, ◌≤◌, ◌+◌, ◌^◌, ℕ, List, length, insert, remove, take, drop, ◌∷◌, Some, None}
 use Rattle.std.proofs.Common.{IsSome, sym, ◌∙◌, ap, subst, arith}
 use Rattle.sf_base.specs.declared.limits.TheConstants.{GENERATORS, MODULATORS}
@@ -114,7 +114,7 @@ same_length m n e = omega (arith, e)
 
 module _ (b : Parts) (o : Owner) (at : Place) (op : ℕ) (s : Settings) (there : settings_of b o at ≡ Some s)
     (sound : IsSound b) where
-  -- an amount in the place of another
+  -- one amount replaced by another
   pub within_gen_replaced : (amount : ℕ) → IsSome (map.get s.gens op) → broken_limit (gen_set b o at op amount) ≡ None
   within_gen_replaced amount set =
       within_no_more b o at (λ s. with_gens (map.insert s.gens op amount) s) s there sound
@@ -126,7 +126,7 @@ module _ (b : Parts) (o : Owner) (at : Place) (op : ℕ) (s : Settings) (there :
       within_no_more b o at (λ s. with_gens (map.remove s.gens op) s) s there sound
       (no_longer (len (map.remove s.gens op)) (len s.gens) (gens.len-remove_present s.gens op set)) (omega arith)
 
--- ---- one generator or one modulator more
+-- ---- one more generator or modulator
 
 some_count : (n m : ℕ) → ◌≡◌ {A = ℕ} (if n + 1 + m == 0 then 0 else 1) 1
 some_count n m = grind (arith, nat_tests)

@@ -1,4 +1,4 @@
--- A zone split in two, and two joined: each keeps a bank sound, and the totals follow.
+-- Splits and joins of zones: each keeps a bank sound, and what the totals are then.
 use Rattle.std.proofs.Common.{◌≡◌, ◌+◌, ◌<◌, ◌-◌, ℕ, true, List, length, remove, slice_get, Some, None, IsSome, refl}
 use Rattle.std.proofs.Common.{ap, ◌∙◌, arith, add-one}
 use Rattle.std.specs.Prelude.{sum_by, slice_set, IsSomeAnd}
@@ -42,7 +42,7 @@ use Rattle.bank_changes.proofs.ZoneChangeLaws.{own_count, zone_is, with_presets,
 use Rattle.bank_changes.proofs.ZoneLaws.{zones_put, sound_zones_put, zones_valid, zones_fit, records_of_zones}
 use Rattle.bank_changes.proofs.ZoneLaws.{totals_zones_more, totals_zones_less}
 
--- ---- what is there
+-- ---- zones that exist
 
 -- zone k of an owner
 pub record OwnZone (b : Parts) (o : Owner) (k : ℕ) : Type 0 where
@@ -53,7 +53,7 @@ pub record OwnZone (b : Parts) (o : Owner) (k : ℕ) : Type 0 where
   pub zone : Zone
   pub at : slice_get zones k ≡ Some zone
 
--- as it stands in the list of presets or of instruments
+-- the zone in the list of presets or of instruments
 abbrev own_zone : {H : Type 0} {owners : List (WithZones H)} {i : ℕ} (b : Parts) (o : Owner) (k : ℕ)
     (t : ZoneThere owners i k)
     → settings_of b o place.Global ≡ Some t.member.global → zones_of b o ≡ Some t.member.zones → OwnZone b o k
@@ -129,7 +129,7 @@ module _ (measure : Zone → ℕ) (zones : List Zone) (k : ℕ) (z : Zone) (at :
       let less = sum-removed measure zones (k + 1) second next in
       omega (arith, set, less)
 
--- both parts' generators, where the zone has a range and where it has none
+-- the generators of both halves, if the zone has a range and if it has none
 gens_parted : (axis : Axis) (z : Zone) (v w : ℕ)
     → (len (with_range axis v z).gens + 1) + (len (with_range axis w z).gens + 1)
     ≡ (len z.gens + 1) + (len z.gens + option_map_or (λ _. 1) (own_range axis z) 3)

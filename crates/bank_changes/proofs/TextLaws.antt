@@ -1,4 +1,4 @@
--- A text set.
+-- A text of a bank replaced.
 use Rattle.std.proofs.Common.{◌≡◌, ◌<◌, ℕ, true, List, length, refl, ◌∙◌, ap}
 use Rattle.sf_base.specs.Names.{IsText, IsTextByte}
 use Rattle.bank_parts.specs.declared.texts.Texts.{Texts}
@@ -15,12 +15,12 @@ use Rattle.bank_validity.specs.Limits.{totals_of, broken}
 use Rattle.bank_validity.proofs.LimitLaws.{limits_of, no_limit_of}
 use Rattle.bank_changes.proofs.Everywhere.{all_weaker}
 
--- what a text of an id is
+-- a valid text with this id
 pub record IsInfo (id : InfoId) (text : List ℕ) : Type 0 where
   pub fits : IsText (most_bytes id) text
   pub there : is_engine id ≡ true → 0 < length text
 
--- each text of a valid bank is one of its id
+-- each text of a valid bank is valid for its id
 pub info_of : (texts : Texts) (id : InfoId) → AreTexts texts → IsInfo id (text_of texts id)
 info_of texts Engine v = record { fits = v.engine; there = λ e. v.engine_there }
 info_of texts Name v = record { fits = v.name; there = λ e. absurd cc }
@@ -227,7 +227,7 @@ info_sound b id text s h =
           };
     }
 
--- ---- there and back (each id is looked at alone)
+-- ---- undo, for each id
 
 pub text_of-set : (texts : Texts) (id : InfoId) (text : List ℕ) → text_of (text_set texts id text) id ≡ text
 text_of-set texts Engine text = refl

@@ -32,7 +32,7 @@ use Rattle.bank_changes.proofs.Changes.{sum-removed, sum-changed}
 use Rattle.bank_changes.proofs.Moves.{sum-moved}
 use Rattle.bank_changes.proofs.Everywhere.{sum_kept}
 
--- ---- a sample less
+-- ---- one sample less
 
 module _ (t : Totals) (n : ℕ) where
   pub without_sample_within : broken (with_sample t n) ≡ None → broken t ≡ None
@@ -58,7 +58,7 @@ with_sample_same t u n e =
       points = points i;
     }
 
--- ---- sums that new numbers don't change
+-- ---- sums that a renumbering does not change
 
 pub zones_kept : {H : Type 0} (by : Renumbering) (owners : List (WithZones H))
     → owner_total zone_count (map (owner_renumbered by) owners) ≡ owner_total zone_count owners
@@ -89,13 +89,13 @@ level_kept by owners = λ k. record {
   records = record { zones = zones_kept by owners k; gens = gens_kept by owners k; mods = mods_kept by owners k };
 }
 
--- where only the presets' targets changed
+-- only the targets of presets change
 pub totals-instruments_renumbered : (by : Renumbering) (b : Parts)
     → totals_of (instruments_renumbered by b) ≡ totals_of b
 unfolding totals_of
 totals-instruments_renumbered by b = λ k. record (totals_of b) { presets = level_kept by b.presets k }
 
--- ---- a preset or an instrument more, or less
+-- ---- one preset or instrument more, or less
 
 module _ {H : Type 0} (count : GlobalZone → List Zone → ℕ) (owners : List (WithZones H)) (i : ℕ) (x : WithZones H) where
   total-inserted : owner_total count (insert owners i x) ≡ owner_total count owners + count x.global x.zones
@@ -162,9 +162,9 @@ module _ {H : Type 0} (owners : List (WithZones H)) (i : ℕ) where
     };
   }
 
--- ---- more, in any way of counting the owners
+-- ---- more records, with or without one more owner
 
--- where no limit is broken, the count is the sum
+-- if no limit is broken, no number is saturated
 few_counted : (r : Records) → r.zones ≤ ZONES → r.gens ≤ GENERATORS → r.mods ≤ MODULATORS → all_counted r ≡ r
 few_counted r zones gens mods = λ i. record {
   zones = counted_same r.zones (omega arith) i;
@@ -196,14 +196,14 @@ in_sum a r l e =
     let mods = ap (λ (s : Records). s.mods) e in
     record { zones = omega arith; gens = omega arith; mods = omega arith }
 
--- the totals with so many records more, and what they count then
+-- the totals with so many more records, and what they count then
 pub record Grow (plus : Totals → Records → Totals) (Has : Totals → Records → Type 0) : Type 0 where
   pub within : (t : Totals) (r : Records) → broken (plus t r) ≡ None → broken t ≡ None
   pub whole : (t : Totals) (r : Records) → broken (plus t r) ≡ None → all_counted r ≡ r
   pub same : (t u : Totals) (r : Records) → plus t r ≡ plus u r → t ≡ u
   pub has : (t : Totals) (r : Records) → Has (plus t r) r
 
--- the owners become as many as count says, which are no fewer, and back takes that back
+-- the number of owners becomes `count` of it, which is no smaller, and `back` undoes that
 module _ (count back : ℕ → ℕ) (returns : (n : ℕ) → back (count n) ≡ n) (rises : (n : ℕ) → n ≤ count n) (at : Level)
   where
     abbrev plus : Records → LevelTotals → LevelTotals
@@ -234,7 +234,7 @@ module _ (count back : ℕ → ℕ) (returns : (n : ℕ) → back (count n) ≡ 
           (ap (λ (l : LevelTotals). l.records) (changed_at at (plus r) t)));
     }
 
--- an owner more
+-- one more owner
 one_there : (at : Level) (t : Totals) (r : Records) → 0 < (totals_at at (with_owner at t r)).count
 one_there at t r = let count = ap (λ (l : LevelTotals). l.count) (changed_at at (plus_owner r) t) in omega arith
 
@@ -243,6 +243,6 @@ owners_grow at =
     grow (λ n. n + 1) (λ n. n - 1) (λ n. minus_more n 1) (λ n. omega arith) at (HasOwner at)
     (λ t r counted. (one_there at t r, counted))
 
--- no owner more
+-- no more owners
 pub records_grow : (at : Level) → Grow (with_records at) (HasRecords at)
 records_grow at = grow (λ n. n) (λ n. n) (λ n. refl) (λ n. omega arith) at (HasRecords at) (λ t r counted. counted)

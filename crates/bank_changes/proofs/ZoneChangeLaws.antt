@@ -1,4 +1,4 @@
--- The raw changes of zones: each keeps a bank sound, and is taken back.
+-- The raw changes of zones: each keeps a bank sound, and can be undone.
 use Rattle.std.proofs.Common.{◌≡◌, ◌+◌, ◌≤◌, ◌<◌, ◌^◌, ℕ, List, length, insert, remove, slice_get, Some, None, refl}
 use Rattle.std.proofs.Common.{sym, ap, ◌∙◌}
 use Rattle.std.specs.Prelude.{IsSomeAnd}
@@ -32,7 +32,7 @@ use Rattle.bank_changes.proofs.TotalsLaws.{records_grow}
 use Rattle.bank_changes.proofs.ZoneLaws.{zones_put, zones_put_is, sound_zones_put, zones_valid, zones_fit}
 use Rattle.bank_changes.proofs.ZoneLaws.{records_of_zones, totals_zones_more, totals_zones_less, totals_zones_same}
 
--- ---- what is there
+-- ---- owners and zones that exist
 
 -- an owner with so many zones
 pub own_zones_there : (b : Parts) (o : Owner) (P : ℕ → Type 0) → IsSomeAnd (own_zone_count b o) P
@@ -40,7 +40,7 @@ pub own_zones_there : (b : Parts) (o : Owner) (P : ℕ → Type 0) → IsSomeAnd
 own_zones_there b (owner.Preset p) P h = list.zones_there b.presets p P h
 own_zones_there b (owner.Inst i) P h = list.zones_there b.instruments i P h
 
--- an owner with these zones has as many
+-- the number of the zones of an owner
 pub own_count : (b : Parts) (o : Owner) (zones : List Zone) (P : ℕ → Type 0) → zones_of b o ≡ Some zones
     → P (length zones) → IsSomeAnd (own_zone_count b o) P
 own_count b (owner.Preset p) zones P e h =
@@ -49,13 +49,13 @@ own_count b (owner.Inst i) zones P e h =
     let x = source (λ (x : WithZones (List ℕ)). x.zones) (slice_get b.instruments i) zones e in
     rw (x.there, x.seen) h
 
--- and each of them
+-- one of the zones of an owner
 pub zone_is : (b : Parts) (o : Owner) (k : ℕ) (zones : List Zone) (zone : Zone) → zones_of b o ≡ Some zones
     → slice_get zones k ≡ Some zone → zone_of b o k ≡ Some zone
 zone_is b (owner.Preset p) k zones zone there at = list.zone_of_zones b.presets p k ∙ rw there at
 zone_is b (owner.Inst i) k zones zone there at = list.zone_of_zones b.instruments i k ∙ rw there at
 
--- ---- the changes as zones that are put there
+-- ---- each change replaces the list of zones
 
 module _ (k : ℕ) where
   added_put : (b : Parts) (o : Owner) (zone : Zone) (zones : List Zone) → zones_of b o ≡ Some zones
@@ -210,7 +210,7 @@ module _ (b : Parts) (o : Owner) (k target : ℕ) (there : IsSomeAnd (own_zone_c
       (λ (z : Zone) v. record { target = fits; gens = v.gens; mods = v.mods }) t.member k
       (zones_fit b o t.member sound t.there)) (rw same at within))
 
--- ---- each is taken back
+-- ---- undo
 
 abbrev pub with_presets : Parts → List (WithZones Head) → Parts
 with_presets b presets = record b { presets = presets }

@@ -1,4 +1,4 @@
--- The zones of an owner put in the place of those that it had: the bank stays sound, and the totals follow.
+-- The list of zones of an owner replaced by another: the bank stays sound, and what the totals are then.
 use Rattle.std.proofs.Common.{◌≡◌, ◌+◌, ℕ, List, [], ◌∷◌, length, slice_get, Some, None, refl, sym, ap, subst, ◌∙◌}
 use Rattle.std.proofs.Common.{arith}
 use Rattle.std.specs.Prelude.{sum_by, slice_set}
@@ -32,11 +32,11 @@ use Rattle.bank_changes.proofs.OwnerLaws.{of_sound, sound_owner_changed}
 use Rattle.bank_changes.proofs.Changes.{sum-exchanged}
 use Rattle.bank_changes.proofs.TotalsLaws.{records_grow}
 
--- ---- a list of members of which one has other zones
+-- ---- a list of owners, of which one gets other zones
 
 module _ {H : Type 0} (owners : List (WithZones H)) (i : ℕ) (zones : List Zone) (e : zones_at owners i ≡ Some zones)
   where
-    -- two changes that agree on what is there
+    -- two changes that agree on the zones of the owner
     changed_alike : (f g : List Zone → List Zone) → f zones ≡ g zones
         → zones_changed owners i f ≡ zones_changed owners i g
     changed_alike f g same =
@@ -46,7 +46,7 @@ module _ {H : Type 0} (owners : List (WithZones H)) (i : ℕ) (zones : List Zone
         ∙ (ap (λ (zs : List Zone). slice_set owners i (with_zones zs x)) (ap f h.seen ∙ (same ∙ sym (ap g h.seen)))
         ∙ sym (changed-found owners i (λ (x : WithZones H). with_zones (g x.zones) x) x h.there))
 
--- a count of the global zone and of the others: it changes by that of the others
+-- a count that is the sum of a part for the global zone and a part for the other zones
 total_put : {H : Type 0} (shared : GlobalZone → ℕ) (own : List Zone → ℕ) (owners : List (WithZones H)) (i : ℕ)
     (zones put : List Zone)
     → zones_at owners i ≡ Some zones
@@ -67,7 +67,7 @@ total_put {H} shared own owners i zones put e =
 
 -- ---- the zones of an owner
 
--- the bank with these zones there
+-- the bank in which the owner has these zones
 abbrev pub zones_put : Parts → Owner → List Zone → Parts
 zones_put b o zones = own_zones_changed b o (λ _. zones)
 
@@ -111,7 +111,7 @@ zones_fit b o zones sound =
 
 -- ---- totals
 
--- the records of zones alone
+-- the records of the zones, without the global zone
 abbrev pub records_of_zones : List Zone → Records
 records_of_zones = records_total records_of_zone
 

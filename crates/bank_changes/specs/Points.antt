@@ -1,5 +1,5 @@
--- The raw changes of one sample: of its points, with which its loop moves, of its loop, of its kind, and
--- of its pitch. It keeps its number.
+-- The raw changes of one sample: of its points and with them its loop, of its loop alone, of its kind, and of its
+-- tuning.
 use Rattle.std.specs.Prelude.{ℕ, ℤ, ◌+◌, ◌-◌, ◌++◌, [], Option, List, length, slice_get, slice_range}
 use Rattle.std.specs.Option.{option_map, option_map_or, option_and_then}
 use Rattle.numbered_lists.specs.Moved.{changed}
@@ -7,38 +7,41 @@ use Rattle.bank_parts.specs.declared.parts.Kind.{Kind}
 use Rattle.bank_parts.specs.declared.parts.Sample.{Sample}
 use Rattle.bank_parts.specs.declared.parts.Parts.{Parts}
 
--- the points of a sample, and its loop; none where there is no such sample
+-- the points of a sample; no points if there is no such sample
 abbrev pub points_of : Parts → ℕ → List ℕ
 points_of b i = option_map_or (λ (s : Sample). s.points) (slice_get b.samples i) []
 
+-- the loop of a sample; none if there is no loop or no such sample
 abbrev pub loop_of : Parts → ℕ → Option (ℕ × ℕ)
 loop_of b i = option_and_then (λ (s : Sample). s.looped) (slice_get b.samples i)
 
--- without its first and its last points of so many; the loop stays on its points
+-- a sample without its first front and last back points; the loop moves with its points
 abbrev pub trimmed : ℕ → ℕ → Sample → Sample
 trimmed front back s = record s {
   points = slice_range s.points front (length s.points - back);
   looped = option_map (λ (ends : ℕ × ℕ). (ends.0 - front, ends.1 - front)) s.looped;
 }
 
--- with points before its own and after them; the loop stays on its points
+-- a sample with points added before and after its own; the loop moves with its points
 abbrev pub extended : List ℕ → List ℕ → Sample → Sample
 extended front back s = record s {
   points = front ++ s.points ++ back;
   looped = option_map (λ (ends : ℕ × ℕ). (ends.0 + length front, ends.1 + length front)) s.looped;
 }
 
+-- a sample with this loop
 abbrev pub looped_as : Option (ℕ × ℕ) → Sample → Sample
 looped_as looped s = record s { looped = looped }
 
+-- a sample of this kind
 abbrev pub of_kind : Kind → Sample → Sample
 of_kind kind s = record s { kind = kind }
 
--- with the rate, the original key and the correction
+-- a sample with this rate, original key and correction
 abbrev pub tuned : ℕ → ℕ → ℤ → Sample → Sample
 tuned rate key correction s = record s { rate = rate; key = key; correction = correction }
 
--- the sample of a number is sent through f, and all else stays
+-- the sample is changed by f, and nothing else changes
 abbrev pub sample_changed : Parts → ℕ → (Sample → Sample) → Parts
 sample_changed b i f = record b { samples = changed b.samples i f }
 

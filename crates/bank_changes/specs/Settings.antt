@@ -1,4 +1,4 @@
--- The raw changes of the generators and the modulators of a place, wherever it is.
+-- The raw changes of the generators and modulators of a place.
 use Rattle.std.specs.Prelude.{ℕ, List, length}
 use Rattle.std.specs.Option.{option_map_or}
 use Rattle.std.specs.FinMap.{len}
@@ -16,7 +16,7 @@ use Rattle.bank_changes.specs.declared.members.Place.{Place}
 use Rattle.bank_changes.specs.declared.members.Place.TheVariants as place_of
 use Rattle.bank_changes.specs.Members.{own_read, own_changed, zone_place}
 
--- what the place holds is sent through f, and all else stays
+-- the settings of the place are changed by f, and nothing else changes
 abbrev pub own_place_changed : Parts → Owner → Place → (Settings → Settings) → Parts
 own_place_changed b o at f = own_changed b o (λ _ owners i. place_changed owners i (zone_place at) f)
 
@@ -32,21 +32,21 @@ gen_cleared b o at op = own_changed b o (λ _ owners i. list.gen_cleared owners 
 
 -- ---- modulators
 
--- the modulator goes in as number j
+-- the modulator is inserted as number j
 abbrev pub mod_added : Parts → Owner → Place → ℕ → Modulator → Parts
 mod_added b o at j m = own_changed b o (λ _ owners i. list.mod_added owners i (zone_place at) j m)
 
--- the modulator of a number is gone
+-- modulator j is removed
 abbrev pub mod_removed : Parts → Owner → Place → ℕ → Parts
 mod_removed b o at j = own_changed b o (λ _ owners i. list.mod_removed owners i (zone_place at) j)
 
--- the modulator of a number is this one
+-- modulator j is replaced
 abbrev pub mod_set : Parts → Owner → Place → ℕ → Modulator → Parts
 mod_set b o at j m = own_changed b o (λ _ owners i. list.mod_set owners i (zone_place at) j m)
 
 -- ---- records
 
--- the records that a place has: a zone counts whatever it holds, an empty global zone is none
+-- the records of a place: the bag of a zone is not counted here, and an empty global zone has none
 abbrev pub records_of_place : ZonePlace → Settings → Records
 records_of_place place.Global s = records_of_global s
 records_of_place (place.Zone k) s = record { zones = 0; gens = len s.gens; mods = length s.mods }
@@ -54,14 +54,15 @@ records_of_place (place.Zone k) s = record { zones = 0; gens = len s.gens; mods 
 abbrev pub no_records : Records
 no_records = record { zones = 0; gens = 0; mods = 0 }
 
--- none where there is no such place
+-- the records of a place of owner i; all 0 if there is no such place
 abbrev pub records_at : {H : Type 0} → List (WithZones H) → ℕ → ZonePlace → Records
 records_at owners i at = option_map_or (records_of_place at) (settings_at owners i at) no_records
 
+-- the records of a place of a bank; all 0 if there is no such place
 abbrev pub records_there : Parts → Owner → Place → Records
 records_there b o at = own_read b o (λ _ owners i. records_at owners i (zone_place at))
 
--- how many zones a place is, once it holds something, beside those that are counted whatever they hold
+-- how many bags a place adds when it is not empty: the bag of a zone that is not global is always counted elsewhere
 abbrev pub zones_at : Place → ℕ
 zones_at place_of.Global = 1
 zones_at (place_of.Zone k) = 0

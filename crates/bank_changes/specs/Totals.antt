@@ -1,4 +1,4 @@
--- The totals of a bank where a preset or an instrument that it has holds more records.
+-- The totals of a bank after records are added to one of its presets or instruments.
 use Rattle.generators.specs.declared.level.Level.{Level}
 use Rattle.bank_parts.specs.declared.counting.Records.{Records}
 use Rattle.bank_parts.specs.Counts.{all_counted, records_sum}
@@ -6,15 +6,15 @@ use Rattle.bank_validity.specs.declared.totals.LevelTotals.{LevelTotals}
 use Rattle.bank_validity.specs.declared.totals.Totals.{Totals}
 use Rattle.bank_validity.specs.Limits.{totals_at, level_changed, plus_records, AreCounted}
 
--- so many records more, in the owners that there are
+-- the totals after so many more records
 abbrev pub with_records : Level → Totals → Records → Totals
 with_records at t r = level_changed at (plus_records r) t
 
--- the same, as 64 bits count them
+-- the same, each number of records saturated at 2 ^ 64 - 1
 abbrev pub with_records_counted : Level → Totals → Records → Totals
 with_records_counted at t r =
     level_changed at (λ (l : LevelTotals). record l { records = all_counted (records_sum l.records r) }) t
 
--- the totals count so many records
+-- the totals count at least so many records
 abbrev pub HasRecords : Level → Totals → Records → Type 0
 HasRecords at t r = AreCounted r (totals_at at t)

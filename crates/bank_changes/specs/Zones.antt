@@ -1,4 +1,4 @@
--- The raw changes of zones, wherever they stand.
+-- The raw changes of zones.
 use Rattle.std.specs.Prelude.{ℕ, Bool, List, Option}
 use Rattle.bank_parts.specs.declared.parts.Zone.{Zone}
 use Rattle.bank_parts.specs.declared.parts.Parts.{Parts}
@@ -11,42 +11,42 @@ use Rattle.zone_ranges.specs.Splits as split
 use Rattle.bank_changes.specs.declared.members.Owner.{Owner}
 use Rattle.bank_changes.specs.Members.{own_read, own_changed}
 
--- the zones of an owner are sent through f, and all else stays
+-- the zones of an owner are changed by f, and nothing else changes
 abbrev pub own_zones_changed : Parts → Owner → (List Zone → List Zone) → Parts
 own_zones_changed b o f = own_changed b o (λ _ owners i. zones_changed owners i f)
 
--- the zone goes in as number k
+-- the zone is inserted as number k
 abbrev pub zone_added : Parts → Owner → ℕ → Zone → Parts
 zone_added b o k zone = own_changed b o (λ _ owners i. list.zone_added owners i k zone)
 
--- the zone of a number is gone
+-- zone k is removed
 abbrev pub zone_removed : Parts → Owner → ℕ → Parts
 zone_removed b o k = own_changed b o (λ _ owners i. list.zone_removed owners i k)
 
--- one zone has another number, and the others keep their order
+-- a zone becomes another number, and the others keep their order
 abbrev pub zone_moved : Parts → Owner → ℕ → ℕ → Parts
 zone_moved b o from to = own_changed b o (λ _ owners i. list.zone_moved owners i from to)
 
--- the zone of a number has the target
+-- zone k has this target
 abbrev pub target_set : Parts → Owner → ℕ → ℕ → Parts
 target_set b o k target = own_changed b o (λ _ owners i. list.target_set owners i k target)
 
--- the zone of a number is two, which meet at m
+-- zone k is split into two at m
 abbrev pub zone_split : Parts → Owner → ℕ → Axis → ℕ → Parts
 zone_split b o k axis m = own_changed b o (λ _ owners i. split.zone_split owners i k axis m)
 
--- the zone of a number and the next are one
+-- zone k and the next one are joined
 abbrev pub zone_joined : Parts → Owner → ℕ → Axis → Keep → Parts
 zone_joined b o k axis keep = own_changed b o (λ _ owners i. split.zone_joined owners i k axis keep)
 
--- there is the zone, and `lo < m <= hi` for the range that holds for it
+-- the zone exists, and m is greater than the low end and not above the high end of its effective range
 abbrev pub can_split : Parts → Owner → ℕ → Axis → ℕ → Bool
 can_split b o k axis m = own_read b o (λ _ owners i. split.splits_at axis m owners i k)
 
--- there are the zone and the next, and they can be joined
+-- the zone and the next one exist and can be joined
 abbrev pub can_join : Parts → Owner → ℕ → Axis → Keep → Bool
 can_join b o k axis keep = own_read b o (λ _ owners i. split.joins_at axis keep owners i k)
 
--- the range that holds for the zone
+-- the effective range of the zone
 abbrev pub range_of_zone : Parts → Owner → ℕ → Axis → Option ℕ
 range_of_zone b o k axis = own_read b o (λ _ owners i. range_at axis owners i k)

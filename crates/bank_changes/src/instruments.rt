@@ -1,4 +1,4 @@
-//! The raw changes of a bank's instruments.
+//! The raw changes of the instruments of a bank.
 ghost use Rattle.std.specs.Prelude.{◌≡◌, ◌<◌, ◌≤◌, Some, length, slice_get, OnOk, OnErr, IfOk, IfErr};
 ghost use Rattle.bank_parts.specs.Owners.{head_at};
 ghost use Rattle.bank_parts.specs.Room.{IsStorable};
@@ -10,7 +10,7 @@ use numbered_lists::{Renumber, Renumbering};
 use sf_base::{Name20, OutOfMemory};
 use std::alloc::Global;
 
-/// Gives an instrument a name, and gives back the one that it had. Takes no memory.
+/// Renames an instrument and returns the old name. Allocates nothing.
 pub fn rename_instrument(parts: &mut Parts<'_>, number: u32, name: Name20) -> Name20
     requires { number < length parts.old.instruments }
     ensures value { head_at parts.old.instruments number ≡ Some result }
@@ -19,9 +19,8 @@ pub fn rename_instrument(parts: &mut Parts<'_>, number: u32, name: Name20) -> Na
     parts.instruments.replace_head(number as usize, name)
 }
 
-/// Makes an instrument number `number`. The instruments from there on get the next number each, and what
-/// names them follows; at the end of the list nothing does, and no preset is touched. When out of memory,
-/// the parts stay as they are, and the instrument comes back.
+/// Inserts an instrument as number `number`; later instruments move up by one, and the targets of presets follow. An
+/// append reads no preset. If an allocation fails, the bank is unchanged and the instrument is returned.
 pub fn add_instrument(
     parts: &mut Parts<'_>,
     number: u32,
@@ -43,8 +42,8 @@ pub fn add_instrument(
     Ok(())
 }
 
-/// Takes an instrument out; the instruments behind it get the number before each, and what names them
-/// follows. At the end of the list no preset is touched. When out of memory, the parts stay as they are.
+/// Removes an instrument and returns it; later instruments move down by one, and the targets of presets follow. If it
+/// is the last, no preset is read. On `OutOfMemory` the bank is unchanged.
 pub fn remove_instrument(
     parts: &mut Parts<'_>,
     alloc: Global,
@@ -64,8 +63,8 @@ pub fn remove_instrument(
     Ok(instrument)
 }
 
-/// Makes instrument `from` instrument `to`; the others keep their order, and what names them follows.
-/// Takes no memory.
+/// Moves instrument `from` to number `to`; the others keep their order, and the targets of presets follow. Allocates
+/// nothing.
 pub fn move_instrument(parts: &mut Parts<'_>, from: u32, to: u32)
     requires valid { IsValid parts.old }
     requires there { from < length parts.old.instruments }

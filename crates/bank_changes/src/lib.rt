@@ -1,4 +1,4 @@
-//! The raw changes of a bank's parts: what each edit does to them, whether or not they stay valid.
+//! The raw changes of a bank: what each edit does to it, whether or not it stays valid.
 #![tactic(auto)]
 
 mod instruments;

@@ -1,4 +1,4 @@
-//! Which member of a bank is spoken of.
+//! References to the members of a bank by number.
 ghost use Rattle.std.specs.Prelude.{◌≡◌};
 ghost use Rattle.bank_changes.specs.Members.{level_of, zone_place};
 
@@ -13,7 +13,7 @@ pub enum List {
     Samples,
 }
 
-/// What zones belong to: the preset or the instrument of a number.
+/// The preset or the instrument with this number.
 #[derive(Clone, Copy, Debug, PartialEq, Eq)]
 pub enum Owner {
     Preset(u32),
@@ -21,7 +21,7 @@ pub enum Owner {
 }
 
 impl Owner {
-    /// The level at which its zones stand.
+    /// The level of its zones.
     pub fn level(self) -> Level
         ensures { result ≡ level_of self }
     {
@@ -32,9 +32,9 @@ impl Owner {
     }
 }
 
-/// Runs an expression on the owners among which an owner is, the presets or the instruments of a bank's parts, and
-/// on its number: `with_owners!(parts, owner, |owners, number| { owners.zone_count(number as usize) })`. They are
-/// borrowed as the parts are.
+/// Runs an expression on the list that has an owner, either the presets or the instruments of the parts of a bank,
+/// and on the owner's number in it: `with_owners!(parts, owner, |owners, number| { owners.zone_count(number as usize)
+/// })`. The list is borrowed as the parts are.
 #[macro_export]
 macro_rules! with_owners {
     ($parts:expr, $owner:expr, |$owners:ident, $number:ident| $body:expr) => {
@@ -45,15 +45,14 @@ macro_rules! with_owners {
     };
 }
 
-/// Where generators and modulators stand in their owner: in its global zone, or in the zone of a
-/// number.
+/// Which zone of an owner: the global zone, or the zone with this number.
 #[derive(Clone, Copy, Debug, PartialEq, Eq)]
 pub enum Place {
     Global,
     Zone(u32),
 }
 
-/// The place as its owner numbers its zones.
+/// The place in the form that `Owners` uses.
 pub fn place_of(place: Place) -> ZonePlace
     ensures { result ≡ zone_place place }
 {

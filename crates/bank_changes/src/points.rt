@@ -1,4 +1,4 @@
-//! The raw changes of one sample: of its points, its loop, its kind and its pitch.
+//! The raw changes of one sample: of its points, loop, kind and tuning.
 ghost use Rattle.std.specs.Prelude.{◌≡◌, ◌<◌, ◌≤◌, ◌+◌, ◌-◌, ◌^◌, length, take, drop, slice_get, IfSome, IfOk, OnOk, OnErr, IfErr};
 ghost use Rattle.bank_parts.specs.Fits.{FitsLoop};
 ghost use Rattle.bank_changes.specs.Points.{points_of, loop_of, trimmed, extended, sample_trimmed, sample_extended, loop_set, kind_set, tune_set};
@@ -10,8 +10,8 @@ use std::alloc::Global;
 
 // ---- in a bank
 
-/// Takes the first `front` points and the last `back` out of a sample, and gives both. Its loop stays on
-/// its points; no point is copied. When out of memory, the parts stay as they are.
+/// Removes the first `front` and the last `back` points of a sample, and returns both parts. The loop moves with its
+/// points; no point is copied. On `OutOfMemory` the bank is unchanged.
 pub fn trim_sample<'a>(
     parts: &mut Parts<'a>,
     alloc: Global,
@@ -30,8 +30,8 @@ pub fn trim_sample<'a>(
     trim(sample, alloc, front, back)
 }
 
-/// Puts points before those of a sample and after them. Its loop stays on its points; no point is
-/// copied. When out of memory, the parts stay as they are, and the points come back.
+/// Adds points before and after those of a sample. The loop moves with its points; no point is copied. If an
+/// allocation fails, the bank is unchanged and the points are returned.
 pub fn extend_sample<'a>(
     parts: &mut Parts<'a>,
     number: u32,
@@ -50,8 +50,8 @@ pub fn extend_sample<'a>(
     extend(sample, front, back)
 }
 
-/// Gives a sample a loop, or none, and gives back the one that it had. It is counted in points from the
-/// sample's start: its first one, and the first one after it. Takes no memory.
+/// Replaces the loop of a sample and returns the old one. A loop is its first point and the point after its last,
+/// counted from the start of the sample. Allocates nothing.
 pub fn set_loop(
     parts: &mut Parts<'_>,
     number: u32,
@@ -65,8 +65,7 @@ pub fn set_loop(
     std::mem::replace(&mut sample.looped, looped)
 }
 
-/// Gives a sample a kind (SoundFont 2.04, section 7.10), and gives back the one that it had. Takes no
-/// memory.
+/// Replaces the kind of a sample (SoundFont 2.04, section 7.10) and returns the old one. Allocates nothing.
 pub fn set_kind(parts: &mut Parts<'_>, number: u32, kind: Kind) -> Kind
     requires { number < length parts.old.samples }
     ensures value { IfSome (slice_get parts.old.samples number) (λ sample. result ≡ sample.kind) }
@@ -76,8 +75,8 @@ pub fn set_kind(parts: &mut Parts<'_>, number: u32, kind: Kind) -> Kind
     std::mem::replace(&mut sample.kind, kind)
 }
 
-/// Gives a sample its rate in frames a second, its original key (above 127 for none) and the correction
-/// of its pitch in cents, and gives back the three that it had. Takes no memory.
+/// Replaces the rate (in frames per second), the original key (above 127 for none) and the pitch correction (in
+/// cents) of a sample, and returns the old three. Allocates nothing.
 pub fn set_tune(
     parts: &mut Parts<'_>,
     number: u32,
@@ -99,9 +98,9 @@ pub fn set_tune(
     old
 }
 
-// ---- in the sample
+// ---- in a sample
 
-// A loop that begins before the cut begins with the points that are left.
+// A loop that begins before the remaining points begins at the first of them.
 fn trim<'a>(
     sample: &mut Sample<'a>,
     alloc: Global,

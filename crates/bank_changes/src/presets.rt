@@ -1,4 +1,4 @@
-//! The raw changes of a bank's presets. Nothing names a preset, so nothing follows.
+//! The raw changes of the presets of a bank. Nothing in a bank refers to presets by number.
 ghost use Rattle.std.specs.Prelude.{◌≡◌, ◌<◌, ◌≤◌, Some, length, slice_get, OnOk, OnErr, IfOk, IfErr};
 ghost use Rattle.bank_parts.specs.Owners.{head_at};
 ghost use Rattle.bank_parts.specs.Room.{IsStorable};
@@ -8,8 +8,8 @@ use bank_parts::{Head, Parts, Preset};
 use sf_base::{Name20, OutOfMemory};
 use std::alloc::Global;
 
-/// Makes a preset number `number`; the presets from there on get the next number each. When out of memory,
-/// the parts stay as they are, and the preset comes back.
+/// Inserts a preset as number `number`; later presets move up by one. If an allocation fails, the bank is unchanged
+/// and the preset is returned.
 pub fn add_preset(parts: &mut Parts<'_>, number: u32, preset: Preset) -> Result<(), Preset>
     requires place { number ≤ length parts.old.presets }
     requires storable { IsStorable (preset_added parts.old number preset) }
@@ -20,8 +20,7 @@ pub fn add_preset(parts: &mut Parts<'_>, number: u32, preset: Preset) -> Result<
     parts.presets.insert(number as usize, preset)
 }
 
-/// Takes a preset out; the presets behind it get the number before each. When out of memory, the parts stay
-/// as they are.
+/// Removes a preset and returns it; later presets move down by one. On `OutOfMemory` the bank is unchanged.
 pub fn remove_preset(
     parts: &mut Parts<'_>,
     alloc: Global,
@@ -35,7 +34,7 @@ pub fn remove_preset(
     parts.presets.remove(alloc, number as usize)
 }
 
-/// Makes preset `from` preset `to`; the others keep their order. Takes no memory.
+/// Moves preset `from` to number `to`; the others keep their order. Allocates nothing.
 pub fn move_preset(parts: &mut Parts<'_>, from: u32, to: u32)
     requires there { from < length parts.old.presets }
     requires place { to < length parts.old.presets }
@@ -44,8 +43,8 @@ pub fn move_preset(parts: &mut Parts<'_>, from: u32, to: u32)
     parts.presets.move_member(from as usize, to as usize);
 }
 
-/// Gives a preset a name and both numbers, and gives back the head that it had, of which it keeps the
-/// rest. Takes no memory.
+/// Replaces the name and both numbers of a preset, and returns the old head; its other fields are kept. Allocates
+/// nothing.
 pub fn set_head(parts: &mut Parts<'_>, preset: u32, name: Name20, number: u16, bank: u16) -> Head
     requires { preset < length parts.old.presets }
     ensures value { head_at parts.old.presets preset ≡ Some result }

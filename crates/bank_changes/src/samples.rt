@@ -1,4 +1,4 @@
-//! The raw changes of a bank's samples.
+//! The raw changes of the samples of a bank.
 ghost use Rattle.std.specs.Prelude.{◌≡◌, ◌<◌, ◌≤◌, Some, length, slice_get, IfSome, OnOk, OnErr, IfErr};
 ghost use Rattle.bank_parts.specs.Valid.{IsValid};
 ghost use Rattle.bank_changes.specs.Samples.{sample_renamed, sample_added, sample_removed, sample_moved};
@@ -7,7 +7,7 @@ use bank_parts::{Parts, Sample};
 use numbered_lists::{Renumber, Renumbering};
 use sf_base::Name20;
 
-/// Gives a sample a name, and gives back the one that it had. Takes no memory.
+/// Renames a sample and returns the old name. Allocates nothing.
 pub fn rename_sample(parts: &mut Parts<'_>, number: u32, name: Name20) -> Name20
     requires { number < length parts.old.samples }
     ensures value { IfSome (slice_get parts.old.samples number) (λ sample. result ≡ sample.name) }
@@ -17,10 +17,9 @@ pub fn rename_sample(parts: &mut Parts<'_>, number: u32, name: Name20) -> Name20
     std::mem::replace(&mut sample.name, name)
 }
 
-/// Makes a sample number `number`; its own link has the numbers that hold afterwards. The samples from
-/// there on get the next number each, and what names them follows. At the end of the list it renumbers
-/// nothing, and does not walk the bank. When out of memory, the parts stay as they are, and the sample
-/// comes back.
+/// Inserts a sample as number `number`; later samples move up by one, and targets and links follow. Its own link is a
+/// number after the insertion. An append renumbers nothing and does not traverse the bank. If an allocation fails,
+/// the bank is unchanged and the sample is returned.
 pub fn add_sample<'a>(
     parts: &mut Parts<'a>,
     number: u32,
@@ -43,8 +42,8 @@ pub fn add_sample<'a>(
     Ok(())
 }
 
-/// Takes a sample out; the samples behind it get the number before each, and what names them follows.
-/// At the end of the list it renumbers nothing, and does not walk the bank. Takes no memory.
+/// Removes a sample and returns it; later samples move down by one, and targets and links follow. If it is the last,
+/// nothing is renumbered and the bank is not traversed. Allocates nothing.
 pub fn remove_sample<'a>(parts: &mut Parts<'a>, number: u32) -> Sample<'a>
     requires valid { IsValid parts.old }
     requires there { number < length parts.old.samples }
@@ -60,8 +59,7 @@ pub fn remove_sample<'a>(parts: &mut Parts<'a>, number: u32) -> Sample<'a>
     sample
 }
 
-/// Makes sample `from` sample `to`; the others keep their order, and what names them follows. Takes no
-/// memory.
+/// Moves sample `from` to number `to`; the others keep their order, and targets and links follow. Allocates nothing.
 pub fn move_sample(parts: &mut Parts<'_>, from: u32, to: u32)
     requires valid { IsValid parts.old }
     requires there { from < length parts.old.samples }

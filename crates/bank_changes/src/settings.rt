@@ -1,4 +1,4 @@
-//! The raw changes of the generators and the modulators of a place, and the records that it has.
+//! The raw changes of the generators and modulators at a place, and the number of records there.
 ghost use Rattle.std.specs.Prelude.{◌≡◌, ◌<◌, ◌≤◌, Some, None, length, IsSome, IsOk, IfOk, IfSome, OnOk, OnErr};
 ghost use Rattle.bank_parts.specs.Room.{IsStorable};
 ghost use Rattle.bank_changes.specs.Members.{zone_place, settings_of, mods_of, amount_of, mod_at};
@@ -10,8 +10,8 @@ use bank_parts::{OwnerHead, Owners, Parts, Records, ZonePlace};
 use modulators::Modulator;
 use sf_base::OutOfMemory;
 
-/// Sets an operator at a place, and gives the amount that it had. It needs memory only for an operator
-/// that is not set; when out of it, the parts stay as they are.
+/// Sets an operator at a place, and returns the amount that it had. It allocates only if the operator was not set. On
+/// `OutOfMemory` the bank is unchanged.
 pub fn set_gen(
     parts: &mut Parts<'_>,
     owner: Owner,
@@ -32,7 +32,7 @@ pub fn set_gen(
     })
 }
 
-/// Clears an operator at a place, and gives the amount that it had. Takes no memory.
+/// Clears an operator at a place, and returns the amount that it had. Allocates nothing.
 pub fn clear_gen(parts: &mut Parts<'_>, owner: Owner, place: Place, operator: u16) -> Option<u16>
     requires { IsSome (settings_of parts.old owner place) }
     ensures was { result ≡ amount_of parts.old owner place operator }
@@ -44,8 +44,8 @@ pub fn clear_gen(parts: &mut Parts<'_>, owner: Owner, place: Place, operator: u1
     })
 }
 
-/// Makes a modulator number `index` at a place; those from there on get the next number each. When out of
-/// memory, the parts stay as they are.
+/// Inserts a modulator as number `index` at a place; later ones move up by one. On `OutOfMemory` the bank is
+/// unchanged.
 pub fn add_mod(
     parts: &mut Parts<'_>,
     owner: Owner,
@@ -65,8 +65,7 @@ pub fn add_mod(
     })
 }
 
-/// Takes the modulator of a number at a place out; those behind it get the number before each. Takes no
-/// memory.
+/// Removes a modulator at a place and returns it; later ones move down by one. Allocates nothing.
 pub fn remove_mod(parts: &mut Parts<'_>, owner: Owner, place: Place, index: u32) -> Modulator
     requires there { IsSome (settings_of parts.old owner place) }
     requires place { IfSome (mods_of parts.old owner place) (λ mods. index < length mods) }
@@ -79,8 +78,7 @@ pub fn remove_mod(parts: &mut Parts<'_>, owner: Owner, place: Place, index: u32)
     })
 }
 
-/// Puts a modulator in the place of the one of a number at a place, and gives back the one that it
-/// replaces. Takes no memory.
+/// Replaces a modulator at a place and returns the old one. Allocates nothing.
 pub fn set_mod(
     parts: &mut Parts<'_>,
     owner: Owner,
@@ -101,8 +99,8 @@ pub fn set_mod(
 
 // ---- the records of a place
 
-/// The records of a place; none where there is no such place. The record of a zone that is not global is
-/// not among them, for it is counted whatever it holds.
+/// The records of a place; all 0 if there is no such place. The bag of a zone that is not global is not among them,
+/// since it is counted whatever the zone has.
 pub fn records_there(parts: &Parts<'_>, owner: Owner, place: Place) -> Records
     ensures { result ≡ records_there parts.now owner place }
 {

@@ -1,4 +1,4 @@
-//! The raw change of a bank's texts.
+//! The raw change of the texts of a bank.
 ghost use Rattle.std.specs.Prelude.{◌≡◌};
 ghost use Rattle.bank_parts.specs.Texts.{text_of};
 ghost use Rattle.bank_changes.specs.Texts.{text_set};
@@ -6,7 +6,7 @@ ghost use Rattle.bank_changes.specs.Texts.{text_set};
 use bank_parts::{InfoId, Texts};
 use sf_base::Lent;
 
-/// Sets the text of this kind, and gives back the one that was there. Takes no memory.
+/// Replaces the text with this id and returns the old one. Allocates nothing.
 pub fn set_info<'a>(texts: &mut Texts<'a>, id: InfoId, text: Lent<'a>) -> Lent<'a>
     ensures value { result ≡ text_of texts.old id }
     ensures change { texts.new ≡ text_set texts.old id text.entry }

@@ -1,4 +1,4 @@
-//! The totals of a bank with records more or less in a preset or an instrument that it has.
+//! The totals of a bank after records are added to one of its presets or instruments, or removed from it.
 ghost use Rattle.std.specs.Prelude.{◌≡◌, None};
 ghost use Rattle.bank_parts.specs.declared.counting.Records.{Records};
 ghost use Rattle.bank_validity.specs.declared.totals.Totals.{Totals};
@@ -10,8 +10,8 @@ use bank_parts::Records;
 use bank_validity::{Limit, Totals};
 use generators::Level;
 
-/// The first limit that is broken with so many records more. A count that would pass 2^64 may stay
-/// below it, as that of `Zone::records` does.
+/// The first limit that is broken after so many more records. Their numbers may be saturated, as those of
+/// `Zone::records` are.
 pub fn broken_with_records(totals: Totals, at: Level, more: Records) -> Option<Limit>
     requires { broken totals ≡ None }
     ensures { (r : Records) → more ≡ all_counted r → result ≡ broken (with_records at totals r) }
@@ -19,7 +19,7 @@ pub fn broken_with_records(totals: Totals, at: Level, more: Records) -> Option<L
     plus_records(totals, at, more).broken()
 }
 
-/// The totals with so many records more.
+/// The totals after so many more records.
 pub fn with_records(totals: Totals, at: Level, more: Records) -> Totals
     requires { broken (with_records at totals more) ≡ None }
     ensures { result ≡ with_records at totals more }
@@ -35,8 +35,8 @@ pub fn without_records(totals: Totals, at: Level, less: Records) -> Totals
     totals.with_level(at, totals.at(at).without(less))
 }
 
-/// The totals where so many records, which are counted, became so many others. A sum that would pass
-/// 2^64 may stay below it, and breaks the same limit.
+/// The totals after the records `before`, which they count, are replaced by `after`. The numbers may be saturated at
+/// 2^64 - 1, but then break the same limit.
 pub fn recounted(totals: Totals, at: Level, before: Records, after: Records) -> Totals
     requires within { broken totals ≡ None }
     requires counted { HasRecords at totals before }
@@ -46,7 +46,7 @@ pub fn recounted(totals: Totals, at: Level, before: Records, after: Records) -> 
     plus_records(without_records(totals, at, before), at, after)
 }
 
-// A sum that would pass 2^64 stays below it.
+// Each number saturates at 2^64 - 1.
 fn plus_records(totals: Totals, at: Level, more: Records) -> Totals
     ensures { result ≡ with_records_counted at totals more }
 {

@@ -1,4 +1,4 @@
-//! The raw changes of the zones of a bank's presets and instruments.
+//! The raw changes of the zones of the presets and instruments of a bank.
 ghost use Rattle.std.specs.Prelude.{◌≡◌, ◌<◌, ◌≤◌, Some, IsSomeAnd, OnOk, OnErr, IfOk, IfErr, ◌+◌, true, IfSome};
 ghost use Rattle.bank_parts.specs.Counts.{all_counted};
 ghost use Rattle.bank_parts.specs.Room.{IsStorable};
@@ -13,8 +13,8 @@ use sf_base::OutOfMemory;
 use std::alloc::Global;
 use zone_ranges::{Axis, Keep};
 
-/// Makes a zone number `at` of an owner; its zones from there on get the next number each. When out of
-/// memory, the parts stay as they are, and the zone comes back.
+/// Inserts a zone as number `at` of an owner; its later zones move up by one. If an allocation fails, the bank is
+/// unchanged and the zone is returned.
 pub fn add_zone(parts: &mut Parts<'_>, owner: Owner, at: u32, zone: Zone) -> Result<(), Zone>
     requires place { IsSomeAnd (own_zone_count parts.old owner) (λ count. at ≤ count) }
     requires storable { IsStorable (zone_added parts.old owner at zone) }
@@ -28,8 +28,8 @@ pub fn add_zone(parts: &mut Parts<'_>, owner: Owner, at: u32, zone: Zone) -> Res
     })
 }
 
-/// Takes a zone out of an owner; the zones behind it get the number before each. When out of memory, the
-/// parts stay as they are.
+/// Removes a zone of an owner and returns it; its later zones move down by one. On `OutOfMemory` the bank is
+/// unchanged.
 pub fn remove_zone(
     parts: &mut Parts<'_>,
     alloc: Global,
@@ -47,7 +47,7 @@ pub fn remove_zone(
     })
 }
 
-/// Makes zone `from` of an owner zone `to`; its other zones keep their order. Takes no memory.
+/// Moves zone `from` of an owner to number `to`; its other zones keep their order. Allocates nothing.
 pub fn move_zone(parts: &mut Parts<'_>, owner: Owner, from: u32, to: u32)
     requires there { IsSomeAnd (own_zone_count parts.old owner) (λ count. from < count) }
     requires place { IsSomeAnd (own_zone_count parts.old owner) (λ count. to < count) }
@@ -59,7 +59,7 @@ pub fn move_zone(parts: &mut Parts<'_>, owner: Owner, from: u32, to: u32)
     })
 }
 
-/// Gives a zone another target, and gives back the one that it had. Takes no memory.
+/// Replaces the target of a zone and returns the old one. Allocates nothing.
 pub fn set_target(parts: &mut Parts<'_>, owner: Owner, zone: u32, target: u16) -> u16
     requires { IsSomeAnd (own_zone_count parts.old owner) (λ count. zone < count) }
     ensures value { target_of parts.old owner zone ≡ Some result }
@@ -71,7 +71,7 @@ pub fn set_target(parts: &mut Parts<'_>, owner: Owner, zone: u32, target: u16) -
     })
 }
 
-/// The records that the split of a zone adds, each count at most 2^64 - 1.
+/// The records that a split of a zone adds. Each number saturates at 2^64 - 1.
 pub fn split_records(parts: &Parts<'_>, owner: Owner, zone: u32, axis: Axis) -> Records
     requires { IsSomeAnd (own_zone_count parts.now owner) (λ count. zone < count) }
     ensures { IfSome (zone_of parts.now owner zone) (λ z. result ≡ all_counted (split_records axis z)) }
@@ -81,7 +81,7 @@ pub fn split_records(parts: &Parts<'_>, owner: Owner, zone: u32, axis: Axis) -> 
     })
 }
 
-/// The records that go when a zone and the next are joined, each count at most 2^64 - 1.
+/// The records that a join of a zone and the next one removes. Each number saturates at 2^64 - 1.
 pub fn join_records(parts: &Parts<'_>, owner: Owner, zone: u32, keep: Keep) -> Records
     requires { IsSomeAnd (own_zone_count parts.now owner) (λ count. zone + 1 < count) }
     ensures { IfSome (zone_of parts.now owner (zone + 1)) (λ z. result ≡ all_counted (join_records keep z)) }
@@ -91,8 +91,8 @@ pub fn join_records(parts: &Parts<'_>, owner: Owner, zone: u32, keep: Keep) -> R
     })
 }
 
-/// Splits a zone at a key or a velocity, from which on the second of both holds. When out of memory, the
-/// parts stay as they are.
+/// Splits a zone at a key or a velocity, which is the low end of the new second zone. On `OutOfMemory` the bank is
+/// unchanged.
 pub fn split_zone(
     parts: &mut Parts<'_>,
     alloc: Global,
@@ -111,7 +111,7 @@ pub fn split_zone(
     })
 }
 
-/// Joins a zone and the next. When out of memory, the parts stay as they are.
+/// Joins a zone and the next one. On `OutOfMemory` the bank is unchanged.
 pub fn join_zone(
     parts: &mut Parts<'_>,
     alloc: Global,
