@@ -1,4 +1,4 @@
--- Which presets and instruments have flat lists, and that no others have the same.
+-- Which presets and instruments have given flat lists, and that no others have them.
 use Rattle.std.proofs.Common.{◌≡◌, ℕ, ◌≤◌, ◌+◌, List, [], ◌∷◌, length, map, Option, Some, None, refl, sym, subst}
 use Rattle.std.proofs.Common.{◌∙◌, ap, arith}
 use Rattle.std.specs.Prelude.{MatchOption}
@@ -24,7 +24,7 @@ use Rattle.bank_core.specs.declared.flat.Flat.{Flat}
 use Rattle.bank_core.specs.Heads.{head_records, AreFlatOf}
 use Rattle.bank_core.specs.Flat.{IsFlatOf}
 
--- ---- the heads and the numbers of records
+-- ---- the heads, and the indexes of first bags
 
 module _ {H : Type 0} where
   head_before : Option H → List H → List H
@@ -98,7 +98,7 @@ module _ {H : Type 0} where
         records = λ i. record { bags = (flat i).bags; gens = (flat i).gens; mods = (flat i).mods };
       }
 
-  -- either side of the answer
+  -- the presets or instruments, or the proof that there are none
   pub answered : (at : Level) (given : List (HeadRecord H)) (hs : List H) (ns : List ℕ) (t : Tables)
       (r : Option (List (WithZones H)))
       → given ≡ head_records hs ns → length ns ≡ length hs + 1
@@ -116,7 +116,7 @@ module _ {H : Type 0} where
   answered at given hs ns t (Some owners) e size are =
       subst (λ rs. AreFlatOf at rs t owners) (sym e) (records_by at hs ns t owners are)
 
-  -- no others have the same
+  -- no others have the same records
   pub same_flat : (at : Level) (hs : List (HeadRecord H)) (t : Tables) (owners others : List (WithZones H))
       → AllByRecursion (IsPlainOwner (target_operator at)) owners
       → AllByRecursion (IsPlainOwner (target_operator at)) others

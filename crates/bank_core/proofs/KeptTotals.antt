@@ -1,4 +1,4 @@
--- The totals that a bank keeps beside its parts, where an edit changes both.
+-- The totals that a bank keeps beside its parts, when an edit changes both.
 use Rattle.std.proofs.Common.{◌≡◌, None, IsSome, sym, ap, subst, ◌∙◌}
 use Rattle.generators.specs.declared.level.Level.{Level}
 use Rattle.bank_parts.specs.declared.counting.Records.{Records}
@@ -29,7 +29,7 @@ module _ {b inside : Parts} {t : Totals} (view : inside ≡ b) (kept : IsSound i
 
   module _ {plus : Totals → Records → Totals} {Has : Totals → Records → Type 0} (grow : Grow plus Has) {now : Parts}
       (sound : IsSound now) (r : Records) where
-    -- where more comes in
+    -- when records are added
     module _ (grew : totals_of now ≡ plus (totals_of b) r) {counted : Records} (count : counted ≡ all_counted r) where
       totals_are : plus t counted ≡ totals_of now
       totals_are =
@@ -42,7 +42,7 @@ module _ {b inside : Parts} {t : Totals} (view : inside ≡ b) (kept : IsSound i
       pub kept_with : {new : Parts} {u : Totals} → new ≡ now → u ≡ plus t counted → IsSound new × (u ≡ totals_of new)
       kept_with is e = (subst IsSound (sym is) sound, e ∙ (totals_are ∙ ap totals_of (sym is)))
 
-    -- where some of it goes
+    -- when records are removed
     module _ (shrank : plus (totals_of now) r ≡ totals_of b) {counted : Records} (count : counted ≡ all_counted r) where
       totals_were : plus (totals_of now) counted ≡ t
       totals_were =
@@ -59,7 +59,7 @@ module _ {b inside : Parts} {t : Totals} (view : inside ≡ b) (kept : IsSound i
             ∙ ap totals_of (sym is),
       )
 
-  -- where one place changes, and is counted again
+  -- when one place changes, and its records are counted again
   module _ (o : Owner) (at : Place) (there : IsSome (settings_of b o at)) {lvl : Level} (is_level : lvl ≡ level_of o)
       {before : Records} (had : before ≡ records_there inside o at) where
     had_before : before ≡ records_there b o at

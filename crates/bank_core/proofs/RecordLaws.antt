@@ -1,4 +1,4 @@
--- A list of a valid bank has few records.
+-- The length of each list of records of a valid bank fits 32 bits.
 use Rattle.std.proofs.Common.{◌≤◌, ◌<◌, ◌^◌, List, length, arith}
 use Rattle.generators.specs.declared.level.Level.{Level}
 use Rattle.generators.specs.declared.level.Level.TheVariants as level

@@ -1,4 +1,4 @@
-//! A bank that is always sound, and its raw changes.
+//! `Bank`, which is always sound, and how it is made and read.
 ghost use Rattle.std.specs.Prelude.{◌≡◌, slice_get, IfOk, IfErr, OnOk};
 ghost use Rattle.std.specs.Option.{option_copied};
 ghost use Rattle.bank_parts.specs.Texts.{text_of};
@@ -18,15 +18,15 @@ use sf_base::{Name20, OutOfMemory};
 use std::alloc::Global;
 use std::marker::Model;
 
-/// A bank that is sound: valid, with each number, name and text in the range of its field. It borrows
-/// the bytes of the file, and of the script's pool.
+/// A sound bank: valid, with each number, name and text in the range of its field. It borrows the bytes of the file
+/// and of the script's pool.
 pub struct Bank<'a> {
     pub(crate) parts: Parts<'a>,
-    // Kept beside the parts, so that no edit counts the whole bank.
+    // Kept beside the parts, so that no edit has to count the whole bank.
     pub(crate) totals: Totals,
 }
 
-// A call at each exit of what holds a bank, where a derived drop would be written out.
+// Not derived: a derived drop is expanded at each exit of every function that holds a bank; this one is a call.
 impl Drop for Bank<'_> {
     fn drop(self) {
         let Bank {
@@ -54,7 +54,7 @@ impl<'a> Model for Bank<'a> {
 }
 
 impl<'a> Bank<'a> {
-    /// The bank of these parts, which are sound. It counts them, and takes no memory.
+    /// Returns the bank of these parts, which must be sound. It counts their records and allocates nothing.
     pub fn from_sound_parts(parts: Parts<'a>) -> Bank<'a>
         requires { IsSound parts }
         ensures { result ≡ parts.entry }
@@ -63,8 +63,8 @@ impl<'a> Bank<'a> {
         Bank { parts, totals }
     }
 
-    /// The bank of these parts, if they are valid. It makes no allocation, so it never runs out of memory: its
-    /// lists are the lists of the parts. `alloc` is for a bank whose lists would have to be built.
+    /// Returns the bank of these parts if they are valid. It uses the lists of the parts, so it allocates nothing and
+    /// never returns `PartsFault::OutOfMemory`; `alloc` is not used.
     pub fn from_parts(alloc: Global, parts: Parts<'a>) -> Result<Bank<'a>, PartsFault>
         ensures value { IfOk result (λ bank. bank ≡ parts.entry) }
         ensures sound { OnOk result (IsSound parts.entry) }
@@ -77,7 +77,7 @@ impl<'a> Bank<'a> {
         Ok(Bank::from_sound_parts(parts))
     }
 
-    /// An equal bank in memory of its own. It copies no points: they stay in the file.
+    /// Returns an equal bank in memory of its own, or `OutOfMemory`. Points and texts are borrowed again, not copied.
     pub fn copy(&self, alloc: Global) -> Result<Bank<'a>, OutOfMemory>
         ensures { IfOk result (λ copy. copy ≡ self.now) }
     {
@@ -95,7 +95,7 @@ impl<'a> Bank<'a> {
         self.parts.minor
     }
 
-    /// The bytes of the text of this kind.
+    /// The bytes of the text with this id.
     pub fn info(&self, id: InfoId) -> &'a [u8]
         ensures value { result.now ≡ text_of self.now.texts id }
         ensures valid { IsValid self.now }
@@ -131,14 +131,14 @@ impl<'a> Bank<'a> {
         self.parts.samples.as_slice()
     }
 
-    /// The sample of this number, if there is one.
+    /// The sample with this number; none if there is no such sample.
     pub fn sample(&self, number: u32) -> Option<&Sample<'a>>
         ensures { option_copied result ≡ slice_get self.now.samples number }
     {
         self.parts.samples.get(number as usize)
     }
 
-    /// How many members a list has.
+    /// The length of a list.
     pub fn count(&self, list: List) -> usize
         ensures { result ≡ member_count self.now list }
     {
@@ -149,7 +149,7 @@ impl<'a> Bank<'a> {
         }
     }
 
-    /// How long its lists are. Counts nothing.
+    /// The lengths of the lists in a file. They are kept up to date, so this counts nothing.
     pub fn totals(&self) -> Totals
         ensures value { result ≡ totals_of self.now }
         ensures sound { IsSound self.now }
@@ -157,21 +157,21 @@ impl<'a> Bank<'a> {
         self.totals
     }
 
-    /// The law that a bank is sound, and so within the limits. It does nothing.
+    /// The law that the bank is sound, and so within the limits. It does nothing.
     pub fn soundness(&self)
         ensures { IsSound self.now }
     {
         let _totals = self.totals;
     }
 
-    /// The preset of this number without its zones, if there is one.
+    /// The head of the preset with this number; none if there is no such preset.
     pub fn head(&self, preset: u32) -> Option<Head>
         ensures { result ≡ head_of self.now preset }
     {
         head_in(&self.parts.presets, preset)
     }
 
-    /// The name of the instrument of this number, if there is one.
+    /// The name of the instrument with this number; none if there is no such instrument.
     pub fn inst_name(&self, instrument: u32) -> Option<Name20>
         ensures { result ≡ instrument_name_of self.now instrument }
     {

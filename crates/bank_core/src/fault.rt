@@ -1,13 +1,13 @@
-//! Why parts are made no bank.
+//! Why parts are not accepted as a bank.
 use thiserror::Error;
 
-/// Why no bank was made of parts.
+/// Why no bank was made from parts.
 #[derive(Debug, Drop, Clone, Copy, PartialEq, Eq, Error)]
 pub enum PartsFault {
-    /// They break a rule of valid banks.
+    /// The parts are not valid.
     #[error("the parts are no valid bank")]
     Invalid,
-    /// An allocation failed. `from_parts` makes none, and never returns this.
+    /// An allocation failed. `from_parts` allocates nothing and never returns this.
     #[error("out of memory")]
     OutOfMemory,
 }

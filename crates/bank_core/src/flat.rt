@@ -1,4 +1,4 @@
-//! A bank made of the flat lists that a file has.
+//! A bank from the flat lists of a file.
 ghost use Rattle.std.specs.Prelude.{◌≡◌, List, MatchOption, IfSome};
 ghost use Rattle.std.specs.List.{AllByRecursion};
 ghost use Rattle.generators.specs.Levels.{target_operator};
@@ -17,11 +17,11 @@ use flat_records::Recs;
 use linked_members::LinkedMembers;
 use sf_base::Name20;
 
-/// The lists of a bank as a file has them (SoundFont 2.04, sections 7.2 to 7.10), each with its terminal; its
-/// samples have their points and links already.
+/// The lists of a bank as in a file (SoundFont 2.04, sections 7.2 to 7.10), with their terminals. The samples already
+/// have their points and links.
 #[derive(Drop)]
 pub struct Flat<'a> {
-    /// The minor version of the format (the major one is 2).
+    /// The minor version of the format (the major version is 2).
     pub minor: u16,
     pub texts: Texts<'a>,
     pub preset_heads: FlatHeads<Head>,
@@ -32,9 +32,9 @@ pub struct Flat<'a> {
 }
 
 impl<'a> Bank<'a> {
-    /// The bank of these lists, where they are those of a sound bank. It takes no memory. None where an index
-    /// falls or passes the end of its list, a terminal is wrong, a bag is empty, a later bag of a preset or an
-    /// instrument has no target, operators are out of order or stand twice, or the bank would not be valid.
+    /// Returns the bank with these lists, or none if no sound bank has them: an index decreases or exceeds the end of
+    /// its list, a terminal is wrong, a bag is empty, a bag after the first of an owner has no target, operators are
+    /// out of order or repeated, or the bank would not be valid. Allocates nothing.
     pub fn from_flat(flat: Flat<'a>) -> Option<Bank<'a>>
         ensures { MatchOption result ((b : AnyParts) → IsSound b → ¬ IsFlatOf flat.entry b) (λ bank. IsFlatOf flat.entry bank) }
     {
@@ -67,8 +67,8 @@ impl<'a> Bank<'a> {
     }
 }
 
-// The presets or the instruments with these heads and records, where there are some, none of whose maps has the
-// operator of the targets.
+// The presets or instruments with these heads and records; none if there are no such owners, or if one of their maps
+// has the operator of targets.
 fn owners_of<H: OwnerHead>(heads: FlatHeads<H>, recs: Recs) -> Option<Owners<H>>
     ensures lists { MatchOption result
         ((owners : List (WithZones H)) → AllByRecursion (IsPlainOwner (target_operator H.LEVEL)) owners

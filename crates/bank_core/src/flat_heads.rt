@@ -1,4 +1,4 @@
-//! The heads of a bank's flat lists.
+//! The records of the lists `phdr` and `inst`.
 ghost use Rattle.std.specs.Prelude.{◌≡◌, ◌+◌, length, MatchOption};
 ghost use Rattle.bank_core.specs.Heads.{head_records};
 
@@ -7,8 +7,8 @@ use numbered_lists::NumberedList;
 use sf_base::Name20;
 use std::marker::Model;
 
-/// A record of `phdr` or `inst`: what a preset or an instrument has besides its zones, and the number of its
-/// first bag (SoundFont 2.04, sections 7.2 and 7.6). The terminal has no head, and the number of all bags.
+/// A record of `phdr` or `inst`: the head of a preset or an instrument, and the index of its first bag (SoundFont
+/// 2.04, sections 7.2 and 7.6). The terminal has no head, and the number of all bags as its index.
 #[derive(Clone, Copy)]
 pub struct HeadRecord<H> {
     pub head: Option<H>,
@@ -23,7 +23,7 @@ pub type InstHead = HeadRecord<Name20>;
 
 /// The records of `phdr` or `inst`, the terminal last.
 pub struct FlatHeads<H> {
-    // Apart, for numbers are raised far faster in a list of their own.
+    // Apart from the indexes, because shifting indexes is much faster in a list of their own.
     heads: NumberedList<H>,
     first_bags: Vec<u16>,
 }
@@ -50,8 +50,8 @@ impl<H> Model for FlatHeads<H> {
 }
 
 impl<H: Drop> FlatHeads<H> {
-    /// The records of these heads, with the number of each one's first bag and last the number of all; none where
-    /// there is not one number more than heads. Takes no memory.
+    /// The records of these heads with the indexes of their first bags, followed by the number of all bags; none
+    /// unless `first_bags` is one longer than `heads`. Allocates nothing.
     pub fn new(heads: NumberedList<H>, first_bags: Vec<u16>) -> Option<FlatHeads<H>>
         ensures { MatchOption result (¬ (length first_bags.items ≡ length heads + 1)) (λ r. r ≡ head_records heads first_bags.items) }
     {
@@ -61,7 +61,7 @@ impl<H: Drop> FlatHeads<H> {
         Some(FlatHeads { heads, first_bags })
     }
 
-    // The heads, and the numbers.
+    // The heads, and the indexes of their first bags.
     pub(crate) fn into_lists(self) -> (NumberedList<H>, Vec<u16>)
         ensures records { self ≡ head_records result.0 result.1.items }
         ensures size { length result.1.items ≡ length result.0 + 1 }

@@ -1,4 +1,4 @@
-//! The raw changes of a bank's instruments, and who names an instrument.
+//! The raw changes of the instruments of a bank, and whether an instrument is in use.
 ghost use Rattle.std.specs.Prelude.{◌≡◌, ◌<◌, ◌≤◌, Some, length, slice_get, OnOk, OnErr, IfOk, IfErr};
 ghost use Rattle.bank_parts.specs.Sound.{IsSound};
 ghost use Rattle.bank_changes.specs.Members.{instrument_name_of};
@@ -12,7 +12,7 @@ use sf_base::{Name20, OutOfMemory};
 use std::alloc::Global;
 
 impl<'a> Bank<'a> {
-    /// Gives an instrument a name, and gives back the one that it had. Takes no memory.
+    /// Renames an instrument and returns the old name. Allocates nothing.
     pub fn rename_instrument(&mut self, number: u32, name: Name20) -> Name20
         requires there { number < length self.old.instruments }
         requires sound { IsSound (instrument_renamed self.old number name) }
@@ -22,9 +22,8 @@ impl<'a> Bank<'a> {
         rename_instrument(&mut self.parts, number, name)
     }
 
-    /// Makes an instrument number `number`. The instruments from there on get the next number each, and
-    /// what names them follows; at the end of the list nothing does, and no preset is touched. When out of
-    /// memory, the bank stays as it is, and the instrument comes back.
+    /// Inserts an instrument as number `number`; later instruments move up by one, and the targets of presets follow.
+    /// An append reads no preset. If an allocation fails, the bank is unchanged and the instrument is returned.
     pub fn add_instrument(&mut self, number: u32, instrument: Instrument) -> Result<(), Instrument>
         requires place { number ≤ length self.old.instruments }
         requires sound { IsSound (instrument_added self.old number instrument) }
@@ -38,9 +37,8 @@ impl<'a> Bank<'a> {
         Ok(())
     }
 
-    /// Takes an instrument out; the instruments behind it get the number before each, and what names
-    /// them follows. At the end of the list no preset is touched. When out of memory, the bank stays as it
-    /// is.
+    /// Removes an instrument and returns it; later instruments move down by one, and the targets of presets follow.
+    /// If it is the last, no preset is read. On `OutOfMemory` the bank is unchanged.
     pub fn remove_instrument(
         &mut self,
         alloc: Global,
@@ -57,8 +55,8 @@ impl<'a> Bank<'a> {
         Ok(instrument)
     }
 
-    /// Makes instrument `from` instrument `to`; the others keep their order, and what names them
-    /// follows. Takes no memory.
+    /// Moves instrument `from` to number `to`; the others keep their order, and the targets of presets follow.
+    /// Allocates nothing.
     pub fn move_instrument(&mut self, from: u32, to: u32)
         requires there { from < length self.old.instruments }
         requires place { to < length self.old.instruments }
@@ -68,7 +66,7 @@ impl<'a> Bank<'a> {
         move_instrument(&mut self.parts, from, to);
     }
 
-    /// Whether a zone of a preset targets the instrument of this number, also where there is none.
+    /// Whether some zone of a preset targets the instrument with this number. There need not be such an instrument.
     #[tactic(auto, unfolding(bank_changes::specs::Instruments::instrument_in_use))]
     pub fn is_instrument_in_use(&self, number: u32) -> bool
         ensures { result ≡ instrument_in_use self.now number }

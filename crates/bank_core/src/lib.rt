@@ -1,4 +1,4 @@
-//! A bank as its members: a `Bank` is always sound, and a raw change of it is exactly its definition.
+//! `Bank`, which is always sound. Each of its raw changes does exactly what its definition states.
 #![tactic(auto)]
 
 mod bank;

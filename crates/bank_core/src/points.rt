@@ -1,4 +1,4 @@
-//! The raw changes of one sample of a bank: of its points, its loop, its kind and its pitch.
+//! The raw changes of one sample of a bank: of its points, loop, kind and tuning.
 ghost use Rattle.std.specs.Prelude.{◌≡◌, ◌<◌, ◌≤◌, ◌+◌, ◌-◌, ℕ, List, length, take, drop, slice_get, IfSome, IfOk, OnOk, OnErr, IfErr};
 ghost use Rattle.bank_parts.specs.Sound.{IsSound};
 ghost use Rattle.bank_parts.specs.Counts.{counted};
@@ -15,9 +15,9 @@ use sf_base::limits::POINTS;
 use std::alloc::Global;
 
 impl<'a> Bank<'a> {
-    /// Takes the first `front` points and the last `back` out of a sample, and gives both. Its loop
-    /// stays on its points. No point is copied, nor walked but by its slices. When out of memory, the
-    /// bank stays as it is.
+    /// Removes the first `front` and the last `back` points of a sample, and returns both parts. The loop moves with
+    /// its points. No point is copied, and the time depends on the number of slices only. On `OutOfMemory` the bank
+    /// is unchanged.
     pub fn trim_sample(
         &mut self,
         alloc: Global,
@@ -38,8 +38,8 @@ impl<'a> Bank<'a> {
         Ok(cut)
     }
 
-    /// Puts points before those of a sample and after them. Its loop stays on its points. No point is
-    /// copied. When out of memory, the bank stays as it is, and the points come back.
+    /// Adds points before and after those of a sample. The loop moves with its points; no point is copied. If an
+    /// allocation fails, the bank is unchanged and the points are returned.
     pub fn extend_sample(
         &mut self,
         number: u32,
@@ -59,8 +59,8 @@ impl<'a> Bank<'a> {
         Ok(())
     }
 
-    /// Gives a sample a loop (its first point and the first point after it, counted from the sample's
-    /// start), or none, and gives back the one that it had. Takes no memory.
+    /// Replaces the loop of a sample and returns the old one. A loop is its first point and the point after its last,
+    /// counted from the start of the sample. Allocates nothing.
     pub fn set_loop(&mut self, number: u32, looped: Option<(u32, u32)>) -> Option<(u32, u32)>
         requires there { number < length self.old.samples }
         requires sound { IsSound (loop_set self.old number looped) }
@@ -70,8 +70,8 @@ impl<'a> Bank<'a> {
         set_loop(&mut self.parts, number, looped)
     }
 
-    /// Gives a sample a kind (SoundFont 2.04, section 7.10), and gives back the one that it had. The
-    /// sample that it links to stays as it is. Takes no memory.
+    /// Replaces the kind of a sample (SoundFont 2.04, section 7.10) and returns the old one. A sample that it links
+    /// to does not change. Allocates nothing.
     pub fn set_kind(&mut self, number: u32, kind: Kind) -> Kind
         requires there { number < length self.old.samples }
         requires sound { IsSound (kind_set self.old number kind) }
@@ -81,8 +81,8 @@ impl<'a> Bank<'a> {
         set_kind(&mut self.parts, number, kind)
     }
 
-    /// Gives a sample its rate in frames a second, its original key (above 127 for none) and the
-    /// correction of its pitch in cents, and gives back the three that it had. Takes no memory.
+    /// Replaces the rate (in frames per second), the original key (above 127 for none) and the pitch correction (in
+    /// cents) of a sample, and returns the old three. Allocates nothing.
     pub fn set_tune(&mut self, number: u32, rate: u32, key: u8, correction: i8) -> (u32, u8, i8)
         requires there { number < length self.old.samples }
         requires sound { IsSound (tune_set self.old number rate key correction) }
@@ -94,8 +94,7 @@ impl<'a> Bank<'a> {
         set_tune(&mut self.parts, number, rate, key, correction)
     }
 
-    /// The first limit that is broken with so many points more in one of the samples. A count that
-    /// would pass 2^64 may stay below it.
+    /// The first limit that is broken after so many more points in one of the samples. `more` may be saturated.
     pub fn broken_with_points(&self, more: usize) -> Option<Limit>
         ensures { (number : ℕ) (front back : List ℕ) → number < length self.now.samples → more ≡ counted (length front + length back)
             → result ≡ broken_limit (sample_extended self.now number front back) }
@@ -107,14 +106,14 @@ impl<'a> Bank<'a> {
         None
     }
 
-    /// How many points a sample has; none where there is no such sample.
+    /// How many points a sample has; 0 if there is no such sample.
     pub fn point_count(&self, number: u32) -> usize
         ensures { result ≡ length (points_of self.now number) }
     {
         self.sample(number).map_or(0, |sample| sample.points.len())
     }
 
-    /// The loop of a sample; none where there is no such sample.
+    /// The loop of a sample; none if there is no loop or no such sample.
     pub fn loop_of(&self, number: u32) -> Option<(u32, u32)>
         ensures { result ≡ loop_of self.now number }
     {

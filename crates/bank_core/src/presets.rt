@@ -1,4 +1,4 @@
-//! The raw changes of a bank's presets.
+//! The raw changes of the presets of a bank.
 ghost use Rattle.std.specs.Prelude.{◌≡◌, ◌<◌, ◌≤◌, Some, length, slice_get, OnOk, OnErr, IfOk, IfErr};
 ghost use Rattle.bank_parts.specs.Sound.{IsSound};
 ghost use Rattle.bank_changes.specs.Members.{head_of};
@@ -12,9 +12,8 @@ use sf_base::{Name20, OutOfMemory};
 use std::alloc::Global;
 
 impl<'a> Bank<'a> {
-    /// Makes a preset number `number`; the presets from there on get the next number each. Nothing names
-    /// a preset, so nothing follows. When out of memory, the bank stays as it is, and the preset comes
-    /// back.
+    /// Inserts a preset as number `number`; later presets move up by one. Nothing in a bank refers to presets by
+    /// number. If an allocation fails, the bank is unchanged and the preset is returned.
     pub fn add_preset(&mut self, number: u32, preset: Preset) -> Result<(), Preset>
         requires place { number ≤ length self.old.presets }
         requires sound { IsSound (preset_added self.old number preset) }
@@ -28,8 +27,7 @@ impl<'a> Bank<'a> {
         Ok(())
     }
 
-    /// Takes a preset out; the presets behind it get the number before each. When out of memory, the bank
-    /// stays as it is.
+    /// Removes a preset and returns it; later presets move down by one. On `OutOfMemory` the bank is unchanged.
     pub fn remove_preset(&mut self, alloc: Global, number: u32) -> Result<Preset, OutOfMemory>
         requires there { number < length self.old.presets }
         requires sound { IsSound (preset_removed self.old number) }
@@ -42,7 +40,7 @@ impl<'a> Bank<'a> {
         Ok(preset)
     }
 
-    /// Makes preset `from` preset `to`; the others keep their order. Takes no memory.
+    /// Moves preset `from` to number `to`; the others keep their order. Allocates nothing.
     pub fn move_preset(&mut self, from: u32, to: u32)
         requires there { from < length self.old.presets }
         requires place { to < length self.old.presets }
@@ -52,8 +50,8 @@ impl<'a> Bank<'a> {
         move_preset(&mut self.parts, from, to);
     }
 
-    /// Gives a preset a name and both numbers, and gives back the head that it had, of which it keeps the
-    /// rest. Takes no memory.
+    /// Replaces the name and both numbers of a preset, and returns the old head; its other fields are kept. Allocates
+    /// nothing.
     pub fn set_head(&mut self, preset: u32, name: Name20, number: u16, bank: u16) -> Head
         requires there { preset < length self.old.presets }
         requires sound { IsSound (head_set self.old preset name number bank) }

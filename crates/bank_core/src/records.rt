@@ -1,4 +1,4 @@
-//! The records of a bank's presets and instruments, as a file has them. Nothing here takes memory.
+//! Reads the records of a bank's presets and instruments as they are in a file. Nothing here allocates.
 ghost use Rattle.std.specs.Prelude.{◌≡◌, slice_get};
 ghost use Rattle.bank_parts.specs.FlatLists.{flat_of, lists_of};
 ghost use Rattle.bank_core.specs.Records.{record_count};
@@ -8,7 +8,7 @@ use bank_parts::{OwnerHead, Owners};
 use generators::Level;
 use modulators::Modulator;
 
-/// The lists of records that a file has of presets, and of instruments (SoundFont 2.04, sections 7.2 to 7.9).
+/// The lists of records of presets, or of instruments, in a file (SoundFont 2.04, sections 7.2 to 7.9).
 #[derive(Clone, Copy, Debug, PartialEq, Eq)]
 pub enum Part {
     /// `phdr` or `inst`.
@@ -22,7 +22,7 @@ pub enum Part {
 }
 
 impl<'a> Bank<'a> {
-    /// How many records a list has, its terminal counted: 1 up to 65,536.
+    /// The length of a list with its terminal: 1 to 65,536.
     pub fn rec_len(&self, level: Level, part: Part) -> u32
         ensures { result ≡ record_count (flat_of level self.now) part }
     {
@@ -32,8 +32,8 @@ impl<'a> Bank<'a> {
         }
     }
 
-    /// The number of the first bag of preset or instrument `i`, and of the terminal the number of all bags; none
-    /// past it.
+    /// The index of the first bag of preset or instrument `i`; the number of all bags for the terminal, and none
+    /// after it.
     pub fn bag_of(&self, level: Level, i: u32) -> Option<u16>
         ensures { result ≡ slice_get (flat_of level self.now).first_bags i }
     {
@@ -44,8 +44,8 @@ impl<'a> Bank<'a> {
         first_bags.get(i as usize).copied()
     }
 
-    /// The numbers of the first generator and the first modulator of bag `k`, and of the terminal the numbers of
-    /// all; none past it.
+    /// The indexes of the first generator and the first modulator of bag `k`; the numbers of all generators and
+    /// modulators for the terminal, and none after it.
     pub fn bag(&self, level: Level, k: u32) -> Option<(u16, u16)>
         ensures { result ≡ slice_get (flat_of level self.now).bags k }
     {
@@ -56,8 +56,8 @@ impl<'a> Bank<'a> {
         bags.get(k as usize).copied()
     }
 
-    /// The operator and the amount of generator `j` of all, of the terminal zeros; none past it. A zone's target
-    /// is its last generator.
+    /// The operator and the amount of generator `j` of all; zeros for the terminal, and none after it. The target of
+    /// a zone is its last generator.
     pub fn gen_rec(&self, level: Level, j: u32) -> Option<(u16, u16)>
         ensures { result ≡ slice_get (flat_of level self.now).gens j }
     {
@@ -68,7 +68,7 @@ impl<'a> Bank<'a> {
         gens.get(j as usize).copied()
     }
 
-    /// Modulator `j` of all, and the terminal, of zeros; none past it.
+    /// Modulator `j` of all; zeros for the terminal, and none after it.
     pub fn mod_rec(&self, level: Level, j: u32) -> Option<Modulator>
         ensures { result ≡ slice_get (flat_of level self.now).mods j }
     {

@@ -1,4 +1,4 @@
-//! The raw changes of a bank's samples, and who names a sample.
+//! The raw changes of the samples of a bank, and whether a sample is in use.
 ghost use Rattle.std.specs.Prelude.{◌≡◌, ◌<◌, ◌≤◌, Some, length, slice_get, IfSome, OnOk, OnErr, IfErr};
 ghost use Rattle.bank_parts.specs.Sound.{IsSound};
 ghost use Rattle.bank_changes.specs.Samples.{sample_renamed, sample_added, sample_removed, sample_moved, sample_in_use};
@@ -9,7 +9,7 @@ use bank_parts::Sample;
 use sf_base::Name20;
 
 impl<'a> Bank<'a> {
-    /// Gives a sample a name, and gives back the one that it had. Takes no memory.
+    /// Renames a sample and returns the old name. Allocates nothing.
     pub fn rename_sample(&mut self, number: u32, name: Name20) -> Name20
         requires there { number < length self.old.samples }
         requires sound { IsSound (sample_renamed self.old number name) }
@@ -19,10 +19,9 @@ impl<'a> Bank<'a> {
         rename_sample(&mut self.parts, number, name)
     }
 
-    /// Makes a sample number `number`; its own link has the numbers that hold afterwards. The samples
-    /// from there on get the next number each, and what names them follows. At the end of the list
-    /// nothing but the list is touched. When out of memory, the bank stays as it is, and the sample
-    /// comes back.
+    /// Inserts a sample as number `number`; later samples move up by one, and targets and links follow. Its own link
+    /// is a number after the insertion. An append does not traverse the bank. If an allocation fails, the bank is
+    /// unchanged and the sample is returned.
     pub fn add_sample(&mut self, number: u32, sample: Sample<'a>) -> Result<(), Sample<'a>>
         requires place { number ≤ length self.old.samples }
         requires sound { IsSound (sample_added self.old number sample) }
@@ -36,8 +35,8 @@ impl<'a> Bank<'a> {
         Ok(())
     }
 
-    /// Takes a sample out; the samples behind it get the number before each, and what names them
-    /// follows. At the end of the list nothing but the list is touched. Takes no memory.
+    /// Removes a sample and returns it; later samples move down by one, and targets and links follow. If it is the
+    /// last, the bank is not traversed. Allocates nothing.
     pub fn remove_sample(&mut self, number: u32) -> Sample<'a>
         requires there { number < length self.old.samples }
         requires sound { IsSound (sample_removed self.old number) }
@@ -49,8 +48,8 @@ impl<'a> Bank<'a> {
         sample
     }
 
-    /// Makes sample `from` sample `to`; the others keep their order, and what names them follows.
-    /// Takes no memory.
+    /// Moves sample `from` to number `to`; the others keep their order, and targets and links follow. Allocates
+    /// nothing.
     pub fn move_sample(&mut self, from: u32, to: u32)
         requires there { from < length self.old.samples }
         requires place { to < length self.old.samples }
@@ -60,7 +59,7 @@ impl<'a> Bank<'a> {
         move_sample(&mut self.parts, from, to);
     }
 
-    /// Whether a zone targets the sample, or another sample links to it.
+    /// Whether some zone targets the sample, or another sample is linked to it.
     #[tactic(auto, unfolding(bank_changes::specs::Samples::sample_in_use))]
     pub fn is_sample_in_use(&self, number: u32) -> bool
         requires { number < length self.now.samples }

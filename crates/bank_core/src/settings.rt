@@ -1,4 +1,4 @@
-//! The raw changes of the generators and the modulators of a place, and what stands there.
+//! The raw changes of the generators and modulators at a place, and the limits that they may break.
 ghost use Rattle.std.specs.Prelude.{◌≡◌, ◌<◌, ◌≤◌, Some, ℕ, length, IsSome, IsOk, IfOk, IfSome, OnOk, OnErr, unwrap_or, []};
 ghost use Rattle.std.specs.Option.{option_map};
 ghost use Rattle.std.specs.List.{list_any};
@@ -21,8 +21,8 @@ use modulators::Modulator;
 use sf_base::OutOfMemory;
 
 impl<'a> Bank<'a> {
-    /// Sets an operator at a place, and gives the amount that it had. It needs memory only for an
-    /// operator that is not set; when out of it, the bank stays as it is.
+    /// Sets an operator at a place, and returns the amount that it had. It allocates only if the operator was not
+    /// set. On `OutOfMemory` the bank is unchanged.
     pub fn set_gen(
         &mut self,
         owner: Owner,
@@ -44,7 +44,7 @@ impl<'a> Bank<'a> {
         Ok(was)
     }
 
-    /// Clears an operator at a place, and gives the amount that it had. Takes no memory.
+    /// Clears an operator at a place, and returns the amount that it had. Allocates nothing.
     pub fn clear_gen(&mut self, owner: Owner, place: Place, operator: u16) -> Option<u16>
         requires there { IsSome (settings_of self.old owner place) }
         requires sound { IsSound (gen_cleared self.old owner place operator) }
@@ -58,8 +58,8 @@ impl<'a> Bank<'a> {
         was
     }
 
-    /// Makes a modulator number `index` at a place; those from there on get the next number each. For
-    /// out of memory the bank stays as it is.
+    /// Inserts a modulator as number `index` at a place; later ones move up by one. On `OutOfMemory` the bank is
+    /// unchanged.
     pub fn add_mod(
         &mut self,
         owner: Owner,
@@ -80,8 +80,7 @@ impl<'a> Bank<'a> {
         Ok(())
     }
 
-    /// Takes the modulator of a number at a place out; those behind it get the number before each.
-    /// Takes no memory.
+    /// Removes a modulator at a place and returns it; later ones move down by one. Allocates nothing.
     pub fn remove_mod(&mut self, owner: Owner, place: Place, index: u32) -> Modulator
         requires there { IsSome (settings_of self.old owner place) }
         requires place { IfSome (mods_of self.old owner place) (λ mods. index < length mods) }
@@ -96,8 +95,7 @@ impl<'a> Bank<'a> {
         modulator
     }
 
-    /// Puts a modulator in the place of the one of a number at a place, and gives back the one that it
-    /// replaces. Takes no memory.
+    /// Replaces a modulator at a place and returns the old one. Allocates nothing.
     pub fn set_mod(
         &mut self,
         owner: Owner,
@@ -118,7 +116,7 @@ impl<'a> Bank<'a> {
         replaced
     }
 
-    /// How many modulators a place has; none where there is no such place.
+    /// How many modulators a place has; none if there is no such place.
     pub fn mod_count(&self, owner: Owner, place: Place) -> Option<usize>
         ensures { result ≡ option_map length (mods_of self.now owner place) }
     {
@@ -127,7 +125,7 @@ impl<'a> Bank<'a> {
         })
     }
 
-    /// Whether a modulator of a place is linked to another there; not where there is no such place.
+    /// Whether some modulator of a place is linked with another one; false if there is no such place.
     pub fn has_link(&self, owner: Owner, place: Place) -> bool
         ensures { result ≡ list_any is_link (unwrap_or (mods_of self.now owner place) []) }
     {
@@ -136,7 +134,7 @@ impl<'a> Bank<'a> {
         })
     }
 
-    /// The first limit that is broken with an operator set at a place that is there, to any amount.
+    /// The first limit that is broken after an operator is set at a place, to any amount.
     pub fn broken_with_gen(&self, owner: Owner, place: Place, operator: u16) -> Option<Limit>
         requires { IsSome (settings_of self.now owner place) }
         ensures { (amount : ℕ) → result ≡ broken_limit (gen_set self.now owner place operator amount) }
@@ -153,7 +151,7 @@ impl<'a> Bank<'a> {
         recounted(self.totals, owner.level(), before, after).broken()
     }
 
-    /// The first limit that is broken with a modulator more at a place that is there.
+    /// The first limit that is broken after one more modulator at a place.
     pub fn broken_with_mod(&self, owner: Owner, place: Place) -> Option<Limit>
         requires { IsSome (settings_of self.now owner place) }
         ensures { (index : ℕ) → (modulator : Modulator) → result ≡ broken_limit (mod_added self.now owner place index modulator) }
@@ -168,7 +166,7 @@ impl<'a> Bank<'a> {
     }
 }
 
-// The global zone is counted once it holds something, and another zone always is.
+// How many bags a place adds when it is not empty. The bag of a zone that is not global is always counted elsewhere.
 fn zones_at(place: Place) -> usize
     ensures { result ≡ zones_at place }
 {
@@ -178,7 +176,7 @@ fn zones_at(place: Place) -> usize
     }
 }
 
-// ---- what stands at a place
+// ---- the modulators of a place
 
 fn mod_count_in<H: OwnerHead>(owners: &Owners<H>, number: u32, place: Place) -> Option<usize>
     ensures { result ≡ option_map length (mods_at owners.now number (zone_place place)) }

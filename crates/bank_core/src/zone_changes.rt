@@ -1,4 +1,4 @@
-//! The raw changes of the zones of a bank's presets and instruments, splits and joins among them.
+//! The raw changes of the zones of a bank's presets and instruments, including splits and joins.
 ghost use Rattle.std.specs.Prelude.{◌≡◌, ◌<◌, ◌≤◌, ℕ, Some, IsSomeAnd, OnOk, OnErr, IfOk, IfErr, true};
 ghost use Rattle.std.specs.Option.{option_map};
 ghost use Rattle.bank_parts.specs.Sound.{IsSound};
@@ -20,8 +20,8 @@ use std::alloc::Global;
 use zone_ranges::{Axis, Keep};
 
 impl<'a> Bank<'a> {
-    /// Makes a zone number `at` of an owner; its zones from there on get the next number each. When out of
-    /// memory, the bank stays as it is, and the zone comes back.
+    /// Inserts a zone as number `at` of an owner; its later zones move up by one. If an allocation fails, the bank is
+    /// unchanged and the zone is returned.
     pub fn add_zone(&mut self, owner: Owner, at: u32, zone: Zone) -> Result<(), Zone>
         requires place { IsSomeAnd (own_zone_count self.old owner) (λ count. at ≤ count) }
         requires sound { IsSound (zone_added self.old owner at zone) }
@@ -35,8 +35,8 @@ impl<'a> Bank<'a> {
         Ok(())
     }
 
-    /// Takes a zone out of an owner; the zones behind it get the number before each. When out of memory, the
-    /// bank stays as it is.
+    /// Removes a zone of an owner and returns it; its later zones move down by one. On `OutOfMemory` the bank is
+    /// unchanged.
     pub fn remove_zone(
         &mut self,
         alloc: Global,
@@ -54,7 +54,7 @@ impl<'a> Bank<'a> {
         Ok(removed)
     }
 
-    /// Makes zone `from` of an owner zone `to`; its other zones keep their order. Takes no memory.
+    /// Moves zone `from` of an owner to number `to`; its other zones keep their order. Allocates nothing.
     pub fn move_zone(&mut self, owner: Owner, from: u32, to: u32)
         requires there { IsSomeAnd (own_zone_count self.old owner) (λ count. from < count) }
         requires place { IsSomeAnd (own_zone_count self.old owner) (λ count. to < count) }
@@ -64,7 +64,7 @@ impl<'a> Bank<'a> {
         move_zone(&mut self.parts, owner, from, to);
     }
 
-    /// Gives a zone another target, and gives back the one that it had. Takes no memory.
+    /// Replaces the target of a zone and returns the old one. Allocates nothing.
     pub fn set_target(&mut self, owner: Owner, zone: u32, target: u16) -> u16
         requires there { IsSomeAnd (own_zone_count self.old owner) (λ count. zone < count) }
         requires sound { IsSound (target_set self.old owner zone target) }
@@ -74,15 +74,14 @@ impl<'a> Bank<'a> {
         set_target(&mut self.parts, owner, zone, target)
     }
 
-    /// The first limit that is broken with this zone more in an owner. Counts nothing but the zone.
+    /// The first limit that is broken after this zone is added to an owner. It counts only the zone.
     pub fn broken_with_zone(&self, owner: Owner, zone: &Zone) -> Option<Limit>
         ensures { (at : ℕ) → IsSomeAnd (own_zone_count self.now owner) (λ count. at ≤ count) → result ≡ broken_limit (zone_added self.now owner at zone.now) }
     {
         broken_with_records(self.totals, owner.level(), zone.records())
     }
 
-    /// The range of keys or of velocities that holds for a zone: its own, else its global zone's, else
-    /// 0 to 127.
+    /// The effective key or velocity range of a zone: its own, else that of its global zone, else 0 to 127.
     pub fn zone_range(&self, owner: Owner, zone: u32, axis: Axis) -> Range
         requires { IsSomeAnd (own_zone_count self.now owner) (λ count. zone < count) }
         ensures low { option_map low_end (range_of_zone self.now owner zone axis) ≡ Some result.low }
@@ -93,8 +92,8 @@ impl<'a> Bank<'a> {
         })
     }
 
-    /// Whether there is the zone and it can be split at a key or a velocity: this lies in the range that
-    /// holds for the zone, and not at its low end.
+    /// Whether the zone exists and can be split at a key or a velocity: `at` lies in its effective range, but not at
+    /// the low end.
     pub fn can_split(&self, owner: Owner, zone: u32, axis: Axis, at: u8) -> bool
         ensures { result ≡ can_split self.now owner zone axis at }
     {
@@ -103,9 +102,9 @@ impl<'a> Bank<'a> {
         })
     }
 
-    /// Whether there are the zone and the next and they can be joined: they agree in all but their own
-    /// ranges on the axis, the second begins one above the first's end, and a zone without its own range
-    /// would have both together.
+    /// Whether the zone and the next one exist and can be joined: they differ only in their own ranges on the axis,
+    /// the second range begins one above the end of the first and, if the joined zone is to have no range of its own,
+    /// both ranges together are the one that it inherits.
     pub fn can_join(&self, owner: Owner, zone: u32, axis: Axis, keep: Keep) -> bool
         ensures { result ≡ can_join self.now owner zone axis keep }
     {
@@ -114,8 +113,8 @@ impl<'a> Bank<'a> {
         })
     }
 
-    /// Splits a zone at a key or a velocity, from which on the second of both holds. When out of memory,
-    /// the bank stays as it is.
+    /// Splits a zone at a key or a velocity, which is the low end of the new second zone. On `OutOfMemory` the bank
+    /// is unchanged.
     pub fn split_zone(
         &mut self,
         alloc: Global,
@@ -136,7 +135,7 @@ impl<'a> Bank<'a> {
         Ok(())
     }
 
-    /// Joins a zone and the next. When out of memory, the bank stays as it is.
+    /// Joins a zone and the next one. On `OutOfMemory` the bank is unchanged.
     pub fn join_zone(
         &mut self,
         alloc: Global,
@@ -156,7 +155,7 @@ impl<'a> Bank<'a> {
         Ok(())
     }
 
-    /// The first limit that is broken with a zone split. Counts nothing but the zone.
+    /// The first limit that is broken after a zone is split. It counts only the zone.
     pub fn broken_with_split(&self, owner: Owner, zone: u32, axis: Axis) -> Option<Limit>
         requires { IsSomeAnd (own_zone_count self.now owner) (λ count. zone < count) }
         ensures { (at : ℕ) → can_split self.now owner zone axis at ≡ true → result ≡ broken_limit (zone_split self.now owner zone axis at) }
